@@ -1,0 +1,7 @@
+use Rattle.raster_model.specs.Raster.{seam_cost as seam_cost_of}
+use Rattle.raster_model.specs.Plain.{part_cost, part_edge_cost}
+use Rattle.raster_model.proofs.plain.seam_cost.Goals as goal
+
+pub returns : goal.returns
+unfolding seam_cost_of part_cost part_edge_cost
+returns g c = c.cost_of.ensures

@@ -1,0 +1,34 @@
+-- Flows as a list: one number for each seam edge, in edge order.
+use Rattle.std.specs.Prelude.{◌≡◌, ℕ, ◌+◌, ℤ, pos, List, length, slice_index_or, Bool, ◌&&◌, if◌then◌else◌}
+use Rattle.raster_model.specs.declared.edge.Edge.{Edge}
+use Rattle.raster_model.specs.Sums.{Field, is_edge, right_edge, down_edge, count_below, one_if}
+use Rattle.raster_model.specs.Raster.{Raster, is_seam}
+use Rattle.raster_model.specs.Seams.{IsSeamCertificate}
+
+abbrev pub is_seam_edge : Raster → Edge → Bool
+is_seam_edge r e = is_edge r.width r.height e && is_seam r e
+
+-- how many seam edges start at a pixel, in the first x pixels of row y, and before (x, y) in row order
+abbrev pub seams_from : Raster → Field ℕ
+seams_from r x y = one_if (is_seam_edge r (right_edge x y)) + one_if (is_seam_edge r (down_edge x y))
+
+abbrev pub seams_in_row : Raster → Field ℕ
+seams_in_row r x y = count_below x (λ i. seams_from r i y)
+
+abbrev pub seams_before : Raster → Field ℕ
+seams_before r x y = count_below y (seams_in_row r r.width) + seams_in_row r x y
+
+-- how many there are, and how many come before an edge in edge order
+unfoldable pub seam_count : Raster → ℕ
+seam_count r = seams_before r 0 r.height
+
+unfoldable pub seam_place : Raster → Edge → ℕ
+seam_place r e = seams_before r e.x e.y + (if e.down then one_if (is_seam_edge r (right_edge e.x e.y)) else 0)
+
+-- the flow that a list has at a seam edge
+unfoldable pub flow_at : Raster → List ℤ → Edge → ℤ
+flow_at r flows e = slice_index_or flows (seam_place r e) (pos 0)
+
+-- the list certifies the seams: it has one number for each, and they certify
+abbrev pub AreCertifiedSeams : Raster → Field Bool → Field ℤ → List ℤ → Type 0
+AreCertifiedSeams r mask S flows = (length flows ≡ seam_count r) × IsSeamCertificate r mask S (flow_at r flows)

@@ -1,0 +1,30 @@
+-- Which pixels of a mask are open.
+use Rattle.std.specs.Prelude.{◌≡◌, ◌≢◌, ◌⊎◌, ℕ, ◌+◌, ◌*◌, ◌<◌, Bool, true, not, ◌==◌, slice_index_or}
+use Rattle.raster_model.specs.declared.plane.Plane.{Plane}
+use Rattle.raster_model.specs.MaskView.{MaskView}
+use Rattle.raster_model.specs.Sums.{Field}
+use Rattle.raster_model.specs.Planes.{sample_at}
+
+-- whether a pixel is open
+abbrev pub open_at : MaskView → Field Bool
+open_at m x y = slice_index_or m.unmasked (y * m.width + x) Bool.false
+
+-- the mask has this size, and at each of its pixels it is open where the test holds
+pub record IsMaskOf (m : MaskView) (w h : ℕ) (clear : Field Bool) : Type 0 where
+  pub width : m.width ≡ w
+  pub height : m.height ≡ h
+  pub clear_at : (x y : ℕ) → x < w → y < h → open_at m x y ≡ clear x y
+
+-- every pixel is open; the pixels are open where a mask plane's sample is not 0
+abbrev pub all_open : Field Bool
+all_open x y = true
+
+abbrev pub open_by : Plane → Field Bool
+open_by p x y = not (sample_at p x y == 0)
+
+-- the new mask is the old one but for the pixel (x, y), where it is open exactly if the test says so
+pub record IsSetAt (old new : MaskView) (x y : ℕ) (unmasked : Bool) : Type 0 where
+  pub width : new.width ≡ old.width
+  pub height : new.height ≡ old.height
+  pub here : open_at new x y ≡ unmasked
+  pub elsewhere : (a b : ℕ) → a < old.width → b < old.height → (a ≢ x) ⊎ (b ≢ y) → open_at new a b ≡ open_at old a b

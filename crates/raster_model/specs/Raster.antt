@@ -1,0 +1,82 @@
+-- Pixels, edges, surfaces and costs: what a raster is to the theory.
+-- A surface, a mask, a phase and tile numbers are functions of x and y; an edge is named by its first pixel and its direction.
+use Rattle.std.specs.Prelude.{◌≡◌, ℕ, ◌+◌, ◌*◌, ◌<◌, ℤ, pos, ◌+ℤ◌, ◌-ℤ◌, ◌*ℤ◌, Bool, ◌&&◌, ◌==◌, not, IsTrue, if◌then◌else◌, unsigned_abs, int_div}
+use Rattle.raster_model.specs.declared.edge.Edge.{Edge}
+use Rattle.raster_model.specs.Sums.{Field, at_start, at_end, edges_from, sum_edges, right_edge, down_edge, where_true}
+use Rattle.raster_model.specs.Phase.{wrapped, turns}
+
+-- what the definitions read of a scene; the weight of an edge is that before any mask
+pub record Raster : Type 0 where
+  pub width : ℕ
+  pub height : ℕ
+  pub phase : Field ℕ
+  pub weight : Edge → ℕ
+  pub tile : Field ℕ
+  pub tile_count : ℕ
+
+-- the wrapped difference of an edge, from its first end to the other
+abbrev pub gradient : Raster → Edge → ℤ
+gradient r e = wrapped (at_start r.phase e) (at_end r.phase e)
+
+-- the sum of the wrapped differences round the cell whose upper left corner is (x, y): along its top and its right side, and back along its bottom and its left side
+abbrev pub round_cell : Raster → Field ℤ
+round_cell r x y = gradient r (right_edge x y) +ℤ gradient r (down_edge (x + 1) y) -ℤ gradient r (right_edge x (y + 1)) -ℤ gradient r (down_edge x y)
+
+-- the residue of that cell: the whole cycles of that sum (Goldstein, Zebker and Werner 1988)
+abbrev pub residue : Raster → Field ℤ
+residue r x y = int_div (round_cell r x y) (pos 65536)
+
+-- a surface is congruent where it differs from the phase by whole cycles at each open pixel
+abbrev pub IsCongruent : Raster → Field Bool → Field ℤ → Type 0
+IsCongruent r mask S = (x y : ℕ) → x < r.width → y < r.height → IsTrue (mask x y) → (cycles : ℤ) × (S x y ≡ pos (r.phase x y) +ℤ pos 65536 *ℤ cycles)
+
+-- whole cycles by which a congruent surface departs from the wrapped difference of an edge with open ends
+abbrev pub departure : Raster → Field ℤ → Edge → ℤ
+departure r S e = int_div (at_end S e -ℤ at_start S e -ℤ gradient r e) (pos 65536)
+
+-- the surface that lies so many whole cycles above the phase, and its departures by the cycles alone
+abbrev pub lifted : Raster → Field ℤ → Field ℤ
+lifted r cycles x y = pos (r.phase x y) +ℤ pos 65536 *ℤ cycles x y
+
+abbrev pub cycle_departure : Raster → Field ℤ → Edge → ℤ
+cycle_departure r cycles e = at_end cycles e -ℤ at_start cycles e +ℤ turns (at_start r.phase e) (at_end r.phase e)
+
+abbrev pub has_open_ends : Field Bool → Edge → Bool
+has_open_ends mask e = at_start mask e && at_end mask e
+
+-- the weight under a mask: 0 where an end is masked
+abbrev pub masked_weight : Raster → Field Bool → Edge → ℕ
+masked_weight r mask e = if has_open_ends mask e then r.weight e else 0
+
+-- both ends lie in tile t; the ends lie in two tiles
+abbrev pub is_inner : Raster → ℕ → Edge → Bool
+is_inner r t e = (at_start r.tile e == t) && (at_end r.tile e == t)
+
+abbrev pub is_seam : Raster → Edge → Bool
+is_seam r e = not (at_start r.tile e == at_end r.tile e)
+
+-- what an edge with open ends adds to a cost: its weight times its absolute departure (Costantini 1998)
+abbrev pub edge_cost : Raster → Field Bool → Field ℤ → Edge → ℤ
+edge_cost r mask S e = where_true (has_open_ends mask e) (pos (masked_weight r mask e * unsigned_abs (departure r S e)))
+
+-- what an edge adds to the cost of a tile, and to that of the seams
+abbrev pub inner_cost : Raster → Field Bool → ℕ → Field ℤ → Edge → ℤ
+inner_cost r mask t S e = where_true (is_inner r t e) (edge_cost r mask S e)
+
+abbrev pub seam_edge_cost : Raster → Field Bool → Field ℤ → Edge → ℤ
+seam_edge_cost r mask S e = where_true (is_seam r e) (edge_cost r mask S e)
+
+-- what the edges that start at a pixel add to the cost of a tile, and to that of the seams
+unfoldable pub cost_from : Raster → Field Bool → ℕ → Field ℤ → Field ℤ
+cost_from r mask t S = edges_from r.width r.height (inner_cost r mask t S)
+
+unfoldable pub seam_cost_from : Raster → Field Bool → Field ℤ → Field ℤ
+seam_cost_from r mask S = edges_from r.width r.height (seam_edge_cost r mask S)
+
+-- the cost of a tile: the sum over its inner edges with open ends
+unfoldable pub tile_cost : Raster → Field Bool → ℕ → Field ℤ → ℤ
+tile_cost r mask t S = sum_edges r.width r.height (inner_cost r mask t S)
+
+-- the cost of the seams: the sum over the edges from tile to tile with open ends
+unfoldable pub seam_cost : Raster → Field Bool → Field ℤ → ℤ
+seam_cost r mask S = sum_edges r.width r.height (seam_edge_cost r mask S)

@@ -1,0 +1,55 @@
+ghost use Rattle.raster_model.specs.Masks.{open_at};
+ghost use Rattle.raster_model.specs.Raster.{departure as departure_of, lifted, masked_weight};
+ghost use Rattle.raster_model.specs.Scene.{raster_of};
+ghost use Rattle.raster_model.specs.Sums.{at_end, at_start, is_edge};
+ghost use Rattle.raster_model.specs.Weights.{edge_weight};
+ghost use Rattle.std.specs.Prelude.{◌≡◌, ◌+◌, ◌≤◌, ◌^◌, IsTrue, unsigned_abs};
+
+use crate::edge::Edge;
+use crate::heights::Heights;
+use crate::mask::Mask;
+use crate::phase::turns;
+use crate::scene::Scene;
+
+/// The weight of an edge under a mask: 0 where an end is masked.
+pub fn weight(scene: &Scene, mask: &Mask, edge: Edge) -> u16
+    requires same_size { (mask.now.width ≡ scene.now.phase.width) × (mask.now.height ≡ scene.now.phase.height) }
+    requires is_edge { IsTrue (is_edge scene.now.phase.width scene.now.phase.height edge) }
+    ensures { result ≡ masked_weight (raster_of scene.now) (open_at mask.now) edge }
+{
+    if mask.is_open(edge.x, edge.y) && mask.is_open(edge.end_x(), edge.end_y()) {
+        stored_weight(scene, edge)
+    } else {
+        0
+    }
+}
+
+/// The weight of an edge before any mask, as the scene holds it.
+fn stored_weight(scene: &Scene, edge: Edge) -> u16
+    requires { IsTrue (is_edge scene.now.phase.width scene.now.phase.height edge) }
+    ensures { result ≡ edge_weight scene.now.rule scene.now.weights edge }
+{
+    let width = scene.phase.width as usize;
+    let (x, y) = (edge.x as usize, edge.y as usize);
+    if edge.down {
+        scene.edges.down[y * width + x]
+    } else {
+        scene.edges.right[y * (width - 1) + x]
+    }
+}
+
+/// The whole cycles by which a surface departs from the wrapped difference of an edge, whose ends are open.
+/// (Chen and Zebker 2002.)
+pub fn departure<H: Heights>(scene: &Scene, heights: &H, edge: Edge) -> i64
+    requires is_edge { IsTrue (is_edge scene.now.phase.width scene.now.phase.height edge) }
+    requires start { IsTrue (at_start (H.knows heights.now) edge) }
+    requires end { IsTrue (at_end (H.knows heights.now) edge) }
+    ensures value { result ≡ departure_of (raster_of scene.now) (lifted (raster_of scene.now) (H.cycles_at heights.now)) edge }
+    ensures small { unsigned_abs result ≤ 2 ^ 49 + 1 }
+{
+    let x = edge.end_x();
+    let y = edge.end_y();
+    let from = scene.phase.sample(edge.x, edge.y);
+    let to = scene.phase.sample(x, y);
+    heights.cycles(x, y) - heights.cycles(edge.x, edge.y) + i64::from(turns(from, to))
+}

@@ -1,0 +1,22 @@
+ghost use Rattle.raster_model.specs.Scripts.{ScriptsAreShort, ScriptsFit, changes_in, settles_in};
+ghost use Rattle.raster_model.specs.Tiles.{tiles_of};
+ghost use Rattle.std.specs.Prelude.{◌≡◌, ◌*◌, ◌≤◌, vec_len};
+
+use crate::mask::Mask;
+use crate::scene::Scene;
+use crate::script::Script;
+
+/// What is worked on: a scene, the mask that the analysts start from, and a script for each of them.
+#[derive(Drop)]
+pub struct Session {
+    pub scene: Scene,
+    pub first_mask: Mask,
+    /// One for each analyst.
+    pub scripts: Vec<Script>,
+    pub ghost same_size: { (first_mask.width ≡ scene.phase.width) × (first_mask.height ≡ scene.phase.height) },
+    pub ghost analysts: { (1 ≤ vec_len scripts) × (vec_len scripts ≤ 8) },
+    pub ghost short: { ScriptsAreShort scripts.items },
+    pub ghost settles: { settles_in scripts.items * (scene.phase.width * scene.phase.height) ≤ 67108864 },
+    pub ghost changes: { changes_in scripts.items * tiles_of scene.tiling ≤ 16777216 },
+    pub ghost inside: { ScriptsFit scene.phase.width scene.phase.height scripts.items },
+}

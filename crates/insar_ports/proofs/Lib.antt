@@ -1,0 +1,5 @@
+pub mod CallerLemmas
+mod FeedLemmas
+mod LineLemmas
+mod MemoryLemmas
+mod OnExamples

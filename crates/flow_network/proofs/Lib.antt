@@ -1,0 +1,5 @@
+pub mod SumLemmas
+pub mod PushLemmas
+pub mod RoomLemmas
+pub mod AddLemmas
+pub mod CallerLemmas

@@ -1,0 +1,6 @@
+pub mod Sums
+pub mod Nets
+pub mod Moves
+pub mod Growing
+pub mod Lists
+pub mod Views

@@ -1,0 +1,9 @@
+//! Flow networks whose arcs keep reduced costs of at least 0, and a network whose arcs stand in lists.
+#![tactic(auto)]
+
+mod net;
+mod network;
+mod slices;
+
+pub use net::FlowNet;
+pub use network::Network;

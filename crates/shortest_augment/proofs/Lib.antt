@@ -1,0 +1,11 @@
+pub mod Costs
+pub mod Sweeps
+pub mod LabelLemmas
+pub mod Counts
+pub mod Reaching
+pub mod Raising
+pub mod TreeLemmas
+pub mod SendLemmas
+pub mod Blocking
+pub mod TestLemmas
+pub mod CallerLemmas

@@ -1,0 +1,404 @@
+-- The steps of each reader, as its loop and its calls take them.
+use Rattle.std.proofs.Common.{◌≡◌, ℕ, zero, suc, get_or, ltb, append_assoc, ◌+◌, ◌*◌, ◌-◌, ◌≤◌, Bool, true, false, not, ◌&&◌, List, [], ◌∷◌, ◌++◌, drop, Option, Some, None, Result, Ok, Err, refl, sym, ap, ◌∙◌, arith, inl, inr, eqb}
+use Rattle.std.specs.Prelude.{IfSome}
+use Rattle.byteorder.specs.Endian.{big_number}
+use Rattle.std.specs.Global.{Vec}
+use Rattle.std.proofs.lemmas.List.{append-nil}
+use Rattle.std.proofs.lemmas.Bool.{cases_Bool}
+use Rattle.pgm_planes.specs.declared.fault.Role.{Role}
+use Rattle.pgm_planes.specs.declared.fault.PlaneFault.{PlaneFault}
+use Rattle.pgm_planes.specs.declared.fault.PlaneFault.TheVariants.{Form, Magic, Short, SampleAbove}
+use Rattle.pgm_planes.specs.declared.fault.ReadPlaneFault.{ReadPlaneFault}
+use Rattle.pgm_planes.specs.declared.fault.ReadPlaneFault.TheVariants as errors
+use Rattle.pgm_planes.specs.Gaps.{is_space, is_line_end, is_digit}
+use Rattle.pgm_planes.specs.Calls.{Call}
+use Rattle.pgm_planes.specs.Reading.{Reading, Reader, ◌>>=◌, breaks, nothing, Reads, byte_at, sight_at, magic_answer, magic_then, magic_at, space_at, inside_after, filling_at, with_digit, digits_at, number_at, field_at, HeaderOf, unless_broken, header_break, header_at, header_of, judged, and_behind, sample_at, samples_at}
+use Rattle.pgm_planes.specs.declared.header.Header.{Header}
+use Rattle.pgm_planes.proofs.HeaderLemmas.{done, same_value, same_place, same_rest}
+use Rattle.pgm_planes.proofs.CallLemmas.{call, some_is, stays, Goes, gone, passes_on, becomes, becomes_break, becomes_unbuilt, byte_some, byte_none, byte_never, as_got, as_nothing, as_number}
+
+-- ---- sights
+
+pub sight_still : (at : ℕ) (bytes : List ℕ) (got : Option ℕ) (end : ℕ) (rest : List ℕ) → sight_at at bytes ≡ done got end rest → (bytes ≡ rest) × (end ≡ at)
+unfolding sight_at
+sight_still at [] got end rest e = (same_rest None got at end [] rest e, sym (same_place None got at end [] rest e))
+sight_still at (b ∷ bytes) got end rest e = (same_rest (Some b) got at end (b ∷ bytes) rest e, sym (same_place (Some b) got at end (b ∷ bytes) rest e))
+
+pub sight_none : (at : ℕ) (bytes : List ℕ) (end : ℕ) (rest : List ℕ) → sight_at at bytes ≡ done None end rest → bytes ≡ []
+unfolding sight_at
+sight_none at [] end rest e = refl
+sight_none at (b ∷ bytes) end rest e = absurd (let x = same_value (Some b) None at end (b ∷ bytes) rest e in cc)
+
+pub sight_some : (at : ℕ) (bytes : List ℕ) (b end : ℕ) (rest : List ℕ) → sight_at at bytes ≡ done (Some b) end rest → bytes ≡ b ∷ drop 1 bytes
+unfolding sight_at
+sight_some at [] b end rest e = absurd (let x = same_value None (Some b) at end [] rest e in cc)
+sight_some at (a ∷ bytes) b end rest e = let v : a ≡ b = let x = same_value (Some a) (Some b) at end (a ∷ bytes) rest e in cc in ap (λ (x : ℕ). x ∷ bytes) v
+
+pub sight_never : (at : ℕ) (bytes : List ℕ) (f : ReadPlaneFault) → (let x : Reading (Option ℕ) = Err f in sight_at at bytes ≡ x) → ⊥
+unfolding sight_at
+sight_never at [] f e = cc
+sight_never at (b ∷ rest) f e = cc
+
+-- what is seen stays
+pub still : {A : Type 0} (c : Call) (got : Option ℕ) (r : Reader A) → Reads as_got (Ok got) c sight_at → Goes c r r
+still {A = A} c got r h = gone as_got (λ (x : A). x) c got sight_at r r h (λ bytes rest s. let p = sight_still c.at bytes got c.end rest s in ap (r c.at) p.0 ∙ ap (λ (n : ℕ). r n rest) (sym p.1))
+
+pub sight_passes_on : {Y B : Type 0} (other : Y → B) (c : Call) (e : ReadPlaneFault) (r : Reader B) → Reads as_got (Err e) c sight_at → Reads other (Err e) c r
+sight_passes_on other c e r h = passes_on as_got other c e sight_at r h (λ bytes f x. absurd (sight_never c.at bytes f x))
+
+pub byte_passes_on : {Y B : Type 0} (other : Y → B) (c : Call) (e : ReadPlaneFault) (r : Reader B) → Reads as_got (Err e) c byte_at → Reads other (Err e) c r
+byte_passes_on other c e r h = passes_on as_got other c e byte_at r h (λ bytes f x. absurd (byte_never c.at bytes f x))
+
+-- ---- the magic
+
+pub after_letter : ℕ → Reader (Unit {0})
+after_letter letter at bytes = byte_at at bytes >>= λ number end rest. magic_then (magic_answer letter number) end rest
+
+pub magic_after : (at letter : ℕ) (rest : List ℕ) → magic_at at (letter ∷ rest) ≡ after_letter letter (at + 1) rest
+unfolding magic_at after_letter byte_at
+magic_after at letter [] = refl
+magic_after at letter (b ∷ rest) = let e : (at + 1) + 1 ≡ at + 2 = omega arith in rw e refl
+
+pub magic_missed : (at : ℕ) → magic_at at [] ≡ breaks Magic
+unfolding magic_at
+magic_missed at = refl
+
+-- a magic is read, breaks the form or is not built
+abbrev IsMagicAnswer : Result (Unit {0}) ReadPlaneFault → Type 0
+IsMagicAnswer (Ok u) = Unit {0}
+IsMagicAnswer (Err (errors.Plane fault)) = Unit {0}
+IsMagicAnswer (Err errors.Unbuilt) = Unit {0}
+IsMagicAnswer (Err errors.TooLong) = ⊥
+IsMagicAnswer (Err errors.ReadFault) = ⊥
+IsMagicAnswer (Err errors.Memory) = ⊥
+
+magic_is : (letter : ℕ) (got : Option ℕ) → IsMagicAnswer (magic_answer letter got)
+magic_is letter None = tt
+magic_is letter (Some b) = elim (cases_Bool (eqb letter 80 && eqb b 53)) [
+  | inl y ↦ rw y tt
+  | inr n ↦ elim (cases_Bool (eqb letter 80 && eqb b 50)) [ inl y ↦ rw (n, y) tt | inr m ↦ rw (n, m) tt ]
+]
+
+module _ (c : Call) (got : Option ℕ) (h : Reads as_got (Ok got) c byte_at) where
+  pub magic_goes : (letter : ℕ) → got ≡ Some letter → Goes c magic_at (after_letter letter)
+  magic_goes letter e = gone as_got as_nothing c got byte_at magic_at (after_letter letter) h (λ bytes rest r.
+      let p = byte_some c.at bytes letter c.end rest (r ∙ ap (λ (g : Option ℕ). done g c.end rest) e) in
+      ap (magic_at c.at) p.0 ∙ magic_after c.at letter rest ∙ ap (λ (n : ℕ). after_letter letter n rest) (sym p.1))
+
+  pub magic_misses : got ≡ None → Reads as_nothing (Err (errors.Plane Magic)) c magic_at
+  magic_misses e = becomes_break as_got as_nothing c got Magic byte_at magic_at h (λ bytes rest r.
+      ap (magic_at c.at) (byte_none c.at bytes c.end rest (r ∙ ap (λ (g : Option ℕ). done g c.end rest) e)) ∙ magic_missed c.at)
+
+  after_is : (letter : ℕ) (a : Result (Unit {0}) ReadPlaneFault) → magic_answer letter got ≡ a → (bytes rest : List ℕ) → byte_at c.at bytes ≡ done got c.end rest → after_letter letter c.at bytes ≡ magic_then a c.end rest
+  unfolding after_letter
+  after_is letter a e bytes rest r = rw (r, e) refl
+
+  magic_cases : (letter : ℕ) (a : Result (Unit {0}) ReadPlaneFault) → magic_answer letter got ≡ a → IsMagicAnswer a → Reads as_nothing a c (after_letter letter)
+  magic_cases letter (Ok u) e k = becomes as_got as_nothing c got u byte_at (after_letter letter) h (λ bytes rest r. after_is letter (Ok u) e bytes rest r)
+  magic_cases letter (Err (errors.Plane fault)) e k = becomes_break as_got as_nothing c got fault byte_at (after_letter letter) h (λ bytes rest r. after_is letter (Err (errors.Plane fault)) e bytes rest r)
+  magic_cases letter (Err errors.Unbuilt) e k = becomes_unbuilt as_got as_nothing c got byte_at (after_letter letter) h (λ bytes rest r. after_is letter (Err errors.Unbuilt) e bytes rest r)
+  magic_cases letter (Err errors.TooLong) e k = absurd k
+  magic_cases letter (Err errors.ReadFault) e k = absurd k
+  magic_cases letter (Err errors.Memory) e k = absurd k
+
+  pub magic_ends : (letter : ℕ) → Reads as_nothing (magic_answer letter got) c (after_letter letter)
+  magic_ends letter = magic_cases letter (magic_answer letter got) refl (magic_is letter got)
+
+-- white space and comments
+
+module _ (at : ℕ) where
+  pub filling_over : filling_at false at [] ≡ done nothing at []
+  unfolding filling_at
+  filling_over = refl
+
+  pub filling_cut : filling_at true at [] ≡ breaks (Form at)
+  unfolding filling_at
+  filling_cut = refl
+
+  pub filling_stops : (inside : Bool) (b : ℕ) (rest : List ℕ) → inside_after inside b ≡ None → filling_at inside at (b ∷ rest) ≡ done nothing at (b ∷ rest)
+  unfolding filling_at
+  filling_stops true b rest e = absurd cc
+  filling_stops false b rest e =
+      elim (cases_Bool (is_space b)) [
+        | inl y ↦ absurd (let x = rw y at e in cc)
+        | inr n ↦ elim (cases_Bool (eqb b 35)) [
+          | inl y ↦ absurd (let x = rw (n, y) at e in cc)
+          | inr m ↦ rw (n, m) refl
+        ]
+      ]
+
+  pub filling_goes : (inside : Bool) (b : ℕ) (after : Bool) (rest : List ℕ) → inside_after inside b ≡ Some after → filling_at inside at (b ∷ rest) ≡ filling_at after (at + 1) rest
+  unfolding filling_at
+  filling_goes true b after rest e =
+      let v : not (is_line_end b) ≡ after = cc in
+      elim (cases_Bool (is_line_end b)) [
+        | inl y ↦ let f : false ≡ after = rw y at v in rw (y, ← f) refl
+        | inr n ↦ let f : true ≡ after = rw n at v in rw (n, ← f) refl
+      ]
+  filling_goes false b after rest e =
+      elim (cases_Bool (is_space b)) [
+        | inl y ↦ let f : false ≡ after = let x = rw y at e in cc in rw (y, ← f) refl
+        | inr n ↦ elim (cases_Bool (eqb b 35)) [
+          | inl y ↦ let f : true ≡ after = let x = rw (n, y) at e in cc in rw (n, y, ← f) refl
+          | inr m ↦ absurd (let x = rw (n, m) at e in cc)
+        ]
+      ]
+
+module _ (c : Call) (got : Option ℕ) (h : Reads as_got (Ok got) c sight_at) where
+  -- a sight that ends a reading
+  pub sight_ends : {X A : Type 0} (view : X → A) (x : X) (r : Reader A) → got ≡ None → r c.at [] ≡ done (view x) c.at [] → Reads view (Ok x) c r
+  sight_ends view x r n e = becomes as_got view c got x sight_at r h (λ bytes rest s.
+      let p = sight_still c.at bytes got c.end rest s in
+      let nil = sight_none c.at bytes c.end rest (s ∙ ap (λ (g : Option ℕ). done g c.end rest) n) in
+      let nil2 : rest ≡ [] = sym p.0 ∙ nil in
+      ap (r c.at) nil ∙ e ∙ rw (nil2, p.1) refl)
+
+  pub sight_cuts : {X A : Type 0} (view : X → A) (fault : PlaneFault) (r : Reader A) → got ≡ None → r c.at [] ≡ breaks fault → Reads view (Err (errors.Plane fault)) c r
+  sight_cuts view fault r n e = becomes_break as_got view c got fault sight_at r h (λ bytes rest s.
+      ap (r c.at) (sight_none c.at bytes c.end rest (s ∙ ap (λ (g : Option ℕ). done g c.end rest) n)) ∙ e)
+
+  pub sight_stops : {X A : Type 0} (view : X → A) (x : X) (b : ℕ) (r : Reader A) → got ≡ Some b → ((rest : List ℕ) → r c.at (b ∷ rest) ≡ done (view x) c.at (b ∷ rest)) → Reads view (Ok x) c r
+  sight_stops view x b r n e = becomes as_got view c got x sight_at r h (λ bytes rest s.
+      let p = sight_still c.at bytes got c.end rest s in
+      let first = sight_some c.at bytes b c.end rest (s ∙ ap (λ (g : Option ℕ). done g c.end rest) n) in
+      ap (r c.at) first ∙ e (drop 1 bytes) ∙ ap (done (view x) c.at) (sym first ∙ p.0) ∙ ap (λ (n : ℕ). done (view x) n rest) (sym p.1))
+
+-- a byte that was taken goes on with another reader
+pub byte_goes : {A : Type 0} (c : Call) (got : Option ℕ) (b : ℕ) (r q : Reader A) → Reads as_got (Ok got) c byte_at → got ≡ Some b → ((rest : List ℕ) → r c.at (b ∷ rest) ≡ q (c.at + 1) rest) → Goes c r q
+byte_goes {A = A} c got b r q h e f = gone as_got (λ (x : A). x) c got byte_at r q h (λ bytes rest s.
+    let p = byte_some c.at bytes b c.end rest (s ∙ ap (λ (g : Option ℕ). done g c.end rest) e) in
+    ap (r c.at) p.0 ∙ f rest ∙ ap (λ (n : ℕ). q n rest) (sym p.1))
+
+pub byte_cuts : {X A : Type 0} (view : X → A) (c : Call) (got : Option ℕ) (fault : PlaneFault) (r : Reader A) → Reads as_got (Ok got) c byte_at → got ≡ None → r c.at [] ≡ breaks fault → Reads view (Err (errors.Plane fault)) c r
+byte_cuts view c got fault r h e f = becomes_break as_got view c got fault byte_at r h (λ bytes rest s.
+    ap (r c.at) (byte_none c.at bytes c.end rest (s ∙ ap (λ (g : Option ℕ). done g c.end rest) e)) ∙ f)
+
+pub byte_breaks : {X A : Type 0} (view : X → A) (c : Call) (got : Option ℕ) (b : ℕ) (fault : PlaneFault) (r : Reader A) → Reads as_got (Ok got) c byte_at → got ≡ Some b → ((rest : List ℕ) → r c.at (b ∷ rest) ≡ breaks fault) → Reads view (Err (errors.Plane fault)) c r
+byte_breaks view c got b fault r h e f = becomes_break as_got view c got fault byte_at r h (λ bytes rest s.
+    ap (r c.at) (byte_some c.at bytes b c.end rest (s ∙ ap (λ (g : Option ℕ). done g c.end rest) e)).0 ∙ f rest)
+
+-- ---- digits
+
+module _ (n at : ℕ) where
+  pub digits_over : digits_at n at [] ≡ done n at []
+  unfolding digits_at
+  digits_over = refl
+
+  pub digits_stop : (b : ℕ) (rest : List ℕ) → is_digit b ≡ false → digits_at n at (b ∷ rest) ≡ done n at (b ∷ rest)
+  unfolding digits_at
+  digits_stop b rest s = rw s refl
+
+  pub digits_go : (b : ℕ) (rest : List ℕ) → is_digit b ≡ true → digits_at n at (b ∷ rest) ≡ digits_at (with_digit n b) (at + 1) rest
+  unfolding digits_at
+  digits_go b rest s = rw s refl
+
+module _ (at : ℕ) where
+  pub number_missed : number_at at [] ≡ breaks (Form at)
+  unfolding number_at
+  number_missed = refl
+
+  pub number_refused : (b : ℕ) (rest : List ℕ) → is_digit b ≡ false → number_at at (b ∷ rest) ≡ breaks (Form at)
+  unfolding number_at
+  number_refused b rest s = rw s refl
+
+  pub number_begun : (b : ℕ) (rest : List ℕ) → is_digit b ≡ true → number_at at (b ∷ rest) ≡ digits_at (b - 48) (at + 1) rest
+  unfolding number_at
+  number_begun b rest s = rw s refl
+
+-- the byte that was seen is the byte that is taken
+pub seen_is_taken : (seen got waiting : Option ℕ) (b : ℕ) → seen ≡ Some b → IfSome seen (λ x. waiting ≡ Some x) → IfSome waiting (λ x. (let r : Result (Option ℕ) ReadPlaneFault = Ok got in r) ≡ Ok (Some x)) → got ≡ Some b
+seen_is_taken None got waiting b e w t = absurd cc
+seen_is_taken (Some a) got waiting b e w t =
+    let same : a ≡ b = cc in
+    let told : (let r : Result (Option ℕ) ReadPlaneFault = Ok got in r) ≡ Ok (Some a) = rw w at t in
+    let is : got ≡ Some a = cc in
+    is ∙ ap Some same
+
+-- ---- readers one after another
+
+pub bind_goes : {X A B : Type 0} (view : X → A) (c : Call) (x : X) (p : Reader A) (f : A → Reader B) → Reads view (Ok x) c p → Goes c (λ at bytes. p at bytes >>= f) (f (view x))
+bind_goes {B = B} view c x p f h = gone view (λ (b : B). b) c x p (λ at bytes. p at bytes >>= f) (f (view x)) h (λ bytes rest e. rw e refl)
+
+pub bind_passes : {X A Y B : Type 0} (view : X → A) (other : Y → B) (c : Call) (e : ReadPlaneFault) (p : Reader A) (f : A → Reader B) → Reads view (Err e) c p → Reads other (Err e) c (λ at bytes. p at bytes >>= f)
+bind_passes view other c e p f h = passes_on view other c e p (λ at bytes. p at bytes >>= f) h (λ bytes g x. rw x refl)
+
+pub bind_finds : {X A Y B : Type 0} (view : X → A) (other : Y → B) (c : Call) (x : X) (y : Y) (p : Reader A) (f : A → Reader B) → Reads view (Ok x) c p → ((rest : List ℕ) → f (view x) c.end rest ≡ done (other y) c.end rest) → Reads other (Ok y) c (λ at bytes. p at bytes >>= f)
+bind_finds view other c x y p f h g = becomes view other c x y p (λ at bytes. p at bytes >>= f) h (λ bytes rest e. rw e (g rest))
+
+pub bind_refuses : {X A Y B : Type 0} (view : X → A) (other : Y → B) (c : Call) (x : X) (fault : PlaneFault) (p : Reader A) (f : A → Reader B) → Reads view (Ok x) c p → ((rest : List ℕ) → f (view x) c.end rest ≡ breaks fault) → Reads other (Err (errors.Plane fault)) c (λ at bytes. p at bytes >>= f)
+bind_refuses view other c x fault p f h g = becomes_break view other c x fault p (λ at bytes. p at bytes >>= f) h (λ bytes rest e. rw e (g rest))
+
+-- ---- a field
+
+pub after_filling : Reader (ℕ × ℕ)
+after_filling place digits = number_at place digits >>= λ n end others. Ok ((n, place), end, others)
+
+pub after_space : Reader (ℕ × ℕ)
+after_space at bytes = filling_at false at bytes >>= λ _. after_filling
+
+abbrev pub as_pair : ℕ × ℕ → ℕ × ℕ
+as_pair f = (f.0, f.1)
+
+module _ (c : Call) where
+  pub field_space : (u : Unit {0}) → Reads as_nothing (Ok u) c space_at → Goes c field_at after_space
+  unfolding field_at after_space after_filling
+  field_space u h = bind_goes as_nothing c u space_at (λ _. after_space) h
+
+  pub field_space_passes : (e : ReadPlaneFault) → Reads as_nothing (Err e) c space_at → Reads as_pair (Err e) c field_at
+  unfolding field_at after_space after_filling
+  field_space_passes e h = bind_passes as_nothing as_pair c e space_at (λ _. after_space) h
+
+  pub field_filling : (u : Unit {0}) → Reads as_nothing (Ok u) c (filling_at false) → Goes c after_space after_filling
+  unfolding after_space
+  field_filling u h = bind_goes as_nothing c u (filling_at false) (λ _. after_filling) h
+
+  pub field_filling_passes : (e : ReadPlaneFault) → Reads as_nothing (Err e) c (filling_at false) → Reads as_pair (Err e) c after_space
+  unfolding after_space
+  field_filling_passes e h = bind_passes as_nothing as_pair c e (filling_at false) (λ _. after_filling) h
+
+  pub field_number : (n : ℕ) → Reads as_number (Ok n) c number_at → Reads as_pair (Ok (n, c.at)) c after_filling
+  unfolding after_filling
+  field_number n h = becomes as_number as_pair c n (n, c.at) number_at after_filling h (λ bytes rest e. rw e refl)
+
+  pub field_number_passes : (e : ReadPlaneFault) → Reads as_number (Err e) c number_at → Reads as_pair (Err e) c after_filling
+  unfolding after_filling
+  field_number_passes e h = passes_on as_number as_pair c e number_at after_filling h (λ bytes g x. rw x refl)
+
+-- ---- the header
+
+module _ (role : Role) where
+  pub after_maxval : ℕ × ℕ → ℕ × ℕ → ℕ × ℕ → Reader HeaderOf
+  after_maxval w h m at bytes = space_at at bytes >>= λ _ end others. unless_broken (header_break role w.0 h.0 m.0 m.1) (Ok (record { width = w.0; height = h.0; maxval = m.0 }, end, others))
+
+  pub after_height : ℕ × ℕ → ℕ × ℕ → Reader HeaderOf
+  after_height w h at bytes = field_at at bytes >>= after_maxval w h
+
+  pub after_width : ℕ × ℕ → Reader HeaderOf
+  after_width w at bytes = field_at at bytes >>= after_height w
+
+  module _ (c : Call) where
+    pub header_width : (w : ℕ × ℕ) → Reads as_pair (Ok w) c field_at → Goes c (header_at role) (after_width w)
+    unfolding header_at after_width after_height after_maxval
+    header_width w h = bind_goes as_pair c w field_at after_width h
+
+    pub header_width_passes : (e : ReadPlaneFault) → Reads as_pair (Err e) c field_at → Reads header_of (Err e) c (header_at role)
+    unfolding header_at after_width after_height after_maxval
+    header_width_passes e h = bind_passes as_pair header_of c e field_at after_width h
+
+    pub header_height : (w k : ℕ × ℕ) → Reads as_pair (Ok k) c field_at → Goes c (after_width w) (after_height w k)
+    unfolding after_width
+    header_height w k h = bind_goes as_pair c k field_at (after_height w) h
+
+    pub header_height_passes : (w : ℕ × ℕ) (e : ReadPlaneFault) → Reads as_pair (Err e) c field_at → Reads header_of (Err e) c (after_width w)
+    unfolding after_width
+    header_height_passes w e h = bind_passes as_pair header_of c e field_at (after_height w) h
+
+    pub header_maxval : (w k m : ℕ × ℕ) → Reads as_pair (Ok m) c field_at → Goes c (after_height w k) (after_maxval w k m)
+    unfolding after_height
+    header_maxval w k m h = bind_goes as_pair c m field_at (after_maxval w k) h
+
+    pub header_maxval_passes : (w k : ℕ × ℕ) (e : ReadPlaneFault) → Reads as_pair (Err e) c field_at → Reads header_of (Err e) c (after_height w k)
+    unfolding after_height
+    header_maxval_passes w k e h = bind_passes as_pair header_of c e field_at (after_maxval w k) h
+
+    pub header_space_passes : (w k m : ℕ × ℕ) (e : ReadPlaneFault) → Reads as_nothing (Err e) c space_at → Reads header_of (Err e) c (after_maxval w k m)
+    unfolding after_maxval
+    header_space_passes w k m e h = passes_on as_nothing header_of c e space_at (after_maxval w k m) h (λ bytes g x. rw x refl)
+
+    pub header_refuses : (w k m : ℕ × ℕ) (u : Unit {0}) (fault : PlaneFault) → Reads as_nothing (Ok u) c space_at → header_break role w.0 k.0 m.0 m.1 ≡ Some fault → Reads header_of (Err (errors.Plane fault)) c (after_maxval w k m)
+    unfolding after_maxval
+    header_refuses w k m u fault h b = becomes_break as_nothing header_of c u fault space_at (after_maxval w k m) h (λ bytes rest e. rw (e, b) refl)
+
+    pub header_finds : (w k m : ℕ × ℕ) (u : Unit {0}) (found : Header) → Reads as_nothing (Ok u) c space_at → header_break role w.0 k.0 m.0 m.1 ≡ None → header_of found ≡ record { width = w.0; height = k.0; maxval = m.0 } → Reads header_of (Ok found) c (after_maxval w k m)
+    unfolding after_maxval
+    header_finds w k m u found h b is = becomes as_nothing header_of c u found space_at (after_maxval w k m) h (λ bytes rest e. rw (e, b, is) refl)
+
+-- ---- samples
+
+-- a byte whose sample was judged
+pub judged_reads : (c : Call) (got : Option ℕ) (b maxval k x : ℕ) (r : Reader ℕ) → Reads as_got (Ok got) c byte_at → got ≡ Some b → ((rest : List ℕ) → r c.at (b ∷ rest) ≡ and_behind (judged maxval k x) (c.at + 1) rest) → Reads as_number (judged maxval k x) c r
+judged_reads c got b maxval k x r h e f =
+    elim (cases_Bool (ltb maxval x)) [
+      | inl y ↦ rw y (byte_breaks as_number c got b (SampleAbove k x) r h e (λ rest. f rest ∙ rw y refl))
+      | inr n ↦ rw n (becomes as_got as_number c got x byte_at r h (λ bytes rest s.
+          let p = byte_some c.at bytes b c.end rest (s ∙ ap (λ (g : Option ℕ). done g c.end rest) e) in
+          ap (r c.at) p.0 ∙ f rest ∙ rw n (ap (λ (m : ℕ). done x m rest) (sym p.1))))
+    ]
+
+pub after_high : ℕ → ℕ → ℕ → Reader ℕ
+after_high high maxval k at [] = breaks (Short k)
+after_high high maxval k at (low ∷ rest) = and_behind (judged maxval k (256 * high + low)) (at + 1) rest
+
+module _ (maxval k at : ℕ) where
+  pub sample_missed : (wide : Bool) → sample_at wide maxval k at [] ≡ breaks (Short k)
+  unfolding sample_at
+  sample_missed wide = refl
+
+  pub narrow_sample : (b : ℕ) (rest : List ℕ) → sample_at false maxval k at (b ∷ rest) ≡ and_behind (judged maxval k b) (at + 1) rest
+  unfolding sample_at
+  narrow_sample b rest = refl
+
+  pub wide_sample : (high : ℕ) (rest : List ℕ) → sample_at true maxval k at (high ∷ rest) ≡ after_high high maxval k (at + 1) rest
+  unfolding sample_at after_high
+  wide_sample high [] = refl
+  wide_sample high (low ∷ rest) = let e : (at + 1) + 1 ≡ at + 2 = omega arith in rw e refl
+
+  pub high_missed : (high : ℕ) → after_high high maxval k at [] ≡ breaks (Short k)
+  unfolding after_high
+  high_missed high = refl
+
+  pub high_then : (high low : ℕ) (rest : List ℕ) → after_high high maxval k at (low ∷ rest) ≡ and_behind (judged maxval k (256 * high + low)) (at + 1) rest
+  unfolding after_high
+  high_then high low rest = refl
+
+-- the samples so far, and then the others
+pub and_others : List ℕ → Bool → ℕ → ℕ → ℕ → Reader (List ℕ)
+and_others front wide maxval n k at bytes = samples_at wide maxval n k at bytes >>= λ vs end others. Ok (front ++ vs, end, others)
+
+module _ (wide : Bool) (maxval : ℕ) where
+  with_none : (r : Reading (List ℕ)) → (r >>= λ vs end others. Ok ([] ++ vs, end, others)) ≡ r
+  with_none (Ok x) = refl
+  with_none (Err e) = refl
+
+  pub others_begin : (n k at : ℕ) (bytes : List ℕ) → samples_at wide maxval n k at bytes ≡ and_others [] wide maxval n k at bytes
+  unfolding and_others
+  others_begin n k at bytes = sym (with_none (samples_at wide maxval n k at bytes))
+
+  pub others_end : (front : List ℕ) (k at : ℕ) (rest : List ℕ) → and_others front wide maxval 0 k at rest ≡ done front at rest
+  unfolding and_others samples_at
+  others_end front k at rest = ap (λ (vs : List ℕ). done vs at rest) (append-nil front)
+
+  regroup_others : (front : List ℕ) (v : ℕ) (r : Reading (List ℕ)) → ((r >>= λ vs end others. Ok (v ∷ vs, end, others)) >>= λ vs end others. Ok (front ++ vs, end, others)) ≡ (r >>= λ vs end others. Ok ((front ++ v ∷ []) ++ vs, end, others))
+  regroup_others front v (Ok x) = ap (λ (vs : List ℕ). done vs x.1 x.2) (sym (append_assoc front (v ∷ []) x.0))
+  regroup_others front v (Err e) = refl
+
+  pub others_go : (front : List ℕ) (n m k v at end : ℕ) (bytes rest : List ℕ) → n ≡ suc m → sample_at wide maxval k at bytes ≡ done v end rest → and_others front wide maxval n k at bytes ≡ and_others (front ++ v ∷ []) wide maxval m (k + 1) end rest
+  unfolding and_others samples_at
+  others_go front n m k v at end bytes rest is e = rw (is, e) (regroup_others front v (samples_at wide maxval m (k + 1) end rest))
+
+  pub others_break : (front : List ℕ) (n m k at : ℕ) (bytes : List ℕ) (f : ReadPlaneFault) → n ≡ suc m → (let x : Reading ℕ = Err f in sample_at wide maxval k at bytes ≡ x) → (let y : Reading (List ℕ) = Err f in and_others front wide maxval n k at bytes ≡ y)
+  unfolding and_others samples_at
+  others_break front n m k at bytes f is e = rw (is, e) refl
+
+-- a stretch that is still empty
+pub nothing_read : {A : Type 0} (told : Option (List ℕ)) (at limit before : ℕ) (r q : Reader A) → ((bytes : List ℕ) → r at bytes ≡ q at bytes) → Goes (call told at told at limit before before) r q
+nothing_read told at limit before r q f = record {
+  moves = stays told told at at limit before before refl refl (omega arith);
+  reads = λ bytes rest t l. let same : bytes ≡ rest = some_is bytes rest (sym t ∙ l) in f bytes ∙ ap (q at) same;
+}
+
+pub two_bytes : (high low : ℕ) → big_number 2 (high ∷ low ∷ []) ≡ 256 * high + low
+two_bytes high low = omega arith
+
+abbrev pub as_samples : Vec ℕ → List ℕ
+as_samples v = v.items
+
+-- one more sample that is not above maxval
+pub below_push : (m : ℕ) (xs : List ℕ) (v : ℕ) → ((k : ℕ) → get_or xs k 0 ≤ m) → v ≤ m → (k : ℕ) → get_or (xs ++ v ∷ []) k 0 ≤ m
+below_push m [] v h le zero = le
+below_push m [] v h le (suc k) = omega arith
+below_push m (x ∷ xs) v h le zero = h 0
+below_push m (x ∷ xs) v h le (suc k) = below_push m xs v (λ j. h (suc j)) le k
+
+pub none_below : (m : ℕ) (xs : List ℕ) → xs ≡ [] → (k : ℕ) → get_or xs k 0 ≤ m
+none_below m xs e k = rw e (omega arith)

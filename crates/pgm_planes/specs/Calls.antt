@@ -1,0 +1,33 @@
+-- What a call on a feed did to it.
+use Rattle.std.specs.Prelude.{◌≡◌, ℕ, ◌+◌, ◌≤◌, List, ◌++◌, length, Option, Some, IfSome}
+use Rattle.std.specs.Global.{Vec}
+use Rattle.insar_ports.specs.Bytes.{with_front}
+use Rattle.insar_ports.specs.declared.feed.Feed.{Feed}
+use Rattle.insar_ports.specs.declared.feed.Buffer.{Ghosts}
+use Rattle.insar_ports.specs.Feeding.{left_of, handed_of, limit_of, faults_of}
+
+-- `told` and `left` are the bytes that the feed had and has left, `at` and `end` how many it had handed out
+-- before and after; `limit` is its limit, and the source's count of faults was `before` and is `after`.
+pub record Call : Type 0 where
+  pub told : Option (List ℕ)
+  pub at : ℕ
+  pub left : Option (List ℕ)
+  pub end : ℕ
+  pub limit : ℕ
+  pub before : ℕ
+  pub after : ℕ
+
+-- a call on a feed that was `old` and is `new`
+abbrev pub call_of : {S : Type 0} {size old_size : Ghosts (Vec ℕ)} → (S → Option (List ℕ)) → (S → ℕ) → Feed S (Vec ℕ) old_size → Feed S (Vec ℕ) size → Call
+call_of left faults old new = record { told = left_of left old; at = handed_of old; left = left_of left new; end = handed_of new; limit = limit_of old; before = faults_of faults old; after = faults_of faults new }
+
+-- the bytes that are told are those that were handed out, and then those that are left
+pub record Moves (c : Call) : Type 0 where
+  pub front : List ℕ
+  pub parts : c.told ≡ with_front front c.left
+  pub place : c.end ≡ c.at + length front
+  pub grows : c.before ≤ c.after
+
+-- where the bytes are told, a text for which P holds was taken from their front
+abbrev pub Takes : Call → (List ℕ → Type 0) → Type 0
+Takes c P = IfSome c.told (λ bytes. (text : List ℕ) × (rest : List ℕ) × ((bytes ≡ text ++ rest) × ((c.left ≡ Some rest) × ((c.end ≡ c.at + length text) × P text))))

@@ -1,0 +1,158 @@
+-- Reading a plane from left to right, with the first break that is met. A place counts from the start of the source.
+use Rattle.std.specs.Prelude.{◌≡◌, ℕ, zero, suc, ◌+◌, ◌*◌, ◌-◌, min, nat_lt, ◌==◌, ◌&&◌, ◌||◌, Bool, true, false, not, if◌then◌else◌, List, [], ◌∷◌, Option, Some, None, Result, Ok, Err}
+use Rattle.insar_ports.specs.Bytes.{HasMore, HasRisen}
+use Rattle.pgm_planes.specs.Calls.{Call, Moves}
+use Rattle.pgm_planes.specs.declared.fault.Role.{Role}
+use Rattle.pgm_planes.specs.declared.fault.Role.TheVariants.{Phase, Weight, Mask}
+use Rattle.pgm_planes.specs.declared.fault.PlaneFault.{PlaneFault}
+use Rattle.pgm_planes.specs.declared.fault.PlaneFault.TheVariants.{Magic, Form, Size, PhaseMaxval, SampleAbove, Short}
+use Rattle.pgm_planes.specs.declared.fault.ReadPlaneFault.{ReadPlaneFault}
+use Rattle.pgm_planes.specs.declared.fault.ReadPlaneFault.TheVariants as errors
+use Rattle.pgm_planes.specs.declared.header.Header.{Header}
+use Rattle.pgm_planes.specs.Gaps.{is_space, is_line_end, is_digit}
+use Rattle.pgm_planes.specs.Planes.{PlaneOf, is_wide}
+
+-- a value, the place behind it and the bytes from there, or the break
+abbrev pub Reading : Type 0 → Type 0
+Reading A = Result (A × ℕ × List ℕ) ReadPlaneFault
+
+-- what reads a value from a place and the bytes from there on
+abbrev pub Reader : Type 0 → Type 0
+Reader A = ℕ → List ℕ → Reading A
+
+infixl 10 ◌>>=◌
+abbrev pub ◌>>=◌ : {A B : Type 0} → Reading A → (A → Reader B) → Reading B
+(Ok x) >>= f = f x.0 x.1 x.2
+(Err e) >>= f = Err e
+
+abbrev pub breaks : {A : Type 0} → PlaneFault → Reading A
+breaks fault = Err (errors.Plane fault)
+
+abbrev pub nothing : Unit {0}
+nothing = tt
+
+-- the next byte, which is taken or stays, and none at the end
+unfoldable pub byte_at : Reader (Option ℕ)
+byte_at at [] = Ok (None, at, [])
+byte_at at (b ∷ rest) = Ok (Some b, at + 1, rest)
+
+unfoldable pub sight_at : Reader (Option ℕ)
+sight_at at [] = Ok (None, at, [])
+sight_at at (b ∷ rest) = Ok (Some b, at, b ∷ rest)
+
+-- P5; P2 stands for a plane that is not built yet
+abbrev pub magic_answer : ℕ → Option ℕ → Result (Unit {0}) ReadPlaneFault
+magic_answer a None = Err (errors.Plane Magic)
+magic_answer a (Some b) = if (a == 80) && (b == 53) then Ok nothing else (if (a == 80) && (b == 50) then Err errors.Unbuilt else Err (errors.Plane Magic))
+
+abbrev pub magic_then : Result (Unit {0}) ReadPlaneFault → Reader (Unit {0})
+magic_then (Ok _) at rest = Ok (nothing, at, rest)
+magic_then (Err e) at rest = Err e
+
+unfoldable pub magic_at : Reader (Unit {0})
+magic_at at [] = breaks Magic
+magic_at at (a ∷ []) = breaks Magic
+magic_at at (a ∷ b ∷ rest) = magic_then (magic_answer a (Some b)) (at + 2) rest
+
+unfoldable pub space_at : Reader (Unit {0})
+space_at at [] = breaks (Form at)
+space_at at (b ∷ rest) = if is_space b then Ok (nothing, at + 1, rest) else breaks (Form at)
+
+-- whether a comment is open behind a byte of white space or of a comment; none behind any other byte
+abbrev pub inside_after : Bool → ℕ → Option Bool
+inside_after true b = Some (not (is_line_end b))
+inside_after false b = if is_space b then Some false else (if b == 35 then Some true else None)
+
+-- white space and comments, from outside a comment or from inside one
+unfoldable pub filling_at : Bool → Reader (Unit {0})
+filling_at false at [] = Ok (nothing, at, [])
+filling_at true at [] = breaks (Form at)
+filling_at false at (b ∷ rest) = if is_space b then filling_at false (at + 1) rest else (if b == 35 then filling_at true (at + 1) rest else Ok (nothing, at, b ∷ rest))
+filling_at true at (b ∷ rest) = if is_line_end b then filling_at false (at + 1) rest else filling_at true (at + 1) rest
+
+-- one more digit; numbers stop growing at 4,294,967,295
+abbrev pub with_digit : ℕ → ℕ → ℕ
+with_digit n b = min (10 * n + (b - 48)) 4294967295
+
+unfoldable pub digits_at : ℕ → Reader ℕ
+digits_at n at [] = Ok (n, at, [])
+digits_at n at (b ∷ rest) = if is_digit b then digits_at (with_digit n b) (at + 1) rest else Ok (n, at, b ∷ rest)
+
+unfoldable pub number_at : Reader ℕ
+number_at at [] = breaks (Form at)
+number_at at (b ∷ rest) = if is_digit b then digits_at (b - 48) (at + 1) rest else breaks (Form at)
+
+-- a gap and a number, with the place of its first digit
+unfoldable pub field_at : Reader (ℕ × ℕ)
+field_at at bytes = space_at at bytes >>= λ _ after rest. filling_at false after rest >>= λ _ place digits. number_at place digits >>= λ n end others. Ok ((n, place), end, others)
+
+pub record HeaderOf : Type 0 where
+  pub width : ℕ
+  pub height : ℕ
+  pub maxval : ℕ
+
+-- a side or the pixels break a limit
+abbrev pub is_too_large : ℕ → ℕ → Bool
+is_too_large width height = (width == 0) || (nat_lt 4096 width) || (height == 0) || (nat_lt 4096 height) || (nat_lt 4194304 (width * height))
+
+-- what is wrong with a maxval whose first digit stands at the place
+abbrev pub maxval_break : Role → ℕ → ℕ → Option PlaneFault
+maxval_break Phase maxval place = if maxval == 65535 then None else Some (PhaseMaxval maxval)
+maxval_break Weight maxval place = if (maxval == 0) || (nat_lt 65535 maxval) then Some (Form place) else None
+maxval_break Mask maxval place = if (maxval == 0) || (nat_lt 65535 maxval) then Some (Form place) else None
+
+-- the size is judged before the maxval
+abbrev pub header_break : Role → ℕ → ℕ → ℕ → ℕ → Option PlaneFault
+header_break role width height maxval place = if is_too_large width height then Some (Size width height) else maxval_break role maxval place
+
+abbrev pub unless_broken : {A : Type 0} → Option PlaneFault → Reading A → Reading A
+unless_broken None reading = reading
+unless_broken (Some fault) reading = breaks fault
+
+unfoldable pub header_at : Role → Reader HeaderOf
+header_at role at bytes = field_at at bytes >>= λ w at_2 rest_2. field_at at_2 rest_2 >>= λ h at_3 rest_3. field_at at_3 rest_3 >>= λ m at_4 rest_4. space_at at_4 rest_4 >>= λ _ end others. unless_broken (header_break role w.0 h.0 m.0 m.1) (Ok (record { width = w.0; height = h.0; maxval = m.0 }, end, others))
+
+-- the sample with the given index, if it is not above maxval
+abbrev pub judged : ℕ → ℕ → ℕ → Result ℕ ReadPlaneFault
+judged maxval index v = if nat_lt maxval v then Err (errors.Plane (SampleAbove index v)) else Ok v
+
+abbrev pub and_behind : Result ℕ ReadPlaneFault → Reader ℕ
+and_behind (Ok v) at rest = Ok (v, at, rest)
+and_behind (Err e) at rest = Err e
+
+-- one sample of one byte or of two, that with the given index
+unfoldable pub sample_at : Bool → ℕ → ℕ → Reader ℕ
+sample_at wide maxval index at [] = breaks (Short index)
+sample_at false maxval index at (b ∷ rest) = and_behind (judged maxval index b) (at + 1) rest
+sample_at true maxval index at (high ∷ []) = breaks (Short index)
+sample_at true maxval index at (high ∷ low ∷ rest) = and_behind (judged maxval index (256 * high + low)) (at + 2) rest
+
+-- so many samples, the first with the given index
+unfoldable pub samples_at : Bool → ℕ → ℕ → ℕ → Reader (List ℕ)
+samples_at wide maxval zero index at bytes = Ok ([], at, bytes)
+samples_at wide maxval (suc n) index at bytes = sample_at wide maxval index at bytes >>= λ v after rest. samples_at wide maxval n (index + 1) after rest >>= λ vs end others. Ok (v ∷ vs, end, others)
+
+unfoldable pub plane_at : Role → Reader PlaneOf
+plane_at role at bytes = magic_at at bytes >>= λ _ at_1 rest_1. header_at role at_1 rest_1 >>= λ h at_2 rest_2. samples_at (is_wide h.maxval) h.maxval (h.width * h.height) 0 at_2 rest_2 >>= λ vs end others. Ok (record { width = h.width; height = h.height; maxval = h.maxval; samples = vs }, end, others)
+
+-- ---- calls on a feed
+
+-- the bytes that were told, and those that are left, where they are told
+abbrev pub Told : Call → (List ℕ → List ℕ → Type 0) → Type 0
+Told c P = (bytes rest : List ℕ) → c.told ≡ Some bytes → c.left ≡ Some rest → P bytes rest
+
+-- the call answers what the reader gives; a read fault was counted; want of memory has no cause
+abbrev pub Answers : {X A : Type 0} → (X → A) → Result X ReadPlaneFault → Call → Reader A → Type 0
+Answers view (Ok x) c read = Told c (λ bytes rest. read c.at bytes ≡ Ok (view x, c.end, rest))
+Answers view (Err (errors.Plane fault)) c read = Told c (λ bytes rest. read c.at bytes ≡ breaks fault)
+Answers view (Err errors.Unbuilt) c read = Told c (λ bytes rest. read c.at bytes ≡ Err errors.Unbuilt)
+Answers view (Err errors.TooLong) c read = (c.end ≡ c.limit) × HasMore c.left
+Answers view (Err errors.ReadFault) c read = HasRisen c.before c.after
+Answers view (Err errors.Memory) c read = Unit {0}
+
+pub record Reads {X A : Type 0} (view : X → A) (result : Result X ReadPlaneFault) (c : Call) (read : Reader A) : Type 0 where
+  pub moves : Moves c
+  pub answers : Answers view result c read
+
+abbrev pub header_of : Header → HeaderOf
+header_of h = record { width = h.width; height = h.height; maxval = h.maxval }

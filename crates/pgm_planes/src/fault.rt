@@ -1,0 +1,100 @@
+ghost use Rattle.std.specs.Prelude.{◌≡◌};
+ghost use Rattle.insar_ports.specs.declared.feed.FeedFault.TheVariants as feed_faults;
+ghost use Rattle.pgm_planes.specs.declared.fault.ReadPlaneFault.TheVariants as faults;
+ghost use Rattle.pgm_planes.specs.Faults.{fault_of_feed};
+
+use insar_ports::FeedFault;
+use std::alloc::{AllocError, AllocFailed};
+use thiserror::Error;
+
+/// What a plane is read for.
+#[derive(Clone, Copy, Debug, PartialEq, Eq)]
+pub enum Role {
+    /// Wrapped phase, one cycle being 65536 units: maxval is 65535.
+    Phase,
+    /// Weights of pixels, as made from coherence: any maxval.
+    Weight,
+    /// 0 for a masked pixel, anything else for an open one: any maxval.
+    Mask,
+}
+
+/// The first break of a plane's form, in order of bytes.
+#[derive(Clone, Copy, Debug, PartialEq, Eq, Error)]
+pub enum PlaneFault {
+    /// The first two bytes are not `P5` or `P2`, or the input ends before them.
+    #[error("no PGM magic")]
+    Magic,
+    /// The byte at this place cannot stand there, or the input ends in the header after so many
+    /// bytes. For a weight or a mask also: maxval, whose first digit stands there, is 0 or above
+    /// 65535.
+    #[error("the form breaks at byte {0}")]
+    Form(u64),
+    /// A side is 0 or above 4096, or there are more than 4194304 pixels.
+    #[error("the size {width} by {height} is beyond the limits")]
+    Size { width: u32, height: u32 },
+    /// The maxval of a phase plane is this and not 65535.
+    #[error("the maxval of the phase is {0}")]
+    PhaseMaxval(u32),
+    /// The sample with this index, from 0 in row order, is above maxval.
+    #[error("the sample {index} is {value}, above maxval")]
+    SampleAbove { index: u32, value: u32 },
+    /// The input ends before the last sample; so many samples were whole.
+    #[error("the input ends after {0} samples")]
+    Short(u32),
+}
+
+/// Why no plane was read.
+#[derive(Clone, Copy, Debug, PartialEq, Eq)]
+pub enum ReadPlaneFault {
+    /// The bytes are no plane, and this is the first break.
+    Plane(PlaneFault),
+    /// A plain plane stands there, whose reader is not built yet.
+    Unbuilt,
+    /// The feed's limit was handed out, and another byte is there.
+    TooLong,
+    /// The source failed and counted a fault.
+    ReadFault,
+    /// There was no memory for the samples.
+    Memory,
+}
+
+impl From<FeedFault> for ReadPlaneFault {
+    ghost from_gives = { λ fault e. e ≡ fault_of_feed fault };
+
+    fn from(fault: FeedFault) -> ReadPlaneFault {
+        match fault {
+            FeedFault::ReadFault => ReadPlaneFault::ReadFault,
+            FeedFault::TooLong => ReadPlaneFault::TooLong,
+        }
+    }
+}
+
+impl From<AllocError> for ReadPlaneFault {
+    ghost from_gives = { λ _ e. e ≡ faults.Memory };
+
+    fn from(_none: AllocError) -> ReadPlaneFault {
+        ReadPlaneFault::Memory
+    }
+}
+
+impl<T: Drop> From<AllocFailed<T>> for ReadPlaneFault {
+    ghost from_gives = { λ _ e. e ≡ faults.Memory };
+
+    fn from(_none: AllocFailed<T>) -> ReadPlaneFault {
+        ReadPlaneFault::Memory
+    }
+}
+
+/// Why an input was refused.
+#[derive(Clone, Copy, Debug, PartialEq, Eq, Error)]
+pub enum InputFault {
+    /// A plane breaks its form.
+    #[error("{role:?} plane: {fault}")]
+    Plane { role: Role, fault: PlaneFault },
+    /// The input has more bytes than an input may have.
+    #[error("the input is too long")]
+    TooLong,
+    /// A form whose reader is not built yet.
+    #[error("a form that is not built yet")]
+    Unbuilt,
+}

@@ -1,0 +1,22 @@
+-- Why an input is not read.
+use Rattle.std.specs.Prelude.{◌≡◌, ℕ, List, [], Option, Some, IfSome, ⊤}
+use Rattle.insar_ports.specs.Bytes.{HasRisen}
+use Rattle.insar_top.specs.declared.refusal.Refusal.{Refusal}
+use Rattle.insar_top.specs.declared.refusal.Refusal.TheVariants as refusals
+use Rattle.insar_top.specs.Line.{IsNoInput}
+
+-- where the bytes are told, P holds of all of them, and nothing is left
+abbrev pub IsAlone : Option (List ℕ) → Option (List ℕ) → (List ℕ → Type 0) → Type 0
+IsAlone told left P = IfSome told (λ bytes. P bytes × (left ≡ Some []))
+
+-- where the bytes are told, they are no input
+abbrev pub TellsNoInput : Option (List ℕ) → Type 0
+TellsNoInput told = IfSome told IsNoInput
+
+-- the causes that reading has: the bytes, want of memory, and a fault that was counted
+abbrev pub HasInputCause : Option (List ℕ) → ℕ → ℕ → Refusal → Type 0
+HasInputCause told before after refusals.Words = ⊥
+HasInputCause told before after (refusals.Input fault) = TellsNoInput told
+HasInputCause told before after refusals.Memory = ⊤
+HasInputCause told before after refusals.ReadFault = HasRisen before after
+HasInputCause told before after refusals.WriteFault = ⊥

@@ -1,0 +1,9 @@
+pub mod Grid
+pub mod Rows
+pub mod Writing
+pub mod Waiting
+pub mod Line
+pub mod Refusals
+pub mod Causes
+pub mod Lines
+pub mod Outcomes

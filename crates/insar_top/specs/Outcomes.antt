@@ -1,0 +1,62 @@
+-- What a run of the program may end as.
+use Rattle.std.specs.Prelude.{◌≡◌, ◌≤◌, ◌⊎◌, ◌↔◌, ℕ, List, [], ◌∷◌, map, codes, Option, Some, IfSome, ⊤}
+use Rattle.std.specs.Borrow.{Bor}
+use Rattle.insar_ports.specs.Bytes.{with_end, HasRisen, GainsProperPrefix}
+use Rattle.pgm_planes.specs.Planes.{PlaneOf}
+use Rattle.pgm_planes.specs.declared.fault.InputFault.{InputFault}
+use Rattle.insar_top.specs.declared.refusal.Refusal.{Refusal}
+use Rattle.insar_top.specs.declared.refusal.Refusal.TheVariants as refusals
+use Rattle.insar_top.specs.Line.{IsInput, IsAnswer, IsNoInput}
+use Rattle.insar_top.specs.Causes.{TellsNoInput}
+use Rattle.insar_top.specs.Refusals.{status_of}
+use Rattle.insar_top.specs.Lines.{line_of}
+
+-- The source had told these bytes and has these left, and its count of faults was and is so;
+-- the sink held this and holds this now, and its count of faults was and is so.
+pub record Run : Type 0 where
+  pub told : Option (List ℕ)
+  pub left : Option (List ℕ)
+  pub source_before : ℕ
+  pub source_after : ℕ
+  pub held : Option (List ℕ)
+  pub held_now : Option (List ℕ)
+  pub sink_before : ℕ
+  pub sink_after : ℕ
+
+-- the words are the one word unwrap
+abbrev pub IsUnwrap : List (Bor (List ℕ)) → Type 0
+IsUnwrap words = map (λ w. w.now) words ≡ codes "unwrap" ∷ []
+
+-- where the bytes are told, they are an input, nothing of it is left, and the sink gained exactly the text for it
+abbrev pub IsDone : Run → Type 0
+IsDone r = IfSome r.told (λ bytes. (text : List ℕ) × (IsAnswer bytes text × ((r.left ≡ Some []) × (r.held_now ≡ with_end r.held text))))
+
+-- where the bytes are told, they are an input, and the sink gained a part of the text for it and not the whole
+abbrev pub IsCut : Run → Type 0
+IsCut r = IfSome r.told (λ bytes. (text : List ℕ) × (IsAnswer bytes text × GainsProperPrefix r.held text r.held_now))
+
+abbrev pub SourceFailed : Run → Type 0
+SourceFailed r = HasRisen r.source_before r.source_after
+
+abbrev pub SinkFailed : Run → Type 0
+SinkFailed r = HasRisen r.sink_before r.sink_after
+
+-- a refusal has its cause; W says that the words were the command
+abbrev pub HasCause : Type 0 → Run → Refusal → Type 0
+HasCause W r refusals.Words = (W → ⊥) × (r.held_now ≡ r.held)
+HasCause W r (refusals.Input fault) = W × (TellsNoInput r.told × (r.held_now ≡ r.held))
+HasCause W r refusals.Memory = W × (r.held_now ≡ r.held)
+HasCause W r refusals.ReadFault = W × (SourceFailed r × (r.held_now ≡ r.held))
+HasCause W r refusals.WriteFault = W × (SinkFailed r × IsCut r)
+
+-- done, or one of the statuses 2 to 6
+abbrev pub IsStatus : ℕ → Type 0
+IsStatus status = (status ≡ 0) ⊎ ((2 ≤ status) × (status ≤ 6))
+
+-- the line that goes with a status: none, or that of a refusal that has it
+abbrev pub IsLineAt : ℕ → List ℕ → Type 0
+IsLineAt status line = ((status ≡ 0) × (line ≡ [])) ⊎ ((refusal : Refusal) × ((status ≡ status_of refusal) × (line ≡ line_of refusal)))
+
+-- a run over a source that was `source` and is `source_now`, and a sink
+abbrev pub run_of : {S K : Type 0} → (S → Option (List ℕ)) → (S → ℕ) → S → S → (K → Option (List ℕ)) → (K → ℕ) → K → K → Run
+run_of left source_faults source source_now held sink_faults sink sink_now = record { told = left source; left = left source_now; source_before = source_faults source; source_after = source_faults source_now; held = held sink; held_now = held sink_now; sink_before = sink_faults sink; sink_after = sink_faults sink_now }

@@ -1,0 +1,15 @@
+//! The whole program as one call: words and bytes in, a grid or a refusal out.
+#![tactic(auto)]
+
+mod diag;
+mod grid;
+mod input;
+mod line;
+mod refusal;
+mod text;
+mod top;
+
+pub use top::insar;
+
+#[cfg(test)]
+mod tests;

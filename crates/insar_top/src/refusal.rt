@@ -1,0 +1,82 @@
+ghost use Rattle.std.specs.Prelude.{◌≡◌};
+ghost use Rattle.pgm_planes.specs.declared.fault.Role.TheVariants.{Phase};
+ghost use Rattle.insar_top.specs.declared.refusal.Refusal.TheVariants as refusals;
+ghost use Rattle.insar_top.specs.Refusals.{refusal_of_plane, refusal_of_feed, status_of};
+
+use insar_ports::{FeedFault, WriteFault};
+use pgm_planes::{InputFault, ReadPlaneFault, Role};
+use std::alloc::AllocError;
+
+/// Why a command was not done.
+#[derive(Clone, Copy, Debug, PartialEq, Eq)]
+pub enum Refusal {
+    /// The words are no command.
+    Words,
+    /// The input breaks its form or a limit.
+    Input(InputFault),
+    /// There was no memory.
+    Memory,
+    /// The source failed and counted a fault.
+    ReadFault,
+    /// The sink failed and counted a fault.
+    WriteFault,
+}
+
+impl Refusal {
+    /// The exit status that tells it.
+    pub fn status(&self) -> u8
+        ensures { result ≡ status_of self.now }
+    {
+        match self {
+            Refusal::Words => 2,
+            Refusal::Input(_) => 3,
+            Refusal::Memory => 4,
+            Refusal::ReadFault => 5,
+            Refusal::WriteFault => 6,
+        }
+    }
+}
+
+impl From<AllocError> for Refusal {
+    ghost from_gives = { λ _ e. e ≡ refusals.Memory };
+
+    fn from(_none: AllocError) -> Refusal {
+        Refusal::Memory
+    }
+}
+
+impl From<WriteFault> for Refusal {
+    ghost from_gives = { λ _ e. e ≡ refusals.WriteFault };
+
+    fn from(_fault: WriteFault) -> Refusal {
+        Refusal::WriteFault
+    }
+}
+
+impl From<FeedFault> for Refusal {
+    ghost from_gives = { λ fault e. e ≡ refusal_of_feed fault };
+
+    fn from(fault: FeedFault) -> Refusal {
+        match fault {
+            FeedFault::ReadFault => Refusal::ReadFault,
+            FeedFault::TooLong => Refusal::Input(InputFault::TooLong),
+        }
+    }
+}
+
+impl From<ReadPlaneFault> for Refusal {
+    ghost from_gives = { λ fault e. e ≡ refusal_of_plane fault };
+
+    fn from(fault: ReadPlaneFault) -> Refusal {
+        match fault {
+            ReadPlaneFault::Plane(fault) => Refusal::Input(InputFault::Plane {
+                role: Role::Phase,
+                fault,
+            }),
+            ReadPlaneFault::Unbuilt => Refusal::Input(InputFault::Unbuilt),
+            ReadPlaneFault::TooLong => Refusal::Input(InputFault::TooLong),
+            ReadPlaneFault::ReadFault => Refusal::ReadFault,
+            ReadPlaneFault::Memory => Refusal::Memory,
+        }
+    }
+}

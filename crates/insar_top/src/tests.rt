@@ -1,0 +1,168 @@
+use super::insar;
+use insar_ports::{MemorySink, MemorySource};
+use std::test::Fail;
+
+/// How a run ended: its status, what the sink gained and what `diag` gained.
+#[derive(Drop)]
+struct Ended {
+    status: u8,
+    text: Vec<u8>,
+    line: Vec<u8>,
+}
+
+/// The word `unwrap` over the bytes, in pieces of one byte; the numbered calls of the source, of the
+/// sink and of `diag` fail.
+fn outcome_of(
+    rt: &HostRuntime,
+    bytes: &[u8],
+    takes: &[u32],
+    puts: &[u32],
+    lines: &[u32],
+) -> Result<Ended, Fail> {
+    let alloc = rt.alloc();
+    let mut source = MemorySource::new(bytes.to_vec(alloc)?, 1, takes.to_vec(alloc)?);
+    let mut sink = MemorySink::new(alloc, 4096, 1, puts.to_vec(alloc)?)?;
+    let mut diag = MemorySink::new(alloc, 4096, 1, lines.to_vec(alloc)?)?;
+    let status = insar(alloc, &["unwrap"], &mut source, &mut sink, &mut diag);
+    Ok(Ended {
+        status,
+        text: sink.bytes().to_vec(alloc)?,
+        line: diag.bytes().to_vec(alloc)?,
+    })
+}
+
+/// A line of phase as a raw plane.
+fn plane(rt: &HostRuntime, phases: &[u16]) -> Result<Vec<u8>, Fail> {
+    let mut bytes = Vec::new(rt.alloc());
+    let header = format!(in rt.alloc(); "P5\n{} 1\n65535\n", phases.len())?;
+    bytes.extend_from_slice(header.as_bytes())?;
+    for phase in phases {
+        bytes.extend_from_slice(&phase.to_be_bytes())?;
+    }
+    Ok(bytes)
+}
+
+const FRAME: &str = "xllcorner 0\nyllcorner 0\ncellsize 1\nNODATA_value -9223372036854775808\n";
+
+/// The worked lines; the values were computed by hand.
+#[test]
+fn lines_are_unwrapped(rt: HostRuntime) -> Result<(), Fail> {
+    let cases: [(&[u16], &str); 4] = [
+        (&[0, 20000, 40000, 60000], "0 20000 40000 60000"),
+        (&[50000, 10000], "50000 75536"),
+        (&[0, 32768], "0 -32768"),
+        (&[65535], "65535"),
+    ];
+    for (phases, row) in cases {
+        let done = outcome_of(&rt, &plane(&rt, phases)?, &[], &[], &[])?;
+        let width = phases.len();
+        let text = format!(in rt.alloc(); "ncols {width}\nnrows 1\n{FRAME}{row}\n")?;
+        assert_eq!(rt; done.status, 0);
+        assert_eq!(rt; done.text.as_slice(), text.as_bytes());
+        assert_eq!(rt; done.line.len(), 0);
+    }
+    Ok(())
+}
+
+/// The first break of each input, by its number and place.
+#[test]
+fn broken_inputs_are_refused(rt: HostRuntime) -> Result<(), Fail> {
+    let cases: [(&[u8], &str); 9] = [
+        (b"", "input fault 1 magic phase\n"),
+        (b"P3\n", "input fault 1 magic phase\n"),
+        (b"P2\n2 1\n", "input fault 17 unbuilt\n"),
+        (b"P5\n4097 1\n65535\n", "input fault 3 size phase 4097 1\n"),
+        (
+            b"P5\n4096 1025\n65535\n",
+            "input fault 3 size phase 4096 1025\n",
+        ),
+        (b"P5\n2 1\n65534\n", "input fault 4 maxval 65534\n"),
+        (
+            b"P5\n2 1\n65535\n\0\0\0",
+            "input fault 6 short phase samples 1\n",
+        ),
+        (b"P5\n1 2\n65535\n\0\0\0\0", "input fault 17 unbuilt\n"),
+        (b"P5\n1 1\n65535\n\0\0P", "input fault 17 unbuilt\n"),
+    ];
+    for (bytes, line) in cases {
+        let refused = outcome_of(&rt, bytes, &[], &[], &[])?;
+        assert_eq!(rt; refused.status, 3);
+        assert_eq!(rt; refused.text.len(), 0);
+        assert_eq!(rt; refused.line.as_slice(), line.as_bytes());
+    }
+    Ok(())
+}
+
+/// A raw line of two pixels, 17 bytes, cut at every byte.
+#[test]
+fn cut_inputs_are_refused_at_the_cut(rt: HostRuntime) -> Result<(), Fail> {
+    let bytes = plane(&rt, &[0, 20000])?;
+    for n in 0..bytes.len() {
+        let refused = outcome_of(&rt, &bytes[..n], &[], &[], &[])?;
+        let line = match n {
+            0..=1 => format!(in rt.alloc(); "input fault 1 magic phase\n")?,
+            2..=12 => format!(in rt.alloc(); "input fault 2 form phase byte {n}\n")?,
+            13..=14 => format!(in rt.alloc(); "input fault 6 short phase samples 0\n")?,
+            _ => format!(in rt.alloc(); "input fault 6 short phase samples 1\n")?,
+        };
+        assert_eq!(rt; refused.status, 3);
+        assert_eq!(rt; refused.text.len(), 0);
+        assert_eq!(rt; refused.line.as_slice(), line.as_bytes());
+    }
+    Ok(())
+}
+
+/// Each call of the source failing in turn: 17 for the bytes and one for the end of the input.
+#[test]
+fn each_failing_read_is_told(rt: HostRuntime) -> Result<(), Fail> {
+    let bytes = plane(&rt, &[0, 20000])?;
+    for call in 1..=18 {
+        let refused = outcome_of(&rt, &bytes, &[call], &[], &[])?;
+        assert_eq!(rt; refused.status, 5);
+        assert_eq!(rt; refused.text.len(), 0);
+        assert_eq!(rt; refused.line.as_slice(), b"read fault\n".as_slice());
+    }
+    Ok(())
+}
+
+/// Each put of the sink failing in turn: a proper prefix of the text is there.
+#[test]
+fn each_failing_write_is_told(rt: HostRuntime) -> Result<(), Fail> {
+    let bytes = plane(&rt, &[0, 20000])?;
+    let whole = outcome_of(&rt, &bytes, &[], &[], &[])?;
+    let mut gained = 0usize;
+    for put in 1..=99 {
+        if gained == whole.text.len() {
+            break;
+        }
+        let refused = outcome_of(&rt, &bytes, &[], &[put], &[])?;
+        assert_eq!(rt; refused.status, 6);
+        assert!(rt; whole.text.starts_with(&refused.text));
+        assert_eq!(rt; refused.text.len(), gained);
+        assert_eq!(rt; refused.line.as_slice(), b"write fault\n".as_slice());
+        gained += 1;
+    }
+    Ok(())
+}
+
+/// Words other than the one word are refused before the source is read, and a fault of `diag` changes
+/// neither a status nor the sink.
+#[test]
+fn other_words_are_refused_and_faults_of_diag_change_nothing(rt: HostRuntime) -> Result<(), Fail> {
+    let alloc = rt.alloc();
+    for words in [[].as_slice(), &["grid"], &["unwrap", "--tile"]] {
+        let mut source = MemorySource::new(Vec::new(alloc), 1, [1].to_vec(alloc)?);
+        let mut sink = MemorySink::new(alloc, 9, 1, Vec::new(alloc))?;
+        let mut diag = MemorySink::new(alloc, 99, 1, Vec::new(alloc))?;
+        let status = insar(alloc, words, &mut source, &mut sink, &mut diag);
+        assert_eq!(rt; status, 2);
+        assert_eq!(rt; diag.bytes(), b"words refused\n".as_slice());
+    }
+    let refused = outcome_of(&rt, b"P5", &[], &[], &[1])?;
+    assert_eq!(rt; refused.status, 3);
+    assert_eq!(rt; refused.line.len(), 0);
+    let failed = outcome_of(&rt, &plane(&rt, &[7])?, &[], &[2], &[1])?;
+    assert_eq!(rt; failed.status, 6);
+    assert_eq!(rt; failed.text.as_slice(), b"n".as_slice());
+    Ok(())
+}

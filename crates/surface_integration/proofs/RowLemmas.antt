@@ -1,0 +1,100 @@
+-- A row of cycles, pixel by pixel.
+use Rattle.std.proofs.Common.{◌≡◌, ◌∙◌, ℕ, ◌+◌, ◌-◌, ◌*◌, ◌≤◌, sym, ap, subst, refl, arith, to_z, of_z, w32, List, [], ◌∷◌, ◌++◌, length, below_more}
+use Rattle.std.specs.Prelude.{ℤ, pos, ◌+ℤ◌, unsigned_abs, slice_index_or, FitsSigned}
+use Rattle.std.proofs.lemmas.Int.{ints}
+use Rattle.std.proofs.Math.Nat.{mul-le-mul_left}
+use Rattle.std.proofs.Math.Seq.{get_or-append_seam}
+use Rattle.std.proofs.lemmas.List.{get_or_append_left, length-append}
+use Rattle.raster_model.specs.declared.tiling.Window.{Window}
+use Rattle.raster_model.specs.Raster.{Raster}
+use Rattle.raster_model.specs.Sums.{right_edge}
+use Rattle.wrapped_gradient.specs.declared.corrections.Corrections.{Corrections}
+use Rattle.surface_integration.specs.Rows.{IsRowAdded, rise_of}
+
+-- the number that was added last, and those before it
+pub last_at : (zs : List ℤ) (z : ℤ) (n : ℕ) → n ≡ length zs → slice_index_or (zs ++ z ∷ []) n (pos 0) ≡ z
+last_at zs z n e = ap (λ (i : ℕ). slice_index_or (zs ++ z ∷ []) i (pos 0)) e ∙ get_or-append_seam zs z [] (pos 0)
+
+module _ (r : Raster) (v : Window) (k : Corrections) (y : ℕ) (first : ℤ) (old : List ℤ) where
+  pub row_starts : IsRowAdded r v k y 0 first old (old ++ first ∷ [])
+  row_starts = record {
+    count = omega (arith, length-append old (first ∷ []));
+    kept = λ i l. get_or_append_left old (first ∷ []) (pos 0) i l;
+    begins = last_at old first (length old) refl;
+    rises = λ i l. absurd (omega arith);
+  }
+
+  pub row_grows : (n : ℕ) (new : List ℤ) (here z : ℤ) → IsRowAdded r v k y n first old new → here ≡ slice_index_or new (length old + n) (pos 0) → z ≡ here +ℤ rise_of r v k (right_edge (v.x0 + n) y) → IsRowAdded r v k y (n + 1) first old (new ++ z ∷ [])
+  row_grows n new here z h e f =
+      let m = h.count in
+      record {
+        count = omega (arith, length-append new (z ∷ []), m);
+        kept = λ i l. get_or_append_left new (z ∷ []) (pos 0) i (omega (arith, m, l)) ∙ h.kept i l;
+        begins = get_or_append_left new (z ∷ []) (pos 0) (length old) (omega (arith, m)) ∙ h.begins;
+        rises = below_more _ _
+            (λ i l. get_or_append_left new (z ∷ []) (pos 0) (length old + (i + 1)) (omega (arith, m, l)) ∙ h.rises i l ∙ ap (λ (u : ℤ). u +ℤ rise_of r v k (right_edge (v.x0 + i) y)) (sym (get_or_append_left new (z ∷ []) (pos 0) (length old + i) (omega (arith, m, l)))))
+            (last_at new z (length old + (n + 1)) (omega (arith, m)) ∙ f ∙ ap (λ (u : ℤ). u +ℤ rise_of r v k (right_edge (v.x0 + n) y)) (e ∙ sym (get_or_append_left new (z ∷ []) (pos 0) (length old + n) (omega (arith, m)))));
+      }
+
+  pub row_last : (n : ℕ) (new : List ℤ) (z : ℤ) → IsRowAdded r v k y n first old new → z ≡ slice_index_or (new ++ z ∷ []) (length old + (n + 1)) (pos 0)
+  row_last n new z h = let m = h.count in sym (last_at new z (length old + (n + 1)) (omega (arith, m)))
+
+-- one more step, of at most m
+pub bound_next : (z d : ℤ) (n m : ℕ) → unsigned_abs z ≤ n * m → unsigned_abs d ≤ m → unsigned_abs (z +ℤ d) ≤ (n + 1) * m
+bound_next z d n m p q =
+    let s : unsigned_abs (z +ℤ d) ≤ unsigned_abs z + unsigned_abs d = omega (arith, ints) in
+    omega (arith, s, p, q)
+
+-- so many steps stay within 31 bits
+pub steps_fit : (z : ℤ) (n w h m : ℕ) → unsigned_abs z ≤ n * m → n ≤ w + h → (w + h) * m ≤ 2147483647 → unsigned_abs z ≤ 2147483647
+steps_fit z n w h m p l q = omega (arith, p, q, mul-le-mul_left m l)
+
+-- as code adds them up, at 32 bits
+module _ (z d : ℤ) (n w h m : ℕ) (near : unsigned_abs z ≤ n * m) (step : unsigned_abs d ≤ m) (room : n + 1 ≤ w + h) (small : (w + h) * m ≤ 2147483647) where
+  step_small : unsigned_abs d ≤ 2147483647
+  step_small = steps_fit d 1 w h m (omega (arith, step)) (omega (arith, room)) small
+
+  total_small : unsigned_abs (z +ℤ d) ≤ 2147483647
+  total_small = steps_fit (z +ℤ d) (n + 1) w h m (bound_next z d n m near step) room small
+
+  step_plain : to_z w32 (of_z w32 d) ≡ d
+  step_plain = let l = step_small in omega (arith, ints, l)
+
+  pub sum_fits : FitsSigned w32 (z +ℤ to_z w32 (of_z w32 d))
+  sum_fits = let l = total_small in rw step_plain (omega (arith, ints, l))
+
+  pub sum_plain : to_z w32 (of_z w32 (z +ℤ to_z w32 (of_z w32 d))) ≡ z +ℤ d
+  sum_plain = let l = total_small in rw step_plain (omega (arith, ints, l))
+
+  pub sum_near : unsigned_abs (to_z w32 (of_z w32 (z +ℤ to_z w32 (of_z w32 d)))) ≤ (n + 1) * m
+  sum_near = rw sum_plain (bound_next z d n m near step)
+
+-- the same rows, as a loop writes them
+module _ (r : Raster) (v : Window) (k : Corrections) (y : ℕ) where
+  pub row_begins : (n : ℕ) (first : ℤ) (old new : List ℤ) → n ≡ 0 → new ≡ old ++ first ∷ [] → IsRowAdded r v k y n first old new
+  row_begins n first old new e f =
+      subst (λ (m : ℕ). IsRowAdded r v k y m first old new) (sym e)
+      (subst (λ (zs : List ℤ). IsRowAdded r v k y 0 first old zs) (sym f) (row_starts r v k y first old))
+
+  pub begun_last : (n : ℕ) (first : ℤ) (old new : List ℤ) → n ≡ 0 → new ≡ old ++ first ∷ [] → first ≡ slice_index_or new (length old + n) (pos 0)
+  begun_last n first old new e f = sym (ap (λ (zs : List ℤ). slice_index_or zs (length old + n) (pos 0)) f ∙ last_at old first (length old + n) (omega (arith, e)))
+
+  module _ (first : ℤ) (old : List ℤ) (x : ℕ) (new more : List ℤ) (here z d : ℤ) (from : v.x0 ≤ x) (h : IsRowAdded r v k y (x - v.x0) first old new) (pushed : more ≡ new ++ z ∷ []) where
+    pub row_more : here ≡ slice_index_or new (length old + (x - v.x0)) (pos 0) → z ≡ here +ℤ d → d ≡ rise_of r v k (right_edge x y) → IsRowAdded r v k y (x + 1 - v.x0) first old more
+    row_more e f g =
+        let p : x ≡ v.x0 + (x - v.x0) = omega arith in
+        let q : x - v.x0 + 1 ≡ x + 1 - v.x0 = omega arith in
+        subst (λ (m : ℕ). IsRowAdded r v k y m first old more) q
+        (subst (λ (zs : List ℤ). IsRowAdded r v k y (x - v.x0 + 1) first old zs) (sym pushed)
+        (row_grows r v k y first old (x - v.x0) new here z h e (f ∙ ap (λ (u : ℤ). here +ℤ u) (g ∙ ap (λ (m : ℕ). rise_of r v k (right_edge m y)) p))))
+
+    pub more_last : z ≡ slice_index_or more (length old + (x + 1 - v.x0)) (pos 0)
+    more_last =
+        let q : x - v.x0 + 1 ≡ x + 1 - v.x0 = omega arith in
+        row_last r v k y first old (x - v.x0) new z h
+        ∙ ap (λ (zs : List ℤ). slice_index_or zs (length old + (x - v.x0 + 1)) (pos 0)) (sym pushed)
+        ∙ ap (λ (m : ℕ). slice_index_or more (length old + m) (pos 0)) q
+
+  pub row_whole : (n n' : ℕ) (first first' : ℤ) (old new : List ℤ) → n ≡ n' → first ≡ first' → IsRowAdded r v k y n first old new → IsRowAdded r v k y n' first' old new
+  row_whole n n' first first' old new e f h =
+      subst (λ (m : ℕ). IsRowAdded r v k y m first' old new) e (subst (λ (u : ℤ). IsRowAdded r v k y n u old new) f h)

@@ -1,0 +1,26 @@
+-- Whole cycles above the phase over a window, and the corrections by which their surface departs (Costantini 1998).
+use Rattle.std.specs.Prelude.{◌≡◌, ℕ, ◌+◌, ◌-◌, ◌*◌, ◌≤◌, ℤ, pos, List, slice_index_or, unsigned_abs}
+use Rattle.raster_model.specs.declared.edge.Edge.{Edge}
+use Rattle.raster_model.specs.declared.tiling.Window.{Window}
+use Rattle.raster_model.specs.Sums.{Field}
+use Rattle.raster_model.specs.Raster.{Raster, departure, lifted}
+use Rattle.raster_model.specs.Tiles.{IsWithin}
+use Rattle.wrapped_gradient.specs.declared.corrections.Corrections.{Corrections}
+use Rattle.wrapped_gradient.specs.Corrections.{correction_at, greatest_of}
+use Rattle.wrapped_gradient.specs.Windows.{IsEdgeOf, width_of, height_of}
+
+-- the cycles that a list in the window's row order has at a pixel of the raster
+abbrev pub cycles_at : Window → List ℤ → Field ℤ
+cycles_at v cycles x y = slice_index_or cycles ((y - v.y0) * width_of v + (x - v.x0)) (pos 0)
+
+-- the surface that lies so many cycles above the phase departs by the correction at each edge of the window
+abbrev pub DepartBy : Raster → Window → Field ℤ → Corrections → Type 0
+DepartBy r v cycles k = (e : Edge) → IsEdgeOf v e → departure r (lifted r cycles) e ≡ correction_at v k e
+
+-- with w and h the sides of the window and b the greatest absolute correction, (w + h) * (b + 1) is at most 2147483647
+abbrev pub AreSmall : Window → Corrections → Type 0
+AreSmall v k = (width_of v + height_of v) * (greatest_of k + 1) ≤ 2147483647
+
+-- at a pixel some steps to the right of the window's first and some below, the absolute cycles are at most those steps times b + 1
+abbrev pub StaySmall : Window → Field ℤ → ℕ → Type 0
+StaySmall v cycles b = (x y : ℕ) → IsWithin v x y → unsigned_abs (cycles x y) ≤ (x - v.x0 + (y - v.y0)) * (b + 1)

@@ -1,0 +1,137 @@
+ghost use Rattle.raster_model.specs.Phase.{turns, wrapped};
+ghost use Rattle.raster_model.specs.Scene.{raster_of};
+ghost use Rattle.raster_model.specs.Sums.{down_edge, right_edge};
+ghost use Rattle.std.specs.Prelude.{
+  ◌≡◌,
+  ◌+◌,
+  ◌-◌,
+  ◌*◌,
+  ◌<◌,
+  ◌≤◌,
+  ◌-ℤ◌,
+  IfOk,
+  OnOk,
+  pos,
+  unsigned_abs,
+  vec_len,
+};
+ghost use Rattle.surface_integration.specs.Cycles.{AreSmall, DepartBy, StaySmall, cycles_at};
+ghost use Rattle.surface_integration.specs.Rows.{IsRowAdded, rise_of};
+ghost use Rattle.wrapped_gradient.specs.Corrections.{CancelResidues, HasShapeOf, greatest_of};
+ghost use Rattle.wrapped_gradient.specs.Gradients.{AreGradientsOf};
+ghost use Rattle.wrapped_gradient.specs.Windows.{height_of, width_of};
+
+use raster_model::Scene;
+use std::alloc::{AllocError, Global};
+use wrapped_gradient::{Corrections, Gradients};
+
+/// Whole cycles above the phase, one number for each pixel of the gradients' window in row order, and 0 at its
+/// first pixel. The surface of the phase and 65,536 units for each cycle departs from the wrapped difference of
+/// each edge of the window by the edge's correction. The first column is filled downwards, and from it each row
+/// rightwards. (Costantini 1998.)
+pub fn integrate(
+    alloc: Global,
+    scene: &Scene,
+    gradients: &Gradients,
+    corrections: &Corrections,
+) -> Result<Vec<i32>, AllocError>
+    requires gradients { AreGradientsOf scene.now gradients.now }
+    requires shape { HasShapeOf gradients.now.window corrections.now }
+    requires cancel { CancelResidues (raster_of scene.now) gradients.now.window corrections.now }
+    requires small { AreSmall gradients.now.window corrections.now }
+    ensures count { IfOk result (λ cycles. vec_len cycles ≡ width_of gradients.now.window * height_of gradients.now.window) }
+    ensures first { IfOk result (λ cycles. cycles_at gradients.now.window cycles.items gradients.now.window.x0 gradients.now.window.y0 ≡ pos 0) }
+    ensures departs { IfOk result (λ cycles. DepartBy (raster_of scene.now) gradients.now.window (cycles_at gradients.now.window cycles.items) corrections.now) }
+    ensures bounded { IfOk result (λ cycles. StaySmall gradients.now.window (cycles_at gradients.now.window cycles.items) (greatest_of corrections.now)) }
+{
+    let window = gradients.window();
+    let across = (window.x1 - window.x0) as usize + 1;
+    let along = (window.y1 - window.y0) as usize + 1;
+    let mut cycles = Vec::with_capacity(alloc, across * along)?;
+    let mut first = 0;
+    push_row(scene, gradients, corrections, window.y0, first, &mut cycles)?;
+    for y in window.y0..window.y1 {
+        first += rise_down(scene, gradients, corrections, window.x0, y);
+        push_row(scene, gradients, corrections, y + 1, first, &mut cycles)?;
+    }
+    Ok(cycles)
+}
+
+/// Appends the cycles of row `y`, which begins with `first`.
+fn push_row(
+    scene: &Scene,
+    gradients: &Gradients,
+    corrections: &Corrections,
+    y: u32,
+    first: i32,
+    cycles: &mut Vec<i32>,
+) -> Result<(), AllocError>
+    requires gradients { AreGradientsOf scene.now gradients.now }
+    requires shape { HasShapeOf gradients.now.window corrections.now }
+    requires small { AreSmall gradients.now.window corrections.now }
+    requires row { (gradients.now.window.y0 ≤ y) × (y ≤ gradients.now.window.y1) }
+    requires near { unsigned_abs first ≤ (y - gradients.now.window.y0) * (greatest_of corrections.now + 1) }
+    ensures { OnOk result (IsRowAdded (raster_of scene.now) gradients.now.window corrections.now y (gradients.now.window.x1 - gradients.now.window.x0) first cycles.old.items cycles.new.items) }
+{
+    let window = gradients.window();
+    let mut here = first;
+    cycles.push(here)?;
+    for x in window.x0..window.x1 {
+        here += rise_right(scene, gradients, corrections, x, y);
+        cycles.push(here)?;
+    }
+    Ok(())
+}
+
+/// The cycles by which the right neighbour of a pixel lies higher.
+fn rise_right(
+    scene: &Scene,
+    gradients: &Gradients,
+    corrections: &Corrections,
+    x: u32,
+    y: u32,
+) -> i32
+    requires gradients { AreGradientsOf scene.now gradients.now }
+    requires shape { HasShapeOf gradients.now.window corrections.now }
+    requires small { AreSmall gradients.now.window corrections.now }
+    requires across { (gradients.now.window.x0 ≤ x) × (x < gradients.now.window.x1) }
+    requires along { (gradients.now.window.y0 ≤ y) × (y ≤ gradients.now.window.y1) }
+    ensures value { result ≡ rise_of (raster_of scene.now) gradients.now.window corrections.now (right_edge x y) }
+    ensures small { unsigned_abs result ≤ greatest_of corrections.now + 1 }
+{
+    let window = gradients.window();
+    let across = (window.x1 - window.x0) as usize;
+    let place = (y - window.y0) as usize * across + (x - window.x0) as usize;
+    let from = scene.phase.sample(x, y);
+    let to = scene.phase.sample(x + 1, y);
+    rise(from, to, gradients.right(x, y), corrections.right[place])
+}
+
+/// The cycles by which the lower neighbour of a pixel lies higher.
+fn rise_down(scene: &Scene, gradients: &Gradients, corrections: &Corrections, x: u32, y: u32) -> i32
+    requires gradients { AreGradientsOf scene.now gradients.now }
+    requires shape { HasShapeOf gradients.now.window corrections.now }
+    requires small { AreSmall gradients.now.window corrections.now }
+    requires across { (gradients.now.window.x0 ≤ x) × (x ≤ gradients.now.window.x1) }
+    requires along { (gradients.now.window.y0 ≤ y) × (y < gradients.now.window.y1) }
+    ensures value { result ≡ rise_of (raster_of scene.now) gradients.now.window corrections.now (down_edge x y) }
+    ensures small { unsigned_abs result ≤ greatest_of corrections.now + 1 }
+{
+    let window = gradients.window();
+    let across = (window.x1 - window.x0) as usize + 1;
+    let place = (y - window.y0) as usize * across + (x - window.x0) as usize;
+    let from = scene.phase.sample(x, y);
+    let to = scene.phase.sample(x, y + 1);
+    rise(from, to, gradients.down(x, y), corrections.down[place])
+}
+
+/// The cycles by which a pixel lies above its neighbour, for their phases, the wrapped difference and the
+/// correction.
+fn rise(from: u16, to: u16, gradient: i32, correction: i32) -> i32
+    requires wrapped { gradient ≡ wrapped from to }
+    requires small { unsigned_abs correction < 2147483647 }
+    ensures value { result ≡ correction -ℤ turns from to }
+    ensures small { unsigned_abs result ≤ unsigned_abs correction + 1 }
+{
+    correction - (i32::from(to) - i32::from(from) - gradient) / 65536
+}

@@ -1,0 +1,9 @@
+//! Whole cycles above the phase over a window, added up from its first pixel so that the surface departs from
+//! the wrapped difference of each edge by the edge's correction.
+#![tactic(auto)]
+
+mod cycles;
+#[cfg(test)]
+mod tests;
+
+pub use crate::cycles::integrate;

@@ -1,0 +1,60 @@
+-- Wrapped differences over a window are those of the scene.
+use Rattle.std.proofs.Common.{◌⊎◌, inl, inr, ◌≡◌, ℕ, ◌+◌, ◌-◌, ◌*◌, ◌<◌, ◌≤◌, arith, List, Bool, true, false}
+use Rattle.std.specs.Prelude.{ℤ, pos, ◌+ℤ◌, ◌-ℤ◌, int_div}
+use Rattle.raster_model.specs.declared.edge.Edge.{Edge}
+use Rattle.raster_model.specs.declared.scene.Scene.{Scene}
+use Rattle.raster_model.specs.declared.tiling.Window.{Window}
+use Rattle.raster_model.specs.Sums.{right_edge, down_edge}
+use Rattle.raster_model.specs.Raster.{Raster, gradient}
+use Rattle.raster_model.specs.Seams.{IsEarlier}
+use Rattle.wrapped_gradient.specs.GradientsView.{GradientsView}
+use Rattle.wrapped_gradient.specs.Gradients.{AreGradientsOf, HaveResiduesOf, residue_at}
+use Rattle.wrapped_gradient.specs.Rows.{AreInRows, of_right_edges, of_down_edges}
+use Rattle.wrapped_gradient.specs.Windows.{IsEdgeOf, IsCellOf, width_of, height_of, number_at}
+use Rattle.wrapped_gradient.proofs.Places.{place_within}
+use Rattle.wrapped_gradient.proofs.RowLemmas.{rows_tell}
+
+module _ (r : Raster) (v : Window) (right down : List ℤ) (rights : AreInRows (of_right_edges r) v.x0 v.y0 (width_of v - 1) ((width_of v - 1) * height_of v) right) (downs : AreInRows (of_down_edges r) v.x0 v.y0 (width_of v) (width_of v * (height_of v - 1)) down) where
+  right_is : (x y : ℕ) → v.x0 ≤ x → x < v.x1 → v.y0 ≤ y → y ≤ v.y1 → number_at v right down (right_edge x y) ≡ gradient r (right_edge x y)
+  right_is x y a b c d =
+      rows_tell (of_right_edges r) v.x0 v.y0 (width_of v - 1) ((width_of v - 1) * height_of v) x y right rights a (omega arith) c
+      (place_within (width_of v - 1) (height_of v) (y - v.y0) (x - v.x0) (omega arith) (omega arith))
+
+  down_is : (x y : ℕ) → v.x0 ≤ x → x ≤ v.x1 → v.y0 ≤ y → y < v.y1 → number_at v right down (down_edge x y) ≡ gradient r (down_edge x y)
+  down_is x y a b c d =
+      rows_tell (of_down_edges r) v.x0 v.y0 (width_of v) (width_of v * (height_of v - 1)) x y down downs a (omega arith) c
+      (place_within (width_of v) (height_of v - 1) (y - v.y0) (x - v.x0) (omega arith) (omega arith))
+
+  pub numbers_are : (e : Edge) → IsEdgeOf v e → number_at v right down e ≡ gradient r e
+  numbers_are e i = go e.x e.y e.down i
+    where
+      go : (x y : ℕ) (d : Bool) → IsEdgeOf v (record { x = x; y = y; down = d }) → number_at v right down (record { x = x; y = y; down = d }) ≡ gradient r (record { x = x; y = y; down = d })
+      go x y false i = right_is x y i.start.0 (omega (arith, i.end.1)) i.start.2 i.start.3
+      go x y true i = down_is x y i.start.0 i.start.1 i.start.2 (omega (arith, i.end.3))
+
+-- an edge of a window
+pub right_edge_of : (v : Window) (x y : ℕ) → v.x0 ≤ x → x < v.x1 → v.y0 ≤ y → y ≤ v.y1 → IsEdgeOf v (right_edge x y)
+right_edge_of v x y a b c d = record { start = (a, omega arith, c, d); end = (omega arith, omega arith, c, d) }
+
+pub down_edge_of : (v : Window) (x y : ℕ) → v.x0 ≤ x → x ≤ v.x1 → v.y0 ≤ y → y < v.y1 → IsEdgeOf v (down_edge x y)
+down_edge_of v x y a b c d = record { start = (a, b, c, omega arith); end = (a, b, omega arith, omega arith) }
+
+-- wrapped differences of a scene have its residues
+pub residues_are : (s : Scene) (g : GradientsView) → AreGradientsOf s g → HaveResiduesOf s g
+residues_are s g h x y i =
+    let top = h.differences (right_edge x y) (right_edge_of g.window x y i.0 i.1 i.2 (omega arith)) in
+    let right = h.differences (down_edge (x + 1) y) (down_edge_of g.window (x + 1) y (omega arith) (omega arith) i.2 i.3) in
+    let bottom = h.differences (right_edge x (y + 1)) (right_edge_of g.window x (y + 1) i.0 i.1 (omega arith) (omega arith)) in
+    let left = h.differences (down_edge x y) (down_edge_of g.window x y i.0 (omega arith) i.2 i.3) in
+    same_quotient top right bottom left
+  where
+    same_quotient : {p q b l p' q' b' l' : ℤ} → p ≡ p' → q ≡ q' → b ≡ b' → l ≡ l' → int_div (p +ℤ q -ℤ b -ℤ l) (pos 65536) ≡ int_div (p' +ℤ q' -ℤ b' -ℤ l') (pos 65536)
+    same_quotient d e f g = cc
+
+-- the cells before the next one in a row
+pub next_cell : (g : GradientsView) (x y : ℕ) → ((a b : ℕ) → IsCellOf g.window a b → IsEarlier a b x y → residue_at g a b ≡ pos 0) → residue_at g x y ≡ pos 0 → (a b : ℕ) → IsCellOf g.window a b → IsEarlier a b (x + 1) y → residue_at g a b ≡ pos 0
+next_cell g x y before here a b i (inl l) = before a b i (inl l)
+next_cell g x y before here a b i (inr l) = elim (at_or_before a x l.1) [ inl m ↦ before a b i (inr (l.0, m)) | inr m ↦ rw (m, l.0) here ]
+  where
+    at_or_before : (a x : ℕ) → a < x + 1 → (a < x) ⊎ (a ≡ x)
+    at_or_before a x l = grind arith

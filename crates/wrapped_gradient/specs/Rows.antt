@@ -1,0 +1,15 @@
+-- Values at the pixels of a box, listed in row order: words of helpers, which no clause of another module cites.
+use Rattle.std.specs.Prelude.{◌≡◌, ℕ, ◌+◌, ◌/◌, ◌%◌, ◌<◌, ℤ, pos, List, length, slice_index_or}
+use Rattle.raster_model.specs.Sums.{Field, right_edge, down_edge}
+use Rattle.raster_model.specs.Raster.{Raster, gradient}
+
+-- the list has the first n values in row order of a box that begins at (x0, y0) and has so many columns
+abbrev pub AreInRows : Field ℤ → ℕ → ℕ → ℕ → ℕ → List ℤ → Type 0
+AreInRows f x0 y0 columns n zs = (length zs ≡ n) × ((k : ℕ) → k < n → slice_index_or zs k (pos 0) ≡ f (x0 + k % columns) (y0 + k / columns))
+
+-- the wrapped differences of the edges that start at a pixel
+abbrev pub of_right_edges : Raster → Field ℤ
+of_right_edges r x y = gradient r (right_edge x y)
+
+abbrev pub of_down_edges : Raster → Field ℤ
+of_down_edges r x y = gradient r (down_edge x y)

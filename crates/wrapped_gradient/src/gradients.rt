@@ -1,0 +1,184 @@
+ghost use Rattle.raster_model.specs.Raster.{gradient as gradient_of};
+ghost use Rattle.raster_model.specs.Scene.{raster_of};
+ghost use Rattle.raster_model.specs.Sums.{is_edge};
+ghost use Rattle.raster_model.specs.Tiles.{IsWindowIn};
+ghost use Rattle.std.specs.Prelude.{◌≡◌, ◌-◌, ◌*◌, IfOk, IsTrue};
+ghost use Rattle.wrapped_gradient.specs.Rows.{AreInRows, of_down_edges, of_right_edges};
+ghost use Rattle.wrapped_gradient.specs.Windows.{height_of, width_of};
+
+use raster_model::{Edge, Scene, Window, plain};
+use std::alloc::{AllocError, Global};
+use std::marker::Model;
+
+/// The wrapped differences of the edges of a window, in units of 1/65536 cycle. Places count in the raster.
+#[derive(Drop)]
+pub struct Gradients {
+    window: Window,
+    /// Of the right edges, in row order of first pixels.
+    right: Vec<i16>,
+    /// Of the down edges, in row order of first pixels.
+    down: Vec<i16>,
+}
+
+impl Model for Gradients {
+    ghost use Rattle.std.specs.Prelude.{◌≡◌, ◌*◌, ◌<◌, ◌≤◌};
+    ghost use Rattle.wrapped_gradient.specs.GradientsView.{GradientsView};
+    ghost use Rattle.wrapped_gradient.specs.Windows.{HaveShapeOf};
+
+    ghost Value = { GradientsView };
+
+    ghost view = { λ g. record { window = g.window; right = g.right.items; down = g.down.items } };
+
+    ghost invariant = { λ g. (g.window.x0 ≤ g.window.x1) × (g.window.x1 < 4096) × (g.window.y0 ≤ g.window.y1) × (g.window.y1 < 4096) × HaveShapeOf g.window g.right.items g.down.items };
+}
+
+impl Gradients {
+    ghost use Rattle.raster_model.specs.Raster.{residue as residue_of};
+    ghost use Rattle.raster_model.specs.Sums.{down_edge, right_edge};
+    ghost use Rattle.std.specs.Prelude.{
+      ℕ,
+      ◌<◌,
+      ◌≤◌,
+      ◌≤ℤ◌,
+      IfNone,
+      IfSome,
+      neg_ℤ,
+      pos,
+      unsigned_abs,
+    };
+    ghost use Rattle.wrapped_gradient.specs.Gradients.{
+      AreGradientsOf,
+      HasNoResidue,
+      HaveResiduesOf,
+      IsFirstResidue,
+      gradient_at,
+      residue_at,
+    };
+    ghost use Rattle.wrapped_gradient.specs.Windows.{round};
+
+    /// The wrapped differences of a scene over a window of its raster.
+    pub fn of(alloc: Global, scene: &Scene, window: Window) -> Result<Gradients, AllocError>
+        requires { IsWindowIn scene.now.phase.width scene.now.phase.height window }
+        ensures window { IfOk result (λ made. made.window ≡ window) }
+        ensures differences { IfOk result (λ made. AreGradientsOf scene.now made) }
+        ensures residues { IfOk result (λ made. HaveResiduesOf scene.now made) }
+    {
+        Ok(Gradients {
+            window,
+            right: right_differences(alloc, scene, window)?,
+            down: down_differences(alloc, scene, window)?,
+        })
+    }
+
+    /// The window that they were made for.
+    pub fn window(&self) -> Window
+        ensures value { result ≡ self.now.window }
+        ensures across { (result.x0 ≤ result.x1) × (result.x1 < 4096) }
+        ensures along { (result.y0 ≤ result.y1) × (result.y1 < 4096) }
+    {
+        self.window
+    }
+
+    /// The wrapped difference from the pixel (`x`, `y`) to its right neighbour.
+    pub fn right(&self, x: u32, y: u32) -> i32
+        requires across { (self.now.window.x0 ≤ x) × (x < self.now.window.x1) }
+        requires along { (self.now.window.y0 ≤ y) × (y ≤ self.now.window.y1) }
+        ensures value { result ≡ gradient_at self.now (right_edge x y) }
+        ensures low { neg_ℤ (pos 32768) ≤ℤ result }
+        ensures high { result ≤ℤ pos 32767 }
+    {
+        let window = self.window;
+        let across = (window.x1 - window.x0) as usize;
+        let place = (y - window.y0) as usize * across + (x - window.x0) as usize;
+        i32::from(self.right[place])
+    }
+
+    /// The wrapped difference from the pixel (`x`, `y`) to its lower neighbour.
+    pub fn down(&self, x: u32, y: u32) -> i32
+        requires across { (self.now.window.x0 ≤ x) × (x ≤ self.now.window.x1) }
+        requires along { (self.now.window.y0 ≤ y) × (y < self.now.window.y1) }
+        ensures value { result ≡ gradient_at self.now (down_edge x y) }
+        ensures low { neg_ℤ (pos 32768) ≤ℤ result }
+        ensures high { result ≤ℤ pos 32767 }
+    {
+        let window = self.window;
+        let across = (window.x1 - window.x0) as usize + 1;
+        let place = (y - window.y0) as usize * across + (x - window.x0) as usize;
+        i32::from(self.down[place])
+    }
+
+    /// The residue of the cell with the upper left corner (`x`, `y`), in cycles: -1, 0 or 1. It is the sum
+    /// of the wrapped differences along the cell's top and right sides, less those along its bottom and left
+    /// sides. (Goldstein, Zebker and Werner 1988.)
+    pub fn residue(&self, x: u32, y: u32) -> i8
+        requires across { (self.now.window.x0 ≤ x) × (x < self.now.window.x1) }
+        requires along { (self.now.window.y0 ≤ y) × (y < self.now.window.y1) }
+        ensures value { result ≡ residue_at self.now x y }
+        ensures small { unsigned_abs result ≤ 1 }
+        ensures sum { unsigned_abs (round (gradient_at self.now) x y) ≤ 131070 }
+    {
+        // The window lies in a raster, so the right and the lower neighbour have numbers.
+        let _ = &self.window;
+        let top = self.right(x, y);
+        let right = self.down(x + 1, y);
+        let bottom = self.right(x, y + 1);
+        let left = self.down(x, y);
+        ((top + right - bottom - left) / 65536) as i8
+    }
+
+    /// The first cell in row order whose residue is not 0, by its upper left corner.
+    pub fn first_residue(&self) -> Option<(u32, u32)>
+        ensures found { IfSome result (λ cell. IsFirstResidue self.now cell.0 cell.1) }
+        ensures none { IfNone result (HasNoResidue self.now) }
+    {
+        let window = self.window();
+        for y in window.y0..window.y1 {
+            for x in window.x0..window.x1 {
+                if self.residue(x, y) != 0 {
+                    return Some((x, y));
+                }
+            }
+        }
+        None
+    }
+}
+
+/// The wrapped difference of an edge.
+fn difference(scene: &Scene, edge: Edge) -> i16
+    requires { IsTrue (is_edge scene.now.phase.width scene.now.phase.height edge) }
+    ensures { result ≡ gradient_of (raster_of scene.now) edge }
+{
+    plain::gradient(scene, edge) as i16
+}
+
+/// The wrapped differences of the window's right edges.
+fn right_differences(alloc: Global, scene: &Scene, window: Window) -> Result<Vec<i16>, AllocError>
+    requires { IsWindowIn scene.now.phase.width scene.now.phase.height window }
+    ensures { IfOk result (λ list. AreInRows (of_right_edges (raster_of scene.now)) window.x0 window.y0 (width_of window - 1) ((width_of window - 1) * height_of window) list.items) }
+{
+    let across = (window.x1 - window.x0) as usize;
+    let along = (window.y1 - window.y0) as usize + 1;
+    let mut list = Vec::with_capacity(alloc, across * along)?;
+    for y in window.y0..window.y1 + 1 {
+        for x in window.x0..window.x1 {
+            list.push(difference(scene, Edge { x, y, down: false }))?;
+        }
+    }
+    Ok(list)
+}
+
+/// The wrapped differences of the window's down edges.
+fn down_differences(alloc: Global, scene: &Scene, window: Window) -> Result<Vec<i16>, AllocError>
+    requires { IsWindowIn scene.now.phase.width scene.now.phase.height window }
+    ensures { IfOk result (λ list. AreInRows (of_down_edges (raster_of scene.now)) window.x0 window.y0 (width_of window) (width_of window * (height_of window - 1)) list.items) }
+{
+    let across = (window.x1 - window.x0) as usize + 1;
+    let along = (window.y1 - window.y0) as usize;
+    let mut list = Vec::with_capacity(alloc, across * along)?;
+    for y in window.y0..window.y1 {
+        for x in window.x0..window.x1 + 1 {
+            list.push(difference(scene, Edge { x, y, down: true }))?;
+        }
+    }
+    Ok(list)
+}

@@ -1,5 +1,5 @@
 pub mod WriteLemmas
 pub mod GridLemmas
-pub mod LineLemmas
+pub mod SurfaceLemmas
 pub mod InputLemmas
 pub mod TopLemmas

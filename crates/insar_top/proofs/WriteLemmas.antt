@@ -1,10 +1,11 @@
 -- Texts that are written one after the other, and a text that was cut.
 use Rattle.std.specs.Prelude.{OnOk, OnErr}
-use Rattle.std.proofs.Common.{◌≡◌, ℕ, ◌+◌, ◌<◌, Result, Ok, Err, List, [], ◌∷◌, ◌++◌, length, take, Option, refl, sym, ap, subst, ◌∙◌, append_assoc, arith}
-use Rattle.std.proofs.lemmas.List.{append-nil, length-append}
+use Rattle.std.proofs.Common.{◌≡◌, ℕ, Result, Ok, Err, List, [], ◌++◌, Option, refl, sym, ap, subst, ◌∙◌, append_assoc}
+use Rattle.std.proofs.lemmas.List.{append-nil}
 use Rattle.insar_ports.specs.Bytes.{with_end, GainsProperPrefix}
 use Rattle.insar_ports.proofs.CallerLemmas.{with_end-append, with_end-nil, cut-first, cut-later}
 use Rattle.insar_top.specs.Writing.{Writes}
+use Rattle.insar_top.specs.Lines.{labelled}
 
 module _ (held : Option (List ℕ)) (waiting : List ℕ) where
   pub writes_nothing : Writes held waiting held waiting []
@@ -55,3 +56,8 @@ all_written_at (Err x) held now waiting waiting_now text e f w = tt
 
 pub cut_from_empty : (held : Option (List ℕ)) (waiting : List ℕ) (now : Option (List ℕ)) (text : List ℕ) → waiting ≡ [] → GainsProperPrefix held (waiting ++ text) now → GainsProperPrefix held text now
 cut_from_empty held waiting now text e cut = subst (λ (t : List ℕ). GainsProperPrefix held (t ++ text) now) e cut
+
+-- a number behind its label, and then another
+pub two_numbers : (held mid now : Option (List ℕ)) (s t : List ℕ) (a b x y : ℕ) → a ≡ x → b ≡ y → mid ≡ with_end held (labelled s a) → now ≡ with_end mid (labelled t b) → now ≡ with_end held (labelled s x ++ labelled t y)
+two_numbers held mid now s t a b x y p q first second =
+    second ∙ ap (λ (o : Option (List ℕ)). with_end o (labelled t b)) first ∙ with_end-append held (labelled s a) (labelled t b) ∙ rw (p, q) refl

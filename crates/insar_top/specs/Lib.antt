@@ -2,7 +2,8 @@ pub mod Grid
 pub mod Rows
 pub mod Writing
 pub mod Waiting
-pub mod Line
+pub mod Input
+pub mod Surfaces
 pub mod Refusals
 pub mod Causes
 pub mod Lines

@@ -1,13 +1,11 @@
 -- What a run of the program may end as.
-use Rattle.std.specs.Prelude.{◌≡◌, ◌≤◌, ◌⊎◌, ◌↔◌, ℕ, List, [], ◌∷◌, map, codes, Option, Some, IfSome, ⊤}
+use Rattle.std.specs.Prelude.{◌≡◌, ◌≤◌, ◌⊎◌, ℕ, List, [], ◌∷◌, map, codes, Option, Some, IfSome}
 use Rattle.std.specs.Borrow.{Bor}
 use Rattle.insar_ports.specs.Bytes.{with_end, HasRisen, GainsProperPrefix}
-use Rattle.pgm_planes.specs.Planes.{PlaneOf}
-use Rattle.pgm_planes.specs.declared.fault.InputFault.{InputFault}
 use Rattle.insar_top.specs.declared.refusal.Refusal.{Refusal}
 use Rattle.insar_top.specs.declared.refusal.Refusal.TheVariants as refusals
-use Rattle.insar_top.specs.Line.{IsInput, IsAnswer, IsNoInput}
-use Rattle.insar_top.specs.Causes.{TellsNoInput}
+use Rattle.insar_top.specs.Input.{IsAnswer}
+use Rattle.insar_top.specs.Causes.{HasFaultCause}
 use Rattle.insar_top.specs.Refusals.{status_of}
 use Rattle.insar_top.specs.Lines.{line_of}
 
@@ -44,7 +42,7 @@ SinkFailed r = HasRisen r.sink_before r.sink_after
 -- a refusal has its cause; W says that the words were the command
 abbrev pub HasCause : Type 0 → Run → Refusal → Type 0
 HasCause W r refusals.Words = (W → ⊥) × (r.held_now ≡ r.held)
-HasCause W r (refusals.Input fault) = W × (TellsNoInput r.told × (r.held_now ≡ r.held))
+HasCause W r (refusals.Input fault) = W × (HasFaultCause r.told fault × (r.held_now ≡ r.held))
 HasCause W r refusals.Memory = W × (r.held_now ≡ r.held)
 HasCause W r refusals.ReadFault = W × (SourceFailed r × (r.held_now ≡ r.held))
 HasCause W r refusals.WriteFault = W × (SinkFailed r × IsCut r)

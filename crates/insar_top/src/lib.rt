@@ -4,8 +4,8 @@
 mod diag;
 mod grid;
 mod input;
-mod line;
 mod refusal;
+mod surface;
 mod text;
 mod top;
 

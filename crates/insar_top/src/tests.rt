@@ -31,10 +31,10 @@ fn outcome_of(
     })
 }
 
-/// A line of phase as a raw plane.
-fn plane(rt: &HostRuntime, phases: &[u16]) -> Result<Vec<u8>, Fail> {
+/// A raw phase plane of that width and height.
+fn plane(rt: &HostRuntime, size: (usize, usize), phases: &[u16]) -> Result<Vec<u8>, Fail> {
     let mut bytes = Vec::new(rt.alloc());
-    let header = format!(in rt.alloc(); "P5\n{} 1\n65535\n", phases.len())?;
+    let header = format!(in rt.alloc(); "P5\n{} {}\n65535\n", size.0, size.1)?;
     bytes.extend_from_slice(header.as_bytes())?;
     for phase in phases {
         bytes.extend_from_slice(&phase.to_be_bytes())?;
@@ -44,23 +44,74 @@ fn plane(rt: &HostRuntime, phases: &[u16]) -> Result<Vec<u8>, Fail> {
 
 const FRAME: &str = "xllcorner 0\nyllcorner 0\ncellsize 1\nNODATA_value -9223372036854775808\n";
 
-/// The worked lines; the values were computed by hand.
+/// Worked lines and a square; the values were computed by hand.
 #[test]
-fn lines_are_unwrapped(rt: HostRuntime) -> Result<(), Fail> {
-    let cases: [(&[u16], &str); 4] = [
-        (&[0, 20000, 40000, 60000], "0 20000 40000 60000"),
-        (&[50000, 10000], "50000 75536"),
-        (&[0, 32768], "0 -32768"),
-        (&[65535], "65535"),
+fn planes_are_unwrapped(rt: HostRuntime) -> Result<(), Fail> {
+    let cases: [((usize, usize), &[u16], &str); 5] = [
+        ((4, 1), &[0, 20000, 40000, 60000], "0 20000 40000 60000"),
+        ((2, 1), &[50000, 10000], "50000 75536"),
+        ((2, 1), &[0, 32768], "0 -32768"),
+        ((1, 1), &[65535], "65535"),
+        ((2, 2), &[0, 20000, 40000, 60000], "0 20000\n-25536 -5536"),
     ];
-    for (phases, row) in cases {
-        let done = outcome_of(&rt, &plane(&rt, phases)?, &[], &[], &[])?;
-        let width = phases.len();
-        let text = format!(in rt.alloc(); "ncols {width}\nnrows 1\n{FRAME}{row}\n")?;
+    for (size, phases, rows) in cases {
+        let done = outcome_of(&rt, &plane(&rt, size, phases)?, &[], &[], &[])?;
+        let (width, height) = size;
+        let text = format!(in rt.alloc(); "ncols {width}\nnrows {height}\n{FRAME}{rows}\n")?;
         assert_eq!(rt; done.status, 0);
         assert_eq!(rt; done.text.as_slice(), text.as_bytes());
         assert_eq!(rt; done.line.len(), 0);
     }
+    Ok(())
+}
+
+/// A full turn has a residue. The first one in row order is told.
+#[test]
+fn residues_are_refused(rt: HostRuntime) -> Result<(), Fail> {
+    let cases: [((usize, usize), &[u16], &str); 2] = [
+        (
+            (2, 2),
+            &[0, 16384, 49152, 32768],
+            "input fault 18 residue 0 0\n",
+        ),
+        (
+            (3, 3),
+            &[0, 0, 0, 0, 0, 16384, 0, 49152, 32768],
+            "input fault 18 residue 1 1\n",
+        ),
+    ];
+    for (size, phases, line) in cases {
+        let refused = outcome_of(&rt, &plane(&rt, size, phases)?, &[], &[], &[])?;
+        assert_eq!(rt; refused.status, 3);
+        assert_eq!(rt; refused.text.len(), 0);
+        assert_eq!(rt; refused.line.as_slice(), line.as_bytes());
+    }
+    Ok(())
+}
+
+/// A slope of 1024 by 1024 pixels, which rises by 300 to the right and by 700 downwards, is its own surface.
+#[test]
+fn a_large_slope_is_unwrapped(rt: HostRuntime) -> Result<(), Fail> {
+    let alloc = rt.alloc();
+    let mut bytes = Vec::new(alloc);
+    bytes.extend_from_slice(b"P5\n1024 1024\n65535\n")?;
+    let mut text = Vec::new(alloc);
+    text.extend_from_slice(format!(in alloc; "ncols 1024\nnrows 1024\n{FRAME}")?.as_bytes())?;
+    for y in 0..1024u32 {
+        for x in 0..1024u32 {
+            let value = 300 * x + 700 * y;
+            bytes.extend_from_slice(&((value % 65536) as u16).to_be_bytes())?;
+            let gap = if x == 0 { "" } else { " " };
+            text.extend_from_slice(format!(in alloc; "{gap}{value}")?.as_bytes())?;
+        }
+        text.push(b'\n')?;
+    }
+    let mut source = MemorySource::new(bytes, 65536, Vec::new(alloc));
+    let mut sink = MemorySink::new(alloc, 16_000_000, 65536, Vec::new(alloc))?;
+    let mut diag = MemorySink::new(alloc, 99, 1, Vec::new(alloc))?;
+    let status = insar(alloc, &["unwrap"], &mut source, &mut sink, &mut diag);
+    assert_eq!(rt; status, 0);
+    assert!(rt; sink.bytes() == text.as_slice());
     Ok(())
 }
 
@@ -81,7 +132,10 @@ fn broken_inputs_are_refused(rt: HostRuntime) -> Result<(), Fail> {
             b"P5\n2 1\n65535\n\0\0\0",
             "input fault 6 short phase samples 1\n",
         ),
-        (b"P5\n1 2\n65535\n\0\0\0\0", "input fault 17 unbuilt\n"),
+        (
+            b"P5\n1 2\n65535\n\0\0",
+            "input fault 6 short phase samples 1\n",
+        ),
         (b"P5\n1 1\n65535\n\0\0P", "input fault 17 unbuilt\n"),
     ];
     for (bytes, line) in cases {
@@ -96,7 +150,7 @@ fn broken_inputs_are_refused(rt: HostRuntime) -> Result<(), Fail> {
 /// A raw line of two pixels, 17 bytes, cut at every byte.
 #[test]
 fn cut_inputs_are_refused_at_the_cut(rt: HostRuntime) -> Result<(), Fail> {
-    let bytes = plane(&rt, &[0, 20000])?;
+    let bytes = plane(&rt, (2, 1), &[0, 20000])?;
     for n in 0..bytes.len() {
         let refused = outcome_of(&rt, &bytes[..n], &[], &[], &[])?;
         let line = match n {
@@ -115,7 +169,7 @@ fn cut_inputs_are_refused_at_the_cut(rt: HostRuntime) -> Result<(), Fail> {
 /// Each call of the source failing in turn: 17 for the bytes and one for the end of the input.
 #[test]
 fn each_failing_read_is_told(rt: HostRuntime) -> Result<(), Fail> {
-    let bytes = plane(&rt, &[0, 20000])?;
+    let bytes = plane(&rt, (2, 1), &[0, 20000])?;
     for call in 1..=18 {
         let refused = outcome_of(&rt, &bytes, &[call], &[], &[])?;
         assert_eq!(rt; refused.status, 5);
@@ -128,7 +182,7 @@ fn each_failing_read_is_told(rt: HostRuntime) -> Result<(), Fail> {
 /// Each put of the sink failing in turn: a proper prefix of the text is there.
 #[test]
 fn each_failing_write_is_told(rt: HostRuntime) -> Result<(), Fail> {
-    let bytes = plane(&rt, &[0, 20000])?;
+    let bytes = plane(&rt, (2, 1), &[0, 20000])?;
     let whole = outcome_of(&rt, &bytes, &[], &[], &[])?;
     let mut gained = 0usize;
     for put in 1..=99 {
@@ -161,7 +215,7 @@ fn other_words_are_refused_and_faults_of_diag_change_nothing(rt: HostRuntime) ->
     let refused = outcome_of(&rt, b"P5", &[], &[], &[1])?;
     assert_eq!(rt; refused.status, 3);
     assert_eq!(rt; refused.line.len(), 0);
-    let failed = outcome_of(&rt, &plane(&rt, &[7])?, &[], &[2], &[1])?;
+    let failed = outcome_of(&rt, &plane(&rt, (1, 1), &[7])?, &[], &[2], &[1])?;
     assert_eq!(rt; failed.status, 6);
     assert_eq!(rt; failed.text.as_slice(), b"n".as_slice());
     Ok(())

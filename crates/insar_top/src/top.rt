@@ -1,15 +1,16 @@
 ghost use Rattle.std.specs.Prelude.{◌≡◌, ◌≤◌, ◌↔◌, ◌⊎◌, List, ℕ, IsTrue, IfErr, IfSome, OnOk};
 ghost use Rattle.insar_ports.specs.Bytes.{HasRisen, with_end};
 ghost use Rattle.pgm_planes.specs.Planes.{PlaneOf};
-ghost use Rattle.insar_top.specs.Line.{IsInput, IsNoInput};
-ghost use Rattle.insar_top.specs.Causes.{TellsNoInput};
+ghost use Rattle.insar_top.specs.Input.{IsInput, IsNoInput};
+ghost use Rattle.insar_top.specs.Causes.{HasResidueAt, TellsNoInput};
+ghost use Rattle.insar_top.specs.Lines.{residue_line};
 ghost use Rattle.insar_top.specs.Outcomes.{IsUnwrap, IsDone, IsCut, IsStatus, IsLineAt, SourceFailed, SinkFailed, HasCause, run_of};
 
 use crate::diag::put_line;
 use crate::grid::write_grid;
 use crate::input::read_input;
-use crate::line::unwrap_line;
 use crate::refusal::Refusal;
+use crate::surface::unwrap_plane;
 use crate::text::TextBuffer;
 use insar_ports::{Sink, Source};
 use std::alloc::Global;
@@ -37,17 +38,23 @@ fn run<S: Source, K: Sink>(
         return Err(Refusal::Words);
     }
     let phase = read_input(alloc, source)?;
-    let values = unwrap_line(alloc, &phase)?;
+    let surface = unwrap_plane(alloc, phase)?;
     let mut text = TextBuffer::new(alloc)?;
-    write_grid(&mut text, sink, phase.width, phase.height, &values)?;
+    write_grid(
+        &mut text,
+        sink,
+        surface.width,
+        surface.height,
+        &surface.values,
+    )?;
     Ok(())
 }
 
 /// Runs the program: `words` are those behind its name. It reads the source, writes the result to
 /// the sink and, where it refuses, one line to `diag`, and answers the exit status.
 ///
-/// The one command is `unwrap`, which reads a raw PGM phase plane of height 1 and writes the grid of
-/// its unwrapped line. Words are judged before the source is read. A fault of `diag` changes nothing.
+/// The one command is `unwrap`, which reads a raw PGM phase plane without residues and writes the grid
+/// of its unwrapped surface. Words are judged before the source is read. A fault of `diag` changes nothing.
 pub fn insar<S: Source, K: Sink, D: Sink>(
     alloc: Global,
     words: &[&str],
@@ -64,6 +71,9 @@ pub fn insar<S: Source, K: Sink, D: Sink>(
     // 3: the bytes are no input.
     ensures input_refused { result ≡ 3 → TellsNoInput (S.left source.old) }
     ensures input_taken { IsUnwrap words.now → IfSome (S.left source.old) (λ bytes. IsNoInput bytes → (result ≡ 3) ⊎ ((result ≡ 4) ⊎ (result ≡ 5))) }
+    // A plane with a residue is refused with the first such cell in row order.
+    ensures residue { IsUnwrap words.now → IfSome (S.left source.old) (λ bytes. (x y : ℕ) → HasResidueAt bytes x y → (HasRisen (S.faults source.old) (S.faults source.new) → ⊥) →
+        (result ≡ 4) ⊎ ((result ≡ 3) × ((HasRisen (D.faults diag.old) (D.faults diag.new) → ⊥) → D.held diag.new ≡ with_end (D.held diag.old) (residue_line x y)))) }
     // 5 and 6: a fault was counted.
     ensures read_fault { result ≡ 5 → HasRisen (S.faults source.old) (S.faults source.new) }
     ensures write_fault { result ≡ 6 → HasRisen (K.faults sink.old) (K.faults sink.new) }

@@ -97,4 +97,7 @@ pub enum InputFault {
     /// A form whose reader is not built yet.
     #[error("a form that is not built yet")]
     Unbuilt,
+    /// The cell with the upper left corner (`x`, `y`) is the first in row order that has a residue.
+    #[error("the cell {x} {y} has a residue")]
+    Residue { x: u32, y: u32 },
 }

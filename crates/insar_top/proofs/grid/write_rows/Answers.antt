@@ -1,6 +1,5 @@
-use Rattle.std.proofs.Common.{◌≡◌, ◌++◌, ◌+◌, ◌*◌, length, arith}
-use Rattle.std.proofs.lemmas.Result.{on_ok_weaker, on_err_weaker}
-use Rattle.insar_top.specs.Grid.{texts_below, row_text, value_at}
+use Rattle.std.proofs.Common.{length, arith}
+use Rattle.insar_top.specs.Grid.{row_text, value_at}
 use Rattle.insar_top.proofs.WriteLemmas.{writes_nothing, writes_then, cut_late, cut_in_part, at_any_err}
 use Rattle.insar_top.proofs.GridLemmas.{texts_none, texts_more, texts_tail, row_is, row_within}
 use Rattle.insar_top.proofs.grid.write_rows.Goals as goal

@@ -1,20 +1,16 @@
-use Rattle.std.proofs.Common.{ap, Ok, Err, ◌≡◌, ◌≤◌, ◌∙◌, sym, arith, refl}
+use Rattle.std.proofs.Common.{ap, Ok, Err, ◌≤◌, ◌∙◌, sym, arith}
 use Rattle.std.proofs.lemmas.Result.{err_from_is_err_and}
 use Rattle.insar_ports.specs.Feeding.{faults_of, handed_of, left_of, limit_of, pending_of}
 use Rattle.pgm_planes.specs.Calls.{call_of}
 use Rattle.pgm_planes.specs.Planes.{plane_of}
 use Rattle.pgm_planes.proofs.CallLemmas.{risen_before}
-use Rattle.insar_top.proofs.InputLemmas.{plane_cause, not_a_line, not_alone, is_alone, next_cause}
+use Rattle.insar_top.proofs.InputLemmas.{plane_cause, not_alone, is_alone, next_cause}
 use Rattle.insar_top.proofs.input.read_alone.Goals as goal
 
 pub returns-in_err-plane-clause-refused : goal.returns-in_err-plane-clause-refused
 returns-in_err-plane-clause-refused g c =
     let p = err_from_is_err_and c.from_residual.result c.from_residual.ensures.1 in
     rw (p.1, p.2) (plane_cause c.in_err-plane.field-0.0 _ c.in_err-plane.ensures.moves c.requires.start c.requires.limit c.in_err-plane.ensures.refused)
-
-pub returns-then-plane-gt1-clause-refused : goal.returns-then-plane-gt1-clause-refused
-returns-then-plane-gt1-clause-refused g c =
-    not_a_line (call_of g.S.Source.left g.S.Source.faults c.args.feed.now c.read_plane.new.feed) (plane_of c.in_ok-plane.plane) c.in_ok-plane.ensures.read (λ e. omega (arith, e, c.if-plane-gt1.true))
 
 pub returns-in-Some-clause-refused : goal.returns-in-Some-clause-refused
 returns-in-Some-clause-refused g c =
@@ -35,4 +31,4 @@ pub returns-in-None-clause-read : goal.returns-in-None-clause-read
 returns-in-None-clause-read g c =
     let short : handed_of c.read_plane.new.feed ≤ 268435456 = omega (arith, c.read_plane.new.feed.limited, c.read_plane.new.feed.counted, c.read_plane.new.feed.ordered, c.read_plane.ensures.limit, c.requires.limit) in
     is_alone (call_of g.S.Source.left g.S.Source.faults c.args.feed.now c.read_plane.new.feed) (plane_of c.in_ok-plane.plane) c.in_ok-plane.ensures.read 0 (g.S.Source.left c.next.new.self.source.now) (pending_of c.next.new.self)
-    c.requires.start short (omega (arith, c.if-plane-gt1.false, c.in_ok-plane.plane.high)) (c.in_ok-next.ensures.ended (ap Ok c.in-None.is)) (sym (c.in_ok-next.ensures.left_at_end (ap Ok c.in-None.is)))
+    c.requires.start short (c.in_ok-next.ensures.ended (ap Ok c.in-None.is)) (sym (c.in_ok-next.ensures.left_at_end (ap Ok c.in-None.is)))

@@ -39,9 +39,13 @@ SourceFailed r = HasRisen r.source_before r.source_after
 abbrev pub SinkFailed : Run → Type 0
 SinkFailed r = HasRisen r.sink_before r.sink_after
 
+-- nothing was taken from the source, and no fault of it was counted
+abbrev pub IsUnread : Run → Type 0
+IsUnread r = (r.left ≡ r.told) × (r.source_after ≡ r.source_before)
+
 -- a refusal has its cause; W says that the words were the command
 abbrev pub HasCause : Type 0 → Run → Refusal → Type 0
-HasCause W r refusals.Words = (W → ⊥) × (r.held_now ≡ r.held)
+HasCause W r refusals.Words = (W → ⊥) × ((r.held_now ≡ r.held) × IsUnread r)
 HasCause W r (refusals.Input fault) = W × (HasFaultCause r.told fault × (r.held_now ≡ r.held))
 HasCause W r refusals.Memory = W × (r.held_now ≡ r.held)
 HasCause W r refusals.ReadFault = W × (SourceFailed r × (r.held_now ≡ r.held))

@@ -4,7 +4,7 @@ ghost use Rattle.pgm_planes.specs.Planes.{PlaneOf};
 ghost use Rattle.insar_top.specs.Input.{IsInput, IsNoInput};
 ghost use Rattle.insar_top.specs.Causes.{HasResidueAt, TellsNoInput};
 ghost use Rattle.insar_top.specs.Lines.{residue_line};
-ghost use Rattle.insar_top.specs.Outcomes.{IsUnwrap, IsDone, IsCut, IsStatus, IsLineAt, SourceFailed, SinkFailed, HasCause, run_of};
+ghost use Rattle.insar_top.specs.Outcomes.{IsUnwrap, IsUnread, IsDone, IsCut, IsStatus, IsLineAt, SourceFailed, SinkFailed, HasCause, run_of};
 
 use crate::diag::put_line;
 use crate::grid::write_grid;
@@ -65,8 +65,9 @@ pub fn insar<S: Source, K: Sink, D: Sink>(
     ensures status { IsStatus result }
     // 0: the bytes were an input, nothing is left, and the sink gained exactly the text for it.
     ensures done { result ≡ 0 → IsDone (run_of S.left S.faults source.old source.new K.held K.faults sink.old sink.new) }
-    // 2: the words are not the one word.
+    // 2: the words are not the one word; the source is not read.
     ensures words_refused { result ≡ 2 → IsUnwrap words.now → ⊥ }
+    ensures unread { result ≡ 2 → IsUnread (run_of S.left S.faults source.old source.new K.held K.faults sink.old sink.new) }
     ensures words_taken { (IsUnwrap words.now → ⊥) → result ≡ 2 }
     // 3: the bytes are no input.
     ensures input_refused { result ≡ 3 → TellsNoInput (S.left source.old) }

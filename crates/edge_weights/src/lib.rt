@@ -1,0 +1,8 @@
+//! Weights of edges by a rule, whose closure stands beside the fact that it answers the rule's numbers.
+#![tactic(auto)]
+
+mod rule;
+#[cfg(test)]
+mod tests;
+
+pub use rule::WeightRule;

@@ -1,0 +1,75 @@
+-- For the crates above: what a certificate and a good result rest on.
+use Rattle.std.proofs.Common.{◌≡◌, ◌∙◌, ℕ, ◌<◌, ◌*◌, ◌≤◌, ap₂, refl, subst, Bool, true, false, List}
+use Rattle.std.specs.Prelude.{ℤ, pos, IsTrue, ◌&&◌, if◌then◌else◌, unsigned_abs}
+use Rattle.raster_model.specs.declared.edge.Edge.{Edge}
+use Rattle.raster_model.specs.declared.scene.Scene.{Scene}
+use Rattle.raster_model.specs.Sums.{Field, is_edge, end_x, end_y, where_true}
+use Rattle.raster_model.specs.Raster.{Raster, departure, has_open_ends, is_inner, edge_cost, inner_cost, tile_cost}
+use Rattle.raster_model.specs.Certificates.{IsTileEdge, face_difference, faces_of_tile}
+use Rattle.raster_model.specs.Cells.{face_at, IsCertifiedTile}
+use Rattle.raster_model.specs.Tiles.{tiles_of, IsWithin}
+use Rattle.raster_model.specs.Scene.{raster_of}
+use Rattle.raster_model.proofs.SumLemmas.{sum_edges-same}
+use Rattle.raster_model.proofs.TileEdges.{ends_within}
+use Rattle.raster_model.proofs.TileLemmas.{window_of-pixels}
+use Rattle.certificates.specs.declared.results.TileResult.{TileResult}
+use Rattle.certificates.specs.TileSets.{IsCopy}
+use Rattle.certificates.specs.Results.{IsGoodTile, window_in, result_surface}
+
+-- the same edge under two masks and on two surfaces: both ends open under both or under neither, and the same departure where they are
+pub record IsSameAt (r : Raster) (mask mask' : Field Bool) (S S' : Field ℤ) (e : Edge) : Type 0 where
+  pub ends : has_open_ends mask e ≡ has_open_ends mask' e
+  pub departs : IsTrue (has_open_ends mask e) → departure r S e ≡ departure r S' e
+
+same_cost : (b b' : Bool) (w : ℕ) (d d' : ℤ) → b ≡ b' → (IsTrue b → d ≡ d') → where_true b (pos ((if b then w else 0) * unsigned_abs d)) ≡ where_true b' (pos ((if b' then w else 0) * unsigned_abs d'))
+same_cost true true w d d' e h = rw (h refl) refl
+same_cost false false w d d' e h = refl
+same_cost true false w d d' e h = cc
+same_cost false true w d d' e h = cc
+
+same_part : (i : Bool) (a b : ℤ) → (i ≡ true → a ≡ b) → where_true i a ≡ where_true i b
+same_part true a b h = h refl
+same_part false a b h = refl
+
+both : (a b : Bool) → IsTrue a → b ≡ true → IsTrue (a && b)
+both true true p q = refl
+both true false p q = q
+both false b p q = cc
+
+-- what certifies a surface in a tile under one mask certifies another there under another, where all inner edges of the tile are the same
+module _ (r : Raster) (mask mask' : Field Bool) (S S' : Field ℤ) (t : ℕ) (same : (e : Edge) → IsTileEdge r t e → IsSameAt r mask mask' S S' e) where
+  pub tile_cost-same : tile_cost r mask t S ≡ tile_cost r mask' t S'
+  unfolding tile_cost
+  tile_cost-same =
+      sum_edges-same r.width r.height (inner_cost r mask t S) (inner_cost r mask' t S')
+      (λ e i. same_part (is_inner r t e) (edge_cost r mask S e) (edge_cost r mask' S' e)
+      (λ n. let q = same e (both (is_edge r.width r.height e) (is_inner r t e) i n) in
+      same_cost (has_open_ends mask e) (has_open_ends mask' e) (r.weight e) (departure r S e) (departure r S' e) q.ends q.departs))
+
+  pub certified_same : (faces : List ℤ) → IsCertifiedTile r mask t S faces → IsCertifiedTile r mask' t S' faces
+  certified_same faces c = (
+    c.0,
+    record {
+      fits = λ e i. subst (λ (b : Bool). unsigned_abs (face_difference (faces_of_tile r t (face_at r t faces)) e) ≤ (if b then r.weight e else 0)) (same e i).ends (c.1.fits e i);
+      equal = c.1.equal ∙ tile_cost-same;
+    },
+  )
+
+-- a good result is good under each mask with the same open pixels in its tile's window
+pub good_under : (s : Scene) (mask mask' : Field Bool) (k : TileResult) → k.tile < tiles_of s.tiling → ((x y : ℕ) → IsWithin (window_in s k) x y → mask x y ≡ mask' x y) → IsGoodTile s mask k → IsGoodTile s mask' k
+good_under s mask mask' k l same g = record {
+  shape = g.shape;
+  in_range = λ x y o. g.in_range x y (o.0, same x y o.0 ∙ o.1);
+  certified = certified_same (raster_of s) mask mask' (result_surface s k) (result_surface s k) k.tile (λ e i. at e (ends_within s k.tile (window_in s k) (window_of-pixels s.tiling k.tile l) e i)) k.faces.items g.certified;
+}
+  where
+    at : (e : Edge) → IsWithin (window_in s k) e.x e.y × IsWithin (window_in s k) (end_x e) (end_y e) → IsSameAt (raster_of s) mask mask' (result_surface s k) (result_surface s k) e
+    at e w = record { ends = ap₂ ◌&&◌ (same e.x e.y w.0) (same (end_x e) (end_y e) w.1); departs = λ o. refl }
+
+-- a copy of a good result is good
+pub good_copy : (s : Scene) (mask : Field Bool) (k copy : TileResult) → IsCopy k copy → IsGoodTile s mask k → IsGoodTile s mask copy
+good_copy s mask k copy c g = record {
+  shape = rw (c.tile, c.cycles, c.faces) g.shape;
+  in_range = rw (c.tile, c.cycles) g.in_range;
+  certified = rw (c.tile, c.cycles, c.faces) g.certified;
+}

@@ -1,0 +1,130 @@
+-- Sums of flows at regions and of their products with departures, as double loops add them up.
+use Rattle.std.proofs.Common.{◌≡◌, ℕ, ◌+◌, ◌<◌, ◌≤◌, sym, ◌∙◌, ap, refl, arith, Bool, true, false, List, length, get_or, set, replicate, inl, inr, ◌⊎◌}
+use Rattle.std.specs.Prelude.{ℤ, pos, ◌+ℤ◌, ◌-ℤ◌, ◌&&◌, ◌==◌, nat_lt}
+use Rattle.std.proofs.lemmas.Int.{ints}
+use Rattle.std.proofs.lemmas.Bool.Decides.{nat_tests, eqb_tells}
+use Rattle.std.proofs.lemmas.List.{length-set, get_or-set_same, get_or-set_other, get_or-replicate, get_or_past, length-replicate}
+use Rattle.raster_model.specs.declared.edge.Edge.{Edge}
+use Rattle.raster_model.specs.Sums.{Field, is_edge, right_edge, down_edge, edges_from, sum_edges, sum_grid, sum_row, at_start, at_end, where_true}
+use Rattle.raster_model.specs.Raster.{Raster, is_seam, lifted}
+use Rattle.raster_model.specs.Seams.{flow_in, flow_out, flow_total}
+use Rattle.raster_model.proofs.SumLemmas.{sum_below-none, sum_below-more, sum_edges-add, sum_edges-same, picked, no_number}
+use Rattle.certificates.specs.declared.seam_flows.SeamFlows.{SeamFlows}
+use Rattle.certificates.specs.FlowWords.{raster_in, mask_in, flow_of, region_in, net_flow, moved_on, moved_from, seam_product, product_on, product_from, total_of}
+use Rattle.certificates.specs.Growth.{HasGrown}
+
+-- ---- one number that grows
+pub set_grown : (xs : List ℤ) (place : ℕ) (a z : ℤ) → place < length xs → z ≡ get_or xs place (pos 0) +ℤ a → HasGrown xs (set xs place z) (λ v. where_true (place == v) a)
+set_grown xs place a z l e = record {
+  same_length = length-set xs place z;
+  grown = λ v m. elim (eqb_tells place v) [
+    | inl t ↦ rw (← t.1) (get_or-set_same xs place z (pos 0) l ∙ e ∙ ap (λ (n : ℤ). get_or xs place (pos 0) +ℤ n) (sym (picked (place == place) a (eqb_same place))))
+    | inr t ↦ get_or-set_other xs place v z (pos 0) (λ p. t.1 (sym p)) ∙ none (get_or xs v (pos 0)) (where_true (place == v) a) (no_number (place == v) a t.0)
+  ];
+}
+  where
+    none : (x m : ℤ) → m ≡ pos 0 → x ≡ x +ℤ m
+    none x m p = omega (arith, ints)
+
+    eqb_same : (n : ℕ) → (n == n) ≡ true
+    eqb_same n = grind (arith, nat_tests)
+
+-- ---- both edges that start at a pixel
+right_test : (w h x y : ℕ) → x < w → y < h → is_edge w h (right_edge x y) ≡ nat_lt (x + 1) w
+right_test w h x y l m = grind (arith, nat_tests)
+
+down_test : (w h x y : ℕ) → x < w → y < h → is_edge w h (down_edge x y) ≡ nat_lt (y + 1) h
+down_test w h x y l m = grind (arith, nat_tests)
+
+pub both_terms : (w h x y : ℕ) (G : Edge → ℤ) → x < w → y < h → where_true (is_edge w h (right_edge x y)) (G (right_edge x y)) +ℤ where_true (is_edge w h (down_edge x y)) (G (down_edge x y)) ≡ edges_from w h G x y
+both_terms w h x y G l m = rw (right_test w h x y l m, down_test w h x y l m) refl
+
+pub moved_both : (k : SeamFlows) (labels : List ℕ) (x y : ℕ) → x < k.scene.now.phase.width → y < k.scene.now.phase.height → (a b c : List ℤ) → HasGrown a b (λ v. moved_on k labels v (right_edge x y)) → HasGrown b c (λ v. moved_on k labels v (down_edge x y)) → HasGrown a c (λ v. moved_from k labels v x y)
+moved_both k labels x y l m a b c g h = record {
+  same_length = h.same_length ∙ g.same_length;
+  grown = λ v n. (
+      let t = both_terms k.scene.now.phase.width k.scene.now.phase.height x y (net_flow (raster_in k) (flow_of k) (region_in k labels v)) l m in
+      added _ _ _ _ _ _ (g.grown v n) (h.grown v (omega (arith, g.same_length))) t);
+}
+  where
+    added : (a b c t u m : ℤ) → b ≡ a +ℤ t → c ≡ b +ℤ u → t +ℤ u ≡ m → c ≡ a +ℤ m
+    added a b c t u m p q r = omega (arith, ints)
+
+pub product_both : (k : SeamFlows) (cycles : Field ℤ) (x y : ℕ) → x < k.scene.now.phase.width → y < k.scene.now.phase.height → (p q : ℤ) → p ≡ product_on k cycles (right_edge x y) → q ≡ product_on k cycles (down_edge x y) → p +ℤ q ≡ product_from k cycles x y
+product_both k cycles x y l m p q e f =
+    rw (e, f) (both_terms k.scene.now.phase.width k.scene.now.phase.height x y (seam_product (raster_in k) (mask_in k) (lifted (raster_in k) cycles) (flow_of k)) l m)
+
+pub total_is : (k : SeamFlows) (cycles : Field ℤ) → sum_grid k.scene.now.phase.width k.scene.now.phase.height (product_from k cycles) ≡ total_of k cycles
+unfolding flow_total seam_product
+total_is k cycles = refl
+
+-- ---- what all the edges add to a region
+net_is : (s t u : Bool) (z : ℤ) → where_true s (where_true t z -ℤ where_true u z) +ℤ where_true (s && u) z ≡ where_true (s && t) z
+net_is true true true z = omega (arith, ints)
+net_is true true false z = omega (arith, ints)
+net_is true false true z = omega (arith, ints)
+net_is true false false z = omega (arith, ints)
+net_is false t u z = omega (arith, ints)
+
+net_total : (r : Raster) (F : Edge → ℤ) (R : Field Bool) → sum_edges r.width r.height (net_flow r F R) ≡ flow_in r F R -ℤ flow_out r F R
+unfolding net_flow
+net_total r F R =
+    let a = sum_edges-add r.width r.height (λ e. where_true (is_seam r e) (where_true (at_end R e) (F e) -ℤ where_true (at_start R e) (F e))) (λ e. where_true (is_seam r e && at_start R e) (F e)) in
+    let b = sum_edges-same r.width r.height (λ e. where_true (is_seam r e) (where_true (at_end R e) (F e) -ℤ where_true (at_start R e) (F e)) +ℤ where_true (is_seam r e && at_start R e) (F e)) (λ e. where_true (is_seam r e && at_end R e) (F e)) (λ e i. net_is (is_seam r e) (at_end R e) (at_start R e) (F e)) in
+    less _ _ _ (sym a ∙ b)
+  where
+    less : (x y z : ℤ) → x +ℤ y ≡ z → x ≡ z -ℤ y
+    less x y z e = omega (arith, ints)
+
+-- what the edges that start before a pixel have added to each region
+pub record AreSoFar (k : SeamFlows) (labels : List ℕ) (x y : ℕ) (sums : List ℤ) : Type 0 where
+  pub each : (v : ℕ) → v < length sums → get_or sums v (pos 0) ≡ sum_grid k.scene.now.phase.width y (moved_from k labels v) +ℤ sum_row x (moved_from k labels v) y
+
+module _ (k : SeamFlows) (labels : List ℕ) where
+  pub so_far_none : (sums : List ℤ) → ((v : ℕ) → get_or sums v (pos 0) ≡ pos 0) → AreSoFar k labels 0 0 sums
+  so_far_none sums z = record {
+    each = λ v l. (
+        let f : Field ℤ = moved_from k labels v in
+        none (get_or sums v (pos 0)) (sum_grid k.scene.now.phase.width 0 f) (sum_row 0 f 0) (z v) (sum_below-none (sum_row k.scene.now.phase.width f)) (sum_below-none (λ i. f i 0)));
+  }
+    where
+      none : (a g s : ℤ) → a ≡ pos 0 → g ≡ pos 0 → s ≡ pos 0 → a ≡ g +ℤ s
+      none a g s p q e = omega (arith, ints)
+
+  pub so_far_more : (x y : ℕ) (old new : List ℤ) → AreSoFar k labels x y old → HasGrown old new (λ v. moved_from k labels v x y) → AreSoFar k labels (x + 1) y new
+  so_far_more x y old new s g = record {
+    each = λ v l. (
+        let f : Field ℤ = moved_from k labels v in
+        let w = k.scene.now.phase.width in
+        more (get_or old v (pos 0)) (get_or new v (pos 0)) (f x y) (sum_grid w y f) (sum_row x f y) (sum_row (x + 1) f y) (s.each v (omega (arith, g.same_length))) (g.grown v (omega (arith, g.same_length))) (sum_below-more x (λ i. f i y)));
+  }
+    where
+      more : (a b t g s u : ℤ) → a ≡ g +ℤ s → b ≡ a +ℤ t → u ≡ s +ℤ t → b ≡ g +ℤ u
+      more a b t g s u p q e = omega (arith, ints)
+
+  pub so_far_row : (x y : ℕ) (sums : List ℤ) → x ≡ k.scene.now.phase.width → AreSoFar k labels x y sums → AreSoFar k labels 0 (y + 1) sums
+  so_far_row x y sums e s = record {
+    each = λ v l. (
+        let f : Field ℤ = moved_from k labels v in
+        let w = k.scene.now.phase.width in
+        let t = rw e at (s.each v l) in
+        row (get_or sums v (pos 0)) (sum_grid w y f) (sum_row w f y) (sum_grid w (y + 1) f) (sum_row 0 f (y + 1)) t (sum_below-more y (sum_row w f)) (sum_below-none (λ i. f i (y + 1))));
+  }
+    where
+      row : (a g s h n : ℤ) → a ≡ g +ℤ s → h ≡ g +ℤ s → n ≡ pos 0 → a ≡ h +ℤ n
+      row a g s h n p q e = omega (arith, ints)
+
+  pub so_far_all : (y : ℕ) (sums : List ℤ) → y ≡ k.scene.now.phase.height → AreSoFar k labels 0 y sums → (v : ℕ) → v < length sums → get_or sums v (pos 0) ≡ flow_in (raster_in k) (flow_of k) (region_in k labels v) -ℤ flow_out (raster_in k) (flow_of k) (region_in k labels v)
+  so_far_all y sums e s v l =
+      let f : Field ℤ = moved_from k labels v in
+      let t = rw e at (s.each v l) in
+      last _ _ _ t (sum_below-none (λ i. f i k.scene.now.phase.height)) ∙ net_total (raster_in k) (flow_of k) (region_in k labels v)
+    where
+      last : (a g n : ℤ) → a ≡ g +ℤ n → n ≡ pos 0 → a ≡ g
+      last a g n p e = omega (arith, ints)
+
+pub zeros : (xs : List ℤ) (n : ℕ) → xs ≡ replicate n (pos 0) → (v : ℕ) → get_or xs v (pos 0) ≡ pos 0
+zeros xs n e v = elim (below_or v n) [ inl l ↦ rw e (get_or-replicate n v (pos 0) (pos 0) l) | inr l ↦ rw e (get_or_past (replicate n (pos 0)) v (pos 0) (rw length-replicate l)) ]
+  where
+    below_or : (v n : ℕ) → (v < n) ⊎ (n ≤ v)
+    below_or v n = grind arith

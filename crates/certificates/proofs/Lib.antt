@@ -1,0 +1,12 @@
+pub mod EdgeLemmas
+pub mod FaceLemmas
+pub mod TileParts
+pub mod CostLemmas
+pub mod VerdictLemmas
+pub mod Unique
+pub mod CallerLemmas
+pub mod SeamLemmas
+pub mod FlowSums
+pub mod SeamVerdictLemmas
+pub mod UniqueSeams
+pub mod CopyLemmas

@@ -1,0 +1,175 @@
+-- Seam edges, the places of their flows, and what a flow other than 0 tells of its edge.
+use Rattle.std.proofs.Common.{◌≡◌, ◌∙◌, ℕ, ◌+◌, ◌*◌, ◌<◌, ◌≤◌, ◌^◌, sym, ap, refl, arith, Bool, true, false, List, length, get_or, to_z, of_z, w64, FitsSigned}
+use Rattle.std.specs.Prelude.{ℤ, pos, neg_ℤ, ◌+ℤ◌, ◌-ℤ◌, ◌*ℤ◌, ◌&&◌, ◌==◌, nat_lt, IsTrue, unsigned_abs, if◌then◌else◌}
+use Rattle.std.specs.Int.{w128}
+use Rattle.std.proofs.lemmas.Int.{ints, unsigned_abs-mul, to_z-of_z}
+use Rattle.std.proofs.lemmas.Nat.{mul-add-lt, mul-le}
+use Rattle.std.proofs.lemmas.Bool.Decides.{nat_tests}
+use Rattle.raster_model.specs.declared.edge.Edge.{Edge}
+use Rattle.raster_model.specs.Sums.{Field, is_edge, end_x, end_y, at_start, at_end, where_true, one_if}
+use Rattle.raster_model.specs.Raster.{is_seam, has_open_ends, departure, lifted}
+use Rattle.raster_model.specs.Flows.{is_seam_edge, flow_at}
+use Rattle.raster_model.specs.Seams.{IsOpenPixel}
+use Rattle.raster_model.proofs.FlowLemmas.{place_below}
+use Rattle.certificates.specs.declared.seam_flows.SeamFlows.{SeamFlows}
+use Rattle.certificates.specs.SeamVerdicts.{label_at}
+use Rattle.certificates.specs.FlowWords.{raster_in, mask_in, flow_of, flow_or_none, PlacedAt, IsSeamOf, FlowsFit, HasLabels, net_flow, moved_on, seam_product, product_on}
+use Rattle.certificates.specs.Growth.{HasGrown}
+
+-- ---- the place of a flow
+pub place_is_below : (k : SeamFlows) (e : Edge) (place : ℕ) → PlacedAt k e place → is_seam_edge (raster_in k) e ≡ true → place < length k.flows.now
+place_is_below k e place p s =
+    let one : one_if (is_seam_edge (raster_in k) e) ≡ 1 = rw s refl in
+    omega (arith, p, k.count, place_below (raster_in k) e p.0 p.1, one)
+
+pub flow_there : (k : SeamFlows) (e : Edge) (place : ℕ) → PlacedAt k e place → is_seam_edge (raster_in k) e ≡ true → get_or k.flows.now place (pos 0) ≡ flow_or_none k e
+unfolding flow_at
+flow_there k e place p s = rw (s, p.2) refl
+
+-- ---- what a flow other than 0 tells
+chosen : (t : Bool) (f z : ℤ) → z ≡ where_true t f → (z ≡ pos 0 → ⊥) → (t ≡ true) × (z ≡ f)
+chosen true f z e n = (refl, e)
+chosen false f z e n = absurd (n e)
+
+open_if : (b : Bool) (w : ℕ) (z : ℤ) → unsigned_abs z ≤ (if b then w else 0) → (z ≡ pos 0 → ⊥) → b ≡ true
+open_if true w z l n = refl
+open_if false w z l n = absurd (n (omega (arith, ints, l)))
+
+both_hold : (a b : Bool) → (a && b) ≡ true → (a ≡ true) × (b ≡ true)
+both_hold true true e = (refl, refl)
+both_hold true false e = cc
+both_hold false b e = cc
+
+ends_in : (x y w h a b : ℕ) → IsTrue ((nat_lt x w && nat_lt y h) && (nat_lt a w && nat_lt b h)) → (x < w) × (y < h) × (a < w) × (b < h)
+ends_in x y w h a b t = (grind (arith, nat_tests), grind (arith, nat_tests), grind (arith, nat_tests), grind (arith, nat_tests))
+
+pub in_raster : (k : SeamFlows) (e : Edge) → IsSeamOf k e → (0 ≤ e.x) × (e.x < k.scene.now.phase.width) × (0 ≤ e.y) × (e.y < k.scene.now.phase.height)
+in_raster k e i =
+    let w = k.scene.now.phase.width in
+    let h = k.scene.now.phase.height in
+    let t = ends_in e.x e.y w h (end_x e) (end_y e) (both_hold (is_edge w h e) (is_seam (raster_in k) e) i).0 in
+    (omega arith, t.0, omega arith, t.1)
+
+pub not_zero : (z : ℤ) → (of_z w64 z ≡ 0 → ⊥) → z ≡ pos 0 → ⊥
+not_zero z n e = n (ap (of_z w64) e)
+
+pub is_zero : (z : ℤ) → FitsSigned w64 z → of_z w64 z ≡ 0 → z ≡ pos 0
+is_zero z f e = sym (to_z-of_z w64 z f) ∙ ap (to_z w64) e
+
+module _ (k : SeamFlows) (e : Edge) (fit : FlowsFit k) (z : ℤ) (is : z ≡ flow_or_none k e) (n : z ≡ pos 0 → ⊥) where
+  pub seam : is_seam_edge (raster_in k) e ≡ true
+  seam = (chosen (is_seam_edge (raster_in k) e) (flow_of k e) z is n).0
+
+  pub is_flow : z ≡ flow_of k e
+  is_flow = (chosen (is_seam_edge (raster_in k) e) (flow_of k e) z is n).1
+
+  pub is_small : unsigned_abs z ≤ 65535
+  is_small = rw is_flow (fit.1 e seam)
+
+  pub on_edge : is_edge k.scene.now.phase.width k.scene.now.phase.height e ≡ true
+  on_edge = (both_hold (is_edge k.scene.now.phase.width k.scene.now.phase.height e) (is_seam (raster_in k) e) seam).0
+
+  on_seam : is_seam (raster_in k) e ≡ true
+  on_seam = (both_hold (is_edge k.scene.now.phase.width k.scene.now.phase.height e) (is_seam (raster_in k) e) seam).1
+
+  pub ends_open : has_open_ends (mask_in k) e ≡ true
+  ends_open = open_if (has_open_ends (mask_in k) e) ((raster_in k).weight e) (flow_of k e) (fit.0 e seam) (λ q. n (is_flow ∙ q))
+
+  pub start_open : IsOpenPixel (raster_in k) (mask_in k) e.x e.y
+  start_open =
+      let t = ends_in e.x e.y k.scene.now.phase.width k.scene.now.phase.height (end_x e) (end_y e) on_edge in
+      (t.0, t.1, (both_hold (at_start (mask_in k) e) (at_end (mask_in k) e) ends_open).0)
+
+  pub end_open : IsOpenPixel (raster_in k) (mask_in k) (end_x e) (end_y e)
+  end_open =
+      let t = ends_in e.x e.y k.scene.now.phase.width k.scene.now.phase.height (end_x e) (end_y e) on_edge in
+      (t.2, t.3, (both_hold (at_start (mask_in k) e) (at_end (mask_in k) e) ends_open).1)
+
+-- ---- the label of an open pixel
+module _ (k : SeamFlows) (labels : List ℕ) (count : ℕ) (has : HasLabels k labels count) where
+  pub label_place : (x y a b : ℕ) → a ≡ x → b ≡ y → IsOpenPixel (raster_in k) (mask_in k) x y → b * k.scene.now.phase.width + a < length labels
+  label_place x y a b p q o =
+      omega (arith, has.0, mul-add-lt b k.scene.now.phase.width a k.scene.now.phase.height (omega (arith, q, o.1)) (omega (arith, p, o.0)))
+
+  pub label_below : (x y a b : ℕ) → a ≡ x → b ≡ y → IsOpenPixel (raster_in k) (mask_in k) x y → label_at k.scene.now.phase.width labels a b < count
+  label_below x y a b p q o = rw (p, q) (has.1 x y o)
+
+-- ---- a flow taken from one region to another
+moved_value : (ie is me ms te ts : Bool) (f z : ℤ) → ie ≡ true → is ≡ true → me ≡ true → ms ≡ true → z ≡ f → where_true ie (where_true is (where_true (me && te) f -ℤ where_true (ms && ts) f)) ≡ where_true te z +ℤ where_true ts (neg_ℤ z)
+moved_value ie is me ms te ts f z a b c d e = rw (a, b, c, d, e) (both te ts f)
+  where
+    both : (t s : Bool) (f : ℤ) → where_true t f -ℤ where_true s f ≡ where_true t f +ℤ where_true s (neg_ℤ f)
+    both true true f = omega (arith, ints)
+    both true false f = omega (arith, ints)
+    both false true f = omega (arith, ints)
+    both false false f = omega (arith, ints)
+
+pub moved_grown : (k : SeamFlows) (labels : List ℕ) (e : Edge) (fit : FlowsFit k) (z : ℤ) → z ≡ flow_or_none k e → (z ≡ pos 0 → ⊥) → (x y : ℕ) (p q : ℤ) → x ≡ end_x e → y ≡ end_y e → p ≡ z → q ≡ neg_ℤ z → (a b c : List ℤ)
+    → HasGrown a b (λ v. where_true (label_at k.scene.now.phase.width labels x y == v) p) → HasGrown b c (λ v. where_true (label_at k.scene.now.phase.width labels e.x e.y == v) q) → HasGrown a c (λ v. moved_on k labels v e)
+unfolding net_flow
+moved_grown k labels e fit z is n x y p q ex ey ep eq a b c g h = record {
+  same_length = h.same_length ∙ g.same_length;
+  grown = λ v l. (
+      let w = k.scene.now.phase.width in
+      let s = rw (ex, ey, ep) at (g.grown v l) in
+      let t = rw eq at (h.grown v (omega (arith, g.same_length))) in
+      let m = moved_value (is_edge w k.scene.now.phase.height e) (is_seam (raster_in k) e) (at_end (mask_in k) e) (at_start (mask_in k) e) (label_at w labels (end_x e) (end_y e) == v) (label_at w labels e.x e.y == v) (flow_of k e) z
+      (on_edge k e fit z is n) (on_seam k e fit z is n) (end_open k e fit z is n).2 (start_open k e fit z is n).2 (is_flow k e fit z is n) in
+      added _ _ _ _ _ _ s t m);
+}
+  where
+    added : (a b c t u m : ℤ) → b ≡ a +ℤ t → c ≡ b +ℤ u → m ≡ t +ℤ u → c ≡ a +ℤ m
+    added a b c t u m p q r = omega (arith, ints)
+
+nothing_moved : (ie is te ts : Bool) (f : ℤ) → where_true (ie && is) f ≡ pos 0 → where_true ie (where_true is (where_true te f -ℤ where_true ts f)) ≡ pos 0
+nothing_moved true true true true f e = omega (arith, ints)
+nothing_moved true true true false f e = rw e refl
+nothing_moved true true false true f e = rw e refl
+nothing_moved true true false false f e = refl
+nothing_moved true false te ts f e = refl
+nothing_moved false is te ts f e = refl
+
+pub none_grown : (k : SeamFlows) (labels : List ℕ) (e : Edge) (z : ℤ) → z ≡ flow_or_none k e → z ≡ pos 0 → (a : List ℤ) → HasGrown a a (λ v. moved_on k labels v e)
+unfolding net_flow
+none_grown k labels e z is n a = record {
+  same_length = refl;
+  grown = λ v l. (
+      let w = k.scene.now.phase.width in
+      let m = nothing_moved (is_edge w k.scene.now.phase.height e) (is_seam (raster_in k) e) (mask_in k (end_x e) (end_y e) && (label_at w labels (end_x e) (end_y e) == v)) (mask_in k e.x e.y && (label_at w labels e.x e.y == v)) (flow_of k e) (sym is ∙ n) in
+      omega (arith, ints, m));
+}
+
+-- ---- a flow times a departure
+product_value : (ie is oe : Bool) (f z d : ℤ) → ie ≡ true → is ≡ true → oe ≡ true → z ≡ f → z *ℤ d ≡ where_true ie (where_true (is && oe) (f *ℤ d))
+product_value ie is oe f z d a b c e = rw (a, b, c, e) refl
+
+pub product_there : (k : SeamFlows) (cycles : Field ℤ) (e : Edge) (fit : FlowsFit k) (z d : ℤ) → z ≡ flow_or_none k e → (z ≡ pos 0 → ⊥) → d ≡ departure (raster_in k) (lifted (raster_in k) cycles) e → z *ℤ d ≡ product_on k cycles e
+unfolding seam_product
+product_there k cycles e fit z d is n m =
+    ap (λ (d : ℤ). z *ℤ d) m
+    ∙ product_value (is_edge k.scene.now.phase.width k.scene.now.phase.height e) (is_seam (raster_in k) e) (has_open_ends (mask_in k) e) (flow_of k e) z (departure (raster_in k) (lifted (raster_in k) cycles) e) (on_edge k e fit z is n) (on_seam k e fit z is n) (ends_open k e fit z is n) (is_flow k e fit z is n)
+
+no_product_value : (ie is oe : Bool) (f d : ℤ) → where_true (ie && is) f ≡ pos 0 → pos 0 ≡ where_true ie (where_true (is && oe) (f *ℤ d))
+no_product_value true true true f d e = rw e (omega (arith, ints))
+no_product_value true true false f d e = refl
+no_product_value true false oe f d e = refl
+no_product_value false is oe f d e = refl
+
+pub no_product : (k : SeamFlows) (cycles : Field ℤ) (e : Edge) (z : ℤ) → z ≡ flow_or_none k e → z ≡ pos 0 → pos 0 ≡ product_on k cycles e
+unfolding seam_product
+no_product k cycles e z is n =
+    no_product_value (is_edge k.scene.now.phase.width k.scene.now.phase.height e) (is_seam (raster_in k) e) (has_open_ends (mask_in k) e) (flow_of k e) (departure (raster_in k) (lifted (raster_in k) cycles) e) (sym is ∙ n)
+
+-- the code's product and sums, at 128 bits
+pub flow_product_fits : (a b : ℤ) → unsigned_abs a ≤ 65535 → unsigned_abs b ≤ 2 ^ 49 + 1 → (to_z w128 (of_z w128 (to_z w128 (of_z w128 a) *ℤ to_z w128 (of_z w128 b))) ≡ a *ℤ b) × (unsigned_abs (a *ℤ b) ≤ 65535 * (2 ^ 49 + 1))
+flow_product_fits a b k l =
+    let p : to_z w128 (of_z w128 a) ≡ a = omega (arith, ints) in
+    let q : to_z w128 (of_z w128 b) ≡ b = omega (arith, ints) in
+    let m : unsigned_abs (a *ℤ b) ≤ 65535 * (2 ^ 49 + 1) = rw unsigned_abs-mul (mul-le (unsigned_abs a) (unsigned_abs b) 65535 (2 ^ 49 + 1) k l) in
+    (rw (p, q) (back (a *ℤ b) m), m)
+  where
+    back : (z : ℤ) → unsigned_abs z ≤ 65535 * (2 ^ 49 + 1) → to_z w128 (of_z w128 z) ≡ z
+    back z h = omega (arith, ints)
+
+pub flow_sum_fits : (a t : ℤ) (n : ℕ) → unsigned_abs a ≤ 2 * 65535 * (2 ^ 49 + 1) * n → unsigned_abs t ≤ 2 * 65535 * (2 ^ 49 + 1) → n < 2 ^ 26 → (to_z w128 (of_z w128 (a +ℤ to_z w128 (of_z w128 t))) ≡ a +ℤ t) × (unsigned_abs (a +ℤ t) ≤ 2 * 65535 * (2 ^ 49 + 1) * (n + 1))
+flow_sum_fits a t n k l m = (omega (arith, ints), omega (arith, ints))

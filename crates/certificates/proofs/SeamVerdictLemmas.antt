@@ -1,0 +1,81 @@
+-- What verdicts say of the certificates of seams.
+use Rattle.std.proofs.Common.{◌≡◌, ◌∙◌, sym, refl, ℕ, ℤ, List, Bool, length, arith}
+use Rattle.std.specs.Prelude.{◌↔◌, pos, ◌-ℤ◌, ◌+ℤ◌, ◌*ℤ◌, ◌&&◌, IsTrue}
+use Rattle.std.proofs.lemmas.Int.{ints}
+use Rattle.raster_model.specs.declared.edge.Edge.{Edge}
+use Rattle.raster_model.specs.Raster.{Raster, lifted, seam_cost, is_seam}
+use Rattle.raster_model.specs.Sums.{Field, is_edge}
+use Rattle.raster_model.specs.Seams.{IsAnchored, AreRegions, IsLeastAtSeams, flow_total}
+use Rattle.raster_model.specs.Flows.{seam_count, flow_at}
+use Rattle.raster_model.proofs.Balance.{balanced_by_labels, balanced_at_label}
+use Rattle.raster_model.proofs.Exact.{lifted_is_congruent}
+use Rattle.raster_model.proofs.SeamLeast.{least_at_seams}
+use Rattle.raster_model.proofs.SumLemmas.{both_true}
+use Rattle.certificates.specs.declared.verdicts.SeamVerdict.{SeamVerdict}
+use Rattle.certificates.specs.declared.verdicts.SeamVerdict.TheVariants.{Good, Shape, Range, Anchor, FlowAtEdge, Unbalanced, CostDiffers}
+use Rattle.certificates.specs.SeamVerdicts.{IsOffAnchor, AllFlowsFit, AreBalanced, IsLeastUnbalanced, IsGoodAtSeams, IsSeamVerdict}
+use Rattle.certificates.specs.FlowWords.{AreExcessesOf}
+use Rattle.certificates.specs.Growth.{AreZeros, IsFirstOther}
+
+both : (a b : Bool) → IsTrue a → IsTrue b → IsTrue (a && b)
+both a b p q = rw (p, q) refl
+
+-- a surface that is off its anchor does not meet it
+at_anchor : (p : ℕ) (z : ℤ) → pos p +ℤ pos 65536 *ℤ z ≡ pos p → z ≡ pos 0
+at_anchor p z e = omega (arith, ints)
+
+pub not_anchored : (r : Raster) (mask : Field Bool) (cycles : Field ℤ) (z : ℤ) → IsOffAnchor r mask cycles z → IsAnchored r mask (lifted r cycles) → ⊥
+not_anchored r mask cycles z o a = o.off (o.cycles_there ∙ at_anchor (r.phase o.x o.y) (cycles o.x o.y) (a o.x o.y o.first.0 o.first.1))
+
+module _ (r : Raster) (mask : Field Bool) (labels : Field ℕ) (count : ℕ) (cycles : Field ℤ) (flows : List ℤ) (regions : AreRegions r mask labels count) where
+  -- the parts of a certificate, and what it says of them
+  pub good_of_parts : length flows ≡ seam_count r → IsAnchored r mask (lifted r cycles) → AllFlowsFit r mask (flow_at r flows) → AreBalanced r mask labels (flow_at r flows) count → flow_total r mask (lifted r cycles) (flow_at r flows) ≡ seam_cost r mask (lifted r cycles) → IsGoodAtSeams r mask cycles flows
+  good_of_parts n a fit balanced equal = (
+    a,
+    (
+      n,
+      record {
+        bounded = λ e i s. fit e (both (is_edge r.width r.height e) (is_seam r e) i s);
+        balanced = balanced_by_labels r mask labels count regions.labelling (flow_at r flows) balanced;
+        equal = equal;
+      },
+    ),
+  )
+
+  pub fits_of_good : IsGoodAtSeams r mask cycles flows → AllFlowsFit r mask (flow_at r flows)
+  fits_of_good g e i = let t = both_true (is_edge r.width r.height e) (is_seam r e) i in g.1.1.bounded e t.0 t.1
+
+  pub balanced_of_good : IsGoodAtSeams r mask cycles flows → AreBalanced r mask labels (flow_at r flows) count
+  balanced_of_good g = balanced_at_label r mask labels count regions.labelling (flow_at r flows) g.1.1.balanced
+
+  -- good exactly where the flows certify
+  pub seams_good : (verdict : SeamVerdict) → IsSeamVerdict r mask labels count cycles flows verdict → (verdict ≡ Good) ↔ IsGoodAtSeams r mask cycles flows
+  seams_good Good h = (λ e. h, λ g. refl)
+  seams_good Shape h = (λ e. cc, λ g. absurd (h g.1.0))
+  seams_good (Range v) h = absurd h
+  seams_good (Anchor z) h = (λ e. cc, λ g. absurd (not_anchored r mask cycles z h.1 g.0))
+  seams_good (FlowAtEdge e) h = (λ e. cc, λ g. absurd (h.2.breaks (fits_of_good g e h.2.edge)))
+  seams_good (Unbalanced v) h = (λ e. cc, λ g. absurd (h.3.unbalanced (balanced_of_good g v h.3.exists)))
+  seams_good (CostDiffers cost bound) h = (λ e. cc, λ g. absurd (h.6 (h.5 ∙ g.1.1.equal ∙ sym h.4)))
+
+  pub seams_least : (verdict : SeamVerdict) → IsSeamVerdict r mask labels count cycles flows verdict → verdict ≡ Good → IsLeastAtSeams r mask (lifted r cycles)
+  seams_least verdict h e =
+      least_at_seams r mask (lifted r cycles) (lifted_is_congruent r mask cycles) (flow_at r flows) ((seams_good verdict h).0 e).1.1
+
+-- ---- what the sums at the regions say
+same_sums : (a b : ℤ) → a -ℤ b ≡ pos 0 → a ≡ b
+same_sums a b e = omega (arith, ints)
+
+no_difference : (a b : ℤ) → a ≡ b → a -ℤ b ≡ pos 0
+no_difference a b e = omega (arith, ints)
+
+module _ (r : Raster) (mask : Field Bool) (labels : Field ℕ) (F : Edge → ℤ) (sums : List ℤ) (are : AreExcessesOf r mask labels F sums) (n : ℕ) (e : n ≡ length sums) where
+  pub balanced_of_zeros : AreZeros sums → AreBalanced r mask labels F n
+  balanced_of_zeros zeros v l = same_sums _ _ (sym (are v (rw (← e) l)) ∙ zeros v (rw (← e) l))
+
+  pub least_of_first : (v : ℕ) → IsFirstOther sums v → IsLeastUnbalanced r mask labels F n v
+  least_of_first v first = record {
+    exists = rw e first.exists;
+    unbalanced = λ b. first.other (are v first.exists ∙ no_difference _ _ b);
+    least = λ u l. same_sums _ _ (sym (are u (omega (arith, l, first.exists))) ∙ first.zeros u l);
+  }

@@ -1,0 +1,43 @@
+use Rattle.std.proofs.Common.{◌≡◌, ℕ, ◌+◌, ◌*◌, ◌∙◌, arith, rules, sym, get_or, pos, length}
+use Rattle.std.proofs.lemmas.Int.{ints}
+use Rattle.raster_model.proofs.FlowLemmas.{before-none, before-row, before-next}
+use Rattle.certificates.specs.FlowWords.{raster_in}
+use Rattle.certificates.proofs.FlowSums.{zeros, so_far_none, so_far_more, so_far_row, so_far_all}
+use Rattle.certificates.proofs.seam_flows.SeamFlows.add_up.Goals as goal
+
+pub loop-y-init : goal.loop-y-init
+loop-y-init c =
+    let k = c.args.self.now in
+    let z : (v : ℕ) → get_or c.fill.new.self v (pos 0) ≡ pos 0 = zeros c.fill.new.self (length c.args.sums.now) (c.fill.ensures.after (λ y e. search rules)) in
+    record {
+      counted = before-none (raster_in k);
+      few = omega arith;
+      so_far = so_far_none k c.args.labels.now c.fill.new.self z;
+      within = λ v. omega (arith, ints, z v);
+    }
+
+pub loop-x-preserved : goal.loop-x-preserved
+loop-x-preserved c =
+    let k = c.args.self.now in
+    record {
+      counted = omega (arith, c.loop-x.invariant.counted, c.seams_from-before.ensures.value, before-next (raster_in k) c.loop-x.x c.loop-y.y);
+      few = omega (arith, c.loop-x.invariant.few, c.seams_from-before.ensures.few);
+      so_far = so_far_more k c.args.labels.now c.loop-x.x c.loop-y.y c.loop-x.sums c.move_flows_from.new.sums c.loop-x.invariant.so_far c.move_flows_from.ensures.grown;
+      within = λ v. (let m = c.move_flows_from.ensures.within (4 * (4096 * c.loop-y.y + c.loop-x.x)) c.loop-x.invariant.within v in omega (arith, m));
+    }
+
+pub loop-y-preserved : goal.loop-y-preserved
+loop-y-preserved c =
+    let k = c.args.self.now in
+    let r = raster_in k in
+    let e : c.loop-x.x ≡ r.width = omega arith in
+    record {
+      counted = (rw e at c.loop-x.invariant.counted) ∙ sym (before-row r c.loop-y.y);
+      few = omega (arith, c.loop-x.invariant.few);
+      so_far = so_far_row k c.args.labels.now c.loop-x.x c.loop-y.y c.loop-x.sums e c.loop-x.invariant.so_far;
+      within = λ v. (let m = c.loop-x.invariant.within v in omega (arith, m));
+    }
+
+pub returns : goal.returns
+returns c v l =
+    so_far_all c.args.self.now c.args.labels.now c.loop-y.y c.loop-y.sums (omega arith) c.loop-y.invariant.so_far v l

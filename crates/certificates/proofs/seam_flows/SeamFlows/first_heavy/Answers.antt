@@ -1,0 +1,53 @@
+use Rattle.std.proofs.Common.{◌≡◌, ◌∙◌, sym, arith}
+use Rattle.raster_model.proofs.FlowLemmas.{before-none, before-row, before-next}
+use Rattle.certificates.specs.FlowWords.{raster_in, IsSeamOf, FlowFitsAt, IsSmallAt}
+use Rattle.certificates.proofs.EdgeLemmas.{none_before, one_more, row_more, all_before, first_of_all}
+use Rattle.certificates.proofs.SeamLemmas.{in_raster}
+use Rattle.certificates.proofs.seam_flows.SeamFlows.first_heavy.Goals as goal
+
+pub loop-y-init : goal.loop-y-init
+loop-y-init c =
+    let k = c.args.self.now in
+    let r = raster_in k in
+    record {
+      counted = before-none r;
+      few = omega arith;
+      fit = none_before (IsSeamOf k) (FlowFitsAt k) 0 r.width 0 r.height (in_raster k);
+      small = none_before (IsSeamOf k) (IsSmallAt k) 0 r.width 0 r.height (in_raster k);
+    }
+
+pub returns-in-Some-clause-found : goal.returns-in-Some-clause-found
+returns-in-Some-clause-found c =
+    let k = c.args.self.now in
+    first_of_all (IsSeamOf k) (FlowFitsAt k) c.loop-x.x c.loop-y.y c.in-Some.edge c.loop-x.invariant.fit c.in-Some.ensures.found
+
+pub loop-x-preserved : goal.loop-x-preserved
+loop-x-preserved c =
+    let k = c.args.self.now in
+    record {
+      counted = omega (arith, c.loop-x.invariant.counted, c.seams_from-before.ensures.value, before-next (raster_in k) c.loop-x.x c.loop-y.y);
+      few = omega (arith, c.loop-x.invariant.few, c.seams_from-before.ensures.few);
+      fit = one_more (IsSeamOf k) (FlowFitsAt k) c.loop-x.x c.loop-y.y c.loop-x.invariant.fit c.in_default.ensures.none.0;
+      small = one_more (IsSeamOf k) (IsSmallAt k) c.loop-x.x c.loop-y.y c.loop-x.invariant.small c.in_default.ensures.none.1;
+    }
+
+pub loop-y-preserved : goal.loop-y-preserved
+loop-y-preserved c =
+    let k = c.args.self.now in
+    let r = raster_in k in
+    let e : c.loop-x.x ≡ r.width = omega arith in
+    record {
+      counted = (rw e at c.loop-x.invariant.counted) ∙ sym (before-row r c.loop-y.y);
+      few = omega (arith, c.loop-x.invariant.few);
+      fit = row_more (IsSeamOf k) (FlowFitsAt k) 0 r.width 0 r.height (in_raster k) c.loop-x.x c.loop-y.y e c.loop-x.invariant.fit;
+      small = row_more (IsSeamOf k) (IsSmallAt k) 0 r.width 0 r.height (in_raster k) c.loop-x.x c.loop-y.y e c.loop-x.invariant.small;
+    }
+
+pub returns-clause-none : goal.returns-clause-none
+returns-clause-none c =
+    let k = c.args.self.now in
+    let r = raster_in k in
+    let e : c.loop-y.y ≡ r.height = omega arith in (
+      all_before (IsSeamOf k) (FlowFitsAt k) 0 r.width 0 r.height (in_raster k) c.loop-y.y e c.loop-y.invariant.fit,
+      all_before (IsSeamOf k) (IsSmallAt k) 0 r.width 0 r.height (in_raster k) c.loop-y.y e c.loop-y.invariant.small,
+    )

@@ -1,0 +1,58 @@
+use Rattle.std.proofs.Common.{◌≡◌, ◌+◌, ◌*◌, ◌∙◌, arith, sym, to_z}
+use Rattle.std.specs.Int.{w128}
+use Rattle.raster_model.proofs.BoxSums.{column_more}
+use Rattle.raster_model.proofs.PartLemmas.{grid_none, row_none, grid_next, grid_all}
+use Rattle.raster_model.proofs.FlowLemmas.{before-none, before-row, before-next}
+use Rattle.certificates.specs.FlowWords.{raster_in, product_from}
+use Rattle.certificates.proofs.SeamLemmas.{flow_sum_fits}
+use Rattle.certificates.proofs.FlowSums.{total_is}
+use Rattle.certificates.proofs.seam_flows.SeamFlows.total.Goals as goal
+
+pub loop-y-init : goal.loop-y-init
+loop-y-init g c =
+    let k = c.args.self.now in
+    record {
+      counted = before-none (raster_in k);
+      few = omega arith;
+      sum = grid_none k.scene.now.phase.width (product_from k (g.H.Heights.cycles_at c.args.heights.now));
+      small = omega arith;
+    }
+
+pub loop-x-init : goal.loop-x-init
+loop-x-init g c =
+    let k = c.args.self.now in
+    record {
+      counted = c.loop-y.invariant.counted;
+      few = omega (arith, c.loop-y.invariant.few);
+      sum = row_none k.scene.now.phase.width c.loop-y.y (product_from k (g.H.Heights.cycles_at c.args.heights.now)) _ c.loop-y.invariant.sum;
+      small = omega (arith, c.loop-y.invariant.small);
+    }
+
+pub loop-x-preserved : goal.loop-x-preserved
+loop-x-preserved g c =
+    let k = c.args.self.now in
+    let fit = flow_sum_fits (to_z w128 c.loop-x.total-bits) c.products_from-total.result (4096 * c.loop-y.y + c.loop-x.x) c.loop-x.invariant.small c.products_from-total.ensures.small (omega (arith, k.scene.now.same_width, k.scene.now.same_height, k.scene.now.tiling.wide, k.scene.now.tiling.high)) in
+    record {
+      counted = omega (arith, c.loop-x.invariant.counted, c.seams_from-before.ensures.value, before-next (raster_in k) c.loop-x.x c.loop-y.y);
+      few = omega (arith, c.loop-x.invariant.few, c.seams_from-before.ensures.few);
+      sum = fit.0 ∙ column_more (product_from k (g.H.Heights.cycles_at c.args.heights.now)) c.loop-x.x c.loop-y.y _ _ _ c.loop-x.invariant.sum c.products_from-total.ensures.value;
+      small = rw fit.0 (omega (arith, fit.1));
+    }
+
+pub loop-y-preserved : goal.loop-y-preserved
+loop-y-preserved g c =
+    let k = c.args.self.now in
+    let r = raster_in k in
+    let e : c.loop-x.x ≡ r.width = omega arith in
+    record {
+      counted = (rw e at c.loop-x.invariant.counted) ∙ sym (before-row r c.loop-y.y);
+      few = omega (arith, c.loop-x.invariant.few);
+      sum = grid_next r.width c.loop-x.x c.loop-y.y (product_from k (g.H.Heights.cycles_at c.args.heights.now)) _ e c.loop-x.invariant.sum;
+      small = omega (arith, c.loop-x.invariant.small);
+    }
+
+pub returns : goal.returns
+returns g c =
+    let k = c.args.self.now in
+    let r = raster_in k in
+    grid_all r.width r.height c.loop-y.y (product_from k (g.H.Heights.cycles_at c.args.heights.now)) _ (omega arith) c.loop-y.invariant.sum ∙ total_is k (g.H.Heights.cycles_at c.args.heights.now)

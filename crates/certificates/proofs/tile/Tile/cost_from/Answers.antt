@@ -1,0 +1,25 @@
+use Rattle.std.proofs.Common.{◌≡◌, pos}
+use Rattle.std.specs.Prelude.{nat_lt}
+use Rattle.raster_model.specs.Sums.{right_edge, down_edge, where_true}
+use Rattle.raster_model.specs.Raster.{edge_cost}
+use Rattle.raster_model.proofs.PartLemmas.{taken, left_out}
+use Rattle.certificates.specs.TileWords.{raster_in, mask_in, surface_at}
+use Rattle.certificates.proofs.CostLemmas.{both_costs}
+use Rattle.certificates.proofs.tile.Tile.cost_from.Goals as goal
+use Rattle.certificates.proofs.tile.Tile.cost_from.Goals.{then-x-self, else-x-self, then-y-self, else-y-self}
+
+pub returns-clause-value : goal.returns-clause-value
+returns-clause-value g c =
+    let k = c.args.self.now in
+    let S = surface_at k (g.H.Heights.cycles_at c.args.heights.now) in
+    let p : pos c.if-x-self.to_right ≡ where_true (nat_lt c.args.x k.window.x1) (edge_cost (raster_in k) (mask_in k) S (right_edge c.args.x c.args.y)) =
+    elim c.if-x-self.branch [
+      | then-x-self b ↦ taken _ _ _ _ _ b.to_right-is b.edge_cost-to_right.ensures.value b.if-x-self.true
+      | else-x-self b ↦ left_out _ _ _ _ b.to_right-is b.if-x-self.false
+    ] in
+    let q : pos c.if-y-self.to_lower ≡ where_true (nat_lt c.args.y k.window.y1) (edge_cost (raster_in k) (mask_in k) S (down_edge c.args.x c.args.y)) =
+    elim c.if-y-self.branch [
+      | then-y-self b ↦ taken _ _ _ _ _ b.to_lower-is b.edge_cost-to_lower.ensures.value b.if-y-self.true
+      | else-y-self b ↦ left_out _ _ _ _ b.to_lower-is b.if-y-self.false
+    ] in
+    both_costs k.scene.now (mask_in k) S k.number k.window k.pixels c.args.x c.args.y c.if-x-self.to_right c.if-y-self.to_lower c.requires.within p q

@@ -1,0 +1,91 @@
+-- Words of the helpers over seam edges: no clause of a public function cites them.
+use Rattle.std.specs.Prelude.{◌≡◌, ℕ, ◌+◌, ◌*◌, ◌<◌, ◌≤◌, ℤ, pos, ◌-ℤ◌, ◌*ℤ◌, Bool, ◌&&◌, List, length, slice_index_or, unsigned_abs}
+use Rattle.raster_model.specs.declared.edge.Edge.{Edge}
+use Rattle.raster_model.specs.Sums.{Field, at_start, at_end, is_edge, edges_from, where_true}
+use Rattle.raster_model.specs.Raster.{Raster, lifted, departure, has_open_ends, is_seam}
+use Rattle.raster_model.specs.Flows.{is_seam_edge, seams_before, seam_place, flow_at}
+use Rattle.raster_model.specs.Heights.{KnowsOpen}
+use Rattle.raster_model.specs.Masks.{open_at}
+use Rattle.raster_model.specs.Seams.{IsOpenPixel, flow_in, flow_out, flow_total}
+use Rattle.raster_model.specs.Scene.{raster_of}
+use Rattle.certificates.specs.declared.seam_flows.SeamFlows.{SeamFlows}
+use Rattle.certificates.specs.EdgeOrder.{HoldsAtAll}
+use Rattle.certificates.specs.EdgeWords.{HoldsFrom}
+use Rattle.certificates.specs.SeamVerdicts.{IsSeamEdge, FlowFits, label_at, region_of}
+
+abbrev pub raster_in : SeamFlows → Raster
+raster_in k = raster_of k.scene.now
+
+abbrev pub mask_in : SeamFlows → Field Bool
+mask_in k = open_at k.mask.now
+
+-- the flow that the list has at a seam edge, and 0 at any other edge
+abbrev pub flow_of : SeamFlows → Edge → ℤ
+flow_of k = flow_at (raster_in k) k.flows.now
+
+abbrev pub flow_or_none : SeamFlows → Edge → ℤ
+flow_or_none k e = where_true (is_seam_edge (raster_in k) e) (flow_of k e)
+
+-- a pixel before which so many seam edges stand in edge order
+abbrev pub StartsAt : SeamFlows → ℕ → ℕ → ℕ → Type 0
+StartsAt k x y before = (x < k.scene.now.phase.width) × (y < k.scene.now.phase.height) × (before ≡ seams_before (raster_in k) x y) × (before ≤ 2 * (4096 * y + x))
+
+-- an edge that starts at a pixel, and its place among the seam edges
+abbrev pub PlacedAt : SeamFlows → Edge → ℕ → Type 0
+PlacedAt k e place = (e.x < k.scene.now.phase.width) × (e.y < k.scene.now.phase.height) × (place ≡ seam_place (raster_in k) e)
+
+-- the flow at a seam edge is no greater than its weight, and no greater than any weight
+abbrev pub IsSeamOf : SeamFlows → Edge → Type 0
+IsSeamOf k = IsSeamEdge (raster_in k)
+
+abbrev pub FlowFitsAt : SeamFlows → Edge → Type 0
+FlowFitsAt k = FlowFits (raster_in k) (mask_in k) (flow_of k)
+
+abbrev pub IsSmallAt : SeamFlows → Edge → Type 0
+IsSmallAt k e = unsigned_abs (flow_of k e) ≤ 65535
+
+abbrev pub FitFrom : SeamFlows → ℕ → ℕ → Type 0
+FitFrom k x y = HoldsFrom (IsSeamOf k) (FlowFitsAt k) x y × HoldsFrom (IsSeamOf k) (IsSmallAt k) x y
+
+abbrev pub FlowsFit : SeamFlows → Type 0
+FlowsFit k = HoldsAtAll (IsSeamOf k) (FlowFitsAt k) × HoldsAtAll (IsSeamOf k) (IsSmallAt k)
+
+-- each open pixel has one of so many labels
+abbrev pub HasLabels : SeamFlows → List ℕ → ℕ → Type 0
+HasLabels k labels count = (length labels ≡ k.scene.now.phase.width * k.scene.now.phase.height) × ((x y : ℕ) → IsOpenPixel (raster_in k) (mask_in k) x y → label_at k.scene.now.phase.width labels x y < count)
+
+abbrev pub region_in : SeamFlows → List ℕ → ℕ → Field Bool
+region_in k labels = region_of (mask_in k) (label_at k.scene.now.phase.width labels)
+
+-- what the flow on a seam edge adds to a region: it ends there, or it starts there; and what the edges that start at a pixel add
+unfoldable pub net_flow : Raster → (Edge → ℤ) → Field Bool → Edge → ℤ
+net_flow r F region e = where_true (is_seam r e) (where_true (at_end region e) (F e) -ℤ where_true (at_start region e) (F e))
+
+abbrev pub moved_on : SeamFlows → List ℕ → ℕ → Edge → ℤ
+moved_on k labels v e = where_true (is_edge k.scene.now.phase.width k.scene.now.phase.height e) (net_flow (raster_in k) (flow_of k) (region_in k labels v) e)
+
+abbrev pub moved_from : SeamFlows → List ℕ → ℕ → Field ℤ
+moved_from k labels v = edges_from k.scene.now.phase.width k.scene.now.phase.height (net_flow (raster_in k) (flow_of k) (region_in k labels v))
+
+-- the sums at the regions of what flows in, less what flows out
+abbrev pub AreExcessesOf : Raster → Field Bool → Field ℕ → (Edge → ℤ) → List ℤ → Type 0
+AreExcessesOf r mask labels F sums = (v : ℕ) → v < length sums → slice_index_or sums v (pos 0) ≡ flow_in r F (region_of mask labels v) -ℤ flow_out r F (region_of mask labels v)
+
+abbrev pub AreExcesses : SeamFlows → List ℕ → List ℤ → Type 0
+AreExcesses k labels = AreExcessesOf (raster_in k) (mask_in k) (label_at k.scene.now.phase.width labels) (flow_of k)
+
+-- flow times departure on a seam edge with open ends, for the edges that start at a pixel, and in all
+unfoldable pub seam_product : Raster → Field Bool → Field ℤ → (Edge → ℤ) → Edge → ℤ
+seam_product r mask S F e = where_true (is_seam r e && has_open_ends mask e) (F e *ℤ departure r S e)
+
+abbrev pub product_on : SeamFlows → Field ℤ → Edge → ℤ
+product_on k cycles e = where_true (is_edge k.scene.now.phase.width k.scene.now.phase.height e) (seam_product (raster_in k) (mask_in k) (lifted (raster_in k) cycles) (flow_of k) e)
+
+abbrev pub product_from : SeamFlows → Field ℤ → Field ℤ
+product_from k cycles = edges_from k.scene.now.phase.width k.scene.now.phase.height (seam_product (raster_in k) (mask_in k) (lifted (raster_in k) cycles) (flow_of k))
+
+abbrev pub total_of : SeamFlows → Field ℤ → ℤ
+total_of k cycles = flow_total (raster_in k) (mask_in k) (lifted (raster_in k) cycles) (flow_of k)
+
+abbrev pub KnowsSeams : SeamFlows → Field Bool → Type 0
+KnowsSeams k = KnowsOpen (raster_in k) (mask_in k)

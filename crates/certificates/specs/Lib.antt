@@ -1,0 +1,9 @@
+pub mod EdgeOrder
+pub mod Results
+pub mod TileSets
+pub mod Verdicts
+pub mod EdgeWords
+pub mod TileWords
+pub mod SeamVerdicts
+pub mod Growth
+pub mod FlowWords

@@ -1,0 +1,75 @@
+-- What a check says of the seams of a surface: the first break of their certificate.
+use Rattle.std.specs.Prelude.{◌≡◌, ◌≢◌, ℕ, ◌+◌, ◌*◌, ◌<◌, ◌≤◌, ℤ, pos, Bool, ◌&&◌, ◌==◌, IsTrue, List, length, slice_index, unsigned_abs}
+use Rattle.raster_model.specs.declared.edge.Edge.{Edge}
+use Rattle.raster_model.specs.Sums.{Field}
+use Rattle.raster_model.specs.Raster.{Raster, lifted, masked_weight, seam_cost}
+use Rattle.raster_model.specs.Seams.{IsOpenPixel, IsEarlier, AreRegions, IsAnchored, flow_in, flow_out, flow_total}
+use Rattle.raster_model.specs.Flows.{is_seam_edge, seam_count, flow_at, AreCertifiedSeams}
+use Rattle.certificates.specs.declared.verdicts.SeamVerdict.{SeamVerdict}
+use Rattle.certificates.specs.declared.verdicts.SeamVerdict.TheVariants.{Good, Shape, Range, Anchor, FlowAtEdge, Unbalanced, CostDiffers}
+use Rattle.certificates.specs.EdgeOrder.{HoldsAtAll, IsFirstBreak}
+
+-- the number that a list in row order has at a pixel, and the open pixels with number v: those of region v
+abbrev pub label_at : ℕ → List ℕ → Field ℕ
+label_at width labels x y = slice_index labels (y * width + x)
+
+abbrev pub region_of : Field Bool → Field ℕ → ℕ → Field Bool
+region_of mask labels v x y = mask x y && (labels x y == v)
+
+-- the list has the region numbers of the open pixels, and there are so many regions
+abbrev pub ListsRegions : Raster → Field Bool → List ℕ → ℕ → Type 0
+ListsRegions r mask labels count = (length labels ≡ r.width * r.height) × AreRegions r mask (label_at r.width labels) count
+
+-- (x, y) is the first open pixel in row order
+abbrev pub IsFirstOpen : Raster → Field Bool → ℕ → ℕ → Type 0
+IsFirstOpen r mask x y = IsOpenPixel r mask x y × ((a b : ℕ) → IsOpenPixel r mask a b → IsEarlier a b x y → ⊥)
+
+-- the cycles at that pixel are these, and not 0
+pub record IsOffAnchor (r : Raster) (mask : Field Bool) (cycles : Field ℤ) (z : ℤ) : Type 0 where
+  pub x : ℕ
+  pub y : ℕ
+  pub first : IsFirstOpen r mask x y
+  pub cycles_there : z ≡ cycles x y
+  pub off : z ≢ pos 0
+
+-- a seam edge; its flow is no greater than its weight; the first at which it is
+abbrev pub IsSeamEdge : Raster → Edge → Type 0
+IsSeamEdge r e = IsTrue (is_seam_edge r e)
+
+abbrev pub FlowFits : Raster → Field Bool → (Edge → ℤ) → Edge → Type 0
+FlowFits r mask flow e = unsigned_abs (flow e) ≤ masked_weight r mask e
+
+abbrev pub AllFlowsFit : Raster → Field Bool → (Edge → ℤ) → Type 0
+AllFlowsFit r mask flow = HoldsAtAll (IsSeamEdge r) (FlowFits r mask flow)
+
+abbrev pub IsFirstHeavy : Raster → Field Bool → (Edge → ℤ) → Edge → Type 0
+IsFirstHeavy r mask flow = IsFirstBreak (IsSeamEdge r) (FlowFits r mask flow)
+
+-- as much flows into a region as out of it; all regions are so; region v is the least that is not
+abbrev pub IsBalanced : Raster → (Edge → ℤ) → Field Bool → Type 0
+IsBalanced r flow region = flow_in r flow region ≡ flow_out r flow region
+
+abbrev pub AreBalanced : Raster → Field Bool → Field ℕ → (Edge → ℤ) → ℕ → Type 0
+AreBalanced r mask labels flow count = (v : ℕ) → v < count → IsBalanced r flow (region_of mask labels v)
+
+pub record IsLeastUnbalanced (r : Raster) (mask : Field Bool) (labels : Field ℕ) (flow : Edge → ℤ) (count v : ℕ) : Type 0 where
+  pub exists : v < count
+  pub unbalanced : IsBalanced r flow (region_of mask labels v) → ⊥
+  pub least : AreBalanced r mask labels flow v
+
+-- the verdict on a list of flows, for a surface of whole cycles above the phase
+abbrev pub IsGoodAtSeams : Raster → Field Bool → Field ℤ → List ℤ → Type 0
+IsGoodAtSeams r mask cycles flows = IsAnchored r mask (lifted r cycles) × AreCertifiedSeams r mask (lifted r cycles) flows
+
+abbrev pub IsSeamVerdict : Raster → Field Bool → Field ℕ → ℕ → Field ℤ → List ℤ → SeamVerdict → Type 0
+IsSeamVerdict r mask labels count cycles flows Good = IsGoodAtSeams r mask cycles flows
+IsSeamVerdict r mask labels count cycles flows Shape = length flows ≢ seam_count r
+IsSeamVerdict r mask labels count cycles flows (Range v) = ⊥
+IsSeamVerdict r mask labels count cycles flows (Anchor z) = (length flows ≡ seam_count r) × IsOffAnchor r mask cycles z
+IsSeamVerdict r mask labels count cycles flows (FlowAtEdge e) = (length flows ≡ seam_count r) × IsAnchored r mask (lifted r cycles) × IsFirstHeavy r mask (flow_at r flows) e
+IsSeamVerdict r mask labels count cycles flows (Unbalanced v) = (length flows ≡ seam_count r) × IsAnchored r mask (lifted r cycles) × AllFlowsFit r mask (flow_at r flows) × IsLeastUnbalanced r mask labels (flow_at r flows) count v
+IsSeamVerdict r mask labels count cycles flows (CostDiffers cost bound) = (length flows ≡ seam_count r) × IsAnchored r mask (lifted r cycles) × AllFlowsFit r mask (flow_at r flows) × AreBalanced r mask labels (flow_at r flows) count × (pos cost ≡ seam_cost r mask (lifted r cycles)) × (bound ≡ flow_total r mask (lifted r cycles) (flow_at r flows)) × (bound ≢ pos cost)
+
+-- there are no two verdicts on the same, where the numbers are those of the regions
+abbrev pub SeamsHaveOneVerdict : Type 0
+SeamsHaveOneVerdict = (r : Raster) (mask : Field Bool) (labels : Field ℕ) (count : ℕ) (cycles : Field ℤ) (flows : List ℤ) (a b : SeamVerdict) → AreRegions r mask labels count → IsSeamVerdict r mask labels count cycles flows a → IsSeamVerdict r mask labels count cycles flows b → a ≡ b

@@ -1,0 +1,24 @@
+//! Results of solved tiles and seams, and the checks of the certificates that they carry. There is no solver
+//! here.
+#![tactic(auto)]
+
+mod anchor;
+mod cycles;
+pub mod laws;
+mod numbers;
+mod results;
+mod seam_edges;
+mod seam_flows;
+mod seams;
+#[cfg(test)]
+mod tests;
+mod tile;
+mod tile_set;
+mod tiles;
+mod verdicts;
+
+pub use crate::results::{SeamResult, TileResult};
+pub use crate::seams::check_flows;
+pub use crate::tile_set::TileSet;
+pub use crate::tiles::{check_faces, check_tile};
+pub use crate::verdicts::{SeamVerdict, TileVerdict};

@@ -1,0 +1,42 @@
+use std::alloc::AllocError;
+
+/// A solved tile.
+#[derive(Drop)]
+pub struct TileResult {
+    /// The tile's number.
+    pub tile: u32,
+    /// The stamp of the tile's mask.
+    pub stamp: u32,
+    /// Whole cycles above the phase at the pixels of the tile's window, in row order.
+    pub cycles: Vec<i32>,
+    /// The faces of the tile's cells in row order: the numbers that certify the cycles. (Costantini 1998.)
+    pub faces: Vec<i64>,
+}
+
+impl TileResult {
+    ghost use Rattle.certificates.specs.TileSets.{IsCopy};
+    ghost use Rattle.std.specs.Prelude.{IfOk};
+
+    /// A copy of its own.
+    pub fn try_copy(&self) -> Result<TileResult, AllocError>
+        ensures { IfOk result (IsCopy self.now) }
+    {
+        Ok(TileResult {
+            tile: self.tile,
+            stamp: self.stamp,
+            cycles: self.cycles.clone()?,
+            faces: self.faces.clone()?,
+        })
+    }
+}
+
+/// Offsets of a revision's regions, with the flows that certify them.
+#[derive(Drop)]
+pub struct SeamResult {
+    /// The revision of the mask.
+    pub revision: u32,
+    /// Whole cycles to add at each region, in the order of the regions' numbers.
+    pub offsets: Vec<i64>,
+    /// The flows of the seam edges in edge order: the numbers that certify the offsets. (Chen and Zebker 2002.)
+    pub flows: Vec<i64>,
+}

@@ -1,0 +1,38 @@
+ghost use Rattle.raster_model.specs.Flows.{is_seam_edge as is_seam_edge_of, seam_count as seam_count_of, seams_from as seams_from_of};
+ghost use Rattle.raster_model.specs.Scene.{raster_of};
+ghost use Rattle.std.specs.Prelude.{◌≡◌, ◌<◌, ◌≤◌};
+
+use raster_model::{Edge, Scene, plain};
+
+/// Whether an edge that starts at a pixel leads to a pixel of another tile.
+pub(crate) fn is_seam_edge(scene: &Scene, edge: Edge) -> bool
+    requires start { (edge.x < scene.now.phase.width) × (edge.y < scene.now.phase.height) }
+    ensures { result ≡ is_seam_edge_of (raster_of scene.now) edge }
+{
+    edge.end_x() < scene.phase.width
+        && edge.end_y() < scene.phase.height
+        && plain::is_seam(scene, edge)
+}
+
+/// How many seam edges start at a pixel.
+pub(crate) fn seams_from(scene: &Scene, x: u32, y: u32) -> usize
+    requires pixel { (x < scene.now.phase.width) × (y < scene.now.phase.height) }
+    ensures value { result ≡ seams_from_of (raster_of scene.now) x y }
+    ensures few { result ≤ 2 }
+{
+    usize::from(is_seam_edge(scene, Edge { x, y, down: false }))
+        + usize::from(is_seam_edge(scene, Edge { x, y, down: true }))
+}
+
+/// How many seam edges there are.
+pub(crate) fn seam_count(scene: &Scene) -> usize
+    ensures { result ≡ seam_count_of (raster_of scene.now) }
+{
+    let mut count = 0;
+    for y in 0..scene.phase.height {
+        for x in 0..scene.phase.width {
+            count += seams_from(scene, x, y);
+        }
+    }
+    count
+}

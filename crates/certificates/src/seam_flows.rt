@@ -1,0 +1,230 @@
+ghost use Rattle.raster_model.specs.Flows.{seam_count};
+ghost use Rattle.raster_model.specs.Scene.{raster_of};
+ghost use Rattle.certificates.specs.Growth.{AreWithin, HasGrown};
+ghost use Rattle.raster_model.specs.Sums.{where_true};
+ghost use Rattle.std.specs.Prelude.{◌≡◌, ℕ, ◌+◌, ◌<◌, ◌≤◌, ◌^◌, ◌==◌, length, unsigned_abs};
+
+use crate::seam_edges::{is_seam_edge, seams_from};
+use raster_model::{Edge, Heights, Mask, Scene, departure, weight};
+
+/// The seam edges of a scene under a mask, with a flow for each in edge order.
+#[derive(Clone, Copy)]
+pub(crate) struct SeamFlows<'a> {
+    pub(crate) scene: &'a Scene,
+    pub(crate) mask: &'a Mask,
+    pub(crate) flows: &'a [i64],
+    pub(crate) ghost same_size: { (mask.now.width ≡ scene.now.phase.width) × (mask.now.height ≡ scene.now.phase.height) },
+    pub(crate) ghost count: { length flows.now ≡ seam_count (raster_of scene.now) },
+}
+
+impl SeamFlows<'_> {
+    ghost use Rattle.certificates.specs.EdgeOrder.{HoldsAtAll, IsFirstBreak};
+    ghost use Rattle.certificates.specs.EdgeWords.{HoldsFrom, HoldsIfPart, IsBreak, IsFirstBreakFrom};
+    ghost use Rattle.certificates.specs.FlowWords.{
+      AreExcesses,
+      FitFrom,
+      FlowFitsAt,
+      FlowsFit,
+      HasLabels,
+      IsSeamOf,
+      IsSmallAt,
+      KnowsSeams,
+      PlacedAt,
+      StartsAt,
+      flow_or_none,
+      moved_from,
+      moved_on,
+      product_from,
+      product_on,
+      total_of,
+    };
+    ghost use Rattle.raster_model.specs.Sums.{down_edge};
+    ghost use Rattle.std.specs.Prelude.{
+      ℕ,
+      ◌+◌,
+      ◌*◌,
+      ◌<◌,
+      ◌≤◌,
+      ◌^◌,
+      IfNone,
+      IfSome,
+      MatchBool,
+      false,
+      pos,
+      unsigned_abs,
+    };
+
+    /// The place of a pixel's down edge among the seam edges, where so many stand before its right edge.
+    fn down_place(&self, x: u32, y: u32, before: usize) -> usize
+        requires start { StartsAt self.now x y before }
+        ensures { PlacedAt self.now (down_edge x y) result }
+    {
+        before + usize::from(is_seam_edge(self.scene, Edge { x, y, down: false }))
+    }
+
+    /// The flow of an edge that starts at a pixel, with its place among the seam edges, and 0 where it is none.
+    fn flow(&self, edge: Edge, place: usize) -> i64
+        requires placed { PlacedAt self.now edge place }
+        ensures { result ≡ flow_or_none self.now edge }
+    {
+        if is_seam_edge(self.scene, edge) {
+            self.flows[place]
+        } else {
+            0
+        }
+    }
+
+    /// Whether an edge that starts at a pixel is a seam edge whose flow is greater than its weight.
+    fn is_heavy(&self, edge: Edge, place: usize) -> bool
+        requires placed { PlacedAt self.now edge place }
+        ensures cases { MatchBool result (IsBreak (IsSeamOf self.now) (FlowFitsAt self.now) edge) (HoldsIfPart (IsSeamOf self.now) (FlowFitsAt self.now) edge) }
+        ensures small { result ≡ false → HoldsIfPart (IsSeamOf self.now) (IsSmallAt self.now) edge }
+    {
+        is_seam_edge(self.scene, edge)
+            && self.flow(edge, place).unsigned_abs()
+                > u64::from(weight(self.scene, self.mask, edge))
+    }
+
+    /// The first such edge of those that start at a pixel.
+    fn first_heavy_from(&self, x: u32, y: u32, before: usize) -> Option<Edge>
+        requires start { StartsAt self.now x y before }
+        ensures found { IfSome result (IsFirstBreakFrom (IsSeamOf self.now) (FlowFitsAt self.now) x y) }
+        ensures none { IfNone result (FitFrom self.now x y) }
+    {
+        let right = Edge { x, y, down: false };
+        let down = Edge { x, y, down: true };
+        if self.is_heavy(right, before) {
+            Some(right)
+        } else if self.is_heavy(down, self.down_place(x, y, before)) {
+            Some(down)
+        } else {
+            None
+        }
+    }
+
+    /// The first seam edge whose flow is greater than its weight.
+    pub(crate) fn first_heavy(&self) -> Option<Edge>
+        ensures found { IfSome result (IsFirstBreak (IsSeamOf self.now) (FlowFitsAt self.now)) }
+        ensures none { IfNone result (FlowsFit self.now) }
+    {
+        let mut before = 0;
+        for y in 0..self.scene.phase.height {
+            for x in 0..self.scene.phase.width {
+                if let Some(edge) = self.first_heavy_from(x, y, before) {
+                    return Some(edge);
+                }
+                before += seams_from(self.scene, x, y);
+            }
+        }
+        None
+    }
+
+    /// Takes the flow of an edge from the sum of the region where it starts to that of the region where it
+    /// ends.
+    fn move_flow(&self, labels: &[u32], edge: Edge, place: usize, sums: &mut [i64])
+        requires placed { PlacedAt self.now edge place }
+        requires fit { FlowsFit self.now }
+        requires labels { HasLabels self.now labels.now (length sums.old) }
+        requires small { AreWithin (2 ^ 30) sums.old }
+        ensures grown { HasGrown sums.old sums.new (λ v. moved_on self.now labels.now v edge) }
+        ensures within { (n : ℕ) → AreWithin n sums.old → AreWithin (n + 2) sums.new }
+    {
+        let flow = self.flow(edge, place);
+        if flow != 0 {
+            let width = self.scene.phase.width as usize;
+            let end = labels[edge.end_y() as usize * width + edge.end_x() as usize];
+            let start = labels[edge.y as usize * width + edge.x as usize];
+            add_to(sums, end as usize, flow);
+            add_to(sums, start as usize, -flow);
+        }
+    }
+
+    /// Moves the flows of the edges that start at a pixel.
+    fn move_flows_from(&self, labels: &[u32], x: u32, y: u32, before: usize, sums: &mut [i64])
+        requires start { StartsAt self.now x y before }
+        requires fit { FlowsFit self.now }
+        requires labels { HasLabels self.now labels.now (length sums.old) }
+        requires small { AreWithin (2 ^ 29) sums.old }
+        ensures grown { HasGrown sums.old sums.new (λ v. moved_from self.now labels.now v x y) }
+        ensures within { (n : ℕ) → AreWithin n sums.old → AreWithin (n + 4) sums.new }
+    {
+        self.move_flow(labels, Edge { x, y, down: false }, before, sums);
+        let next = self.down_place(x, y, before);
+        self.move_flow(labels, Edge { x, y, down: true }, next, sums);
+    }
+
+    /// At each region, the sum of the flows that end in it less those that start in it. They fit the weights,
+    /// so no sum leaves 64 bits.
+    pub(crate) fn add_up(&self, labels: &[u32], sums: &mut [i64])
+        requires fit { FlowsFit self.now }
+        requires labels { HasLabels self.now labels.now (length sums.old) }
+        ensures { AreExcesses self.now labels.now sums.new }
+    {
+        sums.fill(0);
+        let mut before = 0;
+        for y in 0..self.scene.phase.height {
+            for x in 0..self.scene.phase.width {
+                self.move_flows_from(labels, x, y, before, sums);
+                before += seams_from(self.scene, x, y);
+            }
+        }
+    }
+
+    /// The flow of an edge times the departure of a surface there, and 0 where it is no seam edge. Where an end
+    /// is masked, the weight is 0 and so is the flow.
+    fn product<H: Heights>(&self, heights: &H, edge: Edge, place: usize) -> i128
+        requires placed { PlacedAt self.now edge place }
+        requires fit { FlowsFit self.now }
+        requires known { KnowsSeams self.now (H.knows heights.now) }
+        ensures value { result ≡ product_on self.now (H.cycles_at heights.now) edge }
+        ensures small { unsigned_abs result ≤ 65535 * (2 ^ 49 + 1) }
+    {
+        let flow = self.flow(edge, place);
+        if flow == 0 {
+            0
+        } else {
+            i128::from(flow) * i128::from(departure(self.scene, heights, edge))
+        }
+    }
+
+    /// The sum of those products over the edges that start at a pixel.
+    fn products_from<H: Heights>(&self, heights: &H, x: u32, y: u32, before: usize) -> i128
+        requires start { StartsAt self.now x y before }
+        requires fit { FlowsFit self.now }
+        requires known { KnowsSeams self.now (H.knows heights.now) }
+        ensures value { result ≡ product_from self.now (H.cycles_at heights.now) x y }
+        ensures small { unsigned_abs result ≤ 2 * 65535 * (2 ^ 49 + 1) }
+    {
+        let next = self.down_place(x, y, before);
+        self.product(heights, Edge { x, y, down: false }, before)
+            + self.product(heights, Edge { x, y, down: true }, next)
+    }
+
+    /// The sum of flow times departure over the seam edges with open ends.
+    pub(crate) fn total<H: Heights>(&self, heights: &H) -> i128
+        requires fit { FlowsFit self.now }
+        requires known { KnowsSeams self.now (H.knows heights.now) }
+        ensures { result ≡ total_of self.now (H.cycles_at heights.now) }
+    {
+        let mut total: i128 = 0;
+        let mut before = 0;
+        for y in 0..self.scene.phase.height {
+            for x in 0..self.scene.phase.width {
+                total += self.products_from(heights, x, y, before);
+                before += seams_from(self.scene, x, y);
+            }
+        }
+        total
+    }
+}
+
+/// Adds to one of some numbers.
+fn add_to(numbers: &mut [i64], place: usize, amount: i64)
+    requires place { place < length numbers.old }
+    requires small { AreWithin (2 ^ 31) numbers.old }
+    requires amount { unsigned_abs amount ≤ 65535 }
+    ensures grown { HasGrown numbers.old numbers.new (λ v. where_true (place == v) amount) }
+    ensures within { (n : ℕ) → AreWithin n numbers.old → AreWithin (n + 1) numbers.new }
+{
+    numbers[place] += amount;
+}

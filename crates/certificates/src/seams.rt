@@ -1,0 +1,66 @@
+ghost use Rattle.certificates.specs.Growth.{AreZeros, IsFirstOther};
+ghost use Rattle.certificates.specs.SeamVerdicts.{IsGoodAtSeams, IsSeamVerdict, ListsRegions, label_at};
+ghost use Rattle.certificates.specs.declared.verdicts.SeamVerdict.TheVariants.{Good};
+ghost use Rattle.raster_model.specs.Heights.{KnowsOpen};
+ghost use Rattle.raster_model.specs.Masks.{open_at};
+ghost use Rattle.raster_model.specs.Raster.{lifted};
+ghost use Rattle.raster_model.specs.Scene.{raster_of};
+ghost use Rattle.raster_model.specs.Seams.{IsLeastAtSeams};
+ghost use Rattle.std.specs.Prelude.{◌≡◌, ◌↔◌, IfNone, IfSome, length};
+
+use crate::anchor::off_anchor;
+use crate::numbers::is_same;
+use crate::seam_edges::seam_count;
+use crate::seam_flows::SeamFlows;
+use crate::verdicts::SeamVerdict;
+use raster_model::{Heights, Mask, Scene, plain};
+
+/// Checks the flows that certify a surface at its seams: one for each seam edge, in edge order. First their
+/// number is judged, then the surface's anchor, then each flow, then the balance at each region, then the cost.
+/// `labels` has the number of each open pixel's region in row order, and `scratch` one place for each region.
+/// It takes no memory. (Chen and Zebker 2002.)
+pub fn check_flows<H: Heights>(
+    scene: &Scene,
+    mask: &Mask,
+    labels: &[u32],
+    heights: &H,
+    flows: &[i64],
+    scratch: &mut [i64],
+) -> SeamVerdict
+    requires same_size { (mask.now.width ≡ scene.now.phase.width) × (mask.now.height ≡ scene.now.phase.height) }
+    requires known { KnowsOpen (raster_of scene.now) (open_at mask.now) (H.knows heights.now) }
+    requires regions { ListsRegions (raster_of scene.now) (open_at mask.now) labels.now (length scratch.old) }
+    ensures verdict { IsSeamVerdict (raster_of scene.now) (open_at mask.now) (label_at scene.now.phase.width labels.now) (length scratch.old) (H.cycles_at heights.now) flows.now result }
+    ensures good { (result ≡ Good) ↔ IsGoodAtSeams (raster_of scene.now) (open_at mask.now) (H.cycles_at heights.now) flows.now }
+    ensures least { result ≡ Good → IsLeastAtSeams (raster_of scene.now) (open_at mask.now) (lifted (raster_of scene.now) (H.cycles_at heights.now)) }
+{
+    if flows.len() != seam_count(scene) {
+        return SeamVerdict::Shape;
+    }
+    if let Some(cycles) = off_anchor(scene, mask, heights) {
+        return SeamVerdict::Anchor(cycles);
+    }
+    let seams = SeamFlows { scene, mask, flows };
+    if let Some(edge) = seams.first_heavy() {
+        return SeamVerdict::FlowAtEdge(edge);
+    }
+    seams.add_up(labels, scratch);
+    if let Some(region) = first_other(scratch) {
+        return SeamVerdict::Unbalanced(region as u32);
+    }
+    let bound = seams.total(heights);
+    let cost = plain::seam_cost(scene, mask, heights);
+    if is_same(bound, cost) {
+        SeamVerdict::Good
+    } else {
+        SeamVerdict::CostDiffers { cost, bound }
+    }
+}
+
+/// The place of the first of some numbers that is not 0.
+fn first_other(numbers: &[i64]) -> Option<usize>
+    ensures found { IfSome result (IsFirstOther numbers.now) }
+    ensures none { IfNone result (AreZeros numbers.now) }
+{
+    numbers.iter().position(|&number| number != 0)
+}

@@ -1,0 +1,218 @@
+ghost use Rattle.raster_model.specs.Tiles.{IsWindowOf};
+ghost use Rattle.std.specs.Prelude.{◌≡◌};
+
+use raster_model::{Edge, Heights, Mask, Scene, Window, plain, weight};
+
+/// A tile of a scene under a mask.
+#[derive(Clone, Copy)]
+pub(crate) struct Tile<'a> {
+    pub(crate) scene: &'a Scene,
+    pub(crate) mask: &'a Mask,
+    pub(crate) number: u32,
+    pub(crate) window: Window,
+    pub(crate) ghost same_size: { (mask.now.width ≡ scene.now.phase.width) × (mask.now.height ≡ scene.now.phase.height) },
+    pub(crate) ghost pixels: { IsWindowOf scene.now.tiling number window },
+}
+
+impl Tile<'_> {
+    ghost use Rattle.certificates.specs.EdgeOrder.{HoldsAtAll, IsFirstBreak};
+    ghost use Rattle.certificates.specs.EdgeWords.{HoldsFrom, HoldsIfPart, IsBreak, IsFirstBreakFrom};
+    ghost use Rattle.certificates.specs.TileWords.{
+      FitAt,
+      HasFaces,
+      IsInner,
+      KnowsTile,
+      cost_at,
+      cost_in,
+      difference_at,
+      faces_at,
+      product_at,
+      total_at,
+    };
+    ghost use Rattle.raster_model.specs.Certificates.{above, left};
+    ghost use Rattle.raster_model.specs.Order.{IsCellAt};
+    ghost use Rattle.raster_model.specs.Sums.{is_edge};
+    ghost use Rattle.raster_model.specs.Tiles.{IsWithin};
+    ghost use Rattle.std.specs.Prelude.{
+      ◌+◌,
+      ◌*◌,
+      ◌<◌,
+      ◌≤◌,
+      ◌^◌,
+      ◌↔◌,
+      IfNone,
+      IfSome,
+      IsTrue,
+      MatchBool,
+      pos,
+      unsigned_abs,
+    };
+
+    /// The face of the tile's cell with the upper left corner (`x`, `y`), and 0 where the tile has none there.
+    fn face(&self, faces: &[i64], x: u32, y: u32) -> i64
+        requires count { HasFaces self.now faces.now }
+        ensures { result ≡ faces_at self.now faces.now x y }
+    {
+        let window = self.window;
+        if window.x0 <= x && x < window.x1 && window.y0 <= y && y < window.y1 {
+            let across = (window.x1 - window.x0) as usize;
+            faces[(y - window.y0) as usize * across + (x - window.x0) as usize]
+        } else {
+            0
+        }
+    }
+
+    /// The face above a right edge, and 0 above the raster.
+    fn face_above(&self, faces: &[i64], x: u32, y: u32) -> i64
+        requires count { HasFaces self.now faces.now }
+        ensures { result ≡ above (faces_at self.now faces.now) x y }
+    {
+        if y == 0 {
+            0
+        } else {
+            self.face(faces, x, y - 1)
+        }
+    }
+
+    /// The face left of a down edge, and 0 left of the raster.
+    fn face_left(&self, faces: &[i64], x: u32, y: u32) -> i64
+        requires count { HasFaces self.now faces.now }
+        ensures { result ≡ left (faces_at self.now faces.now) x y }
+    {
+        if x == 0 {
+            0
+        } else {
+            self.face(faces, x - 1, y)
+        }
+    }
+
+    /// The face on one side of an edge less that on the other: above less below a right edge, right less left
+    /// of a down edge.
+    fn face_difference(&self, faces: &[i64], edge: Edge) -> i128
+        requires count { HasFaces self.now faces.now }
+        ensures { result ≡ difference_at self.now faces.now edge }
+    {
+        let here = i128::from(self.face(faces, edge.x, edge.y));
+        if edge.down {
+            here - i128::from(self.face_left(faces, edge.x, edge.y))
+        } else {
+            i128::from(self.face_above(faces, edge.x, edge.y)) - here
+        }
+    }
+
+    /// Whether the faces on the two sides of an edge differ by no more than its weight.
+    fn faces_fit(&self, faces: &[i64], edge: Edge) -> bool
+        requires count { HasFaces self.now faces.now }
+        requires is_edge { IsTrue (is_edge self.now.scene.now.phase.width self.now.scene.now.phase.height edge) }
+        ensures { IsTrue result ↔ FitAt self.now faces.now edge }
+    {
+        self.face_difference(faces, edge).unsigned_abs()
+            <= u128::from(weight(self.scene, self.mask, edge))
+    }
+
+    /// Whether an edge that starts in the tile is an inner edge whose faces do not fit.
+    fn is_unfit(&self, faces: &[i64], edge: Edge) -> bool
+        requires count { HasFaces self.now faces.now }
+        requires start { IsWithin self.now.window edge.x edge.y }
+        ensures { MatchBool result (IsBreak (IsInner self.now) (FitAt self.now faces.now) edge) (HoldsIfPart (IsInner self.now) (FitAt self.now faces.now) edge) }
+    {
+        edge.end_x() <= self.window.x1
+            && edge.end_y() <= self.window.y1
+            && !self.faces_fit(faces, edge)
+    }
+
+    /// The first such edge of those that start at a pixel.
+    fn first_unfit_from(&self, faces: &[i64], x: u32, y: u32) -> Option<Edge>
+        requires count { HasFaces self.now faces.now }
+        requires within { IsWithin self.now.window x y }
+        ensures found { IfSome result (IsFirstBreakFrom (IsInner self.now) (FitAt self.now faces.now) x y) }
+        ensures none { IfNone result (HoldsFrom (IsInner self.now) (FitAt self.now faces.now) x y) }
+    {
+        let right = Edge { x, y, down: false };
+        let down = Edge { x, y, down: true };
+        if self.is_unfit(faces, right) {
+            Some(right)
+        } else if self.is_unfit(faces, down) {
+            Some(down)
+        } else {
+            None
+        }
+    }
+
+    /// The first inner edge whose faces do not fit.
+    pub(crate) fn first_unfit(&self, faces: &[i64]) -> Option<Edge>
+        requires count { HasFaces self.now faces.now }
+        ensures found { IfSome result (IsFirstBreak (IsInner self.now) (FitAt self.now faces.now)) }
+        ensures none { IfNone result (HoldsAtAll (IsInner self.now) (FitAt self.now faces.now)) }
+    {
+        let window = self.window;
+        for y in window.y0..window.y1 + 1 {
+            for x in window.x0..window.x1 + 1 {
+                if let Some(edge) = self.first_unfit_from(faces, x, y) {
+                    return Some(edge);
+                }
+            }
+        }
+        None
+    }
+
+    /// A cell's face times its residue.
+    fn face_product(&self, faces: &[i64], x: u32, y: u32) -> i128
+        requires count { HasFaces self.now faces.now }
+        requires cell { IsCellAt self.now.window x y }
+        ensures value { result ≡ product_at self.now faces.now x y }
+        ensures small { unsigned_abs result ≤ 2 ^ 63 }
+    {
+        i128::from(self.face(faces, x, y)) * i128::from(plain::residue(self.scene, x, y))
+    }
+
+    /// The sum of face times residue over the tile's cells.
+    pub(crate) fn face_total(&self, faces: &[i64]) -> i128
+        requires count { HasFaces self.now faces.now }
+        ensures { result ≡ total_at self.now faces.now }
+    {
+        let window = self.window;
+        let mut total: i128 = 0;
+        for y in window.y0..window.y1 {
+            for x in window.x0..window.x1 {
+                total += self.face_product(faces, x, y);
+            }
+        }
+        total
+    }
+
+    /// What the edges that start at a pixel add to the tile's cost.
+    fn cost_from<H: Heights>(&self, heights: &H, x: u32, y: u32) -> u128
+        requires within { IsWithin self.now.window x y }
+        requires known { KnowsTile self.now (H.knows heights.now) }
+        ensures value { pos result ≡ cost_at self.now (H.cycles_at heights.now) x y }
+        ensures small { result ≤ 2 * 65535 * (2 ^ 49 + 1) }
+    {
+        let to_right = if x < self.window.x1 {
+            plain::edge_cost(self.scene, self.mask, heights, Edge { x, y, down: false })
+        } else {
+            0
+        };
+        let to_lower = if y < self.window.y1 {
+            plain::edge_cost(self.scene, self.mask, heights, Edge { x, y, down: true })
+        } else {
+            0
+        };
+        to_right + to_lower
+    }
+
+    /// The cost of the tile: the sum over its inner edges with open ends.
+    pub(crate) fn cost<H: Heights>(&self, heights: &H) -> u128
+        requires known { KnowsTile self.now (H.knows heights.now) }
+        ensures { pos result ≡ cost_in self.now (H.cycles_at heights.now) }
+    {
+        let window = self.window;
+        let mut cost: u128 = 0;
+        for y in window.y0..window.y1 + 1 {
+            for x in window.x0..window.x1 + 1 {
+                cost += self.cost_from(heights, x, y);
+            }
+        }
+        cost
+    }
+}

@@ -1,0 +1,54 @@
+-- Lemmas for crates above, which balance a grid: what a grid of one origin keeps, and that no nodes block.
+use Rattle.std.proofs.Common.{◌≡◌, ℕ, ◌<◌, ◌∙◌, sym, subst, arith, List, Bool, true, false}
+use Rattle.std.specs.Prelude.{ℤ, pos, negsuc, ◌+ℤ◌, ◌≤ℤ◌}
+use Rattle.std.proofs.lemmas.Int.{ints}
+use Rattle.raster_model.specs.declared.scene.Scene.{Scene}
+use Rattle.raster_model.specs.declared.tiling.Window.{Window}
+use Rattle.raster_model.specs.Raster.{residue}
+use Rattle.raster_model.specs.Scene.{raster_of}
+use Rattle.raster_model.specs.Sums.{Field}
+use Rattle.flow_network.specs.Nets.{Shape, State, IsArc, tail_of}
+use Rattle.flow_network.specs.Moves.{IsConserved}
+use Rattle.flow_network.specs.Sums.{sum_below}
+use Rattle.flow_network.proofs.CallerLemmas.{conserved-trans, sum_below-same}
+use Rattle.dual_grid.specs.declared.grid.DualGrid.{DualGrid}
+use Rattle.dual_grid.specs.Answers.{IsNearStart}
+use Rattle.dual_grid.specs.Grids.{AreWeighed, IsJoined}
+use Rattle.dual_grid.specs.Starts.{IsAtStart, open_in, positive_excess, positive_part, start_state}
+use Rattle.dual_grid.specs.Views.{HaveOneOrigin, IsGridOf, shape_of, state_of}
+
+-- pushes and raises leave a grid what it was made from
+pub grid_stays : (s : Scene) (t : ℕ) (unmasked : List Bool) (g h : DualGrid) → HaveOneOrigin g h → IsGridOf s t unmasked g → IsGridOf s t unmasked h
+grid_stays s t unmasked g h origin grid =
+    let r = raster_of s in
+    let weighed = subst (λ (v : Window). AreWeighed r (open_in v unmasked) v (shape_of g)) (sym origin.window) grid.weighed in
+    let conserved = conserved-trans (shape_of g) (start_state (residue r) g.window) (state_of g) (state_of h) grid.conserved origin.conserved in
+    let placed = subst (λ (v : Window). IsConserved (shape_of g) (start_state (residue r) v) (state_of h)) (sym origin.window) conserved in
+    record {
+      window = origin.window ∙ grid.window;
+      weighed = subst (λ (z : Shape). AreWeighed r (open_in h.window unmasked) h.window z) (sym origin.shape) weighed;
+      conserved = subst (λ (z : Shape). IsConserved z (start_state (residue r) h.window) (state_of h)) (sym origin.shape) placed;
+    }
+
+-- residuals that differ from those of the start by at most the positive excesses are near them
+pub near_start : (f : Field ℤ) (v : Window) (s : Shape) (g h : State) (m : ℤ) → IsAtStart f v s g → m ≤ℤ pos 16129 → ((a : ℕ) → IsArc s a → (pos (h.residual a) ≤ℤ (pos (g.residual a) +ℤ m)) × (pos (g.residual a) ≤ℤ (pos (h.residual a) +ℤ m))) → IsNearStart s h
+near_start f v s g h m start few moves a arc =
+    let k = moves a arc in
+    let e = start.residual a arc in
+    (omega (arith, ints, k.0, e, few), omega (arith, ints, k.1, e, few))
+
+-- the sum of the positive excesses, with another word for the positive part
+pub positive_excess-same : (part : ℤ → ℤ) (s : Shape) (g : State) → ((n : ℕ) → part (pos n) ≡ pos n) → ((n : ℕ) → part (negsuc n) ≡ pos 0) → sum_below s.nodes (λ u. part (g.excess u)) ≡ positive_excess s g
+positive_excess-same part s g at least = sum_below-same s.nodes (λ u. part (g.excess u)) (λ u. positive_part (g.excess u)) (λ u l. same (g.excess u))
+  where
+    same : (z : ℤ) → part z ≡ positive_part z
+    same (pos n) = at n
+    same (negsuc n) = least n
+
+-- near the start an arc with capacity left leads out of each set of nodes but the empty one and the whole, so no nodes block
+pub leads_out : (s : Shape) (g : State) → IsJoined s → IsNearStart s g → (inside : ℕ → Bool) (u w : ℕ) → u < s.nodes → w < s.nodes → inside u ≡ true → inside w ≡ false → (a : ℕ) × (IsArc s a × (0 < g.residual a) × (inside (tail_of s a) ≡ true) × (inside (s.head a) ≡ false))
+leads_out s g joined near inside u w l m p q =
+    let k = joined inside u w l m p q in
+    let a = k.0 in
+    let h = (near a k.1.0).1 in
+    (a, (k.1.0, omega (arith, h, k.1.1), k.1.2, k.1.3))

@@ -1,0 +1,16 @@
+pub mod Orders
+pub mod NodeLemmas
+pub mod EdgeLemmas
+pub mod CrossLemmas
+pub mod SupplyLemmas
+pub mod AnswerLemmas
+pub mod StartLemmas
+pub mod GridLemmas
+pub mod SumLemmas
+pub mod SideLemmas
+pub mod BalanceLemmas
+pub mod FaceLemmas
+pub mod CertificateLemmas
+pub mod CallerLemmas
+pub mod TestLemmas
+mod OnExamples

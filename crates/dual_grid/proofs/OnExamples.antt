@@ -1,0 +1,35 @@
+-- Worked examples.
+use Rattle.std.proofs.Common.{◌≡◌, refl}
+use Rattle.raster_model.specs.declared.tiling.Window.{Window}
+use Rattle.raster_model.specs.Sums.{right_edge, down_edge}
+use Rattle.dual_grid.specs.Nodes.{node_at, node_above, node_left, first_side, other_side, arc_across}
+
+-- ---- three columns and two rows of pixels: the cells 0 and 1, and the outside 2
+abbrev box : Window
+box = record { x0 = 5; y0 = 7; x1 = 7; y1 = 8 }
+
+second_cell : node_at box 6 7 ≡ 1
+unfolding node_at
+second_cell = refl
+
+-- the last right edge lies between the second cell above it and the outside
+above_the_last_right : first_side box (right_edge 6 8) ≡ 1
+unfolding first_side node_above node_at
+above_the_last_right = refl
+
+below_the_last_right : other_side box (right_edge 6 8) ≡ 2
+unfolding other_side node_at
+below_the_last_right = refl
+
+-- the second down edge lies between the second cell on its right and the first on its left
+right_of_the_second_down : first_side box (down_edge 6 7) ≡ 1
+unfolding first_side node_at
+right_of_the_second_down = refl
+
+left_of_the_second_down : other_side box (down_edge 6 7) ≡ 0
+unfolding other_side node_left node_at
+left_of_the_second_down = refl
+
+-- it is edge 5, after four right edges and one down edge
+arcs_of_the_second_down : arc_across box (down_edge 6 7) ≡ 20
+arcs_of_the_second_down = refl

@@ -1,0 +1,182 @@
+-- How a grid starts.
+use Rattle.std.proofs.Common.{◌≡◌, ℕ, zero, suc, ◌+◌, ◌-◌, ◌*◌, ◌/◌, ◌%◌, ◌<◌, ◌≤◌, ◌∙◌, sym, ap, arith, List, length, get_or, inl, inr}
+use Rattle.std.specs.Prelude.{ℤ, pos, negsuc, neg_ℤ, ◌+ℤ◌, ◌-ℤ◌, ◌≤ℤ◌, unsigned_abs, Bool}
+use Rattle.std.proofs.lemmas.Int.{ints}
+use Rattle.std.proofs.lemmas.Nat.{div_below, mod_below}
+use Rattle.raster_model.specs.declared.scene.Scene.{Scene}
+use Rattle.raster_model.specs.declared.tiling.Window.{Window}
+use Rattle.raster_model.specs.Sums.{Field}
+use Rattle.raster_model.specs.Raster.{residue}
+use Rattle.raster_model.specs.Scene.{raster_of}
+use Rattle.raster_model.specs.Tiles.{IsWindowOf}
+use Rattle.raster_model.specs.declared.tiling.Tiling.{Tiling}
+use Rattle.raster_model.proofs.Exact.{residue_is_small}
+use Rattle.flow_network.specs.Nets.{Shape, State, IsNetwork}
+use Rattle.flow_network.specs.Sums.{sum_below, where_true}
+use Rattle.flow_network.specs.Moves.{IsConserved}
+use Rattle.flow_network.specs.Growing.{supply_sum, supply_sizes}
+use Rattle.flow_network.proofs.CallerLemmas.{sum_below-none, sum_below-more, sum_below-same, conserved-still}
+use Rattle.wrapped_gradient.specs.Gradients.{AreGradientsOf, residue_at}
+use Rattle.wrapped_gradient.specs.GradientsView.{GradientsView}
+use Rattle.wrapped_gradient.specs.Windows.{IsCellOf}
+use Rattle.wrapped_gradient.proofs.GradientLemmas.{residues_are}
+use Rattle.dual_grid.specs.Nodes.{cells_of, edges_of}
+use Rattle.dual_grid.specs.Starts.{cell_value, supply_at, positive_part, positive_excess, start_state, open_in, IsAtStart}
+use Rattle.dual_grid.specs.Grids.{IsGridShape, AreWeighed, HasSmallCosts}
+use Rattle.dual_grid.specs.Building.{AreSupplies, IsCrossedTo, IsSmall}
+use Rattle.dual_grid.proofs.EdgeLemmas.{few_cells, number_below}
+use Rattle.dual_grid.proofs.SupplyLemmas.{supply_inside, supply_outside, sum_within}
+use Rattle.dual_grid.proofs.Orders.{below_or_last}
+
+-- a number below the count of cells is that of a cell
+pub has_columns : (u a b : ℕ) → u < b * a → 0 < a
+has_columns u zero b l = absurd (omega (arith, l))
+has_columns u (suc a) b l = omega arith
+
+pub cell_of_number : (v : Window) (u : ℕ) → u < cells_of v → IsCellOf v (v.x0 + u % (v.x1 - v.x0)) (v.y0 + u / (v.x1 - v.x0))
+cell_of_number v u l =
+    let p = has_columns u (v.x1 - v.x0) (v.y1 - v.y0) l in
+    let column = mod_below u (v.x1 - v.x0) p in
+    let row = div_below u (v.x1 - v.x0) (v.y1 - v.y0) p l in
+    (omega arith, omega (arith, column), omega arith, omega (arith, row))
+
+-- residues that are the same at each cell
+module _ (f g : Field ℤ) (v : Window) (same : (x y : ℕ) → IsCellOf v x y → f x y ≡ g x y) where
+  cells_same : (u : ℕ) → u < cells_of v → cell_value f v u ≡ cell_value g v u
+  cells_same u l = same (v.x0 + u % (v.x1 - v.x0)) (v.y0 + u / (v.x1 - v.x0)) (cell_of_number v u l)
+
+  supply_same : (u : ℕ) → u < cells_of v + 1 → supply_at f v u ≡ supply_at g v u
+  supply_same u l =
+      elim (below_or_last u (cells_of v) l) [
+        | inl m ↦ supply_inside f v u m ∙ cells_same u m ∙ sym (supply_inside g v u m)
+        | inr m ↦ rw m (supply_outside f v ∙ ap neg_ℤ (sum_below-same (cells_of v) (cell_value f v) (cell_value g v) cells_same) ∙ sym (supply_outside g v))
+      ]
+
+  pub supplies_same : (zs : List ℤ) → AreSupplies f v zs → AreSupplies g v zs
+  supplies_same zs h = record { count = h.count; values = λ u l. h.values u l ∙ supply_same u l }
+
+-- numbers from -1 to 1 and their positive parts
+part_small : (z : ℤ) → unsigned_abs z ≤ 1 → (positive_part z ≤ℤ pos 1) × ((positive_part z -ℤ z) ≤ℤ pos 1)
+part_small (pos n) l = (omega (arith, ints, l), omega (arith, ints, l))
+part_small (negsuc n) l = (omega (arith, ints, l), omega (arith, ints, l))
+
+parts_within : (n : ℕ) (f : ℕ → ℤ) → ((k : ℕ) → k < n → unsigned_abs (f k) ≤ 1) → (sum_below n (λ k. positive_part (f k)) ≤ℤ pos n) × ((sum_below n (λ k. positive_part (f k)) -ℤ sum_below n f) ≤ℤ pos n)
+unfolding sum_below
+parts_within zero f h = (omega (arith, ints), omega (arith, ints))
+parts_within (suc n) f h =
+    let e = parts_within n f (λ k l. h k (omega arith)) in
+    let p = part_small (f n) (h n (omega arith)) in
+    (omega (arith, ints, e.0, p.0), omega (arith, ints, e.1, p.1))
+
+part_either : (z a : ℤ) (n : ℕ) → a ≤ℤ pos n → (a +ℤ z) ≤ℤ pos n → (a +ℤ positive_part z) ≤ℤ pos n
+part_either (pos k) a n p q = q
+part_either (negsuc k) a n p q = omega (arith, ints, p)
+
+sizes_within : (n : ℕ) (f : ℕ → ℤ) → ((k : ℕ) → k < n → unsigned_abs (f k) ≤ 1) → sum_below n (λ k. pos (unsigned_abs (f k))) ≤ℤ pos n
+unfolding sum_below
+sizes_within zero f h = omega (arith, ints)
+sizes_within (suc n) f h = omega (arith, ints, sizes_within n f (λ k l. h k (omega arith)), h n (omega arith))
+
+-- ---- what the nodes have in sum
+module _ (f : Field ℤ) (v : Window) (small : (x y : ℕ) → unsigned_abs (f x y) ≤ 1) where
+  value_small : (u : ℕ) → u < cells_of v → unsigned_abs (cell_value f v u) ≤ 1
+  value_small u l = small (v.x0 + u % (v.x1 - v.x0)) (v.y0 + u / (v.x1 - v.x0))
+
+  all_even : sum_below (cells_of v + 1) (supply_at f v) ≡ pos 0
+  all_even =
+      let rest = sum_below-same (cells_of v) (supply_at f v) (cell_value f v) (supply_inside f v) in
+      omega (arith, ints, sum_below-more (cells_of v) (supply_at f v), rest, supply_outside f v)
+
+  all_sizes : sum_below (cells_of v + 1) (λ u. pos (unsigned_abs (supply_at f v u))) ≤ℤ pos (2 * cells_of v)
+  all_sizes =
+      let size = λ (u : ℕ). pos (unsigned_abs (supply_at f v u)) in
+      let rest = sum_below-same (cells_of v) size (λ u. pos (unsigned_abs (cell_value f v u))) (λ u l. ap (λ (z : ℤ). pos (unsigned_abs z)) (supply_inside f v u l)) in
+      let most = sizes_within (cells_of v) (cell_value f v) value_small in
+      let last = sum_within (cells_of v) (cell_value f v) value_small in
+      omega (arith, ints, sum_below-more (cells_of v) size, rest, most, last, supply_outside f v)
+
+  all_parts : sum_below (cells_of v + 1) (λ u. positive_part (supply_at f v u)) ≤ℤ pos (cells_of v)
+  all_parts =
+      let part = λ (u : ℕ). positive_part (supply_at f v u) in
+      let rest = sum_below-same (cells_of v) part (λ u. positive_part (cell_value f v u)) (λ u l. ap positive_part (supply_inside f v u l)) in
+      let most = parts_within (cells_of v) (cell_value f v) value_small in
+      let both = part_either (supply_at f v (cells_of v)) (sum_below (cells_of v) (λ u. positive_part (cell_value f v u))) (cells_of v) most.0 (omega (arith, ints, most.1, supply_outside f v)) in
+      omega (arith, ints, sum_below-more (cells_of v) part, rest, both)
+
+  module _ (zs : List ℤ) (are : AreSupplies f v zs) where
+    pub supplies_even : supply_sum zs ≡ pos 0
+    supplies_even =
+        ap (λ (n : ℕ). sum_below n (λ u. get_or zs u (pos 0))) are.count ∙ sum_below-same (cells_of v + 1) (λ u. get_or zs u (pos 0)) (supply_at f v) are.values ∙ all_even
+
+    pub supplies_sizes : supply_sizes zs ≤ℤ pos (2 * cells_of v)
+    supplies_sizes =
+        let size = λ (u : ℕ). pos (unsigned_abs (get_or zs u (pos 0))) in
+        let e : supply_sizes zs ≡ sum_below (cells_of v + 1) (λ u. pos (unsigned_abs (supply_at f v u))) = ap (λ (n : ℕ). sum_below n size) are.count ∙ sum_below-same (cells_of v + 1) size (λ u. pos (unsigned_abs (supply_at f v u))) (λ u l. ap (λ (z : ℤ). pos (unsigned_abs z)) (are.values u l)) in
+        rw e all_sizes
+
+  -- at the start the positive excesses are at most the cells
+  pub few_positive : (s : Shape) (g : State) → s.nodes ≡ cells_of v + 1 → IsAtStart f v s g → positive_excess s g ≤ℤ pos (cells_of v)
+  few_positive s g nodes start =
+      let part = λ (u : ℕ). positive_part (g.excess u) in
+      let e : positive_excess s g ≡ sum_below (cells_of v + 1) (λ u. positive_part (supply_at f v u)) = ap (λ (n : ℕ). sum_below n part) nodes ∙ sum_below-same (cells_of v + 1) part (λ u. positive_part (supply_at f v u)) (λ u l. ap positive_part (start.excess u (omega (arith, nodes, l)))) in
+      rw e all_parts
+
+-- a network of these supplies without arcs
+pub crossed_none : (scene : Scene) (unmasked : List Bool) (v : Window) (zs : List ℤ) (s : Shape) (g : State) → IsSmall v → IsNetwork s → AreSupplies (residue (raster_of scene)) v zs → s.nodes ≡ length zs → s.arcs ≡ 0 → ((u : ℕ) → u < length zs → g.excess u ≡ get_or zs u (pos 0)) → ((u : ℕ) → u < length zs → g.potential u ≡ pos 0) → IsCrossedTo scene unmasked v 0 s g
+crossed_none scene unmasked v zs s g little net are nodes arcs excess potential =
+    let f = residue (raster_of scene) in
+    let size = λ (u : ℕ). pos (unsigned_abs (g.excess u)) in
+    let residual = λ (a : ℕ). where_true (s.is_arc a) (pos (g.residual a)) in
+    let sizes : sum_below s.nodes size ≡ supply_sizes zs = ap (λ (n : ℕ). sum_below n size) nodes ∙ sum_below-same (length zs) size (λ u. pos (unsigned_abs (get_or zs u (pos 0)))) (λ u l. ap (λ (z : ℤ). pos (unsigned_abs z)) (excess u l)) in
+    let none : sum_below s.arcs residual ≡ pos 0 = ap (λ (n : ℕ). sum_below n residual) arcs ∙ sum_below-none residual in
+    record {
+      nodes = nodes ∙ are.count;
+      arcs = omega (arith, arcs);
+      are_arcs = λ a l. absurd (omega (arith, arcs, l));
+      crosses = λ e i l. absurd (omega (arith, l));
+      weighed = λ e i l. absurd (omega (arith, l));
+      cheap = λ a l. absurd (omega (arith, arcs, l));
+      start = record {
+        residual = λ a arc. (let l = net.below a arc in absurd (omega (arith, arcs, l)));
+        excess = λ u l. (let m : u < length zs = rw nodes at l in excess u m ∙ are.values u (rw are.count at m));
+        potential = λ u l. potential u (rw nodes at l);
+      };
+      amount = omega (arith, ints, sizes, none, supplies_sizes f v (λ x y. (residue_is_small (raster_of scene) x y).1) zs are, few_cells v little);
+    }
+
+-- the residues that gradients tell are the scene's
+pub scene_supplies : (s : Scene) (g : GradientsView) (zs : List ℤ) → AreGradientsOf s g → AreSupplies (residue_at g) g.window zs → AreSupplies (residue (raster_of s)) g.window zs
+scene_supplies s g zs h are = supplies_same (residue_at g) (residue (raster_of s)) g.window (residues_are s g h) zs are
+
+pub scene_even : (s : Scene) (g : GradientsView) (zs : List ℤ) → AreGradientsOf s g → AreSupplies (residue_at g) g.window zs → supply_sum zs ≡ pos 0
+scene_even s g zs h are = supplies_even (residue (raster_of s)) g.window (λ x y. (residue_is_small (raster_of s) x y).1) zs (scene_supplies s g zs h are)
+
+pub scene_sizes : (s : Scene) (g : GradientsView) (zs : List ℤ) → AreGradientsOf s g → AreSupplies (residue_at g) g.window zs → supply_sizes zs ≤ℤ pos (2 * cells_of g.window)
+scene_sizes s g zs h are = supplies_sizes (residue (raster_of s)) g.window (λ x y. (residue_is_small (raster_of s) x y).1) zs (scene_supplies s g zs h are)
+
+-- a tile's window is small
+pub tile_is_small : (g : Tiling) (tile : ℕ) (v : Window) → IsWindowOf g tile v → (v.x1 < v.x0 + g.side) × (v.y1 < v.y0 + g.side) → IsSmall v
+tile_is_small g tile v is small =
+    let a = is.across in
+    let b = is.along in
+    let sides = g.sides in
+    record { across = (a.0, omega (arith, small, sides)); along = (b.0, omega (arith, small, sides)) }
+
+-- once all edges have their arcs
+module _ (scene : Scene) (unmasked : List Bool) (v : Window) (s : Shape) (f : State) (net : IsNetwork s) (all : IsCrossedTo scene unmasked v (edges_of v) s f) where
+  pub crossed_shape : IsGridShape v s
+  crossed_shape = record { nodes = all.nodes; arcs = all.arcs; are_arcs = all.are_arcs; crosses = λ e i. all.crosses e i (number_below v e i) }
+
+  pub crossed_weighed : AreWeighed (raster_of scene) (open_in v unmasked) v s
+  crossed_weighed e i = all.weighed e i (number_below v e i)
+
+  pub crossed_conserved : IsConserved s (start_state (residue (raster_of scene)) v) f
+  crossed_conserved = conserved-still s (start_state (residue (raster_of scene)) v) f net all.start.residual all.start.excess
+
+  pub crossed_cheap : IsSmall v → HasSmallCosts s
+  crossed_cheap little = record { costs = λ a arc. all.cheap a (net.below a arc); few = omega (arith, all.nodes, few_cells v little) }
+
+  pub crossed_few : IsSmall v → positive_excess s f ≤ℤ pos 16129
+  crossed_few little =
+      let few = few_positive (residue (raster_of scene)) v (λ x y. (residue_is_small (raster_of scene) x y).1) s f all.nodes all.start in
+      omega (arith, ints, few, few_cells v little)

@@ -1,0 +1,23 @@
+use Rattle.std.proofs.Common.{◌+◌, ◌-◌, arith}
+use Rattle.flow_network.specs.Views.{shape_of, state_of}
+use Rattle.wrapped_gradient.specs.Windows.{width_of, height_of}
+use Rattle.dual_grid.proofs.CrossLemmas.{crossed_same, no_rows, row_ends, all_rows}
+use Rattle.dual_grid.proofs.crossing.cross_right_edges.Goals as goal
+
+pub loop-y-init : goal.loop-y-init
+loop-y-init c = crossed_same c.args.scene.now c.args.unmasked.now c.args.window 0 _ (shape_of c.args.net.now) (state_of c.args.net.now) (no_rows _ (width_of c.args.window - 1) (omega arith)) c.requires.before
+
+pub loop-x-init : goal.loop-x-init
+loop-x-init c = crossed_same c.args.scene.now c.args.unmasked.now c.args.window _ _ (shape_of c.loop-y.net) (state_of c.loop-y.net) (omega arith) c.loop-y.invariant
+
+pub loop-y-preserved : goal.loop-y-preserved
+loop-y-preserved c =
+    let v = c.args.window in
+    let a = c.requires.made.small in
+    crossed_same c.args.scene.now c.args.unmasked.now v _ _ (shape_of c.loop-x.net) (state_of c.loop-x.net) (row_ends (c.loop-y.y - v.y0) (c.loop-x.x - v.x0) (width_of v - 1) (c.loop-y.y + 1 - v.y0) (omega (arith, a.across)) (omega (arith, a.along))) c.loop-x.invariant
+
+pub returns : goal.returns
+returns c =
+    let v = c.args.window in
+    let a = c.requires.made.small in
+    crossed_same c.args.scene.now c.args.unmasked.now v _ _ (shape_of c.loop-y.net) (state_of c.loop-y.net) (all_rows (c.loop-y.y - v.y0) (width_of v - 1) (height_of v) (omega (arith, a.along))) c.loop-y.invariant

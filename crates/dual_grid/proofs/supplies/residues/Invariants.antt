@@ -1,0 +1,17 @@
+use Rattle.std.proofs.Common.{◌+◌, ◌-◌, ◌*◌, ◌≤◌, ℕ, get_or}
+use Rattle.std.specs.Prelude.{pos, unsigned_abs}
+use Rattle.wrapped_gradient.specs.Gradients.{residue_at}
+use Rattle.wrapped_gradient.specs.Rows.{AreInRows}
+use Rattle.dual_grid.proofs.supplies.residues.Given as goal
+
+abbrev pub invariant-loop-x : goal.invariant-loop-x
+invariant-loop-x l = record {
+  rows : AreInRows (residue_at l.gradients) l.gradients.window.x0 l.gradients.window.y0 (l.gradients.window.x1 - l.gradients.window.x0) ((l.y - l.gradients.window.y0) * (l.gradients.window.x1 - l.gradients.window.x0) + (l.x - l.gradients.window.x0)) l.list.items;
+  small : (k : ℕ) → unsigned_abs (get_or l.list.items k (pos 0)) ≤ 1;
+}
+
+abbrev pub invariant-loop-y : goal.invariant-loop-y
+invariant-loop-y l = record {
+  rows : AreInRows (residue_at l.gradients) l.gradients.window.x0 l.gradients.window.y0 (l.gradients.window.x1 - l.gradients.window.x0) ((l.y - l.gradients.window.y0) * (l.gradients.window.x1 - l.gradients.window.x0)) l.list.items;
+  small : (k : ℕ) → unsigned_abs (get_or l.list.items k (pos 0)) ≤ 1;
+}

@@ -1,0 +1,6 @@
+pub mod Nodes
+pub mod Starts
+pub mod Grids
+pub mod Views
+pub mod Answers
+pub mod Building

@@ -1,0 +1,47 @@
+-- How a grid starts: what flows, what each node has above what it wants, and which of its pixels are open.
+use Rattle.std.specs.Prelude.{◌≡◌, ℕ, ◌+◌, ◌-◌, ◌*◌, ◌/◌, ◌%◌, ◌<◌, ℤ, pos, negsuc, neg_ℤ, Bool, ◌==◌, if◌then◌else◌, nat_lt, List, slice_index_or}
+use Rattle.raster_model.specs.declared.tiling.Window.{Window}
+use Rattle.raster_model.specs.Sums.{Field}
+use Rattle.raster_model.specs.Tiles.{IsWithin}
+use Rattle.flow_network.specs.Nets.{Shape, State, IsArc}
+use Rattle.flow_network.specs.Sums.{sum_below}
+use Rattle.wrapped_gradient.specs.Windows.{width_of}
+use Rattle.dual_grid.specs.Nodes.{cells_of}
+
+-- the value at the cell of a number
+abbrev pub cell_value : Field ℤ → Window → ℕ → ℤ
+cell_value f v u = f (v.x0 + u % (v.x1 - v.x0)) (v.y0 + u / (v.x1 - v.x0))
+
+-- what a node has at the start, for the residues f: a cell its residue, and the outside minus the sum of all
+unfoldable pub supply_at : Field ℤ → Window → ℕ → ℤ
+supply_at f v u = if nat_lt u (cells_of v) then cell_value f v u else neg_ℤ (sum_below (cells_of v) (cell_value f v))
+
+-- an arc's residual at the start: 16130 on the arcs of even numbers, which is more than ever flows, and 0 on their twins
+abbrev pub start_residual : ℕ → ℕ
+start_residual a = if a % 2 == 0 then 16130 else 0
+
+abbrev pub start_state : Field ℤ → Window → State
+start_state f v = record { residual = start_residual; excess = supply_at f v; potential = λ u. pos 0 }
+
+-- the network is as at the start
+pub record IsAtStart (f : Field ℤ) (v : Window) (s : Shape) (g : State) : Type 0 where
+  pub residual : (a : ℕ) → IsArc s a → g.residual a ≡ start_residual a
+  pub excess : (u : ℕ) → u < s.nodes → g.excess u ≡ supply_at f v u
+  pub potential : (u : ℕ) → u < s.nodes → g.potential u ≡ pos 0
+
+-- the number, or 0 where it is below 0
+abbrev pub positive_part : ℤ → ℤ
+positive_part (pos n) = pos n
+positive_part (negsuc n) = pos 0
+
+-- the sum of the positive excesses
+abbrev pub positive_excess : Shape → State → ℤ
+positive_excess s g = sum_below s.nodes (λ u. positive_part (g.excess u))
+
+-- which pixels are open, where the list tells of each pixel of the window in row order
+abbrev pub open_in : Window → List Bool → Field Bool
+open_in v unmasked x y = slice_index_or unmasked ((y - v.y0) * width_of v + (x - v.x0)) Bool.false
+
+-- the list tells what the mask has at the window's pixels
+abbrev pub TellsMask : Window → List Bool → Field Bool → Type 0
+TellsMask v unmasked mask = (x y : ℕ) → IsWithin v x y → open_in v unmasked x y ≡ mask x y

@@ -1,0 +1,13 @@
+-- What makes a tile's network sure to be emptied. A helper's word, which no clause of a public function cites.
+use Rattle.std.specs.Prelude.{◌≡◌, ℕ, ◌<◌, pos, ◌≤ℤ◌}
+use Rattle.flow_network.specs.Nets.{Shape, State, IsArc}
+use Rattle.dual_grid.specs.Grids.{HasSmallCosts, IsJoined}
+use Rattle.dual_grid.specs.Starts.{positive_excess, start_residual}
+
+-- nothing has flowed, costs are small, at most 16129 units are to flow, and an arc that holds more leads out of any set of nodes
+pub record IsFresh (s : Shape) (f : State) : Type 0 where
+  pub residual : (a : ℕ) → IsArc s a → f.residual a ≡ start_residual a
+  pub flat : (u : ℕ) → u < s.nodes → f.potential u ≡ pos 0
+  pub small : HasSmallCosts s
+  pub few : positive_excess s f ≤ℤ pos 16129
+  pub joined : IsJoined s

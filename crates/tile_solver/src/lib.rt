@@ -1,0 +1,8 @@
+//! One tile solved: least corrections by network flow, cycles that depart by them, and the faces that certify both.
+#![tactic(auto)]
+
+mod solving;
+#[cfg(test)]
+mod tests;
+
+pub use crate::solving::solve_tile;

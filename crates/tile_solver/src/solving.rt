@@ -1,0 +1,81 @@
+ghost use Rattle.certificates.specs.Results.{IsGoodTile, pixels_in};
+ghost use Rattle.dual_grid.specs.Answers.{IsAnswer, IsBalanced, IsNearStart};
+ghost use Rattle.dual_grid.specs.Starts.{TellsMask};
+ghost use Rattle.dual_grid.specs.Views.{HaveOneOrigin, shape_of, state_of};
+ghost use Rattle.raster_model.specs.Scene.{raster_of};
+ghost use Rattle.raster_model.specs.Sums.{Field};
+ghost use Rattle.raster_model.specs.Tiles.{tiles_of, window_of};
+ghost use Rattle.std.specs.Prelude.{◌≡◌, ◌<◌, Bool, IfOk, OnOk, length};
+ghost use Rattle.tile_solver.specs.Fresh.{IsFresh};
+ghost use Rattle.wrapped_gradient.specs.Gradients.{AreGradientsOf};
+
+use certificates::TileResult;
+use dual_grid::DualGrid;
+use raster_model::Scene;
+use shortest_augment::{BalanceFault, balance};
+use std::alloc::{AllocError, Global};
+use surface_integration::integrate;
+use wrapped_gradient::{Corrections, Gradients};
+
+/// Solves one tile of a scene under the mask that `unmasked` tells: whether each pixel of the tile's window is open, in
+/// row order. The result has the cycles of a congruent surface whose weighted departures cost least in the tile, 0 at the
+/// window's first pixel, and the faces that prove it. It is refused for want of memory alone. (Costantini 1998.)
+pub fn solve_tile(
+    alloc: Global,
+    scene: &Scene,
+    tile: u32,
+    stamp: u32,
+    unmasked: &[bool],
+) -> Result<TileResult, AllocError>
+    requires tile { tile < tiles_of scene.now.tiling }
+    requires count { length unmasked.now ≡ pixels_in (window_of scene.now.tiling tile) }
+    ensures named { IfOk result (λ solved. (solved.tile ≡ tile) × (solved.stamp ≡ stamp)) }
+
+    // Under any mask that is so over the tile's window.
+    ensures good { IfOk result (λ solved. (mask : Field Bool) → TellsMask (window_of scene.now.tiling tile) unmasked.now mask → IsGoodTile scene.now mask solved) }
+{
+    let window = scene.tiling.window(tile);
+    let gradients = Gradients::of(alloc, scene, window)?;
+    let (corrections, faces) = least_corrections(alloc, scene, &gradients, tile, unmasked)?;
+    let cycles = integrate(alloc, scene, &gradients, &corrections)?;
+    Ok(TileResult {
+        tile,
+        stamp,
+        cycles,
+        faces,
+    })
+}
+
+/// The corrections of a tile that cancel its residues at least cost, and the faces that certify them.
+fn least_corrections(
+    alloc: Global,
+    scene: &Scene,
+    gradients: &Gradients,
+    tile: u32,
+    unmasked: &[bool],
+) -> Result<(Corrections, Vec<i64>), AllocError>
+    requires tile { tile < tiles_of scene.now.tiling }
+    requires gradients { AreGradientsOf scene.now gradients.now }
+    requires window { gradients.now.window ≡ window_of scene.now.tiling tile }
+    requires count { length unmasked.now ≡ pixels_in gradients.now.window }
+    ensures { IfOk result (λ made. (mask : Field Bool) → TellsMask (window_of scene.now.tiling tile) unmasked.now mask → IsAnswer (raster_of scene.now) mask tile (window_of scene.now.tiling tile) made.0 made.1.items) }
+{
+    let mut grid = DualGrid::of(alloc, scene, gradients, tile, unmasked)?;
+    empty(alloc, &mut grid)?;
+    grid.answer(alloc)
+}
+
+/// Empties every excess of a grid. No nodes block: from any of them an arc leads out whose capacity is more than all that
+/// flows.
+fn empty(alloc: Global, grid: &mut DualGrid) -> Result<(), AllocError>
+    requires { IsFresh (shape_of grid.old) (state_of grid.old) }
+    ensures origin { HaveOneOrigin grid.old grid.new }
+    ensures balanced { OnOk result (IsBalanced (shape_of grid.new) (state_of grid.new)) }
+    ensures near { IsNearStart (shape_of grid.new) (state_of grid.new) }
+{
+    match balance(alloc, grid) {
+        Ok(()) => Ok(()),
+        Err(BalanceFault::Memory) => Err(AllocError),
+        Err(BalanceFault::Blocked(_)) => unreachable!(),
+    }
+}

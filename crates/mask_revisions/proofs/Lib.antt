@@ -1,0 +1,6 @@
+pub mod Boxes
+pub mod Differences
+pub mod MetTiles
+pub mod Histories
+pub mod WindowLists
+pub mod CallerLemmas

@@ -1,0 +1,145 @@
+-- The tiles that a box meets, by rows.
+use Rattle.std.proofs.Common.{◌≡◌, ◌≢◌, ℕ, ◌+◌, ◌-◌, ◌*◌, ◌/◌, ◌%◌, ◌<◌, ◌≤◌, ◌⊎◌, inl, inr, ◌∙◌, ap, ap₂, refl, arith, Bool, false, List, [], ◌∷◌, ◌++◌, length}
+use Rattle.std.specs.Prelude.{IsTrue, slice_index}
+use Rattle.std.proofs.lemmas.Bool.{cases_eq}
+use Rattle.std.proofs.lemmas.Nat.{mul-le, mul-add-lt, le-div, div_below, div-add-mod', mod_below, div-mul-add, mod-mul-add}
+use Rattle.std.proofs.lemmas.List.{get_or_append_left, get_or_push, length_push}
+use Rattle.raster_model.specs.declared.script.Edit.{Edit}
+use Rattle.raster_model.specs.declared.script.Rect.{Rect}
+use Rattle.raster_model.specs.declared.tiling.Tiling.{Tiling}
+use Rattle.raster_model.specs.Scripts.{IsRectIn, rect_of}
+use Rattle.raster_model.specs.Sums.{Field}
+use Rattle.raster_model.specs.Tiles.{columns_of, tile_at}
+use Rattle.raster_model.proofs.TileLemmas.{block_below, tiles_are_numbered}
+use Rattle.mask_revisions.specs.Edits.{differ_in, edited, has_pixel, opens}
+use Rattle.mask_revisions.specs.Revisions.{AreChanged}
+use Rattle.mask_revisions.specs.Steps.{met_across, tiles_met, met_tile, AreListed}
+use Rattle.mask_revisions.proofs.Differences.{box_says, chosen, differ_tells}
+
+-- ---- quotients
+div_le : (a b d : ℕ) → 0 < d → a ≤ b → a / d ≤ b / d
+div_le a b d p l = le-div (a / d) b d p (omega (arith, div-add-mod' a d))
+
+div_start : (q a d : ℕ) → q ≤ a / d → q * d ≤ a
+div_start q a d l = omega (arith, div-add-mod' a d, mul-le q d (a / d) d l (omega arith))
+
+div_whole : (q d : ℕ) → 0 < d → q * d / d ≡ q
+div_whole q d p = let e : q * d ≡ q * d + 0 = omega arith in rw e (div-mul-add q d 0 p)
+
+-- a place and the next: the same row and a later column, or a later row
+next_place : (i j n : ℕ) → 0 < n → i < j → (i / n < j / n) ⊎ ((i / n ≡ j / n) × (i % n < j % n))
+next_place i j n p l = elim (cases_eq (i / n) (j / n)) [
+  | inl e ↦ inr (e, (let f : i / n * n ≡ j / n * n = ap (λ (k : ℕ). k * n) e in omega (arith, f, div-add-mod' i n, div-add-mod' j n)))
+  | inr e ↦ inl (omega (arith, e, div_le i j n p (omega arith)))
+]
+
+later_row : (a b u v c : ℕ) → a < b → u < c → a * c + u < b * c + v
+later_row a b u v c l m = omega (arith, mul-le (a + 1) c b c (omega arith) (omega arith))
+
+module _ (g : Tiling) (r : Rect) (is : IsRectIn g.width g.height r) where
+  side : 0 < g.side
+  side = omega (arith, g.sides)
+
+  across : 0 < met_across g r
+  across = omega arith
+
+  met_column : (k : ℕ) → r.x0 / g.side + k % met_across g r ≤ r.x1 / g.side
+  met_column k = omega (arith, mod_below k (met_across g r) across, div_le r.x0 r.x1 g.side side is.0)
+
+  met_row : (k : ℕ) → k < tiles_met g r → r.y0 / g.side + k / met_across g r ≤ r.y1 / g.side
+  met_row k l = omega (arith, div_below k (met_across g r) (r.y1 / g.side - r.y0 / g.side + 1) across l, div_le r.y0 r.y1 g.side side is.2)
+
+  pub met_top : (k : ℕ) → k < tiles_met g r → (r.y0 / g.side + k / met_across g r) * g.side < g.height
+  met_top k l = omega (arith, div_start (r.y0 / g.side + k / met_across g r) r.y1 g.side (met_row k l), is.3)
+
+  -- the tile of the first pixel of that column and row
+  pub met_is : (k : ℕ) → tile_at g ((r.x0 / g.side + k % met_across g r) * g.side) ((r.y0 / g.side + k / met_across g r) * g.side) ≡ met_tile g r k
+  met_is k = rw (div_whole (r.x0 / g.side + k % met_across g r) g.side side, div_whole (r.y0 / g.side + k / met_across g r) g.side side) refl
+
+  met_rises : (j k : ℕ) → j < k → met_tile g r j < met_tile g r k
+  met_rises j k l = elim (next_place j k (met_across g r) across l) [
+    | inl h ↦ later_row (r.y0 / g.side + j / met_across g r) (r.y0 / g.side + k / met_across g r) (r.x0 / g.side + j % met_across g r) (r.x0 / g.side + k % met_across g r) (columns_of g) (omega arith) (omega (arith, met_column j, block_below r.x1 g.width g.side side is.1))
+    | inr h ↦ (let e : (r.y0 / g.side + j / met_across g r) * columns_of g ≡ (r.y0 / g.side + k / met_across g r) * columns_of g = ap (λ (n : ℕ). (r.y0 / g.side + n) * columns_of g) h.0 in omega (arith, e, h.1))
+  ]
+
+  -- each pixel of the box lies in one of them
+  met_at : (x y : ℕ) → r.x0 ≤ x → x ≤ r.x1 → r.y0 ≤ y → y ≤ r.y1 → (k : ℕ) × (k < tiles_met g r) × (met_tile g r k ≡ tile_at g x y)
+  met_at x y p q s u =
+      let n = met_across g r in
+      let a = y / g.side - r.y0 / g.side in
+      let b = x / g.side - r.x0 / g.side in
+      let lx = div_le r.x0 x g.side side p in
+      let hx = div_le x r.x1 g.side side q in
+      let ly = div_le r.y0 y g.side side s in
+      let hy = div_le y r.y1 g.side side u in
+      let m : b < n = omega (arith, hx, lx) in
+      let l : a * n + b < n * (r.y1 / g.side - r.y0 / g.side + 1) = mul-add-lt a n b (r.y1 / g.side - r.y0 / g.side + 1) (omega (arith, hy, ly)) m in
+      let row : r.y0 / g.side + (a * n + b) / n ≡ y / g.side = omega (arith, div-mul-add a n b m, ly) in
+      let column : r.x0 / g.side + (a * n + b) % n ≡ x / g.side = omega (arith, mod-mul-add a n b m, lx) in
+      (a * n + b, omega (arith, l), ap₂ (λ (i j : ℕ). i * columns_of g + j) row column)
+
+  -- ---- a list of those that pass a test
+  module _ (p : ℕ → Bool) where
+    last_or : (i n : ℕ) → i < n + 1 → (i < n) ⊎ (i ≡ n)
+    last_or i n l = grind arith
+
+    pub listed_without : (k : ℕ) (ts : List ℕ) → AreListed g r p k ts → p (met_tile g r k) ≡ false → AreListed g r p (k + 1) ts
+    listed_without k ts is f = record {
+      rising = is.rising;
+      each = λ i l. (let u = is.each i l in (u.0, omega (arith, u.1), u.2, u.3));
+      all = λ j l t. elim (last_or j k l) [
+        | inl m ↦ is.all j m t
+        | inr e ↦ absurd (let t' : IsTrue (p (met_tile g r k)) = rw e at t in clash (p (met_tile g r k)) t' f)
+      ];
+    }
+      where
+        clash : (b : Bool) → IsTrue b → b ≡ false → ⊥
+        clash b t f = cc
+
+    pub listed_with : (k : ℕ) (ts : List ℕ) → AreListed g r p k ts → IsTrue (p (met_tile g r k)) → AreListed g r p (k + 1) (ts ++ (met_tile g r k ∷ []))
+    listed_with k ts is t = record {
+      rising = λ i j l m. elim (last_or j (length ts) (omega (arith, m, count))) [
+        | inl h ↦ rw (old i (omega arith), old j h) (is.rising i j l h)
+        | inr h ↦ (let u = is.each i (omega arith) in rw (old i (omega arith), h, new, u.2) (met_rises u.0 k u.1))
+      ];
+      each = λ i m. elim (last_or i (length ts) (omega (arith, m, count))) [
+        | inl h ↦ (let u = is.each i h in (u.0, omega (arith, u.1), old i h ∙ u.2, u.3))
+        | inr h ↦ (k, omega arith, rw h new, t)
+      ];
+      all = λ j l s. elim (last_or j k l) [
+        | inl h ↦ (let u = is.all j h s in (u.0, omega (arith, u.1, count), old u.0 u.1 ∙ u.2))
+        | inr h ↦ (length ts, omega (arith, count), rw h new)
+      ];
+    }
+      where
+        count : length (ts ++ (met_tile g r k ∷ [])) ≡ length ts + 1
+        count = length_push ts (met_tile g r k)
+
+        old : (i : ℕ) → i < length ts → slice_index (ts ++ (met_tile g r k ∷ [])) i ≡ slice_index ts i
+        old i l = get_or_append_left ts (met_tile g r k ∷ []) 0 i l
+
+        new : slice_index (ts ++ (met_tile g r k ∷ [])) (length ts) ≡ met_tile g r k
+        new = get_or_push ts (met_tile g r k) 0 (length ts) refl
+
+  -- ---- the tiles in which an edit changes a pixel
+  module _ (mask : Field Bool) (e : Edit) (same : r ≡ rect_of e) where
+    pub listed_all : (ts : List ℕ) → AreListed g r (differ_in g mask (edited e mask)) (tiles_met g r) ts → AreChanged g mask (edited e mask) ts
+    listed_all ts l = record {
+      rising = l.rising;
+      exist = λ i m. (
+          let u = l.each i m in
+          let d = differ_tells g mask (edited e mask) (met_tile g r u.0) u.3 in
+          let n = tiles_are_numbered g d.0 d.1 d.2 d.3 in
+          omega (arith, n, d.4, u.2));
+      changed = λ i m. (let u = l.each i m in rw u.2 u.3);
+      all = λ t m h. (
+          let d = differ_tells g mask (edited e mask) t h in
+          let k = in_rect d.0 d.1 d.5 in
+          let u = met_at d.0 d.1 k.0 k.1 k.2 k.3 in
+          let s : met_tile g r u.0 ≡ t = u.2 ∙ d.4 in
+          let a = l.all u.0 u.1 (rw s h) in
+          (a.0, a.1, a.2 ∙ s));
+    }
+      where
+        in_rect : (x y : ℕ) → mask x y ≢ edited e mask x y → (r.x0 ≤ x) × (x ≤ r.x1) × (r.y0 ≤ y) × (y ≤ r.y1)
+        in_rect x y n = rw same (box_says (rect_of e) x y (chosen (has_pixel (rect_of e) x y) (opens e) (mask x y) n).0)

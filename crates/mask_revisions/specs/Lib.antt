@@ -1,0 +1,5 @@
+pub mod Edits
+pub mod RevisionsView
+pub mod Revisions
+pub mod Steps
+pub mod Stamps

@@ -1,0 +1,12 @@
+//! The mask of a raster through a list of edits: the mask at the newest revision, and for each tile the revision
+//! at which it changed last.
+#![tactic(auto)]
+
+mod changes;
+mod edits;
+pub mod laws;
+mod revisions;
+#[cfg(test)]
+mod tests;
+
+pub use crate::revisions::Revisions;

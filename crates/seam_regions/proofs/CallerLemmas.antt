@@ -1,0 +1,57 @@
+-- For callers: a scene's raster has its tiling's tiles, and numbers by region are one number on each region.
+use Rattle.std.proofs.Common.{◌≡◌, ℕ, ◌+◌, ◌<◌, ◌∙◌, sym, ap, subst, refl, Bool, inl, inr}
+use Rattle.std.specs.Prelude.{ℤ, IsTrue, not, Some}
+use Rattle.raster_model.specs.declared.edge.Edge.{Edge}
+use Rattle.raster_model.specs.declared.scene.Scene.{Scene}
+use Rattle.raster_model.specs.declared.tiling.Tiling.{Tiling}
+use Rattle.raster_model.specs.MaskView.{MaskView}
+use Rattle.raster_model.specs.Masks.{open_at}
+use Rattle.raster_model.specs.Scene.{raster_of}
+use Rattle.raster_model.specs.Raster.{Raster, is_seam, has_open_ends}
+use Rattle.raster_model.specs.Seams.{AreOffsets, AreRegions, IsLabelling, is_open_inner}
+use Rattle.raster_model.specs.Seams.AreJoined.{here, rightward, downward}
+use Rattle.raster_model.specs.Sums.{Field, at_start, at_end, is_edge, right_edge, down_edge}
+use Rattle.seam_regions.specs.Regions.{label_at, region_at, IsTiledBy, AreRegionsOf}
+use Rattle.seam_regions.specs.RegionsView.{RegionsView}
+use Rattle.seam_regions.proofs.FloodLemmas.{tests_say, truth}
+use Rattle.seam_regions.proofs.NumberLemmas.{open_ends}
+use Rattle.seam_regions.proofs.TileTests.{down_is, right_is}
+
+pub scene_is_tiled : (s : Scene) → IsTiledBy (raster_of s) s.tiling
+scene_is_tiled s = record { width = sym s.same_width.1; height = sym s.same_height.1; tile = refl }
+
+pub regions_of_scene : (s : Scene) (m : MaskView) (v : RegionsView) → AreRegionsOf s.tiling m v → AreRegions (raster_of s) (open_at m) (label_at v) v.count
+regions_of_scene s m v is = is.regions (raster_of s) (scene_is_tiled s)
+
+-- an open pixel has a region, whose number is its label
+pub region_open : (g : Tiling) (m : MaskView) (v : RegionsView) (x y : ℕ) → AreRegionsOf g m v → x < g.width → y < g.height → IsTrue (open_at m x y) → region_at v x y ≡ Some (label_at v x y)
+region_open g m v x y is l h o = is.told x y l h ∙ rw o refl
+
+-- the ends of an inner edge with open ends have one label
+module _ (r : Raster) (mask : Field Bool) (labels : Field ℕ) (count : ℕ) (is : IsLabelling r mask labels count) where
+  right_ends : (x y : ℕ) → IsTrue (is_open_inner r mask (right_edge x y)) → labels x y ≡ labels (x + 1) y
+  right_ends x y i =
+      let e = right_edge x y in
+      let t = tests_say x y (x + 1) y r.width r.height (has_open_ends mask e) (not (is_seam r e)) i in
+      let o = open_ends (is_edge r.width r.height e) (mask x y) (mask (x + 1) y) (not (is_seam r e)) i in
+      (is.same x y (x + 1) y (t.0, t.1, o.0) (t.2, t.3, o.1)).1 (rightward here i)
+
+  down_ends : (x y : ℕ) → IsTrue (is_open_inner r mask (down_edge x y)) → labels x y ≡ labels x (y + 1)
+  down_ends x y i =
+      let e = down_edge x y in
+      let t = tests_say x y x (y + 1) r.width r.height (has_open_ends mask e) (not (is_seam r e)) i in
+      let o = open_ends (is_edge r.width r.height e) (mask x y) (mask x (y + 1)) (not (is_seam r e)) i in
+      (is.same x y x (y + 1) (t.0, t.1, o.0) (t.2, t.3, o.1)).1 (downward here i)
+
+  pub one_label_at_ends : (e : Edge) → IsTrue (is_open_inner r mask e) → at_start labels e ≡ at_end labels e
+  one_label_at_ends e i =
+      let P : Edge → Type 0 = λ f. at_start labels f ≡ at_end labels f in
+      let Q : Edge → Type 0 = λ f. IsTrue (is_open_inner r mask f) in
+      elim (truth e.down) [
+        | inl h ↦ (let s = down_is e h in subst P (sym s) (down_ends e.x e.y (subst Q s i)))
+        | inr h ↦ (let s = right_is e h in subst P (sym s) (right_ends e.x e.y (subst Q s i)))
+      ]
+
+  -- so a number for each label is one number on each region
+  pub offsets_by_label : (offset : ℕ → ℤ) → AreOffsets r mask (λ x y. offset (labels x y))
+  offsets_by_label offset e i = ap offset (one_label_at_ends e i)

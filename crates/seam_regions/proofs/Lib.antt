@@ -1,0 +1,7 @@
+pub mod ForestLemmas
+pub mod TileTests
+pub mod FloodLemmas
+pub mod NumberLemmas
+pub mod Sparse
+pub mod RegionLemmas
+pub mod CallerLemmas

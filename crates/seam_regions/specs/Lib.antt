@@ -1,0 +1,4 @@
+pub mod RegionsView
+pub mod Regions
+pub mod Forest
+pub mod Flood

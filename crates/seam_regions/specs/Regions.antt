@@ -1,0 +1,36 @@
+-- The numbered regions of a tiled raster under a mask (Chen and Zebker 2002, tiles that do not overlap).
+use Rattle.std.specs.Prelude.{◌≡◌, ℕ, ◌+◌, ◌*◌, ◌<◌, ◌≤◌, ◌==◌, Option, Some, None, if◌then◌else◌, slice_index}
+use Rattle.raster_model.specs.declared.tiling.Tiling.{Tiling}
+use Rattle.raster_model.specs.MaskView.{MaskView}
+use Rattle.raster_model.specs.Masks.{open_at}
+use Rattle.raster_model.specs.Raster.{Raster}
+use Rattle.raster_model.specs.Seams.{AreRegions}
+use Rattle.raster_model.specs.Sums.{Field}
+use Rattle.raster_model.specs.Tiles.{tile_at}
+use Rattle.seam_regions.specs.RegionsView.{RegionsView}
+
+-- the label of a pixel
+abbrev pub label_at : RegionsView → Field ℕ
+label_at v x y = slice_index v.labels (y * v.width + x)
+
+-- the number of its region; there is none where the label is 2 ^ 32 - 1
+abbrev pub region_at : RegionsView → Field (Option ℕ)
+region_at v x y = if label_at v x y == 4294967295 then None else Some (label_at v x y)
+
+-- the raster has the tiling's size and tiles
+pub record IsTiledBy (r : Raster) (g : Tiling) : Type 0 where
+  pub width : r.width ≡ g.width
+  pub height : r.height ≡ g.height
+  pub tile : r.tile ≡ tile_at g
+
+-- there can be no more regions: 3 * 2 ^ 20
+abbrev pub most_regions : ℕ
+most_regions = 3145728
+
+-- the labels are the numbers of the regions under the mask, in each raster with those tiles, and masked pixels have no region
+pub record AreRegionsOf (g : Tiling) (mask : MaskView) (v : RegionsView) : Type 0 where
+  pub width : v.width ≡ g.width
+  pub height : v.height ≡ g.height
+  pub regions : (r : Raster) → IsTiledBy r g → AreRegions r (open_at mask) (label_at v) v.count
+  pub told : (x y : ℕ) → x < g.width → y < g.height → region_at v x y ≡ (if open_at mask x y then Some (label_at v x y) else None)
+  pub few : v.count ≤ most_regions

@@ -1,0 +1,30 @@
+ghost use Rattle.seam_regions.specs.Forest.{IsForest, root_with};
+ghost use Rattle.std.specs.Prelude.{◌≡◌, ℕ, ◌<◌, ◌≤◌, length};
+
+/// The root of the tree that has `place`. Each number that is met on the way gets its parent's parent, so that
+/// later ways are shorter.
+fn root_of(parents: &mut [u32], place: u32) -> u32
+    requires within { place < length parents.old }
+    requires forest { (root : ℕ → ℕ) × IsForest parents.old root }
+    ensures least { result ≤ place }
+    ensures root { (root : ℕ → ℕ) → IsForest parents.old root → IsForest parents.new root × (result ≡ root place) × (root result ≡ result) }
+{
+    let mut here = place;
+    while parents[here as usize] != here {
+        let above = parents[parents[here as usize] as usize];
+        parents[here as usize] = above;
+        here = above;
+    }
+    here
+}
+
+/// Makes one tree of the trees that have two numbers. The lesser root is its root.
+pub fn join(parents: &mut [u32], first: u32, second: u32)
+    requires within { (first < length parents.old) × (second < length parents.old) }
+    requires forest { (root : ℕ → ℕ) × IsForest parents.old root }
+    ensures { (root : ℕ → ℕ) → IsForest parents.old root → IsForest parents.new (root_with root first second) }
+{
+    let one = root_of(parents, first);
+    let other = root_of(parents, second);
+    parents[one.max(other) as usize] = one.min(other);
+}

@@ -1,0 +1,12 @@
+//! The regions of a tiled raster under a mask: open pixels of one tile that a walk through open pixels of that
+//! tile joins. A forest with a parent for each pixel finds them.
+#![tactic(auto)]
+
+mod flood;
+mod forest;
+mod numbers;
+mod regions;
+#[cfg(test)]
+mod tests;
+
+pub use crate::regions::Regions;

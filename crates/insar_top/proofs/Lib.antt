@@ -1,5 +1,6 @@
-pub mod WriteLemmas
-pub mod GridLemmas
 pub mod SurfaceLemmas
+pub mod GridLemmas
+pub mod WriteLemmas
+pub mod WordLemmas
 pub mod InputLemmas
 pub mod TopLemmas

@@ -1,62 +1,69 @@
--- What is read and what is written for it.
-use Rattle.std.specs.Prelude.{◌≡◌, ◌≢◌, ℕ, ◌+◌, ◌*◌, ◌/◌, ◌<◌, ◌≤◌, ℤ, pos, List, length, slice_index}
-use Rattle.raster_model.specs.Best.{HasNoDepartures, IsBest}
-use Rattle.raster_model.specs.Masks.{all_open}
-use Rattle.raster_model.specs.Raster.{Raster, residue}
-use Rattle.raster_model.specs.Seams.{IsAnchored, IsEarlier}
-use Rattle.raster_model.specs.Sums.{Field}
-use Rattle.pgm_planes.specs.declared.fault.Role.TheVariants.{Phase}
-use Rattle.pgm_planes.specs.Planes.{PlaneOf, IsRawPlane}
-use Rattle.insar_top.specs.Grid.{grid_text}
+-- What is read: the planes of phase, weight and mask, one after the other.
+use Rattle.std.specs.Prelude.{◌≡◌, ◌⊎◌, ℕ, ◌+◌, ◌-◌, ◌*◌, ◌/◌, ◌≤◌, ◌==◌, not, Bool, List, [], length, replicate, slice_index}
+use Rattle.raster_model.specs.declared.weights.RuleKind.{RuleKind}
+use Rattle.raster_model.specs.Raster.{Raster}
+use Rattle.raster_model.specs.Sums.{Field, at_start, at_end}
+use Rattle.raster_model.specs.Weights.{rule_number}
+use Rattle.pgm_planes.specs.declared.fault.Role.{Role}
+use Rattle.pgm_planes.specs.declared.fault.Role.TheVariants.{Phase, Weight, Mask}
+use Rattle.pgm_planes.specs.Planes.{PlaneOf, IsPlaneIn}
 
--- the bytes are one raw phase plane and nothing else, at most 268,435,456 in all
-pub record IsPlaneAlone (bytes : List ℕ) (p : PlaneOf) : Type 0 where
-  pub plane : IsRawPlane Phase bytes p
+pub record InputOf : Type 0 where
+  pub phase : PlaneOf
+  pub weights : PlaneOf
+  pub mask : PlaneOf
+
+-- a plane of another's size whose samples are all 1: the weights, and the mask, where the input has none
+abbrev pub ones_of : PlaneOf → PlaneOf
+ones_of p = record { width = p.width; height = p.height; maxval = 1; samples = replicate (p.width * p.height) 1 }
+
+abbrev pub HasSizeOf : PlaneOf → PlaneOf → Type 0
+HasSizeOf p q = (q.width ≡ p.width) × (q.height ≡ p.height)
+
+-- no side is above 128 pixels: the raster is one tile, and larger ones wait for tiles that are joined
+abbrev pub IsOneTile : PlaneOf → Type 0
+IsOneTile p = (p.width ≤ 128) × (p.height ≤ 128)
+
+-- the bytes go on with a plane of the phase plane's size, and then `rest` stands; or they have ended, and the plane is that of ones
+abbrev pub IsLaterPlane : Role → PlaneOf → List ℕ → PlaneOf → List ℕ → Type 0
+IsLaterPlane role phase bytes p rest = (IsPlaneIn role bytes p rest × HasSizeOf phase p) ⊎ ((bytes ≡ []) × (p ≡ ones_of phase) × (rest ≡ []))
+
+-- the bytes begin with a phase plane of one tile, and then `rest` stands
+pub record BehindPhase (bytes : List ℕ) (phase : PlaneOf) (rest : List ℕ) : Type 0 where
+  pub plane : IsPlaneIn Phase bytes phase rest
+  pub one_tile : IsOneTile phase
+
+-- .. and go on with the weights, if any
+pub record BehindWeights (bytes : List ℕ) (phase weights : PlaneOf) (rest : List ℕ) : Type 0 where
+  pub between : List ℕ
+  pub first : BehindPhase bytes phase between
+  pub next : IsLaterPlane Weight phase between weights rest
+
+-- .. and with the mask, if any
+pub record BehindMask (bytes : List ℕ) (input : InputOf) (rest : List ℕ) : Type 0 where
+  pub between : List ℕ
+  pub first : BehindWeights bytes input.phase input.weights between
+  pub next : IsLaterPlane Mask input.phase between input.mask rest
+
+-- the bytes are the planes of an input and nothing else, at most 268,435,456 in all
+pub record IsInput (bytes : List ℕ) (input : InputOf) : Type 0 where
+  pub planes : BehindMask bytes input []
   pub short : length bytes ≤ 268435456
 
--- the raster of a phase plane: each edge has the weight 1, and tiles have the side 128
-abbrev pub tiles_along : ℕ → ℕ
-tiles_along pixels = (pixels + 127) / 128
-
-abbrev pub raster_of_plane : PlaneOf → Raster
-raster_of_plane p = record { width = p.width; height = p.height; phase = λ x y. slice_index p.samples (y * p.width + x); weight = λ _. 1; tile = λ x y. y / 128 * tiles_along p.width + x / 128; tile_count = tiles_along p.height * tiles_along p.width }
-
--- a cell of a raster, by its upper left corner
-abbrev pub IsCell : Raster → ℕ → ℕ → Type 0
-IsCell r x y = (x + 1 < r.width) × (y + 1 < r.height)
-
--- no cell has a residue other than 0
-abbrev pub HasNoResidues : Raster → Type 0
-HasNoResidues r = (x y : ℕ) → IsCell r x y → residue r x y ≡ pos 0
-
--- (x, y) is the first cell in row order that has one
-pub record IsFirstResidue (r : Raster) (x y : ℕ) : Type 0 where
-  pub cell : IsCell r x y
-  pub charged : residue r x y ≢ pos 0
-  pub first : (a b : ℕ) → IsCell r a b → IsEarlier a b x y → residue r a b ≡ pos 0
-
--- the bytes are an input: a phase plane alone, without residues
-pub record IsInput (bytes : List ℕ) (p : PlaneOf) : Type 0 where
-  pub alone : IsPlaneAlone bytes p
-  pub flat : HasNoResidues (raster_of_plane p)
-
--- a surface over a plane: the best one where every pixel is open, anchored, and with no departure
-pub record IsUnwrapped (p : PlaneOf) (values : Field ℤ) : Type 0 where
-  pub best : IsBest (raster_of_plane p) all_open values
-  pub anchored : IsAnchored (raster_of_plane p) all_open values
-  pub flat : HasNoDepartures (raster_of_plane p) all_open values
-
--- the text is the grid of the surface of the plane that the bytes spell
-pub record IsAnswer (bytes text : List ℕ) : Type 0 where
-  pub plane : PlaneOf
-  pub values : Field ℤ
-  pub input : IsInput bytes plane
-  pub unwrapped : IsUnwrapped plane values
-  pub written : text ≡ grid_text plane.width plane.height values
-
--- the bytes are no plane alone; they are no input
-abbrev pub IsNoPlane : List ℕ → Type 0
-IsNoPlane bytes = (p : PlaneOf) → IsPlaneAlone bytes p → ⊥
-
 abbrev pub IsNoInput : List ℕ → Type 0
-IsNoInput bytes = (p : PlaneOf) → IsInput bytes p → ⊥
+IsNoInput bytes = (input : InputOf) → IsInput bytes input → ⊥
+
+-- the sample of a pixel
+abbrev pub sample_in : PlaneOf → Field ℕ
+sample_in p x y = slice_index p.samples (y * p.width + x)
+
+-- the raster of an input by a rule of weights; tiles have the side 128
+abbrev pub tiles_along : ℕ → ℕ
+tiles_along pixels = (pixels + 128 - 1) / 128
+
+abbrev pub raster_of_input : RuleKind → InputOf → Raster
+raster_of_input rule i = record { width = i.phase.width; height = i.phase.height; phase = sample_in i.phase; weight = λ e. rule_number rule i.weights.maxval (at_start (sample_in i.weights) e) (at_end (sample_in i.weights) e); tile = λ x y. y / 128 * tiles_along i.phase.width + x / 128; tile_count = tiles_along i.phase.height * tiles_along i.phase.width }
+
+-- a pixel is open where the mask's sample is not 0
+abbrev pub open_of : InputOf → Field Bool
+open_of i x y = not (sample_in i.mask x y == 0)

@@ -26,14 +26,11 @@ plane_text role (PhaseMaxval maxval) = labelled (codes "4 maxval ") maxval
 plane_text role (SampleAbove index value) = codes "5 sample " ++ role_text role ++ labelled (codes " index ") index ++ labelled (codes " value ") value
 plane_text role (Short samples) = codes "6 short " ++ role_text role ++ labelled (codes " samples ") samples
 
-abbrev pub residue_text : ℕ → ℕ → List ℕ
-residue_text x y = labelled (codes "18 residue ") x ++ labelled (codes " ") y
-
 abbrev pub fault_text : InputFault → List ℕ
 fault_text (faults.Plane role fault) = plane_text role fault
 fault_text faults.TooLong = codes "7 long"
+fault_text (faults.SizesDiffer role) = codes "8 sizes " ++ role_text role
 fault_text faults.Unbuilt = codes "17 unbuilt"
-fault_text (faults.Residue x y) = residue_text x y
 
 abbrev pub line_of : Refusal → List ℕ
 line_of refusals.Words = codes "words refused\n"
@@ -42,6 +39,6 @@ line_of refusals.Memory = codes "no memory\n"
 line_of refusals.ReadFault = codes "read fault\n"
 line_of refusals.WriteFault = codes "write fault\n"
 
--- the line that tells a residue
-abbrev pub residue_line : ℕ → ℕ → List ℕ
-residue_line x y = line_of (refusals.Input (faults.Residue x y))
+-- the line that tells a fault of the input
+abbrev pub fault_line : InputFault → List ℕ
+fault_line fault = line_of (refusals.Input fault)

@@ -1,11 +1,13 @@
 -- What a run of the program may end as.
-use Rattle.std.specs.Prelude.{◌≡◌, ◌≤◌, ◌⊎◌, ℕ, List, [], ◌∷◌, map, codes, Option, Some, IfSome}
+use Rattle.std.specs.Prelude.{◌≡◌, ◌≤◌, ◌⊎◌, ℕ, List, [], Option, Some, IfSome}
 use Rattle.std.specs.Borrow.{Bor}
 use Rattle.insar_ports.specs.Bytes.{with_end, HasRisen, GainsProperPrefix}
 use Rattle.insar_top.specs.declared.refusal.Refusal.{Refusal}
 use Rattle.insar_top.specs.declared.refusal.Refusal.TheVariants as refusals
-use Rattle.insar_top.specs.Input.{IsAnswer}
-use Rattle.insar_top.specs.Causes.{HasFaultCause}
+use Rattle.insar_top.specs.Answers.{IsAnswer}
+use Rattle.insar_top.specs.Breaks.{HasFault}
+use Rattle.insar_top.specs.Words.{IsCommand, IsNoCommand}
+use Rattle.raster_model.specs.declared.weights.RuleKind.{RuleKind}
 use Rattle.insar_top.specs.Refusals.{status_of}
 use Rattle.insar_top.specs.Lines.{line_of}
 
@@ -21,17 +23,13 @@ pub record Run : Type 0 where
   pub sink_before : ℕ
   pub sink_after : ℕ
 
--- the words are the one word unwrap
-abbrev pub IsUnwrap : List (Bor (List ℕ)) → Type 0
-IsUnwrap words = map (λ w. w.now) words ≡ codes "unwrap" ∷ []
-
 -- where the bytes are told, they are an input, nothing of it is left, and the sink gained exactly the text for it
-abbrev pub IsDone : Run → Type 0
-IsDone r = IfSome r.told (λ bytes. (text : List ℕ) × (IsAnswer bytes text × ((r.left ≡ Some []) × (r.held_now ≡ with_end r.held text))))
+abbrev pub IsDone : RuleKind → Run → Type 0
+IsDone rule r = IfSome r.told (λ bytes. (text : List ℕ) × (IsAnswer rule bytes text × ((r.left ≡ Some []) × (r.held_now ≡ with_end r.held text))))
 
 -- where the bytes are told, they are an input, and the sink gained a part of the text for it and not the whole
-abbrev pub IsCut : Run → Type 0
-IsCut r = IfSome r.told (λ bytes. (text : List ℕ) × (IsAnswer bytes text × GainsProperPrefix r.held text r.held_now))
+abbrev pub IsCut : RuleKind → Run → Type 0
+IsCut rule r = IfSome r.told (λ bytes. (text : List ℕ) × (IsAnswer rule bytes text × GainsProperPrefix r.held text r.held_now))
 
 abbrev pub SourceFailed : Run → Type 0
 SourceFailed r = HasRisen r.source_before r.source_after
@@ -43,13 +41,25 @@ SinkFailed r = HasRisen r.sink_before r.sink_after
 abbrev pub IsUnread : Run → Type 0
 IsUnread r = (r.left ≡ r.told) × (r.source_after ≡ r.source_before)
 
--- a refusal has its cause; W says that the words were the command
-abbrev pub HasCause : Type 0 → Run → Refusal → Type 0
-HasCause W r refusals.Words = (W → ⊥) × ((r.held_now ≡ r.held) × IsUnread r)
-HasCause W r (refusals.Input fault) = W × (HasFaultCause r.told fault × (r.held_now ≡ r.held))
-HasCause W r refusals.Memory = W × (r.held_now ≡ r.held)
-HasCause W r refusals.ReadFault = W × (SourceFailed r × (r.held_now ≡ r.held))
-HasCause W r refusals.WriteFault = W × (SinkFailed r × IsCut r)
+-- the words are a command, with a rule for which P holds
+abbrev pub ByCommand : List (Bor (List ℕ)) → (RuleKind → Type 0) → Type 0
+ByCommand words P = (rule : RuleKind) × (IsCommand words rule × P rule)
+
+-- a refusal of a run by a rule has its cause
+abbrev pub HasRunCause : RuleKind → Run → Refusal → Type 0
+HasRunCause rule r refusals.Words = ⊥
+HasRunCause rule r (refusals.Input fault) = IfSome r.told (λ bytes. HasFault bytes fault) × (r.held_now ≡ r.held)
+HasRunCause rule r refusals.Memory = r.held_now ≡ r.held
+HasRunCause rule r refusals.ReadFault = SourceFailed r × (r.held_now ≡ r.held)
+HasRunCause rule r refusals.WriteFault = SinkFailed r × IsCut rule r
+
+-- a refusal has its cause: the words, or that of a run by the rule that they name
+abbrev pub HasCause : List (Bor (List ℕ)) → Run → Refusal → Type 0
+HasCause words r refusals.Words = IsNoCommand words × ((r.held_now ≡ r.held) × IsUnread r)
+HasCause words r (refusals.Input fault) = ByCommand words (λ rule. HasRunCause rule r (refusals.Input fault))
+HasCause words r refusals.Memory = ByCommand words (λ rule. HasRunCause rule r refusals.Memory)
+HasCause words r refusals.ReadFault = ByCommand words (λ rule. HasRunCause rule r refusals.ReadFault)
+HasCause words r refusals.WriteFault = ByCommand words (λ rule. HasRunCause rule r refusals.WriteFault)
 
 -- done, or one of the statuses 2 to 6
 abbrev pub IsStatus : ℕ → Type 0

@@ -2,7 +2,7 @@
 use Rattle.std.specs.Prelude.{ℕ}
 use Rattle.insar_ports.specs.declared.feed.FeedFault.{FeedFault}
 use Rattle.insar_ports.specs.declared.feed.FeedFault.TheVariants as feed_faults
-use Rattle.pgm_planes.specs.declared.fault.Role.TheVariants as roles
+use Rattle.pgm_planes.specs.declared.fault.Role.{Role}
 use Rattle.pgm_planes.specs.declared.fault.ReadPlaneFault.{ReadPlaneFault}
 use Rattle.pgm_planes.specs.declared.fault.ReadPlaneFault.TheVariants as read_faults
 use Rattle.pgm_planes.specs.declared.fault.InputFault.TheVariants as faults
@@ -20,9 +20,8 @@ abbrev pub refusal_of_feed : FeedFault → Refusal
 refusal_of_feed feed_faults.ReadFault = refusals.ReadFault
 refusal_of_feed feed_faults.TooLong = refusals.Input faults.TooLong
 
-abbrev pub refusal_of_plane : ReadPlaneFault → Refusal
-refusal_of_plane (read_faults.Plane fault) = refusals.Input (faults.Plane roles.Phase fault)
-refusal_of_plane read_faults.Unbuilt = refusals.Input faults.Unbuilt
-refusal_of_plane read_faults.TooLong = refusals.Input faults.TooLong
-refusal_of_plane read_faults.ReadFault = refusals.ReadFault
-refusal_of_plane read_faults.Memory = refusals.Memory
+abbrev pub refusal_of_plane : Role → ReadPlaneFault → Refusal
+refusal_of_plane role (read_faults.Plane fault) = refusals.Input (faults.Plane role fault)
+refusal_of_plane role read_faults.TooLong = refusals.Input faults.TooLong
+refusal_of_plane role read_faults.ReadFault = refusals.ReadFault
+refusal_of_plane role read_faults.Memory = refusals.Memory

@@ -1,7 +1,7 @@
 ghost use Rattle.std.specs.Prelude.{◌≡◌, ◌≤◌, ◌++◌, decimal, OnOk, OnErr};
 ghost use Rattle.insar_ports.specs.Bytes.{HasRisen, with_end};
 ghost use Rattle.insar_top.specs.declared.refusal.Refusal.TheVariants as refusals;
-ghost use Rattle.insar_top.specs.Lines.{role_text, labelled, plane_text, residue_text, fault_text, line_of};
+ghost use Rattle.insar_top.specs.Lines.{role_text, labelled, plane_text, fault_text, line_of};
 
 use crate::refusal::Refusal;
 use insar_ports::{Sink, WriteFault, put_all};
@@ -70,16 +70,6 @@ fn put_named<D: Sink>(diag: &mut D, label: &[u8], role: Role) -> Result<(), Writ
     put_all(diag, role_name(role))
 }
 
-/// Puts the cell that has a residue.
-fn put_residue<D: Sink>(diag: &mut D, x: u32, y: u32) -> Result<(), WriteFault>
-    ensures put { OnOk result (D.held diag.new ≡ with_end (D.held diag.old) (residue_text x y)) }
-    ensures fault { OnErr result (HasRisen (D.faults diag.old) (D.faults diag.new)) }
-    ensures grows { D.faults diag.old ≤ D.faults diag.new }
-{
-    put_number(diag, b"18 residue ", u64::from(x))?;
-    put_number(diag, b" ", u64::from(y))
-}
-
 fn put_fault<D: Sink>(diag: &mut D, fault: InputFault) -> Result<(), WriteFault>
     ensures put { OnOk result (D.held diag.new ≡ with_end (D.held diag.old) (fault_text fault)) }
     ensures fault { OnErr result (HasRisen (D.faults diag.old) (D.faults diag.new)) }
@@ -88,8 +78,8 @@ fn put_fault<D: Sink>(diag: &mut D, fault: InputFault) -> Result<(), WriteFault>
     match fault {
         InputFault::Plane { role, fault } => put_plane_fault(diag, role, fault),
         InputFault::TooLong => put_all(diag, b"7 long"),
+        InputFault::SizesDiffer(role) => put_named(diag, b"8 sizes ", role),
         InputFault::Unbuilt => put_all(diag, b"17 unbuilt"),
-        InputFault::Residue { x, y } => put_residue(diag, x, y),
     }
 }
 

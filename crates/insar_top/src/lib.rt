@@ -4,10 +4,13 @@
 mod diag;
 mod grid;
 mod input;
+mod planes;
 mod refusal;
+mod rules;
 mod surface;
 mod text;
 mod top;
+mod words;
 
 pub use top::insar;
 

@@ -1,10 +1,9 @@
 ghost use Rattle.std.specs.Prelude.{◌≡◌};
-ghost use Rattle.pgm_planes.specs.declared.fault.Role.TheVariants.{Phase};
 ghost use Rattle.insar_top.specs.declared.refusal.Refusal.TheVariants as refusals;
-ghost use Rattle.insar_top.specs.Refusals.{refusal_of_plane, refusal_of_feed, status_of};
+ghost use Rattle.insar_top.specs.Refusals.{refusal_of_feed, status_of};
 
 use insar_ports::{FeedFault, WriteFault};
-use pgm_planes::{InputFault, ReadPlaneFault, Role};
+use pgm_planes::InputFault;
 use std::alloc::AllocError;
 
 /// Why a command was not done.
@@ -60,23 +59,6 @@ impl From<FeedFault> for Refusal {
         match fault {
             FeedFault::ReadFault => Refusal::ReadFault,
             FeedFault::TooLong => Refusal::Input(InputFault::TooLong),
-        }
-    }
-}
-
-impl From<ReadPlaneFault> for Refusal {
-    ghost from_gives = { λ fault e. e ≡ refusal_of_plane fault };
-
-    fn from(fault: ReadPlaneFault) -> Refusal {
-        match fault {
-            ReadPlaneFault::Plane(fault) => Refusal::Input(InputFault::Plane {
-                role: Role::Phase,
-                fault,
-            }),
-            ReadPlaneFault::Unbuilt => Refusal::Input(InputFault::Unbuilt),
-            ReadPlaneFault::TooLong => Refusal::Input(InputFault::TooLong),
-            ReadPlaneFault::ReadFault => Refusal::ReadFault,
-            ReadPlaneFault::Memory => Refusal::Memory,
         }
     }
 }

@@ -65,63 +65,108 @@ fn planes_are_unwrapped(rt: HostRuntime) -> Result<(), Fail> {
     Ok(())
 }
 
-/// A full turn has a residue. The first one in row order is told.
+/// A full turn whose edges weigh 5 (top), 5 (right), 3 (bottom) and 3 (left) by the rule least, under masks. The first
+/// has two least surfaces, and the others one each, by hand.
 #[test]
-fn residues_are_refused(rt: HostRuntime) -> Result<(), Fail> {
-    let cases: [((usize, usize), &[u16], &str); 2] = [
+fn turns_are_cut_where_they_weigh_least(rt: HostRuntime) -> Result<(), Fail> {
+    let turn = plane(&rt, (2, 2), &[0, 16384, 49152, 32768])?;
+    let cases: [(&[u8], &str, &str); 5] = [
+        (b"", "0 16384\n-16384 32768", "0 16384\n49152 32768"),
         (
-            (2, 2),
-            &[0, 16384, 49152, 32768],
-            "input fault 18 residue 0 0\n",
+            b"P2 2 2 1 0 1 1 1",
+            "-9223372036854775808 16384\n49152 32768",
+            "",
         ),
         (
-            (3, 3),
-            &[0, 0, 0, 0, 0, 16384, 0, 49152, 32768],
-            "input fault 18 residue 1 1\n",
+            b"P5\n2 2\n1\n\0\0\0\0",
+            "-9223372036854775808 -9223372036854775808\n-9223372036854775808 -9223372036854775808",
+            "",
+        ),
+        (
+            b"P2 2 2 300 1 0 300 7\n",
+            "0 -9223372036854775808\n-16384 -32768",
+            "",
+        ),
+        (
+            b"P2 2 2 2 0 0 0 2",
+            "-9223372036854775808 -9223372036854775808\n-9223372036854775808 32768",
+            "",
         ),
     ];
-    for (size, phases, line) in cases {
-        let refused = outcome_of(&rt, &plane(&rt, size, phases)?, &[], &[], &[])?;
-        assert_eq!(rt; refused.status, 3);
-        assert_eq!(rt; refused.text.len(), 0);
-        assert_eq!(rt; refused.line.as_slice(), line.as_bytes());
+    for (mask, rows, others) in cases {
+        let mut bytes = Vec::new(rt.alloc());
+        bytes.extend_from_slice(&turn)?;
+        bytes.extend_from_slice(b"P2 2 2 9 5 5 3 9 ")?;
+        bytes.extend_from_slice(mask)?;
+        let done = outcome_of(&rt, &bytes, &[], &[], &[])?;
+        let text = format!(in rt.alloc(); "ncols 2\nnrows 2\n{FRAME}{rows}\n")?;
+        let other = format!(in rt.alloc(); "ncols 2\nnrows 2\n{FRAME}{others}\n")?;
+        assert_eq!(rt; done.status, 0);
+        assert!(rt;
+            done.text.as_slice() == text.as_bytes() || done.text.as_slice() == other.as_bytes()
+        );
     }
     Ok(())
 }
 
-/// A slope of 1024 by 1024 pixels, which rises by 300 to the right and by 700 downwards, is its own surface.
+/// Each rule cuts a full turn at another edge. The weights `2 9 / 8 4` give the edges top, right, bottom and left the
+/// least 2 4 4 2, the means 5 6 6 5, and the products over the maxval 9 of 2 4 3 1: so by the product the left edge
+/// alone is the lightest.
 #[test]
-fn a_large_slope_is_unwrapped(rt: HostRuntime) -> Result<(), Fail> {
+fn words_name_the_rule(rt: HostRuntime) -> Result<(), Fail> {
     let alloc = rt.alloc();
-    let mut bytes = Vec::new(alloc);
-    bytes.extend_from_slice(b"P5\n1024 1024\n65535\n")?;
-    let mut text = Vec::new(alloc);
-    text.extend_from_slice(format!(in alloc; "ncols 1024\nnrows 1024\n{FRAME}")?.as_bytes())?;
-    for y in 0..1024u32 {
-        for x in 0..1024u32 {
-            let value = 300 * x + 700 * y;
-            bytes.extend_from_slice(&((value % 65536) as u16).to_be_bytes())?;
-            let gap = if x == 0 { "" } else { " " };
-            text.extend_from_slice(format!(in alloc; "{gap}{value}")?.as_bytes())?;
-        }
-        text.push(b'\n')?;
+    let mut bytes = plane(&rt, (2, 2), &[0, 16384, 49152, 32768])?;
+    bytes.extend_from_slice(b"P2 2 2 9 2 9 8 4")?;
+    for (words, top) in [
+        ([].as_slice(), true),
+        (&["--rule", "least"], true),
+        (&["--rule", "mean"], true),
+        (&["--rule", "product"], false),
+    ] {
+        let mut command = Vec::new(alloc);
+        command.push("unwrap")?;
+        command.extend_from_slice(words)?;
+        let mut source = MemorySource::new(bytes.clone()?, 7, Vec::new(alloc));
+        let mut sink = MemorySink::new(alloc, 999, 9, Vec::new(alloc))?;
+        let mut diag = MemorySink::new(alloc, 99, 1, Vec::new(alloc))?;
+        let status = insar(alloc, &command, &mut source, &mut sink, &mut diag);
+        assert_eq!(rt; status, 0);
+        let left = sink.bytes().ends_with(b"\n0 16384\n49152 32768\n");
+        let above = sink.bytes().ends_with(b"\n0 -49152\n-16384 -32768\n");
+        assert!(rt; left || (top && above));
     }
-    let mut source = MemorySource::new(bytes, 65536, Vec::new(alloc));
-    let mut sink = MemorySink::new(alloc, 16_000_000, 65536, Vec::new(alloc))?;
-    let mut diag = MemorySink::new(alloc, 99, 1, Vec::new(alloc))?;
-    let status = insar(alloc, &["unwrap"], &mut source, &mut sink, &mut diag);
-    assert_eq!(rt; status, 0);
-    assert!(rt; sink.bytes() == text.as_slice());
+    Ok(())
+}
+
+/// A slope of 1024 by 1024 pixels is a form that waits for tiles that are joined, as is any side above 128.
+#[test]
+fn large_rasters_wait(rt: HostRuntime) -> Result<(), Fail> {
+    let alloc = rt.alloc();
+    for (header, pixels) in [
+        (b"P5 1024 1024 65535 ".as_slice(), 1_048_576u32),
+        (b"P5 129 1 65535 ", 129),
+        (b"P5 1 129 65535 ", 129),
+    ] {
+        let mut bytes = header.to_vec(alloc)?;
+        for place in 0..pixels {
+            bytes.extend_from_slice(&((37 * (place % 1024)) as u16).to_be_bytes())?;
+        }
+        let mut source = MemorySource::new(bytes, 65536, Vec::new(alloc));
+        let mut sink = MemorySink::new(alloc, 9, 9, Vec::new(alloc))?;
+        let mut diag = MemorySink::new(alloc, 99, 1, Vec::new(alloc))?;
+        let status = insar(alloc, &["unwrap"], &mut source, &mut sink, &mut diag);
+        assert_eq!(rt; status, 3);
+        assert_eq!(rt; diag.bytes(), b"input fault 17 unbuilt\n".as_slice());
+    }
     Ok(())
 }
 
 /// The first break of each input, by its number and place.
 #[test]
 fn broken_inputs_are_refused(rt: HostRuntime) -> Result<(), Fail> {
-    let cases: [(&[u8], &str); 9] = [
+    let cases: [(&[u8], &str); 18] = [
         (b"", "input fault 1 magic phase\n"),
         (b"P3\n", "input fault 1 magic phase\n"),
-        (b"P2\n2 1\n", "input fault 17 unbuilt\n"),
         (b"P5\n4097 1\n65535\n", "input fault 3 size phase 4097 1\n"),
         (
             b"P5\n4096 1025\n65535\n",
@@ -136,7 +181,38 @@ fn broken_inputs_are_refused(rt: HostRuntime) -> Result<(), Fail> {
             b"P5\n1 2\n65535\n\0\0",
             "input fault 6 short phase samples 1\n",
         ),
-        (b"P5\n1 1\n65535\n\0\0P", "input fault 17 unbuilt\n"),
+        (
+            b"P2\n2 1\n65535\n0 70000\n",
+            "input fault 5 sample phase index 1 value 70000\n",
+        ),
+        (b"P2 1 1 65535 0#", "input fault 2 form phase byte 14\n"),
+        (b"P5\n1 1\n65535\n\0\0x", "input fault 17 unbuilt\n"),
+        (b"P2 1 1 65535 0 P", "input fault 1 magic weight\n"),
+        (
+            b"P2 1 1 65535 0 P5 1 1 0 ",
+            "input fault 2 form weight byte 22\n",
+        ),
+        (
+            b"P2 1 1 65535 0 P2 2 1 9 1 1",
+            "input fault 8 sizes weight\n",
+        ),
+        (
+            b"P2 1 1 65535 0 P2 1 1 9 10",
+            "input fault 5 sample weight index 0 value 10\n",
+        ),
+        (b"P2 1 1 65535 0 P2 1 1 9 1 end", "input fault 17 unbuilt\n"),
+        (
+            b"P2 1 1 65535 0 P2 1 1 9 1 P5 1 1 1 ",
+            "input fault 6 short mask samples 0\n",
+        ),
+        (
+            b"P2 1 1 65535 0 P2 1 1 9 1 P2 1 2 1 1 1",
+            "input fault 8 sizes mask\n",
+        ),
+        (
+            b"P2 1 1 65535 0 P2 1 1 9 1 P2 1 1 1 1 P",
+            "input fault 17 unbuilt\n",
+        ),
     ];
     for (bytes, line) in cases {
         let refused = outcome_of(&rt, bytes, &[], &[], &[])?;
@@ -199,12 +275,19 @@ fn each_failing_write_is_told(rt: HostRuntime) -> Result<(), Fail> {
     Ok(())
 }
 
-/// Words other than the one word are refused before the source is read, and a fault of `diag` changes
+/// Words other than the command are refused before the source is read, and a fault of `diag` changes
 /// neither a status nor the sink.
 #[test]
 fn other_words_are_refused_and_faults_of_diag_change_nothing(rt: HostRuntime) -> Result<(), Fail> {
     let alloc = rt.alloc();
-    for words in [[].as_slice(), &["grid"], &["unwrap", "--tile"]] {
+    for words in [
+        [].as_slice(),
+        &["grid"],
+        &["unwrap", "--rule"],
+        &["unwrap", "--rule", "max"],
+        &["unwrap", "--tile", "2"],
+        &["unwrap", "--rule", "mean", "x"],
+    ] {
         let mut source = MemorySource::new(Vec::new(alloc), 1, [1].to_vec(alloc)?);
         let mut sink = MemorySink::new(alloc, 9, 1, Vec::new(alloc))?;
         let mut diag = MemorySink::new(alloc, 99, 1, Vec::new(alloc))?;

@@ -1,26 +1,23 @@
-ghost use Rattle.std.specs.Prelude.{◌≡◌, ◌≤◌, ◌↔◌, ◌⊎◌, List, ℕ, IsTrue, IfErr, IfSome, OnOk};
+ghost use Rattle.std.specs.Prelude.{◌≡◌, ◌≤◌, ◌⊎◌, List, ℕ, IfErr, IfSome, OnOk};
 ghost use Rattle.insar_ports.specs.Bytes.{HasRisen, with_end};
-ghost use Rattle.pgm_planes.specs.Planes.{PlaneOf};
-ghost use Rattle.insar_top.specs.Input.{IsInput, IsNoInput};
-ghost use Rattle.insar_top.specs.Causes.{HasResidueAt, TellsNoInput};
-ghost use Rattle.insar_top.specs.Lines.{residue_line};
-ghost use Rattle.insar_top.specs.Outcomes.{IsUnwrap, IsUnread, IsDone, IsCut, IsStatus, IsLineAt, SourceFailed, SinkFailed, HasCause, run_of};
+ghost use Rattle.pgm_planes.specs.declared.fault.InputFault.{InputFault as Fault};
+ghost use Rattle.raster_model.specs.declared.weights.RuleKind.{RuleKind as Kind};
+ghost use Rattle.insar_top.specs.Input.{InputOf, IsInput, IsNoInput};
+ghost use Rattle.insar_top.specs.Breaks.{HasFault};
+ghost use Rattle.insar_top.specs.Lines.{fault_line};
+ghost use Rattle.insar_top.specs.Outcomes.{ByCommand, IsUnread, IsDone, IsCut, IsStatus, IsLineAt, HasCause, HasRunCause, run_of};
+ghost use Rattle.insar_top.specs.Words.{IsCommand, IsNoCommand};
 
 use crate::diag::put_line;
 use crate::grid::write_grid;
 use crate::input::read_input;
 use crate::refusal::Refusal;
-use crate::surface::unwrap_plane;
+use crate::surface::unwrap;
 use crate::text::TextBuffer;
+use crate::words::read_rule;
 use insar_ports::{Sink, Source};
+use raster_model::RuleKind;
 use std::alloc::Global;
-
-/// Whether the words are the one word `unwrap`.
-fn is_unwrap(words: &[&str]) -> bool
-    ensures { IsTrue result ↔ IsUnwrap words.now }
-{
-    words.len() == 1 && words[0] == "unwrap"
-}
 
 /// Reads, unwraps and writes.
 fn run<S: Source, K: Sink>(
@@ -29,16 +26,29 @@ fn run<S: Source, K: Sink>(
     source: &mut S,
     sink: &mut K,
 ) -> Result<(), Refusal>
-    ensures words { OnOk result (IsUnwrap words.now) }
-    ensures done { OnOk result (IsDone (run_of S.left S.faults source.old source.new K.held K.faults sink.old sink.new)) }
-    ensures refused { IfErr result (HasCause (IsUnwrap words.now) (run_of S.left S.faults source.old source.new K.held K.faults sink.old sink.new)) }
+    ensures done { OnOk result (ByCommand words.now (λ rule. IsDone rule (run_of S.left S.faults source.old source.new K.held K.faults sink.old sink.new))) }
+    ensures refused { IfErr result (HasCause words.now (run_of S.left S.faults source.old source.new K.held K.faults sink.old sink.new)) }
     ensures grows { K.faults sink.old ≤ K.faults sink.new }
 {
-    if !is_unwrap(words) {
+    let Some(rule) = read_rule(words) else {
         return Err(Refusal::Words);
-    }
-    let phase = read_input(alloc, source)?;
-    let surface = unwrap_plane(alloc, phase)?;
+    };
+    run_by(alloc, rule, source, sink)
+}
+
+/// Reads, unwraps by a rule of weights, and writes.
+fn run_by<S: Source, K: Sink>(
+    alloc: Global,
+    rule: RuleKind,
+    source: &mut S,
+    sink: &mut K,
+) -> Result<(), Refusal>
+    ensures done { OnOk result (IsDone rule (run_of S.left S.faults source.old source.new K.held K.faults sink.old sink.new)) }
+    ensures refused { IfErr result (HasRunCause rule (run_of S.left S.faults source.old source.new K.held K.faults sink.old sink.new)) }
+    ensures grows { K.faults sink.old ≤ K.faults sink.new }
+{
+    let planes = read_input(alloc, source)?;
+    let surface = unwrap(alloc, rule, planes)?;
     let mut text = TextBuffer::new(alloc)?;
     write_grid(
         &mut text,
@@ -53,8 +63,9 @@ fn run<S: Source, K: Sink>(
 /// Runs the program: `words` are those behind its name. It reads the source, writes the result to
 /// the sink and, where it refuses, one line to `diag`, and answers the exit status.
 ///
-/// The one command is `unwrap`, which reads a raw PGM phase plane without residues and writes the grid
-/// of its unwrapped surface. Words are judged before the source is read. A fault of `diag` changes nothing.
+/// The one command is `unwrap`, which reads PGM planes of phase, of weights and of a mask, the last two if they are there,
+/// and writes the grid of the unwrapped surface; `--rule` names how the weights of two pixels make that of their edge.
+/// Words are judged before the source is read. A fault of `diag` changes nothing.
 pub fn insar<S: Source, K: Sink, D: Sink>(
     alloc: Global,
     words: &[&str],
@@ -63,25 +74,23 @@ pub fn insar<S: Source, K: Sink, D: Sink>(
     diag: &mut D,
 ) -> u8
     ensures status { IsStatus result }
-    // 0: the bytes were an input, nothing is left, and the sink gained exactly the text for it.
-    ensures done { result ≡ 0 → IsDone (run_of S.left S.faults source.old source.new K.held K.faults sink.old sink.new) }
-    // 2: the words are not the one word; the source is not read.
-    ensures words_refused { result ≡ 2 → IsUnwrap words.now → ⊥ }
+    // 0: the words are a command, the bytes were an input, nothing is left, and the sink gained exactly the text for it.
+    ensures done { result ≡ 0 → ByCommand words.now (λ rule. IsDone rule (run_of S.left S.faults source.old source.new K.held K.faults sink.old sink.new)) }
+    // 2: the words are no command; the source is not read.
+    ensures words_refused { result ≡ 2 → IsNoCommand words.now }
     ensures unread { result ≡ 2 → IsUnread (run_of S.left S.faults source.old source.new K.held K.faults sink.old sink.new) }
-    ensures words_taken { (IsUnwrap words.now → ⊥) → result ≡ 2 }
-    // 3: the bytes are no input.
-    ensures input_refused { result ≡ 3 → TellsNoInput (S.left source.old) }
-    ensures input_taken { IsUnwrap words.now → IfSome (S.left source.old) (λ bytes. IsNoInput bytes → (result ≡ 3) ⊎ ((result ≡ 4) ⊎ (result ≡ 5))) }
-    // A plane with a residue is refused with the first such cell in row order.
-    ensures residue { IsUnwrap words.now → IfSome (S.left source.old) (λ bytes. (x y : ℕ) → HasResidueAt bytes x y → (HasRisen (S.faults source.old) (S.faults source.new) → ⊥) →
-        (result ≡ 4) ⊎ ((result ≡ 3) × ((HasRisen (D.faults diag.old) (D.faults diag.new) → ⊥) → D.held diag.new ≡ with_end (D.held diag.old) (residue_line x y)))) }
+    ensures words_taken { IsNoCommand words.now → result ≡ 2 }
+    // 3: the bytes are no input, for a fault that the line tells.
+    ensures input_refused { result ≡ 3 → IfSome (S.left source.old) IsNoInput }
+    ensures fault { result ≡ 3 → IfSome (S.left source.old) (λ bytes. (fault : Fault) × (HasFault bytes fault × ((HasRisen (D.faults diag.old) (D.faults diag.new) → ⊥) → D.held diag.new ≡ with_end (D.held diag.old) (fault_line fault)))) }
+    ensures input_taken { (rule : Kind) → IsCommand words.now rule → IfSome (S.left source.old) (λ bytes. IsNoInput bytes → (result ≡ 3) ⊎ ((result ≡ 4) ⊎ (result ≡ 5))) }
     // 5 and 6: a fault was counted.
     ensures read_fault { result ≡ 5 → HasRisen (S.faults source.old) (S.faults source.new) }
     ensures write_fault { result ≡ 6 → HasRisen (K.faults sink.old) (K.faults sink.new) }
-    ensures cut { result ≡ 6 → IsCut (run_of S.left S.faults source.old source.new K.held K.faults sink.old sink.new) }
+    ensures cut { result ≡ 6 → ByCommand words.now (λ rule. IsCut rule (run_of S.left S.faults source.old source.new K.held K.faults sink.old sink.new)) }
     ensures untouched { 2 ≤ result → result ≤ 5 → K.held sink.new ≡ K.held sink.old }
     // A good input is never refused but for want of memory.
-    ensures complete { IsUnwrap words.now → IfSome (S.left source.old) (λ bytes. (p : PlaneOf) → IsInput bytes p →
+    ensures complete { (rule : Kind) → IsCommand words.now rule → IfSome (S.left source.old) (λ bytes. (input : InputOf) → IsInput bytes input →
         (HasRisen (S.faults source.old) (S.faults source.new) → ⊥) → (HasRisen (K.faults sink.old) (K.faults sink.new) → ⊥) → (result ≡ 0) ⊎ (result ≡ 4)) }
     ensures told { (HasRisen (D.faults diag.old) (D.faults diag.new) → ⊥) → (line : List ℕ) × (IsLineAt result line × (D.held diag.new ≡ with_end (D.held diag.old) line)) }
 {

@@ -8,6 +8,7 @@ use Rattle.pgm_planes.specs.declared.fault.PlaneFault.{PlaneFault}
 use Rattle.pgm_planes.specs.declared.fault.PlaneFault.TheVariants.{Form}
 use Rattle.pgm_planes.specs.declared.fault.ReadPlaneFault.{ReadPlaneFault}
 use Rattle.pgm_planes.specs.declared.fault.ReadPlaneFault.TheVariants as errors
+use Rattle.pgm_planes.specs.declared.spelling.Spelling.{Spelling}
 use Rattle.pgm_planes.specs.Calls.{Call, Moves}
 use Rattle.pgm_planes.specs.Reading.{Reading, Reader, breaks, Told, Reads, nothing, byte_at, sight_at, space_at}
 use Rattle.pgm_planes.specs.Gaps.{is_space}
@@ -59,10 +60,6 @@ module _ (told : Option (List ℕ)) (at : ℕ) (mid : Option (List ℕ)) (at_mid
     moves = Moves-then g.moves h.moves;
     answers = λ bytes rest t l. let m = told_on g.moves.front told mid bytes g.moves.parts t in g.reads bytes m.0 t m.1 ∙ h.answers m.0 rest m.1 l;
   }
-  Reads-then view (Err errors.Unbuilt) r q g l_is h = record {
-    moves = Moves-then g.moves h.moves;
-    answers = λ bytes rest t l. let m = told_on g.moves.front told mid bytes g.moves.parts t in g.reads bytes m.0 t m.1 ∙ h.answers m.0 rest m.1 l;
-  }
   Reads-then view (Err errors.TooLong) r q g l_is h = record { moves = Moves-then g.moves h.moves; answers = (h.answers.0 ∙ l_is, h.answers.1) }
   Reads-then view (Err errors.ReadFault) r q g l_is h = record {
     moves = Moves-then g.moves h.moves;
@@ -76,9 +73,8 @@ module _ {X A Y B : Type 0} (view : X → A) (other : Y → B) (c : Call) where
   gone x p r q h f = record { moves = h.moves; reads = λ bytes rest t l. f bytes rest (h.answers bytes rest t l) }
 
   -- a call that did not read ends what it is the beginning of
-  pub passes_on : (e : ReadPlaneFault) (p : Reader A) (r : Reader B) → Reads view (Err e) c p → ((bytes : List ℕ) (f : ReadPlaneFault) → (let x : Reading A = Err f in p c.at bytes ≡ x) → (let y : Reading B = Err f in r c.at bytes ≡ y)) → Reads other (Err e) c r
-  passes_on (errors.Plane fault) p r h f = record { moves = h.moves; answers = λ bytes rest t l. f bytes (errors.Plane fault) (h.answers bytes rest t l) }
-  passes_on errors.Unbuilt p r h f = record { moves = h.moves; answers = λ bytes rest t l. f bytes errors.Unbuilt (h.answers bytes rest t l) }
+  pub passes_on : (e : ReadPlaneFault) (p : Reader A) (r : Reader B) → Reads view (Err e) c p → ((bytes : List ℕ) (f : PlaneFault) → (let x : Reading A = Err f in p c.at bytes ≡ x) → (let y : Reading B = Err f in r c.at bytes ≡ y)) → Reads other (Err e) c r
+  passes_on (errors.Plane fault) p r h f = record { moves = h.moves; answers = λ bytes rest t l. f bytes fault (h.answers bytes rest t l) }
   passes_on errors.TooLong p r h f = record { moves = h.moves; answers = h.answers }
   passes_on errors.ReadFault p r h f = record { moves = h.moves; answers = h.answers }
   passes_on errors.Memory p r h f = record { moves = h.moves; answers = tt }
@@ -86,9 +82,6 @@ module _ {X A Y B : Type 0} (view : X → A) (other : Y → B) (c : Call) where
 module _ {X A : Type 0} (view : X → A) (c : Call) where
   pub finds : (x : X) (r q : Reader A) → Goes c r q → ((rest : List ℕ) → q c.end rest ≡ done (view x) c.end rest) → Reads view (Ok x) c r
   finds x r q g f = record { moves = g.moves; answers = λ bytes rest t l. g.reads bytes rest t l ∙ f rest }
-
-  pub refuses : (fault : PlaneFault) (r q : Reader A) → Goes c r q → ((rest : List ℕ) → q c.end rest ≡ breaks fault) → Reads view (Err (errors.Plane fault)) c r
-  refuses fault r q g f = record { moves = g.moves; answers = λ bytes rest t l. g.reads bytes rest t l ∙ f rest }
 
 -- ---- single bytes
 
@@ -134,7 +127,7 @@ byte_none at [] end rest e = refl
 byte_none at (a ∷ bytes) end rest e = absurd (let x = same_value (Some a) None (at + 1) end bytes rest e in cc)
 
 -- the next byte never breaks a form
-pub byte_never : (at : ℕ) (bytes : List ℕ) (f : ReadPlaneFault) → (let x : Reading (Option ℕ) = Err f in byte_at at bytes ≡ x) → ⊥
+pub byte_never : (at : ℕ) (bytes : List ℕ) (f : PlaneFault) → (let x : Reading (Option ℕ) = Err f in byte_at at bytes ≡ x) → ⊥
 unfolding byte_at
 byte_never at [] f e = cc
 byte_never at (b ∷ rest) f e = cc
@@ -147,15 +140,15 @@ module _ {X A Y B : Type 0} (view : X → A) (other : Y → B) (c : Call) where
   pub becomes_break : (x : X) (fault : PlaneFault) (p : Reader A) (r : Reader B) → Reads view (Ok x) c p → ((bytes rest : List ℕ) → p c.at bytes ≡ done (view x) c.end rest → r c.at bytes ≡ breaks fault) → Reads other (Err (errors.Plane fault)) c r
   becomes_break x fault p r h f = record { moves = h.moves; answers = λ bytes rest t l. f bytes rest (h.answers bytes rest t l) }
 
-  pub becomes_unbuilt : (x : X) (p : Reader A) (r : Reader B) → Reads view (Ok x) c p → ((bytes rest : List ℕ) → p c.at bytes ≡ done (view x) c.end rest → (let u : Reading B = Err errors.Unbuilt in r c.at bytes ≡ u)) → Reads other (Err errors.Unbuilt) c r
-  becomes_unbuilt x p r h f = record { moves = h.moves; answers = λ bytes rest t l. f bytes rest (h.answers bytes rest t l) }
-
 -- the view of a byte that was got, and of what has no value
 abbrev pub as_got : Option ℕ → Option ℕ
 as_got got = got
 
 abbrev pub as_number : ℕ → ℕ
 as_number n = n
+
+abbrev pub as_spelling : Spelling → Spelling
+as_spelling s = s
 
 abbrev pub as_nothing : Unit {0} → Unit {0}
 as_nothing _ = nothing

@@ -1,11 +1,12 @@
 -- What is read of a header is spelled so, and what is spelled so is read.
-use Rattle.std.proofs.Common.{◌≡◌, ℕ, ◌+◌, ◌-◌, ◌*◌, ◌≤◌, min, Bool, true, false, cond, ◌&&◌, ◌⊎◌, List, [], ◌∷◌, ◌++◌, length, Ok, refl, sym, ap, subst, ◌∙◌, append_assoc, arith, inl, inr, eqb, ltb}
+use Rattle.std.proofs.Common.{◌≡◌, ℕ, ◌+◌, ◌-◌, ◌*◌, ◌≤◌, min, Bool, true, false, cond, ◌&&◌, ◌⊎◌, List, [], ◌∷◌, ◌++◌, length, Ok, refl, sym, ap, subst, ◌∙◌, arith, inl, inr, eqb, ltb}
 use Rattle.std.specs.List.{list_all}
 use Rattle.std.proofs.lemmas.Bool.{and_parts, or_cases, cases_Bool, both_ways, eqb-true, ltb-true}
-use Rattle.std.proofs.lemmas.List.{length-append}
+use Rattle.pgm_planes.specs.declared.fault.PlaneFault.{PlaneFault}
 use Rattle.pgm_planes.specs.declared.fault.PlaneFault.TheVariants.{Form}
-use Rattle.pgm_planes.specs.Gaps.{is_space, is_line_end, is_digit, is_filling, is_number, goes_on_to, number_of}
-use Rattle.pgm_planes.specs.Reading.{Reading, breaks, nothing, space_at, filling_at, with_digit, digits_at, number_at}
+use Rattle.pgm_planes.specs.Gaps.{is_space, is_line_end, is_digit, begins, is_filling, is_number, goes_on_to, number_of}
+use Rattle.pgm_planes.specs.Breaks.{is_hash, is_in_comment}
+use Rattle.pgm_planes.specs.Reading.{Reading, breaks, nothing, space_at, filling_at, blanks_at, with_digit, digits_at, number_at}
 
 -- which way a test went
 pub chosen : {A : Type 0} (b : Bool) (x y z : A) → cond b x y ≡ z → ((b ≡ true) × (x ≡ z)) ⊎ ((b ≡ false) × (y ≡ z))
@@ -28,6 +29,12 @@ same_place {A = A} x y a b p q e = ap (λ (t : A × ℕ × List ℕ). t.1) (ok_i
 pub same_rest : {A : Type 0} (x y : A) (a b : ℕ) (p q : List ℕ) → done x a p ≡ done y b q → p ≡ q
 same_rest {A = A} x y a b p q e = ap (λ (t : A × ℕ × List ℕ). t.2) (ok_is (x, a, p) (y, b, q) e)
 
+pub break_is : {A : Type 0} (e f : PlaneFault) → (let r : Reading A = breaks e in r) ≡ breaks f → e ≡ f
+break_is e f x = cc
+
+pub not_both : {A : Type 0} (x : A) (at : ℕ) (rest : List ℕ) (f : PlaneFault) → done x at rest ≡ breaks f → ⊥
+not_both x at rest f e = cc
+
 -- a text was taken from the front
 pub record Takes (at : ℕ) (bytes text : List ℕ) (end : ℕ) (rest : List ℕ) : Type 0 where
   pub parts : bytes ≡ text ++ rest
@@ -42,9 +49,6 @@ Takes-one at b bytes text end rest t = record { parts = ap (λ (x : List ℕ). b
 pub Takes-end : {A : Type 0} (x y : A) (at end : ℕ) (bytes rest : List ℕ) → done x at bytes ≡ done y end rest → Takes at bytes [] end rest
 Takes-end x y at end bytes rest e = record { parts = same_rest x y at end bytes rest e; place = omega (arith, same_place x y at end bytes rest e) }
 
-pub Takes-then : (a : ℕ) (x s : List ℕ) (b : ℕ) (y t : List ℕ) (c : ℕ) (z : List ℕ) → Takes a x s b y → Takes b y t c z → Takes a x (s ++ t) c z
-Takes-then a x s b y t c z p q = record { parts = p.parts ∙ ap (λ (w : List ℕ). s ++ w) q.parts ∙ sym (append_assoc s t z); place = omega (arith, p.place, q.place, length-append s t) }
-
 filling_by_space : (b : ℕ) (text : List ℕ) → is_space b ≡ true → is_filling false text ≡ true → is_filling false (b ∷ text) ≡ true
 filling_by_space b text s f = rw (s, f) refl
 
@@ -57,22 +61,30 @@ filling_by_end b text s f = rw (s, f) refl
 filling_inside : (b : ℕ) (text : List ℕ) → is_line_end b ≡ false → is_filling true text ≡ true → is_filling true (b ∷ text) ≡ true
 filling_inside b text s f = rw (s, f) refl
 
-pub filling_found : (inside : Bool) (at : ℕ) (bytes : List ℕ) (end : ℕ) (rest : List ℕ) → filling_at inside at bytes ≡ done nothing end rest → (text : List ℕ) × ((is_filling inside text ≡ true) × Takes at bytes text end rest)
+-- what stops white space and comments
+pub record StopsFilling (rest : List ℕ) : Type 0 where
+  pub no_space : begins is_space rest ≡ false
+  pub no_hash : begins is_hash rest ≡ false
+
+stopped : (at end : ℕ) (bytes rest : List ℕ) → done nothing at bytes ≡ done nothing end rest → StopsFilling bytes → StopsFilling rest
+stopped at end bytes rest e s = subst StopsFilling (same_rest nothing nothing at end bytes rest e) s
+
+pub filling_found : (inside : Bool) (at : ℕ) (bytes : List ℕ) (end : ℕ) (rest : List ℕ) → filling_at inside at bytes ≡ done nothing end rest → (text : List ℕ) × (is_filling inside text ≡ true) × Takes at bytes text end rest × StopsFilling rest
 unfolding filling_at
-filling_found false at [] end rest e = ([], (refl, Takes-end nothing nothing at end [] rest e))
+filling_found false at [] end rest e = ([], refl, Takes-end nothing nothing at end [] rest e, stopped at end [] rest e (record { no_space = refl; no_hash = refl }))
 filling_found true at [] end rest e = absurd cc
 filling_found false at (b ∷ bytes) end rest e =
     elim (chosen (is_space b) _ _ _ e) [
-      | inl s ↦ let t = filling_found false (at + 1) bytes end rest s.1 in (b ∷ t.0, (filling_by_space b t.0 s.0 t.1.0, Takes-one at b bytes t.0 end rest t.1.1))
+      | inl s ↦ let t = filling_found false (at + 1) bytes end rest s.1 in (b ∷ t.0, filling_by_space b t.0 s.0 t.1, Takes-one at b bytes t.0 end rest t.2, t.3)
       | inr s ↦ elim (chosen (eqb b 35) _ _ _ s.1) [
-        | inl c ↦ let t = filling_found true (at + 1) bytes end rest c.1 in (b ∷ t.0, (filling_by_hash b t.0 s.0 c.0 t.1.0, Takes-one at b bytes t.0 end rest t.1.1))
-        | inr c ↦ ([], (refl, Takes-end nothing nothing at end (b ∷ bytes) rest c.1))
+        | inl c ↦ let t = filling_found true (at + 1) bytes end rest c.1 in (b ∷ t.0, filling_by_hash b t.0 s.0 c.0 t.1, Takes-one at b bytes t.0 end rest t.2, t.3)
+        | inr c ↦ ([], refl, Takes-end nothing nothing at end (b ∷ bytes) rest c.1, stopped at end (b ∷ bytes) rest c.1 (record { no_space = s.0; no_hash = c.0 }))
       ]
     ]
 filling_found true at (b ∷ bytes) end rest e =
     elim (chosen (is_line_end b) _ _ _ e) [
-      | inl s ↦ let t = filling_found false (at + 1) bytes end rest s.1 in (b ∷ t.0, (filling_by_end b t.0 s.0 t.1.0, Takes-one at b bytes t.0 end rest t.1.1))
-      | inr s ↦ let t = filling_found true (at + 1) bytes end rest s.1 in (b ∷ t.0, (filling_inside b t.0 s.0 t.1.0, Takes-one at b bytes t.0 end rest t.1.1))
+      | inl s ↦ let t = filling_found false (at + 1) bytes end rest s.1 in (b ∷ t.0, filling_by_end b t.0 s.0 t.1, Takes-one at b bytes t.0 end rest t.2, t.3)
+      | inr s ↦ let t = filling_found true (at + 1) bytes end rest s.1 in (b ∷ t.0, filling_inside b t.0 s.0 t.1, Takes-one at b bytes t.0 end rest t.2, t.3)
     ]
 
 -- the parts of a filling
@@ -93,22 +105,138 @@ by_hash b text s f =
       | inr x ↦ and_parts (eqb b 35) (is_filling true text) x
     ]
 
--- a byte that is neither white space nor # ends the filling
-pub filling_again : (inside : Bool) (at : ℕ) (text : List ℕ) (d : ℕ) (more : List ℕ) → is_filling inside text ≡ true → is_space d ≡ false → eqb d 35 ≡ false → filling_at inside at (text ++ d ∷ more) ≡ done nothing (at + length text) (d ∷ more)
+-- what begins neither with white space nor with # ends the filling
+filling_stops : (at : ℕ) (more : List ℕ) → StopsFilling more → filling_at false at more ≡ done nothing at more
 unfolding filling_at
-filling_again false at [] d more f s c = rw (s, c) (let e : at + 0 ≡ at = omega arith in rw e refl)
-filling_again true at [] d more f s c = absurd cc
-filling_again false at (b ∷ text) d more f s c =
+filling_stops at [] s = refl
+filling_stops at (d ∷ more) s = rw (s.no_space, s.no_hash) refl
+
+pub filling_again : (inside : Bool) (at : ℕ) (text more : List ℕ) → is_filling inside text ≡ true → StopsFilling more → filling_at inside at (text ++ more) ≡ done nothing (at + length text) more
+unfolding filling_at
+filling_again false at [] more f s = filling_stops at more s ∙ (let e : at ≡ at + 0 = omega arith in ap (λ (n : ℕ). done nothing n more) e)
+filling_again true at [] more f s = absurd cc
+filling_again false at (b ∷ text) more f s =
     let place : (at + 1) + length text ≡ at + length (b ∷ text) = omega arith in
     elim (cases_Bool (is_space b)) [
-      | inl y ↦ rw y (rw (← place) (filling_again false (at + 1) text d more (by_space b text y f) s c))
-      | inr n ↦ rw (n, (by_hash b text n f).0) (rw (← place) (filling_again true (at + 1) text d more (by_hash b text n f).1 s c))
+      | inl y ↦ rw y (rw (← place) (filling_again false (at + 1) text more (by_space b text y f) s))
+      | inr n ↦ rw (n, (by_hash b text n f).0) (rw (← place) (filling_again true (at + 1) text more (by_hash b text n f).1 s))
     ]
-filling_again true at (b ∷ text) d more f s c =
+filling_again true at (b ∷ text) more f s =
     let place : (at + 1) + length text ≡ at + length (b ∷ text) = omega arith in
     elim (cases_Bool (is_line_end b)) [
-      | inl y ↦ rw y (rw (← place) (filling_again false (at + 1) text d more (rw y at f) s c))
-      | inr n ↦ rw n (rw (← place) (filling_again true (at + 1) text d more (rw n at f) s c))
+      | inl y ↦ rw y (rw (← place) (filling_again false (at + 1) text more (rw y at f) s))
+      | inr n ↦ rw n (rw (← place) (filling_again true (at + 1) text more (rw n at f) s))
+    ]
+
+-- ---- an open comment
+
+-- a filling, then # and bytes of a comment that does not end
+pub record IsOpen (inside : Bool) (bytes : List ℕ) : Type 0 where
+  pub gap : List ℕ
+  pub comment : List ℕ
+  pub parts : bytes ≡ gap ++ 35 ∷ comment
+  pub filled : is_filling inside gap ≡ true
+  pub within : list_all is_in_comment comment ≡ true
+
+abbrev OpenFrom : Bool → List ℕ → Type 0
+OpenFrom false bytes = IsOpen false bytes
+OpenFrom true bytes = (list_all is_in_comment bytes ≡ true) ⊎ IsOpen true bytes
+
+open_more : (inside from : Bool) (b : ℕ) (bytes : List ℕ) (o : IsOpen inside bytes) → is_filling from (b ∷ o.gap) ≡ true → IsOpen from (b ∷ bytes)
+open_more inside from b bytes o f = record { gap = b ∷ o.gap; comment = o.comment; parts = ap (λ (t : List ℕ). b ∷ t) o.parts; filled = f; within = o.within }
+
+open_hash : (b : ℕ) (bytes : List ℕ) → is_space b ≡ false → eqb b 35 ≡ true → OpenFrom true bytes → IsOpen false (b ∷ bytes)
+open_hash b bytes s h (inl all) = record { gap = []; comment = bytes; parts = ap (λ (x : ℕ). x ∷ bytes) (eqb-true b 35 h); filled = refl; within = all }
+open_hash b bytes s h (inr o) = open_more true false b bytes o (filling_by_hash b o.gap s h o.filled)
+
+open_inside : (b : ℕ) (bytes : List ℕ) → is_line_end b ≡ false → OpenFrom true bytes → OpenFrom true (b ∷ bytes)
+open_inside b bytes n (inl all) = inl (rw (n, all) refl)
+open_inside b bytes n (inr o) = inr (open_more true true b bytes o (filling_inside b o.gap n o.filled))
+
+one_more : (at b : ℕ) (bytes : List ℕ) (f : PlaneFault) → f ≡ Form ((at + 1) + length bytes) → f ≡ Form (at + length (b ∷ bytes))
+one_more at b bytes f e = e ∙ ap Form (omega arith)
+
+filling_cut_from : (inside : Bool) (at : ℕ) (bytes : List ℕ) (f : PlaneFault) → filling_at inside at bytes ≡ breaks f → (f ≡ Form (at + length bytes)) × OpenFrom inside bytes
+unfolding filling_at
+filling_cut_from false at [] f e = absurd cc
+filling_cut_from true at [] f e = (sym (break_is (Form at) f e) ∙ ap Form (omega arith), inl refl)
+filling_cut_from false at (b ∷ bytes) f e =
+    elim (chosen (is_space b) _ _ _ e) [
+      | inl s ↦ let t = filling_cut_from false (at + 1) bytes f s.1 in (one_more at b bytes f t.0, open_more false false b bytes t.1 (filling_by_space b t.1.gap s.0 t.1.filled))
+      | inr s ↦ elim (chosen (eqb b 35) _ _ _ s.1) [
+        | inl c ↦ let t = filling_cut_from true (at + 1) bytes f c.1 in (one_more at b bytes f t.0, open_hash b bytes s.0 c.0 t.1)
+        | inr c ↦ absurd (not_both nothing at (b ∷ bytes) f c.1)
+      ]
+    ]
+filling_cut_from true at (b ∷ bytes) f e =
+    elim (chosen (is_line_end b) _ _ _ e) [
+      | inl s ↦ let t = filling_cut_from false (at + 1) bytes f s.1 in (one_more at b bytes f t.0, inr (open_more false true b bytes t.1 (filling_by_end b t.1.gap s.0 t.1.filled)))
+      | inr s ↦ let t = filling_cut_from true (at + 1) bytes f s.1 in (one_more at b bytes f t.0, open_inside b bytes s.0 t.1)
+    ]
+
+pub filling_cut_found : (at : ℕ) (bytes : List ℕ) (f : PlaneFault) → filling_at false at bytes ≡ breaks f → (f ≡ Form (at + length bytes)) × IsOpen false bytes
+filling_cut_found at bytes f e = filling_cut_from false at bytes f e
+
+in_comment : (b : ℕ) (bs : List ℕ) → list_all is_in_comment (b ∷ bs) ≡ true → (is_line_end b ≡ false) × (list_all is_in_comment bs ≡ true)
+in_comment b bs h =
+    let p = and_parts (is_in_comment b) (list_all is_in_comment bs) h in
+    (elim (cases_Bool (is_line_end b)) [ inl y ↦ absurd (let x = rw y at p.0 in cc) | inr n ↦ n ], p.1)
+
+comment_again : (at : ℕ) (comment : List ℕ) → list_all is_in_comment comment ≡ true → filling_at true at comment ≡ breaks (Form (at + length comment))
+unfolding filling_at
+comment_again at [] h = ap (λ (n : ℕ). breaks (Form n)) (omega arith)
+comment_again at (b ∷ bs) h =
+    let p = in_comment b bs h in
+    let place : (at + 1) + length bs ≡ at + length (b ∷ bs) = omega arith in
+    rw p.0 (rw (← place) (comment_again (at + 1) bs p.1))
+
+filling_cut_over : (inside : Bool) (at : ℕ) (gap comment : List ℕ) → is_filling inside gap ≡ true → list_all is_in_comment comment ≡ true → filling_at inside at (gap ++ 35 ∷ comment) ≡ breaks (Form (at + length (gap ++ 35 ∷ comment)))
+unfolding filling_at
+filling_cut_over true at [] comment f c = absurd cc
+filling_cut_over false at [] comment f c = comment_again (at + 1) comment c ∙ ap (λ (n : ℕ). breaks (Form n)) (omega arith)
+filling_cut_over false at (b ∷ gap) comment f c =
+    let place : (at + 1) + length (gap ++ 35 ∷ comment) ≡ at + length (b ∷ (gap ++ 35 ∷ comment)) = omega arith in
+    elim (cases_Bool (is_space b)) [
+      | inl y ↦ rw y (rw (← place) (filling_cut_over false (at + 1) gap comment (by_space b gap y f) c))
+      | inr n ↦ rw (n, (by_hash b gap n f).0) (rw (← place) (filling_cut_over true (at + 1) gap comment (by_hash b gap n f).1 c))
+    ]
+filling_cut_over true at (b ∷ gap) comment f c =
+    let place : (at + 1) + length (gap ++ 35 ∷ comment) ≡ at + length (b ∷ (gap ++ 35 ∷ comment)) = omega arith in
+    elim (cases_Bool (is_line_end b)) [
+      | inl y ↦ rw y (rw (← place) (filling_cut_over false (at + 1) gap comment (rw y at f) c))
+      | inr n ↦ rw n (rw (← place) (filling_cut_over true (at + 1) gap comment (rw n at f) c))
+    ]
+
+pub filling_cut_again : (at : ℕ) (bytes : List ℕ) → IsOpen false bytes → filling_at false at bytes ≡ breaks (Form (at + length bytes))
+filling_cut_again at bytes o = subst (λ (t : List ℕ). filling_at false at t ≡ breaks (Form (at + length t))) (sym o.parts) (filling_cut_over false at o.gap o.comment o.filled o.within)
+
+-- ---- white space
+
+pub blanks_found : (at : ℕ) (bytes : List ℕ) (end : ℕ) (rest : List ℕ) → blanks_at at bytes ≡ done nothing end rest → (text : List ℕ) × (list_all is_space text ≡ true) × Takes at bytes text end rest × (begins is_space rest ≡ false)
+unfolding blanks_at
+blanks_found at [] end rest e = ([], refl, Takes-end nothing nothing at end [] rest e, subst (λ (t : List ℕ). begins is_space t ≡ false) (same_rest nothing nothing at end [] rest e) refl)
+blanks_found at (b ∷ bytes) end rest e =
+    elim (chosen (is_space b) _ _ _ e) [
+      | inl s ↦ let t = blanks_found (at + 1) bytes end rest s.1 in (b ∷ t.0, rw (s.0, t.1) refl, Takes-one at b bytes t.0 end rest t.2, t.3)
+      | inr s ↦ ([], refl, Takes-end nothing nothing at end (b ∷ bytes) rest s.1, subst (λ (t : List ℕ). begins is_space t ≡ false) (same_rest nothing nothing at end (b ∷ bytes) rest s.1) s.0)
+    ]
+
+pub blanks_again : (at : ℕ) (text more : List ℕ) → list_all is_space text ≡ true → begins is_space more ≡ false → blanks_at at (text ++ more) ≡ done nothing (at + length text) more
+unfolding blanks_at
+blanks_again at [] [] h s = ap (λ (n : ℕ). done nothing n []) (omega arith)
+blanks_again at [] (d ∷ more) h s = rw s (ap (λ (n : ℕ). done nothing n (d ∷ more)) (omega arith))
+blanks_again at (b ∷ text) more h s =
+    let p = and_parts (is_space b) (list_all is_space text) h in
+    let place : (at + 1) + length text ≡ at + length (b ∷ text) = omega arith in
+    rw p.0 (rw (← place) (blanks_again (at + 1) text more p.1 s))
+
+pub blanks_never : (at : ℕ) (bytes : List ℕ) (f : PlaneFault) → blanks_at at bytes ≡ breaks f → ⊥
+unfolding blanks_at
+blanks_never at [] f e = cc
+blanks_never at (b ∷ bytes) f e =
+    elim (chosen (is_space b) _ _ _ e) [
+      | inl s ↦ blanks_never (at + 1) bytes f s.1
+      | inr s ↦ not_both nothing at (b ∷ bytes) f s.1
     ]
 
 -- ---- numbers
@@ -125,49 +253,78 @@ capped_on_the_way n (b ∷ bs) =
     let same : capped (10 * capped n + (b - 48)) ≡ capped (10 * n + (b - 48)) = omega arith in
     sym one ∙ ap (λ (k : ℕ). capped (goes_on_to k bs)) same ∙ two
 
-pub digits_found : (n at : ℕ) (bytes : List ℕ) (m end : ℕ) (rest : List ℕ) → n ≤ 4294967295 → digits_at n at bytes ≡ done m end rest → (text : List ℕ) × ((list_all is_digit text ≡ true) × ((m ≡ capped (goes_on_to n text)) × Takes at bytes text end rest))
+pub digits_found : (n at : ℕ) (bytes : List ℕ) (m end : ℕ) (rest : List ℕ) → n ≤ 4294967295 → digits_at n at bytes ≡ done m end rest → (text : List ℕ) × (list_all is_digit text ≡ true) × (m ≡ capped (goes_on_to n text)) × Takes at bytes text end rest × (begins is_digit rest ≡ false)
 unfolding digits_at
-digits_found n at [] m end rest le e = ([], (refl, (omega (arith, same_value n m at end [] rest e), Takes-end n m at end [] rest e)))
+digits_found n at [] m end rest le e = ([], refl, omega (arith, same_value n m at end [] rest e), Takes-end n m at end [] rest e, subst (λ (t : List ℕ). begins is_digit t ≡ false) (same_rest n m at end [] rest e) refl)
 digits_found n at (b ∷ bytes) m end rest le e =
     elim (chosen (is_digit b) _ _ _ e) [
       | inl s ↦
           let t = digits_found (with_digit n b) (at + 1) bytes m end rest (omega arith) s.1 in
-          (b ∷ t.0, (rw (s.0, t.1.0) refl, (t.1.1.0 ∙ capped_on_the_way (10 * n + (b - 48)) t.0, Takes-one at b bytes t.0 end rest t.1.1.1)))
-      | inr s ↦ ([], (refl, (omega (arith, same_value n m at end (b ∷ bytes) rest s.1), Takes-end n m at end (b ∷ bytes) rest s.1)))
+          (b ∷ t.0, rw (s.0, t.1) refl, t.2 ∙ capped_on_the_way (10 * n + (b - 48)) t.0, Takes-one at b bytes t.0 end rest t.3, t.4)
+      | inr s ↦ ([], refl, omega (arith, same_value n m at end (b ∷ bytes) rest s.1), Takes-end n m at end (b ∷ bytes) rest s.1, subst (λ (t : List ℕ). begins is_digit t ≡ false) (same_rest n m at end (b ∷ bytes) rest s.1) s.0)
     ]
 
-pub digits_again : (n at : ℕ) (text : List ℕ) (d : ℕ) (more : List ℕ) → n ≤ 4294967295 → list_all is_digit text ≡ true → is_digit d ≡ false → digits_at n at (text ++ d ∷ more) ≡ done (capped (goes_on_to n text)) (at + length text) (d ∷ more)
+digits_stop : (n at : ℕ) (more : List ℕ) → begins is_digit more ≡ false → digits_at n at more ≡ done n at more
 unfolding digits_at
-digits_again n at [] d more le f s = rw s (let e : at + 0 ≡ at = omega arith in let c : capped n ≡ n = omega arith in rw (e, c) refl)
-digits_again n at (b ∷ text) d more le f s =
+digits_stop n at [] s = refl
+digits_stop n at (d ∷ more) s = rw s refl
+
+pub digits_again : (n at : ℕ) (text more : List ℕ) → n ≤ 4294967295 → list_all is_digit text ≡ true → begins is_digit more ≡ false → digits_at n at (text ++ more) ≡ done (capped (goes_on_to n text)) (at + length text) more
+unfolding digits_at
+digits_again n at [] more le f s = digits_stop n at more s ∙ (let e : at ≡ at + 0 = omega arith in let c : n ≡ capped n = omega arith in ap (λ (k : ℕ). done n k more) e ∙ ap (λ (k : ℕ). done k (at + 0) more) c)
+digits_again n at (b ∷ text) more le f s =
     let place : (at + 1) + length text ≡ at + length (b ∷ text) = omega arith in
     let parts = and_parts (is_digit b) (list_all is_digit text) f in
-    rw parts.0 (digits_again (with_digit n b) (at + 1) text d more (omega arith) parts.1 s ∙ rw (place, capped_on_the_way (10 * n + (b - 48)) text) refl)
+    rw parts.0 (digits_again (with_digit n b) (at + 1) text more (omega arith) parts.1 s ∙ rw (place, capped_on_the_way (10 * n + (b - 48)) text) refl)
+
+digits_never : (n at : ℕ) (bytes : List ℕ) (f : PlaneFault) → digits_at n at bytes ≡ breaks f → ⊥
+unfolding digits_at
+digits_never n at [] f e = cc
+digits_never n at (b ∷ bytes) f e =
+    elim (chosen (is_digit b) _ _ _ e) [
+      | inl s ↦ digits_never (with_digit n b) (at + 1) bytes f s.1
+      | inr s ↦ not_both n at (b ∷ bytes) f s.1
+    ]
 
 digit_small : (b : ℕ) → is_digit b ≡ true → b - 48 ≤ 4294967295
 digit_small b d = let p = and_parts (ltb 47 b) (ltb b 58) d in omega (arith, ltb-true b 58 p.1)
 
-pub number_found : (at : ℕ) (bytes : List ℕ) (m end : ℕ) (rest : List ℕ) → number_at at bytes ≡ done m end rest → (text : List ℕ) × ((is_number text ≡ true) × ((m ≡ number_of text) × Takes at bytes text end rest))
+pub number_found : (cut : PlaneFault) (at : ℕ) (bytes : List ℕ) (m end : ℕ) (rest : List ℕ) → number_at cut at bytes ≡ done m end rest → (text : List ℕ) × (is_number text ≡ true) × (m ≡ number_of text) × Takes at bytes text end rest × (begins is_digit rest ≡ false)
 unfolding number_at
-number_found at [] m end rest e = absurd cc
-number_found at (b ∷ bytes) m end rest e =
+number_found cut at [] m end rest e = absurd cc
+number_found cut at (b ∷ bytes) m end rest e =
     elim (chosen (is_digit b) _ _ _ e) [
       | inl s ↦
           let small : b - 48 ≤ 4294967295 = digit_small b s.0 in
           let t = digits_found (b - 48) (at + 1) bytes m end rest small s.1 in
-          (b ∷ t.0, (rw (s.0, t.1.0) refl, (t.1.1.0 ∙ ap (λ (k : ℕ). capped (goes_on_to k t.0)) (omega arith), Takes-one at b bytes t.0 end rest t.1.1.1)))
+          (b ∷ t.0, rw (s.0, t.1) refl, t.2 ∙ ap (λ (k : ℕ). capped (goes_on_to k t.0)) (omega arith), Takes-one at b bytes t.0 end rest t.3, t.4)
       | inr s ↦ absurd (let x = s.1 in cc)
     ]
 
-pub number_again : (at : ℕ) (text : List ℕ) (d : ℕ) (more : List ℕ) → is_number text ≡ true → is_digit d ≡ false → number_at at (text ++ d ∷ more) ≡ done (number_of text) (at + length text) (d ∷ more)
+pub number_again : (cut : PlaneFault) (at : ℕ) (text more : List ℕ) → is_number text ≡ true → begins is_digit more ≡ false → number_at cut at (text ++ more) ≡ done (number_of text) (at + length text) more
 unfolding number_at
-number_again at [] d more f s = absurd cc
-number_again at (b ∷ text) d more f s =
+number_again cut at [] more f s = absurd cc
+number_again cut at (b ∷ text) more f s =
     let place : (at + 1) + length text ≡ at + length (b ∷ text) = omega arith in
     let parts = and_parts (is_digit b) (list_all is_digit text) f in
     let small : b - 48 ≤ 4294967295 = digit_small b parts.0 in
     let start : 10 * 0 + (b - 48) ≡ b - 48 = omega arith in
-    rw parts.0 (digits_again (b - 48) (at + 1) text d more small parts.1 s ∙ rw (place, start) refl)
+    rw parts.0 (digits_again (b - 48) (at + 1) text more small parts.1 s ∙ rw (place, start) refl)
+
+-- where no number begins: the end, or another byte
+pub number_break : (cut : PlaneFault) (at : ℕ) (bytes : List ℕ) (f : PlaneFault) → number_at cut at bytes ≡ breaks f → ((bytes ≡ []) × (f ≡ cut)) ⊎ ((b : ℕ) × (rest : List ℕ) × (bytes ≡ b ∷ rest) × (is_digit b ≡ false) × (f ≡ Form at))
+unfolding number_at
+number_break cut at [] f e = inl (refl, sym (break_is cut f e))
+number_break cut at (b ∷ bytes) f e =
+    elim (chosen (is_digit b) _ _ _ e) [
+      | inl s ↦ absurd (digits_never (b - 48) (at + 1) bytes f s.1)
+      | inr s ↦ inr (b, bytes, refl, s.0, sym (break_is (Form at) f s.1))
+    ]
+
+pub no_number : (at : ℕ) (rest : List ℕ) → begins is_digit rest ≡ false → number_at (Form at) at rest ≡ breaks (Form at)
+unfolding number_at
+no_number at [] h = refl
+no_number at (b ∷ rest) h = rw h refl
 
 -- what one byte is read as
 pub space_taken : (at b : ℕ) (rest : List ℕ) → is_space b ≡ true → space_at at (b ∷ rest) ≡ done nothing (at + 1) rest

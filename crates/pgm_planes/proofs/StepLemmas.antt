@@ -1,5 +1,5 @@
 -- The steps of each reader, as its loop and its calls take them.
-use Rattle.std.proofs.Common.{◌≡◌, ℕ, zero, suc, get_or, ltb, append_assoc, ◌+◌, ◌*◌, ◌-◌, ◌≤◌, Bool, true, false, not, ◌&&◌, List, [], ◌∷◌, ◌++◌, drop, Option, Some, None, Result, Ok, Err, refl, sym, ap, ◌∙◌, arith, inl, inr, eqb}
+use Rattle.std.proofs.Common.{◌≡◌, ℕ, zero, suc, get_or, ltb, append_assoc, ◌+◌, ◌*◌, ◌-◌, ◌≤◌, Bool, true, false, not, List, [], ◌∷◌, ◌++◌, drop, Option, Some, None, Result, Ok, Err, refl, sym, ap, ◌∙◌, arith, inl, inr, eqb}
 use Rattle.std.specs.Prelude.{IfSome}
 use Rattle.byteorder.specs.Endian.{big_number}
 use Rattle.std.specs.Global.{Vec}
@@ -10,12 +10,16 @@ use Rattle.pgm_planes.specs.declared.fault.PlaneFault.{PlaneFault}
 use Rattle.pgm_planes.specs.declared.fault.PlaneFault.TheVariants.{Form, Magic, Short, SampleAbove}
 use Rattle.pgm_planes.specs.declared.fault.ReadPlaneFault.{ReadPlaneFault}
 use Rattle.pgm_planes.specs.declared.fault.ReadPlaneFault.TheVariants as errors
+use Rattle.pgm_planes.specs.declared.spelling.Spelling.{Spelling}
+use Rattle.pgm_planes.specs.declared.spelling.Spelling.TheVariants.{Raw, Plain}
+use Rattle.pgm_planes.specs.declared.samples.SampleForm.{SampleForm}
+use Rattle.pgm_planes.specs.declared.samples.SampleForm.TheVariants.{Narrow, Wide, Digits}
 use Rattle.pgm_planes.specs.Gaps.{is_space, is_line_end, is_digit}
 use Rattle.pgm_planes.specs.Calls.{Call}
-use Rattle.pgm_planes.specs.Reading.{Reading, Reader, ◌>>=◌, breaks, nothing, Reads, byte_at, sight_at, magic_answer, magic_then, magic_at, space_at, inside_after, filling_at, with_digit, digits_at, number_at, field_at, HeaderOf, unless_broken, header_break, header_at, header_of, judged, and_behind, sample_at, samples_at}
+use Rattle.pgm_planes.specs.Reading.{Reading, Reader, ◌>>=◌, breaks, nothing, Reads, byte_at, sight_at, or_breaks, spelling_of, magic_at, space_at, inside_after, filling_at, blanks_at, with_digit, digits_at, number_at, field_at, HeaderOf, unless_broken, header_break, header_at, header_of, told, judged, and_behind, form_of, sample_at, samples_at, end_at, end_of, raster_at}
 use Rattle.pgm_planes.specs.declared.header.Header.{Header}
 use Rattle.pgm_planes.proofs.HeaderLemmas.{done, same_value, same_place, same_rest}
-use Rattle.pgm_planes.proofs.CallLemmas.{call, some_is, stays, Goes, gone, passes_on, becomes, becomes_break, becomes_unbuilt, byte_some, byte_none, byte_never, as_got, as_nothing, as_number}
+use Rattle.pgm_planes.proofs.CallLemmas.{call, some_is, stays, Goes, gone, passes_on, becomes, becomes_break, byte_some, byte_none, byte_never, as_got, as_nothing, as_number, as_spelling}
 
 -- ---- sights
 
@@ -34,7 +38,7 @@ unfolding sight_at
 sight_some at [] b end rest e = absurd (let x = same_value None (Some b) at end [] rest e in cc)
 sight_some at (a ∷ bytes) b end rest e = let v : a ≡ b = let x = same_value (Some a) (Some b) at end (a ∷ bytes) rest e in cc in ap (λ (x : ℕ). x ∷ bytes) v
 
-pub sight_never : (at : ℕ) (bytes : List ℕ) (f : ReadPlaneFault) → (let x : Reading (Option ℕ) = Err f in sight_at at bytes ≡ x) → ⊥
+pub sight_never : (at : ℕ) (bytes : List ℕ) (f : PlaneFault) → (let x : Reading (Option ℕ) = Err f in sight_at at bytes ≡ x) → ⊥
 unfolding sight_at
 sight_never at [] f e = cc
 sight_never at (b ∷ rest) f e = cc
@@ -48,61 +52,6 @@ sight_passes_on other c e r h = passes_on as_got other c e sight_at r h (λ byte
 
 pub byte_passes_on : {Y B : Type 0} (other : Y → B) (c : Call) (e : ReadPlaneFault) (r : Reader B) → Reads as_got (Err e) c byte_at → Reads other (Err e) c r
 byte_passes_on other c e r h = passes_on as_got other c e byte_at r h (λ bytes f x. absurd (byte_never c.at bytes f x))
-
--- ---- the magic
-
-pub after_letter : ℕ → Reader (Unit {0})
-after_letter letter at bytes = byte_at at bytes >>= λ number end rest. magic_then (magic_answer letter number) end rest
-
-pub magic_after : (at letter : ℕ) (rest : List ℕ) → magic_at at (letter ∷ rest) ≡ after_letter letter (at + 1) rest
-unfolding magic_at after_letter byte_at
-magic_after at letter [] = refl
-magic_after at letter (b ∷ rest) = let e : (at + 1) + 1 ≡ at + 2 = omega arith in rw e refl
-
-pub magic_missed : (at : ℕ) → magic_at at [] ≡ breaks Magic
-unfolding magic_at
-magic_missed at = refl
-
--- a magic is read, breaks the form or is not built
-abbrev IsMagicAnswer : Result (Unit {0}) ReadPlaneFault → Type 0
-IsMagicAnswer (Ok u) = Unit {0}
-IsMagicAnswer (Err (errors.Plane fault)) = Unit {0}
-IsMagicAnswer (Err errors.Unbuilt) = Unit {0}
-IsMagicAnswer (Err errors.TooLong) = ⊥
-IsMagicAnswer (Err errors.ReadFault) = ⊥
-IsMagicAnswer (Err errors.Memory) = ⊥
-
-magic_is : (letter : ℕ) (got : Option ℕ) → IsMagicAnswer (magic_answer letter got)
-magic_is letter None = tt
-magic_is letter (Some b) = elim (cases_Bool (eqb letter 80 && eqb b 53)) [
-  | inl y ↦ rw y tt
-  | inr n ↦ elim (cases_Bool (eqb letter 80 && eqb b 50)) [ inl y ↦ rw (n, y) tt | inr m ↦ rw (n, m) tt ]
-]
-
-module _ (c : Call) (got : Option ℕ) (h : Reads as_got (Ok got) c byte_at) where
-  pub magic_goes : (letter : ℕ) → got ≡ Some letter → Goes c magic_at (after_letter letter)
-  magic_goes letter e = gone as_got as_nothing c got byte_at magic_at (after_letter letter) h (λ bytes rest r.
-      let p = byte_some c.at bytes letter c.end rest (r ∙ ap (λ (g : Option ℕ). done g c.end rest) e) in
-      ap (magic_at c.at) p.0 ∙ magic_after c.at letter rest ∙ ap (λ (n : ℕ). after_letter letter n rest) (sym p.1))
-
-  pub magic_misses : got ≡ None → Reads as_nothing (Err (errors.Plane Magic)) c magic_at
-  magic_misses e = becomes_break as_got as_nothing c got Magic byte_at magic_at h (λ bytes rest r.
-      ap (magic_at c.at) (byte_none c.at bytes c.end rest (r ∙ ap (λ (g : Option ℕ). done g c.end rest) e)) ∙ magic_missed c.at)
-
-  after_is : (letter : ℕ) (a : Result (Unit {0}) ReadPlaneFault) → magic_answer letter got ≡ a → (bytes rest : List ℕ) → byte_at c.at bytes ≡ done got c.end rest → after_letter letter c.at bytes ≡ magic_then a c.end rest
-  unfolding after_letter
-  after_is letter a e bytes rest r = rw (r, e) refl
-
-  magic_cases : (letter : ℕ) (a : Result (Unit {0}) ReadPlaneFault) → magic_answer letter got ≡ a → IsMagicAnswer a → Reads as_nothing a c (after_letter letter)
-  magic_cases letter (Ok u) e k = becomes as_got as_nothing c got u byte_at (after_letter letter) h (λ bytes rest r. after_is letter (Ok u) e bytes rest r)
-  magic_cases letter (Err (errors.Plane fault)) e k = becomes_break as_got as_nothing c got fault byte_at (after_letter letter) h (λ bytes rest r. after_is letter (Err (errors.Plane fault)) e bytes rest r)
-  magic_cases letter (Err errors.Unbuilt) e k = becomes_unbuilt as_got as_nothing c got byte_at (after_letter letter) h (λ bytes rest r. after_is letter (Err errors.Unbuilt) e bytes rest r)
-  magic_cases letter (Err errors.TooLong) e k = absurd k
-  magic_cases letter (Err errors.ReadFault) e k = absurd k
-  magic_cases letter (Err errors.Memory) e k = absurd k
-
-  pub magic_ends : (letter : ℕ) → Reads as_nothing (magic_answer letter got) c (after_letter letter)
-  magic_ends letter = magic_cases letter (magic_answer letter got) refl (magic_is letter got)
 
 -- white space and comments
 
@@ -163,6 +112,17 @@ module _ (c : Call) (got : Option ℕ) (h : Reads as_got (Ok got) c sight_at) wh
       let first = sight_some c.at bytes b c.end rest (s ∙ ap (λ (g : Option ℕ). done g c.end rest) n) in
       ap (r c.at) first ∙ e (drop 1 bytes) ∙ ap (done (view x) c.at) (sym first ∙ p.0) ∙ ap (λ (n : ℕ). done (view x) n rest) (sym p.1))
 
+  pub sight_breaks : {X A : Type 0} (view : X → A) (b : ℕ) (fault : PlaneFault) (r : Reader A) → got ≡ Some b → ((rest : List ℕ) → r c.at (b ∷ rest) ≡ breaks fault) → Reads view (Err (errors.Plane fault)) c r
+  sight_breaks view b fault r n e = becomes_break as_got view c got fault sight_at r h (λ bytes rest s.
+      ap (r c.at) (sight_some c.at bytes b c.end rest (s ∙ ap (λ (g : Option ℕ). done g c.end rest) n)) ∙ e (drop 1 bytes))
+
+  -- what was seen tells which reader goes on
+  pub sight_goes : {A : Type 0} (b : ℕ) (r q : Reader A) → got ≡ Some b → ((rest : List ℕ) → r c.at (b ∷ rest) ≡ q c.at (b ∷ rest)) → Goes c r q
+  sight_goes {A = A} b r q n e = gone as_got (λ (x : A). x) c got sight_at r q h (λ bytes rest s.
+      let p = sight_still c.at bytes got c.end rest s in
+      let first = sight_some c.at bytes b c.end rest (s ∙ ap (λ (g : Option ℕ). done g c.end rest) n) in
+      ap (r c.at) first ∙ e (drop 1 bytes) ∙ ap (q c.at) (sym first ∙ p.0) ∙ ap (λ (n : ℕ). q n rest) (sym p.1))
+
 -- a byte that was taken goes on with another reader
 pub byte_goes : {A : Type 0} (c : Call) (got : Option ℕ) (b : ℕ) (r q : Reader A) → Reads as_got (Ok got) c byte_at → got ≡ Some b → ((rest : List ℕ) → r c.at (b ∷ rest) ≡ q (c.at + 1) rest) → Goes c r q
 byte_goes {A = A} c got b r q h e f = gone as_got (λ (x : A). x) c got byte_at r q h (λ bytes rest s.
@@ -176,6 +136,62 @@ byte_cuts view c got fault r h e f = becomes_break as_got view c got fault byte_
 pub byte_breaks : {X A : Type 0} (view : X → A) (c : Call) (got : Option ℕ) (b : ℕ) (fault : PlaneFault) (r : Reader A) → Reads as_got (Ok got) c byte_at → got ≡ Some b → ((rest : List ℕ) → r c.at (b ∷ rest) ≡ breaks fault) → Reads view (Err (errors.Plane fault)) c r
 byte_breaks view c got b fault r h e f = becomes_break as_got view c got fault byte_at r h (λ bytes rest s.
     ap (r c.at) (byte_some c.at bytes b c.end rest (s ∙ ap (λ (g : Option ℕ). done g c.end rest) e)).0 ∙ f rest)
+
+-- ---- the magic
+
+pub after_letter : ℕ → Reader Spelling
+after_letter letter at bytes = byte_at at bytes >>= λ digit. or_breaks Magic (spelling_of letter digit)
+
+pub magic_after : (at letter : ℕ) (rest : List ℕ) → magic_at at (letter ∷ rest) ≡ after_letter letter (at + 1) rest
+unfolding magic_at after_letter byte_at
+magic_after at letter [] = refl
+magic_after at letter (b ∷ rest) = let e : (at + 1) + 1 ≡ at + 2 = omega arith in rw e refl
+
+pub magic_missed : (at : ℕ) → magic_at at [] ≡ breaks Magic
+unfolding magic_at
+magic_missed at = refl
+
+module _ (c : Call) (got : Option ℕ) (h : Reads as_got (Ok got) c byte_at) where
+  pub magic_goes : (letter : ℕ) → got ≡ Some letter → Goes c magic_at (after_letter letter)
+  magic_goes letter e = byte_goes c got letter magic_at (after_letter letter) h e (magic_after c.at letter)
+
+  pub magic_misses : got ≡ None → Reads as_spelling (Err (errors.Plane Magic)) c magic_at
+  magic_misses e = byte_cuts as_spelling c got Magic magic_at h e (magic_missed c.at)
+
+  pub magic_ends : (letter : ℕ) (s : Spelling) → spelling_of letter got ≡ Some s → Reads as_spelling (Ok s) c (after_letter letter)
+  unfolding after_letter
+  magic_ends letter s e = becomes as_got as_spelling c got s byte_at (after_letter letter) h (λ bytes rest r. rw (r, e) refl)
+
+  pub magic_breaks : (letter : ℕ) → spelling_of letter got ≡ None → Reads as_spelling (Err (errors.Plane Magic)) c (after_letter letter)
+  unfolding after_letter
+  magic_breaks letter e = becomes_break as_got as_spelling c got Magic byte_at (after_letter letter) h (λ bytes rest r. rw (r, e) refl)
+
+-- ---- white space
+
+module _ (at : ℕ) where
+  pub blanks_over : blanks_at at [] ≡ done nothing at []
+  unfolding blanks_at
+  blanks_over = refl
+
+  pub blanks_stop : (b : ℕ) (rest : List ℕ) → is_space b ≡ false → blanks_at at (b ∷ rest) ≡ done nothing at (b ∷ rest)
+  unfolding blanks_at
+  blanks_stop b rest s = rw s refl
+
+  pub blanks_go : (b : ℕ) (rest : List ℕ) → is_space b ≡ true → blanks_at at (b ∷ rest) ≡ blanks_at (at + 1) rest
+  unfolding blanks_at
+  blanks_go b rest s = rw s refl
+
+  pub end_over : end_at at [] ≡ blanks_at at []
+  unfolding end_at
+  end_over = refl
+
+  pub end_goes : (b : ℕ) (rest : List ℕ) → is_space b ≡ true → end_at at (b ∷ rest) ≡ blanks_at at (b ∷ rest)
+  unfolding end_at
+  end_goes b rest s = rw s refl
+
+  pub end_breaks : (b : ℕ) (rest : List ℕ) → is_space b ≡ false → end_at at (b ∷ rest) ≡ breaks (Form at)
+  unfolding end_at
+  end_breaks b rest s = rw s refl
 
 -- ---- digits
 
@@ -193,17 +209,17 @@ module _ (n at : ℕ) where
   digits_go b rest s = rw s refl
 
 module _ (at : ℕ) where
-  pub number_missed : number_at at [] ≡ breaks (Form at)
+  pub number_missed : (cut : PlaneFault) → number_at cut at [] ≡ breaks cut
   unfolding number_at
-  number_missed = refl
+  number_missed cut = refl
 
-  pub number_refused : (b : ℕ) (rest : List ℕ) → is_digit b ≡ false → number_at at (b ∷ rest) ≡ breaks (Form at)
+  pub number_refused : (cut : PlaneFault) (b : ℕ) (rest : List ℕ) → is_digit b ≡ false → number_at cut at (b ∷ rest) ≡ breaks (Form at)
   unfolding number_at
-  number_refused b rest s = rw s refl
+  number_refused cut b rest s = rw s refl
 
-  pub number_begun : (b : ℕ) (rest : List ℕ) → is_digit b ≡ true → number_at at (b ∷ rest) ≡ digits_at (b - 48) (at + 1) rest
+  pub number_begun : (cut : PlaneFault) (b : ℕ) (rest : List ℕ) → is_digit b ≡ true → number_at cut at (b ∷ rest) ≡ digits_at (b - 48) (at + 1) rest
   unfolding number_at
-  number_begun b rest s = rw s refl
+  number_begun cut b rest s = rw s refl
 
 -- the byte that was seen is the byte that is taken
 pub seen_is_taken : (seen got waiting : Option ℕ) (b : ℕ) → seen ≡ Some b → IfSome seen (λ x. waiting ≡ Some x) → IfSome waiting (λ x. (let r : Result (Option ℕ) ReadPlaneFault = Ok got in r) ≡ Ok (Some x)) → got ≡ Some b
@@ -222,16 +238,10 @@ bind_goes {B = B} view c x p f h = gone view (λ (b : B). b) c x p (λ at bytes.
 pub bind_passes : {X A Y B : Type 0} (view : X → A) (other : Y → B) (c : Call) (e : ReadPlaneFault) (p : Reader A) (f : A → Reader B) → Reads view (Err e) c p → Reads other (Err e) c (λ at bytes. p at bytes >>= f)
 bind_passes view other c e p f h = passes_on view other c e p (λ at bytes. p at bytes >>= f) h (λ bytes g x. rw x refl)
 
-pub bind_finds : {X A Y B : Type 0} (view : X → A) (other : Y → B) (c : Call) (x : X) (y : Y) (p : Reader A) (f : A → Reader B) → Reads view (Ok x) c p → ((rest : List ℕ) → f (view x) c.end rest ≡ done (other y) c.end rest) → Reads other (Ok y) c (λ at bytes. p at bytes >>= f)
-bind_finds view other c x y p f h g = becomes view other c x y p (λ at bytes. p at bytes >>= f) h (λ bytes rest e. rw e (g rest))
-
-pub bind_refuses : {X A Y B : Type 0} (view : X → A) (other : Y → B) (c : Call) (x : X) (fault : PlaneFault) (p : Reader A) (f : A → Reader B) → Reads view (Ok x) c p → ((rest : List ℕ) → f (view x) c.end rest ≡ breaks fault) → Reads other (Err (errors.Plane fault)) c (λ at bytes. p at bytes >>= f)
-bind_refuses view other c x fault p f h g = becomes_break view other c x fault p (λ at bytes. p at bytes >>= f) h (λ bytes rest e. rw e (g rest))
-
 -- ---- a field
 
 pub after_filling : Reader (ℕ × ℕ)
-after_filling place digits = number_at place digits >>= λ n end others. Ok ((n, place), end, others)
+after_filling place digits = number_at (Form place) place digits >>= λ n end others. Ok ((n, place), end, others)
 
 pub after_space : Reader (ℕ × ℕ)
 after_space at bytes = filling_at false at bytes >>= λ _. after_filling
@@ -256,13 +266,13 @@ module _ (c : Call) where
   unfolding after_space
   field_filling_passes e h = bind_passes as_nothing as_pair c e (filling_at false) (λ _. after_filling) h
 
-  pub field_number : (n : ℕ) → Reads as_number (Ok n) c number_at → Reads as_pair (Ok (n, c.at)) c after_filling
+  pub field_number : (n : ℕ) → Reads as_number (Ok n) c (number_at (Form c.at)) → Reads as_pair (Ok (n, c.at)) c after_filling
   unfolding after_filling
-  field_number n h = becomes as_number as_pair c n (n, c.at) number_at after_filling h (λ bytes rest e. rw e refl)
+  field_number n h = becomes as_number as_pair c n (n, c.at) (number_at (Form c.at)) after_filling h (λ bytes rest e. rw e refl)
 
-  pub field_number_passes : (e : ReadPlaneFault) → Reads as_number (Err e) c number_at → Reads as_pair (Err e) c after_filling
+  pub field_number_passes : (e : ReadPlaneFault) → Reads as_number (Err e) c (number_at (Form c.at)) → Reads as_pair (Err e) c after_filling
   unfolding after_filling
-  field_number_passes e h = passes_on as_number as_pair c e number_at after_filling h (λ bytes g x. rw x refl)
+  field_number_passes e h = passes_on as_number as_pair c e (number_at (Form c.at)) after_filling h (λ bytes g x. rw x refl)
 
 -- ---- the header
 
@@ -316,7 +326,7 @@ module _ (role : Role) where
 -- ---- samples
 
 -- a byte whose sample was judged
-pub judged_reads : (c : Call) (got : Option ℕ) (b maxval k x : ℕ) (r : Reader ℕ) → Reads as_got (Ok got) c byte_at → got ≡ Some b → ((rest : List ℕ) → r c.at (b ∷ rest) ≡ and_behind (judged maxval k x) (c.at + 1) rest) → Reads as_number (judged maxval k x) c r
+pub judged_reads : (c : Call) (got : Option ℕ) (b maxval k x : ℕ) (r : Reader ℕ) → Reads as_got (Ok got) c byte_at → got ≡ Some b → ((rest : List ℕ) → r c.at (b ∷ rest) ≡ and_behind (judged maxval k x) (c.at + 1) rest) → Reads as_number (told (judged maxval k x)) c r
 judged_reads c got b maxval k x r h e f =
     elim (cases_Bool (ltb maxval x)) [
       | inl y ↦ rw y (byte_breaks as_number c got b (SampleAbove k x) r h e (λ rest. f rest ∙ rw y refl))
@@ -330,15 +340,19 @@ after_high high maxval k at [] = breaks (Short k)
 after_high high maxval k at (low ∷ rest) = and_behind (judged maxval k (256 * high + low)) (at + 1) rest
 
 module _ (maxval k at : ℕ) where
-  pub sample_missed : (wide : Bool) → sample_at wide maxval k at [] ≡ breaks (Short k)
+  pub narrow_missed : sample_at Narrow maxval k at [] ≡ breaks (Short k)
   unfolding sample_at
-  sample_missed wide = refl
+  narrow_missed = refl
 
-  pub narrow_sample : (b : ℕ) (rest : List ℕ) → sample_at false maxval k at (b ∷ rest) ≡ and_behind (judged maxval k b) (at + 1) rest
+  pub wide_missed : sample_at Wide maxval k at [] ≡ breaks (Short k)
+  unfolding sample_at
+  wide_missed = refl
+
+  pub narrow_sample : (b : ℕ) (rest : List ℕ) → sample_at Narrow maxval k at (b ∷ rest) ≡ and_behind (judged maxval k b) (at + 1) rest
   unfolding sample_at
   narrow_sample b rest = refl
 
-  pub wide_sample : (high : ℕ) (rest : List ℕ) → sample_at true maxval k at (high ∷ rest) ≡ after_high high maxval k (at + 1) rest
+  pub wide_sample : (high : ℕ) (rest : List ℕ) → sample_at Wide maxval k at (high ∷ rest) ≡ after_high high maxval k (at + 1) rest
   unfolding sample_at after_high
   wide_sample high [] = refl
   wide_sample high (low ∷ rest) = let e : (at + 1) + 1 ≡ at + 2 = omega arith in rw e refl
@@ -351,20 +365,45 @@ module _ (maxval k at : ℕ) where
   unfolding after_high
   high_then high low rest = refl
 
--- the samples so far, and then the others
-pub and_others : List ℕ → Bool → ℕ → ℕ → ℕ → Reader (List ℕ)
-and_others front wide maxval n k at bytes = samples_at wide maxval n k at bytes >>= λ vs end others. Ok (front ++ vs, end, others)
+-- a sample of digits
+pub after_blanks : ℕ → ℕ → Reader ℕ
+after_blanks maxval k place digits = number_at (Short k) place digits >>= λ v. and_behind (judged maxval k v)
 
-module _ (wide : Bool) (maxval : ℕ) where
+module _ (maxval k : ℕ) (c : Call) where
+  pub digits_blanks : (u : Unit {0}) → Reads as_nothing (Ok u) c blanks_at → Goes c (sample_at Digits maxval k) (after_blanks maxval k)
+  unfolding sample_at after_blanks
+  digits_blanks u h = bind_goes as_nothing c u blanks_at (λ _. after_blanks maxval k) h
+
+  pub digits_blanks_pass : (e : ReadPlaneFault) → Reads as_nothing (Err e) c blanks_at → Reads as_number (Err e) c (sample_at Digits maxval k)
+  unfolding sample_at after_blanks
+  digits_blanks_pass e h = bind_passes as_nothing as_number c e blanks_at (λ _. after_blanks maxval k) h
+
+  pub digits_number_pass : (e : ReadPlaneFault) → Reads as_number (Err e) c (number_at (Short k)) → Reads as_number (Err e) c (after_blanks maxval k)
+  unfolding after_blanks
+  digits_number_pass e h = bind_passes as_number as_number c e (number_at (Short k)) (λ v. and_behind (judged maxval k v)) h
+
+  pub digits_number : (v : ℕ) → Reads as_number (Ok v) c (number_at (Short k)) → Reads as_number (told (judged maxval k v)) c (after_blanks maxval k)
+  unfolding after_blanks
+  digits_number v h =
+      elim (cases_Bool (ltb maxval v)) [
+        | inl y ↦ rw y (becomes_break as_number as_number c v (SampleAbove k v) (number_at (Short k)) (after_blanks maxval k) h (λ bytes rest e. rw (e, y) refl))
+        | inr n ↦ rw n (becomes as_number as_number c v v (number_at (Short k)) (after_blanks maxval k) h (λ bytes rest e. rw (e, n) refl))
+      ]
+
+-- the samples so far, and then the others
+unfoldable pub and_others : List ℕ → SampleForm → ℕ → ℕ → ℕ → Reader (List ℕ)
+and_others front form maxval n k at bytes = samples_at form maxval n k at bytes >>= λ vs end others. Ok (front ++ vs, end, others)
+
+module _ (form : SampleForm) (maxval : ℕ) where
   with_none : (r : Reading (List ℕ)) → (r >>= λ vs end others. Ok ([] ++ vs, end, others)) ≡ r
   with_none (Ok x) = refl
   with_none (Err e) = refl
 
-  pub others_begin : (n k at : ℕ) (bytes : List ℕ) → samples_at wide maxval n k at bytes ≡ and_others [] wide maxval n k at bytes
+  pub others_begin : (n k at : ℕ) (bytes : List ℕ) → samples_at form maxval n k at bytes ≡ and_others [] form maxval n k at bytes
   unfolding and_others
-  others_begin n k at bytes = sym (with_none (samples_at wide maxval n k at bytes))
+  others_begin n k at bytes = sym (with_none (samples_at form maxval n k at bytes))
 
-  pub others_end : (front : List ℕ) (k at : ℕ) (rest : List ℕ) → and_others front wide maxval 0 k at rest ≡ done front at rest
+  pub others_end : (front : List ℕ) (k at : ℕ) (rest : List ℕ) → and_others front form maxval 0 k at rest ≡ done front at rest
   unfolding and_others samples_at
   others_end front k at rest = ap (λ (vs : List ℕ). done vs at rest) (append-nil front)
 
@@ -372,11 +411,11 @@ module _ (wide : Bool) (maxval : ℕ) where
   regroup_others front v (Ok x) = ap (λ (vs : List ℕ). done vs x.1 x.2) (sym (append_assoc front (v ∷ []) x.0))
   regroup_others front v (Err e) = refl
 
-  pub others_go : (front : List ℕ) (n m k v at end : ℕ) (bytes rest : List ℕ) → n ≡ suc m → sample_at wide maxval k at bytes ≡ done v end rest → and_others front wide maxval n k at bytes ≡ and_others (front ++ v ∷ []) wide maxval m (k + 1) end rest
+  pub others_go : (front : List ℕ) (n m k v at end : ℕ) (bytes rest : List ℕ) → n ≡ suc m → sample_at form maxval k at bytes ≡ done v end rest → and_others front form maxval n k at bytes ≡ and_others (front ++ v ∷ []) form maxval m (k + 1) end rest
   unfolding and_others samples_at
-  others_go front n m k v at end bytes rest is e = rw (is, e) (regroup_others front v (samples_at wide maxval m (k + 1) end rest))
+  others_go front n m k v at end bytes rest is e = rw (is, e) (regroup_others front v (samples_at form maxval m (k + 1) end rest))
 
-  pub others_break : (front : List ℕ) (n m k at : ℕ) (bytes : List ℕ) (f : ReadPlaneFault) → n ≡ suc m → (let x : Reading ℕ = Err f in sample_at wide maxval k at bytes ≡ x) → (let y : Reading (List ℕ) = Err f in and_others front wide maxval n k at bytes ≡ y)
+  pub others_break : (front : List ℕ) (n m k at : ℕ) (bytes : List ℕ) (f : PlaneFault) → n ≡ suc m → (let x : Reading ℕ = Err f in sample_at form maxval k at bytes ≡ x) → (let y : Reading (List ℕ) = Err f in and_others front form maxval n k at bytes ≡ y)
   unfolding and_others samples_at
   others_break front n m k at bytes f is e = rw (is, e) refl
 
@@ -392,6 +431,27 @@ two_bytes high low = omega arith
 
 abbrev pub as_samples : Vec ℕ → List ℕ
 as_samples v = v.items
+
+-- ---- the raster
+
+module _ (maxval count : ℕ) (c : Call) where
+  pub raster_samples : (spelling : Spelling) (v : Vec ℕ) → Reads as_samples (Ok v) c (samples_at (form_of spelling maxval) maxval count 0) → Goes c (raster_at spelling maxval count) (end_of spelling v.items)
+  unfolding raster_at
+  raster_samples spelling v h = bind_goes as_samples c v (samples_at (form_of spelling maxval) maxval count 0) (end_of spelling) h
+
+  pub raster_passes : (spelling : Spelling) (e : ReadPlaneFault) → Reads as_samples (Err e) c (samples_at (form_of spelling maxval) maxval count 0) → Reads as_samples (Err e) c (raster_at spelling maxval count)
+  unfolding raster_at
+  raster_passes spelling e h = bind_passes as_samples as_samples c e (samples_at (form_of spelling maxval) maxval count 0) (end_of spelling) h
+
+  pub raster_raw : (v : Vec ℕ) → Reads as_samples (Ok v) c (samples_at (form_of Raw maxval) maxval count 0) → Reads as_samples (Ok v) c (raster_at Raw maxval count)
+  unfolding raster_at
+  raster_raw v h = becomes as_samples as_samples c v v (samples_at (form_of Raw maxval) maxval count 0) (raster_at Raw maxval count) h (λ bytes rest e. rw e refl)
+
+pub end_passes : (c : Call) (v : Vec ℕ) (e : ReadPlaneFault) → Reads as_nothing (Err e) c end_at → Reads as_samples (Err e) c (end_of Plain v.items)
+end_passes c v e h = bind_passes as_nothing as_samples c e end_at (λ _ end others. Ok (v.items, end, others)) h
+
+pub end_finds : (c : Call) (v : Vec ℕ) (u : Unit {0}) → Reads as_nothing (Ok u) c end_at → Reads as_samples (Ok v) c (end_of Plain v.items)
+end_finds c v u h = becomes as_nothing as_samples c u v end_at (end_of Plain v.items) h (λ bytes rest e. rw e refl)
 
 -- one more sample that is not above maxval
 pub below_push : (m : ℕ) (xs : List ℕ) (v : ℕ) → ((k : ℕ) → get_or xs k 0 ≤ m) → v ≤ m → (k : ℕ) → get_or (xs ++ v ∷ []) k 0 ≤ m

@@ -28,6 +28,6 @@ pub record Moves (c : Call) : Type 0 where
   pub place : c.end ≡ c.at + length front
   pub grows : c.before ≤ c.after
 
--- where the bytes are told, a text for which P holds was taken from their front
-abbrev pub Takes : Call → (List ℕ → Type 0) → Type 0
-Takes c P = IfSome c.told (λ bytes. (text : List ℕ) × (rest : List ℕ) × ((bytes ≡ text ++ rest) × ((c.left ≡ Some rest) × ((c.end ≡ c.at + length text) × P text))))
+-- where the bytes are told, a text was taken from their front, for which and for what is left P holds
+abbrev pub Takes : Call → (List ℕ → List ℕ → Type 0) → Type 0
+Takes c P = IfSome c.told (λ bytes. (text : List ℕ) × (rest : List ℕ) × ((bytes ≡ text ++ rest) × ((c.left ≡ Some rest) × ((c.end ≡ c.at + length text) × P text rest))))

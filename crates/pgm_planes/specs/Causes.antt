@@ -1,21 +1,27 @@
 -- Why a plane is not read.
-use Rattle.std.specs.Prelude.{◌≡◌, ℕ, List, ◌++◌, Option, IfSome, ⊤}
+use Rattle.std.specs.Prelude.{◌≡◌, ℕ, List, Some, IfSome, Result, Ok, Err, ⊤}
 use Rattle.insar_ports.specs.Bytes.{HasMore, HasRisen}
 use Rattle.pgm_planes.specs.declared.fault.Role.{Role}
 use Rattle.pgm_planes.specs.declared.fault.ReadPlaneFault.{ReadPlaneFault}
 use Rattle.pgm_planes.specs.declared.fault.ReadPlaneFault.TheVariants as errors
-use Rattle.pgm_planes.specs.Planes.{PlaneOf, IsRawPlane}
+use Rattle.raster_model.specs.declared.plane.Plane.{Plane}
+use Rattle.pgm_planes.specs.Planes.{PlaneOf, plane_of}
+use Rattle.pgm_planes.specs.Breaks.{FirstBreak}
 use Rattle.pgm_planes.specs.Calls.{Call}
 
--- where the bytes are told, no front of them spells a raw plane of the role
-abbrev pub BeginsWithNoPlane : Role → Option (List ℕ) → Type 0
-BeginsWithNoPlane role told = IfSome told (λ bytes. (text rest : List ℕ) (p : PlaneOf) → bytes ≡ text ++ rest → IsRawPlane role text p → ⊥)
-
--- No plane stands there; or the limit was handed out and another byte is there; or a fault of the source was
--- counted; or memory ran out, which has no cause.
+-- Where the bytes are told, they have this first break; or the limit was handed out and another byte is there; or a
+-- fault of the source was counted; or memory ran out, which has no cause.
 abbrev pub HasCause : Role → Call → ReadPlaneFault → Type 0
-HasCause role c (errors.Plane fault) = BeginsWithNoPlane role c.told
-HasCause role c errors.Unbuilt = BeginsWithNoPlane role c.told
+HasCause role c (errors.Plane fault) = IfSome c.told (λ bytes. FirstBreak role c.at bytes fault)
 HasCause role c errors.TooLong = (c.end ≡ c.limit) × HasMore c.left
 HasCause role c errors.ReadFault = HasRisen c.before c.after
 HasCause role c errors.Memory = ⊤
+
+-- Bytes that begin with the plane p are read as it, and `rest` is left; or a read failed, the limit cut them or memory
+-- ran out.
+abbrev pub IsReadAs : Call → PlaneOf → List ℕ → Result Plane ReadPlaneFault → Type 0
+IsReadAs c p rest (Ok plane) = (plane_of plane ≡ p) × (c.left ≡ Some rest)
+IsReadAs c p rest (Err (errors.Plane fault)) = ⊥
+IsReadAs c p rest (Err errors.TooLong) = ⊤
+IsReadAs c p rest (Err errors.ReadFault) = ⊤
+IsReadAs c p rest (Err errors.Memory) = ⊤

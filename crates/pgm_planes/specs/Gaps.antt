@@ -25,6 +25,16 @@ abbrev pub is_gap : List ℕ → Bool
 is_gap [] = false
 is_gap (b ∷ bs) = is_space b && is_filling false bs
 
+-- one or more white space bytes
+abbrev pub is_blank : List ℕ → Bool
+is_blank [] = false
+is_blank (b ∷ bs) = is_space b && list_all is_space bs
+
+-- whether the next byte passes a test; none does at the end
+abbrev pub begins : (ℕ → Bool) → List ℕ → Bool
+begins test [] = false
+begins test (b ∷ bs) = test b
+
 -- one or more decimal digits; leading zeros are allowed
 abbrev pub is_number : List ℕ → Bool
 is_number [] = false

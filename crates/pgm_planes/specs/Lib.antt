@@ -1,6 +1,9 @@
 pub mod Faults
 pub mod Gaps
 pub mod Planes
+pub mod Breaks
+pub mod Laws
 pub mod Calls
 pub mod Causes
 pub mod Reading
+pub mod Text

@@ -1,9 +1,12 @@
 -- PGM planes as bytes: pgm(5), "The Format".
 use Rattle.std.specs.Prelude.{◌≡◌, ℕ, ◌+◌, ◌*◌, ◌≤◌, nat_lt, Bool, true, false, IsTrue, List, [], ◌∷◌, ◌++◌, length, All}
+use Rattle.std.specs.List.{list_all}
 use Rattle.raster_model.specs.declared.plane.Plane.{Plane}
 use Rattle.pgm_planes.specs.declared.fault.Role.{Role}
 use Rattle.pgm_planes.specs.declared.fault.Role.TheVariants.{Phase, Weight, Mask}
-use Rattle.pgm_planes.specs.Gaps.{is_space, is_gap, is_number, number_of}
+use Rattle.pgm_planes.specs.declared.spelling.Spelling.{Spelling}
+use Rattle.pgm_planes.specs.declared.spelling.Spelling.TheVariants.{Raw, Plain}
+use Rattle.pgm_planes.specs.Gaps.{is_space, is_gap, is_blank, is_number, number_of, begins}
 
 -- a plane without where its samples lie in memory
 pub record PlaneOf : Type 0 where
@@ -34,6 +37,23 @@ pub record IsPlane (role : Role) (p : PlaneOf) : Type 0 where
   pub count : length p.samples ≡ p.width * p.height
   pub samples : All (λ v. v ≤ p.maxval) p.samples
 
+-- Numbers one after the other, each behind a gap that passes the test.
+abbrev pub AreNumbers : (List ℕ → Bool) → List ℕ → List ℕ → Type 0
+AreNumbers gaps bytes [] = bytes ≡ []
+AreNumbers gaps bytes (n ∷ ns) = (gap : List ℕ) × (digits : List ℕ) × (others : List ℕ) × (bytes ≡ gap ++ (digits ++ others)) × IsTrue (gaps gap) × IsTrue (is_number digits) × (n ≡ number_of digits) × AreNumbers gaps others ns
+
+-- the second byte of the magic: P5 is a raw plane and P2 a plain one
+abbrev pub digit_of : Spelling → ℕ
+digit_of Raw = 53
+digit_of Plain = 50
+
+-- The bytes begin with the magic, the width, the height and maxval, and then stands `behind`, whose first byte is white space.
+pub record HasHeader (spelling : Spelling) (bytes : List ℕ) (width height maxval : ℕ) (behind : List ℕ) : Type 0 where
+  pub numbers : List ℕ
+  pub whole : bytes ≡ 80 ∷ digit_of spelling ∷ (numbers ++ behind)
+  pub are : AreNumbers is_gap numbers (width ∷ height ∷ maxval ∷ [])
+  pub space : IsTrue (begins is_space behind)
+
 -- Samples of a raw raster: one byte each (false), or two, the most significant first (true).
 abbrev pub IsRaster : Bool → List ℕ → List ℕ → Type 0
 IsRaster wide bytes [] = bytes ≡ []
@@ -46,26 +66,31 @@ IsRaster true (high ∷ low ∷ bytes) (v ∷ vs) = (v ≡ 256 * high + low) × 
 abbrev pub is_wide : ℕ → Bool
 is_wide maxval = nat_lt 255 maxval
 
--- The bytes spell a raw plane: P5, then width, height and maxval, each behind a gap, then one white
--- space byte and the raster.
-pub record IsRawPlane (role : Role) (bytes : List ℕ) (p : PlaneOf) : Type 0 where
-  pub gap_1 : List ℕ
-  pub width : List ℕ
-  pub gap_2 : List ℕ
-  pub height : List ℕ
-  pub gap_3 : List ℕ
-  pub maxval : List ℕ
-  pub space : ℕ
-  pub raster : List ℕ
-  pub whole : bytes ≡ 80 ∷ 53 ∷ (gap_1 ++ (width ++ (gap_2 ++ (height ++ (gap_3 ++ (maxval ++ (space ∷ raster)))))))
-  pub gaps : IsTrue (is_gap gap_1) × IsTrue (is_gap gap_2) × IsTrue (is_gap gap_3) × IsTrue (is_space space)
-  pub numbers : IsTrue (is_number width) × IsTrue (is_number height) × IsTrue (is_number maxval)
-  pub width_is : p.width ≡ number_of width
-  pub height_is : p.height ≡ number_of height
-  pub maxval_is : p.maxval ≡ number_of maxval
-  pub raster_is : IsRaster (is_wide p.maxval) raster p.samples
+-- The white space byte behind maxval, and samples. In a plain raster each sample is a number behind white space, and the
+-- first one's begins with the byte behind maxval.
+abbrev pub AreSamples : Spelling → ℕ → List ℕ → List ℕ → Type 0
+AreSamples Raw maxval bytes vs = (space : ℕ) × (raster : List ℕ) × (bytes ≡ space ∷ raster) × IsTrue (is_space space) × IsRaster (is_wide maxval) raster vs
+AreSamples Plain maxval bytes vs = AreNumbers is_blank bytes vs
+
+-- What of white space belongs to the plane behind its last sample, and what may follow: behind a plain sample white space
+-- or the end, and all white space there is taken.
+abbrev pub IsEnd : Spelling → List ℕ → List ℕ → Type 0
+IsEnd Raw blank rest = blank ≡ []
+IsEnd Plain blank rest = IsTrue (list_all is_space blank) × (begins is_space rest ≡ false) × (blank ≡ [] → rest ≡ [])
+
+-- The bytes spell a plane, where `rest` follows: the header, the samples and the end.
+pub record IsPlaneText (spelling : Spelling) (role : Role) (bytes : List ℕ) (p : PlaneOf) (rest : List ℕ) : Type 0 where
+  pub samples : List ℕ
+  pub end : List ℕ
+  pub header : HasHeader spelling bytes p.width p.height p.maxval (samples ++ end)
+  pub raster : AreSamples spelling p.maxval samples p.samples
+  pub ended : IsEnd spelling end rest
   pub plane : IsPlane role p
 
--- no raw plane's text begins another's, and each text spells one plane
-abbrev pub OnePlane : Type 0
-OnePlane = (role : Role) (text x other y : List ℕ) (p q : PlaneOf) → IsRawPlane role text p → IsRawPlane role other q → text ++ x ≡ other ++ y → (text ≡ other) × (p ≡ q)
+-- the bytes spell a plane in either way, where `rest` follows
+abbrev pub SpellsPlane : Role → List ℕ → PlaneOf → List ℕ → Type 0
+SpellsPlane role bytes p rest = (spelling : Spelling) × IsPlaneText spelling role bytes p rest
+
+-- the bytes are a plane's text and then `rest`
+abbrev pub IsPlaneIn : Role → List ℕ → PlaneOf → List ℕ → Type 0
+IsPlaneIn role bytes p rest = (text : List ℕ) × (bytes ≡ text ++ rest) × SpellsPlane role text p rest

@@ -9,12 +9,16 @@ use Rattle.pgm_planes.specs.declared.fault.PlaneFault.TheVariants.{Magic, Form, 
 use Rattle.pgm_planes.specs.declared.fault.ReadPlaneFault.{ReadPlaneFault}
 use Rattle.pgm_planes.specs.declared.fault.ReadPlaneFault.TheVariants as errors
 use Rattle.pgm_planes.specs.declared.header.Header.{Header}
+use Rattle.pgm_planes.specs.declared.spelling.Spelling.{Spelling}
+use Rattle.pgm_planes.specs.declared.spelling.Spelling.TheVariants.{Raw, Plain}
+use Rattle.pgm_planes.specs.declared.samples.SampleForm.{SampleForm}
+use Rattle.pgm_planes.specs.declared.samples.SampleForm.TheVariants.{Narrow, Wide, Digits}
 use Rattle.pgm_planes.specs.Gaps.{is_space, is_line_end, is_digit}
-use Rattle.pgm_planes.specs.Planes.{PlaneOf, is_wide}
+use Rattle.pgm_planes.specs.Planes.{PlaneOf}
 
 -- a value, the place behind it and the bytes from there, or the break
 abbrev pub Reading : Type 0 → Type 0
-Reading A = Result (A × ℕ × List ℕ) ReadPlaneFault
+Reading A = Result (A × ℕ × List ℕ) PlaneFault
 
 -- what reads a value from a place and the bytes from there on
 abbrev pub Reader : Type 0 → Type 0
@@ -26,7 +30,7 @@ abbrev pub ◌>>=◌ : {A B : Type 0} → Reading A → (A → Reader B) → Rea
 (Err e) >>= f = Err e
 
 abbrev pub breaks : {A : Type 0} → PlaneFault → Reading A
-breaks fault = Err (errors.Plane fault)
+breaks fault = Err fault
 
 abbrev pub nothing : Unit {0}
 nothing = tt
@@ -40,19 +44,20 @@ unfoldable pub sight_at : Reader (Option ℕ)
 sight_at at [] = Ok (None, at, [])
 sight_at at (b ∷ rest) = Ok (Some b, at, b ∷ rest)
 
--- P5; P2 stands for a plane that is not built yet
-abbrev pub magic_answer : ℕ → Option ℕ → Result (Unit {0}) ReadPlaneFault
-magic_answer a None = Err (errors.Plane Magic)
-magic_answer a (Some b) = if (a == 80) && (b == 53) then Ok nothing else (if (a == 80) && (b == 50) then Err errors.Unbuilt else Err (errors.Plane Magic))
+-- what a value or a break is, or none
+abbrev pub or_breaks : {A : Type 0} → PlaneFault → Option A → Reader A
+or_breaks fault None at rest = breaks fault
+or_breaks fault (Some x) at rest = Ok (x, at, rest)
 
-abbrev pub magic_then : Result (Unit {0}) ReadPlaneFault → Reader (Unit {0})
-magic_then (Ok _) at rest = Ok (nothing, at, rest)
-magic_then (Err e) at rest = Err e
+-- what P and the byte behind it stand for: P5 is raw and P2 plain
+abbrev pub spelling_of : ℕ → Option ℕ → Option Spelling
+spelling_of a None = None
+spelling_of a (Some b) = if (a == 80) && (b == 53) then Some Raw else (if (a == 80) && (b == 50) then Some Plain else None)
 
-unfoldable pub magic_at : Reader (Unit {0})
+unfoldable pub magic_at : Reader Spelling
 magic_at at [] = breaks Magic
 magic_at at (a ∷ []) = breaks Magic
-magic_at at (a ∷ b ∷ rest) = magic_then (magic_answer a (Some b)) (at + 2) rest
+magic_at at (a ∷ b ∷ rest) = or_breaks Magic (spelling_of a (Some b)) (at + 2) rest
 
 unfoldable pub space_at : Reader (Unit {0})
 space_at at [] = breaks (Form at)
@@ -70,6 +75,11 @@ filling_at true at [] = breaks (Form at)
 filling_at false at (b ∷ rest) = if is_space b then filling_at false (at + 1) rest else (if b == 35 then filling_at true (at + 1) rest else Ok (nothing, at, b ∷ rest))
 filling_at true at (b ∷ rest) = if is_line_end b then filling_at false (at + 1) rest else filling_at true (at + 1) rest
 
+-- white space
+unfoldable pub blanks_at : Reader (Unit {0})
+blanks_at at [] = Ok (nothing, at, [])
+blanks_at at (b ∷ rest) = if is_space b then blanks_at (at + 1) rest else Ok (nothing, at, b ∷ rest)
+
 -- one more digit; numbers stop growing at 4,294,967,295
 abbrev pub with_digit : ℕ → ℕ → ℕ
 with_digit n b = min (10 * n + (b - 48)) 4294967295
@@ -78,13 +88,14 @@ unfoldable pub digits_at : ℕ → Reader ℕ
 digits_at n at [] = Ok (n, at, [])
 digits_at n at (b ∷ rest) = if is_digit b then digits_at (with_digit n b) (at + 1) rest else Ok (n, at, b ∷ rest)
 
-unfoldable pub number_at : Reader ℕ
-number_at at [] = breaks (Form at)
-number_at at (b ∷ rest) = if is_digit b then digits_at (b - 48) (at + 1) rest else breaks (Form at)
+-- a number, or `cut` where the input ends before it
+unfoldable pub number_at : PlaneFault → Reader ℕ
+number_at cut at [] = breaks cut
+number_at cut at (b ∷ rest) = if is_digit b then digits_at (b - 48) (at + 1) rest else breaks (Form at)
 
 -- a gap and a number, with the place of its first digit
 unfoldable pub field_at : Reader (ℕ × ℕ)
-field_at at bytes = space_at at bytes >>= λ _ after rest. filling_at false after rest >>= λ _ place digits. number_at place digits >>= λ n end others. Ok ((n, place), end, others)
+field_at at bytes = space_at at bytes >>= λ _ after rest. filling_at false after rest >>= λ _ place digits. number_at (Form place) place digits >>= λ n end others. Ok ((n, place), end, others)
 
 pub record HeaderOf : Type 0 where
   pub width : ℕ
@@ -113,29 +124,53 @@ unfoldable pub header_at : Role → Reader HeaderOf
 header_at role at bytes = field_at at bytes >>= λ w at_2 rest_2. field_at at_2 rest_2 >>= λ h at_3 rest_3. field_at at_3 rest_3 >>= λ m at_4 rest_4. space_at at_4 rest_4 >>= λ _ end others. unless_broken (header_break role w.0 h.0 m.0 m.1) (Ok (record { width = w.0; height = h.0; maxval = m.0 }, end, others))
 
 -- the sample with the given index, if it is not above maxval
-abbrev pub judged : ℕ → ℕ → ℕ → Result ℕ ReadPlaneFault
-judged maxval index v = if nat_lt maxval v then Err (errors.Plane (SampleAbove index v)) else Ok v
+abbrev pub judged : ℕ → ℕ → ℕ → Result ℕ PlaneFault
+judged maxval index v = if nat_lt maxval v then Err (SampleAbove index v) else Ok v
 
-abbrev pub and_behind : Result ℕ ReadPlaneFault → Reader ℕ
+abbrev pub and_behind : Result ℕ PlaneFault → Reader ℕ
 and_behind (Ok v) at rest = Ok (v, at, rest)
 and_behind (Err e) at rest = Err e
 
--- one sample of one byte or of two, that with the given index
-unfoldable pub sample_at : Bool → ℕ → ℕ → Reader ℕ
-sample_at wide maxval index at [] = breaks (Short index)
-sample_at false maxval index at (b ∷ rest) = and_behind (judged maxval index b) (at + 1) rest
-sample_at true maxval index at (high ∷ []) = breaks (Short index)
-sample_at true maxval index at (high ∷ low ∷ rest) = and_behind (judged maxval index (256 * high + low)) (at + 2) rest
+-- how the samples of a plane are spelled
+abbrev pub form_of : Spelling → ℕ → SampleForm
+form_of Raw maxval = if nat_lt 255 maxval then Wide else Narrow
+form_of Plain maxval = Digits
+
+-- one sample, that with the given index
+unfoldable pub sample_at : SampleForm → ℕ → ℕ → Reader ℕ
+sample_at Narrow maxval index at [] = breaks (Short index)
+sample_at Narrow maxval index at (b ∷ rest) = and_behind (judged maxval index b) (at + 1) rest
+sample_at Wide maxval index at [] = breaks (Short index)
+sample_at Wide maxval index at (high ∷ []) = breaks (Short index)
+sample_at Wide maxval index at (high ∷ low ∷ rest) = and_behind (judged maxval index (256 * high + low)) (at + 2) rest
+sample_at Digits maxval index at bytes = blanks_at at bytes >>= λ _ place digits. number_at (Short index) place digits >>= λ v. and_behind (judged maxval index v)
 
 -- so many samples, the first with the given index
-unfoldable pub samples_at : Bool → ℕ → ℕ → ℕ → Reader (List ℕ)
-samples_at wide maxval zero index at bytes = Ok ([], at, bytes)
-samples_at wide maxval (suc n) index at bytes = sample_at wide maxval index at bytes >>= λ v after rest. samples_at wide maxval n (index + 1) after rest >>= λ vs end others. Ok (v ∷ vs, end, others)
+unfoldable pub samples_at : SampleForm → ℕ → ℕ → ℕ → Reader (List ℕ)
+samples_at form maxval zero index at bytes = Ok ([], at, bytes)
+samples_at form maxval (suc n) index at bytes = sample_at form maxval index at bytes >>= λ v after rest. samples_at form maxval n (index + 1) after rest >>= λ vs end others. Ok (v ∷ vs, end, others)
+
+-- the white space behind the last sample of a plain raster
+unfoldable pub end_at : Reader (Unit {0})
+end_at at [] = blanks_at at []
+end_at at (b ∷ rest) = if is_space b then blanks_at at (b ∷ rest) else breaks (Form at)
+
+abbrev pub end_of : Spelling → List ℕ → Reader (List ℕ)
+end_of Raw vs at rest = Ok (vs, at, rest)
+end_of Plain vs at rest = end_at at rest >>= λ _ end others. Ok (vs, end, others)
+
+unfoldable pub raster_at : Spelling → ℕ → ℕ → Reader (List ℕ)
+raster_at spelling maxval count at bytes = samples_at (form_of spelling maxval) maxval count 0 at bytes >>= end_of spelling
 
 unfoldable pub plane_at : Role → Reader PlaneOf
-plane_at role at bytes = magic_at at bytes >>= λ _ at_1 rest_1. header_at role at_1 rest_1 >>= λ h at_2 rest_2. samples_at (is_wide h.maxval) h.maxval (h.width * h.height) 0 at_2 rest_2 >>= λ vs end others. Ok (record { width = h.width; height = h.height; maxval = h.maxval; samples = vs }, end, others)
+plane_at role at bytes = magic_at at bytes >>= λ spelling at_1 rest_1. header_at role at_1 rest_1 >>= λ h at_2 rest_2. raster_at spelling h.maxval (h.width * h.height) at_2 rest_2 >>= λ vs end others. Ok (record { width = h.width; height = h.height; maxval = h.maxval; samples = vs }, end, others)
 
 -- ---- calls on a feed
+
+-- a break as a refusal
+abbrev pub told : {A : Type 0} → Result A PlaneFault → Result A ReadPlaneFault
+told (Ok x) = Ok x
+told (Err fault) = Err (errors.Plane fault)
 
 -- the bytes that were told, and those that are left, where they are told
 abbrev pub Told : Call → (List ℕ → List ℕ → Type 0) → Type 0
@@ -145,7 +180,6 @@ Told c P = (bytes rest : List ℕ) → c.told ≡ Some bytes → c.left ≡ Some
 abbrev pub Answers : {X A : Type 0} → (X → A) → Result X ReadPlaneFault → Call → Reader A → Type 0
 Answers view (Ok x) c read = Told c (λ bytes rest. read c.at bytes ≡ Ok (view x, c.end, rest))
 Answers view (Err (errors.Plane fault)) c read = Told c (λ bytes rest. read c.at bytes ≡ breaks fault)
-Answers view (Err errors.Unbuilt) c read = Told c (λ bytes rest. read c.at bytes ≡ Err errors.Unbuilt)
 Answers view (Err errors.TooLong) c read = (c.end ≡ c.limit) × HasMore c.left
 Answers view (Err errors.ReadFault) c read = HasRisen c.before c.after
 Answers view (Err errors.Memory) c read = Unit {0}

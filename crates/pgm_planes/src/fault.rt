@@ -48,8 +48,6 @@ pub enum PlaneFault {
 pub enum ReadPlaneFault {
     /// The bytes are no plane, and this is the first break.
     Plane(PlaneFault),
-    /// A plain plane stands there, whose reader is not built yet.
-    Unbuilt,
     /// The feed's limit was handed out, and another byte is there.
     TooLong,
     /// The source failed and counted a fault.
@@ -94,10 +92,10 @@ pub enum InputFault {
     /// The input has more bytes than an input may have.
     #[error("the input is too long")]
     TooLong,
+    /// The plane of this role has not the phase plane's size.
+    #[error("the size of the {0:?} plane is not that of the phase plane")]
+    SizesDiffer(Role),
     /// A form whose reader is not built yet.
     #[error("a form that is not built yet")]
     Unbuilt,
-    /// The cell with the upper left corner (`x`, `y`) is the first in row order that has a residue.
-    #[error("the cell {x} {y} has a residue")]
-    Residue { x: u32, y: u32 },
 }

@@ -3,9 +3,10 @@ ghost use Rattle.insar_ports.specs.Feeding.{source_name, limit_of, handed_of, wa
 ghost use Rattle.pgm_planes.specs.Gaps.{is_space as is_space_byte, is_line_end as is_line_end_byte, is_digit as is_digit_byte};
 ghost use Rattle.pgm_planes.specs.Planes.{HasMaxval, IsSize};
 ghost use Rattle.pgm_planes.specs.Calls.{call_of};
-ghost use Rattle.pgm_planes.specs.Reading.{Reads, nothing, byte_at, sight_at, magic_answer, magic_at, space_at, filling_at, inside_after as inside_after_byte, digits_at, number_at, field_at, with_digit as with_digit_byte, header_break as break_of_header, header_at, header_of};
+ghost use Rattle.pgm_planes.specs.Reading.{Reads, nothing, byte_at, sight_at, spelling_of as spelling_of_magic, magic_at, space_at, filling_at, blanks_at, inside_after as inside_after_byte, digits_at, number_at, field_at, with_digit as with_digit_byte, header_break as break_of_header, header_at, header_of};
 
 use crate::fault::{PlaneFault, ReadPlaneFault, Role};
+use crate::spelling::Spelling;
 use insar_ports::{Feed, Source};
 
 const GREATEST_SIDE: u32 = 4096;
@@ -33,7 +34,7 @@ pub fn take_byte<S: Source>(feed: &mut Feed<S>) -> Result<Option<u8>, ReadPlaneF
 }
 
 /// The next byte, which stays.
-fn see_byte<S: Source>(feed: &mut Feed<S>) -> Result<Option<u8>, ReadPlaneFault>
+pub fn see_byte<S: Source>(feed: &mut Feed<S>) -> Result<Option<u8>, ReadPlaneFault>
     ensures same_source { source_name feed.new ≡ source_name feed.old }
     ensures limit { limit_of feed.new ≡ limit_of feed.old }
     ensures reads { Reads (λ got. got) result (call_of S.left S.faults feed.old feed.new) sight_at }
@@ -44,7 +45,7 @@ fn see_byte<S: Source>(feed: &mut Feed<S>) -> Result<Option<u8>, ReadPlaneFault>
 }
 
 /// White space: TAB, LF, VT, FF, CR and SP.
-fn is_space(byte: u8) -> bool
+pub fn is_space(byte: u8) -> bool
     ensures { result ≡ is_space_byte byte }
 {
     byte == b' ' || (9..=13).contains(&byte)
@@ -63,27 +64,30 @@ fn is_digit(byte: u8) -> bool
 }
 
 /// What the magic's letter and the byte behind it stand for.
-fn magic_of(letter: u8, number: Option<u8>) -> Result<(), ReadPlaneFault>
-    ensures { result ≡ magic_answer letter number }
+fn spelling_of(letter: u8, digit: Option<u8>) -> Option<Spelling>
+    ensures { result ≡ spelling_of_magic letter digit }
 {
-    match number {
-        Some(b'5') if letter == b'P' => Ok(()),
-        Some(b'2') if letter == b'P' => Err(ReadPlaneFault::Unbuilt),
-        _ => Err(ReadPlaneFault::Plane(PlaneFault::Magic)),
+    match digit {
+        Some(b'5') if letter == b'P' => Some(Spelling::Raw),
+        Some(b'2') if letter == b'P' => Some(Spelling::Plain),
+        _ => None,
     }
 }
 
-/// Takes `P5`.
-pub fn read_magic<S: Source>(feed: &mut Feed<S>) -> Result<(), ReadPlaneFault>
+/// Takes `P5` or `P2`.
+pub fn read_magic<S: Source>(feed: &mut Feed<S>) -> Result<Spelling, ReadPlaneFault>
     ensures same_source { source_name feed.new ≡ source_name feed.old }
     ensures limit { limit_of feed.new ≡ limit_of feed.old }
-    ensures reads { Reads (λ _. nothing) result (call_of S.left S.faults feed.old feed.new) magic_at }
+    ensures reads { Reads (λ s. s) result (call_of S.left S.faults feed.old feed.new) magic_at }
 {
     let Some(letter) = take_byte(feed)? else {
         return Err(ReadPlaneFault::Plane(PlaneFault::Magic));
     };
-    let number = take_byte(feed)?;
-    magic_of(letter, number)
+    let digit = take_byte(feed)?;
+    match spelling_of(letter, digit) {
+        Some(spelling) => Ok(spelling),
+        None => Err(ReadPlaneFault::Plane(PlaneFault::Magic)),
+    }
 }
 
 /// Takes one byte of white space.
@@ -136,6 +140,23 @@ fn skip_filling<S: Source>(feed: &mut Feed<S>) -> Result<(), ReadPlaneFault>
     }
 }
 
+/// Takes white space.
+pub fn skip_blanks<S: Source>(feed: &mut Feed<S>) -> Result<(), ReadPlaneFault>
+    ensures same_source { source_name feed.new ≡ source_name feed.old }
+    ensures limit { limit_of feed.new ≡ limit_of feed.old }
+    ensures reads { Reads (λ _. nothing) result (call_of S.left S.faults feed.old feed.new) blanks_at }
+{
+    loop {
+        let Some(byte) = see_byte(feed)? else {
+            return Ok(());
+        };
+        if !is_space(byte) {
+            return Ok(());
+        }
+        take_byte(feed)?;
+    }
+}
+
 /// A number with one more digit; it stops growing at the greatest `u32`.
 fn with_digit(number: u32, byte: u8) -> u32
     requires { is_digit_byte byte ≡ true }
@@ -165,16 +186,17 @@ fn read_digits<S: Source>(feed: &mut Feed<S>, number: u32) -> Result<u32, ReadPl
     }
 }
 
-/// Takes a number.
-fn read_number<S: Source>(feed: &mut Feed<S>) -> Result<u32, ReadPlaneFault>
+/// Takes a number; `cut` is told where the input ends before it.
+pub fn read_number<S: Source>(feed: &mut Feed<S>, cut: PlaneFault) -> Result<u32, ReadPlaneFault>
     ensures same_source { source_name feed.new ≡ source_name feed.old }
     ensures limit { limit_of feed.new ≡ limit_of feed.old }
-    ensures reads { Reads (λ n. n) result (call_of S.left S.faults feed.old feed.new) number_at }
+    ensures reads { Reads (λ n. n) result (call_of S.left S.faults feed.old feed.new) (number_at cut) }
 {
     let place = feed.handed();
     match take_byte(feed)? {
         Some(byte) if is_digit(byte) => read_digits(feed, u32::from(byte - b'0')),
-        _ => Err(ReadPlaneFault::Plane(PlaneFault::Form(place))),
+        Some(_) => Err(ReadPlaneFault::Plane(PlaneFault::Form(place))),
+        None => Err(ReadPlaneFault::Plane(cut)),
     }
 }
 
@@ -187,7 +209,7 @@ fn read_field<S: Source>(feed: &mut Feed<S>) -> Result<(u32, u64), ReadPlaneFaul
     read_space(feed)?;
     skip_filling(feed)?;
     let place = feed.handed();
-    let number = read_number(feed)?;
+    let number = read_number(feed, PlaneFault::Form(place))?;
     Ok((number, place))
 }
 

@@ -1,8 +1,20 @@
 //! Laws of the definitions. The functions do nothing; each contract is the law.
 
-ghost use Rattle.pgm_planes.specs.Planes.{OnePlane};
+ghost use Rattle.pgm_planes.specs.Laws.{OnePlane, OneBreak, NoBreakOfPlane, PlaneOrBreak, WrittenIsRead};
 
-/// No plane's text begins another's, and a text spells one plane.
+/// Bytes begin with one plane's text at most, and a text spells one plane.
 pub fn one_plane()
     ensures { OnePlane }
+{}
+
+/// Bytes either begin with a plane or have a first break, and one first break at most.
+pub fn plane_or_break()
+    ensures either { PlaneOrBreak }
+    ensures not_both { NoBreakOfPlane }
+    ensures one_break { OneBreak }
+{}
+
+/// What `write_plane` writes is read as the plane, whatever follows.
+pub fn written_is_read()
+    ensures { WrittenIsRead }
 {}

@@ -1,4 +1,4 @@
-//! PGM planes, read exactly: a plane, or the first break with its place.
+//! PGM planes: read exactly, as a plane or its first break with the place, and written.
 #![tactic(auto)]
 
 mod fault;
@@ -6,8 +6,11 @@ mod header;
 pub mod laws;
 mod plane;
 mod samples;
+mod spelling;
 #[cfg(test)]
 mod tests;
+mod write;
 
 pub use fault::{InputFault, PlaneFault, ReadPlaneFault, Role};
 pub use plane::read_plane;
+pub use write::write_plane;

@@ -1,20 +1,21 @@
-ghost use Rattle.std.specs.Prelude.{◌≡◌, IfOk, IfErr};
-ghost use Rattle.insar_ports.specs.Feeding.{source_name, limit_of};
-ghost use Rattle.pgm_planes.specs.Planes.{HasMaxval, IsRawPlane, plane_of};
+ghost use Rattle.std.specs.Prelude.{◌≡◌, ℕ, List, IfOk, IfErr, IfSome};
+ghost use Rattle.insar_ports.specs.Feeding.{left_of, source_name, limit_of};
+ghost use Rattle.pgm_planes.specs.Planes.{HasMaxval, PlaneOf, SpellsPlane, IsPlaneIn, plane_of};
 ghost use Rattle.pgm_planes.specs.Calls.{call_of};
 ghost use Rattle.pgm_planes.specs.Reading.{Reads, plane_at};
 ghost use Rattle.pgm_planes.specs.Calls.{Moves, Takes};
-ghost use Rattle.pgm_planes.specs.Causes.{HasCause};
+ghost use Rattle.pgm_planes.specs.Causes.{HasCause, IsReadAs};
 
 use crate::fault::{ReadPlaneFault, Role};
 use crate::header::{read_header, read_magic};
-use crate::samples::read_samples;
+use crate::samples::read_raster;
 use insar_ports::{Feed, Source};
 use raster_model::Plane;
 use std::alloc::Global;
 
-/// Reads one raw PGM plane from where the feed stands (pgm(5), "The Format"). Comments may stand in
-/// the gaps of the header alone. Places of a fault count all bytes that the feed handed out.
+/// Reads one PGM plane, raw or plain, from where the feed stands (pgm(5), "The Format"). Comments may
+/// stand in the gaps of the header alone. Places of a fault count all bytes that the feed handed out.
+/// Of several faults the first in order of bytes is told.
 ///
 /// After a refusal the feed stands where it was met, and the caller ends.
 pub fn read_plane<S: Source>(
@@ -27,15 +28,17 @@ pub fn read_plane<S: Source>(
     // What was handed out is what the feed has no more.
     ensures moves { Moves (call_of S.left S.faults feed.old feed.new) }
     // What is read is spelled so, each byte of it.
-    ensures read { IfOk result (λ plane. Takes (call_of S.left S.faults feed.old feed.new) (λ text. IsRawPlane role text (plane_of plane))) }
-    // What is no plane, and why else a plane is not read.
+    ensures read { IfOk result (λ plane. Takes (call_of S.left S.faults feed.old feed.new) (λ text rest. SpellsPlane role text (plane_of plane) rest)) }
+    // What is spelled so is read, and what follows is left.
+    ensures accepted { IfSome (left_of S.left feed.old) (λ bytes. (p : PlaneOf) (rest : List ℕ) → IsPlaneIn role bytes p rest → IsReadAs (call_of S.left S.faults feed.old feed.new) p rest result) }
+    // The first break, or why else a plane is not read.
     ensures refused { IfErr result (HasCause role (call_of S.left S.faults feed.old feed.new)) }
     ensures maxval { IfOk result (λ plane. HasMaxval role plane.maxval) }
 {
-    read_raw(alloc, feed, role)
+    read_spelled(alloc, feed, role)
 }
 
-fn read_raw<S: Source>(
+fn read_spelled<S: Source>(
     alloc: Global,
     feed: &mut Feed<S>,
     role: Role,
@@ -45,10 +48,10 @@ fn read_raw<S: Source>(
     ensures reads { Reads plane_of result (call_of S.left S.faults feed.old feed.new) (plane_at role) }
     ensures maxval { IfOk result (λ plane. HasMaxval role plane.maxval) }
 {
-    read_magic(feed)?;
+    let spelling = read_magic(feed)?;
     let header = read_header(feed, role)?;
     let count = header.width * header.height;
-    let samples = read_samples(alloc, feed, header.maxval, count)?;
+    let samples = read_raster(alloc, feed, spelling, header.maxval, count)?;
     Ok(Plane {
         width: header.width,
         height: header.height,

@@ -1,25 +1,50 @@
 ghost use Rattle.std.specs.Prelude.{◌≡◌, ◌≤◌, ◌<◌, ℕ, IfOk, vec_len, slice_index, true, false};
 ghost use Rattle.insar_ports.specs.Feeding.{source_name, limit_of};
-ghost use Rattle.pgm_planes.specs.Planes.{is_wide};
+ghost use Rattle.pgm_planes.specs.declared.samples.SampleForm.TheVariants as forms;
 ghost use Rattle.pgm_planes.specs.Calls.{call_of};
-ghost use Rattle.pgm_planes.specs.Reading.{Reads, sample_at, samples_at, judged as judged_sample};
+ghost use Rattle.pgm_planes.specs.Reading.{Reads, nothing, told, form_of as form_of_spelling, sample_at, samples_at, end_at, raster_at, judged as judged_sample};
 
 use crate::fault::{PlaneFault, ReadPlaneFault};
-use crate::header::take_byte;
+use crate::header::{is_space, read_number, see_byte, skip_blanks, take_byte};
+use crate::spelling::Spelling;
 use byteorder::{BigEndian, ByteOrder};
 use insar_ports::{Feed, Source};
 use std::alloc::Global;
 
+/// How one sample is spelled.
+#[derive(Clone, Copy)]
+pub enum SampleForm {
+    /// One byte.
+    Narrow,
+    /// Two bytes, the most significant first.
+    Wide,
+    /// Decimal digits behind white space.
+    Digits,
+}
+
+/// How the samples of a plane are spelled: a raw one has two bytes where maxval is from 256 on.
+fn form_of(spelling: Spelling, maxval: u16) -> SampleForm
+    ensures { result ≡ form_of_spelling spelling maxval }
+{
+    match spelling {
+        Spelling::Raw if maxval > 255 => SampleForm::Wide,
+        Spelling::Raw => SampleForm::Narrow,
+        Spelling::Plain => SampleForm::Digits,
+    }
+}
+
 /// The sample with this index, if it is not above `maxval`.
-fn judged(sample: u16, maxval: u16, index: u32) -> Result<u16, ReadPlaneFault>
-    ensures exact { result ≡ judged_sample maxval index sample }
+fn judged(sample: u32, maxval: u16, index: u32) -> Result<u16, ReadPlaneFault>
+    ensures exact { result ≡ told (judged_sample maxval index sample) }
     ensures below { IfOk result (λ sample. sample ≤ maxval) }
 {
-    if sample > maxval {
-        let value = u32::from(sample);
-        return Err(ReadPlaneFault::Plane(PlaneFault::SampleAbove { index, value }));
+    if sample > u32::from(maxval) {
+        return Err(ReadPlaneFault::Plane(PlaneFault::SampleAbove {
+            index,
+            value: sample,
+        }));
     }
-    Ok(sample)
+    Ok(sample as u16)
 }
 
 /// Takes a sample of one byte.
@@ -31,10 +56,10 @@ fn read_narrow<S: Source>(
     ensures same_source { source_name feed.new ≡ source_name feed.old }
     ensures limit { limit_of feed.new ≡ limit_of feed.old }
     ensures below { IfOk result (λ sample. sample ≤ maxval) }
-    ensures reads { Reads (λ n. n) result (call_of S.left S.faults feed.old feed.new) (sample_at false maxval index) }
+    ensures reads { Reads (λ n. n) result (call_of S.left S.faults feed.old feed.new) (sample_at forms.Narrow maxval index) }
 {
     match take_byte(feed)? {
-        Some(byte) => judged(u16::from(byte), maxval, index),
+        Some(byte) => judged(u32::from(byte), maxval, index),
         None => Err(ReadPlaneFault::Plane(PlaneFault::Short(index))),
     }
 }
@@ -44,39 +69,56 @@ fn read_wide<S: Source>(feed: &mut Feed<S>, maxval: u16, index: u32) -> Result<u
     ensures same_source { source_name feed.new ≡ source_name feed.old }
     ensures limit { limit_of feed.new ≡ limit_of feed.old }
     ensures below { IfOk result (λ sample. sample ≤ maxval) }
-    ensures reads { Reads (λ n. n) result (call_of S.left S.faults feed.old feed.new) (sample_at true maxval index) }
+    ensures reads { Reads (λ n. n) result (call_of S.left S.faults feed.old feed.new) (sample_at forms.Wide maxval index) }
 {
     let Some(high) = take_byte(feed)? else {
         return Err(ReadPlaneFault::Plane(PlaneFault::Short(index)));
     };
     match take_byte(feed)? {
-        Some(low) => judged(BigEndian::read_u16(&[high, low]), maxval, index),
+        Some(low) => {
+            let sample = BigEndian::read_u16(&[high, low]);
+            judged(u32::from(sample), maxval, index)
+        }
         None => Err(ReadPlaneFault::Plane(PlaneFault::Short(index))),
     }
 }
 
-/// Takes a sample, which has two bytes where maxval is from 256 on.
+/// Takes white space and a sample of digits.
+fn read_plain<S: Source>(feed: &mut Feed<S>, maxval: u16, index: u32) -> Result<u16, ReadPlaneFault>
+    ensures same_source { source_name feed.new ≡ source_name feed.old }
+    ensures limit { limit_of feed.new ≡ limit_of feed.old }
+    ensures below { IfOk result (λ sample. sample ≤ maxval) }
+    ensures reads { Reads (λ n. n) result (call_of S.left S.faults feed.old feed.new) (sample_at forms.Digits maxval index) }
+{
+    skip_blanks(feed)?;
+    let sample = read_number(feed, PlaneFault::Short(index))?;
+    judged(sample, maxval, index)
+}
+
+/// Takes a sample.
 fn read_sample<S: Source>(
     feed: &mut Feed<S>,
+    form: SampleForm,
     maxval: u16,
     index: u32,
 ) -> Result<u16, ReadPlaneFault>
     ensures same_source { source_name feed.new ≡ source_name feed.old }
     ensures limit { limit_of feed.new ≡ limit_of feed.old }
     ensures below { IfOk result (λ sample. sample ≤ maxval) }
-    ensures reads { Reads (λ n. n) result (call_of S.left S.faults feed.old feed.new) (sample_at (is_wide maxval) maxval index) }
+    ensures reads { Reads (λ n. n) result (call_of S.left S.faults feed.old feed.new) (sample_at form maxval index) }
 {
-    if maxval > 255 {
-        read_wide(feed, maxval, index)
-    } else {
-        read_narrow(feed, maxval, index)
+    match form {
+        SampleForm::Narrow => read_narrow(feed, maxval, index),
+        SampleForm::Wide => read_wide(feed, maxval, index),
+        SampleForm::Digits => read_plain(feed, maxval, index),
     }
 }
 
-/// Takes a raw raster of so many samples.
-pub fn read_samples<S: Source>(
+/// Takes so many samples.
+fn read_samples<S: Source>(
     alloc: Global,
     feed: &mut Feed<S>,
+    form: SampleForm,
     maxval: u16,
     count: u32,
 ) -> Result<Vec<u16>, ReadPlaneFault>
@@ -84,12 +126,51 @@ pub fn read_samples<S: Source>(
     ensures limit { limit_of feed.new ≡ limit_of feed.old }
     ensures count { IfOk result (λ samples. vec_len samples ≡ count) }
     ensures below { IfOk result (λ samples. (k : ℕ) → slice_index samples.items k ≤ maxval) }
-    ensures reads { Reads (λ v. v.items) result (call_of S.left S.faults feed.old feed.new) (samples_at (is_wide maxval) maxval count 0) }
+    ensures reads { Reads (λ v. v.items) result (call_of S.left S.faults feed.old feed.new) (samples_at form maxval count 0) }
 {
     let mut samples = Vec::with_capacity(alloc, count as usize)?;
     for index in 0..count {
-        let sample = read_sample(feed, maxval, index)?;
+        let sample = read_sample(feed, form, maxval, index)?;
         samples.push(sample)?;
     }
     Ok(samples)
+}
+
+/// Takes the white space behind the last sample of a plain raster.
+fn read_end<S: Source>(feed: &mut Feed<S>) -> Result<(), ReadPlaneFault>
+    ensures same_source { source_name feed.new ≡ source_name feed.old }
+    ensures limit { limit_of feed.new ≡ limit_of feed.old }
+    ensures reads { Reads (λ _. nothing) result (call_of S.left S.faults feed.old feed.new) end_at }
+{
+    let Some(byte) = see_byte(feed)? else {
+        return Ok(());
+    };
+    if !is_space(byte) {
+        return Err(ReadPlaneFault::Plane(PlaneFault::Form(feed.handed())));
+    }
+    skip_blanks(feed)
+}
+
+/// Takes a raster of so many samples.
+pub fn read_raster<S: Source>(
+    alloc: Global,
+    feed: &mut Feed<S>,
+    spelling: Spelling,
+    maxval: u16,
+    count: u32,
+) -> Result<Vec<u16>, ReadPlaneFault>
+    ensures same_source { source_name feed.new ≡ source_name feed.old }
+    ensures limit { limit_of feed.new ≡ limit_of feed.old }
+    ensures count { IfOk result (λ samples. vec_len samples ≡ count) }
+    ensures below { IfOk result (λ samples. (k : ℕ) → slice_index samples.items k ≤ maxval) }
+    ensures reads { Reads (λ v. v.items) result (call_of S.left S.faults feed.old feed.new) (raster_at spelling maxval count) }
+{
+    let samples = read_samples(alloc, feed, form_of(spelling, maxval), maxval, count)?;
+    match spelling {
+        Spelling::Raw => Ok(samples),
+        Spelling::Plain => {
+            read_end(feed)?;
+            Ok(samples)
+        }
+    }
 }

@@ -26,7 +26,7 @@ returns-in_err-number-clause-reads g c =
     (field_space _ tt c.in_ok-read_space.ensures.reads)
     (field_filling _ tt c.in_ok-skip_filling.ensures.reads))
     (c.skip_filling.ensures.limit ∙ c.read_space.ensures.limit)
-    (field_number_passes _ c.in_err-number.field-0.0 c.in_err-number.ensures.reads))
+    (field_number_passes _ c.in_err-number.field-0.0 (rw c.handed-place.ensures at c.in_err-number.ensures.reads)))
 
 pub returns-clause-reads : goal.returns-clause-reads
 returns-clause-reads g c =
@@ -35,4 +35,4 @@ returns-clause-reads g c =
     (field_space _ tt c.in_ok-read_space.ensures.reads)
     (field_filling _ tt c.in_ok-skip_filling.ensures.reads))
     (c.skip_filling.ensures.limit ∙ c.read_space.ensures.limit)
-    (field_number _ c.in_ok-number.number c.in_ok-number.ensures.reads))
+    (field_number _ c.in_ok-number.number (rw c.handed-place.ensures at c.in_ok-number.ensures.reads)))

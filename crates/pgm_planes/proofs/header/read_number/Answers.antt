@@ -9,21 +9,21 @@ use Rattle.pgm_planes.proofs.header.read_number.Goals as goal
 pub returns-in_err-byte-clause-reads : goal.returns-in_err-byte-clause-reads
 returns-in_err-byte-clause-reads g c =
     let p = err_from_is_err_and c.from_residual.result c.from_residual.ensures.1 in
-    rw (p.1, p.2) (byte_passes_on as_number _ c.in_err-byte.field-0.0 number_at c.in_err-byte.ensures.reads)
+    rw (p.1, p.2) (byte_passes_on as_number _ c.in_err-byte.field-0.0 (number_at c.args.cut) c.in_err-byte.ensures.reads)
 
 pub returns-in-Some-clause-reads : goal.returns-in-Some-clause-reads
 returns-in-Some-clause-reads g c =
-    Reads-then _ _ _ _ _ _ _ _ _ _ _ as_number c.read_digits.result number_at (digits_at (c.in-Some.byte - 48))
-    (byte_goes _ c.in_ok-byte.field-0 c.in-Some.byte number_at (digits_at (c.in-Some.byte - 48)) c.in_ok-byte.ensures.reads c.in-Some.is
-    (λ rest. number_begun _ c.in-Some.byte rest (sym c.is_digit.ensures ∙ c.if-is_digit.true)))
+    Reads-then _ _ _ _ _ _ _ _ _ _ _ as_number c.read_digits.result (number_at c.args.cut) (digits_at (c.in-Some.byte - 48))
+    (byte_goes _ c.in_ok-byte.field-0 c.in-Some.byte (number_at c.args.cut) (digits_at (c.in-Some.byte - 48)) c.in_ok-byte.ensures.reads c.in-Some.is
+    (λ rest. number_begun _ c.args.cut c.in-Some.byte rest (sym c.is_digit.ensures ∙ c.if-is_digit.true)))
     c.take_byte.ensures.limit
     (rw c.from.ensures at c.read_digits.ensures.reads)
 
-pub returns-in_default-clause-reads : goal.returns-in_default-clause-reads
-returns-in_default-clause-reads g c =
-    rw c.handed-place.ensures (byte_breaks as_number _ c.in_ok-byte.field-0 c.in-Some.byte (Form _) number_at c.in_ok-byte.ensures.reads c.in-Some.is
-    (λ rest. number_refused _ c.in-Some.byte rest (sym c.is_digit.ensures ∙ c.if-is_digit.false)))
+pub returns-in-Some-2-clause-reads : goal.returns-in-Some-2-clause-reads
+returns-in-Some-2-clause-reads g c =
+    rw c.handed-place.ensures (byte_breaks as_number _ c.in_ok-byte.field-0 c.in-Some.byte (Form _) (number_at c.args.cut) c.in_ok-byte.ensures.reads c.in-Some.is
+    (λ rest. number_refused _ c.args.cut c.in-Some.byte rest (sym c.is_digit.ensures ∙ c.if-is_digit.false)))
 
-pub returns-in_default-2-clause-reads : goal.returns-in_default-2-clause-reads
-returns-in_default-2-clause-reads g c =
-    rw c.handed-place.ensures (byte_cuts as_number _ c.in_ok-byte.field-0 (Form _) number_at c.in_ok-byte.ensures.reads c.in_default.is (number_missed _))
+pub returns-in-None-clause-reads : goal.returns-in-None-clause-reads
+returns-in-None-clause-reads g c =
+    byte_cuts as_number _ c.in_ok-byte.field-0 c.args.cut (number_at c.args.cut) c.in_ok-byte.ensures.reads c.in-None.is (number_missed _ c.args.cut)

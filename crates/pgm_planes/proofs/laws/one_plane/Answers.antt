@@ -1,4 +1,4 @@
-use Rattle.pgm_planes.proofs.PlaneLemmas.{one_plane}
+use Rattle.pgm_planes.proofs.PlaneAgain.{one_plane}
 use Rattle.pgm_planes.proofs.laws.one_plane.Goals as goal
 
 pub returns : goal.returns

@@ -1,6 +1,5 @@
 use Rattle.std.proofs.Common.{◌≡◌, ◌∙◌, ◌+◌, ◌-◌, ◌++◌, ◌∷◌, [], suc, arith, ap, refl}
 use Rattle.std.proofs.lemmas.Result.{err_from_is_err_and}
-use Rattle.pgm_planes.specs.Planes.{is_wide}
 use Rattle.pgm_planes.specs.Reading.{samples_at, sample_at}
 use Rattle.pgm_planes.proofs.CallLemmas.{as_number, Reads-then, Goes-then, gone, passes_on, finds}
 use Rattle.pgm_planes.proofs.StepLemmas.{and_others, others_begin, others_end, others_go, others_break, nothing_read, as_samples, below_push, none_below}
@@ -14,8 +13,8 @@ loop-index-init g c =
       limit = refl;
       count = c.in_ok-samples.ensures.len;
       below = none_below c.args.maxval c.in_ok-samples.samples.items c.in_ok-samples.ensures.items;
-      goes = rw (c.in_ok-samples.ensures.items, whole) (nothing_read _ _ _ _ (samples_at (is_wide c.args.maxval) c.args.maxval c.args.count 0) (and_others [] (is_wide c.args.maxval) c.args.maxval c.args.count 0)
-          (λ bytes. others_begin (is_wide c.args.maxval) c.args.maxval c.args.count 0 _ bytes));
+      goes = rw (c.in_ok-samples.ensures.items, whole) (nothing_read _ _ _ _ (samples_at c.args.form c.args.maxval c.args.count 0) (and_others [] c.args.form c.args.maxval c.args.count 0)
+          (λ bytes. others_begin c.args.form c.args.maxval c.args.count 0 _ bytes));
     }
 
 pub loop-index-preserved : goal.loop-index-preserved
@@ -27,15 +26,15 @@ loop-index-preserved g c =
       count = c.in_ok-push.ensures.len ∙ ap (λ n. n + 1) c.loop-index.invariant.count;
       below = rw c.in_ok-push.ensures.items (below_push c.args.maxval c.loop-index.samples.items c.in_ok-sample.sample c.loop-index.invariant.below c.in_ok-sample.ensures.below);
       goes = rw c.in_ok-push.ensures.items (Goes-then _ _ _ _ _ _ _ _ _ _ _
-          (samples_at (is_wide c.args.maxval) c.args.maxval c.args.count 0)
-          (and_others c.loop-index.samples.items (is_wide c.args.maxval) c.args.maxval (c.args.count - c.loop-index.index) c.loop-index.index)
-          (and_others (c.loop-index.samples.items ++ c.in_ok-sample.sample ∷ []) (is_wide c.args.maxval) c.args.maxval (c.args.count - (c.loop-index.index + 1)) (c.loop-index.index + 1))
+          (samples_at c.args.form c.args.maxval c.args.count 0)
+          (and_others c.loop-index.samples.items c.args.form c.args.maxval (c.args.count - c.loop-index.index) c.loop-index.index)
+          (and_others (c.loop-index.samples.items ++ c.in_ok-sample.sample ∷ []) c.args.form c.args.maxval (c.args.count - (c.loop-index.index + 1)) (c.loop-index.index + 1))
           c.loop-index.invariant.goes
-          (gone as_number (λ xs. xs) _ c.in_ok-sample.sample (sample_at (is_wide c.args.maxval) c.args.maxval c.loop-index.index)
-          (and_others c.loop-index.samples.items (is_wide c.args.maxval) c.args.maxval (c.args.count - c.loop-index.index) c.loop-index.index)
-          (and_others (c.loop-index.samples.items ++ c.in_ok-sample.sample ∷ []) (is_wide c.args.maxval) c.args.maxval (c.args.count - (c.loop-index.index + 1)) (c.loop-index.index + 1))
+          (gone as_number (λ xs. xs) _ c.in_ok-sample.sample (sample_at c.args.form c.args.maxval c.loop-index.index)
+          (and_others c.loop-index.samples.items c.args.form c.args.maxval (c.args.count - c.loop-index.index) c.loop-index.index)
+          (and_others (c.loop-index.samples.items ++ c.in_ok-sample.sample ∷ []) c.args.form c.args.maxval (c.args.count - (c.loop-index.index + 1)) (c.loop-index.index + 1))
           c.in_ok-sample.ensures.reads
-          (λ bytes rest e. others_go (is_wide c.args.maxval) c.args.maxval c.loop-index.samples.items _ (c.args.count - (c.loop-index.index + 1)) c.loop-index.index c.in_ok-sample.sample _ _ bytes rest more e)));
+          (λ bytes rest e. others_go c.args.form c.args.maxval c.loop-index.samples.items _ (c.args.count - (c.loop-index.index + 1)) c.loop-index.index c.in_ok-sample.sample _ _ bytes rest more e)));
     }
 
 pub returns-in_err-sample-clause-reads : goal.returns-in_err-sample-clause-reads
@@ -43,21 +42,21 @@ returns-in_err-sample-clause-reads g c =
     let p = err_from_is_err_and c.from_residual-in_err-sample.result c.from_residual-in_err-sample.ensures.1 in
     let more : c.args.count - c.loop-index.index ≡ suc (c.args.count - (c.loop-index.index + 1)) = omega arith in
     rw (p.1, p.2) (Reads-then _ _ _ _ _ _ _ _ _ _ _ as_samples _
-    (samples_at (is_wide c.args.maxval) c.args.maxval c.args.count 0)
-    (and_others c.loop-index.samples.items (is_wide c.args.maxval) c.args.maxval (c.args.count - c.loop-index.index) c.loop-index.index)
+    (samples_at c.args.form c.args.maxval c.args.count 0)
+    (and_others c.loop-index.samples.items c.args.form c.args.maxval (c.args.count - c.loop-index.index) c.loop-index.index)
     c.loop-index.invariant.goes
     c.loop-index.invariant.limit
-    (passes_on as_number as_samples _ c.in_err-sample.field-0.0 (sample_at (is_wide c.args.maxval) c.args.maxval c.loop-index.index)
-    (and_others c.loop-index.samples.items (is_wide c.args.maxval) c.args.maxval (c.args.count - c.loop-index.index) c.loop-index.index)
+    (passes_on as_number as_samples _ c.in_err-sample.field-0.0 (sample_at c.args.form c.args.maxval c.loop-index.index)
+    (and_others c.loop-index.samples.items c.args.form c.args.maxval (c.args.count - c.loop-index.index) c.loop-index.index)
     c.in_err-sample.ensures.reads
-    (λ bytes f e. others_break (is_wide c.args.maxval) c.args.maxval c.loop-index.samples.items _ (c.args.count - (c.loop-index.index + 1)) c.loop-index.index _ bytes f more e)))
+    (λ bytes f e. others_break c.args.form c.args.maxval c.loop-index.samples.items _ (c.args.count - (c.loop-index.index + 1)) c.loop-index.index _ bytes f more e)))
 
 pub returns-in_err-push-clause-reads : goal.returns-in_err-push-clause-reads
 returns-in_err-push-clause-reads g c =
     let p = err_from_is_err_and c.from_residual-in_err-push.result c.from_residual-in_err-push.ensures.1 in
     rw (p.1, p.2) (Reads-then _ _ _ _ _ _ _ _ _ _ _ as_samples _
-    (samples_at (is_wide c.args.maxval) c.args.maxval c.args.count 0)
-    (and_others c.loop-index.samples.items (is_wide c.args.maxval) c.args.maxval (c.args.count - c.loop-index.index) c.loop-index.index)
+    (samples_at c.args.form c.args.maxval c.args.count 0)
+    (and_others c.loop-index.samples.items c.args.form c.args.maxval (c.args.count - c.loop-index.index) c.loop-index.index)
     c.loop-index.invariant.goes
     c.loop-index.invariant.limit
     (record { moves = c.in_ok-sample.ensures.reads.moves; answers = tt }))
@@ -66,7 +65,7 @@ pub returns-clause-reads : goal.returns-clause-reads
 returns-clause-reads g c =
     let none : c.args.count - c.loop-index.index ≡ 0 = omega arith in
     finds as_samples _ c.loop-index.samples
-    (samples_at (is_wide c.args.maxval) c.args.maxval c.args.count 0)
-    (and_others c.loop-index.samples.items (is_wide c.args.maxval) c.args.maxval (c.args.count - c.loop-index.index) c.loop-index.index)
+    (samples_at c.args.form c.args.maxval c.args.count 0)
+    (and_others c.loop-index.samples.items c.args.form c.args.maxval (c.args.count - c.loop-index.index) c.loop-index.index)
     c.loop-index.invariant.goes
-    (λ rest. rw none (others_end (is_wide c.args.maxval) c.args.maxval c.loop-index.samples.items c.loop-index.index _ rest))
+    (λ rest. rw none (others_end c.args.form c.args.maxval c.loop-index.samples.items c.loop-index.index _ rest))

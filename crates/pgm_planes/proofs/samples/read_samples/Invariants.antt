@@ -1,6 +1,5 @@
 use Rattle.std.proofs.Common.{◌≡◌, ◌≤◌, ◌-◌, ℕ, vec_len, get_or}
 use Rattle.insar_ports.specs.Feeding.{source_name, limit_of}
-use Rattle.pgm_planes.specs.Planes.{is_wide}
 use Rattle.pgm_planes.specs.Calls.{call_of}
 use Rattle.pgm_planes.specs.Reading.{samples_at}
 use Rattle.pgm_planes.proofs.CallLemmas.{Goes}
@@ -13,5 +12,5 @@ invariant-loop-index g l = record {
   limit : limit_of l.feed ≡ limit_of l.fn.feed;
   count : vec_len l.samples ≡ l.index;
   below : (k : ℕ) → get_or l.samples.items k 0 ≤ l.maxval;
-  goes : Goes (call_of g.S.Source.left g.S.Source.faults l.fn.feed l.feed) (samples_at (is_wide l.maxval) l.maxval l.count 0) (and_others l.samples.items (is_wide l.maxval) l.maxval (l.count - l.index) l.index);
+  goes : Goes (call_of g.S.Source.left g.S.Source.faults l.fn.feed l.feed) (samples_at l.form l.maxval l.count 0) (and_others l.samples.items l.form l.maxval (l.count - l.index) l.index);
 }

@@ -1,0 +1,2 @@
+mod GridLemmas
+mod WriteLemmas

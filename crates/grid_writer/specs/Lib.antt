@@ -1,0 +1,3 @@
+pub mod Grid
+pub mod Writing
+pub mod Waiting

@@ -1,0 +1,12 @@
+pub mod Orders
+pub mod SurfaceLemmas
+pub mod LinkLemmas
+pub mod SupplyLemmas
+pub mod StartLemmas
+pub mod FlowLemmas
+pub mod BlockLemmas
+pub mod PlaceLemmas
+pub mod AnswerLemmas
+pub mod PlaceSums
+pub mod CertificateLemmas
+pub mod SolvedLemmas

@@ -1,0 +1,65 @@
+-- The cycles of the result of a pixel's tile.
+use Rattle.std.proofs.Common.{◌≡◌, ℕ, ◌+◌, ◌-◌, ◌*◌, ◌<◌, ◌≤◌, ◌∙◌, ap, sym, subst, refl, arith, Bool, length, to_z, of_z, w32, w64, FitsSigned}
+use Rattle.std.specs.Prelude.{ℤ, ◌+ℤ◌, ◌-ℤ◌, ◌&&◌, nat_lt, IsTrue, Some, slice_get, unsigned_abs}
+use Rattle.std.proofs.lemmas.Int.{ints}
+use Rattle.std.proofs.lemmas.Nat.{mul-add-lt}
+use Rattle.std.proofs.lemmas.Bool.Decides.{nat_tests}
+use Rattle.raster_model.specs.declared.scene.Scene.{Scene}
+use Rattle.raster_model.specs.declared.tiling.Window.{Window}
+use Rattle.raster_model.specs.declared.edge.Edge.{Edge}
+use Rattle.raster_model.specs.Phase.{turns}
+use Rattle.raster_model.specs.Raster.{Raster, cycle_departure}
+use Rattle.raster_model.specs.Sums.{Field, end_x, end_y}
+use Rattle.raster_model.specs.Tiles.{IsWindowOf, IsWithin, tile_at, tiles_of, window_of}
+use Rattle.certificates.specs.declared.results.TileResult.{TileResult}
+use Rattle.certificates.specs.Results.{IsGoodTile, cycles_in, pixels_in, window_in}
+use Rattle.certificates.specs.TileSets.{TileSetView}
+use Rattle.offset_network.specs.Surfaces.{AreGoodTiles, tile_cycles}
+
+pub open_tells : (w h x y : ℕ) (b : Bool) → IsTrue ((nat_lt x w && nat_lt y h) && b) → (x < w) × (y < h) × IsTrue b
+open_tells w h x y b t = (grind (arith, nat_tests), grind (arith, nat_tests), grind (arith, nat_tests))
+
+-- the result k of tile t, whose window is v
+module _ (s : Scene) (mask : Field Bool) (tiles : TileSetView) (good : AreGoodTiles s mask tiles) (t : ℕ) (v : Window) (k : TileResult) (exists : t < tiles_of s.tiling) (window : v ≡ window_of s.tiling t) (pixels : IsWindowOf s.tiling t v) (place : slice_get tiles.results t ≡ Some k) (number : k.tile ≡ t) where
+  is_good : IsGoodTile s mask k
+  is_good = good.each t k exists place
+
+  same_window : window_in s k ≡ v
+  same_window = ap (window_of s.tiling) number ∙ sym window
+
+  module _ (x y : ℕ) (here : t ≡ tile_at s.tiling x y) (l : x < s.phase.width) (m : y < s.phase.height) where
+    within : IsWithin v x y
+    within = (pixels.pixels x y (omega (arith, l, s.same_width)) (omega (arith, m, s.same_height))).0 (sym here)
+
+    pub place_below : (y - v.y0) * (v.x1 - v.x0 + 1) + (x - v.x0) < length k.cycles.items
+    place_below =
+        let all : length k.cycles.items ≡ pixels_in v = is_good.shape.0 ∙ ap pixels_in same_window in
+        let p = mul-add-lt (y - v.y0) (v.x1 - v.x0 + 1) (x - v.x0) (v.y1 - v.y0 + 1) (omega (arith, within)) (omega (arith, within)) in
+        omega (arith, all, p)
+
+    pub cycles_are : cycles_in v k.cycles.items x y ≡ tile_cycles s tiles x y
+    cycles_are =
+        let at : slice_get tiles.results (tile_at s.tiling x y) ≡ Some k = ap (slice_get tiles.results) (sym here) ∙ place in
+        rw (at, same_window) refl
+
+    pub cycles_small : IsTrue (mask x y) → unsigned_abs (cycles_in v k.cycles.items x y) ≤ 8388608
+    cycles_small o =
+        let small = subst (λ (u : Window). IsWithin u x y × IsTrue (mask x y) → unsigned_abs (cycles_in u k.cycles.items x y) ≤ 8388608) same_window (is_good.in_range x y) in
+        small (within, o)
+
+-- such cycles in code at 32 bits
+pub cycles_fit : (z c : ℤ) → z ≡ c → unsigned_abs c ≤ 8388608 → to_z w32 (of_z w32 z) ≡ c
+cycles_fit z c e l = omega (arith, ints, e, l)
+
+-- and a departure
+abbrev rise_in_code : ℤ → ℤ → ℤ → ℤ
+rise_in_code u v t = to_z w32 (of_z w32 (to_z w32 (of_z w32 v) -ℤ to_z w32 (of_z w32 u))) +ℤ to_z w32 (of_z w32 t)
+
+pub rise_fits : (u v t : ℤ) → unsigned_abs u ≤ 8388608 → unsigned_abs v ≤ 8388608 → unsigned_abs t ≤ 1 → FitsSigned w32 (rise_in_code u v t)
+rise_fits u v t a b k = omega (arith, ints, a, b, k)
+
+pub rise_value : (u v t f : ℤ) → unsigned_abs u ≤ 8388608 → unsigned_abs v ≤ 8388608 → unsigned_abs t ≤ 1 → f ≡ to_z w32 (of_z w32 (rise_in_code u v t)) → (to_z w64 (of_z w64 f) ≡ v -ℤ u +ℤ t) × (unsigned_abs (v -ℤ u +ℤ t) ≤ 16777217)
+rise_value u v t f a b k e = (omega (arith, ints, a, b, k, e), omega (arith, ints, a, b, k))
+
+pub rise_is : (r : Raster) (c : Field ℤ) (e : Edge) (x y p q : ℕ) (u v t : ℤ) → x ≡ end_x e → y ≡ end_y e → p ≡ r.phase e.x e.y → q ≡ r.phase x y → u ≡ c e.x e.y → v ≡ c x y → t ≡ turns p q → v -ℤ u +ℤ t ≡ cycle_departure r c e
+rise_is r c e x y p q u v t ex ey ep eq eu ev et = rw (eu, ev, et, ep, eq, ex, ey) refl

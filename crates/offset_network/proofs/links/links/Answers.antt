@@ -1,0 +1,61 @@
+use Rattle.std.proofs.Common.{◌≡◌, ◌∙◌, ap, sym, subst, arith, List, length}
+use Rattle.std.specs.Prelude.{Option}
+use Rattle.raster_model.specs.Flows.{seam_count as seam_count_of}
+use Rattle.raster_model.specs.Masks.{open_at}
+use Rattle.raster_model.specs.Scene.{raster_of}
+use Rattle.raster_model.proofs.FlowLemmas.{before-next, before-none, before-row}
+use Rattle.certificates.specs.SeamVerdicts.{IsSeamEdge}
+use Rattle.certificates.proofs.EdgeLemmas.{all_before, none_before, row_more}
+use Rattle.seam_regions.specs.Regions.{label_at}
+use Rattle.offset_network.specs.declared.link.Link.{Link}
+use Rattle.offset_network.specs.Seams.{IsPlaced, JoinRegions}
+use Rattle.offset_network.specs.Surfaces.{tile_cycles}
+use Rattle.offset_network.proofs.PlaceLemmas.{in_raster, join_none, seams_at_most_two, still_placed}
+use Rattle.offset_network.proofs.links.links.Goals as goal
+
+pub loop-y-init : goal.loop-y-init
+loop-y-init c =
+    let k = c.args.surface.now in
+    let r = raster_of k.scene.now in
+    let none = c.new-links.ensures.items in
+    record {
+      counted = ap length none ∙ before-none r;
+      few = (let n = ap length none in omega (arith, n));
+      placed = none_before (IsSeamEdge r) (IsPlaced (raster_of k.scene.now) (open_at k.mask.now) (label_at c.args.regions.now) (tile_cycles k.scene.now k.tiles.now) c.new-links.result.items) 0 r.width 0 r.height (in_raster r);
+      join = subst (JoinRegions c.args.regions.now.count) (sym {A = List (Option Link)} none) (join_none c.args.regions.now.count);
+    }
+
+pub loop-x-preserved : goal.loop-x-preserved
+loop-x-preserved c =
+    let k = c.args.surface.now in
+    let r = raster_of k.scene.now in
+    let added = c.in_ok-push_links_from.ensures in
+    record {
+      counted = omega (arith, c.loop-x.invariant.counted, added.count, before-next r c.loop-x.x c.loop-y.y);
+      few = (let two = seams_at_most_two r c.loop-x.x c.loop-y.y in omega (arith, c.loop-x.invariant.few, added.count, two));
+      placed = still_placed (raster_of k.scene.now) (open_at k.mask.now) (label_at c.args.regions.now) c.args.regions.now.count (tile_cycles k.scene.now k.tiles.now) c.loop-x.x c.loop-y.y c.loop-x.links.items c.push_links_from.new.links.items added c.loop-x.invariant.placed;
+      join = added.join c.loop-x.invariant.join;
+    }
+
+pub loop-y-preserved : goal.loop-y-preserved
+loop-y-preserved c =
+    let k = c.args.surface.now in
+    let r = raster_of k.scene.now in
+    let e : c.loop-x.x ≡ r.width = omega arith in
+    record {
+      counted = (rw e at c.loop-x.invariant.counted) ∙ sym (before-row r c.loop-y.y);
+      few = omega (arith, c.loop-x.invariant.few);
+      placed = row_more (IsSeamEdge r) (IsPlaced (raster_of k.scene.now) (open_at k.mask.now) (label_at c.args.regions.now) (tile_cycles k.scene.now k.tiles.now) c.loop-x.links.items) 0 r.width 0 r.height (in_raster r) c.loop-x.x c.loop-y.y e c.loop-x.invariant.placed;
+      join = c.loop-x.invariant.join;
+    }
+
+pub returns-clause-seams : goal.returns-clause-seams
+unfolding seam_count_of
+returns-clause-seams c =
+    let k = c.args.surface.now in
+    let r = raster_of k.scene.now in
+    let e : c.loop-y.y ≡ r.height = omega arith in
+    record {
+      count = rw e at c.loop-y.invariant.counted;
+      each = all_before (IsSeamEdge r) (IsPlaced (raster_of k.scene.now) (open_at k.mask.now) (label_at c.args.regions.now) (tile_cycles k.scene.now k.tiles.now) c.loop-y.links.items) 0 r.width 0 r.height (in_raster r) c.loop-y.y e c.loop-y.invariant.placed;
+    }

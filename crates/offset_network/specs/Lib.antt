@@ -1,0 +1,4 @@
+pub mod Links
+pub mod Networks
+pub mod Surfaces
+pub mod Seams

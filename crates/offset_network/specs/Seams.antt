@@ -1,0 +1,42 @@
+-- The links of a raster's seam edges. No public clause cites this file.
+use Rattle.std.specs.Prelude.{◌≡◌, ℕ, ◌+◌, ◌<◌, ℤ, Bool, IsTrue, Option, Some, None, List, length, if◌then◌else◌}
+use Rattle.raster_model.specs.declared.edge.Edge.{Edge}
+use Rattle.raster_model.specs.Sums.{Field, at_start, at_end, one_if}
+use Rattle.raster_model.specs.Raster.{Raster, cycle_departure, has_open_ends}
+use Rattle.raster_model.specs.Flows.{is_seam_edge, seam_count, seam_place, seams_from}
+use Rattle.certificates.specs.EdgeWords.{HoldsFrom}
+use Rattle.certificates.specs.SeamVerdicts.{IsSeamEdge}
+use Rattle.offset_network.specs.declared.link.Link.{Link}
+use Rattle.offset_network.specs.Links.{IsLinkIn, link_at}
+
+-- the link of a seam edge, by the regions' labels and the cycles of a surface
+abbrev pub link_of : Raster → Field Bool → Field ℕ → Field ℤ → Edge → Option Link
+link_of r mask labels cycles e = if has_open_ends mask e then Some (record { from = at_start labels e; to = at_end labels e; weight = r.weight e; departure = cycle_departure r cycles e }) else None
+
+-- the list has the edge's link at the edge's place
+pub record IsPlaced (r : Raster) (mask : Field Bool) (labels : Field ℕ) (cycles : Field ℤ) (links : List (Option Link)) (e : Edge) : Type 0 where
+  pub below : seam_place r e < length links
+  pub link : link_at links (seam_place r e) ≡ link_of r mask labels cycles e
+
+-- each link joins two of n regions
+abbrev pub JoinRegions : ℕ → List (Option Link) → Type 0
+JoinRegions n links = (i : ℕ) → IsLinkIn n (link_at links i)
+
+-- the new list is the old one and the link of an edge, where it is a seam edge
+pub record AddsLink (r : Raster) (mask : Field Bool) (labels : Field ℕ) (n : ℕ) (cycles : Field ℤ) (e : Edge) (old new : List (Option Link)) : Type 0 where
+  pub count : length new ≡ length old + one_if (is_seam_edge r e)
+  pub kept : (i : ℕ) → i < length old → link_at new i ≡ link_at old i
+  pub placed : IsTrue (is_seam_edge r e) → IsPlaced r mask labels cycles new e
+  pub join : JoinRegions n old → JoinRegions n new
+
+-- and the links of the edges that start at a pixel
+pub record AddsLinksFrom (r : Raster) (mask : Field Bool) (labels : Field ℕ) (n : ℕ) (cycles : Field ℤ) (x y : ℕ) (old new : List (Option Link)) : Type 0 where
+  pub count : length new ≡ length old + seams_from r x y
+  pub kept : (i : ℕ) → i < length old → link_at new i ≡ link_at old i
+  pub placed : HoldsFrom (IsSeamEdge r) (IsPlaced r mask labels cycles new) x y
+  pub join : JoinRegions n old → JoinRegions n new
+
+-- the list has a link for each seam edge, in edge order
+pub record AreSeamLinks (r : Raster) (mask : Field Bool) (labels : Field ℕ) (cycles : Field ℤ) (links : List (Option Link)) : Type 0 where
+  pub count : length links ≡ seam_count r
+  pub each : (e : Edge) → IsTrue (is_seam_edge r e) → IsPlaced r mask labels cycles links e

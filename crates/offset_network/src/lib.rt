@@ -1,0 +1,14 @@
+//! Offsets of the regions of a tiled raster: a network over the seams finds whole cycles for each region, and flows that
+//! certify them.
+#![tactic(auto)]
+
+mod answer;
+mod link;
+mod links;
+mod network;
+mod solving;
+mod surface;
+#[cfg(test)]
+mod tests;
+
+pub use crate::solving::solve_offsets;

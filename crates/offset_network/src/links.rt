@@ -1,0 +1,95 @@
+ghost use Rattle.offset_network.specs.Links.{AreLinks, IsLinkIn};
+ghost use Rattle.offset_network.specs.Seams.{AddsLink, AddsLinksFrom, AreSeamLinks, link_of};
+ghost use Rattle.offset_network.specs.Surfaces.{tile_cycles};
+ghost use Rattle.raster_model.specs.Flows.{is_seam_edge as is_seam_edge_of, seam_place, seams_before};
+ghost use Rattle.raster_model.specs.Masks.{open_at};
+ghost use Rattle.raster_model.specs.Scene.{raster_of};
+ghost use Rattle.seam_regions.specs.Regions.{AreRegionsOf, label_at};
+ghost use Rattle.std.specs.Prelude.{◌≡◌, ◌<◌, IfOk, IsTrue, OnOk, length};
+
+use crate::link::Link;
+use crate::surface::TileSurface;
+use raster_model::{Edge, Scene, plain, weight};
+use seam_regions::Regions;
+use std::alloc::{AllocError, Global};
+
+/// Whether an edge that starts at a pixel leads to a pixel of another tile.
+fn is_seam_edge(scene: &Scene, edge: Edge) -> bool
+    requires start { (edge.x < scene.now.phase.width) × (edge.y < scene.now.phase.height) }
+    ensures { result ≡ is_seam_edge_of (raster_of scene.now) edge }
+{
+    edge.end_x() < scene.phase.width
+        && edge.end_y() < scene.phase.height
+        && plain::is_seam(scene, edge)
+}
+
+/// The link of a seam edge; None where an end is masked.
+fn link(surface: &TileSurface, regions: &Regions, edge: Edge) -> Option<Link>
+    requires seam { IsTrue (is_seam_edge_of (raster_of surface.now.scene.now) edge) }
+    requires regions { AreRegionsOf surface.now.scene.now.tiling surface.now.mask.now regions.now }
+    ensures value { result ≡ link_of (raster_of surface.now.scene.now) (open_at surface.now.mask.now) (label_at regions.now) (tile_cycles surface.now.scene.now surface.now.tiles.now) edge }
+    ensures fits { IsLinkIn regions.now.count result }
+{
+    let from = regions.region(edge.x, edge.y)?;
+    let to = regions.region(edge.end_x(), edge.end_y())?;
+    Some(Link {
+        from,
+        to,
+        weight: weight(surface.scene, surface.mask, edge),
+        departure: surface.departure(edge),
+    })
+}
+
+/// Appends the link of an edge that starts at a pixel, where it is a seam edge.
+fn push_link(
+    surface: &TileSurface,
+    regions: &Regions,
+    edge: Edge,
+    links: &mut Vec<Option<Link>>,
+) -> Result<(), AllocError>
+    requires start { (edge.x < surface.now.scene.now.phase.width) × (edge.y < surface.now.scene.now.phase.height) }
+    requires regions { AreRegionsOf surface.now.scene.now.tiling surface.now.mask.now regions.now }
+    requires place { length links.old.items ≡ seam_place (raster_of surface.now.scene.now) edge }
+    ensures { OnOk result (AddsLink (raster_of surface.now.scene.now) (open_at surface.now.mask.now) (label_at regions.now) regions.now.count (tile_cycles surface.now.scene.now surface.now.tiles.now) edge links.old.items links.new.items) }
+{
+    if is_seam_edge(surface.scene, edge) {
+        links.push(link(surface, regions, edge))?;
+    }
+    Ok(())
+}
+
+/// Appends the links of the edges that start at a pixel.
+fn push_links_from(
+    surface: &TileSurface,
+    regions: &Regions,
+    x: u32,
+    y: u32,
+    links: &mut Vec<Option<Link>>,
+) -> Result<(), AllocError>
+    requires pixel { (x < surface.now.scene.now.phase.width) × (y < surface.now.scene.now.phase.height) }
+    requires regions { AreRegionsOf surface.now.scene.now.tiling surface.now.mask.now regions.now }
+    requires counted { length links.old.items ≡ seams_before (raster_of surface.now.scene.now) x y }
+    ensures { OnOk result (AddsLinksFrom (raster_of surface.now.scene.now) (open_at surface.now.mask.now) (label_at regions.now) regions.now.count (tile_cycles surface.now.scene.now surface.now.tiles.now) x y links.old.items links.new.items) }
+{
+    push_link(surface, regions, Edge { x, y, down: false }, links)?;
+    push_link(surface, regions, Edge { x, y, down: true }, links)
+}
+
+/// The links of the seam edges in edge order.
+pub(crate) fn links(
+    alloc: Global,
+    surface: &TileSurface,
+    regions: &Regions,
+) -> Result<Vec<Option<Link>>, AllocError>
+    requires regions { AreRegionsOf surface.now.scene.now.tiling surface.now.mask.now regions.now }
+    ensures seams { IfOk result (λ links. AreSeamLinks (raster_of surface.now.scene.now) (open_at surface.now.mask.now) (label_at regions.now) (tile_cycles surface.now.scene.now surface.now.tiles.now) links.items) }
+    ensures fit { IfOk result (λ links. AreLinks regions.now.count links.items) }
+{
+    let mut links = Vec::new(alloc);
+    for y in 0..surface.scene.phase.height {
+        for x in 0..surface.scene.phase.width {
+            push_links_from(surface, regions, x, y, &mut links)?;
+        }
+    }
+    Ok(links)
+}

@@ -1,0 +1,48 @@
+ghost use Rattle.offset_network.specs.Surfaces.{AreGoodTiles, tile_cycles};
+ghost use Rattle.raster_model.specs.Masks.{open_at};
+ghost use Rattle.raster_model.specs.Raster.{cycle_departure, has_open_ends};
+ghost use Rattle.raster_model.specs.Scene.{raster_of};
+ghost use Rattle.raster_model.specs.Sums.{is_edge, is_pixel};
+ghost use Rattle.std.specs.Prelude.{◌≡◌, ◌≤◌, ◌&&◌, IsTrue, unsigned_abs};
+
+use certificates::TileSet;
+use raster_model::{Edge, Mask, Scene, turns};
+
+/// The surface of the tiles' results, each as it is by itself.
+#[derive(Clone, Copy)]
+pub(crate) struct TileSurface<'a> {
+    pub(crate) scene: &'a Scene,
+    pub(crate) mask: &'a Mask,
+    pub(crate) tiles: &'a TileSet,
+    pub(crate) ghost same_size: { (mask.now.width ≡ scene.now.phase.width) × (mask.now.height ≡ scene.now.phase.height) },
+    pub(crate) ghost good: { AreGoodTiles scene.now (open_at mask.now) tiles.now },
+}
+
+impl TileSurface<'_> {
+    /// The cycles at an open pixel.
+    pub(crate) fn at(&self, x: u32, y: u32) -> i32
+        requires { IsTrue (is_pixel self.now.scene.now.phase.width self.now.scene.now.phase.height x y && open_at self.now.mask.now x y) }
+        ensures value { result ≡ tile_cycles self.now.scene.now self.now.tiles.now x y }
+        ensures small { unsigned_abs result ≤ 8388608 }
+    {
+        let tile = self.scene.tiling.tile_of(x, y);
+        let window = self.scene.tiling.window(tile);
+        let across = (window.x1 - window.x0) as usize + 1;
+        let place = (y - window.y0) as usize * across + (x - window.x0) as usize;
+        self.tiles.tile(tile).cycles[place]
+    }
+
+    /// By how many whole cycles the surface departs from the wrapped difference of an edge with open ends.
+    pub(crate) fn departure(&self, edge: Edge) -> i64
+        requires is_edge { IsTrue (is_edge self.now.scene.now.phase.width self.now.scene.now.phase.height edge) }
+        requires open_ends { IsTrue (has_open_ends (open_at self.now.mask.now) edge) }
+        ensures value { result ≡ cycle_departure (raster_of self.now.scene.now) (tile_cycles self.now.scene.now self.now.tiles.now) edge }
+        ensures small { unsigned_abs result ≤ 16777217 }
+    {
+        let x = edge.end_x();
+        let y = edge.end_y();
+        let from = self.scene.phase.sample(edge.x, edge.y);
+        let to = self.scene.phase.sample(x, y);
+        i64::from(self.at(x, y) - self.at(edge.x, edge.y) + turns(from, to))
+    }
+}

@@ -1,0 +1,57 @@
+-- What all tiles cost together is the sum over the inner edges.
+use Rattle.std.proofs.Common.{◌≡◌, ◌∙◌, ℕ, ◌+◌, ◌<◌, sym, subst, ap, refl, arith, Bool, true, false, inl, inr}
+use Rattle.std.specs.Prelude.{ℤ, pos, ◌&&◌, ◌==◌, not, IsTrue, nat_lt}
+use Rattle.std.proofs.lemmas.Int.{ints}
+use Rattle.std.proofs.lemmas.Bool.Decides.{nat_tests, eqb_tells}
+use Rattle.raster_model.specs.Sums.{Field, right_edge, down_edge, end_x, end_y, sum_below, sum_grid, where_true}
+use Rattle.raster_model.specs.Raster.{Raster, edge_cost, inner_cost, tile_cost}
+use Rattle.raster_model.proofs.SumLemmas.{no_number, sum_below-pick, sum_below-same, sum_below-zeros, sum_edges-below, sum_edges-same}
+use Rattle.surface_snapshots.specs.Parts.{tile_costs}
+use Rattle.surface_snapshots.specs.Loops.{inner_cost_from, inner_edge_cost}
+
+pub both_edges : (r : Raster) (mask : Field Bool) (S : Field ℤ) (x y a b : ℕ) → pos a ≡ where_true (nat_lt (x + 1) r.width) (inner_edge_cost r mask S (right_edge x y)) → pos b ≡ where_true (nat_lt (y + 1) r.height) (inner_edge_cost r mask S (down_edge x y)) → pos (a + b) ≡ inner_cost_from r mask S x y
+unfolding inner_cost_from
+both_edges r mask S x y a b p q = omega (arith, ints, p, q)
+
+pub seam_adds_none : (b : Bool) (z : ℤ) → b ≡ true → where_true (not b) z ≡ pos 0
+seam_adds_none b z e = rw e refl
+
+pub inner_adds : (b : Bool) (z : ℤ) → b ≡ false → where_true (not b) z ≡ z
+inner_adds b z e = rw e refl
+
+-- of the tiles at most one has both ends of an edge
+one_test : (u t : ℕ) → (u == t) && (u == t) ≡ u == t
+one_test u t = grind (arith, nat_tests)
+
+apart : (u v t : ℕ) → (u == v) ≡ false → (u == t) && (v == t) ≡ false
+apart u v t e = grind (arith, nat_tests)
+
+kept : (b : Bool) (z : ℤ) → b ≡ true → where_true (not (not b)) z ≡ z
+kept b z e = rw e refl
+
+dropped : (b : Bool) (z : ℤ) → b ≡ false → where_true (not (not b)) z ≡ pos 0
+dropped b z e = rw e refl
+
+in_one_tile : (n u v : ℕ) (z : ℤ) → u < n → sum_below n (λ t. where_true ((u == t) && (v == t)) z) ≡ where_true (not (not (u == v))) z
+in_one_tile n u v z l =
+    elim (eqb_tells u v) [
+      | inl same ↦
+          subst (λ (w : ℕ). sum_below n (λ t. where_true ((u == t) && (w == t)) z) ≡ where_true (not (not (u == v))) z) same.1
+          (sum_below-same n (λ t. where_true ((u == t) && (u == t)) z) (λ t. where_true (u == t) z) (λ t m. ap (λ (b : Bool). where_true b z) (one_test u t))
+          ∙ sum_below-pick n u (λ t. z) l
+          ∙ sym (kept (u == v) z same.0))
+      | inr other ↦
+          sum_below-zeros n (λ t. where_true ((u == t) && (v == t)) z) (λ t m. no_number ((u == t) && (v == t)) z (apart u v t other.0))
+          ∙ sym (dropped (u == v) z other.0)
+    ]
+
+starts_in : (w h x y a b : ℕ) → IsTrue ((nat_lt x w && nat_lt y h) && (nat_lt a w && nat_lt b h)) → (x < w) × (y < h)
+starts_in w h x y a b t = (grind (arith, nat_tests), grind (arith, nat_tests))
+
+pub tile_costs_are : (r : Raster) (mask : Field Bool) (S : Field ℤ) → ((x y : ℕ) → x < r.width → y < r.height → r.tile x y < r.tile_count) → sum_grid r.width r.height (inner_cost_from r mask S) ≡ tile_costs r mask S
+unfolding tile_costs tile_cost inner_cost_from inner_edge_cost
+tile_costs_are r mask S numbered =
+    sym (sym (sum_edges-below r.width r.height r.tile_count (λ t. inner_cost r mask t S))
+    ∙ sum_edges-same r.width r.height (λ e. sum_below r.tile_count (λ t. inner_cost r mask t S e)) (inner_edge_cost r mask S)
+    (λ e i. (let l = starts_in r.width r.height e.x e.y (end_x e) (end_y e) i in
+    in_one_tile r.tile_count (r.tile e.x e.y) (r.tile (end_x e) (end_y e)) (edge_cost r mask S e) (numbered e.x e.y l.0 l.1))))

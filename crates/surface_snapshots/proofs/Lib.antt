@@ -1,0 +1,5 @@
+mod ShiftedLemmas
+mod CostLemmas
+mod VerdictLemmas
+mod PublishedLemmas
+pub mod CallerLemmas

@@ -1,0 +1,66 @@
+-- What the results and the offsets have at a pixel.
+use Rattle.std.proofs.Common.{◌≡◌, ◌∙◌, ℕ, ◌+◌, ◌-◌, ◌*◌, ◌<◌, ◌≤◌, ap, sym, subst, refl, arith, to_z, of_z, w32, w64, List, length}
+use Rattle.std.specs.Prelude.{ℤ, Bool, ◌&&◌, IsTrue, nat_lt, slice_get, Some, unsigned_abs}
+use Rattle.std.proofs.lemmas.Int.{ints}
+use Rattle.std.proofs.lemmas.Bool.Decides.{nat_tests}
+use Rattle.std.proofs.lemmas.Nat.{mul-add-lt}
+use Rattle.raster_model.specs.declared.scene.Scene.{Scene}
+use Rattle.raster_model.specs.declared.tiling.Window.{Window}
+use Rattle.raster_model.specs.MaskView.{MaskView}
+use Rattle.raster_model.specs.Masks.{open_at}
+use Rattle.raster_model.specs.Sums.{Field}
+use Rattle.raster_model.specs.Tiles.{IsWindowOf, IsWithin, tile_at, window_of}
+use Rattle.certificates.specs.declared.results.TileResult.{TileResult}
+use Rattle.certificates.specs.Results.{cycles_in, pixels_in}
+use Rattle.seam_regions.specs.Regions.{AreRegionsOf}
+use Rattle.seam_regions.specs.RegionsView.{RegionsView}
+use Rattle.seam_regions.proofs.CallerLemmas.{regions_of_scene}
+use Rattle.surface_snapshots.specs.Parts.{AreGoodTiles, solved_cycles}
+use Rattle.surface_snapshots.specs.Loops.{GoTogether}
+
+-- an open pixel's place and that it is open
+pub open_pixel : (w h x y : ℕ) (o : Bool) → IsTrue (nat_lt x w && nat_lt y h && o) → (x < w) × (y < h) × IsTrue o
+open_pixel w h x y o t = (grind (arith, nat_tests), grind (arith, nat_tests), last (nat_lt x w) (nat_lt y h) o t)
+  where
+    last : (a b c : Bool) → IsTrue (a && b && c) → IsTrue c
+    last Bool.true Bool.true c t = t
+    last Bool.true Bool.false c t = cc
+    last Bool.false b c t = cc
+
+pub place_in_window : (v : Window) (x y : ℕ) → IsWithin v x y → (y - v.y0) * (v.x1 - v.x0 + 1) + (x - v.x0) < pixels_in v
+place_in_window v x y w = mul-add-lt (y - v.y0) (v.x1 - v.x0 + 1) (x - v.x0) (v.y1 - v.y0 + 1) (omega (arith, w)) (omega (arith, w))
+
+pub within_window : (s : Scene) (t : ℕ) (v : Window) (x y : ℕ) (o : Bool) → IsWindowOf s.tiling t v → t ≡ tile_at s.tiling x y → IsTrue (nat_lt x s.phase.width && nat_lt y s.phase.height && o) → IsWithin v x y
+within_window s t v x y o is e i =
+    let p = open_pixel s.phase.width s.phase.height x y o i in
+    (is.pixels x y (omega (arith, p.0, s.same_width)) (omega (arith, p.1, s.same_height))).0 (sym e)
+
+-- a small number of cycles at 64 bits
+pub widened : (z f : ℤ) → unsigned_abs z ≤ 8388608 → f ≡ to_z w32 (of_z w32 z) → to_z w64 (of_z w64 f) ≡ z
+widened z f s e = omega (arith, ints)
+
+-- the result of a pixel's tile, as code finds it
+module _ (s : Scene) (mask : Field Bool) (results : List TileResult) (tiles : AreGoodTiles s mask results) (x y t : ℕ) (k : TileResult) (v : Window) (of_tile : t ≡ tile_at s.tiling x y) (there : slice_get results t ≡ Some k) (of_window : v ≡ window_of s.tiling t) where
+  same_window : window_of s.tiling k.tile ≡ v
+  same_window = ap (window_of s.tiling) (tiles.each.own t k there) ∙ sym of_window
+
+  pub place_is_in : IsWithin v x y → (y - v.y0) * (v.x1 - v.x0 + 1) + (x - v.x0) < length k.cycles.items
+  place_is_in w = omega (arith, place_in_window v x y w, (tiles.good t k there).shape.0 ∙ ap pixels_in same_window)
+
+  pub solved_is : cycles_in v k.cycles.items x y ≡ solved_cycles s results x y
+  unfolding solved_cycles
+  solved_is = rw (← of_tile, there, same_window) refl
+
+  pub solved_is_small : IsWithin v x y → IsTrue (mask x y) → unsigned_abs (cycles_in v k.cycles.items x y) ≤ 8388608
+  solved_is_small w o = subst (λ (u : Window). IsWithin u x y → unsigned_abs (cycles_in u k.cycles.items x y) ≤ 8388608) same_window (λ i. (tiles.good t k there).in_range x y (i, o)) w
+
+-- parts that fit together
+pub go_together : (s : Scene) (m : MaskView) (v : RegionsView) (results : List TileResult) → m.width ≡ s.phase.width → m.height ≡ s.phase.height → AreGoodTiles s (open_at m) results → AreRegionsOf s.tiling m v → GoTogether s m v results
+go_together s m v results across along tiles is = record {
+  across = across;
+  along = along;
+  tiles = tiles;
+  wide = is.width ∙ s.same_width.1;
+  high = is.height ∙ s.same_height.1;
+  below = λ x y l h o. (regions_of_scene s m v is).labelling.below x y (l, h, o);
+}

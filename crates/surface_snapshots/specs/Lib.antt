@@ -1,0 +1,4 @@
+pub mod Parts
+pub mod Verdicts
+pub mod Views
+pub mod Loops

@@ -1,0 +1,28 @@
+-- Words of helpers and of ghost fields: no clause of a public function cites them.
+use Rattle.std.specs.Prelude.{◌≡◌, ℕ, ◌<◌, ℤ, Bool, not, IsTrue, List}
+use Rattle.raster_model.specs.declared.edge.Edge.{Edge}
+use Rattle.raster_model.specs.declared.scene.Scene.{Scene}
+use Rattle.raster_model.specs.MaskView.{MaskView}
+use Rattle.raster_model.specs.Masks.{open_at}
+use Rattle.certificates.specs.declared.results.TileResult.{TileResult}
+use Rattle.seam_regions.specs.Regions.{label_at}
+use Rattle.seam_regions.specs.RegionsView.{RegionsView}
+use Rattle.surface_snapshots.specs.Parts.{AreGoodTiles}
+use Rattle.raster_model.specs.Raster.{Raster, edge_cost, is_seam}
+use Rattle.raster_model.specs.Sums.{Field, edges_from, where_true}
+
+-- what an edge adds to the costs of all tiles, and what the edges that start at a pixel add
+unfoldable pub inner_edge_cost : Raster → Field Bool → Field ℤ → Edge → ℤ
+inner_edge_cost r mask S e = where_true (not (is_seam r e)) (edge_cost r mask S e)
+
+unfoldable pub inner_cost_from : Raster → Field Bool → Field ℤ → Field ℤ
+inner_cost_from r mask S = edges_from r.width r.height (inner_edge_cost r mask S)
+
+-- what a surface is put together from has one size: the scene, the mask, the results and the labels; each tile has a good result, and each open pixel a region
+pub record GoTogether (s : Scene) (m : MaskView) (v : RegionsView) (results : List TileResult) : Type 0 where
+  pub across : m.width ≡ s.phase.width
+  pub along : m.height ≡ s.phase.height
+  pub tiles : AreGoodTiles s (open_at m) results
+  pub wide : v.width ≡ s.phase.width
+  pub high : v.height ≡ s.phase.height
+  pub below : (x y : ℕ) → x < s.phase.width → y < s.phase.height → IsTrue (open_at m x y) → label_at v x y < v.count

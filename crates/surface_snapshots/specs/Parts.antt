@@ -1,0 +1,106 @@
+-- What a surface is put together from: the results of the tiles, with a whole number of cycles added on each region (Chen and Zebker 2002).
+use Rattle.std.specs.Prelude.{◌≡◌, ℕ, ◌<◌, ◌≤◌, ◌^◌, ℤ, pos, ◌+ℤ◌, Bool, ◌&&◌, List, [], length, slice_get, slice_index_or, unsigned_abs, nat_lt, Option, Some, None, if◌then◌else◌}
+use Rattle.raster_model.specs.declared.scene.Scene.{Scene}
+use Rattle.raster_model.specs.declared.session.Session.{Session}
+use Rattle.raster_model.specs.MaskView.{MaskView}
+use Rattle.raster_model.specs.Masks.{open_at}
+use Rattle.raster_model.specs.Raster.{Raster, lifted, seam_cost, tile_cost}
+use Rattle.raster_model.specs.Cells.{IsCertifiedTile}
+use Rattle.raster_model.specs.Flows.{AreCertifiedSeams}
+use Rattle.raster_model.specs.Scene.{raster_of}
+use Rattle.raster_model.specs.Seams.{IsAnchored}
+use Rattle.raster_model.specs.Sums.{Field, sum_below}
+use Rattle.raster_model.specs.Tiles.{tile_at, tiles_of}
+use Rattle.certificates.specs.declared.results.TileResult.{TileResult}
+use Rattle.certificates.specs.declared.results.SeamResult.{SeamResult}
+use Rattle.certificates.specs.Results.{IsGoodTile, cycles_in, window_in}
+use Rattle.certificates.specs.TileSets.{HasOneForEach, TileSetView}
+use Rattle.seam_regions.specs.Regions.{label_at}
+use Rattle.seam_regions.specs.RegionsView.{RegionsView}
+
+pub record Parts : Type 0 where
+  pub session : Session
+  pub mask : MaskView
+  pub regions : RegionsView
+  pub tiles : TileSetView
+  pub seams : SeamResult
+
+abbrev pub parts_from : Session → MaskView → RegionsView → TileSetView → SeamResult → Parts
+parts_from session mask regions tiles seams = record { session = session; mask = mask; regions = regions; tiles = tiles; seams = seams }
+
+-- what the definitions read of the scene, and which pixels are open
+abbrev pub raster_in : Parts → Raster
+raster_in p = raster_of p.session.scene
+
+abbrev pub open_in : Parts → Field Bool
+open_in p = open_at p.mask
+
+-- an open pixel of a raster, and of the surface's
+abbrev pub is_open_pixel : ℕ → ℕ → Field Bool → Field Bool
+is_open_pixel w h mask x y = nat_lt x w && nat_lt y h && mask x y
+
+abbrev pub is_open_in : Parts → Field Bool
+is_open_in p = is_open_pixel p.session.scene.phase.width p.session.scene.phase.height (open_in p)
+
+-- the cycles that a result has at a pixel of its tile, and its faces
+abbrev pub cycles_of : Scene → Option TileResult → Field ℤ
+cycles_of s (Some k) x y = cycles_in (window_in s k) k.cycles.items x y
+cycles_of s None x y = pos 0
+
+abbrev pub faces_of : Option TileResult → List ℤ
+faces_of (Some k) = k.faces.items
+faces_of None = []
+
+-- the cycles that the result of a pixel's tile has there, and the offset of its region
+unfoldable pub solved_cycles : Scene → List TileResult → Field ℤ
+solved_cycles s results x y = cycles_of s (slice_get results (tile_at s.tiling x y)) x y
+
+unfoldable pub offset_at : RegionsView → List ℤ → Field ℤ
+offset_at v offsets x y = slice_index_or offsets (label_at v x y) (pos 0)
+
+-- the surface lies the sum of both, in whole cycles, above the phase
+abbrev pub shifted_cycles : Scene → RegionsView → List TileResult → List ℤ → Field ℤ
+shifted_cycles s v results offsets x y = solved_cycles s results x y +ℤ offset_at v offsets x y
+
+abbrev pub cycles_in_parts : Parts → Field ℤ
+cycles_in_parts p = shifted_cycles p.session.scene p.regions p.tiles.results p.seams.offsets.items
+
+abbrev pub surface_in : Parts → Field ℤ
+surface_in p = lifted (raster_in p) (cycles_in_parts p)
+
+-- its value at a pixel, and none where the pixel is masked
+abbrev pub value_in : Parts → Field (Option ℤ)
+value_in p x y = if open_in p x y then Some (surface_in p x y) else None
+
+-- the faces of a tile, and the flows
+abbrev pub faces_in : Parts → ℕ → List ℤ
+faces_in p t = faces_of (slice_get p.tiles.results t)
+
+abbrev pub flows_in : Parts → List ℤ
+flows_in p = p.seams.flows.items
+
+-- what all tiles cost together
+unfoldable pub tile_costs : Raster → Field Bool → Field ℤ → ℤ
+tile_costs r mask S = sum_below r.tile_count (λ t. tile_cost r mask t S)
+
+-- what all tiles cost, and what the seams cost
+abbrev pub HaveCosts : Parts → ℕ → ℕ → Type 0
+HaveCosts p tiles seams = (pos tiles ≡ tile_costs (raster_in p) (open_in p) (surface_in p)) × (pos seams ≡ seam_cost (raster_in p) (open_in p) (surface_in p))
+
+-- each tile has a result, which is good under the mask
+pub record AreGoodTiles (s : Scene) (mask : Field Bool) (results : List TileResult) : Type 0 where
+  pub each : HasOneForEach s.tiling results
+  pub good : (t : ℕ) (k : TileResult) → slice_get results t ≡ Some k → IsGoodTile s mask k
+
+-- an offset is from -2 ^ 46 to 2 ^ 46; all are
+abbrev pub IsNear : ℤ → Type 0
+IsNear z = unsigned_abs z ≤ 2 ^ 46
+
+abbrev pub AreNear : List ℤ → Type 0
+AreNear offsets = (v : ℕ) → v < length offsets → IsNear (slice_index_or offsets v (pos 0))
+
+-- the surface has the phase at the first open pixel, and is certified in each tile by its faces and at the seams by its flows; like each surface of whole cycles above the phase it is congruent
+pub record IsPublished (p : Parts) : Type 0 where
+  pub anchored : IsAnchored (raster_in p) (open_in p) (surface_in p)
+  pub tiles : (t : ℕ) → t < tiles_of p.session.scene.tiling → IsCertifiedTile (raster_in p) (open_in p) t (surface_in p) (faces_in p t)
+  pub seams : AreCertifiedSeams (raster_in p) (open_in p) (surface_in p) (flows_in p)

@@ -1,0 +1,38 @@
+-- What is said of offsets and flows for a surface: that they are certified, or the first break.
+use Rattle.std.specs.Prelude.{◌≡◌, ◌≢◌, ◌⊎◌, ℕ, ◌<◌, ℤ, pos, List, length, slice_index_or, ⊤}
+use Rattle.certificates.specs.declared.verdicts.SeamVerdict.{SeamVerdict}
+use Rattle.certificates.specs.declared.verdicts.SeamVerdict.TheVariants.{Good, Shape, Range}
+use Rattle.certificates.specs.SeamVerdicts.{IsSeamVerdict}
+use Rattle.seam_regions.specs.Regions.{AreRegionsOf, label_at}
+use Rattle.surface_snapshots.specs.declared.fault.BuildFault.{BuildFault}
+use Rattle.surface_snapshots.specs.declared.fault.BuildFault.TheVariants.{Uncertified, Memory}
+use Rattle.surface_snapshots.specs.Parts.{Parts, raster_in, open_in, cycles_in_parts, flows_in, IsNear, AreNear}
+
+-- there is an offset for each region
+abbrev pub HasOffsets : Parts → Type 0
+HasOffsets p = length p.seams.offsets.items ≡ p.regions.count
+
+-- region v is the first whose offset is out of range
+pub record IsFirstFar (offsets : List ℤ) (v : ℕ) : Type 0 where
+  pub exists : v < length offsets
+  pub far : IsNear (slice_index_or offsets v (pos 0)) → ⊥
+  pub first : (u : ℕ) → u < v → IsNear (slice_index_or offsets u (pos 0))
+
+-- what the check of the flows says of the surface
+abbrev pub IsFlowsVerdict : Parts → SeamVerdict → Type 0
+IsFlowsVerdict p = IsSeamVerdict (raster_in p) (open_in p) (label_at p.regions) p.regions.count (cycles_in_parts p) (flows_in p)
+
+-- the verdict: the number of the offsets, then their range, then what the check of the flows says
+abbrev pub IsVerdict : Parts → SeamVerdict → Type 0
+IsVerdict p Shape = (length p.seams.offsets.items ≢ p.regions.count) ⊎ (HasOffsets p × AreNear p.seams.offsets.items × IsFlowsVerdict p Shape)
+IsVerdict p (Range v) = HasOffsets p × IsFirstFar p.seams.offsets.items v
+IsVerdict p verdict = HasOffsets p × AreNear p.seams.offsets.items × IsFlowsVerdict p verdict
+
+-- why no snapshot is made of the parts: of a verdict other than Good, or for want of memory
+abbrev pub IsFault : Parts → BuildFault → Type 0
+IsFault p (Uncertified verdict) = (verdict ≢ Good) × IsVerdict p verdict
+IsFault p Memory = ⊤
+
+-- there are no two verdicts on the same parts, where the regions are the mask's
+abbrev pub PartsHaveOneVerdict : Type 0
+PartsHaveOneVerdict = (p : Parts) (a b : SeamVerdict) → AreRegionsOf p.session.scene.tiling p.mask p.regions → IsVerdict p a → IsVerdict p b → a ≡ b

@@ -1,0 +1,61 @@
+ghost use Rattle.certificates.specs.declared.verdicts.SeamVerdict.TheVariants.{Good};
+ghost use Rattle.raster_model.specs.Masks.{open_at};
+ghost use Rattle.seam_regions.specs.Regions.{AreRegionsOf};
+ghost use Rattle.std.specs.Prelude.{◌≡◌, IfErr, IfOk};
+ghost use Rattle.surface_snapshots.specs.Parts.{AreGoodTiles, HaveCosts, parts_from};
+ghost use Rattle.surface_snapshots.specs.Verdicts.{IsFault, IsVerdict};
+
+use crate::fault::BuildFault;
+use crate::offsets::first_far;
+use crate::shifted::ShiftedTiles;
+use certificates::{SeamResult, SeamVerdict, TileSet};
+use raster_model::{Mask, Session, plain};
+use seam_regions::Regions;
+use std::alloc::Global;
+
+/// What the tiles and the seams of a surface cost.
+#[derive(Clone, Copy)]
+pub(crate) struct Costs {
+    pub(crate) tiles: u128,
+    pub(crate) seams: u128,
+}
+
+/// The costs of the surface that is put together from these parts, where it is certified.
+pub(crate) fn certified_costs(
+    alloc: Global,
+    session: &Session,
+    mask: &Mask,
+    regions: &Regions,
+    tiles: &TileSet,
+    seams: &SeamResult,
+) -> Result<Costs, BuildFault>
+    requires across { mask.now.width ≡ session.now.scene.phase.width }
+    requires along { mask.now.height ≡ session.now.scene.phase.height }
+    requires tiling { tiles.now.tiling ≡ session.now.scene.tiling }
+    requires tiles { AreGoodTiles session.now.scene (open_at mask.now) tiles.now.results }
+    requires regions { AreRegionsOf session.now.scene.tiling mask.now regions.now }
+    ensures refused { IfErr result (IsFault (parts_from session.now mask.now regions.now tiles.now seams.now)) }
+    ensures certified { IfOk result (λ costs. IsVerdict (parts_from session.now mask.now regions.now tiles.now seams.now) Good) }
+    ensures costs { IfOk result (λ costs. HaveCosts (parts_from session.now mask.now regions.now tiles.now seams.now) costs.tiles costs.seams) }
+{
+    if seams.offsets.len() != regions.count() as usize {
+        return Err(BuildFault::Uncertified(SeamVerdict::Shape));
+    }
+    if let Some(region) = first_far(&seams.offsets) {
+        return Err(BuildFault::Uncertified(SeamVerdict::Range(region as u32)));
+    }
+    let surface = ShiftedTiles {
+        scene: &session.scene,
+        mask,
+        regions,
+        tiles,
+        offsets: &seams.offsets,
+    };
+    match surface.judge(alloc, &seams.flows)? {
+        SeamVerdict::Good => Ok(Costs {
+            tiles: surface.tile_cost(),
+            seams: plain::seam_cost(&session.scene, mask, &surface),
+        }),
+        verdict => Err(BuildFault::Uncertified(verdict)),
+    }
+}

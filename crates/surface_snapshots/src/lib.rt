@@ -1,0 +1,16 @@
+//! Published surfaces. A snapshot is the surface of the tiles' results with an offset added on each region. It
+//! keeps that it is certified, so that no congruent surface costs less in a tile and no offsets make its seams
+//! cost less.
+#![tactic(auto)]
+
+mod costs;
+mod fault;
+pub mod laws;
+mod offsets;
+mod shifted;
+mod snapshot;
+#[cfg(test)]
+mod tests;
+
+pub use crate::fault::BuildFault;
+pub use crate::snapshot::Snapshot;

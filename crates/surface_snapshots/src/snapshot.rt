@@ -1,0 +1,190 @@
+ghost use Rattle.raster_model.specs.Masks.{open_at};
+ghost use Rattle.std.specs.Arc.{arc_value};
+ghost use Rattle.std.specs.Prelude.{◌≡◌, ◌<◌, ◌≤◌, ◌+◌, ◌^◌, ◌+ℤ◌, ◌*ℤ◌, length, pos, unsigned_abs};
+ghost use Rattle.surface_snapshots.specs.Loops.{GoTogether};
+ghost use Rattle.surface_snapshots.specs.Parts.{AreNear, HaveCosts, IsPublished, parts_from};
+
+use crate::costs::certified_costs;
+use crate::fault::BuildFault;
+use crate::shifted::ShiftedTiles;
+use certificates::{SeamResult, TileSet};
+use raster_model::{Heights, Mask, Session};
+use seam_regions::Regions;
+use std::alloc::Global;
+use std::sync::Arc;
+
+/// The value that lies so many whole cycles above a phase.
+fn level(sample: u16, cycles: i64) -> i64
+    requires { unsigned_abs cycles ≤ 2 ^ 46 + 8388608 }
+    ensures value { result ≡ pos sample +ℤ pos 65536 *ℤ cycles }
+    ensures small { unsigned_abs result < 2 ^ 63 }
+{
+    i64::from(sample) + 65536 * cycles
+}
+
+/// A published surface: the surface of a revision of the mask, with the numbers that certify it.
+#[derive(Drop)]
+pub struct Snapshot {
+    session: Arc<Session>,
+    mask: Mask,
+    regions: Regions,
+    tiles: TileSet,
+    seams: SeamResult,
+    tile_cost: u128,
+    seam_cost: u128,
+    ghost together: { GoTogether (arc_value session).scene mask regions tiles.results },
+    ghost tiling: { tiles.tiling ≡ (arc_value session).scene.tiling },
+    ghost count: { length seams.offsets.items ≡ regions.count },
+    ghost near: { AreNear seams.offsets.items },
+    pub ghost published: { IsPublished (parts_from (arc_value session) mask regions tiles seams) },
+    pub ghost costs: { HaveCosts (parts_from (arc_value session) mask regions tiles seams) tile_cost seam_cost },
+}
+
+impl Heights for Snapshot {
+    ghost use Rattle.surface_snapshots.specs.Parts.{cycles_in_parts, is_open_in};
+    ghost use Rattle.surface_snapshots.specs.Views.{parts_of};
+
+    ghost knows = { λ s. is_open_in (parts_of s) };
+
+    ghost cycles_at = { λ s. cycles_in_parts (parts_of s) };
+
+    fn cycles(&self, x: u32, y: u32) -> i64 {
+        self.shifted().cycles(x, y)
+    }
+}
+
+impl Snapshot {
+    ghost use Rattle.certificates.specs.declared.verdicts.SeamVerdict.TheVariants.{Good};
+    ghost use Rattle.raster_model.specs.Best.{IsBest};
+    ghost use Rattle.raster_model.specs.Raster.{seam_cost as seam_cost_of};
+    ghost use Rattle.raster_model.specs.Seams.{IsAnchored};
+    ghost use Rattle.raster_model.specs.Tiles.{tiles_of};
+    ghost use Rattle.seam_regions.specs.Regions.{AreRegionsOf};
+    ghost use Rattle.std.specs.Prelude.{IfErr, IfOk, IfSome};
+    ghost use Rattle.surface_snapshots.specs.Parts.{
+      AreGoodTiles,
+      faces_in,
+      flows_in,
+      open_in,
+      raster_in,
+      surface_in,
+      tile_costs,
+      value_in,
+    };
+    ghost use Rattle.surface_snapshots.specs.Verdicts.{IsFault, IsVerdict};
+    ghost use Rattle.surface_snapshots.specs.Views.{parts_of};
+
+    /// The snapshot of a session's surface under a mask. The surface lies above the phase by the cycles of the
+    /// tiles' results and the offsets of the regions.
+    pub fn build(
+        alloc: Global,
+        session: Arc<Session>,
+        mask: Mask,
+        regions: Regions,
+        tiles: TileSet,
+        seams: SeamResult,
+    ) -> Result<Snapshot, BuildFault>
+        requires across { mask.width ≡ (arc_value session).scene.phase.width }
+        requires along { mask.height ≡ (arc_value session).scene.phase.height }
+        requires tiling { tiles.tiling ≡ (arc_value session).scene.tiling }
+        requires tiles { AreGoodTiles (arc_value session).scene (open_at mask) tiles.results }
+        requires regions { AreRegionsOf (arc_value session).scene.tiling mask regions }
+        ensures parts { IfOk result (λ made. parts_of made ≡ parts_from (arc_value session) mask regions tiles seams) }
+        ensures certified { IfOk result (λ made. IsVerdict (parts_of made) Good) }
+        ensures anchored { IfOk result (λ made. IsAnchored (raster_in (parts_of made)) (open_in (parts_of made)) (surface_in (parts_of made))) }
+        ensures best { IfOk result (λ made. IsBest (raster_in (parts_of made)) (open_in (parts_of made)) (surface_in (parts_of made))) }
+        ensures refused { IfErr result (IsFault (parts_from (arc_value session) mask regions tiles seams)) }
+    {
+        let costs = certified_costs(alloc, &session, &mask, &regions, &tiles, &seams)?;
+        Ok(Snapshot {
+            session,
+            mask,
+            regions,
+            tiles,
+            seams,
+            tile_cost: costs.tiles,
+            seam_cost: costs.seams,
+        })
+    }
+
+    /// Pixels in a row.
+    pub fn width(&self) -> u32
+        ensures { result ≡ (parts_of self.now).session.scene.phase.width }
+    {
+        self.session.scene.phase.width
+    }
+
+    /// Rows.
+    pub fn height(&self) -> u32
+        ensures { result ≡ (parts_of self.now).session.scene.phase.height }
+    {
+        self.session.scene.phase.height
+    }
+
+    /// The revision of the mask.
+    pub fn revision(&self) -> u32
+        ensures { result ≡ (parts_of self.now).seams.revision }
+    {
+        self.seams.revision
+    }
+
+    /// What all tiles cost together. (Costantini 1998.)
+    pub fn tile_cost(&self) -> u128
+        ensures { pos result ≡ tile_costs (raster_in (parts_of self.now)) (open_in (parts_of self.now)) (surface_in (parts_of self.now)) }
+    {
+        self.tile_cost
+    }
+
+    /// What the seams cost. (Chen and Zebker 2002.)
+    pub fn seam_cost(&self) -> u128
+        ensures { pos result ≡ seam_cost_of (raster_in (parts_of self.now)) (open_in (parts_of self.now)) (surface_in (parts_of self.now)) }
+    {
+        self.seam_cost
+    }
+
+    /// The faces that certify the surface in a tile, one for each of its cells in row order.
+    pub fn faces(&self, tile: u32) -> &[i64]
+        requires { tile < tiles_of (parts_of self.now).session.scene.tiling }
+        ensures { result.now ≡ faces_in (parts_of self.now) tile }
+    {
+        &self.tiles.tile(tile).faces
+    }
+
+    /// The flows that certify the surface at its seams, one for each seam edge in edge order.
+    pub fn flows(&self) -> &[i64]
+        ensures { result.now ≡ flows_in (parts_of self.now) }
+    {
+        &self.seams.flows
+    }
+
+    /// The surface's value at a pixel, in units of 1/65536 cycle; None exactly where the pixel is masked.
+    pub fn value(&self, x: u32, y: u32) -> Option<i64>
+        requires across { x < (parts_of self.now).session.scene.phase.width }
+        requires along { y < (parts_of self.now).session.scene.phase.height }
+        ensures value { result ≡ value_in (parts_of self.now) x y }
+        ensures small { IfSome result (λ value. unsigned_abs value < 2 ^ 63) }
+    {
+        if !self.mask.is_open(x, y) {
+            return None;
+        }
+        let sample = self.session.scene.phase.sample(x, y);
+        Some(level(sample, self.shifted().at(x, y)))
+    }
+
+    /// The tiles' results with the offsets of the regions.
+    fn shifted(&self) -> ShiftedTiles<'_>
+        ensures scene { result.scene.now ≡ (arc_value self.now.session).scene }
+        ensures mask { result.mask.now ≡ self.now.mask }
+        ensures regions { result.regions.now ≡ self.now.regions }
+        ensures tiles { result.tiles.now ≡ self.now.tiles }
+        ensures offsets { result.offsets.now ≡ self.now.seams.offsets.items }
+    {
+        ShiftedTiles {
+            scene: &self.session.scene,
+            mask: &self.mask,
+            regions: &self.regions,
+            tiles: &self.tiles,
+            offsets: &self.seams.offsets,
+        }
+    }
+}

@@ -142,6 +142,14 @@ fault_refuses bytes (faults.SizesDiffer role) h = differs_refuses role bytes h
 fault_refuses bytes faults.Unbuilt (inl l) = large_refuses bytes l
 fault_refuses bytes faults.Unbuilt (inr (inl g)) = otherwise_refuses bytes g
 fault_refuses bytes faults.Unbuilt (inr (inr g)) = goes_on_refuses bytes g
+fault_refuses bytes (faults.ScriptLine n) h = absurd h
+fault_refuses bytes (faults.Outside n) h = absurd h
+fault_refuses bytes (faults.TooManyAnalysts n) h = absurd h
+fault_refuses bytes (faults.TooManyCommands n) h = absurd h
+fault_refuses bytes (faults.SettleLimit n) h = absurd h
+fault_refuses bytes faults.NoEnd h = absurd h
+fault_refuses bytes (faults.AfterEnd p) h = absurd h
+fault_refuses bytes (faults.EditLimit n) h = absurd h
 
 -- ---- what calls reach
 
@@ -289,6 +297,14 @@ module _ (told : Option (List ℕ)) (at : ℕ) (mid : Option (List ℕ)) (at_mid
   refused_behind role phase (refusals.Input faults.TooLong) m a l g h = (h.0 ∙ l, h.1)
   refused_behind role phase (refusals.Input (faults.SizesDiffer found)) m a l g h = (h.0, rw (← m) h.1)
   refused_behind role phase (refusals.Input faults.Unbuilt) m a l g h = rw (← m) h
+  refused_behind role phase (refusals.Input (faults.ScriptLine k)) m a l g h = h
+  refused_behind role phase (refusals.Input (faults.Outside k)) m a l g h = h
+  refused_behind role phase (refusals.Input (faults.TooManyAnalysts k)) m a l g h = h
+  refused_behind role phase (refusals.Input (faults.TooManyCommands k)) m a l g h = h
+  refused_behind role phase (refusals.Input (faults.SettleLimit k)) m a l g h = h
+  refused_behind role phase (refusals.Input faults.NoEnd) m a l g h = h
+  refused_behind role phase (refusals.Input (faults.AfterEnd k)) m a l g h = h
+  refused_behind role phase (refusals.Input (faults.EditLimit k)) m a l g h = h
   refused_behind role phase refusals.Memory m a l g h = tt
   refused_behind role phase refusals.ReadFault m a l g h = risen_before before middle after g h
   refused_behind role phase refusals.WriteFault m a l g h = h
@@ -313,6 +329,14 @@ module _ (told : Option (List ℕ)) (at : ℕ) (mid : Option (List ℕ)) (at_mid
       let k = at_told told _ bytes t r in
       let b = at_told mid _ k.0 k.1.0 h in
       inr (inl (record { role = role; phase = phase; rest = k.0; before = k.1.1.1; some = b.0; other = b.1 })))
+  later_cause role phase (refusals.Input (faults.ScriptLine k)) m n a s l r h = absurd h
+  later_cause role phase (refusals.Input (faults.Outside k)) m n a s l r h = absurd h
+  later_cause role phase (refusals.Input (faults.TooManyAnalysts k)) m n a s l r h = absurd h
+  later_cause role phase (refusals.Input (faults.TooManyCommands k)) m n a s l r h = absurd h
+  later_cause role phase (refusals.Input (faults.SettleLimit k)) m n a s l r h = absurd h
+  later_cause role phase (refusals.Input faults.NoEnd) m n a s l r h = absurd h
+  later_cause role phase (refusals.Input (faults.AfterEnd k)) m n a s l r h = absurd h
+  later_cause role phase (refusals.Input (faults.EditLimit k)) m n a s l r h = absurd h
   later_cause role phase refusals.Memory m n a s l r h = tt
   later_cause role phase refusals.ReadFault m n a s l r h = risen_before before middle after m.grows h
   later_cause role phase refusals.WriteFault m n a s l r h = h

@@ -30,6 +30,14 @@ abbrev pub fault_text : InputFault → List ℕ
 fault_text (faults.Plane role fault) = plane_text role fault
 fault_text faults.TooLong = codes "7 long"
 fault_text (faults.SizesDiffer role) = codes "8 sizes " ++ role_text role
+fault_text (faults.ScriptLine n) = labelled (codes "9 line ") n
+fault_text (faults.Outside n) = labelled (codes "10 outside line ") n
+fault_text (faults.TooManyAnalysts n) = labelled (codes "11 analysts line ") n
+fault_text (faults.TooManyCommands n) = labelled (codes "12 commands line ") n
+fault_text (faults.SettleLimit n) = labelled (codes "13 settles line ") n
+fault_text faults.NoEnd = codes "14 no end"
+fault_text (faults.AfterEnd p) = labelled (codes "15 after end byte ") p
+fault_text (faults.EditLimit n) = labelled (codes "16 edits line ") n
 fault_text faults.Unbuilt = codes "17 unbuilt"
 
 abbrev pub line_of : Refusal → List ℕ

@@ -79,6 +79,22 @@ fn put_fault<D: Sink>(diag: &mut D, fault: InputFault) -> Result<(), WriteFault>
         InputFault::Plane { role, fault } => put_plane_fault(diag, role, fault),
         InputFault::TooLong => put_all(diag, b"7 long"),
         InputFault::SizesDiffer(role) => put_named(diag, b"8 sizes ", role),
+        InputFault::ScriptLine(line) => put_number(diag, b"9 line ", u64::from(line)),
+        InputFault::Outside(line) => put_number(diag, b"10 outside line ", u64::from(line)),
+        InputFault::TooManyAnalysts(line) => put_number(
+            diag,
+            b"11 analysts line ",
+            u64::from(line),
+        ),
+        InputFault::TooManyCommands(line) => put_number(
+            diag,
+            b"12 commands line ",
+            u64::from(line),
+        ),
+        InputFault::SettleLimit(line) => put_number(diag, b"13 settles line ", u64::from(line)),
+        InputFault::NoEnd => put_all(diag, b"14 no end"),
+        InputFault::AfterEnd(place) => put_number(diag, b"15 after end byte ", place),
+        InputFault::EditLimit(line) => put_number(diag, b"16 edits line ", u64::from(line)),
         InputFault::Unbuilt => put_all(diag, b"17 unbuilt"),
     }
 }

@@ -98,4 +98,28 @@ pub enum InputFault {
     /// A form whose reader is not built yet.
     #[error("a form that is not built yet")]
     Unbuilt,
+    /// This line of the script part, from 1, is none that may stand there.
+    #[error("line {0} of the scripts is none that may stand there")]
+    ScriptLine(u32),
+    /// The rectangle of this line does not lie in the raster.
+    #[error("the rectangle of line {0} does not lie in the raster")]
+    Outside(u32),
+    /// With this line there are more than 8 analysts.
+    #[error("with line {0} there are too many analysts")]
+    TooManyAnalysts(u32),
+    /// With this line its analyst has more than 4096 commands.
+    #[error("with line {0} an analyst has too many commands")]
+    TooManyCommands(u32),
+    /// With this line the settle commands of all analysts times pixels are above 67108864.
+    #[error("with line {0} too many pixels are settled")]
+    SettleLimit(u32),
+    /// The input ends before the line `end`.
+    #[error("the input ends before the line end")]
+    NoEnd,
+    /// A byte stands at this place, behind the line `end`.
+    #[error("the input goes on behind the line end, at byte {0}")]
+    AfterEnd(u64),
+    /// With this line the change commands of all analysts times tiles are above 16777216.
+    #[error("with line {0} too many tiles are changed")]
+    EditLimit(u32),
 }

@@ -1,0 +1,10 @@
+pub mod FieldLemmas
+pub mod LineLemmas
+pub mod SectionLemmas
+pub mod SectionTests
+pub mod ReachLemmas
+pub mod WithinLemmas
+pub mod ScriptLemmas
+pub mod PlaneLemmas
+pub mod SessionLemmas
+pub mod PutLemmas

@@ -1,0 +1,103 @@
+-- A session, from its planes and its scripts.
+use Rattle.std.proofs.Common.{◌≡◌, ℕ, zero, suc, ◌+◌, ◌*◌, ◌≤◌, ◌<◌, inl, inr, List, [], ◌∷◌, ◌++◌, length, sum_by, count_by, Bool, Option, refl, sym, ap, subst, ◌∙◌, arith}
+use Rattle.std.specs.Prelude.{IfSome}
+use Rattle.std.specs.List.{AllByRecursion}
+use Rattle.std.proofs.lemmas.List.{length-append}
+use Rattle.std.proofs.lemmas.List.Sums.{sum_by-cons}
+use Rattle.insar_ports.specs.Bytes.{with_front, HasMore}
+use Rattle.raster_model.specs.declared.script.Command.{Command}
+use Rattle.raster_model.specs.declared.script.Script.{Script}
+use Rattle.raster_model.specs.declared.tiling.Tiling.{Tiling}
+use Rattle.raster_model.specs.Scripts.{is_settle, is_change, CommandsFit, ScriptsFit, ScriptsAreShort, settles_in, changes_in}
+use Rattle.pgm_planes.specs.declared.fault.InputFault.{InputFault}
+use Rattle.pgm_planes.specs.Calls.{Call, Moves}
+use Rattle.pgm_planes.specs.Planes.{PlaneOf}
+use Rattle.pgm_planes.proofs.CallLemmas.{call, some_is, told_on}
+use Rattle.session_script.specs.declared.fault.SessionFault.{SessionFault}
+use Rattle.session_script.specs.declared.fault.SessionFault.TheVariants.{Input, ReadFault, Memory}
+use Rattle.session_script.specs.declared.session_use.SessionUse.{SessionUse}
+use Rattle.session_script.specs.Causes.{HasCause}
+use Rattle.session_script.specs.Making.{IsMadeOf}
+use Rattle.session_script.specs.Reaching.{Reaches, Break, HasCauseIn}
+use Rattle.session_script.specs.Scripts.{IsScriptPart, ScriptBreak}
+use Rattle.session_script.specs.Sections.{Sections, sections_of, Frame, frame_of, settles_of, changes_of}
+use Rattle.session_script.specs.Sessions.{SessionOf, ArePlanes, frame_in, IsSessionIn, SessionBreak}
+use Rattle.session_script.proofs.ReachLemmas.{if_told, at_told, part, cause_then}
+
+-- ---- scripts as sections
+
+pub scripts_are_short : (scripts : List Script) → AllByRecursion (λ commands. length commands ≤ 4096) (sections_of scripts) → ScriptsAreShort scripts
+scripts_are_short [] a k s e = absurd cc
+scripts_are_short (x ∷ scripts) a zero s e = let same : x ≡ s = cc in subst (λ (y : Script). y.commands.len ≤ 4096) same (omega (arith, a.0, x.commands.ok.0))
+scripts_are_short (x ∷ scripts) a (suc k) s e = scripts_are_short scripts a.1 k s e
+
+scripts_fit : (w h : ℕ) (scripts : List Script) → AllByRecursion (CommandsFit w h) (sections_of scripts) → ScriptsFit w h scripts
+scripts_fit w h [] a k s e = absurd cc
+scripts_fit w h (x ∷ scripts) a zero s e = let same : x ≡ s = cc in subst (λ (y : Script). CommandsFit w h y.commands.items) same a.0
+scripts_fit w h (x ∷ scripts) a (suc k) s e = scripts_fit w h scripts a.1 k s e
+
+same_counts : (test : Command → Bool) (scripts : List Script) → sum_by (λ script. count_by test script.commands.items) scripts ≡ sum_by (count_by test) (sections_of scripts)
+same_counts test [] = refl
+same_counts test (x ∷ scripts) =
+    sum_by-cons (λ script. count_by test script.commands.items) x scripts
+    ∙ ap (λ n. count_by test x.commands.items + n) (same_counts test scripts)
+    ∙ sym (sum_by-cons (count_by test) x.commands.items (sections_of scripts))
+
+pub settles_kept : (scripts : List Script) (tw th w h : ℕ) → tw ≡ w → th ≡ h → settles_of (sections_of scripts) * (tw * th) ≤ 67108864 → settles_in scripts * (w * h) ≤ 67108864
+settles_kept scripts tw th w h a b e = rw (same_counts is_settle scripts, ← a, ← b) e
+
+pub changes_kept : (scripts : List Script) (tiles : ℕ) → changes_of (sections_of scripts) * tiles ≤ 16777216 → changes_in scripts * tiles ≤ 16777216
+changes_kept scripts tiles e = rw (same_counts is_change scripts) e
+
+pub scripts_fit_in : (tw th w h : ℕ) (scripts : List Script) → tw ≡ w → th ≡ h → AllByRecursion (CommandsFit tw th) (sections_of scripts) → ScriptsFit w h scripts
+scripts_fit_in tw th w h scripts a b all = scripts_fit w h scripts (rw (← a, ← b) all)
+
+-- ---- the frame
+
+pub frame_is : (t : Tiling) (p : PlaneOf) (side : ℕ) → t.width ≡ p.width → t.height ≡ p.height → t.side ≡ side → frame_of t ≡ frame_in side p
+frame_is t p side a b c = rw (← a, ← b, ← c) refl
+
+-- ---- why no session is read
+
+too_long : (c : Call) → Moves c → c.at ≡ 0 → c.limit ≡ 268435456 → c.end ≡ c.limit → HasMore c.left → IfSome c.told (λ bytes. 268435456 < length bytes)
+too_long c m a l e more = if_told c.told _ (λ bytes t.
+    let k = told_on m.front c.told c.left bytes m.parts t in
+    let some : 0 < length k.0 = at_told c.left _ k.0 k.1 more in
+    let whole : bytes ≡ m.front ++ k.0 = some_is bytes (m.front ++ k.0) (sym t ∙ m.parts ∙ ap (with_front m.front) k.1) in
+    omega (arith, m.place, a, l, e, ap length whole, length-append m.front k.0, some))
+
+pub cause_of : (usage : SessionUse) (side : ℕ) (F : Break) (c : Call) (e : SessionFault) → Moves c → c.at ≡ 0 → c.limit ≡ 268435456 → ((bytes : List ℕ) (fault : InputFault) → F c.at bytes fault → SessionBreak usage side c.at bytes fault) → HasCauseIn F c e → HasCause usage side c e
+cause_of usage side F c (Input fault) m a l f (inl h) = if_told c.told _ (λ bytes t. inr (h.0, at_told c.told (λ b. 268435456 < length b) bytes t (too_long c m a l h.1 h.2)))
+cause_of usage side F c (Input fault) m a l f (inr h) = if_told c.told _ (λ bytes t. inl (subst (λ (n : ℕ). SessionBreak usage side n bytes fault) a (f bytes fault (at_told c.told _ bytes t h))))
+cause_of usage side F c ReadFault m a l f h = h
+cause_of usage side F c Memory m a l f h = tt
+
+module _ (told : Option (List ℕ)) (at : ℕ) (mid : Option (List ℕ)) (at_mid : ℕ) (left : Option (List ℕ)) (end : ℕ) (phase weights mask : PlaneOf) (planes : Reaches (part told at mid at_mid) (λ bytes rest. ArePlanes bytes phase weights mask rest)) where
+  -- the script part breaks
+  pub script_cause : (usage : SessionUse) (side : ℕ) (f : Frame) (limit limit_2 before middle after : ℕ) (e : SessionFault) → f ≡ frame_in side phase → Moves (call told at mid at_mid limit before middle) → limit_2 ≡ limit → HasCauseIn (ScriptBreak f usage) (call mid at_mid left end limit_2 middle after) e → HasCauseIn (SessionBreak usage side) (call told at left end limit before after) e
+  script_cause usage side f limit limit_2 before middle after e frame m l h =
+      cause_then told at mid at_mid left end limit limit_2 before middle after (λ bytes rest. ArePlanes bytes phase weights mask rest) (ScriptBreak f usage) (SessionBreak usage side) e m l planes
+      (λ bytes rest fault place s b. inr (record { phase = phase; weights = weights; mask = mask; rest = rest; place = at_mid; before = s; place_is = place; broken = subst (λ (g : Frame). ScriptBreak g usage at_mid rest fault) frame b })) h
+
+  -- a session stands
+  pub session_stands : (usage : SessionUse) (side : ℕ) (f : Frame) (scripts : Sections) (s : SessionOf) → f ≡ frame_in side phase → at ≡ 0 → end ≤ 268435456 → IsMadeOf phase weights mask scripts s → Reaches (part mid at_mid left end) (λ bytes rest. IsScriptPart f usage bytes scripts rest) → Reaches (part told at left end) (λ bytes rest. IsSessionIn usage side bytes s rest)
+  session_stands usage side f scripts s frame a short made part_of = if_told told _ (λ bytes t.
+      let k = at_told told _ bytes t planes in
+      let n = at_told mid _ k.0 k.1.0 part_of in
+      let place : end + length n.0 ≡ at + length bytes = omega (arith, k.1.1.0, n.1.1.0) in (
+        n.0,
+        (
+          n.1.0,
+          (
+            place,
+            record {
+              mask_plane = mask;
+              between = k.0;
+              planes = rw (made.phase_is, made.weights_are) k.1.1.1;
+              mask = rw made.phase_is made.mask_is;
+              script = rw (made.phase_is, made.scripts_are, ← frame) n.1.1.1;
+              short = omega (arith, place, a, short);
+            },
+          ),
+        ),
+      ))

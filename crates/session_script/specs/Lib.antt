@@ -1,0 +1,12 @@
+pub mod Faults
+pub mod Lines
+pub mod Fields
+pub mod Sections
+pub mod Building
+pub mod Scripts
+pub mod Reaching
+pub mod Sessions
+pub mod Causes
+pub mod Making
+pub mod Text
+pub mod Writing

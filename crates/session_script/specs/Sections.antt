@@ -1,0 +1,95 @@
+-- The sections of a script part: the analysts' commands, the words of their lines, and the limits.
+use Rattle.std.specs.Prelude.{ℕ, ◌+◌, ◌-◌, ◌*◌, ◌≤◌, ◌==◌, ◌&&◌, not, nat_lt, Bool, if◌then◌else◌, List, [], ◌∷◌, ◌++◌, length, map, flat_map, sum_by, count_by, slice_index_or, slice_set, Option, Some, None}
+use Rattle.std.specs.List.{AllByRecursion}
+use Rattle.raster_model.specs.declared.script.Command.{Command}
+use Rattle.raster_model.specs.declared.script.Command.TheVariants.{Change, Settle, Show}
+use Rattle.raster_model.specs.declared.script.Rect.{Rect}
+use Rattle.raster_model.specs.declared.script.Script.{Script}
+use Rattle.raster_model.specs.declared.tiling.Tiling.{Tiling}
+use Rattle.raster_model.specs.Scripts.{CommandsFit, is_settle, is_change, rect_of}
+use Rattle.raster_model.specs.Tiles.{tiles_of}
+use Rattle.pgm_planes.specs.declared.fault.InputFault.{InputFault}
+use Rattle.pgm_planes.specs.declared.fault.InputFault.TheVariants.{ScriptLine, Outside, TooManyAnalysts, TooManyCommands, SettleLimit, EditLimit}
+use Rattle.session_script.specs.declared.word.Word.{Word}
+use Rattle.session_script.specs.declared.word.Word.TheVariants as words
+
+-- the commands of each analyst, in order
+abbrev pub Sections : Type 0
+Sections = List (List Command)
+
+abbrev pub sections_of : List Script → Sections
+sections_of scripts = map (λ script. script.commands.items) scripts
+
+-- the words of their lines: for each analyst the line with which the section begins, and the commands
+abbrev pub command_words : List Command → List Word
+command_words commands = map words.Command commands
+
+abbrev pub section_words : List Command → List Word
+section_words commands = words.Analyst ∷ command_words commands
+
+abbrev pub words_of : Sections → List Word
+words_of sections = flat_map section_words sections
+
+-- how many lines these are, and how many of them settle and change the mask
+abbrev pub lines_in : Sections → ℕ
+lines_in sections = length (words_of sections)
+
+abbrev pub settles_of : Sections → ℕ
+settles_of sections = sum_by (count_by is_settle) sections
+
+abbrev pub changes_of : Sections → ℕ
+changes_of sections = sum_by (count_by is_change) sections
+
+-- the raster that the scripts are for: its size, and its number of tiles
+pub record Frame : Type 0 where
+  pub width : ℕ
+  pub height : ℕ
+  pub tiles : ℕ
+
+abbrev pub frame_of : Tiling → Frame
+frame_of tiling = record { width = tiling.width; height = tiling.height; tiles = tiles_of tiling }
+
+-- within the limits of a session
+pub record AreWithin (f : Frame) (sections : Sections) : Type 0 where
+  pub analysts : length sections ≤ 8
+  pub short : AllByRecursion (λ commands. length commands ≤ 4096) sections
+  pub inside : AllByRecursion (CommandsFit f.width f.height) sections
+  pub settles : settles_of sections * (f.width * f.height) ≤ 67108864
+  pub changes : changes_of sections * f.tiles ≤ 16777216
+
+-- and not without an analyst
+abbrev pub IsComplete : Frame → Sections → Type 0
+IsComplete f sections = (1 ≤ length sections) × AreWithin f sections
+
+-- the rectangle lies in the raster
+abbrev pub lies_in : Frame → Rect → Bool
+lies_in f r = not (nat_lt r.x1 r.x0) && nat_lt r.x1 f.width && not (nat_lt r.y1 r.y0) && nat_lt r.y1 f.height
+
+-- the commands of the last analyst
+abbrev pub last_of : Sections → List Command
+last_of sections = slice_index_or sections (length sections - 1) []
+
+-- What is wrong with a command in line n behind some sections: it belongs to no analyst, its analyst has 4096 commands
+-- already, its rectangle does not lie in the raster, or it passes a limit of all analysts. The first of these is told.
+abbrev pub limit_broken : Frame → ℕ → Sections → Command → Option InputFault
+limit_broken f n sections (Change edit) = if not (lies_in f (rect_of edit)) then Some (Outside n) else (if nat_lt 16777216 ((changes_of sections + 1) * f.tiles) then Some (EditLimit n) else None)
+limit_broken f n sections Settle = if nat_lt 67108864 ((settles_of sections + 1) * (f.width * f.height)) then Some (SettleLimit n) else None
+limit_broken f n sections Show = None
+
+abbrev pub command_broken : Frame → ℕ → Sections → Command → Option InputFault
+command_broken f n sections command = if length sections == 0 then Some (ScriptLine n) else (if nat_lt 4095 (length (last_of sections)) then Some (TooManyCommands n) else limit_broken f n sections command)
+
+-- what is wrong with a word in line n behind some sections
+abbrev pub word_broken : Frame → ℕ → Sections → Word → Option InputFault
+word_broken f n sections words.Analyst = if nat_lt 7 (length sections) then Some (TooManyAnalysts n) else None
+word_broken f n sections words.End = None
+word_broken f n sections (words.Command command) = command_broken f n sections command
+
+-- the sections with one more word: a section begins, or the last one goes on
+abbrev pub with_command : Command → Sections → Sections
+with_command command sections = slice_set sections (length sections - 1) (last_of sections ++ command ∷ [])
+
+abbrev pub with_word : Word → Sections → Sections
+with_word words.Analyst sections = sections ++ [] ∷ []
+with_word words.End sections = sections
+with_word (words.Command command) sections = with_command command sections

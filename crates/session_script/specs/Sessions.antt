@@ -1,0 +1,117 @@
+-- A session as bytes: the planes of phase, weights and mask, and the script part.
+use Rattle.std.specs.Prelude.{◌≡◌, ◌⊎◌, ℕ, ◌+◌, ◌-◌, ◌*◌, ◌/◌, ◌≤◌, ◌<◌, ◌==◌, not, Bool, false, IsTrue, List, length, replicate, slice_index}
+use Rattle.raster_model.specs.declared.session.Session.{Session}
+use Rattle.raster_model.specs.MaskView.{MaskView}
+use Rattle.raster_model.specs.Masks.{IsMaskOf}
+use Rattle.raster_model.specs.Sums.{Field}
+use Rattle.pgm_planes.specs.declared.fault.InputFault.{InputFault}
+use Rattle.pgm_planes.specs.declared.fault.InputFault.TheVariants as faults
+use Rattle.pgm_planes.specs.declared.fault.PlaneFault.{PlaneFault}
+use Rattle.pgm_planes.specs.declared.fault.Role.{Role}
+use Rattle.pgm_planes.specs.declared.fault.Role.TheVariants.{Phase, Weight, Mask}
+use Rattle.pgm_planes.specs.Breaks.{FirstBreak}
+use Rattle.pgm_planes.specs.Gaps.{begins}
+use Rattle.pgm_planes.specs.Planes.{PlaneOf, IsPlaneIn, plane_of}
+use Rattle.session_script.specs.declared.session_use.SessionUse.{SessionUse}
+use Rattle.session_script.specs.Sections.{Sections, Frame, sections_of}
+use Rattle.session_script.specs.Scripts.{IsScriptPart, ScriptBreak}
+
+-- what a session's text tells: side and rule are given apart
+pub record SessionOf : Type 0 where
+  pub phase : PlaneOf
+  pub weights : PlaneOf
+  pub mask : MaskView
+  pub scripts : Sections
+
+abbrev pub session_of : Session → SessionOf
+session_of s = record { phase = plane_of s.scene.phase; weights = plane_of s.scene.weights; mask = s.first_mask; scripts = sections_of s.scripts.items }
+
+-- a plane of another's size whose samples are all 1: the weights, and the mask, where there is none
+abbrev pub ones_of : PlaneOf → PlaneOf
+ones_of p = record { width = p.width; height = p.height; maxval = 1; samples = replicate (p.width * p.height) 1 }
+
+abbrev pub HasSizeOf : PlaneOf → PlaneOf → Type 0
+HasSizeOf p q = (q.width ≡ p.width) × (q.height ≡ p.height)
+
+-- P (80) begins a plane
+abbrev pub is_p : ℕ → Bool
+is_p b = b == 80
+
+-- where the next byte is P, a plane of the phase plane's size stands; otherwise the plane is that of ones
+abbrev pub IsLaterPlane : Role → PlaneOf → List ℕ → PlaneOf → List ℕ → Type 0
+IsLaterPlane role phase bytes p rest = (IsPlaneIn role bytes p rest × HasSizeOf phase p) ⊎ ((begins is_p bytes ≡ false) × (p ≡ ones_of phase) × (rest ≡ bytes))
+
+-- the phase plane, the weights if any and the mask if any, and then `rest`
+pub record ArePlanes (bytes : List ℕ) (phase weights mask : PlaneOf) (rest : List ℕ) : Type 0 where
+  pub behind_phase : List ℕ
+  pub behind_weights : List ℕ
+  pub first : IsPlaneIn Phase bytes phase behind_phase
+  pub second : IsLaterPlane Weight phase behind_phase weights behind_weights
+  pub third : IsLaterPlane Mask phase behind_weights mask rest
+
+-- the raster of a phase plane in tiles of this side
+abbrev pub tiles_along : ℕ → ℕ → ℕ
+tiles_along side pixels = (pixels + side - 1) / side
+
+abbrev pub frame_in : ℕ → PlaneOf → Frame
+frame_in side phase = record { width = phase.width; height = phase.height; tiles = tiles_along side phase.height * tiles_along side phase.width }
+
+-- a pixel is open where the mask plane's sample is not 0
+abbrev pub open_in : PlaneOf → Field Bool
+open_in p x y = not (slice_index p.samples (y * p.width + x) == 0)
+
+-- the bytes are a session's text, of at most 268,435,456 bytes, and then `rest`
+pub record IsSessionIn (usage : SessionUse) (side : ℕ) (bytes : List ℕ) (s : SessionOf) (rest : List ℕ) : Type 0 where
+  pub mask_plane : PlaneOf
+  pub between : List ℕ
+  pub planes : ArePlanes bytes s.phase s.weights mask_plane between
+  pub mask : IsMaskOf s.mask s.phase.width s.phase.height (open_in mask_plane)
+  pub script : IsScriptPart (frame_in side s.phase) usage between s.scripts rest
+  pub short : length bytes ≤ 268435456 + length rest
+
+-- ---- breaks; places count from the start, where the first of the bytes has the place `at`
+
+abbrev pub PlaneBreak : Role → ℕ → List ℕ → InputFault → Type 0
+PlaneBreak role at bytes fault = (found : PlaneFault) × (fault ≡ faults.Plane role found) × FirstBreak role at bytes found
+
+-- a later plane begins, and breaks its form or has another size than the phase plane
+abbrev pub HasOtherSize : Role → PlaneOf → List ℕ → Type 0
+HasOtherSize role phase bytes = (plane : PlaneOf) × (rest : List ℕ) × IsPlaneIn role bytes plane rest × (HasSizeOf phase plane → ⊥)
+
+abbrev pub LaterBreak : Role → PlaneOf → ℕ → List ℕ → InputFault → Type 0
+LaterBreak role phase at bytes fault = IsTrue (begins is_p bytes) × (PlaneBreak role at bytes fault ⊎ ((fault ≡ faults.SizesDiffer role) × HasOtherSize role phase bytes))
+
+-- a plane of this role may begin at `rest`, behind a phase plane and, for a mask, the weights if any
+abbrev pub StandsBefore : Role → List ℕ → PlaneOf → List ℕ → Type 0
+StandsBefore Phase bytes phase rest = ⊥
+StandsBefore Weight bytes phase rest = IsPlaneIn Phase bytes phase rest
+StandsBefore Mask bytes phase rest = (weights : PlaneOf) × (between : List ℕ) × IsPlaneIn Phase bytes phase between × IsLaterPlane Weight phase between weights rest
+
+pub record BreaksInLater (at : ℕ) (bytes : List ℕ) (fault : InputFault) : Type 0 where
+  pub role : Role
+  pub phase : PlaneOf
+  pub rest : List ℕ
+  pub place : ℕ
+  pub before : StandsBefore role bytes phase rest
+  pub place_is : place + length rest ≡ at + length bytes
+  pub broken : LaterBreak role phase place rest fault
+
+abbrev pub PlanesBreak : ℕ → List ℕ → InputFault → Type 0
+PlanesBreak at bytes fault = PlaneBreak Phase at bytes fault ⊎ BreaksInLater at bytes fault
+
+pub record BreaksInScript (usage : SessionUse) (side at : ℕ) (bytes : List ℕ) (fault : InputFault) : Type 0 where
+  pub phase : PlaneOf
+  pub weights : PlaneOf
+  pub mask : PlaneOf
+  pub rest : List ℕ
+  pub place : ℕ
+  pub before : ArePlanes bytes phase weights mask rest
+  pub place_is : place + length rest ≡ at + length bytes
+  pub broken : ScriptBreak (frame_in side phase) usage place rest fault
+
+abbrev pub SessionBreak : SessionUse → ℕ → ℕ → List ℕ → InputFault → Type 0
+SessionBreak usage side at bytes fault = PlanesBreak at bytes fault ⊎ BreaksInScript usage side at bytes fault
+
+-- the bytes have this fault as a session: their first break, or more bytes than a session may have
+abbrev pub HasFault : SessionUse → ℕ → List ℕ → InputFault → Type 0
+HasFault usage side bytes fault = SessionBreak usage side 0 bytes fault ⊎ ((fault ≡ faults.TooLong) × (268435456 < length bytes))

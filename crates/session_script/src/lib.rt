@@ -1,0 +1,21 @@
+//! Sessions both ways: planes of phase, weights and mask and the analysts' scripts are read exactly, as a session or the
+//! first break of its form, and written back.
+#![tactic(auto)]
+
+mod fault;
+mod line;
+mod planes;
+mod rules;
+mod script;
+mod sections;
+mod session;
+mod session_use;
+#[cfg(test)]
+mod tests;
+mod word;
+mod write;
+
+pub use fault::SessionFault;
+pub use session::read_session;
+pub use session_use::SessionUse;
+pub use write::write_session;

@@ -1,0 +1,83 @@
+ghost use Rattle.insar_ports.specs.Feeding.{handed_of, left_of, limit_of, source_name};
+ghost use Rattle.pgm_planes.specs.Calls.{Moves, call_of};
+ghost use Rattle.pgm_planes.specs.Planes.{plane_of};
+ghost use Rattle.session_script.specs.Causes.{HasCause};
+ghost use Rattle.session_script.specs.Reaching.{HasCauseIn, Reaches};
+ghost use Rattle.session_script.specs.Sections.{IsComplete, frame_of, sections_of};
+ghost use Rattle.session_script.specs.Sessions.{IsSessionIn, session_of};
+ghost use Rattle.session_script.specs.Making.{IsMadeOf};
+ghost use Rattle.std.specs.Prelude.{◌≡◌, ◌≤◌, IfErr, IfOk};
+
+use crate::fault::SessionFault;
+use crate::planes::{Planes, read_planes};
+use crate::rules::weigh;
+use crate::script::read_scripts;
+use crate::session_use::SessionUse;
+use insar_ports::{Feed, Source};
+use raster_model::{Mask, RuleKind, Scene, Script, Session, Tiling};
+use std::alloc::{AllocError, Global};
+
+/// Reads a session from the start of a source: a phase plane, weights and a mask where they stand, and the analysts'
+/// scripts. The weights of the edges are those of the rule `kind`, and tiles have the side `side`. Places and lines of a
+/// fault count from the start of the source and of the script part.
+///
+/// After a refusal the feed stands where it was met, and the caller ends.
+pub fn read_session<S: Source>(
+    alloc: Global,
+    feed: &mut Feed<S>,
+    use_as: SessionUse,
+    side: u32,
+    kind: RuleKind,
+) -> Result<Session, SessionFault>
+    requires start { handed_of feed.old ≡ 0 }
+    requires limit { limit_of feed.old ≡ 268435456 }
+    requires sides { (2 ≤ side) × (side ≤ 128) }
+    ensures same_source { source_name feed.new ≡ source_name feed.old }
+    ensures same_limit { limit_of feed.new ≡ limit_of feed.old }
+    // What was handed out is what the feed has no more.
+    ensures moves { Moves (call_of S.left S.faults feed.old feed.new) }
+    // What is read is spelled so, and what follows is left.
+    ensures read { IfOk result (λ session. Reaches (call_of S.left S.faults feed.old feed.new) (λ bytes rest. IsSessionIn use_as side bytes (session_of session) rest)) }
+    ensures scene { IfOk result (λ session. (session.scene.rule ≡ kind) × (session.scene.tiling.side ≡ side)) }
+    // The first break, or why else a session is not read.
+    ensures refused { IfErr result (HasCause use_as side (call_of S.left S.faults feed.old feed.new)) }
+{
+    let planes = read_planes(alloc, feed)?;
+    let tiling = Tiling::new(planes.phase.width, planes.phase.height, side);
+    let scripts = read_scripts(alloc, feed, use_as, &tiling)?;
+    Ok(made_of(alloc, planes, tiling, kind, scripts)?)
+}
+
+/// The session of planes and scripts.
+fn made_of(
+    alloc: Global,
+    planes: Planes,
+    tiling: Tiling,
+    kind: RuleKind,
+    scripts: Vec<Script>,
+) -> Result<Session, AllocError>
+    requires sized { (tiling.width ≡ planes.phase.width) × (tiling.height ≡ planes.phase.height) }
+    requires complete { IsComplete (frame_of tiling) (sections_of scripts.items) }
+    ensures made { IfOk result (λ session. IsMadeOf (plane_of planes.phase) (plane_of planes.weights) (plane_of planes.mask) (sections_of scripts.items) (session_of session)) }
+    ensures scene { IfOk result (λ session. (session.scene.rule ≡ kind) × (session.scene.tiling.side ≡ tiling.side)) }
+{
+    let edges = weigh(alloc, kind, &planes.weights)?;
+    let first_mask = Mask::of_plane(alloc, &planes.mask)?;
+    let Planes {
+        phase,
+        weights,
+        mask: _,
+    } = planes;
+    let scene = Scene {
+        phase,
+        weights,
+        rule: kind,
+        edges,
+        tiling,
+    };
+    Ok(Session {
+        scene,
+        first_mask,
+        scripts,
+    })
+}

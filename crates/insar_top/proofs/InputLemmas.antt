@@ -22,10 +22,10 @@ use Rattle.pgm_planes.proofs.CallLemmas.{call, some_of, some_is, told_on, risen_
 use Rattle.pgm_planes.proofs.PlaneAgain.{one_plane, no_break_of_plane}
 use Rattle.insar_top.specs.declared.refusal.Refusal.{Refusal}
 use Rattle.insar_top.specs.declared.refusal.Refusal.TheVariants as refusals
-use Rattle.insar_top.specs.Breaks.{is_p, StandsBefore, BreaksLater, DiffersInSize, IsLarge, GoesOnOtherwise, GoesOn, HasFault}
+use Rattle.insar_top.specs.Breaks.{is_p, StandsBefore, BreaksLater, DiffersInSize, GoesOnOtherwise, GoesOn, HasFault}
 use Rattle.insar_top.specs.Causes.{HasInputCause, IsAlone}
-use Rattle.insar_top.specs.Input.{InputOf, ones_of, HasSizeOf, IsOneTile, IsLaterPlane, BehindPhase, BehindWeights, BehindMask, IsInput, IsNoInput}
-use Rattle.insar_top.specs.Reaching.{Reaches, HasPlaneCause, HasPhaseCause, HasLaterCause}
+use Rattle.insar_top.specs.Input.{InputOf, ones_of, HasSizeOf, IsLaterPlane, BehindWeights, BehindMask, IsInput, IsNoInput}
+use Rattle.insar_top.specs.Reaching.{Reaches, HasPlaneCause, HasLaterCause}
 use Rattle.insar_top.specs.Refusals.{refusal_of_feed, refusal_of_plane}
 
 -- where bytes are told
@@ -59,8 +59,8 @@ one_later role phase bytes p q x y (inl a) (inr b) = absurd (begun_not_ended byt
 one_later role phase bytes p q x y (inr a) (inl b) = absurd (begun_not_ended bytes (begins_p role bytes q y b.0) a.0)
 one_later role phase bytes p q x y (inr a) (inr b) = (a.1 ∙ sym b.1, a.2 ∙ sym b.2)
 
-one_phase : (bytes : List ℕ) (p q : PlaneOf) (x y : List ℕ) → BehindPhase bytes p x → BehindPhase bytes q y → (p ≡ q) × (x ≡ y)
-one_phase bytes p q x y a b = one_front Phase bytes p q x y a.plane b.plane
+one_phase : (bytes : List ℕ) (p q : PlaneOf) (x y : List ℕ) → IsPlaneIn Phase bytes p x → IsPlaneIn Phase bytes q y → (p ≡ q) × (x ≡ y)
+one_phase bytes p q x y a b = one_front Phase bytes p q x y a b
 
 one_weights : (bytes : List ℕ) (phase other p q : PlaneOf) (x y : List ℕ) → BehindWeights bytes phase p x → BehindWeights bytes other q y → (phase ≡ other) × (p ≡ q) × (x ≡ y)
 one_weights bytes phase other p q x y a b =
@@ -116,11 +116,6 @@ differs_refuses role bytes d input i =
       | inr e ↦ begun_not_ended d.rest (begins_p role d.rest d.plane d.behind d.is) e.0
     ]
 
-large_refuses : (bytes : List ℕ) → IsLarge bytes → IsNoInput bytes
-large_refuses bytes l input i =
-    let p = i.planes.first.first in
-    l.large (subst IsOneTile (one_front Phase bytes input.phase l.phase i.planes.first.between l.rest p.plane l.plane).0 p.one_tile)
-
 otherwise_refuses : (bytes : List ℕ) → GoesOnOtherwise bytes → IsNoInput bytes
 otherwise_refuses bytes g input i =
     let l = later_in_input g.role bytes g.phase g.rest input g.before i in
@@ -134,14 +129,13 @@ goes_on_refuses bytes g input i = g.some (one_mask bytes g.input input g.rest []
 
 -- bytes that have a fault are no input
 pub fault_refuses : (bytes : List ℕ) (fault : InputFault) → HasFault bytes fault → IsNoInput bytes
-fault_refuses bytes (faults.Plane Phase fault) h = λ input i. no_break_of_plane Phase 0 bytes input.phase i.planes.first.between fault i.planes.first.first.plane h
+fault_refuses bytes (faults.Plane Phase fault) h = λ input i. no_break_of_plane Phase 0 bytes input.phase i.planes.first.between fault i.planes.first.first h
 fault_refuses bytes (faults.Plane Weight fault) h = broken_refuses Weight bytes fault h
 fault_refuses bytes (faults.Plane Mask fault) h = broken_refuses Mask bytes fault h
 fault_refuses bytes faults.TooLong h = λ input i. omega (arith, h, i.short)
 fault_refuses bytes (faults.SizesDiffer role) h = differs_refuses role bytes h
-fault_refuses bytes faults.Unbuilt (inl l) = large_refuses bytes l
-fault_refuses bytes faults.Unbuilt (inr (inl g)) = otherwise_refuses bytes g
-fault_refuses bytes faults.Unbuilt (inr (inr g)) = goes_on_refuses bytes g
+fault_refuses bytes faults.Unbuilt (inl g) = otherwise_refuses bytes g
+fault_refuses bytes faults.Unbuilt (inr g) = goes_on_refuses bytes g
 fault_refuses bytes (faults.ScriptLine n) h = absurd h
 fault_refuses bytes (faults.Outside n) h = absurd h
 fault_refuses bytes (faults.TooManyAnalysts n) h = absurd h
@@ -163,26 +157,12 @@ module _ {P Q : List ℕ → List ℕ → Type 0} where
       let k = at_told c.told _ bytes t r in
       (k.0, (k.1.0, (k.1.1.0, f bytes k.0 k.1.1.1))))
 
-not_one_tile : (p : PlaneOf) → (128 < p.width) ⊎ ((p.width ≤ 128) × (128 < p.height)) → IsOneTile p → ⊥
-not_one_tile p (inl across) tile = omega (arith, across, tile.0)
-not_one_tile p (inr along) tile = omega (arith, along.1, tile.1)
-
 module _ (told : Option (List ℕ)) (at : ℕ) (left : Option (List ℕ)) (end : ℕ) where
   -- what was taken from the front is a plane
   pub takes_reaches : (role : Role) (p : PlaneOf) → Takes (part told at left end) (λ text rest. SpellsPlane role text p rest) → Reaches (part told at left end) (λ bytes rest. IsPlaneIn role bytes p rest)
   takes_reaches role p taken = if_told told _ (λ bytes t.
       let k = at_told told _ bytes t taken in
       (k.1, (k.2.1.0, (omega (arith, k.2.1.1.0, ap length k.2.0, length-append k.0 k.1), (k.0, k.2.0, k.2.1.1.1)))))
-
-  -- what stands behind a phase plane of one tile
-  pub phase_done : (p : PlaneOf) → Reaches (part told at left end) (λ bytes rest. IsPlaneIn Phase bytes p rest) → IsOneTile p → Reaches (part told at left end) (λ bytes rest. BehindPhase bytes p rest)
-  phase_done p r tile = reaches_map (part told at left end) (λ bytes rest is. record { plane = is; one_tile = tile }) r
-
-  -- the phase plane has a side above 128 pixels
-  pub large_refused : (p : PlaneOf) → (128 < p.width) ⊎ ((p.width ≤ 128) × (128 < p.height)) → Reaches (part told at left end) (λ bytes rest. IsPlaneIn Phase bytes p rest) → IfSome told IsLarge
-  large_refused p side r = if_told told _ (λ bytes t.
-      let k = at_told told _ bytes t r in
-      record { phase = p; rest = k.0; plane = k.1.1.1; large = not_one_tile p side })
 
   -- the later plane has the size of the phase plane, or another
   pub sized_done : (role : Role) (phase p : PlaneOf) → Reaches (part told at left end) (λ bytes rest. IsPlaneIn role bytes p rest) → HasSizeOf phase p → Reaches (part told at left end) (λ bytes rest. IsLaterPlane role phase bytes p rest)
@@ -215,23 +195,23 @@ module _ (told : Option (List ℕ)) (at : ℕ) (mid : Option (List ℕ)) (at_mid
       let n = at_told mid _ k.0 k.1.0 s in
       (n.0, (n.1.0, (omega (arith, k.1.1.0, n.1.1.0), (k.0, (k.1.1.1, n.1.1.1))))))
 
-  weights_done : (phase weights : PlaneOf) → Reaches (part told at mid at_mid) (λ bytes rest. IsPlaneIn Phase bytes phase rest) → IsOneTile phase → Reaches (part mid at_mid left end) (λ bytes rest. IsLaterPlane Weight phase bytes weights rest)
+  weights_done : (phase weights : PlaneOf) → Reaches (part told at mid at_mid) (λ bytes rest. IsPlaneIn Phase bytes phase rest) → Reaches (part mid at_mid left end) (λ bytes rest. IsLaterPlane Weight phase bytes weights rest)
       → Reaches (part told at left end) (λ bytes rest. BehindWeights bytes phase weights rest)
-  weights_done phase weights r tile s = reaches_map (part told at left end) (λ bytes rest k. record { between = k.0; first = k.1.0; next = k.1.1 })
-      (reaches_then (λ bytes rest. BehindPhase bytes phase rest) (λ bytes rest. IsLaterPlane Weight phase bytes weights rest) (phase_done told at mid at_mid phase r tile) s)
+  weights_done phase weights r s = reaches_map (part told at left end) (λ bytes rest k. record { between = k.0; first = k.1.0; next = k.1.1 })
+      (reaches_then (λ bytes rest. IsPlaneIn Phase bytes phase rest) (λ bytes rest. IsLaterPlane Weight phase bytes weights rest) r s)
 
   -- a mask may begin behind the weights
-  pub before_mask : (phase weights : PlaneOf) → Reaches (part told at mid at_mid) (λ bytes rest. IsPlaneIn Phase bytes phase rest) → IsOneTile phase → Reaches (part mid at_mid left end) (λ bytes rest. IsLaterPlane Weight phase bytes weights rest)
+  pub before_mask : (phase weights : PlaneOf) → Reaches (part told at mid at_mid) (λ bytes rest. IsPlaneIn Phase bytes phase rest) → Reaches (part mid at_mid left end) (λ bytes rest. IsLaterPlane Weight phase bytes weights rest)
       → Reaches (part told at left end) (λ bytes rest. StandsBefore Mask bytes phase rest)
-  before_mask phase weights r tile s = reaches_map (part told at left end) (λ bytes rest b. (weights, b)) (weights_done phase weights r tile s)
+  before_mask phase weights r s = reaches_map (part told at left end) (λ bytes rest b. (weights, b)) (weights_done phase weights r s)
 
 module _ (told : Option (List ℕ)) (at : ℕ) (left_1 : Option (List ℕ)) (end_1 : ℕ) (left_2 : Option (List ℕ)) (end_2 : ℕ) (left : Option (List ℕ)) (end : ℕ) (input : InputOf) where
   -- three calls that read the planes
-  pub planes_done : Reaches (part told at left_1 end_1) (λ bytes rest. IsPlaneIn Phase bytes input.phase rest) → IsOneTile input.phase → Reaches (part left_1 end_1 left_2 end_2) (λ bytes rest. IsLaterPlane Weight input.phase bytes input.weights rest)
+  pub planes_done : Reaches (part told at left_1 end_1) (λ bytes rest. IsPlaneIn Phase bytes input.phase rest) → Reaches (part left_1 end_1 left_2 end_2) (λ bytes rest. IsLaterPlane Weight input.phase bytes input.weights rest)
       → Reaches (part left_2 end_2 left end) (λ bytes rest. IsLaterPlane Mask input.phase bytes input.mask rest) → Reaches (part told at left end) (λ bytes rest. BehindMask bytes input rest)
-  planes_done r tile s t = reaches_map (part told at left end) (λ bytes rest k. record { between = k.0; first = k.1.0; next = k.1.1 })
+  planes_done r s t = reaches_map (part told at left end) (λ bytes rest k. record { between = k.0; first = k.1.0; next = k.1.1 })
       (reaches_then told at left_2 end_2 left end (λ bytes rest. BehindWeights bytes input.phase input.weights rest) (λ bytes rest. IsLaterPlane Mask input.phase bytes input.mask rest)
-      (weights_done told at left_1 end_1 left_2 end_2 input.phase input.weights r tile s) t)
+      (weights_done told at left_1 end_1 left_2 end_2 input.phase input.weights r s) t)
 
 -- ---- the next byte
 
@@ -280,9 +260,8 @@ plane_cause read_faults.TooLong c m a l h = too_long c m a l h.0 h.1
 plane_cause read_faults.ReadFault c m a l h = h
 plane_cause read_faults.Memory c m a l h = tt
 
-pub phase_cause : (e : Refusal) (c : Call) → Moves c → c.at ≡ 0 → c.limit ≡ 268435456 → HasPhaseCause c e → HasInputCause c.told c.before c.after e
-phase_cause e c m a l (inl h) = subst (HasInputCause c.told c.before c.after) (sym h.1.0) (plane_cause h.0 c m a l h.1.1)
-phase_cause e c m a l (inr h) = subst (HasInputCause c.told c.before c.after) (sym h.0) (if_told c.told _ (λ bytes t. inl (at_told c.told _ bytes t h.1)))
+pub phase_cause : (e : Refusal) (c : Call) → Moves c → c.at ≡ 0 → c.limit ≡ 268435456 → HasPlaneCause Phase c e → HasInputCause c.told c.before c.after e
+phase_cause e c m a l h = subst (HasInputCause c.told c.before c.after) (sym h.1.0) (plane_cause h.0 c m a l h.1.1)
 
 later_break : (role : Role) (bytes : List ℕ) (fault : PlaneFault) → BreaksLater role bytes fault → HasFault bytes (faults.Plane role fault)
 later_break Phase bytes fault b = absurd b.before
@@ -328,7 +307,7 @@ module _ (told : Option (List ℕ)) (at : ℕ) (mid : Option (List ℕ)) (at_mid
   later_cause role phase (refusals.Input faults.Unbuilt) m n a s l r h = if_told told _ (λ bytes t.
       let k = at_told told _ bytes t r in
       let b = at_told mid _ k.0 k.1.0 h in
-      inr (inl (record { role = role; phase = phase; rest = k.0; before = k.1.1.1; some = b.0; other = b.1 })))
+      inl (record { role = role; phase = phase; rest = k.0; before = k.1.1.1; some = b.0; other = b.1 }))
   later_cause role phase (refusals.Input (faults.ScriptLine k)) m n a s l r h = absurd h
   later_cause role phase (refusals.Input (faults.Outside k)) m n a s l r h = absurd h
   later_cause role phase (refusals.Input (faults.TooManyAnalysts k)) m n a s l r h = absurd h
@@ -363,7 +342,7 @@ module _ (told : Option (List ℕ)) (at : ℕ) (left : Option (List ℕ)) (end :
   pub goes_on_cause : (byte : ℕ) (now : Option (List ℕ)) → left ≡ with_front (byte ∷ []) now → IfSome told (λ bytes. HasFault bytes faults.Unbuilt)
   goes_on_cause byte now more = if_told told _ (λ bytes t.
       let k = at_told told _ bytes t done in
-      inr (inr (record { input = input; rest = k.0; before = k.1.1.1; some = λ nil. has_more byte now k.0 (sym more ∙ k.1.0) nil })))
+      inr (record { input = input; rest = k.0; before = k.1.1.1; some = λ nil. has_more byte now k.0 (sym more ∙ k.1.0) nil }))
 
   pub is_alone : (source : Option (List ℕ)) (pending : List ℕ) → at ≡ 0 → end ≤ 268435456 → IsAtEnd left → left ≡ with_front pending source → IsAlone told source (λ bytes. IsInput bytes input)
   is_alone source pending a short ended waits = if_told told _ (λ bytes t.

@@ -1,6 +1,7 @@
-pub mod SurfaceLemmas
-pub mod GridLemmas
-pub mod WriteLemmas
 pub mod WordLemmas
 pub mod InputLemmas
+pub mod MaskLemmas
+pub mod JoinLemmas
+pub mod TileLemmas
+pub mod SurfaceLemmas
 pub mod TopLemmas

@@ -8,7 +8,7 @@ use Rattle.pgm_planes.specs.declared.fault.PlaneFault.{PlaneFault}
 use Rattle.pgm_planes.specs.Breaks.{FirstBreak}
 use Rattle.pgm_planes.specs.Gaps.{begins}
 use Rattle.pgm_planes.specs.Planes.{PlaneOf, IsPlaneIn}
-use Rattle.insar_top.specs.Input.{InputOf, HasSizeOf, IsOneTile, BehindPhase, BehindWeights, BehindMask}
+use Rattle.insar_top.specs.Input.{InputOf, HasSizeOf, BehindWeights, BehindMask}
 
 abbrev pub is_p : ℕ → Bool
 is_p b = b == 80
@@ -16,7 +16,7 @@ is_p b = b == 80
 -- a plane of this role may begin at `rest`, behind a phase plane and, for a mask, the weights
 abbrev pub StandsBefore : Role → List ℕ → PlaneOf → List ℕ → Type 0
 StandsBefore Phase bytes phase rest = ⊥
-StandsBefore Weight bytes phase rest = BehindPhase bytes phase rest
+StandsBefore Weight bytes phase rest = IsPlaneIn Phase bytes phase rest
 StandsBefore Mask bytes phase rest = (weights : PlaneOf) × BehindWeights bytes phase weights rest
 
 -- a later plane begins there, and has this first break; places count from the start
@@ -38,13 +38,6 @@ pub record DiffersInSize (role : Role) (bytes : List ℕ) : Type 0 where
   pub before : StandsBefore role bytes phase rest
   pub is : IsPlaneIn role rest plane behind
   pub differs : HasSizeOf phase plane → ⊥
-
--- the phase plane has a side above 128 pixels
-pub record IsLarge (bytes : List ℕ) : Type 0 where
-  pub phase : PlaneOf
-  pub rest : List ℕ
-  pub plane : IsPlaneIn Phase bytes phase rest
-  pub large : IsOneTile phase → ⊥
 
 -- a byte other than P stands where a later plane may begin
 pub record GoesOnOtherwise (bytes : List ℕ) : Type 0 where
@@ -69,7 +62,7 @@ HasFault bytes (faults.Plane Weight fault) = BreaksLater Weight bytes fault
 HasFault bytes (faults.Plane Mask fault) = BreaksLater Mask bytes fault
 HasFault bytes faults.TooLong = 268435456 < length bytes
 HasFault bytes (faults.SizesDiffer role) = DiffersInSize role bytes
-HasFault bytes faults.Unbuilt = IsLarge bytes ⊎ (GoesOnOtherwise bytes ⊎ GoesOn bytes)
+HasFault bytes faults.Unbuilt = GoesOnOtherwise bytes ⊎ GoesOn bytes
 HasFault bytes (faults.ScriptLine n) = ⊥
 HasFault bytes (faults.Outside n) = ⊥
 HasFault bytes (faults.TooManyAnalysts n) = ⊥

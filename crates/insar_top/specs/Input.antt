@@ -20,23 +20,14 @@ ones_of p = record { width = p.width; height = p.height; maxval = 1; samples = r
 abbrev pub HasSizeOf : PlaneOf → PlaneOf → Type 0
 HasSizeOf p q = (q.width ≡ p.width) × (q.height ≡ p.height)
 
--- no side is above 128 pixels: the raster is one tile, and larger ones wait for tiles that are joined
-abbrev pub IsOneTile : PlaneOf → Type 0
-IsOneTile p = (p.width ≤ 128) × (p.height ≤ 128)
-
 -- the bytes go on with a plane of the phase plane's size, and then `rest` stands; or they have ended, and the plane is that of ones
 abbrev pub IsLaterPlane : Role → PlaneOf → List ℕ → PlaneOf → List ℕ → Type 0
 IsLaterPlane role phase bytes p rest = (IsPlaneIn role bytes p rest × HasSizeOf phase p) ⊎ ((bytes ≡ []) × (p ≡ ones_of phase) × (rest ≡ []))
 
--- the bytes begin with a phase plane of one tile, and then `rest` stands
-pub record BehindPhase (bytes : List ℕ) (phase : PlaneOf) (rest : List ℕ) : Type 0 where
-  pub plane : IsPlaneIn Phase bytes phase rest
-  pub one_tile : IsOneTile phase
-
--- .. and go on with the weights, if any
+-- the bytes begin with a phase plane, go on with the weights, if any, and then `rest` stands
 pub record BehindWeights (bytes : List ℕ) (phase weights : PlaneOf) (rest : List ℕ) : Type 0 where
   pub between : List ℕ
-  pub first : BehindPhase bytes phase between
+  pub first : IsPlaneIn Phase bytes phase between
   pub next : IsLaterPlane Weight phase between weights rest
 
 -- .. and with the mask, if any
@@ -57,12 +48,13 @@ IsNoInput bytes = (input : InputOf) → IsInput bytes input → ⊥
 abbrev pub sample_in : PlaneOf → Field ℕ
 sample_in p x y = slice_index p.samples (y * p.width + x)
 
--- the raster of an input by a rule of weights; tiles have the side 128
-abbrev pub tiles_along : ℕ → ℕ
-tiles_along pixels = (pixels + 128 - 1) / 128
+-- how many tiles of a side lie along so many pixels; the last one may be smaller
+abbrev pub tiles_along : ℕ → ℕ → ℕ
+tiles_along side pixels = (pixels + side - 1) / side
 
-abbrev pub raster_of_input : RuleKind → InputOf → Raster
-raster_of_input rule i = record { width = i.phase.width; height = i.phase.height; phase = sample_in i.phase; weight = λ e. rule_number rule i.weights.maxval (at_start (sample_in i.weights) e) (at_end (sample_in i.weights) e); tile = λ x y. y / 128 * tiles_along i.phase.width + x / 128; tile_count = tiles_along i.phase.height * tiles_along i.phase.width }
+-- the raster of an input by a rule of weights, in square tiles of a side, numbered row by row
+abbrev pub raster_of_input : RuleKind → ℕ → InputOf → Raster
+raster_of_input rule side i = record { width = i.phase.width; height = i.phase.height; phase = sample_in i.phase; weight = λ e. rule_number rule i.weights.maxval (at_start (sample_in i.weights) e) (at_end (sample_in i.weights) e); tile = λ x y. y / side * tiles_along side i.phase.width + x / side; tile_count = tiles_along side i.phase.height * tiles_along side i.phase.width }
 
 -- a pixel is open where the mask's sample is not 0
 abbrev pub open_of : InputOf → Field Bool

@@ -1,7 +1,6 @@
 pub mod Words
 pub mod Input
 pub mod Breaks
-pub mod Grid
 pub mod Answers
 pub mod Causes
 pub mod Outcomes
@@ -9,6 +8,3 @@ pub mod Refusals
 pub mod Lines
 pub mod Surfaces
 pub mod Reaching
-pub mod Rows
-pub mod Waiting
-pub mod Writing

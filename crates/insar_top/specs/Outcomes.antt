@@ -24,12 +24,12 @@ pub record Run : Type 0 where
   pub sink_after : ℕ
 
 -- where the bytes are told, they are an input, nothing of it is left, and the sink gained exactly the text for it
-abbrev pub IsDone : RuleKind → Run → Type 0
-IsDone rule r = IfSome r.told (λ bytes. (text : List ℕ) × (IsAnswer rule bytes text × ((r.left ≡ Some []) × (r.held_now ≡ with_end r.held text))))
+abbrev pub IsDone : RuleKind → ℕ → Run → Type 0
+IsDone rule side r = IfSome r.told (λ bytes. (text : List ℕ) × (IsAnswer rule side bytes text × ((r.left ≡ Some []) × (r.held_now ≡ with_end r.held text))))
 
 -- where the bytes are told, they are an input, and the sink gained a part of the text for it and not the whole
-abbrev pub IsCut : RuleKind → Run → Type 0
-IsCut rule r = IfSome r.told (λ bytes. (text : List ℕ) × (IsAnswer rule bytes text × GainsProperPrefix r.held text r.held_now))
+abbrev pub IsCut : RuleKind → ℕ → Run → Type 0
+IsCut rule side r = IfSome r.told (λ bytes. (text : List ℕ) × (IsAnswer rule side bytes text × GainsProperPrefix r.held text r.held_now))
 
 abbrev pub SourceFailed : Run → Type 0
 SourceFailed r = HasRisen r.source_before r.source_after
@@ -41,25 +41,25 @@ SinkFailed r = HasRisen r.sink_before r.sink_after
 abbrev pub IsUnread : Run → Type 0
 IsUnread r = (r.left ≡ r.told) × (r.source_after ≡ r.source_before)
 
--- the words are a command, with a rule for which P holds
-abbrev pub ByCommand : List (Bor (List ℕ)) → (RuleKind → Type 0) → Type 0
-ByCommand words P = (rule : RuleKind) × (IsCommand words rule × P rule)
+-- the words are a command, with a rule and a side for which P holds
+abbrev pub ByCommand : List (Bor (List ℕ)) → (RuleKind → ℕ → Type 0) → Type 0
+ByCommand words P = (rule : RuleKind) × (side : ℕ) × IsCommand words rule side × P rule side
 
--- a refusal of a run by a rule has its cause
-abbrev pub HasRunCause : RuleKind → Run → Refusal → Type 0
-HasRunCause rule r refusals.Words = ⊥
-HasRunCause rule r (refusals.Input fault) = IfSome r.told (λ bytes. HasFault bytes fault) × (r.held_now ≡ r.held)
-HasRunCause rule r refusals.Memory = r.held_now ≡ r.held
-HasRunCause rule r refusals.ReadFault = SourceFailed r × (r.held_now ≡ r.held)
-HasRunCause rule r refusals.WriteFault = SinkFailed r × IsCut rule r
+-- a refusal of a run by a rule and a side has its cause
+abbrev pub HasRunCause : RuleKind → ℕ → Run → Refusal → Type 0
+HasRunCause rule side r refusals.Words = ⊥
+HasRunCause rule side r (refusals.Input fault) = IfSome r.told (λ bytes. HasFault bytes fault) × (r.held_now ≡ r.held)
+HasRunCause rule side r refusals.Memory = r.held_now ≡ r.held
+HasRunCause rule side r refusals.ReadFault = SourceFailed r × (r.held_now ≡ r.held)
+HasRunCause rule side r refusals.WriteFault = SinkFailed r × IsCut rule side r
 
--- a refusal has its cause: the words, or that of a run by the rule that they name
+-- a refusal has its cause: the words, or that of a run by the rule and the side that they name
 abbrev pub HasCause : List (Bor (List ℕ)) → Run → Refusal → Type 0
 HasCause words r refusals.Words = IsNoCommand words × ((r.held_now ≡ r.held) × IsUnread r)
-HasCause words r (refusals.Input fault) = ByCommand words (λ rule. HasRunCause rule r (refusals.Input fault))
-HasCause words r refusals.Memory = ByCommand words (λ rule. HasRunCause rule r refusals.Memory)
-HasCause words r refusals.ReadFault = ByCommand words (λ rule. HasRunCause rule r refusals.ReadFault)
-HasCause words r refusals.WriteFault = ByCommand words (λ rule. HasRunCause rule r refusals.WriteFault)
+HasCause words r (refusals.Input fault) = ByCommand words (λ rule side. HasRunCause rule side r (refusals.Input fault))
+HasCause words r refusals.Memory = ByCommand words (λ rule side. HasRunCause rule side r refusals.Memory)
+HasCause words r refusals.ReadFault = ByCommand words (λ rule side. HasRunCause rule side r refusals.ReadFault)
+HasCause words r refusals.WriteFault = ByCommand words (λ rule side. HasRunCause rule side r refusals.WriteFault)
 
 -- done, or one of the statuses 2 to 6
 abbrev pub IsStatus : ℕ → Type 0

@@ -12,7 +12,7 @@ use Rattle.pgm_planes.specs.Gaps.{begins}
 use Rattle.pgm_planes.specs.Planes.{PlaneOf, IsPlaneIn}
 use Rattle.insar_top.specs.declared.refusal.Refusal.{Refusal}
 use Rattle.insar_top.specs.declared.refusal.Refusal.TheVariants as refusals
-use Rattle.insar_top.specs.Breaks.{IsLarge, is_p}
+use Rattle.insar_top.specs.Breaks.{is_p}
 use Rattle.insar_top.specs.Input.{HasSizeOf}
 use Rattle.insar_top.specs.Refusals.{refusal_of_plane}
 
@@ -23,10 +23,6 @@ Reaches c P = IfSome c.told (λ bytes. (rest : List ℕ) × ((c.left ≡ Some re
 -- the causes that reading a plane has: those of its reader
 abbrev pub HasPlaneCause : Role → Call → Refusal → Type 0
 HasPlaneCause role c refusal = (fault : ReadPlaneFault) × ((refusal ≡ refusal_of_plane role fault) × HasCause role c fault)
-
--- the causes that reading the phase plane has: also, where the bytes are told, that it is large
-abbrev pub HasPhaseCause : Call → Refusal → Type 0
-HasPhaseCause c refusal = HasPlaneCause Phase c refusal ⊎ ((refusal ≡ refusals.Input faults.Unbuilt) × IfSome c.told IsLarge)
 
 -- the causes that reading a later plane has
 abbrev pub HasLaterCause : Role → PlaneOf → Call → Refusal → Type 0

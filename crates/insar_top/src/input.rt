@@ -1,14 +1,13 @@
 ghost use Rattle.insar_ports.specs.Feeding.{faults_of, handed_of, left_of, limit_of, source_name, source_of};
 ghost use Rattle.insar_top.specs.Causes.{HasInputCause, IsAlone};
 ghost use Rattle.insar_top.specs.Breaks.{is_p};
-ghost use Rattle.insar_top.specs.Input.{HasSizeOf, IsInput, IsLaterPlane, IsOneTile, ones_of};
-ghost use Rattle.insar_top.specs.Reaching.{HasLaterCause, HasPhaseCause, HasPlaneCause, Reaches};
+ghost use Rattle.insar_top.specs.Input.{HasSizeOf, IsInput, IsLaterPlane, ones_of};
+ghost use Rattle.insar_top.specs.Reaching.{HasLaterCause, HasPlaneCause, Reaches};
 ghost use Rattle.insar_top.specs.Refusals.{refusal_of_plane};
 ghost use Rattle.insar_top.specs.Surfaces.{input_of};
 ghost use Rattle.pgm_planes.specs.Calls.{Moves, call_of};
 ghost use Rattle.pgm_planes.specs.Gaps.{begins};
 ghost use Rattle.pgm_planes.specs.Planes.{HasMaxval, IsPlaneIn, plane_of};
-ghost use Rattle.pgm_planes.specs.declared.fault.Role.TheVariants.{Phase};
 ghost use Rattle.std.specs.Prelude.{◌≡◌, IfErr, IfOk, IfSome, IsTrue};
 
 use crate::planes::Planes;
@@ -20,9 +19,6 @@ use std::alloc::{AllocError, Global};
 
 /// The most bytes that an input may have.
 const GREATEST_INPUT: u64 = 268_435_456;
-
-/// The greatest side of a raster until tiles are joined.
-const GREATEST_SIDE: u32 = 128;
 
 /// Reads the planes, behind which the input ends.
 pub fn read_input<S: Source>(alloc: Global, source: &mut S) -> Result<Planes, Refusal>
@@ -41,7 +37,7 @@ fn read_planes<S: Source>(alloc: Global, feed: &mut Feed<S>) -> Result<Planes, R
     ensures read { IfOk result (λ planes. IsAlone (left_of S.left feed.old) (S.left (source_of feed.new)) (λ bytes. IsInput bytes (input_of planes))) }
     ensures refused { IfErr result (HasInputCause (left_of S.left feed.old) (faults_of S.faults feed.old) (faults_of S.faults feed.new)) }
 {
-    let phase = read_phase(alloc, feed)?;
+    let phase = read(alloc, feed, Role::Phase)?;
     let weights = read_later(alloc, feed, Role::Weight, &phase)?;
     let mask = read_later(alloc, feed, Role::Mask, &phase)?;
     match feed.next()? {
@@ -52,23 +48,6 @@ fn read_planes<S: Source>(alloc: Global, feed: &mut Feed<S>) -> Result<Planes, R
             mask,
         }),
     }
-}
-
-/// Reads the phase plane, which is one tile.
-fn read_phase<S: Source>(alloc: Global, feed: &mut Feed<S>) -> Result<Plane, Refusal>
-    ensures same_source { source_name feed.new ≡ source_name feed.old }
-    ensures limit { limit_of feed.new ≡ limit_of feed.old }
-    ensures moves { Moves (call_of S.left S.faults feed.old feed.new) }
-    ensures read { IfOk result (λ plane. Reaches (call_of S.left S.faults feed.old feed.new) (λ bytes rest. IsPlaneIn Phase bytes (plane_of plane) rest)) }
-    ensures one_tile { IfOk result (λ plane. IsOneTile (plane_of plane)) }
-    ensures maxval { IfOk result (λ plane. plane.maxval ≡ 65535) }
-    ensures refused { IfErr result (HasPhaseCause (call_of S.left S.faults feed.old feed.new)) }
-{
-    let phase = read(alloc, feed, Role::Phase)?;
-    if phase.width > GREATEST_SIDE || phase.height > GREATEST_SIDE {
-        return Err(Refusal::Input(InputFault::Unbuilt));
-    }
-    Ok(phase)
 }
 
 /// Reads a later plane where one begins, and makes one of ones where the input has ended.

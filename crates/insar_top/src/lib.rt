@@ -2,13 +2,12 @@
 #![tactic(auto)]
 
 mod diag;
-mod grid;
 mod input;
 mod planes;
 mod refusal;
 mod rules;
 mod surface;
-mod text;
+mod tiles;
 mod top;
 mod words;
 

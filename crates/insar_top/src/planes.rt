@@ -1,8 +1,8 @@
-ghost use Rattle.std.specs.Prelude.{◌≡◌, ◌≤◌};
+ghost use Rattle.std.specs.Prelude.{◌≡◌};
 
 use raster_model::Plane;
 
-/// The planes of an input, which have one size of at most 128 pixels a side.
+/// The planes of an input, which have one size.
 #[derive(Drop)]
 pub struct Planes {
     /// The wrapped phase, in units of 1/65536 cycle.
@@ -14,5 +14,4 @@ pub struct Planes {
     pub ghost cycle: { phase.maxval ≡ 65535 },
     pub ghost same_width: { (weights.width ≡ phase.width) × (mask.width ≡ phase.width) },
     pub ghost same_height: { (weights.height ≡ phase.height) × (mask.height ≡ phase.height) },
-    pub ghost one_tile: { (phase.width ≤ 128) × (phase.height ≤ 128) },
 }

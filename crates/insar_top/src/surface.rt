@@ -1,137 +1,106 @@
-ghost use Rattle.insar_top.specs.Surfaces.{AreOpen, AreValues, HasSurface, IsAnchor, IsSceneOf, IsSurfaceOf, IsTileScene, input_of, value_of};
+ghost use Rattle.insar_top.specs.Surfaces.{IsSceneOf, IsSurfaceOf, input_of};
+ghost use Rattle.offset_network.specs.Surfaces.{IsGoodSeams};
 ghost use Rattle.pgm_planes.specs.Planes.{plane_of};
-ghost use Rattle.std.specs.Prelude.{◌≡◌, ◌≤◌, ◌*◌, ◌+ℤ◌, ◌-ℤ◌, ◌*ℤ◌, IfOk, length, pos, unsigned_abs, vec_len};
+ghost use Rattle.raster_model.specs.Best.{IsBest};
+ghost use Rattle.raster_model.specs.Masks.{open_at};
+ghost use Rattle.raster_model.specs.Seams.{IsAnchored};
+ghost use Rattle.seam_regions.specs.Regions.{AreRegionsOf};
+ghost use Rattle.std.specs.Arc.{arc_value};
+ghost use Rattle.std.specs.Prelude.{◌≡◌, IfOk};
+ghost use Rattle.surface_snapshots.specs.Parts.{AreGoodTiles, open_in, parts_from, raster_in, surface_in};
+ghost use Rattle.surface_snapshots.specs.Views.{parts_of};
 
 use crate::planes::Planes;
 use crate::rules::weigh;
-use raster_model::{Plane, RuleKind, Scene, Tiling};
+use crate::tiles::solve_tiles;
+use crate::words::Settings;
+use certificates::{SeamResult, TileSet};
+use offset_network::solve_offsets;
+use raster_model::{Mask, Plane, Scene, Script, Session, Tiling};
+use seam_regions::Regions;
 use std::alloc::{AllocError, Global};
-use tile_solver::solve_tile;
+use std::sync::Arc;
+use surface_snapshots::laws::verdict_is_unique;
+use surface_snapshots::{BuildFault, Snapshot};
 
-/// The side of tiles.
-const SIDE: u32 = 128;
+/// The revision of the mask that was read.
+const FIRST_REVISION: u32 = 0;
 
-/// A surface in units of 1/65536 cycle, by a value for each pixel in row order, and `i64::MIN` at masked pixels.
-#[derive(Drop)]
-pub struct Surface {
-    pub width: u32,
-    pub height: u32,
-    pub values: Vec<i64>,
-}
-
-/// The scene of a phase plane and a weight plane under a rule of weights.
+/// The scene of a phase plane and a weight plane.
 fn scene_of(
     alloc: Global,
-    rule: RuleKind,
+    settings: Settings,
     phase: Plane,
     weights: Plane,
 ) -> Result<Scene, AllocError>
     requires cycle { phase.maxval ≡ 65535 }
     requires same_width { weights.width ≡ phase.width }
     requires same_height { weights.height ≡ phase.height }
-    ensures { IfOk result (λ scene. IsSceneOf rule (plane_of phase) (plane_of weights) scene) }
+    ensures { IfOk result (λ scene. IsSceneOf settings.rule settings.side (plane_of phase) (plane_of weights) scene) }
 {
-    let edges = weigh(alloc, rule, &weights)?;
-    let tiling = Tiling::new(phase.width, phase.height, SIDE);
+    let edges = weigh(alloc, settings.rule, &weights)?;
+    let tiling = Tiling::new(phase.width, phase.height, settings.side);
     Ok(Scene {
         phase,
         weights,
-        rule,
+        rule: settings.rule,
         edges,
         tiling,
     })
 }
 
-/// Whether each pixel is open, in row order.
-fn unmasked_of(alloc: Global, mask: &Plane) -> Result<Vec<bool>, AllocError>
-    ensures { IfOk result (λ unmasked. AreOpen mask.now.samples.items unmasked.items) }
+/// A session of one analyst who has no command.
+fn session_of(alloc: Global, scene: Scene, first_mask: Mask) -> Result<Arc<Session>, AllocError>
+    requires same_size { (first_mask.width ≡ scene.phase.width) × (first_mask.height ≡ scene.phase.height) }
+    ensures { IfOk result (λ made. (arc_value made).scene ≡ scene) }
 {
-    mask.samples
-        .iter()
-        .map(|&sample| sample != 0)
-        .collect(alloc)
+    let commands = Vec::new(alloc);
+    let scripts = vec![in alloc; Script { commands }]?;
+    let session = Session {
+        scene,
+        first_mask,
+        scripts,
+    };
+    Ok(Arc::new(alloc, session)?)
 }
 
-/// The cycles at the first open pixel, and 0 where there is none.
-fn anchor_of(cycles: &[i32], unmasked: &[bool]) -> i32
-    requires { length cycles.now ≡ length unmasked.now }
-    ensures { IsAnchor cycles.now unmasked.now result }
-{
-    for (place, open) in unmasked.iter().enumerate() {
-        if *open {
-            return cycles[place];
-        }
-    }
-    0
-}
-
-/// The cycles above the anchor's.
-fn rise(cycles: i32, anchor: i32) -> i64
-    ensures value { result ≡ cycles -ℤ anchor }
-    ensures small { unsigned_abs result ≤ 4294967296 }
-{
-    i64::from(cycles) - i64::from(anchor)
-}
-
-/// The value that lies so many whole cycles above a phase.
-fn level(sample: u16, cycles: i64) -> i64
-    requires { unsigned_abs cycles ≤ 4294967296 }
-    ensures { result ≡ pos sample +ℤ pos 65536 *ℤ cycles }
-{
-    i64::from(sample) + 65536 * cycles
-}
-
-/// The value at a pixel: where it is open, it lies the cycles less the anchor above the phase.
-fn value(sample: u16, cycles: i32, anchor: i32, unmasked: bool) -> i64
-    ensures { result ≡ value_of sample cycles anchor unmasked }
-{
-    if !unmasked {
-        return i64::MIN;
-    }
-    level(sample, rise(cycles, anchor))
-}
-
-/// The values of a surface that lies the cycles less the anchor above the phase.
-fn values_of(
+/// The snapshot of solved tiles that are joined by solved offsets.
+fn snapshot_of(
     alloc: Global,
-    phase: &Plane,
-    cycles: &[i32],
-    unmasked: &[bool],
-    anchor: i32,
-) -> Result<Vec<i64>, AllocError>
-    requires cycles { length cycles.now ≡ vec_len phase.now.samples }
-    requires unmasked { length unmasked.now ≡ vec_len phase.now.samples }
-    ensures { IfOk result (λ values. AreValues phase.now.samples.items cycles.now unmasked.now anchor (length cycles.now) values.items) }
+    session: Arc<Session>,
+    mask: Mask,
+    regions: Regions,
+    tiles: TileSet,
+    seams: SeamResult,
+) -> Result<Snapshot, AllocError>
+    requires same_size { (mask.width ≡ (arc_value session).scene.phase.width) × (mask.height ≡ (arc_value session).scene.phase.height) }
+    requires tiling { tiles.tiling ≡ (arc_value session).scene.tiling }
+    requires tiles { AreGoodTiles (arc_value session).scene (open_at mask) tiles.results }
+    requires regions { AreRegionsOf (arc_value session).scene.tiling mask regions }
+    requires seams { IsGoodSeams (arc_value session).scene mask regions tiles seams }
+    ensures parts { IfOk result (λ made. parts_of made ≡ parts_from (arc_value session) mask regions tiles seams) }
+    ensures anchored { IfOk result (λ made. IsAnchored (raster_in (parts_of made)) (open_in (parts_of made)) (surface_in (parts_of made))) }
+    ensures best { IfOk result (λ made. IsBest (raster_in (parts_of made)) (open_in (parts_of made)) (surface_in (parts_of made))) }
 {
-    let mut values = Vec::with_capacity(alloc, cycles.len())?;
-    for (place, open) in unmasked.iter().enumerate() {
-        let value = value(phase.samples[place], cycles[place], anchor, *open);
-        values.push(value)?;
+    // The offsets certify the surface, and nothing else can be said of it.
+    verdict_is_unique();
+    match Snapshot::build(alloc, session, mask, regions, tiles, seams) {
+        Ok(snapshot) => Ok(snapshot),
+        Err(BuildFault::Memory) => Err(AllocError),
+        Err(BuildFault::Uncertified(_)) => unreachable!(),
     }
-    Ok(values)
 }
 
-/// The values of the best surface of a scene that is one tile, under the mask that `unmasked` tells.
-fn tile_values(alloc: Global, scene: &Scene, unmasked: &[bool]) -> Result<Vec<i64>, AllocError>
-    requires tile { IsTileScene scene.now }
-    requires count { length unmasked.now ≡ scene.now.phase.width * scene.now.phase.height }
-    ensures { IfOk result (λ values. HasSurface scene.now unmasked.now values.items) }
+/// The best surface of an input, anchored at its first open pixel: each tile is solved by itself, and offsets of whole
+/// cycles join the regions. (Costantini 1998; Chen and Zebker 2002.)
+pub fn unwrap(alloc: Global, settings: Settings, planes: Planes) -> Result<Snapshot, AllocError>
+    ensures { IfOk result (λ made. IsSurfaceOf settings.rule settings.side (input_of planes) (parts_of made)) }
 {
-    let solved = solve_tile(alloc, scene, 0, 0, unmasked)?;
-    let anchor = anchor_of(&solved.cycles, unmasked);
-    values_of(alloc, &scene.phase, &solved.cycles, unmasked, anchor)
-}
-
-/// The best surface of an input by a rule of weights, anchored at its first open pixel. (Costantini 1998.)
-pub fn unwrap(alloc: Global, rule: RuleKind, planes: Planes) -> Result<Surface, AllocError>
-    ensures { IfOk result (λ made. IsSurfaceOf rule (input_of planes) made.width made.height made.values.items) }
-{
-    let unmasked = unmasked_of(alloc, &planes.mask)?;
-    let scene = scene_of(alloc, rule, planes.phase, planes.weights)?;
-    let values = tile_values(alloc, &scene, &unmasked)?;
-    Ok(Surface {
-        width: scene.phase.width,
-        height: scene.phase.height,
-        values,
-    })
+    let mask = Mask::of_plane(alloc, &planes.mask)?;
+    let scene = scene_of(alloc, settings, planes.phase, planes.weights)?;
+    let tiles = solve_tiles(alloc, &scene, &mask)?;
+    let regions = Regions::of(alloc, &scene.tiling, &mask)?;
+    let seams = solve_offsets(alloc, &scene, &mask, &regions, &tiles, FIRST_REVISION)?;
+    let session = session_of(alloc, scene, mask.try_copy()?)?;
+    snapshot_of(alloc, session, mask, regions, tiles, seams)
 }

@@ -31,6 +31,23 @@ fn outcome_of(
     })
 }
 
+/// The word `unwrap` and options over the bytes, where no call fails.
+fn unwrapped_by(rt: &HostRuntime, options: &[&str], bytes: &[u8]) -> Result<Ended, Fail> {
+    let alloc = rt.alloc();
+    let mut words = Vec::new(alloc);
+    words.push("unwrap")?;
+    words.extend_from_slice(options)?;
+    let mut source = MemorySource::new(bytes.to_vec(alloc)?, 7, Vec::new(alloc));
+    let mut sink = MemorySink::new(alloc, 4096, 9, Vec::new(alloc))?;
+    let mut diag = MemorySink::new(alloc, 99, 1, Vec::new(alloc))?;
+    let status = insar(alloc, &words, &mut source, &mut sink, &mut diag);
+    Ok(Ended {
+        status,
+        text: sink.bytes().to_vec(alloc)?,
+        line: diag.bytes().to_vec(alloc)?,
+    })
+}
+
 /// A raw phase plane of that width and height.
 fn plane(rt: &HostRuntime, size: (usize, usize), phases: &[u16]) -> Result<Vec<u8>, Fail> {
     let mut bytes = Vec::new(rt.alloc());
@@ -114,50 +131,83 @@ fn turns_are_cut_where_they_weigh_least(rt: HostRuntime) -> Result<(), Fail> {
 /// alone is the lightest.
 #[test]
 fn words_name_the_rule(rt: HostRuntime) -> Result<(), Fail> {
-    let alloc = rt.alloc();
     let mut bytes = plane(&rt, (2, 2), &[0, 16384, 49152, 32768])?;
     bytes.extend_from_slice(b"P2 2 2 9 2 9 8 4")?;
-    for (words, top) in [
+    for (options, top) in [
         ([].as_slice(), true),
         (&["--rule", "least"], true),
         (&["--rule", "mean"], true),
         (&["--rule", "product"], false),
+        (&["--rule", "product", "--tile", "2"], false),
+        (&["--tile", "128", "--rule", "product"], false),
     ] {
-        let mut command = Vec::new(alloc);
-        command.push("unwrap")?;
-        command.extend_from_slice(words)?;
-        let mut source = MemorySource::new(bytes.clone()?, 7, Vec::new(alloc));
-        let mut sink = MemorySink::new(alloc, 999, 9, Vec::new(alloc))?;
-        let mut diag = MemorySink::new(alloc, 99, 1, Vec::new(alloc))?;
-        let status = insar(alloc, &command, &mut source, &mut sink, &mut diag);
-        assert_eq!(rt; status, 0);
-        let left = sink.bytes().ends_with(b"\n0 16384\n49152 32768\n");
-        let above = sink.bytes().ends_with(b"\n0 -49152\n-16384 -32768\n");
+        let done = unwrapped_by(&rt, options, &bytes)?;
+        assert_eq!(rt; done.status, 0);
+        let left = done.text.ends_with(b"\n0 16384\n49152 32768\n");
+        let above = done.text.ends_with(b"\n0 -49152\n-16384 -32768\n");
         assert!(rt; left || (top && above));
     }
     Ok(())
 }
 
-/// A slope of 1024 by 1024 pixels is a form that waits for tiles that are joined, as is any side above 128.
+/// A line that is cut into two tiles, of which the second lies a cycle lower than by itself; a raster in which two light
+/// edges of a seam give way to a heavy one; and one whose mask parts a tile into two regions. The values were computed by
+/// hand.
 #[test]
-fn large_rasters_wait(rt: HostRuntime) -> Result<(), Fail> {
-    let alloc = rt.alloc();
-    for (header, pixels) in [
-        (b"P5 1024 1024 65535 ".as_slice(), 1_048_576u32),
-        (b"P5 129 1 65535 ", 129),
-        (b"P5 1 129 65535 ", 129),
-    ] {
-        let mut bytes = header.to_vec(alloc)?;
-        for place in 0..pixels {
-            bytes.extend_from_slice(&((37 * (place % 1024)) as u16).to_be_bytes())?;
-        }
-        let mut source = MemorySource::new(bytes, 65536, Vec::new(alloc));
-        let mut sink = MemorySink::new(alloc, 9, 9, Vec::new(alloc))?;
-        let mut diag = MemorySink::new(alloc, 99, 1, Vec::new(alloc))?;
-        let status = insar(alloc, &["unwrap"], &mut source, &mut sink, &mut diag);
-        assert_eq!(rt; status, 3);
-        assert_eq!(rt; diag.bytes(), b"input fault 17 unbuilt\n".as_slice());
+fn tiles_are_joined(rt: HostRuntime) -> Result<(), Fail> {
+    let cases: [(&str, &[u8], &str, &str); 3] = [
+        (
+            "2",
+            b"P2 4 1 65535 0 40000 14464 54464",
+            "ncols 4\nnrows 1\n",
+            "0 -25536 -51072 -76608\n",
+        ),
+        (
+            "3",
+            b"P2 4 3 65535 0 0 0 0 0 0 0 20000 0 0 0 40000 P2 4 3 9 4 4 4 4 4 4 4 4 9 9 9 9",
+            "ncols 4\nnrows 3\n",
+            "0 0 0 -65536\n0 0 0 -45536\n0 0 0 -25536\n",
+        ),
+        (
+            "3",
+            b"P2 3 4 65535 0 20000 40000 10000 30000 50000 20000 40000 60000 30000 50000 4464 P2 3 4 1 1 1 1 1 1 1 1 1 1 1 1 1 P2 3 4 1 1 0 1 1 0 1 1 0 1 1 1 1",
+            "ncols 3\nnrows 4\n",
+            "0 -9223372036854775808 40000\n10000 -9223372036854775808 50000\n20000 -9223372036854775808 60000\n30000 50000 70000\n",
+        ),
+    ];
+    for (side, bytes, size, rows) in cases {
+        let done = unwrapped_by(&rt, &["--tile", side], bytes)?;
+        let text = format!(in rt.alloc(); "{size}{FRAME}{rows}")?;
+        assert_eq!(rt; done.status, 0);
+        assert_eq!(rt; done.text.as_slice(), text.as_bytes());
+        assert_eq!(rt; done.line.len(), 0);
     }
+    Ok(())
+}
+
+/// A slope of 1024 by 1024 pixels, which rises by 300 to the right and by 700 downwards, is its own surface.
+#[test]
+fn a_large_slope_is_unwrapped(rt: HostRuntime) -> Result<(), Fail> {
+    let alloc = rt.alloc();
+    let mut bytes = Vec::new(alloc);
+    bytes.extend_from_slice(b"P5\n1024 1024\n65535\n")?;
+    let mut text = Vec::new(alloc);
+    text.extend_from_slice(format!(in alloc; "ncols 1024\nnrows 1024\n{FRAME}")?.as_bytes())?;
+    for y in 0..1024u32 {
+        for x in 0..1024u32 {
+            let value = 300 * x + 700 * y;
+            bytes.extend_from_slice(&((value % 65536) as u16).to_be_bytes())?;
+            let gap = if x == 0 { "" } else { " " };
+            text.extend_from_slice(format!(in alloc; "{gap}{value}")?.as_bytes())?;
+        }
+        text.push(b'\n')?;
+    }
+    let mut source = MemorySource::new(bytes, 65536, Vec::new(alloc));
+    let mut sink = MemorySink::new(alloc, 16_777_216, 65536, Vec::new(alloc))?;
+    let mut diag = MemorySink::new(alloc, 99, 1, Vec::new(alloc))?;
+    let status = insar(alloc, &["unwrap"], &mut source, &mut sink, &mut diag);
+    assert_eq!(rt; status, 0);
+    assert!(rt; sink.bytes() == text.as_slice());
     Ok(())
 }
 
@@ -285,8 +335,15 @@ fn other_words_are_refused_and_faults_of_diag_change_nothing(rt: HostRuntime) ->
         &["grid"],
         &["unwrap", "--rule"],
         &["unwrap", "--rule", "max"],
-        &["unwrap", "--tile", "2"],
         &["unwrap", "--rule", "mean", "x"],
+        &["unwrap", "--rule", "mean", "--rule", "mean"],
+        &["unwrap", "--tile"],
+        &["unwrap", "--tile", "1"],
+        &["unwrap", "--tile", "129"],
+        &["unwrap", "--tile", "02"],
+        &["unwrap", "--tile", "+2"],
+        &["unwrap", "--tile", "2", "--tile", "2"],
+        &["--tile", "2", "unwrap"],
     ] {
         let mut source = MemorySource::new(Vec::new(alloc), 1, [1].to_vec(alloc)?);
         let mut sink = MemorySink::new(alloc, 9, 1, Vec::new(alloc))?;

@@ -9,14 +9,12 @@ ghost use Rattle.insar_top.specs.Outcomes.{ByCommand, IsUnread, IsDone, IsCut, I
 ghost use Rattle.insar_top.specs.Words.{IsCommand, IsNoCommand};
 
 use crate::diag::put_line;
-use crate::grid::write_grid;
 use crate::input::read_input;
 use crate::refusal::Refusal;
 use crate::surface::unwrap;
-use crate::text::TextBuffer;
-use crate::words::read_rule;
+use crate::words::{Settings, read_command};
+use grid_writer::write_grid;
 use insar_ports::{Sink, Source};
-use raster_model::RuleKind;
 use std::alloc::Global;
 
 /// Reads, unwraps and writes.
@@ -26,37 +24,30 @@ fn run<S: Source, K: Sink>(
     source: &mut S,
     sink: &mut K,
 ) -> Result<(), Refusal>
-    ensures done { OnOk result (ByCommand words.now (λ rule. IsDone rule (run_of S.left S.faults source.old source.new K.held K.faults sink.old sink.new))) }
+    ensures done { OnOk result (ByCommand words.now (λ rule side. IsDone rule side (run_of S.left S.faults source.old source.new K.held K.faults sink.old sink.new))) }
     ensures refused { IfErr result (HasCause words.now (run_of S.left S.faults source.old source.new K.held K.faults sink.old sink.new)) }
     ensures grows { K.faults sink.old ≤ K.faults sink.new }
 {
-    let Some(rule) = read_rule(words) else {
+    let Some(settings) = read_command(words) else {
         return Err(Refusal::Words);
     };
-    run_by(alloc, rule, source, sink)
+    run_by(alloc, settings, source, sink)
 }
 
-/// Reads, unwraps by a rule of weights, and writes.
+/// Reads, unwraps as the words set it, and writes.
 fn run_by<S: Source, K: Sink>(
     alloc: Global,
-    rule: RuleKind,
+    settings: Settings,
     source: &mut S,
     sink: &mut K,
 ) -> Result<(), Refusal>
-    ensures done { OnOk result (IsDone rule (run_of S.left S.faults source.old source.new K.held K.faults sink.old sink.new)) }
-    ensures refused { IfErr result (HasRunCause rule (run_of S.left S.faults source.old source.new K.held K.faults sink.old sink.new)) }
+    ensures done { OnOk result (IsDone settings.rule settings.side (run_of S.left S.faults source.old source.new K.held K.faults sink.old sink.new)) }
+    ensures refused { IfErr result (HasRunCause settings.rule settings.side (run_of S.left S.faults source.old source.new K.held K.faults sink.old sink.new)) }
     ensures grows { K.faults sink.old ≤ K.faults sink.new }
 {
     let planes = read_input(alloc, source)?;
-    let surface = unwrap(alloc, rule, planes)?;
-    let mut text = TextBuffer::new(alloc)?;
-    write_grid(
-        &mut text,
-        sink,
-        surface.width,
-        surface.height,
-        &surface.values,
-    )?;
+    let snapshot = unwrap(alloc, settings, planes)?;
+    write_grid(&snapshot, sink)?;
     Ok(())
 }
 
@@ -64,7 +55,8 @@ fn run_by<S: Source, K: Sink>(
 /// the sink and, where it refuses, one line to `diag`, and answers the exit status.
 ///
 /// The one command is `unwrap`, which reads PGM planes of phase, of weights and of a mask, the last two if they are there,
-/// and writes the grid of the unwrapped surface; `--rule` names how the weights of two pixels make that of their edge.
+/// and writes the grid of the unwrapped surface; `--rule` names how the weights of two pixels make that of their edge, and
+/// `--tile` the side of the square tiles, from 2 to 128. The rule is `least` and the side 64 where the words do not tell it.
 /// Words are judged before the source is read. A fault of `diag` changes nothing.
 pub fn insar<S: Source, K: Sink, D: Sink>(
     alloc: Global,
@@ -75,7 +67,7 @@ pub fn insar<S: Source, K: Sink, D: Sink>(
 ) -> u8
     ensures status { IsStatus result }
     // 0: the words are a command, the bytes were an input, nothing is left, and the sink gained exactly the text for it.
-    ensures done { result ≡ 0 → ByCommand words.now (λ rule. IsDone rule (run_of S.left S.faults source.old source.new K.held K.faults sink.old sink.new)) }
+    ensures done { result ≡ 0 → ByCommand words.now (λ rule side. IsDone rule side (run_of S.left S.faults source.old source.new K.held K.faults sink.old sink.new)) }
     // 2: the words are no command; the source is not read.
     ensures words_refused { result ≡ 2 → IsNoCommand words.now }
     ensures unread { result ≡ 2 → IsUnread (run_of S.left S.faults source.old source.new K.held K.faults sink.old sink.new) }
@@ -83,14 +75,14 @@ pub fn insar<S: Source, K: Sink, D: Sink>(
     // 3: the bytes are no input, for a fault that the line tells.
     ensures input_refused { result ≡ 3 → IfSome (S.left source.old) IsNoInput }
     ensures fault { result ≡ 3 → IfSome (S.left source.old) (λ bytes. (fault : Fault) × (HasFault bytes fault × ((HasRisen (D.faults diag.old) (D.faults diag.new) → ⊥) → D.held diag.new ≡ with_end (D.held diag.old) (fault_line fault)))) }
-    ensures input_taken { (rule : Kind) → IsCommand words.now rule → IfSome (S.left source.old) (λ bytes. IsNoInput bytes → (result ≡ 3) ⊎ ((result ≡ 4) ⊎ (result ≡ 5))) }
+    ensures input_taken { (rule : Kind) (side : ℕ) → IsCommand words.now rule side → IfSome (S.left source.old) (λ bytes. IsNoInput bytes → (result ≡ 3) ⊎ ((result ≡ 4) ⊎ (result ≡ 5))) }
     // 5 and 6: a fault was counted.
     ensures read_fault { result ≡ 5 → HasRisen (S.faults source.old) (S.faults source.new) }
     ensures write_fault { result ≡ 6 → HasRisen (K.faults sink.old) (K.faults sink.new) }
-    ensures cut { result ≡ 6 → ByCommand words.now (λ rule. IsCut rule (run_of S.left S.faults source.old source.new K.held K.faults sink.old sink.new)) }
+    ensures cut { result ≡ 6 → ByCommand words.now (λ rule side. IsCut rule side (run_of S.left S.faults source.old source.new K.held K.faults sink.old sink.new)) }
     ensures untouched { 2 ≤ result → result ≤ 5 → K.held sink.new ≡ K.held sink.old }
     // A good input is never refused but for want of memory.
-    ensures complete { (rule : Kind) → IsCommand words.now rule → IfSome (S.left source.old) (λ bytes. (input : InputOf) → IsInput bytes input →
+    ensures complete { (rule : Kind) (side : ℕ) → IsCommand words.now rule side → IfSome (S.left source.old) (λ bytes. (input : InputOf) → IsInput bytes input →
         (HasRisen (S.faults source.old) (S.faults source.new) → ⊥) → (HasRisen (K.faults sink.old) (K.faults sink.new) → ⊥) → (result ≡ 0) ⊎ (result ≡ 4)) }
     ensures told { (HasRisen (D.faults diag.old) (D.faults diag.new) → ⊥) → (line : List ℕ) × (IsLineAt result line × (D.held diag.new ≡ with_end (D.held diag.old) line)) }
 {

@@ -5,7 +5,7 @@ use Rattle.pgm_planes.specs.declared.fault.Role.TheVariants.{Weight, Mask}
 use Rattle.pgm_planes.specs.Planes.{plane_of}
 use Rattle.pgm_planes.proofs.CallLemmas.{Moves-then}
 use Rattle.insar_top.specs.Input.{InputOf}
-use Rattle.insar_top.proofs.InputLemmas.{phase_done, before_mask, planes_done, phase_cause, later_cause, next_cause, goes_on_cause, is_alone}
+use Rattle.insar_top.proofs.InputLemmas.{before_mask, planes_done, phase_cause, later_cause, next_cause, goes_on_cause, is_alone}
 use Rattle.insar_top.proofs.input.read_planes.Goals as goal
 
 pub returns-in_err-phase-clause-refused : goal.returns-in_err-phase-clause-refused
@@ -16,15 +16,14 @@ returns-in_err-phase-clause-refused g c =
 pub returns-in_err-weights-clause-refused : goal.returns-in_err-weights-clause-refused
 returns-in_err-weights-clause-refused g c =
     let p = err_from_is_err_and c.from_residual-in_err-weights.result c.from_residual-in_err-weights.ensures.1 in
-    let first = phase_done _ _ _ _ (plane_of c.in_ok-phase.phase) c.in_ok-phase.ensures.read c.in_ok-phase.ensures.one_tile in
     rw (p.1, p.2) (later_cause _ _ _ _ _ _ _ _ _ _ _ Weight (plane_of c.in_ok-phase.phase) c.in_err-weights.field-0.0
-    c.in_ok-phase.ensures.moves c.in_err-weights.ensures.moves c.requires.start c.in_ok-phase.ensures.limit c.requires.limit first c.in_err-weights.ensures.refused)
+    c.in_ok-phase.ensures.moves c.in_err-weights.ensures.moves c.requires.start c.in_ok-phase.ensures.limit c.requires.limit c.in_ok-phase.ensures.read c.in_err-weights.ensures.refused)
 
 pub returns-in_err-mask-clause-refused : goal.returns-in_err-mask-clause-refused
 returns-in_err-mask-clause-refused g c =
     let p = err_from_is_err_and c.from_residual-in_err-mask.result c.from_residual-in_err-mask.ensures.1 in
     let moves = Moves-then _ _ _ _ _ _ _ _ _ _ _ c.in_ok-phase.ensures.moves c.in_ok-weights.ensures.moves in
-    let before = before_mask _ _ _ _ _ _ (plane_of c.in_ok-phase.phase) (plane_of c.in_ok-weights.weights) c.in_ok-phase.ensures.read c.in_ok-phase.ensures.one_tile c.in_ok-weights.ensures.read in
+    let before = before_mask _ _ _ _ _ _ (plane_of c.in_ok-phase.phase) (plane_of c.in_ok-weights.weights) c.in_ok-phase.ensures.read c.in_ok-weights.ensures.read in
     rw (p.1, p.2) (later_cause _ _ _ _ _ _ _ _ _ _ _ Mask (plane_of c.in_ok-phase.phase) c.in_err-mask.field-0.0
     moves c.in_err-mask.ensures.moves c.requires.start (c.in_ok-weights.ensures.limit ∙ c.in_ok-phase.ensures.limit) c.requires.limit before c.in_err-mask.ensures.refused)
 
@@ -41,13 +40,13 @@ returns-in_err-next-clause-refused g c =
 pub returns-in-Some-clause-refused : goal.returns-in-Some-clause-refused
 returns-in-Some-clause-refused g c =
     let input : InputOf = record { phase = plane_of c.in_ok-phase.phase; weights = plane_of c.in_ok-weights.weights; mask = plane_of c.in_ok-mask.mask } in
-    let done = planes_done _ _ _ _ _ _ _ _ input c.in_ok-phase.ensures.read c.in_ok-phase.ensures.one_tile c.in_ok-weights.ensures.read c.in_ok-mask.ensures.read in
+    let done = planes_done _ _ _ _ _ _ _ _ input c.in_ok-phase.ensures.read c.in_ok-weights.ensures.read c.in_ok-mask.ensures.read in
     goes_on_cause _ _ _ _ input done c.in-Some.field-0 _ (rw c.in-Some.is at c.in_ok-next.ensures.byte)
 
 pub returns-in-None-clause-read : goal.returns-in-None-clause-read
 returns-in-None-clause-read g c =
     let input : InputOf = record { phase = plane_of c.in_ok-phase.phase; weights = plane_of c.in_ok-weights.weights; mask = plane_of c.in_ok-mask.mask } in
-    let done = planes_done _ _ _ _ _ _ _ _ input c.in_ok-phase.ensures.read c.in_ok-phase.ensures.one_tile c.in_ok-weights.ensures.read c.in_ok-mask.ensures.read in
+    let done = planes_done _ _ _ _ _ _ _ _ input c.in_ok-phase.ensures.read c.in_ok-weights.ensures.read c.in_ok-mask.ensures.read in
     let f = c.read_later-2.new.feed in
     let short : handed_of f ≤ 268435456 = omega (arith, f.limited, f.counted, f.ordered, c.in_ok-mask.ensures.limit, c.in_ok-weights.ensures.limit, c.in_ok-phase.ensures.limit, c.requires.limit) in
     is_alone _ _ _ _ input done (g.S.Source.left c.next.new.self.source.now) (pending_of c.next.new.self)

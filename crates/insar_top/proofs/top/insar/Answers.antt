@@ -3,11 +3,11 @@ use Rattle.insar_ports.specs.Bytes.{HasRisen, with_end}
 use Rattle.insar_top.specs.declared.refusal.Refusal.{Refusal}
 use Rattle.insar_top.specs.Lines.{line_of}
 use Rattle.insar_top.specs.Outcomes.{run_of}
-use Rattle.insar_top.proofs.TopLemmas.{input_from, done_from, complete_at, refused_from, fault_from, taken_from, where_put, words_from}
+use Rattle.insar_top.proofs.TopLemmas.{cut_from, input_from, done_from, complete_at, refused_from, fault_from, taken_from, where_put, words_from}
 use Rattle.insar_top.proofs.top.insar.Goals as goal
 
 pub returns-in-Ok-clause-input_taken : goal.returns-in-Ok-clause-input_taken
-returns-in-Ok-clause-input_taken g c = λ rule _. done_from c.args.words.now (run_of g.S.Source.left g.S.Source.faults c.args.source.now c.run.new.source g.K.Sink.held g.K.Sink.faults c.args.sink.now c.run.new.sink) 0 c.in-Ok.ensures.done
+returns-in-Ok-clause-input_taken g c = λ rule side _. done_from c.args.words.now (run_of g.S.Source.left g.S.Source.faults c.args.source.now c.run.new.source g.K.Sink.held g.K.Sink.faults c.args.sink.now c.run.new.sink) 0 c.in-Ok.ensures.done
 
 pub returns-in-Err-clause-input_taken : goal.returns-in-Err-clause-input_taken
 returns-in-Err-clause-input_taken g c = input_from c.args.words.now (run_of g.S.Source.left g.S.Source.faults c.args.source.now c.run.new.source g.K.Sink.held g.K.Sink.faults c.args.sink.now c.run.new.sink) c.in-Err.refusal c.status.result c.in-Err.ensures.refused c.status.ensures
@@ -29,3 +29,6 @@ returns-in-Err-clause-words_refused g c = words_from c.args.words.now (run_of g.
 
 pub returns-in-Err-clause-words_taken : goal.returns-in-Err-clause-words_taken
 returns-in-Err-clause-words_taken g c = taken_from c.args.words.now (run_of g.S.Source.left g.S.Source.faults c.args.source.now c.run.new.source g.K.Sink.held g.K.Sink.faults c.args.sink.now c.run.new.sink) c.in-Err.refusal c.status.result c.in-Err.ensures.refused c.status.ensures
+
+pub returns-in-Err-clause-cut : goal.returns-in-Err-clause-cut
+returns-in-Err-clause-cut g c = cut_from c.args.words.now (run_of g.S.Source.left g.S.Source.faults c.args.source.now c.run.new.source g.K.Sink.held g.K.Sink.faults c.args.sink.now c.run.new.sink) c.in-Err.refusal c.status.result c.in-Err.ensures.refused c.status.ensures

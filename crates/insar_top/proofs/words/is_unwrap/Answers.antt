@@ -1,5 +1,0 @@
-use Rattle.insar_top.proofs.WordLemmas.{one_word}
-use Rattle.insar_top.proofs.words.is_unwrap.Goals as goal
-
-pub returns-then-words-eq1 : goal.returns-then-words-eq1
-returns-then-words-eq1 c = one_word c.args.words.now _ _ c.eq.result c.if-words-eq1.true c.eq.ensures

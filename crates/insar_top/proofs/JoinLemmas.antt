@@ -1,5 +1,5 @@
 -- Tiles joined by solved offsets: the parts are certified, so that they are refused for want of memory alone.
-use Rattle.std.proofs.Common.{◌≡◌, ℕ, ◌<◌, refl, sym, ap, subst, List}
+use Rattle.std.proofs.Common.{◌≡◌, ℕ, ◌<◌, refl, ap, subst, List}
 use Rattle.std.specs.Prelude.{ℤ, ◌+ℤ◌, Bool, Option, Some, None}
 use mathlib.Core.Path.{fun_ext}
 use Rattle.raster_model.specs.declared.scene.Scene.{Scene}
@@ -14,7 +14,7 @@ use Rattle.certificates.specs.declared.verdicts.SeamVerdict.{SeamVerdict}
 use Rattle.certificates.specs.declared.verdicts.SeamVerdict.TheVariants.{Good}
 use Rattle.certificates.specs.SeamVerdicts.{IsGoodAtSeams}
 use Rattle.certificates.specs.TileSets.{TileSetView}
-use Rattle.seam_regions.specs.Regions.{AreRegionsOf, label_at}
+use Rattle.seam_regions.specs.Regions.{AreRegionsOf}
 use Rattle.seam_regions.specs.RegionsView.{RegionsView}
 use Rattle.offset_network.specs.Surfaces.{IsGoodSeams, AreGoodTiles as AreGoodInSet, joined_cycles, result_cycles}
 use Rattle.surface_snapshots.specs.declared.fault.BuildFault.{BuildFault}

@@ -6,7 +6,7 @@ use Rattle.std.proofs.lemmas.Bool.Decides.{nat_tests}
 use Rattle.raster_model.specs.declared.edge.Edge.{Edge}
 use Rattle.raster_model.specs.Best.{IsBest}
 use Rattle.raster_model.specs.Raster.{Raster, IsCongruent, departure, edge_cost, has_open_ends, inner_cost, is_inner, is_seam, seam_cost, seam_edge_cost, tile_cost}
-use Rattle.raster_model.specs.Seams.{AreOffsets, IsAnchored, IsOpenPixel, is_open_inner, shifted}
+use Rattle.raster_model.specs.Seams.{AreOffsets, IsAnchored, shifted}
 use Rattle.raster_model.specs.Sums.{Field, end_x, end_y, is_edge, where_true}
 use Rattle.raster_model.proofs.SumLemmas.{sum_edges-same}
 

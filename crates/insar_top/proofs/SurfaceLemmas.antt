@@ -1,6 +1,6 @@
 -- From what the crates below promise of a snapshot to what the top call says of its surface.
-use Rattle.std.proofs.Common.{◌≡◌, ◌∙◌, ℕ, ◌+◌, ◌-◌, ◌*◌, ◌/◌, ◌<◌, refl, sym, ap, subst, Bool, Result, Ok, Err}
-use Rattle.std.specs.Prelude.{ℤ, IfOk}
+use Rattle.std.proofs.Common.{◌≡◌, ◌∙◌, ℕ, ◌+◌, ◌-◌, ◌*◌, ◌/◌, ◌<◌, sym, ap, subst, Result, Ok, Err}
+use Rattle.std.specs.Prelude.{IfOk}
 use Rattle.raster_model.specs.declared.scene.Scene.{Scene}
 use Rattle.raster_model.specs.declared.weights.RuleKind.{RuleKind}
 use Rattle.raster_model.specs.Best.{IsBest}
@@ -10,7 +10,6 @@ use Rattle.raster_model.specs.Planes.{sample_at}
 use Rattle.raster_model.specs.Raster.{Raster}
 use Rattle.raster_model.specs.Scene.{raster_of}
 use Rattle.raster_model.specs.Seams.{IsAnchored}
-use Rattle.raster_model.specs.Sums.{Field}
 use Rattle.raster_model.specs.Weights.{edge_weight}
 use Rattle.pgm_planes.specs.Planes.{PlaneOf, plane_of}
 use Rattle.surface_snapshots.specs.Parts.{Parts, open_in, raster_in, surface_in}

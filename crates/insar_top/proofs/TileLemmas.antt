@@ -1,16 +1,15 @@
 -- Tiles solved one by one under a mask.
-use Rattle.std.proofs.Common.{◌≡◌, ◌∙◌, ℕ, zero, suc, ◌+◌, ◌-◌, ◌*◌, ◌/◌, ◌%◌, ◌<◌, ◌≤◌, refl, sym, ap, subst, arith, Bool, false, List, [], ◌∷◌, ◌++◌, length, get_or, inl, inr, ◌⊎◌, Some}
-use Rattle.std.specs.Prelude.{slice_get, slice_index_or}
+use Rattle.std.proofs.Common.{◌≡◌, ◌∙◌, ℕ, zero, suc, ◌+◌, ◌-◌, ◌*◌, ◌/◌, ◌%◌, ◌<◌, refl, sym, ap, subst, arith, Bool, false, List, [], ◌∷◌, ◌++◌, length, get_or, inl, inr, ◌⊎◌, Some}
+use Rattle.std.specs.Prelude.{slice_get}
 use Rattle.std.proofs.lemmas.Bool.{cases_eq}
 use Rattle.std.proofs.lemmas.List.{length-append, get_or_append_left, get_or-append_right}
 use Rattle.std.proofs.lemmas.Nat.{div-mul-add, mod-mul-add, mul-add-lt}
 use Rattle.raster_model.specs.declared.scene.Scene.{Scene}
 use Rattle.raster_model.specs.declared.tiling.Window.{Window}
 use Rattle.raster_model.specs.Sums.{Field}
-use Rattle.raster_model.specs.Tiles.{IsWithin, tiles_of}
+use Rattle.raster_model.specs.Tiles.{tiles_of}
 use Rattle.certificates.specs.declared.results.TileResult.{TileResult}
 use Rattle.certificates.specs.Results.{IsGoodTile, pixels_in}
-use Rattle.certificates.specs.TileSets.{HasOneForEach}
 use Rattle.dual_grid.specs.Starts.{TellsMask}
 use Rattle.surface_snapshots.specs.Parts.{AreGoodTiles}
 use Rattle.insar_top.specs.Surfaces.{AreSolved, TellsFirst}

@@ -1,10 +1,9 @@
 -- What reading a part of the input does: words of helpers, which no clause of the top call cites.
-use Rattle.std.specs.Prelude.{◌≡◌, ◌≢◌, ◌⊎◌, ℕ, ◌+◌, false, IsTrue, List, [], length, Some, IfSome, ⊤}
+use Rattle.std.specs.Prelude.{◌≡◌, ◌≢◌, ℕ, ◌+◌, false, IsTrue, List, [], length, Some, IfSome, ⊤}
 use Rattle.insar_ports.specs.Bytes.{HasMore, HasRisen}
 use Rattle.pgm_planes.specs.declared.fault.InputFault.TheVariants as faults
 use Rattle.pgm_planes.specs.declared.fault.ReadPlaneFault.{ReadPlaneFault}
 use Rattle.pgm_planes.specs.declared.fault.Role.{Role}
-use Rattle.pgm_planes.specs.declared.fault.Role.TheVariants.{Phase}
 use Rattle.pgm_planes.specs.Breaks.{FirstBreak}
 use Rattle.pgm_planes.specs.Calls.{Call}
 use Rattle.pgm_planes.specs.Causes.{HasCause}

@@ -1,6 +1,5 @@
 use Rattle.std.proofs.Common.{subst}
 use Rattle.std.specs.Arc.{arc_value}
-use Rattle.surface_snapshots.specs.declared.fault.BuildFault.{BuildFault}
 use Rattle.surface_snapshots.specs.Parts.{parts_from}
 use Rattle.surface_snapshots.specs.Verdicts.{IsFault}
 use Rattle.insar_top.proofs.JoinLemmas.{never_uncertified}

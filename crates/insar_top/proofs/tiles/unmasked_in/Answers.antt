@@ -1,4 +1,4 @@
-use Rattle.std.proofs.Common.{◌≡◌, ℕ, List, Bool, subst, arith}
+use Rattle.std.proofs.Common.{◌≡◌, ℕ, subst, arith}
 use Rattle.certificates.specs.Results.{pixels_in}
 use Rattle.dual_grid.specs.Starts.{TellsMask}
 use Rattle.raster_model.specs.declared.tiling.Window.{Window}

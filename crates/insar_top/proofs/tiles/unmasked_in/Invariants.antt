@@ -1,5 +1,4 @@
 use Rattle.raster_model.specs.Masks.{open_at}
-use Rattle.raster_model.specs.Tiles.{window_of}
 use Rattle.insar_top.specs.Surfaces.{TellsFirst}
 use Rattle.insar_top.proofs.tiles.unmasked_in.Given as goal
 

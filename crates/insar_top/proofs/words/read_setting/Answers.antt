@@ -1,4 +1,3 @@
-use Rattle.std.proofs.Common.{ap, sym}
 use Rattle.insar_top.proofs.WordLemmas.{rule_found, side_found, no_side}
 use Rattle.insar_top.proofs.words.read_setting.Goals as goal
 

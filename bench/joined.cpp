@@ -28,7 +28,8 @@ static bool read_plane(Plane &plane) {
   std::vector<unsigned char> bytes(count * size);
   if (std::fread(bytes.data(), 1, bytes.size(), stdin) != bytes.size()) std::exit(3);
   plane.samples.resize(count);
-  for (std::size_t k = 0; k < count; ++k) plane.samples[k] = size == 1 ? bytes[k] : bytes[2 * k] * 256 + bytes[2 * k + 1];
+  for (std::size_t k = 0; k < count; ++k)
+    plane.samples[k] = size == 1 ? bytes[k] : bytes[2 * k] * 256 + bytes[2 * k + 1];
   return true;
 }
 
@@ -45,6 +46,10 @@ struct Raster {
   std::size_t at(int x, int y) const { return std::size_t(y) * width + x; }
   bool is_open(std::size_t p) const { return mask.samples[p] != 0; }
   int difference(std::size_t p, std::size_t q) const { return wrapped(phase.samples[p], phase.samples[q]); }
+  // Whole cycles from one pixel to the next where nothing is corrected.
+  int turns(std::size_t p, std::size_t q) const {
+    return (difference(p, q) - (phase.samples[q] - phase.samples[p])) / 65536;
+  }
   int weight(std::size_t p, std::size_t q) const {
     return is_open(p) && is_open(q) ? std::min(weights.samples[p], weights.samples[q]) : 0;
   }
@@ -117,8 +122,7 @@ static void correct(const Raster &raster, const Window &w, Corrections &correcti
 static void integrate(Raster &raster, const Window &w, const Corrections &corrections) {
   int width = w.right - w.left;
   auto step = [&](std::size_t p, std::size_t q, int correction) {
-    int turns = (raster.difference(p, q) - (raster.phase.samples[q] - raster.phase.samples[p])) / 65536;
-    raster.cycles[q] = raster.cycles[p] + turns + correction;
+    raster.cycles[q] = raster.cycles[p] + raster.turns(p, q) + correction;
   };
   raster.cycles[raster.at(w.left, w.top)] = 0;
   for (int y = w.top; y < w.bottom; ++y) {
@@ -163,8 +167,8 @@ static std::vector<Seam> seams_of(const Raster &raster) {
   std::vector<Seam> seams;
   auto add = [&](std::size_t p, std::size_t q) {
     if (!raster.is_open(p) || !raster.is_open(q)) return;
-    std::int64_t turns = (raster.difference(p, q) - (raster.phase.samples[q] - raster.phase.samples[p])) / 65536;
-    seams.push_back({raster.regions[p], raster.regions[q], raster.weight(p, q), std::int64_t(raster.cycles[q]) - raster.cycles[p] - turns});
+    std::int64_t departure = std::int64_t(raster.cycles[q]) - raster.cycles[p] - raster.turns(p, q);
+    seams.push_back({raster.regions[p], raster.regions[q], raster.weight(p, q), departure});
   };
   for (int y = 0; y < raster.height; ++y)
     for (int x = 0; x < raster.width; ++x) {
@@ -175,8 +179,8 @@ static std::vector<Seam> seams_of(const Raster &raster) {
   return seams;
 }
 
-// One arc for each seam edge, from its first pixel's region to the other's, with flows from -g to g; the offsets are the
-// potentials.
+// One arc for each seam edge, from its first pixel's region to the other's, with flows from minus its weight to its
+// weight; the offsets are the potentials.
 static std::vector<std::int64_t> offsets_of(const Raster &raster) {
   std::vector<Seam> seams = seams_of(raster);
   std::vector<std::int64_t> offsets(raster.region_count, 0);
@@ -208,7 +212,8 @@ static bool write_grid(const Raster &raster, const std::vector<std::int64_t> &of
   std::int64_t anchor = first == raster.cycles.size() ? 0 : raster.cycles[first] + offsets[raster.regions[first]];
   for (std::size_t p = 0; p < raster.cycles.size(); ++p) {
     std::int64_t value = INT64_MIN;
-    if (raster.is_open(p)) value = raster.phase.samples[p] + 65536 * (raster.cycles[p] + offsets[raster.regions[p]] - anchor);
+    if (raster.is_open(p))
+      value = raster.phase.samples[p] + 65536 * (raster.cycles[p] + offsets[raster.regions[p]] - anchor);
     used = std::to_chars(text.data() + used, text.data() + text.size(), value).ptr - text.data();
     text[used++] = (p + 1) % raster.width == 0 ? '\n' : ' ';
   }

@@ -5,12 +5,13 @@ trap 'rm -r "$work"' EXIT
 
 compile() { "${CXX:-c++}" -O2 -std=c++17 -o "$work/$1" "$here/$1.cpp"; }
 
-# best INPUT OUTPUT COMMAND..: the least time of five runs, in tenths of a millisecond, of two where one takes above 20 s.
-# The lines on standard error go to OUTPUT.line, and the most memory that the last run held at once to OUTPUT.peak.
+# best INPUT OUTPUT COMMAND..: the least time of five runs, in tenths of a millisecond, of two where it is above 20 s; of
+# RUNS runs where that is set. The lines on standard error go to OUTPUT.line, and the most memory that the last run held
+# at once to OUTPUT.peak.
 best() {
   local input=$1 output=$2 least= run
   shift 2
-  for run in 1 2 3 4 5; do
+  for ((run = 1; run <= ${RUNS:-5}; ++run)); do
     local from to
     from=$(date +%s%N)
     /usr/bin/time -f %M -o "$output.peak" "$@" <"$input" >"$output" 2>"$output.line" || true

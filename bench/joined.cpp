@@ -1,0 +1,253 @@
+// The same job without proofs, over LEMON: reads raw planes of phase, weights and mask from standard input, solves the
+// network of each tile and then that of the seams by LEMON's network simplex on the same costs, and writes the grid.
+// The words are the tile side. It trusts its input. Times go to standard error.
+#include <algorithm>
+#include <charconv>
+#include <chrono>
+#include <cstdint>
+#include <cstdio>
+#include <cstdlib>
+#include <string>
+#include <vector>
+
+#include <lemon/network_simplex.h>
+#include <lemon/smart_graph.h>
+
+using Graph = lemon::SmartDigraph;
+using Simplex = lemon::NetworkSimplex<Graph, std::int64_t, std::int64_t>;
+
+struct Plane {
+  int width = 0, height = 0, maxval = 1;
+  std::vector<std::uint16_t> samples;
+};
+
+static bool read_plane(Plane &plane) {
+  if (std::scanf("P5 %d %d %d", &plane.width, &plane.height, &plane.maxval) != 3) return false;
+  std::getchar();
+  std::size_t count = std::size_t(plane.width) * plane.height, size = plane.maxval < 256 ? 1 : 2;
+  std::vector<unsigned char> bytes(count * size);
+  if (std::fread(bytes.data(), 1, bytes.size(), stdin) != bytes.size()) std::exit(3);
+  plane.samples.resize(count);
+  for (std::size_t k = 0; k < count; ++k)
+    plane.samples[k] = size == 1 ? bytes[k] : bytes[2 * k] * 256 + bytes[2 * k + 1];
+  return true;
+}
+
+static int wrapped(int from, int to) { return static_cast<std::int16_t>(static_cast<std::uint16_t>(to - from)); }
+
+// What is known of the raster, and of its surface so far: cycles within the tile, and the region of each open pixel.
+struct Raster {
+  int width, height, side;
+  Plane phase, weights, mask;
+  std::vector<std::int32_t> cycles;
+  std::vector<std::int32_t> regions;
+  int region_count = 0;
+
+  std::size_t at(int x, int y) const { return std::size_t(y) * width + x; }
+  bool is_open(std::size_t p) const { return mask.samples[p] != 0; }
+  int difference(std::size_t p, std::size_t q) const { return wrapped(phase.samples[p], phase.samples[q]); }
+  // Whole cycles from one pixel to the next where nothing is corrected.
+  int turns(std::size_t p, std::size_t q) const {
+    return (difference(p, q) - (phase.samples[q] - phase.samples[p])) / 65536;
+  }
+  int weight(std::size_t p, std::size_t q) const {
+    return is_open(p) && is_open(q) ? std::min(weights.samples[p], weights.samples[q]) : 0;
+  }
+  int residue(int x, int y) const {
+    std::size_t a = at(x, y), b = a + 1, c = a + width, d = c + 1;
+    return (difference(a, b) + difference(b, d) - difference(c, d) - difference(a, c)) / 65536;
+  }
+};
+
+struct Window {
+  int left, top, right, bottom;  // the last two are outside
+  int columns() const { return right - left - 1; }
+  int rows() const { return bottom - top - 1; }
+};
+
+// Corrections of a tile's edges, by the window's pixels: `right` and `down` of each.
+struct Corrections {
+  std::vector<std::int32_t> right, down;
+};
+
+// One arc each way across each inner edge, between the cells on its two sides; beyond the window lies one node.
+static void correct(const Raster &raster, const Window &w, Corrections &corrections) {
+  int columns = w.columns(), rows = w.rows(), width = w.right - w.left;
+  corrections.right.assign(std::size_t(width) * (w.bottom - w.top), 0);
+  corrections.down = corrections.right;
+  std::vector<std::int64_t> supply(std::size_t(columns) * rows + 1, 0);
+  std::size_t outside = supply.size() - 1;
+  bool is_flat = true;
+  for (int y = 0; y < rows; ++y)
+    for (int x = 0; x < columns; ++x) {
+      int residue = raster.residue(w.left + x, w.top + y);
+      supply[std::size_t(y) * columns + x] = residue;
+      supply[outside] -= residue;
+      is_flat &= residue == 0;
+    }
+  if (is_flat) return;
+  Graph graph;
+  graph.reserveNode(supply.size());
+  for (std::size_t k = 0; k < supply.size(); ++k) graph.addNode();
+  auto cell = [&](int x, int y) {
+    bool is_inside = x >= 0 && x < columns && y >= 0 && y < rows;
+    return graph.nodeFromId(is_inside ? y * columns + x : int(outside));
+  };
+  std::vector<int> costs;
+  std::vector<std::int32_t *> places;
+  auto cross = [&](Graph::Node from, Graph::Node to, int cost, std::int32_t &place) {
+    graph.addArc(from, to);
+    graph.addArc(to, from);
+    costs.push_back(cost);
+    places.push_back(&place);
+  };
+  for (int y = 0; y <= rows; ++y)
+    for (int x = 0; x <= columns; ++x) {
+      std::size_t p = raster.at(w.left + x, w.top + y), here = std::size_t(y) * width + x;
+      if (x < columns) cross(cell(x, y - 1), cell(x, y), raster.weight(p, p + 1), corrections.right[here]);
+      if (y < rows) cross(cell(x, y), cell(x - 1, y), raster.weight(p, p + raster.width), corrections.down[here]);
+    }
+  Graph::NodeMap<std::int64_t> supplies(graph);
+  for (std::size_t k = 0; k < supply.size(); ++k) supplies[graph.nodeFromId(k)] = supply[k];
+  Graph::ArcMap<std::int64_t> arc_costs(graph);
+  for (std::size_t k = 0; k < costs.size(); ++k)
+    arc_costs[graph.arcFromId(2 * k)] = arc_costs[graph.arcFromId(2 * k + 1)] = costs[k];
+  Simplex simplex(graph);
+  if (simplex.costMap(arc_costs).supplyMap(supplies).run() != Simplex::OPTIMAL) std::exit(1);
+  for (std::size_t k = 0; k < costs.size(); ++k)
+    *places[k] = std::int32_t(simplex.flow(graph.arcFromId(2 * k)) - simplex.flow(graph.arcFromId(2 * k + 1)));
+}
+
+// Whole cycles of a tile whose departures are the corrections, 0 at its first pixel.
+static void integrate(Raster &raster, const Window &w, const Corrections &corrections) {
+  int width = w.right - w.left;
+  auto step = [&](std::size_t p, std::size_t q, int correction) {
+    raster.cycles[q] = raster.cycles[p] + raster.turns(p, q) + correction;
+  };
+  raster.cycles[raster.at(w.left, w.top)] = 0;
+  for (int y = w.top; y < w.bottom; ++y) {
+    std::size_t here = std::size_t(y - w.top) * width, p = raster.at(w.left, y);
+    if (y > w.top) step(p - raster.width, p, corrections.down[here - width]);
+    for (int x = w.left + 1; x < w.right; ++x, ++here, ++p) step(p, p + 1, corrections.right[here]);
+  }
+}
+
+// Numbers the regions: open pixels that walks through open pixels of one tile join.
+static void flood(Raster &raster) {
+  raster.regions.assign(raster.cycles.size(), -1);
+  std::vector<std::size_t> heap;
+  for (std::size_t first = 0; first < raster.cycles.size(); ++first) {
+    if (!raster.is_open(first) || raster.regions[first] >= 0) continue;
+    int region = raster.region_count++;
+    raster.regions[first] = region;
+    heap.push_back(first);
+    while (!heap.empty()) {
+      std::size_t p = heap.back();
+      heap.pop_back();
+      int x = int(p % raster.width), y = int(p / raster.width);
+      auto visit = [&](std::size_t q) {
+        if (!raster.is_open(q) || raster.regions[q] >= 0) return;
+        raster.regions[q] = region;
+        heap.push_back(q);
+      };
+      if (x % raster.side != 0) visit(p - 1);
+      if (x + 1 < raster.width && (x + 1) % raster.side != 0) visit(p + 1);
+      if (y % raster.side != 0) visit(p - raster.width);
+      if (y + 1 < raster.height && (y + 1) % raster.side != 0) visit(p + raster.width);
+    }
+  }
+}
+
+struct Seam {
+  int from, to, weight;
+  std::int64_t departure;
+};
+
+static std::vector<Seam> seams_of(const Raster &raster) {
+  std::vector<Seam> seams;
+  auto add = [&](std::size_t p, std::size_t q) {
+    if (!raster.is_open(p) || !raster.is_open(q)) return;
+    std::int64_t departure = std::int64_t(raster.cycles[q]) - raster.cycles[p] - raster.turns(p, q);
+    seams.push_back({raster.regions[p], raster.regions[q], raster.weight(p, q), departure});
+  };
+  for (int y = 0; y < raster.height; ++y)
+    for (int x = 0; x < raster.width; ++x) {
+      std::size_t p = raster.at(x, y);
+      if (x + 1 < raster.width && (x + 1) % raster.side == 0) add(p, p + 1);
+      if (y + 1 < raster.height && (y + 1) % raster.side == 0) add(p, p + raster.width);
+    }
+  return seams;
+}
+
+// One arc for each seam edge, from its first pixel's region to the other's, with flows from minus its weight to its
+// weight; the offsets are the potentials.
+static std::vector<std::int64_t> offsets_of(const Raster &raster) {
+  std::vector<Seam> seams = seams_of(raster);
+  std::vector<std::int64_t> offsets(raster.region_count, 0);
+  if (raster.region_count < 2 || seams.empty()) return offsets;
+  Graph graph;
+  graph.reserveNode(raster.region_count);
+  graph.reserveArc(seams.size());
+  for (int k = 0; k < raster.region_count; ++k) graph.addNode();
+  for (const Seam &seam : seams) graph.addArc(graph.nodeFromId(seam.from), graph.nodeFromId(seam.to));
+  Graph::ArcMap<std::int64_t> lower(graph), upper(graph), costs(graph);
+  for (std::size_t k = 0; k < seams.size(); ++k) {
+    Graph::Arc arc = graph.arcFromId(int(k));
+    lower[arc] = -seams[k].weight;
+    upper[arc] = seams[k].weight;
+    costs[arc] = -seams[k].departure;
+  }
+  Simplex simplex(graph);
+  if (simplex.lowerMap(lower).upperMap(upper).costMap(costs).run() != Simplex::OPTIMAL) std::exit(1);
+  for (int k = 0; k < raster.region_count; ++k) offsets[k] = simplex.potential(graph.nodeFromId(k));
+  return offsets;
+}
+
+static bool write_grid(const Raster &raster, const std::vector<std::int64_t> &offsets) {
+  std::string text = "ncols " + std::to_string(raster.width) + "\nnrows " + std::to_string(raster.height) +
+                     "\nxllcorner 0\nyllcorner 0\ncellsize 1\nNODATA_value -9223372036854775808\n";
+  std::size_t used = text.size(), first = 0;
+  text.resize(used + raster.cycles.size() * 21);
+  while (first < raster.cycles.size() && !raster.is_open(first)) ++first;
+  std::int64_t anchor = first == raster.cycles.size() ? 0 : raster.cycles[first] + offsets[raster.regions[first]];
+  for (std::size_t p = 0; p < raster.cycles.size(); ++p) {
+    std::int64_t value = INT64_MIN;
+    if (raster.is_open(p))
+      value = raster.phase.samples[p] + 65536 * (raster.cycles[p] + offsets[raster.regions[p]] - anchor);
+    used = std::to_chars(text.data() + used, text.data() + text.size(), value).ptr - text.data();
+    text[used++] = (p + 1) % raster.width == 0 ? '\n' : ' ';
+  }
+  return std::fwrite(text.data(), 1, used, stdout) == used;
+}
+
+int main(int count, char **words) {
+  auto start = std::chrono::steady_clock::now();
+  auto tell = [&](const char *part) {
+    std::chrono::duration<double, std::milli> took = std::chrono::steady_clock::now() - start;
+    std::fprintf(stderr, "%s %.1f ms\n", part, took.count());
+  };
+  Raster raster;
+  raster.side = count > 1 ? std::atoi(words[1]) : 64;
+  if (!read_plane(raster.phase)) return 3;
+  raster.width = raster.phase.width;
+  raster.height = raster.phase.height;
+  std::size_t pixels = raster.phase.samples.size();
+  if (!read_plane(raster.weights)) raster.weights.samples.assign(pixels, 1);
+  if (!read_plane(raster.mask)) raster.mask.samples.assign(pixels, 1);
+  raster.cycles.resize(pixels);
+  tell("read");
+  Corrections corrections;
+  for (int top = 0; top < raster.height; top += raster.side)
+    for (int left = 0; left < raster.width; left += raster.side) {
+      Window window{left, top, std::min(left + raster.side, raster.width), std::min(top + raster.side, raster.height)};
+      correct(raster, window, corrections);
+      integrate(raster, window, corrections);
+    }
+  tell("tiles");
+  flood(raster);
+  std::vector<std::int64_t> offsets = offsets_of(raster);
+  tell("seams");
+  bool is_written = write_grid(raster, offsets);
+  tell("written");
+  return is_written ? 0 : 6;
+}

@@ -63,7 +63,7 @@ digits_before (d ∷ digits) rest a b =
 
 -- ---- a plain number in front
 
-all_digits : (digits : List ℕ) → is_plain digits ≡ true → list_all is_digit digits ≡ true
+pub all_digits : (digits : List ℕ) → is_plain digits ≡ true → list_all is_digit digits ≡ true
 all_digits [] p = absurd cc
 all_digits (d ∷ digits) p = (and_parts (is_number (d ∷ digits)) _ p).0
 

@@ -8,3 +8,14 @@ pub mod ScriptLemmas
 pub mod PlaneLemmas
 pub mod SessionLemmas
 pub mod PutLemmas
+pub mod WordAgain
+pub mod LineAgain
+pub mod SectionsAgain
+pub mod ScriptAgain
+pub mod PlanesAgain
+pub mod SessionAgain
+pub mod AnswerLemmas
+pub mod LimitLemmas
+pub mod WrittenLines
+pub mod WrittenMask
+pub mod WrittenSession

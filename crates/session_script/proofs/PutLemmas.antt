@@ -70,7 +70,7 @@ scripts_as_sections (x ∷ scripts) = ap (λ (t : List ℕ). script_text x ++ t)
 
 -- ---- rows
 
-last_or_before : (y h : ℕ) → y < suc h → (y ≡ h) ⊎ (y < h)
+pub last_or_before : (y h : ℕ) → y < suc h → (y ≡ h) ⊎ (y < h)
 last_or_before zero zero lt = inl refl
 last_or_before zero (suc h) lt = inr (omega arith)
 last_or_before (suc y) zero lt = absurd (omega (arith, lt))

@@ -36,7 +36,7 @@ scripts_fit w h [] a k s e = absurd cc
 scripts_fit w h (x ∷ scripts) a zero s e = let same : x ≡ s = cc in subst (λ (y : Script). CommandsFit w h y.commands.items) same a.0
 scripts_fit w h (x ∷ scripts) a (suc k) s e = scripts_fit w h scripts a.1 k s e
 
-same_counts : (test : Command → Bool) (scripts : List Script) → sum_by (λ script. count_by test script.commands.items) scripts ≡ sum_by (count_by test) (sections_of scripts)
+pub same_counts : (test : Command → Bool) (scripts : List Script) → sum_by (λ script. count_by test script.commands.items) scripts ≡ sum_by (count_by test) (sections_of scripts)
 same_counts test [] = refl
 same_counts test (x ∷ scripts) =
     sum_by-cons (λ script. count_by test script.commands.items) x scripts

@@ -10,3 +10,4 @@ pub mod Causes
 pub mod Making
 pub mod Text
 pub mod Writing
+pub mod Laws

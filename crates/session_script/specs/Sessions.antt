@@ -2,7 +2,7 @@
 use Rattle.std.specs.Prelude.{◌≡◌, ◌⊎◌, ℕ, ◌+◌, ◌-◌, ◌*◌, ◌/◌, ◌≤◌, ◌<◌, ◌==◌, not, Bool, false, IsTrue, List, length, replicate, slice_index}
 use Rattle.raster_model.specs.declared.session.Session.{Session}
 use Rattle.raster_model.specs.MaskView.{MaskView}
-use Rattle.raster_model.specs.Masks.{IsMaskOf}
+use Rattle.raster_model.specs.Masks.{IsMaskOf, open_at}
 use Rattle.raster_model.specs.Sums.{Field}
 use Rattle.pgm_planes.specs.declared.fault.InputFault.{InputFault}
 use Rattle.pgm_planes.specs.declared.fault.InputFault.TheVariants as faults
@@ -25,6 +25,13 @@ pub record SessionOf : Type 0 where
 
 abbrev pub session_of : Session → SessionOf
 session_of s = record { phase = plane_of s.scene.phase; weights = plane_of s.scene.weights; mask = s.first_mask; scripts = sections_of s.scripts.items }
+
+-- two sessions tell the same: their planes and scripts are equal, and the same pixels are open
+pub record IsSameSession (s t : SessionOf) : Type 0 where
+  pub phase : s.phase ≡ t.phase
+  pub weights : s.weights ≡ t.weights
+  pub mask : IsMaskOf s.mask t.phase.width t.phase.height (open_at t.mask)
+  pub scripts : s.scripts ≡ t.scripts
 
 -- a plane of another's size whose samples are all 1: the weights, and the mask, where there is none
 abbrev pub ones_of : PlaneOf → PlaneOf
@@ -112,6 +119,10 @@ pub record BreaksInScript (usage : SessionUse) (side at : ℕ) (bytes : List ℕ
 abbrev pub SessionBreak : SessionUse → ℕ → ℕ → List ℕ → InputFault → Type 0
 SessionBreak usage side at bytes fault = PlanesBreak at bytes fault ⊎ BreaksInScript usage side at bytes fault
 
--- the bytes have this fault as a session: their first break, or more bytes than a session may have
+-- more bytes are there than a session may have
+abbrev pub AreTooMany : List ℕ → InputFault → Type 0
+AreTooMany bytes fault = (fault ≡ faults.TooLong) × (268435456 < length bytes)
+
+-- the bytes have this fault as a session: their first break, or they are too many
 abbrev pub HasFault : SessionUse → ℕ → List ℕ → InputFault → Type 0
-HasFault usage side bytes fault = SessionBreak usage side 0 bytes fault ⊎ ((fault ≡ faults.TooLong) × (268435456 < length bytes))
+HasFault usage side bytes fault = SessionBreak usage side 0 bytes fault ⊎ AreTooMany bytes fault

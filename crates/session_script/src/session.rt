@@ -1,12 +1,15 @@
 ghost use Rattle.insar_ports.specs.Feeding.{handed_of, left_of, limit_of, source_name};
 ghost use Rattle.pgm_planes.specs.Calls.{Moves, call_of};
 ghost use Rattle.pgm_planes.specs.Planes.{plane_of};
-ghost use Rattle.session_script.specs.Causes.{HasCause};
+ghost use Rattle.pgm_planes.specs.declared.fault.InputFault.{InputFault as AnyFault};
+ghost use Rattle.pgm_planes.specs.declared.fault.InputFault.TheVariants as faults;
+ghost use Rattle.session_script.specs.declared.fault.SessionFault.TheVariants as session_faults;
+ghost use Rattle.session_script.specs.Causes.{HasCause, IsAtLimit, IsReadAs, IsRefusedFor};
 ghost use Rattle.session_script.specs.Reaching.{HasCauseIn, Reaches};
 ghost use Rattle.session_script.specs.Sections.{IsComplete, frame_of, sections_of};
-ghost use Rattle.session_script.specs.Sessions.{IsSessionIn, session_of};
+ghost use Rattle.session_script.specs.Sessions.{IsSessionIn, SessionBreak, SessionOf, session_of};
 ghost use Rattle.session_script.specs.Making.{IsMadeOf};
-ghost use Rattle.std.specs.Prelude.{◌≡◌, ◌≤◌, IfErr, IfOk};
+ghost use Rattle.std.specs.Prelude.{◌≡◌, ◌≤◌, IfErr, IfOk, IfSome, Err, List, ℕ};
 
 use crate::fault::SessionFault;
 use crate::planes::{Planes, read_planes};
@@ -39,8 +42,36 @@ pub fn read_session<S: Source>(
     // What is read is spelled so, and what follows is left.
     ensures read { IfOk result (λ session. Reaches (call_of S.left S.faults feed.old feed.new) (λ bytes rest. IsSessionIn use_as side bytes (session_of session) rest)) }
     ensures scene { IfOk result (λ session. (session.scene.rule ≡ kind) × (session.scene.tiling.side ≡ side)) }
+    // What is spelled so is read, and what follows is left.
+    ensures accepted { IfSome (left_of S.left feed.old) (λ bytes. (s : SessionOf) (rest : List ℕ) → IsSessionIn use_as side bytes s rest → IsReadAs (call_of S.left S.faults feed.old feed.new) bytes s rest result) }
     // The first break, or why else a session is not read.
     ensures refused { IfErr result (HasCause use_as side (call_of S.left S.faults feed.old feed.new)) }
+    // More bytes are told where so many were handed out and another is there.
+    ensures too_long { result ≡ Err (session_faults.Input faults.TooLong) → IsAtLimit (call_of S.left S.faults feed.old feed.new) }
+    // What breaks is refused with its first break.
+    ensures exact { IfSome (left_of S.left feed.old) (λ bytes. (fault : AnyFault) → SessionBreak use_as side 0 bytes fault → IsRefusedFor (call_of S.left S.faults feed.old feed.new) bytes fault result) }
+{
+    read_spelled(alloc, feed, use_as, side, kind)
+}
+
+/// Reads the planes, and then the scripts.
+fn read_spelled<S: Source>(
+    alloc: Global,
+    feed: &mut Feed<S>,
+    use_as: SessionUse,
+    side: u32,
+    kind: RuleKind,
+) -> Result<Session, SessionFault>
+    requires start { handed_of feed.old ≡ 0 }
+    requires limit { limit_of feed.old ≡ 268435456 }
+    requires sides { (2 ≤ side) × (side ≤ 128) }
+    ensures same_source { source_name feed.new ≡ source_name feed.old }
+    ensures same_limit { limit_of feed.new ≡ limit_of feed.old }
+    ensures moves { Moves (call_of S.left S.faults feed.old feed.new) }
+    ensures read { IfOk result (λ session. Reaches (call_of S.left S.faults feed.old feed.new) (λ bytes rest. IsSessionIn use_as side bytes (session_of session) rest)) }
+    ensures scene { IfOk result (λ session. (session.scene.rule ≡ kind) × (session.scene.tiling.side ≡ side)) }
+    ensures refused { IfErr result (HasCause use_as side (call_of S.left S.faults feed.old feed.new)) }
+    ensures too_long { result ≡ Err (session_faults.Input faults.TooLong) → IsAtLimit (call_of S.left S.faults feed.old feed.new) }
 {
     let planes = read_planes(alloc, feed)?;
     let tiling = Tiling::new(planes.phase.width, planes.phase.height, side);

@@ -2,7 +2,7 @@ ghost use Rattle.std.specs.Prelude.{◌≤◌};
 
 use crate::{SessionFault, SessionUse, read_session, write_session};
 use insar_ports::{Feed, MemorySink, MemorySource, WriteFault};
-use pgm_planes::InputFault;
+use pgm_planes::{InputFault, PlaneFault, Role};
 use raster_model::{Command, Edit, Rect, RuleKind, Session};
 use std::alloc::Global;
 use std::test::Fail;
@@ -85,6 +85,106 @@ fn a_script_breaks_at_its_line(rt: HostRuntime) -> Result<(), Fail> {
     let bytes = Vec::from_slice(rt.alloc(), PLANE)?;
     let found = refusal(rt.alloc(), bytes, SessionUse::BeforeReport, 64)?;
     assert_eq!(rt; found, Some(SessionFault::Input(InputFault::NoEnd)));
+    Ok(())
+}
+
+/// Planes of 2 by 1 pixels with another maxval, with a sample and a half, and with a byte behind the line `end`.
+#[test]
+fn a_short_plane_and_a_byte_behind_the_end_are_told(rt: HostRuntime) -> Result<(), Fail> {
+    let cases = [
+        (
+            b"P5\n2 1\n65534\n".as_slice(),
+            InputFault::Plane {
+                role: Role::Phase,
+                fault: PlaneFault::PhaseMaxval(65_534),
+            },
+        ),
+        (
+            b"P5\n2 1\n65535\n\x00\x00\x00".as_slice(),
+            InputFault::Plane {
+                role: Role::Phase,
+                fault: PlaneFault::Short(1),
+            },
+        ),
+        (
+            b"P5\n2 1\n65535\n\x00\x00\x00\x00end\nx".as_slice(),
+            InputFault::AfterEnd(21),
+        ),
+    ];
+    for (text, fault) in cases {
+        let bytes = Vec::from_slice(rt.alloc(), text)?;
+        let found = refusal(rt.alloc(), bytes, SessionUse::Alone, 64)?;
+        assert_eq!(rt; found, Some(SessionFault::Input(fault)));
+    }
+    Ok(())
+}
+
+/// A plain plane and one analyst, 70 bytes long.
+const TEXT: &[u8] =
+    b"P2\n2 2\n65535\n0 16384\n49152 32768\nanalyst\nmask 0 0 0 0\nsettle\nshow\nend\n";
+
+/// Why the first `count` bytes of that text are no session.
+fn fault_of_front(count: usize) -> Option<InputFault> {
+    let fault = match count {
+        0..=1 => PlaneFault::Magic,
+        2..=12 => PlaneFault::Form(count as u64),
+        13 => PlaneFault::Short(0),
+        14..=15 => PlaneFault::Short(1),
+        16..=21 => PlaneFault::Short(2),
+        22..=27 => PlaneFault::Short(3),
+        34..=69 => return Some(InputFault::NoEnd),
+        _ => return None,
+    };
+    Some(InputFault::Plane {
+        role: Role::Phase,
+        fault,
+    })
+}
+
+/// Where the last sample is whole, the plane stands alone.
+#[test]
+fn a_text_is_cut_at_each_byte(rt: HostRuntime) -> Result<(), Fail> {
+    assert_eq!(rt; TEXT.len(), 70);
+    for count in 0..71 {
+        let bytes = Vec::from_slice(rt.alloc(), &TEXT[..count])?;
+        let found = refusal(rt.alloc(), bytes, SessionUse::Alone, 64)?;
+        assert_eq!(rt; found, fault_of_front(count).map(SessionFault::Input));
+    }
+    let samples = [3, 32, 327, 3276, 32_768, 32_768];
+    for (count, sample) in samples.iter().enumerate() {
+        let bytes = Vec::from_slice(rt.alloc(), &TEXT[..28 + count])?;
+        let mut source = MemorySource::new(bytes, 1, Vec::new(rt.alloc()));
+        let mut feed = Feed::new(rt.alloc(), &mut source, 268_435_456)?;
+        let session = read_session(
+            rt.alloc(),
+            &mut feed,
+            SessionUse::Alone,
+            64,
+            RuleKind::Least,
+        )?;
+        assert_eq!(rt; session.scene.phase.samples.last(), Some(sample));
+    }
+    Ok(())
+}
+
+/// The text comes byte by byte. Call 71 is the one that would find the end.
+#[test]
+fn a_call_that_fails_is_told(rt: HostRuntime) -> Result<(), Fail> {
+    for call in 1..72 {
+        let bytes = Vec::from_slice(rt.alloc(), TEXT)?;
+        let mut failing = Vec::new(rt.alloc());
+        failing.push(call)?;
+        let mut source = MemorySource::new(bytes, 1, failing);
+        let mut feed = Feed::new(rt.alloc(), &mut source, 268_435_456)?;
+        let found = read_session(
+            rt.alloc(),
+            &mut feed,
+            SessionUse::Alone,
+            64,
+            RuleKind::Least,
+        );
+        assert_eq!(rt; found.err(), Some(SessionFault::ReadFault));
+    }
     Ok(())
 }
 

@@ -1,0 +1,8 @@
+use Rattle.session_script.proofs.SessionAgain.{one_fault, no_fault_of_session}
+use Rattle.session_script.proofs.laws.one_fault.Goals as goal
+
+pub returns-clause-not_both : goal.returns-clause-not_both
+returns-clause-not_both c = no_fault_of_session
+
+pub returns-clause-one_fault : goal.returns-clause-one_fault
+returns-clause-one_fault c = one_fault

@@ -1,0 +1,36 @@
+-- What the definitions of sessions and of their faults say together.
+use Rattle.std.specs.Prelude.{◌≡◌, ◌⊎◌, ℕ, ◌<◌, ◌≤◌, ◌^◌, List, length, [], ◌++◌}
+use Rattle.raster_model.specs.declared.session.Session.{Session}
+use Rattle.pgm_planes.specs.declared.fault.InputFault.{InputFault}
+use Rattle.session_script.specs.declared.session_use.SessionUse.{SessionUse}
+use Rattle.session_script.specs.declared.session_use.SessionUse.TheVariants.{Alone}
+use Rattle.session_script.specs.Sessions.{SessionOf, session_of, IsSessionIn, IsSameSession, SessionBreak, HasFault}
+use Rattle.session_script.specs.Text.{session_text}
+
+-- bytes are a session's text and then others, or have a fault
+abbrev pub SessionOrFault : Type 0
+SessionOrFault = (usage : SessionUse) (side : ℕ) (bytes : List ℕ) → ((s : SessionOf) × (rest : List ℕ) × IsSessionIn usage side bytes s rest) ⊎ ((fault : InputFault) × HasFault usage side bytes fault)
+
+-- bytes that are a session's text and then others have no first break
+abbrev pub NoBreakOfSession : Type 0
+NoBreakOfSession = (usage : SessionUse) (side at : ℕ) (bytes : List ℕ) (s : SessionOf) (rest : List ℕ) (fault : InputFault) → IsSessionIn usage side bytes s rest → SessionBreak usage side at bytes fault → ⊥
+
+-- bytes have one first break
+abbrev pub OneBreak : Type 0
+OneBreak = (usage : SessionUse) (side at : ℕ) (bytes : List ℕ) (e f : InputFault) → SessionBreak usage side at bytes e → SessionBreak usage side at bytes f → e ≡ f
+
+-- bytes that are not too many have one fault, and none where they are a session's text and then others
+abbrev pub OneFault : Type 0
+OneFault = (usage : SessionUse) (side : ℕ) (bytes : List ℕ) (e f : InputFault) → length bytes ≤ 268435456 → HasFault usage side bytes e → HasFault usage side bytes f → e ≡ f
+
+abbrev pub NoFaultOfSession : Type 0
+NoFaultOfSession = (usage : SessionUse) (side : ℕ) (bytes : List ℕ) (s : SessionOf) (rest : List ℕ) (fault : InputFault) → length bytes ≤ 268435456 → IsSessionIn usage side bytes s rest → HasFault usage side bytes fault → ⊥
+
+-- bytes are one session's text, which ends in one place
+abbrev pub OneSession : Type 0
+OneSession = (usage : SessionUse) (side : ℕ) (bytes : List ℕ) (s t : SessionOf) (rest other : List ℕ) → IsSessionIn usage side bytes s rest → IsSessionIn usage side bytes t other → IsSameSession s t × (rest ≡ other)
+
+-- What is written of a session is its text: before a report whatever follows, and alone where nothing follows. A maxval is a
+-- `u16`.
+abbrev pub WrittenIsRead : Type 0
+WrittenIsRead = (usage : SessionUse) (session : Session) (rest : List ℕ) → session.scene.weights.maxval < 2 ^ 16 → (usage ≡ Alone → rest ≡ []) → IsSessionIn usage session.scene.tiling.side (session_text (session_of session) ++ rest) (session_of session) rest

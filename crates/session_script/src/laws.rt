@@ -1,0 +1,26 @@
+//! Laws of the definitions. The functions do nothing; each contract is the law.
+
+ghost use Rattle.session_script.specs.Laws.{NoBreakOfSession, NoFaultOfSession, OneBreak, OneFault, OneSession, SessionOrFault, WrittenIsRead};
+
+/// Bytes either are a session's text and then others, or have a fault, and one first break at most.
+pub fn session_or_fault()
+    ensures either { SessionOrFault }
+    ensures not_both { NoBreakOfSession }
+    ensures one_break { OneBreak }
+{}
+
+/// Of at most 268,435,456 bytes either is true: they are a session's text and then others, or they have one fault.
+pub fn one_fault()
+    ensures not_both { NoFaultOfSession }
+    ensures one_fault { OneFault }
+{}
+
+/// Bytes are one session's text at most, which ends in one place.
+pub fn one_session()
+    ensures { OneSession }
+{}
+
+/// What `write_session` writes is read as the same session.
+pub fn written_is_read()
+    ensures { WrittenIsRead }
+{}

@@ -1,2 +1,2 @@
-mod GridLemmas
-mod WriteLemmas
+pub mod GridLemmas
+pub mod WriteLemmas

@@ -167,6 +167,21 @@ fn write_rows<K: Sink>(
     Ok(())
 }
 
+/// Adds the grid of a snapshot's surface to text on its way to a sink, as [`write_grid`] writes it.
+pub fn append_grid<K: Sink>(
+    text: &mut TextBuffer,
+    sink: &mut K,
+    snapshot: &Snapshot,
+) -> Result<(), WriteFault>
+    ensures written { OnOk result (Writes (K.held sink.old) (waiting_in text.old) (K.held sink.new) (waiting_in text.new) (text_of (parts_of snapshot.now))) }
+    ensures cut { OnErr result (GainsProperPrefix (K.held sink.old) (waiting_in text.old ++ text_of (parts_of snapshot.now)) (K.held sink.new)) }
+    ensures fault { OnErr result (HasRisen (K.faults sink.old) (K.faults sink.new)) }
+    ensures grows { K.faults sink.old ≤ K.faults sink.new }
+{
+    write_header(text, sink, snapshot.width(), snapshot.height())?;
+    write_rows(text, sink, snapshot)
+}
+
 /// Writes the grid of a snapshot's surface, in units of 1/65536 cycle: six lines of header, then the rows from
 /// the top, each of its values parted by a space. A masked pixel has the NODATA value. It takes no memory. After
 /// a fault the sink has a part of the text. (Esri ASCII raster, in one spelling.)
@@ -177,7 +192,6 @@ pub fn write_grid<K: Sink>(snapshot: &Snapshot, sink: &mut K) -> Result<(), Writ
     ensures grows { K.faults sink.old ≤ K.faults sink.new }
 {
     let mut text = TextBuffer::new();
-    write_header(&mut text, sink, snapshot.width(), snapshot.height())?;
-    write_rows(&mut text, sink, snapshot)?;
+    append_grid(&mut text, sink, snapshot)?;
     text.flush(sink)
 }

@@ -6,4 +6,5 @@ mod grid;
 mod tests;
 mod text;
 
-pub use crate::grid::write_grid;
+pub use crate::grid::{append_grid, write_grid};
+pub use crate::text::TextBuffer;

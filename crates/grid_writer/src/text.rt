@@ -9,7 +9,7 @@ const BUFFER_BYTES: usize = 8192;
 
 /// Text that waits to be put into a sink. It takes no memory.
 #[derive(Drop)]
-pub(crate) struct TextBuffer {
+pub struct TextBuffer {
     bytes: ArrayVec<u8, BUFFER_BYTES>,
 }
 
@@ -17,7 +17,8 @@ impl TextBuffer {
     ghost use Rattle.grid_writer.specs.Waiting.{waiting_in};
     ghost use Rattle.grid_writer.specs.Writing.{Writes};
 
-    pub(crate) fn new() -> TextBuffer
+    /// An empty buffer.
+    pub fn new() -> TextBuffer
         ensures { waiting_in result ≡ [] }
     {
         TextBuffer {
@@ -25,8 +26,8 @@ impl TextBuffer {
         }
     }
 
-    /// Puts all that waits into the sink.
-    pub(crate) fn flush<K: Sink>(&mut self, sink: &mut K) -> Result<(), WriteFault>
+    /// Puts all that waits into the sink. After a fault the sink has a part of it.
+    pub fn flush<K: Sink>(&mut self, sink: &mut K) -> Result<(), WriteFault>
         ensures empty { OnOk result (waiting_in self.new ≡ []) }
         ensures written { OnOk result (Writes (K.held sink.old) (waiting_in self.old) (K.held sink.new) (waiting_in self.new) []) }
         ensures cut { OnErr result (GainsProperPrefix (K.held sink.old) (waiting_in self.old) (K.held sink.new)) }
@@ -38,8 +39,9 @@ impl TextBuffer {
         Ok(())
     }
 
-    /// Adds a piece of text, of which the sink gets what no longer fits the buffer.
-    pub(crate) fn push<K: Sink>(&mut self, sink: &mut K, piece: &[u8]) -> Result<(), WriteFault>
+    /// Adds a piece of text of at most 128 bytes. Where it no longer fits, the sink gets first what waits; after a
+    /// fault the sink has a part of that.
+    pub fn push<K: Sink>(&mut self, sink: &mut K, piece: &[u8]) -> Result<(), WriteFault>
         requires { length piece.now ≤ 128 }
         ensures written { OnOk result (Writes (K.held sink.old) (waiting_in self.old) (K.held sink.new) (waiting_in self.new) piece.now) }
         ensures cut { OnErr result (GainsProperPrefix (K.held sink.old) (waiting_in self.old ++ piece.now) (K.held sink.new)) }

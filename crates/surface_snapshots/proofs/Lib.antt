@@ -3,3 +3,4 @@ mod CostLemmas
 mod VerdictLemmas
 mod PublishedLemmas
 pub mod CallerLemmas
+pub mod SameLemmas

@@ -1,0 +1,13 @@
+pub mod ListLemmas
+pub mod HistoryLemmas
+pub mod PlaceLemmas
+pub mod StateLemmas
+pub mod VerdictLemmas
+pub mod KeptLemmas
+pub mod SurfaceLemmas
+pub mod StateFacts
+pub mod StepLemmas
+pub mod RevisionLemmas
+pub mod PublishLemmas
+pub mod LawLemmas
+pub mod TestLemmas

@@ -1,0 +1,11 @@
+use Rattle.std.proofs.Common.{◌∙◌, ap, List, ◌++◌, ◌∷◌, []}
+use Rattle.tile_board.specs.declared.entry.Entry.{Entry}
+use Rattle.tile_board.specs.declared.entry.Entry.TheVariants.{Kept}
+use Rattle.tile_board.proofs.StepLemmas.{state_keep}
+use Rattle.tile_board.proofs.board.Board.keep.Goals as goal
+
+pub invariant_of-self-2 : goal.invariant_of-self-2
+invariant_of-self-2 c =
+    let may = rw (← c.self.view_is) at c.in_ok-judge.ensures.good in
+    let entries = c.push_within.ensures.items ∙ ap (λ (es : List Entry). es ++ (Kept c.args.solved.tile c.args.solved.stamp ∷ [])) c.in_ok-reserve.ensures.items in
+    state_keep c.self.invariant c.args.solved c.push_within.new.items.items entries (may.0.0.0, may.0.0.1, may.0.1) may.1

@@ -1,0 +1,7 @@
+pub mod Histories
+pub mod BoardView
+pub mod Boards
+pub mod Calls
+pub mod Runs
+pub mod Causes
+pub mod States

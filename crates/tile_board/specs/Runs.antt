@@ -1,0 +1,66 @@
+-- Boards through lists of calls, and what holds of them whatever is called.
+use Rattle.std.specs.Prelude.{◌≡◌, ℕ, ◌<◌, ◌≤◌, Option, Some, None, List, [], ◌∷◌, slice_get, take, ⊤}
+use Rattle.raster_model.specs.declared.session.Session.{Session}
+use Rattle.certificates.specs.declared.results.SeamResult.{SeamResult}
+use Rattle.raster_model.specs.Tiles.{tile_at, tiles_of}
+use Rattle.certificates.specs.declared.results.TileResult.{TileResult}
+use Rattle.certificates.specs.Results.{IsGoodTile}
+use Rattle.tile_board.specs.declared.answers.Advance.{Advance}
+use Rattle.tile_board.specs.declared.entry.Entry.{Entry}
+use Rattle.tile_board.specs.declared.entry.Entry.TheVariants.{Revised, Kept, Published, Settled, Shown}
+use Rattle.tile_board.specs.BoardView.{BoardView}
+use Rattle.tile_board.specs.Calls.{IsAdvance, IsKeep, IsNew, IsPublication}
+use Rattle.tile_board.specs.Boards.{IsHeld}
+use Rattle.tile_board.specs.Histories.{IsLegal, mask_in, newest_of, present_mask}
+
+-- a call: one that kept a result, published, or was an analyst's next command with its answer; or any other, a refused one too
+pub data Call : Type 0 where
+  Keeps : TileResult → Call
+  Publishes : ℕ → SeamResult → Call
+  Advances : ℕ → Advance → Call
+  Other : Call
+
+-- what the contracts say of the board before and after it, and through a list of calls
+abbrev pub IsCall : Call → BoardView → BoardView → Type 0
+IsCall (Keeps k) old new = IsKeep old new k
+IsCall (Publishes a seams) old new = IsPublication old new a seams
+IsCall (Advances a answer) old new = IsAdvance old new a answer
+IsCall Other old new = new ≡ old
+
+abbrev pub LeadTo : List Call → BoardView → BoardView → Type 0
+LeadTo [] first last = last ≡ first
+LeadTo (call ∷ calls) first last = (next : BoardView) × IsCall call first next × LeadTo calls next last
+
+-- a revision is none, or no later than another
+abbrev pub IsNoLater : Option ℕ → Option ℕ → Type 0
+IsNoLater None s = ⊤
+IsNoLater (Some r) None = ⊥
+IsNoLater (Some r) (Some s) = r ≤ s
+
+-- the entry names this revision as published
+abbrev pub NamesRevision : Entry → Option ℕ → Type 0
+NamesRevision (Revised a edit) r = ⊥
+NamesRevision (Kept t stamp) r = ⊥
+NamesRevision (Published a revision) r = r ≡ Some revision
+NamesRevision (Settled a revision) r = r ≡ Some revision
+NamesRevision (Shown a revision) r = r ≡ revision
+
+-- what is shown is the newest published revision, and no earlier than what an entry before it named, whichever the analysts; so what is shown never falls
+abbrev pub ShownAreNewest : List Entry → Type 0
+ShownAreNewest H = (j b : ℕ) (s : Option ℕ) → slice_get H j ≡ Some (Shown b s) → (s ≡ newest_of (take j H)) × ((i : ℕ) (e : Entry) (r : Option ℕ) → i ≤ j → slice_get H i ≡ Some e → NamesRevision e r → IsNoLater r s)
+
+-- no revision is published twice, and a later publication is of a later revision
+abbrev pub PublishedRise : List Entry → Type 0
+PublishedRise H = (i j a b r s : ℕ) → i < j → slice_get H i ≡ Some (Published a r) → slice_get H j ≡ Some (Published b s) → r < s
+
+-- whatever is called on a new board, by whichever analysts, its history is legal
+abbrev pub EveryHistoryIsLegal : Type 0
+EveryHistoryIsLegal = (s : Session) (first last : BoardView) (calls : List Call) → IsNew s first → LeadTo calls first last → (last.session ≡ s) × IsLegal s last.entries
+
+-- a legal history shows the newest, and publishes each revision once, later ones later
+abbrev pub LegalHistoriesMoveOn : Type 0
+LegalHistoriesMoveOn = (s : Session) (H : List Entry) → IsLegal s H → ShownAreNewest H × PublishedRise H
+
+-- a held result is good under the mask at its stamp too, which has the same open pixels in the tile as the present mask
+abbrev pub HeldAreGoodAtStamp : Type 0
+HeldAreGoodAtStamp = (s : Session) (H : List Entry) (t : ℕ) (k : TileResult) → t < tiles_of s.scene.tiling → IsHeld s H t k → IsGoodTile s.scene (mask_in s H k.stamp) k × ((x y : ℕ) → x < s.scene.tiling.width → y < s.scene.tiling.height → tile_at s.scene.tiling x y ≡ t → mask_in s H k.stamp x y ≡ present_mask s H x y)

@@ -1,0 +1,84 @@
+-- What a board holds beside the history, and that it is what the history says. No clause of a public function cites this file.
+use Rattle.std.specs.Prelude.{◌≡◌, ◌≢◌, ℕ, zero, suc, ◌+◌, ◌<◌, ◌≤◌, Option, Some, None, List, length, slice_get, slice_index, sum}
+use Rattle.raster_model.specs.declared.session.Session.{Session}
+use Rattle.raster_model.specs.Masks.{open_at}
+use Rattle.raster_model.specs.Tiles.{tiles_of}
+use Rattle.certificates.specs.declared.results.SeamResult.{SeamResult}
+use Rattle.certificates.specs.declared.results.TileResult.{TileResult}
+use Rattle.certificates.specs.declared.verdicts.SeamVerdict.TheVariants.{Good}
+use Rattle.certificates.specs.TileSets.{IsCopy}
+use Rattle.mask_revisions.specs.Revisions.{AreRevisionsOf}
+use Rattle.mask_revisions.specs.RevisionsView.{RevisionsView}
+use Rattle.surface_snapshots.specs.Parts.{Parts}
+use Rattle.surface_snapshots.specs.Verdicts.{IsVerdict}
+use Rattle.tile_board.specs.declared.answers.PublishFault.{PublishFault}
+use Rattle.tile_board.specs.declared.answers.PublishFault.TheVariants.{NotSettle, Stale, Double, Unready, Uncertified, Memory}
+use Rattle.tile_board.specs.declared.entry.Entry.{Entry}
+use Rattle.tile_board.specs.declared.entry.Entry.TheVariants.{Revised, Kept, Published, Settled, Shown}
+use Rattle.tile_board.specs.Boards.{IsBoard}
+use Rattle.tile_board.specs.BoardView.{BoardView}
+use Rattle.tile_board.specs.Calls.{ArePublishable}
+use Rattle.tile_board.specs.Histories.{AreAllKept, IsLeastLacking, done_by, edits_of, newest_of, now_of}
+
+abbrev pub view_of : Session → List Entry → List (Option TileResult) → List Parts → BoardView
+view_of session entries kept surfaces = record { session = session; entries = entries; kept = kept; surfaces = surfaces }
+
+-- how many commands each analyst has done, the first being analyst 1; no more edits were made than commands done
+pub record AreCursors (s : Session) (H : List Entry) (cursors : List ℕ) : Type 0 where
+  pub count : length cursors ≡ length s.scripts.items
+  pub done : (k : ℕ) → k < length cursors → slice_index cursors k ≡ done_by (k + 1) H
+  pub few : now_of H ≤ sum cursors
+
+-- what they say of an analyst, and 0 of a number that is no analyst's
+abbrev pub cursor_at : List ℕ → ℕ → ℕ
+cursor_at cursors zero = 0
+cursor_at cursors (suc k) = slice_index cursors k
+
+pub record IsState (v : BoardView) (held : RevisionsView) (tallies marks : List ℕ) (last : Option ℕ) : Type 0 where
+  pub board : IsBoard v
+  pub tiling : held.tiling ≡ v.session.scene.tiling
+  pub revisions : AreRevisionsOf (open_at v.session.first_mask) (edits_of v.entries) held
+  pub claims : length tallies ≡ tiles_of v.session.scene.tiling
+  pub cursors : AreCursors v.session v.entries marks
+  pub newest : last ≡ newest_of v.entries
+
+-- a tile has a result; all tiles do; a tile is the least that has none
+abbrev pub HasResult : List (Option TileResult) → ℕ → Type 0
+HasResult kept t = (k : TileResult) × (slice_get kept t ≡ Some (Some k))
+
+abbrev pub HaveResults : List (Option TileResult) → Type 0
+HaveResults kept = (t : ℕ) → t < length kept → HasResult kept t
+
+abbrev pub IsGap : List (Option TileResult) → ℕ → Type 0
+IsGap kept t = slice_get kept t ≡ Some None
+
+abbrev pub IsFirstGap : List (Option TileResult) → ℕ → Type 0
+IsFirstGap kept t = IsGap kept t × ((u : ℕ) → u < t → HasResult kept u)
+
+-- a list has a copy of each result
+pub record CopiesResults (kept : List (Option TileResult)) (copies : List TileResult) : Type 0 where
+  pub count : length copies ≡ length kept
+  pub each : (t : ℕ) (copy : TileResult) → slice_get copies t ≡ Some copy → (k : TileResult) × (slice_get kept t ≡ Some (Some k)) × IsCopy k copy
+
+-- the first n tiles of a list have no result afterwards, and the others what they had
+pub record AreEmptied (old new : List (Option TileResult)) (tiles : List ℕ) (n : ℕ) : Type 0 where
+  pub count : length new ≡ length old
+  pub emptied : (i : ℕ) → i < n → IsGap new (slice_index tiles i)
+  pub others : (t : ℕ) → ((i : ℕ) → i < n → slice_index tiles i ≢ t) → slice_get new t ≡ slice_get old t
+
+-- the entry names the analyst, and is neither an edit nor a publication nor a kept result
+abbrev pub IsAlone : ℕ → Entry → Type 0
+IsAlone a (Revised b edit) = ⊥
+IsAlone a (Kept t r) = ⊥
+IsAlone a (Published b r) = ⊥
+IsAlone a (Settled b r) = b ≡ a
+IsAlone a (Shown b r) = b ≡ a
+
+-- why no surface is made: a tile is not kept, or it is not certified, or there is no memory for it
+abbrev pub HasSurfaceFault : BoardView → SeamResult → PublishFault → Type 0
+HasSurfaceFault v seams NotSettle = ⊥
+HasSurfaceFault v seams (Stale r) = ⊥
+HasSurfaceFault v seams (Double r) = ⊥
+HasSurfaceFault v seams (Unready t) = IsLeastLacking v.session v.entries t
+HasSurfaceFault v seams (Uncertified verdict) = AreAllKept v.session v.entries × (verdict ≢ Good) × (p : Parts) × ArePublishable v seams p × IsVerdict p verdict
+HasSurfaceFault v seams Memory = AreAllKept v.session v.entries

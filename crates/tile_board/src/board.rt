@@ -1,0 +1,377 @@
+use crate::answers::{Advance, AdvanceFault, ClaimFault, GatherFault, KeepFault, PublishFault};
+use crate::cursors::{all_ended, command_at, cursor_of};
+use crate::entry::Entry;
+use crate::gathered::Gathered;
+use crate::places::{copies, empty, first_gap, forget, least_claimed, no_results, push_within};
+use crate::ticket::Ticket;
+use certificates::{SeamResult, TileResult, TileSet, TileVerdict, check_tile};
+use mask_revisions::Revisions;
+use raster_model::{Command, Edit, Session};
+use seam_regions::Regions;
+use std::alloc::{AllocError, Global};
+use std::marker::Model;
+use std::sync::Arc;
+use surface_snapshots::Snapshot;
+
+/// The state of a session's work: its history, the present mask, the kept results and the published surfaces.
+#[derive(Drop)]
+pub struct Board {
+    session: Arc<Session>,
+    revisions: Revisions,
+    /// By tile.
+    kept: Vec<Option<TileResult>>,
+    /// How often a tile was claimed at its stamp, by tile.
+    claims: Vec<u32>,
+    /// How many commands were done, by analyst; the first is analyst 1.
+    cursors: Vec<u32>,
+    newest: Option<u32>,
+    entries: Vec<Entry>,
+    snapshots: Vec<Snapshot>,
+}
+
+impl Model for Board {
+    ghost use Rattle.raster_model.specs.Tiles.{tiles_of};
+    ghost use Rattle.std.specs.Arc.{arc_value};
+    ghost use Rattle.std.specs.Prelude.{◌≡◌, map, vec_len};
+    ghost use Rattle.surface_snapshots.specs.Views.{parts_of};
+    ghost use Rattle.tile_board.specs.BoardView.{BoardView};
+    ghost use Rattle.tile_board.specs.States.{IsState, view_of};
+
+    ghost Value = { BoardView };
+
+    ghost view = { λ b. view_of (arc_value b.session) b.entries.items b.kept.items (map parts_of b.snapshots.items) };
+
+    ghost invariant = { λ b. IsState (view_of (arc_value b.session) b.entries.items b.kept.items (map parts_of b.snapshots.items)) b.revisions b.claims.items b.cursors.items b.newest };
+}
+
+impl Board {
+    ghost use Rattle.certificates.specs.declared.verdicts.SeamVerdict.TheVariants.{Good};
+    ghost use Rattle.certificates.specs.Results.{IsGoodTile};
+    ghost use Rattle.raster_model.specs.declared.script.Command.TheVariants.{Change, Show};
+    ghost use Rattle.std.specs.Arc.{arc_value};
+    ghost use Rattle.std.specs.Prelude.{◌≡◌, ◌↔◌, IfErr, IfOk, IsTrue, OnErr, OnOk, Some, map};
+    ghost use Rattle.surface_snapshots.specs.Parts.{IsPublished};
+    ghost use Rattle.surface_snapshots.specs.Views.{parts_of};
+    ghost use Rattle.tile_board.specs.Boards.{IsBoard};
+    ghost use Rattle.surface_snapshots.specs.Verdicts.{IsVerdict};
+    ghost use Rattle.tile_board.specs.Calls.{
+      AddsAlone,
+      ArePublishable,
+      HasClaimFault,
+      HasGatherFault,
+      HasKeepFault,
+      HasPublishFault,
+      IsAdvance,
+      IsClaim,
+      IsFresh,
+      IsGathering,
+      IsKeep,
+      IsNew,
+      IsPublication,
+      MayKeep,
+      MaySettle,
+      mask_now,
+    };
+    ghost use Rattle.tile_board.specs.Histories.{
+      AreAllKept,
+      IsComplete,
+      IsStep,
+      done_by,
+      newest_of,
+      next_command,
+      now_of,
+    };
+    ghost use Rattle.tile_board.specs.States.{HasSurfaceFault, IsAlone};
+
+    /// A board with an empty history. It is refused for want of memory alone.
+    pub fn new(alloc: Global, session: Arc<Session>) -> Result<Board, AllocError>
+        ensures { IfOk result (IsNew (arc_value session)) }
+    {
+        let tiling = session.scene.tiling;
+        let tiles = tiling.tile_count();
+        let first = session.first_mask.try_copy()?;
+        let revisions = Revisions::new(alloc, first, tiling)?;
+        let kept = no_results(alloc, tiles)?;
+        let claims = vec![in alloc; 0; tiles as usize]?;
+        let cursors = vec![in alloc; 0; session.scripts.len()]?;
+        Ok(Board {
+            session,
+            revisions,
+            kept,
+            claims,
+            cursors,
+            newest: None,
+            entries: Vec::new(alloc),
+            snapshots: Vec::new(alloc),
+        })
+    }
+
+    /// Gives a tile that is not kept, one that was claimed least often at its stamp, with its stamp and its window of
+    /// the present mask. The board stays as contracts see it.
+    pub fn claim(&mut self, alloc: Global) -> Result<Ticket, ClaimFault>
+        ensures claimed { IfOk result (IsClaim self.old) }
+        ensures refused { IfErr result (HasClaimFault self.old) }
+        ensures unchanged { self.new ≡ self.old }
+    {
+        let Some(tile) = least_claimed(&self.kept, &self.claims) else {
+            return Err(ClaimFault::NoJob);
+        };
+        let unmasked = self.revisions.window_mask(alloc, tile)?;
+        let session = self.session.clone()?;
+        self.claims[tile as usize] = self.claims[tile as usize].saturating_add(1);
+        Ok(Ticket {
+            session,
+            tile,
+            stamp: self.revisions.stamp(tile),
+            unmasked,
+        })
+    }
+
+    /// Keeps a result for its tile, which adds an entry. A refusal changes nothing.
+    pub fn keep(&mut self, _alloc: Global, solved: TileResult) -> Result<(), KeepFault>
+        ensures kept { OnOk result (IsKeep self.old self.new solved) }
+        ensures refused { IfErr result (HasKeepFault self.old solved) }
+        ensures unchanged { OnErr result (self.new ≡ self.old) }
+    {
+        self.judge(&solved)?;
+        self.entries.reserve(1)?;
+        let entry = Entry::Kept {
+            tile: solved.tile,
+            stamp: solved.stamp,
+        };
+        push_within(&mut self.entries, entry);
+        let tile = solved.tile as usize;
+        self.kept[tile] = Some(solved);
+        Ok(())
+    }
+
+    /// Gathers what the present revision's offsets are found from: copies of the present mask and of every tile's kept
+    /// result.
+    pub fn gather(&self, alloc: Global) -> Result<Gathered, GatherFault>
+        ensures gathered { IfOk result (IsGathering self.now) }
+        ensures refused { IfErr result (HasGatherFault self.now) }
+    {
+        if let Some(tile) = first_gap(&self.kept) {
+            return Err(GatherFault::Unready(tile));
+        }
+        let results = copies(alloc, &self.kept)?;
+        let mask = self.revisions.mask_copy()?;
+        let session = self.session.clone()?;
+        Ok(Gathered {
+            session,
+            revision: self.revisions.count(),
+            mask,
+            tiles: TileSet::new(&self.session.scene.tiling, results),
+        })
+    }
+
+    /// Does an analyst's settle command by publishing the surface that the kept results and `seams` make under the
+    /// present mask. It adds an entry and the surface. A refusal changes nothing.
+    pub fn publish(
+        &mut self,
+        alloc: Global,
+        analyst: u32,
+        seams: SeamResult,
+    ) -> Result<(), PublishFault>
+        ensures published { OnOk result (IsPublication self.old self.new analyst seams) }
+        ensures refused { IfErr result (HasPublishFault self.old analyst seams) }
+        ensures unchanged { OnErr result (self.new ≡ self.old) }
+    {
+        self.may_publish(analyst, &seams)?;
+        let revision = seams.revision;
+        let snapshot = self.surface(alloc, seams)?;
+        self.entries.reserve(1)?;
+        self.snapshots.reserve(1)?;
+        push_within(&mut self.entries, Entry::Published { analyst, revision });
+        push_within(&mut self.snapshots, snapshot);
+        self.newest = Some(revision);
+        self.cursors[analyst as usize - 1] += 1;
+        Ok(())
+    }
+
+    /// Does an analyst's next command. A settle command is done only where the present revision is published; there
+    /// `NotYet` changes nothing, nor does `Ended` or a refusal. Each other answer adds an entry.
+    pub fn advance(&mut self, alloc: Global, analyst: u32) -> Result<Advance, AdvanceFault>
+        ensures advanced { IfOk result (IsAdvance self.old self.new analyst) }
+        ensures unchanged { OnErr result (self.new ≡ self.old) }
+    {
+        match self.next(analyst) {
+            Some(Command::Change(edit)) => self.revise(alloc, analyst, edit),
+            Some(Command::Settle) => self.settle(analyst),
+            Some(Command::Show) => self.show(analyst),
+            None => Ok(Advance::Ended),
+        }
+    }
+
+    /// The history.
+    pub fn entries(&self) -> &[Entry]
+        ensures value { result.now ≡ self.now.entries }
+        ensures board { IsBoard self.now }
+    {
+        &self.entries
+    }
+
+    /// The published surfaces, in the order of their `Published` entries.
+    pub fn snapshots(&self) -> &[Snapshot]
+        ensures value { map parts_of result.now ≡ self.now.surfaces }
+        ensures board { IsBoard self.now }
+    {
+        &self.snapshots
+    }
+
+    /// The session that is worked on.
+    pub fn session(&self) -> &Arc<Session>
+        ensures value { arc_value result.now ≡ self.now.session }
+        ensures board { IsBoard self.now }
+    {
+        &self.session
+    }
+
+    /// The present revision: how often the mask was changed.
+    pub fn revision(&self) -> u32
+        ensures { result ≡ now_of self.now.entries }
+    {
+        self.revisions.count()
+    }
+
+    /// The newest published revision; None exactly where nothing is published.
+    pub fn newest(&self) -> Option<u32>
+        ensures { result ≡ newest_of self.now.entries }
+    {
+        self.newest
+    }
+
+    /// How many commands an analyst has done.
+    pub fn done(&self, analyst: u32) -> u32
+        ensures { result ≡ done_by analyst self.now.entries }
+    {
+        cursor_of(&self.cursors, analyst)
+    }
+
+    /// Whether every script is at its end.
+    pub fn complete(&self) -> bool
+        ensures { IsTrue result ↔ IsComplete self.now.session self.now.entries }
+    {
+        all_ended(&self.session.scripts, &self.cursors)
+    }
+
+    /// The next command of an analyst.
+    fn next(&self, analyst: u32) -> Option<Command>
+        ensures { result ≡ next_command self.now.session self.now.entries analyst }
+    {
+        command_at(&self.session.scripts, analyst, self.done(analyst))
+    }
+
+    /// Whether a result may be kept.
+    fn judge(&self, solved: &TileResult) -> Result<(), KeepFault>
+        ensures good { OnOk result (MayKeep self.now solved.now × IsGoodTile self.now.session.scene (mask_now self.now) solved.now) }
+        ensures refused { IfErr result (HasKeepFault self.now solved.now) }
+    {
+        if solved.tile >= self.session.scene.tiling.tile_count() {
+            return Err(KeepFault::Stranger(solved.tile));
+        }
+        let stamp = self.revisions.stamp(solved.tile);
+        if solved.stamp != stamp {
+            return Err(KeepFault::Stale(stamp));
+        }
+        if self.kept[solved.tile as usize].is_some() {
+            return Err(KeepFault::Double);
+        }
+        match check_tile(&self.session.scene, self.revisions.mask(), solved) {
+            TileVerdict::Good => Ok(()),
+            verdict => Err(KeepFault::Uncertified(verdict)),
+        }
+    }
+
+    /// Whether offsets are for the present revision, which an analyst's settle command may publish.
+    fn may_publish(&self, analyst: u32, seams: &SeamResult) -> Result<(), PublishFault>
+        ensures fresh { OnOk result (IsFresh self.now analyst seams.now) }
+        ensures refused { IfErr result (HasPublishFault self.now analyst seams.now) }
+    {
+        if self.next(analyst) != Some(Command::Settle) {
+            return Err(PublishFault::NotSettle);
+        }
+        let revision = self.revision();
+        if seams.revision != revision {
+            return Err(PublishFault::Stale(revision));
+        }
+        if self.newest == Some(revision) {
+            return Err(PublishFault::Double(revision));
+        }
+        Ok(())
+    }
+
+    /// The surface that the kept results and `seams` make under the present mask.
+    fn surface(&self, alloc: Global, seams: SeamResult) -> Result<Snapshot, PublishFault>
+        ensures parts { IfOk result (λ made. ArePublishable self.now seams (parts_of made)) }
+        ensures ready { OnOk result (AreAllKept self.now.session self.now.entries) }
+        ensures verdict { IfOk result (λ made. IsVerdict (parts_of made) Good) }
+        ensures certified { IfOk result (λ made. IsPublished (parts_of made)) }
+        ensures refused { IfErr result (HasSurfaceFault self.now seams) }
+    {
+        let gathered = self.gather(alloc)?;
+        let regions = Regions::of(alloc, &gathered.session.scene.tiling, &gathered.mask)?;
+        let snapshot = Snapshot::build(
+            alloc,
+            gathered.session,
+            gathered.mask,
+            regions,
+            gathered.tiles,
+            seams,
+        )?;
+        Ok(snapshot)
+    }
+
+    /// Does an analyst's change command.
+    fn revise(&mut self, alloc: Global, analyst: u32, edit: Edit) -> Result<Advance, AdvanceFault>
+        requires { next_command self.old.session self.old.entries analyst ≡ Some (Change edit) }
+        ensures advanced { IfOk result (IsAdvance self.old self.new analyst) }
+        ensures unchanged { OnErr result (self.new ≡ self.old) }
+    {
+        self.entries.reserve(1)?;
+        let tiles = self.revisions.push(alloc, edit)?;
+        empty(&mut self.kept, &tiles);
+        forget(&mut self.claims, &tiles);
+        push_within(&mut self.entries, Entry::Revised { analyst, edit });
+        self.cursors[analyst as usize - 1] += 1;
+        Ok(Advance::Revised(self.revisions.count()))
+    }
+
+    /// Does an analyst's settle command, where the present revision is published.
+    fn settle(&mut self, analyst: u32) -> Result<Advance, AdvanceFault>
+        requires { MaySettle self.old analyst }
+        ensures advanced { IfOk result (IsAdvance self.old self.new analyst) }
+        ensures unchanged { OnErr result (self.new ≡ self.old) }
+    {
+        let revision = self.revision();
+        if self.newest != Some(revision) {
+            return Ok(Advance::NotYet(revision));
+        }
+        self.add(analyst, Entry::Settled { analyst, revision })?;
+        Ok(Advance::Settled(revision))
+    }
+
+    /// Does an analyst's show command.
+    fn show(&mut self, analyst: u32) -> Result<Advance, AdvanceFault>
+        requires { next_command self.old.session self.old.entries analyst ≡ Some Show }
+        ensures advanced { IfOk result (IsAdvance self.old self.new analyst) }
+        ensures unchanged { OnErr result (self.new ≡ self.old) }
+    {
+        let revision = self.newest;
+        self.add(analyst, Entry::Shown { analyst, revision })?;
+        Ok(Advance::Shown(revision))
+    }
+
+    /// Adds an entry of an analyst that changes nothing else.
+    fn add(&mut self, analyst: u32, entry: Entry) -> Result<(), AdvanceFault>
+        requires step { IsStep self.old.session self.old.entries entry }
+        requires alone { IsAlone analyst entry }
+        ensures added { OnOk result (AddsAlone self.old self.new entry) }
+        ensures unchanged { OnErr result (self.new ≡ self.old) }
+    {
+        self.entries.reserve(1)?;
+        push_within(&mut self.entries, entry);
+        self.cursors[analyst as usize - 1] += 1;
+        Ok(())
+    }
+}

@@ -1,0 +1,21 @@
+//! The history of a session and what follows from it: which results of tiles are kept, which surfaces are published,
+//! which command of each analyst comes next. An event is one call, and each call adds one legal entry or changes
+//! nothing.
+#![tactic(auto)]
+
+mod answers;
+mod board;
+mod cursors;
+mod entry;
+mod gathered;
+pub mod laws;
+mod places;
+#[cfg(test)]
+mod tests;
+mod ticket;
+
+pub use crate::answers::{Advance, AdvanceFault, ClaimFault, GatherFault, KeepFault, PublishFault};
+pub use crate::board::Board;
+pub use crate::entry::Entry;
+pub use crate::gathered::Gathered;
+pub use crate::ticket::Ticket;

@@ -1,0 +1,8 @@
+pub mod NumberingLemmas
+pub mod SurfaceLemmas
+pub mod JoinLemmas
+pub mod CollectLemmas
+pub mod CountLemmas
+pub mod HistoryLemmas
+pub mod RefusalLemmas
+pub mod TestLemmas

@@ -1,0 +1,28 @@
+ghost use Rattle.collector_core.specs.Collecting.{WillPublish, CertifyGathered};
+ghost use Rattle.std.specs.Prelude.{◌≡◌, IfOk};
+
+use certificates::SeamResult;
+use offset_network::solve_offsets;
+use seam_regions::Regions;
+use std::alloc::{AllocError, Global};
+use tile_board::Gathered;
+
+/// Offsets of the regions of a gathered mask and the flows that certify them, for the gathered revision. Published with
+/// the gathered results they are never refused as uncertified. It is refused for want of memory alone. (Chen and Zebker
+/// 2002.)
+pub fn collect(alloc: Global, gathered: &Gathered) -> Result<SeamResult, AllocError>
+    ensures revision { IfOk result (λ seams. seams.revision ≡ gathered.now.revision) }
+    ensures good { IfOk result (CertifyGathered gathered.now) }
+    ensures publishable { IfOk result (WillPublish gathered.now) }
+{
+    let scene = &gathered.session.scene;
+    let regions = Regions::of(alloc, &scene.tiling, &gathered.mask)?;
+    solve_offsets(
+        alloc,
+        scene,
+        &gathered.mask,
+        &regions,
+        &gathered.tiles,
+        gathered.revision,
+    )
+}

@@ -1,0 +1,3 @@
+mod AppendLemmas
+mod ItemLemmas
+pub mod CertifiedLemmas

@@ -1,0 +1,23 @@
+use Rattle.std.proofs.Common.{◌++◌}
+use Rattle.std.proofs.lemmas.Result.{err_from_is_err_and}
+use Rattle.std.specs.Prelude.{codes}
+use Rattle.report_text.specs.Text.{field_text, revision_text}
+use Rattle.report_text.proofs.AppendLemmas.{appends_then, appends_part, failed}
+use Rattle.report_text.proofs.entry.append_shown.Goals as goal
+
+pub returns-in_err-append : goal.returns-in_err-append
+returns-in_err-append g c =
+    let p = err_from_is_err_and c.from_residual.result c.from_residual.ensures.1 in
+    rw (p.1, p.2) (appends_part (codes "shown") (field_text c.args.analyst ++ (revision_text c.args.revision)) _ _ _ _ _ _ c.in_err-append.field-0.0 c.in_err-append.ensures)
+
+pub returns-in_err-append_field : goal.returns-in_err-append_field
+returns-in_err-append_field g c =
+    let p = err_from_is_err_and c.from_residual-in_err-append_field.result c.from_residual-in_err-append_field.ensures.1 in
+    rw (p.1, p.2) (appends_then (codes "shown") (field_text c.args.analyst ++ (revision_text c.args.revision)) _ _ _ _ _ _ _ _ _ (failed c.in_err-append_field.field-0.0) c.in_ok-append.ensures
+    (appends_part (field_text c.args.analyst) (revision_text c.args.revision) _ _ _ _ _ _ c.in_err-append_field.field-0.0 c.in_err-append_field.ensures))
+
+pub returns : goal.returns
+returns g c =
+    appends_then (codes "shown") (field_text c.args.analyst ++ (revision_text c.args.revision)) _ _ _ _ _ _ _ _ _ c.append_revision.result c.in_ok-append.ensures
+    (appends_then (field_text c.args.analyst) (revision_text c.args.revision) _ _ _ _ _ _ _ _ _ c.append_revision.result c.in_ok-append_field.ensures
+    c.append_revision.ensures)

@@ -1,0 +1,9 @@
+use Rattle.std.proofs.Common.{map}
+use Rattle.grid_writer.specs.Waiting.{waiting_in}
+use Rattle.surface_snapshots.specs.Views.{parts_of}
+use Rattle.report_text.specs.Text.{item_text}
+use Rattle.report_text.proofs.ItemLemmas.{AreAdded}
+use Rattle.report_text.proofs.report.append_items.Given as goal
+
+abbrev pub invariant-loop-entry : goal.invariant-loop-entry
+invariant-loop-entry g l = AreAdded (item_text l.session.scene.phase.width l.session.scene.phase.height l.tiles) l.entries (map parts_of l.snapshots) l.entry-index l.place (g.K.Sink.held l.fn.sink) (waiting_in l.fn.text) (g.K.Sink.faults l.fn.sink) (g.K.Sink.held l.sink) (waiting_in l.text) (g.K.Sink.faults l.sink)

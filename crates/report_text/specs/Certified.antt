@@ -1,0 +1,70 @@
+-- A report that is certified for a session: its history is legal and complete, and each published surface is certified at the mask of its revision, with its true costs.
+use Rattle.std.specs.Prelude.{◌≡◌, ◌≢◌, ℕ, ◌<◌, ℤ, pos, neg_ℤ, Bool, IsTrue, if◌then◌else◌, List, map, Option, Some, None, slice_get}
+use Rattle.raster_model.specs.declared.session.Session.{Session}
+use Rattle.raster_model.specs.Best.{IsBest}
+use Rattle.raster_model.specs.Cells.{IsCertifiedTile}
+use Rattle.raster_model.specs.Flows.{AreCertifiedSeams}
+use Rattle.raster_model.specs.Raster.{Raster, IsCongruent, seam_cost}
+use Rattle.raster_model.specs.Scene.{raster_of}
+use Rattle.raster_model.specs.Seams.{IsAnchored}
+use Rattle.raster_model.specs.Sums.{Field}
+use Rattle.surface_snapshots.specs.Parts.{tile_costs}
+use Rattle.tile_board.specs.declared.entry.Entry.{Entry}
+use Rattle.tile_board.specs.declared.entry.Entry.TheVariants.{Revised, Kept, Published, Settled, Shown}
+use Rattle.tile_board.specs.Histories.{IsComplete, IsLegal, mask_in}
+use Rattle.report_text.specs.Reports.{ItemOf, ReportOf, SurfaceOf}
+
+-- the value that stands at masked pixels
+abbrev pub no_data : ℤ
+no_data = neg_ℤ (pos 9223372036854775808)
+
+-- the grid shows a surface at open pixels, none of which has the NODATA value, and that value at masked ones
+pub record ShowsSurface (r : Raster) (mask : Field Bool) (values surface : Field ℤ) : Type 0 where
+  pub shown : (x y : ℕ) → x < r.width → y < r.height → values x y ≡ (if mask x y then surface x y else no_data)
+  pub told : (x y : ℕ) → x < r.width → y < r.height → IsTrue (mask x y) → values x y ≢ no_data
+
+-- a congruent, anchored surface, which the faces certify in each tile and the flows at the seams, with its costs
+pub record IsCertifiedSurface (r : Raster) (mask : Field Bool) (k : SurfaceOf) (surface : Field ℤ) : Type 0 where
+  pub shows : ShowsSurface r mask k.values surface
+  pub congruent : IsCongruent r mask surface
+  pub anchored : IsAnchored r mask surface
+  pub tiles : (t : ℕ) → t < r.tile_count → IsCertifiedTile r mask t surface (k.faces t)
+  pub seams : AreCertifiedSeams r mask surface k.flows
+  pub tile_cost : pos k.tile_cost ≡ tile_costs r mask surface
+  pub seam_cost_is : pos k.seam_cost ≡ seam_cost r mask surface
+
+-- what stands behind an entry of a history: behind a publication a certified surface at the mask of its revision, behind another entry none
+abbrev pub IsCertifiedAt : Session → List Entry → ℕ → Option SurfaceOf → Type 0
+IsCertifiedAt s H revision (Some k) = (surface : Field ℤ) × IsCertifiedSurface (raster_of s.scene) (mask_in s H revision) k surface
+IsCertifiedAt s H revision None = ⊥
+
+abbrev pub IsCertifiedBehind : Session → List Entry → Entry → Option SurfaceOf → Type 0
+IsCertifiedBehind s H (Revised analyst edit) behind = behind ≡ None
+IsCertifiedBehind s H (Kept tile stamp) behind = behind ≡ None
+IsCertifiedBehind s H (Published analyst revision) behind = IsCertifiedAt s H revision behind
+IsCertifiedBehind s H (Settled analyst revision) behind = behind ≡ None
+IsCertifiedBehind s H (Shown analyst revision) behind = behind ≡ None
+
+-- the history of a report
+abbrev pub history_of : ReportOf → List Entry
+history_of v = map (λ i. i.entry) v.items
+
+pub record IsCertifiedReport (s : Session) (v : ReportOf) : Type 0 where
+  pub width : v.width ≡ s.scene.phase.width
+  pub height : v.height ≡ s.scene.phase.height
+  pub side : v.side ≡ s.scene.tiling.side
+  pub rule : v.rule ≡ s.scene.rule
+  pub legal : IsLegal s (history_of v)
+  pub complete : IsComplete s (history_of v)
+  pub surfaces : (k : ℕ) (i : ItemOf) → slice_get v.items k ≡ Some i → IsCertifiedBehind s (history_of v) i.entry i.surface
+
+-- each published surface is the best at the mask of its revision, and its grid shows it
+abbrev pub IsBestAt : Session → List Entry → ℕ → Option SurfaceOf → Type 0
+IsBestAt s H revision (Some k) = (surface : Field ℤ) × ShowsSurface (raster_of s.scene) (mask_in s H revision) k.values surface × IsBest (raster_of s.scene) (mask_in s H revision) surface
+IsBestAt s H revision None = ⊥
+
+abbrev pub SurfacesAreBest : Session → ReportOf → Type 0
+SurfacesAreBest s v = (k : ℕ) (i : ItemOf) (analyst revision : ℕ) → slice_get v.items k ≡ Some i → i.entry ≡ Published analyst revision → IsBestAt s (history_of v) revision i.surface
+
+abbrev pub CertifiedReportsAreBest : Type 0
+CertifiedReportsAreBest = (s : Session) (v : ReportOf) → IsCertifiedReport s v → SurfacesAreBest s v

@@ -1,0 +1,4 @@
+pub mod Reports
+pub mod Text
+pub mod Certified
+pub mod Appending

@@ -1,0 +1,60 @@
+-- A report: the whole history of a session, and each published surface with its costs and certificates.
+use Rattle.std.specs.Prelude.{ℕ, ℤ, Bool, true, false, if◌then◌else◌, List, [], ◌∷◌, drop, Option, Some, None, unsigned_abs}
+use Rattle.raster_model.specs.declared.session.Session.{Session}
+use Rattle.raster_model.specs.declared.weights.RuleKind.{RuleKind}
+use Rattle.raster_model.specs.Raster.{seam_cost}
+use Rattle.raster_model.specs.Sums.{Field, one_if}
+use Rattle.surface_snapshots.specs.Parts.{Parts, faces_in, flows_in, open_in, raster_in, surface_in, tile_costs}
+use Rattle.grid_writer.specs.Grid.{shown_in}
+use Rattle.tile_board.specs.declared.entry.Entry.{Entry}
+use Rattle.tile_board.specs.declared.entry.Entry.TheVariants.{Revised, Kept, Published, Settled, Shown}
+
+-- a surface as a report gives it: its two costs, the values of its grid, the faces of each tile, and the flows
+pub record SurfaceOf : Type 0 where
+  pub tile_cost : ℕ
+  pub seam_cost : ℕ
+  pub values : Field ℤ
+  pub faces : ℕ → List ℤ
+  pub flows : List ℤ
+
+-- an entry, and the surface behind it, if any
+pub record ItemOf : Type 0 where
+  pub entry : Entry
+  pub surface : Option SurfaceOf
+
+pub record ReportOf : Type 0 where
+  pub width : ℕ
+  pub height : ℕ
+  pub side : ℕ
+  pub rule : RuleKind
+  pub items : List ItemOf
+
+-- the surface of a snapshot's parts
+abbrev pub surface_of : Parts → SurfaceOf
+surface_of p = record { tile_cost = unsigned_abs (tile_costs (raster_in p) (open_in p) (surface_in p)); seam_cost = unsigned_abs (seam_cost (raster_in p) (open_in p) (surface_in p)); values = shown_in p; faces = faces_in p; flows = flows_in p }
+
+-- whether an entry is a publication
+abbrev pub is_published : Entry → Bool
+is_published (Revised analyst edit) = false
+is_published (Kept tile stamp) = false
+is_published (Published analyst revision) = true
+is_published (Settled analyst revision) = false
+is_published (Shown analyst revision) = false
+
+-- the first of some surfaces, where there is one
+abbrev pub first_of : List Parts → Option SurfaceOf
+first_of [] = None
+first_of (p ∷ ps) = Some (surface_of p)
+
+-- an entry with the surface behind it, which only a publication has
+abbrev pub item_of : Entry → Option SurfaceOf → ItemOf
+item_of e surface = record { entry = e; surface = if is_published e then surface else None }
+
+-- the entries of a history, and behind each publication the next of the published surfaces
+unfoldable pub items_of : List Entry → List Parts → List ItemOf
+items_of [] ps = []
+items_of (e ∷ es) ps = item_of e (first_of ps) ∷ items_of es (drop (one_if (is_published e)) ps)
+
+-- the report of a session with this history and these published surfaces
+abbrev pub report_of : Session → List Entry → List Parts → ReportOf
+report_of s entries surfaces = record { width = s.scene.phase.width; height = s.scene.phase.height; side = s.scene.tiling.side; rule = s.scene.rule; items = items_of entries surfaces }

@@ -1,0 +1,10 @@
+//! Laws of the definitions. The functions do nothing; each contract is the law.
+
+ghost use Rattle.report_text.specs.Certified.{CertifiedReportsAreBest};
+
+/// Each published surface of a certified report is the best at the mask of its revision: congruent, least in each
+/// tile among all congruent surfaces, and at the seams under all offsets of the regions. (Costantini 1998; Chen and
+/// Zebker 2002.)
+pub fn certified_reports_are_best()
+    ensures { CertifiedReportsAreBest }
+{}

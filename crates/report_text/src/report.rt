@@ -1,0 +1,212 @@
+ghost use Rattle.grid_writer.specs.Waiting.{waiting_in};
+ghost use Rattle.insar_ports.specs.Bytes.{GainsProperPrefix, HasRisen, with_end};
+ghost use Rattle.raster_model.specs.Sums.{one_if};
+ghost use Rattle.raster_model.specs.Tiles.{tiles_of};
+ghost use Rattle.report_text.specs.Appending.{Appends, AreOver, surface_at};
+ghost use Rattle.report_text.specs.Certified.{IsCertifiedReport};
+ghost use Rattle.report_text.specs.Reports.{is_published, item_of, items_of, report_of};
+ghost use Rattle.report_text.specs.Text.{behind_text, head_text, item_text, report_text, rule_text, rule_word, size_text, tile_text, title_text};
+ghost use Rattle.std.specs.Prelude.{◌≡◌, ◌≤◌, [], IfSome, OnErr, OnOk, flat_map, length, map};
+ghost use Rattle.surface_snapshots.specs.Views.{parts_of};
+ghost use Rattle.tile_board.specs.Boards.{IsBoard};
+ghost use Rattle.tile_board.specs.Histories.{IsComplete};
+
+use crate::entry::append_entry;
+use crate::fields::{append, append_field, end_line};
+use crate::surface::append_surface;
+use grid_writer::TextBuffer;
+use insar_ports::{Sink, WriteFault};
+use raster_model::{RuleKind, Session};
+use surface_snapshots::Snapshot;
+use tile_board::{Board, Entry};
+
+/// Writes the report of a board: the head, then the whole history in order, behind each publication the published
+/// surface with its costs, faces and flows, and the line `end`. It takes no memory. After a fault the sink has a
+/// part of the text.
+pub fn write_report<K: Sink>(board: &Board, sink: &mut K) -> Result<(), WriteFault>
+    ensures written { OnOk result (K.held sink.new ≡ with_end (K.held sink.old) (report_text (report_of board.now.session board.now.entries board.now.surfaces))) }
+    ensures cut { OnErr result (GainsProperPrefix (K.held sink.old) (report_text (report_of board.now.session board.now.entries board.now.surfaces)) (K.held sink.new)) }
+    ensures fault { OnErr result (HasRisen (K.faults sink.old) (K.faults sink.new)) }
+    ensures grows { K.faults sink.old ≤ K.faults sink.new }
+    ensures certified { IsComplete board.now.session board.now.entries → IsCertifiedReport board.now.session (report_of board.now.session board.now.entries board.now.surfaces) }
+{
+    let mut text = TextBuffer::new();
+    append_board(&mut text, sink, board)?;
+    text.flush(sink)
+}
+
+fn append_board<K: Sink>(
+    text: &mut TextBuffer,
+    sink: &mut K,
+    board: &Board,
+) -> Result<(), WriteFault>
+    ensures text { Appends (K.held sink.old) (waiting_in text.old) (K.faults sink.old) (K.held sink.new) (waiting_in text.new) (K.faults sink.new) (report_text (report_of board.now.session board.now.entries board.now.surfaces)) result }
+    ensures board { IsBoard board.now }
+{
+    append_report(
+        text,
+        sink,
+        board.session(),
+        board.entries(),
+        board.snapshots(),
+    )
+}
+
+/// Adds the report of a session with a history and the snapshots of its publications.
+fn append_report<K: Sink>(
+    text: &mut TextBuffer,
+    sink: &mut K,
+    session: &Session,
+    entries: &[Entry],
+    snapshots: &[Snapshot],
+) -> Result<(), WriteFault>
+    requires { AreOver session.now snapshots.now }
+    ensures { Appends (K.held sink.old) (waiting_in text.old) (K.faults sink.old) (K.held sink.new) (waiting_in text.new) (K.faults sink.new) (report_text (report_of session.now entries.now (map parts_of snapshots.now))) result }
+{
+    append_head(text, sink, session)?;
+    let tiles = session.scene.tiling.tile_count();
+    append_items(text, sink, tiles, session, entries, snapshots)?;
+    append(text, sink, b"end\n")
+}
+
+fn append_head<K: Sink>(
+    text: &mut TextBuffer,
+    sink: &mut K,
+    session: &Session,
+) -> Result<(), WriteFault>
+    ensures { Appends (K.held sink.old) (waiting_in text.old) (K.faults sink.old) (K.held sink.new) (waiting_in text.new) (K.faults sink.new) (head_text (report_of session.now [] [])) result }
+{
+    append(text, sink, b"insar-report 1\n")?;
+    append_size(
+        text,
+        sink,
+        session.scene.phase.width,
+        session.scene.phase.height,
+    )?;
+    append_side(text, sink, session.scene.tiling.side)?;
+    append_rule(text, sink, session.scene.rule)
+}
+
+fn append_size<K: Sink>(
+    text: &mut TextBuffer,
+    sink: &mut K,
+    width: u32,
+    height: u32,
+) -> Result<(), WriteFault>
+    ensures { Appends (K.held sink.old) (waiting_in text.old) (K.faults sink.old) (K.held sink.new) (waiting_in text.new) (K.faults sink.new) (size_text width height) result }
+{
+    append(text, sink, b"size")?;
+    append_field(text, sink, width)?;
+    append_field(text, sink, height)?;
+    end_line(text, sink)
+}
+
+fn append_side<K: Sink>(text: &mut TextBuffer, sink: &mut K, side: u32) -> Result<(), WriteFault>
+    ensures { Appends (K.held sink.old) (waiting_in text.old) (K.faults sink.old) (K.held sink.new) (waiting_in text.new) (K.faults sink.new) (tile_text side) result }
+{
+    append(text, sink, b"tile")?;
+    append_field(text, sink, side)?;
+    end_line(text, sink)
+}
+
+fn append_rule<K: Sink>(
+    text: &mut TextBuffer,
+    sink: &mut K,
+    rule: RuleKind,
+) -> Result<(), WriteFault>
+    ensures { Appends (K.held sink.old) (waiting_in text.old) (K.faults sink.old) (K.held sink.new) (waiting_in text.new) (K.faults sink.new) (rule_text rule) result }
+{
+    append(text, sink, b"rule ")?;
+    append(text, sink, rule_name(rule))?;
+    end_line(text, sink)
+}
+
+fn rule_name(rule: RuleKind) -> &'static [u8]
+    ensures name { result.now ≡ rule_word rule }
+    ensures short { length result.now ≤ 128 }
+{
+    match rule {
+        RuleKind::Least => b"least",
+        RuleKind::Mean => b"mean",
+        RuleKind::Product => b"product",
+    }
+}
+
+/// Whether a surface stands behind an entry.
+fn is_publication(entry: Entry) -> bool
+    ensures { result ≡ is_published entry }
+{
+    match entry {
+        Entry::Published { .. } => true,
+        Entry::Revised { .. } | Entry::Kept { .. } | Entry::Settled { .. } | Entry::Shown { .. } =>
+            false,
+    }
+}
+
+/// How many surfaces stand behind an entry.
+fn surfaces_behind(entry: Entry) -> usize
+    ensures { result ≡ one_if (is_published entry) }
+{
+    if is_publication(entry) {
+        return 1;
+    }
+    0
+}
+
+/// Adds the items of a session of `tiles` tiles: each entry, and behind each publication the next of the snapshots.
+fn append_items<K: Sink>(
+    text: &mut TextBuffer,
+    sink: &mut K,
+    tiles: u32,
+    session: &Session,
+    entries: &[Entry],
+    snapshots: &[Snapshot],
+) -> Result<(), WriteFault>
+    requires tiles { tiles ≡ tiles_of session.now.scene.tiling }
+    requires sessions { AreOver session.now snapshots.now }
+    ensures { Appends (K.held sink.old) (waiting_in text.old) (K.faults sink.old) (K.held sink.new) (waiting_in text.new) (K.faults sink.new) (flat_map (item_text session.now.scene.phase.width session.now.scene.phase.height tiles) (items_of entries.now (map parts_of snapshots.now))) result }
+{
+    let mut place = 0;
+    for entry in entries {
+        append_item(text, sink, tiles, session, *entry, snapshots.get(place))?;
+        place += surfaces_behind(*entry);
+    }
+    Ok(())
+}
+
+/// Adds an entry's line, and behind a publication the lines of the next snapshot, if any.
+fn append_item<K: Sink>(
+    text: &mut TextBuffer,
+    sink: &mut K,
+    tiles: u32,
+    session: &Session,
+    entry: Entry,
+    next: Option<&Snapshot>,
+) -> Result<(), WriteFault>
+    requires tiles { tiles ≡ tiles_of session.now.scene.tiling }
+    requires over { IfSome next (λ snapshot. (parts_of snapshot.now).session ≡ session.now) }
+    ensures { Appends (K.held sink.old) (waiting_in text.old) (K.faults sink.old) (K.held sink.new) (waiting_in text.new) (K.faults sink.new) (item_text session.now.scene.phase.width session.now.scene.phase.height tiles (item_of entry (surface_at next.entry))) result }
+{
+    append_entry(text, sink, entry)?;
+    end_line(text, sink)?;
+    append_behind(text, sink, tiles, session, entry, next)
+}
+
+/// Adds the lines of the next snapshot behind a publication, and nothing behind another entry.
+fn append_behind<K: Sink>(
+    text: &mut TextBuffer,
+    sink: &mut K,
+    tiles: u32,
+    session: &Session,
+    entry: Entry,
+    next: Option<&Snapshot>,
+) -> Result<(), WriteFault>
+    requires tiles { tiles ≡ tiles_of session.now.scene.tiling }
+    requires over { IfSome next (λ snapshot. (parts_of snapshot.now).session ≡ session.now) }
+    ensures { Appends (K.held sink.old) (waiting_in text.old) (K.faults sink.old) (K.held sink.new) (waiting_in text.new) (K.faults sink.new) (behind_text session.now.scene.phase.width session.now.scene.phase.height tiles (item_of entry (surface_at next.entry)).surface) result }
+{
+    match next {
+        Some(snapshot) if is_publication(entry) => append_surface(text, sink, tiles, snapshot),
+        _ => Ok(()),
+    }
+}

@@ -1,7 +1,4 @@
 pub mod WordLemmas
-pub mod InputLemmas
-pub mod MaskLemmas
-pub mod JoinLemmas
-pub mod TileLemmas
-pub mod SurfaceLemmas
+pub mod CommandLemmas
+pub mod SessionLemmas
 pub mod TopLemmas

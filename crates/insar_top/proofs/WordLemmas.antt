@@ -1,5 +1,5 @@
 -- The words of the command.
-use Rattle.std.proofs.Common.{◌≡◌, ℕ, List, [], ◌∷◌, ◌++◌, length, map, codes, get_or, refl, sym, ap, subst, ◌∙◌, ◌≤◌, ◌<◌, arith, inl, inr}
+use Rattle.std.proofs.Common.{◌≡◌, ℕ, Bool, List, [], ◌∷◌, ◌++◌, length, map, codes, get_or, refl, sym, ap, subst, ◌∙◌, ◌≤◌, ◌<◌, arith, inl, inr}
 use Rattle.std.specs.Prelude.{decimal, IfNone, IfSome, Option, Some, None}
 use Rattle.std.specs.Borrow.{Bor}
 use Rattle.raster_model.specs.declared.weights.RuleKind.{RuleKind}

@@ -1,25 +1,38 @@
--- What is written for an input.
-use Rattle.std.specs.Prelude.{◌≡◌, ℕ, ℤ, pos, neg_ℤ, Bool, if◌then◌else◌, List}
-use Rattle.grid_writer.specs.Grid.{grid_text}
+-- What is written for a session: the headline.
+use Rattle.std.specs.Prelude.{◌≡◌, ℕ, List, []}
+use Rattle.raster_model.specs.declared.session.Session.{Session}
 use Rattle.raster_model.specs.declared.weights.RuleKind.{RuleKind}
-use Rattle.raster_model.specs.Best.{IsBest}
-use Rattle.raster_model.specs.Seams.{IsAnchored}
-use Rattle.raster_model.specs.Sums.{Field}
-use Rattle.insar_top.specs.Input.{InputOf, IsInput, open_of, raster_of_input}
+use Rattle.session_script.specs.declared.session_use.SessionUse.TheVariants.{Alone}
+use Rattle.session_script.specs.Sessions.{SessionOf, IsSessionIn, session_of}
+use Rattle.report_text.specs.Certified.{IsCertifiedReport, SurfacesAreBest, history_of}
+use Rattle.report_text.specs.Reports.{ReportOf}
+use Rattle.report_text.specs.Text.{report_text}
+use Rattle.tile_board.specs.Runs.{PublishedRise, ShownAreNewest}
 
--- a surface over an input: the best one by the rule and the tiles' side, and anchored
-pub record IsUnwrapped (rule : RuleKind) (side : ℕ) (input : InputOf) (S : Field ℤ) : Type 0 where
-  pub best : IsBest (raster_of_input rule side input) (open_of input) S
-  pub anchored : IsAnchored (raster_of_input rule side input) (open_of input) S
+-- the bytes are the text of a session that stands alone; they are none's
+abbrev pub IsInput : ℕ → List ℕ → SessionOf → Type 0
+IsInput side bytes s = IsSessionIn Alone side bytes s []
 
--- what a grid shows: the surface at open pixels, and the NODATA value at masked ones
-abbrev pub shown : Field Bool → Field ℤ → Field ℤ
-shown mask S x y = if mask x y then S x y else neg_ℤ (pos 9223372036854775808)
+abbrev pub IsNoInput : ℕ → List ℕ → Type 0
+IsNoInput side bytes = (s : SessionOf) → IsInput side bytes s → ⊥
 
--- the text is the grid of a surface over the input that the bytes spell
+-- they are the text of this session, by a rule of weights and a side of tiles
+pub record IsGiven (rule : RuleKind) (side : ℕ) (bytes : List ℕ) (s : Session) : Type 0 where
+  pub spelled : IsInput side bytes (session_of s)
+  pub rule_is : s.scene.rule ≡ rule
+  pub side_is : s.scene.tiling.side ≡ side
+
+-- the report of a session: its history is legal and complete; each surface that it publishes is the best at the mask of its revision, and certified; each time a surface is shown it is the newest
+pub record IsReportOf (s : Session) (v : ReportOf) : Type 0 where
+  pub certified : IsCertifiedReport s v
+  pub best : SurfacesAreBest s v
+  pub newest : ShownAreNewest (history_of v)
+  pub rising : PublishedRise (history_of v)
+
+-- the text is that of a report of the session that the bytes spell
 pub record IsAnswer (rule : RuleKind) (side : ℕ) (bytes text : List ℕ) : Type 0 where
-  pub input : InputOf
-  pub surface : Field ℤ
-  pub spelled : IsInput bytes input
-  pub unwrapped : IsUnwrapped rule side input surface
-  pub written : text ≡ grid_text input.phase.width input.phase.height (shown (open_of input) surface)
+  pub session : Session
+  pub report : ReportOf
+  pub given : IsGiven rule side bytes session
+  pub reported : IsReportOf session report
+  pub written : text ≡ report_text report

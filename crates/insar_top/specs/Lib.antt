@@ -1,10 +1,6 @@
 pub mod Words
-pub mod Input
-pub mod Breaks
 pub mod Answers
 pub mod Causes
 pub mod Outcomes
 pub mod Refusals
 pub mod Lines
-pub mod Surfaces
-pub mod Reaching

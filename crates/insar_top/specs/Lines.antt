@@ -38,7 +38,6 @@ fault_text (faults.SettleLimit n) = labelled (codes "13 settles line ") n
 fault_text faults.NoEnd = codes "14 no end"
 fault_text (faults.AfterEnd p) = labelled (codes "15 after end byte ") p
 fault_text (faults.EditLimit n) = labelled (codes "16 edits line ") n
-fault_text faults.Unbuilt = codes "17 unbuilt"
 
 abbrev pub line_of : Refusal → List ℕ
 line_of refusals.Words = codes "words refused\n"

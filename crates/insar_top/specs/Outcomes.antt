@@ -5,7 +5,7 @@ use Rattle.insar_ports.specs.Bytes.{with_end, HasRisen, GainsProperPrefix}
 use Rattle.insar_top.specs.declared.refusal.Refusal.{Refusal}
 use Rattle.insar_top.specs.declared.refusal.Refusal.TheVariants as refusals
 use Rattle.insar_top.specs.Answers.{IsAnswer}
-use Rattle.insar_top.specs.Breaks.{HasFault}
+use Rattle.insar_top.specs.Causes.{HasInputFault}
 use Rattle.insar_top.specs.Words.{IsCommand, IsNoCommand}
 use Rattle.raster_model.specs.declared.weights.RuleKind.{RuleKind}
 use Rattle.insar_top.specs.Refusals.{status_of}
@@ -23,11 +23,11 @@ pub record Run : Type 0 where
   pub sink_before : ℕ
   pub sink_after : ℕ
 
--- where the bytes are told, they are an input, nothing of it is left, and the sink gained exactly the text for it
+-- where the bytes are told, they are a session, nothing of it is left, and the sink gained exactly the text of its report
 abbrev pub IsDone : RuleKind → ℕ → Run → Type 0
 IsDone rule side r = IfSome r.told (λ bytes. (text : List ℕ) × (IsAnswer rule side bytes text × ((r.left ≡ Some []) × (r.held_now ≡ with_end r.held text))))
 
--- where the bytes are told, they are an input, and the sink gained a part of the text for it and not the whole
+-- where the bytes are told, they are a session, and the sink gained a part of the text of its report and not the whole
 abbrev pub IsCut : RuleKind → ℕ → Run → Type 0
 IsCut rule side r = IfSome r.told (λ bytes. (text : List ℕ) × (IsAnswer rule side bytes text × GainsProperPrefix r.held text r.held_now))
 
@@ -48,7 +48,7 @@ ByCommand words P = (rule : RuleKind) × (side : ℕ) × IsCommand words rule si
 -- a refusal of a run by a rule and a side has its cause
 abbrev pub HasRunCause : RuleKind → ℕ → Run → Refusal → Type 0
 HasRunCause rule side r refusals.Words = ⊥
-HasRunCause rule side r (refusals.Input fault) = IfSome r.told (λ bytes. HasFault bytes fault) × (r.held_now ≡ r.held)
+HasRunCause rule side r (refusals.Input fault) = IfSome r.told (λ bytes. HasInputFault side bytes fault) × (r.held_now ≡ r.held)
 HasRunCause rule side r refusals.Memory = r.held_now ≡ r.held
 HasRunCause rule side r refusals.ReadFault = SourceFailed r × (r.held_now ≡ r.held)
 HasRunCause rule side r refusals.WriteFault = SinkFailed r × IsCut rule side r

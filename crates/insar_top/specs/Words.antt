@@ -43,7 +43,7 @@ pub record IsCommand (words : List (Bor (List ℕ))) (rule : RuleKind) (side : �
 abbrev pub IsNoCommand : List (Bor (List ℕ)) → Type 0
 IsNoCommand words = (rule : RuleKind) (side : ℕ) → IsCommand words rule side → ⊥
 
--- an option that was read, as words, and whether its value is one that it may have: words of helpers, which no clause of the top call cites
+-- an option and its value as words
 abbrev pub setting_words : Setting → List (List ℕ)
 setting_words (settings.Rule rule) = rule_option rule
 setting_words (settings.Side side) = side_option side

@@ -95,7 +95,6 @@ fn put_fault<D: Sink>(diag: &mut D, fault: InputFault) -> Result<(), WriteFault>
         InputFault::NoEnd => put_all(diag, b"14 no end"),
         InputFault::AfterEnd(place) => put_number(diag, b"15 after end byte ", place),
         InputFault::EditLimit(line) => put_number(diag, b"16 edits line ", u64::from(line)),
-        InputFault::Unbuilt => put_all(diag, b"17 unbuilt"),
     }
 }
 

@@ -1,13 +1,10 @@
-//! The whole program as one call: words and bytes in, a grid or a refusal out.
+//! The whole program as one call: words and bytes in, a report or a refusal out.
 #![tactic(auto)]
 
+mod board;
 mod diag;
-mod input;
-mod planes;
 mod refusal;
-mod rules;
-mod surface;
-mod tiles;
+mod session;
 mod top;
 mod words;
 

@@ -1,9 +1,10 @@
 ghost use Rattle.std.specs.Prelude.{◌≡◌};
 ghost use Rattle.insar_top.specs.declared.refusal.Refusal.TheVariants as refusals;
-ghost use Rattle.insar_top.specs.Refusals.{refusal_of_feed, status_of};
+ghost use Rattle.insar_top.specs.Refusals.{refusal_of, status_of};
 
-use insar_ports::{FeedFault, WriteFault};
+use insar_ports::WriteFault;
 use pgm_planes::InputFault;
+use session_script::SessionFault;
 use std::alloc::AllocError;
 
 /// Why a command was not done.
@@ -52,13 +53,14 @@ impl From<WriteFault> for Refusal {
     }
 }
 
-impl From<FeedFault> for Refusal {
-    ghost from_gives = { λ fault e. e ≡ refusal_of_feed fault };
+impl From<SessionFault> for Refusal {
+    ghost from_gives = { λ fault e. e ≡ refusal_of fault };
 
-    fn from(fault: FeedFault) -> Refusal {
+    fn from(fault: SessionFault) -> Refusal {
         match fault {
-            FeedFault::ReadFault => Refusal::ReadFault,
-            FeedFault::TooLong => Refusal::Input(InputFault::TooLong),
+            SessionFault::Input(fault) => Refusal::Input(fault),
+            SessionFault::ReadFault => Refusal::ReadFault,
+            SessionFault::Memory => Refusal::Memory,
         }
     }
 }

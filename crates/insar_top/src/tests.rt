@@ -61,67 +61,114 @@ fn plane(rt: &HostRuntime, size: (usize, usize), phases: &[u16]) -> Result<Vec<u
 
 const FRAME: &str = "xllcorner 0\nyllcorner 0\ncellsize 1\nNODATA_value -9223372036854775808\n";
 
-/// Worked lines and a square; the values were computed by hand.
+/// The report of a session without scripts whose raster is one tile, up to the rows of its surface.
+fn front(
+    rt: &HostRuntime,
+    size: (usize, usize),
+    side: &str,
+    rule: &str,
+    cost: u32,
+    rows: &str,
+) -> Result<String, Fail> {
+    let (width, height) = size;
+    let head = format!(in rt.alloc();
+        "insar-report 1\nsize {width} {height}\ntile {side}\nrule {rule}\n"
+    )?;
+    let events = format!(in rt.alloc(); "kept 0 0\npublished 1 0\ncosts {cost} 0\n")?;
+    Ok(format!(in rt.alloc(); "{head}{events}ncols {width}\nnrows {height}\n{FRAME}{rows}\n")?)
+}
+
+/// Worked lines and a square; the values were computed by hand. A line has no cell and so no face.
 #[test]
 fn planes_are_unwrapped(rt: HostRuntime) -> Result<(), Fail> {
-    let cases: [((usize, usize), &[u16], &str); 5] = [
-        ((4, 1), &[0, 20000, 40000, 60000], "0 20000 40000 60000"),
-        ((2, 1), &[50000, 10000], "50000 75536"),
-        ((2, 1), &[0, 32768], "0 -32768"),
-        ((1, 1), &[65535], "65535"),
-        ((2, 2), &[0, 20000, 40000, 60000], "0 20000\n-25536 -5536"),
+    let cases: [((usize, usize), &[u16], &str, &str); 6] = [
+        (
+            (4, 1),
+            &[0, 20000, 40000, 60000],
+            "0 20000 40000 60000",
+            "faces 0\nflows\nshown 1 0\nend\n",
+        ),
+        ((2, 1), &[0, 0], "0 0", "faces 0\nflows\nshown 1 0\nend\n"),
+        (
+            (2, 1),
+            &[50000, 10000],
+            "50000 75536",
+            "faces 0\nflows\nshown 1 0\nend\n",
+        ),
+        (
+            (2, 1),
+            &[0, 32768],
+            "0 -32768",
+            "faces 0\nflows\nshown 1 0\nend\n",
+        ),
+        (
+            (1, 1),
+            &[65535],
+            "65535",
+            "faces 0\nflows\nshown 1 0\nend\n",
+        ),
+        (
+            (2, 2),
+            &[0, 20000, 40000, 60000],
+            "0 20000\n-25536 -5536",
+            "\nflows\nshown 1 0\nend\n",
+        ),
     ];
-    for (size, phases, rows) in cases {
+    for (size, phases, rows, end) in cases {
         let done = outcome_of(&rt, &plane(&rt, size, phases)?, &[], &[], &[])?;
-        let (width, height) = size;
-        let text = format!(in rt.alloc(); "ncols {width}\nnrows {height}\n{FRAME}{rows}\n")?;
+        let text = front(&rt, size, "64", "least", 0, rows)?;
         assert_eq!(rt; done.status, 0);
-        assert_eq!(rt; done.text.as_slice(), text.as_bytes());
+        assert!(rt; done.text.starts_with(text.as_bytes()) && done.text.ends_with(end.as_bytes()));
+        assert!(rt; size.1 > 1 || done.text.len() == text.len() + end.len());
         assert_eq!(rt; done.line.len(), 0);
     }
     Ok(())
 }
 
 /// A full turn whose edges weigh 5 (top), 5 (right), 3 (bottom) and 3 (left) by the rule least, under masks. The first
-/// has two least surfaces, and the others one each, by hand.
+/// has two least surfaces, and the others one each, by hand. The face of the first is 3: times the residue 1 it is the cost.
 #[test]
 fn turns_are_cut_where_they_weigh_least(rt: HostRuntime) -> Result<(), Fail> {
     let turn = plane(&rt, (2, 2), &[0, 16384, 49152, 32768])?;
-    let cases: [(&[u8], &str, &str); 5] = [
-        (b"", "0 16384\n-16384 32768", "0 16384\n49152 32768"),
+    let cases: [(&[u8], u32, &str, &str); 4] = [
+        (
+            b"",
+            3,
+            "0 16384\n-16384 32768\nfaces 0 3",
+            "0 16384\n49152 32768\nfaces 0 3",
+        ),
         (
             b"P2 2 2 1 0 1 1 1",
-            "-9223372036854775808 16384\n49152 32768",
+            0,
+            "-9223372036854775808 16384\n49152 32768\nfaces 0 0",
             "",
         ),
         (
             b"P5\n2 2\n1\n\0\0\0\0",
-            "-9223372036854775808 -9223372036854775808\n-9223372036854775808 -9223372036854775808",
+            0,
+            "-9223372036854775808 -9223372036854775808\n-9223372036854775808 -9223372036854775808\nfaces 0 0",
             "",
         ),
         (
             b"P2 2 2 300 1 0 300 7\n",
-            "0 -9223372036854775808\n-16384 -32768",
-            "",
-        ),
-        (
-            b"P2 2 2 2 0 0 0 2",
-            "-9223372036854775808 -9223372036854775808\n-9223372036854775808 32768",
+            0,
+            "0 -9223372036854775808\n-16384 -32768\nfaces 0 0",
             "",
         ),
     ];
-    for (mask, rows, others) in cases {
+    for (mask, cost, rows, others) in cases {
         let mut bytes = Vec::new(rt.alloc());
         bytes.extend_from_slice(&turn)?;
         bytes.extend_from_slice(b"P2 2 2 9 5 5 3 9 ")?;
         bytes.extend_from_slice(mask)?;
         let done = outcome_of(&rt, &bytes, &[], &[], &[])?;
-        let text = format!(in rt.alloc(); "ncols 2\nnrows 2\n{FRAME}{rows}\n")?;
-        let other = format!(in rt.alloc(); "ncols 2\nnrows 2\n{FRAME}{others}\n")?;
+        let text = front(&rt, (2, 2), "64", "least", cost, rows)?;
+        let other = front(&rt, (2, 2), "64", "least", cost, others)?;
         assert_eq!(rt; done.status, 0);
         assert!(rt;
-            done.text.as_slice() == text.as_bytes() || done.text.as_slice() == other.as_bytes()
+            done.text.starts_with(text.as_bytes()) || done.text.starts_with(other.as_bytes())
         );
+        assert!(rt; done.text.ends_with(b"\nflows\nshown 1 0\nend\n"));
     }
     Ok(())
 }
@@ -133,19 +180,22 @@ fn turns_are_cut_where_they_weigh_least(rt: HostRuntime) -> Result<(), Fail> {
 fn words_name_the_rule(rt: HostRuntime) -> Result<(), Fail> {
     let mut bytes = plane(&rt, (2, 2), &[0, 16384, 49152, 32768])?;
     bytes.extend_from_slice(b"P2 2 2 9 2 9 8 4")?;
-    for (options, top) in [
-        ([].as_slice(), true),
-        (&["--rule", "least"], true),
-        (&["--rule", "mean"], true),
-        (&["--rule", "product"], false),
-        (&["--rule", "product", "--tile", "2"], false),
-        (&["--tile", "128", "--rule", "product"], false),
+    for (options, side, rule, cost) in [
+        ([].as_slice(), "64", "least", 2),
+        (&["--rule", "least"], "64", "least", 2),
+        (&["--rule", "mean"], "64", "mean", 5),
+        (&["--rule", "product"], "64", "product", 1),
+        (&["--rule", "product", "--tile", "2"], "2", "product", 1),
+        (&["--tile", "128", "--rule", "product"], "128", "product", 1),
     ] {
         let done = unwrapped_by(&rt, options, &bytes)?;
+        let left = front(&rt, (2, 2), side, rule, cost, "0 16384\n49152 32768")?;
+        let above = front(&rt, (2, 2), side, rule, cost, "0 -49152\n-16384 -32768")?;
         assert_eq!(rt; done.status, 0);
-        let left = done.text.ends_with(b"\n0 16384\n49152 32768\n");
-        let above = done.text.ends_with(b"\n0 -49152\n-16384 -32768\n");
-        assert!(rt; left || (top && above));
+        assert!(rt;
+            done.text.starts_with(left.as_bytes())
+                || (cost > 1 && done.text.starts_with(above.as_bytes()))
+        );
     }
     Ok(())
 }
@@ -159,62 +209,232 @@ fn tiles_are_joined(rt: HostRuntime) -> Result<(), Fail> {
         (
             "2",
             b"P2 4 1 65535 0 40000 14464 54464",
-            "ncols 4\nnrows 1\n",
-            "0 -25536 -51072 -76608\n",
+            "insar-report 1\nsize 4 1\ntile 2\nrule least\nkept ",
+            "0 -25536 -51072 -76608\nfaces 0\nfaces 1\nflows 0\nshown 1 0\nend\n",
         ),
         (
             "3",
             b"P2 4 3 65535 0 0 0 0 0 0 0 20000 0 0 0 40000 P2 4 3 9 4 4 4 4 4 4 4 4 9 9 9 9",
-            "ncols 4\nnrows 3\n",
-            "0 0 0 -65536\n0 0 0 -45536\n0 0 0 -25536\n",
+            "insar-report 1\nsize 4 3\ntile 3\nrule least\nkept ",
+            "\nflows -4 -4 8\nshown 1 0\nend\n",
         ),
         (
             "3",
             b"P2 3 4 65535 0 20000 40000 10000 30000 50000 20000 40000 60000 30000 50000 4464 P2 3 4 1 1 1 1 1 1 1 1 1 1 1 1 1 P2 3 4 1 1 0 1 1 0 1 1 0 1 1 1 1",
-            "ncols 3\nnrows 4\n",
-            "0 -9223372036854775808 40000\n10000 -9223372036854775808 50000\n20000 -9223372036854775808 60000\n30000 50000 70000\n",
+            "insar-report 1\nsize 3 4\ntile 3\nrule least\nkept ",
+            "\nshown 1 0\nend\n",
         ),
     ];
-    for (side, bytes, size, rows) in cases {
+    let grids: [&str; 3] = [
+        "published 1 0\ncosts 0 0\nncols 4\nnrows 1\n",
+        "published 1 0\ncosts 0 8\nncols 4\nnrows 3\n",
+        "published 1 0\ncosts 0 0\nncols 3\nnrows 4\n",
+    ];
+    let rows: [&str; 3] = [
+        "0 -25536 -51072 -76608\n",
+        "0 0 0 -65536\n0 0 0 -45536\n0 0 0 -25536\n",
+        "0 -9223372036854775808 40000\n10000 -9223372036854775808 50000\n20000 -9223372036854775808 60000\n30000 50000 70000\n",
+    ];
+    for (place, (side, bytes, start, end)) in cases.into_iter().enumerate() {
         let done = unwrapped_by(&rt, &["--tile", side], bytes)?;
-        let text = format!(in rt.alloc(); "{size}{FRAME}{rows}")?;
+        let (grid, rows) = (grids[place], rows[place]);
+        let part = format!(in rt.alloc(); "{grid}{FRAME}{rows}faces 0")?;
         assert_eq!(rt; done.status, 0);
-        assert_eq!(rt; done.text.as_slice(), text.as_bytes());
+        assert!(rt; done.text.starts_with(start.as_bytes()) && done.text.ends_with(end.as_bytes()));
+        // Behind the head stand the lines of two kept tiles, in either order.
+        let kept = done.text.get(start.len() - 5..start.len() - 5 + 18);
+        assert!(rt;
+            kept == Some(b"kept 0 0\nkept 1 0\n".as_slice())
+                || kept == Some(b"kept 1 0\nkept 0 0\n".as_slice())
+        );
+        let rest = done.text.get(start.len() + 13..).unwrap_or_default();
+        assert!(rt; rest.starts_with(part.as_bytes()));
         assert_eq!(rt; done.line.len(), 0);
     }
     Ok(())
 }
 
-/// A slope of 1024 by 1024 pixels, which rises by 300 to the right and by 700 downwards, is its own surface.
+/// The report of a line of one analyst that looks, settles twice and looks again.
+const TWICE: &[u8] = b"insar-report 1
+size 4 1
+tile 64
+rule least
+shown 1 none
+kept 0 0
+published 1 0
+costs 0 0
+ncols 4
+nrows 1
+xllcorner 0
+yllcorner 0
+cellsize 1
+NODATA_value -9223372036854775808
+0 20000 40000 60000
+faces 0
+flows
+settled 1 0
+shown 1 0
+end
+";
+
+/// The report of a line of one analyst whose edit changes no pixel.
+const UNCHANGED: &[u8] = b"insar-report 1
+size 4 1
+tile 64
+rule least
+kept 0 0
+published 1 0
+costs 0 0
+ncols 4
+nrows 1
+xllcorner 0
+yllcorner 0
+cellsize 1
+NODATA_value -9223372036854775808
+0 20000 40000 60000
+faces 0
+flows
+revised 1 unmask 0 0 0 0
+published 1 1
+costs 0 0
+ncols 4
+nrows 1
+xllcorner 0
+yllcorner 0
+cellsize 1
+NODATA_value -9223372036854775808
+0 20000 40000 60000
+faces 0
+flows
+shown 1 1
+end
+";
+
+/// The report of a full turn whose first pixel is masked by a script.
+const MASKED: &[u8] = b"insar-report 1
+size 2 2
+tile 64
+rule least
+revised 1 mask 0 0 0 0
+kept 0 1
+published 1 1
+costs 0 0
+ncols 2
+nrows 2
+xllcorner 0
+yllcorner 0
+cellsize 1
+NODATA_value -9223372036854775808
+-9223372036854775808 16384
+49152 32768
+faces 0 0
+flows
+shown 1 1
+end
+";
+
+/// Scripts by hand. With a look alone nothing is solved.
+#[test]
+fn scripts_are_run(rt: HostRuntime) -> Result<(), Fail> {
+    let line = plane(&rt, (4, 1), &[0, 20000, 40000, 60000])?;
+    let turn = plane(&rt, (2, 2), &[0, 16384, 49152, 32768])?;
+    let cases: [(&[u8], &[u8], &[u8]); 4] = [
+        (&line, b"analyst\nshow\nsettle\nsettle\nshow\nend\n", TWICE),
+        (
+            &line,
+            b"analyst\nsettle\nunmask 0 0 0 0\nsettle\nshow\nend\n",
+            UNCHANGED,
+        ),
+        (&turn, b"analyst\nmask 0 0 0 0\nsettle\nshow\nend\n", MASKED),
+        (
+            &line,
+            b"analyst\nshow\nanalyst\nend\n",
+            b"insar-report 1\nsize 4 1\ntile 64\nrule least\nshown 1 none\nend\n",
+        ),
+    ];
+    for (planes, script, text) in cases {
+        let mut bytes = planes.to_vec(rt.alloc())?;
+        bytes.extend_from_slice(script)?;
+        let done = outcome_of(&rt, &bytes, &[], &[], &[])?;
+        assert_eq!(rt; done.status, 0);
+        assert_eq!(rt; done.text.as_slice(), text);
+        assert_eq!(rt; done.line.len(), 0);
+    }
+    Ok(())
+}
+
+/// A slope of so many pixels a side, which rises by 300 to the right and by 700 downwards.
+fn slope(rt: &HostRuntime, side: u32) -> Result<Vec<u8>, Fail> {
+    let alloc = rt.alloc();
+    let mut bytes = Vec::new(alloc);
+    bytes.extend_from_slice(format!(in alloc; "P5\n{side} {side}\n65535\n")?.as_bytes())?;
+    for y in 0..side {
+        for x in 0..side {
+            let value = 300 * u64::from(x) + 700 * u64::from(y);
+            bytes.extend_from_slice(&((value % 65536) as u16).to_be_bytes())?;
+        }
+    }
+    Ok(bytes)
+}
+
+/// A slope of 1024 by 1024 pixels is its own surface. Before its grid stand the lines of 256 kept tiles, in any order.
 #[test]
 fn a_large_slope_is_unwrapped(rt: HostRuntime) -> Result<(), Fail> {
     let alloc = rt.alloc();
-    let mut bytes = Vec::new(alloc);
-    bytes.extend_from_slice(b"P5\n1024 1024\n65535\n")?;
     let mut text = Vec::new(alloc);
+    text.extend_from_slice(b"published 1 0\ncosts 0 0\n")?;
     text.extend_from_slice(format!(in alloc; "ncols 1024\nnrows 1024\n{FRAME}")?.as_bytes())?;
     for y in 0..1024u32 {
         for x in 0..1024u32 {
             let value = 300 * x + 700 * y;
-            bytes.extend_from_slice(&((value % 65536) as u16).to_be_bytes())?;
             let gap = if x == 0 { "" } else { " " };
             text.extend_from_slice(format!(in alloc; "{gap}{value}")?.as_bytes())?;
         }
         text.push(b'\n')?;
     }
-    let mut source = MemorySource::new(bytes, 65536, Vec::new(alloc));
-    let mut sink = MemorySink::new(alloc, 16_777_216, 65536, Vec::new(alloc))?;
+    let mut source = MemorySource::new(slope(&rt, 1024)?, 65536, Vec::new(alloc));
+    let mut sink = MemorySink::new(alloc, 33_554_432, 65536, Vec::new(alloc))?;
     let mut diag = MemorySink::new(alloc, 99, 1, Vec::new(alloc))?;
     let status = insar(alloc, &["unwrap"], &mut source, &mut sink, &mut diag);
     assert_eq!(rt; status, 0);
-    assert!(rt; sink.bytes() == text.as_slice());
+    // The head has 49 bytes, and the 10, 90 and 156 lines of numbers of 1, 2 and 3 digits have 9, 10 and 11.
+    let start = 49 + 10 * 9 + 90 * 10 + 156 * 11;
+    let grid = sink.bytes().get(start..start + text.len());
+    assert!(rt; grid == Some(text.as_slice()));
     Ok(())
 }
 
-/// The first break of each input, by its number and place.
+/// Two analysts with ten edits and five settle commands each on a raster of 256 by 256.
 #[test]
-fn broken_inputs_are_refused(rt: HostRuntime) -> Result<(), Fail> {
-    let cases: [(&[u8], &str); 18] = [
+fn two_analysts_finish_a_session(rt: HostRuntime) -> Result<(), Fail> {
+    let alloc = rt.alloc();
+    let mut bytes = slope(&rt, 256)?;
+    for analyst in 0..2u32 {
+        bytes.extend_from_slice(b"analyst\n")?;
+        for turn in 0..5u32 {
+            let x = 40 * turn + analyst;
+            let edits = format!(in alloc; "mask {x} 9 200 99\nunmask {x} 9 {x} 60\nsettle\n")?;
+            bytes.extend_from_slice(edits.as_bytes())?;
+        }
+        bytes.extend_from_slice(b"show\n")?;
+    }
+    bytes.extend_from_slice(b"end\n")?;
+    let mut source = MemorySource::new(bytes, 65536, Vec::new(alloc));
+    let mut sink = MemorySink::new(alloc, 33_554_432, 65536, Vec::new(alloc))?;
+    let mut diag = MemorySink::new(alloc, 99, 1, Vec::new(alloc))?;
+    let status = insar(alloc, &["unwrap"], &mut source, &mut sink, &mut diag);
+    assert_eq!(rt; status, 0);
+    let head = b"insar-report 1\nsize 256 256\ntile 64\nrule least\nrevised 1 mask 0 9 200 99\n";
+    assert!(rt; sink.bytes().starts_with(head));
+    assert!(rt; sink.bytes().ends_with(b"\nshown 2 20\nend\n"));
+    assert_eq!(rt; diag.bytes().len(), 0);
+    Ok(())
+}
+
+/// The first break of each session, by its number and place.
+#[test]
+fn broken_sessions_are_refused(rt: HostRuntime) -> Result<(), Fail> {
+    let cases: [(&[u8], &str); 25] = [
         (b"", "input fault 1 magic phase\n"),
         (b"P3\n", "input fault 1 magic phase\n"),
         (b"P5\n4097 1\n65535\n", "input fault 3 size phase 4097 1\n"),
@@ -228,15 +448,10 @@ fn broken_inputs_are_refused(rt: HostRuntime) -> Result<(), Fail> {
             "input fault 6 short phase samples 1\n",
         ),
         (
-            b"P5\n1 2\n65535\n\0\0",
-            "input fault 6 short phase samples 1\n",
-        ),
-        (
             b"P2\n2 1\n65535\n0 70000\n",
             "input fault 5 sample phase index 1 value 70000\n",
         ),
         (b"P2 1 1 65535 0#", "input fault 2 form phase byte 14\n"),
-        (b"P5\n1 1\n65535\n\0\0x", "input fault 17 unbuilt\n"),
         (b"P2 1 1 65535 0 P", "input fault 1 magic weight\n"),
         (
             b"P2 1 1 65535 0 P5 1 1 0 ",
@@ -250,7 +465,6 @@ fn broken_inputs_are_refused(rt: HostRuntime) -> Result<(), Fail> {
             b"P2 1 1 65535 0 P2 1 1 9 10",
             "input fault 5 sample weight index 0 value 10\n",
         ),
-        (b"P2 1 1 65535 0 P2 1 1 9 1 end", "input fault 17 unbuilt\n"),
         (
             b"P2 1 1 65535 0 P2 1 1 9 1 P5 1 1 1 ",
             "input fault 6 short mask samples 0\n",
@@ -260,8 +474,48 @@ fn broken_inputs_are_refused(rt: HostRuntime) -> Result<(), Fail> {
             "input fault 8 sizes mask\n",
         ),
         (
-            b"P2 1 1 65535 0 P2 1 1 9 1 P2 1 1 1 1 P",
-            "input fault 17 unbuilt\n",
+            b"P2 1 1 65535 0 P2 1 1 9 1 P2 1 1 1 1 P\n",
+            "input fault 9 line 1\n",
+        ),
+        (
+            b"P5\n2 1\n65535\n\0\0\0\0end\nx",
+            "input fault 15 after end byte 21\n",
+        ),
+        (
+            b"P2 4 1 65535 0 20000 40000 60000\nanalyst\nsettel\n",
+            "input fault 9 line 2\n",
+        ),
+        (
+            b"P2 4 1 65535 0 20000 40000 60000\nanalyst\nmask 0 0 4 0\n",
+            "input fault 10 outside line 2\n",
+        ),
+        (
+            b"P2 4 1 65535 0 20000 40000 60000\nanalyst\nsettle\n",
+            "input fault 14 no end\n",
+        ),
+        (
+            b"P2 4 1 65535 0 20000 40000 60000\nsettle\n",
+            "input fault 9 line 1\n",
+        ),
+        (
+            b"P2 4 1 65535 0 20000 40000 60000\nanalyst\nshow \n",
+            "input fault 9 line 2\n",
+        ),
+        (
+            b"P2 4 1 65535 0 20000 40000 60000\nanalyst\nunmask 2 0 1 0\n",
+            "input fault 10 outside line 2\n",
+        ),
+        (
+            b"P2 4 1 65535 0 20000 40000 60000\nanalyst\nanalyst\nanalyst\nanalyst\nanalyst\nanalyst\nanalyst\nanalyst\nanalyst\n",
+            "input fault 11 analysts line 9\n",
+        ),
+        (
+            b"P2 4 1 65535 0 20000 40000 60000\n01234567890123456789012345678901234567890123456789012345678901234",
+            "input fault 9 line 1\n",
+        ),
+        (
+            b"P2 4 1 65535 0 20000 40000 60000\nend",
+            "input fault 14 no end\n",
         ),
     ];
     for (bytes, line) in cases {
@@ -269,6 +523,49 @@ fn broken_inputs_are_refused(rt: HostRuntime) -> Result<(), Fail> {
         assert_eq!(rt; refused.status, 3);
         assert_eq!(rt; refused.text.len(), 0);
         assert_eq!(rt; refused.line.as_slice(), line.as_bytes());
+    }
+    Ok(())
+}
+
+/// Limits of whole sessions: 17 settle commands on 4096 by 1024 pixels, 17 edits on as many pixels in tiles of the side 2,
+/// and 4097 commands.
+#[test]
+fn limits_are_told_with_their_lines(rt: HostRuntime) -> Result<(), Fail> {
+    let alloc = rt.alloc();
+    let mut large = Vec::new(alloc);
+    large.extend_from_slice(b"P5\n4096 1024\n65535\n")?;
+    large.extend_from_slice(&vec![in alloc; 0u8; 8_388_608]?)?;
+    let small = plane(&rt, (1, 1), &[7])?;
+    let cases: [(&[u8], &[u8], usize, &str); 3] = [
+        (&large, b"settle\n", 17, "input fault 13 settles line 18\n"),
+        (
+            &large,
+            b"mask 0 0 0 0\n",
+            17,
+            "input fault 16 edits line 18\n",
+        ),
+        (
+            &small,
+            b"show\n",
+            4097,
+            "input fault 12 commands line 4098\n",
+        ),
+    ];
+    for (planes, command, count, line) in cases {
+        let mut bytes = planes.to_vec(alloc)?;
+        bytes.extend_from_slice(b"analyst\n")?;
+        for _ in 0..count {
+            bytes.extend_from_slice(command)?;
+        }
+        bytes.extend_from_slice(b"end\n")?;
+        let mut source = MemorySource::new(bytes, 65536, Vec::new(alloc));
+        let mut sink = MemorySink::new(alloc, 9, 9, Vec::new(alloc))?;
+        let mut diag = MemorySink::new(alloc, 99, 1, Vec::new(alloc))?;
+        let words = ["unwrap", "--tile", "2"];
+        let status = insar(alloc, &words, &mut source, &mut sink, &mut diag);
+        assert_eq!(rt; status, 3);
+        assert_eq!(rt; sink.bytes().len(), 0);
+        assert_eq!(rt; diag.bytes(), line.as_bytes());
     }
     Ok(())
 }
@@ -311,7 +608,7 @@ fn each_failing_write_is_told(rt: HostRuntime) -> Result<(), Fail> {
     let bytes = plane(&rt, (2, 1), &[0, 20000])?;
     let whole = outcome_of(&rt, &bytes, &[], &[], &[])?;
     let mut gained = 0usize;
-    for put in 1..=99 {
+    for put in 1..=999 {
         if gained == whole.text.len() {
             break;
         }
@@ -357,6 +654,6 @@ fn other_words_are_refused_and_faults_of_diag_change_nothing(rt: HostRuntime) ->
     assert_eq!(rt; refused.line.len(), 0);
     let failed = outcome_of(&rt, &plane(&rt, (1, 1), &[7])?, &[], &[2], &[1])?;
     assert_eq!(rt; failed.status, 6);
-    assert_eq!(rt; failed.text.as_slice(), b"n".as_slice());
+    assert_eq!(rt; failed.text.as_slice(), b"i".as_slice());
     Ok(())
 }

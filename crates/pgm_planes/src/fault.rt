@@ -95,9 +95,6 @@ pub enum InputFault {
     /// The plane of this role has not the phase plane's size.
     #[error("the size of the {0:?} plane is not that of the phase plane")]
     SizesDiffer(Role),
-    /// A form whose reader is not built yet.
-    #[error("a form that is not built yet")]
-    Unbuilt,
     /// This line of the script part, from 1, is none that may stand there.
     #[error("line {0} of the scripts is none that may stand there")]
     ScriptLine(u32),

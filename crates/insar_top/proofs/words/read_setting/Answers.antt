@@ -1,3 +1,4 @@
+use Rattle.std.proofs.Common.{ap, sym}
 use Rattle.insar_top.proofs.WordLemmas.{rule_found, side_found, no_side}
 use Rattle.insar_top.proofs.words.read_setting.Goals as goal
 

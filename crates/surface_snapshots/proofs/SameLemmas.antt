@@ -85,7 +85,7 @@ module _ (r : Raster) (m n : Field Bool) (same : (x y : ℕ) → x < r.width →
     inside = open_there is.x is.y is.inside;
     joined = λ a b l h. (
       (λ t. let q = (is.joined a b l h).0 t in (same a b l h ∙ q.0, joined_there is.x is.y a b q.1)),
-      (λ q. (is.joined a b l h).1 (sym (same a b l h) ∙ q.0, joined_here is.x is.y a b q.1))
+      (λ q. (is.joined a b l h).1 (sym (same a b l h) ∙ q.0, joined_here is.x is.y a b q.1)),
     );
   }
 

@@ -1,3 +1,4 @@
+ghost use Rattle.mask_revisions.specs.Steps.{AreStamped};
 ghost use Rattle.std.specs.Prelude.{◌≡◌, ◌+◌, ◌<◌, ◌^◌, ◌++◌, ◌∷◌, ℕ, [], Bool, IfOk, IfSome, MatchOption, None, length, replicate, slice_get, slice_index, vec_capacity, vec_len, ⊤};
 ghost use Rattle.tile_board.specs.States.{AreEmptied, CopiesResults, HaveResults, IsFirstGap, IsGap};
 
@@ -82,6 +83,7 @@ pub fn empty(kept: &mut [Option<TileResult>], tiles: &[u32])
 /// Forgets how often some tiles were claimed.
 pub fn forget(claims: &mut [u32], tiles: &[u32])
     requires { (i : ℕ) → i < length tiles.now → slice_index tiles.now i < length claims.old }
+    ensures { AreStamped claims.old claims.new tiles.now (length tiles.now) 0 }
 {
     for &tile in tiles {
         claims[tile as usize] = 0;

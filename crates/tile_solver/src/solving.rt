@@ -7,6 +7,7 @@ ghost use Rattle.raster_model.specs.Sums.{Field};
 ghost use Rattle.raster_model.specs.Tiles.{tiles_of, window_of};
 ghost use Rattle.std.specs.Prelude.{◌≡◌, ◌<◌, Bool, IfOk, OnOk, length};
 ghost use Rattle.tile_solver.specs.Fresh.{IsFresh};
+ghost use Rattle.tile_solver.specs.Zeros.{AnswersWithoutResidue};
 ghost use Rattle.wrapped_gradient.specs.Gradients.{AreGradientsOf};
 
 use certificates::TileResult;
@@ -60,9 +61,31 @@ fn least_corrections(
     requires count { length unmasked.now ≡ pixels_in gradients.now.window }
     ensures { IfOk result (λ made. (mask : Field Bool) → TellsMask (window_of scene.now.tiling tile) unmasked.now mask → IsAnswer (raster_of scene.now) mask tile (window_of scene.now.tiling tile) made.0 made.1.items) }
 {
+    if gradients.first_residue().is_none() {
+        return no_corrections(alloc, gradients);
+    }
     let mut grid = DualGrid::of(alloc, scene, gradients, tile, unmasked)?;
     empty(alloc, &mut grid)?;
     grid.answer(alloc)
+}
+
+/// The correction 0 for each edge of a window, and the face 0 for each of its cells. Where no cell has a residue they are
+/// an answer under any mask, without a network.
+fn no_corrections(
+    alloc: Global,
+    gradients: &Gradients,
+) -> Result<(Corrections, Vec<i64>), AllocError>
+    ensures { IfOk result (λ made. AnswersWithoutResidue gradients.now made.0 made.1.items) }
+{
+    let window = gradients.window();
+    let across = (window.x1 - window.x0) as usize;
+    let along = (window.y1 - window.y0) as usize;
+    let corrections = Corrections {
+        right: vec![in alloc; 0; across * (along + 1)]?,
+        down: vec![in alloc; 0; (across + 1) * along]?,
+    };
+    let faces = vec![in alloc; 0; across * along]?;
+    Ok((corrections, faces))
 }
 
 /// Empties every excess of a grid. No nodes block: from any of them an arc leads out whose capacity is more than all that

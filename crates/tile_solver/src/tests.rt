@@ -101,6 +101,21 @@ fn a_turn_is_cut_at_its_lightest_edge(rt: HostRuntime) -> Result<(), Fail> {
     Ok(())
 }
 
+/// A ramp that turns over between its first two columns, by hand: no residue, whatever is masked.
+#[test]
+fn a_ramp_has_no_cost(rt: HostRuntime) -> Result<(), Fail> {
+    let phases = [60000, 4000, 14000, 62000, 6000, 16000];
+    let weights = [5, 0, 3, 9, 1, 7];
+    for mask in [[1, 1, 1, 1, 1, 1], [1, 0, 1, 0, 1, 1]] {
+        let (result, verdict, found) = solved(&rt, rt.alloc(), (3, 2), &phases, &weights, &mask)?;
+        assert_eq!(rt; verdict, TileVerdict::Good);
+        assert_eq!(rt; found, 0);
+        assert_eq!(rt; result.cycles.as_slice(), [0, 1, 1, 0, 1, 1].as_slice());
+        assert_eq!(rt; result.faces.as_slice(), [0, 0].as_slice());
+    }
+    Ok(())
+}
+
 /// Random rasters of 5 by 4 pixels with weights and masks. Their least costs were computed by `network_simplex` of
 /// networkx 3.6.1 over the residues, and on smaller ones compared with all cycles from -1 to 1.
 #[test]

@@ -1,6 +1,33 @@
+use Rattle.std.proofs.Common.{◌≡◌, subst, false}
+use Rattle.std.specs.Prelude.{Option, Some, None, IfNone}
+use Rattle.std.specs.Option.{is_some}
 use Rattle.std.proofs.lemmas.Result.{IfOk-weaker}
+use Rattle.raster_model.specs.declared.tiling.Window.{Window}
+use Rattle.raster_model.specs.Scene.{raster_of}
+use Rattle.dual_grid.specs.Answers.{IsAnswer}
+use Rattle.wrapped_gradient.specs.Gradients.{HasNoResidue}
 use Rattle.dual_grid.proofs.CallerLemmas.{grid_stays}
+use Rattle.tile_solver.specs.Zeros.{IsWithoutResidue}
 use Rattle.tile_solver.proofs.solving.least_corrections.Goals as goal
+
+-- what holds where there is none
+where_none : {T : Type 0} (o : Option T) (P : Type 0) → is_some o ≡ false → IfNone o P → P
+where_none (Some t) P e h = absurd (cc e)
+where_none None P e h = h
+
+pub returns-then-is_none : goal.returns-then-is_none
+returns-then-is_none c =
+    let s = c.args.scene.now in
+    let g = c.args.gradients.now in
+    let without : IsWithoutResidue s c.args.tile g = record {
+      tile = c.requires.tile;
+      window = c.requires.window;
+      differences = c.requires.gradients;
+      none = where_none c.first_residue.result (HasNoResidue g) (c.if-is_none.ensures {u = tt}) c.first_residue.ensures.none;
+    } in
+    IfOk-weaker c.no_corrections.result _ _
+    (λ made answers mask told. subst (λ (v : Window). IsAnswer (raster_of s) mask c.args.tile v made.0 made.1.items) c.requires.window (answers s c.args.tile mask without))
+    c.no_corrections.ensures
 
 pub empty-requires : goal.empty-requires
 empty-requires c =

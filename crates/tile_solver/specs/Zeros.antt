@@ -1,0 +1,21 @@
+-- What answers a tile without a residue. Helpers' words, which no clause of a public function cites.
+use Rattle.std.specs.Prelude.{◌≡◌, ℕ, ◌<◌, Bool, ℤ, List}
+use Rattle.raster_model.specs.declared.scene.Scene.{Scene}
+use Rattle.raster_model.specs.Scene.{raster_of}
+use Rattle.raster_model.specs.Sums.{Field}
+use Rattle.raster_model.specs.Tiles.{tiles_of, window_of}
+use Rattle.wrapped_gradient.specs.declared.corrections.Corrections.{Corrections}
+use Rattle.wrapped_gradient.specs.Gradients.{AreGradientsOf, HasNoResidue}
+use Rattle.wrapped_gradient.specs.GradientsView.{GradientsView}
+use Rattle.dual_grid.specs.Answers.{IsAnswer}
+
+-- these are the gradients of tile t of the scene, and no cell of it has a residue
+pub record IsWithoutResidue (s : Scene) (t : ℕ) (g : GradientsView) : Type 0 where
+  pub tile : t < tiles_of s.tiling
+  pub window : g.window ≡ window_of s.tiling t
+  pub differences : AreGradientsOf s g
+  pub none : HasNoResidue g
+
+-- corrections and faces that answer each tile without a residue of which these are the gradients, under any mask
+abbrev pub AnswersWithoutResidue : GradientsView → Corrections → List ℤ → Type 0
+AnswersWithoutResidue g k faces = (s : Scene) (t : ℕ) (mask : Field Bool) → IsWithoutResidue s t g → IsAnswer (raster_of s) mask t g.window k faces

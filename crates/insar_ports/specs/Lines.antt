@@ -25,6 +25,12 @@ bytes_of (Whole n) into = n + 1
 bytes_of (Cut n) into = n
 bytes_of Over into = length into
 
+-- how many bytes it asks for: those that it hands out, and the one that it sees behind them
+abbrev pub asked_by : Line → List ℕ → ℕ
+asked_by (Whole n) into = n + 1
+asked_by (Cut n) into = n
+asked_by Over into = length into + 1
+
 -- after a fault: the first bytes of `into` are gone
 abbrev pub IsPartOfLine : List ℕ → Option (List ℕ) → Option (List ℕ) → ℕ → ℕ → Type 0
 IsPartOfLine into old new handed_old handed_new =

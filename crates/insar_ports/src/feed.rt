@@ -93,7 +93,7 @@ impl<'a, S: Source> Feed<'a, S> {
       HasRisen,
       IsAtEnd,
     };
-    ghost use Rattle.insar_ports.specs.Lines.{bytes_of, IsNextLine, IsPartOfLine};
+    ghost use Rattle.insar_ports.specs.Lines.{asked_by, bytes_of, IsNextLine, IsPartOfLine};
     ghost use Rattle.insar_ports.specs.Feeding.{
       faults_of,
       handed_of,
@@ -219,6 +219,7 @@ impl<'a, S: Source> Feed<'a, S> {
         ensures grows { faults_of S.faults self.old ≤ faults_of S.faults self.new }
         ensures line { IfOk result (λ line. IsNextLine line into.new (left_of S.left self.old) (left_of S.left self.new)) }
         ensures handed { IfOk result (λ line. handed_of self.new ≡ handed_of self.old + bytes_of line into.new) }
+        ensures allowed { IfOk result (λ line. handed_of self.old + asked_by line into.new ≤ limit_of self.old) }
         ensures taken { OnErr result (IsPartOfLine into.new (left_of S.left self.old) (left_of S.left self.new) (handed_of self.old) (handed_of self.new)) }
         ensures read_fault { result ≡ Err FeedFault.ReadFault → HasRisen (faults_of S.faults self.old) (faults_of S.faults self.new) }
         ensures drained { result ≡ Err FeedFault.ReadFault → pending_of self.new ≡ [] }

@@ -1,5 +1,5 @@
 -- A gap and a number: what is read is spelled so, what is spelled so is read, and where the form breaks.
-use Rattle.std.proofs.Common.{◌≡◌, ℕ, ◌+◌, true, false, ◌⊎◌, List, [], ◌∷◌, ◌++◌, length, Ok, Err, refl, sym, ap, subst, ◌∙◌, append_assoc, arith, inl, inr, eqb, ltb}
+use Rattle.std.proofs.Common.{◌≡◌, ℕ, ◌+◌, true, false, ◌⊎◌, List, [], ◌∷◌, ◌++◌, length, Some, None, Ok, Err, refl, sym, ap, subst, ◌∙◌, append_assoc, arith, inl, inr, eqb, ltb}
 use Rattle.std.specs.List.{list_all}
 use Rattle.std.proofs.lemmas.Bool.{and_parts, cases_Bool, both_ways, ltb-true, le-ltb, ne_eqb}
 use Rattle.std.proofs.lemmas.List.{length-append, append-nil}
@@ -7,15 +7,16 @@ use Rattle.pgm_planes.specs.declared.fault.PlaneFault.{PlaneFault}
 use Rattle.pgm_planes.specs.declared.fault.PlaneFault.TheVariants.{Form}
 use Rattle.pgm_planes.specs.Gaps.{is_space, is_digit, is_filling, is_gap, is_blank, begins, is_number, number_of}
 use Rattle.pgm_planes.specs.Breaks.{is_in_comment}
-use Rattle.pgm_planes.specs.Reading.{Reading, breaks, nothing, space_at, filling_at, number_at, field_at}
-use Rattle.pgm_planes.proofs.HeaderLemmas.{done, Takes, StopsFilling, filling_found, filling_again, filling_cut_found, filling_cut_again, number_found, number_again, number_break, no_number, space_taken}
+use Rattle.pgm_planes.specs.Reading.{Reading, breaks, asks, nothing, space_at, filling_at, number_at, field_at}
+use Rattle.pgm_planes.proofs.HeaderLemmas.{done, Takes, StopsFilling, filling_found, filling_again, filling_cut_found, filling_cut_again, filling_answers, number_found, number_again, number_answers, number_break, no_number, space_taken}
 
--- a reading breaks or reads a value
-pub cases_reading : {A : Type 0} (r : Reading A) → ((f : PlaneFault) × (r ≡ breaks f)) ⊎ ((x : A) × (at : ℕ) × (rest : List ℕ) × (r ≡ done x at rest))
-cases_reading (Ok x) = inr (x.0, x.1, x.2, refl)
-cases_reading (Err e) = inl (e, refl)
+-- a reading that asks for nothing breaks or reads a value
+pub cases_reading : {A : Type 0} (r : Reading A) → (r ≡ asks → ⊥) → ((f : PlaneFault) × (r ≡ breaks f)) ⊎ ((x : A) × (at : ℕ) × (rest : List ℕ) × (r ≡ done x at rest))
+cases_reading (Ok x) n = inr (x.0, x.1, x.2, refl)
+cases_reading (Err (Some e)) n = inl (e, refl)
+cases_reading (Err None) n = absurd (n refl)
 
-pub space_cases : (at : ℕ) (bytes : List ℕ) → ((b : ℕ) × (rest : List ℕ) × (bytes ≡ b ∷ rest) × (is_space b ≡ true) × (space_at at bytes ≡ done nothing (at + 1) rest)) ⊎ ((begins is_space bytes ≡ false) × (space_at at bytes ≡ breaks (Form at)))
+pub space_cases : (at : ℕ) (bytes : List ℕ) → ((b : ℕ) × (rest : List ℕ) × (bytes ≡ b ∷ rest) × (is_space b ≡ true) × (space_at false at bytes ≡ done nothing (at + 1) rest)) ⊎ ((begins is_space bytes ≡ false) × (space_at false at bytes ≡ breaks (Form at)))
 unfolding space_at
 space_cases at [] = inr (refl, refl)
 space_cases at (b ∷ bytes) = elim (cases_Bool (is_space b)) [ inl y ↦ inl (b, bytes, refl, y, rw y refl) | inr n ↦ inr (n, rw n refl) ]
@@ -94,7 +95,7 @@ pub record FieldBreak (at : ℕ) (bytes : List ℕ) (f : PlaneFault) : Type 0 wh
   pub fault : f ≡ Form (at + length part)
   pub why : NoField part rest
 
-number_form : (at : ℕ) (bytes : List ℕ) (f : PlaneFault) → number_at (Form at) at bytes ≡ breaks f → (f ≡ Form at) × (begins is_digit bytes ≡ false)
+number_form : (at : ℕ) (bytes : List ℕ) (f : PlaneFault) → number_at (Form at) false at bytes ≡ breaks f → (f ≡ Form at) × (begins is_digit bytes ≡ false)
 number_form at bytes f e = elim (number_break (Form at) at bytes f e) [
   | inl n ↦ (n.1, rw n.0 refl)
   | inr n ↦ (n.4, rw n.2 n.3)
@@ -102,10 +103,10 @@ number_form at bytes f e = elim (number_break (Form at) at bytes f e) [
 
 -- a field is read, or the form breaks
 abbrev pub FieldWalk : ℕ → List ℕ → Type 0
-FieldWalk at bytes = ((f : PlaneFault) × (field_at at bytes ≡ breaks f) × FieldBreak at bytes f) ⊎ ((n : ℕ) × (place : ℕ) × (end : ℕ) × (rest : List ℕ) × (field_at at bytes ≡ done (n, place) end rest) × FieldText n place at bytes end rest)
+FieldWalk at bytes = ((f : PlaneFault) × (field_at false at bytes ≡ breaks f) × FieldBreak at bytes f) ⊎ ((n : ℕ) × (place : ℕ) × (end : ℕ) × (rest : List ℕ) × (field_at false at bytes ≡ done (n, place) end rest) × FieldText n place at bytes end rest)
 
 module _ (at b : ℕ) (bytes : List ℕ) (s : is_space b ≡ true) (after : ℕ) (e : after ≡ at + 1) where
-  walk_cut : (f : PlaneFault) → filling_at false after bytes ≡ breaks f → FieldBreak at (b ∷ bytes) f
+  walk_cut : (f : PlaneFault) → filling_at false false after bytes ≡ breaks f → FieldBreak at (b ∷ bytes) f
   walk_cut f h =
       let o = filling_cut_found after bytes f h in
       record {
@@ -116,7 +117,7 @@ module _ (at b : ℕ) (bytes : List ℕ) (s : is_space b ≡ true) (after : ℕ)
         why = inr (inr (record { gap = b ∷ o.1.gap; comment = o.1.comment; parts = ap (λ (t : List ℕ). b ∷ t) o.1.parts; is = rw (s, o.1.filled) refl; within = o.1.within }, refl));
       }
 
-  walk_no_number : (place : ℕ) (rest : List ℕ) (f : PlaneFault) → filling_at false after bytes ≡ done nothing place rest → number_at (Form place) place rest ≡ breaks f → FieldBreak at (b ∷ bytes) f
+  walk_no_number : (place : ℕ) (rest : List ℕ) (f : PlaneFault) → filling_at false false after bytes ≡ done nothing place rest → number_at (Form place) false place rest ≡ breaks f → FieldBreak at (b ∷ bytes) f
   walk_no_number place rest f h g =
       let t = filling_found false after bytes place rest h in
       let n = number_form place rest f g in
@@ -128,7 +129,7 @@ module _ (at b : ℕ) (bytes : List ℕ) (s : is_space b ≡ true) (after : ℕ)
         why = inr (inl (record { gap = rw (s, t.1) refl; stops = t.3; no_digit = n.1 }));
       }
 
-  walk_number : (place : ℕ) (rest : List ℕ) (n end : ℕ) (others : List ℕ) → filling_at false after bytes ≡ done nothing place rest → number_at (Form place) place rest ≡ done n end others → FieldText n place at (b ∷ bytes) end others
+  walk_number : (place : ℕ) (rest : List ℕ) (n end : ℕ) (others : List ℕ) → filling_at false false after bytes ≡ done nothing place rest → number_at (Form place) false place rest ≡ done n end others → FieldText n place at (b ∷ bytes) end others
   walk_number place rest n end others h g =
       let t = filling_found false after bytes place rest h in
       let d = number_found (Form place) place rest n end others g in
@@ -150,9 +151,9 @@ pub field_walk : (at : ℕ) (bytes : List ℕ) → FieldWalk at bytes
 unfolding field_at
 field_walk at bytes = elim (space_cases at bytes) [
   | inr n ↦ inl (Form at, rw n.1 refl, record { part = []; rest = bytes; parts = refl; fault = ap Form (omega arith); why = inl (refl, n.0) })
-  | inl s ↦ elim (cases_reading (filling_at false (at + 1) s.1)) [
+  | inl s ↦ elim (cases_reading (filling_at false false (at + 1) s.1) (filling_answers false (at + 1) s.1)) [
     | inl f ↦ inl (f.0, rw (s.4, f.1) refl, subst (λ (t : List ℕ). FieldBreak at t f.0) (sym s.2) (walk_cut at s.0 s.1 s.3 (at + 1) refl f.0 f.1))
-    | inr t ↦ elim (cases_reading (number_at (Form t.1) t.1 t.2)) [
+    | inr t ↦ elim (cases_reading (number_at (Form t.1) false t.1 t.2) (number_answers (Form t.1) t.1 t.2)) [
       | inl f ↦ inl (f.0, rw (s.4, t.3, f.1) refl, subst (λ (x : List ℕ). FieldBreak at x f.0) (sym s.2) (walk_no_number at s.0 s.1 s.3 (at + 1) refl t.1 t.2 f.0 t.3 f.1))
       | inr d ↦ inr (d.0, t.1, d.1, d.2, rw (s.4, t.3, d.3) refl, subst (λ (x : List ℕ). FieldText d.0 t.1 at x d.1 d.2) (sym s.2) (walk_number at s.0 s.1 s.3 (at + 1) refl t.1 t.2 d.0 d.1 d.2 t.3 d.3))
     ]
@@ -160,34 +161,34 @@ field_walk at bytes = elim (space_cases at bytes) [
 ]
 
 -- a gap and a number are read again, where no digit follows
-pub field_again : (at : ℕ) (gap number more : List ℕ) → is_gap gap ≡ true → is_number number ≡ true → begins is_digit more ≡ false → field_at at (gap ++ (number ++ more)) ≡ done (number_of number, at + length gap) (at + length (gap ++ number)) more
+pub field_again : (at : ℕ) (gap number more : List ℕ) → is_gap gap ≡ true → is_number number ≡ true → begins is_digit more ≡ false → field_at false at (gap ++ (number ++ more)) ≡ done (number_of number, at + length gap) (at + length (gap ++ number)) more
 unfolding field_at
 field_again at [] number more g n s = absurd cc
 field_again at (b ∷ gap) number more g n s =
     let parts = and_parts (is_space b) (is_filling false gap) g in
     let place : (at + 1) + length gap ≡ at + length (b ∷ gap) = omega arith in
     let end : (at + length (b ∷ gap)) + length number ≡ at + length ((b ∷ gap) ++ number) = omega (arith, length-append (b ∷ gap) number) in
-    let one = space_taken at b (gap ++ (number ++ more)) parts.0 in
+    let one = space_taken false at b (gap ++ (number ++ more)) parts.0 in
     let two = filling_again false (at + 1) gap (number ++ more) parts.1 (number_stops number more n) in
     rw (one, two, place, number_again (Form (at + length (b ∷ gap))) (at + length (b ∷ gap)) number more n s, end) refl
 
-pub no_space : (at : ℕ) (rest : List ℕ) → begins is_space rest ≡ false → space_at at rest ≡ breaks (Form at)
+pub no_space : (at : ℕ) (rest : List ℕ) → begins is_space rest ≡ false → space_at false at rest ≡ breaks (Form at)
 unfolding space_at
 no_space at [] h = refl
 no_space at (b ∷ rest) h = rw h refl
 
-open_over : (at : ℕ) (gap comment : List ℕ) → is_gap gap ≡ true → list_all is_in_comment comment ≡ true → field_at at (gap ++ 35 ∷ comment) ≡ breaks (Form (at + length (gap ++ 35 ∷ comment)))
+open_over : (at : ℕ) (gap comment : List ℕ) → is_gap gap ≡ true → list_all is_in_comment comment ≡ true → field_at false at (gap ++ 35 ∷ comment) ≡ breaks (Form (at + length (gap ++ 35 ∷ comment)))
 unfolding field_at
 open_over at [] comment g c = absurd cc
 open_over at (b ∷ gap) comment g c =
     let parts = and_parts (is_space b) (is_filling false gap) g in
     let place : (at + 1) + length (gap ++ 35 ∷ comment) ≡ at + length (b ∷ (gap ++ 35 ∷ comment)) = omega arith in
-    let one = space_taken at b (gap ++ 35 ∷ comment) parts.0 in
+    let one = space_taken false at b (gap ++ 35 ∷ comment) parts.0 in
     let two = filling_cut_again (at + 1) (gap ++ 35 ∷ comment) (record { gap = gap; comment = comment; parts = refl; filled = parts.1; within = c }) in
     rw (one, two, place) refl
 
 -- where no field begins the form breaks again
-pub field_break_again : (at : ℕ) (part rest : List ℕ) → NoField part rest → field_at at (part ++ rest) ≡ breaks (Form (at + length part))
+pub field_break_again : (at : ℕ) (part rest : List ℕ) → NoField part rest → field_at false at (part ++ rest) ≡ breaks (Form (at + length part))
 unfolding field_at
 field_break_again at part rest (inl n) =
     let place : at ≡ at + 0 = omega arith in
@@ -196,10 +197,10 @@ field_break_again at [] rest (inr (inl n)) = absurd (let x = n.gap in cc)
 field_break_again at (b ∷ gap) rest (inr (inl n)) =
     let parts = and_parts (is_space b) (is_filling false gap) n.gap in
     let place : (at + 1) + length gap ≡ at + length (b ∷ gap) = omega arith in
-    let one = space_taken at b (gap ++ rest) parts.0 in
+    let one = space_taken false at b (gap ++ rest) parts.0 in
     let two = filling_again false (at + 1) gap rest parts.1 n.stops in
     rw (one, two, place, no_number (at + length (b ∷ gap)) rest n.no_digit) refl
 field_break_again at part rest (inr (inr n)) =
     let o = n.0 in
     let whole : part ++ rest ≡ o.gap ++ 35 ∷ o.comment = ap (λ (t : List ℕ). part ++ t) n.1 ∙ append-nil part ∙ o.parts in
-    ap (field_at at) whole ∙ open_over at o.gap o.comment o.is o.within ∙ ap (λ (t : List ℕ). breaks (Form (at + length t))) (sym o.parts)
+    ap (field_at false at) whole ∙ open_over at o.gap o.comment o.is o.within ∙ ap (λ (t : List ℕ). breaks (Form (at + length t))) (sym o.parts)

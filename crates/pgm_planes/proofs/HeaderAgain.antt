@@ -11,15 +11,15 @@ use Rattle.pgm_planes.proofs.FieldLemmas.{spaced, gap_spaced, NoField, field_aga
 use Rattle.pgm_planes.proofs.NumberLemmas.{numbers_begin, IsStuck, header_record}
 
 -- the first of several numbers is read
-field_over : (at : ℕ) (bytes : List ℕ) (n : ℕ) (ns more : List ℕ) (a : AreNumbers is_gap bytes (n ∷ ns)) → begins is_digit more ≡ false → field_at at (bytes ++ more) ≡ done (n, at + length a.0) (at + length (a.0 ++ a.1)) (a.2 ++ more)
+field_over : (at : ℕ) (bytes : List ℕ) (n : ℕ) (ns more : List ℕ) (a : AreNumbers is_gap bytes (n ∷ ns)) → begins is_digit more ≡ false → field_at false at (bytes ++ more) ≡ done (n, at + length a.0) (at + length (a.0 ++ a.1)) (a.2 ++ more)
 field_over at bytes n ns more a d =
     let parts : bytes ++ more ≡ a.0 ++ (a.1 ++ (a.2 ++ more)) = ap (λ (t : List ℕ). t ++ more) a.3 ∙ append_assoc a.0 (a.1 ++ a.2) more ∙ ap (λ (t : List ℕ). a.0 ++ t) (append_assoc a.1 a.2 more) in
-    ap (field_at at) parts
+    ap (field_at false at) parts
     ∙ field_again at a.0 a.1 (a.2 ++ more) a.4 a.5 (numbers_begin is_gap gap_spaced a.2 ns more a.7 d)
     ∙ ap (λ (k : ℕ). done (k, at + length a.0) (at + length (a.0 ++ a.1)) (a.2 ++ more)) (sym a.6)
 
 -- the last of them is read
-field_last : (at : ℕ) (bytes : List ℕ) (n : ℕ) (more : List ℕ) (a : AreNumbers is_gap bytes (n ∷ [])) → begins is_digit more ≡ false → field_at at (bytes ++ more) ≡ done (n, at + length a.0) (at + length bytes) more
+field_last : (at : ℕ) (bytes : List ℕ) (n : ℕ) (more : List ℕ) (a : AreNumbers is_gap bytes (n ∷ [])) → begins is_digit more ≡ false → field_at false at (bytes ++ more) ≡ done (n, at + length a.0) (at + length bytes) more
 field_last at bytes n more a d =
     let long : at + length (a.0 ++ a.1) ≡ at + length bytes = omega (arith, ap length a.3, length-append a.0 (a.1 ++ a.2), length-append a.1 a.2, length-append a.0 a.1, ap length a.7) in
     field_over at bytes n [] more a d ∙ ap (λ (t : List ℕ). done (n, at + length a.0) (at + length (a.0 ++ a.1)) (t ++ more)) a.7 ∙ ap (λ (k : ℕ). done (n, at + length a.0) k more) long
@@ -30,7 +30,7 @@ behind_first bytes n ns a = omega (arith, ap length a.3, length-append a.0 (a.1 
 
 module _ (role : Role) (at : ℕ) where
   pub header_again : (sizes : List ℕ) (w h : ℕ) (gap digits : List ℕ) (s : ℕ) (more : List ℕ) → AreNumbers is_gap sizes (w ∷ h ∷ []) → is_gap gap ≡ true → is_number digits ≡ true → is_space s ≡ true
-      → header_at role at (sizes ++ (gap ++ (digits ++ (s ∷ more)))) ≡ unless_broken (header_break role w h (number_of digits) (at + length (sizes ++ gap))) (done (header_record w h (number_of digits)) (at + length (sizes ++ (gap ++ (digits ++ (s ∷ []))))) more)
+      → header_at role false at (sizes ++ (gap ++ (digits ++ (s ∷ more)))) ≡ unless_broken (header_break role w h (number_of digits) (at + length (sizes ++ gap))) (done (header_record w h (number_of digits)) (at + length (sizes ++ (gap ++ (digits ++ (s ∷ []))))) more)
   unfolding header_at
   header_again sizes w h gap digits s more a g n k =
       let tail : List ℕ = gap ++ (digits ++ (s ∷ more)) in
@@ -40,7 +40,7 @@ module _ (role : Role) (at : ℕ) where
       let one = field_over at sizes w (h ∷ []) tail a d in
       let two = field_last at_2 a.2 h tail a.7 d in
       let three = field_again at_3 gap digits (s ∷ more) g n (spaced (s ∷ more) k) in
-      let four = space_taken (at_3 + length (gap ++ digits)) s more k in
+      let four = space_taken false (at_3 + length (gap ++ digits)) s more k in
       let place : at_3 + length gap ≡ at + length (sizes ++ gap) = omega (arith, behind_first sizes w (h ∷ []) a, length-append sizes gap) in
       let end : (at_3 + length (gap ++ digits)) + 1 ≡ at + length (sizes ++ (gap ++ (digits ++ (s ∷ []))))
       = omega (arith, behind_first sizes w (h ∷ []) a, length-append sizes (gap ++ (digits ++ (s ∷ []))), length-append gap (digits ++ (s ∷ [])), length-append digits (s ∷ []), length-append gap digits) in
@@ -64,7 +64,7 @@ all_numbers k part rest three (inr (inl n)) = absurd (let lt = n.header in omega
 all_numbers k part rest three (inr (inr n)) = absurd (let lt = n.header in omega arith)
 
 module _ (role : Role) (at : ℕ) where
-  pub header_breaks_again : (numbers values part rest : List ℕ) → AreNumbers is_gap numbers values → IsStuck (length values) part rest → header_at role at (numbers ++ (part ++ rest)) ≡ breaks (Form (at + length (numbers ++ part)))
+  pub header_breaks_again : (numbers values part rest : List ℕ) → AreNumbers is_gap numbers values → IsStuck (length values) part rest → header_at role false at (numbers ++ (part ++ rest)) ≡ breaks (Form (at + length (numbers ++ part)))
   unfolding header_at
   header_breaks_again numbers [] part rest a s = rw a (rw (field_break_again at part rest (unstuck 0 part rest (omega arith) s)) refl)
   header_breaks_again numbers (v ∷ []) part rest a s =

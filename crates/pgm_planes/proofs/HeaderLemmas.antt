@@ -6,7 +6,7 @@ use Rattle.pgm_planes.specs.declared.fault.PlaneFault.{PlaneFault}
 use Rattle.pgm_planes.specs.declared.fault.PlaneFault.TheVariants.{Form}
 use Rattle.pgm_planes.specs.Gaps.{is_space, is_line_end, is_digit, begins, is_filling, is_number, goes_on_to, number_of}
 use Rattle.pgm_planes.specs.Breaks.{is_hash, is_in_comment}
-use Rattle.pgm_planes.specs.Reading.{Reading, breaks, nothing, space_at, filling_at, blanks_at, with_digit, digits_at, number_at}
+use Rattle.pgm_planes.specs.Reading.{Reading, breaks, asks, nothing, space_at, filling_at, blanks_at, with_digit, digits_at, number_at}
 
 -- which way a test went
 pub chosen : {A : Type 0} (b : Bool) (x y z : A) → cond b x y ≡ z → ((b ≡ true) × (x ≡ z)) ⊎ ((b ≡ false) × (y ≡ z))
@@ -34,6 +34,13 @@ break_is e f x = cc
 
 pub not_both : {A : Type 0} (x : A) (at : ℕ) (rest : List ℕ) (f : PlaneFault) → done x at rest ≡ breaks f → ⊥
 not_both x at rest f e = cc
+
+-- a value or a break asks for nothing
+pub done_asks : {A : Type 0} (x : A) (at : ℕ) (rest : List ℕ) → done x at rest ≡ asks → ⊥
+done_asks x at rest e = cc
+
+pub break_asks : {A : Type 0} (f : PlaneFault) → (let r : Reading A = breaks f in r) ≡ asks → ⊥
+break_asks f e = cc
 
 -- a text was taken from the front
 pub record Takes (at : ℕ) (bytes text : List ℕ) (end : ℕ) (rest : List ℕ) : Type 0 where
@@ -69,7 +76,7 @@ pub record StopsFilling (rest : List ℕ) : Type 0 where
 stopped : (at end : ℕ) (bytes rest : List ℕ) → done nothing at bytes ≡ done nothing end rest → StopsFilling bytes → StopsFilling rest
 stopped at end bytes rest e s = subst StopsFilling (same_rest nothing nothing at end bytes rest e) s
 
-pub filling_found : (inside : Bool) (at : ℕ) (bytes : List ℕ) (end : ℕ) (rest : List ℕ) → filling_at inside at bytes ≡ done nothing end rest → (text : List ℕ) × (is_filling inside text ≡ true) × Takes at bytes text end rest × StopsFilling rest
+pub filling_found : (inside : Bool) (at : ℕ) (bytes : List ℕ) (end : ℕ) (rest : List ℕ) → filling_at inside false at bytes ≡ done nothing end rest → (text : List ℕ) × (is_filling inside text ≡ true) × Takes at bytes text end rest × StopsFilling rest
 unfolding filling_at
 filling_found false at [] end rest e = ([], refl, Takes-end nothing nothing at end [] rest e, stopped at end [] rest e (record { no_space = refl; no_hash = refl }))
 filling_found true at [] end rest e = absurd cc
@@ -85,6 +92,25 @@ filling_found true at (b ∷ bytes) end rest e =
     elim (chosen (is_line_end b) _ _ _ e) [
       | inl s ↦ let t = filling_found false (at + 1) bytes end rest s.1 in (b ∷ t.0, filling_by_end b t.0 s.0 t.1, Takes-one at b bytes t.0 end rest t.2, t.3)
       | inr s ↦ let t = filling_found true (at + 1) bytes end rest s.1 in (b ∷ t.0, filling_inside b t.0 s.0 t.1, Takes-one at b bytes t.0 end rest t.2, t.3)
+    ]
+
+-- where no more bytes come none is asked for
+pub filling_answers : (inside : Bool) (at : ℕ) (bytes : List ℕ) → filling_at inside false at bytes ≡ asks → ⊥
+unfolding filling_at
+filling_answers false at [] e = cc
+filling_answers true at [] e = cc
+filling_answers false at (b ∷ bytes) e =
+    elim (chosen (is_space b) _ _ _ e) [
+      | inl s ↦ filling_answers false (at + 1) bytes s.1
+      | inr s ↦ elim (chosen (eqb b 35) _ _ _ s.1) [
+        | inl c ↦ filling_answers true (at + 1) bytes c.1
+        | inr c ↦ done_asks nothing at (b ∷ bytes) c.1
+      ]
+    ]
+filling_answers true at (b ∷ bytes) e =
+    elim (chosen (is_line_end b) _ _ _ e) [
+      | inl s ↦ filling_answers false (at + 1) bytes s.1
+      | inr s ↦ filling_answers true (at + 1) bytes s.1
     ]
 
 -- the parts of a filling
@@ -106,12 +132,12 @@ by_hash b text s f =
     ]
 
 -- what begins neither with white space nor with # ends the filling
-filling_stops : (at : ℕ) (more : List ℕ) → StopsFilling more → filling_at false at more ≡ done nothing at more
+filling_stops : (at : ℕ) (more : List ℕ) → StopsFilling more → filling_at false false at more ≡ done nothing at more
 unfolding filling_at
 filling_stops at [] s = refl
 filling_stops at (d ∷ more) s = rw (s.no_space, s.no_hash) refl
 
-pub filling_again : (inside : Bool) (at : ℕ) (text more : List ℕ) → is_filling inside text ≡ true → StopsFilling more → filling_at inside at (text ++ more) ≡ done nothing (at + length text) more
+pub filling_again : (inside : Bool) (at : ℕ) (text more : List ℕ) → is_filling inside text ≡ true → StopsFilling more → filling_at inside false at (text ++ more) ≡ done nothing (at + length text) more
 unfolding filling_at
 filling_again false at [] more f s = filling_stops at more s ∙ (let e : at ≡ at + 0 = omega arith in ap (λ (n : ℕ). done nothing n more) e)
 filling_again true at [] more f s = absurd cc
@@ -156,7 +182,7 @@ open_inside b bytes n (inr o) = inr (open_more true true b bytes o (filling_insi
 one_more : (at b : ℕ) (bytes : List ℕ) (f : PlaneFault) → f ≡ Form ((at + 1) + length bytes) → f ≡ Form (at + length (b ∷ bytes))
 one_more at b bytes f e = e ∙ ap Form (omega arith)
 
-filling_cut_from : (inside : Bool) (at : ℕ) (bytes : List ℕ) (f : PlaneFault) → filling_at inside at bytes ≡ breaks f → (f ≡ Form (at + length bytes)) × OpenFrom inside bytes
+filling_cut_from : (inside : Bool) (at : ℕ) (bytes : List ℕ) (f : PlaneFault) → filling_at inside false at bytes ≡ breaks f → (f ≡ Form (at + length bytes)) × OpenFrom inside bytes
 unfolding filling_at
 filling_cut_from false at [] f e = absurd cc
 filling_cut_from true at [] f e = (sym (break_is (Form at) f e) ∙ ap Form (omega arith), inl refl)
@@ -174,7 +200,7 @@ filling_cut_from true at (b ∷ bytes) f e =
       | inr s ↦ let t = filling_cut_from true (at + 1) bytes f s.1 in (one_more at b bytes f t.0, open_inside b bytes s.0 t.1)
     ]
 
-pub filling_cut_found : (at : ℕ) (bytes : List ℕ) (f : PlaneFault) → filling_at false at bytes ≡ breaks f → (f ≡ Form (at + length bytes)) × IsOpen false bytes
+pub filling_cut_found : (at : ℕ) (bytes : List ℕ) (f : PlaneFault) → filling_at false false at bytes ≡ breaks f → (f ≡ Form (at + length bytes)) × IsOpen false bytes
 filling_cut_found at bytes f e = filling_cut_from false at bytes f e
 
 in_comment : (b : ℕ) (bs : List ℕ) → list_all is_in_comment (b ∷ bs) ≡ true → (is_line_end b ≡ false) × (list_all is_in_comment bs ≡ true)
@@ -182,7 +208,7 @@ in_comment b bs h =
     let p = and_parts (is_in_comment b) (list_all is_in_comment bs) h in
     (elim (cases_Bool (is_line_end b)) [ inl y ↦ absurd (let x = rw y at p.0 in cc) | inr n ↦ n ], p.1)
 
-comment_again : (at : ℕ) (comment : List ℕ) → list_all is_in_comment comment ≡ true → filling_at true at comment ≡ breaks (Form (at + length comment))
+comment_again : (at : ℕ) (comment : List ℕ) → list_all is_in_comment comment ≡ true → filling_at true false at comment ≡ breaks (Form (at + length comment))
 unfolding filling_at
 comment_again at [] h = ap (λ (n : ℕ). breaks (Form n)) (omega arith)
 comment_again at (b ∷ bs) h =
@@ -190,7 +216,7 @@ comment_again at (b ∷ bs) h =
     let place : (at + 1) + length bs ≡ at + length (b ∷ bs) = omega arith in
     rw p.0 (rw (← place) (comment_again (at + 1) bs p.1))
 
-filling_cut_over : (inside : Bool) (at : ℕ) (gap comment : List ℕ) → is_filling inside gap ≡ true → list_all is_in_comment comment ≡ true → filling_at inside at (gap ++ 35 ∷ comment) ≡ breaks (Form (at + length (gap ++ 35 ∷ comment)))
+filling_cut_over : (inside : Bool) (at : ℕ) (gap comment : List ℕ) → is_filling inside gap ≡ true → list_all is_in_comment comment ≡ true → filling_at inside false at (gap ++ 35 ∷ comment) ≡ breaks (Form (at + length (gap ++ 35 ∷ comment)))
 unfolding filling_at
 filling_cut_over true at [] comment f c = absurd cc
 filling_cut_over false at [] comment f c = comment_again (at + 1) comment c ∙ ap (λ (n : ℕ). breaks (Form n)) (omega arith)
@@ -207,12 +233,12 @@ filling_cut_over true at (b ∷ gap) comment f c =
       | inr n ↦ rw n (rw (← place) (filling_cut_over true (at + 1) gap comment (rw n at f) c))
     ]
 
-pub filling_cut_again : (at : ℕ) (bytes : List ℕ) → IsOpen false bytes → filling_at false at bytes ≡ breaks (Form (at + length bytes))
-filling_cut_again at bytes o = subst (λ (t : List ℕ). filling_at false at t ≡ breaks (Form (at + length t))) (sym o.parts) (filling_cut_over false at o.gap o.comment o.filled o.within)
+pub filling_cut_again : (at : ℕ) (bytes : List ℕ) → IsOpen false bytes → filling_at false false at bytes ≡ breaks (Form (at + length bytes))
+filling_cut_again at bytes o = subst (λ (t : List ℕ). filling_at false false at t ≡ breaks (Form (at + length t))) (sym o.parts) (filling_cut_over false at o.gap o.comment o.filled o.within)
 
 -- ---- white space
 
-pub blanks_found : (at : ℕ) (bytes : List ℕ) (end : ℕ) (rest : List ℕ) → blanks_at at bytes ≡ done nothing end rest → (text : List ℕ) × (list_all is_space text ≡ true) × Takes at bytes text end rest × (begins is_space rest ≡ false)
+pub blanks_found : (at : ℕ) (bytes : List ℕ) (end : ℕ) (rest : List ℕ) → blanks_at false at bytes ≡ done nothing end rest → (text : List ℕ) × (list_all is_space text ≡ true) × Takes at bytes text end rest × (begins is_space rest ≡ false)
 unfolding blanks_at
 blanks_found at [] end rest e = ([], refl, Takes-end nothing nothing at end [] rest e, subst (λ (t : List ℕ). begins is_space t ≡ false) (same_rest nothing nothing at end [] rest e) refl)
 blanks_found at (b ∷ bytes) end rest e =
@@ -221,7 +247,7 @@ blanks_found at (b ∷ bytes) end rest e =
       | inr s ↦ ([], refl, Takes-end nothing nothing at end (b ∷ bytes) rest s.1, subst (λ (t : List ℕ). begins is_space t ≡ false) (same_rest nothing nothing at end (b ∷ bytes) rest s.1) s.0)
     ]
 
-pub blanks_again : (at : ℕ) (text more : List ℕ) → list_all is_space text ≡ true → begins is_space more ≡ false → blanks_at at (text ++ more) ≡ done nothing (at + length text) more
+pub blanks_again : (at : ℕ) (text more : List ℕ) → list_all is_space text ≡ true → begins is_space more ≡ false → blanks_at false at (text ++ more) ≡ done nothing (at + length text) more
 unfolding blanks_at
 blanks_again at [] [] h s = ap (λ (n : ℕ). done nothing n []) (omega arith)
 blanks_again at [] (d ∷ more) h s = rw s (ap (λ (n : ℕ). done nothing n (d ∷ more)) (omega arith))
@@ -230,13 +256,22 @@ blanks_again at (b ∷ text) more h s =
     let place : (at + 1) + length text ≡ at + length (b ∷ text) = omega arith in
     rw p.0 (rw (← place) (blanks_again (at + 1) text more p.1 s))
 
-pub blanks_never : (at : ℕ) (bytes : List ℕ) (f : PlaneFault) → blanks_at at bytes ≡ breaks f → ⊥
+pub blanks_never : (at : ℕ) (bytes : List ℕ) (f : PlaneFault) → blanks_at false at bytes ≡ breaks f → ⊥
 unfolding blanks_at
 blanks_never at [] f e = cc
 blanks_never at (b ∷ bytes) f e =
     elim (chosen (is_space b) _ _ _ e) [
       | inl s ↦ blanks_never (at + 1) bytes f s.1
       | inr s ↦ not_both nothing at (b ∷ bytes) f s.1
+    ]
+
+pub blanks_answers : (at : ℕ) (bytes : List ℕ) → blanks_at false at bytes ≡ asks → ⊥
+unfolding blanks_at
+blanks_answers at [] e = cc
+blanks_answers at (b ∷ bytes) e =
+    elim (chosen (is_space b) _ _ _ e) [
+      | inl s ↦ blanks_answers (at + 1) bytes s.1
+      | inr s ↦ done_asks nothing at (b ∷ bytes) s.1
     ]
 
 -- ---- numbers
@@ -253,7 +288,7 @@ capped_on_the_way n (b ∷ bs) =
     let same : capped (10 * capped n + (b - 48)) ≡ capped (10 * n + (b - 48)) = omega arith in
     sym one ∙ ap (λ (k : ℕ). capped (goes_on_to k bs)) same ∙ two
 
-pub digits_found : (n at : ℕ) (bytes : List ℕ) (m end : ℕ) (rest : List ℕ) → n ≤ 4294967295 → digits_at n at bytes ≡ done m end rest → (text : List ℕ) × (list_all is_digit text ≡ true) × (m ≡ capped (goes_on_to n text)) × Takes at bytes text end rest × (begins is_digit rest ≡ false)
+pub digits_found : (n at : ℕ) (bytes : List ℕ) (m end : ℕ) (rest : List ℕ) → n ≤ 4294967295 → digits_at n false at bytes ≡ done m end rest → (text : List ℕ) × (list_all is_digit text ≡ true) × (m ≡ capped (goes_on_to n text)) × Takes at bytes text end rest × (begins is_digit rest ≡ false)
 unfolding digits_at
 digits_found n at [] m end rest le e = ([], refl, omega (arith, same_value n m at end [] rest e), Takes-end n m at end [] rest e, subst (λ (t : List ℕ). begins is_digit t ≡ false) (same_rest n m at end [] rest e) refl)
 digits_found n at (b ∷ bytes) m end rest le e =
@@ -264,12 +299,12 @@ digits_found n at (b ∷ bytes) m end rest le e =
       | inr s ↦ ([], refl, omega (arith, same_value n m at end (b ∷ bytes) rest s.1), Takes-end n m at end (b ∷ bytes) rest s.1, subst (λ (t : List ℕ). begins is_digit t ≡ false) (same_rest n m at end (b ∷ bytes) rest s.1) s.0)
     ]
 
-digits_stop : (n at : ℕ) (more : List ℕ) → begins is_digit more ≡ false → digits_at n at more ≡ done n at more
+digits_stop : (n at : ℕ) (more : List ℕ) → begins is_digit more ≡ false → digits_at n false at more ≡ done n at more
 unfolding digits_at
 digits_stop n at [] s = refl
 digits_stop n at (d ∷ more) s = rw s refl
 
-pub digits_again : (n at : ℕ) (text more : List ℕ) → n ≤ 4294967295 → list_all is_digit text ≡ true → begins is_digit more ≡ false → digits_at n at (text ++ more) ≡ done (capped (goes_on_to n text)) (at + length text) more
+pub digits_again : (n at : ℕ) (text more : List ℕ) → n ≤ 4294967295 → list_all is_digit text ≡ true → begins is_digit more ≡ false → digits_at n false at (text ++ more) ≡ done (capped (goes_on_to n text)) (at + length text) more
 unfolding digits_at
 digits_again n at [] more le f s = digits_stop n at more s ∙ (let e : at ≡ at + 0 = omega arith in let c : n ≡ capped n = omega arith in ap (λ (k : ℕ). done n k more) e ∙ ap (λ (k : ℕ). done k (at + 0) more) c)
 digits_again n at (b ∷ text) more le f s =
@@ -277,7 +312,7 @@ digits_again n at (b ∷ text) more le f s =
     let parts = and_parts (is_digit b) (list_all is_digit text) f in
     rw parts.0 (digits_again (with_digit n b) (at + 1) text more (omega arith) parts.1 s ∙ rw (place, capped_on_the_way (10 * n + (b - 48)) text) refl)
 
-digits_never : (n at : ℕ) (bytes : List ℕ) (f : PlaneFault) → digits_at n at bytes ≡ breaks f → ⊥
+digits_never : (n at : ℕ) (bytes : List ℕ) (f : PlaneFault) → digits_at n false at bytes ≡ breaks f → ⊥
 unfolding digits_at
 digits_never n at [] f e = cc
 digits_never n at (b ∷ bytes) f e =
@@ -286,10 +321,28 @@ digits_never n at (b ∷ bytes) f e =
       | inr s ↦ not_both n at (b ∷ bytes) f s.1
     ]
 
-digit_small : (b : ℕ) → is_digit b ≡ true → b - 48 ≤ 4294967295
+digits_answers : (n at : ℕ) (bytes : List ℕ) → digits_at n false at bytes ≡ asks → ⊥
+unfolding digits_at
+digits_answers n at [] e = cc
+digits_answers n at (b ∷ bytes) e =
+    elim (chosen (is_digit b) _ _ _ e) [
+      | inl s ↦ digits_answers (with_digit n b) (at + 1) bytes s.1
+      | inr s ↦ done_asks n at (b ∷ bytes) s.1
+    ]
+
+pub number_answers : (cut : PlaneFault) (at : ℕ) (bytes : List ℕ) → number_at cut false at bytes ≡ asks → ⊥
+unfolding number_at
+number_answers cut at [] e = cc
+number_answers cut at (b ∷ bytes) e =
+    elim (chosen (is_digit b) _ _ _ e) [
+      | inl s ↦ digits_answers (b - 48) (at + 1) bytes s.1
+      | inr s ↦ break_asks {A = ℕ} (Form at) s.1
+    ]
+
+pub digit_small : (b : ℕ) → is_digit b ≡ true → b - 48 ≤ 4294967295
 digit_small b d = let p = and_parts (ltb 47 b) (ltb b 58) d in omega (arith, ltb-true b 58 p.1)
 
-pub number_found : (cut : PlaneFault) (at : ℕ) (bytes : List ℕ) (m end : ℕ) (rest : List ℕ) → number_at cut at bytes ≡ done m end rest → (text : List ℕ) × (is_number text ≡ true) × (m ≡ number_of text) × Takes at bytes text end rest × (begins is_digit rest ≡ false)
+pub number_found : (cut : PlaneFault) (at : ℕ) (bytes : List ℕ) (m end : ℕ) (rest : List ℕ) → number_at cut false at bytes ≡ done m end rest → (text : List ℕ) × (is_number text ≡ true) × (m ≡ number_of text) × Takes at bytes text end rest × (begins is_digit rest ≡ false)
 unfolding number_at
 number_found cut at [] m end rest e = absurd cc
 number_found cut at (b ∷ bytes) m end rest e =
@@ -301,7 +354,7 @@ number_found cut at (b ∷ bytes) m end rest e =
       | inr s ↦ absurd (let x = s.1 in cc)
     ]
 
-pub number_again : (cut : PlaneFault) (at : ℕ) (text more : List ℕ) → is_number text ≡ true → begins is_digit more ≡ false → number_at cut at (text ++ more) ≡ done (number_of text) (at + length text) more
+pub number_again : (cut : PlaneFault) (at : ℕ) (text more : List ℕ) → is_number text ≡ true → begins is_digit more ≡ false → number_at cut false at (text ++ more) ≡ done (number_of text) (at + length text) more
 unfolding number_at
 number_again cut at [] more f s = absurd cc
 number_again cut at (b ∷ text) more f s =
@@ -312,7 +365,7 @@ number_again cut at (b ∷ text) more f s =
     rw parts.0 (digits_again (b - 48) (at + 1) text more small parts.1 s ∙ rw (place, start) refl)
 
 -- where no number begins: the end, or another byte
-pub number_break : (cut : PlaneFault) (at : ℕ) (bytes : List ℕ) (f : PlaneFault) → number_at cut at bytes ≡ breaks f → ((bytes ≡ []) × (f ≡ cut)) ⊎ ((b : ℕ) × (rest : List ℕ) × (bytes ≡ b ∷ rest) × (is_digit b ≡ false) × (f ≡ Form at))
+pub number_break : (cut : PlaneFault) (at : ℕ) (bytes : List ℕ) (f : PlaneFault) → number_at cut false at bytes ≡ breaks f → ((bytes ≡ []) × (f ≡ cut)) ⊎ ((b : ℕ) × (rest : List ℕ) × (bytes ≡ b ∷ rest) × (is_digit b ≡ false) × (f ≡ Form at))
 unfolding number_at
 number_break cut at [] f e = inl (refl, sym (break_is cut f e))
 number_break cut at (b ∷ bytes) f e =
@@ -321,20 +374,20 @@ number_break cut at (b ∷ bytes) f e =
       | inr s ↦ inr (b, bytes, refl, s.0, sym (break_is (Form at) f s.1))
     ]
 
-pub no_number : (at : ℕ) (rest : List ℕ) → begins is_digit rest ≡ false → number_at (Form at) at rest ≡ breaks (Form at)
+pub no_number : (at : ℕ) (rest : List ℕ) → begins is_digit rest ≡ false → number_at (Form at) false at rest ≡ breaks (Form at)
 unfolding number_at
 no_number at [] h = refl
 no_number at (b ∷ rest) h = rw h refl
 
 -- what one byte is read as
-pub space_taken : (at b : ℕ) (rest : List ℕ) → is_space b ≡ true → space_at at (b ∷ rest) ≡ done nothing (at + 1) rest
+pub space_taken : (more : Bool) (at b : ℕ) (rest : List ℕ) → is_space b ≡ true → space_at more at (b ∷ rest) ≡ done nothing (at + 1) rest
 unfolding space_at
-space_taken at b rest s = rw s refl
+space_taken more at b rest s = rw s refl
 
-pub space_refused : (at b : ℕ) (rest : List ℕ) → is_space b ≡ false → space_at at (b ∷ rest) ≡ breaks (Form at)
+pub space_refused : (more : Bool) (at b : ℕ) (rest : List ℕ) → is_space b ≡ false → space_at more at (b ∷ rest) ≡ breaks (Form at)
 unfolding space_at
-space_refused at b rest s = rw s refl
+space_refused more at b rest s = rw s refl
 
-pub space_missed : (at : ℕ) → space_at at [] ≡ breaks (Form at)
+pub space_missed : (at : ℕ) → space_at false at [] ≡ breaks (Form at)
 unfolding space_at
 space_missed at = refl

@@ -11,6 +11,10 @@ pub mod LimitLemmas
 pub mod PlaneLemmas
 pub mod PlaneWalk
 pub mod PlaneAgain
+pub mod FarLemmas
+pub mod NearLemmas
+pub mod CutLemmas
+pub mod AskLemmas
 pub mod AnswerLemmas
 pub mod WriteLemmas
 pub mod TextLemmas

@@ -142,8 +142,8 @@ abbrev pub header_record : ℕ → ℕ → ℕ → HeaderOf
 header_record w h m = record { width = w; height = h; maxval = m }
 
 abbrev pub HeaderWalk : Role → ℕ → List ℕ → Type 0
-HeaderWalk role at bytes = ((f : PlaneFault) × (header_at role at bytes ≡ breaks f) × BrokenHeader at bytes f)
-    ⊎ ((w : ℕ) × (h : ℕ) × (m : ℕ) × (place : ℕ) × (end : ℕ) × (rest : List ℕ) × (header_at role at bytes ≡ unless_broken (header_break role w h m place) (done (header_record w h m) end rest)) × HeaderText w h m place at bytes end rest)
+HeaderWalk role at bytes = ((f : PlaneFault) × (header_at role false at bytes ≡ breaks f) × BrokenHeader at bytes f)
+    ⊎ ((w : ℕ) × (h : ℕ) × (m : ℕ) × (place : ℕ) × (end : ℕ) × (rest : List ℕ) × (header_at role false at bytes ≡ unless_broken (header_break role w h m place) (done (header_record w h m) end rest)) × HeaderText w h m place at bytes end rest)
 
 header_text : (at : ℕ) (bytes : List ℕ) (w h m place end : ℕ) (rest : List ℕ) (at_3 : ℕ) (bytes_3 : List ℕ) (at_4 space : ℕ) (others : List ℕ) → ReadNumbers at bytes (w ∷ h ∷ []) at_3 bytes_3 → FieldText m place at_3 bytes_3 at_4 (space ∷ others) → is_space space ≡ true → HeaderText w h m place at bytes (at_4 + 1) others
 header_text at bytes w h m place end rest at_3 bytes_3 at_4 space others r f s =

@@ -1,5 +1,5 @@
 -- A whole plane: bytes begin with one, or break where the reader does.
-use Rattle.std.proofs.Common.{◌≡◌, ℕ, ◌+◌, true, ◌&&◌, ◌⊎◌, List, [], ◌∷◌, ◌++◌, refl, sym, ap, ◌∙◌, inl, inr, eqb, ltb}
+use Rattle.std.proofs.Common.{◌≡◌, ℕ, ◌+◌, true, false, ◌&&◌, ◌⊎◌, List, [], ◌∷◌, ◌++◌, refl, sym, ap, ◌∙◌, inl, inr, eqb, ltb}
 use Rattle.std.proofs.lemmas.Bool.{and_parts, cases_Bool, eqb-true}
 use Rattle.pgm_planes.specs.declared.fault.PlaneFault.TheVariants.{Magic}
 use Rattle.pgm_planes.specs.declared.spelling.Spelling.{Spelling}
@@ -13,15 +13,15 @@ use Rattle.pgm_planes.proofs.SampleLemmas.{Rastered, LeadFits, EndsSample, CutSa
 
 -- ---- the magic
 
-pub magic_again : (spelling : Spelling) (at : ℕ) (behind : List ℕ) → magic_at at (80 ∷ digit_of spelling ∷ behind) ≡ done spelling (at + 2) behind
+pub magic_again : (spelling : Spelling) (at : ℕ) (behind : List ℕ) → magic_at false at (80 ∷ digit_of spelling ∷ behind) ≡ done spelling (at + 2) behind
 unfolding magic_at
 magic_again Raw at behind = refl
 magic_again Plain at behind = refl
 
 abbrev pub MagicWalk : ℕ → List ℕ → Type 0
-MagicWalk at bytes = ((magic_at at bytes ≡ breaks Magic) × HasNoMagic bytes) ⊎ ((spelling : Spelling) × (rest : List ℕ) × (bytes ≡ 80 ∷ digit_of spelling ∷ rest))
+MagicWalk at bytes = ((magic_at false at bytes ≡ breaks Magic) × HasNoMagic bytes) ⊎ ((spelling : Spelling) × (rest : List ℕ) × (bytes ≡ 80 ∷ digit_of spelling ∷ rest))
 
-magic_of : (at a b : ℕ) (rest : List ℕ) → (magic_at at (a ∷ b ∷ rest) ≡ breaks Magic) ⊎ ((spelling : Spelling) × (other : List ℕ) × (a ∷ b ∷ rest ≡ 80 ∷ digit_of spelling ∷ other))
+magic_of : (at a b : ℕ) (rest : List ℕ) → (magic_at false at (a ∷ b ∷ rest) ≡ breaks Magic) ⊎ ((spelling : Spelling) × (other : List ℕ) × (a ∷ b ∷ rest ≡ 80 ∷ digit_of spelling ∷ other))
 unfolding magic_at
 magic_of at a b rest = elim (cases_Bool (eqb a 80 && eqb b 53)) [
   | inl y ↦ let p = and_parts (eqb a 80) (eqb b 53) y in inr (Raw, rest, rw (eqb-true a 80 p.0, eqb-true b 53 p.1) refl)
@@ -31,8 +31,8 @@ magic_of at a b rest = elim (cases_Bool (eqb a 80 && eqb b 53)) [
   ]
 ]
 
-none_of : (at : ℕ) (bytes : List ℕ) → magic_at at bytes ≡ breaks Magic → HasNoMagic bytes
-none_of at bytes e spelling behind is = not_both spelling (at + 2) behind Magic (sym (magic_again spelling at behind) ∙ ap (magic_at at) (sym is) ∙ e)
+none_of : (at : ℕ) (bytes : List ℕ) → magic_at false at bytes ≡ breaks Magic → HasNoMagic bytes
+none_of at bytes e spelling behind is = not_both spelling (at + 2) behind Magic (sym (magic_again spelling at behind) ∙ ap (magic_at false at) (sym is) ∙ e)
 
 pub magic_walk : (at : ℕ) (bytes : List ℕ) → MagicWalk at bytes
 unfolding magic_at

@@ -13,10 +13,10 @@ use Rattle.pgm_planes.proofs.CallLemmas.{Goes, as_spelling, becomes, passes_on}
 use Rattle.pgm_planes.proofs.StepLemmas.{bind_goes, bind_passes, as_samples}
 
 unfoldable pub after_header : Spelling → HeaderOf → Reader PlaneOf
-after_header spelling h at bytes = raster_at spelling h.maxval (h.width * h.height) at bytes >>= λ vs end others. Ok (record { width = h.width; height = h.height; maxval = h.maxval; samples = vs }, end, others)
+after_header spelling h more at bytes = raster_at spelling h.maxval (h.width * h.height) more at bytes >>= λ vs end others. Ok (record { width = h.width; height = h.height; maxval = h.maxval; samples = vs }, end, others)
 
-pub after_magic : Role → Spelling → Reader PlaneOf
-after_magic role spelling at bytes = header_at role at bytes >>= after_header spelling
+unfoldable pub after_magic : Role → Spelling → Reader PlaneOf
+after_magic role spelling more at bytes = header_at role more at bytes >>= λ h. after_header spelling h more
 
 module _ (role : Role) (c : Call) where
   pub plane_magic : (s : Spelling) → Reads as_spelling (Ok s) c magic_at → Goes c (plane_at role) (after_magic role s)
@@ -38,8 +38,8 @@ module _ (role : Role) (c : Call) where
 module _ (s : Spelling) (h : HeaderOf) (c : Call) where
   pub plane_samples : (v : Vec ℕ) (p : Plane) → Reads as_samples (Ok v) c (raster_at s h.maxval (h.width * h.height)) → plane_of p ≡ record { width = h.width; height = h.height; maxval = h.maxval; samples = v.items } → Reads plane_of (Ok p) c (after_header s h)
   unfolding after_header
-  plane_samples v p r is = becomes as_samples plane_of c v p (raster_at s h.maxval (h.width * h.height)) (after_header s h) r (λ bytes rest e. rw (e, is) refl)
+  plane_samples v p r is = becomes as_samples plane_of c v p (raster_at s h.maxval (h.width * h.height)) (after_header s h) r (λ more bytes rest e. rw (e, is) refl)
 
   pub plane_samples_passes : (e : ReadPlaneFault) → Reads as_samples (Err e) c (raster_at s h.maxval (h.width * h.height)) → Reads plane_of (Err e) c (after_header s h)
   unfolding after_header
-  plane_samples_passes e r = passes_on as_samples plane_of c e (raster_at s h.maxval (h.width * h.height)) (after_header s h) r (λ bytes g x. rw x refl)
+  plane_samples_passes e r = passes_on as_samples plane_of c e (raster_at s h.maxval (h.width * h.height)) (after_header s h) r (λ more bytes g x. rw x refl)

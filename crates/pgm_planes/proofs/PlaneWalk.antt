@@ -6,19 +6,19 @@ use Rattle.std.proofs.lemmas.List.Elements.{All-from_recursion}
 use Rattle.std.proofs.lemmas.Nat.{mul-le}
 use Rattle.pgm_planes.specs.declared.fault.Role.{Role}
 use Rattle.pgm_planes.specs.declared.fault.PlaneFault.{PlaneFault}
-use Rattle.pgm_planes.specs.declared.fault.PlaneFault.TheVariants.{Magic, Form, Size}
+use Rattle.pgm_planes.specs.declared.fault.PlaneFault.TheVariants.{Magic, Form, Size, SampleAbove}
 use Rattle.pgm_planes.specs.declared.spelling.Spelling.{Spelling}
 use Rattle.pgm_planes.specs.declared.spelling.Spelling.TheVariants.{Raw, Plain}
 use Rattle.pgm_planes.specs.declared.samples.SampleForm.TheVariants.{Digits}
 use Rattle.pgm_planes.specs.Gaps.{is_space, is_gap, is_blank, begins}
-use Rattle.pgm_planes.specs.Planes.{PlaneOf, HasMaxval, IsSize, AreNumbers, digit_of, HasHeader, AreSamples, IsEnd, SpellsPlane}
-use Rattle.pgm_planes.specs.Breaks.{HasSamples, FirstBreak}
+use Rattle.pgm_planes.specs.Planes.{PlaneOf, HasMaxval, IsSize, AreNumbers, digit_of, HasHeader, AreSamples, IsEnd, IsPlaneText, SpellsPlane}
+use Rattle.pgm_planes.specs.Breaks.{HasSamples, IsAbove, FirstBreak}
 use Rattle.pgm_planes.specs.Reading.{Reading, ◌>>=◌, breaks, nothing, magic_at, header_break, unless_broken, header_at, blanks_at, form_of, end_at, raster_at, plane_at}
-use Rattle.pgm_planes.proofs.HeaderLemmas.{done, Takes, Takes-none, blanks_found, blanks_never}
+use Rattle.pgm_planes.proofs.HeaderLemmas.{done, Takes, Takes-none, blanks_found, blanks_never, blanks_answers}
 use Rattle.pgm_planes.proofs.FieldLemmas.{cases_reading, blank_spaced}
 use Rattle.pgm_planes.proofs.NumberLemmas.{more_numbers, BrokenHeader, HeaderText, header_record, header_walk}
 use Rattle.pgm_planes.proofs.SampleLemmas.{BadByte}
-use Rattle.pgm_planes.proofs.RasterLemmas.{AllBelow, SamplesBreak, SamplesText, samples_walk}
+use Rattle.pgm_planes.proofs.RasterLemmas.{AllBelow, AboveIn, SamplesBreak, SamplesText, samples_walk}
 use Rattle.pgm_planes.proofs.LimitLemmas.{MaxvalBreak, limit_walk}
 use Rattle.pgm_planes.proofs.PlaneSteps.{after_header}
 use Rattle.pgm_planes.proofs.PlaneLemmas.{magic_again, magic_walk, lead_of, front_of, front_then, lead_fits, samples_are, has_ended, is_cut}
@@ -38,20 +38,20 @@ walk_is role at bytes r q e w = subst (PlaneWalk role at bytes) (sym e) w
 
 -- ---- the end of a plain raster
 
-abbrev EndWalk : ℕ → List ℕ → Type 0
-EndWalk at bytes = ((byte : ℕ) × (behind : List ℕ) × (bytes ≡ byte ∷ behind) × (is_space byte ≡ false) × (end_at at bytes ≡ breaks (Form at)))
-    ⊎ ((blank : List ℕ) × (end : ℕ) × (rest : List ℕ) × (end_at at bytes ≡ done nothing end rest) × IsEnd Plain blank rest × Takes at bytes blank end rest)
+abbrev pub EndWalk : ℕ → List ℕ → Type 0
+EndWalk at bytes = ((byte : ℕ) × (behind : List ℕ) × (bytes ≡ byte ∷ behind) × (is_space byte ≡ false) × (end_at false at bytes ≡ breaks (Form at)))
+    ⊎ ((blank : List ℕ) × (end : ℕ) × (rest : List ℕ) × (end_at false at bytes ≡ done nothing end rest) × IsEnd Plain blank rest × Takes at bytes blank end rest)
 
 some_blank : (at b : ℕ) (bytes blank : List ℕ) (end : ℕ) (rest : List ℕ) → is_space b ≡ true → begins is_space rest ≡ false → Takes at (b ∷ bytes) blank end rest → blank ≡ [] → rest ≡ []
 some_blank at b bytes blank end rest y n t e =
     absurd (both_ways (begins is_space rest) n (ap (begins is_space) (sym (t.parts ∙ ap (λ (x : List ℕ). x ++ rest) e)) ∙ y))
 
-end_walk : (at : ℕ) (bytes : List ℕ) → EndWalk at bytes
+pub end_walk : (at : ℕ) (bytes : List ℕ) → EndWalk at bytes
 unfolding end_at blanks_at
 end_walk at [] = inr ([], at, [], refl, (refl, refl, λ _. refl), Takes-none at [])
 end_walk at (b ∷ bytes) = elim (cases_Bool (is_space b)) [
   | inr n ↦ inl (b, bytes, refl, n, rw n refl)
-  | inl y ↦ elim (cases_reading (blanks_at (at + 1) bytes)) [
+  | inl y ↦ elim (cases_reading (blanks_at false (at + 1) bytes) (blanks_answers (at + 1) bytes)) [
     | inl f ↦ absurd (blanks_never (at + 1) bytes f.0 f.1)
     | inr t ↦
         let found = blanks_found (at + 1) bytes t.1 t.2 t.3 in
@@ -84,7 +84,7 @@ module _ (role : Role) (spelling : Spelling) (at : ℕ) (bytes : List ℕ) (w h 
     below = All-from_recursion (λ v. v ≤ m) vs b;
   }
 
-digits_alone : (spelling : Spelling) (m : ℕ) → form_of spelling m ≡ Digits → spelling ≡ Plain
+pub digits_alone : (spelling : Spelling) (m : ℕ) → form_of spelling m ≡ Digits → spelling ≡ Plain
 digits_alone Raw m e = absurd (elim (cases_Bool (ltb 255 m)) [ inl y ↦ (let x = rw y at e in cc) | inr n ↦ (let x = rw n at e in cc) ])
 digits_alone Plain m e = refl
 
@@ -113,21 +113,29 @@ bad_break role Plain at bytes w h m space start rest d e place samples values fr
 )
 
 module _ (role : Role) (spelling : Spelling) (at : ℕ) (bytes : List ℕ) (w h m space start : ℕ) (rest : List ℕ) (d : Headed role spelling at bytes w h m space start rest) where
-  samples_break : (f : PlaneFault) → SamplesBreak (form_of spelling m) m (w * h) 0 start rest (lead_of spelling space ++ rest) f → FirstBreak role at bytes f
-  samples_break f (inl a) = subst (FirstBreak role at bytes) (sym a.fault) (record {
-    spelling = spelling;
-    samples = front_of spelling space ++ a.samples;
-    values = a.values;
-    rest = a.rest;
-    maxval = m;
-    pixels = w * h;
-    good = good_samples role spelling at bytes w h m space start rest d a.samples a.values a.rest a.parts a.below;
-    are = samples_are spelling m space a.samples (a.values ++ a.value ∷ []) d.spaces a.are;
-    ended = has_ended spelling m a.rest a.ends;
-    place = omega arith;
-    some = omega (arith, a.some);
-    above = a.above;
-  })
+  -- the bytes behind the sample that is above are those of the raster
+  pub above_break : (f : PlaneFault) (a : AboveIn (form_of spelling m) m (w * h) 0 (lead_of spelling space ++ rest) f) → (s : IsAbove role bytes (length a.values) a.value) × (s.spelling ≡ spelling) × (s.rest ≡ a.rest)
+  above_break f a = (
+    record {
+      spelling = spelling;
+      samples = front_of spelling space ++ a.samples;
+      values = a.values;
+      rest = a.rest;
+      maxval = m;
+      pixels = w * h;
+      good = good_samples role spelling at bytes w h m space start rest d a.samples a.values a.rest a.parts a.below;
+      are = samples_are spelling m space a.samples (a.values ++ a.value ∷ []) d.spaces a.are;
+      ended = has_ended spelling m a.rest a.ends;
+      place = refl;
+      some = a.some;
+      above = a.above;
+    },
+    refl,
+    refl,
+  )
+
+  pub samples_break : (f : PlaneFault) → SamplesBreak (form_of spelling m) m (w * h) 0 start rest (lead_of spelling space ++ rest) f → FirstBreak role at bytes f
+  samples_break f (inl a) = let place : length a.values ≡ 0 + length a.values = omega arith in subst (FirstBreak role at bytes) (ap (λ (i : ℕ). SampleAbove i a.value) place ∙ sym a.fault) (above_break f a).0
   samples_break f (inr (inl a)) = subst (FirstBreak role at bytes) (sym a.fault) (record {
     spelling = spelling;
     samples = front_of spelling space ++ a.samples;
@@ -175,9 +183,16 @@ samples_begin Plain m samples (v ∷ vs) more one a = rw (a.3, append_assoc a.0 
 pub pixels_some : (w h : ℕ) → IsSize w h → 1 ≤ w * h
 pixels_some w h s = let p = mul-le 1 1 w h s.across.0 s.along.0 in omega (arith, p)
 
-plane_read : (role : Role) (spelling : Spelling) (at : ℕ) (bytes : List ℕ) (w h m space start : ℕ) (rest vs : List ℕ) (end : ℕ) (others blank : List ℕ) (last : ℕ) (more : List ℕ) → Headed role spelling at bytes w h m space start rest → SamplesText (form_of spelling m) m (w * h) start rest (lead_of spelling space ++ rest) vs end others → IsEnd spelling blank more → Takes end others blank last more
-    → PlaneRead role at bytes (record { width = w; height = h; maxval = m; samples = vs }) last more
-plane_read role spelling at bytes w h m space start rest vs end others blank last more d t e k =
+-- a plane's text in this spelling was taken from the front
+pub record TextRead (spelling : Spelling) (role : Role) (at : ℕ) (bytes : List ℕ) (p : PlaneOf) (end : ℕ) (rest : List ℕ) : Type 0 where
+  pub text : List ℕ
+  pub parts : bytes ≡ text ++ rest
+  pub place : end ≡ at + length text
+  pub spells : IsPlaneText spelling role text p rest
+
+pub text_read : (role : Role) (spelling : Spelling) (at : ℕ) (bytes : List ℕ) (w h m space start : ℕ) (rest vs : List ℕ) (end : ℕ) (others blank : List ℕ) (last : ℕ) (more : List ℕ) → Headed role spelling at bytes w h m space start rest → SamplesText (form_of spelling m) m (w * h) start rest (lead_of spelling space ++ rest) vs end others → IsEnd spelling blank more → Takes end others blank last more
+    → TextRead spelling role at bytes (record { width = w; height = h; maxval = m; samples = vs }) last more
+text_read role spelling at bytes w h m space start rest vs end others blank last more d t e k =
     let samples : List ℕ = front_of spelling space ++ t.samples in
     let are = samples_are spelling m space t.samples vs d.spaces t.are in
     let one : 1 ≤ length vs = let p = pixels_some w h d.size in omega (arith, p, t.count) in
@@ -190,41 +205,41 @@ plane_read role spelling at bytes w h m space start rest vs end others blank las
       text = text;
       parts = whole;
       place = omega (arith, d.place, t.place, k.place, ap length whole, ap length k.parts, length-append text more, length-append blank more);
-      spells = (
-        spelling,
-        record {
-          samples = samples;
-          end = blank;
-          header = record { numbers = numbers; whole = refl; are = d.header.are; space = samples_begin spelling m samples vs blank one are };
-          raster = are;
-          ended = e;
-          plane = record { size = d.size; maxval = d.fits; count = t.count; samples = All-from_recursion (λ v. v ≤ m) vs t.below };
-        },
-      );
+      spells = record {
+        samples = samples;
+        end = blank;
+        header = record { numbers = numbers; whole = refl; are = d.header.are; space = samples_begin spelling m samples vs blank one are };
+        raster = are;
+        ended = e;
+        plane = record { size = d.size; maxval = d.fits; count = t.count; samples = All-from_recursion (λ v. v ≤ m) vs t.below };
+      };
     }
+
+plane_read : (role : Role) (spelling : Spelling) (at : ℕ) (bytes : List ℕ) (p : PlaneOf) (end : ℕ) (rest : List ℕ) → TextRead spelling role at bytes p end rest → PlaneRead role at bytes p end rest
+plane_read role spelling at bytes p end rest t = record { text = t.text; parts = t.parts; place = t.place; spells = (spelling, t.spells) }
 
 -- ---- the raster
 
-raster_walk : (role : Role) (spelling : Spelling) (at : ℕ) (bytes : List ℕ) (w h m space start : ℕ) (rest : List ℕ) → Headed role spelling at bytes w h m space start rest → PlaneWalk role at bytes (after_header spelling (header_record w h m) start rest)
+raster_walk : (role : Role) (spelling : Spelling) (at : ℕ) (bytes : List ℕ) (w h m space start : ℕ) (rest : List ℕ) → Headed role spelling at bytes w h m space start rest → PlaneWalk role at bytes (after_header spelling (header_record w h m) false start rest)
 unfolding after_header raster_at
 raster_walk role Raw at bytes w h m space start rest d =
     elim (samples_walk (form_of Raw m) m (w * h) 0 start [] rest (lead_fits Raw m space rest d.spaces) (λ _. refl)) [
       | inl b ↦ inl (b.0, rw b.1 refl, samples_break role Raw at bytes w h m space start rest d b.0 b.2)
-      | inr t ↦ inr (record { width = w; height = h; maxval = m; samples = t.0 }, t.1, t.2, rw t.3 refl, plane_read role Raw at bytes w h m space start rest t.0 t.1 t.2 [] t.1 t.2 d t.4 refl (Takes-none t.1 t.2))
+      | inr t ↦ inr (record { width = w; height = h; maxval = m; samples = t.0 }, t.1, t.2, rw t.3 refl, plane_read role Raw at bytes (record { width = w; height = h; maxval = m; samples = t.0 }) t.1 t.2 (text_read role Raw at bytes w h m space start rest t.0 t.1 t.2 [] t.1 t.2 d t.4 refl (Takes-none t.1 t.2)))
     ]
 raster_walk role Plain at bytes w h m space start rest d =
     elim (samples_walk Digits m (w * h) 0 start (space ∷ []) rest (lead_fits Plain m space rest d.spaces) (λ none. absurd (let p = pixels_some w h d.size in omega (arith, p, none)))) [
       | inl b ↦ inl (b.0, rw b.1 refl, samples_break role Plain at bytes w h m space start rest d b.0 b.2)
       | inr t ↦ elim (end_walk t.1 t.2) [
         | inl b ↦ inl (Form t.1, rw (t.3, b.4) refl, end_break role at bytes w h m space start rest t.0 t.1 b.0 b.1 d (subst (SamplesText Digits m (w * h) start rest (space ∷ rest) t.0 t.1) b.2 t.4) b.3)
-        | inr e ↦ inr (record { width = w; height = h; maxval = m; samples = t.0 }, e.1, e.2, rw (t.3, e.3) refl, plane_read role Plain at bytes w h m space start rest t.0 t.1 t.2 e.0 e.1 e.2 d t.4 e.4 e.5)
+        | inr e ↦ inr (record { width = w; height = h; maxval = m; samples = t.0 }, e.1, e.2, rw (t.3, e.3) refl, plane_read role Plain at bytes (record { width = w; height = h; maxval = m; samples = t.0 }) e.1 e.2 (text_read role Plain at bytes w h m space start rest t.0 t.1 t.2 e.0 e.1 e.2 d t.4 e.4 e.5))
       ]
     ]
 
 -- ---- the header
 
 module _ (role : Role) (spelling : Spelling) (at : ℕ) (rest : List ℕ) where
-  pub plane_behind : plane_at role at (80 ∷ digit_of spelling ∷ rest) ≡ (header_at role (at + 2) rest >>= after_header spelling)
+  pub plane_behind : plane_at role false at (80 ∷ digit_of spelling ∷ rest) ≡ (header_at role false (at + 2) rest >>= λ header. after_header spelling header false)
   unfolding plane_at after_header
   plane_behind = rw (magic_again spelling at rest) refl
 
@@ -236,7 +251,7 @@ module _ (role : Role) (spelling : Spelling) (at : ℕ) (rest : List ℕ) where
   )
 
   module _ (w h m place end : ℕ) (others : List ℕ) (t : HeaderText w h m place (at + 2) rest end others) where
-    header_is : HasHeader spelling (80 ∷ digit_of spelling ∷ rest) w h m (t.space ∷ others)
+    pub header_is : HasHeader spelling (80 ∷ digit_of spelling ∷ rest) w h m (t.space ∷ others)
     header_is = record {
       numbers = t.sizes ++ (t.gap ++ t.digits);
       whole = ap (λ (x : List ℕ). 80 ∷ digit_of spelling ∷ x) (t.parts ∙ sym (append_assoc t.sizes (t.gap ++ t.digits) (t.space ∷ others) ∙ ap (λ (x : List ℕ). t.sizes ++ x) (append_assoc t.gap t.digits (t.space ∷ others))));
@@ -271,7 +286,7 @@ module _ (role : Role) (spelling : Spelling) (at : ℕ) (rest : List ℕ) where
       )
     ]
 
-    judged_walk : PlaneWalk role at (80 ∷ digit_of spelling ∷ rest) (unless_broken (header_break role w h m place) (done (header_record w h m) end others) >>= after_header spelling)
+    judged_walk : PlaneWalk role at (80 ∷ digit_of spelling ∷ rest) (unless_broken (header_break role w h m place) (done (header_record w h m) end others) >>= λ header. after_header spelling header false)
     judged_walk = elim (limit_walk role w h m place) [
       | inl l ↦ rw l.0 (raster_walk role spelling at (80 ∷ digit_of spelling ∷ rest) w h m t.space end others (record { header = header_is; spaces = t.spaces; size = l.1; fits = l.2; place = omega (arith, t.end_is) }))
       | inr b ↦ elim b [
@@ -280,20 +295,20 @@ module _ (role : Role) (spelling : Spelling) (at : ℕ) (rest : List ℕ) where
       ]
     ]
 
-  behind_walk : PlaneWalk role at (80 ∷ digit_of spelling ∷ rest) (header_at role (at + 2) rest >>= after_header spelling)
+  behind_walk : PlaneWalk role at (80 ∷ digit_of spelling ∷ rest) (header_at role false (at + 2) rest >>= λ header. after_header spelling header false)
   behind_walk = elim (header_walk role (at + 2) rest) [
     | inl b ↦ inl (b.0, rw b.1 refl, header_first b.0 b.2)
     | inr t ↦ rw t.6 (judged_walk t.0 t.1 t.2 t.3 t.4 t.5 t.7)
   ]
 
-pub no_magic : (role : Role) (at : ℕ) (bytes : List ℕ) → magic_at at bytes ≡ breaks Magic → plane_at role at bytes ≡ breaks Magic
+pub no_magic : (role : Role) (at : ℕ) (bytes : List ℕ) → magic_at false at bytes ≡ breaks Magic → plane_at role false at bytes ≡ breaks Magic
 unfolding plane_at
 no_magic role at bytes e = rw e refl
 
 -- the reader reads a plane's text or tells the first break
-pub plane_walk : (role : Role) (at : ℕ) (bytes : List ℕ) → PlaneWalk role at bytes (plane_at role at bytes)
+pub plane_walk : (role : Role) (at : ℕ) (bytes : List ℕ) → PlaneWalk role at bytes (plane_at role false at bytes)
 plane_walk role at bytes = elim (magic_walk at bytes) [
   | inl e ↦ inl (Magic, no_magic role at bytes e.0, e.1)
-  | inr s ↦ subst (λ (t : List ℕ). PlaneWalk role at t (plane_at role at t)) (sym s.2)
-      (walk_is role at (80 ∷ digit_of s.0 ∷ s.1) (plane_at role at (80 ∷ digit_of s.0 ∷ s.1)) (header_at role (at + 2) s.1 >>= after_header s.0) (plane_behind role s.0 at s.1) (behind_walk role s.0 at s.1))
+  | inr s ↦ subst (λ (t : List ℕ). PlaneWalk role at t (plane_at role false at t)) (sym s.2)
+      (walk_is role at (80 ∷ digit_of s.0 ∷ s.1) (plane_at role false at (80 ∷ digit_of s.0 ∷ s.1)) (header_at role false (at + 2) s.1 >>= λ header. after_header s.0 header false) (plane_behind role s.0 at s.1) (behind_walk role s.0 at s.1))
 ]

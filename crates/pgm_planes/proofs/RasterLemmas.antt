@@ -1,5 +1,5 @@
 -- Samples one after the other: what is read is spelled so, what is spelled so is read, and where the form breaks.
-use Rattle.std.proofs.Common.{◌≡◌, ℕ, zero, suc, ◌+◌, ◌≤◌, ◌<◌, true, false, ◌⊎◌, List, [], ◌∷◌, ◌++◌, length, Ok, Err, refl, sym, ap, subst, ◌∙◌, append_assoc, arith, inl, inr}
+use Rattle.std.proofs.Common.{◌≡◌, ℕ, zero, suc, ◌+◌, ◌≤◌, ◌<◌, true, false, ◌⊎◌, List, [], ◌∷◌, ◌++◌, length, Some, Ok, Err, refl, sym, ap, subst, ◌∙◌, append_assoc, arith, inl, inr}
 use Rattle.std.specs.List.{list_all, AllByRecursion}
 use Rattle.std.proofs.lemmas.Bool.{and_parts, le-ltb, lt-ltb}
 use Rattle.pgm_planes.specs.declared.fault.PlaneFault.{PlaneFault}
@@ -110,7 +110,7 @@ pub record LastSample (form : SampleForm) (samples values : List ℕ) (value : �
   pub are : Rastered form front values
   pub is : Rastered form last (value ∷ [])
 
-last_sample : (form : SampleForm) (samples values : List ℕ) (value : ℕ) → Rastered form samples (values ++ value ∷ []) → LastSample form samples values value
+pub last_sample : (form : SampleForm) (samples values : List ℕ) (value : ℕ) → Rastered form samples (values ++ value ∷ []) → LastSample form samples values value
 last_sample form samples [] value r = record { front = []; last = samples; parts = refl; are = rastered_none form; is = r }
 last_sample Narrow [] (v ∷ values) value r = absurd r
 last_sample Narrow (b ∷ samples) (v ∷ values) value r =
@@ -204,7 +204,7 @@ module _ (form : SampleForm) (maxval n k at : ℕ) (bytes total : List ℕ) (v e
     place = t.place ∙ a.place;
   }
 
-pub samples_walk : (form : SampleForm) (maxval n k at : ℕ) (lead bytes : List ℕ) → LeadFits form lead bytes → (n ≡ 0 → lead ≡ []) → SamplesWalk form maxval n k at bytes (lead ++ bytes) (samples_at form maxval n k at bytes)
+pub samples_walk : (form : SampleForm) (maxval n k at : ℕ) (lead bytes : List ℕ) → LeadFits form lead bytes → (n ≡ 0 → lead ≡ []) → SamplesWalk form maxval n k at bytes (lead ++ bytes) (samples_at form maxval n k false at bytes)
 unfolding samples_at
 samples_walk form maxval zero k at lead bytes fits none = inr (
   [],
@@ -241,18 +241,18 @@ pub record Over (form : SampleForm) (maxval n k at : ℕ) (first bytes values mo
   pub place : at + length bytes ≡ end + length rest
   pub stays : first ≡ [] → lead ≡ []
   pub whole : 1 ≤ length values → lead ≡ []
-  pub reads : samples_at form maxval (length values + n) k at bytes ≡ and_others values form maxval n (k + length values) end rest
+  pub reads : samples_at form maxval (length values + n) k false at bytes ≡ and_others values form maxval n (k + length values) false end rest
 
 module _ (form : SampleForm) (maxval n k end v : ℕ) (rest values : List ℕ) where
   regroup_first : (r : Reading (List ℕ)) → ((r >>= λ vs end others. Ok (values ++ vs, end, others)) >>= λ vs end others. Ok (v ∷ vs, end, others)) ≡ (r >>= λ vs end others. Ok ((v ∷ values) ++ vs, end, others))
   regroup_first (Ok x) = refl
   regroup_first (Err e) = refl
 
-  over_first : (at j m count : ℕ) (bytes middle : List ℕ) (after : ℕ) → count ≡ suc m → sample_at form maxval j at bytes ≡ done v after middle → samples_at form maxval m (j + 1) after middle ≡ and_others values form maxval n k end rest → samples_at form maxval count j at bytes ≡ and_others (v ∷ values) form maxval n k end rest
+  over_first : (at j m count : ℕ) (bytes middle : List ℕ) (after : ℕ) → count ≡ suc m → sample_at form maxval j false at bytes ≡ done v after middle → samples_at form maxval m (j + 1) false after middle ≡ and_others values form maxval n k false end rest → samples_at form maxval count j false at bytes ≡ and_others (v ∷ values) form maxval n k false end rest
   unfolding samples_at and_others
-  over_first at j m count bytes middle after is one others = rw (is, one, others) (regroup_first (samples_at form maxval n k end rest))
+  over_first at j m count bytes middle after is one others = rw (is, one, others) (regroup_first (samples_at form maxval n k false end rest))
 
-good : (maxval k v end : ℕ) (rest : List ℕ) → v ≤ maxval → and_behind (judged maxval k v) end rest ≡ done v end rest
+pub good : (maxval k v end : ℕ) (rest : List ℕ) → v ≤ maxval → and_behind (judged maxval k v) end rest ≡ done v end rest
 good maxval k v end rest le = rw (le-ltb maxval v le) refl
 
 pub samples_over : (form : SampleForm) (maxval n k at : ℕ) (lead bytes samples values more : List ℕ) → Rastered form samples values → lead ++ bytes ≡ samples ++ more → LeadFits form lead bytes → EndsSample form more → AllBelow maxval values → Over form maxval n k at lead bytes values more
@@ -265,7 +265,7 @@ samples_over form maxval n k at lead bytes samples [] more r e fits s b = record
   place = refl;
   stays = λ none. none;
   whole = λ one. absurd (omega arith);
-  reads = let z : k ≡ k + 0 = omega arith in let m : 0 + n ≡ n = omega arith in rw (m, ← z) (others_begin form maxval n k at bytes);
+  reads = let z : k ≡ k + 0 = omega arith in let m : 0 + n ≡ n = omega arith in rw (m, ← z) (others_begin form maxval n k false at bytes);
 }
 samples_over form maxval n k at lead bytes samples (v ∷ values) more r e fits s b =
     let t = sample_step form maxval k at lead bytes samples v values more r e fits s in
@@ -282,21 +282,21 @@ samples_over form maxval n k at lead bytes samples (v ∷ values) more r e fits 
       place = t.place ∙ o.place;
       stays = λ _. o.stays refl;
       whole = λ _. o.stays refl;
-      reads = subst (λ (i : ℕ). samples_at form maxval (length (v ∷ values) + n) k at bytes ≡ and_others (v ∷ values) form maxval n i o.end o.rest) place
+      reads = subst (λ (i : ℕ). samples_at form maxval (length (v ∷ values) + n) k false at bytes ≡ and_others (v ∷ values) form maxval n i false o.end o.rest) place
           (over_first form maxval n ((k + 1) + length values) o.end v o.rest values at k (length values + n) (length (v ∷ values) + n) bytes (t.others ++ more) t.end count one o.reads);
     }
 
 -- the last of the samples breaks
-ends_at_break : (form : SampleForm) (maxval n count k at : ℕ) (first bytes values more : List ℕ) (f : PlaneFault) → n ≡ length values + suc count → (o : Over form maxval (suc count) k at first bytes values more) → sample_at form maxval (k + length values) o.end o.rest ≡ breaks f → samples_at form maxval n k at bytes ≡ breaks f
+ends_at_break : (form : SampleForm) (maxval n count k at : ℕ) (first bytes values more : List ℕ) (f : PlaneFault) → n ≡ length values + suc count → (o : Over form maxval (suc count) k at first bytes values more) → sample_at form maxval (k + length values) false o.end o.rest ≡ breaks f → samples_at form maxval n k false at bytes ≡ breaks f
 ends_at_break form maxval n count k at first bytes values more f is o b =
-    ap (λ (m : ℕ). samples_at form maxval m k at bytes) is ∙ o.reads ∙ others_break form maxval values (suc count) count (k + length values) o.end o.rest f refl b
+    ap (λ (m : ℕ). samples_at form maxval m k false at bytes) is ∙ o.reads ∙ others_break form maxval values (suc count) count (k + length values) false o.end o.rest (Some f) refl b
 
 numbers_ended : (form : SampleForm) (last : List ℕ) (value : ℕ) (rest : List ℕ) → Rastered form last (value ∷ []) → EndsSample form rest → EndsSample form (last ++ rest)
 numbers_ended Narrow last value rest r e = tt
 numbers_ended Wide last value rest r e = tt
 numbers_ended Digits last value rest r e = numbers_begin is_blank blank_spaced last (value ∷ []) rest r e
 
-bad_value : (maxval k v end : ℕ) (rest : List ℕ) → maxval < v → and_behind (judged maxval k v) end rest ≡ breaks (SampleAbove k v)
+pub bad_value : (maxval k v end : ℕ) (rest : List ℕ) → maxval < v → and_behind (judged maxval k v) end rest ≡ breaks (SampleAbove k v)
 bad_value maxval k v end rest lt = rw (lt-ltb maxval v lt) refl
 
 -- one less of what is left
@@ -305,7 +305,7 @@ fewer a zero lt = absurd (omega arith)
 fewer zero (suc n) lt = (n, omega arith)
 fewer (suc a) (suc n) lt = let f = fewer a n (omega arith) in (f.0, omega (arith, f.1))
 
-pub above_again : (form : SampleForm) (maxval n k at : ℕ) (lead bytes : List ℕ) (f : PlaneFault) → LeadFits form lead bytes → AboveIn form maxval n k (lead ++ bytes) f → samples_at form maxval n k at bytes ≡ breaks f
+pub above_again : (form : SampleForm) (maxval n k at : ℕ) (lead bytes : List ℕ) (f : PlaneFault) → LeadFits form lead bytes → AboveIn form maxval n k (lead ++ bytes) f → samples_at form maxval n k false at bytes ≡ breaks f
 above_again form maxval n k at lead bytes f fits a =
     let l = last_sample form a.samples a.values a.value a.are in
     let m = fewer (length a.values) n a.some in
@@ -327,7 +327,7 @@ cut_ended Narrow part c = tt
 cut_ended Wide part c = tt
 cut_ended Digits part c = all_spaces part c
 
-pub short_again : (form : SampleForm) (maxval n k at : ℕ) (lead bytes : List ℕ) (f : PlaneFault) → LeadFits form lead bytes → ShortIn form maxval n k (lead ++ bytes) f → samples_at form maxval n k at bytes ≡ breaks f
+pub short_again : (form : SampleForm) (maxval n k at : ℕ) (lead bytes : List ℕ) (f : PlaneFault) → LeadFits form lead bytes → ShortIn form maxval n k (lead ++ bytes) f → samples_at form maxval n k false at bytes ≡ breaks f
 short_again form maxval n k at lead bytes f fits a =
     let m = fewer (length a.values) n a.some in
     let o = samples_over form maxval (suc m.0) k at lead bytes a.samples a.values a.part a.are a.parts fits (cut_ended form a.part a.cut) a.below in
@@ -338,7 +338,7 @@ bad_begins : (blank : List ℕ) (byte : ℕ) (behind : List ℕ) → list_all is
 bad_begins [] byte behind a n = n
 bad_begins (b ∷ blank) byte behind a n = blank_digit b blank a
 
-bad_digits : (maxval n k at : ℕ) (lead bytes : List ℕ) (f : PlaneFault) → LeadFits Digits lead bytes → BadIn Digits maxval n at bytes (lead ++ bytes) f → samples_at Digits maxval n k at bytes ≡ breaks f
+bad_digits : (maxval n k at : ℕ) (lead bytes : List ℕ) (f : PlaneFault) → LeadFits Digits lead bytes → BadIn Digits maxval n at bytes (lead ++ bytes) f → samples_at Digits maxval n k false at bytes ≡ breaks f
 bad_digits maxval n k at lead bytes f fits a =
     let m = fewer (length a.values) n a.some in
     let ends : begins is_digit a.from ≡ false = ap (begins is_digit) a.bad.parts ∙ bad_begins a.bad.blank a.bad.byte a.bad.behind a.bad.blanks a.bad.no_digit in
@@ -347,18 +347,18 @@ bad_digits maxval n k at lead bytes f fits a =
     ends_at_break Digits maxval n m.0 k at lead bytes a.values a.from f m.1 o
     (sample_bad maxval (k + length a.values) o.end o.lead o.rest a.place o.fits (subst (λ (t : List ℕ). BadByte o.end o.rest t a.place) (sym o.parts) b) ∙ ap (λ (x : PlaneFault). breaks x) (sym a.fault))
 
-pub bad_again : (form : SampleForm) (maxval n k at : ℕ) (lead bytes : List ℕ) (f : PlaneFault) → LeadFits form lead bytes → BadIn form maxval n at bytes (lead ++ bytes) f → samples_at form maxval n k at bytes ≡ breaks f
+pub bad_again : (form : SampleForm) (maxval n k at : ℕ) (lead bytes : List ℕ) (f : PlaneFault) → LeadFits form lead bytes → BadIn form maxval n at bytes (lead ++ bytes) f → samples_at form maxval n k false at bytes ≡ breaks f
 bad_again Narrow maxval n k at lead bytes f fits a = absurd (let e = a.digits in cc)
 bad_again Wide maxval n k at lead bytes f fits a = absurd (let e = a.digits in cc)
 bad_again Digits maxval n k at lead bytes f fits a = bad_digits maxval n k at lead bytes f fits a
 
 -- good samples are read, and what follows is left
-pub samples_again : (form : SampleForm) (maxval k at : ℕ) (lead bytes samples vs more : List ℕ) → Rastered form samples vs → lead ++ bytes ≡ samples ++ more → LeadFits form lead bytes → EndsSample form more → AllBelow maxval vs → 1 ≤ length vs → (end : ℕ) × (at + length bytes ≡ end + length more) × (samples_at form maxval (length vs) k at bytes ≡ done vs end more)
+pub samples_again : (form : SampleForm) (maxval k at : ℕ) (lead bytes samples vs more : List ℕ) → Rastered form samples vs → lead ++ bytes ≡ samples ++ more → LeadFits form lead bytes → EndsSample form more → AllBelow maxval vs → 1 ≤ length vs → (end : ℕ) × (at + length bytes ≡ end + length more) × (samples_at form maxval (length vs) k false at bytes ≡ done vs end more)
 samples_again form maxval k at lead bytes samples vs more r e fits s b one =
     let o = samples_over form maxval 0 k at lead bytes samples vs more r e fits s b in
     let same : o.rest ≡ more = ap (λ (t : List ℕ). t ++ o.rest) (sym (o.whole one)) ∙ o.parts in
     let count : length vs + 0 ≡ length vs = omega arith in (
       o.end,
       o.place ∙ ap (λ (t : List ℕ). o.end + length t) same,
-      ap (λ (m : ℕ). samples_at form maxval m k at bytes) (sym count) ∙ o.reads ∙ others_end form maxval vs (k + length vs) o.end o.rest ∙ ap (λ (t : List ℕ). done vs o.end t) same,
+      ap (λ (m : ℕ). samples_at form maxval m k false at bytes) (sym count) ∙ o.reads ∙ others_end form maxval vs (k + length vs) false o.end o.rest ∙ ap (λ (t : List ℕ). done vs o.end t) same,
     )

@@ -11,7 +11,7 @@ use Rattle.pgm_planes.specs.declared.samples.SampleForm.TheVariants.{Narrow, Wid
 use Rattle.pgm_planes.specs.Gaps.{is_space, is_digit, is_blank, begins, is_number}
 use Rattle.pgm_planes.specs.Planes.{AreNumbers, IsRaster}
 use Rattle.pgm_planes.specs.Reading.{Reading, ◌>>=◌, breaks, nothing, blanks_at, number_at, judged, and_behind, sample_at}
-use Rattle.pgm_planes.proofs.HeaderLemmas.{done, blanks_found, blanks_again, blanks_never, number_found, number_again, number_break}
+use Rattle.pgm_planes.proofs.HeaderLemmas.{done, blanks_found, blanks_again, blanks_never, blanks_answers, number_found, number_again, number_answers, number_break}
 use Rattle.pgm_planes.proofs.FieldLemmas.{cases_reading, blank_spaced, number_stops}
 use Rattle.pgm_planes.proofs.NumberLemmas.{numbers_begin}
 
@@ -99,7 +99,7 @@ number_begins [] more h = absurd cc
 number_begins (c ∷ number) more h = (and_parts (is_digit c) (list_all is_digit number) h).0
 
 module _ (maxval k at : ℕ) (lead bytes : List ℕ) where
-  digits_text : (place : ℕ) (digits : List ℕ) (v end : ℕ) (rest : List ℕ) → LeadFits Digits lead bytes → blanks_at at bytes ≡ done nothing place digits → number_at (Short k) place digits ≡ done v end rest → SampleText Digits v at bytes (lead ++ bytes) end rest
+  digits_text : (place : ℕ) (digits : List ℕ) (v end : ℕ) (rest : List ℕ) → LeadFits Digits lead bytes → blanks_at false at bytes ≡ done nothing place digits → number_at (Short k) false place digits ≡ done v end rest → SampleText Digits v at bytes (lead ++ bytes) end rest
   digits_text place digits v end rest fits b n =
       let t = blanks_found at bytes place digits b in
       let d = number_found (Short k) place digits v end rest n in
@@ -115,7 +115,7 @@ module _ (maxval k at : ℕ) (lead bytes : List ℕ) where
         place = omega (arith, ap length t.2.parts, t.2.place, ap length d.3.parts, d.3.place, length-append t.0 digits, length-append d.0 rest);
       }
 
-  digits_break : (place : ℕ) (digits : List ℕ) (f : PlaneFault) → LeadFits Digits lead bytes → blanks_at at bytes ≡ done nothing place digits → number_at (Short k) place digits ≡ breaks f → SampleBreak Digits maxval k at bytes (lead ++ bytes) f
+  digits_break : (place : ℕ) (digits : List ℕ) (f : PlaneFault) → LeadFits Digits lead bytes → blanks_at false at bytes ≡ done nothing place digits → number_at (Short k) false place digits ≡ breaks f → SampleBreak Digits maxval k at bytes (lead ++ bytes) f
   digits_break place digits f fits b n =
       let t = blanks_found at bytes place digits b in
       elim (number_break (Short k) place digits f n) [
@@ -139,7 +139,7 @@ module _ (maxval k at : ℕ) (lead bytes : List ℕ) where
         ))
       ]
 
-pub sample_walk : (form : SampleForm) (maxval k at : ℕ) (lead bytes : List ℕ) → LeadFits form lead bytes → SampleWalk form maxval k at bytes (lead ++ bytes) (sample_at form maxval k at bytes)
+pub sample_walk : (form : SampleForm) (maxval k at : ℕ) (lead bytes : List ℕ) → LeadFits form lead bytes → SampleWalk form maxval k at bytes (lead ++ bytes) (sample_at form maxval k false at bytes)
 unfolding sample_at
 sample_walk Narrow maxval k at lead [] fits = inl (Short k, refl, inr (inl (rw fits (omega arith), refl)))
 sample_walk Narrow maxval k at lead (b ∷ rest) fits =
@@ -150,11 +150,11 @@ sample_walk Wide maxval k at lead (b ∷ []) fits = inl (Short k, refl, inr (inl
 sample_walk Wide maxval k at lead (b ∷ c ∷ rest) fits =
     judged_walk Wide maxval k (256 * b + c) at (b ∷ c ∷ rest) (lead ++ b ∷ c ∷ rest) (at + 2) rest (and_behind (judged maxval k (256 * b + c)) (at + 2) rest) refl
     (record { text = b ∷ c ∷ []; parts = ap (λ (x : List ℕ). x ++ b ∷ c ∷ rest) fits; are = (refl, refl); ends = tt; place = omega arith })
-sample_walk Digits maxval k at lead bytes fits = elim (cases_reading (blanks_at at bytes)) [
+sample_walk Digits maxval k at lead bytes fits = elim (cases_reading (blanks_at false at bytes) (blanks_answers at bytes)) [
   | inl f ↦ absurd (blanks_never at bytes f.0 f.1)
-  | inr t ↦ elim (cases_reading (number_at (Short k) t.1 t.2)) [
+  | inr t ↦ elim (cases_reading (number_at (Short k) false t.1 t.2) (number_answers (Short k) t.1 t.2)) [
     | inl f ↦ inl (f.0, rw (t.3, f.1) refl, digits_break maxval k at lead bytes t.1 t.2 f.0 fits t.3 f.1)
-    | inr d ↦ judged_walk Digits maxval k d.0 at bytes (lead ++ bytes) d.1 d.2 (blanks_at at bytes >>= λ _ place digits. number_at (Short k) place digits >>= λ v. and_behind (judged maxval k v)) (rw (t.3, d.3) refl)
+    | inr d ↦ judged_walk Digits maxval k d.0 at bytes (lead ++ bytes) d.1 d.2 (blanks_at false at bytes >>= λ _ place digits. number_at (Short k) false place digits >>= λ v. and_behind (judged maxval k v)) (rw (t.3, d.3) refl)
         (digits_text maxval k at lead bytes t.1 t.2 d.0 d.1 d.2 fits t.3 d.3)
   ]
 ]
@@ -172,7 +172,7 @@ behind_lead (x ∷ lead) bytes (y ∷ gap) tail e a g n =
 pub record SampleStep (form : SampleForm) (maxval k at : ℕ) (bytes : List ℕ) (v : ℕ) (vs more : List ℕ) : Type 0 where
   pub others : List ℕ
   pub end : ℕ
-  pub reads : sample_at form maxval k at bytes ≡ and_behind (judged maxval k v) end (others ++ more)
+  pub reads : sample_at form maxval k false at bytes ≡ and_behind (judged maxval k v) end (others ++ more)
   pub are : Rastered form others vs
   pub place : at + length bytes ≡ end + length (others ++ more)
   pub ends : EndsSample form (others ++ more)
@@ -184,7 +184,7 @@ module _ (maxval k at : ℕ) (bytes : List ℕ) (v : ℕ) (vs more : List ℕ) w
   narrow_step (b ∷ others) r e = record {
     others = others;
     end = at + 1;
-    reads = ap (sample_at Narrow maxval k at) e ∙ ap (λ (x : ℕ). and_behind (judged maxval k x) (at + 1) (others ++ more)) (sym r.0);
+    reads = ap (sample_at Narrow maxval k false at) e ∙ ap (λ (x : ℕ). and_behind (judged maxval k x) (at + 1) (others ++ more)) (sym r.0);
     are = r.1;
     place = omega (arith, ap length e);
     ends = tt;
@@ -197,7 +197,7 @@ module _ (maxval k at : ℕ) (bytes : List ℕ) (v : ℕ) (vs more : List ℕ) w
   wide_step (b ∷ c ∷ others) r e = record {
     others = others;
     end = at + 2;
-    reads = ap (sample_at Wide maxval k at) e ∙ ap (λ (x : ℕ). and_behind (judged maxval k x) (at + 2) (others ++ more)) (sym r.0);
+    reads = ap (sample_at Wide maxval k false at) e ∙ ap (λ (x : ℕ). and_behind (judged maxval k x) (at + 2) (others ++ more)) (sym r.0);
     are = r.1;
     place = omega (arith, ap length e);
     ends = tt;
@@ -216,7 +216,7 @@ module _ (maxval k at : ℕ) (bytes : List ℕ) (v : ℕ) (vs more : List ℕ) w
       record {
         others = a.2;
         end = (at + length g.0) + length a.1;
-        reads = ap (sample_at Digits maxval k at) g.1 ∙ rw (one, two) (ap (λ (x : ℕ). and_behind (judged maxval k x) ((at + length g.0) + length a.1) (a.2 ++ more)) (sym a.6));
+        reads = ap (sample_at Digits maxval k false at) g.1 ∙ rw (one, two) (ap (λ (x : ℕ). and_behind (judged maxval k x) ((at + length g.0) + length a.1) (a.2 ++ more)) (sym a.6));
         are = a.7;
         place = omega (arith, ap length g.1, length-append g.0 tail, length-append a.1 (a.2 ++ more));
         ends = last;
@@ -228,42 +228,42 @@ sample_step Wide maxval k at lead bytes samples v vs more r e fits s = wide_step
 sample_step Digits maxval k at lead bytes samples v vs more r e fits s = digits_step maxval k at bytes v vs more lead samples r e fits s
 
 -- less than a sample is cut
-narrow_cut : (maxval k at : ℕ) (bytes : List ℕ) → length bytes < 1 → sample_at Narrow maxval k at bytes ≡ breaks (Short k)
+narrow_cut : (maxval k at : ℕ) (bytes : List ℕ) → length bytes < 1 → sample_at Narrow maxval k false at bytes ≡ breaks (Short k)
 unfolding sample_at
 narrow_cut maxval k at [] lt = refl
 narrow_cut maxval k at (b ∷ bytes) lt = absurd (omega arith)
 
-wide_cut : (maxval k at : ℕ) (bytes : List ℕ) → length bytes < 2 → sample_at Wide maxval k at bytes ≡ breaks (Short k)
+wide_cut : (maxval k at : ℕ) (bytes : List ℕ) → length bytes < 2 → sample_at Wide maxval k false at bytes ≡ breaks (Short k)
 unfolding sample_at
 wide_cut maxval k at [] lt = refl
 wide_cut maxval k at (b ∷ []) lt = refl
 wide_cut maxval k at (b ∷ c ∷ bytes) lt = absurd (omega arith)
 
-no_more : (cut : PlaneFault) (at : ℕ) → number_at cut at [] ≡ breaks cut
+no_more : (cut : PlaneFault) (at : ℕ) → number_at cut false at [] ≡ breaks cut
 unfolding number_at
 no_more cut at = refl
 
-digits_cut : (maxval k at : ℕ) (bytes : List ℕ) → list_all is_space bytes ≡ true → sample_at Digits maxval k at bytes ≡ breaks (Short k)
+digits_cut : (maxval k at : ℕ) (bytes : List ℕ) → list_all is_space bytes ≡ true → sample_at Digits maxval k false at bytes ≡ breaks (Short k)
 unfolding sample_at
 digits_cut maxval k at bytes a =
-    let one : blanks_at at bytes ≡ done nothing (at + length bytes) [] = ap (blanks_at at) (sym (append-nil bytes)) ∙ blanks_again at bytes [] a refl in
+    let one : blanks_at false at bytes ≡ done nothing (at + length bytes) [] = ap (blanks_at false at) (sym (append-nil bytes)) ∙ blanks_again at bytes [] a refl in
     rw (one, no_more (Short k) (at + length bytes)) refl
 
-pub sample_cut : (form : SampleForm) (maxval k at : ℕ) (lead bytes : List ℕ) → LeadFits form lead bytes → CutSample form (lead ++ bytes) → sample_at form maxval k at bytes ≡ breaks (Short k)
+pub sample_cut : (form : SampleForm) (maxval k at : ℕ) (lead bytes : List ℕ) → LeadFits form lead bytes → CutSample form (lead ++ bytes) → sample_at form maxval k false at bytes ≡ breaks (Short k)
 sample_cut Narrow maxval k at lead bytes fits c = narrow_cut maxval k at bytes (rw fits at c)
 sample_cut Wide maxval k at lead bytes fits c = wide_cut maxval k at bytes (rw fits at c)
 sample_cut Digits maxval k at lead bytes fits c = digits_cut maxval k at bytes (all_tail is_space lead bytes c)
 
-refused : (cut : PlaneFault) (at b : ℕ) (rest : List ℕ) → is_digit b ≡ false → number_at cut at (b ∷ rest) ≡ breaks (Form at)
+refused : (cut : PlaneFault) (at b : ℕ) (rest : List ℕ) → is_digit b ≡ false → number_at cut false at (b ∷ rest) ≡ breaks (Form at)
 unfolding number_at
 refused cut at b rest n = rw n refl
 
 -- a byte that begins no number breaks the form
-pub sample_bad : (maxval k at : ℕ) (lead bytes : List ℕ) (place : ℕ) → LeadFits Digits lead bytes → BadByte at bytes (lead ++ bytes) place → sample_at Digits maxval k at bytes ≡ breaks (Form place)
+pub sample_bad : (maxval k at : ℕ) (lead bytes : List ℕ) (place : ℕ) → LeadFits Digits lead bytes → BadByte at bytes (lead ++ bytes) place → sample_at Digits maxval k false at bytes ≡ breaks (Form place)
 unfolding sample_at
 sample_bad maxval k at lead bytes place fits b =
     let g = behind_lead lead bytes b.blank (b.byte ∷ b.behind) b.parts fits.0 b.blanks b.no_space in
-    let one : blanks_at at bytes ≡ done nothing (at + length g.0) (b.byte ∷ b.behind) = ap (blanks_at at) g.1 ∙ blanks_again at g.0 (b.byte ∷ b.behind) g.2 b.no_space in
+    let one : blanks_at false at bytes ≡ done nothing (at + length g.0) (b.byte ∷ b.behind) = ap (blanks_at false at) g.1 ∙ blanks_again at g.0 (b.byte ∷ b.behind) g.2 b.no_space in
     let two = refused (Short k) (at + length g.0) b.byte b.behind b.no_digit in
     let same : at + length g.0 ≡ place = omega (arith, ap length g.1, length-append g.0 (b.byte ∷ b.behind), b.place_is) in
     rw (one, two, same) refl

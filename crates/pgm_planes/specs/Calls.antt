@@ -1,5 +1,5 @@
 -- What a call on a feed did to it.
-use Rattle.std.specs.Prelude.{◌≡◌, ℕ, ◌+◌, ◌≤◌, List, ◌++◌, length, Option, Some, IfSome}
+use Rattle.std.specs.Prelude.{◌≡◌, ℕ, ◌+◌, ◌-◌, ◌≤◌, ◌<◌, List, ◌++◌, length, take, Option, Some, IfSome}
 use Rattle.std.specs.Global.{Vec}
 use Rattle.insar_ports.specs.Bytes.{with_front}
 use Rattle.insar_ports.specs.declared.feed.Feed.{Feed}
@@ -31,3 +31,7 @@ pub record Moves (c : Call) : Type 0 where
 -- where the bytes are told, a text was taken from their front, for which and for what is left P holds
 abbrev pub Takes : Call → (List ℕ → List ℕ → Type 0) → Type 0
 Takes c P = IfSome c.told (λ bytes. (text : List ℕ) × (rest : List ℕ) × ((bytes ≡ text ++ rest) × ((c.left ≡ Some rest) × ((c.end ≡ c.at + length text) × P text rest))))
+
+-- more of these bytes are there than the limit lets out, and those that it lets out ask for more
+abbrev pub IsCutOff : (List ℕ → Type 0) → Call → List ℕ → Type 0
+IsCutOff asks c bytes = (c.limit < c.at + length bytes) × asks (take (c.limit - c.at) bytes)

@@ -7,13 +7,14 @@ use Rattle.pgm_planes.specs.declared.fault.ReadPlaneFault.TheVariants as errors
 use Rattle.raster_model.specs.declared.plane.Plane.{Plane}
 use Rattle.pgm_planes.specs.Planes.{PlaneOf, plane_of}
 use Rattle.pgm_planes.specs.Breaks.{FirstBreak}
-use Rattle.pgm_planes.specs.Calls.{Call}
+use Rattle.pgm_planes.specs.Asking.{AsksForMore}
+use Rattle.pgm_planes.specs.Calls.{Call, IsCutOff}
 
--- Where the bytes are told, they have this first break; or the limit was handed out and another byte is there; or a
--- fault of the source was counted; or memory ran out, which has no cause.
+-- Where the bytes are told, they have this first break; or the limit was handed out and another byte is there, which was
+-- asked for; or a fault of the source was counted; or memory ran out, which has no cause.
 abbrev pub HasCause : Role → Call → ReadPlaneFault → Type 0
 HasCause role c (errors.Plane fault) = IfSome c.told (λ bytes. FirstBreak role c.at bytes fault)
-HasCause role c errors.TooLong = (c.end ≡ c.limit) × HasMore c.left
+HasCause role c errors.TooLong = (c.end ≡ c.limit) × HasMore c.left × IfSome c.told (IsCutOff (AsksForMore role) c)
 HasCause role c errors.ReadFault = HasRisen c.before c.after
 HasCause role c errors.Memory = ⊤
 
@@ -25,3 +26,11 @@ IsReadAs c p rest (Err (errors.Plane fault)) = ⊥
 IsReadAs c p rest (Err errors.TooLong) = ⊤
 IsReadAs c p rest (Err errors.ReadFault) = ⊤
 IsReadAs c p rest (Err errors.Memory) = ⊤
+
+-- Bytes that are cut off are told to be too long; or a read failed or memory ran out.
+abbrev pub IsCutShort : Call → Result Plane ReadPlaneFault → Type 0
+IsCutShort c (Ok plane) = ⊥
+IsCutShort c (Err (errors.Plane fault)) = ⊥
+IsCutShort c (Err errors.TooLong) = ⊤
+IsCutShort c (Err errors.ReadFault) = HasRisen c.before c.after
+IsCutShort c (Err errors.Memory) = ⊤

@@ -1,10 +1,11 @@
 -- What the definitions of planes and of first breaks say together.
-use Rattle.std.specs.Prelude.{◌≡◌, ℕ, List, ◌++◌, ◌⊎◌}
+use Rattle.std.specs.Prelude.{◌≡◌, ℕ, List, ◌∷◌, ◌++◌, ◌⊎◌}
 use Rattle.pgm_planes.specs.declared.fault.Role.{Role}
 use Rattle.pgm_planes.specs.declared.fault.PlaneFault.{PlaneFault}
 use Rattle.pgm_planes.specs.declared.spelling.Spelling.TheVariants.{Raw}
 use Rattle.pgm_planes.specs.Planes.{PlaneOf, IsPlane, IsPlaneText, SpellsPlane, IsPlaneIn}
 use Rattle.pgm_planes.specs.Breaks.{FirstBreak}
+use Rattle.pgm_planes.specs.Asking.{AsksForMore}
 use Rattle.pgm_planes.specs.Text.{plane_text}
 
 -- bytes have one text of a plane in front, which spells one plane
@@ -26,3 +27,10 @@ PlaneOrBreak = (role : Role) (at : ℕ) (bytes : List ℕ) → ((p : PlaneOf) ×
 -- a plane's raw text spells it, whatever follows, in each role whose rule it meets
 abbrev pub WrittenIsRead : Type 0
 WrittenIsRead = (role : Role) (p : PlaneOf) (rest : List ℕ) → IsPlane role p → IsPlaneText Raw role (plane_text p) p rest
+
+-- bytes either ask for more or do not, and those that begin with a plane and go on do not
+abbrev pub AskOrNot : Type 0
+AskOrNot = (role : Role) (bytes : List ℕ) → AsksForMore role bytes ⊎ (AsksForMore role bytes → ⊥)
+
+abbrev pub NoAskBehindPlane : Type 0
+NoAskBehindPlane = (role : Role) (bytes : List ℕ) (p : PlaneOf) (b : ℕ) (rest : List ℕ) → IsPlaneIn role bytes p (b ∷ rest) → AsksForMore role bytes → ⊥

@@ -2,6 +2,7 @@ pub mod Faults
 pub mod Gaps
 pub mod Planes
 pub mod Breaks
+pub mod Asking
 pub mod Laws
 pub mod Calls
 pub mod Causes

@@ -1,5 +1,6 @@
 -- Reading a plane from left to right, with the first break that is met. A place counts from the start of the source.
-use Rattle.std.specs.Prelude.{◌≡◌, ℕ, zero, suc, ◌+◌, ◌*◌, ◌-◌, min, nat_lt, ◌==◌, ◌&&◌, ◌||◌, Bool, true, false, not, if◌then◌else◌, List, [], ◌∷◌, Option, Some, None, Result, Ok, Err}
+-- Behind the bytes that are read others may come, unseen: where the end of those that are read is met, they are asked for.
+use Rattle.std.specs.Prelude.{◌≡◌, ℕ, zero, suc, ◌+◌, ◌*◌, ◌-◌, min, nat_lt, ◌==◌, ◌&&◌, ◌||◌, Bool, true, false, not, if◌then◌else◌, List, [], ◌∷◌, length, take, Option, Some, None, Result, Ok, Err}
 use Rattle.insar_ports.specs.Bytes.{HasMore, HasRisen}
 use Rattle.pgm_planes.specs.Calls.{Call, Moves}
 use Rattle.pgm_planes.specs.declared.fault.Role.{Role}
@@ -16,36 +17,44 @@ use Rattle.pgm_planes.specs.declared.samples.SampleForm.TheVariants.{Narrow, Wid
 use Rattle.pgm_planes.specs.Gaps.{is_space, is_line_end, is_digit}
 use Rattle.pgm_planes.specs.Planes.{PlaneOf}
 
--- a value, the place behind it and the bytes from there, or the break
+-- a value, the place behind it and the bytes from there, or the break, or none where another byte is asked for
 abbrev pub Reading : Type 0 → Type 0
-Reading A = Result (A × ℕ × List ℕ) PlaneFault
+Reading A = Result (A × ℕ × List ℕ) (Option PlaneFault)
 
--- what reads a value from a place and the bytes from there on
+-- what reads a value from a place and the bytes from there on, behind which more come (true) or none
 abbrev pub Reader : Type 0 → Type 0
-Reader A = ℕ → List ℕ → Reading A
+Reader A = Bool → ℕ → List ℕ → Reading A
 
 infixl 10 ◌>>=◌
-abbrev pub ◌>>=◌ : {A B : Type 0} → Reading A → (A → Reader B) → Reading B
+abbrev pub ◌>>=◌ : {A B : Type 0} → Reading A → (A → ℕ → List ℕ → Reading B) → Reading B
 (Ok x) >>= f = f x.0 x.1 x.2
 (Err e) >>= f = Err e
 
 abbrev pub breaks : {A : Type 0} → PlaneFault → Reading A
-breaks fault = Err fault
+breaks fault = Err (Some fault)
+
+abbrev pub asks : {A : Type 0} → Reading A
+asks = Err None
+
+-- what is read at the end of the bytes, where no more come
+abbrev pub at_end : {A : Type 0} → Bool → Reading A → Reading A
+at_end true reading = asks
+at_end false reading = reading
 
 abbrev pub nothing : Unit {0}
 nothing = tt
 
 -- the next byte, which is taken or stays, and none at the end
 unfoldable pub byte_at : Reader (Option ℕ)
-byte_at at [] = Ok (None, at, [])
-byte_at at (b ∷ rest) = Ok (Some b, at + 1, rest)
+byte_at more at [] = at_end more (Ok (None, at, []))
+byte_at more at (b ∷ rest) = Ok (Some b, at + 1, rest)
 
 unfoldable pub sight_at : Reader (Option ℕ)
-sight_at at [] = Ok (None, at, [])
-sight_at at (b ∷ rest) = Ok (Some b, at, b ∷ rest)
+sight_at more at [] = at_end more (Ok (None, at, []))
+sight_at more at (b ∷ rest) = Ok (Some b, at, b ∷ rest)
 
 -- what a value or a break is, or none
-abbrev pub or_breaks : {A : Type 0} → PlaneFault → Option A → Reader A
+abbrev pub or_breaks : {A : Type 0} → PlaneFault → Option A → ℕ → List ℕ → Reading A
 or_breaks fault None at rest = breaks fault
 or_breaks fault (Some x) at rest = Ok (x, at, rest)
 
@@ -55,13 +64,13 @@ spelling_of a None = None
 spelling_of a (Some b) = if (a == 80) && (b == 53) then Some Raw else (if (a == 80) && (b == 50) then Some Plain else None)
 
 unfoldable pub magic_at : Reader Spelling
-magic_at at [] = breaks Magic
-magic_at at (a ∷ []) = breaks Magic
-magic_at at (a ∷ b ∷ rest) = or_breaks Magic (spelling_of a (Some b)) (at + 2) rest
+magic_at more at [] = at_end more (breaks Magic)
+magic_at more at (a ∷ []) = at_end more (breaks Magic)
+magic_at more at (a ∷ b ∷ rest) = or_breaks Magic (spelling_of a (Some b)) (at + 2) rest
 
 unfoldable pub space_at : Reader (Unit {0})
-space_at at [] = breaks (Form at)
-space_at at (b ∷ rest) = if is_space b then Ok (nothing, at + 1, rest) else breaks (Form at)
+space_at more at [] = at_end more (breaks (Form at))
+space_at more at (b ∷ rest) = if is_space b then Ok (nothing, at + 1, rest) else breaks (Form at)
 
 -- whether a comment is open behind a byte of white space or of a comment; none behind any other byte
 abbrev pub inside_after : Bool → ℕ → Option Bool
@@ -70,32 +79,32 @@ inside_after false b = if is_space b then Some false else (if b == 35 then Some 
 
 -- white space and comments, from outside a comment or from inside one
 unfoldable pub filling_at : Bool → Reader (Unit {0})
-filling_at false at [] = Ok (nothing, at, [])
-filling_at true at [] = breaks (Form at)
-filling_at false at (b ∷ rest) = if is_space b then filling_at false (at + 1) rest else (if b == 35 then filling_at true (at + 1) rest else Ok (nothing, at, b ∷ rest))
-filling_at true at (b ∷ rest) = if is_line_end b then filling_at false (at + 1) rest else filling_at true (at + 1) rest
+filling_at false more at [] = at_end more (Ok (nothing, at, []))
+filling_at true more at [] = at_end more (breaks (Form at))
+filling_at false more at (b ∷ rest) = if is_space b then filling_at false more (at + 1) rest else (if b == 35 then filling_at true more (at + 1) rest else Ok (nothing, at, b ∷ rest))
+filling_at true more at (b ∷ rest) = if is_line_end b then filling_at false more (at + 1) rest else filling_at true more (at + 1) rest
 
 -- white space
 unfoldable pub blanks_at : Reader (Unit {0})
-blanks_at at [] = Ok (nothing, at, [])
-blanks_at at (b ∷ rest) = if is_space b then blanks_at (at + 1) rest else Ok (nothing, at, b ∷ rest)
+blanks_at more at [] = at_end more (Ok (nothing, at, []))
+blanks_at more at (b ∷ rest) = if is_space b then blanks_at more (at + 1) rest else Ok (nothing, at, b ∷ rest)
 
 -- one more digit; numbers stop growing at 4,294,967,295
 abbrev pub with_digit : ℕ → ℕ → ℕ
 with_digit n b = min (10 * n + (b - 48)) 4294967295
 
 unfoldable pub digits_at : ℕ → Reader ℕ
-digits_at n at [] = Ok (n, at, [])
-digits_at n at (b ∷ rest) = if is_digit b then digits_at (with_digit n b) (at + 1) rest else Ok (n, at, b ∷ rest)
+digits_at n more at [] = at_end more (Ok (n, at, []))
+digits_at n more at (b ∷ rest) = if is_digit b then digits_at (with_digit n b) more (at + 1) rest else Ok (n, at, b ∷ rest)
 
 -- a number, or `cut` where the input ends before it
 unfoldable pub number_at : PlaneFault → Reader ℕ
-number_at cut at [] = breaks cut
-number_at cut at (b ∷ rest) = if is_digit b then digits_at (b - 48) (at + 1) rest else breaks (Form at)
+number_at cut more at [] = at_end more (breaks cut)
+number_at cut more at (b ∷ rest) = if is_digit b then digits_at (b - 48) more (at + 1) rest else breaks (Form at)
 
 -- a gap and a number, with the place of its first digit
 unfoldable pub field_at : Reader (ℕ × ℕ)
-field_at at bytes = space_at at bytes >>= λ _ after rest. filling_at false after rest >>= λ _ place digits. number_at (Form place) place digits >>= λ n end others. Ok ((n, place), end, others)
+field_at more at bytes = space_at more at bytes >>= λ _ after rest. filling_at false more after rest >>= λ _ place digits. number_at (Form place) more place digits >>= λ n end others. Ok ((n, place), end, others)
 
 pub record HeaderOf : Type 0 where
   pub width : ℕ
@@ -121,15 +130,15 @@ unless_broken None reading = reading
 unless_broken (Some fault) reading = breaks fault
 
 unfoldable pub header_at : Role → Reader HeaderOf
-header_at role at bytes = field_at at bytes >>= λ w at_2 rest_2. field_at at_2 rest_2 >>= λ h at_3 rest_3. field_at at_3 rest_3 >>= λ m at_4 rest_4. space_at at_4 rest_4 >>= λ _ end others. unless_broken (header_break role w.0 h.0 m.0 m.1) (Ok (record { width = w.0; height = h.0; maxval = m.0 }, end, others))
+header_at role more at bytes = field_at more at bytes >>= λ w at_2 rest_2. field_at more at_2 rest_2 >>= λ h at_3 rest_3. field_at more at_3 rest_3 >>= λ m at_4 rest_4. space_at more at_4 rest_4 >>= λ _ end others. unless_broken (header_break role w.0 h.0 m.0 m.1) (Ok (record { width = w.0; height = h.0; maxval = m.0 }, end, others))
 
 -- the sample with the given index, if it is not above maxval
 abbrev pub judged : ℕ → ℕ → ℕ → Result ℕ PlaneFault
 judged maxval index v = if nat_lt maxval v then Err (SampleAbove index v) else Ok v
 
-abbrev pub and_behind : Result ℕ PlaneFault → Reader ℕ
+abbrev pub and_behind : Result ℕ PlaneFault → ℕ → List ℕ → Reading ℕ
 and_behind (Ok v) at rest = Ok (v, at, rest)
-and_behind (Err e) at rest = Err e
+and_behind (Err e) at rest = breaks e
 
 -- how the samples of a plane are spelled
 abbrev pub form_of : Spelling → ℕ → SampleForm
@@ -138,32 +147,32 @@ form_of Plain maxval = Digits
 
 -- one sample, that with the given index
 unfoldable pub sample_at : SampleForm → ℕ → ℕ → Reader ℕ
-sample_at Narrow maxval index at [] = breaks (Short index)
-sample_at Narrow maxval index at (b ∷ rest) = and_behind (judged maxval index b) (at + 1) rest
-sample_at Wide maxval index at [] = breaks (Short index)
-sample_at Wide maxval index at (high ∷ []) = breaks (Short index)
-sample_at Wide maxval index at (high ∷ low ∷ rest) = and_behind (judged maxval index (256 * high + low)) (at + 2) rest
-sample_at Digits maxval index at bytes = blanks_at at bytes >>= λ _ place digits. number_at (Short index) place digits >>= λ v. and_behind (judged maxval index v)
+sample_at Narrow maxval index more at [] = at_end more (breaks (Short index))
+sample_at Narrow maxval index more at (b ∷ rest) = and_behind (judged maxval index b) (at + 1) rest
+sample_at Wide maxval index more at [] = at_end more (breaks (Short index))
+sample_at Wide maxval index more at (high ∷ []) = at_end more (breaks (Short index))
+sample_at Wide maxval index more at (high ∷ low ∷ rest) = and_behind (judged maxval index (256 * high + low)) (at + 2) rest
+sample_at Digits maxval index more at bytes = blanks_at more at bytes >>= λ _ place digits. number_at (Short index) more place digits >>= λ v. and_behind (judged maxval index v)
 
 -- so many samples, the first with the given index
 unfoldable pub samples_at : SampleForm → ℕ → ℕ → ℕ → Reader (List ℕ)
-samples_at form maxval zero index at bytes = Ok ([], at, bytes)
-samples_at form maxval (suc n) index at bytes = sample_at form maxval index at bytes >>= λ v after rest. samples_at form maxval n (index + 1) after rest >>= λ vs end others. Ok (v ∷ vs, end, others)
+samples_at form maxval zero index more at bytes = Ok ([], at, bytes)
+samples_at form maxval (suc n) index more at bytes = sample_at form maxval index more at bytes >>= λ v after rest. samples_at form maxval n (index + 1) more after rest >>= λ vs end others. Ok (v ∷ vs, end, others)
 
 -- the white space behind the last sample of a plain raster
 unfoldable pub end_at : Reader (Unit {0})
-end_at at [] = blanks_at at []
-end_at at (b ∷ rest) = if is_space b then blanks_at at (b ∷ rest) else breaks (Form at)
+end_at more at [] = blanks_at more at []
+end_at more at (b ∷ rest) = if is_space b then blanks_at more at (b ∷ rest) else breaks (Form at)
 
 abbrev pub end_of : Spelling → List ℕ → Reader (List ℕ)
-end_of Raw vs at rest = Ok (vs, at, rest)
-end_of Plain vs at rest = end_at at rest >>= λ _ end others. Ok (vs, end, others)
+end_of Raw vs more at rest = Ok (vs, at, rest)
+end_of Plain vs more at rest = end_at more at rest >>= λ _ end others. Ok (vs, end, others)
 
 unfoldable pub raster_at : Spelling → ℕ → ℕ → Reader (List ℕ)
-raster_at spelling maxval count at bytes = samples_at (form_of spelling maxval) maxval count 0 at bytes >>= end_of spelling
+raster_at spelling maxval count more at bytes = samples_at (form_of spelling maxval) maxval count 0 more at bytes >>= λ vs end others. end_of spelling vs more end others
 
 unfoldable pub plane_at : Role → Reader PlaneOf
-plane_at role at bytes = magic_at at bytes >>= λ spelling at_1 rest_1. header_at role at_1 rest_1 >>= λ h at_2 rest_2. raster_at spelling h.maxval (h.width * h.height) at_2 rest_2 >>= λ vs end others. Ok (record { width = h.width; height = h.height; maxval = h.maxval; samples = vs }, end, others)
+plane_at role more at bytes = magic_at more at bytes >>= λ spelling at_1 rest_1. header_at role more at_1 rest_1 >>= λ h at_2 rest_2. raster_at spelling h.maxval (h.width * h.height) more at_2 rest_2 >>= λ vs end others. Ok (record { width = h.width; height = h.height; maxval = h.maxval; samples = vs }, end, others)
 
 -- ---- calls on a feed
 
@@ -172,15 +181,19 @@ abbrev pub told : {A : Type 0} → Result A PlaneFault → Result A ReadPlaneFau
 told (Ok x) = Ok x
 told (Err fault) = Err (errors.Plane fault)
 
--- the bytes that were told, and those that are left, where they are told
-abbrev pub Told : Call → (List ℕ → List ℕ → Type 0) → Type 0
-Told c P = (bytes rest : List ℕ) → c.told ≡ Some bytes → c.left ≡ Some rest → P bytes rest
+-- bytes at a place go beyond the limit
+abbrev pub goes_beyond : ℕ → ℕ → List ℕ → Bool
+goes_beyond limit at bytes = nat_lt limit (at + length bytes)
+
+-- Where bytes are told: whether they go beyond the limit, and what it lets out of them and of those that are left.
+abbrev pub Told : Call → (Bool → List ℕ → List ℕ → Type 0) → Type 0
+Told c P = (bytes rest : List ℕ) → c.told ≡ Some bytes → c.left ≡ Some rest → P (goes_beyond c.limit c.at bytes) (take (c.limit - c.at) bytes) (take (c.limit - c.end) rest)
 
 -- the call answers what the reader gives; a read fault was counted; want of memory has no cause
 abbrev pub Answers : {X A : Type 0} → (X → A) → Result X ReadPlaneFault → Call → Reader A → Type 0
-Answers view (Ok x) c read = Told c (λ bytes rest. read c.at bytes ≡ Ok (view x, c.end, rest))
-Answers view (Err (errors.Plane fault)) c read = Told c (λ bytes rest. read c.at bytes ≡ breaks fault)
-Answers view (Err errors.TooLong) c read = (c.end ≡ c.limit) × HasMore c.left
+Answers view (Ok x) c read = Told c (λ more bytes rest. read more c.at bytes ≡ Ok (view x, c.end, rest))
+Answers view (Err (errors.Plane fault)) c read = Told c (λ more bytes rest. read more c.at bytes ≡ breaks fault)
+Answers view (Err errors.TooLong) c read = ((c.end ≡ c.limit) × HasMore c.left) × Told c (λ more bytes rest. read more c.at bytes ≡ asks)
 Answers view (Err errors.ReadFault) c read = HasRisen c.before c.after
 Answers view (Err errors.Memory) c read = Unit {0}
 

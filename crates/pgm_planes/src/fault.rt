@@ -48,7 +48,7 @@ pub enum PlaneFault {
 pub enum ReadPlaneFault {
     /// The bytes are no plane, and this is the first break.
     Plane(PlaneFault),
-    /// The feed's limit was handed out, and another byte is there.
+    /// The feed's limit was handed out, and another byte is there that is asked for.
     TooLong,
     /// The source failed and counted a fault.
     ReadFault,

@@ -1,6 +1,6 @@
 //! Laws of the definitions. The functions do nothing; each contract is the law.
 
-ghost use Rattle.pgm_planes.specs.Laws.{OnePlane, OneBreak, NoBreakOfPlane, PlaneOrBreak, WrittenIsRead};
+ghost use Rattle.pgm_planes.specs.Laws.{OnePlane, OneBreak, NoBreakOfPlane, PlaneOrBreak, AskOrNot, NoAskBehindPlane, WrittenIsRead};
 
 /// Bytes begin with one plane's text at most, and a text spells one plane.
 pub fn one_plane()
@@ -12,6 +12,12 @@ pub fn plane_or_break()
     ensures either { PlaneOrBreak }
     ensures not_both { NoBreakOfPlane }
     ensures one_break { OneBreak }
+{}
+
+/// Whether a reader of bytes asks for one behind the last is decided, and behind a plane it does not.
+pub fn ask_or_not()
+    ensures either { AskOrNot }
+    ensures behind_plane { NoAskBehindPlane }
 {}
 
 /// What `write_plane` writes is read as the plane, whatever follows.

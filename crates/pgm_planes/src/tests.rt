@@ -3,12 +3,23 @@ use insar_ports::{Feed, MemorySink, MemorySource, WriteFault};
 use std::alloc::Global;
 use std::test::Fail;
 
-/// Why a plane of this role is not read from the front of `text`, if it is not.
-fn refusal(alloc: Global, role: Role, text: &[u8]) -> Result<Option<ReadPlaneFault>, Fail> {
+/// Why a plane of this role is not read from the front of `text`, if it is not, where the feed hands
+/// out so many bytes.
+fn refusal_within(
+    alloc: Global,
+    role: Role,
+    text: &[u8],
+    limit: u64,
+) -> Result<Option<ReadPlaneFault>, Fail> {
     let bytes = Vec::from_slice(alloc, text)?;
     let mut source = MemorySource::new(bytes, 3, Vec::new(alloc));
-    let mut feed = Feed::new(alloc, &mut source, 100)?;
+    let mut feed = Feed::new(alloc, &mut source, limit)?;
     Ok(read_plane(alloc, &mut feed, role).err())
+}
+
+/// Why a plane of this role is not read from the front of `text`, if it is not.
+fn refusal(alloc: Global, role: Role, text: &[u8]) -> Result<Option<ReadPlaneFault>, Fail> {
+    refusal_within(alloc, role, text, 100)
 }
 
 #[test]
@@ -262,6 +273,58 @@ fn the_first_break_is_told_with_its_place(rt: HostRuntime) -> Result<(), Fail> {
     for (role, text, fault) in cases {
         let refused = refusal(rt.alloc(), role, text)?;
         assert_eq!(rt; refused, Some(ReadPlaneFault::Plane(fault)));
+    }
+    Ok(())
+}
+
+/// A limit hides the bytes behind it: what ends before it is judged, and `TooLong` comes where a byte
+/// behind it is asked for.
+#[test]
+fn a_limit_cuts_where_a_byte_behind_it_is_asked_for(rt: HostRuntime) -> Result<(), Fail> {
+    let raw = b"P5 2 1 7 \x01\x02P".as_slice();
+    let plain = b"P2 2 1 7 1 2 P".as_slice();
+    let nines = b"P2 1 1 65535 99999999999 P".as_slice();
+    let cases = [
+        (raw, 11, None),
+        (raw, 10, Some(ReadPlaneFault::TooLong)),
+        (raw, 8, Some(ReadPlaneFault::TooLong)),
+        (raw, 1, Some(ReadPlaneFault::TooLong)),
+        (raw, 0, Some(ReadPlaneFault::TooLong)),
+        (plain, 11, Some(ReadPlaneFault::TooLong)),
+        (plain, 12, Some(ReadPlaneFault::TooLong)),
+        (plain, 13, Some(ReadPlaneFault::TooLong)),
+        (plain, 14, None),
+        (b"P2 2 1 7 1 2 ".as_slice(), 13, None),
+        (b"P2 2 1 7 1 2".as_slice(), 12, None),
+        (
+            b"P6 2 1".as_slice(),
+            2,
+            Some(ReadPlaneFault::Plane(PlaneFault::Magic)),
+        ),
+        (
+            b"P2 2 x 7".as_slice(),
+            6,
+            Some(ReadPlaneFault::Plane(PlaneFault::Form(5))),
+        ),
+        (b"P2 2 x 7".as_slice(), 5, Some(ReadPlaneFault::TooLong)),
+        (
+            b"P5 2 1 7 \x08\x02".as_slice(),
+            10,
+            Some(ReadPlaneFault::Plane(PlaneFault::SampleAbove { index: 0, value: 8 })),
+        ),
+        (nines, 24, Some(ReadPlaneFault::TooLong)),
+        (
+            nines,
+            25,
+            Some(ReadPlaneFault::Plane(PlaneFault::SampleAbove {
+                index: 0,
+                value: 4294967295,
+            })),
+        ),
+    ];
+    for (text, limit, fault) in cases {
+        let refused = refusal_within(rt.alloc(), Role::Weight, text, limit)?;
+        assert_eq!(rt; refused, fault);
     }
     Ok(())
 }

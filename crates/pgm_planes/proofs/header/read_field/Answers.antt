@@ -22,7 +22,7 @@ pub returns-in_err-number-clause-reads : goal.returns-in_err-number-clause-reads
 returns-in_err-number-clause-reads g c =
     let p = err_from_is_err_and c.from_residual-in_err-number.result c.from_residual-in_err-number.ensures.1 in
     rw (p.1, p.2) (Reads-then _ _ _ _ _ _ _ _ _ _ _ as_pair _ field_at after_filling
-    (Goes-then _ _ _ _ _ _ _ _ _ _ _ field_at after_space after_filling
+    (Goes-then _ _ _ _ _ _ _ _ _ _ _ field_at after_space after_filling c.read_space.ensures.limit
     (field_space _ tt c.in_ok-read_space.ensures.reads)
     (field_filling _ tt c.in_ok-skip_filling.ensures.reads))
     (c.skip_filling.ensures.limit ∙ c.read_space.ensures.limit)
@@ -31,7 +31,7 @@ returns-in_err-number-clause-reads g c =
 pub returns-clause-reads : goal.returns-clause-reads
 returns-clause-reads g c =
     rw c.handed-place.ensures (Reads-then _ _ _ _ _ _ _ _ _ _ _ as_pair _ field_at after_filling
-    (Goes-then _ _ _ _ _ _ _ _ _ _ _ field_at after_space after_filling
+    (Goes-then _ _ _ _ _ _ _ _ _ _ _ field_at after_space after_filling c.read_space.ensures.limit
     (field_space _ tt c.in_ok-read_space.ensures.reads)
     (field_filling _ tt c.in_ok-skip_filling.ensures.reads))
     (c.skip_filling.ensures.limit ∙ c.read_space.ensures.limit)

@@ -22,7 +22,7 @@ pub returns-in_err-maxval-clause-reads : goal.returns-in_err-maxval-clause-reads
 returns-in_err-maxval-clause-reads g c =
     let p = err_from_is_err_and c.from_residual-in_err-maxval.result c.from_residual-in_err-maxval.ensures.1 in
     rw (p.1, p.2) (Reads-then _ _ _ _ _ _ _ _ _ _ _ header_of _ (header_at c.args.role) (after_height c.args.role (c.in_ok-width.width, c.in_ok-width.field-0-1) (c.in_ok-height.height, c.in_ok-height.field-0-1))
-    (Goes-then _ _ _ _ _ _ _ _ _ _ _ (header_at c.args.role) (after_width c.args.role (c.in_ok-width.width, c.in_ok-width.field-0-1)) (after_height c.args.role (c.in_ok-width.width, c.in_ok-width.field-0-1) (c.in_ok-height.height, c.in_ok-height.field-0-1))
+    (Goes-then _ _ _ _ _ _ _ _ _ _ _ (header_at c.args.role) (after_width c.args.role (c.in_ok-width.width, c.in_ok-width.field-0-1)) (after_height c.args.role (c.in_ok-width.width, c.in_ok-width.field-0-1) (c.in_ok-height.height, c.in_ok-height.field-0-1)) c.read_field.ensures.limit
     (header_width c.args.role _ (c.in_ok-width.width, c.in_ok-width.field-0-1) c.in_ok-width.ensures.reads)
     (header_height c.args.role _ (c.in_ok-width.width, c.in_ok-width.field-0-1) (c.in_ok-height.height, c.in_ok-height.field-0-1) c.in_ok-height.ensures.reads))
     (c.read_field-2.ensures.limit ∙ c.read_field.ensures.limit)
@@ -32,8 +32,8 @@ pub returns-in_err-read_space-clause-reads : goal.returns-in_err-read_space-clau
 returns-in_err-read_space-clause-reads g c =
     let p = err_from_is_err_and c.from_residual-in_err-read_space.result c.from_residual-in_err-read_space.ensures.1 in
     rw (p.1, p.2) (Reads-then _ _ _ _ _ _ _ _ _ _ _ header_of _ (header_at c.args.role) (after_maxval c.args.role (c.in_ok-width.width, c.in_ok-width.field-0-1) (c.in_ok-height.height, c.in_ok-height.field-0-1) (c.in_ok-maxval.maxval, c.in_ok-maxval.place))
-    (Goes-then _ _ _ _ _ _ _ _ _ _ _ (header_at c.args.role) (after_height c.args.role (c.in_ok-width.width, c.in_ok-width.field-0-1) (c.in_ok-height.height, c.in_ok-height.field-0-1)) (after_maxval c.args.role (c.in_ok-width.width, c.in_ok-width.field-0-1) (c.in_ok-height.height, c.in_ok-height.field-0-1) (c.in_ok-maxval.maxval, c.in_ok-maxval.place))
-    (Goes-then _ _ _ _ _ _ _ _ _ _ _ (header_at c.args.role) (after_width c.args.role (c.in_ok-width.width, c.in_ok-width.field-0-1)) (after_height c.args.role (c.in_ok-width.width, c.in_ok-width.field-0-1) (c.in_ok-height.height, c.in_ok-height.field-0-1))
+    (Goes-then _ _ _ _ _ _ _ _ _ _ _ (header_at c.args.role) (after_height c.args.role (c.in_ok-width.width, c.in_ok-width.field-0-1) (c.in_ok-height.height, c.in_ok-height.field-0-1)) (after_maxval c.args.role (c.in_ok-width.width, c.in_ok-width.field-0-1) (c.in_ok-height.height, c.in_ok-height.field-0-1) (c.in_ok-maxval.maxval, c.in_ok-maxval.place)) (c.read_field-2.ensures.limit ∙ c.read_field.ensures.limit)
+    (Goes-then _ _ _ _ _ _ _ _ _ _ _ (header_at c.args.role) (after_width c.args.role (c.in_ok-width.width, c.in_ok-width.field-0-1)) (after_height c.args.role (c.in_ok-width.width, c.in_ok-width.field-0-1) (c.in_ok-height.height, c.in_ok-height.field-0-1)) c.read_field.ensures.limit
     (header_width c.args.role _ (c.in_ok-width.width, c.in_ok-width.field-0-1) c.in_ok-width.ensures.reads)
     (header_height c.args.role _ (c.in_ok-width.width, c.in_ok-width.field-0-1) (c.in_ok-height.height, c.in_ok-height.field-0-1) c.in_ok-height.ensures.reads))
     (header_maxval c.args.role _ (c.in_ok-width.width, c.in_ok-width.field-0-1) (c.in_ok-height.height, c.in_ok-height.field-0-1) (c.in_ok-maxval.maxval, c.in_ok-maxval.place) c.in_ok-maxval.ensures.reads))
@@ -43,8 +43,8 @@ returns-in_err-read_space-clause-reads g c =
 pub returns-in-Some-clause-reads : goal.returns-in-Some-clause-reads
 returns-in-Some-clause-reads g c =
     Reads-then _ _ _ _ _ _ _ _ _ _ _ header_of _ (header_at c.args.role) (after_maxval c.args.role (c.in_ok-width.width, c.in_ok-width.field-0-1) (c.in_ok-height.height, c.in_ok-height.field-0-1) (c.in_ok-maxval.maxval, c.in_ok-maxval.place))
-    (Goes-then _ _ _ _ _ _ _ _ _ _ _ (header_at c.args.role) (after_height c.args.role (c.in_ok-width.width, c.in_ok-width.field-0-1) (c.in_ok-height.height, c.in_ok-height.field-0-1)) (after_maxval c.args.role (c.in_ok-width.width, c.in_ok-width.field-0-1) (c.in_ok-height.height, c.in_ok-height.field-0-1) (c.in_ok-maxval.maxval, c.in_ok-maxval.place))
-    (Goes-then _ _ _ _ _ _ _ _ _ _ _ (header_at c.args.role) (after_width c.args.role (c.in_ok-width.width, c.in_ok-width.field-0-1)) (after_height c.args.role (c.in_ok-width.width, c.in_ok-width.field-0-1) (c.in_ok-height.height, c.in_ok-height.field-0-1))
+    (Goes-then _ _ _ _ _ _ _ _ _ _ _ (header_at c.args.role) (after_height c.args.role (c.in_ok-width.width, c.in_ok-width.field-0-1) (c.in_ok-height.height, c.in_ok-height.field-0-1)) (after_maxval c.args.role (c.in_ok-width.width, c.in_ok-width.field-0-1) (c.in_ok-height.height, c.in_ok-height.field-0-1) (c.in_ok-maxval.maxval, c.in_ok-maxval.place)) (c.read_field-2.ensures.limit ∙ c.read_field.ensures.limit)
+    (Goes-then _ _ _ _ _ _ _ _ _ _ _ (header_at c.args.role) (after_width c.args.role (c.in_ok-width.width, c.in_ok-width.field-0-1)) (after_height c.args.role (c.in_ok-width.width, c.in_ok-width.field-0-1) (c.in_ok-height.height, c.in_ok-height.field-0-1)) c.read_field.ensures.limit
     (header_width c.args.role _ (c.in_ok-width.width, c.in_ok-width.field-0-1) c.in_ok-width.ensures.reads)
     (header_height c.args.role _ (c.in_ok-width.width, c.in_ok-width.field-0-1) (c.in_ok-height.height, c.in_ok-height.field-0-1) c.in_ok-height.ensures.reads))
     (header_maxval c.args.role _ (c.in_ok-width.width, c.in_ok-width.field-0-1) (c.in_ok-height.height, c.in_ok-height.field-0-1) (c.in_ok-maxval.maxval, c.in_ok-maxval.place) c.in_ok-maxval.ensures.reads))
@@ -54,8 +54,8 @@ returns-in-Some-clause-reads g c =
 pub returns-in-None-clause-reads : goal.returns-in-None-clause-reads
 returns-in-None-clause-reads g c =
     Reads-then _ _ _ _ _ _ _ _ _ _ _ header_of _ (header_at c.args.role) (after_maxval c.args.role (c.in_ok-width.width, c.in_ok-width.field-0-1) (c.in_ok-height.height, c.in_ok-height.field-0-1) (c.in_ok-maxval.maxval, c.in_ok-maxval.place))
-    (Goes-then _ _ _ _ _ _ _ _ _ _ _ (header_at c.args.role) (after_height c.args.role (c.in_ok-width.width, c.in_ok-width.field-0-1) (c.in_ok-height.height, c.in_ok-height.field-0-1)) (after_maxval c.args.role (c.in_ok-width.width, c.in_ok-width.field-0-1) (c.in_ok-height.height, c.in_ok-height.field-0-1) (c.in_ok-maxval.maxval, c.in_ok-maxval.place))
-    (Goes-then _ _ _ _ _ _ _ _ _ _ _ (header_at c.args.role) (after_width c.args.role (c.in_ok-width.width, c.in_ok-width.field-0-1)) (after_height c.args.role (c.in_ok-width.width, c.in_ok-width.field-0-1) (c.in_ok-height.height, c.in_ok-height.field-0-1))
+    (Goes-then _ _ _ _ _ _ _ _ _ _ _ (header_at c.args.role) (after_height c.args.role (c.in_ok-width.width, c.in_ok-width.field-0-1) (c.in_ok-height.height, c.in_ok-height.field-0-1)) (after_maxval c.args.role (c.in_ok-width.width, c.in_ok-width.field-0-1) (c.in_ok-height.height, c.in_ok-height.field-0-1) (c.in_ok-maxval.maxval, c.in_ok-maxval.place)) (c.read_field-2.ensures.limit ∙ c.read_field.ensures.limit)
+    (Goes-then _ _ _ _ _ _ _ _ _ _ _ (header_at c.args.role) (after_width c.args.role (c.in_ok-width.width, c.in_ok-width.field-0-1)) (after_height c.args.role (c.in_ok-width.width, c.in_ok-width.field-0-1) (c.in_ok-height.height, c.in_ok-height.field-0-1)) c.read_field.ensures.limit
     (header_width c.args.role _ (c.in_ok-width.width, c.in_ok-width.field-0-1) c.in_ok-width.ensures.reads)
     (header_height c.args.role _ (c.in_ok-width.width, c.in_ok-width.field-0-1) (c.in_ok-height.height, c.in_ok-height.field-0-1) c.in_ok-height.ensures.reads))
     (header_maxval c.args.role _ (c.in_ok-width.width, c.in_ok-width.field-0-1) (c.in_ok-height.height, c.in_ok-height.field-0-1) (c.in_ok-maxval.maxval, c.in_ok-maxval.place) c.in_ok-maxval.ensures.reads))

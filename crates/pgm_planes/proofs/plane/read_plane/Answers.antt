@@ -1,4 +1,4 @@
-use Rattle.pgm_planes.proofs.AnswerLemmas.{takes_plane, has_cause, accepts_plane}
+use Rattle.pgm_planes.proofs.AnswerLemmas.{takes_plane, has_cause, accepts_plane, cuts_plane}
 use Rattle.pgm_planes.proofs.plane.read_plane.Goals as goal
 
 pub returns-clause-read : goal.returns-clause-read
@@ -9,3 +9,6 @@ returns-clause-refused g c = has_cause c.args.role _ c.read_spelled.result c.rea
 
 pub returns-clause-accepted : goal.returns-clause-accepted
 returns-clause-accepted g c = accepts_plane c.args.role _ c.read_spelled.result c.read_spelled.ensures.reads
+
+pub returns-clause-cut : goal.returns-clause-cut
+returns-clause-cut g c = cuts_plane c.args.role _ c.read_spelled.result c.read_spelled.ensures.reads

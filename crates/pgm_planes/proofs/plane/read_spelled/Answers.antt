@@ -23,7 +23,7 @@ pub returns-in_err-samples-clause-reads : goal.returns-in_err-samples-clause-rea
 returns-in_err-samples-clause-reads g c =
     let p = err_from_is_err_and c.from_residual-in_err-samples.result c.from_residual-in_err-samples.ensures.1 in
     rw (p.1, p.2) (Reads-then _ _ _ _ _ _ _ _ _ _ _ plane_of _ (plane_at c.args.role) (after_header c.in_ok-spelling.spelling (header_of c.in_ok-header.header))
-    (Goes-then _ _ _ _ _ _ _ _ _ _ _ (plane_at c.args.role) (after_magic c.args.role c.in_ok-spelling.spelling) (after_header c.in_ok-spelling.spelling (header_of c.in_ok-header.header))
+    (Goes-then _ _ _ _ _ _ _ _ _ _ _ (plane_at c.args.role) (after_magic c.args.role c.in_ok-spelling.spelling) (after_header c.in_ok-spelling.spelling (header_of c.in_ok-header.header)) c.read_magic.ensures.limit
     (plane_magic c.args.role _ c.in_ok-spelling.spelling c.in_ok-spelling.ensures.reads)
     (plane_header c.args.role _ c.in_ok-spelling.spelling c.in_ok-header.header c.in_ok-header.ensures.reads))
     (c.read_header.ensures.limit ∙ c.read_magic.ensures.limit)
@@ -32,7 +32,7 @@ returns-in_err-samples-clause-reads g c =
 pub returns-clause-reads : goal.returns-clause-reads
 returns-clause-reads g c =
     Reads-then _ _ _ _ _ _ _ _ _ _ _ plane_of _ (plane_at c.args.role) (after_header c.in_ok-spelling.spelling (header_of c.in_ok-header.header))
-    (Goes-then _ _ _ _ _ _ _ _ _ _ _ (plane_at c.args.role) (after_magic c.args.role c.in_ok-spelling.spelling) (after_header c.in_ok-spelling.spelling (header_of c.in_ok-header.header))
+    (Goes-then _ _ _ _ _ _ _ _ _ _ _ (plane_at c.args.role) (after_magic c.args.role c.in_ok-spelling.spelling) (after_header c.in_ok-spelling.spelling (header_of c.in_ok-header.header)) c.read_magic.ensures.limit
     (plane_magic c.args.role _ c.in_ok-spelling.spelling c.in_ok-spelling.ensures.reads)
     (plane_header c.args.role _ c.in_ok-spelling.spelling c.in_ok-header.header c.in_ok-header.ensures.reads))
     (c.read_header.ensures.limit ∙ c.read_magic.ensures.limit)

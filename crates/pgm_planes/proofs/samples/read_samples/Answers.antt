@@ -14,7 +14,7 @@ loop-index-init g c =
       count = c.in_ok-samples.ensures.len;
       below = none_below c.args.maxval c.in_ok-samples.samples.items c.in_ok-samples.ensures.items;
       goes = rw (c.in_ok-samples.ensures.items, whole) (nothing_read _ _ _ _ (samples_at c.args.form c.args.maxval c.args.count 0) (and_others [] c.args.form c.args.maxval c.args.count 0)
-          (λ bytes. others_begin c.args.form c.args.maxval c.args.count 0 _ bytes));
+          (λ more bytes. others_begin c.args.form c.args.maxval c.args.count 0 more _ bytes));
     }
 
 pub loop-index-preserved : goal.loop-index-preserved
@@ -29,12 +29,12 @@ loop-index-preserved g c =
           (samples_at c.args.form c.args.maxval c.args.count 0)
           (and_others c.loop-index.samples.items c.args.form c.args.maxval (c.args.count - c.loop-index.index) c.loop-index.index)
           (and_others (c.loop-index.samples.items ++ c.in_ok-sample.sample ∷ []) c.args.form c.args.maxval (c.args.count - (c.loop-index.index + 1)) (c.loop-index.index + 1))
-          c.loop-index.invariant.goes
+          c.loop-index.invariant.limit c.loop-index.invariant.goes
           (gone as_number (λ xs. xs) _ c.in_ok-sample.sample (sample_at c.args.form c.args.maxval c.loop-index.index)
           (and_others c.loop-index.samples.items c.args.form c.args.maxval (c.args.count - c.loop-index.index) c.loop-index.index)
           (and_others (c.loop-index.samples.items ++ c.in_ok-sample.sample ∷ []) c.args.form c.args.maxval (c.args.count - (c.loop-index.index + 1)) (c.loop-index.index + 1))
           c.in_ok-sample.ensures.reads
-          (λ bytes rest e. others_go c.args.form c.args.maxval c.loop-index.samples.items _ (c.args.count - (c.loop-index.index + 1)) c.loop-index.index c.in_ok-sample.sample _ _ bytes rest more e)));
+          (λ beyond bytes rest e. others_go c.args.form c.args.maxval c.loop-index.samples.items _ (c.args.count - (c.loop-index.index + 1)) c.loop-index.index c.in_ok-sample.sample beyond _ _ bytes rest more e)));
     }
 
 pub returns-in_err-sample-clause-reads : goal.returns-in_err-sample-clause-reads
@@ -49,7 +49,7 @@ returns-in_err-sample-clause-reads g c =
     (passes_on as_number as_samples _ c.in_err-sample.field-0.0 (sample_at c.args.form c.args.maxval c.loop-index.index)
     (and_others c.loop-index.samples.items c.args.form c.args.maxval (c.args.count - c.loop-index.index) c.loop-index.index)
     c.in_err-sample.ensures.reads
-    (λ bytes f e. others_break c.args.form c.args.maxval c.loop-index.samples.items _ (c.args.count - (c.loop-index.index + 1)) c.loop-index.index _ bytes f more e)))
+    (λ beyond bytes f e. others_break c.args.form c.args.maxval c.loop-index.samples.items _ (c.args.count - (c.loop-index.index + 1)) c.loop-index.index beyond _ bytes f more e)))
 
 pub returns-in_err-push-clause-reads : goal.returns-in_err-push-clause-reads
 returns-in_err-push-clause-reads g c =
@@ -68,4 +68,4 @@ returns-clause-reads g c =
     (samples_at c.args.form c.args.maxval c.args.count 0)
     (and_others c.loop-index.samples.items c.args.form c.args.maxval (c.args.count - c.loop-index.index) c.loop-index.index)
     c.loop-index.invariant.goes
-    (λ rest. rw none (others_end c.args.form c.args.maxval c.loop-index.samples.items c.loop-index.index _ rest))
+    (λ beyond rest. rw none (others_end c.args.form c.args.maxval c.loop-index.samples.items c.loop-index.index beyond _ rest))

@@ -1,0 +1,22 @@
+-- Bytes that are judged at their end: a reader of them asks for a byte behind the last one.
+use Rattle.std.specs.Prelude.{◌≡◌, ℕ, ◌<◌, List, [], length, ◌⊎◌}
+use Rattle.pgm_planes.specs.declared.fault.Role.{Role}
+use Rattle.pgm_planes.specs.declared.spelling.Spelling.TheVariants.{Plain}
+use Rattle.pgm_planes.specs.Planes.{PlaneOf, IsPlaneText}
+use Rattle.pgm_planes.specs.Breaks.{BreaksInHeader, IsAbove, IsShort}
+
+-- the digits of a plain sample that is above maxval end with the bytes
+pub record EndsAbove (role : Role) (bytes : List ℕ) : Type 0 where
+  pub index : ℕ
+  pub value : ℕ
+  pub sample : IsAbove role bytes index value
+  pub plain : sample.spelling ≡ Plain
+  pub ended : sample.rest ≡ []
+
+-- samples are missing; or a plain sample ends with the bytes, which is above maxval or the last, perhaps behind more digits or white space
+abbrev pub EndsInRaster : Role → List ℕ → Type 0
+EndsInRaster role bytes = ((found : ℕ) × IsShort role bytes found) ⊎ (EndsAbove role bytes ⊎ ((p : PlaneOf) × IsPlaneText Plain role bytes p []))
+
+-- the magic is judged at its second byte, a header and a raster at the byte behind each of their numbers
+abbrev pub AsksForMore : Role → List ℕ → Type 0
+AsksForMore role bytes = (length bytes < 2) ⊎ (BreaksInHeader bytes [] ⊎ EndsInRaster role bytes)

@@ -8,7 +8,7 @@ use Rattle.raster_model.specs.declared.session.Session.{Session}
 use Rattle.raster_model.specs.declared.weights.RuleKind.{RuleKind}
 use Rattle.session_script.specs.declared.session_use.SessionUse.TheVariants.{Alone}
 use Rattle.session_script.specs.Sessions.{SessionOf, session_of}
-use Rattle.session_script.proofs.SessionAgain.{no_fault_of_session}
+use Rattle.session_script.proofs.AskSession.{no_fault_of_session}
 use Rattle.report_text.specs.Certified.{IsCertifiedReport, history_of}
 use Rattle.report_text.specs.Reports.{ReportOf, report_of}
 use Rattle.report_text.specs.Text.{report_text}
@@ -55,7 +55,7 @@ is_report v s e c =
 
 -- a fault refuses
 fault_refuses : (side : ℕ) (bytes : List ℕ) (fault : InputFault) → HasInputFault side bytes fault → IsNoInput side bytes
-fault_refuses side bytes fault h s input = no_fault_of_session Alone side bytes s [] fault (omega (arith, input.short)) input h
+fault_refuses side bytes fault h s input = no_fault_of_session Alone side bytes s [] fault input h
 
 pub input_cause : (rule : RuleKind) (side : ℕ) (r : Run) (e : Refusal) → r.held_now ≡ r.held → HasInputCause side r.told r.source_before r.source_after e → HasRunCause rule side r e
 input_cause rule side r refusals.Words same h = h

@@ -13,6 +13,11 @@ pub mod LineAgain
 pub mod SectionsAgain
 pub mod ScriptAgain
 pub mod PlanesAgain
+pub mod PlanesAsk
+pub mod SeenLemmas
+pub mod AskLemmas
+pub mod AskScript
+pub mod AskSession
 pub mod SessionAgain
 pub mod AnswerLemmas
 pub mod LimitLemmas

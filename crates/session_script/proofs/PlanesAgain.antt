@@ -1,5 +1,5 @@
 -- The planes of a session stand in one way or have one first break.
-use Rattle.std.proofs.Common.{◌≡◌, ℕ, ◌+◌, ◌⊎◌, Bool, true, false, ◌&&◌, cond, eqb, inl, inr, List, ◌∷◌, ◌++◌, length, Result, Ok, Err, refl, sym, ap, ◌∙◌, arith}
+use Rattle.std.proofs.Common.{◌≡◌, ℕ, ◌+◌, ◌⊎◌, Bool, true, false, ◌&&◌, cond, eqb, inl, inr, List, ◌∷◌, ◌++◌, length, Some, None, Result, Ok, Err, refl, sym, ap, ◌∙◌, arith}
 use Rattle.std.proofs.lemmas.Bool.{and_parts, eqb-true, eq-eqb}
 use Rattle.std.proofs.lemmas.List.{length-append}
 use Rattle.pgm_planes.specs.declared.fault.InputFault.{InputFault}
@@ -14,7 +14,7 @@ use Rattle.pgm_planes.proofs.PlaneAgain.{break_told, plane_told, plane_or_break}
 use Rattle.session_script.specs.Sessions.{ones_of, HasSizeOf, is_p, IsLaterPlane, PlaneBreak, LaterBreak}
 use Rattle.session_script.proofs.FieldLemmas.{two_ways}
 
--- a plane, the place behind it and what follows, or the fault
+-- a plane, the place behind it and what follows, or the fault; all bytes are there, so none is asked for
 abbrev pub PlaneRead : Type 0
 PlaneRead = Result (PlaneOf × ℕ × List ℕ) InputFault
 
@@ -26,20 +26,21 @@ no_plane fault = Err fault
 
 abbrev as_fault : Role → Reading PlaneOf → PlaneRead
 as_fault role (Ok x) = Ok x
-as_fault role (Err fault) = no_plane (faults.Plane role fault)
+as_fault role (Err (Some fault)) = no_plane (faults.Plane role fault)
+as_fault role (Err None) = no_plane faults.TooLong
 
 abbrev pub first_at : ℕ → List ℕ → PlaneRead
-first_at at bytes = as_fault Phase (plane_at Phase at bytes)
+first_at at bytes = as_fault Phase (plane_at Phase false at bytes)
 
 abbrev has_size : PlaneOf → PlaneOf → Bool
 has_size p q = eqb q.width p.width && eqb q.height p.height
 
 abbrev sized : Role → PlaneOf → Reading PlaneOf → PlaneRead
 sized role phase (Ok x) = cond (has_size phase x.0) (Ok x) (no_plane (faults.SizesDiffer role))
-sized role phase (Err fault) = no_plane (faults.Plane role fault)
+sized role phase (Err fault) = as_fault role (Err fault)
 
 abbrev pub later_at : Role → PlaneOf → ℕ → List ℕ → PlaneRead
-later_at role phase at bytes = cond (begins is_p bytes) (sized role phase (plane_at role at bytes)) (a_plane (ones_of phase) at bytes)
+later_at role phase at bytes = cond (begins is_p bytes) (sized role phase (plane_at role false at bytes)) (a_plane (ones_of phase) at bytes)
 
 -- ---- a plane that stands is read, and a break is told
 
@@ -47,13 +48,13 @@ later_at role phase at bytes = cond (begins is_p bytes) (sized role phase (plane
 pub record EndsAt (at : ℕ) (bytes : List ℕ) (end : ℕ) (rest : List ℕ) : Type 0 where
   pub place : end + length rest ≡ at + length bytes
 
-plane_in_told : (role : Role) (at : ℕ) (bytes : List ℕ) (p : PlaneOf) (rest : List ℕ) → IsPlaneIn role bytes p rest → (end : ℕ) × EndsAt at bytes end rest × (plane_at role at bytes ≡ done p end rest)
-plane_in_told role at bytes p rest i = (at + length i.0, record { place = omega (arith, ap length i.1, length-append i.0 rest) }, ap (plane_at role at) i.1 ∙ plane_told role at i.0 p rest i.2)
+plane_in_told : (role : Role) (at : ℕ) (bytes : List ℕ) (p : PlaneOf) (rest : List ℕ) → IsPlaneIn role bytes p rest → (end : ℕ) × EndsAt at bytes end rest × (plane_at role false at bytes ≡ done p end rest)
+plane_in_told role at bytes p rest i = (at + length i.0, record { place = omega (arith, ap length i.1, length-append i.0 rest) }, ap (plane_at role false at) i.1 ∙ plane_told role at i.0 p rest i.2)
 
 begins_more : (text rest behind : List ℕ) → text ≡ 80 ∷ behind → begins is_p (text ++ rest) ≡ true
 begins_more text rest behind e = rw e refl
 
-plane_begins : (role : Role) (bytes : List ℕ) (p : PlaneOf) (rest : List ℕ) → IsPlaneIn role bytes p rest → begins is_p bytes ≡ true
+pub plane_begins : (role : Role) (bytes : List ℕ) (p : PlaneOf) (rest : List ℕ) → IsPlaneIn role bytes p rest → begins is_p bytes ≡ true
 plane_begins role bytes p rest i = ap (begins is_p) i.1 ∙ begins_more i.0 rest _ i.2.1.header.whole
 
 size_told : (p q : PlaneOf) → HasSizeOf p q → has_size p q ≡ true
@@ -86,6 +87,44 @@ later_break_told role phase at bytes fault b = elim b.1 [
   | inl k ↦ rw (b.0, break_told role at bytes k.0 k.2, k.1) refl
   | inr k ↦ let t = plane_in_told role at bytes k.1.0 k.1.1 k.1.2 in rw (b.0, t.2, other_size phase k.1.0 k.1.3, k.0) refl
 ]
+
+-- ---- it stands in one way, and does not break
+
+abbrev read_of : PlaneOf × ℕ × List ℕ → PlaneRead
+read_of x = Ok x
+
+same_all : (x y : PlaneOf × ℕ × List ℕ) → read_of x ≡ read_of y → x ≡ y
+same_all x y e = cc
+
+same_read : (p q : PlaneOf) (m n : ℕ) (r s : List ℕ) → a_plane p m r ≡ a_plane q n s → (p ≡ q) × (r ≡ s)
+same_read p q m n r s e =
+    let t : (p, m, r) ≡ (q, n, s) = same_all (p, m, r) (q, n, s) e in
+    (ap (λ (x : PlaneOf × ℕ × List ℕ). x.0) t, ap (λ (x : PlaneOf × ℕ × List ℕ). x.2) t)
+
+not_read : (p : PlaneOf) (n : ℕ) (r : List ℕ) (fault : InputFault) → a_plane p n r ≡ no_plane fault → ⊥
+not_read p n r fault e = cc
+
+pub same_phase : (bytes : List ℕ) (p q : PlaneOf) (rest other : List ℕ) → IsPlaneIn Phase bytes p rest → IsPlaneIn Phase bytes q other → (p ≡ q) × (rest ≡ other)
+same_phase bytes p q rest other i j =
+    let s = first_told 0 bytes p rest i in
+    let t = first_told 0 bytes q other j in
+    same_read p q s.0 t.0 rest other (sym s.2 ∙ t.2)
+
+pub same_later : (role : Role) (phase : PlaneOf) (bytes : List ℕ) (p q : PlaneOf) (rest other : List ℕ) → IsLaterPlane role phase bytes p rest → IsLaterPlane role phase bytes q other → (p ≡ q) × (rest ≡ other)
+same_later role phase bytes p q rest other i j =
+    let s = later_told role phase 0 bytes p rest i in
+    let t = later_told role phase 0 bytes q other j in
+    same_read p q s.0 t.0 rest other (sym s.2 ∙ t.2)
+
+pub no_first_break : (at : ℕ) (bytes : List ℕ) (p : PlaneOf) (rest : List ℕ) (fault : InputFault) → IsPlaneIn Phase bytes p rest → PlaneBreak Phase at bytes fault → ⊥
+no_first_break at bytes p rest fault i b =
+    let t = first_told at bytes p rest i in
+    not_read p t.0 rest fault (sym t.2 ∙ first_break_told at bytes fault b)
+
+pub no_later_break : (role : Role) (phase : PlaneOf) (at : ℕ) (bytes : List ℕ) (p : PlaneOf) (rest : List ℕ) (fault : InputFault) → IsLaterPlane role phase bytes p rest → LaterBreak role phase at bytes fault → ⊥
+no_later_break role phase at bytes p rest fault i b =
+    let t = later_told role phase at bytes p rest i in
+    not_read p t.0 rest fault (sym t.2 ∙ later_break_told role phase at bytes fault b)
 
 -- ---- it stands, or breaks
 

@@ -31,7 +31,7 @@ script_at f BeforeReport at bytes = followed (read_sections f bytes)
 nothing_read : (f : Frame) → read_sections f [] ≡ sections_break NoEnd
 nothing_read f = cut_here f zero [] [] (omega arith, in_line_all [] refl)
 
-not_both : (ss : Sections) (rest : List ℕ) (fault : InputFault) → sections_end ss rest ≡ sections_break fault → ⊥
+pub not_both : (ss : Sections) (rest : List ℕ) (fault : InputFault) → sections_end ss rest ≡ sections_break fault → ⊥
 not_both ss rest fault e = cc
 
 no_sections : (f : Frame) (ss : Sections) (rest : List ℕ) → AreSections f [] ss rest → ⊥
@@ -72,7 +72,7 @@ script_break_told f usage at bytes fault (inr g) = rw g.0 (goes_on_told f at byt
 abbrev pub ScriptOrBreak : Frame → SessionUse → ℕ → List ℕ → Type 0
 ScriptOrBreak f usage at bytes = ((scripts : Sections) × (rest : List ℕ) × IsScriptPart f usage bytes scripts rest) ⊎ ((fault : InputFault) × ScriptBreak f usage at bytes fault)
 
-some_or_none : (bytes : List ℕ) → (bytes ≡ []) ⊎ (bytes ≢ [])
+pub some_or_none : (bytes : List ℕ) → (bytes ≡ []) ⊎ (bytes ≢ [])
 some_or_none [] = inl refl
 some_or_none (b ∷ bytes) = inr (λ e. cc)
 

@@ -207,7 +207,7 @@ module _ (f : Frame) (n : ℕ) (ss : Sections) (bytes : List ℕ) where
   ends_here : (rest : List ℕ) → BeginsLine bytes words.End rest → sections_at f (suc n) ss bytes ≡ sections_end ss rest
   ends_here rest b = rw (begins_again bytes words.End rest b) refl
 
-  none_here : IsNoLine bytes → sections_at f (suc n) ss bytes ≡ sections_break (ScriptLine (lines_in ss + 1))
+  pub none_here : IsNoLine bytes → sections_at f (suc n) ss bytes ≡ sections_break (ScriptLine (lines_in ss + 1))
   none_here b = rw (none_again bytes b) refl
 
   pub cut_here : IsCut bytes → sections_at f (suc n) ss bytes ≡ sections_break NoEnd
@@ -240,7 +240,7 @@ read_sections f bytes = sections_at f (suc (length bytes)) [] bytes
 
 module _ (f : Frame) (bytes : List ℕ) (ss : Sections) (mid : List ℕ) (b : StandBefore f bytes ss mid) where
   -- behind sections that stand
-  stands_read : (n : ℕ) × (read_sections f bytes ≡ sections_at f (suc n) ss mid)
+  pub stands_read : (n : ℕ) × (read_sections f bytes ≡ sections_at f (suc n) ss mid)
   stands_read =
       let ws = words_of ss in
       let all : built [] ws ≡ ss = built_all [] ss in
@@ -306,7 +306,7 @@ walk f whole (suc n) ss bytes a within lt = elim (next_line bytes) [
       ]
 ]
 
-none_within : (f : Frame) → AreWithin f []
+pub none_within : (f : Frame) → AreWithin f []
 none_within f = record { analysts = omega arith; short = tt; inside = tt; settles = omega arith; changes = omega arith }
 
 pub sections_or_break : (f : Frame) (bytes : List ℕ) → SectionsOrBreak f bytes

@@ -1,19 +1,17 @@
 -- Bytes are one session's text, or have one first break.
 use Rattle.std.proofs.Common.{◌≡◌, ℕ, ◌+◌, ◌-◌, ◌*◌, ◌≤◌, ◌<◌, ◌⊎◌, Bool, false, not, eqb, inl, inr, List, length, map, replicate, Result, Ok, Err, refl, sym, ap, ◌∙◌, arith}
 use Rattle.std.proofs.lemmas.List.{length-replicate, get_or-map}
-use Rattle.std.proofs.lemmas.Bool.{cases_lt}
 use Rattle.std.proofs.lemmas.Nat.{mul-add-lt}
 use Rattle.raster_model.specs.MaskView.{MaskView}
 use Rattle.raster_model.specs.Masks.{IsMaskOf, open_at}
 use Rattle.pgm_planes.specs.declared.fault.InputFault.{InputFault}
-use Rattle.pgm_planes.specs.declared.fault.InputFault.TheVariants as faults
 use Rattle.pgm_planes.specs.declared.fault.Role.{Role}
 use Rattle.pgm_planes.specs.declared.fault.Role.TheVariants.{Phase, Weight, Mask}
 use Rattle.pgm_planes.specs.Planes.{PlaneOf, IsPlaneIn}
 use Rattle.session_script.specs.declared.session_use.SessionUse.{SessionUse}
 use Rattle.session_script.specs.Scripts.{IsScriptPart}
 use Rattle.session_script.specs.Sections.{Sections}
-use Rattle.session_script.specs.Sessions.{SessionOf, HasSizeOf, IsLaterPlane, ArePlanes, frame_in, open_in, IsSessionIn, IsSameSession, LaterBreak, StandsBefore, BreaksInScript, SessionBreak, HasFault}
+use Rattle.session_script.specs.Sessions.{SessionOf, HasSizeOf, IsLaterPlane, ArePlanes, frame_in, open_in, IsSessionIn, IsSameSession, LaterBreak, StandsBefore, BreaksInScript, SessionBreak}
 use Rattle.session_script.proofs.SectionsAgain.{SectionsRead}
 use Rattle.session_script.proofs.ScriptAgain.{script_at, script_told, script_break_told, script_or_break}
 use Rattle.session_script.proofs.PlanesAgain.{PlaneRead, first_at, later_at, EndsAt, first_told, later_told, first_break_told, later_break_told, first_or_break, later_or_break}
@@ -152,16 +150,7 @@ one_session usage side bytes s t rest other i j =
       ap (λ (p : Parts). p.rest) e,
     )
 
-pub one_fault : (usage : SessionUse) (side : ℕ) (bytes : List ℕ) (e f : InputFault) → length bytes ≤ 268435456 → HasFault usage side bytes e → HasFault usage side bytes f → e ≡ f
-one_fault usage side bytes e f le (inl a) (inl b) = one_break usage side 0 bytes e f a b
-one_fault usage side bytes e f le (inl a) (inr l) = absurd (omega (arith, le, l.1))
-one_fault usage side bytes e f le (inr l) b = absurd (omega (arith, le, l.1))
-
-pub no_fault_of_session : (usage : SessionUse) (side : ℕ) (bytes : List ℕ) (s : SessionOf) (rest : List ℕ) (fault : InputFault) → length bytes ≤ 268435456 → IsSessionIn usage side bytes s rest → HasFault usage side bytes fault → ⊥
-no_fault_of_session usage side bytes s rest fault le i (inl b) = no_break_of_session usage side 0 bytes s rest fault i b
-no_fault_of_session usage side bytes s rest fault le i (inr l) = absurd (omega (arith, le, l.1))
-
--- ---- and one of them does
+-- ---- and one of them does, whatever the length
 
 abbrev clear : ℕ → Bool
 clear v = not (eqb v 0)
@@ -191,61 +180,73 @@ later_fits role phase bytes p rest (inr n) = rw n.1 ((refl, refl), ones_count (p
 sized_mask : (phase mask : PlaneOf) → HasSizeOf phase mask → IsMaskOf (mask_of mask) mask.width mask.height (open_in mask) → IsMaskOf (mask_of mask) phase.width phase.height (open_in mask)
 sized_mask phase mask s m = rw (← s.0, ← s.1) m
 
-abbrev OneOrOther : SessionUse → ℕ → List ℕ → Type 0
-OneOrOther usage side bytes = ((s : SessionOf) × (rest : List ℕ) × IsSessionIn usage side bytes s rest) ⊎ ((fault : InputFault) × HasFault usage side bytes fault)
-
-too_long : (bytes rest : List ℕ) → 268435456 + length rest < length bytes → 268435456 < length bytes
-too_long bytes rest lt = omega (arith, lt)
+-- all of a session stands, of whatever length
+pub record Whole (usage : SessionUse) (side : ℕ) (bytes : List ℕ) : Type 0 where
+  pub phase : PlaneOf
+  pub weights : PlaneOf
+  pub mask : PlaneOf
+  pub scripts : Sections
+  pub between : List ℕ
+  pub rest : List ℕ
+  pub planes : ArePlanes bytes phase weights mask between
+  pub script : IsScriptPart (frame_in side phase) usage between scripts rest
 
 module _ (usage : SessionUse) (side : ℕ) (bytes : List ℕ) where
-  all_stand : (phase weights mask : PlaneOf) (scripts : Sections) (between rest : List ℕ) → ArePlanes bytes phase weights mask between → IsScriptPart (frame_in side phase) usage between scripts rest → OneOrOther usage side bytes
-  all_stand phase weights mask scripts between rest a i = elim (cases_lt (268435456 + length rest) (length bytes)) [
-    | inl lt ↦ inr (faults.TooLong, inr (refl, too_long bytes rest lt))
-    | inr le ↦
-        let fits = later_fits Mask phase a.behind_weights mask between a.third in
-        inl (
-          record { phase = phase; weights = weights; mask = mask_of mask; scripts = scripts },
-          rest,
-          record {
-            mask_plane = mask;
-            between = between;
-            planes = a;
-            mask = sized_mask phase mask fits.0 (mask_is mask fits.1);
-            script = i;
-            short = le;
-          },
-        )
-  ]
+  abbrev pub told_by : Whole usage side bytes → SessionOf
+  told_by w = record { phase = w.phase; weights = w.weights; mask = mask_of w.mask; scripts = w.scripts }
+
+  -- it is a session where it is short enough
+  pub is_session : (w : Whole usage side bytes) → length bytes ≤ 268435456 + length w.rest → IsSessionIn usage side bytes (told_by w) w.rest
+  is_session w short =
+      let fits = later_fits Mask w.phase w.planes.behind_weights w.mask w.between w.planes.third in
+      record {
+        mask_plane = w.mask;
+        between = w.between;
+        planes = w.planes;
+        mask = sized_mask w.phase w.mask fits.0 (mask_is w.mask fits.1);
+        script = w.script;
+        short = short;
+      }
+
+  pub whole_of : (s : SessionOf) (rest : List ℕ) → IsSessionIn usage side bytes s rest → Whole usage side bytes
+  whole_of s rest i = record { phase = s.phase; weights = s.weights; mask = i.mask_plane; scripts = s.scripts; between = i.between; rest = rest; planes = i.planes; script = i.script }
+
+  -- it does not break
+  pub no_break_of_whole : (at : ℕ) (fault : InputFault) → Whole usage side bytes → SessionBreak usage side at bytes fault → ⊥
+  no_break_of_whole at fault w b = not_broken _ fault (sym (all_read usage side at bytes w.phase w.weights w.mask w.scripts w.between w.rest w.planes w.script) ∙ break_read usage side at bytes fault b)
+
+  abbrev pub WholeOrBreak : Type 0
+  WholeOrBreak = Whole usage side bytes ⊎ ((fault : InputFault) × SessionBreak usage side 0 bytes fault)
 
   place_of : (rest : List ℕ) → length rest ≤ length bytes → (length bytes - length rest) + length rest ≡ 0 + length bytes
   place_of rest le = omega (arith, le)
 
-  planes_stand : (phase weights mask : PlaneOf) (between : List ℕ) → ArePlanes bytes phase weights mask between → length between ≤ length bytes → OneOrOther usage side bytes
+  planes_stand : (phase weights mask : PlaneOf) (between : List ℕ) → ArePlanes bytes phase weights mask between → length between ≤ length bytes → WholeOrBreak
   planes_stand phase weights mask between a le =
       let place : ℕ = length bytes - length between in
       elim (script_or_break (frame_in side phase) usage place between) [
-        | inl i ↦ all_stand phase weights mask i.0 between i.1 a i.2
-        | inr b ↦ inr (b.0, inl (inr (record { phase = phase; weights = weights; mask = mask; rest = between; place = place; before = a; place_is = place_of between le; broken = b.1 })))
+        | inl i ↦ inl (record { phase = phase; weights = weights; mask = mask; scripts = i.0; between = between; rest = i.1; planes = a; script = i.2 })
+        | inr b ↦ inr (b.0, inr (record { phase = phase; weights = weights; mask = mask; rest = between; place = place; before = a; place_is = place_of between le; broken = b.1 }))
       ]
 
-  weights_stand : (phase weights : PlaneOf) (behind_phase behind_weights : List ℕ) → IsPlaneIn Phase bytes phase behind_phase → IsLaterPlane Weight phase behind_phase weights behind_weights → length behind_weights ≤ length bytes → OneOrOther usage side bytes
-  weights_stand phase weights behind_phase behind_weights i j le =
-      let place : ℕ = length bytes - length behind_weights in
-      elim (later_or_break Mask phase place behind_weights) [
-        | inl m ↦ planes_stand phase weights m.0 m.1 (record { behind_phase = behind_phase; behind_weights = behind_weights; first = i; second = j; third = m.2 }) (omega (arith, le, (later_told Mask phase 0 behind_weights m.0 m.1 m.2).1.place))
-        | inr b ↦ inr (b.0, inl (inl (inr (record { role = Mask; phase = phase; rest = behind_weights; place = place; before = (weights, behind_phase, i, j); place_is = place_of behind_weights le; broken = b.1 }))))
+  weights_stand : (phase weights : PlaneOf) (first second : List ℕ) → IsPlaneIn Phase bytes phase first → IsLaterPlane Weight phase first weights second → length second ≤ length bytes → WholeOrBreak
+  weights_stand phase weights first second i j le =
+      let place : ℕ = length bytes - length second in
+      elim (later_or_break Mask phase place second) [
+        | inl m ↦ planes_stand phase weights m.0 m.1 (record { behind_phase = first; behind_weights = second; first = i; second = j; third = m.2 }) (omega (arith, le, (later_told Mask phase 0 second m.0 m.1 m.2).1.place))
+        | inr b ↦ inr (b.0, inl (inr (record { role = Mask; phase = phase; rest = second; place = place; before = (weights, first, i, j); place_is = place_of second le; broken = b.1 })))
       ]
 
-  phase_stands : (phase : PlaneOf) (rest : List ℕ) → IsPlaneIn Phase bytes phase rest → length rest ≤ length bytes → OneOrOther usage side bytes
+  phase_stands : (phase : PlaneOf) (rest : List ℕ) → IsPlaneIn Phase bytes phase rest → length rest ≤ length bytes → WholeOrBreak
   phase_stands phase rest i le =
       let place : ℕ = length bytes - length rest in
       elim (later_or_break Weight phase place rest) [
         | inl w ↦ weights_stand phase w.0 rest w.1 i w.2 (omega (arith, le, (later_told Weight phase 0 rest w.0 w.1 w.2).1.place))
-        | inr b ↦ inr (b.0, inl (inl (inr (record { role = Weight; phase = phase; rest = rest; place = place; before = i; place_is = place_of rest le; broken = b.1 }))))
+        | inr b ↦ inr (b.0, inl (inr (record { role = Weight; phase = phase; rest = rest; place = place; before = i; place_is = place_of rest le; broken = b.1 })))
       ]
 
-  pub session_or_fault : OneOrOther usage side bytes
-  session_or_fault = elim (first_or_break 0 bytes) [
+  pub whole_or_break : WholeOrBreak
+  whole_or_break = elim (first_or_break 0 bytes) [
     | inl p ↦ phase_stands p.0 p.1 p.2 (omega (arith, (first_told 0 bytes p.0 p.1 p.2).1.place))
-    | inr b ↦ inr (b.0, inl (inl (inl b.1)))
+    | inr b ↦ inr (b.0, inl (inl b.1))
   ]

@@ -1,28 +1,26 @@
 -- A session, from its planes and its scripts.
-use Rattle.std.proofs.Common.{◌≡◌, ℕ, zero, suc, ◌+◌, ◌*◌, ◌≤◌, ◌<◌, inl, inr, List, [], ◌∷◌, ◌++◌, length, sum_by, count_by, Bool, Option, refl, sym, ap, subst, ◌∙◌, arith}
-use Rattle.std.specs.Prelude.{IfSome}
+use Rattle.std.proofs.Common.{◌≡◌, ℕ, zero, suc, ◌+◌, ◌*◌, ◌≤◌, inl, inr, List, [], ◌∷◌, length, sum_by, count_by, Bool, Option, refl, sym, ap, subst, ◌∙◌, arith}
 use Rattle.std.specs.List.{AllByRecursion}
-use Rattle.std.proofs.lemmas.List.{length-append}
 use Rattle.std.proofs.lemmas.List.Sums.{sum_by-cons}
-use Rattle.insar_ports.specs.Bytes.{with_front, HasMore}
 use Rattle.raster_model.specs.declared.script.Command.{Command}
 use Rattle.raster_model.specs.declared.script.Script.{Script}
 use Rattle.raster_model.specs.declared.tiling.Tiling.{Tiling}
 use Rattle.raster_model.specs.Scripts.{is_settle, is_change, CommandsFit, ScriptsFit, ScriptsAreShort, settles_in, changes_in}
-use Rattle.pgm_planes.specs.declared.fault.InputFault.{InputFault}
 use Rattle.pgm_planes.specs.Calls.{Call, Moves}
 use Rattle.pgm_planes.specs.Planes.{PlaneOf}
-use Rattle.pgm_planes.proofs.CallLemmas.{call, some_is, told_on}
+use Rattle.pgm_planes.proofs.CallLemmas.{call}
 use Rattle.session_script.specs.declared.fault.SessionFault.{SessionFault}
 use Rattle.session_script.specs.declared.fault.SessionFault.TheVariants.{Input, ReadFault, Memory}
 use Rattle.session_script.specs.declared.session_use.SessionUse.{SessionUse}
 use Rattle.session_script.specs.Causes.{HasCause}
 use Rattle.session_script.specs.Making.{IsMadeOf}
-use Rattle.session_script.specs.Reaching.{Reaches, Break, HasCauseIn}
+use Rattle.session_script.specs.Reaching.{Reaches, HasCauseIn, PlanesAsk, ScriptAsks}
 use Rattle.session_script.specs.Scripts.{IsScriptPart, ScriptBreak}
 use Rattle.session_script.specs.Sections.{Sections, sections_of, Frame, frame_of, settles_of, changes_of}
-use Rattle.session_script.specs.Sessions.{SessionOf, ArePlanes, frame_in, IsSessionIn, SessionBreak}
-use Rattle.session_script.proofs.ReachLemmas.{if_told, at_told, part, cause_then}
+use Rattle.session_script.specs.Sessions.{SessionOf, ArePlanes, frame_in, IsSessionIn, PlanesBreak, SessionBreak, SessionAsks, AreTooMany}
+use Rattle.session_script.proofs.AskSession.{planes_forth, planes_back, script_forth, script_back}
+use Rattle.session_script.proofs.ReachLemmas.{if_told, at_told, part, CutAt, cause_then, cause_map}
+use Rattle.session_script.proofs.SeenLemmas.{planes_restrict}
 
 -- ---- scripts as sections
 
@@ -59,25 +57,43 @@ frame_is t p side a b c = rw (← a, ← b, ← c) refl
 
 -- ---- why no session is read
 
-too_long : (c : Call) → Moves c → c.at ≡ 0 → c.limit ≡ 268435456 → c.end ≡ c.limit → HasMore c.left → IfSome c.told (λ bytes. 268435456 < length bytes)
-too_long c m a l e more = if_told c.told _ (λ bytes t.
-    let k = told_on m.front c.told c.left bytes m.parts t in
-    let some : 0 < length k.0 = at_told c.left _ k.0 k.1 more in
-    let whole : bytes ≡ m.front ++ k.0 = some_is bytes (m.front ++ k.0) (sym t ∙ m.parts ∙ ap (with_front m.front) k.1) in
-    omega (arith, m.place, a, l, e, ap length whole, length-append m.front k.0, some))
+at_start : (Q : List ℕ → Type 0) (limit at : ℕ) (bytes : List ℕ) → at ≡ 0 → limit ≡ 268435456 → CutAt limit at Q bytes → CutAt 268435456 0 Q bytes
+at_start Q limit at bytes a l cut = subst (λ (n : ℕ). CutAt 268435456 n Q bytes) a (subst (λ (n : ℕ). CutAt n at Q bytes) l cut)
 
-pub cause_of : (usage : SessionUse) (side : ℕ) (F : Break) (c : Call) (e : SessionFault) → Moves c → c.at ≡ 0 → c.limit ≡ 268435456 → ((bytes : List ℕ) (fault : InputFault) → F c.at bytes fault → SessionBreak usage side c.at bytes fault) → HasCauseIn F c e → HasCause usage side c e
-cause_of usage side F c (Input fault) m a l f (inl h) = if_told c.told _ (λ bytes t. inr (h.0, at_told c.told (λ b. 268435456 < length b) bytes t (too_long c m a l h.1 h.2)))
-cause_of usage side F c (Input fault) m a l f (inr h) = if_told c.told _ (λ bytes t. inl (subst (λ (n : ℕ). SessionBreak usage side n bytes fault) a (f bytes fault (at_told c.told _ bytes t h))))
-cause_of usage side F c ReadFault m a l f h = h
-cause_of usage side F c Memory m a l f h = tt
+from_start : (Q : List ℕ → Type 0) (limit at : ℕ) (bytes : List ℕ) → at ≡ 0 → limit ≡ 268435456 → CutAt 268435456 0 Q bytes → CutAt limit at Q bytes
+from_start Q limit at bytes a l cut = subst (λ (n : ℕ). CutAt limit n Q bytes) (sym a) (subst (λ (n : ℕ). CutAt n 0 Q bytes) (sym l) cut)
+
+too_many : (usage : SessionUse) (side : ℕ) (bytes : List ℕ) → CutAt 268435456 0 (SessionAsks usage side) bytes → AreTooMany usage side bytes
+too_many usage side bytes cut = (omega (arith, cut.0), cut.1)
+
+cut_of : (usage : SessionUse) (side : ℕ) (bytes : List ℕ) → AreTooMany usage side bytes → CutAt 268435456 0 (SessionAsks usage side) bytes
+cut_of usage side bytes t = (omega (arith, t.0), t.1)
+
+pub cause_of : (usage : SessionUse) (side : ℕ) (c : Call) (e : SessionFault) → c.at ≡ 0 → c.limit ≡ 268435456 → HasCauseIn (SessionBreak usage side) (SessionAsks usage side) c e → HasCause usage side c e
+cause_of usage side c (Input fault) a l (inl h) = if_told c.told _ (λ bytes t. inl (too_many usage side bytes (at_start (SessionAsks usage side) c.limit c.at bytes a l (at_told c.told (CutAt c.limit c.at (SessionAsks usage side)) bytes t h.1)), h.0.0))
+cause_of usage side c (Input fault) a l (inr h) = if_told c.told _ (λ bytes t.
+    let b = at_told c.told (λ x. SessionBreak usage side c.at x fault × (CutAt c.limit c.at (SessionAsks usage side) x → ⊥)) bytes t h in
+    inr (λ many. b.1 (from_start (SessionAsks usage side) c.limit c.at bytes a l (cut_of usage side bytes many)), subst (λ (n : ℕ). SessionBreak usage side n bytes fault) a b.0))
+cause_of usage side c ReadFault a l h = h
+cause_of usage side c Memory a l h = tt
+
+-- the planes break
+pub planes_cause : (usage : SessionUse) (side : ℕ) (c : Call) (e : SessionFault) → c.limit ≡ 268435456 → HasCauseIn PlanesBreak PlanesAsk c e → HasCauseIn (SessionBreak usage side) (SessionAsks usage side) c e
+planes_cause usage side c e l = cause_map PlanesBreak (SessionBreak usage side) PlanesAsk (SessionAsks usage side) c e (λ bytes fault b. inl b)
+    (λ seen more le a. planes_forth usage side seen (omega (arith, le, l)) a)
+    (λ seen more fault b a. planes_back usage side c.at seen more fault b a)
 
 module _ (told : Option (List ℕ)) (at : ℕ) (mid : Option (List ℕ)) (at_mid : ℕ) (left : Option (List ℕ)) (end : ℕ) (phase weights mask : PlaneOf) (planes : Reaches (part told at mid at_mid) (λ bytes rest. ArePlanes bytes phase weights mask rest)) where
   -- the script part breaks
-  pub script_cause : (usage : SessionUse) (side : ℕ) (f : Frame) (limit limit_2 before middle after : ℕ) (e : SessionFault) → f ≡ frame_in side phase → Moves (call told at mid at_mid limit before middle) → limit_2 ≡ limit → HasCauseIn (ScriptBreak f usage) (call mid at_mid left end limit_2 middle after) e → HasCauseIn (SessionBreak usage side) (call told at left end limit before after) e
-  script_cause usage side f limit limit_2 before middle after e frame m l h =
-      cause_then told at mid at_mid left end limit limit_2 before middle after (λ bytes rest. ArePlanes bytes phase weights mask rest) (ScriptBreak f usage) (SessionBreak usage side) e m l planes
-      (λ bytes rest fault place s b. inr (record { phase = phase; weights = weights; mask = mask; rest = rest; place = at_mid; before = s; place_is = place; broken = subst (λ (g : Frame). ScriptBreak g usage at_mid rest fault) frame b })) h
+  pub script_cause : (usage : SessionUse) (side : ℕ) (f : Frame) (limit limit_2 before middle after : ℕ) (e : SessionFault) → f ≡ frame_in side phase → Moves (call told at mid at_mid limit before middle) → limit_2 ≡ limit → at_mid ≤ limit → limit ≡ 268435456 → HasCauseIn (ScriptBreak f usage) (ScriptAsks f usage) (call mid at_mid left end limit_2 middle after) e → HasCauseIn (SessionBreak usage side) (SessionAsks usage side) (call told at left end limit before after) e
+  script_cause usage side f limit limit_2 before middle after e frame m l within most h =
+      let g = frame_in side phase in
+      let here = subst (λ (x : Frame). HasCauseIn (ScriptBreak x usage) (ScriptAsks x usage) (call mid at_mid left end limit_2 middle after) e) frame h in
+      cause_then told at mid at_mid left end limit limit_2 before middle after (λ bytes rest. ArePlanes bytes phase weights mask rest) (λ bytes rest. ArePlanes bytes phase weights mask rest) (ScriptBreak g usage) (SessionBreak usage side) (ScriptAsks g usage) (SessionAsks usage side) e m l within planes
+      (planes_restrict phase weights mask)
+      (λ seen behind le a asks. script_forth usage side seen phase weights mask behind a (omega (arith, le, most)) asks)
+      (λ seen behind more fault a b asks. script_back usage side seen phase weights mask behind a asks)
+      (λ bytes rest fault place s b. inr (record { phase = phase; weights = weights; mask = mask; rest = rest; place = at_mid; before = s; place_is = place; broken = b })) here
 
   -- a session stands
   pub session_stands : (usage : SessionUse) (side : ℕ) (f : Frame) (scripts : Sections) (s : SessionOf) → f ≡ frame_in side phase → at ≡ 0 → end ≤ 268435456 → IsMadeOf phase weights mask scripts s → Reaches (part mid at_mid left end) (λ bytes rest. IsScriptPart f usage bytes scripts rest) → Reaches (part told at left end) (λ bytes rest. IsSessionIn usage side bytes s rest)

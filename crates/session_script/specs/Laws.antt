@@ -1,5 +1,5 @@
 -- What the definitions of sessions and of their faults say together.
-use Rattle.std.specs.Prelude.{◌≡◌, ◌⊎◌, ℕ, ◌<◌, ◌≤◌, ◌^◌, List, length, [], ◌++◌}
+use Rattle.std.specs.Prelude.{◌≡◌, ◌⊎◌, ℕ, ◌<◌, ◌^◌, List, [], ◌++◌}
 use Rattle.raster_model.specs.declared.session.Session.{Session}
 use Rattle.pgm_planes.specs.declared.fault.InputFault.{InputFault}
 use Rattle.session_script.specs.declared.session_use.SessionUse.{SessionUse}
@@ -19,12 +19,12 @@ NoBreakOfSession = (usage : SessionUse) (side at : ℕ) (bytes : List ℕ) (s : 
 abbrev pub OneBreak : Type 0
 OneBreak = (usage : SessionUse) (side at : ℕ) (bytes : List ℕ) (e f : InputFault) → SessionBreak usage side at bytes e → SessionBreak usage side at bytes f → e ≡ f
 
--- bytes that are not too many have one fault, and none where they are a session's text and then others
+-- bytes have one fault, and none where they are a session's text and then others
 abbrev pub OneFault : Type 0
-OneFault = (usage : SessionUse) (side : ℕ) (bytes : List ℕ) (e f : InputFault) → length bytes ≤ 268435456 → HasFault usage side bytes e → HasFault usage side bytes f → e ≡ f
+OneFault = (usage : SessionUse) (side : ℕ) (bytes : List ℕ) (e f : InputFault) → HasFault usage side bytes e → HasFault usage side bytes f → e ≡ f
 
 abbrev pub NoFaultOfSession : Type 0
-NoFaultOfSession = (usage : SessionUse) (side : ℕ) (bytes : List ℕ) (s : SessionOf) (rest : List ℕ) (fault : InputFault) → length bytes ≤ 268435456 → IsSessionIn usage side bytes s rest → HasFault usage side bytes fault → ⊥
+NoFaultOfSession = (usage : SessionUse) (side : ℕ) (bytes : List ℕ) (s : SessionOf) (rest : List ℕ) (fault : InputFault) → IsSessionIn usage side bytes s rest → HasFault usage side bytes fault → ⊥
 
 -- bytes are one session's text, which ends in one place
 abbrev pub OneSession : Type 0

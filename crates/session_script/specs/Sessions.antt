@@ -1,5 +1,5 @@
 -- A session as bytes: the planes of phase, weights and mask, and the script part.
-use Rattle.std.specs.Prelude.{◌≡◌, ◌⊎◌, ℕ, ◌+◌, ◌-◌, ◌*◌, ◌/◌, ◌≤◌, ◌<◌, ◌==◌, not, Bool, false, IsTrue, List, length, replicate, slice_index}
+use Rattle.std.specs.Prelude.{◌≡◌, ◌⊎◌, ℕ, ◌+◌, ◌-◌, ◌*◌, ◌/◌, ◌≤◌, ◌<◌, ◌==◌, not, Bool, false, IsTrue, List, [], length, take, replicate, slice_index}
 use Rattle.raster_model.specs.declared.session.Session.{Session}
 use Rattle.raster_model.specs.MaskView.{MaskView}
 use Rattle.raster_model.specs.Masks.{IsMaskOf, open_at}
@@ -9,10 +9,12 @@ use Rattle.pgm_planes.specs.declared.fault.InputFault.TheVariants as faults
 use Rattle.pgm_planes.specs.declared.fault.PlaneFault.{PlaneFault}
 use Rattle.pgm_planes.specs.declared.fault.Role.{Role}
 use Rattle.pgm_planes.specs.declared.fault.Role.TheVariants.{Phase, Weight, Mask}
+use Rattle.pgm_planes.specs.Asking.{AsksForMore}
 use Rattle.pgm_planes.specs.Breaks.{FirstBreak}
 use Rattle.pgm_planes.specs.Gaps.{begins}
 use Rattle.pgm_planes.specs.Planes.{PlaneOf, IsPlaneIn, plane_of}
 use Rattle.session_script.specs.declared.session_use.SessionUse.{SessionUse}
+use Rattle.session_script.specs.declared.session_use.SessionUse.TheVariants.{Alone}
 use Rattle.session_script.specs.Sections.{Sections, Frame, sections_of}
 use Rattle.session_script.specs.Scripts.{IsScriptPart, ScriptBreak}
 
@@ -119,10 +121,20 @@ pub record BreaksInScript (usage : SessionUse) (side at : ℕ) (bytes : List ℕ
 abbrev pub SessionBreak : SessionUse → ℕ → ℕ → List ℕ → InputFault → Type 0
 SessionBreak usage side at bytes fault = PlanesBreak at bytes fault ⊎ BreaksInScript usage side at bytes fault
 
--- more bytes are there than a session may have
-abbrev pub AreTooMany : List ℕ → InputFault → Type 0
-AreTooMany bytes fault = (fault ≡ faults.TooLong) × (268435456 < length bytes)
+-- ---- bytes that are judged at their end: a reader of them asks for a byte behind the last one
 
--- the bytes have this fault as a session: their first break, or they are too many
+-- a plane asks for more: the phase plane, or a later one that begins
+abbrev pub PlaneAsks : List ℕ → Type 0
+PlaneAsks bytes = AsksForMore Phase bytes ⊎ ((role : Role) × (phase : PlaneOf) × (rest : List ℕ) × StandsBefore role bytes phase rest × IsTrue (begins is_p rest) × AsksForMore role rest)
+
+-- the bytes are a session that stands alone, they end before the LF of `end`, or a plane asks for more
+abbrev pub SessionAsks : SessionUse → ℕ → List ℕ → Type 0
+SessionAsks usage side bytes = ((usage ≡ Alone) × (s : SessionOf) × IsSessionIn Alone side bytes s []) ⊎ (SessionBreak usage side 0 bytes faults.NoEnd ⊎ PlaneAsks bytes)
+
+-- more bytes are there than a session may have, and those that it may have ask for more
+abbrev pub AreTooMany : SessionUse → ℕ → List ℕ → Type 0
+AreTooMany usage side bytes = (268435456 < length bytes) × SessionAsks usage side (take 268435456 bytes)
+
+-- the bytes have this fault as a session: they are too many, or it is their first break
 abbrev pub HasFault : SessionUse → ℕ → List ℕ → InputFault → Type 0
-HasFault usage side bytes fault = SessionBreak usage side 0 bytes fault ⊎ AreTooMany bytes fault
+HasFault usage side bytes fault = (AreTooMany usage side bytes × (fault ≡ faults.TooLong)) ⊎ ((AreTooMany usage side bytes → ⊥) × SessionBreak usage side 0 bytes fault)

@@ -9,7 +9,7 @@ pub fn session_or_fault()
     ensures one_break { OneBreak }
 {}
 
-/// Of at most 268,435,456 bytes either is true: they are a session's text and then others, or they have one fault.
+/// Bytes are a session's text and then others, or they have one fault, which may be that they are too many.
 pub fn one_fault()
     ensures not_both { NoFaultOfSession }
     ensures one_fault { OneFault }

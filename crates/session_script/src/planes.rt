@@ -1,7 +1,8 @@
 ghost use Rattle.insar_ports.specs.Feeding.{left_of, limit_of, source_name};
+ghost use Rattle.pgm_planes.specs.Asking.{AsksForMore};
 ghost use Rattle.pgm_planes.specs.Calls.{Moves, call_of};
 ghost use Rattle.pgm_planes.specs.Planes.{HasMaxval, IsPlaneIn, plane_of};
-ghost use Rattle.session_script.specs.Reaching.{HasCauseIn, LooksFor, NoBreak, Reaches};
+ghost use Rattle.session_script.specs.Reaching.{HasCauseIn, IsNothing, IsSeen, LaterAsks, LooksFor, NoBreak, PlanesAsk, Reaches};
 ghost use Rattle.session_script.specs.Sessions.{ArePlanes, HasSizeOf, IsLaterPlane, LaterBreak, PlaneBreak, PlanesBreak, ones_of};
 ghost use Rattle.std.specs.Prelude.{◌≡◌, IfErr, IfOk};
 
@@ -31,7 +32,7 @@ pub fn read_planes<S: Source>(alloc: Global, feed: &mut Feed<S>) -> Result<Plane
     ensures limit { limit_of feed.new ≡ limit_of feed.old }
     ensures moves { Moves (call_of S.left S.faults feed.old feed.new) }
     ensures read { IfOk result (λ planes. Reaches (call_of S.left S.faults feed.old feed.new) (λ bytes rest. ArePlanes bytes (plane_of planes.phase) (plane_of planes.weights) (plane_of planes.mask) rest)) }
-    ensures refused { IfErr result (HasCauseIn PlanesBreak (call_of S.left S.faults feed.old feed.new)) }
+    ensures refused { IfErr result (HasCauseIn PlanesBreak PlanesAsk (call_of S.left S.faults feed.old feed.new)) }
 {
     let phase = read(alloc, feed, Role::Phase)?;
     let weights = read_later(alloc, feed, Role::Weight, &phase)?;
@@ -55,7 +56,7 @@ fn read_later<S: Source>(
     ensures moves { Moves (call_of S.left S.faults feed.old feed.new) }
     ensures read { IfOk result (λ plane. Reaches (call_of S.left S.faults feed.old feed.new) (λ bytes rest. IsLaterPlane role (plane_of phase.now) bytes (plane_of plane) rest)) }
     ensures sized { IfOk result (λ plane. HasSizeOf (plane_of phase.now) (plane_of plane)) }
-    ensures refused { IfErr result (HasCauseIn (LaterBreak role (plane_of phase.now)) (call_of S.left S.faults feed.old feed.new)) }
+    ensures refused { IfErr result (HasCauseIn (LaterBreak role (plane_of phase.now)) (LaterAsks role) (call_of S.left S.faults feed.old feed.new)) }
 {
     if !begins_plane(feed)? {
         return Ok(ones(alloc, phase)?);
@@ -73,7 +74,7 @@ fn begins_plane<S: Source>(feed: &mut Feed<S>) -> Result<bool, SessionFault>
     ensures limit { limit_of feed.new ≡ limit_of feed.old }
     ensures moves { Moves (call_of S.left S.faults feed.old feed.new) }
     ensures read { IfOk result (λ begun. Reaches (call_of S.left S.faults feed.old feed.new) (LooksFor begun)) }
-    ensures refused { IfErr result (HasCauseIn NoBreak (call_of S.left S.faults feed.old feed.new)) }
+    ensures refused { IfErr result (HasCauseIn NoBreak IsNothing (call_of S.left S.faults feed.old feed.new)) }
 {
     match feed.peek()? {
         Some(byte) => Ok(byte == b'P'),
@@ -88,7 +89,8 @@ fn read<S: Source>(alloc: Global, feed: &mut Feed<S>, role: Role) -> Result<Plan
     ensures moves { Moves (call_of S.left S.faults feed.old feed.new) }
     ensures read { IfOk result (λ plane. Reaches (call_of S.left S.faults feed.old feed.new) (λ bytes rest. IsPlaneIn role bytes (plane_of plane) rest)) }
     ensures maxval { IfOk result (λ plane. HasMaxval role plane.maxval) }
-    ensures refused { IfErr result (HasCauseIn (PlaneBreak role) (call_of S.left S.faults feed.old feed.new)) }
+    ensures seen { IfOk result (λ _. IsSeen (AsksForMore role) (call_of S.left S.faults feed.old feed.new)) }
+    ensures refused { IfErr result (HasCauseIn (PlaneBreak role) (AsksForMore role) (call_of S.left S.faults feed.old feed.new)) }
 {
     match read_plane(alloc, feed, role) {
         Ok(plane) => Ok(plane),

@@ -1,8 +1,8 @@
 ghost use Rattle.insar_ports.specs.Feeding.{handed_of, left_of, limit_of, source_name};
 ghost use Rattle.pgm_planes.specs.Calls.{Moves, call_of};
 ghost use Rattle.session_script.specs.Building.{sections_in};
-ghost use Rattle.session_script.specs.Reaching.{HasCauseIn, LineBreak, LooksAt, NoBreak, Reaches};
-ghost use Rattle.session_script.specs.Scripts.{AreSections, BeginsLine, IsScriptPart, ScriptBreak, SectionsBreak, meant, usual};
+ghost use Rattle.session_script.specs.Reaching.{HasCauseIn, IsNothing, IsSeen, LineBreak, LooksAt, NoBreak, Reaches, ScriptAsks, SectionsAsk};
+ghost use Rattle.session_script.specs.Scripts.{AreSections, BeginsLine, IsCut, IsScriptPart, ScriptBreak, SectionsBreak, meant, usual};
 ghost use Rattle.session_script.specs.Sections.{AreWithin, IsComplete, frame_of, sections_of};
 ghost use Rattle.session_script.specs.declared.session_use.SessionUse.TheVariants.{Alone};
 ghost use Rattle.std.specs.Prelude.{◌≡◌, ◌<◌, ◌≤◌, IfErr, IfOk, OnOk, length};
@@ -27,7 +27,7 @@ fn read_word<S: Source>(feed: &mut Feed<S>, number: u32) -> Result<Word, Session
     ensures moves { Moves (call_of S.left S.faults feed.old feed.new) }
     ensures taken { OnOk result (handed_of feed.old < handed_of feed.new) }
     ensures read { IfOk result (λ word. Reaches (call_of S.left S.faults feed.old feed.new) (λ bytes rest. BeginsLine bytes word rest)) }
-    ensures refused { IfErr result (HasCauseIn (LineBreak number) (call_of S.left S.faults feed.old feed.new)) }
+    ensures refused { IfErr result (HasCauseIn (LineBreak number) IsCut (call_of S.left S.faults feed.old feed.new)) }
 {
     let mut line = [0; LONGEST_LINE];
     match feed.next_line(&mut line)? {
@@ -52,7 +52,7 @@ fn read_sections<S: Source>(
     ensures moves { Moves (call_of S.left S.faults feed.old feed.new) }
     ensures read { IfOk result (λ sections. Reaches (call_of S.left S.faults feed.old feed.new) (λ bytes rest. AreSections (frame_of tiling.now) bytes (sections_in sections) rest)) }
     ensures within { IfOk result (λ sections. AreWithin (frame_of tiling.now) (sections_in sections)) }
-    ensures refused { IfErr result (HasCauseIn (λ at bytes fault. SectionsBreak (frame_of tiling.now) bytes fault) (call_of S.left S.faults feed.old feed.new)) }
+    ensures refused { IfErr result (HasCauseIn (λ at bytes fault. SectionsBreak (frame_of tiling.now) bytes fault) (SectionsAsk (frame_of tiling.now)) (call_of S.left S.faults feed.old feed.new)) }
 {
     let mut sections = Sections::new(alloc);
     loop {
@@ -80,7 +80,7 @@ pub fn read_scripts<S: Source>(
     ensures moves { Moves (call_of S.left S.faults feed.old feed.new) }
     ensures read { IfOk result (λ scripts. Reaches (call_of S.left S.faults feed.old feed.new) (λ bytes rest. IsScriptPart (frame_of tiling.now) usage bytes (sections_of scripts.items) rest)) }
     ensures within { IfOk result (λ scripts. IsComplete (frame_of tiling.now) (sections_of scripts.items)) }
-    ensures refused { IfErr result (HasCauseIn (ScriptBreak (frame_of tiling.now) usage) (call_of S.left S.faults feed.old feed.new)) }
+    ensures refused { IfErr result (HasCauseIn (ScriptBreak (frame_of tiling.now) usage) (ScriptAsks (frame_of tiling.now) usage) (call_of S.left S.faults feed.old feed.new)) }
 {
     match usage {
         SessionUse::Alone => read_alone(alloc, feed, tiling),
@@ -103,7 +103,7 @@ fn read_alone<S: Source>(
     ensures moves { Moves (call_of S.left S.faults feed.old feed.new) }
     ensures read { IfOk result (λ scripts. Reaches (call_of S.left S.faults feed.old feed.new) (λ bytes rest. IsScriptPart (frame_of tiling.now) Alone bytes (sections_of scripts.items) rest)) }
     ensures within { IfOk result (λ scripts. IsComplete (frame_of tiling.now) (sections_of scripts.items)) }
-    ensures refused { IfErr result (HasCauseIn (ScriptBreak (frame_of tiling.now) Alone) (call_of S.left S.faults feed.old feed.new)) }
+    ensures refused { IfErr result (HasCauseIn (ScriptBreak (frame_of tiling.now) Alone) (ScriptAsks (frame_of tiling.now) Alone) (call_of S.left S.faults feed.old feed.new)) }
 {
     if has_ended(feed)? {
         return Ok(usual_scripts(alloc)?);
@@ -123,7 +123,8 @@ fn has_ended<S: Source>(feed: &mut Feed<S>) -> Result<bool, SessionFault>
     ensures limit { limit_of feed.new ≡ limit_of feed.old }
     ensures moves { Moves (call_of S.left S.faults feed.old feed.new) }
     ensures read { IfOk result (λ ended. Reaches (call_of S.left S.faults feed.old feed.new) (LooksAt ended)) }
-    ensures refused { IfErr result (HasCauseIn NoBreak (call_of S.left S.faults feed.old feed.new)) }
+    ensures seen { IfOk result (λ _. IsSeen IsNothing (call_of S.left S.faults feed.old feed.new)) }
+    ensures refused { IfErr result (HasCauseIn NoBreak IsNothing (call_of S.left S.faults feed.old feed.new)) }
 {
     match feed.peek()? {
         Some(_) => Ok(false),

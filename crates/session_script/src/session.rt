@@ -7,7 +7,7 @@ ghost use Rattle.session_script.specs.declared.fault.SessionFault.TheVariants as
 ghost use Rattle.session_script.specs.Causes.{HasCause, IsAtLimit, IsReadAs, IsRefusedFor};
 ghost use Rattle.session_script.specs.Reaching.{HasCauseIn, Reaches};
 ghost use Rattle.session_script.specs.Sections.{IsComplete, frame_of, sections_of};
-ghost use Rattle.session_script.specs.Sessions.{IsSessionIn, SessionBreak, SessionOf, session_of};
+ghost use Rattle.session_script.specs.Sessions.{HasFault, IsSessionIn, SessionOf, session_of};
 ghost use Rattle.session_script.specs.Making.{IsMadeOf};
 ghost use Rattle.std.specs.Prelude.{◌≡◌, ◌≤◌, IfErr, IfOk, IfSome, Err, List, ℕ};
 
@@ -43,13 +43,13 @@ pub fn read_session<S: Source>(
     ensures read { IfOk result (λ session. Reaches (call_of S.left S.faults feed.old feed.new) (λ bytes rest. IsSessionIn use_as side bytes (session_of session) rest)) }
     ensures scene { IfOk result (λ session. (session.scene.rule ≡ kind) × (session.scene.tiling.side ≡ side)) }
     // What is spelled so is read, and what follows is left.
-    ensures accepted { IfSome (left_of S.left feed.old) (λ bytes. (s : SessionOf) (rest : List ℕ) → IsSessionIn use_as side bytes s rest → IsReadAs (call_of S.left S.faults feed.old feed.new) bytes s rest result) }
+    ensures accepted { IfSome (left_of S.left feed.old) (λ bytes. (s : SessionOf) (rest : List ℕ) → IsSessionIn use_as side bytes s rest → IsReadAs (call_of S.left S.faults feed.old feed.new) s rest result) }
     // The first break, or why else a session is not read.
     ensures refused { IfErr result (HasCause use_as side (call_of S.left S.faults feed.old feed.new)) }
     // More bytes are told where so many were handed out and another is there.
     ensures too_long { result ≡ Err (session_faults.Input faults.TooLong) → IsAtLimit (call_of S.left S.faults feed.old feed.new) }
-    // What breaks is refused with its first break.
-    ensures exact { IfSome (left_of S.left feed.old) (λ bytes. (fault : AnyFault) → SessionBreak use_as side 0 bytes fault → IsRefusedFor (call_of S.left S.faults feed.old feed.new) bytes fault result) }
+    // What has a fault is refused with it: with its first break, or as too long.
+    ensures exact { IfSome (left_of S.left feed.old) (λ bytes. (fault : AnyFault) → HasFault use_as side bytes fault → IsRefusedFor (call_of S.left S.faults feed.old feed.new) fault result) }
 {
     read_spelled(alloc, feed, use_as, side, kind)
 }

@@ -1,4 +1,4 @@
-use Rattle.session_script.proofs.SessionAgain.{one_fault, no_fault_of_session}
+use Rattle.session_script.proofs.AskSession.{one_fault, no_fault_of_session}
 use Rattle.session_script.proofs.laws.one_fault.Goals as goal
 
 pub returns-clause-not_both : goal.returns-clause-not_both

@@ -1,4 +1,5 @@
-use Rattle.session_script.proofs.SessionAgain.{session_or_fault, no_break_of_session, one_break}
+use Rattle.session_script.proofs.AskSession.{session_or_fault}
+use Rattle.session_script.proofs.SessionAgain.{no_break_of_session, one_break}
 use Rattle.session_script.proofs.laws.session_or_fault.Goals as goal
 
 pub returns-clause-either : goal.returns-clause-either

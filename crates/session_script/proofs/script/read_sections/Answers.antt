@@ -1,13 +1,12 @@
-use Rattle.std.proofs.Common.{◌∙◌, ◌≡◌, ◌+◌, sym, ap, refl, inr, None, [], ◌∷◌, ◌++◌, length, arith}
+use Rattle.std.proofs.Common.{◌∙◌, ◌≡◌, ◌≤◌, ◌+◌, sym, ap, None, [], ◌∷◌, ◌++◌, length, arith}
 use Rattle.std.proofs.lemmas.List.{length-append}
 use Rattle.std.proofs.lemmas.Result.{err_from_is_err_and}
+use Rattle.insar_ports.specs.Feeding.{handed_of, limit_of}
+use Rattle.pgm_planes.specs.Calls.{call_of}
 use Rattle.pgm_planes.proofs.CallLemmas.{Moves-then}
 use Rattle.session_script.specs.Building.{sections_in}
-use Rattle.session_script.specs.Reaching.{LineBreak}
-use Rattle.session_script.specs.Scripts.{SectionsBreak}
 use Rattle.session_script.specs.Sections.{frame_of, lines_in, words_of, word_broken, with_word}
-use Rattle.session_script.proofs.ReachLemmas.{cause_then}
-use Rattle.session_script.proofs.ScriptLemmas.{AreLinesOf, line_breaks, word_breaks, stands_more, stands_whole}
+use Rattle.session_script.proofs.ScriptLemmas.{line_cause, word_cause, stands_more, stands_whole}
 use Rattle.session_script.proofs.WithinLemmas.{words_with, has_begun, stays_within}
 use Rattle.session_script.proofs.script.read_sections.Goals as goal
 
@@ -17,12 +16,12 @@ returns-in_err-word-clause-moves g c = Moves-then _ _ _ _ _ _ _ _ _ _ _ c.loop-s
 pub returns-in_err-word-clause-refused : goal.returns-in_err-word-clause-refused
 returns-in_err-word-clause-refused g c =
     let p = err_from_is_err_and c.from_residual.result c.from_residual.ensures.1 in
-    let f = frame_of c.args.tiling.now in
     let ss = sections_in c.loop-sections.sections in
-    rw (p.1, p.2) (cause_then _ _ _ _ _ _ _ _ _ _ _ (AreLinesOf ss) (LineBreak (c.lines.result + 1)) (λ at bytes fault. SectionsBreak f bytes fault) c.in_err-word.field-0.0
-    c.loop-sections.invariant.moves c.loop-sections.invariant.limit c.loop-sections.invariant.stands
-    (λ bytes rest fault place lines b. line_breaks f ss c.loop-sections.invariant.within (c.lines.result + 1) 0 bytes rest fault (ap (λ n. n + 1) c.lines.ensures) lines b)
-    c.in_err-word.ensures.refused)
+    let f = c.loop-sections.feed in
+    let within : handed_of f ≤ limit_of c.args.feed.now = omega (arith, f.limited, f.counted, f.ordered, c.loop-sections.invariant.limit) in
+    rw (p.1, p.2) (line_cause (frame_of c.args.tiling.now) ss c.loop-sections.invariant.within _ _ _ _ _ _ _ _ _ _ _ (c.lines.result + 1) c.in_err-word.field-0.0
+    c.loop-sections.invariant.moves c.loop-sections.invariant.limit within c.loop-sections.invariant.stands
+    (ap (λ n. n + 1) c.lines.ensures) c.in_err-word.ensures.refused)
 
 pub returns-in-Some-clause-moves : goal.returns-in-Some-clause-moves
 returns-in-Some-clause-moves g c = Moves-then _ _ _ _ _ _ _ _ _ _ _ c.loop-sections.invariant.moves c.in_ok-word.ensures.moves
@@ -30,7 +29,11 @@ returns-in-Some-clause-moves g c = Moves-then _ _ _ _ _ _ _ _ _ _ _ c.loop-secti
 pub returns-in-Some-clause-refused : goal.returns-in-Some-clause-refused
 returns-in-Some-clause-refused g c =
     let ss = sections_in c.loop-sections.sections in
-    inr (word_breaks (frame_of c.args.tiling.now) ss c.loop-sections.invariant.within _ _ _ _ _ _ c.loop-sections.invariant.stands c.in_ok-word.word c.in_ok-word.ensures.read (lines_in ss + 1) c.in-Some.fault refl (sym c.refusal.ensures ∙ c.in-Some.is))
+    let all = call_of g.S.Source.left g.S.Source.faults c.args.feed.now c.read_word.new.feed in
+    let f = c.read_word.new.feed in
+    let within : handed_of f ≤ limit_of c.args.feed.now = omega (arith, f.limited, f.counted, f.ordered, c.in_ok-word.ensures.limit, c.loop-sections.invariant.limit) in
+    word_cause (frame_of c.args.tiling.now) ss c.loop-sections.invariant.within all.told all.at _ _ all.left all.end c.loop-sections.invariant.stands c.in_ok-word.word c.in_ok-word.ensures.read all.limit all.before all.after c.in-Some.fault
+    (Moves-then _ _ _ _ _ _ _ _ _ _ _ c.loop-sections.invariant.moves c.in_ok-word.ensures.moves) within (sym c.refusal.ensures ∙ c.in-Some.is)
 
 pub returns-in-End-clause-moves : goal.returns-in-End-clause-moves
 returns-in-End-clause-moves g c = Moves-then _ _ _ _ _ _ _ _ _ _ _ c.loop-sections.invariant.moves c.in_ok-word.ensures.moves

@@ -7,6 +7,8 @@ pub mod Unique
 pub mod CallerLemmas
 pub mod SeamLemmas
 pub mod FlowSums
+pub mod EdgeBlocks
+pub mod SeamCosts
 pub mod SeamVerdictLemmas
 pub mod UniqueSeams
 pub mod CopyLemmas

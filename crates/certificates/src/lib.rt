@@ -7,6 +7,7 @@ mod cycles;
 pub mod laws;
 mod numbers;
 mod results;
+mod seam_costs;
 mod seam_edges;
 mod seam_flows;
 mod seams;

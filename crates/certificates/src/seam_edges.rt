@@ -1,8 +1,22 @@
 ghost use Rattle.raster_model.specs.Flows.{is_seam_edge as is_seam_edge_of, seam_count as seam_count_of, seams_from as seams_from_of};
+ghost use Rattle.raster_model.specs.Raster.{is_seam};
 ghost use Rattle.raster_model.specs.Scene.{raster_of};
-ghost use Rattle.std.specs.Prelude.{◌≡◌, ◌<◌, ◌≤◌};
+ghost use Rattle.raster_model.specs.Sums.{is_edge};
+ghost use Rattle.std.specs.Prelude.{◌≡◌, ◌<◌, ◌≤◌, IsTrue};
 
-use raster_model::{Edge, Scene, plain};
+use raster_model::{Edge, Scene};
+
+/// Whether an edge leads from tile to tile: its other end is then the first pixel of its tile in the edge's direction.
+fn leaves_tile(scene: &Scene, edge: Edge) -> bool
+    requires { IsTrue (is_edge scene.now.phase.width scene.now.phase.height edge) }
+    ensures { result ≡ is_seam (raster_of scene.now) edge }
+{
+    if edge.down {
+        edge.end_y() % scene.tiling.side == 0
+    } else {
+        edge.end_x() % scene.tiling.side == 0
+    }
+}
 
 /// Whether an edge that starts at a pixel leads to a pixel of another tile.
 pub(crate) fn is_seam_edge(scene: &Scene, edge: Edge) -> bool
@@ -11,7 +25,7 @@ pub(crate) fn is_seam_edge(scene: &Scene, edge: Edge) -> bool
 {
     edge.end_x() < scene.phase.width
         && edge.end_y() < scene.phase.height
-        && plain::is_seam(scene, edge)
+        && leaves_tile(scene, edge)
 }
 
 /// How many seam edges start at a pixel.

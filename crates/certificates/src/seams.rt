@@ -10,10 +10,11 @@ ghost use Rattle.std.specs.Prelude.{◌≡◌, ◌↔◌, IfNone, IfSome, length
 
 use crate::anchor::off_anchor;
 use crate::numbers::is_same;
+use crate::seam_costs::seam_cost;
 use crate::seam_edges::seam_count;
 use crate::seam_flows::SeamFlows;
 use crate::verdicts::SeamVerdict;
-use raster_model::{Heights, Mask, Scene, plain};
+use raster_model::{Heights, Mask, Scene};
 
 /// Checks the flows that certify a surface at its seams: one for each seam edge, in edge order. First their
 /// number is judged, then the surface's anchor, then each flow, then the balance at each region, then the cost.
@@ -49,7 +50,7 @@ pub fn check_flows<H: Heights>(
         return SeamVerdict::Unbalanced(region as u32);
     }
     let bound = seams.total(heights);
-    let cost = plain::seam_cost(scene, mask, heights);
+    let cost = seam_cost(scene, mask, heights);
     if is_same(bound, cost) {
         SeamVerdict::Good
     } else {

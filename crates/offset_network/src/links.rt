@@ -3,15 +3,29 @@ ghost use Rattle.offset_network.specs.Seams.{AddsLink, AddsLinksFrom, AreSeamLin
 ghost use Rattle.offset_network.specs.Surfaces.{tile_cycles};
 ghost use Rattle.raster_model.specs.Flows.{is_seam_edge as is_seam_edge_of, seam_place, seams_before};
 ghost use Rattle.raster_model.specs.Masks.{open_at};
+ghost use Rattle.raster_model.specs.Raster.{is_seam};
 ghost use Rattle.raster_model.specs.Scene.{raster_of};
+ghost use Rattle.raster_model.specs.Sums.{is_edge};
 ghost use Rattle.seam_regions.specs.Regions.{AreRegionsOf, label_at};
 ghost use Rattle.std.specs.Prelude.{◌≡◌, ◌<◌, IfOk, IsTrue, OnOk, length};
 
 use crate::link::Link;
 use crate::surface::TileSurface;
-use raster_model::{Edge, Scene, plain, weight};
+use raster_model::{Edge, Scene, weight};
 use seam_regions::Regions;
 use std::alloc::{AllocError, Global};
+
+/// Whether an edge leads from tile to tile: its other end is then the first pixel of its tile in the edge's direction.
+fn leaves_tile(scene: &Scene, edge: Edge) -> bool
+    requires { IsTrue (is_edge scene.now.phase.width scene.now.phase.height edge) }
+    ensures { result ≡ is_seam (raster_of scene.now) edge }
+{
+    if edge.down {
+        edge.end_y() % scene.tiling.side == 0
+    } else {
+        edge.end_x() % scene.tiling.side == 0
+    }
+}
 
 /// Whether an edge that starts at a pixel leads to a pixel of another tile.
 fn is_seam_edge(scene: &Scene, edge: Edge) -> bool
@@ -20,7 +34,7 @@ fn is_seam_edge(scene: &Scene, edge: Edge) -> bool
 {
     edge.end_x() < scene.phase.width
         && edge.end_y() < scene.phase.height
-        && plain::is_seam(scene, edge)
+        && leaves_tile(scene, edge)
 }
 
 /// The link of a seam edge; None where an end is masked.

@@ -27,7 +27,7 @@ published_is_best p is = certified_is_best (raster_in p) (open_in p) (surface_in
 
 -- ---- numbers of a surface are small
 
-near_or_none : (offsets : List ℤ) → AreNear offsets → (v : ℕ) → unsigned_abs (slice_index_or offsets v (pos 0)) ≤ 2 ^ 46
+pub near_or_none : (offsets : List ℤ) → AreNear offsets → (v : ℕ) → unsigned_abs (slice_index_or offsets v (pos 0)) ≤ 2 ^ 46
 near_or_none offsets near v =
     elim (cases_lt v (length offsets)) [
       | inl below ↦ near v below

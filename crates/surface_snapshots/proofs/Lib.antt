@@ -1,5 +1,6 @@
 mod ShiftedLemmas
 mod CostLemmas
+mod LevelLemmas
 mod VerdictLemmas
 mod PublishedLemmas
 pub mod CallerLemmas

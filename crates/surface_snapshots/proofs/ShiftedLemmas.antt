@@ -9,7 +9,8 @@ use Rattle.raster_model.specs.declared.tiling.Window.{Window}
 use Rattle.raster_model.specs.MaskView.{MaskView}
 use Rattle.raster_model.specs.Masks.{open_at}
 use Rattle.raster_model.specs.Sums.{Field}
-use Rattle.raster_model.specs.Tiles.{IsWindowOf, IsWithin, tile_at, window_of}
+use Rattle.raster_model.specs.Tiles.{IsWithin, tile_at, tiles_of, window_of}
+use Rattle.raster_model.proofs.TileLemmas.{tiles_are_numbered, window_of-pixels}
 use Rattle.certificates.specs.declared.results.TileResult.{TileResult}
 use Rattle.certificates.specs.Results.{cycles_in, pixels_in}
 use Rattle.seam_regions.specs.Regions.{AreRegionsOf}
@@ -30,10 +31,13 @@ open_pixel w h x y o t = (grind (arith, nat_tests), grind (arith, nat_tests), la
 pub place_in_window : (v : Window) (x y : ℕ) → IsWithin v x y → (y - v.y0) * (v.x1 - v.x0 + 1) + (x - v.x0) < pixels_in v
 place_in_window v x y w = mul-add-lt (y - v.y0) (v.x1 - v.x0 + 1) (x - v.x0) (v.y1 - v.y0 + 1) (omega (arith, w)) (omega (arith, w))
 
-pub within_window : (s : Scene) (t : ℕ) (v : Window) (x y : ℕ) (o : Bool) → IsWindowOf s.tiling t v → t ≡ tile_at s.tiling x y → IsTrue (nat_lt x s.phase.width && nat_lt y s.phase.height && o) → IsWithin v x y
+pub within_window : (s : Scene) (t : ℕ) (v : Window) (x y : ℕ) (o : Bool) → v ≡ window_of s.tiling t → t ≡ tile_at s.tiling x y → IsTrue (nat_lt x s.phase.width && nat_lt y s.phase.height && o) → IsWithin v x y
 within_window s t v x y o is e i =
     let p = open_pixel s.phase.width s.phase.height x y o i in
-    (is.pixels x y (omega (arith, p.0, s.same_width)) (omega (arith, p.1, s.same_height))).0 (sym e)
+    let l : x < s.tiling.width = omega (arith, p.0, s.same_width) in
+    let m : y < s.tiling.height = omega (arith, p.1, s.same_height) in
+    let below : t < tiles_of s.tiling = subst (λ (n : ℕ). n < tiles_of s.tiling) (sym e) (tiles_are_numbered s.tiling x y l m) in
+    subst (λ (u : Window). IsWithin u x y) (sym is) (((window_of-pixels s.tiling t below).pixels x y l m).0 (sym e))
 
 -- a small number of cycles at 64 bits
 pub widened : (z f : ℤ) → unsigned_abs z ≤ 8388608 → f ≡ to_z w32 (of_z w32 z) → to_z w64 (of_z w64 f) ≡ z

@@ -2,3 +2,4 @@ pub mod Parts
 pub mod Verdicts
 pub mod Views
 pub mod Loops
+pub mod Shifted

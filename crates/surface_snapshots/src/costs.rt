@@ -5,20 +5,15 @@ ghost use Rattle.std.specs.Prelude.{◌≡◌, IfErr, IfOk};
 ghost use Rattle.surface_snapshots.specs.Parts.{AreGoodTiles, HaveCosts, parts_from};
 ghost use Rattle.surface_snapshots.specs.Verdicts.{IsFault, IsVerdict};
 
+use crate::counting::Costs;
 use crate::fault::BuildFault;
+use crate::levels::Levels;
 use crate::offsets::first_far;
 use crate::shifted::ShiftedTiles;
 use certificates::{SeamResult, SeamVerdict, TileSet};
-use raster_model::{Mask, Session, plain};
+use raster_model::{Mask, Session};
 use seam_regions::Regions;
 use std::alloc::Global;
-
-/// What the tiles and the seams of a surface cost.
-#[derive(Clone, Copy)]
-pub(crate) struct Costs {
-    pub(crate) tiles: u128,
-    pub(crate) seams: u128,
-}
 
 /// The costs of the surface that is put together from these parts, where it is certified.
 pub(crate) fn certified_costs(
@@ -51,11 +46,9 @@ pub(crate) fn certified_costs(
         tiles,
         offsets: &seams.offsets,
     };
-    match surface.judge(alloc, &seams.flows)? {
-        SeamVerdict::Good => Ok(Costs {
-            tiles: surface.tile_cost(),
-            seams: plain::seam_cost(&session.scene, mask, &surface),
-        }),
+    let levels = Levels::of(alloc, surface)?;
+    match levels.judge(alloc, &seams.flows)? {
+        SeamVerdict::Good => Ok(levels.costs()),
         verdict => Err(BuildFault::Uncertified(verdict)),
     }
 }

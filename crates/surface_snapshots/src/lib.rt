@@ -4,8 +4,10 @@
 #![tactic(auto)]
 
 mod costs;
+mod counting;
 mod fault;
 pub mod laws;
+mod levels;
 mod offsets;
 mod shifted;
 mod snapshot;

@@ -49,7 +49,7 @@ impl Heights for Snapshot {
     ghost cycles_at = { λ s. cycles_in_parts (parts_of s) };
 
     fn cycles(&self, x: u32, y: u32) -> i64 {
-        self.shifted().cycles(x, y)
+        self.shifted().at(x, y)
     }
 }
 

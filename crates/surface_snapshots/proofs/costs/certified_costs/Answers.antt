@@ -13,14 +13,14 @@ invariant_of-surface c =
       near = rw (c.deref-2.ensures.value) (rw c.deref.ensures.value at c.in_default.ensures.none);
     }
 
-pub returns-in_default-2 : goal.returns-in_default-2
-returns-in_default-2 c = record {
+pub returns : goal.returns
+returns c = record {
   refused = (
     c.in_default-2.not-Good,
     judged (parts_from c.args.session.now c.args.mask.now c.args.regions.now c.args.tiles.now c.args.seams.now) c.in_ok-verdict.verdict
         (sym c.args.seams.now.offsets.ok.0 ∙ sym c.len.ensures ∙ c.if-len-count.false ∙ c.count.ensures.value)
         (rw c.deref.ensures.value at c.in_default.ensures.none)
-        (rw (c.deref-2.ensures.value, c.deref-3.ensures.value) at c.in_ok-verdict.ensures),
+        (rw (c.in_ok-levels.ensures, c.deref-2.ensures.value, c.deref-3.ensures.value) at c.in_ok-verdict.ensures),
   );
   certified = tt;
   costs = tt;

@@ -1,0 +1,60 @@
+-- Lists of a surface's cycles: one more pixel, and what is read of them.
+use Rattle.std.proofs.Common.{◌≡◌, ◌∙◌, ℕ, ◌+◌, ◌*◌, ◌<◌, ◌≤◌, ◌^◌, sym, subst, arith, inl, inr, List, ◌∷◌, [], ◌++◌}
+use Rattle.std.specs.Prelude.{ℤ, pos, IsTrue, unsigned_abs}
+use Rattle.std.proofs.lemmas.Bool.{cases_lt}
+use Rattle.std.proofs.lemmas.Int.{ints}
+use Rattle.std.proofs.lemmas.List.{get_or_append_left, get_or_push, length_push}
+use Rattle.std.proofs.lemmas.Nat.{same_from_place}
+use Rattle.raster_model.specs.declared.tiling.Tiling.{Tiling}
+use Rattle.raster_model.specs.Tiles.{IsWindowOf, tile_at, tiles_of, window_of}
+use Rattle.raster_model.proofs.TileLemmas.{tiles_are_numbered, window_of-pixels}
+use Rattle.seam_regions.specs.Regions.{label_at}
+use Rattle.surface_snapshots.specs.declared.shifted.ShiftedTiles.{ShiftedTiles}
+use Rattle.surface_snapshots.specs.Parts.{offset_at}
+use Rattle.surface_snapshots.specs.Shifted.{AreListed, cycles_under, open_under}
+use Rattle.surface_snapshots.proofs.CallerLemmas.{near_or_none, solved_small}
+
+-- the window of a pixel's tile, along the pixel's row
+module _ (g : Tiling) (x y t : ℕ) (across : x < g.width) (along : y < g.height) (of_tile : t ≡ tile_at g x y) where
+  pub its_window : IsWindowOf g t (window_of g t)
+  its_window = window_of-pixels g t (subst (λ (n : ℕ). n < tiles_of g) (sym of_tile) (tiles_are_numbered g x y across along))
+
+  pub row_reaches : (x ≤ (window_of g t).x1) × ((window_of g t).x1 < g.width)
+  row_reaches = (((its_window.pixels x y across along).0 (sym of_tile)).1, its_window.across.1)
+
+  pub same_tile : (c : ℕ) → x ≤ c → c ≤ (window_of g t).x1 → t ≡ tile_at g c y
+  same_tile c from upto =
+      let w = (its_window.pixels x y across along).0 (sym of_tile) in
+      sym ((its_window.pixels c y (omega (arith, row_reaches, upto)) along).1 (omega (arith, w.0, from), upto, w.2, w.3))
+
+module _ (s : ShiftedTiles) (x y : ℕ) where
+  pub one_more : (list : List ℤ) (v : ℤ) → x < s.scene.now.phase.width → AreListed s (y * s.scene.now.phase.width + x) list → (IsTrue (open_under s x y) → v ≡ cycles_under s x y) → AreListed s (y * s.scene.now.phase.width + (x + 1)) (list ++ (v ∷ []))
+  one_more list v l is here =
+      let w = s.scene.now.phase.width in
+      record {
+        count = length_push list v ∙ omega (arith, is.count);
+        at = λ a b p q o r. elim (cases_lt (b * w + a) (y * w + x)) [
+          | inl below ↦ get_or_append_left list (v ∷ []) (pos 0) (b * w + a) (omega (arith, is.count, below)) ∙ is.at a b p q o below
+          | inr above ↦
+              (let e : b * w + a ≡ y * w + x = omega (arith, r, above) in
+              let same = same_from_place b a y x w p l e in
+              get_or_push list v (pos 0) (b * w + a) (is.count ∙ sym e)
+              ∙ subst (λ (n : ℕ). IsTrue (open_under s n b) → v ≡ cycles_under s n b) (sym same.1)
+              (subst (λ (m : ℕ). IsTrue (open_under s x m) → v ≡ cycles_under s x m) (sym same.0) here) o)
+        ];
+      }
+
+  pub small_there : x < s.scene.now.phase.width → y < s.scene.now.phase.height → IsTrue (open_under s x y) → unsigned_abs (cycles_under s x y) ≤ 2 ^ 46 + 8388608
+  unfolding offset_at
+  small_there l m o =
+      omega (arith, ints, solved_small s.scene.now (open_under s) s.tiles.now.results s.together.tiles x y l m o, near_or_none s.offsets.now s.near (label_at s.regions.now x y))
+
+-- the same number of pixels in other words, and none
+pub resized : (s : ShiftedTiles) (n m : ℕ) (list : List ℤ) → n ≡ m → AreListed s n list → AreListed s m list
+resized s n m list e is = subst (λ (k : ℕ). AreListed s k list) e is
+
+pub none_listed : (s : ShiftedTiles) (list : List ℤ) → list ≡ [] → AreListed s (0 * s.scene.now.phase.width) list
+none_listed s list e = record {
+  count = rw e (omega arith);
+  at = λ x y p q o r. absurd (omega (arith, r));
+}

@@ -1,5 +1,5 @@
 -- Where an edge leads from tile to tile: the next column or row then begins another block of pixels.
-use Rattle.std.proofs.Common.{◌≡◌, ◌≢◌, ◌∙◌, ℕ, ◌+◌, ◌/◌, ◌%◌, ◌<◌, sym, ap, refl, arith, true, false, inl, inr}
+use Rattle.std.proofs.Common.{◌≡◌, ◌≢◌, ◌∙◌, ℕ, ◌+◌, ◌/◌, ◌%◌, ◌<◌, sym, ap, refl, arith, inl, inr}
 use Rattle.std.specs.Prelude.{◌==◌, not, IsTrue}
 use Rattle.std.proofs.lemmas.Bool.Decides.{eqb_tells}
 use Rattle.std.proofs.lemmas.Nat.{div-add-mod', mod_below}
@@ -8,9 +8,10 @@ use Rattle.raster_model.specs.declared.scene.Scene.{Scene}
 use Rattle.raster_model.specs.declared.tiling.Tiling.{Tiling}
 use Rattle.raster_model.specs.Raster.{is_seam}
 use Rattle.raster_model.specs.Scene.{raster_of}
-use Rattle.raster_model.specs.Sums.{end_x, end_y, is_edge, right_edge, down_edge}
+use Rattle.raster_model.specs.Sums.{is_edge}
 use Rattle.raster_model.specs.Tiles.{tile_at}
 use Rattle.raster_model.proofs.SumLemmas.{on_each_edge}
+use Rattle.certificates.specs.Ends.{passes_end}
 use Rattle.raster_model.proofs.TileLemmas.{from_block, in_block, tiles_are_squares}
 
 next_block : (x d : ℕ) → 0 < d → ((x + 1) % d ≡ 0 → x / d ≢ (x + 1) / d) × ((x + 1) % d ≢ 0 → x / d ≡ (x + 1) / d)
@@ -42,13 +43,8 @@ lower_leaves g x y l =
     let t = tiles_are_squares g x y x (y + 1) l l in
     leaves ((y + 1) % g.side) (tile_at g x y) (tile_at g x (y + 1)) (λ z e. b.0 z (t.0 e).1) (λ n. t.1 (refl, b.1 n))
 
-module _ (s : Scene) where
-  pub right_leads : (e : Edge) → e.down ≡ false → IsTrue (is_edge s.phase.width s.phase.height e) → (end_x e % s.tiling.side == 0) ≡ is_seam (raster_of s) e
-  right_leads e d i = on_each_edge s.phase.width s.phase.height (λ e. e.down ≡ false → (end_x e % s.tiling.side == 0) ≡ is_seam (raster_of s) e)
-      (λ x y l m n _. right_leaves s.tiling x y (omega (arith, n, s.same_width)))
-      (λ x y l m n f. absurd (let t : true ≡ false = f in cc)) e i d
-
-  pub lower_leads : (e : Edge) → e.down ≡ true → IsTrue (is_edge s.phase.width s.phase.height e) → (end_y e % s.tiling.side == 0) ≡ is_seam (raster_of s) e
-  lower_leads e d i = on_each_edge s.phase.width s.phase.height (λ e. e.down ≡ true → (end_y e % s.tiling.side == 0) ≡ is_seam (raster_of s) e)
-      (λ x y l m n f. absurd (let t : false ≡ true = f in cc))
-      (λ x y l m n _. lower_leaves s.tiling x y (omega (arith, l, s.same_width))) e i d
+-- an edge leads from tile to tile where its other end begins another block
+pub passes_leads : (s : Scene) (e : Edge) → IsTrue (is_edge s.phase.width s.phase.height e) → passes_end s.tiling.side e ≡ is_seam (raster_of s) e
+passes_leads s e i = on_each_edge s.phase.width s.phase.height (λ e. passes_end s.tiling.side e ≡ is_seam (raster_of s) e)
+    (λ x y l m n. right_leaves s.tiling x y (omega (arith, n, s.same_width)))
+    (λ x y l m n. lower_leaves s.tiling x y (omega (arith, l, s.same_width))) e i

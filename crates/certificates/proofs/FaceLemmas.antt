@@ -75,3 +75,7 @@ module _ (s : Scene) (tile : ℕ) (v : Window) (is : IsWindowOf s.tiling tile v)
 
   pub cells_along_fit : (v.y0 ≤ v.y1) × (v.y1 ≤ s.phase.height)
   cells_along_fit = (omega (arith, is.along), omega (arith, is.along, s.same_height))
+
+-- a face of 0 adds nothing
+pub no_product : (a b : ℤ) → a ≡ pos 0 → pos 0 ≡ a *ℤ b
+no_product a b e = rw e (omega (arith, ints))

@@ -8,6 +8,7 @@ pub mod CallerLemmas
 pub mod SeamLemmas
 pub mod FlowSums
 pub mod EdgeBlocks
+pub mod EndLemmas
 pub mod SeamCosts
 pub mod SeamVerdictLemmas
 pub mod UniqueSeams

@@ -1,3 +1,4 @@
+pub mod Ends
 pub mod EdgeOrder
 pub mod Results
 pub mod TileSets

@@ -14,12 +14,15 @@ mod seams;
 #[cfg(test)]
 mod tests;
 mod tile;
+mod tile_ends;
 mod tile_set;
 mod tiles;
 mod verdicts;
 
 pub use crate::results::{SeamResult, TileResult};
+pub use crate::seam_edges::is_seam_edge;
 pub use crate::seams::check_flows;
+pub use crate::tile_ends::TileEnds;
 pub use crate::tile_set::TileSet;
 pub use crate::tiles::{check_faces, check_tile};
 pub use crate::verdicts::{SeamVerdict, TileVerdict};

@@ -6,23 +6,31 @@ ghost use Rattle.raster_model.specs.Sums.{is_edge, sum_row, where_true};
 ghost use Rattle.std.specs.Prelude.{◌≡◌, ◌+◌, ◌*◌, ◌<◌, ◌≤◌, ◌^◌, pos};
 
 use crate::seam_edges::is_seam_edge;
+use crate::tile_ends::TileEnds;
 use raster_model::{Edge, Heights, Mask, Scene, plain};
 
 /// The cost of the seams: the sum over the edges from tile to tile with open ends. (Chen and Zebker 2002.)
-pub(crate) fn seam_cost<H: Heights>(scene: &Scene, mask: &Mask, heights: &H) -> u128
+pub(crate) fn seam_cost<H: Heights>(
+    scene: &Scene,
+    ends: &TileEnds,
+    mask: &Mask,
+    heights: &H,
+) -> u128
+    requires side { ends.now.side ≡ scene.now.tiling.side }
     requires same_size { (mask.now.width ≡ scene.now.phase.width) × (mask.now.height ≡ scene.now.phase.height) }
     requires known { KnowsOpen (raster_of scene.now) (open_at mask.now) (H.knows heights.now) }
     ensures { pos result ≡ seam_cost_of (raster_of scene.now) (open_at mask.now) (lifted (raster_of scene.now) (H.cycles_at heights.now)) }
 {
     let mut cost: u128 = 0;
     for y in 0..scene.phase.height {
-        cost += row_cost(scene, mask, heights, y);
+        cost += row_cost(scene, ends, mask, heights, y);
     }
     cost
 }
 
 /// What the edges that start in a row add.
-fn row_cost<H: Heights>(scene: &Scene, mask: &Mask, heights: &H, y: u32) -> u128
+fn row_cost<H: Heights>(scene: &Scene, ends: &TileEnds, mask: &Mask, heights: &H, y: u32) -> u128
+    requires side { ends.now.side ≡ scene.now.tiling.side }
     requires same_size { (mask.now.width ≡ scene.now.phase.width) × (mask.now.height ≡ scene.now.phase.height) }
     requires row { y < scene.now.phase.height }
     requires known { KnowsOpen (raster_of scene.now) (open_at mask.now) (H.knows heights.now) }
@@ -31,32 +39,47 @@ fn row_cost<H: Heights>(scene: &Scene, mask: &Mask, heights: &H, y: u32) -> u128
 {
     let mut cost: u128 = 0;
     for x in 0..scene.phase.width {
-        cost += cost_from(scene, mask, heights, x, y);
+        cost += cost_from(scene, ends, mask, heights, x, y);
     }
     cost
 }
 
 /// What the edges that start at a pixel add.
-fn cost_from<H: Heights>(scene: &Scene, mask: &Mask, heights: &H, x: u32, y: u32) -> u128
+fn cost_from<H: Heights>(
+    scene: &Scene,
+    ends: &TileEnds,
+    mask: &Mask,
+    heights: &H,
+    x: u32,
+    y: u32,
+) -> u128
+    requires side { ends.now.side ≡ scene.now.tiling.side }
     requires same_size { (mask.now.width ≡ scene.now.phase.width) × (mask.now.height ≡ scene.now.phase.height) }
     requires pixel { (x < scene.now.phase.width) × (y < scene.now.phase.height) }
     requires known { KnowsOpen (raster_of scene.now) (open_at mask.now) (H.knows heights.now) }
     ensures value { pos result ≡ seam_cost_from (raster_of scene.now) (open_at mask.now) (lifted (raster_of scene.now) (H.cycles_at heights.now)) x y }
     ensures small { result ≤ 2 * 65535 * (2 ^ 49 + 1) }
 {
-    let to_right = edge_cost(scene, mask, heights, Edge { x, y, down: false });
-    to_right + edge_cost(scene, mask, heights, Edge { x, y, down: true })
+    let to_right = edge_cost(scene, ends, mask, heights, Edge { x, y, down: false });
+    to_right + edge_cost(scene, ends, mask, heights, Edge { x, y, down: true })
 }
 
 /// What an edge that starts at a pixel adds, and 0 where it is no seam edge.
-fn edge_cost<H: Heights>(scene: &Scene, mask: &Mask, heights: &H, edge: Edge) -> u128
+fn edge_cost<H: Heights>(
+    scene: &Scene,
+    ends: &TileEnds,
+    mask: &Mask,
+    heights: &H,
+    edge: Edge,
+) -> u128
+    requires side { ends.now.side ≡ scene.now.tiling.side }
     requires same_size { (mask.now.width ≡ scene.now.phase.width) × (mask.now.height ≡ scene.now.phase.height) }
     requires start { (edge.x < scene.now.phase.width) × (edge.y < scene.now.phase.height) }
     requires known { KnowsOpen (raster_of scene.now) (open_at mask.now) (H.knows heights.now) }
     ensures value { pos result ≡ where_true (is_edge scene.now.phase.width scene.now.phase.height edge) (seam_edge_cost (raster_of scene.now) (open_at mask.now) (lifted (raster_of scene.now) (H.cycles_at heights.now)) edge) }
     ensures small { result ≤ 65535 * (2 ^ 49 + 1) }
 {
-    if is_seam_edge(scene, edge) {
+    if is_seam_edge(scene, ends, edge) {
         plain::edge_cost(scene, mask, heights, edge)
     } else {
         0

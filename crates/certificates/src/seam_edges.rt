@@ -4,48 +4,49 @@ ghost use Rattle.raster_model.specs.Scene.{raster_of};
 ghost use Rattle.raster_model.specs.Sums.{is_edge};
 ghost use Rattle.std.specs.Prelude.{◌≡◌, ◌<◌, ◌≤◌, IsTrue};
 
+use crate::tile_ends::TileEnds;
 use raster_model::{Edge, Scene};
 
-/// Whether an edge leads from tile to tile: its other end is then the first pixel of its tile in the edge's direction.
-fn leaves_tile(scene: &Scene, edge: Edge) -> bool
-    requires { IsTrue (is_edge scene.now.phase.width scene.now.phase.height edge) }
+/// Whether an edge leads from tile to tile.
+fn leaves_tile(scene: &Scene, ends: &TileEnds, edge: Edge) -> bool
+    requires side { ends.now.side ≡ scene.now.tiling.side }
+    requires is_edge { IsTrue (is_edge scene.now.phase.width scene.now.phase.height edge) }
     ensures { result ≡ is_seam (raster_of scene.now) edge }
 {
-    if edge.down {
-        edge.end_y() % scene.tiling.side == 0
-    } else {
-        edge.end_x() % scene.tiling.side == 0
-    }
+    ends.are_passed(edge)
 }
 
 /// Whether an edge that starts at a pixel leads to a pixel of another tile.
-pub(crate) fn is_seam_edge(scene: &Scene, edge: Edge) -> bool
+pub fn is_seam_edge(scene: &Scene, ends: &TileEnds, edge: Edge) -> bool
+    requires side { ends.now.side ≡ scene.now.tiling.side }
     requires start { (edge.x < scene.now.phase.width) × (edge.y < scene.now.phase.height) }
     ensures { result ≡ is_seam_edge_of (raster_of scene.now) edge }
 {
     edge.end_x() < scene.phase.width
         && edge.end_y() < scene.phase.height
-        && leaves_tile(scene, edge)
+        && leaves_tile(scene, ends, edge)
 }
 
 /// How many seam edges start at a pixel.
-pub(crate) fn seams_from(scene: &Scene, x: u32, y: u32) -> usize
+pub(crate) fn seams_from(scene: &Scene, ends: &TileEnds, x: u32, y: u32) -> usize
+    requires side { ends.now.side ≡ scene.now.tiling.side }
     requires pixel { (x < scene.now.phase.width) × (y < scene.now.phase.height) }
     ensures value { result ≡ seams_from_of (raster_of scene.now) x y }
     ensures few { result ≤ 2 }
 {
-    usize::from(is_seam_edge(scene, Edge { x, y, down: false }))
-        + usize::from(is_seam_edge(scene, Edge { x, y, down: true }))
+    usize::from(is_seam_edge(scene, ends, Edge { x, y, down: false }))
+        + usize::from(is_seam_edge(scene, ends, Edge { x, y, down: true }))
 }
 
 /// How many seam edges there are.
-pub(crate) fn seam_count(scene: &Scene) -> usize
+pub(crate) fn seam_count(scene: &Scene, ends: &TileEnds) -> usize
+    requires side { ends.now.side ≡ scene.now.tiling.side }
     ensures { result ≡ seam_count_of (raster_of scene.now) }
 {
     let mut count = 0;
     for y in 0..scene.phase.height {
         for x in 0..scene.phase.width {
-            count += seams_from(scene, x, y);
+            count += seams_from(scene, ends, x, y);
         }
     }
     count

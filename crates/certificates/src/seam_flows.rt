@@ -5,15 +5,18 @@ ghost use Rattle.raster_model.specs.Sums.{where_true};
 ghost use Rattle.std.specs.Prelude.{◌≡◌, ℕ, ◌+◌, ◌<◌, ◌≤◌, ◌^◌, ◌==◌, length, unsigned_abs};
 
 use crate::seam_edges::{is_seam_edge, seams_from};
+use crate::tile_ends::TileEnds;
 use raster_model::{Edge, Heights, Mask, Scene, departure, weight};
 
 /// The seam edges of a scene under a mask, with a flow for each in edge order.
 #[derive(Clone, Copy)]
 pub(crate) struct SeamFlows<'a> {
     pub(crate) scene: &'a Scene,
+    pub(crate) ends: &'a TileEnds,
     pub(crate) mask: &'a Mask,
     pub(crate) flows: &'a [i64],
     pub(crate) ghost same_size: { (mask.now.width ≡ scene.now.phase.width) × (mask.now.height ≡ scene.now.phase.height) },
+    pub(crate) ghost same_side: { ends.now.side ≡ scene.now.tiling.side },
     pub(crate) ghost count: { length flows.now ≡ seam_count (raster_of scene.now) },
 }
 
@@ -59,7 +62,7 @@ impl SeamFlows<'_> {
         requires start { StartsAt self.now x y before }
         ensures { PlacedAt self.now (down_edge x y) result }
     {
-        before + usize::from(is_seam_edge(self.scene, Edge { x, y, down: false }))
+        before + usize::from(is_seam_edge(self.scene, self.ends, Edge { x, y, down: false }))
     }
 
     /// The flow of an edge that starts at a pixel, with its place among the seam edges, and 0 where it is none.
@@ -67,7 +70,7 @@ impl SeamFlows<'_> {
         requires placed { PlacedAt self.now edge place }
         ensures { result ≡ flow_or_none self.now edge }
     {
-        if is_seam_edge(self.scene, edge) {
+        if is_seam_edge(self.scene, self.ends, edge) {
             self.flows[place]
         } else {
             0
@@ -80,7 +83,7 @@ impl SeamFlows<'_> {
         ensures cases { MatchBool result (IsBreak (IsSeamOf self.now) (FlowFitsAt self.now) edge) (HoldsIfPart (IsSeamOf self.now) (FlowFitsAt self.now) edge) }
         ensures small { result ≡ false → HoldsIfPart (IsSeamOf self.now) (IsSmallAt self.now) edge }
     {
-        is_seam_edge(self.scene, edge)
+        is_seam_edge(self.scene, self.ends, edge)
             && self.flow(edge, place).unsigned_abs()
                 > u64::from(weight(self.scene, self.mask, edge))
     }
@@ -113,7 +116,7 @@ impl SeamFlows<'_> {
                 if let Some(edge) = self.first_heavy_from(x, y, before) {
                     return Some(edge);
                 }
-                before += seams_from(self.scene, x, y);
+                before += seams_from(self.scene, self.ends, x, y);
             }
         }
         None
@@ -165,7 +168,7 @@ impl SeamFlows<'_> {
         for y in 0..self.scene.phase.height {
             for x in 0..self.scene.phase.width {
                 self.move_flows_from(labels, x, y, before, sums);
-                before += seams_from(self.scene, x, y);
+                before += seams_from(self.scene, self.ends, x, y);
             }
         }
     }
@@ -211,7 +214,7 @@ impl SeamFlows<'_> {
         for y in 0..self.scene.phase.height {
             for x in 0..self.scene.phase.width {
                 total += self.products_from(heights, x, y, before);
-                before += seams_from(self.scene, x, y);
+                before += seams_from(self.scene, self.ends, x, y);
             }
         }
         total

@@ -13,6 +13,7 @@ use crate::numbers::is_same;
 use crate::seam_costs::seam_cost;
 use crate::seam_edges::seam_count;
 use crate::seam_flows::SeamFlows;
+use crate::tile_ends::TileEnds;
 use crate::verdicts::SeamVerdict;
 use raster_model::{Heights, Mask, Scene};
 
@@ -35,13 +36,19 @@ pub fn check_flows<H: Heights>(
     ensures good { (result ≡ Good) ↔ IsGoodAtSeams (raster_of scene.now) (open_at mask.now) (H.cycles_at heights.now) flows.now }
     ensures least { result ≡ Good → IsLeastAtSeams (raster_of scene.now) (open_at mask.now) (lifted (raster_of scene.now) (H.cycles_at heights.now)) }
 {
-    if flows.len() != seam_count(scene) {
+    let ends = TileEnds::of(&scene.tiling);
+    if flows.len() != seam_count(scene, &ends) {
         return SeamVerdict::Shape;
     }
     if let Some(cycles) = off_anchor(scene, mask, heights) {
         return SeamVerdict::Anchor(cycles);
     }
-    let seams = SeamFlows { scene, mask, flows };
+    let seams = SeamFlows {
+        scene,
+        ends: &ends,
+        mask,
+        flows,
+    };
     if let Some(edge) = seams.first_heavy() {
         return SeamVerdict::FlowAtEdge(edge);
     }
@@ -50,7 +57,7 @@ pub fn check_flows<H: Heights>(
         return SeamVerdict::Unbalanced(region as u32);
     }
     let bound = seams.total(heights);
-    let cost = seam_cost(scene, mask, heights);
+    let cost = seam_cost(scene, &ends, mask, heights);
     if is_same(bound, cost) {
         SeamVerdict::Good
     } else {

@@ -106,8 +106,9 @@ impl Tile<'_> {
         requires is_edge { IsTrue (is_edge self.now.scene.now.phase.width self.now.scene.now.phase.height edge) }
         ensures { IsTrue result ↔ FitAt self.now faces.now edge }
     {
-        self.face_difference(faces, edge).unsigned_abs()
-            <= u128::from(weight(self.scene, self.mask, edge))
+        let difference = self.face_difference(faces, edge);
+        difference == 0
+            || difference.unsigned_abs() <= u128::from(weight(self.scene, self.mask, edge))
     }
 
     /// Whether an edge that starts in the tile is an inner edge whose faces do not fit.
@@ -163,7 +164,11 @@ impl Tile<'_> {
         ensures value { result ≡ product_at self.now faces.now x y }
         ensures small { unsigned_abs result ≤ 2 ^ 63 }
     {
-        i128::from(self.face(faces, x, y)) * i128::from(plain::residue(self.scene, x, y))
+        let face = self.face(faces, x, y);
+        if face == 0 {
+            return 0;
+        }
+        i128::from(face) * i128::from(plain::residue(self.scene, x, y))
     }
 
     /// The sum of face times residue over the tile's cells.

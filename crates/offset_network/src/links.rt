@@ -3,39 +3,16 @@ ghost use Rattle.offset_network.specs.Seams.{AddsLink, AddsLinksFrom, AreSeamLin
 ghost use Rattle.offset_network.specs.Surfaces.{tile_cycles};
 ghost use Rattle.raster_model.specs.Flows.{is_seam_edge as is_seam_edge_of, seam_place, seams_before};
 ghost use Rattle.raster_model.specs.Masks.{open_at};
-ghost use Rattle.raster_model.specs.Raster.{is_seam};
 ghost use Rattle.raster_model.specs.Scene.{raster_of};
-ghost use Rattle.raster_model.specs.Sums.{is_edge};
 ghost use Rattle.seam_regions.specs.Regions.{AreRegionsOf, label_at};
 ghost use Rattle.std.specs.Prelude.{◌≡◌, ◌<◌, IfOk, IsTrue, OnOk, length};
 
 use crate::link::Link;
 use crate::surface::TileSurface;
-use raster_model::{Edge, Scene, weight};
+use certificates::{TileEnds, is_seam_edge};
+use raster_model::{Edge, weight};
 use seam_regions::Regions;
 use std::alloc::{AllocError, Global};
-
-/// Whether an edge leads from tile to tile: its other end is then the first pixel of its tile in the edge's direction.
-fn leaves_tile(scene: &Scene, edge: Edge) -> bool
-    requires { IsTrue (is_edge scene.now.phase.width scene.now.phase.height edge) }
-    ensures { result ≡ is_seam (raster_of scene.now) edge }
-{
-    if edge.down {
-        edge.end_y() % scene.tiling.side == 0
-    } else {
-        edge.end_x() % scene.tiling.side == 0
-    }
-}
-
-/// Whether an edge that starts at a pixel leads to a pixel of another tile.
-fn is_seam_edge(scene: &Scene, edge: Edge) -> bool
-    requires start { (edge.x < scene.now.phase.width) × (edge.y < scene.now.phase.height) }
-    ensures { result ≡ is_seam_edge_of (raster_of scene.now) edge }
-{
-    edge.end_x() < scene.phase.width
-        && edge.end_y() < scene.phase.height
-        && leaves_tile(scene, edge)
-}
 
 /// The link of a seam edge; None where an end is masked.
 fn link(surface: &TileSurface, regions: &Regions, edge: Edge) -> Option<Link>
@@ -57,16 +34,18 @@ fn link(surface: &TileSurface, regions: &Regions, edge: Edge) -> Option<Link>
 /// Appends the link of an edge that starts at a pixel, where it is a seam edge.
 fn push_link(
     surface: &TileSurface,
+    ends: &TileEnds,
     regions: &Regions,
     edge: Edge,
     links: &mut Vec<Option<Link>>,
 ) -> Result<(), AllocError>
+    requires side { ends.now.side ≡ surface.now.scene.now.tiling.side }
     requires start { (edge.x < surface.now.scene.now.phase.width) × (edge.y < surface.now.scene.now.phase.height) }
     requires regions { AreRegionsOf surface.now.scene.now.tiling surface.now.mask.now regions.now }
     requires place { length links.old.items ≡ seam_place (raster_of surface.now.scene.now) edge }
     ensures { OnOk result (AddsLink (raster_of surface.now.scene.now) (open_at surface.now.mask.now) (label_at regions.now) regions.now.count (tile_cycles surface.now.scene.now surface.now.tiles.now) edge links.old.items links.new.items) }
 {
-    if is_seam_edge(surface.scene, edge) {
+    if is_seam_edge(surface.scene, ends, edge) {
         links.push(link(surface, regions, edge))?;
     }
     Ok(())
@@ -75,18 +54,20 @@ fn push_link(
 /// Appends the links of the edges that start at a pixel.
 fn push_links_from(
     surface: &TileSurface,
+    ends: &TileEnds,
     regions: &Regions,
     x: u32,
     y: u32,
     links: &mut Vec<Option<Link>>,
 ) -> Result<(), AllocError>
+    requires side { ends.now.side ≡ surface.now.scene.now.tiling.side }
     requires pixel { (x < surface.now.scene.now.phase.width) × (y < surface.now.scene.now.phase.height) }
     requires regions { AreRegionsOf surface.now.scene.now.tiling surface.now.mask.now regions.now }
     requires counted { length links.old.items ≡ seams_before (raster_of surface.now.scene.now) x y }
     ensures { OnOk result (AddsLinksFrom (raster_of surface.now.scene.now) (open_at surface.now.mask.now) (label_at regions.now) regions.now.count (tile_cycles surface.now.scene.now surface.now.tiles.now) x y links.old.items links.new.items) }
 {
-    push_link(surface, regions, Edge { x, y, down: false }, links)?;
-    push_link(surface, regions, Edge { x, y, down: true }, links)
+    push_link(surface, ends, regions, Edge { x, y, down: false }, links)?;
+    push_link(surface, ends, regions, Edge { x, y, down: true }, links)
 }
 
 /// The links of the seam edges in edge order.
@@ -99,10 +80,11 @@ pub(crate) fn links(
     ensures seams { IfOk result (λ links. AreSeamLinks (raster_of surface.now.scene.now) (open_at surface.now.mask.now) (label_at regions.now) (tile_cycles surface.now.scene.now surface.now.tiles.now) links.items) }
     ensures fit { IfOk result (λ links. AreLinks regions.now.count links.items) }
 {
+    let ends = TileEnds::of(&surface.scene.tiling);
     let mut links = Vec::new(alloc);
     for y in 0..surface.scene.phase.height {
         for x in 0..surface.scene.phase.width {
-            push_links_from(surface, regions, x, y, &mut links)?;
+            push_links_from(surface, &ends, regions, x, y, &mut links)?;
         }
     }
     Ok(links)

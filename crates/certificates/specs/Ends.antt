@@ -1,0 +1,11 @@
+-- A table of where tiles end. Helpers' words, which no clause of a public function cites.
+use Rattle.std.specs.Prelude.{◌≡◌, ℕ, ◌+◌, ◌%◌, ◌<◌, ◌==◌, Bool, if◌then◌else◌, List, slice_index_or}
+use Rattle.raster_model.specs.declared.edge.Edge.{Edge}
+
+-- of the first n columns or rows the list tells whether each is the last of its tiles of this side
+abbrev pub TellsEnds : ℕ → ℕ → List Bool → Type 0
+TellsEnds side n last = (k : ℕ) → k < n → slice_index_or last k Bool.false ≡ ((k + 1) % side == 0)
+
+-- an edge leads beyond a multiple of the side
+abbrev pub passes_end : ℕ → Edge → Bool
+passes_end side e = if e.down then (e.y + 1) % side == 0 else (e.x + 1) % side == 0

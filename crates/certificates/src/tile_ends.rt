@@ -1,0 +1,38 @@
+ghost use Rattle.certificates.specs.Ends.{TellsEnds, passes_end};
+ghost use Rattle.std.specs.Prelude.{◌≡◌, ◌<◌, ◌≤◌};
+
+use raster_model::{Edge, Tiling};
+
+/// The most columns or rows that a raster has.
+const MOST: usize = 4096;
+
+/// Where tiles end: for each column or row whether it is the last of its tiles. Found once, it spares a division at each edge.
+#[derive(Drop)]
+pub struct TileEnds {
+    pub side: u32,
+    last: [bool; MOST],
+    ghost told: { TellsEnds side 4096 last },
+}
+
+impl TileEnds {
+    /// Where the tiles of a tiling end.
+    pub fn of(tiling: &Tiling) -> TileEnds
+        ensures { result.side ≡ tiling.now.side }
+    {
+        let side = tiling.side;
+        let mut last = [false; MOST];
+        for place in 0..MOST {
+            last[place] = (place as u32 + 1) % side == 0;
+        }
+        TileEnds { side, last }
+    }
+
+    /// Whether the other end of an edge is the first pixel of its tile in the edge's direction.
+    pub(crate) fn are_passed(&self, edge: Edge) -> bool
+        requires { (edge.x < 4096) × (edge.y < 4096) }
+        ensures { result ≡ passes_end self.now.side edge }
+    {
+        let place = if edge.down { edge.y } else { edge.x };
+        self.last[place as usize]
+    }
+}

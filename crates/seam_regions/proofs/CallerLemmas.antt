@@ -13,9 +13,9 @@ use Rattle.raster_model.specs.Seams.AreJoined.{here, rightward, downward}
 use Rattle.raster_model.specs.Sums.{Field, at_start, at_end, is_edge, right_edge, down_edge}
 use Rattle.seam_regions.specs.Regions.{label_at, region_at, IsTiledBy, AreRegionsOf}
 use Rattle.seam_regions.specs.RegionsView.{RegionsView}
-use Rattle.seam_regions.proofs.FloodLemmas.{tests_say, truth}
+use Rattle.seam_regions.proofs.FloodLemmas.{tests_say}
 use Rattle.seam_regions.proofs.NumberLemmas.{open_ends}
-use Rattle.seam_regions.proofs.TileTests.{down_is, right_is}
+use Rattle.seam_regions.proofs.TileTests.{down_is, right_is, truth}
 
 pub scene_is_tiled : (s : Scene) → IsTiledBy (raster_of s) s.tiling
 scene_is_tiled s = record { width = sym s.same_width.1; height = sym s.same_height.1; tile = refl }

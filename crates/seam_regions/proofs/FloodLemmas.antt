@@ -14,15 +14,11 @@ use Rattle.raster_model.proofs.Regions.{joined_sym, joined_trans}
 use Rattle.seam_regions.specs.Flood.{tiled, edge_number, IsFlooded, IsFlood}
 use Rattle.seam_regions.specs.Forest.{IsForest, root_with}
 use Rattle.seam_regions.proofs.ForestLemmas.{root_with-ends, root_with-same, root_with-least, root_with-stays, root_with-related}
-use Rattle.seam_regions.proofs.TileTests.{down_is, right_is}
+use Rattle.seam_regions.proofs.TileTests.{down_is, right_is, truth}
 
 -- what the tests of an inner edge with open ends say
 pub tests_say : (x y a b w h : ℕ) (k s : Bool) → IsTrue ((((nat_lt x w && nat_lt y h) && (nat_lt a w && nat_lt b h)) && k) && s) → (x < w) × (y < h) × (a < w) × (b < h)
 tests_say x y a b w h k s t = (grind (arith, nat_tests), grind (arith, nat_tests), grind (arith, nat_tests), grind (arith, nat_tests))
-
-pub truth : (b : Bool) → (b ≡ true) ⊎ (b ≡ false)
-truth true = inl refl
-truth false = inr refl
 
 -- two edges with one number are one
 same_half : (p q : ℕ) (d f : Bool) → 2 * p + (if d then 1 else 0) ≡ 2 * q + (if f then 1 else 0) → (p ≡ q) × (d ≡ f)

@@ -1,4 +1,5 @@
 pub mod ForestLemmas
+pub mod ColumnLemmas
 pub mod TileTests
 pub mod FloodLemmas
 pub mod NumberLemmas

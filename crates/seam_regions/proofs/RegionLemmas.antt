@@ -15,7 +15,8 @@ use Rattle.raster_model.proofs.CountLemmas.{count_below-le}
 use Rattle.raster_model.proofs.Regions.{joined_sym, joined_trans}
 use Rattle.seam_regions.specs.Flood.{tiled, is_first, firsts_before, number_of, IsFlooded, IsNumbered}
 use Rattle.seam_regions.specs.Regions.{IsTiledBy, most_regions, AreRegionsOf}
-use Rattle.seam_regions.proofs.FloodLemmas.{tests_say, truth}
+use Rattle.seam_regions.proofs.FloodLemmas.{tests_say}
+use Rattle.seam_regions.proofs.TileTests.{truth}
 use Rattle.seam_regions.proofs.NumberLemmas.{at_place, first_says, open_along, firsts_before-more}
 
 -- ---- walks in rasters with one size and the same tiles

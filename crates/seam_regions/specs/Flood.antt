@@ -16,6 +16,10 @@ tiled g = record { width = g.width; height = g.height; phase = λ x y. 0; weight
 abbrev pub edge_number : ℕ → Edge → ℕ
 edge_number w e = 2 * (e.y * w + e.x) + (if e.down then 1 else 0)
 
+-- the other end of an edge is the first pixel of a tile in the edge's direction
+abbrev pub next_begins : Tiling → Edge → Bool
+next_begins g e = (if e.down then end_y e else end_x e) % g.side == 0
+
 -- each pixel is joined to the root of its tree, which is no later pixel, and the ends of each inner edge before number k with open ends have one root
 pub record IsFlooded (g : Tiling) (mask : Field Bool) (k : ℕ) (root : ℕ → ℕ) : Type 0 where
   pub least : (i : ℕ) → root i ≤ i

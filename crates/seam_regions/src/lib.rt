@@ -2,6 +2,7 @@
 //! tile joins. A forest with a parent for each pixel finds them.
 #![tactic(auto)]
 
+mod columns;
 mod flood;
 mod forest;
 mod numbers;
@@ -9,4 +10,5 @@ mod regions;
 #[cfg(test)]
 mod tests;
 
+pub use crate::columns::next_left;
 pub use crate::regions::Regions;

@@ -1,9 +1,8 @@
 -- The costs of tiles and of seams, as one pass over the edges adds them up; what all tiles cost together is the sum over the inner edges.
-use Rattle.std.proofs.Common.{◌≡◌, ◌∙◌, ℕ, ◌+◌, ◌-◌, ◌*◌, ◌/◌, ◌%◌, ◌<◌, ◌≤◌, sym, subst, ap, refl, arith, Bool, true, false, inl, inr}
-use Rattle.std.specs.Prelude.{ℤ, pos, ◌&&◌, ◌==◌, if◌then◌else◌, not, IsTrue, nat_lt}
+use Rattle.std.proofs.Common.{◌≡◌, ◌∙◌, ℕ, ◌+◌, ◌<◌, sym, subst, ap, refl, arith, Bool, true, false, inl, inr}
+use Rattle.std.specs.Prelude.{ℤ, pos, ◌&&◌, ◌==◌, not, IsTrue, nat_lt}
 use Rattle.std.proofs.lemmas.Int.{ints}
 use Rattle.std.proofs.lemmas.Bool.Decides.{nat_tests, eqb_tells}
-use Rattle.std.proofs.lemmas.Nat.{div-add-mod', mod-mul-add}
 use Rattle.raster_model.specs.Sums.{Field, right_edge, down_edge, end_x, end_y, sum_below, sum_grid, where_true}
 use Rattle.raster_model.specs.Raster.{Raster, edge_cost, inner_cost, seam_cost_from, seam_edge_cost, tile_cost}
 use Rattle.raster_model.proofs.SumLemmas.{no_number, sum_below-pick, sum_below-same, sum_below-zeros, sum_edges-below, sum_edges-same}
@@ -18,45 +17,6 @@ both_edges r mask S x y a b p q = omega (arith, ints, p, q)
 pub both_seams : (r : Raster) (mask : Field Bool) (S : Field ℤ) (x y a b : ℕ) → pos a ≡ where_true (nat_lt (x + 1) r.width) (seam_edge_cost r mask S (right_edge x y)) → pos b ≡ where_true (nat_lt (y + 1) r.height) (seam_edge_cost r mask S (down_edge x y)) → pos (a + b) ≡ seam_cost_from r mask S x y
 unfolding seam_cost_from
 both_seams r mask S x y a b p q = omega (arith, ints, p, q)
-
--- of the columns that are left to the end of a block, one is left where the next begins another
-one_left : (x n d : ℕ) → 1 ≤ n → n ≤ d → (x + n) % d ≡ 0 → (n ≡ 1 → (x + 1) % d ≡ 0) × ((x + 1) % d ≡ 0 → n ≡ 1)
-one_left x n d p q e = (
-  (λ o. rw o at e),
-  (λ z.
-      let s = div-add-mod' (x + 1) d in
-      let t : x + n ≡ (x + 1) / d * d + (n - 1) = omega (arith, s, z) in
-      let m : (x + n) % d ≡ n - 1 = ap (λ (k : ℕ). k % d) t ∙ mod-mul-add ((x + 1) / d) d (n - 1) (omega arith) in
-      omega (arith, m, e)),
-)
-
-pub last_left : (x n d : ℕ) → 1 ≤ n → n ≤ d → (x + n) % d ≡ 0 → (n == 1) ≡ ((x + 1) % d == 0)
-last_left x n d p q e =
-    let o = one_left x n d p q e in
-    elim (eqb_tells n 1) [
-      | inl one ↦ one.0 ∙ (elim (eqb_tells ((x + 1) % d) 0) [ inl z ↦ sym z.0 | inr z ↦ absurd (z.1 (o.0 one.1)) ])
-      | inr more ↦ more.0 ∙ (elim (eqb_tells ((x + 1) % d) 0) [ inl z ↦ absurd (more.1 (o.1 z.1)) | inr z ↦ sym z.0 ])
-    ]
-
-pub still_left : (x n d m : ℕ) → 1 ≤ n → n ≤ d → (x + n) % d ≡ 0 → m ≡ (if n == 1 then d else n - 1) → (x + 1 + m) % d ≡ 0
-still_left x n d m p q e f =
-    elim (eqb_tells n 1) [
-      | inl one ↦
-          (let s = div-add-mod' (x + 1) d in
-          let z = (one_left x n d p q e).0 one.1 in
-          let g : m ≡ d = f ∙ rw one.0 refl in
-          let t : x + 1 + m ≡ ((x + 1) / d + 1) * d + 0 = omega (arith, s, z, g) in
-          ap (λ (k : ℕ). k % d) t ∙ mod-mul-add ((x + 1) / d + 1) d 0 (omega arith))
-      | inr more ↦
-          (let g : m ≡ n - 1 = f ∙ rw more.0 refl in
-          let t : x + 1 + m ≡ x + n = omega (arith, g) in
-          ap (λ (k : ℕ). k % d) t ∙ e)
-    ]
-
-pub all_left : (d : ℕ) → 0 < d → (0 + d) % d ≡ 0
-all_left d p =
-    let t : 0 + d ≡ 1 * d + 0 = omega arith in
-    ap (λ (k : ℕ). k % d) t ∙ mod-mul-add 1 d 0 p
 
 -- ---- what an edge adds
 pub seam_adds_none : (b : Bool) (z : ℤ) → b ≡ true → where_true (not b) z ≡ pos 0

@@ -7,6 +7,7 @@ ghost use Rattle.surface_snapshots.specs.Shifted.{AreOfEdges, open_under, raster
 
 use crate::levels::Levels;
 use raster_model::{Edge, plain};
+use seam_regions::next_left;
 
 /// What the tiles and the seams of a surface cost.
 #[derive(Clone, Copy)]
@@ -131,14 +132,4 @@ impl Levels<'_> {
             }
         }
     }
-}
-
-/// How many columns a tile has from the next column on, where it has `left` from this one on. After the last
-/// column the next tile begins.
-fn next_left(left: u32, side: u32) -> u32
-    requires within { (1 ≤ left) × (left ≤ side) }
-    ensures within { (1 ≤ result) × (result ≤ side) }
-    ensures next { result ≡ (if left == 1 then side else left - 1) }
-{
-    if left == 1 { side } else { left - 1 }
 }

@@ -1,10 +1,28 @@
-ghost use Rattle.std.specs.Prelude.{◌≡◌, length};
+ghost use Rattle.raster_model.specs.Tiles.{tile_at, window_of};
+ghost use Rattle.std.specs.Prelude.{◌≡◌, ◌<◌, length};
 ghost use Rattle.surface_snapshots.specs.Loops.{GoTogether};
 ghost use Rattle.surface_snapshots.specs.Parts.{AreNear};
 
 use certificates::TileSet;
-use raster_model::{Mask, Scene, Window};
+use raster_model::{Mask, Scene, Tiling, Window};
 use seam_regions::Regions;
+
+/// The window of a pixel's tile, by the pixel's own place: `Tiling::window` would divide the tile's number anew.
+fn window_at(tiling: &Tiling, x: u32, y: u32) -> Window
+    requires across { x < tiling.now.width }
+    requires along { y < tiling.now.height }
+    ensures { result ≡ window_of tiling.now (tile_at tiling.now x y) }
+{
+    let side = tiling.side;
+    let x0 = x / side * side;
+    let y0 = y / side * side;
+    Window {
+        x0,
+        y0,
+        x1: (x0 + side).min(tiling.width) - 1,
+        y1: (y0 + side).min(tiling.height) - 1,
+    }
+}
 
 /// The results of a scene's tiles, with an offset added on each region.
 #[derive(Clone, Copy)]
@@ -21,7 +39,6 @@ pub(crate) struct ShiftedTiles<'a> {
 }
 
 impl ShiftedTiles<'_> {
-    ghost use Rattle.raster_model.specs.Tiles.{tile_at, window_of};
     ghost use Rattle.std.specs.Prelude.{◌+◌, ◌≤◌, ◌^◌, IsTrue, unsigned_abs};
     ghost use Rattle.surface_snapshots.specs.Parts.{is_open_pixel, offset_at, shifted_cycles, solved_cycles};
     ghost use Rattle.raster_model.specs.Masks.{open_at};
@@ -33,7 +50,7 @@ impl ShiftedTiles<'_> {
         ensures small { unsigned_abs result ≤ 2 ^ 46 + 8388608 }
     {
         let tile = self.scene.tiling.tile_of(x, y);
-        let window = self.scene.tiling.window(tile);
+        let window = window_at(&self.scene.tiling, x, y);
         self.at_in(tile, window, x, y)
     }
 

@@ -5,7 +5,7 @@ use Rattle.raster_model.proofs.SumLemmas.{sum_below-none}
 use Rattle.surface_snapshots.specs.Loops.{inner_cost_from}
 use Rattle.surface_snapshots.specs.Shifted.{open_under, raster_under, surface_under}
 use Rattle.certificates.proofs.SeamCosts.{adds}
-use Rattle.surface_snapshots.proofs.CostLemmas.{all_left, last_left, still_left}
+use Rattle.seam_regions.proofs.ColumnLemmas.{all_left, last_left, still_left}
 use Rattle.surface_snapshots.proofs.levels.Levels.row_costs.Goals as goal
 
 pub loop-x-init : goal.loop-x-init

@@ -1,11 +1,12 @@
 -- The words are one command at most.
-use Rattle.std.proofs.Common.{◌≡◌, ◌≢◌, ℕ, ◌≤◌, List, [], ◌∷◌, ◌++◌, ◌∙◌, codes, get_or, length, map, refl, sym, ap, arith, inl, inr}
-use Rattle.std.specs.Prelude.{decimal}
+use Rattle.std.proofs.Common.{◌≡◌, ◌≢◌, ℕ, ◌≤◌, List, [], ◌∷◌, ◌∙◌, codes, get_or, refl, sym, ap, subst, arith, inl, inr}
+use Rattle.std.specs.Prelude.{Some, decimal, unwrap_or}
 use Rattle.std.proofs.lemmas.Fmt.{decimal_injective}
 use Rattle.std.specs.Borrow.{Bor}
 use Rattle.raster_model.specs.declared.weights.RuleKind.{RuleKind}
 use Rattle.raster_model.specs.declared.weights.RuleKind.TheVariants.{Least, Mean, Product}
-use Rattle.insar_top.specs.Words.{AreOptions, IsCommand, rule_option, rule_word, side_option}
+use Rattle.insar_top.specs.declared.words.Told.{Told}
+use Rattle.insar_top.specs.Words.{IsCommand, Tells, TellsOne, TellsRule, TellsSide, TellsWorkers, nothing, rule_word}
 
 -- the first letters differ
 letters : (a b : List ℕ) → a ≡ b → get_or a 0 0 ≢ get_or b 0 0 → ⊥
@@ -22,56 +23,51 @@ one_rule Mean Product e = absurd (letters _ _ e (λ x. omega (arith, x)))
 one_rule Product Least e = absurd (letters _ _ e (λ x. omega (arith, x)))
 one_rule Product Mean e = absurd (letters _ _ e (λ x. omega (arith, x)))
 
-first_word : (a b : List ℕ) (x y : List (List ℕ)) → a ∷ x ≡ b ∷ y → a ≡ b
-first_word a b x y e = cc
+one_number : (s t : ℕ) → s ≤ 128 → t ≤ 128 → decimal s ≡ decimal t → s ≡ t
+one_number s t a b e = decimal_injective s t (omega (arith, a)) (omega (arith, b)) e
 
-second_word : (a b u v : List ℕ) (x y : List (List ℕ)) → a ∷ u ∷ x ≡ b ∷ v ∷ y → u ≡ v
-second_word a b u v x y e = cc
+-- an option has one name
+pub other_names : (name a b : List ℕ) → name ≡ a → name ≡ b → get_or a 2 0 ≢ get_or b 2 0 → ⊥
+other_names name a b e f n = n (ap (λ (t : List ℕ). get_or t 2 0) (sym e ∙ f))
 
-fourth_word : (a b u v c d k l : List ℕ) → a ∷ u ∷ c ∷ k ∷ [] ≡ b ∷ v ∷ d ∷ l ∷ [] → k ≡ l
-fourth_word a b u v c d k l e = cc
+module _ (value : List ℕ) (t u v : Told) where
+  one_rule_told : TellsRule value t u → TellsRule value t v → u ≡ v
+  one_rule_told a b = a.told ∙ ap (λ (r : RuleKind). let w : Told = record t { rule = Some r } in w) (one_rule a.rule b.rule (sym a.spelled ∙ b.spelled)) ∙ sym b.told
 
-other_names : codes "--rule" ≡ codes "--tile" → ⊥
-other_names e = let third : 114 ≡ 116 = ap (λ (t : List ℕ). get_or t 2 0) e in omega (arith, third)
+  one_side_told : TellsSide value t u → TellsSide value t v → u ≡ v
+  one_side_told a b = a.told ∙ ap (λ (n : ℕ). let w : Told = record t { side = Some n } in w) (one_number a.side b.side a.in_range.1 b.in_range.1 (sym a.spelled ∙ b.spelled)) ∙ sym b.told
 
-one_side : (s t : ℕ) → s ≤ 128 → t ≤ 128 → decimal s ≡ decimal t → s ≡ t
-one_side s t a b e = decimal_injective s t (omega (arith, a)) (omega (arith, b)) e
+  one_workers_told : TellsWorkers value t u → TellsWorkers value t v → u ≡ v
+  one_workers_told a b = a.told ∙ ap (λ (n : ℕ). let w : Told = record t { workers = Some n } in w) (one_number a.workers b.workers (omega (arith, a.in_range.1)) (omega (arith, b.in_range.1)) (sym a.spelled ∙ b.spelled)) ∙ sym b.told
 
-longer : (o x y : List (List ℕ)) → o ≡ x → o ≡ y → length x ≢ length y → ⊥
-longer o x y e f n = n (sym (ap (λ (l : List (List ℕ)). length l) e) ∙ ap (λ (l : List (List ℕ)). length l) f)
+-- an option and its value tell one thing
+pub one_option : (name value : List ℕ) (t u v : Told) → TellsOne name value t u → TellsOne name value t v → u ≡ v
+one_option name value t u v (inl a) (inl b) = one_rule_told value t u v a.1 b.1
+one_option name value t u v (inl a) (inr (inl b)) = absurd (other_names name _ _ a.0 b.0 (λ x. omega (arith, x)))
+one_option name value t u v (inl a) (inr (inr b)) = absurd (other_names name _ _ a.0 b.0 (λ x. omega (arith, x)))
+one_option name value t u v (inr (inl a)) (inl b) = absurd (other_names name _ _ a.0 b.0 (λ x. omega (arith, x)))
+one_option name value t u v (inr (inl a)) (inr (inl b)) = one_side_told value t u v a.1 b.1
+one_option name value t u v (inr (inl a)) (inr (inr b)) = absurd (other_names name _ _ a.0 b.0 (λ x. omega (arith, x)))
+one_option name value t u v (inr (inr a)) (inl b) = absurd (other_names name _ _ a.0 b.0 (λ x. omega (arith, x)))
+one_option name value t u v (inr (inr a)) (inr (inl b)) = absurd (other_names name _ _ a.0 b.0 (λ x. omega (arith, x)))
+one_option name value t u v (inr (inr a)) (inr (inr b)) = one_workers_told value t u v a.1 b.1
 
-module _ (o : List (List ℕ)) (r q : RuleKind) (s t : ℕ) (small : s ≤ 128) (low : t ≤ 128) where
-  pub one_meaning : AreOptions o r s → AreOptions o q t → (r ≡ q) × (s ≡ t)
-  one_meaning (inl a) (inl b) = (a.1 ∙ sym b.1, a.2 ∙ sym b.2)
-  one_meaning (inl a) (inr (inl b)) = absurd (longer o _ _ a.0 b.0 (λ x. omega (arith, x)))
-  one_meaning (inl a) (inr (inr (inl b))) = absurd (longer o _ _ a.0 b.0 (λ x. omega (arith, x)))
-  one_meaning (inl a) (inr (inr (inr (inl b)))) = absurd (longer o _ _ a.0 b (λ x. omega (arith, x)))
-  one_meaning (inl a) (inr (inr (inr (inr b)))) = absurd (longer o _ _ a.0 b (λ x. omega (arith, x)))
-  one_meaning (inr (inl a)) (inl b) = absurd (longer o _ _ a.0 b.0 (λ x. omega (arith, x)))
-  one_meaning (inr (inl a)) (inr (inl b)) = (one_rule r q (second_word _ _ _ _ [] [] (sym a.0 ∙ b.0)), a.1 ∙ sym b.1)
-  one_meaning (inr (inl a)) (inr (inr (inl b))) = absurd (other_names (first_word _ _ _ _ (sym a.0 ∙ b.0)))
-  one_meaning (inr (inl a)) (inr (inr (inr (inl b)))) = absurd (longer o _ _ a.0 b (λ x. omega (arith, x)))
-  one_meaning (inr (inl a)) (inr (inr (inr (inr b)))) = absurd (longer o _ _ a.0 b (λ x. omega (arith, x)))
-  one_meaning (inr (inr (inl a))) (inl b) = absurd (longer o _ _ a.0 b.0 (λ x. omega (arith, x)))
-  one_meaning (inr (inr (inl a))) (inr (inl b)) = absurd (other_names (first_word _ _ _ _ (sym b.0 ∙ a.0)))
-  one_meaning (inr (inr (inl a))) (inr (inr (inl b))) = (a.1 ∙ sym b.1, one_side s t small low (second_word _ _ _ _ [] [] (sym a.0 ∙ b.0)))
-  one_meaning (inr (inr (inl a))) (inr (inr (inr (inl b)))) = absurd (longer o _ _ a.0 b (λ x. omega (arith, x)))
-  one_meaning (inr (inr (inl a))) (inr (inr (inr (inr b)))) = absurd (longer o _ _ a.0 b (λ x. omega (arith, x)))
-  one_meaning (inr (inr (inr (inl a)))) (inl b) = absurd (longer o _ _ a b.0 (λ x. omega (arith, x)))
-  one_meaning (inr (inr (inr (inl a)))) (inr (inl b)) = absurd (longer o _ _ a b.0 (λ x. omega (arith, x)))
-  one_meaning (inr (inr (inr (inl a)))) (inr (inr (inl b))) = absurd (longer o _ _ a b.0 (λ x. omega (arith, x)))
-  one_meaning (inr (inr (inr (inl a)))) (inr (inr (inr (inl b)))) = (one_rule r q (second_word _ _ _ _ _ _ (sym a ∙ b)), one_side s t small low (fourth_word _ _ _ _ _ _ _ _ (sym a ∙ b)))
-  one_meaning (inr (inr (inr (inl a)))) (inr (inr (inr (inr b)))) = absurd (other_names (first_word _ _ _ _ (sym a ∙ b)))
-  one_meaning (inr (inr (inr (inr a)))) (inl b) = absurd (longer o _ _ a b.0 (λ x. omega (arith, x)))
-  one_meaning (inr (inr (inr (inr a)))) (inr (inl b)) = absurd (longer o _ _ a b.0 (λ x. omega (arith, x)))
-  one_meaning (inr (inr (inr (inr a)))) (inr (inr (inl b))) = absurd (longer o _ _ a b.0 (λ x. omega (arith, x)))
-  one_meaning (inr (inr (inr (inr a)))) (inr (inr (inr (inl b)))) = absurd (other_names (first_word _ _ _ _ (sym b ∙ a)))
-  one_meaning (inr (inr (inr (inr a)))) (inr (inr (inr (inr b)))) = (one_rule r q (fourth_word _ _ _ _ _ _ _ _ (sym a ∙ b)), one_side s t small low (second_word _ _ _ _ _ _ (sym a ∙ b)))
+-- and so do options
+one_telling : (options : List (List ℕ)) (t u v : Told) → Tells options t u → Tells options t v → u ≡ v
+one_telling [] t u v a b = a ∙ sym b
+one_telling (name ∷ []) t u v a b = absurd a
+one_telling (name ∷ value ∷ rest) t u v a b =
+    one_telling rest b.0 u v (subst (λ (w : Told). Tells rest w u) (one_option name value t a.0 b.0 a.1 b.1) a.2) b.2
 
 options_same : (a : List ℕ) (x y : List (List ℕ)) → a ∷ x ≡ a ∷ y → x ≡ y
 options_same a x y e = cc
 
+one_told : (words : List (Bor (List ℕ))) (r q : RuleKind) (s t : ℕ) (c : IsCommand words r s) (d : IsCommand words q t) → c.told ≡ d.told
+one_told words r q s t c d =
+    let same : d.options ≡ c.options = options_same (codes "unwrap") d.options c.options (sym d.spelled ∙ c.spelled) in
+    one_telling c.options nothing c.told d.told c.tells (rw (← same) d.tells)
+
 pub one_command : (words : List (Bor (List ℕ))) (r q : RuleKind) (s t : ℕ) → IsCommand words r s → IsCommand words q t → (r ≡ q) × (s ≡ t)
 one_command words r q s t c d =
-    let same : d.options ≡ c.options = options_same (codes "unwrap") d.options c.options (sym d.spelled ∙ c.spelled) in
-    one_meaning c.options r q s t c.in_range.1 d.in_range.1 c.told (rw (← same) d.told)
+    let same : c.told ≡ d.told = one_told words r q s t c d in
+    (c.rule_is ∙ ap (λ (w : Told). unwrap_or w.rule Least) same ∙ sym d.rule_is, c.side_is ∙ ap (λ (w : Told). unwrap_or w.side 64) same ∙ sym d.side_is)

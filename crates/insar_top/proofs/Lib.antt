@@ -2,3 +2,5 @@ pub mod WordLemmas
 pub mod CommandLemmas
 pub mod SessionLemmas
 pub mod TopLemmas
+pub mod ListLemmas
+pub mod SameLemmas

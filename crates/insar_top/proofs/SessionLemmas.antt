@@ -1,5 +1,5 @@
 -- A session that stands alone was read, and nothing is left.
-use Rattle.std.proofs.Common.{◌≡◌, ℕ, ◌+◌, ◌∙◌, length, List, [], ◌∷◌, ◌++◌, Option, Some, None, refl, ap, sym, subst, inl, inr}
+use Rattle.std.proofs.Common.{◌≡◌, ℕ, ◌+◌, ◌∙◌, length, List, [], ◌∷◌, Option, Some, None, refl, ap, sym, subst, inl, inr}
 use Rattle.std.specs.Prelude.{IfSome}
 use Rattle.insar_ports.specs.Bytes.{with_front}
 use Rattle.raster_model.specs.declared.session.Session.{Session}

@@ -1,5 +1,5 @@
 -- What a run promises, and what holds at each status.
-use Rattle.std.proofs.Common.{◌≡◌, ℕ, zero, suc, ◌<◌, ◌∙◌, Bool, true, false, ℤ, pos, List, [], ◌∷◌, ◌++◌, Option, Some, None, Result, Ok, Err, refl, ap, subst, arith, inl, inr}
+use Rattle.std.proofs.Common.{◌≡◌, ℕ, List, [], Option, Some, None, Result, Ok, Err, refl, subst, arith, inl, inr}
 use Rattle.std.specs.Prelude.{IfSome, OnOk, OnErr, ◌⊎◌}
 use Rattle.std.specs.Borrow.{Bor}
 use Rattle.insar_ports.specs.Bytes.{with_end, GainsProperPrefix}

@@ -1,120 +1,96 @@
 -- The words of the command.
-use Rattle.std.proofs.Common.{◌≡◌, ℕ, Bool, List, [], ◌∷◌, ◌++◌, length, map, codes, get_or, refl, sym, ap, subst, ◌∙◌, ◌≤◌, ◌<◌, arith, inl, inr}
-use Rattle.std.specs.Prelude.{decimal, IfNone, IfSome, Option, Some, None}
+use Rattle.std.proofs.Common.{◌≡◌, ℕ, ◌≤◌, List, [], ◌∷◌, length, get_or, map, slice_range, codes, refl, sym, ap, subst, ◌∙◌, arith, inl, inr}
+use Rattle.std.specs.Prelude.{IfNone, IfSome, Option, Some, None, unwrap_or}
 use Rattle.std.specs.Borrow.{Bor}
+use Rattle.std.proofs.lemmas.Slice.{between_to_end}
 use Rattle.raster_model.specs.declared.weights.RuleKind.{RuleKind}
-use Rattle.insar_top.specs.declared.words.Setting.{Setting}
-use Rattle.insar_top.specs.declared.words.Setting.TheVariants as settings
-use Rattle.insar_top.specs.Words.{AreOptions, IsCommand, IsNoCommand, IsSetting, IsSide, setting_words, rule_word}
+use Rattle.raster_model.specs.declared.weights.RuleKind.TheVariants.{Least}
+use Rattle.insar_top.specs.declared.words.Told.{Told}
+use Rattle.insar_top.specs.Words.{IsCommandOf, IsInRange, Tells, TellsOne, TellsRule, TellsSide, TellsWorkers, nothing}
+use Rattle.insar_top.proofs.CommandLemmas.{one_option, other_names}
 
--- an option's name and its value
-pub rule_found : (name value : List ℕ) (rule : RuleKind) → name ≡ codes "--rule" → value ≡ rule_word rule → (setting_words (settings.Rule rule) ≡ name ∷ value ∷ []) × IsSetting (settings.Rule rule)
-rule_found name value rule a b = (rw (a, b) refl, tt)
+-- what options tell is in its range
+one_in_range : (name value : List ℕ) (t u : Told) → TellsOne name value t u → IsInRange t → IsInRange u
+one_in_range name value t u (inl a) h = subst IsInRange (sym a.1.told) (record { side = h.side; workers = h.workers })
+one_in_range name value t u (inr (inl a)) h = subst IsInRange (sym a.1.told) (record { side = a.1.in_range; workers = h.workers })
+one_in_range name value t u (inr (inr a)) h = subst IsInRange (sym a.1.told) (record { side = h.side; workers = a.1.in_range })
 
-pub side_found : (name value : List ℕ) (side : ℕ) → name ≡ codes "--tile" → IsSide side × (value ≡ decimal side) → (setting_words (settings.Side side) ≡ name ∷ value ∷ []) × IsSetting (settings.Side side)
-side_found name value side a b = (rw (a, b.1) refl, b.0)
+more_in_range : (options : List (List ℕ)) (t u : Told) → Tells options t u → IsInRange t → IsInRange u
+more_in_range [] t u a h = subst IsInRange (sym a) h
+more_in_range (name ∷ []) t u a h = absurd a
+more_in_range (name ∷ value ∷ rest) t u a h = more_in_range rest a.0 u a.2 (one_in_range name value t a.0 a.1 h)
 
-pub no_side : (name value : List ℕ) → name ≡ codes "--tile" → ((side : ℕ) → IsSide side → value ≡ decimal side → ⊥) → (s : Setting) → IsSetting s → setting_words s ≡ name ∷ value ∷ [] → ⊥
-no_side name value a none (settings.Rule rule) is e =
-    let same : codes "--rule" ≡ name = cc in
-    let third : 114 ≡ 116 = ap (λ (t : List ℕ). get_or t 2 0) (same ∙ a) in
-    absurd (omega (arith, third))
-no_side name value a none (settings.Side side) is e = none side is (let q = e in cc)
+pub all_in_range : (options : List (List ℕ)) (u : Told) → Tells options nothing u → IsInRange u
+all_in_range options u a = more_in_range options nothing u a (record { side = tt; workers = tt })
 
--- two words that tell a rule or a side are an option
-pub one_is : (a b : List ℕ) (rule : RuleKind) (side : ℕ) → AreOptions (a ∷ b ∷ []) rule side → IsSide side → (s : Setting) × IsSetting s × (setting_words s ≡ a ∷ b ∷ [])
-one_is a b rule side (inl h) in_range = let e = h.0 in absurd cc
-one_is a b rule side (inr (inl h)) in_range = (settings.Rule rule, tt, sym h.0)
-one_is a b rule side (inr (inr (inl h))) in_range = (settings.Side side, in_range, sym h.0)
-one_is a b rule side (inr (inr (inr (inl h)))) in_range = absurd (let e = ap length h in omega (arith, e))
-one_is a b rule side (inr (inr (inr (inr h)))) in_range = absurd (let e = ap length h in omega (arith, e))
+-- an option of that name tells what its value tells, and nothing else
+module _ (name value : List ℕ) (t : Told) where
+  pub no_rule : name ≡ codes "--rule" → ((u : Told) → TellsRule value t u → ⊥) → (u : Told) → TellsOne name value t u → ⊥
+  no_rule is none u (inl a) = none u a.1
+  no_rule is none u (inr (inl a)) = other_names name _ _ is a.0 (λ x. omega (arith, x))
+  no_rule is none u (inr (inr a)) = other_names name _ _ is a.0 (λ x. omega (arith, x))
 
--- and four words are two options
-pub two_are : (a b d e : List ℕ) (rule : RuleKind) (side : ℕ) → AreOptions (a ∷ b ∷ d ∷ e ∷ []) rule side → IsSide side
-    → (s : Setting) × (t : Setting) × IsSetting s × (setting_words s ≡ a ∷ b ∷ []) × IsSetting t × (setting_words t ≡ d ∷ e ∷ [])
-two_are a b d e rule side (inl h) in_range = let q = h.0 in absurd cc
-two_are a b d e rule side (inr (inl h)) in_range = absurd (let q = ap length h.0 in omega (arith, q))
-two_are a b d e rule side (inr (inr (inl h))) in_range = absurd (let q = ap length h.0 in omega (arith, q))
-two_are a b d e rule side (inr (inr (inr (inl h)))) in_range = (settings.Rule rule, settings.Side side, tt, cc, in_range, cc)
-two_are a b d e rule side (inr (inr (inr (inr h)))) in_range = (settings.Side side, settings.Rule rule, in_range, cc, tt, cc)
+  pub no_side : name ≡ codes "--tile" → ((u : Told) → TellsSide value t u → ⊥) → (u : Told) → TellsOne name value t u → ⊥
+  no_side is none u (inl a) = other_names name _ _ is a.0 (λ x. omega (arith, x))
+  no_side is none u (inr (inl a)) = none u a.1
+  no_side is none u (inr (inr a)) = other_names name _ _ is a.0 (λ x. omega (arith, x))
 
-tail_is : (a b : List ℕ) (x y : List (List ℕ)) → a ∷ x ≡ b ∷ y → x ≡ y
-tail_is a b x y e = cc
+  pub no_workers : name ≡ codes "--workers" → ((u : Told) → TellsWorkers value t u → ⊥) → (u : Told) → TellsOne name value t u → ⊥
+  no_workers is none u (inl a) = other_names name _ _ is a.0 (λ x. omega (arith, x))
+  no_workers is none u (inr (inl a)) = other_names name _ _ is a.0 (λ x. omega (arith, x))
+  no_workers is none u (inr (inr a)) = none u a.1
 
-module _ (words : List (Bor (List ℕ))) (d : Bor (List ℕ)) where
+-- words as text
+abbrev texts : List (Bor (List ℕ)) → List (List ℕ)
+texts words = map (λ (word : Bor (List ℕ)). word.now) words
+
+module _ (d : Bor (List ℕ)) where
   -- the word at a place
-  abbrev word : ℕ → List ℕ
-  word i = (get_or words i d).now
+  abbrev word : List (Bor (List ℕ)) → ℕ → List ℕ
+  word words i = (get_or words i d).now
 
-  abbrev texts : List (List ℕ)
-  texts = map (λ (w : Bor (List ℕ)). w.now) words
+  one_and_rest : (words : List (Bor (List ℕ))) → 1 ≤ length words → texts words ≡ word words 0 ∷ texts (slice_range words 1 (length words))
+  one_and_rest [] n = absurd (omega (arith, n))
+  one_and_rest (u ∷ rest) n = rw (between_to_end (u ∷ rest) 1 (length (u ∷ rest)) (omega arith)) refl
 
-  three : length words ≡ 3 → texts ≡ word 0 ∷ word 1 ∷ word 2 ∷ []
-  three n = go words n
-    where
-      go : (ws : List (Bor (List ℕ))) → length ws ≡ 3 → map (λ (w : Bor (List ℕ)). w.now) ws ≡ (get_or ws 0 d).now ∷ (get_or ws 1 d).now ∷ (get_or ws 2 d).now ∷ []
-      go [] n = absurd (omega (arith, n))
-      go (u ∷ []) n = absurd (omega (arith, n))
-      go (u ∷ v ∷ []) n = absurd (omega (arith, n))
-      go (u ∷ v ∷ w ∷ []) n = refl
-      go (u ∷ v ∷ w ∷ x ∷ ws) n = absurd (omega (arith, n))
+  two_and_rest : (words : List (Bor (List ℕ))) → 2 ≤ length words → texts words ≡ word words 0 ∷ word words 1 ∷ texts (slice_range words 2 (length words))
+  two_and_rest [] n = absurd (omega (arith, n))
+  two_and_rest (u ∷ []) n = absurd (omega (arith, n))
+  two_and_rest (u ∷ v ∷ rest) n = rw (between_to_end (u ∷ v ∷ rest) 2 (length (u ∷ v ∷ rest)) (omega arith)) refl
 
-  five : length words ≡ 5 → texts ≡ word 0 ∷ word 1 ∷ word 2 ∷ word 3 ∷ word 4 ∷ []
-  five n = go words n
-    where
-      go : (ws : List (Bor (List ℕ))) → length ws ≡ 5 → map (λ (w : Bor (List ℕ)). w.now) ws ≡ (get_or ws 0 d).now ∷ (get_or ws 1 d).now ∷ (get_or ws 2 d).now ∷ (get_or ws 3 d).now ∷ (get_or ws 4 d).now ∷ []
-      go [] n = absurd (omega (arith, n))
-      go (u ∷ []) n = absurd (omega (arith, n))
-      go (u ∷ v ∷ []) n = absurd (omega (arith, n))
-      go (u ∷ v ∷ w ∷ []) n = absurd (omega (arith, n))
-      go (u ∷ v ∷ w ∷ x ∷ []) n = absurd (omega (arith, n))
-      go (u ∷ v ∷ w ∷ x ∷ y ∷ []) n = refl
-      go (u ∷ v ∷ w ∷ x ∷ y ∷ z ∷ ws) n = absurd (omega (arith, n))
+  -- two words and what is behind them
+  module _ (words : List (Bor (List ℕ))) (long : 2 ≤ length words) (t : Told) where
+    of_parts : (u : Told) → Tells (word words 0 ∷ word words 1 ∷ texts (slice_range words 2 (length words))) t u → Tells (texts words) t u
+    of_parts u h = subst (λ (x : List (List ℕ)). Tells x t u) (sym (two_and_rest words long)) h
 
-  module _ (low : 3 ≤ length words) (high : length words < 4) where
-    -- three words: the command with one option
-    pub one_told : (s : Setting) (rule : RuleKind) (side : ℕ) → word 0 ≡ codes "unwrap" → setting_words s ≡ word 1 ∷ word 2 ∷ [] → AreOptions (setting_words s) rule side → IsSide side → IsCommand words rule side
-    one_told s rule side first is told in_range = record {
-      options = word 1 ∷ word 2 ∷ [];
-      spelled = three (omega (arith, low, high)) ∙ ap (λ (x : List ℕ). x ∷ word 1 ∷ word 2 ∷ []) first;
-      told = subst (λ (t : List (List ℕ)). AreOptions t rule side) is told;
-      in_range = in_range;
-    }
+    parts : (u : Told) → Tells (texts words) t u → Tells (word words 0 ∷ word words 1 ∷ texts (slice_range words 2 (length words))) t u
+    parts u h = subst (λ (x : List (List ℕ)). Tells x t u) (two_and_rest words long) h
 
-    pub none_told : ((s : Setting) → IsSetting s → setting_words s ≡ word 1 ∷ word 2 ∷ [] → ⊥) → IsNoCommand words
-    none_told none rule side c =
-        let same : word 1 ∷ word 2 ∷ [] ≡ c.options = tail_is (word 0) (codes "unwrap") (word 1 ∷ word 2 ∷ []) c.options (sym (three (omega (arith, low, high))) ∙ c.spelled) in
-        let told = one_is (word 1) (word 2) rule side (subst (λ (t : List (List ℕ)). AreOptions t rule side) (sym same) c.told) c.in_range in
-        none told.0 told.1 told.2
+    pub tells_more : (m u : Told) → TellsOne (word words 0) (word words 1) t m → Tells (texts (slice_range words 2 (length words))) m u → Tells (texts words) t u
+    tells_more m u a b = of_parts u (m, a, b)
 
-  module _ (low : 5 ≤ length words) (high : length words < 6) where
-    -- five words: the command with two options
-    pub two_told : (s t : Setting) (rule : RuleKind) (side : ℕ) → word 0 ≡ codes "unwrap" → setting_words s ≡ word 1 ∷ word 2 ∷ [] → setting_words t ≡ word 3 ∷ word 4 ∷ []
-        → AreOptions (setting_words s ++ setting_words t) rule side → IsSide side → IsCommand words rule side
-    two_told s t rule side first is so told in_range = record {
-      options = word 1 ∷ word 2 ∷ word 3 ∷ word 4 ∷ [];
-      spelled = five (omega (arith, low, high)) ∙ ap (λ (x : List ℕ). x ∷ word 1 ∷ word 2 ∷ word 3 ∷ word 4 ∷ []) first;
-      told = subst (λ (x : List (List ℕ)). AreOptions x rule side) (rw (is, so) refl) told;
-      in_range = in_range;
-    }
+    pub first_tells_none : ((m : Told) → TellsOne (word words 0) (word words 1) t m → ⊥) → (u : Told) → Tells (texts words) t u → ⊥
+    first_tells_none none u h = let p = parts u h in none p.0 p.1
 
-    of_four : (rule : RuleKind) (side : ℕ) → IsCommand words rule side → AreOptions (word 1 ∷ word 2 ∷ word 3 ∷ word 4 ∷ []) rule side
-    of_four rule side c =
-        subst (λ (t : List (List ℕ)). AreOptions t rule side)
-        (sym (tail_is (word 0) (codes "unwrap") (word 1 ∷ word 2 ∷ word 3 ∷ word 4 ∷ []) c.options (sym (five (omega (arith, low, high))) ∙ c.spelled))) c.told
+    pub rest_tells_none : (m : Told) → TellsOne (word words 0) (word words 1) t m → ((u : Told) → Tells (texts (slice_range words 2 (length words))) m u → ⊥) → (u : Told) → Tells (texts words) t u → ⊥
+    rest_tells_none m a none u h =
+        let p = parts u h in
+        none u (subst (λ (x : Told). Tells (texts (slice_range words 2 (length words))) x u) (one_option _ _ t p.0 m p.1 a) p.2)
 
-    pub first_not_told : ((s : Setting) → IsSetting s → setting_words s ≡ word 1 ∷ word 2 ∷ [] → ⊥) → IsNoCommand words
-    first_not_told none rule side c =
-        let told = two_are (word 1) (word 2) (word 3) (word 4) rule side (of_four rule side c) c.in_range in
-        none told.0 told.2 told.3
-
-    pub second_not_told : ((s : Setting) → IsSetting s → setting_words s ≡ word 3 ∷ word 4 ∷ [] → ⊥) → IsNoCommand words
-    second_not_told none rule side c =
-        let told = two_are (word 1) (word 2) (word 3) (word 4) rule side (of_four rule side c) c.in_range in
-        none told.1 told.4 told.5
-
-    pub not_told : (s t : Setting) → setting_words s ≡ word 1 ∷ word 2 ∷ [] → setting_words t ≡ word 3 ∷ word 4 ∷ [] → ((rule : RuleKind) (side : ℕ) → AreOptions (setting_words s ++ setting_words t) rule side → ⊥) → IsNoCommand words
-    not_told s t is so none rule side c = none rule side (subst (λ (x : List (List ℕ)). AreOptions x rule side) (rw (is, so) refl) (of_four rule side c))
+  -- words behind `unwrap` that tell these are the command
+  pub is_command : (words : List (Bor (List ℕ))) → 1 ≤ length words → word words 0 ≡ codes "unwrap" → (u : Told) → Tells (texts (slice_range words 1 (length words))) nothing u
+      → (rule : RuleKind) (side workers : ℕ) → rule ≡ unwrap_or u.rule Least → side ≡ unwrap_or u.side 64 → workers ≡ unwrap_or u.workers 2 → IsCommandOf words rule side workers
+  is_command words long first u told rule side workers a b e = record {
+    command = record {
+      options = texts (slice_range words 1 (length words));
+      told = u;
+      spelled = one_and_rest words long ∙ ap (λ (x : List ℕ). x ∷ texts (slice_range words 1 (length words))) first;
+      tells = told;
+      rule_is = a;
+      side_is = b;
+    };
+    workers_are = e;
+  }
 
 -- what is said of a value, or of none, in other words
 module _ {A : Type 0} where

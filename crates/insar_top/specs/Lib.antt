@@ -4,3 +4,4 @@ pub mod Causes
 pub mod Outcomes
 pub mod Refusals
 pub mod Lines
+pub mod Same

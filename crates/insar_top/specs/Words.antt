@@ -1,10 +1,9 @@
 -- The words of the command.
-use Rattle.std.specs.Prelude.{◌≡◌, ◌⊎◌, ℕ, ◌≤◌, List, [], ◌∷◌, ◌++◌, map, codes, decimal, ⊤}
+use Rattle.std.specs.Prelude.{◌≡◌, ◌⊎◌, ℕ, ◌≤◌, List, [], ◌∷◌, Some, None, IfSome, map, codes, decimal, unwrap_or}
 use Rattle.std.specs.Borrow.{Bor}
 use Rattle.raster_model.specs.declared.weights.RuleKind.{RuleKind}
 use Rattle.raster_model.specs.declared.weights.RuleKind.TheVariants.{Least, Mean, Product}
-use Rattle.insar_top.specs.declared.words.Setting.{Setting}
-use Rattle.insar_top.specs.declared.words.Setting.TheVariants as settings
+use Rattle.insar_top.specs.declared.words.Told.{Told}
 
 -- the word that names a rule of weights
 abbrev pub rule_word : RuleKind → List ℕ
@@ -12,42 +11,77 @@ rule_word Least = codes "least"
 rule_word Mean = codes "mean"
 rule_word Product = codes "product"
 
--- an option and its value: the rule of weights, and the tiles' side in decimal
-abbrev pub rule_option : RuleKind → List (List ℕ)
-rule_option rule = codes "--rule" ∷ rule_word rule ∷ []
-
-abbrev pub side_option : ℕ → List (List ℕ)
-side_option side = codes "--tile" ∷ decimal side ∷ []
-
 -- sides that tiles may have
 abbrev pub IsSide : ℕ → Type 0
 IsSide side = (2 ≤ side) × (side ≤ 128)
 
--- the options tell this rule and this side; where they are silent, the rule is least and the side 64
-abbrev pub AreOptions : List (List ℕ) → RuleKind → ℕ → Type 0
-AreOptions options rule side =
-    ((options ≡ []) × (rule ≡ Least) × (side ≡ 64))
-    ⊎ (((options ≡ rule_option rule) × (side ≡ 64))
-    ⊎ (((options ≡ side_option side) × (rule ≡ Least))
-    ⊎ ((options ≡ rule_option rule ++ side_option side)
-    ⊎ (options ≡ side_option side ++ rule_option rule))))
+-- how many workers there may be
+abbrev pub IsWorkers : ℕ → Type 0
+IsWorkers workers = (1 ≤ workers) × (workers ≤ 8)
 
--- the words are `unwrap` and then the options
+-- nothing is told
+abbrev pub nothing : Told
+nothing = record { rule = None; side = None; workers = None }
+
+-- a word tells the rule, which was not told before
+pub record TellsRule (word : List ℕ) (old new : Told) : Type 0 where
+  pub not_told : old.rule ≡ None
+  pub rule : RuleKind
+  pub spelled : word ≡ rule_word rule
+  pub told : new ≡ record old { rule = Some rule }
+
+-- a word tells the tiles' side in decimal
+pub record TellsSide (word : List ℕ) (old new : Told) : Type 0 where
+  pub not_told : old.side ≡ None
+  pub side : ℕ
+  pub in_range : IsSide side
+  pub spelled : word ≡ decimal side
+  pub told : new ≡ record old { side = Some side }
+
+-- a word tells the number of workers in decimal
+pub record TellsWorkers (word : List ℕ) (old new : Told) : Type 0 where
+  pub not_told : old.workers ≡ None
+  pub workers : ℕ
+  pub in_range : IsWorkers workers
+  pub spelled : word ≡ decimal workers
+  pub told : new ≡ record old { workers = Some workers }
+
+-- an option and its value tell one thing that was not told before
+abbrev pub TellsOne : List ℕ → List ℕ → Told → Told → Type 0
+TellsOne name value old new =
+    ((name ≡ codes "--rule") × TellsRule value old new)
+    ⊎ (((name ≡ codes "--tile") × TellsSide value old new)
+    ⊎ ((name ≡ codes "--workers") × TellsWorkers value old new))
+
+-- options, one after another
+abbrev pub Tells : List (List ℕ) → Told → Told → Type 0
+Tells [] old new = new ≡ old
+Tells (name ∷ []) old new = ⊥
+Tells (name ∷ value ∷ rest) old new = (between : Told) × TellsOne name value old between × Tells rest between new
+
+-- the words are `unwrap` and then the options; where they are silent, the rule is least and the side 64
 pub record IsCommand (words : List (Bor (List ℕ))) (rule : RuleKind) (side : ℕ) : Type 0 where
   pub options : List (List ℕ)
+  pub told : Told
   pub spelled : map (λ w. w.now) words ≡ codes "unwrap" ∷ options
-  pub told : AreOptions options rule side
-  pub in_range : IsSide side
+  pub tells : Tells options nothing told
+  pub rule_is : rule ≡ unwrap_or told.rule Least
+  pub side_is : side ≡ unwrap_or told.side 64
+
+-- and they tell the number of workers; where they are silent, it is 2
+pub record IsCommandOf (words : List (Bor (List ℕ))) (rule : RuleKind) (side workers : ℕ) : Type 0 where
+  pub command : IsCommand words rule side
+  pub workers_are : workers ≡ unwrap_or command.told.workers 2
 
 -- they are no command
 abbrev pub IsNoCommand : List (Bor (List ℕ)) → Type 0
 IsNoCommand words = (rule : RuleKind) (side : ℕ) → IsCommand words rule side → ⊥
 
--- an option and its value as words
-abbrev pub setting_words : Setting → List (List ℕ)
-setting_words (settings.Rule rule) = rule_option rule
-setting_words (settings.Side side) = side_option side
+-- words are one command at most
+abbrev pub OneCommand : Type 0
+OneCommand = (words : List (Bor (List ℕ))) (rule other : RuleKind) (side another : ℕ) → IsCommand words rule side → IsCommand words other another → (rule ≡ other) × (side ≡ another)
 
-abbrev pub IsSetting : Setting → Type 0
-IsSetting (settings.Rule rule) = ⊤
-IsSetting (settings.Side side) = IsSide side
+-- the numbers that are told are in their ranges
+pub record IsInRange (told : Told) : Type 0 where
+  pub side : IfSome told.side IsSide
+  pub workers : IfSome told.workers IsWorkers

@@ -3,7 +3,9 @@
 
 mod board;
 mod diag;
+pub mod laws;
 mod refusal;
+mod same;
 mod session;
 mod top;
 mod words;

@@ -1,6 +1,12 @@
 use super::insar;
 use insar_ports::{MemorySink, MemorySource};
+use std::alloc::Global;
+use std::sync::Wait;
+use std::sync::atomic::{AtomicBool, AtomicU64, Ordering};
 use std::test::Fail;
+use std::thread;
+use std::thread::Threads;
+use tile_workers::{Gate, OpenGate};
 
 /// How a run ended: its status, what the sink gained and what `diag` gained.
 #[derive(Drop)]
@@ -12,8 +18,8 @@ struct Ended {
 
 /// The word `unwrap` over the bytes, in pieces of one byte; the numbered calls of the source, of the
 /// sink and of `diag` fail.
-fn outcome_of(
-    rt: &HostRuntime,
+fn outcome_of<R: Alloc<A = Global> + Threads + Wait + Sync>(
+    rt: &R,
     bytes: &[u8],
     takes: &[u32],
     puts: &[u32],
@@ -23,7 +29,15 @@ fn outcome_of(
     let mut source = MemorySource::new(bytes.to_vec(alloc)?, 1, takes.to_vec(alloc)?);
     let mut sink = MemorySink::new(alloc, 4096, 1, puts.to_vec(alloc)?)?;
     let mut diag = MemorySink::new(alloc, 4096, 1, lines.to_vec(alloc)?)?;
-    let status = insar(alloc, &["unwrap"], &mut source, &mut sink, &mut diag);
+    let status = insar(
+        rt,
+        alloc,
+        &["unwrap"],
+        &mut source,
+        &mut sink,
+        &mut diag,
+        &OpenGate,
+    );
     Ok(Ended {
         status,
         text: sink.bytes().to_vec(alloc)?,
@@ -32,7 +46,21 @@ fn outcome_of(
 }
 
 /// The word `unwrap` and options over the bytes, where no call fails.
-fn unwrapped_by(rt: &HostRuntime, options: &[&str], bytes: &[u8]) -> Result<Ended, Fail> {
+fn unwrapped_by<R: Alloc<A = Global> + Threads + Wait + Sync>(
+    rt: &R,
+    options: &[&str],
+    bytes: &[u8],
+) -> Result<Ended, Fail> {
+    unwrapped_at(rt, options, bytes, &OpenGate)
+}
+
+/// The same, where the workers pass a gate.
+fn unwrapped_at<R: Alloc<A = Global> + Threads + Wait + Sync, G: Gate>(
+    rt: &R,
+    options: &[&str],
+    bytes: &[u8],
+    gate: &G,
+) -> Result<Ended, Fail> {
     let alloc = rt.alloc();
     let mut words = Vec::new(alloc);
     words.push("unwrap")?;
@@ -40,7 +68,7 @@ fn unwrapped_by(rt: &HostRuntime, options: &[&str], bytes: &[u8]) -> Result<Ende
     let mut source = MemorySource::new(bytes.to_vec(alloc)?, 7, Vec::new(alloc));
     let mut sink = MemorySink::new(alloc, 4096, 9, Vec::new(alloc))?;
     let mut diag = MemorySink::new(alloc, 99, 1, Vec::new(alloc))?;
-    let status = insar(alloc, &words, &mut source, &mut sink, &mut diag);
+    let status = insar(rt, alloc, &words, &mut source, &mut sink, &mut diag, gate);
     Ok(Ended {
         status,
         text: sink.bytes().to_vec(alloc)?,
@@ -187,6 +215,20 @@ fn words_name_the_rule(rt: HostRuntime) -> Result<(), Fail> {
         (&["--rule", "product"], "64", "product", 1),
         (&["--rule", "product", "--tile", "2"], "2", "product", 1),
         (&["--tile", "128", "--rule", "product"], "128", "product", 1),
+        (&["--workers", "1"], "64", "least", 2),
+        (
+            &["--workers", "8", "--rule", "mean", "--tile", "2"],
+            "2",
+            "mean",
+            5,
+        ),
+        (
+            &["--tile", "2", "--workers", "2", "--rule", "product"],
+            "2",
+            "product",
+            1,
+        ),
+        (&["--rule", "mean", "--workers", "3"], "64", "mean", 5),
     ] {
         let done = unwrapped_by(&rt, options, &bytes)?;
         let left = front(&rt, (2, 2), side, rule, cost, "0 16384\n49152 32768")?;
@@ -395,13 +437,28 @@ fn a_large_slope_is_unwrapped(rt: HostRuntime) -> Result<(), Fail> {
     let mut source = MemorySource::new(slope(&rt, 1024)?, 65536, Vec::new(alloc));
     let mut sink = MemorySink::new(alloc, 33_554_432, 65536, Vec::new(alloc))?;
     let mut diag = MemorySink::new(alloc, 99, 1, Vec::new(alloc))?;
-    let status = insar(alloc, &["unwrap"], &mut source, &mut sink, &mut diag);
+    let status = insar(
+        &rt,
+        alloc,
+        &["unwrap"],
+        &mut source,
+        &mut sink,
+        &mut diag,
+        &OpenGate,
+    );
     assert_eq!(rt; status, 0);
     // The head has 49 bytes, and the 10, 90 and 156 lines of numbers of 1, 2 and 3 digits have 9, 10 and 11.
     let start = 49 + 10 * 9 + 90 * 10 + 156 * 11;
     let grid = sink.bytes().get(start..start + text.len());
     assert!(rt; grid == Some(text.as_slice()));
     Ok(())
+}
+
+/// How many lines begin so.
+fn lines_of(text: &[u8], start: &[u8]) -> usize {
+    text.split(|&byte| byte == b'\n')
+        .filter(|line| line.starts_with(start))
+        .count()
 }
 
 /// Two analysts with ten edits and five settle commands each on a raster of 256 by 256.
@@ -422,11 +479,25 @@ fn two_analysts_finish_a_session(rt: HostRuntime) -> Result<(), Fail> {
     let mut source = MemorySource::new(bytes, 65536, Vec::new(alloc));
     let mut sink = MemorySink::new(alloc, 33_554_432, 65536, Vec::new(alloc))?;
     let mut diag = MemorySink::new(alloc, 99, 1, Vec::new(alloc))?;
-    let status = insar(alloc, &["unwrap"], &mut source, &mut sink, &mut diag);
+    let status = insar(
+        &rt,
+        alloc,
+        &["unwrap"],
+        &mut source,
+        &mut sink,
+        &mut diag,
+        &OpenGate,
+    );
     assert_eq!(rt; status, 0);
-    let head = b"insar-report 1\nsize 256 256\ntile 64\nrule least\nrevised 1 mask 0 9 200 99\n";
-    assert!(rt; sink.bytes().starts_with(head));
-    assert!(rt; sink.bytes().ends_with(b"\nshown 2 20\nend\n"));
+    let text = sink.bytes();
+    assert!(rt; text.starts_with(b"insar-report 1\nsize 256 256\ntile 64\nrule least\nrevised "));
+    assert!(rt; text.ends_with(b" 20\nend\n"));
+    assert_eq!(rt; lines_of(text, b"revised "), 20);
+    assert_eq!(rt;
+        lines_of(text, b"published ").saturating_add(lines_of(text, b"settled ")),
+        10
+    );
+    assert_eq!(rt; lines_of(text, b"shown "), 2);
     assert_eq!(rt; diag.bytes().len(), 0);
     Ok(())
 }
@@ -562,7 +633,15 @@ fn limits_are_told_with_their_lines(rt: HostRuntime) -> Result<(), Fail> {
         let mut sink = MemorySink::new(alloc, 9, 9, Vec::new(alloc))?;
         let mut diag = MemorySink::new(alloc, 99, 1, Vec::new(alloc))?;
         let words = ["unwrap", "--tile", "2"];
-        let status = insar(alloc, &words, &mut source, &mut sink, &mut diag);
+        let status = insar(
+            &rt,
+            alloc,
+            &words,
+            &mut source,
+            &mut sink,
+            &mut diag,
+            &OpenGate,
+        );
         assert_eq!(rt; status, 3);
         assert_eq!(rt; sink.bytes().len(), 0);
         assert_eq!(rt; diag.bytes(), line.as_bytes());
@@ -640,12 +719,38 @@ fn other_words_are_refused_and_faults_of_diag_change_nothing(rt: HostRuntime) ->
         &["unwrap", "--tile", "02"],
         &["unwrap", "--tile", "+2"],
         &["unwrap", "--tile", "2", "--tile", "2"],
+        &["unwrap", "--workers"],
+        &["unwrap", "--workers", "0"],
+        &["unwrap", "--workers", "9"],
+        &["unwrap", "--workers", "02"],
+        &["unwrap", "--workers", "2", "--workers", "2"],
+        &[
+            "unwrap",
+            "--workers",
+            "2",
+            "--rule",
+            "mean",
+            "--workers",
+            "3",
+        ],
+        &["unwrap", "--workers", "2", "--tile"],
+        &["unwrap", "--tile", "--workers", "2"],
+        &["unwrap", "--rule", "mean", "--tile", "2", "--workers"],
         &["--tile", "2", "unwrap"],
+        &["--workers", "2", "unwrap"],
     ] {
         let mut source = MemorySource::new(Vec::new(alloc), 1, [1].to_vec(alloc)?);
         let mut sink = MemorySink::new(alloc, 9, 1, Vec::new(alloc))?;
         let mut diag = MemorySink::new(alloc, 99, 1, Vec::new(alloc))?;
-        let status = insar(alloc, words, &mut source, &mut sink, &mut diag);
+        let status = insar(
+            &rt,
+            alloc,
+            words,
+            &mut source,
+            &mut sink,
+            &mut diag,
+            &OpenGate,
+        );
         assert_eq!(rt; status, 2);
         assert_eq!(rt; diag.bytes(), b"words refused\n".as_slice());
     }
@@ -655,5 +760,98 @@ fn other_words_are_refused_and_faults_of_diag_change_nothing(rt: HostRuntime) ->
     let failed = outcome_of(&rt, &plane(&rt, (1, 1), &[7])?, &[], &[2], &[1])?;
     assert_eq!(rt; failed.status, 6);
     assert_eq!(rt; failed.text.as_slice(), b"i".as_slice());
+    Ok(())
+}
+
+/// The most turns in which a worker waits at a gate for another.
+const TURNS: u32 = 1_000_000;
+
+/// A gate that holds each of two workers until both have come.
+#[derive(Drop)]
+struct Meeting {
+    first: AtomicBool,
+    second: AtomicBool,
+    missed: AtomicBool,
+}
+
+impl Gate for Meeting {
+    fn enter(&self, worker: u32) {
+        let place = if worker == 1 {
+            &self.first
+        } else {
+            &self.second
+        };
+        place.store(true, Ordering::SeqCst);
+        for _ in 0..TURNS {
+            if self.first.load(Ordering::SeqCst) && self.second.load(Ordering::SeqCst) {
+                return;
+            }
+            thread::yield_now();
+        }
+        self.missed.store(true, Ordering::SeqCst);
+    }
+}
+
+/// Two workers solve a tile each at one time, with no lock held.
+#[test]
+fn workers_solve_at_once(rt: HostRuntime) -> Result<(), Fail> {
+    let gate = Meeting {
+        first: AtomicBool::new(false),
+        second: AtomicBool::new(false),
+        missed: AtomicBool::new(false),
+    };
+    let bytes = plane(&rt, (4, 1), &[0, 40000, 14464, 54464])?;
+    let done = unwrapped_at(&rt, &["--tile", "2", "--workers", "2"], &bytes, &gate)?;
+    assert_eq!(rt; done.status, 0);
+    assert!(rt; gate.first.load(Ordering::SeqCst) && gate.second.load(Ordering::SeqCst));
+    assert!(rt; !gate.missed.load(Ordering::SeqCst));
+    Ok(())
+}
+
+/// A gate that holds the first worker until another has come.
+#[derive(Drop)]
+struct Second {
+    entries: AtomicU64,
+    missed: AtomicBool,
+}
+
+impl Gate for Second {
+    fn enter(&self, _worker: u32) {
+        if self.entries.fetch_add(1, Ordering::SeqCst) > 0 {
+            return;
+        }
+        for _ in 0..TURNS {
+            if self.entries.load(Ordering::SeqCst) > 1 {
+                return;
+            }
+            thread::yield_now();
+        }
+        self.missed.store(true, Ordering::SeqCst);
+    }
+}
+
+/// While the only worker of one analyst is held, the other analyst goes on.
+#[test]
+fn analysts_run_at_once(rt: HostRuntime) -> Result<(), Fail> {
+    let gate = Second {
+        entries: AtomicU64::new(0),
+        missed: AtomicBool::new(false),
+    };
+    let mut bytes = plane(&rt, (4, 1), &[0, 40000, 14464, 54464])?;
+    bytes.extend_from_slice(b"analyst\nmask 3 0 3 0\nsettle\nshow\n")?;
+    bytes.extend_from_slice(b"analyst\nmask 0 0 0 0\nsettle\nshow\nend\n")?;
+    let done = unwrapped_at(&rt, &["--tile", "2", "--workers", "1"], &bytes, &gate)?;
+    assert_eq!(rt; done.status, 0);
+    assert!(rt; gate.entries.load(Ordering::SeqCst) > 1);
+    assert!(rt; !gate.missed.load(Ordering::SeqCst));
+    assert_eq!(rt; lines_of(&done.text, b"revised "), 2);
+    let settled = lines_of(&done.text, b"published ").saturating_add(lines_of(
+        &done.text,
+        b"settled ",
+    ));
+    assert_eq!(rt; settled, 2);
+    assert_eq!(rt; lines_of(&done.text, b"shown "), 2);
+    let row = b"-9223372036854775808 40000 14464 -9223372036854775808";
+    assert!(rt; lines_of(&done.text, row) > 0);
     Ok(())
 }

@@ -17,13 +17,18 @@ use crate::words::{Settings, read_command};
 use insar_ports::{Sink, Source};
 use report_text::write_report;
 use std::alloc::Global;
+use std::sync::Wait;
+use std::thread::Threads;
+use tile_workers::Gate;
 
 /// Reads, runs the scripts and writes.
-fn run<S: Source, K: Sink>(
+fn run<R: Threads + Wait + Sync, S: Source, K: Sink, G: Gate>(
+    rt: &R,
     alloc: Global,
     words: &[&str],
     source: &mut S,
     sink: &mut K,
+    gate: &G,
 ) -> Result<(), Refusal>
     ensures done { OnOk result (ByCommand words.now (λ rule side. IsDone rule side (run_of S.left S.faults source.old source.new K.held K.faults sink.old sink.new))) }
     ensures refused { IfErr result (HasCause words.now (run_of S.left S.faults source.old source.new K.held K.faults sink.old sink.new)) }
@@ -32,22 +37,24 @@ fn run<S: Source, K: Sink>(
     let Some(settings) = read_command(words) else {
         return Err(Refusal::Words);
     };
-    run_by(alloc, settings, source, sink)
+    run_by(rt, alloc, settings, source, sink, gate)
 }
 
 /// Reads, runs the scripts as the words set it, and writes.
-fn run_by<S: Source, K: Sink>(
+fn run_by<R: Threads + Wait + Sync, S: Source, K: Sink, G: Gate>(
+    rt: &R,
     alloc: Global,
     settings: Settings,
     source: &mut S,
     sink: &mut K,
+    gate: &G,
 ) -> Result<(), Refusal>
     ensures done { OnOk result (IsDone settings.rule settings.side (run_of S.left S.faults source.old source.new K.held K.faults sink.old sink.new)) }
     ensures refused { IfErr result (HasRunCause settings.rule settings.side (run_of S.left S.faults source.old source.new K.held K.faults sink.old sink.new)) }
     ensures grows { K.faults sink.old ≤ K.faults sink.new }
 {
     let session = read_alone(alloc, source, settings)?;
-    let board = finished(alloc, session)?;
+    let board = finished(rt, alloc, session, settings.workers, gate)?;
     write_report(&board, sink)?;
     Ok(())
 }
@@ -56,16 +63,19 @@ fn run_by<S: Source, K: Sink>(
 /// the sink and, where it refuses, one line to `diag`, and answers the exit status.
 ///
 /// The one command is `unwrap`, which reads a session: PGM planes of phase, of weights and of a mask, the last two if they
-/// are there, and the analysts' scripts. It runs the scripts and writes the report: the whole history, and each published
-/// surface with its costs and certificates. `--rule` names how the weights of two pixels make that of their edge, and
-/// `--tile` the side of the square tiles, from 2 to 128. The rule is `least` and the side 64 where the words do not tell it.
-/// Words are judged before the source is read. A fault of `diag` changes nothing.
-pub fn insar<S: Source, K: Sink, D: Sink>(
+/// are there, and the analysts' scripts. It runs the scripts at once and writes the report: the whole history, and each
+/// published surface with its costs and certificates. `--rule` names how the weights of two pixels make that of their edge,
+/// `--tile` the side of the square tiles, from 2 to 128, and `--workers` how many workers solve the tiles of an analyst at
+/// once, from 1 to 8, each of which passes the gate before it solves. The rule is `least`, the side 64 and the workers are 2
+/// where the words do not tell it. Words are judged before the source is read. A fault of `diag` changes nothing.
+pub fn insar<R: Threads + Wait + Sync, S: Source, K: Sink, D: Sink, G: Gate>(
+    rt: &R,
     alloc: Global,
     words: &[&str],
     source: &mut S,
     sink: &mut K,
     diag: &mut D,
+    gate: &G,
 ) -> u8
     ensures status { IsStatus result }
     // 0: the words are a command, the bytes were the text of one session, nothing is left, and the sink gained exactly the
@@ -89,7 +99,7 @@ pub fn insar<S: Source, K: Sink, D: Sink>(
         (HasRisen (S.faults source.old) (S.faults source.new) → ⊥) → (HasRisen (K.faults sink.old) (K.faults sink.new) → ⊥) → (result ≡ 0) ⊎ (result ≡ 4)) }
     ensures told { (HasRisen (D.faults diag.old) (D.faults diag.new) → ⊥) → (line : List ℕ) × (IsLineAt result line × (D.held diag.new ≡ with_end (D.held diag.old) line)) }
 {
-    match run(alloc, words, source, sink) {
+    match run(rt, alloc, words, source, sink, gate) {
         Ok(()) => 0,
         Err(refusal) => {
             // Nothing is done where the line cannot be put.

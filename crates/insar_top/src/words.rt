@@ -1,13 +1,17 @@
-ghost use Rattle.insar_top.specs.Words.{AreOptions, IsCommand, IsNoCommand, IsSetting, IsSide, rule_word, setting_words};
+ghost use Rattle.insar_top.specs.Words.{IsCommand, IsCommandOf, IsInRange, IsNoCommand, IsSide, IsWorkers, Tells, TellsOne, TellsRule, TellsSide, TellsWorkers, rule_word};
+ghost use Rattle.insar_top.specs.declared.words.Told.{Told as Telling};
 ghost use Rattle.raster_model.specs.declared.weights.RuleKind.{RuleKind as Kind};
-ghost use Rattle.insar_top.specs.declared.words.Setting.{Setting as Choice};
-ghost use Rattle.std.specs.Prelude.{◌≡◌, ◌≤◌, ◌↔◌, ◌∷◌, ◌++◌, [], ℕ, IfNone, IfSome, IsTrue, decimal};
+ghost use Rattle.raster_model.specs.declared.weights.RuleKind.TheVariants.{Least};
+ghost use Rattle.std.specs.Prelude.{◌≡◌, ◌≤◌, ◌<◌, ◌↔◌, ℕ, IfNone, IfSome, IsTrue, decimal, map, unwrap_or};
 
 use itoa::Buffer;
 use raster_model::RuleKind;
 
 /// The side of tiles where the words do not tell it.
 const USUAL_SIDE: u32 = 64;
+
+/// The number of workers where the words do not tell it.
+const USUAL_WORKERS: u32 = 2;
 
 /// What the options set.
 #[derive(Clone, Copy)]
@@ -16,78 +20,121 @@ pub struct Settings {
     pub rule: RuleKind,
     /// Pixels along a side of a tile.
     pub side: u32,
+    /// How many workers there are.
+    pub workers: u32,
     pub ghost sides: { IsSide side },
+    pub ghost crew: { IsWorkers workers },
 }
 
-/// An option with its value.
+/// What options have told so far.
 #[derive(Clone, Copy)]
-enum Setting {
+struct Told {
     /// `--rule R`
-    Rule(RuleKind),
+    rule: Option<RuleKind>,
     /// `--tile N`
-    Side(u32),
+    side: Option<u32>,
+    /// `--workers N`
+    workers: Option<u32>,
 }
 
-/// What the options set, where the words are the command: `unwrap`, and then `--rule` with a rule and `--tile` with a side,
-/// each at most once and in either order.
+/// What the options set, where the words are the command: `unwrap`, and then `--rule` with a rule, `--tile` with a side and
+/// `--workers` with a number of workers, each at most once and in any order.
 pub fn read_command(words: &[&str]) -> Option<Settings>
     ensures found { IfSome result (λ settings. IsCommand words.now settings.rule settings.side) }
+    ensures told { IfSome result (λ settings. IsCommandOf words.now settings.rule settings.side settings.workers) }
     ensures none { IfNone result (IsNoCommand words.now) }
 {
     match words {
-        ["unwrap"] => Some(Settings {
-            rule: RuleKind::Least,
-            side: USUAL_SIDE,
-        }),
-        ["unwrap", name, value] => Some(one_setting(read_setting(name, value)?)),
-        ["unwrap", name, value, other, next] => two_settings(
-            read_setting(name, value)?,
-            read_setting(other, next)?,
-        ),
+        ["unwrap", options @ ..] => {
+            let nothing = Told {
+                rule: None,
+                side: None,
+                workers: None,
+            };
+            Some(settings_told(with_options(nothing, options)?))
+        }
         _ => None,
     }
 }
 
-/// What one option sets; the other has its usual value.
-fn one_setting(setting: Setting) -> Settings
-    requires { IsSetting setting }
-    ensures { AreOptions (setting_words setting) result.rule result.side }
+/// The settings that are told; what is not told has its usual value.
+fn settings_told(told: Told) -> Settings
+    requires { IsInRange told }
+    ensures rule { result.rule ≡ unwrap_or told.rule Least }
+    ensures side { result.side ≡ unwrap_or told.side 64 }
+    ensures workers { result.workers ≡ unwrap_or told.workers 2 }
 {
-    match setting {
-        Setting::Rule(rule) => Settings {
-            rule,
-            side: USUAL_SIDE,
-        },
-        Setting::Side(side) => Settings {
-            rule: RuleKind::Least,
-            side,
-        },
+    Settings {
+        rule: told.rule.unwrap_or(RuleKind::Least),
+        side: told.side.unwrap_or(USUAL_SIDE),
+        workers: told.workers.unwrap_or(USUAL_WORKERS),
     }
 }
 
-/// What two options set, where they are not the same one.
-fn two_settings(first: Setting, second: Setting) -> Option<Settings>
-    requires { IsSetting first × IsSetting second }
-    ensures told { IfSome result (λ settings. AreOptions (setting_words first ++ setting_words second) settings.rule settings.side) }
-    ensures none { IfNone result ((rule : Kind) (side : ℕ) → AreOptions (setting_words first ++ setting_words second) rule side → ⊥) }
+/// What is told with some options more.
+fn with_options(told: Told, options: &[&str]) -> Option<Told>
+    ensures found { IfSome result (Tells (map (λ word. word.now) options.now) told) }
+    ensures none { IfNone result ((all : Telling) → Tells (map (λ word. word.now) options.now) told all → ⊥) }
 {
-    match (first, second) {
-        (Setting::Rule(rule), Setting::Side(side)) => Some(Settings { rule, side }),
-        (Setting::Side(side), Setting::Rule(rule)) => Some(Settings { rule, side }),
-        (Setting::Rule(_), Setting::Rule(_)) => None,
-        (Setting::Side(_), Setting::Side(_)) => None,
+    match options {
+        [] => Some(told),
+        [name, value, rest @ ..] => with_options(with_option(told, name, value)?, rest),
+        [_] => None,
     }
 }
 
-/// An option and its value, where two words are these.
-fn read_setting(name: &str, value: &str) -> Option<Setting>
-    ensures found { IfSome result (λ setting. (setting_words setting ≡ name.now ∷ value.now ∷ []) × IsSetting setting) }
-    ensures none { IfNone result ((setting : Choice) → IsSetting setting → setting_words setting ≡ name.now ∷ value.now ∷ [] → ⊥) }
+/// What is told with one option more, where the words are an option that was not told before.
+fn with_option(told: Told, name: &str, value: &str) -> Option<Told>
+    ensures found { IfSome result (TellsOne name.now value.now told) }
+    ensures none { IfNone result ((more : Telling) → TellsOne name.now value.now told more → ⊥) }
 {
     match name {
-        "--rule" => Some(Setting::Rule(rule_named(value)?)),
-        "--tile" => Some(Setting::Side(side_named(value)?)),
+        "--rule" => with_rule(told, value),
+        "--tile" => with_side(told, value),
+        "--workers" => with_workers(told, value),
         _ => None,
+    }
+}
+
+/// What is told with a rule, where none was told before.
+fn with_rule(told: Told, word: &str) -> Option<Told>
+    ensures found { IfSome result (TellsRule word.now told) }
+    ensures none { IfNone result ((more : Telling) → TellsRule word.now told more → ⊥) }
+{
+    match told.rule {
+        None => Some(Told {
+            rule: Some(rule_named(word)?),
+            ..told
+        }),
+        Some(_) => None,
+    }
+}
+
+/// What is told with a side, where none was told before.
+fn with_side(told: Told, word: &str) -> Option<Told>
+    ensures found { IfSome result (TellsSide word.now told) }
+    ensures none { IfNone result ((more : Telling) → TellsSide word.now told more → ⊥) }
+{
+    match told.side {
+        None => Some(Told {
+            side: Some(number_named(word, 2, 128)?),
+            ..told
+        }),
+        Some(_) => None,
+    }
+}
+
+/// What is told with a number of workers, where none was told before.
+fn with_workers(told: Told, word: &str) -> Option<Told>
+    ensures found { IfSome result (TellsWorkers word.now told) }
+    ensures none { IfNone result ((more : Telling) → TellsWorkers word.now told more → ⊥) }
+{
+    match told.workers {
+        None => Some(Told {
+            workers: Some(number_named(word, 1, 8)?),
+            ..told
+        }),
+        Some(_) => None,
     }
 }
 
@@ -104,14 +151,15 @@ fn rule_named(word: &str) -> Option<RuleKind>
     }
 }
 
-/// The side that a word gives in decimal.
-fn side_named(word: &str) -> Option<u32>
-    ensures found { IfSome result (λ side. IsSide side × (word.now ≡ decimal side)) }
-    ensures none { IfNone result ((side : ℕ) → IsSide side → word.now ≡ decimal side → ⊥) }
+/// The number that a word gives in decimal, where it is from `least` to `greatest`.
+fn number_named(word: &str, least: u32, greatest: u32) -> Option<u32>
+    requires { greatest < u32.MAX }
+    ensures found { IfSome result (λ number. (least ≤ number) × (number ≤ greatest) × (word.now ≡ decimal number)) }
+    ensures none { IfNone result ((number : ℕ) → least ≤ number → number ≤ greatest → word.now ≡ decimal number → ⊥) }
 {
-    for side in 2..129 {
-        if spells(word, side) {
-            return Some(side);
+    for number in least..greatest + 1 {
+        if spells(word, number) {
+            return Some(number);
         }
     }
     None

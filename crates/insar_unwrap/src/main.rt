@@ -3,9 +3,13 @@
 
 use insar_ports::{StdSink, StdSource, put_all};
 use insar_top::insar;
-use std::alloc::AllocError;
+use std::alloc::{AllocError, Global};
+use std::io::{Read, Write};
 use std::process::ExitCode;
+use std::sync::Wait;
+use std::thread::Threads;
 use std::{env, io};
+use tile_workers::OpenGate;
 
 /// The words behind the program's name.
 fn words(rt: &HostRuntime) -> io::Result<Vec<String>> {
@@ -13,22 +17,36 @@ fn words(rt: &HostRuntime) -> io::Result<Vec<String>> {
 }
 
 /// The words as the top call takes them.
-fn borrowed<'a>(rt: &HostRuntime, words: &'a [String]) -> Result<Vec<&'a str>, AllocError> {
-    let mut texts = Vec::with_capacity(rt.alloc(), words.len())?;
+fn borrowed<'a>(alloc: Global, words: &'a [String]) -> Result<Vec<&'a str>, AllocError> {
+    let mut texts = Vec::with_capacity(alloc, words.len())?;
     for word in words {
         texts.push(word.as_str())?;
     }
     Ok(texts)
 }
 
-/// The status of the top call over the standard streams.
-fn run(rt: &HostRuntime) -> io::Result<u8> {
-    let words = words(rt)?;
-    let texts = borrowed(rt, &words)?;
-    let mut source = StdSource::new(rt.stdin().lock());
-    let mut sink = StdSink::new(rt.stdout().lock());
-    let mut diag = StdSink::new(rt.stderr().lock());
-    Ok(insar(rt.alloc(), &texts, &mut source, &mut sink, &mut diag))
+/// The status of the top call over standard streams.
+fn run<R: Threads + Wait + Sync, I: Read + Drop, O: Write + Drop, E: Write + Drop>(
+    rt: &R,
+    alloc: Global,
+    words: &[String],
+    input: I,
+    output: O,
+    errors: E,
+) -> io::Result<u8> {
+    let texts = borrowed(alloc, words)?;
+    let mut source = StdSource::new(input);
+    let mut sink = StdSink::new(output);
+    let mut diag = StdSink::new(errors);
+    Ok(insar(
+        rt,
+        alloc,
+        &texts,
+        &mut source,
+        &mut sink,
+        &mut diag,
+        &OpenGate,
+    ))
 }
 
 /// Tells why there are no words: one of them is not UTF-8, or there is no memory for them.
@@ -43,7 +61,18 @@ fn refused(rt: &HostRuntime, error: io::Error) -> u8 {
 }
 
 fn main(rt: HostRuntime) -> ExitCode {
-    ExitCode::from(match run(&rt) {
+    let done = match words(&rt) {
+        Ok(words) => run(
+            &rt,
+            rt.alloc(),
+            &words,
+            rt.stdin().lock(),
+            rt.stdout().lock(),
+            rt.stderr().lock(),
+        ),
+        Err(error) => Err(error),
+    };
+    ExitCode::from(match done {
         Ok(status) => status,
         Err(error) => refused(&rt, error),
     })

@@ -1,0 +1,14 @@
+//! Analysts and workers at once: each analyst's script runs in a thread of its own, and where it settles, workers solve the
+//! tiles, all over one desk.
+#![tactic(auto)]
+
+mod gate;
+mod scripts;
+mod settling;
+mod solving;
+#[cfg(test)]
+mod tests;
+
+pub use crate::gate::{Gate, OpenGate};
+pub use crate::scripts::run_scripts;
+pub use crate::settling::settle;

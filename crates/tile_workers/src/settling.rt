@@ -1,0 +1,146 @@
+ghost use Rattle.std.specs.Prelude.{◌≡◌, ◌≢◌, None};
+
+use crate::gate::Gate;
+use crate::solving::Worker;
+use board_desk::{Desk, Pass};
+use collector_core::collect;
+use std::alloc::{AllocError, Global};
+use std::sync::Wait;
+use std::thread;
+use std::thread::Threads;
+use tile_board::{Advance, AdvanceFault, GatherFault, Gathered, PublishFault};
+
+/// The most workers that run at once.
+const GREATEST_CREW: usize = 8;
+
+/// Does the settle command of a pass's analyst, and answers the revision that is published. Workers solve the tiles, each in
+/// a thread of its own. It is refused for want of memory alone, and then some of the tiles may be solved.
+pub fn settle<R: Threads + Wait + Sync, G: Gate>(
+    rt: &R,
+    alloc: Global,
+    desk: &Desk,
+    pass: &mut Pass,
+    workers: u32,
+    gate: &G,
+) -> Result<u32, AllocError>
+    requires { pass.old.analyst ≢ None }
+    ensures { pass.new.analyst ≡ pass.old.analyst }
+{
+    for _ in rt.forever() {
+        match desk.advance(rt, alloc, pass).answer {
+            Ok(Advance::NotYet(_)) => {}
+            Ok(Advance::Settled(revision)) => return Ok(revision),
+            // The command is no settle command.
+            Ok(Advance::Revised(_) | Advance::Shown(_) | Advance::Ended) => return Ok(0),
+            Err(AdvanceFault::Memory) => return Err(AllocError),
+        }
+        solve_tiles(rt, alloc, desk, pass, workers, gate)?;
+        if let Some(revision) = publish(rt, alloc, desk, pass)? {
+            return Ok(revision);
+        }
+    }
+    unreachable!()
+}
+
+/// Has workers solve the tiles.
+fn solve_tiles<R: Threads + Wait + Sync, G: Gate>(
+    rt: &R,
+    alloc: Global,
+    desk: &Desk,
+    pass: &mut Pass,
+    workers: u32,
+    gate: &G,
+) -> Result<(), AllocError>
+    ensures { pass.new.analyst ≡ pass.old.analyst }
+{
+    let mut workers = hire(rt, alloc, desk, pass, workers)?;
+    thread::for_each_mut(
+        rt,
+        &mut workers,
+        GREATEST_CREW,
+        &|_, worker| { worker.work(rt, alloc, desk, gate) },
+    );
+    dismiss(rt, desk, pass, workers)
+}
+
+/// Workers that have heard what a pass has.
+fn hire<R: Wait>(
+    rt: &R,
+    alloc: Global,
+    desk: &Desk,
+    pass: &mut Pass,
+    count: u32,
+) -> Result<Vec<Worker>, AllocError>
+    ensures { pass.new ≡ pass.old }
+{
+    let mut workers = Vec::with_capacity(alloc, count as usize)?;
+    for before in 0..count {
+        workers.push(Worker {
+            number: before + 1,
+            pass: desk.worker_pass(rt, pass),
+            starved: false,
+        })?;
+    }
+    Ok(workers)
+}
+
+/// Takes the workers' passes back. It is refused where one of them found no memory.
+fn dismiss<R: Wait>(
+    rt: &R,
+    desk: &Desk,
+    pass: &mut Pass,
+    workers: Vec<Worker>,
+) -> Result<(), AllocError>
+    ensures { pass.new.analyst ≡ pass.old.analyst }
+{
+    let mut starved = false;
+    for worker in workers {
+        starved = starved || worker.starved;
+        desk.give_back(rt, pass, worker.pass);
+    }
+    if starved { Err(AllocError) } else { Ok(()) }
+}
+
+/// Publishes the present revision, and answers it; None where that was not to be done, as the mask has changed meanwhile, or
+/// another analyst was faster.
+fn publish<R: Wait>(
+    rt: &R,
+    alloc: Global,
+    desk: &Desk,
+    pass: &mut Pass,
+) -> Result<Option<u32>, AllocError>
+    requires { pass.old.analyst ≢ None }
+    ensures { pass.new.analyst ≡ pass.old.analyst }
+{
+    let Some(gathered) = gather(rt, alloc, desk, pass)? else {
+        return Ok(None);
+    };
+    let seams = collect(alloc, &gathered)?;
+    match desk.publish(rt, alloc, pass, seams).answer {
+        Ok(()) => Ok(Some(gathered.revision)),
+        Err(PublishFault::Memory) => Err(AllocError),
+        Err(
+            PublishFault::NotSettle
+            | PublishFault::Stale(_)
+            | PublishFault::Double(_)
+            | PublishFault::Unready(_)
+            | PublishFault::Uncertified(_),
+        ) => Ok(None),
+    }
+}
+
+/// The present revision's results; None where a tile has none.
+fn gather<R: Wait>(
+    rt: &R,
+    alloc: Global,
+    desk: &Desk,
+    pass: &mut Pass,
+) -> Result<Option<Gathered>, AllocError>
+    ensures { pass.new.analyst ≡ pass.old.analyst }
+{
+    match desk.gather(rt, alloc, pass).answer {
+        Ok(gathered) => Ok(Some(gathered)),
+        Err(GatherFault::Unready(_)) => Ok(None),
+        Err(GatherFault::Memory) => Err(AllocError),
+    }
+}

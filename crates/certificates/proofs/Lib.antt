@@ -1,5 +1,6 @@
 pub mod EdgeLemmas
 pub mod FaceLemmas
+mod ZeroLemmas
 pub mod TileParts
 pub mod CostLemmas
 pub mod VerdictLemmas

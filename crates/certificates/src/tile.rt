@@ -1,6 +1,7 @@
 ghost use Rattle.raster_model.specs.Tiles.{IsWindowOf};
 ghost use Rattle.std.specs.Prelude.{◌≡◌};
 
+use crate::numbers::are_zeros;
 use raster_model::{Edge, Heights, Mask, Scene, Window, plain, weight};
 
 /// A tile of a scene under a mask.
@@ -40,10 +41,13 @@ impl Tile<'_> {
       ◌≤◌,
       ◌^◌,
       ◌↔◌,
+      IfErr,
       IfNone,
+      IfOk,
       IfSome,
       IsTrue,
       MatchBool,
+      OnOk,
       pos,
       unsigned_abs,
     };
@@ -141,7 +145,7 @@ impl Tile<'_> {
     }
 
     /// The first inner edge whose faces do not fit.
-    pub(crate) fn first_unfit(&self, faces: &[i64]) -> Option<Edge>
+    fn first_unfit(&self, faces: &[i64]) -> Option<Edge>
         requires count { HasFaces self.now faces.now }
         ensures found { IfSome result (IsFirstBreak (IsInner self.now) (FitAt self.now faces.now)) }
         ensures none { IfNone result (HoldsAtAll (IsInner self.now) (FitAt self.now faces.now)) }
@@ -172,7 +176,7 @@ impl Tile<'_> {
     }
 
     /// The sum of face times residue over the tile's cells.
-    pub(crate) fn face_total(&self, faces: &[i64]) -> i128
+    fn face_total(&self, faces: &[i64]) -> i128
         requires count { HasFaces self.now faces.now }
         ensures { result ≡ total_at self.now faces.now }
     {
@@ -184,6 +188,23 @@ impl Tile<'_> {
             }
         }
         total
+    }
+
+    /// The sum of face times residue over the tile's cells, if the faces fit at each inner edge, and else the first
+    /// edge at which they do not. Faces that are all 0 fit everywhere and add up to 0.
+    pub(crate) fn bound(&self, faces: &[i64]) -> Result<i128, Edge>
+        requires count { HasFaces self.now faces.now }
+        ensures total { IfOk result (λ bound. bound ≡ total_at self.now faces.now) }
+        ensures fit { OnOk result (HoldsAtAll (IsInner self.now) (FitAt self.now faces.now)) }
+        ensures unfit { IfErr result (IsFirstBreak (IsInner self.now) (FitAt self.now faces.now)) }
+    {
+        if are_zeros(faces) {
+            return Ok(0);
+        }
+        match self.first_unfit(faces) {
+            Some(edge) => Err(edge),
+            None => Ok(self.face_total(faces)),
+        }
     }
 
     /// What the edges that start at a pixel add to the tile's cost.

@@ -45,10 +45,10 @@ pub fn check_faces<H: Heights>(
         number: tile,
         window,
     };
-    if let Some(edge) = tile.first_unfit(faces) {
-        return TileVerdict::FaceAtEdge(edge);
-    }
-    let bound = tile.face_total(faces);
+    let bound = match tile.bound(faces) {
+        Ok(bound) => bound,
+        Err(edge) => return TileVerdict::FaceAtEdge(edge),
+    };
     let cost = tile.cost(heights);
     if is_same(bound, cost) {
         TileVerdict::Good

@@ -13,30 +13,27 @@ pub returns-then-faces-cells-clause-verdict : goal.returns-then-faces-cells-clau
 returns-then-faces-cells-clause-verdict g c =
     not_counted c.args.scene.now c.args.tile c.window-window.result c.window-window.ensures.pixels (length c.args.faces.now) c.if-faces-cells.true
 
-pub first_unfit-requires : goal.first_unfit-requires
-first_unfit-requires g c = record { count = counted c.args.scene.now c.args.tile c.window-window.result c.window-window.ensures.pixels (length c.args.faces.now) c.if-faces-cells.false }
+pub bound-requires : goal.bound-requires
+bound-requires g c = record { count = counted c.args.scene.now c.args.tile c.window-window.result c.window-window.ensures.pixels (length c.args.faces.now) c.if-faces-cells.false }
 
-pub face_total-bound-requires : goal.face_total-bound-requires
-face_total-bound-requires g c = record { count = counted c.args.scene.now c.args.tile c.window-window.result c.window-window.ensures.pixels (length c.args.faces.now) c.if-faces-cells.false }
-
-pub returns-in-Some-clause-verdict : goal.returns-in-Some-clause-verdict
-returns-in-Some-clause-verdict g c =
-    (counted c.args.scene.now c.args.tile c.window-window.result c.window-window.ensures.pixels (length c.args.faces.now) c.if-faces-cells.false, c.in-Some.ensures.found)
+pub returns-in-Err-clause-verdict : goal.returns-in-Err-clause-verdict
+returns-in-Err-clause-verdict g c =
+    (counted c.args.scene.now c.args.tile c.window-window.result c.window-window.ensures.pixels (length c.args.faces.now) c.if-faces-cells.false, c.in-Err.ensures.unfit)
 
 pub returns-then-is_same-clause-verdict : goal.returns-then-is_same-clause-verdict
 returns-then-is_same-clause-verdict g c =
-    let back : to_z w128 (of_z w128 c.face_total-bound.result) ≡ c.face_total-bound.result = omega (arith, ints) in (
+    let back : to_z w128 (of_z w128 c.in-Ok.bound) ≡ c.in-Ok.bound = omega (arith, ints) in (
       counted c.args.scene.now c.args.tile c.window-window.result c.window-window.ensures.pixels (length c.args.faces.now) c.if-faces-cells.false,
-      record { fits = c.in_default.ensures.none; equal = sym c.face_total-bound.ensures ∙ sym back ∙ c.is_same.ensures.0 c.if-is_same.true ∙ c.cost-cost.ensures },
+      record { fits = c.in-Ok.ensures.fit; equal = sym c.in-Ok.ensures.total ∙ sym back ∙ c.is_same.ensures.0 c.if-is_same.true ∙ c.cost-cost.ensures },
     )
 
 pub returns-else-is_same-clause-verdict : goal.returns-else-is_same-clause-verdict
 returns-else-is_same-clause-verdict g c =
-    let back : to_z w128 (of_z w128 c.face_total-bound.result) ≡ c.face_total-bound.result = omega (arith, ints) in (
+    let back : to_z w128 (of_z w128 c.in-Ok.bound) ≡ c.in-Ok.bound = omega (arith, ints) in (
       counted c.args.scene.now c.args.tile c.window-window.result c.window-window.ensures.pixels (length c.args.faces.now) c.if-faces-cells.false,
-      c.in_default.ensures.none,
+      c.in-Ok.ensures.fit,
       c.cost-cost.ensures,
-      back ∙ c.face_total-bound.ensures,
+      back ∙ c.in-Ok.ensures.total,
       λ e. false≢true (sym c.if-is_same.false ∙ c.is_same.ensures.1 e),
     )
 

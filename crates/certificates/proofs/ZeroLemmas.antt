@@ -1,0 +1,55 @@
+-- Faces that are all 0 fit at every edge, and add up to 0.
+use Rattle.std.proofs.Common.{◌≡◌, sym, refl, ℕ, zero, suc, ◌<◌, ◌≤◌, arith, Bool, true, false, inl, inr, List, length}
+use Rattle.std.specs.Prelude.{◌⊎◌, if◌then◌else◌, ℤ, pos, ◌-ℤ◌, ◌*ℤ◌, slice_index_or}
+use Rattle.std.proofs.lemmas.Int.{ints}
+use Rattle.std.proofs.lemmas.List.{get_or_past}
+use Rattle.raster_model.specs.declared.edge.Edge.{Edge}
+use Rattle.raster_model.specs.Sums.{Field, sum_row, where_true}
+use Rattle.raster_model.specs.Raster.{Raster, residue}
+use Rattle.raster_model.specs.Certificates.{before, above, left, is_cell, face_difference, faces_of_tile, face_product, face_total, FacesFit}
+use Rattle.raster_model.specs.Cells.{cells_before, face_at}
+use Rattle.raster_model.proofs.SumLemmas.{sum_below-zeros}
+use Rattle.certificates.specs.Growth.{AreZeros}
+
+module _ (r : Raster) (t : ℕ) (faces : List ℤ) (zeros : AreZeros faces) where
+  read : (k : ℕ) → slice_index_or faces k (pos 0) ≡ pos 0
+  read k = elim (below k) [ inl l ↦ zeros k l | inr l ↦ get_or_past faces k (pos 0) l ]
+    where
+      below : (k : ℕ) → (k < length faces) ⊎ (length faces ≤ k)
+      below k = grind arith
+
+  face : (x y : ℕ) → faces_of_tile r t (face_at r t faces) x y ≡ pos 0
+  unfolding face_at
+  face x y = none (is_cell r t x y)
+    where
+      none : (b : Bool) → where_true b (slice_index_or faces (cells_before r t x y) (pos 0)) ≡ pos 0
+      none true = read (cells_before r t x y)
+      none false = refl
+
+  none_before : (f : ℕ → ℤ) (n : ℕ) → ((k : ℕ) → f k ≡ pos 0) → before f n ≡ pos 0
+  none_before f zero h = refl
+  none_before f (suc n) h = h n
+
+  difference : (e : Edge) → face_difference (faces_of_tile r t (face_at r t faces)) e ≡ pos 0
+  difference e = by e.down
+    where
+      f : Field ℤ
+      f = faces_of_tile r t (face_at r t faces)
+
+      by : (down : Bool) → (if down then f e.x e.y -ℤ left f e.x e.y else above f e.x e.y -ℤ f e.x e.y) ≡ pos 0
+      by true = rw (face e.x e.y, none_before (λ i. f i e.y) e.x (λ i. face i e.y)) refl
+      by false = rw (face e.x e.y, none_before (f e.x) e.y (face e.x)) refl
+
+  pub zeros_fit : (mask : Field Bool) (e : Edge) → FacesFit r mask t (face_at r t faces) e
+  zeros_fit mask e = rw (difference e) (omega arith)
+
+  product : (x y : ℕ) → face_product r t (face_at r t faces) x y ≡ pos 0
+  unfolding face_product
+  product x y = rw (face x y) (no_times (residue r x y))
+    where
+      no_times : (z : ℤ) → pos 0 *ℤ z ≡ pos 0
+      no_times z = omega (arith, ints)
+
+  pub zeros_total : pos 0 ≡ face_total r t (face_at r t faces)
+  unfolding face_total
+  zeros_total = sym (sum_below-zeros r.height (sum_row r.width (face_product r t (face_at r t faces))) (λ y m. sum_below-zeros r.width (λ x. face_product r t (face_at r t faces) x y) (λ x l. product x y)))

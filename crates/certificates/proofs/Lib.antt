@@ -1,6 +1,7 @@
 pub mod EdgeLemmas
 pub mod FaceLemmas
 mod ZeroLemmas
+mod ZeroFlows
 pub mod TileParts
 pub mod CostLemmas
 pub mod VerdictLemmas

@@ -11,19 +11,19 @@ use Rattle.raster_model.specs.Cells.{cells_before, face_at}
 use Rattle.raster_model.proofs.SumLemmas.{sum_below-zeros}
 use Rattle.certificates.specs.Growth.{AreZeros}
 
-module _ (r : Raster) (t : ℕ) (faces : List ℤ) (zeros : AreZeros faces) where
-  read : (k : ℕ) → slice_index_or faces k (pos 0) ≡ pos 0
-  read k = elim (below k) [ inl l ↦ zeros k l | inr l ↦ get_or_past faces k (pos 0) l ]
-    where
-      below : (k : ℕ) → (k < length faces) ⊎ (length faces ≤ k)
-      below k = grind arith
+pub read_zero : (numbers : List ℤ) → AreZeros numbers → (k : ℕ) → slice_index_or numbers k (pos 0) ≡ pos 0
+read_zero numbers zeros k = elim (below k) [ inl l ↦ zeros k l | inr l ↦ get_or_past numbers k (pos 0) l ]
+  where
+    below : (k : ℕ) → (k < length numbers) ⊎ (length numbers ≤ k)
+    below k = grind arith
 
+module _ (r : Raster) (t : ℕ) (faces : List ℤ) (zeros : AreZeros faces) where
   face : (x y : ℕ) → faces_of_tile r t (face_at r t faces) x y ≡ pos 0
   unfolding face_at
   face x y = none (is_cell r t x y)
     where
       none : (b : Bool) → where_true b (slice_index_or faces (cells_before r t x y) (pos 0)) ≡ pos 0
-      none true = read (cells_before r t x y)
+      none true = read_zero faces zeros (cells_before r t x y)
       none false = refl
 
   none_before : (f : ℕ → ℤ) (n : ℕ) → ((k : ℕ) → f k ≡ pos 0) → before f n ≡ pos 0

@@ -4,11 +4,13 @@ ghost use Rattle.certificates.specs.Growth.{AreWithin, HasGrown};
 ghost use Rattle.raster_model.specs.Sums.{where_true};
 ghost use Rattle.std.specs.Prelude.{◌≡◌, ℕ, ◌+◌, ◌<◌, ◌≤◌, ◌^◌, ◌==◌, length, unsigned_abs};
 
+use crate::numbers::are_zeros;
 use crate::seam_edges::{is_seam_edge, seams_from};
 use crate::tile_ends::TileEnds;
 use raster_model::{Edge, Heights, Mask, Scene, departure, weight};
 
-/// The seam edges of a scene under a mask, with a flow for each in edge order.
+/// The seam edges of a scene under a mask, with a flow for each in edge order. Flows that are all 0 fit any weight and add
+/// up to 0 at each region, which is told without a look at the edges.
 #[derive(Clone, Copy)]
 pub(crate) struct SeamFlows<'a> {
     pub(crate) scene: &'a Scene,
@@ -110,6 +112,9 @@ impl SeamFlows<'_> {
         ensures found { IfSome result (IsFirstBreak (IsSeamOf self.now) (FlowFitsAt self.now)) }
         ensures none { IfNone result (FlowsFit self.now) }
     {
+        if are_zeros(self.flows) {
+            return None;
+        }
         let mut before = 0;
         for y in 0..self.scene.phase.height {
             for x in 0..self.scene.phase.width {
@@ -164,6 +169,9 @@ impl SeamFlows<'_> {
         ensures { AreExcesses self.now labels.now sums.new }
     {
         sums.fill(0);
+        if are_zeros(self.flows) {
+            return;
+        }
         let mut before = 0;
         for y in 0..self.scene.phase.height {
             for x in 0..self.scene.phase.width {
@@ -209,6 +217,9 @@ impl SeamFlows<'_> {
         requires known { KnowsSeams self.now (H.knows heights.now) }
         ensures { result ≡ total_of self.now (H.cycles_at heights.now) }
     {
+        if are_zeros(self.flows) {
+            return 0;
+        }
         let mut total: i128 = 0;
         let mut before = 0;
         for y in 0..self.scene.phase.height {

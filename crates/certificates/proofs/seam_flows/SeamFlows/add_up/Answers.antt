@@ -3,6 +3,7 @@ use Rattle.std.proofs.lemmas.Int.{ints}
 use Rattle.raster_model.proofs.FlowLemmas.{before-none, before-row, before-next}
 use Rattle.certificates.specs.FlowWords.{raster_in}
 use Rattle.certificates.proofs.FlowSums.{zeros, so_far_none, so_far_more, so_far_row, so_far_all}
+use Rattle.certificates.proofs.ZeroFlows.{zero_flows_balance}
 use Rattle.certificates.proofs.seam_flows.SeamFlows.add_up.Goals as goal
 
 pub loop-y-init : goal.loop-y-init
@@ -41,3 +42,8 @@ loop-y-preserved c =
 pub returns : goal.returns
 returns c v l =
     so_far_all c.args.self.now c.args.labels.now c.loop-y.y c.loop-y.sums (omega arith) c.loop-y.invariant.so_far v l
+
+pub returns-then-are_zeros : goal.returns-then-are_zeros
+returns-then-are_zeros c v l =
+    zero_flows_balance c.args.self.now (c.are_zeros.ensures c.if-are_zeros.true) c.args.labels.now c.fill.new.self
+    (zeros c.fill.new.self (length c.args.sums.now) (c.fill.ensures.after (λ y e. search rules))) v l

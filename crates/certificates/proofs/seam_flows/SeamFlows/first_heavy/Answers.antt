@@ -3,6 +3,7 @@ use Rattle.raster_model.proofs.FlowLemmas.{before-none, before-row, before-next}
 use Rattle.certificates.specs.FlowWords.{raster_in, IsSeamOf, FlowFitsAt, IsSmallAt}
 use Rattle.certificates.proofs.EdgeLemmas.{none_before, one_more, row_more, all_before, first_of_all}
 use Rattle.certificates.proofs.SeamLemmas.{in_raster}
+use Rattle.certificates.proofs.ZeroFlows.{zero_flows_fit}
 use Rattle.certificates.proofs.seam_flows.SeamFlows.first_heavy.Goals as goal
 
 pub loop-y-init : goal.loop-y-init
@@ -51,3 +52,6 @@ returns-clause-none c =
       all_before (IsSeamOf k) (FlowFitsAt k) 0 r.width 0 r.height (in_raster k) c.loop-y.y e c.loop-y.invariant.fit,
       all_before (IsSeamOf k) (IsSmallAt k) 0 r.width 0 r.height (in_raster k) c.loop-y.y e c.loop-y.invariant.small,
     )
+
+pub returns-then-are_zeros-clause-none : goal.returns-then-are_zeros-clause-none
+returns-then-are_zeros-clause-none c = zero_flows_fit c.args.self.now (c.are_zeros.ensures c.if-are_zeros.true)

@@ -6,6 +6,7 @@ use Rattle.raster_model.proofs.FlowLemmas.{before-none, before-row, before-next}
 use Rattle.certificates.specs.FlowWords.{raster_in, product_from}
 use Rattle.certificates.proofs.SeamLemmas.{flow_sum_fits}
 use Rattle.certificates.proofs.FlowSums.{total_is}
+use Rattle.certificates.proofs.ZeroFlows.{zero_flows_total}
 use Rattle.certificates.proofs.seam_flows.SeamFlows.total.Goals as goal
 
 pub loop-y-init : goal.loop-y-init
@@ -56,3 +57,6 @@ returns g c =
     let k = c.args.self.now in
     let r = raster_in k in
     grid_all r.width r.height c.loop-y.y (product_from k (g.H.Heights.cycles_at c.args.heights.now)) _ (omega arith) c.loop-y.invariant.sum ∙ total_is k (g.H.Heights.cycles_at c.args.heights.now)
+
+pub returns-then-are_zeros : goal.returns-then-are_zeros
+returns-then-are_zeros g c = zero_flows_total c.args.self.now (c.are_zeros.ensures c.if-are_zeros.true) (g.H.Heights.cycles_at c.args.heights.now)

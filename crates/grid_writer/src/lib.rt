@@ -2,8 +2,6 @@
 #![tactic(auto)]
 
 mod grid;
-#[cfg(test)]
-mod tests;
 mod text;
 
 pub use crate::grid::{append_grid, write_grid};

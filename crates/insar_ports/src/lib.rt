@@ -10,8 +10,6 @@ mod memory_source;
 mod script;
 mod sink;
 mod source;
-#[cfg(test)]
-mod tests;
 
 pub use adapters::{StdSink, StdSource};
 pub use feed::{Feed, FeedFault, Line};

@@ -7,8 +7,6 @@ pub mod laws;
 mod plane;
 mod samples;
 mod spelling;
-#[cfg(test)]
-mod tests;
 mod write;
 
 pub use fault::{InputFault, PlaneFault, ReadPlaneFault, Role};

@@ -6,7 +6,5 @@ mod fields;
 pub mod laws;
 mod report;
 mod surface;
-#[cfg(test)]
-mod tests;
 
 pub use crate::report::write_report;

@@ -11,8 +11,6 @@ mod script;
 mod sections;
 mod session;
 mod session_use;
-#[cfg(test)]
-mod tests;
 mod word;
 mod write;
 

@@ -1,0 +1,82 @@
+use insar_ports::{
+    Failed, Feed, FeedFault, Line, MemorySource, Source, StdSink, StdSource, WriteFault, put_all,
+};
+use std::io;
+use std::io::{ErrorKind, Read, Write};
+use std::test::Fail;
+
+/// A reader and a writer that never work.
+#[derive(Drop)]
+struct Broken;
+
+impl Read for Broken {
+    fn read(&mut self, _buf: &mut [u8]) -> io::Result<usize> {
+        Err(ErrorKind::Other.into())
+    }
+}
+
+impl Write for Broken {
+    fn write(&mut self, _buf: &[u8]) -> io::Result<usize> {
+        Ok(0)
+    }
+
+    fn flush(&mut self) -> io::Result<()> {
+        Ok(())
+    }
+}
+
+/// With room for two bytes of a line.
+#[test]
+fn a_line_is_whole_cut_or_over(rt: HostRuntime) -> Result<(), Fail> {
+    for (bytes, lines) in [
+        (b"ab\ncd", [Ok(Line::Whole(2)), Ok(Line::Cut(2))]),
+        (b"abc\nd", [Ok(Line::Over), Ok(Line::Whole(1))]),
+    ] {
+        let bytes = Vec::from_slice(rt.alloc(), bytes)?;
+        let mut source = MemorySource::new(bytes, 1, Vec::new(rt.alloc()));
+        let mut feed = Feed::new(rt.alloc(), &mut source, 100)?;
+        let mut line = [0; 2];
+        assert_eq!(rt;
+            [feed.next_line(&mut line), feed.next_line(&mut line)],
+            lines
+        );
+    }
+    Ok(())
+}
+
+#[test]
+fn a_feed_goes_on_once_its_limit_is_raised(rt: HostRuntime) -> Result<(), Fail> {
+    let bytes = Vec::from_slice(rt.alloc(), b"ab")?;
+    let mut source = MemorySource::new(bytes, 1, Vec::new(rt.alloc()));
+    let mut feed = Feed::new(rt.alloc(), &mut source, 1)?;
+    let within = [feed.peek(), feed.next(), feed.next()];
+    assert!(rt; feed.handed() <= 2);
+    feed.set_limit(2);
+    let first = Ok(Some(b'a'));
+    let told = [first, first, Err(FeedFault::TooLong)];
+    assert_eq!(rt; (within, feed.next()), (told, Ok(Some(b'b'))));
+    Ok(())
+}
+
+#[test]
+fn a_source_fails_where_its_reader_does(rt: HostRuntime) {
+    let mut into = [0; 2];
+    let mut source = StdSource::new(b"abc".as_slice());
+    let taken = [
+        source.take(&mut into),
+        source.take(&mut into),
+        StdSource::new(Broken).take(&mut into),
+    ];
+    assert_eq!(rt; taken, [Ok(2), Ok(1), Err(Failed)]);
+}
+
+#[test]
+fn a_sink_fails_where_its_writer_does(rt: HostRuntime) {
+    let mut written = Vec::new(rt.alloc());
+    let put = [
+        put_all(&mut StdSink::new(&mut written), b"abc"),
+        put_all(&mut StdSink::new(Broken), b"abc"),
+    ];
+    assert_eq!(rt; put, [Ok(()), Err(WriteFault)]);
+    assert_eq!(rt; written.as_slice(), b"abc".as_slice());
+}

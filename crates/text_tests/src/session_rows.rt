@@ -1,0 +1,122 @@
+ghost use Rattle.std.specs.Prelude.{◌≤◌};
+
+use crate::plane_rows::field;
+use insar_ports::{Feed, MemorySink, MemorySource};
+use pgm_planes::InputFault;
+use raster_model::{RuleKind, Session};
+use session_script::{SessionFault, SessionUse, read_session, write_session};
+use std::alloc::Global;
+use std::test::Fail;
+
+/// The session of a text that comes in pieces, where the numbered calls fail.
+pub fn read(
+    alloc: Global,
+    use_as: SessionUse,
+    side: u32,
+    text: Vec<u8>,
+    piece: usize,
+    failing: Vec<u32>,
+) -> Result<Session, SessionFault>
+    requires side { (2 ≤ side) × (side ≤ 128) }
+    requires piece { 1 ≤ piece }
+{
+    let mut source = MemorySource::new(text, piece, failing);
+    let mut feed = Feed::new(alloc, &mut source, 268_435_456)?;
+    read_session(alloc, &mut feed, use_as, side, RuleKind::Least)
+}
+
+/// What follows a text, the text, and what is written of its session or the fault that it has, counted by hand.
+const TEXTS: &str = "\
+    end|P2 2 1 65535 16705 16962|P5\n2 1\n65535\nAABBP5\n2 1\n1\n\x01\x01P5\n2 1\n1\n\x01\x01analyst\nsettle\nshow\nend\n;\
+    end|P2 2 1 65535 16705 16962\nend\n|P5\n2 1\n65535\nAABBP5\n2 1\n1\n\x01\x01P5\n2 1\n1\n\x01\x01analyst\nsettle\nshow\nend\n;\
+    report|P2 2 1 65535 1 2 end\nreport|P5\n2 1\n65535\n\0\x01\0\x02P5\n2 1\n1\n\x01\x01P5\n2 1\n1\n\x01\x01analyst\nsettle\nshow\nend\n;\
+    report|P2 2 1 65535 1 2|Input(NoEnd);\
+    end|P5\n2 1\n65534\n|Input(Plane { role: Phase, fault: PhaseMaxval(65534) });\
+    end|P5\n2 1\n65535\n\0\0\0|Input(Plane { role: Phase, fault: Short(1) });\
+    end|P5\n2 1\n65535\n\0\0\0\0end\nx|Input(AfterEnd(21));\
+    end|P5\n2 1\n65535\n\0\0\0\0P5\n1 1\n1\n\x01|Input(SizesDiffer(Weight));\
+    end|P2 2 1 65535 1 2 P2 2 1 9 5 3 P2 2 1 1 1 1 1\n|Input(ScriptLine(1));\
+    end|P2 4 1 65535 0 1 2 3 analyst\nmask 0 0 4 0\n|Input(Outside(2));\
+    end|P2 4 1 65535 0 1 2 3 analyst\nmask 0 0 4294967296 0\n|Input(Outside(2));\
+    end|P2 4 1 65535 0 1 2 3 analyst\nunmask 2 0 1 0\n|Input(Outside(2));\
+    end|P2 4 1 65535 0 1 2 3 analyst\nmask 0 0 03 0\n|Input(ScriptLine(2));\
+    end|P2 4 1 65535 0 1 2 3 analyst\nmask 0 0 3 0 \n|Input(ScriptLine(2));\
+    end|P2 4 1 65535 0 1 2 3 analyst\nsettel\n|Input(ScriptLine(2));\
+    end|P2 4 1 65535 0 1 2 3 settle\nend\n|Input(ScriptLine(1));\
+    end|P2 4 1 65535 0 1 2 3 analyst\nsettle\n|Input(NoEnd);\
+    end|P2 4 1 65535 0 1 2 3 analyst\nend|Input(NoEnd);\
+    end|P2 4 1 65535 0 1 2 3 analyst\nanalyst\nanalyst\nanalyst\nanalyst\nanalyst\nanalyst\nanalyst\nanalyst\n|Input(TooManyAnalysts(9));\
+    end|P2 4 1 65535 0 1 2 3 analyst\n0123456789012345678901234567890123456789012345678901234567890123\n|Input(ScriptLine(2));\
+    end|P2 4 1 65535 0 1 2 3 0123456789012345678901234567890123456789012345678901234567890123|Input(NoEnd);\
+    end|P2 4 1 65535 0 1 2 3 01234567890123456789012345678901234567890123456789012345678901234|Input(ScriptLine(1));";
+
+/// What is written of the session of a text, or its fault in words.
+fn told(alloc: Global, use_as: SessionUse, text: &str) -> Result<Vec<u8>, Fail> {
+    let text = Vec::from_slice(alloc, text.as_bytes())?;
+    let told = match read(alloc, use_as, 64, text, 7, Vec::new(alloc)) {
+        Ok(session) => {
+            let mut sink = MemorySink::new(alloc, 1000, 5, Vec::new(alloc))?;
+            write_session(&session, &mut sink)?;
+            sink.bytes().to_vec(alloc)?
+        }
+        Err(fault) => format!(in alloc; "{fault:?}")?.into_bytes(),
+    };
+    Ok(told)
+}
+
+#[test]
+fn a_session_is_read_or_its_fault_is_told(rt: HostRuntime) -> Result<(), Fail> {
+    for case in TEXTS.split_terminator(';') {
+        let mut fields = case.split('|');
+        let use_as = match field(&mut fields) {
+            "end" => SessionUse::Alone,
+            _ => SessionUse::BeforeReport,
+        };
+        let told = told(rt.alloc(), use_as, field(&mut fields))?;
+        assert_eq!(rt; told.as_slice(), field(&mut fields).as_bytes(), "{case}");
+    }
+    Ok(())
+}
+
+/// The 82 bytes come one by one. Call 83 is the one that finds the end.
+#[test]
+fn a_call_that_fails_is_told(rt: HostRuntime) -> Result<(), Fail> {
+    let text =
+        b"P2 2 2 65535 0 16384 49152 32768 P2 2 2 9 5 5 3 9 analyst\nmask 0 0 0 0\nsettle\nend\n";
+    for call in 1..84 {
+        let text = Vec::from_slice(rt.alloc(), text)?;
+        let failing = vec![in rt.alloc(); call]?;
+        let fault = read(rt.alloc(), SessionUse::Alone, 64, text, 1, failing).err();
+        assert_eq!(rt; fault, Some(SessionFault::ReadFault), "{call}");
+    }
+    Ok(())
+}
+
+/// Why no session is read of a raster of 4096 by 1024 and a section of so many equal lines.
+fn fault_of(alloc: Global, side: u32, line: &[u8], count: u32) -> Result<Option<SessionFault>, Fail>
+    requires { (2 ≤ side) × (side ≤ 128) }
+{
+    let mut text = Vec::from_slice(alloc, b"P5\n4096 1024\n65535\n")?;
+    text.resize(8_388_627, 0)?;
+    text.extend_from_slice(b"analyst\n")?;
+    for _ in 0..count {
+        text.extend_from_slice(line)?;
+    }
+    text.extend_from_slice(b"end\n")?;
+    Ok(read(alloc, SessionUse::Alone, side, text, 5000, Vec::new(alloc)).err())
+}
+
+/// 16 times 4194304 pixels is the limit of settled pixels, and 16 times 1048576 tiles that of changed tiles.
+#[test]
+fn sixteen_commands_reach_the_limits(rt: HostRuntime) -> Result<(), Fail> {
+    let faults = [
+        fault_of(rt.alloc(), 64, b"settle\n", 16)?,
+        fault_of(rt.alloc(), 64, b"settle\n", 17)?,
+        fault_of(rt.alloc(), 2, b"mask 0 0 0 0\n", 17)?,
+    ];
+    let settles = SessionFault::Input(InputFault::SettleLimit(18));
+    let edits = SessionFault::Input(InputFault::EditLimit(18));
+    let told = [None, Some(settles), Some(edits)];
+    assert_eq!(rt; faults, told);
+    Ok(())
+}

@@ -12,5 +12,4 @@ pub mod BalanceLemmas
 pub mod FaceLemmas
 pub mod CertificateLemmas
 pub mod CallerLemmas
-pub mod TestLemmas
 mod OnExamples

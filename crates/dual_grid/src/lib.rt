@@ -7,8 +7,6 @@ mod crossing;
 mod grid;
 mod sides;
 mod supplies;
-#[cfg(test)]
-mod tests;
 mod weighing;
 
 pub use crate::grid::DualGrid;

@@ -8,7 +8,5 @@ mod links;
 mod network;
 mod solving;
 mod surface;
-#[cfg(test)]
-mod tests;
 
 pub use crate::solving::solve_offsets;

@@ -2,7 +2,5 @@
 #![tactic(auto)]
 
 mod solving;
-#[cfg(test)]
-mod tests;
 
 pub use crate::solving::solve_tile;

@@ -19,8 +19,8 @@ use surface_integration::integrate;
 use wrapped_gradient::{Corrections, Gradients};
 
 /// Solves one tile of a scene under the mask that `unmasked` tells: whether each pixel of the tile's window is open, in
-/// row order. The result has the cycles of a congruent surface whose weighted departures cost least in the tile, 0 at the
-/// window's first pixel, and the faces that prove it. It is refused for want of memory alone. (Costantini 1998.)
+/// row order. The result has the cycles of a congruent surface whose weighted departures cost least in the tile, and
+/// the faces that prove it. It is refused for want of memory alone. (Costantini 1998.)
 pub fn solve_tile(
     alloc: Global,
     scene: &Scene,

@@ -1,0 +1,7 @@
+//! What the solvers answer on rasters whose least costs, offsets and flows are known from outside.
+#![tactic(auto)]
+
+#[cfg(test)]
+mod offset_rows;
+#[cfg(test)]
+mod tile_rows;

@@ -1,0 +1,82 @@
+ghost use Rattle.std.specs.Prelude.{◌≤◌};
+
+use collector_core::collect;
+use insar_ports::{Feed, MemorySource};
+use raster_model::RuleKind;
+use session_script::{SessionUse, read_session};
+use std::alloc::Global;
+use std::sync::Arc;
+use std::test::Fail;
+use tile_board::Board;
+use worked_scenes::tile_result;
+
+/// The cycles and the faces of a tile.
+type Solved = (&'static [i32], &'static [i64]);
+
+/// Side of the tiles, planes, the tiles' results, and the one answer: an offset for each region and a flow for each seam edge.
+/// By hand: a line whose second half lies a cycle lower; two light edges that give way to a heavy one (with the column
+/// unmoved the departures are 0, 0 and 1 and cost 9, a cycle lower they are -1, -1 and 0 and cost 8); a mask that separates a
+/// tile into two regions, which with that of the other tile lie 2, -3 and 5 cycles from a surface without departures; and the
+/// line where all is masked.
+const ROWS: [(u32, &[u8], &[Solved], &[i64], &[i64]); 4] = [
+    (
+        2,
+        b"P2 4 1 65535 0 40000 14464 54464",
+        &[(&[0, -1], &[]), (&[0, -1], &[])],
+        &[0, -1],
+        &[0],
+    ),
+    (
+        3,
+        b"P2 4 3 65535 0 0 0 0 0 0 0 20000 0 0 0 40000 P2 4 3 9 4 4 4 4 4 4 4 4 9 9 9 9",
+        &[
+            (&[0, 0, 0, 0, 0, 0, 0, 0, 0], &[0, 0, 0, 0]),
+            (&[0, 0, 0], &[]),
+        ],
+        &[0, -1],
+        &[-4, -4, 8],
+    ),
+    (
+        3,
+        b"P2 3 4 65535 0 20000 40000 10000 30000 50000 20000 40000 60000 30000 50000 4464 P2 3 4 1 1 1 1 1 1 1 1 1 1 1 1 1 P2 3 4 1 1 0 1 1 0 1 1 0 1 1 1 1",
+        &[
+            (&[2, 0, -3, 2, 0, -3, 2, 0, -3], &[0, 0, 0, 0]),
+            (&[5, 5, 6], &[]),
+        ],
+        &[-2, 3, -5],
+        &[0, 0, 0],
+    ),
+    (
+        2,
+        b"P2 4 1 65535 0 40000 14464 54464 P2 4 1 1 1 1 1 1 P2 4 1 1 0 0 0 0",
+        &[(&[0, 0], &[]), (&[0, 0], &[])],
+        &[],
+        &[0],
+    ),
+];
+
+/// The board of a session without scripts.
+fn board(alloc: Global, side: u32, planes: &[u8]) -> Result<Board, Fail>
+    requires { (2 ≤ side) × (side ≤ 128) }
+{
+    let mut source = MemorySource::new(planes.to_vec(alloc)?, 99, Vec::new(alloc));
+    let mut feed = Feed::new(alloc, &mut source, 268_435_456)?;
+    let session = read_session(alloc, &mut feed, SessionUse::Alone, side, RuleKind::Least)?;
+    Ok(Board::new(alloc, Arc::new(alloc, session)?)?)
+}
+
+#[test]
+fn regions_are_moved_where_their_seams_cost_least(rt: HostRuntime) -> Result<(), Fail> {
+    let alloc = rt.alloc();
+    for (side, planes, results, offsets, flows) in ROWS {
+        assert!(rt; 2 <= side && side <= 128);
+        let mut board = board(alloc, side, planes)?;
+        for (tile, (cycles, faces)) in (0u32..).zip(results) {
+            board.keep(alloc, tile_result(alloc, tile, 0, cycles, faces)?)?;
+        }
+        let seams = collect(alloc, &board.gather(alloc)?)?;
+        assert_eq!(rt; seams.offsets.as_slice(), offsets);
+        assert_eq!(rt; seams.flows.as_slice(), flows);
+    }
+    Ok(())
+}

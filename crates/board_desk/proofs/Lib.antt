@@ -1,2 +1,1 @@
 pub mod PassLemmas
-pub mod TestLemmas

@@ -5,8 +5,6 @@
 mod desk;
 mod pass;
 mod stamped;
-#[cfg(test)]
-mod tests;
 
 pub use crate::desk::Desk;
 pub use crate::pass::Pass;

@@ -11,6 +11,3 @@ mod top;
 mod words;
 
 pub use top::insar;
-
-#[cfg(test)]
-mod tests;

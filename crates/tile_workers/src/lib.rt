@@ -6,8 +6,6 @@ mod gate;
 mod scripts;
 mod settling;
 mod solving;
-#[cfg(test)]
-mod tests;
 
 pub use crate::gate::{Gate, OpenGate};
 pub use crate::scripts::run_scripts;

@@ -1,0 +1,73 @@
+use crate::running::{board, last_of};
+use board_desk::Desk;
+use std::test::Fail;
+use tile_board::{Advance, Entry, KeepFault};
+use worked_scenes::tile_result;
+
+/// A full turn whose first pixel is masked by one analyst and whose second by another.
+const TURN: &[u8] = b"P2 2 2 65535 0 16384 49152 32768
+analyst
+mask 0 0 0 0
+settle
+show
+analyst
+mask 1 0 1 0
+show
+end
+";
+
+/// A worker claims the tile, the analyst masks a pixel, and the worker's result comes too late.
+#[test]
+fn a_worker_hears_that_its_result_is_stale(rt: HostRuntime) -> Result<(), Fail> {
+    let alloc = rt.alloc();
+    let (desk, mut passes) = Desk::open(alloc, board(alloc, 64, TURN)?)?;
+    let _second = last_of(&rt, &mut passes, 2);
+    let mut analyst = last_of(&rt, &mut passes, 1);
+    let mut worker = desk.worker_pass(&rt, &mut analyst);
+    let claimed = desk.claim(&rt, alloc, &mut worker);
+    let ticket = claimed.answer?;
+    assert!(rt; claimed.front == 0 && ticket.tile == 0 && ticket.stamp == 0);
+    let advanced = desk.advance(&rt, alloc, &mut analyst);
+    assert!(rt; advanced.front == 1 && advanced.answer == Ok(Advance::Revised(1)));
+    let late = tile_result(alloc, 0, 0, &[0, 0, 0, 0], &[0])?;
+    let late = desk.keep(&rt, alloc, &mut worker, late);
+    assert!(rt; late.front == 1 && late.answer == Err(KeepFault::Stale(1)));
+    Ok(())
+}
+
+/// A worker of a pass keeps the tile at its stamp and is given back; then no tile is left, and the results are gathered.
+/// Masked, the raster has no departure, so that zeros are good.
+#[test]
+fn an_analyst_hears_of_its_worker(rt: HostRuntime) -> Result<(), Fail> {
+    let alloc = rt.alloc();
+    let (desk, mut passes) = Desk::open(alloc, board(alloc, 64, TURN)?)?;
+    let _second = last_of(&rt, &mut passes, 2);
+    let mut analyst = last_of(&rt, &mut passes, 1);
+    assert!(rt; desk.advance(&rt, alloc, &mut analyst).front == 1);
+    let mut worker = desk.worker_pass(&rt, &mut analyst);
+    let solved = tile_result(alloc, 0, 1, &[0, 0, 0, 0], &[0])?;
+    assert!(rt; desk.keep(&rt, alloc, &mut worker, solved).front == 2 && analyst.front() == 1);
+    desk.give_back(&rt, &mut analyst, worker);
+    assert!(rt; analyst.front() == 2 && analyst.done() == 1);
+    let gathered = desk.gather(&rt, alloc, &mut analyst).answer?;
+    assert!(rt; gathered.revision == 1);
+    Ok(())
+}
+
+/// A script ends for its own pass alone, and the board has what was done.
+#[test]
+fn a_pass_ends_where_its_script_does(rt: HostRuntime) -> Result<(), Fail> {
+    let alloc = rt.alloc();
+    let (desk, mut passes) = Desk::open(alloc, board(alloc, 64, TURN)?)?;
+    let mut two = last_of(&rt, &mut passes, 2);
+    let mut one = last_of(&rt, &mut passes, 1);
+    assert!(rt; desk.advance(&rt, alloc, &mut two).front == 1);
+    assert!(rt; desk.advance(&rt, alloc, &mut one).front == 2);
+    assert!(rt; desk.advance(&rt, alloc, &mut two).front == 3 && !two.ended());
+    assert!(rt; desk.advance(&rt, alloc, &mut two).answer == Ok(Advance::Ended));
+    assert!(rt; two.ended() && !one.ended() && two.done() == 2 && one.done() == 1);
+    let board = desk.close(&rt, vec![in alloc; one, two]?);
+    let entries = board.entries();
+    assert!(rt; entries.len() == 3 && matches!(entries[0], Entry::Revised { analyst: 2, .. }));
+    Ok(())
+}

@@ -1,0 +1,119 @@
+use crate::running::{NOTHING, lines_of, run};
+use std::alloc::{AllocError, Global};
+use std::test::Fail;
+use tile_workers::OpenGate;
+
+/// A raw phase plane of that width and height, which rises by 300 to the right and by 700 downwards, and scripts.
+fn slope(alloc: Global, width: u32, height: u32, scripts: &str) -> Result<Vec<u8>, AllocError> {
+    let mut bytes = Vec::new(alloc);
+    bytes.extend_from_slice(format!(in alloc; "P5\n{width} {height}\n65535\n")?.as_bytes())?;
+    for y in 0..height {
+        for x in 0..width {
+            let value = (300 * u64::from(x) + 700 * u64::from(y)) % 65536;
+            bytes.extend_from_slice(&(value as u16).to_be_bytes())?;
+        }
+    }
+    bytes.extend_from_slice(scripts.as_bytes())?;
+    Ok(bytes)
+}
+
+/// The grid of a slope of 1024 by 1024 from its size on: it is its own surface.
+fn grid(alloc: Global) -> Result<String, AllocError> {
+    let mut text = String::new(alloc);
+    text.push_str(
+        "\npublished 1 0\ncosts 0 0\nncols 1024\nnrows 1024\nxllcorner 0\nyllcorner 0\ncellsize 1\nNODATA_value -9223372036854775808\n",
+    )?;
+    for y in 0..1024u64 {
+        for x in 0..1024u64 {
+            let value = 300 * x + 700 * y;
+            let end = if x == 1023 { "\n" } else { " " };
+            text.push_str(format!(in alloc; "{value}{end}")?.as_str())?;
+        }
+    }
+    Ok(text)
+}
+
+/// A slope of 1024 by 1024 pixels. Before its grid stand the lines of 256 kept tiles, in any order.
+#[test]
+fn a_large_slope_is_unwrapped(rt: HostRuntime) -> Result<(), Fail> {
+    let bytes = slope(rt.alloc(), 1024, 1024, "")?;
+    let done = run(&rt, "unwrap", &bytes, 65536, &NOTHING, &OpenGate)?;
+    assert!(rt; done.status == 0 && lines_of(&done.text, "kept ") == 256);
+    let grid = grid(rt.alloc())?;
+    assert!(rt; done.text.split_once(grid.as_str()).is_some());
+    Ok(())
+}
+
+/// Two analysts with ten edits and five settle commands each.
+const SCRIPTS: &str = "\
+analyst
+mask 0 9 200 99
+unmask 0 9 0 60
+settle
+mask 40 9 200 99
+unmask 40 9 40 60
+settle
+mask 80 9 200 99
+unmask 80 9 80 60
+settle
+mask 120 9 200 99
+unmask 120 9 120 60
+settle
+mask 160 9 200 99
+unmask 160 9 160 60
+settle
+show
+analyst
+mask 1 9 200 99
+unmask 1 9 1 60
+settle
+mask 41 9 200 99
+unmask 41 9 41 60
+settle
+mask 81 9 200 99
+unmask 81 9 81 60
+settle
+mask 121 9 200 99
+unmask 121 9 121 60
+settle
+mask 161 9 200 99
+unmask 161 9 161 60
+settle
+show
+end
+";
+
+/// Their session on a raster of 256 by 256.
+#[test]
+fn two_analysts_finish_a_session(rt: HostRuntime) -> Result<(), Fail> {
+    let bytes = slope(rt.alloc(), 256, 256, SCRIPTS)?;
+    let done = run(&rt, "unwrap", &bytes, 65536, &NOTHING, &OpenGate)?;
+    assert!(rt; done.status == 0 && done.text.ends_with(" 20\nend\n"));
+    assert!(rt; lines_of(&done.text, "revised ") == 20 && lines_of(&done.text, "shown ") == 2);
+    let published = lines_of(&done.text, "published ");
+    assert!(rt; published.saturating_add(lines_of(&done.text, "settled ")) == 10);
+    Ok(())
+}
+
+/// 17 settle commands, and 17 edits.
+const LIMITS: [(&str, &str); 2] = [
+    (
+        "analyst\nsettle\nsettle\nsettle\nsettle\nsettle\nsettle\nsettle\nsettle\nsettle\nsettle\nsettle\nsettle\nsettle\nsettle\nsettle\nsettle\nsettle\n",
+        "input fault 13 settles line 18\n",
+    ),
+    (
+        "analyst\nmask 0 0 0 0\nmask 0 0 0 0\nmask 0 0 0 0\nmask 0 0 0 0\nmask 0 0 0 0\nmask 0 0 0 0\nmask 0 0 0 0\nmask 0 0 0 0\nmask 0 0 0 0\nmask 0 0 0 0\nmask 0 0 0 0\nmask 0 0 0 0\nmask 0 0 0 0\nmask 0 0 0 0\nmask 0 0 0 0\nmask 0 0 0 0\nmask 0 0 0 0\n",
+        "input fault 16 edits line 18\n",
+    ),
+];
+
+/// With so many commands 4096 by 1024 pixels, in tiles of the side 2, are too many.
+#[test]
+fn limits_are_told_with_their_lines(rt: HostRuntime) -> Result<(), Fail> {
+    for (script, line) in LIMITS {
+        let bytes = slope(rt.alloc(), 4096, 1024, script)?;
+        let done = run(&rt, "unwrap --tile 2", &bytes, 65536, &NOTHING, &OpenGate)?;
+        assert!(rt; done.status == 3 && done.line.as_str() == line);
+    }
+    Ok(())
+}

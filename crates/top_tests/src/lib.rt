@@ -1,0 +1,15 @@
+//! Whole runs: the top call over bytes in memory, and the desk and the workers below it.
+#![tactic(auto)]
+
+#[cfg(test)]
+mod desk_rows;
+#[cfg(test)]
+mod gate_rows;
+#[cfg(test)]
+mod large_rows;
+#[cfg(test)]
+mod running;
+#[cfg(test)]
+mod top_rows;
+#[cfg(test)]
+mod worker_rows;

@@ -1,0 +1,88 @@
+ghost use Rattle.std.specs.Prelude.{◌≡◌, ◌≢◌, ◌≤◌, [], IfOk, None};
+
+use board_desk::Pass;
+use insar_ports::{Feed, MemorySink, MemorySource};
+use insar_top::insar;
+use raster_model::RuleKind;
+use session_script::{SessionUse, read_session};
+use std::alloc::Global;
+use std::process::Abort;
+use std::sync::{Arc, Wait};
+use std::test::Fail;
+use std::thread::Threads;
+use tile_board::Board;
+use tile_workers::Gate;
+
+/// Which calls of the source, of the sink and of `diag` fail, by their numbers from 1.
+#[derive(Drop)]
+pub struct Failing<'a> {
+    pub takes: &'a [u32],
+    pub puts: &'a [u32],
+    pub lines: &'a [u32],
+}
+
+/// No call fails.
+pub const NOTHING: Failing<'static> = Failing {
+    takes: &[],
+    puts: &[],
+    lines: &[],
+};
+
+/// How a run ended: its status, what the sink gained and what `diag` gained.
+#[derive(Drop)]
+pub struct Ended {
+    pub status: u8,
+    pub text: String,
+    pub line: String,
+}
+
+/// The words, parted by single spaces, over the bytes. The source and the sink take `piece` bytes a call, and the sink has
+/// room for 512 pieces.
+pub fn run<R: Alloc<A = Global> + Threads + Wait + Sync, G: Gate>(
+    rt: &R,
+    words: &str,
+    bytes: &[u8],
+    piece: usize,
+    failing: &Failing,
+    gate: &G,
+) -> Result<Ended, Fail>
+    requires { (1 ≤ piece) × (piece ≤ 65536) }
+{
+    let alloc = rt.alloc();
+    let words: Vec<&str> = words.split(' ').collect(alloc)?;
+    let takes = failing.takes.to_vec(alloc)?;
+    let mut source = MemorySource::new(bytes.to_vec(alloc)?, piece, takes);
+    let mut sink = MemorySink::new(alloc, piece * 512, piece, failing.puts.to_vec(alloc)?)?;
+    let mut diag = MemorySink::new(alloc, 99, 1, failing.lines.to_vec(alloc)?)?;
+    let status = insar(rt, alloc, &words, &mut source, &mut sink, &mut diag, gate);
+    Ok(Ended {
+        status,
+        text: String::from_utf8(sink.bytes().to_vec(alloc)?)?,
+        line: String::from_utf8(diag.bytes().to_vec(alloc)?)?,
+    })
+}
+
+/// The board of a session in bytes, by the rule least.
+pub fn board(alloc: Global, side: u32, bytes: &[u8]) -> Result<Board, Fail>
+    requires { (2 ≤ side) × (side ≤ 128) }
+    ensures { IfOk result (λ board. board.entries ≡ []) }
+{
+    let mut source = MemorySource::new(bytes.to_vec(alloc)?, 99, Vec::new(alloc));
+    let mut feed = Feed::new(alloc, &mut source, 268_435_456)?;
+    let session = read_session(alloc, &mut feed, SessionUse::Alone, side, RuleKind::Least)?;
+    Ok(Board::new(alloc, Arc::new(alloc, session)?)?)
+}
+
+/// How many lines begin so.
+pub fn lines_of(text: &str, start: &str) -> usize {
+    text.lines().filter(|line| line.starts_with(start)).count()
+}
+
+/// The last of the passes, which is this analyst's.
+pub fn last_of(rt: &impl Abort, passes: &mut Vec<Pass>, analyst: u32) -> Pass
+    ensures { result.analyst ≢ None }
+{
+    let pass = passes.pop().expect(rt, "a pass for each analyst");
+    assert!(rt; pass.analyst() == Some(analyst));
+    pass
+}

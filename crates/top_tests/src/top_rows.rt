@@ -1,0 +1,214 @@
+use crate::running::{Ended, Failing, NOTHING, run};
+use std::alloc::{AllocError, Global};
+use std::process::Abort;
+use std::sync::Wait;
+use std::test::Fail;
+use std::thread::Threads;
+use tile_workers::OpenGate;
+
+/// A row has four fields: words, bytes, status, and what is written, which is the report at status 0 and else the line to
+/// `diag`. In a field `;` is LF, `.` is the byte 0, `~` is the NODATA value, `%` stands for the four lines of a grid between
+/// its size and its rows, and `!` for the head of a report up to its size. In a report `*` is any text, and `/` parts two
+/// reports of which either may come. All values were computed by hand.
+const ROWS: &str = "\
+-- Lines, which have no cell: a commented header, a wrap, the exact half cycle, one pixel.
+unwrap|P5;# by hand;2 1;65535;....|0|!2 1;tile 64;rule least;kept 0 0;published 1 0;costs 0 0;ncols 2;nrows 1;%0 0;faces 0;flows;shown 1 0;end;
+unwrap|P2 2 1 65535 50000 10000|0|!2 1;tile 64;rule least;kept 0 0;published 1 0;costs 0 0;ncols 2;nrows 1;%50000 75536;faces 0;flows;shown 1 0;end;
+unwrap|P2 2 1 65535 0 32768|0|!2 1;tile 64;rule least;kept 0 0;published 1 0;costs 0 0;ncols 2;nrows 1;%0 -32768;faces 0;flows;shown 1 0;end;
+unwrap|P2 1 1 65535 65535|0|!1 1;tile 64;rule least;kept 0 0;published 1 0;costs 0 0;ncols 1;nrows 1;%65535;faces 0;flows;shown 1 0;end;
+-- A square without a residue.
+unwrap|P2 2 2 65535 0 20000 40000 60000|0|!2 2;tile 64;rule least;kept 0 0;published 1 0;costs 0 0;ncols 2;nrows 2;%0 20000;-25536 -5536;faces 0 *;flows;shown 1 0;end;
+-- A full turn whose edges weigh 5 (top), 5 (right), 3 (bottom) and 3 (left), under masks. The face times the residue 1
+-- is the cost.
+unwrap|P2 2 2 65535 0 16384 49152 32768 P2 2 2 9 5 5 3 9|0|!2 2;tile 64;rule least;kept 0 0;published 1 0;costs 3 0;ncols 2;nrows 2;%0 16384;-16384 32768;faces 0 3;flows;shown 1 0;end;/!2 2;tile 64;rule least;kept 0 0;published 1 0;costs 3 0;ncols 2;nrows 2;%0 16384;49152 32768;faces 0 3;flows;shown 1 0;end;
+unwrap|P2 2 2 65535 0 16384 49152 32768 P2 2 2 9 5 5 3 9 P2 2 2 1 0 1 1 1|0|!2 2;tile 64;rule least;kept 0 0;published 1 0;costs 0 0;ncols 2;nrows 2;%~ 16384;49152 32768;faces 0 0;flows;shown 1 0;end;
+unwrap|P2 2 2 65535 0 16384 49152 32768 P2 2 2 9 5 5 3 9 P5;2 2;1;....|0|!2 2;tile 64;rule least;kept 0 0;published 1 0;costs 0 0;ncols 2;nrows 2;%~ ~;~ ~;faces 0 0;flows;shown 1 0;end;
+-- By each rule a turn is cut at another edge: with the weights 2 9 / 8 4 the edges top, right, bottom and left have the
+-- least 2 4 4 2, the means 5 6 6 5, and the products over the maxval 9 of 2 4 3 1.
+unwrap --rule least|P2 2 2 65535 0 16384 49152 32768 P2 2 2 9 2 9 8 4|0|!2 2;tile 64;rule least;*costs 2 0;*%0 16384;49152 32768;faces 0 2;*/!2 2;tile 64;rule least;*costs 2 0;*%0 -49152;-16384 -32768;faces 0 2;*
+unwrap --workers 8 --rule mean --tile 2|P2 2 2 65535 0 16384 49152 32768 P2 2 2 9 2 9 8 4|0|!2 2;tile 2;rule mean;*costs 5 0;*%0 16384;49152 32768;faces 0 5;*/!2 2;tile 2;rule mean;*costs 5 0;*%0 -49152;-16384 -32768;faces 0 5;*
+unwrap --tile 128 --rule product --workers 1|P2 2 2 65535 0 16384 49152 32768 P2 2 2 9 2 9 8 4|0|!2 2;tile 128;rule product;*costs 1 0;*%0 16384;49152 32768;faces 0 1;*
+-- Two tiles, of which the second lies a cycle lower than by itself; two light edges of a seam that give way to a heavy
+-- one; a mask that separates a tile into two regions.
+unwrap --tile 2|P2 4 1 65535 0 40000 14464 54464|0|!4 1;tile 2;rule least;kept * 0;kept * 0;published 1 0;costs 0 0;ncols 4;nrows 1;%0 -25536 -51072 -76608;faces 0;faces 1;flows 0;shown 1 0;end;
+unwrap --tile 3|P2 4 3 65535 0 0 0 0 0 0 0 20000 0 0 0 40000 P2 4 3 9 4 4 4 4 4 4 4 4 9 9 9 9|0|!4 3;tile 3;rule least;kept * 0;kept * 0;published 1 0;costs 0 8;ncols 4;nrows 3;%0 0 0 -65536;0 0 0 -45536;0 0 0 -25536;faces 0 *;faces 1;flows -4 -4 8;shown 1 0;end;
+unwrap --tile 3|P2 3 4 65535 0 20000 40000 10000 30000 50000 20000 40000 60000 30000 50000 4464 P2 3 4 1 1 1 1 1 1 1 1 1 1 1 1 1 P2 3 4 1 1 0 1 1 0 1 1 0 1 1 1 1|0|!3 4;tile 3;rule least;kept * 0;kept * 0;published 1 0;costs 0 0;ncols 3;nrows 4;%0 ~ 40000;10000 ~ 50000;20000 ~ 60000;30000 50000 70000;faces 0 *;faces 1;flows *;shown 1 0;end;
+-- Scripts: a look, two settle commands and a look; an edit that changes no pixel; an edit of a turn; a look alone,
+-- where nothing is solved.
+unwrap|P2 4 1 65535 0 20000 40000 60000;analyst;show;settle;settle;show;end;|0|!4 1;tile 64;rule least;shown 1 none;kept 0 0;published 1 0;costs 0 0;ncols 4;nrows 1;%0 20000 40000 60000;faces 0;flows;settled 1 0;shown 1 0;end;
+unwrap|P2 4 1 65535 0 20000 40000 60000;analyst;settle;unmask 0 0 0 0;settle;show;end;|0|!4 1;tile 64;rule least;kept 0 0;published 1 0;costs 0 0;ncols 4;nrows 1;%0 20000 40000 60000;faces 0;flows;revised 1 unmask 0 0 0 0;published 1 1;costs 0 0;ncols 4;nrows 1;%0 20000 40000 60000;faces 0;flows;shown 1 1;end;
+unwrap|P2 2 2 65535 0 16384 49152 32768;analyst;mask 0 0 0 0;settle;show;end;|0|!2 2;tile 64;rule least;revised 1 mask 0 0 0 0;kept 0 1;published 1 1;costs 0 0;ncols 2;nrows 2;%~ 16384;49152 32768;faces 0 0;flows;shown 1 1;end;
+unwrap|P2 4 1 65535 0 20000 40000 60000;analyst;show;analyst;end;|0|!4 1;tile 64;rule least;shown 1 none;end;
+-- The first break of a session, by its number and place.
+unwrap||3|input fault 1 magic phase;
+unwrap|P3;|3|input fault 1 magic phase;
+unwrap|P2 1 1 65535 0#|3|input fault 2 form phase byte 14;
+unwrap|P2 1 1 65535 0 P5 1 1 0 |3|input fault 2 form weight byte 22;
+unwrap|P5;4097 1;65535;|3|input fault 3 size phase 4097 1;
+unwrap|P5;4096 1025;65535;|3|input fault 3 size phase 4096 1025;
+unwrap|P5;2 1;65534;|3|input fault 4 maxval 65534;
+unwrap|P2;2 1;65535;0 70000;|3|input fault 5 sample phase index 1 value 70000;
+unwrap|P2 1 1 65535 0 P2 1 1 9 10|3|input fault 5 sample weight index 0 value 10;
+unwrap|P5;2 1;65535;...|3|input fault 6 short phase samples 1;
+unwrap|P2 1 1 65535 0 P2 1 1 9 1 P5 1 1 1 |3|input fault 6 short mask samples 0;
+unwrap|P2 1 1 65535 0 P2 2 1 9 1 1|3|input fault 8 sizes weight;
+unwrap|P2 1 1 65535 0 P2 1 1 9 1 P2 1 2 1 1 1|3|input fault 8 sizes mask;
+unwrap|P2 1 1 65535 0 P2 1 1 9 1 P2 1 1 1 1 P;|3|input fault 9 line 1;
+unwrap|P2 4 1 65535 0 20000 40000 60000;analyst;settel;|3|input fault 9 line 2;
+unwrap|P2 4 1 65535 0 20000 40000 60000;settle;|3|input fault 9 line 1;
+unwrap|P2 4 1 65535 0 20000 40000 60000;analyst;mask 0 0 4 0;|3|input fault 10 outside line 2;
+unwrap|P2 4 1 65535 0 20000 40000 60000;analyst;unmask 2 0 1 0;|3|input fault 10 outside line 2;
+unwrap|P2 1 1 65535 0;analyst;analyst;analyst;analyst;analyst;analyst;analyst;analyst;analyst;|3|input fault 11 analysts line 9;
+unwrap|P2 4 1 65535 0 20000 40000 60000;analyst;settle;|3|input fault 14 no end;
+unwrap|P5;2 1;65535;....end;x|3|input fault 15 after end byte 21;
+-- Words that are no command, judged before the source.
+||2|words refused;
+grid||2|words refused;
+--tile 2 unwrap||2|words refused;
+unwrap --rule||2|words refused;
+unwrap --rule max||2|words refused;
+unwrap --rule mean x||2|words refused;
+unwrap --rule mean --rule mean||2|words refused;
+unwrap --tile 1||2|words refused;
+unwrap --tile 129||2|words refused;
+unwrap --tile 02||2|words refused;
+unwrap --tile +2||2|words refused;
+unwrap --tile --workers 2||2|words refused;
+unwrap --workers 0||2|words refused;
+unwrap --workers 9||2|words refused;
+unwrap --workers 02||2|words refused;
+unwrap --workers 2 --tile||2|words refused;
+unwrap --workers 2 --rule mean --workers 3||2|words refused;
+unwrap --rule mean --tile 2 --workers||2|words refused;
+";
+
+/// What a text of the table stands for.
+fn spelled(alloc: Global, text: &str) -> Result<String, AllocError> {
+    let mut whole = String::new(alloc);
+    for letter in text.chars() {
+        match letter {
+            ';' => whole.push('\n')?,
+            '.' => whole.push('\0')?,
+            '~' => whole.push_str("-9223372036854775808")?,
+            '%' => whole.push_str(
+                "xllcorner 0\nyllcorner 0\ncellsize 1\nNODATA_value -9223372036854775808\n",
+            )?,
+            '!' => whole.push_str("insar-report 1\nsize ")?,
+            _ => whole.push(letter)?,
+        }
+    }
+    Ok(whole)
+}
+
+/// Whether a text is the pieces of a pattern, with any text at each `*`.
+fn is_of(text: &str, pattern: &str) -> bool {
+    let mut rest = text;
+    for (place, piece) in pattern.split('*').enumerate() {
+        match rest.split_once(piece) {
+            Some((before, after)) if place > 0 || before.is_empty() => rest = after,
+            _ => return false,
+        }
+    }
+    rest.is_empty() || pattern.ends_with('*')
+}
+
+/// Whether a text is of one of the patterns.
+fn is_one_of(text: &str, patterns: &str) -> bool {
+    for pattern in patterns.split('/') {
+        if is_of(text, pattern) {
+            return true;
+        }
+    }
+    false
+}
+
+/// Runs a row, where the line has one: then its words and bytes give its status and what it writes.
+fn judge<R: Alloc<A = Global> + Threads + Wait + Sync + Abort>(
+    rt: &R,
+    row: &str,
+) -> Result<u32, Fail> {
+    let mut fields = row.split('|');
+    let (Some(words), Some(input), Some(status), Some(written)) = (
+        fields.next(),
+        fields.next(),
+        fields.next(),
+        fields.next(),
+    ) else {
+        return Ok(0);
+    };
+    let bytes = spelled(rt.alloc(), input)?;
+    let done = run(rt, words, bytes.as_bytes(), 7, &NOTHING, &OpenGate)?;
+    assert!(rt; done.status == status.parse::<u8>()?, "{row}");
+    let written = spelled(rt.alloc(), written)?;
+    let good = if done.status == 0 {
+        done.line.is_empty() && is_one_of(&done.text, &written)
+    } else {
+        done.text.is_empty() && done.line.as_str() == written.as_str()
+    };
+    assert!(rt; good, "{row}");
+    Ok(1)
+}
+
+#[test]
+fn rows_are_answered(rt: HostRuntime) -> Result<(), Fail> {
+    let mut count = 0u32;
+    for row in ROWS.lines() {
+        count = count.saturating_add(judge(&rt, row)?);
+    }
+    assert!(rt; count == 57);
+    Ok(())
+}
+
+/// A raw line of the phases 0, 20000, 40000 and 60000.
+const LINE: &[u8] = b"P5\n4 1\n65535\n\x00\x00\x4e\x20\x9c\x40\xea\x60";
+
+/// Its report.
+const REPORT: &str =
+    "!4 1;tile 64;rule least;kept 0 0;published 1 0;costs 0 0;ncols 4;nrows 1;%0 20000 40000 60000;faces 0;flows;shown 1 0;end;";
+
+/// Its length in bytes.
+const REPORT_LENGTH: u32 = 209;
+
+/// How the line is refused where calls fail.
+fn refused<R: Alloc<A = Global> + Threads + Wait + Sync>(
+    rt: &R,
+    takes: &[u32],
+    puts: &[u32],
+    lines: &[u32],
+) -> Result<Ended, Fail> {
+    let failing = Failing { takes, puts, lines };
+    run(rt, "unwrap", LINE, 1, &failing, &OpenGate)
+}
+
+/// Each call of the source failing in turn: 21 for the bytes and one for the end of the input.
+#[test]
+fn each_failing_read_is_told(rt: HostRuntime) -> Result<(), Fail> {
+    for call in 1..23 {
+        let done = refused(&rt, &[call], &[], &[])?;
+        assert!(rt; done.status == 5 && done.line.as_str() == "read fault\n");
+        assert!(rt; done.text.is_empty());
+    }
+    Ok(())
+}
+
+/// Each put of the sink failing in turn, byte for byte: what was written before it is there.
+#[test]
+fn each_failing_write_is_told(rt: HostRuntime) -> Result<(), Fail> {
+    let report = spelled(rt.alloc(), REPORT)?;
+    for call in 1..REPORT_LENGTH + 1 {
+        let done = refused(&rt, &[], &[call], &[])?;
+        assert!(rt; done.status == 6 && done.line.as_str() == "write fault\n");
+        assert!(rt; done.text.len() < call as usize && report.starts_with(done.text.as_str()));
+    }
+    let whole = refused(&rt, &[], &[REPORT_LENGTH + 1], &[])?;
+    assert!(rt; whole.status == 0 && whole.text.as_str() == report.as_str());
+    Ok(())
+}
+
+/// A `diag` that fails changes neither a status nor the sink.
+#[test]
+fn a_failing_line_changes_nothing(rt: HostRuntime) -> Result<(), Fail> {
+    let done = refused(&rt, &[], &[2], &[1])?;
+    assert!(rt; done.status == 6 && done.line.is_empty() && done.text.as_str() == "i");
+    Ok(())
+}

@@ -11,8 +11,6 @@ mod seam_costs;
 mod seam_edges;
 mod seam_flows;
 mod seams;
-#[cfg(test)]
-mod tests;
 mod tile;
 mod tile_ends;
 mod tile_set;

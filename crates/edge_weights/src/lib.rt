@@ -2,7 +2,5 @@
 #![tactic(auto)]
 
 mod rule;
-#[cfg(test)]
-mod tests;
 
 pub use rule::WeightRule;

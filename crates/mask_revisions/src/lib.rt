@@ -6,7 +6,5 @@ mod changes;
 mod edits;
 pub mod laws;
 mod revisions;
-#[cfg(test)]
-mod tests;
 
 pub use crate::revisions::Revisions;

@@ -14,8 +14,6 @@ mod plane;
 mod scene;
 mod script;
 mod session;
-#[cfg(test)]
-mod tests;
 mod tiling;
 mod weights;
 

@@ -7,8 +7,6 @@ mod flood;
 mod forest;
 mod numbers;
 mod regions;
-#[cfg(test)]
-mod tests;
 
 pub use crate::columns::next_left;
 pub use crate::regions::Regions;

@@ -3,7 +3,5 @@
 #![tactic(auto)]
 
 mod cycles;
-#[cfg(test)]
-mod tests;
 
 pub use crate::cycles::integrate;

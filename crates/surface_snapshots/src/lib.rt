@@ -11,8 +11,6 @@ mod levels;
 mod offsets;
 mod shifted;
 mod snapshot;
-#[cfg(test)]
-mod tests;
 
 pub use crate::fault::BuildFault;
 pub use crate::snapshot::Snapshot;

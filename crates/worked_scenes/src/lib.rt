@@ -1,5 +1,9 @@
 //! Small scenes, masks and results by hand, from which the tests of other crates begin.
 #![tactic(auto)]
+<<<<<<< HEAD
+=======
+
+>>>>>>> 62aef43 (raster_tests: the tests of eight lower crates stand over them, so that each is proved once; fewer edits)
 ghost use Rattle.std.specs.Prelude.{◌≡◌, IfOk};
 
 use certificates::TileResult;
@@ -90,3 +94,19 @@ pub fn tile_result(
         faces: faces.iter().copied().collect(alloc)?,
     })
 }
+<<<<<<< HEAD
+=======
+
+/// A row gave something else than it should.
+#[derive(Clone, Copy, Debug)]
+pub struct Differs(pub &'static str);
+
+/// Refuses a row that did not give what it should.
+pub fn same<T: PartialEq + Drop>(row: &'static str, found: T, wanted: T) -> Result<(), Differs> {
+    if found == wanted {
+        Ok(())
+    } else {
+        Err(Differs(row))
+    }
+}
+>>>>>>> 62aef43 (raster_tests: the tests of eight lower crates stand over them, so that each is proved once; fewer edits)

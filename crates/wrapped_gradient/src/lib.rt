@@ -4,8 +4,6 @@
 
 mod corrections;
 mod gradients;
-#[cfg(test)]
-mod tests;
 
 pub use crate::corrections::Corrections;
 pub use crate::gradients::Gradients;

@@ -1,0 +1,54 @@
+use raster_model::{Tiling, Window};
+use std::test::Fail;
+use worked_scenes::{same, scene};
+use wrapped_gradient::Gradients;
+
+/// The four quarter turns of `0 16384 / 49152 32768`, by hand.
+#[test]
+fn a_full_turn_is_a_residue(rt: HostRuntime) -> Result<(), Fail> {
+    let tiling = Tiling::new(2, 2, 2);
+    let scene = scene(rt.alloc(), tiling, 1, &[0, 16384, 49152, 32768], &[1; 4])?;
+    let window = Window {
+        x0: 0,
+        y0: 0,
+        x1: 1,
+        y1: 1,
+    };
+    let gradients = Gradients::of(rt.alloc(), &scene, window)?;
+    let (top, bottom) = (gradients.right(0, 0), gradients.right(0, 1));
+    let (left, right) = (gradients.down(0, 0), gradients.down(1, 0));
+    same(
+        "quarters",
+        [top, right, bottom, left],
+        [16384, 16384, -16384, -16384],
+    )?;
+    let residues = (gradients.residue(0, 0), gradients.first_residue());
+    same("residue", residues, (1, Some((0, 0))))?;
+    Ok(())
+}
+
+/// A turn the other way round the cell at (2, 0), and no other residue.
+#[test]
+fn counts_places_in_the_raster(rt: HostRuntime) -> Result<(), Fail> {
+    let phases = [0, 0, 0, 49152, 0, 0, 16384, 32768, 0, 0, 0, 0];
+    let scene = scene(rt.alloc(), Tiling::new(4, 3, 2), 1, &phases, &[1; 12])?;
+    let right = Window {
+        x0: 1,
+        y0: 0,
+        x1: 3,
+        y1: 2,
+    };
+    let gradients = Gradients::of(rt.alloc(), &scene, right)?;
+    let residues = (gradients.residue(2, 0), gradients.first_residue());
+    same("right window", residues, (-1, Some((2, 0))))?;
+    let lower = Window {
+        x0: 0,
+        y0: 1,
+        x1: 3,
+        y1: 2,
+    };
+    let gradients = Gradients::of(rt.alloc(), &scene, lower)?;
+    let half_cycle = (gradients.down(3, 1), gradients.first_residue());
+    same("lower window", half_cycle, (-32768, None))?;
+    Ok(())
+}

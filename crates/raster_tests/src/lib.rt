@@ -1,0 +1,19 @@
+//! Worked rows of the crates that hold rasters, masks, regions, certificates and surfaces.
+#![tactic(auto)]
+
+#[cfg(test)]
+mod certificate_rows;
+#[cfg(test)]
+mod gradient_rows;
+#[cfg(test)]
+mod integration_rows;
+#[cfg(test)]
+mod mask_rows;
+#[cfg(test)]
+mod raster_rows;
+#[cfg(test)]
+mod region_rows;
+#[cfg(test)]
+mod snapshot_rows;
+#[cfg(test)]
+mod weight_rows;

@@ -1,0 +1,185 @@
+ghost use Rattle.std.specs.Prelude.{◌&&◌, if◌then◌else◌, nat_le, pos, true};
+
+use raster_model::{
+    Edge, Heights, Mask, Plane, PlaneShape, Rect, Tiling, Window, departure, plain, turns, weight,
+    wrapped,
+};
+use std::test::Fail;
+use worked_scenes::{plane, same, scene};
+
+/// The phase, raised by whole cycles in a box.
+#[derive(Drop)]
+struct Raised {
+    rect: Rect,
+    cycles: i8,
+}
+
+impl Heights for Raised {
+    ghost knows = { λ _ _ _. true };
+
+    ghost cycles_at = { λ s x y. if nat_le s.rect.x0 x && nat_le x s.rect.x1 && nat_le s.rect.y0 y && nat_le y s.rect.y1 then s.cycles else pos 0 };
+
+    fn cycles(&self, x: u32, y: u32) -> i64 {
+        let rect = self.rect;
+        if rect.x0 <= x && x <= rect.x1 && rect.y0 <= y && y <= rect.y1 {
+            i64::from(self.cycles)
+        } else {
+            0
+        }
+    }
+}
+
+#[test]
+fn tells_the_first_reason_why_there_is_no_plane(rt: HostRuntime) -> Result<(), Fail> {
+    let cases = [
+        (0, 0, 0, Some(PlaneShape::Size)),
+        (4097, 1, 9, Some(PlaneShape::Size)),
+        (4096, 1025, 9, Some(PlaneShape::Size)),
+        (1, 0, 9, Some(PlaneShape::Size)),
+        (2, 2, 0, Some(PlaneShape::Maxval)),
+        (2, 2, 6, Some(PlaneShape::Count(3))),
+        (2, 1, 6, Some(PlaneShape::Count(3))),
+        (3, 1, 6, Some(PlaneShape::Above(1))),
+        (1, 3, 7, Some(PlaneShape::Above(2))),
+        (3, 1, 8, None),
+    ];
+    for (width, height, maxval, reason) in cases {
+        let samples = vec![in rt.alloc(); 5, 7, 8]?;
+        same(
+            "plane",
+            Plane::new(width, height, maxval, samples).err(),
+            reason,
+        )?;
+    }
+    Ok(())
+}
+
+#[test]
+fn wraps_a_half_cycle_down(_rt: HostRuntime) -> Result<(), Fail> {
+    let cases = [
+        (50000, 10000, 25536, -1),
+        (0, 32767, 32767, 0),
+        (0, 32768, -32768, 1),
+        (32768, 0, -32768, 0),
+        (0, 65535, -1, 1),
+    ];
+    for (a, b, difference, cycles) in cases {
+        same("pair", (wrapped(a, b), turns(a, b)), (difference, cycles))?;
+    }
+    Ok(())
+}
+
+/// The pixels `0 1 / 9 0`, of which the first is opened and the second masked.
+#[test]
+fn masks_are_zero_samples(rt: HostRuntime) -> Result<(), Fail> {
+    let plane = plane(rt.alloc(), &Tiling::new(2, 2, 2), 9, &[0, 1, 9, 0])?;
+    let mut mask = Mask::of_plane(rt.alloc(), &plane)?;
+    let first = mask.try_copy()?;
+    assert!(rt;
+        mask.width() == 2 && mask.height() == 2 && first.width() == 2 && first.height() == 2
+    );
+    mask.set(0, 0, true);
+    mask.set(1, 0, false);
+    let upper = (
+        first.is_open(0, 0),
+        first.is_open(1, 0),
+        mask.is_open(0, 0),
+        mask.is_open(1, 0),
+    );
+    same("upper row", upper, (false, true, true, false))?;
+    let lower = (
+        first.is_open(0, 1),
+        first.is_open(1, 1),
+        mask.is_open(0, 1),
+        mask.is_open(1, 1),
+    );
+    same("lower row", lower, (true, false, true, false))?;
+    Ok(())
+}
+
+#[test]
+fn numbers_tiles_row_by_row(_rt: HostRuntime) -> Result<(), Fail> {
+    let tiling = Tiling::new(7, 5, 3);
+    let upper = [
+        tiling.tile_of(0, 0),
+        tiling.tile_of(3, 2),
+        tiling.tile_of(6, 2),
+    ];
+    same("upper tiles", upper, [0, 1, 2])?;
+    let lower = [
+        tiling.tile_of(2, 3),
+        tiling.tile_of(6, 4),
+        tiling.tile_count(),
+    ];
+    same("lower tiles", lower, [3, 5, 6])?;
+    let last = Window {
+        x0: 6,
+        y0: 3,
+        x1: 6,
+        y1: 4,
+    };
+    same("last window", tiling.window(5), last)?;
+    Ok(())
+}
+
+/// The weights `5 5 / 3 9`, and a surface whose third pixel lies one cycle lower.
+#[test]
+fn a_residue_costs_its_lightest_edge(rt: HostRuntime) -> Result<(), Fail> {
+    let tiling = Tiling::new(2, 2, 128);
+    let scene = scene(
+        rt.alloc(),
+        tiling,
+        9,
+        &[0, 16384, 49152, 32768],
+        &[5, 5, 3, 9],
+    )?;
+    let mask = Mask::all_open(rt.alloc(), 2, 2)?;
+    let rect = Rect {
+        x0: 0,
+        y0: 1,
+        x1: 0,
+        y1: 1,
+    };
+    let heights = Raised { rect, cycles: -1 };
+    let costs = (
+        plain::tile_cost(&scene, &mask, &heights, 0),
+        plain::seam_cost(&scene, &mask, &heights),
+    );
+    same("costs", costs, (3, 0))?;
+    let bottom = Edge {
+        x: 0,
+        y: 1,
+        down: false,
+    };
+    let numbers = (
+        plain::residue(&scene, 0, 0),
+        plain::gradient(&scene, bottom),
+    );
+    same("cell", numbers, (1, -16384))?;
+    let numbers = (
+        weight(&scene, &mask, bottom),
+        departure(&scene, &heights, bottom),
+    );
+    same("bottom", numbers, (3, 1))?;
+    Ok(())
+}
+
+#[test]
+fn a_tile_one_cycle_lower_costs_less(rt: HostRuntime) -> Result<(), Fail> {
+    let tiling = Tiling::new(4, 3, 3);
+    let phases = [0, 0, 0, 0, 0, 0, 0, 20000, 0, 0, 0, 40000];
+    let weights = [4, 4, 4, 4, 4, 4, 4, 4, 9, 9, 9, 9];
+    let scene = scene(rt.alloc(), tiling, 9, &phases, &weights)?;
+    let mask = Mask::all_open(rt.alloc(), 4, 3)?;
+    for (cycles, cost) in [(0, 9), (-1, 8)] {
+        let rect = Rect {
+            x0: 3,
+            y0: 0,
+            x1: 3,
+            y1: 2,
+        };
+        let heights = Raised { rect, cycles };
+        same("seams", plain::seam_cost(&scene, &mask, &heights), cost)?;
+    }
+    Ok(())
+}

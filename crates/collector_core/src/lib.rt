@@ -8,6 +8,3 @@ mod settling;
 
 pub use crate::collecting::collect;
 pub use crate::finishing::finish;
-
-#[cfg(test)]
-mod tests;

@@ -10,8 +10,6 @@ mod entry;
 mod gathered;
 pub mod laws;
 mod places;
-#[cfg(test)]
-mod tests;
 mod ticket;
 
 pub use crate::answers::{Advance, AdvanceFault, ClaimFault, GatherFault, KeepFault, PublishFault};

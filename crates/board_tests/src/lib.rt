@@ -1,0 +1,9 @@
+//! Worked rows of the board and of the collector, on sessions that are read from their text.
+#![tactic(auto)]
+
+#[cfg(test)]
+mod board_rows;
+#[cfg(test)]
+mod collector_rows;
+#[cfg(test)]
+mod sessions;

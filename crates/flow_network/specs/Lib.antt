@@ -4,3 +4,4 @@ pub mod Moves
 pub mod Growing
 pub mod Lists
 pub mod Views
+pub mod Laws

@@ -1,6 +1,7 @@
 //! Flow networks whose arcs keep reduced costs of at least 0, and a network whose arcs stand in lists.
 #![tactic(auto)]
 
+pub mod laws;
 mod net;
 mod network;
 mod slices;

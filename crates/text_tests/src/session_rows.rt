@@ -106,17 +106,20 @@ fn fault_of(alloc: Global, side: u32, line: &[u8], count: u32) -> Result<Option<
     Ok(read(alloc, SessionUse::Alone, side, text, 5000, Vec::new(alloc)).err())
 }
 
-/// 16 times 4194304 pixels is the limit of settled pixels, and 16 times 1048576 tiles that of changed tiles.
+/// 16 times 4194304 pixels is the limit of settled pixels, and 16 times 1048576 tiles that of changed tiles; an analyst has
+/// at most 4096 commands.
 #[test]
-fn sixteen_commands_reach_the_limits(rt: HostRuntime) -> Result<(), Fail> {
+fn commands_reach_the_limits(rt: HostRuntime) -> Result<(), Fail> {
     let faults = [
         fault_of(rt.alloc(), 64, b"settle\n", 16)?,
         fault_of(rt.alloc(), 64, b"settle\n", 17)?,
         fault_of(rt.alloc(), 2, b"mask 0 0 0 0\n", 17)?,
+        fault_of(rt.alloc(), 64, b"show\n", 4097)?,
     ];
     let settles = SessionFault::Input(InputFault::SettleLimit(18));
     let edits = SessionFault::Input(InputFault::EditLimit(18));
-    let told = [None, Some(settles), Some(edits)];
+    let commands = SessionFault::Input(InputFault::TooManyCommands(4098));
+    let told = [None, Some(settles), Some(edits), Some(commands)];
     assert_eq!(rt; faults, told);
     Ok(())
 }

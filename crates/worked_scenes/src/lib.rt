@@ -1,9 +1,6 @@
 //! Small scenes, masks and results by hand, from which the tests of other crates begin.
 #![tactic(auto)]
-<<<<<<< HEAD
-=======
 
->>>>>>> 62aef43 (raster_tests: the tests of eight lower crates stand over them, so that each is proved once; fewer edits)
 ghost use Rattle.std.specs.Prelude.{◌≡◌, IfOk};
 
 use certificates::TileResult;
@@ -94,8 +91,6 @@ pub fn tile_result(
         faces: faces.iter().copied().collect(alloc)?,
     })
 }
-<<<<<<< HEAD
-=======
 
 /// A row gave something else than it should.
 #[derive(Clone, Copy, Debug)]
@@ -109,4 +104,3 @@ pub fn same<T: PartialEq + Drop>(row: &'static str, found: T, wanted: T) -> Resu
         Err(Differs(row))
     }
 }
->>>>>>> 62aef43 (raster_tests: the tests of eight lower crates stand over them, so that each is proved once; fewer edits)

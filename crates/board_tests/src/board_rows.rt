@@ -62,55 +62,71 @@ fn unpublished(
 
 /// The residue of `0 16384 / 49152 32768` is 1. With the first pixel masked the edges on two sides of the cell weigh
 /// 0, so its face is 0, and the three open pixels lie on a surface that departs nowhere.
+const TURN: &str =
+    "P2\n2 2\n65535\n0 16384 49152 32768\nanalyst\nmask 0 0 0 0\nsettle\nshow\nend\n";
+
 #[test]
 fn an_edit_makes_a_claimed_tile_stale(rt: HostRuntime) -> Result<(), Fail> {
     let alloc = rt.alloc();
-    let text = "P2\n2 2\n65535\n0 16384 49152 32768\nanalyst\nmask 0 0 0 0\nsettle\nshow\nend\n";
-    let mut board = board(alloc, text, 64)?;
+    let mut board = board(alloc, TURN, 64)?;
     let claim = claimed(alloc, &mut board);
     let edit = advanced(alloc, &mut board);
     let stale = unkept(alloc, &mut board, 0, 0, &[0; 4], &[0]);
     let waits = advanced(alloc, &mut board);
     let gap = gathered(alloc, &board);
+    same("claim", claim, Ok((0, 0)))?;
+    let advances = [Ok(Advance::Revised(1)), Ok(Advance::NotYet(1))];
+    same("advances", [edit, waits], advances)?;
+    same("stale", stale, Some(KeepFault::Stale(1)))?;
+    same("gap", gap, Err(GatherFault::Unready(0)))?;
+    Ok(())
+}
+
+#[test]
+fn a_tile_is_kept_once(rt: HostRuntime) -> Result<(), Fail> {
+    let alloc = rt.alloc();
+    let mut board = board(alloc, TURN, 64)?;
+    let edit = advanced(alloc, &mut board);
     let torn = unkept(alloc, &mut board, 0, 1, &[0; 3], &[0]);
     let good = unkept(alloc, &mut board, 0, 1, &[0; 4], &[0]);
     let again = unkept(alloc, &mut board, 0, 1, &[0; 4], &[0]);
     let other = unkept(alloc, &mut board, 1, 0, &[0; 4], &[0]);
     let none = claimed(alloc, &mut board);
     let all = gathered(alloc, &board);
-    let lifted = unpublished(alloc, &mut board, 1, 1);
-    let found = unpublished(alloc, &mut board, 1, 0);
-    let twice = unpublished(alloc, &mut board, 1, 0);
-    let shown = advanced(alloc, &mut board);
-    let ended = advanced(alloc, &mut board);
-    same(
-        "claims",
-        [claim, none],
-        [Ok((0, 0)), Err(ClaimFault::NoJob)],
-    )?;
-    let advances = [
-        Ok(Advance::Revised(1)),
-        Ok(Advance::NotYet(1)),
-        Ok(Advance::Shown(Some(1))),
-        Ok(Advance::Ended),
-    ];
-    same("advances", [edit, waits, shown, ended], advances)?;
+    same("edit", edit, Ok(Advance::Revised(1)))?;
     let faults = [
-        Some(KeepFault::Stale(1)),
         Some(KeepFault::Uncertified(TileVerdict::Shape)),
         None,
         Some(KeepFault::Double),
         Some(KeepFault::Stranger(1)),
     ];
-    same("results", [stale, torn, good, again, other], faults)?;
-    same(
-        "gathered",
-        [gap, all],
-        [Err(GatherFault::Unready(0)), Ok(1)],
-    )?;
+    same("results", [torn, good, again, other], faults)?;
+    same("no job", none, Err(ClaimFault::NoJob))?;
+    same("gathered", all, Ok(1))?;
+    Ok(())
+}
+
+#[test]
+fn a_surface_is_published_once(rt: HostRuntime) -> Result<(), Fail> {
+    let alloc = rt.alloc();
+    let mut board = board(alloc, TURN, 64)?;
+    let edit = advanced(alloc, &mut board);
+    let good = unkept(alloc, &mut board, 0, 1, &[0; 4], &[0]);
+    let lifted = unpublished(alloc, &mut board, 1, 1);
+    let found = unpublished(alloc, &mut board, 1, 0);
+    let twice = unpublished(alloc, &mut board, 1, 0);
+    let shown = advanced(alloc, &mut board);
+    let ended = advanced(alloc, &mut board);
+    let advances = [
+        Ok(Advance::Revised(1)),
+        Ok(Advance::Shown(Some(1))),
+        Ok(Advance::Ended),
+    ];
+    same("advances", [edit, shown, ended], advances)?;
     let anchor = PublishFault::Uncertified(SeamVerdict::Anchor(1));
     let faults = [Some(anchor), None, Some(PublishFault::NotSettle)];
     same("offsets", [lifted, found, twice], faults)?;
+    same("good", good, None)?;
     same("complete", board.complete(), true)?;
     Ok(())
 }

@@ -1,15 +1,14 @@
 -- Where no excess is left and no arc with capacity left has a reduced cost below 0, no flow costs less.
-use Rattle.std.proofs.Common.{◌≡◌, ℕ, zero, suc, ◌+◌, ◌*◌, ◌<◌, sym, ◌∙◌, ap, refl, arith, Bool, true, false, inl, inr}
+use Rattle.std.proofs.Common.{◌≡◌, ℕ, zero, suc, ◌*◌, ◌<◌, sym, ◌∙◌, ap, refl, arith, Bool, true, false, inl, inr}
 use Rattle.std.specs.Prelude.{◌==◌, ◌&&◌, ℤ, pos, negsuc, neg_ℤ, ◌+ℤ◌, ◌-ℤ◌, ◌*ℤ◌, ◌≤ℤ◌, ◌<ℤ◌}
 use Rattle.std.proofs.Math.IntN.{zero-*ℤ, *ℤ-zero, pos-*ℤ-pos, negsuc-*ℤ-negsuc}
 use Rattle.std.proofs.lemmas.Int.{ints}
 use Rattle.std.proofs.lemmas.Bool.{cases_Bool, false≢true, ne_eqb}
-use Rattle.std.proofs.lemmas.Bool.Decides.{eqb_tells}
 use borrow.Author.Differences.{up, down, sum_is_lem}
 use Rattle.flow_network.specs.Sums.{sum_below, where_true}
 use Rattle.flow_network.specs.Nets.{Shape, State, IsArc, IsNetwork, HasReducedCosts, reduced_cost, tail_of}
 use Rattle.flow_network.specs.Moves.{IsConserved, out_term, residual_out}
-use Rattle.flow_network.specs.Laws.{HasNoExcess, residual_cost, doubled_cost, BalancedIsLeast}
+use Rattle.flow_network.specs.Laws.{HasNoExcess, residual_cost, BalancedIsLeast}
 use Rattle.flow_network.proofs.SumLemmas.{sum_below-same, sum_below-zeros, sum_below-one, same_tests}
 use Rattle.flow_network.proofs.RoomLemmas.{sum-not_below}
 use Rattle.flow_network.proofs.PushLemmas.{at_place, reduced_cost-twin}

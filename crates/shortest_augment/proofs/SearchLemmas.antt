@@ -1,13 +1,13 @@
 -- What a search keeps of its lists.
-use Rattle.std.proofs.Common.{◌≡◌, ℕ, ◌+◌, ◌<◌, ◌≤◌, ◌^◌, sym, ◌∙◌, ap, arith, subst, inl, inr, refl, ◌⊎◌}
-use Rattle.std.specs.Prelude.{ℤ, Option, pos, ◌+ℤ◌, ◌-ℤ◌, ◌≤ℤ◌, ◌<ℤ◌, List, length, get_or, slice_set, Some, None, Contains, replicate, [], ◌∷◌, ◌++◌, min}
+use Rattle.std.proofs.Common.{◌≡◌, ℕ, ◌+◌, ◌<◌, ◌≤◌, ◌^◌, sym, ◌∙◌, ap, arith, inl, inr}
+use Rattle.std.specs.Prelude.{ℤ, Option, pos, ◌≤ℤ◌, ◌<ℤ◌, List, length, get_or, slice_set, Some, None, Contains, replicate, [], ◌∷◌, ◌++◌}
 use Rattle.std.proofs.lemmas.Int.{ints}
-use Rattle.std.proofs.lemmas.List.{get_or_default, get_or-set_same, get_or-set_other, length-set, get_or-replicate, length-replicate, length-append, get_or_append_left}
+use Rattle.std.proofs.lemmas.List.{get_or-set_same, get_or-set_other, length-set, get_or-replicate, length-replicate, length-append, get_or_append_left}
 use Rattle.std.proofs.Math.Seq.{get_or-append_seam}
-use Rattle.std.proofs.lemmas.List.Elements.{Contains-push, Contains-push_cases}
+use Rattle.std.proofs.lemmas.List.Elements.{Contains-push_cases}
 use Rattle.std.proofs.lemmas.Bool.{cases_eq}
-use Rattle.flow_network.specs.Nets.{Shape, State, IsArc, IsNetwork, tail_of}
-use Rattle.shortest_augment.specs.Labels.{AreLabels, AreSteps, IsFresh, IsKept, IsNearest, IsLowered, IsFalling, AreFalls, GoesOn, fall_to}
+use Rattle.flow_network.specs.Nets.{Shape, State, IsArc, IsNetwork}
+use Rattle.shortest_augment.specs.Labels.{AreSteps, IsFresh, IsKept, IsNearest, IsLowered, IsFalling, AreFalls, GoesOn, fall_to}
 use Rattle.shortest_augment.specs.Trees.{mark_at, no_mark}
 use Rattle.shortest_augment.specs.declared.mark.Mark.{Mark}
 use Rattle.shortest_augment.specs.declared.search.Search.{Search}

@@ -1,7 +1,5 @@
-use Rattle.std.proofs.Common.{◌≡◌, ◌<◌, ◌+◌, ◌∙◌, ap, arith, length, true, false}
-use Rattle.std.proofs.lemmas.List.{get_or_default}
-use Rattle.shortest_augment.specs.Trees.{no_mark, mark_at, choice}
-use Rattle.shortest_augment.specs.declared.mark.Mark.{Mark}
+use Rattle.std.proofs.Common.{arith, false}
+use Rattle.shortest_augment.specs.Trees.{mark_at}
 use Rattle.shortest_augment.proofs.LinkLemmas.{choices_set, choice_open}
 use Rattle.shortest_augment.proofs.augment.close.Goals as goal
 

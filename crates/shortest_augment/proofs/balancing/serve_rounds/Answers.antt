@@ -1,4 +1,4 @@
-use Rattle.std.proofs.Common.{◌<◌, arith}
+use Rattle.std.proofs.Common.{arith}
 use Rattle.shortest_augment.proofs.Blocking.{served-refl, served-trans, has_depths}
 use Rattle.shortest_augment.proofs.balancing.serve_rounds.Goals as goal
 

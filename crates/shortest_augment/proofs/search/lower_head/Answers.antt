@@ -1,8 +1,8 @@
-use Rattle.std.proofs.Common.{◌≡◌, ◌<◌, ◌≤◌, ◌∙◌, ap, sym, refl, arith, get_or, Some}
-use Rattle.std.specs.Prelude.{pos, ◌≤ℤ◌, ◌-◌, ◌^◌}
+use Rattle.std.proofs.Common.{◌≡◌, ◌<◌, sym, refl, arith, get_or}
+use Rattle.std.specs.Prelude.{◌-◌, ◌^◌}
 use Rattle.std.specs.BinaryHeap.{heap_items}
 use Rattle.std.proofs.lemmas.Int.{ints}
-use Rattle.flow_network.specs.Nets.{IsArc, tail_of}
+use Rattle.flow_network.specs.Nets.{tail_of}
 use Rattle.shortest_augment.proofs.LabelLemmas.{lower, lower_at, lower_tells}
 use Rattle.shortest_augment.proofs.FrontLemmas.{front_nearer, front_lowered}
 use Rattle.shortest_augment.proofs.SearchLemmas.{kept_lowered, nearest_nearer, nearest_same}

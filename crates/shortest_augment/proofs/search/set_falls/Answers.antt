@@ -1,6 +1,5 @@
-use Rattle.std.proofs.Common.{◌≡◌, ◌<◌, ◌∙◌, sym, refl, arith, get_or, length}
-use Rattle.std.proofs.lemmas.List.{get_or_default}
-use Rattle.shortest_augment.proofs.SearchLemmas.{held_at, falling_next, falling_end}
+use Rattle.std.proofs.Common.{◌<◌, arith, length}
+use Rattle.shortest_augment.proofs.SearchLemmas.{held_at}
 use Rattle.shortest_augment.proofs.search.set_falls.Goals as goal
 
 pub index_mut-requires : goal.index_mut-requires

@@ -1,7 +1,5 @@
-use Rattle.std.proofs.Common.{◌≡◌, ◌<◌, ◌≤◌, ◌∙◌, ℕ, ap, sym, refl, arith, get_or, Some, None}
-use Rattle.std.specs.Prelude.{pos, ◌<ℤ◌, ◌≤ℤ◌, ◌^◌}
+use Rattle.std.proofs.Common.{◌≡◌, refl, Some, None}
 use Rattle.std.specs.BinaryHeap.{heap_items}
-use Rattle.std.proofs.lemmas.Int.{ints}
 use Rattle.shortest_augment.proofs.LabelLemmas.{first_labels, first_only, first_nearest}
 use Rattle.shortest_augment.proofs.FrontLemmas.{front_start}
 use Rattle.shortest_augment.proofs.SearchLemmas.{kept_lowered}

@@ -1,7 +1,6 @@
-use Rattle.std.proofs.Common.{◌≡◌, ◌<◌, ◌∙◌, ap, sym, refl, arith, get_or, length, subst, List}
+use Rattle.std.proofs.Common.{◌<◌, ap, arith, length, subst, List}
 use Rattle.std.specs.Prelude.{ℕ, Contains}
-use Rattle.std.proofs.lemmas.List.{get_or_default}
-use Rattle.shortest_augment.proofs.SearchLemmas.{held_at, wiped_next, wiped_end}
+use Rattle.shortest_augment.proofs.SearchLemmas.{held_at}
 use Rattle.shortest_augment.proofs.search.wipe.Goals as goal
 use Rattle.shortest_augment.proofs.search.wipe.Goals.{After-index}
 use Rattle.shortest_augment.proofs.search.wipe.Given.{Over}

@@ -5,4 +5,3 @@ pub mod CollectLemmas
 pub mod CountLemmas
 pub mod HistoryLemmas
 pub mod RefusalLemmas
-pub mod TestLemmas

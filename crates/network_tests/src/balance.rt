@@ -13,7 +13,7 @@ use std::test::Fail;
 const ROOM: u64 = 1 << 62;
 
 /// The least cost of each network, the number of its nodes, their supplies, and tail, head, cost and capacity of each arc.
-/// The costs are those of `network_simplex` of networkx 3.6.1; of the last seven rows they are also plain to see.
+/// The costs of the first four are those of `network_simplex` of networkx 3.6.1; the others were found by hand.
 fn rows() -> [&'static str; 11] {
     [
         "8 2  2 -2  0 1 3 1  0 1 5 5",

@@ -10,4 +10,3 @@ pub mod StepLemmas
 pub mod RevisionLemmas
 pub mod PublishLemmas
 pub mod LawLemmas
-pub mod TestLemmas

@@ -10,6 +10,10 @@ pub mod SumLemmas
 pub mod SideLemmas
 pub mod BalanceLemmas
 pub mod FaceLemmas
+pub mod TightLemmas
 pub mod CertificateLemmas
+pub mod ListingLemmas
+pub mod CheckLemmas
+pub mod CheckedAnswers
 pub mod CallerLemmas
 mod OnExamples

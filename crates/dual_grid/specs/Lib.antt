@@ -4,3 +4,4 @@ pub mod Grids
 pub mod Views
 pub mod Answers
 pub mod Building
+pub mod Problems

@@ -3,10 +3,14 @@
 #![tactic(auto)]
 
 mod answering;
+mod checking;
 mod crossing;
 mod grid;
+mod listing;
+mod problem;
 mod sides;
 mod supplies;
 mod weighing;
 
 pub use crate::grid::DualGrid;
+pub use crate::problem::Problem;

@@ -2,6 +2,8 @@
 #![tactic(auto)]
 
 #[cfg(test)]
+mod guess_rows;
+#[cfg(test)]
 mod offset_rows;
 #[cfg(test)]
 mod tile_rows;

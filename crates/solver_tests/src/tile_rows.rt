@@ -13,7 +13,7 @@ use worked_scenes::{masked, scene, tile_result};
 /// hand, whole, with a pixel masked and with all; a line; a ramp that turns over between its first columns, under two masks.
 /// Then random rasters, whose costs `network_simplex` of networkx 3.6.1 found over the residues; on smaller ones it agreed
 /// with a search through all cycles from -1 to 1.
-const ROWS: [(u32, u32, &[u16], &[u16], &[u16], u128); 11] = [
+pub(crate) const ROWS: [(u32, u32, &[u16], &[u16], &[u16], u128); 11] = [
     (
         2,
         2,

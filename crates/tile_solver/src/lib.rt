@@ -3,4 +3,4 @@
 
 mod solving;
 
-pub use crate::solving::solve_tile;
+pub use crate::solving::{solve_tile, solve_tile_from};

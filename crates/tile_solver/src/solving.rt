@@ -5,17 +5,19 @@ ghost use Rattle.dual_grid.specs.Views.{HaveOneOrigin, shape_of, state_of};
 ghost use Rattle.raster_model.specs.Scene.{raster_of};
 ghost use Rattle.raster_model.specs.Sums.{Field};
 ghost use Rattle.raster_model.specs.Tiles.{tiles_of, window_of};
-ghost use Rattle.std.specs.Prelude.{◌≡◌, ◌<◌, Bool, IfOk, OnOk, length};
+ghost use Rattle.std.specs.Prelude.{◌≡◌, ◌<◌, Bool, IfOk, IfSome, OnOk, length};
 ghost use Rattle.tile_solver.specs.Fresh.{IsFresh};
+ghost use Rattle.dual_grid.specs.Problems.{Answers};
 ghost use Rattle.tile_solver.specs.Zeros.{AnswersWithoutResidue};
 ghost use Rattle.wrapped_gradient.specs.Gradients.{AreGradientsOf};
 
 use certificates::TileResult;
-use dual_grid::DualGrid;
+use dual_grid::{DualGrid, Problem};
 use raster_model::Scene;
 use shortest_augment::{BalanceFault, balance};
 use std::alloc::{AllocError, Global};
 use surface_integration::integrate;
+use tile_guess::{Grid, Guess, guess_flow};
 use wrapped_gradient::{Corrections, Gradients};
 
 /// Solves one tile of a scene under the mask that `unmasked` tells: whether each pixel of the tile's window is open, in
@@ -35,9 +37,28 @@ pub fn solve_tile(
     // Under any mask that is so over the tile's window.
     ensures good { IfOk result (λ solved. (mask : Field Bool) → TellsMask (window_of scene.now.tiling tile) unmasked.now mask → IsGoodTile scene.now mask solved) }
 {
+    solve_tile_from(alloc, scene, tile, stamp, unmasked, None)
+}
+
+/// Solves one tile as `solve_tile` does, from a guess at its corrections and faces, or from that of `tile_guess` if none is
+/// given. A guess that is an answer is taken, and any other is dropped: so it can cost time, and nothing else. (McConnell,
+/// Mehlhorn, Naeher and Schweitzer 2011.)
+pub fn solve_tile_from(
+    alloc: Global,
+    scene: &Scene,
+    tile: u32,
+    stamp: u32,
+    unmasked: &[bool],
+    guess: Option<Guess>,
+) -> Result<TileResult, AllocError>
+    requires tile { tile < tiles_of scene.now.tiling }
+    requires count { length unmasked.now ≡ pixels_in (window_of scene.now.tiling tile) }
+    ensures named { IfOk result (λ solved. (solved.tile ≡ tile) × (solved.stamp ≡ stamp)) }
+    ensures good { IfOk result (λ solved. (mask : Field Bool) → TellsMask (window_of scene.now.tiling tile) unmasked.now mask → IsGoodTile scene.now mask solved) }
+{
     let window = scene.tiling.window(tile);
     let gradients = Gradients::of(alloc, scene, window)?;
-    let (corrections, faces) = least_corrections(alloc, scene, &gradients, tile, unmasked)?;
+    let (corrections, faces) = least_corrections(alloc, scene, &gradients, tile, unmasked, guess)?;
     let cycles = integrate(alloc, scene, &gradients, &corrections)?;
     Ok(TileResult {
         tile,
@@ -54,6 +75,7 @@ fn least_corrections(
     gradients: &Gradients,
     tile: u32,
     unmasked: &[bool],
+    guess: Option<Guess>,
 ) -> Result<(Corrections, Vec<i64>), AllocError>
     requires tile { tile < tiles_of scene.now.tiling }
     requires gradients { AreGradientsOf scene.now gradients.now }
@@ -64,9 +86,55 @@ fn least_corrections(
     if gradients.first_residue().is_none() {
         return no_corrections(alloc, gradients);
     }
+    let problem = Problem::of(alloc, scene, gradients, tile, unmasked)?;
+    if let Some(answer) = guessed_corrections(alloc, &problem, guess)? {
+        return Ok(answer);
+    }
     let mut grid = DualGrid::of(alloc, scene, gradients, tile, unmasked)?;
     empty(alloc, &mut grid)?;
     grid.answer(alloc)
+}
+
+/// A guess, or that of the fast solver, if it is found to be an answer. Neither promises anything: all rests on the check.
+fn guessed_corrections(
+    alloc: Global,
+    problem: &Problem,
+    guess: Option<Guess>,
+) -> Result<Option<(Corrections, Vec<i64>)>, AllocError>
+    ensures { IfOk result (λ found. IfSome found (λ made. Answers problem.now made.0 made.1.items)) }
+{
+    let guess = guess_or_solver(alloc, problem, guess)?;
+    let corrections = Corrections {
+        right: guess.right,
+        down: guess.down,
+    };
+    if problem.is_answered_by(&corrections, &guess.faces) {
+        Ok(Some((corrections, guess.faces)))
+    } else {
+        Ok(None)
+    }
+}
+
+/// The guess that is given, or that of the fast solver.
+fn guess_or_solver(
+    alloc: Global,
+    problem: &Problem,
+    guess: Option<Guess>,
+) -> Result<Guess, AllocError> {
+    if let Some(guess) = guess {
+        return Ok(guess);
+    }
+    let window = problem.window;
+    guess_flow(
+        alloc,
+        Grid {
+            across: window.x1 - window.x0,
+            along: window.y1 - window.y0,
+            right: &problem.right,
+            down: &problem.down,
+            residues: &problem.residues,
+        },
+    )
 }
 
 /// The correction 0 for each edge of a window, and the face 0 for each of its cells. Where no cell has a residue they are

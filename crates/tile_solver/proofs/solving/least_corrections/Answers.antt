@@ -41,3 +41,6 @@ returns c =
     let u = c.args.unmasked.now in
     let grid = grid_stays s t u c.in_ok-grid.grid c.empty.new.grid c.empty.ensures.origin c.in_ok-grid.ensures.grid in
     IfOk-weaker c.answer.result _ _ (λ made answers mask told. answers s t u mask grid c.requires.tile told) c.answer.ensures
+
+pub returns-in-Some : goal.returns-in-Some
+returns-in-Some c = λ mask told. (rw c.in-Some.is at c.in_ok-answer.ensures) c.args.scene.now c.args.tile c.args.unmasked.now mask c.in_ok-problem.ensures c.requires.tile told

@@ -5,7 +5,7 @@ use Rattle.raster_model.specs.Tiles.{IsWindowOf, window_of}
 use Rattle.dual_grid.specs.Answers.{IsAnswer}
 use Rattle.dual_grid.specs.Starts.{open_in}
 use Rattle.tile_solver.proofs.ResultLemmas.{corrections_small, good_result, small_side}
-use Rattle.tile_solver.proofs.solving.solve_tile.Goals as goal
+use Rattle.tile_solver.proofs.solving.solve_tile_from.Goals as goal
 
 -- the answer of the grid under the mask that the list tells, over the window of the gradients
 answers : (c : goal.After-corrections-2-1) → IsAnswer (raster_of c.args.scene.now) (open_in (window_of c.args.scene.now.tiling c.args.tile) c.args.unmasked.now) c.args.tile c.in_ok-gradients.gradients.window c.in_ok-corrections.corrections c.in_ok-corrections.faces.items

@@ -1,0 +1,66 @@
+-- Corrections and faces that pass the check are an answer.
+use Rattle.std.proofs.Common.{◌≡◌, ℕ, ◌*◌, ◌<◌, ◌≤◌, ◌∙◌, sym, subst, ap, refl, arith, List, Bool, true, false, length}
+use Rattle.std.specs.Prelude.{ℤ, pos, neg_ℤ, ◌-ℤ◌, ◌*ℤ◌, unsigned_abs}
+use Rattle.std.proofs.lemmas.Int.{ints}
+use Rattle.std.proofs.lemmas.List.{get_or_past}
+use Rattle.raster_model.specs.declared.edge.Edge.{Edge}
+use Rattle.raster_model.specs.declared.scene.Scene.{Scene}
+use Rattle.raster_model.specs.declared.tiling.Window.{Window}
+use Rattle.raster_model.specs.Sums.{Field, down_edge, right_edge}
+use Rattle.raster_model.specs.Raster.{masked_weight}
+use Rattle.raster_model.specs.Scene.{raster_of}
+use Rattle.raster_model.specs.Tiles.{IsWindowOf, tiles_of, window_of}
+use Rattle.raster_model.proofs.TileLemmas.{window_of-pixels}
+use Rattle.flow_network.specs.Nets.{State}
+use Rattle.wrapped_gradient.specs.declared.corrections.Corrections.{Corrections}
+use Rattle.wrapped_gradient.specs.Corrections.{correction_at}
+use Rattle.wrapped_gradient.specs.Windows.{IsCellOf, IsEdgeOf}
+use Rattle.wrapped_gradient.proofs.CorrectionLemmas.{greatest_of_least}
+use Rattle.dual_grid.specs.declared.problem.Problem.{Problem}
+use Rattle.dual_grid.specs.Answers.{IsAnswer}
+use Rattle.dual_grid.specs.Building.{AreFaces}
+use Rattle.dual_grid.specs.Nodes.{cells_of, first_side, other_side}
+use Rattle.dual_grid.specs.Problems.{AreSmall, HaveShape, IsCancelled, IsProblemOf, IsTightAt, face_of, weight_at}
+use Rattle.dual_grid.specs.Starts.{TellsMask, open_in}
+use Rattle.dual_grid.proofs.TightLemmas.{tight_answer}
+
+-- potentials whose differences are those of the faces
+abbrev turned_state : List ℤ → State
+turned_state faces = record { residual = λ a. 0; excess = λ u. pos 0; potential = λ u. neg_ℤ (face_of faces u) }
+
+turned_faces : (faces : List ℤ) (n : ℕ) → length faces ≡ n → AreFaces (turned_state faces) n n faces
+turned_faces faces n e = record {
+  count = e;
+  values = λ u l. less_none (face_of faces u) (face_of faces n) (get_or_past faces n (pos 0) (omega (arith, e)));
+}
+  where
+    less_none : (a b : ℤ) → b ≡ pos 0 → a ≡ neg_ℤ b -ℤ neg_ℤ a
+    less_none a b e = omega (arith, ints, e)
+
+module _ (p : Problem) (k : Corrections) (faces : List ℤ) (shape : HaveShape p k faces) (rights_small : AreSmall k.right.items) (downs_small : AreSmall k.down.items) (cancelled : (x y : ℕ) → IsCellOf p.window x y → IsCancelled p k x y) (rights : (x y : ℕ) → IsEdgeOf p.window (right_edge x y) → IsTightAt p k faces (right_edge x y)) (downs : (x y : ℕ) → IsEdgeOf p.window (down_edge x y) → IsTightAt p k faces (down_edge x y)) where
+  tight : (e : Edge) → IsEdgeOf p.window e → IsTightAt p k faces e
+  tight e i = go e.x e.y e.down i
+    where
+      go : (x y : ℕ) (d : Bool) → IsEdgeOf p.window (record { x = x; y = y; down = d }) → IsTightAt p k faces (record { x = x; y = y; down = d })
+      go x y true i = downs x y i
+      go x y false i = rights x y i
+
+  turned : (a b : ℤ) → neg_ℤ b -ℤ neg_ℤ a ≡ a -ℤ b
+  turned a b = omega (arith, ints)
+
+  within : (a b w : ℤ) (n : ℕ) → unsigned_abs (a -ℤ b) ≤ unsigned_abs w → w ≡ pos n → unsigned_abs (neg_ℤ b -ℤ neg_ℤ a) ≤ n
+  within a b w n l e = omega (arith, ints, l, e)
+
+  whole : (a b w k : ℤ) (n : ℕ) → k *ℤ (a -ℤ b) ≡ w *ℤ pos (unsigned_abs k) → w ≡ pos n → k *ℤ (neg_ℤ b -ℤ neg_ℤ a) ≡ pos (n * unsigned_abs k)
+  whole a b w k n e i = ap (λ (z : ℤ). k *ℤ z) (turned a b) ∙ e ∙ rw i refl
+
+  pub checked_answer : (s : Scene) (t : ℕ) (unmasked : List Bool) (mask : Field Bool) → IsProblemOf s t unmasked p → t < tiles_of s.tiling → TellsMask (window_of s.tiling t) unmasked mask → IsAnswer (raster_of s) mask t (window_of s.tiling t) k faces
+  checked_answer s t unmasked mask problem exists tells =
+      let v = p.window in
+      let f = turned_state faces in
+      let window = subst (λ (w : Window). IsWindowOf s.tiling t w) (sym problem.window) (window_of-pixels s.tiling t exists) in
+      subst (λ (w : Window). IsAnswer (raster_of s) mask t w k faces) problem.window
+      (tight_answer s t v window unmasked mask (subst (λ (w : Window). TellsMask w unmasked mask) (sym problem.window) tells) f k faces (turned_faces faces (cells_of v) shape.1) shape.0 (greatest_of_least k 16129 rights_small downs_small)
+      (λ x y i. cancelled x y i ∙ ap neg_ℤ (problem.residues x y i))
+      (λ e i. within (face_of faces (first_side v e)) (face_of faces (other_side v e)) (weight_at p e) (masked_weight (raster_of s) (open_in v unmasked) e) (tight e i).within (problem.weights e i))
+      (λ e i. whole (face_of faces (first_side v e)) (face_of faces (other_side v e)) (weight_at p e) (correction_at v k e) (masked_weight (raster_of s) (open_in v unmasked) e) (tight e i).whole (problem.weights e i)))

@@ -1,0 +1,22 @@
+use Rattle.std.proofs.Common.{◌≡◌, ◌∙◌, ◌-◌, subst, sym}
+use Rattle.raster_model.specs.declared.tiling.Window.{Window}
+use Rattle.wrapped_gradient.specs.Gradients.{residue_at}
+use Rattle.wrapped_gradient.specs.Rows.{AreInRows}
+use Rattle.wrapped_gradient.specs.Windows.{IsCellOf}
+use Rattle.wrapped_gradient.proofs.GradientLemmas.{residues_are}
+use Rattle.dual_grid.specs.Nodes.{cells_of}
+use Rattle.dual_grid.proofs.ListingLemmas.{residues_listed, weights_listed}
+use Rattle.dual_grid.proofs.problem.Problem.of.Goals as goal
+
+pub returns : goal.returns
+returns c =
+    let s = c.args.scene.now in
+    let g = c.args.gradients.now in
+    let v = c.window-window.result in
+    let same : g.window ≡ v = c.requires.window ∙ sym c.window-window.ensures.value in
+    let rows = subst (λ (w : Window). AreInRows (residue_at g) w.x0 w.y0 (w.x1 - w.x0) (cells_of w) c.in_ok-residues.field-0.items) same c.in_ok-residues.ensures in
+    record {
+      window = c.window-window.ensures.value;
+      weights = weights_listed s v c.args.unmasked.now c.in_ok-right_weights.field-0.items c.in_ok-down_weights.field-0.items c.in_ok-right_weights.ensures c.in_ok-down_weights.ensures;
+      residues = λ x y i. residues_listed (residue_at g) v c.in_ok-residues.field-0.items x y rows i ∙ residues_are s g c.requires.gradients x y (subst (λ (w : Window). IsCellOf w x y) (sym same) i);
+    }

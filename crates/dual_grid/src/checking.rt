@@ -1,0 +1,204 @@
+ghost use Rattle.dual_grid.specs.Problems.{AreSmall, HaveShape, IsCancelled, IsTight, IsTightAt, face_of, residue_at};
+ghost use Rattle.raster_model.specs.Sums.{down_edge, right_edge};
+ghost use Rattle.std.specs.Prelude.{◌≡◌, ◌<◌, ◌≤◌, ℕ, IsTrue, pos, slice_index_or, unsigned_abs};
+ghost use Rattle.wrapped_gradient.specs.Corrections.{correction_at};
+ghost use Rattle.wrapped_gradient.specs.Windows.{IsCellOf, IsEdgeOf, number_at};
+
+use crate::problem::Problem;
+use crate::sides::sides;
+use raster_model::{Edge, Window};
+use wrapped_gradient::Corrections;
+
+/// Whether corrections and faces have the lengths that they should have.
+pub(crate) fn has_shape(problem: &Problem, corrections: &Corrections, faces: &[i64]) -> bool
+    ensures { IsTrue result → HaveShape problem.now corrections.now faces.now }
+{
+    let window = problem.window;
+    let across = (window.x1 - window.x0) as usize;
+    let along = (window.y1 - window.y0) as usize;
+    corrections.right.len() == across * (along + 1)
+        && corrections.down.len() == (across + 1) * along
+        && faces.len() == across * along
+}
+
+/// Whether no correction is above what all cells of the largest tile could send.
+pub(crate) fn are_small(corrections: &[i32]) -> bool
+    ensures { IsTrue result → AreSmall corrections.now }
+{
+    for correction in corrections {
+        if correction.unsigned_abs() > 16_129 {
+            return false;
+        }
+    }
+    true
+}
+
+/// The number that these lists hold for an edge.
+fn number(window: Window, right: &[i32], down: &[i32], edge: Edge) -> i32
+    requires { IsEdgeOf window edge }
+    ensures { result ≡ number_at window right.now down.now edge }
+{
+    let across = (window.x1 - window.x0) as usize;
+    let (column, row) = ((edge.x - window.x0) as usize, (edge.y - window.y0) as usize);
+    if edge.down {
+        down.get(row * (across + 1) + column).copied().unwrap_or(0)
+    } else {
+        right.get(row * across + column).copied().unwrap_or(0)
+    }
+}
+
+/// The correction of an edge.
+fn correction(window: Window, corrections: &Corrections, x: u32, y: u32, down: bool) -> i64
+    requires { IsEdgeOf window (record { x = x; y = y; down = down }) }
+    ensures value { result ≡ correction_at window corrections.now (record { x = x; y = y; down = down }) }
+    ensures small { unsigned_abs result ≤ 2147483648 }
+{
+    let edge = Edge { x, y, down };
+    i64::from(number(window, &corrections.right, &corrections.down, edge))
+}
+
+/// The residue of a place.
+fn residue_of(residues: &[i8], place: usize) -> i8
+    ensures { result ≡ slice_index_or residues.now place (pos 0) }
+{
+    residues.get(place).copied().unwrap_or(0)
+}
+
+/// The residue of a cell.
+fn residue(problem: &Problem, x: u32, y: u32) -> i64
+    requires { IsCellOf problem.now.window x y }
+    ensures value { result ≡ residue_at problem.now x y }
+    ensures small { unsigned_abs result ≤ 128 }
+{
+    let window = problem.window;
+    let (column, row) = ((x - window.x0) as usize, (y - window.y0) as usize);
+    let place = row * (window.x1 - window.x0) as usize + column;
+    i64::from(residue_of(&problem.residues, place))
+}
+
+/// Whether the corrections round a cell cancel its residue.
+fn is_cancelled(problem: &Problem, corrections: &Corrections, x: u32, y: u32) -> bool
+    requires { IsCellOf problem.now.window x y }
+    ensures { IsTrue result → IsCancelled problem.now corrections.now x y }
+{
+    let window = problem.window;
+    let top = correction(window, corrections, x, y, false);
+    let right = correction(window, corrections, x + 1, y, true);
+    let bottom = correction(window, corrections, x, y + 1, false);
+    let left = correction(window, corrections, x, y, true);
+    let around = top + right - bottom - left;
+    around == -residue(problem, x, y)
+}
+
+/// Whether they do so round each cell of a row.
+fn row_cancelled(problem: &Problem, corrections: &Corrections, y: u32) -> bool
+    requires { (problem.now.window.y0 ≤ y) × (y < problem.now.window.y1) }
+    ensures { IsTrue result → (x : ℕ) → problem.now.window.x0 ≤ x → x < problem.now.window.x1 → IsCancelled problem.now corrections.now x y }
+{
+    for x in problem.window.x0..problem.window.x1 {
+        if !is_cancelled(problem, corrections, x, y) {
+            return false;
+        }
+    }
+    true
+}
+
+/// Whether they do so round each cell.
+pub(crate) fn all_cancelled(problem: &Problem, corrections: &Corrections) -> bool
+    ensures { IsTrue result → (x y : ℕ) → IsCellOf problem.now.window x y → IsCancelled problem.now corrections.now x y }
+{
+    for y in problem.window.y0..problem.window.y1 {
+        if !row_cancelled(problem, corrections, y) {
+            return false;
+        }
+    }
+    true
+}
+
+/// The face of a node; that of the outside is 0.
+fn face(faces: &[i64], node: u32) -> i64
+    ensures { result ≡ face_of faces.now node }
+{
+    faces.get(node as usize).copied().unwrap_or(0)
+}
+
+/// Whether a difference of faces is within a weight, and is the whole weight in the direction of a correction.
+fn is_tight(difference: i64, weight: i32, correction: i32) -> bool
+    ensures { IsTrue result → IsTight difference weight correction }
+{
+    let weight = i64::from(weight);
+    if difference.unsigned_abs() > weight.unsigned_abs() {
+        false
+    } else if correction == 0 {
+        true
+    } else if correction > 0 {
+        difference == weight
+    } else {
+        difference == -weight
+    }
+}
+
+/// Whether that is so across an edge.
+fn is_tight_at(problem: &Problem, corrections: &Corrections, faces: &[i64], edge: Edge) -> bool
+    requires { IsEdgeOf problem.now.window edge }
+    ensures { IsTrue result → IsTightAt problem.now corrections.now faces.now edge }
+{
+    let window = problem.window;
+    let (first, other) = sides(window, edge);
+    let Some(difference) = face(faces, first).checked_sub(face(faces, other)) else {
+        return false;
+    };
+    let weight = number(window, &problem.right, &problem.down, edge);
+    let correction = number(window, &corrections.right, &corrections.down, edge);
+    is_tight(difference, weight, correction)
+}
+
+/// Whether that is so across each right edge of a row.
+fn right_row_tight(problem: &Problem, corrections: &Corrections, faces: &[i64], y: u32) -> bool
+    requires { (problem.now.window.y0 ≤ y) × (y ≤ problem.now.window.y1) }
+    ensures { IsTrue result → (x : ℕ) → IsEdgeOf problem.now.window (right_edge x y) → IsTightAt problem.now corrections.now faces.now (right_edge x y) }
+{
+    for x in problem.window.x0..problem.window.x1 {
+        if !is_tight_at(problem, corrections, faces, Edge { x, y, down: false }) {
+            return false;
+        }
+    }
+    true
+}
+
+/// Whether that is so across each down edge of a row.
+fn down_row_tight(problem: &Problem, corrections: &Corrections, faces: &[i64], y: u32) -> bool
+    requires { (problem.now.window.y0 ≤ y) × (y < problem.now.window.y1) }
+    ensures { IsTrue result → (x : ℕ) → IsEdgeOf problem.now.window (down_edge x y) → IsTightAt problem.now corrections.now faces.now (down_edge x y) }
+{
+    for x in problem.window.x0..problem.window.x1 + 1 {
+        if !is_tight_at(problem, corrections, faces, Edge { x, y, down: true }) {
+            return false;
+        }
+    }
+    true
+}
+
+/// Whether that is so across each right edge.
+pub(crate) fn right_edges_tight(problem: &Problem, corrections: &Corrections, faces: &[i64]) -> bool
+    ensures { IsTrue result → (x y : ℕ) → IsEdgeOf problem.now.window (right_edge x y) → IsTightAt problem.now corrections.now faces.now (right_edge x y) }
+{
+    for y in problem.window.y0..problem.window.y1 + 1 {
+        if !right_row_tight(problem, corrections, faces, y) {
+            return false;
+        }
+    }
+    true
+}
+
+/// Whether that is so across each down edge.
+pub(crate) fn down_edges_tight(problem: &Problem, corrections: &Corrections, faces: &[i64]) -> bool
+    ensures { IsTrue result → (x y : ℕ) → IsEdgeOf problem.now.window (down_edge x y) → IsTightAt problem.now corrections.now faces.now (down_edge x y) }
+{
+    for y in problem.window.y0..problem.window.y1 {
+        if !down_row_tight(problem, corrections, faces, y) {
+            return false;
+        }
+    }
+    true
+}

@@ -1,0 +1,73 @@
+ghost use Rattle.dual_grid.specs.Building.{IsMadeFor, IsSmall};
+ghost use Rattle.dual_grid.specs.Nodes.{cells_of};
+ghost use Rattle.dual_grid.specs.Problems.{of_down_edges, of_right_edges};
+ghost use Rattle.std.specs.Prelude.{◌*◌, ◌-◌, IfOk};
+ghost use Rattle.wrapped_gradient.specs.Gradients.{residue_at};
+ghost use Rattle.wrapped_gradient.specs.Rows.{AreInRows};
+ghost use Rattle.wrapped_gradient.specs.Windows.{height_of, width_of};
+
+use crate::weighing::weight;
+use raster_model::{Edge, Scene, Window};
+use std::alloc::{AllocError, Global};
+use wrapped_gradient::Gradients;
+
+/// The weights of the window's right edges under the mask.
+pub(crate) fn right_weights(
+    alloc: Global,
+    scene: &Scene,
+    window: Window,
+    unmasked: &[bool],
+) -> Result<Vec<i32>, AllocError>
+    requires { IsMadeFor scene.now window unmasked.now }
+    ensures { IfOk result (λ list. AreInRows (of_right_edges scene.now window unmasked.now) window.x0 window.y0 (width_of window - 1) ((width_of window - 1) * height_of window) list.items) }
+{
+    let across = (window.x1 - window.x0) as usize;
+    let along = (window.y1 - window.y0) as usize + 1;
+    let mut list = Vec::with_capacity(alloc, across * along)?;
+    for y in window.y0..window.y1 + 1 {
+        for x in window.x0..window.x1 {
+            let edge = Edge { x, y, down: false };
+            list.push(i32::from(weight(scene, window, unmasked, edge)))?;
+        }
+    }
+    Ok(list)
+}
+
+/// The weights of the window's down edges under the mask.
+pub(crate) fn down_weights(
+    alloc: Global,
+    scene: &Scene,
+    window: Window,
+    unmasked: &[bool],
+) -> Result<Vec<i32>, AllocError>
+    requires { IsMadeFor scene.now window unmasked.now }
+    ensures { IfOk result (λ list. AreInRows (of_down_edges scene.now window unmasked.now) window.x0 window.y0 (width_of window) (width_of window * (height_of window - 1)) list.items) }
+{
+    let across = (window.x1 - window.x0) as usize + 1;
+    let along = (window.y1 - window.y0) as usize;
+    let mut list = Vec::with_capacity(alloc, across * along)?;
+    for y in window.y0..window.y1 {
+        for x in window.x0..window.x1 + 1 {
+            let edge = Edge { x, y, down: true };
+            list.push(i32::from(weight(scene, window, unmasked, edge)))?;
+        }
+    }
+    Ok(list)
+}
+
+/// The residues of the cells.
+pub(crate) fn residues(alloc: Global, gradients: &Gradients) -> Result<Vec<i8>, AllocError>
+    requires { IsSmall gradients.now.window }
+    ensures { IfOk result (λ list. AreInRows (residue_at gradients.now) gradients.now.window.x0 gradients.now.window.y0 (gradients.now.window.x1 - gradients.now.window.x0) (cells_of gradients.now.window) list.items) }
+{
+    let window = gradients.window();
+    let across = (window.x1 - window.x0) as usize;
+    let along = (window.y1 - window.y0) as usize;
+    let mut list = Vec::with_capacity(alloc, across * along)?;
+    for y in window.y0..window.y1 {
+        for x in window.x0..window.x1 {
+            list.push(gradients.residue(x, y))?;
+        }
+    }
+    Ok(list)
+}

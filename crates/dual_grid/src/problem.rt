@@ -1,0 +1,76 @@
+ghost use Rattle.dual_grid.specs.Building.{IsSmall};
+ghost use Rattle.std.specs.Prelude.{◌<◌};
+
+use crate::checking::{all_cancelled, are_small, down_edges_tight, has_shape, right_edges_tight};
+use crate::listing::{down_weights, residues, right_weights};
+use raster_model::{Scene, Window};
+use std::alloc::{AllocError, Global};
+use wrapped_gradient::{Corrections, Gradients};
+
+/// What a tile asks of its corrections and faces: the weights of its edges under the mask and the residues of its cells,
+/// each in row order. (Costantini 1998.)
+#[derive(Drop)]
+pub struct Problem {
+    /// The tile's window.
+    pub window: Window,
+    /// The weights of the right edges: one fewer in a row than the window has pixels there.
+    pub right: Vec<i32>,
+    /// The weights of the down edges: in one row fewer than the window has.
+    pub down: Vec<i32>,
+    /// The residues of the cells, in cycles.
+    pub residues: Vec<i8>,
+    pub(crate) ghost small: { IsSmall window },
+    pub(crate) ghost within: { (window.x1 < 4096) × (window.y1 < 4096) },
+}
+
+impl Problem {
+    ghost use Rattle.dual_grid.specs.Problems.{Answers, IsProblemOf};
+    ghost use Rattle.raster_model.specs.Tiles.{tiles_of, window_of};
+    ghost use Rattle.std.specs.Prelude.{◌≡◌, ◌*◌, ◌<◌, IfOk, IsTrue, length};
+    ghost use Rattle.wrapped_gradient.specs.Gradients.{AreGradientsOf};
+    ghost use Rattle.wrapped_gradient.specs.Windows.{height_of, width_of};
+
+    /// The problem of a tile under the mask that `unmasked` tells: whether each pixel of the tile's window is open, in row
+    /// order. The gradients are the scene's over that window. It fails for want of memory alone.
+    pub fn of(
+        alloc: Global,
+        scene: &Scene,
+        gradients: &Gradients,
+        tile: u32,
+        unmasked: &[bool],
+    ) -> Result<Problem, AllocError>
+        requires tile { tile < tiles_of scene.now.tiling }
+        requires gradients { AreGradientsOf scene.now gradients.now }
+        requires window { gradients.now.window ≡ window_of scene.now.tiling tile }
+        requires count { length unmasked.now ≡ width_of gradients.now.window * height_of gradients.now.window }
+        ensures { IfOk result (λ made. IsProblemOf scene.now tile unmasked.now made) }
+    {
+        let window = scene.tiling.window(tile);
+        Ok(Problem {
+            window,
+            right: right_weights(alloc, scene, window, unmasked)?,
+            down: down_weights(alloc, scene, window, unmasked)?,
+            residues: residues(alloc, gradients)?,
+        })
+    }
+
+    /// Whether corrections and faces are an answer: the corrections cancel the residues, and the faces differ across each
+    /// edge by no more than its weight, and by the whole weight where it is corrected. Then no corrections cost less.
+    pub fn is_answered_by(&self, corrections: &Corrections, faces: &[i64]) -> bool
+        ensures { IsTrue result → Answers self.now corrections.now faces.now }
+    {
+        if !has_shape(self, corrections, faces) {
+            return false;
+        }
+        if !are_small(&corrections.right) {
+            return false;
+        }
+        if !are_small(&corrections.down) {
+            return false;
+        }
+        if !all_cancelled(self, corrections) {
+            return false;
+        }
+        right_edges_tight(self, corrections, faces) && down_edges_tight(self, corrections, faces)
+    }
+}

@@ -1,13 +1,14 @@
 -- What a search keeps of its lists.
-use Rattle.std.proofs.Common.{◌≡◌, ℕ, ◌+◌, ◌<◌, ◌≤◌, ◌^◌, sym, ◌∙◌, ap, arith, inl, inr}
-use Rattle.std.specs.Prelude.{ℤ, Option, pos, ◌≤ℤ◌, ◌<ℤ◌, List, length, get_or, slice_set, Some, None, Contains, replicate, [], ◌∷◌, ◌++◌}
+use Rattle.std.proofs.Common.{◌≡◌, ℕ, ◌+◌, ◌<◌, ◌≤◌, ◌^◌, sym, ◌∙◌, ap, refl, arith, subst, inl, inr}
+use Rattle.std.specs.Prelude.{◌⊎◌, ℤ, Option, pos, ◌≤ℤ◌, ◌<ℤ◌, List, length, get_or, slice_set, Some, None, Contains, replicate, [], ◌∷◌, ◌++◌, sum}
 use Rattle.std.proofs.lemmas.Int.{ints}
 use Rattle.std.proofs.lemmas.List.{get_or-set_same, get_or-set_other, length-set, get_or-replicate, length-replicate, length-append, get_or_append_left}
+use Rattle.std.proofs.lemmas.List.Sums.{sum_by-set}
 use Rattle.std.proofs.Math.Seq.{get_or-append_seam}
 use Rattle.std.proofs.lemmas.List.Elements.{Contains-push_cases}
 use Rattle.std.proofs.lemmas.Bool.{cases_eq}
 use Rattle.flow_network.specs.Nets.{Shape, State, IsArc, IsNetwork}
-use Rattle.shortest_augment.specs.Labels.{AreSteps, IsFresh, IsKept, IsNearest, IsLowered, IsFalling, AreFalls, GoesOn, fall_to}
+use Rattle.shortest_augment.specs.Labels.{AreDistances, IsSearched, AreSteps, IsFresh, IsKept, IsNearest, IsLowered, IsFalling, AreFalls, GoesOn, fall_to, work}
 use Rattle.shortest_augment.specs.Trees.{mark_at, no_mark}
 use Rattle.shortest_augment.specs.declared.mark.Mark.{Mark}
 use Rattle.shortest_augment.specs.declared.search.Search.{Search}
@@ -91,16 +92,20 @@ fresh_kept s n z count el ea es et = record {
   fresh = λ v l. inl (rw el (get_or-replicate n v (2 ^ 62) 0 (omega (arith, l, count))), rw ea (get_or-replicate n v (pos 0) (pos 0) (omega (arith, l, count))));
 }
 
+-- `IsFresh` of a search with these lists
+abbrev pub AreFresh : List ℕ → List ℤ → List ℕ → ℕ → ℕ → Type 0
+AreFresh labels amounts touched place v = ((get_or labels v 0 ≡ 2 ^ 62) × (get_or amounts v (pos 0) ≡ pos 0)) ⊎ ((j : ℕ) × ((place ≤ j) × (j < length touched) × (get_or touched j 0 ≡ v)))
+
 -- the node at a place is as before any search
-pub wiped_next : (s : Shape) (old new : Search) (place u v : ℕ) → length old.labels.items ≡ s.nodes → length old.amounts.items ≡ s.nodes → u < s.nodes → get_or old.touched.items place 0 ≡ u → new.labels.items ≡ slice_set old.labels.items u (2 ^ 62) → new.amounts.items ≡ slice_set old.amounts.items u (pos 0) → new.touched.items ≡ old.touched.items → IsFresh old place v → IsFresh new (place + 1) v
-wiped_next s old new place u v cl ca l at el ea et fresh =
+pub wiped_next : (labels : List ℕ) (amounts : List ℤ) (touched : List ℕ) (place u v : ℕ) → u < length labels → u < length amounts → get_or touched place 0 ≡ u → AreFresh labels amounts touched place v → AreFresh (slice_set labels u (2 ^ 62)) (slice_set amounts u (pos 0)) touched (place + 1) v
+wiped_next labels amounts touched place u v ll la at fresh =
     elim (cases_eq v u) [
-      | inl q ↦ inl (rw (el, q) (get_or-set_same old.labels.items u (2 ^ 62) 0 (omega (arith, l, cl))), rw (ea, q) (get_or-set_same old.amounts.items u (pos 0) (pos 0) (omega (arith, l, ca))))
+      | inl q ↦ inl (rw q (get_or-set_same labels u (2 ^ 62) 0 ll), rw q (get_or-set_same amounts u (pos 0) (pos 0) la))
       | inr q ↦ elim fresh [
-        | inl k ↦ inl (rw el (get_or-set_other old.labels.items u v (2 ^ 62) 0 q ∙ k.0), rw ea (get_or-set_other old.amounts.items u v (pos 0) (pos 0) q ∙ k.1))
+        | inl k ↦ inl (get_or-set_other labels u v (2 ^ 62) 0 q ∙ k.0, get_or-set_other amounts u v (pos 0) (pos 0) q ∙ k.1)
         | inr k ↦ elim (cases_eq k.0 place) [
-          | inl e ↦ absurd (q (sym k.1.2 ∙ ap (λ (j : ℕ). get_or old.touched.items j 0) e ∙ at))
-          | inr e ↦ inr (k.0, (let h = k.1.0 in omega (arith, e, h), rw et k.1.1, rw et k.1.2))
+          | inl e ↦ absurd (q (sym k.1.2 ∙ ap (λ (j : ℕ). get_or touched j 0) e ∙ at))
+          | inr e ↦ inr (k.0, (let h = k.1.0 in omega (arith, e, h), k.1.1, k.1.2))
         ]
       ]
     ]
@@ -153,6 +158,15 @@ wiped_end z place v le fresh =
       | inr k ↦ absurd (let a = k.1.0 in let b = k.1.1 in omega (arith, a, b, le))
     ]
 
+pub on-refl : (z : Search) → GoesOn z z
+on-refl z = record { source = refl; limit = refl; work = omega arith }
+
+-- a lower label leaves less to do, even if its node waits
+pub work_lowered : (labels : List ℕ) (h y waiting more : ℕ) → h < length labels → y < get_or labels h 0 → more ≤ waiting + 1 → work (slice_set labels h y) more ≤ work labels waiting
+work_lowered labels h y waiting more l shorter few =
+    let e : sum (slice_set labels h y) + get_or labels h 0 ≡ sum labels + y = sum_by-set (λ (x : ℕ). x) labels h y 0 l in
+    omega (arith, e, shorter, few)
+
 pub on-trans : (x y z : Search) → GoesOn x y → GoesOn y z → GoesOn x z
 on-trans x y z p q = record { source = q.source ∙ p.source; limit = q.limit ∙ p.limit; work = omega (arith, p.work, q.work) }
 
@@ -169,6 +183,14 @@ kept_popped s old new kept el es ea et = record {
         | inr k ↦ inr (rw et k)
       ]);
 }
+
+-- a search that found no node that lacks
+pub far_from : (s : Shape) (f : State) (z : Search) (r limit : ℕ) → IsSearched s f z → z.source ≡ r → z.limit ≡ limit → z.end ≡ None → AreDistances s f r z.labels.items limit limit None
+far_from s f z r limit done er el none =
+    let bound : z.bound ≡ limit = done.distances.nearest.none none ∙ el in
+    let from : AreDistances s f r z.labels.items z.limit z.bound z.end = subst (λ (q : ℕ). AreDistances s f q z.labels.items z.limit z.bound z.end) er done.distances in
+    let within : AreDistances s f r z.labels.items limit limit z.end = subst (λ (x : ℕ). AreDistances s f r z.labels.items limit x z.end) bound (subst (λ (l : ℕ). AreDistances s f r z.labels.items l z.bound z.end) el from) in
+    subst (λ (o : Option ℕ). AreDistances s f r z.labels.items limit limit o) none within
 
 -- the place of a list holds one of its elements
 pub held_at : (xs : List ℕ) (i x : ℕ) → i < length xs → x ≡ get_or xs i x → Contains xs x

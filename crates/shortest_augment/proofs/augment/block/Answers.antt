@@ -6,9 +6,9 @@ use Rattle.flow_network.specs.Nets.{Shape}
 use Rattle.shortest_augment.specs.Labels.{IsSmall}
 use Rattle.shortest_augment.specs.Heights.{IsReached}
 use Rattle.shortest_augment.specs.Sending.{IsAugmented, total_excess}
-use Rattle.shortest_augment.specs.Trees.{mark_at, IsForest, IsWiping}
+use Rattle.shortest_augment.specs.Trees.{mark_at, IsForest, IsWiping, IsTree, IsQueue, AreClear}
 use Rattle.shortest_augment.specs.declared.mark.Mark.{Mark}
-use Rattle.shortest_augment.proofs.SendLemmas.{augmented-trans, forest-augmented}
+use Rattle.shortest_augment.proofs.SendLemmas.{augmented-trans, forest-augmented, augmented-refl}
 use Rattle.shortest_augment.proofs.TreeLemmas.{tight_marked, wiping_start}
 use Rattle.shortest_augment.proofs.LinkLemmas.{small-augmented}
 use Rattle.shortest_augment.proofs.augment.block.Goals as goal
@@ -76,3 +76,33 @@ pub drain_rest-requires-clause-ends : goal.drain_rest-requires-clause-ends
 drain_rest-requires-clause-ends g c = λ v m. (
     let l = (c.in_ok-queue.ensures.queue.marked v (subst (λ (xs : List ℕ). Contains xs v) c.deref-3.ensures.value m)).0 in
     rw c.fill_all.ensures.shape l)
+
+pub returns-in_err-queue-clause-origin : goal.returns-in_err-queue-clause-origin
+returns-in_err-queue-clause-origin g c = g.met.N.FlowNet.origin_stays c.args.net.now
+
+pub returns-in_err-queue-clause-augmented : goal.returns-in_err-queue-clause-augmented
+returns-in_err-queue-clause-augmented g c = augmented-refl (g.N.FlowNet.shape c.args.net.now) (g.N.FlowNet.state c.args.net.now)
+
+pub fill_all-requires-clause-tree : goal.fill_all-requires-clause-tree
+fill_all-requires-clause-tree g c = rw c.deref.ensures.value c.in_ok-queue.ensures.tree
+
+pub fill_all-requires-clause-queue : goal.fill_all-requires-clause-queue
+fill_all-requires-clause-queue g c = rw (c.deref.ensures.value, c.deref-2.ensures.value) c.in_ok-queue.ensures.queue
+
+pub drain_rest-requires-clause-source : goal.drain_rest-requires-clause-source
+drain_rest-requires-clause-source g c = rw c.fill_all.ensures.shape c.requires.source
+
+pub returns-in_err-drain_rest-clause-shape : goal.returns-in_err-drain_rest-clause-shape
+returns-in_err-drain_rest-clause-shape g c = c.drain_rest.ensures.shape ∙ c.fill_all.ensures.shape
+
+pub returns-in_err-drain_rest-clause-origin : goal.returns-in_err-drain_rest-clause-origin
+returns-in_err-drain_rest-clause-origin g c = g.met.N.FlowNet.origin_follows c.args.net.now c.fill_all.new.net c.drain_rest.new.net c.fill_all.ensures.origin c.drain_rest.ensures.origin
+
+pub returns-clause-shape : goal.returns-clause-shape
+returns-clause-shape g c = c.drain_rest.ensures.shape ∙ c.fill_all.ensures.shape
+
+pub returns-clause-origin : goal.returns-clause-origin
+returns-clause-origin g c = g.met.N.FlowNet.origin_follows c.args.net.now c.fill_all.new.net c.drain_rest.new.net c.fill_all.ensures.origin c.drain_rest.ensures.origin
+
+pub returns-clause-clear : goal.returns-clause-clear
+returns-clause-clear g c = subst (λ (t : Shape). AreClear t c.wipe.new.marks.items) (c.drain_rest.ensures.shape ∙ c.fill_all.ensures.shape) c.wipe.ensures

@@ -89,3 +89,30 @@ fault_of-requires-clause-source g c =
 
 pub returns-in-Ok-false-clause-blocked : goal.returns-in-Ok-false-clause-blocked
 returns-in-Ok-false-clause-blocked g c = rw (← (served g (goal.at.returns-in-Ok-false-clause-blocked g c).After-serve).shape) c.fault_of.ensures
+
+pub with_excess-requires : goal.with_excess-requires
+with_excess-requires g c = c.loop-source.invariant.low
+
+pub serve-requires-clause-source : goal.serve-requires-clause-source
+serve-requires-clause-source g c = c.in-Some.ensures.some.0
+
+pub serve-requires-clause-holds : goal.serve-requires-clause-holds
+serve-requires-clause-holds g c = c.in-Some.ensures.some.1
+
+pub serve-requires-clause-ready : goal.serve-requires-clause-ready
+serve-requires-clause-ready g c = c.loop-source.invariant.ready
+
+pub returns-in-Err-clause-origin : goal.returns-in-Err-clause-origin
+returns-in-Err-clause-origin g c = g.met.N.FlowNet.origin_follows c.args.net.now c.loop-source.net c.serve.new.net c.loop-source.invariant.origin c.serve.ensures.origin
+
+pub fault_of-requires-clause-depths : goal.fault_of-requires-clause-depths
+fault_of-requires-clause-depths g c = has_depths (g.N.FlowNet.shape c.args.net.now) (g.N.FlowNet.shape c.serve.new.net) (g.N.FlowNet.state c.args.net.now) (g.N.FlowNet.state c.serve.new.net) (served g (goal.at.fault_of-requires-clause-depths g c).After-serve) c.requires.depths
+
+pub returns-in-Ok-false-clause-origin : goal.returns-in-Ok-false-clause-origin
+returns-in-Ok-false-clause-origin g c = g.met.N.FlowNet.origin_follows c.args.net.now c.loop-source.net c.serve.new.net c.loop-source.invariant.origin c.serve.ensures.origin
+
+pub returns-clause-served : goal.returns-clause-served
+returns-clause-served g c = c.loop-source.invariant.served
+
+pub returns-clause-origin : goal.returns-clause-origin
+returns-clause-origin g c = c.loop-source.invariant.origin

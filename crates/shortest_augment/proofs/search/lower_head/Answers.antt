@@ -1,11 +1,11 @@
-use Rattle.std.proofs.Common.{◌≡◌, ◌<◌, sym, refl, arith, get_or}
+use Rattle.std.proofs.Common.{◌≡◌, ◌<◌, sym, refl, arith, get_or, length}
 use Rattle.std.specs.Prelude.{◌-◌, ◌^◌}
-use Rattle.std.specs.BinaryHeap.{heap_items}
+use Rattle.std.specs.BinaryHeap.{heap_items, heap_len}
 use Rattle.std.proofs.lemmas.Int.{ints}
 use Rattle.flow_network.specs.Nets.{tail_of}
 use Rattle.shortest_augment.proofs.LabelLemmas.{lower, lower_at, lower_tells}
 use Rattle.shortest_augment.proofs.FrontLemmas.{front_nearer, front_lowered}
-use Rattle.shortest_augment.proofs.SearchLemmas.{kept_lowered, nearest_nearer, nearest_same}
+use Rattle.shortest_augment.proofs.SearchLemmas.{work_lowered, kept_lowered, nearest_nearer, nearest_same}
 use Rattle.shortest_augment.proofs.search.lower_head.Goals as goal
 
 pub returns-then-excess-lt0-clause-lowered : goal.returns-then-excess-lt0-clause-lowered
@@ -67,3 +67,41 @@ returns-clause-searching g c =
       kept = kept_lowered s old _ h y _ was.kept (rw c.head-head.ensures (net.ends a c.requires.arc)) (λ b e. (let same : a ≡ b = cc in (rw (← same) c.requires.arc, rw (← same) (sym c.head-head.ensures)))) refl refl refl c.in_ok-push.ensures.items;
       limit = was.limit;
     }
+
+pub index-requires : goal.index-requires
+index-requires g c =
+    let s = g.N.FlowNet.shape c.args.net.now in
+    let net = g.met.N.FlowNet.is_network c.args.net.now in
+    omega (arith, net.ends (s.twin c.args.arc) (net.has_twin c.args.arc c.requires.arc), c.tail.ensures, c.requires.searching.kept.steps.count, c.args.search.now.steps.ok.0)
+
+pub index_mut-requires : goal.index_mut-requires
+index_mut-requires g c =
+    let l = (g.met.N.FlowNet.is_network c.args.net.now).ends c.args.arc c.requires.arc in
+    omega (arith, l, c.head-head.ensures, c.requires.searching.kept.labels, c.args.search.now.labels.ok.0)
+
+pub index_mut-requires-2 : goal.index_mut-requires-2
+index_mut-requires-2 g c =
+    let l = (g.met.N.FlowNet.is_network c.args.net.now).ends c.args.arc c.requires.arc in
+    omega (arith, l, c.head-head.ensures, c.requires.searching.kept.steps.count, c.args.search.now.steps.ok.0)
+
+pub excess-requires : goal.excess-requires
+excess-requires g c = rw c.head-head.ensures ((g.met.N.FlowNet.is_network c.args.net.now).ends c.args.arc c.requires.arc)
+
+pub overflow_sub-length : goal.overflow_sub-length
+overflow_sub-length g c = omega (arith, c.requires.near, c.requires.searching.nearest.most, c.requires.searching.limit)
+
+pub returns-then-excess-lt0-clause-on : goal.returns-then-excess-lt0-clause-on
+returns-then-excess-lt0-clause-on g c =
+    let z = c.args.search.now in
+    let h = c.head-head.result in
+    let below : h < length z.labels.items = omega (arith, (g.met.N.FlowNet.is_network c.args.net.now).ends c.args.arc c.requires.arc, c.head-head.ensures, c.requires.searching.kept.labels) in
+    let shorter : c.args.length < get_or z.labels.items h 0 = rw c.head-head.ensures c.requires.shorter in
+    record { source = refl; limit = refl; work = work_lowered z.labels.items h c.args.length (heap_len z.queue) (heap_len z.queue) below shorter (omega arith) }
+
+pub returns-clause-on : goal.returns-clause-on
+returns-clause-on g c =
+    let z = c.args.search.now in
+    let h = c.head-head.result in
+    let below : h < length z.labels.items = omega (arith, (g.met.N.FlowNet.is_network c.args.net.now).ends c.args.arc c.requires.arc, c.head-head.ensures, c.requires.searching.kept.labels) in
+    let shorter : c.args.length < get_or z.labels.items h 0 = rw c.head-head.ensures c.requires.shorter in
+    record { source = refl; limit = refl; work = work_lowered z.labels.items h c.args.length (heap_len z.queue) (heap_len c.push-2.new.self) below shorter (omega (arith, c.in_ok-push-2.ensures.len)) }

@@ -1,4 +1,4 @@
-use Rattle.std.proofs.Common.{◌≡◌, refl, Some, None}
+use Rattle.std.proofs.Common.{◌≡◌, refl, Some, None, arith}
 use Rattle.std.specs.BinaryHeap.{heap_items}
 use Rattle.shortest_augment.proofs.LabelLemmas.{first_labels, first_only, first_nearest}
 use Rattle.shortest_augment.proofs.FrontLemmas.{front_start}
@@ -21,3 +21,9 @@ returns-clause-searching g c =
       kept = kept_lowered s was _ r 0 _ e.kept c.requires.source (λ a q. absurd (let k : None ≡ Some a = rw c.root.ensures at q in cc)) refl refl refl c.in_ok-push.ensures.items;
       limit = c.requires.limit;
     }
+
+pub index_mut-requires : goal.index_mut-requires
+index_mut-requires g c = omega (arith, c.requires.source, c.wipe.ensures.kept.labels, c.wipe.new.search.labels.ok.0)
+
+pub index_mut-requires-2 : goal.index_mut-requires-2
+index_mut-requires-2 g c = omega (arith, c.requires.source, c.wipe.ensures.kept.steps.count, c.wipe.new.search.steps.ok.0)

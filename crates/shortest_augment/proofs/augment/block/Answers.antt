@@ -6,7 +6,7 @@ use Rattle.flow_network.specs.Nets.{Shape}
 use Rattle.shortest_augment.specs.Labels.{IsSmall}
 use Rattle.shortest_augment.specs.Heights.{IsReached}
 use Rattle.shortest_augment.specs.Sending.{IsAugmented, total_excess}
-use Rattle.shortest_augment.specs.Trees.{mark_at, IsForest, IsWiping, IsTree, IsQueue, AreClear}
+use Rattle.shortest_augment.specs.Trees.{mark_at, IsForest, IsWiping, AreClear}
 use Rattle.shortest_augment.specs.declared.mark.Mark.{Mark}
 use Rattle.shortest_augment.proofs.SendLemmas.{augmented-trans, forest-augmented, augmented-refl}
 use Rattle.shortest_augment.proofs.TreeLemmas.{tight_marked, wiping_start}

@@ -40,3 +40,27 @@ loop-alloc-smaller g c =
 
 pub returns-then-not-branch-clause-origin : goal.returns-then-not-branch-clause-origin
 returns-then-not-branch-clause-origin g c = g.met.N.FlowNet.origin_follows c.args.net.now c.loop-alloc.net c.serve.new.net c.loop-alloc.invariant.origin c.serve.ensures.origin
+
+pub excess-requires : goal.excess-requires
+excess-requires g c = rw c.loop-alloc.invariant.served.shape c.requires.source
+
+pub serve-requires-clause-source : goal.serve-requires-clause-source
+serve-requires-clause-source g c = rw c.loop-alloc.invariant.served.shape c.requires.source
+
+pub serve-requires-clause-ready : goal.serve-requires-clause-ready
+serve-requires-clause-ready g c = c.loop-alloc.invariant.ready
+
+pub returns-then-not-branch-clause-served : goal.returns-then-not-branch-clause-served
+returns-then-not-branch-clause-served g c = served-trans (g.N.FlowNet.shape c.args.net.now) (g.N.FlowNet.shape c.loop-alloc.net) (g.N.FlowNet.shape c.serve.new.net) (g.N.FlowNet.state c.args.net.now) (g.N.FlowNet.state c.loop-alloc.net) (g.N.FlowNet.state c.serve.new.net) c.loop-alloc.invariant.served c.serve.ensures.served
+
+pub returns-then-not-branch-clause-ready : goal.returns-then-not-branch-clause-ready
+returns-then-not-branch-clause-ready g c = c.in_ok-serve.ensures.ready
+
+pub returns-clause-served : goal.returns-clause-served
+returns-clause-served g c = c.loop-alloc.invariant.served
+
+pub returns-clause-origin : goal.returns-clause-origin
+returns-clause-origin g c = c.loop-alloc.invariant.origin
+
+pub returns-clause-ready : goal.returns-clause-ready
+returns-clause-ready g c = c.loop-alloc.invariant.ready

@@ -1,7 +1,6 @@
 use Rattle.std.proofs.Common.{◌<◌, arith, length, ◌≡◌, ◌∙◌, refl, get_or, to_z, of_z, sym, ◌≤◌}
 use Rattle.shortest_augment.proofs.SearchLemmas.{held_at, falling_next, falling_end}
 use Rattle.std.specs.Int.{w64}
-use Rattle.std.specs.Prelude.{pos}
 use Rattle.std.proofs.lemmas.Int.{ints}
 use Rattle.std.proofs.lemmas.List.{get_or_default, length-set}
 use Rattle.shortest_augment.specs.Labels.{fall_to}

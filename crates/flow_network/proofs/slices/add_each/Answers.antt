@@ -3,7 +3,7 @@ use Rattle.std.specs.Prelude.{ℤ, pos, ◌+ℤ◌, get_or, length, unsigned_abs
 use Rattle.std.specs.Int.{w64}
 use Rattle.std.proofs.lemmas.Int.{ints}
 use Rattle.std.proofs.lemmas.Bool.{cases_eq}
-use Rattle.std.proofs.lemmas.List.{get_or_default, get_or-set_same, get_or-set_other}
+use Rattle.std.proofs.lemmas.List.{get_or-set_same, get_or-set_other}
 use Rattle.flow_network.proofs.slices.add_each.Goals as goal
 
 -- the sum as the code has it
@@ -13,17 +13,16 @@ sum_is x y fx fy within = omega (arith, ints)
 pub loop-i-preserved : goal.loop-i-preserved
 loop-i-preserved c =
     let i = c.loop-i.i in
-    let first = c.args.values.now.items in
-    let old = c.loop-i.values.items in
+    let first = c.args.values.now in
+    let old = c.loop-i.values in
     let inv = c.loop-i.invariant in
-    let x : ℤ = c.index_mut.result.now in
+    let x : ℤ = get_or old i (pos 0) in
     let y : ℤ = get_or c.args.amounts.now i (pos 0) in
-    let below : i < length first = omega (arith, c.loop-i-test.true, c.len-i-end.ensures, c.args.values.now.ok.0) in
-    let same : length old ≡ length first = search rules in
-    let l : i < length old = omega (arith, below, same) in
+    let below : i < length first = omega (arith, c.loop-i-test.true) in
+    let l : i < length old = omega (arith, below, c.loop-i.auto.values) in
     let fx : FitsSigned w64 x = search rules in
     let fy : FitsSigned w64 y = search rules in
-    let at : x ≡ get_or first i (pos 0) = c.index_mut.ensures.value ∙ get_or_default old i x (pos 0) l ∙ inv.rest i (omega arith) in
+    let at : x ≡ get_or first i (pos 0) = inv.rest i (omega arith) in
     let value : to_z w64 (of_z w64 (to_z w64 (of_z w64 x) +ℤ to_z w64 (of_z w64 y))) ≡ x +ℤ y = sum_is x y fx fy (rw at (c.requires.within i below)) in
     record {
       done = λ k m. (

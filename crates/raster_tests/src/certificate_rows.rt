@@ -2,8 +2,9 @@ ghost use Rattle.std.specs.Prelude.{pos, true};
 
 use certificates::{TileSet, TileVerdict, check_faces, check_tile};
 use raster_model::{Edge, Heights, Mask, Tiling};
+use std::alloc::{AllocError, Global};
 use std::test::Fail;
-use worked_scenes::{masked, same, scene, tile_result};
+use worked_scenes::{SceneFault, masked, scene, tile_result};
 
 /// The phase itself.
 #[derive(Drop)]
@@ -19,88 +20,94 @@ impl Heights for Flat {
     }
 }
 
-/// A full turn round the cell of `0 16384 / 49152 32768`, all open or all masked. Its lightest edge weighs 3, so no
-/// surface costs less. Masked edges weigh nothing.
+const OPEN: &[u16] = &[1; 4];
+
+const MASKED: &[u16] = &[0; 4];
+
+/// Cycles of a pixel that are out of range.
+const FAR: i32 = 8_388_609;
+
+/// Mask, cycles and face of a full turn round the cell of `0 16384 / 49152 32768`, and what the check says. Its lightest
+/// edge weighs 3, so no surface costs less. Masked edges weigh nothing.
+const ROWS: [(&[u16], &[i32], i64, TileVerdict); 8] = [
+    (OPEN, &[0, 0, -1, 0], 3, TileVerdict::Good),
+    (OPEN, &[0, 0, 0, 0], 3, TileVerdict::Good),
+    (
+        OPEN,
+        &[0, 0, 0, -1],
+        3,
+        TileVerdict::CostDiffers { cost: 11, bound: 3 },
+    ),
+    (OPEN, &[0, 0, -1, 0], 4, TileVerdict::FaceAtEdge(LEFT)),
+    (OPEN, &[0, 0, -1, 0], -6, TileVerdict::FaceAtEdge(TOP)),
+    (OPEN, &[0, 0, 0, -FAR], 6, TileVerdict::Range { x: 1, y: 1 }),
+    (OPEN, &[FAR, 0, 0], 3, TileVerdict::Shape),
+    (MASKED, &[FAR, 0, 0, 0], 0, TileVerdict::Good),
+];
+
+const LEFT: Edge = Edge {
+    x: 0,
+    y: 0,
+    down: true,
+};
+
+const TOP: Edge = Edge {
+    x: 0,
+    y: 0,
+    down: false,
+};
+
+/// What the check says of the turn.
+fn verdict(
+    alloc: Global,
+    open: &[u16],
+    cycles: &[i32],
+    face: i64,
+) -> Result<TileVerdict, SceneFault> {
+    let tiling = Tiling::new(2, 2, 128);
+    let phases = [0, 16384, 49152, 32768];
+    let scene = scene(alloc, tiling, 9, &phases, &[5, 5, 3, 9])?;
+    let mask = masked(alloc, &tiling, open)?;
+    let result = tile_result(alloc, 0, 1, cycles, &[face])?;
+    Ok(check_tile(&scene, &mask, &result))
+}
+
 #[test]
 fn tells_the_first_break_of_a_tile(rt: HostRuntime) -> Result<(), Fail> {
-    let tiling = Tiling::new(2, 2, 128);
-    let scene = scene(
-        rt.alloc(),
-        tiling,
-        9,
-        &[0, 16384, 49152, 32768],
-        &[5, 5, 3, 9],
-    )?;
-    let open = Mask::all_open(rt.alloc(), 2, 2)?;
-    let none = masked(rt.alloc(), &tiling, &[0; 4])?;
-    assert!(rt; 0 < scene.tiling.tile_count() && none.width() == 2 && none.height() == 2);
-    let left = Edge {
-        x: 0,
-        y: 0,
-        down: true,
-    };
-    let top = Edge {
-        x: 0,
-        y: 0,
-        down: false,
-    };
-    let differs = TileVerdict::CostDiffers { cost: 11, bound: 3 };
-    let range = TileVerdict::Range { x: 1, y: 1 };
-    let far = 8_388_609;
-    let cases = [
-        ([0, 0, -1, 0], 3, TileVerdict::Good),
-        ([0, 0, 0, 0], 3, TileVerdict::Good),
-        ([0, 0, 0, -1], 3, differs),
-        ([0, 0, -1, 0], 4, TileVerdict::FaceAtEdge(left)),
-        ([0, 0, -1, 0], -6, TileVerdict::FaceAtEdge(top)),
-        ([0, 0, 0, -far], 6, range),
-    ];
-    for (cycles, face, verdict) in cases {
-        let result = tile_result(rt.alloc(), 0, 1, &cycles, &[face])?;
-        same("open", check_tile(&scene, &open, &result), verdict)?;
+    for (open, cycles, face, wanted) in ROWS {
+        assert_eq!(rt; verdict(rt.alloc(), open, cycles, face)?, wanted);
     }
-    let few = tile_result(rt.alloc(), 0, 1, &[far, 0, 0], &[3])?;
-    same("few", check_tile(&scene, &open, &few), TileVerdict::Shape)?;
-    let flat = tile_result(rt.alloc(), 0, 1, &[far, 0, 0, 0], &[0])?;
-    same(
-        "masked",
-        check_tile(&scene, &none, &flat),
-        TileVerdict::Good,
-    )?;
     Ok(())
 }
 
-/// The second tile of a row is one pixel wide, so it has no cell.
-#[test]
-fn a_tile_without_cells_needs_no_faces(rt: HostRuntime) -> Result<(), Fail> {
+/// What the check says of faces of the second tile of a row, which is one pixel wide, so that it has no cell.
+fn faces_verdict(alloc: Global, faces: &[i64]) -> Result<TileVerdict, SceneFault> {
     let tiling = Tiling::new(4, 3, 3);
     let phases = [0, 0, 0, 0, 0, 0, 0, 20000, 0, 0, 0, 40000];
-    let scene = scene(rt.alloc(), tiling, 9, &phases, &[9; 12])?;
-    let mask = Mask::all_open(rt.alloc(), 4, 3)?;
-    assert!(rt; scene.tiling.tile_count() == 2);
-    let none = check_faces(&scene, &mask, 1, &Flat {}, &[]);
-    let spare = check_faces(&scene, &mask, 1, &Flat {}, &[0]);
-    same(
-        "tile",
-        (none, spare),
-        (TileVerdict::Good, TileVerdict::Shape),
-    )?;
+    let scene = scene(alloc, tiling, 9, &phases, &[9; 12])?;
+    let mask = Mask::all_open(alloc, 4, 3)?;
+    Ok(check_faces(&scene, &mask, 1, &Flat {}, faces))
+}
+
+#[test]
+fn a_tile_without_cells_needs_no_faces(rt: HostRuntime) -> Result<(), Fail> {
+    assert_eq!(rt; faces_verdict(rt.alloc(), &[])?, TileVerdict::Good);
+    assert_eq!(rt; faces_verdict(rt.alloc(), &[0])?, TileVerdict::Shape);
     Ok(())
+}
+
+/// A copy of a result in a set, in words.
+fn copied(alloc: Global) -> Result<String, AllocError> {
+    let tiling = Tiling::new(2, 2, 128);
+    let result = tile_result(alloc, 0, 1, &[0, 0, -1, 0], &[3])?;
+    let set = TileSet::new(&tiling, vec![in alloc; result]?);
+    let copies = set.try_copy()?;
+    let copy = copies.tile(0);
+    format!(in alloc; "{} {:?} {:?}", copy.stamp, copy.cycles, copy.faces)
 }
 
 #[test]
 fn keeps_a_result_for_each_tile(rt: HostRuntime) -> Result<(), Fail> {
-    let tiling = Tiling::new(2, 2, 128);
-    assert!(rt; tiling.tile_count() == 1);
-    let result = tile_result(rt.alloc(), 0, 1, &[0, 0, -1, 0], &[3])?;
-    let set = TileSet::new(&tiling, vec![in rt.alloc(); result]?);
-    let copies = set.try_copy()?;
-    let copy = copies.tile(0);
-    same(
-        "cycles",
-        (copy.stamp, &copy.cycles[..]),
-        (1, &[0, 0, -1, 0]),
-    )?;
-    same("faces", &copy.faces[..], &[3])?;
+    assert_eq!(rt; copied(rt.alloc())?.as_str(), "1 [0, 0, -1, 0] [3]");
     Ok(())
 }

@@ -1,55 +1,59 @@
 use raster_model::Tiling;
 use seam_regions::Regions;
+use std::alloc::{AllocError, Global};
 use std::test::Fail;
-use worked_scenes::{masked, same};
+use worked_scenes::{SceneFault, masked};
 
-const NONE: u32 = u32::MAX;
+/// Width and height of a raster and the side of its tiles, its mask by rows, 1 where a pixel is open, the count of its
+/// regions, each pixel's label by rows, and the region of the last pixel. By hand: a masked column parts the upper tile
+/// into two regions, and the row below it is a tile of its own. In `0 1 0 1 / 1 0 0 1 / 1 1 1 1` the pixel (1, 0) touches
+/// the others at a corner alone, and (0, 1) is joined to (3, 0) round the bottom. A ring is one region that closes at its
+/// last pixel. One pixel is a region, and masked ones are none.
+const ROWS: [(u32, u32, u32, &[u16], &str); 6] = [
+    (
+        3,
+        4,
+        3,
+        &[1, 0, 1, 1, 0, 1, 1, 0, 1, 1, 1, 1],
+        "3 0.10.10.1222 Some(2)",
+    ),
+    (
+        4,
+        3,
+        4,
+        &[0, 1, 0, 1, 1, 0, 0, 1, 1, 1, 1, 1],
+        "2 .0.11..11111 Some(1)",
+    ),
+    (3, 3, 4, &[1, 1, 1, 1, 0, 1, 1, 1, 1], "1 0000.0000 Some(0)"),
+    (3, 2, 2, &[1, 1, 1, 1, 1, 1], "2 001001 Some(1)"),
+    (1, 1, 2, &[1], "1 0 Some(0)"),
+    (2, 1, 2, &[0, 0], "0 .. None"),
+];
 
-/// By hand, with masks by rows, 1 where a pixel is open. A masked column parts the upper tile into two regions, and the
-/// row below it is a tile of its own. In `0 1 0 1 / 1 0 0 1 / 1 1 1 1` the pixel (1, 0) touches the others at a corner
-/// alone, and (0, 1) is joined to (3, 0) round the bottom. A ring is one region that closes at its last pixel. One pixel
-/// is a region, and masked ones are none.
+/// Labels as digits, and a point where there is none.
+fn drawn(alloc: Global, labels: &[u32]) -> Result<String, AllocError> {
+    let mut text = String::new(alloc);
+    for &label in labels {
+        text.push(char::from_digit(label, 10).unwrap_or('.'))?;
+    }
+    Ok(text)
+}
+
+/// The regions of a mask in words.
+fn told(alloc: Global, tiling: Tiling, open: &[u16]) -> Result<String, SceneFault> {
+    let mask = masked(alloc, &tiling, open)?;
+    let regions = Regions::of(alloc, &tiling, &mask)?;
+    let labels = drawn(alloc, regions.labels())?;
+    let last = regions.region(tiling.width - 1, tiling.height - 1);
+    Ok(format!(in alloc; "{} {labels} {last:?}", regions.count())?)
+}
+
 #[test]
 fn regions_are_numbered_by_their_first_pixels(rt: HostRuntime) -> Result<(), Fail> {
-    let cases: [((u32, u32, u32), &[u16], u32, &[u32]); 6] = [
-        (
-            (3, 4, 3),
-            &[1, 0, 1, 1, 0, 1, 1, 0, 1, 1, 1, 1],
-            3,
-            &[0, NONE, 1, 0, NONE, 1, 0, NONE, 1, 2, 2, 2],
-        ),
-        (
-            (4, 3, 4),
-            &[0, 1, 0, 1, 1, 0, 0, 1, 1, 1, 1, 1],
-            2,
-            &[NONE, 0, NONE, 1, 1, NONE, NONE, 1, 1, 1, 1, 1],
-        ),
-        (
-            (3, 3, 4),
-            &[1, 1, 1, 1, 0, 1, 1, 1, 1],
-            1,
-            &[0, 0, 0, 0, NONE, 0, 0, 0, 0],
-        ),
-        ((3, 2, 2), &[1, 1, 1, 1, 1, 1], 2, &[0, 0, 1, 0, 0, 1]),
-        ((1, 1, 2), &[1], 1, &[0]),
-        ((2, 1, 2), &[0, 0], 0, &[NONE, NONE]),
-    ];
-    for ((width, height, side), rows, count, labels) in cases {
+    for (width, height, side, open, regions) in ROWS {
         assert!(rt; 0 < width && width < 9 && 0 < height && height < 9 && 1 < side && side < 9);
         let tiling = Tiling::new(width, height, side);
-        let mask = masked(rt.alloc(), &tiling, rows)?;
-        let regions = Regions::of(rt.alloc(), &tiling, &mask)?;
-        same(
-            "regions",
-            (regions.count(), regions.labels()),
-            (count, labels),
-        )?;
-        let last = regions.region(width - 1, height - 1);
-        same(
-            "last pixel",
-            last.as_ref(),
-            labels.last().filter(|&&label| label != NONE),
-        )?;
+        assert_eq!(rt; told(rt.alloc(), tiling, open)?.as_str(), regions);
     }
     Ok(())
 }

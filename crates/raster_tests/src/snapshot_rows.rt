@@ -1,19 +1,22 @@
-ghost use Rattle.std.specs.Arc.{arc_value};
 ghost use Rattle.certificates.specs.Results.{IsGoodTile};
 ghost use Rattle.raster_model.specs.Masks.{open_at};
 ghost use Rattle.raster_model.specs.Tiles.{tiles_of};
-ghost use Rattle.std.specs.Prelude.{◌≡◌, ◌<◌, IfOk};
+ghost use Rattle.std.specs.Arc.{arc_value};
+ghost use Rattle.std.specs.Prelude.{◌≡◌, ◌<◌, IfOk, IfSome};
 ghost use Rattle.surface_snapshots.specs.Parts.{AreGoodTiles};
 ghost use Rattle.surface_snapshots.specs.Views.{parts_of};
 
-use certificates::{SeamResult, SeamVerdict, TileResult, TileSet, TileVerdict, check_tile};
-use raster_model::{Edge, Heights, Mask, Scene, Script, Session, Tiling};
+use certificates::{SeamResult, TileResult, TileSet, TileVerdict, check_tile};
+use raster_model::{Heights, Mask, Scene, Script, Session, Tiling};
 use seam_regions::Regions;
 use std::alloc::{AllocError, Global};
 use std::sync::Arc;
 use std::test::Fail;
-use surface_snapshots::{BuildFault, Snapshot};
-use worked_scenes::{masked, same, scene, tile_result};
+use surface_snapshots::Snapshot;
+use worked_scenes::{SceneFault, masked, scene, tile_result};
+
+/// The cycles and the faces of a tile.
+type Solved = (&'static [i32], &'static [i64]);
 
 /// A tile's result, where it is good.
 fn solved(
@@ -21,18 +24,18 @@ fn solved(
     scene: &Scene,
     mask: &Mask,
     tile: u32,
-    cycles: &[i32],
-    faces: &[i64],
-) -> Result<TileResult, Fail>
+    numbers: Solved,
+) -> Option<TileResult>
     requires same_size { (mask.now.width ≡ scene.now.phase.width) × (mask.now.height ≡ scene.now.phase.height) }
     requires exists { tile < tiles_of scene.now.tiling }
-    ensures tile { IfOk result (λ made. made.tile ≡ tile) }
-    ensures good { IfOk result (IsGoodTile scene.now (open_at mask.now)) }
+    ensures tile { IfSome result (λ made. made.tile ≡ tile) }
+    ensures good { IfSome result (IsGoodTile scene.now (open_at mask.now)) }
 {
-    let made = tile_result(alloc, tile, 0, cycles, faces)?;
+    let (cycles, faces) = numbers;
+    let made = tile_result(alloc, tile, 0, cycles, faces).ok()?;
     match check_tile(scene, mask, &made) {
-        TileVerdict::Good => Ok(made),
-        verdict => Err(verdict)?,
+        TileVerdict::Good => Some(made),
+        _ => None,
     }
 }
 
@@ -69,132 +72,185 @@ fn session(alloc: Global, scene: Scene, first_mask: Mask) -> Result<Arc<Session>
     Ok(Arc::new(alloc, session)?)
 }
 
-/// What is built of two tiles with these cycles and faces. The samples are those of phase, weights and mask.
-fn built(
-    alloc: Global,
-    tiling: Tiling,
-    samples: [&[u16]; 3],
-    tiles: [(&[i32], &[i64]); 2],
-    offsets: &[i64],
-    flows: &[i64],
-) -> Result<Result<Snapshot, BuildFault>, Fail>
-    requires two { tiles_of tiling ≡ 2 }
-    ensures { IfOk result (λ made. IfOk made (λ snapshot. (parts_of snapshot).session.scene.tiling ≡ tiling)) }
+/// The same for samples of phases, weights and mask.
+fn sampled(alloc: Global, tiling: Tiling, samples: [&[u16]; 3]) -> Result<Arc<Session>, SceneFault>
+    ensures { IfOk result (λ made. (arc_value made).scene.tiling ≡ tiling) }
 {
     let [phases, weights, open] = samples;
     let scene = scene(alloc, tiling, 9, phases, weights)?;
     let mask = masked(alloc, &tiling, open)?;
-    let [(cycles, faces), (more_cycles, more_faces)] = tiles;
-    let first = solved(alloc, &scene, &mask, 0, cycles, faces)?;
-    let second = solved(alloc, &scene, &mask, 1, more_cycles, more_faces)?;
-    let tiles = pair(alloc, &scene, &mask, first, second)?;
-    let regions = Regions::of(alloc, &tiling, &mask)?;
-    let first_mask = mask.try_copy()?;
-    let session = session(alloc, scene, first_mask)?;
-    let seams = SeamResult {
+    Ok(session(alloc, scene, mask)?)
+}
+
+/// The set of the results of two tiles, where they are good.
+fn results(alloc: Global, session: &Session, tiles: [Solved; 2]) -> Option<TileSet>
+    requires two { tiles_of session.now.scene.tiling ≡ 2 }
+    ensures tiling { IfSome result (λ made. made.tiling ≡ session.now.scene.tiling) }
+    ensures good { IfSome result (λ made. AreGoodTiles session.now.scene (open_at session.now.first_mask) made.results) }
+{
+    let (scene, mask) = (&session.scene, &session.first_mask);
+    let [first, second] = tiles;
+    let first = solved(alloc, scene, mask, 0, first)?;
+    let second = solved(alloc, scene, mask, 1, second)?;
+    match pair(alloc, scene, mask, first, second) {
+        Ok(set) => Some(set),
+        Err(_) => None,
+    }
+}
+
+/// Offsets and flows of revision 7.
+fn seams(alloc: Global, offsets: &[i64], flows: &[i64]) -> Result<SeamResult, AllocError> {
+    Ok(SeamResult {
         revision: 7,
-        offsets: offsets.iter().copied().collect(alloc)?,
-        flows: flows.iter().copied().collect(alloc)?,
+        offsets: offsets.to_vec(alloc)?,
+        flows: flows.to_vec(alloc)?,
+    })
+}
+
+/// Adds a pixel's value and its cycles above the phase, or `N` where it is masked.
+fn add_pixel(
+    alloc: Global,
+    snapshot: &Snapshot,
+    x: u32,
+    y: u32,
+    text: &mut String,
+) -> Result<(), AllocError>
+    requires { (x < (parts_of snapshot.now).session.scene.phase.width) × (y < (parts_of snapshot.now).session.scene.phase.height) }
+{
+    let Some(value) = snapshot.value(x, y) else {
+        return text.push_str("N, ");
     };
-    Ok(Snapshot::build(alloc, session, mask, regions, tiles, seams))
+    let cycles = snapshot.cycles(x, y);
+    text.push_str(format!(in alloc; "{value} by {cycles}, ")?.as_str())
+}
+
+/// The pixels of a surface by rows.
+fn pixels(alloc: Global, snapshot: &Snapshot) -> Result<String, AllocError> {
+    let mut text = String::new(alloc);
+    for y in 0..snapshot.height() {
+        for x in 0..snapshot.width() {
+            add_pixel(alloc, snapshot, x, y, &mut text)?;
+        }
+    }
+    Ok(text)
+}
+
+/// A surface in words: its revision, the costs of its tiles and of its seams, its pixels, the flows, and the faces of its
+/// first tile.
+fn surface(alloc: Global, snapshot: &Snapshot) -> Result<String, AllocError>
+    requires { 0 < tiles_of (parts_of snapshot.now).session.scene.tiling }
+{
+    let pixels = pixels(alloc, snapshot)?;
+    let costs = (snapshot.tile_cost(), snapshot.seam_cost());
+    let (flows, faces) = (snapshot.flows(), snapshot.faces(0));
+    format!(in alloc;
+        "{} {costs:?} {pixels}{flows:?} {faces:?}",
+        snapshot.revision()
+    )
+}
+
+/// What is built of results, offsets and flows, or why nothing is.
+fn built(
+    alloc: Global,
+    session: Arc<Session>,
+    tiles: TileSet,
+    offsets: &[i64],
+    flows: &[i64],
+) -> Result<String, AllocError>
+    requires two { tiles_of (arc_value session).scene.tiling ≡ 2 }
+    requires tiling { tiles.tiling ≡ (arc_value session).scene.tiling }
+    requires good { AreGoodTiles (arc_value session).scene (open_at (arc_value session).first_mask) tiles.results }
+{
+    let seams = seams(alloc, offsets, flows)?;
+    let mask = session.first_mask.try_copy()?;
+    let regions = Regions::of(alloc, &session.scene.tiling, &mask)?;
+    match Snapshot::build(alloc, session, mask, regions, tiles, seams) {
+        Ok(snapshot) => surface(alloc, &snapshot),
+        Err(fault) => format!(in alloc; "{fault:?}"),
+    }
+}
+
+/// The same for samples of phases, weights and mask, and for two tiles' numbers.
+fn told(
+    alloc: Global,
+    tiling: Tiling,
+    samples: [&[u16]; 3],
+    tiles: [Solved; 2],
+    offsets: &[i64],
+    flows: &[i64],
+) -> Option<String>
+    requires { tiles_of tiling ≡ 2 }
+{
+    let Ok(session) = sampled(alloc, tiling, samples) else {
+        return None;
+    };
+    let tiles = results(alloc, &session, tiles)?;
+    built(alloc, session, tiles, offsets, flows).ok()
 }
 
 /// The same for the two tiles of `0 0 0 0 / 0 0 0 20000 / 0 0 0 40000`. Across the seam, whose edges weigh 4, 4 and
 /// 9, the phase rises by 0, 20000 and 40000, of which the last is more than half a cycle.
-fn built_of_two(
-    alloc: Global,
-    offsets: &[i64],
-    flows: &[i64],
-) -> Result<Result<Snapshot, BuildFault>, Fail>
-    ensures width { IfOk result (λ made. IfOk made (λ snapshot. (parts_of snapshot).session.scene.tiling.width ≡ 4)) }
-    ensures height { IfOk result (λ made. IfOk made (λ snapshot. (parts_of snapshot).session.scene.tiling.height ≡ 3)) }
-    ensures side { IfOk result (λ made. IfOk made (λ snapshot. (parts_of snapshot).session.scene.tiling.side ≡ 3)) }
-{
+fn columns(alloc: Global, offsets: &[i64], flows: &[i64]) -> Option<String> {
     let phases = [0, 0, 0, 0, 0, 0, 0, 20000, 0, 0, 0, 40000];
     let weights = [4, 4, 4, 4, 4, 4, 4, 4, 9, 9, 9, 9];
-    let tiles: [(&[i32], &[i64]); 2] = [(&[0; 9], &[0; 4]), (&[0; 3], &[])];
     let samples: [&[u16]; 3] = [&phases, &weights, &[1; 12]];
-    built(alloc, Tiling::new(4, 3, 3), samples, tiles, offsets, flows)
+    let tiles: [Solved; 2] = [(&[0; 9], &[0; 4]), (&[0; 3], &[])];
+    told(alloc, Tiling::new(4, 3, 3), samples, tiles, offsets, flows)
 }
 
-/// The value and the cycles at a pixel, where it is open.
-fn at(snapshot: &Snapshot, x: u32, y: u32) -> Option<(i64, i64)>
-    requires { (x < (parts_of snapshot.now).session.scene.phase.width) × (y < (parts_of snapshot.now).session.scene.phase.height) }
-{
-    let value = snapshot.value(x, y)?;
-    Some((value, snapshot.cycles(x, y)))
-}
+/// Flows that certify the second tile a cycle lower.
+const FLOWS: &[i64] = &[-4, -4, 8];
 
-/// The second tile lies best one cycle lower: then two edges of weight 4 depart by a cycle, and not one of
-/// weight 9.
+/// An offset that is out of range.
+const DEEP: i64 = -70_368_744_177_665;
+
+/// Offsets, flows, and what is built. The second tile lies best one cycle lower: then two edges of weight 4 depart by a
+/// cycle, and not one of weight 9. Of several breaks the first in the order of the verdicts is told.
+const ROWS: [(&[i64], &[i64], &str); 10] = [
+    (
+        &[0, -1],
+        FLOWS,
+        "7 (0, 8) 0 by 0, 0 by 0, 0 by 0, -65536 by -1, 0 by 0, 0 by 0, 0 by 0, -45536 by -1, \
+            0 by 0, 0 by 0, 0 by 0, -25536 by -1, [-4, -4, 8] [0, 0, 0, 0]",
+    ),
+    (&[0, -1], &[-4, -4], "Uncertified(Shape)"),
+    (&[0], FLOWS, "Uncertified(Shape)"),
+    (&[DEEP], FLOWS, "Uncertified(Shape)"),
+    (&[0, DEEP], FLOWS, "Uncertified(Range(1))"),
+    (&[DEEP, -DEEP], FLOWS, "Uncertified(Range(0))"),
+    (&[1, 0], FLOWS, "Uncertified(Anchor(1))"),
+    (
+        &[0, -1],
+        &[-5, -4, 9],
+        "Uncertified(FlowAtEdge(Edge { x: 2, y: 0, down: false }))",
+    ),
+    (&[0, -1], &[-4, -4, 9], "Uncertified(Unbalanced(0))"),
+    (
+        &[0, 0],
+        FLOWS,
+        "Uncertified(CostDiffers { cost: 9, bound: 8 })",
+    ),
+];
+
 #[test]
-fn a_snapshot_has_its_surface_and_what_certifies_it(rt: HostRuntime) -> Result<(), Fail> {
-    let snapshot = built_of_two(rt.alloc(), &[0, -1], &[-4, -4, 8])??;
-    assert!(rt; snapshot.width() == 4 && snapshot.height() == 3);
-    let numbers = (
-        snapshot.revision(),
-        snapshot.tile_cost(),
-        snapshot.seam_cost(),
-    );
-    same("costs", numbers, (7, 0, 8))?;
-    same("flows", snapshot.flows(), &[-4, -4, 8])?;
-    same("faces", snapshot.faces(0), &[0; 4])?;
-    let column = [snapshot.value(3, 0), snapshot.value(3, 1)];
-    same("last column", column, [Some(-65536), Some(-45536)])?;
-    let last_row = [at(&snapshot, 2, 2), at(&snapshot, 3, 2)];
-    same("last row", last_row, [Some((0, 0)), Some((-25536, -1))])?;
-    Ok(())
-}
-
-/// Of several breaks the first in the order of the verdicts is told.
-#[test]
-fn tells_the_first_break(rt: HostRuntime) -> Result<(), Fail> {
-    let deep = -70_368_744_177_665;
-    let flows: &[i64] = &[-4, -4, 8];
-    let edge = Edge {
-        x: 2,
-        y: 0,
-        down: false,
-    };
-    let cases: [(&[i64], &[i64], SeamVerdict); 9] = [
-        (&[0, -1], &[-4, -4], SeamVerdict::Shape),
-        (&[0], flows, SeamVerdict::Shape),
-        (&[deep], flows, SeamVerdict::Shape),
-        (&[0, deep], flows, SeamVerdict::Range(1)),
-        (&[deep, -deep], flows, SeamVerdict::Range(0)),
-        (&[1, 0], flows, SeamVerdict::Anchor(1)),
-        (&[0, -1], &[-5, -4, 9], SeamVerdict::FlowAtEdge(edge)),
-        (&[0, -1], &[-4, -4, 9], SeamVerdict::Unbalanced(0)),
-        (
-            &[0, 0],
-            flows,
-            SeamVerdict::CostDiffers { cost: 9, bound: 8 },
-        ),
-    ];
-    for (offsets, flows, verdict) in cases {
-        let fault = built_of_two(rt.alloc(), offsets, flows)?.err();
-        same("seams", fault, Some(BuildFault::Uncertified(verdict)))?;
+fn a_snapshot_is_built_or_its_first_break_is_told(rt: HostRuntime) {
+    for (offsets, flows, wanted) in ROWS {
+        assert_eq!(rt;
+            columns(rt.alloc(), offsets, flows).as_deref(),
+            Some(wanted)
+        );
     }
-    Ok(())
 }
 
 /// A row of two tiles, `100 200` and `300`, whose first pixel is masked, so that its cycles are any number.
-#[test]
-fn a_masked_pixel_has_no_value(rt: HostRuntime) -> Result<(), Fail> {
+fn line(alloc: Global) -> Option<String> {
     let samples: [&[u16]; 3] = [&[100, 200, 300], &[9, 5, 7], &[0, 1, 1]];
-    let tiles: [(&[i32], &[i64]); 2] = [(&[9_000_000, 3], &[]), (&[-2], &[])];
-    let tiling = Tiling::new(3, 1, 2);
-    let snapshot = built(rt.alloc(), tiling, samples, tiles, &[-3, 2], &[0])??;
-    assert!(rt; snapshot.width() == 3 && snapshot.height() == 1);
-    let values = [
-        snapshot.value(0, 0),
-        snapshot.value(1, 0),
-        snapshot.value(2, 0),
-    ];
-    same(
-        "row",
-        (values, snapshot.seam_cost()),
-        ([None, Some(200), Some(300)], 0),
-    )?;
-    Ok(())
+    let tiles: [Solved; 2] = [(&[9_000_000, 3], &[]), (&[-2], &[])];
+    told(alloc, Tiling::new(3, 1, 2), samples, tiles, &[-3, 2], &[0])
+}
+
+#[test]
+fn a_masked_pixel_has_no_value(rt: HostRuntime) {
+    let wanted = "7 (0, 0) N, 200 by 0, 300 by 0, [0] []";
+    assert_eq!(rt; line(rt.alloc()).as_deref(), Some(wanted));
 }

@@ -24,8 +24,20 @@ itself : (x y : ℕ) → ComesBefore (down_edge x y) (down_edge x y) → ⊥
 itself x y (inl e) = grind arith
 itself x y (inr e) = cc
 
+-- no edge of a pixel comes before its right edge
+no_earlier : (d : Edge) (x y : ℕ) → d.x ≡ x → d.y ≡ y → ComesBefore d (right_edge x y) → ⊥
+no_earlier d x y ex ey (inl l) = grind arith
+no_earlier d x y ex ey (inr m) = cc
+
 module _ (Part Fact : Edge → Type 0) where
   -- the edges that start at a pixel
+  pub right_first : (x y : ℕ) → IsBreak Part Fact (right_edge x y) → IsFirstBreakFrom Part Fact x y (right_edge x y)
+  right_first x y u = record {
+    place = (refl, refl);
+    broken = u;
+    first = λ d i ex ey b. absurd (no_earlier d x y ex ey b);
+  }
+
   pub down_first : (x y : ℕ) → HoldsIfPart Part Fact (right_edge x y) → IsBreak Part Fact (down_edge x y) → IsFirstBreakFrom Part Fact x y (down_edge x y)
   down_first x y holds u = record {
     place = (refl, refl);

@@ -1,9 +1,9 @@
 -- The faces of a tile as code reads them, and their differences and products as it works them out.
-use Rattle.std.proofs.Common.{◌≡◌, ◌∙◌, ℕ, zero, suc, ◌+◌, ◌-◌, ◌*◌, ◌<◌, ◌≤◌, ◌^◌, ap, sym, refl, arith, true, false, List, length, to_z, of_z, w64, FitsSigned}
+use Rattle.std.proofs.Common.{◌≡◌, ◌∙◌, ℕ, zero, suc, ◌+◌, ◌-◌, ◌*◌, ◌<◌, ◌≤◌, ◌^◌, ap, sym, refl, arith, true, false, List, length, to_z, of_z, w32, w64, Fits, FitsSigned}
 use Rattle.std.specs.Prelude.{ℤ, pos, ◌+ℤ◌, ◌-ℤ◌, ◌*ℤ◌, unsigned_abs, slice_index_or}
 use Rattle.std.specs.Int.{w128}
-use Rattle.std.proofs.lemmas.Int.{ints, unsigned_abs-mul}
-use Rattle.std.proofs.lemmas.Nat.{mul-add-lt}
+use Rattle.std.proofs.lemmas.Int.{ints, unsigned_abs-mul, to_z-of_z, fits_signed_from_abs}
+use Rattle.std.proofs.lemmas.Nat.{mul-add-lt, mul-le}
 use Rattle.raster_model.specs.declared.edge.Edge.{Edge}
 use Rattle.raster_model.specs.declared.scene.Scene.{Scene}
 use Rattle.raster_model.specs.declared.tiling.Window.{Window}
@@ -27,6 +27,21 @@ module _ (s : Scene) (tile : ℕ) (v : Window) (is : IsWindowOf s.tiling tile v)
   face_read x y c =
       ap (λ (k : ℕ). slice_index_or faces k (pos 0)) (sym (cells_before-is s tile v is x y c))
       ∙ sym (face_inside s tile v is (face_at (raster_of s) tile faces) x y c)
+
+  -- the numbers by which code finds it fit, and no cell outside the window has one
+  pub face_fits : (x y : ℕ) → IsCellAt v x y → Fits w64 (v.x1 - v.x0) × Fits w64 (y - v.y0) × Fits w64 ((y - v.y0) * (v.x1 - v.x0)) × Fits w64 (x - v.x0) × Fits w64 ((y - v.y0) * (v.x1 - v.x0) + (x - v.x0)) × Fits w64 (((y - v.y0) * (v.x1 - v.x0) + (x - v.x0)) * 8)
+  face_fits x y c =
+      let m = mul-le (y - v.y0) (v.x1 - v.x0) 4096 4096 (omega (arith, c, is.along, s.tiling.high)) (omega (arith, is.across, s.tiling.wide)) in
+      let l : x - v.x0 ≤ 4096 = omega (arith, c, is.across, s.tiling.wide) in
+      let w : v.x1 - v.x0 ≤ 4096 = omega (arith, is.across, s.tiling.wide) in
+      let h : y - v.y0 ≤ 4096 = omega (arith, c, is.along, s.tiling.high) in
+      (record { fits = omega (arith, w) }, record { fits = omega (arith, h) }, record { fits = omega (arith, m) }, record { fits = omega (arith, l) }, record { fits = omega (arith, m, l) }, record { fits = omega (arith, m, l) })
+
+  pub no_face : (x y : ℕ) → (IsCellAt v x y → ⊥) → pos 0 ≡ faces_of_tile (raster_of s) tile (face_at (raster_of s) tile faces) x y
+  no_face x y n = sym (face_outside s tile v is (face_at (raster_of s) tile faces) x y n)
+
+pub not_both : (a b : ℕ) → a < b → b ≤ a → ⊥
+not_both a b l m = omega (arith, l, m)
 
 -- what stands before a place that is not the first
 pub before-pred : (f : ℕ → ℤ) (n : ℕ) (z : ℤ) → 0 < n → z ≡ f (n - 1) → z ≡ before f n
@@ -57,9 +72,34 @@ product_fits a b k l =
     small : (x y : ℕ) → x ≤ 2 ^ 63 → y ≤ 1 → x * y ≤ 2 ^ 63
     small x y h l = grind arith
 
+pub products_of_faces : (f r p q : ℤ) → FitsSigned w64 f → unsigned_abs r ≤ 1 → p ≡ to_z w64 (of_z w64 f) → q ≡ to_z w32 (of_z w32 r) → (to_z w128 (of_z w128 (to_z w128 (of_z w128 p) *ℤ to_z w128 (of_z w128 q))) ≡ f *ℤ r) × (unsigned_abs (to_z w128 (of_z w128 (to_z w128 (of_z w128 p) *ℤ to_z w128 (of_z w128 q)))) ≤ 2 ^ 63) × FitsSigned w128 (to_z w128 (of_z w128 p) *ℤ to_z w128 (of_z w128 q))
+products_of_faces f r p q fits small e d =
+    let a : p ≡ f = e ∙ to_z-of_z w64 f fits in
+    let b : q ≡ r = residue_back r q small d in
+    let k : unsigned_abs f ≤ 2 ^ 63 = face_small f fits in
+    let x : to_z w128 (of_z w128 f) ≡ f = face_back f k in
+    let y : to_z w128 (of_z w128 r) ≡ r = residue_back_wide r small in
+    let m = product_fits f r k small in
+    rw (a, b) (m.0, rw m.0 m.1, rw (x, y) (fits_signed_from_abs w128 (f *ℤ r) (below (unsigned_abs (f *ℤ r)) m.1)))
+  where
+    face_small : (f : ℤ) → FitsSigned w64 f → unsigned_abs f ≤ 2 ^ 63
+    face_small f fits = omega (arith, ints)
+
+    face_back : (f : ℤ) → unsigned_abs f ≤ 2 ^ 63 → to_z w128 (of_z w128 f) ≡ f
+    face_back f k = omega (arith, ints)
+
+    residue_back : (r q : ℤ) → unsigned_abs r ≤ 1 → q ≡ to_z w32 (of_z w32 r) → q ≡ r
+    residue_back r q k e = omega (arith, ints)
+
+    residue_back_wide : (r : ℤ) → unsigned_abs r ≤ 1 → to_z w128 (of_z w128 r) ≡ r
+    residue_back_wide r k = omega (arith, ints)
+
+    below : (n : ℕ) → n ≤ 2 ^ 63 → n < 2 ^ 127
+    below n l = omega arith
+
 -- the code's running sum, at 128 bits
-pub sum_fits : (a t : ℤ) (n : ℕ) → unsigned_abs a ≤ 2 ^ 63 * n → unsigned_abs t ≤ 2 ^ 63 → n < 2 ^ 26 → (to_z w128 (of_z w128 (a +ℤ to_z w128 (of_z w128 t))) ≡ a +ℤ t) × (unsigned_abs (a +ℤ t) ≤ 2 ^ 63 * (n + 1))
-sum_fits a t n k l m = (omega (arith, ints), omega (arith, ints))
+pub sum_fits : (a t : ℤ) (x y : ℕ) → unsigned_abs a ≤ 2 ^ 63 * (4096 * y + x) → unsigned_abs t ≤ 2 ^ 63 → 4096 * y + x < 2 ^ 26 → (to_z w128 (of_z w128 (a +ℤ to_z w128 (of_z w128 t))) ≡ a +ℤ t) × (unsigned_abs (a +ℤ t) ≤ 2 ^ 63 * (4096 * y + (x + 1))) × FitsSigned w128 (a +ℤ to_z w128 (of_z w128 t))
+sum_fits a t x y k l m = (omega (arith, ints), omega (arith, ints), fits_signed_from_abs w128 (a +ℤ to_z w128 (of_z w128 t)) (omega (arith, ints)))
 
 -- the products, which are 0 where the tile has no cell
 module _ (s : Scene) (tile : ℕ) (v : Window) (is : IsWindowOf s.tiling tile v) (f : Field ℤ) where
@@ -69,6 +109,12 @@ module _ (s : Scene) (tile : ℕ) (v : Window) (is : IsWindowOf s.tiling tile v)
     where
       zero_times : (z : ℤ) → pos 0 *ℤ z ≡ pos 0
       zero_times z = omega (arith, ints)
+
+  pub cells_before_fit : (x y : ℕ) → x < v.x1 → y < v.y1 → 4096 * y + x < 2 ^ 26
+  cells_before_fit x y l m = omega (arith, l, m, is.across, is.along, s.tiling.wide, s.tiling.high)
+
+  pub ends_in_raster : (x y : ℕ) → IsCellAt v x y → (x + 1 < s.phase.width) × (y + 1 < s.phase.height)
+  ends_in_raster x y c = (omega (arith, c, is.across, s.same_width), omega (arith, c, is.along, s.same_height))
 
   pub cells_across_fit : (v.x0 ≤ v.x1) × (v.x1 ≤ s.phase.width)
   cells_across_fit = (omega (arith, is.across), omega (arith, is.across, s.same_width))

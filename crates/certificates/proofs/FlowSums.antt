@@ -1,7 +1,7 @@
 -- Sums of flows at regions and of their products with departures, as double loops add them up.
-use Rattle.std.proofs.Common.{◌≡◌, ℕ, ◌+◌, ◌<◌, ◌≤◌, sym, ◌∙◌, ap, refl, arith, Bool, true, false, List, length, get_or, set, replicate, inl, inr, ◌⊎◌}
-use Rattle.std.specs.Prelude.{ℤ, pos, ◌+ℤ◌, ◌-ℤ◌, ◌&&◌, ◌==◌, nat_lt}
-use Rattle.std.proofs.lemmas.Int.{ints}
+use Rattle.std.proofs.Common.{◌≡◌, ℕ, ◌+◌, ◌*◌, ◌^◌, ◌<◌, ◌≤◌, to_z, of_z, w64, FitsSigned, sym, ◌∙◌, ap, refl, arith, Bool, true, false, List, length, get_or, set, replicate, inl, inr, ◌⊎◌}
+use Rattle.std.specs.Prelude.{ℤ, pos, ◌+ℤ◌, ◌-ℤ◌, ◌&&◌, ◌==◌, nat_lt, unsigned_abs}
+use Rattle.std.proofs.lemmas.Int.{ints, fits_signed_from_abs}
 use Rattle.std.proofs.lemmas.Bool.Decides.{nat_tests, eqb_tells}
 use Rattle.std.proofs.lemmas.List.{length-set, get_or-set_same, get_or-set_other, get_or-replicate, get_or_past, length-replicate}
 use Rattle.raster_model.specs.declared.edge.Edge.{Edge}
@@ -11,7 +11,7 @@ use Rattle.raster_model.specs.Seams.{flow_in, flow_out, flow_total}
 use Rattle.raster_model.proofs.SumLemmas.{sum_below-none, sum_below-more, sum_edges-add, sum_edges-same, picked, no_number}
 use Rattle.certificates.specs.declared.seam_flows.SeamFlows.{SeamFlows}
 use Rattle.certificates.specs.FlowWords.{raster_in, mask_in, flow_of, region_in, net_flow, moved_on, moved_from, seam_product, product_on, product_from, total_of}
-use Rattle.certificates.specs.Growth.{HasGrown}
+use Rattle.certificates.specs.Growth.{AreWithin, HasGrown}
 
 -- ---- one number that grows
 pub set_grown : (xs : List ℤ) (place : ℕ) (a z : ℤ) → place < length xs → z ≡ get_or xs place (pos 0) +ℤ a → HasGrown xs (set xs place z) (λ v. where_true (place == v) a)
@@ -28,6 +28,31 @@ set_grown xs place a z l e = record {
 
     eqb_same : (n : ℕ) → (n == n) ≡ true
     eqb_same n = grind (arith, nat_tests)
+
+pub set_within : (xs : List ℤ) (place : ℕ) (a z : ℤ) → place < length xs → z ≡ get_or xs place (pos 0) +ℤ a → unsigned_abs a ≤ 65535 → (n : ℕ) → AreWithin n xs → AreWithin (n + 1) (set xs place z)
+set_within xs place a z l e small n h v = elim (eqb_tells place v) [
+  | inl t ↦ rw (← t.1, get_or-set_same xs place z (pos 0) l, e) (grows (get_or xs place (pos 0)) a n (h place) small)
+  | inr t ↦ rw (get_or-set_other xs place v z (pos 0) (λ p. t.1 (sym p))) (stays (get_or xs v (pos 0)) n (h v))
+]
+  where
+    grows : (x a : ℤ) (n : ℕ) → unsigned_abs x ≤ 65535 * n → unsigned_abs a ≤ 65535 → unsigned_abs (x +ℤ a) ≤ 65535 * (n + 1)
+    grows x a n k l = omega (arith, ints)
+
+    stays : (x : ℤ) (n : ℕ) → unsigned_abs x ≤ 65535 * n → unsigned_abs x ≤ 65535 * (n + 1)
+    stays x n k = omega (arith, k)
+
+-- the code's sum, at 64 bits
+pub number_fits : (x a : ℤ) → unsigned_abs x ≤ 65535 * 2 ^ 31 → unsigned_abs a ≤ 65535 → (to_z w64 (of_z w64 (to_z w64 (of_z w64 x) +ℤ to_z w64 (of_z w64 a))) ≡ x +ℤ a) × FitsSigned w64 (to_z w64 (of_z w64 x) +ℤ to_z w64 (of_z w64 a))
+number_fits x a k l =
+    let p : to_z w64 (of_z w64 x) ≡ x = omega (arith, ints, k) in
+    let q : to_z w64 (of_z w64 a) ≡ a = omega (arith, ints, l) in
+    rw (p, q) (back (x +ℤ a) (sum x a k l), fits_signed_from_abs w64 (x +ℤ a) (sum x a k l))
+  where
+    sum : (x a : ℤ) → unsigned_abs x ≤ 65535 * 2 ^ 31 → unsigned_abs a ≤ 65535 → unsigned_abs (x +ℤ a) < 2 ^ 63
+    sum x a k l = omega (arith, ints)
+
+    back : (z : ℤ) → unsigned_abs z < 2 ^ 63 → to_z w64 (of_z w64 z) ≡ z
+    back z l = omega (arith, ints)
 
 -- ---- both edges that start at a pixel
 right_test : (w h x y : ℕ) → x < w → y < h → is_edge w h (right_edge x y) ≡ nat_lt (x + 1) w

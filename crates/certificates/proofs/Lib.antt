@@ -4,6 +4,7 @@ mod ZeroLemmas
 mod ZeroFlows
 pub mod TileParts
 pub mod CostLemmas
+mod RangeLemmas
 pub mod VerdictLemmas
 pub mod Unique
 pub mod CallerLemmas

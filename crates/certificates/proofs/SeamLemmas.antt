@@ -1,20 +1,23 @@
 -- Seam edges, the places of their flows, and what a flow other than 0 tells of its edge.
-use Rattle.std.proofs.Common.{◌≡◌, ◌∙◌, ℕ, ◌+◌, ◌*◌, ◌<◌, ◌≤◌, ◌^◌, sym, ap, refl, arith, Bool, true, false, List, length, get_or, to_z, of_z, w64, FitsSigned}
-use Rattle.std.specs.Prelude.{ℤ, pos, neg_ℤ, ◌+ℤ◌, ◌-ℤ◌, ◌*ℤ◌, ◌&&◌, ◌==◌, nat_lt, IsTrue, unsigned_abs, if◌then◌else◌}
+use Rattle.std.proofs.Common.{◌≡◌, ◌∙◌, ℕ, ◌+◌, ◌*◌, ◌<◌, ◌≤◌, ◌^◌, sym, ap, refl, arith, Bool, true, false, List, length, get_or, to_z, of_z, w64, Fits, FitsSigned}
+use Rattle.std.specs.Prelude.{ℤ, pos, neg_ℤ, ◌+ℤ◌, ◌-ℤ◌, ◌*ℤ◌, ◌&&◌, ◌==◌, nat_lt, IsTrue, MatchBool, unsigned_abs, if◌then◌else◌}
 use Rattle.std.specs.Int.{w128}
-use Rattle.std.proofs.lemmas.Int.{ints, unsigned_abs-mul, to_z-of_z}
+use Rattle.std.proofs.lemmas.Int.{ints, unsigned_abs-mul, to_z-of_z, fits_signed_from_abs}
 use Rattle.std.proofs.lemmas.Nat.{mul-add-lt, mul-le}
 use Rattle.std.proofs.lemmas.Bool.Decides.{nat_tests}
 use Rattle.raster_model.specs.declared.edge.Edge.{Edge}
+use Rattle.raster_model.specs.declared.scene.Scene.{Scene}
 use Rattle.raster_model.specs.Sums.{Field, is_edge, end_x, end_y, at_start, at_end, where_true, one_if}
-use Rattle.raster_model.specs.Raster.{is_seam, has_open_ends, departure, lifted}
+use Rattle.raster_model.specs.Heights.{KnowsOpen, KnowsEnds}
+use Rattle.raster_model.specs.Raster.{Raster, is_seam, has_open_ends, masked_weight, departure, lifted}
 use Rattle.raster_model.specs.Flows.{is_seam_edge, flow_at}
 use Rattle.raster_model.specs.Seams.{IsOpenPixel}
 use Rattle.raster_model.proofs.FlowLemmas.{place_below}
 use Rattle.certificates.specs.declared.seam_flows.SeamFlows.{SeamFlows}
+use Rattle.certificates.specs.EdgeWords.{HoldsIfPart, IsBreak}
 use Rattle.certificates.specs.SeamVerdicts.{label_at}
-use Rattle.certificates.specs.FlowWords.{raster_in, mask_in, flow_of, flow_or_none, PlacedAt, IsSeamOf, FlowsFit, HasLabels, net_flow, moved_on, seam_product, product_on}
-use Rattle.certificates.specs.Growth.{HasGrown}
+use Rattle.certificates.specs.FlowWords.{raster_in, mask_in, flow_of, flow_or_none, PlacedAt, IsSeamOf, IsSmallAt, FlowFitsAt, FlowsFit, HasLabels, net_flow, moved_on, seam_product, product_on}
+use Rattle.certificates.specs.Growth.{AreWithin, HasGrown}
 
 -- ---- the place of a flow
 pub place_is_below : (k : SeamFlows) (e : Edge) (place : ℕ) → PlacedAt k e place → is_seam_edge (raster_in k) e ≡ true → place < length k.flows.now
@@ -49,6 +52,47 @@ in_raster k e i =
     let h = k.scene.now.phase.height in
     let t = ends_in e.x e.y w h (end_x e) (end_y e) (both_hold (is_edge w h e) (is_seam (raster_in k) e) i).0 in
     (omega arith, t.0, omega arith, t.1)
+
+pub edge_of_seam : (k : SeamFlows) (e : Edge) → is_seam_edge (raster_in k) e ≡ true → is_edge k.scene.now.phase.width k.scene.now.phase.height e ≡ true
+edge_of_seam k e s = (both_hold (is_edge k.scene.now.phase.width k.scene.now.phase.height e) (is_seam (raster_in k) e) s).0
+
+-- what a test of a flow against its weight says
+module _ (k : SeamFlows) (e : Edge) (z : ℤ) (u w : ℕ) (is : z ≡ flow_or_none k e) (a : u ≡ unsigned_abs z) (b : w ≡ masked_weight (raster_in k) (mask_in k) e) (s : is_seam_edge (raster_in k) e ≡ true) where
+  size_there : u ≡ unsigned_abs (flow_of k e)
+  size_there =
+      let here : flow_or_none k e ≡ flow_of k e = rw s refl in
+      rw (← here, ← is) a
+
+  pub heavy_cases : MatchBool (nat_lt w u) (IsBreak (IsSeamOf k) (FlowFitsAt k) e) (HoldsIfPart (IsSeamOf k) (FlowFitsAt k) e)
+  heavy_cases = go (nat_lt w u) refl
+    where
+      fits : (w u : ℕ) → nat_lt w u ≡ false → u ≤ w
+      fits w u t = grind (arith, nat_tests)
+
+      breaks : (w u : ℕ) → nat_lt w u ≡ true → u ≤ w → ⊥
+      breaks w u t l = grind (arith, nat_tests)
+
+      go : (t : Bool) → nat_lt w u ≡ t → MatchBool t (IsBreak (IsSeamOf k) (FlowFitsAt k) e) (HoldsIfPart (IsSeamOf k) (FlowFitsAt k) e)
+      go true t = (s, λ f. breaks w u t (rw (size_there, b) f))
+      go false t = λ i. rw (← size_there, ← b) (fits w u t)
+
+  pub small_there : w ≤ 65535 → nat_lt w u ≡ false → HoldsIfPart (IsSeamOf k) (IsSmallAt k) e
+  small_there l t i = rw (← size_there) (low w u l t)
+    where
+      low : (w u : ℕ) → w ≤ 65535 → nat_lt w u ≡ false → u ≤ 65535
+      low w u l t = grind (arith, nat_tests)
+
+-- no seam edge is heavy where there is none
+pub no_seam : (P : Type 0) (t : Bool) → t ≡ false → t ≡ true → P
+no_seam P t e f = cc
+
+pub ends_known : (r : Raster) (mask knows : Field Bool) (e : Edge) → KnowsOpen r mask knows → (is_edge r.width r.height e && is_seam r e) ≡ true → IsTrue (is_edge r.width r.height e) × KnowsEnds mask knows e
+ends_known r mask knows e known s =
+    let i = (both_hold (is_edge r.width r.height e) (is_seam r e) s).0 in
+    let t = ends_in e.x e.y r.width r.height (end_x e) (end_y e) i in (
+      i,
+      λ o. (let b = both_hold (at_start mask e) (at_end mask e) o in (known e.x e.y t.0 t.1 b.0, known (end_x e) (end_y e) t.2 t.3 b.1)),
+    )
 
 pub not_zero : (z : ℤ) → (of_z w64 z ≡ 0 → ⊥) → z ≡ pos 0 → ⊥
 not_zero z n e = n (ap (of_z w64) e)
@@ -94,7 +138,26 @@ module _ (k : SeamFlows) (labels : List ℕ) (count : ℕ) (has : HasLabels k la
   pub label_below : (x y a b : ℕ) → a ≡ x → b ≡ y → IsOpenPixel (raster_in k) (mask_in k) x y → label_at k.scene.now.phase.width labels a b < count
   label_below x y a b p q o = rw (p, q) (has.1 x y o)
 
+  pub label_fits : (x y a b : ℕ) → a ≡ x → b ≡ y → IsOpenPixel (raster_in k) (mask_in k) x y → Fits w64 (b * k.scene.now.phase.width) × Fits w64 (b * k.scene.now.phase.width + a) × Fits w64 ((b * k.scene.now.phase.width + a) * 4)
+  label_fits x y a b p q o =
+      let s = k.scene.now in
+      let m = mul-le b s.phase.width 4096 4096 (omega (arith, q, o.1, s.same_height, s.tiling.high)) (omega (arith, s.same_width, s.tiling.wide)) in
+      let l : a ≤ 4096 = omega (arith, p, o.0, s.same_width, s.tiling.wide) in
+      (record { fits = omega (arith, m) }, record { fits = omega (arith, m, l) }, record { fits = omega (arith, m, l) })
+
 -- ---- a flow taken from one region to another
+pub within_more : (m n : ℕ) (xs : List ℤ) → m ≤ n → AreWithin m xs → AreWithin n xs
+within_more m n xs l h v = let k = h v in omega (arith, k, l)
+
+pub few_moves : (s : Scene) (x y : ℕ) → x < s.phase.width → y < s.phase.height → 4 * (4096 * y + x) ≤ 536870912
+few_moves s x y l m = omega (arith, s.same_width, s.same_height, s.tiling.wide, s.tiling.high)
+
+pub amounts : (z : ℤ) → unsigned_abs z ≤ 65535 → (to_z w64 (of_z w64 z) ≡ z) × (unsigned_abs (to_z w64 (of_z w64 z)) ≤ 65535)
+amounts z l = (omega (arith, ints), omega (arith, ints))
+
+pub negated : (z : ℤ) → unsigned_abs z ≤ 65535 → (to_z w64 (of_z w64 (pos 0 -ℤ to_z w64 (of_z w64 z))) ≡ neg_ℤ z) × (unsigned_abs (to_z w64 (of_z w64 (pos 0 -ℤ to_z w64 (of_z w64 z)))) ≤ 65535) × FitsSigned w64 (pos 0 -ℤ to_z w64 (of_z w64 z))
+negated z l = (omega (arith, ints), omega (arith, ints), fits_signed_from_abs w64 (pos 0 -ℤ to_z w64 (of_z w64 z)) (omega (arith, ints)))
+
 moved_value : (ie is me ms te ts : Bool) (f z : ℤ) → ie ≡ true → is ≡ true → me ≡ true → ms ≡ true → z ≡ f → where_true ie (where_true is (where_true (me && te) f -ℤ where_true (ms && ts) f)) ≡ where_true te z +ℤ where_true ts (neg_ℤ z)
 moved_value ie is me ms te ts f z a b c d e = rw (a, b, c, d, e) (both te ts f)
   where
@@ -161,15 +224,32 @@ no_product k cycles e z is n =
     no_product_value (is_edge k.scene.now.phase.width k.scene.now.phase.height e) (is_seam (raster_in k) e) (has_open_ends (mask_in k) e) (flow_of k e) (departure (raster_in k) (lifted (raster_in k) cycles) e) (sym is ∙ n)
 
 -- the code's product and sums, at 128 bits
-pub flow_product_fits : (a b : ℤ) → unsigned_abs a ≤ 65535 → unsigned_abs b ≤ 2 ^ 49 + 1 → (to_z w128 (of_z w128 (to_z w128 (of_z w128 a) *ℤ to_z w128 (of_z w128 b))) ≡ a *ℤ b) × (unsigned_abs (a *ℤ b) ≤ 65535 * (2 ^ 49 + 1))
+pub flow_product_fits : (a b : ℤ) → unsigned_abs a ≤ 65535 → unsigned_abs b ≤ 2 ^ 49 + 1 → (to_z w128 (of_z w128 (to_z w128 (of_z w128 a) *ℤ to_z w128 (of_z w128 b))) ≡ a *ℤ b) × (unsigned_abs (a *ℤ b) ≤ 65535 * (2 ^ 49 + 1)) × FitsSigned w128 (to_z w128 (of_z w128 a) *ℤ to_z w128 (of_z w128 b))
 flow_product_fits a b k l =
     let p : to_z w128 (of_z w128 a) ≡ a = omega (arith, ints) in
     let q : to_z w128 (of_z w128 b) ≡ b = omega (arith, ints) in
     let m : unsigned_abs (a *ℤ b) ≤ 65535 * (2 ^ 49 + 1) = rw unsigned_abs-mul (mul-le (unsigned_abs a) (unsigned_abs b) 65535 (2 ^ 49 + 1) k l) in
-    (rw (p, q) (back (a *ℤ b) m), m)
+    (rw (p, q) (back (a *ℤ b) m), m, rw (p, q) (fits (a *ℤ b) m))
   where
     back : (z : ℤ) → unsigned_abs z ≤ 65535 * (2 ^ 49 + 1) → to_z w128 (of_z w128 z) ≡ z
     back z h = omega (arith, ints)
 
-pub flow_sum_fits : (a t : ℤ) (n : ℕ) → unsigned_abs a ≤ 2 * 65535 * (2 ^ 49 + 1) * n → unsigned_abs t ≤ 2 * 65535 * (2 ^ 49 + 1) → n < 2 ^ 26 → (to_z w128 (of_z w128 (a +ℤ to_z w128 (of_z w128 t))) ≡ a +ℤ t) × (unsigned_abs (a +ℤ t) ≤ 2 * 65535 * (2 ^ 49 + 1) * (n + 1))
-flow_sum_fits a t n k l m = (omega (arith, ints), omega (arith, ints))
+    fits : (z : ℤ) → unsigned_abs z ≤ 65535 * (2 ^ 49 + 1) → FitsSigned w128 z
+    fits z h = fits_signed_from_abs w128 z (omega (arith, h))
+
+-- a flow and a departure as 64 bits hold them
+pub of_flow : (z p : ℤ) → unsigned_abs z ≤ 65535 → p ≡ to_z w64 (of_z w64 z) → p ≡ z
+of_flow z p h e = omega (arith, ints)
+
+pub of_departure : (z p : ℤ) → unsigned_abs z ≤ 2 ^ 49 + 1 → p ≡ to_z w64 (of_z w64 z) → p ≡ z
+of_departure z p h e = omega (arith, ints)
+
+pub products_fit : (a b : ℤ) → unsigned_abs a ≤ 65535 * (2 ^ 49 + 1) → unsigned_abs b ≤ 65535 * (2 ^ 49 + 1) → (to_z w128 (of_z w128 (to_z w128 (of_z w128 a) +ℤ to_z w128 (of_z w128 b))) ≡ a +ℤ b) × (unsigned_abs (a +ℤ b) ≤ 2 * 65535 * (2 ^ 49 + 1)) × FitsSigned w128 (to_z w128 (of_z w128 a) +ℤ to_z w128 (of_z w128 b))
+products_fit a b k l = (omega (arith, ints), omega (arith, ints), fits_signed_from_abs w128 (to_z w128 (of_z w128 a) +ℤ to_z w128 (of_z w128 b)) (omega (arith, ints)))
+
+pub flow_sum_fits : (a t : ℤ) (x y : ℕ) → unsigned_abs a ≤ 2 * 65535 * (2 ^ 49 + 1) * (4096 * y + x) → unsigned_abs t ≤ 2 * 65535 * (2 ^ 49 + 1) → 4096 * y + x < 2 ^ 26 → (to_z w128 (of_z w128 (a +ℤ to_z w128 (of_z w128 t))) ≡ a +ℤ t) × (unsigned_abs (a +ℤ t) ≤ 2 * 65535 * (2 ^ 49 + 1) * (4096 * y + (x + 1))) × FitsSigned w128 (a +ℤ to_z w128 (of_z w128 t))
+flow_sum_fits a t x y k l m = (omega (arith, ints), omega (arith, ints), fits_signed_from_abs w128 (a +ℤ to_z w128 (of_z w128 t)) (omega (arith, ints)))
+
+-- how many pixels stand before one
+pub pixels_before : (s : Scene) (x y : ℕ) → x < s.phase.width → y < s.phase.height → 4096 * y + x < 2 ^ 26
+pixels_before s x y l m = omega (arith, s.same_width, s.same_height, s.tiling.wide, s.tiling.high)

@@ -1,14 +1,15 @@
 -- What verdicts say of certificates.
-use Rattle.std.proofs.Common.{◌≡◌, ◌∙◌, sym, refl, ℕ, ℤ, List, Bool, length, ◌+◌, ◌-◌, ◌*◌, ap, arith}
+use Rattle.std.proofs.Common.{◌≡◌, ◌∙◌, sym, refl, ℕ, ℤ, List, Bool, length, ◌+◌, ◌-◌, ◌*◌, ◌<◌, ◌≤◌, ap, arith, Fits, w64}
+use Rattle.std.proofs.lemmas.Nat.{mul-le}
 use Rattle.std.proofs.lemmas.Bool.Decides.{nat_tests}
-use Rattle.std.specs.Prelude.{◌↔◌, ◌==◌, IsTrue}
+use Rattle.std.specs.Prelude.{◌↔◌, ◌==◌, ◌&&◌, nat_le, IsTrue}
 use Rattle.raster_model.specs.declared.scene.Scene.{Scene}
 use Rattle.raster_model.specs.declared.tiling.Window.{Window}
 use Rattle.raster_model.specs.Raster.{Raster, lifted}
 use Rattle.raster_model.specs.Sums.{Field}
 use Rattle.raster_model.specs.Cells.{cell_count, IsCertifiedTile}
 use Rattle.raster_model.specs.Certificates.{IsLeastInTile}
-use Rattle.raster_model.specs.Tiles.{IsWindowOf}
+use Rattle.raster_model.specs.Tiles.{IsWindowOf, tile_at}
 use Rattle.raster_model.specs.Scene.{raster_of}
 use Rattle.raster_model.proofs.TileCells.{cell_count-is}
 use Rattle.raster_model.proofs.TileLeast.{certified_tiles_are_least}
@@ -28,6 +29,10 @@ faces_good r mask t S faces (CostDiffers cost bound) h = (λ e. cc, λ c. absurd
 
 pub faces_least : (r : Raster) (mask : Field Bool) (t : ℕ) (S : Field ℤ) (faces : List ℤ) (verdict : TileVerdict) → IsFacesVerdict r mask t S faces verdict → verdict ≡ Good → IsLeastInTile r mask t S
 faces_least r mask t S faces verdict h e = certified_tiles_are_least r mask t S _ ((faces_good r mask t S faces verdict h).0 e).1
+
+-- all that a check of faces says of its verdict
+pub faces_say : (r : Raster) (mask : Field Bool) (t : ℕ) (S : Field ℤ) (faces : List ℤ) (v : TileVerdict) → IsFacesVerdict r mask t S faces v → record { verdict : IsFacesVerdict r mask t S faces v; good : (v ≡ Good) ↔ IsCertifiedTile r mask t S faces; least : v ≡ Good → IsLeastInTile r mask t S }
+faces_say r mask t S faces v h = record { verdict = h; good = faces_good r mask t S faces v h; least = faces_least r mask t S faces v h }
 
 -- and where the whole result is
 pub tile_good : (s : Scene) (mask : Field Bool) (k : TileResult) (verdict : TileVerdict) → IsTileVerdict s mask k verdict → (verdict ≡ Good) ↔ IsGoodTile s mask k
@@ -53,13 +58,42 @@ tile_from_faces s mask k v cycles faces verdict w c f shape range h =
 pub tile_least : (s : Scene) (mask : Field Bool) (k : TileResult) (verdict : TileVerdict) → IsTileVerdict s mask k verdict → verdict ≡ Good → IsLeastInTile (raster_of s) mask k.tile (result_surface s k)
 tile_least s mask k verdict h e = certified_tiles_are_least (raster_of s) mask k.tile (result_surface s k) _ ((tile_good s mask k verdict h).0 e).certified.1
 
+-- all that a check of a result says of its verdict
+pub tile_says : (s : Scene) (mask : Field Bool) (k : TileResult) (v : TileVerdict) → IsTileVerdict s mask k v → record { verdict : IsTileVerdict s mask k v; good : (v ≡ Good) ↔ IsGoodTile s mask k; least : v ≡ Good → IsLeastInTile (raster_of s) mask k.tile (result_surface s k) }
+tile_says s mask k v h = record { verdict = h; good = tile_good s mask k v h; least = tile_least s mask k v h }
+
 -- cells counted by the sides of a window
 module _ (s : Scene) (t : ℕ) (v : Window) (is : IsWindowOf s.tiling t v) (n : ℕ) where
   pub counted : n ≡ (v.x1 - v.x0) * (v.y1 - v.y0) → n ≡ cell_count (raster_of s) t
   counted e = omega (arith, e, cell_count-is s t v is)
 
+  pub sides_fit : Fits w64 (v.x1 - v.x0) × Fits w64 (v.y1 - v.y0) × Fits w64 ((v.x1 - v.x0) * (v.y1 - v.y0))
+  sides_fit =
+      let a : v.x1 - v.x0 ≤ 4096 = omega (arith, is.across, s.tiling.wide) in
+      let b : v.y1 - v.y0 ≤ 4096 = omega (arith, is.along, s.tiling.high) in
+      (record { fits = omega (arith, a) }, record { fits = omega (arith, b) }, record { fits = omega (arith, mul-le (v.x1 - v.x0) (v.y1 - v.y0) 4096 4096 a b) })
+
   pub not_counted : (n ≡ (v.x1 - v.x0) * (v.y1 - v.y0) → ⊥) → n ≡ cell_count (raster_of s) t → ⊥
   not_counted d e = d (omega (arith, e, cell_count-is s t v is))
+
+-- what the check of a result hands on: cycles for each pixel of its window, which lies in the raster, and knows its open pixels
+pub cycles_held : (s : Scene) (k : TileResult) (v : Window) (cycles : List ℤ) → IsWindowOf s.tiling k.tile v → v ≡ window_in s k → cycles ≡ k.cycles.items → HasShape s k → record { across : (v.x0 ≤ v.x1) × (v.x1 < 4096); along : (v.y0 ≤ v.y1) × (v.y1 < 4096); count : length cycles ≡ pixels_in v }
+cycles_held s k v cycles is w c shape = record {
+  across = (is.across.0, omega (arith, is.across, s.tiling.wide));
+  along = (is.along.0, omega (arith, is.along, s.tiling.high));
+  count = ap length c ∙ shape.0 ∙ sym (ap pixels_in w);
+}
+
+pub ends_inside : (s : Scene) (t : ℕ) (v : Window) (w h : ℕ) → IsWindowOf s.tiling t v → (w ≡ s.phase.width) × (h ≡ s.phase.height) → (v.x1 < w) × (v.y1 < h)
+ends_inside s t v w h is e = (omega (arith, is.across, s.same_width, e), omega (arith, is.along, s.same_height, e))
+
+pub tile_known : (s : Scene) (t : ℕ) (v : Window) → IsWindowOf s.tiling t v → (x y : ℕ) → x < s.phase.width → y < s.phase.height → tile_at s.tiling x y ≡ t → IsTrue (nat_le v.x0 x && nat_le x v.x1 && nat_le v.y0 y && nat_le y v.y1)
+tile_known s t v is x y l m e =
+    let w = (is.pixels x y (omega (arith, l, s.same_width)) (omega (arith, m, s.same_height))).0 e in
+    tests v.x0 x v.x1 v.y0 y v.y1 w.0 w.1 w.2 w.3
+  where
+    tests : (a x b c y d : ℕ) → a ≤ x → x ≤ b → c ≤ y → y ≤ d → IsTrue (nat_le a x && nat_le x b && nat_le c y && nat_le y d)
+    tests a x b c y d p q r t = grind (arith, nat_tests)
 
 -- the shape of a result as code tests it
 equal : (a b : ℕ) → IsTrue (a == b) → a ≡ b

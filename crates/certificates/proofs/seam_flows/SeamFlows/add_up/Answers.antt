@@ -3,6 +3,7 @@ use Rattle.std.proofs.lemmas.Int.{ints}
 use Rattle.raster_model.proofs.FlowLemmas.{before-none, before-row, before-next}
 use Rattle.certificates.specs.FlowWords.{raster_in}
 use Rattle.certificates.proofs.FlowSums.{zeros, so_far_none, so_far_more, so_far_row, so_far_all}
+use Rattle.certificates.proofs.SeamLemmas.{within_more, few_moves}
 use Rattle.certificates.proofs.ZeroFlows.{zero_flows_balance}
 use Rattle.certificates.proofs.seam_flows.SeamFlows.add_up.Goals as goal
 
@@ -16,6 +17,14 @@ loop-y-init c =
       so_far = so_far_none k c.args.labels.now c.fill.new.self z;
       within = λ v. omega (arith, ints, z v);
     }
+
+pub move_flows_from-requires : goal.move_flows_from-requires
+move_flows_from-requires c = record {
+  start = (c.loop-x-test.true, c.loop-y-test.true, c.loop-x.invariant.counted, c.loop-x.invariant.few);
+  fit = c.requires.fit;
+  labels = rw (c.loop-x.auto.sums, c.loop-y.auto.sums, c.fill.ensures.len) c.requires.labels;
+  small = within_more (4 * (4096 * c.loop-y.y + c.loop-x.x)) 536870912 c.loop-x.sums (few_moves c.args.self.now.scene.now c.loop-x.x c.loop-y.y c.loop-x-test.true c.loop-y-test.true) c.loop-x.invariant.within;
+}
 
 pub loop-x-preserved : goal.loop-x-preserved
 loop-x-preserved c =

@@ -1,10 +1,10 @@
-use Rattle.std.proofs.Common.{◌≡◌, ◌+◌, ◌*◌, ◌∙◌, arith, sym, to_z}
+use Rattle.std.proofs.Common.{◌≡◌, ◌∙◌, arith, sym, to_z}
 use Rattle.std.specs.Int.{w128}
 use Rattle.raster_model.proofs.BoxSums.{column_more}
 use Rattle.raster_model.proofs.PartLemmas.{grid_none, row_none, grid_next, grid_all}
 use Rattle.raster_model.proofs.FlowLemmas.{before-none, before-row, before-next}
 use Rattle.certificates.specs.FlowWords.{raster_in, product_from}
-use Rattle.certificates.proofs.SeamLemmas.{flow_sum_fits}
+use Rattle.certificates.proofs.SeamLemmas.{flow_sum_fits, pixels_before}
 use Rattle.certificates.proofs.FlowSums.{total_is}
 use Rattle.certificates.proofs.ZeroFlows.{zero_flows_total}
 use Rattle.certificates.proofs.seam_flows.SeamFlows.total.Goals as goal
@@ -29,15 +29,26 @@ loop-x-init g c =
       small = omega (arith, c.loop-y.invariant.small);
     }
 
+pub products_from-total-requires : goal.products_from-total-requires
+products_from-total-requires g c = record {
+  start = (c.loop-x-test.true, c.loop-y-test.true, c.loop-x.invariant.counted, c.loop-x.invariant.few);
+  fit = c.requires.fit;
+  known = c.requires.known;
+}
+
+pub overflow_add-total : goal.overflow_add-total
+overflow_add-total g c =
+    (flow_sum_fits (to_z w128 c.loop-x.total-bits) c.products_from-total.result c.loop-x.x c.loop-y.y c.loop-x.invariant.small c.products_from-total.ensures.small (pixels_before c.args.self.now.scene.now c.loop-x.x c.loop-y.y c.loop-x-test.true c.loop-y-test.true)).2
+
 pub loop-x-preserved : goal.loop-x-preserved
 loop-x-preserved g c =
     let k = c.args.self.now in
-    let fit = flow_sum_fits (to_z w128 c.loop-x.total-bits) c.products_from-total.result (4096 * c.loop-y.y + c.loop-x.x) c.loop-x.invariant.small c.products_from-total.ensures.small (omega (arith, k.scene.now.same_width, k.scene.now.same_height, k.scene.now.tiling.wide, k.scene.now.tiling.high)) in
+    let fit = flow_sum_fits (to_z w128 c.loop-x.total-bits) c.products_from-total.result c.loop-x.x c.loop-y.y c.loop-x.invariant.small c.products_from-total.ensures.small (pixels_before k.scene.now c.loop-x.x c.loop-y.y c.loop-x-test.true c.loop-y-test.true) in
     record {
       counted = omega (arith, c.loop-x.invariant.counted, c.seams_from-before.ensures.value, before-next (raster_in k) c.loop-x.x c.loop-y.y);
       few = omega (arith, c.loop-x.invariant.few, c.seams_from-before.ensures.few);
       sum = fit.0 ∙ column_more (product_from k (g.H.Heights.cycles_at c.args.heights.now)) c.loop-x.x c.loop-y.y _ _ _ c.loop-x.invariant.sum c.products_from-total.ensures.value;
-      small = rw fit.0 (omega (arith, fit.1));
+      small = rw fit.0 fit.1;
     }
 
 pub loop-y-preserved : goal.loop-y-preserved

@@ -1,12 +1,52 @@
-use Rattle.std.proofs.Common.{◌≡◌, pos}
+use Rattle.std.proofs.Common.{◌≡◌, ◌*◌, ◌+◌, ◌^◌, ◌≤◌, pos}
 use Rattle.std.specs.Prelude.{nat_lt}
 use Rattle.raster_model.specs.Sums.{right_edge, down_edge, where_true}
 use Rattle.raster_model.specs.Raster.{edge_cost}
 use Rattle.raster_model.proofs.PartLemmas.{taken, left_out}
 use Rattle.certificates.specs.TileWords.{raster_in, mask_in, surface_at}
-use Rattle.certificates.proofs.CostLemmas.{both_costs}
+use Rattle.certificates.proofs.CostLemmas.{right_asks, lower_asks, cost_or_none, no_cost, costs_fit, both_costs}
 use Rattle.certificates.proofs.tile.Tile.cost_from.Goals as goal
 use Rattle.certificates.proofs.tile.Tile.cost_from.Goals.{then-x-self, else-x-self, then-y-self, else-y-self}
+
+pub edge_cost-to_right-requires : goal.edge_cost-to_right-requires
+edge_cost-to_right-requires g c =
+    let k = c.args.self.now in
+    let a = right_asks k.scene.now (mask_in k) (g.H.Heights.knows c.args.heights.now) k.number k.window k.pixels c.requires.known c.args.x c.args.y c.requires.within c.if-x-self.true in
+    record { same_size = k.same_size; is_edge = a.0; known = a.1 }
+
+pub edge_cost-to_lower-requires : goal.edge_cost-to_lower-requires
+edge_cost-to_lower-requires g c =
+    let k = c.args.self.now in
+    let a = lower_asks k.scene.now (mask_in k) (g.H.Heights.knows c.args.heights.now) k.number k.window k.pixels c.requires.known c.args.x c.args.y c.requires.within c.if-y-self.true in
+    record { same_size = k.same_size; is_edge = a.0; known = a.1 }
+
+pub overflow_add-result : goal.overflow_add-result
+overflow_add-result g c =
+    let p : c.if-x-self.to_right ≤ 65535 * (2 ^ 49 + 1) =
+    elim c.if-x-self.branch [
+      | then-x-self b ↦ cost_or_none _ _ b.to_right-is b.edge_cost-to_right.ensures.small
+      | else-x-self b ↦ no_cost _ b.to_right-is
+    ] in
+    let q : c.if-y-self.to_lower ≤ 65535 * (2 ^ 49 + 1) =
+    elim c.if-y-self.branch [
+      | then-y-self b ↦ cost_or_none _ _ b.to_lower-is b.edge_cost-to_lower.ensures.small
+      | else-y-self b ↦ no_cost _ b.to_lower-is
+    ] in
+    (costs_fit c.if-x-self.to_right c.if-y-self.to_lower p q).0
+
+pub returns-clause-small : goal.returns-clause-small
+returns-clause-small g c =
+    let p : c.if-x-self.to_right ≤ 65535 * (2 ^ 49 + 1) =
+    elim c.if-x-self.branch [
+      | then-x-self b ↦ cost_or_none _ _ b.to_right-is b.edge_cost-to_right.ensures.small
+      | else-x-self b ↦ no_cost _ b.to_right-is
+    ] in
+    let q : c.if-y-self.to_lower ≤ 65535 * (2 ^ 49 + 1) =
+    elim c.if-y-self.branch [
+      | then-y-self b ↦ cost_or_none _ _ b.to_lower-is b.edge_cost-to_lower.ensures.small
+      | else-y-self b ↦ no_cost _ b.to_lower-is
+    ] in
+    (costs_fit c.if-x-self.to_right c.if-y-self.to_lower p q).1
 
 pub returns-clause-value : goal.returns-clause-value
 returns-clause-value g c =

@@ -1,10 +1,10 @@
-use Rattle.std.proofs.Common.{◌+◌, ◌*◌, ◌∙◌, arith, to_z}
+use Rattle.std.proofs.Common.{◌∙◌, arith, to_z}
 use Rattle.std.specs.Int.{w128}
 use Rattle.raster_model.specs.Certificates.{face_total}
 use Rattle.raster_model.specs.Cells.{face_at}
 use Rattle.raster_model.proofs.BoxSums.{column_more, part_starts, row_starts, row_more, part_ends}
 use Rattle.certificates.specs.TileWords.{raster_in, product_at}
-use Rattle.certificates.proofs.FaceLemmas.{sum_fits, product_outside, cells_across_fit, cells_along_fit}
+use Rattle.certificates.proofs.FaceLemmas.{sum_fits, cells_before_fit, product_outside, cells_across_fit, cells_along_fit}
 use Rattle.certificates.proofs.tile.Tile.face_total.Goals as goal
 
 pub loop-y-init : goal.loop-y-init
@@ -29,13 +29,20 @@ loop-x-init c =
       small = omega (arith, c.loop-y.invariant.small);
     }
 
+pub overflow_add-total : goal.overflow_add-total
+overflow_add-total c =
+    let k = c.args.self.now in
+    let f = face_at (raster_in k) k.number c.args.faces.now in
+    (sum_fits (to_z w128 c.loop-x.total-bits) c.face_product-total.result c.loop-x.x c.loop-y.y c.loop-x.invariant.small c.face_product-total.ensures.small (cells_before_fit k.scene.now k.number k.window k.pixels f c.loop-x.x c.loop-y.y c.loop-x-test.true c.loop-y-test.true)).2
+
 pub loop-x-preserved : goal.loop-x-preserved
 loop-x-preserved c =
     let k = c.args.self.now in
-    let fit = sum_fits (to_z w128 c.loop-x.total-bits) c.face_product-total.result (4096 * c.loop-y.y + c.loop-x.x) c.loop-x.invariant.small c.face_product-total.ensures.small (omega (arith, k.pixels.across, k.pixels.along, k.scene.now.tiling.wide, k.scene.now.tiling.high)) in
+    let f = face_at (raster_in k) k.number c.args.faces.now in
+    let fit = sum_fits (to_z w128 c.loop-x.total-bits) c.face_product-total.result c.loop-x.x c.loop-y.y c.loop-x.invariant.small c.face_product-total.ensures.small (cells_before_fit k.scene.now k.number k.window k.pixels f c.loop-x.x c.loop-y.y c.loop-x-test.true c.loop-y-test.true) in
     record {
       sum = fit.0 ∙ column_more (product_at k c.args.faces.now) c.loop-x.x c.loop-y.y _ _ _ c.loop-x.invariant.sum c.face_product-total.ensures.value;
-      small = rw fit.0 (omega (arith, fit.1));
+      small = rw fit.0 fit.1;
     }
 
 pub loop-y-preserved : goal.loop-y-preserved

@@ -4,6 +4,8 @@
 #[cfg(test)]
 mod board_rows;
 #[cfg(test)]
+mod calls;
+#[cfg(test)]
 mod collector_rows;
 #[cfg(test)]
 mod sessions;

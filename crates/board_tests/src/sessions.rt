@@ -1,20 +1,32 @@
 ghost use Rattle.std.specs.Prelude.{◌≤◌};
 
 use insar_ports::{Feed, MemorySource};
-use raster_model::RuleKind;
-use session_script::{SessionUse, read_session};
-use std::alloc::Global;
+use raster_model::{RuleKind, Session};
+use session_script::{SessionFault, SessionUse, read_session};
+use std::alloc::{AllocError, Global};
 use std::sync::Arc;
-use std::test::Fail;
 use tile_board::Board;
 
-/// The board of a session's text, with tiles of a side.
-pub fn board(alloc: Global, text: &str, side: u32) -> Result<Board, Fail>
+/// The session of a text, with tiles of a side.
+fn session(alloc: Global, text: &str, side: u32) -> Result<Session, SessionFault>
     requires { (2 ≤ side) × (side ≤ 128) }
 {
     let bytes = Vec::from_slice(alloc, text.as_bytes())?;
     let mut source = MemorySource::new(bytes, 4096, Vec::new(alloc));
     let mut feed = Feed::new(alloc, &mut source, 268_435_456)?;
-    let session = read_session(alloc, &mut feed, SessionUse::Alone, side, RuleKind::Least)?;
-    Ok(Board::new(alloc, Arc::new(alloc, session)?)?)
+    read_session(alloc, &mut feed, SessionUse::Alone, side, RuleKind::Least)
+}
+
+/// The board of a session.
+fn begun(alloc: Global, session: Session) -> Result<Board, AllocError> {
+    let session = Arc::new(alloc, session)?;
+    Board::new(alloc, session)
+}
+
+/// The board of a session's text, with tiles of a side.
+pub fn board(alloc: Global, text: &str, side: u32) -> Result<Board, SessionFault>
+    requires { (2 ≤ side) × (side ≤ 128) }
+{
+    let session = session(alloc, text, side)?;
+    Ok(begun(alloc, session)?)
 }

@@ -1,0 +1,162 @@
+ghost use Rattle.std.specs.Prelude.{◌≤◌};
+
+use crate::sessions::board;
+use certificates::{SeamResult, TileResult};
+use collector_core::{collect, finish};
+use std::alloc::{AllocError, Global};
+use std::str::Split;
+use std::test::Fail;
+use surface_snapshots::Snapshot;
+use tile_board::{Board, ClaimFault, GatherFault, KeepFault, PublishFault};
+
+/// The next word as a number, and 99 where there is none.
+fn number(words: &mut Split<'_, char>) -> u32 {
+    words.next().unwrap_or("").parse().unwrap_or(99)
+}
+
+/// The tile and the stamp of a claim.
+fn claimed(alloc: Global, board: &mut Board) -> Result<(u32, u32), ClaimFault> {
+    let ticket = board.claim(alloc)?;
+    Ok((ticket.tile, ticket.stamp))
+}
+
+/// The result of a tile at a stamp, with so many cycles and so many faces, all of them 0.
+fn zeros(
+    alloc: Global,
+    tile: u32,
+    stamp: u32,
+    cycles: u32,
+    faces: u32,
+) -> Result<TileResult, AllocError> {
+    Ok(TileResult {
+        tile,
+        stamp,
+        cycles: vec![in alloc; 0; cycles as usize]?,
+        faces: vec![in alloc; 0; faces as usize]?,
+    })
+}
+
+/// Keeps zeros, which four words number.
+fn keep(alloc: Global, board: &mut Board, words: &mut Split<'_, char>) -> Result<(), KeepFault> {
+    let (tile, stamp) = (number(words), number(words));
+    let (cycles, faces) = (number(words), number(words));
+    let solved = zeros(alloc, tile, stamp, cycles, faces)?;
+    board.keep(alloc, solved)
+}
+
+/// An offset for one region, where there are no seam edges.
+fn seams(alloc: Global, revision: u32, offset: i64) -> Result<SeamResult, AllocError> {
+    Ok(SeamResult {
+        revision,
+        offsets: vec![in alloc; offset]?,
+        flows: Vec::new(alloc),
+    })
+}
+
+/// Publishes an offset for a revision, which two words number.
+fn publish(
+    alloc: Global,
+    board: &mut Board,
+    words: &mut Split<'_, char>,
+) -> Result<(), PublishFault> {
+    let (revision, offset) = (number(words), number(words));
+    let seams = seams(alloc, revision, i64::from(offset))?;
+    board.publish(alloc, 1, seams)
+}
+
+/// The revision that is gathered.
+fn gathered(alloc: Global, board: &Board) -> Result<u32, GatherFault> {
+    Ok(board.gather(alloc)?.revision)
+}
+
+/// The revision that is collected, its offsets and its flows.
+fn collected(alloc: Global, board: &Board) -> Result<String, AllocError> {
+    let Ok(gathered) = board.gather(alloc) else {
+        return String::from_str(alloc, "nothing");
+    };
+    let seams = collect(alloc, &gathered)?;
+    format!(in alloc; "{} {:?} {:?}", seams.revision, seams.offsets, seams.flows)
+}
+
+/// Adds the values of a surface in row order.
+fn add_values(snapshot: &Snapshot, values: &mut Vec<Option<i64>>) -> Result<(), AllocError> {
+    for y in 0..snapshot.height() {
+        for x in 0..snapshot.width() {
+            values.push(snapshot.value(x, y))?;
+        }
+    }
+    Ok(())
+}
+
+/// The values of a board's surfaces, one surface after another.
+fn surfaces(alloc: Global, board: &Board) -> Result<String, AllocError> {
+    let mut values = Vec::new(alloc);
+    for snapshot in board.snapshots() {
+        add_values(snapshot, &mut values)?;
+    }
+    format!(in alloc; "{values:?}")
+}
+
+/// The revision, the newest that is published, and how many commands are done and surfaces are published.
+fn state(alloc: Global, board: &Board) -> Result<String, AllocError> {
+    let (newest, surfaces) = (board.newest(), board.snapshots().len());
+    format!(in alloc;
+        "{} {newest:?} {} {surfaces}",
+        board.revision(),
+        board.done(1)
+    )
+}
+
+/// What a board says of itself.
+fn look(alloc: Global, board: &Board, word: &str) -> Result<String, AllocError> {
+    match word {
+        "collect" => collected(alloc, board),
+        "complete" => format!(in alloc; "{}", board.complete()),
+        "entries" => format!(in alloc; "{:?}", board.entries()),
+        "gather" => format!(in alloc; "{:?}", gathered(alloc, board)),
+        "state" => state(alloc, board),
+        "surfaces" => surfaces(alloc, board),
+        _ => String::from_str(alloc, "no call"),
+    }
+}
+
+/// Does a call, which is given in words, for the only analyst, and answers in words.
+fn answer(alloc: Global, board: &mut Board, call: &str) -> Result<String, AllocError> {
+    let mut words = call.split(' ');
+    match words.next().unwrap_or("") {
+        "advance" => format!(in alloc; "{:?}", board.advance(alloc, 1)),
+        "claim" => format!(in alloc; "{:?}", claimed(alloc, board)),
+        "finish" => format!(in alloc; "{:?}", finish(alloc, board)),
+        "keep" => format!(in alloc; "{:?}", keep(alloc, board, &mut words)),
+        "publish" => format!(in alloc; "{:?}", publish(alloc, board, &mut words)),
+        word => look(alloc, board, word),
+    }
+}
+
+/// A call, with what was found in place of the answer that is wanted.
+#[derive(Debug, Drop)]
+struct Other(String);
+
+/// Does the calls on the left of the lines, one after another, and tells the first that is not answered with what stands on
+/// its right.
+fn first_other(alloc: Global, board: &mut Board, lines: &str) -> Result<Option<Other>, AllocError> {
+    for line in lines.lines() {
+        let (call, wanted) = line.split_once(" = ").unwrap_or((line, ""));
+        let found = answer(alloc, board, call)?;
+        if found.as_str() != wanted {
+            return Ok(Some(Other(format!(in alloc; "{call} = {found}")?)));
+        }
+    }
+    Ok(None)
+}
+
+/// Does the lines on the board of a session's text, with tiles of a side, and fails at the first that is answered otherwise.
+pub fn answered(alloc: Global, text: &str, side: u32, lines: &str) -> Result<(), Fail>
+    requires { (2 ≤ side) × (side ≤ 128) }
+{
+    let mut board = board(alloc, text, side)?;
+    match first_other(alloc, &mut board, lines)? {
+        Some(other) => Err(other)?,
+        None => Ok(()),
+    }
+}

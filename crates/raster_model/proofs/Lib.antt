@@ -5,6 +5,7 @@ pub mod Planar
 pub mod TileLeast
 pub mod Regions
 pub mod SeamLeast
+pub mod TotalCosts
 pub mod Balance
 pub mod EdgeLists
 pub mod CountLemmas

@@ -1,8 +1,8 @@
 -- What is least, in each tile among all congruent surfaces and at the seams under all offsets of the regions, and what certifies it.
-use Rattle.std.specs.Prelude.{◌≡◌, ℕ, ◌<◌, ℤ, pos, Bool, IsTrue, List}
+use Rattle.std.specs.Prelude.{◌≡◌, ℕ, ◌<◌, ℤ, pos, ◌+ℤ◌, ◌≤ℤ◌, Bool, IsTrue, List}
 use Rattle.raster_model.specs.declared.edge.Edge.{Edge}
-use Rattle.raster_model.specs.Sums.{Field, is_edge}
-use Rattle.raster_model.specs.Raster.{Raster, IsCongruent, departure, has_open_ends}
+use Rattle.raster_model.specs.Sums.{Field, is_edge, sum_below}
+use Rattle.raster_model.specs.Raster.{Raster, IsCongruent, departure, has_open_ends, seam_cost, tile_cost}
 use Rattle.raster_model.specs.Certificates.{IsLeastInTile, IsTileCertificate}
 use Rattle.raster_model.specs.Seams.{IsLeastAtSeams, IsSeamCertificate}
 use Rattle.raster_model.specs.Cells.{IsCertifiedTile}
@@ -37,3 +37,18 @@ HasNoDepartures r mask S = (e : Edge) → IsTrue (is_edge r.width r.height e) �
 -- a congruent surface whose departures are all 0 is the best
 abbrev pub NoDeparturesAreBest : Type 0
 NoDeparturesAreBest = (r : Raster) (mask : Field Bool) (S : Field ℤ) → IsCongruent r mask S → HasNoDepartures r mask S → IsBest r mask S
+
+-- what the tiles cost together, and what a surface costs whole: its tiles and its seams
+abbrev pub tiles_cost : Raster → Field Bool → Field ℤ → ℤ
+tiles_cost r mask S = sum_below r.tile_count (λ t. tile_cost r mask t S)
+
+abbrev pub total_cost : Raster → Field Bool → Field ℤ → ℤ
+total_cost r mask S = tiles_cost r mask S +ℤ seam_cost r mask S
+
+-- the best surface's tiles cost no more than any congruent surface costs whole
+abbrev pub NoneCostsLessThanTheTiles : Type 0
+NoneCostsLessThanTheTiles = (r : Raster) (mask : Field Bool) (S other : Field ℤ) → IsBest r mask S → IsCongruent r mask other → tiles_cost r mask S ≤ℤ total_cost r mask other
+
+-- so what it costs whole is within its seam cost of what any congruent surface costs
+abbrev pub BestIsWithinItsSeamCost : Type 0
+BestIsWithinItsSeamCost = (r : Raster) (mask : Field Bool) (S other : Field ℤ) → IsBest r mask S → IsCongruent r mask other → total_cost r mask S ≤ℤ (total_cost r mask other +ℤ seam_cost r mask S)

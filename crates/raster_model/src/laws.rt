@@ -1,6 +1,13 @@
 //! Laws of the definitions. The functions do nothing; each contract is the law.
 
-ghost use Rattle.raster_model.specs.Best.{CertifiedIsBest, CertifiedSeamsAreLeast, CertifiedTilesAreLeast, NoDeparturesAreBest};
+ghost use Rattle.raster_model.specs.Best.{
+  BestIsWithinItsSeamCost,
+  CertifiedIsBest,
+  CertifiedSeamsAreLeast,
+  CertifiedTilesAreLeast,
+  NoDeparturesAreBest,
+  NoneCostsLessThanTheTiles,
+};
 ghost use Rattle.raster_model.specs.EdgeList.{SumsTheList};
 ghost use Rattle.raster_model.specs.Exact.{
   CyclesDepart,
@@ -86,4 +93,11 @@ pub fn certified_is_best()
 /// A congruent surface whose departures are all 0 is the best.
 pub fn no_departures_are_best()
     ensures { NoDeparturesAreBest }
+{}
+
+/// No congruent surface costs less whole, over tiles and seams, than the tiles of the best surface do. So the best surface,
+/// and with it each certified one, is within its own seam cost of the least of all.
+pub fn best_is_within_its_seam_cost()
+    ensures none { NoneCostsLessThanTheTiles }
+    ensures within { BestIsWithinItsSeamCost }
 {}

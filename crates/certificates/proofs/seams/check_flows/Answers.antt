@@ -65,8 +65,7 @@ returns-in-Some-first_heavy g c =
 pub returns-in-Some-first_other : goal.returns-in-Some-first_other
 returns-in-Some-first_other g c =
     let r = raster_of c.args.scene.now in
-    seams_say r (open_at c.args.mask.now) (label_at r.width c.args.labels.now) (length c.args.scratch.now) (g.H.Heights.cycles_at c.args.heights.now) c.args.flows.now c.requires.regions.1 (Unbalanced c.in-Some-first_other.region)
-    (
+    seams_say r (open_at c.args.mask.now) (label_at r.width c.args.labels.now) (length c.args.scratch.now) (g.H.Heights.cycles_at c.args.heights.now) c.args.flows.now c.requires.regions.1 (Unbalanced c.in-Some-first_other.region) (
       c.if-flows-seam_count.false ∙ c.seam_count.ensures,
       c.in_default.ensures.none,
       c.in_default-first_heavy.ensures.none.0,
@@ -80,17 +79,16 @@ returns-then-is_same g c =
     let balanced = balanced_of_zeros r (open_at c.args.mask.now) (label_at r.width c.args.labels.now) (flow_at r c.args.flows.now) c.add_up.new.sums c.add_up.ensures (length c.args.scratch.now) (sym c.add_up.auto.sums) c.in_default-first_other.ensures.none in
     seams_say r (open_at c.args.mask.now) (label_at r.width c.args.labels.now) (length c.args.scratch.now) (g.H.Heights.cycles_at c.args.heights.now) c.args.flows.now c.requires.regions.1 Good
     (
-      good_of_parts r (open_at c.args.mask.now) (label_at r.width c.args.labels.now) (length c.args.scratch.now) (g.H.Heights.cycles_at c.args.heights.now) c.args.flows.now c.requires.regions.1
-      (c.if-flows-seam_count.false ∙ c.seam_count.ensures) c.in_default.ensures.none c.in_default-first_heavy.ensures.none.0 balanced
-      (sym c.total-bound.ensures ∙ sym back ∙ c.is_same.ensures.0 c.if-is_same.true ∙ c.seam_cost-cost.ensures)
+    good_of_parts r (open_at c.args.mask.now) (label_at r.width c.args.labels.now) (length c.args.scratch.now) (g.H.Heights.cycles_at c.args.heights.now) c.args.flows.now c.requires.regions.1
+    (c.if-flows-seam_count.false ∙ c.seam_count.ensures) c.in_default.ensures.none c.in_default-first_heavy.ensures.none.0 balanced
+    (sym c.total-bound.ensures ∙ sym back ∙ c.is_same.ensures.0 c.if-is_same.true ∙ c.seam_cost-cost.ensures)
     )
 
 pub returns-else-is_same : goal.returns-else-is_same
 returns-else-is_same g c =
     let r = raster_of c.args.scene.now in
     let back : to_z w128 (of_z w128 c.total-bound.result) ≡ c.total-bound.result = omega (arith, ints) in
-    seams_say r (open_at c.args.mask.now) (label_at r.width c.args.labels.now) (length c.args.scratch.now) (g.H.Heights.cycles_at c.args.heights.now) c.args.flows.now c.requires.regions.1 (CostDiffers c.seam_cost-cost.result (to_z w128 (of_z w128 c.total-bound.result)))
-    (
+    seams_say r (open_at c.args.mask.now) (label_at r.width c.args.labels.now) (length c.args.scratch.now) (g.H.Heights.cycles_at c.args.heights.now) c.args.flows.now c.requires.regions.1 (CostDiffers c.seam_cost-cost.result (to_z w128 (of_z w128 c.total-bound.result))) (
       c.if-flows-seam_count.false ∙ c.seam_count.ensures,
       c.in_default.ensures.none,
       c.in_default-first_heavy.ensures.none.0,

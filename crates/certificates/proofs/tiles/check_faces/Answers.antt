@@ -43,8 +43,7 @@ pub returns-then-is_same : goal.returns-then-is_same
 returns-then-is_same g c =
     let r = raster_of c.args.scene.now in
     let back : to_z w128 (of_z w128 c.in-Ok.bound) ≡ c.in-Ok.bound = omega (arith, ints) in
-    faces_say r (open_at c.args.mask.now) c.args.tile (lifted r (g.H.Heights.cycles_at c.args.heights.now)) c.args.faces.now Good
-    (
+    faces_say r (open_at c.args.mask.now) c.args.tile (lifted r (g.H.Heights.cycles_at c.args.heights.now)) c.args.faces.now Good (
       counted c.args.scene.now c.args.tile c.window-window.result c.window-window.ensures.pixels (length c.args.faces.now) c.if-faces-cells.false,
       record { fits = c.in-Ok.ensures.fit; equal = sym c.in-Ok.ensures.total ∙ sym back ∙ c.is_same.ensures.0 c.if-is_same.true ∙ c.cost-cost.ensures },
     )
@@ -53,8 +52,7 @@ pub returns-else-is_same : goal.returns-else-is_same
 returns-else-is_same g c =
     let r = raster_of c.args.scene.now in
     let back : to_z w128 (of_z w128 c.in-Ok.bound) ≡ c.in-Ok.bound = omega (arith, ints) in
-    faces_say r (open_at c.args.mask.now) c.args.tile (lifted r (g.H.Heights.cycles_at c.args.heights.now)) c.args.faces.now (CostDiffers c.cost-cost.result (to_z w128 (of_z w128 c.in-Ok.bound)))
-    (
+    faces_say r (open_at c.args.mask.now) c.args.tile (lifted r (g.H.Heights.cycles_at c.args.heights.now)) c.args.faces.now (CostDiffers c.cost-cost.result (to_z w128 (of_z w128 c.in-Ok.bound))) (
       counted c.args.scene.now c.args.tile c.window-window.result c.window-window.ensures.pixels (length c.args.faces.now) c.if-faces-cells.false,
       c.in-Ok.ensures.fit,
       c.cost-cost.ensures,

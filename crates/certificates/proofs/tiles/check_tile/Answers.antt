@@ -34,6 +34,6 @@ pub returns : goal.returns
 returns c =
     tile_says c.args.scene.now (open_at c.args.mask.now) c.args.solved.now c.check_faces.result
     (
-      tile_from_faces c.args.scene.now (open_at c.args.mask.now) c.args.solved.now c.window-window.result c.deref.result.now c.deref-2.result.now c.check_faces.result c.window-window.ensures.value c.deref.ensures.value c.deref-2.ensures.value
-      (c.has_shape.ensures.0 c.if-not-has_shape.false) c.in_default.ensures.none c.check_faces.ensures.verdict
+    tile_from_faces c.args.scene.now (open_at c.args.mask.now) c.args.solved.now c.window-window.result c.deref.result.now c.deref-2.result.now c.check_faces.result c.window-window.ensures.value c.deref.ensures.value c.deref-2.ensures.value
+    (c.has_shape.ensures.0 c.if-not-has_shape.false) c.in_default.ensures.none c.check_faces.ensures.verdict
     )

@@ -1,7 +1,7 @@
 -- Too many bytes are told only at the limit: no break of a session is that fault, nor do planes and words end the input.
-use Rattle.std.proofs.Common.{◌≡◌, ℕ, Bool, true, false, cond, inl, inr, List, Option, Some, None, Result, Err, refl, ap, subst, ◌∙◌}
+use Rattle.std.proofs.Common.{IfErr, Ok, ◌≡◌, ℕ, Bool, true, false, cond, inl, inr, List, Option, Some, None, Result, Err, refl, sym, ap, subst, ◌∙◌}
 use Rattle.raster_model.specs.declared.session.Session.{Session}
-use Rattle.session_script.specs.Causes.{IsAtLimit}
+use Rattle.session_script.specs.Causes.{HasCause, IsAtLimit}
 use Rattle.raster_model.specs.declared.script.Command.{Command}
 use Rattle.raster_model.specs.declared.script.Command.TheVariants.{Change, Settle, Show}
 use Rattle.pgm_planes.specs.declared.fault.InputFault.{InputFault}
@@ -76,6 +76,14 @@ planes_never at bytes e (inr b) t = later_never b.role b.phase b.place b.rest e 
 pub session_never : (usage : SessionUse) (side at : ℕ) (bytes : List ℕ) → SessionBreak usage side at bytes TooLong → ⊥
 session_never usage side at bytes (inl b) = planes_never at bytes TooLong b refl
 session_never usage side at bytes (inr b) = script_never _ usage b.place b.rest b.broken
+
+pub memory_told : (usage : SessionUse) (side : ℕ) (c : Call) (r : Result Session SessionFault) → IfErr r (λ fault. fault ≡ Memory) → IfErr r (HasCause usage side c)
+memory_told usage side c (Ok x) h = tt
+memory_told usage side c (Err fault) h = subst (HasCause usage side c) (sym h) tt
+
+pub memory_never : (r : Result Session SessionFault) → IfErr r (λ fault. fault ≡ Memory) → r ≡ Err (Input TooLong) → ⊥
+memory_never (Ok x) h is = cc
+memory_never (Err fault) h is = cc
 
 pub at_limit : (F : Break) (asks : List ℕ → Type 0) (c : Call) (e e' : SessionFault) (r : Result Session SessionFault) → r ≡ Err e' → e' ≡ e → c.limit ≡ 268435456 → ((bytes : List ℕ) → F c.at bytes TooLong → ⊥) → HasCauseIn F asks c e → r ≡ Err (Input TooLong) → IsAtLimit c
 at_limit F asks c (Input fault) e' r a b limit never (inl l) is = if_told c.told _ (λ bytes t. (l.0.1 ∙ limit, l.0.2))

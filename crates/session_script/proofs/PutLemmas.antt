@@ -1,5 +1,5 @@
 -- Texts that are put one after the other.
-use Rattle.std.proofs.Common.{◌≡◌, ℕ, zero, suc, ◌+◌, ◌<◌, get_or, take, drop, flat_map, List, [], ◌∷◌, ◌++◌, length, Option, Result, Ok, Err, ◌⊎◌, inl, inr, append_assoc, refl, sym, ap, ◌∙◌, arith}
+use Rattle.std.proofs.Common.{◌≡◌, ℕ, zero, suc, ◌+◌, ◌<◌, get_or, take, drop, flat_map, List, [], ◌∷◌, ◌++◌, length, Option, Result, Ok, Err, ◌⊎◌, inl, inr, append_assoc, add-one, refl, sym, ap, ◌∙◌, arith}
 use Rattle.std.proofs.lemmas.Grind.{flat_map-append}
 use Rattle.std.proofs.lemmas.List.{append-nil, take_more, take-append-drop}
 use Rattle.insar_ports.specs.declared.sink.WriteFault.{WriteFault}
@@ -47,6 +47,10 @@ module _ {X : Type 0} (f : X → List ℕ) (xs : List X) (i : ℕ) (x : X) (with
   whole_text : flat_map f xs ≡ (flat_map f (take i xs) ++ f x) ++ flat_map f (drop (i + 1) xs)
   whole_text = ap (flat_map f) (sym (take-append-drop (i + 1) xs)) ∙ flat_map-append f (take (i + 1) xs) (drop (i + 1) xs) ∙ ap (λ (t : List ℕ). t ++ flat_map f (drop (i + 1) xs)) more_text
 
+  -- an element's text was put
+  pub puts_more : (old mid new : Option (List ℕ)) (before middle after : ℕ) → Puts old mid before middle (flat_map f (take i xs)) done → Puts mid new middle after (f x) done → Puts old new before after (flat_map f (take (i + 1) xs)) done
+  puts_more old mid new before middle after p q = rw more_text (puts_then (flat_map f (take i xs)) (f x) old mid new before middle after done p q)
+
   -- an element's text was cut
   pub puts_some : (old mid new : Option (List ℕ)) (before middle after : ℕ) (e : WriteFault) → Puts old mid before middle (flat_map f (take i xs)) done → Puts mid new middle after (f x) (failed e) → Puts old new before after (flat_map f xs) (failed e)
   puts_some old mid new before middle after e p q = rw whole_text (puts_part (flat_map f (take i xs) ++ f x) (flat_map f (drop (i + 1) xs)) old new before after e (puts_then (flat_map f (take i xs)) (f x) old mid new before middle after (failed e) p q))
@@ -58,6 +62,9 @@ any_default (x ∷ xs) (suc i) d e lt = any_default xs i d e (omega (arith, lt))
 
 pub puts_some_at : {X : Type 0} (f : X → List ℕ) (xs : List X) (i : ℕ) (d : X) → i < length xs → (old mid new : Option (List ℕ)) (before middle after : ℕ) (e : WriteFault) → Puts old mid before middle (flat_map f (take i xs)) done → Puts mid new middle after (f (get_or xs i d)) (failed e) → Puts old new before after (flat_map f xs) (failed e)
 puts_some_at f xs i d within old mid new before middle after e p q = puts_some f xs i (get_or xs i d) within (any_default xs i d (get_or xs i d) within) old mid new before middle after e p q
+
+pub puts_more_at : {X : Type 0} (f : X → List ℕ) (xs : List X) (i : ℕ) (d : X) → i < length xs → (old mid new : Option (List ℕ)) (before middle after : ℕ) → Puts old mid before middle (flat_map f (take i xs)) done → Puts mid new middle after (f (get_or xs i d)) done → Puts old new before after (flat_map f (take (i + 1) xs)) done
+puts_more_at f xs i d within old mid new before middle after p q = puts_more f xs i (get_or xs i d) within (any_default xs i d (get_or xs i d) within) old mid new before middle after p q
 
 -- ---- scripts
 
@@ -85,6 +92,10 @@ rows_parts f y (suc h) lt = elim (last_or_before y h lt) [
   | inl e ↦ ([], rw e (sym (append-nil (texts_below (suc h) f))))
   | inr e ↦ let r = rows_parts f y h e in (r.0 ++ f h, ap (λ (t : List ℕ). t ++ f h) r.1 ∙ append_assoc (texts_below (suc y) f) r.0 (f h))
 ]
+
+-- a row was put
+pub rows_more : (f : ℕ → List ℕ) (y : ℕ) (row : List ℕ) → row ≡ f y → (old mid new : Option (List ℕ)) (before middle after : ℕ) → Puts old mid before middle (texts_below y f) done → Puts mid new middle after row done → Puts old new before after (texts_below (y + 1) f) done
+rows_more f y row is old mid new before middle after p q = rw (add-one, ← is) (puts_then (texts_below y f) row old mid new before middle after done p q)
 
 -- a row was cut
 pub rows_cut : (f : ℕ → List ℕ) (y h : ℕ) → y < h → (row : List ℕ) → row ≡ f y → (old mid new : Option (List ℕ)) (before middle after : ℕ) (e : WriteFault) → Puts old mid before middle (texts_below y f) done → Puts mid new middle after row (failed e) → Puts old new before after (texts_below h f) (failed e)

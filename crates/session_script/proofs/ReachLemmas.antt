@@ -1,6 +1,6 @@
 -- What calls on a feed that come one after another reach, and why they refuse.
-use Rattle.std.proofs.Common.{◌≡◌, ℕ, suc, ◌+◌, true, inl, inr, ◌-◌, ◌≤◌, ◌<◌, List, [], ◌∷◌, ◌++◌, length, take, drop, Option, Some, None, refl, sym, ap, subst, ◌∙◌, append_assoc, arith}
-use Rattle.std.specs.Prelude.{IfSome, All}
+use Rattle.std.proofs.Common.{◌≡◌, ℕ, suc, ◌+◌, true, false, inl, inr, ◌-◌, ◌≤◌, ◌<◌, List, [], ◌∷◌, ◌++◌, length, take, drop, Option, Some, None, Result, Ok, Err, refl, sym, ap, subst, ◌∙◌, append_assoc, arith}
+use Rattle.std.specs.Prelude.{IfErr, IfSome, All}
 use Rattle.std.specs.List.{list_all}
 use Rattle.std.proofs.Math.Seq.{take-append-add}
 use Rattle.std.proofs.lemmas.Bool.{and_parts}
@@ -12,11 +12,11 @@ use Rattle.insar_ports.specs.declared.feed.FeedFault.TheVariants as feed_faults
 use Rattle.insar_ports.specs.Lines.{IsInLine, AreGone, IsPartOfLine}
 use Rattle.pgm_planes.specs.declared.fault.InputFault.{InputFault}
 use Rattle.pgm_planes.specs.declared.fault.InputFault.TheVariants.{ScriptLine, NoEnd}
-use Rattle.pgm_planes.specs.Calls.{Call, Moves}
+use Rattle.pgm_planes.specs.Calls.{Call, Moves, Takes}
 use Rattle.pgm_planes.proofs.CallLemmas.{call, some_is, told_on, risen_before}
 use Rattle.session_script.specs.declared.fault.SessionFault.{SessionFault}
 use Rattle.session_script.specs.declared.fault.SessionFault.TheVariants.{Input, ReadFault, Memory}
-use Rattle.session_script.specs.Reaching.{Reaches, Break, HasCauseIn, IsSeen, LineBreak}
+use Rattle.session_script.specs.Reaching.{Reaches, Break, HasCauseIn, IsNothing, IsSeen, LineBreak, LooksAt, NoBreak}
 use Rattle.session_script.specs.declared.word.Word.{Word}
 use Rattle.session_script.specs.Faults.{fault_of_feed}
 use Rattle.session_script.specs.Lines.{Spells, SpellsNone}
@@ -38,6 +38,12 @@ module _ {P Q : List ℕ → List ℕ → Type 0} where
   reaches_map c f r = if_told c.told _ (λ bytes t.
       let k = at_told c.told _ bytes t r in
       (k.0, (k.1.0, (k.1.1.0, f bytes k.0 k.1.1.1))))
+
+-- what takes a text reaches what stands behind it
+pub takes_reaches : (P : List ℕ → List ℕ → Type 0) (c : Call) → Takes c P → Reaches c (λ bytes rest. (text : List ℕ) × (bytes ≡ text ++ rest) × P text rest)
+takes_reaches P c h = if_told c.told _ (λ bytes t.
+    let k = at_told c.told _ bytes t h in
+    (k.1, (k.2.1.0, (omega (arith, k.2.1.1.0, ap length k.2.0, length-append k.0 k.1), (k.0, k.2.0, k.2.1.1.1)))))
 
 -- what `Reaches` reads of a call
 abbrev pub part : Option (List ℕ) → ℕ → Option (List ℕ) → ℕ → Call
@@ -134,6 +140,46 @@ not_cut P S Q c m within r restricts never = if_told c.told _ (λ bytes t. λ cu
 pub seen_break : (F : Break) (asks : List ℕ → Type 0) (c : Call) (fault : InputFault) → IfSome c.told (λ bytes. F c.at bytes fault) → IsSeen asks c → HasCauseIn F asks c (Input fault)
 seen_break F asks c fault b s = inr (if_told c.told _ (λ bytes t. (at_told c.told (λ x. F c.at x fault) bytes t b, at_told c.told (λ x. CutAt c.limit c.at asks x → ⊥) bytes t s)))
 
+-- want of memory has no cause
+pub memory_cause : {A : Type 0} (F : Break) (asks : List ℕ → Type 0) (c : Call) (r : Result A SessionFault) → IfErr r (λ fault. fault ≡ Memory) → IfErr r (HasCauseIn F asks c)
+memory_cause F asks c (Ok x) h = tt
+memory_cause F asks c (Err fault) h = subst (HasCauseIn F asks c) (sym h) tt
+
+-- ---- a look at the next byte
+
+module _ (c : Call) (left : c.left ≡ c.told) (end : c.end ≡ c.at) where
+  pub looks : (P : List ℕ → List ℕ → Type 0) → ((bytes : List ℕ) → c.told ≡ Some bytes → P bytes bytes) → Reaches c P
+  looks P f = if_told c.told _ (λ bytes t. (bytes, (left ∙ t, (omega (arith, end), f bytes t))))
+
+  pub look_cause : (e : FeedFault) → (e ≡ feed_faults.TooLong → c.at ≡ c.limit) → (e ≡ feed_faults.TooLong → HasMore c.told) → (e ≡ feed_faults.ReadFault → HasRisen c.before c.after) → HasCauseIn NoBreak IsNothing c (fault_of_feed e)
+  look_cause feed_faults.TooLong limit more risen = inl (
+    (refl, end ∙ limit refl, subst HasMore (sym left) (more refl)),
+    if_told c.told _ (λ bytes t.
+        let some : 0 < length bytes = at_told c.told _ bytes t (more refl) in
+        let none : c.limit - c.at ≡ 0 = omega (arith, limit refl) in
+        (omega (arith, limit refl, some), rw none refl)),
+  )
+  look_cause feed_faults.ReadFault limit more risen = risen refl
+
+-- what begins with a byte is not nothing, and is not for the limit where it lets that byte out
+begun_is : (byte : ℕ) (told : Option (List ℕ)) (bytes : List ℕ) → BeginsWith byte told → told ≡ Some bytes → bytes ≡ byte ∷ drop 1 bytes
+begun_is byte told bytes b t = some_is bytes (byte ∷ drop 1 bytes) (sym t ∙ b ∙ ap (λ (o : Option (List ℕ)). with_front (byte ∷ []) (after_first o)) t)
+
+pub some_seen : (byte : ℕ) (c : Call) → BeginsWith byte c.told → c.at < c.limit → IsSeen IsNothing c
+some_seen byte c b lt = if_told c.told _ (λ bytes t. λ cut.
+    let whole = begun_is byte c.told bytes b t in
+    omega (arith, lt, length-take (c.limit - c.at) bytes, ap length cut.1, ap length whole))
+
+pub none_seen : (c : Call) → IsAtEnd c.told → c.at ≤ c.limit → IsSeen IsNothing c
+none_seen c ended le = if_told c.told _ (λ bytes t. λ cut. let none = at_told c.told _ bytes t ended in omega (arith, le, cut.0, ap length none))
+
+module _ (c : Call) (left : c.left ≡ c.told) (end : c.end ≡ c.at) where
+  pub sees_some : (byte : ℕ) → BeginsWith byte c.told → Reaches c (LooksAt false)
+  sees_some byte b = looks c left end (LooksAt false) (λ bytes t. (refl, λ none. let whole = begun_is byte c.told bytes b t in cc))
+
+  pub sees_none : IsAtEnd c.told → Reaches c (LooksAt true)
+  sees_none ended = looks c left end (LooksAt true) (λ bytes t. (refl, at_told c.told (λ x. x ≡ []) bytes t ended))
+
 -- ---- lines
 
 -- a line that is too long
@@ -192,6 +238,19 @@ line_cut n into c size le gone place limit more = if_told c.told _ (λ bytes t.
     let here : c.limit - c.at ≡ length line + 0 = omega (arith, place, limit, count) in
     let seen : take (c.limit - c.at) bytes ≡ line = rw (whole, here) (take-append-add line k.0 0 ∙ append-nil line) in
     (omega (arith, place, limit, some, count, ap length whole, length-append line k.0), rw seen (omega (arith, count, le, size), gone.0)))
+
+-- ---- what a line moves
+
+-- a text that is gone was moved
+pub gone_moves : (front : List ℕ) (c : Call) → c.told ≡ with_front front c.left → c.end ≡ c.at + length front → c.before ≤ c.after → Moves c
+gone_moves front c parts place grows = record { front = front; parts = parts; place = place; grows = grows }
+
+module _ (n : ℕ) (into : List ℕ) (c : Call) (le : n ≤ length into) (grows : c.before ≤ c.after) where
+  pub whole_moves : c.told ≡ with_front (take n into ++ 10 ∷ []) c.left → c.end ≡ c.at + (n + 1) → Moves c
+  whole_moves parts place = gone_moves (take n into ++ 10 ∷ []) c parts (omega (arith, place, le, length-append (take n into) (10 ∷ []), length-take n into)) grows
+
+  pub part_moves : c.told ≡ with_front (take n into) c.left → c.end ≡ c.at + n → Moves c
+  part_moves parts place = gone_moves (take n into) c parts (omega (arith, place, le, length-take n into)) grows
 
 -- ---- a line that was read
 

@@ -1,6 +1,8 @@
 -- What the lines of a script part reach, and why they are refused.
-use Rattle.std.proofs.Common.{◌≡◌, ◌≢◌, ℕ, ◌+◌, ◌-◌, ◌≤◌, Bool, true, false, inl, inr, List, [], ◌∷◌, ◌++◌, take, Option, Some, refl, sym, ap, subst, ◌∙◌, arith}
+use Rattle.std.proofs.Common.{◌≡◌, ◌≢◌, ℕ, zero, suc, ◌+◌, ◌*◌, ◌-◌, ◌≤◌, Bool, true, false, inl, inr, List, [], ◌∷◌, ◌++◌, take, Option, Some, refl, sym, ap, subst, ◌∙◌, arith}
 use Rattle.std.specs.Prelude.{IfSome}
+use Rattle.raster_model.specs.declared.script.Command.TheVariants.{Settle, Show}
+use Rattle.raster_model.specs.Scripts.{CommandsFit}
 use Rattle.pgm_planes.specs.declared.fault.InputFault.{InputFault}
 use Rattle.pgm_planes.specs.declared.fault.InputFault.TheVariants.{ScriptLine, AfterEnd}
 use Rattle.pgm_planes.specs.Calls.{Call, Moves}
@@ -12,10 +14,10 @@ use Rattle.session_script.specs.declared.session_use.SessionUse.TheVariants.{Alo
 use Rattle.session_script.specs.declared.word.Word.{Word}
 use Rattle.session_script.specs.declared.word.Word.TheVariants as words
 use Rattle.session_script.specs.Reaching.{Reaches, Break, LineBreak, NoBreak, HasCauseIn, IsSeen, IsNothing, LooksAt, SectionsAsk, ScriptAsks}
-use Rattle.session_script.specs.Scripts.{BeginsLine, AreLines, AreSections, meant, IsScriptPart, IsCut, SectionsBreak, ScriptBreak}
-use Rattle.session_script.specs.Sections.{Sections, Frame, words_of, lines_in, AreWithin, word_broken}
+use Rattle.session_script.specs.Scripts.{BeginsLine, AreLines, AreSections, meant, usual, IsScriptPart, IsCut, SectionsBreak, ScriptBreak}
+use Rattle.session_script.specs.Sections.{Sections, Frame, words_of, lines_in, AreWithin, IsComplete, word_broken}
 use Rattle.session_script.proofs.AskScript.{WordBehind, word_restricts, word_not_asks, line_back, line_forth, nothing_asks, report_back, report_forth, alone_back, alone_forth, end_forth, end_not_asks}
-use Rattle.session_script.proofs.ReachLemmas.{if_told, at_told, part, CutAt, reaches_then, cause_then, cause_map, not_cut, seen_break, seen_read}
+use Rattle.session_script.proofs.ReachLemmas.{if_told, at_told, part, CutAt, reaches_map, reaches_then, cause_then, cause_map, not_cut, seen_break, seen_read}
 use Rattle.session_script.proofs.SeenLemmas.{lines_restrict, sections_restrict, no_front}
 use Rattle.session_script.proofs.WithinLemmas.{more_lines}
 
@@ -144,3 +146,23 @@ module _ (told : Option (List ℕ)) (at : ℕ) (mid : Option (List ℕ)) (at_mid
   part_stands f ss scripts is means stands looks = reaches_then told at mid at_mid left end (λ bytes rest. AreSections f bytes ss rest) (LooksAt ended) (λ bytes rest. IsScriptPart f Alone bytes scripts rest) stands looks (λ bytes between rest a b.
       let none = ended_there ended between rest is b in
       inr (record { sections = ss; are = subst (λ (t : List ℕ). AreSections f bytes ss t) (sym none.0) a; means = means; ends = λ _. none.0 ∙ none.1 }))
+
+-- ---- what the scripts are in the end
+
+no_edits : (w h : ℕ) → CommandsFit w h (Settle ∷ Show ∷ [])
+no_edits w h zero edit e = absurd cc
+no_edits w h (suc zero) edit e = absurd cc
+no_edits w h (suc (suc k)) edit e = absurd cc
+
+pub usual_complete : (f : Frame) → f.width * f.height ≤ 4194304 → IsComplete f usual
+usual_complete f few = (omega arith, record { analysts = omega arith; short = (omega arith, tt); inside = (no_edits f.width f.height, tt); settles = omega (arith, few); changes = omega arith })
+
+pub meant_complete : (f : Frame) (ss : Sections) → f.width * f.height ≤ 4194304 → AreWithin f ss → IsComplete f (meant ss)
+meant_complete f [] few within = usual_complete f few
+meant_complete f (first ∷ ss) few within = (omega arith, within)
+
+pub none_stands : (f : Frame) (c : Call) (ended : Bool) (scripts : Sections) → ended ≡ true → scripts ≡ usual → Reaches c (LooksAt ended) → Reaches c (λ bytes rest. IsScriptPart f Alone bytes scripts rest)
+none_stands f c ended scripts e is r = reaches_map c (λ bytes rest looks. let k = ended_there ended bytes rest e looks in inl (refl, k.1, is, k.0 ∙ k.1)) r
+
+pub report_stands : (f : Frame) (usage : SessionUse) (c : Call) (ss scripts : Sections) → usage ≡ BeforeReport → scripts ≡ meant ss → Reaches c (λ bytes rest. AreSections f bytes ss rest) → Reaches c (λ bytes rest. IsScriptPart f usage bytes scripts rest)
+report_stands f usage c ss scripts is means r = reaches_map c (λ bytes rest are. inr (record { sections = ss; are = are; means = means; ends = λ alone. let never : BeforeReport ≡ Alone = sym is ∙ alone in absurd cc })) r

@@ -6,8 +6,11 @@ use Rattle.raster_model.specs.declared.script.Command.{Command}
 use Rattle.raster_model.specs.declared.script.Script.{Script}
 use Rattle.raster_model.specs.declared.tiling.Tiling.{Tiling}
 use Rattle.raster_model.specs.Scripts.{is_settle, is_change, CommandsFit, ScriptsFit, ScriptsAreShort, settles_in, changes_in}
+use Rattle.raster_model.specs.declared.plane.Plane.{Plane}
+use Rattle.raster_model.specs.MaskView.{MaskView}
+use Rattle.raster_model.specs.Masks.{IsMaskOf, open_by}
 use Rattle.pgm_planes.specs.Calls.{Call, Moves}
-use Rattle.pgm_planes.specs.Planes.{PlaneOf}
+use Rattle.pgm_planes.specs.Planes.{PlaneOf, plane_of}
 use Rattle.pgm_planes.proofs.CallLemmas.{call}
 use Rattle.session_script.specs.declared.fault.SessionFault.{SessionFault}
 use Rattle.session_script.specs.declared.fault.SessionFault.TheVariants.{Input, ReadFault, Memory}
@@ -17,10 +20,18 @@ use Rattle.session_script.specs.Making.{IsMadeOf}
 use Rattle.session_script.specs.Reaching.{Reaches, HasCauseIn, PlanesAsk, ScriptAsks}
 use Rattle.session_script.specs.Scripts.{IsScriptPart, ScriptBreak}
 use Rattle.session_script.specs.Sections.{Sections, sections_of, Frame, frame_of, settles_of, changes_of}
-use Rattle.session_script.specs.Sessions.{SessionOf, ArePlanes, frame_in, IsSessionIn, PlanesBreak, SessionBreak, SessionAsks, AreTooMany}
+use Rattle.session_script.specs.Sessions.{SessionOf, ArePlanes, frame_in, IsSessionIn, PlanesBreak, SessionBreak, SessionAsks, AreTooMany, open_in}
 use Rattle.session_script.proofs.AskSession.{planes_forth, planes_back, script_forth, script_back}
 use Rattle.session_script.proofs.ReachLemmas.{if_told, at_told, part, CutAt, cause_then, cause_map}
 use Rattle.session_script.proofs.SeenLemmas.{planes_restrict}
+
+-- a mask of a plane, as of what the plane tells
+pub mask_of : (m : MaskView) (p : Plane) (w h : ℕ) → p.width ≡ w → p.height ≡ h → IsMaskOf m p.width p.height (open_by p) → IsMaskOf m w h (open_in (plane_of p))
+mask_of m p w h e f i = record {
+  width = i.width ∙ e;
+  height = i.height ∙ f;
+  clear_at = λ x y in_width in_height. i.clear_at x y (omega (arith, in_width, e)) (omega (arith, in_height, f));
+}
 
 -- ---- scripts as sections
 

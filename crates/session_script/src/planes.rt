@@ -4,13 +4,14 @@ ghost use Rattle.pgm_planes.specs.Calls.{Moves, call_of};
 ghost use Rattle.pgm_planes.specs.Planes.{HasMaxval, IsPlaneIn, plane_of};
 ghost use Rattle.session_script.specs.Reaching.{HasCauseIn, IsNothing, IsSeen, LaterAsks, LooksFor, NoBreak, PlanesAsk, Reaches};
 ghost use Rattle.session_script.specs.Sessions.{ArePlanes, HasSizeOf, IsLaterPlane, LaterBreak, PlaneBreak, PlanesBreak, ones_of};
+ghost use Rattle.session_script.specs.declared.fault.SessionFault.TheVariants as session_faults;
 ghost use Rattle.std.specs.Prelude.{◌≡◌, IfErr, IfOk};
 
 use crate::fault::{SessionFault, plane_fault};
 use insar_ports::{Feed, Source};
 use pgm_planes::{InputFault, Role, read_plane};
 use raster_model::Plane;
-use std::alloc::{AllocError, Global};
+use std::alloc::Global;
 
 /// The planes of an input, which have one size.
 #[derive(Drop)]
@@ -59,7 +60,7 @@ fn read_later<S: Source>(
     ensures refused { IfErr result (HasCauseIn (LaterBreak role (plane_of phase.now)) (LaterAsks role) (call_of S.left S.faults feed.old feed.new)) }
 {
     if !begins_plane(feed)? {
-        return Ok(ones(alloc, phase)?);
+        return ones(alloc, phase);
     }
     let plane = read(alloc, feed, role)?;
     if plane.width != phase.width || plane.height != phase.height {
@@ -99,8 +100,9 @@ fn read<S: Source>(alloc: Global, feed: &mut Feed<S>, role: Role) -> Result<Plan
 }
 
 /// A plane of another's size whose samples are all 1.
-fn ones(alloc: Global, phase: &Plane) -> Result<Plane, AllocError>
-    ensures { IfOk result (λ plane. plane_of plane ≡ ones_of (plane_of phase.now)) }
+fn ones(alloc: Global, phase: &Plane) -> Result<Plane, SessionFault>
+    ensures made { IfOk result (λ plane. plane_of plane ≡ ones_of (plane_of phase.now)) }
+    ensures starved { IfErr result (λ fault. fault ≡ session_faults.Memory) }
 {
     let pixels = phase.width as usize * phase.height as usize;
     Ok(Plane {

@@ -4,6 +4,7 @@ ghost use Rattle.session_script.specs.Building.{sections_in};
 ghost use Rattle.session_script.specs.Reaching.{HasCauseIn, IsNothing, IsSeen, LineBreak, LooksAt, NoBreak, Reaches, ScriptAsks, SectionsAsk};
 ghost use Rattle.session_script.specs.Scripts.{AreSections, BeginsLine, IsCut, IsScriptPart, ScriptBreak, SectionsBreak, meant, usual};
 ghost use Rattle.session_script.specs.Sections.{AreWithin, IsComplete, frame_of, sections_of};
+ghost use Rattle.session_script.specs.declared.fault.SessionFault.TheVariants as session_faults;
 ghost use Rattle.session_script.specs.declared.session_use.SessionUse.TheVariants.{Alone};
 ghost use Rattle.std.specs.Prelude.{◌≡◌, ◌<◌, ◌≤◌, IfErr, IfOk, OnOk, length};
 
@@ -15,7 +16,7 @@ use crate::word::Word;
 use insar_ports::{Feed, Line, Source};
 use pgm_planes::InputFault;
 use raster_model::{Command, Script, Tiling};
-use std::alloc::{AllocError, Global};
+use std::alloc::Global;
 
 /// The most bytes of a line, without its line feed.
 const LONGEST_LINE: usize = 64;
@@ -86,7 +87,7 @@ pub fn read_scripts<S: Source>(
         SessionUse::Alone => read_alone(alloc, feed, tiling),
         SessionUse::BeforeReport => {
             let sections = read_sections(alloc, feed, tiling)?;
-            Ok(meant_scripts(alloc, sections)?)
+            meant_scripts(alloc, sections)
         }
     }
 }
@@ -106,12 +107,12 @@ fn read_alone<S: Source>(
     ensures refused { IfErr result (HasCauseIn (ScriptBreak (frame_of tiling.now) Alone) (ScriptAsks (frame_of tiling.now) Alone) (call_of S.left S.faults feed.old feed.new)) }
 {
     if has_ended(feed)? {
-        return Ok(usual_scripts(alloc)?);
+        return usual_scripts(alloc);
     }
     let sections = read_sections(alloc, feed, tiling)?;
     let place = feed.handed();
     if has_ended(feed)? {
-        Ok(meant_scripts(alloc, sections)?)
+        meant_scripts(alloc, sections)
     } else {
         Err(SessionFault::Input(InputFault::AfterEnd(place)))
     }
@@ -133,8 +134,9 @@ fn has_ended<S: Source>(feed: &mut Feed<S>) -> Result<bool, SessionFault>
 }
 
 /// The scripts that sections mean.
-fn meant_scripts(alloc: Global, sections: Sections) -> Result<Vec<Script>, AllocError>
-    ensures { IfOk result (λ scripts. sections_of scripts.items ≡ meant (sections_in sections)) }
+fn meant_scripts(alloc: Global, sections: Sections) -> Result<Vec<Script>, SessionFault>
+    ensures made { IfOk result (λ scripts. sections_of scripts.items ≡ meant (sections_in sections)) }
+    ensures starved { IfErr result (λ fault. fault ≡ session_faults.Memory) }
 {
     let scripts = sections.into_scripts();
     if scripts.is_empty() {
@@ -145,8 +147,9 @@ fn meant_scripts(alloc: Global, sections: Sections) -> Result<Vec<Script>, Alloc
 }
 
 /// One analyst, who settles and shows.
-fn usual_scripts(alloc: Global) -> Result<Vec<Script>, AllocError>
-    ensures { IfOk result (λ scripts. sections_of scripts.items ≡ usual) }
+fn usual_scripts(alloc: Global) -> Result<Vec<Script>, SessionFault>
+    ensures made { IfOk result (λ scripts. sections_of scripts.items ≡ usual) }
+    ensures starved { IfErr result (λ fault. fault ≡ session_faults.Memory) }
 {
     let mut commands = Vec::with_capacity(alloc, 2)?;
     commands.push(Command::Settle)?;

@@ -18,7 +18,7 @@ use crate::script::read_scripts;
 use crate::session_use::SessionUse;
 use insar_ports::{Feed, Source};
 use raster_model::{Mask, RuleKind, Scene, Script, Session, Tiling};
-use std::alloc::{AllocError, Global};
+use std::alloc::Global;
 
 /// Reads a session from the start of a source: a phase plane, weights and a mask where they stand, and the analysts'
 /// scripts. The weights of the edges are those of the rule `kind`, and tiles have the side `side`. Places and lines of a
@@ -76,7 +76,7 @@ fn read_spelled<S: Source>(
     let planes = read_planes(alloc, feed)?;
     let tiling = Tiling::new(planes.phase.width, planes.phase.height, side);
     let scripts = read_scripts(alloc, feed, use_as, &tiling)?;
-    Ok(made_of(alloc, planes, tiling, kind, scripts)?)
+    made_of(alloc, planes, tiling, kind, scripts)
 }
 
 /// The session of planes and scripts.
@@ -86,11 +86,12 @@ fn made_of(
     tiling: Tiling,
     kind: RuleKind,
     scripts: Vec<Script>,
-) -> Result<Session, AllocError>
+) -> Result<Session, SessionFault>
     requires sized { (tiling.width ≡ planes.phase.width) × (tiling.height ≡ planes.phase.height) }
     requires complete { IsComplete (frame_of tiling) (sections_of scripts.items) }
     ensures made { IfOk result (λ session. IsMadeOf (plane_of planes.phase) (plane_of planes.weights) (plane_of planes.mask) (sections_of scripts.items) (session_of session)) }
     ensures scene { IfOk result (λ session. (session.scene.rule ≡ kind) × (session.scene.tiling.side ≡ tiling.side)) }
+    ensures starved { IfErr result (λ fault. fault ≡ session_faults.Memory) }
 {
     let edges = weigh(alloc, kind, &planes.weights)?;
     let first_mask = Mask::of_plane(alloc, &planes.mask)?;

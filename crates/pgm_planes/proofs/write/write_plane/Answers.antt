@@ -1,3 +1,5 @@
+use Rattle.std.proofs.Common.{◌≤◌}
+use Rattle.std.proofs.lemmas.List.Elements.{All-from_get_or}
 use Rattle.std.proofs.lemmas.Result.{on_ok_weaker, on_err_weaker}
 use Rattle.insar_ports.proofs.CallerLemmas.{cut-first, cut-later}
 use Rattle.pgm_planes.specs.Planes.{is_wide}
@@ -19,3 +21,6 @@ pub returns-clause-cut : goal.returns-clause-cut
 unfolding plane_text
 returns-clause-cut g c =
     on_err_weaker c.write_raster.result (λ last. cut-later _ _ _ (header_text c.args.plane.now.width c.args.plane.now.height c.args.plane.now.maxval) (raster_text (is_wide c.args.plane.now.maxval) c.args.plane.now.samples.items) c.in_ok-write_header.ensures.written (rw c.deref.ensures.value at last)) c.write_raster.ensures.cut
+
+pub write_raster-requires : goal.write_raster-requires
+write_raster-requires g c = let p = c.args.plane.now in rw c.deref.ensures.value (All-from_get_or (λ v. v ≤ p.maxval) p.samples.items 0 (λ k lt. p.below k))

@@ -1,18 +1,17 @@
-use Rattle.std.proofs.Common.{◌≤◌, arith}
-use Rattle.std.proofs.lemmas.Result.{err_from_is_err_and}
+use Rattle.session_script.specs.Reaching.{Reaches, LaterAsks}
+use Rattle.session_script.proofs.ReachLemmas.{memory_cause}
+use Rattle.std.proofs.Common.{◌≤◌, arith, ◌≡◌, ap}
+use Rattle.std.proofs.lemmas.Result.{err_from_is_err_and, IfOk-weaker}
 use Rattle.insar_ports.specs.Feeding.{handed_of, limit_of}
 use Rattle.pgm_planes.specs.declared.fault.InputFault.TheVariants.{SizesDiffer}
 use Rattle.pgm_planes.specs.Calls.{call_of}
 use Rattle.pgm_planes.specs.Planes.{plane_of}
 use Rattle.pgm_planes.proofs.CallLemmas.{Moves-then}
 use Rattle.session_script.specs.declared.fault.SessionFault.TheVariants.{Input}
-use Rattle.session_script.specs.Sessions.{HasSizeOf}
+use Rattle.session_script.specs.Sessions.{HasSizeOf, IsLaterPlane, LaterBreak, ones_of}
 use Rattle.session_script.proofs.PlaneLemmas.{ones_stand, look_cause, later_cause, broken_plane, other_size}
 use Rattle.session_script.proofs.planes.read_later.Goals as goal
 use Rattle.session_script.proofs.planes.read_later.Goals.{then-plane-phase-via-then-plane-phase, then-plane-phase-via-else-plane-phase+then-plane-phase-2}
-
-pub returns-then-not-branch-clause-read : goal.returns-then-not-branch-clause-read
-returns-then-not-branch-clause-read g c = ones_stand _ _ _ _ c.args.role (plane_of c.args.phase.now) (plane_of c.in_ok-ones.field-0) c.in_ok-begins_plane.field-0 c.if-not-branch.true c.in_ok-ones.ensures c.in_ok-begins_plane.ensures.read
 
 pub returns-in_err-plane-clause-moves : goal.returns-in_err-plane-clause-moves
 returns-in_err-plane-clause-moves g c = Moves-then _ _ _ _ _ _ _ _ _ _ _ c.in_ok-begins_plane.ensures.moves c.in_err-plane.ensures.moves
@@ -53,3 +52,14 @@ returns-then-plane-phase-clause-moves g c = Moves-then _ _ _ _ _ _ _ _ _ _ _ c.i
 
 pub returns-clause-moves : goal.returns-clause-moves
 returns-clause-moves g c = Moves-then _ _ _ _ _ _ _ _ _ _ _ c.in_ok-begins_plane.ensures.moves c.in_ok-plane.ensures.moves
+
+pub returns-then-not-branch-clause-read : goal.returns-then-not-branch-clause-read
+returns-then-not-branch-clause-read g c =
+    IfOk-weaker c.ones.result (λ plane. plane_of plane ≡ ones_of (plane_of c.args.phase.now)) (λ plane. Reaches (call_of g.S.Source.left g.S.Source.faults c.args.feed.now c.begins_plane.new.feed) (λ bytes rest. IsLaterPlane c.args.role (plane_of c.args.phase.now) bytes (plane_of plane) rest))
+    (λ plane made. ones_stand _ _ _ _ c.args.role (plane_of c.args.phase.now) (plane_of plane) c.in_ok-begins_plane.field-0 c.if-not-branch.true made c.in_ok-begins_plane.ensures.read) c.ones.ensures.made
+
+pub returns-then-not-branch-clause-sized : goal.returns-then-not-branch-clause-sized
+returns-then-not-branch-clause-sized g c = IfOk-weaker c.ones.result (λ plane. plane_of plane ≡ ones_of (plane_of c.args.phase.now)) (λ plane. HasSizeOf (plane_of c.args.phase.now) (plane_of plane)) (λ plane made. (ap (λ p. p.width) made, ap (λ p. p.height) made)) c.ones.ensures.made
+
+pub returns-then-not-branch-clause-refused : goal.returns-then-not-branch-clause-refused
+returns-then-not-branch-clause-refused g c = memory_cause (LaterBreak c.args.role (plane_of c.args.phase.now)) (LaterAsks c.args.role) (call_of g.S.Source.left g.S.Source.faults c.args.feed.now c.begins_plane.new.feed) c.ones.result c.ones.ensures.starved

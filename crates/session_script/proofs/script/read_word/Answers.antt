@@ -1,7 +1,7 @@
 use Rattle.std.proofs.lemmas.Result.{err_from_is_err_and}
 use Rattle.std.proofs.Common.{ap, Err, ◌∙◌}
 use Rattle.pgm_planes.specs.Calls.{call_of}
-use Rattle.session_script.proofs.ReachLemmas.{line_read, other_cause, end_cause, over_cause, feed_cause}
+use Rattle.session_script.proofs.ReachLemmas.{line_read, other_cause, end_cause, over_cause, feed_cause, gone_moves, whole_moves, part_moves}
 use Rattle.session_script.proofs.script.read_word.Goals as goal
 
 pub returns-in_err-count-clause-refused : goal.returns-in_err-count-clause-refused
@@ -36,3 +36,32 @@ returns-in-Over-clause-refused g c =
     let line = rw c.in-Over.is at c.in_ok-count.ensures.line in
     let asked = rw c.in-Over.is at c.in_ok-count.ensures.allowed in
     over_cause c.args.number c.next_line.new.into (call_of g.S.Source.left g.S.Source.faults c.args.feed.now c.next_line.new.self) c.next_line.auto.into asked line.0 line.1
+
+pub returns-in_err-count-clause-moves : goal.returns-in_err-count-clause-moves
+returns-in_err-count-clause-moves g c =
+    let taken = c.in_err-count.ensures.taken in
+    part_moves taken.0 c.next_line.new.into (call_of g.S.Source.left g.S.Source.faults c.args.feed.now c.next_line.new.self) taken.1 c.next_line.ensures.grows taken.2.1 taken.3
+
+pub returns-in-Some-clause-moves : goal.returns-in-Some-clause-moves
+returns-in-Some-clause-moves g c =
+    let line = rw c.in-Whole.is at c.in_ok-count.ensures.line in
+    let place = rw c.in-Whole.is at c.in_ok-count.ensures.handed in
+    whole_moves c.in-Whole.count c.next_line.new.into (call_of g.S.Source.left g.S.Source.faults c.args.feed.now c.next_line.new.self) line.0 c.next_line.ensures.grows line.2 place
+
+pub returns-in-None-clause-moves : goal.returns-in-None-clause-moves
+returns-in-None-clause-moves g c =
+    let line = rw c.in-Whole.is at c.in_ok-count.ensures.line in
+    let place = rw c.in-Whole.is at c.in_ok-count.ensures.handed in
+    whole_moves c.in-Whole.count c.next_line.new.into (call_of g.S.Source.left g.S.Source.faults c.args.feed.now c.next_line.new.self) line.0 c.next_line.ensures.grows line.2 place
+
+pub returns-in-Cut-clause-moves : goal.returns-in-Cut-clause-moves
+returns-in-Cut-clause-moves g c =
+    let line = rw c.in-Cut.is at c.in_ok-count.ensures.line in
+    let place = rw c.in-Cut.is at c.in_ok-count.ensures.handed in
+    part_moves c.in-Cut.field-0 c.next_line.new.into (call_of g.S.Source.left g.S.Source.faults c.args.feed.now c.next_line.new.self) line.0 c.next_line.ensures.grows line.1.1 place
+
+pub returns-in-Over-clause-moves : goal.returns-in-Over-clause-moves
+returns-in-Over-clause-moves g c =
+    let line = rw c.in-Over.is at c.in_ok-count.ensures.line in
+    let place = rw c.in-Over.is at c.in_ok-count.ensures.handed in
+    gone_moves c.next_line.new.into (call_of g.S.Source.left g.S.Source.faults c.args.feed.now c.next_line.new.self) line.0.1 place c.next_line.ensures.grows

@@ -1,6 +1,6 @@
-use Rattle.std.proofs.Common.{◌∙◌, arith}
+use Rattle.std.proofs.Common.{◌∙◌, arith, refl}
 use Rattle.session_script.proofs.SectionLemmas.{length_is}
-use Rattle.session_script.proofs.SessionLemmas.{scripts_are_short, scripts_fit_in, settles_kept, changes_kept}
+use Rattle.session_script.proofs.SessionLemmas.{scripts_are_short, scripts_fit_in, settles_kept, changes_kept, mask_of}
 use Rattle.session_script.proofs.session.made_of.Goals as goal
 
 pub invariant_of-result : goal.invariant_of-result
@@ -16,3 +16,26 @@ invariant_of-result c =
       changes = changes_kept scripts.items _ within.changes;
       inside = scripts_fit_in _ _ _ _ scripts.items c.requires.sized.0 c.requires.sized.1 within.inside;
     }
+
+pub invariant_of-scene : goal.invariant_of-scene
+invariant_of-scene c =
+    let p = c.args.planes in
+    record {
+      cycle = p.cycle;
+      same_width = (p.same_width.0, c.requires.sized.0);
+      same_height = (p.same_height.0, c.requires.sized.1);
+      weighed = c.in_ok-edges.ensures;
+    }
+
+pub returns-clause-made : goal.returns-clause-made
+returns-clause-made c =
+    let p = c.args.planes in
+    record {
+      phase_is = refl;
+      weights_are = refl;
+      mask_is = mask_of _ p.mask p.phase.width p.phase.height p.same_width.1 p.same_height.1 c.in_ok-first_mask.ensures;
+      scripts_are = refl;
+    }
+
+pub returns-clause-scene : goal.returns-clause-scene
+returns-clause-scene c = (refl, refl)

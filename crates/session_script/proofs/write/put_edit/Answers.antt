@@ -39,3 +39,8 @@ returns g c =
     (puts_then (field_text r.x0) (field_text r.y0 ++ (field_text r.x1 ++ field_text r.y1)) _ _ _ _ _ _ c.put_field-4.result c.in_ok-put_field.ensures
     (puts_then (field_text r.y0) (field_text r.x1 ++ field_text r.y1) _ _ _ _ _ _ c.put_field-4.result c.in_ok-put_field-2.ensures
     (puts_then (field_text r.x1) (field_text r.y1) _ _ _ _ _ _ c.put_field-4.result c.in_ok-put_field-3.ensures c.put_field-4.ensures)))
+
+pub returns-in_err-put : goal.returns-in_err-put
+returns-in_err-put g c =
+    let p = err_from_is_err_and c.from_residual.result c.from_residual.ensures.1 in
+    rw (p.1, p.2) (puts_part c.args.name.now (rect_text c.args.rect) _ _ _ _ c.in_err-put.field-0.0 c.in_err-put.ensures)

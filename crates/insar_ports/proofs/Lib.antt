@@ -1,4 +1,5 @@
 pub mod CallerLemmas
+pub mod CallLemmas
 mod FeedLemmas
 mod LineLemmas
 mod MemoryLemmas

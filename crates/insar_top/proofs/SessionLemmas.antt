@@ -4,7 +4,7 @@ use Rattle.std.specs.Prelude.{IfSome}
 use Rattle.insar_ports.specs.Bytes.{with_front}
 use Rattle.raster_model.specs.declared.session.Session.{Session}
 use Rattle.raster_model.specs.declared.weights.RuleKind.{RuleKind}
-use Rattle.pgm_planes.specs.Calls.{Call}
+use Rattle.insar_ports.specs.Calls.{Call}
 use Rattle.session_script.specs.declared.session_use.SessionUse.TheVariants.{Alone}
 use Rattle.session_script.specs.Reaching.{Reaches}
 use Rattle.session_script.specs.Scripts.{IsScriptPart}

@@ -12,8 +12,8 @@ use Rattle.pgm_planes.specs.declared.fault.ReadPlaneFault.TheVariants as errors
 use Rattle.pgm_planes.specs.Planes.{PlaneOf, plane_of, SpellsPlane, IsPlaneIn}
 use Rattle.pgm_planes.specs.Breaks.{FirstBreak}
 use Rattle.pgm_planes.specs.Asking.{AsksForMore}
-use Rattle.pgm_planes.specs.Calls.{Call, IsCutOff}
-use Rattle.pgm_planes.specs.Calls.{Takes as TakesText}
+use Rattle.insar_ports.specs.Calls.{Call, IsCutOff}
+use Rattle.insar_ports.specs.Calls.{Takes as TakesText}
 use Rattle.pgm_planes.specs.Causes.{HasCause, IsReadAs, IsCutShort}
 use Rattle.pgm_planes.specs.Reading.{Reading, asks, breaks, goes_beyond, Reads, plane_at}
 use Rattle.pgm_planes.proofs.HeaderLemmas.{done, ok_is, break_is, done_asks, break_asks, not_both, same_value, same_rest}

@@ -12,7 +12,7 @@ use Rattle.pgm_planes.specs.declared.fault.PlaneFault.TheVariants.{Form}
 use Rattle.pgm_planes.specs.declared.fault.ReadPlaneFault.{ReadPlaneFault}
 use Rattle.pgm_planes.specs.declared.fault.ReadPlaneFault.TheVariants as errors
 use Rattle.pgm_planes.specs.declared.spelling.Spelling.{Spelling}
-use Rattle.pgm_planes.specs.Calls.{Call, Moves}
+use Rattle.insar_ports.specs.Calls.{Call, Moves}
 use Rattle.pgm_planes.specs.Reading.{Reading, Reader, breaks, asks, goes_beyond, Told, Reads, nothing, byte_at, sight_at, space_at}
 use Rattle.pgm_planes.specs.Faults.{fault_of_feed}
 use Rattle.pgm_planes.specs.Gaps.{is_space}

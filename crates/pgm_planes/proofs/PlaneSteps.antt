@@ -7,7 +7,7 @@ use Rattle.pgm_planes.specs.declared.fault.ReadPlaneFault.{ReadPlaneFault}
 use Rattle.pgm_planes.specs.declared.header.Header.{Header}
 use Rattle.pgm_planes.specs.declared.spelling.Spelling.{Spelling}
 use Rattle.pgm_planes.specs.Planes.{PlaneOf, plane_of}
-use Rattle.pgm_planes.specs.Calls.{Call}
+use Rattle.insar_ports.specs.Calls.{Call}
 use Rattle.pgm_planes.specs.Reading.{Reader, ◌>>=◌, Reads, magic_at, HeaderOf, header_of, header_at, raster_at, plane_at}
 use Rattle.pgm_planes.proofs.CallLemmas.{Goes, as_spelling, becomes, passes_on}
 use Rattle.pgm_planes.proofs.StepLemmas.{bind_goes, bind_passes, as_samples}

@@ -15,7 +15,7 @@ use Rattle.pgm_planes.specs.declared.spelling.Spelling.TheVariants.{Raw, Plain}
 use Rattle.pgm_planes.specs.declared.samples.SampleForm.{SampleForm}
 use Rattle.pgm_planes.specs.declared.samples.SampleForm.TheVariants.{Narrow, Wide, Digits}
 use Rattle.pgm_planes.specs.Gaps.{is_space, is_line_end, is_digit}
-use Rattle.pgm_planes.specs.Calls.{Call}
+use Rattle.insar_ports.specs.Calls.{Call}
 use Rattle.pgm_planes.specs.Reading.{Reading, Reader, ◌>>=◌, breaks, asks, at_end, nothing, goes_beyond, Reads, byte_at, sight_at, or_breaks, spelling_of, magic_at, space_at, inside_after, filling_at, blanks_at, with_digit, digits_at, number_at, field_at, HeaderOf, unless_broken, header_break, header_at, header_of, told, judged, and_behind, form_of, sample_at, samples_at, end_at, end_of, raster_at}
 use Rattle.pgm_planes.specs.declared.header.Header.{Header}
 use Rattle.pgm_planes.proofs.HeaderLemmas.{done, same_value, same_place, same_rest}

@@ -8,7 +8,7 @@ use Rattle.raster_model.specs.declared.plane.Plane.{Plane}
 use Rattle.pgm_planes.specs.Planes.{PlaneOf, plane_of}
 use Rattle.pgm_planes.specs.Breaks.{FirstBreak}
 use Rattle.pgm_planes.specs.Asking.{AsksForMore}
-use Rattle.pgm_planes.specs.Calls.{Call, IsCutOff}
+use Rattle.insar_ports.specs.Calls.{Call, IsCutOff}
 
 -- Where the bytes are told, they have this first break; or the limit was handed out and another byte is there, which was
 -- asked for; or a fault of the source was counted; or memory ran out, which has no cause.

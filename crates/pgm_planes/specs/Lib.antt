@@ -4,7 +4,6 @@ pub mod Planes
 pub mod Breaks
 pub mod Asking
 pub mod Laws
-pub mod Calls
 pub mod Causes
 pub mod Reading
 pub mod Text

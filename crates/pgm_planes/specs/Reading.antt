@@ -2,7 +2,7 @@
 -- Behind the bytes that are read others may come, unseen: where the end of those that are read is met, they are asked for.
 use Rattle.std.specs.Prelude.{◌≡◌, ℕ, zero, suc, ◌+◌, ◌*◌, ◌-◌, min, nat_lt, ◌==◌, ◌&&◌, ◌||◌, Bool, true, false, not, if◌then◌else◌, List, [], ◌∷◌, length, take, Option, Some, None, Result, Ok, Err}
 use Rattle.insar_ports.specs.Bytes.{HasMore, HasRisen}
-use Rattle.pgm_planes.specs.Calls.{Call, Moves}
+use Rattle.insar_ports.specs.Calls.{Call, Moves}
 use Rattle.pgm_planes.specs.declared.fault.Role.{Role}
 use Rattle.pgm_planes.specs.declared.fault.Role.TheVariants.{Phase, Weight, Mask}
 use Rattle.pgm_planes.specs.declared.fault.PlaneFault.{PlaneFault}

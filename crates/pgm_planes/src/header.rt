@@ -2,7 +2,7 @@ ghost use Rattle.std.specs.Prelude.{◌≡◌, ◌≤◌, ◌+◌, Some, IfOk, I
 ghost use Rattle.insar_ports.specs.Feeding.{source_name, limit_of, handed_of, waiting_of};
 ghost use Rattle.pgm_planes.specs.Gaps.{is_space as is_space_byte, is_line_end as is_line_end_byte, is_digit as is_digit_byte};
 ghost use Rattle.pgm_planes.specs.Planes.{HasMaxval, IsSize};
-ghost use Rattle.pgm_planes.specs.Calls.{call_of};
+ghost use Rattle.insar_ports.specs.Calls.{call_of};
 ghost use Rattle.pgm_planes.specs.Reading.{Reads, nothing, byte_at, sight_at, spelling_of as spelling_of_magic, magic_at, space_at, filling_at, blanks_at, inside_after as inside_after_byte, digits_at, number_at, field_at, with_digit as with_digit_byte, header_break as break_of_header, header_at, header_of};
 
 use crate::fault::{PlaneFault, ReadPlaneFault, Role};

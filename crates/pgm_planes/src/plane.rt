@@ -2,9 +2,9 @@ ghost use Rattle.std.specs.Prelude.{◌≡◌, ℕ, List, IfOk, IfErr, IfSome};
 ghost use Rattle.insar_ports.specs.Feeding.{left_of, source_name, limit_of};
 ghost use Rattle.pgm_planes.specs.Planes.{HasMaxval, PlaneOf, SpellsPlane, IsPlaneIn, plane_of};
 ghost use Rattle.pgm_planes.specs.Asking.{AsksForMore};
-ghost use Rattle.pgm_planes.specs.Calls.{IsCutOff, call_of};
+ghost use Rattle.insar_ports.specs.Calls.{IsCutOff, call_of};
 ghost use Rattle.pgm_planes.specs.Reading.{Reads, plane_at};
-ghost use Rattle.pgm_planes.specs.Calls.{Moves, Takes};
+ghost use Rattle.insar_ports.specs.Calls.{Moves, Takes};
 ghost use Rattle.pgm_planes.specs.Causes.{HasCause, IsCutShort, IsReadAs};
 
 use crate::fault::{ReadPlaneFault, Role};

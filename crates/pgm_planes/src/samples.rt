@@ -1,7 +1,7 @@
 ghost use Rattle.std.specs.Prelude.{◌≡◌, ◌≤◌, ◌<◌, ℕ, IfOk, vec_len, slice_index, true, false};
 ghost use Rattle.insar_ports.specs.Feeding.{source_name, limit_of};
 ghost use Rattle.pgm_planes.specs.declared.samples.SampleForm.TheVariants as forms;
-ghost use Rattle.pgm_planes.specs.Calls.{call_of};
+ghost use Rattle.insar_ports.specs.Calls.{call_of};
 ghost use Rattle.pgm_planes.specs.Reading.{Reads, nothing, told, form_of as form_of_spelling, sample_at, samples_at, end_at, raster_at, judged as judged_sample};
 
 use crate::fault::{PlaneFault, ReadPlaneFault};

@@ -3,7 +3,7 @@ use Rattle.std.proofs.Common.{◌≡◌, ℕ, List, Some, Result, Ok, Err, ap, �
 use Rattle.std.specs.Prelude.{IfSome, IfOk, IfErr}
 use Rattle.raster_model.specs.declared.session.Session.{Session}
 use Rattle.pgm_planes.specs.declared.fault.InputFault.{InputFault}
-use Rattle.pgm_planes.specs.Calls.{Call}
+use Rattle.insar_ports.specs.Calls.{Call}
 use Rattle.pgm_planes.proofs.CallLemmas.{some_of}
 use Rattle.session_script.specs.declared.fault.SessionFault.{SessionFault}
 use Rattle.session_script.specs.declared.fault.SessionFault.TheVariants.{Input, ReadFault, Memory}

@@ -8,7 +8,7 @@ use Rattle.pgm_planes.specs.declared.fault.InputFault.{InputFault}
 use Rattle.pgm_planes.specs.declared.fault.InputFault.TheVariants.{TooLong, NoEnd, ScriptLine, Outside, TooManyAnalysts, TooManyCommands, SettleLimit, EditLimit}
 use Rattle.pgm_planes.specs.declared.fault.Role.{Role}
 use Rattle.pgm_planes.specs.declared.fault.Role.TheVariants.{Phase}
-use Rattle.pgm_planes.specs.Calls.{Call}
+use Rattle.insar_ports.specs.Calls.{Call}
 use Rattle.pgm_planes.specs.Planes.{PlaneOf}
 use Rattle.session_script.specs.declared.fault.SessionFault.{SessionFault}
 use Rattle.session_script.specs.declared.fault.SessionFault.TheVariants.{Input, ReadFault, Memory}

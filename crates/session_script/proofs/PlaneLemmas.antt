@@ -10,7 +10,7 @@ use Rattle.pgm_planes.specs.declared.fault.Role.{Role}
 use Rattle.pgm_planes.specs.declared.fault.Role.TheVariants.{Phase, Weight, Mask}
 use Rattle.pgm_planes.specs.Asking.{AsksForMore}
 use Rattle.pgm_planes.specs.Breaks.{FirstBreak}
-use Rattle.pgm_planes.specs.Calls.{Call, Moves, IsCutOff}
+use Rattle.insar_ports.specs.Calls.{Call, Moves, IsCutOff}
 use Rattle.pgm_planes.specs.Causes.{HasCause as HasPlaneCause, IsCutShort}
 use Rattle.pgm_planes.specs.Gaps.{begins}
 use Rattle.pgm_planes.specs.Planes.{PlaneOf, IsPlaneIn}

@@ -12,7 +12,7 @@ use Rattle.insar_ports.specs.declared.feed.FeedFault.TheVariants as feed_faults
 use Rattle.insar_ports.specs.Lines.{IsInLine, AreGone, IsPartOfLine}
 use Rattle.pgm_planes.specs.declared.fault.InputFault.{InputFault}
 use Rattle.pgm_planes.specs.declared.fault.InputFault.TheVariants.{ScriptLine, NoEnd}
-use Rattle.pgm_planes.specs.Calls.{Call, Moves, Takes}
+use Rattle.insar_ports.specs.Calls.{Call, Moves, Takes}
 use Rattle.pgm_planes.proofs.CallLemmas.{call, some_is, told_on, risen_before}
 use Rattle.session_script.specs.declared.fault.SessionFault.{SessionFault}
 use Rattle.session_script.specs.declared.fault.SessionFault.TheVariants.{Input, ReadFault, Memory}

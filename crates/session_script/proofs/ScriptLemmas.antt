@@ -5,7 +5,7 @@ use Rattle.raster_model.specs.declared.script.Command.TheVariants.{Settle, Show}
 use Rattle.raster_model.specs.Scripts.{CommandsFit}
 use Rattle.pgm_planes.specs.declared.fault.InputFault.{InputFault}
 use Rattle.pgm_planes.specs.declared.fault.InputFault.TheVariants.{ScriptLine, AfterEnd}
-use Rattle.pgm_planes.specs.Calls.{Call, Moves}
+use Rattle.insar_ports.specs.Calls.{Call, Moves}
 use Rattle.pgm_planes.proofs.CallLemmas.{call}
 use Rattle.session_script.specs.declared.fault.SessionFault.{SessionFault}
 use Rattle.session_script.specs.declared.fault.SessionFault.TheVariants.{Input}

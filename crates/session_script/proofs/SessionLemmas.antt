@@ -9,7 +9,7 @@ use Rattle.raster_model.specs.Scripts.{is_settle, is_change, CommandsFit, Script
 use Rattle.raster_model.specs.declared.plane.Plane.{Plane}
 use Rattle.raster_model.specs.MaskView.{MaskView}
 use Rattle.raster_model.specs.Masks.{IsMaskOf, open_by}
-use Rattle.pgm_planes.specs.Calls.{Call, Moves}
+use Rattle.insar_ports.specs.Calls.{Call, Moves}
 use Rattle.pgm_planes.specs.Planes.{PlaneOf, plane_of}
 use Rattle.pgm_planes.proofs.CallLemmas.{call}
 use Rattle.session_script.specs.declared.fault.SessionFault.{SessionFault}

@@ -3,7 +3,7 @@ use Rattle.std.specs.Prelude.{◌≡◌, ℕ, List, Some, IfSome, Result, Ok, Er
 use Rattle.insar_ports.specs.Bytes.{HasMore, HasRisen}
 use Rattle.raster_model.specs.declared.session.Session.{Session}
 use Rattle.pgm_planes.specs.declared.fault.InputFault.{InputFault}
-use Rattle.pgm_planes.specs.Calls.{Call}
+use Rattle.insar_ports.specs.Calls.{Call}
 use Rattle.session_script.specs.declared.fault.SessionFault.{SessionFault}
 use Rattle.session_script.specs.declared.fault.SessionFault.TheVariants.{Input, ReadFault, Memory}
 use Rattle.session_script.specs.declared.session_use.SessionUse.{SessionUse}

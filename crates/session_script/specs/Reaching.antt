@@ -5,7 +5,7 @@ use Rattle.pgm_planes.specs.declared.fault.InputFault.{InputFault}
 use Rattle.pgm_planes.specs.declared.fault.InputFault.TheVariants.{TooLong, ScriptLine, NoEnd}
 use Rattle.pgm_planes.specs.declared.fault.Role.{Role}
 use Rattle.pgm_planes.specs.Asking.{AsksForMore}
-use Rattle.pgm_planes.specs.Calls.{Call, IsCutOff}
+use Rattle.insar_ports.specs.Calls.{Call, IsCutOff}
 use Rattle.pgm_planes.specs.Gaps.{begins}
 use Rattle.pgm_planes.specs.Planes.{PlaneOf}
 use Rattle.session_script.specs.declared.session_use.SessionUse.{SessionUse}

@@ -1,6 +1,6 @@
 ghost use Rattle.insar_ports.specs.Feeding.{left_of, limit_of, source_name};
 ghost use Rattle.pgm_planes.specs.Asking.{AsksForMore};
-ghost use Rattle.pgm_planes.specs.Calls.{Moves, call_of};
+ghost use Rattle.insar_ports.specs.Calls.{Moves, call_of};
 ghost use Rattle.pgm_planes.specs.Planes.{HasMaxval, IsPlaneIn, plane_of};
 ghost use Rattle.session_script.specs.Reaching.{HasCauseIn, IsNothing, IsSeen, LaterAsks, LooksFor, NoBreak, PlanesAsk, Reaches};
 ghost use Rattle.session_script.specs.Sessions.{ArePlanes, HasSizeOf, IsLaterPlane, LaterBreak, PlaneBreak, PlanesBreak, ones_of};

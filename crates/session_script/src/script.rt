@@ -1,5 +1,5 @@
 ghost use Rattle.insar_ports.specs.Feeding.{handed_of, left_of, limit_of, source_name};
-ghost use Rattle.pgm_planes.specs.Calls.{Moves, call_of};
+ghost use Rattle.insar_ports.specs.Calls.{Moves, call_of};
 ghost use Rattle.session_script.specs.Building.{sections_in};
 ghost use Rattle.session_script.specs.Reaching.{HasCauseIn, IsNothing, IsSeen, LineBreak, LooksAt, NoBreak, Reaches, ScriptAsks, SectionsAsk};
 ghost use Rattle.session_script.specs.Scripts.{AreSections, BeginsLine, IsCut, IsScriptPart, ScriptBreak, SectionsBreak, meant, usual};

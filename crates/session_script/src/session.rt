@@ -1,5 +1,5 @@
 ghost use Rattle.insar_ports.specs.Feeding.{handed_of, left_of, limit_of, source_name};
-ghost use Rattle.pgm_planes.specs.Calls.{Moves, call_of};
+ghost use Rattle.insar_ports.specs.Calls.{Moves, call_of};
 ghost use Rattle.pgm_planes.specs.Planes.{plane_of};
 ghost use Rattle.pgm_planes.specs.declared.fault.InputFault.{InputFault as AnyFault};
 ghost use Rattle.pgm_planes.specs.declared.fault.InputFault.TheVariants as faults;

@@ -1,6 +1,6 @@
 use Rattle.std.proofs.Common.{refl}
 use Rattle.insar_ports.specs.Feeding.{pending_of}
-use Rattle.pgm_planes.specs.Calls.{call_of}
+use Rattle.insar_ports.specs.Calls.{call_of}
 use Rattle.insar_top.proofs.SessionLemmas.{given_alone}
 use Rattle.insar_top.proofs.session.read_fed.Goals as goal
 

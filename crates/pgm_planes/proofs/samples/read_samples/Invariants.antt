@@ -1,6 +1,6 @@
 use Rattle.std.proofs.Common.{◌≡◌, ◌≤◌, ◌-◌, ℕ, vec_len, get_or}
 use Rattle.insar_ports.specs.Feeding.{source_name, limit_of}
-use Rattle.pgm_planes.specs.Calls.{call_of}
+use Rattle.insar_ports.specs.Calls.{call_of}
 use Rattle.pgm_planes.specs.Reading.{samples_at}
 use Rattle.pgm_planes.proofs.CallLemmas.{Goes}
 use Rattle.pgm_planes.proofs.StepLemmas.{and_others}

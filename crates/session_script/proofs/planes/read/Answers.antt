@@ -1,6 +1,6 @@
 use Rattle.pgm_planes.specs.Planes.{SpellsPlane, plane_of}
 use Rattle.session_script.proofs.ReachLemmas.{takes_reaches}
-use Rattle.pgm_planes.specs.Calls.{call_of}
+use Rattle.insar_ports.specs.Calls.{call_of}
 use Rattle.session_script.proofs.PlaneLemmas.{plane_cause, plane_seen}
 use Rattle.session_script.proofs.planes.read.Goals as goal
 

@@ -4,7 +4,7 @@ use Rattle.std.proofs.Common.{◌≤◌, arith, ◌≡◌, ap}
 use Rattle.std.proofs.lemmas.Result.{err_from_is_err_and, IfOk-weaker}
 use Rattle.insar_ports.specs.Feeding.{handed_of, limit_of}
 use Rattle.pgm_planes.specs.declared.fault.InputFault.TheVariants.{SizesDiffer}
-use Rattle.pgm_planes.specs.Calls.{call_of}
+use Rattle.insar_ports.specs.Calls.{call_of}
 use Rattle.pgm_planes.specs.Planes.{plane_of}
 use Rattle.pgm_planes.proofs.CallLemmas.{Moves-then}
 use Rattle.session_script.specs.declared.fault.SessionFault.TheVariants.{Input}

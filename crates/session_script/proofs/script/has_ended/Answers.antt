@@ -1,5 +1,5 @@
 use Rattle.std.proofs.Common.{ap, Err, Ok, ◌∙◌, arith}
-use Rattle.pgm_planes.specs.Calls.{call_of}
+use Rattle.insar_ports.specs.Calls.{call_of}
 use Rattle.std.proofs.lemmas.Result.{err_from_is_err_and}
 use Rattle.session_script.proofs.ReachLemmas.{look_cause, sees_some, sees_none, some_seen, none_seen}
 use Rattle.pgm_planes.proofs.CallLemmas.{stays}

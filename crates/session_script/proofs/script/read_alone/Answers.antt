@@ -5,7 +5,7 @@ use Rattle.std.proofs.lemmas.Result.{err_from_is_err_and, IfOk-weaker}
 use Rattle.session_script.specs.Sections.{frame_of, sections_of, IsComplete}
 use Rattle.std.proofs.Common.{◌≡◌, ◌≤◌, ◌∙◌, arith}
 use Rattle.insar_ports.specs.Feeding.{handed_of, limit_of}
-use Rattle.pgm_planes.specs.Calls.{call_of}
+use Rattle.insar_ports.specs.Calls.{call_of}
 use Rattle.session_script.specs.Building.{sections_in}
 use Rattle.session_script.specs.Scripts.{AreSections, IsScriptPart, ScriptBreak, usual, meant}
 use Rattle.session_script.proofs.ScriptLemmas.{none_cause, alone_cause, end_cause, goes_on_cause, after_look, part_stands, usual_complete, meant_complete, none_stands}

@@ -3,7 +3,7 @@ use Rattle.session_script.specs.Reaching.{Reaches, ScriptAsks}
 use Rattle.std.proofs.Common.{◌≡◌}
 use Rattle.session_script.proofs.ReachLemmas.{memory_cause}
 use Rattle.session_script.specs.Building.{sections_in}
-use Rattle.pgm_planes.specs.Calls.{call_of}
+use Rattle.insar_ports.specs.Calls.{call_of}
 use Rattle.std.proofs.lemmas.Result.{err_from_is_err_and, IfOk-weaker}
 use Rattle.session_script.specs.Sections.{frame_of, sections_of, IsComplete}
 use Rattle.session_script.proofs.ScriptLemmas.{report_cause, meant_complete, report_stands}

@@ -1,6 +1,6 @@
 use Rattle.std.proofs.Common.{◌≡◌, ◌≤◌, ◌-◌}
 use Rattle.insar_ports.specs.Feeding.{handed_of, limit_of, source_name}
-use Rattle.pgm_planes.specs.Calls.{Moves, call_of}
+use Rattle.insar_ports.specs.Calls.{Moves, call_of}
 use Rattle.session_script.specs.Building.{sections_in}
 use Rattle.session_script.specs.Reaching.{Reaches}
 use Rattle.session_script.specs.Scripts.{AreLines}

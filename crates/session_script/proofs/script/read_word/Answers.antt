@@ -1,6 +1,6 @@
 use Rattle.std.proofs.lemmas.Result.{err_from_is_err_and}
 use Rattle.std.proofs.Common.{ap, Err, ◌∙◌}
-use Rattle.pgm_planes.specs.Calls.{call_of}
+use Rattle.insar_ports.specs.Calls.{call_of}
 use Rattle.session_script.proofs.ReachLemmas.{line_read, other_cause, end_cause, over_cause, feed_cause, gone_moves, whole_moves, part_moves}
 use Rattle.session_script.proofs.script.read_word.Goals as goal
 

@@ -1,4 +1,4 @@
-use Rattle.pgm_planes.specs.Calls.{call_of}
+use Rattle.insar_ports.specs.Calls.{call_of}
 use Rattle.session_script.proofs.AnswerLemmas.{accepts, refuses}
 use Rattle.session_script.proofs.session.read_session.Goals as goal
 

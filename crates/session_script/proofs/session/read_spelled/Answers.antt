@@ -3,7 +3,7 @@ use Rattle.std.proofs.Common.{◌≡◌, ◌≤◌, refl, arith}
 use Rattle.std.proofs.lemmas.Result.{err_from_is_err_and, IfOk-weaker}
 use Rattle.insar_ports.specs.Feeding.{handed_of, limit_of}
 use Rattle.pgm_planes.specs.declared.fault.InputFault.TheVariants.{TooLong}
-use Rattle.pgm_planes.specs.Calls.{call_of}
+use Rattle.insar_ports.specs.Calls.{call_of}
 use Rattle.pgm_planes.specs.Planes.{plane_of}
 use Rattle.pgm_planes.proofs.CallLemmas.{Moves-then}
 use Rattle.session_script.specs.Reaching.{PlanesAsk, Reaches}

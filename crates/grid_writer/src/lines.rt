@@ -1,0 +1,107 @@
+ghost use Rattle.insar_ports.specs.Calls.{Moves, call_of};
+ghost use Rattle.insar_ports.specs.Feeding.{handed_of, limit_of, source_name};
+ghost use Rattle.std.specs.Prelude.{◌≡◌, ◌+◌, ◌<◌, ◌≤◌, [], IfErr, IfOk, Ok, OnOk};
+
+use crate::fault::GridFault;
+use insar_ports::{Feed, Source};
+use std::alloc::Global;
+
+const LINE_FEED: u8 = 10;
+
+/// How a line ended.
+#[derive(Clone, Copy, Debug, PartialEq, Eq)]
+pub enum LineEnd {
+    /// With LF.
+    Whole,
+    /// With LF, and it has more bytes than are kept.
+    Long,
+    /// With the input.
+    Cut,
+}
+
+/// The lines of a text, read one after the other. The bytes of the last one are kept.
+#[derive(Drop)]
+pub struct Lines {
+    line: Vec<u8>,
+    number: u64,
+}
+
+impl Lines {
+    ghost use Rattle.grid_writer.specs.declared.lines.LineEnd.TheVariants.{Whole};
+    ghost use Rattle.grid_writer.specs.LineWords.{HasNextCause, IsLineRead, line_of, number_of};
+
+    /// Before the first line.
+    pub fn new(alloc: Global) -> Lines
+        ensures { number_of result ≡ 0 }
+    {
+        Lines {
+            line: Vec::new(alloc),
+            number: 0,
+        }
+    }
+
+    /// The number of the line that was read last, from 1; 0 before the first.
+    pub fn number(&self) -> u64
+        ensures { result ≡ number_of self.now }
+    {
+        self.number
+    }
+
+    /// The bytes of the line that was read last, without LF.
+    pub fn line(&self) -> &[u8]
+        ensures { result.now ≡ line_of self.now }
+    {
+        &self.line
+    }
+
+    /// Reads the next line to its end, and keeps its first `most` bytes. Lines that are too many to be counted are refused as
+    /// want of memory.
+    pub fn next<S: Source>(&mut self, feed: &mut Feed<S>, most: usize) -> Result<LineEnd, GridFault>
+        ensures same_source { source_name feed.new ≡ source_name feed.old }
+        ensures same_limit { limit_of feed.new ≡ limit_of feed.old }
+        ensures moves { Moves (call_of S.left S.faults feed.old feed.new) }
+        ensures line { IfOk result (IsLineRead most (line_of self.new) (call_of S.left S.faults feed.old feed.new)) }
+        ensures number { OnOk result (number_of self.new ≡ number_of self.old + 1) }
+        // A line that is kept whole was handed out, its LF too.
+        ensures further { result ≡ Ok Whole → (handed_of feed.old < handed_of feed.new) × (handed_of feed.new ≤ limit_of feed.old) }
+        ensures refused { IfErr result (HasNextCause (call_of S.left S.faults feed.old feed.new)) }
+    {
+        let Some(number) = self.number.checked_add(1) else {
+            return Err(GridFault::Memory);
+        };
+        self.number = number;
+        self.line.clear();
+        self.take_line(feed, most)
+    }
+
+    /// Takes the bytes up to the next LF, and keeps the first `most` of them.
+    fn take_line<S: Source>(
+        &mut self,
+        feed: &mut Feed<S>,
+        most: usize,
+    ) -> Result<LineEnd, GridFault>
+        requires empty { line_of self.old ≡ [] }
+        ensures same_source { source_name feed.new ≡ source_name feed.old }
+        ensures same_limit { limit_of feed.new ≡ limit_of feed.old }
+        ensures moves { Moves (call_of S.left S.faults feed.old feed.new) }
+        ensures line { IfOk result (IsLineRead most (line_of self.new) (call_of S.left S.faults feed.old feed.new)) }
+        ensures number { number_of self.new ≡ number_of self.old }
+        ensures further { result ≡ Ok Whole → (handed_of feed.old < handed_of feed.new) × (handed_of feed.new ≤ limit_of feed.old) }
+        ensures refused { IfErr result (HasNextCause (call_of S.left S.faults feed.old feed.new)) }
+    {
+        let mut end = LineEnd::Whole;
+        loop {
+            let Some(byte) = feed.next()? else {
+                return Ok(LineEnd::Cut);
+            };
+            if byte == LINE_FEED {
+                return Ok(end);
+            }
+            if self.line.len() < most {
+                self.line.push(byte)?;
+            } else {
+                end = LineEnd::Long;
+            }
+        }
+    }
+}

@@ -1,0 +1,15 @@
+ghost use Rattle.raster_model.specs.Limits.{is_raster_size};
+ghost use Rattle.std.specs.Prelude.{◌≡◌, ◌*◌, IsTrue, vec_len};
+
+/// A grid that was read: its size, and a value for each pixel, in units of 1/65536 cycle.
+#[derive(Drop)]
+pub struct Grid {
+    /// Pixels in a row.
+    pub width: u32,
+    /// Rows.
+    pub height: u32,
+    /// One for each pixel, in row order; a masked pixel has the NODATA value, the least `i64`.
+    pub values: Vec<i64>,
+    pub ghost sized: { IsTrue (is_raster_size width height) },
+    pub ghost full: { vec_len values ≡ width * height },
+}

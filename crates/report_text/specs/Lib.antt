@@ -1,4 +1,12 @@
 pub mod Reports
 pub mod Text
+pub mod Lines
+pub mod Parsing
+pub mod Fitting
+pub mod Contents
+pub mod Faults
+pub mod Reading
+pub mod Same
+pub mod Parts
 pub mod Certified
 pub mod Appending

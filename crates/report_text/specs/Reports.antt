@@ -1,5 +1,5 @@
 -- A report: the whole history of a session, and each published surface with its costs and certificates.
-use Rattle.std.specs.Prelude.{ℕ, ℤ, Bool, true, false, if◌then◌else◌, List, [], ◌∷◌, drop, Option, Some, None, unsigned_abs}
+use Rattle.std.specs.Prelude.{◌≡◌, ℕ, ℤ, Bool, true, false, if◌then◌else◌, List, [], ◌∷◌, drop, Option, Some, None, is_some, unsigned_abs}
 use Rattle.raster_model.specs.declared.session.Session.{Session}
 use Rattle.raster_model.specs.declared.weights.RuleKind.{RuleKind}
 use Rattle.raster_model.specs.Raster.{seam_cost}
@@ -40,6 +40,10 @@ is_published (Kept tile stamp) = false
 is_published (Published analyst revision) = true
 is_published (Settled analyst revision) = false
 is_published (Shown analyst revision) = false
+
+-- a surface is there exactly behind a publication
+abbrev pub HasSurface : {A : Type 0} → Entry → Option A → Type 0
+HasSurface e surface = is_some surface ≡ is_published e
 
 -- the first of some surfaces, where there is one
 abbrev pub first_of : List Parts → Option SurfaceOf

@@ -1,27 +1,21 @@
 -- The text of a report, in the one spelling of this project.
 use Rattle.std.specs.Prelude.{ℕ, ◌+◌, ◌-◌, ◌*◌, ◌/◌, ℤ, List, [], ◌∷◌, ◌++◌, Option, Some, None, codes, decimal, flat_map}
-use Rattle.std.specs.Fmt.{signed_decimal}
 use Rattle.raster_model.specs.declared.script.Edit.TheVariants.{Mask, Unmask}
 use Rattle.raster_model.specs.declared.script.Rect.{Rect}
 use Rattle.raster_model.specs.declared.weights.RuleKind.{RuleKind}
 use Rattle.raster_model.specs.declared.weights.RuleKind.TheVariants.{Least, Mean, Product}
 use Rattle.grid_writer.specs.Grid.{grid_text, texts_below}
+use Rattle.grid_writer.specs.Numbers.{numbers_text}
 use Rattle.tile_board.specs.declared.entry.Entry.{Entry}
 use Rattle.tile_board.specs.declared.entry.Entry.TheVariants.{Revised, Kept, Published, Settled, Shown}
 use Rattle.report_text.specs.Reports.{ItemOf, ReportOf, SurfaceOf}
 
--- the end of a line, a number behind a space, and numbers with signs so
+-- the end of a line, and a number behind a space
 abbrev pub line_end : List ℕ
 line_end = 10 ∷ []
 
 unfoldable pub field_text : ℕ → List ℕ
 field_text n = codes " " ++ decimal n
-
-unfoldable pub number_text : ℤ → List ℕ
-number_text n = codes " " ++ signed_decimal n
-
-abbrev pub numbers_text : List ℤ → List ℕ
-numbers_text numbers = flat_map number_text numbers
 
 -- the four lines of the head
 unfoldable pub title_text : List ℕ

@@ -1,5 +1,6 @@
 ghost use Rattle.grid_writer.specs.Waiting.{waiting_in};
 ghost use Rattle.report_text.specs.Appending.{Appends};
+ghost use Rattle.report_text.specs.Contents.{IsEntryOfWords};
 ghost use Rattle.report_text.specs.Text.{entry_text, field_text, rect_text, revision_text};
 ghost use Rattle.std.specs.Prelude.{◌≤◌, ◌++◌, codes, length};
 
@@ -15,7 +16,8 @@ pub(crate) fn append_entry<K: Sink>(
     sink: &mut K,
     entry: Entry,
 ) -> Result<(), WriteFault>
-    ensures { Appends (K.held sink.old) (waiting_in text.old) (K.faults sink.old) (K.held sink.new) (waiting_in text.new) (K.faults sink.new) (entry_text entry) result }
+    ensures text { Appends (K.held sink.old) (waiting_in text.old) (K.faults sink.old) (K.held sink.new) (waiting_in text.new) (K.faults sink.new) (entry_text entry) result }
+    ensures words { IsEntryOfWords entry }
 {
     match entry {
         Entry::Revised {

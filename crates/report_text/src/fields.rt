@@ -1,8 +1,9 @@
 ghost use Rattle.grid_writer.specs.Waiting.{waiting_in};
 ghost use Rattle.report_text.specs.Appending.{Appends};
-ghost use Rattle.report_text.specs.Text.{field_text, line_end, number_text, numbers_text};
+ghost use Rattle.grid_writer.specs.Numbers.{AreLongs, number_text, numbers_text};
+ghost use Rattle.report_text.specs.Text.{field_text, line_end};
 ghost use Rattle.std.specs.Fmt.{signed_decimal};
-ghost use Rattle.std.specs.Prelude.{◌≤◌, decimal, length};
+ghost use Rattle.std.specs.Prelude.{◌≤◌, OnOk, decimal, length};
 
 use grid_writer::TextBuffer;
 use insar_ports::{Sink, WriteFault};
@@ -91,7 +92,8 @@ pub(crate) fn append_numbers<K: Sink>(
     sink: &mut K,
     numbers: &[i64],
 ) -> Result<(), WriteFault>
-    ensures { Appends (K.held sink.old) (waiting_in text.old) (K.faults sink.old) (K.held sink.new) (waiting_in text.new) (K.faults sink.new) (numbers_text numbers.now) result }
+    ensures text { Appends (K.held sink.old) (waiting_in text.old) (K.faults sink.old) (K.held sink.new) (waiting_in text.new) (K.faults sink.new) (numbers_text numbers.now) result }
+    ensures longs { OnOk result (AreLongs numbers.now) }
 {
     for number in numbers {
         append_number(text, sink, *number)?;

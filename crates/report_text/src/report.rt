@@ -2,8 +2,9 @@ ghost use Rattle.grid_writer.specs.Waiting.{waiting_in};
 ghost use Rattle.insar_ports.specs.Bytes.{GainsProperPrefix, HasRisen, with_end};
 ghost use Rattle.raster_model.specs.Sums.{one_if};
 ghost use Rattle.raster_model.specs.Tiles.{tiles_of};
-ghost use Rattle.report_text.specs.Appending.{Appends, AreOver, surface_at};
+ghost use Rattle.report_text.specs.Appending.{Appends, AreOver, AreSmallItems, IsSmallItem, MayHaveSmallNumbers, surface_at};
 ghost use Rattle.report_text.specs.Certified.{IsCertifiedReport};
+ghost use Rattle.report_text.specs.Contents.{IsReport};
 ghost use Rattle.report_text.specs.Reports.{is_published, item_of, items_of, report_of};
 ghost use Rattle.report_text.specs.Text.{behind_text, head_text, item_text, report_text, rule_text, rule_word, size_text, tile_text, title_text};
 ghost use Rattle.std.specs.Prelude.{◌≡◌, ◌≤◌, [], IfSome, OnErr, OnOk, flat_map, length, map};
@@ -22,12 +23,13 @@ use tile_board::{Board, Entry};
 
 /// Writes the report of a board: the head, then the whole history in order, behind each publication the published
 /// surface with its costs, faces and flows, and the line `end`. It takes no memory. After a fault the sink has a
-/// part of the text.
+/// part of the text. What was written can be read: each of its numbers is in its range.
 pub fn write_report<K: Sink>(board: &Board, sink: &mut K) -> Result<(), WriteFault>
     ensures written { OnOk result (K.held sink.new ≡ with_end (K.held sink.old) (report_text (report_of board.now.session board.now.entries board.now.surfaces))) }
     ensures cut { OnErr result (GainsProperPrefix (K.held sink.old) (report_text (report_of board.now.session board.now.entries board.now.surfaces)) (K.held sink.new)) }
     ensures fault { OnErr result (HasRisen (K.faults sink.old) (K.faults sink.new)) }
     ensures grows { K.faults sink.old ≤ K.faults sink.new }
+    ensures ranges { OnOk result (IsReport (report_of board.now.session board.now.entries board.now.surfaces)) }
     ensures certified { IsComplete board.now.session board.now.entries → IsCertifiedReport board.now.session (report_of board.now.session board.now.entries board.now.surfaces) }
 {
     let mut text = TextBuffer::new();
@@ -42,6 +44,7 @@ fn append_board<K: Sink>(
 ) -> Result<(), WriteFault>
     ensures text { Appends (K.held sink.old) (waiting_in text.old) (K.faults sink.old) (K.held sink.new) (waiting_in text.new) (K.faults sink.new) (report_text (report_of board.now.session board.now.entries board.now.surfaces)) result }
     ensures board { IsBoard board.now }
+    ensures small { OnOk result (AreSmallItems (tiles_of board.now.session.scene.tiling) (items_of board.now.entries board.now.surfaces)) }
 {
     append_report(
         text,
@@ -61,7 +64,8 @@ fn append_report<K: Sink>(
     snapshots: &[Snapshot],
 ) -> Result<(), WriteFault>
     requires { AreOver session.now snapshots.now }
-    ensures { Appends (K.held sink.old) (waiting_in text.old) (K.faults sink.old) (K.held sink.new) (waiting_in text.new) (K.faults sink.new) (report_text (report_of session.now entries.now (map parts_of snapshots.now))) result }
+    ensures text { Appends (K.held sink.old) (waiting_in text.old) (K.faults sink.old) (K.held sink.new) (waiting_in text.new) (K.faults sink.new) (report_text (report_of session.now entries.now (map parts_of snapshots.now))) result }
+    ensures small { OnOk result (AreSmallItems (tiles_of session.now.scene.tiling) (items_of entries.now (map parts_of snapshots.now))) }
 {
     append_head(text, sink, session)?;
     let tiles = session.scene.tiling.tile_count();
@@ -133,7 +137,7 @@ fn rule_name(rule: RuleKind) -> &'static [u8]
 }
 
 /// Whether a surface stands behind an entry.
-fn is_publication(entry: Entry) -> bool
+pub(crate) fn is_publication(entry: Entry) -> bool
     ensures { result ≡ is_published entry }
 {
     match entry {
@@ -164,7 +168,8 @@ fn append_items<K: Sink>(
 ) -> Result<(), WriteFault>
     requires tiles { tiles ≡ tiles_of session.now.scene.tiling }
     requires sessions { AreOver session.now snapshots.now }
-    ensures { Appends (K.held sink.old) (waiting_in text.old) (K.faults sink.old) (K.held sink.new) (waiting_in text.new) (K.faults sink.new) (flat_map (item_text session.now.scene.phase.width session.now.scene.phase.height tiles) (items_of entries.now (map parts_of snapshots.now))) result }
+    ensures text { Appends (K.held sink.old) (waiting_in text.old) (K.faults sink.old) (K.held sink.new) (waiting_in text.new) (K.faults sink.new) (flat_map (item_text session.now.scene.phase.width session.now.scene.phase.height tiles) (items_of entries.now (map parts_of snapshots.now))) result }
+    ensures small { OnOk result (AreSmallItems tiles (items_of entries.now (map parts_of snapshots.now))) }
 {
     let mut place = 0;
     for entry in entries {
@@ -185,7 +190,8 @@ fn append_item<K: Sink>(
 ) -> Result<(), WriteFault>
     requires tiles { tiles ≡ tiles_of session.now.scene.tiling }
     requires over { IfSome next (λ snapshot. (parts_of snapshot.now).session ≡ session.now) }
-    ensures { Appends (K.held sink.old) (waiting_in text.old) (K.faults sink.old) (K.held sink.new) (waiting_in text.new) (K.faults sink.new) (item_text session.now.scene.phase.width session.now.scene.phase.height tiles (item_of entry (surface_at next.entry))) result }
+    ensures text { Appends (K.held sink.old) (waiting_in text.old) (K.faults sink.old) (K.held sink.new) (waiting_in text.new) (K.faults sink.new) (item_text session.now.scene.phase.width session.now.scene.phase.height tiles (item_of entry (surface_at next.entry))) result }
+    ensures small { OnOk result (IsSmallItem tiles (item_of entry (surface_at next.entry))) }
 {
     append_entry(text, sink, entry)?;
     end_line(text, sink)?;
@@ -203,7 +209,8 @@ fn append_behind<K: Sink>(
 ) -> Result<(), WriteFault>
     requires tiles { tiles ≡ tiles_of session.now.scene.tiling }
     requires over { IfSome next (λ snapshot. (parts_of snapshot.now).session ≡ session.now) }
-    ensures { Appends (K.held sink.old) (waiting_in text.old) (K.faults sink.old) (K.held sink.new) (waiting_in text.new) (K.faults sink.new) (behind_text session.now.scene.phase.width session.now.scene.phase.height tiles (item_of entry (surface_at next.entry)).surface) result }
+    ensures text { Appends (K.held sink.old) (waiting_in text.old) (K.faults sink.old) (K.held sink.new) (waiting_in text.new) (K.faults sink.new) (behind_text session.now.scene.phase.width session.now.scene.phase.height tiles (item_of entry (surface_at next.entry)).surface) result }
+    ensures small { OnOk result (MayHaveSmallNumbers tiles (item_of entry (surface_at next.entry)).surface) }
 {
     match next {
         Some(snapshot) if is_publication(entry) => append_surface(text, sink, tiles, snapshot),

@@ -1,10 +1,12 @@
 ghost use Rattle.grid_writer.specs.Grid.{text_of, texts_below};
+ghost use Rattle.grid_writer.specs.Numbers.{AreLongs};
 ghost use Rattle.grid_writer.specs.Waiting.{waiting_in};
-ghost use Rattle.report_text.specs.Appending.{Appends};
+ghost use Rattle.report_text.specs.Appending.{Appends, HasSmallNumbers};
+ghost use Rattle.report_text.specs.Contents.{IsCost};
 ghost use Rattle.report_text.specs.Reports.{surface_of};
 ghost use Rattle.report_text.specs.Text.{costs_text, faces_line, faces_text, flows_text, surface_text};
 ghost use Rattle.raster_model.specs.Tiles.{tiles_of};
-ghost use Rattle.std.specs.Prelude.{◌≡◌};
+ghost use Rattle.std.specs.Prelude.{◌≡◌, ◌<◌, ℕ, OnOk};
 ghost use Rattle.surface_snapshots.specs.Parts.{faces_in};
 ghost use Rattle.surface_snapshots.specs.Views.{parts_of};
 
@@ -21,7 +23,8 @@ pub(crate) fn append_surface<K: Sink>(
     snapshot: &Snapshot,
 ) -> Result<(), WriteFault>
     requires { tiles ≡ tiles_of (parts_of snapshot.now).session.scene.tiling }
-    ensures { Appends (K.held sink.old) (waiting_in text.old) (K.faults sink.old) (K.held sink.new) (waiting_in text.new) (K.faults sink.new) (surface_text (parts_of snapshot.now).session.scene.phase.width (parts_of snapshot.now).session.scene.phase.height tiles (surface_of (parts_of snapshot.now))) result }
+    ensures text { Appends (K.held sink.old) (waiting_in text.old) (K.faults sink.old) (K.held sink.new) (waiting_in text.new) (K.faults sink.new) (surface_text (parts_of snapshot.now).session.scene.phase.width (parts_of snapshot.now).session.scene.phase.height tiles (surface_of (parts_of snapshot.now))) result }
+    ensures small { OnOk result (HasSmallNumbers tiles (surface_of (parts_of snapshot.now))) }
 {
     append_costs(text, sink, snapshot.tile_cost(), snapshot.seam_cost())?;
     append_grid_text(text, sink, snapshot)?;
@@ -35,7 +38,8 @@ fn append_costs<K: Sink>(
     tiles: u128,
     seams: u128,
 ) -> Result<(), WriteFault>
-    ensures { Appends (K.held sink.old) (waiting_in text.old) (K.faults sink.old) (K.held sink.new) (waiting_in text.new) (K.faults sink.new) (costs_text tiles seams) result }
+    ensures text { Appends (K.held sink.old) (waiting_in text.old) (K.faults sink.old) (K.held sink.new) (waiting_in text.new) (K.faults sink.new) (costs_text tiles seams) result }
+    ensures costs { IsCost tiles × IsCost seams }
 {
     append(text, sink, b"costs")?;
     append_cost(text, sink, tiles)?;
@@ -61,7 +65,8 @@ fn append_faces<K: Sink>(
     snapshot: &Snapshot,
 ) -> Result<(), WriteFault>
     requires { tiles ≡ tiles_of (parts_of snapshot.now).session.scene.tiling }
-    ensures { Appends (K.held sink.old) (waiting_in text.old) (K.faults sink.old) (K.held sink.new) (waiting_in text.new) (K.faults sink.new) (texts_below tiles (faces_text (faces_in (parts_of snapshot.now)))) result }
+    ensures text { Appends (K.held sink.old) (waiting_in text.old) (K.faults sink.old) (K.held sink.new) (waiting_in text.new) (K.faults sink.new) (texts_below tiles (faces_text (faces_in (parts_of snapshot.now)))) result }
+    ensures longs { OnOk result ((t : ℕ) → t < tiles → AreLongs (faces_in (parts_of snapshot.now) t)) }
 {
     for tile in 0..tiles {
         append_tile(text, sink, tile, snapshot.faces(tile))?;
@@ -75,7 +80,8 @@ fn append_tile<K: Sink>(
     tile: u32,
     faces: &[i64],
 ) -> Result<(), WriteFault>
-    ensures { Appends (K.held sink.old) (waiting_in text.old) (K.faults sink.old) (K.held sink.new) (waiting_in text.new) (K.faults sink.new) (faces_line tile faces.now) result }
+    ensures text { Appends (K.held sink.old) (waiting_in text.old) (K.faults sink.old) (K.held sink.new) (waiting_in text.new) (K.faults sink.new) (faces_line tile faces.now) result }
+    ensures longs { OnOk result (AreLongs faces.now) }
 {
     append(text, sink, b"faces")?;
     append_field(text, sink, tile)?;
@@ -88,7 +94,8 @@ fn append_flows<K: Sink>(
     sink: &mut K,
     flows: &[i64],
 ) -> Result<(), WriteFault>
-    ensures { Appends (K.held sink.old) (waiting_in text.old) (K.faults sink.old) (K.held sink.new) (waiting_in text.new) (K.faults sink.new) (flows_text flows.now) result }
+    ensures text { Appends (K.held sink.old) (waiting_in text.old) (K.faults sink.old) (K.held sink.new) (waiting_in text.new) (K.faults sink.new) (flows_text flows.now) result }
+    ensures longs { OnOk result (AreLongs flows.now) }
 {
     append(text, sink, b"flows")?;
     append_numbers(text, sink, flows)?;

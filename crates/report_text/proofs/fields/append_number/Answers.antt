@@ -3,7 +3,7 @@ use Rattle.std.specs.Prelude.{codes}
 use Rattle.std.specs.Fmt.{signed_decimal}
 use Rattle.std.specs.Int.{w64}
 use Rattle.std.proofs.lemmas.Int.{to_z-of_z}
-use Rattle.report_text.specs.Text.{number_text}
+use Rattle.grid_writer.specs.Numbers.{number_text}
 use Rattle.report_text.proofs.AppendLemmas.{appends_then, appends_part}
 use Rattle.report_text.proofs.fields.append_number.Goals as goal
 

@@ -1,6 +1,7 @@
 use Rattle.std.proofs.lemmas.Result.{on_err_weaker, on_ok_weaker}
 use Rattle.grid_writer.proofs.WriteLemmas.{all_written_at, at_any_err, cut_from_empty, cut_last, writes_then}
 use Rattle.report_text.proofs.CertifiedLemmas.{board_is_certified}
+use Rattle.report_text.proofs.RangeLemmas.{board_in_range, on_ok_if}
 use Rattle.report_text.proofs.report.write_report.Goals as goal
 
 pub returns-in_err-append_board-clause-cut : goal.returns-in_err-append_board-clause-cut
@@ -21,3 +22,6 @@ returns-in_err-append_board-clause-certified g c = board_is_certified c.args.boa
 
 pub returns-clause-certified : goal.returns-clause-certified
 returns-clause-certified g c = board_is_certified c.args.board.now c.append_board.ensures.board
+
+pub returns-clause-ranges : goal.returns-clause-ranges
+returns-clause-ranges g c = on_ok_if c.flush.result (board_in_range c.args.board.now c.in_ok-append_board.ensures.board c.in_ok-append_board.ensures.small)

@@ -1,0 +1,112 @@
+-- What a reader of reports promises of all bytes, from what it took and why it refused.
+use Rattle.std.proofs.Common.{◌≡◌, ℕ, ◌+◌, ◌-◌, ◌≤◌, ◌<◌, List, [], ◌∷◌, ◌++◌, length, Option, Some, None, Result, Ok, Err, inl, inr, refl, sym, ap, subst, ◌∙◌, arith}
+use Rattle.std.specs.Prelude.{IfErr, IfOk, IfSome}
+use Rattle.std.proofs.lemmas.List.{append-nil, length-append}
+use Rattle.insar_ports.specs.Bytes.{HasMore}
+use Rattle.insar_ports.specs.Calls.{Call, Takes}
+use Rattle.insar_ports.proofs.CallLemmas.{call}
+use Rattle.grid_writer.specs.Forms.{Form, Begins, EndsIn}
+use Rattle.grid_writer.specs.Reading.{room_of}
+use Rattle.grid_writer.proofs.FormLemmas.{fronts}
+use Rattle.grid_writer.proofs.FirstLemmas.{one_break, not_both, one_end}
+use Rattle.report_text.specs.declared.fault.ReportFault.{ReportFault}
+use Rattle.report_text.specs.declared.fault.ReportFault.TheVariants as faults
+use Rattle.report_text.specs.declared.contents.Report.{Report}
+use Rattle.report_text.specs.Contents.{IsReport, IsReportText, report_told}
+use Rattle.report_text.specs.Reading.{BreaksReportAt, EndsReportIn, HasBrokenReportLine, HasReportCause, IsReportRead, IsReportRefusedAt}
+use Rattle.report_text.specs.Text.{report_text}
+
+abbrev F : Form
+F = IsReportText
+
+empty : (m : List ℕ) → length m ≡ 0 → m ≡ []
+empty [] e = refl
+empty (b ∷ m) e = absurd (omega (arith, e))
+
+weak : (bytes : List ℕ) → Begins F bytes → Begins F bytes
+weak bytes b = b
+
+-- the result of a reader: what it took is a report's text and nothing is left, or there is a cause
+abbrev pub IsReader : Call → Result Report ReportFault → Type 0
+IsReader c result = IfOk result (λ report. Takes c (λ text rest. (text ≡ report_text (report_told report)) × (rest ≡ []))) × (IfOk result (λ report. IsReport (report_told report)) × IfErr result (HasReportCause c))
+
+module _ (bytes : List ℕ) (at : ℕ) (left : Option (List ℕ)) (end limit before after : ℕ) where
+  abbrev c : Call
+  c = call (Some bytes) at left end limit before after
+
+  is_report : (text rest : List ℕ) (report : Report) → IsReport (report_told report) → bytes ≡ text ++ rest → text ≡ report_text (report_told report) → rest ≡ [] → F bytes
+  is_report text rest report i e f g = (report_told report, (i, e ∙ ap (λ (l : List ℕ). text ++ l) g ∙ append-nil text ∙ f))
+
+  -- more is left than the limit lets out
+  too_long : (text rest : List ℕ) → bytes ≡ text ++ rest → left ≡ Some rest → end ≡ at + length text → end ≡ limit → HasMore left → length bytes ≤ limit - at → ⊥
+  too_long text rest e l p q m le =
+      let more : 0 < length rest = subst (λ (o : Option (List ℕ)). HasMore o) l m in
+      let size = ap length e in
+      omega (arith, size, length-append text rest, p, q, more, le)
+
+  whole_text : (text rest : List ℕ) → bytes ≡ text ++ rest → rest ≡ [] → text ≡ bytes
+  whole_text text rest e f = sym (e ∙ ap (λ (l : List ℕ). text ++ l) f ∙ append-nil text)
+
+  pub accepted : (result : Result Report ReportFault) → IsReader c result → F bytes → length bytes ≤ room_of c → IsReportRead c bytes result
+  accepted (Ok report) h f le =
+      let t = h.0 in
+      (sym t.2.1.1.1.0 ∙ whole_text t.0 t.1 t.2.0 t.2.1.1.1.1, t.2.1.0 ∙ ap Some t.2.1.1.1.1)
+  accepted (Err (faults.Line n)) h f le = elim h.1.1.2.1.1.1 [
+    | inl b ↦ b.2.1.1 (h.1.1.1, subst F h.1.1.2.0 f)
+    | inr b ↦ b.0.1 (subst F (sym (whole_text h.1.1.0 h.1.1.1 h.1.1.2.0 b.1)) f)
+  ]
+  accepted (Err faults.TooLong) h f le = let t = h.1.1.1.1 in too_long t.0 t.1 t.2.0 t.2.1.0 t.2.1.1.0 h.1.1.0 h.1.1.1.0 le
+  accepted (Err faults.ReadFault) h f le = h.1.1
+  accepted (Err faults.Memory) h f le = tt
+
+  -- a broken line within the room, and a text that ends in a line and fills the room
+  front_of : (front rest text left_over : List ℕ) → front ++ rest ≡ text ++ left_over → length front ≤ length text → (s : List ℕ) × (front ++ s ≡ text)
+  front_of front rest text left_over e le = elim (fronts front text rest left_over e) [
+    | inl f ↦ (f.0, sym f.1.0)
+    | inr f ↦
+        let size = ap length f.1.0 in
+        let short : length f.0 ≡ 0 = omega (arith, size, length-append text f.0, le) in
+        ([], append-nil front ∙ f.1.0 ∙ ap (λ (l : List ℕ). text ++ l) (empty f.0 short) ∙ append-nil text)
+  ]
+
+  exact_front : (n : ℕ) (front rest : List ℕ) (result : Result Report ReportFault) → IsReader c result → bytes ≡ front ++ rest → length front ≤ room_of c → BreaksReportAt n front → IsReportRefusedAt c n result
+  exact_front n front rest (Ok report) h e le b = let t = h.0 in b.2.1.1 (rest, subst F e (is_report t.0 t.1 report h.1.0 t.2.0 t.2.1.1.1.0 t.2.1.1.1.1))
+  exact_front n front rest (Err (faults.Line m)) h e le b = let t = h.1.1 in elim t.2.1.1.1 [
+    | inl d ↦ one_break F (Begins F) weak m n t.0 front t.1 rest (sym t.2.0 ∙ e) d b
+    | inr d ↦ absurd (not_both F (Begins F) weak n m front rest bytes (sym e) b (subst (EndsIn (Begins F) m) (whole_text t.0 t.1 t.2.0 d.1) d.0.0))
+  ]
+  exact_front n front rest (Err faults.TooLong) h e le b =
+      let t = h.1.1.1.1 in
+      let place = t.2.1.1.0 in
+      let full = h.1.1.0 in
+      let s = front_of front rest t.0 t.1 (sym e ∙ t.2.0) (omega (arith, le, place, full)) in
+      not_both F (Begins F) weak n t.2.1.1.1.0 front s.0 t.0 s.1 b t.2.1.1.1.1
+  exact_front n front rest (Err faults.ReadFault) h e le b = h.1.1
+  exact_front n front rest (Err faults.Memory) h e le b = tt
+
+  exact_end : (n : ℕ) (result : Result Report ReportFault) → IsReader c result → length bytes ≤ room_of c → EndsReportIn n bytes → IsReportRefusedAt c n result
+  exact_end n (Ok report) h le b = let t = h.0 in b.1 (is_report t.0 t.1 report h.1.0 t.2.0 t.2.1.1.1.0 t.2.1.1.1.1)
+  exact_end n (Err (faults.Line m)) h le b = let t = h.1.1 in elim t.2.1.1.1 [
+    | inl d ↦ absurd (not_both F (Begins F) weak m n t.0 t.1 bytes (sym t.2.0) d b.0)
+    | inr d ↦ one_end F (Begins F) weak m n bytes (subst (EndsIn (Begins F) m) (whole_text t.0 t.1 t.2.0 d.1) d.0.0) b.0
+  ]
+  exact_end n (Err faults.TooLong) h le b = let t = h.1.1.1.1 in too_long t.0 t.1 t.2.0 t.2.1.0 t.2.1.1.0 h.1.1.0 h.1.1.1.0 le
+  exact_end n (Err faults.ReadFault) h le b = h.1.1
+  exact_end n (Err faults.Memory) h le b = tt
+
+  pub exact : (result : Result Report ReportFault) → IsReader c result → (n : ℕ) → HasBrokenReportLine (room_of c) n bytes → IsReportRefusedAt c n result
+  exact result h n (inl (front, rest, (e, (le, b)))) = exact_front n front rest result h e le b
+  exact result h n (inr (le, b)) = exact_end n result h le b
+
+-- the same, whether the bytes are told or not
+pub accepts : (told : Option (List ℕ)) (at : ℕ) (left : Option (List ℕ)) (end limit before after : ℕ) (result : Result Report ReportFault) → IsReader (call told at left end limit before after) result → IfSome told (λ bytes. F bytes → length bytes ≤ room_of (call told at left end limit before after) → IsReportRead (call told at left end limit before after) bytes result)
+accepts None at left end limit before after result h = tt
+accepts (Some bytes) at left end limit before after result h = accepted bytes at left end limit before after result h
+
+pub refuses : (told : Option (List ℕ)) (at : ℕ) (left : Option (List ℕ)) (end limit before after : ℕ) (result : Result Report ReportFault) → IsReader (call told at left end limit before after) result → IfSome told (λ bytes. (n : ℕ) → HasBrokenReportLine (room_of (call told at left end limit before after)) n bytes → IsReportRefusedAt (call told at left end limit before after) n result)
+refuses None at left end limit before after result h = tt
+refuses (Some bytes) at left end limit before after result h = exact bytes at left end limit before after result h
+
+pub reader_failed : (c : Call) (result : Result Report ReportFault) (fault : ReportFault) → result ≡ Err fault → HasReportCause c fault → IsReader c result
+reader_failed c (Ok report) fault e h = absurd cc
+reader_failed c (Err other) fault e h = let f : other ≡ fault = cc in (tt, (tt, subst (HasReportCause c) (sym f) h))

@@ -1,0 +1,86 @@
+-- A report that was read, as its text tells it.
+use Rattle.std.specs.Prelude.{◌≡◌, ℕ, ◌<◌, ◌≤◌, ◌^◌, ℤ, IsTrue, List, [], map, slice_index_or, Option, Some, None, ⊤}
+use Rattle.std.specs.List.{AllByRecursion}
+use Rattle.std.specs.Global.{Vec, Box}
+use Rattle.raster_model.specs.Limits.{is_raster_size}
+use Rattle.raster_model.specs.declared.script.Edit.TheVariants.{Mask, Unmask}
+use Rattle.raster_model.specs.declared.script.Rect.{Rect}
+use Rattle.grid_writer.specs.Forms.{Form}
+use Rattle.grid_writer.specs.Grids.{AreLong, value_at}
+use Rattle.grid_writer.specs.Numbers.{AreLongs}
+use Rattle.tile_board.specs.declared.entry.Entry.{Entry}
+use Rattle.tile_board.specs.declared.entry.Entry.TheVariants.{Revised, Kept, Published, Settled, Shown}
+use Rattle.report_text.specs.declared.items.Item.{Item}
+use Rattle.report_text.specs.declared.contents.Report.{Report}
+use Rattle.report_text.specs.declared.items.ReportSurface.{ReportSurface}
+use Rattle.report_text.specs.Reports.{HasSurface, ItemOf, ReportOf, SurfaceOf}
+use Rattle.report_text.specs.Text.{report_text, tiles_in}
+
+-- what the items tell
+abbrev pub lists_of : List (Vec ℤ) → ℕ → List ℤ
+lists_of lists t = slice_index_or (map (λ list. list.items) lists) t []
+
+abbrev pub told_surface : ReportSurface → SurfaceOf
+told_surface k = record { tile_cost = k.tile_cost; seam_cost = k.seam_cost; values = value_at k.grid.width k.grid.values.items; faces = lists_of k.faces.items; flows = k.flows.items }
+
+abbrev pub told_behind : Option (Box ReportSurface) → Option SurfaceOf
+told_behind None = None
+told_behind (Some k) = Some (told_surface k.value)
+
+abbrev pub told_item : Item → ItemOf
+told_item i = record { entry = i.entry; surface = told_behind i.surface }
+
+abbrev pub report_told : Report → ReportOf
+report_told v = record { width = v.width; height = v.height; side = v.side; rule = v.rule; items = map told_item v.items.items }
+
+-- ---- the numbers of a report are in their ranges
+
+-- a number of 32 bits; a cost of 128
+abbrev pub IsWord : ℕ → Type 0
+IsWord n = n < 2 ^ 32
+
+abbrev pub IsCost : ℕ → Type 0
+IsCost n = n < 2 ^ 128
+
+pub record IsRectOfWords (r : Rect) : Type 0 where
+  pub x0 : IsWord r.x0
+  pub y0 : IsWord r.y0
+  pub x1 : IsWord r.x1
+  pub y1 : IsWord r.y1
+
+abbrev pub MayBeWord : Option ℕ → Type 0
+MayBeWord None = ⊤
+MayBeWord (Some n) = IsWord n
+
+abbrev pub IsEntryOfWords : Entry → Type 0
+IsEntryOfWords (Revised analyst (Mask rect)) = IsWord analyst × IsRectOfWords rect
+IsEntryOfWords (Revised analyst (Unmask rect)) = IsWord analyst × IsRectOfWords rect
+IsEntryOfWords (Kept tile stamp) = IsWord tile × IsWord stamp
+IsEntryOfWords (Published analyst revision) = IsWord analyst × IsWord revision
+IsEntryOfWords (Settled analyst revision) = IsWord analyst × IsWord revision
+IsEntryOfWords (Shown analyst revision) = IsWord analyst × MayBeWord revision
+
+pub record IsSurfaceInRange (width height tiles : ℕ) (k : SurfaceOf) : Type 0 where
+  pub tile_cost : IsCost k.tile_cost
+  pub seam_cost : IsCost k.seam_cost
+  pub values : AreLong width height k.values
+  pub faces : (t : ℕ) → t < tiles → AreLongs (k.faces t)
+  pub flows : AreLongs k.flows
+
+abbrev pub MayBeInRange : ℕ → ℕ → ℕ → Option SurfaceOf → Type 0
+MayBeInRange width height tiles None = ⊤
+MayBeInRange width height tiles (Some k) = IsSurfaceInRange width height tiles k
+
+pub record IsItemInRange (width height tiles : ℕ) (i : ItemOf) : Type 0 where
+  pub entry : IsEntryOfWords i.entry
+  pub published : HasSurface i.entry i.surface
+  pub surface : MayBeInRange width height tiles i.surface
+
+pub record IsReport (v : ReportOf) : Type 0 where
+  pub sized : IsTrue (is_raster_size v.width v.height)
+  pub sides : (2 ≤ v.side) × (v.side ≤ 128)
+  pub items : AllByRecursion (IsItemInRange v.width v.height (tiles_in v)) v.items
+
+-- the text of a report
+abbrev pub IsReportText : Form
+IsReportText text = (v : ReportOf) × (IsReport v × (text ≡ report_text v))

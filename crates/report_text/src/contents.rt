@@ -1,0 +1,24 @@
+ghost use Rattle.raster_model.specs.Limits.{is_raster_size};
+ghost use Rattle.report_text.specs.Fitting.{ItemsFit};
+ghost use Rattle.std.specs.Prelude.{◌≤◌, IsTrue};
+
+use crate::items::Item;
+use raster_model::RuleKind;
+
+/// A report that was read.
+#[derive(Drop)]
+pub struct Report {
+    /// Pixels in a row.
+    pub width: u32,
+    /// Rows.
+    pub height: u32,
+    /// Pixels along a side of a tile.
+    pub side: u32,
+    /// How the weights of two pixels make that of their edge.
+    pub rule: RuleKind,
+    /// The history in order, and the surfaces after its publications.
+    pub items: Vec<Item>,
+    pub ghost sized: { IsTrue (is_raster_size width height) },
+    pub ghost sides: { (2 ≤ side) × (side ≤ 128) },
+    pub ghost fitting: { ItemsFit width height side items.items },
+}

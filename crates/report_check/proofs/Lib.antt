@@ -1,0 +1,9 @@
+mod MaskLemmas
+mod ValueLemmas
+mod SurfaceLemmas
+mod ShownLemmas
+mod UniqueLemmas
+mod ReplayLemmas
+mod HistoryLemmas
+mod CountLemmas
+mod ReportLemmas

@@ -1,0 +1,18 @@
+use Rattle.std.proofs.Common.{◌≡◌, ◌<◌, arith, length}
+use Rattle.std.specs.Prelude.{slice_index}
+use Rattle.report_check.proofs.ReplayLemmas.{cleared_none, cleared_on}
+use Rattle.report_check.proofs.replay.clear.Goals as goal
+
+pub loop-tile-init : goal.loop-tile-init
+loop-tile-init c = cleared_none c.args.kept.now c.args.tiles.now
+
+pub loop-tile-preserved : goal.loop-tile-preserved
+loop-tile-preserved c =
+    let n = c.loop-tile.tile-index in
+    let inside : slice_index c.args.tiles.now n < length c.loop-tile.kept = omega (arith, c.requires n c.loop-tile-test.true, c.loop-tile.auto.kept) in
+    cleared_on c.args.kept.now c.loop-tile.kept c.args.tiles.now n c.loop-tile.invariant inside
+
+pub returns : goal.returns
+returns c =
+    let end : c.loop-tile.tile-index ≡ length c.args.tiles.now = omega (arith, c.loop-tile.auto.tile-index-end, c.loop-tile-test.false) in
+    rw end at c.loop-tile.invariant

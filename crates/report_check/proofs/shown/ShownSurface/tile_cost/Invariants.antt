@@ -1,0 +1,11 @@
+use Rattle.std.proofs.Common.{◌≡◌, ◌+◌, ◌*◌, ◌≤◌, ◌^◌, pos}
+use Rattle.raster_model.specs.Sums.{sum_grid}
+use Rattle.report_check.specs.Shown.{inner_cost_from, open_shown, raster_shown, told_shown}
+use Rattle.report_check.specs.Verdicts.{surface_in}
+use Rattle.report_check.proofs.shown.ShownSurface.tile_cost.Given as goal
+
+abbrev pub invariant-loop-y : goal.invariant-loop-y
+invariant-loop-y l = record {
+  sum : pos l.cost ≡ sum_grid l.self.scene.now.phase.width l.y (inner_cost_from (raster_shown l.self) (open_shown l.self) (surface_in (raster_shown l.self) (told_shown l.self)));
+  small : l.cost ≤ 2 * 65535 * (2 ^ 49 + 1) * 4096 * l.y;
+}

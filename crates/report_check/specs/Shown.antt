@@ -1,0 +1,84 @@
+-- Words of helpers: a surface that a report shows, over its scene and a mask. No clause of a public function cites this file.
+use Rattle.std.specs.Prelude.{◌≡◌, ℕ, ◌<◌, ℤ, pos, Bool, not, Option, Some, None, slice_get}
+use Rattle.raster_model.specs.declared.edge.Edge.{Edge}
+use Rattle.raster_model.specs.declared.session.Session.{Session}
+use Rattle.raster_model.specs.Masks.{open_at}
+use Rattle.raster_model.specs.Raster.{Raster, edge_cost, is_seam, seam_cost}
+use Rattle.raster_model.specs.Scene.{raster_of}
+use Rattle.raster_model.specs.Seams.{AreRegions}
+use Rattle.raster_model.specs.Sums.{Field, edges_from, where_true}
+use Rattle.surface_snapshots.specs.Parts.{tile_costs}
+use Rattle.certificates.specs.declared.verdicts.SeamVerdict.{SeamVerdict}
+use Rattle.certificates.specs.SeamVerdicts.{IsSeamVerdict}
+use Rattle.tile_board.specs.declared.entry.Entry.{Entry}
+use Rattle.tile_board.specs.declared.entry.Entry.TheVariants.{Revised, Kept, Published, Settled, Shown}
+use Rattle.report_text.specs.Contents.{told_surface}
+use Rattle.report_text.specs.Certified.{IsCertifiedBehind, history_of}
+use Rattle.report_text.specs.Reports.{ItemOf, ReportOf, SurfaceOf}
+use Rattle.report_check.specs.declared.shown.ShownSurface.{ShownSurface}
+use Rattle.report_check.specs.declared.verdict.CheckVerdict.{CheckVerdict}
+use Rattle.report_check.specs.Verdicts.{IsSurfaceVerdict, PassesSeams, ValueFits, cycles_in, surface_in}
+
+-- the raster, the open pixels, what is told
+abbrev pub raster_shown : ShownSurface → Raster
+raster_shown s = raster_of s.scene.now
+
+abbrev pub open_shown : ShownSurface → Field Bool
+open_shown s = open_at s.mask.now
+
+abbrev pub told_shown : ShownSurface → SurfaceOf
+told_shown s = told_surface s.told.now
+
+-- the first n values of a row fit; the value at x is the first of the row that does not
+abbrev pub FitInRow : Raster → Field Bool → Field ℤ → ℕ → ℕ → Type 0
+FitInRow r mask values y n = (x : ℕ) → x < n → ValueFits r mask values x y
+
+pub record IsFirstUnfitInRow (r : Raster) (mask : Field Bool) (values : Field ℤ) (y x : ℕ) : Type 0 where
+  pub across : x < r.width
+  pub unfit : ValueFits r mask values x y → ⊥
+  pub first : FitInRow r mask values y x
+
+-- the values of the first n rows do
+abbrev pub FitInRows : Raster → Field Bool → Field ℤ → ℕ → Type 0
+FitInRows r mask values n = (y : ℕ) → y < n → FitInRow r mask values y r.width
+
+-- the verdict on the flows, with some numbers of the regions
+pub record IsFlowsVerdict (r : Raster) (mask : Field Bool) (k : SurfaceOf) (verdict : SeamVerdict) : Type 0 where
+  pub labels : Field ℕ
+  pub count : ℕ
+  pub regions : AreRegions r mask labels count
+  pub says : IsSeamVerdict r mask labels count (cycles_in k.values) k.flows verdict
+
+-- a surface with which nothing is wrong
+pub record IsGoodSurface (r : Raster) (mask : Field Bool) (k : SurfaceOf) : Type 0 where
+  pub passes : PassesSeams r mask k
+  pub tile_cost : pos k.tile_cost ≡ tile_costs r mask (surface_in r k)
+  pub seam_cost_is : pos k.seam_cost ≡ seam_cost r mask (surface_in r k)
+
+-- what stands behind an entry is so, or has this verdict
+abbrev pub IsGoodBehind : Raster → Field Bool → Entry → Option SurfaceOf → Type 0
+IsGoodBehind r mask (Revised a edit) behind = behind ≡ None
+IsGoodBehind r mask (Kept t stamp) behind = behind ≡ None
+IsGoodBehind r mask (Published a revision) None = ⊥
+IsGoodBehind r mask (Published a revision) (Some k) = IsGoodSurface r mask k
+IsGoodBehind r mask (Settled a revision) behind = behind ≡ None
+IsGoodBehind r mask (Shown a revision) behind = behind ≡ None
+
+abbrev pub IsUnfitBehind : Raster → Field Bool → Entry → Option SurfaceOf → CheckVerdict → Type 0
+IsUnfitBehind r mask (Revised a edit) behind verdict = ⊥
+IsUnfitBehind r mask (Kept t stamp) behind verdict = ⊥
+IsUnfitBehind r mask (Published a revision) None verdict = ⊥
+IsUnfitBehind r mask (Published a revision) (Some k) verdict = IsSurfaceVerdict r mask revision k verdict
+IsUnfitBehind r mask (Settled a revision) behind verdict = ⊥
+IsUnfitBehind r mask (Shown a revision) behind verdict = ⊥
+
+-- what stands behind all entries of a report is certified
+abbrev pub AreCertifiedBehind : Session → ReportOf → Type 0
+AreCertifiedBehind s v = (k : ℕ) (i : ItemOf) → slice_get v.items k ≡ Some i → IsCertifiedBehind s (history_of v) i.entry i.surface
+
+-- what an edge adds to the costs of all tiles, and what the edges that start at a pixel add
+unfoldable pub inner_edge_cost : Raster → Field Bool → Field ℤ → Edge → ℤ
+inner_edge_cost r mask S e = where_true (not (is_seam r e)) (edge_cost r mask S e)
+
+unfoldable pub inner_cost_from : Raster → Field Bool → Field ℤ → Field ℤ
+inner_cost_from r mask S = edges_from r.width r.height (inner_edge_cost r mask S)

@@ -1,0 +1,217 @@
+ghost use Rattle.raster_model.specs.Scripts.{IsRectIn, rect_of};
+ghost use Rattle.raster_model.specs.Tiles.{tiles_of};
+ghost use Rattle.report_check.specs.Replays.{AreCleared, IsReplayOf, IsReplaying, IsRevised, MayTake, Takes, TellsComplete, TellsStep};
+ghost use Rattle.std.specs.Prelude.{◌≡◌, ◌↔◌, ℕ, ◌+◌, ◌-◌, ◌<◌, ◌≤◌, ◌^◌, [], Bool, IfOk, IsTrue, OnOk, Some, length, slice_get, slice_index, slice_index_or, slice_set, vec_len};
+ghost use Rattle.tile_board.specs.Histories.{script_in};
+ghost use Rattle.tile_board.specs.States.{cursor_at};
+ghost use Rattle.tile_board.specs.declared.entry.Entry.TheVariants.{Kept, Published, Settled, Shown};
+
+use crate::commands::{all_ended, command_at, cursor_of};
+use mask_revisions::Revisions;
+use raster_model::{Command, Edit, Mask, Session};
+use std::alloc::{AllocError, Global};
+use tile_board::Entry;
+
+/// What a history says, entry by entry.
+#[derive(Drop)]
+pub(crate) struct Replay {
+    revisions: Revisions,
+    /// By tile: whether a result was kept at its stamp.
+    kept: Vec<bool>,
+    /// How many commands were done, by analyst; the first is analyst 1.
+    cursors: Vec<u32>,
+    /// The newest published revision.
+    newest: Option<u32>,
+}
+
+impl Replay {
+    /// Before the first entry.
+    pub(crate) fn new(alloc: Global, session: &Session) -> Result<Replay, AllocError>
+        ensures { IfOk result (IsReplayOf session.now []) }
+    {
+        let tiling = session.scene.tiling;
+        let first = session.first_mask.try_copy()?;
+        let revisions = Revisions::new(alloc, first, tiling)?;
+        let kept = vec![in alloc; false; tiling.tile_count() as usize]?;
+        let cursors = vec![in alloc; 0; session.scripts.len()]?;
+        Ok(Replay {
+            revisions,
+            kept,
+            cursors,
+            newest: None,
+        })
+    }
+
+    /// The present mask.
+    pub(crate) fn mask(&self) -> &Mask
+        ensures { result.now ≡ self.now.revisions.mask }
+    {
+        self.revisions.mask()
+    }
+
+    /// Whether an entry may come next.
+    pub(crate) fn may_take(&self, session: &Session, entry: Entry) -> bool
+        requires { IsReplaying session.now self.now }
+        ensures { TellsStep session.now self.now entry result }
+    {
+        match entry {
+            Entry::Revised { analyst, edit } => self.is_next(
+                session,
+                analyst,
+                Command::Change(edit),
+            ),
+            Entry::Kept { tile, stamp } => self.may_keep(session, tile, stamp),
+            Entry::Published { analyst, revision } => self.may_publish(session, analyst, revision),
+            Entry::Settled { analyst, revision } => self.may_settle(session, analyst, revision),
+            Entry::Shown { analyst, revision } => self.may_show(session, analyst, revision),
+        }
+    }
+
+    /// Whether every script is at its end.
+    pub(crate) fn is_complete(&self, session: &Session) -> bool
+        requires { IsReplaying session.now self.now }
+        ensures { TellsComplete session.now self.now result }
+    {
+        all_ended(&session.scripts, &self.cursors)
+    }
+
+    /// Takes an entry that may come next.
+    pub(crate) fn take(&mut self, alloc: Global, entry: Entry) -> Result<(), AllocError>
+        requires { MayTake self.old entry }
+        ensures { OnOk result (Takes self.old self.new entry) }
+    {
+        match entry {
+            Entry::Revised { analyst, edit } => {
+                self.revise(alloc, edit)?;
+                self.count(analyst);
+                Ok(())
+            }
+            Entry::Kept { tile, stamp: _ } => {
+                self.kept[tile as usize] = true;
+                Ok(())
+            }
+            Entry::Published { analyst, revision } => {
+                self.newest = Some(revision);
+                self.count(analyst);
+                Ok(())
+            }
+            Entry::Settled {
+                analyst,
+                revision: _,
+            } => {
+                self.count(analyst);
+                Ok(())
+            }
+            Entry::Shown {
+                analyst,
+                revision: _,
+            } => {
+                self.count(analyst);
+                Ok(())
+            }
+        }
+    }
+
+    /// Whether the next command of an analyst is this one.
+    fn is_next(&self, session: &Session, analyst: u32, command: Command) -> bool
+        ensures { IsTrue result ↔ (slice_get (script_in session.now.scripts.items analyst) (cursor_at self.now.cursors.items analyst) ≡ Some command) }
+    {
+        let place = cursor_of(&self.cursors, analyst);
+        command_at(&session.scripts, analyst, place) == Some(command)
+    }
+
+    /// Whether the newest published revision is this one, if any.
+    fn is_newest(&self, revision: Option<u32>) -> bool
+        ensures { IsTrue result ↔ (self.now.newest ≡ revision) }
+    {
+        self.newest == revision
+    }
+
+    fn may_keep(&self, session: &Session, tile: u32, stamp: u32) -> bool
+        requires { IsReplaying session.now self.now }
+        ensures { TellsStep session.now self.now (Kept tile stamp) result }
+    {
+        if tile >= session.scene.tiling.tile_count() {
+            return false;
+        }
+        if self.revisions.stamp(tile) != stamp {
+            return false;
+        }
+        !self.kept[tile as usize]
+    }
+
+    fn may_publish(&self, session: &Session, analyst: u32, revision: u32) -> bool
+        requires { IsReplaying session.now self.now }
+        ensures { TellsStep session.now self.now (Published analyst revision) result }
+    {
+        if !self.is_next(session, analyst, Command::Settle) {
+            return false;
+        }
+        if revision != self.revisions.count() {
+            return false;
+        }
+        if self.is_newest(Some(revision)) {
+            return false;
+        }
+        are_all(&self.kept)
+    }
+
+    fn may_settle(&self, session: &Session, analyst: u32, revision: u32) -> bool
+        requires { IsReplaying session.now self.now }
+        ensures { TellsStep session.now self.now (Settled analyst revision) result }
+    {
+        if !self.is_next(session, analyst, Command::Settle) {
+            return false;
+        }
+        if revision != self.revisions.count() {
+            return false;
+        }
+        self.is_newest(Some(revision))
+    }
+
+    fn may_show(&self, session: &Session, analyst: u32, revision: Option<u32>) -> bool
+        requires { IsReplaying session.now self.now }
+        ensures { TellsStep session.now self.now (Shown analyst revision) result }
+    {
+        self.is_next(session, analyst, Command::Show) && self.is_newest(revision)
+    }
+
+    /// Counts a command of an analyst as done.
+    fn count(&mut self, analyst: u32)
+        requires there { (1 ≤ analyst) × (analyst - 1 < vec_len self.old.cursors) }
+        requires room { slice_index self.old.cursors.items (analyst - 1) + 1 < 2 ^ 32 }
+        ensures cursors { self.new.cursors.items ≡ slice_set self.old.cursors.items (analyst - 1) (slice_index self.old.cursors.items (analyst - 1) + 1) }
+        ensures others { (self.new.revisions ≡ self.old.revisions) × (self.new.kept ≡ self.old.kept) × (self.new.newest ≡ self.old.newest) }
+    {
+        self.cursors[analyst as usize - 1] += 1;
+    }
+
+    /// Applies an edit of the mask. The tiles with a pixel that changes are kept no longer.
+    fn revise(&mut self, alloc: Global, edit: Edit) -> Result<(), AllocError>
+        requires rect { IsRectIn self.old.revisions.tiling.width self.old.revisions.tiling.height (rect_of edit) }
+        requires room { self.old.revisions.count + 1 < 2 ^ 32 }
+        requires tiles { vec_len self.old.kept ≡ tiles_of self.old.revisions.tiling }
+        ensures { OnOk result (IsRevised self.old self.new edit) }
+    {
+        let tiles = self.revisions.push(alloc, edit)?;
+        clear(&mut self.kept, &tiles);
+        Ok(())
+    }
+}
+
+/// Whether all of some tests are passed.
+fn are_all(tests: &[bool]) -> bool
+    ensures { IsTrue result ↔ ((k : ℕ) → k < length tests.now → IsTrue (slice_index_or tests.now k Bool.false)) }
+{
+    tests.iter().all(|&test| test)
+}
+
+/// Marks some tiles as not kept.
+fn clear(kept: &mut [bool], tiles: &[u32])
+    requires { (i : ℕ) → i < length tiles.now → slice_index tiles.now i < length kept.old }
+    ensures { AreCleared kept.old kept.new tiles.now (length tiles.now) }
+{
+    for &tile in tiles {
+        kept[tile as usize] = false;
+    }
+}

@@ -8,4 +8,6 @@ mod plane_rows;
 #[cfg(test)]
 mod port_rows;
 #[cfg(test)]
+mod reading_rows;
+#[cfg(test)]
 mod session_rows;

@@ -1,0 +1,158 @@
+use crate::plane_rows::field;
+use crate::session_rows;
+use grid_writer::{Grid, GridFault, read_grid};
+use insar_ports::{Feed, MemorySource};
+use raster_model::Session;
+use report_check::check_report;
+use report_text::{Report, ReportFault, read_report};
+use session_script::SessionUse;
+use std::alloc::{AllocError, Global};
+use std::str::Split;
+
+/// The text with the second field of a case in the place of the first.
+fn changed(
+    alloc: Global,
+    text: &str,
+    fields: &mut Split<'static, char>,
+) -> Result<String, AllocError> {
+    let old = field(fields);
+    text.replace(alloc, old, field(fields))
+}
+
+const GRID: &str = "\
+ncols 2
+nrows 1
+xllcorner 0
+yllcorner 0
+cellsize 1
+NODATA_value -9223372036854775808
+50000 75536
+";
+
+/// A piece of the grid, what stands in its place, and what is read then.
+const GRIDS: &str = "\
+    50000|50000|2 1 [50000, 75536];\
+    50000|-0|Line(7);\
+    75536\n|75536|Line(7);";
+
+fn read_as_grid(alloc: Global, text: String) -> Result<Grid, GridFault> {
+    let mut source = MemorySource::new(text.into_bytes(), 7, Vec::new(alloc));
+    let mut feed = Feed::new(alloc, &mut source, 1000)?;
+    read_grid(alloc, &mut feed)
+}
+
+/// The grid that is read of a text, or the fault, in words.
+fn grid_told(alloc: Global, text: String) -> Result<String, AllocError> {
+    match read_as_grid(alloc, text) {
+        Ok(grid) => format!(in alloc; "{} {} {:?}", grid.width, grid.height, grid.values),
+        Err(fault) => format!(in alloc; "{fault:?}"),
+    }
+}
+
+#[test]
+fn a_grid_is_read_or_its_first_broken_line_is_told(rt: HostRuntime) {
+    for case in GRIDS.split_terminator(';') {
+        let mut fields = case.split('|');
+        let text = changed(rt.alloc(), GRID, &mut fields).expect(&rt, "memory");
+        let told = grid_told(rt.alloc(), text).expect(&rt, "memory");
+        assert_eq!(rt; told.as_str(), field(&mut fields), "{case}");
+    }
+}
+
+/// A certified report of the session below.
+const REPORT: &str = "\
+insar-report 1
+size 2 2
+tile 64
+rule least
+revised 1 mask 0 0 0 0
+kept 0 1
+published 1 1
+costs 0 0
+ncols 2
+nrows 2
+xllcorner 0
+yllcorner 0
+cellsize 1
+NODATA_value -9223372036854775808
+-9223372036854775808 16384
+49152 32768
+faces 0 0
+flows
+shown 1 1
+end
+";
+
+/// A piece of the report, what stands in its place, and how many items are read then or which line is broken.
+const REPORTS: &str = "\
+    end|end|4;\
+    end\n||Line(20);";
+
+fn read_as_report(alloc: Global, text: String) -> Result<Report, ReportFault> {
+    let mut source = MemorySource::new(text.into_bytes(), 7, Vec::new(alloc));
+    let Ok(mut feed) = Feed::new(alloc, &mut source, 1000) else {
+        return Err(ReportFault::Memory);
+    };
+    read_report(alloc, &mut feed)
+}
+
+/// How many items are read of a text, or the fault, in words.
+fn report_told(alloc: Global, text: String) -> Result<String, AllocError> {
+    match read_as_report(alloc, text) {
+        Ok(report) => format!(in alloc; "{}", report.items.len()),
+        Err(fault) => format!(in alloc; "{fault:?}"),
+    }
+}
+
+#[test]
+fn a_report_is_read_or_its_first_broken_line_is_told(rt: HostRuntime) {
+    for case in REPORTS.split_terminator(';') {
+        let mut fields = case.split('|');
+        let text = changed(rt.alloc(), REPORT, &mut fields).expect(&rt, "memory");
+        let told = report_told(rt.alloc(), text).expect(&rt, "memory");
+        assert_eq!(rt; told.as_str(), field(&mut fields), "{case}");
+    }
+}
+
+const SESSION: &[u8] = b"\
+P2
+2 2
+65535
+0 16384
+49152 32768
+analyst
+mask 0 0 0 0
+settle
+show
+end
+";
+
+/// A piece of the report, what stands in its place, and the verdict then. The weights are 1, and 0 at the masked pixel.
+const VERDICTS: &str = "\
+    end|end|Accepted;\
+    faces 0 0|faces 0 1|Tile { revision: 1, tile: 0, verdict: FaceAtEdge(Edge { x: 0, y: 0, down: false }) };\
+    kept 0 1\n||History(2);\
+    16384|16385|Value { revision: 1, x: 1, y: 0 };\
+    costs 0 0|costs 1 0|TileCost { revision: 1, written: 1, counted: 0 };";
+
+/// The verdict on the report of a text, or the fault of the text, in words.
+fn verdict_told(alloc: Global, session: &Session, text: String) -> Result<String, AllocError> {
+    match read_as_report(alloc, text) {
+        Ok(report) => format!(in alloc; "{:?}", check_report(alloc, session, &report)?),
+        Err(fault) => format!(in alloc; "{fault:?}"),
+    }
+}
+
+#[test]
+fn a_report_is_accepted_or_its_first_break_is_told(rt: HostRuntime) {
+    let alloc = rt.alloc();
+    let text = Vec::from_slice(alloc, SESSION).expect(&rt, "memory");
+    let session = session_rows::read(alloc, SessionUse::Alone, 64, text, 9, Vec::new(alloc));
+    let session = session.expect(&rt, "a session");
+    for case in VERDICTS.split_terminator(';') {
+        let mut fields = case.split('|');
+        let text = changed(alloc, REPORT, &mut fields).expect(&rt, "memory");
+        let told = verdict_told(alloc, &session, text).expect(&rt, "memory");
+        assert_eq!(rt; told.as_str(), field(&mut fields), "{case}");
+    }
+}

@@ -6,10 +6,11 @@ use Rattle.std.specs.Borrow.{Bor}
 use Rattle.raster_model.specs.declared.weights.RuleKind.{RuleKind}
 use Rattle.raster_model.specs.declared.weights.RuleKind.TheVariants.{Least, Mean, Product}
 use Rattle.insar_top.specs.declared.words.Told.{Told}
+use Rattle.insar_top.specs.Outcomes.{ByCommand}
 use Rattle.insar_top.specs.Words.{IsCommand, Tells, TellsOne, TellsRule, TellsSide, TellsWorkers, nothing, rule_word}
 
 -- the first letters differ
-letters : (a b : List ℕ) → a ≡ b → get_or a 0 0 ≢ get_or b 0 0 → ⊥
+pub letters : (a b : List ℕ) → a ≡ b → get_or a 0 0 ≢ get_or b 0 0 → ⊥
 letters a b e n = n (ap (λ (t : List ℕ). get_or t 0 0) e)
 
 one_rule : (r q : RuleKind) → rule_word r ≡ rule_word q → r ≡ q
@@ -53,7 +54,7 @@ one_option name value t u v (inr (inr a)) (inr (inl b)) = absurd (other_names na
 one_option name value t u v (inr (inr a)) (inr (inr b)) = one_workers_told value t u v a.1 b.1
 
 -- and so do options
-one_telling : (options : List (List ℕ)) (t u v : Told) → Tells options t u → Tells options t v → u ≡ v
+pub one_telling : (options : List (List ℕ)) (t u v : Told) → Tells options t u → Tells options t v → u ≡ v
 one_telling [] t u v a b = a ∙ sym b
 one_telling (name ∷ []) t u v a b = absurd a
 one_telling (name ∷ value ∷ rest) t u v a b =
@@ -71,3 +72,7 @@ pub one_command : (words : List (Bor (List ℕ))) (r q : RuleKind) (s t : ℕ) �
 one_command words r q s t c d =
     let same : c.told ≡ d.told = one_told words r q s t c d in
     (c.rule_is ∙ ap (λ (w : Told). unwrap_or w.rule Least) same ∙ sym d.rule_is, c.side_is ∙ ap (λ (w : Told). unwrap_or w.side 64) same ∙ sym d.side_is)
+
+-- what holds by the rule and the side of the command that the words are
+pub by_command : (words : List (Bor (List ℕ))) (P : RuleKind → ℕ → Type 0) (r : RuleKind) (s : ℕ) → IsCommand words r s → ByCommand words P → P r s
+by_command words P r s c b = let e = one_command words b.0 r b.1 s b.2 c in subst (λ (q : RuleKind). P q s) e.0 (subst (λ (n : ℕ). P b.0 n) e.1 b.3)

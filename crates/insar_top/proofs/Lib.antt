@@ -2,5 +2,8 @@ pub mod WordLemmas
 pub mod CommandLemmas
 pub mod SessionLemmas
 pub mod TopLemmas
+pub mod CheckLemmas
+pub mod CheckStatus
+pub mod VerdictLemmas
 pub mod ListLemmas
 pub mod SameLemmas

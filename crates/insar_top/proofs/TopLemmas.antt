@@ -9,6 +9,7 @@ use Rattle.raster_model.specs.declared.weights.RuleKind.{RuleKind}
 use Rattle.session_script.specs.declared.session_use.SessionUse.TheVariants.{Alone}
 use Rattle.session_script.specs.Sessions.{SessionOf, session_of}
 use Rattle.session_script.proofs.AskSession.{no_fault_of_session}
+use Rattle.report_text.specs.Contents.{IsReport}
 use Rattle.report_text.specs.Certified.{IsCertifiedReport, history_of}
 use Rattle.report_text.specs.Reports.{ReportOf, report_of}
 use Rattle.report_text.specs.Text.{report_text}
@@ -36,10 +37,11 @@ module _ (rule : RuleKind) (side : ℕ) (r : Run) (s : Session) (v : ReportOf) (
   answer_for : (bytes : List ℕ) → IsGiven rule side bytes s → IsAnswer rule side bytes (report_text v)
   answer_for bytes given = record { session = s; report = v; given = given; reported = reported; written = refl }
 
-  pub is_done : r.held_now ≡ with_end r.held (report_text v) → IsDone rule side r
-  is_done e = if_told r.told _ (λ bytes t.
+  pub is_done : IsReport v → r.held_now ≡ with_end r.held (report_text v) → IsDone rule side r
+  unfolding answer_for
+  is_done i e = if_told r.told _ (λ bytes t.
       let k = at_told r.told _ bytes t read in
-      (report_text v, (answer_for bytes k.0, (k.1, e))))
+      (report_text v, (answer_for bytes k.0, (i, (k.1, e)))))
 
   pub is_cut : GainsProperPrefix r.held (report_text v) r.held_now → IsCut rule side r
   is_cut e = if_told r.told _ (λ bytes t.
@@ -60,6 +62,8 @@ fault_refuses side bytes fault h s input = no_fault_of_session Alone side bytes 
 pub input_cause : (rule : RuleKind) (side : ℕ) (r : Run) (e : Refusal) → r.held_now ≡ r.held → HasInputCause side r.told r.source_before r.source_after e → HasRunCause rule side r e
 input_cause rule side r refusals.Words same h = h
 input_cause rule side r (refusals.Input fault) same h = (h, same)
+input_cause rule side r (refusals.ReportLine n) same h = absurd h
+input_cause rule side r refusals.ReportLong same h = absurd h
 input_cause rule side r refusals.Memory same h = same
 input_cause rule side r refusals.ReadFault same h = (h, same)
 input_cause rule side r refusals.WriteFault same h = absurd h
@@ -68,6 +72,8 @@ input_cause rule side r refusals.WriteFault same h = absurd h
 pub run_cause : (words : List (Bor (List ℕ))) (rule : RuleKind) (side : ℕ) (r : Run) (e : Refusal) → IsCommand words rule side → HasRunCause rule side r e → HasCause words r e
 run_cause words rule side r refusals.Words w h = absurd h
 run_cause words rule side r (refusals.Input fault) w h = (rule, side, w, h)
+run_cause words rule side r (refusals.ReportLine n) w h = absurd h
+run_cause words rule side r refusals.ReportLong w h = absurd h
 run_cause words rule side r refusals.Memory w h = (rule, side, w, h)
 run_cause words rule side r refusals.ReadFault w h = (rule, side, w, h)
 run_cause words rule side r refusals.WriteFault w h = (rule, side, w, h)
@@ -101,6 +107,8 @@ module _ (words : List (Bor (List ℕ))) (r : Run) where
         go : (e : Refusal) → HasCause words r e → status ≡ status_of e → ByCommand words (λ rule side. IfSome r.told (IsNoInput side))
         go refusals.Words k q = absurd (omega (arith, q, three))
         go (refusals.Input fault) k q = (k.0, k.1, k.2, refuses k.1 r.told fault k.3.0)
+        go (refusals.ReportLine n) k q = absurd k
+        go refusals.ReportLong k q = absurd k
         go refusals.Memory k q = absurd (omega (arith, q, three))
         go refusals.ReadFault k q = absurd (omega (arith, q, three))
         go refusals.WriteFault k q = absurd (omega (arith, q, three))
@@ -112,6 +120,8 @@ module _ (words : List (Bor (List ℕ))) (r : Run) where
         go : (e : Refusal) → HasCause words r e → status ≡ status_of e → P e → ByCommand words (λ rule side. IfSome r.told (λ bytes. (fault : InputFault) × (HasInputFault side bytes fault × P (refusals.Input fault))))
         go refusals.Words k q put = absurd (omega (arith, q, three))
         go (refusals.Input fault) k q put = (k.0, k.1, k.2, if_told r.told _ (λ bytes t. (fault, (at_told r.told _ bytes t k.3.0, put))))
+        go (refusals.ReportLine n) k q put = absurd k
+        go refusals.ReportLong k q put = absurd k
         go refusals.Memory k q put = absurd (omega (arith, q, three))
         go refusals.ReadFault k q put = absurd (omega (arith, q, three))
         go refusals.WriteFault k q put = absurd (omega (arith, q, three))
@@ -122,6 +132,8 @@ module _ (words : List (Bor (List ℕ))) (r : Run) where
         go : (e : Refusal) → HasCause words r e → status ≡ status_of e → IfSome r.told (λ bytes. IsNoInput side bytes → (status ≡ 3) ⊎ ((status ≡ 4) ⊎ (status ≡ 5)))
         go refusals.Words k q = absurd (k.0 rule side w)
         go (refusals.Input fault) k q = if_told r.told _ (λ bytes t none. inl q)
+        go (refusals.ReportLine n) k q = absurd k
+        go refusals.ReportLong k q = absurd k
         go refusals.Memory k q = if_told r.told _ (λ bytes t none. inr (inl q))
         go refusals.ReadFault k q = if_told r.told _ (λ bytes t none. inr (inr q))
         go refusals.WriteFault k q = if_told r.told _ (λ bytes t none.
@@ -134,6 +146,8 @@ module _ (words : List (Bor (List ℕ))) (r : Run) where
         go : (e : Refusal) → HasCause words r e → status ≡ status_of e → IfSome r.told (λ bytes. (i : SessionOf) → IsInput side bytes i → (SourceFailed r → ⊥) → (SinkFailed r → ⊥) → (status ≡ 0) ⊎ (status ≡ 4))
         go refusals.Words k q = absurd (k.0 rule side w)
         go (refusals.Input fault) k q = if_told r.told _ (λ bytes t i input no_source no_sink. absurd (here k.0 k.1 rule side bytes k.2 w (fault_refuses k.1 bytes fault (at_told r.told _ bytes t k.3.0)) i input))
+        go (refusals.ReportLine n) k q = absurd k
+        go refusals.ReportLong k q = absurd k
         go refusals.Memory k q = if_told r.told _ (λ bytes t i input no_source no_sink. inr q)
         go refusals.ReadFault k q = if_told r.told _ (λ bytes t i input no_source no_sink. absurd (no_source k.3.0))
         go refusals.WriteFault k q = if_told r.told _ (λ bytes t i input no_source no_sink. absurd (no_sink k.3.0))
@@ -144,6 +158,8 @@ module _ (words : List (Bor (List ℕ))) (r : Run) where
         go : (e : Refusal) → HasCause words r e → status ≡ status_of e → ByCommand words (λ rule side. IsCut rule side r)
         go refusals.Words k q = absurd (omega (arith, q, six))
         go (refusals.Input fault) k q = absurd (omega (arith, q, six))
+        go (refusals.ReportLine n) k q = absurd k
+        go refusals.ReportLong k q = absurd k
         go refusals.Memory k q = absurd (omega (arith, q, six))
         go refusals.ReadFault k q = absurd (omega (arith, q, six))
         go refusals.WriteFault k q = (k.0, k.1, k.2, k.3.1)
@@ -154,6 +170,8 @@ module _ (words : List (Bor (List ℕ))) (r : Run) where
         go : (e : Refusal) → HasCause words r e → status ≡ status_of e → IsNoCommand words
         go refusals.Words k q = k.0
         go (refusals.Input fault) k q = absurd (omega (arith, q, two))
+        go (refusals.ReportLine n) k q = absurd k
+        go refusals.ReportLong k q = absurd k
         go refusals.Memory k q = absurd (omega (arith, q, two))
         go refusals.ReadFault k q = absurd (omega (arith, q, two))
         go refusals.WriteFault k q = absurd (omega (arith, q, two))
@@ -164,6 +182,8 @@ module _ (words : List (Bor (List ℕ))) (r : Run) where
         go : (e : Refusal) → HasCause words r e → status ≡ status_of e → status ≡ 2
         go refusals.Words k q = q
         go (refusals.Input fault) k q = absurd (none k.0 k.1 k.2)
+        go (refusals.ReportLine n) k q = absurd k
+        go refusals.ReportLong k q = absurd k
         go refusals.Memory k q = absurd (none k.0 k.1 k.2)
         go refusals.ReadFault k q = absurd (none k.0 k.1 k.2)
         go refusals.WriteFault k q = absurd (none k.0 k.1 k.2)

@@ -19,6 +19,8 @@ HasInputFault side bytes fault = HasFault Alone side bytes fault
 abbrev pub HasInputCause : ℕ → Option (List ℕ) → ℕ → ℕ → Refusal → Type 0
 HasInputCause side told before after refusals.Words = ⊥
 HasInputCause side told before after (refusals.Input fault) = IfSome told (λ bytes. HasInputFault side bytes fault)
+HasInputCause side told before after (refusals.ReportLine n) = ⊥
+HasInputCause side told before after refusals.ReportLong = ⊥
 HasInputCause side told before after refusals.Memory = ⊤
 HasInputCause side told before after refusals.ReadFault = HasRisen before after
 HasInputCause side told before after refusals.WriteFault = ⊥

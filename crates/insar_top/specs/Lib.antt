@@ -5,3 +5,5 @@ pub mod Outcomes
 pub mod Refusals
 pub mod Lines
 pub mod Same
+pub mod VerdictLines
+pub mod Checks

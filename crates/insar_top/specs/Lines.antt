@@ -42,6 +42,8 @@ fault_text (faults.EditLimit n) = labelled (codes "16 edits line ") n
 abbrev pub line_of : Refusal → List ℕ
 line_of refusals.Words = codes "words refused\n"
 line_of (refusals.Input fault) = codes "input fault " ++ fault_text fault ++ 10 ∷ []
+line_of (refusals.ReportLine n) = labelled (codes "report fault line ") n ++ 10 ∷ []
+line_of refusals.ReportLong = codes "report fault long\n"
 line_of refusals.Memory = codes "no memory\n"
 line_of refusals.ReadFault = codes "read fault\n"
 line_of refusals.WriteFault = codes "write fault\n"

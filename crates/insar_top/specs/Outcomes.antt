@@ -8,6 +8,7 @@ use Rattle.insar_top.specs.Answers.{IsAnswer}
 use Rattle.insar_top.specs.Causes.{HasInputFault}
 use Rattle.insar_top.specs.Words.{IsCommand, IsNoCommand}
 use Rattle.raster_model.specs.declared.weights.RuleKind.{RuleKind}
+use Rattle.report_text.specs.Contents.{IsReport}
 use Rattle.insar_top.specs.Refusals.{status_of}
 use Rattle.insar_top.specs.Lines.{line_of}
 
@@ -23,9 +24,9 @@ pub record Run : Type 0 where
   pub sink_before : ℕ
   pub sink_after : ℕ
 
--- where the bytes are told, they are a session, nothing of it is left, and the sink gained exactly the text of its report
+-- where the bytes are told, they are a session, nothing of it is left, and the sink gained exactly the text of its report, in which each number is in its range
 abbrev pub IsDone : RuleKind → ℕ → Run → Type 0
-IsDone rule side r = IfSome r.told (λ bytes. (text : List ℕ) × (IsAnswer rule side bytes text × ((r.left ≡ Some []) × (r.held_now ≡ with_end r.held text))))
+IsDone rule side r = IfSome r.told (λ bytes. (text : List ℕ) × ((answer : IsAnswer rule side bytes text) × (IsReport answer.report × ((r.left ≡ Some []) × (r.held_now ≡ with_end r.held text)))))
 
 -- where the bytes are told, they are a session, and the sink gained a part of the text of its report and not the whole
 abbrev pub IsCut : RuleKind → ℕ → Run → Type 0
@@ -49,6 +50,8 @@ ByCommand words P = (rule : RuleKind) × (side : ℕ) × IsCommand words rule si
 abbrev pub HasRunCause : RuleKind → ℕ → Run → Refusal → Type 0
 HasRunCause rule side r refusals.Words = ⊥
 HasRunCause rule side r (refusals.Input fault) = IfSome r.told (λ bytes. HasInputFault side bytes fault) × (r.held_now ≡ r.held)
+HasRunCause rule side r (refusals.ReportLine n) = ⊥
+HasRunCause rule side r refusals.ReportLong = ⊥
 HasRunCause rule side r refusals.Memory = r.held_now ≡ r.held
 HasRunCause rule side r refusals.ReadFault = SourceFailed r × (r.held_now ≡ r.held)
 HasRunCause rule side r refusals.WriteFault = SinkFailed r × IsCut rule side r
@@ -57,6 +60,8 @@ HasRunCause rule side r refusals.WriteFault = SinkFailed r × IsCut rule side r
 abbrev pub HasCause : List (Bor (List ℕ)) → Run → Refusal → Type 0
 HasCause words r refusals.Words = IsNoCommand words × ((r.held_now ≡ r.held) × IsUnread r)
 HasCause words r (refusals.Input fault) = ByCommand words (λ rule side. HasRunCause rule side r (refusals.Input fault))
+HasCause words r (refusals.ReportLine n) = ⊥
+HasCause words r refusals.ReportLong = ⊥
 HasCause words r refusals.Memory = ByCommand words (λ rule side. HasRunCause rule side r refusals.Memory)
 HasCause words r refusals.ReadFault = ByCommand words (λ rule side. HasRunCause rule side r refusals.ReadFault)
 HasCause words r refusals.WriteFault = ByCommand words (λ rule side. HasRunCause rule side r refusals.WriteFault)
@@ -65,9 +70,9 @@ HasCause words r refusals.WriteFault = ByCommand words (λ rule side. HasRunCaus
 abbrev pub IsStatus : ℕ → Type 0
 IsStatus status = (status ≡ 0) ⊎ ((2 ≤ status) × (status ≤ 6))
 
--- the line that goes with a status: none, or that of a refusal that has it
+-- the line that goes with a status: none with 0 and 1, or that of a refusal that has it
 abbrev pub IsLineAt : ℕ → List ℕ → Type 0
-IsLineAt status line = ((status ≡ 0) × (line ≡ [])) ⊎ ((refusal : Refusal) × ((status ≡ status_of refusal) × (line ≡ line_of refusal)))
+IsLineAt status line = ((status ≤ 1) × (line ≡ [])) ⊎ ((refusal : Refusal) × ((status ≡ status_of refusal) × (line ≡ line_of refusal)))
 
 -- a run over a source that was `source` and is `source_now`, and a sink
 abbrev pub run_of : {S K : Type 0} → (S → Option (List ℕ)) → (S → ℕ) → S → S → (K → Option (List ℕ)) → (K → ℕ) → K → K → Run

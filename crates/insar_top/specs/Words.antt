@@ -81,6 +81,31 @@ IsNoCommand words = (rule : RuleKind) (side : ℕ) → IsCommand words rule side
 abbrev pub OneCommand : Type 0
 OneCommand = (words : List (Bor (List ℕ))) (rule other : RuleKind) (side another : ℕ) → IsCommand words rule side → IsCommand words other another → (rule ≡ other) × (side ≡ another)
 
+-- the first word is `check`
+abbrev pub AsksCheck : List (Bor (List ℕ)) → Type 0
+AsksCheck words = (options : List (List ℕ)) × (map (λ w. w.now) words ≡ codes "check" ∷ options)
+
+-- the words are `check` and then options, none of which tells the workers
+pub record IsCheck (words : List (Bor (List ℕ))) (rule : RuleKind) (side : ℕ) : Type 0 where
+  pub options : List (List ℕ)
+  pub told : Told
+  pub spelled : map (λ w. w.now) words ≡ codes "check" ∷ options
+  pub tells : Tells options nothing told
+  pub no_workers : told.workers ≡ None
+  pub rule_is : rule ≡ unwrap_or told.rule Least
+  pub side_is : side ≡ unwrap_or told.side 64
+
+-- they are no such words
+abbrev pub IsNoCheck : List (Bor (List ℕ)) → Type 0
+IsNoCheck words = (rule : RuleKind) (side : ℕ) → IsCheck words rule side → ⊥
+
+-- words are one check at most, and not a command too
+abbrev pub OneCheck : Type 0
+OneCheck = (words : List (Bor (List ℕ))) (rule other : RuleKind) (side another : ℕ) → IsCheck words rule side → IsCheck words other another → (rule ≡ other) × (side ≡ another)
+
+abbrev pub NoCommandIsACheck : Type 0
+NoCommandIsACheck = (words : List (Bor (List ℕ))) (rule other : RuleKind) (side another : ℕ) → IsCommand words rule side → IsCheck words other another → ⊥
+
 -- the numbers that are told are in their ranges
 pub record IsInRange (told : Told) : Type 0 where
   pub side : IfSome told.side IsSide

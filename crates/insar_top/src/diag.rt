@@ -108,6 +108,15 @@ fn put_input_line<D: Sink>(diag: &mut D, fault: InputFault) -> Result<(), WriteF
     put_all(diag, b"\n")
 }
 
+fn put_report_line<D: Sink>(diag: &mut D, number: u64) -> Result<(), WriteFault>
+    ensures put { OnOk result (D.held diag.new ≡ with_end (D.held diag.old) (line_of (refusals.ReportLine number))) }
+    ensures fault { OnErr result (HasRisen (D.faults diag.old) (D.faults diag.new)) }
+    ensures grows { D.faults diag.old ≤ D.faults diag.new }
+{
+    put_number(diag, b"report fault line ", number)?;
+    put_all(diag, b"\n")
+}
+
 /// Puts the line that tells a refusal.
 pub fn put_line<D: Sink>(diag: &mut D, refusal: Refusal) -> Result<(), WriteFault>
     ensures put { OnOk result (D.held diag.new ≡ with_end (D.held diag.old) (line_of refusal)) }
@@ -117,6 +126,8 @@ pub fn put_line<D: Sink>(diag: &mut D, refusal: Refusal) -> Result<(), WriteFaul
     match refusal {
         Refusal::Words => put_all(diag, b"words refused\n"),
         Refusal::Input(fault) => put_input_line(diag, fault),
+        Refusal::ReportLine(number) => put_report_line(diag, number),
+        Refusal::ReportLong => put_all(diag, b"report fault long\n"),
         Refusal::Memory => put_all(diag, b"no memory\n"),
         Refusal::ReadFault => put_all(diag, b"read fault\n"),
         Refusal::WriteFault => put_all(diag, b"write fault\n"),

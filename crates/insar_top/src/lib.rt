@@ -2,12 +2,14 @@
 #![tactic(auto)]
 
 mod board;
+mod check;
 mod diag;
 pub mod laws;
 mod refusal;
 mod same;
 mod session;
 mod top;
+mod verdict;
 mod words;
 
 pub use top::insar;

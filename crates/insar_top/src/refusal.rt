@@ -1,9 +1,10 @@
 ghost use Rattle.std.specs.Prelude.{◌≡◌};
 ghost use Rattle.insar_top.specs.declared.refusal.Refusal.TheVariants as refusals;
-ghost use Rattle.insar_top.specs.Refusals.{refusal_of, status_of};
+ghost use Rattle.insar_top.specs.Refusals.{refusal_of, refusal_of_report, status_of};
 
 use insar_ports::WriteFault;
 use pgm_planes::InputFault;
+use report_text::ReportFault;
 use session_script::SessionFault;
 use std::alloc::AllocError;
 
@@ -14,6 +15,10 @@ pub enum Refusal {
     Words,
     /// The input breaks its form or a limit.
     Input(InputFault),
+    /// The line of a report with this number, from 1, breaks its form, is cut or is missing.
+    ReportLine(u64),
+    /// A report has more bytes than one may have.
+    ReportLong,
     /// There was no memory.
     Memory,
     /// The source failed and counted a fault.
@@ -29,7 +34,7 @@ impl Refusal {
     {
         match self {
             Refusal::Words => 2,
-            Refusal::Input(_) => 3,
+            Refusal::Input(_) | Refusal::ReportLine(_) | Refusal::ReportLong => 3,
             Refusal::Memory => 4,
             Refusal::ReadFault => 5,
             Refusal::WriteFault => 6,
@@ -61,6 +66,19 @@ impl From<SessionFault> for Refusal {
             SessionFault::Input(fault) => Refusal::Input(fault),
             SessionFault::ReadFault => Refusal::ReadFault,
             SessionFault::Memory => Refusal::Memory,
+        }
+    }
+}
+
+impl From<ReportFault> for Refusal {
+    ghost from_gives = { λ fault e. e ≡ refusal_of_report fault };
+
+    fn from(fault: ReportFault) -> Refusal {
+        match fault {
+            ReportFault::Line(number) => Refusal::ReportLine(number),
+            ReportFault::TooLong => Refusal::ReportLong,
+            ReportFault::ReadFault => Refusal::ReadFault,
+            ReportFault::Memory => Refusal::Memory,
         }
     }
 }

@@ -1,8 +1,8 @@
-ghost use Rattle.insar_top.specs.Words.{IsCommand, IsCommandOf, IsInRange, IsNoCommand, IsSide, IsWorkers, Tells, TellsOne, TellsRule, TellsSide, TellsWorkers, rule_word};
+ghost use Rattle.insar_top.specs.Words.{AsksCheck, IsCheck, IsCommand, IsCommandOf, IsInRange, IsNoCheck, IsNoCommand, IsSide, IsWorkers, Tells, TellsOne, TellsRule, TellsSide, TellsWorkers, rule_word};
 ghost use Rattle.insar_top.specs.declared.words.Told.{Told as Telling};
 ghost use Rattle.raster_model.specs.declared.weights.RuleKind.{RuleKind as Kind};
 ghost use Rattle.raster_model.specs.declared.weights.RuleKind.TheVariants.{Least};
-ghost use Rattle.std.specs.Prelude.{◌≡◌, ◌≤◌, ◌<◌, ◌↔◌, ℕ, IfNone, IfSome, IsTrue, decimal, map, unwrap_or};
+ghost use Rattle.std.specs.Prelude.{◌≡◌, ◌≢◌, ◌≤◌, ◌<◌, ◌↔◌, ℕ, IfNone, IfSome, OnSome, IsTrue, None, true, false, decimal, map, unwrap_or};
 
 use itoa::Buffer;
 use raster_model::RuleKind;
@@ -54,6 +54,50 @@ pub fn read_command(words: &[&str]) -> Option<Settings>
             Some(settings_told(with_options(nothing, options)?))
         }
         _ => None,
+    }
+}
+
+/// What the options set, where the words are `check`, and then `--rule` with a rule and `--tile` with a side, each at most
+/// once and in any order.
+pub fn read_check(words: &[&str]) -> Option<Settings>
+    ensures found { IfSome result (λ settings. IsCheck words.now settings.rule settings.side) }
+    ensures none { IfNone result (IsNoCheck words.now) }
+{
+    match words {
+        ["check", options @ ..] => {
+            let nothing = Told {
+                rule: None,
+                side: None,
+                workers: None,
+            };
+            check_told(with_options(nothing, options)?)
+        }
+        _ => None,
+    }
+}
+
+/// The settings that are told for a check, which has no workers.
+fn check_told(told: Told) -> Option<Settings>
+    requires { IsInRange told }
+    ensures none { IfNone result (told.workers ≢ None) }
+    ensures workers { OnSome result (told.workers ≡ None) }
+    ensures rule { IfSome result (λ settings. settings.rule ≡ unwrap_or told.rule Least) }
+    ensures side { IfSome result (λ settings. settings.side ≡ unwrap_or told.side 64) }
+{
+    match told.workers {
+        None => Some(settings_told(told)),
+        Some(_) => None,
+    }
+}
+
+/// Whether the first word is `check`.
+pub fn asks_check(words: &[&str]) -> bool
+    ensures asks { result ≡ true → AsksCheck words.now }
+    ensures other { result ≡ false → AsksCheck words.now → ⊥ }
+{
+    match words {
+        ["check", ..] => true,
+        _ => false,
     }
 }
 

@@ -1,4 +1,4 @@
-mod AppendLemmas
+pub mod AppendLemmas
 mod ItemLemmas
 pub mod FieldLemmas
 pub mod EntryLemmas

@@ -2,7 +2,7 @@ use crate::running::{NOTHING, lines_of, run};
 use std::sync::atomic::{AtomicBool, AtomicU64, Ordering};
 use std::test::Fail;
 use std::thread;
-use tile_workers::Gate;
+use tile_workers::{Gate, OpenGate};
 
 /// The most turns in which a worker waits at a gate for another.
 const TURNS: u32 = 1_000_000;
@@ -79,14 +79,14 @@ impl Gate for Second {
 }
 
 /// While the only worker of one analyst is held, the other analyst goes on. In any order of the two the report has both
-/// edits, a publication or a find of one for each settle command, and both looks.
+/// edits, a publication or a find of one for each settle command, and both looks; and the check accepts it.
 #[test]
 fn analysts_run_at_once(rt: HostRuntime) -> Result<(), Fail> {
     let gate = Second {
         entries: AtomicU64::new(0),
         missed: AtomicBool::new(false),
     };
-    let bytes = b"P2 4 1 65535 0 40000 14464 54464
+    let session = "P2 4 1 65535 0 40000 14464 54464
 analyst
 mask 3 0 3 0
 settle
@@ -100,7 +100,7 @@ end
     let done = run(
         &rt,
         "unwrap --tile 2 --workers 1",
-        bytes,
+        session.as_bytes(),
         9,
         &NOTHING,
         &gate,
@@ -116,5 +116,15 @@ end
     );
     let row = "-9223372036854775808 40000 14464 -9223372036854775808";
     assert!(rt; lines_of(&done.text, row) > 0);
+    let both = format!(in rt.alloc(); "{session}{}", done.text)?;
+    let checked = run(
+        &rt,
+        "check --tile 2",
+        both.as_bytes(),
+        9,
+        &NOTHING,
+        &OpenGate,
+    )?;
+    assert!(rt; checked.status == 0 && checked.text.as_str() == "accepted\n");
     Ok(())
 }

@@ -6,10 +6,10 @@ use std::test::Fail;
 use std::thread::Threads;
 use tile_workers::OpenGate;
 
-/// A row has four fields: words, bytes, status, and what is written, which is the report at status 0 and else the line to
-/// `diag`. In a field `;` is LF, `.` is the byte 0, `~` is the NODATA value, `%` stands for the four lines of a grid between
-/// its size and its rows, and `!` for the head of a report up to its size. In a report `*` is any text, and `/` parts two
-/// reports of which either may come. All values were computed by hand.
+/// A row has four fields: words, bytes, status, and what is written, which is the report or the verdict at status 0 and 1
+/// and else the line to `diag`. In a field `;` is LF, `.` is the byte 0, `~` is the NODATA value, `%` stands for the four
+/// lines of a grid between its size and its rows, and `!` for the head of a report up to its size. In a report `*` is any
+/// text, and `/` parts two reports of which either may come. All values were computed by hand.
 const ROWS: &str = "\
 -- Lines, which have no cell: a commented header, a wrap, the exact half cycle, one pixel.
 unwrap|P5;# by hand;2 1;65535;....|0|!2 1;tile 64;rule least;kept 0 0;published 1 0;costs 0 0;ncols 2;nrows 1;%0 0;faces 0;flows;shown 1 0;end;
@@ -61,6 +61,33 @@ unwrap|P2 4 1 65535 0 20000 40000 60000;analyst;unmask 2 0 1 0;|3|input fault 10
 unwrap|P2 1 1 65535 0;analyst;analyst;analyst;analyst;analyst;analyst;analyst;analyst;analyst;|3|input fault 11 analysts line 9;
 unwrap|P2 4 1 65535 0 20000 40000 60000;analyst;settle;|3|input fault 14 no end;
 unwrap|P5;2 1;65535;....end;x|3|input fault 15 after end byte 21;
+-- A session and its report are judged; in each of the others one thing is changed.
+check|P2 2 2 65535 0 16384 49152 32768;analyst;mask 0 0 0 0;settle;show;end;!2 2;tile 64;rule least;revised 1 mask 0 0 0 0;kept 0 1;published 1 1;costs 0 0;ncols 2;nrows 2;%~ 16384;49152 32768;faces 0 0;flows;shown 1 1;end;|0|accepted;
+check|P2 2 2 65535 0 16384 49152 32768;analyst;mask 0 0 0 0;settle;show;end;!2 2;tile 64;rule least;revised 1 mask 0 0 0 0;kept 0 1;published 1 1;costs 0 0;ncols 2;nrows 2;%~ 16384;49152 32768;faces 0 1;flows;shown 1 1;end;|1|refused surface 1 tile 0 face right 0 0;
+check|P2 2 2 65535 0 16384 49152 32768;analyst;mask 0 0 0 0;settle;show;end;!2 2;tile 64;rule least;revised 1 mask 0 0 0 0;published 1 1;costs 0 0;ncols 2;nrows 2;%~ 16384;49152 32768;faces 0 0;flows;shown 1 1;end;|1|refused history 2;
+check|P2 2 2 65535 0 16384 49152 32768;analyst;mask 0 0 0 0;settle;show;end;!2 2;tile 64;rule least;revised 1 mask 0 0 0 0;kept 0 1;published 1 1;costs 0 0;ncols 2;nrows 2;%~ 16385;49152 32768;faces 0 0;flows;shown 1 1;end;|1|refused surface 1 value 1 0;
+check|P2 2 2 65535 0 16384 49152 32768;analyst;mask 0 0 0 0;settle;show;end;!2 2;tile 64;rule least;revised 1 mask 0 0 0 0;kept 0 1;published 1 1;costs 1 0;ncols 2;nrows 2;%~ 16384;49152 32768;faces 0 0;flows;shown 1 1;end;|1|refused surface 1 tilecost 1 0;
+check|P2 2 2 65535 0 16384 49152 32768;analyst;mask 0 0 0 0;settle;show;end;!2 2;tile 64;rule least;revised 1 mask 0 0 0 0;kept 0 1;published 1 1;costs 0 0;ncols 2;nrows 2;%~ 16384;49152 32768;faces 0 0;flows;shown 1 1;|3|report fault line 20;
+check --tile 3|P2 4 3 65535 0 0 0 0 0 0 0 20000 0 0 0 40000 P2 4 3 9 4 4 4 4 4 4 4 4 9 9 9 9;end;!4 3;tile 3;rule mean;kept 0 0;kept 1 0;published 1 0;costs 0 8;ncols 4;nrows 3;%0 0 0 -65536;0 0 0 -45536;0 0 0 -25536;faces 0 0 0 0 0;faces 1;flows -4 -4 8;shown 1 0;end;|1|refused header 4;
+check --tile 3|P2 4 3 65535 0 0 0 0 0 0 0 20000 0 0 0 40000 P2 4 3 9 4 4 4 4 4 4 4 4 9 9 9 9;end;!4 3;tile 4;rule least;kept 0 0;kept 1 0;published 1 0;costs 0 8;ncols 4;nrows 3;%0 0 0 -65536;0 0 0 -45536;0 0 0 -25536;faces 0 0 0 0 0;faces 1;flows -4 -4 8;shown 1 0;end;|3|report fault line 19;
+check --tile 3|P2 4 3 65535 0 0 0 0 0 0 0 20000 0 0 0 40000 P2 4 3 9 4 4 4 4 4 4 4 4 9 9 9 9;end;!4 3;tile 3;rule least;kept 0 0;kept 0 0;kept 1 0;published 1 0;costs 0 8;ncols 4;nrows 3;%0 0 0 -65536;0 0 0 -45536;0 0 0 -25536;faces 0 0 0 0 0;faces 1;flows -4 -4 8;shown 1 0;end;|1|refused history 2;
+check --tile 3|P2 4 3 65535 0 0 0 0 0 0 0 20000 0 0 0 40000 P2 4 3 9 4 4 4 4 4 4 4 4 9 9 9 9;end;!4 3;tile 3;rule least;kept 0 0;kept 1 0;published 1 0;costs 0 8;ncols 4;nrows 3;%0 0 0 -65536;0 0 0 -45536;0 0 0 -25536;faces 0 0 0 0 0;faces 1;flows -4 -4 8;shown 1 none;end;|1|refused history 4;
+check --tile 3|P2 4 3 65535 0 0 0 0 0 0 0 20000 0 0 0 40000 P2 4 3 9 4 4 4 4 4 4 4 4 9 9 9 9;end;!4 3;tile 3;rule least;kept 0 0;kept 1 0;published 1 0;costs 0 8;ncols 4;nrows 3;%0 0 0 -65536;0 0 0 -45536;0 0 0 -25536;faces 0 0 0 0 0;faces 1;flows -4 -4 8;end;|1|refused history 4;
+check --tile 3|P2 4 3 65535 0 0 0 0 0 0 0 20000 0 0 0 40000 P2 4 3 9 4 4 4 4 4 4 4 4 9 9 9 9;end;!4 3;tile 3;rule least;kept 0 0;kept 1 0;published 1 0;costs 0 8;ncols 4;nrows 3;%0 0 0 -65536;0 0 0 -45536;0 0 0 -25536;faces 0 0 0 0 0;faces 1;flows -4 -4;shown 1 0;end;|1|refused surface 0 seams shape;
+check --tile 3|P2 4 3 65535 0 0 0 0 0 0 0 20000 0 0 0 40000 P2 4 3 9 4 4 4 4 4 4 4 4 9 9 9 9;end;!4 3;tile 3;rule least;kept 0 0;kept 1 0;published 1 0;costs 0 8;ncols 4;nrows 3;%0 0 0 -65536;0 0 0 -45536;0 0 0 -25536;faces 0 0 0 0 0;faces 1;flows -5 -3 8;shown 1 0;end;|1|refused surface 0 seams flow right 2 0;
+check --tile 3|P2 4 3 65535 0 0 0 0 0 0 0 20000 0 0 0 40000 P2 4 3 9 4 4 4 4 4 4 4 4 9 9 9 9;end;!4 3;tile 3;rule least;kept 0 0;kept 1 0;published 1 0;costs 0 8;ncols 4;nrows 3;%0 0 0 -65536;0 0 0 -45536;0 0 0 -25536;faces 0 0 0 0 0;faces 1;flows -4 -4 9;shown 1 0;end;|1|refused surface 0 seams unbalanced 0;
+check --tile 3|P2 4 3 65535 0 0 0 0 0 0 0 20000 0 0 0 40000 P2 4 3 9 4 4 4 4 4 4 4 4 9 9 9 9;end;!4 3;tile 3;rule least;kept 0 0;kept 1 0;published 1 0;costs 0 8;ncols 4;nrows 3;%0 0 0 -65536;0 0 0 -45536;0 0 0 -25536;faces 0 0 0 0 0;faces 1;flows 0 0 0;shown 1 0;end;|1|refused surface 0 seams cost 8 bound 0;
+check --tile 3|P2 4 3 65535 0 0 0 0 0 0 0 20000 0 0 0 40000 P2 4 3 9 4 4 4 4 4 4 4 4 9 9 9 9;end;!4 3;tile 3;rule least;kept 0 0;kept 1 0;published 1 0;costs 0 8;ncols 4;nrows 3;%0 0 0 0;0 0 0 20000;0 0 0 40000;faces 0 0 0 0 0;faces 1;flows -4 -4 8;shown 1 0;end;|1|refused surface 0 seams cost 9 bound 8;
+check --tile 3|P2 4 3 65535 0 0 0 0 0 0 0 20000 0 0 0 40000 P2 4 3 9 4 4 4 4 4 4 4 4 9 9 9 9;end;!4 3;tile 3;rule least;kept 0 0;kept 1 0;published 1 0;costs 0 8;ncols 4;nrows 3;%65536 65536 65536 0;65536 65536 65536 20000;65536 65536 65536 40000;faces 0 0 0 0 0;faces 1;flows -4 -4 8;shown 1 0;end;|1|refused surface 0 seams anchor 1;
+check --tile 3|P2 4 3 65535 0 0 0 0 0 0 0 20000 0 0 0 40000 P2 4 3 9 4 4 4 4 4 4 4 4 9 9 9 9;end;!4 3;tile 3;rule least;kept 0 0;kept 1 0;published 1 0;costs 0 7;ncols 4;nrows 3;%0 0 0 -65536;0 0 0 -45536;0 0 0 -25536;faces 0 0 0 0 0;faces 1;flows -4 -4 8;shown 1 0;end;|1|refused surface 0 seamcost 7 8;
+check --tile 3|P2 4 3 65535 0 0 0 0 0 0 0 20000 0 0 0 40000 P2 4 3 9 4 4 4 4 4 4 4 4 9 9 9 9;end;!4 3;tile 3;rule least;kept 0 0;kept 1 0;published 1 0;costs 0 8;ncols 4;nrows 3;%9223372036854775808 0 0 -65536;0 0 0 -45536;0 0 0 -25536;faces 0 0 0 0 0;faces 1;flows -4 -4 8;shown 1 0;end;|3|report fault line 15;
+check --rule mean --tile 3|P2 4 3 65535 0 0 0 0 0 0 0 20000 0 0 0 40000 P2 4 3 9 4 4 4 4 4 4 4 4 9 9 9 9;end;!4 3;tile 3;rule least;kept 0 0;kept 1 0;published 1 0;costs 0 8;ncols 4;nrows 3;%0 0 0 -65536;0 0 0 -45536;0 0 0 -25536;faces 0 0 0 0 0;faces 1;flows -4 -4 8;shown 1 0;end;|1|refused header 4;
+check --tile 2|P2 4 3 65535 0 0 0 0 0 0 0 20000 0 0 0 40000 P2 4 3 9 4 4 4 4 4 4 4 4 9 9 9 9;end;!4 3;tile 3;rule least;kept 0 0;kept 1 0;published 1 0;costs 0 8;ncols 4;nrows 3;%0 0 0 -65536;0 0 0 -45536;0 0 0 -25536;faces 0 0 0 0 0;faces 1;flows -4 -4 8;shown 1 0;end;|1|refused header 3;
+check|P2 4 1 65535 0 20000 40000 60000;analyst;settle;|3|input fault 14 no end;
+check --workers 2||2|words refused;
+check --tile 129||2|words refused;
+check check||2|words refused;
+chec||2|words refused;
 -- Words that are no command, judged before the source.
 ||2|words refused;
 grid||2|words refused;
@@ -140,7 +167,7 @@ fn judge<R: Alloc<A = Global> + Threads + Wait + Sync + Abort>(
     let done = run(rt, words, bytes.as_bytes(), 7, &NOTHING, &OpenGate)?;
     assert!(rt; done.status == status.parse::<u8>()?, "{row}");
     let written = spelled(rt.alloc(), written)?;
-    let good = if done.status == 0 {
+    let good = if done.status < 2 {
         done.line.is_empty() && is_one_of(&done.text, &written)
     } else {
         done.text.is_empty() && done.line.as_str() == written.as_str()
@@ -155,7 +182,7 @@ fn rows_are_answered(rt: HostRuntime) -> Result<(), Fail> {
     for row in ROWS.lines() {
         count = count.saturating_add(judge(&rt, row)?);
     }
-    assert!(rt; count == 57);
+    assert!(rt; count == 83);
     Ok(())
 }
 

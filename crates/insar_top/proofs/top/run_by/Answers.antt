@@ -10,7 +10,7 @@ pub returns-clause-done : goal.returns-clause-done
 returns-clause-done g c =
     let b = c.in_ok-board.board in
     is_done c.args.settings.rule c.args.settings.side (run_of g.S.Source.left g.S.Source.faults c.args.source.now c.read_alone.new.source g.K.Sink.held g.K.Sink.faults c.args.sink.now c.write_report.new.sink) b.session (report_of b.session b.entries b.surfaces) (read_again _ _ _ _ _ _ c.in_ok-board.ensures.session c.in_ok-session.ensures.read)
-    (is_report b b.session refl (c.write_report.ensures.certified c.in_ok-board.ensures.complete)) c.in_ok-write_report.ensures.written
+    (is_report b b.session refl (c.write_report.ensures.certified c.in_ok-board.ensures.complete)) c.in_ok-write_report.ensures.ranges c.in_ok-write_report.ensures.written
 
 pub returns-in_err-session-clause-refused : goal.returns-in_err-session-clause-refused
 returns-in_err-session-clause-refused g c =

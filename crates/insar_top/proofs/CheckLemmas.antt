@@ -1,0 +1,133 @@
+-- A session and then a report: what was read of them, and why they were not.
+use Rattle.std.proofs.Common.{◌≡◌, ℕ, ◌+◌, ◌≤◌, ◌<◌, List, [], ◌∷◌, ◌++◌, length, take, Option, Some, None, inl, inr, ◌⊎◌, sym, ap, subst, ◌∙◌, arith}
+use Rattle.std.specs.Prelude.{IfSome}
+use Rattle.std.proofs.lemmas.List.{append-nil, length-append, take_all, take-append-le}
+use Rattle.insar_ports.specs.Bytes.{HasMore, with_front, with_end, GainsProperPrefix}
+use Rattle.insar_ports.specs.Calls.{Takes}
+use Rattle.insar_ports.proofs.CallLemmas.{call, risen_before}
+use Rattle.raster_model.specs.declared.session.Session.{Session}
+use Rattle.raster_model.specs.declared.weights.RuleKind.{RuleKind}
+use Rattle.session_script.specs.declared.session_use.SessionUse.TheVariants.{BeforeReport}
+use Rattle.session_script.specs.declared.fault.SessionFault.{SessionFault}
+use Rattle.session_script.specs.declared.fault.SessionFault.TheVariants as session_faults
+use Rattle.session_script.specs.Causes.{HasCause}
+use Rattle.session_script.specs.Reaching.{Reaches}
+use Rattle.session_script.specs.Sessions.{IsSessionIn, session_of}
+use Rattle.grid_writer.specs.Forms.{Begins, EndsIn}
+use Rattle.report_text.specs.declared.contents.Report.{Report}
+use Rattle.report_text.specs.declared.fault.ReportFault.{ReportFault}
+use Rattle.report_text.specs.declared.fault.ReportFault.TheVariants as report_faults
+use Rattle.report_text.specs.Contents.{IsReport, IsReportText, report_told}
+use Rattle.report_text.specs.Reading.{BreaksReportAt, EndsReportIn, HasBrokenReportLine, HasReportCause}
+use Rattle.report_text.specs.Text.{report_text}
+use Rattle.report_check.specs.declared.verdict.CheckVerdict.{CheckVerdict}
+use Rattle.report_check.specs.Verdicts.{IsVerdict}
+use Rattle.insar_top.specs.Checks.{AnswersAreAccepted, AreRead, HasCheckCause, HasReadCause, IsBoth, IsChecked, IsCheckCut, IsJudged, IsReportTooLong, most_of_report}
+use Rattle.insar_top.specs.Outcomes.{Run}
+use Rattle.insar_top.specs.Refusals.{refusal_of, refusal_of_report}
+use Rattle.insar_top.specs.VerdictLines.{verdict_line}
+use Rattle.insar_top.specs.declared.refusal.Refusal.{Refusal}
+use Rattle.insar_top.specs.declared.refusal.Refusal.TheVariants as refusals
+
+-- ---- the session was not read
+
+pub session_cause : (side : ℕ) (told : Option (List ℕ)) (at : ℕ) (left : Option (List ℕ)) (end limit before after : ℕ) (fault : SessionFault) → HasCause BeforeReport side (call told at left end limit before after) fault → HasReadCause side told before after (refusal_of fault)
+session_cause side told at left end limit before after (session_faults.Input fault) h = h
+session_cause side told at left end limit before after session_faults.ReadFault h = h
+session_cause side told at left end limit before after session_faults.Memory h = tt
+
+-- ---- the session was read, and then the report
+
+nothing_left : (pending : List ℕ) (left : Option (List ℕ)) → with_front pending left ≡ Some [] → left ≡ Some []
+nothing_left pending None e = absurd cc
+nothing_left [] (Some rest) e = e
+nothing_left (b ∷ pending) (Some rest) e = absurd cc
+
+-- what the first call left is what the second was told
+at_mid : (mid : Option (List ℕ)) (rest : List ℕ) (P : List ℕ → Type 0) → mid ≡ Some rest → IfSome mid P → P rest
+at_mid mid rest P e h = subst (λ (o : Option (List ℕ)). IfSome o P) e h
+
+module _ (rule : RuleKind) (side : ℕ) (s : Session) (scene : (s.scene.rule ≡ rule) × (s.scene.tiling.side ≡ side)) where
+  abbrev Spelled : List ℕ → List ℕ → Type 0
+  Spelled bytes rest = IsSessionIn BeforeReport side bytes (session_of s) rest
+
+  pub both_read : (told mid again left : Option (List ℕ)) (at passed from end limit limit_2 before middle middle_2 after : ℕ) (pending : List ℕ) (source : Option (List ℕ)) (report : Report) → left ≡ with_front pending source → IsReport (report_told report) → again ≡ mid → limit_2 ≡ from + most_of_report → end ≤ limit_2 → Reaches (call told at mid passed limit before middle) Spelled → Takes (call again from left end limit_2 middle_2 after) (λ text rest. (text ≡ report_text (report_told report)) × (rest ≡ [])) → AreRead rule side told source s report
+  both_read None mid again left at passed from end limit limit_2 before middle middle_2 after pending source report l i m r w h t = tt
+  both_read (Some bytes) mid again left at passed from end limit limit_2 before middle middle_2 after pending source report l i m r w h t =
+      let u = at_mid again h.0 (λ bytes. (text : List ℕ) × (rest : List ℕ) × ((bytes ≡ text ++ rest) × ((left ≡ Some rest) × ((end ≡ from + length text) × ((text ≡ report_text (report_told report)) × (rest ≡ [])))))) (m ∙ h.1.0) t in
+      let text : h.0 ≡ report_text (report_told report) = u.2.0 ∙ ap (λ (l : List ℕ). u.0 ++ l) u.2.1.1.1.1 ∙ append-nil u.0 ∙ u.2.1.1.1.0 in (
+        record { spelled = subst (λ (r : List ℕ). Spelled bytes r) text h.1.1.1; rule_is = scene.0; side_is = scene.1; in_range = i; within = subst (λ (t : List ℕ). length t ≤ most_of_report) u.2.1.1.1.0 (omega (arith, r, w, u.2.1.1.0)) },
+        nothing_left pending source (sym l ∙ u.2.1.0 ∙ ap Some u.2.1.1.1.1),
+      )
+
+-- ---- the report was not read
+
+-- with the room of a report
+module _ (rest : List ℕ) (left : Option (List ℕ)) (at end limit : ℕ) (room : limit ≡ at + most_of_report) (within : end ≤ limit) where
+  line_broken : (n : ℕ) (text more : List ℕ) → rest ≡ text ++ more → end ≡ at + length text → BreaksReportAt n text ⊎ (EndsReportIn n text × (more ≡ [])) → HasBrokenReportLine most_of_report n rest
+  line_broken n text more e p (inl b) = inl (text, more, (e, (omega (arith, room, within, p), b)))
+  line_broken n text more e p (inr b) =
+      let whole : text ≡ rest = sym (e ∙ ap (λ (l : List ℕ). text ++ l) b.1 ∙ append-nil text) in
+      inr (let size = ap length whole in omega (arith, room, within, p, size), subst (EndsReportIn n) whole b.0)
+
+  too_long : (text more : List ℕ) → rest ≡ text ++ more → left ≡ Some more → end ≡ at + length text → end ≡ limit → HasMore left → (n : ℕ) × EndsIn (Begins IsReportText) n text → IsReportTooLong rest
+  too_long text more e l p f m b =
+      let some : 0 < length more = subst HasMore l m in
+      let size = ap length e in
+      let whole : length text ≡ most_of_report = omega (arith, room, p, f) in
+      let cut : take most_of_report rest ≡ text = ap (take most_of_report) e ∙ take-append-le most_of_report text more (omega (arith, whole)) ∙ take_all most_of_report text (omega (arith, whole)) in
+      (omega (arith, size, whole, some, length-append text more), (b.0, subst (EndsIn (Begins IsReportText) b.0) (sym cut) b.1))
+
+module _ (side : ℕ) (s : Session) where
+  abbrev IsFirst : List ℕ → List ℕ → Type 0
+  IsFirst bytes rest = IsSessionIn BeforeReport side bytes (session_of s) rest
+
+  pub report_cause : (told mid again left : Option (List ℕ)) (at passed from end limit limit_2 before middle middle_2 after : ℕ) (fault : ReportFault) → limit_2 ≡ from + most_of_report → end ≤ limit_2 → before ≤ middle_2 → again ≡ mid → Reaches (call told at mid passed limit before middle) IsFirst → HasReportCause (call again from left end limit_2 middle_2 after) fault → HasReadCause side told before after (refusal_of_report fault)
+  report_cause None mid again left at passed from end limit limit_2 before middle middle_2 after (report_faults.Line n) r w g m h t = tt
+  report_cause (Some bytes) mid again left at passed from end limit limit_2 before middle middle_2 after (report_faults.Line n) r w g m h t =
+      let u = at_mid again h.0 (λ bytes. (text : List ℕ) × (rest : List ℕ) × ((bytes ≡ text ++ rest) × ((left ≡ Some rest) × ((end ≡ from + length text) × (BreaksReportAt n text ⊎ (EndsReportIn n text × (rest ≡ []))))))) (m ∙ h.1.0) t in
+      (session_of s, h.0, (h.1.1.1, line_broken h.0 left from end limit_2 r w n u.0 u.1 u.2.0 u.2.1.1.0 u.2.1.1.1))
+  report_cause None mid again left at passed from end limit limit_2 before middle middle_2 after report_faults.TooLong r w g m h t = tt
+  report_cause (Some bytes) mid again left at passed from end limit limit_2 before middle middle_2 after report_faults.TooLong r w g m h t =
+      let u = at_mid again h.0 (λ bytes. (text : List ℕ) × (rest : List ℕ) × ((bytes ≡ text ++ rest) × ((left ≡ Some rest) × ((end ≡ from + length text) × ((n : ℕ) × EndsIn (Begins IsReportText) n text))))) (m ∙ h.1.0) t.1.1 in
+      (session_of s, h.0, (h.1.1.1, too_long h.0 left from end limit_2 r w u.0 u.1 u.2.0 u.2.1.0 u.2.1.1.0 t.0 t.1.0 u.2.1.1.1))
+  report_cause told mid again left at passed from end limit limit_2 before middle middle_2 after report_faults.ReadFault r w g m h t = risen_before before middle_2 after g t
+  report_cause told mid again left at passed from end limit limit_2 before middle middle_2 after report_faults.Memory r w g m h t = tt
+
+-- ---- a check
+
+if_told : (o : Option (List ℕ)) (P Q : List ℕ → Type 0) → ((bytes : List ℕ) → P bytes → Q bytes) → IfSome o P → IfSome o Q
+if_told None P Q f h = tt
+if_told (Some bytes) P Q f h = f bytes h
+
+module _ (rule : RuleKind) (side : ℕ) (r : Run) (s : Session) (report : Report) (verdict : CheckVerdict) (read : AreRead rule side r.told r.left s report) (judged : IsVerdict s (report_told report) verdict) where
+  judged_so : (bytes : List ℕ) → IsBoth rule side bytes s report → IsJudged rule side bytes verdict
+  judged_so bytes b = record { session = s; report = report_told report; spelled = b.spelled; rule_is = b.rule_is; side_is = b.side_is; in_range = b.in_range; within = b.within; verdict_is = judged }
+
+  pub is_checked : r.held_now ≡ with_end r.held (verdict_line verdict) → IsChecked rule side r verdict
+  is_checked h = if_told r.told (λ bytes. IsBoth rule side bytes s report × (r.left ≡ Some [])) (λ bytes. IsJudged rule side bytes verdict × ((r.left ≡ Some []) × (r.held_now ≡ with_end r.held (verdict_line verdict)))) (λ bytes b. (judged_so bytes b.0, (b.1, h))) read
+
+  pub is_check_cut : GainsProperPrefix r.held (verdict_line verdict) r.held_now → IsCheckCut rule side r
+  is_check_cut h = if_told r.told (λ bytes. IsBoth rule side bytes s report × (r.left ≡ Some [])) (λ bytes. (verdict : CheckVerdict) × (IsJudged rule side bytes verdict × GainsProperPrefix r.held (verdict_line verdict) r.held_now)) (λ bytes b. (verdict, (judged_so bytes b.0, h))) read
+
+pub read_cause : (rule : RuleKind) (side : ℕ) (r : Run) (e : Refusal) → r.held_now ≡ r.held → HasReadCause side r.told r.source_before r.source_after e → HasCheckCause rule side r e
+read_cause rule side r refusals.Words same h = absurd h
+read_cause rule side r (refusals.Input fault) same h = (h, same)
+read_cause rule side r (refusals.ReportLine n) same h = (h, same)
+read_cause rule side r refusals.ReportLong same h = (h, same)
+read_cause rule side r refusals.Memory same h = same
+read_cause rule side r refusals.ReadFault same h = (h, same)
+read_cause rule side r refusals.WriteFault same h = absurd h
+
+pub answers_are_accepted : AnswersAreAccepted
+answers_are_accepted rule side bytes text both answer ranges short spelled =
+    record {
+      session = answer.session;
+      report = answer.report;
+      spelled = subst (λ (t : List ℕ). IsSessionIn BeforeReport side both (session_of answer.session) t) answer.written spelled;
+      rule_is = answer.given.rule_is;
+      side_is = answer.given.side_is;
+      in_range = ranges;
+      within = subst (λ (t : List ℕ). length t ≤ most_of_report) answer.written short;
+      verdict_is = answer.reported.certified;
+    }

@@ -1,0 +1,334 @@
+ghost use Rattle.grid_writer.specs.Waiting.{waiting_in};
+ghost use Rattle.insar_ports.specs.Bytes.{GainsProperPrefix, HasRisen, with_end};
+ghost use Rattle.insar_top.specs.VerdictLines.{direction, edge_text, field, seam_words, signed_field, surface_start, surface_text, tile_words, verdict_line, verdict_text};
+ghost use Rattle.report_text.specs.Appending.{Appends};
+ghost use Rattle.std.specs.Fmt.{signed_decimal};
+ghost use Rattle.std.specs.Prelude.{◌≡◌, ◌≤◌, ◌++◌, OnErr, OnOk, codes, decimal, length};
+
+use certificates::{SeamVerdict, TileVerdict};
+use grid_writer::TextBuffer;
+use insar_ports::{Sink, WriteFault};
+use itoa::Buffer;
+use raster_model::Edge;
+use report_check::CheckVerdict;
+
+/// Puts the line that tells a verdict. It takes no memory. After a fault the sink has a part of the line.
+pub fn put_verdict<K: Sink>(sink: &mut K, verdict: CheckVerdict) -> Result<(), WriteFault>
+    ensures written { OnOk result (K.held sink.new ≡ with_end (K.held sink.old) (verdict_line verdict)) }
+    ensures cut { OnErr result (GainsProperPrefix (K.held sink.old) (verdict_line verdict) (K.held sink.new)) }
+    ensures fault { OnErr result (HasRisen (K.faults sink.old) (K.faults sink.new)) }
+    ensures grows { K.faults sink.old ≤ K.faults sink.new }
+{
+    let mut text = TextBuffer::new();
+    append_line(&mut text, sink, verdict)?;
+    text.flush(sink)
+}
+
+fn append_line<K: Sink>(
+    text: &mut TextBuffer,
+    sink: &mut K,
+    verdict: CheckVerdict,
+) -> Result<(), WriteFault>
+    ensures { Appends (K.held sink.old) (waiting_in text.old) (K.faults sink.old) (K.held sink.new) (waiting_in text.new) (K.faults sink.new) (verdict_line verdict) result }
+{
+    append_verdict(text, sink, verdict)?;
+    append(text, sink, b"\n")
+}
+
+/// Adds what the line says, without its end.
+fn append_verdict<K: Sink>(
+    text: &mut TextBuffer,
+    sink: &mut K,
+    verdict: CheckVerdict,
+) -> Result<(), WriteFault>
+    ensures { Appends (K.held sink.old) (waiting_in text.old) (K.faults sink.old) (K.held sink.new) (waiting_in text.new) (K.faults sink.new) (verdict_text verdict) result }
+{
+    match verdict {
+        CheckVerdict::Accepted => append(text, sink, b"accepted"),
+        CheckVerdict::Header(line) => append_header(text, sink, line),
+        CheckVerdict::History(entry) => append_history(text, sink, entry),
+        CheckVerdict::Value { revision, x, y } => append_value(text, sink, revision, x, y),
+        CheckVerdict::Tile {
+            revision,
+            tile,
+            verdict,
+        } => append_tile(text, sink, revision, tile, verdict),
+        CheckVerdict::Seams { revision, verdict } => append_seams(text, sink, revision, verdict),
+        CheckVerdict::TileCost {
+            revision,
+            written,
+            counted,
+        } => append_costs(text, sink, revision, b" tilecost", written, counted),
+        CheckVerdict::SeamCost {
+            revision,
+            written,
+            counted,
+        } => append_costs(text, sink, revision, b" seamcost", written, counted),
+    }
+}
+
+fn append_header<K: Sink>(text: &mut TextBuffer, sink: &mut K, line: u32) -> Result<(), WriteFault>
+    ensures { Appends (K.held sink.old) (waiting_in text.old) (K.faults sink.old) (K.held sink.new) (waiting_in text.new) (K.faults sink.new) (codes "refused header" ++ field line) result }
+{
+    append_number(text, sink, b"refused header", u128::from(line))
+}
+
+fn append_history<K: Sink>(
+    text: &mut TextBuffer,
+    sink: &mut K,
+    entry: u64,
+) -> Result<(), WriteFault>
+    ensures { Appends (K.held sink.old) (waiting_in text.old) (K.faults sink.old) (K.held sink.new) (waiting_in text.new) (K.faults sink.new) (codes "refused history" ++ field entry) result }
+{
+    append_number(text, sink, b"refused history", u128::from(entry))
+}
+
+/// Adds that the surface of a revision is refused.
+fn append_start<K: Sink>(
+    text: &mut TextBuffer,
+    sink: &mut K,
+    revision: u32,
+) -> Result<(), WriteFault>
+    ensures { Appends (K.held sink.old) (waiting_in text.old) (K.faults sink.old) (K.held sink.new) (waiting_in text.new) (K.faults sink.new) (surface_start revision) result }
+{
+    append_number(text, sink, b"refused surface", u128::from(revision))
+}
+
+fn append_value<K: Sink>(
+    text: &mut TextBuffer,
+    sink: &mut K,
+    revision: u32,
+    x: u32,
+    y: u32,
+) -> Result<(), WriteFault>
+    ensures { Appends (K.held sink.old) (waiting_in text.old) (K.faults sink.old) (K.held sink.new) (waiting_in text.new) (K.faults sink.new) (surface_text revision (codes " value" ++ (field x ++ field y))) result }
+{
+    append_start(text, sink, revision)?;
+    append_pair(text, sink, b" value", u128::from(x), u128::from(y))
+}
+
+fn append_tile<K: Sink>(
+    text: &mut TextBuffer,
+    sink: &mut K,
+    revision: u32,
+    tile: u32,
+    verdict: TileVerdict,
+) -> Result<(), WriteFault>
+    ensures { Appends (K.held sink.old) (waiting_in text.old) (K.faults sink.old) (K.held sink.new) (waiting_in text.new) (K.faults sink.new) (surface_text revision (codes " tile" ++ (field tile ++ tile_words verdict))) result }
+{
+    append_start(text, sink, revision)?;
+    append(text, sink, b" tile")?;
+    append_field(text, sink, u128::from(tile))?;
+    append_tile_words(text, sink, verdict)
+}
+
+fn append_seams<K: Sink>(
+    text: &mut TextBuffer,
+    sink: &mut K,
+    revision: u32,
+    verdict: SeamVerdict,
+) -> Result<(), WriteFault>
+    ensures { Appends (K.held sink.old) (waiting_in text.old) (K.faults sink.old) (K.held sink.new) (waiting_in text.new) (K.faults sink.new) (surface_text revision (codes " seams" ++ seam_words verdict)) result }
+{
+    append_start(text, sink, revision)?;
+    append(text, sink, b" seams")?;
+    append_seam_words(text, sink, verdict)
+}
+
+/// Adds that a cost, which the word names, is written so and counted otherwise.
+fn append_costs<K: Sink>(
+    text: &mut TextBuffer,
+    sink: &mut K,
+    revision: u32,
+    word: &[u8],
+    written: u128,
+    counted: u128,
+) -> Result<(), WriteFault>
+    requires { length word.now ≤ 128 }
+    ensures { Appends (K.held sink.old) (waiting_in text.old) (K.faults sink.old) (K.held sink.new) (waiting_in text.new) (K.faults sink.new) (surface_text revision (word.now ++ (field written ++ field counted))) result }
+{
+    append_start(text, sink, revision)?;
+    append_pair(text, sink, word, written, counted)
+}
+
+/// Adds what the faces of a tile are refused for.
+fn append_tile_words<K: Sink>(
+    text: &mut TextBuffer,
+    sink: &mut K,
+    verdict: TileVerdict,
+) -> Result<(), WriteFault>
+    ensures { Appends (K.held sink.old) (waiting_in text.old) (K.faults sink.old) (K.held sink.new) (waiting_in text.new) (K.faults sink.new) (tile_words verdict) result }
+{
+    match verdict {
+        TileVerdict::Good | TileVerdict::Range { .. } => Ok(()),
+        TileVerdict::Shape => append(text, sink, b" shape"),
+        TileVerdict::FaceAtEdge(edge) => append_at_edge(text, sink, b" face", edge),
+        TileVerdict::CostDiffers { cost, bound } => append_difference(text, sink, cost, bound),
+    }
+}
+
+/// Adds what the flows at the seams are refused for.
+fn append_seam_words<K: Sink>(
+    text: &mut TextBuffer,
+    sink: &mut K,
+    verdict: SeamVerdict,
+) -> Result<(), WriteFault>
+    ensures { Appends (K.held sink.old) (waiting_in text.old) (K.faults sink.old) (K.held sink.new) (waiting_in text.new) (K.faults sink.new) (seam_words verdict) result }
+{
+    match verdict {
+        SeamVerdict::Good | SeamVerdict::Range(_) => Ok(()),
+        SeamVerdict::Shape => append(text, sink, b" shape"),
+        SeamVerdict::Anchor(cycles) => append_anchor(text, sink, cycles),
+        SeamVerdict::FlowAtEdge(edge) => append_at_edge(text, sink, b" flow", edge),
+        SeamVerdict::Unbalanced(region) => append_number(
+            text,
+            sink,
+            b" unbalanced",
+            u128::from(region),
+        ),
+        SeamVerdict::CostDiffers { cost, bound } => append_difference(text, sink, cost, bound),
+    }
+}
+
+fn append_anchor<K: Sink>(
+    text: &mut TextBuffer,
+    sink: &mut K,
+    cycles: i64,
+) -> Result<(), WriteFault>
+    ensures { Appends (K.held sink.old) (waiting_in text.old) (K.faults sink.old) (K.held sink.new) (waiting_in text.new) (K.faults sink.new) (codes " anchor" ++ signed_field cycles) result }
+{
+    append(text, sink, b" anchor")?;
+    append_signed_field(text, sink, i128::from(cycles))
+}
+
+/// Adds a cost, and the bound that it is not.
+fn append_difference<K: Sink>(
+    text: &mut TextBuffer,
+    sink: &mut K,
+    cost: u128,
+    bound: i128,
+) -> Result<(), WriteFault>
+    ensures { Appends (K.held sink.old) (waiting_in text.old) (K.faults sink.old) (K.held sink.new) (waiting_in text.new) (K.faults sink.new) (codes " cost" ++ (field cost ++ (codes " bound" ++ signed_field bound))) result }
+{
+    append(text, sink, b" cost")?;
+    append_field(text, sink, cost)?;
+    append(text, sink, b" bound")?;
+    append_signed_field(text, sink, bound)
+}
+
+fn append_at_edge<K: Sink>(
+    text: &mut TextBuffer,
+    sink: &mut K,
+    word: &[u8],
+    edge: Edge,
+) -> Result<(), WriteFault>
+    requires { length word.now ≤ 128 }
+    ensures { Appends (K.held sink.old) (waiting_in text.old) (K.faults sink.old) (K.held sink.new) (waiting_in text.new) (K.faults sink.new) (word.now ++ edge_text edge) result }
+{
+    append(text, sink, word)?;
+    append_edge(text, sink, edge)
+}
+
+/// Adds an edge: its direction and its first pixel.
+fn append_edge<K: Sink>(text: &mut TextBuffer, sink: &mut K, edge: Edge) -> Result<(), WriteFault>
+    ensures { Appends (K.held sink.old) (waiting_in text.old) (K.faults sink.old) (K.held sink.new) (waiting_in text.new) (K.faults sink.new) (edge_text edge) result }
+{
+    append_pair(
+        text,
+        sink,
+        direction_name(edge.down),
+        u128::from(edge.x),
+        u128::from(edge.y),
+    )
+}
+
+fn direction_name(down: bool) -> &'static [u8]
+    ensures name { result.now ≡ direction down }
+    ensures short { length result.now ≤ 128 }
+{
+    if down { b" down" } else { b" right" }
+}
+
+/// Adds a word and a number.
+fn append_number<K: Sink>(
+    text: &mut TextBuffer,
+    sink: &mut K,
+    word: &[u8],
+    number: u128,
+) -> Result<(), WriteFault>
+    requires { length word.now ≤ 128 }
+    ensures { Appends (K.held sink.old) (waiting_in text.old) (K.faults sink.old) (K.held sink.new) (waiting_in text.new) (K.faults sink.new) (word.now ++ field number) result }
+{
+    append(text, sink, word)?;
+    append_field(text, sink, number)
+}
+
+/// Adds a word and two numbers.
+fn append_pair<K: Sink>(
+    text: &mut TextBuffer,
+    sink: &mut K,
+    word: &[u8],
+    first: u128,
+    second: u128,
+) -> Result<(), WriteFault>
+    requires { length word.now ≤ 128 }
+    ensures { Appends (K.held sink.old) (waiting_in text.old) (K.faults sink.old) (K.held sink.new) (waiting_in text.new) (K.faults sink.new) (word.now ++ (field first ++ field second)) result }
+{
+    append(text, sink, word)?;
+    append_field(text, sink, first)?;
+    append_field(text, sink, second)
+}
+
+/// Adds a number behind a space.
+fn append_field<K: Sink>(
+    text: &mut TextBuffer,
+    sink: &mut K,
+    number: u128,
+) -> Result<(), WriteFault>
+    ensures { Appends (K.held sink.old) (waiting_in text.old) (K.faults sink.old) (K.held sink.new) (waiting_in text.new) (K.faults sink.new) (field number) result }
+{
+    append(text, sink, b" ")?;
+    append_decimal(text, sink, number)
+}
+
+fn append_decimal<K: Sink>(
+    text: &mut TextBuffer,
+    sink: &mut K,
+    number: u128,
+) -> Result<(), WriteFault>
+    ensures { Appends (K.held sink.old) (waiting_in text.old) (K.faults sink.old) (K.held sink.new) (waiting_in text.new) (K.faults sink.new) (decimal number) result }
+{
+    let mut digits = Buffer::new();
+    append(text, sink, digits.format(number).as_bytes())
+}
+
+/// Adds a number with its sign behind a space.
+fn append_signed_field<K: Sink>(
+    text: &mut TextBuffer,
+    sink: &mut K,
+    number: i128,
+) -> Result<(), WriteFault>
+    ensures { Appends (K.held sink.old) (waiting_in text.old) (K.faults sink.old) (K.held sink.new) (waiting_in text.new) (K.faults sink.new) (signed_field number) result }
+{
+    append(text, sink, b" ")?;
+    append_signed(text, sink, number)
+}
+
+fn append_signed<K: Sink>(
+    text: &mut TextBuffer,
+    sink: &mut K,
+    number: i128,
+) -> Result<(), WriteFault>
+    ensures { Appends (K.held sink.old) (waiting_in text.old) (K.faults sink.old) (K.held sink.new) (waiting_in text.new) (K.faults sink.new) (signed_decimal number) result }
+{
+    let mut digits = Buffer::new();
+    append(text, sink, digits.format(number).as_bytes())
+}
+
+/// Adds a piece of text.
+fn append<K: Sink>(text: &mut TextBuffer, sink: &mut K, piece: &[u8]) -> Result<(), WriteFault>
+    requires { length piece.now ≤ 128 }
+    ensures { Appends (K.held sink.old) (waiting_in text.old) (K.faults sink.old) (K.held sink.new) (waiting_in text.new) (K.faults sink.new) piece.now result }
+{
+    text.push(sink, piece)
+}

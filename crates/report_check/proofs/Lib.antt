@@ -2,8 +2,11 @@ mod MaskLemmas
 mod ValueLemmas
 mod SurfaceLemmas
 mod ShownLemmas
-mod UniqueLemmas
+pub mod UniqueLemmas
 mod ReplayLemmas
 mod HistoryLemmas
 mod CountLemmas
 mod ReportLemmas
+mod EqualReports
+pub mod EqualSessions
+pub mod EqualVerdicts

@@ -14,6 +14,6 @@ pub mod ItemForms
 pub mod ItemsLemmas
 pub mod ReportForms
 pub mod ReportAnswers
-mod SameReports
+pub mod SameReports
 pub mod RangeLemmas
 pub mod CertifiedLemmas

@@ -1,0 +1,131 @@
+-- Reports that are equal: they have one history, and what stands behind its entries is certified alike, also for another session with the same raster and the same masks on it.
+use Rattle.std.proofs.Common.{◌≡◌, ◌∙◌, ℕ, zero, suc, ◌*◌, ◌<◌, refl, sym, ap, ap₂, subst, arith, Bool, List, [], ◌∷◌, length, map}
+use Rattle.std.specs.Prelude.{ℤ, pos, IsTrue, if◌then◌else◌, Option, Some, None, slice_get}
+use Rattle.raster_model.specs.declared.session.Session.{Session}
+use Rattle.raster_model.specs.Cells.{IsCertifiedTile}
+use Rattle.raster_model.specs.Flows.{AreCertifiedSeams}
+use Rattle.raster_model.specs.Raster.{Raster}
+use Rattle.raster_model.specs.Scene.{raster_of}
+use Rattle.raster_model.specs.Sums.{Field}
+use Rattle.raster_model.specs.Tiles.{tiles_of}
+use Rattle.surface_snapshots.proofs.SameLemmas.{anchored_too, same_seam_cost, same_tile_costs, seams_too, tile_too}
+use Rattle.tile_board.specs.declared.entry.Entry.{Entry}
+use Rattle.tile_board.specs.declared.entry.Entry.TheVariants.{Revised, Kept, Published, Settled, Shown}
+use Rattle.tile_board.specs.Histories.{IsComplete, IsLegal, mask_in}
+use Rattle.tile_board.proofs.ListLemmas.{get_below}
+use Rattle.report_text.specs.Certified.{IsCertifiedAt, IsCertifiedBehind, IsCertifiedReport, IsCertifiedSurface, ShowsSurface, history_of, no_data}
+use Rattle.report_text.specs.Reports.{ItemOf, ReportOf, SurfaceOf}
+use Rattle.report_text.specs.Same.{AreSameItems, IsSameItem, IsSameReport, IsSameSurface, MayBeSame}
+use Rattle.report_text.specs.Text.{tiles_along, tiles_in}
+use Rattle.report_check.specs.Same.{EqualReportsAreCertifiedAlike}
+use Rattle.report_check.specs.Verdicts.{HasHeadOf}
+
+-- ---- one history
+same_entries : (width height tiles : ℕ) (items others : List ItemOf) → AreSameItems width height tiles items others → map (λ (i : ItemOf). i.entry) items ≡ map (λ (i : ItemOf). i.entry) others
+same_entries width height tiles [] [] same = refl
+same_entries width height tiles [] (j ∷ others) same = absurd (omega (arith, same.0))
+same_entries width height tiles (i ∷ items) [] same = absurd (omega (arith, same.0))
+same_entries width height tiles (i ∷ items) (j ∷ others) same = ap₂ (λ (e : Entry) (es : List Entry). e ∷ es) (same.1 zero i j refl refl).entry (same_entries width height tiles items others (omega (arith, same.0), λ k. same.1 (suc k)))
+
+pub same_history : (v w : ReportOf) → IsSameReport v w → history_of v ≡ history_of w
+same_history v w equal = same_entries v.width v.height (tiles_in v) v.items w.items equal.items
+
+-- ---- the item that stands at the same place
+pub get_some : {A : Type 0} (xs : List A) (n : ℕ) → n < length xs → (x : A) × (slice_get xs n ≡ Some x)
+get_some [] n l = absurd (omega arith)
+get_some (x ∷ xs) zero l = (x, refl)
+get_some (x ∷ xs) (suc n) l = get_some xs n (omega arith)
+
+pub same_item : (v w : ReportOf) → IsSameReport v w → (k : ℕ) (j : ItemOf) → slice_get w.items k ≡ Some j → (i : ItemOf) × (slice_get v.items k ≡ Some i) × IsSameItem v.width v.height (tiles_in v) i j
+same_item v w equal k j at =
+    let there = get_some v.items k (omega (arith, get_below w.items k j at, equal.items.0)) in
+    (there.0, there.1, equal.items.1 k there.0 j there.1 at)
+
+-- ---- a surface
+module _ (r : Raster) (m n : Field Bool) (same : (x y : ℕ) → x < r.width → y < r.height → m x y ≡ n x y) (k l : SurfaceOf) (equal : IsSameSurface r.width r.height r.tile_count k l) (S : Field ℤ) where
+  agree : (x y : ℕ) → x < r.width → y < r.height → IsTrue (m x y) → S x y ≡ S x y
+  agree x y a b o = refl
+
+  shows_too : ShowsSurface r m k.values S → ShowsSurface r n l.values S
+  shows_too shows = record {
+    shown = λ x y a b. sym (equal.values x y a b) ∙ shows.shown x y a b ∙ ap (λ (o : Bool). if o then S x y else no_data) (same x y a b);
+    told = λ x y a b o e. shows.told x y a b (same x y a b ∙ o) (equal.values x y a b ∙ e);
+  }
+
+  certified_too : IsCertifiedSurface r m k S → IsCertifiedSurface r n l S
+  certified_too is = record {
+    shows = shows_too is.shows;
+    congruent = λ x y a b o. is.congruent x y a b (same x y a b ∙ o);
+    anchored = anchored_too r m n same S S agree is.anchored;
+    tiles = λ t below. subst (λ (faces : List ℤ). IsCertifiedTile r n t S faces) (equal.faces t below) (tile_too r m n same S S agree t (k.faces t) (is.tiles t below));
+    seams = subst (λ (flows : List ℤ). AreCertifiedSeams r n S flows) equal.flows (seams_too r m n same S S agree k.flows is.seams);
+    tile_cost = ap pos (sym equal.tile_cost) ∙ is.tile_cost ∙ same_tile_costs r m n same S S agree;
+    seam_cost_is = ap pos (sym equal.seam_cost) ∙ is.seam_cost_is ∙ same_seam_cost r m n same S S agree;
+  }
+
+-- ---- what stands behind an entry, by a name of its raster
+abbrev pub MayBeSameOn : Raster → Option SurfaceOf → Option SurfaceOf → Type 0
+MayBeSameOn r a b = MayBeSame r.width r.height r.tile_count a b
+
+none_too : (r : Raster) (a b : Option SurfaceOf) → MayBeSameOn r a b → a ≡ None → b ≡ None
+none_too r None None same e = refl
+none_too r None (Some l) same e = absurd same
+none_too r (Some k) b same e = cc
+
+-- two sessions with one raster, and with the same mask on it at each revision of a history
+pub record AreAlike (s t : Session) (H : List Entry) : Type 0 where
+  pub raster : raster_of s.scene ≡ raster_of t.scene
+  pub masks : (revision x y : ℕ) → x < s.scene.phase.width → y < s.scene.phase.height → mask_in s H revision x y ≡ mask_in t H revision x y
+
+module _ (s t : Session) (H : List Entry) (alike : AreAlike s t H) where
+  at_too : (revision : ℕ) (a b : Option SurfaceOf) → MayBeSameOn (raster_of s.scene) a b → IsCertifiedAt s H revision a → IsCertifiedAt t H revision b
+  at_too revision None b same is = absurd is
+  at_too revision (Some k) None same is = absurd same
+  at_too revision (Some k) (Some l) same is = (
+    is.0,
+    subst (λ (r : Raster). IsCertifiedSurface r (mask_in t H revision) l is.0) alike.raster (certified_too (raster_of s.scene) (mask_in s H revision) (mask_in t H revision) (alike.masks revision) k l same is.0 is.1),
+  )
+
+  behind_too : (e : Entry) (a b : Option SurfaceOf) → MayBeSameOn (raster_of s.scene) a b → IsCertifiedBehind s H e a → IsCertifiedBehind t H e b
+  behind_too (Revised analyst edit) a b same is = none_too (raster_of s.scene) a b same is
+  behind_too (Kept tile stamp) a b same is = none_too (raster_of s.scene) a b same is
+  behind_too (Published analyst revision) a b same is = at_too revision a b same is
+  behind_too (Settled analyst revision) a b same is = none_too (raster_of s.scene) a b same is
+  behind_too (Shown analyst revision) a b same is = none_too (raster_of s.scene) a b same is
+
+-- ---- the items of a report that has a session's head, and those of an equal one
+module _ (s t : Session) (v w : ReportOf) (equal : IsSameReport v w) (head : HasHeadOf s v) where
+  tiles_there : tiles_in v ≡ tiles_of s.scene.tiling
+  tiles_there =
+      ap (λ (n : ℕ). tiles_along v.height n * tiles_along v.width n) head.side
+      ∙ ap₂ (λ (x y : ℕ). tiles_along y s.scene.tiling.side * tiles_along x s.scene.tiling.side) (head.size.0 ∙ sym s.scene.same_width.1) (head.size.1 ∙ sym s.scene.same_height.1)
+
+  pub same_there : (a b : Option SurfaceOf) → MayBeSame v.width v.height (tiles_in v) a b → MayBeSameOn (raster_of s.scene) a b
+  same_there a b same =
+      let one = subst (λ (n : ℕ). MayBeSame n v.height (tiles_in v) a b) head.size.0 same in
+      let two = subst (λ (n : ℕ). MayBeSame s.scene.phase.width n (tiles_in v) a b) head.size.1 one in
+      subst (λ (n : ℕ). MayBeSame s.scene.phase.width s.scene.phase.height n a b) tiles_there two
+
+  pub item_too : AreAlike s t (history_of v) → (i j : ItemOf) → IsSameItem v.width v.height (tiles_in v) i j → IsCertifiedBehind s (history_of v) i.entry i.surface → IsCertifiedBehind t (history_of w) j.entry j.surface
+  item_too alike i j same is =
+      let behind = behind_too s t (history_of v) alike i.entry i.surface j.surface (same_there i.surface j.surface same.surface) is in
+      let entry = subst (λ (e : Entry). IsCertifiedBehind t (history_of v) e j.surface) same.entry behind in
+      subst (λ (H : List Entry). IsCertifiedBehind t H j.entry j.surface) (same_history v w equal) entry
+
+-- all of them, where the report is certified
+pub items_too : (s t : Session) (v w : ReportOf) → IsSameReport v w → IsCertifiedReport s v → AreAlike s t (history_of v) → (k : ℕ) (j : ItemOf) → slice_get w.items k ≡ Some j → IsCertifiedBehind t (history_of w) j.entry j.surface
+items_too s t v w equal c alike k j at =
+    let there = same_item v w equal k j at in
+    let head : HasHeadOf s v = record { size = (c.width, c.height); side = c.side; rule = c.rule } in
+    item_too s t v w equal head alike there.0 j there.2 (c.surfaces k there.0 there.1)
+
+pub equal_reports_are_certified_alike : EqualReportsAreCertifiedAlike
+equal_reports_are_certified_alike s v w equal c = record {
+  width = sym equal.width ∙ c.width;
+  height = sym equal.height ∙ c.height;
+  side = sym equal.side ∙ c.side;
+  rule = sym equal.rule ∙ c.rule;
+  legal = subst (λ (H : List Entry). IsLegal s H) (same_history v w equal) c.legal;
+  complete = subst (λ (H : List Entry). IsComplete s H) (same_history v w equal) c.complete;
+  surfaces = items_too s s v w equal c (record { raster = refl; masks = λ revision x y a b. refl });
+}

@@ -129,11 +129,11 @@ at_least_two refusals.WriteFault = (omega arith, omega arith)
 
 -- ---- a session with a report is judged
 
-if_told : (o : Option (List ℕ)) (P : List ℕ → Type 0) → ((bytes : List ℕ) → o ≡ Some bytes → P bytes) → IfSome o P
+pub if_told : (o : Option (List ℕ)) (P : List ℕ → Type 0) → ((bytes : List ℕ) → o ≡ Some bytes → P bytes) → IfSome o P
 if_told None P f = tt
 if_told (Some bytes) P f = f bytes refl
 
-at_told : (o : Option (List ℕ)) (P : List ℕ → Type 0) (bytes : List ℕ) → o ≡ Some bytes → IfSome o P → P bytes
+pub at_told : (o : Option (List ℕ)) (P : List ℕ → Type 0) (bytes : List ℕ) → o ≡ Some bytes → IfSome o P → P bytes
 at_told None P bytes e h = absurd cc
 at_told (Some b) P bytes e h = let same : b ≡ bytes = cc in subst P same h
 

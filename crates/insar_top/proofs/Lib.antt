@@ -4,6 +4,7 @@ pub mod SessionLemmas
 pub mod TopLemmas
 pub mod CheckLemmas
 pub mod CheckStatus
+pub mod OneVerdict
 pub mod VerdictLemmas
 pub mod ListLemmas
 pub mod SameLemmas

@@ -52,6 +52,10 @@ IsCheckCut rule side r = IfSome r.told (λ bytes. (verdict : CheckVerdict) × (I
 abbrev pub AnswersAreAccepted : Type 0
 AnswersAreAccepted = (rule : RuleKind) (side : ℕ) (bytes text both : List ℕ) (answer : IsAnswer rule side bytes text) → IsReport answer.report → length text ≤ most_of_report → IsSessionIn BeforeReport side both (session_of answer.session) text → IsJudged rule side both Accepted
 
+-- bytes have one verdict, whatever session and report they are the text of
+abbrev pub BytesHaveOneVerdict : Type 0
+BytesHaveOneVerdict = (rule : RuleKind) (side : ℕ) (bytes : List ℕ) (one other : CheckVerdict) → IsJudged rule side bytes one → IsJudged rule side bytes other → one ≡ other
+
 -- the bytes are the text of a session, and then bytes of which P holds
 abbrev pub AfterSession : ℕ → List ℕ → (List ℕ → Type 0) → Type 0
 AfterSession side bytes P = (s : SessionOf) × (rest : List ℕ) × (IsSessionIn BeforeReport side bytes s rest × P rest)
@@ -98,6 +102,10 @@ IsCheckable rule side bytes = AfterSession side bytes (λ rest. IsReportText res
 -- they are not
 abbrev pub IsNotCheckable : RuleKind → ℕ → List ℕ → Type 0
 IsNotCheckable rule side bytes = IsCheckable rule side bytes → ⊥
+
+-- a verdict is told: by status 0 if it is Accepted and by 1 if it is not, and by its line
+abbrev pub IsVerdictTold : ℕ → Run → CheckVerdict → Type 0
+IsVerdictTold status r verdict = (status ≡ 0 → verdict ≡ Accepted) × ((status ≡ 1 → verdict ≢ Accepted) × (status ≤ 1 → r.held_now ≡ with_end r.held (verdict_line verdict)))
 
 -- the words are a check, with a rule and a side for which P holds
 abbrev pub ByCheck : List (Bor (List ℕ)) → (RuleKind → ℕ → Type 0) → Type 0

@@ -1,7 +1,8 @@
 ghost use Rattle.std.specs.Prelude.{◌≡◌, ◌≤◌, ◌⊎◌, List, ℕ, IfErr, IfSome, OnOk};
-ghost use Rattle.insar_top.specs.Checks.{ByCheck, HasCheckCause, HasCheckRefusal, IsCheckable, IsChecked, IsNotCheckable, IsRejected};
+ghost use Rattle.insar_top.specs.Checks.{ByCheck, HasCheckCause, HasCheckRefusal, IsCheckable, IsChecked, IsJudged, IsNotCheckable, IsRejected, IsVerdictTold};
 ghost use Rattle.insar_top.specs.Refusals.{status_of};
 ghost use Rattle.insar_top.specs.declared.refusal.Refusal.{Refusal as AnyRefusal};
+ghost use Rattle.report_check.specs.declared.verdict.CheckVerdict.{CheckVerdict as AnyVerdict};
 ghost use Rattle.report_check.specs.declared.verdict.CheckVerdict.TheVariants.{Accepted};
 ghost use Rattle.insar_ports.specs.Bytes.{HasRisen, with_end};
 ghost use Rattle.pgm_planes.specs.declared.fault.InputFault.{InputFault as Fault};
@@ -163,6 +164,9 @@ pub fn insar<R: Threads + Wait + Sync, S: Source, K: Sink, D: Sink, G: Gate>(
     // exactly the line of the verdict.
     ensures accepted { (rule : Kind) (side : ℕ) → IsCheck words.now rule side → result ≡ 0 → IsChecked rule side (run_of S.left S.faults source.old source.new K.held K.faults sink.old sink.new) Accepted }
     ensures rejected { result ≡ 1 → ByCheck words.now (λ rule side. IsRejected rule side (run_of S.left S.faults source.old source.new K.held K.faults sink.old sink.new)) }
+    // Whatever session and report the bytes are the text of: at 0 the verdict on them is Accepted and at 1 it is not, and the
+    // line is its own.
+    ensures judged { (rule : Kind) (side : ℕ) → IsCheck words.now rule side → IfSome (S.left source.old) (λ bytes. (verdict : AnyVerdict) → IsJudged rule side bytes verdict → IsVerdictTold result (run_of S.left S.faults source.old source.new K.held K.faults sink.old sink.new) verdict) }
     ensures done { result ≡ 0 → IsNoCommand words.now → IsNoCheck words.now → ⊥ }
     // 2: the words are no command; the source is not read.
     ensures words_refused { result ≡ 2 → IsNoCommand words.now × IsNoCheck words.now }

@@ -11,6 +11,7 @@ use Rattle.insar_top.specs.Lines.{fault_line}
 use Rattle.insar_top.specs.Outcomes.{Run, IsCut, IsDone, SinkFailed, SourceFailed, run_of}
 use Rattle.insar_top.proofs.CheckStatus.{asks, by_status, by_these, cause_here, complete_done, complete_of, no_command, taken_judged, taken_refused, two_for_words, words_at_two}
 use Rattle.insar_top.proofs.CommandLemmas.{by_command}
+use Rattle.insar_top.proofs.OneVerdict.{verdict_told}
 use Rattle.insar_top.proofs.top.insar.Goals as goal
 
 -- ---- words that ask for a check
@@ -56,7 +57,16 @@ returns-then-asks_check-clause-check_taken g c rule side is =
     (λ one. let b = by_these c.args.words.now (λ rule side. IsRejected rule side run) rule side is (c.check.ensures.rejected one) in taken_judged rule side run c.check.result b.0 b.1.1)
     (λ more. let b = c.check.ensures.refused more in taken_refused rule side run b.0 c.check.result b.1.0 (cause_here c.args.words.now run rule side is b.0 b.1.1.0))
 
+pub returns-then-asks_check-clause-judged : goal.returns-then-asks_check-clause-judged
+returns-then-asks_check-clause-judged g c rule side is =
+    let run : Run = run_of g.S.Source.left g.S.Source.faults c.args.source.now c.check.new.source g.K.Sink.held g.K.Sink.faults c.args.sink.now c.check.new.sink in
+    verdict_told rule side run c.check.result (λ zero. by_these c.args.words.now (λ rule side. IsChecked rule side run Accepted) rule side is (c.check.ensures.accepted zero))
+    (λ one. by_these c.args.words.now (λ rule side. IsRejected rule side run) rule side is (c.check.ensures.rejected one))
+
 -- ---- and words that do not
+
+pub returns-else-asks_check-clause-judged : goal.returns-else-asks_check-clause-judged
+returns-else-asks_check-clause-judged g c rule side is = absurd (c.asks_check.ensures.other c.if-asks_check.false (asks c.args.words.now rule side is))
 
 pub returns-else-asks_check-clause-headline : goal.returns-else-asks_check-clause-headline
 returns-else-asks_check-clause-headline g c rule side is zero =

@@ -1,0 +1,36 @@
+-- Words of the steps that make a test session: no clause of another crate cites them.
+use Rattle.std.specs.Prelude.{◌≡◌, ℕ, ◌+◌, ◌/◌, ◌%◌, ◌<◌, List, length, slice_index}
+use Rattle.raster_model.specs.declared.plane.Plane.{Plane}
+use Rattle.raster_model.specs.Planes.{sample_at}
+use Rattle.raster_model.specs.Sums.{one_if}
+use Rattle.trial_maker.specs.Trials.{state, phase_of, weight_of, is_open, state_at}
+
+-- the list has the first n numbers of f
+pub record AreListed (f : ℕ → ℕ) (n : ℕ) (xs : List ℕ) : Type 0 where
+  pub counted : length xs ≡ n
+  pub each : (k : ℕ) → k < n → slice_index xs k ≡ f k
+
+-- what a seed gives to the pixel of number k, in row order of a raster that is w pixels wide
+abbrev pub phase_number : ℕ → ℕ → ℕ → ℕ
+phase_number seed w k = phase_of (state seed (k + 1)) (k % w) (k / w)
+
+abbrev pub weight_number : ℕ → ℕ → ℕ
+weight_number seed k = weight_of (state seed (k + 1))
+
+abbrev pub mask_number : ℕ → ℕ → ℕ
+mask_number seed k = one_if (is_open (state seed (k + 1)))
+
+-- the lists are those of the first n pixels
+pub record AreDrawn (seed w n : ℕ) (phase weights mask : List ℕ) : Type 0 where
+  pub phases : AreListed (phase_number seed w) n phase
+  pub weighed : AreListed (weight_number seed) n weights
+  pub masked : AreListed (mask_number seed) n mask
+
+-- the planes are those of w by h pixels
+pub record AreDrawnPlanes (seed w h : ℕ) (phase weights mask : Plane) : Type 0 where
+  pub phase_size : (phase.width ≡ w) × (phase.height ≡ h) × (phase.maxval ≡ 65535)
+  pub weight_size : (weights.width ≡ w) × (weights.height ≡ h) × (weights.maxval ≡ 256)
+  pub mask_size : (mask.width ≡ w) × (mask.height ≡ h)
+  pub phases : (x y : ℕ) → x < w → y < h → sample_at phase x y ≡ phase_of (state_at seed w x y) x y
+  pub weighed : (x y : ℕ) → x < w → y < h → sample_at weights x y ≡ weight_of (state_at seed w x y)
+  pub masked : (x y : ℕ) → x < w → y < h → sample_at mask x y ≡ one_if (is_open (state_at seed w x y))

@@ -1,0 +1,12 @@
+//! Large test sessions, each made from a number.
+#![tactic(auto)]
+
+mod fault;
+mod numbers;
+mod planes;
+mod rules;
+mod samples;
+mod session;
+
+pub use fault::TrialFault;
+pub use session::make_session;

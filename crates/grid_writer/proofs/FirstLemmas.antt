@@ -3,6 +3,7 @@ use Rattle.std.proofs.Common.{◌≡◌, ℕ, ◌+◌, List, [], ◌∷◌, ◌+
 use Rattle.std.proofs.lemmas.List.{length-append, append-nil, append_cancel_left}
 use Rattle.grid_writer.specs.Forms.{Form, Begins, GoesOn, AreWholeLines, IsInLineOf, EndsIn, BreaksAt, lines_in}
 use Rattle.grid_writer.proofs.FormLemmas.{InLine, in_line, beside_line, fronts, ends_with, not_nil}
+use Rattle.sums_and_lists.proofs.Lists.{no_length}
 
 -- a line with its LF, and then more, after some bytes
 pub line_then : (before line rest : List ℕ) → (before ++ (line ++ 10 ∷ [])) ++ rest ≡ before ++ (line ++ 10 ∷ rest)
@@ -23,10 +24,6 @@ no_end_within w before (b ∷ m) line r (inl f) g a e = absurd (let q = ap lengt
 no_end_within w before (b ∷ m) line r (inr f) g a e =
     let n = ends_with before m f.0 b (sym g ∙ f.1) in
     absurd (has_no_feed n.0 r (subst InLine (e ∙ ap (λ (l : List ℕ). l ++ r) n.1 ∙ append_assoc n.0 (10 ∷ []) r) a))
-
-empty : (m : List ℕ) → length m ≡ 0 → m ≡ []
-empty [] e = refl
-empty (b ∷ m) e = absurd (omega (arith, e))
 
 ends_equal : (P : List ℕ → Type 0) (n k : ℕ) (b l c m q : List ℕ) → IsInLineOf P n b l → IsInLineOf P k c m → c ≡ b ++ q → l ≡ q ++ m → n ≡ k
 ends_equal P n k b l c m q h h2 e f =
@@ -53,7 +50,7 @@ module _ (F : Form) (P : List ℕ → Type 0) (weak : (bytes : List ℕ) → P b
               let lc = ap length q.1 in
               let lb = ap length z.1 in
               let short : length q.0 ≡ 0 = omega (arith, lc, lb, length-append b q.0, length-append c z.0) in
-              let same : c ≡ b = q.1 ∙ ap (λ (x : List ℕ). b ++ x) (empty q.0 short) ∙ append-nil b in
+              let same : c ≡ b = q.1 ∙ ap (λ (x : List ℕ). b ++ x) (no_length q.0 short) ∙ append-nil b in
               let p = h.number in
               let u = h2.number in
               p ∙ ap (λ (x : List ℕ). lines_in x + 1) (sym same) ∙ sym u

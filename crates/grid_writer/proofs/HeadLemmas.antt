@@ -19,6 +19,7 @@ use Rattle.grid_writer.proofs.ReadLemmas.{count_inside, zero_long}
 use Rattle.grid_writer.proofs.RowLemmas.{IsOneLine, in_append, line_cancel}
 use Rattle.grid_writer.proofs.RowsLemmas.{is_line, line_by}
 use Rattle.grid_writer.proofs.SeqLemmas.{line_code}
+use Rattle.sums_and_lists.proofs.Tests.{and_first, and_second}
 
 -- ---- sizes
 
@@ -31,14 +32,6 @@ pub record Sized (w h : ℕ) : Type 0 where
   pub narrow : w ≤ 4096
   pub high : 1 ≤ h
   pub low : h ≤ most_rows w
-
-and_first : (a b : Bool) → (a && b) ≡ true → a ≡ true
-and_first true b e = refl
-and_first false b e = e
-
-and_second : (a b : Bool) → (a && b) ≡ true → b ≡ true
-and_second true b e = e
-and_second false b e = absurd (cc)
 
 low_by_pixels : (w h : ℕ) → 1 ≤ w → h ≤ 4096 → w * h ≤ 4194304 → h ≤ most_rows w
 low_by_pixels w h some le fit = let d = le-div h 4194304 w some (omega (arith, fit)) in omega (arith, le, d)

@@ -4,6 +4,7 @@ pub mod StepLemmas
 pub mod FirstLemmas
 pub mod CauseLemmas
 pub mod NumberLemmas
+mod DigitLemmas
 pub mod TakeLemmas
 pub mod RowLemmas
 pub mod ReadLemmas

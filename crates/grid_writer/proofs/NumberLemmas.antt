@@ -16,7 +16,7 @@ use Rattle.std.specs.Str.Parse.{AllDigits, ParsesSigned, ParsesUnsigned}
 use lib.Signed.{mag}
 use Rattle.std.proofs.lemmas.Fmt.{IsAscii-decimal, IsAscii-signed, decimal_injective, decimal_is_IsNumeral, parse-decimal, parse-signed_decimal, signed_decimal_injective}
 use Rattle.std.proofs.lemmas.List.{append-nil, length-append, append_cancel_left, take_at, flat_map_more, get_or-take, take-append-drop, length-take-le}
-use Rattle.std.proofs.lemmas.List.Elements.{recursion_from_All, All-from_get_or, All-cons, All-head, All-tail}
+use Rattle.std.proofs.lemmas.List.Elements.{All-from_recursion, recursion_from_All, All-from_get_or, All-cons, All-head, All-tail}
 use Rattle.std.proofs.lemmas.Str.Parse.{digit_from_value}
 use Rattle.grid_writer.specs.Numbers.{IsLong, IsToken, AreLongs, BeginsField, number_text, numbers_line, numbers_text}
 use Rattle.grid_writer.proofs.FormLemmas.{cons_head, cons_tail, cons_same, not_nil, InLine}
@@ -54,6 +54,9 @@ parts_unique (x ∷ a) [] r s p q f (inr g) e = absurd (p.0 (cons_head x 32 (a +
 parts_unique (x ∷ a) (y ∷ b) r s p q f g e =
     let t = parts_unique a b r s p.1 q.1 f g (cons_tail x y (a ++ r) (b ++ s) e) in
     (cons_same x y a b (cons_head x y (a ++ r) (b ++ s) e) t.0, t.1)
+
+pub token_of : (n : ℤ) → IsLong n → IsToken (signed_decimal n)
+token_of n long = All-from_recursion (λ (b : ℕ). b ≢ 32) (signed_decimal n) (signed_without 32 (omega arith) n long)
 
 pub token_until : (bytes : List ℕ) (count : ℕ) → count ≤ length bytes → ((k : ℕ) → k < count → get_or bytes k 0 ≡ 32 → ⊥) → IsToken (take count bytes)
 token_until bytes count le none =
@@ -114,11 +117,12 @@ leaves_more text rest fields token after leaves space parts t f all longs e =
     let n = first_of_numbers rest fields token after m.0 m.1.0 m.1.1 space parts t f in
     (n.others, (n.longs, n.rest))
 
-pub no_number : (text rest fields token after : List ℕ) → LeavesNumbers text rest → rest ≡ 32 ∷ fields → fields ≡ token ++ after → IsToken token → BeginsField after → ((n : ℤ) → IsLong n → token ≡ signed_decimal n → ⊥) → (all : List ℤ) → AreLongs all → text ≡ numbers_text all → ⊥
-no_number text rest fields token after leaves space parts t f none all longs e =
-    let m = leaves all longs e in
-    let n = first_of_numbers rest fields token after m.0 m.1.0 m.1.1 space parts t f in
-    none n.first n.long n.spelled
+pub no_number : (text rest fields : List ℕ) → LeavesNumbers text rest → rest ≡ 32 ∷ fields → ((n : ℤ) (after : List ℕ) → IsLong n → BeginsField after → fields ≡ signed_decimal n ++ after → ⊥) → (all : List ℤ) → AreLongs all → text ≡ numbers_text all → ⊥
+no_number text rest fields leaves space none all longs e = let m = leaves all longs e in at m.0 m.1.0 m.1.1
+  where
+    at : (more : List ℤ) → AreLongs more → rest ≡ numbers_text more → ⊥
+    at [] long f = not_nil 32 fields (sym f ∙ space)
+    at (n ∷ more) long f = none n (numbers_text more) (All-head IsLong n more long) (numbers_field more) (cons_tail 32 32 fields (signed_decimal n ++ numbers_text more) (sym space ∙ f ∙ numbers_cons n more))
 
 -- what is left and does not begin with a space is nothing, or the text is no numbers
 pub no_space : (text rest : List ℕ) → LeavesNumbers text rest → ((fields : List ℕ) → rest ≡ 32 ∷ fields → ⊥) → 0 < length rest → (all : List ℤ) → AreLongs all → text ≡ numbers_text all → ⊥
@@ -160,26 +164,6 @@ line_unique (m ∷ a) (n ∷ b) p q l e = lists_same m n a b p q e (λ f. number
 
 -- ---- what std's functions say
 
-pub err_of : {T E : Type 0} (r : Result T E) (P : T → Type 0) (Q : E → Type 0) → None ≡ result_ok r → MatchResult r P Q → (e : E) × Q e
-err_of (Ok x) P Q none m = absurd (none-some x none)
-err_of (Err e) P Q none m = (e, m)
-
-pub ok_of : {T E : Type 0} (r : Result T E) (P : T → Type 0) (Q : E → Type 0) (x : T) → Some x ≡ result_ok r → MatchResult r P Q → P x
-ok_of (Ok y) P Q x some m = let e = same_Some x y some in subst P (sym e) m
-ok_of (Err e) P Q x some m = absurd (none-some x (sym some))
-
-pub not_text : (bytes : List ℕ) (n : ℤ) → (IsUtf8 bytes → ⊥) → IsLong n → bytes ≡ signed_decimal n → ⊥
-not_text bytes n none long e = none (subst IsUtf8 (sym e) (IsUtf8-from_ascii (signed_decimal n) (IsAscii-signed n (magnitude n long))))
-
-pub parses : {E : Type 0} (text bytes : List ℕ) (r : Result ℤ E) (n : ℤ) → bytes ≡ text → ParsesSigned w64 10 bytes r → IsLong n → text ≡ signed_decimal n → result_ok r ≡ Some n
-parses text bytes r n same h long e = ap result_ok (parse-signed_decimal w64 n bytes r long (magnitude n long) (same ∙ e) h)
-
-pub not_count_text : (bytes : List ℕ) (n : ℕ) → (IsUtf8 bytes → ⊥) → n < 2 ^ 64 → bytes ≡ decimal n → ⊥
-not_count_text bytes n none small e = none (subst IsUtf8 (sym e) (IsUtf8-from_ascii (decimal n) (IsAscii-decimal n small)))
-
-pub parses_count : {E : Type 0} (text bytes : List ℕ) (r : Result ℕ E) (n : ℕ) → bytes ≡ text → ParsesUnsigned 32 10 bytes r → n < 2 ^ 32 → text ≡ decimal n → result_ok r ≡ Some n
-parses_count text bytes r n same h small e = ap result_ok (parse-decimal 32 n bytes r small (omega arith) (same ∙ e) h)
-
 -- texts that are not the same by `==`
 pub differ : (a b : List ℕ) (r : Bool) → r ≡ pointwise eqb a b → r ≡ false → a ≡ b → ⊥
 differ a b r is other e = let t = (slice_eq-Decides Decides-eqb a b r is).1 e in false≢true (sym other ∙ t)
@@ -216,9 +200,9 @@ numbers_end old now new text rest false items built longs leaves none e = no_spa
 
 -- ---- a row
 
-pub no_row : (text token rest : List ℕ) (count : ℕ) → 0 < count → text ≡ token ++ rest → IsToken token → BeginsField rest → ((n : ℤ) → IsLong n → token ≡ signed_decimal n → ⊥) → (row : List ℤ) → AreLongs row → length row ≡ count → text ≡ numbers_line row → ⊥
-no_row text token rest count some parts t f none [] longs l e = omega (arith, l, some)
-no_row text token rest count some parts t f none (n ∷ row) longs l e = none n (All-head IsLong n row longs) (rest_of_line text token rest n row longs parts t f e).0
+pub no_row : (text : List ℕ) (count : ℕ) → 0 < count → ((n : ℤ) (after : List ℕ) → IsLong n → BeginsField after → text ≡ signed_decimal n ++ after → ⊥) → (row : List ℤ) → AreLongs row → length row ≡ count → text ≡ numbers_line row → ⊥
+no_row text count some none [] longs l e = omega (arith, l, some)
+no_row text count some none (n ∷ row) longs l e = none n (numbers_text row) (All-head IsLong n row longs) (numbers_field row) e
 
 -- where what follows the first number is no numbers, there is no row
 pub no_rest : (text token rest : List ℕ) (count : ℕ) → 0 < count → text ≡ token ++ rest → IsToken token → BeginsField rest → ((new : List ℤ) → AreLongs new → rest ≡ numbers_text new → ⊥) → (row : List ℤ) → AreLongs row → length row ≡ count → text ≡ numbers_line row → ⊥

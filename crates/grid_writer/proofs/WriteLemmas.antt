@@ -5,6 +5,7 @@ use Rattle.std.proofs.lemmas.List.{append-nil}
 use Rattle.insar_ports.specs.Bytes.{with_end, GainsProperPrefix}
 use Rattle.insar_ports.proofs.CallerLemmas.{with_end-append, with_end-nil, cut-first, cut-later}
 use Rattle.grid_writer.specs.Writing.{Writes}
+use Rattle.sums_and_lists.proofs.Lists.{at_any_err}
 
 module _ (held : Option (List ℕ)) (waiting : List ℕ) where
   pub writes_nothing : Writes held waiting held waiting []
@@ -31,10 +32,6 @@ module _ (held : Option (List ℕ)) (waiting : List ℕ) (held_1 : Option (List 
   cut_last now cut =
       let all = cut-later held held_1 now w.put waiting_1 w.gained cut in
       subst (λ (t : List ℕ). GainsProperPrefix held t now) w.whole all
-
-pub at_any_err : {A E : Type 0} (r : Result A E) (P : Type 0) → P → OnErr r P
-at_any_err (Ok x) P p = tt
-at_any_err (Err e) P p = p
 
 -- what was cut in a first part was cut in the whole
 pub cut_in_part : (held : Option (List ℕ)) (waiting : List ℕ) (now : Option (List ℕ)) (part tail whole : List ℕ) → whole ≡ part ++ tail → GainsProperPrefix held (waiting ++ part) now → GainsProperPrefix held (waiting ++ whole) now

@@ -1,10 +1,13 @@
 ghost use Rattle.insar_ports.specs.Calls.{Moves, call_of};
 ghost use Rattle.insar_ports.specs.Feeding.{handed_of, limit_of, source_name};
-ghost use Rattle.std.specs.Prelude.{◌≡◌, ◌+◌, ◌<◌, ◌≤◌, [], IfErr, IfOk, Ok, OnOk};
+ghost use Rattle.insar_ports.specs.Lines.{IsInLine};
+ghost use Rattle.std.specs.Prelude.{◌≡◌, ◌+◌, ◌<◌, ◌≤◌, ◌∷◌, ◌++◌, ◌⊎◌, [], ℕ, List, All, IfErr, IfOk, MatchBool, Ok, OnOk, length, take};
+ghost use Rattle.grid_writer.specs.declared.lines.LineEnd.TheVariants.{Whole, Long};
 
 use crate::fault::GridFault;
 use insar_ports::{Feed, Source};
-use std::alloc::Global;
+use memchr::memchr;
+use std::alloc::{AllocError, Global};
 
 const LINE_FEED: u8 = 10;
 
@@ -27,7 +30,6 @@ pub struct Lines {
 }
 
 impl Lines {
-    ghost use Rattle.grid_writer.specs.declared.lines.LineEnd.TheVariants.{Whole};
     ghost use Rattle.grid_writer.specs.LineWords.{HasNextCause, IsLineRead, line_of, number_of};
 
     /// Before the first line.
@@ -89,19 +91,50 @@ impl Lines {
         ensures further { result ≡ Ok Whole → (handed_of feed.old < handed_of feed.new) × (handed_of feed.new ≤ limit_of feed.old) }
         ensures refused { IfErr result (HasNextCause (call_of S.left S.faults feed.old feed.new)) }
     {
-        let mut end = LineEnd::Whole;
-        loop {
-            let Some(byte) = feed.next()? else {
-                return Ok(LineEnd::Cut);
-            };
-            if byte == LINE_FEED {
-                return Ok(end);
-            }
-            if self.line.len() < most {
-                self.line.push(byte)?;
-            } else {
-                end = LineEnd::Long;
+        let start = feed.handed();
+        while feed.peek()?.is_some() {
+            let (part, ended) = before_line_feed(feed.waiting());
+            self.keep(part, most)?;
+            let count = part.len();
+            feed.consume(count);
+            if ended {
+                let length = feed.handed() - start;
+                feed.consume(1);
+                return Ok(end_within(length, most));
             }
         }
+        Ok(LineEnd::Cut)
+    }
+
+    /// Keeps more bytes of a line, of which the first `most` are kept.
+    fn keep(&mut self, bytes: &[u8], most: usize) -> Result<(), AllocError>
+        requires { length (line_of self.old) ≤ most }
+        ensures kept { OnOk result (line_of self.new ≡ take most (line_of self.old ++ bytes.now)) }
+        ensures number { number_of self.new ≡ number_of self.old }
+    {
+        let room = most - self.line.len();
+        self.line.extend_from_slice(&bytes[..bytes.len().min(room)])
+    }
+}
+
+/// The bytes in front of the first LF, and whether there is one.
+fn before_line_feed(bytes: &[u8]) -> (&[u8], bool)
+    ensures inside { All IsInLine result.0.now }
+    ensures front { MatchBool result.1 ((rest : List ℕ) × (bytes.now ≡ result.0.now ++ 10 ∷ rest)) (bytes.now ≡ result.0.now) }
+{
+    match memchr(LINE_FEED, bytes) {
+        Some(count) => (&bytes[..count], true),
+        None => (bytes, false),
+    }
+}
+
+/// How a line of so many bytes ended, where LF follows them.
+fn end_within(length: u64, most: usize) -> LineEnd
+    ensures { ((length ≤ most) × (result ≡ Whole)) ⊎ ((most < length) × (result ≡ Long)) }
+{
+    if length <= most as u64 {
+        LineEnd::Whole
+    } else {
+        LineEnd::Long
     }
 }

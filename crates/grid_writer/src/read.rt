@@ -7,7 +7,7 @@ ghost use Rattle.grid_writer.specs.Reading.{HasBrokenLine, HasLineCause, IsReadA
 ghost use Rattle.insar_ports.specs.Calls.{Moves, Takes, call_of};
 ghost use Rattle.insar_ports.specs.Feeding.{left_of, limit_of, source_name};
 ghost use Rattle.insar_ports.specs.Lines.{IsInLine};
-ghost use Rattle.raster_model.specs.Limits.{is_raster_size};
+ghost use Rattle.raster_model.specs.Limits.{is_raster_size, max_side};
 ghost use Rattle.std.specs.Prelude.{◌≡◌, ◌≤◌, ◌<◌, ◌+◌, ◌*◌, [], ◌++◌, ℕ, ℤ, List, All, IfErr, IfOk, IfSome, IsTrue, OnOk, decimal, length, vec_len};
 
 use crate::fault::GridFault;
@@ -15,7 +15,7 @@ use crate::lines::{LineEnd, Lines};
 use crate::numbers::{labelled_count, push_row};
 use crate::values::Grid;
 use insar_ports::{Feed, Source};
-use raster_model::{GREATEST_PIXELS, GREATEST_SIDE};
+use raster_model::{MAX_PIXELS, MAX_SIDE};
 use std::alloc::Global;
 
 /// How many digits a count has at most.
@@ -58,14 +58,8 @@ fn read_lines<S: Source>(
     ensures read { IfOk result (λ grid. TakesLines (IsText (text_of_grid (grid_of grid))) (number_of lines.old) (number_of lines.new) (call_of S.left S.faults feed.old feed.new)) }
     ensures refused { IfErr result (HasLineCause IsGridText (number_of lines.old) (call_of S.left S.faults feed.old feed.new)) }
 {
-    let width = read_count(feed, lines, b"ncols ", 1, GREATEST_SIDE)?;
-    let height = read_count(
-        feed,
-        lines,
-        b"nrows ",
-        1,
-        GREATEST_SIDE.min(GREATEST_PIXELS / width),
-    )?;
+    let width = read_count(feed, lines, b"ncols ", 1, MAX_SIDE)?;
+    let height = read_count(feed, lines, b"nrows ", 1, MAX_SIDE.min(MAX_PIXELS / width))?;
     read_body(alloc, feed, lines, width, height)
 }
 
@@ -215,7 +209,7 @@ fn read_row<S: Source>(
     width: usize,
     values: &mut Vec<i64>,
 ) -> Result<(), GridFault>
-    requires wide { (0 < width) × (width ≤ 4096) }
+    requires wide { (0 < width) × (width ≤ max_side) }
     ensures same_source { source_name feed.new ≡ source_name feed.old }
     ensures same_limit { limit_of feed.new ≡ limit_of feed.old }
     ensures moves { Moves (call_of S.left S.faults feed.old feed.new) }

@@ -1,5 +1,5 @@
 -- Calls on a feed that come one after another.
-use Rattle.std.proofs.Common.{◌≡◌, ℕ, ◌+◌, ◌≤◌, List, [], ◌++◌, length, Option, Some, None, sym, ap, subst, ◌∙◌, append_assoc, arith}
+use Rattle.std.proofs.Common.{◌≡◌, ℕ, ◌+◌, ◌≤◌, List, [], ◌++◌, length, Option, Some, None, refl, sym, ap, subst, ◌∙◌, append_assoc, arith}
 use Rattle.std.specs.Prelude.{IfSome}
 use Rattle.std.proofs.lemmas.List.{length-append}
 use Rattle.insar_ports.specs.Bytes.{with_front, HasRisen}
@@ -54,3 +54,21 @@ stays told left at end limit before after l e g = record { front = []; parts = s
 pub Takes-sized : (told : Option (List ℕ)) (at : ℕ) (left : Option (List ℕ)) (end limit before after : ℕ) (P R : List ℕ → List ℕ → Type 0) → ((p r : List ℕ) → end ≡ at + length p → P p r → R p r) → Takes (call told at left end limit before after) P → Takes (call told at left end limit before after) R
 Takes-sized None at left end limit before after P R f h = tt
 Takes-sized (Some bytes) at left end limit before after P R f h = (h.0, h.1, (h.2.0, (h.2.1.0, (h.2.1.1.0, f h.0 h.1 h.2.1.1.0 h.2.1.1.1))))
+
+-- where bytes are told, what holds of them is said of what is told, and the other way round
+pub if_told : (o : Option (List ℕ)) (P : List ℕ → Type 0) → ((bytes : List ℕ) → o ≡ Some bytes → P bytes) → IfSome o P
+if_told None P f = tt
+if_told (Some bytes) P f = f bytes refl
+
+pub at_told : (o : Option (List ℕ)) (P : List ℕ → Type 0) (bytes : List ℕ) → o ≡ Some bytes → IfSome o P → P bytes
+at_told None P bytes e h = absurd cc
+at_told (Some b) P bytes e h = let same : b ≡ bytes = cc in subst P same h
+
+-- a call that handed out these bytes
+pub moves_part : (told : Option (List ℕ)) (at : ℕ) (left : Option (List ℕ)) (end limit before after : ℕ) (part : List ℕ) → told ≡ with_front part left → end ≡ at + length part → before ≤ after → Moves (call told at left end limit before after)
+moves_part told at left end limit before after part e p g = record { front = part; parts = e; place = p; grows = g }
+
+pub takes_part : (told : Option (List ℕ)) (at : ℕ) (left : Option (List ℕ)) (end limit before after : ℕ) (part : List ℕ) → told ≡ with_front part left → end ≡ at + length part → Takes (call told at left end limit before after) (λ text rest. text ≡ part)
+takes_part None at left end limit before after part e p = tt
+takes_part (Some bytes) at None end limit before after part e p = absurd (cc)
+takes_part (Some bytes) at (Some rest) end limit before after part e p = (part, rest, (some_is bytes (part ++ rest) e, (refl, (p, refl))))

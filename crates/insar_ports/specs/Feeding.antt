@@ -14,6 +14,10 @@ pending_of feed = slice_range feed.buffer.items feed.start feed.end
 abbrev pub waiting_of : {S : Type 0} {size : Ghosts (Vec ℕ)} → Feed S (Vec ℕ) size → Option ℕ
 waiting_of feed = if nat_lt feed.start feed.stop then Some (slice_index feed.buffer.items feed.start) else None
 
+-- the bytes that are handed out next without another look at the source: those that the limit lets out of what it gave
+abbrev pub ready_of : {S : Type 0} {size : Ghosts (Vec ℕ)} → Feed S (Vec ℕ) size → List ℕ
+ready_of feed = slice_range feed.buffer.items feed.start feed.stop
+
 -- the bytes that are left: those that wait in the feed, then those of the source
 abbrev pub left_of : {S : Type 0} {size : Ghosts (Vec ℕ)} → (S → Option (List ℕ)) → Feed S (Vec ℕ) size → Option (List ℕ)
 left_of left feed = with_front (pending_of feed) (left feed.source.now)

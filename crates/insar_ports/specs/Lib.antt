@@ -4,4 +4,4 @@ pub mod Calls
 pub mod Feeding
 pub mod Lines
 pub mod Memory
-pub mod Scripts
+pub mod Plans

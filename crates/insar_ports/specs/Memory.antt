@@ -2,15 +2,15 @@
 use Rattle.std.specs.Prelude.{◌≡◌, ℕ, ◌<◌, List, drop, take, length, vec_len}
 use Rattle.insar_ports.specs.declared.memory_source.MemorySource.{MemorySource}
 use Rattle.insar_ports.specs.declared.memory_sink.MemorySink.{MemorySink}
-use Rattle.insar_ports.specs.declared.script.Script.{Script}
+use Rattle.insar_ports.specs.declared.plan.Plan.{Plan}
 
 -- the bytes that a source has left
 abbrev pub bytes_left : MemorySource → List ℕ
 bytes_left source = drop source.start source.bytes.items
 
 -- what a source does in its calls
-abbrev pub source_script : MemorySource → Script
-source_script source = source.script
+abbrev pub source_plan : MemorySource → Plan
+source_plan source = source.plan
 
 -- the bytes that a sink holds
 abbrev pub bytes_held : MemorySink → List ℕ
@@ -21,8 +21,8 @@ abbrev pub capacity_of : MemorySink → ℕ
 capacity_of sink = vec_len sink.buffer
 
 -- what a sink does in its calls
-abbrev pub sink_script : MemorySink → Script
-sink_script sink = sink.script
+abbrev pub sink_plan : MemorySink → Plan
+sink_plan sink = sink.plan
 
 -- the sink is full, and the piece is not empty
 abbrev pub HasNoRoom : MemorySink → List ℕ → Type 0

@@ -6,10 +6,13 @@ ghost use Rattle.std.specs.Prelude.{
   ◌-◌,
   ◌^◌,
   ◌∷◌,
+  ◌++◌,
   [],
   ℕ,
+  List,
   min,
   length,
+  take,
   vec_len,
   IfOk,
   IfSome,
@@ -62,8 +65,8 @@ impl Buffer for Vec<u8> {
     ghost size = { λ bytes. vec_len bytes };
 }
 
-/// Hands out the bytes of a source one by one, up to a limit. It takes from the source only where
-/// every byte that the source gave was handed out.
+/// Hands out the bytes of a source one by one or many at once, up to a limit. It takes from the source
+/// only where every byte that the source gave was handed out.
 // `B` is always `Vec<u8>`: with `Vec<u8>` as a field's own type a dropped feed would tell nothing
 // of its source.
 pub struct Feed<'a, S, B: Buffer = Vec<u8>> {
@@ -100,6 +103,7 @@ impl<'a, S: Source> Feed<'a, S> {
       left_of,
       limit_of,
       pending_of,
+      ready_of,
       source_name,
       source_of,
       waiting_of,
@@ -168,6 +172,31 @@ impl<'a, S: Source> Feed<'a, S> {
             return Ok(None);
         }
         Ok(Some(self.buffer[self.start]))
+    }
+
+    /// The bytes that `consume` may hand out: those that stand in the buffer, up to the limit. They are
+    /// none before the first look at the source and once all were handed out; where `peek` shows a byte
+    /// they begin with it.
+    pub fn waiting(&self) -> &[u8]
+        ensures value { result.now ≡ ready_of self.now }
+        ensures front { IfSome (left_of S.left self.now) (λ bytes. (rest : List ℕ) × (bytes ≡ result.now ++ rest)) }
+        ensures some { IsReady self.now → 0 < length result.now }
+        ensures allowed { handed_of self.now + length result.now ≤ limit_of self.now }
+    {
+        &self.buffer[self.start..self.stop]
+    }
+
+    /// Hands out the first `count` of the bytes that wait.
+    pub fn consume(&mut self, count: usize)
+        requires { count ≤ length (ready_of self.old) }
+        ensures same_source { source_name self.new ≡ source_name self.old }
+        ensures source { source_of self.new ≡ source_of self.old }
+        ensures left { left_of S.left self.old ≡ with_front (take count (ready_of self.old)) (left_of S.left self.new) }
+        ensures waiting { ready_of self.old ≡ take count (ready_of self.old) ++ ready_of self.new }
+        ensures handed { handed_of self.new ≡ handed_of self.old + count }
+        ensures limit { limit_of self.new ≡ limit_of self.old }
+    {
+        self.start += count;
     }
 
     /// Hands out the next byte; `None` at the end of the input.

@@ -7,7 +7,7 @@ mod buffer;
 mod feed;
 mod memory_sink;
 mod memory_source;
-mod script;
+mod plan;
 mod sink;
 mod source;
 

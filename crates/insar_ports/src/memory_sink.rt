@@ -1,7 +1,7 @@
 ghost use Rattle.std.specs.Prelude.{◌≤◌, vec_len};
 
 use crate::buffer::zeroes;
-use crate::script::Script;
+use crate::plan::Plan;
 use crate::sink::Sink;
 use crate::source::Failed;
 use std::alloc::{AllocError, Global};
@@ -12,15 +12,15 @@ use std::alloc::{AllocError, Global};
 pub struct MemorySink {
     buffer: Vec<u8>,
     end: usize,
-    script: Script,
+    plan: Plan,
     ghost within: { end ≤ vec_len buffer },
-    ghost positive: { 1 ≤ script.piece },
+    ghost positive: { 1 ≤ plan.piece },
 }
 
 impl MemorySink {
     ghost use Rattle.std.specs.Prelude.{◌≡◌, [], IfOk};
-    ghost use Rattle.insar_ports.specs.Memory.{bytes_held, capacity_of, sink_script};
-    ghost use Rattle.insar_ports.specs.Scripts.{fresh_script};
+    ghost use Rattle.insar_ports.specs.Memory.{bytes_held, capacity_of, sink_plan};
+    ghost use Rattle.insar_ports.specs.Plans.{fresh_plan};
 
     /// An empty sink that takes at most `piece` bytes in a call and `capacity` in all. The calls whose
     /// numbers, from 1, are in `failing` fail and count a fault. The number of a call stays at the last
@@ -34,13 +34,13 @@ impl MemorySink {
         requires { 1 ≤ piece }
         ensures held { IfOk result (λ sink. bytes_held sink ≡ []) }
         ensures capacity { IfOk result (λ sink. capacity_of sink ≡ capacity) }
-        ensures script { IfOk result (λ sink. sink_script sink ≡ fresh_script piece failing) }
+        ensures plan { IfOk result (λ sink. sink_plan sink ≡ fresh_plan piece failing) }
     {
         let buffer = zeroes(alloc, capacity)?;
         Ok(MemorySink {
             buffer,
             end: 0,
-            script: Script::new(piece, failing),
+            plan: Plan::new(piece, failing),
         })
     }
 
@@ -54,36 +54,36 @@ impl MemorySink {
 
 impl Sink for MemorySink {
     ghost use Rattle.std.specs.Prelude.{◌≡◌, ◌<◌, ◌-◌, ◌++◌, ◌⊎◌, Some, length, take, min, IfOk, OnErr, OnOk, Ok};
-    ghost use Rattle.insar_ports.specs.Memory.{bytes_held, capacity_of, sink_script, HasNoRoom};
-    ghost use Rattle.insar_ports.specs.Scripts.{after_call, after_fault, WillFail};
+    ghost use Rattle.insar_ports.specs.Memory.{bytes_held, capacity_of, sink_plan, HasNoRoom};
+    ghost use Rattle.insar_ports.specs.Plans.{after_call, after_fault, WillFail};
 
     ghost held = { λ sink. Some (bytes_held sink) };
 
-    ghost faults = { λ sink. (sink_script sink).faults };
+    ghost faults = { λ sink. (sink_plan sink).faults };
 
     /// Appends as many bytes as a piece and the capacity have room for. A piece that is not empty fails
     /// where the sink is full.
     fn put(&mut self, piece: &[u8]) -> Result<usize, Failed>
-        ensures fails { OnErr result (WillFail (sink_script self.old) ⊎ HasNoRoom self.old piece.now) }
-        ensures works { OnOk result (¬ WillFail (sink_script self.old)) }
+        ensures fails { OnErr result (WillFail (sink_plan self.old) ⊎ HasNoRoom self.old piece.now) }
+        ensures works { OnOk result (¬ WillFail (sink_plan self.old)) }
         ensures room { OnOk result (¬ HasNoRoom self.old piece.now) }
         ensures within { IfOk result (λ n. n ≤ length piece.now) }
-        ensures count { IfOk result (λ n. n ≡ min (min (length piece.now) (sink_script self.old).piece) (capacity_of self.old - length (bytes_held self.old))) }
+        ensures count { IfOk result (λ n. n ≡ min (min (length piece.now) (sink_plan self.old).piece) (capacity_of self.old - length (bytes_held self.old))) }
         ensures gained { IfOk result (λ n. bytes_held self.new ≡ bytes_held self.old ++ take n piece.now) }
         ensures progress { result ≡ Ok 0 → length piece.now ≡ 0 }
         ensures failed { OnErr result (bytes_held self.new ≡ bytes_held self.old) }
         ensures capacity { capacity_of self.new ≡ capacity_of self.old }
-        ensures after_ok { OnOk result (sink_script self.new ≡ after_call (sink_script self.old)) }
-        ensures after_err { OnErr result (sink_script self.new ≡ after_fault (sink_script self.old)) }
-        ensures grows { (sink_script self.old).faults ≤ (sink_script self.new).faults }
+        ensures after_ok { OnOk result (sink_plan self.new ≡ after_call (sink_plan self.old)) }
+        ensures after_err { OnErr result (sink_plan self.new ≡ after_fault (sink_plan self.old)) }
+        ensures grows { (sink_plan self.old).faults ≤ (sink_plan self.new).faults }
     {
-        self.script.call()?;
+        self.plan.call()?;
         let room = self.buffer.len() - self.end;
         if room == 0 && !piece.is_empty() {
-            self.script.count_fault();
+            self.plan.count_fault();
             return Err(Failed);
         }
-        let count = piece.len().min(self.script.piece).min(room);
+        let count = piece.len().min(self.plan.piece).min(room);
         let end = self.end + count;
         self.buffer[self.end..end].copy_from_slice(&piece[..count]);
         self.end = end;

@@ -1,8 +1,9 @@
 use Rattle.std.proofs.lemmas.Result.{on_err_weaker, on_ok_weaker}
 use Rattle.surface_snapshots.specs.Views.{parts_of}
 use Rattle.grid_writer.specs.Grid.{header_text, row_text, shown_in, texts_below}
-use Rattle.grid_writer.proofs.WriteLemmas.{at_any_err, cut_early, cut_late, writes_then}
+use Rattle.grid_writer.proofs.WriteLemmas.{cut_early, cut_late, writes_then}
 use Rattle.grid_writer.proofs.grid.append_grid.Goals as goal
+use Rattle.sums_and_lists.proofs.Lists.{at_any_err}
 
 pub returns-in_err-write_header-clause-cut : goal.returns-in_err-write_header-clause-cut
 returns-in_err-write_header-clause-cut g c =

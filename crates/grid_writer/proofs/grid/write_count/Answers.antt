@@ -1,8 +1,9 @@
 use Rattle.std.proofs.Common.{◌∙◌}
 use Rattle.std.specs.Prelude.{decimal}
 use Rattle.std.proofs.lemmas.Result.{on_ok_weaker, on_err_weaker}
-use Rattle.grid_writer.proofs.WriteLemmas.{writes_then, cut_early, cut_late, at_any_err}
+use Rattle.grid_writer.proofs.WriteLemmas.{writes_then, cut_early, cut_late}
 use Rattle.grid_writer.proofs.grid.write_count.Goals as goal
+use Rattle.sums_and_lists.proofs.Lists.{at_any_err}
 
 pub returns-in_err-push-clause-cut : goal.returns-in_err-push-clause-cut
 returns-in_err-push-clause-cut g c =

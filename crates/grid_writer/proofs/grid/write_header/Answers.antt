@@ -1,7 +1,8 @@
 use Rattle.std.proofs.lemmas.Result.{on_ok_weaker, on_err_weaker}
 use Rattle.grid_writer.specs.Grid.{columns_text, rows_text, frame_text}
-use Rattle.grid_writer.proofs.WriteLemmas.{writes_then, cut_early, cut_late, at_any_err}
+use Rattle.grid_writer.proofs.WriteLemmas.{writes_then, cut_early, cut_late}
 use Rattle.grid_writer.proofs.grid.write_header.Goals as goal
+use Rattle.sums_and_lists.proofs.Lists.{at_any_err}
 
 pub returns-in_err-write_columns-clause-cut : goal.returns-in_err-write_columns-clause-cut
 returns-in_err-write_columns-clause-cut g c =

@@ -6,8 +6,9 @@ use Rattle.std.proofs.lemmas.Result.{on_err_weaker, on_ok_weaker}
 use Rattle.surface_snapshots.specs.Views.{parts_of}
 use Rattle.grid_writer.specs.Grid.{row_text, shown_in, texts_below, value_text}
 use Rattle.grid_writer.proofs.GridLemmas.{texts_more, texts_none, texts_tail}
-use Rattle.grid_writer.proofs.WriteLemmas.{at_any_err, cut_in_part, cut_late, writes_nothing, writes_then}
+use Rattle.grid_writer.proofs.WriteLemmas.{cut_in_part, cut_late, writes_nothing, writes_then}
 use Rattle.grid_writer.proofs.grid.write_row.Goals as goal
+use Rattle.sums_and_lists.proofs.Lists.{at_any_err}
 
 pub loop-x-init : goal.loop-x-init
 loop-x-init g c = record { written = rw (texts_none (value_text (shown_in (parts_of c.args.snapshot.now)) c.args.y)) (writes_nothing _ _); grows = omega arith }

@@ -2,8 +2,9 @@ use Rattle.std.proofs.Common.{arith}
 use Rattle.surface_snapshots.specs.Views.{parts_of}
 use Rattle.grid_writer.specs.Grid.{row_text, shown_in}
 use Rattle.grid_writer.proofs.GridLemmas.{texts_more, texts_none, texts_tail}
-use Rattle.grid_writer.proofs.WriteLemmas.{at_any_err, cut_in_part, cut_late, writes_nothing, writes_then}
+use Rattle.grid_writer.proofs.WriteLemmas.{cut_in_part, cut_late, writes_nothing, writes_then}
 use Rattle.grid_writer.proofs.grid.write_rows.Goals as goal
+use Rattle.sums_and_lists.proofs.Lists.{at_any_err}
 
 pub loop-y-init : goal.loop-y-init
 loop-y-init g c =

@@ -1,18 +1,19 @@
-use Rattle.std.proofs.Common.{◌≡◌, ◌-◌}
+use Rattle.std.proofs.Common.{◌≡◌, ◌≤◌, ◌-◌, length}
 use Rattle.insar_ports.specs.Calls.{Moves, Takes, call_of}
 use Rattle.insar_ports.specs.Feeding.{handed_of, limit_of, source_name}
 use Rattle.grid_writer.specs.LineWords.{line_of, number_of}
 use Rattle.grid_writer.proofs.TakeLemmas.{KeepsLine}
 use Rattle.grid_writer.proofs.lines.Lines.take_line.Given as goal
 
-abbrev pub invariant-loop-byte : goal.invariant-loop-byte
-invariant-loop-byte g l = record {
+abbrev pub invariant-loop-feed : goal.invariant-loop-feed
+invariant-loop-feed g l = record {
   name : source_name l.feed ≡ source_name l.fn.feed;
   limit : limit_of l.feed ≡ limit_of l.fn.feed;
   moves : Moves (call_of g.S.Source.left g.S.Source.faults l.fn.feed l.feed);
   number : number_of l.self ≡ number_of l.fn.self;
-  kept : Takes (call_of g.S.Source.left g.S.Source.faults l.fn.feed l.feed) (KeepsLine l.most (line_of l.self) l.end);
+  room : length (line_of l.self) ≤ l.most;
+  kept : Takes (call_of g.S.Source.left g.S.Source.faults l.fn.feed l.feed) (KeepsLine l.most (line_of l.self));
 }
 
-abbrev pub decreases-loop-byte : goal.decreases-loop-byte
-decreases-loop-byte g l = limit_of l.feed - handed_of l.feed
+abbrev pub decreases-loop-feed : goal.decreases-loop-feed
+decreases-loop-feed g l = limit_of l.feed - handed_of l.feed

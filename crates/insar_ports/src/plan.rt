@@ -2,7 +2,7 @@ use crate::source::Failed;
 
 /// How a port in memory behaves: how much it moves in a call, and which calls fail.
 #[derive(Drop)]
-pub struct Script {
+pub struct Plan {
     /// The most bytes that a call moves.
     pub piece: usize,
     /// The numbers of the calls that fail, from 1.
@@ -13,14 +13,14 @@ pub struct Script {
     pub faults: u64,
 }
 
-impl Script {
+impl Plan {
     ghost use Rattle.std.specs.Prelude.{◌≡◌, ◌≤◌, ◌+◌, ◌-◌, ◌^◌, min, OnErr, OnOk};
-    ghost use Rattle.insar_ports.specs.Scripts.{after_call, after_fault, fresh_script, WillFail};
+    ghost use Rattle.insar_ports.specs.Plans.{after_call, after_fault, fresh_plan, WillFail};
 
-    pub fn new(piece: usize, failing: Vec<u32>) -> Script
-        ensures { result ≡ fresh_script piece failing }
+    pub fn new(piece: usize, failing: Vec<u32>) -> Plan
+        ensures { result ≡ fresh_plan piece failing }
     {
-        Script {
+        Plan {
             piece,
             failing,
             calls: 0,

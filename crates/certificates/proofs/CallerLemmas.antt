@@ -3,7 +3,7 @@ use Rattle.std.proofs.Common.{◌≡◌, ◌∙◌, ℕ, ◌<◌, ◌*◌, ◌�
 use Rattle.std.specs.Prelude.{ℤ, pos, IsTrue, ◌&&◌, if◌then◌else◌, unsigned_abs}
 use Rattle.raster_model.specs.declared.edge.Edge.{Edge}
 use Rattle.raster_model.specs.declared.scene.Scene.{Scene}
-use Rattle.raster_model.specs.Sums.{Field, is_edge, end_x, end_y, where_true}
+use Rattle.raster_model.specs.Sums.{Field, is_edge, end_x, end_y}
 use Rattle.raster_model.specs.Raster.{Raster, departure, has_open_ends, is_inner, edge_cost, inner_cost, tile_cost}
 use Rattle.raster_model.specs.Certificates.{IsTileEdge, face_difference, faces_of_tile}
 use Rattle.raster_model.specs.Cells.{face_at, IsCertifiedTile}
@@ -15,6 +15,9 @@ use Rattle.raster_model.proofs.TileLemmas.{window_of-pixels}
 use Rattle.certificates.specs.declared.results.TileResult.{TileResult}
 use Rattle.certificates.specs.TileSets.{IsCopy}
 use Rattle.certificates.specs.Results.{IsGoodTile, window_in, result_surface}
+use Rattle.std.proofs.lemmas.Bool.{and_from}
+use Rattle.sums_and_lists.proofs.SumLemmas.{where_true-same}
+use Rattle.sums_and_lists.specs.Sums.{where_true}
 
 -- the same edge under two masks and on two surfaces: both ends open under both or under neither, and the same departure where they are
 pub record IsSameAt (r : Raster) (mask mask' : Field Bool) (S S' : Field ℤ) (e : Edge) : Type 0 where
@@ -27,14 +30,8 @@ same_cost false false w d d' e h = refl
 same_cost true false w d d' e h = cc
 same_cost false true w d d' e h = cc
 
-same_part : (i : Bool) (a b : ℤ) → (i ≡ true → a ≡ b) → where_true i a ≡ where_true i b
-same_part true a b h = h refl
-same_part false a b h = refl
-
-both : (a b : Bool) → IsTrue a → b ≡ true → IsTrue (a && b)
-both true true p q = refl
-both true false p q = q
-both false b p q = cc
+pub edge_cost-same : (r : Raster) (mask mask' : Field Bool) (S S' : Field ℤ) (e : Edge) → IsSameAt r mask mask' S S' e → edge_cost r mask S e ≡ edge_cost r mask' S' e
+edge_cost-same r mask mask' S S' e q = same_cost (has_open_ends mask e) (has_open_ends mask' e) (r.weight e) (departure r S e) (departure r S' e) q.ends q.departs
 
 -- what certifies a surface in a tile under one mask certifies another there under another, where all inner edges of the tile are the same
 module _ (r : Raster) (mask mask' : Field Bool) (S S' : Field ℤ) (t : ℕ) (same : (e : Edge) → IsTileEdge r t e → IsSameAt r mask mask' S S' e) where
@@ -42,9 +39,8 @@ module _ (r : Raster) (mask mask' : Field Bool) (S S' : Field ℤ) (t : ℕ) (sa
   unfolding tile_cost
   tile_cost-same =
       sum_edges-same r.width r.height (inner_cost r mask t S) (inner_cost r mask' t S')
-      (λ e i. same_part (is_inner r t e) (edge_cost r mask S e) (edge_cost r mask' S' e)
-      (λ n. let q = same e (both (is_edge r.width r.height e) (is_inner r t e) i n) in
-      same_cost (has_open_ends mask e) (has_open_ends mask' e) (r.weight e) (departure r S e) (departure r S' e) q.ends q.departs))
+      (λ e i. where_true-same (is_inner r t e) (edge_cost r mask S e) (edge_cost r mask' S' e)
+      (λ n. edge_cost-same r mask mask' S S' e (same e (and_from (is_edge r.width r.height e) (is_inner r t e) i n))))
 
   pub certified_same : (faces : List ℤ) → IsCertifiedTile r mask t S faces → IsCertifiedTile r mask' t S' faces
   certified_same faces c = (

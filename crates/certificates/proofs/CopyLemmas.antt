@@ -1,17 +1,11 @@
 -- Copies of results, one after another.
-use Rattle.std.proofs.Common.{◌≡◌, ◌∙◌, ℕ, zero, suc, ◌+◌, List, [], ◌∷◌, ◌++◌, length, get_or, Some, refl, arith, inl, inr, ◌⊎◌, length-append}
+use Rattle.std.proofs.Common.{◌≡◌, ◌∙◌, ℕ, ◌+◌, List, [], ◌∷◌, ◌++◌, length, get_or, Some, refl, arith, inl, inr, length-append}
 use Rattle.std.specs.Prelude.{slice_get}
 use Rattle.std.proofs.lemmas.Option.{slice_get_within, slice_get-get_or}
 use Rattle.raster_model.specs.declared.tiling.Tiling.{Tiling}
 use Rattle.certificates.specs.declared.results.TileResult.{TileResult}
 use Rattle.certificates.specs.TileSets.{HasOneForEach, IsCopy, AreCopies}
-
--- an element of a list with one more is one of the list, or it is the one, at its end
-last_or_before : {A : Type 0} (xs : List A) (y : A) (k : ℕ) (z : A) → slice_get (xs ++ (y ∷ [])) k ≡ Some z → (slice_get xs k ≡ Some z) ⊎ ((k ≡ length xs) × (y ≡ z))
-last_or_before [] y zero z e = inr (refl, cc)
-last_or_before [] y (suc k) z e = cc
-last_or_before (x ∷ xs) y zero z e = inl e
-last_or_before (x ∷ xs) y (suc k) z e = elim (last_or_before xs y k z e) [ inl p ↦ inl p | inr q ↦ inr (omega (arith, q.0), q.1) ]
+use Rattle.sums_and_lists.proofs.Lists.{last_or_before}
 
 -- the copies of the first results
 pub record AreFirstCopies (results : List TileResult) (n : ℕ) (copies : List TileResult) : Type 0 where

@@ -1,17 +1,19 @@
 -- What the edges that start at a pixel add to the cost of a tile, as code adds it up.
-use Rattle.std.proofs.Common.{◌≡◌, ℕ, ◌+◌, ◌*◌, ◌^◌, ◌<◌, ◌≤◌, refl, arith, true, false, Fits}
+use Rattle.std.proofs.Common.{◌≡◌, ℕ, ◌+◌, ◌*◌, ◌^◌, ◌<◌, ◌≤◌, arith, Fits}
 use Rattle.std.specs.Int.{w128}
-use Rattle.std.specs.Prelude.{ℤ, pos, Bool, ◌&&◌, IsTrue, nat_lt}
+use Rattle.std.specs.Prelude.{ℤ, pos, Bool, IsTrue, nat_lt}
 use Rattle.std.proofs.lemmas.Bool.Decides.{nat_tests}
 use Rattle.std.proofs.lemmas.Int.{ints}
 use Rattle.raster_model.specs.declared.scene.Scene.{Scene}
 use Rattle.raster_model.specs.declared.tiling.Window.{Window}
-use Rattle.raster_model.specs.Sums.{Field, is_edge, right_edge, down_edge, where_true}
+use Rattle.raster_model.specs.Sums.{Field, is_edge, right_edge, down_edge}
 use Rattle.raster_model.specs.Raster.{edge_cost, cost_from}
 use Rattle.raster_model.specs.Tiles.{IsWithin, IsWindowOf}
 use Rattle.raster_model.specs.Heights.{KnowsEnds, KnowsOpenOf}
 use Rattle.raster_model.specs.Scene.{raster_of}
 use Rattle.raster_model.proofs.WindowCosts.{cost_from_is}
+use Rattle.std.proofs.lemmas.Bool.{and_parts}
+use Rattle.sums_and_lists.specs.Sums.{where_true}
 
 -- the edges that start at a pixel of the window and end in it are edges of the raster
 is_right : (w h x y : ℕ) → x + 1 < w → y < h → IsTrue (is_edge w h (right_edge x y))
@@ -19,11 +21,6 @@ is_right w h x y l m = grind (arith, nat_tests)
 
 is_lower : (w h x y : ℕ) → x < w → y + 1 < h → IsTrue (is_edge w h (down_edge x y))
 is_lower w h x y l m = grind (arith, nat_tests)
-
-both_hold : (a b : Bool) → IsTrue (a && b) → IsTrue a × IsTrue b
-both_hold true true e = (refl, refl)
-both_hold true false e = cc
-both_hold false b e = cc
 
 module _ (s : Scene) (mask knows : Field Bool) (tile : ℕ) (v : Window) (is : IsWindowOf s.tiling tile v) (known : KnowsOpenOf (raster_of s) mask tile knows) where
   -- an open pixel of the window is known
@@ -36,13 +33,13 @@ module _ (s : Scene) (mask knows : Field Bool) (tile : ℕ) (v : Window) (is : I
   pub right_asks : (x y : ℕ) → IsWithin v x y → x < v.x1 → IsTrue (is_edge s.phase.width s.phase.height (right_edge x y)) × KnowsEnds mask knows (right_edge x y)
   right_asks x y w l = (
     is_right s.phase.width s.phase.height x y (omega (arith, l, is.across, s.same_width)) (omega (arith, w, is.along, s.same_height)),
-    λ o. (let b = both_hold (mask x y) (mask (x + 1) y) o in (at_pixel x y w b.0, at_pixel (x + 1) y (omega (arith, w), omega (arith, l), w.2, w.3) b.1)),
+    λ o. (let b = and_parts (mask x y) (mask (x + 1) y) o in (at_pixel x y w b.0, at_pixel (x + 1) y (omega (arith, w), omega (arith, l), w.2, w.3) b.1)),
   )
 
   pub lower_asks : (x y : ℕ) → IsWithin v x y → y < v.y1 → IsTrue (is_edge s.phase.width s.phase.height (down_edge x y)) × KnowsEnds mask knows (down_edge x y)
   lower_asks x y w l = (
     is_lower s.phase.width s.phase.height x y (omega (arith, w, is.across, s.same_width)) (omega (arith, l, is.along, s.same_height)),
-    λ o. (let b = both_hold (mask x y) (mask x (y + 1)) o in (at_pixel x y w b.0, at_pixel x (y + 1) (w.0, w.1, omega (arith, w), omega (arith, l)) b.1)),
+    λ o. (let b = and_parts (mask x y) (mask x (y + 1)) o in (at_pixel x y w b.0, at_pixel x (y + 1) (w.0, w.1, omega (arith, w), omega (arith, l)) b.1)),
   )
 
 -- a cost that is worked out, or 0

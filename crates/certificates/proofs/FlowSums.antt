@@ -1,33 +1,34 @@
 -- Sums of flows at regions and of their products with departures, as double loops add them up.
-use Rattle.std.proofs.Common.{◌≡◌, ℕ, ◌+◌, ◌*◌, ◌^◌, ◌<◌, ◌≤◌, to_z, of_z, w64, FitsSigned, sym, ◌∙◌, ap, refl, arith, Bool, true, false, List, length, get_or, set, replicate, inl, inr, ◌⊎◌}
+use Rattle.std.proofs.Common.{◌≡◌, ℕ, ◌+◌, ◌*◌, ◌^◌, ◌<◌, ◌≤◌, to_z, of_z, w64, FitsSigned, sym, ◌∙◌, ap, refl, arith, Bool, true, false, List, length, get_or, set, replicate, inl, inr}
 use Rattle.std.specs.Prelude.{ℤ, pos, ◌+ℤ◌, ◌-ℤ◌, ◌&&◌, ◌==◌, nat_lt, unsigned_abs}
 use Rattle.std.proofs.lemmas.Int.{ints, fits_signed_from_abs}
 use Rattle.std.proofs.lemmas.Bool.Decides.{nat_tests, eqb_tells}
 use Rattle.std.proofs.lemmas.List.{length-set, get_or-set_same, get_or-set_other, get_or-replicate, get_or_past, length-replicate}
 use Rattle.raster_model.specs.declared.edge.Edge.{Edge}
-use Rattle.raster_model.specs.Sums.{Field, is_edge, right_edge, down_edge, edges_from, sum_edges, sum_grid, sum_row, at_start, at_end, where_true}
+use Rattle.raster_model.specs.Sums.{Field, is_edge, right_edge, down_edge, edges_from, sum_edges, sum_grid, sum_row, at_start, at_end}
 use Rattle.raster_model.specs.Raster.{Raster, is_seam, lifted}
 use Rattle.raster_model.specs.Seams.{flow_in, flow_out, flow_total}
-use Rattle.raster_model.proofs.SumLemmas.{sum_below-none, sum_below-more, sum_edges-add, sum_edges-same, picked, no_number}
+use Rattle.raster_model.proofs.SumLemmas.{sum_edges-add, sum_edges-same}
 use Rattle.certificates.specs.declared.seam_flows.SeamFlows.{SeamFlows}
 use Rattle.certificates.specs.FlowWords.{raster_in, mask_in, flow_of, region_in, net_flow, moved_on, moved_from, seam_product, product_on, product_from, total_of}
 use Rattle.certificates.specs.Growth.{AreWithin, HasGrown}
+use Rattle.std.proofs.lemmas.Bool.{cases_lt}
+use Rattle.sums_and_lists.proofs.Tests.{same_number}
+use Rattle.sums_and_lists.specs.Sums.{where_true}
+use Rattle.sums_and_lists.proofs.SumLemmas.{sum_below-none, sum_below-more, picked, no_number}
 
 -- ---- one number that grows
 pub set_grown : (xs : List ℤ) (place : ℕ) (a z : ℤ) → place < length xs → z ≡ get_or xs place (pos 0) +ℤ a → HasGrown xs (set xs place z) (λ v. where_true (place == v) a)
 set_grown xs place a z l e = record {
   same_length = length-set xs place z;
   grown = λ v m. elim (eqb_tells place v) [
-    | inl t ↦ rw (← t.1) (get_or-set_same xs place z (pos 0) l ∙ e ∙ ap (λ (n : ℤ). get_or xs place (pos 0) +ℤ n) (sym (picked (place == place) a (eqb_same place))))
+    | inl t ↦ rw (← t.1) (get_or-set_same xs place z (pos 0) l ∙ e ∙ ap (λ (n : ℤ). get_or xs place (pos 0) +ℤ n) (sym (picked (place == place) a (same_number place))))
     | inr t ↦ get_or-set_other xs place v z (pos 0) (λ p. t.1 (sym p)) ∙ none (get_or xs v (pos 0)) (where_true (place == v) a) (no_number (place == v) a t.0)
   ];
 }
   where
     none : (x m : ℤ) → m ≡ pos 0 → x ≡ x +ℤ m
     none x m p = omega (arith, ints)
-
-    eqb_same : (n : ℕ) → (n == n) ≡ true
-    eqb_same n = grind (arith, nat_tests)
 
 pub set_within : (xs : List ℤ) (place : ℕ) (a z : ℤ) → place < length xs → z ≡ get_or xs place (pos 0) +ℤ a → unsigned_abs a ≤ 65535 → (n : ℕ) → AreWithin n xs → AreWithin (n + 1) (set xs place z)
 set_within xs place a z l e small n h v = elim (eqb_tells place v) [
@@ -149,7 +150,4 @@ module _ (k : SeamFlows) (labels : List ℕ) where
       last a g n p e = omega (arith, ints)
 
 pub zeros : (xs : List ℤ) (n : ℕ) → xs ≡ replicate n (pos 0) → (v : ℕ) → get_or xs v (pos 0) ≡ pos 0
-zeros xs n e v = elim (below_or v n) [ inl l ↦ rw e (get_or-replicate n v (pos 0) (pos 0) l) | inr l ↦ rw e (get_or_past (replicate n (pos 0)) v (pos 0) (rw length-replicate l)) ]
-  where
-    below_or : (v n : ℕ) → (v < n) ⊎ (n ≤ v)
-    below_or v n = grind arith
+zeros xs n e v = elim (cases_lt v n) [ inl l ↦ rw e (get_or-replicate n v (pos 0) (pos 0) l) | inr l ↦ rw e (get_or_past (replicate n (pos 0)) v (pos 0) (rw length-replicate l)) ]

@@ -3,9 +3,10 @@ use Rattle.std.proofs.Common.{◌≡◌, ℕ, ◌+◌, ◌<◌, refl, arith, tru
 use Rattle.std.specs.Prelude.{ℤ, pos, ◌&&◌, Bool}
 use Rattle.std.proofs.lemmas.Int.{ints}
 use Rattle.raster_model.specs.Raster.{Raster, seam_cost, seam_cost_from, seam_edge_cost}
-use Rattle.raster_model.specs.Sums.{Field, is_edge, right_edge, down_edge, sum_below, sum_grid, where_true}
-use Rattle.raster_model.proofs.SumLemmas.{sum_below-more}
+use Rattle.raster_model.specs.Sums.{Field, is_edge, right_edge, down_edge, sum_grid}
 use Rattle.certificates.proofs.FlowSums.{both_terms}
+use Rattle.sums_and_lists.specs.Sums.{sum_below, where_true}
+use Rattle.sums_and_lists.proofs.SumLemmas.{sum_below-more}
 
 -- one number more of a sum
 pub adds : (n a b : ℕ) (f : ℕ → ℤ) → pos a ≡ sum_below n f → pos b ≡ f n → pos (a + b) ≡ sum_below (n + 1) f

@@ -7,7 +7,7 @@ use Rattle.std.proofs.lemmas.Nat.{mul-add-lt, mul-le}
 use Rattle.std.proofs.lemmas.Bool.Decides.{nat_tests}
 use Rattle.raster_model.specs.declared.edge.Edge.{Edge}
 use Rattle.raster_model.specs.declared.scene.Scene.{Scene}
-use Rattle.raster_model.specs.Sums.{Field, is_edge, end_x, end_y, at_start, at_end, where_true, one_if}
+use Rattle.raster_model.specs.Sums.{Field, is_edge, end_x, end_y, at_start, at_end}
 use Rattle.raster_model.specs.Heights.{KnowsOpen, KnowsEnds}
 use Rattle.raster_model.specs.Raster.{Raster, is_seam, has_open_ends, masked_weight, departure, lifted}
 use Rattle.raster_model.specs.Flows.{is_seam_edge, flow_at}
@@ -18,6 +18,8 @@ use Rattle.certificates.specs.EdgeWords.{HoldsIfPart, IsBreak}
 use Rattle.certificates.specs.SeamVerdicts.{label_at}
 use Rattle.certificates.specs.FlowWords.{raster_in, mask_in, flow_of, flow_or_none, PlacedAt, IsSeamOf, IsSmallAt, FlowFitsAt, FlowsFit, HasLabels, net_flow, moved_on, seam_product, product_on}
 use Rattle.certificates.specs.Growth.{AreWithin, HasGrown}
+use Rattle.sums_and_lists.proofs.Orders.{ends_in, not_lt}
+use Rattle.sums_and_lists.specs.Sums.{where_true, one_if}
 
 -- ---- the place of a flow
 pub place_is_below : (k : SeamFlows) (e : Edge) (place : ℕ) → PlacedAt k e place → is_seam_edge (raster_in k) e ≡ true → place < length k.flows.now
@@ -43,9 +45,6 @@ both_hold true true e = (refl, refl)
 both_hold true false e = cc
 both_hold false b e = cc
 
-ends_in : (x y w h a b : ℕ) → IsTrue ((nat_lt x w && nat_lt y h) && (nat_lt a w && nat_lt b h)) → (x < w) × (y < h) × (a < w) × (b < h)
-ends_in x y w h a b t = (grind (arith, nat_tests), grind (arith, nat_tests), grind (arith, nat_tests), grind (arith, nat_tests))
-
 pub in_raster : (k : SeamFlows) (e : Edge) → IsSeamOf k e → (0 ≤ e.x) × (e.x < k.scene.now.phase.width) × (0 ≤ e.y) × (e.y < k.scene.now.phase.height)
 in_raster k e i =
     let w = k.scene.now.phase.width in
@@ -66,15 +65,12 @@ module _ (k : SeamFlows) (e : Edge) (z : ℤ) (u w : ℕ) (is : z ≡ flow_or_no
   pub heavy_cases : MatchBool (nat_lt w u) (IsBreak (IsSeamOf k) (FlowFitsAt k) e) (HoldsIfPart (IsSeamOf k) (FlowFitsAt k) e)
   heavy_cases = go (nat_lt w u) refl
     where
-      fits : (w u : ℕ) → nat_lt w u ≡ false → u ≤ w
-      fits w u t = grind (arith, nat_tests)
-
       breaks : (w u : ℕ) → nat_lt w u ≡ true → u ≤ w → ⊥
       breaks w u t l = grind (arith, nat_tests)
 
       go : (t : Bool) → nat_lt w u ≡ t → MatchBool t (IsBreak (IsSeamOf k) (FlowFitsAt k) e) (HoldsIfPart (IsSeamOf k) (FlowFitsAt k) e)
       go true t = (s, λ f. breaks w u t (rw (size_there, b) f))
-      go false t = λ i. rw (← size_there, ← b) (fits w u t)
+      go false t = λ i. rw (← size_there, ← b) (not_lt w u t)
 
   pub small_there : w ≤ 65535 → nat_lt w u ≡ false → HoldsIfPart (IsSeamOf k) (IsSmallAt k) e
   small_there l t i = rw (← size_there) (low w u l t)

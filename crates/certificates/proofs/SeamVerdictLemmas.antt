@@ -1,25 +1,22 @@
 -- What verdicts say of the certificates of seams.
 use Rattle.std.proofs.Common.{◌≡◌, ◌∙◌, sym, refl, subst, ℕ, ◌+◌, ◌*◌, ◌<◌, ℤ, List, Bool, length, arith, Fits, w32}
-use Rattle.std.specs.Prelude.{◌↔◌, pos, ◌-ℤ◌, ◌+ℤ◌, ◌*ℤ◌, ◌&&◌, IsTrue, slice_index}
+use Rattle.std.specs.Prelude.{◌↔◌, pos, ◌-ℤ◌, ◌+ℤ◌, ◌*ℤ◌, slice_index}
 use Rattle.std.proofs.lemmas.Int.{ints}
 use Rattle.raster_model.specs.declared.edge.Edge.{Edge}
 use Rattle.raster_model.specs.Raster.{Raster, lifted, seam_cost, is_seam}
 use Rattle.raster_model.specs.Sums.{Field, is_edge}
-use Rattle.raster_model.specs.Seams.{IsAnchored, IsOpenPixel, AreRegions, IsLeastAtSeams, flow_total}
+use Rattle.raster_model.specs.Seams.{IsAnchored, IsOpenPixel, AreRegions, IsLeastAtSeams, flow_total, IsFirstOpen}
 use Rattle.raster_model.specs.Flows.{seam_count, flow_at}
 use Rattle.raster_model.proofs.Balance.{balanced_by_labels, balanced_at_label}
 use Rattle.raster_model.proofs.Exact.{lifted_is_congruent}
 use Rattle.raster_model.proofs.SeamLeast.{least_at_seams}
-use Rattle.raster_model.proofs.SumLemmas.{both_true}
 use Rattle.certificates.specs.declared.verdicts.SeamVerdict.{SeamVerdict}
 use Rattle.certificates.specs.declared.verdicts.SeamVerdict.TheVariants.{Good, Shape, Range, Anchor, FlowAtEdge, Unbalanced, CostDiffers}
-use Rattle.certificates.specs.SeamVerdicts.{IsFirstOpen, IsOffAnchor, ListsRegions, AllFlowsFit, AreBalanced, IsLeastUnbalanced, IsGoodAtSeams, IsSeamVerdict}
+use Rattle.certificates.specs.SeamVerdicts.{IsOffAnchor, ListsRegions, AllFlowsFit, AreBalanced, IsLeastUnbalanced, IsGoodAtSeams, IsSeamVerdict}
 use Rattle.certificates.specs.FlowWords.{AreExcessesOf}
 use Rattle.certificates.proofs.Unique.{same_pixel}
 use Rattle.certificates.specs.Growth.{AreZeros, IsFirstOther}
-
-both : (a b : Bool) → IsTrue a → IsTrue b → IsTrue (a && b)
-both a b p q = rw (p, q) refl
+use Rattle.std.proofs.lemmas.Bool.{and_from, and_parts}
 
 -- a surface that is off its anchor does not meet it
 at_anchor : (p : ℕ) (z : ℤ) → pos p +ℤ pos 65536 *ℤ z ≡ pos p → z ≡ pos 0
@@ -51,7 +48,7 @@ module _ (r : Raster) (mask : Field Bool) (labels : Field ℕ) (count : ℕ) (cy
     (
       n,
       record {
-        bounded = λ e i s. fit e (both (is_edge r.width r.height e) (is_seam r e) i s);
+        bounded = λ e i s. fit e (and_from (is_edge r.width r.height e) (is_seam r e) i s);
         balanced = balanced_by_labels r mask labels count regions.labelling (flow_at r flows) balanced;
         equal = equal;
       },
@@ -59,7 +56,7 @@ module _ (r : Raster) (mask : Field Bool) (labels : Field ℕ) (count : ℕ) (cy
   )
 
   pub fits_of_good : IsGoodAtSeams r mask cycles flows → AllFlowsFit r mask (flow_at r flows)
-  fits_of_good g e i = let t = both_true (is_edge r.width r.height e) (is_seam r e) i in g.1.1.bounded e t.0 t.1
+  fits_of_good g e i = let t = and_parts (is_edge r.width r.height e) (is_seam r e) i in g.1.1.bounded e t.0 t.1
 
   pub balanced_of_good : IsGoodAtSeams r mask cycles flows → AreBalanced r mask labels (flow_at r flows) count
   balanced_of_good g = balanced_at_label r mask labels count regions.labelling (flow_at r flows) g.1.1.balanced

@@ -1,22 +1,20 @@
 -- Flows that are all 0 fit any weight, and add up to 0 at each region and with any departures.
-use Rattle.std.proofs.Common.{◌≡◌, ◌∙◌, sym, refl, ℕ, arith, Bool, true, false, List}
+use Rattle.std.proofs.Common.{◌≡◌, ◌∙◌, sym, ℕ, arith, Bool, List}
 use Rattle.std.specs.Prelude.{◌&&◌, ℤ, pos, ◌*ℤ◌, slice_index_or}
 use Rattle.std.proofs.lemmas.Int.{ints}
 use Rattle.raster_model.specs.declared.edge.Edge.{Edge}
-use Rattle.raster_model.specs.Sums.{Field, at_start, at_end, sum_edges, where_true}
+use Rattle.raster_model.specs.Sums.{Field, at_start, at_end, sum_edges}
 use Rattle.raster_model.specs.Raster.{departure, has_open_ends, is_seam, lifted}
 use Rattle.raster_model.specs.Flows.{flow_at, seam_place}
-use Rattle.raster_model.specs.Seams.{flow_in, flow_out, flow_total}
+use Rattle.raster_model.specs.Seams.{flow_in, flow_out, flow_total, region_of}
 use Rattle.raster_model.proofs.SumLemmas.{sum_edges-same, sum_edges-zeros}
 use Rattle.certificates.specs.declared.seam_flows.SeamFlows.{SeamFlows}
 use Rattle.certificates.specs.FlowWords.{AreExcesses, FlowsFit, flow_of, mask_in, raster_in, total_of}
 use Rattle.certificates.specs.Growth.{AreZeros}
-use Rattle.certificates.specs.SeamVerdicts.{label_at, region_of}
+use Rattle.certificates.specs.SeamVerdicts.{label_at}
 use Rattle.certificates.proofs.ZeroLemmas.{read_zero}
-
-no_more : (b : Bool) (z : ℤ) → z ≡ pos 0 → where_true b z ≡ pos 0
-no_more true z e = e
-no_more false z e = refl
+use Rattle.sums_and_lists.proofs.SumLemmas.{where_zero}
+use Rattle.sums_and_lists.specs.Sums.{where_true}
 
 no_times : (z : ℤ) → pos 0 *ℤ z ≡ pos 0
 no_times z = omega (arith, ints)
@@ -31,7 +29,7 @@ module _ (k : SeamFlows) (zeros : AreZeros k.flows.now) where
 
   no_sum : (test : Edge → Bool) → sum_edges (raster_in k).width (raster_in k).height (λ e. where_true (test e) (flow_of k e)) ≡ pos 0
   no_sum test =
-      sum_edges-same (raster_in k).width (raster_in k).height (λ e. where_true (test e) (flow_of k e)) (λ e. pos 0) (λ e i. no_more (test e) (flow_of k e) (none e))
+      sum_edges-same (raster_in k).width (raster_in k).height (λ e. where_true (test e) (flow_of k e)) (λ e. pos 0) (λ e i. where_zero (test e) (flow_of k e) (none e))
       ∙ sum_edges-zeros (raster_in k).width (raster_in k).height
 
   pub zero_flows_balance : (labels : List ℕ) (sums : List ℤ) → ((v : ℕ) → slice_index_or sums v (pos 0) ≡ pos 0) → AreExcesses k labels sums
@@ -47,5 +45,5 @@ module _ (k : SeamFlows) (zeros : AreZeros k.flows.now) where
       let r = raster_in k in
       let term : Edge → ℤ = λ e. where_true (is_seam r e && has_open_ends (mask_in k) e) (flow_of k e *ℤ departure r (lifted r cycles) e) in
       sym (
-      sum_edges-same r.width r.height term (λ e. pos 0) (λ e i. no_more (is_seam r e && has_open_ends (mask_in k) e) (flow_of k e *ℤ departure r (lifted r cycles) e) (rw (none e) (no_times (departure r (lifted r cycles) e))))
+      sum_edges-same r.width r.height term (λ e. pos 0) (λ e i. where_zero (is_seam r e && has_open_ends (mask_in k) e) (flow_of k e *ℤ departure r (lifted r cycles) e) (rw (none e) (no_times (departure r (lifted r cycles) e))))
       ∙ sum_edges-zeros r.width r.height)

@@ -4,12 +4,13 @@ use Rattle.std.specs.Prelude.{◌⊎◌, if◌then◌else◌, ℤ, pos, ◌-ℤ�
 use Rattle.std.proofs.lemmas.Int.{ints}
 use Rattle.std.proofs.lemmas.List.{get_or_past}
 use Rattle.raster_model.specs.declared.edge.Edge.{Edge}
-use Rattle.raster_model.specs.Sums.{Field, sum_row, where_true}
+use Rattle.raster_model.specs.Sums.{Field, sum_row}
 use Rattle.raster_model.specs.Raster.{Raster, residue}
 use Rattle.raster_model.specs.Certificates.{before, above, left, is_cell, face_difference, faces_of_tile, face_product, face_total, FacesFit}
 use Rattle.raster_model.specs.Cells.{cells_before, face_at}
-use Rattle.raster_model.proofs.SumLemmas.{sum_below-zeros}
 use Rattle.certificates.specs.Growth.{AreZeros}
+use Rattle.sums_and_lists.specs.Sums.{where_true}
+use Rattle.sums_and_lists.proofs.SumLemmas.{sum_below-zeros}
 
 pub read_zero : (numbers : List ℤ) → AreZeros numbers → (k : ℕ) → slice_index_or numbers k (pos 0) ≡ pos 0
 read_zero numbers zeros k = elim (below k) [ inl l ↦ zeros k l | inr l ↦ get_or_past numbers k (pos 0) l ]

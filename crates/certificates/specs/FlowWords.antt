@@ -1,17 +1,19 @@
 -- Words of the helpers over seam edges: no clause of a public function cites them.
 use Rattle.std.specs.Prelude.{◌≡◌, ℕ, ◌+◌, ◌*◌, ◌<◌, ◌≤◌, ℤ, pos, ◌-ℤ◌, ◌*ℤ◌, Bool, ◌&&◌, List, length, slice_index_or, unsigned_abs}
 use Rattle.raster_model.specs.declared.edge.Edge.{Edge}
-use Rattle.raster_model.specs.Sums.{Field, at_start, at_end, is_edge, edges_from, where_true}
+use Rattle.raster_model.specs.Sums.{Field, at_start, at_end, is_edge, edges_from}
 use Rattle.raster_model.specs.Raster.{Raster, lifted, departure, has_open_ends, is_seam}
 use Rattle.raster_model.specs.Flows.{is_seam_edge, seams_before, seam_place, flow_at}
 use Rattle.raster_model.specs.Heights.{KnowsOpen}
 use Rattle.raster_model.specs.Masks.{open_at}
-use Rattle.raster_model.specs.Seams.{IsOpenPixel, flow_in, flow_out, flow_total}
+use Rattle.raster_model.specs.Seams.{IsOpenPixel, flow_in, flow_out, flow_total, region_of}
 use Rattle.raster_model.specs.Scene.{raster_of}
 use Rattle.certificates.specs.declared.seam_flows.SeamFlows.{SeamFlows}
 use Rattle.certificates.specs.EdgeOrder.{HoldsAtAll}
 use Rattle.certificates.specs.EdgeWords.{HoldsFrom}
-use Rattle.certificates.specs.SeamVerdicts.{IsSeamEdge, FlowFits, label_at, region_of}
+use Rattle.certificates.specs.SeamVerdicts.{IsSeamEdge, FlowFits, label_at}
+use Rattle.sums_and_lists.specs.Sums.{where_true}
+use Rattle.raster_model.specs.Limits.{max_side}
 
 abbrev pub raster_in : SeamFlows → Raster
 raster_in k = raster_of k.scene.now
@@ -28,7 +30,7 @@ flow_or_none k e = where_true (is_seam_edge (raster_in k) e) (flow_of k e)
 
 -- a pixel before which so many seam edges stand in edge order
 abbrev pub StartsAt : SeamFlows → ℕ → ℕ → ℕ → Type 0
-StartsAt k x y before = (x < k.scene.now.phase.width) × (y < k.scene.now.phase.height) × (before ≡ seams_before (raster_in k) x y) × (before ≤ 2 * (4096 * y + x))
+StartsAt k x y before = (x < k.scene.now.phase.width) × (y < k.scene.now.phase.height) × (before ≡ seams_before (raster_in k) x y) × (before ≤ 2 * (max_side * y + x))
 
 -- an edge that starts at a pixel, and its place among the seam edges
 abbrev pub PlacedAt : SeamFlows → Edge → ℕ → Type 0

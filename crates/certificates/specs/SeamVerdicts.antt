@@ -1,28 +1,21 @@
 -- What a check says of the seams of a surface: the first break of their certificate.
-use Rattle.std.specs.Prelude.{◌≡◌, ◌≢◌, ℕ, ◌+◌, ◌*◌, ◌<◌, ◌≤◌, ℤ, pos, Bool, ◌&&◌, ◌==◌, IsTrue, List, length, slice_index, unsigned_abs}
+use Rattle.std.specs.Prelude.{◌≡◌, ◌≢◌, ℕ, ◌+◌, ◌*◌, ◌<◌, ◌≤◌, ℤ, pos, Bool, IsTrue, List, length, slice_index, unsigned_abs}
 use Rattle.raster_model.specs.declared.edge.Edge.{Edge}
 use Rattle.raster_model.specs.Sums.{Field}
 use Rattle.raster_model.specs.Raster.{Raster, lifted, masked_weight, seam_cost}
-use Rattle.raster_model.specs.Seams.{IsOpenPixel, IsEarlier, AreRegions, IsAnchored, flow_in, flow_out, flow_total}
+use Rattle.raster_model.specs.Seams.{IsFirstOpen, AreRegions, region_of, IsAnchored, flow_in, flow_out, flow_total}
 use Rattle.raster_model.specs.Flows.{is_seam_edge, seam_count, flow_at, AreCertifiedSeams}
 use Rattle.certificates.specs.declared.verdicts.SeamVerdict.{SeamVerdict}
 use Rattle.certificates.specs.declared.verdicts.SeamVerdict.TheVariants.{Good, Shape, Range, Anchor, FlowAtEdge, Unbalanced, CostDiffers}
 use Rattle.certificates.specs.EdgeOrder.{HoldsAtAll, IsFirstBreak}
 
--- the number that a list in row order has at a pixel, and the open pixels with number v: those of region v
+-- the number that a list in row order has at a pixel
 abbrev pub label_at : ℕ → List ℕ → Field ℕ
 label_at width labels x y = slice_index labels (y * width + x)
-
-abbrev pub region_of : Field Bool → Field ℕ → ℕ → Field Bool
-region_of mask labels v x y = mask x y && (labels x y == v)
 
 -- the list has the region numbers of the open pixels, and there are so many regions
 abbrev pub ListsRegions : Raster → Field Bool → List ℕ → ℕ → Type 0
 ListsRegions r mask labels count = (length labels ≡ r.width * r.height) × AreRegions r mask (label_at r.width labels) count
-
--- (x, y) is the first open pixel in row order
-abbrev pub IsFirstOpen : Raster → Field Bool → ℕ → ℕ → Type 0
-IsFirstOpen r mask x y = IsOpenPixel r mask x y × ((a b : ℕ) → IsOpenPixel r mask a b → IsEarlier a b x y → ⊥)
 
 -- the cycles at that pixel are these, and not 0
 pub record IsOffAnchor (r : Raster) (mask : Field Bool) (cycles : Field ℤ) (z : ℤ) : Type 0 where

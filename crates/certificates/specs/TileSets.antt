@@ -1,8 +1,11 @@
 -- A result for each tile.
-use Rattle.std.specs.Prelude.{◌≡◌, ℕ, List, length, slice_get, Some}
+use Rattle.std.specs.Prelude.{◌≡◌, ℕ, ℤ, pos, List, length, slice_get, Option, Some, None}
+use Rattle.raster_model.specs.declared.scene.Scene.{Scene}
 use Rattle.raster_model.specs.declared.tiling.Tiling.{Tiling}
-use Rattle.raster_model.specs.Tiles.{tiles_of}
+use Rattle.raster_model.specs.Sums.{Field}
+use Rattle.raster_model.specs.Tiles.{tile_at, tiles_of}
 use Rattle.certificates.specs.declared.results.TileResult.{TileResult}
+use Rattle.certificates.specs.Results.{cycles_in, window_in}
 
 -- a set of results as contracts see it: the tiling, and the results in the order of the tiles
 pub record TileSetView : Type 0 where
@@ -13,6 +16,14 @@ pub record TileSetView : Type 0 where
 pub record HasOneForEach (g : Tiling) (results : List TileResult) : Type 0 where
   pub count : length results ≡ tiles_of g
   pub own : (t : ℕ) (k : TileResult) → slice_get results t ≡ Some k → k.tile ≡ t
+
+-- the cycles that a result has at a pixel of its tile, and those that the result of a pixel's tile has there
+abbrev pub cycles_of : Scene → Option TileResult → Field ℤ
+cycles_of s (Some k) x y = cycles_in (window_in s k) k.cycles.items x y
+cycles_of s None x y = pos 0
+
+unfoldable pub solved_cycles : Scene → List TileResult → Field ℤ
+solved_cycles s results x y = cycles_of s (slice_get results (tile_at s.tiling x y)) x y
 
 -- two results say the same; a list has one for each result of another that says the same
 pub record IsCopy (k copy : TileResult) : Type 0 where

@@ -1,28 +1,12 @@
-ghost use Rattle.certificates.specs.SeamVerdicts.{IsFirstOpen, IsOffAnchor};
+ghost use Rattle.certificates.specs.SeamVerdicts.{IsOffAnchor};
 ghost use Rattle.raster_model.specs.Heights.{KnowsOpen};
 ghost use Rattle.raster_model.specs.Masks.{open_at};
 ghost use Rattle.raster_model.specs.Raster.{lifted};
 ghost use Rattle.raster_model.specs.Scene.{raster_of};
-ghost use Rattle.raster_model.specs.Seams.{IsAnchored, IsOpenPixel};
+ghost use Rattle.raster_model.specs.Seams.{IsAnchored, IsOpenPixel, IsFirstOpen};
 ghost use Rattle.std.specs.Prelude.{◌≡◌, ℕ, IfNone, IfSome};
 
-use raster_model::{Heights, Mask, Scene};
-
-/// The first open pixel in row order.
-fn first_open(scene: &Scene, mask: &Mask) -> Option<(u32, u32)>
-    requires same_size { (mask.now.width ≡ scene.now.phase.width) × (mask.now.height ≡ scene.now.phase.height) }
-    ensures found { IfSome result (λ pixel. IsFirstOpen (raster_of scene.now) (open_at mask.now) pixel.0 pixel.1) }
-    ensures none { IfNone result ((x y : ℕ) → IsOpenPixel (raster_of scene.now) (open_at mask.now) x y → ⊥) }
-{
-    for y in 0..scene.phase.height {
-        for x in 0..scene.phase.width {
-            if mask.is_open(x, y) {
-                return Some((x, y));
-            }
-        }
-    }
-    None
-}
+use raster_model::{Heights, Mask, Scene, first_open};
 
 /// The cycles at the first open pixel, where they are not 0.
 pub(crate) fn off_anchor<H: Heights>(scene: &Scene, mask: &Mask, heights: &H) -> Option<i64>

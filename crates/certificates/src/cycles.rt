@@ -1,18 +1,19 @@
+ghost use Rattle.raster_model.specs.Limits.{max_side};
 ghost use Rattle.certificates.specs.Results.{cycles_in, pixels_in};
 ghost use Rattle.std.specs.Prelude.{◌≡◌, ◌≤◌, ◌<◌, ◌&&◌, length, nat_le};
 
 use raster_model::{Heights, Mask, Window};
 
 /// The greatest absolute number of cycles that a result may have at an open pixel.
-const GREATEST_CYCLES: u32 = 8_388_608;
+const MAX_CYCLES: u32 = 8_388_608;
 
 /// The cycles of a solved tile at the pixels of its window.
 #[derive(Clone, Copy)]
 pub(crate) struct TileCycles<'a> {
     pub(crate) window: Window,
     pub(crate) cycles: &'a [i32],
-    pub(crate) ghost across: { (window.x0 ≤ window.x1) × (window.x1 < 4096) },
-    pub(crate) ghost along: { (window.y0 ≤ window.y1) × (window.y1 < 4096) },
+    pub(crate) ghost across: { (window.x0 ≤ window.x1) × (window.x1 < max_side) },
+    pub(crate) ghost along: { (window.y0 ≤ window.y1) × (window.y1 < max_side) },
     pub(crate) ghost count: { length cycles.now ≡ pixels_in window },
 }
 
@@ -51,7 +52,7 @@ impl TileCycles<'_> {
         let window = self.window;
         for y in window.y0..window.y1 + 1 {
             for x in window.x0..window.x1 + 1 {
-                if mask.is_open(x, y) && self.at(x, y).unsigned_abs() > GREATEST_CYCLES {
+                if mask.is_open(x, y) && self.at(x, y).unsigned_abs() > MAX_CYCLES {
                     return Some((x, y));
                 }
             }

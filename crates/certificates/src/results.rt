@@ -1,4 +1,4 @@
-use std::alloc::AllocError;
+use std::alloc::{AllocError, Global};
 
 /// A solved tile.
 #[derive(Drop)]
@@ -18,14 +18,18 @@ impl TileResult {
     ghost use Rattle.std.specs.Prelude.{IfOk};
 
     /// A copy of its own.
-    pub fn try_copy(&self) -> Result<TileResult, AllocError>
+    pub fn try_copy(&self, alloc: Global) -> Result<TileResult, AllocError>
         ensures { IfOk result (IsCopy self.now) }
     {
+        let mut cycles = Vec::with_capacity(alloc, self.cycles.len())?;
+        cycles.extend_from_slice(&self.cycles)?;
+        let mut faces = Vec::with_capacity(alloc, self.faces.len())?;
+        faces.extend_from_slice(&self.faces)?;
         Ok(TileResult {
             tile: self.tile,
             stamp: self.stamp,
-            cycles: self.cycles.clone()?,
-            faces: self.faces.clone()?,
+            cycles,
+            faces,
         })
     }
 }

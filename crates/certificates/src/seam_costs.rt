@@ -1,8 +1,9 @@
+ghost use Rattle.sums_and_lists.specs.Sums.{where_true};
 ghost use Rattle.raster_model.specs.Heights.{KnowsOpen};
 ghost use Rattle.raster_model.specs.Masks.{open_at};
 ghost use Rattle.raster_model.specs.Raster.{lifted, seam_cost as seam_cost_of, seam_cost_from, seam_edge_cost};
 ghost use Rattle.raster_model.specs.Scene.{raster_of};
-ghost use Rattle.raster_model.specs.Sums.{is_edge, sum_row, where_true};
+ghost use Rattle.raster_model.specs.Sums.{is_edge, sum_row};
 ghost use Rattle.std.specs.Prelude.{◌≡◌, ◌+◌, ◌*◌, ◌<◌, ◌≤◌, ◌^◌, pos};
 
 use crate::seam_edges::is_seam_edge;

@@ -1,7 +1,7 @@
+ghost use Rattle.sums_and_lists.specs.Sums.{where_true};
 ghost use Rattle.raster_model.specs.Flows.{seam_count};
 ghost use Rattle.raster_model.specs.Scene.{raster_of};
 ghost use Rattle.certificates.specs.Growth.{AreWithin, HasGrown};
-ghost use Rattle.raster_model.specs.Sums.{where_true};
 ghost use Rattle.std.specs.Prelude.{◌≡◌, ℕ, ◌+◌, ◌<◌, ◌≤◌, ◌^◌, ◌==◌, length, unsigned_abs};
 
 use crate::numbers::are_zeros;

@@ -1,10 +1,11 @@
+ghost use Rattle.raster_model.specs.Limits.{max_side};
 ghost use Rattle.certificates.specs.Ends.{TellsEnds, passes_end};
 ghost use Rattle.std.specs.Prelude.{◌≡◌, ◌<◌, ◌≤◌};
 
-use raster_model::{Edge, Tiling};
+use raster_model::{Edge, MAX_SIDE, Tiling};
 
 /// The most columns or rows that a raster has.
-const MOST: usize = 4096;
+const MOST: usize = MAX_SIDE as usize;
 
 /// Where tiles end: for each column or row whether it is the last of its tiles. Found once, it spares a division at each edge.
 #[derive(Drop)]
@@ -29,7 +30,7 @@ impl TileEnds {
 
     /// Whether the other end of an edge is the first pixel of its tile in the edge's direction.
     pub(crate) fn are_passed(&self, edge: Edge) -> bool
-        requires { (edge.x < 4096) × (edge.y < 4096) }
+        requires { (edge.x < max_side) × (edge.y < max_side) }
         ensures { result ≡ passes_end self.now.side edge }
     {
         let place = if edge.down { edge.y } else { edge.x };

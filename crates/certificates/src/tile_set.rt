@@ -1,6 +1,6 @@
 use crate::results::TileResult;
 use raster_model::Tiling;
-use std::alloc::AllocError;
+use std::alloc::{AllocError, Global};
 use std::marker::Model;
 
 /// A result for each tile of a raster.
@@ -47,13 +47,13 @@ impl TileSet {
     }
 
     /// A copy of its own.
-    pub fn try_copy(&self) -> Result<TileSet, AllocError>
+    pub fn try_copy(&self, alloc: Global) -> Result<TileSet, AllocError>
         ensures tiling { IfOk result (λ copy. copy.tiling ≡ self.now.tiling) }
         ensures results { IfOk result (λ copy. AreCopies self.now.results copy.results) }
     {
-        let mut results = Vec::with_capacity(*self.results.allocator(), self.results.len())?;
+        let mut results = Vec::with_capacity(alloc, self.results.len())?;
         for result in &self.results {
-            results.push(result.try_copy()?)?;
+            results.push(result.try_copy(alloc)?)?;
         }
         Ok(TileSet {
             tiling: self.tiling,

@@ -12,11 +12,11 @@ use Rattle.raster_model.proofs.TileLemmas.{tiles_are_numbered}
 use Rattle.certificates.specs.declared.results.SeamResult.{SeamResult}
 use Rattle.certificates.specs.declared.results.TileResult.{TileResult}
 use Rattle.certificates.specs.declared.verdicts.SeamVerdict.TheVariants.{Good}
-use Rattle.certificates.specs.TileSets.{IsCopy, TileSetView}
+use Rattle.certificates.specs.TileSets.{IsCopy, TileSetView, cycles_of, solved_cycles}
 use Rattle.seam_regions.specs.Regions.{AreRegionsOf}
 use Rattle.seam_regions.specs.RegionsView.{RegionsView}
 use Rattle.offset_network.specs.Surfaces.{IsGoodSeams}
-use Rattle.surface_snapshots.specs.Parts.{cycles_of, parts_from, solved_cycles}
+use Rattle.surface_snapshots.specs.Parts.{parts_from}
 use Rattle.surface_snapshots.specs.Verdicts.{IsVerdict}
 use Rattle.tile_board.specs.declared.gathered.Gathered.{Gathered}
 use Rattle.tile_board.specs.BoardView.{BoardView}
@@ -24,12 +24,7 @@ use Rattle.tile_board.specs.Calls.{AreKeptResults, IsMaskNow}
 use Rattle.collector_core.specs.Collecting.{WillPublish, CertifyGathered}
 use Rattle.collector_core.proofs.JoinLemmas.{is_certified}
 use Rattle.collector_core.proofs.SurfaceLemmas.{verdict_too}
-
-some_at : {A : Type 0} (xs : List A) (t : ℕ) → t < length xs → (x : A) × (slice_get xs t ≡ Some x)
-some_at xs t l = elim (slice_get_cases xs t).1 [
-  | inl h ↦ (h.0, h.2)
-  | inr h ↦ absurd (omega (arith, h.0, l))
-]
+use Rattle.sums_and_lists.proofs.Lists.{some_at}
 
 -- two copies of one result have the same cycles
 same_cycles : (s : Scene) (k a b : TileResult) → IsCopy k a → IsCopy k b → (x y : ℕ) → cycles_of s (Some a) x y ≡ cycles_of s (Some b) x y

@@ -2,9 +2,7 @@
 use Rattle.std.proofs.Common.{◌≡◌, ℕ, zero, suc, ◌+◌, ◌<◌, ◌≤◌, ◌⊎◌, inl, inr, refl, subst, arith, Bool, true, false}
 use Rattle.std.specs.Prelude.{IsTrue, IsFalse, if◌then◌else◌}
 use Rattle.collector_core.specs.Finishing.{failing}
-
-below_next : (t n : ℕ) → t < n + 1 → (t < n) ⊎ (t ≡ n)
-below_next t n l = grind arith
+use Rattle.sums_and_lists.proofs.Orders.{below_or_last}
 
 no_more_by : (a b : Bool) (f g : ℕ) → (IsTrue a → IsTrue b) → g ≤ f → (if b then 0 else 1) + g ≤ (if a then 0 else 1) + f
 no_more_by true true f g h l = omega (arith, l)
@@ -32,7 +30,7 @@ module _ (p q : ℕ → Bool) (more : (t : ℕ) → IsTrue (p t) → IsTrue (q t
   pub fewer : (n t : ℕ) → t < n → IsFalse (p t) → IsTrue (q t) → failing n q < failing n p
   unfolding failing
   fewer zero t l fails passes = absurd (omega (arith, l))
-  fewer (suc n) t l fails passes = elim (below_next t n (omega (arith, l))) [
+  fewer (suc n) t l fails passes = elim (below_or_last t n (omega (arith, l))) [
     | inl k ↦ fewer_by (p n) (q n) (failing n p) (failing n q) (more n) (fewer n t k fails passes)
     | inr e ↦ fewer_at (p n) (q n) (failing n p) (failing n q) (subst (λ (u : ℕ). IsFalse (p u)) e fails) (subst (λ (u : ℕ). IsTrue (q u)) e passes) (no_more n)
   ]

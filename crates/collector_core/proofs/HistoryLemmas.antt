@@ -1,7 +1,7 @@
 -- Boards after more work: what stays, and how much is left to do.
 use Rattle.std.proofs.Common.{◌≡◌, ◌≢◌, ◌∙◌, ℕ, zero, suc, ◌+◌, ◌-◌, ◌<◌, ◌≤◌, ◌⊎◌, inl, inr, refl, sym, ap, subst, arith, Bool, true, false, List, [], ◌∷◌, ◌++◌, length, Some, None}
 use Rattle.std.specs.Prelude.{IsTrue, OnErr, OnOk, Result, Ok, Err, cond, slice_get, ◌&&◌, ◌||◌, ◌==◌}
-use Rattle.std.proofs.lemmas.Bool.{cases_lt}
+use Rattle.std.proofs.lemmas.Bool.{cases_lt, or_right, or_left}
 use Rattle.std.proofs.lemmas.List.{append-nil, append_assoc}
 use Rattle.std.proofs.lemmas.List.Sums.{sum_by-append}
 use Rattle.raster_model.specs.declared.script.Command.{Command}
@@ -23,6 +23,8 @@ use Rattle.tile_board.proofs.HistoryLemmas.{done_push, edits_same, kept_push, ne
 use Rattle.tile_board.proofs.ListLemmas.{get_below, get_beyond, get_none}
 use Rattle.collector_core.specs.Finishing.{IsLater, OnlyKept, commands_left, tiles_left}
 use Rattle.collector_core.proofs.CountLemmas.{fewer}
+use Rattle.sums_and_lists.proofs.Orders.{below_or_last}
+use Rattle.sums_and_lists.proofs.Tests.{same_number}
 
 -- ---- later boards
 pub later_same : (v : BoardView) → IsLater v v
@@ -75,9 +77,6 @@ does_more old new e a c adds named next =
     (get_below (script_of old.session a) (done_by a old.entries) c next)
     (done_once old.entries new.entries e a adds.entries named))
 
-same_number : (a : ℕ) → (a == a) ≡ true
-same_number a = grind arith
-
 -- ---- tiles kept
 -- an entry that keeps a tile does no command, edits nothing and publishes nothing
 pub keeps_only : (old new : BoardView) (k : TileResult) → IsKeep old new k → OnlyKept old new
@@ -107,15 +106,6 @@ next_same old new a only = ap (λ (s : Session). slice_get (script_of s a) (done
 
 pub left_same : (old new : BoardView) (a : ℕ) → OnlyKept old new → commands_left a new ≡ commands_left a old
 left_same old new a only = ap (λ (s : Session). length (script_of s a) - done_by a new.entries) only.later.session ∙ ap (λ (n : ℕ). length (script_of old.session a) - n) (only.done a)
-
--- a tile kept is a tile less
-or_left : (a b : Bool) → IsTrue a → IsTrue (a || b)
-or_left true b t = refl
-or_left false b t = absurd (cc)
-
-or_right : (a b : Bool) → IsTrue b → IsTrue (a || b)
-or_right true b t = refl
-or_right false b t = t
 
 keeps_itself : (t r s : ℕ) → r ≡ s → IsTrue ((t == t) && (r == s))
 keeps_itself t r s e = grind arith
@@ -174,11 +164,9 @@ advanced_more old new a (advances.NotYet r) is = inr (inl (r, refl))
 advanced_more old new a advances.Ended is = inr (inr refl)
 
 -- ---- one script after another
-below_next : (a n : ℕ) → a < n + 1 → (a < n) ⊎ (a ≡ n)
-below_next a n l = grind arith
 
 pub one_more_ended : (old new : BoardView) (n : ℕ) → IsLater old new → ((a : ℕ) → a < n → next_command old.session old.entries a ≡ None) → next_command new.session new.entries n ≡ None → (a : ℕ) → a < n + 1 → next_command new.session new.entries a ≡ None
-one_more_ended old new n later before here a l = elim (below_next a n l) [
+one_more_ended old new n later before here a l = elim (below_or_last a n l) [
   | inl k ↦ ended_stays old new a later (before a k)
   | inr e ↦ subst (λ (b : ℕ). next_command new.session new.entries b ≡ None) (sym e) here
 ]

@@ -9,15 +9,15 @@ use Rattle.raster_model.specs.Scene.{raster_of}
 use Rattle.raster_model.specs.Seams.{AreRegions}
 use Rattle.certificates.specs.declared.results.SeamResult.{SeamResult}
 use Rattle.certificates.specs.declared.verdicts.SeamVerdict.TheVariants.{Good}
-use Rattle.certificates.specs.TileSets.{TileSetView}
-use Rattle.seam_regions.specs.Regions.{AreRegionsOf, label_at}
+use Rattle.certificates.specs.TileSets.{TileSetView, solved_cycles}
+use Rattle.seam_regions.specs.Regions.{AreRegionsOf, label_at, offset_at}
 use Rattle.seam_regions.specs.RegionsView.{RegionsView}
 use Rattle.seam_regions.proofs.CallerLemmas.{regions_of_scene}
+use Rattle.raster_model.proofs.MaskAgrees.{regions_too, same_count}
 use Rattle.raster_model.proofs.RegionNumbers.{numbers_agree}
-use Rattle.surface_snapshots.specs.Parts.{offset_at, parts_from, shifted_cycles, solved_cycles}
+use Rattle.surface_snapshots.specs.Parts.{parts_from, shifted_cycles}
 use Rattle.surface_snapshots.specs.Verdicts.{IsVerdict}
 use Rattle.surface_snapshots.proofs.SameLemmas.{anchored_too, seams_too}
-use Rattle.collector_core.proofs.NumberingLemmas.{regions_too, same_count}
 
 module _ (s : Session) (m n : MaskView) (v w : RegionsView) (ks ls : TileSetView) (seams : SeamResult)
     (same : (x y : ℕ) → x < s.scene.phase.width → y < s.scene.phase.height → open_at m x y ≡ open_at n x y)

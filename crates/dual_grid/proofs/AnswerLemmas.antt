@@ -9,15 +9,8 @@ use Rattle.flow_network.specs.Nets.{Shape, State, IsArc}
 use Rattle.dual_grid.specs.Answers.{IsNearStart}
 use Rattle.dual_grid.specs.Building.{AreFlows, AreFaces, flow_across}
 use Rattle.dual_grid.proofs.CrossLemmas.{start_odd}
-use Rattle.dual_grid.proofs.Orders.{below_or_last}
-
--- one number more in a list whose numbers are told by place
-longer : (g : ℕ → ℤ) (n : ℕ) (zs : List ℤ) (z : ℤ) → length zs ≡ n → ((k : ℕ) → k < n → slice_index_or zs k (pos 0) ≡ g k) → z ≡ g n → (k : ℕ) → k < n + 1 → slice_index_or (zs ++ z ∷ []) k (pos 0) ≡ g k
-longer g n zs z c h e k l =
-    elim (below_or_last k n l) [
-      | inl m ↦ get_or_append_left zs (z ∷ []) (pos 0) k (omega (arith, c, m)) ∙ h k m
-      | inr m ↦ ap (λ (i : ℕ). slice_index_or (zs ++ z ∷ []) i (pos 0)) (m ∙ sym c) ∙ get_or-append_seam zs z [] (pos 0) ∙ e ∙ ap g (sym m)
-    ]
+use Rattle.sums_and_lists.proofs.Lists.{longer}
+use Rattle.sums_and_lists.proofs.Orders.{is_below, below_or_last}
 
 pub flows_more : (f : State) (first edge : ℕ) (zs : List ℤ) (z : ℤ) → first ≤ edge → z ≡ flow_across f edge → AreFlows f first (edge - first) zs → AreFlows f first (edge + 1 - first) (zs ++ z ∷ [])
 flows_more f first edge zs z l e h =
@@ -45,6 +38,3 @@ face_is p q m n d e k l = (omega (arith, ints, d, e, k, l), omega (arith, ints, 
 -- near the start no twin holds more than 16129
 pub twin_small : (s : Shape) (f : State) (a k : ℕ) → IsNearStart s f → IsArc s a → a ≡ k * 2 + 1 → f.residual a ≤ 16129
 twin_small s f a k near arc e = omega (arith, (near a arc).0, start_odd a k e)
-
-pub is_below : (a n : ℕ) → a < n → IsTrue (nat_lt a n)
-is_below a n l = grind (arith, nat_tests)

@@ -4,21 +4,23 @@ use Rattle.std.specs.Prelude.{ℤ, pos, neg_ℤ, ◌+ℤ◌, ◌-ℤ◌, ◌==�
 use Rattle.std.proofs.lemmas.Int.{ints}
 use Rattle.raster_model.specs.declared.edge.Edge.{Edge}
 use Rattle.raster_model.specs.declared.tiling.Window.{Window}
-use Rattle.raster_model.specs.Sums.{Field, sum_below, sum_grid, where_true, right_edge, down_edge}
+use Rattle.raster_model.specs.Sums.{Field, sum_grid, right_edge, down_edge}
 use Rattle.raster_model.proofs.SumLemmas.{sum_grid-same, sum_grid-add}
 use Rattle.flow_network.specs.Nets.{Shape, State, IsArc, IsNetwork, tail_of}
 use Rattle.flow_network.specs.Moves.{IsConserved, out_term, residual_out}
-use Rattle.wrapped_gradient.specs.Windows.{IsCellOf, IsEdgeOf, width_of, height_of, round}
+use Rattle.raster_model.specs.Tiles.{width_of, height_of}
+use Rattle.wrapped_gradient.specs.Windows.{IsCellOf, IsEdgeOf, round}
 use Rattle.wrapped_gradient.proofs.GradientLemmas.{right_edge_of, down_edge_of}
 use Rattle.dual_grid.specs.Nodes.{node_at, first_side, other_side, rights_of, downs_of, edges_of, edge_number, arc_across}
 use Rattle.dual_grid.specs.Starts.{supply_at, start_state}
 use Rattle.dual_grid.specs.Grids.{IsGridShape}
 use Rattle.dual_grid.specs.Building.{IsSmall, flow_across}
 use Rattle.dual_grid.proofs.NodeLemmas.{first_right, first_down, other_right, other_down, node_below}
-use Rattle.dual_grid.proofs.SumLemmas.{same_sums, sum_below-parts, sum_below-rows, sum_below-fours, sum_grid-pick}
+use Rattle.dual_grid.proofs.SumLemmas.{sum_below-parts, sum_below-rows, sum_below-fours, sum_grid-pick}
 use Rattle.dual_grid.proofs.SideLemmas.{here_test, above_test, left_test}
 use Rattle.dual_grid.proofs.CrossLemmas.{start_even, start_odd}
 use Rattle.dual_grid.proofs.GridLemmas.{across_is_arc, forth_is_arc, forth_tail, forth_twin_tail, back_tail, back_twin_tail}
+use Rattle.sums_and_lists.specs.Sums.{sum_below, where_true}
 
 -- what the four arcs of the edge of a number add to what starts at a node
 abbrev quad : Shape → State → ℕ → ℕ → ℤ
@@ -44,8 +46,7 @@ module _ (v : Window) (little : IsSmall v) (s : Shape) (net : IsNetwork s) (grid
   by_edges f u =
       let rights : rights_of v ≡ height_of v * (width_of v - 1) = omega arith in
       let downs : downs_of v ≡ (height_of v - 1) * width_of v = omega arith in
-      same_sums s.arcs (out_term s f u)
-      ∙ ap (λ (n : ℕ). sum_below n (out_term s f u)) grid.arcs
+      ap (λ (n : ℕ). sum_below n (out_term s f u)) grid.arcs
       ∙ sum_below-fours (edges_of v) (out_term s f u)
       ∙ sum_below-parts (rights_of v) (downs_of v) (quad s f u)
       ∙ ap₂ (λ (y z : ℤ). y +ℤ z)

@@ -9,13 +9,14 @@ use Rattle.raster_model.specs.Scene.{raster_of}
 use Rattle.raster_model.specs.Sums.{Field}
 use Rattle.flow_network.specs.Nets.{Shape, State, IsArc, tail_of}
 use Rattle.flow_network.specs.Moves.{IsConserved}
-use Rattle.flow_network.specs.Sums.{sum_below}
-use Rattle.flow_network.proofs.CallerLemmas.{conserved-trans, sum_below-same}
+use Rattle.flow_network.proofs.CallerLemmas.{conserved-trans}
 use Rattle.dual_grid.specs.declared.grid.DualGrid.{DualGrid}
 use Rattle.dual_grid.specs.Answers.{IsNearStart}
 use Rattle.dual_grid.specs.Grids.{AreWeighed, IsJoined}
 use Rattle.dual_grid.specs.Starts.{IsAtStart, open_in, positive_excess, positive_part, start_state}
 use Rattle.dual_grid.specs.Views.{HaveOneOrigin, IsGridOf, shape_of, state_of}
+use Rattle.sums_and_lists.specs.Sums.{sum_below}
+use Rattle.sums_and_lists.proofs.SumLemmas.{sum_below-same}
 
 -- pushes and raises leave a grid what it was made from
 pub grid_stays : (s : Scene) (t : ℕ) (unmasked : List Bool) (g h : DualGrid) → HaveOneOrigin g h → IsGridOf s t unmasked g → IsGridOf s t unmasked h

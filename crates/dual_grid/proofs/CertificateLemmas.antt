@@ -7,12 +7,12 @@ use Rattle.raster_model.specs.declared.tiling.Window.{Window}
 use Rattle.raster_model.specs.Sums.{Field, right_edge, down_edge}
 use Rattle.raster_model.specs.Raster.{residue, masked_weight}
 use Rattle.raster_model.specs.Scene.{raster_of}
-use Rattle.raster_model.specs.Tiles.{IsWindowOf}
+use Rattle.raster_model.specs.Tiles.{IsWindowOf, width_of}
 use Rattle.flow_network.specs.Nets.{Shape, State, IsNetwork, HasReducedCosts}
 use Rattle.flow_network.specs.Moves.{IsConserved}
 use Rattle.wrapped_gradient.specs.declared.corrections.Corrections.{Corrections}
 use Rattle.wrapped_gradient.specs.Corrections.{CancelResidues, correction_at}
-use Rattle.wrapped_gradient.specs.Windows.{IsCellOf, IsEdgeOf, width_of, round}
+use Rattle.wrapped_gradient.specs.Windows.{IsCellOf, IsEdgeOf, round}
 use Rattle.wrapped_gradient.proofs.CorrectionLemmas.{greatest_of_least}
 use Rattle.wrapped_gradient.proofs.GradientLemmas.{right_edge_of, down_edge_of}
 use Rattle.wrapped_gradient.proofs.Places.{field_at}

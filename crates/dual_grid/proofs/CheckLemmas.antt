@@ -3,8 +3,8 @@ use Rattle.std.proofs.Common.{◌≡◌, ℕ, ◌+◌, ◌<◌, ◌≤◌, ◌�
 use Rattle.std.specs.Prelude.{ℤ, pos, neg_ℤ, ◌+ℤ◌, ◌-ℤ◌, ◌*ℤ◌, ◌<ℤ◌, IsTrue, unsigned_abs}
 use Rattle.std.proofs.lemmas.Bool.{eqb-true}
 use Rattle.std.proofs.lemmas.Int.{ints, to_z-of_z}
-use Rattle.raster_model.proofs.Ring.{products}
-use Rattle.dual_grid.proofs.Orders.{below_or_last}
+use Rattle.sums_and_lists.proofs.Products.{products}
+use Rattle.sums_and_lists.proofs.Orders.{below_or_last}
 
 -- one number more of those from a on
 pub one_more : (P : ℕ → Type 0) (a n : ℕ) → ((k : ℕ) → a ≤ k → k < n → P k) → P n → (k : ℕ) → a ≤ k → k < n + 1 → P k

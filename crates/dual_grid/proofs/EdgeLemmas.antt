@@ -4,7 +4,8 @@ use Rattle.std.proofs.lemmas.Nat.{div-mul-add, mod-mul-add, mul-le}
 use Rattle.raster_model.specs.declared.edge.Edge.{Edge}
 use Rattle.raster_model.specs.declared.tiling.Window.{Window}
 use Rattle.raster_model.specs.Sums.{right_edge, down_edge}
-use Rattle.wrapped_gradient.specs.Windows.{IsEdgeOf, width_of, height_of}
+use Rattle.raster_model.specs.Tiles.{width_of, height_of}
+use Rattle.wrapped_gradient.specs.Windows.{IsEdgeOf}
 use Rattle.wrapped_gradient.proofs.Places.{place_within}
 use Rattle.dual_grid.specs.Building.{IsSmall}
 use Rattle.dual_grid.specs.Nodes.{cells_of, rights_of, downs_of, edges_of, edge_number}

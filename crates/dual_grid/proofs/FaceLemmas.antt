@@ -9,7 +9,6 @@ use Rattle.raster_model.specs.Cells.{face_at}
 use Rattle.raster_model.specs.Certificates.{above, left, face_difference, faces_of_tile}
 use Rattle.raster_model.specs.Scene.{raster_of}
 use Rattle.raster_model.specs.Tiles.{IsWindowOf}
-use Rattle.raster_model.proofs.Ring.{products}
 use Rattle.raster_model.proofs.TileCells.{face_inside, face_outside, cells_before-is}
 use Rattle.flow_network.specs.Nets.{Shape, State, IsNetwork, HasReducedCosts, reduced_cost}
 use Rattle.flow_network.proofs.CallerLemmas.{reduced_cost-twin}
@@ -21,7 +20,8 @@ use Rattle.dual_grid.specs.Nodes.{cells_of, node_at, node_above, node_left, firs
 use Rattle.dual_grid.proofs.CrossLemmas.{start_even}
 use Rattle.dual_grid.proofs.GridLemmas.{across_is_arc, forth_is_arc, forth_tail, back_tail}
 use Rattle.dual_grid.proofs.NodeLemmas.{cell_or_not, cell_below, node_inside, node_outside, above_inside, above_outside, left_inside, left_outside, first_down, first_right, other_down, other_right}
-use Rattle.dual_grid.proofs.Orders.{before_or_not}
+use Rattle.sums_and_lists.proofs.Products.{products}
+use Rattle.std.proofs.lemmas.Bool.{cases_lt}
 
 module _ (s : Scene) (t : ℕ) (v : Window) (is : IsWindowOf s.tiling t v) (f : State) (faces : List ℤ) (are : AreFaces f (cells_of v) (cells_of v) faces) where
   listed : (x y : ℕ) → IsCellOf v x y → face_at (raster_of s) t faces x y ≡ f.potential (cells_of v) -ℤ f.potential (node_at v x y)
@@ -45,7 +45,7 @@ module _ (s : Scene) (t : ℕ) (v : Window) (is : IsWindowOf s.tiling t v) (f : 
   above_of_node : (x y : ℕ) → above (faces_of_tile (raster_of s) t (face_at (raster_of s) t faces)) x y ≡ f.potential (cells_of v) -ℤ f.potential (node_above v x y)
   above_of_node x zero = nothing (node_above v x zero) (above_outside v x zero (omega arith))
   above_of_node x (suc y) =
-      elim (before_or_not v.y0 (suc y)) [
+      elim (cases_lt v.y0 (suc y)) [
         | inl l ↦ (
             let e : suc y - 1 ≡ y = omega arith in
             face_of_node x y ∙ ap (λ (k : ℕ). f.potential (cells_of v) -ℤ f.potential k) (ap (λ (i : ℕ). node_at v x i) (sym e) ∙ sym (above_inside v x (suc y) l)))
@@ -56,7 +56,7 @@ module _ (s : Scene) (t : ℕ) (v : Window) (is : IsWindowOf s.tiling t v) (f : 
   left_of_node : (x y : ℕ) → left (faces_of_tile (raster_of s) t (face_at (raster_of s) t faces)) x y ≡ f.potential (cells_of v) -ℤ f.potential (node_left v x y)
   left_of_node zero y = nothing (node_left v zero y) (left_outside v zero y (omega arith))
   left_of_node (suc x) y =
-      elim (before_or_not v.x0 (suc x)) [
+      elim (cases_lt v.x0 (suc x)) [
         | inl l ↦ (
             let e : suc x - 1 ≡ x = omega arith in
             face_of_node x y ∙ ap (λ (k : ℕ). f.potential (cells_of v) -ℤ f.potential k) (ap (λ (i : ℕ). node_at v i y) (sym e) ∙ sym (left_inside v (suc x) y l)))

@@ -15,7 +15,7 @@ use Rattle.dual_grid.proofs.NodeLemmas.{node_inside, left_inside, left_outside, 
 use Rattle.dual_grid.proofs.EdgeLemmas.{number_below}
 use Rattle.dual_grid.proofs.CrossLemmas.{start_even}
 use Rattle.dual_grid.proofs.StartLemmas.{has_columns, cell_of_number}
-use Rattle.dual_grid.proofs.Orders.{below_or_last}
+use Rattle.sums_and_lists.proofs.Orders.{below_or_last}
 
 -- the four arcs across an edge: that they are arcs, and where they start
 module _ (v : Window) (s : Shape) (net : IsNetwork s) (grid : IsGridShape v s) (e : Edge) (is : IsEdgeOf v e) where

@@ -1,4 +1,3 @@
-pub mod Orders
 pub mod NodeLemmas
 pub mod EdgeLemmas
 pub mod CrossLemmas

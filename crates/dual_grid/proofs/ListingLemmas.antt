@@ -8,7 +8,8 @@ use Rattle.raster_model.specs.Raster.{masked_weight}
 use Rattle.raster_model.specs.Scene.{raster_of}
 use Rattle.raster_model.specs.Sums.{Field}
 use Rattle.wrapped_gradient.specs.Rows.{AreInRows}
-use Rattle.wrapped_gradient.specs.Windows.{IsCellOf, IsEdgeOf, height_of, number_at, width_of}
+use Rattle.raster_model.specs.Tiles.{width_of, height_of}
+use Rattle.wrapped_gradient.specs.Windows.{IsCellOf, IsEdgeOf, number_at}
 use Rattle.wrapped_gradient.proofs.Places.{place_within}
 use Rattle.wrapped_gradient.proofs.RowLemmas.{rows_tell}
 use Rattle.dual_grid.specs.Nodes.{cells_of, node_at}

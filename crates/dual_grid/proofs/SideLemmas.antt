@@ -1,7 +1,7 @@
 -- Which edges have a cell on which side.
 use Rattle.std.proofs.Common.{◌≡◌, ℕ, ◌+◌, ◌-◌, ◌*◌, ◌∙◌, sym, ap, refl, arith, inl, inr, Bool, true, false}
 use Rattle.std.specs.Prelude.{◌==◌, ◌&&◌}
-use Rattle.std.proofs.lemmas.Bool.{eq-eqb, eqb-true, and_parts}
+use Rattle.std.proofs.lemmas.Bool.{eq-eqb, eqb-true, and_parts, cases_lt}
 use Rattle.raster_model.specs.declared.edge.Edge.{Edge}
 use Rattle.raster_model.specs.declared.tiling.Window.{Window}
 use Rattle.raster_model.specs.Sums.{right_edge, down_edge}
@@ -10,7 +10,6 @@ use Rattle.wrapped_gradient.proofs.GradientLemmas.{right_edge_of, down_edge_of}
 use Rattle.dual_grid.specs.Nodes.{cells_of, node_at, node_above, node_left, first_side, other_side}
 use Rattle.dual_grid.proofs.NodeLemmas.{cell_or_not, node_inside, node_outside, above_inside, above_outside, left_inside, left_outside, cell_below, first_right, first_down, other_right, other_down}
 use Rattle.dual_grid.proofs.EdgeLemmas.{same_row, same_column}
-use Rattle.dual_grid.proofs.Orders.{before_or_not}
 
 -- two tests that hold together
 same_test : (t u : Bool) → (t ≡ true → u ≡ true) → (u ≡ true → t ≡ true) → t ≡ u
@@ -42,14 +41,14 @@ module _ (v : Window) (p q : ℕ) (cell : IsCellOf v p q) where
 
   pub above_tells : (x y : ℕ) → node_above v x y ≡ node_at v p q → (x ≡ p) × (y ≡ q + 1)
   above_tells x y e =
-      elim (before_or_not v.y0 y) [
+      elim (cases_lt v.y0 y) [
         | inl l ↦ (let t = node_tells x (y - 1) (sym (above_inside v x y l) ∙ e) in (t.0, omega (arith, t.1, l)))
         | inr l ↦ absurd (not_outside (sym e ∙ above_outside v x y l))
       ]
 
   pub left_tells : (x y : ℕ) → node_left v x y ≡ node_at v p q → (x ≡ p + 1) × (y ≡ q)
   left_tells x y e =
-      elim (before_or_not v.x0 x) [
+      elim (cases_lt v.x0 x) [
         | inl l ↦ (let t = node_tells (x - 1) y (sym (left_inside v x y l) ∙ e) in (omega (arith, t.0, l), t.1))
         | inr l ↦ absurd (not_outside (sym e ∙ left_outside v x y l))
       ]
@@ -107,7 +106,7 @@ sides_outside v e n = go e.x e.y e.down n
   where
     go : (x y : ℕ) (d : Bool) → (IsEdgeOf v (record { x = x; y = y; down = d }) → ⊥) → (first_side v (record { x = x; y = y; down = d }) ≡ cells_of v) × (other_side v (record { x = x; y = y; down = d }) ≡ cells_of v)
     go x y false n = (
-      first_right v (right_edge x y) refl ∙ elim (before_or_not v.y0 y) [
+      first_right v (right_edge x y) refl ∙ elim (cases_lt v.y0 y) [
         | inl l ↦ above_inside v x y l ∙ node_outside v x (y - 1) (λ c. n (right_edge_of v x y c.0 c.1 (omega (arith, l)) (omega (arith, c, l))))
         | inr l ↦ above_outside v x y l
       ],
@@ -115,7 +114,7 @@ sides_outside v e n = go e.x e.y e.down n
     )
     go x y true n = (
       first_down v (down_edge x y) refl ∙ node_outside v x y (λ c. n (down_edge_of v x y c.0 (omega (arith, c)) c.2 c.3)),
-      other_down v (down_edge x y) refl ∙ elim (before_or_not v.x0 x) [
+      other_down v (down_edge x y) refl ∙ elim (cases_lt v.x0 x) [
         | inl l ↦ left_inside v x y l ∙ node_outside v (x - 1) y (λ c. n (down_edge_of v x y (omega (arith, l)) (omega (arith, c, l)) c.2 c.3))
         | inr l ↦ left_outside v x y l
       ],

@@ -12,10 +12,9 @@ use Rattle.raster_model.specs.Tiles.{IsWindowOf}
 use Rattle.raster_model.specs.declared.tiling.Tiling.{Tiling}
 use Rattle.raster_model.proofs.Exact.{residue_is_small}
 use Rattle.flow_network.specs.Nets.{Shape, State, IsNetwork}
-use Rattle.flow_network.specs.Sums.{sum_below, where_true}
 use Rattle.flow_network.specs.Moves.{IsConserved}
 use Rattle.flow_network.specs.Growing.{supply_sum, supply_sizes}
-use Rattle.flow_network.proofs.CallerLemmas.{sum_below-none, sum_below-more, sum_below-same, conserved-still}
+use Rattle.flow_network.proofs.CallerLemmas.{conserved-still}
 use Rattle.wrapped_gradient.specs.Gradients.{AreGradientsOf, residue_at}
 use Rattle.wrapped_gradient.specs.GradientsView.{GradientsView}
 use Rattle.wrapped_gradient.specs.Windows.{IsCellOf}
@@ -26,7 +25,9 @@ use Rattle.dual_grid.specs.Grids.{IsGridShape, AreWeighed, HasSmallCosts}
 use Rattle.dual_grid.specs.Building.{AreSupplies, IsCrossedTo, IsSmall}
 use Rattle.dual_grid.proofs.EdgeLemmas.{few_cells, number_below}
 use Rattle.dual_grid.proofs.SupplyLemmas.{supply_inside, supply_outside, sum_within}
-use Rattle.dual_grid.proofs.Orders.{below_or_last}
+use Rattle.sums_and_lists.specs.Sums.{sum_below, where_true}
+use Rattle.sums_and_lists.proofs.Orders.{below_or_last}
+use Rattle.sums_and_lists.proofs.SumLemmas.{sum_below-none, sum_below-more, sum_below-same}
 
 -- a number below the count of cells is that of a cell
 pub has_columns : (u a b : ℕ) → u < b * a → 0 < a

@@ -2,15 +2,10 @@
 use Rattle.std.proofs.Common.{◌≡◌, ℕ, zero, suc, ◌+◌, ◌*◌, ◌<◌, ◌∙◌, sym, ap, refl, arith, Bool, true, false}
 use Rattle.std.specs.Prelude.{ℤ, pos, ◌+ℤ◌, ◌==◌, ◌&&◌}
 use Rattle.std.proofs.lemmas.Int.{ints}
-use Rattle.raster_model.specs.Sums.{Field, sum_below, sum_grid, where_true}
-use Rattle.raster_model.proofs.SumLemmas.{sum_below-none, sum_below-more, sum_below-same, sum_below-zeros, sum_below-pick, sum_grid-same}
-use Rattle.flow_network.specs.Sums.{sum_below as sum_nodes}
-
--- the sums of the two crates below are the same
-pub same_sums : (n : ℕ) (f : ℕ → ℤ) → sum_nodes n f ≡ sum_below n f
-unfolding sum_below sum_nodes
-same_sums zero f = refl
-same_sums (suc n) f = omega (arith, ints, same_sums n f)
+use Rattle.raster_model.specs.Sums.{Field, sum_grid}
+use Rattle.raster_model.proofs.SumLemmas.{sum_grid-same}
+use Rattle.sums_and_lists.proofs.SumLemmas.{where_both, sum_below-none, sum_below-more, sum_below-same, sum_below-zeros, sum_below-pick}
+use Rattle.sums_and_lists.specs.Sums.{sum_below, where_true}
 
 -- a sum in two parts
 pub sum_below-parts : (m n : ℕ) (f : ℕ → ℤ) → sum_below (m + n) f ≡ sum_below m f +ℤ sum_below n (λ i. f (m + i))
@@ -37,10 +32,6 @@ sum_below-fours (suc n) f =
     let two : n * 4 + 1 + 1 ≡ n * 4 + 2 = omega arith in
     let three : n * 4 + 1 + 1 + 1 ≡ n * 4 + 3 = omega arith in
     rw e (rw k (omega (arith, ints, sum_below-more (n * 4 + 1 + 1 + 1) f, sum_below-more (n * 4 + 1 + 1) f, sum_below-more (n * 4 + 1) f, sum_below-more (n * 4) f, ap f two, ap f three, sum_below-fours n f, sum_below-more n (λ k. f (k * 4) +ℤ f (k * 4 + 1) +ℤ f (k * 4 + 2) +ℤ f (k * 4 + 3)))))
-
-where_both : (t u : Bool) (z : ℤ) → where_true (t && u) z ≡ where_true t (where_true u z)
-where_both true u z = refl
-where_both false u z = refl
 
 sum_where : (n : ℕ) (t : Bool) (f : ℕ → ℤ) → sum_below n (λ i. where_true t (f i)) ≡ where_true t (sum_below n f)
 sum_where n true f = refl

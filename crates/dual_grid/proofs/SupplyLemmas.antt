@@ -7,13 +7,13 @@ use Rattle.std.proofs.lemmas.List.{get_or_append_left, get_or_past, length-appen
 use Rattle.std.proofs.Math.Seq.{get_or-append_seam}
 use Rattle.raster_model.specs.declared.tiling.Window.{Window}
 use Rattle.raster_model.specs.Sums.{Field}
-use Rattle.flow_network.specs.Sums.{sum_below}
-use Rattle.flow_network.proofs.CallerLemmas.{sum_below-none, sum_below-more, sum_below-same}
 use Rattle.wrapped_gradient.specs.Rows.{AreInRows}
 use Rattle.dual_grid.specs.Nodes.{cells_of}
 use Rattle.dual_grid.specs.Starts.{cell_value, supply_at}
 use Rattle.dual_grid.specs.Building.{AreSupplies, sum_of_first}
-use Rattle.dual_grid.proofs.Orders.{below_or_last}
+use Rattle.sums_and_lists.proofs.Orders.{below_at_past, below_or_last}
+use Rattle.sums_and_lists.specs.Sums.{sum_below}
+use Rattle.sums_and_lists.proofs.SumLemmas.{sum_below-none, sum_below-more, sum_below-same}
 
 pub supply_inside : (f : Field ℤ) (v : Window) (u : ℕ) → u < cells_of v → supply_at f v u ≡ cell_value f v u
 unfolding supply_at
@@ -48,14 +48,11 @@ less_none zs = omega (arith, ints, sum_below-none (λ k. get_or zs k (pos 0)))
 -- a number more in a list of small numbers
 pub pushed_small : (zs : List ℤ) (z : ℤ) (b : ℕ) → ((k : ℕ) → unsigned_abs (get_or zs k (pos 0)) ≤ b) → unsigned_abs z ≤ b → (k : ℕ) → unsigned_abs (get_or (zs ++ z ∷ []) k (pos 0)) ≤ b
 pushed_small zs z b h l k =
-    elim (three k (length zs)) [
+    elim (below_at_past k (length zs)) [
       | inl m ↦ rw (get_or_append_left zs (z ∷ []) (pos 0) k m) (h k)
       | inr (inl m) ↦ rw (m, get_or-append_seam zs z [] (pos 0)) l
       | inr (inr m) ↦ rw (get_or_past (zs ++ z ∷ []) k (pos 0) (omega (arith, length-append zs (z ∷ []), m))) (omega (arith, ints))
     ]
-  where
-    three : (k n : ℕ) → (k < n) ⊎ ((k ≡ n) ⊎ (n + 1 ≤ k))
-    three k n = grind arith
 
 pub listed_supplies : (f : Field ℤ) (v : Window) (zs : List ℤ) (r : ℤ) → AreInRows f v.x0 v.y0 (v.x1 - v.x0) (cells_of v) zs → r ≡ neg_ℤ (sum_of_first zs (length zs)) → AreSupplies f v (zs ++ r ∷ [])
 listed_supplies f v zs r h e =

@@ -2,11 +2,11 @@
 use Rattle.std.proofs.Common.{◌≡◌, ℕ, ◌+◌, ◌*◌, ◌≤◌, ◌∙◌, sym, ap, ap₂, refl, arith, List, inl, inr, Bool, true}
 use Rattle.std.specs.Prelude.{ℤ, pos, neg_ℤ, ◌+ℤ◌, ◌-ℤ◌, ◌*ℤ◌, unsigned_abs, IsTrue, ◌&&◌, if◌then◌else◌}
 use Rattle.std.proofs.lemmas.Int.{ints}
-use Rattle.std.proofs.lemmas.Bool.{cases_Bool, and_parts, false≢true}
+use Rattle.std.proofs.lemmas.Bool.{cases_Bool, and_parts, false≢true, and_from}
 use Rattle.raster_model.specs.declared.edge.Edge.{Edge}
 use Rattle.raster_model.specs.declared.scene.Scene.{Scene}
 use Rattle.raster_model.specs.declared.tiling.Window.{Window}
-use Rattle.raster_model.specs.Sums.{Field, is_edge, where_true, right_edge, down_edge, end_x, end_y}
+use Rattle.raster_model.specs.Sums.{Field, is_edge, right_edge, down_edge, end_x, end_y}
 use Rattle.raster_model.specs.Raster.{Raster, residue, is_inner, masked_weight}
 use Rattle.raster_model.specs.Cells.{face_at}
 use Rattle.raster_model.specs.Certificates.{IsTileEdge, FacesFit, face_difference, face_total, face_product, faces_of_tile}
@@ -28,9 +28,7 @@ use Rattle.dual_grid.specs.Starts.{open_in, TellsMask}
 use Rattle.dual_grid.proofs.FaceLemmas.{difference_of_nodes}
 use Rattle.dual_grid.proofs.NodeLemmas.{cell_or_not}
 use Rattle.dual_grid.proofs.SideLemmas.{sides_outside}
-
-both_hold : (a b : Bool) → IsTrue a → b ≡ true → IsTrue (a && b)
-both_hold a b p q = rw (p, q) refl
+use Rattle.sums_and_lists.specs.Sums.{where_true}
 
 -- the weight under the mask that the list tells
 weight_told : (r : Raster) (v : Window) (unmasked : List Bool) (mask : Field Bool) (e : Edge) → TellsMask v unmasked mask → IsEdgeOf v e → masked_weight r (open_in v unmasked) e ≡ masked_weight r mask e
@@ -54,7 +52,7 @@ module _ (scene : Scene) (t : ℕ) (v : Window) (window : IsWindowOf scene.tilin
   edge_part e i =
       elim (cases_Bool (is_inner (raster_of scene) t e)) [
         | inl inner ↦ (
-            let j = tile_edge e (both_hold (is_edge (raster_of scene).width (raster_of scene).height e) (is_inner (raster_of scene) t e) i inner) in
+            let j = tile_edge e (and_from (is_edge (raster_of scene).width (raster_of scene).height e) (is_inner (raster_of scene) t e) i inner) in
             rw (inner, difference_of_nodes scene t v window f faces are e, sym (weight_is e j)) (tight e j))
         | inr outer ↦ (
             let n = λ (j : IsEdgeOf v e). false≢true (sym outer ∙ (and_parts (is_edge (raster_of scene).width (raster_of scene).height e) (is_inner (raster_of scene) t e) (from_ends scene t v window e j.start j.end)).1) in

@@ -2,7 +2,7 @@
 use Rattle.std.specs.Prelude.{◌≡◌, ℕ, ◌+◌, ◌*◌, ◌<◌, ◌≤◌, ℤ, pos, Bool, List, length, unsigned_abs}
 use Rattle.raster_model.specs.declared.edge.Edge.{Edge}
 use Rattle.raster_model.specs.declared.tiling.Window.{Window}
-use Rattle.raster_model.specs.Sums.{Field, sum_edges, where_true}
+use Rattle.raster_model.specs.Sums.{Field, sum_edges}
 use Rattle.raster_model.specs.Raster.{Raster, is_inner, masked_weight}
 use Rattle.raster_model.specs.Certificates.{IsTileEdge, FacesFit, face_total}
 use Rattle.raster_model.specs.Cells.{cell_count, face_at}
@@ -10,6 +10,7 @@ use Rattle.flow_network.specs.Nets.{Shape, State, IsArc}
 use Rattle.wrapped_gradient.specs.declared.corrections.Corrections.{Corrections}
 use Rattle.wrapped_gradient.specs.Corrections.{HasShapeOf, CancelResidues, correction_at, greatest_of}
 use Rattle.dual_grid.specs.Starts.{start_residual}
+use Rattle.sums_and_lists.specs.Sums.{where_true}
 
 -- no node has more than it wants, or less
 abbrev pub IsBalanced : Shape → State → Type 0

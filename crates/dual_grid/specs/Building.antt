@@ -6,14 +6,14 @@ use Rattle.raster_model.specs.declared.tiling.Window.{Window}
 use Rattle.raster_model.specs.Sums.{Field}
 use Rattle.raster_model.specs.Raster.{masked_weight, residue}
 use Rattle.raster_model.specs.Scene.{raster_of}
-use Rattle.raster_model.specs.Tiles.{IsWindowIn}
+use Rattle.raster_model.specs.Tiles.{IsWindowIn, width_of, height_of}
 use Rattle.flow_network.specs.Nets.{Shape, State, IsArc}
 use Rattle.flow_network.specs.Growing.{total_amount}
-use Rattle.flow_network.specs.Sums.{sum_below}
-use Rattle.wrapped_gradient.specs.Windows.{IsEdgeOf, width_of, height_of}
+use Rattle.wrapped_gradient.specs.Windows.{IsEdgeOf}
 use Rattle.dual_grid.specs.Nodes.{cells_of, edge_number, arc_across}
 use Rattle.dual_grid.specs.Starts.{supply_at, open_in, IsAtStart}
 use Rattle.dual_grid.specs.Grids.{Crosses, CostsAcross}
+use Rattle.sums_and_lists.specs.Sums.{sum_below}
 
 -- no side of the window is above 128 pixels
 pub record IsSmall (v : Window) : Type 0 where

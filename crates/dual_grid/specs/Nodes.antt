@@ -4,7 +4,7 @@ use Rattle.std.specs.Prelude.{ℕ, ◌+◌, ◌-◌, ◌*◌, Bool, ◌&&◌, if
 use Rattle.raster_model.specs.declared.edge.Edge.{Edge}
 use Rattle.raster_model.specs.declared.tiling.Window.{Window}
 use Rattle.raster_model.specs.Sums.{Field}
-use Rattle.wrapped_gradient.specs.Windows.{width_of, height_of}
+use Rattle.raster_model.specs.Tiles.{width_of, height_of}
 
 -- how many cells the window has; it is also the number of the outside
 abbrev pub cells_of : Window → ℕ

@@ -2,11 +2,10 @@
 use Rattle.std.specs.Prelude.{◌≡◌, ℕ, ◌+◌, ◌-◌, ◌*◌, ◌/◌, ◌%◌, ◌<◌, ℤ, pos, negsuc, neg_ℤ, Bool, ◌==◌, if◌then◌else◌, nat_lt, List, slice_index_or}
 use Rattle.raster_model.specs.declared.tiling.Window.{Window}
 use Rattle.raster_model.specs.Sums.{Field}
-use Rattle.raster_model.specs.Tiles.{IsWithin}
+use Rattle.raster_model.specs.Tiles.{IsWithin, width_of}
 use Rattle.flow_network.specs.Nets.{Shape, State, IsArc}
-use Rattle.flow_network.specs.Sums.{sum_below}
-use Rattle.wrapped_gradient.specs.Windows.{width_of}
 use Rattle.dual_grid.specs.Nodes.{cells_of}
+use Rattle.sums_and_lists.specs.Sums.{sum_below}
 
 -- the value at the cell of a number
 abbrev pub cell_value : Field ℤ → Window → ℕ → ℤ

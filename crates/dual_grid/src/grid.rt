@@ -100,11 +100,10 @@ impl DualGrid {
     ghost use Rattle.raster_model.specs.Raster.{residue};
     ghost use Rattle.raster_model.specs.Scene.{raster_of};
     ghost use Rattle.raster_model.specs.Sums.{Field};
-    ghost use Rattle.raster_model.specs.Tiles.{tiles_of, window_of};
+    ghost use Rattle.raster_model.specs.Tiles.{tiles_of, window_of, width_of, height_of};
     ghost use Rattle.raster_model.specs.declared.scene.Scene.{Scene as SceneOf};
     ghost use Rattle.std.specs.Prelude.{◌*◌, ◌<◌, ◌≤ℤ◌, ℕ, Bool, IfOk, List, length, pos};
     ghost use Rattle.wrapped_gradient.specs.Gradients.{AreGradientsOf};
-    ghost use Rattle.wrapped_gradient.specs.Windows.{height_of, width_of};
 
     /// The grid of a tile under the mask that `unmasked` tells: whether each pixel of the tile's window is open, in row
     /// order. The gradients are the scene's over that window. Nothing has flowed yet, and each cell has its residue as

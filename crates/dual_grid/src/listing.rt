@@ -4,7 +4,7 @@ ghost use Rattle.dual_grid.specs.Problems.{of_down_edges, of_right_edges};
 ghost use Rattle.std.specs.Prelude.{◌*◌, ◌-◌, IfOk};
 ghost use Rattle.wrapped_gradient.specs.Gradients.{residue_at};
 ghost use Rattle.wrapped_gradient.specs.Rows.{AreInRows};
-ghost use Rattle.wrapped_gradient.specs.Windows.{height_of, width_of};
+ghost use Rattle.raster_model.specs.Tiles.{width_of, height_of};
 
 use crate::weighing::weight;
 use raster_model::{Edge, Scene, Window};

@@ -1,3 +1,4 @@
+ghost use Rattle.raster_model.specs.Limits.{max_side};
 ghost use Rattle.dual_grid.specs.Building.{IsSmall};
 ghost use Rattle.std.specs.Prelude.{◌<◌};
 
@@ -20,15 +21,14 @@ pub struct Problem {
     /// The residues of the cells, in cycles.
     pub residues: Vec<i8>,
     pub(crate) ghost small: { IsSmall window },
-    pub(crate) ghost within: { (window.x1 < 4096) × (window.y1 < 4096) },
+    pub(crate) ghost within: { (window.x1 < max_side) × (window.y1 < max_side) },
 }
 
 impl Problem {
     ghost use Rattle.dual_grid.specs.Problems.{Answers, IsProblemOf};
-    ghost use Rattle.raster_model.specs.Tiles.{tiles_of, window_of};
+    ghost use Rattle.raster_model.specs.Tiles.{tiles_of, window_of, width_of, height_of};
     ghost use Rattle.std.specs.Prelude.{◌≡◌, ◌*◌, ◌<◌, IfOk, IsTrue, length};
     ghost use Rattle.wrapped_gradient.specs.Gradients.{AreGradientsOf};
-    ghost use Rattle.wrapped_gradient.specs.Windows.{height_of, width_of};
 
     /// The problem of a tile under the mask that `unmasked` tells: whether each pixel of the tile's window is open, in row
     /// order. The gradients are the scene's over that window. It fails for want of memory alone.

@@ -3,12 +3,12 @@ ghost use Rattle.dual_grid.specs.Starts.{open_in};
 ghost use Rattle.raster_model.specs.Raster.{masked_weight};
 ghost use Rattle.raster_model.specs.Scene.{raster_of};
 ghost use Rattle.raster_model.specs.Sums.{is_edge};
-ghost use Rattle.raster_model.specs.Tiles.{IsWithin};
+ghost use Rattle.raster_model.specs.Tiles.{IsWithin, width_of, height_of};
 ghost use Rattle.raster_model.specs.Weights.{edge_weight};
 ghost use Rattle.std.specs.Prelude.{◌≡◌, ◌*◌, IsTrue, length};
-ghost use Rattle.wrapped_gradient.specs.Windows.{IsEdgeOf, height_of, width_of};
+ghost use Rattle.wrapped_gradient.specs.Windows.{IsEdgeOf};
 
-use raster_model::{Edge, Scene, Window};
+use raster_model::{Edge, Scene, Window, stored_weight};
 
 /// Whether a pixel of the window is open, where `unmasked` tells of each of its pixels in row order.
 fn is_open(window: Window, unmasked: &[bool], x: u32, y: u32) -> bool
@@ -18,20 +18,6 @@ fn is_open(window: Window, unmasked: &[bool], x: u32, y: u32) -> bool
 {
     let across = (window.x1 - window.x0) as usize + 1;
     unmasked[(y - window.y0) as usize * across + (x - window.x0) as usize]
-}
-
-/// The weight of an edge before any mask, as the scene holds it.
-fn stored_weight(scene: &Scene, edge: Edge) -> u16
-    requires { IsTrue (is_edge scene.now.phase.width scene.now.phase.height edge) }
-    ensures { result ≡ edge_weight scene.now.rule scene.now.weights edge }
-{
-    let width = scene.phase.width as usize;
-    let (x, y) = (edge.x as usize, edge.y as usize);
-    if edge.down {
-        scene.edges.down[y * width + x]
-    } else {
-        scene.edges.right[y * (width - 1) + x]
-    }
 }
 
 /// The weight of an edge of the window under the mask: 0 where an end is masked.

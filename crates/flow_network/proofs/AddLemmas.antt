@@ -5,13 +5,13 @@ use Rattle.std.proofs.lemmas.Int.{ints, by_lt_z}
 use Rattle.std.proofs.lemmas.List.{length-append, get_or_append_left, get_or_at, length-set, get_or-set_same, get_or-set_other}
 use Rattle.std.proofs.lemmas.Bool.Decides.{eqb_tells}
 use Rattle.std.proofs.lemmas.Bool.{ne_eqb, eq-eqb, cases_eq, cases_lt, ltb-true, lt-ltb}
-use Rattle.flow_network.specs.Sums.{sum_below, where_true}
 use Rattle.flow_network.specs.Nets.{Shape, State, IsArc, IsNetwork, HasReducedCosts, reduced_cost, tail_of, IsNextBelow}
 use Rattle.flow_network.specs.Moves.{out_term, residual_out}
 use Rattle.flow_network.specs.Growing.{total_residual, total_amount, AddsArc}
 use Rattle.flow_network.specs.Lists.{other, signed_cost, shape_in, state_in, HasRoom, FitTogether, AreLinked}
-use Rattle.flow_network.proofs.SumLemmas.{sum_below-none, sum_below-more, sum_below-same, sum_below-le}
 use Rattle.flow_network.proofs.RoomLemmas.{term-le, sum-not_below, term-not_below, both-le}
+use Rattle.sums_and_lists.specs.Sums.{sum_below, where_true}
+use Rattle.sums_and_lists.proofs.SumLemmas.{sum_below-none, sum_below-more, sum_below-same, sum_below-le}
 
 parity : (a : ℕ) → ((a % 2 == 0) ≡ true) × (a % 2 ≡ 0) ⊎ ((a % 2 == 0) ≡ false) × (a % 2 ≡ 1)
 parity a =

@@ -2,17 +2,17 @@
 use Rattle.std.proofs.Common.{◌≡◌, ℕ, ◌+◌, ◌<◌, ◌∙◌, ap, refl, arith}
 use Rattle.std.specs.Prelude.{ℤ, pos, ◌+ℤ◌, unsigned_abs}
 use Rattle.std.proofs.lemmas.Int.{ints}
-use Rattle.flow_network.specs.Sums.{sum_below, where_true}
 use Rattle.flow_network.specs.Nets.{Shape, State, IsArc}
 use Rattle.flow_network.specs.Moves.{IsConserved}
 use Rattle.flow_network.specs.Growing.{total_residual, total_amount, AddsArc}
+use Rattle.sums_and_lists.proofs.SumLemmas.{sum_below-more, sum_below-same}
 -- sums
-pub use Rattle.flow_network.proofs.SumLemmas.{sum_below-none, sum_below-more, sum_below-same, sum_below-le, sum_below-zeros, sum_below-one, sum_below-two}
 pub use Rattle.flow_network.proofs.RoomLemmas.{term-le, sum-not_below}
 -- reduced costs
 pub use Rattle.flow_network.proofs.PushLemmas.{reduced_cost-same, reduced_cost-twin, reduced_cost-raised}
 -- what a push and a raise keep, for implementations
 pub use Rattle.flow_network.proofs.PushLemmas.{kept-pushed, kept-raised, pushed-at, conserved-pushed, conserved-still, conserved-raised}
+use Rattle.sums_and_lists.specs.Sums.{sum_below, where_true}
 
 pub conserved-refl : (s : Shape) (f : State) → IsConserved s f f
 conserved-refl s f = record { pairs = λ a arc. refl; nodes = λ v l. refl }

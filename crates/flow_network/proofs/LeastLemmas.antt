@@ -1,26 +1,17 @@
 -- Where no excess is left and no arc with capacity left has a reduced cost below 0, no flow costs less.
-use Rattle.std.proofs.Common.{◌≡◌, ℕ, zero, suc, ◌*◌, ◌<◌, sym, ◌∙◌, ap, refl, arith, Bool, true, false, inl, inr}
+use Rattle.std.proofs.Common.{◌≡◌, ℕ, zero, suc, ◌<◌, sym, ◌∙◌, ap, refl, arith, Bool, true, false, inl, inr}
 use Rattle.std.specs.Prelude.{◌==◌, ◌&&◌, ℤ, pos, negsuc, neg_ℤ, ◌+ℤ◌, ◌-ℤ◌, ◌*ℤ◌, ◌≤ℤ◌, ◌<ℤ◌}
 use Rattle.std.proofs.Math.IntN.{zero-*ℤ, *ℤ-zero, pos-*ℤ-pos, negsuc-*ℤ-negsuc}
 use Rattle.std.proofs.lemmas.Int.{ints}
 use Rattle.std.proofs.lemmas.Bool.{cases_Bool, false≢true, ne_eqb}
-use borrow.Author.Differences.{up, down, sum_is_lem}
-use Rattle.flow_network.specs.Sums.{sum_below, where_true}
 use Rattle.flow_network.specs.Nets.{Shape, State, IsArc, IsNetwork, HasReducedCosts, reduced_cost, tail_of}
 use Rattle.flow_network.specs.Moves.{IsConserved, out_term, residual_out}
 use Rattle.flow_network.specs.Laws.{HasNoExcess, residual_cost, BalancedIsLeast}
-use Rattle.flow_network.proofs.SumLemmas.{sum_below-same, sum_below-zeros, sum_below-one, same_tests}
 use Rattle.flow_network.proofs.RoomLemmas.{sum-not_below}
 use Rattle.flow_network.proofs.PushLemmas.{at_place, reduced_cost-twin}
-
-mul-add : (f a b : ℤ) → f *ℤ (a +ℤ b) ≡ f *ℤ a +ℤ f *ℤ b
-mul-add f a b = omega (arith, ints, ap (λ (n : ℕ). up f * n) (sum_is_lem a b), ap (λ (n : ℕ). down f * n) (sum_is_lem a b))
-
-mul_comm : (a b : ℤ) → a *ℤ b ≡ b *ℤ a
-mul_comm a b = omega (arith, ints)
-
-add-mul : (a b f : ℤ) → (a +ℤ b) *ℤ f ≡ a *ℤ f +ℤ b *ℤ f
-add-mul a b f = mul_comm (a +ℤ b) f ∙ mul-add f a b ∙ omega (arith, ints)
+use Rattle.sums_and_lists.proofs.SumLemmas.{where_zero, sum_below-add, sum_below-swap, sum_below-times, sum_below-same, sum_below-zeros, sum_below-one, same_tests}
+use Rattle.sums_and_lists.proofs.Products.{mul-add, add-mul}
+use Rattle.sums_and_lists.specs.Sums.{sum_below, where_true}
 
 sub-mul : (a b f : ℤ) → (a -ℤ b) *ℤ f ≡ a *ℤ f -ℤ b *ℤ f
 sub-mul a b f =
@@ -37,35 +28,12 @@ mul-not_below (negsuc n) (pos zero) p q = rw (*ℤ-zero (negsuc n)) (omega (arit
 mul-not_below (negsuc n) (pos (suc m)) p q = absurd (let l : pos (suc m) ≤ℤ pos 0 = q (omega (arith, ints)) in omega (arith, ints, l))
 mul-not_below (negsuc n) (negsuc m) p q = rw (negsuc-*ℤ-negsuc n m) (omega (arith, ints))
 
-sum-add : (n : ℕ) (f g : ℕ → ℤ) → sum_below n (λ i. f i +ℤ g i) ≡ sum_below n f +ℤ sum_below n g
-unfolding sum_below
-sum-add zero f g = refl
-sum-add (suc n) f g = (let e = sum-add n f g in omega (arith, ints, e))
-
-sum-times : (n : ℕ) (p : ℤ) (f : ℕ → ℤ) → sum_below n (λ i. f i *ℤ p) ≡ sum_below n f *ℤ p
-unfolding sum_below
-sum-times zero p f = sym (zero-*ℤ p)
-sum-times (suc n) p f = (let e = sum-times n p f in let k = add-mul (sum_below n f) (f n) p in omega (arith, ints, e, k))
-
--- a sum of sums in the other order
-sum-swap : (n m : ℕ) (g : ℕ → ℕ → ℤ) → sum_below n (λ a. sum_below m (g a)) ≡ sum_below m (λ b. sum_below n (λ a. g a b))
-unfolding sum_below
-sum-swap zero m g = sym (sum_below-zeros m (λ b. pos 0) (λ b l. refl))
-sum-swap (suc n) m g =
-    let e = sum-swap n m g in
-    let p : sum_below m (λ b. sum_below (suc n) (λ a. g a b)) ≡ sum_below m (λ b. sum_below n (λ a. g a b)) +ℤ sum_below m (g n) = sum-add m (λ b. sum_below n (λ a. g a b)) (g n) in
-    omega (arith, ints, e, p)
-
 -- the one term of a sum at k
 sum-pick : (m k : ℕ) (z : ℕ → ℤ) → k < m → sum_below m (λ b. where_true (b == k) (z b)) ≡ z k
 sum-pick m k z l =
     let e = sum_below-one m k (z k) (λ b. pos 0) (λ b. where_true (b == k) (z b)) l (λ b lb. (let q = at_place b k z in omega (arith, ints, q))) in
     let o = sum_below-zeros m (λ b. pos 0) (λ b lb. refl) in
     omega (arith, ints, e, o)
-
-where_zero : (b : Bool) (z : ℤ) → z ≡ pos 0 → where_true b z ≡ pos 0
-where_zero true z e = e
-where_zero false z e = refl
 
 no_arc : {b : Bool} (z : ℤ) → b ≡ false → where_true b z ≡ pos 0
 no_arc z e = rw e refl
@@ -121,7 +89,7 @@ module _ (s : Shape) (net : IsNetwork s) (z : ℕ → ℤ) where
   twins-sum : sum_below s.arcs (λ a. where_true (s.is_arc a) (z (s.twin a))) ≡ sum_below s.arcs (λ b. where_true (s.is_arc b) (z b))
   twins-sum =
       sum_below-same s.arcs (λ a. where_true (s.is_arc a) (z (s.twin a))) (λ a. sum_below s.arcs (at a)) (λ a l. row a)
-      ∙ sum-swap s.arcs s.arcs at
+      ∙ sum_below-swap s.arcs s.arcs at
       ∙ sum_below-same s.arcs (λ b. sum_below s.arcs (λ a. at a b)) (λ b. where_true (s.is_arc b) (z b)) (λ b l. column b)
 
 -- two flows, of which f has the kept facts
@@ -177,7 +145,7 @@ module _ (s : Shape) (f h : State) (net : IsNetwork s) (low : HasReducedCosts s 
   gone-none : (v : ℕ) → v < s.nodes → sum_below s.arcs (gone v) ≡ pos 0
   unfolding gone
   gone-none v l =
-      let both = sum-add s.arcs (gone v) (out_term s h v) in
+      let both = sum_below-add s.arcs (gone v) (out_term s h v) in
       let back : sum_below s.arcs (λ a. gone v a +ℤ out_term s h v a) ≡ residual_out s f v = sum_below-same s.arcs (λ a. gone v a +ℤ out_term s h v a) (out_term s f v) (λ a m. omega (arith, ints)) in
       let kept = same.nodes v l in
       let a = zf v l in
@@ -187,14 +155,14 @@ module _ (s : Shape) (f h : State) (net : IsNetwork s) (low : HasReducedCosts s 
   tail_column : (v : ℕ) → v < s.nodes → sum_below s.arcs (λ a. by_tail a v) ≡ pos 0
   tail_column v l =
       sum_below-same s.arcs (λ a. by_tail a v) (λ a. gone v a *ℤ f.potential v) (λ a m. tail_term v a)
-      ∙ sum-times s.arcs (f.potential v) (gone v)
+      ∙ sum_below-times s.arcs (f.potential v) (gone v)
       ∙ ap (λ (x : ℤ). x *ℤ f.potential v) (gone-none v l)
       ∙ zero-*ℤ (f.potential v)
 
   tails : sum_below s.arcs (term tail_at) ≡ pos 0
   tails =
       sum_below-same s.arcs (term tail_at) (λ a. sum_below s.nodes (by_tail a)) (λ a l. tail_row a)
-      ∙ sum-swap s.arcs s.nodes by_tail
+      ∙ sum_below-swap s.arcs s.nodes by_tail
       ∙ sum_below-zeros s.nodes (λ v. sum_below s.arcs (λ a. by_tail a v)) tail_column
 
   -- what an arc's head gets, its twin's tail loses
@@ -216,7 +184,7 @@ module _ (s : Shape) (f h : State) (net : IsNetwork s) (low : HasReducedCosts s 
   heads : sum_below s.arcs (term head_at) ≡ pos 0
   unfolding term at_twin
   heads =
-      let both = sum-add s.arcs (term head_at) at_twin in
+      let both = sum_below-add s.arcs (term head_at) at_twin in
       let none : sum_below s.arcs (λ a. term head_at a +ℤ at_twin a) ≡ pos 0 = sum_below-zeros s.arcs (λ a. term head_at a +ℤ at_twin a) (λ a l. head_term a) in
       let turned : sum_below s.arcs at_twin ≡ sum_below s.arcs (term tail_at) = twins-sum s net (λ b. d b *ℤ tail_at b) in
       let t = tails in
@@ -236,8 +204,8 @@ module _ (s : Shape) (f h : State) (net : IsNetwork s) (low : HasReducedCosts s 
   costs-not_below : pos 0 ≤ℤ sum_below s.arcs (term s.cost)
   unfolding term
   costs-not_below =
-      let left = sum-add s.arcs (term s.cost) (term tail_at) in
-      let right = sum-add s.arcs (term (reduced_cost s f)) (term head_at) in
+      let left = sum_below-add s.arcs (term s.cost) (term tail_at) in
+      let right = sum_below-add s.arcs (term (reduced_cost s f)) (term head_at) in
       let e : sum_below s.arcs (λ a. term s.cost a +ℤ term tail_at a) ≡ sum_below s.arcs (λ a. term (reduced_cost s f) a +ℤ term head_at a) = sum_below-same s.arcs (λ a. term s.cost a +ℤ term tail_at a) (λ a. term (reduced_cost s f) a +ℤ term head_at a) (λ a l. arc_term a) in
       let r : pos 0 ≤ℤ sum_below s.arcs (term (reduced_cost s f)) = sum-not_below s.arcs (term (reduced_cost s f)) (λ a l. (
       elim (cases_Bool (s.is_arc a)) [
@@ -253,7 +221,7 @@ module _ (s : Shape) (f h : State) (net : IsNetwork s) (low : HasReducedCosts s 
   residual_cost-le =
       let mine = λ (a : ℕ). where_true (s.is_arc a) (pos (f.residual a) *ℤ s.cost a) in
       let other = λ (a : ℕ). where_true (s.is_arc a) (pos (h.residual a) *ℤ s.cost a) in
-      let both = sum-add s.arcs (term s.cost) other in
+      let both = sum_below-add s.arcs (term s.cost) other in
       let e : sum_below s.arcs (λ a. term s.cost a +ℤ other a) ≡ sum_below s.arcs mine = sum_below-same s.arcs (λ a. term s.cost a +ℤ other a) mine (λ a l. (
       elim (cases_Bool (s.is_arc a)) [
         | inl arc ↦ rw arc (let k = sub-mul (pos (f.residual a)) (pos (h.residual a)) (s.cost a) in omega (arith, ints, k))

@@ -1,4 +1,3 @@
-pub mod SumLemmas
 pub mod PushLemmas
 pub mod RoomLemmas
 pub mod AddLemmas

@@ -4,10 +4,10 @@ use Rattle.std.specs.Prelude.{◌==◌, ◌&&◌, ℤ, pos, ◌+ℤ◌, ◌-ℤ�
 use Rattle.std.proofs.lemmas.Int.{ints}
 use Rattle.std.proofs.lemmas.Bool.Decides.{eqb_tells}
 use Rattle.std.proofs.lemmas.Bool.{and_parts, cases_Bool}
-use Rattle.flow_network.specs.Sums.{sum_below, where_true}
 use Rattle.flow_network.specs.Nets.{Shape, State, IsArc, IsNetwork, HasReducedCosts, reduced_cost, tail_of}
 use Rattle.flow_network.specs.Moves.{IsPushed, IsRaised, IsConserved, out_term, residual_out}
-use Rattle.flow_network.proofs.SumLemmas.{sum_below-two, sum_below-same, same_tests}
+use Rattle.sums_and_lists.specs.Sums.{sum_below, where_true}
+use Rattle.sums_and_lists.proofs.SumLemmas.{sum_below-two, sum_below-same, same_tests}
 
 -- the same potentials give the same reduced costs
 pub reduced_cost-same : (s : Shape) (f g : State) (a : ℕ) → IsNetwork s → IsArc s a → ((v : ℕ) → v < s.nodes → g.potential v ≡ f.potential v) → reduced_cost s g a ≡ reduced_cost s f a

@@ -4,13 +4,13 @@ use Rattle.std.specs.Prelude.{◌==◌, ◌&&◌, ℤ, pos, ◌+ℤ◌, ◌-ℤ�
 use Rattle.std.proofs.lemmas.Int.{ints}
 use Rattle.std.proofs.lemmas.Bool.Decides.{eqb_tells}
 use Rattle.std.proofs.lemmas.Bool.{cases_Bool, ne_eqb, eq-eqb, eqb-true, false≢true}
-use Rattle.flow_network.specs.Sums.{sum_below, where_true}
 use Rattle.flow_network.specs.Nets.{Shape, State, IsArc, IsNetwork, tail_of}
 use Rattle.flow_network.specs.Moves.{IsPushed, out_term, residual_out}
 use Rattle.flow_network.specs.Growing.{total_residual}
 use Rattle.flow_network.specs.Lists.{HasRoom}
-use Rattle.flow_network.proofs.SumLemmas.{sum_below-one, sum_below-two, sum_below-same, sum_below-le, sum_below-zeros}
 use Rattle.flow_network.proofs.PushLemmas.{conserved-pushed, residual_out-same}
+use Rattle.sums_and_lists.specs.Sums.{sum_below, where_true}
+use Rattle.sums_and_lists.proofs.SumLemmas.{sum_below-one, sum_below-two, sum_below-same, sum_below-le, sum_below-zeros}
 
 -- a sum of terms that are at least 0 is at least each of them, and at least 0
 pub term-le : (n i : ℕ) (f : ℕ → ℤ) → i < n → ((k : ℕ) → k < n → pos 0 ≤ℤ f k) → f i ≤ℤ sum_below n f

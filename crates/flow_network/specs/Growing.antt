@@ -1,7 +1,7 @@
 -- How a network grows, an arc and its twin at a time.
 use Rattle.std.specs.Prelude.{◌≡◌, ◌<◌, ◌+◌, ℕ, ℤ, pos, ◌+ℤ◌, unsigned_abs, List, length, get_or}
-use Rattle.flow_network.specs.Sums.{sum_below, where_true}
 use Rattle.flow_network.specs.Nets.{Shape, State, IsArc}
+use Rattle.sums_and_lists.specs.Sums.{sum_below, where_true}
 
 -- the supplies in sum
 abbrev pub supply_sum : List ℤ → ℤ

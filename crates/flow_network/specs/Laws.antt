@@ -1,8 +1,8 @@
 -- What the kept facts are for: they stay over pushes and raises, and once no excess is left they say that no flow costs less.
 use Rattle.std.specs.Prelude.{◌≡◌, ◌<◌, ℕ, ℤ, pos, ◌-ℤ◌, ◌*ℤ◌, ◌≤ℤ◌, List}
-use Rattle.flow_network.specs.Sums.{sum_below, where_true}
 use Rattle.flow_network.specs.Nets.{Shape, State, IsArc, IsNetwork, HasReducedCosts, reduced_cost}
 use Rattle.flow_network.specs.Moves.{IsPushed, IsRaised, MayRaise, IsConserved}
+use Rattle.sums_and_lists.specs.Sums.{sum_below, where_true}
 
 -- After a push along an arc of reduced cost 0 the kept facts hold, and flow was neither made nor lost.
 abbrev pub PushKeepsNetwork : Type 0

@@ -1,4 +1,3 @@
-pub mod Sums
 pub mod Nets
 pub mod Moves
 pub mod Growing

@@ -1,7 +1,7 @@
 -- What a push and a raise change, and what neither changes.
 use Rattle.std.specs.Prelude.{◌≡◌, ◌<◌, ◌≤◌, ◌+◌, ◌^◌, ℕ, ℤ, pos, ◌+ℤ◌, ◌-ℤ◌, ◌≤ℤ◌, unsigned_abs, ◌&&◌, ◌==◌, if◌then◌else◌, List, get_or}
-use Rattle.flow_network.specs.Sums.{sum_below, where_true}
 use Rattle.flow_network.specs.Nets.{Shape, State, IsArc, reduced_cost, tail_of}
+use Rattle.sums_and_lists.specs.Sums.{sum_below, where_true}
 
 -- An amount moved along arc a: from its residual to its twin's, and from the excess of its tail to that of its head.
 pub record IsPushed (s : Shape) (a amount : ℕ) (f g : State) : Type 0 where

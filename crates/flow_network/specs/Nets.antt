@@ -1,6 +1,6 @@
 -- Flow networks: their arcs, what flows, and the fact that each network keeps.
 use Rattle.std.specs.Prelude.{◌≡◌, ◌<◌, ◌≤◌, ◌+◌, ℕ, ℤ, pos, neg_ℤ, ◌+ℤ◌, ◌-ℤ◌, ◌≤ℤ◌, Bool, IsTrue, Option, Some, None}
-use Rattle.flow_network.specs.Sums.{sum_below}
+use Rattle.sums_and_lists.specs.Sums.{sum_below}
 
 -- What no push and no raise changes. Nodes are the numbers below `nodes`; an arc's number is below `arcs`.
 pub record Shape : Type 0 where

@@ -1,6 +1,6 @@
+ghost use Rattle.sums_and_lists.specs.Sums.{where_true};
 ghost use Rattle.std.specs.Prelude.{◌≡◌, ◌<◌, ◌≤◌, ◌+◌, ◌-◌, ◌^◌, ◌==◌, ℕ, ℤ, pos, neg_ℤ, ◌+ℤ◌, ◌-ℤ◌, ◌≤ℤ◌, if◌then◌else◌, length, get_or, unsigned_abs, FitsSigned, [], ◌∷◌, ◌++◌, vec_len, vec_capacity, IfOk};
 ghost use Rattle.std.specs.Int.{w64};
-ghost use Rattle.flow_network.specs.Sums.{where_true};
 
 use std::alloc::{AllocError, Global};
 

@@ -20,16 +20,14 @@ use Rattle.insar_top.specs.Checks.{AfterSession, ByCheck, HasCheckCause, HasChec
 use Rattle.insar_top.specs.Outcomes.{Run, IsUnread, SinkFailed, SourceFailed}
 use Rattle.insar_top.specs.Refusals.{status_of}
 use Rattle.insar_top.specs.VerdictLines.{verdict_line}
-use Rattle.insar_top.specs.Words.{AsksCheck, IsCheck, IsNoCheck, IsNoCommand, nothing}
-use Rattle.insar_top.proofs.CommandLemmas.{letters, one_telling}
+use Rattle.insar_top.specs.Words.{AsksCheck, IsCheck, IsNoCheck, IsNoCommand, IsSomeCheck, nothing}
+use Rattle.insar_top.proofs.CommandLemmas.{letters, one_telling, options_same}
+use Rattle.insar_ports.proofs.CallLemmas.{at_told, if_told}
 
 -- ---- words
 
 cons_first : (a b : List ℕ) (x y : List (List ℕ)) → a ∷ x ≡ b ∷ y → a ≡ b
 cons_first a b x y e = ap (λ (l : List (List ℕ)). get_or l 0 []) e
-
-cons_rest : (a : List ℕ) (x y : List (List ℕ)) → a ∷ x ≡ a ∷ y → x ≡ y
-cons_rest a x y e = cc
 
 module _ (words : List (Bor (List ℕ))) where
   pub no_command : AsksCheck words → IsNoCommand words
@@ -40,7 +38,7 @@ module _ (words : List (Bor (List ℕ))) where
 
   one_told : (r q : RuleKind) (s t : ℕ) (c : IsCheck words r s) (d : IsCheck words q t) → c.told ≡ d.told
   one_told r q s t c d =
-      let same : d.options ≡ c.options = cons_rest (codes "check") d.options c.options (sym d.spelled ∙ c.spelled) in
+      let same : d.options ≡ c.options = options_same (codes "check") d.options c.options (sym d.spelled ∙ c.spelled) in
       one_telling c.options nothing c.told d.told c.tells (rw (← same) d.tells)
 
   pub one_check : (r q : RuleKind) (s t : ℕ) → IsCheck words r s → IsCheck words q t → (r ≡ q) × (s ≡ t)
@@ -91,6 +89,15 @@ module _ (words : List (Bor (List ℕ))) where
     two_for_words none refusals.ReadFault h = absurd (none h.0 h.1 h.2.0)
     two_for_words none refusals.WriteFault h = absurd (none h.0 h.1 h.2.0)
 
+    pub named_check : (e : Refusal) → (status_of e ≡ 2 → ⊥) → HasCheckRefusal words run e → IsSomeCheck words
+    named_check refusals.Words other h = absurd (other refl)
+    named_check (refusals.Input fault) other h = (h.0, h.1, h.2.0)
+    named_check (refusals.ReportLine n) other h = (h.0, h.1, h.2.0)
+    named_check refusals.ReportLong other h = (h.0, h.1, h.2.0)
+    named_check refusals.Memory other h = (h.0, h.1, h.2.0)
+    named_check refusals.ReadFault other h = (h.0, h.1, h.2.0)
+    named_check refusals.WriteFault other h = (h.0, h.1, h.2.0)
+
     pub source_at_five : (e : Refusal) → status_of e ≡ 5 → HasCheckRefusal words run e → SourceFailed run
     source_at_five refusals.Words q h = absurd (omega (arith, q))
     source_at_five (refusals.Input fault) q h = absurd (omega (arith, q))
@@ -128,14 +135,6 @@ at_least_two refusals.ReadFault = (omega arith, omega arith)
 at_least_two refusals.WriteFault = (omega arith, omega arith)
 
 -- ---- a session with a report is judged
-
-pub if_told : (o : Option (List ℕ)) (P : List ℕ → Type 0) → ((bytes : List ℕ) → o ≡ Some bytes → P bytes) → IfSome o P
-if_told None P f = tt
-if_told (Some bytes) P f = f bytes refl
-
-pub at_told : (o : Option (List ℕ)) (P : List ℕ → Type 0) (bytes : List ℕ) → o ≡ Some bytes → IfSome o P → P bytes
-at_told None P bytes e h = absurd cc
-at_told (Some b) P bytes e h = let same : b ≡ bytes = cc in subst P same h
 
 module _ (rule : RuleKind) (side : ℕ) (bytes : List ℕ) (checkable : IsCheckable rule side bytes) where
   same_rest : (P : List ℕ → Type 0) → AfterSession side bytes P → P checkable.1

@@ -60,7 +60,7 @@ one_telling (name ∷ []) t u v a b = absurd a
 one_telling (name ∷ value ∷ rest) t u v a b =
     one_telling rest b.0 u v (subst (λ (w : Told). Tells rest w u) (one_option name value t a.0 b.0 a.1 b.1) a.2) b.2
 
-options_same : (a : List ℕ) (x y : List (List ℕ)) → a ∷ x ≡ a ∷ y → x ≡ y
+pub options_same : (a : List ℕ) (x y : List (List ℕ)) → a ∷ x ≡ a ∷ y → x ≡ y
 options_same a x y e = cc
 
 one_told : (words : List (Bor (List ℕ))) (r q : RuleKind) (s t : ℕ) (c : IsCommand words r s) (d : IsCommand words q t) → c.told ≡ d.told

@@ -19,7 +19,8 @@ use Rattle.report_check.proofs.UniqueLemmas.{reports_have_one_verdict}
 use Rattle.insar_top.specs.Checks.{BytesHaveOneVerdict, IsChecked, IsJudged, IsRejected, IsVerdictTold}
 use Rattle.insar_top.specs.Outcomes.{Run}
 use Rattle.insar_top.specs.VerdictLines.{verdict_line}
-use Rattle.insar_top.proofs.CheckStatus.{at_told, by_status, if_told}
+use Rattle.insar_top.proofs.CheckStatus.{by_status}
+use Rattle.insar_ports.proofs.CallLemmas.{at_told, if_told}
 
 same_plane : (p q : Plane) → plane_of p ≡ plane_of q → IsSamePlane p q
 same_plane p q e = record {

@@ -12,10 +12,7 @@ use Rattle.session_script.specs.Sections.{Frame, Sections}
 use Rattle.session_script.specs.Sessions.{IsSessionIn, session_of}
 use Rattle.insar_top.specs.Answers.{IsGiven}
 use Rattle.insar_top.specs.Causes.{IsAlone}
-
-no_rest : (f : Frame) (bytes : List ℕ) (scripts : Sections) (rest : List ℕ) → IsScriptPart f Alone bytes scripts rest → rest ≡ []
-no_rest f bytes scripts rest (inl h) = h.3
-no_rest f bytes scripts rest (inr h) = h.ends refl
+use Rattle.session_script.proofs.AskScript.{alone_ends}
 
 nothing_left : (pending : List ℕ) (left : Option (List ℕ)) → with_front pending left ≡ Some [] → left ≡ Some []
 nothing_left pending None e = absurd (cc)
@@ -25,7 +22,7 @@ nothing_left (b ∷ pending) (Some rest) e = absurd (cc)
 module _ (c : Call) (pending : List ℕ) (left : Option (List ℕ)) (rule : RuleKind) (side : ℕ) (s : Session) (is : c.left ≡ with_front pending left) (scene : (s.scene.rule ≡ rule) × (s.scene.tiling.side ≡ side)) where
   given : (bytes rest : List ℕ) → c.left ≡ Some rest → IsSessionIn Alone side bytes (session_of s) rest → IsGiven rule side bytes s × (left ≡ Some [])
   given bytes rest there spelled =
-      let end : rest ≡ [] = no_rest _ _ _ rest spelled.script in (
+      let end : rest ≡ [] = alone_ends _ _ _ rest spelled.script in (
         record { spelled = subst (λ (r : List ℕ). IsSessionIn Alone side bytes (session_of s) r) end spelled; rule_is = scene.0; side_is = scene.1 },
         nothing_left pending left (sym is ∙ there ∙ ap Some end),
       )

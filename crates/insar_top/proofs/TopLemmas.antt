@@ -22,16 +22,9 @@ use Rattle.insar_top.specs.Answers.{IsAnswer, IsGiven, IsInput, IsNoInput, IsRep
 use Rattle.insar_top.specs.Causes.{HasInputCause, HasInputFault, IsAlone}
 use Rattle.insar_top.specs.Outcomes.{Run, ByCommand, IsDone, IsCut, SourceFailed, SinkFailed, HasCause, HasRunCause}
 use Rattle.insar_top.specs.Refusals.{status_of}
-use Rattle.insar_top.specs.Words.{IsCommand, IsNoCommand}
+use Rattle.insar_top.specs.Words.{IsCommand, IsNoCommand, IsSomeCommand}
 use Rattle.insar_top.proofs.CommandLemmas.{one_command}
-
-if_told : (o : Option (List ℕ)) (P : List ℕ → Type 0) → ((bytes : List ℕ) → o ≡ Some bytes → P bytes) → IfSome o P
-if_told None P f = tt
-if_told (Some bytes) P f = f bytes refl
-
-at_told : (o : Option (List ℕ)) (P : List ℕ → Type 0) (bytes : List ℕ) → o ≡ Some bytes → IfSome o P → P bytes
-at_told None P bytes e h = absurd cc
-at_told (Some b) P bytes e h = let same : b ≡ bytes = cc in subst P same h
+use Rattle.insar_ports.proofs.CallLemmas.{if_told, at_told}
 
 module _ (rule : RuleKind) (side : ℕ) (r : Run) (s : Session) (v : ReportOf) (read : IsAlone r.told r.left (λ bytes. IsGiven rule side bytes s)) (reported : IsReportOf s v) where
   answer_for : (bytes : List ℕ) → IsGiven rule side bytes s → IsAnswer rule side bytes (report_text v)
@@ -175,6 +168,18 @@ module _ (words : List (Bor (List ℕ))) (r : Run) where
         go refusals.Memory k q = absurd (omega (arith, q, two))
         go refusals.ReadFault k q = absurd (omega (arith, q, two))
         go refusals.WriteFault k q = absurd (omega (arith, q, two))
+
+    pub named_from : (status ≡ 2 → ⊥) → IsSomeCommand words
+    named_from other = go e h s
+      where
+        go : (e : Refusal) → HasCause words r e → status ≡ status_of e → IsSomeCommand words
+        go refusals.Words k q = absurd (other q)
+        go (refusals.Input fault) k q = (k.0, k.1, k.2)
+        go (refusals.ReportLine n) k q = absurd k
+        go refusals.ReportLong k q = absurd k
+        go refusals.Memory k q = (k.0, k.1, k.2)
+        go refusals.ReadFault k q = (k.0, k.1, k.2)
+        go refusals.WriteFault k q = (k.0, k.1, k.2)
 
     pub taken_from : IsNoCommand words → status ≡ 2
     taken_from none = go e h s

@@ -7,7 +7,7 @@ use Rattle.raster_model.specs.declared.weights.RuleKind.{RuleKind}
 use Rattle.raster_model.specs.declared.weights.RuleKind.TheVariants.{Least}
 use Rattle.insar_top.specs.declared.words.Told.{Told}
 use Rattle.insar_top.specs.Words.{AsksCheck, IsCommandOf, IsInRange, IsNoCheck, Tells, TellsOne, TellsRule, TellsSide, TellsWorkers, nothing}
-use Rattle.insar_top.proofs.CommandLemmas.{one_option, one_telling, other_names}
+use Rattle.insar_top.proofs.CommandLemmas.{one_option, one_telling, options_same, other_names}
 
 -- what options tell is in its range
 one_in_range : (name value : List ℕ) (t u : Told) → TellsOne name value t u → IsInRange t → IsInRange u
@@ -92,14 +92,11 @@ module _ (d : Bor (List ℕ)) where
     workers_are = e;
   }
 
-  same_rest : (a : List ℕ) (x y : List (List ℕ)) → a ∷ x ≡ a ∷ y → x ≡ y
-  same_rest a x y e = cc
-
   -- and behind `check`, where they tell the workers, no check
   pub is_no_check : (words : List (Bor (List ℕ))) → 1 ≤ length words → word words 0 ≡ codes "check" → (u : Told) → Tells (texts (slice_range words 1 (length words))) nothing u → u.workers ≢ None → IsNoCheck words
   is_no_check words long first u told workers rule side check =
       let behind : List (List ℕ) = texts (slice_range words 1 (length words)) in
-      let same : check.options ≡ behind = same_rest (codes "check") check.options behind (sym check.spelled ∙ one_and_rest words long ∙ ap (λ (x : List ℕ). x ∷ behind) first) in
+      let same : check.options ≡ behind = options_same (codes "check") check.options behind (sym check.spelled ∙ one_and_rest words long ∙ ap (λ (x : List ℕ). x ∷ behind) first) in
       workers (ap (λ (t : Told). t.workers) (one_telling behind nothing u check.told told (subst (λ (x : List (List ℕ)). Tells x nothing check.told) same check.tells)) ∙ check.no_workers)
 
   pub asks_check : (words : List (Bor (List ℕ))) → 1 ≤ length words → word words 0 ≡ codes "check" → AsksCheck words

@@ -21,10 +21,11 @@ use Rattle.insar_top.specs.Words.{IsCheck, IsNoCheck}
 use Rattle.insar_top.specs.VerdictLines.{verdict_line}
 use Rattle.insar_top.specs.declared.refusal.Refusal.{Refusal}
 use Rattle.insar_top.specs.declared.refusal.Refusal.TheVariants as refusals
+use Rattle.raster_model.specs.Limits.{max_report_bytes}
 
 -- the most bytes of a report
 abbrev pub most_of_report : ℕ
-most_of_report = 4294967296
+most_of_report = max_report_bytes
 
 -- the bytes are the text of a session and then of a report that is not too long, for which this is the verdict
 pub record IsJudged (rule : RuleKind) (side : ℕ) (bytes : List ℕ) (verdict : CheckVerdict) : Type 0 where

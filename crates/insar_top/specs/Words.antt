@@ -77,6 +77,10 @@ pub record IsCommandOf (words : List (Bor (List ℕ))) (rule : RuleKind) (side w
 abbrev pub IsNoCommand : List (Bor (List ℕ)) → Type 0
 IsNoCommand words = (rule : RuleKind) (side : ℕ) → IsCommand words rule side → ⊥
 
+-- they are a command of some rule and side
+abbrev pub IsSomeCommand : List (Bor (List ℕ)) → Type 0
+IsSomeCommand words = (rule : RuleKind) × (side : ℕ) × IsCommand words rule side
+
 -- words are one command at most
 abbrev pub OneCommand : Type 0
 OneCommand = (words : List (Bor (List ℕ))) (rule other : RuleKind) (side another : ℕ) → IsCommand words rule side → IsCommand words other another → (rule ≡ other) × (side ≡ another)
@@ -98,6 +102,10 @@ pub record IsCheck (words : List (Bor (List ℕ))) (rule : RuleKind) (side : ℕ
 -- they are no such words
 abbrev pub IsNoCheck : List (Bor (List ℕ)) → Type 0
 IsNoCheck words = (rule : RuleKind) (side : ℕ) → IsCheck words rule side → ⊥
+
+-- they are such words of some rule and side
+abbrev pub IsSomeCheck : List (Bor (List ℕ)) → Type 0
+IsSomeCheck words = (rule : RuleKind) × (side : ℕ) × IsCheck words rule side
 
 -- words are one check at most, and not a command too
 abbrev pub OneCheck : Type 0

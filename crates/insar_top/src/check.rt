@@ -1,3 +1,4 @@
+ghost use Rattle.raster_model.specs.Limits.{max_session_bytes};
 ghost use Rattle.insar_ports.specs.Bytes.{HasRisen};
 ghost use Rattle.insar_ports.specs.Feeding.{faults_of, handed_of, left_of, limit_of, source_name, source_of};
 ghost use Rattle.insar_top.specs.Checks.{HasCheckCause, HasCheckRefusal, HasReadCause, IsChecked, AreRead, ByCheck};
@@ -8,17 +9,11 @@ use crate::refusal::Refusal;
 use crate::verdict::put_verdict;
 use crate::words::{Settings, read_check};
 use insar_ports::{Feed, Sink, Source};
-use raster_model::Session;
+use raster_model::{MAX_REPORT_BYTES, MAX_SESSION_BYTES, Session};
 use report_check::{CheckVerdict, check_report};
 use report_text::{Report, read_report};
 use session_script::{SessionUse, read_session};
 use std::alloc::Global;
-
-/// The most bytes that a session may have.
-const GREATEST_SESSION: u64 = 268_435_456;
-
-/// The most bytes that a report may have.
-const GREATEST_REPORT: u64 = 4_294_967_296;
 
 /// Reads a session and then a report, judges the report, and puts the line of the verdict into the sink.
 pub fn run_check<S: Source, K: Sink>(
@@ -63,7 +58,7 @@ fn read_both<S: Source>(
     ensures read { IfOk result (λ both. AreRead settings.rule settings.side (S.left source.old) (S.left source.new) both.0 both.1) }
     ensures refused { IfErr result (HasReadCause settings.side (S.left source.old) (S.faults source.old) (S.faults source.new)) }
 {
-    let mut feed = Feed::new(alloc, source, GREATEST_SESSION)?;
+    let mut feed = Feed::new(alloc, source, MAX_SESSION_BYTES)?;
     read_fed(alloc, &mut feed, settings)
 }
 
@@ -74,7 +69,7 @@ fn read_fed<S: Source>(
     settings: Settings,
 ) -> Result<(Session, Report), Refusal>
     requires start { handed_of feed.old ≡ 0 }
-    requires limit { limit_of feed.old ≡ 268435456 }
+    requires limit { limit_of feed.old ≡ max_session_bytes }
     ensures same_source { source_name feed.new ≡ source_name feed.old }
     ensures read { IfOk result (λ both. AreRead settings.rule settings.side (left_of S.left feed.old) (S.left (source_of feed.new)) both.0 both.1) }
     ensures refused { IfErr result (HasReadCause settings.side (left_of S.left feed.old) (faults_of S.faults feed.old) (faults_of S.faults feed.new)) }
@@ -86,7 +81,7 @@ fn read_fed<S: Source>(
         settings.side,
         settings.rule,
     )?;
-    feed.set_limit(feed.handed() + GREATEST_REPORT);
+    feed.set_limit(feed.handed() + MAX_REPORT_BYTES);
     let report = read_report(alloc, feed)?;
     Ok((session, report))
 }

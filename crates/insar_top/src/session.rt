@@ -1,3 +1,4 @@
+ghost use Rattle.raster_model.specs.Limits.{max_session_bytes};
 ghost use Rattle.insar_ports.specs.Feeding.{faults_of, handed_of, left_of, limit_of, source_name, source_of};
 ghost use Rattle.insar_top.specs.Answers.{IsGiven};
 ghost use Rattle.insar_top.specs.Causes.{HasInputCause, IsAlone};
@@ -6,12 +7,9 @@ ghost use Rattle.std.specs.Prelude.{◌≡◌, IfErr, IfOk};
 use crate::refusal::Refusal;
 use crate::words::Settings;
 use insar_ports::{Feed, Source};
-use raster_model::Session;
+use raster_model::{MAX_SESSION_BYTES, Session};
 use session_script::{SessionUse, read_session};
 use std::alloc::Global;
-
-/// The most bytes that a session may have.
-const GREATEST_SESSION: u64 = 268_435_456;
 
 /// Reads the session that a source gives, behind which it ends.
 pub fn read_alone<S: Source>(
@@ -22,7 +20,7 @@ pub fn read_alone<S: Source>(
     ensures read { IfOk result (λ session. IsAlone (S.left source.old) (S.left source.new) (λ bytes. IsGiven settings.rule settings.side bytes session)) }
     ensures refused { IfErr result (HasInputCause settings.side (S.left source.old) (S.faults source.old) (S.faults source.new)) }
 {
-    let mut feed = Feed::new(alloc, source, GREATEST_SESSION)?;
+    let mut feed = Feed::new(alloc, source, MAX_SESSION_BYTES)?;
     read_fed(alloc, &mut feed, settings)
 }
 
@@ -33,7 +31,7 @@ fn read_fed<S: Source>(
     settings: Settings,
 ) -> Result<Session, Refusal>
     requires start { handed_of feed.old ≡ 0 }
-    requires limit { limit_of feed.old ≡ 268435456 }
+    requires limit { limit_of feed.old ≡ max_session_bytes }
     ensures same_source { source_name feed.new ≡ source_name feed.old }
     ensures read { IfOk result (λ session. IsAlone (left_of S.left feed.old) (S.left (source_of feed.new)) (λ bytes. IsGiven settings.rule settings.side bytes session)) }
     ensures refused { IfErr result (HasInputCause settings.side (left_of S.left feed.old) (faults_of S.faults feed.old) (faults_of S.faults feed.new)) }

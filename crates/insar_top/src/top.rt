@@ -11,7 +11,7 @@ ghost use Rattle.insar_top.specs.Answers.{IsInput, IsNoInput};
 ghost use Rattle.insar_top.specs.Causes.{HasInputFault};
 ghost use Rattle.insar_top.specs.Lines.{fault_line, line_of};
 ghost use Rattle.insar_top.specs.Outcomes.{ByCommand, IsUnread, IsDone, IsCut, IsStatus, IsLineAt, HasCause, HasRunCause, run_of};
-ghost use Rattle.insar_top.specs.Words.{IsCheck, IsCommand, IsNoCheck, IsNoCommand};
+ghost use Rattle.insar_top.specs.Words.{IsCheck, IsCommand, IsNoCheck, IsNoCommand, IsSomeCheck, IsSomeCommand};
 ghost use Rattle.session_script.specs.Sessions.{SessionOf};
 
 use crate::board::finished;
@@ -84,6 +84,7 @@ fn unwrap<R: Threads + Wait + Sync, S: Source, K: Sink, D: Sink, G: Gate>(
     ensures words_refused { result ≡ 2 → IsNoCommand words.now }
     ensures unread { result ≡ 2 → IsUnread (run_of S.left S.faults source.old source.new K.held K.faults sink.old sink.new) }
     ensures words_taken { IsNoCommand words.now → result ≡ 2 }
+    ensures named { (result ≡ 2 → ⊥) → IsSomeCommand words.now }
     // 3: the bytes are no session, for a fault that the line tells.
     ensures input_refused { result ≡ 3 → ByCommand words.now (λ rule side. IfSome (S.left source.old) (IsNoInput side)) }
     ensures fault { result ≡ 3 → ByCommand words.now (λ rule side. IfSome (S.left source.old) (λ bytes. (fault : Fault) × (HasInputFault side bytes fault × ((HasRisen (D.faults diag.old) (D.faults diag.new) → ⊥) → D.held diag.new ≡ with_end (D.held diag.old) (fault_line fault))))) }
@@ -167,11 +168,11 @@ pub fn insar<R: Threads + Wait + Sync, S: Source, K: Sink, D: Sink, G: Gate>(
     // Whatever session and report the bytes are the text of: at 0 the verdict on them is Accepted and at 1 it is not, and the
     // line is its own.
     ensures judged { (rule : Kind) (side : ℕ) → IsCheck words.now rule side → IfSome (S.left source.old) (λ bytes. (verdict : AnyVerdict) → IsJudged rule side bytes verdict → IsVerdictTold result (run_of S.left S.faults source.old source.new K.held K.faults sink.old sink.new) verdict) }
-    ensures done { result ≡ 0 → IsNoCommand words.now → IsNoCheck words.now → ⊥ }
     // 2: the words are no command; the source is not read.
     ensures words_refused { result ≡ 2 → IsNoCommand words.now × IsNoCheck words.now }
     ensures unread { result ≡ 2 → IsUnread (run_of S.left S.faults source.old source.new K.held K.faults sink.old sink.new) }
     ensures words_taken { IsNoCommand words.now → IsNoCheck words.now → result ≡ 2 }
+    ensures named { (result ≡ 2 → ⊥) → IsSomeCommand words.now ⊎ IsSomeCheck words.now }
     // 3: the bytes are no session, or no session and report, for a fault that the line tells.
     ensures input_refused { (rule : Kind) (side : ℕ) → IsCommand words.now rule side → result ≡ 3 → IfSome (S.left source.old) (IsNoInput side) }
     ensures fault { (rule : Kind) (side : ℕ) → IsCommand words.now rule side → result ≡ 3 → IfSome (S.left source.old) (λ bytes. (fault : Fault) × (HasInputFault side bytes fault × ((HasRisen (D.faults diag.old) (D.faults diag.new) → ⊥) → D.held diag.new ≡ with_end (D.held diag.old) (fault_line fault)))) }

@@ -8,11 +8,9 @@ use Rattle.mask_revisions.specs.Edits.{mask_after, mask_at, last_up_to, changes_
 use Rattle.mask_revisions.specs.Stamps.{StampsLookBack}
 use Rattle.mask_revisions.proofs.Differences.{differ_tells, same_from}
 use Rattle.mask_revisions.proofs.Histories.{mask_at-last}
+use Rattle.std.proofs.lemmas.Bool.{cases_Bool}
 
 -- ---- the greatest number that passes a test
-truth : (b : Bool) → (b ≡ true) ⊎ (b ≡ false)
-truth true = inl refl
-truth false = inr refl
 
 last_or : (i n : ℕ) → i ≤ suc n → (i ≤ n) ⊎ (i ≡ suc n)
 last_or i n l = grind arith
@@ -20,12 +18,12 @@ last_or i n l = grind arith
 last_within : (n : ℕ) (p : ℕ → Bool) → last_up_to n p ≤ n
 unfolding last_up_to
 last_within zero p = omega arith
-last_within (suc n) p = elim (truth (p (suc n))) [ inl h ↦ rw h (omega arith) | inr h ↦ rw h (omega (arith, last_within n p)) ]
+last_within (suc n) p = elim (cases_Bool (p (suc n))) [ inl h ↦ rw h (omega arith) | inr h ↦ rw h (omega (arith, last_within n p)) ]
 
 last_passes : (n : ℕ) (p : ℕ → Bool) → 1 ≤ last_up_to n p → p (last_up_to n p) ≡ true
 unfolding last_up_to
 last_passes zero p l = absurd (omega arith)
-last_passes (suc n) p l = elim (truth (p (suc n))) [
+last_passes (suc n) p l = elim (cases_Bool (p (suc n))) [
   | inl h ↦ rw h h
   | inr h ↦ (let m = rw h at l in rw h (last_passes n p m))
 ]
@@ -33,7 +31,7 @@ last_passes (suc n) p l = elim (truth (p (suc n))) [
 none_later : (n : ℕ) (p : ℕ → Bool) (s : ℕ) → last_up_to n p < s → s ≤ n → p s ≡ false
 unfolding last_up_to
 none_later zero p s l m = absurd (omega arith)
-none_later (suc n) p s l m = elim (truth (p (suc n))) [
+none_later (suc n) p s l m = elim (cases_Bool (p (suc n))) [
   | inl h ↦ (let k = rw h at l in absurd (omega (arith, k, m)))
   | inr h ↦ elim (last_or s n m) [
     | inl k ↦ (let j = rw h at l in none_later n p s j k)

@@ -11,26 +11,18 @@ use Rattle.raster_model.specs.Sums.{Field}
 use Rattle.raster_model.specs.Tiles.{tile_at, IsWindowOf}
 use Rattle.mask_revisions.specs.Edits.{has_pixel, opens, edited, any_below, differs, differ_in}
 use Rattle.mask_revisions.specs.Steps.{IsAll, HasOther}
+use Rattle.sums_and_lists.proofs.Tests.{true_and_false}
+use Rattle.sums_and_lists.proofs.Orders.{below_or_at}
+use Rattle.std.proofs.lemmas.Bool.{or_right, or_left}
 
 -- ---- some number below a bound
 pub any_from : (n : ℕ) (p : ℕ → Bool) (i : ℕ) → i < n → IsTrue (p i) → IsTrue (any_below n p)
 unfolding any_below
 any_from zero p i l t = absurd (omega arith)
-any_from (suc n) p i l t = elim (last_or i n l) [
+any_from (suc n) p i l t = elim (below_or_at i n l) [
   | inl m ↦ or_right (p n) (any_below n p) (any_from n p i m t)
   | inr e ↦ or_left (p n) (any_below n p) (rw e at t)
 ]
-  where
-    last_or : (i n : ℕ) → i < suc n → (i < n) ⊎ (i ≡ n)
-    last_or i n l = grind arith
-
-    or_left : (a b : Bool) → IsTrue a → IsTrue (a || b)
-    or_left true b t = refl
-    or_left false b t = cc
-
-    or_right : (a b : Bool) → IsTrue b → IsTrue (a || b)
-    or_right true b t = refl
-    or_right false b t = t
 
 pub any_tells : (n : ℕ) (p : ℕ → Bool) → IsTrue (any_below n p) → (i : ℕ) × (i < n) × IsTrue (p i)
 unfolding any_below
@@ -93,10 +85,7 @@ same_bits false false n = refl
 
 -- masks that do not differ in a tile are the same at each of its pixels
 pub same_from : (g : Tiling) (old new : Field Bool) (t : ℕ) → differ_in g old new t ≡ false → (x y : ℕ) → x < g.width → y < g.height → tile_at g x y ≡ t → old x y ≡ new x y
-same_from g old new t h x y l m e = same_bits (old x y) (new x y) (λ n. clash (differ_in g old new t) (differ_from g old new t x y l m e n) h)
-  where
-    clash : (b : Bool) → IsTrue b → b ≡ false → ⊥
-    clash b p q = cc
+same_from g old new t h x y l m e = same_bits (old x y) (new x y) (λ n. true_and_false (differ_in g old new t) (differ_from g old new t x y l m e n) h)
 
 pub differ_same : (g : Tiling) (old new old' new' : Field Bool) (t : ℕ) → ((x y : ℕ) → x < g.width → y < g.height → old x y ≡ old' x y) → ((x y : ℕ) → x < g.width → y < g.height → new x y ≡ new' x y) → differ_in g old new t ≡ differ_in g old' new' t
 unfolding differ_in

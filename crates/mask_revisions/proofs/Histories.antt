@@ -15,6 +15,8 @@ use Rattle.mask_revisions.specs.Revisions.{AreRevisionsOf, IsPushed, AreChanged}
 use Rattle.mask_revisions.specs.RevisionsView.{RevisionsView}
 use Rattle.mask_revisions.specs.Steps.{AreStamped}
 use Rattle.mask_revisions.proofs.Differences.{differ_same}
+use Rattle.sums_and_lists.proofs.Orders.{below_or_last}
+use Rattle.sums_and_lists.proofs.Tests.{true_and_false}
 
 -- ---- one more edit
 pub mask_after-push : (first : Field Bool) (es : List Edit) (e : Edit) → mask_after first (es ++ (e ∷ [])) ≡ edited e (mask_after first es)
@@ -97,8 +99,6 @@ next_are first es e old new is push = record {
     now x y l m = push.mask.clear_at x y l m ∙ edited-same e (open_at old.mask) (mask_after first es) x y (is.mask.clear_at x y l m)
 
 -- ---- stamps of a list of tiles
-last_or : (i n : ℕ) → i < n + 1 → (i < n) ⊎ (i ≡ n)
-last_or i n l = grind arith
 
 pub stamped_none : (old tiles : List ℕ) (s : ℕ) → AreStamped old old tiles 0 s
 stamped_none old tiles s = record { stamped = λ i l. absurd (omega arith); others = λ t n. refl }
@@ -107,7 +107,7 @@ pub stamped_on : (old new tiles : List ℕ) (n s : ℕ) → AreStamped old new t
 stamped_on old new tiles n s is inside = record {
   stamped = λ i l. elim (cases_eq (slice_index tiles i) (slice_index tiles n)) [
     | inl e ↦ rw e (get_or-set_same new (slice_index tiles n) s 0 inside)
-    | inr d ↦ elim (last_or i n l) [
+    | inr d ↦ elim (below_or_last i n l) [
       | inl m ↦ get_or-set_other new (slice_index tiles n) (slice_index tiles i) s 0 d ∙ is.stamped i m
       | inr e ↦ absurd (d (ap (slice_index tiles) e))
     ]
@@ -131,10 +131,7 @@ stamps_are g old new before after tiles s changed stamped t l = go (differ_in g 
   where
     go : (b : Bool) → differ_in g old new t ≡ b → slice_index after t ≡ (if b then s else slice_index before t)
     go true h = (let u = changed.all t l h in rw u.2 at (stamped.stamped u.0 u.1))
-    go false h = stamped.others t (λ i m e. clash (differ_in g old new t) (rw e at (changed.changed i m)) h)
-      where
-        clash : (b : Bool) → IsTrue b → b ≡ false → ⊥
-        clash b p q = cc
+    go false h = stamped.others t (λ i m e. true_and_false (differ_in g old new t) (rw e at (changed.changed i m)) h)
 
 pub now_changed : (mask mask' : MaskView) (g : Tiling) (tiles : List ℕ) (e : Edit) → mask.width ≡ g.width → mask.height ≡ g.height → IsMaskOf mask' mask.width mask.height (edited e (open_at mask)) → AreChanged g (open_at mask) (edited e (open_at mask)) tiles → AreChanged g (open_at mask) (open_at mask') tiles
 now_changed mask mask' g tiles e w h is changed = changed_same g (open_at mask) (edited e (open_at mask)) (open_at mask') tiles (λ x y l m. sym (is.clear_at x y (rw w l) (rw h m))) changed

@@ -15,6 +15,8 @@ use Rattle.mask_revisions.specs.Edits.{differ_in, edited, has_pixel, opens}
 use Rattle.mask_revisions.specs.Revisions.{AreChanged}
 use Rattle.mask_revisions.specs.Steps.{met_across, tiles_met, met_tile, AreListed}
 use Rattle.mask_revisions.proofs.Differences.{box_says, chosen, differ_tells}
+use Rattle.sums_and_lists.proofs.Orders.{below_or_last}
+use Rattle.sums_and_lists.proofs.Tests.{true_and_false}
 
 -- ---- quotients
 div_le : (a b d : ℕ) → 0 < d → a ≤ b → a / d ≤ b / d
@@ -80,33 +82,27 @@ module _ (g : Tiling) (r : Rect) (is : IsRectIn g.width g.height r) where
 
   -- ---- a list of those that pass a test
   module _ (p : ℕ → Bool) where
-    last_or : (i n : ℕ) → i < n + 1 → (i < n) ⊎ (i ≡ n)
-    last_or i n l = grind arith
-
     pub listed_without : (k : ℕ) (ts : List ℕ) → AreListed g r p k ts → p (met_tile g r k) ≡ false → AreListed g r p (k + 1) ts
     listed_without k ts is f = record {
       rising = is.rising;
       each = λ i l. (let u = is.each i l in (u.0, omega (arith, u.1), u.2, u.3));
-      all = λ j l t. elim (last_or j k l) [
+      all = λ j l t. elim (below_or_last j k l) [
         | inl m ↦ is.all j m t
-        | inr e ↦ absurd (let t' : IsTrue (p (met_tile g r k)) = rw e at t in clash (p (met_tile g r k)) t' f)
+        | inr e ↦ absurd (let t' : IsTrue (p (met_tile g r k)) = rw e at t in true_and_false (p (met_tile g r k)) t' f)
       ];
     }
-      where
-        clash : (b : Bool) → IsTrue b → b ≡ false → ⊥
-        clash b t f = cc
 
     pub listed_with : (k : ℕ) (ts : List ℕ) → AreListed g r p k ts → IsTrue (p (met_tile g r k)) → AreListed g r p (k + 1) (ts ++ (met_tile g r k ∷ []))
     listed_with k ts is t = record {
-      rising = λ i j l m. elim (last_or j (length ts) (omega (arith, m, count))) [
+      rising = λ i j l m. elim (below_or_last j (length ts) (omega (arith, m, count))) [
         | inl h ↦ rw (old i (omega arith), old j h) (is.rising i j l h)
         | inr h ↦ (let u = is.each i (omega arith) in rw (old i (omega arith), h, new, u.2) (met_rises u.0 k u.1))
       ];
-      each = λ i m. elim (last_or i (length ts) (omega (arith, m, count))) [
+      each = λ i m. elim (below_or_last i (length ts) (omega (arith, m, count))) [
         | inl h ↦ (let u = is.each i h in (u.0, omega (arith, u.1), old i h ∙ u.2, u.3))
         | inr h ↦ (k, omega arith, rw h new, t)
       ];
-      all = λ j l s. elim (last_or j k l) [
+      all = λ j l s. elim (below_or_last j k l) [
         | inl h ↦ (let u = is.all j h s in (u.0, omega (arith, u.1, count), old u.0 u.1 ∙ u.2))
         | inr h ↦ (length ts, omega (arith, count), rw h new)
       ];

@@ -1,3 +1,4 @@
+ghost use Rattle.raster_model.specs.Limits.{max_side};
 ghost use Rattle.mask_revisions.specs.Edits.{differ_in, edited};
 ghost use Rattle.mask_revisions.specs.Revisions.{AreChanged};
 ghost use Rattle.mask_revisions.specs.Steps.{AreStamped, HasOther, IsAll};
@@ -60,8 +61,8 @@ fn changes_tile(mask: &Mask, tiling: &Tiling, edit: Edit, tile: u32) -> bool
 
 /// Whether some pixel of a box is not as `unmasked` says. A box whose corners are exchanged has no pixel.
 fn box_has_other(mask: &Mask, part: Rect, unmasked: bool) -> bool
-    requires across { (part.x1 < mask.now.width) × (mask.now.width ≤ 4096) }
-    requires along { (part.y1 < mask.now.height) × (mask.now.height ≤ 4096) }
+    requires across { (part.x1 < mask.now.width) × (mask.now.width ≤ max_side) }
+    requires along { (part.y1 < mask.now.height) × (mask.now.height ≤ max_side) }
     ensures { MatchBool result (HasOther (open_at mask.now) part.x0 (part.x1 + 1) part.y0 (part.y1 + 1) unmasked) (IsAll (open_at mask.now) part.x0 (part.x1 + 1) part.y0 (part.y1 + 1) unmasked) }
 {
     for y in part.y0..part.y1 + 1 {
@@ -74,7 +75,7 @@ fn box_has_other(mask: &Mask, part: Rect, unmasked: bool) -> bool
 
 /// Whether some pixel of a box in row `y` is not as `unmasked` says.
 fn row_has_other(mask: &Mask, y: u32, part: Rect, unmasked: bool) -> bool
-    requires across { (part.x1 < mask.now.width) × (mask.now.width ≤ 4096) }
+    requires across { (part.x1 < mask.now.width) × (mask.now.width ≤ max_side) }
     requires row { y < mask.now.height }
     ensures { MatchBool result (HasOther (open_at mask.now) part.x0 (part.x1 + 1) y (y + 1) unmasked) (IsAll (open_at mask.now) part.x0 (part.x1 + 1) y (y + 1) unmasked) }
 {

@@ -1,3 +1,4 @@
+ghost use Rattle.raster_model.specs.Limits.{max_side};
 ghost use Rattle.mask_revisions.specs.Edits.{edited, opens as opens_pixels};
 ghost use Rattle.mask_revisions.specs.Steps.{IsBoxSet};
 ghost use Rattle.raster_model.specs.Masks.{IsMaskOf, open_at};
@@ -28,7 +29,7 @@ pub fn opens(edit: Edit) -> bool
 /// Applies an edit.
 pub fn apply(mask: &mut Mask, edit: Edit)
     requires rect { IsRectIn mask.old.width mask.old.height (box_of edit) }
-    requires small { (mask.old.width ≤ 4096) × (mask.old.height ≤ 4096) }
+    requires small { (mask.old.width ≤ max_side) × (mask.old.height ≤ max_side) }
     ensures { IsMaskOf mask.new mask.old.width mask.old.height (edited edit (open_at mask.old)) }
 {
     let rect = rect_of(edit);
@@ -38,7 +39,7 @@ pub fn apply(mask: &mut Mask, edit: Edit)
 /// Opens or masks the pixels of a box.
 fn set_box(mask: &mut Mask, rect: Rect, unmasked: bool)
     requires rect { IsRectIn mask.old.width mask.old.height rect }
-    requires small { (mask.old.width ≤ 4096) × (mask.old.height ≤ 4096) }
+    requires small { (mask.old.width ≤ max_side) × (mask.old.height ≤ max_side) }
     ensures { IsBoxSet mask.old mask.new rect.x0 (rect.x1 + 1) rect.y0 (rect.y1 + 1) unmasked }
 {
     for y in rect.y0..rect.y1 + 1 {
@@ -50,7 +51,7 @@ fn set_box(mask: &mut Mask, rect: Rect, unmasked: bool)
 fn set_row(mask: &mut Mask, y: u32, rect: Rect, unmasked: bool)
     requires rect { IsRectIn mask.old.width mask.old.height rect }
     requires row { y < mask.old.height }
-    requires small { mask.old.width ≤ 4096 }
+    requires small { mask.old.width ≤ max_side }
     ensures { IsBoxSet mask.old mask.new rect.x0 (rect.x1 + 1) y (y + 1) unmasked }
 {
     for x in rect.x0..rect.x1 + 1 {

@@ -102,10 +102,10 @@ impl Revisions {
     }
 
     /// A copy of the present mask.
-    pub fn mask_copy(&self) -> Result<Mask, AllocError>
+    pub fn mask_copy(&self, alloc: Global) -> Result<Mask, AllocError>
         ensures { IfOk result (λ mask. mask ≡ self.now.mask) }
     {
-        self.mask.try_copy()
+        self.mask.try_copy(alloc)
     }
 
     /// The present mask of a tile: for each pixel of its window, in row order, whether it is open.

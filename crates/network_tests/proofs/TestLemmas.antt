@@ -3,18 +3,19 @@ use Rattle.std.proofs.Common.{◌≡◌, ℕ, ◌+◌, ◌-◌, ◌*◌, ◌<◌
 use Rattle.std.specs.Prelude.{ℤ, pos, neg_ℤ, ◌≤ℤ◌, unsigned_abs}
 use Rattle.std.proofs.lemmas.Int.{ints}
 use Rattle.std.proofs.lemmas.Bool.{cases_eq, cases_lt}
-use Rattle.flow_network.specs.Sums.{sum_below, where_true}
 use Rattle.flow_network.specs.Nets.{Shape, State, IsArc, IsNetwork}
 use Rattle.flow_network.specs.Growing.{supply_sizes, total_amount, AddsArc}
-use Rattle.flow_network.proofs.CallerLemmas.{sum_below-none, sum_below-same, total_amount-added}
-use Rattle.shortest_augment.specs.Balance.{BoundsCosts, IsFlat}
+use Rattle.flow_network.proofs.CallerLemmas.{total_amount-added}
+use Rattle.shortest_augment.specs.Balance.{BoundsCosts, HasZeroPotentials}
+use Rattle.sums_and_lists.specs.Sums.{sum_below, where_true}
+use Rattle.sums_and_lists.proofs.SumLemmas.{sum_below-none, sum_below-same}
 
 -- a network after n arcs, with excesses and residuals of at most `used` in all
 pub record IsBuilt (s : Shape) (f : State) (n used : ℕ) : Type 0 where
   pub nodes : s.nodes < 1000
   pub arcs : s.arcs ≡ 2 * n
   pub are_arcs : (a : ℕ) → a < s.arcs → IsArc s a
-  pub flat : IsFlat s f
+  pub flat : HasZeroPotentials s f
   pub costs : (a : ℕ) → a < s.arcs → unsigned_abs (s.cost a) ≤ 2 ^ 40
   pub amount : total_amount s f ≤ℤ pos used
   pub room : used ≤ 2 ^ 62

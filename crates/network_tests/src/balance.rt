@@ -1,7 +1,7 @@
 ghost use Rattle.std.specs.Prelude.{◌≡◌, ◌<◌, ◌≤◌, ◌+◌, ◌*◌, ◌^◌, ℕ, pos, ◌≤ℤ◌, length, IfOk, IfSome};
 ghost use Rattle.flow_network.specs.Growing.{supply_sum, supply_sizes};
 ghost use Rattle.flow_network.specs.Views.{shape_of, state_of};
-ghost use Rattle.shortest_augment.specs.Balance.{BoundsCosts, IsFlat};
+ghost use Rattle.shortest_augment.specs.Balance.{BoundsCosts, HasZeroPotentials};
 
 use flow_network::{FlowNet, Network};
 use shortest_augment::{BalanceFault, balance};
@@ -66,7 +66,7 @@ fn sizes(supplies: &[i64]) -> Option<u64>
 
 /// The network of these supplies and arcs, each by tail, head, cost and capacity; None where there is none.
 fn build(alloc: Global, supplies: &[i64], arcs: &[i64]) -> Result<Option<Network>, AllocError>
-    ensures flat { IfOk result (λ made. IfSome made (λ net. IsFlat (shape_of net) (state_of net))) }
+    ensures flat { IfOk result (λ made. IfSome made (λ net. HasZeroPotentials (shape_of net) (state_of net))) }
     ensures bounded { IfOk result (λ made. IfSome made (λ net. BoundsCosts (shape_of net) (2 ^ 40))) }
 {
     let Some(size) = sizes(supplies) else {

@@ -1,17 +1,12 @@
 -- The flows and the offsets that a solved network tells.
-use Rattle.std.proofs.Common.{◌≡◌, ℕ, ◌+◌, ◌*◌, ◌<◌, ◌≤◌, ◌∙◌, ap, sym, arith, List, [], ◌∷◌, ◌++◌, length, inl, inr, to_z, of_z, w32, w64, FitsSigned}
-use Rattle.std.specs.Prelude.{ℤ, pos, ◌+ℤ◌, ◌-ℤ◌, ◌≤ℤ◌, ◌^◌, Option, IsTrue, nat_lt, slice_index_or, unsigned_abs}
+use Rattle.std.proofs.Common.{◌≡◌, ℕ, ◌+◌, ◌*◌, ◌≤◌, ap, arith, List, [], ◌∷◌, ◌++◌, length, to_z, of_z, w32, w64, FitsSigned}
+use Rattle.std.specs.Prelude.{ℤ, pos, ◌+ℤ◌, ◌-ℤ◌, ◌≤ℤ◌, ◌^◌, Option, unsigned_abs}
 use Rattle.std.proofs.lemmas.Int.{ints}
-use Rattle.std.proofs.lemmas.Bool.Decides.{nat_tests}
-use Rattle.std.proofs.lemmas.List.{get_or_append_left, length-append}
-use Rattle.std.proofs.Math.Seq.{get_or-append_seam}
+use Rattle.std.proofs.lemmas.List.{length-append}
 use Rattle.flow_network.specs.Nets.{State}
 use Rattle.offset_network.specs.declared.link.Link.{Link}
 use Rattle.offset_network.specs.Networks.{AreFlows, AreLowered, flow_of}
-use Rattle.offset_network.proofs.Orders.{below_or_last}
-
-pub is_below : (a n : ℕ) → a < n → IsTrue (nat_lt a n)
-is_below a n l = grind (arith, nat_tests)
+use Rattle.sums_and_lists.proofs.Lists.{longer}
 
 -- what is left of an arc is at most what it shares with its twin
 pub left_small : (w p q r : ℕ) → q + r ≡ 2 * w → w ≤ 65535 → p ≡ q → p ≤ 131070
@@ -20,14 +15,6 @@ left_small w p q r e l f = omega (arith, e, l, f)
 -- a flow in code at 64 bits
 pub flow_is : (w p : ℕ) (x : ℤ) → w ≤ 65535 → p ≤ 131070 → x ≡ pos w → FitsSigned w64 (pos p) × FitsSigned w64 (to_z w64 (of_z w64 x) -ℤ to_z w64 p) × (to_z w64 (of_z w64 (to_z w64 (of_z w64 x) -ℤ to_z w64 p)) ≡ pos w -ℤ pos p)
 flow_is w p x l m e = (omega (arith, ints, m), omega (arith, ints, l, m, e), omega (arith, ints, l, m, e))
-
--- one number more in a list whose numbers are told by place
-longer : (g : ℕ → ℤ) (n : ℕ) (zs : List ℤ) (z : ℤ) → length zs ≡ n → ((k : ℕ) → k < n → slice_index_or zs k (pos 0) ≡ g k) → z ≡ g n → (k : ℕ) → k < n + 1 → slice_index_or (zs ++ z ∷ []) k (pos 0) ≡ g k
-longer g n zs z c h e k l =
-    elim (below_or_last k n l) [
-      | inl m ↦ get_or_append_left zs (z ∷ []) (pos 0) k (omega (arith, c, m)) ∙ h k m
-      | inr m ↦ ap (λ (i : ℕ). slice_index_or (zs ++ z ∷ []) i (pos 0)) (m ∙ sym c) ∙ get_or-append_seam zs z [] (pos 0) ∙ e ∙ ap g (sym m)
-    ]
 
 pub flows_none : (links : List (Option Link)) (f : State) (zs : List ℤ) → zs ≡ [] → AreFlows links f 0 zs
 flows_none links f zs e = record { count = ap length e; values = λ j l. absurd (omega (arith, l)) }

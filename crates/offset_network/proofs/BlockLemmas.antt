@@ -2,17 +2,18 @@
 use Rattle.std.proofs.Common.{◌≡◌, ℕ, ◌+◌, ◌*◌, ◌<◌, ◌∙◌, ap, sym, refl, arith, Bool, true, false, List, length}
 use Rattle.std.specs.Prelude.{ℤ, pos, ◌+ℤ◌, ◌-ℤ◌, ◌≤ℤ◌, ◌==◌, Option, Some, None}
 use Rattle.std.proofs.lemmas.Int.{ints}
-use Rattle.raster_model.specs.Sums.{sum_below, where_true}
-use Rattle.raster_model.proofs.SumLemmas.{sum_below-add, sum_below-le, sum_below-pick, sum_below-same, sum_below-zeros, sum_grid-swap, where_true-zero}
+use Rattle.raster_model.proofs.SumLemmas.{sum_grid-swap}
 use Rattle.flow_network.specs.Nets.{Shape, State, IsArc, IsNetwork, tail_of}
 use Rattle.shortest_augment.specs.Balance.{IsBlocked}
 use Rattle.shortest_augment.proofs.CallerLemmas.{blocked_excess, contains-is_in, is_in, is_in-contains}
 use Rattle.offset_network.specs.declared.link.Link.{Link}
 use Rattle.offset_network.specs.Links.{AreLinks, IsLink, arcs_before, brings, link_at}
 use Rattle.offset_network.specs.Networks.{HasArcs, HasFlows, flow_left, flow_of}
-use Rattle.offset_network.proofs.LinkLemmas.{flow_sum}
-use Rattle.offset_network.proofs.Orders.{none_left}
 use Rattle.offset_network.proofs.FlowLemmas.{first_is_arc, first_tail, twin_is_arc, twin_tail}
+use Rattle.sums_and_lists.proofs.Tests.{true_and_false}
+use Rattle.sums_and_lists.specs.Sums.{sum_below, where_true}
+use Rattle.sums_and_lists.proofs.SumLemmas.{sum_below-add, sum_below-le, sum_below-pick, sum_below-same, sum_below-zeros, where_true-zero}
+use Rattle.sums_and_lists.proofs.Orders.{none_left}
 
 -- what a link brings to some of the regions
 abbrev brings_all : (ℕ → Bool) → Option Link → ℤ → ℤ
@@ -54,9 +55,6 @@ at_most true false w p q e a b = omega (arith, ints, e, b refl refl)
 at_most false true w p q e a b = omega (arith, ints, e, a refl refl)
 at_most false false w p q e a b = omega (arith, ints)
 
-true_and_false : (b : Bool) → b ≡ true → b ≡ false → ⊥
-true_and_false b p q = cc
-
 module _ (n : ℕ) (links : List (Option Link)) (s : Shape) (g : State) (net : IsNetwork s) (are : AreLinks n links) (h : HasArcs n links (length links) s g) (flows : HasFlows n links g) (names : List ℕ) (b : IsBlocked s g names) where
   abbrev inside : ℕ → Bool
   inside = is_in names
@@ -80,7 +78,7 @@ module _ (n : ℕ) (links : List (Option Link)) (s : Shape) (g : State) (net : I
       let m = length links in
       let at = λ (v j : ℕ). brings (link_at links j) v (flow_of links g j) in
       let held = blocked_excess s g names b in
-      let raster = flow_sum s.nodes (λ v. where_true (inside v) (g.excess v)) ∙ ap (λ (k : ℕ). sum_below k (λ v. where_true (inside v) (g.excess v))) h.nodes in
+      let raster = ap (λ (k : ℕ). sum_below k (λ v. where_true (inside v) (g.excess v))) h.nodes in
       let terms : sum_below n (λ v. where_true (inside v) (g.excess v)) ≡ sum_below n (λ v. sum_below m (λ j. where_true (inside v) (at v j))) =
       sum_below-same n (λ v. where_true (inside v) (g.excess v)) (λ v. sum_below m (λ j. where_true (inside v) (at v j))) (λ v l. ap (where_true (inside v)) (flows v l) ∙ inside_sum (inside v) m (at v)) in
       let swap = sum_grid-swap m n (λ j v. where_true (inside v) (at v j)) in

@@ -3,23 +3,27 @@ use Rattle.std.proofs.Common.{◌≡◌, ℕ, zero, suc, ◌+◌, ◌*◌, ◌<�
 use Rattle.std.specs.Prelude.{ℤ, pos, negsuc, neg_ℤ, ◌+ℤ◌, ◌-ℤ◌, ◌*ℤ◌, ◌≤ℤ◌, ◌&&◌, ◌==◌, IsTrue, Option, Some, None, unsigned_abs}
 use Rattle.std.proofs.lemmas.Int.{ints}
 use Rattle.raster_model.specs.declared.edge.Edge.{Edge}
-use Rattle.raster_model.specs.Sums.{Field, at_end, at_start, end_x, end_y, is_edge, sum_below, where_true}
+use Rattle.raster_model.specs.Sums.{Field, at_end, at_start, end_x, end_y, is_edge}
 use Rattle.raster_model.specs.Raster.{Raster, cycle_departure, departure, has_open_ends, is_seam, lifted, masked_weight, seam_cost}
 use Rattle.raster_model.specs.Flows.{AreCertifiedSeams, flow_at, is_seam_edge, seam_count, seam_place}
-use Rattle.raster_model.specs.Seams.{AreRegions, flow_in, flow_out, flow_total}
-use Rattle.raster_model.proofs.Balance.{balanced_by_labels, with_label}
+use Rattle.raster_model.specs.Seams.{AreRegions, flow_in, flow_out, flow_total, region_of}
+use Rattle.raster_model.proofs.Balance.{balanced_by_labels}
 use Rattle.raster_model.proofs.Exact.{cycles_depart}
-use Rattle.raster_model.proofs.Ring.{products}
-use Rattle.raster_model.proofs.SumLemmas.{sum_below-add, sum_below-same, sum_edges-same}
+use Rattle.raster_model.proofs.SumLemmas.{sum_edges-same}
 use Rattle.flow_network.specs.Nets.{IsNetwork, Shape, State, reduced_cost, tail_of}
 use Rattle.offset_network.specs.declared.link.Link.{Link}
 use Rattle.offset_network.specs.Links.{arcs_before, brings, link_at}
 use Rattle.offset_network.specs.Networks.{AreFlows, IsArcOf, IsSolved, flow_left, flow_of}
 use Rattle.offset_network.specs.Seams.{AreSeamLinks, link_of}
-use Rattle.offset_network.proofs.Orders.{none_left}
 use Rattle.offset_network.proofs.FlowLemmas.{arc_is, first_is_arc, first_tail, twin_is_arc, twin_tail}
 use Rattle.offset_network.proofs.PlaceLemmas.{ends_in}
 use Rattle.offset_network.proofs.PlaceSums.{sum_at_places}
+use Rattle.sums_and_lists.proofs.SumLemmas.{where_zero, where_both, sum_below-add, sum_below-same}
+use Rattle.std.proofs.lemmas.Bool.{and_from}
+use Rattle.sums_and_lists.proofs.Tests.{and_first, and_second}
+use Rattle.sums_and_lists.specs.Sums.{sum_below, where_true}
+use Rattle.sums_and_lists.proofs.Products.{products}
+use Rattle.sums_and_lists.proofs.Orders.{none_left}
 
 -- ---- one link
 -- the flow is within the weight
@@ -38,11 +42,6 @@ flow_costs w p q (negsuc m) e a b =
     let low : pos w -ℤ pos p ≡ neg_ℤ (pos w) = omega (arith, ints, e, none) in
     rw low (simp products (omega (arith, ints)))
 
-both_true : (a b : Bool) → IsTrue a → IsTrue b → IsTrue (a && b)
-both_true true true p q = refl
-both_true true false p q = cc
-both_true false b p q = cc
-
 -- what ends, and what starts, in a region
 abbrev ends : Option Link → ℕ → ℤ → ℤ
 ends None v x = pos 0
@@ -55,10 +54,6 @@ starts (Some k) v x = where_true (k.from == v) x
 brings-parts : (o : Option Link) (v : ℕ) (x : ℤ) → brings o v x +ℤ starts o v x ≡ ends o v x
 brings-parts None v x = refl
 brings-parts (Some k) v x = omega (arith, ints)
-
-split : (s t : Bool) (x : ℤ) → where_true (s && t) x ≡ where_true s (where_true t x)
-split true t x = refl
-split false t x = refl
 
 open_term : (a b t : Bool) (x : ℤ) → (a && b) ≡ true → where_true t x ≡ where_true (b && t) x
 open_term true true t x o = refl
@@ -74,20 +69,8 @@ same_term true true x y h = h refl refl
 same_term true false x y h = refl
 same_term false o x y h = refl
 
-first_of : (a b : Bool) → (a && b) ≡ true → a ≡ true
-first_of true b o = refl
-first_of false b o = cc
-
-second_of : (a b : Bool) → (a && b) ≡ true → b ≡ true
-second_of true b o = o
-second_of false b o = cc
-
 twice : (d : ℤ) → neg_ℤ (neg_ℤ d) ≡ d
 twice d = omega (arith, ints)
-
-zero_term : (t : Bool) (x : ℤ) → x ≡ pos 0 → where_true t x ≡ pos 0
-zero_term true x e = e
-zero_term false x e = refl
 
 module _ (r : Raster) (mask : Field Bool) (labels : Field ℕ) (n : ℕ) (base : Field ℤ) (links : List (Option Link)) (z : Shape) (g : State) (zs : List ℤ)
     (regions : AreRegions r mask labels n) (seams : AreSeamLinks r mask labels base links) (net : IsNetwork z) (solved : IsSolved n links z g) (flows : AreFlows links g (length links) zs) where
@@ -144,35 +127,35 @@ module _ (r : Raster) (mask : Field Bool) (labels : Field ℕ) (n : ℕ) (base :
   abbrev starts_at : ℕ → ℕ → ℤ
   starts_at v i = starts (link_at links i) v (flow_of links g i)
 
-  flow_in-places : (v : ℕ) → flow_in r flow (with_label mask labels v) ≡ sum_below (seam_count r) (ends_at v)
+  flow_in-places : (v : ℕ) → flow_in r flow (region_of mask labels v) ≡ sum_below (seam_count r) (ends_at v)
   flow_in-places v =
-      let region = with_label mask labels v in
-      sum_edges-same r.width r.height (λ e. where_true (is_seam r e && at_end region e) (flow e)) (λ e. where_true (is_seam r e) (where_true (at_end region e) (flow e))) (λ e i. split (is_seam r e) (at_end region e) (flow e))
+      let region = region_of mask labels v in
+      sum_edges-same r.width r.height (λ e. where_true (is_seam r e && at_end region e) (flow e)) (λ e. where_true (is_seam r e) (where_true (at_end region e) (flow e))) (λ e i. where_both (is_seam r e) (at_end region e) (flow e))
       ∙ sum_at_places r (λ e. where_true (at_end region e) (flow e)) (ends_at v) (λ e s. at e s (has_open_ends mask e) refl)
     where
-      at : (e : Edge) → IsTrue (is_seam_edge r e) → (b : Bool) → has_open_ends mask e ≡ b → ends_at v (seam_place r e) ≡ where_true (at_end (with_label mask labels v) e) (flow e)
+      at : (e : Edge) → IsTrue (is_seam_edge r e) → (b : Bool) → has_open_ends mask e ≡ b → ends_at v (seam_place r e) ≡ where_true (at_end (region_of mask labels v) e) (flow e)
       at e s true o =
           let is = ap₂ (λ (k : Option Link) (x : ℤ). ends k v x) (placed e s o) (flow_of_place e s) in
           is ∙ open_term (at_start mask e) (at_end mask e) (at_end labels e == v) (flow e) o
       at e s false o =
           let is = ap₂ (λ (k : Option Link) (x : ℤ). ends k v x) ((seams.each e s).link ∙ masked_link e o) (flow_of_place e s) in
-          is ∙ sym (zero_term (at_end (with_label mask labels v) e) (flow e) (masked_flow e s o))
+          is ∙ sym (where_zero (at_end (region_of mask labels v) e) (flow e) (masked_flow e s o))
 
-  flow_out-places : (v : ℕ) → flow_out r flow (with_label mask labels v) ≡ sum_below (seam_count r) (starts_at v)
+  flow_out-places : (v : ℕ) → flow_out r flow (region_of mask labels v) ≡ sum_below (seam_count r) (starts_at v)
   flow_out-places v =
-      let region = with_label mask labels v in
-      sum_edges-same r.width r.height (λ e. where_true (is_seam r e && at_start region e) (flow e)) (λ e. where_true (is_seam r e) (where_true (at_start region e) (flow e))) (λ e i. split (is_seam r e) (at_start region e) (flow e))
+      let region = region_of mask labels v in
+      sum_edges-same r.width r.height (λ e. where_true (is_seam r e && at_start region e) (flow e)) (λ e. where_true (is_seam r e) (where_true (at_start region e) (flow e))) (λ e i. where_both (is_seam r e) (at_start region e) (flow e))
       ∙ sum_at_places r (λ e. where_true (at_start region e) (flow e)) (starts_at v) (λ e s. at e s (has_open_ends mask e) refl)
     where
-      at : (e : Edge) → IsTrue (is_seam_edge r e) → (b : Bool) → has_open_ends mask e ≡ b → starts_at v (seam_place r e) ≡ where_true (at_start (with_label mask labels v) e) (flow e)
+      at : (e : Edge) → IsTrue (is_seam_edge r e) → (b : Bool) → has_open_ends mask e ≡ b → starts_at v (seam_place r e) ≡ where_true (at_start (region_of mask labels v) e) (flow e)
       at e s true o =
           let is = ap₂ (λ (k : Option Link) (x : ℤ). starts k v x) (placed e s o) (flow_of_place e s) in
           is ∙ open_term_first (at_start mask e) (at_end mask e) (at_start labels e == v) (flow e) o
       at e s false o =
           let is = ap₂ (λ (k : Option Link) (x : ℤ). starts k v x) ((seams.each e s).link ∙ masked_link e o) (flow_of_place e s) in
-          is ∙ sym (zero_term (at_start (with_label mask labels v) e) (flow e) (masked_flow e s o))
+          is ∙ sym (where_zero (at_start (region_of mask labels v) e) (flow e) (masked_flow e s o))
 
-  balanced_at : (v : ℕ) → v < n → flow_in r flow (with_label mask labels v) ≡ flow_out r flow (with_label mask labels v)
+  balanced_at : (v : ℕ) → v < n → flow_in r flow (region_of mask labels v) ≡ flow_out r flow (region_of mask labels v)
   balanced_at v l =
       let m = length links in
       let at = λ (i : ℕ). brings (link_at links i) v (flow_of links g i) in
@@ -188,8 +171,8 @@ module _ (r : Raster) (mask : Field Bool) (labels : Field ℕ) (n : ℕ) (base :
     departs : (e : Edge) → IsTrue (is_seam_edge r e) → has_open_ends mask e ≡ true → departure r (lifted r cycles) e ≡ cycle_departure r base e +ℤ g.potential (at_end labels e) -ℤ g.potential (at_start labels e)
     departs e s o =
         let t = ends_in r e s in
-        let from = moved e.x e.y t.0 t.1 (first_of (at_start mask e) (at_end mask e) o) in
-        let to = moved (end_x e) (end_y e) t.2 t.3 (second_of (at_start mask e) (at_end mask e) o) in
+        let from = moved e.x e.y t.0 t.1 (and_first (at_start mask e) (at_end mask e) o) in
+        let to = moved (end_x e) (end_y e) t.2 t.3 (and_second (at_start mask e) (at_end mask e) o) in
         cycles_depart r cycles e ∙ omega (arith, ints, from, to)
 
     edge_equal : (e : Edge) → IsTrue (is_seam_edge r e) → has_open_ends mask e ≡ true → flow e *ℤ departure r (lifted r cycles) e ≡ pos (masked_weight r mask e * unsigned_abs (departure r (lifted r cycles) e))
@@ -216,13 +199,13 @@ module _ (r : Raster) (mask : Field Bool) (labels : Field ℕ) (n : ℕ) (base :
     equal =
         let d = departure r (lifted r cycles) in
         sum_edges-same r.width r.height (λ e. where_true (is_seam r e && has_open_ends mask e) (flow e *ℤ d e)) (λ e. where_true (is_seam r e) (where_true (has_open_ends mask e) (pos (masked_weight r mask e * unsigned_abs (d e)))))
-        (λ e i. same_term (is_seam r e) (has_open_ends mask e) (flow e *ℤ d e) (pos (masked_weight r mask e * unsigned_abs (d e))) (λ s o. edge_equal e (both_true (is_edge r.width r.height e) (is_seam r e) i s) o))
+        (λ e i. same_term (is_seam r e) (has_open_ends mask e) (flow e *ℤ d e) (pos (masked_weight r mask e * unsigned_abs (d e))) (λ s o. edge_equal e (and_from (is_edge r.width r.height e) (is_seam r e) i s) o))
 
     pub certified : AreCertifiedSeams r mask (lifted r cycles) zs
     certified = (
       flows.count ∙ seams.count,
       record {
-        bounded = λ e i s. bounded e (both_true (is_edge r.width r.height e) (is_seam r e) i s);
+        bounded = λ e i s. bounded e (and_from (is_edge r.width r.height e) (is_seam r e) i s);
         balanced = balanced_by_labels r mask labels n regions.labelling flow balanced_at;
         equal = equal;
       },

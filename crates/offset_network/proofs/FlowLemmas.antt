@@ -2,14 +2,14 @@
 use Rattle.std.proofs.Common.{◌≡◌, ℕ, ◌+◌, ◌*◌, ◌<◌, ◌∙◌, ap, sym, refl, arith, Bool, true, false, List, length}
 use Rattle.std.specs.Prelude.{ℤ, pos, ◌+ℤ◌, ◌-ℤ◌, ◌==◌, ◌&&◌, Option, Some, None}
 use Rattle.std.proofs.lemmas.Int.{ints}
-use Rattle.raster_model.specs.Sums.{sum_below, where_true}
-use Rattle.raster_model.proofs.SumLemmas.{sum_below-add, sum_below-same}
 use Rattle.flow_network.specs.Nets.{Shape, State, IsArc, IsNetwork, tail_of}
 use Rattle.flow_network.specs.Moves.{IsConserved, out_term, residual_out}
 use Rattle.offset_network.specs.declared.link.Link.{Link}
 use Rattle.offset_network.specs.Links.{arcs_before, brings, link_at, start_flow}
 use Rattle.offset_network.specs.Networks.{HasArcs, HasFlows, IsArcOf, IsStarted, flow_left, flow_of, supply_of}
-use Rattle.offset_network.proofs.LinkLemmas.{both_arcs, flow_sum, sum_arcs}
+use Rattle.offset_network.proofs.LinkLemmas.{both_arcs, sum_arcs}
+use Rattle.sums_and_lists.specs.Sums.{sum_below, where_true}
+use Rattle.sums_and_lists.proofs.SumLemmas.{sum_below-add, sum_below-same}
 
 -- the ends of a link's arc and of its twin
 module _ (n : ℕ) (links : List (Option Link)) (s : Shape) (f : State) (net : IsNetwork s) (h : HasArcs n links (length links) s f) (j : ℕ) (k : Link) (l : j < length links) (e : link_at links j ≡ Some k) where
@@ -45,8 +45,7 @@ out_is b t v u p e q = rw (e, q) refl
 module _ (n : ℕ) (links : List (Option Link)) (s : Shape) (f : State) (net : IsNetwork s) (h : HasArcs n links (length links) s f) where
   residual_out-links : (v : ℕ) → residual_out s f v ≡ sum_below (length links) (left_at links f v)
   residual_out-links v =
-      flow_sum s.arcs (out_term s f v)
-      ∙ ap (λ (m : ℕ). sum_below m (out_term s f v)) h.arcs
+      ap (λ (m : ℕ). sum_below m (out_term s f v)) h.arcs
       ∙ sum_arcs links (length links) (out_term s f v)
       ∙ sum_below-same (length links) (λ j. both_arcs (link_at links j) (arcs_before links j) (out_term s f v)) (left_at links f v) (λ j l. at j l (link_at links j) refl)
     where

@@ -1,4 +1,3 @@
-pub mod Orders
 pub mod SurfaceLemmas
 pub mod LinkLemmas
 pub mod SupplyLemmas

@@ -4,12 +4,11 @@ use Rattle.std.specs.Prelude.{ℤ, pos, negsuc, neg_ℤ, ◌+ℤ◌, ◌-ℤ◌,
 use lib.Dec.{T}
 use lib.Signed.{non_neg}
 use Rattle.std.proofs.lemmas.Int.{ints}
-use Rattle.raster_model.specs.Sums.{sum_below, where_true}
-use Rattle.raster_model.proofs.SumLemmas.{sum_below-add, sum_below-more, sum_below-none, sum_below-pick, sum_below-same}
-use Rattle.raster_model.proofs.CountLemmas.{count_below-more, count_below-none}
-use Rattle.flow_network.specs.Sums.{sum_below as flow_sum_below}
 use Rattle.offset_network.specs.declared.link.Link.{Link}
 use Rattle.offset_network.specs.Links.{arcs_before, arcs_of, link_at, toward}
+use Rattle.sums_and_lists.specs.Sums.{sum_below, where_true}
+use Rattle.sums_and_lists.proofs.SumLemmas.{sum_below-add, sum_below-more, sum_below-none, sum_below-pick, sum_below-same}
+use Rattle.sums_and_lists.proofs.CountLemmas.{count_below-more, count_below-none}
 
 -- the flow at the start is within the weight, and at an end of it where the link departs
 pub toward_within : (d : ℤ) (g : ℕ) → (neg_ℤ (pos g) ≤ℤ toward d g) × (toward d g ≤ℤ pos g)
@@ -25,12 +24,6 @@ toward_up (negsuc n) g l = absurd (omega (arith, ints, l))
 pub toward_down : (d : ℤ) (g : ℕ) → d <ℤ pos 0 → toward d g ≡ neg_ℤ (pos g)
 toward_down (pos n) g l = absurd (omega (arith, ints, l))
 toward_down (negsuc n) g l = refl
-
--- the two words for sums mean the same
-pub flow_sum : (n : ℕ) (f : ℕ → ℤ) → flow_sum_below n f ≡ sum_below n f
-unfolding flow_sum_below sum_below
-flow_sum zero f = refl
-flow_sum (suc n) f = omega (arith, ints, flow_sum n f)
 
 -- a sum whose terms differ at one place
 pub sum_added : (n place : ℕ) (x : ℤ) (f g : ℕ → ℤ) → place < n → ((v : ℕ) → v < n → g v ≡ f v +ℤ where_true (place == v) x) → sum_below n g ≡ sum_below n f +ℤ x

@@ -1,5 +1,5 @@
 -- The links of seam edges, and their places in the list.
-use Rattle.std.proofs.Common.{◌≡◌, ℕ, ◌+◌, ◌<◌, ◌≤◌, ◌∙◌, ap, sym, subst, refl, arith, Bool, true, false, List, [], ◌∷◌, ◌++◌, length, inl, inr, ◌⊎◌, to_z, of_z, w64}
+use Rattle.std.proofs.Common.{◌≡◌, ℕ, ◌+◌, ◌<◌, ◌≤◌, ◌∙◌, ap, sym, subst, refl, arith, Bool, true, false, List, [], ◌∷◌, ◌++◌, length, inl, inr, to_z, of_z, w64}
 use Rattle.std.specs.Prelude.{ℤ, ◌&&◌, nat_lt, IsTrue, Option, Some, None, if◌then◌else◌, unsigned_abs}
 use Rattle.std.proofs.lemmas.Int.{ints}
 use Rattle.std.proofs.lemmas.List.{get_or_append_left, get_or_past, length-append}
@@ -10,7 +10,7 @@ use Rattle.raster_model.specs.declared.scene.Scene.{Scene}
 use Rattle.raster_model.specs.Scene.{raster_of}
 use Rattle.raster_model.specs.MaskView.{MaskView}
 use Rattle.raster_model.specs.Masks.{open_at}
-use Rattle.raster_model.specs.Sums.{Field, at_start, at_end, end_x, end_y, down_edge, one_if, right_edge}
+use Rattle.raster_model.specs.Sums.{Field, at_start, at_end, end_x, end_y, down_edge, right_edge}
 use Rattle.raster_model.specs.Raster.{Raster, cycle_departure, is_seam, masked_weight}
 use Rattle.raster_model.specs.Flows.{is_seam_edge, seam_place, seams_from}
 use Rattle.raster_model.specs.Seams.{IsLabelling, IsOpenPixel}
@@ -22,6 +22,10 @@ use Rattle.seam_regions.specs.RegionsView.{RegionsView}
 use Rattle.offset_network.specs.declared.link.Link.{Link}
 use Rattle.offset_network.specs.Links.{IsLink, IsLinkIn, link_at}
 use Rattle.offset_network.specs.Seams.{AddsLink, AddsLinksFrom, IsPlaced, JoinRegions, link_of}
+use Rattle.sums_and_lists.proofs.Tests.{one_at_most}
+use Rattle.std.proofs.lemmas.Bool.{and_from}
+use Rattle.sums_and_lists.proofs.Orders.{below_at_past}
+use Rattle.sums_and_lists.specs.Sums.{one_if}
 
 -- ---- the ends of a seam edge
 edge_tells : (w h x y a b : ℕ) (s : Bool) → IsTrue (((nat_lt x w && nat_lt y h) && (nat_lt a w && nat_lt b h)) && s) → (x < w) × (y < h) × (a < w) × (b < h)
@@ -57,14 +61,11 @@ reads_ends s m v e x y a b is seam ex ey ea eb =
     let q = picked (open_at m (end_x e) (end_y e)) (label_at v (end_x e) (end_y e)) b ((rw (ex, ey) at eb) ∙ is.told (end_x e) (end_y e) (omega (arith, t.2, w)) (omega (arith, t.3, h))) in
     record { start = p.0; end = q.0; from = p.1; to = q.1 }
 
-pub both_open : (a b : Bool) → a ≡ true → b ≡ true → (a && b) ≡ true
-both_open a b p q = rw (p, q) refl
-
 -- the link made of what the code reads
 pub link_made : (r : Raster) (mask : Field Bool) (labels : Field ℕ) (cycles : Field ℤ) (e : Edge) (a b w : ℕ) (d : ℤ) → ReadsEnds mask labels e a b → w ≡ masked_weight r mask e → d ≡ cycle_departure r cycles e
     → (let k : Link = record { from = a; to = b; weight = w; departure = d } in Some k) ≡ link_of r mask labels cycles e
 link_made r mask labels cycles e a b w d reads ew ed =
-    let o = both_open (at_start mask e) (at_end mask e) reads.start reads.end in
+    let o = and_from (at_start mask e) (at_end mask e) reads.start reads.end in
     let w' : w ≡ r.weight e = ew ∙ (rw o refl) in
     rw (o, reads.from, reads.to, w', ed) refl
 
@@ -90,9 +91,6 @@ no_link n k e = cc
 
 pub join_none : (n : ℕ) → JoinRegions n []
 join_none n i = no_link n
-
-below_at_past : (i n : ℕ) → (i < n) ⊎ ((i ≡ n) ⊎ (n + 1 ≤ i))
-below_at_past i n = grind arith
 
 module _ (r : Raster) (mask : Field Bool) (labels : Field ℕ) (n : ℕ) (cycles : Field ℤ) where
   -- one link more
@@ -135,11 +133,6 @@ module _ (r : Raster) (mask : Field Bool) (labels : Field ℕ) (n : ℕ) (cycles
 -- a seam edge starts at a pixel of the raster
 pub in_raster : (r : Raster) (e : Edge) → IsSeamEdge r e → (0 ≤ e.x) × (e.x < r.width) × (0 ≤ e.y) × (e.y < r.height)
 in_raster r e s = let t = ends_in r e s in (omega arith, t.0, omega arith, t.1)
-
--- at most two seam edges start at a pixel
-one_at_most : (b : Bool) → one_if b ≤ 1
-one_at_most true = omega arith
-one_at_most false = omega arith
 
 pub seams_at_most_two : (r : Raster) (x y : ℕ) → seams_from r x y ≤ 2
 seams_at_most_two r x y = omega (arith, one_at_most (is_seam_edge r (right_edge x y)), one_at_most (is_seam_edge r (down_edge x y)))

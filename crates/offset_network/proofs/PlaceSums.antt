@@ -3,11 +3,13 @@ use Rattle.std.proofs.Common.{◌≡◌, ℕ, zero, suc, ◌+◌, ◌<◌, ◌�
 use Rattle.std.specs.Prelude.{ℤ, ◌+ℤ◌, ◌&&◌, nat_lt, IsTrue}
 use Rattle.std.proofs.lemmas.Int.{ints}
 use Rattle.raster_model.specs.declared.edge.Edge.{Edge}
-use Rattle.raster_model.specs.Sums.{Field, down_edge, edges_from, one_if, right_edge, sum_below, sum_edges, sum_grid, sum_row, where_true}
+use Rattle.raster_model.specs.Sums.{Field, down_edge, edges_from, right_edge, sum_edges, sum_grid, sum_row}
 use Rattle.raster_model.specs.Raster.{Raster, is_seam}
 use Rattle.raster_model.specs.Flows.{is_seam_edge, seam_count, seam_place, seams_before}
 use Rattle.raster_model.proofs.FlowLemmas.{before-next, before-none, before-row, place-down, place-right}
-use Rattle.raster_model.proofs.SumLemmas.{lt_is, sum_below-more, sum_below-none}
+use Rattle.sums_and_lists.specs.Sums.{one_if, sum_below, where_true}
+use Rattle.sums_and_lists.proofs.Orders.{lt_is}
+use Rattle.sums_and_lists.proofs.SumLemmas.{sum_below-more, sum_below-none}
 
 -- the term of an edge that starts at a pixel of the raster
 right_picked : (i j c s : Bool) (p q : ℤ) → i ≡ true → j ≡ true → ((((i && j) && (c && j)) && s) ≡ true → p ≡ q) → where_true (((i && j) && (c && j)) && s) p ≡ where_true c (where_true s q)

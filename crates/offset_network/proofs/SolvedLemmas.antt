@@ -7,18 +7,17 @@ use Rattle.raster_model.specs.MaskView.{MaskView}
 use Rattle.raster_model.specs.Masks.{open_at}
 use Rattle.raster_model.specs.Raster.{lifted}
 use Rattle.raster_model.specs.Scene.{raster_of}
-use Rattle.raster_model.specs.Seams.{IsAnchored}
-use Rattle.certificates.specs.SeamVerdicts.{IsFirstOpen}
+use Rattle.raster_model.specs.Seams.{IsAnchored, IsFirstOpen}
 use Rattle.certificates.specs.declared.results.SeamResult.{SeamResult}
-use Rattle.certificates.specs.TileSets.{TileSetView}
+use Rattle.certificates.specs.TileSets.{TileSetView, solved_cycles}
 use Rattle.flow_network.specs.Nets.{IsNetwork, Shape, State}
-use Rattle.seam_regions.specs.Regions.{AreRegionsOf, label_at}
+use Rattle.seam_regions.specs.Regions.{AreRegionsOf, label_at, offset_at, shifted_by}
 use Rattle.seam_regions.specs.RegionsView.{RegionsView}
 use Rattle.seam_regions.proofs.CallerLemmas.{regions_of_scene}
 use Rattle.offset_network.specs.declared.link.Link.{Link}
 use Rattle.offset_network.specs.Networks.{AreFlows, AreLowered, IsSolved}
 use Rattle.offset_network.specs.Seams.{AreSeamLinks}
-use Rattle.offset_network.specs.Surfaces.{IsGoodSeams, joined_cycles, tile_cycles}
+use Rattle.offset_network.specs.Surfaces.{IsGoodSeams}
 use Rattle.offset_network.proofs.CertificateLemmas.{certified}
 
 -- an offset lies within 2^46
@@ -30,26 +29,28 @@ at_anchor : (f : ℕ) (b o p by : ℤ) → o ≡ p -ℤ by → by ≡ p +ℤ b �
 at_anchor f b o p by e h = omega (arith, ints, e, h)
 
 module _ (s : Scene) (m : MaskView) (v : RegionsView) (tiles : TileSetView) (k : SeamResult) (links : List (Option Link)) (z : Shape) (g : State) (by : ℤ)
-    (regions : AreRegionsOf s.tiling m v) (seams : AreSeamLinks (raster_of s) (open_at m) (label_at v) (tile_cycles s tiles) links) (net : IsNetwork z) (solved : IsSolved v.count links z g) (flows : AreFlows links g (length links) k.flows.items)
-    (lowered : AreLowered g by z.nodes k.offsets.items) (anchor : (x y : ℕ) → IsFirstOpen (raster_of s) (open_at m) x y → by ≡ g.potential (label_at v x y) +ℤ tile_cycles s tiles x y) (low : neg_ℤ (pos 8388608) ≤ℤ by) (high : by ≤ℤ pos (v.count * 16777217 + 8388608)) where
+    (regions : AreRegionsOf s.tiling m v) (seams : AreSeamLinks (raster_of s) (open_at m) (label_at v) (solved_cycles s tiles.results) links) (net : IsNetwork z) (solved : IsSolved v.count links z g) (flows : AreFlows links g (length links) k.flows.items)
+    (lowered : AreLowered g by z.nodes k.offsets.items) (anchor : (x y : ℕ) → IsFirstOpen (raster_of s) (open_at m) x y → by ≡ g.potential (label_at v x y) +ℤ solved_cycles s tiles.results x y) (low : neg_ℤ (pos 8388608) ≤ℤ by) (high : by ≤ℤ pos (v.count * 16777217 + 8388608)) where
   offset_of : (u : ℕ) → u < v.count → slice_index_or k.offsets.items u (pos 0) ≡ g.potential u -ℤ by
   offset_of u l = lowered.values u (omega (arith, l, solved.built.nodes))
 
   label_below : (x y : ℕ) → x < s.phase.width → y < s.phase.height → IsTrue (open_at m x y) → label_at v x y < v.count
   label_below x y l h o = (regions_of_scene s m v regions).labelling.below x y (l, h, o)
 
-  anchored : IsAnchored (raster_of s) (open_at m) (lifted (raster_of s) (joined_cycles s v tiles k.offsets.items))
+  anchored : IsAnchored (raster_of s) (open_at m) (lifted (raster_of s) (shifted_by v k.offsets.items (solved_cycles s tiles.results)))
+  unfolding offset_at
   anchored x y o first =
-      at_anchor ((raster_of s).phase x y) (tile_cycles s tiles x y) (slice_index_or k.offsets.items (label_at v x y) (pos 0)) (g.potential (label_at v x y)) by (offset_of (label_at v x y) (label_below x y o.0 o.1 o.2)) (anchor x y (o, first))
+      at_anchor ((raster_of s).phase x y) (solved_cycles s tiles.results x y) (slice_index_or k.offsets.items (label_at v x y) (pos 0)) (g.potential (label_at v x y)) by (offset_of (label_at v x y) (label_below x y o.0 o.1 o.2)) (anchor x y (o, first))
 
   pub good_seams : IsGoodSeams s m v tiles k
+  unfolding offset_at
   good_seams = record {
     count = lowered.count ∙ solved.built.nodes;
     in_range = λ u l. offset_small v.count (slice_index_or k.offsets.items u (pos 0)) (g.potential u) by regions.few (offset_of u l)
         (let h = solved.heights u (omega (arith, l, solved.built.nodes)) in let n = solved.built.nodes in rw n at h) low high;
     certified = (
       anchored,
-      certified (raster_of s) (open_at m) (label_at v) v.count (tile_cycles s tiles) links z g k.flows.items (regions_of_scene s m v regions) seams net solved flows (joined_cycles s v tiles k.offsets.items) by
-          (λ x y l h o. ap (λ (c : ℤ). tile_cycles s tiles x y +ℤ c) (offset_of (label_at v x y) (label_below x y l h o))),
+      certified (raster_of s) (open_at m) (label_at v) v.count (solved_cycles s tiles.results) links z g k.flows.items (regions_of_scene s m v regions) seams net solved flows (shifted_by v k.offsets.items (solved_cycles s tiles.results)) by
+          (λ x y l h o. ap (λ (c : ℤ). solved_cycles s tiles.results x y +ℤ c) (offset_of (label_at v x y) (label_below x y l h o))),
     );
   }

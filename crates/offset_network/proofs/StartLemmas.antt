@@ -3,15 +3,16 @@ use Rattle.std.proofs.Common.{◌≡◌, ℕ, ◌+◌, ◌<◌, ◌≤◌, ◌�
 use Rattle.std.specs.Prelude.{ℤ, pos, neg_ℤ, ◌-ℤ◌, Option, Some, None, slice_index_or, unsigned_abs}
 use Rattle.std.proofs.lemmas.Int.{ints}
 use Rattle.flow_network.specs.Nets.{Shape, State, IsNetwork}
-use Rattle.flow_network.specs.Sums.{sum_below as flow_sum_below}
 use Rattle.flow_network.specs.Growing.{AddsArc, supply_sizes, total_residual}
-use Rattle.flow_network.proofs.CallerLemmas.{sum_below-none, sum_below-same, total_amount-added}
+use Rattle.flow_network.proofs.CallerLemmas.{total_amount-added}
 use Rattle.shortest_augment.specs.Balance.{BoundsCosts}
 use Rattle.offset_network.specs.declared.link.Link.{Link}
 use Rattle.offset_network.specs.Links.{AreLinks, IsLink, IsLinkIn, arcs_before, arcs_of, link_at, start_flow}
 use Rattle.offset_network.specs.Networks.{AddsLinkArc, AreSupplies, IsArcOf, IsJoined, IsStarted, flow_left, flow_of}
-use Rattle.offset_network.proofs.Orders.{below_or_last}
 use Rattle.offset_network.proofs.LinkLemmas.{arcs-more, arcs-none}
+use Rattle.sums_and_lists.specs.Sums.{sum_below}
+use Rattle.sums_and_lists.proofs.Orders.{below_or_last}
+use Rattle.sums_and_lists.proofs.SumLemmas.{sum_below-none, sum_below-same}
 
 -- no link has its arcs yet
 pub started : (n : ℕ) (links : List (Option Link)) (zs : List ℤ) (s : Shape) (f : State) → AreSupplies n links (length links) zs → s.nodes ≡ length zs → s.arcs ≡ 0 → ((v : ℕ) → v < length zs → f.excess v ≡ slice_index_or zs v (pos 0)) → ((v : ℕ) → v < length zs → f.potential v ≡ pos 0) → IsStarted n links 0 s f
@@ -27,8 +28,8 @@ started n links zs s f are nodes arcs excess potential = record {
   flat = λ v l. potential v (omega (arith, l, are.count));
   costs = λ a l. absurd (omega (arith, l, arcs));
   amount = (
-      let sizes : flow_sum_below s.nodes (λ v. pos (unsigned_abs (f.excess v))) ≡ supply_sizes zs =
-      ap (λ (m : ℕ). flow_sum_below m (λ v. pos (unsigned_abs (f.excess v)))) nodes ∙ sum_below-same (length zs) (λ v. pos (unsigned_abs (f.excess v))) (λ v. pos (unsigned_abs (slice_index_or zs v (pos 0)))) (λ v l. ap (λ (x : ℤ). pos (unsigned_abs x)) (excess v l)) in
+      let sizes : sum_below s.nodes (λ v. pos (unsigned_abs (f.excess v))) ≡ supply_sizes zs =
+      ap (λ (m : ℕ). sum_below m (λ v. pos (unsigned_abs (f.excess v)))) nodes ∙ sum_below-same (length zs) (λ v. pos (unsigned_abs (f.excess v))) (λ v. pos (unsigned_abs (slice_index_or zs v (pos 0)))) (λ v l. ap (λ (x : ℤ). pos (unsigned_abs x)) (excess v l)) in
       let none : total_residual s f ≡ pos 0 = no_arcs s f arcs in
       omega (arith, ints, sizes, none, are.sizes));
 }

@@ -1,15 +1,16 @@
 -- Supplies: the flows at the start, counted at the regions.
-use Rattle.std.proofs.Common.{◌≡◌, ℕ, ◌+◌, ◌*◌, ◌<◌, ◌≤◌, ◌∙◌, ap, sym, refl, arith, Bool, true, false, List, length, replicate, inl, inr, ◌⊎◌}
+use Rattle.std.proofs.Common.{◌≡◌, ℕ, ◌+◌, ◌*◌, ◌<◌, ◌≤◌, ◌∙◌, ap, sym, refl, arith, Bool, true, false, List, length, replicate, inl, inr}
 use Rattle.std.specs.Prelude.{ℤ, pos, neg_ℤ, ◌+ℤ◌, ◌-ℤ◌, ◌≤ℤ◌, ◌==◌, Option, Some, slice_index_or, unsigned_abs}
 use Rattle.std.proofs.lemmas.Int.{ints}
 use Rattle.std.proofs.lemmas.List.{get_or-replicate, get_or_past, length-replicate}
-use Rattle.raster_model.specs.Sums.{sum_below, where_true}
-use Rattle.raster_model.proofs.SumLemmas.{sum_below-add, sum_below-le, sum_below-more, sum_below-none, sum_below-pick, sum_below-zeros}
 use Rattle.flow_network.specs.Growing.{supply_sum, supply_sizes}
 use Rattle.offset_network.specs.declared.link.Link.{Link}
 use Rattle.offset_network.specs.Links.{IsLink, brings, link_at, link_start, start_flow}
 use Rattle.offset_network.specs.Networks.{AddsAt, AreSupplies, IsSupplied, supply_of}
-use Rattle.offset_network.proofs.LinkLemmas.{flow_sum, sum_added, toward_within}
+use Rattle.offset_network.proofs.LinkLemmas.{sum_added, toward_within}
+use Rattle.std.proofs.lemmas.Bool.{cases_lt}
+use Rattle.sums_and_lists.specs.Sums.{sum_below, where_true}
+use Rattle.sums_and_lists.proofs.SumLemmas.{sum_below-add, sum_below-le, sum_below-more, sum_below-none, sum_below-pick, sum_below-zeros}
 
 abbrev values_of : List ℤ → ℕ → ℤ
 values_of zs v = slice_index_or zs v (pos 0)
@@ -25,21 +26,19 @@ size_added false a x z e = omega (arith, ints, e)
 module _ (old new : List ℤ) (place : ℕ) (x : ℤ) (p : AddsAt old new place x) (l : place < length old) where
   pub sum-added : supply_sum new ≡ supply_sum old +ℤ x
   sum-added =
-      let n : supply_sum new ≡ sum_below (length old) (values_of new) = flow_sum (length new) (values_of new) ∙ ap (λ (n : ℕ). sum_below n (values_of new)) p.same_length in
-      let o = flow_sum (length old) (values_of old) in
+      let n : supply_sum new ≡ sum_below (length old) (values_of new) = ap (λ (n : ℕ). sum_below n (values_of new)) p.same_length in
       let s = sum_added (length old) place x (values_of old) (values_of new) l p.added in
-      omega (arith, ints, n, o, s)
+      omega (arith, ints, n, s)
 
   pub sizes-added : supply_sizes new ≤ℤ (supply_sizes old +ℤ pos (unsigned_abs x))
   sizes-added =
       let m = length old in
       let more = λ (v : ℕ). where_true (place == v) (pos (unsigned_abs x)) in
-      let n : supply_sizes new ≡ sum_below m (sizes_of new) = flow_sum (length new) (sizes_of new) ∙ ap (λ (n : ℕ). sum_below n (sizes_of new)) p.same_length in
-      let o = flow_sum m (sizes_of old) in
+      let n : supply_sizes new ≡ sum_below m (sizes_of new) = ap (λ (n : ℕ). sum_below n (sizes_of new)) p.same_length in
       let s = sum_below-le m (sizes_of new) (λ v. sizes_of old v +ℤ more v) (λ v k. size_added (place == v) (values_of old v) x (values_of new v) (p.added v k)) in
       let a = sum_below-add m (sizes_of old) more in
       let b = sum_below-pick m place (λ v. pos (unsigned_abs x)) l in
-      omega (arith, ints, n, o, s, a, b)
+      omega (arith, ints, n, s, a, b)
 
 both_added : (t u : Bool) (a b c x p q : ℤ) → b ≡ a +ℤ where_true t p → c ≡ b +ℤ where_true u q → p ≡ x → q ≡ neg_ℤ x → c ≡ a +ℤ (where_true t x -ℤ where_true u x)
 both_added true true a b c x p q e f g h = omega (arith, ints, e, f, g, h)
@@ -67,8 +66,8 @@ unfolding supply_of
 supplies_start n links zs c z = record {
   count = c;
   values = λ v l. z v ∙ sym (sum_below-none (λ j. brings (link_at links j) v (start_flow (link_at links j))));
-  even = flow_sum (length zs) (values_of zs) ∙ sum_below-zeros (length zs) (values_of zs) (λ v l. z v);
-  sizes = (let e : supply_sizes zs ≡ pos 0 = flow_sum (length zs) (sizes_of zs) ∙ sum_below-zeros (length zs) (sizes_of zs) (λ v l. rw (z v) refl) in omega (arith, ints, e));
+  even = sum_below-zeros (length zs) (values_of zs) (λ v l. z v);
+  sizes = (let e : supply_sizes zs ≡ pos 0 = sum_below-zeros (length zs) (sizes_of zs) (λ v l. rw (z v) refl) in omega (arith, ints, e));
   small = λ v. rw (z v) (omega (arith, ints));
 }
 
@@ -88,10 +87,7 @@ supplies_next n links i old new o e h p =
 
 pub zeros : (n v : ℕ) → slice_index_or (replicate n (pos 0)) v (pos 0) ≡ pos 0
 zeros n v =
-    elim (below_or_past v n) [
+    elim (cases_lt v n) [
       | inl l ↦ get_or-replicate n v (pos 0) (pos 0) l
       | inr l ↦ get_or_past (replicate n (pos 0)) v (pos 0) (omega (arith, l, length-replicate n (pos 0)))
     ]
-  where
-    below_or_past : (v n : ℕ) → (v < n) ⊎ (n ≤ v)
-    below_or_past v n = grind arith

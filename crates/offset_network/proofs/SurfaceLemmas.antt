@@ -13,8 +13,8 @@ use Rattle.raster_model.specs.Sums.{Field, end_x, end_y}
 use Rattle.raster_model.specs.Tiles.{IsWindowOf, IsWithin, tile_at, tiles_of, window_of}
 use Rattle.certificates.specs.declared.results.TileResult.{TileResult}
 use Rattle.certificates.specs.Results.{IsGoodTile, cycles_in, pixels_in, window_in}
-use Rattle.certificates.specs.TileSets.{TileSetView}
-use Rattle.offset_network.specs.Surfaces.{AreGoodTiles, tile_cycles}
+use Rattle.certificates.specs.TileSets.{TileSetView, solved_cycles}
+use Rattle.offset_network.specs.Surfaces.{AreGoodTiles}
 
 pub open_tells : (w h x y : ℕ) (b : Bool) → IsTrue ((nat_lt x w && nat_lt y h) && b) → (x < w) × (y < h) × IsTrue b
 open_tells w h x y b t = (grind (arith, nat_tests), grind (arith, nat_tests), grind (arith, nat_tests))
@@ -37,7 +37,8 @@ module _ (s : Scene) (mask : Field Bool) (tiles : TileSetView) (good : AreGoodTi
         let p = mul-add-lt (y - v.y0) (v.x1 - v.x0 + 1) (x - v.x0) (v.y1 - v.y0 + 1) (omega (arith, within)) (omega (arith, within)) in
         omega (arith, all, p)
 
-    pub cycles_are : cycles_in v k.cycles.items x y ≡ tile_cycles s tiles x y
+    pub cycles_are : cycles_in v k.cycles.items x y ≡ solved_cycles s tiles.results x y
+    unfolding solved_cycles
     cycles_are =
         let at : slice_get tiles.results (tile_at s.tiling x y) ≡ Some k = ap (slice_get tiles.results) (sym here) ∙ place in
         rw (at, same_window) refl

@@ -1,11 +1,11 @@
 -- The network of some links: while it is made, while flow moves in it, and solved. No public clause cites this file.
 use Rattle.std.specs.Prelude.{◌≡◌, ℕ, ◌+◌, ◌*◌, ◌<◌, ◌≤◌, ◌==◌, ℤ, pos, neg_ℤ, ◌+ℤ◌, ◌-ℤ◌, ◌≤ℤ◌, Option, Some, None, List, length, slice_index_or, unsigned_abs}
-use Rattle.raster_model.specs.Sums.{sum_below, where_true}
 use Rattle.flow_network.specs.Nets.{Shape, State, IsArc, HasReducedCosts}
 use Rattle.flow_network.specs.Growing.{AddsArc, supply_sum, supply_sizes, total_amount}
 use Rattle.shortest_augment.specs.Balance.{IsBalanced, LiesWithin}
 use Rattle.offset_network.specs.declared.link.Link.{Link}
 use Rattle.offset_network.specs.Links.{arcs_before, brings, link_at, link_start, start_flow}
+use Rattle.sums_and_lists.specs.Sums.{sum_below, where_true}
 
 -- what the flows of the first i links bring to a region at the start
 unfoldable pub supply_of : List (Option Link) → ℕ → ℕ → ℤ

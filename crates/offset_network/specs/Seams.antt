@@ -1,13 +1,14 @@
 -- The links of a raster's seam edges. No public clause cites this file.
 use Rattle.std.specs.Prelude.{◌≡◌, ℕ, ◌+◌, ◌<◌, ℤ, Bool, IsTrue, Option, Some, None, List, length, if◌then◌else◌}
 use Rattle.raster_model.specs.declared.edge.Edge.{Edge}
-use Rattle.raster_model.specs.Sums.{Field, at_start, at_end, one_if}
+use Rattle.raster_model.specs.Sums.{Field, at_start, at_end}
 use Rattle.raster_model.specs.Raster.{Raster, cycle_departure, has_open_ends}
 use Rattle.raster_model.specs.Flows.{is_seam_edge, seam_count, seam_place, seams_from}
 use Rattle.certificates.specs.EdgeWords.{HoldsFrom}
 use Rattle.certificates.specs.SeamVerdicts.{IsSeamEdge}
 use Rattle.offset_network.specs.declared.link.Link.{Link}
 use Rattle.offset_network.specs.Links.{IsLinkIn, link_at}
+use Rattle.sums_and_lists.specs.Sums.{one_if}
 
 -- the link of a seam edge, by the regions' labels and the cycles of a surface
 abbrev pub link_of : Raster → Field Bool → Field ℕ → Field ℤ → Edge → Option Link

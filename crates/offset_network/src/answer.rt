@@ -1,11 +1,10 @@
-ghost use Rattle.certificates.specs.SeamVerdicts.{IsFirstOpen};
 ghost use Rattle.flow_network.specs.Views.{shape_of, state_of};
 ghost use Rattle.offset_network.specs.Links.{AreLinks, arcs_before, arcs_of as arcs_of_link, link_at};
 ghost use Rattle.offset_network.specs.Networks.{AreFlows, AreLowered, HasArcs, IsArcOf, flow_left};
-ghost use Rattle.offset_network.specs.Surfaces.{tile_cycles};
+ghost use Rattle.certificates.specs.TileSets.{solved_cycles};
 ghost use Rattle.raster_model.specs.Masks.{open_at};
 ghost use Rattle.raster_model.specs.Scene.{raster_of};
-ghost use Rattle.raster_model.specs.Seams.{IsOpenPixel};
+ghost use Rattle.raster_model.specs.Seams.{IsOpenPixel, IsFirstOpen};
 ghost use Rattle.seam_regions.specs.Regions.{AreRegionsOf, label_at};
 ghost use Rattle.shortest_augment.specs.Balance.{LiesWithin};
 ghost use Rattle.std.specs.Prelude.{◌≡◌, ℕ, ◌+◌, ◌*◌, ◌<◌, ◌≤◌, ◌+ℤ◌, ◌≤ℤ◌, IfNone, IfOk, IfSome, Some, length, neg_ℤ, pos, unsigned_abs, ◌^◌};
@@ -13,7 +12,7 @@ ghost use Rattle.std.specs.Prelude.{◌≡◌, ℕ, ◌+◌, ◌*◌, ◌<◌, �
 use crate::link::{Link, arcs_of};
 use crate::surface::TileSurface;
 use flow_network::{FlowNet, Network};
-use raster_model::{Mask, Scene};
+use raster_model::first_open;
 use seam_regions::Regions;
 use std::alloc::{AllocError, Global};
 
@@ -48,28 +47,12 @@ pub(crate) fn flows(
     Ok(flows)
 }
 
-/// The first open pixel in row order.
-fn first_open(scene: &Scene, mask: &Mask) -> Option<(u32, u32)>
-    requires same_size { (mask.now.width ≡ scene.now.phase.width) × (mask.now.height ≡ scene.now.phase.height) }
-    ensures found { IfSome result (λ pixel. IsFirstOpen (raster_of scene.now) (open_at mask.now) pixel.0 pixel.1) }
-    ensures none { IfNone result ((x y : ℕ) → IsOpenPixel (raster_of scene.now) (open_at mask.now) x y → ⊥) }
-{
-    for y in 0..scene.phase.height {
-        for x in 0..scene.phase.width {
-            if mask.is_open(x, y) {
-                return Some((x, y));
-            }
-        }
-    }
-    None
-}
-
 /// How high the first open pixel lies: the potential of its region and its cycles. 0 where no pixel is open.
 pub(crate) fn anchor(surface: &TileSurface, regions: &Regions, net: &Network) -> i64
     requires regions { AreRegionsOf surface.now.scene.now.tiling surface.now.mask.now regions.now }
     requires nodes { (shape_of net.now).nodes ≡ regions.now.count }
     requires heights { LiesWithin (shape_of net.now) (state_of net.now) 16777217 }
-    ensures value { (x y : ℕ) → IsFirstOpen (raster_of surface.now.scene.now) (open_at surface.now.mask.now) x y → result ≡ ((state_of net.now).potential (label_at regions.now x y) +ℤ tile_cycles surface.now.scene.now surface.now.tiles.now x y) }
+    ensures value { (x y : ℕ) → IsFirstOpen (raster_of surface.now.scene.now) (open_at surface.now.mask.now) x y → result ≡ ((state_of net.now).potential (label_at regions.now x y) +ℤ solved_cycles surface.now.scene.now surface.now.tiles.now.results x y) }
     ensures low { neg_ℤ (pos 8388608) ≤ℤ result }
     ensures high { result ≤ℤ pos (regions.now.count * 16777217 + 8388608) }
 {

@@ -1,4 +1,5 @@
-ghost use Rattle.offset_network.specs.Surfaces.{AreGoodTiles, tile_cycles};
+ghost use Rattle.certificates.specs.TileSets.{solved_cycles};
+ghost use Rattle.offset_network.specs.Surfaces.{AreGoodTiles};
 ghost use Rattle.raster_model.specs.Masks.{open_at};
 ghost use Rattle.raster_model.specs.Raster.{cycle_departure, has_open_ends};
 ghost use Rattle.raster_model.specs.Scene.{raster_of};
@@ -22,7 +23,7 @@ impl TileSurface<'_> {
     /// The cycles at an open pixel.
     pub(crate) fn at(&self, x: u32, y: u32) -> i32
         requires { IsTrue (is_pixel self.now.scene.now.phase.width self.now.scene.now.phase.height x y && open_at self.now.mask.now x y) }
-        ensures value { result ≡ tile_cycles self.now.scene.now self.now.tiles.now x y }
+        ensures value { result ≡ solved_cycles self.now.scene.now self.now.tiles.now.results x y }
         ensures small { unsigned_abs result ≤ 8388608 }
     {
         let tile = self.scene.tiling.tile_of(x, y);
@@ -36,7 +37,7 @@ impl TileSurface<'_> {
     pub(crate) fn departure(&self, edge: Edge) -> i64
         requires is_edge { IsTrue (is_edge self.now.scene.now.phase.width self.now.scene.now.phase.height edge) }
         requires open_ends { IsTrue (has_open_ends (open_at self.now.mask.now) edge) }
-        ensures value { result ≡ cycle_departure (raster_of self.now.scene.now) (tile_cycles self.now.scene.now self.now.tiles.now) edge }
+        ensures value { result ≡ cycle_departure (raster_of self.now.scene.now) (solved_cycles self.now.scene.now self.now.tiles.now.results) edge }
         ensures small { unsigned_abs result ≤ 16777217 }
     {
         let x = edge.end_x();

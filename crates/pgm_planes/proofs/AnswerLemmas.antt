@@ -21,11 +21,8 @@ use Rattle.pgm_planes.proofs.PlaneWalk.{PlaneRead, plane_walk}
 use Rattle.pgm_planes.proofs.PlaneAgain.{plane_told}
 use Rattle.pgm_planes.proofs.FarLemmas.{further, plane_far}
 use Rattle.pgm_planes.proofs.AskLemmas.{further_none, told_asks, asks_told}
-use Rattle.pgm_planes.proofs.CallLemmas.{some_of, some_is, told_on}
-
-if_told : (o : Option (List ℕ)) (P : List ℕ → Type 0) → ((bytes : List ℕ) → o ≡ Some bytes → P bytes) → IfSome o P
-if_told None P f = tt
-if_told (Some bytes) P f = f bytes refl
+use Rattle.pgm_planes.proofs.CallLemmas.{told_on}
+use Rattle.insar_ports.proofs.CallLemmas.{if_told, some_of, some_is}
 
 -- what the reader read is a plane's text
 found : (role : Role) (at : ℕ) (bytes : List ℕ) (p : PlaneOf) (end : ℕ) (rest : List ℕ) → plane_at role false at bytes ≡ done p end rest → PlaneRead role at bytes p end rest

@@ -26,6 +26,7 @@ use Rattle.pgm_planes.proofs.PlaneAgain.{GoodHeader, above_over, above_read, sho
 use Rattle.pgm_planes.proofs.FarLemmas.{further, Holds, header_far, samples_far}
 use Rattle.pgm_planes.proofs.NearLemmas.{header_near, limits_near, end_near}
 use Rattle.pgm_planes.proofs.CutLemmas.{raw_asks, raw_told, PlainCut, plain_asks, plain_told}
+use Rattle.sums_and_lists.proofs.Lists.{no_length}
 
 -- ---- what is not asked for is the same whether more bytes come or not
 
@@ -47,10 +48,6 @@ bind_asks : {A B : Type 0} (r : Reading A) (f : A → ℕ → List ℕ → Readi
 bind_asks (Ok x) f h = inr (x.0, x.1, x.2, refl, h)
 bind_asks (Err None) f h = inl refl
 bind_asks (Err (Some fault)) f h = absurd cc
-
-no_length : (xs : List ℕ) → length xs ≡ 0 → xs ≡ []
-no_length [] h = refl
-no_length (x ∷ xs) h = absurd (omega (arith, h))
 
 -- ---- the reader asks there
 

@@ -17,15 +17,7 @@ use Rattle.pgm_planes.specs.Reading.{Reading, Reader, breaks, asks, goes_beyond,
 use Rattle.pgm_planes.specs.Faults.{fault_of_feed}
 use Rattle.pgm_planes.specs.Gaps.{is_space}
 use Rattle.pgm_planes.proofs.HeaderLemmas.{done, same_value, same_place, same_rest, space_taken, space_refused, space_missed}
-
-abbrev pub call : Option (List ℕ) → ℕ → Option (List ℕ) → ℕ → ℕ → ℕ → ℕ → Call
-call told at left end limit before after = record { told = told; at = at; left = left; end = end; limit = limit; before = before; after = after }
-
-abbrev pub some_of : List ℕ → Option (List ℕ)
-some_of bytes = Some bytes
-
-pub some_is : (a b : List ℕ) → some_of a ≡ some_of b → a ≡ b
-some_is a b e = cc
+use Rattle.insar_ports.proofs.CallLemmas.{call, some_is, risen_before, Moves-then, stays}
 
 -- where the bytes were told, those that are left are told too
 pub told_on : (front : List ℕ) (told left : Option (List ℕ)) (bytes : List ℕ) → told ≡ with_front front left → told ≡ Some bytes → (rest : List ℕ) × (left ≡ Some rest)
@@ -37,18 +29,7 @@ pub record Goes {A : Type 0} (c : Call) (r q : Reader A) : Type 0 where
   pub moves : Moves c
   pub reads : Told c (λ more bytes rest. r more c.at bytes ≡ q more c.end rest)
 
-pub risen_before : (before middle after : ℕ) → before ≤ middle → HasRisen middle after → HasRisen before after
-risen_before before middle after le h = omega (arith, le, h)
-
 module _ (told : Option (List ℕ)) (at : ℕ) (mid : Option (List ℕ)) (at_mid : ℕ) (left : Option (List ℕ)) (end limit limit_2 before middle after : ℕ) where
-  pub Moves-then : Moves (call told at mid at_mid limit before middle) → Moves (call mid at_mid left end limit_2 middle after) → Moves (call told at left end limit before after)
-  Moves-then p q = record {
-    front = p.front ++ q.front;
-    parts = p.parts ∙ ap (with_front p.front) q.parts ∙ with_front-append p.front q.front left;
-    place = omega (arith, p.place, q.place, length-append p.front q.front);
-    grows = omega (arith, p.grows, q.grows);
-  }
-
   -- the two calls see the same limit, beyond which the same bytes lie
   same_beyond : Moves (call told at mid at_mid limit before middle) → (bytes m : List ℕ) → told ≡ Some bytes → mid ≡ Some m → goes_beyond limit at_mid m ≡ goes_beyond limit at bytes
   same_beyond p bytes m t e =
@@ -64,31 +45,31 @@ module _ (told : Option (List ℕ)) (at : ℕ) (mid : Option (List ℕ)) (at_mid
 
   pub Goes-then : {A : Type 0} (r q s : Reader A) → limit_2 ≡ limit → Goes (call told at mid at_mid limit before middle) r q → Goes (call mid at_mid left end limit_2 middle after) q s → Goes (call told at left end limit before after) r s
   Goes-then r q s l_is g h = record {
-    moves = Moves-then g.moves h.moves;
+    moves = Moves-then told at mid at_mid left end limit limit_2 before middle after g.moves h.moves;
     reads = λ bytes rest t l. let m = Told-then (λ more bytes rest. q more at_mid bytes ≡ s more end rest) g.moves l_is h.reads bytes rest t l in g.reads bytes m.0 t m.1 ∙ m.2;
   }
 
   pub Reads-then : {X A : Type 0} (view : X → A) (result : Result X ReadPlaneFault) (r q : Reader A) → Goes (call told at mid at_mid limit before middle) r q → limit_2 ≡ limit → Reads view result (call mid at_mid left end limit_2 middle after) q → Reads view result (call told at left end limit before after) r
   Reads-then view (Ok x) r q g l_is h = record {
-    moves = Moves-then g.moves h.moves;
+    moves = Moves-then told at mid at_mid left end limit limit_2 before middle after g.moves h.moves;
     answers = λ bytes rest t l. let m = Told-then (λ more bytes rest. q more at_mid bytes ≡ done (view x) end rest) g.moves l_is h.answers bytes rest t l in g.reads bytes m.0 t m.1 ∙ m.2;
   }
   Reads-then view (Err (errors.Plane fault)) r q g l_is h = record {
-    moves = Moves-then g.moves h.moves;
+    moves = Moves-then told at mid at_mid left end limit limit_2 before middle after g.moves h.moves;
     answers = λ bytes rest t l. let m = Told-then (λ more bytes rest. q more at_mid bytes ≡ breaks fault) g.moves l_is h.answers bytes rest t l in g.reads bytes m.0 t m.1 ∙ m.2;
   }
   Reads-then view (Err errors.TooLong) r q g l_is h = record {
-    moves = Moves-then g.moves h.moves;
+    moves = Moves-then told at mid at_mid left end limit limit_2 before middle after g.moves h.moves;
     answers = (
       (h.answers.0.0 ∙ l_is, h.answers.0.1),
       λ bytes rest t l. let m = Told-then (λ more bytes rest. q more at_mid bytes ≡ asks) g.moves l_is h.answers.1 bytes rest t l in g.reads bytes m.0 t m.1 ∙ m.2,
     );
   }
   Reads-then view (Err errors.ReadFault) r q g l_is h = record {
-    moves = Moves-then g.moves h.moves;
+    moves = Moves-then told at mid at_mid left end limit limit_2 before middle after g.moves h.moves;
     answers = risen_before before middle after g.moves.grows h.answers;
   }
-  Reads-then view (Err errors.Memory) r q g l_is h = record { moves = Moves-then g.moves h.moves; answers = tt }
+  Reads-then view (Err errors.Memory) r q g l_is h = record { moves = Moves-then told at mid at_mid left end limit limit_2 before middle after g.moves h.moves; answers = tt }
 
 module _ {X A Y B : Type 0} (view : X → A) (other : Y → B) (c : Call) where
   -- after a call that read something the rest is read by q
@@ -107,9 +88,6 @@ module _ {X A : Type 0} (view : X → A) (c : Call) where
   finds x r q g f = record { moves = g.moves; answers = λ bytes rest t l. g.reads bytes rest t l ∙ f (goes_beyond c.limit c.at bytes) (take (c.limit - c.end) rest) }
 
 -- ---- single bytes
-
-pub stays : (told left : Option (List ℕ)) (at end limit before after : ℕ) → left ≡ told → end ≡ at → before ≤ after → Moves (call told at left end limit before after)
-stays told left at end limit before after l e g = record { front = []; parts = sym l ∙ sym (with_front-nil left); place = omega (arith, e); grows = g }
 
 nothing_left : (told : Option (List ℕ)) (bytes : List ℕ) → IsAtEnd told → told ≡ Some bytes → bytes ≡ []
 nothing_left None bytes h e = absurd cc

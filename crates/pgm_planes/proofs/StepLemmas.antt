@@ -19,7 +19,8 @@ use Rattle.insar_ports.specs.Calls.{Call}
 use Rattle.pgm_planes.specs.Reading.{Reading, Reader, ◌>>=◌, breaks, asks, at_end, nothing, goes_beyond, Reads, byte_at, sight_at, or_breaks, spelling_of, magic_at, space_at, inside_after, filling_at, blanks_at, with_digit, digits_at, number_at, field_at, HeaderOf, unless_broken, header_break, header_at, header_of, told, judged, and_behind, form_of, sample_at, samples_at, end_at, end_of, raster_at}
 use Rattle.pgm_planes.specs.declared.header.Header.{Header}
 use Rattle.pgm_planes.proofs.HeaderLemmas.{done, same_value, same_place, same_rest}
-use Rattle.pgm_planes.proofs.CallLemmas.{call, some_is, stays, Goes, gone, passes_on, becomes, becomes_break, byte_some, byte_none, byte_never, as_got, as_nothing, as_number, as_spelling}
+use Rattle.pgm_planes.proofs.CallLemmas.{Goes, gone, passes_on, becomes, becomes_break, byte_some, byte_none, byte_never, as_got, as_nothing, as_number, as_spelling}
+use Rattle.insar_ports.proofs.CallLemmas.{call, some_is, stays}
 
 -- ---- sights
 

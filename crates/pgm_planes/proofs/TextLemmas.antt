@@ -17,17 +17,17 @@ record Spells (n : ℕ) (ds : List ℕ) : Type 0 where
   pub number : is_number ds ≡ true
   pub value : goes_on_to 0 ds ≡ n
 
-digit : (d : ℕ) → d < 10 → is_digit (48 + d) ≡ true
+pub digit : (d : ℕ) → d < 10 → is_digit (48 + d) ≡ true
 digit d lt = rw (lt-ltb 47 (48 + d) (omega arith), lt-ltb (48 + d) 58 (omega arith)) refl
 
 one_digit : (n : ℕ) → n < 10 → Spells n ((48 + n) ∷ [])
 one_digit n lt = record { number = rw (digit n lt) refl; value = omega arith }
 
-goes_further : (n : ℕ) (ds : List ℕ) (d : ℕ) → goes_on_to n (ds ++ d ∷ []) ≡ 10 * goes_on_to n ds + (d - 48)
+pub goes_further : (n : ℕ) (ds : List ℕ) (d : ℕ) → goes_on_to n (ds ++ d ∷ []) ≡ 10 * goes_on_to n ds + (d - 48)
 goes_further n [] d = refl
 goes_further n (x ∷ ds) d = goes_further (10 * n + (x - 48)) ds d
 
-number_further : (ds : List ℕ) (d : ℕ) → is_number ds ≡ true → is_digit d ≡ true → is_number (ds ++ d ∷ []) ≡ true
+pub number_further : (ds : List ℕ) (d : ℕ) → is_number ds ≡ true → is_digit d ≡ true → is_number (ds ++ d ∷ []) ≡ true
 number_further [] d h e = absurd cc
 number_further (x ∷ ds) d h e =
     let p = and_parts (is_digit x) (list_all is_digit ds) h in

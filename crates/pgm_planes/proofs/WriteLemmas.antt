@@ -10,10 +10,7 @@ use Rattle.insar_ports.specs.Bytes.{with_end, GainsProperPrefix}
 use Rattle.insar_ports.proofs.CallerLemmas.{with_end-append, cut-first, cut-later}
 use Rattle.byteorder.specs.Endian.{big_bytes}
 use Rattle.pgm_planes.specs.Text.{sample_text, raster_text}
-
-pub at_any_err : {A E : Type 0} (r : Result A E) (P : Type 0) → P → OnErr r P
-at_any_err (Ok x) P p = tt
-at_any_err (Err e) P p = p
+use Rattle.sums_and_lists.proofs.Lists.{at_any_err}
 
 -- two texts were written
 pub written_then : (held mid now : Option (List ℕ)) (a b : List ℕ) → mid ≡ with_end held a → now ≡ with_end mid b → now ≡ with_end held (a ++ b)

@@ -8,10 +8,7 @@ ghost use Rattle.pgm_planes.specs.Reading.{Reads, nothing, byte_at, sight_at, sp
 use crate::fault::{PlaneFault, ReadPlaneFault, Role};
 use crate::spelling::Spelling;
 use insar_ports::{Feed, Source};
-
-const GREATEST_SIDE: u32 = 4096;
-
-const GREATEST_PIXELS: u32 = 4_194_304;
+use raster_model::{MAX_PIXELS, MAX_SIDE};
 
 /// The numbers of a plane's header, which are within the limits.
 #[derive(Clone, Copy)]
@@ -219,8 +216,8 @@ fn header_break(role: Role, width: u32, height: u32, maxval: u32, place: u64) ->
     ensures fits { IfNone result (IsSize width height × HasMaxval role maxval) }
     ensures valued { IfNone result ((1 ≤ maxval) × (maxval ≤ 65535)) }
 {
-    let sides = 1..=GREATEST_SIDE;
-    if !sides.contains(&width) || !sides.contains(&height) || width * height > GREATEST_PIXELS {
+    let sides = 1..=MAX_SIDE;
+    if !sides.contains(&width) || !sides.contains(&height) || width * height > MAX_PIXELS {
         return Some(PlaneFault::Size { width, height });
     }
     match role {

@@ -3,7 +3,7 @@ use Rattle.std.proofs.Common.{◌≡◌, ℕ, ◌+◌, ◌<◌, ◌≤◌, arith
 use Rattle.std.specs.Prelude.{ℤ, pos, ◌+ℤ◌}
 use Rattle.std.proofs.lemmas.Int.{ints}
 use Rattle.raster_model.specs.Sums.{Field, sum_row, sum_grid}
-use Rattle.raster_model.proofs.SumLemmas.{sum_below-more, sum_below-zeros, sum_below-upto}
+use Rattle.sums_and_lists.proofs.SumLemmas.{sum_below-more, sum_below-zeros, sum_below-upto}
 
 -- one more value of a row
 pub column_more : (f : Field ℤ) (x y : ℕ) (z t R : ℤ) → z ≡ R +ℤ sum_row x f y → t ≡ f x y → z +ℤ t ≡ R +ℤ sum_row (x + 1) f y

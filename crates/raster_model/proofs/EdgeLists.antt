@@ -2,8 +2,9 @@ use Rattle.std.proofs.Common.{◌≡◌, ℕ, zero, suc, ◌+◌, sym, refl, ari
 use Rattle.std.specs.Prelude.{ℤ, ◌+ℤ◌, nat_lt, if◌then◌else◌}
 use Rattle.std.proofs.lemmas.Int.{ints}
 use Rattle.raster_model.specs.declared.edge.Edge.{Edge}
-use Rattle.raster_model.specs.Sums.{right_edge, down_edge, where_true, sum_below, sum_row, sum_grid, edges_from}
+use Rattle.raster_model.specs.Sums.{right_edge, down_edge, sum_row, sum_grid, edges_from}
 use Rattle.raster_model.specs.EdgeList.{edges_at, edges_in_row, edges_in_rows, list_sum, SumsTheList}
+use Rattle.sums_and_lists.specs.Sums.{where_true, sum_below}
 
 list_sum-append : (F : Edge → ℤ) (es fs : List Edge) → list_sum F (es ++ fs) ≡ list_sum F es +ℤ list_sum F fs
 unfolding list_sum

@@ -11,20 +11,19 @@ use Rattle.raster_model.specs.Exact.{DepartureIsExact, LiftedIsCongruent, Cycles
 use Rattle.raster_model.proofs.SumLemmas.{sum_grid-same, sum_edges-same}
 use Rattle.raster_model.proofs.Planar.{planar}
 use Rattle.raster_model.proofs.PhaseLemmas.{div_exact, turns_exact, wrapped_is_it}
-use Rattle.raster_model.proofs.TileLeast.{no_column, no_row, cycles_of, cycles_exact, departure_is, residue_is, both_left, both_right}
+use Rattle.raster_model.proofs.TileLeast.{no_column, no_row, cycles_of, cycles_exact, departure_is, residue_is}
+use Rattle.sums_and_lists.proofs.Orders.{ends_in}
+use Rattle.sums_and_lists.proofs.Tests.{and_first, and_second}
 
 whole : (r : Raster) (S : Field ℤ) (e : Edge) → at_start S e ≡ pos (at_start r.phase e) +ℤ pos 65536 *ℤ at_start (cycles_of r S) e → at_end S e ≡ pos (at_end r.phase e) +ℤ pos 65536 *ℤ at_end (cycles_of r S) e → at_end S e -ℤ at_start S e ≡ gradient r e +ℤ pos 65536 *ℤ departure r S e
 whole r S e p q =
     let t = turns_exact (at_start r.phase e) (at_end r.phase e) in
     rw (departure_is r S e p q) (omega (arith, ints, p, q, t))
 
-ends_in : (x y w h a b : ℕ) → IsTrue ((nat_lt x w && nat_lt y h) && (nat_lt a w && nat_lt b h)) → (x < w) × (y < h) × (a < w) × (b < h)
-ends_in x y w h a b t = (grind (arith, nat_tests), grind (arith, nat_tests), grind (arith, nat_tests), grind (arith, nat_tests))
-
 pub departure_is_exact : DepartureIsExact
 departure_is_exact r mask S good e i o =
     let t = ends_in e.x e.y r.width r.height (end_x e) (end_y e) i in
-    whole r S e (cycles_exact r mask S good e.x e.y t.0 t.1 (both_left (at_start mask e) (at_end mask e) o)) (cycles_exact r mask S good (end_x e) (end_y e) t.2 t.3 (both_right (at_start mask e) (at_end mask e) o))
+    whole r S e (cycles_exact r mask S good e.x e.y t.0 t.1 (and_first (at_start mask e) (at_end mask e) o)) (cycles_exact r mask S good (end_x e) (end_y e) t.2 t.3 (and_second (at_start mask e) (at_end mask e) o))
 
 pub residue_is_exact : ResidueIsExact
 residue_is_exact r x y =

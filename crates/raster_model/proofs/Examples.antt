@@ -1,7 +1,7 @@
 -- Worked examples.
 use Rattle.std.proofs.Common.{◌≡◌, ◌+◌, ◌*◌, refl, Bool, true, false, List, [], ◌∷◌, pos, negsuc}
 use Rattle.std.specs.Prelude.{ℤ, slice_index, slice_index_or, if◌then◌else◌}
-use Rattle.raster_model.specs.Sums.{Field, sum_below, right_edge, down_edge, count_below}
+use Rattle.raster_model.specs.Sums.{Field, right_edge, down_edge}
 use Rattle.raster_model.specs.Phase.{wrapped}
 use Rattle.raster_model.specs.Raster.{Raster, residue, departure, tile_cost, seam_cost}
 use Rattle.raster_model.specs.Certificates.{face_total, face_product, face_difference, faces_of_tile}
@@ -10,6 +10,7 @@ use Rattle.raster_model.specs.Cells.{cell_count, face_at}
 use Rattle.raster_model.specs.Flows.{flow_at, seam_count, seam_place}
 use Rattle.raster_model.specs.Weights.{rule_number}
 use Rattle.raster_model.specs.declared.weights.RuleKind.TheVariants.{Mean, Product}
+use Rattle.sums_and_lists.specs.Sums.{sum_below, count_below}
 
 -- ---- wrapped differences: an exact half cycle is -32768
 wrapped-half_cycle_up : wrapped 0 32768 ≡ negsuc 32767

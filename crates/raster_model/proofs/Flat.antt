@@ -3,18 +3,17 @@ use Rattle.std.proofs.Common.{◌≡◌, ℕ, ◌*◌, ◌∙◌, refl, arith, B
 use Rattle.std.specs.Prelude.{ℤ, pos, ◌≤ℤ◌, IsTrue, if◌then◌else◌, unsigned_abs}
 use Rattle.std.proofs.lemmas.Int.{ints}
 use Rattle.raster_model.specs.declared.edge.Edge.{Edge}
-use Rattle.raster_model.specs.Sums.{Field, is_edge, sum_edges, where_true}
+use Rattle.raster_model.specs.Sums.{Field, is_edge, sum_edges}
 use Rattle.raster_model.specs.Raster.{Raster, departure, has_open_ends, masked_weight, edge_cost, is_inner, inner_cost, is_seam, seam_edge_cost, tile_cost, seam_cost}
 use Rattle.raster_model.specs.Best.{HasNoDepartures, NoDeparturesAreBest}
 use Rattle.raster_model.specs.Seams.{shifted}
-use Rattle.raster_model.proofs.SumLemmas.{sum_edges-le, sum_edges-same, sum_edges-zeros, where_true-zero}
+use Rattle.raster_model.proofs.SumLemmas.{sum_edges-le, sum_edges-same, sum_edges-zeros}
+use Rattle.sums_and_lists.proofs.SumLemmas.{where_zero, where_true-zero}
+use Rattle.sums_and_lists.specs.Sums.{where_true}
 
 no_cost : (k : Bool) (w : ℕ) (d : ℤ) → (k ≡ true → d ≡ pos 0) → where_true k (pos ((if k then w else 0) * unsigned_abs d)) ≡ pos 0
 no_cost true w d h = rw (h refl) (omega (arith, ints))
 no_cost false w d h = refl
-
-chosen_zero : (t : Bool) (z : ℤ) → z ≡ pos 0 → where_true t z ≡ pos 0
-chosen_zero t z e = rw e (where_true-zero t)
 
 not_below : (s k : Bool) (n : ℕ) → pos 0 ≤ℤ where_true s (where_true k (pos n))
 not_below true true n = omega (arith, ints)
@@ -33,13 +32,13 @@ module _ (r : Raster) (mask : Field Bool) (S : Field ℤ) (flat : HasNoDeparture
   pub tile_cost-flat : (t : ℕ) → tile_cost r mask t S ≡ pos 0
   unfolding tile_cost
   tile_cost-flat t =
-      sum_edges-same r.width r.height (inner_cost r mask t S) (λ e. pos 0) (λ e i. chosen_zero (is_inner r t e) (edge_cost r mask S e) (edge_cost-flat e i))
+      sum_edges-same r.width r.height (inner_cost r mask t S) (λ e. pos 0) (λ e i. where_zero (is_inner r t e) (edge_cost r mask S e) (edge_cost-flat e i))
       ∙ sum_edges-zeros r.width r.height
 
   pub seam_cost-flat : seam_cost r mask S ≡ pos 0
   unfolding seam_cost
   seam_cost-flat =
-      sum_edges-same r.width r.height (seam_edge_cost r mask S) (λ e. pos 0) (λ e i. chosen_zero (is_seam r e) (edge_cost r mask S e) (edge_cost-flat e i))
+      sum_edges-same r.width r.height (seam_edge_cost r mask S) (λ e. pos 0) (λ e i. where_zero (is_seam r e) (edge_cost r mask S e) (edge_cost-flat e i))
       ∙ sum_edges-zeros r.width r.height
 
 pub tile_cost-not_below : (r : Raster) (mask : Field Bool) (t : ℕ) (S : Field ℤ) → pos 0 ≤ℤ tile_cost r mask t S

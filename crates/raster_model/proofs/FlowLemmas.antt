@@ -1,10 +1,11 @@
 -- The places of seam edges.
 use Rattle.std.proofs.Common.{◌≡◌, ℕ, ◌+◌, ◌<◌, ◌≤◌, refl, arith, Bool, true, false}
 use Rattle.raster_model.specs.declared.edge.Edge.{Edge}
-use Rattle.raster_model.specs.Sums.{right_edge, down_edge, one_if}
-use Rattle.raster_model.proofs.CountLemmas.{count_below-more, count_below-none, count_below-le}
+use Rattle.raster_model.specs.Sums.{right_edge, down_edge}
 use Rattle.raster_model.specs.Raster.{Raster}
 use Rattle.raster_model.specs.Flows.{is_seam_edge, seams_from, seams_in_row, seams_before, seam_count, seam_place}
+use Rattle.sums_and_lists.specs.Sums.{one_if}
+use Rattle.sums_and_lists.proofs.CountLemmas.{count_below-more, count_below-none, count_below-le}
 
 -- the next pixel, and the next row
 pub before-next : (r : Raster) (x y : ℕ) → seams_before r (x + 1) y ≡ seams_before r x y + seams_from r x y

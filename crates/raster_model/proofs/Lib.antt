@@ -1,5 +1,4 @@
 pub mod PhaseLemmas
-pub mod Ring
 pub mod SumLemmas
 pub mod Planar
 pub mod TileLeast
@@ -8,7 +7,6 @@ pub mod SeamLeast
 pub mod TotalCosts
 pub mod Balance
 pub mod EdgeLists
-pub mod CountLemmas
 pub mod FlowLemmas
 pub mod Exact
 pub mod TileLemmas
@@ -26,4 +24,5 @@ pub mod WindowCosts
 pub mod Examples
 pub mod SeamLists
 pub mod RegionNumbers
+pub mod MaskAgrees
 pub mod ScriptLemmas

@@ -3,10 +3,12 @@ use Rattle.std.proofs.Common.{◌≡◌, ℕ, ◌+◌, ◌<◌, ◌≤◌, ap, a
 use Rattle.std.specs.Prelude.{ℤ, pos, ◌+ℤ◌, nat_lt, Bool}
 use Rattle.std.proofs.lemmas.Int.{ints}
 use Rattle.raster_model.specs.declared.plain.Part.{Part}
-use Rattle.raster_model.specs.Sums.{Field, right_edge, down_edge, where_true, sum_row, sum_grid}
+use Rattle.raster_model.specs.Sums.{Field, right_edge, down_edge, sum_row, sum_grid}
 use Rattle.raster_model.specs.Raster.{Raster}
 use Rattle.raster_model.specs.Plain.{part_edge_cost, part_cost_from, part_cost}
-use Rattle.raster_model.proofs.SumLemmas.{sum_below-none, sum_below-more, picked, no_number, lt_is, not_lt_is}
+use Rattle.sums_and_lists.specs.Sums.{where_true}
+use Rattle.sums_and_lists.proofs.SumLemmas.{sum_below-none, sum_below-more, picked, no_number}
+use Rattle.sums_and_lists.proofs.Orders.{lt_is, not_lt_is}
 
 -- what stands where a bound allows it
 pub taken : (a b m n : ℕ) (z : ℤ) → m ≡ n → pos n ≡ z → a < b → pos m ≡ where_true (nat_lt a b) z

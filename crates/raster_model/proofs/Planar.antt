@@ -4,10 +4,13 @@ use Rattle.std.specs.Prelude.{ℤ, pos, ◌+ℤ◌, ◌-ℤ◌, ◌*ℤ◌, neg_
 use Rattle.std.proofs.lemmas.Int.{ints}
 use Rattle.std.proofs.lemmas.Bool.Decides.{nat_tests}
 use Rattle.raster_model.specs.declared.edge.Edge.{Edge}
-use Rattle.raster_model.specs.Sums.{Field, sum_below, sum_grid, sum_edges, right_edge, down_edge, where_true}
+use Rattle.raster_model.specs.Sums.{Field, sum_grid, sum_edges, right_edge, down_edge}
 use Rattle.raster_model.specs.Certificates.{before, above, left, face_difference}
-use Rattle.raster_model.proofs.Ring.{products, four}
-use Rattle.raster_model.proofs.SumLemmas.{sum_below-same, sum_grid-same, sum_grid-add, sum_grid-swap}
+use Rattle.raster_model.proofs.SumLemmas.{sum_grid-same, sum_grid-add, sum_grid-swap}
+use Rattle.sums_and_lists.proofs.Orders.{not_lt}
+use Rattle.sums_and_lists.specs.Sums.{sum_below, where_true}
+use Rattle.sums_and_lists.proofs.Products.{products, four}
+use Rattle.sums_and_lists.proofs.SumLemmas.{sum_below-same}
 
 -- a sum by parts
 pub by_parts : (n : ℕ) (f k : ℕ → ℤ) → sum_below n (λ i. f i *ℤ (k (i + 1) -ℤ k i)) ≡ sum_below n (λ i. k i *ℤ (before f i -ℤ f i)) +ℤ k n *ℤ before f n
@@ -35,9 +38,6 @@ along n f k z =
 pub where_true_kept : (t : Bool) (z : ℤ) → (t ≡ false → z ≡ pos 0) → where_true t z ≡ z
 where_true_kept true z h = refl
 where_true_kept false z h = sym (h refl)
-
-pub not_lt : (a b : ℕ) → nat_lt a b ≡ false → b ≤ a
-not_lt a b h = grind (arith, nat_tests)
 
 times_zero : (k a b : ℤ) → a ≡ pos 0 → b ≡ pos 0 → k *ℤ (a -ℤ b) ≡ pos 0
 times_zero k a b p q = rw (p, q) (omega (arith, ints))

@@ -6,36 +6,23 @@ use Rattle.std.proofs.lemmas.Nat.{mod-mul-add, div-mul-add, div-add-mod', mod_be
 use Rattle.raster_model.specs.Sums.{Field}
 use Rattle.raster_model.specs.Raster.{Raster}
 use Rattle.raster_model.specs.Seams.{IsOpenPixel, IsEarlier, IsFirst, AreRegions, RegionNumbersAreUnique}
+use Rattle.sums_and_lists.proofs.Orders.{below_or_last, below_at_above}
+use Rattle.std.proofs.lemmas.Bool.{cases_Bool}
+use Rattle.sums_and_lists.proofs.Tests.{true_and_false, tells_both, both_told}
 
-sides : (b : Bool) → (b ≡ true) ⊎ (b ≡ false)
-sides true = inl refl
-sides false = inr refl
-
-below_next : (u n : ℕ) → u < n + 1 → (u < n) ⊎ (u ≡ n)
-below_next u n l = grind arith
-
--- the first place from a on that passes a test, where the place a + d does
+-- the first place both_told a on that passes a test, where the place a + d does
 pub first_from : (P : ℕ → Bool) (d a : ℕ) → ((j : ℕ) → j < a → P j ≡ false) → P (a + d) ≡ true → (m : ℕ) × (m ≤ a + d) × (P m ≡ true) × ((j : ℕ) → j < m → P j ≡ false)
 first_from P zero a none t = (a, omega arith, (let e : a + 0 ≡ a = omega arith in rw e at t), none)
 first_from P (suc d) a none t =
     let e : a + suc d ≡ (a + 1) + d = omega arith in
-    elim (sides (P a)) [
+    elim (cases_Bool (P a)) [
       | inl h ↦ (a, omega arith, h, none)
       | inr h ↦ (
-          let u = first_from P d (a + 1) (λ j l. elim (below_next j a l) [ inl k ↦ none j k | inr k ↦ rw k h ]) (rw e at t) in
+          let u = first_from P d (a + 1) (λ j l. elim (below_or_last j a l) [ inl k ↦ none j k | inr k ↦ rw k h ]) (rw e at t) in
           (u.0, omega (arith, u.1), u.2, u.3))
     ]
 
-tells : (k : Bool) (l v : ℕ) → (k && (l == v)) ≡ true → (k ≡ true) × (l ≡ v)
-tells k l v t = (grind (arith, nat_tests), grind (arith, nat_tests))
-
-from : (k : Bool) (l v : ℕ) → k ≡ true → l ≡ v → (k && (l == v)) ≡ true
-from k l v p e = grind (arith, nat_tests)
-
-clash : (b : Bool) → b ≡ true → b ≡ false → ⊥
-clash b p q = cc
-
-earlier_place : (w a b x y : ℕ) → a < w → IsEarlier a b x y → b * w + a < y * w + x
+pub earlier_place : (w a b x y : ℕ) → a < w → IsEarlier a b x y → b * w + a < y * w + x
 earlier_place w a b x y l (inl k) =
     let m : suc b * w ≤ y * w = mul-le (suc b) w y w (omega arith) (omega arith) in
     omega (arith, m)
@@ -44,20 +31,17 @@ earlier_place w a b x y l (inr k) = let e : b * w ≡ y * w = ap (λ (n : ℕ). 
 order : (a b x y : ℕ) → IsEarlier a b x y ⊎ (IsEarlier x y a b ⊎ ((a ≡ x) × (b ≡ y)))
 order a b x y = grind arith
 
-either : (m n : ℕ) → (m < n) ⊎ ((m ≡ n) ⊎ (n < m))
-either m n = grind arith
-
 module _ (r : Raster) (mask : Field Bool) (labels : Field ℕ) (count : ℕ) (is : AreRegions r mask labels count) where
   -- the first pixel of a pixel's region
   pub first_of : (x y : ℕ) → IsOpenPixel r mask x y → (a : ℕ) × (b : ℕ) × IsFirst r mask a b × (labels a b ≡ labels x y)
   first_of x y o =
       let w = r.width in
       let P : ℕ → Bool = λ k. mask (k % w) (k / w) && (labels (k % w) (k / w) == labels x y) in
-      let here : P (y * w + x) ≡ true = rw (mod-mul-add y w x o.0, div-mul-add y w x o.0) (from (mask x y) (labels x y) (labels x y) o.2 refl) in
+      let here : P (y * w + x) ≡ true = rw (mod-mul-add y w x o.0, div-mul-add y w x o.0) (both_told (mask x y) (labels x y) (labels x y) o.2 refl) in
       let e : 0 + (y * w + x) ≡ y * w + x = omega arith in
       let f = first_from P (y * w + x) 0 (λ j l. absurd (omega arith)) (rw e here) in
       let p : 0 < w = omega (arith, o.0) in
-      let t = tells (mask (f.0 % w) (f.0 / w)) (labels (f.0 % w) (f.0 / w)) (labels x y) f.2 in
+      let t = tells_both (mask (f.0 % w) (f.0 / w)) (labels (f.0 % w) (f.0 / w)) (labels x y) f.2 in
       let bound : y * w + x < r.height * w = within w r.height x y o.0 o.1 in
       let inside : IsOpenPixel r mask (f.0 % w) (f.0 / w) = (mod_below f.0 w p, div_below f.0 w r.height p (omega (arith, f.1, bound)), t.0) in (
         f.0 % w,
@@ -69,7 +53,7 @@ module _ (r : Raster) (mask : Field Bool) (labels : Field ℕ) (count : ℕ) (is
               let same : labels a b ≡ labels x y = omega (arith, one, t.1) in
               let before : b * w + a < f.0 / w * w + f.0 % w = earlier_place w a b (f.0 % w) (f.0 / w) q.0 l in
               let none = f.3 (b * w + a) (omega (arith, before, div-add-mod' f.0 w)) in
-              clash (mask a b && (labels a b == labels x y)) (from (mask a b) (labels a b) (labels x y) q.2 same) (rw (mod-mul-add b w a q.0, div-mul-add b w a q.0) at none)),
+              true_and_false (mask a b && (labels a b == labels x y)) (both_told (mask a b) (labels a b) (labels x y) q.2 same) (rw (mod-mul-add b w a q.0, div-mul-add b w a q.0) at none)),
         ),
         t.1,
       )
@@ -80,7 +64,7 @@ module _ (r : Raster) (mask : Field Bool) (labels : Field ℕ) (count : ℕ) (is
 -- one step: numbers below n agree, so number n of the first is number n of the second
 module _ (r : Raster) (mask : Field Bool) (L : Field ℕ) (c : ℕ) (M : Field ℕ) (d : ℕ) (isL : AreRegions r mask L c) (isM : AreRegions r mask M d) where
   step : (n : ℕ) → ((u : ℕ) → u < n → (x y : ℕ) → IsOpenPixel r mask x y → L x y ≡ u → M x y ≡ u) → ((u : ℕ) → u < n → (x y : ℕ) → IsOpenPixel r mask x y → M x y ≡ u → L x y ≡ u) → (x y : ℕ) → IsOpenPixel r mask x y → L x y ≡ n → M x y ≡ n
-  step n left right x y o e = elim (either (M x y) n) [
+  step n left right x y o e = elim (below_at_above (M x y) n) [
     | inl less ↦ absurd (omega (arith, less, e, right (M x y) less x y o refl))
     | inr rest ↦ elim rest [
       | inl same ↦ same
@@ -91,7 +75,7 @@ module _ (r : Raster) (mask : Field Bool) (L : Field ℕ) (c : ℕ) (M : Field �
       too_high : n < M x y → ⊥
       too_high more =
           let q = isM.labelling.used n (omega (arith, more, isM.labelling.below x y o)) in
-          elim (either (L q.0 q.1) n) [
+          elim (below_at_above (L q.0 q.1) n) [
             | inl less ↦ omega (arith, less, q.3, left (L q.0 q.1) less q.0 q.1 q.2 refl)
             | inr rest ↦ elim rest [
               | inl same ↦ (
@@ -127,11 +111,11 @@ module _ (r : Raster) (mask : Field Bool) (L : Field ℕ) (c : ℕ) (M : Field �
   agree zero = (λ u l. absurd (omega arith), λ u l. absurd (omega arith))
   agree (suc n) =
       let a = agree n in (
-        λ u l x y o e. elim (below_next u n (omega arith)) [
+        λ u l x y o e. elim (below_or_last u n (omega arith)) [
           | inl k ↦ a.0 u k x y o e
           | inr k ↦ (rw k (step r mask L c M d isL isM n a.0 a.1 x y o (e ∙ k)))
         ],
-        λ u l x y o e. elim (below_next u n (omega arith)) [
+        λ u l x y o e. elim (below_or_last u n (omega arith)) [
           | inl k ↦ a.1 u k x y o e
           | inr k ↦ (rw k (step r mask M d L c isM isL n a.1 a.0 x y o (e ∙ k)))
         ],

@@ -9,6 +9,7 @@ use Rattle.raster_model.specs.Sums.{Field}
 use Rattle.raster_model.specs.Raster.{Raster}
 use Rattle.raster_model.specs.Seams.{AreJoined, IsOpenPixel, IsLabelling}
 use Rattle.raster_model.specs.Seams.AreJoined.{here, rightward, leftward, downward, upward}
+use Rattle.sums_and_lists.proofs.Orders.{below_or_at}
 
 -- ---- to be joined is an equivalence
 pub joined_trans : {r : Raster} {mask : Field Bool} {x y a b c d : ℕ} → AreJoined r mask x y a b → AreJoined r mask a b c d → AreJoined r mask x y c d
@@ -52,9 +53,6 @@ given_old : (n v : ℕ) (label : ℕ → ℕ) (i : ℕ) → i < n → given n v 
 unfolding given
 given_old n v label i l = grind (arith, nat_tests)
 
-last_or : (i n : ℕ) → i < suc n → (i < n) ⊎ (i ≡ n)
-last_or i n l = grind arith
-
 module _ (clear : ℕ → Bool) (R : ℕ → ℕ → Type 0) (R_refl : (i : ℕ) → R i i) (R_sym : (i j : ℕ) → R i j → R j i) (R_trans : (i j k : ℕ) → R i j → R j k → R i k) where
   none : Numbering clear R 0
   none = record {
@@ -76,7 +74,7 @@ module _ (clear : ℕ → Bool) (R : ℕ → ℕ → Type 0) (R_refl : (i : ℕ)
   }
     where
       earlier : (i : ℕ) → i < suc n → IsTrue (clear i) → i < n
-      earlier i l o = elim (last_or i n l) [ inl k ↦ k | inr k ↦ absurd (clash i k o) ]
+      earlier i l o = elim (below_or_at i n l) [ inl k ↦ k | inr k ↦ absurd (clash i k o) ]
         where
           clash : (i : ℕ) → i ≡ n → IsTrue (clear i) → ⊥
           clash i k o = let o' = rw k at o in cc
@@ -86,7 +84,7 @@ module _ (clear : ℕ → Bool) (R : ℕ → ℕ → Type 0) (R_refl : (i : ℕ)
   extend n N v c o l m split new = record {
     label = given n v N.label;
     count = c;
-    below = λ i k p. elim (last_or i n k) [
+    below = λ i k p. elim (below_or_at i n k) [
       | inl q ↦ rw (given_old n v N.label i q) (omega (arith, N.below i q p))
       | inr q ↦ rw (q, given_new n v N.label) l
     ];
@@ -94,12 +92,12 @@ module _ (clear : ℕ → Bool) (R : ℕ → ℕ → Type 0) (R_refl : (i : ℕ)
       | inl q ↦ (let u = N.used w q in (u.0, omega (arith, u.1), u.2, given_old n v N.label u.0 u.1 ∙ u.3))
       | inr q ↦ (n, omega arith, o, given_new n v N.label ∙ sym q)
     ];
-    same = λ i j k k' p p'. elim (last_or i n k) [
-      | inl q ↦ elim (last_or j n k') [
+    same = λ i j k k' p p'. elim (below_or_at i n k) [
+      | inl q ↦ elim (below_or_at j n k') [
         | inl q' ↦ rw (given_old n v N.label i q, given_old n v N.label j q') (N.same i j q q' p p')
         | inr q' ↦ rw (q', given_old n v N.label i q, given_new n v N.label) (λ e. R_sym n i ((new i q p).0 (sym e)), λ t. sym ((new i q p).1 (R_sym i n t)))
       ]
-      | inr q ↦ elim (last_or j n k') [
+      | inr q ↦ elim (below_or_at j n k') [
         | inl q' ↦ rw (q, given_old n v N.label j q', given_new n v N.label) (new j q' p')
         | inr q' ↦ rw (q, q') (λ e. R_refl n, λ t. refl)
       ]

@@ -4,19 +4,23 @@ use Rattle.std.specs.Prelude.{ℤ, pos, ◌+ℤ◌, ◌-ℤ◌, ◌*ℤ◌, ◌�
 use Rattle.std.proofs.lemmas.Int.{ints}
 use Rattle.std.proofs.lemmas.Bool.Decides.{nat_tests}
 use Rattle.raster_model.specs.declared.edge.Edge.{Edge}
-use Rattle.raster_model.specs.Sums.{Field, at_start, at_end, is_edge, sum_below, sum_edges, right_edge, down_edge, where_true}
+use Rattle.raster_model.specs.Sums.{Field, at_start, at_end, is_edge, sum_edges, right_edge, down_edge}
 use Rattle.raster_model.specs.Phase.{wrapped, turns}
 use Rattle.raster_model.specs.Raster.{Raster, IsCongruent, departure, has_open_ends, is_seam, edge_cost, seam_cost}
 use Rattle.raster_model.specs.Seams.{AreJoined, IsOpenPixel, AreOffsets, IsRegion, shifted, flow_in, flow_out, flow_total, IsSeamCertificate, IsLabelling, IsLeastAtSeams}
 use Rattle.raster_model.specs.Seams.AreJoined.{here, rightward, leftward, downward, upward}
 use Rattle.raster_model.proofs.Regions.{labelling, sure_le}
-use Rattle.raster_model.proofs.Ring.{products, mul_comm, product_at_most}
 use Rattle.raster_model.specs.Best.{CertifiedIsBest}
 use Rattle.raster_model.specs.Cells.{face_at}
 use Rattle.raster_model.specs.Flows.{flow_at}
 use Rattle.raster_model.proofs.PhaseLemmas.{div_exact, turns_exact}
-use Rattle.raster_model.proofs.SumLemmas.{sum_below-same, sum_below-zeros, sum_below-pick, sum_edges-same, sum_edges-le, sum_edges-add, sum_edges-below, sum_edges-scale, on_each_edge, no_number, is_lt, where_true-scale, where_true-zero, right_is_edge, down_is_edge}
-use Rattle.raster_model.proofs.TileLeast.{least_in_tile, cycles_of, cycles_exact, both_left, both_right}
+use Rattle.raster_model.proofs.SumLemmas.{sum_edges-same, sum_edges-le, sum_edges-add, sum_edges-below, sum_edges-scale, on_each_edge, right_is_edge, down_is_edge}
+use Rattle.raster_model.proofs.TileLeast.{least_in_tile, cycles_of, cycles_exact}
+use Rattle.sums_and_lists.specs.Sums.{sum_below, where_true}
+use Rattle.sums_and_lists.proofs.Products.{products, mul_comm, product_at_most}
+use Rattle.sums_and_lists.proofs.SumLemmas.{sum_below-same, sum_below-zeros, sum_below-pick, no_number, where_true-scale, where_true-zero}
+use Rattle.sums_and_lists.proofs.Orders.{is_lt}
+use Rattle.sums_and_lists.proofs.Tests.{and_first, and_second}
 
 -- an offset is one number on each region
 pub offset_along : (r : Raster) (mask : Field Bool) (o : Field ℤ) → AreOffsets r mask o → {x y a b : ℕ} → AreJoined r mask x y a b → o x y ≡ o a b
@@ -174,13 +178,13 @@ module _ (r : Raster) (mask : Field Bool) (labels : Field ℕ) (count : ℕ) (la
     step_right x y l m n =
         edge_step (is_seam r (right_edge x y)) (has_open_ends mask (right_edge x y)) (F (right_edge x y)) (departure r S (right_edge x y)) (departure r (shifted S o) (right_edge x y)) (o x y) (o (x + 1) y) (r.weight (right_edge x y))
         (cert.bounded (right_edge x y) (right_is_edge r.width r.height x y l m n))
-        (λ k. departure_moved (r.phase x y) (r.phase (x + 1) y) (S x y) (S (x + 1) y) (cycles_of r S x y) (cycles_of r S (x + 1) y) (o x y) (o (x + 1) y) (cycles_exact r mask S good x y l m (both_left (mask x y) (mask (x + 1) y) k)) (cycles_exact r mask S good (x + 1) y n m (both_right (mask x y) (mask (x + 1) y) k)))
+        (λ k. departure_moved (r.phase x y) (r.phase (x + 1) y) (S x y) (S (x + 1) y) (cycles_of r S x y) (cycles_of r S (x + 1) y) (o x y) (o (x + 1) y) (cycles_exact r mask S good x y l m (and_first (mask x y) (mask (x + 1) y) k)) (cycles_exact r mask S good (x + 1) y n m (and_second (mask x y) (mask (x + 1) y) k)))
 
     step_down : (x y : ℕ) → x < r.width → y < r.height → y + 1 < r.height → (where_true (is_seam r (down_edge x y) && has_open_ends mask (down_edge x y)) (F (down_edge x y) *ℤ departure r S (down_edge x y)) +ℤ where_true (is_seam r (down_edge x y)) (F (down_edge x y) *ℤ at_end o (down_edge x y))) ≤ℤ (where_true (is_seam r (down_edge x y)) (edge_cost r mask (shifted S o) (down_edge x y)) +ℤ where_true (is_seam r (down_edge x y)) (F (down_edge x y) *ℤ at_start o (down_edge x y)))
     step_down x y l m n =
         edge_step (is_seam r (down_edge x y)) (has_open_ends mask (down_edge x y)) (F (down_edge x y)) (departure r S (down_edge x y)) (departure r (shifted S o) (down_edge x y)) (o x y) (o x (y + 1)) (r.weight (down_edge x y))
         (cert.bounded (down_edge x y) (down_is_edge r.width r.height x y l m n))
-        (λ k. departure_moved (r.phase x y) (r.phase x (y + 1)) (S x y) (S x (y + 1)) (cycles_of r S x y) (cycles_of r S x (y + 1)) (o x y) (o x (y + 1)) (cycles_exact r mask S good x y l m (both_left (mask x y) (mask x (y + 1)) k)) (cycles_exact r mask S good x (y + 1) l n (both_right (mask x y) (mask x (y + 1)) k)))
+        (λ k. departure_moved (r.phase x y) (r.phase x (y + 1)) (S x y) (S x (y + 1)) (cycles_of r S x y) (cycles_of r S x (y + 1)) (o x y) (o x (y + 1)) (cycles_exact r mask S good x y l m (and_first (mask x y) (mask x (y + 1)) k)) (cycles_exact r mask S good x (y + 1) l n (and_second (mask x y) (mask x (y + 1)) k)))
 
     least : seam_cost r mask S ≤ℤ seam_cost r mask (shifted S o)
     unfolding seam_cost flow_total

@@ -4,13 +4,14 @@ use Rattle.std.specs.Prelude.{IsTrue, nat_lt, ◌&&◌, if◌then◌else◌, fil
 use Rattle.std.proofs.lemmas.List.Elements.{filter-append}
 use Rattle.std.proofs.lemmas.Bool.Decides.{nat_tests}
 use Rattle.raster_model.specs.declared.edge.Edge.{Edge}
-use Rattle.raster_model.specs.Sums.{right_edge, down_edge, one_if, count_below}
+use Rattle.raster_model.specs.Sums.{right_edge, down_edge}
 use Rattle.raster_model.specs.Raster.{Raster, is_seam}
 use Rattle.raster_model.specs.Flows.{is_seam_edge, seams_from, seams_in_row, seams_before, seam_count, seam_place}
 use Rattle.raster_model.specs.EdgeList.{edges_at, edges_in_row, edges_in_rows}
 use Rattle.raster_model.specs.Order.{seam_list, FlowsFollowEdgeOrder}
-use Rattle.raster_model.proofs.CountLemmas.{count_below-none}
 use Rattle.raster_model.proofs.FlowLemmas.{place-right, place-down}
+use Rattle.sums_and_lists.specs.Sums.{one_if, count_below}
+use Rattle.sums_and_lists.proofs.CountLemmas.{count_below-none}
 
 -- an element between two lists
 between : {A : Type 0} (xs : List A) (a : A) (ys : List A) (n : ℕ) → n ≡ length xs → slice_get (xs ++ (a ∷ ys)) n ≡ Some a

@@ -4,14 +4,15 @@ use Rattle.std.specs.Prelude.{ℤ, pos, ◌==◌, ◌&&◌, nat_lt}
 use Rattle.std.proofs.lemmas.Bool.Decides.{nat_tests}
 use Rattle.raster_model.specs.declared.scene.Scene.{Scene}
 use Rattle.raster_model.specs.declared.tiling.Window.{Window}
-use Rattle.raster_model.specs.Sums.{Field, count_below, one_if}
+use Rattle.raster_model.specs.Sums.{Field}
 use Rattle.raster_model.specs.Cells.{cells_in_row, cells_before, cell_count}
 use Rattle.raster_model.specs.Order.{IsCellAt, CellsFollowTheWindow}
-use Rattle.raster_model.proofs.CountLemmas.{count_below-none, count_below-zeros, count_between, count_all}
 use Rattle.raster_model.specs.Certificates.{is_cell, faces_of_tile}
 use Rattle.raster_model.specs.Tiles.{tile_at, IsWithin, IsWindowOf}
 use Rattle.raster_model.specs.Scene.{raster_of}
-use Rattle.raster_model.proofs.SumLemmas.{no_number, picked}
+use Rattle.sums_and_lists.specs.Sums.{count_below, one_if}
+use Rattle.sums_and_lists.proofs.CountLemmas.{count_below-none, count_below-zeros, count_between, count_all}
+use Rattle.sums_and_lists.proofs.SumLemmas.{no_number, picked}
 
 all_true : (w h x y t a b c d : ℕ) → x + 1 < w → y + 1 < h → a ≡ t → b ≡ t → c ≡ t → d ≡ t → (nat_lt (x + 1) w && nat_lt (y + 1) h && (a == t) && (b == t) && (c == t) && (d == t)) ≡ true
 all_true w h x y t a b c d p q e f i j = grind (arith, nat_tests)

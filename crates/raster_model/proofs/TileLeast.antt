@@ -4,14 +4,18 @@ use Rattle.std.specs.Prelude.{ℤ, pos, ◌+ℤ◌, ◌-ℤ◌, ◌*ℤ◌, ◌�
 use Rattle.std.proofs.lemmas.Int.{ints}
 use Rattle.std.proofs.lemmas.Bool.Decides.{nat_tests}
 use Rattle.raster_model.specs.declared.edge.Edge.{Edge}
-use Rattle.raster_model.specs.Sums.{Field, at_start, at_end, is_edge, right_edge, down_edge, where_true}
+use Rattle.raster_model.specs.Sums.{Field, at_start, at_end, is_edge, right_edge, down_edge}
 use Rattle.raster_model.specs.Raster.{Raster, IsCongruent, gradient, round_cell, residue, departure, cycle_departure, has_open_ends, is_inner, edge_cost, tile_cost}
 use Rattle.raster_model.specs.Certificates.{above, left, face_difference, is_cell, faces_of_tile, face_product, face_total, IsTileCertificate, IsLeastInTile}
 use Rattle.raster_model.specs.Best.{CertifiedTilesAreLeast}
 use Rattle.raster_model.proofs.PhaseLemmas.{div_exact, turns_exact}
-use Rattle.raster_model.proofs.Ring.{product_at_most}
-use Rattle.raster_model.proofs.SumLemmas.{sum_grid-same, sum_edges-le, right_is_edge, down_is_edge, on_each_edge, no_number}
+use Rattle.raster_model.proofs.SumLemmas.{sum_grid-same, sum_edges-le, right_is_edge, down_is_edge, on_each_edge}
 use Rattle.raster_model.proofs.Planar.{planar}
+use Rattle.std.proofs.lemmas.Bool.{and_from}
+use Rattle.sums_and_lists.proofs.Tests.{and_first, and_second}
+use Rattle.sums_and_lists.specs.Sums.{where_true}
+use Rattle.sums_and_lists.proofs.Products.{product_at_most}
+use Rattle.sums_and_lists.proofs.SumLemmas.{no_number}
 
 -- whole cycles of a surface above the phase, rounded where it is not congruent
 abbrev pub cycles_of : Raster → Field ℤ → Field ℤ
@@ -40,15 +44,6 @@ departure_is r S e p q =
     let t = turns_exact (at_start r.phase e) (at_end r.phase e) in
     let d : at_end S e -ℤ at_start S e -ℤ gradient r e ≡ pos 65536 *ℤ cycle_departure r (cycles_of r S) e = omega (arith, ints, p, q, t) in
     ap (λ (z : ℤ). int_div z (pos 65536)) d ∙ div_exact (cycle_departure r (cycles_of r S) e)
-
-pub both_left : (a b : Bool) → (a && b) ≡ true → a ≡ true
-both_left a b h = grind arith
-
-both : (a b : Bool) → a ≡ true → b ≡ true → (a && b) ≡ true
-both a b p q = rw (p, q)
-
-pub both_right : (a b : Bool) → (a && b) ≡ true → b ≡ true
-both_right a b h = grind arith
 
 -- ---- one edge
 bound : (inner clear : Bool) (k k' d : ℤ) (w : ℕ) → (inner ≡ true → unsigned_abs d ≤ (if clear then w else 0)) → (inner ≡ false → d ≡ pos 0) → (clear ≡ true → k' ≡ k) → (k *ℤ d) ≤ℤ where_true inner (where_true clear (pos ((if clear then w else 0) * unsigned_abs k')))
@@ -110,16 +105,16 @@ module _ (r : Raster) (t : ℕ) (f : Field ℤ) where
     right_part : (x y : ℕ) → x < r.width → y < r.height → x + 1 < r.width → (cycle_departure r (cycles_of r S) (right_edge x y) *ℤ face_difference (faces_of_tile r t f) (right_edge x y)) ≤ℤ where_true (is_inner r t (right_edge x y)) (edge_cost r mask S (right_edge x y))
     right_part x y l m n =
         bound (is_inner r t (right_edge x y)) (has_open_ends mask (right_edge x y)) (cycle_departure r (cycles_of r S) (right_edge x y)) (departure r S (right_edge x y)) (face_difference (faces_of_tile r t f) (right_edge x y)) (r.weight (right_edge x y))
-        (λ i. cert.fits (right_edge x y) (both (is_edge r.width r.height (right_edge x y)) (is_inner r t (right_edge x y)) (right_is_edge r.width r.height x y l m n) i))
+        (λ i. cert.fits (right_edge x y) (and_from (is_edge r.width r.height (right_edge x y)) (is_inner r t (right_edge x y)) (right_is_edge r.width r.height x y l m n) i))
         (λ h. rw (above_right x y h, below_right x y h))
-        (λ o. departure_is r S (right_edge x y) (cycles_exact r mask S good x y l m (both_left (mask x y) (mask (x + 1) y) o)) (cycles_exact r mask S good (x + 1) y n m (both_right (mask x y) (mask (x + 1) y) o)))
+        (λ o. departure_is r S (right_edge x y) (cycles_exact r mask S good x y l m (and_first (mask x y) (mask (x + 1) y) o)) (cycles_exact r mask S good (x + 1) y n m (and_second (mask x y) (mask (x + 1) y) o)))
 
     down_part : (x y : ℕ) → x < r.width → y < r.height → y + 1 < r.height → (cycle_departure r (cycles_of r S) (down_edge x y) *ℤ face_difference (faces_of_tile r t f) (down_edge x y)) ≤ℤ where_true (is_inner r t (down_edge x y)) (edge_cost r mask S (down_edge x y))
     down_part x y l m n =
         bound (is_inner r t (down_edge x y)) (has_open_ends mask (down_edge x y)) (cycle_departure r (cycles_of r S) (down_edge x y)) (departure r S (down_edge x y)) (face_difference (faces_of_tile r t f) (down_edge x y)) (r.weight (down_edge x y))
-        (λ i. cert.fits (down_edge x y) (both (is_edge r.width r.height (down_edge x y)) (is_inner r t (down_edge x y)) (down_is_edge r.width r.height x y l m n) i))
+        (λ i. cert.fits (down_edge x y) (and_from (is_edge r.width r.height (down_edge x y)) (is_inner r t (down_edge x y)) (down_is_edge r.width r.height x y l m n) i))
         (λ h. rw (right_of_down x y h, left_of_down x y h))
-        (λ o. departure_is r S (down_edge x y) (cycles_exact r mask S good x y l m (both_left (mask x y) (mask x (y + 1)) o)) (cycles_exact r mask S good x (y + 1) l n (both_right (mask x y) (mask x (y + 1)) o)))
+        (λ o. departure_is r S (down_edge x y) (cycles_exact r mask S good x y l m (and_first (mask x y) (mask x (y + 1)) o)) (cycles_exact r mask S good x (y + 1) l n (and_second (mask x y) (mask x (y + 1)) o)))
 
     bounded : face_total r t f ≤ℤ tile_cost r mask t S
     unfolding tile_cost face_total face_product

@@ -5,8 +5,10 @@ use Rattle.std.proofs.lemmas.Int.{ints}
 use Rattle.raster_model.specs.declared.edge.Edge.{Edge}
 use Rattle.raster_model.specs.Best.{BestIsWithinItsSeamCost, IsBest, NoneCostsLessThanTheTiles, tiles_cost}
 use Rattle.raster_model.specs.Raster.{Raster, IsCongruent, departure, has_open_ends, is_seam, masked_weight, seam_cost, seam_edge_cost, tile_cost}
-use Rattle.raster_model.specs.Sums.{Field, sum_edges, where_true}
-use Rattle.raster_model.proofs.SumLemmas.{sum_below-le, sum_edges-le, sum_edges-zeros}
+use Rattle.raster_model.specs.Sums.{Field, sum_edges}
+use Rattle.raster_model.proofs.SumLemmas.{sum_edges-le, sum_edges-zeros}
+use Rattle.sums_and_lists.specs.Sums.{where_true}
+use Rattle.sums_and_lists.proofs.SumLemmas.{sum_below-le}
 
 -- no edge adds less than nothing
 part_least : (seam ends : Bool) (n : ℕ) → pos 0 ≤ℤ where_true seam (where_true ends (pos n))

@@ -5,11 +5,12 @@ use Rattle.std.proofs.lemmas.Int.{ints}
 use Rattle.std.proofs.lemmas.Bool.Decides.{nat_tests}
 use Rattle.raster_model.specs.declared.scene.Scene.{Scene}
 use Rattle.raster_model.specs.declared.tiling.Window.{Window}
-use Rattle.raster_model.specs.Sums.{Field, right_edge, down_edge, where_true, sum_below, sum_row, sum_grid}
+use Rattle.raster_model.specs.Sums.{Field, right_edge, down_edge, sum_row, sum_grid}
 use Rattle.raster_model.specs.Raster.{edge_cost, cost_from, tile_cost}
 use Rattle.raster_model.specs.Tiles.{tile_at, IsWithin, IsWindowOf}
 use Rattle.raster_model.specs.Scene.{raster_of}
-use Rattle.raster_model.proofs.SumLemmas.{sum_below-more, sum_below-zeros, sum_below-upto}
+use Rattle.sums_and_lists.specs.Sums.{where_true, sum_below}
+use Rattle.sums_and_lists.proofs.SumLemmas.{sum_below-more, sum_below-zeros, sum_below-upto}
 
 -- ---- which edges of a tile start at a pixel
 pub edge_in_tile : (W x x₁ t u v : ℕ) (z : ℤ) → u ≡ t → x₁ < W → (x < x₁ → v ≡ t) → (x + 1 < W → v ≡ t → x < x₁) → where_true (nat_lt (x + 1) W) (where_true ((u == t) && (v == t)) z) ≡ where_true (nat_lt x x₁) z

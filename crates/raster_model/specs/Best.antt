@@ -1,12 +1,13 @@
 -- What is least, in each tile among all congruent surfaces and at the seams under all offsets of the regions, and what certifies it.
 use Rattle.std.specs.Prelude.{◌≡◌, ℕ, ◌<◌, ℤ, pos, ◌+ℤ◌, ◌≤ℤ◌, Bool, IsTrue, List}
 use Rattle.raster_model.specs.declared.edge.Edge.{Edge}
-use Rattle.raster_model.specs.Sums.{Field, is_edge, sum_below}
+use Rattle.raster_model.specs.Sums.{Field, is_edge}
 use Rattle.raster_model.specs.Raster.{Raster, IsCongruent, departure, has_open_ends, seam_cost, tile_cost}
 use Rattle.raster_model.specs.Certificates.{IsLeastInTile, IsTileCertificate}
 use Rattle.raster_model.specs.Seams.{IsLeastAtSeams, IsSeamCertificate}
 use Rattle.raster_model.specs.Cells.{IsCertifiedTile}
 use Rattle.raster_model.specs.Flows.{AreCertifiedSeams}
+use Rattle.sums_and_lists.specs.Sums.{sum_below}
 
 -- a congruent surface that is least in each tile and at the seams
 pub record IsBest (r : Raster) (mask : Field Bool) (S : Field ℤ) : Type 0 where

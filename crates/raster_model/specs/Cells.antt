@@ -1,8 +1,9 @@
 -- Faces as a list: one number for each cell of the tile, in row order.
 use Rattle.std.specs.Prelude.{◌≡◌, ℕ, ◌+◌, ℤ, pos, List, length, slice_index_or, Bool}
-use Rattle.raster_model.specs.Sums.{Field, count_below, one_if}
+use Rattle.raster_model.specs.Sums.{Field}
 use Rattle.raster_model.specs.Raster.{Raster}
 use Rattle.raster_model.specs.Certificates.{is_cell, IsTileCertificate}
+use Rattle.sums_and_lists.specs.Sums.{count_below, one_if}
 
 -- how many cells of tile t there are among the first x of row y, and before (x, y) in row order
 abbrev pub cells_in_row : Raster → ℕ → Field ℕ

@@ -1,8 +1,9 @@
 -- What certifies a tile: faces that are dual feasible in Costantini's linear program, with equality.
 use Rattle.std.specs.Prelude.{◌≡◌, ℕ, zero, suc, ◌+◌, ◌≤◌, ℤ, pos, ◌-ℤ◌, ◌*ℤ◌, ◌≤ℤ◌, Bool, ◌&&◌, ◌==◌, IsTrue, if◌then◌else◌, nat_lt, unsigned_abs}
 use Rattle.raster_model.specs.declared.edge.Edge.{Edge}
-use Rattle.raster_model.specs.Sums.{Field, is_edge, sum_grid, where_true}
+use Rattle.raster_model.specs.Sums.{Field, is_edge, sum_grid}
 use Rattle.raster_model.specs.Raster.{Raster, IsCongruent, residue, masked_weight, is_inner, tile_cost}
+use Rattle.sums_and_lists.specs.Sums.{where_true}
 
 -- what stands before a place, and 0 before the first
 abbrev pub before : (ℕ → ℤ) → ℕ → ℤ

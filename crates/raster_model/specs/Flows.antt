@@ -1,9 +1,10 @@
 -- Flows as a list: one number for each seam edge, in edge order.
 use Rattle.std.specs.Prelude.{◌≡◌, ℕ, ◌+◌, ℤ, pos, List, length, slice_index_or, Bool, ◌&&◌, if◌then◌else◌}
 use Rattle.raster_model.specs.declared.edge.Edge.{Edge}
-use Rattle.raster_model.specs.Sums.{Field, is_edge, right_edge, down_edge, count_below, one_if}
+use Rattle.raster_model.specs.Sums.{Field, is_edge, right_edge, down_edge}
 use Rattle.raster_model.specs.Raster.{Raster, is_seam}
 use Rattle.raster_model.specs.Seams.{IsSeamCertificate}
+use Rattle.sums_and_lists.specs.Sums.{count_below, one_if}
 
 abbrev pub is_seam_edge : Raster → Edge → Bool
 is_seam_edge r e = is_edge r.width r.height e && is_seam r e

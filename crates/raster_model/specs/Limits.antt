@@ -1,6 +1,35 @@
--- The sizes that a raster may have.
-use Rattle.std.specs.Prelude.{ℕ, ◌*◌, Bool, ◌&&◌, nat_le}
+-- The limits of rasters, tiles and sessions.
+use Rattle.std.specs.Prelude.{ℕ, ◌*◌, ◌≤◌, Bool, ◌&&◌, nat_le}
 
--- each side from 1 to 4096, and at most 4194304 pixels
+-- the most pixels along a side of a raster, and in all
+abbrev pub max_side : ℕ
+max_side = 4096
+
+abbrev pub max_pixels : ℕ
+max_pixels = 4194304
+
+-- the most commands of one analyst
+abbrev pub max_commands : ℕ
+max_commands = 4096
+
+-- the most that a session's settle commands times its pixels may be, and its change commands times its tiles
+abbrev pub max_settled_pixels : ℕ
+max_settled_pixels = 67108864
+
+abbrev pub max_changed_tiles : ℕ
+max_changed_tiles = 16777216
+
+-- the most bytes of a session's text, and of a report's
+abbrev pub max_session_bytes : ℕ
+max_session_bytes = 268435456
+
+abbrev pub max_report_bytes : ℕ
+max_report_bytes = 4294967296
+
+-- a raster may have w by h pixels
 abbrev pub is_raster_size : ℕ → ℕ → Bool
-is_raster_size w h = nat_le 1 w && nat_le w 4096 && nat_le 1 h && nat_le h 4096 && nat_le (w * h) 4194304
+is_raster_size w h = nat_le 1 w && nat_le w max_side && nat_le 1 h && nat_le h max_side && nat_le (w * h) max_pixels
+
+-- tiles may have this side
+abbrev pub IsTileSide : ℕ → Type 0
+IsTileSide side = (2 ≤ side) × (side ≤ 128)

@@ -6,9 +6,10 @@ use Rattle.raster_model.specs.declared.plain.Part.TheVariants.{Tile, Seams}
 use Rattle.raster_model.specs.declared.plane.Plane.{Plane}
 use Rattle.raster_model.specs.declared.weights.RuleKind.{RuleKind}
 use Rattle.raster_model.specs.Weights.{edge_weight}
-use Rattle.raster_model.specs.Sums.{Field, is_edge, right_edge, down_edge, edges_from, sum_edges, where_true}
+use Rattle.raster_model.specs.Sums.{Field, is_edge, right_edge, down_edge, edges_from, sum_edges}
 use Rattle.raster_model.specs.Raster.{Raster, is_inner, is_seam, edge_cost}
 use Rattle.raster_model.specs.Heights.{KnowsEnds}
+use Rattle.sums_and_lists.specs.Sums.{where_true}
 
 -- the edges whose costs are summed: the inner edges of a tile, or the seam edges
 abbrev pub in_part : Raster → Part → Edge → Bool

@@ -2,8 +2,9 @@
 -- A surface, a mask, a phase and tile numbers are functions of x and y; an edge is named by its first pixel and its direction.
 use Rattle.std.specs.Prelude.{◌≡◌, ℕ, ◌+◌, ◌*◌, ◌<◌, ℤ, pos, ◌+ℤ◌, ◌-ℤ◌, ◌*ℤ◌, Bool, ◌&&◌, ◌==◌, not, IsTrue, if◌then◌else◌, unsigned_abs, int_div}
 use Rattle.raster_model.specs.declared.edge.Edge.{Edge}
-use Rattle.raster_model.specs.Sums.{Field, at_start, at_end, edges_from, sum_edges, right_edge, down_edge, where_true}
+use Rattle.raster_model.specs.Sums.{Field, at_start, at_end, edges_from, sum_edges, right_edge, down_edge}
 use Rattle.raster_model.specs.Phase.{wrapped, turns}
+use Rattle.sums_and_lists.specs.Sums.{where_true}
 
 -- what the definitions read of a scene; the weight of an edge is that before any mask
 pub record Raster : Type 0 where

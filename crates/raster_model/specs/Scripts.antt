@@ -6,6 +6,7 @@ use Rattle.raster_model.specs.declared.script.Edit.{Edit}
 use Rattle.raster_model.specs.declared.script.Edit.TheVariants.{Mask, Unmask}
 use Rattle.raster_model.specs.declared.script.Rect.{Rect}
 use Rattle.raster_model.specs.declared.script.Script.{Script}
+use Rattle.raster_model.specs.Limits.{max_commands}
 
 -- how many settle commands and how many change commands all scripts have
 abbrev pub is_settle : Command → Bool
@@ -42,4 +43,4 @@ ScriptsFit w h scripts = (k : ℕ) (script : Script) → slice_get scripts k ≡
 
 -- no script has more than 4096 commands
 abbrev pub ScriptsAreShort : List Script → Type 0
-ScriptsAreShort scripts = (k : ℕ) (script : Script) → slice_get scripts k ≡ Some script → script.commands.len ≤ 4096
+ScriptsAreShort scripts = (k : ℕ) (script : Script) → slice_get scripts k ≡ Some script → script.commands.len ≤ max_commands

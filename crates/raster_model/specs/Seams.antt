@@ -1,8 +1,9 @@
 -- Regions, their offsets and what certifies the seams (Chen and Zebker 2002, tiles that do not overlap).
-use Rattle.std.specs.Prelude.{◌≡◌, ℕ, ◌+◌, ◌<◌, ◌≤◌, ℤ, pos, ◌+ℤ◌, ◌*ℤ◌, ◌≤ℤ◌, Bool, ◌&&◌, not, ◌↔◌, IsTrue, unsigned_abs, ◌⊎◌}
+use Rattle.std.specs.Prelude.{◌≡◌, ℕ, ◌+◌, ◌<◌, ◌≤◌, ℤ, pos, ◌+ℤ◌, ◌*ℤ◌, ◌≤ℤ◌, Bool, ◌&&◌, ◌==◌, not, ◌↔◌, IsTrue, unsigned_abs, ◌⊎◌}
 use Rattle.raster_model.specs.declared.edge.Edge.{Edge}
-use Rattle.raster_model.specs.Sums.{Field, at_start, at_end, is_edge, sum_edges, right_edge, down_edge, where_true}
+use Rattle.raster_model.specs.Sums.{Field, at_start, at_end, is_edge, sum_edges, right_edge, down_edge}
 use Rattle.raster_model.specs.Raster.{Raster, departure, has_open_ends, masked_weight, is_seam, seam_cost}
+use Rattle.sums_and_lists.specs.Sums.{where_true}
 
 abbrev pub IsOpenPixel : Raster → Field Bool → ℕ → ℕ → Type 0
 IsOpenPixel r mask x y = (x < r.width) × (y < r.height) × IsTrue (mask x y)
@@ -30,9 +31,17 @@ pub record IsRegion (r : Raster) (mask : Field Bool) (region : Field Bool) : Typ
 abbrev pub IsEarlier : ℕ → ℕ → ℕ → ℕ → Type 0
 IsEarlier a b x y = (b < y) ⊎ ((b ≡ y) × (a < x))
 
+-- (x, y) is the first open pixel in row order
+abbrev pub IsFirstOpen : Raster → Field Bool → ℕ → ℕ → Type 0
+IsFirstOpen r mask x y = IsOpenPixel r mask x y × ((a b : ℕ) → IsOpenPixel r mask a b → IsEarlier a b x y → ⊥)
+
 -- (x, y) is the first pixel of its region: an open pixel that is joined to no earlier one
 abbrev pub IsFirst : Raster → Field Bool → ℕ → ℕ → Type 0
 IsFirst r mask x y = IsOpenPixel r mask x y × ((a b : ℕ) → IsOpenPixel r mask a b → IsEarlier a b x y → AreJoined r mask x y a b → ⊥)
+
+-- the open pixels with number v: those of region v
+abbrev pub region_of : Field Bool → Field ℕ → ℕ → Field Bool
+region_of mask labels v x y = mask x y && (labels x y == v)
 
 -- labels tell the regions apart, and count them
 pub record IsLabelling (r : Raster) (mask : Field Bool) (labels : Field ℕ) (count : ℕ) : Type 0 where

@@ -1,11 +1,7 @@
--- Sums of whole numbers over the numbers below a bound, over a grid of pixels, and over the edges of a raster.
-use Rattle.std.specs.Prelude.{ℕ, zero, suc, ◌+◌, ℤ, pos, ◌+ℤ◌, nat_lt, Bool, ◌&&◌, if◌then◌else◌}
+-- Sums of whole numbers over a grid of pixels, and over the edges of a raster.
+use Rattle.std.specs.Prelude.{ℕ, ◌+◌, ℤ, ◌+ℤ◌, nat_lt, Bool, ◌&&◌, if◌then◌else◌}
+use Rattle.sums_and_lists.specs.Sums.{sum_below, where_true}
 use Rattle.raster_model.specs.declared.edge.Edge.{Edge}
-
--- f 0 + f 1 + .. + f (n - 1)
-unfoldable pub sum_below : ℕ → (ℕ → ℤ) → ℤ
-sum_below zero f = pos 0
-sum_below (suc n) f = sum_below n f +ℤ f n
 
 -- a value at each pixel: x from the left, y from the top
 abbrev pub Field : Type 0 → Type 0
@@ -46,10 +42,6 @@ right_edge x y = record { x = x; y = y; down = Bool.false }
 abbrev pub down_edge : ℕ → ℕ → Edge
 down_edge x y = record { x = x; y = y; down = Bool.true }
 
--- the number, where the test holds, and else 0
-abbrev pub where_true : Bool → ℤ → ℤ
-where_true b z = if b then z else pos 0
-
 -- what the edges that start at a pixel of a raster of w by h pixels add: its right edge, where it has one, and its down edge
 abbrev pub edges_from : ℕ → ℕ → (Edge → ℤ) → Field ℤ
 edges_from w h F x y = where_true (nat_lt (x + 1) w) (F (right_edge x y)) +ℤ where_true (nat_lt (y + 1) h) (F (down_edge x y))
@@ -57,11 +49,3 @@ edges_from w h F x y = where_true (nat_lt (x + 1) w) (F (right_edge x y)) +ℤ w
 -- the sum of F e over the edges e of that raster, in edge order
 abbrev pub sum_edges : ℕ → ℕ → (Edge → ℤ) → ℤ
 sum_edges w h F = sum_grid w h (edges_from w h F)
-
--- f 0 + f 1 + .. + f (n - 1), for natural numbers
-unfoldable pub count_below : ℕ → (ℕ → ℕ) → ℕ
-count_below zero f = 0
-count_below (suc n) f = count_below n f + f n
-
-abbrev pub one_if : Bool → ℕ
-one_if b = if b then 1 else 0

@@ -29,6 +29,17 @@ window_of g t =
 abbrev pub IsWithin : Window → ℕ → ℕ → Type 0
 IsWithin v x y = (v.x0 ≤ x) × (x ≤ v.x1) × (v.y0 ≤ y) × (y ≤ v.y1)
 
+-- how many pixels a row of the window has, and how many rows there are
+abbrev pub width_of : Window → ℕ
+width_of v = v.x1 - v.x0 + 1
+
+abbrev pub height_of : Window → ℕ
+height_of v = v.y1 - v.y0 + 1
+
+-- the place of a pixel in a list with one element for each pixel of the window, in row order
+abbrev pub place_in : Window → Field ℕ
+place_in v x y = (y - v.y0) * width_of v + (x - v.x0)
+
 -- the window lies in a raster of w by h pixels and has a pixel
 pub record IsWindowIn (w h : ℕ) (v : Window) : Type 0 where
   pub across : (v.x0 ≤ v.x1) × (v.x1 < w)

@@ -1,3 +1,5 @@
+ghost use Rattle.raster_model.specs.Limits.{max_side};
+
 /// The edge from the pixel (`x`, `y`) to its right neighbour, or to its lower one. Edges are ordered by the
 /// rows of their first pixels, and the right edge comes before the down edge.
 #[derive(Clone, Copy, Debug, PartialEq, Eq)]
@@ -14,7 +16,7 @@ impl Edge {
 
     /// The column of the edge's other end.
     pub fn end_x(self) -> u32
-        requires { self.x < 4096 }
+        requires { self.x < max_side }
         ensures { result ≡ end_column self }
     {
         if self.down { self.x } else { self.x + 1 }
@@ -22,7 +24,7 @@ impl Edge {
 
     /// The row of the edge's other end.
     pub fn end_y(self) -> u32
-        requires { self.y < 4096 }
+        requires { self.y < max_side }
         ensures { result ≡ end_row self }
     {
         if self.down { self.y + 1 } else { self.y }

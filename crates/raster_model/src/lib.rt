@@ -20,13 +20,12 @@ mod weights;
 pub use crate::edge::Edge;
 pub use crate::heights::Heights;
 pub use crate::limits::{
-    GREATEST_ANALYSTS, GREATEST_CHANGED_TILES, GREATEST_COMMANDS, GREATEST_PIXELS,
-    GREATEST_REPORT_BYTES, GREATEST_SESSION_BYTES, GREATEST_SETTLED_PIXELS, GREATEST_SIDE,
-    GREATEST_TILE_SIDE, GREATEST_WORKERS, LEAST_TILE_SIDE, USUAL_TILE_SIDE, USUAL_WORKERS,
-    is_raster_size,
+    DEFAULT_TILE_SIDE, DEFAULT_WORKERS, MAX_ANALYSTS, MAX_CHANGED_TILES, MAX_COMMANDS, MAX_PIXELS,
+    MAX_REPORT_BYTES, MAX_SESSION_BYTES, MAX_SETTLED_PIXELS, MAX_SIDE, MAX_TILE_SIDE, MAX_WORKERS,
+    MIN_TILE_SIDE, is_raster_size,
 };
 pub use crate::mask::Mask;
-pub use crate::measures::{departure, weight};
+pub use crate::measures::{departure, first_open, stored_weight, weight};
 pub use crate::phase::{turns, wrapped};
 pub use crate::plane::{Plane, PlaneShape};
 pub use crate::scene::Scene;

@@ -11,6 +11,7 @@ pub struct Mask {
 }
 
 impl Model for Mask {
+    ghost use Rattle.raster_model.specs.Limits.{max_pixels, max_side};
     ghost use Rattle.raster_model.specs.MaskView.{MaskView};
     ghost use Rattle.std.specs.Prelude.{◌≡◌, ◌*◌, ◌≤◌, vec_len};
 
@@ -18,7 +19,7 @@ impl Model for Mask {
 
     ghost view = { λ m. record { width = m.width; height = m.height; unmasked = m.unmasked.items } };
 
-    ghost invariant = { λ m. (1 ≤ m.width) × (m.width ≤ 4096) × (1 ≤ m.height) × (m.height ≤ 4096) × (m.width * m.height ≤ 4194304) × (vec_len m.unmasked ≡ m.width * m.height) };
+    ghost invariant = { λ m. (1 ≤ m.width) × (m.width ≤ max_side) × (1 ≤ m.height) × (m.height ≤ max_side) × (m.width * m.height ≤ max_pixels) × (vec_len m.unmasked ≡ m.width * m.height) };
 }
 
 impl Mask {
@@ -56,13 +57,15 @@ impl Mask {
     }
 
     /// A copy of its own.
-    pub fn try_copy(&self) -> Result<Mask, AllocError>
+    pub fn try_copy(&self, alloc: Global) -> Result<Mask, AllocError>
         ensures { IfOk result (λ mask. mask ≡ self.now) }
     {
+        let mut unmasked = Vec::with_capacity(alloc, self.unmasked.len())?;
+        unmasked.extend_from_slice(&self.unmasked)?;
         Ok(Mask {
             width: self.width,
             height: self.height,
-            unmasked: self.unmasked.clone()?,
+            unmasked,
         })
     }
 

@@ -1,9 +1,10 @@
 ghost use Rattle.raster_model.specs.Masks.{open_at};
 ghost use Rattle.raster_model.specs.Raster.{departure as departure_of, lifted, masked_weight};
 ghost use Rattle.raster_model.specs.Scene.{raster_of};
+ghost use Rattle.raster_model.specs.Seams.{IsFirstOpen, IsOpenPixel};
 ghost use Rattle.raster_model.specs.Sums.{at_end, at_start, is_edge};
 ghost use Rattle.raster_model.specs.Weights.{edge_weight};
-ghost use Rattle.std.specs.Prelude.{◌≡◌, ◌+◌, ◌≤◌, ◌^◌, IsTrue, unsigned_abs};
+ghost use Rattle.std.specs.Prelude.{◌≡◌, ◌+◌, ◌≤◌, ◌^◌, ℕ, IfNone, IfSome, IsTrue, unsigned_abs};
 
 use crate::edge::Edge;
 use crate::heights::Heights;
@@ -25,7 +26,7 @@ pub fn weight(scene: &Scene, mask: &Mask, edge: Edge) -> u16
 }
 
 /// The weight of an edge before any mask, as the scene holds it.
-fn stored_weight(scene: &Scene, edge: Edge) -> u16
+pub fn stored_weight(scene: &Scene, edge: Edge) -> u16
     requires { IsTrue (is_edge scene.now.phase.width scene.now.phase.height edge) }
     ensures { result ≡ edge_weight scene.now.rule scene.now.weights edge }
 {
@@ -52,4 +53,20 @@ pub fn departure<H: Heights>(scene: &Scene, heights: &H, edge: Edge) -> i64
     let from = scene.phase.sample(edge.x, edge.y);
     let to = scene.phase.sample(x, y);
     heights.cycles(x, y) - heights.cycles(edge.x, edge.y) + i64::from(turns(from, to))
+}
+
+/// The first open pixel in row order.
+pub fn first_open(scene: &Scene, mask: &Mask) -> Option<(u32, u32)>
+    requires same_size { (mask.now.width ≡ scene.now.phase.width) × (mask.now.height ≡ scene.now.phase.height) }
+    ensures found { IfSome result (λ pixel. IsFirstOpen (raster_of scene.now) (open_at mask.now) pixel.0 pixel.1) }
+    ensures none { IfNone result ((x y : ℕ) → IsOpenPixel (raster_of scene.now) (open_at mask.now) x y → ⊥) }
+{
+    for y in 0..scene.phase.height {
+        for x in 0..scene.phase.width {
+            if mask.is_open(x, y) {
+                return Some((x, y));
+            }
+        }
+    }
+    None
 }

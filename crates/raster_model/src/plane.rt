@@ -1,3 +1,4 @@
+ghost use Rattle.raster_model.specs.Limits.{max_pixels, max_side};
 ghost use Rattle.std.specs.Prelude.{
   ◌≡◌,
   ◌*◌,
@@ -26,9 +27,9 @@ pub struct Plane {
     pub maxval: u16,
     /// One for each pixel.
     pub samples: Vec<u16>,
-    pub ghost wide: { (1 ≤ width) × (width ≤ 4096) },
-    pub ghost high: { (1 ≤ height) × (height ≤ 4096) },
-    pub ghost few: { width * height ≤ 4194304 },
+    pub ghost wide: { (1 ≤ width) × (width ≤ max_side) },
+    pub ghost high: { (1 ≤ height) × (height ≤ max_side) },
+    pub ghost few: { width * height ≤ max_pixels },
     pub ghost valued: { 1 ≤ maxval },
     pub ghost full: { vec_len samples ≡ width * height },
     pub ghost below: { (k : ℕ) → slice_index samples.items k ≤ maxval },

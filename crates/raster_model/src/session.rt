@@ -1,3 +1,4 @@
+ghost use Rattle.raster_model.specs.Limits.{max_changed_tiles, max_settled_pixels};
 ghost use Rattle.raster_model.specs.Scripts.{ScriptsAreShort, ScriptsFit, changes_in, settles_in};
 ghost use Rattle.raster_model.specs.Tiles.{tiles_of};
 ghost use Rattle.std.specs.Prelude.{◌≡◌, ◌*◌, ◌≤◌, vec_len};
@@ -16,7 +17,7 @@ pub struct Session {
     pub ghost same_size: { (first_mask.width ≡ scene.phase.width) × (first_mask.height ≡ scene.phase.height) },
     pub ghost analysts: { (1 ≤ vec_len scripts) × (vec_len scripts ≤ 8) },
     pub ghost short: { ScriptsAreShort scripts.items },
-    pub ghost settles: { settles_in scripts.items * (scene.phase.width * scene.phase.height) ≤ 67108864 },
-    pub ghost changes: { changes_in scripts.items * tiles_of scene.tiling ≤ 16777216 },
+    pub ghost settles: { settles_in scripts.items * (scene.phase.width * scene.phase.height) ≤ max_settled_pixels },
+    pub ghost changes: { changes_in scripts.items * tiles_of scene.tiling ≤ max_changed_tiles },
     pub ghost inside: { ScriptsFit scene.phase.width scene.phase.height scripts.items },
 }

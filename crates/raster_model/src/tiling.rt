@@ -1,3 +1,4 @@
+ghost use Rattle.raster_model.specs.Limits.{IsTileSide, max_pixels, max_side};
 ghost use Rattle.std.specs.Prelude.{◌≡◌, ◌*◌, ◌≤◌};
 
 /// The square tiles of a raster, numbered from 0, row by row. The last tile of a row or a column may be
@@ -10,10 +11,10 @@ pub struct Tiling {
     pub height: u32,
     /// Pixels along a side of a tile.
     pub side: u32,
-    pub ghost wide: { (1 ≤ width) × (width ≤ 4096) },
-    pub ghost high: { (1 ≤ height) × (height ≤ 4096) },
-    pub ghost few: { width * height ≤ 4194304 },
-    pub ghost sides: { (2 ≤ side) × (side ≤ 128) },
+    pub ghost wide: { (1 ≤ width) × (width ≤ max_side) },
+    pub ghost high: { (1 ≤ height) × (height ≤ max_side) },
+    pub ghost few: { width * height ≤ max_pixels },
+    pub ghost sides: { IsTileSide side },
 }
 
 /// A box of pixels, both corners included.
@@ -25,6 +26,37 @@ pub struct Window {
     pub y1: u32,
 }
 
+impl Window {
+    ghost use Rattle.raster_model.specs.Tiles.{IsWithin, height_of, place_in, width_of};
+    ghost use Rattle.std.specs.Prelude.{◌<◌};
+
+    /// Pixels in a row.
+    pub fn width(&self) -> u32
+        requires { (self.now.x0 ≤ self.now.x1) × (self.now.x1 < max_side) }
+        ensures { result ≡ width_of self.now }
+    {
+        self.x1 - self.x0 + 1
+    }
+
+    /// Rows.
+    pub fn height(&self) -> u32
+        requires { (self.now.y0 ≤ self.now.y1) × (self.now.y1 < max_side) }
+        ensures { result ≡ height_of self.now }
+    {
+        self.y1 - self.y0 + 1
+    }
+
+    /// The place of a pixel in a list with one element for each pixel of the window, in row order.
+    pub fn place(&self, x: u32, y: u32) -> usize
+        requires across { (self.now.x0 ≤ self.now.x1) × (self.now.x1 < max_side) }
+        requires along { (self.now.y0 ≤ self.now.y1) × (self.now.y1 < max_side) }
+        requires pixel { IsWithin self.now x y }
+        ensures { result ≡ place_in self.now x y }
+    {
+        (y - self.y0) as usize * self.width() as usize + (x - self.x0) as usize
+    }
+}
+
 impl Tiling {
     ghost use Rattle.raster_model.specs.Limits.{is_raster_size};
     ghost use Rattle.raster_model.specs.Tiles.{columns_of, rows_of, tiles_of, tile_at, window_of, IsWindowOf};
@@ -33,7 +65,7 @@ impl Tiling {
     /// The tiles of this side in a raster of this size.
     pub fn new(width: u32, height: u32, side: u32) -> Tiling
         requires size { IsTrue (is_raster_size width height) }
-        requires sides { (2 ≤ side) × (side ≤ 128) }
+        requires sides { IsTileSide side }
         ensures { (result.width ≡ width) × (result.height ≡ height) × (result.side ≡ side) }
     {
         Tiling {
@@ -46,7 +78,7 @@ impl Tiling {
     /// How many tiles there are.
     pub fn tile_count(&self) -> u32
         ensures count { result ≡ tiles_of self.now }
-        ensures few { result ≤ 4194304 }
+        ensures few { result ≤ max_pixels }
     {
         self.rows() * self.columns()
     }

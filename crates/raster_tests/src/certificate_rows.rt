@@ -101,7 +101,7 @@ fn copied(alloc: Global) -> Result<String, AllocError> {
     let tiling = Tiling::new(2, 2, 128);
     let result = tile_result(alloc, 0, 1, &[0, 0, -1, 0], &[3])?;
     let set = TileSet::new(&tiling, vec![in alloc; result]?);
-    let copies = set.try_copy()?;
+    let copies = set.try_copy(alloc)?;
     let copy = copies.tile(0);
     format!(in alloc; "{} {:?} {:?}", copy.stamp, copy.cycles, copy.faces)
 }

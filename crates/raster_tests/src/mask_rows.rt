@@ -64,9 +64,14 @@ fn tiles(alloc: Global, revisions: &Revisions, count: u32) -> Result<String, All
 }
 
 /// Whether a pixel is open by the mask and by a copy of it; None where there is no such pixel.
-fn opened(revisions: &Revisions, x: u32, y: u32) -> Result<Option<[bool; 2]>, AllocError> {
+fn opened(
+    alloc: Global,
+    revisions: &Revisions,
+    x: u32,
+    y: u32,
+) -> Result<Option<[bool; 2]>, AllocError> {
     let mask = revisions.mask();
-    let copy = revisions.mask_copy()?;
+    let copy = revisions.mask_copy(alloc)?;
     if x < mask.width() && y < mask.height() && x < copy.width() && y < copy.height() {
         Ok(Some([mask.is_open(x, y), copy.is_open(x, y)]))
     } else {
@@ -95,7 +100,10 @@ fn state(alloc: Global, revisions: &Revisions, count: u32) -> Result<String, All
     requires count { count ≤ tiles_of revisions.now.tiling }
 {
     let is_open = [revisions.is_open(2, 0), revisions.is_open(3, 0)];
-    let by_mask = [opened(revisions, 2, 0)?, opened(revisions, 3, 0)?];
+    let by_mask = [
+        opened(alloc, revisions, 2, 0)?,
+        opened(alloc, revisions, 3, 0)?,
+    ];
     let tiles = tiles(alloc, revisions, count)?;
     format!(in alloc; "{} {is_open:?} {by_mask:?}{tiles}", revisions.count())
 }

@@ -74,7 +74,7 @@ fn wraps_a_half_cycle_down(_rt: HostRuntime) -> Result<(), Fail> {
 fn masks_are_zero_samples(rt: HostRuntime) -> Result<(), Fail> {
     let plane = plane(rt.alloc(), &Tiling::new(2, 2, 2), 9, &[0, 1, 9, 0])?;
     let mut mask = Mask::of_plane(rt.alloc(), &plane)?;
-    let first = mask.try_copy()?;
+    let first = mask.try_copy(rt.alloc())?;
     assert!(rt;
         mask.width() == 2 && mask.height() == 2 && first.width() == 2 && first.height() == 2
     );

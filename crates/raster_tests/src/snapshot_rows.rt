@@ -162,7 +162,7 @@ fn built(
     requires good { AreGoodTiles (arc_value session).scene (open_at (arc_value session).first_mask) tiles.results }
 {
     let seams = seams(alloc, offsets, flows)?;
-    let mask = session.first_mask.try_copy()?;
+    let mask = session.first_mask.try_copy(alloc)?;
     let regions = Regions::of(alloc, &session.scene.tiling, &mask)?;
     match Snapshot::build(alloc, session, mask, regions, tiles, seams) {
         Ok(snapshot) => surface(alloc, &snapshot),

@@ -19,6 +19,7 @@ use Rattle.report_text.specs.Same.{AreSameItems, IsSameItem, IsSameReport, IsSam
 use Rattle.report_text.specs.Text.{tiles_along, tiles_in}
 use Rattle.report_check.specs.Same.{EqualReportsAreCertifiedAlike}
 use Rattle.report_check.specs.Verdicts.{HasHeadOf}
+use Rattle.sums_and_lists.proofs.Lists.{some_at}
 
 -- ---- one history
 same_entries : (width height tiles : ℕ) (items others : List ItemOf) → AreSameItems width height tiles items others → map (λ (i : ItemOf). i.entry) items ≡ map (λ (i : ItemOf). i.entry) others
@@ -31,14 +32,10 @@ pub same_history : (v w : ReportOf) → IsSameReport v w → history_of v ≡ hi
 same_history v w equal = same_entries v.width v.height (tiles_in v) v.items w.items equal.items
 
 -- ---- the item that stands at the same place
-pub get_some : {A : Type 0} (xs : List A) (n : ℕ) → n < length xs → (x : A) × (slice_get xs n ≡ Some x)
-get_some [] n l = absurd (omega arith)
-get_some (x ∷ xs) zero l = (x, refl)
-get_some (x ∷ xs) (suc n) l = get_some xs n (omega arith)
 
 pub same_item : (v w : ReportOf) → IsSameReport v w → (k : ℕ) (j : ItemOf) → slice_get w.items k ≡ Some j → (i : ItemOf) × (slice_get v.items k ≡ Some i) × IsSameItem v.width v.height (tiles_in v) i j
 same_item v w equal k j at =
-    let there = get_some v.items k (omega (arith, get_below w.items k j at, equal.items.0)) in
+    let there = some_at v.items k (omega (arith, get_below w.items k j at, equal.items.0)) in
     (there.0, there.1, equal.items.1 k there.0 j there.1 at)
 
 -- ---- a surface

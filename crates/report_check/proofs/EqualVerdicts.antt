@@ -6,20 +6,18 @@ use Rattle.raster_model.specs.declared.edge.Edge.{Edge}
 use Rattle.raster_model.specs.declared.plane.Plane.{Plane}
 use Rattle.raster_model.specs.declared.session.Session.{Session}
 use Rattle.raster_model.specs.Flows.{flow_at}
-use Rattle.raster_model.specs.Raster.{Raster, departure, gradient, has_open_ends, is_seam, seam_cost, tile_cost}
+use Rattle.raster_model.specs.Raster.{Raster, seam_cost, tile_cost}
 use Rattle.raster_model.specs.Scene.{raster_of}
 use Rattle.raster_model.specs.Seams.{IsAnchored, flow_total}
-use Rattle.raster_model.specs.Sums.{Field, end_x, end_y, is_edge, where_true}
-use Rattle.raster_model.proofs.SumLemmas.{both_true, sum_edges-same}
+use Rattle.raster_model.specs.Sums.{Field}
 use Rattle.surface_snapshots.specs.Parts.{tile_costs}
-use Rattle.surface_snapshots.proofs.SameLemmas.{anchored_too, same_seam_cost, same_tile_costs, seams_too, tile_too}
+use Rattle.surface_snapshots.proofs.SameLemmas.{anchored_too, same_flow_total, same_seam_cost, same_tile_cost, same_tile_costs, seams_too, tile_too}
 use Rattle.certificates.specs.declared.verdicts.SeamVerdict.{SeamVerdict}
 use Rattle.certificates.specs.declared.verdicts.SeamVerdict.TheVariants as seam_verdicts
 use Rattle.certificates.specs.declared.verdicts.TileVerdict.{TileVerdict}
 use Rattle.certificates.specs.declared.verdicts.TileVerdict.TheVariants as tile_verdicts
 use Rattle.certificates.specs.SeamVerdicts.{IsGoodAtSeams, IsOffAnchor, IsSeamVerdict}
 use Rattle.certificates.specs.Verdicts.{IsFacesVerdict}
-use Rattle.certificates.proofs.CallerLemmas.{tile_cost-same}
 use Rattle.tile_board.specs.declared.entry.Entry.{Entry}
 use Rattle.tile_board.specs.Histories.{IsComplete, IsLegal, mask_in}
 use Rattle.tile_board.proofs.ListLemmas.{get_below}
@@ -30,10 +28,10 @@ use Rattle.report_check.specs.declared.verdict.CheckVerdict.{CheckVerdict}
 use Rattle.report_check.specs.declared.verdict.CheckVerdict.TheVariants.{Accepted, Header, History, Value, Tile, Seams, TileCost, SeamCost}
 use Rattle.report_check.specs.Same.{IsSameInput, IsSamePlane, VerdictIsOfTexts}
 use Rattle.report_check.specs.Verdicts.{AllValuesFit, AreUnfitSeams, BreaksHistoryAt, BreaksInSurfaces, DiffersAt, FitsPhase, HasHeadOf, HasRuleOf, HasSideOf, HasSizeOf, IsFirstUnfitSurface, IsFirstUnfitTile, IsFirstUnfitValue, IsMiscounted, IsSurfaceVerdict, MayNotCome, PassesSeams, PassesTiles, TilesAreCertified, ValueFits, cycles_in, surface_in}
-use Rattle.report_check.proofs.EqualReports.{MayBeSameOn, get_some, item_too, same_history, same_item, same_there}
+use Rattle.report_check.proofs.EqualReports.{MayBeSameOn, item_too, same_history, same_item, same_there}
 use Rattle.report_check.proofs.EqualSessions.{acceptance_is_of_texts, are_alike, complete_too, legal_too, step_too}
-use Rattle.report_check.proofs.MaskLemmas.{edge_ends}
 use Rattle.report_check.proofs.SurfaceLemmas.{surface_verdict_too}
+use Rattle.sums_and_lists.proofs.Lists.{some_at}
 
 -- ---- what tells the same does so the other way round
 same_plane_back : (p q : Plane) → IsSamePlane p q → IsSamePlane q p
@@ -113,17 +111,11 @@ module _ (r : Raster) (m : Field Bool) (k l : SurfaceOf) (equal : IsSameSurface 
   agree : (x y : ℕ) → x < r.width → y < r.height → IsTrue (m x y) → surface_in r k x y ≡ surface_in r l x y
   agree x y a b o = same_surface x y a b
 
-  same_departure : (e : Edge) → IsTrue (is_edge r.width r.height e) → departure r (surface_in r k) e ≡ departure r (surface_in r l) e
-  same_departure e i =
-      let t = edge_ends r.width r.height e i in
-      ap₂ (λ (b a : ℤ). int_div (b -ℤ a -ℤ gradient r e) (pos 65536)) (same_surface (end_x e) (end_y e) t.2 t.3) (same_surface e.x e.y t.0 t.1)
-
   same_total : (F : Edge → ℤ) → flow_total r m (surface_in r k) F ≡ flow_total r m (surface_in r l) F
-  unfolding flow_total
-  same_total F = sum_edges-same r.width r.height (λ e. where_true (is_seam r e && has_open_ends m e) (F e *ℤ departure r (surface_in r k) e)) (λ e. where_true (is_seam r e && has_open_ends m e) (F e *ℤ departure r (surface_in r l) e)) (λ e i. ap (λ (d : ℤ). where_true (is_seam r e && has_open_ends m e) (F e *ℤ d)) (same_departure e i))
+  same_total = same_flow_total r m m same_mask (surface_in r k) (surface_in r l) agree
 
   same_tile : (t : ℕ) → tile_cost r m t (surface_in r k) ≡ tile_cost r m t (surface_in r l)
-  same_tile t = tile_cost-same r m m (surface_in r k) (surface_in r l) t (λ e i. record { ends = refl; departs = λ o. same_departure e (both_true (is_edge r.width r.height e) _ i).0 })
+  same_tile = same_tile_cost r m m same_mask (surface_in r k) (surface_in r l) agree
 
   same_tiles : tile_costs r m (surface_in r k) ≡ tile_costs r m (surface_in r l)
   same_tiles = same_tile_costs r m m same_mask (surface_in r k) (surface_in r l) agree
@@ -247,7 +239,7 @@ module _ (s t : Session) (v w : ReportOf) (same : IsSameInput s t) (equal : IsSa
 
   unfit_too : (verdict : CheckVerdict) → HasHeadOf s v → IsFirstUnfitSurface s v verdict → IsFirstUnfitSurface t w verdict
   unfit_too verdict head u =
-      let there = get_some w.items u.at (omega (arith, get_below v.items u.at u.item u.item_is, equal.items.0)) in
+      let there = some_at w.items u.at (omega (arith, get_below v.items u.at u.item u.item_is, equal.items.0)) in
       let item = equal.items.1 u.at u.item there.0 u.item_is there.1 in
       let behind = subst (λ (a : Option SurfaceOf). MayBeSameOn (raster_of s.scene) a there.0.surface) u.surface_is (same_there s t v w equal head u.item.surface there.0.surface item.surface) in
       let found = surface_behind (raster_of s.scene) u.surface there.0.surface behind in

@@ -9,6 +9,7 @@ use Rattle.tile_board.proofs.ListLemmas.{get_beyond, get_map, take_one}
 use Rattle.report_text.specs.declared.items.Item.{Item}
 use Rattle.report_check.specs.Replays.{entries_in}
 use Rattle.report_check.specs.Verdicts.{BreaksHistoryAt, MayNotCome}
+use Rattle.sums_and_lists.proofs.Tests.{true_and_false}
 
 pub taken_none : {A : Type 0} (xs : List A) → take 0 xs ≡ []
 taken_none [] = refl
@@ -33,11 +34,8 @@ module _ (s : Session) (items : List Item) (n : ℕ) (legal : IsLegal s (take n 
     number = refl;
     some = omega (arith, l, entries_count items);
     legal = legal;
-    broken = subst (λ (o : Option Entry). MayNotCome s (take n (entries_in items)) o) (sym (entry_at items n i g)) (λ step. clash b (told.1 step) e);
+    broken = subst (λ (o : Option Entry). MayNotCome s (take n (entries_in items)) o) (sym (entry_at items n i g)) (λ step. true_and_false b (told.1 step) e);
   }
-    where
-      clash : (b : Bool) → IsTrue b → b ≡ false → ⊥
-      clash b p q = cc
 
   pub breaks_after : n ≡ length items → (b : Bool) → b ≡ false → IsTrue b ↔ IsComplete s (take n (entries_in items)) → BreaksHistoryAt s (entries_in items) (length items + 1)
   breaks_after all b e told = record {
@@ -45,11 +43,8 @@ module _ (s : Session) (items : List Item) (n : ℕ) (legal : IsLegal s (take n 
     number = omega (arith, all);
     some = omega (arith, all, entries_count items);
     legal = legal;
-    broken = subst (λ (o : Option Entry). MayNotCome s (take n (entries_in items)) o) (sym (get_beyond (entries_in items) n (omega (arith, all, entries_count items)))) (λ complete. clash b (told.1 complete) e);
+    broken = subst (λ (o : Option Entry). MayNotCome s (take n (entries_in items)) o) (sym (get_beyond (entries_in items) n (omega (arith, all, entries_count items)))) (λ complete. true_and_false b (told.1 complete) e);
   }
-    where
-      clash : (b : Bool) → IsTrue b → b ≡ false → ⊥
-      clash b p q = cc
 
   pub in_order : length items ≤ n → (b : Bool) → b ≡ true → IsTrue b ↔ IsComplete s (take n (entries_in items)) → IsLegal s (entries_in items) × IsComplete s (entries_in items)
   in_order all b e told =

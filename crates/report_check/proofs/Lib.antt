@@ -5,7 +5,6 @@ mod ShownLemmas
 pub mod UniqueLemmas
 mod ReplayLemmas
 mod HistoryLemmas
-mod CountLemmas
 mod ReportLemmas
 mod EqualReports
 pub mod EqualSessions

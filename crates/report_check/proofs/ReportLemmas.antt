@@ -30,7 +30,7 @@ use Rattle.report_check.specs.Replays.{IsReplay, entries_in}
 use Rattle.report_check.specs.Shown.{AreCertifiedBehind, IsGoodBehind, IsUnfitBehind}
 use Rattle.report_check.specs.Verdicts.{BreaksHistoryAt, HasHeadOf, IsFirstUnfitSurface, IsSurfaceVerdict, IsVerdict, surface_in}
 use Rattle.report_check.proofs.HistoryLemmas.{entry_at}
-use Rattle.report_check.proofs.ReplayLemmas.{mask_told}
+use Rattle.tile_board.proofs.HeldLemmas.{mask_told}
 use Rattle.report_check.proofs.SurfaceLemmas.{good_is_certified, good_too, has_phases, surface_verdict_too}
 use Rattle.report_check.proofs.UniqueLemmas.{certified_not_unfit}
 
@@ -68,7 +68,7 @@ module _ (s : Session) (E : List Entry) (n : ℕ) (held : RevisionsView) (kept :
   same r e x y l h =
       let later = mask_later s E n r (omega (arith, e)) in
       let present : mask_in s (take n E) r ≡ present_mask s (take n E) = ap (mask_in s (take n E)) e in
-      mask_told s (take n E) held kept marks last is x y l h ∙ sym (ap (λ (f : Field Bool). f x y) (later ∙ present))
+      (mask_told is.past).clear_at x y l h ∙ sym (ap (λ (f : Field Bool). f x y) (later ∙ present))
 
   pub certified_there : (e : Entry) (behind : Option SurfaceOf) → IsStep s (take n E) e → IsGoodBehind (raster_of s.scene) (open_at held.mask) e behind → IsCertifiedBehind s E e behind
   certified_there (Revised a edit) behind step good = good

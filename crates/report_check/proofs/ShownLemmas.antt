@@ -2,29 +2,18 @@
 use Rattle.std.proofs.Common.{◌≡◌, ◌≢◌, ◌∙◌, ℕ, zero, suc, ◌*◌, ◌<◌, refl, sym, ap, subst, arith, Bool, List, [], ◌∷◌, get_or, length}
 use Rattle.std.specs.Global.{Vec}
 use Rattle.std.specs.Prelude.{ℤ, pos, ◌+ℤ◌, ◌*ℤ◌, ◌↔◌, IsTrue, IsFalse}
-use Rattle.raster_model.specs.declared.scene.Scene.{Scene}
-use Rattle.raster_model.specs.MaskView.{MaskView}
-use Rattle.raster_model.specs.Masks.{open_at}
 use Rattle.raster_model.specs.Raster.{Raster}
-use Rattle.raster_model.specs.Scene.{raster_of}
-use Rattle.raster_model.specs.Seams.{AreRegions}
 use Rattle.raster_model.specs.Sums.{Field}
-use Rattle.certificates.specs.SeamVerdicts.{ListsRegions, label_at as label_in}
-use Rattle.seam_regions.specs.Regions.{AreRegionsOf}
-use Rattle.seam_regions.specs.RegionsView.{RegionsView}
-use Rattle.seam_regions.proofs.CallerLemmas.{regions_of_scene}
 use Rattle.report_text.specs.Certified.{no_data}
 use Rattle.report_text.specs.Contents.{lists_of}
 use Rattle.report_check.specs.Verdicts.{ValueFits}
-
-clash : (b : Bool) → IsTrue b → IsFalse b → ⊥
-clash b p q = cc
+use Rattle.sums_and_lists.proofs.Tests.{true_and_false}
 
 -- an open pixel's value fits where it is told and lies whole cycles above the phase
 pub fits_open : (r : Raster) (mask : Field Bool) (values : Field ℤ) (x y : ℕ) (z : ℤ) (b : Bool) → z ≡ values x y → IsTrue (mask x y) → z ≢ no_data → IsTrue b ↔ ((c : ℤ) × (z ≡ pos (r.phase x y) +ℤ pos 65536 *ℤ c)) → IsTrue b ↔ ValueFits r mask values x y
 fits_open r mask values x y z b e o told test = (
   λ t. record {
-    masked = λ f. absurd (clash (mask x y) o f);
+    masked = λ f. absurd (true_and_false (mask x y) o f);
     unmasked = λ _. (let c = test.0 t in record { told = λ n. told (e ∙ n); cycles = c.0; whole = sym e ∙ c.1 });
   },
   λ f. (let g = f.unmasked o in test.1 (g.cycles, e ∙ g.whole)),
@@ -35,12 +24,3 @@ pub faces_read : (lists : List (Vec ℤ)) (t : ℕ) (v : Vec ℤ) → t < length
 faces_read [] t v l e = absurd (omega arith)
 faces_read (x ∷ xs) zero v l e = sym (ap (λ (w : Vec ℤ). w.items) e)
 faces_read (x ∷ xs) (suc t) v l e = faces_read xs t v (omega arith) e
-
--- the labels of regions, as the check of the flows reads them
-pub lists_regions : (s : Scene) (m : MaskView) (v : RegionsView) → AreRegionsOf s.tiling m v → (labels : List ℕ) (count : ℕ) → labels ≡ v.labels → count ≡ v.count → length labels ≡ v.width * v.height → ListsRegions (raster_of s) (open_at m) labels count
-lists_regions s m v is labels count values counted size =
-    let wide : v.width ≡ s.phase.width = is.width ∙ s.same_width.1 in
-    let high : v.height ≡ s.phase.height = is.height ∙ s.same_height.1 in (
-      size ∙ rw (wide, high) refl,
-      rw (values, counted) (subst (λ (w : ℕ). AreRegions (raster_of s) (open_at m) (label_in w v.labels) v.count) wide (regions_of_scene s m v is)),
-    )

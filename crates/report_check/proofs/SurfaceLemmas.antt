@@ -6,6 +6,7 @@ use Rattle.raster_model.specs.Raster.{Raster, seam_cost}
 use Rattle.raster_model.specs.Scene.{raster_of}
 use Rattle.raster_model.specs.Sums.{Field}
 use Rattle.raster_model.proofs.Exact.{lifted_is_congruent}
+use Rattle.raster_model.proofs.MaskAgrees.{regions_too}
 use Rattle.surface_snapshots.specs.Parts.{tile_costs}
 use Rattle.surface_snapshots.proofs.SameLemmas.{anchored_too, same_seam_cost, same_tile_costs, seams_too, tile_too}
 use Rattle.report_text.specs.Certified.{IsCertifiedSurface, no_data}
@@ -14,7 +15,7 @@ use Rattle.report_check.specs.declared.verdict.CheckVerdict.{CheckVerdict}
 use Rattle.report_check.specs.declared.verdict.CheckVerdict.TheVariants.{Accepted, Header, History, Value, Tile, Seams, TileCost, SeamCost}
 use Rattle.report_check.specs.Shown.{IsGoodSurface}
 use Rattle.report_check.specs.Verdicts.{AllValuesFit, IsFirstUnfitValue, IsSurfaceVerdict, PassesSeams, PassesTiles, TilesAreCertified, ValueFits, cycles_in, surface_in}
-use Rattle.report_check.proofs.MaskLemmas.{faces_verdict_too, regions_too, seam_verdict_too}
+use Rattle.report_check.proofs.MaskLemmas.{faces_verdict_too, seam_verdict_too}
 use Rattle.report_check.proofs.ValueLemmas.{whole_cycles}
 
 -- phases are less than a cycle

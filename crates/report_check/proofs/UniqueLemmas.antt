@@ -5,18 +5,18 @@ use Rattle.std.proofs.lemmas.List.{take_all}
 use Rattle.raster_model.specs.declared.edge.Edge.{Edge}
 use Rattle.raster_model.specs.declared.session.Session.{Session}
 use Rattle.raster_model.specs.Flows.{flow_at}
-use Rattle.raster_model.specs.Raster.{Raster, is_seam, seam_cost}
+use Rattle.raster_model.specs.Raster.{Raster, seam_cost}
 use Rattle.raster_model.specs.Scene.{raster_of}
-use Rattle.raster_model.specs.Seams.{AreRegions, IsOpenPixel, flow_in, flow_out}
-use Rattle.raster_model.specs.Sums.{Field, end_x, end_y, where_true}
+use Rattle.raster_model.specs.Seams.{AreRegions, IsOpenPixel, region_of}
+use Rattle.raster_model.specs.Sums.{Field}
+use Rattle.raster_model.proofs.MaskAgrees.{balanced-same, same_count}
 use Rattle.raster_model.proofs.RegionNumbers.{numbers_agree}
-use Rattle.raster_model.proofs.SumLemmas.{sum_edges-same}
 use Rattle.surface_snapshots.specs.Parts.{tile_costs}
 use Rattle.certificates.specs.declared.verdicts.SeamVerdict.{SeamVerdict}
 use Rattle.certificates.specs.declared.verdicts.SeamVerdict.TheVariants as seam_verdicts
 use Rattle.certificates.specs.declared.verdicts.TileVerdict.{TileVerdict}
 use Rattle.certificates.specs.declared.verdicts.TileVerdict.TheVariants as tile_verdicts
-use Rattle.certificates.specs.SeamVerdicts.{IsBalanced, IsGoodAtSeams, IsSeamVerdict, region_of}
+use Rattle.certificates.specs.SeamVerdicts.{IsBalanced, IsGoodAtSeams, IsSeamVerdict}
 use Rattle.certificates.proofs.Unique.{faces_have_one_verdict, same_pixel}
 use Rattle.certificates.proofs.UniqueSeams.{seams_have_one_verdict}
 use Rattle.tile_board.specs.declared.entry.Entry.{Entry}
@@ -29,33 +29,16 @@ use Rattle.report_check.specs.declared.verdict.CheckVerdict.{CheckVerdict}
 use Rattle.report_check.specs.declared.verdict.CheckVerdict.TheVariants.{Accepted, Header, History, Value, Tile, Seams, TileCost, SeamCost}
 use Rattle.report_check.specs.Shown.{IsGoodSurface}
 use Rattle.report_check.specs.Verdicts.{AreUnfitSeams, BreaksHistoryAt, BreaksInSurfaces, DiffersAt, HasHeadOf, IsFirstUnfitSurface, IsFirstUnfitTile, IsFirstUnfitValue, IsMiscounted, IsSurfaceVerdict, IsVerdict, MayNotCome, PassesTiles, ReportsHaveOneVerdict, cycles_in, surface_in}
-use Rattle.report_check.proofs.MaskLemmas.{edge_ends}
 use Rattle.report_check.proofs.SurfaceLemmas.{certified_is_good, has_phases}
-
-three_ways : (u v : ℕ) → (u ≡ v) ⊎ ((u < v) ⊎ (v < u))
-three_ways u v = grind arith
+use Rattle.std.proofs.lemmas.Bool.{cases_order}
 
 -- ---- the numbers of the regions do not matter
 module _ (r : Raster) (mask : Field Bool) (L M : Field ℕ) (c d : ℕ) (isL : AreRegions r mask L c) (isM : AreRegions r mask M d) where
   agree : (x y : ℕ) → IsOpenPixel r mask x y → L x y ≡ M x y
   agree x y o = numbers_agree r mask L c M d isL isM x y o
 
-  not_more : c < d → ⊥
-  not_more l =
-      let u = isM.labelling.used c l in
-      omega (arith, isL.labelling.below u.0 u.1 u.2, agree u.0 u.1 u.2, u.3)
-
-  not_less : d < c → ⊥
-  not_less l =
-      let u = isL.labelling.used d l in
-      omega (arith, isM.labelling.below u.0 u.1 u.2, agree u.0 u.1 u.2, u.3)
-
-  same_count : d ≡ c
-  same_count = elim (three_ways d c) [
-    | inl e ↦ e
-    | inr (inl l) ↦ absurd (not_less l)
-    | inr (inr l) ↦ absurd (not_more l)
-  ]
+  count_same : d ≡ c
+  count_same = same_count r mask M d L c isM isL
 
   same_beside : (b : Bool) (m l v : ℕ) → (IsTrue b → l ≡ m) → b && (m == v) ≡ b && (l == v)
   same_beside Bool.true m l v e = rw (e refl) refl
@@ -64,24 +47,11 @@ module _ (r : Raster) (mask : Field Bool) (L M : Field ℕ) (c d : ℕ) (isL : A
   same_region : (v x y : ℕ) → x < r.width → y < r.height → region_of mask M v x y ≡ region_of mask L v x y
   same_region v x y l h = same_beside (mask x y) (M x y) (L x y) v (λ o. agree x y (l, h, o))
 
-  same_test : (s a b : Bool) (z : ℤ) → a ≡ b → where_true (s && a) z ≡ where_true (s && b) z
-  same_test s a b z e = ap (λ (o : Bool). where_true (s && o) z) e
-
-  same_in : (F : Edge → ℤ) (v : ℕ) → flow_in r F (region_of mask M v) ≡ flow_in r F (region_of mask L v)
-  same_in F v = sum_edges-same r.width r.height _ _ (λ e i. (
-      let t = edge_ends r.width r.height e i in
-      same_test (is_seam r e) (region_of mask M v (end_x e) (end_y e)) (region_of mask L v (end_x e) (end_y e)) (F e) (same_region v (end_x e) (end_y e) t.2 t.3)))
-
-  same_out : (F : Edge → ℤ) (v : ℕ) → flow_out r F (region_of mask M v) ≡ flow_out r F (region_of mask L v)
-  same_out F v = sum_edges-same r.width r.height _ _ (λ e i. (
-      let t = edge_ends r.width r.height e i in
-      same_test (is_seam r e) (region_of mask M v e.x e.y) (region_of mask L v e.x e.y) (F e) (same_region v e.x e.y t.0 t.1)))
-
   balanced_too : (F : Edge → ℤ) (v : ℕ) → IsBalanced r F (region_of mask M v) → IsBalanced r F (region_of mask L v)
-  balanced_too F v b = sym (same_in F v) ∙ b ∙ same_out F v
+  balanced_too F v b = balanced-same r F (region_of mask M v) (region_of mask L v) (same_region v) b
 
   balanced_back : (F : Edge → ℤ) (v : ℕ) → IsBalanced r F (region_of mask L v) → IsBalanced r F (region_of mask M v)
-  balanced_back F v b = same_in F v ∙ b ∙ sym (same_out F v)
+  balanced_back F v b = balanced-same r F (region_of mask L v) (region_of mask M v) (λ x y l h. sym (same_region v x y l h)) b
 
   renumbered : (cycles : Field ℤ) (flows : List ℤ) (v : SeamVerdict) → IsSeamVerdict r mask M d cycles flows v → IsSeamVerdict r mask L c cycles flows v
   renumbered cycles flows seam_verdicts.Good h = h
@@ -94,12 +64,12 @@ module _ (r : Raster) (mask : Field Bool) (L M : Field ℕ) (c d : ℕ) (isL : A
     h.1,
     h.2,
     record {
-      exists = omega (arith, h.3.exists, same_count);
+      exists = omega (arith, h.3.exists, count_same);
       unbalanced = λ b. h.3.unbalanced (balanced_back (flow_at r flows) v b);
       least = λ u l. balanced_too (flow_at r flows) u (h.3.least u l);
     },
   )
-  renumbered cycles flows (seam_verdicts.CostDiffers cost bound) h = (h.0, h.1, h.2, λ v l. balanced_too (flow_at r flows) v (h.3 v (omega (arith, l, same_count))), h.4, h.5, h.6)
+  renumbered cycles flows (seam_verdicts.CostDiffers cost bound) h = (h.0, h.1, h.2, λ v l. balanced_too (flow_at r flows) v (h.3 v (omega (arith, l, count_same))), h.4, h.5, h.6)
 
 -- ---- surfaces
 same_number : (m n : ℕ) → pos m ≡ pos n → m ≡ n
@@ -132,7 +102,7 @@ module _ (r : Raster) (mask : Field Bool) (revision : ℕ) (k : SurfaceOf) where
   tile_before t u v w l p q = p.not_good (faces_have_one_verdict r mask t (surface_in r k) (k.faces t) v tile_verdicts.Good p.verdict_is (q.before t l))
 
   same_tile : (t u : ℕ) (v w : TileVerdict) → IsFirstUnfitTile r mask k t v → IsFirstUnfitTile r mask k u w → (t ≡ u) × (v ≡ w)
-  same_tile t u v w p q = elim (three_ways t u) [
+  same_tile t u v w p q = elim (cases_order t u) [
     | inl e ↦ (e, faces_have_one_verdict r mask t (surface_in r k) (k.faces t) v w p.verdict_is (subst (λ (n : ℕ). IsFirstUnfitTile r mask k n w) (sym e) q).verdict_is)
     | inr (inl l) ↦ absurd (tile_before t u v w l p q)
     | inr (inr l) ↦ absurd (tile_before u t w v l q p)
@@ -235,7 +205,7 @@ module _ (s : Session) (H : List Entry) where
   break_before m n p q l = comes p.before (slice_get H p.before) refl (omega (arith, l, q.some)) (later_legal p.before q.before l q.legal) p.broken
 
   one_break : (m n : ℕ) → BreaksHistoryAt s H m → BreaksHistoryAt s H n → m ≡ n
-  one_break m n p q = elim (three_ways p.before q.before) [
+  one_break m n p q = elim (cases_order p.before q.before) [
     | inl e ↦ omega (arith, p.number, q.number, e)
     | inr (inl l) ↦ absurd (break_before m n p q l)
     | inr (inr l) ↦ absurd (break_before n m q p l)
@@ -293,7 +263,7 @@ module _ (s : Session) (v : ReportOf) where
       one_surface_verdict (raster_of s.scene) (mask_in s H p.revision) p.revision p.surface a b p.unfit other
 
   one_unfit : (a b : CheckVerdict) → IsFirstUnfitSurface s v a → IsFirstUnfitSurface s v b → a ≡ b
-  one_unfit a b p q = elim (three_ways p.at q.at) [
+  one_unfit a b p q = elim (cases_order p.at q.at) [
     | inl e ↦ unfit_here a b p q e
     | inr (inl l) ↦ absurd (unfit_before a b p q l)
     | inr (inr l) ↦ absurd (unfit_before b a q p l)

@@ -1,5 +1,5 @@
 -- What a replay of a history holds, and what its calls do. No clause of a public function cites this file.
-use Rattle.std.specs.Prelude.{◌≡◌, ◌≢◌, ◌↔◌, ℕ, ◌<◌, Bool, IsTrue, Option, List, [], ◌∷◌, ◌++◌, length, map, slice_index, slice_index_or}
+use Rattle.std.specs.Prelude.{◌≡◌, ◌↔◌, ℕ, ◌<◌, Bool, IsTrue, Option, List, [], ◌∷◌, ◌++◌, length, map, slice_index_or}
 use Rattle.raster_model.specs.declared.script.Edit.{Edit}
 use Rattle.raster_model.specs.declared.session.Session.{Session}
 use Rattle.raster_model.specs.Masks.{open_at}
@@ -8,8 +8,9 @@ use Rattle.raster_model.specs.Tiles.{tiles_of}
 use Rattle.mask_revisions.specs.Revisions.{AreChanged, AreRevisionsOf}
 use Rattle.mask_revisions.specs.RevisionsView.{RevisionsView}
 use Rattle.tile_board.specs.declared.entry.Entry.{Entry}
-use Rattle.tile_board.specs.Histories.{IsComplete, IsLegal, IsStep, edits_of, is_kept, newest_of}
-use Rattle.tile_board.specs.States.{AreCursors}
+use Rattle.tile_board.specs.Histories.{IsComplete, IsLegal, IsStep, is_kept}
+use Rattle.tile_board.specs.Places.{AreSet}
+use Rattle.tile_board.specs.States.{TellsHistory}
 use Rattle.report_text.specs.declared.items.Item.{Item}
 use Rattle.report_check.specs.declared.replay.Replay.{Replay}
 
@@ -20,12 +21,9 @@ entries_in items = map (λ i. i.entry) items
 -- what is held is what the history says: its mask with the stamps, whether each tile is kept, how many commands each analyst has done, the newest publication
 pub record IsReplay (s : Session) (H : List Entry) (held : RevisionsView) (tiles : List Bool) (marks : List ℕ) (last : Option ℕ) : Type 0 where
   pub legal : IsLegal s H
-  pub tiling : held.tiling ≡ s.scene.tiling
-  pub revisions : AreRevisionsOf (open_at s.first_mask) (edits_of H) held
+  pub past : TellsHistory s H held marks last
   pub count : length tiles ≡ tiles_of s.scene.tiling
   pub kept : (t : ℕ) → t < tiles_of s.scene.tiling → slice_index_or tiles t Bool.false ≡ is_kept s H t
-  pub cursors : AreCursors s H marks
-  pub newest : last ≡ newest_of H
 
 abbrev pub IsReplayOf : Session → List Entry → Replay → Type 0
 IsReplayOf s H p = IsReplay s H p.revisions p.kept.items p.cursors.items p.newest
@@ -47,18 +45,12 @@ TellsComplete s p test = (H : List Entry) → IsReplayOf s H p → IsTrue test �
 abbrev pub Takes : Replay → Replay → Entry → Type 0
 Takes old new e = (s : Session) (H : List Entry) → IsReplayOf s H old → IsStep s H e → IsReplayOf s (H ++ e ∷ []) new
 
--- the first n tiles of a list are kept no longer, and the others are as they were
-pub record AreCleared (old new : List Bool) (tiles : List ℕ) (n : ℕ) : Type 0 where
-  pub count : length new ≡ length old
-  pub cleared : (i : ℕ) → i < n → slice_index_or new (slice_index tiles i) Bool.false ≡ Bool.false
-  pub others : (t : ℕ) → ((i : ℕ) → i < n → slice_index tiles i ≢ t) → slice_index_or new t Bool.false ≡ slice_index_or old t Bool.false
-
 -- an edit was applied, and the tiles with a pixel that changed are kept no longer
 pub record IsRevised (old new : Replay) (edit : Edit) : Type 0 where
   pub tiling : new.revisions.tiling ≡ old.revisions.tiling
   pub next : (first : Field Bool) (edits : List Edit) → AreRevisionsOf first edits old.revisions → AreRevisionsOf first (edits ++ edit ∷ []) new.revisions
   pub tiles : List ℕ
   pub changed : AreChanged old.revisions.tiling (open_at old.revisions.mask) (open_at new.revisions.mask) tiles
-  pub cleared : AreCleared old.kept.items new.kept.items tiles (length tiles)
+  pub cleared : AreSet old.kept.items new.kept.items tiles (length tiles) Bool.false
   pub cursors : new.cursors.items ≡ old.cursors.items
   pub newest : new.newest ≡ old.newest

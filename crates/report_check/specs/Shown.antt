@@ -1,12 +1,11 @@
 -- Words of helpers: a surface that a report shows, over its scene and a mask. No clause of a public function cites this file.
-use Rattle.std.specs.Prelude.{◌≡◌, ℕ, ◌<◌, ℤ, pos, Bool, not, Option, Some, None, slice_get}
-use Rattle.raster_model.specs.declared.edge.Edge.{Edge}
+use Rattle.std.specs.Prelude.{◌≡◌, ℕ, ◌<◌, ℤ, pos, Bool, Option, Some, None, slice_get}
 use Rattle.raster_model.specs.declared.session.Session.{Session}
 use Rattle.raster_model.specs.Masks.{open_at}
-use Rattle.raster_model.specs.Raster.{Raster, edge_cost, is_seam, seam_cost}
+use Rattle.raster_model.specs.Raster.{Raster, seam_cost}
 use Rattle.raster_model.specs.Scene.{raster_of}
 use Rattle.raster_model.specs.Seams.{AreRegions}
-use Rattle.raster_model.specs.Sums.{Field, edges_from, where_true}
+use Rattle.raster_model.specs.Sums.{Field}
 use Rattle.surface_snapshots.specs.Parts.{tile_costs}
 use Rattle.certificates.specs.declared.verdicts.SeamVerdict.{SeamVerdict}
 use Rattle.certificates.specs.SeamVerdicts.{IsSeamVerdict}
@@ -75,10 +74,3 @@ IsUnfitBehind r mask (Shown a revision) behind verdict = ⊥
 -- what stands behind all entries of a report is certified
 abbrev pub AreCertifiedBehind : Session → ReportOf → Type 0
 AreCertifiedBehind s v = (k : ℕ) (i : ItemOf) → slice_get v.items k ≡ Some i → IsCertifiedBehind s (history_of v) i.entry i.surface
-
--- what an edge adds to the costs of all tiles, and what the edges that start at a pixel add
-unfoldable pub inner_edge_cost : Raster → Field Bool → Field ℤ → Edge → ℤ
-inner_edge_cost r mask S e = where_true (not (is_seam r e)) (edge_cost r mask S e)
-
-unfoldable pub inner_cost_from : Raster → Field Bool → Field ℤ → Field ℤ
-inner_cost_from r mask S = edges_from r.width r.height (inner_edge_cost r mask S)

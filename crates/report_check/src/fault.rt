@@ -5,8 +5,8 @@ ghost use Rattle.std.specs.Prelude.{IfOk, MatchOption};
 use crate::shown::ShownSurface;
 use crate::verdict::CheckVerdict;
 use certificates::SeamVerdict;
-use raster_model::plain;
 use std::alloc::{AllocError, Global};
+use surface_snapshots::Costs;
 
 impl ShownSurface<'_> {
     /// What is wrong with the surface, which is that of a revision: first its values are judged, then its tiles, then
@@ -39,20 +39,19 @@ impl ShownSurface<'_> {
         requires { PassesSeams (raster_shown self.now) (open_shown self.now) (told_shown self.now) }
         ensures { MatchOption result (IsGoodSurface (raster_shown self.now) (open_shown self.now) (told_shown self.now)) (IsSurfaceVerdict (raster_shown self.now) (open_shown self.now) revision (told_shown self.now)) }
     {
-        let tiles = self.tile_cost();
-        if self.told.tile_cost != tiles {
+        let costs = Costs::of(self.scene, self.mask, self);
+        if self.told.tile_cost != costs.tiles {
             return Some(CheckVerdict::TileCost {
                 revision,
                 written: self.told.tile_cost,
-                counted: tiles,
+                counted: costs.tiles,
             });
         }
-        let seams = plain::seam_cost(self.scene, self.mask, self);
-        if self.told.seam_cost != seams {
+        if self.told.seam_cost != costs.seams {
             return Some(CheckVerdict::SeamCost {
                 revision,
                 written: self.told.seam_cost,
-                counted: seams,
+                counted: costs.seams,
             });
         }
         None

@@ -1,8 +1,6 @@
 //! The verdict on a report for a session: it is certified, or the first thing that is wrong with it. Contains no solver.
 #![tactic(auto)]
 
-mod commands;
-mod counting;
 mod fault;
 mod header;
 mod history;

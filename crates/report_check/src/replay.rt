@@ -1,16 +1,15 @@
 ghost use Rattle.raster_model.specs.Scripts.{IsRectIn, rect_of};
 ghost use Rattle.raster_model.specs.Tiles.{tiles_of};
-ghost use Rattle.report_check.specs.Replays.{AreCleared, IsReplayOf, IsReplaying, IsRevised, MayTake, Takes, TellsComplete, TellsStep};
+ghost use Rattle.report_check.specs.Replays.{IsReplayOf, IsReplaying, IsRevised, MayTake, Takes, TellsComplete, TellsStep};
 ghost use Rattle.std.specs.Prelude.{◌≡◌, ◌↔◌, ℕ, ◌+◌, ◌-◌, ◌<◌, ◌≤◌, ◌^◌, [], Bool, IfOk, IsTrue, OnOk, Some, length, slice_get, slice_index, slice_index_or, slice_set, vec_len};
 ghost use Rattle.tile_board.specs.Histories.{script_in};
-ghost use Rattle.tile_board.specs.States.{cursor_at};
+ghost use Rattle.tile_board.specs.Places.{cursor_at};
 ghost use Rattle.tile_board.specs.declared.entry.Entry.TheVariants.{Kept, Published, Settled, Shown};
 
-use crate::commands::{all_ended, command_at, cursor_of};
 use mask_revisions::Revisions;
 use raster_model::{Command, Edit, Mask, Session};
 use std::alloc::{AllocError, Global};
-use tile_board::Entry;
+use tile_board::{Entry, all_ended, command_at, cursor_of, set_all};
 
 /// What a history says, entry by entry.
 #[derive(Drop)]
@@ -30,7 +29,7 @@ impl Replay {
         ensures { IfOk result (IsReplayOf session.now []) }
     {
         let tiling = session.scene.tiling;
-        let first = session.first_mask.try_copy()?;
+        let first = session.first_mask.try_copy(alloc)?;
         let revisions = Revisions::new(alloc, first, tiling)?;
         let kept = vec![in alloc; false; tiling.tile_count() as usize]?;
         let cursors = vec![in alloc; 0; session.scripts.len()]?;
@@ -194,7 +193,7 @@ impl Replay {
         ensures { OnOk result (IsRevised self.old self.new edit) }
     {
         let tiles = self.revisions.push(alloc, edit)?;
-        clear(&mut self.kept, &tiles);
+        set_all(&mut self.kept, &tiles, false);
         Ok(())
     }
 }
@@ -204,14 +203,4 @@ fn are_all(tests: &[bool]) -> bool
     ensures { IsTrue result ↔ ((k : ℕ) → k < length tests.now → IsTrue (slice_index_or tests.now k Bool.false)) }
 {
     tests.iter().all(|&test| test)
-}
-
-/// Marks some tiles as not kept.
-fn clear(kept: &mut [bool], tiles: &[u32])
-    requires { (i : ℕ) → i < length tiles.now → slice_index tiles.now i < length kept.old }
-    ensures { AreCleared kept.old kept.new tiles.now (length tiles.now) }
-{
-    for &tile in tiles {
-        kept[tile as usize] = false;
-    }
 }

@@ -8,15 +8,13 @@ use Rattle.grid_writer.specs.Grid.{texts_below}
 use Rattle.grid_writer.proofs.GridLemmas.{texts_more, texts_tail}
 use Rattle.grid_writer.proofs.WriteLemmas.{writes_nothing, writes_then, cut_early, cut_late}
 use Rattle.report_text.specs.Appending.{Appends}
+use Rattle.insar_ports.proofs.CallLemmas.{risen_before}
 
 abbrev pub done : Result (Unit {0}) WriteFault
 done = Ok tt
 
 abbrev pub failed : WriteFault → Result (Unit {0}) WriteFault
 failed e = Err e
-
-risen_since : (before middle after : ℕ) → before ≤ middle → HasRisen middle after → HasRisen before after
-risen_since before middle after grows risen = omega (arith, grows, risen)
 
 pub appends_nothing : (held : Option (List ℕ)) (waiting : List ℕ) (before : ℕ) → Appends held waiting before held waiting before [] done
 appends_nothing held waiting before = record { written = writes_nothing held waiting; cut = tt; fault = tt; grows = omega arith }
@@ -36,7 +34,7 @@ appends_then t s held waiting before mid waits middle now waiting_now after (Ok 
 appends_then t s held waiting before mid waits middle now waiting_now after (Err e) p q = record {
   written = tt;
   cut = cut_late held waiting mid waits t p.written now s q.cut;
-  fault = risen_since before middle after p.grows q.fault;
+  fault = risen_before before middle after p.grows q.fault;
   grows = omega (arith, p.grows, q.grows);
 }
 

@@ -5,7 +5,7 @@ use Rattle.std.specs.Prelude.{ℤ, pos, negsuc, ◌≤ℤ◌, IsTrue, if◌then�
 use Rattle.raster_model.specs.declared.session.Session.{Session}
 use Rattle.raster_model.specs.Raster.{Raster, seam_cost, tile_cost}
 use Rattle.raster_model.specs.Scene.{raster_of}
-use Rattle.raster_model.specs.Sums.{Field, sum_below}
+use Rattle.raster_model.specs.Sums.{Field}
 use Rattle.raster_model.proofs.Exact.{lifted_is_congruent}
 use Rattle.raster_model.proofs.Flat.{seam_cost-not_below, tile_cost-not_below}
 use Rattle.raster_model.proofs.SeamLeast.{certified_is_best}
@@ -20,6 +20,7 @@ use Rattle.tile_board.specs.Boards.{IsBoard, IsSurfaceOf}
 use Rattle.tile_board.specs.Histories.{IsComplete, mask_in, published_of}
 use Rattle.report_text.specs.Certified.{CertifiedReportsAreBest, IsBestAt, IsCertifiedAt, IsCertifiedBehind, IsCertifiedReport, IsCertifiedSurface, history_of, no_data}
 use Rattle.report_text.specs.Reports.{ItemOf, SurfaceOf, items_of, report_of, surface_of}
+use Rattle.sums_and_lists.specs.Sums.{sum_below}
 
 -- the items' entries are the history
 entries_again : (es : List Entry) (ps : List Parts) → map (λ (i : ItemOf). i.entry) (items_of es ps) ≡ es

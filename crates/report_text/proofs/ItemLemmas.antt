@@ -6,7 +6,6 @@ use Rattle.std.proofs.Common.{◌≡◌, ℕ, zero, suc, ◌+◌, ◌<◌, ◌�
 use Rattle.std.proofs.lemmas.List.{append-nil, drop_all, drop-map, drop_more, drop-drop}
 use Rattle.insar_ports.specs.declared.sink.WriteFault.{WriteFault}
 use Rattle.raster_model.specs.declared.session.Session.{Session}
-use Rattle.raster_model.specs.Sums.{one_if}
 use Rattle.raster_model.specs.Tiles.{tiles_of}
 use Rattle.surface_snapshots.specs.Parts.{Parts}
 use Rattle.surface_snapshots.specs.Views.{parts_of}
@@ -18,6 +17,8 @@ use Rattle.report_text.specs.Appending.{Appends, AreOver, surface_at}
 use Rattle.report_text.specs.Reports.{ItemOf, SurfaceOf, first_of, is_published, item_of, items_of, report_of, surface_of}
 use Rattle.report_text.specs.Text.{report_text, surface_text, tiles_along, tiles_in}
 use Rattle.report_text.proofs.AppendLemmas.{appends_nothing, appends_part, appends_then, done, failed}
+use Rattle.sums_and_lists.proofs.Tests.{one_at_most}
+use Rattle.sums_and_lists.specs.Sums.{one_if}
 
 -- how far the items of some entries are added: the first i entries, with the first `place` surfaces
 pub record AreAdded (f : ItemOf → List ℕ) (entries : List Entry) (surfaces : List Parts) (i place : ℕ) (held : Option (List ℕ)) (waiting : List ℕ) (before : ℕ) (now : Option (List ℕ)) (waiting_now : List ℕ) (after : ℕ) : Type 0 where
@@ -40,10 +41,6 @@ items_at f entries surfaces i place d lt =
     ∙ items_next f e (drop (i + 1) entries) (drop place surfaces)
     ∙ ap (λ (ps : List Parts). f (item_of e (first_of (drop place surfaces))) ++ flat_map f (items_of (drop (i + 1) entries) ps)) (drop-drop (one_if (is_published e)) place surfaces)
 
-one_or_none : (b : Bool) → one_if b ≤ 1
-one_or_none true = omega arith
-one_or_none false = omega arith
-
 module _ (f : ItemOf → List ℕ) (entries : List Entry) (surfaces : List Parts) (i place : ℕ) (d : Entry) (within : i < length entries) (surface : Option SurfaceOf) (found : first_of (drop place surfaces) ≡ surface) (held : Option (List ℕ)) (waiting : List ℕ) (before : ℕ) (mid : Option (List ℕ)) (waits : List ℕ) (middle : ℕ) (a : AreAdded f entries surfaces i place held waiting before mid waits middle) (now : Option (List ℕ)) (waiting_now : List ℕ) (after : ℕ) where
   abbrev item : List ℕ
   item = f (item_of (get_or entries i d) surface)
@@ -59,7 +56,7 @@ module _ (f : ItemOf → List ℕ) (entries : List Entry) (surfaces : List Parts
     text = a.text ++ item;
     appended = appends_then a.text item held waiting before mid waits middle now waiting_now after done a.appended p;
     whole = whole;
-    within = omega (arith, a.within, one_or_none (is_published (get_or entries i d)));
+    within = omega (arith, a.within, one_at_most (is_published (get_or entries i d)));
   })
 
   pub item_cut : (e : WriteFault) → Appends mid waits middle now waiting_now after (f (item_of (get_or entries i d) surface)) (failed e) → Appends held waiting before now waiting_now after (flat_map f (items_of entries surfaces)) (failed e)

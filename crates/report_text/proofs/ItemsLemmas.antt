@@ -13,10 +13,7 @@ use Rattle.report_text.specs.Parts.{IsItemsText, IsSurfaceText}
 use Rattle.report_text.specs.Reports.{ItemOf, is_published}
 use Rattle.report_text.specs.Text.{behind_text, entry_text, item_text}
 use Rattle.report_text.proofs.ItemForms.{AreItems, item_is, items_after, line_apart, surface_after, texts}
-
-pub all_push : {A : Type 0} (P : A → Type 0) (xs : List A) (x : A) → AllByRecursion P xs → P x → AllByRecursion P (xs ++ x ∷ [])
-all_push P [] x a p = (p, tt)
-all_push P (y ∷ xs) x a p = (a.0, all_push P xs x a.1 p)
+use Rattle.sums_and_lists.proofs.Lists.{all_push}
 
 pub all_get : {A : Type 0} (P : A → Type 0) (xs : List A) → AllByRecursion P xs → (n : ℕ) (x : A) → slice_get xs n ≡ Some x → P x
 all_get P [] a zero x e = absurd cc

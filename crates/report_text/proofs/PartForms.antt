@@ -1,7 +1,7 @@
 -- The parts of a report's text as forms: lines, the head, the faces, a surface.
 use Rattle.std.proofs.Common.{◌≡◌, ℕ, zero, suc, ◌+◌, ◌-◌, ◌≤◌, ◌<◌, ℤ, pos, Bool, true, false, cond, eqb, IsTrue, List, [], ◌∷◌, ◌++◌, inl, inr, ◌⊎◌, refl, sym, ap, subst, ◌∙◌, append_assoc, arith, rules}
 use Rattle.std.specs.Prelude.{codes}
-use Rattle.std.proofs.lemmas.Bool.{eqb-true, eqb-false, ne_eqb}
+use Rattle.std.proofs.lemmas.Bool.{eqb-true, eqb-false, ne_eqb, cases_Bool}
 use Rattle.raster_model.specs.Sums.{Field}
 use Rattle.raster_model.specs.Limits.{is_raster_size}
 use Rattle.raster_model.specs.declared.weights.RuleKind.{RuleKind}
@@ -22,12 +22,8 @@ use Rattle.report_text.specs.Text.{costs_text, faces_line, faces_text, field_tex
 use Rattle.report_text.proofs.LineFacts.{title_inside, size_inside, side_inside}
 use Rattle.report_text.proofs.LineLemmas.{rule_in_line, costs_in_line, faces_in_line, flows_in_line}
 
-two_ways : (b : Bool) → (b ≡ true) ⊎ (b ≡ false)
-two_ways true = inl refl
-two_ways false = inr refl
-
 eqb_same : (k : ℕ) → eqb k k ≡ true
-eqb_same k = elim (two_ways (eqb k k)) [
+eqb_same k = elim (cases_Bool (eqb k k)) [
   | inl t ↦ t
   | inr f ↦ absurd (eqb-false k k f refl)
 ]
@@ -36,7 +32,7 @@ eqb_other : (u k : ℕ) → (u ≡ k → ⊥) → eqb u k ≡ false
 eqb_other u k n = ne_eqb u k n
 
 two_cases : (u k : ℕ) → (u ≡ k) ⊎ (u ≡ k → ⊥)
-two_cases u k = elim (two_ways (eqb u k)) [
+two_cases u k = elim (cases_Bool (eqb u k)) [
   | inl t ↦ inl (eqb-true u k t)
   | inr f ↦ inr (eqb-false u k f)
 ]

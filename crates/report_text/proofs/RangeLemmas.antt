@@ -8,10 +8,9 @@ use Rattle.std.proofs.lemmas.List.{drop_all, drop_more, drop-drop}
 use Rattle.insar_ports.specs.declared.sink.WriteFault.{WriteFault}
 use Rattle.raster_model.specs.declared.session.Session.{Session}
 use Rattle.raster_model.specs.Limits.{is_raster_size}
-use Rattle.raster_model.specs.Sums.{one_if}
 use Rattle.raster_model.specs.Tiles.{tiles_of}
-use Rattle.surface_snapshots.specs.Parts.{AreGoodTiles, AreNear, Parts, offset_at, open_in, solved_cycles, surface_in}
-use Rattle.surface_snapshots.proofs.CallerLemmas.{near_or_none, solved_small}
+use Rattle.surface_snapshots.specs.Parts.{AreGoodTiles, AreNear, Parts, open_in, surface_in}
+use Rattle.surface_snapshots.proofs.CallerLemmas.{surface_small}
 use Rattle.grid_writer.specs.Grid.{shown, shown_in}
 use Rattle.grid_writer.specs.Grids.{AreLong}
 use Rattle.grid_writer.specs.Numbers.{IsLong}
@@ -24,6 +23,7 @@ use Rattle.report_text.specs.Appending.{AreSmallItems, HasSmallNumbers, IsSmallI
 use Rattle.report_text.specs.Contents.{IsItemInRange, IsReport, IsSurfaceInRange}
 use Rattle.report_text.specs.Reports.{SurfaceOf, first_of, is_published, item_of, items_of, report_of, surface_of}
 use Rattle.report_text.proofs.ItemLemmas.{tiles_are}
+use Rattle.sums_and_lists.specs.Sums.{one_if}
 
 -- a fact holds where the result is Ok
 pub on_ok_if : {P : Type 0} (r : Result (Unit {0}) WriteFault) → P → OnOk r P
@@ -55,9 +55,6 @@ same_small s t es fs ps qs a b c small =
 
 -- ---- the values of a surface
 
-value_fits : (n : ℕ) (a b : ℤ) → n ≤ 65535 → unsigned_abs a ≤ 8388608 → unsigned_abs b ≤ 2 ^ 46 → unsigned_abs (pos n +ℤ pos 65536 *ℤ (a +ℤ b)) < 2 ^ 63
-value_fits n a b t u v = omega (arith, ints, t, u, v)
-
 long_if_small : (z : ℤ) → unsigned_abs z < 2 ^ 63 → IsLong z
 long_if_small (pos n) lt = record { sfits = omega (arith, ints, lt) }
 long_if_small (negsuc n) lt = record { sfits = omega (arith, ints, lt) }
@@ -68,13 +65,7 @@ least_long = record { sfits = omega arith }
 
 module _ (p : Parts) (tiles : AreGoodTiles p.session.scene (open_in p) p.tiles.results) (near : AreNear p.seams.offsets.items) (x y : ℕ) (across : x < p.session.scene.phase.width) (along : y < p.session.scene.phase.height) where
   open_long : IsTrue (open_in p x y) → IsLong (surface_in p x y)
-  unfolding offset_at
-  open_long clear =
-      let below = p.session.scene.phase.below (y * p.session.scene.phase.width + x) in
-      let most = p.session.scene.cycle in
-      long_if_small (surface_in p x y) (value_fits _ (solved_cycles p.session.scene p.tiles.results x y) (offset_at p.regions p.seams.offsets.items x y) (omega (arith, below, most))
-      (solved_small p.session.scene (open_in p) p.tiles.results tiles x y across along clear)
-      (near_or_none p.seams.offsets.items near _))
+  open_long clear = long_if_small (surface_in p x y) (surface_small p tiles near x y across along clear)
 
   shown_long : (b : Bool) → open_in p x y ≡ b → IsLong (shown (if b then Some (surface_in p x y) else None))
   shown_long true is = open_long is

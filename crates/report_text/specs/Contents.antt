@@ -2,7 +2,7 @@
 use Rattle.std.specs.Prelude.{◌≡◌, ℕ, ◌<◌, ◌≤◌, ◌^◌, ℤ, IsTrue, List, [], map, slice_index_or, Option, Some, None, ⊤}
 use Rattle.std.specs.List.{AllByRecursion}
 use Rattle.std.specs.Global.{Vec, Box}
-use Rattle.raster_model.specs.Limits.{is_raster_size}
+use Rattle.raster_model.specs.Limits.{is_raster_size, IsTileSide}
 use Rattle.raster_model.specs.declared.script.Edit.TheVariants.{Mask, Unmask}
 use Rattle.raster_model.specs.declared.script.Rect.{Rect}
 use Rattle.grid_writer.specs.Forms.{Form}
@@ -78,7 +78,7 @@ pub record IsItemInRange (width height tiles : ℕ) (i : ItemOf) : Type 0 where
 
 pub record IsReport (v : ReportOf) : Type 0 where
   pub sized : IsTrue (is_raster_size v.width v.height)
-  pub sides : (2 ≤ v.side) × (v.side ≤ 128)
+  pub sides : IsTileSide v.side
   pub items : AllByRecursion (IsItemInRange v.width v.height (tiles_in v)) v.items
 
 -- the text of a report

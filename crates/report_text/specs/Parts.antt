@@ -7,7 +7,7 @@ use Rattle.insar_ports.specs.Lines.{IsInLine}
 use Rattle.grid_writer.specs.declared.fault.GridFault.{GridFault}
 use Rattle.grid_writer.specs.declared.fault.GridFault.TheVariants as faults
 use Rattle.grid_writer.specs.Reading.{HasLineCause}
-use Rattle.raster_model.specs.Limits.{is_raster_size}
+use Rattle.raster_model.specs.Limits.{is_raster_size, IsTileSide}
 use Rattle.raster_model.specs.declared.weights.RuleKind.{RuleKind}
 use Rattle.grid_writer.specs.Forms.{Form}
 use Rattle.grid_writer.specs.Grid.{texts_below}
@@ -23,7 +23,7 @@ abbrev pub IsSizeLine : List ℕ → Type 0
 IsSizeLine line = (width : ℕ) × (height : ℕ) × (IsTrue (is_raster_size width height) × (line ≡ size_line width height))
 
 abbrev pub IsSideLine : List ℕ → Type 0
-IsSideLine line = (side : ℕ) × (((2 ≤ side) × (side ≤ 128)) × (line ≡ tile_line side))
+IsSideLine line = (side : ℕ) × ((IsTileSide side) × (line ≡ tile_line side))
 
 abbrev pub IsRuleLine : List ℕ → Type 0
 IsRuleLine line = (rule : RuleKind) × (line ≡ rule_line rule)
@@ -52,7 +52,7 @@ abbrev pub head_by : ℕ → ℕ → ℕ → RuleKind → List ℕ
 head_by width height side rule = title_text ++ (size_text width height ++ (tile_text side ++ rule_text rule))
 
 abbrev pub IsHeadText : Form
-IsHeadText text = (width : ℕ) × (height : ℕ) × (side : ℕ) × (rule : RuleKind) × (IsTrue (is_raster_size width height) × (((2 ≤ side) × (side ≤ 128)) × (text ≡ head_by width height side rule)))
+IsHeadText text = (width : ℕ) × (height : ℕ) × (side : ℕ) × (rule : RuleKind) × (IsTrue (is_raster_size width height) × ((IsTileSide side) × (text ≡ head_by width height side rule)))
 
 -- the faces of so many tiles; the block of a surface
 abbrev pub IsFacesText : ℕ → Form

@@ -1,4 +1,4 @@
-ghost use Rattle.raster_model.specs.Limits.{is_raster_size};
+ghost use Rattle.raster_model.specs.Limits.{is_raster_size, IsTileSide};
 ghost use Rattle.report_text.specs.Fitting.{ItemsFit};
 ghost use Rattle.std.specs.Prelude.{◌≤◌, IsTrue};
 
@@ -19,6 +19,6 @@ pub struct Report {
     /// The history in order, and the surfaces after its publications.
     pub items: Vec<Item>,
     pub ghost sized: { IsTrue (is_raster_size width height) },
-    pub ghost sides: { (2 ≤ side) × (side ≤ 128) },
+    pub ghost sides: { IsTileSide side },
     pub ghost fitting: { ItemsFit width height side items.items },
 }

@@ -1,4 +1,4 @@
-ghost use Rattle.raster_model.specs.Limits.{is_raster_size};
+ghost use Rattle.raster_model.specs.Limits.{is_raster_size, IsTileSide};
 ghost use Rattle.raster_model.specs.declared.weights.RuleKind.{RuleKind as Kind};
 ghost use Rattle.report_text.specs.Contents.{IsCost, IsEntryOfWords, IsRectOfWords, IsWord};
 ghost use Rattle.report_text.specs.Lines.{costs_line, rule_line, size_line, tile_line};
@@ -8,7 +8,7 @@ ghost use Rattle.std.specs.Prelude.{◌≡◌, ◌≢◌, ◌<◌, ◌≤◌, �
 ghost use Rattle.tile_board.specs.declared.entry.Entry.{Entry as AnyEntry};
 
 use itoa::Buffer;
-use raster_model::{Edit, GREATEST_TILE_SIDE, LEAST_TILE_SIDE, Rect, RuleKind};
+use raster_model::{Edit, MAX_TILE_SIDE, MIN_TILE_SIDE, Rect, RuleKind};
 use tile_board::Entry;
 
 // The words of the lines.
@@ -57,11 +57,11 @@ pub(crate) fn size_of(line: &[u8]) -> Option<(u32, u32)>
 
 /// The side of a line `tile SIDE`, where it is from 2 to 128.
 pub(crate) fn side_of(line: &[u8]) -> Option<u32>
-    ensures found { IfSome result (λ side. (line.now ≡ tile_line side) × ((2 ≤ side) × (side ≤ 128))) }
+    ensures found { IfSome result (λ side. (line.now ≡ tile_line side) × (IsTileSide side)) }
     ensures none { IfNone result ((side : ℕ) → 2 ≤ side → side ≤ 128 → line.now ≡ tile_line side → ⊥) }
 {
     let side = last_field(line.strip_prefix(TILE)?)?;
-    if LEAST_TILE_SIDE <= side && side <= GREATEST_TILE_SIDE {
+    if MIN_TILE_SIDE <= side && side <= MAX_TILE_SIDE {
         Some(side)
     } else {
         None

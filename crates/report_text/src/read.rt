@@ -5,7 +5,7 @@ ghost use Rattle.grid_writer.specs.Numbers.{AreLongs, numbers_text};
 ghost use Rattle.grid_writer.specs.Reading.{HasLineCause, room_of};
 ghost use Rattle.insar_ports.specs.Calls.{Moves, Takes, call_of};
 ghost use Rattle.insar_ports.specs.Feeding.{handed_of, left_of, limit_of, source_name};
-ghost use Rattle.raster_model.specs.Limits.{is_raster_size};
+ghost use Rattle.raster_model.specs.Limits.{is_raster_size, IsTileSide};
 ghost use Rattle.report_text.specs.Contents.{IsCost, IsEntryOfWords, IsItemInRange, IsReport, IsReportText, IsSurfaceInRange, lists_of, report_told, told_behind, told_item, told_surface};
 ghost use Rattle.report_text.specs.Fitting.{ItemsFit, MayFit, SurfaceFits};
 ghost use Rattle.report_text.specs.Lines.{costs_line, flows_line, rule_line, size_line, tile_faces_line, tile_line};
@@ -43,7 +43,7 @@ struct Head {
     /// How many tiles there are.
     tiles: u32,
     ghost sized: { IsTrue (is_raster_size width height) },
-    ghost sides: { (2 ≤ side) × (side ≤ 128) },
+    ghost sides: { IsTileSide side },
     ghost counted: { tiles ≡ tiles_along height side * tiles_along width side },
 }
 
@@ -71,7 +71,7 @@ fn read_side<S: Source>(feed: &mut Feed<S>, lines: &mut Lines) -> Result<u32, Gr
     ensures same_limit { limit_of feed.new ≡ limit_of feed.old }
     ensures moves { Moves (call_of S.left S.faults feed.old feed.new) }
     ensures read { IfOk result (λ side. TakesLines (IsLine (tile_line side)) (number_of lines.old) (number_of lines.new) (call_of S.left S.faults feed.old feed.new)) }
-    ensures sides { IfOk result (λ side. (2 ≤ side) × (side ≤ 128)) }
+    ensures sides { IfOk result (λ side. IsTileSide side) }
     ensures refused { IfErr result (HasLineCause (LineOf IsSideLine) (number_of lines.old) (call_of S.left S.faults feed.old feed.new)) }
 {
     match lines.next(feed, LONGEST_LINE)? {

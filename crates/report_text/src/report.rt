@@ -1,6 +1,6 @@
+ghost use Rattle.sums_and_lists.specs.Sums.{one_if};
 ghost use Rattle.grid_writer.specs.Waiting.{waiting_in};
 ghost use Rattle.insar_ports.specs.Bytes.{GainsProperPrefix, HasRisen, with_end};
-ghost use Rattle.raster_model.specs.Sums.{one_if};
 ghost use Rattle.raster_model.specs.Tiles.{tiles_of};
 ghost use Rattle.report_text.specs.Appending.{Appends, AreOver, AreSmallItems, IsSmallItem, MayHaveSmallNumbers, surface_at};
 ghost use Rattle.report_text.specs.Certified.{IsCertifiedReport};

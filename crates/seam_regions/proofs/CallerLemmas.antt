@@ -15,7 +15,8 @@ use Rattle.seam_regions.specs.Regions.{label_at, region_at, IsTiledBy, AreRegion
 use Rattle.seam_regions.specs.RegionsView.{RegionsView}
 use Rattle.seam_regions.proofs.FloodLemmas.{tests_say}
 use Rattle.seam_regions.proofs.NumberLemmas.{open_ends}
-use Rattle.seam_regions.proofs.TileTests.{down_is, right_is, truth}
+use Rattle.seam_regions.proofs.TileTests.{down_is, right_is}
+use Rattle.std.proofs.lemmas.Bool.{cases_Bool}
 
 pub scene_is_tiled : (s : Scene) → IsTiledBy (raster_of s) s.tiling
 scene_is_tiled s = record { width = sym s.same_width.1; height = sym s.same_height.1; tile = refl }
@@ -47,7 +48,7 @@ module _ (r : Raster) (mask : Field Bool) (labels : Field ℕ) (count : ℕ) (is
   one_label_at_ends e i =
       let P : Edge → Type 0 = λ f. at_start labels f ≡ at_end labels f in
       let Q : Edge → Type 0 = λ f. IsTrue (is_open_inner r mask f) in
-      elim (truth e.down) [
+      elim (cases_Bool e.down) [
         | inl h ↦ (let s = down_is e h in subst P (sym s) (down_ends e.x e.y (subst Q s i)))
         | inr h ↦ (let s = right_is e h in subst P (sym s) (right_ends e.x e.y (subst Q s i)))
       ]

@@ -1,5 +1,5 @@
 -- The flood goes on by one edge.
-use Rattle.std.proofs.Common.{◌≡◌, ℕ, ◌+◌, ◌*◌, ◌/◌, ◌%◌, ◌<◌, ◌⊎◌, inl, inr, sym, ◌∙◌, ap, refl, arith, Bool, true, false, List, length, subst}
+use Rattle.std.proofs.Common.{◌≡◌, ℕ, ◌+◌, ◌*◌, ◌/◌, ◌%◌, ◌<◌, inl, inr, sym, ◌∙◌, ap, refl, arith, Bool, true, false, List, length, subst}
 use Rattle.std.specs.Prelude.{IsTrue, ◌&&◌, not, nat_lt, if◌then◌else◌, slice_index}
 use Rattle.std.proofs.lemmas.Bool.Decides.{nat_tests}
 use Rattle.std.proofs.lemmas.Nat.{mod-mul-add, div-mul-add, mul-add-lt}
@@ -14,7 +14,9 @@ use Rattle.raster_model.proofs.Regions.{joined_sym, joined_trans}
 use Rattle.seam_regions.specs.Flood.{tiled, edge_number, IsFlooded, IsFlood}
 use Rattle.seam_regions.specs.Forest.{IsForest, root_with}
 use Rattle.seam_regions.proofs.ForestLemmas.{root_with-ends, root_with-same, root_with-least, root_with-stays, root_with-related}
-use Rattle.seam_regions.proofs.TileTests.{down_is, right_is, truth}
+use Rattle.seam_regions.proofs.TileTests.{down_is, right_is}
+use Rattle.sums_and_lists.proofs.Orders.{below_or_last}
+use Rattle.std.proofs.lemmas.Bool.{cases_Bool}
 
 -- what the tests of an inner edge with open ends say
 pub tests_say : (x y a b w h : ℕ) (k s : Bool) → IsTrue ((((nat_lt x w && nat_lt y h) && (nat_lt a w && nat_lt b h)) && k) && s) → (x < w) × (y < h) × (a < w) × (b < h)
@@ -40,9 +42,6 @@ one_number w e f l m n =
     let p = same_place w f.x f.y e.x e.y m l h.0 in
     same_edge e f p.0 p.1 h.1
 
-pub last_or : (i n : ℕ) → i < n + 1 → (i < n) ⊎ (i ≡ n)
-last_or i n l = grind arith
-
 module _ (g : Tiling) (mask : Field Bool) where
   -- the places i and j are joined by a walk
   abbrev Walk : ℕ → ℕ → Type 0
@@ -62,7 +61,7 @@ module _ (g : Tiling) (mask : Field Bool) where
   edge_walk e t =
       let P : Edge → Type 0 = λ f. Walk (f.y * g.width + f.x) (end_y f * g.width + end_x f) in
       let Q : Edge → Type 0 = λ f. IsTrue (is_open_inner (tiled g) mask f) in
-      elim (truth e.down) [
+      elim (cases_Bool e.down) [
         | inl h ↦ (let s = down_is e h in subst P (sym s) (down_walk e.x e.y (subst Q s t)))
         | inr h ↦ (let s = right_is e h in subst P (sym s) (right_walk e.x e.y (subst Q s t)))
       ]
@@ -80,7 +79,7 @@ module _ (g : Tiling) (mask : Field Bool) where
       least = is.least;
       stays = is.stays;
       walks = is.walks;
-      edges = λ f t m. elim (last_or (edge_number g.width f) n m) [
+      edges = λ f t m. elim (below_or_last (edge_number g.width f) n m) [
         | inl k ↦ is.edges f t k
         | inr k ↦ (
             let i = tests_say f.x f.y (end_x f) (end_y f) g.width g.height (has_open_ends mask f) (not (is_seam (tiled g) f)) t in
@@ -99,7 +98,7 @@ module _ (g : Tiling) (mask : Field Bool) where
           least = root_with-least root a b is.least;
           stays = root_with-stays root a b is.stays;
           walks = root_with-related Walk (λ i j. joined_sym) (λ i j k. joined_trans) root a b is.walks (edge_walk e open_inner);
-          edges = λ f t m. elim (last_or (edge_number g.width f) n m) [
+          edges = λ f t m. elim (below_or_last (edge_number g.width f) n m) [
             | inl k ↦ root_with-same root a b (f.y * g.width + f.x) (end_y f * g.width + end_x f) (is.edges f t k)
             | inr k ↦ (
                 let i = tests_say f.x f.y (end_x f) (end_y f) g.width g.height (has_open_ends mask f) (not (is_seam (tiled g) f)) t in

@@ -5,14 +5,16 @@ use Rattle.std.proofs.lemmas.Bool.Decides.{nat_tests}
 use Rattle.std.proofs.lemmas.List.{get_or-set_same, get_or-set_other}
 use Rattle.std.proofs.lemmas.Nat.{mod-mul-add, div-mul-add, mul-add-lt}
 use Rattle.raster_model.specs.declared.tiling.Tiling.{Tiling}
-use Rattle.raster_model.specs.Sums.{Field, is_edge, right_edge, down_edge, count_below, one_if}
+use Rattle.raster_model.specs.Sums.{Field, is_edge, right_edge, down_edge}
 use Rattle.raster_model.specs.Raster.{Raster, is_seam}
 use Rattle.raster_model.specs.Seams.{AreJoined}
 use Rattle.raster_model.specs.Seams.AreJoined.{here, rightward, leftward, downward, upward}
-use Rattle.raster_model.proofs.CountLemmas.{count_below-more, count_below-none}
 use Rattle.raster_model.proofs.Regions.{joined_sym}
 use Rattle.seam_regions.specs.Flood.{is_first, firsts_before, number_of, IsNumbered, IsFlood}
-use Rattle.seam_regions.proofs.FloodLemmas.{last_or}
+use Rattle.sums_and_lists.proofs.Tests.{one_at_most}
+use Rattle.sums_and_lists.specs.Sums.{count_below, one_if}
+use Rattle.sums_and_lists.proofs.CountLemmas.{count_below-more, count_below-none}
+use Rattle.sums_and_lists.proofs.Orders.{below_or_last}
 
 -- ---- a walk from an open pixel ends at an open one
 pub open_ends : (e m n s : Bool) → IsTrue ((e && (m && n)) && s) → IsTrue m × IsTrue n
@@ -29,9 +31,6 @@ open_along {r = r} {mask = mask} (downward {a = a} {b = b} p i) o = (open_ends (
 open_along {r = r} {mask = mask} (upward {a = a} {b = b} p i) o = (open_ends (is_edge r.width r.height (down_edge a b)) (mask a b) (mask a (b + 1)) (not (is_seam r (down_edge a b))) i).0
 
 -- ---- counts of first pixels
-pub one_at_most : (b : Bool) → one_if b ≤ 1
-one_at_most true = omega arith
-one_at_most false = omega arith
 
 pub firsts_before-more : (w : ℕ) (mask : Field Bool) (root : ℕ → ℕ) (k : ℕ) → firsts_before w mask root (k + 1) ≡ firsts_before w mask root k + one_if (is_first w mask root k)
 firsts_before-more w mask root k = count_below-more k (λ i. one_if (is_first w mask root i))
@@ -40,9 +39,6 @@ pub firsts_at_most : (w : ℕ) (mask : Field Bool) (root : ℕ → ℕ) (k : ℕ
 unfolding count_below
 firsts_at_most w mask root zero = omega arith
 firsts_at_most w mask root (suc k) = omega (arith, firsts_at_most w mask root k, one_at_most (is_first w mask root k))
-
-pub first_says : (m : Bool) (r i : ℕ) → (m && (r == i)) ≡ true → (m ≡ true) × (r ≡ i)
-first_says m r i t = (grind (arith, nat_tests), grind (arith, nat_tests))
 
 masked_is_no_first : (m : Bool) (r i : ℕ) → m ≡ false → one_if (m && (r == i)) ≡ 0
 masked_is_no_first m r i e = rw e refl
@@ -63,7 +59,7 @@ module _ (g : Tiling) (mask : Field Bool) (k count : ℕ) (ls : List ℕ) (is : 
     below = λ i l m. rw (other i l) (is.below i (omega arith) (omega (arith, m, length-set ls k label)));
     leads = λ i l m. rw (other i l) (is.leads i (omega arith) (omega (arith, m, length-set ls k label)));
     ends = λ i l m. rw (other i l) (is.ends i (omega arith) (omega (arith, m, length-set ls k label)));
-    numbers = λ i l. elim (last_or i k l) [
+    numbers = λ i l. elim (below_or_last i k l) [
       | inl m ↦ (let n : i ≢ k = omega arith in get_or-set_other ls k i label 0 n ∙ is.numbers i m)
       | inr m ↦ rw m (get_or-set_same ls k label 0 inside ∙ e)
     ];

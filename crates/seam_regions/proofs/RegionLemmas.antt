@@ -1,23 +1,26 @@
 -- Numbers of the trees are the numbers of the regions.
 use Rattle.std.proofs.Common.{◌≡◌, ℕ, zero, suc, ◌+◌, ◌*◌, ◌/◌, ◌%◌, ◌<◌, ◌≤◌, ◌⊎◌, inl, inr, sym, ◌∙◌, ap, refl, arith, Bool, true, false, List, ne_eqb}
-use Rattle.std.specs.Prelude.{IsTrue, ◌↔◌, ◌==◌, ◌&&◌, not, if◌then◌else◌, Some, None, slice_index}
-use Rattle.std.proofs.lemmas.Bool.Decides.{nat_tests}
+use Rattle.std.specs.Prelude.{IsTrue, ◌↔◌, ◌==◌, not, if◌then◌else◌, Some, None, slice_index}
 use Rattle.std.proofs.lemmas.Nat.{mod-mul-add, div-mul-add, div-add-mod', mod_below, div_below, mul-le, mul-add-lt}
 use Rattle.raster_model.specs.declared.edge.Edge.{Edge}
 use Rattle.raster_model.specs.declared.tiling.Tiling.{Tiling}
 use Rattle.raster_model.specs.MaskView.{MaskView}
 use Rattle.raster_model.specs.Masks.{open_at}
-use Rattle.raster_model.specs.Sums.{Field, end_x, end_y, right_edge, down_edge, count_below, one_if}
+use Rattle.raster_model.specs.Sums.{Field, end_x, end_y, right_edge, down_edge}
 use Rattle.raster_model.specs.Raster.{Raster, is_seam, has_open_ends}
 use Rattle.raster_model.specs.Seams.{IsOpenPixel, IsEarlier, IsFirst, AreJoined, AreRegions, is_open_inner}
 use Rattle.raster_model.specs.Seams.AreJoined.{here, rightward, leftward, downward, upward}
-use Rattle.raster_model.proofs.CountLemmas.{count_below-le}
 use Rattle.raster_model.proofs.Regions.{joined_sym, joined_trans}
 use Rattle.seam_regions.specs.Flood.{tiled, is_first, firsts_before, number_of, IsFlooded, IsNumbered}
 use Rattle.seam_regions.specs.Regions.{IsTiledBy, most_regions, AreRegionsOf}
 use Rattle.seam_regions.proofs.FloodLemmas.{tests_say}
-use Rattle.seam_regions.proofs.TileTests.{truth}
-use Rattle.seam_regions.proofs.NumberLemmas.{at_place, first_says, open_along, firsts_before-more}
+use Rattle.seam_regions.proofs.NumberLemmas.{at_place, open_along, firsts_before-more}
+use Rattle.sums_and_lists.proofs.Tests.{both_told, tells_both}
+use Rattle.sums_and_lists.proofs.Orders.{below_at_above}
+use Rattle.raster_model.proofs.RegionNumbers.{earlier_place}
+use Rattle.sums_and_lists.specs.Sums.{count_below, one_if}
+use Rattle.sums_and_lists.proofs.CountLemmas.{count_below-le}
+use Rattle.std.proofs.lemmas.Bool.{cases_Bool}
 
 -- ---- walks in rasters with one size and the same tiles
 module _ (r : Raster) (g : Tiling) (mask : Field Bool) (t : IsTiledBy r g) where
@@ -45,8 +48,6 @@ module _ (r : Raster) (g : Tiling) (mask : Field Bool) (t : IsTiledBy r g) where
   open_there l m o = (rw t.width l, rw t.height m, o)
 
 -- ---- order of places
-order : (m n : ℕ) → (m < n) ⊎ ((m ≡ n) ⊎ (n < m))
-order m n = grind arith
 
 place_in : (w h i : ℕ) → 0 < w → i < h * w → (i % w < w) × (i / w < h)
 place_in w h i p l = (mod_below i w p, div_below i w h p l)
@@ -54,7 +55,7 @@ place_in w h i p l = (mod_below i w p, div_below i w h p l)
 earlier_from : (w i x y : ℕ) → 0 < w → x < w → i < y * w + x → IsEarlier (i % w) (i / w) x y
 earlier_from w i x y p l m =
     let s = div-add-mod' i w in
-    elim (order (i / w) y) [
+    elim (below_at_above (i / w) y) [
       | inl k ↦ inl k
       | inr k ↦ elim k [
         | inl e ↦ (let f : i / w * w ≡ y * w = ap (λ (n : ℕ). n * w) e in inr (e, omega (arith, s, f, m)))
@@ -62,18 +63,9 @@ earlier_from w i x y p l m =
       ]
     ]
 
-earlier_place : (w a b x y : ℕ) → a < w → IsEarlier a b x y → b * w + a < y * w + x
-earlier_place w a b x y l (inl k) =
-    let m : suc b * w ≤ y * w = mul-le (suc b) w y w (omega arith) (omega arith) in
-    omega (arith, m)
-earlier_place w a b x y l (inr k) = let e : b * w ≡ y * w = ap (λ (n : ℕ). n * w) k.0 in omega (arith, e, k.1)
-
 -- ---- counts of first pixels tell them apart
 one_if_true : (b : Bool) → b ≡ true → one_if b ≡ 1
 one_if_true b e = rw e refl
-
-first_is : (m : Bool) (r i : ℕ) → m ≡ true → r ≡ i → (m && (r == i)) ≡ true
-first_is m r i e f = grind (arith, nat_tests)
 
 split_one : (b : Bool) (v n : ℕ) → v < n + one_if b → (v < n) ⊎ ((b ≡ true) × (v ≡ n))
 split_one true v n l = grind arith
@@ -85,7 +77,7 @@ module _ (w : ℕ) (mask : Field Bool) (root : ℕ → ℕ) where
       omega (arith, firsts_before-more w mask root i, one_if_true (is_first w mask root i) f, count_below-le (i + 1) k (λ j. one_if (is_first w mask root j)) (omega arith))
 
   counts_tell : (i k : ℕ) → is_first w mask root i ≡ true → is_first w mask root k ≡ true → firsts_before w mask root i ≡ firsts_before w mask root k → i ≡ k
-  counts_tell i k f h e = elim (order i k) [
+  counts_tell i k f h e = elim (below_at_above i k) [
     | inl l ↦ absurd (omega (arith, counts_rise i k f l, e))
     | inr t ↦ elim t [ inl s ↦ s | inr l ↦ absurd (omega (arith, counts_rise k i h l, e)) ]
   ]
@@ -125,7 +117,7 @@ module _ (g : Tiling) (mask : Field Bool) (root : ℕ → ℕ) (is : IsFlooded g
   root_first : (x y : ℕ) → x < g.width → IsTrue (mask x y) → is_first g.width mask root (root (y * g.width + x)) ≡ true
   root_first x y l o =
       let i = root (y * g.width + x) in
-      first_is (mask (i % g.width) (i / g.width)) (root i) i (open_along (root_walk x y l) o) (is.stays (y * g.width + x))
+      both_told (mask (i % g.width) (i / g.width)) (root i) i (open_along (root_walk x y l) o) (is.stays (y * g.width + x))
 
   joined_from : (x y a b : ℕ) → x < g.width → a < g.width → root (y * g.width + x) ≡ root (b * g.width + a) → AreJoined (tiled g) mask x y a b
   joined_from x y a b l m e = joined_trans (root_walk x y l) (rw e (joined_sym (root_walk a b m)))
@@ -139,7 +131,7 @@ module _ (g : Tiling) (mask : Field Bool) (root : ℕ → ℕ) (is : IsFlooded g
     first_root x y f =
         let o = open_here r g mask t f.0 in
         let i = root (y * g.width + x) in
-        elim (order i (y * g.width + x)) [
+        elim (below_at_above i (y * g.width + x)) [
           | inl l ↦ absurd (
               let p = place_in g.width g.height i (omega (arith, o.0)) (omega (arith, l, inside x y o.0 o.1)) in
               f.1 (i % g.width) (i / g.width) (open_there r g mask t p.0 p.1 (open_along (root_walk x y o.0) o.2)) (earlier_from g.width i x y (omega (arith, o.0)) o.0 l) (joined_there r g mask t (root_walk x y o.0)))
@@ -180,7 +172,7 @@ module _ (g : Tiling) (mask : Field Bool) (labels : List ℕ) (count : ℕ) (is 
         let i = u.0 in
         let w : 0 < g.width = omega (arith, g.wide) in
         let p = place_in g.width g.height i w u.1 in
-        let f = first_says (mask (i % g.width) (i / g.width)) (is.root i) i u.2 in
+        let f = tells_both (mask (i % g.width) (i / g.width)) (is.root i) i u.2 in
         let whole = div-add-mod' i g.width in
         let number : slice_index labels i ≡ v = is.numbers i u.1 ∙ number_open g.width mask is.root i f.0 ∙ ap (firsts_before g.width mask is.root) f.1 ∙ u.3 in
         (i % g.width, i / g.width, open_there r g mask t p.0 p.1 f.0, rw whole number)
@@ -224,7 +216,7 @@ regions_are g m labels count is few = record {
   width = refl;
   height = refl;
   regions = λ r t. are_regions g (open_at m) labels count is r t;
-  told = λ x y l h. elim (truth (open_at m x y)) [
+  told = λ x y l h. elim (cases_Bool (open_at m x y)) [
     | inl o ↦ told_open (open_at m x y) (slice_index labels (y * g.width + x)) o (omega (arith, few, label_below g (open_at m) labels count is x y l h o))
     | inr o ↦ told_masked (open_at m x y) (slice_index labels (y * g.width + x)) o (is.numbers (y * g.width + x) (inside g (open_at m) is.root is.flooded x y l h) ∙ number_masked g.width (open_at m) is.root (y * g.width + x) (at_place g (open_at m) x y l ∙ o))
   ];

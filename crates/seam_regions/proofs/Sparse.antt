@@ -5,14 +5,16 @@ use Rattle.std.proofs.lemmas.Bool.{cases_eq, cases_lt}
 use Rattle.std.proofs.lemmas.Bool.Decides.{nat_tests}
 use Rattle.std.proofs.lemmas.Nat.{mod-mul-add, div-add-mod', mul-add-lt, mul-le}
 use Rattle.raster_model.specs.declared.tiling.Tiling.{Tiling}
-use Rattle.raster_model.specs.Sums.{Field, is_edge, right_edge, count_below, one_if}
+use Rattle.raster_model.specs.Sums.{Field, is_edge, right_edge}
 use Rattle.raster_model.specs.Raster.{is_seam}
 use Rattle.raster_model.specs.Seams.{is_open_inner}
-use Rattle.raster_model.proofs.CountLemmas.{count_below-more, count_below-none}
 use Rattle.seam_regions.specs.Flood.{tiled, is_first, firsts_before, IsFlooded}
 use Rattle.seam_regions.specs.Regions.{most_regions}
-use Rattle.seam_regions.proofs.NumberLemmas.{at_place, first_says, firsts_at_most, one_at_most}
+use Rattle.seam_regions.proofs.NumberLemmas.{at_place, firsts_at_most}
 use Rattle.seam_regions.proofs.TileTests.{inner_right}
+use Rattle.sums_and_lists.specs.Sums.{count_below, one_if}
+use Rattle.sums_and_lists.proofs.CountLemmas.{count_below-more, count_below-none}
+use Rattle.sums_and_lists.proofs.Tests.{tells_both, one_at_most}
 
 -- ---- sums of ones
 count_below-split : (a n : ℕ) (f : ℕ → ℕ) → count_below (a + n) f ≡ count_below a f + count_below n (λ i. f (a + i))
@@ -65,8 +67,8 @@ module _ (g : Tiling) (mask : Field Bool) (root : ℕ → ℕ) (is : IsFlooded g
   apart x l border p q =
       let i = y * g.width + x in
       let j = y * g.width + (x + 1) in
-      let a = first_says (mask (i % g.width) (i / g.width)) (root i) i p in
-      let b = first_says (mask (j % g.width) (j / g.width)) (root j) j q in
+      let a = tells_both (mask (i % g.width) (i / g.width)) (root i) i p in
+      let b = tells_both (mask (j % g.width) (j / g.width)) (root j) j q in
       let inner = sym (inner_right g x y (omega arith) m (omega arith)) ∙ no_border ((x + 1) % g.side) border in
       let t : IsTrue (is_open_inner (tiled g) mask (right_edge x y)) = all_true (is_edge g.width g.height (right_edge x y)) (mask x y) (mask (x + 1) y) (not (is_seam (tiled g) (right_edge x y))) inner (sym (at_place g mask x y (omega arith)) ∙ a.0) (sym (at_place g mask (x + 1) y l) ∙ b.0) in
       let within : y * g.width + x < g.width * g.height = mul-add-lt y g.width x g.height m (omega arith) in

@@ -1,5 +1,5 @@
 -- Where an edge leads from tile to tile.
-use Rattle.std.proofs.Common.{◌≡◌, ◌≢◌, ℕ, zero, suc, ◌+◌, ◌/◌, ◌%◌, ◌<◌, ◌⊎◌, inl, inr, sym, ap, subst, refl, arith, Bool, true, false}
+use Rattle.std.proofs.Common.{◌≡◌, ◌≢◌, ℕ, zero, suc, ◌+◌, ◌/◌, ◌%◌, ◌<◌, inl, inr, sym, ap, subst, refl, arith, Bool, true, false}
 use Rattle.std.specs.Prelude.{◌==◌, ◌&&◌, not, nat_lt}
 use Rattle.std.proofs.lemmas.Bool.Decides.{nat_tests}
 use Rattle.std.proofs.lemmas.Nat.{div-add-mod', mod_below}
@@ -10,6 +10,7 @@ use Rattle.raster_model.specs.Raster.{is_seam}
 use Rattle.raster_model.specs.Tiles.{tile_at}
 use Rattle.raster_model.proofs.TileLemmas.{in_block, from_block, tiles_are_squares}
 use Rattle.seam_regions.specs.Flood.{next_begins, tiled}
+use Rattle.std.proofs.lemmas.Bool.{cases_Bool}
 
 -- x and the next number are in one block of d exactly where the next begins none
 begins : (x d : ℕ) → 0 < d → (x + 1) % d ≡ 0 → x / d ≡ (x + 1) / d → ⊥
@@ -46,10 +47,6 @@ module _ (g : Tiling) (x y : ℕ) where
       (λ e f. begins y g.side positive e (t.0 f).1)
       (λ p. t.1 (refl, stays y g.side positive p))
 
-pub truth : (b : Bool) → (b ≡ true) ⊎ (b ≡ false)
-truth true = inl refl
-truth false = inr refl
-
 -- an edge by its first pixel
 pub down_is : (e : Edge) → e.down ≡ true → e ≡ down_edge e.x e.y
 down_is e h = let with : Bool → Edge = λ d. record { x = e.x; y = e.y; down = d } in ap with h
@@ -73,7 +70,7 @@ module _ (g : Tiling) (e : Edge) (l : e.x < g.width) (m : e.y < g.height) where
   pub inner_is : end_x e ≢ g.width → end_y e ≢ g.height → not (next_begins g e) ≡ (is_edge g.width g.height e && not (is_seam (tiled g) e))
   inner_is p q =
       let P : Edge → Type 0 = λ f. end_x f ≢ g.width → end_y f ≢ g.height → not (next_begins g f) ≡ (is_edge g.width g.height f && not (is_seam (tiled g) f)) in
-      elim (truth e.down) [
+      elim (cases_Bool e.down) [
         | inl h ↦ subst P (sym (down_is e h)) (λ a b. inner_down g e.x e.y l m b) p q
         | inr h ↦ subst P (sym (right_is e h)) (λ a b. inner_right g e.x e.y l m a) p q
       ]

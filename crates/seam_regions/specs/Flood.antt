@@ -2,11 +2,12 @@
 use Rattle.std.specs.Prelude.{◌≡◌, ℕ, ◌+◌, ◌*◌, ◌/◌, ◌%◌, ◌<◌, ◌≤◌, Bool, ◌&&◌, ◌==◌, IsTrue, if◌then◌else◌, List, length, slice_index}
 use Rattle.raster_model.specs.declared.edge.Edge.{Edge}
 use Rattle.raster_model.specs.declared.tiling.Tiling.{Tiling}
-use Rattle.raster_model.specs.Sums.{Field, end_x, end_y, count_below, one_if}
+use Rattle.raster_model.specs.Sums.{Field, end_x, end_y}
 use Rattle.raster_model.specs.Raster.{Raster}
 use Rattle.raster_model.specs.Seams.{AreJoined, is_open_inner}
 use Rattle.raster_model.specs.Tiles.{tiles_of, tile_at}
 use Rattle.seam_regions.specs.Forest.{IsForest}
+use Rattle.sums_and_lists.specs.Sums.{count_below, one_if}
 
 -- a raster with a tiling's size and tiles
 abbrev pub tiled : Tiling → Raster

@@ -1,5 +1,5 @@
 -- The numbered regions of a tiled raster under a mask (Chen and Zebker 2002, tiles that do not overlap).
-use Rattle.std.specs.Prelude.{◌≡◌, ℕ, ◌+◌, ◌*◌, ◌<◌, ◌≤◌, ◌==◌, Option, Some, None, if◌then◌else◌, slice_index}
+use Rattle.std.specs.Prelude.{◌≡◌, ℕ, ◌+◌, ◌*◌, ◌<◌, ◌≤◌, ◌==◌, ℤ, pos, ◌+ℤ◌, List, Option, Some, None, if◌then◌else◌, slice_index, slice_index_or}
 use Rattle.raster_model.specs.declared.tiling.Tiling.{Tiling}
 use Rattle.raster_model.specs.MaskView.{MaskView}
 use Rattle.raster_model.specs.Masks.{open_at}
@@ -16,6 +16,13 @@ label_at v x y = slice_index v.labels (y * v.width + x)
 -- the number of its region; there is none where the label is 2 ^ 32 - 1
 abbrev pub region_at : RegionsView → Field (Option ℕ)
 region_at v x y = if label_at v x y == 4294967295 then None else Some (label_at v x y)
+
+-- the offset of a pixel's region, and cycles with it
+unfoldable pub offset_at : RegionsView → List ℤ → Field ℤ
+offset_at v offsets x y = slice_index_or offsets (label_at v x y) (pos 0)
+
+abbrev pub shifted_by : RegionsView → List ℤ → Field ℤ → Field ℤ
+shifted_by v offsets cycles x y = cycles x y +ℤ offset_at v offsets x y
 
 -- the raster has the tiling's size and tiles
 pub record IsTiledBy (r : Raster) (g : Tiling) : Type 0 where

@@ -4,16 +4,15 @@ use Rattle.std.specs.Prelude.{IfSome, IfOk, IfErr}
 use Rattle.raster_model.specs.declared.session.Session.{Session}
 use Rattle.pgm_planes.specs.declared.fault.InputFault.{InputFault}
 use Rattle.insar_ports.specs.Calls.{Call}
-use Rattle.pgm_planes.proofs.CallLemmas.{some_of}
 use Rattle.session_script.specs.declared.fault.SessionFault.{SessionFault}
 use Rattle.session_script.specs.declared.fault.SessionFault.TheVariants.{Input, ReadFault, Memory}
 use Rattle.session_script.specs.declared.session_use.SessionUse.{SessionUse}
 use Rattle.session_script.specs.Causes.{HasCause, IsReadAs, IsRefusedFor}
 use Rattle.session_script.specs.Reaching.{Reaches}
 use Rattle.session_script.specs.Sessions.{SessionOf, session_of, IsSessionIn, HasFault}
-use Rattle.session_script.proofs.ReachLemmas.{if_told, at_told}
 use Rattle.session_script.proofs.AskSession.{one_fault, no_fault_of_session}
 use Rattle.session_script.proofs.SessionAgain.{one_session}
+use Rattle.insar_ports.proofs.CallLemmas.{some_of, if_told, at_told}
 
 module _ (usage : SessionUse) (side : ℕ) (c : Call) where
   abbrev ReadWell : Session → Type 0

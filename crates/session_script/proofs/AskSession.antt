@@ -1,6 +1,6 @@
 -- At which bytes a session asks for more; whether bytes are too many, and that they have one fault.
 use Rattle.std.proofs.Common.{◌≡◌, ◌⊎◌, ℕ, ◌+◌, ◌-◌, ◌≤◌, ◌<◌, inl, inr, List, [], ◌∷◌, ◌++◌, length, take, drop, IsTrue, refl, sym, ap, subst, ◌∙◌, arith}
-use Rattle.std.proofs.lemmas.Bool.{cases_lt}
+use Rattle.std.proofs.lemmas.Bool.{cases_lt, cases_Bool}
 use Rattle.std.proofs.lemmas.List.{length-append, length-take, length-drop, take-append-drop}
 use Rattle.pgm_planes.specs.declared.fault.InputFault.{InputFault}
 use Rattle.pgm_planes.specs.declared.fault.InputFault.TheVariants as faults
@@ -18,7 +18,6 @@ use Rattle.session_script.specs.Sections.{Sections}
 use Rattle.session_script.specs.Sessions.{SessionOf, ones_of, is_p, IsLaterPlane, ArePlanes, frame_in, IsSessionIn, StandsBefore, PlanesBreak, SessionBreak, PlaneAsks, SessionAsks, AreTooMany, HasFault}
 use Rattle.session_script.proofs.AskLemmas.{phase_forth, later_forth, planes_ask_last, no_planes_break, same_planes, planes_asked, same_end, weights_here, same_mask_place, phase_before}
 use Rattle.session_script.proofs.AskScript.{nothing_asks, report_not_asks, report_restricts, script_shrinks, alone_ends, script_within}
-use Rattle.session_script.proofs.FieldLemmas.{two_ways}
 use Rattle.session_script.proofs.LimitLemmas.{planes_never}
 use Rattle.session_script.proofs.PlanesAgain.{plane_begins, first_or_break, later_or_break, no_first_break, no_later_break}
 use Rattle.session_script.proofs.PlanesAsk.{asks_within}
@@ -99,7 +98,7 @@ abbrev Decided : Type 0 → Type 0
 Decided A = A ⊎ (A → ⊥)
 
 begun_or_not : (role : Role) (bytes : List ℕ) → Decided (IsTrue (begins is_p bytes) × AsksForMore role bytes)
-begun_or_not role bytes = elim (two_ways (begins is_p bytes)) [
+begun_or_not role bytes = elim (cases_Bool (begins is_p bytes)) [
   | inl t ↦ elim (ask_or_not role bytes) [ inl a ↦ inl (t, a) | inr n ↦ inr (λ b. n b.1) ]
   | inr f ↦ inr (λ b. let x = b.0 in cc)
 ]

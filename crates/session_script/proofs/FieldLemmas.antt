@@ -1,7 +1,7 @@
 -- The numbers of a line.
 use Rattle.std.proofs.Common.{◌≡◌, ℕ, ◌+◌, ◌*◌, ◌-◌, Bool, true, false, ◌⊎◌, inl, inr, List, [], ◌∷◌, ◌++◌, length, take, drop, Option, Some, None, suc, refl, sym, ap, subst, ◌∙◌, arith, eqb}
 use Rattle.std.specs.List.{prefix_len, list_all}
-use Rattle.std.proofs.lemmas.Bool.{and_parts, eqb-true}
+use Rattle.std.proofs.lemmas.Bool.{and_parts, eqb-true, cases_Bool}
 use Rattle.std.proofs.lemmas.List.{take-append-drop, append-nil}
 use Rattle.std.proofs.Math.Seq.{take-append_seam, drop-append_seam}
 use Rattle.raster_model.specs.declared.script.Rect.{Rect}
@@ -25,10 +25,6 @@ counted_is bs = counted_on 0 0 bs refl
 
 -- ---- the digits in front
 
-pub two_ways : (b : Bool) → (b ≡ true) ⊎ (b ≡ false)
-two_ways true = inl refl
-two_ways false = inr refl
-
 pub found_or_none : {A : Type 0} (o : Option A) → ((x : A) × (o ≡ Some x)) ⊎ (o ≡ None)
 found_or_none None = inr refl
 found_or_none (Some x) = inl (x, refl)
@@ -38,7 +34,7 @@ unfolding digits_in
 front_digits [] = refl
 front_digits (b ∷ bytes) =
     let one : 1 + prefix_len is_digit bytes ≡ suc (prefix_len is_digit bytes) = omega arith in
-    elim (two_ways (is_digit b)) [
+    elim (cases_Bool (is_digit b)) [
       | inl e ↦ rw (e, one, e) (front_digits bytes)
       | inr e ↦ rw e refl
     ]
@@ -48,7 +44,7 @@ unfolding digits_in
 behind_digits [] = refl
 behind_digits (b ∷ bytes) =
     let one : 1 + prefix_len is_digit bytes ≡ suc (prefix_len is_digit bytes) = omega arith in
-    elim (two_ways (is_digit b)) [
+    elim (cases_Bool (is_digit b)) [
       | inl e ↦ rw (e, one) (behind_digits bytes)
       | inr e ↦ rw (e, e) refl
     ]
@@ -77,7 +73,7 @@ number_found : (bytes : List ℕ) (found : ℕ × List ℕ) → number_in bytes 
 unfolding number_in
 number_found bytes found e =
     let digits = take (digits_in bytes) bytes in
-    elim (two_ways (is_plain digits)) [
+    elim (cases_Bool (is_plain digits)) [
       | inl p ↦
           let same : found ≡ (number_of digits, drop (digits_in bytes) bytes) = (let q = rw p at e in cc) in
           rw same (record { digits = digits; parts = sym (take-append-drop (digits_in bytes) bytes); plain = p; value = refl })
@@ -93,7 +89,7 @@ number_again digits rest p s =
 field_found : (bytes : List ℕ) (found : ℕ × List ℕ) → field_in bytes ≡ Some found → (more : List ℕ) × (bytes ≡ 32 ∷ more) × HasNumber more found
 unfolding field_in
 field_found [] found e = absurd cc
-field_found (b ∷ bytes) found e = elim (two_ways (eqb b 32)) [
+field_found (b ∷ bytes) found e = elim (cases_Bool (eqb b 32)) [
   | inl t ↦ (bytes, ap (λ (x : ℕ). x ∷ bytes) (eqb-true b 32 t), number_found bytes found (rw t at e))
   | inr t ↦ absurd (let q = rw t at e in cc)
 ]

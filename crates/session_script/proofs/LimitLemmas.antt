@@ -19,7 +19,7 @@ use Rattle.session_script.specs.Reaching.{Break, HasCauseIn}
 use Rattle.session_script.specs.Scripts.{BreaksAtLine, SectionsBreak, ScriptBreak}
 use Rattle.session_script.specs.Sections.{Sections, Frame, limit_broken, command_broken, word_broken}
 use Rattle.session_script.specs.Sessions.{PlaneBreak, LaterBreak, PlanesBreak, SessionBreak}
-use Rattle.session_script.proofs.ReachLemmas.{if_told, at_told}
+use Rattle.insar_ports.proofs.CallLemmas.{if_told, at_told}
 
 -- the faults that are met at an end: of the input, or of what the limit lets out
 abbrev pub is_at_end : InputFault → Bool

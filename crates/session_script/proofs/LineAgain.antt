@@ -1,7 +1,7 @@
 -- Bytes begin with one line, with none that may stand, or end within one: a reader of the next line that is the relations.
 use Rattle.std.proofs.Common.{◌≡◌, ℕ, zero, suc, ◌<◌, Bool, true, false, not, cond, eqb, nat_lt, ◌⊎◌, inl, inr, List, [], ◌∷◌, ◌++◌, length, take, drop, All, Option, Some, None, Result, Ok, Err, refl, sym, ap, subst, ◌∙◌, append_assoc, arith}
 use Rattle.std.specs.List.{list_all, AllByRecursion}
-use Rattle.std.proofs.lemmas.Bool.{and_parts, eqb-true, eqb-false, ne_eqb, ltb-true, ltb-false, lt-ltb, le-ltb}
+use Rattle.std.proofs.lemmas.Bool.{and_parts, eqb-true, eqb-false, ne_eqb, ltb-true, ltb-false, lt-ltb, le-ltb, not-true, cases_Bool}
 use Rattle.std.proofs.lemmas.List.{length-append, take-append-drop, length-take-le, append-nil}
 use Rattle.std.proofs.lemmas.List.Elements.{recursion_from_All, All-from_recursion}
 use Rattle.insar_ports.specs.Lines.{IsInLine}
@@ -14,7 +14,7 @@ use Rattle.session_script.specs.declared.word.Word.{Word}
 use Rattle.session_script.specs.declared.word.Word.TheVariants as words
 use Rattle.session_script.specs.Lines.{SpellsRect, Spells}
 use Rattle.session_script.specs.Scripts.{BeginsLine, IsLong, IsOther, IsNoLine, IsCut}
-use Rattle.session_script.proofs.FieldLemmas.{two_ways, found_or_none, all_digits}
+use Rattle.session_script.proofs.FieldLemmas.{found_or_none, all_digits}
 use Rattle.session_script.proofs.WordAgain.{word_in, word_found, word_again}
 
 abbrev pub is_in_line : ℕ → Bool
@@ -50,17 +50,13 @@ spells_in_line line (words.Command (Change (Unmask r))) s = rw s.1 (rect_in_line
 one_in_line : (b : ℕ) → IsInLine b → is_in_line b ≡ true
 one_in_line b n = rw (ne_eqb b 10 n) refl
 
-not_true : (b : Bool) → not b ≡ true → b ≡ false
-not_true true e = absurd cc
-not_true false e = refl
-
 are_in_line : (bytes : List ℕ) → AllByRecursion IsInLine bytes → list_all is_in_line bytes ≡ true
 are_in_line [] a = refl
 are_in_line (b ∷ bytes) a = rw (one_in_line b a.0, are_in_line bytes a.1) refl
 
 each_in_line : (bytes : List ℕ) → list_all is_in_line bytes ≡ true → AllByRecursion IsInLine bytes
 each_in_line [] a = tt
-each_in_line (b ∷ bytes) a = let p = and_parts (is_in_line b) (list_all is_in_line bytes) a in (eqb-false b 10 (not_true (eqb b 10) p.0), each_in_line bytes p.1)
+each_in_line (b ∷ bytes) a = let p = and_parts (is_in_line b) (list_all is_in_line bytes) a in (eqb-false b 10 (not-true (eqb b 10) p.0), each_in_line bytes p.1)
 
 pub all_in_line : (bytes : List ℕ) → All IsInLine bytes → list_all is_in_line bytes ≡ true
 all_in_line bytes a = are_in_line bytes (recursion_from_All IsInLine bytes a)
@@ -87,7 +83,7 @@ split_line [] = None
 split_line (b ∷ bytes) = cond (eqb b 10) (Some ([], bytes)) (behind_line (b ∷ []) (split_line bytes))
 
 no_feed : (b : ℕ) (bytes : List ℕ) → is_in_line b ≡ true → split_line (b ∷ bytes) ≡ behind_line (b ∷ []) (split_line bytes)
-no_feed b bytes e = rw (not_true (eqb b 10) e) refl
+no_feed b bytes e = rw (not-true (eqb b 10) e) refl
 
 behind_more : (b : ℕ) (line : List ℕ) (p : Parts) → behind_line (b ∷ []) (behind_line line p) ≡ behind_line (b ∷ line) p
 behind_more b line None = refl
@@ -120,7 +116,7 @@ behind_found b (Some q) p e = (q, refl, cc)
 
 split_found : (bytes : List ℕ) (p : List ℕ × List ℕ) → split_line bytes ≡ Some p → HasFeed bytes p
 split_found [] p e = absurd cc
-split_found (b ∷ bytes) p e = elim (two_ways (eqb b 10)) [
+split_found (b ∷ bytes) p e = elim (cases_Bool (eqb b 10)) [
   | inl t ↦
       let same : p ≡ ([], bytes) = (let q = rw t at e in cc) in
       rw same (record { parts = ap (λ (x : ℕ). x ∷ bytes) (eqb-true b 10 t); whole = refl })
@@ -132,7 +128,7 @@ split_found (b ∷ bytes) p e = elim (two_ways (eqb b 10)) [
 
 split_missed : (bytes : List ℕ) → split_line bytes ≡ None → list_all is_in_line bytes ≡ true
 split_missed [] e = refl
-split_missed (b ∷ bytes) e = elim (two_ways (eqb b 10)) [
+split_missed (b ∷ bytes) e = elim (cases_Bool (eqb b 10)) [
   | inl t ↦ absurd (let q = rw t at e in cc)
   | inr t ↦ elim (found_or_none (split_line bytes)) [
     | inl s ↦ absurd (let q = rw (t, s.1) at e in cc)
@@ -212,7 +208,7 @@ long_front line others a more = (
 )
 
 whole_line : (bytes : List ℕ) (p : List ℕ × List ℕ) → HasFeed bytes p → NextLine bytes
-whole_line bytes p h = elim (two_ways (nat_lt 64 (length p.0))) [
+whole_line bytes p h = elim (cases_Bool (nat_lt 64 (length p.0))) [
   | inl t ↦ inr (inl (inl (rw h.parts (long_front p.0 (10 ∷ p.1) h.whole (ltb-true 64 (length p.0) t)))))
   | inr t ↦ elim (found_or_none (word_in p.0)) [
     | inl w ↦ inl (w.0, p.1, record { line = p.0; parts = h.parts; short = ltb-false 64 (length p.0) t; spells = word_found p.0 w.0 w.1 })
@@ -232,7 +228,7 @@ next_line bytes = elim (found_or_none (split_line bytes)) [
   | inl s ↦ whole_line bytes s.0 (split_found bytes s.0 s.1)
   | inr n ↦
       let a = split_missed bytes n in
-      elim (two_ways (nat_lt 64 (length bytes))) [
+      elim (cases_Bool (nat_lt 64 (length bytes))) [
         | inl t ↦ inr (inl (inl (subst IsLong (append-nil bytes) (long_front bytes [] a (ltb-true 64 (length bytes) t)))))
         | inr t ↦ inr (inr (ltb-false 64 (length bytes) t, in_line_all bytes a))
       ]

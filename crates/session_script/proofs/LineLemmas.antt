@@ -3,7 +3,7 @@ use Rattle.std.proofs.Common.{◌≡◌, ℕ, ◌+◌, true, false, eqb, List, [
 use Rattle.std.specs.Prelude.{◌≢◌, codes}
 use Rattle.std.specs.Borrow.{Bor}
 use Rattle.std.specs.Cmp.Lexicographic.{pointwise}
-use Rattle.std.proofs.lemmas.Bool.{eqb-true}
+use Rattle.std.proofs.lemmas.Bool.{eqb-true, cases_Bool}
 use Rattle.std.proofs.lemmas.Bool.Decides.{Decides-eqb}
 use Rattle.std.proofs.lemmas.List.{append_cancel_left}
 use Rattle.std.proofs.lemmas.Slice.Eq.{strip_prefix_is}
@@ -14,7 +14,7 @@ use Rattle.raster_model.specs.declared.script.Rect.{Rect}
 use Rattle.session_script.specs.declared.word.Word.TheVariants as words
 use Rattle.session_script.specs.Lines.{SpellsEdit, Spells}
 use Rattle.session_script.specs.Fields.{field_in, number_in, rect_in}
-use Rattle.session_script.proofs.FieldLemmas.{two_ways, rect_found, rect_again}
+use Rattle.session_script.proofs.FieldLemmas.{rect_found, rect_again}
 
 abbrev pub HasNoFront : List ℕ → List ℕ → Type 0
 HasNoFront name line = (rest : List ℕ) → line ≢ name ++ rest
@@ -38,7 +38,7 @@ field_behind bytes more e = rw e refl
 pub no_field : (bytes : List ℕ) → HasNoFront (32 ∷ []) bytes → None ≡ field_in bytes
 unfolding field_in
 no_field [] h = refl
-no_field (b ∷ bytes) h = elim (two_ways (eqb b 32)) [
+no_field (b ∷ bytes) h = elim (cases_Bool (eqb b 32)) [
   | inl t ↦ absurd (h bytes (ap (λ (x : ℕ). x ∷ bytes) (eqb-true b 32 t)))
   | inr t ↦ rw t refl
 ]

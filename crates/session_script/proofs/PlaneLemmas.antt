@@ -14,15 +14,15 @@ use Rattle.insar_ports.specs.Calls.{Call, Moves, IsCutOff}
 use Rattle.pgm_planes.specs.Causes.{HasCause as HasPlaneCause, IsCutShort}
 use Rattle.pgm_planes.specs.Gaps.{begins}
 use Rattle.pgm_planes.specs.Planes.{PlaneOf, IsPlaneIn}
-use Rattle.pgm_planes.proofs.CallLemmas.{call}
 use Rattle.session_script.specs.declared.fault.SessionFault.{SessionFault}
 use Rattle.session_script.specs.declared.fault.SessionFault.TheVariants.{Input}
 use Rattle.session_script.specs.Faults.{fault_of_plane}
 use Rattle.session_script.specs.Reaching.{Reaches, LooksFor, Break, NoBreak, HasCauseIn, IsSeen, IsNothing, LaterAsks, PlanesAsk}
 use Rattle.session_script.specs.Sessions.{ones_of, is_p, HasSizeOf, HasOtherSize, IsLaterPlane, ArePlanes, PlaneBreak, LaterBreak, PlanesBreak}
 use Rattle.session_script.proofs.AskLemmas.{phase_forth, phase_back, later_forth, weights_back, mask_back}
-use Rattle.session_script.proofs.ReachLemmas.{if_told, at_told, part, reaches_map, reaches_then, cause_then, cause_map, seen_break}
+use Rattle.session_script.proofs.ReachLemmas.{part, reaches_map, reaches_then, cause_then, cause_map, seen_break}
 use Rattle.session_script.proofs.SeenLemmas.{RestrictsTo, PhaseIn, LaterIn, BeforeMask, no_front, plane_restricts, before_mask_restricts}
+use Rattle.insar_ports.proofs.CallLemmas.{call, if_told, at_told}
 
 -- no plane begins
 pub ones_stand : (told : Option (List ℕ)) (at : ℕ) (left : Option (List ℕ)) (end : ℕ) (role : Role) (phase p : PlaneOf) (begun : Bool) → begun ≡ false → p ≡ ones_of phase → Reaches (part told at left end) (LooksFor begun) → Reaches (part told at left end) (λ bytes rest. IsLaterPlane role phase bytes p rest)

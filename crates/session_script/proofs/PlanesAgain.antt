@@ -1,6 +1,6 @@
 -- The planes of a session stand in one way or have one first break.
 use Rattle.std.proofs.Common.{◌≡◌, ℕ, ◌+◌, ◌⊎◌, Bool, true, false, ◌&&◌, cond, eqb, inl, inr, List, ◌∷◌, ◌++◌, length, Some, None, Result, Ok, Err, refl, sym, ap, ◌∙◌, arith}
-use Rattle.std.proofs.lemmas.Bool.{and_parts, eqb-true, eq-eqb}
+use Rattle.std.proofs.lemmas.Bool.{and_parts, eqb-true, eq-eqb, cases_Bool}
 use Rattle.std.proofs.lemmas.List.{length-append}
 use Rattle.pgm_planes.specs.declared.fault.InputFault.{InputFault}
 use Rattle.pgm_planes.specs.declared.fault.InputFault.TheVariants as faults
@@ -12,7 +12,6 @@ use Rattle.pgm_planes.specs.Reading.{Reading, plane_at}
 use Rattle.pgm_planes.proofs.HeaderLemmas.{done}
 use Rattle.pgm_planes.proofs.PlaneAgain.{break_told, plane_told, plane_or_break}
 use Rattle.session_script.specs.Sessions.{ones_of, HasSizeOf, is_p, IsLaterPlane, PlaneBreak, LaterBreak}
-use Rattle.session_script.proofs.FieldLemmas.{two_ways}
 
 -- a plane, the place behind it and what follows, or the fault; all bytes are there, so none is asked for
 abbrev pub PlaneRead : Type 0
@@ -64,7 +63,7 @@ size_is : (p q : PlaneOf) → has_size p q ≡ true → HasSizeOf p q
 size_is p q e = let b = and_parts (eqb q.width p.width) (eqb q.height p.height) e in (eqb-true q.width p.width b.0, eqb-true q.height p.height b.1)
 
 other_size : (p q : PlaneOf) → (HasSizeOf p q → ⊥) → has_size p q ≡ false
-other_size p q n = elim (two_ways (has_size p q)) [ inl t ↦ absurd (n (size_is p q t)) | inr f ↦ f ]
+other_size p q n = elim (cases_Bool (has_size p q)) [ inl t ↦ absurd (n (size_is p q t)) | inr f ↦ f ]
 
 -- a plane was read, the place behind it is such, and this is what is read on
 abbrev pub Told : PlaneRead → ℕ → List ℕ → PlaneOf → List ℕ → Type 0
@@ -142,7 +141,7 @@ LaterOrBreak role phase at bytes = ((p : PlaneOf) × (rest : List ℕ) × IsLate
 
 begun_or_break : (role : Role) (phase : PlaneOf) (at : ℕ) (bytes : List ℕ) → begins is_p bytes ≡ true → LaterOrBreak role phase at bytes
 begun_or_break role phase at bytes begun = elim (plane_or_break role at bytes) [
-  | inl p ↦ elim (two_ways (has_size phase p.0)) [
+  | inl p ↦ elim (cases_Bool (has_size phase p.0)) [
     | inl t ↦ inl (p.0, p.1, inl (p.2, size_is phase p.0 t))
     | inr f ↦ inr (faults.SizesDiffer role, (begun, inr (refl, (p.0, p.1, p.2, λ h. let q = sym f ∙ size_told phase p.0 h in cc))))
   ]
@@ -150,7 +149,7 @@ begun_or_break role phase at bytes begun = elim (plane_or_break role at bytes) [
 ]
 
 pub later_or_break : (role : Role) (phase : PlaneOf) (at : ℕ) (bytes : List ℕ) → LaterOrBreak role phase at bytes
-later_or_break role phase at bytes = elim (two_ways (begins is_p bytes)) [
+later_or_break role phase at bytes = elim (cases_Bool (begins is_p bytes)) [
   | inl t ↦ begun_or_break role phase at bytes t
   | inr f ↦ inl (ones_of phase, bytes, inr (f, refl, refl))
 ]

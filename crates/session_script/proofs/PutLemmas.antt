@@ -4,12 +4,12 @@ use Rattle.std.proofs.lemmas.Grind.{flat_map-append}
 use Rattle.std.proofs.lemmas.List.{append-nil, take_more, take-append-drop}
 use Rattle.insar_ports.specs.declared.sink.WriteFault.{WriteFault}
 use Rattle.insar_ports.proofs.CallerLemmas.{cut-first, cut-later}
-use Rattle.pgm_planes.proofs.CallLemmas.{risen_before}
 use Rattle.pgm_planes.proofs.WriteLemmas.{written_then}
 use Rattle.raster_model.specs.declared.script.Script.{Script}
 use Rattle.session_script.specs.Sections.{sections_of}
 use Rattle.session_script.specs.Text.{section_text, texts_below}
 use Rattle.session_script.specs.Writing.{Puts}
+use Rattle.insar_ports.proofs.CallLemmas.{risen_before}
 
 abbrev pub done : Result (Unit {0}) WriteFault
 done = Ok tt

@@ -13,7 +13,7 @@ use Rattle.insar_ports.specs.Lines.{IsInLine, AreGone, IsPartOfLine}
 use Rattle.pgm_planes.specs.declared.fault.InputFault.{InputFault}
 use Rattle.pgm_planes.specs.declared.fault.InputFault.TheVariants.{ScriptLine, NoEnd}
 use Rattle.insar_ports.specs.Calls.{Call, Moves, Takes}
-use Rattle.pgm_planes.proofs.CallLemmas.{call, some_is, told_on, risen_before}
+use Rattle.pgm_planes.proofs.CallLemmas.{told_on}
 use Rattle.session_script.specs.declared.fault.SessionFault.{SessionFault}
 use Rattle.session_script.specs.declared.fault.SessionFault.TheVariants.{Input, ReadFault, Memory}
 use Rattle.session_script.specs.Reaching.{Reaches, Break, HasCauseIn, IsNothing, IsSeen, LineBreak, LooksAt, NoBreak}
@@ -23,15 +23,7 @@ use Rattle.session_script.specs.Lines.{Spells, SpellsNone}
 use Rattle.session_script.specs.Scripts.{BeginsLine, IsLong, IsCut}
 use Rattle.session_script.proofs.LineAgain.{is_in_line, all_in_line}
 use Rattle.session_script.proofs.SeenLemmas.{RestrictsTo}
-
--- where bytes are told
-pub if_told : (o : Option (List ℕ)) (P : List ℕ → Type 0) → ((bytes : List ℕ) → o ≡ Some bytes → P bytes) → IfSome o P
-if_told None P f = tt
-if_told (Some bytes) P f = f bytes refl
-
-pub at_told : (o : Option (List ℕ)) (P : List ℕ → Type 0) (bytes : List ℕ) → o ≡ Some bytes → IfSome o P → P bytes
-at_told None P bytes e h = absurd cc
-at_told (Some b) P bytes e h = subst P (some_is b bytes e) h
+use Rattle.insar_ports.proofs.CallLemmas.{if_told, at_told, call, some_is, risen_before}
 
 module _ {P Q : List ℕ → List ℕ → Type 0} where
   pub reaches_map : (c : Call) → ((bytes rest : List ℕ) → P bytes rest → Q bytes rest) → Reaches c P → Reaches c Q

@@ -6,7 +6,6 @@ use Rattle.raster_model.specs.Scripts.{CommandsFit}
 use Rattle.pgm_planes.specs.declared.fault.InputFault.{InputFault}
 use Rattle.pgm_planes.specs.declared.fault.InputFault.TheVariants.{ScriptLine, AfterEnd}
 use Rattle.insar_ports.specs.Calls.{Call, Moves}
-use Rattle.pgm_planes.proofs.CallLemmas.{call}
 use Rattle.session_script.specs.declared.fault.SessionFault.{SessionFault}
 use Rattle.session_script.specs.declared.fault.SessionFault.TheVariants.{Input}
 use Rattle.session_script.specs.declared.session_use.SessionUse.{SessionUse}
@@ -17,9 +16,10 @@ use Rattle.session_script.specs.Reaching.{Reaches, Break, LineBreak, NoBreak, Ha
 use Rattle.session_script.specs.Scripts.{BeginsLine, AreLines, AreSections, meant, usual, IsScriptPart, IsCut, SectionsBreak, ScriptBreak}
 use Rattle.session_script.specs.Sections.{Sections, Frame, words_of, lines_in, AreWithin, IsComplete, word_broken}
 use Rattle.session_script.proofs.AskScript.{WordBehind, word_restricts, word_not_asks, line_back, line_forth, nothing_asks, report_back, report_forth, alone_back, alone_forth, end_forth, end_not_asks}
-use Rattle.session_script.proofs.ReachLemmas.{if_told, at_told, part, CutAt, reaches_map, reaches_then, cause_then, cause_map, not_cut, seen_break, seen_read}
+use Rattle.session_script.proofs.ReachLemmas.{part, CutAt, reaches_map, reaches_then, cause_then, cause_map, not_cut, seen_break, seen_read}
 use Rattle.session_script.proofs.SeenLemmas.{lines_restrict, sections_restrict, no_front}
 use Rattle.session_script.proofs.WithinLemmas.{more_lines}
+use Rattle.insar_ports.proofs.CallLemmas.{call, if_told, at_told}
 
 abbrev pub AreLinesOf : Sections → List ℕ → List ℕ → Type 0
 AreLinesOf ss bytes rest = AreLines bytes (words_of ss) rest

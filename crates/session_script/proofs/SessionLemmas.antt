@@ -11,7 +11,6 @@ use Rattle.raster_model.specs.MaskView.{MaskView}
 use Rattle.raster_model.specs.Masks.{IsMaskOf, open_by}
 use Rattle.insar_ports.specs.Calls.{Call, Moves}
 use Rattle.pgm_planes.specs.Planes.{PlaneOf, plane_of}
-use Rattle.pgm_planes.proofs.CallLemmas.{call}
 use Rattle.session_script.specs.declared.fault.SessionFault.{SessionFault}
 use Rattle.session_script.specs.declared.fault.SessionFault.TheVariants.{Input, ReadFault, Memory}
 use Rattle.session_script.specs.declared.session_use.SessionUse.{SessionUse}
@@ -22,8 +21,9 @@ use Rattle.session_script.specs.Scripts.{IsScriptPart, ScriptBreak}
 use Rattle.session_script.specs.Sections.{Sections, sections_of, Frame, frame_of, settles_of, changes_of}
 use Rattle.session_script.specs.Sessions.{SessionOf, ArePlanes, frame_in, IsSessionIn, PlanesBreak, SessionBreak, SessionAsks, AreTooMany, open_in}
 use Rattle.session_script.proofs.AskSession.{planes_forth, planes_back, script_forth, script_back}
-use Rattle.session_script.proofs.ReachLemmas.{if_told, at_told, part, CutAt, cause_then, cause_map}
+use Rattle.session_script.proofs.ReachLemmas.{part, CutAt, cause_then, cause_map}
 use Rattle.session_script.proofs.SeenLemmas.{planes_restrict}
+use Rattle.insar_ports.proofs.CallLemmas.{call, if_told, at_told}
 
 -- a mask of a plane, as of what the plane tells
 pub mask_of : (m : MaskView) (p : Plane) (w h : ℕ) → p.width ≡ w → p.height ≡ h → IsMaskOf m p.width p.height (open_by p) → IsMaskOf m w h (open_in (plane_of p))

@@ -1,7 +1,7 @@
 -- Sections stay within the limits where a word that may stand is added.
 use Rattle.std.proofs.Common.{◌≡◌, ℕ, zero, suc, ◌+◌, ◌-◌, ◌*◌, ◌≤◌, ◌<◌, ◌≢◌, sum_by, count_by, eqb, Bool, true, false, not, ◌&&◌, cond, nat_lt, List, [], ◌∷◌, ◌++◌, length, get_or, set, Option, Some, None, refl, sym, subst, arith}
 use Rattle.std.specs.List.{AllByRecursion}
-use Rattle.std.proofs.lemmas.Bool.{and_parts, ltb-true, ltb-false}
+use Rattle.std.proofs.lemmas.Bool.{and_parts, ltb-true, ltb-false, not-true, not-false}
 use Rattle.std.proofs.lemmas.List.{length-append, length-set}
 use Rattle.std.proofs.lemmas.List.Sums.{sum_by-append}
 use Rattle.raster_model.specs.declared.script.Command.{Command}
@@ -17,6 +17,7 @@ use Rattle.session_script.specs.declared.word.Word.TheVariants as words
 use Rattle.session_script.specs.Scripts.{BeginsLine, AreLines}
 use Rattle.session_script.specs.Sections.{Sections, Frame, settles_of, changes_of, words_of, AreWithin, lies_in, last_of, limit_broken, command_broken, word_broken, with_command, with_word}
 use Rattle.session_script.proofs.SectionLemmas.{not_empty, counted_added, count_by_pushed, words_begun, words_added}
+use Rattle.sums_and_lists.proofs.Lists.{all_push}
 
 -- ---- lists
 
@@ -30,30 +31,18 @@ all_get P [] k d a lt = absurd (omega (arith, lt))
 all_get P (x ∷ xs) zero d a lt = a.0
 all_get P (x ∷ xs) (suc k) d a lt = all_get P xs k d a.1 (omega (arith, lt))
 
-all_push : {A : Type 0} (P : A → Type 0) (xs : List A) (y : A) → AllByRecursion P xs → P y → AllByRecursion P (xs ++ y ∷ [])
-all_push P [] y a p = (p, tt)
-all_push P (x ∷ xs) y a p = (a.0, all_push P xs y a.1 p)
-
 -- ---- tests
 
 unless : (b : Bool) (fault : InputFault) (o : Option InputFault) → cond b (Some fault) o ≡ None → (b ≡ false) × (o ≡ None)
 unless true fault o e = absurd cc
 unless false fault o e = (refl, e)
 
-not_false : (b : Bool) → not b ≡ false → b ≡ true
-not_false true e = refl
-not_false false e = absurd cc
-
-not_true : (b : Bool) → not b ≡ true → b ≡ false
-not_true true e = absurd cc
-not_true false e = refl
-
 lies : (f : Frame) (r : Rect) → lies_in f r ≡ true → IsRectIn f.width f.height r
 lies f r e =
     let a = and_parts (not (nat_lt r.x1 r.x0) && nat_lt r.x1 f.width && not (nat_lt r.y1 r.y0)) (nat_lt r.y1 f.height) e in
     let b = and_parts (not (nat_lt r.x1 r.x0) && nat_lt r.x1 f.width) (not (nat_lt r.y1 r.y0)) a.0 in
     let d = and_parts (not (nat_lt r.x1 r.x0)) (nat_lt r.x1 f.width) b.0 in
-    (ltb-false r.x1 r.x0 (not_true _ d.0), ltb-true r.x1 f.width d.1, ltb-false r.y1 r.y0 (not_true _ b.1), ltb-true r.y1 f.height a.1)
+    (ltb-false r.x1 r.x0 (not-true _ d.0), ltb-true r.x1 f.width d.1, ltb-false r.y1 r.y0 (not-true _ b.1), ltb-true r.y1 f.height a.1)
 
 -- ---- one word more
 
@@ -81,7 +70,7 @@ module _ (f : Frame) (n : ℕ) (ss : Sections) (within : AreWithin f ss) where
   rect_fits : (c : Command) → limit_broken f n ss c ≡ None → (edit : Edit) → c ≡ Change edit → IsRectIn f.width f.height (rect_of edit)
   rect_fits (Change other) e edit is =
       let same : other ≡ edit = cc in
-      rw (← same) (lies f (rect_of other) (not_false (lies_in f (rect_of other)) (unless _ _ _ e).0))
+      rw (← same) (lies f (rect_of other) (not-false (lies_in f (rect_of other)) (unless _ _ _ e).0))
   rect_fits Settle e edit is = absurd cc
   rect_fits Show e edit is = absurd cc
 

@@ -1,7 +1,7 @@
 -- A line spells one word at most, and whether it spells any can be told: a reader of a line that is the relation.
 use Rattle.std.proofs.Common.{◌≡◌, ℕ, cond, eqb, ◌⊎◌, inl, inr, List, [], ◌∷◌, ◌++◌, Option, Some, None, refl, ap}
 use Rattle.std.specs.Prelude.{codes}
-use Rattle.std.proofs.lemmas.Bool.{eqb-true}
+use Rattle.std.proofs.lemmas.Bool.{eqb-true, cases_Bool}
 use Rattle.raster_model.specs.declared.script.Command.TheVariants.{Change, Settle, Show}
 use Rattle.raster_model.specs.declared.script.Edit.TheVariants.{Mask, Unmask}
 use Rattle.raster_model.specs.declared.script.Rect.{Rect}
@@ -9,7 +9,7 @@ use Rattle.session_script.specs.declared.word.Word.{Word}
 use Rattle.session_script.specs.declared.word.Word.TheVariants as words
 use Rattle.session_script.specs.Lines.{SpellsEdit, Spells}
 use Rattle.session_script.specs.Fields.{rect_in}
-use Rattle.session_script.proofs.FieldLemmas.{two_ways, rect_found, rect_again}
+use Rattle.session_script.proofs.FieldLemmas.{rect_found, rect_again}
 
 -- what follows a name in front of a line
 abbrev behind : List ℕ → List ℕ → Option (List ℕ)
@@ -20,7 +20,7 @@ behind (b ∷ name) (c ∷ line) = cond (eqb b c) (behind name line) None
 behind_found : (name line rest : List ℕ) → behind name line ≡ Some rest → line ≡ name ++ rest
 behind_found [] line rest e = cc
 behind_found (b ∷ name) [] rest e = absurd cc
-behind_found (b ∷ name) (c ∷ line) rest e = elim (two_ways (eqb b c)) [
+behind_found (b ∷ name) (c ∷ line) rest e = elim (cases_Bool (eqb b c)) [
   | inl t ↦ rw (eqb-true b c t) (ap (λ (x : List ℕ). c ∷ x) (behind_found name line rest (rw t at e)))
   | inr t ↦ absurd (let q = rw t at e in cc)
 ]

@@ -20,6 +20,7 @@ use Rattle.session_script.specs.Lines.{is_zero, is_plain, SpellsRect, Spells}
 use Rattle.session_script.specs.Scripts.{BeginsLine, AreLines, AreSections}
 use Rattle.session_script.specs.Sections.{Sections, Frame, command_words, section_words, words_of, AreWithin}
 use Rattle.session_script.specs.Text.{field_text, rect_text, word_text, line_text, command_line, section_text, scripts_text}
+use Rattle.pgm_planes.proofs.TextLemmas.{digit, goes_further, number_further}
 
 -- ---- numbers
 
@@ -29,9 +30,6 @@ record IsNumeral (n : ℕ) (ds : List ℕ) : Type 0 where
   pub lead : 1 ≤ n → begins is_zero ds ≡ false
   pub one : n < 10 → length ds ≡ 1
 
-digit : (d : ℕ) → d < 10 → is_digit (48 + d) ≡ true
-digit d lt = rw (lt-ltb 47 (48 + d) (omega arith), lt-ltb (48 + d) 58 (omega arith)) refl
-
 one_digit : (n : ℕ) → n < 10 → IsNumeral n ((48 + n) ∷ [])
 one_digit n lt = record {
   number = rw (digit n lt) refl;
@@ -39,16 +37,6 @@ one_digit n lt = record {
   lead = λ some. ne_eqb (48 + n) 48 (λ e. omega (arith, e, some));
   one = λ _. refl;
 }
-
-goes_further : (n : ℕ) (ds : List ℕ) (d : ℕ) → goes_on_to n (ds ++ d ∷ []) ≡ 10 * goes_on_to n ds + (d - 48)
-goes_further n [] d = refl
-goes_further n (x ∷ ds) d = goes_further (10 * n + (x - 48)) ds d
-
-number_further : (ds : List ℕ) (d : ℕ) → is_number ds ≡ true → is_digit d ≡ true → is_number (ds ++ d ∷ []) ≡ true
-number_further [] d h e = absurd cc
-number_further (x ∷ ds) d h e =
-    let p = and_parts (is_digit x) (list_all is_digit ds) h in
-    rw (p.0, all_append is_digit ds (d ∷ []) p.1 (rw e refl)) refl
 
 lead_further : (ds : List ℕ) (d : ℕ) → is_number ds ≡ true → begins is_zero ds ≡ false → begins is_zero (ds ++ d ∷ []) ≡ false
 lead_further [] d h e = absurd cc

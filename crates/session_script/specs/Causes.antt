@@ -8,6 +8,7 @@ use Rattle.session_script.specs.declared.fault.SessionFault.{SessionFault}
 use Rattle.session_script.specs.declared.fault.SessionFault.TheVariants.{Input, ReadFault, Memory}
 use Rattle.session_script.specs.declared.session_use.SessionUse.{SessionUse}
 use Rattle.session_script.specs.Sessions.{SessionOf, session_of, IsSameSession, HasFault}
+use Rattle.raster_model.specs.Limits.{max_session_bytes}
 
 -- where the bytes are told, they have this fault; or a fault of the source was counted; or memory ran out, which has no cause
 abbrev pub HasCause : SessionUse → ℕ → Call → SessionFault → Type 0
@@ -32,4 +33,4 @@ IsRefusedFor c fault (Err Memory) = ⊤
 
 -- where the bytes are told, 268,435,456 of them were handed out and another is there
 abbrev pub IsAtLimit : Call → Type 0
-IsAtLimit c = IfSome c.told (λ bytes. (c.end ≡ 268435456) × HasMore c.left)
+IsAtLimit c = IfSome c.told (λ bytes. (c.end ≡ max_session_bytes) × HasMore c.left)

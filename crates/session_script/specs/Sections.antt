@@ -12,6 +12,7 @@ use Rattle.pgm_planes.specs.declared.fault.InputFault.{InputFault}
 use Rattle.pgm_planes.specs.declared.fault.InputFault.TheVariants.{ScriptLine, Outside, TooManyAnalysts, TooManyCommands, SettleLimit, EditLimit}
 use Rattle.session_script.specs.declared.word.Word.{Word}
 use Rattle.session_script.specs.declared.word.Word.TheVariants as words
+use Rattle.raster_model.specs.Limits.{max_changed_tiles, max_commands, max_settled_pixels}
 
 -- the commands of each analyst, in order
 abbrev pub Sections : Type 0
@@ -52,10 +53,10 @@ frame_of tiling = record { width = tiling.width; height = tiling.height; tiles =
 -- within the limits of a session
 pub record AreWithin (f : Frame) (sections : Sections) : Type 0 where
   pub analysts : length sections ≤ 8
-  pub short : AllByRecursion (λ commands. length commands ≤ 4096) sections
+  pub short : AllByRecursion (λ commands. length commands ≤ max_commands) sections
   pub inside : AllByRecursion (CommandsFit f.width f.height) sections
-  pub settles : settles_of sections * (f.width * f.height) ≤ 67108864
-  pub changes : changes_of sections * f.tiles ≤ 16777216
+  pub settles : settles_of sections * (f.width * f.height) ≤ max_settled_pixels
+  pub changes : changes_of sections * f.tiles ≤ max_changed_tiles
 
 -- and not without an analyst
 abbrev pub IsComplete : Frame → Sections → Type 0
@@ -72,8 +73,8 @@ last_of sections = slice_index_or sections (length sections - 1) []
 -- What is wrong with a command in line n behind some sections: it belongs to no analyst, its analyst has 4096 commands
 -- already, its rectangle does not lie in the raster, or it passes a limit of all analysts. The first of these is told.
 abbrev pub limit_broken : Frame → ℕ → Sections → Command → Option InputFault
-limit_broken f n sections (Change edit) = if not (lies_in f (rect_of edit)) then Some (Outside n) else (if nat_lt 16777216 ((changes_of sections + 1) * f.tiles) then Some (EditLimit n) else None)
-limit_broken f n sections Settle = if nat_lt 67108864 ((settles_of sections + 1) * (f.width * f.height)) then Some (SettleLimit n) else None
+limit_broken f n sections (Change edit) = if not (lies_in f (rect_of edit)) then Some (Outside n) else (if nat_lt max_changed_tiles ((changes_of sections + 1) * f.tiles) then Some (EditLimit n) else None)
+limit_broken f n sections Settle = if nat_lt max_settled_pixels ((settles_of sections + 1) * (f.width * f.height)) then Some (SettleLimit n) else None
 limit_broken f n sections Show = None
 
 abbrev pub command_broken : Frame → ℕ → Sections → Command → Option InputFault

@@ -17,6 +17,7 @@ use Rattle.session_script.specs.declared.session_use.SessionUse.{SessionUse}
 use Rattle.session_script.specs.declared.session_use.SessionUse.TheVariants.{Alone}
 use Rattle.session_script.specs.Sections.{Sections, Frame, sections_of}
 use Rattle.session_script.specs.Scripts.{IsScriptPart, ScriptBreak}
+use Rattle.raster_model.specs.Limits.{max_session_bytes}
 
 -- what a session's text tells: side and rule are given apart
 pub record SessionOf : Type 0 where
@@ -76,7 +77,7 @@ pub record IsSessionIn (usage : SessionUse) (side : ℕ) (bytes : List ℕ) (s :
   pub planes : ArePlanes bytes s.phase s.weights mask_plane between
   pub mask : IsMaskOf s.mask s.phase.width s.phase.height (open_in mask_plane)
   pub script : IsScriptPart (frame_in side s.phase) usage between s.scripts rest
-  pub short : length bytes ≤ 268435456 + length rest
+  pub short : length bytes ≤ max_session_bytes + length rest
 
 -- ---- breaks; places count from the start, where the first of the bytes has the place `at`
 
@@ -133,7 +134,7 @@ SessionAsks usage side bytes = ((usage ≡ Alone) × (s : SessionOf) × IsSessio
 
 -- more bytes are there than a session may have, and those that it may have ask for more
 abbrev pub AreTooMany : SessionUse → ℕ → List ℕ → Type 0
-AreTooMany usage side bytes = (268435456 < length bytes) × SessionAsks usage side (take 268435456 bytes)
+AreTooMany usage side bytes = (max_session_bytes < length bytes) × SessionAsks usage side (take max_session_bytes bytes)
 
 -- the bytes have this fault as a session: they are too many, or it is their first break
 abbrev pub HasFault : SessionUse → ℕ → List ℕ → InputFault → Type 0

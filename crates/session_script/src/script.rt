@@ -1,3 +1,4 @@
+ghost use Rattle.raster_model.specs.Limits.{max_session_bytes};
 ghost use Rattle.insar_ports.specs.Feeding.{handed_of, left_of, limit_of, source_name};
 ghost use Rattle.insar_ports.specs.Calls.{Moves, call_of};
 ghost use Rattle.session_script.specs.Building.{sections_in};
@@ -47,7 +48,7 @@ fn read_sections<S: Source>(
     feed: &mut Feed<S>,
     tiling: &Tiling,
 ) -> Result<Sections, SessionFault>
-    requires { limit_of feed.old ≤ 268435456 }
+    requires { limit_of feed.old ≤ max_session_bytes }
     ensures same_source { source_name feed.new ≡ source_name feed.old }
     ensures limit { limit_of feed.new ≡ limit_of feed.old }
     ensures moves { Moves (call_of S.left S.faults feed.old feed.new) }
@@ -75,7 +76,7 @@ pub fn read_scripts<S: Source>(
     usage: SessionUse,
     tiling: &Tiling,
 ) -> Result<Vec<Script>, SessionFault>
-    requires { limit_of feed.old ≤ 268435456 }
+    requires { limit_of feed.old ≤ max_session_bytes }
     ensures same_source { source_name feed.new ≡ source_name feed.old }
     ensures limit { limit_of feed.new ≡ limit_of feed.old }
     ensures moves { Moves (call_of S.left S.faults feed.old feed.new) }
@@ -98,7 +99,7 @@ fn read_alone<S: Source>(
     feed: &mut Feed<S>,
     tiling: &Tiling,
 ) -> Result<Vec<Script>, SessionFault>
-    requires { limit_of feed.old ≤ 268435456 }
+    requires { limit_of feed.old ≤ max_session_bytes }
     ensures same_source { source_name feed.new ≡ source_name feed.old }
     ensures limit { limit_of feed.new ≡ limit_of feed.old }
     ensures moves { Moves (call_of S.left S.faults feed.old feed.new) }

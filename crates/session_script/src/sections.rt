@@ -6,8 +6,8 @@ ghost use Rattle.std.specs.Prelude.{◌≡◌, ◌+◌, ◌*◌, nat_lt};
 use crate::word::Word;
 use pgm_planes::InputFault;
 use raster_model::{
-    Command, Edit, GREATEST_ANALYSTS, GREATEST_CHANGED_TILES, GREATEST_COMMANDS,
-    GREATEST_SETTLED_PIXELS, Rect, Script, Tiling,
+    Command, Edit, MAX_ANALYSTS, MAX_CHANGED_TILES, MAX_COMMANDS, MAX_SETTLED_PIXELS, Rect, Script,
+    Tiling,
 };
 use std::alloc::{AllocError, Global};
 
@@ -64,7 +64,7 @@ impl Sections {
     {
         let line = self.lines + 1;
         match word {
-            Word::Analyst if self.scripts.len() >= GREATEST_ANALYSTS as usize => {
+            Word::Analyst if self.scripts.len() >= MAX_ANALYSTS as usize => {
                 Some(InputFault::TooManyAnalysts(line))
             }
             Word::Command(command) => self.command_refusal(tiling, line, command),
@@ -80,7 +80,7 @@ impl Sections {
             return Some(InputFault::ScriptLine(line));
         }
         let last = &self.scripts[self.scripts.len() - 1];
-        if last.commands.len() >= GREATEST_COMMANDS as usize {
+        if last.commands.len() >= MAX_COMMANDS as usize {
             return Some(InputFault::TooManyCommands(line));
         }
         self.limit_refusal(tiling, line, command)
@@ -95,7 +95,7 @@ impl Sections {
                 if !lies_in(tiling, rect) {
                     return Some(InputFault::Outside(line));
                 }
-                passes(self.changes, tiling.tile_count(), GREATEST_CHANGED_TILES).then_some(
+                passes(self.changes, tiling.tile_count(), MAX_CHANGED_TILES).then_some(
                     InputFault::EditLimit(line),
                 )
             }
@@ -103,7 +103,7 @@ impl Sections {
                 passes(
                     self.settles,
                     tiling.width * tiling.height,
-                    GREATEST_SETTLED_PIXELS,
+                    MAX_SETTLED_PIXELS,
                 )
                 .then_some(InputFault::SettleLimit(line))
             }

@@ -1,3 +1,4 @@
+ghost use Rattle.raster_model.specs.Limits.{IsTileSide, max_session_bytes};
 ghost use Rattle.insar_ports.specs.Feeding.{handed_of, left_of, limit_of, source_name};
 ghost use Rattle.insar_ports.specs.Calls.{Moves, call_of};
 ghost use Rattle.pgm_planes.specs.Planes.{plane_of};
@@ -33,8 +34,8 @@ pub fn read_session<S: Source>(
     kind: RuleKind,
 ) -> Result<Session, SessionFault>
     requires start { handed_of feed.old ≡ 0 }
-    requires limit { limit_of feed.old ≡ 268435456 }
-    requires sides { (2 ≤ side) × (side ≤ 128) }
+    requires limit { limit_of feed.old ≡ max_session_bytes }
+    requires sides { IsTileSide side }
     ensures same_source { source_name feed.new ≡ source_name feed.old }
     ensures same_limit { limit_of feed.new ≡ limit_of feed.old }
     // What was handed out is what the feed has no more.
@@ -63,8 +64,8 @@ fn read_spelled<S: Source>(
     kind: RuleKind,
 ) -> Result<Session, SessionFault>
     requires start { handed_of feed.old ≡ 0 }
-    requires limit { limit_of feed.old ≡ 268435456 }
-    requires sides { (2 ≤ side) × (side ≤ 128) }
+    requires limit { limit_of feed.old ≡ max_session_bytes }
+    requires sides { IsTileSide side }
     ensures same_source { source_name feed.new ≡ source_name feed.old }
     ensures same_limit { limit_of feed.new ≡ limit_of feed.old }
     ensures moves { Moves (call_of S.left S.faults feed.old feed.new) }

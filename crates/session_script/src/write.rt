@@ -12,10 +12,10 @@ use crate::word::Word;
 use insar_ports::{Sink, WriteFault, put_all};
 use itoa::Buffer;
 use pgm_planes::write_plane;
-use raster_model::{Command, Edit, Mask, Plane, Rect, Script, Session};
+use raster_model::{Command, Edit, MAX_SIDE, Mask, Plane, Rect, Script, Session};
 
-/// The greatest width of a raster.
-const GREATEST_WIDTH: usize = 4096;
+/// The most pixels of a row.
+const MAX_WIDTH: usize = MAX_SIDE as usize;
 
 /// Writes a session: the planes of phase, weights and mask in raw form, the mask with the maxval 1, then for each analyst
 /// the line `analyst` and the commands, and the line `end`. It takes no memory.
@@ -64,7 +64,7 @@ fn put_header<K: Sink>(sink: &mut K, width: u32, height: u32) -> Result<(), Writ
 fn put_rows<K: Sink>(sink: &mut K, mask: &Mask) -> Result<(), WriteFault>
     ensures { Puts (K.held sink.old) (K.held sink.new) (K.faults sink.old) (K.faults sink.new) (texts_below mask.now.height (row_text mask.now)) result }
 {
-    let mut row = [0; GREATEST_WIDTH];
+    let mut row = [0; MAX_WIDTH];
     for y in 0..mask.height() {
         fill_row(mask, y, &mut row);
         put(sink, &row[..mask.width() as usize])?;

@@ -17,10 +17,13 @@ use Rattle.wrapped_gradient.specs.declared.corrections.Corrections.{Corrections}
 use Rattle.wrapped_gradient.specs.Corrections.{CancelResidues, correction_at, greatest_of}
 use Rattle.wrapped_gradient.specs.Gradients.{AreGradientsOf, HasNoResidue}
 use Rattle.wrapped_gradient.specs.GradientsView.{GradientsView}
-use Rattle.wrapped_gradient.specs.Windows.{IsEdgeOf, width_of}
+use Rattle.raster_model.specs.Tiles.{width_of}
+use Rattle.wrapped_gradient.specs.Windows.{IsEdgeOf}
 use Rattle.wrapped_gradient.proofs.CorrectionLemmas.{greatest_of_least}
 use Rattle.wrapped_gradient.proofs.GradientLemmas.{residues_are}
 use Rattle.surface_integration.specs.Cycles.{AreSmall, DepartBy}
+use Rattle.sums_and_lists.proofs.Orders.{ends_in}
+use Rattle.std.proofs.lemmas.Bool.{cases_lt}
 
 -- every correction is 0
 pub record AreZero (k : Corrections) : Type 0 where
@@ -29,10 +32,7 @@ pub record AreZero (k : Corrections) : Type 0 where
 
 -- as they are where the lists repeat 0
 pub repeated_zero : (n : ℕ) (zs : List ℤ) → zs ≡ replicate n (pos 0) → (i : ℕ) → slice_index_or zs i (pos 0) ≡ pos 0
-repeated_zero n zs e i = rw e (elim (before_or_past i n) [ inl l ↦ get_or-replicate n i (pos 0) (pos 0) l | inr l ↦ get_or_past (replicate n (pos 0)) i (pos 0) (simp length-replicate l) ])
-  where
-    before_or_past : (i n : ℕ) → (i < n) ⊎ (n ≤ i)
-    before_or_past i n = grind arith
+repeated_zero n zs e i = rw e (elim (cases_lt i n) [ inl l ↦ get_or-replicate n i (pos 0) (pos 0) l | inr l ↦ get_or_past (replicate n (pos 0)) i (pos 0) (simp length-replicate l) ])
 
 zero_at : (v : Window) (k : Corrections) → AreZero k → (e : Edge) → correction_at v k e ≡ pos 0
 zero_at v k z e = go e.x e.y e.down
@@ -79,9 +79,6 @@ whole_edge r v h e i =
       start = (omega (arith, a), omega (arith, a, t), omega (arith, b), omega (arith, b, t));
       end = (omega (arith, a), omega (arith, a, t), omega (arith, b), omega (arith, b, t));
     }
-  where
-    ends_in : (x y w h a b : ℕ) → IsTrue ((nat_lt x w && nat_lt y h) && (nat_lt a w && nat_lt b h)) → (x < w) × (y < h) × (a < w) × (b < h)
-    ends_in x y w h a b t = (grind (arith, nat_tests), grind (arith, nat_tests), grind (arith, nat_tests), grind (arith, nat_tests))
 
 -- over the whole raster such a surface has no departure, costs nothing and is the best one
 module _ (r : Raster) (v : Window) (k : Corrections) (cycles : Field ℤ) (mask : Field Bool) (whole : IsWhole r v) (zero : AreZero k) (departs : DepartBy r v cycles k) where

@@ -15,7 +15,8 @@ use Rattle.raster_model.proofs.PhaseLemmas.{turns_small}
 use Rattle.raster_model.proofs.TileLeast.{residue_is}
 use Rattle.wrapped_gradient.specs.declared.corrections.Corrections.{Corrections}
 use Rattle.wrapped_gradient.specs.Corrections.{CancelResidues, correction_at, greatest_of}
-use Rattle.wrapped_gradient.specs.Windows.{IsEdgeOf, height_of}
+use Rattle.raster_model.specs.Tiles.{height_of}
+use Rattle.wrapped_gradient.specs.Windows.{IsEdgeOf}
 use Rattle.wrapped_gradient.proofs.CorrectionLemmas.{correction_within}
 use Rattle.surface_integration.specs.Cycles.{DepartBy, StaySmall, cycles_at}
 use Rattle.surface_integration.specs.Rows.{rise_of}

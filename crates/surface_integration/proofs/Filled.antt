@@ -5,7 +5,7 @@ use Rattle.raster_model.specs.declared.tiling.Window.{Window}
 use Rattle.raster_model.specs.Raster.{Raster}
 use Rattle.raster_model.specs.Sums.{right_edge, down_edge}
 use Rattle.wrapped_gradient.specs.declared.corrections.Corrections.{Corrections}
-use Rattle.wrapped_gradient.specs.Windows.{width_of}
+use Rattle.raster_model.specs.Tiles.{width_of}
 use Rattle.wrapped_gradient.proofs.Places.{place_under}
 use Rattle.surface_integration.specs.Cycles.{cycles_at}
 use Rattle.surface_integration.specs.Rows.{IsRowAdded, rise_of}

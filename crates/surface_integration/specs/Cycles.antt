@@ -4,10 +4,10 @@ use Rattle.raster_model.specs.declared.edge.Edge.{Edge}
 use Rattle.raster_model.specs.declared.tiling.Window.{Window}
 use Rattle.raster_model.specs.Sums.{Field}
 use Rattle.raster_model.specs.Raster.{Raster, departure, lifted}
-use Rattle.raster_model.specs.Tiles.{IsWithin}
+use Rattle.raster_model.specs.Tiles.{IsWithin, width_of, height_of}
 use Rattle.wrapped_gradient.specs.declared.corrections.Corrections.{Corrections}
 use Rattle.wrapped_gradient.specs.Corrections.{correction_at, greatest_of}
-use Rattle.wrapped_gradient.specs.Windows.{IsEdgeOf, width_of, height_of}
+use Rattle.wrapped_gradient.specs.Windows.{IsEdgeOf}
 
 -- the cycles that a list in the window's row order has at a pixel of the raster
 abbrev pub cycles_at : Window → List ℤ → Field ℤ

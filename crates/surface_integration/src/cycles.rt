@@ -19,7 +19,7 @@ ghost use Rattle.surface_integration.specs.Cycles.{AreSmall, DepartBy, StaySmall
 ghost use Rattle.surface_integration.specs.Rows.{IsRowAdded, rise_of};
 ghost use Rattle.wrapped_gradient.specs.Corrections.{CancelResidues, HasShapeOf, greatest_of};
 ghost use Rattle.wrapped_gradient.specs.Gradients.{AreGradientsOf};
-ghost use Rattle.wrapped_gradient.specs.Windows.{height_of, width_of};
+ghost use Rattle.raster_model.specs.Tiles.{width_of, height_of};
 
 use raster_model::Scene;
 use std::alloc::{AllocError, Global};

@@ -2,12 +2,26 @@
 use Rattle.std.proofs.Common.{◌≡◌, ◌∙◌, ℕ, ◌+◌, ◌<◌, sym, subst, ap, refl, arith, Bool, true, false, inl, inr}
 use Rattle.std.specs.Prelude.{ℤ, pos, ◌&&◌, ◌==◌, not, IsTrue, nat_lt}
 use Rattle.std.proofs.lemmas.Int.{ints}
-use Rattle.std.proofs.lemmas.Bool.Decides.{nat_tests, eqb_tells}
-use Rattle.raster_model.specs.Sums.{Field, right_edge, down_edge, end_x, end_y, sum_below, sum_grid, where_true}
+use Rattle.std.proofs.lemmas.Bool.{and_parts}
+use Rattle.std.proofs.lemmas.Bool.Decides.{eqb_tells}
+use Rattle.raster_model.specs.declared.edge.Edge.{Edge}
+use Rattle.raster_model.specs.Heights.{KnowsEnds, KnowsOpen}
+use Rattle.raster_model.specs.Sums.{Field, right_edge, down_edge, end_x, end_y, is_edge, sum_grid}
 use Rattle.raster_model.specs.Raster.{Raster, edge_cost, inner_cost, seam_cost_from, seam_edge_cost, tile_cost}
-use Rattle.raster_model.proofs.SumLemmas.{no_number, sum_below-pick, sum_below-same, sum_below-zeros, sum_edges-below, sum_edges-same}
+use Rattle.raster_model.proofs.MaskAgrees.{edge_ends}
+use Rattle.raster_model.proofs.SumLemmas.{sum_edges-below, sum_edges-same}
 use Rattle.surface_snapshots.specs.Parts.{tile_costs}
 use Rattle.surface_snapshots.specs.Loops.{inner_cost_from, inner_edge_cost}
+use Rattle.sums_and_lists.proofs.Tests.{one_test, apart}
+use Rattle.sums_and_lists.specs.Sums.{sum_below, where_true}
+use Rattle.sums_and_lists.proofs.SumLemmas.{no_number, sum_below-pick, sum_below-same, sum_below-zeros}
+
+-- where every open pixel is known, the ends of each edge are, where they are open
+pub ends_known : (r : Raster) (mask knows : Field Bool) (e : Edge) → KnowsOpen r mask knows → IsTrue (is_edge r.width r.height e) → KnowsEnds mask knows e
+ends_known r mask knows e known i o =
+    let t = edge_ends r.width r.height e i in
+    let ends = and_parts (mask e.x e.y) (mask (end_x e) (end_y e)) o in
+    (known e.x e.y t.0 t.1 ends.0, known (end_x e) (end_y e) t.2 t.3 ends.1)
 
 -- the right and the lower edge of a pixel
 pub both_edges : (r : Raster) (mask : Field Bool) (S : Field ℤ) (x y a b : ℕ) → pos a ≡ where_true (nat_lt (x + 1) r.width) (inner_edge_cost r mask S (right_edge x y)) → pos b ≡ where_true (nat_lt (y + 1) r.height) (inner_edge_cost r mask S (down_edge x y)) → pos (a + b) ≡ inner_cost_from r mask S x y
@@ -24,13 +38,6 @@ seam_adds_none b z e = rw e refl
 
 pub inner_adds : (b : Bool) (z : ℤ) → b ≡ false → where_true (not b) z ≡ z
 inner_adds b z e = rw e refl
-
--- of the tiles at most one has both ends of an edge
-one_test : (u t : ℕ) → (u == t) && (u == t) ≡ u == t
-one_test u t = grind (arith, nat_tests)
-
-apart : (u v t : ℕ) → (u == v) ≡ false → (u == t) && (v == t) ≡ false
-apart u v t e = grind (arith, nat_tests)
 
 kept : (b : Bool) (z : ℤ) → b ≡ true → where_true (not (not b)) z ≡ z
 kept b z e = rw e refl
@@ -51,13 +58,10 @@ in_one_tile n u v z l =
           ∙ sym (dropped (u == v) z other.0)
     ]
 
-starts_in : (w h x y a b : ℕ) → IsTrue ((nat_lt x w && nat_lt y h) && (nat_lt a w && nat_lt b h)) → (x < w) × (y < h)
-starts_in w h x y a b t = (grind (arith, nat_tests), grind (arith, nat_tests))
-
 pub tile_costs_are : (r : Raster) (mask : Field Bool) (S : Field ℤ) → ((x y : ℕ) → x < r.width → y < r.height → r.tile x y < r.tile_count) → sum_grid r.width r.height (inner_cost_from r mask S) ≡ tile_costs r mask S
 unfolding tile_costs tile_cost inner_cost_from inner_edge_cost
 tile_costs_are r mask S numbered =
     sym (sym (sum_edges-below r.width r.height r.tile_count (λ t. inner_cost r mask t S))
     ∙ sum_edges-same r.width r.height (λ e. sum_below r.tile_count (λ t. inner_cost r mask t S e)) (inner_edge_cost r mask S)
-    (λ e i. (let l = starts_in r.width r.height e.x e.y (end_x e) (end_y e) i in
+    (λ e i. (let l = edge_ends r.width r.height e i in
     in_one_tile r.tile_count (r.tile e.x e.y) (r.tile (end_x e) (end_y e)) (edge_cost r mask S e) (numbered e.x e.y l.0 l.1))))

@@ -1,7 +1,7 @@
 mod ShiftedLemmas
 mod CostLemmas
 mod LevelLemmas
-mod VerdictLemmas
+pub mod VerdictLemmas
 mod PublishedLemmas
 pub mod CallerLemmas
 pub mod SameLemmas

@@ -1,9 +1,8 @@
 -- A surface that is put together from good results is certified in each tile: a number added on each region changes no departure inside a tile.
-use Rattle.std.proofs.Common.{◌≡◌, ◌∙◌, ℕ, ◌<◌, ap, sym, subst, refl, arith, true, false, Bool, List, length, inl, inr}
+use Rattle.std.proofs.Common.{◌≡◌, ◌∙◌, ℕ, ap, sym, subst, refl, arith, true, false, Bool}
 use Rattle.std.specs.Prelude.{◌&&◌, ◌==◌, not, IsTrue, nat_lt, Some, slice_get}
 use Rattle.std.proofs.lemmas.Int.{ints}
 use Rattle.std.proofs.lemmas.Bool.Decides.{nat_tests}
-use Rattle.std.proofs.lemmas.Option.{slice_get_cases}
 use Rattle.raster_model.specs.declared.edge.Edge.{Edge}
 use Rattle.raster_model.specs.Cells.{IsCertifiedTile}
 use Rattle.raster_model.specs.Certificates.{IsTileEdge}
@@ -16,17 +15,13 @@ use Rattle.certificates.specs.declared.results.TileResult.{TileResult}
 use Rattle.certificates.specs.declared.verdicts.SeamVerdict.TheVariants.{Good}
 use Rattle.certificates.specs.Results.{cycles_in, result_surface, window_in}
 use Rattle.certificates.proofs.CallerLemmas.{certified_same}
-use Rattle.seam_regions.specs.Regions.{AreRegionsOf, label_at}
+use Rattle.seam_regions.specs.Regions.{AreRegionsOf, label_at, offset_at}
 use Rattle.seam_regions.proofs.CallerLemmas.{one_label_at_ends, regions_of_scene}
-use Rattle.surface_snapshots.specs.Parts.{Parts, AreGoodTiles, IsPublished, cycles_in_parts, faces_in, faces_of, offset_at, open_in, raster_in, solved_cycles, surface_in}
+use Rattle.certificates.specs.TileSets.{solved_cycles}
+use Rattle.surface_snapshots.specs.Parts.{Parts, AreGoodTiles, IsPublished, cycles_in_parts, faces_in, faces_of, open_in, raster_in, surface_in}
 use Rattle.surface_snapshots.specs.Verdicts.{IsVerdict}
 use Rattle.surface_snapshots.proofs.ShiftedLemmas.{solved_is}
-
-some_at : {A : Type 0} (xs : List A) (t : ℕ) → t < length xs → (x : A) × (slice_get xs t ≡ Some x)
-some_at xs t l = elim (slice_get_cases xs t).1 [
-  | inl h ↦ (h.0, h.2)
-  | inr h ↦ absurd (omega (arith, h.0, l))
-]
+use Rattle.sums_and_lists.proofs.Lists.{some_at}
 
 -- an edge of a tile has both ends in it, and is an open inner edge where they are open
 tiled_ends : (w h x y a b t u v : ℕ) → IsTrue ((nat_lt x w && nat_lt y h) && (nat_lt a w && nat_lt b h) && ((u == t) && (v == t))) → (u ≡ t) × (v ≡ t)

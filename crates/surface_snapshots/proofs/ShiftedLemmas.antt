@@ -16,7 +16,8 @@ use Rattle.certificates.specs.Results.{cycles_in, pixels_in}
 use Rattle.seam_regions.specs.Regions.{AreRegionsOf}
 use Rattle.seam_regions.specs.RegionsView.{RegionsView}
 use Rattle.seam_regions.proofs.CallerLemmas.{regions_of_scene}
-use Rattle.surface_snapshots.specs.Parts.{AreGoodTiles, solved_cycles}
+use Rattle.certificates.specs.TileSets.{solved_cycles}
+use Rattle.surface_snapshots.specs.Parts.{AreGoodTiles}
 use Rattle.surface_snapshots.specs.Loops.{GoTogether}
 
 -- an open pixel's place and that it is open

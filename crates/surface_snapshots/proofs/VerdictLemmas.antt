@@ -1,5 +1,5 @@
 -- The verdicts on parts: how the check of the flows makes them, and that there is one.
-use Rattle.std.proofs.Common.{◌≡◌, ◌∙◌, ℕ, ◌*◌, ◌<◌, ap, sym, subst, refl, arith, inl, inr, ◌⊎◌, List, length}
+use Rattle.std.proofs.Common.{◌≡◌, ◌∙◌, ℕ, ◌*◌, ap, sym, subst, refl, inl, inr, ◌⊎◌, List, length}
 use Rattle.std.specs.Prelude.{◌≢◌, ℤ}
 use Rattle.raster_model.specs.declared.scene.Scene.{Scene}
 use Rattle.raster_model.specs.MaskView.{MaskView}
@@ -16,6 +16,7 @@ use Rattle.seam_regions.specs.RegionsView.{RegionsView}
 use Rattle.seam_regions.proofs.CallerLemmas.{regions_of_scene}
 use Rattle.surface_snapshots.specs.Parts.{Parts, AreNear, cycles_in_parts, flows_in, open_in, raster_in}
 use Rattle.surface_snapshots.specs.Verdicts.{HasOffsets, IsFirstFar, IsFlowsVerdict, IsVerdict, PartsHaveOneVerdict}
+use Rattle.std.proofs.lemmas.Bool.{cases_order}
 
 -- ---- the labels, as the check of the flows reads them
 module _ (s : Scene) (m : MaskView) (v : RegionsView) (is : AreRegionsOf s.tiling m v) (labels : List ℕ) (count : ℕ) (values : labels ≡ v.labels) (counted : count ≡ v.count) where
@@ -68,11 +69,8 @@ kind_of p (FlowAtEdge e) h = inr (inr (record { offsets = h.0; near = h.1; says 
 kind_of p (Unbalanced v) h = inr (inr (record { offsets = h.0; near = h.1; says = h.2 }))
 kind_of p (CostDiffers cost bound) h = inr (inr (record { offsets = h.0; near = h.1; says = h.2 }))
 
-three_ways : (u v : ℕ) → (u ≡ v) ⊎ ((u < v) ⊎ (v < u))
-three_ways u v = grind arith
-
 one_far : (p : Parts) (u v : ℕ) → IsFirstFar p.seams.offsets.items u → IsFirstFar p.seams.offsets.items v → u ≡ v
-one_far p u v f g = elim (three_ways u v) [
+one_far p u v f g = elim (cases_order u v) [
   | inl e ↦ e
   | inr (inl l) ↦ absurd (f.far (g.first u l))
   | inr (inr l) ↦ absurd (g.far (f.first v l))

@@ -1,5 +1,5 @@
 -- Words of helpers and of ghost fields: no clause of a public function cites them.
-use Rattle.std.specs.Prelude.{◌≡◌, ℕ, ◌<◌, ℤ, Bool, not, IsTrue, List}
+use Rattle.std.specs.Prelude.{◌≡◌, ℕ, ◌+◌, ◌*◌, ◌<◌, ◌≤◌, ◌^◌, ℤ, Bool, not, IsTrue, List}
 use Rattle.raster_model.specs.declared.edge.Edge.{Edge}
 use Rattle.raster_model.specs.declared.scene.Scene.{Scene}
 use Rattle.raster_model.specs.MaskView.{MaskView}
@@ -7,9 +7,11 @@ use Rattle.raster_model.specs.Masks.{open_at}
 use Rattle.certificates.specs.declared.results.TileResult.{TileResult}
 use Rattle.seam_regions.specs.Regions.{label_at}
 use Rattle.seam_regions.specs.RegionsView.{RegionsView}
+use Rattle.surface_snapshots.specs.declared.counting.Costs.{Costs}
 use Rattle.surface_snapshots.specs.Parts.{AreGoodTiles}
 use Rattle.raster_model.specs.Raster.{Raster, edge_cost, is_seam}
-use Rattle.raster_model.specs.Sums.{Field, edges_from, where_true}
+use Rattle.raster_model.specs.Sums.{Field, edges_from}
+use Rattle.sums_and_lists.specs.Sums.{where_true}
 
 -- what an edge adds to the costs of all tiles, and what the edges that start at a pixel add
 unfoldable pub inner_edge_cost : Raster → Field Bool → Field ℤ → Edge → ℤ
@@ -17,6 +19,10 @@ inner_edge_cost r mask S e = where_true (not (is_seam r e)) (edge_cost r mask S 
 
 unfoldable pub inner_cost_from : Raster → Field Bool → Field ℤ → Field ℤ
 inner_cost_from r mask S = edges_from r.width r.height (inner_edge_cost r mask S)
+
+-- neither cost is more than n edges can add
+abbrev pub AreOfEdges : ℕ → Costs → Type 0
+AreOfEdges n costs = (costs.tiles ≤ 65535 * (2 ^ 49 + 1) * n) × (costs.seams ≤ 65535 * (2 ^ 49 + 1) * n)
 
 -- what a surface is put together from has one size: the scene, the mask, the results and the labels; each tile has a good result, and each open pixel a region
 pub record GoTogether (s : Scene) (m : MaskView) (v : RegionsView) (results : List TileResult) : Type 0 where

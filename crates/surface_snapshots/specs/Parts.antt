@@ -1,5 +1,5 @@
 -- What a surface is put together from: the results of the tiles, with a whole number of cycles added on each region (Chen and Zebker 2002).
-use Rattle.std.specs.Prelude.{◌≡◌, ℕ, ◌<◌, ◌≤◌, ◌^◌, ℤ, pos, ◌+ℤ◌, Bool, ◌&&◌, List, [], length, slice_get, slice_index_or, unsigned_abs, nat_lt, Option, Some, None, if◌then◌else◌}
+use Rattle.std.specs.Prelude.{◌≡◌, ℕ, ◌<◌, ◌≤◌, ◌^◌, ℤ, pos, Bool, ◌&&◌, List, [], length, slice_get, slice_index_or, unsigned_abs, nat_lt, Option, Some, None, if◌then◌else◌}
 use Rattle.raster_model.specs.declared.scene.Scene.{Scene}
 use Rattle.raster_model.specs.declared.session.Session.{Session}
 use Rattle.raster_model.specs.MaskView.{MaskView}
@@ -9,14 +9,15 @@ use Rattle.raster_model.specs.Cells.{IsCertifiedTile}
 use Rattle.raster_model.specs.Flows.{AreCertifiedSeams}
 use Rattle.raster_model.specs.Scene.{raster_of}
 use Rattle.raster_model.specs.Seams.{IsAnchored}
-use Rattle.raster_model.specs.Sums.{Field, sum_below}
-use Rattle.raster_model.specs.Tiles.{tile_at, tiles_of}
+use Rattle.raster_model.specs.Sums.{Field}
+use Rattle.raster_model.specs.Tiles.{tiles_of}
 use Rattle.certificates.specs.declared.results.TileResult.{TileResult}
 use Rattle.certificates.specs.declared.results.SeamResult.{SeamResult}
-use Rattle.certificates.specs.Results.{IsGoodTile, cycles_in, window_in}
-use Rattle.certificates.specs.TileSets.{HasOneForEach, TileSetView}
-use Rattle.seam_regions.specs.Regions.{label_at}
+use Rattle.certificates.specs.Results.{IsGoodTile}
+use Rattle.certificates.specs.TileSets.{HasOneForEach, TileSetView, solved_cycles}
+use Rattle.seam_regions.specs.Regions.{shifted_by}
 use Rattle.seam_regions.specs.RegionsView.{RegionsView}
+use Rattle.sums_and_lists.specs.Sums.{sum_below}
 
 pub record Parts : Type 0 where
   pub session : Session
@@ -42,25 +43,14 @@ is_open_pixel w h mask x y = nat_lt x w && nat_lt y h && mask x y
 abbrev pub is_open_in : Parts → Field Bool
 is_open_in p = is_open_pixel p.session.scene.phase.width p.session.scene.phase.height (open_in p)
 
--- the cycles that a result has at a pixel of its tile, and its faces
-abbrev pub cycles_of : Scene → Option TileResult → Field ℤ
-cycles_of s (Some k) x y = cycles_in (window_in s k) k.cycles.items x y
-cycles_of s None x y = pos 0
-
+-- the faces of a result
 abbrev pub faces_of : Option TileResult → List ℤ
 faces_of (Some k) = k.faces.items
 faces_of None = []
 
--- the cycles that the result of a pixel's tile has there, and the offset of its region
-unfoldable pub solved_cycles : Scene → List TileResult → Field ℤ
-solved_cycles s results x y = cycles_of s (slice_get results (tile_at s.tiling x y)) x y
-
-unfoldable pub offset_at : RegionsView → List ℤ → Field ℤ
-offset_at v offsets x y = slice_index_or offsets (label_at v x y) (pos 0)
-
--- the surface lies the sum of both, in whole cycles, above the phase
+-- the cycles that the result of a pixel's tile has there, with the offset of its region: so many lies the surface above the phase
 abbrev pub shifted_cycles : Scene → RegionsView → List TileResult → List ℤ → Field ℤ
-shifted_cycles s v results offsets x y = solved_cycles s results x y +ℤ offset_at v offsets x y
+shifted_cycles s v results offsets = shifted_by v offsets (solved_cycles s results)
 
 abbrev pub cycles_in_parts : Parts → Field ℤ
 cycles_in_parts p = shifted_cycles p.session.scene p.regions p.tiles.results p.seams.offsets.items

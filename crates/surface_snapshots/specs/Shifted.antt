@@ -1,14 +1,13 @@
 -- Words of helpers: a surface of shifted tiles as the definitions read it, and lists of its cycles. No clause of a public function cites them.
-use Rattle.std.specs.Prelude.{◌≡◌, ℕ, ◌+◌, ◌*◌, ◌<◌, ◌≤◌, ◌^◌, ℤ, pos, Bool, IsTrue, List, length, slice_index_or}
+use Rattle.std.specs.Prelude.{◌≡◌, ℕ, ◌+◌, ◌*◌, ◌<◌, ℤ, pos, Bool, IsTrue, List, length, slice_index_or}
 use Rattle.raster_model.specs.Masks.{open_at}
-use Rattle.raster_model.specs.Raster.{Raster, lifted}
+use Rattle.raster_model.specs.Raster.{Raster}
 use Rattle.raster_model.specs.Scene.{raster_of}
 use Rattle.raster_model.specs.Sums.{Field}
-use Rattle.surface_snapshots.specs.declared.counting.Costs.{Costs}
 use Rattle.surface_snapshots.specs.declared.shifted.ShiftedTiles.{ShiftedTiles}
 use Rattle.surface_snapshots.specs.Parts.{shifted_cycles}
 
--- the raster, the open pixels, the cycles above the phase and the surface
+-- the raster, the open pixels and the cycles above the phase
 abbrev pub raster_under : ShiftedTiles → Raster
 raster_under s = raster_of s.scene.now
 
@@ -18,14 +17,7 @@ open_under s = open_at s.mask.now
 abbrev pub cycles_under : ShiftedTiles → Field ℤ
 cycles_under s = shifted_cycles s.scene.now s.regions.now s.tiles.now.results s.offsets.now
 
-abbrev pub surface_under : ShiftedTiles → Field ℤ
-surface_under s = lifted (raster_under s) (cycles_under s)
-
 -- the list has a number for each of the first n pixels in row order: the cycles of each that is open
 pub record AreListed (s : ShiftedTiles) (n : ℕ) (list : List ℤ) : Type 0 where
   pub count : length list ≡ n
   pub at : (x y : ℕ) → x < s.scene.now.phase.width → y < s.scene.now.phase.height → IsTrue (open_under s x y) → y * s.scene.now.phase.width + x < n → slice_index_or list (y * s.scene.now.phase.width + x) (pos 0) ≡ cycles_under s x y
-
--- neither cost is more than n edges can add
-abbrev pub AreOfEdges : ℕ → Costs → Type 0
-AreOfEdges n costs = (costs.tiles ≤ 65535 * (2 ^ 49 + 1) * n) × (costs.seams ≤ 65535 * (2 ^ 49 + 1) * n)

@@ -48,7 +48,7 @@ pub(crate) fn certified_costs(
     };
     let levels = Levels::of(alloc, surface)?;
     match levels.judge(alloc, &seams.flows)? {
-        SeamVerdict::Good => Ok(levels.costs()),
+        SeamVerdict::Good => Ok(Costs::of(&session.scene, mask, &levels)),
         verdict => Err(BuildFault::Uncertified(verdict)),
     }
 }

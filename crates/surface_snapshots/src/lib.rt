@@ -12,5 +12,6 @@ mod offsets;
 mod shifted;
 mod snapshot;
 
+pub use crate::counting::Costs;
 pub use crate::fault::BuildFault;
 pub use crate::snapshot::Snapshot;

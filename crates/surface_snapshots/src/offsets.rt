@@ -3,7 +3,7 @@ ghost use Rattle.surface_snapshots.specs.Parts.{AreNear};
 ghost use Rattle.surface_snapshots.specs.Verdicts.{IsFirstFar};
 
 /// The greatest absolute offset: 2^46.
-const GREATEST_OFFSET: u64 = 70_368_744_177_664;
+const MAX_OFFSET: u64 = 70_368_744_177_664;
 
 /// The first of some offsets that is out of range, by its place.
 pub(crate) fn first_far(offsets: &[i64]) -> Option<usize>
@@ -12,5 +12,5 @@ pub(crate) fn first_far(offsets: &[i64]) -> Option<usize>
 {
     offsets
         .iter()
-        .position(|&offset| offset.unsigned_abs() > GREATEST_OFFSET)
+        .position(|&offset| offset.unsigned_abs() > MAX_OFFSET)
 }

@@ -40,7 +40,9 @@ pub(crate) struct ShiftedTiles<'a> {
 
 impl ShiftedTiles<'_> {
     ghost use Rattle.std.specs.Prelude.{◌+◌, ◌≤◌, ◌^◌, IsTrue, unsigned_abs};
-    ghost use Rattle.surface_snapshots.specs.Parts.{is_open_pixel, offset_at, shifted_cycles, solved_cycles};
+    ghost use Rattle.certificates.specs.TileSets.{solved_cycles};
+    ghost use Rattle.seam_regions.specs.Regions.{offset_at};
+    ghost use Rattle.surface_snapshots.specs.Parts.{is_open_pixel, shifted_cycles};
     ghost use Rattle.raster_model.specs.Masks.{open_at};
 
     /// The cycles above the phase at an open pixel.

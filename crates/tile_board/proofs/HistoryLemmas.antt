@@ -19,6 +19,7 @@ use Rattle.tile_board.specs.declared.entry.Entry.{Entry}
 use Rattle.tile_board.specs.declared.entry.Entry.TheVariants.{Revised, Kept, Published, Settled, Shown}
 use Rattle.tile_board.specs.Histories.{IsLegal, IsStep, done_by, edit_of, edits_of, is_kept, keeps, mask_in, names, newest_of, next_command, now_of, present_mask, published_in, published_of, script_of, stamp_in}
 use Rattle.tile_board.proofs.ListLemmas.{get_below, get_push, get_take, take_one, take_none, last_push}
+use Rattle.sums_and_lists.proofs.Tests.{or_false}
 
 -- ---- legal histories
 pub legal_none : (s : Session) → IsLegal s []
@@ -96,10 +97,6 @@ present_more s H a c = present_is s (H ++ (Revised a c ∷ [])) ∙ ap (mask_aft
 -- masks at revisions that were there stay
 pub mask_stays : (s : Session) (H : List Entry) (e : Entry) (r : ℕ) → r ≤ now_of H → mask_in s (H ++ (e ∷ [])) r ≡ mask_in s H r
 mask_stays s H e r l = ap (mask_after (open_at s.first_mask)) (ap (take r) (filter_map-append edit_of H (e ∷ [])) ∙ take-append-le r (edits_of H) (cons_option (edit_of e) []) l)
-
-or_false : (b : Bool) → (b || false) ≡ b
-or_false true = refl
-or_false false = refl
 
 pub keeps_push : (t r : ℕ) (H : List Entry) (e : Entry) → list_any (keeps t r) (H ++ (e ∷ [])) ≡ (list_any (keeps t r) H || keeps t r e)
 keeps_push t r H e = list_any-append (keeps t r) H (e ∷ []) ∙ ap (λ (b : Bool). list_any (keeps t r) H || b) (or_false (keeps t r e))

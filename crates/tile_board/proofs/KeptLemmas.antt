@@ -1,8 +1,7 @@
 -- Kept results under a longer history.
 use Rattle.std.proofs.Common.{◌≡◌, ℕ, ◌+◌, ◌<◌, inl, inr, sym, ◌∙◌, ap, refl, subst, arith, Bool, true, false, List, [], ◌∷◌, ◌++◌, length}
-use Rattle.std.specs.Prelude.{Option, Some, None, set, slice_get, ◌||◌, ◌&&◌, ◌==◌, if◌then◌else◌, replicate}
+use Rattle.std.specs.Prelude.{Option, Some, None, set, slice_get, ◌==◌, if◌then◌else◌, replicate}
 use Rattle.std.specs.List.{list_any}
-use Rattle.std.proofs.lemmas.Bool.Decides.{nat_tests}
 use Rattle.std.proofs.lemmas.List.{length-set, length-replicate}
 use Rattle.raster_model.specs.declared.script.Edit.{Edit}
 use Rattle.raster_model.specs.declared.session.Session.{Session}
@@ -22,6 +21,9 @@ use Rattle.tile_board.specs.Boards.{AreKept, IsHeld, IsPlace}
 use Rattle.tile_board.specs.Histories.{IsLegal, edit_of, edits_of, is_kept, keeps, now_of, present_mask, stamp_in}
 use Rattle.tile_board.proofs.HistoryLemmas.{edits_more, keeps_push, kept_push, kept_same, none_later, present_is, present_more, present_same, stamp_same}
 use Rattle.tile_board.proofs.ListLemmas.{get_below, get_set, get_replicate}
+use Rattle.std.proofs.lemmas.Bool.{and_from, or_right, eq-eqb}
+use Rattle.sums_and_lists.proofs.Tests.{or_false}
+use Rattle.sums_and_lists.proofs.Orders.{not_equal}
 
 -- ---- masks that agree in a tile's window
 pub within_tile : (s : Session) (t : ℕ) → t < tiles_of s.scene.tiling → (x y : ℕ) → IsWithin (window_of s.scene.tiling t) x y → (x < s.scene.tiling.width) × (y < s.scene.tiling.height) × (tile_at s.scene.tiling x y ≡ t)
@@ -58,26 +60,20 @@ kept_on s H e kept n away are = record {
 }
 
 -- ---- a kept result
-test_here : (a b : ℕ) → a ≡ b → (a == b) ≡ true
-test_here a b e = grind (arith, nat_tests)
+pub kept_here : (s : Session) (H : List Entry) (t r u : ℕ) → u ≡ t → r ≡ stamp_in s H t → is_kept s (H ++ (Kept t r ∷ [])) u ≡ true
+kept_here s H t r u q stamp =
+    kept_push s H (Kept t r) u refl
+    ∙ or_right (is_kept s H u) (keeps u (stamp_in s H u) (Kept t r)) (and_from (t == u) (r == stamp_in s H u) (eq-eqb t u (sym q)) (eq-eqb r (stamp_in s H u) (stamp ∙ ap (stamp_in s H) (sym q))))
 
-test_there : (a b : ℕ) (c : Bool) → (b ≡ a → ⊥) → ((a == b) && c) ≡ false
-test_there a b c d = grind (arith, nat_tests)
-
-or_true : (b c : Bool) → c ≡ true → (b || c) ≡ true
-or_true true c e = refl
-or_true false c e = e
-
-both : (a b : Bool) → a ≡ true → b ≡ true → (a && b) ≡ true
-both true b p q = q
-both false b p q = cc
+pub kept_elsewhere : (s : Session) (H : List Entry) (t r u : ℕ) → (u ≡ t → ⊥) → is_kept s H u ≡ is_kept s (H ++ (Kept t r ∷ [])) u
+kept_elsewhere s H t r u d = kept_same s H (Kept t r) u refl (not_equal t u (r == stamp_in s H u) d)
 
 pub kept_keep : (s : Session) (H : List Entry) (k : TileResult) (kept : List (Option TileResult)) → k.stamp ≡ stamp_in s H k.tile → IsGoodTile s.scene (present_mask s H) k → AreKept s H kept → AreKept s (H ++ (Kept k.tile k.stamp ∷ [])) (set kept k.tile (Some k))
 kept_keep s H k kept stamp good are = record {
   count = length-set kept k.tile (Some k) ∙ are.count;
   each = λ u place g. elim (get_set kept k.tile (Some k) u place g) [
     | inl h ↦ subst (IsPlace s K u) h.1 (here u h.0)
-    | inr h ↦ place_same s H K u place (kept_same s H e u refl (test_there k.tile u (k.stamp == stamp_in s H u) h.0)) (stamp_same s H e u refl) (present_same s H e refl) (are.each u place h.1)
+    | inr h ↦ place_same s H K u place (kept_elsewhere s H k.tile k.stamp u h.0) (stamp_same s H e u refl) (present_same s H e refl) (are.each u place h.1)
   ];
 }
   where
@@ -89,55 +85,60 @@ kept_keep s H k kept stamp good are = record {
 
     here : (u : ℕ) → u ≡ k.tile → IsHeld s K u k
     here u q = record {
-      told = kept_push s H e u refl ∙ or_true (is_kept s H u) (keeps u (stamp_in s H u) e) (both (k.tile == u) (k.stamp == stamp_in s H u) (test_here k.tile u (sym q)) (test_here k.stamp (stamp_in s H u) (stamp ∙ ap (stamp_in s H) (sym q))));
+      told = kept_here s H k.tile k.stamp u q stamp;
       tile = sym q;
       stamp = stamp ∙ ap (stamp_in s H) (sym q) ∙ stamp_same s H e u refl;
       good = subst (λ (f : Field Bool). IsGoodTile s.scene f k) (present_same s H e refl) good;
     }
 
 -- ---- a revision
-pub stamp_more : (s : Session) (H : List Entry) (a : ℕ) (c : Edit) (t : ℕ) → stamp_in s (H ++ (Revised a c ∷ [])) t ≡ (if differ_in s.scene.tiling (present_mask s H) (present_mask s (H ++ (Revised a c ∷ []))) t then now_of H + 1 else stamp_in s H t)
-stamp_more s H a c t =
-    rw (present_is s H, present_more s H a c)
-    (ap (λ (l : List Edit). stamp_of s.scene.tiling (open_at s.first_mask) l t) (edits_more H a c) ∙ stamp_of-push s.scene.tiling (open_at s.first_mask) (edits_of H) c t)
+module _ (s : Session) (H : List Entry) (a : ℕ) (c : Edit) where
+  abbrev K : List Entry
+  K = H ++ (Revised a c ∷ [])
 
-pub kept_revised : (s : Session) (H : List Entry) (a : ℕ) (c : Edit) (kept kept' : List (Option TileResult)) → IsLegal s H → length kept' ≡ length kept → ((t : ℕ) → t < tiles_of s.scene.tiling → slice_get kept' t ≡ (if differ_in s.scene.tiling (present_mask s H) (present_mask s (H ++ (Revised a c ∷ []))) t then Some None else slice_get kept t)) → AreKept s H kept → AreKept s (H ++ (Revised a c ∷ [])) kept'
-kept_revised s H a c kept kept' legal count places are = record {
-  count = count ∙ are.count;
-  each = λ t place g. (
-      let l : t < tiles_of s.scene.tiling = omega (arith, get_below kept' t place g, count, are.count) in
-      at t place l (differs t) refl (sym (places t l) ∙ g));
-}
-  where
-    K : List Entry
-    K = H ++ (Revised a c ∷ [])
+  abbrev differs : ℕ → Bool
+  differs t = differ_in s.scene.tiling (present_mask s H) (present_mask s K) t
 
-    differs : ℕ → Bool
-    differs t = differ_in s.scene.tiling (present_mask s H) (present_mask s K) t
+  stamp_more : (t : ℕ) → stamp_in s K t ≡ (if differs t then now_of H + 1 else stamp_in s H t)
+  stamp_more t =
+      rw (present_is s H, present_more s H a c)
+      (ap (λ (l : List Edit). stamp_of s.scene.tiling (open_at s.first_mask) l t) (edits_more H a c) ∙ stamp_of-push s.scene.tiling (open_at s.first_mask) (edits_of H) c t)
 
-    or_false : (b : Bool) → (b || false) ≡ b
-    or_false true = refl
-    or_false false = refl
+  same_keeps : (t r : ℕ) → list_any (keeps t r) K ≡ list_any (keeps t r) H
+  same_keeps t r = keeps_push t r H (Revised a c) ∙ or_false (list_any (keeps t r) H)
 
-    told : (t r : ℕ) → list_any (keeps t r) K ≡ list_any (keeps t r) H
-    told t r = keeps_push t r H (Revised a c) ∙ or_false (list_any (keeps t r) H)
+  stamp_stays : (t : ℕ) → differs t ≡ false → stamp_in s K t ≡ stamp_in s H t
+  stamp_stays t d = rw d at (stamp_more t)
 
+  -- a tile in which the mask changes is kept no longer, and the others are kept as they were
+  pub kept_gone : IsLegal s H → (t : ℕ) → differs t ≡ true → is_kept s K t ≡ false
+  kept_gone legal t d =
+      let stamp : stamp_in s K t ≡ now_of H + 1 = rw d at (stamp_more t) in
+      ap (λ (r : ℕ). list_any (keeps t r) K) stamp ∙ same_keeps t (now_of H + 1) ∙ none_later s H legal t (now_of H + 1) (omega arith)
+
+  pub kept_stays : (t : ℕ) → differs t ≡ false → is_kept s K t ≡ is_kept s H t
+  kept_stays t d = ap (λ (r : ℕ). list_any (keeps t r) K) (stamp_stays t d) ∙ same_keeps t (stamp_in s H t)
+
+  module _ (kept kept' : List (Option TileResult)) (legal : IsLegal s H) (count : length kept' ≡ length kept) (places : (t : ℕ) → t < tiles_of s.scene.tiling → slice_get kept' t ≡ (if differs t then Some None else slice_get kept t)) (are : AreKept s H kept) where
     gone : (place : Option TileResult) → Some None ≡ Some place → None ≡ place
     gone place h = cc
 
     at : (t : ℕ) (place : Option TileResult) → t < tiles_of s.scene.tiling → (b : Bool) → differs t ≡ b → (if b then Some None else slice_get kept t) ≡ Some place → IsPlace s K t place
-    at t place l true d g =
-        let stamp : stamp_in s K t ≡ now_of H + 1 = rw d at (stamp_more s H a c t) in
-        subst (IsPlace s K t) (gone place g) (ap (λ (r : ℕ). list_any (keeps t r) K) stamp ∙ told t (now_of H + 1) ∙ none_later s H legal t (now_of H + 1) (omega arith))
-    at t None l false d g =
-        let stamp : stamp_in s K t ≡ stamp_in s H t = rw d at (stamp_more s H a c t) in
-        ap (λ (r : ℕ). list_any (keeps t r) K) stamp ∙ told t (stamp_in s H t) ∙ are.each t None g
+    at t place l true d g = subst (IsPlace s K t) (gone place g) (kept_gone legal t d)
+    at t None l false d g = kept_stays t d ∙ are.each t None g
     at t (Some k) l false d g =
-        let stamp : stamp_in s K t ≡ stamp_in s H t = rw d at (stamp_more s H a c t) in
         let held = are.each t (Some k) g in
         record {
-          told = ap (λ (r : ℕ). list_any (keeps t r) K) stamp ∙ told t (stamp_in s H t) ∙ held.told;
+          told = kept_stays t d ∙ held.told;
           tile = held.tile;
-          stamp = held.stamp ∙ sym stamp;
+          stamp = held.stamp ∙ sym (stamp_stays t d);
           good = good_across s (present_mask s H) (present_mask s K) k (rw held.tile l) (λ x y p q e. same_from s.scene.tiling (present_mask s H) (present_mask s K) t d x y p q (e ∙ held.tile)) held.good;
         }
+
+    pub kept_revised : AreKept s K kept'
+    kept_revised = record {
+      count = count ∙ are.count;
+      each = λ t place g. (
+          let l : t < tiles_of s.scene.tiling = omega (arith, get_below kept' t place g, count, are.count) in
+          at t place l (differs t) refl (sym (places t l) ∙ g));
+    }

@@ -2,6 +2,7 @@ pub mod ListLemmas
 pub mod HistoryLemmas
 pub mod PlaceLemmas
 pub mod StateLemmas
+pub mod HeldLemmas
 pub mod VerdictLemmas
 pub mod KeptLemmas
 pub mod SurfaceLemmas

@@ -1,12 +1,15 @@
 -- Places of results: which have one, copies, and places that were emptied.
-use Rattle.std.proofs.Common.{◌≡◌, ◌≢◌, ℕ, zero, suc, ◌+◌, ◌<◌, ◌≤◌, ◌⊎◌, inl, inr, sym, ◌∙◌, ap, refl, subst, arith, Bool, true, false, List, [], ◌∷◌, ◌++◌, length}
+use Rattle.std.proofs.Common.{◌≡◌, ◌≢◌, ℕ, ◌+◌, ◌<◌, ◌≤◌, inl, inr, sym, ◌∙◌, ap, refl, subst, arith, Bool, true, false, List, [], ◌∷◌, ◌++◌, length}
 use Rattle.std.specs.Prelude.{Option, Some, None, MatchOption, is_some, set, slice_get, slice_index, ⊤}
 use Rattle.std.proofs.lemmas.Bool.{cases_eq}
 use Rattle.std.proofs.lemmas.List.{length-append, length-set}
 use Rattle.certificates.specs.declared.results.TileResult.{TileResult}
 use Rattle.certificates.specs.TileSets.{IsCopy}
-use Rattle.tile_board.specs.States.{AreEmptied, CopiesResults, HasResult, HaveResults, IsGap}
+use Rattle.tile_board.specs.Places.{AreSet}
+use Rattle.tile_board.specs.States.{CopiesResults, HasResult, HaveResults, IsGap}
 use Rattle.tile_board.proofs.ListLemmas.{get_set_here, get_set_there}
+use Rattle.sums_and_lists.proofs.Orders.{below_or_last}
+use Rattle.sums_and_lists.proofs.Lists.{last_or_before}
 
 -- a place is a gap or has a result
 pub gap_at : (kept : List (Option TileResult)) (t : ℕ) (place : Option TileResult) → slice_get kept t ≡ Some place → is_some place ≡ false → IsGap kept t
@@ -17,11 +20,8 @@ pub result_at : (kept : List (Option TileResult)) (t : ℕ) (place : Option Tile
 result_at kept t None e n = absurd (cc)
 result_at kept t (Some k) e n = (k, e)
 
-last_or : (u t : ℕ) → u < t + 1 → (u < t) ⊎ (u ≡ t)
-last_or u t l = grind arith
-
 pub results_on : (kept : List (Option TileResult)) (t : ℕ) → ((u : ℕ) → u < t → HasResult kept u) → HasResult kept t → (u : ℕ) → u < t + 1 → HasResult kept u
-results_on kept t before here u l = elim (last_or u t l) [ inl m ↦ before u m | inr e ↦ subst (HasResult kept) (sym e) here ]
+results_on kept t before here u l = elim (below_or_last u t l) [ inl m ↦ before u m | inr e ↦ subst (HasResult kept) (sym e) here ]
 
 -- ---- copies of the first n results
 pub record AreFirstCopies (kept : List (Option TileResult)) (n : ℕ) (copies : List TileResult) : Type 0 where
@@ -34,16 +34,10 @@ no_copies kept copies e = record { count = rw e refl; each = λ t copy q. absurd
     none : (t : ℕ) (copy : TileResult) → slice_get [] t ≡ Some copy → ⊥
     none t copy q = cc
 
-at_last : {A : Type 0} (xs : List A) (y : A) (k : ℕ) (z : A) → slice_get (xs ++ (y ∷ [])) k ≡ Some z → (slice_get xs k ≡ Some z) ⊎ ((k ≡ length xs) × (y ≡ z))
-at_last [] y zero z e = inr (refl, cc)
-at_last [] y (suc k) z e = cc
-at_last (x ∷ xs) y zero z e = inl e
-at_last (x ∷ xs) y (suc k) z e = elim (at_last xs y k z e) [ inl p ↦ inl p | inr q ↦ inr (omega (arith, q.0), q.1) ]
-
 pub one_more_copy : (kept : List (Option TileResult)) (copies : List TileResult) (n : ℕ) (k copy : TileResult) → slice_get kept n ≡ Some (Some k) → IsCopy k copy → AreFirstCopies kept n copies → AreFirstCopies kept (n + 1) (copies ++ (copy ∷ []))
 one_more_copy kept copies n k copy here is before = record {
   count = rw length-append (omega (arith, before.count));
-  each = λ t other q. elim (at_last copies copy t other q) [
+  each = λ t other q. elim (last_or_before copies copy t other q) [
     | inl l ↦ before.each t other l
     | inr m ↦ (k, rw (m.0, before.count) here, subst (IsCopy k) m.1 is)
   ];
@@ -52,23 +46,23 @@ one_more_copy kept copies n k copy here is before = record {
 pub all_copies : (kept : List (Option TileResult)) (n : ℕ) (copies : List TileResult) → n ≡ length kept → AreFirstCopies kept n copies → CopiesResults kept copies
 all_copies kept n copies e are = record { count = are.count ∙ e; each = are.each }
 
--- ---- places that were emptied
-pub emptied_none : (kept : List (Option TileResult)) (tiles : List ℕ) → AreEmptied kept kept tiles 0
-emptied_none kept tiles = record { count = refl; emptied = λ i l. absurd (omega arith); others = λ t n. refl }
+-- ---- places that were given a value
+pub set_none : {A : Type 0} (items : List A) (places : List ℕ) (value : A) → AreSet items items places 0 value
+set_none items places value = record { count = refl; given = λ i l. absurd (omega arith); others = λ t n. refl }
 
-pub emptied_on : (old new : List (Option TileResult)) (tiles : List ℕ) (n : ℕ) → AreEmptied old new tiles n → slice_index tiles n < length new → AreEmptied old (set new (slice_index tiles n) None) tiles (n + 1)
-emptied_on old new tiles n is inside = record {
-  count = length-set new (slice_index tiles n) None ∙ is.count;
-  emptied = λ i l. elim (cases_eq (slice_index tiles i) (slice_index tiles n)) [
-    | inl e ↦ rw e (get_set_here new (slice_index tiles n) None inside)
-    | inr d ↦ elim (last_or i n l) [
-      | inl m ↦ get_set_there new (slice_index tiles n) None (slice_index tiles i) d ∙ is.emptied i m
-      | inr e ↦ absurd (d (ap (slice_index tiles) e))
+pub set_one_more : {A : Type 0} (old new : List A) (places : List ℕ) (n : ℕ) (value : A) → AreSet old new places n value → slice_index places n < length new → AreSet old (set new (slice_index places n) value) places (n + 1) value
+set_one_more old new places n value is inside = record {
+  count = length-set new (slice_index places n) value ∙ is.count;
+  given = λ i l. elim (cases_eq (slice_index places i) (slice_index places n)) [
+    | inl e ↦ rw e (get_set_here new (slice_index places n) value inside)
+    | inr d ↦ elim (below_or_last i n l) [
+      | inl m ↦ get_set_there new (slice_index places n) value (slice_index places i) d ∙ is.given i m
+      | inr e ↦ absurd (d (ap (slice_index places) e))
     ]
   ];
   others = λ t away. (
-      let d : t ≢ slice_index tiles n = λ e. away n (omega arith) (sym e) in
-      get_set_there new (slice_index tiles n) None t d ∙ is.others t (λ i l. away i (omega arith)));
+      let d : t ≢ slice_index places n = λ e. away n (omega arith) (sym e) in
+      get_set_there new (slice_index places n) value t d ∙ is.others t (λ i l. away i (omega arith)));
 }
 
 pub until_end : (kept : List (Option TileResult)) (t : ℕ) → length kept ≤ t → ((u : ℕ) → u < t → HasResult kept u) → HaveResults kept

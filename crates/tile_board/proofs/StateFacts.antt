@@ -1,10 +1,9 @@
 -- What is held by a board tells of its history.
-use Rattle.std.proofs.Common.{◌≡◌, ℕ, ◌<◌, sym, ◌∙◌, ap, refl, arith, Bool, true, false, List, get_or, length}
-use Rattle.std.specs.Prelude.{Option, Some, None, IsTrue, IsFalse, is_some, slice_get, slice_index}
+use Rattle.std.proofs.Common.{◌≡◌, ℕ, ◌<◌, sym, ◌∙◌, refl, arith, Bool, true, false, List, get_or, length}
+use Rattle.std.specs.Prelude.{Option, Some, None, IsTrue, IsFalse, is_some, slice_get}
 use Rattle.std.proofs.lemmas.Option.{slice_get_read}
 use Rattle.raster_model.specs.declared.session.Session.{Session}
-use Rattle.raster_model.specs.declared.tiling.Tiling.{Tiling}
-use Rattle.raster_model.specs.Masks.{IsMaskOf, open_at}
+use Rattle.raster_model.specs.Masks.{open_at}
 use Rattle.raster_model.specs.Tiles.{tiles_of, window_of}
 use Rattle.certificates.specs.declared.results.TileResult.{TileResult}
 use Rattle.certificates.specs.declared.verdicts.TileVerdict.{TileVerdict}
@@ -15,9 +14,9 @@ use Rattle.mask_revisions.specs.Revisions.{IsWindowMask}
 use Rattle.mask_revisions.specs.RevisionsView.{RevisionsView}
 use Rattle.surface_snapshots.specs.Parts.{AreGoodTiles, Parts}
 use Rattle.tile_board.specs.declared.entry.Entry.{Entry}
-use Rattle.tile_board.specs.Histories.{AreAllKept, IsLeastLacking, is_kept, now_of, present_mask, stamp_in}
+use Rattle.tile_board.specs.Histories.{AreAllKept, IsLeastLacking, is_kept, present_mask}
 use Rattle.tile_board.specs.States.{CopiesResults, HasResult, HaveResults, IsFirstGap, IsGap, IsState, view_of}
-use Rattle.tile_board.proofs.HistoryLemmas.{present_is}
+use Rattle.tile_board.proofs.HeldLemmas.{mask_here}
 use Rattle.tile_board.proofs.KeptLemmas.{good_across, within_tile}
 use Rattle.tile_board.proofs.ListLemmas.{get_below}
 use Rattle.tile_board.proofs.PlaceLemmas.{gap_at, result_at}
@@ -39,27 +38,10 @@ module _ {s : Session} {H : List Entry} {kept : List (Option TileResult)} {surfa
   pub least_lacking : (t : ℕ) → IsFirstGap kept t → IsLeastLacking s H t
   least_lacking t g = record { exists = gap_below t g.0; lacking = gap_tells t g.0; least = λ u l. held_tells u (g.1 u l) }
 
-  pub stamp_told : (t : ℕ) → t < tiles_of s.scene.tiling → slice_index held.stamps t ≡ stamp_in s H t
-  stamp_told t l = rw state.tiling at (state.revisions.stamps t (rw state.tiling l))
-
-  pub count_told : held.count ≡ now_of H
-  count_told = state.revisions.count
-
-  -- the mask that is held is the present one
-  pub mask_here : (x y : ℕ) → x < s.scene.tiling.width → y < s.scene.tiling.height → open_at held.mask x y ≡ present_mask s H x y
-  mask_here x y a b = rw (present_is s H) (state.revisions.mask.clear_at x y (rw state.tiling a) (rw state.tiling b))
-
-  pub mask_told : IsMaskOf held.mask s.scene.phase.width s.scene.phase.height (present_mask s H)
-  mask_told = record {
-    width = state.revisions.mask.width ∙ ap (λ (g : Tiling). g.width) state.tiling ∙ s.scene.same_width.1;
-    height = state.revisions.mask.height ∙ ap (λ (g : Tiling). g.height) state.tiling ∙ s.scene.same_height.1;
-    clear_at = λ x y a b. mask_here x y (rw s.scene.same_width.1 a) (rw s.scene.same_height.1 b);
-  }
-
   pub window_told : (t : ℕ) (list : List Bool) → t < tiles_of s.scene.tiling → IsWindowMask (window_of s.scene.tiling t) (open_at held.mask) list → IsWindowMask (window_of s.scene.tiling t) (present_mask s H) list
   window_told t list l is = record {
     size = is.size;
-    clear = λ x y w. (let p = within_tile s t l x y w in is.clear x y w ∙ mask_here x y p.0 p.1);
+    clear = λ x y w. (let p = within_tile s t l x y w in is.clear x y w ∙ mask_here state.past x y p.0 p.1);
   }
 
   -- copies of the kept results are good under the mask that is held
@@ -73,7 +55,7 @@ module _ {s : Session} {H : List Entry} {kept : List (Option TileResult)} {surfa
         let k = are.each t copy q in
         let is = state.board.kept.each t (Some k.0) k.1 in
         let l : k.0.tile < tiles_of s.scene.tiling = omega (arith, is.tile, get_below kept t (Some k.0) k.1, state.board.kept.count) in
-        good_copy s.scene (open_at held.mask) k.0 copy k.2 (good_across s (present_mask s H) (open_at held.mask) k.0 l (λ x y a b e. sym (mask_here x y a b)) is.good));
+        good_copy s.scene (open_at held.mask) k.0 copy k.2 (good_across s (present_mask s H) (open_at held.mask) k.0 l (λ x y a b e. sym (mask_here state.past x y a b)) is.good));
   }
 
   -- what is read at a tile's place tells whether the tile is kept
@@ -88,7 +70,7 @@ module _ {s : Session} {H : List Entry} {kept : List (Option TileResult)} {surfa
 
   -- a verdict under the mask that is held is one under the present mask
   pub verdict_told : (k : TileResult) (verdict : TileVerdict) → k.tile < tiles_of s.scene.tiling → IsTileVerdict s.scene (open_at held.mask) k verdict → IsTileVerdict s.scene (present_mask s H) k verdict
-  verdict_told k verdict l is = verdict_under s.scene (open_at held.mask) (present_mask s H) k l (λ x y w. (let p = within_tile s k.tile l x y w in mask_here x y p.0 p.1)) verdict is
+  verdict_told k verdict l is = verdict_under s.scene (open_at held.mask) (present_mask s H) k l (λ x y w. (let p = within_tile s k.tile l x y w in mask_here state.past x y p.0 p.1)) verdict is
 
   pub good_told : (k : TileResult) → k.tile < tiles_of s.scene.tiling → IsGoodTile s.scene (open_at held.mask) k → IsGoodTile s.scene (present_mask s H) k
-  good_told k l good = good_across s (open_at held.mask) (present_mask s H) k l (λ x y a b e. mask_here x y a b) good
+  good_told k l good = good_across s (open_at held.mask) (present_mask s H) k l (λ x y a b e. mask_here state.past x y a b) good

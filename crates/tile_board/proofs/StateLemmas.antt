@@ -1,8 +1,8 @@
 -- What a board holds beside its history, read and with one more entry.
-use Rattle.std.proofs.Common.{◌≡◌, ℕ, zero, suc, ◌+◌, ◌-◌, ◌^◌, ◌<◌, ◌≤◌, ◌⊎◌, inl, inr, sym, ◌∙◌, ap, refl, subst, arith, Bool, true, false, List, [], ◌∷◌, ◌++◌, length}
+use Rattle.std.proofs.Common.{◌≡◌, ℕ, zero, suc, ◌+◌, ◌-◌, ◌^◌, ◌<◌, ◌≤◌, inl, inr, sym, ◌∙◌, ap, refl, subst, arith, Bool, false, List, [], ◌∷◌, ◌++◌, length}
 use Rattle.std.specs.Prelude.{Option, Some, None, IsTrue, ◌↔◌, cond, replicate, set, slice_get, slice_index, ◌==◌}
 use Rattle.std.proofs.lemmas.List.{get_or_default, get_or-replicate, get_or_past, length-replicate, get_or-set_same, get_or-set_other, length-set}
-use Rattle.std.proofs.lemmas.Bool.{cases_eq}
+use Rattle.std.proofs.lemmas.Bool.{cases_eq, cases_lt}
 use Rattle.std.proofs.lemmas.Bool.Decides.{nat_tests}
 use Rattle.std.proofs.lemmas.List.Sums.{sum_by-set, sum_by-le}
 use Rattle.raster_model.specs.declared.script.Command.{Command}
@@ -16,19 +16,18 @@ use Rattle.mask_revisions.specs.RevisionsView.{RevisionsView}
 use Rattle.surface_snapshots.specs.Parts.{Parts}
 use Rattle.tile_board.specs.declared.entry.Entry.{Entry}
 use Rattle.tile_board.specs.Histories.{IsComplete, IsLegal, commands_of, done_by, names, next_command, now_of}
-use Rattle.tile_board.specs.States.{AreCursors, IsState, cursor_at, view_of}
+use Rattle.tile_board.specs.Places.{cursor_at}
+use Rattle.tile_board.specs.States.{AreCursors, IsState, TellsHistory, view_of}
 use Rattle.tile_board.proofs.HistoryLemmas.{done_push, done_within, legal_none}
 use Rattle.tile_board.proofs.KeptLemmas.{kept_none}
 use Rattle.tile_board.proofs.SurfaceLemmas.{surfaces_none}
 use Rattle.tile_board.proofs.ListLemmas.{get_below, get_beyond, get_none, none_below}
-
-below_or : (k n : ℕ) → (k < n) ⊎ (n ≤ k)
-below_or k n = grind arith
+use Rattle.sums_and_lists.proofs.Tests.{same_number}
 
 -- ---- cursors
 pub cursor_is : (s : Session) (H : List Entry) (marks : List ℕ) → IsLegal s H → AreCursors s H marks → (a : ℕ) → cursor_at marks a ≡ done_by a H
 cursor_is s H marks legal are zero = (let l = done_within s H legal 0 in omega (arith, l))
-cursor_is s H marks legal are (suc k) = elim (below_or k (length marks)) [
+cursor_is s H marks legal are (suc k) = elim (cases_lt k (length marks)) [
   | inl l ↦ (let e : k + 1 ≡ suc k = omega arith in rw e at (are.done k l))
   | inr m ↦ (
       let past = get_or_past marks k 0 m in
@@ -44,7 +43,7 @@ next_below s H marks zero c are n = absurd (nothing n)
     nothing : next_command s H zero ≡ Some c → ⊥
     nothing m = cc
 next_below s H marks (suc k) c are n =
-    let below : k < length marks = elim (below_or k (length marks)) [
+    let below : k < length marks = elim (cases_lt k (length marks)) [
       | inl l ↦ l
       | inr m ↦ (
           let none : slice_get s.scripts.items k ≡ None = get_beyond s.scripts.items k (omega (arith, are.count, m)) in
@@ -76,14 +75,11 @@ cursors_push s H marks e a c are n named step =
           omega (arith, step, are.few, more));
     }
   where
-    same_true : (x : ℕ) → (x == x) ≡ true
-    same_true x = grind (arith, nat_tests)
-
     other_false : (x y : ℕ) → (x ≡ y → ⊥) → (x == y) ≡ false
     other_false x y d = grind (arith, nat_tests)
 
     counted : 1 ≤ a → done_by a H + 1 ≡ done_by (a - 1 + 1) (H ++ (e ∷ []))
-    counted l = (let q : a - 1 + 1 ≡ a = omega (arith, l) in rw q (sym (done_push H e a ∙ ap (λ (t : Bool). done_by a H + cond t 1 0) (named a ∙ same_true a))))
+    counted l = (let q : a - 1 + 1 ≡ a = omega (arith, l) in rw q (sym (done_push H e a ∙ ap (λ (t : Bool). done_by a H + cond t 1 0) (named a ∙ same_number a))))
 
     other : (b : ℕ) → (a ≡ b → ⊥) → done_by b H ≡ done_by b (H ++ (e ∷ []))
     other b d = sym (done_push H e b ∙ ap (λ (t : Bool). done_by b H + cond t 1 0) (named b ∙ other_false a b d) ∙ omega arith)
@@ -133,20 +129,25 @@ module _ (s : Session) (H : List Entry) (marks : List ℕ) (legal : IsLegal s H)
   unfolding AreDone
   complete_is b is = (λ h. ends (is.0 h), λ h. is.1 (ended h))
 
--- ---- a new board
-pub state_new : (s : Session) (held : RevisionsView) (entries : List Entry) (kept : List (Option TileResult)) (surfaces : List Parts) (tallies marks : List ℕ) → entries ≡ [] → kept ≡ replicate (tiles_of s.scene.tiling) None → surfaces ≡ [] → held.tiling ≡ s.scene.tiling → AreRevisionsOf (open_at s.first_mask) [] held → length tallies ≡ tiles_of s.scene.tiling → marks ≡ replicate (length s.scripts.items) 0 → IsState (view_of s entries kept surfaces) held tallies marks None
-state_new s held entries kept surfaces tallies marks e k p tiling revisions claims m = rw (e, k, p, m) (record {
-  board = record { legal = legal_none s; kept = kept_none s; surfaces = surfaces_none s };
+-- ---- before the first entry
+pub tells_none : (s : Session) (held : RevisionsView) → held.tiling ≡ s.scene.tiling → AreRevisionsOf (open_at s.first_mask) [] held → TellsHistory s [] held (replicate (length s.scripts.items) 0) None
+tells_none s held tiling revisions = record {
   tiling = tiling;
   revisions = revisions;
-  claims = claims;
   cursors = record {
     count = count;
     done = λ i l. get_or-replicate (length s.scripts.items) i 0 0 (omega (arith, l, count));
     few = omega arith;
   };
   newest = refl;
-})
+}
   where
     count : length (replicate {A = ℕ} (length s.scripts.items) 0) ≡ length s.scripts.items
     count = length-replicate {A = ℕ} (length s.scripts.items) 0
+
+pub state_new : (s : Session) (held : RevisionsView) (entries : List Entry) (kept : List (Option TileResult)) (surfaces : List Parts) (tallies marks : List ℕ) → entries ≡ [] → kept ≡ replicate (tiles_of s.scene.tiling) None → surfaces ≡ [] → held.tiling ≡ s.scene.tiling → AreRevisionsOf (open_at s.first_mask) [] held → length tallies ≡ tiles_of s.scene.tiling → marks ≡ replicate (length s.scripts.items) 0 → IsState (view_of s entries kept surfaces) held tallies marks None
+state_new s held entries kept surfaces tallies marks e k p tiling revisions claims m = rw (e, k, p, m) (record {
+  board = record { legal = legal_none s; kept = kept_none s; surfaces = surfaces_none s };
+  past = tells_none s held tiling revisions;
+  claims = claims;
+})

@@ -1,6 +1,6 @@
 -- What a board holds, after each kind of entry.
-use Rattle.std.proofs.Common.{◌≡◌, ℕ, ◌+◌, ◌-◌, ◌^◌, ◌<◌, ◌≤◌, sym, ◌∙◌, ap, refl, subst, arith, Bool, false, List, [], ◌∷◌, ◌++◌, get_or, length}
-use Rattle.std.specs.Prelude.{Option, Some, None, cond, if◌then◌else◌, set, slice_get, slice_index, sum, ◌==◌}
+use Rattle.std.proofs.Common.{◌≡◌, ℕ, ◌+◌, ◌-◌, ◌^◌, ◌<◌, sym, ◌∙◌, ap, refl, arith, false, List, [], ◌∷◌, ◌++◌, get_or, length}
+use Rattle.std.specs.Prelude.{Option, Some, None, if◌then◌else◌, set, slice_get, slice_index, ◌==◌}
 use Rattle.std.proofs.lemmas.List.{get_or_read}
 use Rattle.raster_model.specs.declared.script.Command.{Command}
 use Rattle.raster_model.specs.declared.script.Command.TheVariants.{Change, Settle, Show}
@@ -17,20 +17,12 @@ use Rattle.surface_snapshots.specs.Parts.{Parts}
 use Rattle.tile_board.specs.declared.entry.Entry.{Entry}
 use Rattle.tile_board.specs.declared.entry.Entry.TheVariants.{Revised, Kept, Published, Settled, Shown}
 use Rattle.tile_board.specs.Boards.{IsSurfaceOf}
-use Rattle.tile_board.specs.Histories.{IsStep, done_by, edit_of, edits_of, keeps, names, next_command, now_of, present_mask, published_of}
-use Rattle.tile_board.specs.States.{AreCursors, IsAlone, IsState, view_of}
-use Rattle.tile_board.proofs.HistoryLemmas.{done_push, edits_same, edits_more, legal_push, newest_more, newest_same, now_more}
+use Rattle.tile_board.specs.Histories.{IsStep, edit_of, edits_of, keeps, names, next_command, present_mask, published_of}
+use Rattle.tile_board.specs.States.{IsAlone, IsState, view_of}
+use Rattle.tile_board.proofs.HeldLemmas.{cursor_room, cursor_there, tells_done, tells_on, tells_published, tells_revised}
+use Rattle.tile_board.proofs.HistoryLemmas.{legal_push}
 use Rattle.tile_board.proofs.KeptLemmas.{kept_keep, kept_on, kept_revised}
-use Rattle.tile_board.proofs.StateLemmas.{cursors_push, cursors_short, next_below}
 use Rattle.tile_board.proofs.SurfaceLemmas.{surfaces_on, surfaces_push}
-
--- an entry that names nobody leaves the cursors
-cursors_on : (s : Session) (H : List Entry) (e : Entry) (marks : List ℕ) → edit_of e ≡ None → ((b : ℕ) → names b e ≡ false) → AreCursors s H marks → AreCursors s (H ++ (e ∷ [])) marks
-cursors_on s H e marks n nobody are = record {
-  count = are.count;
-  done = λ k l. are.done k l ∙ sym (done_push H e (k + 1) ∙ ap (λ (t : Bool). done_by (k + 1) H + cond t 1 0) (nobody (k + 1)) ∙ omega arith);
-  few = subst (λ (l : List Edit). length l ≤ sum marks) (sym (edits_same H e n)) are.few;
-}
 
 -- what an entry says that names one analyst and nothing else
 pub alone_edit : (e : Entry) (a : ℕ) → IsAlone a e → edit_of e ≡ None
@@ -69,9 +61,6 @@ alone_next s H (Settled b r) a step is = (Settle, ap (next_command s H) (sym is)
 alone_next s H (Shown b r) a step is = (Show, ap (next_command s H) (sym is) ∙ step.0)
 
 module _ {s : Session} {H : List Entry} {kept : List (Option TileResult)} {surfaces : List Parts} {held : RevisionsView} {tallies marks : List ℕ} {last : Option ℕ} (state : IsState (view_of s H kept surfaces) held tallies marks last) where
-  revisions_on : (e : Entry) → edit_of e ≡ None → AreRevisionsOf (open_at s.first_mask) (edits_of (H ++ (e ∷ []))) held
-  revisions_on e n = subst (λ (l : List Edit). AreRevisionsOf (open_at s.first_mask) l held) (sym (edits_same H e n)) state.revisions
-
   pub state_keep : (k : TileResult) (entries : List Entry) → entries ≡ H ++ (Kept k.tile k.stamp ∷ []) → IsStep s H (Kept k.tile k.stamp) → IsGoodTile s.scene (present_mask s H) k → IsState (view_of s entries (set kept k.tile (Some k)) surfaces) held tallies marks last
   state_keep k entries e step good = rw e (record {
     board = record {
@@ -79,27 +68,16 @@ module _ {s : Session} {H : List Entry} {kept : List (Option TileResult)} {surfa
       kept = kept_keep s H k kept step.1 good state.board.kept;
       surfaces = surfaces_on s H (Kept k.tile k.stamp) surfaces refl state.board.surfaces;
     };
-    tiling = state.tiling;
-    revisions = revisions_on (Kept k.tile k.stamp) refl;
+    past = tells_on state.past (Kept k.tile k.stamp) refl refl (λ b. refl);
     claims = state.claims;
-    cursors = cursors_on s H (Kept k.tile k.stamp) marks refl (λ b. refl) state.cursors;
-    newest = state.newest ∙ sym (newest_same H (Kept k.tile k.stamp) refl);
   })
 
-  -- ---- the cursor of an analyst with a next command
-  pub cursor_there : (a : ℕ) (c : Command) → next_command s H a ≡ Some c → a - 1 < length marks
-  cursor_there a c n = (next_below s H marks a c state.cursors n).1
-
+  -- ---- the cursor of an analyst with a next command, as it is read
   cursor_is_read : (a : ℕ) (c : Command) (x : ℕ) → next_command s H a ≡ Some c → x ≡ get_or marks (a - 1) x → x ≡ slice_index marks (a - 1)
-  cursor_is_read a c x n e = get_or_read marks (a - 1) x (cursor_there a c n) e 0
+  cursor_is_read a c x n e = get_or_read marks (a - 1) x (cursor_there state.past a c n).1 e 0
 
   pub cursor_small : (a : ℕ) (c : Command) (x : ℕ) → next_command s H a ≡ Some c → x ≡ get_or marks (a - 1) x → x + 1 < 2 ^ 32
-  cursor_small a c x n e =
-      let short = cursors_short s H marks state.board.legal state.cursors (a - 1) (cursor_there a c n) in
-      omega (arith, short, cursor_is_read a c x n e)
-
-  cursors_after : (e : Entry) (a : ℕ) (c : Command) (x : ℕ) → next_command s H a ≡ Some c → x ≡ get_or marks (a - 1) x → ((b : ℕ) → names b e ≡ (a == b)) → now_of (H ++ (e ∷ [])) ≤ now_of H + 1 → AreCursors s (H ++ (e ∷ [])) (set marks (a - 1) (x + 1))
-  cursors_after e a c x n r named step = rw (cursor_is_read a c x n r) (cursors_push s H marks e a c state.cursors n named step)
+  cursor_small a c x n e = omega (arith, cursor_room state.past state.board.legal a c n, cursor_is_read a c x n e)
 
   -- ---- an entry that changes nothing else
   pub state_alone : (e : Entry) (a : ℕ) (x : ℕ) (entries : List Entry) → entries ≡ H ++ (e ∷ []) → IsStep s H e → IsAlone a e → x ≡ get_or marks (a - 1) x → IsState (view_of s entries kept surfaces) held tallies (set marks (a - 1) (x + 1)) last
@@ -112,11 +90,8 @@ module _ {s : Session} {H : List Entry} {kept : List (Option TileResult)} {surfa
           kept = kept_on s H e kept n (λ t stamp. alone_keeps e a alone t stamp) state.board.kept;
           surfaces = surfaces_on s H e surfaces p state.board.surfaces;
         };
-        tiling = state.tiling;
-        revisions = revisions_on e n;
+        past = (let next = alone_next s H e a step alone in rw (cursor_is_read a next.0 x next.1 r) (tells_done state.past e a next.0 next.1 n p (alone_names e a alone)));
         claims = state.claims;
-        cursors = cursors_after e a (alone_next s H e a step alone).0 x (alone_next s H e a step alone).1 r (alone_names e a alone) (omega (arith, ap (λ (l : List Edit). length l) (edits_same H e n)));
-        newest = state.newest ∙ sym (newest_same H e p);
       })
 
   -- ---- a revision
@@ -127,11 +102,8 @@ module _ {s : Session} {H : List Entry} {kept : List (Option TileResult)} {surfa
       kept = kept_revised s H a edit kept kept' state.board.legal count places state.board.kept;
       surfaces = surfaces_on s H (Revised a edit) surfaces refl state.board.surfaces;
     };
-    tiling = tiling ∙ state.tiling;
-    revisions = subst (λ (l : List Edit). AreRevisionsOf (open_at s.first_mask) l new) (sym (edits_more H a edit)) revisions;
+    past = rw (cursor_is_read a (Change edit) x n r) (tells_revised state.past a edit new tiling revisions n);
     claims = claims ∙ state.claims;
-    cursors = cursors_after (Revised a edit) a (Change edit) x n r (λ b. refl) (omega (arith, now_more H a edit));
-    newest = state.newest ∙ sym (newest_same H (Revised a edit) refl);
   })
 
   -- ---- a publication
@@ -142,9 +114,6 @@ module _ {s : Session} {H : List Entry} {kept : List (Option TileResult)} {surfa
       kept = kept_on s H (Published a r) kept refl (λ t stamp. refl) state.board.kept;
       surfaces = surfaces_push s H a r surfaces p e is state.board.surfaces;
     };
-    tiling = state.tiling;
-    revisions = revisions_on (Published a r) refl;
+    past = rw (cursor_is_read a Settle x step.0 y) (tells_published state.past a r step.0);
     claims = state.claims;
-    cursors = cursors_after (Published a r) a Settle x step.0 y (λ b. refl) (omega (arith, ap (λ (l : List Edit). length l) (edits_same H (Published a r) refl)));
-    newest = sym (newest_more H a r);
   })

@@ -5,3 +5,4 @@ pub mod Calls
 pub mod Runs
 pub mod Causes
 pub mod States
+pub mod Places

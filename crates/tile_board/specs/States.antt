@@ -1,5 +1,5 @@
 -- What a board holds beside the history, and that it is what the history says. No clause of a public function cites this file.
-use Rattle.std.specs.Prelude.{◌≡◌, ◌≢◌, ℕ, zero, suc, ◌+◌, ◌<◌, ◌≤◌, Option, Some, None, List, length, slice_get, slice_index, sum}
+use Rattle.std.specs.Prelude.{◌≡◌, ◌≢◌, ℕ, ◌+◌, ◌<◌, ◌≤◌, Option, Some, None, List, length, slice_get, slice_index, sum}
 use Rattle.raster_model.specs.declared.session.Session.{Session}
 use Rattle.raster_model.specs.Masks.{open_at}
 use Rattle.raster_model.specs.Tiles.{tiles_of}
@@ -29,18 +29,17 @@ pub record AreCursors (s : Session) (H : List Entry) (cursors : List ℕ) : Type
   pub done : (k : ℕ) → k < length cursors → slice_index cursors k ≡ done_by (k + 1) H
   pub few : now_of H ≤ sum cursors
 
--- what they say of an analyst, and 0 of a number that is no analyst's
-abbrev pub cursor_at : List ℕ → ℕ → ℕ
-cursor_at cursors zero = 0
-cursor_at cursors (suc k) = slice_index cursors k
+-- what is held tells of a history: its mask with the stamps of the tiles, how many commands each analyst has done, the newest publication
+pub record TellsHistory (s : Session) (H : List Entry) (held : RevisionsView) (marks : List ℕ) (last : Option ℕ) : Type 0 where
+  pub tiling : held.tiling ≡ s.scene.tiling
+  pub revisions : AreRevisionsOf (open_at s.first_mask) (edits_of H) held
+  pub cursors : AreCursors s H marks
+  pub newest : last ≡ newest_of H
 
 pub record IsState (v : BoardView) (held : RevisionsView) (tallies marks : List ℕ) (last : Option ℕ) : Type 0 where
   pub board : IsBoard v
-  pub tiling : held.tiling ≡ v.session.scene.tiling
-  pub revisions : AreRevisionsOf (open_at v.session.first_mask) (edits_of v.entries) held
+  pub past : TellsHistory v.session v.entries held marks last
   pub claims : length tallies ≡ tiles_of v.session.scene.tiling
-  pub cursors : AreCursors v.session v.entries marks
-  pub newest : last ≡ newest_of v.entries
 
 -- a tile has a result; all tiles do; a tile is the least that has none
 abbrev pub HasResult : List (Option TileResult) → ℕ → Type 0
@@ -59,12 +58,6 @@ IsFirstGap kept t = IsGap kept t × ((u : ℕ) → u < t → HasResult kept u)
 pub record CopiesResults (kept : List (Option TileResult)) (copies : List TileResult) : Type 0 where
   pub count : length copies ≡ length kept
   pub each : (t : ℕ) (copy : TileResult) → slice_get copies t ≡ Some copy → (k : TileResult) × (slice_get kept t ≡ Some (Some k)) × IsCopy k copy
-
--- the first n tiles of a list have no result afterwards, and the others what they had
-pub record AreEmptied (old new : List (Option TileResult)) (tiles : List ℕ) (n : ℕ) : Type 0 where
-  pub count : length new ≡ length old
-  pub emptied : (i : ℕ) → i < n → IsGap new (slice_index tiles i)
-  pub others : (t : ℕ) → ((i : ℕ) → i < n → slice_index tiles i ≢ t) → slice_get new t ≡ slice_get old t
 
 -- the entry names the analyst, and is neither an edit nor a publication nor a kept result
 abbrev pub IsAlone : ℕ → Entry → Type 0

@@ -2,7 +2,7 @@ use crate::answers::{Advance, AdvanceFault, ClaimFault, GatherFault, KeepFault, 
 use crate::cursors::{all_ended, command_at, cursor_of};
 use crate::entry::Entry;
 use crate::gathered::Gathered;
-use crate::places::{copies, empty, first_gap, forget, least_claimed, no_results, push_within};
+use crate::places::{copies, empty, first_gap, least_claimed, no_results, push_within, set_all};
 use crate::ticket::Ticket;
 use certificates::{SeamResult, TileResult, TileSet, TileVerdict, check_tile};
 use mask_revisions::Revisions;
@@ -89,7 +89,7 @@ impl Board {
     {
         let tiling = session.scene.tiling;
         let tiles = tiling.tile_count();
-        let first = session.first_mask.try_copy()?;
+        let first = session.first_mask.try_copy(alloc)?;
         let revisions = Revisions::new(alloc, first, tiling)?;
         let kept = no_results(alloc, tiles)?;
         let claims = vec![in alloc; 0; tiles as usize]?;
@@ -155,7 +155,7 @@ impl Board {
             return Err(GatherFault::Unready(tile));
         }
         let results = copies(alloc, &self.kept)?;
-        let mask = self.revisions.mask_copy()?;
+        let mask = self.revisions.mask_copy(alloc)?;
         let session = self.session.clone()?;
         Ok(Gathered {
             session,
@@ -331,7 +331,7 @@ impl Board {
         self.entries.reserve(1)?;
         let tiles = self.revisions.push(alloc, edit)?;
         empty(&mut self.kept, &tiles);
-        forget(&mut self.claims, &tiles);
+        set_all(&mut self.claims, &tiles, 0);
         push_within(&mut self.entries, Entry::Revised { analyst, edit });
         self.cursors[analyst as usize - 1] += 1;
         Ok(Advance::Revised(self.revisions.count()))

@@ -14,6 +14,8 @@ mod ticket;
 
 pub use crate::answers::{Advance, AdvanceFault, ClaimFault, GatherFault, KeepFault, PublishFault};
 pub use crate::board::Board;
+pub use crate::cursors::{all_ended, command_at, cursor_of};
 pub use crate::entry::Entry;
 pub use crate::gathered::Gathered;
+pub use crate::places::set_all;
 pub use crate::ticket::Ticket;

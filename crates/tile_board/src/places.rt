@@ -1,6 +1,6 @@
-ghost use Rattle.mask_revisions.specs.Steps.{AreStamped};
 ghost use Rattle.std.specs.Prelude.{◌≡◌, ◌+◌, ◌<◌, ◌^◌, ◌++◌, ◌∷◌, ℕ, [], Bool, IfOk, IfSome, MatchOption, None, length, replicate, slice_get, slice_index, vec_capacity, vec_len, ⊤};
-ghost use Rattle.tile_board.specs.States.{AreEmptied, CopiesResults, HaveResults, IsFirstGap, IsGap};
+ghost use Rattle.tile_board.specs.Places.{AreSet};
+ghost use Rattle.tile_board.specs.States.{CopiesResults, HaveResults, IsFirstGap, IsGap};
 
 use certificates::TileResult;
 use std::alloc::{AllocError, Global};
@@ -64,7 +64,7 @@ pub fn copies(alloc: Global, kept: &[Option<TileResult>]) -> Result<Vec<TileResu
     let mut results = Vec::with_capacity(alloc, kept.len())?;
     for place in kept {
         if let Some(solved) = place {
-            results.push(solved.try_copy()?)?;
+            results.push(solved.try_copy(alloc)?)?;
         }
     }
     Ok(results)
@@ -73,20 +73,20 @@ pub fn copies(alloc: Global, kept: &[Option<TileResult>]) -> Result<Vec<TileResu
 /// Takes the results of some tiles away.
 pub fn empty(kept: &mut [Option<TileResult>], tiles: &[u32])
     requires { (i : ℕ) → i < length tiles.now → slice_index tiles.now i < length kept.old }
-    ensures { AreEmptied kept.old kept.new tiles.now (length tiles.now) }
+    ensures { AreSet kept.old kept.new tiles.now (length tiles.now) None }
 {
     for &tile in tiles {
         kept[tile as usize] = None;
     }
 }
 
-/// Forgets how often some tiles were claimed.
-pub fn forget(claims: &mut [u32], tiles: &[u32])
-    requires { (i : ℕ) → i < length tiles.now → slice_index tiles.now i < length claims.old }
-    ensures { AreStamped claims.old claims.new tiles.now (length tiles.now) 0 }
+/// Gives some places of a list a value.
+pub fn set_all<T: Copy>(items: &mut [T], places: &[u32], value: T)
+    requires { (i : ℕ) → i < length places.now → slice_index places.now i < length items.old }
+    ensures { AreSet items.old items.new places.now (length places.now) value }
 {
-    for &tile in tiles {
-        claims[tile as usize] = 0;
+    for &place in places {
+        items[place as usize] = value;
     }
 }
 

@@ -2,19 +2,16 @@
 use Rattle.std.proofs.Common.{◌≡◌, ℕ, zero, suc, ◌<◌, sym, refl, ◌∙◌, arith, inl, inr, Bool, true, false, ◌⊎◌, List}
 use Rattle.std.specs.Prelude.{pos, ◌≤ℤ◌, not}
 use Rattle.std.proofs.lemmas.Int.{ints}
-use Rattle.std.proofs.lemmas.Bool.{cases_Bool, false≢true}
+use Rattle.std.proofs.lemmas.Bool.{cases_Bool, false≢true, not-true, not-false}
 use Rattle.flow_network.specs.Nets.{Shape, State, HasReducedCosts, tail_of}
-use Rattle.flow_network.specs.Sums.{sum_below, where_true}
-use Rattle.flow_network.proofs.CallerLemmas.{sum_below-zeros}
 use Rattle.shortest_augment.specs.Balance.{IsBlocked, MovesAtMost, total_excess}
 use Rattle.shortest_augment.proofs.CallerLemmas.{is_in, is_in-contains, contains-is_in, blocked_excess, blocked_outside}
 use Rattle.dual_grid.specs.Answers.{IsNearStart}
 use Rattle.dual_grid.proofs.CallerLemmas.{leads_out}
 use Rattle.tile_solver.specs.Fresh.{IsFresh}
-
--- a number below n that passes a test, or none does
-before_or_at : (u n : ℕ) → u < suc n → (u < n) ⊎ (u ≡ n)
-before_or_at u n l = grind arith
+use Rattle.sums_and_lists.proofs.Orders.{below_or_at}
+use Rattle.sums_and_lists.specs.Sums.{sum_below, where_true}
+use Rattle.sums_and_lists.proofs.SumLemmas.{sum_below-zeros}
 
 some_or_none : (test : ℕ → Bool) (n : ℕ) → ((u : ℕ) × ((u < n) × (test u ≡ true))) ⊎ ((u : ℕ) → u < n → test u ≡ false)
 some_or_none test zero = inr (λ u l. absurd (omega arith))
@@ -23,17 +20,9 @@ some_or_none test (suc n) =
       | inl t ↦ inl (n, (omega arith, t))
       | inr t ↦ elim (some_or_none test n) [
         | inl p ↦ inl (p.0, (omega (arith, p.1.0), p.1.1))
-        | inr p ↦ inr (λ u l. elim (before_or_at u n l) [ inl m ↦ p u m | inr e ↦ rw e t ])
+        | inr p ↦ inr (λ u l. elim (below_or_at u n l) [ inl m ↦ p u m | inr e ↦ rw e t ])
       ]
     ]
-
-not_not : (t : Bool) → not t ≡ false → t ≡ true
-not_not true e = refl
-not_not false e = absurd (false≢true (sym e))
-
-not_true : (t : Bool) → not t ≡ true → t ≡ false
-not_true true e = absurd (false≢true e)
-not_true false e = refl
 
 module _ (s : Shape) (f g : State) (fresh : IsFresh s f) (moved : MovesAtMost s (total_excess s f) f g) where
   -- no residual is far from that at the start
@@ -53,9 +42,9 @@ module _ (s : Shape) (f g : State) (fresh : IsFresh s f) (moved : MovesAtMost s 
             let holds = blocked_excess s g names b in
             omega (arith, ints, all, holds))
         | inl u ↦ elim (some_or_none (λ v. not (is_in names v)) s.nodes) [
-          | inr none ↦ blocked_outside s g names kept b (λ v l. not_not (is_in names v) (none v l))
+          | inr none ↦ blocked_outside s g names kept b (λ v l. not-false (is_in names v) (none v l))
           | inl w ↦ (
-              let a = leads_out s g fresh.joined near_start (is_in names) u.0 w.0 u.1.0 w.1.0 u.1.1 (not_true (is_in names w.0) w.1.1) in
+              let a = leads_out s g fresh.joined near_start (is_in names) u.0 w.0 u.1.0 w.1.0 u.1.1 (not-true (is_in names w.0) w.1.1) in
               let head = b.closed a.0 a.1.0 a.1.1 (is_in-contains names (tail_of s a.0) a.1.2) in
               false≢true (sym a.1.3 ∙ contains-is_in names (s.head a.0) head))
         ]

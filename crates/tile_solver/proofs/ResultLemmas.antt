@@ -7,18 +7,19 @@ use Rattle.raster_model.specs.declared.edge.Edge.{Edge}
 use Rattle.raster_model.specs.declared.scene.Scene.{Scene}
 use Rattle.raster_model.specs.declared.tiling.Tiling.{Tiling}
 use Rattle.raster_model.specs.declared.tiling.Window.{Window}
-use Rattle.raster_model.specs.Sums.{Field, end_x, end_y, is_edge, where_true}
+use Rattle.raster_model.specs.Sums.{Field, end_x, end_y, is_edge}
 use Rattle.raster_model.specs.Raster.{departure, has_open_ends, is_inner, lifted, tile_cost}
 use Rattle.raster_model.specs.Scene.{raster_of}
-use Rattle.raster_model.specs.Tiles.{IsWindowOf, IsWithin, window_of}
+use Rattle.raster_model.specs.Tiles.{IsWindowOf, IsWithin, window_of, width_of, height_of}
 use Rattle.raster_model.proofs.SumLemmas.{sum_edges-same}
 use Rattle.certificates.specs.declared.results.TileResult.{TileResult}
 use Rattle.certificates.specs.Results.{IsGoodTile, IsInRange, pixels_in}
 use Rattle.wrapped_gradient.specs.declared.corrections.Corrections.{Corrections}
 use Rattle.wrapped_gradient.specs.Corrections.{correction_at, greatest_of}
-use Rattle.wrapped_gradient.specs.Windows.{IsEdgeOf, width_of, height_of}
+use Rattle.wrapped_gradient.specs.Windows.{IsEdgeOf}
 use Rattle.surface_integration.specs.Cycles.{AreSmall, DepartBy, StaySmall, cycles_at}
 use Rattle.dual_grid.specs.Answers.{IsAnswer, correction_cost}
+use Rattle.sums_and_lists.specs.Sums.{where_true}
 
 -- no side of the window is above 128 pixels
 abbrev pub IsNarrow : Window → Type 0

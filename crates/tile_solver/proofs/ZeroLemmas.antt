@@ -11,9 +11,9 @@ use Rattle.raster_model.specs.Cells.{cells_before, face_at}
 use Rattle.raster_model.specs.Certificates.{FacesFit, above, face_difference, face_product, face_total, faces_of_tile, is_cell, left}
 use Rattle.raster_model.specs.Raster.{is_inner, masked_weight}
 use Rattle.raster_model.specs.Scene.{raster_of}
-use Rattle.raster_model.specs.Sums.{Field, sum_row, where_true}
+use Rattle.raster_model.specs.Sums.{Field, sum_row}
 use Rattle.raster_model.specs.Tiles.{IsWindowOf}
-use Rattle.raster_model.proofs.SumLemmas.{sum_below-zeros, sum_edges-same, sum_edges-zeros, where_true-zero}
+use Rattle.raster_model.proofs.SumLemmas.{sum_edges-same, sum_edges-zeros}
 use Rattle.raster_model.proofs.TileCells.{cell_count-is}
 use Rattle.raster_model.proofs.TileLemmas.{window_of-pixels}
 use Rattle.wrapped_gradient.specs.declared.corrections.Corrections.{Corrections}
@@ -23,6 +23,8 @@ use Rattle.wrapped_gradient.proofs.CorrectionLemmas.{correction_within}
 use Rattle.surface_integration.proofs.CallerLemmas.{AreZero, repeated_zero, zeros_cancel, zeros_greatest}
 use Rattle.dual_grid.specs.Answers.{IsAnswer, correction_cost}
 use Rattle.tile_solver.specs.Zeros.{IsWithoutResidue}
+use Rattle.sums_and_lists.specs.Sums.{where_true}
+use Rattle.sums_and_lists.proofs.SumLemmas.{sum_below-zeros, where_true-zero}
 
 -- a correction for each edge of the window and a face for each of its cells, all of them 0
 pub record AreZeros (v : Window) (k : Corrections) (faces : List ℤ) : Type 0 where

@@ -5,6 +5,7 @@ ghost use Rattle.tile_workers.specs.Scripts.{AreEnded, AreOfSame};
 use crate::gate::Gate;
 use crate::settling::settle;
 use board_desk::{Desk, Pass};
+use raster_model::MAX_ANALYSTS;
 use std::alloc::{AllocError, Global};
 use std::sync::Wait;
 use std::thread;
@@ -12,7 +13,7 @@ use std::thread::Threads;
 use tile_board::{Advance, AdvanceFault};
 
 /// The most analysts that run at once.
-const MOST_ANALYSTS: usize = 8;
+const MOST_ANALYSTS: usize = MAX_ANALYSTS as usize;
 
 /// Runs the scripts of the passes' analysts to their ends, each in a thread of its own; each settle command has its workers.
 /// Where one finds no memory, which alone refuses, the others still go on.

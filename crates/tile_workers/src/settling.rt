@@ -4,6 +4,7 @@ use crate::gate::Gate;
 use crate::solving::Worker;
 use board_desk::{Desk, Pass};
 use collector_core::collect;
+use raster_model::MAX_WORKERS;
 use std::alloc::{AllocError, Global};
 use std::sync::Wait;
 use std::thread;
@@ -11,7 +12,7 @@ use std::thread::Threads;
 use tile_board::{Advance, AdvanceFault, GatherFault, Gathered, PublishFault};
 
 /// The most workers that run at once.
-const GREATEST_CREW: usize = 8;
+const MAX_CREW: usize = MAX_WORKERS as usize;
 
 /// Does the settle command of a pass's analyst, and answers the revision that is published. Workers solve the tiles, each in
 /// a thread of its own. It is refused for want of memory alone, and then some of the tiles may be solved.
@@ -57,7 +58,7 @@ fn solve_tiles<R: Threads + Wait + Sync, G: Gate>(
     thread::for_each_mut(
         rt,
         &mut workers,
-        GREATEST_CREW,
+        MAX_CREW,
         &|_, worker| { worker.work(rt, alloc, desk, gate) },
     );
     dismiss(rt, desk, pass, workers)

@@ -8,9 +8,10 @@ use Rattle.std.proofs.lemmas.Bool.{cases_lt}
 use Rattle.std.proofs.lemmas.List.{get_or_append_left, get_or_past, length-append}
 use Rattle.std.proofs.lemmas.Nat.{div-mul-add, mod-mul-add, mul-add-lt, div-add-mod', mod_below, div_below}
 use Rattle.raster_model.specs.Limits.{is_raster_size}
-use Rattle.raster_model.specs.Sums.{one_if}
 use Rattle.trial_maker.specs.Trials.{next, state, phase_of, weight_of, is_open, state_at}
 use Rattle.trial_maker.specs.Drawn.{AreListed, phase_number}
+use Rattle.sums_and_lists.proofs.Tests.{one_at_most}
+use Rattle.sums_and_lists.specs.Sums.{one_if}
 
 -- ---- numbers
 
@@ -55,10 +56,6 @@ phase_below s x y = omega (arith, mod_below (700 * x + 300 * y + s / 2 ^ 48 * 5 
 pub weight_below : (s : ℕ) → weight_of s ≤ 256
 unfolding weight_of
 weight_below s = omega (arith, mod_below (s / 2 ^ 32) 256 (omega arith))
-
-pub one_below : (b : Bool) → one_if b ≤ 1
-one_below true = omega arith
-one_below false = omega arith
 
 -- ---- sizes
 

@@ -2,8 +2,8 @@
 use Rattle.std.specs.Prelude.{◌≡◌, ℕ, ◌+◌, ◌/◌, ◌%◌, ◌<◌, List, length, slice_index}
 use Rattle.raster_model.specs.declared.plane.Plane.{Plane}
 use Rattle.raster_model.specs.Planes.{sample_at}
-use Rattle.raster_model.specs.Sums.{one_if}
 use Rattle.trial_maker.specs.Trials.{state, phase_of, weight_of, is_open, state_at}
+use Rattle.sums_and_lists.specs.Sums.{one_if}
 
 -- the list has the first n numbers of f
 pub record AreListed (f : ℕ → ℕ) (n : ℕ) (xs : List ℕ) : Type 0 where

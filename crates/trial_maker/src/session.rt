@@ -1,4 +1,4 @@
-ghost use Rattle.raster_model.specs.Limits.{is_raster_size as fits_limits};
+ghost use Rattle.raster_model.specs.Limits.{is_raster_size as fits_limits, IsTileSide};
 ghost use Rattle.std.specs.Prelude.{◌≡◌, ◌≤◌, Err, IfErr, IfOk, IsTrue, false};
 ghost use Rattle.trial_maker.specs.Trials.{AreTrialScripts, IsTrial};
 ghost use Rattle.trial_maker.specs.declared.fault.TrialFault.TheVariants as faults;
@@ -19,7 +19,7 @@ pub fn make_session(
     side: u32,
     kind: RuleKind,
 ) -> Result<Session, TrialFault>
-    requires sides { (2 ≤ side) × (side ≤ 128) }
+    requires sides { IsTileSide side }
     ensures made { IfOk result (IsTrial seed width height side kind) }
     ensures size { result ≡ Err faults.Size → fits_limits width height ≡ false }
     ensures fits { fits_limits width height ≡ false → result ≡ Err faults.Size }

@@ -6,7 +6,7 @@ use Rattle.raster_model.specs.declared.edge.Edge.{Edge}
 use Rattle.raster_model.specs.declared.tiling.Window.{Window}
 use Rattle.wrapped_gradient.specs.declared.corrections.Corrections.{Corrections}
 use Rattle.wrapped_gradient.specs.Corrections.{correction_at, greatest, greatest_of}
-use Rattle.wrapped_gradient.specs.Windows.{width_of}
+use Rattle.raster_model.specs.Tiles.{width_of}
 
 -- no number of a list is greater
 pub within_greatest : (zs : List ℤ) (i : ℕ) → unsigned_abs (slice_index_or zs i (pos 0)) ≤ greatest zs

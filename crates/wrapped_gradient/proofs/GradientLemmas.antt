@@ -1,5 +1,5 @@
 -- Wrapped differences over a window are those of the scene.
-use Rattle.std.proofs.Common.{◌⊎◌, inl, inr, ◌≡◌, ℕ, ◌+◌, ◌-◌, ◌*◌, ◌<◌, ◌≤◌, arith, List, Bool, true, false}
+use Rattle.std.proofs.Common.{inl, inr, ◌≡◌, ℕ, ◌+◌, ◌-◌, ◌*◌, ◌<◌, ◌≤◌, arith, List, Bool, true, false}
 use Rattle.std.specs.Prelude.{ℤ, pos, ◌+ℤ◌, ◌-ℤ◌, int_div}
 use Rattle.raster_model.specs.declared.edge.Edge.{Edge}
 use Rattle.raster_model.specs.declared.scene.Scene.{Scene}
@@ -10,9 +10,11 @@ use Rattle.raster_model.specs.Seams.{IsEarlier}
 use Rattle.wrapped_gradient.specs.GradientsView.{GradientsView}
 use Rattle.wrapped_gradient.specs.Gradients.{AreGradientsOf, HaveResiduesOf, residue_at}
 use Rattle.wrapped_gradient.specs.Rows.{AreInRows, of_right_edges, of_down_edges}
-use Rattle.wrapped_gradient.specs.Windows.{IsEdgeOf, IsCellOf, width_of, height_of, number_at}
+use Rattle.raster_model.specs.Tiles.{width_of, height_of}
+use Rattle.wrapped_gradient.specs.Windows.{IsEdgeOf, IsCellOf, number_at}
 use Rattle.wrapped_gradient.proofs.Places.{place_within}
 use Rattle.wrapped_gradient.proofs.RowLemmas.{rows_tell}
+use Rattle.sums_and_lists.proofs.Orders.{below_or_last}
 
 module _ (r : Raster) (v : Window) (right down : List ℤ) (rights : AreInRows (of_right_edges r) v.x0 v.y0 (width_of v - 1) ((width_of v - 1) * height_of v) right) (downs : AreInRows (of_down_edges r) v.x0 v.y0 (width_of v) (width_of v * (height_of v - 1)) down) where
   right_is : (x y : ℕ) → v.x0 ≤ x → x < v.x1 → v.y0 ≤ y → y ≤ v.y1 → number_at v right down (right_edge x y) ≡ gradient r (right_edge x y)
@@ -54,7 +56,4 @@ residues_are s g h x y i =
 -- the cells before the next one in a row
 pub next_cell : (g : GradientsView) (x y : ℕ) → ((a b : ℕ) → IsCellOf g.window a b → IsEarlier a b x y → residue_at g a b ≡ pos 0) → residue_at g x y ≡ pos 0 → (a b : ℕ) → IsCellOf g.window a b → IsEarlier a b (x + 1) y → residue_at g a b ≡ pos 0
 next_cell g x y before here a b i (inl l) = before a b i (inl l)
-next_cell g x y before here a b i (inr l) = elim (at_or_before a x l.1) [ inl m ↦ before a b i (inr (l.0, m)) | inr m ↦ rw (m, l.0) here ]
-  where
-    at_or_before : (a x : ℕ) → a < x + 1 → (a < x) ⊎ (a ≡ x)
-    at_or_before a x l = grind arith
+next_cell g x y before here a b i (inr l) = elim (below_or_last a x l.1) [ inl m ↦ before a b i (inr (l.0, m)) | inr m ↦ rw (m, l.0) here ]

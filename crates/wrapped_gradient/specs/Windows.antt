@@ -3,14 +3,7 @@ use Rattle.std.specs.Prelude.{◌≡◌, ℕ, ◌+◌, ◌-◌, ◌*◌, ◌≤�
 use Rattle.raster_model.specs.declared.edge.Edge.{Edge}
 use Rattle.raster_model.specs.declared.tiling.Window.{Window}
 use Rattle.raster_model.specs.Sums.{Field, end_x, end_y, right_edge, down_edge}
-use Rattle.raster_model.specs.Tiles.{IsWithin}
-
--- how many pixels a row of the window has, and how many rows there are
-abbrev pub width_of : Window → ℕ
-width_of v = v.x1 - v.x0 + 1
-
-abbrev pub height_of : Window → ℕ
-height_of v = v.y1 - v.y0 + 1
+use Rattle.raster_model.specs.Tiles.{IsWithin, height_of, width_of}
 
 -- an edge of the window: both its ends are pixels of the window
 pub record IsEdgeOf (v : Window) (e : Edge) : Type 0 where

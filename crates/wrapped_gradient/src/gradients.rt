@@ -1,10 +1,10 @@
+ghost use Rattle.raster_model.specs.Limits.{max_side};
 ghost use Rattle.raster_model.specs.Raster.{gradient as gradient_of};
 ghost use Rattle.raster_model.specs.Scene.{raster_of};
 ghost use Rattle.raster_model.specs.Sums.{is_edge};
-ghost use Rattle.raster_model.specs.Tiles.{IsWindowIn};
+ghost use Rattle.raster_model.specs.Tiles.{IsWindowIn, width_of, height_of};
 ghost use Rattle.std.specs.Prelude.{◌≡◌, ◌-◌, ◌*◌, IfOk, IsTrue};
 ghost use Rattle.wrapped_gradient.specs.Rows.{AreInRows, of_down_edges, of_right_edges};
-ghost use Rattle.wrapped_gradient.specs.Windows.{height_of, width_of};
 
 use raster_model::{Edge, Scene, Window, plain};
 use std::alloc::{AllocError, Global};
@@ -21,6 +21,7 @@ pub struct Gradients {
 }
 
 impl Model for Gradients {
+    ghost use Rattle.raster_model.specs.Limits.{max_side};
     ghost use Rattle.std.specs.Prelude.{◌≡◌, ◌*◌, ◌<◌, ◌≤◌};
     ghost use Rattle.wrapped_gradient.specs.GradientsView.{GradientsView};
     ghost use Rattle.wrapped_gradient.specs.Windows.{HaveShapeOf};
@@ -29,7 +30,7 @@ impl Model for Gradients {
 
     ghost view = { λ g. record { window = g.window; right = g.right.items; down = g.down.items } };
 
-    ghost invariant = { λ g. (g.window.x0 ≤ g.window.x1) × (g.window.x1 < 4096) × (g.window.y0 ≤ g.window.y1) × (g.window.y1 < 4096) × HaveShapeOf g.window g.right.items g.down.items };
+    ghost invariant = { λ g. (g.window.x0 ≤ g.window.x1) × (g.window.x1 < max_side) × (g.window.y0 ≤ g.window.y1) × (g.window.y1 < max_side) × HaveShapeOf g.window g.right.items g.down.items };
 }
 
 impl Gradients {
@@ -73,8 +74,8 @@ impl Gradients {
     /// The window that they were made for.
     pub fn window(&self) -> Window
         ensures value { result ≡ self.now.window }
-        ensures across { (result.x0 ≤ result.x1) × (result.x1 < 4096) }
-        ensures along { (result.y0 ≤ result.y1) × (result.y1 < 4096) }
+        ensures across { (result.x0 ≤ result.x1) × (result.x1 < max_side) }
+        ensures along { (result.y0 ≤ result.y1) × (result.y1 < max_side) }
     {
         self.window
     }

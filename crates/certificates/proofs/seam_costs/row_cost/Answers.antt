@@ -3,9 +3,9 @@ use Rattle.raster_model.specs.Masks.{open_at}
 use Rattle.raster_model.specs.Raster.{lifted, seam_cost_from}
 use Rattle.raster_model.specs.Scene.{raster_of}
 use Rattle.raster_model.specs.Sums.{sum_row}
-use Rattle.raster_model.proofs.SumLemmas.{sum_below-none}
 use Rattle.certificates.proofs.SeamCosts.{adds}
 use Rattle.certificates.proofs.seam_costs.row_cost.Goals as goal
+use Rattle.sums_and_lists.proofs.SumLemmas.{sum_below-none}
 
 pub loop-x-init : goal.loop-x-init
 loop-x-init g c =

@@ -1,8 +1,9 @@
 use Rattle.std.proofs.Common.{◌+◌, ◌*◌, ◌≤◌, ◌∙◌, ap₂, arith, length}
 use Rattle.std.specs.Prelude.{pos, ◌-ℤ◌, ℕ}
 use Rattle.flow_network.specs.Views.{shape_of, state_of}
-use Rattle.dual_grid.proofs.AnswerLemmas.{flow_is, twin_small, is_below}
+use Rattle.dual_grid.proofs.AnswerLemmas.{flow_is, twin_small}
 use Rattle.dual_grid.proofs.answering.flow.Goals as goal
+use Rattle.sums_and_lists.proofs.Orders.{is_below}
 
 forth_small : (c : goal.After-residual-back) → c.residual-forth.result ≤ 16129
 forth_small c =

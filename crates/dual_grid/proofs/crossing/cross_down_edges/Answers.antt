@@ -1,6 +1,6 @@
 use Rattle.std.proofs.Common.{◌≡◌, ◌+◌, ◌-◌, ◌*◌, arith}
 use Rattle.flow_network.specs.Views.{shape_of, state_of}
-use Rattle.wrapped_gradient.specs.Windows.{width_of, height_of}
+use Rattle.raster_model.specs.Tiles.{width_of, height_of}
 use Rattle.dual_grid.specs.Nodes.{rights_of}
 use Rattle.dual_grid.proofs.CrossLemmas.{crossed_same, no_rows, row_ends, all_rows}
 use Rattle.dual_grid.proofs.crossing.cross_down_edges.Goals as goal

@@ -1,6 +1,6 @@
 use Rattle.std.proofs.Common.{◌+◌, ◌-◌, ◌*◌}
 use Rattle.flow_network.specs.Views.{shape_of, state_of}
-use Rattle.wrapped_gradient.specs.Windows.{width_of}
+use Rattle.raster_model.specs.Tiles.{width_of}
 use Rattle.dual_grid.specs.Building.{IsCrossedTo}
 use Rattle.dual_grid.proofs.crossing.cross_right_edges.Given as goal
 

@@ -2,7 +2,7 @@ use Rattle.std.proofs.Common.{◌≡◌, ◌≤◌, ℕ, ◌∙◌, ◌-◌, ◌
 use Rattle.std.specs.Prelude.{pos}
 use Rattle.std.proofs.lemmas.Int.{ints}
 use Rattle.wrapped_gradient.specs.Rows.{AreInRows}
-use Rattle.wrapped_gradient.specs.Windows.{width_of}
+use Rattle.raster_model.specs.Tiles.{width_of}
 use Rattle.wrapped_gradient.proofs.RowLemmas.{rows_step, rows_end}
 use Rattle.dual_grid.specs.Problems.{of_down_edges}
 use Rattle.dual_grid.proofs.listing.down_weights.Goals as goal

@@ -1,6 +1,6 @@
 use Rattle.std.proofs.Common.{◌+◌, ◌-◌, ◌*◌}
 use Rattle.wrapped_gradient.specs.Rows.{AreInRows}
-use Rattle.wrapped_gradient.specs.Windows.{width_of}
+use Rattle.raster_model.specs.Tiles.{width_of}
 use Rattle.dual_grid.specs.Problems.{of_right_edges}
 use Rattle.dual_grid.proofs.listing.right_weights.Given as goal
 

@@ -1,4 +1,4 @@
-use Rattle.std.proofs.Common.{◌≡◌, ℕ, sym, ◌∙◌, arith}
+use Rattle.std.proofs.Common.{◌≡◌, ℕ, sym, ◌∙◌, arith, inl, inr}
 use Rattle.std.specs.Prelude.{IfSome, ◌≤◌, ◌⊎◌}
 use Rattle.insar_ports.specs.Bytes.{HasRisen, with_end}
 use Rattle.pgm_planes.specs.declared.fault.InputFault.{InputFault}
@@ -8,8 +8,9 @@ use Rattle.insar_top.specs.Answers.{IsNoInput}
 use Rattle.insar_top.specs.Causes.{HasInputFault}
 use Rattle.insar_top.specs.Checks.{IsCheckable, IsChecked, IsNotCheckable, IsRejected}
 use Rattle.insar_top.specs.Lines.{fault_line}
+use Rattle.insar_top.specs.Words.{IsSomeCheck}
 use Rattle.insar_top.specs.Outcomes.{Run, IsCut, IsDone, SinkFailed, SourceFailed, run_of}
-use Rattle.insar_top.proofs.CheckStatus.{asks, by_status, by_these, cause_here, complete_done, complete_of, no_command, taken_judged, taken_refused, two_for_words, words_at_two}
+use Rattle.insar_top.proofs.CheckStatus.{asks, by_status, by_these, cause_here, complete_done, complete_of, named_check, no_command, taken_judged, taken_refused, two_for_words, words_at_two}
 use Rattle.insar_top.proofs.CommandLemmas.{by_command}
 use Rattle.insar_top.proofs.OneVerdict.{verdict_told}
 use Rattle.insar_top.proofs.top.insar.Goals as goal
@@ -20,9 +21,6 @@ pub returns-then-asks_check-clause-accepted : goal.returns-then-asks_check-claus
 returns-then-asks_check-clause-accepted g c rule side is zero =
     let run : Run = run_of g.S.Source.left g.S.Source.faults c.args.source.now c.check.new.source g.K.Sink.held g.K.Sink.faults c.args.sink.now c.check.new.sink in
     by_these c.args.words.now (λ rule side. IsChecked rule side run Accepted) rule side is (c.check.ensures.accepted zero)
-
-pub returns-then-asks_check-clause-done : goal.returns-then-asks_check-clause-done
-returns-then-asks_check-clause-done g c zero other none = let b = c.check.ensures.accepted zero in none b.0 b.1 b.2.0
 
 pub returns-then-asks_check-clause-words_refused : goal.returns-then-asks_check-clause-words_refused
 returns-then-asks_check-clause-words_refused g c two =
@@ -63,7 +61,16 @@ returns-then-asks_check-clause-judged g c rule side is =
     verdict_told rule side run c.check.result (λ zero. by_these c.args.words.now (λ rule side. IsChecked rule side run Accepted) rule side is (c.check.ensures.accepted zero))
     (λ one. by_these c.args.words.now (λ rule side. IsRejected rule side run) rule side is (c.check.ensures.rejected one))
 
+pub returns-then-asks_check-clause-named : goal.returns-then-asks_check-clause-named
+returns-then-asks_check-clause-named g c other =
+    let run : Run = run_of g.S.Source.left g.S.Source.faults c.args.source.now c.check.new.source g.K.Sink.held g.K.Sink.faults c.args.sink.now c.check.new.sink in
+    inr (by_status c.check.result (IsSomeCheck c.args.words.now) (λ zero. let b = c.check.ensures.accepted zero in (b.0, b.1, b.2.0)) (λ one. let b = c.check.ensures.rejected one in (b.0, b.1, b.2.0))
+    (λ more. let b = c.check.ensures.refused more in named_check c.args.words.now run b.0 (λ two. other (b.1.0 ∙ two)) b.1.1.0))
+
 -- ---- and words that do not
+
+pub returns-else-asks_check-clause-named : goal.returns-else-asks_check-clause-named
+returns-else-asks_check-clause-named g c other = inl (c.unwrap.ensures.named other)
 
 pub returns-else-asks_check-clause-judged : goal.returns-else-asks_check-clause-judged
 returns-else-asks_check-clause-judged g c rule side is = absurd (c.asks_check.ensures.other c.if-asks_check.false (asks c.args.words.now rule side is))

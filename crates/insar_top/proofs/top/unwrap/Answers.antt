@@ -3,7 +3,7 @@ use Rattle.insar_ports.specs.Bytes.{HasRisen, with_end}
 use Rattle.insar_top.specs.declared.refusal.Refusal.{Refusal}
 use Rattle.insar_top.specs.Lines.{line_of}
 use Rattle.insar_top.specs.Outcomes.{run_of}
-use Rattle.insar_top.proofs.TopLemmas.{cut_from, input_from, done_from, complete_at, refused_from, fault_from, taken_from, where_put, words_from}
+use Rattle.insar_top.proofs.TopLemmas.{cut_from, input_from, done_from, complete_at, named_from, refused_from, fault_from, taken_from, where_put, words_from}
 use Rattle.insar_top.proofs.top.unwrap.Goals as goal
 
 pub returns-in-Ok-clause-input_taken : goal.returns-in-Ok-clause-input_taken
@@ -32,3 +32,9 @@ returns-in-Err-clause-words_taken g c = taken_from c.args.words.now (run_of g.S.
 
 pub returns-in-Err-clause-cut : goal.returns-in-Err-clause-cut
 returns-in-Err-clause-cut g c = cut_from c.args.words.now (run_of g.S.Source.left g.S.Source.faults c.args.source.now c.run.new.source g.K.Sink.held g.K.Sink.faults c.args.sink.now c.run.new.sink) c.in-Err.refusal c.status.result c.in-Err.ensures.refused c.status.ensures
+
+pub returns-in-Ok-clause-named : goal.returns-in-Ok-clause-named
+returns-in-Ok-clause-named g c other = let h = c.in-Ok.ensures.done in (h.0, h.1, h.2)
+
+pub returns-in-Err-clause-named : goal.returns-in-Err-clause-named
+returns-in-Err-clause-named g c = named_from c.args.words.now (run_of g.S.Source.left g.S.Source.faults c.args.source.now c.run.new.source g.K.Sink.held g.K.Sink.faults c.args.sink.now c.run.new.sink) c.in-Err.refusal c.status.result c.in-Err.ensures.refused c.status.ensures

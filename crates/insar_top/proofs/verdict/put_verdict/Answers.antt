@@ -1,6 +1,7 @@
 use Rattle.std.proofs.lemmas.Result.{on_err_weaker, on_ok_weaker}
-use Rattle.grid_writer.proofs.WriteLemmas.{all_written_at, at_any_err, cut_from_empty, cut_last, writes_then}
+use Rattle.grid_writer.proofs.WriteLemmas.{all_written_at, cut_from_empty, cut_last, writes_then}
 use Rattle.insar_top.proofs.verdict.put_verdict.Goals as goal
+use Rattle.sums_and_lists.proofs.Lists.{at_any_err}
 
 pub returns-in_err-append_line-clause-cut : goal.returns-in_err-append_line-clause-cut
 returns-in_err-append_line-clause-cut g c =

@@ -2,8 +2,8 @@ use Rattle.std.proofs.Common.{rules, ◌≡◌, ◌+◌, ◌≤◌, ◌^◌, ℕ
 use Rattle.std.specs.Prelude.{ℤ, pos, neg_ℤ, ◌+ℤ◌, ◌≤ℤ◌, unsigned_abs}
 use Rattle.std.specs.Int.{w64}
 use Rattle.std.proofs.lemmas.Int.{ints}
-use Rattle.flow_network.proofs.CallerLemmas.{sum_below-none, sum_below-more}
 use Rattle.network_tests.proofs.balance.sizes.Goals as goal
+use Rattle.sums_and_lists.proofs.SumLemmas.{sum_below-none, sum_below-more}
 
 sum_of : (total x : ℤ) (size : ℕ) → neg_ℤ (pos size) ≤ℤ total → total ≤ℤ pos size → size + unsigned_abs x ≤ 2 ^ 62 → to_z w64 (of_z w64 (total +ℤ x)) ≡ total +ℤ x
 sum_of total x size low high room = omega (arith, ints)

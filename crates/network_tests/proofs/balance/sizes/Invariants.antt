@@ -1,7 +1,7 @@
 use Rattle.std.proofs.Common.{◌≡◌, ◌≤◌, ◌^◌, get_or}
 use Rattle.std.specs.Prelude.{pos, neg_ℤ, ◌≤ℤ◌, unsigned_abs}
-use Rattle.flow_network.specs.Sums.{sum_below}
 use Rattle.network_tests.proofs.balance.sizes.Given as goal
+use Rattle.sums_and_lists.specs.Sums.{sum_below}
 
 abbrev pub invariant-loop-supply : goal.invariant-loop-supply
 invariant-loop-supply l = record {

@@ -2,8 +2,9 @@ use Rattle.std.proofs.Common.{◌∙◌, ap, sym, arith, length}
 use Rattle.std.specs.Prelude.{Option, pos, ◌-ℤ◌}
 use Rattle.flow_network.specs.Views.{state_of}
 use Rattle.offset_network.specs.Networks.{flow_left}
-use Rattle.offset_network.proofs.AnswerLemmas.{flow_is, is_below, left_small}
+use Rattle.offset_network.proofs.AnswerLemmas.{flow_is, left_small}
 use Rattle.offset_network.proofs.answer.flow.Goals as goal
+use Rattle.sums_and_lists.proofs.Orders.{is_below}
 
 pub residual-requires : goal.residual-requires
 residual-requires c =

@@ -9,7 +9,7 @@ use Rattle.certificates.proofs.EdgeLemmas.{all_before, none_before, row_more}
 use Rattle.seam_regions.specs.Regions.{label_at}
 use Rattle.offset_network.specs.declared.link.Link.{Link}
 use Rattle.offset_network.specs.Seams.{IsPlaced, JoinRegions}
-use Rattle.offset_network.specs.Surfaces.{tile_cycles}
+use Rattle.certificates.specs.TileSets.{solved_cycles}
 use Rattle.offset_network.proofs.PlaceLemmas.{in_raster, join_none, seams_at_most_two, still_placed}
 use Rattle.offset_network.proofs.links.links.Goals as goal
 
@@ -21,7 +21,7 @@ loop-y-init c =
     record {
       counted = ap length none ∙ before-none r;
       few = (let n = ap length none in omega (arith, n));
-      placed = none_before (IsSeamEdge r) (IsPlaced (raster_of k.scene.now) (open_at k.mask.now) (label_at c.args.regions.now) (tile_cycles k.scene.now k.tiles.now) c.new-links.result.items) 0 r.width 0 r.height (in_raster r);
+      placed = none_before (IsSeamEdge r) (IsPlaced (raster_of k.scene.now) (open_at k.mask.now) (label_at c.args.regions.now) (solved_cycles k.scene.now k.tiles.now.results) c.new-links.result.items) 0 r.width 0 r.height (in_raster r);
       join = subst (JoinRegions c.args.regions.now.count) (sym {A = List (Option Link)} none) (join_none c.args.regions.now.count);
     }
 
@@ -33,7 +33,7 @@ loop-x-preserved c =
     record {
       counted = omega (arith, c.loop-x.invariant.counted, added.count, before-next r c.loop-x.x c.loop-y.y);
       few = (let two = seams_at_most_two r c.loop-x.x c.loop-y.y in omega (arith, c.loop-x.invariant.few, added.count, two));
-      placed = still_placed (raster_of k.scene.now) (open_at k.mask.now) (label_at c.args.regions.now) c.args.regions.now.count (tile_cycles k.scene.now k.tiles.now) c.loop-x.x c.loop-y.y c.loop-x.links.items c.push_links_from.new.links.items added c.loop-x.invariant.placed;
+      placed = still_placed (raster_of k.scene.now) (open_at k.mask.now) (label_at c.args.regions.now) c.args.regions.now.count (solved_cycles k.scene.now k.tiles.now.results) c.loop-x.x c.loop-y.y c.loop-x.links.items c.push_links_from.new.links.items added c.loop-x.invariant.placed;
       join = added.join c.loop-x.invariant.join;
     }
 
@@ -45,7 +45,7 @@ loop-y-preserved c =
     record {
       counted = (rw e at c.loop-x.invariant.counted) ∙ sym (before-row r c.loop-y.y);
       few = omega (arith, c.loop-x.invariant.few);
-      placed = row_more (IsSeamEdge r) (IsPlaced (raster_of k.scene.now) (open_at k.mask.now) (label_at c.args.regions.now) (tile_cycles k.scene.now k.tiles.now) c.loop-x.links.items) 0 r.width 0 r.height (in_raster r) c.loop-x.x c.loop-y.y e c.loop-x.invariant.placed;
+      placed = row_more (IsSeamEdge r) (IsPlaced (raster_of k.scene.now) (open_at k.mask.now) (label_at c.args.regions.now) (solved_cycles k.scene.now k.tiles.now.results) c.loop-x.links.items) 0 r.width 0 r.height (in_raster r) c.loop-x.x c.loop-y.y e c.loop-x.invariant.placed;
       join = c.loop-x.invariant.join;
     }
 
@@ -57,5 +57,5 @@ returns-clause-seams c =
     let e : c.loop-y.y ≡ r.height = omega arith in
     record {
       count = rw e at c.loop-y.invariant.counted;
-      each = all_before (IsSeamEdge r) (IsPlaced (raster_of k.scene.now) (open_at k.mask.now) (label_at c.args.regions.now) (tile_cycles k.scene.now k.tiles.now) c.loop-y.links.items) 0 r.width 0 r.height (in_raster r) c.loop-y.y e c.loop-y.invariant.placed;
+      each = all_before (IsSeamEdge r) (IsPlaced (raster_of k.scene.now) (open_at k.mask.now) (label_at c.args.regions.now) (solved_cycles k.scene.now k.tiles.now.results) c.loop-y.links.items) 0 r.width 0 r.height (in_raster r) c.loop-y.y e c.loop-y.invariant.placed;
     }

@@ -6,14 +6,14 @@ use Rattle.certificates.specs.EdgeWords.{HoldsBefore}
 use Rattle.certificates.specs.SeamVerdicts.{IsSeamEdge}
 use Rattle.seam_regions.specs.Regions.{label_at}
 use Rattle.offset_network.specs.Seams.{IsPlaced, JoinRegions}
-use Rattle.offset_network.specs.Surfaces.{tile_cycles}
+use Rattle.certificates.specs.TileSets.{solved_cycles}
 use Rattle.offset_network.proofs.links.links.Given as goal
 
 abbrev pub invariant-loop-x : goal.invariant-loop-x
 invariant-loop-x l = record {
   counted : length l.links.items ≡ seams_before (raster_of l.surface.scene.now) l.x l.y;
   few : length l.links.items ≤ 2 * (4096 * l.y + l.x);
-  placed : HoldsBefore (IsSeamEdge (raster_of l.surface.scene.now)) (IsPlaced (raster_of l.surface.scene.now) (open_at l.surface.mask.now) (label_at l.regions) (tile_cycles l.surface.scene.now l.surface.tiles.now) l.links.items) l.x l.y;
+  placed : HoldsBefore (IsSeamEdge (raster_of l.surface.scene.now)) (IsPlaced (raster_of l.surface.scene.now) (open_at l.surface.mask.now) (label_at l.regions) (solved_cycles l.surface.scene.now l.surface.tiles.now.results) l.links.items) l.x l.y;
   join : JoinRegions l.regions.count l.links.items;
 }
 
@@ -21,6 +21,6 @@ abbrev pub invariant-loop-y : goal.invariant-loop-y
 invariant-loop-y l = record {
   counted : length l.links.items ≡ seams_before (raster_of l.surface.scene.now) 0 l.y;
   few : length l.links.items ≤ 2 * (4096 * l.y);
-  placed : HoldsBefore (IsSeamEdge (raster_of l.surface.scene.now)) (IsPlaced (raster_of l.surface.scene.now) (open_at l.surface.mask.now) (label_at l.regions) (tile_cycles l.surface.scene.now l.surface.tiles.now) l.links.items) 0 l.y;
+  placed : HoldsBefore (IsSeamEdge (raster_of l.surface.scene.now)) (IsPlaced (raster_of l.surface.scene.now) (open_at l.surface.mask.now) (label_at l.regions) (solved_cycles l.surface.scene.now l.surface.tiles.now.results) l.links.items) 0 l.y;
   join : JoinRegions l.regions.count l.links.items;
 }

@@ -2,8 +2,9 @@ use Rattle.std.proofs.Common.{◌++◌, ◌∷◌, []}
 use Rattle.std.proofs.lemmas.Result.{on_ok_weaker, on_err_weaker}
 use Rattle.insar_ports.proofs.CallerLemmas.{cut-first, cut-later}
 use Rattle.pgm_planes.specs.Text.{labelled, header_text}
-use Rattle.pgm_planes.proofs.WriteLemmas.{at_any_err, written_then}
+use Rattle.pgm_planes.proofs.WriteLemmas.{written_then}
 use Rattle.pgm_planes.proofs.write.write_header.Goals as goal
+use Rattle.sums_and_lists.proofs.Lists.{at_any_err}
 
 pub returns-in_err-write_number-clause-cut : goal.returns-in_err-write_number-clause-cut
 unfolding header_text

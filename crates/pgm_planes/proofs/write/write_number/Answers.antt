@@ -1,10 +1,11 @@
-use Rattle.pgm_planes.proofs.CallLemmas.{risen_before}
-use Rattle.pgm_planes.proofs.WriteLemmas.{at_any_err, written_then}
+use Rattle.pgm_planes.proofs.WriteLemmas.{written_then}
 use Rattle.std.proofs.Common.{◌∙◌, arith}
 use Rattle.std.specs.Prelude.{decimal}
 use Rattle.std.proofs.lemmas.Result.{on_err_weaker, on_ok_weaker, err_from_is_err_and}
 use Rattle.insar_ports.proofs.CallerLemmas.{cut-later, cut-first}
 use Rattle.pgm_planes.proofs.write.write_number.Goals as goal
+use Rattle.sums_and_lists.proofs.Lists.{at_any_err}
+use Rattle.insar_ports.proofs.CallLemmas.{risen_before}
 
 pub returns-clause-cut : goal.returns-clause-cut
 returns-clause-cut g c =

@@ -4,8 +4,9 @@ use Rattle.std.proofs.lemmas.Result.{on_ok_weaker, on_err_weaker}
 use Rattle.insar_ports.proofs.CallerLemmas.{cut-first, cut-later}
 use Rattle.pgm_planes.specs.Planes.{is_wide}
 use Rattle.pgm_planes.specs.Text.{header_text, raster_text, plane_text}
-use Rattle.pgm_planes.proofs.WriteLemmas.{at_any_err, written_then}
+use Rattle.pgm_planes.proofs.WriteLemmas.{written_then}
 use Rattle.pgm_planes.proofs.write.write_plane.Goals as goal
+use Rattle.sums_and_lists.proofs.Lists.{at_any_err}
 
 pub returns-in_err-write_header-clause-cut : goal.returns-in_err-write_header-clause-cut
 unfolding plane_text

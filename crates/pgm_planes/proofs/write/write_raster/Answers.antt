@@ -1,8 +1,9 @@
 use Rattle.std.proofs.Common.{arith, ap, ◌≤◌, ◌∙◌}
 use Rattle.insar_ports.specs.Bytes.{with_end}
 use Rattle.pgm_planes.specs.Planes.{is_wide}
-use Rattle.pgm_planes.proofs.WriteLemmas.{at_any_err, written_then, more_samples, cut_piece}
+use Rattle.pgm_planes.proofs.WriteLemmas.{written_then, more_samples, cut_piece}
 use Rattle.pgm_planes.proofs.write.write_raster.Goals as goal
+use Rattle.sums_and_lists.proofs.Lists.{at_any_err}
 
 pub returns-in_err-write_piece-clause-cut : goal.returns-in_err-write_piece-clause-cut
 returns-in_err-write_piece-clause-cut g c =

@@ -1,6 +1,6 @@
 use Rattle.std.proofs.Common.{◌≡◌, ◌+◌, pos}
 use Rattle.std.specs.Prelude.{nat_lt}
-use Rattle.raster_model.specs.Sums.{right_edge, down_edge, where_true}
+use Rattle.raster_model.specs.Sums.{right_edge, down_edge}
 use Rattle.raster_model.specs.Masks.{open_at}
 use Rattle.raster_model.specs.Scene.{raster_of}
 use Rattle.raster_model.specs.Raster.{lifted}
@@ -8,6 +8,7 @@ use Rattle.raster_model.specs.Plain.{part_edge_cost}
 use Rattle.raster_model.proofs.PartLemmas.{both_edges, taken, left_out}
 use Rattle.raster_model.proofs.plain.cost_from.Goals as goal
 use Rattle.raster_model.proofs.plain.cost_from.Goals.{then-x-scene, else-x-scene, then-y-scene, else-y-scene}
+use Rattle.sums_and_lists.specs.Sums.{where_true}
 
 pub returns-clause-value : goal.returns-clause-value
 returns-clause-value g c =

@@ -1,7 +1,7 @@
 use Rattle.std.proofs.Common.{sym, ◌∙◌}
 use Rattle.raster_model.specs.Plain.{part_edge_cost}
-use Rattle.raster_model.proofs.SumLemmas.{picked, no_number}
 use Rattle.raster_model.proofs.plain.edge_cost_in.Goals as goal
+use Rattle.sums_and_lists.proofs.SumLemmas.{picked, no_number}
 
 pub returns-then-is_in_part-clause-value : goal.returns-then-is_in_part-clause-value
 unfolding part_edge_cost

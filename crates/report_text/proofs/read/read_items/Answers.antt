@@ -13,10 +13,11 @@ use Rattle.report_text.specs.Fitting.{MayFit}
 use Rattle.report_text.specs.Parts.{IsEntryOrEnd, IsItemsText, IsSurfaceText, end_line}
 use Rattle.report_text.specs.Text.{behind_text, entry_text}
 use Rattle.report_text.proofs.ItemForms.{AreItems, entry_first, items_after, surface_first, texts}
-use Rattle.report_text.proofs.ItemsLemmas.{all_get, all_push, item_read, publication_after, texts_push, told_push}
+use Rattle.report_text.proofs.ItemsLemmas.{all_get, item_read, publication_after, texts_push, told_push}
 use Rattle.report_text.proofs.LineFacts.{tiles_small}
 use Rattle.report_text.proofs.NumberLemmas.{if_some, match_none, match_some}
 use Rattle.report_text.proofs.read.read_items.Goals as goal
+use Rattle.sums_and_lists.proofs.Lists.{all_push}
 
 pub returns-in_err-entry-clause-moves : goal.returns-in_err-entry-clause-moves
 returns-in_err-entry-clause-moves g c = Moves-then _ _ _ _ _ _ _ (limit_of c.loop-items.feed) _ _ _ c.loop-items.invariant.moves c.read_entry.ensures.moves

@@ -1,8 +1,9 @@
 use Rattle.std.proofs.lemmas.Result.{on_err_weaker, on_ok_weaker}
-use Rattle.grid_writer.proofs.WriteLemmas.{all_written_at, at_any_err, cut_from_empty, cut_last, writes_then}
+use Rattle.grid_writer.proofs.WriteLemmas.{all_written_at, cut_from_empty, cut_last, writes_then}
 use Rattle.report_text.proofs.CertifiedLemmas.{board_is_certified}
 use Rattle.report_text.proofs.RangeLemmas.{board_in_range, on_ok_if}
 use Rattle.report_text.proofs.report.write_report.Goals as goal
+use Rattle.sums_and_lists.proofs.Lists.{at_any_err}
 
 pub returns-in_err-append_board-clause-cut : goal.returns-in_err-append_board-clause-cut
 returns-in_err-append_board-clause-cut g c =

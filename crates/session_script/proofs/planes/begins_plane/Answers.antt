@@ -2,8 +2,8 @@ use Rattle.std.proofs.Common.{ap, Err, ◌∙◌}
 use Rattle.insar_ports.specs.Calls.{call_of}
 use Rattle.std.proofs.lemmas.Result.{err_from_is_err_and}
 use Rattle.session_script.proofs.ReachLemmas.{look_cause}
-use Rattle.pgm_planes.proofs.CallLemmas.{stays}
 use Rattle.session_script.proofs.planes.begins_plane.Goals as goal
+use Rattle.insar_ports.proofs.CallLemmas.{stays}
 
 pub returns-in_err-byte-clause-moves : goal.returns-in_err-byte-clause-moves
 returns-in_err-byte-clause-moves g c = stays _ _ _ _ _ _ _ c.peek.ensures.left c.peek.ensures.handed c.peek.ensures.grows

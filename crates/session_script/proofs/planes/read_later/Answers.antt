@@ -6,12 +6,12 @@ use Rattle.insar_ports.specs.Feeding.{handed_of, limit_of}
 use Rattle.pgm_planes.specs.declared.fault.InputFault.TheVariants.{SizesDiffer}
 use Rattle.insar_ports.specs.Calls.{call_of}
 use Rattle.pgm_planes.specs.Planes.{plane_of}
-use Rattle.pgm_planes.proofs.CallLemmas.{Moves-then}
 use Rattle.session_script.specs.declared.fault.SessionFault.TheVariants.{Input}
 use Rattle.session_script.specs.Sessions.{HasSizeOf, IsLaterPlane, LaterBreak, ones_of}
 use Rattle.session_script.proofs.PlaneLemmas.{ones_stand, look_cause, later_cause, broken_plane, other_size}
 use Rattle.session_script.proofs.planes.read_later.Goals as goal
 use Rattle.session_script.proofs.planes.read_later.Goals.{then-plane-phase-via-then-plane-phase, then-plane-phase-via-else-plane-phase+then-plane-phase-2}
+use Rattle.insar_ports.proofs.CallLemmas.{Moves-then}
 
 pub returns-in_err-plane-clause-moves : goal.returns-in_err-plane-clause-moves
 returns-in_err-plane-clause-moves g c = Moves-then _ _ _ _ _ _ _ _ _ _ _ c.in_ok-begins_plane.ensures.moves c.in_err-plane.ensures.moves

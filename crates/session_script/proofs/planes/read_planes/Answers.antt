@@ -2,9 +2,9 @@ use Rattle.std.proofs.Common.{◌≡◌, ◌≤◌, ◌∙◌, arith}
 use Rattle.std.proofs.lemmas.Result.{err_from_is_err_and}
 use Rattle.insar_ports.specs.Feeding.{handed_of, limit_of}
 use Rattle.pgm_planes.specs.Planes.{plane_of}
-use Rattle.pgm_planes.proofs.CallLemmas.{Moves-then}
 use Rattle.session_script.proofs.PlaneLemmas.{phase_cause, weights_cause, mask_cause, before_mask, planes_stand}
 use Rattle.session_script.proofs.planes.read_planes.Goals as goal
+use Rattle.insar_ports.proofs.CallLemmas.{Moves-then}
 
 pub returns-in_err-weights-clause-moves : goal.returns-in_err-weights-clause-moves
 returns-in_err-weights-clause-moves g c = Moves-then _ _ _ _ _ _ _ _ _ _ _ c.in_ok-phase.ensures.moves c.in_err-weights.ensures.moves

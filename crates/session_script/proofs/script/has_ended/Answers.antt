@@ -2,8 +2,8 @@ use Rattle.std.proofs.Common.{ap, Err, Ok, ◌∙◌, arith}
 use Rattle.insar_ports.specs.Calls.{call_of}
 use Rattle.std.proofs.lemmas.Result.{err_from_is_err_and}
 use Rattle.session_script.proofs.ReachLemmas.{look_cause, sees_some, sees_none, some_seen, none_seen}
-use Rattle.pgm_planes.proofs.CallLemmas.{stays}
 use Rattle.session_script.proofs.script.has_ended.Goals as goal
+use Rattle.insar_ports.proofs.CallLemmas.{stays}
 
 pub returns-in_err-peek-clause-moves : goal.returns-in_err-peek-clause-moves
 returns-in_err-peek-clause-moves g c = stays _ _ _ _ _ _ _ c.peek.ensures.left c.peek.ensures.handed c.peek.ensures.grows

@@ -9,8 +9,8 @@ use Rattle.insar_ports.specs.Calls.{call_of}
 use Rattle.session_script.specs.Building.{sections_in}
 use Rattle.session_script.specs.Scripts.{AreSections, IsScriptPart, ScriptBreak, usual, meant}
 use Rattle.session_script.proofs.ScriptLemmas.{none_cause, alone_cause, end_cause, goes_on_cause, after_look, part_stands, usual_complete, meant_complete, none_stands}
-use Rattle.pgm_planes.proofs.CallLemmas.{Moves-then}
 use Rattle.session_script.proofs.script.read_alone.Goals as goal
+use Rattle.insar_ports.proofs.CallLemmas.{Moves-then}
 
 pub returns-in_err-sections-clause-moves : goal.returns-in_err-sections-clause-moves
 returns-in_err-sections-clause-moves g c = Moves-then _ _ _ _ _ _ _ _ _ _ _ c.in_ok-has_ended.ensures.moves c.in_err-sections.ensures.moves

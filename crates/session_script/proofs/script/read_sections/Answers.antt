@@ -3,12 +3,12 @@ use Rattle.std.proofs.lemmas.List.{length-append}
 use Rattle.std.proofs.lemmas.Result.{err_from_is_err_and}
 use Rattle.insar_ports.specs.Feeding.{handed_of, limit_of}
 use Rattle.insar_ports.specs.Calls.{call_of}
-use Rattle.pgm_planes.proofs.CallLemmas.{Moves-then}
 use Rattle.session_script.specs.Building.{sections_in}
 use Rattle.session_script.specs.Sections.{frame_of, lines_in, words_of, word_broken, with_word}
 use Rattle.session_script.proofs.ScriptLemmas.{line_cause, word_cause, stands_more, stands_whole}
 use Rattle.session_script.proofs.WithinLemmas.{words_with, has_begun, stays_within}
 use Rattle.session_script.proofs.script.read_sections.Goals as goal
+use Rattle.insar_ports.proofs.CallLemmas.{Moves-then}
 
 pub returns-in_err-word-clause-moves : goal.returns-in_err-word-clause-moves
 returns-in_err-word-clause-moves g c = Moves-then _ _ _ _ _ _ _ _ _ _ _ c.loop-sections.invariant.moves c.in_err-word.ensures.moves

@@ -5,13 +5,13 @@ use Rattle.insar_ports.specs.Feeding.{handed_of, limit_of}
 use Rattle.pgm_planes.specs.declared.fault.InputFault.TheVariants.{TooLong}
 use Rattle.insar_ports.specs.Calls.{call_of}
 use Rattle.pgm_planes.specs.Planes.{plane_of}
-use Rattle.pgm_planes.proofs.CallLemmas.{Moves-then}
 use Rattle.session_script.specs.Reaching.{PlanesAsk, Reaches}
 use Rattle.session_script.specs.Sections.{frame_of, sections_of}
 use Rattle.session_script.specs.Sessions.{PlanesBreak, SessionBreak, SessionAsks, frame_in, session_of, IsSessionIn}
 use Rattle.session_script.proofs.SessionLemmas.{cause_of, planes_cause, frame_is, script_cause, session_stands}
 use Rattle.session_script.proofs.LimitLemmas.{at_limit, planes_never, session_never, memory_told, memory_never}
 use Rattle.session_script.proofs.session.read_spelled.Goals as goal
+use Rattle.insar_ports.proofs.CallLemmas.{Moves-then}
 
 pub returns-in_err-planes-clause-refused : goal.returns-in_err-planes-clause-refused
 returns-in_err-planes-clause-refused g c =

@@ -22,27 +22,27 @@ loop-arc-init g c = record { forest = c.requires.forest; node = c.requires.end; 
 pub index-requires : goal.index-requires
 index-requires g c = omega (arith, c.loop-arc.invariant.node, c.loop-arc.invariant.forest.count, c.loop-arc.marks.ok.0)
 
-pub is_open-requires-clause-arc : goal.is_open-requires-clause-arc
-is_open-requires-clause-arc g c = (led g c).is_arc
+pub heads_unmarked-requires-clause-arc : goal.heads_unmarked-requires-clause-arc
+heads_unmarked-requires-clause-arc g c = (led g c).is_arc
 
 pub tail-node-requires : goal.tail-node-requires
 tail-node-requires g c = (led g (goal.at.tail-node-requires g c).In-Some).is_arc
 
-pub loop-arc-smaller-then-is_open : goal.loop-arc-smaller-then-is_open
-loop-arc-smaller-then-is_open g c =
+pub loop-arc-smaller-then-heads_unmarked : goal.loop-arc-smaller-then-heads_unmarked
+loop-arc-smaller-then-heads_unmarked g c =
     let marks = c.loop-arc.marks.items in
-    let less : (mark_at marks c.tail-node.result).depth < (mark_at marks c.loop-arc.node).depth = rw c.tail-node.ensures (led g (goal.at.loop-arc-smaller-then-is_open g c).In-Some).deeper in
+    let less : (mark_at marks c.tail-node.result).depth < (mark_at marks c.loop-arc.node).depth = rw c.tail-node.ensures (led g (goal.at.loop-arc-smaller-then-heads_unmarked g c).In-Some).deeper in
     omega (arith, less)
 
-pub loop-arc-preserved-then-is_open : goal.loop-arc-preserved-then-is_open
-loop-arc-preserved-then-is_open g c =
+pub loop-arc-preserved-then-heads_unmarked : goal.loop-arc-preserved-then-heads_unmarked
+loop-arc-preserved-then-heads_unmarked g c =
     let s = g.N.FlowNet.shape c.args.net.now in
     let net = g.met.N.FlowNet.is_network c.args.net.now in
-    let d = led g (goal.at.loop-arc-preserved-then-is_open g c).In-Some in
+    let d = led g (goal.at.loop-arc-preserved-then-heads_unmarked g c).In-Some in
     record {
       forest = c.loop-arc.invariant.forest;
       node = rw c.tail-node.ensures (net.ends (s.twin c.in-Some.arc) (net.has_twin c.in-Some.arc d.is_arc));
-      reached = rw c.tail-node.ensures (c.is_open.ensures c.if-is_open.true);
+      reached = rw c.tail-node.ensures (c.heads_unmarked.ensures c.if-heads_unmarked.true);
       most = c.loop-arc.invariant.most;
     }
 

@@ -4,7 +4,7 @@ use Rattle.raster_model.specs.declared.tiling.Window.{Window}
 use Rattle.raster_model.specs.Scene.{raster_of}
 use Rattle.raster_model.specs.Sums.{down_edge}
 use Rattle.wrapped_gradient.specs.Corrections.{greatest_of}
-use Rattle.wrapped_gradient.specs.Windows.{width_of, height_of}
+use Rattle.raster_model.specs.Tiles.{width_of, height_of}
 use Rattle.surface_integration.specs.Rows.{rise_of}
 use Rattle.surface_integration.proofs.CycleLemmas.{they_depart, they_stay_small}
 use Rattle.surface_integration.proofs.Filled.{new_first, filled_first, filled_next, filled_whole, none_before}

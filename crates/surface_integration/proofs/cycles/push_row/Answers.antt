@@ -4,7 +4,7 @@ use Rattle.std.proofs.lemmas.Int.{to_z-of_z}
 use Rattle.raster_model.specs.declared.tiling.Window.{Window}
 use Rattle.raster_model.specs.Scene.{raster_of}
 use Rattle.wrapped_gradient.specs.Corrections.{greatest_of}
-use Rattle.wrapped_gradient.specs.Windows.{width_of, height_of}
+use Rattle.raster_model.specs.Tiles.{width_of, height_of}
 use Rattle.surface_integration.proofs.RowLemmas.{sum_fits, sum_plain, sum_near, row_begins, begun_last, row_more, more_last, row_whole}
 use Rattle.surface_integration.proofs.cycles.push_row.Goals as goal
 

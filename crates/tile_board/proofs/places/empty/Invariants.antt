@@ -1,5 +1,6 @@
-use Rattle.tile_board.specs.States.{AreEmptied}
+use Rattle.std.specs.Prelude.{None}
+use Rattle.tile_board.specs.Places.{AreSet}
 use Rattle.tile_board.proofs.places.empty.Given as goal
 
 abbrev pub invariant-loop-tile : goal.invariant-loop-tile
-invariant-loop-tile l = AreEmptied l.fn.kept l.kept l.tiles l.tile-index
+invariant-loop-tile l = AreSet l.fn.kept l.kept l.tiles l.tile-index None

@@ -1,7 +1,8 @@
 use Rattle.std.proofs.Common.{◌∙◌, refl, arith}
 use Rattle.trial_maker.specs.Drawn.{phase_number, weight_number, mask_number}
-use Rattle.trial_maker.proofs.DrawLemmas.{is_size, listed_at, listed_below, phase_at, phase_below, weight_below, one_below}
+use Rattle.trial_maker.proofs.DrawLemmas.{is_size, listed_at, listed_below, phase_at, phase_below, weight_below}
 use Rattle.trial_maker.proofs.planes.draw_planes.Goals as goal
+use Rattle.sums_and_lists.proofs.Tests.{one_at_most}
 
 pub invariant_of-result : goal.invariant_of-result
 invariant_of-result c =
@@ -39,7 +40,7 @@ invariant_of-result-3 c =
       few = s.few;
       valued = omega arith;
       full = omega (arith, drawn.masked.counted, c.in_ok-phase.field-0.mask.ok.0);
-      below = listed_below _ _ 1 _ (λ k. one_below _) drawn.masked;
+      below = listed_below _ _ 1 _ (λ k. one_at_most _) drawn.masked;
     }
 
 pub returns : goal.returns

@@ -1,9 +1,9 @@
 use Rattle.std.proofs.Common.{◌≡◌, ℕ, ◌+◌, ◌/◌, ◌%◌, ap}
-use Rattle.raster_model.specs.Sums.{one_if}
 use Rattle.trial_maker.specs.Drawn.{phase_number, weight_number, mask_number}
 use Rattle.trial_maker.specs.Trials.{state, phase_of, weight_of, is_open}
 use Rattle.trial_maker.proofs.DrawLemmas.{state_next, listed_next, none_listed, column_below, row_below, state_zero}
 use Rattle.trial_maker.proofs.samples.draw.Goals as goal
+use Rattle.sums_and_lists.specs.Sums.{one_if}
 
 pub append-requires : goal.append-requires
 append-requires c =

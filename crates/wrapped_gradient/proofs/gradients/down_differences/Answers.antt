@@ -2,7 +2,7 @@ use Rattle.std.proofs.Common.{◌-◌, ◌+◌, ◌*◌, arith, subst, sym, ◌�
 use Rattle.std.proofs.lemmas.Int.{to_z-of_z}
 use Rattle.raster_model.specs.Scene.{raster_of}
 use Rattle.wrapped_gradient.specs.Rows.{AreInRows, of_down_edges}
-use Rattle.wrapped_gradient.specs.Windows.{width_of}
+use Rattle.raster_model.specs.Tiles.{width_of}
 use Rattle.wrapped_gradient.proofs.RowLemmas.{rows_step, rows_end}
 use Rattle.wrapped_gradient.proofs.gradients.down_differences.Goals as goal
 

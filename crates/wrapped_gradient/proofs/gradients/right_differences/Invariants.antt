@@ -1,7 +1,7 @@
 use Rattle.std.proofs.Common.{◌+◌, ◌-◌, ◌*◌}
 use Rattle.raster_model.specs.Scene.{raster_of}
 use Rattle.wrapped_gradient.specs.Rows.{AreInRows, of_right_edges}
-use Rattle.wrapped_gradient.specs.Windows.{width_of}
+use Rattle.raster_model.specs.Tiles.{width_of}
 use Rattle.wrapped_gradient.proofs.gradients.right_differences.Given as goal
 
 abbrev pub invariant-loop-x : goal.invariant-loop-x

@@ -1,10 +1,11 @@
 use Rattle.std.proofs.Common.{◌≡◌, ◌∙◌, ◌≤◌, ap, arith, Bool, true, false, refl}
-use Rattle.raster_model.specs.Sums.{right_edge, one_if}
+use Rattle.raster_model.specs.Sums.{right_edge}
 use Rattle.raster_model.specs.Flows.{is_seam_edge}
 use Rattle.raster_model.proofs.FlowLemmas.{place-down}
 use Rattle.certificates.specs.FlowWords.{raster_in}
 use Rattle.certificates.proofs.seam_flows.SeamFlows.down_place.Goals as goal
 use mir.Val.{bool_byte}
+use Rattle.sums_and_lists.specs.Sums.{one_if}
 
 byte_is : (b : Bool) → bool_byte b ≡ one_if b
 byte_is true = refl

@@ -1,12 +1,13 @@
 use Rattle.std.proofs.Common.{◌≡◌, ◌*◌, ◌+◌, ◌^◌, ◌≤◌, pos}
 use Rattle.std.specs.Prelude.{nat_lt}
-use Rattle.raster_model.specs.Sums.{right_edge, down_edge, where_true}
+use Rattle.raster_model.specs.Sums.{right_edge, down_edge}
 use Rattle.raster_model.specs.Raster.{edge_cost}
 use Rattle.raster_model.proofs.PartLemmas.{taken, left_out}
 use Rattle.certificates.specs.TileWords.{raster_in, mask_in, surface_at}
 use Rattle.certificates.proofs.CostLemmas.{right_asks, lower_asks, cost_or_none, no_cost, costs_fit, both_costs}
 use Rattle.certificates.proofs.tile.Tile.cost_from.Goals as goal
 use Rattle.certificates.proofs.tile.Tile.cost_from.Goals.{then-x-self, else-x-self, then-y-self, else-y-self}
+use Rattle.sums_and_lists.specs.Sums.{where_true}
 
 pub edge_cost-to_right-requires : goal.edge_cost-to_right-requires
 edge_cost-to_right-requires g c =

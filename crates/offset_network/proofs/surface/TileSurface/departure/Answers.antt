@@ -1,6 +1,6 @@
 use Rattle.std.proofs.Common.{◌∙◌}
 use Rattle.raster_model.specs.Scene.{raster_of}
-use Rattle.offset_network.specs.Surfaces.{tile_cycles}
+use Rattle.certificates.specs.TileSets.{solved_cycles}
 use Rattle.offset_network.proofs.SurfaceLemmas.{rise_fits, rise_is, rise_value}
 use Rattle.offset_network.proofs.surface.TileSurface.departure.Goals as goal
 
@@ -11,7 +11,7 @@ pub returns-clause-value : goal.returns-clause-value
 returns-clause-value c =
     let k = c.args.self.now in
     (rise_value c.at-2.result c.at.result c.turns.result c.from.result c.at-2.ensures.small c.at.ensures.small c.turns.ensures.small c.from.ensures).0
-    ∙ rise_is (raster_of k.scene.now) (tile_cycles k.scene.now k.tiles.now) c.args.edge c.end_x-x.result c.end_y-y.result c.sample-from.result c.sample-to.result c.at-2.result c.at.result c.turns.result c.end_x-x.ensures c.end_y-y.ensures c.sample-from.ensures.value c.sample-to.ensures.value c.at-2.ensures.value c.at.ensures.value c.turns.ensures.value
+    ∙ rise_is (raster_of k.scene.now) (solved_cycles k.scene.now k.tiles.now.results) c.args.edge c.end_x-x.result c.end_y-y.result c.sample-from.result c.sample-to.result c.at-2.result c.at.result c.turns.result c.end_x-x.ensures c.end_y-y.ensures c.sample-from.ensures.value c.sample-to.ensures.value c.at-2.ensures.value c.at.ensures.value c.turns.ensures.value
 
 pub returns-clause-small : goal.returns-clause-small
 returns-clause-small c =

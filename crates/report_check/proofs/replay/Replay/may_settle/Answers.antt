@@ -1,6 +1,7 @@
 use Rattle.std.proofs.Common.{◌∙◌, sym}
 use Rattle.raster_model.specs.declared.script.Command.TheVariants.{Settle}
-use Rattle.report_check.proofs.ReplayLemmas.{count_told, next_is_not, next_told}
+use Rattle.tile_board.proofs.HeldLemmas.{count_told}
+use Rattle.report_check.proofs.ReplayLemmas.{next_is_not, next_told}
 use Rattle.report_check.proofs.replay.Replay.may_settle.Goals as goal
 
 pub returns-then-not-is_next : goal.returns-then-not-is_next
@@ -13,5 +14,5 @@ returns c H is =
     let s = c.args.session.now in
     let p = c.args.self.now in
     let next = next_told s H p.revisions p.kept.items p.cursors.items p.newest is c.is_next.result c.args.analyst Settle c.is_next.ensures c.if-not-is_next.false in
-    let revision = c.if-revision-count.false ∙ c.count.ensures ∙ count_told s H p.revisions p.kept.items p.cursors.items p.newest is in
-    (λ t. (next, revision, sym is.newest ∙ c.is_newest.ensures.0 t), λ step. c.is_newest.ensures.1 (is.newest ∙ step.2))
+    let revision = c.if-revision-count.false ∙ c.count.ensures ∙ count_told is.past in
+    (λ t. (next, revision, sym is.past.newest ∙ c.is_newest.ensures.0 t), λ step. c.is_newest.ensures.1 (is.past.newest ∙ step.2))

@@ -6,13 +6,14 @@ use Rattle.raster_model.specs.Masks.{open_at}
 use Rattle.tile_board.specs.declared.entry.Entry.{Entry}
 use Rattle.tile_board.specs.declared.entry.Entry.TheVariants.{Kept, Published, Revised, Settled, Shown}
 use Rattle.tile_board.specs.Histories.{IsStep, edits_of, next_command}
-use Rattle.report_check.proofs.ReplayLemmas.{cursor_small, cursor_there, replay_kept, replay_published, replay_revised, replay_settled, replay_shown, room, same_replay}
+use Rattle.tile_board.proofs.HeldLemmas.{revision_room}
+use Rattle.report_check.proofs.ReplayLemmas.{cursor_small, cursor_there, replay_kept, replay_published, replay_revised, replay_settled, replay_shown, same_replay}
 use Rattle.report_check.proofs.replay.Replay.take.Goals as goal
 
 pub revise-requires-clause-room : goal.revise-requires-clause-room
 revise-requires-clause-room c =
-    let p = c.args.self.now in
-    room c.requires.0 c.requires.1.0 p.revisions p.kept.items p.cursors.items p.newest c.requires.1.1.0
+    let is = c.requires.1.1.0 in
+    revision_room is.past is.legal
 
 pub count-requires-clause-there : goal.count-requires-clause-there
 count-requires-clause-there c =
@@ -92,7 +93,7 @@ returns-in_ok-revise-in-Revised c s H is step =
     let edit = c.in-Revised.edit in
     let revised = c.in_ok-revise-in-Revised.ensures in
     let taken : IsStep s H (Revised a edit) = subst (λ (e : Entry). IsStep s H e) c.in-Revised.is step in
-    let next = revised.next (open_at s.first_mask) (edits_of H) is.revisions in
+    let next = revised.next (open_at s.first_mask) (edits_of H) is.past.revisions in
     let after = replay_revised s H p.revisions p.kept.items p.cursors.items p.newest is a edit q.revisions revised.tiling next revised.tiles q.kept.items revised.changed revised.cleared taken in
     let marks = c.count.ensures.cursors ∙ ap (λ (l : List ℕ). set l (a - 1) (slice_index l (a - 1) + 1)) revised.cursors in
     same_replay s (H ++ (Revised a edit ∷ [])) (H ++ (c.args.entry ∷ [])) q.revisions z.revisions q.kept.items z.kept.items (set p.cursors.items (a - 1) (slice_index p.cursors.items (a - 1) + 1)) z.cursors.items p.newest z.newest (ap (λ (e : Entry). H ++ (e ∷ [])) c.in-Revised.is) c.count.ensures.others.0 (ap (λ (k : Vec Bool). k.items) c.count.ensures.others.1) marks (c.count.ensures.others.2 ∙ revised.newest) after

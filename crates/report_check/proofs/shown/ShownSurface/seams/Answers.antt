@@ -1,6 +1,6 @@
 use Rattle.std.proofs.Common.{◌≡◌, ◌∙◌, length}
 use Rattle.certificates.specs.SeamVerdicts.{label_at}
-use Rattle.report_check.proofs.ShownLemmas.{lists_regions}
+use Rattle.surface_snapshots.proofs.VerdictLemmas.{lists_regions}
 use Rattle.report_check.proofs.shown.ShownSurface.seams.Goals as goal
 
 pub check_flows-requires-clause-regions : goal.check_flows-requires-clause-regions

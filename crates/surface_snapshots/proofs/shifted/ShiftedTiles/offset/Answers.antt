@@ -4,7 +4,7 @@ use Rattle.std.specs.Int.{w64}
 use Rattle.std.proofs.lemmas.Int.{to_z-of_z}
 use Rattle.std.proofs.lemmas.Nat.{mul-add-lt}
 use Rattle.raster_model.specs.Masks.{open_at}
-use Rattle.surface_snapshots.specs.Parts.{offset_at}
+use Rattle.seam_regions.specs.Regions.{offset_at}
 use Rattle.surface_snapshots.proofs.ShiftedLemmas.{open_pixel}
 use Rattle.surface_snapshots.proofs.shifted.ShiftedTiles.offset.Goals as goal
 

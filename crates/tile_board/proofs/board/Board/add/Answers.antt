@@ -1,7 +1,8 @@
 use Rattle.std.proofs.Common.{◌∙◌, ap, arith, List, ◌++◌, ◌∷◌, []}
 use Rattle.std.specs.Arc.{arc_value}
 use Rattle.tile_board.specs.declared.entry.Entry.{Entry}
-use Rattle.tile_board.proofs.StepLemmas.{alone_next, cursor_small, cursor_there, state_alone}
+use Rattle.tile_board.proofs.HeldLemmas.{cursor_there}
+use Rattle.tile_board.proofs.StepLemmas.{alone_next, cursor_small, state_alone}
 use Rattle.tile_board.proofs.board.Board.add.Goals as goal
 
 pub invariant_of-self-2 : goal.invariant_of-self-2
@@ -12,7 +13,7 @@ invariant_of-self-2 c =
 pub index_mut-requires : goal.index_mut-requires
 index_mut-requires c =
     let n = alone_next (arc_value c.self.inside.session) c.self.inside.entries.items c.args.entry c.args.analyst (rw (← c.self.view_is) at c.requires.step) c.requires.alone in
-    omega (arith, cursor_there c.self.invariant c.args.analyst n.0 n.1, c.self.inside.cursors.ok.0)
+    omega (arith, cursor_there c.self.invariant.past c.args.analyst n.0 n.1, c.self.inside.cursors.ok.0)
 
 pub overflow_add-index_mut : goal.overflow_add-index_mut
 overflow_add-index_mut c =

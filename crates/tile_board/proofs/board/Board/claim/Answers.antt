@@ -1,6 +1,7 @@
 use Rattle.std.proofs.Common.{◌∙◌, arith}
 use Rattle.tile_board.specs.States.{IsGap, HaveResults}
-use Rattle.tile_board.proofs.StateFacts.{all_kept, gap_below, gap_tells, stamp_told, window_told}
+use Rattle.tile_board.proofs.HeldLemmas.{stamp_told}
+use Rattle.tile_board.proofs.StateFacts.{all_kept, gap_below, gap_tells, window_told}
 use Rattle.tile_board.proofs.board.Board.claim.Goals as goal
 
 pub returns-in_default-clause-refused : goal.returns-in_default-clause-refused
@@ -11,7 +12,7 @@ returns-in_default-clause-refused c =
 pub window_mask-requires : goal.window_mask-requires
 window_mask-requires c =
     let gap : IsGap c.self.inside.kept.items c.in-Some.tile = rw c.deref.ensures.value at c.in-Some.ensures in
-    rw c.self.invariant.tiling (gap_below c.self.invariant c.in-Some.tile gap)
+    rw c.self.invariant.past.tiling (gap_below c.self.invariant c.in-Some.tile gap)
 
 pub index-requires : goal.index-requires
 index-requires c =
@@ -26,23 +27,23 @@ index_mut-requires c =
 pub stamp-requires : goal.stamp-requires
 stamp-requires c =
     let gap : IsGap c.self.inside.kept.items c.in-Some.tile = rw c.deref.ensures.value at c.in-Some.ensures in
-    rw c.self.invariant.tiling (gap_below c.self.invariant c.in-Some.tile gap)
+    rw c.self.invariant.past.tiling (gap_below c.self.invariant c.in-Some.tile gap)
 
 pub invariant_of-result : goal.invariant_of-result
 invariant_of-result c =
     let gap : IsGap c.self.inside.kept.items c.in-Some.tile = rw c.deref.ensures.value at c.in-Some.ensures in
     let below = gap_below c.self.invariant c.in-Some.tile gap in
-    let window = rw c.self.invariant.tiling at c.in_ok-unmasked.ensures in
+    let window = rw c.self.invariant.past.tiling at c.in_ok-unmasked.ensures in
     record { exists = rw c.in_ok-session.ensures.cases below; size = rw c.in_ok-session.ensures.cases window.size }
 
 pub returns-clause-claimed : goal.returns-clause-claimed
 returns-clause-claimed c =
     let gap : IsGap c.self.inside.kept.items c.in-Some.tile = rw c.deref.ensures.value at c.in-Some.ensures in
     let below = gap_below c.self.invariant c.in-Some.tile gap in
-    let window = rw c.self.invariant.tiling at c.in_ok-unmasked.ensures in
+    let window = rw c.self.invariant.past.tiling at c.in_ok-unmasked.ensures in
     rw (← c.self.view_is) (record {
       session = c.in_ok-session.ensures.cases;
       lacking = gap_tells c.self.invariant c.in-Some.tile gap;
-      stamp = c.stamp.ensures ∙ stamp_told c.self.invariant c.in-Some.tile below;
+      stamp = c.stamp.ensures ∙ stamp_told c.self.invariant.past c.in-Some.tile below;
       window = window_told c.self.invariant c.in-Some.tile c.in_ok-unmasked.unmasked.items below window;
     })

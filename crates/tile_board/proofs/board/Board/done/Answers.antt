@@ -5,4 +5,4 @@ use Rattle.tile_board.proofs.board.Board.done.Goals as goal
 pub returns : goal.returns
 returns c =
     let i = c.self.invariant in
-    rw (← c.self.view_is) (rw c.deref.ensures.value at c.cursor_of.ensures ∙ cursor_is _ _ c.self.inside.cursors.items i.board.legal i.cursors c.args.analyst)
+    rw (← c.self.view_is) (rw c.deref.ensures.value at c.cursor_of.ensures ∙ cursor_is _ _ c.self.inside.cursors.items i.board.legal i.past.cursors c.args.analyst)

@@ -1,8 +1,9 @@
 use Rattle.std.proofs.Common.{◌∙◌}
 use Rattle.tile_board.specs.declared.answers.GatherFault.TheVariants.{Memory}
 use Rattle.tile_board.specs.States.{CopiesResults, HaveResults, IsFirstGap}
+use Rattle.tile_board.proofs.HeldLemmas.{count_told, mask_told}
 use Rattle.tile_board.proofs.ListLemmas.{err_is}
-use Rattle.tile_board.proofs.StateFacts.{all_kept, copies_good, count_told, least_lacking, mask_told}
+use Rattle.tile_board.proofs.StateFacts.{all_kept, copies_good, least_lacking}
 use Rattle.tile_board.proofs.board.Board.gather.Goals as goal
 
 pub returns-in-Some-clause-refused : goal.returns-in-Some-clause-refused
@@ -38,7 +39,7 @@ new-requires c =
 pub invariant_of-result : goal.invariant_of-result
 invariant_of-result c =
     let copied : CopiesResults c.self.inside.kept.items c.in_ok-results.results.items = rw c.deref-2.ensures.value at c.in_ok-results.ensures in
-    let mask = mask_told c.self.invariant in
+    let mask = mask_told c.self.invariant.past in
     let good = copies_good c.self.invariant c.in_ok-results.results.items copied in
     rw (c.in_ok-session.ensures.cases, c.in_ok-mask.ensures) (record {
       across = mask.width;
@@ -54,8 +55,8 @@ returns-clause-gathered c =
     rw (← c.self.view_is) (record {
       session = c.in_ok-session.ensures.cases;
       ready = all_kept c.self.invariant all;
-      revision = c.count.ensures ∙ count_told c.self.invariant;
-      mask = rw c.in_ok-mask.ensures (mask_told c.self.invariant);
+      revision = c.count.ensures ∙ count_told c.self.invariant.past;
+      mask = rw c.in_ok-mask.ensures (mask_told c.self.invariant.past);
       tiles = record {
         tiling = rw c.deref-3.ensures at c.new.ensures.tiling;
         count = rw c.new.ensures.results (copied.count ∙ c.self.invariant.board.kept.count);

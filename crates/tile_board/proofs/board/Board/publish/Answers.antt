@@ -9,9 +9,10 @@ use Rattle.surface_snapshots.specs.Views.{parts_of}
 use Rattle.tile_board.specs.declared.entry.Entry.{Entry}
 use Rattle.tile_board.specs.declared.entry.Entry.TheVariants.{Published}
 use Rattle.tile_board.specs.Histories.{next_command}
+use Rattle.tile_board.proofs.HeldLemmas.{cursor_there}
 use Rattle.tile_board.proofs.ListLemmas.{err_is}
 use Rattle.tile_board.proofs.PublishLemmas.{surface_cause, surface_is}
-use Rattle.tile_board.proofs.StepLemmas.{cursor_small, cursor_there, state_published}
+use Rattle.tile_board.proofs.StepLemmas.{cursor_small, state_published}
 use Rattle.tile_board.proofs.board.Board.publish.Goals as goal
 
 pub returns-in_err-snapshot-clause-refused : goal.returns-in_err-snapshot-clause-refused
@@ -22,7 +23,7 @@ returns-in_err-snapshot-clause-refused c =
 pub index_mut-requires : goal.index_mut-requires
 index_mut-requires c =
     let n : next_command (arc_value c.self.inside.session) c.self.inside.entries.items c.args.analyst ≡ Some Settle = (rw (← c.self.view_is) at c.in_ok-may_publish.ensures.fresh).0.0 in
-    omega (arith, cursor_there c.self.invariant c.args.analyst Settle n, c.self.inside.cursors.ok.0)
+    omega (arith, cursor_there c.self.invariant.past c.args.analyst Settle n, c.self.inside.cursors.ok.0)
 
 pub overflow_add-index_mut : goal.overflow_add-index_mut
 overflow_add-index_mut c =

@@ -1,0 +1,8 @@
+use Rattle.std.proofs.Common.{arith, ◌∙◌}
+use Rattle.certificates.proofs.EdgeBlocks.{lower_leaves}
+use Rattle.surface_snapshots.proofs.counting.lower_costs.Goals as goal
+
+pub edge_costs-requires-clause-across : goal.edge_costs-requires-clause-across
+edge_costs-requires-clause-across g c =
+    let s = c.args.scene.now in
+    c.requires.lowest ∙ lower_leaves s.tiling c.args.x c.args.y (omega (arith, c.requires.pixel, s.same_width))

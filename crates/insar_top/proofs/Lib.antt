@@ -1,5 +1,3 @@
-pub mod WordLemmas
-pub mod CommandLemmas
 pub mod SessionLemmas
 pub mod TopLemmas
 pub mod CheckLemmas
@@ -8,3 +6,20 @@ pub mod OneVerdict
 pub mod VerdictLemmas
 pub mod ListLemmas
 pub mod SameLemmas
+pub mod LastSurface
+pub mod GridLemmas
+pub mod OneScript
+pub mod SummaryLemmas
+pub mod TrialLemmas
+pub mod BareLemmas
+pub mod TakenLemmas
+pub mod AskedLemmas
+pub mod NamedLemmas
+pub mod PlainLemmas
+pub mod FormLemmas
+pub mod PlainReads
+pub mod RequestLemmas
+pub mod StatedLemmas
+pub mod ReadLemmas
+pub mod EndLemmas
+pub mod EndClauses

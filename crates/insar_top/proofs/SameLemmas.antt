@@ -1,7 +1,8 @@
 -- Sessions that tell the same are given by the same bytes.
-use Rattle.std.proofs.Common.{◌∙◌, ℕ, List, [], Option, Some, None, Result, Ok, Err, refl, sym, subst}
+use Rattle.std.proofs.Common.{◌∙◌, ℕ, Bool, List, [], Option, Some, None, Result, Ok, Err, refl, sym, subst}
 use Rattle.raster_model.specs.MaskView.{MaskView}
 use Rattle.raster_model.specs.Masks.{IsMaskOf, open_at}
+use Rattle.raster_model.specs.Sums.{Field}
 use Rattle.raster_model.specs.declared.session.Session.{Session}
 use Rattle.raster_model.specs.declared.weights.RuleKind.{RuleKind}
 use Rattle.session_script.specs.declared.session_use.SessionUse.{SessionUse}
@@ -14,15 +15,15 @@ use Rattle.insar_top.specs.Answers.{IsGiven}
 use Rattle.insar_top.specs.Causes.{IsAlone}
 use Rattle.insar_top.specs.Same.{TellsSame}
 
-same_mask : (m k : MaskView) (w h : ℕ) (p : PlaneOf) → IsMaskOf m w h (open_at k) → IsMaskOf k w h (open_in p) → IsMaskOf m w h (open_in p)
-same_mask m k w h p a b = record { width = a.width; height = a.height; clear_at = λ x y l n. a.clear_at x y l n ∙ b.clear_at x y l n }
+pub same_mask : (m k : MaskView) (w h : ℕ) (clear : Field Bool) → IsMaskOf m w h (open_at k) → IsMaskOf k w h clear → IsMaskOf m w h clear
+same_mask m k w h clear a b = record { width = a.width; height = a.height; clear_at = λ x y l n. a.clear_at x y l n ∙ b.clear_at x y l n }
 
 same_spelled : (usage : SessionUse) (side : ℕ) (bytes : List ℕ) (s t : SessionOf) (rest : List ℕ) → IsSameSession s t → IsSessionIn usage side bytes t rest → IsSessionIn usage side bytes s rest
 same_spelled usage side bytes s t rest same is = record {
   mask_plane = is.mask_plane;
   between = is.between;
   planes = rw (same.phase, same.weights) is.planes;
-  mask = rw same.phase (same_mask s.mask t.mask t.phase.width t.phase.height is.mask_plane same.mask is.mask);
+  mask = rw same.phase (same_mask s.mask t.mask t.phase.width t.phase.height (open_in is.mask_plane) same.mask is.mask);
   script = rw (same.phase, same.scripts) is.script;
   short = is.short;
 }

@@ -16,8 +16,8 @@ use Rattle.report_check.specs.declared.verdict.CheckVerdict.{CheckVerdict}
 use Rattle.report_check.specs.declared.verdict.CheckVerdict.TheVariants.{Accepted}
 use Rattle.report_check.specs.Verdicts.{IsVerdict}
 use Rattle.insar_top.specs.Answers.{IsAnswer}
-use Rattle.insar_top.specs.Outcomes.{Run, IsUnread, SourceFailed, SinkFailed}
-use Rattle.insar_top.specs.Words.{IsCheck, IsNoCheck}
+use Rattle.insar_top.specs.Asked.{IsCheck}
+use Rattle.insar_top.specs.Outcomes.{Run, SourceFailed, SinkFailed}
 use Rattle.insar_top.specs.VerdictLines.{verdict_line}
 use Rattle.insar_top.specs.declared.refusal.Refusal.{Refusal}
 use Rattle.insar_top.specs.declared.refusal.Refusal.TheVariants as refusals
@@ -111,13 +111,3 @@ IsVerdictTold status r verdict = (status ≡ 0 → verdict ≡ Accepted) × ((st
 -- the words are a check, with a rule and a side for which P holds
 abbrev pub ByCheck : List (Bor (List ℕ)) → (RuleKind → ℕ → Type 0) → Type 0
 ByCheck words P = (rule : RuleKind) × (side : ℕ) × (IsCheck words rule side × P rule side)
-
--- a refusal has its cause: the words, or that of a check by the rule and the side that they name
-abbrev pub HasCheckRefusal : List (Bor (List ℕ)) → Run → Refusal → Type 0
-HasCheckRefusal words r refusals.Words = IsNoCheck words × ((r.held_now ≡ r.held) × IsUnread r)
-HasCheckRefusal words r (refusals.Input fault) = ByCheck words (λ rule side. HasCheckCause rule side r (refusals.Input fault))
-HasCheckRefusal words r (refusals.ReportLine n) = ByCheck words (λ rule side. HasCheckCause rule side r (refusals.ReportLine n))
-HasCheckRefusal words r refusals.ReportLong = ByCheck words (λ rule side. HasCheckCause rule side r refusals.ReportLong)
-HasCheckRefusal words r refusals.Memory = ByCheck words (λ rule side. HasCheckCause rule side r refusals.Memory)
-HasCheckRefusal words r refusals.ReadFault = ByCheck words (λ rule side. HasCheckCause rule side r refusals.ReadFault)
-HasCheckRefusal words r refusals.WriteFault = ByCheck words (λ rule side. HasCheckCause rule side r refusals.WriteFault)

@@ -1,4 +1,3 @@
-pub mod Words
 pub mod Answers
 pub mod Causes
 pub mod Outcomes
@@ -7,3 +6,12 @@ pub mod Lines
 pub mod Same
 pub mod VerdictLines
 pub mod Checks
+pub mod Grids
+pub mod TrialLines
+pub mod Stated
+pub mod Asked
+pub mod Values
+pub mod Commands
+pub mod Requests
+pub mod PlainForms
+pub mod Ends

@@ -1,12 +1,10 @@
 -- What a run of the program may end as.
 use Rattle.std.specs.Prelude.{◌≡◌, ◌≤◌, ◌⊎◌, ℕ, List, [], Option, Some, IfSome}
-use Rattle.std.specs.Borrow.{Bor}
 use Rattle.insar_ports.specs.Bytes.{with_end, HasRisen, GainsProperPrefix}
 use Rattle.insar_top.specs.declared.refusal.Refusal.{Refusal}
 use Rattle.insar_top.specs.declared.refusal.Refusal.TheVariants as refusals
 use Rattle.insar_top.specs.Answers.{IsAnswer}
 use Rattle.insar_top.specs.Causes.{HasInputFault}
-use Rattle.insar_top.specs.Words.{IsCommand, IsNoCommand}
 use Rattle.raster_model.specs.declared.weights.RuleKind.{RuleKind}
 use Rattle.report_text.specs.Contents.{IsReport}
 use Rattle.insar_top.specs.Refusals.{status_of}
@@ -42,33 +40,19 @@ SinkFailed r = HasRisen r.sink_before r.sink_after
 abbrev pub IsUnread : Run → Type 0
 IsUnread r = (r.left ≡ r.told) × (r.source_after ≡ r.source_before)
 
--- the words are a command, with a rule and a side for which P holds
-abbrev pub ByCommand : List (Bor (List ℕ)) → (RuleKind → ℕ → Type 0) → Type 0
-ByCommand words P = (rule : RuleKind) × (side : ℕ) × IsCommand words rule side × P rule side
+-- a refusal of a run that solves a session has its cause: a fault of the bytes, want of memory, a fault of the source, or one of the sink, at which `Cut` holds
+abbrev pub HasSolvingCause : ℕ → Run → Type 0 → Refusal → Type 0
+HasSolvingCause side r Cut refusals.Words = ⊥
+HasSolvingCause side r Cut (refusals.Input fault) = IfSome r.told (λ bytes. HasInputFault side bytes fault) × (r.held_now ≡ r.held)
+HasSolvingCause side r Cut (refusals.ReportLine n) = ⊥
+HasSolvingCause side r Cut refusals.ReportLong = ⊥
+HasSolvingCause side r Cut refusals.Memory = r.held_now ≡ r.held
+HasSolvingCause side r Cut refusals.ReadFault = SourceFailed r × (r.held_now ≡ r.held)
+HasSolvingCause side r Cut refusals.WriteFault = SinkFailed r × Cut
 
--- a refusal of a run by a rule and a side has its cause
+-- of a run that writes the report, by a rule of weights and a side of tiles
 abbrev pub HasRunCause : RuleKind → ℕ → Run → Refusal → Type 0
-HasRunCause rule side r refusals.Words = ⊥
-HasRunCause rule side r (refusals.Input fault) = IfSome r.told (λ bytes. HasInputFault side bytes fault) × (r.held_now ≡ r.held)
-HasRunCause rule side r (refusals.ReportLine n) = ⊥
-HasRunCause rule side r refusals.ReportLong = ⊥
-HasRunCause rule side r refusals.Memory = r.held_now ≡ r.held
-HasRunCause rule side r refusals.ReadFault = SourceFailed r × (r.held_now ≡ r.held)
-HasRunCause rule side r refusals.WriteFault = SinkFailed r × IsCut rule side r
-
--- a refusal has its cause: the words, or that of a run by the rule and the side that they name
-abbrev pub HasCause : List (Bor (List ℕ)) → Run → Refusal → Type 0
-HasCause words r refusals.Words = IsNoCommand words × ((r.held_now ≡ r.held) × IsUnread r)
-HasCause words r (refusals.Input fault) = ByCommand words (λ rule side. HasRunCause rule side r (refusals.Input fault))
-HasCause words r (refusals.ReportLine n) = ⊥
-HasCause words r refusals.ReportLong = ⊥
-HasCause words r refusals.Memory = ByCommand words (λ rule side. HasRunCause rule side r refusals.Memory)
-HasCause words r refusals.ReadFault = ByCommand words (λ rule side. HasRunCause rule side r refusals.ReadFault)
-HasCause words r refusals.WriteFault = ByCommand words (λ rule side. HasRunCause rule side r refusals.WriteFault)
-
--- done, or one of the statuses 2 to 6
-abbrev pub IsStatus : ℕ → Type 0
-IsStatus status = (status ≡ 0) ⊎ ((2 ≤ status) × (status ≤ 6))
+HasRunCause rule side r = HasSolvingCause side r (IsCut rule side r)
 
 -- the line that goes with a status: none with 0 and 1, or that of a refusal that has it
 abbrev pub IsLineAt : ℕ → List ℕ → Type 0

@@ -1,13 +1,13 @@
 ghost use Rattle.raster_model.specs.Limits.{max_session_bytes};
 ghost use Rattle.insar_ports.specs.Bytes.{HasRisen};
 ghost use Rattle.insar_ports.specs.Feeding.{faults_of, handed_of, left_of, limit_of, source_name, source_of};
-ghost use Rattle.insar_top.specs.Checks.{HasCheckCause, HasCheckRefusal, HasReadCause, IsChecked, AreRead, ByCheck};
+ghost use Rattle.insar_top.specs.Checks.{HasCheckCause, HasReadCause, IsChecked, AreRead};
 ghost use Rattle.insar_top.specs.Outcomes.{run_of};
-ghost use Rattle.std.specs.Prelude.{◌≡◌, ◌≤◌, IfErr, IfOk};
+ghost use Rattle.std.specs.Prelude.{◌≡◌, IfErr, IfOk};
 
 use crate::refusal::Refusal;
+use crate::request::Settings;
 use crate::verdict::put_verdict;
-use crate::words::{Settings, read_check};
 use insar_ports::{Feed, Sink, Source};
 use raster_model::{MAX_REPORT_BYTES, MAX_SESSION_BYTES, Session};
 use report_check::{CheckVerdict, check_report};
@@ -18,30 +18,12 @@ use std::alloc::Global;
 /// Reads a session and then a report, judges the report, and puts the line of the verdict into the sink.
 pub fn run_check<S: Source, K: Sink>(
     alloc: Global,
-    words: &[&str],
-    source: &mut S,
-    sink: &mut K,
-) -> Result<CheckVerdict, Refusal>
-    ensures done { IfOk result (λ verdict. ByCheck words.now (λ rule side. IsChecked rule side (run_of S.left S.faults source.old source.new K.held K.faults sink.old sink.new) verdict)) }
-    ensures refused { IfErr result (HasCheckRefusal words.now (run_of S.left S.faults source.old source.new K.held K.faults sink.old sink.new)) }
-    ensures grows { K.faults sink.old ≤ K.faults sink.new }
-{
-    let Some(settings) = read_check(words) else {
-        return Err(Refusal::Words);
-    };
-    check_source(alloc, settings, source, sink)
-}
-
-/// The same by settings.
-fn check_source<S: Source, K: Sink>(
-    alloc: Global,
     settings: Settings,
     source: &mut S,
     sink: &mut K,
 ) -> Result<CheckVerdict, Refusal>
     ensures done { IfOk result (IsChecked settings.rule settings.side (run_of S.left S.faults source.old source.new K.held K.faults sink.old sink.new)) }
     ensures refused { IfErr result (HasCheckCause settings.rule settings.side (run_of S.left S.faults source.old source.new K.held K.faults sink.old sink.new)) }
-    ensures grows { K.faults sink.old ≤ K.faults sink.new }
 {
     let (session, report) = read_both(alloc, source, settings)?;
     let verdict = check_report(alloc, &session, &report)?;

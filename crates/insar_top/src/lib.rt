@@ -1,15 +1,21 @@
-//! The whole program as one call: words and bytes in, a report or a refusal out.
+//! The whole program as one call: words and bytes in; a report, a grid, a verdict or a trial's lines out, or a refusal.
 #![tactic(auto)]
 
 mod board;
 mod check;
 mod diag;
+mod grid;
 pub mod laws;
+mod reading;
 mod refusal;
+mod request;
 mod same;
 mod session;
+mod stated;
+mod summary;
 mod top;
+mod trial;
+mod unwrap;
 mod verdict;
-mod words;
 
-pub use top::insar;
+pub use top::{insar, starved};

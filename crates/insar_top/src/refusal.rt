@@ -1,12 +1,16 @@
 ghost use Rattle.std.specs.Prelude.{◌≡◌};
 ghost use Rattle.insar_top.specs.declared.refusal.Refusal.TheVariants as refusals;
-ghost use Rattle.insar_top.specs.Refusals.{refusal_of, refusal_of_report, status_of};
+ghost use Rattle.clap.specs.Words.{kind_of};
+ghost use Rattle.insar_top.specs.Refusals.{refusal_of, refusal_of_report, refusal_of_trial, refusal_of_words, status_of};
 
+use clap::Error;
+use clap::error::ErrorKind;
 use insar_ports::WriteFault;
 use pgm_planes::InputFault;
 use report_text::ReportFault;
 use session_script::SessionFault;
 use std::alloc::AllocError;
+use trial_maker::TrialFault;
 
 /// Why a command was not done.
 #[derive(Clone, Copy, Debug, PartialEq, Eq)]
@@ -79,6 +83,28 @@ impl From<ReportFault> for Refusal {
             ReportFault::TooLong => Refusal::ReportLong,
             ReportFault::ReadFault => Refusal::ReadFault,
             ReportFault::Memory => Refusal::Memory,
+        }
+    }
+}
+
+impl From<TrialFault> for Refusal {
+    ghost from_gives = { λ fault e. e ≡ refusal_of_trial fault };
+
+    fn from(fault: TrialFault) -> Refusal {
+        match fault {
+            TrialFault::Size => Refusal::Words,
+            TrialFault::Memory => Refusal::Memory,
+        }
+    }
+}
+
+impl From<Error> for Refusal {
+    ghost from_gives = { λ error refusal. refusal ≡ refusal_of_words (kind_of error) };
+
+    fn from(error: Error) -> Refusal {
+        match error.kind() {
+            ErrorKind::OutOfMemory => Refusal::Memory,
+            _ => Refusal::Words,
         }
     }
 }

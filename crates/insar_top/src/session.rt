@@ -5,7 +5,7 @@ ghost use Rattle.insar_top.specs.Causes.{HasInputCause, IsAlone};
 ghost use Rattle.std.specs.Prelude.{◌≡◌, IfErr, IfOk};
 
 use crate::refusal::Refusal;
-use crate::words::Settings;
+use crate::request::Settings;
 use insar_ports::{Feed, Source};
 use raster_model::{MAX_SESSION_BYTES, Session};
 use session_script::{SessionUse, read_session};

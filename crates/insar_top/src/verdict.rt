@@ -291,7 +291,8 @@ fn append_field<K: Sink>(
     append_decimal(text, sink, number)
 }
 
-fn append_decimal<K: Sink>(
+/// Adds a number in decimal.
+pub(crate) fn append_decimal<K: Sink>(
     text: &mut TextBuffer,
     sink: &mut K,
     number: u128,
@@ -326,7 +327,11 @@ fn append_signed<K: Sink>(
 }
 
 /// Adds a piece of text.
-fn append<K: Sink>(text: &mut TextBuffer, sink: &mut K, piece: &[u8]) -> Result<(), WriteFault>
+pub(crate) fn append<K: Sink>(
+    text: &mut TextBuffer,
+    sink: &mut K,
+    piece: &[u8],
+) -> Result<(), WriteFault>
     requires { length piece.now ≤ 128 }
     ensures { Appends (K.held sink.old) (waiting_in text.old) (K.faults sink.old) (K.held sink.new) (waiting_in text.new) (K.faults sink.new) piece.now result }
 {

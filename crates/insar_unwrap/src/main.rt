@@ -1,8 +1,10 @@
 //! The program: standard input, output and error around the top call.
 #![tactic(auto)]
 
-use insar_ports::{StdSink, StdSource, put_all};
-use insar_top::insar;
+ghost use Rattle.std.specs.Prelude.{◌≡◌, IfErr, IfOk};
+
+use insar_ports::{StdSink, StdSource};
+use insar_top::{insar, starved};
 use std::alloc::{AllocError, Global};
 use std::io::{Read, Write};
 use std::process::ExitCode;
@@ -49,19 +51,24 @@ fn run<R: Threads + Wait + Sync, I: Read + Drop, O: Write + Drop, E: Write + Dro
     ))
 }
 
-/// Tells why there are no words: one of them is not UTF-8, or there is no memory for them.
-fn refused(rt: &HostRuntime, error: io::Error) -> u8 {
-    let (status, line) = match error.kind() {
-        io::ErrorKind::InvalidData => (2u8, "words refused\n"),
-        _ => (4u8, "no memory\n"),
-    };
-    let mut diag = StdSink::new(rt.stderr().lock());
-    let _ = put_all(&mut diag, line.as_bytes());
-    status
+/// The exit status of what was done. Where there was no memory for the words, the line that tells it is put.
+fn status(rt: &HostRuntime, done: io::Result<u8>) -> u8
+    ensures done { IfOk done (λ status. result ≡ status) }
+    ensures starved { IfErr done (λ error. result ≡ 4) }
+{
+    match done {
+        Ok(status) => status,
+        Err(_) => starved(&mut StdSink::new(rt.stderr().lock())),
+    }
 }
 
 fn main(rt: HostRuntime) -> ExitCode {
-    let done = match words(&rt) {
+    let words = match words(&rt) {
+        // Words that are not UTF-8 are handed on as none, which the top call refuses.
+        Err(error) if error.kind() == io::ErrorKind::InvalidData => Ok(Vec::new(rt.alloc())),
+        words => words,
+    };
+    let done = match words {
         Ok(words) => run(
             &rt,
             rt.alloc(),
@@ -72,8 +79,5 @@ fn main(rt: HostRuntime) -> ExitCode {
         ),
         Err(error) => Err(error),
     };
-    ExitCode::from(match done {
-        Ok(status) => status,
-        Err(error) => refused(&rt, error),
-    })
+    ExitCode::from(status(&rt, done))
 }

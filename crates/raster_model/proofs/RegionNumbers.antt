@@ -10,7 +10,7 @@ use Rattle.sums_and_lists.proofs.Orders.{below_or_last, below_at_above}
 use Rattle.std.proofs.lemmas.Bool.{cases_Bool}
 use Rattle.sums_and_lists.proofs.Tests.{true_and_false, tells_both, both_told}
 
--- the first place both_told a on that passes a test, where the place a + d does
+-- the first place from a on that passes a test, where the place a + d does
 pub first_from : (P : ℕ → Bool) (d a : ℕ) → ((j : ℕ) → j < a → P j ≡ false) → P (a + d) ≡ true → (m : ℕ) × (m ≤ a + d) × (P m ≡ true) × ((j : ℕ) → j < m → P j ≡ false)
 first_from P zero a none t = (a, omega arith, (let e : a + 0 ≡ a = omega arith in rw e at t), none)
 first_from P (suc d) a none t =

@@ -36,7 +36,7 @@ pub struct Ended {
     pub line: String,
 }
 
-/// The words, parted by single spaces, over the bytes. The source and the sink take `piece` bytes a call, and the sink has
+/// The words, parted by spaces, over the bytes. The source and the sink take `piece` bytes a call, and the sink has
 /// room for 512 pieces.
 pub fn run<R: Alloc<A = Global> + Threads + Wait + Sync, G: Gate>(
     rt: &R,
@@ -49,7 +49,7 @@ pub fn run<R: Alloc<A = Global> + Threads + Wait + Sync, G: Gate>(
     requires { (1 ≤ piece) × (piece ≤ 65536) }
 {
     let alloc = rt.alloc();
-    let words: Vec<&str> = words.split(' ').collect(alloc)?;
+    let words: Vec<&str> = words.split_whitespace().collect(alloc)?;
     let takes = failing.takes.to_vec(alloc)?;
     let mut source = MemorySource::new(bytes.to_vec(alloc)?, piece, takes);
     let mut sink = MemorySink::new(alloc, piece * 512, piece, failing.puts.to_vec(alloc)?)?;

@@ -6,10 +6,10 @@ use std::test::Fail;
 use std::thread::Threads;
 use tile_workers::OpenGate;
 
-/// A row has four fields: words, bytes, status, and what is written, which is the report or the verdict at status 0 and 1
-/// and else the line to `diag`. In a field `;` is LF, `.` is the byte 0, `~` is the NODATA value, `%` stands for the four
-/// lines of a grid between its size and its rows, and `!` for the head of a report up to its size. In a report `*` is any
-/// text, and `/` parts two reports of which either may come. All values were computed by hand.
+/// A row has four fields: words, bytes, status, and what is written, which is the sink's text at status 0 and 1 and else
+/// the line to `diag`. In a field `;` is LF, `.` is the byte 0, `~` is the NODATA value, `%` stands for the four
+/// lines of a grid between its size and its rows, and `!` for the head of a report up to its size. In what is written `*` is
+/// any text, and `/` parts two reports of which either may come. All values but those of `trial 7` were computed by hand.
 const ROWS: &str = "\
 -- Lines, which have no cell: a commented header, a wrap, the exact half cycle, one pixel.
 unwrap|P5;# by hand;2 1;65535;....|0|!2 1;tile 64;rule least;kept 0 0;published 1 0;costs 0 0;ncols 2;nrows 1;%0 0;faces 0;flows;shown 1 0;end;
@@ -84,29 +84,47 @@ check --tile 3|P2 4 3 65535 0 0 0 0 0 0 0 20000 0 0 0 40000 P2 4 3 9 4 4 4 4 4 4
 check --rule mean --tile 3|P2 4 3 65535 0 0 0 0 0 0 0 20000 0 0 0 40000 P2 4 3 9 4 4 4 4 4 4 4 4 9 9 9 9;end;!4 3;tile 3;rule least;kept 0 0;kept 1 0;published 1 0;costs 0 8;ncols 4;nrows 3;%0 0 0 -65536;0 0 0 -45536;0 0 0 -25536;faces 0 0 0 0 0;faces 1;flows -4 -4 8;shown 1 0;end;|1|refused header 4;
 check --tile 2|P2 4 3 65535 0 0 0 0 0 0 0 20000 0 0 0 40000 P2 4 3 9 4 4 4 4 4 4 4 4 9 9 9 9;end;!4 3;tile 3;rule least;kept 0 0;kept 1 0;published 1 0;costs 0 8;ncols 4;nrows 3;%0 0 0 -65536;0 0 0 -45536;0 0 0 -25536;faces 0 0 0 0 0;faces 1;flows -4 -4 8;shown 1 0;end;|1|refused header 3;
 check|P2 4 1 65535 0 20000 40000 60000;analyst;settle;|3|input fault 14 no end;
+-- The last surface alone, as a grid, and nothing where none was published.
+grid --tile 2|P2 4 1 65535 0 40000 14464 54464|0|ncols 4;nrows 1;%0 -25536 -51072 -76608;
+grid --tile 3|P2 4 3 65535 0 0 0 0 0 0 0 20000 0 0 0 40000 P2 4 3 9 4 4 4 4 4 4 4 4 9 9 9 9|0|ncols 4;nrows 3;%0 0 0 -65536;0 0 0 -45536;0 0 0 -25536;
+grid --tile 3|P2 3 4 65535 0 20000 40000 10000 30000 50000 20000 40000 60000 30000 50000 4464 P2 3 4 1 1 1 1 1 1 1 1 1 1 1 1 1 P2 3 4 1 1 0 1 1 0 1 1 0 1 1 1 1|0|ncols 3;nrows 4;%0 ~ 40000;10000 ~ 50000;20000 ~ 60000;30000 50000 70000;
+grid|P2 2 2 65535 0 16384 49152 32768;analyst;settle;mask 0 0 0 0;settle;end;|0|ncols 2;nrows 2;%~ 16384;49152 32768;
+grid|P2 4 1 65535 0 20000 40000 60000;analyst;show;end;|0|
+grid||3|input fault 1 magic phase;
+-- The four lines of a session that is made; how many workers there are changes none.
+trial 0 1 1||0|pixels 1;residues 0;unmasked 1;cost 0;
+trial 7 64 64 --tile 32||0|pixels 4096;residues 450;unmasked 3834;cost 16469;
+trial 7 64 64 --tile 32 --workers 1||0|pixels 4096;residues 450;unmasked 3834;cost 16469;
+trial 7 64 64 --workers 4 --tile 32||0|pixels 4096;residues 450;unmasked 3834;cost 16469;
+-- Words that are read in other spellings, so that the missing source is what is refused.
+unwrap --tile=64||3|input fault 1 magic phase;
+unwrap --tile 02||3|input fault 1 magic phase;
+unwrap --workers +2||3|input fault 1 magic phase;
+-- Words that are refused, before the source is read.
+||2|words refused;
+--help||2|words refused;
+help||2|words refused;
+unwrap --help||2|words refused;
+chec||2|words refused;
+check check||2|words refused;
 check --workers 2||2|words refused;
 check --tile 129||2|words refused;
-check check||2|words refused;
-chec||2|words refused;
--- Words that are no command, judged before the source.
-||2|words refused;
-grid||2|words refused;
 --tile 2 unwrap||2|words refused;
 unwrap --rule||2|words refused;
 unwrap --rule max||2|words refused;
 unwrap --rule mean x||2|words refused;
-unwrap --rule mean --rule mean||2|words refused;
+unwrap --til 64||2|words refused;
+unwrap --tile 64 --tile 64||2|words refused;
 unwrap --tile 1||2|words refused;
 unwrap --tile 129||2|words refused;
-unwrap --tile 02||2|words refused;
-unwrap --tile +2||2|words refused;
 unwrap --tile --workers 2||2|words refused;
 unwrap --workers 0||2|words refused;
 unwrap --workers 9||2|words refused;
-unwrap --workers 02||2|words refused;
-unwrap --workers 2 --tile||2|words refused;
-unwrap --workers 2 --rule mean --workers 3||2|words refused;
-unwrap --rule mean --tile 2 --workers||2|words refused;
+grid --workers 2 --tile||2|words refused;
+trial 0 1||2|words refused;
+trial 0 4097 1||2|words refused;
+trial 18446744073709551616 1 1||2|words refused;
+trial 0 4096 4096||2|words refused;
 ";
 
 /// What a text of the table stands for.
@@ -182,7 +200,7 @@ fn rows_are_answered(rt: HostRuntime) -> Result<(), Fail> {
     for row in ROWS.lines() {
         count = count.saturating_add(judge(&rt, row)?);
     }
-    assert!(rt; count == 83);
+    assert!(rt; count == 98);
     Ok(())
 }
 
@@ -196,22 +214,23 @@ const REPORT: &str =
 /// Its length in bytes.
 const REPORT_LENGTH: u32 = 209;
 
-/// How the line is refused where calls fail.
+/// How words over the line are refused where calls fail.
 fn refused<R: Alloc<A = Global> + Threads + Wait + Sync>(
     rt: &R,
+    words: &str,
     takes: &[u32],
     puts: &[u32],
     lines: &[u32],
 ) -> Result<Ended, Fail> {
     let failing = Failing { takes, puts, lines };
-    run(rt, "unwrap", LINE, 1, &failing, &OpenGate)
+    run(rt, words, LINE, 1, &failing, &OpenGate)
 }
 
 /// Each call of the source failing in turn: 21 for the bytes and one for the end of the input.
 #[test]
 fn each_failing_read_is_told(rt: HostRuntime) -> Result<(), Fail> {
     for call in 1..23 {
-        let done = refused(&rt, &[call], &[], &[])?;
+        let done = refused(&rt, "unwrap", &[call], &[], &[])?;
         assert!(rt; done.status == 5 && done.line.as_str() == "read fault\n");
         assert!(rt; done.text.is_empty());
     }
@@ -223,11 +242,11 @@ fn each_failing_read_is_told(rt: HostRuntime) -> Result<(), Fail> {
 fn each_failing_write_is_told(rt: HostRuntime) -> Result<(), Fail> {
     let report = spelled(rt.alloc(), REPORT)?;
     for call in 1..REPORT_LENGTH + 1 {
-        let done = refused(&rt, &[], &[call], &[])?;
+        let done = refused(&rt, "unwrap", &[], &[call], &[])?;
         assert!(rt; done.status == 6 && done.line.as_str() == "write fault\n");
         assert!(rt; done.text.len() < call as usize && report.starts_with(done.text.as_str()));
     }
-    let whole = refused(&rt, &[], &[REPORT_LENGTH + 1], &[])?;
+    let whole = refused(&rt, "unwrap", &[], &[REPORT_LENGTH + 1], &[])?;
     assert!(rt; whole.status == 0 && whole.text.as_str() == report.as_str());
     Ok(())
 }
@@ -235,7 +254,25 @@ fn each_failing_write_is_told(rt: HostRuntime) -> Result<(), Fail> {
 /// A `diag` that fails changes neither a status nor the sink.
 #[test]
 fn a_failing_line_changes_nothing(rt: HostRuntime) -> Result<(), Fail> {
-    let done = refused(&rt, &[], &[2], &[1])?;
+    let done = refused(&rt, "unwrap", &[], &[2], &[1])?;
     assert!(rt; done.status == 6 && done.line.is_empty() && done.text.as_str() == "i");
+    Ok(())
+}
+
+/// `grid` and `trial` tell a call that fails as `unwrap` does.
+#[test]
+fn other_commands_tell_a_failing_call(rt: HostRuntime) -> Result<(), Fail> {
+    let unread = refused(&rt, "grid", &[3], &[], &[])?;
+    assert!(rt;
+        unread.status == 5 && unread.line.as_str() == "read fault\n" && unread.text.is_empty()
+    );
+    let cut = refused(&rt, "grid", &[], &[3], &[])?;
+    assert!(rt;
+        cut.status == 6 && cut.line.as_str() == "write fault\n" && cut.text.as_str() == "nc"
+    );
+    let cut = refused(&rt, "trial 0 1 1", &[], &[4], &[])?;
+    assert!(rt;
+        cut.status == 6 && cut.line.as_str() == "write fault\n" && cut.text.as_str() == "pix"
+    );
     Ok(())
 }

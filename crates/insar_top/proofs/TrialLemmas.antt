@@ -1,0 +1,182 @@
+-- A trial's session, what is written of it, and that its words determine the text.
+use Rattle.std.proofs.Common.{◌≡◌, ◌∙◌, ℕ, zero, suc, ◌+◌, ◌*◌, ◌/◌, ◌%◌, ◌<◌, ◌≤◌, Bool, false, true, List, [], ◌∷◌, Option, Some, length, map, refl, sym, ap, ap₂, subst, arith}
+use Rattle.std.specs.Prelude.{ℤ, pos, IsTrue, ◌≤ℤ◌, slice_index}
+use Rattle.std.proofs.lemmas.Grind.{same_number_lists}
+use Rattle.std.proofs.lemmas.Nat.{div-add-mod', div_below, mod_below}
+use Rattle.insar_ports.specs.Bytes.{with_end, GainsProperPrefix, HasRisen}
+use Rattle.pgm_planes.specs.Planes.{PlaneOf, plane_of}
+use Rattle.raster_model.specs.declared.edge.Edge.{Edge}
+use Rattle.raster_model.specs.declared.plane.Plane.{Plane}
+use Rattle.raster_model.specs.declared.script.Command.TheVariants.{Settle, Show}
+use Rattle.raster_model.specs.declared.script.Script.{Script}
+use Rattle.raster_model.specs.declared.session.Session.{Session}
+use Rattle.raster_model.specs.declared.weights.RuleKind.{RuleKind}
+use Rattle.raster_model.specs.Best.{tiles_cost}
+use Rattle.raster_model.specs.Limits.{is_raster_size}
+use Rattle.raster_model.specs.Masks.{IsMaskOf, open_at}
+use Rattle.raster_model.specs.Planes.{sample_at}
+use Rattle.raster_model.specs.Raster.{Raster, IsCongruent, tile_cost}
+use Rattle.raster_model.specs.Scene.{raster_of}
+use Rattle.raster_model.specs.Sums.{Field}
+use Rattle.certificates.proofs.CallerLemmas.{tile_cost-same}
+use Rattle.tile_board.specs.declared.entry.Entry.{Entry}
+use Rattle.tile_board.specs.Histories.{IsComplete, IsLegal, newest_of}
+use Rattle.trial_maker.specs.Trials.{AreTrialScripts, IsTrial, is_open, state_at}
+use Rattle.report_check.specs.Same.{IsSameInput, IsSamePlane}
+use Rattle.report_check.proofs.EqualSessions.{are_alike}
+use Rattle.surface_snapshots.proofs.SameLemmas.{same_tile_cost}
+use Rattle.trial_maker.specs.declared.fault.TrialFault.{TrialFault}
+use Rattle.trial_maker.specs.declared.fault.TrialFault.TheVariants as trial_faults
+use Rattle.insar_top.specs.Refusals.{refusal_of_trial}
+use Rattle.insar_top.specs.Grids.{last_settled, settled_revisions}
+use Rattle.insar_top.specs.Same.{TellsSame}
+use Rattle.insar_top.specs.TrialLines.{AreLinesOf, HasTrialCause, IsLeastCost, IsLeastInTiles, IsTrialText, TrialsHaveOneText, count_grid, count_row, four_lines, open_pixels_of, residues_of}
+use Rattle.insar_top.proofs.OneScript.{newest_settled}
+use Rattle.insar_top.proofs.SameLemmas.{same_mask}
+use Rattle.sums_and_lists.specs.Sums.{count_below, one_if}
+use Rattle.sums_and_lists.proofs.SumLemmas.{sum_below-same}
+
+-- ---- the session
+
+abbrev sample_in : PlaneOf → Field ℕ
+sample_in p x y = slice_index p.samples (y * p.width + x)
+
+-- what tells the same as a trial's session is a trial's session
+pub trial_again : (seed w h side : ℕ) (rule : RuleKind) (s t : Session) → TellsSame s t → IsTrial seed w h side rule t → IsTrial seed w h side rule s
+trial_again seed w h side rule s t same is = record {
+  size = (ap (λ (p : PlaneOf). p.width) same.text.phase ∙ is.size.0, ap (λ (p : PlaneOf). p.height) same.text.phase ∙ is.size.1);
+  phases = λ x y l m. ap (λ (p : PlaneOf). sample_in p x y) same.text.phase ∙ is.phases x y l m;
+  greatest_weight = ap (λ (p : PlaneOf). p.maxval) same.text.weights ∙ is.greatest_weight;
+  weights = λ x y l m. ap (λ (p : PlaneOf). sample_in p x y) same.text.weights ∙ is.weights x y l m;
+  mask = same_mask s.first_mask t.first_mask w h (λ x y. is_open (state_at seed w x y)) (rw (is.size.0, is.size.1) at same.text.mask) is.mask;
+  tiles = same.side ∙ is.tiles;
+  rule = same.rule ∙ is.rule;
+  scripts = same.text.scripts ∙ is.scripts;
+}
+
+one_script : (scripts : List Script) → AreTrialScripts scripts → (script : Script) × ((scripts ≡ script ∷ []) × (script.commands.items ≡ Settle ∷ Show ∷ []))
+one_script [] e = absurd (cc)
+one_script (script ∷ []) e = (script, (refl, (cc)))
+one_script (script ∷ other ∷ rest) e = absurd (cc)
+
+settles_first : last_settled (Settle ∷ Show ∷ []) ≡ Some 0
+unfolding settled_revisions
+settles_first = refl
+
+-- its first mask is published
+pub first_published : (s : Session) (H : List Entry) → AreTrialScripts s.scripts.items → IsLegal s H → IsComplete s H → newest_of H ≡ Some 0
+first_published s H scripts legal complete =
+    let one = one_script s.scripts.items scripts in
+    newest_settled s one.0 one.1.0 H legal complete ∙ ap last_settled one.1.1 ∙ settles_first
+
+-- ---- what is written
+
+pub trial_text : (seed w h side : ℕ) (rule : RuleKind) (s : Session) (pixels residues unmasked cost : ℕ) → IsTrial seed w h side rule s → pixels ≡ s.scene.phase.width * s.scene.phase.height → residues ≡ residues_of (raster_of s.scene) → unmasked ≡ open_pixels_of s → IsLeastCost (raster_of s.scene) (open_at s.first_mask) cost → IsTrialText seed w h side rule (four_lines pixels residues unmasked cost)
+trial_text seed w h side rule s pixels residues unmasked cost made p r u least = record {
+  session = s;
+  made = made;
+  lines = record {
+    cost = cost;
+    least = least;
+    spelled = ap₂ (λ (m n : ℕ). four_lines m n unmasked cost) p r ∙ ap (λ (n : ℕ). four_lines (s.scene.phase.width * s.scene.phase.height) (residues_of (raster_of s.scene)) n cost) u;
+  };
+}
+
+-- no session was made: the raster breaks a limit, or there was no memory
+pub unmade_cause : (seed w h side : ℕ) (rule : RuleKind) (held : Option (List ℕ)) (count : ℕ) (fault : TrialFault) → (fault ≡ trial_faults.Size → is_raster_size w h ≡ false) → HasTrialCause seed w h side rule held held count count (refusal_of_trial fault)
+unmade_cause seed w h side rule held count trial_faults.Size small = (small refl, refl)
+unmade_cause seed w h side rule held count trial_faults.Memory small = refl
+
+-- ---- two sessions of the same words
+
+-- the samples of a plane by its pixels
+module _ (p q : Plane) (w h : ℕ) (f : Field ℕ) (sizes : (p.width ≡ w) × ((p.height ≡ h) × ((q.width ≡ w) × (q.height ≡ h)))) (here : (x y : ℕ) → x < w → y < h → sample_at p x y ≡ f x y) (there : (x y : ℕ) → x < w → y < h → sample_at q x y ≡ f x y) where
+  counts : (length p.samples.items ≡ w * h) × (length q.samples.items ≡ w * h)
+  counts = (
+    sym p.samples.ok.0 ∙ p.full ∙ ap₂ ◌*◌ sizes.0 sizes.1.0,
+    sym q.samples.ok.0 ∙ q.full ∙ ap₂ ◌*◌ sizes.1.1.0 sizes.1.1.1,
+  )
+
+  at_pixel : (k : ℕ) → k < w * h → slice_index p.samples.items k ≡ slice_index q.samples.items k
+  at_pixel k l =
+      let wide : 0 < w = omega (arith, p.wide, sizes.0) in
+      let x : k % w < w = mod_below k w wide in
+      let m : k < h * w = grind arith in
+      let y : k / w < h = div_below k w h wide m in
+      let place : k / w * w + k % w ≡ k = div-add-mod' k w in
+      let one : slice_index p.samples.items (k / w * w + k % w) ≡ f (k % w) (k / w) = ap (λ (n : ℕ). slice_index p.samples.items (k / w * n + k % w)) (sym sizes.0) ∙ here (k % w) (k / w) x y in
+      let other : slice_index q.samples.items (k / w * w + k % w) ≡ f (k % w) (k / w) = ap (λ (n : ℕ). slice_index q.samples.items (k / w * n + k % w)) (sym sizes.1.1.0) ∙ there (k % w) (k / w) x y in
+      ap (slice_index p.samples.items) (sym place) ∙ one ∙ sym other ∙ ap (slice_index q.samples.items) place
+
+  same_samples : p.samples.items ≡ q.samples.items
+  same_samples = same_number_lists p.samples.items q.samples.items (counts.0 ∙ sym counts.1) (λ k l. at_pixel k (rw counts.0 at l))
+
+  same_plane : p.maxval ≡ q.maxval → IsSamePlane p q
+  same_plane e = record { width = sizes.0 ∙ sym sizes.1.1.0; height = sizes.1.0 ∙ sym sizes.1.1.1; maxval = e; samples = same_samples }
+
+module _ (seed w h side : ℕ) (rule : RuleKind) (s t : Session) (one : IsTrial seed w h side rule s) (other : IsTrial seed w h side rule t) where
+  unmasked : (x y : ℕ) → x < w → y < h → open_at s.first_mask x y ≡ open_at t.first_mask x y
+  unmasked x y l m = one.mask.clear_at x y l m ∙ sym (other.mask.clear_at x y l m)
+
+  same_input : IsSameInput s t
+  same_input = record {
+    phase = same_plane s.scene.phase t.scene.phase w h _ (one.size.0, (one.size.1, (other.size.0, other.size.1))) one.phases other.phases (s.scene.cycle ∙ sym t.scene.cycle);
+    weights = same_plane s.scene.weights t.scene.weights w h _
+        (s.scene.same_width.0 ∙ one.size.0, (s.scene.same_height.0 ∙ one.size.1, (t.scene.same_width.0 ∙ other.size.0, t.scene.same_height.0 ∙ other.size.1)))
+        one.weights other.weights (one.greatest_weight ∙ sym other.greatest_weight);
+    rule = one.rule ∙ sym other.rule;
+    side = one.tiles ∙ sym other.tiles;
+    commands = one.scripts ∙ sym other.scripts;
+    unmasked = λ x y l m. unmasked x y (rw one.size.0 at l) (rw one.size.1 at m);
+  }
+
+  same_raster : raster_of s.scene ≡ raster_of t.scene
+  same_raster = (are_alike s t same_input []).raster
+
+-- ---- their numbers
+
+count_same : (n : ℕ) (f g : ℕ → ℕ) → ((k : ℕ) → k < n → f k ≡ g k) → count_below n f ≡ count_below n g
+unfolding count_below
+count_same zero f g same = refl
+count_same (suc n) f g same = ap₂ ◌+◌ (count_same n f g (λ k l. same k (omega (arith, l)))) (same n (omega arith))
+
+grid_same : (w h : ℕ) (m n : Field Bool) → ((x y : ℕ) → x < w → y < h → m x y ≡ n x y) → count_grid w h m ≡ count_grid w h n
+grid_same w h m n same = count_same h (count_row w m) (count_row w n) (λ y b. count_same w (λ x. one_if (m x y)) (λ x. one_if (n x y)) (λ x a. ap one_if (same x y a b)))
+
+module _ (r : Raster) (m n : Field Bool) (same : (x y : ℕ) → x < r.width → y < r.height → m x y ≡ n x y) where
+  congruent_too : (S : Field ℤ) → IsCongruent r m S → IsCongruent r n S
+  congruent_too S congruent x y a b clear = congruent x y a b (same x y a b ∙ clear)
+
+  congruent_back : (S : Field ℤ) → IsCongruent r n S → IsCongruent r m S
+  congruent_back S congruent x y a b clear = congruent x y a b (sym (same x y a b) ∙ clear)
+
+  same_cost : (S : Field ℤ) (t : ℕ) → tile_cost r m t S ≡ tile_cost r n t S
+  same_cost S t = same_tile_cost r m n same S S (λ x y l k o. refl) t
+
+  least_too : (S : Field ℤ) → IsLeastInTiles r m S → IsLeastInTiles r n S
+  least_too S least = record {
+    congruent = congruent_too S least.congruent;
+    least = λ t l other congruent. subst (λ (z : ℤ). z ≤ℤ tile_cost r n t other) (same_cost S t) (subst (λ (z : ℤ). tile_cost r m t S ≤ℤ z) (same_cost other t) (least.least t l other (congruent_back other congruent)));
+  }
+
+  one_cost : (a b : ℕ) → IsLeastCost r m a → IsLeastCost r n b → a ≡ b
+  one_cost a b here there =
+      let S = here.surface in
+      let e : tiles_cost r m S ≡ tiles_cost r n S = sum_below-same r.tile_count (λ t. tile_cost r m t S) (λ t. tile_cost r n t S) (λ t l. same_cost S t) in
+      number (sym (here.of_each S here.is_least) ∙ e ∙ there.of_each S (least_too S here.is_least))
+    where
+      number : pos a ≡ pos b → a ≡ b
+      number e = cc
+
+pub trials_have_one_text : TrialsHaveOneText
+trials_have_one_text seed w h side rule text another a b =
+    let s = a.session in
+    let t = b.session in
+    let raster = same_raster seed w h side rule s t a.made b.made in
+    let sizes : (s.scene.phase.width ≡ t.scene.phase.width) × (s.scene.phase.height ≡ t.scene.phase.height) = (a.made.size.0 ∙ sym b.made.size.0, a.made.size.1 ∙ sym b.made.size.1) in
+    let clear : (x y : ℕ) → x < s.scene.phase.width → y < s.scene.phase.height → open_at s.first_mask x y ≡ open_at t.first_mask x y = λ x y l m. unmasked seed w h side rule s t a.made b.made x y (rw a.made.size.0 at l) (rw a.made.size.1 at m) in
+    let pixels : s.scene.phase.width * s.scene.phase.height ≡ t.scene.phase.width * t.scene.phase.height = ap₂ ◌*◌ sizes.0 sizes.1 in
+    let residues : residues_of (raster_of s.scene) ≡ residues_of (raster_of t.scene) = ap residues_of raster in
+    let unmasked : open_pixels_of s ≡ open_pixels_of t = grid_same s.scene.phase.width s.scene.phase.height (open_at s.first_mask) (open_at t.first_mask) clear ∙ ap₂ (λ (width height : ℕ). count_grid width height (open_at t.first_mask)) sizes.0 sizes.1 in
+    let cost : a.lines.cost ≡ b.lines.cost = one_cost (raster_of s.scene) (open_at s.first_mask) (open_at t.first_mask) clear a.lines.cost b.lines.cost a.lines.least (subst (λ (r : Raster). IsLeastCost r (open_at t.first_mask) b.lines.cost) (sym raster) b.lines.least) in
+    a.lines.spelled ∙ ap₂ (λ (p q : ℕ). four_lines p q (open_pixels_of s) a.lines.cost) pixels residues ∙ ap₂ (four_lines (t.scene.phase.width * t.scene.phase.height) (residues_of (raster_of t.scene))) unmasked cost ∙ sym b.lines.spelled

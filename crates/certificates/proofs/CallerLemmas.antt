@@ -13,7 +13,6 @@ use Rattle.raster_model.proofs.SumLemmas.{sum_edges-same}
 use Rattle.raster_model.proofs.TileEdges.{ends_within}
 use Rattle.raster_model.proofs.TileLemmas.{window_of-pixels}
 use Rattle.certificates.specs.declared.results.TileResult.{TileResult}
-use Rattle.certificates.specs.TileSets.{IsCopy}
 use Rattle.certificates.specs.Results.{IsGoodTile, window_in, result_surface}
 use Rattle.std.proofs.lemmas.Bool.{and_from}
 use Rattle.sums_and_lists.proofs.SumLemmas.{where_true-same}
@@ -61,11 +60,3 @@ good_under s mask mask' k l same g = record {
   where
     at : (e : Edge) → IsWithin (window_in s k) e.x e.y × IsWithin (window_in s k) (end_x e) (end_y e) → IsSameAt (raster_of s) mask mask' (result_surface s k) (result_surface s k) e
     at e w = record { ends = ap₂ ◌&&◌ (same e.x e.y w.0) (same (end_x e) (end_y e) w.1); departs = λ o. refl }
-
--- a copy of a good result is good
-pub good_copy : (s : Scene) (mask : Field Bool) (k copy : TileResult) → IsCopy k copy → IsGoodTile s mask k → IsGoodTile s mask copy
-good_copy s mask k copy c g = record {
-  shape = rw (c.tile, c.cycles, c.faces) g.shape;
-  in_range = rw (c.tile, c.cycles) g.in_range;
-  certified = rw (c.tile, c.cycles, c.faces) g.certified;
-}

@@ -15,4 +15,3 @@ pub mod EndLemmas
 pub mod SeamCosts
 pub mod SeamVerdictLemmas
 pub mod UniqueSeams
-pub mod CopyLemmas

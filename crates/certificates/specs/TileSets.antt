@@ -1,5 +1,8 @@
 -- A result for each tile.
-use Rattle.std.specs.Prelude.{◌≡◌, ℕ, ℤ, pos, List, length, slice_get, Option, Some, None}
+use Rattle.std.specs.Prelude.{◌≡◌, ℕ, ℤ, pos, List, length, map, slice_get, Option, Some, None}
+use Rattle.std.specs.Arc.{arc_value}
+use Rattle.std.specs.declared.alloc.Global.{Global}
+use Rattle.std.specs.declared.sync.Arc.{Arc}
 use Rattle.raster_model.specs.declared.scene.Scene.{Scene}
 use Rattle.raster_model.specs.declared.tiling.Tiling.{Tiling}
 use Rattle.raster_model.specs.Sums.{Field}
@@ -11,6 +14,10 @@ use Rattle.certificates.specs.Results.{cycles_in, window_in}
 pub record TileSetView : Type 0 where
   pub tiling : Tiling
   pub results : List TileResult
+
+-- the results that are shared
+abbrev pub shared_results : List (Arc TileResult Global) → List TileResult
+shared_results results = map arc_value results
 
 -- there is one result for each tile, at the tile's number
 pub record HasOneForEach (g : Tiling) (results : List TileResult) : Type 0 where
@@ -24,14 +31,3 @@ cycles_of s None x y = pos 0
 
 unfoldable pub solved_cycles : Scene → List TileResult → Field ℤ
 solved_cycles s results x y = cycles_of s (slice_get results (tile_at s.tiling x y)) x y
-
--- two results say the same; a list has one for each result of another that says the same
-pub record IsCopy (k copy : TileResult) : Type 0 where
-  pub tile : copy.tile ≡ k.tile
-  pub stamp : copy.stamp ≡ k.stamp
-  pub cycles : copy.cycles.items ≡ k.cycles.items
-  pub faces : copy.faces.items ≡ k.faces.items
-
-pub record AreCopies (results copies : List TileResult) : Type 0 where
-  pub count : length copies ≡ length results
-  pub each : (t : ℕ) (k copy : TileResult) → slice_get results t ≡ Some k → slice_get copies t ≡ Some copy → IsCopy k copy

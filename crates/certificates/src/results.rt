@@ -1,5 +1,3 @@
-use std::alloc::{AllocError, Global};
-
 /// A solved tile.
 #[derive(Drop)]
 pub struct TileResult {
@@ -11,27 +9,6 @@ pub struct TileResult {
     pub cycles: Vec<i32>,
     /// The faces of the tile's cells in row order: the numbers that certify the cycles. (Costantini 1998.)
     pub faces: Vec<i64>,
-}
-
-impl TileResult {
-    ghost use Rattle.certificates.specs.TileSets.{IsCopy};
-    ghost use Rattle.std.specs.Prelude.{IfOk};
-
-    /// A copy of its own.
-    pub fn try_copy(&self, alloc: Global) -> Result<TileResult, AllocError>
-        ensures { IfOk result (IsCopy self.now) }
-    {
-        let mut cycles = Vec::with_capacity(alloc, self.cycles.len())?;
-        cycles.extend_from_slice(&self.cycles)?;
-        let mut faces = Vec::with_capacity(alloc, self.faces.len())?;
-        faces.extend_from_slice(&self.faces)?;
-        Ok(TileResult {
-            tile: self.tile,
-            stamp: self.stamp,
-            cycles,
-            faces,
-        })
-    }
 }
 
 /// Offsets of a revision's regions, with the flows that certify them.

@@ -1,35 +1,39 @@
+ghost use Rattle.certificates.specs.TileSets.{shared_results};
+ghost use Rattle.std.specs.Prelude.{◌≡◌, IfOk};
+
 use crate::results::TileResult;
 use raster_model::Tiling;
 use std::alloc::{AllocError, Global};
 use std::marker::Model;
+use std::sync::Arc;
 
-/// A result for each tile of a raster.
+/// A result for each tile of a raster, which it shares with whoever else holds it.
 #[derive(Drop)]
 pub struct TileSet {
     tiling: Tiling,
-    results: Vec<TileResult>,
+    results: Vec<Arc<TileResult>>,
 }
 
 impl Model for TileSet {
-    ghost use Rattle.certificates.specs.TileSets.{HasOneForEach, TileSetView};
+    ghost use Rattle.certificates.specs.TileSets.{HasOneForEach, TileSetView, shared_results};
 
     ghost Value = { TileSetView };
 
-    ghost view = { λ s. record { tiling = s.tiling; results = s.results.items } };
+    ghost view = { λ s. record { tiling = s.tiling; results = shared_results s.results.items } };
 
-    ghost invariant = { λ s. HasOneForEach s.tiling s.results.items };
+    ghost invariant = { λ s. HasOneForEach s.tiling (shared_results s.results.items) };
 }
 
 impl TileSet {
-    ghost use Rattle.certificates.specs.TileSets.{AreCopies, HasOneForEach};
+    ghost use Rattle.certificates.specs.TileSets.{HasOneForEach, shared_results};
     ghost use Rattle.raster_model.specs.Tiles.{tiles_of};
     ghost use Rattle.std.specs.Prelude.{◌≡◌, ◌<◌, IfOk, Some, slice_get};
 
     /// The results of the tiling's tiles, in the order of their numbers.
-    pub fn new(tiling: &Tiling, results: Vec<TileResult>) -> TileSet
-        requires { HasOneForEach tiling.now results.items }
+    pub fn of_shared(tiling: &Tiling, results: Vec<Arc<TileResult>>) -> TileSet
+        requires { HasOneForEach tiling.now (shared_results results.items) }
         ensures tiling { result.tiling ≡ tiling.now }
-        ensures results { result.results ≡ results.items }
+        ensures results { result.results ≡ shared_results results.items }
     {
         TileSet {
             tiling: *tiling,
@@ -46,18 +50,27 @@ impl TileSet {
         &self.results[tile as usize]
     }
 
-    /// A copy of its own.
+    /// A set of the same results, which both share.
     pub fn try_copy(&self, alloc: Global) -> Result<TileSet, AllocError>
-        ensures tiling { IfOk result (λ copy. copy.tiling ≡ self.now.tiling) }
-        ensures results { IfOk result (λ copy. AreCopies self.now.results copy.results) }
+        ensures { IfOk result (λ copy. copy ≡ self.now) }
     {
-        let mut results = Vec::with_capacity(alloc, self.results.len())?;
-        for result in &self.results {
-            results.push(result.try_copy(alloc)?)?;
-        }
         Ok(TileSet {
             tiling: self.tiling,
-            results,
+            results: shared_again(alloc, &self.results)?,
         })
     }
+}
+
+/// The same results, shared once more.
+fn shared_again(
+    alloc: Global,
+    results: &[Arc<TileResult>],
+) -> Result<Vec<Arc<TileResult>>, AllocError>
+    ensures { IfOk result (λ shared. shared_results shared.items ≡ shared_results results.now) }
+{
+    let mut shared = Vec::with_capacity(alloc, results.len())?;
+    for result in results {
+        shared.push(result.clone()?)?;
+    }
+    Ok(shared)
 }

@@ -1,18 +1,14 @@
 -- What is certified over the gathered mask and results is certified over all that a board would publish with them.
-use Rattle.std.proofs.Common.{◌≡◌, ◌∙◌, ℕ, ◌<◌, refl, sym, ap, subst, arith, List, length, Some, inl, inr}
-use Rattle.std.specs.Prelude.{Option, slice_get}
+use Rattle.std.proofs.Common.{◌≡◌, ◌∙◌, ℕ, ◌<◌, refl, sym, ap, subst, List, [], ◌∷◌, Some}
+use Rattle.std.specs.Prelude.{map}
 use Rattle.std.specs.Arc.{arc_value}
-use Rattle.std.proofs.lemmas.Option.{slice_get_cases}
-use Rattle.raster_model.specs.declared.scene.Scene.{Scene}
 use Rattle.raster_model.specs.declared.session.Session.{Session}
 use Rattle.raster_model.specs.MaskView.{MaskView}
 use Rattle.raster_model.specs.Masks.{open_at}
-use Rattle.raster_model.specs.Tiles.{tile_at}
-use Rattle.raster_model.proofs.TileLemmas.{tiles_are_numbered}
 use Rattle.certificates.specs.declared.results.SeamResult.{SeamResult}
 use Rattle.certificates.specs.declared.results.TileResult.{TileResult}
 use Rattle.certificates.specs.declared.verdicts.SeamVerdict.TheVariants.{Good}
-use Rattle.certificates.specs.TileSets.{IsCopy, TileSetView, cycles_of, solved_cycles}
+use Rattle.certificates.specs.TileSets.{TileSetView, solved_cycles}
 use Rattle.seam_regions.specs.Regions.{AreRegionsOf}
 use Rattle.seam_regions.specs.RegionsView.{RegionsView}
 use Rattle.offset_network.specs.Surfaces.{IsGoodSeams}
@@ -24,36 +20,16 @@ use Rattle.tile_board.specs.Calls.{AreKeptResults, IsMaskNow}
 use Rattle.collector_core.specs.Collecting.{WillPublish, CertifyGathered}
 use Rattle.collector_core.proofs.JoinLemmas.{is_certified}
 use Rattle.collector_core.proofs.SurfaceLemmas.{verdict_too}
-use Rattle.sums_and_lists.proofs.Lists.{some_at}
 
--- two copies of one result have the same cycles
-same_cycles : (s : Scene) (k a b : TileResult) → IsCopy k a → IsCopy k b → (x y : ℕ) → cycles_of s (Some a) x y ≡ cycles_of s (Some b) x y
-same_cycles s k a b ca cb x y = rw (ca.tile, ca.cycles, cb.tile, cb.cycles) refl
+-- two sets of a board's results are one
+same_lists : {A : Type 0} (xs ys : List A) → map Some xs ≡ map Some ys → xs ≡ ys
+same_lists [] [] e = refl
+same_lists [] (y ∷ ys) e = absurd (cc)
+same_lists (x ∷ xs) [] e = absurd (cc)
+same_lists (x ∷ xs) (y ∷ ys) e = (let tails : map Some xs ≡ map Some ys = cc in let heads : x ≡ y = cc in rw (heads, same_lists xs ys tails) refl)
 
-one_kept : (kept : List (Option TileResult)) (t : ℕ) (j k : TileResult) → slice_get kept t ≡ Some (Some j) → slice_get kept t ≡ Some (Some k) → j ≡ k
-one_kept kept t j k p q = cc
-
--- two sets of copies of a board's results have the same cycles at each pixel
-module _ (v : BoardView) (ks ls : TileSetView) (are : AreKeptResults v ks) (also : AreKeptResults v ls) where
-  same_there : (t : ℕ) (a b : TileResult) → slice_get ks.results t ≡ Some a → slice_get ls.results t ≡ Some b → (x y : ℕ) → cycles_of v.session.scene (Some a) x y ≡ cycles_of v.session.scene (Some b) x y
-  same_there t a b p q x y =
-      let i = are.each t a p in
-      let j = also.each t b q in
-      same_cycles v.session.scene i.0 a b i.2 (subst (λ (k : TileResult). IsCopy k b) (one_kept v.kept t j.0 i.0 j.1 i.1) j.2) x y
-
-  pub solved_same : (x y : ℕ) → x < v.session.scene.phase.width → y < v.session.scene.phase.height → solved_cycles v.session.scene ks.results x y ≡ solved_cycles v.session.scene ls.results x y
-  unfolding solved_cycles
-  solved_same x y l h =
-      let g = v.session.scene.tiling in
-      let t = tile_at g x y in
-      let across : x < g.width = omega (arith, l, v.session.scene.same_width) in
-      let along : y < g.height = omega (arith, h, v.session.scene.same_height) in
-      let below = tiles_are_numbered g x y across along in
-      let a = some_at ks.results t (omega (arith, below, are.count)) in
-      let b = some_at ls.results t (omega (arith, below, also.count)) in
-      ap (λ (o : Option TileResult). cycles_of v.session.scene o x y) a.1
-      ∙ same_there t a.0 b.0 a.1 b.1 x y
-      ∙ ap (λ (o : Option TileResult). cycles_of v.session.scene o x y) (sym b.1)
+pub solved_same : (v : BoardView) (ks ls : TileSetView) → AreKeptResults v ks → AreKeptResults v ls → (x y : ℕ) → solved_cycles v.session.scene ks.results x y ≡ solved_cycles v.session.scene ls.results x y
+solved_same v ks ls are also x y = ap (λ (results : List TileResult). solved_cycles v.session.scene results x y) (same_lists ks.results ls.results (are.results ∙ sym also.results))
 
 -- two masks that are a board's present one
 masks_agree : (v : BoardView) (m n : MaskView) → IsMaskNow v m → IsMaskNow v n → (x y : ℕ) → x < v.session.scene.phase.width → y < v.session.scene.phase.height → open_at m x y ≡ open_at n x y
@@ -78,4 +54,4 @@ module _ (g : Gathered) (regions : RegionsView) (seams : SeamResult) (are : AreR
       parts_are v.session p.session p.mask p.regions p.tiles seams p.seams parts.session parts.seams
       (verdict_too v.session g.mask p.mask regions p.regions g.tiles p.tiles seams
       (masks_agree v g.mask p.mask gathering.mask parts.mask) are_here parts.regions
-      (solved_same v g.tiles p.tiles gathering.tiles parts.tiles) here)
+      (λ x y l h. solved_same v g.tiles p.tiles gathering.tiles parts.tiles x y) here)

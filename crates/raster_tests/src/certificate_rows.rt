@@ -3,6 +3,7 @@ ghost use Rattle.std.specs.Prelude.{pos, true};
 use certificates::{TileSet, TileVerdict, check_faces, check_tile};
 use raster_model::{Edge, Heights, Mask, Tiling};
 use std::alloc::{AllocError, Global};
+use std::sync::Arc;
 use std::test::Fail;
 use worked_scenes::{SceneFault, masked, scene, tile_result};
 
@@ -100,7 +101,8 @@ fn a_tile_without_cells_needs_no_faces(rt: HostRuntime) -> Result<(), Fail> {
 fn copied(alloc: Global) -> Result<String, AllocError> {
     let tiling = Tiling::new(2, 2, 128);
     let result = tile_result(alloc, 0, 1, &[0, 0, -1, 0], &[3])?;
-    let set = TileSet::new(&tiling, vec![in alloc; result]?);
+    let result = Arc::new(alloc, result)?;
+    let set = TileSet::of_shared(&tiling, vec![in alloc; result]?);
     let copies = set.try_copy(alloc)?;
     let copy = copies.tile(0);
     format!(in alloc; "{} {:?} {:?}", copy.stamp, copy.cycles, copy.faces)

@@ -53,8 +53,8 @@ fn pair(
     ensures tiling { IfOk result (λ made. made.tiling ≡ scene.now.tiling) }
     ensures good { IfOk result (λ made. AreGoodTiles scene.now (open_at mask.now) made.results) }
 {
-    let results = vec![in alloc; first, second]?;
-    Ok(TileSet::new(&scene.tiling, results))
+    let results = vec![in alloc; Arc::new(alloc, first)?, Arc::new(alloc, second)?]?;
+    Ok(TileSet::of_shared(&scene.tiling, results))
 }
 
 /// A session with no command.

@@ -92,6 +92,17 @@ joined ps root a b one other l m ea eb ra rb is =
           ]),
     ))
 
+-- numbers with one root are in one tree already
+same_root : (u v r : ℕ) → u ≡ v → (if r == max u v then min u v else r) ≡ r
+same_root u v r e = grind (arith, nat_tests)
+
+pub joined_already : (ps : List ℕ) (root : ℕ → ℕ) (a b : ℕ) → root a ≡ root b → IsForest ps root → IsForest ps (root_with root a b)
+joined_already ps root a b e is = record {
+  below = is.below;
+  leads = λ i l. root_with-same root a b (slice_index ps i) i (is.leads i l);
+  ends = λ i l f. same_root (root a) (root b) (root i) e ∙ is.ends i l f;
+}
+
 -- ---- what roots keep when two trees become one
 with_least : (u v r i : ℕ) → r ≤ i → (if r == max u v then min u v else r) ≤ i
 with_least u v r i l = grind (arith, nat_tests)

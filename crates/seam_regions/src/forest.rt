@@ -24,6 +24,10 @@ pub fn join(parents: &mut [u32], first: u32, second: u32)
     requires forest { (root : ℕ → ℕ) × IsForest parents.old root }
     ensures { (root : ℕ → ℕ) → IsForest parents.old root → IsForest parents.new (root_with root first second) }
 {
+    // Most pixels that are joined have one parent already.
+    if parents[first as usize] == parents[second as usize] {
+        return;
+    }
     let one = root_of(parents, first);
     let other = root_of(parents, second);
     parents[one.max(other) as usize] = one.min(other);

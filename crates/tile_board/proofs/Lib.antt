@@ -1,6 +1,7 @@
 pub mod ListLemmas
 pub mod HistoryLemmas
 pub mod PlaceLemmas
+pub mod SharedLemmas
 pub mod StateLemmas
 pub mod HeldLemmas
 pub mod VerdictLemmas

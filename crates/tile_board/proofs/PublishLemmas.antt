@@ -8,7 +8,6 @@ use Rattle.raster_model.specs.Tiles.{tiles_of}
 use Rattle.certificates.specs.declared.results.SeamResult.{SeamResult}
 use Rattle.certificates.specs.declared.results.TileResult.{TileResult}
 use Rattle.certificates.specs.declared.verdicts.SeamVerdict.TheVariants.{Good}
-use Rattle.certificates.proofs.CallerLemmas.{good_copy}
 use Rattle.mask_revisions.specs.RevisionsView.{RevisionsView}
 use Rattle.seam_regions.specs.Regions.{AreRegionsOf}
 use Rattle.seam_regions.specs.RegionsView.{RegionsView as RegionsOf}
@@ -26,8 +25,7 @@ use Rattle.tile_board.specs.Calls.{ArePublishable, HasPublishFault, IsFresh, IsG
 use Rattle.tile_board.specs.Causes.{building_cause}
 use Rattle.tile_board.specs.Histories.{AreAllKept, mask_in, now_of, present_mask}
 use Rattle.tile_board.specs.States.{HasSurfaceFault, IsState, view_of}
-use Rattle.tile_board.proofs.KeptLemmas.{good_across}
-use Rattle.tile_board.proofs.ListLemmas.{get_below}
+use Rattle.tile_board.proofs.StateFacts.{kept_good}
 
 pub gathered_parts : (v : BoardView) (g : Gathered) (regions : RegionsOf) (seams : SeamResult) → IsGathering v g → AreRegionsOf (arc_value g.session).scene.tiling g.mask regions → ArePublishable v seams (parts_from (arc_value g.session) g.mask regions g.tiles seams)
 gathered_parts v g regions seams is are = record {
@@ -44,17 +42,7 @@ built_cause v seams p Memory ready are is = ready
 
 module _ {s : Session} {H : List Entry} {kept : List (Option TileResult)} {surfaces : List Parts} {held : RevisionsView} {tallies marks : List ℕ} {last : Option ℕ} (state : IsState (view_of s H kept surfaces) held tallies marks last) (seams : SeamResult) (p : Parts) (are : ArePublishable (view_of s H kept surfaces) seams p) where
   good_parts : AreGoodTiles s.scene (open_in p) p.tiles.results
-  good_parts = record {
-    each = record {
-      count = are.tiles.count;
-      own = λ t copy q. (let k = are.tiles.each t copy q in k.2.tile ∙ (state.board.kept.each t (Some k.0) k.1).tile);
-    };
-    good = λ t copy q. (
-        let k = are.tiles.each t copy q in
-        let is = state.board.kept.each t (Some k.0) k.1 in
-        let l : k.0.tile < tiles_of s.scene.tiling = omega (arith, is.tile, get_below kept t (Some k.0) k.1, state.board.kept.count) in
-        good_copy s.scene (open_in p) k.0 copy k.2 (good_across s (present_mask s H) (open_in p) k.0 l (λ x y a b e. sym (are.mask.clear_at x y (rw (sym s.scene.same_width.1) a) (rw (sym s.scene.same_height.1) b))) is.good));
-  }
+  good_parts = kept_good state (open_in p) (λ x y a b. are.mask.clear_at x y (rw (sym s.scene.same_width.1) a) (rw (sym s.scene.same_height.1) b)) p.tiles.results are.tiles.results
 
   pub surface_is : seams.revision ≡ now_of H → IsPublished p → IsVerdict p Good → IsSurfaceOf s H p
   surface_is present published verdict =

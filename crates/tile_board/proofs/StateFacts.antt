@@ -1,25 +1,25 @@
 -- What is held by a board tells of its history.
-use Rattle.std.proofs.Common.{◌≡◌, ℕ, ◌<◌, sym, ◌∙◌, refl, arith, Bool, true, false, List, get_or, length}
-use Rattle.std.specs.Prelude.{Option, Some, None, IsTrue, IsFalse, is_some, slice_get}
-use Rattle.std.proofs.lemmas.Option.{slice_get_read}
+use Rattle.std.proofs.Common.{◌≡◌, ℕ, ◌<◌, sym, ◌∙◌, ap, arith, Bool, List, length}
+use Rattle.std.specs.Prelude.{Option, Some, None, IsTrue, IsFalse, map, option_map, slice_get}
+use Rattle.std.proofs.lemmas.List.{length-map}
+use Rattle.std.proofs.lemmas.Option.{slice_get-map}
 use Rattle.raster_model.specs.declared.session.Session.{Session}
 use Rattle.raster_model.specs.Masks.{open_at}
+use Rattle.raster_model.specs.Sums.{Field}
 use Rattle.raster_model.specs.Tiles.{tiles_of, window_of}
 use Rattle.certificates.specs.declared.results.TileResult.{TileResult}
 use Rattle.certificates.specs.declared.verdicts.TileVerdict.{TileVerdict}
 use Rattle.certificates.specs.Verdicts.{IsTileVerdict}
 use Rattle.certificates.specs.Results.{IsGoodTile}
-use Rattle.certificates.proofs.CallerLemmas.{good_copy}
 use Rattle.mask_revisions.specs.Revisions.{IsWindowMask}
 use Rattle.mask_revisions.specs.RevisionsView.{RevisionsView}
 use Rattle.surface_snapshots.specs.Parts.{AreGoodTiles, Parts}
 use Rattle.tile_board.specs.declared.entry.Entry.{Entry}
 use Rattle.tile_board.specs.Histories.{AreAllKept, IsLeastLacking, is_kept, present_mask}
-use Rattle.tile_board.specs.States.{CopiesResults, HasResult, HaveResults, IsFirstGap, IsGap, IsState, view_of}
+use Rattle.tile_board.specs.States.{HasResult, HaveResults, IsFirstGap, IsGap, IsState, view_of}
 use Rattle.tile_board.proofs.HeldLemmas.{mask_here}
 use Rattle.tile_board.proofs.KeptLemmas.{good_across, within_tile}
 use Rattle.tile_board.proofs.ListLemmas.{get_below}
-use Rattle.tile_board.proofs.PlaceLemmas.{gap_at, result_at}
 use Rattle.tile_board.proofs.VerdictLemmas.{verdict_under}
 
 module _ {s : Session} {H : List Entry} {kept : List (Option TileResult)} {surfaces : List Parts} {held : RevisionsView} {tallies marks : List ℕ} {last : Option ℕ} (state : IsState (view_of s H kept surfaces) held tallies marks last) where
@@ -44,29 +44,21 @@ module _ {s : Session} {H : List Entry} {kept : List (Option TileResult)} {surfa
     clear = λ x y w. (let p = within_tile s t l x y w in is.clear x y w ∙ mask_here state.past x y p.0 p.1);
   }
 
-  -- copies of the kept results are good under the mask that is held
-  pub copies_good : (copies : List TileResult) → CopiesResults kept copies → AreGoodTiles s.scene (open_at held.mask) copies
-  copies_good copies are = record {
+  -- the kept results are good under a mask that agrees with the present one
+  pub kept_good : (mask : Field Bool) → ((x y : ℕ) → x < s.scene.tiling.width → y < s.scene.tiling.height → mask x y ≡ present_mask s H x y) → (results : List TileResult) → map Some results ≡ kept → AreGoodTiles s.scene mask results
+  kept_good mask agrees results are = record {
     each = record {
-      count = are.count ∙ state.board.kept.count;
-      own = λ t copy q. (let k = are.each t copy q in k.2.tile ∙ (state.board.kept.each t (Some k.0) k.1).tile);
+      count = sym (length-map results Some) ∙ ap (λ (ks : List (Option TileResult)). length ks) are ∙ state.board.kept.count;
+      own = λ t k q. (state.board.kept.each t (Some k) (there t k q)).tile;
     };
-    good = λ t copy q. (
-        let k = are.each t copy q in
-        let is = state.board.kept.each t (Some k.0) k.1 in
-        let l : k.0.tile < tiles_of s.scene.tiling = omega (arith, is.tile, get_below kept t (Some k.0) k.1, state.board.kept.count) in
-        good_copy s.scene (open_at held.mask) k.0 copy k.2 (good_across s (present_mask s H) (open_at held.mask) k.0 l (λ x y a b e. sym (mask_here state.past x y a b)) is.good));
+    good = λ t k q. (
+        let is = state.board.kept.each t (Some k) (there t k q) in
+        let l : k.tile < tiles_of s.scene.tiling = omega (arith, is.tile, get_below kept t (Some k) (there t k q), state.board.kept.count) in
+        good_across s (present_mask s H) mask k l (λ x y a b e. sym (agrees x y a b)) is.good);
   }
-
-  -- what is read at a tile's place tells whether the tile is kept
-  place_read : (t : ℕ) (place : Option TileResult) → t < tiles_of s.scene.tiling → place ≡ get_or kept t place → slice_get kept t ≡ Some place
-  place_read t place l e = slice_get_read kept (length kept) t place refl (omega (arith, l, state.board.kept.count)) e
-
-  pub read_kept : (t : ℕ) (place : Option TileResult) → t < tiles_of s.scene.tiling → place ≡ get_or kept t place → is_some place ≡ true → IsTrue (is_kept s H t)
-  read_kept t place l e h = held_tells t (result_at kept t place (place_read t place l e) h)
-
-  pub read_free : (t : ℕ) (place : Option TileResult) → t < tiles_of s.scene.tiling → place ≡ get_or kept t place → is_some place ≡ false → IsFalse (is_kept s H t)
-  read_free t place l e h = gap_tells t (gap_at kept t place (place_read t place l e) h)
+    where
+      there : (t : ℕ) (k : TileResult) → slice_get results t ≡ Some k → slice_get kept t ≡ Some (Some k)
+      there t k q = ap (λ (ks : List (Option TileResult)). slice_get ks t) (sym are) ∙ slice_get-map Some results t ∙ ap (option_map Some) q
 
   -- a verdict under the mask that is held is one under the present mask
   pub verdict_told : (k : TileResult) (verdict : TileVerdict) → k.tile < tiles_of s.scene.tiling → IsTileVerdict s.scene (open_at held.mask) k verdict → IsTileVerdict s.scene (present_mask s H) k verdict

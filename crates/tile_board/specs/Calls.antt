@@ -1,5 +1,5 @@
 -- What the calls of a board answer, and what they add.
-use Rattle.std.specs.Prelude.{◌≡◌, ◌≢◌, ℕ, ◌<◌, ◌≤◌, Bool, IsTrue, IsFalse, Some, None, [], ◌∷◌, ◌++◌, length, replicate, set, slice_get, if◌then◌else◌, ⊤}
+use Rattle.std.specs.Prelude.{◌≡◌, ◌≢◌, ℕ, ◌<◌, ◌≤◌, Bool, IsTrue, IsFalse, Some, None, [], ◌∷◌, ◌++◌, length, map, replicate, set, slice_get, if◌then◌else◌, ⊤}
 use Rattle.std.specs.Arc.{arc_value}
 use Rattle.raster_model.specs.declared.script.Command.TheVariants.{Settle}
 use Rattle.raster_model.specs.declared.script.Edit.{Edit}
@@ -12,7 +12,7 @@ use Rattle.certificates.specs.declared.results.TileResult.{TileResult}
 use Rattle.certificates.specs.declared.verdicts.SeamVerdict.TheVariants.{Good as GoodSeams}
 use Rattle.certificates.specs.declared.verdicts.TileVerdict.TheVariants.{Good as GoodTile}
 use Rattle.certificates.specs.Results.{IsGoodTile}
-use Rattle.certificates.specs.TileSets.{IsCopy, TileSetView}
+use Rattle.certificates.specs.TileSets.{TileSetView}
 use Rattle.certificates.specs.Verdicts.{IsTileVerdict}
 use Rattle.mask_revisions.specs.Edits.{differ_in}
 use Rattle.mask_revisions.specs.Revisions.{IsWindowMask}
@@ -95,11 +95,10 @@ HasKeepFault v k keep_faults.Memory = MayKeep v k × IsGoodTile v.session.scene 
 abbrev pub IsMaskNow : BoardView → MaskView → Type 0
 IsMaskNow v mask = IsMaskOf mask v.session.scene.phase.width v.session.scene.phase.height (mask_now v)
 
--- a set has a copy of each tile's kept result
+-- a set has each tile's kept result
 pub record AreKeptResults (v : BoardView) (tiles : TileSetView) : Type 0 where
   pub tiling : tiles.tiling ≡ v.session.scene.tiling
-  pub count : length tiles.results ≡ tiles_of v.session.scene.tiling
-  pub each : (t : ℕ) (copy : TileResult) → slice_get tiles.results t ≡ Some copy → (k : TileResult) × (slice_get v.kept t ≡ Some (Some k)) × IsCopy k copy
+  pub results : map Some tiles.results ≡ v.kept
 
 pub record IsGathering (v : BoardView) (g : Gathered) : Type 0 where
   pub session : arc_value g.session ≡ v.session

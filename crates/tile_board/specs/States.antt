@@ -1,12 +1,14 @@
 -- What a board holds beside the history, and that it is what the history says. No clause of a public function cites this file.
-use Rattle.std.specs.Prelude.{◌≡◌, ◌≢◌, ℕ, ◌+◌, ◌<◌, ◌≤◌, Option, Some, None, List, length, slice_get, slice_index, sum}
+use Rattle.std.specs.Prelude.{◌≡◌, ◌≢◌, ℕ, ◌+◌, ◌<◌, ◌≤◌, Option, Some, None, List, length, map, option_map, slice_get, slice_index, sum}
+use Rattle.std.specs.Arc.{arc_value}
+use Rattle.std.specs.declared.alloc.Global.{Global}
+use Rattle.std.specs.declared.sync.Arc.{Arc}
 use Rattle.raster_model.specs.declared.session.Session.{Session}
 use Rattle.raster_model.specs.Masks.{open_at}
 use Rattle.raster_model.specs.Tiles.{tiles_of}
 use Rattle.certificates.specs.declared.results.SeamResult.{SeamResult}
 use Rattle.certificates.specs.declared.results.TileResult.{TileResult}
 use Rattle.certificates.specs.declared.verdicts.SeamVerdict.TheVariants.{Good}
-use Rattle.certificates.specs.TileSets.{IsCopy}
 use Rattle.mask_revisions.specs.Revisions.{AreRevisionsOf}
 use Rattle.mask_revisions.specs.RevisionsView.{RevisionsView}
 use Rattle.surface_snapshots.specs.Parts.{Parts}
@@ -41,23 +43,23 @@ pub record IsState (v : BoardView) (held : RevisionsView) (tallies marks : List 
   pub past : TellsHistory v.session v.entries held marks last
   pub claims : length tallies ≡ tiles_of v.session.scene.tiling
 
+-- the results that are shared, where there are some
+abbrev pub held_results : List (Option (Arc TileResult Global)) → List (Option TileResult)
+held_results results = map (option_map arc_value) results
+
 -- a tile has a result; all tiles do; a tile is the least that has none
-abbrev pub HasResult : List (Option TileResult) → ℕ → Type 0
-HasResult kept t = (k : TileResult) × (slice_get kept t ≡ Some (Some k))
+module _ {A : Type 0} where
+  abbrev pub HasResult : List (Option A) → ℕ → Type 0
+  HasResult kept t = (k : A) × (slice_get kept t ≡ Some (Some k))
 
-abbrev pub HaveResults : List (Option TileResult) → Type 0
-HaveResults kept = (t : ℕ) → t < length kept → HasResult kept t
+  abbrev pub HaveResults : List (Option A) → Type 0
+  HaveResults kept = (t : ℕ) → t < length kept → HasResult kept t
 
-abbrev pub IsGap : List (Option TileResult) → ℕ → Type 0
-IsGap kept t = slice_get kept t ≡ Some None
+  abbrev pub IsGap : List (Option A) → ℕ → Type 0
+  IsGap kept t = slice_get kept t ≡ Some None
 
-abbrev pub IsFirstGap : List (Option TileResult) → ℕ → Type 0
-IsFirstGap kept t = IsGap kept t × ((u : ℕ) → u < t → HasResult kept u)
-
--- a list has a copy of each result
-pub record CopiesResults (kept : List (Option TileResult)) (copies : List TileResult) : Type 0 where
-  pub count : length copies ≡ length kept
-  pub each : (t : ℕ) (copy : TileResult) → slice_get copies t ≡ Some copy → (k : TileResult) × (slice_get kept t ≡ Some (Some k)) × IsCopy k copy
+  abbrev pub IsFirstGap : List (Option A) → ℕ → Type 0
+  IsFirstGap kept t = IsGap kept t × ((u : ℕ) → u < t → HasResult kept u)
 
 -- the entry names the analyst, and is neither an edit nor a publication nor a kept result
 abbrev pub IsAlone : ℕ → Entry → Type 0

@@ -2,7 +2,8 @@ use crate::answers::{Advance, AdvanceFault, ClaimFault, GatherFault, KeepFault, 
 use crate::cursors::{all_ended, command_at, cursor_of};
 use crate::entry::Entry;
 use crate::gathered::Gathered;
-use crate::places::{copies, empty, first_gap, least_claimed, no_results, push_within, set_all};
+use crate::kept::{KeptResults, share};
+use crate::places::{push_within, set_all};
 use crate::ticket::Ticket;
 use certificates::{SeamResult, TileResult, TileSet, TileVerdict, check_tile};
 use mask_revisions::Revisions;
@@ -18,8 +19,7 @@ use surface_snapshots::Snapshot;
 pub struct Board {
     session: Arc<Session>,
     revisions: Revisions,
-    /// By tile.
-    kept: Vec<Option<TileResult>>,
+    kept: KeptResults,
     /// How often a tile was claimed at its stamp, by tile.
     claims: Vec<u32>,
     /// How many commands were done, by analyst; the first is analyst 1.
@@ -39,9 +39,9 @@ impl Model for Board {
 
     ghost Value = { BoardView };
 
-    ghost view = { λ b. view_of (arc_value b.session) b.entries.items b.kept.items (map parts_of b.snapshots.items) };
+    ghost view = { λ b. view_of (arc_value b.session) b.entries.items b.kept (map parts_of b.snapshots.items) };
 
-    ghost invariant = { λ b. IsState (view_of (arc_value b.session) b.entries.items b.kept.items (map parts_of b.snapshots.items)) b.revisions b.claims.items b.cursors.items b.newest };
+    ghost invariant = { λ b. IsState (view_of (arc_value b.session) b.entries.items b.kept (map parts_of b.snapshots.items)) b.revisions b.claims.items b.cursors.items b.newest };
 }
 
 impl Board {
@@ -91,7 +91,7 @@ impl Board {
         let tiles = tiling.tile_count();
         let first = session.first_mask.try_copy(alloc)?;
         let revisions = Revisions::new(alloc, first, tiling)?;
-        let kept = no_results(alloc, tiles)?;
+        let kept = KeptResults::none(alloc, tiles)?;
         let claims = vec![in alloc; 0; tiles as usize]?;
         let cursors = vec![in alloc; 0; session.scripts.len()]?;
         Ok(Board {
@@ -113,7 +113,7 @@ impl Board {
         ensures refused { IfErr result (HasClaimFault self.old) }
         ensures unchanged { self.new ≡ self.old }
     {
-        let Some(tile) = least_claimed(&self.kept, &self.claims) else {
+        let Some(tile) = self.kept.least_claimed(&self.claims) else {
             return Err(ClaimFault::NoJob);
         };
         let unmasked = self.revisions.window_mask(alloc, tile)?;
@@ -128,40 +128,41 @@ impl Board {
     }
 
     /// Keeps a result for its tile, which adds an entry. A refusal changes nothing.
-    pub fn keep(&mut self, _alloc: Global, solved: TileResult) -> Result<(), KeepFault>
+    pub fn keep(&mut self, alloc: Global, solved: TileResult) -> Result<(), KeepFault>
         ensures kept { OnOk result (IsKeep self.old self.new solved) }
         ensures refused { IfErr result (HasKeepFault self.old solved) }
         ensures unchanged { OnErr result (self.new ≡ self.old) }
     {
         self.judge(&solved)?;
         self.entries.reserve(1)?;
+        let tile = solved.tile;
         let entry = Entry::Kept {
-            tile: solved.tile,
+            tile,
             stamp: solved.stamp,
         };
+        let shared = share(alloc, solved)?;
         push_within(&mut self.entries, entry);
-        let tile = solved.tile as usize;
-        self.kept[tile] = Some(solved);
+        self.kept.keep(tile, shared);
         Ok(())
     }
 
-    /// Gathers what the present revision's offsets are found from: copies of the present mask and of every tile's kept
-    /// result.
+    /// Gathers what the present revision's offsets are found from: a copy of the present mask, and every tile's kept result,
+    /// which is shared.
     pub fn gather(&self, alloc: Global) -> Result<Gathered, GatherFault>
         ensures gathered { IfOk result (IsGathering self.now) }
         ensures refused { IfErr result (HasGatherFault self.now) }
     {
-        if let Some(tile) = first_gap(&self.kept) {
+        if let Some(tile) = self.kept.first_gap() {
             return Err(GatherFault::Unready(tile));
         }
-        let results = copies(alloc, &self.kept)?;
+        let results = self.kept.shared(alloc)?;
         let mask = self.revisions.mask_copy(alloc)?;
         let session = self.session.clone()?;
         Ok(Gathered {
             session,
             revision: self.revisions.count(),
             mask,
-            tiles: TileSet::new(&self.session.scene.tiling, results),
+            tiles: TileSet::of_shared(&self.session.scene.tiling, results),
         })
     }
 
@@ -274,7 +275,7 @@ impl Board {
         if solved.stamp != stamp {
             return Err(KeepFault::Stale(stamp));
         }
-        if self.kept[solved.tile as usize].is_some() {
+        if self.kept.has(solved.tile) {
             return Err(KeepFault::Double);
         }
         match check_tile(&self.session.scene, self.revisions.mask(), solved) {
@@ -330,7 +331,7 @@ impl Board {
     {
         self.entries.reserve(1)?;
         let tiles = self.revisions.push(alloc, edit)?;
-        empty(&mut self.kept, &tiles);
+        self.kept.empty(&tiles);
         set_all(&mut self.claims, &tiles, 0);
         push_within(&mut self.entries, Entry::Revised { analyst, edit });
         self.cursors[analyst as usize - 1] += 1;

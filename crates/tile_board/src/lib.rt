@@ -8,6 +8,7 @@ mod board;
 mod cursors;
 mod entry;
 mod gathered;
+mod kept;
 pub mod laws;
 mod places;
 mod ticket;

@@ -1,23 +1,22 @@
 ghost use Rattle.std.specs.Prelude.{◌≡◌, ◌+◌, ◌<◌, ◌^◌, ◌++◌, ◌∷◌, ℕ, [], Bool, IfOk, IfSome, MatchOption, None, length, replicate, slice_get, slice_index, vec_capacity, vec_len, ⊤};
 ghost use Rattle.tile_board.specs.Places.{AreSet};
-ghost use Rattle.tile_board.specs.States.{CopiesResults, HaveResults, IsFirstGap, IsGap};
+ghost use Rattle.tile_board.specs.States.{HaveResults, IsFirstGap, IsGap};
 
-use certificates::TileResult;
 use std::alloc::{AllocError, Global};
 
-/// No result for each of so many tiles.
-pub fn no_results(alloc: Global, tiles: u32) -> Result<Vec<Option<TileResult>>, AllocError>
-    ensures { IfOk result (λ kept. kept.items ≡ replicate tiles None) }
+/// No item for each of so many places.
+pub fn no_items<T: Drop>(alloc: Global, places: u32) -> Result<Vec<Option<T>>, AllocError>
+    ensures { IfOk result (λ items. items.items ≡ replicate places None) }
 {
-    let mut kept = Vec::with_capacity(alloc, tiles as usize)?;
-    for _tile in 0..tiles {
-        kept.push(None)?;
+    let mut items = Vec::with_capacity(alloc, places as usize)?;
+    for _place in 0..places {
+        items.push(None)?;
     }
-    Ok(kept)
+    Ok(items)
 }
 
 /// The least tile that has no result.
-pub fn first_gap(kept: &[Option<TileResult>]) -> Option<u32>
+pub fn first_gap<T>(kept: &[Option<T>]) -> Option<u32>
     requires { length kept.now < 2 ^ 32 }
     ensures { MatchOption result (HaveResults kept.now) (IsFirstGap kept.now) }
 {
@@ -30,7 +29,7 @@ pub fn first_gap(kept: &[Option<TileResult>]) -> Option<u32>
 }
 
 /// A tile that has no result, one that was claimed least often.
-pub fn least_claimed(kept: &[Option<TileResult>], claims: &[u32]) -> Option<u32>
+pub fn least_claimed<T>(kept: &[Option<T>], claims: &[u32]) -> Option<u32>
     requires few { length kept.now < 2 ^ 32 }
     requires claims { length claims.now ≡ length kept.now }
     ensures { MatchOption result (HaveResults kept.now) (IsGap kept.now) }
@@ -56,22 +55,8 @@ fn is_claimed_less(claims: &[u32], tile: u32, found: Option<u32>) -> bool
     }
 }
 
-/// A copy of each tile's result.
-pub fn copies(alloc: Global, kept: &[Option<TileResult>]) -> Result<Vec<TileResult>, AllocError>
-    requires { HaveResults kept.now }
-    ensures { IfOk result (λ copies. CopiesResults kept.now copies.items) }
-{
-    let mut results = Vec::with_capacity(alloc, kept.len())?;
-    for place in kept {
-        if let Some(solved) = place {
-            results.push(solved.try_copy(alloc)?)?;
-        }
-    }
-    Ok(results)
-}
-
 /// Takes the results of some tiles away.
-pub fn empty(kept: &mut [Option<TileResult>], tiles: &[u32])
+pub fn empty<T: Drop>(kept: &mut [Option<T>], tiles: &[u32])
     requires { (i : ℕ) → i < length tiles.now → slice_index tiles.now i < length kept.old }
     ensures { AreSet kept.old kept.new tiles.now (length tiles.now) None }
 {

@@ -3,4 +3,4 @@ use Rattle.tile_board.specs.States.{HasResult}
 use Rattle.tile_board.proofs.places.first_gap.Given as goal
 
 abbrev pub invariant-loop-tile : goal.invariant-loop-tile
-invariant-loop-tile l = (u : ℕ) → u < l.tile → HasResult l.kept u
+invariant-loop-tile g l = (u : ℕ) → u < l.tile → HasResult l.kept u

@@ -6,7 +6,7 @@ use Rattle.tile_board.proofs.places.least_claimed.Goals.{then-is_none+then-is_cl
 use Rattle.tile_board.proofs.places.least_claimed.Goals as goal
 
 pub loop-tile-preserved : goal.loop-tile-preserved
-loop-tile-preserved c =
+loop-tile-preserved g c =
     let kept = c.args.kept.now in
     let t = c.loop-tile.tile in
     let here : slice_get kept t ≡ Some c.index-kept-tile.result = slice_get_read kept (length kept) t c.index-kept-tile.result refl c.loop-tile-test.true c.index-kept-tile.is in

@@ -6,39 +6,39 @@ use Rattle.tile_board.proofs.board.Board.claim.Goals as goal
 
 pub returns-in_default-clause-refused : goal.returns-in_default-clause-refused
 returns-in_default-clause-refused c =
-    let none : HaveResults c.self.inside.kept.items = rw c.deref.ensures.value at c.in_default.ensures in
+    let none : HaveResults c.self.inside.kept = c.in_default.ensures in
     rw (← c.self.view_is) (all_kept c.self.invariant none)
 
 pub window_mask-requires : goal.window_mask-requires
 window_mask-requires c =
-    let gap : IsGap c.self.inside.kept.items c.in-Some.tile = rw c.deref.ensures.value at c.in-Some.ensures in
+    let gap : IsGap c.self.inside.kept c.in-Some.tile = c.in-Some.ensures in
     rw c.self.invariant.past.tiling (gap_below c.self.invariant c.in-Some.tile gap)
 
 pub index-requires : goal.index-requires
 index-requires c =
-    let gap : IsGap c.self.inside.kept.items c.in-Some.tile = rw c.deref.ensures.value at c.in-Some.ensures in
+    let gap : IsGap c.self.inside.kept c.in-Some.tile = c.in-Some.ensures in
     omega (arith, gap_below c.self.invariant c.in-Some.tile gap, c.self.invariant.claims, c.self.inside.claims.ok.0)
 
 pub index_mut-requires : goal.index_mut-requires
 index_mut-requires c =
-    let gap : IsGap c.self.inside.kept.items c.in-Some.tile = rw c.deref.ensures.value at c.in-Some.ensures in
+    let gap : IsGap c.self.inside.kept c.in-Some.tile = c.in-Some.ensures in
     omega (arith, gap_below c.self.invariant c.in-Some.tile gap, c.self.invariant.claims, c.self.inside.claims.ok.0)
 
 pub stamp-requires : goal.stamp-requires
 stamp-requires c =
-    let gap : IsGap c.self.inside.kept.items c.in-Some.tile = rw c.deref.ensures.value at c.in-Some.ensures in
+    let gap : IsGap c.self.inside.kept c.in-Some.tile = c.in-Some.ensures in
     rw c.self.invariant.past.tiling (gap_below c.self.invariant c.in-Some.tile gap)
 
 pub invariant_of-result : goal.invariant_of-result
 invariant_of-result c =
-    let gap : IsGap c.self.inside.kept.items c.in-Some.tile = rw c.deref.ensures.value at c.in-Some.ensures in
+    let gap : IsGap c.self.inside.kept c.in-Some.tile = c.in-Some.ensures in
     let below = gap_below c.self.invariant c.in-Some.tile gap in
     let window = rw c.self.invariant.past.tiling at c.in_ok-unmasked.ensures in
     record { exists = rw c.in_ok-session.ensures.cases below; size = rw c.in_ok-session.ensures.cases window.size }
 
 pub returns-clause-claimed : goal.returns-clause-claimed
 returns-clause-claimed c =
-    let gap : IsGap c.self.inside.kept.items c.in-Some.tile = rw c.deref.ensures.value at c.in-Some.ensures in
+    let gap : IsGap c.self.inside.kept c.in-Some.tile = c.in-Some.ensures in
     let below = gap_below c.self.invariant c.in-Some.tile gap in
     let window = rw c.self.invariant.past.tiling at c.in_ok-unmasked.ensures in
     rw (← c.self.view_is) (record {

@@ -1,4 +1,6 @@
 use Rattle.std.proofs.Common.{◌∙◌, ap, List, ◌++◌, ◌∷◌, []}
+use Rattle.std.specs.Prelude.{Some, set}
+use Rattle.certificates.specs.declared.results.TileResult.{TileResult}
 use Rattle.tile_board.specs.declared.entry.Entry.{Entry}
 use Rattle.tile_board.specs.declared.entry.Entry.TheVariants.{Kept}
 use Rattle.tile_board.proofs.StepLemmas.{state_keep}
@@ -8,4 +10,5 @@ pub invariant_of-self-2 : goal.invariant_of-self-2
 invariant_of-self-2 c =
     let may = rw (← c.self.view_is) at c.in_ok-judge.ensures.good in
     let entries = c.push_within.ensures.items ∙ ap (λ (es : List Entry). es ++ (Kept c.args.solved.tile c.args.solved.stamp ∷ [])) c.in_ok-reserve.ensures.items in
-    state_keep c.self.invariant c.args.solved c.push_within.new.items.items entries (may.0.0.0, may.0.0.1, may.0.1) may.1
+    let kept = c.keep.ensures ∙ ap (λ (k : TileResult). set c.self.inside.kept c.args.solved.tile (Some k)) c.in_ok-shared.ensures in
+    rw kept (state_keep c.self.invariant c.args.solved c.push_within.new.items.items entries (may.0.0.0, may.0.0.1, may.0.1) may.1)

@@ -17,4 +17,4 @@ invariant_of-result c =
     let claims : length c.in_ok-claims.claims.items ≡ tiles_of s.scene.tiling = omega (arith, c.in_ok-claims.claims.ok.0, c.in_ok-claims.ensures.len, tiles) in
     let scripts : c.len.result ≡ length s.scripts.items = omega (arith, rw c.deref-3.ensures at c.len.ensures, s.scripts.ok.0) in
     let cursors = rw scripts at (c.in_ok-cursors.ensures.items_if_clones_equal (λ y h. h)) in
-    state_new s c.in_ok-revisions.revisions c.new-2.result.items c.in_ok-kept.kept.items (map parts_of c.new-3.result.items) c.in_ok-claims.claims.items c.in_ok-cursors.cursors.items c.new-2.ensures.items kept surfaces tiling revisions claims cursors
+    state_new s c.in_ok-revisions.revisions c.new-2.result.items c.in_ok-kept.kept (map parts_of c.new-3.result.items) c.in_ok-claims.claims.items c.in_ok-cursors.cursors.items c.new-2.ensures.items kept surfaces tiling revisions claims cursors

@@ -35,12 +35,11 @@ invariant_of-self-2 c =
     let pushed = c.in_ok-tiles.ensures.pushed in
     let next = c.in_ok-tiles.ensures.next (open_at (arc_value i.session).first_mask) (edits_of i.entries.items) c.self.invariant.past.revisions in
     let changed = rw c.self.invariant.past.tiling at c.in_ok-tiles.ensures.changed in
-    let emptied = rw (c.deref_mut.ensures.value, c.deref.ensures.value) at c.empty.ensures in
-    let kept = with_items_is i.kept c.empty.new.kept (c.empty.auto.kept ∙ c.deref_mut.ensures.len) in
+    let emptied = rw c.deref.ensures.value at c.empty.ensures in
     let entries = c.push_within.ensures.items ∙ ap (λ (es : List Entry). es ++ (Revised c.args.analyst c.args.edit ∷ [])) c.in_ok-reserve.ensures.items in
-    let claims = with_items_is i.claims c.set_all.new.items (c.set_all.auto.items ∙ c.deref_mut-2.ensures.len) in
-    let tallies : length c.set_all.new.items ≡ length i.claims.items = c.set_all.auto.items ∙ c.deref_mut-2.ensures.len ∙ i.claims.ok.0 in
-    rw (kept, claims) (state_revised c.self.invariant c.args.analyst c.args.edit c.index_mut.result.now c.push_within.new.items.items c.empty.new.kept c.push.new.self c.set_all.new.items entries n c.index_mut.ensures.value pushed.tiling next tallies emptied.count (places_told c.self.invariant c.args.analyst c.args.edit c.push.new.self pushed.tiling next c.in_ok-tiles.tiles.items c.empty.new.kept changed emptied))
+    let claims = with_items_is i.claims c.set_all.new.items (c.set_all.auto.items ∙ c.deref_mut.ensures.len) in
+    let tallies : length c.set_all.new.items ≡ length i.claims.items = c.set_all.auto.items ∙ c.deref_mut.ensures.len ∙ i.claims.ok.0 in
+    rw claims (state_revised c.self.invariant c.args.analyst c.args.edit c.index_mut.result.now c.push_within.new.items.items c.empty.new.self c.push.new.self c.set_all.new.items entries n c.index_mut.ensures.value pushed.tiling next tallies emptied.count (places_told c.self.invariant c.args.analyst c.args.edit c.push.new.self pushed.tiling next c.in_ok-tiles.tiles.items c.empty.new.self changed emptied))
 
 pub returns-clause-advanced : goal.returns-clause-advanced
 returns-clause-advanced c =
@@ -49,9 +48,8 @@ returns-clause-advanced c =
     let pushed = c.in_ok-tiles.ensures.pushed in
     let next = c.in_ok-tiles.ensures.next (open_at (arc_value i.session).first_mask) (edits_of i.entries.items) c.self.invariant.past.revisions in
     let changed = rw c.self.invariant.past.tiling at c.in_ok-tiles.ensures.changed in
-    let emptied = rw (c.deref_mut.ensures.value, c.deref.ensures.value) at c.empty.ensures in
-    let kept = with_items_is i.kept c.empty.new.kept (c.empty.auto.kept ∙ c.deref_mut.ensures.len) in
+    let emptied = rw c.deref.ensures.value at c.empty.ensures in
     let entries = c.push_within.ensures.items ∙ ap (λ (es : List Entry). es ++ (Revised c.args.analyst c.args.edit ∷ [])) c.in_ok-reserve.ensures.items in
-    let is = revision_is c.self.invariant c.args.analyst c.args.edit c.push.new.self pushed.tiling next c.in_ok-tiles.tiles.items c.empty.new.kept changed emptied c.push_within.new.items.items entries n in
+    let is = revision_is c.self.invariant c.args.analyst c.args.edit c.push.new.self pushed.tiling next c.in_ok-tiles.tiles.items c.empty.new.self changed emptied c.push_within.new.items.items entries n in
     let count = c.count.ensures ∙ pushed.count ∙ ap (λ (k : ℕ). k + 1) (count_told c.self.invariant.past) ∙ sym (ap now_of entries ∙ now_more i.entries.items c.args.analyst c.args.edit) in
-    rw (← c.self.view_is, kept) (count, c.args.edit, is)
+    rw (← c.self.view_is) (count, c.args.edit, is)

@@ -1,21 +1,21 @@
 -- What a result says of its tile.
-use Rattle.std.specs.Prelude.{◌≡◌, ℕ, ◌+◌, ◌-◌, ◌*◌, ◌≤◌, ℤ, pos, Bool, IsTrue, List, length, slice_index_or, unsigned_abs}
+use Rattle.std.specs.Prelude.{◌≡◌, ℕ, ◌*◌, ◌≤◌, ℤ, pos, Bool, IsTrue, List, length, slice_index_or, unsigned_abs}
 use Rattle.raster_model.specs.declared.scene.Scene.{Scene}
 use Rattle.raster_model.specs.declared.tiling.Window.{Window}
 use Rattle.raster_model.specs.Sums.{Field}
 use Rattle.raster_model.specs.Raster.{lifted}
 use Rattle.raster_model.specs.Cells.{cell_count, IsCertifiedTile}
 use Rattle.raster_model.specs.Seams.{IsEarlier}
-use Rattle.raster_model.specs.Tiles.{window_of, IsWithin}
+use Rattle.raster_model.specs.Tiles.{window_of, IsWithin, width_of, height_of, place_in}
 use Rattle.raster_model.specs.Scene.{raster_of}
 use Rattle.certificates.specs.declared.results.TileResult.{TileResult}
 
 -- how many pixels a window has, and the cycles that a list in its row order has at a pixel of the raster
 abbrev pub pixels_in : Window → ℕ
-pixels_in v = (v.x1 - v.x0 + 1) * (v.y1 - v.y0 + 1)
+pixels_in v = width_of v * height_of v
 
 abbrev pub cycles_in : Window → List ℤ → Field ℤ
-cycles_in v cycles x y = slice_index_or cycles ((y - v.y0) * (v.x1 - v.x0 + 1) + (x - v.x0)) (pos 0)
+cycles_in v cycles x y = slice_index_or cycles (place_in v x y) (pos 0)
 
 -- the window of a result's tile, and the surface that lies the result's cycles above the phase
 abbrev pub window_in : Scene → TileResult → Window

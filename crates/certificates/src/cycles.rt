@@ -38,9 +38,7 @@ impl TileCycles<'_> {
         requires { IsWithin self.now.window x y }
         ensures { result ≡ cycles_in self.now.window self.now.cycles.now x y }
     {
-        let window = self.window;
-        let across = (window.x1 - window.x0) as usize + 1;
-        self.cycles[(y - window.y0) as usize * across + (x - window.x0) as usize]
+        self.cycles[self.window.place(x, y)]
     }
 
     /// The first open pixel, in row order, at which they are out of range.

@@ -1,11 +1,11 @@
 -- Revisions that belong to a first mask and a list of edits.
-use Rattle.std.specs.Prelude.{◌≡◌, ℕ, ◌+◌, ◌-◌, ◌*◌, ◌<◌, Bool, IsTrue, if◌then◌else◌, List, length, slice_index, slice_index_or}
+use Rattle.std.specs.Prelude.{◌≡◌, ℕ, ◌+◌, ◌*◌, ◌<◌, Bool, IsTrue, if◌then◌else◌, List, length, slice_index, slice_index_or}
 use Rattle.raster_model.specs.declared.script.Edit.{Edit}
 use Rattle.raster_model.specs.declared.tiling.Tiling.{Tiling}
 use Rattle.raster_model.specs.declared.tiling.Window.{Window}
 use Rattle.raster_model.specs.Masks.{open_at, IsMaskOf}
 use Rattle.raster_model.specs.Sums.{Field}
-use Rattle.raster_model.specs.Tiles.{IsWithin, tiles_of}
+use Rattle.raster_model.specs.Tiles.{IsWithin, height_of, place_in, tiles_of, width_of}
 use Rattle.mask_revisions.specs.Edits.{edited, mask_after, differ_in, stamp_of}
 use Rattle.mask_revisions.specs.RevisionsView.{RevisionsView}
 
@@ -31,5 +31,5 @@ pub record AreChanged (g : Tiling) (old new : Field Bool) (tiles : List ℕ) : T
 
 -- the list says of each pixel of a window, in row order, whether it is open
 pub record IsWindowMask (v : Window) (mask : Field Bool) (list : List Bool) : Type 0 where
-  pub size : length list ≡ (v.x1 - v.x0 + 1) * (v.y1 - v.y0 + 1)
-  pub clear : (x y : ℕ) → IsWithin v x y → slice_index_or list ((y - v.y0) * (v.x1 - v.x0 + 1) + (x - v.x0)) Bool.false ≡ mask x y
+  pub size : length list ≡ width_of v * height_of v
+  pub clear : (x y : ℕ) → IsWithin v x y → slice_index_or list (place_in v x y) Bool.false ≡ mask x y

@@ -114,8 +114,8 @@ impl Revisions {
         ensures { IfOk result (λ list. IsWindowMask (window_of self.now.tiling tile) (open_at self.now.mask) list.items) }
     {
         let window = self.tiling.window(tile);
-        let across = window.x1 - window.x0 + 1;
-        let along = window.y1 - window.y0 + 1;
+        let across = window.width();
+        let along = window.height();
         let mut list = Vec::with_capacity(alloc, (across * along) as usize)?;
         for place in 0..across * along {
             let x = window.x0 + place % across;

@@ -28,9 +28,7 @@ impl TileSurface<'_> {
     {
         let tile = self.scene.tiling.tile_of(x, y);
         let window = self.scene.tiling.window(tile);
-        let across = (window.x1 - window.x0) as usize + 1;
-        let place = (y - window.y0) as usize * across + (x - window.x0) as usize;
-        self.tiles.tile(tile).cycles[place]
+        self.tiles.tile(tile).cycles[window.place(x, y)]
     }
 
     /// By how many whole cycles the surface departs from the wrapped difference of an edge with open ends.

@@ -4,14 +4,14 @@ use Rattle.raster_model.specs.declared.edge.Edge.{Edge}
 use Rattle.raster_model.specs.declared.tiling.Window.{Window}
 use Rattle.raster_model.specs.Sums.{Field}
 use Rattle.raster_model.specs.Raster.{Raster, departure, lifted}
-use Rattle.raster_model.specs.Tiles.{IsWithin, width_of, height_of}
+use Rattle.raster_model.specs.Tiles.{IsWithin, width_of, height_of, place_in}
 use Rattle.wrapped_gradient.specs.declared.corrections.Corrections.{Corrections}
 use Rattle.wrapped_gradient.specs.Corrections.{correction_at, greatest_of}
 use Rattle.wrapped_gradient.specs.Windows.{IsEdgeOf}
 
 -- the cycles that a list in the window's row order has at a pixel of the raster
 abbrev pub cycles_at : Window → List ℤ → Field ℤ
-cycles_at v cycles x y = slice_index_or cycles ((y - v.y0) * width_of v + (x - v.x0)) (pos 0)
+cycles_at v cycles x y = slice_index_or cycles (place_in v x y) (pos 0)
 
 -- the surface that lies so many cycles above the phase departs by the correction at each edge of the window
 abbrev pub DepartBy : Raster → Window → Field ℤ → Corrections → Type 0

@@ -45,9 +45,8 @@ pub fn integrate(
     ensures bounded { IfOk result (λ cycles. StaySmall gradients.now.window (cycles_at gradients.now.window cycles.items) (greatest_of corrections.now)) }
 {
     let window = gradients.window();
-    let across = (window.x1 - window.x0) as usize + 1;
-    let along = (window.y1 - window.y0) as usize + 1;
-    let mut cycles = Vec::with_capacity(alloc, across * along)?;
+    let pixels = window.width() as usize * window.height() as usize;
+    let mut cycles = Vec::with_capacity(alloc, pixels)?;
     let mut first = 0;
     push_row(scene, gradients, corrections, window.y0, first, &mut cycles)?;
     for y in window.y0..window.y1 {
@@ -117,9 +116,7 @@ fn rise_down(scene: &Scene, gradients: &Gradients, corrections: &Corrections, x:
     ensures value { result ≡ rise_of (raster_of scene.now) gradients.now.window corrections.now (down_edge x y) }
     ensures small { unsigned_abs result ≤ greatest_of corrections.now + 1 }
 {
-    let window = gradients.window();
-    let across = (window.x1 - window.x0) as usize + 1;
-    let place = (y - window.y0) as usize * across + (x - window.x0) as usize;
+    let place = gradients.window().place(x, y);
     let from = scene.phase.sample(x, y);
     let to = scene.phase.sample(x, y + 1);
     rise(from, to, gradients.down(x, y), corrections.down[place])

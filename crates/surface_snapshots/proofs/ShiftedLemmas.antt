@@ -1,5 +1,5 @@
 -- What the results and the offsets have at a pixel.
-use Rattle.std.proofs.Common.{◌≡◌, ◌∙◌, ℕ, ◌+◌, ◌-◌, ◌*◌, ◌<◌, ◌≤◌, ap, sym, subst, refl, arith, to_z, of_z, w32, w64, List, length}
+use Rattle.std.proofs.Common.{◌≡◌, ◌∙◌, ℕ, ◌-◌, ◌<◌, ◌≤◌, ap, sym, subst, refl, arith, to_z, of_z, w32, w64, List, length}
 use Rattle.std.specs.Prelude.{ℤ, Bool, ◌&&◌, IsTrue, nat_lt, slice_get, Some, unsigned_abs}
 use Rattle.std.proofs.lemmas.Int.{ints}
 use Rattle.std.proofs.lemmas.Bool.Decides.{nat_tests}
@@ -9,7 +9,7 @@ use Rattle.raster_model.specs.declared.tiling.Window.{Window}
 use Rattle.raster_model.specs.MaskView.{MaskView}
 use Rattle.raster_model.specs.Masks.{open_at}
 use Rattle.raster_model.specs.Sums.{Field}
-use Rattle.raster_model.specs.Tiles.{IsWithin, tile_at, tiles_of, window_of}
+use Rattle.raster_model.specs.Tiles.{IsWindowOf, IsWithin, height_of, place_in, tile_at, tiles_of, width_of, window_of}
 use Rattle.raster_model.proofs.TileLemmas.{tiles_are_numbered, window_of-pixels}
 use Rattle.certificates.specs.declared.results.TileResult.{TileResult}
 use Rattle.certificates.specs.Results.{cycles_in, pixels_in}
@@ -29,16 +29,21 @@ open_pixel w h x y o t = (grind (arith, nat_tests), grind (arith, nat_tests), la
     last Bool.true Bool.false c t = cc
     last Bool.false b c t = cc
 
-pub place_in_window : (v : Window) (x y : ℕ) → IsWithin v x y → (y - v.y0) * (v.x1 - v.x0 + 1) + (x - v.x0) < pixels_in v
-place_in_window v x y w = mul-add-lt (y - v.y0) (v.x1 - v.x0 + 1) (x - v.x0) (v.y1 - v.y0 + 1) (omega (arith, w)) (omega (arith, w))
+pub place_in_window : (v : Window) (x y : ℕ) → IsWithin v x y → place_in v x y < pixels_in v
+place_in_window v x y w = mul-add-lt (y - v.y0) (width_of v) (x - v.x0) (height_of v) (omega (arith, w)) (omega (arith, w))
 
-pub within_window : (s : Scene) (t : ℕ) (v : Window) (x y : ℕ) (o : Bool) → v ≡ window_of s.tiling t → t ≡ tile_at s.tiling x y → IsTrue (nat_lt x s.phase.width && nat_lt y s.phase.height && o) → IsWithin v x y
-within_window s t v x y o is e i =
-    let p = open_pixel s.phase.width s.phase.height x y o i in
-    let l : x < s.tiling.width = omega (arith, p.0, s.same_width) in
-    let m : y < s.tiling.height = omega (arith, p.1, s.same_height) in
-    let below : t < tiles_of s.tiling = subst (λ (n : ℕ). n < tiles_of s.tiling) (sym e) (tiles_are_numbered s.tiling x y l m) in
-    subst (λ (u : Window). IsWithin u x y) (sym is) (((window_of-pixels s.tiling t below).pixels x y l m).0 (sym e))
+-- the window of an open pixel's tile, as code finds it, has the tile's pixels, and so this one
+module _ (s : Scene) (t : ℕ) (v : Window) (x y : ℕ) (o : Bool) (is : v ≡ window_of s.tiling t) (e : t ≡ tile_at s.tiling x y) (i : IsTrue (nat_lt x s.phase.width && nat_lt y s.phase.height && o)) where
+  in_raster : (x < s.tiling.width) × (y < s.tiling.height)
+  in_raster = let p = open_pixel s.phase.width s.phase.height x y o i in (omega (arith, p.0, s.same_width), omega (arith, p.1, s.same_height))
+
+  pub window_told : IsWindowOf s.tiling t v
+  window_told =
+      let below : t < tiles_of s.tiling = subst (λ (n : ℕ). n < tiles_of s.tiling) (sym e) (tiles_are_numbered s.tiling x y in_raster.0 in_raster.1) in
+      subst (IsWindowOf s.tiling t) (sym is) (window_of-pixels s.tiling t below)
+
+  pub within_window : IsWithin v x y
+  within_window = (window_told.pixels x y in_raster.0 in_raster.1).0 (sym e)
 
 -- a small number of cycles at 64 bits
 pub widened : (z f : ℤ) → unsigned_abs z ≤ 8388608 → f ≡ to_z w32 (of_z w32 z) → to_z w64 (of_z w64 f) ≡ z
@@ -49,7 +54,7 @@ module _ (s : Scene) (mask : Field Bool) (results : List TileResult) (tiles : Ar
   same_window : window_of s.tiling k.tile ≡ v
   same_window = ap (window_of s.tiling) (tiles.each.own t k there) ∙ sym of_window
 
-  pub place_is_in : IsWithin v x y → (y - v.y0) * (v.x1 - v.x0 + 1) + (x - v.x0) < length k.cycles.items
+  pub place_is_in : IsWithin v x y → place_in v x y < length k.cycles.items
   place_is_in w = omega (arith, place_in_window v x y w, (tiles.good t k there).shape.0 ∙ ap pixels_in same_window)
 
   pub solved_is : cycles_in v k.cycles.items x y ≡ solved_cycles s results x y

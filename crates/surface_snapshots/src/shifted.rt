@@ -75,9 +75,7 @@ impl ShiftedTiles<'_> {
         ensures value { result ≡ solved_cycles self.now.scene.now self.now.tiles.now.results x y }
         ensures small { unsigned_abs result ≤ 8388608 }
     {
-        let across = (window.x1 - window.x0) as usize + 1;
-        let place = (y - window.y0) as usize * across + (x - window.x0) as usize;
-        i64::from(self.tiles.tile(tile).cycles[place])
+        i64::from(self.tiles.tile(tile).cycles[window.place(x, y)])
     }
 
     /// The offset of an open pixel's region.

@@ -3,7 +3,7 @@ use Rattle.std.specs.Prelude.{◌≡◌, ℕ, ◌+◌, ◌-◌, ◌*◌, ◌≤�
 use Rattle.raster_model.specs.declared.edge.Edge.{Edge}
 use Rattle.raster_model.specs.declared.tiling.Window.{Window}
 use Rattle.raster_model.specs.Sums.{Field, end_x, end_y, right_edge, down_edge}
-use Rattle.raster_model.specs.Tiles.{IsWithin, height_of, width_of}
+use Rattle.raster_model.specs.Tiles.{IsWithin, height_of, place_in, width_of}
 
 -- an edge of the window: both its ends are pixels of the window
 pub record IsEdgeOf (v : Window) (e : Edge) : Type 0 where
@@ -20,7 +20,7 @@ HaveShapeOf v right down = (length right ≡ (width_of v - 1) * height_of v) × 
 
 -- the number that these lists hold for an edge; they are in row order of first pixels
 abbrev pub number_at : Window → List ℤ → List ℤ → Edge → ℤ
-number_at v right down e = if e.down then slice_index_or down ((e.y - v.y0) * width_of v + (e.x - v.x0)) (pos 0) else slice_index_or right ((e.y - v.y0) * (width_of v - 1) + (e.x - v.x0)) (pos 0)
+number_at v right down e = if e.down then slice_index_or down (place_in v e.x e.y) (pos 0) else slice_index_or right ((e.y - v.y0) * (width_of v - 1) + (e.x - v.x0)) (pos 0)
 
 -- the sum of the numbers of a cell's edges round it: along its top and its right side, and back along its bottom and its left side
 abbrev pub round : (Edge → ℤ) → Field ℤ

@@ -102,10 +102,7 @@ impl Gradients {
         ensures low { neg_ℤ (pos 32768) ≤ℤ result }
         ensures high { result ≤ℤ pos 32767 }
     {
-        let window = self.window;
-        let across = (window.x1 - window.x0) as usize + 1;
-        let place = (y - window.y0) as usize * across + (x - window.x0) as usize;
-        i32::from(self.down[place])
+        i32::from(self.down[self.window.place(x, y)])
     }
 
     /// The residue of the cell with the upper left corner (`x`, `y`), in cycles: -1, 0 or 1. It is the sum
@@ -158,7 +155,7 @@ fn right_differences(alloc: Global, scene: &Scene, window: Window) -> Result<Vec
     ensures { IfOk result (λ list. AreInRows (of_right_edges (raster_of scene.now)) window.x0 window.y0 (width_of window - 1) ((width_of window - 1) * height_of window) list.items) }
 {
     let across = (window.x1 - window.x0) as usize;
-    let along = (window.y1 - window.y0) as usize + 1;
+    let along = window.height() as usize;
     let mut list = Vec::with_capacity(alloc, across * along)?;
     for y in window.y0..window.y1 + 1 {
         for x in window.x0..window.x1 {
@@ -173,7 +170,7 @@ fn down_differences(alloc: Global, scene: &Scene, window: Window) -> Result<Vec<
     requires { IsWindowIn scene.now.phase.width scene.now.phase.height window }
     ensures { IfOk result (λ list. AreInRows (of_down_edges (raster_of scene.now)) window.x0 window.y0 (width_of window) (width_of window * (height_of window - 1)) list.items) }
 {
-    let across = (window.x1 - window.x0) as usize + 1;
+    let across = window.width() as usize;
     let along = (window.y1 - window.y0) as usize;
     let mut list = Vec::with_capacity(alloc, across * along)?;
     for y in window.y0..window.y1 {

@@ -11,14 +11,14 @@ index-requires c =
     let s = k.scene.now in
     let o = open_tells s.phase.width s.phase.height c.args.x c.args.y (open_at k.mask.now c.args.x c.args.y) c.requires in
     let below = place_below s (open_at k.mask.now) k.tiles.now k.good c.tile_of-tile.result c.window-window.result c.tile.result.now c.tile_of-tile.ensures.exists c.window-window.ensures.value c.window-window.ensures.pixels c.tile.ensures.place c.tile.ensures.number c.args.x c.args.y c.tile_of-tile.ensures.value o.0 o.1 in
-    omega (arith, below, c.tile.result.now.cycles.ok.0)
+    omega (arith, below, c.place.ensures, c.tile.result.now.cycles.ok.0)
 
 pub returns-clause-value : goal.returns-clause-value
 returns-clause-value c =
     let k = c.args.self.now in
     let s = k.scene.now in
     let o = open_tells s.phase.width s.phase.height c.args.x c.args.y (open_at k.mask.now c.args.x c.args.y) c.requires in
-    let read = get_or_read_under c.tile.result.now.cycles.items _ (length c.tile.result.now.cycles.items) c.index.result.now (pos 0) c.index.ensures (place_below s (open_at k.mask.now) k.tiles.now k.good c.tile_of-tile.result c.window-window.result c.tile.result.now c.tile_of-tile.ensures.exists c.window-window.ensures.value c.window-window.ensures.pixels c.tile.ensures.place c.tile.ensures.number c.args.x c.args.y c.tile_of-tile.ensures.value o.0 o.1) refl in
+    let read = get_or_read_under c.tile.result.now.cycles.items _ (length c.tile.result.now.cycles.items) c.index.result.now (pos 0) (rw c.place.ensures at c.index.ensures) (place_below s (open_at k.mask.now) k.tiles.now k.good c.tile_of-tile.result c.window-window.result c.tile.result.now c.tile_of-tile.ensures.exists c.window-window.ensures.value c.window-window.ensures.pixels c.tile.ensures.place c.tile.ensures.number c.args.x c.args.y c.tile_of-tile.ensures.value o.0 o.1) refl in
     cycles_fit _ _ read (cycles_small s (open_at k.mask.now) k.tiles.now k.good c.tile_of-tile.result c.window-window.result c.tile.result.now c.tile_of-tile.ensures.exists c.window-window.ensures.value c.window-window.ensures.pixels c.tile.ensures.place c.tile.ensures.number c.args.x c.args.y c.tile_of-tile.ensures.value o.0 o.1 o.2) ∙ cycles_are s (open_at k.mask.now) k.tiles.now k.good c.tile_of-tile.result c.window-window.result c.tile.result.now c.tile_of-tile.ensures.exists c.window-window.ensures.value c.window-window.ensures.pixels c.tile.ensures.place c.tile.ensures.number c.args.x c.args.y c.tile_of-tile.ensures.value o.0 o.1
 
 pub returns-clause-small : goal.returns-clause-small
@@ -26,6 +26,6 @@ returns-clause-small c =
     let k = c.args.self.now in
     let s = k.scene.now in
     let o = open_tells s.phase.width s.phase.height c.args.x c.args.y (open_at k.mask.now c.args.x c.args.y) c.requires in
-    let read = get_or_read_under c.tile.result.now.cycles.items _ (length c.tile.result.now.cycles.items) c.index.result.now (pos 0) c.index.ensures (place_below s (open_at k.mask.now) k.tiles.now k.good c.tile_of-tile.result c.window-window.result c.tile.result.now c.tile_of-tile.ensures.exists c.window-window.ensures.value c.window-window.ensures.pixels c.tile.ensures.place c.tile.ensures.number c.args.x c.args.y c.tile_of-tile.ensures.value o.0 o.1) refl in
+    let read = get_or_read_under c.tile.result.now.cycles.items _ (length c.tile.result.now.cycles.items) c.index.result.now (pos 0) (rw c.place.ensures at c.index.ensures) (place_below s (open_at k.mask.now) k.tiles.now k.good c.tile_of-tile.result c.window-window.result c.tile.result.now c.tile_of-tile.ensures.exists c.window-window.ensures.value c.window-window.ensures.pixels c.tile.ensures.place c.tile.ensures.number c.args.x c.args.y c.tile_of-tile.ensures.value o.0 o.1) refl in
     let small = cycles_small s (open_at k.mask.now) k.tiles.now k.good c.tile_of-tile.result c.window-window.result c.tile.result.now c.tile_of-tile.ensures.exists c.window-window.ensures.value c.window-window.ensures.pixels c.tile.ensures.place c.tile.ensures.number c.args.x c.args.y c.tile_of-tile.ensures.value o.0 o.1 o.2 in
     rw (cycles_fit _ _ read small) small

@@ -4,7 +4,7 @@ use Rattle.std.specs.Prelude.{ℕ, ◌+◌, ◌-◌, ◌*◌, Bool, ◌&&◌, if
 use Rattle.raster_model.specs.declared.edge.Edge.{Edge}
 use Rattle.raster_model.specs.declared.tiling.Window.{Window}
 use Rattle.raster_model.specs.Sums.{Field}
-use Rattle.raster_model.specs.Tiles.{width_of, height_of}
+use Rattle.raster_model.specs.Tiles.{width_of, height_of, place_in}
 
 -- how many cells the window has; it is also the number of the outside
 abbrev pub cells_of : Window → ℕ
@@ -44,7 +44,7 @@ edges_of v = rights_of v + downs_of v
 
 -- the number of an edge: right edges in row order, and then down edges in row order
 abbrev pub edge_number : Window → Edge → ℕ
-edge_number v e = if e.down then rights_of v + ((e.y - v.y0) * width_of v + (e.x - v.x0)) else (e.y - v.y0) * (width_of v - 1) + (e.x - v.x0)
+edge_number v e = if e.down then rights_of v + place_in v e.x e.y else (e.y - v.y0) * (width_of v - 1) + (e.x - v.x0)
 
 -- the first of the four arcs across an edge: it goes from the first side to the other, the next is its twin, the third goes back, and the last is that one's twin
 abbrev pub arc_across : Window → Edge → ℕ

@@ -1,8 +1,8 @@
 -- How a grid starts: what flows, what each node has above what it wants, and which of its pixels are open.
-use Rattle.std.specs.Prelude.{◌≡◌, ℕ, ◌+◌, ◌-◌, ◌*◌, ◌/◌, ◌%◌, ◌<◌, ℤ, pos, negsuc, neg_ℤ, Bool, ◌==◌, if◌then◌else◌, nat_lt, List, slice_index_or}
+use Rattle.std.specs.Prelude.{◌≡◌, ℕ, ◌+◌, ◌-◌, ◌/◌, ◌%◌, ◌<◌, ℤ, pos, negsuc, neg_ℤ, Bool, ◌==◌, if◌then◌else◌, nat_lt, List, slice_index_or}
 use Rattle.raster_model.specs.declared.tiling.Window.{Window}
 use Rattle.raster_model.specs.Sums.{Field}
-use Rattle.raster_model.specs.Tiles.{IsWithin, width_of}
+use Rattle.raster_model.specs.Tiles.{IsWithin, place_in}
 use Rattle.flow_network.specs.Nets.{Shape, State, IsArc}
 use Rattle.dual_grid.specs.Nodes.{cells_of}
 use Rattle.sums_and_lists.specs.Sums.{sum_below}
@@ -39,7 +39,7 @@ positive_excess s g = sum_below s.nodes (λ u. positive_part (g.excess u))
 
 -- which pixels are open, where the list tells of each pixel of the window in row order
 abbrev pub open_in : Window → List Bool → Field Bool
-open_in v unmasked x y = slice_index_or unmasked ((y - v.y0) * width_of v + (x - v.x0)) Bool.false
+open_in v unmasked x y = slice_index_or unmasked (place_in v x y) Bool.false
 
 -- the list tells what the mask has at the window's pixels
 abbrev pub TellsMask : Window → List Bool → Field Bool → Type 0

@@ -22,7 +22,7 @@ pub(crate) fn right_weights(
     ensures { IfOk result (λ list. AreInRows (of_right_edges scene.now window unmasked.now) window.x0 window.y0 (width_of window - 1) ((width_of window - 1) * height_of window) list.items) }
 {
     let across = (window.x1 - window.x0) as usize;
-    let along = (window.y1 - window.y0) as usize + 1;
+    let along = window.height() as usize;
     let mut list = Vec::with_capacity(alloc, across * along)?;
     for y in window.y0..window.y1 + 1 {
         for x in window.x0..window.x1 {
@@ -43,7 +43,7 @@ pub(crate) fn down_weights(
     requires { IsMadeFor scene.now window unmasked.now }
     ensures { IfOk result (λ list. AreInRows (of_down_edges scene.now window unmasked.now) window.x0 window.y0 (width_of window) (width_of window * (height_of window - 1)) list.items) }
 {
-    let across = (window.x1 - window.x0) as usize + 1;
+    let across = window.width() as usize;
     let along = (window.y1 - window.y0) as usize;
     let mut list = Vec::with_capacity(alloc, across * along)?;
     for y in window.y0..window.y1 {

@@ -1,5 +1,5 @@
 -- What is said of offsets and flows for a surface: that they are certified, or the first break.
-use Rattle.std.specs.Prelude.{◌≡◌, ◌≢◌, ◌⊎◌, ℕ, ◌<◌, ℤ, pos, List, length, slice_index_or, ⊤}
+use Rattle.std.specs.Prelude.{◌≡◌, ◌≢◌, ◌⊎◌, ℕ, ◌<◌, ℤ, pos, List, length, slice_index_or}
 use Rattle.certificates.specs.declared.verdicts.SeamVerdict.{SeamVerdict}
 use Rattle.certificates.specs.declared.verdicts.SeamVerdict.TheVariants.{Good, Shape, Range}
 use Rattle.certificates.specs.SeamVerdicts.{IsSeamVerdict}
@@ -28,10 +28,10 @@ IsVerdict p Shape = (length p.seams.offsets.items ≢ p.regions.count) ⊎ (HasO
 IsVerdict p (Range v) = HasOffsets p × IsFirstFar p.seams.offsets.items v
 IsVerdict p verdict = HasOffsets p × AreNear p.seams.offsets.items × IsFlowsVerdict p verdict
 
--- why no snapshot is made of the parts: of a verdict other than Good, or for want of memory
+-- why no snapshot is made of the parts: of a verdict other than Good, or for want of memory, which is told only of offsets that are right in number and range
 abbrev pub IsFault : Parts → BuildFault → Type 0
 IsFault p (Uncertified verdict) = (verdict ≢ Good) × IsVerdict p verdict
-IsFault p Memory = ⊤
+IsFault p Memory = HasOffsets p × AreNear p.seams.offsets.items
 
 -- there are no two verdicts on the same parts, where the regions are the mask's
 abbrev pub PartsHaveOneVerdict : Type 0

@@ -1,6 +1,7 @@
 -- What is held by a board tells of its history.
-use Rattle.std.proofs.Common.{◌≡◌, ℕ, ◌<◌, sym, ◌∙◌, ap, arith, Bool, List, length}
+use Rattle.std.proofs.Common.{◌≡◌, ℕ, ◌<◌, sym, ◌∙◌, ap, arith, Bool, true, false, List, length}
 use Rattle.std.specs.Prelude.{Option, Some, None, IsTrue, IsFalse, map, option_map, slice_get}
+use Rattle.std.proofs.lemmas.Bool.{false≢true}
 use Rattle.std.proofs.lemmas.List.{length-map}
 use Rattle.std.proofs.lemmas.Option.{slice_get-map}
 use Rattle.raster_model.specs.declared.session.Session.{Session}
@@ -28,6 +29,9 @@ module _ {s : Session} {H : List Entry} {kept : List (Option TileResult)} {surfa
 
   pub gap_tells : (t : ℕ) → IsGap kept t → IsFalse (is_kept s H t)
   gap_tells t g = state.board.kept.each t None g
+
+  pub one_lacks : (t : ℕ) → IsGap kept t → AreAllKept s H → ⊥
+  one_lacks t g all = false≢true (sym (gap_tells t g) ∙ all t (gap_below t g))
 
   pub held_tells : (t : ℕ) → HasResult kept t → IsTrue (is_kept s H t)
   held_tells t h = (state.board.kept.each t (Some h.0) h.1).told

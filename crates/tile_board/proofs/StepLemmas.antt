@@ -1,6 +1,7 @@
 -- What a board holds, after each kind of entry.
 use Rattle.std.proofs.Common.{◌≡◌, ℕ, ◌+◌, ◌-◌, ◌^◌, ◌<◌, sym, ◌∙◌, ap, refl, arith, false, List, [], ◌∷◌, ◌++◌, get_or, length}
-use Rattle.std.specs.Prelude.{Option, Some, None, if◌then◌else◌, set, slice_get, slice_index, ◌==◌}
+use Rattle.std.specs.Prelude.{Option, Some, None, IsTrue, if◌then◌else◌, set, slice_get, slice_index, ◌==◌}
+use Rattle.std.proofs.lemmas.Bool.Decides.{nat_tests}
 use Rattle.std.proofs.lemmas.List.{get_or_read}
 use Rattle.raster_model.specs.declared.script.Command.{Command}
 use Rattle.raster_model.specs.declared.script.Command.TheVariants.{Change, Settle, Show}
@@ -14,9 +15,13 @@ use Rattle.mask_revisions.specs.Edits.{differ_in}
 use Rattle.mask_revisions.specs.Revisions.{AreRevisionsOf}
 use Rattle.mask_revisions.specs.RevisionsView.{RevisionsView}
 use Rattle.surface_snapshots.specs.Parts.{Parts}
+use Rattle.tile_board.specs.declared.answers.AdvanceFault.{AdvanceFault}
+use Rattle.tile_board.specs.declared.answers.AdvanceFault.TheVariants.{Memory}
 use Rattle.tile_board.specs.declared.entry.Entry.{Entry}
 use Rattle.tile_board.specs.declared.entry.Entry.TheVariants.{Revised, Kept, Published, Settled, Shown}
 use Rattle.tile_board.specs.Boards.{IsSurfaceOf}
+use Rattle.tile_board.specs.BoardView.{BoardView}
+use Rattle.tile_board.specs.Calls.{HasAdvanceFault}
 use Rattle.tile_board.specs.Histories.{IsStep, edit_of, edits_of, keeps, names, next_command, present_mask, published_of}
 use Rattle.tile_board.specs.States.{IsAlone, IsState, view_of}
 use Rattle.tile_board.proofs.HeldLemmas.{cursor_room, cursor_there, tells_done, tells_on, tells_published, tells_revised}
@@ -59,6 +64,16 @@ alone_next s H (Kept t r) a step is = absurd is
 alone_next s H (Published b r) a step is = absurd is
 alone_next s H (Settled b r) a step is = (Settle, ap (next_command s H) (sym is) ∙ step.0)
 alone_next s H (Shown b r) a step is = (Show, ap (next_command s H) (sym is) ∙ step.0)
+
+-- why a command is not done whose entry may come next
+names_itself : (n : ℕ) → IsTrue (n == n)
+names_itself n = grind (arith, nat_tests)
+
+pub revised_refused : (v : BoardView) (a : ℕ) (edit : Edit) (fault : AdvanceFault) → next_command v.session v.entries a ≡ Some (Change edit) → HasAdvanceFault v a fault
+revised_refused v a edit Memory next = (Revised a edit, next, names_itself a, refl)
+
+pub alone_refused : (v : BoardView) (a : ℕ) (e : Entry) (fault : AdvanceFault) → IsStep v.session v.entries e → IsAlone a e → HasAdvanceFault v a fault
+alone_refused v a e Memory step alone = (e, step, alone_names e a alone a ∙ names_itself a, alone_published e a alone)
 
 module _ {s : Session} {H : List Entry} {kept : List (Option TileResult)} {surfaces : List Parts} {held : RevisionsView} {tallies marks : List ℕ} {last : Option ℕ} (state : IsState (view_of s H kept surfaces) held tallies marks last) where
   pub state_keep : (k : TileResult) (entries : List Entry) → entries ≡ H ++ (Kept k.tile k.stamp ∷ []) → IsStep s H (Kept k.tile k.stamp) → IsGoodTile s.scene (present_mask s H) k → IsState (view_of s entries (set kept k.tile (Some k)) surfaces) held tallies marks last

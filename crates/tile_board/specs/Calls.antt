@@ -1,5 +1,5 @@
 -- What the calls of a board answer, and what they add.
-use Rattle.std.specs.Prelude.{◌≡◌, ◌≢◌, ℕ, ◌<◌, ◌≤◌, Bool, IsTrue, IsFalse, Some, None, [], ◌∷◌, ◌++◌, length, map, replicate, set, slice_get, if◌then◌else◌, ⊤}
+use Rattle.std.specs.Prelude.{◌≡◌, ◌≢◌, ℕ, ◌<◌, ◌≤◌, Bool, IsTrue, IsFalse, Some, None, [], ◌∷◌, ◌++◌, length, map, replicate, set, slice_get, if◌then◌else◌}
 use Rattle.std.specs.Arc.{arc_value}
 use Rattle.raster_model.specs.declared.script.Command.TheVariants.{Settle}
 use Rattle.raster_model.specs.declared.script.Edit.{Edit}
@@ -21,6 +21,8 @@ use Rattle.surface_snapshots.specs.Parts.{Parts, IsPublished}
 use Rattle.surface_snapshots.specs.Verdicts.{IsVerdict}
 use Rattle.tile_board.specs.declared.answers.Advance.{Advance}
 use Rattle.tile_board.specs.declared.answers.Advance.TheVariants as advances
+use Rattle.tile_board.specs.declared.answers.AdvanceFault.{AdvanceFault}
+use Rattle.tile_board.specs.declared.answers.AdvanceFault.TheVariants as advance_faults
 use Rattle.tile_board.specs.declared.answers.ClaimFault.{ClaimFault}
 use Rattle.tile_board.specs.declared.answers.ClaimFault.TheVariants as claim_faults
 use Rattle.tile_board.specs.declared.answers.GatherFault.{GatherFault}
@@ -34,7 +36,7 @@ use Rattle.tile_board.specs.declared.entry.Entry.TheVariants.{Revised, Kept, Pub
 use Rattle.tile_board.specs.declared.gathered.Gathered.{Gathered}
 use Rattle.tile_board.specs.declared.ticket.Ticket.{Ticket}
 use Rattle.tile_board.specs.BoardView.{BoardView}
-use Rattle.tile_board.specs.Histories.{AreAllKept, IsLeastLacking, IsStep, is_kept, newest_of, next_command, now_of, present_mask, stamp_in}
+use Rattle.tile_board.specs.Histories.{AreAllKept, IsLeastLacking, IsStep, is_kept, names, newest_of, next_command, now_of, present_mask, published_of, stamp_in}
 
 -- the present mask of a board
 abbrev pub mask_now : BoardView → ℕ → ℕ → Bool
@@ -61,9 +63,10 @@ pub record IsClaim (v : BoardView) (ticket : Ticket) : Type 0 where
   pub stamp : ticket.stamp ≡ stamp_in v.session v.entries ticket.tile
   pub window : IsWindowMask (window_of v.session.scene.tiling ticket.tile) (mask_now v) ticket.unmasked.items
 
+-- no tile lacks a result; or one does, and there is no memory for its mask
 abbrev pub HasClaimFault : BoardView → ClaimFault → Type 0
 HasClaimFault v claim_faults.NoJob = AreAllKept v.session v.entries
-HasClaimFault v claim_faults.Memory = ⊤
+HasClaimFault v claim_faults.Memory = AreAllKept v.session v.entries → ⊥
 
 -- ---- keep
 -- the result is good, and kept
@@ -170,3 +173,7 @@ IsAdvance old new a (advances.Settled r) = AddsAlone old new (Settled a r)
 IsAdvance old new a (advances.Shown r) = AddsAlone old new (Shown a r)
 IsAdvance old new a (advances.NotYet r) = MaySettle old a × (r ≡ now_of old.entries) × (newest_of old.entries ≢ Some r) × (new ≡ old)
 IsAdvance old new a advances.Ended = (next_command old.session old.entries a ≡ None) × (new ≡ old)
+
+-- an entry of the analyst that publishes nothing may come next, and there is no memory for it
+abbrev pub HasAdvanceFault : BoardView → ℕ → AdvanceFault → Type 0
+HasAdvanceFault v a advance_faults.Memory = (e : Entry) × IsStep v.session v.entries e × IsTrue (names a e) × (published_of e ≡ None)

@@ -24,7 +24,7 @@ pub enum Advance {
 pub enum ClaimFault {
     /// Every tile has a kept result.
     NoJob,
-    /// There was no memory for the tile's mask.
+    /// A tile has no kept result, and there was no memory for its mask.
     Memory,
 }
 
@@ -73,7 +73,7 @@ pub enum PublishFault {
 /// Why a command is not done.
 #[derive(Clone, Copy, Debug, PartialEq, Eq)]
 pub enum AdvanceFault {
-    /// There was no memory for the change or the entry.
+    /// An entry may come next, and there was no memory for it or for the change.
     Memory,
 }
 

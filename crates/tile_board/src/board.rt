@@ -57,6 +57,7 @@ impl Board {
     ghost use Rattle.tile_board.specs.Calls.{
       AddsAlone,
       ArePublishable,
+      HasAdvanceFault,
       HasClaimFault,
       HasGatherFault,
       HasKeepFault,
@@ -107,7 +108,7 @@ impl Board {
     }
 
     /// Gives a tile that is not kept, one that was claimed least often at its stamp, with its stamp and its window of
-    /// the present mask. The board stays as contracts see it.
+    /// the present mask. Memory is wanted only if there is such a tile. The board stays as contracts see it.
     pub fn claim(&mut self, alloc: Global) -> Result<Ticket, ClaimFault>
         ensures claimed { IfOk result (IsClaim self.old) }
         ensures refused { IfErr result (HasClaimFault self.old) }
@@ -190,10 +191,12 @@ impl Board {
         Ok(())
     }
 
-    /// Does an analyst's next command. A settle command is done only where the present revision is published; there
-    /// `NotYet` changes nothing, nor does `Ended` or a refusal. Each other answer adds an entry.
+    /// Does an analyst's next command. A settle command is done only if the present revision is published; else the
+    /// answer is `NotYet`. That changes nothing, nor does `Ended` or a refusal. Each other answer adds an entry, and
+    /// only such an answer can want memory.
     pub fn advance(&mut self, alloc: Global, analyst: u32) -> Result<Advance, AdvanceFault>
         ensures advanced { IfOk result (IsAdvance self.old self.new analyst) }
+        ensures refused { IfErr result (HasAdvanceFault self.old analyst) }
         ensures unchanged { OnErr result (self.new ≡ self.old) }
     {
         match self.next(analyst) {
@@ -327,6 +330,7 @@ impl Board {
     fn revise(&mut self, alloc: Global, analyst: u32, edit: Edit) -> Result<Advance, AdvanceFault>
         requires { next_command self.old.session self.old.entries analyst ≡ Some (Change edit) }
         ensures advanced { IfOk result (IsAdvance self.old self.new analyst) }
+        ensures refused { IfErr result (HasAdvanceFault self.old analyst) }
         ensures unchanged { OnErr result (self.new ≡ self.old) }
     {
         self.entries.reserve(1)?;
@@ -342,6 +346,7 @@ impl Board {
     fn settle(&mut self, analyst: u32) -> Result<Advance, AdvanceFault>
         requires { MaySettle self.old analyst }
         ensures advanced { IfOk result (IsAdvance self.old self.new analyst) }
+        ensures refused { IfErr result (HasAdvanceFault self.old analyst) }
         ensures unchanged { OnErr result (self.new ≡ self.old) }
     {
         let revision = self.revision();
@@ -356,6 +361,7 @@ impl Board {
     fn show(&mut self, analyst: u32) -> Result<Advance, AdvanceFault>
         requires { next_command self.old.session self.old.entries analyst ≡ Some Show }
         ensures advanced { IfOk result (IsAdvance self.old self.new analyst) }
+        ensures refused { IfErr result (HasAdvanceFault self.old analyst) }
         ensures unchanged { OnErr result (self.new ≡ self.old) }
     {
         let revision = self.newest;
@@ -368,6 +374,7 @@ impl Board {
         requires step { IsStep self.old.session self.old.entries entry }
         requires alone { IsAlone analyst entry }
         ensures added { OnOk result (AddsAlone self.old self.new entry) }
+        ensures refused { IfErr result (HasAdvanceFault self.old analyst) }
         ensures unchanged { OnErr result (self.new ≡ self.old) }
     {
         self.entries.reserve(1)?;

@@ -1,7 +1,9 @@
 use Rattle.std.proofs.Common.{◌∙◌, arith}
+use Rattle.tile_board.specs.declared.answers.ClaimFault.TheVariants.{Memory}
 use Rattle.tile_board.specs.States.{IsGap, HaveResults}
 use Rattle.tile_board.proofs.HeldLemmas.{stamp_told}
-use Rattle.tile_board.proofs.StateFacts.{all_kept, gap_below, gap_tells, window_told}
+use Rattle.tile_board.proofs.ListLemmas.{err_is}
+use Rattle.tile_board.proofs.StateFacts.{all_kept, gap_below, gap_tells, one_lacks, window_told}
 use Rattle.tile_board.proofs.board.Board.claim.Goals as goal
 
 pub returns-in_default-clause-refused : goal.returns-in_default-clause-refused
@@ -13,6 +15,16 @@ pub window_mask-requires : goal.window_mask-requires
 window_mask-requires c =
     let gap : IsGap c.self.inside.kept c.in-Some.tile = c.in-Some.ensures in
     rw c.self.invariant.past.tiling (gap_below c.self.invariant c.in-Some.tile gap)
+
+pub returns-in_err-unmasked-clause-refused : goal.returns-in_err-unmasked-clause-refused
+returns-in_err-unmasked-clause-refused c =
+    let gap : IsGap c.self.inside.kept c.in-Some.tile = c.in-Some.ensures in
+    rw (← c.self.view_is) (err_is c.from_residual.result Memory _ c.from_residual.ensures.1 (one_lacks c.self.invariant c.in-Some.tile gap))
+
+pub returns-in_err-session-clause-refused : goal.returns-in_err-session-clause-refused
+returns-in_err-session-clause-refused c =
+    let gap : IsGap c.self.inside.kept c.in-Some.tile = c.in-Some.ensures in
+    rw (← c.self.view_is) (err_is c.from_residual-in_err-session.result Memory _ c.from_residual-in_err-session.ensures.1 (one_lacks c.self.invariant c.in-Some.tile gap))
 
 pub index-requires : goal.index-requires
 index-requires c =

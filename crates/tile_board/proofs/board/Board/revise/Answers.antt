@@ -10,7 +10,9 @@ use Rattle.tile_board.specs.Histories.{edits_of, next_command, now_of}
 use Rattle.tile_board.proofs.HeldLemmas.{count_told, cursor_there, revision_room}
 use Rattle.tile_board.proofs.HistoryLemmas.{now_more}
 use Rattle.tile_board.proofs.RevisionLemmas.{places_told, revision_is}
-use Rattle.tile_board.proofs.StepLemmas.{cursor_small, state_revised}
+use Rattle.tile_board.specs.declared.answers.AdvanceFault.TheVariants.{Memory}
+use Rattle.tile_board.proofs.ListLemmas.{err_is}
+use Rattle.tile_board.proofs.StepLemmas.{cursor_small, revised_refused, state_revised}
 use Rattle.tile_board.proofs.board.Board.revise.Goals as goal
 
 pub push-requires-clause-room : goal.push-requires-clause-room
@@ -53,3 +55,11 @@ returns-clause-advanced c =
     let is = revision_is c.self.invariant c.args.analyst c.args.edit c.push.new.self pushed.tiling next c.in_ok-tiles.tiles.items c.empty.new.self changed emptied c.push_within.new.items.items entries n in
     let count = c.count.ensures ∙ pushed.count ∙ ap (λ (k : ℕ). k + 1) (count_told c.self.invariant.past) ∙ sym (ap now_of entries ∙ now_more i.entries.items c.args.analyst c.args.edit) in
     rw (← c.self.view_is) (count, c.args.edit, is)
+
+pub returns-in_err-reserve-clause-refused : goal.returns-in_err-reserve-clause-refused
+returns-in_err-reserve-clause-refused c =
+    err_is c.from_residual.result Memory _ c.from_residual.ensures.1 (revised_refused c.args.self.now c.args.analyst c.args.edit Memory c.requires)
+
+pub returns-in_err-tiles-clause-refused : goal.returns-in_err-tiles-clause-refused
+returns-in_err-tiles-clause-refused c =
+    err_is c.from_residual-in_err-tiles.result Memory _ c.from_residual-in_err-tiles.ensures.1 (revised_refused c.args.self.now c.args.analyst c.args.edit Memory c.requires)

@@ -1,13 +1,12 @@
 -- Places of results: which have one, copies, and places that were emptied.
-use Rattle.std.proofs.Common.{◌≡◌, ◌≢◌, ℕ, ◌+◌, ◌<◌, ◌≤◌, inl, inr, sym, ◌∙◌, ap, refl, subst, arith, Bool, true, false, List, [], ◌∷◌, ◌++◌, length}
+use Rattle.std.proofs.Common.{◌≡◌, ◌≢◌, ℕ, ◌+◌, ◌<◌, ◌≤◌, inl, inr, sym, ◌∙◌, ap, refl, subst, arith, Bool, true, false, List, length}
 use Rattle.std.specs.Prelude.{Option, Some, None, MatchOption, is_some, set, slice_get, slice_index, ⊤}
 use Rattle.std.proofs.lemmas.Bool.{cases_eq}
-use Rattle.std.proofs.lemmas.List.{length-append, length-set}
+use Rattle.std.proofs.lemmas.List.{length-set}
 use Rattle.tile_board.specs.Places.{AreSet}
-use Rattle.tile_board.specs.States.{HasResult, HaveResults, IsFirstGap, IsGap}
+use Rattle.tile_board.specs.States.{HasResult, HaveResults, IsGap}
 use Rattle.tile_board.proofs.ListLemmas.{get_set_here, get_set_there}
 use Rattle.sums_and_lists.proofs.Orders.{below_or_last}
-use Rattle.sums_and_lists.proofs.Lists.{last_or_before}
 
 -- a place is a gap or has a result
 pub gap_at : {A : Type 0} (kept : List (Option A)) (t : ℕ) (place : Option A) → slice_get kept t ≡ Some place → is_some place ≡ false → IsGap kept t

@@ -1,10 +1,9 @@
 -- What is published: the parts that were gathered, and why none are.
-use Rattle.std.proofs.Common.{◌≡◌, ℕ, ◌<◌, sym, ◌∙◌, ap, refl, subst, arith, List}
-use Rattle.std.specs.Prelude.{Option, Some}
+use Rattle.std.proofs.Common.{◌≡◌, ℕ, sym, ◌∙◌, ap, refl, subst, arith, List}
+use Rattle.std.specs.Prelude.{Option}
 use Rattle.std.specs.Arc.{arc_value}
 use Rattle.raster_model.specs.declared.session.Session.{Session}
 use Rattle.raster_model.specs.Masks.{IsMaskOf}
-use Rattle.raster_model.specs.Tiles.{tiles_of}
 use Rattle.certificates.specs.declared.results.SeamResult.{SeamResult}
 use Rattle.certificates.specs.declared.results.TileResult.{TileResult}
 use Rattle.certificates.specs.declared.verdicts.SeamVerdict.TheVariants.{Good}
@@ -23,7 +22,7 @@ use Rattle.tile_board.specs.Boards.{IsSurfaceOf}
 use Rattle.tile_board.specs.BoardView.{BoardView}
 use Rattle.tile_board.specs.Calls.{ArePublishable, HasPublishFault, IsFresh, IsGathering}
 use Rattle.tile_board.specs.Causes.{building_cause}
-use Rattle.tile_board.specs.Histories.{AreAllKept, mask_in, now_of, present_mask}
+use Rattle.tile_board.specs.Histories.{AreAllKept, mask_in, now_of}
 use Rattle.tile_board.specs.States.{HasSurfaceFault, IsState, view_of}
 use Rattle.tile_board.proofs.StateFacts.{kept_good}
 

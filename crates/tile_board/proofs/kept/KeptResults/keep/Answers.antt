@@ -1,5 +1,5 @@
-use Rattle.std.proofs.Common.{◌≡◌, ◌∙◌, ap, sym, List}
-use Rattle.std.specs.Prelude.{Option, Some, map, option_map, set}
+use Rattle.std.proofs.Common.{◌∙◌, ap, List}
+use Rattle.std.specs.Prelude.{Option, Some, option_map, set}
 use Rattle.std.specs.Arc.{arc_value}
 use Rattle.std.proofs.lemmas.List.{map-set}
 use Rattle.certificates.specs.declared.results.TileResult.{TileResult}

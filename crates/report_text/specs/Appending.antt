@@ -1,4 +1,4 @@
--- What adding a text to a buffer before a sink does, and which numbers a text was made of: words of helpers, which no clause of a public function cites.
+-- What adding a text to a buffer before a sink does, and which numbers a text was made of: words of the functions that add pieces of lines, and of helpers.
 use Rattle.std.specs.Borrow.{Bor}
 use Rattle.std.specs.List.{AllByRecursion}
 use Rattle.std.specs.Prelude.{◌≡◌, ◌≤◌, ◌<◌, ℕ, List, ◌++◌, Option, Some, None, Result, OnOk, OnErr, slice_get, ⊤}
@@ -12,7 +12,7 @@ use Rattle.insar_ports.specs.declared.sink.WriteFault.{WriteFault}
 use Rattle.grid_writer.specs.Numbers.{AreLongs}
 use Rattle.grid_writer.specs.Writing.{Writes}
 
--- The sink held `held`, the buffer `waiting`, and the sink's count of faults was `before`: the text was added behind what
+-- The sink held `held`, the buffer `waiting`, and the sink's count of faults was `before`: the text was added after what
 -- waited, or the sink got a part of it and counted a fault.
 pub record Appends (held : Option (List ℕ)) (waiting : List ℕ) (before : ℕ) (held_now : Option (List ℕ)) (waiting_now : List ℕ) (after : ℕ) (text : List ℕ) (result : Result (Unit {0}) WriteFault) : Type 0 where
   pub written : OnOk result (Writes held waiting held_now waiting_now text)

@@ -51,8 +51,8 @@ fn append_pair<K: Sink>(
     ensures { Appends (K.held sink.old) (waiting_in text.old) (K.faults sink.old) (K.held sink.new) (waiting_in text.new) (K.faults sink.new) (word.now ++ (field_text first ++ field_text second)) result }
 {
     append(text, sink, word)?;
-    append_field(text, sink, first)?;
-    append_field(text, sink, second)
+    append_field(text, sink, u128::from(first))?;
+    append_field(text, sink, u128::from(second))
 }
 
 fn append_revised<K: Sink>(
@@ -66,7 +66,7 @@ fn append_revised<K: Sink>(
     ensures { Appends (K.held sink.old) (waiting_in text.old) (K.faults sink.old) (K.held sink.new) (waiting_in text.new) (K.faults sink.new) (codes "revised" ++ (field_text analyst ++ (edit.now ++ rect_text rect))) result }
 {
     append(text, sink, b"revised")?;
-    append_field(text, sink, analyst)?;
+    append_field(text, sink, u128::from(analyst))?;
     append(text, sink, edit)?;
     append_rect(text, sink, rect)
 }
@@ -74,10 +74,10 @@ fn append_revised<K: Sink>(
 fn append_rect<K: Sink>(text: &mut TextBuffer, sink: &mut K, rect: Rect) -> Result<(), WriteFault>
     ensures { Appends (K.held sink.old) (waiting_in text.old) (K.faults sink.old) (K.held sink.new) (waiting_in text.new) (K.faults sink.new) (rect_text rect) result }
 {
-    append_field(text, sink, rect.x0)?;
-    append_field(text, sink, rect.y0)?;
-    append_field(text, sink, rect.x1)?;
-    append_field(text, sink, rect.y1)
+    append_field(text, sink, u128::from(rect.x0))?;
+    append_field(text, sink, u128::from(rect.y0))?;
+    append_field(text, sink, u128::from(rect.x1))?;
+    append_field(text, sink, u128::from(rect.y1))
 }
 
 fn append_shown<K: Sink>(
@@ -89,7 +89,7 @@ fn append_shown<K: Sink>(
     ensures { Appends (K.held sink.old) (waiting_in text.old) (K.faults sink.old) (K.held sink.new) (waiting_in text.new) (K.faults sink.new) (codes "shown" ++ (field_text analyst ++ revision_text revision)) result }
 {
     append(text, sink, b"shown")?;
-    append_field(text, sink, analyst)?;
+    append_field(text, sink, u128::from(analyst))?;
     append_revision(text, sink, revision)
 }
 
@@ -101,7 +101,7 @@ fn append_revision<K: Sink>(
     ensures { Appends (K.held sink.old) (waiting_in text.old) (K.faults sink.old) (K.held sink.new) (waiting_in text.new) (K.faults sink.new) (revision_text revision) result }
 {
     match revision {
-        Some(revision) => append_field(text, sink, revision),
+        Some(revision) => append_field(text, sink, u128::from(revision)),
         None => append(text, sink, b" none"),
     }
 }

@@ -10,22 +10,18 @@ use insar_ports::{Sink, WriteFault};
 use itoa::Buffer;
 
 /// Adds a piece of text.
-pub(crate) fn append<K: Sink>(
-    text: &mut TextBuffer,
-    sink: &mut K,
-    piece: &[u8],
-) -> Result<(), WriteFault>
+pub fn append<K: Sink>(text: &mut TextBuffer, sink: &mut K, piece: &[u8]) -> Result<(), WriteFault>
     requires { length piece.now ≤ 128 }
     ensures { Appends (K.held sink.old) (waiting_in text.old) (K.faults sink.old) (K.held sink.new) (waiting_in text.new) (K.faults sink.new) piece.now result }
 {
     text.push(sink, piece)
 }
 
-/// Adds a number behind a space.
-pub(crate) fn append_field<K: Sink>(
+/// Adds a number after a space.
+pub fn append_field<K: Sink>(
     text: &mut TextBuffer,
     sink: &mut K,
-    number: u32,
+    number: u128,
 ) -> Result<(), WriteFault>
     ensures { Appends (K.held sink.old) (waiting_in text.old) (K.faults sink.old) (K.held sink.new) (waiting_in text.new) (K.faults sink.new) (field_text number) result }
 {
@@ -34,10 +30,10 @@ pub(crate) fn append_field<K: Sink>(
 }
 
 /// Adds a number in decimal.
-fn append_decimal<K: Sink>(
+pub fn append_decimal<K: Sink>(
     text: &mut TextBuffer,
     sink: &mut K,
-    number: u32,
+    number: u128,
 ) -> Result<(), WriteFault>
     ensures { Appends (K.held sink.old) (waiting_in text.old) (K.faults sink.old) (K.held sink.new) (waiting_in text.new) (K.faults sink.new) (decimal number) result }
 {
@@ -45,25 +41,19 @@ fn append_decimal<K: Sink>(
     append(text, sink, digits.format(number).as_bytes())
 }
 
-/// Adds a cost behind a space.
-pub(crate) fn append_cost<K: Sink>(
+/// Adds a number in decimal, with a minus sign if it is below 0.
+pub fn append_signed<K: Sink>(
     text: &mut TextBuffer,
     sink: &mut K,
-    cost: u128,
+    number: i128,
 ) -> Result<(), WriteFault>
-    ensures { Appends (K.held sink.old) (waiting_in text.old) (K.faults sink.old) (K.held sink.new) (waiting_in text.new) (K.faults sink.new) (field_text cost) result }
-{
-    append(text, sink, b" ")?;
-    append_wide(text, sink, cost)
-}
-
-fn append_wide<K: Sink>(text: &mut TextBuffer, sink: &mut K, number: u128) -> Result<(), WriteFault>
-    ensures { Appends (K.held sink.old) (waiting_in text.old) (K.faults sink.old) (K.held sink.new) (waiting_in text.new) (K.faults sink.new) (decimal number) result }
+    ensures { Appends (K.held sink.old) (waiting_in text.old) (K.faults sink.old) (K.held sink.new) (waiting_in text.new) (K.faults sink.new) (signed_decimal number) result }
 {
     let mut digits = Buffer::new();
     append(text, sink, digits.format(number).as_bytes())
 }
 
+/// Adds a face or a flow after a space.
 fn append_number<K: Sink>(
     text: &mut TextBuffer,
     sink: &mut K,
@@ -72,21 +62,18 @@ fn append_number<K: Sink>(
     ensures { Appends (K.held sink.old) (waiting_in text.old) (K.faults sink.old) (K.held sink.new) (waiting_in text.new) (K.faults sink.new) (number_text number) result }
 {
     append(text, sink, b" ")?;
-    append_signed(text, sink, number)
+    append_long(text, sink, number)
 }
 
-fn append_signed<K: Sink>(
-    text: &mut TextBuffer,
-    sink: &mut K,
-    number: i64,
-) -> Result<(), WriteFault>
+/// Adds a number of 64 bits as `append_signed` does; these are most of a report, and shorter ones are faster.
+fn append_long<K: Sink>(text: &mut TextBuffer, sink: &mut K, number: i64) -> Result<(), WriteFault>
     ensures { Appends (K.held sink.old) (waiting_in text.old) (K.faults sink.old) (K.held sink.new) (waiting_in text.new) (K.faults sink.new) (signed_decimal number) result }
 {
     let mut digits = Buffer::new();
     append(text, sink, digits.format(number).as_bytes())
 }
 
-/// Adds numbers, each behind a space.
+/// Adds numbers, each after a space.
 pub(crate) fn append_numbers<K: Sink>(
     text: &mut TextBuffer,
     sink: &mut K,

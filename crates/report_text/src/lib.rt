@@ -4,7 +4,7 @@
 mod contents;
 mod entry;
 mod fault;
-mod fields;
+pub mod fields;
 mod items;
 pub mod laws;
 mod parse;

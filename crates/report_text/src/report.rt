@@ -100,8 +100,8 @@ fn append_size<K: Sink>(
     ensures { Appends (K.held sink.old) (waiting_in text.old) (K.faults sink.old) (K.held sink.new) (waiting_in text.new) (K.faults sink.new) (size_text width height) result }
 {
     append(text, sink, b"size")?;
-    append_field(text, sink, width)?;
-    append_field(text, sink, height)?;
+    append_field(text, sink, u128::from(width))?;
+    append_field(text, sink, u128::from(height))?;
     end_line(text, sink)
 }
 
@@ -109,7 +109,7 @@ fn append_side<K: Sink>(text: &mut TextBuffer, sink: &mut K, side: u32) -> Resul
     ensures { Appends (K.held sink.old) (waiting_in text.old) (K.faults sink.old) (K.held sink.new) (waiting_in text.new) (K.faults sink.new) (tile_text side) result }
 {
     append(text, sink, b"tile")?;
-    append_field(text, sink, side)?;
+    append_field(text, sink, u128::from(side))?;
     end_line(text, sink)
 }
 

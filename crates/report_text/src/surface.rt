@@ -10,7 +10,7 @@ ghost use Rattle.std.specs.Prelude.{◌≡◌, ◌<◌, ℕ, OnOk};
 ghost use Rattle.surface_snapshots.specs.Parts.{faces_in};
 ghost use Rattle.surface_snapshots.specs.Views.{parts_of};
 
-use crate::fields::{append, append_cost, append_field, append_numbers, end_line};
+use crate::fields::{append, append_field, append_numbers, end_line};
 use grid_writer::{TextBuffer, append_grid};
 use insar_ports::{Sink, WriteFault};
 use surface_snapshots::Snapshot;
@@ -42,8 +42,8 @@ fn append_costs<K: Sink>(
     ensures costs { IsCost tiles × IsCost seams }
 {
     append(text, sink, b"costs")?;
-    append_cost(text, sink, tiles)?;
-    append_cost(text, sink, seams)?;
+    append_field(text, sink, tiles)?;
+    append_field(text, sink, seams)?;
     end_line(text, sink)
 }
 
@@ -84,7 +84,7 @@ fn append_tile<K: Sink>(
     ensures longs { OnOk result (AreLongs faces.now) }
 {
     append(text, sink, b"faces")?;
-    append_field(text, sink, tile)?;
+    append_field(text, sink, u128::from(tile))?;
     append_numbers(text, sink, faces)?;
     end_line(text, sink)
 }

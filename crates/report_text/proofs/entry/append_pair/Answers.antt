@@ -13,10 +13,10 @@ pub returns-in_err-append_field : goal.returns-in_err-append_field
 returns-in_err-append_field g c =
     let p = err_from_is_err_and c.from_residual-in_err-append_field.result c.from_residual-in_err-append_field.ensures.1 in
     rw (p.1, p.2) (appends_then c.args.word.now (field_text c.args.first ++ (field_text c.args.second)) _ _ _ _ _ _ _ _ _ (failed c.in_err-append_field.field-0.0) c.in_ok-append.ensures
-    (appends_part (field_text c.args.first) (field_text c.args.second) _ _ _ _ _ _ c.in_err-append_field.field-0.0 c.in_err-append_field.ensures))
+    (appends_part (field_text c.args.first) (field_text c.args.second) _ _ _ _ _ _ c.in_err-append_field.field-0.0 (rw c.from.ensures at c.in_err-append_field.ensures)))
 
 pub returns : goal.returns
 returns g c =
     appends_then c.args.word.now (field_text c.args.first ++ (field_text c.args.second)) _ _ _ _ _ _ _ _ _ c.append_field-2.result c.in_ok-append.ensures
-    (appends_then (field_text c.args.first) (field_text c.args.second) _ _ _ _ _ _ _ _ _ c.append_field-2.result c.in_ok-append_field.ensures
-    c.append_field-2.ensures)
+    (appends_then (field_text c.args.first) (field_text c.args.second) _ _ _ _ _ _ _ _ _ c.append_field-2.result (rw c.from.ensures at c.in_ok-append_field.ensures)
+    (rw c.from-2.ensures at c.append_field-2.ensures))

@@ -14,18 +14,18 @@ pub returns-in_err-append_field : goal.returns-in_err-append_field
 returns-in_err-append_field g c =
     let p = err_from_is_err_and c.from_residual-in_err-append_field.result c.from_residual-in_err-append_field.ensures.1 in
     rw (p.1, p.2) (appends_then (codes "revised") (field_text c.args.analyst ++ (c.args.edit.now ++ (rect_text c.args.rect))) _ _ _ _ _ _ _ _ _ (failed c.in_err-append_field.field-0.0) c.in_ok-append.ensures
-    (appends_part (field_text c.args.analyst) (c.args.edit.now ++ (rect_text c.args.rect)) _ _ _ _ _ _ c.in_err-append_field.field-0.0 c.in_err-append_field.ensures))
+    (appends_part (field_text c.args.analyst) (c.args.edit.now ++ (rect_text c.args.rect)) _ _ _ _ _ _ c.in_err-append_field.field-0.0 (rw c.from.ensures at c.in_err-append_field.ensures)))
 
 pub returns-in_err-append-2 : goal.returns-in_err-append-2
 returns-in_err-append-2 g c =
     let p = err_from_is_err_and c.from_residual-in_err-append-2.result c.from_residual-in_err-append-2.ensures.1 in
     rw (p.1, p.2) (appends_then (codes "revised") (field_text c.args.analyst ++ (c.args.edit.now ++ (rect_text c.args.rect))) _ _ _ _ _ _ _ _ _ (failed c.in_err-append-2.field-0.0) c.in_ok-append.ensures
-    (appends_then (field_text c.args.analyst) (c.args.edit.now ++ (rect_text c.args.rect)) _ _ _ _ _ _ _ _ _ (failed c.in_err-append-2.field-0.0) c.in_ok-append_field.ensures
+    (appends_then (field_text c.args.analyst) (c.args.edit.now ++ (rect_text c.args.rect)) _ _ _ _ _ _ _ _ _ (failed c.in_err-append-2.field-0.0) (rw c.from.ensures at c.in_ok-append_field.ensures)
     (appends_part c.args.edit.now (rect_text c.args.rect) _ _ _ _ _ _ c.in_err-append-2.field-0.0 c.in_err-append-2.ensures)))
 
 pub returns : goal.returns
 returns g c =
     appends_then (codes "revised") (field_text c.args.analyst ++ (c.args.edit.now ++ (rect_text c.args.rect))) _ _ _ _ _ _ _ _ _ c.append_rect.result c.in_ok-append.ensures
-    (appends_then (field_text c.args.analyst) (c.args.edit.now ++ (rect_text c.args.rect)) _ _ _ _ _ _ _ _ _ c.append_rect.result c.in_ok-append_field.ensures
+    (appends_then (field_text c.args.analyst) (c.args.edit.now ++ (rect_text c.args.rect)) _ _ _ _ _ _ _ _ _ c.append_rect.result (rw c.from.ensures at c.in_ok-append_field.ensures)
     (appends_then c.args.edit.now (rect_text c.args.rect) _ _ _ _ _ _ _ _ _ c.append_rect.result c.in_ok-append-2.ensures
     c.append_rect.ensures))

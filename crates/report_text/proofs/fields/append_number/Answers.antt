@@ -16,5 +16,5 @@ returns-in_err-append g c =
 pub returns : goal.returns
 unfolding number_text
 returns g c =
-    appends_then (codes " ") (signed_decimal c.args.number) _ _ _ _ _ _ _ _ _ c.append_signed.result c.in_ok-append.ensures
-    (rw (to_z-of_z w64 c.args.number c.ranges.number) at c.append_signed.ensures)
+    appends_then (codes " ") (signed_decimal c.args.number) _ _ _ _ _ _ _ _ _ c.append_long.result c.in_ok-append.ensures
+    (rw (to_z-of_z w64 c.args.number c.ranges.number) at c.append_long.ensures)

@@ -14,10 +14,10 @@ pub returns-in_err-append_field : goal.returns-in_err-append_field
 returns-in_err-append_field g c =
     let p = err_from_is_err_and c.from_residual-in_err-append_field.result c.from_residual-in_err-append_field.ensures.1 in
     rw (p.1, p.2) (appends_then (codes "tile") (field_text c.args.side ++ line_end) _ _ _ _ _ _ _ _ _ (failed c.in_err-append_field.field-0.0) c.in_ok-append.ensures
-    (appends_part (field_text c.args.side) line_end _ _ _ _ _ _ c.in_err-append_field.field-0.0 c.in_err-append_field.ensures))
+    (appends_part (field_text c.args.side) line_end _ _ _ _ _ _ c.in_err-append_field.field-0.0 (rw c.from.ensures at c.in_err-append_field.ensures)))
 
 pub returns : goal.returns
 returns g c =
     appends_then (codes "tile") (field_text c.args.side ++ line_end) _ _ _ _ _ _ _ _ _ c.end_line.result c.in_ok-append.ensures
-    (appends_then (field_text c.args.side) line_end _ _ _ _ _ _ _ _ _ c.end_line.result c.in_ok-append_field.ensures
+    (appends_then (field_text c.args.side) line_end _ _ _ _ _ _ _ _ _ c.end_line.result (rw c.from.ensures at c.in_ok-append_field.ensures)
     c.end_line.ensures)

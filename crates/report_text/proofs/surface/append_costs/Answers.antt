@@ -10,22 +10,22 @@ returns-in_err-append-clause-text g c =
     let p = err_from_is_err_and c.from_residual.result c.from_residual.ensures.1 in
     rw (p.1, p.2) (appends_part (codes "costs") (field_text c.args.tiles ++ (field_text c.args.seams ++ line_end)) _ _ _ _ _ _ c.in_err-append.field-0.0 c.in_err-append.ensures)
 
-pub returns-in_err-append_cost-clause-text : goal.returns-in_err-append_cost-clause-text
-returns-in_err-append_cost-clause-text g c =
-    let p = err_from_is_err_and c.from_residual-in_err-append_cost.result c.from_residual-in_err-append_cost.ensures.1 in
-    rw (p.1, p.2) (appends_then (codes "costs") (field_text c.args.tiles ++ (field_text c.args.seams ++ line_end)) _ _ _ _ _ _ _ _ _ (failed c.in_err-append_cost.field-0.0) c.in_ok-append.ensures
-    (appends_part (field_text c.args.tiles) (field_text c.args.seams ++ line_end) _ _ _ _ _ _ c.in_err-append_cost.field-0.0 c.in_err-append_cost.ensures))
+pub returns-in_err-append_field-clause-text : goal.returns-in_err-append_field-clause-text
+returns-in_err-append_field-clause-text g c =
+    let p = err_from_is_err_and c.from_residual-in_err-append_field.result c.from_residual-in_err-append_field.ensures.1 in
+    rw (p.1, p.2) (appends_then (codes "costs") (field_text c.args.tiles ++ (field_text c.args.seams ++ line_end)) _ _ _ _ _ _ _ _ _ (failed c.in_err-append_field.field-0.0) c.in_ok-append.ensures
+    (appends_part (field_text c.args.tiles) (field_text c.args.seams ++ line_end) _ _ _ _ _ _ c.in_err-append_field.field-0.0 c.in_err-append_field.ensures))
 
-pub returns-in_err-append_cost-2-clause-text : goal.returns-in_err-append_cost-2-clause-text
-returns-in_err-append_cost-2-clause-text g c =
-    let p = err_from_is_err_and c.from_residual-in_err-append_cost-2.result c.from_residual-in_err-append_cost-2.ensures.1 in
-    rw (p.1, p.2) (appends_then (codes "costs") (field_text c.args.tiles ++ (field_text c.args.seams ++ line_end)) _ _ _ _ _ _ _ _ _ (failed c.in_err-append_cost-2.field-0.0) c.in_ok-append.ensures
-    (appends_then (field_text c.args.tiles) (field_text c.args.seams ++ line_end) _ _ _ _ _ _ _ _ _ (failed c.in_err-append_cost-2.field-0.0) c.in_ok-append_cost.ensures
-    (appends_part (field_text c.args.seams) line_end _ _ _ _ _ _ c.in_err-append_cost-2.field-0.0 c.in_err-append_cost-2.ensures)))
+pub returns-in_err-append_field-2-clause-text : goal.returns-in_err-append_field-2-clause-text
+returns-in_err-append_field-2-clause-text g c =
+    let p = err_from_is_err_and c.from_residual-in_err-append_field-2.result c.from_residual-in_err-append_field-2.ensures.1 in
+    rw (p.1, p.2) (appends_then (codes "costs") (field_text c.args.tiles ++ (field_text c.args.seams ++ line_end)) _ _ _ _ _ _ _ _ _ (failed c.in_err-append_field-2.field-0.0) c.in_ok-append.ensures
+    (appends_then (field_text c.args.tiles) (field_text c.args.seams ++ line_end) _ _ _ _ _ _ _ _ _ (failed c.in_err-append_field-2.field-0.0) c.in_ok-append_field.ensures
+    (appends_part (field_text c.args.seams) line_end _ _ _ _ _ _ c.in_err-append_field-2.field-0.0 c.in_err-append_field-2.ensures)))
 
 pub returns-clause-text : goal.returns-clause-text
 returns-clause-text g c =
     appends_then (codes "costs") (field_text c.args.tiles ++ (field_text c.args.seams ++ line_end)) _ _ _ _ _ _ _ _ _ c.end_line.result c.in_ok-append.ensures
-    (appends_then (field_text c.args.tiles) (field_text c.args.seams ++ line_end) _ _ _ _ _ _ _ _ _ c.end_line.result c.in_ok-append_cost.ensures
-    (appends_then (field_text c.args.seams) line_end _ _ _ _ _ _ _ _ _ c.end_line.result c.in_ok-append_cost-2.ensures
+    (appends_then (field_text c.args.tiles) (field_text c.args.seams ++ line_end) _ _ _ _ _ _ _ _ _ c.end_line.result c.in_ok-append_field.ensures
+    (appends_then (field_text c.args.seams) line_end _ _ _ _ _ _ _ _ _ c.end_line.result c.in_ok-append_field-2.ensures
     c.end_line.ensures))

@@ -58,12 +58,6 @@ parts_unique (x ∷ a) (y ∷ b) r s p q f g e =
 pub token_of : (n : ℤ) → IsLong n → IsToken (signed_decimal n)
 token_of n long = All-from_recursion (λ (b : ℕ). b ≢ 32) (signed_decimal n) (signed_without 32 (omega arith) n long)
 
-pub token_until : (bytes : List ℕ) (count : ℕ) → count ≤ length bytes → ((k : ℕ) → k < count → get_or bytes k 0 ≡ 32 → ⊥) → IsToken (take count bytes)
-token_until bytes count le none =
-    All-from_get_or (λ (b : ℕ). b ≢ 32) (take count bytes) 0 (λ k h.
-    let lt : k < count = let n = length-take-le count bytes le in omega (arith, h, n) in
-    λ e. none k lt (sym (get_or-take count bytes k 0 lt) ∙ e))
-
 -- ---- lists of numbers
 
 pub numbers_cons : (n : ℤ) (numbers : List ℤ) → numbers_text (n ∷ numbers) ≡ 32 ∷ (signed_decimal n ++ numbers_text numbers)

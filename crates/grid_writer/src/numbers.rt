@@ -1,4 +1,4 @@
-ghost use Rattle.grid_writer.specs.Numbers.{IsLong, IsToken, AreLongs, BeginsField, numbers_line, numbers_text};
+ghost use Rattle.grid_writer.specs.Numbers.{IsLong, AreLongs, BeginsField, numbers_line, numbers_text};
 ghost use Rattle.std.specs.Fmt.{signed_decimal};
 ghost use Rattle.std.specs.Int.{IsInRange};
 ghost use Rattle.std.specs.Prelude.{◌≡◌, ◌≢◌, ◌≤◌, ◌<◌, ◌^◌, ◌∷◌, ◌++◌, ◌⊎◌, ℕ, ℤ, List, IfNone, IfOk, IfSome, MatchBool, decimal, length, neg_ℤ, pos, slice_index, take};
@@ -14,20 +14,6 @@ const MINUS: u8 = b'-';
 
 /// No number of 64 bits with a sign has more digits.
 const MOST_DIGITS: usize = 19;
-
-/// The bytes before the first space, and the rest, which begins with it.
-pub fn split_token(bytes: &[u8]) -> (&[u8], &[u8])
-    ensures parts { bytes.now ≡ result.0.now ++ result.1.now }
-    ensures token { IsToken result.0.now }
-    ensures rest { BeginsField result.1.now }
-{
-    for (count, byte) in bytes.iter().enumerate() {
-        if *byte == SPACE {
-            return bytes.split_at(count);
-        }
-    }
-    bytes.split_at(bytes.len())
-}
 
 /// The number that a text is the one spelling of.
 pub fn number_of(text: &[u8]) -> Option<i64>

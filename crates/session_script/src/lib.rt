@@ -6,7 +6,6 @@ mod fault;
 pub mod laws;
 mod line;
 mod planes;
-mod rules;
 mod script;
 mod sections;
 mod session;

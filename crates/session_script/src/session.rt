@@ -14,9 +14,9 @@ ghost use Rattle.std.specs.Prelude.{◌≡◌, ◌≤◌, IfErr, IfOk, IfSome, E
 
 use crate::fault::SessionFault;
 use crate::planes::{Planes, read_planes};
-use crate::rules::weigh;
 use crate::script::read_scripts;
 use crate::session_use::SessionUse;
+use edge_weights::weigh;
 use insar_ports::{Feed, Source};
 use raster_model::{Mask, RuleKind, Scene, Script, Session, Tiling};
 use std::alloc::Global;

@@ -4,7 +4,6 @@
 mod fault;
 mod numbers;
 mod planes;
-mod rules;
 mod samples;
 mod session;
 

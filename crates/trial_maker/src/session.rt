@@ -5,7 +5,7 @@ ghost use Rattle.trial_maker.specs.declared.fault.TrialFault.TheVariants as faul
 
 use crate::fault::TrialFault;
 use crate::planes::{Planes, draw_planes};
-use crate::rules::weigh;
+use edge_weights::weigh;
 use raster_model::{Command, Mask, RuleKind, Scene, Script, Session, Tiling, is_raster_size};
 use std::alloc::{AllocError, Global};
 

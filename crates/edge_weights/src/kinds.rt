@@ -2,11 +2,12 @@ ghost use Rattle.raster_model.specs.Weights.{AreRuleWeights};
 ghost use Rattle.raster_model.specs.declared.weights.RuleKind.TheVariants.{Least, Mean, Product};
 ghost use Rattle.std.specs.Prelude.{◌≤◌, IfOk};
 
-use edge_weights::WeightRule;
+use crate::rule::WeightRule;
 use raster_model::{EdgeWeights, Plane, RuleKind};
 use std::alloc::{AllocError, Global};
 
-/// The weights of the edges before any mask, by a rule over the pixels' weights.
+/// The weights of all edges of a raster before any mask, by the rule of a kind over the pixels' weights. It fails
+/// for want of memory alone.
 pub fn weigh(alloc: Global, rule: RuleKind, weights: &Plane) -> Result<EdgeWeights, AllocError>
     ensures { IfOk result (λ edges. AreRuleWeights rule weights.now edges) }
 {

@@ -1,16 +1,18 @@
+ghost use Rattle.grid_writer.specs.Numbers.{number_text};
 ghost use Rattle.grid_writer.specs.Waiting.{waiting_in};
 ghost use Rattle.insar_ports.specs.Bytes.{GainsProperPrefix, HasRisen, with_end};
-ghost use Rattle.insar_top.specs.VerdictLines.{direction, edge_text, field, seam_words, signed_field, surface_start, surface_text, tile_words, verdict_line, verdict_text};
+ghost use Rattle.insar_top.specs.VerdictLines.{direction, edge_text, seam_words, surface_start, surface_text, tile_words, verdict_line, verdict_text};
 ghost use Rattle.report_text.specs.Appending.{Appends};
-ghost use Rattle.std.specs.Fmt.{signed_decimal};
-ghost use Rattle.std.specs.Prelude.{◌≡◌, ◌≤◌, ◌++◌, OnErr, OnOk, codes, decimal, length};
+ghost use Rattle.report_text.specs.Text.{field_text};
+ghost use Rattle.std.specs.Prelude.{◌≡◌, ◌≤◌, ◌++◌, OnErr, OnOk, codes, length};
 
 use certificates::{SeamVerdict, TileVerdict};
 use grid_writer::TextBuffer;
 use insar_ports::{Sink, WriteFault};
-use itoa::Buffer;
 use raster_model::Edge;
 use report_check::CheckVerdict;
+pub(crate) use report_text::fields::{append, append_decimal};
+use report_text::fields::{append_field, append_signed};
 
 /// Puts the line that tells a verdict. It takes no memory. After a fault the sink has a part of the line.
 pub fn put_verdict<K: Sink>(sink: &mut K, verdict: CheckVerdict) -> Result<(), WriteFault>
@@ -68,7 +70,7 @@ fn append_verdict<K: Sink>(
 }
 
 fn append_header<K: Sink>(text: &mut TextBuffer, sink: &mut K, line: u32) -> Result<(), WriteFault>
-    ensures { Appends (K.held sink.old) (waiting_in text.old) (K.faults sink.old) (K.held sink.new) (waiting_in text.new) (K.faults sink.new) (codes "refused header" ++ field line) result }
+    ensures { Appends (K.held sink.old) (waiting_in text.old) (K.faults sink.old) (K.held sink.new) (waiting_in text.new) (K.faults sink.new) (codes "refused header" ++ field_text line) result }
 {
     append_number(text, sink, b"refused header", u128::from(line))
 }
@@ -78,7 +80,7 @@ fn append_history<K: Sink>(
     sink: &mut K,
     entry: u64,
 ) -> Result<(), WriteFault>
-    ensures { Appends (K.held sink.old) (waiting_in text.old) (K.faults sink.old) (K.held sink.new) (waiting_in text.new) (K.faults sink.new) (codes "refused history" ++ field entry) result }
+    ensures { Appends (K.held sink.old) (waiting_in text.old) (K.faults sink.old) (K.held sink.new) (waiting_in text.new) (K.faults sink.new) (codes "refused history" ++ field_text entry) result }
 {
     append_number(text, sink, b"refused history", u128::from(entry))
 }
@@ -101,7 +103,7 @@ fn append_value<K: Sink>(
     x: u32,
     y: u32,
 ) -> Result<(), WriteFault>
-    ensures { Appends (K.held sink.old) (waiting_in text.old) (K.faults sink.old) (K.held sink.new) (waiting_in text.new) (K.faults sink.new) (surface_text revision (codes " value" ++ (field x ++ field y))) result }
+    ensures { Appends (K.held sink.old) (waiting_in text.old) (K.faults sink.old) (K.held sink.new) (waiting_in text.new) (K.faults sink.new) (surface_text revision (codes " value" ++ (field_text x ++ field_text y))) result }
 {
     append_start(text, sink, revision)?;
     append_pair(text, sink, b" value", u128::from(x), u128::from(y))
@@ -114,7 +116,7 @@ fn append_tile<K: Sink>(
     tile: u32,
     verdict: TileVerdict,
 ) -> Result<(), WriteFault>
-    ensures { Appends (K.held sink.old) (waiting_in text.old) (K.faults sink.old) (K.held sink.new) (waiting_in text.new) (K.faults sink.new) (surface_text revision (codes " tile" ++ (field tile ++ tile_words verdict))) result }
+    ensures { Appends (K.held sink.old) (waiting_in text.old) (K.faults sink.old) (K.held sink.new) (waiting_in text.new) (K.faults sink.new) (surface_text revision (codes " tile" ++ (field_text tile ++ tile_words verdict))) result }
 {
     append_start(text, sink, revision)?;
     append(text, sink, b" tile")?;
@@ -145,7 +147,7 @@ fn append_costs<K: Sink>(
     counted: u128,
 ) -> Result<(), WriteFault>
     requires { length word.now ≤ 128 }
-    ensures { Appends (K.held sink.old) (waiting_in text.old) (K.faults sink.old) (K.held sink.new) (waiting_in text.new) (K.faults sink.new) (surface_text revision (word.now ++ (field written ++ field counted))) result }
+    ensures { Appends (K.held sink.old) (waiting_in text.old) (K.faults sink.old) (K.held sink.new) (waiting_in text.new) (K.faults sink.new) (surface_text revision (word.now ++ (field_text written ++ field_text counted))) result }
 {
     append_start(text, sink, revision)?;
     append_pair(text, sink, word, written, counted)
@@ -195,7 +197,7 @@ fn append_anchor<K: Sink>(
     sink: &mut K,
     cycles: i64,
 ) -> Result<(), WriteFault>
-    ensures { Appends (K.held sink.old) (waiting_in text.old) (K.faults sink.old) (K.held sink.new) (waiting_in text.new) (K.faults sink.new) (codes " anchor" ++ signed_field cycles) result }
+    ensures { Appends (K.held sink.old) (waiting_in text.old) (K.faults sink.old) (K.held sink.new) (waiting_in text.new) (K.faults sink.new) (codes " anchor" ++ number_text cycles) result }
 {
     append(text, sink, b" anchor")?;
     append_signed_field(text, sink, i128::from(cycles))
@@ -208,7 +210,7 @@ fn append_difference<K: Sink>(
     cost: u128,
     bound: i128,
 ) -> Result<(), WriteFault>
-    ensures { Appends (K.held sink.old) (waiting_in text.old) (K.faults sink.old) (K.held sink.new) (waiting_in text.new) (K.faults sink.new) (codes " cost" ++ (field cost ++ (codes " bound" ++ signed_field bound))) result }
+    ensures { Appends (K.held sink.old) (waiting_in text.old) (K.faults sink.old) (K.held sink.new) (waiting_in text.new) (K.faults sink.new) (codes " cost" ++ (field_text cost ++ (codes " bound" ++ number_text bound))) result }
 {
     append(text, sink, b" cost")?;
     append_field(text, sink, cost)?;
@@ -257,7 +259,7 @@ fn append_number<K: Sink>(
     number: u128,
 ) -> Result<(), WriteFault>
     requires { length word.now ≤ 128 }
-    ensures { Appends (K.held sink.old) (waiting_in text.old) (K.faults sink.old) (K.held sink.new) (waiting_in text.new) (K.faults sink.new) (word.now ++ field number) result }
+    ensures { Appends (K.held sink.old) (waiting_in text.old) (K.faults sink.old) (K.held sink.new) (waiting_in text.new) (K.faults sink.new) (word.now ++ field_text number) result }
 {
     append(text, sink, word)?;
     append_field(text, sink, number)
@@ -272,68 +274,21 @@ fn append_pair<K: Sink>(
     second: u128,
 ) -> Result<(), WriteFault>
     requires { length word.now ≤ 128 }
-    ensures { Appends (K.held sink.old) (waiting_in text.old) (K.faults sink.old) (K.held sink.new) (waiting_in text.new) (K.faults sink.new) (word.now ++ (field first ++ field second)) result }
+    ensures { Appends (K.held sink.old) (waiting_in text.old) (K.faults sink.old) (K.held sink.new) (waiting_in text.new) (K.faults sink.new) (word.now ++ (field_text first ++ field_text second)) result }
 {
     append(text, sink, word)?;
     append_field(text, sink, first)?;
     append_field(text, sink, second)
 }
 
-/// Adds a number behind a space.
-fn append_field<K: Sink>(
-    text: &mut TextBuffer,
-    sink: &mut K,
-    number: u128,
-) -> Result<(), WriteFault>
-    ensures { Appends (K.held sink.old) (waiting_in text.old) (K.faults sink.old) (K.held sink.new) (waiting_in text.new) (K.faults sink.new) (field number) result }
-{
-    append(text, sink, b" ")?;
-    append_decimal(text, sink, number)
-}
-
-/// Adds a number in decimal.
-pub(crate) fn append_decimal<K: Sink>(
-    text: &mut TextBuffer,
-    sink: &mut K,
-    number: u128,
-) -> Result<(), WriteFault>
-    ensures { Appends (K.held sink.old) (waiting_in text.old) (K.faults sink.old) (K.held sink.new) (waiting_in text.new) (K.faults sink.new) (decimal number) result }
-{
-    let mut digits = Buffer::new();
-    append(text, sink, digits.format(number).as_bytes())
-}
-
-/// Adds a number with its sign behind a space.
+/// Adds a number with its sign after a space.
 fn append_signed_field<K: Sink>(
     text: &mut TextBuffer,
     sink: &mut K,
     number: i128,
 ) -> Result<(), WriteFault>
-    ensures { Appends (K.held sink.old) (waiting_in text.old) (K.faults sink.old) (K.held sink.new) (waiting_in text.new) (K.faults sink.new) (signed_field number) result }
+    ensures { Appends (K.held sink.old) (waiting_in text.old) (K.faults sink.old) (K.held sink.new) (waiting_in text.new) (K.faults sink.new) (number_text number) result }
 {
     append(text, sink, b" ")?;
     append_signed(text, sink, number)
-}
-
-fn append_signed<K: Sink>(
-    text: &mut TextBuffer,
-    sink: &mut K,
-    number: i128,
-) -> Result<(), WriteFault>
-    ensures { Appends (K.held sink.old) (waiting_in text.old) (K.faults sink.old) (K.held sink.new) (waiting_in text.new) (K.faults sink.new) (signed_decimal number) result }
-{
-    let mut digits = Buffer::new();
-    append(text, sink, digits.format(number).as_bytes())
-}
-
-/// Adds a piece of text.
-pub(crate) fn append<K: Sink>(
-    text: &mut TextBuffer,
-    sink: &mut K,
-    piece: &[u8],
-) -> Result<(), WriteFault>
-    requires { length piece.now ≤ 128 }
-    ensures { Appends (K.held sink.old) (waiting_in text.old) (K.faults sink.old) (K.held sink.new) (waiting_in text.new) (K.faults sink.new) piece.now result }
-{
-    text.push(sink, piece)
 }

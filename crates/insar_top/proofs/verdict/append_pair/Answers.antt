@@ -1,22 +1,22 @@
 use Rattle.std.proofs.Common.{◌++◌}
 use Rattle.std.proofs.lemmas.Result.{err_from_is_err_and}
-use Rattle.insar_top.specs.VerdictLines.{field}
+use Rattle.report_text.specs.Text.{field_text}
 use Rattle.report_text.proofs.AppendLemmas.{appends_part, appends_then, failed}
 use Rattle.insar_top.proofs.verdict.append_pair.Goals as goal
 
 pub returns-in_err-append : goal.returns-in_err-append
 returns-in_err-append g c =
     let p = err_from_is_err_and c.from_residual.result c.from_residual.ensures.1 in
-    rw (p.1, p.2) (appends_part c.args.word.now (field c.args.first ++ (field c.args.second)) _ _ _ _ _ _ c.in_err-append.field-0.0 c.in_err-append.ensures)
+    rw (p.1, p.2) (appends_part c.args.word.now (field_text c.args.first ++ (field_text c.args.second)) _ _ _ _ _ _ c.in_err-append.field-0.0 c.in_err-append.ensures)
 
 pub returns-in_err-append_field : goal.returns-in_err-append_field
 returns-in_err-append_field g c =
     let p = err_from_is_err_and c.from_residual-in_err-append_field.result c.from_residual-in_err-append_field.ensures.1 in
-    rw (p.1, p.2) (appends_then c.args.word.now (field c.args.first ++ (field c.args.second)) _ _ _ _ _ _ _ _ _ (failed c.in_err-append_field.field-0.0) c.in_ok-append.ensures
-    (appends_part (field c.args.first) (field c.args.second) _ _ _ _ _ _ c.in_err-append_field.field-0.0 c.in_err-append_field.ensures))
+    rw (p.1, p.2) (appends_then c.args.word.now (field_text c.args.first ++ (field_text c.args.second)) _ _ _ _ _ _ _ _ _ (failed c.in_err-append_field.field-0.0) c.in_ok-append.ensures
+    (appends_part (field_text c.args.first) (field_text c.args.second) _ _ _ _ _ _ c.in_err-append_field.field-0.0 c.in_err-append_field.ensures))
 
 pub returns : goal.returns
 returns g c =
-    appends_then c.args.word.now (field c.args.first ++ (field c.args.second)) _ _ _ _ _ _ _ _ _ c.append_field-2.result c.in_ok-append.ensures
-    (appends_then (field c.args.first) (field c.args.second) _ _ _ _ _ _ _ _ _ c.append_field-2.result c.in_ok-append_field.ensures
+    appends_then c.args.word.now (field_text c.args.first ++ (field_text c.args.second)) _ _ _ _ _ _ _ _ _ c.append_field-2.result c.in_ok-append.ensures
+    (appends_then (field_text c.args.first) (field_text c.args.second) _ _ _ _ _ _ _ _ _ c.append_field-2.result c.in_ok-append_field.ensures
     c.append_field-2.ensures)

@@ -1,22 +1,17 @@
 -- Numbers as text: their tokens, and lists of them.
-use Rattle.std.proofs.Common.{◌≡◌, ℕ, ◌+◌, ◌^◌, ◌<◌, ◌≤◌, List, [], ◌∷◌, ◌++◌, length, take, drop, get_or, ℤ, pos, negsuc, suc, inl, inr, refl, sym, ap, subst, ◌∙◌, append_assoc, arith, Bool, true, false, eqb, nat_eq, ◌-◌, Some, None, Result, Ok, Err}
-use Rattle.std.specs.Prelude.{◌≢◌, ◌==◌, MatchBool, MatchResult}
-use Rattle.std.specs.Result.{result_ok}
-use Rattle.std.specs.Str.{IsUtf8}
+use Rattle.std.proofs.Common.{◌≡◌, ℕ, ◌+◌, ◌^◌, ◌<◌, List, [], ◌∷◌, ◌++◌, length, take, drop, ℤ, pos, negsuc, suc, inl, inr, refl, sym, ap, ◌∙◌, append_assoc, arith, Bool, true, false, eqb, nat_eq, ◌-◌}
+use Rattle.std.specs.Prelude.{◌≢◌, ◌==◌, MatchBool}
 use Rattle.std.specs.Cmp.Lexicographic.{pointwise}
-use Rattle.std.specs.Int.{w64}
 use Rattle.std.proofs.lemmas.Bool.{false≢true}
 use Rattle.std.proofs.lemmas.Bool.Decides.{Decides-eqb, nat_tests}
-use Rattle.std.proofs.lemmas.Option.{none-some, same_Some}
 use Rattle.std.proofs.lemmas.Slice.Eq.{slice_eq-Decides}
-use Rattle.std.proofs.lemmas.Str.{IsUtf8-from_ascii}
 use Rattle.std.specs.Fmt.{decimal, signed_decimal}
 use Rattle.std.specs.List.{AllByRecursion}
-use Rattle.std.specs.Str.Parse.{AllDigits, ParsesSigned, ParsesUnsigned}
+use Rattle.std.specs.Str.Parse.{AllDigits}
 use lib.Signed.{mag}
-use Rattle.std.proofs.lemmas.Fmt.{IsAscii-decimal, IsAscii-signed, decimal_injective, decimal_is_IsNumeral, parse-decimal, parse-signed_decimal, signed_decimal_injective}
-use Rattle.std.proofs.lemmas.List.{append-nil, length-append, append_cancel_left, take_at, flat_map_more, get_or-take, take-append-drop, length-take-le}
-use Rattle.std.proofs.lemmas.List.Elements.{All-from_recursion, recursion_from_All, All-from_get_or, All-cons, All-head, All-tail}
+use Rattle.std.proofs.lemmas.Fmt.{decimal_injective, decimal_is_IsNumeral, signed_decimal_injective}
+use Rattle.std.proofs.lemmas.List.{append-nil, length-append, append_cancel_left, take_at, flat_map_more, take-append-drop}
+use Rattle.std.proofs.lemmas.List.Elements.{All-from_recursion, recursion_from_All, All-cons, All-head, All-tail}
 use Rattle.std.proofs.lemmas.Str.Parse.{digit_from_value}
 use Rattle.grid_writer.specs.Numbers.{IsLong, IsToken, AreLongs, BeginsField, number_text, numbers_line, numbers_text}
 use Rattle.grid_writer.proofs.FormLemmas.{cons_head, cons_tail, cons_same, not_nil, InLine}

@@ -1,11 +1,10 @@
 -- Texts that are written one after the other, and a text that was cut.
-use Rattle.std.specs.Prelude.{OnOk, OnErr}
+use Rattle.std.specs.Prelude.{OnOk}
 use Rattle.std.proofs.Common.{◌≡◌, ℕ, Result, Ok, Err, List, [], ◌++◌, Option, sym, ap, subst, ◌∙◌, append_assoc}
 use Rattle.std.proofs.lemmas.List.{append-nil}
 use Rattle.insar_ports.specs.Bytes.{with_end, GainsProperPrefix}
 use Rattle.insar_ports.proofs.CallerLemmas.{with_end-append, with_end-nil, cut-first, cut-later}
 use Rattle.grid_writer.specs.Writing.{Writes}
-use Rattle.sums_and_lists.proofs.Lists.{at_any_err}
 
 module _ (held : Option (List ℕ)) (waiting : List ℕ) where
   pub writes_nothing : Writes held waiting held waiting []

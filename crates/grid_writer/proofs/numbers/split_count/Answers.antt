@@ -1,4 +1,3 @@
-use Rattle.std.proofs.Common.{refl}
 use Rattle.grid_writer.proofs.DigitLemmas.{count_found, no_field, not_plain}
 use Rattle.grid_writer.proofs.numbers.split_count.Goals as goal
 use Rattle.grid_writer.proofs.numbers.split_count.Goals.{else-is_plain-via-then-is_plain+else-begins_field, else-is_plain-via-else-is_plain}

@@ -1,4 +1,4 @@
-use Rattle.std.proofs.Common.{arith, pos, rules}
+use Rattle.std.proofs.Common.{rules}
 use Rattle.grid_writer.proofs.DigitLemmas.{no_negative, not_in_range, too_negative, too_positive}
 use Rattle.grid_writer.proofs.numbers.split_number.Goals as goal
 

@@ -9,8 +9,9 @@ use Rattle.std.specs.Borrow.{Bor}
 use Rattle.clap.specs.Walk.{Row, Text, first_of, texts}
 use Rattle.raster_model.specs.declared.weights.RuleKind.{RuleKind}
 use Rattle.raster_model.specs.declared.weights.RuleKind.TheVariants.{Least, Mean, Product}
+use Rattle.raster_model.specs.Limits.{max_pixels}
 use Rattle.report_text.specs.Text.{rule_word}
-use Rattle.insar_top.specs.Asked.{AskSomething, Asks, AsksTrial, IsRefused, IsTaken, asked, most_pixels, number_of}
+use Rattle.insar_top.specs.Asked.{AskSomething, Asks, AsksTrial, IsRefused, IsTaken, asked, number_of}
 use Rattle.insar_top.specs.Requests.{HasWordsCause, IsRequest, TellsRefusal, TellsRequest}
 use Rattle.insar_top.specs.declared.refusal.Refusal.{Refusal}
 use Rattle.insar_top.specs.declared.request.Request.{Request}
@@ -77,7 +78,7 @@ trial_for words rows taken named raster has =
     let width = number_there (codes "width") 1 4096 rows raster.1.0 in
     let height = number_there (codes "height") 1 4096 rows raster.1.1 in
     let all : AsksTrial words seed.0 width.0 height.0 asks.0 asks.1 = record { asks = asks.2; seed_is = seed.1; width_is = width.1; height_is = height.1 } in
-    elim (cases_lt most_pixels (width.0 * height.0)) [
+    elim (cases_lt max_pixels (width.0 * height.0)) [
       | inl large ↦ inl (inr (seed.0, width.0, height.0, asks.0, asks.1, (all, large)))
       | inr few ↦ inr (inr (inr (inr (seed.0, width.0, height.0, asks.0, asks.1, record { asks = all; pixels = few }))))
     ]

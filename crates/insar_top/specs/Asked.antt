@@ -5,12 +5,9 @@ use Rattle.std.specs.Str.Parse.{digits_value, without_leading_plus}
 use Rattle.clap.specs.Words.{Row, Text, fault_of, first_of, one_of, subcommand_of}
 use Rattle.clap.specs.Walk.{texts}
 use Rattle.raster_model.specs.declared.weights.RuleKind.{RuleKind}
+use Rattle.raster_model.specs.Limits.{max_pixels, max_side}
 use Rattle.report_text.specs.Text.{rule_word}
 use Rattle.insar_top.specs.Stated.{stated}
-
--- sides that tiles may have
-abbrev pub IsSide : ℕ → Type 0
-IsSide side = (2 ≤ side) × (side ≤ 128)
 
 -- how many workers there may be
 abbrev pub IsWorkers : ℕ → Type 0
@@ -18,11 +15,7 @@ IsWorkers workers = (1 ≤ workers) × (workers ≤ 8)
 
 -- sides that the raster of a test session may have
 abbrev pub IsTrialSide : ℕ → Type 0
-IsTrialSide pixels = (1 ≤ pixels) × (pixels ≤ 4096)
-
--- the most pixels of a test session
-abbrev pub most_pixels : ℕ
-most_pixels = 4194304
+IsTrialSide pixels = (1 ≤ pixels) × (pixels ≤ max_side)
 
 -- clap takes the words: a parse fails only for want of memory
 abbrev pub IsTaken : List (Bor Text) → Type 0
@@ -69,11 +62,11 @@ pub record AsksTrial (words : List (Bor Text)) (seed width height : ℕ) (rule :
 -- the words ask for `trial`, with no more pixels than a session may have
 pub record IsTrialCommand (words : List (Bor Text)) (seed width height : ℕ) (rule : RuleKind) (side : ℕ) : Type 0 where
   pub asks : AsksTrial words seed width height rule side
-  pub pixels : width * height ≤ most_pixels
+  pub pixels : width * height ≤ max_pixels
 
 -- the words ask for a test session with more pixels
 abbrev pub IsTooLarge : List (Bor Text) → Type 0
-IsTooLarge words = (seed : ℕ) × (width : ℕ) × (height : ℕ) × (rule : RuleKind) × (side : ℕ) × (AsksTrial words seed width height rule side × (most_pixels < width * height))
+IsTooLarge words = (seed : ℕ) × (width : ℕ) × (height : ℕ) × (rule : RuleKind) × (side : ℕ) × (AsksTrial words seed width height rule side × (max_pixels < width * height))
 
 -- the words are refused: clap refuses them for another cause than memory, or they ask for too many pixels
 abbrev pub IsRefused : List (Bor Text) → Type 0

@@ -5,8 +5,9 @@ use Rattle.clap.specs.Words.{Text}
 use Rattle.clap.specs.Walk.{texts}
 use Rattle.raster_model.specs.declared.weights.RuleKind.{RuleKind}
 use Rattle.raster_model.specs.declared.weights.RuleKind.TheVariants.{Least}
+use Rattle.raster_model.specs.Limits.{IsTileSide, max_pixels}
 use Rattle.report_text.specs.Text.{rule_word}
-use Rattle.insar_top.specs.Asked.{AsksWorkers, IsCheck, IsSide, IsTrialCommand, IsTrialSide, IsWorkers, most_pixels}
+use Rattle.insar_top.specs.Asked.{AsksWorkers, IsCheck, IsTrialCommand, IsTrialSide, IsWorkers}
 
 -- what one pair sets
 pub data Setting : Type 0 where
@@ -43,7 +44,7 @@ EachOnce (s ∷ rest) = IsUnset (name_of s) rest × EachOnce rest
 
 -- the value is within its limits
 abbrev pub IsInLimits : Setting → Type 0
-IsInLimits (tile side) = IsSide side
+IsInLimits (tile side) = IsTileSide side
 IsInLimits (rule kind) = ⊤
 IsInLimits (workers number) = IsWorkers number
 
@@ -85,6 +86,6 @@ PlainCheckIsRead = (words : List (Bor Text)) (settings : List Setting) → ArePl
 
 -- and `trial` with its positionals
 abbrev pub PlainTrialIsRead : Type 0
-PlainTrialIsRead = (words : List (Bor Text)) (seed width height : ℕ) (settings : List Setting) → seed < 2 ^ 64 → IsTrialSide width → IsTrialSide height → width * height ≤ most_pixels → ArePlain settings
+PlainTrialIsRead = (words : List (Bor Text)) (seed width height : ℕ) (settings : List Setting) → seed < 2 ^ 64 → IsTrialSide width → IsTrialSide height → width * height ≤ max_pixels → ArePlain settings
     → texts words ≡ codes "trial" ∷ decimal seed ∷ decimal width ∷ decimal height ∷ pairs settings
     → IsTrialCommand words seed width height (rule_set settings) (side_set settings)

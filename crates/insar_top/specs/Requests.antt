@@ -2,7 +2,8 @@
 use Rattle.std.specs.Prelude.{◌≡◌, ◌*◌, ◌<◌, ℕ, List, Some, codes, ⊤}
 use Rattle.std.specs.Borrow.{Bor}
 use Rattle.clap.specs.Words.{Row, Text, first_of}
-use Rattle.insar_top.specs.Asked.{AsksWorkers, IsCheck, IsRefused, IsTrialCommand, most_pixels, number_of}
+use Rattle.raster_model.specs.Limits.{max_pixels}
+use Rattle.insar_top.specs.Asked.{AsksWorkers, IsCheck, IsRefused, IsTrialCommand, number_of}
 use Rattle.insar_top.specs.declared.refusal.Refusal.{Refusal}
 use Rattle.insar_top.specs.declared.refusal.Refusal.TheVariants as refusals
 use Rattle.insar_top.specs.declared.request.Request.{Request}
@@ -22,7 +23,7 @@ TellsTrial rows trial = TellsSettings rows trial.settings × ((number_of (codes 
 
 -- they tell a raster with too many pixels
 abbrev pub TellsTooMany : List Row → Type 0
-TellsTooMany rows = (width : ℕ) × (height : ℕ) × ((number_of (codes "width") rows ≡ Some width) × ((number_of (codes "height") rows ≡ Some height) × (most_pixels < width * height)))
+TellsTooMany rows = (width : ℕ) × (height : ℕ) × ((number_of (codes "width") rows ≡ Some width) × ((number_of (codes "height") rows ≡ Some height) × (max_pixels < width * height)))
 
 -- a subcommand asks for this by its matches
 abbrev pub TellsRequest : Text → List Row → Request → Type 0

@@ -9,14 +9,8 @@ use crate::refusal::Refusal;
 use crate::request::{Request, Settings, Trial};
 use crate::stated::stated_command;
 use clap::ArgMatches;
-use raster_model::RuleKind;
+use raster_model::{DEFAULT_WORKERS, MAX_PIXELS, RuleKind};
 use std::alloc::Global;
-
-/// The number of workers of what needs none.
-const USUAL_WORKERS: u32 = 2;
-
-/// The most pixels of a test session.
-const GREATEST_TRIAL: u32 = 4_194_304;
 
 /// What words ask for, as the stated command reads them. Words are refused where that command refuses them, a call for
 /// help too, and where they ask for a test session with too many pixels.
@@ -40,7 +34,7 @@ fn request_of(name: &str, found: &ArgMatches<'_>) -> Result<Request, Refusal>
     match name {
         "unwrap" => Ok(Request::Unwrap(solving_settings(found))),
         "grid" => Ok(Request::Grid(solving_settings(found))),
-        "check" => Ok(Request::Check(settings_with(found, USUAL_WORKERS))),
+        "check" => Ok(Request::Check(settings_with(found, DEFAULT_WORKERS))),
         "trial" => match trial_of(found) {
             Some(trial) => Ok(Request::Trial(trial)),
             None => Err(Refusal::Words),
@@ -58,7 +52,7 @@ fn trial_of(found: &ArgMatches<'_>) -> Option<Trial>
 {
     let width = number_told(found, "width");
     let height = number_told(found, "height");
-    if width * height > GREATEST_TRIAL {
+    if width * height > MAX_PIXELS {
         return None;
     }
     Some(Trial {

@@ -1,4 +1,5 @@
-ghost use Rattle.insar_top.specs.Asked.{IsSide, IsTrialSide, IsWorkers};
+ghost use Rattle.insar_top.specs.Asked.{IsTrialSide, IsWorkers};
+ghost use Rattle.raster_model.specs.Limits.{IsTileSide, max_pixels};
 ghost use Rattle.std.specs.Prelude.{◌*◌, ◌≤◌};
 
 use raster_model::RuleKind;
@@ -25,7 +26,7 @@ pub struct Settings {
     pub side: u32,
     /// How many workers there are.
     pub workers: u32,
-    pub ghost sides: { IsSide side },
+    pub ghost sides: { IsTileSide side },
     pub ghost crew: { IsWorkers workers },
 }
 
@@ -42,5 +43,5 @@ pub struct Trial {
     pub settings: Settings,
     pub ghost across: { IsTrialSide width },
     pub ghost along: { IsTrialSide height },
-    pub ghost few: { width * height ≤ 4194304 },
+    pub ghost few: { width * height ≤ max_pixels },
 }

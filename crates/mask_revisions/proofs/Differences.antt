@@ -1,16 +1,12 @@
 -- Pixels at which two masks differ.
-use Rattle.std.proofs.Common.{◌≡◌, ◌≢◌, ℕ, zero, suc, ◌+◌, ◌<◌, ◌≤◌, ◌⊎◌, inl, inr, sym, ap₂, refl, arith, Bool, true, false, min, max}
-use Rattle.std.specs.Prelude.{IsTrue, ◌&&◌, ◌||◌, ◌==◌, nat_le, MatchBool, if◌then◌else◌}
+use Rattle.std.proofs.Common.{◌≡◌, ◌≢◌, ℕ, zero, suc, ◌<◌, ◌≤◌, ◌⊎◌, inl, inr, ap₂, refl, arith, Bool, true, false}
+use Rattle.std.specs.Prelude.{IsTrue, ◌&&◌, ◌||◌, ◌==◌, nat_le, if◌then◌else◌}
 use Rattle.std.proofs.lemmas.Bool.Decides.{nat_tests}
-use Rattle.raster_model.specs.declared.script.Edit.{Edit}
 use Rattle.raster_model.specs.declared.script.Rect.{Rect}
 use Rattle.raster_model.specs.declared.tiling.Tiling.{Tiling}
-use Rattle.raster_model.specs.declared.tiling.Window.{Window}
-use Rattle.raster_model.specs.Scripts.{rect_of}
 use Rattle.raster_model.specs.Sums.{Field}
-use Rattle.raster_model.specs.Tiles.{tile_at, IsWindowOf}
-use Rattle.mask_revisions.specs.Edits.{has_pixel, opens, edited, any_below, differs, differ_in}
-use Rattle.mask_revisions.specs.Steps.{IsAll, HasOther}
+use Rattle.raster_model.specs.Tiles.{tile_at}
+use Rattle.mask_revisions.specs.Edits.{has_pixel, any_below, differs, differ_in}
 use Rattle.sums_and_lists.proofs.Tests.{true_and_false}
 use Rattle.sums_and_lists.proofs.Orders.{below_or_at}
 use Rattle.std.proofs.lemmas.Bool.{or_right, or_left}
@@ -94,14 +90,14 @@ differ_same g old new old' new' t h k =
     (λ y m. any_same g.width (λ x. (tile_at g x y == t) && differs (old x y) (new x y)) (λ x. (tile_at g x y == t) && differs (old' x y) (new' x y))
     (λ x l. ap₂ (λ (a b : Bool). (tile_at g x y == t) && differs a b) (h x y l m) (k x y l m)))
 
--- ---- an edit in one tile
+-- ---- an edit at one pixel
 pub box_says : (r : Rect) (x y : ℕ) → IsTrue (has_pixel r x y) → (r.x0 ≤ x) × (x ≤ r.x1) × (r.y0 ≤ y) × (y ≤ r.y1)
 box_says r x y h = says r.x0 r.x1 r.y0 r.y1 x y h
   where
     says : (x0 x1 y0 y1 x y : ℕ) → IsTrue ((nat_le x0 x && nat_le x x1) && (nat_le y0 y && nat_le y y1)) → (x0 ≤ x) × (x ≤ x1) × (y0 ≤ y) × (y ≤ y1)
     says x0 x1 y0 y1 x y h = (grind (arith, nat_tests), grind (arith, nat_tests), grind (arith, nat_tests), grind (arith, nat_tests))
 
-box_has : (r : Rect) (x y : ℕ) → r.x0 ≤ x → x ≤ r.x1 → r.y0 ≤ y → y ≤ r.y1 → has_pixel r x y ≡ true
+pub box_has : (r : Rect) (x y : ℕ) → r.x0 ≤ x → x ≤ r.x1 → r.y0 ≤ y → y ≤ r.y1 → has_pixel r x y ≡ true
 box_has r x y p q s u = from r.x0 r.x1 r.y0 r.y1 x y p q s u
   where
     from : (x0 x1 y0 y1 x y : ℕ) → x0 ≤ x → x ≤ x1 → y0 ≤ y → y ≤ y1 → ((nat_le x0 x && nat_le x x1) && (nat_le y0 y && nat_le y y1)) ≡ true
@@ -111,27 +107,5 @@ pub chosen : (k u o : Bool) → o ≢ (if k then u else o) → (k ≡ true) × (
 chosen true u o n = (refl, n)
 chosen false u o n = absurd (n refl)
 
-chosen_from : (k u o : Bool) → k ≡ true → o ≢ u → o ≢ (if k then u else o)
+pub chosen_from : (k u o : Bool) → k ≡ true → o ≢ u → o ≢ (if k then u else o)
 chosen_from k u o e n = rw e n
-
-module _ (g : Tiling) (mask : Field Bool) (e : Edit) (t : ℕ) (v : Window) (is : IsWindowOf g t v) where
-  module _ (x0 x1 y0 y1 : ℕ) (ex : x0 ≡ max (rect_of e).x0 v.x0) (fx : x1 ≡ min (rect_of e).x1 v.x1) (ey : y0 ≡ max (rect_of e).y0 v.y0) (fy : y1 ≡ min (rect_of e).y1 v.y1) where
-    pub tells_change : (b : Bool) → MatchBool b (HasOther mask x0 (x1 + 1) y0 (y1 + 1) (opens e)) (IsAll mask x0 (x1 + 1) y0 (y1 + 1) (opens e)) → b ≡ differ_in g mask (edited e mask) t
-    tells_change true o =
-        let x = o.0 in
-        let y = o.1 in
-        let l : x < g.width = omega (arith, o.3, fx, is.across) in
-        let m : y < g.height = omega (arith, o.5, fy, is.along) in
-        let inside = (is.pixels x y l m).1 (omega (arith, o.2, ex), omega (arith, o.3, fx), omega (arith, o.4, ey), omega (arith, o.5, fy)) in
-        let box = box_has (rect_of e) x y (omega (arith, o.2, ex)) (omega (arith, o.3, fx)) (omega (arith, o.4, ey)) (omega (arith, o.5, fy)) in
-        sym (differ_from g mask (edited e mask) t x y l m inside (chosen_from (has_pixel (rect_of e) x y) (opens e) (mask x y) box o.6))
-    tells_change false all = none (differ_in g mask (edited e mask) t) refl
-      where
-        none : (b : Bool) → differ_in g mask (edited e mask) t ≡ b → false ≡ b
-        none false h = refl
-        none true h =
-            let d = differ_tells g mask (edited e mask) t h in
-            let c = chosen (has_pixel (rect_of e) d.0 d.1) (opens e) (mask d.0 d.1) d.5 in
-            let p = box_says (rect_of e) d.0 d.1 c.0 in
-            let w = (is.pixels d.0 d.1 d.2 d.3).0 d.4 in
-            absurd (c.1 (all d.0 d.1 (omega (arith, p, w, ex)) (omega (arith, p, w, fx)) (omega (arith, p, w, ey)) (omega (arith, p, w, fy))))

@@ -1,7 +1,8 @@
 -- The tiles that a box meets, by rows.
-use Rattle.std.proofs.Common.{◌≡◌, ◌≢◌, ℕ, ◌+◌, ◌-◌, ◌*◌, ◌/◌, ◌%◌, ◌<◌, ◌≤◌, ◌⊎◌, inl, inr, ◌∙◌, ap, ap₂, refl, arith, Bool, false, List, [], ◌∷◌, ◌++◌, length}
-use Rattle.std.specs.Prelude.{IsTrue, slice_index}
-use Rattle.std.proofs.lemmas.Bool.{cases_eq}
+use Rattle.std.proofs.Common.{◌≡◌, ◌≢◌, ℕ, ◌+◌, ◌-◌, ◌*◌, ◌/◌, ◌%◌, ◌<◌, ◌≤◌, ◌⊎◌, inl, inr, ◌∙◌, ap, ap₂, sym, refl, arith, max, Bool, true, false, List, [], ◌∷◌, ◌++◌, length}
+use Rattle.std.specs.Prelude.{IsTrue, ◌||◌, ◌==◌, nat_lt, slice_index}
+use Rattle.std.proofs.lemmas.Bool.{cases_eq, cases_lt, cases_order}
+use Rattle.std.proofs.lemmas.Bool.Decides.{nat_tests}
 use Rattle.std.proofs.lemmas.Nat.{mul-le, mul-add-lt, le-div, div_below, div-add-mod', mod_below, div-mul-add, mod-mul-add}
 use Rattle.std.proofs.lemmas.List.{get_or_append_left, get_or_push, length_push}
 use Rattle.raster_model.specs.declared.script.Edit.{Edit}
@@ -13,8 +14,8 @@ use Rattle.raster_model.specs.Tiles.{columns_of, tile_at}
 use Rattle.raster_model.proofs.TileLemmas.{block_below, tiles_are_numbered}
 use Rattle.mask_revisions.specs.Edits.{differ_in, edited, has_pixel, opens}
 use Rattle.mask_revisions.specs.Revisions.{AreChanged}
-use Rattle.mask_revisions.specs.Steps.{met_across, tiles_met, met_tile, AreListed}
-use Rattle.mask_revisions.proofs.Differences.{box_says, chosen, differ_tells}
+use Rattle.mask_revisions.specs.Steps.{met_across, tiles_met, met_tile, AreListed, Meets}
+use Rattle.mask_revisions.proofs.Differences.{box_has, box_says, chosen, differ_tells}
 use Rattle.sums_and_lists.proofs.Orders.{below_or_last}
 use Rattle.sums_and_lists.proofs.Tests.{true_and_false}
 
@@ -27,6 +28,24 @@ div_start q a d l = omega (arith, div-add-mod' a d, mul-le q d (a / d) d l (omeg
 
 div_whole : (q d : ℕ) → 0 < d → q * d / d ≡ q
 div_whole q d p = let e : q * d ≡ q * d + 0 = omega arith in rw e (div-mul-add q d 0 p)
+
+-- the greater of a number and of the start of its part or of a later one lies in that part
+div_from : (q a d : ℕ) → 0 < d → a / d ≤ q → max (q * d) a / d ≡ q
+div_from q a d p l = elim (cases_lt (q * d) a) [
+  | inr m ↦ (let e : max (q * d) a ≡ q * d = omega arith in rw e (div_whole q d p))
+  | inl m ↦ (let e : max (q * d) a ≡ a = omega arith in rw e (omega (arith, l, le-div q a d p (omega arith))))
+]
+
+not_below : (t b : ℕ) → b ≤ t → nat_lt t b ≡ false
+not_below t b l = grind (arith, nat_tests)
+
+is_below : (t b : ℕ) → t < b → nat_lt t b ≡ true
+is_below t b l = grind (arith, nat_tests)
+
+below_next : (t a b : ℕ) → a < b → (t < a) ⊎ ((t ≡ a) ⊎ (b ≤ t)) → nat_lt t b ≡ (nat_lt t a || (t == a))
+below_next t a b l (inl m) = grind (arith, nat_tests)
+below_next t a b l (inr (inl m)) = grind (arith, nat_tests)
+below_next t a b l (inr (inr m)) = grind (arith, nat_tests)
 
 -- a place and the next: the same row and a later column, or a later row
 next_place : (i j n : ℕ) → 0 < n → i < j → (i / n < j / n) ⊎ ((i / n ≡ j / n) × (i % n < j % n))
@@ -54,6 +73,9 @@ module _ (g : Tiling) (r : Rect) (is : IsRectIn g.width g.height r) where
   pub met_top : (k : ℕ) → k < tiles_met g r → (r.y0 / g.side + k / met_across g r) * g.side < g.height
   met_top k l = omega (arith, div_start (r.y0 / g.side + k / met_across g r) r.y1 g.side (met_row k l), is.3)
 
+  pub met_left : (k : ℕ) → (r.x0 / g.side + k % met_across g r) * g.side < g.width
+  met_left k = omega (arith, div_start (r.x0 / g.side + k % met_across g r) r.x1 g.side (met_column k), is.1)
+
   -- the tile of the first pixel of that column and row
   pub met_is : (k : ℕ) → tile_at g ((r.x0 / g.side + k % met_across g r) * g.side) ((r.y0 / g.side + k / met_across g r) * g.side) ≡ met_tile g r k
   met_is k = rw (div_whole (r.x0 / g.side + k % met_across g r) g.side side, div_whole (r.y0 / g.side + k / met_across g r) g.side side) refl
@@ -62,6 +84,12 @@ module _ (g : Tiling) (r : Rect) (is : IsRectIn g.width g.height r) where
   met_rises j k l = elim (next_place j k (met_across g r) across l) [
     | inl h ↦ later_row (r.y0 / g.side + j / met_across g r) (r.y0 / g.side + k / met_across g r) (r.x0 / g.side + j % met_across g r) (r.x0 / g.side + k % met_across g r) (columns_of g) (omega arith) (omega (arith, met_column j, block_below r.x1 g.width g.side side is.1))
     | inr h ↦ (let e : (r.y0 / g.side + j / met_across g r) * columns_of g ≡ (r.y0 / g.side + k / met_across g r) * columns_of g = ap (λ (n : ℕ). (r.y0 / g.side + n) * columns_of g) h.0 in omega (arith, e, h.1))
+  ]
+
+  met_up : (j k : ℕ) → j ≤ k → met_tile g r j ≤ met_tile g r k
+  met_up j k l = elim (cases_eq j k) [
+    | inl e ↦ rw e (omega arith)
+    | inr n ↦ omega (arith, met_rises j k (omega (arith, n)))
   ]
 
   -- each pixel of the box lies in one of them
@@ -80,8 +108,45 @@ module _ (g : Tiling) (r : Rect) (is : IsRectIn g.width g.height r) where
       let column : r.x0 / g.side + (a * n + b) % n ≡ x / g.side = omega (arith, mod-mul-add a n b m, lx) in
       (a * n + b, omega (arith, l), ap₂ (λ (i j : ℕ). i * columns_of g + j) row column)
 
+  -- a pixel of the box lies in each of them
+  pub met_meets : (k : ℕ) → k < tiles_met g r → Meets g r (met_tile g r k)
+  met_meets k l =
+      let c = r.x0 / g.side + k % met_across g r in
+      let d = r.y0 / g.side + k / met_across g r in
+      let x = max (c * g.side) r.x0 in
+      let y = max (d * g.side) r.y0 in
+      let p : c * g.side ≤ r.x1 = div_start c r.x1 g.side (met_column k) in
+      let q : d * g.side ≤ r.y1 = div_start d r.y1 g.side (met_row k l) in
+      (x, y, omega (arith, p, is), omega (arith, q, is), box_has r x y (omega arith) (omega (arith, p, is)) (omega arith) (omega (arith, q, is)), ap₂ (λ (i j : ℕ). i * columns_of g + j) (div_from d r.y0 g.side side (omega arith)) (div_from c r.x0 g.side side (omega arith)))
+
+  -- ---- which tiles of the box's pixels come before one of them
+  met_of : (x y : ℕ) → IsTrue (has_pixel r x y) → (k : ℕ) × (k < tiles_met g r) × (met_tile g r k ≡ tile_at g x y)
+  met_of x y h = let b = box_says r x y h in met_at x y b.0 b.1 b.2 b.3
+
+  pub before_first : (x y : ℕ) → IsTrue (has_pixel r x y) → nat_lt (tile_at g x y) (met_tile g r 0) ≡ false
+  before_first x y h = let u = met_of x y h in not_below (tile_at g x y) (met_tile g r 0) (rw u.2 at (met_up 0 u.0 (omega arith)))
+
+  pub before_end : (x y : ℕ) → IsTrue (has_pixel r x y) → nat_lt (tile_at g x y) (met_tile g r (tiles_met g r)) ≡ true
+  before_end x y h = let u = met_of x y h in is_below (tile_at g x y) (met_tile g r (tiles_met g r)) (rw u.2 at (met_rises u.0 (tiles_met g r) u.1))
+
+  pub before_next : (k x y : ℕ) → IsTrue (has_pixel r x y) → nat_lt (tile_at g x y) (met_tile g r (k + 1)) ≡ (nat_lt (tile_at g x y) (met_tile g r k) || (tile_at g x y == met_tile g r k))
+  before_next k x y h =
+      let u = met_of x y h in
+      below_next (tile_at g x y) (met_tile g r k) (met_tile g r (k + 1)) (met_rises k (k + 1) (omega arith)) (elim (cases_order u.0 k) [
+        | inl e ↦ inr (inl (sym u.2 ∙ ap (met_tile g r) e))
+        | inr (inl l) ↦ inl (rw u.2 at (met_rises u.0 k l))
+        | inr (inr l) ↦ inr (inr (rw u.2 at (met_up (k + 1) u.0 (omega (arith, l)))))
+      ])
+
   -- ---- a list of those that pass a test
   module _ (p : ℕ → Bool) where
+    pub listed_none : AreListed g r p 0 []
+    listed_none = record {
+      rising = λ i j l m. absurd (omega arith);
+      each = λ i l. absurd (omega arith);
+      all = λ j l t. absurd (omega arith);
+    }
+
     pub listed_without : (k : ℕ) (ts : List ℕ) → AreListed g r p k ts → p (met_tile g r k) ≡ false → AreListed g r p (k + 1) ts
     listed_without k ts is f = record {
       rising = is.rising;

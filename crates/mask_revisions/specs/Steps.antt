@@ -1,11 +1,14 @@
 -- Words of helpers, which no public clause cites: boxes of a mask that were set, and tiles that were looked at.
-use Rattle.std.specs.Prelude.{◌≡◌, ◌≢◌, ℕ, ◌+◌, ◌-◌, ◌*◌, ◌/◌, ◌%◌, ◌<◌, ◌≤◌, Bool, ◌&&◌, IsTrue, nat_le, nat_lt, if◌then◌else◌, List, length, slice_index}
+use Rattle.std.specs.Prelude.{◌≡◌, ◌≢◌, ℕ, ◌+◌, ◌-◌, ◌*◌, ◌/◌, ◌%◌, ◌<◌, ◌≤◌, Bool, ◌&&◌, ◌==◌, IsTrue, nat_le, nat_lt, if◌then◌else◌, List, length, slice_index}
+use Rattle.raster_model.specs.declared.script.Edit.{Edit}
 use Rattle.raster_model.specs.declared.script.Rect.{Rect}
 use Rattle.raster_model.specs.declared.tiling.Tiling.{Tiling}
 use Rattle.raster_model.specs.MaskView.{MaskView}
 use Rattle.raster_model.specs.Masks.{open_at}
+use Rattle.raster_model.specs.Scripts.{IsRectIn, rect_of}
 use Rattle.raster_model.specs.Sums.{Field}
-use Rattle.raster_model.specs.Tiles.{columns_of}
+use Rattle.raster_model.specs.Tiles.{columns_of, tile_at}
+use Rattle.mask_revisions.specs.Edits.{has_pixel, opens}
 
 -- the box from (x0, y0) to before column x1 and row y1 has the pixel
 abbrev pub in_box : ℕ → ℕ → ℕ → ℕ → Field Bool
@@ -23,6 +26,19 @@ IsAll mask x0 x1 y0 y1 unmasked = (x y : ℕ) → x0 ≤ x → x < x1 → y0 ≤
 
 abbrev pub HasOther : Field Bool → ℕ → ℕ → ℕ → ℕ → Bool → Type 0
 HasOther mask x0 x1 y0 y1 unmasked = (x : ℕ) × (y : ℕ) × (x0 ≤ x) × (x < x1) × (y0 ≤ y) × (y < y1) × (mask x y ≢ unmasked)
+
+-- a pixel of the box lies in the tile
+abbrev pub Meets : Tiling → Rect → ℕ → Type 0
+Meets g r t = (x : ℕ) × (y : ℕ) × (x < g.width) × (y < g.height) × IsTrue (has_pixel r x y) × (tile_at g x y ≡ t)
+
+-- the part has exactly the pixels of the box that lie in the tile
+pub record IsPartOf (g : Tiling) (r : Rect) (t : ℕ) (part : Rect) : Type 0 where
+  pub inside : IsRectIn g.width g.height part
+  pub pixels : (x y : ℕ) → x < g.width → y < g.height → has_pixel part x y ≡ (has_pixel r x y && (tile_at g x y == t))
+
+-- a mask with an edit applied in the tiles before tile t
+abbrev pub edited_before : Tiling → ℕ → Edit → Field Bool → Field Bool
+edited_before g t e mask x y = if has_pixel (rect_of e) x y && nat_lt (tile_at g x y) t then opens e else mask x y
 
 -- the tiles that a box meets, by rows: how many lie side by side, how many there are, and the number of the k-th
 abbrev pub met_across : Tiling → Rect → ℕ

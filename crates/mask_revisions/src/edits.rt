@@ -1,9 +1,9 @@
 ghost use Rattle.raster_model.specs.Limits.{max_side};
-ghost use Rattle.mask_revisions.specs.Edits.{edited, opens as opens_pixels};
-ghost use Rattle.mask_revisions.specs.Steps.{IsBoxSet};
-ghost use Rattle.raster_model.specs.Masks.{IsMaskOf, open_at};
+ghost use Rattle.mask_revisions.specs.Edits.{opens as opens_pixels};
+ghost use Rattle.mask_revisions.specs.Steps.{HasOther, IsAll, IsBoxSet};
+ghost use Rattle.raster_model.specs.Masks.{open_at};
 ghost use Rattle.raster_model.specs.Scripts.{IsRectIn, rect_of as box_of};
-ghost use Rattle.std.specs.Prelude.{◌≡◌, ◌+◌, ◌<◌, ◌≤◌};
+ghost use Rattle.std.specs.Prelude.{◌≡◌, ◌+◌, ◌<◌, ◌≤◌, MatchBool};
 
 use raster_model::{Edit, Mask, Rect};
 
@@ -26,35 +26,16 @@ pub fn opens(edit: Edit) -> bool
     }
 }
 
-/// Applies an edit.
-pub fn apply(mask: &mut Mask, edit: Edit)
-    requires rect { IsRectIn mask.old.width mask.old.height (box_of edit) }
-    requires small { (mask.old.width ≤ max_side) × (mask.old.height ≤ max_side) }
-    ensures { IsMaskOf mask.new mask.old.width mask.old.height (edited edit (open_at mask.old)) }
-{
-    let rect = rect_of(edit);
-    set_box(mask, rect, opens(edit));
-}
-
-/// Opens or masks the pixels of a box.
-fn set_box(mask: &mut Mask, rect: Rect, unmasked: bool)
+/// Opens or masks the pixels of a box. Answers whether one changed.
+pub fn set_box(mask: &mut Mask, rect: Rect, unmasked: bool) -> bool
     requires rect { IsRectIn mask.old.width mask.old.height rect }
-    requires small { (mask.old.width ≤ max_side) × (mask.old.height ≤ max_side) }
-    ensures { IsBoxSet mask.old mask.new rect.x0 (rect.x1 + 1) rect.y0 (rect.y1 + 1) unmasked }
+    requires small { mask.old.height ≤ max_side }
+    ensures set { IsBoxSet mask.old mask.new rect.x0 (rect.x1 + 1) rect.y0 (rect.y1 + 1) unmasked }
+    ensures changed { MatchBool result (HasOther (open_at mask.old) rect.x0 (rect.x1 + 1) rect.y0 (rect.y1 + 1) unmasked) (IsAll (open_at mask.old) rect.x0 (rect.x1 + 1) rect.y0 (rect.y1 + 1) unmasked) }
 {
+    let mut changed = false;
     for y in rect.y0..rect.y1 + 1 {
-        set_row(mask, y, rect, unmasked);
+        changed |= mask.set_span(y, rect.x0, rect.x1, unmasked);
     }
-}
-
-/// Opens or masks the pixels of a box in row `y`.
-fn set_row(mask: &mut Mask, y: u32, rect: Rect, unmasked: bool)
-    requires rect { IsRectIn mask.old.width mask.old.height rect }
-    requires row { y < mask.old.height }
-    requires small { mask.old.width ≤ max_side }
-    ensures { IsBoxSet mask.old mask.new rect.x0 (rect.x1 + 1) y (y + 1) unmasked }
-{
-    for x in rect.x0..rect.x1 + 1 {
-        mask.set(x, y, unmasked);
-    }
+    changed
 }

@@ -1,5 +1,4 @@
-use crate::changes::{changed_tiles, restamp};
-use crate::edits::apply;
+use crate::changes::{count_met, restamp, set_tiles};
 use raster_model::{Edit, Mask, Tiling};
 use std::alloc::{AllocError, Global};
 use std::marker::Model;
@@ -63,8 +62,9 @@ impl Revisions {
         ensures next { OnOk result ((first : Field Bool) (edits : List Change) → AreRevisionsOf first edits self.old → AreRevisionsOf first (edits ++ edit ∷ []) self.new) }
         ensures changed { IfOk result (λ tiles. AreChanged self.old.tiling (open_at self.old.mask) (open_at self.new.mask) tiles.items) }
     {
-        let tiles = changed_tiles(alloc, &self.mask, &self.tiling, edit)?;
-        apply(&mut self.mask, edit);
+        let met = count_met(&self.tiling, edit);
+        let mut tiles = Vec::with_capacity(alloc, met as usize)?;
+        set_tiles(&mut self.mask, &self.tiling, edit, &mut tiles);
         self.count += 1;
         restamp(&mut self.stamps, &tiles, self.count);
         Ok(tiles)

@@ -10,6 +10,7 @@ pub mod EdgeLists
 pub mod FlowLemmas
 pub mod Exact
 pub mod TileLemmas
+pub mod BitLemmas
 pub mod MaskLemmas
 pub mod DepartureLemmas
 pub mod ResidueLemmas

@@ -12,7 +12,9 @@ pub mod Best
 pub mod Exact
 pub mod Tiles
 pub mod Weights
+pub mod Bits
 pub mod MaskView
+pub mod MaskWords
 pub mod Masks
 pub mod Scene
 pub mod Heights

@@ -1,5 +1,5 @@
 -- Which pixels of a mask are open.
-use Rattle.std.specs.Prelude.{◌≡◌, ◌≢◌, ◌⊎◌, ℕ, ◌+◌, ◌*◌, ◌<◌, Bool, true, not, ◌==◌, slice_index_or}
+use Rattle.std.specs.Prelude.{◌≡◌, ◌≢◌, ◌⊎◌, ℕ, ◌+◌, ◌*◌, ◌<◌, ◌≤◌, Bool, true, not, ◌==◌, slice_index_or}
 use Rattle.raster_model.specs.declared.plane.Plane.{Plane}
 use Rattle.raster_model.specs.MaskView.{MaskView}
 use Rattle.raster_model.specs.Sums.{Field}
@@ -28,3 +28,17 @@ pub record IsSetAt (old new : MaskView) (x y : ℕ) (unmasked : Bool) : Type 0 w
   pub height : new.height ≡ old.height
   pub here : open_at new x y ≡ unmasked
   pub elsewhere : (a b : ℕ) → a < old.width → b < old.height → (a ≢ x) ⊎ (b ≢ y) → open_at new a b ≡ open_at old a b
+
+-- the new mask is the old one but for the pixels of row y from x0 to x1, which are open exactly if the test says so
+pub record IsSpanSet (old new : MaskView) (y x0 x1 : ℕ) (unmasked : Bool) : Type 0 where
+  pub width : new.width ≡ old.width
+  pub height : new.height ≡ old.height
+  pub here : (x : ℕ) → x0 ≤ x → x ≤ x1 → open_at new x y ≡ unmasked
+  pub elsewhere : (a b : ℕ) → a < old.width → b < old.height → (b ≢ y) ⊎ ((a < x0) ⊎ (x1 < a)) → open_at new a b ≡ open_at old a b
+
+-- in row y each pixel from x0 to x1 is as the test says; one is not
+abbrev pub IsSpanOf : MaskView → ℕ → ℕ → ℕ → Bool → Type 0
+IsSpanOf m y x0 x1 unmasked = (x : ℕ) → x0 ≤ x → x ≤ x1 → open_at m x y ≡ unmasked
+
+abbrev pub HasOtherInSpan : MaskView → ℕ → ℕ → ℕ → Bool → Type 0
+HasOtherInSpan m y x0 x1 unmasked = (x : ℕ) × (x0 ≤ x) × (x ≤ x1) × (open_at m x y ≢ unmasked)

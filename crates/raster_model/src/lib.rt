@@ -2,6 +2,7 @@
 //! repository cites: wrapped differences, weights, congruent surfaces, costs, certificates, best surfaces.
 #![tactic(auto)]
 
+mod bits;
 mod edge;
 mod heights;
 pub mod laws;

@@ -132,3 +132,116 @@ fn an_edit_without_a_change_is_a_revision(rt: HostRuntime) -> Result<(), Fail> {
     );
     Ok(())
 }
+
+/// Width and height of a raster and the side of its tiles, a box that is masked, one that is opened after it, and in words
+/// the tiles that each changes and for each row how many pixels are masked in the end. By hand: a raster of 130 columns has
+/// the tiles 0, 1 and 2 from the columns 0, 64 and 128 on, where words of 64 pixels begin as well. The rows are: the whole
+/// raster and one pixel; the last pixel and the whole raster; a column of which two pixels are opened; 63, 64 and 65 pixels
+/// from the first on, and 64 from the second on; a tile of two words; rasters of 63, 64 and 65 columns up to their last
+/// pixel; a box in which nothing is masked.
+const SPANS: [(u32, u32, u32, [u32; 4], [u32; 4], &str); 12] = [
+    (
+        130,
+        3,
+        64,
+        [0, 0, 129, 2],
+        [64, 1, 64, 1],
+        "[0, 1, 2] [1] 130 129 130",
+    ),
+    (
+        130,
+        3,
+        64,
+        [129, 2, 129, 2],
+        [0, 0, 129, 2],
+        "[2] [2] open open open",
+    ),
+    (
+        130,
+        3,
+        64,
+        [63, 0, 63, 2],
+        [62, 1, 64, 2],
+        "[0] [0] 1 open open",
+    ),
+    (130, 1, 64, [0, 0, 62, 0], [62, 0, 64, 0], "[0] [0] 62"),
+    (130, 1, 64, [0, 0, 63, 0], [63, 0, 65, 0], "[0] [0] 63"),
+    (
+        130,
+        1,
+        64,
+        [0, 0, 64, 0],
+        [63, 0, 64, 0],
+        "[0, 1] [0, 1] 63",
+    ),
+    (130, 1, 64, [1, 0, 64, 0], [64, 0, 129, 0], "[0, 1] [1] 63"),
+    (128, 1, 128, [60, 0, 127, 0], [61, 0, 126, 0], "[0] [0] 2"),
+    (63, 2, 32, [0, 0, 62, 1], [62, 1, 62, 1], "[0, 1] [1] 63 62"),
+    (64, 2, 32, [0, 0, 63, 1], [63, 1, 63, 1], "[0, 1] [1] 64 63"),
+    (
+        65,
+        2,
+        32,
+        [0, 0, 64, 1],
+        [64, 0, 64, 0],
+        "[0, 1, 2] [2] 64 65",
+    ),
+    (130, 1, 64, [0, 0, 0, 0], [1, 0, 129, 0], "[0] [] 1"),
+];
+
+/// How many pixels of a row are masked.
+fn count_masked(mask: &Mask, y: u32) -> u32
+    requires { y < mask.now.height }
+{
+    let mut count = 0;
+    for x in 0..mask.width() {
+        if !mask.is_open(x, y) {
+            count += 1;
+        }
+    }
+    count
+}
+
+/// How many pixels of each row are masked, or that it is open.
+fn rows(alloc: Global, mask: &Mask) -> Result<String, AllocError> {
+    let mut text = String::new(alloc);
+    for y in 0..mask.height() {
+        if mask.is_open_span(y, 0, mask.width() - 1) {
+            text.push_str(" open")?;
+        } else {
+            text.push_str(format!(in alloc; " {}", count_masked(mask, y))?.as_str())?;
+        }
+    }
+    Ok(text)
+}
+
+/// The tiles that change where a box is masked and another is opened after it, and the rows at the end.
+fn masked_and_opened(
+    alloc: Global,
+    tiling: Tiling,
+    masked: Rect,
+    opened: Rect,
+) -> Result<String, AllocError>
+    requires size { IsTrue (is_raster_size tiling.width tiling.height) }
+    requires masked { IsRectIn tiling.width tiling.height masked }
+    requires opened { IsRectIn tiling.width tiling.height opened }
+{
+    let mut revisions = all_open(alloc, tiling)?;
+    let first = pushed(alloc, &mut revisions, Edit::Mask(masked))?;
+    let second = pushed(alloc, &mut revisions, Edit::Unmask(opened))?;
+    let rows = rows(alloc, revisions.mask())?;
+    format!(in alloc; "{first} {second}{rows}")
+}
+
+#[test]
+fn boxes_change_their_pixels_over_the_ends_of_words(rt: HostRuntime) -> Result<(), Fail> {
+    for (width, height, side, [a, b, c, d], [e, f, g, h], words) in SPANS {
+        assert!(rt; 0 < width && width < 200 && 0 < height && height < 9 && 1 < side && side < 129);
+        assert!(rt; a <= c && c < width && b <= d && d < height);
+        assert!(rt; e <= g && g < width && f <= h && h < height);
+        let tiling = Tiling::new(width, height, side);
+        let told = masked_and_opened(rt.alloc(), tiling, rect(a, b, c, d), rect(e, f, g, h))?;
+        assert_eq!(rt; told.as_str(), words);
+    }
+    Ok(())
+}

@@ -8,7 +8,7 @@ returns-clause-pushed c =
     let i = c.self.inside in
     let held = with_items_is i.stamps c.restamp.new.stamps (c.restamp.auto.stamps ∙ c.deref_mut.ensures.len) in
     let stamped = rw (c.deref_mut.ensures.value, c.deref.ensures.value) at c.restamp.ensures in
-    rw (← c.self.view_is, held) (pushed_is i.mask c.apply.new.mask i.tiling i.stamps.items c.restamp.new.stamps c.in_ok-tiles.tiles.items i.count c.args.edit c.self.invariant.0 c.self.invariant.1 c.apply.ensures c.in_ok-tiles.ensures stamped)
+    rw (← c.self.view_is, held) (pushed_is i.mask c.set_tiles.new.mask i.tiling i.stamps.items c.restamp.new.stamps c.set_tiles.new.tiles.items i.count c.args.edit c.self.invariant.0 c.self.invariant.1 c.set_tiles.ensures.mask c.set_tiles.ensures.changed stamped)
 
 pub returns-clause-next : goal.returns-clause-next
 returns-clause-next c first edits is = next_are first edits c.args.edit c.args.self.now _ is (returns-clause-pushed c)
@@ -16,4 +16,4 @@ returns-clause-next c first edits is = next_are first edits c.args.edit c.args.s
 pub returns-clause-changed : goal.returns-clause-changed
 returns-clause-changed c =
     let i = c.self.inside in
-    rw (← c.self.view_is) (now_changed i.mask c.apply.new.mask i.tiling c.in_ok-tiles.tiles.items c.args.edit c.self.invariant.0 c.self.invariant.1 c.apply.ensures c.in_ok-tiles.ensures)
+    rw (← c.self.view_is) (now_changed i.mask c.set_tiles.new.mask i.tiling c.set_tiles.new.tiles.items c.args.edit c.self.invariant.0 c.self.invariant.1 c.set_tiles.ensures.mask c.set_tiles.ensures.changed)

@@ -12,7 +12,7 @@ pub texts_none : (f : ℕ → List ℕ) → texts_below 0 f ≡ []
 unfolding texts_below
 texts_none f = refl
 
--- what comes behind the first x + 1 texts
+-- what comes after the first x + 1 texts
 pub texts_tail : (n x : ℕ) (f : ℕ → List ℕ) → x < n → (tail : List ℕ) × (texts_below n f ≡ (texts_below x f ++ f x) ++ tail)
 unfolding texts_below
 texts_tail zero x f lt = absurd (omega arith)

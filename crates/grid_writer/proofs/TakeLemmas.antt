@@ -44,7 +44,7 @@ line_feed_at bytes count lt is = (
 pub no_line_feed : (bytes : List ℕ) → ((k : ℕ) → 0 ≤ k → k < length bytes → (get_or bytes k 0 == 10) ≡ true → ⊥) → All IsInLine bytes
 no_line_feed bytes none = All-from_get_or IsInLine bytes 0 (λ k lt e. none k (omega arith) lt (eq-eqb (get_or bytes k 0) 10 e))
 
--- a part and what stands behind it
+-- a part and what stands after it
 pub part_first : (ready part rest : List ℕ) → ready ≡ part ++ rest → take (length part) ready ≡ part
 part_first ready part rest e = ap (take (length part)) e ∙ take_at part rest (length part) refl
 

@@ -12,7 +12,7 @@ texts_below (suc n) f = texts_below n f ++ f n
 abbrev pub gap_before : ℕ → List ℕ
 gap_before x = if x == 0 then [] else 32 ∷ []
 
--- a value behind its gap
+-- a value after its gap
 abbrev pub value_text : (ℕ → ℕ → ℤ) → ℕ → ℕ → List ℕ
 value_text values y x = gap_before x ++ signed_decimal (values x y)
 

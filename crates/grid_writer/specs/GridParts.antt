@@ -10,7 +10,7 @@ use Rattle.grid_writer.specs.Numbers.{AreLongs, numbers_line}
 abbrev pub IsText : List ℕ → Form
 IsText whole text = text ≡ whole
 
--- a number from `least` to `most` behind a label, and such a line
+-- a number from `least` to `most` after a label, and such a line
 abbrev pub IsCount : List ℕ → ℕ → ℕ → List ℕ → Type 0
 IsCount label least most line = (n : ℕ) × ((least ≤ n) × ((n ≤ most) × (line ≡ label ++ decimal n)))
 

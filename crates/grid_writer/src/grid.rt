@@ -27,7 +27,7 @@ fn write_gap<K: Sink>(text: &mut TextBuffer, sink: &mut K, x: u32) -> Result<(),
     Ok(())
 }
 
-/// Writes a value, behind a space unless it is the first of its row.
+/// Writes a value, after a space unless it is the first of its row.
 fn write_value<K: Sink>(
     text: &mut TextBuffer,
     sink: &mut K,
@@ -132,7 +132,7 @@ fn write_frame<K: Sink>(text: &mut TextBuffer, sink: &mut K) -> Result<(), Write
     )
 }
 
-/// Writes a count in decimal behind its label.
+/// Writes a count in decimal after its label.
 fn write_count<K: Sink>(
     text: &mut TextBuffer,
     sink: &mut K,
@@ -183,7 +183,7 @@ pub fn append_grid<K: Sink>(
 }
 
 /// Writes the grid of a snapshot's surface, in units of 1/65536 cycle: six lines of header, then the rows from
-/// the top, each of its values parted by a space. A masked pixel has the NODATA value. It takes no memory. After
+/// the top, each of its values separated by a space. A masked pixel has the NODATA value. It takes no memory. After
 /// a fault the sink has a part of the text. (Esri ASCII raster, in one spelling.)
 pub fn write_grid<K: Sink>(snapshot: &Snapshot, sink: &mut K) -> Result<(), WriteFault>
     ensures written { OnOk result (K.held sink.new ≡ with_end (K.held sink.old) (text_of (parts_of snapshot.now))) }

@@ -122,7 +122,7 @@ fn begins_field(rest: &[u8]) -> bool
     matches!(rest, [] | [SPACE, ..])
 }
 
-/// The number from `least` to `most` that stands behind a label.
+/// The number from `least` to `most` that stands after a label.
 pub fn labelled_count(line: &[u8], label: &[u8], least: u32, most: u32) -> Option<u32>
     ensures within { IfSome result (λ count. (least ≤ count) × (count ≤ most)) }
     ensures found { IfSome result (λ count. line.now ≡ label.now ++ decimal count) }

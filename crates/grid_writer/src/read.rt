@@ -110,7 +110,7 @@ pub fn expect_line<S: Source>(
     }
 }
 
-/// Reads the next line, which is to tell a number from `least` to `most` behind a label.
+/// Reads the next line, which is to tell a number from `least` to `most` after a label.
 fn read_count<S: Source>(
     feed: &mut Feed<S>,
     lines: &mut Lines,

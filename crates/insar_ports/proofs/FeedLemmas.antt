@@ -45,7 +45,7 @@ step-out items start stop end left lt le within =
     rest-of (get_or items start 0) (slice_range items (start + 1) end) (slice_range items start end) left
     (taken _ _ start end (get_or items start 0) (omega arith) (front items start 0 (omega arith)))
 
--- what stands up to a place is the first so many bytes of what waits, and what stands behind these
+-- what stands up to a place is the first so many bytes of what waits, and what stands after these
 pub range-parts : (items : List ℕ) (start stop end count : ℕ) → start ≤ stop → stop ≤ end → end ≤ length items →
     count ≤ length (slice_range items start stop) →
     slice_range items start end ≡ take count (slice_range items start stop) ++ slice_range items (start + count) end

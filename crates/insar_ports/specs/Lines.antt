@@ -25,7 +25,7 @@ bytes_of (Whole n) into = n + 1
 bytes_of (Cut n) into = n
 bytes_of Over into = length into
 
--- how many bytes it asks for: those that it hands out, and the one that it sees behind them
+-- how many bytes it asks for: those that it hands out, and the one that it sees after them
 abbrev pub asked_by : Line → List ℕ → ℕ
 asked_by (Whole n) into = n + 1
 asked_by (Cut n) into = n

@@ -183,7 +183,7 @@ same_word : (c : List Rule) (names : Names) (is_trailing : Bool) (waiting : Wait
 same_word c names is_trailing waiting position word h =
     ap (λ (q : Held × Step). cond is_trailing (h, value) q) (same_other c (subcommand_met names waiting word) waiting position word h)
 
--- the walk behind a word that went to a positional
+-- the walk after a word that went to a positional
 abbrev moved : Rule → Walk → Held → Walk
 moved a w h = record { held = h; waiting = cond (is_multiple a) positional idle; position = next_position a w.position; is_trailing = w.is_trailing || a.trailing_var_arg; stopped = None }
 

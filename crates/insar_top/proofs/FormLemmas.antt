@@ -1,4 +1,4 @@
--- Pairs in plain form at a subcommand: what is held behind them, and what their rows tell.
+-- Pairs in plain form at a subcommand: what is held after them, and what their rows tell.
 use Rattle.std.proofs.Common.{◌≡◌, ◌≢◌, ◌∙◌, ◌<◌, ◌≤◌, ◌^◌, ◌||◌, ℕ, Bool, cond, true, false, refl, sym, ap, subst, arith, true≢false, List, [], ◌∷◌, ◌++◌, append_assoc, append-nil, map, drop, Option, Some, None, pos, codes}
 use Rattle.std.specs.Prelude.{◌==◌, ◌≤ℤ◌, ⊤, ℤ, neg_ℤ, FitsSigned, decimal, option_and_then, option_map, slice_get}
 use mir.Syntax.{w64}

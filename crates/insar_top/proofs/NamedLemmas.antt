@@ -28,7 +28,7 @@ labels = names_of made
 abbrev pub start : Walk
 start = walk_from nothing_held
 
--- the walk behind the name of a subcommand
+-- the walk after the name of a subcommand
 abbrev entering : Text → Walk
 entering name = record start { stopped = Some (name, []) }
 
@@ -58,7 +58,7 @@ met word = go
     go false false false false true is ib id ie if' = as_met (codes "help") word is_help if'
     go false false false false false is ib id ie if' = is_none word
 
--- behind the name of a subcommand the words are its own
+-- after the name of a subcommand the words are its own
 stops : (name : Text) (rest : List Text) → walked made.top.rules labels start name ≡ entering name → (walk made.top.rules labels nothing_held (name ∷ rest)).stopped ≡ Some (name, rest)
 stops name rest first =
     ap (λ (w : Walk). (fold (walked made.top.rules labels) w rest).stopped) first
@@ -159,7 +159,7 @@ unfolding walk_fault
 second_turn word other rest e =
     (neither (turn_fault made.top labels (walked made.top.rules labels start word) other) _ (neither (turn_fault made.top labels start word) _ (neither (walk_fault made.top labels start (word ∷ other ∷ rest)) _ e).0).1).0
 
--- `--` names no subcommand either, nor do the words behind it
+-- `--` names no subcommand either, nor do the words after it
 dashes_alone : fault_of stated ((45 ∷ 45 ∷ []) ∷ []) ≡ kind.MissingSubcommand ∷ []
 unfolding clap_on_literals
 dashes_alone = refl
@@ -187,7 +187,7 @@ no_other word rest none e =
     let dashes : word ≡ 45 ∷ 45 ∷ [] = (bytes_eq-Decides word (45 ∷ 45 ∷ [])).0 (is_dashes word turn) in
     no_dashes rest (subst (λ (t : Text). fault_of stated (t ∷ rest) ≡ []) dashes e)
 
--- words that are taken name a subcommand, which takes the words behind it
+-- words that are taken name a subcommand, which takes the words after it
 pub data Named : List Text → Type 0 where
   unwraps : (rest : List Text) → IsLeafTaken (codes "unwrap") solving rest → Named (codes "unwrap" ∷ rest)
   grids : (rest : List Text) → IsLeafTaken (codes "grid") solving rest → Named (codes "grid" ∷ rest)
@@ -206,11 +206,11 @@ pub named : (words : List Text) → fault_of stated words ≡ [] → Named words
 named [] e = absurd (not_nil _ _ (sym no_words ∙ e))
 named (word ∷ rest) e = by_met rest (met word) refl e
 
--- what words ask, where the words behind the name are taken
+-- what words ask, where the words after the name are taken
 subcommand_is : (name : Text) (rest : List Text) → walked made.top.rules labels start name ≡ entering name → subcommand_of stated (name ∷ rest) ≡ entered made (Some (name, rest))
 subcommand_is name rest first = ap (entered made) (stops name rest first)
 
--- and that clap finds no fault in them: none before the name, none behind it, and none at the end
+-- and that clap finds no fault in them: none before the name, none after it, and none at the end
 taken_by : (name : Text) (rest : List Text) → walked made.top.rules labels start name ≡ entering name → turn_fault made.top labels start name ≡ [] → is_some (entered made (Some (name, rest))) ≡ true → entered_fault made (Some (name, rest)) ≡ []
     → fault_of stated (name ∷ rest) ≡ []
 unfolding walk_fault defaults_fault

@@ -25,7 +25,7 @@ one_where b = cond b 1 0
 abbrev changes : List Command → ℕ
 changes commands = count_by is_change commands
 
--- what a command settles behind n changes
+-- what a command settles after n changes
 settled_push : (n : ℕ) (commands : List Command) (c : Command) → settled_revisions n (commands ++ (c ∷ [])) ≡ settled_revisions n commands ++ settled_revisions (n + changes commands) (c ∷ [])
 unfolding settled_revisions
 settled_push n [] c = (let e : n + 0 ≡ n = omega arith in ap (λ (k : ℕ). settled_revisions k (c ∷ [])) (sym e))

@@ -91,7 +91,7 @@ pub record Names (c : List Rule) (a : Rule) (word : Text) : Type 0 where
   pub takes : takes_values a ≡ true
 
 module _ (s : Shape) (once : s.args_override_self ≡ false) where
-  -- behind the name of an option
+  -- after the name of an option
   abbrev awaiting : Rule → ℕ → Held → Walk
   awaiting a position h = record { held = (let k : Held = record (settled s.rules h) { pending = Some (a.id, []) } in k); waiting = option a.id; position = position; is_trailing = false; stopped = None }
 

@@ -14,7 +14,7 @@ role_text Phase = codes "phase"
 role_text Weight = codes "weight"
 role_text Mask = codes "mask"
 
--- a number behind its label
+-- a number after its label
 abbrev pub labelled : List ℕ → ℕ → List ℕ
 labelled label n = label ++ decimal n
 

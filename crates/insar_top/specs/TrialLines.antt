@@ -1,4 +1,4 @@
--- What `trial` writes: four lines of numbers that hang on its words alone.
+-- What `trial` writes: four lines of numbers that depend on its words alone.
 use Rattle.std.specs.Prelude.{◌≡◌, ℕ, ◌-◌, ◌*◌, ◌<◌, ℤ, pos, Bool, false, not, List, [], ◌∷◌, ◌++◌, Option, codes, decimal}
 use Rattle.std.specs.Ordering.{int_eq}
 use Rattle.insar_ports.specs.Bytes.{with_end, GainsProperPrefix, HasRisen}

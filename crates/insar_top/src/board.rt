@@ -14,7 +14,7 @@ use tile_board::Board;
 use tile_workers::{Gate, run_scripts};
 
 /// The board of a session on which every script is done. Analysts and workers run over a desk; what they left undone is done
-/// behind them, on this thread.
+/// after them, on this thread.
 pub fn finished<R: Threads + Wait + Sync, G: Gate>(
     rt: &R,
     alloc: Global,

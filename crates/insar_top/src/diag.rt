@@ -19,7 +19,7 @@ fn role_name(role: Role) -> &'static [u8]
     }
 }
 
-/// Puts a number behind its label.
+/// Puts a number after its label.
 fn put_number<D: Sink>(diag: &mut D, label: &[u8], number: u64) -> Result<(), WriteFault>
     ensures put { OnOk result (D.held diag.new ≡ with_end (D.held diag.old) (labelled label.now number)) }
     ensures fault { OnErr result (HasRisen (D.faults diag.old) (D.faults diag.new)) }
@@ -30,7 +30,7 @@ fn put_number<D: Sink>(diag: &mut D, label: &[u8], number: u64) -> Result<(), Wr
     put_all(diag, digits.format(number).as_bytes())
 }
 
-/// Puts what a fault of a plane is, behind its number.
+/// Puts what a fault of a plane is, after its number.
 fn put_plane_fault<D: Sink>(diag: &mut D, role: Role, fault: PlaneFault) -> Result<(), WriteFault>
     ensures put { OnOk result (D.held diag.new ≡ with_end (D.held diag.old) (plane_text role fault)) }
     ensures fault { OnErr result (HasRisen (D.faults diag.old) (D.faults diag.new)) }
@@ -60,7 +60,7 @@ fn put_plane_fault<D: Sink>(diag: &mut D, role: Role, fault: PlaneFault) -> Resu
     }
 }
 
-/// Puts the name of a role behind a label.
+/// Puts the name of a role after a label.
 fn put_named<D: Sink>(diag: &mut D, label: &[u8], role: Role) -> Result<(), WriteFault>
     ensures put { OnOk result (D.held diag.new ≡ with_end (D.held diag.old) (label.now ++ role_text role)) }
     ensures fault { OnErr result (HasRisen (D.faults diag.old) (D.faults diag.new)) }

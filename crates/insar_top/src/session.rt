@@ -11,7 +11,7 @@ use raster_model::{MAX_SESSION_BYTES, Session};
 use session_script::{SessionUse, read_session};
 use std::alloc::Global;
 
-/// Reads the session that a source gives, behind which it ends.
+/// Reads the session that a source gives, after which it ends.
 pub fn read_alone<S: Source>(
     alloc: Global,
     source: &mut S,

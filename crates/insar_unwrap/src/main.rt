@@ -13,7 +13,7 @@ use std::thread::Threads;
 use std::{env, io};
 use tile_workers::OpenGate;
 
-/// The words behind the program's name.
+/// The words after the program's name.
 fn words(rt: &HostRuntime) -> io::Result<Vec<String>> {
     Ok(env::args(rt)?.skip(1).collect(rt.alloc())?)
 }

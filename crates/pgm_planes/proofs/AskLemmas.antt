@@ -70,7 +70,7 @@ module _ (role : Role) (spelling : Spelling) (at : ℕ) where
   header_asks : (rest : List ℕ) → header_at role true (at + 2) rest ≡ asks → plane_at role true at (80 ∷ digit_of spelling ∷ rest) ≡ asks
   header_asks rest h = plane_true rest ∙ rw h refl
 
-  -- behind a good header
+  -- after a good header
   good_asks : (bytes : List ℕ) (w h m start : ℕ) (rest : List ℕ) → GoodHeader role spelling at bytes w h m start rest → after_header spelling (header_record w h m) true start rest ≡ asks → plane_at role true at bytes ≡ asks
   good_asks bytes w h m start rest g a = ap (plane_at role true at) g.whole ∙ elim (header_same role (at + 2) g.text) [
     | inl x ↦ header_asks g.text x

@@ -120,7 +120,7 @@ module _ (maxval n k : ℕ) (more : Bool) (at : ℕ) (bytes : List ℕ) where
   plain_goes : (v end : ℕ) (rest : List ℕ) → plain_at k more at bytes ≡ done v end rest → v ≤ maxval → samples_at Digits maxval (suc n) k more at bytes ≡ with_first v (samples_at Digits maxval n (k + 1) more end rest)
   plain_goes v end rest h le = samples_go Digits maxval k more at bytes n v end rest (sample_plain maxval k more at bytes ∙ rw h (good maxval k v end rest le))
 
--- where no more bytes come: samples are missing; or all are read and nothing is left; or nothing is left behind one above maxval
+-- where no more bytes come: samples are missing; or all are read and nothing is left; or nothing is left after one above maxval
 abbrev pub PlainCut : ℕ → ℕ → ℕ → ℕ → List ℕ → ℕ → Type 0
 PlainCut maxval n k at bytes e = ((i : ℕ) × (samples_at Digits maxval n k false at bytes ≡ breaks (Short i)))
     ⊎ (((vs : List ℕ) × (samples_at Digits maxval n k false at bytes ≡ done vs e []))
@@ -195,7 +195,7 @@ some_left : (maxval n k at b : ℕ) (rest : List ℕ) (e : ℕ) → PlainCut max
 some_left maxval zero k at b rest e c = absurd (none_cut maxval k at b rest e c)
 some_left maxval (suc n) k at b rest e c = omega arith
 
--- behind a sample with a byte left
+-- after a sample with a byte left
 module _ (maxval n k at : ℕ) (bytes : List ℕ) (e v end b : ℕ) (rest : List ℕ) (h : plain_at k false at bytes ≡ done v end (b ∷ rest)) where
   one_left : (vs : List ℕ) → Small v → samples_at Digits 4294967295 1 k false at bytes ≡ done vs e [] → ⊥
   one_left vs small d =

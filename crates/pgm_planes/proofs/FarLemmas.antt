@@ -1,4 +1,4 @@
--- What is read of bytes behind which more come is read of all of them too, where none was asked for.
+-- What is read of bytes after which more come is read of all of them too, where none was asked for.
 use Rattle.std.proofs.Common.{◌≡◌, ℕ, zero, suc, ◌+◌, ◌*◌, ◌-◌, Bool, true, false, ◌⊎◌, List, [], ◌∷◌, ◌++◌, Option, Some, None, Result, Ok, Err, refl, inl, inr, eqb}
 use Rattle.std.proofs.lemmas.Bool.{cases_Bool}
 use Rattle.pgm_planes.specs.declared.fault.Role.{Role}
@@ -15,12 +15,12 @@ use Rattle.pgm_planes.proofs.HeaderLemmas.{done}
 use Rattle.pgm_planes.proofs.StepLemmas.{after_filling, after_space, after_width, after_height, after_maxval, after_blanks, end_asks}
 use Rattle.pgm_planes.proofs.PlaneSteps.{after_header, after_magic}
 
--- a reading with other bytes behind those that are left
+-- a reading with other bytes after those that are left
 abbrev pub further : {A : Type 0} → Reading A → List ℕ → Reading A
 further (Ok x) others = Ok (x.0, x.1, x.2 ++ others)
 further (Err e) others = Err e
 
--- the one reading asks for more, or the other is the same with these bytes behind
+-- the one reading asks for more, or the other is the same with these bytes after
 abbrev pub Holds : {A : Type 0} → List ℕ → Reading A → Reading A → Type 0
 Holds others r q = (r ≡ asks) ⊎ (q ≡ further r others)
 

@@ -71,7 +71,7 @@ pub record FieldText (n place at : ℕ) (bytes : List ℕ) (end : ℕ) (rest : L
   pub takes : Takes at bytes (gap ++ number) end rest
   pub no_digit : begins is_digit rest ≡ false
 
--- an open comment behind a white space byte
+-- an open comment after a white space byte
 pub record IsOpenGap (part : List ℕ) : Type 0 where
   pub gap : List ℕ
   pub comment : List ℕ
@@ -79,7 +79,7 @@ pub record IsOpenGap (part : List ℕ) : Type 0 where
   pub is : is_gap gap ≡ true
   pub within : list_all is_in_comment comment ≡ true
 
--- a part of a gap, behind which no number begins
+-- a part of a gap, after which no number begins
 pub record NoNumber (part rest : List ℕ) : Type 0 where
   pub gap : is_gap part ≡ true
   pub stops : StopsFilling rest

@@ -51,13 +51,13 @@ unstuck k part rest lt (inl n) = inl (n.none, n.no_space)
 unstuck k part rest lt (inr (inl n)) = inr (inl (record { gap = n.gap; stops = record { no_space = n.no_space; no_hash = n.no_comment }; no_digit = n.no_digit }))
 unstuck k part rest lt (inr (inr n)) = inr (inr (record { gap = n.gap; comment = n.comment; parts = n.parts; is = n.is; within = n.inside }, n.ended))
 
--- behind a number no digit stands where the form breaks
+-- after a number no digit stands where the form breaks
 no_digit_stuck : (k : ℕ) (part rest : List ℕ) → 1 ≤ k → IsStuck k part rest → begins is_digit (part ++ rest) ≡ false
 no_digit_stuck k part rest one (inl n) = rw n.none (n.no_digit one)
 no_digit_stuck k part rest one (inr (inl n)) = spaced (part ++ rest) (gap_spaced part rest n.gap)
 no_digit_stuck k part rest one (inr (inr n)) = rw (n.parts, append_assoc n.gap (35 ∷ n.comment) rest) (spaced (n.gap ++ (35 ∷ (n.comment ++ rest))) (gap_spaced n.gap (35 ∷ (n.comment ++ rest)) n.is))
 
--- behind three numbers nothing but the white space is missing
+-- after three numbers nothing but the white space is missing
 all_numbers : (k : ℕ) (part rest : List ℕ) → 3 ≤ k → IsStuck k part rest → (part ≡ []) × (begins is_space rest ≡ false) × (k ≡ 3)
 all_numbers k part rest three (inl n) = (n.none, n.no_space, (let le = n.header in omega arith))
 all_numbers k part rest three (inr (inl n)) = absurd (let lt = n.header in omega arith)

@@ -22,7 +22,7 @@ abbrev pub Stands : {A : Type 0} → (A → Type 0) → ℕ → Reading A → Re
 Stands {A = A} Q e r q = ((p : ℕ) × (p < e) × (r ≡ breaks (Form p)) × (q ≡ breaks (Form p)))
     ⊎ ((x : A) × (end : ℕ) × (b : ℕ) × (rest : List ℕ) × (r ≡ done x end (b ∷ rest)) × (q ≡ done x end (b ∷ rest)) × (end + length (b ∷ rest) ≡ e) × Q x)
 
--- the reading with more bytes behind asks, and that without ends; or they are the same
+-- the reading with more bytes after asks, and that without ends; or they are the same
 abbrev pub Near : {A : Type 0} → (A → Type 0) → ℕ → PlaneFault → Reading A → Reading A → Type 0
 Near Q e cut r q = ((r ≡ asks) × Ends Q e cut q) ⊎ Stands Q e r q
 

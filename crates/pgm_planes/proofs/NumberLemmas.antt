@@ -11,7 +11,7 @@ use Rattle.pgm_planes.specs.Reading.{breaks, HeaderOf, header_break, unless_brok
 use Rattle.pgm_planes.proofs.HeaderLemmas.{done, Takes}
 use Rattle.pgm_planes.proofs.FieldLemmas.{space_cases, spaced, FieldText, FieldBreak, NoField, field_walk}
 
--- one more number behind those that stand
+-- one more number after those that stand
 pub more_numbers : (gaps : List ℕ → Bool) (bytes gap digits : List ℕ) (vs : List ℕ) (n : ℕ) → AreNumbers gaps bytes vs → gaps gap ≡ true → is_number digits ≡ true → n ≡ number_of digits → AreNumbers gaps (bytes ++ (gap ++ digits)) (vs ++ n ∷ [])
 more_numbers gaps bytes gap digits [] n a g d e = (gap, digits, [], ap (λ (t : List ℕ). t ++ (gap ++ digits)) a ∙ ap (λ (t : List ℕ). gap ++ t) (sym (append-nil digits)), g, d, e, refl)
 more_numbers gaps bytes gap digits (v ∷ vs) n a g d e = (
@@ -51,7 +51,7 @@ last_number gaps bytes (v ∷ vs) n a =
       value = l.value;
     }
 
--- behind digits no digit stands: where numbers follow, a gap does
+-- after digits no digit stands: where numbers follow, a gap does
 pub numbers_begin : (gaps : List ℕ → Bool) → ((gap more : List ℕ) → gaps gap ≡ true → begins is_space (gap ++ more) ≡ true) → (bytes vs more : List ℕ) → AreNumbers gaps bytes vs → begins is_digit more ≡ false → begins is_digit (bytes ++ more) ≡ false
 numbers_begin gaps first bytes [] more a s = rw a s
 numbers_begin gaps first bytes (v ∷ vs) more a s =

@@ -26,7 +26,7 @@ use Rattle.pgm_planes.proofs.PlaneWalk.{plane_behind, pixels_some, no_magic, pla
 
 -- ---- the header
 
--- bytes whose header was read: what is read of them is what is read behind it, where the limits are kept
+-- bytes whose header was read: what is read of them is what is read after it, where the limits are kept
 pub record HeaderOver (role : Role) (spelling : Spelling) (at : ℕ) (bytes : List ℕ) (w h m : ℕ) (behind : List ℕ) : Type 0 where
   pub space : ℕ
   pub rest : List ℕ
@@ -156,7 +156,7 @@ module _ (w h m start : ℕ) (rest vs : List ℕ) (end : ℕ) (others : List ℕ
   unfolding after_header raster_at
   after_raw e = rw e refl
 
--- the magic was taken, and this is read of the header behind it
+-- the magic was taken, and this is read of the header after it
 pub record GoodHeader (role : Role) (spelling : Spelling) (at : ℕ) (bytes : List ℕ) (w h m start : ℕ) (rest : List ℕ) : Type 0 where
   pub text : List ℕ
   pub whole : bytes ≡ 80 ∷ digit_of spelling ∷ text

@@ -43,9 +43,9 @@ magic_walk at (a ∷ b ∷ rest) = elim (magic_of at a b rest) [
   | inr s ↦ inr s
 ]
 
--- ---- samples behind the header's white space
+-- ---- samples after the header's white space
 
--- what of the white space byte behind maxval belongs to the samples, and what stands before them
+-- what of the white space byte after maxval belongs to the samples, and what stands before them
 abbrev pub lead_of : Spelling → ℕ → List ℕ
 lead_of Raw space = []
 lead_of Plain space = space ∷ []

@@ -60,7 +60,7 @@ end_walk at (b ∷ bytes) = elim (cases_Bool (is_space b)) [
   ]
 ]
 
--- ---- behind a good header
+-- ---- after a good header
 
 pub record Headed (role : Role) (spelling : Spelling) (at : ℕ) (bytes : List ℕ) (w h m space start : ℕ) (rest : List ℕ) : Type 0 where
   pub header : HasHeader spelling bytes w h m (space ∷ rest)
@@ -113,7 +113,7 @@ bad_break role Plain at bytes w h m space start rest d e place samples values fr
 )
 
 module _ (role : Role) (spelling : Spelling) (at : ℕ) (bytes : List ℕ) (w h m space start : ℕ) (rest : List ℕ) (d : Headed role spelling at bytes w h m space start rest) where
-  -- the bytes behind the sample that is above are those of the raster
+  -- the bytes after the sample that is above are those of the raster
   pub above_break : (f : PlaneFault) (a : AboveIn (form_of spelling m) m (w * h) 0 (lead_of spelling space ++ rest) f) → (s : IsAbove role bytes (length a.values) a.value) × (s.spelling ≡ spelling) × (s.rest ≡ a.rest)
   above_break f a = (
     record {

@@ -18,7 +18,7 @@ use Rattle.pgm_planes.proofs.StepLemmas.{and_others, others_begin, others_end, o
 abbrev pub AllBelow : ℕ → List ℕ → Type 0
 AllBelow maxval vs = AllByRecursion (λ v. v ≤ maxval) vs
 
--- behind good samples stands one above maxval
+-- after good samples stands one above maxval
 pub record AboveIn (form : SampleForm) (maxval n k : ℕ) (total : List ℕ) (f : PlaneFault) : Type 0 where
   pub samples : List ℕ
   pub values : List ℕ
@@ -32,7 +32,7 @@ pub record AboveIn (form : SampleForm) (maxval n k : ℕ) (total : List ℕ) (f 
   pub above : maxval < value
   pub fault : f ≡ SampleAbove (k + length values) value
 
--- behind good samples the input ends
+-- after good samples the input ends
 pub record ShortIn (form : SampleForm) (maxval n k : ℕ) (total : List ℕ) (f : PlaneFault) : Type 0 where
   pub samples : List ℕ
   pub values : List ℕ
@@ -44,7 +44,7 @@ pub record ShortIn (form : SampleForm) (maxval n k : ℕ) (total : List ℕ) (f 
   pub some : length values < n
   pub fault : f ≡ Short (k + length values)
 
--- behind good samples stands white space and a byte that begins no number
+-- after good samples stands white space and a byte that begins no number
 pub record BadIn (form : SampleForm) (maxval n at : ℕ) (bytes total : List ℕ) (f : PlaneFault) : Type 0 where
   pub samples : List ℕ
   pub values : List ℕ

@@ -47,7 +47,7 @@ pub record SampleText (form : SampleForm) (v at : ℕ) (bytes total : List ℕ) 
   pub ends : EndsSample form rest
   pub place : at + length bytes ≡ end + length rest
 
--- a byte that begins no number, behind white space
+-- a byte that begins no number, after white space
 pub record BadByte (at : ℕ) (bytes total : List ℕ) (place : ℕ) : Type 0 where
   pub blank : List ℕ
   pub byte : ℕ

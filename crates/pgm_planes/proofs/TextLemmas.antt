@@ -57,7 +57,7 @@ maxval_within Phase m h = omega (arith, h)
 maxval_within Weight m h = h.1
 maxval_within Mask m h = h.1
 
--- the three numbers of the header, each behind a byte of white space
+-- the three numbers of the header, each after a byte of white space
 numbers : ℕ → ℕ → ℕ → List ℕ
 numbers w h m = 10 ∷ (decimal w ++ (32 ∷ (decimal h ++ (10 ∷ (decimal m ++ [])))))
 

@@ -43,7 +43,7 @@ module _ (wide : Bool) (samples : List ℕ) where
   pub parted : (end : ℕ) → raster_text wide samples ≡ raster_text wide (take end samples) ++ raster_text wide (drop end samples)
   parted end = ap (raster_text wide) (sym (take-append-drop end samples)) ∙ flat_map-append (sample_text wide) (take end samples) (drop end samples)
 
--- a piece was cut behind those that were written
+-- a piece was cut after those that were written
 pub cut_piece : (wide : Bool) (samples : List ℕ) (start end : ℕ) (held mid now : Option (List ℕ)) → start ≤ end → mid ≡ with_end held (raster_text wide (take start samples)) → GainsProperPrefix mid (raster_text wide (take (end - start) (drop start samples))) now → GainsProperPrefix held (raster_text wide samples) now
 cut_piece wide samples start end held mid now le was cut =
     let a : List ℕ = raster_text wide (take start samples) in

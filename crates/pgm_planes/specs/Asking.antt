@@ -1,4 +1,4 @@
--- Bytes that are judged at their end: a reader of them asks for a byte behind the last one.
+-- Bytes that are judged at their end: a reader of them asks for a byte after the last one.
 use Rattle.std.specs.Prelude.{◌≡◌, ℕ, ◌<◌, List, [], length, ◌⊎◌}
 use Rattle.pgm_planes.specs.declared.fault.Role.{Role}
 use Rattle.pgm_planes.specs.declared.spelling.Spelling.TheVariants.{Plain}
@@ -13,10 +13,10 @@ pub record EndsAbove (role : Role) (bytes : List ℕ) : Type 0 where
   pub plain : sample.spelling ≡ Plain
   pub ended : sample.rest ≡ []
 
--- samples are missing; or a plain sample ends with the bytes, which is above maxval or the last, perhaps behind more digits or white space
+-- samples are missing; or a plain sample ends with the bytes, which is above maxval or the last, perhaps after more digits or white space
 abbrev pub EndsInRaster : Role → List ℕ → Type 0
 EndsInRaster role bytes = ((found : ℕ) × IsShort role bytes found) ⊎ (EndsAbove role bytes ⊎ ((p : PlaneOf) × IsPlaneText Plain role bytes p []))
 
--- the magic is judged at its second byte, a header and a raster at the byte behind each of their numbers
+-- the magic is judged at its second byte, a header and a raster at the byte after each of their numbers
 abbrev pub AsksForMore : Role → List ℕ → Type 0
 AsksForMore role bytes = (length bytes < 2) ⊎ (BreaksInHeader bytes [] ⊎ EndsInRaster role bytes)

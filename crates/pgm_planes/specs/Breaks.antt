@@ -22,14 +22,14 @@ is_in_comment b = not (is_line_end b)
 abbrev pub HasNoMagic : List ℕ → Type 0
 HasNoMagic bytes = (spelling : Spelling) (behind : List ℕ) → bytes ≢ 80 ∷ digit_of spelling ∷ behind
 
--- Behind so many numbers of a header no gap begins, nor does the number go on.
+-- After so many numbers of a header no gap begins, nor does the number go on.
 pub record HasNoGap (numbers : ℕ) (part rest : List ℕ) : Type 0 where
   pub header : numbers ≤ 3
   pub none : part ≡ []
   pub no_space : begins is_space rest ≡ false
   pub no_digit : 1 ≤ numbers → begins is_digit rest ≡ false
 
--- Behind so many numbers a gap stands, which does not go on, and no number begins.
+-- After so many numbers a gap stands, which does not go on, and no number begins.
 pub record HasNoNumber (numbers : ℕ) (part rest : List ℕ) : Type 0 where
   pub header : numbers < 3
   pub gap : IsTrue (is_gap part)
@@ -37,7 +37,7 @@ pub record HasNoNumber (numbers : ℕ) (part rest : List ℕ) : Type 0 where
   pub no_comment : begins is_hash rest ≡ false
   pub no_digit : begins is_digit rest ≡ false
 
--- Behind so many numbers the input ends in a comment of a gap.
+-- After so many numbers the input ends in a comment of a gap.
 pub record EndsInComment (numbers : ℕ) (part rest : List ℕ) : Type 0 where
   pub header : numbers < 3
   pub gap : List ℕ
@@ -47,7 +47,7 @@ pub record EndsInComment (numbers : ℕ) (part rest : List ℕ) : Type 0 where
   pub inside : IsTrue (list_all is_in_comment comment)
   pub ended : rest ≡ []
 
--- The header breaks where `rest` begins: behind some of its numbers and a part of the next gap.
+-- The header breaks where `rest` begins: after some of its numbers and a part of the next gap.
 pub record BreaksInHeader (bytes rest : List ℕ) : Type 0 where
   pub spelling : Spelling
   pub numbers : List ℕ
@@ -86,7 +86,7 @@ pub record HasSamples (spelling : Spelling) (role : Role) (bytes samples values 
   pub fits : HasMaxval role maxval
   pub below : All (λ v. v ≤ maxval) values
 
--- A plain raster breaks where `rest` begins: behind some samples and white space, none of it behind the last sample.
+-- A plain raster breaks where `rest` begins: after some samples and white space, none of it after the last sample.
 pub record BreaksInRaster (role : Role) (bytes rest : List ℕ) : Type 0 where
   pub samples : List ℕ
   pub values : List ℕ
@@ -109,7 +109,7 @@ abbrev pub HasEnded : Spelling → List ℕ → Type 0
 HasEnded Raw rest = ⊤
 HasEnded Plain rest = begins is_digit rest ≡ false
 
--- Behind so many good samples stands one that is above maxval.
+-- After so many good samples stands one that is above maxval.
 pub record IsAbove (role : Role) (bytes : List ℕ) (index value : ℕ) : Type 0 where
   pub spelling : Spelling
   pub samples : List ℕ
@@ -129,7 +129,7 @@ abbrev pub IsCut : Spelling → ℕ → List ℕ → Type 0
 IsCut Raw maxval part = length part < (if is_wide maxval then 2 else 1)
 IsCut Plain maxval part = IsTrue (list_all is_space part)
 
--- The input ends behind so many good samples and less than another.
+-- The input ends after so many good samples and less than another.
 pub record IsShort (role : Role) (bytes : List ℕ) (found : ℕ) : Type 0 where
   pub spelling : Spelling
   pub samples : List ℕ

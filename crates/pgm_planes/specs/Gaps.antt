@@ -40,7 +40,7 @@ abbrev pub is_number : List ℕ → Bool
 is_number [] = false
 is_number (b ∷ bs) = is_digit b && list_all is_digit bs
 
--- the number that digits go on to spell behind the number n
+-- the number that digits go on to spell after the number n
 abbrev pub goes_on_to : ℕ → List ℕ → ℕ
 goes_on_to n [] = n
 goes_on_to n (b ∷ bs) = goes_on_to (10 * n + (b - 48)) bs

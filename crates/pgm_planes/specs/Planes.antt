@@ -38,7 +38,7 @@ pub record IsPlane (role : Role) (p : PlaneOf) : Type 0 where
   pub count : length p.samples ≡ p.width * p.height
   pub samples : All (λ v. v ≤ p.maxval) p.samples
 
--- Numbers one after the other, each behind a gap that passes the test.
+-- Numbers one after the other, each after a gap that passes the test.
 abbrev pub AreNumbers : (List ℕ → Bool) → List ℕ → List ℕ → Type 0
 AreNumbers gaps bytes [] = bytes ≡ []
 AreNumbers gaps bytes (n ∷ ns) = (gap : List ℕ) × (digits : List ℕ) × (others : List ℕ) × (bytes ≡ gap ++ (digits ++ others)) × IsTrue (gaps gap) × IsTrue (is_number digits) × (n ≡ number_of digits) × AreNumbers gaps others ns
@@ -67,13 +67,13 @@ IsRaster true (high ∷ low ∷ bytes) (v ∷ vs) = (v ≡ 256 * high + low) × 
 abbrev pub is_wide : ℕ → Bool
 is_wide maxval = nat_lt 255 maxval
 
--- The white space byte behind maxval, and samples. In a plain raster each sample is a number behind white space, and the
--- first one's begins with the byte behind maxval.
+-- The white space byte after maxval, and samples. In a plain raster each sample is a number after white space, and the
+-- first one's begins with the byte after maxval.
 abbrev pub AreSamples : Spelling → ℕ → List ℕ → List ℕ → Type 0
 AreSamples Raw maxval bytes vs = (space : ℕ) × (raster : List ℕ) × (bytes ≡ space ∷ raster) × IsTrue (is_space space) × IsRaster (is_wide maxval) raster vs
 AreSamples Plain maxval bytes vs = AreNumbers is_blank bytes vs
 
--- What of white space belongs to the plane behind its last sample, and what may follow: behind a plain sample white space
+-- What of white space belongs to the plane after its last sample, and what may follow: after a plain sample white space
 -- or the end, and all white space there is taken.
 abbrev pub IsEnd : Spelling → List ℕ → List ℕ → Type 0
 IsEnd Raw blank rest = blank ≡ []

@@ -1,5 +1,5 @@
 -- Reading a plane from left to right, with the first break that is met. A place counts from the start of the source.
--- Behind the bytes that are read others may come, unseen: where the end of those that are read is met, they are asked for.
+-- After the bytes that are read others may come, unseen: where the end of those that are read is met, they are asked for.
 use Rattle.std.specs.Prelude.{◌≡◌, ℕ, zero, suc, ◌+◌, ◌*◌, ◌-◌, min, nat_lt, ◌==◌, ◌&&◌, ◌||◌, Bool, true, false, not, if◌then◌else◌, List, [], ◌∷◌, length, take, Option, Some, None, Result, Ok, Err}
 use Rattle.insar_ports.specs.Bytes.{HasMore, HasRisen}
 use Rattle.insar_ports.specs.Calls.{Call, Moves}
@@ -18,11 +18,11 @@ use Rattle.pgm_planes.specs.Gaps.{is_space, is_line_end, is_digit}
 use Rattle.pgm_planes.specs.Planes.{PlaneOf}
 use Rattle.raster_model.specs.Limits.{max_pixels, max_side}
 
--- a value, the place behind it and the bytes from there, or the break, or none where another byte is asked for
+-- a value, the place after it and the bytes from there, or the break, or none where another byte is asked for
 abbrev pub Reading : Type 0 → Type 0
 Reading A = Result (A × ℕ × List ℕ) (Option PlaneFault)
 
--- what reads a value from a place and the bytes from there on, behind which more come (true) or none
+-- what reads a value from a place and the bytes from there on, after which more come (true) or none
 abbrev pub Reader : Type 0 → Type 0
 Reader A = Bool → ℕ → List ℕ → Reading A
 
@@ -59,7 +59,7 @@ abbrev pub or_breaks : {A : Type 0} → PlaneFault → Option A → ℕ → List
 or_breaks fault None at rest = breaks fault
 or_breaks fault (Some x) at rest = Ok (x, at, rest)
 
--- what P and the byte behind it stand for: P5 is raw and P2 plain
+-- what P and the byte after it stand for: P5 is raw and P2 plain
 abbrev pub spelling_of : ℕ → Option ℕ → Option Spelling
 spelling_of a None = None
 spelling_of a (Some b) = if (a == 80) && (b == 53) then Some Raw else (if (a == 80) && (b == 50) then Some Plain else None)
@@ -73,7 +73,7 @@ unfoldable pub space_at : Reader (Unit {0})
 space_at more at [] = at_end more (breaks (Form at))
 space_at more at (b ∷ rest) = if is_space b then Ok (nothing, at + 1, rest) else breaks (Form at)
 
--- whether a comment is open behind a byte of white space or of a comment; none behind any other byte
+-- whether a comment is open after a byte of white space or of a comment; none after any other byte
 abbrev pub inside_after : Bool → ℕ → Option Bool
 inside_after true b = Some (not (is_line_end b))
 inside_after false b = if is_space b then Some false else (if b == 35 then Some true else None)
@@ -160,7 +160,7 @@ unfoldable pub samples_at : SampleForm → ℕ → ℕ → ℕ → Reader (List 
 samples_at form maxval zero index more at bytes = Ok ([], at, bytes)
 samples_at form maxval (suc n) index more at bytes = sample_at form maxval index more at bytes >>= λ v after rest. samples_at form maxval n (index + 1) more after rest >>= λ vs end others. Ok (v ∷ vs, end, others)
 
--- the white space behind the last sample of a plain raster
+-- the white space after the last sample of a plain raster
 unfoldable pub end_at : Reader (Unit {0})
 end_at more at [] = blanks_at more at []
 end_at more at (b ∷ rest) = if is_space b then blanks_at more at (b ∷ rest) else breaks (Form at)

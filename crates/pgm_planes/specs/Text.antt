@@ -10,7 +10,7 @@ sample_text true v = (v / 256) ∷ (v % 256) ∷ []
 abbrev pub raster_text : Bool → List ℕ → List ℕ
 raster_text wide samples = flat_map (sample_text wide) samples
 
--- a number behind its label
+-- a number after its label
 abbrev pub labelled : List ℕ → ℕ → List ℕ
 labelled label n = label ++ decimal n
 

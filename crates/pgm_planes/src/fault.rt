@@ -113,7 +113,7 @@ pub enum InputFault {
     /// The input ends before the line `end`.
     #[error("the input ends before the line end")]
     NoEnd,
-    /// A byte stands at this place, behind the line `end`.
+    /// A byte stands at this place, after the line `end`.
     #[error("the input goes on behind the line end, at byte {0}")]
     AfterEnd(u64),
     /// With this line the change commands of all analysts times tiles are above 16777216.

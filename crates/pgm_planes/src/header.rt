@@ -60,7 +60,7 @@ fn is_digit(byte: u8) -> bool
     byte.is_ascii_digit()
 }
 
-/// What the magic's letter and the byte behind it stand for.
+/// What the magic's letter and the byte after it stand for.
 fn spelling_of(letter: u8, digit: Option<u8>) -> Option<Spelling>
     ensures { result ≡ spelling_of_magic letter digit }
 {
@@ -100,7 +100,7 @@ fn read_space<S: Source>(feed: &mut Feed<S>) -> Result<(), ReadPlaneFault>
     }
 }
 
-/// Whether a comment is open behind `byte`, where the byte is white space or part of a comment.
+/// Whether a comment is open after `byte`, where the byte is white space or part of a comment.
 fn inside_after(inside: bool, byte: u8) -> Option<bool>
     ensures { result ≡ inside_after_byte inside byte }
 {
@@ -227,7 +227,7 @@ fn header_break(role: Role, width: u32, height: u32, maxval: u32, place: u64) ->
     }
 }
 
-/// Takes the numbers of a header and the white space byte behind them.
+/// Takes the numbers of a header and the white space byte after them.
 pub fn read_header<S: Source>(feed: &mut Feed<S>, role: Role) -> Result<Header, ReadPlaneFault>
     ensures same_source { source_name feed.new ≡ source_name feed.old }
     ensures limit { limit_of feed.new ≡ limit_of feed.old }

@@ -14,7 +14,7 @@ pub fn plane_or_break()
     ensures one_break { OneBreak }
 {}
 
-/// Whether a reader of bytes asks for one behind the last is decided, and behind a plane it does not.
+/// Whether a reader of bytes asks for one after the last is decided, and after a plane it does not.
 pub fn ask_or_not()
     ensures either { AskOrNot }
     ensures behind_plane { NoAskBehindPlane }

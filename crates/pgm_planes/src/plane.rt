@@ -17,7 +17,7 @@ use std::alloc::Global;
 /// Reads one PGM plane, raw or plain, from where the feed stands (pgm(5), "The Format"). Comments may
 /// stand in the gaps of the header alone. Places of a fault count all bytes that the feed handed out.
 /// Of several faults the first in order of bytes is told.
-/// What lies behind the feed's limit changes nothing that is judged within it.
+/// What lies after the feed's limit changes nothing that is judged within it.
 ///
 /// After a refusal the feed stands where it was met, and the caller ends.
 pub fn read_plane<S: Source>(
@@ -33,7 +33,7 @@ pub fn read_plane<S: Source>(
     ensures read { IfOk result (λ plane. Takes (call_of S.left S.faults feed.old feed.new) (λ text rest. SpellsPlane role text (plane_of plane) rest)) }
     // What is spelled so is read, and what follows is left.
     ensures accepted { IfSome (left_of S.left feed.old) (λ bytes. (p : PlaneOf) (rest : List ℕ) → IsPlaneIn role bytes p rest → IsReadAs (call_of S.left S.faults feed.old feed.new) p rest result) }
-    // What asks for a byte behind the limit is not judged.
+    // What asks for a byte after the limit is not judged.
     ensures cut { IfSome (left_of S.left feed.old) (λ bytes. IsCutOff (AsksForMore role) (call_of S.left S.faults feed.old feed.new) bytes → IsCutShort (call_of S.left S.faults feed.old feed.new) result) }
     // The first break, or why else a plane is not read.
     ensures refused { IfErr result (HasCause role (call_of S.left S.faults feed.old feed.new)) }

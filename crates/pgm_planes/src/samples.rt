@@ -18,7 +18,7 @@ pub enum SampleForm {
     Narrow,
     /// Two bytes, the most significant first.
     Wide,
-    /// Decimal digits behind white space.
+    /// Decimal digits after white space.
     Digits,
 }
 
@@ -136,7 +136,7 @@ fn read_samples<S: Source>(
     Ok(samples)
 }
 
-/// Takes the white space behind the last sample of a plain raster.
+/// Takes the white space after the last sample of a plain raster.
 fn read_end<S: Source>(feed: &mut Feed<S>) -> Result<(), ReadPlaneFault>
     ensures same_source { source_name feed.new ≡ source_name feed.old }
     ensures limit { limit_of feed.new ≡ limit_of feed.old }

@@ -27,7 +27,7 @@ pub fn write_plane<K: Sink>(plane: &Plane, sink: &mut K) -> Result<(), WriteFaul
     write_raster(sink, &plane.samples, plane.maxval)
 }
 
-/// Writes a number behind its label.
+/// Writes a number after its label.
 fn write_number<K: Sink>(sink: &mut K, label: &[u8], number: u32) -> Result<(), WriteFault>
     ensures written { OnOk result (K.held sink.new ≡ with_end (K.held sink.old) (label.now ++ decimal number)) }
     ensures cut { OnErr result (GainsProperPrefix (K.held sink.old) (label.now ++ decimal number) (K.held sink.new)) }

@@ -1,4 +1,4 @@
--- Reports that are equal: they have one history, and what stands behind its entries is certified alike, also for another session with the same raster and the same masks on it.
+-- Reports that are equal: they have one history, and what stands after its entries is certified alike, also for another session with the same raster and the same masks on it.
 use Rattle.std.proofs.Common.{◌≡◌, ◌∙◌, ℕ, zero, suc, ◌*◌, ◌<◌, refl, sym, ap, ap₂, subst, arith, Bool, List, [], ◌∷◌, length, map}
 use Rattle.std.specs.Prelude.{ℤ, pos, IsTrue, if◌then◌else◌, Option, Some, None, slice_get}
 use Rattle.raster_model.specs.declared.session.Session.{Session}
@@ -60,7 +60,7 @@ module _ (r : Raster) (m n : Field Bool) (same : (x y : ℕ) → x < r.width →
     seam_cost_is = ap pos (sym equal.seam_cost) ∙ is.seam_cost_is ∙ same_seam_cost r m n same S S agree;
   }
 
--- ---- what stands behind an entry, by a name of its raster
+-- ---- what stands after an entry, by a name of its raster
 abbrev pub MayBeSameOn : Raster → Option SurfaceOf → Option SurfaceOf → Type 0
 MayBeSameOn r a b = MayBeSame r.width r.height r.tile_count a b
 

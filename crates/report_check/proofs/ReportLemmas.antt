@@ -54,7 +54,7 @@ mask_later s E n r l =
     let split : edits_of E ≡ edits_of (take n E) ++ edits_of (drop n E) = ap edits_of (sym (take-append-drop n E)) ∙ filter_map-append edit_of (take n E) (drop n E) in
     ap (mask_after (open_at s.first_mask)) (ap (take r) split ∙ take-append-le r (edits_of (take n E)) (edits_of (drop n E)) l)
 
--- an entry, and the surface behind it that has a verdict
+-- an entry, and the surface after it that has a verdict
 pub record IsUnfitEntry (s : Session) (E : List Entry) (e : Entry) (behind : Option SurfaceOf) (verdict : CheckVerdict) : Type 0 where
   pub analyst : ℕ
   pub revision : ℕ

@@ -54,7 +54,7 @@ pub record IsGoodSurface (r : Raster) (mask : Field Bool) (k : SurfaceOf) : Type
   pub tile_cost : pos k.tile_cost ≡ tile_costs r mask (surface_in r k)
   pub seam_cost_is : pos k.seam_cost ≡ seam_cost r mask (surface_in r k)
 
--- what stands behind an entry is so, or has this verdict
+-- what stands after an entry is so, or has this verdict
 abbrev pub IsGoodBehind : Raster → Field Bool → Entry → Option SurfaceOf → Type 0
 IsGoodBehind r mask (Revised a edit) behind = behind ≡ None
 IsGoodBehind r mask (Kept t stamp) behind = behind ≡ None
@@ -71,6 +71,6 @@ IsUnfitBehind r mask (Published a revision) (Some k) verdict = IsSurfaceVerdict 
 IsUnfitBehind r mask (Settled a revision) behind verdict = ⊥
 IsUnfitBehind r mask (Shown a revision) behind verdict = ⊥
 
--- what stands behind all entries of a report is certified
+-- what stands after all entries of a report is certified
 abbrev pub AreCertifiedBehind : Session → ReportOf → Type 0
 AreCertifiedBehind s v = (k : ℕ) (i : ItemOf) → slice_get v.items k ≡ Some i → IsCertifiedBehind s (history_of v) i.entry i.surface

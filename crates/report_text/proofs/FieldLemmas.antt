@@ -1,4 +1,4 @@
--- Numbers behind spaces: no two lists of numbers have one text.
+-- Numbers after spaces: no two lists of numbers have one text.
 use Rattle.std.proofs.Common.{◌≡◌, ℕ, suc, ◌<◌, ◌^◌, List, [], ◌∷◌, ◌++◌, drop, decimal, inl, inr, refl, sym, ap, ◌∙◌, arith}
 use Rattle.std.specs.Prelude.{◌≢◌, ℤ, pos, negsuc}
 use Rattle.std.specs.Fmt.{signed_decimal}

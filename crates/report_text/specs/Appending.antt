@@ -40,7 +40,7 @@ abbrev pub MayHaveSmallNumbers : ℕ → Option SurfaceOf → Type 0
 MayHaveSmallNumbers tiles None = ⊤
 MayHaveSmallNumbers tiles (Some k) = HasSmallNumbers tiles k
 
--- so are those of an entry and of the surface behind it; of all items
+-- so are those of an entry and of the surface after it; of all items
 pub record IsSmallItem (tiles : ℕ) (i : ItemOf) : Type 0 where
   pub entry : IsEntryOfWords i.entry
   pub surface : MayHaveSmallNumbers tiles i.surface

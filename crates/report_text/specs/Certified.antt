@@ -33,7 +33,7 @@ pub record IsCertifiedSurface (r : Raster) (mask : Field Bool) (k : SurfaceOf) (
   pub tile_cost : pos k.tile_cost ≡ tile_costs r mask surface
   pub seam_cost_is : pos k.seam_cost ≡ seam_cost r mask surface
 
--- what stands behind an entry of a history: behind a publication a certified surface at the mask of its revision, behind another entry none
+-- what stands after an entry of a history: after a publication a certified surface at the mask of its revision, after another entry none
 abbrev pub IsCertifiedAt : Session → List Entry → ℕ → Option SurfaceOf → Type 0
 IsCertifiedAt s H revision (Some k) = (surface : Field ℤ) × IsCertifiedSurface (raster_of s.scene) (mask_in s H revision) k surface
 IsCertifiedAt s H revision None = ⊥

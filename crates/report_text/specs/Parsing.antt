@@ -11,7 +11,7 @@ use Rattle.report_text.specs.Text.{field_text, rect_text, revision_text}
 abbrev pub IsReadAs : {A : Type 0} → (A → Type 0) → (A → List ℕ) → List ℕ → Option A → Type 0
 IsReadAs {A} MayStand text bytes result = MatchOption result ((a : A) → MayStand a → bytes ≡ text a → ⊥) (λ a. MayStand a × (bytes ≡ text a))
 
--- a text behind a word
+-- a text after a word
 abbrev pub behind : {A : Type 0} → List ℕ → (A → List ℕ) → A → List ℕ
 behind word text a = word ++ text a
 

@@ -68,7 +68,7 @@ IsItemText width height tiles text = (i : ItemOf) × (IsItemInRange width height
 abbrev pub IsItemsText : ℕ → ℕ → ℕ → Form
 IsItemsText width height tiles text = (items : List ItemOf) × (AllByRecursion (IsItemInRange width height tiles) items × (text ≡ flat_map (item_text width height tiles) items ++ codes "end\n"))
 
--- why no lines were read behind an entry: it is a publication, and a surface was not read
+-- why no lines were read after an entry: it is a publication, and a surface was not read
 abbrev pub HasBehindCause : ℕ → ℕ → ℕ → Entry → ℕ → Call → GridFault → Type 0
 HasBehindCause width height tiles entry done c fault = IsTrue (is_published entry) × HasLineCause (IsSurfaceText width height tiles) done c fault
 

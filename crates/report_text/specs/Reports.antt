@@ -18,7 +18,7 @@ pub record SurfaceOf : Type 0 where
   pub faces : ℕ → List ℤ
   pub flows : List ℤ
 
--- an entry, and the surface behind it, if any
+-- an entry, and the surface after it, if any
 pub record ItemOf : Type 0 where
   pub entry : Entry
   pub surface : Option SurfaceOf
@@ -42,7 +42,7 @@ is_published (Published analyst revision) = true
 is_published (Settled analyst revision) = false
 is_published (Shown analyst revision) = false
 
--- a surface is there exactly behind a publication
+-- a surface is there exactly after a publication
 abbrev pub HasSurface : {A : Type 0} → Entry → Option A → Type 0
 HasSurface e surface = is_some surface ≡ is_published e
 
@@ -51,11 +51,11 @@ abbrev pub first_of : List Parts → Option SurfaceOf
 first_of [] = None
 first_of (p ∷ ps) = Some (surface_of p)
 
--- an entry with the surface behind it, which only a publication has
+-- an entry with the surface after it, which only a publication has
 abbrev pub item_of : Entry → Option SurfaceOf → ItemOf
 item_of e surface = record { entry = e; surface = if is_published e then surface else None }
 
--- the entries of a history, and behind each publication the next of the published surfaces
+-- the entries of a history, and after each publication the next of the published surfaces
 unfoldable pub items_of : List Entry → List Parts → List ItemOf
 items_of [] ps = []
 items_of (e ∷ es) ps = item_of e (first_of ps) ∷ items_of es (drop (one_if (is_published e)) ps)

@@ -10,7 +10,7 @@ use Rattle.tile_board.specs.declared.entry.Entry.{Entry}
 use Rattle.tile_board.specs.declared.entry.Entry.TheVariants.{Revised, Kept, Published, Settled, Shown}
 use Rattle.report_text.specs.Reports.{ItemOf, ReportOf, SurfaceOf}
 
--- the end of a line, and a number behind a space
+-- the end of a line, and a number after a space
 abbrev pub line_end : List ℕ
 line_end = 10 ∷ []
 
@@ -73,7 +73,7 @@ tiles_in v = tiles_along v.height v.side * tiles_along v.width v.side
 unfoldable pub surface_text : ℕ → ℕ → ℕ → SurfaceOf → List ℕ
 surface_text width height tiles k = costs_text k.tile_cost k.seam_cost ++ (grid_text width height k.values ++ (texts_below tiles (faces_text k.faces) ++ flows_text k.flows))
 
--- an entry's line, and behind it the lines of its surface, if any
+-- an entry's line, and after it the lines of its surface, if any
 abbrev pub behind_text : ℕ → ℕ → ℕ → Option SurfaceOf → List ℕ
 behind_text width height tiles (Some k) = surface_text width height tiles k
 behind_text width height tiles None = []

@@ -134,14 +134,14 @@ fn edit_of(bytes: &[u8]) -> Option<Edit>
     Some(Edit::Unmask(rect_behind(bytes, UNMASK)?))
 }
 
-/// The box behind a word, where nothing follows it.
+/// The box after a word, where nothing follows it.
 fn rect_behind(bytes: &[u8], word: &[u8]) -> Option<Rect>
     ensures { IsReadAs IsRectOfWords (behind word.now rect_text) bytes.now result }
 {
     rect_of(bytes.strip_prefix(word)?)
 }
 
-/// Four numbers, each behind a space.
+/// Four numbers, each after a space.
 fn rect_of(bytes: &[u8]) -> Option<Rect>
     ensures { IsReadAs IsRectOfWords rect_text bytes.now result }
 {
@@ -162,14 +162,14 @@ fn shown_of(line: &[u8]) -> Option<(u32, Option<u32>)>
     Some((analyst, Some(last_field(revision)?)))
 }
 
-/// The two numbers behind a word, where nothing follows them.
+/// The two numbers after a word, where nothing follows them.
 fn pair_behind(line: &[u8], word: &[u8]) -> Option<(u32, u32)>
     ensures { IsReadAs AreWords (behind word.now pair_text) line.now result }
 {
     pair_of(line.strip_prefix(word)?)
 }
 
-/// Two numbers, each behind a space.
+/// Two numbers, each after a space.
 fn pair_of(bytes: &[u8]) -> Option<(u32, u32)>
     ensures { IsReadAs AreWords pair_text bytes.now result }
 {
@@ -177,21 +177,21 @@ fn pair_of(bytes: &[u8]) -> Option<(u32, u32)>
     Some((first, last_field(second)?))
 }
 
-/// The number behind a space, where nothing follows it.
+/// The number after a space, where nothing follows it.
 fn last_field(bytes: &[u8]) -> Option<u32>
     ensures { IsReadAs IsWord field_text bytes.now result }
 {
     word_of(bytes.strip_prefix(SPACE)?)
 }
 
-/// The cost behind a space, where nothing follows it.
+/// The cost after a space, where nothing follows it.
 fn last_cost(bytes: &[u8]) -> Option<u128>
     ensures { IsReadAs IsCost field_text bytes.now result }
 {
     wide_of(bytes.strip_prefix(SPACE)?)
 }
 
-/// The number behind a space in front, and what follows it.
+/// The number after a space in front, and what follows it.
 fn take_field(bytes: &[u8]) -> Option<(u32, &[u8])>
     ensures { IsTaken IsWord bytes.now result }
 {
@@ -199,7 +199,7 @@ fn take_field(bytes: &[u8]) -> Option<(u32, &[u8])>
     Some((word_of(token)?, rest))
 }
 
-/// The cost behind a space in front, and what follows it.
+/// The cost after a space in front, and what follows it.
 fn take_cost(bytes: &[u8]) -> Option<(u128, &[u8])>
     ensures { IsTaken IsCost bytes.now result }
 {

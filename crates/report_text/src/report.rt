@@ -21,7 +21,7 @@ use raster_model::{RuleKind, Session};
 use surface_snapshots::Snapshot;
 use tile_board::{Board, Entry};
 
-/// Writes the report of a board: the head, then the whole history in order, behind each publication the published
+/// Writes the report of a board: the head, then the whole history in order, after each publication the published
 /// surface with its costs, faces and flows, and the line `end`. It takes no memory. After a fault the sink has a
 /// part of the text. What was written can be read: each of its numbers is in its range.
 pub fn write_report<K: Sink>(board: &Board, sink: &mut K) -> Result<(), WriteFault>
@@ -136,7 +136,7 @@ fn rule_name(rule: RuleKind) -> &'static [u8]
     }
 }
 
-/// Whether a surface stands behind an entry.
+/// Whether a surface stands after an entry.
 pub(crate) fn is_publication(entry: Entry) -> bool
     ensures { result ≡ is_published entry }
 {
@@ -147,7 +147,7 @@ pub(crate) fn is_publication(entry: Entry) -> bool
     }
 }
 
-/// How many surfaces stand behind an entry.
+/// How many surfaces stand after an entry.
 fn surfaces_behind(entry: Entry) -> usize
     ensures { result ≡ one_if (is_published entry) }
 {
@@ -157,7 +157,7 @@ fn surfaces_behind(entry: Entry) -> usize
     0
 }
 
-/// Adds the items of a session of `tiles` tiles: each entry, and behind each publication the next of the snapshots.
+/// Adds the items of a session of `tiles` tiles: each entry, and after each publication the next of the snapshots.
 fn append_items<K: Sink>(
     text: &mut TextBuffer,
     sink: &mut K,
@@ -179,7 +179,7 @@ fn append_items<K: Sink>(
     Ok(())
 }
 
-/// Adds an entry's line, and behind a publication the lines of the next snapshot, if any.
+/// Adds an entry's line, and after a publication the lines of the next snapshot, if any.
 fn append_item<K: Sink>(
     text: &mut TextBuffer,
     sink: &mut K,
@@ -198,7 +198,7 @@ fn append_item<K: Sink>(
     append_behind(text, sink, tiles, session, entry, next)
 }
 
-/// Adds the lines of the next snapshot behind a publication, and nothing behind another entry.
+/// Adds the lines of the next snapshot after a publication, and nothing after another entry.
 fn append_behind<K: Sink>(
     text: &mut TextBuffer,
     sink: &mut K,

@@ -10,7 +10,7 @@ use Rattle.session_script.specs.Sessions.{IsLaterPlane, ArePlanes, PlaneBreak, L
 use Rattle.session_script.proofs.PlanesAgain.{same_phase, same_later, no_first_break, no_later_break}
 use Rattle.session_script.proofs.SeenLemmas.{More, BeforeMask, plane_extends, plane_asks_last, later_extends, later_nothing, later_asks_last}
 
--- ---- what is read behind a phase plane, and behind weights, as it stands there
+-- ---- what is read after a phase plane, and after weights, as it stands there
 
 module _ (bytes : List ℕ) (phase : PlaneOf) (rest : List ℕ) (i : IsPlaneIn Phase bytes phase rest) where
   -- another plane's end is this one's
@@ -83,7 +83,7 @@ module _ (at : ℕ) (bytes : List ℕ) (phase : PlaneOf) (rest more : List ℕ) 
     | inr l ↦ weights_back_at l.0 l.1 l.2 l.3 l.4
   ]
 
--- ---- behind the weights
+-- ---- after the weights
 
 module _ (bytes : List ℕ) (phase weights : PlaneOf) (rest : List ℕ) (s : BeforeMask phase weights bytes rest) where
   mask_back_at : (role : Role) (other : PlaneOf) (behind : List ℕ) → StandsBefore role bytes other behind → LaterAsks role behind → LaterAsks Mask rest
@@ -97,7 +97,7 @@ module _ (bytes : List ℕ) (phase weights : PlaneOf) (rest : List ℕ) (s : Bef
     | inr l ↦ mask_back_at l.0 l.1 l.2 l.3 l.4
   ]
 
--- ---- behind all planes
+-- ---- after all planes
 
 module _ (bytes : List ℕ) (phase weights mask : PlaneOf) (rest : List ℕ) (a : ArePlanes bytes phase weights mask rest) where
   pub planes_ask_last : PlanesAsk bytes → rest ≡ []
@@ -139,7 +139,7 @@ same_planes bytes phase weights mask rest a p w m behind b =
     let third = subst (λ (t : List ℕ). IsLaterPlane Mask phase t m behind) k (subst (λ (q : PlaneOf). IsLaterPlane Mask q b.behind_weights m behind) e.0 b.third) in
     (e.0, (same_later Mask phase a.behind_weights m mask behind rest third a.third).1)
 
--- planes that stand here and break with more behind ask for more
+-- planes that stand here and break with more after ask for more
 pub planes_asked : (bytes : List ℕ) (phase weights mask : PlaneOf) (rest : List ℕ) → ArePlanes bytes phase weights mask rest → (at : ℕ) (more : List ℕ) (fault : InputFault) → PlanesBreak at (bytes ++ more) fault → PlanesAsk bytes
 planes_asked bytes phase weights mask rest a at more fault b = elim (planes_extend bytes phase weights mask rest a) [
   | inl asks ↦ asks

@@ -111,7 +111,7 @@ module _ (f : Frame) where
   pub report_forth : (usage : SessionUse) → usage ≡ BeforeReport → (seen : List ℕ) → SectionsAsk f seen → ScriptAsks f usage seen
   report_forth usage e seen a = inr (a, λ alone. let q : Alone ≡ BeforeReport = sym alone ∙ e in cc)
 
-  -- behind the line `end` the input may end
+  -- after the line `end` the input may end
   pub end_forth : (seen behind : List ℕ) (ss : Sections) → AreSections f seen ss behind → behind ≡ [] → ScriptAsks f Alone seen
   end_forth seen behind ss a none = inl (refl, _, inr (record { sections = ss; are = subst (λ (t : List ℕ). AreSections f seen ss t) none a; means = refl; ends = λ _. refl }))
 

@@ -11,7 +11,7 @@ use Rattle.pgm_planes.proofs.HeaderLemmas.{capped}
 use Rattle.session_script.specs.Lines.{is_plain, rect_by, SpellsRect}
 use Rattle.session_script.specs.Fields.{digits_in, number_in, field_in, rect_unless, rect_in}
 
--- the number that digits make behind n, capped at each of them
+-- the number that digits make after n, capped at each of them
 abbrev pub counted : ℕ → List ℕ → ℕ
 counted n [] = n
 counted n (b ∷ bs) = counted (with_digit n b) bs
@@ -140,7 +140,7 @@ rect_found bytes r e = elim (found_or_none (field_in bytes)) [
       ]
 ]
 
--- what stands behind a number's digits is no digit
+-- what stands after a number's digits is no digit
 pub rect_again : (bytes : List ℕ) (r : Rect) → SpellsRect bytes r → rect_in bytes ≡ Some r
 unfolding rect_in
 rect_again bytes r s =

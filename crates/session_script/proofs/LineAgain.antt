@@ -69,7 +69,7 @@ front_in_line zero bytes a = refl
 front_in_line (suc n) [] a = refl
 front_in_line (suc n) (b ∷ bytes) a = let p = and_parts (is_in_line b) (list_all is_in_line bytes) a in rw (p.0, front_in_line n bytes p.1) refl
 
--- ---- the bytes before the first line feed, and those behind it
+-- ---- the bytes before the first line feed, and those after it
 
 abbrev Parts : Type 0
 Parts = Option (List ℕ × List ℕ)

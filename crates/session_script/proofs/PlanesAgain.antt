@@ -13,7 +13,7 @@ use Rattle.pgm_planes.proofs.HeaderLemmas.{done}
 use Rattle.pgm_planes.proofs.PlaneAgain.{break_told, plane_told, plane_or_break}
 use Rattle.session_script.specs.Sessions.{ones_of, HasSizeOf, is_p, IsLaterPlane, PlaneBreak, LaterBreak}
 
--- a plane, the place behind it and what follows, or the fault; all bytes are there, so none is asked for
+-- a plane, the place after it and what follows, or the fault; all bytes are there, so none is asked for
 abbrev pub PlaneRead : Type 0
 PlaneRead = Result (PlaneOf × ℕ × List ℕ) InputFault
 
@@ -65,7 +65,7 @@ size_is p q e = let b = and_parts (eqb q.width p.width) (eqb q.height p.height) 
 other_size : (p q : PlaneOf) → (HasSizeOf p q → ⊥) → has_size p q ≡ false
 other_size p q n = elim (cases_Bool (has_size p q)) [ inl t ↦ absurd (n (size_is p q t)) | inr f ↦ f ]
 
--- a plane was read, the place behind it is such, and this is what is read on
+-- a plane was read, the place after it is such, and this is what is read on
 abbrev pub Told : PlaneRead → ℕ → List ℕ → PlaneOf → List ℕ → Type 0
 Told read at bytes p rest = (end : ℕ) × EndsAt at bytes end rest × (read ≡ a_plane p end rest)
 

@@ -10,7 +10,7 @@ use Rattle.pgm_planes.proofs.FarLemmas.{Holds, plane_far}
 use Rattle.pgm_planes.proofs.HeaderLemmas.{done, same_rest}
 use Rattle.pgm_planes.proofs.PlaneAgain.{plane_told}
 
--- a reading that leaves less than the bytes behind asks for them
+-- a reading that leaves less than the bytes after asks for them
 not_far : (r q : Reading PlaneOf) (more : List ℕ) (p : PlaneOf) (end : ℕ) (rest : List ℕ) → Holds more r q → q ≡ done p end rest → length rest < length more → r ≡ asks
 not_far r q more p end rest (inl a) e less = a
 not_far (Ok x) q more p end rest (inr h) e less =

@@ -31,7 +31,7 @@ module _ {P Q : List ℕ → List ℕ → Type 0} where
       let k = at_told c.told _ bytes t r in
       (k.0, (k.1.0, (k.1.1.0, f bytes k.0 k.1.1.1))))
 
--- what takes a text reaches what stands behind it
+-- what takes a text reaches what stands after it
 pub takes_reaches : (P : List ℕ → List ℕ → Type 0) (c : Call) → Takes c P → Reaches c (λ bytes rest. (text : List ℕ) × (bytes ≡ text ++ rest) × P text rest)
 takes_reaches P c h = if_told c.told _ (λ bytes t.
     let k = at_told c.told _ bytes t h in
@@ -42,7 +42,7 @@ abbrev pub part : Option (List ℕ) → ℕ → Option (List ℕ) → ℕ → Ca
 part told at left end = call told at left end 0 0 0
 
 module _ (told : Option (List ℕ)) (at : ℕ) (mid : Option (List ℕ)) (at_mid : ℕ) (left : Option (List ℕ)) (end : ℕ) where
-  -- one call reaches what stands behind what another reached
+  -- one call reaches what stands after what another reached
   pub reaches_then : (P Q R : List ℕ → List ℕ → Type 0) → Reaches (part told at mid at_mid) P → Reaches (part mid at_mid left end) Q → ((bytes between rest : List ℕ) → P bytes between → Q between rest → R bytes rest) → Reaches (part told at left end) R
   reaches_then P Q R r s f = if_told told _ (λ bytes t.
       let k = at_told told _ bytes t r in
@@ -56,7 +56,7 @@ CutAt limit at asks bytes = (limit < at + length bytes) × asks (take (limit - a
 seen_length : (n : ℕ) (bytes : List ℕ) → length (take n bytes) ≤ n
 seen_length n bytes = omega (arith, length-take n bytes)
 
--- what one piece asks for, behind what P says of the bytes that are seen, is what the whole asks for
+-- what one piece asks for, after what P says of the bytes that are seen, is what the whole asks for
 module _ (P : List ℕ → List ℕ → Type 0) (F : List ℕ → InputFault → Type 0) (O Q : List ℕ → Type 0) where
   abbrev pub Forth : ℕ → Type 0
   Forth most = (seen behind : List ℕ) → length seen ≤ most → P seen behind → O behind → Q seen
@@ -81,7 +81,7 @@ pub seen_read : (P S : List ℕ → List ℕ → Type 0) (c : Call) (limit : ℕ
 seen_read P S c limit m within restricts bytes rest place p = restricts bytes rest (limit - c.at) (limit - c.end) (omega (arith, within, place, less_left c m bytes rest place)) p
 
 module _ (told : Option (List ℕ)) (at : ℕ) (mid : Option (List ℕ)) (at_mid : ℕ) (left : Option (List ℕ)) (end limit limit_2 before middle after : ℕ) where
-  -- why a call refused behind what another reached
+  -- why a call refused after what another reached
   pub cause_then : (P S : List ℕ → List ℕ → Type 0) (F G : Break) (O Q : List ℕ → Type 0) (e : SessionFault) → Moves (call told at mid at_mid limit before middle) → limit_2 ≡ limit → at_mid ≤ limit → Reaches (call told at mid at_mid limit before middle) P
       → RestrictsTo P S → Forth S (F at_mid) O Q (limit - at) → Back S (F at_mid) O Q
       → ((bytes rest : List ℕ) (fault : InputFault) → at_mid + length rest ≡ at + length bytes → P bytes rest → F at_mid rest fault → G at bytes fault)

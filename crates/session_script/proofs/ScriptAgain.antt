@@ -9,7 +9,7 @@ use Rattle.session_script.specs.Sections.{Sections, Frame}
 use Rattle.session_script.proofs.LineAgain.{in_line_all}
 use Rattle.session_script.proofs.SectionsAgain.{SectionsRead, sections_end, sections_break, read_sections, cut_here, sections_told, sections_take, sections_break_told, sections_or_break}
 
--- behind the line `end` nothing may stand; all bytes end at the given place
+-- after the line `end` nothing may stand; all bytes end at the given place
 abbrev closed : ℕ → Sections → List ℕ → SectionsRead
 closed end ss [] = sections_end (meant ss) []
 closed end ss (b ∷ rest) = sections_break (AfterEnd (end - length (b ∷ rest)))

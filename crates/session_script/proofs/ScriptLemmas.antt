@@ -113,7 +113,7 @@ module _ (f : Frame) (told : Option (List ℕ)) (at : ℕ) (mid : Option (List �
       (λ seen behind more fault p b a. alone_here f seen behind more fault p b a)
       (λ bytes rest fault place p b. alone_breaks f at ended bytes rest fault is p b) h
 
-  -- a look behind the line `end` fails
+  -- a look after the line `end` fails
   pub end_cause : (ss : Sections) → Reaches (part told at mid at_mid) (λ bytes rest. AreSections f bytes ss rest) → HasCauseIn NoBreak IsNothing (call mid at_mid left end limit_2 middle after) e → HasCauseIn (ScriptBreak f Alone) (ScriptAsks f Alone) (call told at left end limit before after) e
   end_cause ss stands h =
       cause_then told at mid at_mid left end limit limit_2 before middle after (λ bytes rest. AreSections f bytes ss rest) (λ bytes rest. AreSections f bytes ss rest) NoBreak (ScriptBreak f Alone) IsNothing (ScriptAsks f Alone) e m l le stands
@@ -123,7 +123,7 @@ module _ (f : Frame) (told : Option (List ℕ)) (at : ℕ) (mid : Option (List �
       (λ bytes rest fault place a b. absurd b) h
 
 module _ (f : Frame) (told : Option (List ℕ)) (at : ℕ) (mid : Option (List ℕ)) (at_mid : ℕ) (left : Option (List ℕ)) (end limit limit_2 before middle after : ℕ) (m : Moves (call told at mid at_mid limit before middle)) (l : limit_2 ≡ limit) (le : at_mid ≤ limit) where
-  -- a byte stands behind the line `end`
+  -- a byte stands after the line `end`
   pub goes_on_cause : (ss : Sections) (ended : Bool) (place : ℕ) → ended ≡ false → place ≡ at_mid → Reaches (part told at mid at_mid) (λ bytes rest. AreSections f bytes ss rest) → Reaches (part mid at_mid left end) (LooksAt ended) → IsSeen IsNothing (call mid at_mid left end limit_2 middle after) → HasCauseIn (ScriptBreak f Alone) (ScriptAsks f Alone) (call told at left end limit before after) (Input (AfterEnd place))
   goes_on_cause ss ended place is here stands looks seen = inr (if_told told _ (λ bytes t.
       let k = at_told told _ bytes t stands in
@@ -141,7 +141,7 @@ module _ (told : Option (List ℕ)) (at : ℕ) (mid : Option (List ℕ)) (at_mid
   pub after_look : (P : List ℕ → List ℕ → Type 0) → Reaches (part told at mid at_mid) (LooksAt ended) → Reaches (part mid at_mid left end) P → Reaches (part told at left end) P
   after_look P looks stands = reaches_then told at mid at_mid left end (LooksAt ended) P P looks stands (λ bytes between rest a b. subst (λ (t : List ℕ). P t rest) (looked ended bytes between a) b)
 
-  -- behind the line `end` the input ends
+  -- after the line `end` the input ends
   pub part_stands : (f : Frame) (ss scripts : Sections) → ended ≡ true → scripts ≡ meant ss → Reaches (part told at mid at_mid) (λ bytes rest. AreSections f bytes ss rest) → Reaches (part mid at_mid left end) (LooksAt ended) → Reaches (part told at left end) (λ bytes rest. IsScriptPart f Alone bytes scripts rest)
   part_stands f ss scripts is means stands looks = reaches_then told at mid at_mid left end (λ bytes rest. AreSections f bytes ss rest) (LooksAt ended) (λ bytes rest. IsScriptPart f Alone bytes scripts rest) stands looks (λ bytes between rest a b.
       let none = ended_there ended between rest is b in

@@ -23,7 +23,7 @@ use Rattle.session_script.proofs.LineAgain.{LineRead, line_at, begins_again, non
 use Rattle.session_script.proofs.SectionLemmas.{counted_added, count_by_pushed}
 use Rattle.session_script.proofs.WithinLemmas.{more_lines, words_with, stays_within, has_begun}
 
--- ---- a word that stands behind sections
+-- ---- a word that stands after sections
 
 abbrev IsNext : Word → Sections → Type 0
 IsNext words.Analyst ss = Unit {0}
@@ -198,7 +198,7 @@ on_line go f ss (Err true) = sections_break (ScriptLine (lines_in ss + 1))
 on_line go f ss (Err false) = sections_break NoEnd
 on_line go f ss (Ok x) = on_word go ss x.0 x.1 (word_broken f (lines_in ss + 1) ss x.0)
 
--- at most so many lines behind some sections
+-- at most so many lines after some sections
 abbrev pub sections_at : Frame → ℕ → Sections → List ℕ → SectionsRead
 sections_at f zero ss bytes = sections_break NoEnd
 sections_at f (suc n) ss bytes = on_line (λ more rest. sections_at f n more rest) f ss (line_at bytes)
@@ -239,7 +239,7 @@ abbrev pub read_sections : Frame → List ℕ → SectionsRead
 read_sections f bytes = sections_at f (suc (length bytes)) [] bytes
 
 module _ (f : Frame) (bytes : List ℕ) (ss : Sections) (mid : List ℕ) (b : StandBefore f bytes ss mid) where
-  -- behind sections that stand
+  -- after sections that stand
   pub stands_read : (n : ℕ) × (read_sections f bytes ≡ sections_at f (suc n) ss mid)
   stands_read =
       let ws = words_of ss in

@@ -21,7 +21,7 @@ use Rattle.session_script.proofs.PlanesAgain.{plane_begins}
 abbrev pub RestrictsTo : (List ℕ → List ℕ → Type 0) → (List ℕ → List ℕ → Type 0) → Type 0
 RestrictsTo P Q = (bytes rest : List ℕ) (n k : ℕ) → n + length rest ≡ k + length bytes → P bytes rest → Q (take n bytes) (take k rest)
 
--- what was read of bytes is read so of their first part that reaches behind it
+-- what was read of bytes is read so of their first part that reaches after it
 abbrev pub Restricts : (List ℕ → List ℕ → Type 0) → Type 0
 Restricts P = RestrictsTo P P
 
@@ -29,7 +29,7 @@ Restricts P = RestrictsTo P P
 abbrev pub Shrinks : (List ℕ → List ℕ → Type 0) → Type 0
 Shrinks P = (bytes rest : List ℕ) → P bytes rest → length rest ≤ length bytes
 
--- one behind the other
+-- one after the other
 abbrev pub Both : (List ℕ → List ℕ → Type 0) → (List ℕ → List ℕ → Type 0) → List ℕ → List ℕ → Type 0
 Both P Q bytes rest = (between : List ℕ) × P bytes between × Q between rest
 
@@ -80,7 +80,7 @@ end_more : (spelling : Spelling) (blank : List ℕ) (b : ℕ) (rest more : List 
 end_more Raw blank b rest more e = e
 end_more Plain blank b rest more e = (e.0, e.1, λ n. absurd (let q = e.2 n in cc))
 
--- with more bytes behind, unless it asks for more
+-- with more bytes after, unless it asks for more
 abbrev pub More : (List ℕ → List ℕ → Type 0) → List ℕ → List ℕ → Type 0
 More P bytes rest = (more : List ℕ) → P (bytes ++ more) (rest ++ more)
 
@@ -94,7 +94,7 @@ plane_extends role bytes p [] (text, e, (Plain, t)) =
     inl (rw whole (inr (inr (inr (inr (p, t))))))
 plane_extends role bytes p (b ∷ rest) (text, e, (s, t)) = inr (λ more. (text, text_more bytes text (b ∷ rest) more e, (s, record { samples = t.samples; end = t.end; header = t.header; raster = t.raster; ended = end_more s t.end b rest more t.ended; plane = t.plane })))
 
--- behind a plane that asks nothing stands
+-- after a plane that asks nothing stands
 pub plane_asks_last : (role : Role) (bytes : List ℕ) (p : PlaneOf) (rest : List ℕ) → IsPlaneIn role bytes p rest → AsksForMore role bytes → rest ≡ []
 plane_asks_last role bytes p [] i a = refl
 plane_asks_last role bytes p (b ∷ rest) i a = absurd (no_ask_behind role bytes p b rest i a)
@@ -126,7 +126,7 @@ nothing_behind : (rest bytes : List ℕ) → length rest ≤ length bytes → by
 nothing_behind [] bytes le e = refl
 nothing_behind (b ∷ rest) bytes le e = absurd (omega (arith, le, ap length e))
 
--- behind nothing a later plane is not, and nothing stands
+-- after nothing a later plane is not, and nothing stands
 pub later_nothing : (role : Role) (phase : PlaneOf) (bytes : List ℕ) (p : PlaneOf) (rest : List ℕ) → IsLaterPlane role phase bytes p rest → bytes ≡ [] → rest ≡ []
 later_nothing role phase bytes p rest i e = nothing_behind rest bytes (later_shrinks role phase p bytes rest i) e
 

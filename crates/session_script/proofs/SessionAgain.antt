@@ -57,18 +57,18 @@ session_at usage side at bytes = then (first_at at bytes) (behind_phase usage si
 -- ---- what stands is read, and a break is told
 
 module _ (usage : SessionUse) (side at : ℕ) (bytes : List ℕ) where
-  -- behind the phase plane
+  -- after the phase plane
   phase_read : (phase : PlaneOf) (rest : List ℕ) → IsPlaneIn Phase bytes phase rest → (end : ℕ) × EndsAt at bytes end rest × (session_at usage side at bytes ≡ behind_phase usage side phase end rest)
   phase_read phase rest i = let t = first_told at bytes phase rest i in (t.0, t.1, ap (λ (r : PlaneRead). then r (behind_phase usage side)) t.2)
 
-  -- behind the weights
+  -- after the weights
   weights_read : (phase weights : PlaneOf) (between rest : List ℕ) → IsPlaneIn Phase bytes phase between → IsLaterPlane Weight phase between weights rest → (end : ℕ) × EndsAt at bytes end rest × (session_at usage side at bytes ≡ behind_weights usage side phase weights end rest)
   weights_read phase weights between rest i j =
       let p = phase_read phase between i in
       let t = later_told Weight phase p.0 between weights rest j in
       (t.0, record { place = omega (arith, p.1.place, t.1.place) }, p.2 ∙ ap (λ (r : PlaneRead). then r (behind_weights usage side phase)) t.2)
 
-  -- behind the mask
+  -- after the mask
   planes_read : (phase weights mask : PlaneOf) (rest : List ℕ) → ArePlanes bytes phase weights mask rest → (end : ℕ) × EndsAt at bytes end rest × (session_at usage side at bytes ≡ behind_mask usage side phase weights mask end rest)
   planes_read phase weights mask rest a =
       let p = weights_read phase weights a.behind_phase a.behind_weights a.first a.second in

@@ -14,7 +14,7 @@ digits_in bytes = prefix_len is_digit bytes
 unfoldable pub number_in : List ℕ → Option (ℕ × List ℕ)
 number_in bytes = if is_plain (take (digits_in bytes) bytes) then Some (number_of (take (digits_in bytes) bytes), drop (digits_in bytes) bytes) else None
 
--- the same behind an SP
+-- the same after an SP
 unfoldable pub field_in : List ℕ → Option (ℕ × List ℕ)
 field_in [] = None
 field_in (b ∷ bytes) = if b == 32 then number_in bytes else None

@@ -17,7 +17,7 @@ is_plain digits = is_number digits && (not (begins is_zero digits) || (length di
 abbrev pub rect_by : ℕ → ℕ → ℕ → ℕ → Rect
 rect_by x0 y0 x1 y1 = record { x0 = x0; y0 = y0; x1 = x1; y1 = y1 }
 
--- four plain numbers, each behind one SP; one above 4,294,967,295 counts as that number
+-- four plain numbers, each after one SP; one above 4,294,967,295 counts as that number
 pub record SpellsRect (bytes : List ℕ) (rect : Rect) : Type 0 where
   pub left : List ℕ
   pub top : List ℕ

@@ -40,7 +40,7 @@ abbrev pub meant : Sections → Sections
 meant [] = usual
 meant (first ∷ sections) = first ∷ sections
 
--- a session that stands alone may end without a script part; otherwise sections and the line `end` stand, behind which
+-- a session that stands alone may end without a script part; otherwise sections and the line `end` stand, after which
 -- it ends
 abbrev pub HasNoScript : SessionUse → List ℕ → Sections → List ℕ → Type 0
 HasNoScript usage bytes scripts rest = (usage ≡ Alone) × (bytes ≡ []) × (scripts ≡ usual) × (rest ≡ [])
@@ -75,14 +75,14 @@ IsNoLine bytes = IsLong bytes ⊎ IsOther bytes
 abbrev pub IsCut : List ℕ → Type 0
 IsCut bytes = (length bytes ≤ 64) × All IsInLine bytes
 
--- behind good lines stands one that spells no word, or the input ends within one
+-- after good lines stands one that spells no word, or the input ends within one
 pub record BreaksAtLine (f : Frame) (bytes : List ℕ) (fault : InputFault) : Type 0 where
   pub sections : Sections
   pub rest : List ℕ
   pub before : StandBefore f bytes sections rest
   pub why : (IsNoLine rest × (fault ≡ ScriptLine (lines_in sections + 1))) ⊎ (IsCut rest × (fault ≡ NoEnd))
 
--- behind good lines stands a word that may not
+-- after good lines stands a word that may not
 pub record BreaksAtWord (f : Frame) (bytes : List ℕ) (fault : InputFault) : Type 0 where
   pub sections : Sections
   pub rest : List ℕ
@@ -95,7 +95,7 @@ pub record BreaksAtWord (f : Frame) (bytes : List ℕ) (fault : InputFault) : Ty
 abbrev pub SectionsBreak : Frame → List ℕ → InputFault → Type 0
 SectionsBreak f bytes fault = BreaksAtLine f bytes fault ⊎ BreaksAtWord f bytes fault
 
--- a byte stands behind the line `end`; places count from the start, where the first of the bytes has the place `at`
+-- a byte stands after the line `end`; places count from the start, where the first of the bytes has the place `at`
 pub record GoesOn (f : Frame) (at : ℕ) (bytes : List ℕ) (fault : InputFault) : Type 0 where
   pub sections : Sections
   pub rest : List ℕ

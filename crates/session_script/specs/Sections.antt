@@ -70,7 +70,7 @@ lies_in f r = not (nat_lt r.x1 r.x0) && nat_lt r.x1 f.width && not (nat_lt r.y1 
 abbrev pub last_of : Sections → List Command
 last_of sections = slice_index_or sections (length sections - 1) []
 
--- What is wrong with a command in line n behind some sections: it belongs to no analyst, its analyst has 4096 commands
+-- What is wrong with a command in line n after some sections: it belongs to no analyst, its analyst has 4096 commands
 -- already, its rectangle does not lie in the raster, or it passes a limit of all analysts. The first of these is told.
 abbrev pub limit_broken : Frame → ℕ → Sections → Command → Option InputFault
 limit_broken f n sections (Change edit) = if not (lies_in f (rect_of edit)) then Some (Outside n) else (if nat_lt max_changed_tiles ((changes_of sections + 1) * f.tiles) then Some (EditLimit n) else None)
@@ -80,7 +80,7 @@ limit_broken f n sections Show = None
 abbrev pub command_broken : Frame → ℕ → Sections → Command → Option InputFault
 command_broken f n sections command = if length sections == 0 then Some (ScriptLine n) else (if nat_lt 4095 (length (last_of sections)) then Some (TooManyCommands n) else limit_broken f n sections command)
 
--- what is wrong with a word in line n behind some sections
+-- what is wrong with a word in line n after some sections
 abbrev pub word_broken : Frame → ℕ → Sections → Word → Option InputFault
 word_broken f n sections words.Analyst = if nat_lt 7 (length sections) then Some (TooManyAnalysts n) else None
 word_broken f n sections words.End = None

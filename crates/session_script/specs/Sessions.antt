@@ -91,7 +91,7 @@ HasOtherSize role phase bytes = (plane : PlaneOf) × (rest : List ℕ) × IsPlan
 abbrev pub LaterBreak : Role → PlaneOf → ℕ → List ℕ → InputFault → Type 0
 LaterBreak role phase at bytes fault = IsTrue (begins is_p bytes) × (PlaneBreak role at bytes fault ⊎ ((fault ≡ faults.SizesDiffer role) × HasOtherSize role phase bytes))
 
--- a plane of this role may begin at `rest`, behind a phase plane and, for a mask, the weights if any
+-- a plane of this role may begin at `rest`, after a phase plane and, for a mask, the weights if any
 abbrev pub StandsBefore : Role → List ℕ → PlaneOf → List ℕ → Type 0
 StandsBefore Phase bytes phase rest = ⊥
 StandsBefore Weight bytes phase rest = IsPlaneIn Phase bytes phase rest
@@ -122,7 +122,7 @@ pub record BreaksInScript (usage : SessionUse) (side at : ℕ) (bytes : List ℕ
 abbrev pub SessionBreak : SessionUse → ℕ → ℕ → List ℕ → InputFault → Type 0
 SessionBreak usage side at bytes fault = PlanesBreak at bytes fault ⊎ BreaksInScript usage side at bytes fault
 
--- ---- bytes that are judged at their end: a reader of them asks for a byte behind the last one
+-- ---- bytes that are judged at their end: a reader of them asks for a byte after the last one
 
 -- a plane asks for more: the phase plane, or a later one that begins
 abbrev pub PlaneAsks : List ℕ → Type 0

@@ -12,7 +12,7 @@ use Rattle.session_script.specs.declared.word.Word.TheVariants as words
 use Rattle.session_script.specs.Sections.{Sections}
 use Rattle.session_script.specs.Sessions.{SessionOf}
 
--- a number behind an SP
+-- a number after an SP
 abbrev pub field_text : ℕ → List ℕ
 field_text n = codes " " ++ decimal n
 

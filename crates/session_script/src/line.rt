@@ -64,7 +64,7 @@ fn edit_of(line: &[u8]) -> Option<Edit>
     Some(Edit::Unmask(rect_of(fields)?))
 }
 
-/// The rectangle of an edit: four numbers, each behind one SP.
+/// The rectangle of an edit: four numbers, each after one SP.
 fn rect_of(bytes: &[u8]) -> Option<Rect>
     ensures { result ≡ rect_in bytes.now }
 {
@@ -79,7 +79,7 @@ fn rect_of(bytes: &[u8]) -> Option<Rect>
     }
 }
 
-/// The number behind an SP in front, and what follows it.
+/// The number after an SP in front, and what follows it.
 fn take_field(bytes: &[u8]) -> Option<(u32, &[u8])>
     ensures { told result ≡ field_in bytes.now }
 {

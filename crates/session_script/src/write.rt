@@ -158,14 +158,14 @@ fn put_edit<K: Sink>(sink: &mut K, name: &[u8], rect: Rect) -> Result<(), WriteF
     put_field(sink, rect.y1)
 }
 
-/// Puts a number behind an SP.
+/// Puts a number after an SP.
 fn put_field<K: Sink>(sink: &mut K, number: u32) -> Result<(), WriteFault>
     ensures { Puts (K.held sink.old) (K.held sink.new) (K.faults sink.old) (K.faults sink.new) (field_text number) result }
 {
     put_labelled(sink, SPACE, number)
 }
 
-/// Puts a number behind its label.
+/// Puts a number after its label.
 fn put_labelled<K: Sink>(sink: &mut K, label: &[u8], number: u32) -> Result<(), WriteFault>
     ensures { Puts (K.held sink.old) (K.held sink.new) (K.faults sink.old) (K.faults sink.new) (labelled label.now number) result }
 {

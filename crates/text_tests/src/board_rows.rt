@@ -164,7 +164,7 @@ const TURN: &str = "P2 2 2 65535 0 16384 49152 32768 analyst\nmask 0 0 0 0\nsett
 
 const SQUARE: &str = "P2 2 2 65535 100 200 300 400 P2 2 2 1 1 1 1 1 P2 2 2 1 0 1 1 0 ";
 
-/// Behind each report stands the grid of its surface once more.
+/// After each report stands the grid of its surface once more.
 #[test]
 fn reports_and_grids_are_written(rt: HostRuntime) -> Result<(), Fail> {
     for (text, cells, offsets, report) in [

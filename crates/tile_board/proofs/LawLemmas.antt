@@ -88,7 +88,7 @@ module _ (s : Session) (H : List Entry) (legal : IsLegal s H) where
   no_earlier : (i j : ℕ) → i ≤ j → IsNoLater (newest_of (take i H)) (newest_of (take j H))
   no_earlier i j l = (let e : j - i + i ≡ j = omega (arith, l) in rw e at (rises i (j - i)))
 
-  -- a publication is the newest right behind it
+  -- a publication is the newest right after it
   behind : (i a r : ℕ) → slice_get H i ≡ Some (Published a r) → newest_of (take (suc i) H) ≡ Some r
   behind i a r g = ap newest_of (take_one H i (Published a r) g) ∙ newest_more (take i H) a r
 

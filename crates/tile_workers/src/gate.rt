@@ -1,4 +1,4 @@
-/// What a worker passes behind each claim, before it solves, holding no lock. It means nothing; a test can hold a worker by
+/// What a worker passes after each claim, before it solves, holding no lock. It means nothing; a test can hold a worker by
 /// it.
 pub trait Gate: Sync {
     /// The worker of this number, from 1, is about to solve.

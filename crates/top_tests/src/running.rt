@@ -36,7 +36,7 @@ pub struct Ended {
     pub line: String,
 }
 
-/// The words, parted by spaces, over the bytes. The source and the sink take `piece` bytes a call, and the sink has
+/// The words, separated by spaces, over the bytes. The source and the sink take `piece` bytes a call, and the sink has
 /// room for 512 pieces.
 pub fn run<R: Alloc<A = Global> + Threads + Wait + Sync, G: Gate>(
     rt: &R,

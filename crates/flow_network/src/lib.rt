@@ -8,3 +8,4 @@ mod slices;
 
 pub use net::FlowNet;
 pub use network::Network;
+pub use slices::{add_each, carry};

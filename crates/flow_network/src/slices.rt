@@ -29,7 +29,7 @@ pub(crate) fn add_at(values: &mut Vec<i64>, at: usize, by: i64)
 }
 
 /// Takes an amount from one signed number and adds it to another, maybe the same.
-pub(crate) fn carry(values: &mut Vec<i64>, from: usize, to: usize, amount: u64)
+pub fn carry(values: &mut Vec<i64>, from: usize, to: usize, amount: u64)
     requires from { from < length values.old.items }
     requires to { to < length values.old.items }
     requires amount { amount ≤ 2 ^ 62 }
@@ -46,7 +46,7 @@ pub(crate) fn carry(values: &mut Vec<i64>, from: usize, to: usize, amount: u64)
 }
 
 /// Adds to each number that of the other slice at its place.
-pub(crate) fn add_each(values: &mut [i64], amounts: &[i64])
+pub fn add_each(values: &mut [i64], amounts: &[i64])
     requires length { length amounts.now ≡ length values.old }
     requires within { (v : ℕ) → v < length values.old → unsigned_abs (get_or values.old v (pos 0) +ℤ get_or amounts.now v (pos 0)) ≤ 2 ^ 61 }
     ensures length { length values.new ≡ length values.old }

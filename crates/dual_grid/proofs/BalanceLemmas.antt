@@ -1,25 +1,31 @@
 -- Once a grid is balanced, the flows across the edges of a cell sum to its residue.
-use Rattle.std.proofs.Common.{◌≡◌, ℕ, ◌+◌, ◌-◌, ◌*◌, ◌<◌, ◌∙◌, ap, ap₂, refl, arith, Bool, true, false}
-use Rattle.std.specs.Prelude.{ℤ, pos, neg_ℤ, ◌+ℤ◌, ◌-ℤ◌, ◌==◌}
+use Rattle.std.proofs.Common.{◌≡◌, ℕ, ◌+◌, ◌-◌, ◌*◌, ◌/◌, ◌%◌, ◌<◌, ◌≤◌, ◌∙◌, sym, ap, ap₂, refl, arith, inl, inr, Bool, true, false}
+use Rattle.std.specs.Prelude.{ℤ, pos, neg_ℤ, ◌+ℤ◌, ◌-ℤ◌, ◌==◌, ◌&&◌, if◌then◌else◌, unsigned_abs}
+use Rattle.std.proofs.lemmas.Bool.{cases_Bool}
 use Rattle.std.proofs.lemmas.Int.{ints}
+use Rattle.std.proofs.lemmas.Nat.{div-mul-add, mod-mul-add}
 use Rattle.raster_model.specs.declared.edge.Edge.{Edge}
 use Rattle.raster_model.specs.declared.tiling.Window.{Window}
 use Rattle.raster_model.specs.Sums.{Field, sum_grid, right_edge, down_edge}
 use Rattle.raster_model.proofs.SumLemmas.{sum_grid-same, sum_grid-add}
-use Rattle.flow_network.specs.Nets.{Shape, State, IsArc, IsNetwork, tail_of}
+use Rattle.flow_network.specs.Nets.{Shape, State}
 use Rattle.flow_network.specs.Moves.{IsConserved, out_term, residual_out}
+use Rattle.flow_network.proofs.PushLemmas.{residual_out-same}
 use Rattle.raster_model.specs.Tiles.{width_of, height_of}
 use Rattle.wrapped_gradient.specs.Windows.{IsCellOf, IsEdgeOf, round}
 use Rattle.wrapped_gradient.proofs.GradientLemmas.{right_edge_of, down_edge_of}
-use Rattle.dual_grid.specs.Nodes.{node_at, first_side, other_side, rights_of, downs_of, edges_of, edge_number, arc_across}
+use Rattle.dual_grid.specs.Nodes.{node_at, first_side, other_side, rights_of, downs_of, edges_of, edge_number, edge_of}
 use Rattle.dual_grid.specs.Starts.{supply_at, start_state}
-use Rattle.dual_grid.specs.Grids.{IsGridShape}
-use Rattle.dual_grid.specs.Building.{IsSmall, flow_across}
+use Rattle.dual_grid.specs.Grids.{amount_of, is_taken, leads_forth, residual_at, shape_in, state_in}
+use Rattle.dual_grid.specs.Building.{IsSmall}
+use Rattle.dual_grid.proofs.ArcLemmas.{free_or_charged, place_is_arc, place_is_no_arc, place_tail}
+use Rattle.dual_grid.proofs.FlowLemmas.{amount_is, amount_parts, amounts_small, twice_turned}
 use Rattle.dual_grid.proofs.NodeLemmas.{first_right, first_down, other_right, other_down, node_below}
+use Rattle.dual_grid.proofs.NumberLemmas.{edge_of_number}
+use Rattle.dual_grid.proofs.EdgeLemmas.{number_below}
 use Rattle.dual_grid.proofs.SumLemmas.{sum_below-parts, sum_below-rows, sum_below-fours, sum_grid-pick}
 use Rattle.dual_grid.proofs.SideLemmas.{here_test, above_test, left_test}
-use Rattle.dual_grid.proofs.CrossLemmas.{start_even, start_odd}
-use Rattle.dual_grid.proofs.GridLemmas.{across_is_arc, forth_is_arc, forth_tail, forth_twin_tail, back_tail, back_twin_tail}
+use Rattle.dual_grid.proofs.StartLemmas.{idle_residual}
 use Rattle.sums_and_lists.specs.Sums.{sum_below, where_true}
 
 -- what the four arcs of the edge of a number add to what starts at a node
@@ -27,35 +33,62 @@ abbrev quad : Shape → State → ℕ → ℕ → ℤ
 quad s f u n = out_term s f u (n * 4) +ℤ out_term s f u (n * 4 + 1) +ℤ out_term s f u (n * 4 + 2) +ℤ out_term s f u (n * 4 + 3)
 
 -- the flow across an edge, seen from a node: out of it where the node is the first side, into it where it is the other
-abbrev share : Window → State → ℕ → Edge → ℤ
-share v f u e = where_true (first_side v e == u) (flow_across f (edge_number v e)) +ℤ where_true (other_side v e == u) (neg_ℤ (flow_across f (edge_number v e)))
+abbrev share : Window → (ℕ → ℤ) → ℕ → Edge → ℤ
+share v flow u e = where_true (first_side v e == u) (flow (edge_number v e)) +ℤ where_true (other_side v e == u) (neg_ℤ (flow (edge_number v e)))
 
--- an arc's term, by where it starts
-term_at : (s : Shape) (f : State) (u a t : ℕ) → IsArc s a → tail_of s a ≡ t → out_term s f u a ≡ where_true (t == u) (pos (f.residual a))
-term_at s f u a t arc e = rw arc (ap (λ (k : ℕ). where_true (k == u) (pos (f.residual a))) e)
+-- ---- what can leave each side of an edge: the capacity less the flow, and the capacity more the flow
+abbrev leaving : Bool → Bool → ℤ → ℤ
+leaving t u q = where_true t (pos 16130 -ℤ q) +ℤ where_true u (pos 16130 +ℤ q)
 
-four_terms : (t u : Bool) (r0 r1 r2 r3 : ℕ) → r0 + r1 ≡ 16130 → r2 + r3 ≡ 16130 → where_true t (pos 16130) +ℤ where_true u (pos 0) +ℤ where_true u (pos 16130) +ℤ where_true t (pos 0) ≡ (where_true t (pos r0) +ℤ where_true u (pos r1) +ℤ where_true u (pos r2) +ℤ where_true t (pos r3)) +ℤ (where_true t (pos r1 -ℤ pos r3) +ℤ where_true u (neg_ℤ (pos r1 -ℤ pos r3)))
-four_terms true true r0 r1 r2 r3 p q = omega (arith, ints, p, q)
-four_terms true false r0 r1 r2 r3 p q = omega (arith, ints, p, q)
-four_terms false true r0 r1 r2 r3 p q = omega (arith, ints, p, q)
-four_terms false false r0 r1 r2 r3 p q = omega (arith, ints, p, q)
+two_terms : (t u : Bool) (a b : ℕ) (q : ℤ) → pos a ≡ pos 16130 -ℤ q → pos b ≡ pos 16130 +ℤ q → where_true t (pos a) +ℤ pos 0 +ℤ where_true u (pos b) +ℤ pos 0 ≡ leaving t u q
+two_terms true true a b q c d = omega (arith, ints, c, d)
+two_terms true false a b q c d = omega (arith, ints, c, d)
+two_terms false true a b q c d = omega (arith, ints, c, d)
+two_terms false false a b q c d = omega (arith, ints, c, d)
 
-module _ (v : Window) (little : IsSmall v) (s : Shape) (net : IsNetwork s) (grid : IsGridShape v s) where
+four_terms : (t u : Bool) (a b c d : ℕ) (q : ℤ) → pos a +ℤ pos d ≡ pos 16130 -ℤ q → pos b +ℤ pos c ≡ pos 16130 +ℤ q → where_true t (pos a) +ℤ where_true u (pos b) +ℤ where_true u (pos c) +ℤ where_true t (pos d) ≡ leaving t u q
+four_terms true true a b c d q p r = omega (arith, ints, p, r)
+four_terms true false a b c d q p r = omega (arith, ints, p, r)
+four_terms false true a b c d q p r = omega (arith, ints, p, r)
+four_terms false false a b c d q p r = omega (arith, ints, p, r)
+
+-- one arc's term, by the test that there is one, and where it starts
+abbrev term : ℕ → ℤ → Bool → Bool → ℕ → ℤ
+term w q t u k = where_true (is_taken w k && (if leads_forth k then t else u)) (pos (residual_at w q k))
+
+terms_leave : (w : ℕ) (q : ℤ) (t u : Bool) → unsigned_abs q ≤ 16130 → term w q t u 0 +ℤ term w q t u 1 +ℤ term w q t u 2 +ℤ term w q t u 3 ≡ leaving t u q
+terms_leave w q t u l =
+    elim (free_or_charged w) [
+      | inl f ↦ (
+          let z = f.0 in
+          let none = f.1 in
+          let forth = amount_is (pos 16130 -ℤ q) (omega (arith, ints, l)) in
+          let back = amount_is (pos 16130 -ℤ neg_ℤ q) (omega (arith, ints, l)) in
+          rw (z, none) (two_terms t u (amount_of (pos 16130 -ℤ q)) (amount_of (pos 16130 -ℤ neg_ℤ q)) q forth (omega (arith, ints, back))))
+      | inr f ↦ (
+          let z = f.0 in
+          let some = f.1 in
+          let parts = (amount_parts q).0 in
+          let small = amounts_small q l in
+          let turned = twice_turned q in
+          rw (z, some) (four_terms t u (16130 - amount_of q) (amount_of (neg_ℤ (neg_ℤ q))) (16130 - amount_of (neg_ℤ q)) (amount_of (neg_ℤ q)) q (omega (arith, ints, parts, small)) (omega (arith, ints, parts, small, turned))))
+    ]
+
+module _ (v : Window) (little : IsSmall v) (weight : ℕ → ℕ) where
   -- what starts at a node, edge by edge
-  by_edges : (f : State) (u : ℕ) → residual_out s f u ≡ sum_grid (width_of v - 1) (height_of v) (λ i j. quad s f u (edge_number v (right_edge (v.x0 + i) (v.y0 + j)))) +ℤ sum_grid (width_of v) (height_of v - 1) (λ i j. quad s f u (edge_number v (down_edge (v.x0 + i) (v.y0 + j))))
+  by_edges : (f : State) (u : ℕ) → residual_out (shape_in v weight) f u ≡ sum_grid (width_of v - 1) (height_of v) (λ i j. quad (shape_in v weight) f u (edge_number v (right_edge (v.x0 + i) (v.y0 + j)))) +ℤ sum_grid (width_of v) (height_of v - 1) (λ i j. quad (shape_in v weight) f u (edge_number v (down_edge (v.x0 + i) (v.y0 + j))))
   by_edges f u =
       let rights : rights_of v ≡ height_of v * (width_of v - 1) = omega arith in
       let downs : downs_of v ≡ (height_of v - 1) * width_of v = omega arith in
-      ap (λ (n : ℕ). sum_below n (out_term s f u)) grid.arcs
-      ∙ sum_below-fours (edges_of v) (out_term s f u)
-      ∙ sum_below-parts (rights_of v) (downs_of v) (quad s f u)
+      sum_below-fours (edges_of v) (out_term (shape_in v weight) f u)
+      ∙ sum_below-parts (rights_of v) (downs_of v) (quad (shape_in v weight) f u)
       ∙ ap₂ (λ (y z : ℤ). y +ℤ z)
-      (ap (λ (n : ℕ). sum_below n (quad s f u)) rights
-      ∙ sum_below-rows (width_of v - 1) (height_of v) (quad s f u)
-      ∙ sum_grid-same (width_of v - 1) (height_of v) (λ i j. quad s f u (j * (width_of v - 1) + i)) (λ i j. quad s f u (edge_number v (right_edge (v.x0 + i) (v.y0 + j)))) (λ i j l m. ap (quad s f u) (right_place i j)))
-      (ap (λ (n : ℕ). sum_below n (λ i. quad s f u (rights_of v + i))) downs
-      ∙ sum_below-rows (width_of v) (height_of v - 1) (λ i. quad s f u (rights_of v + i))
-      ∙ sum_grid-same (width_of v) (height_of v - 1) (λ i j. quad s f u (rights_of v + (j * width_of v + i))) (λ i j. quad s f u (edge_number v (down_edge (v.x0 + i) (v.y0 + j)))) (λ i j l m. ap (quad s f u) (down_place i j)))
+      (ap (λ (n : ℕ). sum_below n (quad (shape_in v weight) f u)) rights
+      ∙ sum_below-rows (width_of v - 1) (height_of v) (quad (shape_in v weight) f u)
+      ∙ sum_grid-same (width_of v - 1) (height_of v) (λ i j. quad (shape_in v weight) f u (j * (width_of v - 1) + i)) (λ i j. quad (shape_in v weight) f u (edge_number v (right_edge (v.x0 + i) (v.y0 + j)))) (λ i j l m. ap (quad (shape_in v weight) f u) (right_place i j)))
+      (ap (λ (n : ℕ). sum_below n (λ i. quad (shape_in v weight) f u (rights_of v + i))) downs
+      ∙ sum_below-rows (width_of v) (height_of v - 1) (λ i. quad (shape_in v weight) f u (rights_of v + i))
+      ∙ sum_grid-same (width_of v) (height_of v - 1) (λ i j. quad (shape_in v weight) f u (rights_of v + (j * width_of v + i))) (λ i j. quad (shape_in v weight) f u (edge_number v (down_edge (v.x0 + i) (v.y0 + j)))) (λ i j l m. ap (quad (shape_in v weight) f u) (down_place i j)))
     where
       right_place : (i j : ℕ) → j * (width_of v - 1) + i ≡ edge_number v (right_edge (v.x0 + i) (v.y0 + j))
       right_place i j =
@@ -81,105 +114,112 @@ module _ (v : Window) (little : IsSmall v) (s : Shape) (net : IsNetwork s) (grid
       let b = little.along in
       down_edge_of v (v.x0 + i) (v.y0 + j) (omega arith) (omega (arith, l, a)) (omega arith) (omega (arith, m, b))
 
-  module _ (r : Field ℤ) (f : State) (conserved : IsConserved s (start_state r v) f) where
-    -- an arc and its twin have the capacity in sum
-    pub forth_pair : (e : Edge) → IsEdgeOf v e → f.residual (arc_across v e) + f.residual (arc_across v e + 1) ≡ 16130
-    forth_pair e is =
-        let a = arc_across v e in
-        let p = conserved.pairs a (forth_is_arc v s net grid e is) in
-        let t = (grid.crosses e is).forth_twin in
-        let q = rw t at p in
-        omega (arith, q, start_even a (edge_number v e * 2) (omega arith), start_odd (a + 1) (edge_number v e * 2) (omega arith))
-
-    pub back_pair : (e : Edge) → IsEdgeOf v e → f.residual (arc_across v e + 2) + f.residual (arc_across v e + 3) ≡ 16130
-    back_pair e is =
-        let a = arc_across v e in
-        let p = conserved.pairs (a + 2) (across_is_arc v s net grid e is 2 (omega arith)) in
-        let t = (grid.crosses e is).back_twin in
-        let q = rw t at p in
-        omega (arith, q, start_even (a + 2) (edge_number v e * 2 + 1) (omega arith), start_odd (a + 3) (edge_number v e * 2 + 1) (omega arith))
-
-    -- since the start the flow across an edge left what starts at its first side, and came to the other
-    moved : (e : Edge) → IsEdgeOf v e → (u : ℕ) → quad s (start_state r v) u (edge_number v e) ≡ quad s f u (edge_number v e) +ℤ share v f u e
-    moved e is u =
-        let a = arc_across v e in
-        let n = edge_number v e in
-        let t = first_side v e == u in
-        let w = other_side v e == u in
-        let zero = forth_is_arc v s net grid e is in
-        let one = across_is_arc v s net grid e is 1 (omega arith) in
-        let two = across_is_arc v s net grid e is 2 (omega arith) in
-        let three = across_is_arc v s net grid e is 3 (omega arith) in
-        let z = forth_tail v s net grid e is in
-        let y = forth_twin_tail v s net grid e is in
-        let x = back_tail v s net grid e is in
-        let k = back_twin_tail v s net grid e is in
-        let g = start_state r v in
-        let was0 : out_term s g u a ≡ where_true t (pos 16130) = term_at s g u a (first_side v e) zero z ∙ ap (λ (m : ℕ). where_true t (pos m)) (start_even a (n * 2) (omega arith)) in
-        let was1 : out_term s g u (a + 1) ≡ where_true w (pos 0) = term_at s g u (a + 1) (other_side v e) one y ∙ ap (λ (m : ℕ). where_true w (pos m)) (start_odd (a + 1) (n * 2) (omega arith)) in
-        let was2 : out_term s g u (a + 2) ≡ where_true w (pos 16130) = term_at s g u (a + 2) (other_side v e) two x ∙ ap (λ (m : ℕ). where_true w (pos m)) (start_even (a + 2) (n * 2 + 1) (omega arith)) in
-        let was3 : out_term s g u (a + 3) ≡ where_true t (pos 0) = term_at s g u (a + 3) (first_side v e) three k ∙ ap (λ (m : ℕ). where_true t (pos m)) (start_odd (a + 3) (n * 2 + 1) (omega arith)) in
-        let is0 = term_at s f u a (first_side v e) zero z in
-        let is1 = term_at s f u (a + 1) (other_side v e) one y in
-        let is2 = term_at s f u (a + 2) (other_side v e) two x in
-        let is3 = term_at s f u (a + 3) (first_side v e) three k in
-        let all = four_terms t w (f.residual a) (f.residual (a + 1)) (f.residual (a + 2)) (f.residual (a + 3)) (forth_pair e is) (back_pair e is) in
-        sums _ _ _ _ _ _ _ _ _ _ _ _ _ _ _ _ _ was0 was1 was2 was3 is0 is1 is2 is3 all
+  -- ---- with what flows
+  module _ (flow excess potential : ℕ → ℤ) (within : (n : ℕ) → unsigned_abs (flow n) ≤ 16130) where
+    term_at : (u n k : ℕ) → n < edges_of v → k < 4 → out_term (shape_in v weight) (state_in weight flow excess potential) u (n * 4 + k) ≡ term (weight n) (flow n) (first_side v (edge_of v n) == u) (other_side v (edge_of v n) == u) k
+    term_at u n k l m =
+        elim (cases_Bool (is_taken (weight n) k)) [
+          | inl t ↦ (
+              let arc = place_is_arc v weight n k l m t in
+              let tail = place_tail v weight n k m arc in
+              rw (arc, t) (ap₂ (λ (i : ℕ) (r : ℕ). where_true (i == u) (pos r)) tail residual ∙ chosen (leads_forth k) (first_side v (edge_of v n)) (other_side v (edge_of v n)) (residual_at (weight n) (flow n) k)))
+          | inr t ↦ (
+              let none : (shape_in v weight).is_arc (n * 4 + k) ≡ false = place_is_no_arc v weight n k l m t in
+              rw (none, t) refl)
+        ]
       where
-        sums : (a b c d i j k l a' b' c' d' i' j' k' l' z : ℤ) → a ≡ a' → b ≡ b' → c ≡ c' → d ≡ d' → i ≡ i' → j ≡ j' → k ≡ k' → l ≡ l' → a' +ℤ b' +ℤ c' +ℤ d' ≡ (i' +ℤ j' +ℤ k' +ℤ l') +ℤ z → a +ℤ b +ℤ c +ℤ d ≡ (i +ℤ j +ℤ k +ℤ l) +ℤ z
-        sums a b c d i j k l a' b' c' d' i' j' k' l' z p q t u m n o w h = rw (p, q, t, u, m, n, o, w) h
+        residual : residual_at (weight ((n * 4 + k) / 4)) (flow ((n * 4 + k) / 4)) ((n * 4 + k) % 4) ≡ residual_at (weight n) (flow n) k
+        residual = ap₂ (λ (i j : ℕ). residual_at (weight i) (flow i) j) (div-mul-add n 4 k m) (mod-mul-add n 4 k m)
+
+        chosen : (b : Bool) (i j r : ℕ) → where_true ((if b then i else j) == u) (pos r) ≡ where_true (if b then i == u else j == u) (pos r)
+        chosen true i j r = refl
+        chosen false i j r = refl
+
+    -- what can leave a node across an edge
+    quad_leaves : (u n : ℕ) → n < edges_of v → quad (shape_in v weight) (state_in weight flow excess potential) u n ≡ leaving (first_side v (edge_of v n) == u) (other_side v (edge_of v n) == u) (flow n)
+    quad_leaves u n l =
+        let zero_more : n * 4 + 0 ≡ n * 4 = omega arith in
+        sums _ _ _ _ _ _ _ _ _
+        (ap (λ (a : ℕ). out_term (shape_in v weight) (state_in weight flow excess potential) u a) (sym zero_more) ∙ term_at u n 0 l (omega arith)) (term_at u n 1 l (omega arith)) (term_at u n 2 l (omega arith)) (term_at u n 3 l (omega arith))
+        (terms_leave (weight n) (flow n) (first_side v (edge_of v n) == u) (other_side v (edge_of v n) == u) (within n))
+      where
+        sums : (a b c d i j k l z : ℤ) → a ≡ i → b ≡ j → c ≡ k → d ≡ l → i +ℤ j +ℤ k +ℤ l ≡ z → a +ℤ b +ℤ c +ℤ d ≡ z
+        sums a b c d i j k l z p q r t h = rw (p, q, r, t) h
+
+  -- at the start nothing flows
+  start_leaves : (r : Field ℤ) (u : ℕ) → residual_out (shape_in v weight) (start_state r v) u ≡ residual_out (shape_in v weight) (state_in weight (λ n. pos 0) (λ n. pos 0) (λ n. pos 0)) u
+  start_leaves r u = residual_out-same (shape_in v weight) (state_in weight (λ n. pos 0) (λ n. pos 0) (λ n. pos 0)) (start_state r v) u (λ a arc. sym (idle_residual v weight a arc))
+
+  module _ (r : Field ℤ) (flow excess potential : ℕ → ℤ) (within : (n : ℕ) → unsigned_abs (flow n) ≤ 16130) (conserved : IsConserved (shape_in v weight) (start_state r v) (state_in weight flow excess potential)) where
+    -- since the start the flow across an edge left what starts at its first side, and came to the other
+    moved : (e : Edge) → IsEdgeOf v e → (u : ℕ) → quad (shape_in v weight) (state_in weight (λ n. pos 0) (λ n. pos 0) (λ n. pos 0)) u (edge_number v e) ≡ quad (shape_in v weight) (state_in weight flow excess potential) u (edge_number v e) +ℤ share v flow u e
+    moved e is u =
+        let n = edge_number v e in
+        let l = number_below v e is in
+        quad_leaves (λ n. pos 0) (λ n. pos 0) (λ n. pos 0) (λ n. omega arith) u n l
+        ∙ split (first_side v (edge_of v n) == u) (other_side v (edge_of v n) == u) (flow n)
+        ∙ ap₂ (λ (y z : ℤ). y +ℤ z) (sym (quad_leaves flow excess potential within u n l))
+        (ap (λ (i : Edge). where_true (first_side v i == u) (flow n) +ℤ where_true (other_side v i == u) (neg_ℤ (flow n))) (edge_of_number v e is))
+      where
+        split : (t u : Bool) (q : ℤ) → leaving t u (pos 0) ≡ leaving t u q +ℤ (where_true t q +ℤ where_true u (neg_ℤ q))
+        split true true q = omega (arith, ints)
+        split true false q = omega (arith, ints)
+        split false true q = omega (arith, ints)
+        split false false q = omega (arith, ints)
 
     -- what a node had at the start is what flows out of it across the edges
-    shares : (u : ℕ) → u < s.nodes → f.excess u ≡ pos 0 → supply_at r v u ≡ sum_grid (width_of v - 1) (height_of v) (λ i j. share v f u (right_edge (v.x0 + i) (v.y0 + j))) +ℤ sum_grid (width_of v) (height_of v - 1) (λ i j. share v f u (down_edge (v.x0 + i) (v.y0 + j)))
+    shares : (u : ℕ) → u < (shape_in v weight).nodes → excess u ≡ pos 0 → supply_at r v u ≡ sum_grid (width_of v - 1) (height_of v) (λ i j. share v flow u (right_edge (v.x0 + i) (v.y0 + j))) +ℤ sum_grid (width_of v) (height_of v - 1) (λ i j. share v flow u (down_edge (v.x0 + i) (v.y0 + j)))
     shares u l empty =
-        let g = start_state r v in
+        let s = shape_in v weight in
+        let f = state_in weight flow excess potential in
+        let g = state_in weight (λ n. pos 0) (λ n. pos 0) (λ n. pos 0) in
         let right = λ (h : State) (i j : ℕ). quad s h u (edge_number v (right_edge (v.x0 + i) (v.y0 + j))) in
         let down = λ (h : State) (i j : ℕ). quad s h u (edge_number v (down_edge (v.x0 + i) (v.y0 + j))) in
-        let right_share = λ (i j : ℕ). share v f u (right_edge (v.x0 + i) (v.y0 + j)) in
-        let down_share = λ (i j : ℕ). share v f u (down_edge (v.x0 + i) (v.y0 + j)) in
+        let right_share = λ (i j : ℕ). share v flow u (right_edge (v.x0 + i) (v.y0 + j)) in
+        let down_share = λ (i j : ℕ). share v flow u (down_edge (v.x0 + i) (v.y0 + j)) in
         let rights : sum_grid (width_of v - 1) (height_of v) (right g) ≡ sum_grid (width_of v - 1) (height_of v) (right f) +ℤ sum_grid (width_of v - 1) (height_of v) right_share =
         sum_grid-same (width_of v - 1) (height_of v) (right g) (λ i j. right f i j +ℤ right_share i j) (λ i j p q. moved (right_edge (v.x0 + i) (v.y0 + j)) (right_in i j p q) u) ∙ sum_grid-add (width_of v - 1) (height_of v) (right f) right_share in
         let downs : sum_grid (width_of v) (height_of v - 1) (down g) ≡ sum_grid (width_of v) (height_of v - 1) (down f) +ℤ sum_grid (width_of v) (height_of v - 1) down_share =
         sum_grid-same (width_of v) (height_of v - 1) (down g) (λ i j. down f i j +ℤ down_share i j) (λ i j p q. moved (down_edge (v.x0 + i) (v.y0 + j)) (down_in i j p q) u) ∙ sum_grid-add (width_of v) (height_of v - 1) (down f) down_share in
-        balance_of (f.excess u) (sum_grid (width_of v - 1) (height_of v) (right g)) (sum_grid (width_of v) (height_of v - 1) (down g)) (residual_out s f u) (residual_out s g u) (sum_grid (width_of v - 1) (height_of v) (right f)) (sum_grid (width_of v) (height_of v - 1) (down f)) (sum_grid (width_of v - 1) (height_of v) right_share) (sum_grid (width_of v) (height_of v - 1) down_share) (supply_at r v u) (conserved.nodes u l) empty (by_edges f u) (by_edges g u) rights downs
+        balance_of (f.excess u) (sum_grid (width_of v - 1) (height_of v) (right g)) (sum_grid (width_of v) (height_of v - 1) (down g)) (residual_out s f u) (residual_out s (start_state r v) u) (sum_grid (width_of v - 1) (height_of v) (right f)) (sum_grid (width_of v) (height_of v - 1) (down f)) (sum_grid (width_of v - 1) (height_of v) right_share) (sum_grid (width_of v) (height_of v - 1) down_share) (supply_at r v u) (conserved.nodes u l) empty (by_edges f u) (start_leaves r u ∙ by_edges g u) rights downs
       where
         balance_of : (x b c o p a d i j z : ℤ) → x -ℤ o ≡ z -ℤ p → x ≡ pos 0 → o ≡ a +ℤ d → p ≡ b +ℤ c → b ≡ a +ℤ i → c ≡ d +ℤ j → z ≡ i +ℤ j
         balance_of x b c o p a d i j z e y m n k l = omega (arith, ints, e, y, m, n, k, l)
 
     -- round a cell the flows sum to minus what it had
-    pub cell_balance : (x y : ℕ) → IsCellOf v x y → f.excess (node_at v x y) ≡ pos 0 → round (λ e. flow_across f (edge_number v e)) x y ≡ neg_ℤ (supply_at r v (node_at v x y))
+    pub cell_balance : (x y : ℕ) → IsCellOf v x y → excess (node_at v x y) ≡ pos 0 → round (λ e. flow (edge_number v e)) x y ≡ neg_ℤ (supply_at r v (node_at v x y))
     cell_balance x y c empty =
         let u = node_at v x y in
-        let flow = λ (e : Edge). flow_across f (edge_number v e) in
+        let across = λ (e : Edge). flow (edge_number v e) in
         let right = λ (i j : ℕ). right_edge (v.x0 + i) (v.y0 + j) in
         let down = λ (i j : ℕ). down_edge (v.x0 + i) (v.y0 + j) in
-        let out_right : sum_grid (width_of v - 1) (height_of v) (λ i j. where_true (first_side v (right i j) == u) (flow (right i j))) ≡ flow (right (x - v.x0) (y + 1 - v.y0)) =
-        sum_grid-pick (width_of v - 1) (height_of v) (x - v.x0) (y + 1 - v.y0) (λ i j. first_side v (right i j) == u) (λ i j. flow (right i j)) (omega (arith, c)) (omega (arith, c))
+        let out_right : sum_grid (width_of v - 1) (height_of v) (λ i j. where_true (first_side v (right i j) == u) (across (right i j))) ≡ across (right (x - v.x0) (y + 1 - v.y0)) =
+        sum_grid-pick (width_of v - 1) (height_of v) (x - v.x0) (y + 1 - v.y0) (λ i j. first_side v (right i j) == u) (λ i j. across (right i j)) (omega (arith, c)) (omega (arith, c))
         (λ i j p q. ap (λ (n : ℕ). n == u) (first_right v (right i j) refl) ∙ above_test v x y c i j) in
-        let in_right : sum_grid (width_of v - 1) (height_of v) (λ i j. where_true (other_side v (right i j) == u) (neg_ℤ (flow (right i j)))) ≡ neg_ℤ (flow (right (x - v.x0) (y - v.y0))) =
-        sum_grid-pick (width_of v - 1) (height_of v) (x - v.x0) (y - v.y0) (λ i j. other_side v (right i j) == u) (λ i j. neg_ℤ (flow (right i j))) (omega (arith, c)) (omega (arith, c))
+        let in_right : sum_grid (width_of v - 1) (height_of v) (λ i j. where_true (other_side v (right i j) == u) (neg_ℤ (across (right i j)))) ≡ neg_ℤ (across (right (x - v.x0) (y - v.y0))) =
+        sum_grid-pick (width_of v - 1) (height_of v) (x - v.x0) (y - v.y0) (λ i j. other_side v (right i j) == u) (λ i j. neg_ℤ (across (right i j))) (omega (arith, c)) (omega (arith, c))
         (λ i j p q. ap (λ (n : ℕ). n == u) (other_right v (right i j) refl) ∙ here_test v x y c i j) in
-        let out_down : sum_grid (width_of v) (height_of v - 1) (λ i j. where_true (first_side v (down i j) == u) (flow (down i j))) ≡ flow (down (x - v.x0) (y - v.y0)) =
-        sum_grid-pick (width_of v) (height_of v - 1) (x - v.x0) (y - v.y0) (λ i j. first_side v (down i j) == u) (λ i j. flow (down i j)) (omega (arith, c)) (omega (arith, c))
+        let out_down : sum_grid (width_of v) (height_of v - 1) (λ i j. where_true (first_side v (down i j) == u) (across (down i j))) ≡ across (down (x - v.x0) (y - v.y0)) =
+        sum_grid-pick (width_of v) (height_of v - 1) (x - v.x0) (y - v.y0) (λ i j. first_side v (down i j) == u) (λ i j. across (down i j)) (omega (arith, c)) (omega (arith, c))
         (λ i j p q. ap (λ (n : ℕ). n == u) (first_down v (down i j) refl) ∙ here_test v x y c i j) in
-        let in_down : sum_grid (width_of v) (height_of v - 1) (λ i j. where_true (other_side v (down i j) == u) (neg_ℤ (flow (down i j)))) ≡ neg_ℤ (flow (down (x + 1 - v.x0) (y - v.y0))) =
-        sum_grid-pick (width_of v) (height_of v - 1) (x + 1 - v.x0) (y - v.y0) (λ i j. other_side v (down i j) == u) (λ i j. neg_ℤ (flow (down i j))) (omega (arith, c)) (omega (arith, c))
+        let in_down : sum_grid (width_of v) (height_of v - 1) (λ i j. where_true (other_side v (down i j) == u) (neg_ℤ (across (down i j)))) ≡ neg_ℤ (across (down (x + 1 - v.x0) (y - v.y0))) =
+        sum_grid-pick (width_of v) (height_of v - 1) (x + 1 - v.x0) (y - v.y0) (λ i j. other_side v (down i j) == u) (λ i j. neg_ℤ (across (down i j))) (omega (arith, c)) (omega (arith, c))
         (λ i j p q. ap (λ (n : ℕ). n == u) (other_down v (down i j) refl) ∙ left_test v x y c i j) in
-        let all = shares u (let b = node_below v x y in omega (arith, grid.nodes, b)) empty in
-        let rights = sum_grid-add (width_of v - 1) (height_of v) (λ i j. where_true (first_side v (right i j) == u) (flow (right i j))) (λ i j. where_true (other_side v (right i j) == u) (neg_ℤ (flow (right i j)))) in
-        let downs = sum_grid-add (width_of v) (height_of v - 1) (λ i j. where_true (first_side v (down i j) == u) (flow (down i j))) (λ i j. where_true (other_side v (down i j) == u) (neg_ℤ (flow (down i j)))) in
+        let all = shares u (let b = node_below v x y in omega (arith, b)) empty in
+        let rights = sum_grid-add (width_of v - 1) (height_of v) (λ i j. where_true (first_side v (right i j) == u) (across (right i j))) (λ i j. where_true (other_side v (right i j) == u) (neg_ℤ (across (right i j)))) in
+        let downs = sum_grid-add (width_of v) (height_of v - 1) (λ i j. where_true (first_side v (down i j) == u) (across (down i j))) (λ i j. where_true (other_side v (down i j) == u) (neg_ℤ (across (down i j)))) in
         let column : v.x0 + (x - v.x0) ≡ x = omega (arith, c) in
         let next_column : v.x0 + (x + 1 - v.x0) ≡ x + 1 = omega (arith, c) in
         let row : v.y0 + (y - v.y0) ≡ y = omega (arith, c) in
         let next_row : v.y0 + (y + 1 - v.y0) ≡ y + 1 = omega (arith, c) in
-        total (supply_at r v u) (sum_grid (width_of v - 1) (height_of v) (λ i j. share v f u (right i j))) (sum_grid (width_of v) (height_of v - 1) (λ i j. share v f u (down i j)))
-        (sum_grid (width_of v - 1) (height_of v) (λ i j. where_true (first_side v (right i j) == u) (flow (right i j)))) (sum_grid (width_of v - 1) (height_of v) (λ i j. where_true (other_side v (right i j) == u) (neg_ℤ (flow (right i j)))))
-        (sum_grid (width_of v) (height_of v - 1) (λ i j. where_true (first_side v (down i j) == u) (flow (down i j)))) (sum_grid (width_of v) (height_of v - 1) (λ i j. where_true (other_side v (down i j) == u) (neg_ℤ (flow (down i j)))))
-        (flow (right_edge x y)) (flow (right_edge x (y + 1))) (flow (down_edge x y)) (flow (down_edge (x + 1) y)) all rights downs
-        (out_right ∙ ap₂ (λ (a b : ℕ). flow (right_edge a b)) column next_row)
-        (in_right ∙ ap₂ (λ (a b : ℕ). neg_ℤ (flow (right_edge a b))) column row)
-        (out_down ∙ ap₂ (λ (a b : ℕ). flow (down_edge a b)) column row)
-        (in_down ∙ ap₂ (λ (a b : ℕ). neg_ℤ (flow (down_edge a b))) next_column row)
+        total (supply_at r v u) (sum_grid (width_of v - 1) (height_of v) (λ i j. share v flow u (right i j))) (sum_grid (width_of v) (height_of v - 1) (λ i j. share v flow u (down i j)))
+        (sum_grid (width_of v - 1) (height_of v) (λ i j. where_true (first_side v (right i j) == u) (across (right i j)))) (sum_grid (width_of v - 1) (height_of v) (λ i j. where_true (other_side v (right i j) == u) (neg_ℤ (across (right i j)))))
+        (sum_grid (width_of v) (height_of v - 1) (λ i j. where_true (first_side v (down i j) == u) (across (down i j)))) (sum_grid (width_of v) (height_of v - 1) (λ i j. where_true (other_side v (down i j) == u) (neg_ℤ (across (down i j)))))
+        (across (right_edge x y)) (across (right_edge x (y + 1))) (across (down_edge x y)) (across (down_edge (x + 1) y)) all rights downs
+        (out_right ∙ ap₂ (λ (a b : ℕ). across (right_edge a b)) column next_row)
+        (in_right ∙ ap₂ (λ (a b : ℕ). neg_ℤ (across (right_edge a b))) column row)
+        (out_down ∙ ap₂ (λ (a b : ℕ). across (down_edge a b)) column row)
+        (in_down ∙ ap₂ (λ (a b : ℕ). neg_ℤ (across (down_edge a b))) next_column row)
       where
         total : (z r d a b i j top bottom left right : ℤ) → z ≡ r +ℤ d → r ≡ a +ℤ b → d ≡ i +ℤ j → a ≡ bottom → b ≡ neg_ℤ top → i ≡ left → j ≡ neg_ℤ right → top +ℤ right -ℤ bottom -ℤ left ≡ neg_ℤ z
         total z r d a b i j top bottom left right p q k l m n o = omega (arith, ints, p, q, k, l, m, n, o)

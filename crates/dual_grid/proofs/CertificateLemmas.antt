@@ -1,6 +1,9 @@
 -- What a balanced grid answers is certified.
-use Rattle.std.proofs.Common.{◌≡◌, ℕ, ◌+◌, ◌-◌, ◌*◌, ◌≤◌, ◌∙◌, ap, ap₂, refl, arith, List, Bool, true, false}
+use Rattle.std.proofs.Common.{◌≡◌, ℕ, ◌+◌, ◌-◌, ◌*◌, ◌<◌, ◌≤◌, ◌∙◌, ap, ap₂, refl, arith, inl, inr, List, Bool, true, false}
 use Rattle.std.specs.Prelude.{ℤ, pos, neg_ℤ, ◌+ℤ◌, ◌-ℤ◌, unsigned_abs, slice_index_or}
+use Rattle.std.proofs.lemmas.Bool.{cases_lt}
+use Rattle.std.proofs.lemmas.Int.{ints}
+use Rattle.std.proofs.lemmas.List.{get_or_past}
 use Rattle.raster_model.specs.declared.edge.Edge.{Edge}
 use Rattle.raster_model.specs.declared.scene.Scene.{Scene}
 use Rattle.raster_model.specs.declared.tiling.Window.{Window}
@@ -8,7 +11,7 @@ use Rattle.raster_model.specs.Sums.{Field, right_edge, down_edge}
 use Rattle.raster_model.specs.Raster.{residue, masked_weight}
 use Rattle.raster_model.specs.Scene.{raster_of}
 use Rattle.raster_model.specs.Tiles.{IsWindowOf, width_of}
-use Rattle.flow_network.specs.Nets.{Shape, State, IsNetwork, HasReducedCosts}
+use Rattle.flow_network.specs.Nets.{HasReducedCosts}
 use Rattle.flow_network.specs.Moves.{IsConserved}
 use Rattle.wrapped_gradient.specs.declared.corrections.Corrections.{Corrections}
 use Rattle.wrapped_gradient.specs.Corrections.{CancelResidues, correction_at}
@@ -17,14 +20,15 @@ use Rattle.wrapped_gradient.proofs.CorrectionLemmas.{greatest_of_least}
 use Rattle.wrapped_gradient.proofs.GradientLemmas.{right_edge_of, down_edge_of}
 use Rattle.wrapped_gradient.proofs.Places.{field_at}
 use Rattle.dual_grid.specs.Answers.{IsAnswer, IsBalanced, IsNearStart}
-use Rattle.dual_grid.specs.Building.{IsSmall, AreFaces, AreFlows, flow_across}
-use Rattle.dual_grid.specs.Grids.{IsGridShape, AreWeighed}
-use Rattle.dual_grid.specs.Nodes.{cells_of, node_at, rights_of, downs_of, edge_number}
+use Rattle.dual_grid.specs.Building.{IsSmall, AreFaces, AreFlows}
+use Rattle.dual_grid.specs.Grids.{AreWeighed, shape_in, state_in}
+use Rattle.dual_grid.specs.Nodes.{cells_of, node_at, rights_of, downs_of, edges_of, edge_number, edge_of}
 use Rattle.dual_grid.specs.Starts.{supply_at, start_state, open_in, TellsMask}
 use Rattle.dual_grid.proofs.BalanceLemmas.{cell_balance}
 use Rattle.dual_grid.proofs.EdgeLemmas.{right_number_below, down_number_below}
-use Rattle.dual_grid.proofs.FaceLemmas.{difference_fits, flow_is_tight}
+use Rattle.dual_grid.proofs.FaceLemmas.{difference_fits, flow_is_small, flow_is_tight}
 use Rattle.dual_grid.proofs.NodeLemmas.{node_inside, node_below, cell_below}
+use Rattle.dual_grid.proofs.NumberLemmas.{edge_in, number_of_edge}
 use Rattle.dual_grid.proofs.SupplyLemmas.{supply_inside}
 use Rattle.dual_grid.proofs.TightLemmas.{tight_answer}
 
@@ -50,26 +54,44 @@ round_of f g v x y c same =
     sums : (a b c d i j k l : ℤ) → a ≡ i → b ≡ j → c ≡ k → d ≡ l → a +ℤ b -ℤ c -ℤ d ≡ i +ℤ j -ℤ k -ℤ l
     sums a b c d i j k l p q t u = rw (p, q, t, u) refl
 
-module _ (scene : Scene) (t : ℕ) (v : Window) (window : IsWindowOf scene.tiling t v) (little : IsSmall v) (unmasked : List Bool) (mask : Field Bool) (tells : TellsMask v unmasked mask) (s : Shape) (net : IsNetwork s) (grid : IsGridShape v s) (weighed : AreWeighed (raster_of scene) (open_in v unmasked) v s) (f : State) (kept : HasReducedCosts s f) (conserved : IsConserved s (start_state (residue (raster_of scene)) v) f) (balanced : IsBalanced s f) (near : IsNearStart s f) (k : Corrections) (rights : AreFlows f 0 (rights_of v) k.right.items) (downs : AreFlows f (rights_of v) (downs_of v) k.down.items) (rights_small : (i : ℕ) → unsigned_abs (slice_index_or k.right.items i (pos 0)) ≤ 16129) (downs_small : (i : ℕ) → unsigned_abs (slice_index_or k.down.items i (pos 0)) ≤ 16129) (faces : List ℤ) (are : AreFaces f (cells_of v) (cells_of v) faces) where
+module _ (scene : Scene) (t : ℕ) (v : Window) (window : IsWindowOf scene.tiling t v) (little : IsSmall v) (unmasked : List Bool) (mask : Field Bool) (tells : TellsMask v unmasked mask) (weight : ℕ → ℕ) (weighed : AreWeighed (raster_of scene) (open_in v unmasked) v (shape_in v weight)) (flow excess potential : ℕ → ℤ) (within : (n : ℕ) → unsigned_abs (flow n) ≤ 16130) (kept : HasReducedCosts (shape_in v weight) (state_in weight flow excess potential)) (conserved : IsConserved (shape_in v weight) (start_state (residue (raster_of scene)) v) (state_in weight flow excess potential)) (balanced : IsBalanced (shape_in v weight) (state_in weight flow excess potential)) (near : IsNearStart (shape_in v weight) (state_in weight flow excess potential)) (k : Corrections) (are_flows : AreFlows v flow k) (faces : List ℤ) (are : AreFaces potential (cells_of v) (cells_of v) faces) where
   -- a correction is what flows across the edge
-  correction_is : (e : Edge) → IsEdgeOf v e → correction_at v k e ≡ flow_across f (edge_number v e)
+  correction_is : (e : Edge) → IsEdgeOf v e → correction_at v k e ≡ flow (edge_number v e)
   correction_is e i = go e.x e.y e.down i
     where
-      go : (x y : ℕ) (d : Bool) → IsEdgeOf v (record { x = x; y = y; down = d }) → correction_at v k (record { x = x; y = y; down = d }) ≡ flow_across f (edge_number v (record { x = x; y = y; down = d }))
-      go x y true i = downs.values ((y - v.y0) * width_of v + (x - v.x0)) (down_number_below v x y i)
-      go x y false i =
-          let place = (y - v.y0) * (width_of v - 1) + (x - v.x0) in
-          let e : 0 + place ≡ place = omega arith in
-          rights.values place (right_number_below v x y i) ∙ ap (λ (n : ℕ). flow_across f n) e
+      go : (x y : ℕ) (d : Bool) → IsEdgeOf v (record { x = x; y = y; down = d }) → correction_at v k (record { x = x; y = y; down = d }) ≡ flow (edge_number v (record { x = x; y = y; down = d }))
+      go x y true i = are_flows.down ((y - v.y0) * width_of v + (x - v.x0)) (down_number_below v x y i)
+      go x y false i = are_flows.right ((y - v.y0) * (width_of v - 1) + (x - v.x0)) (right_number_below v x y i)
 
   cancels : CancelResidues (raster_of scene) v k
   cancels x y c =
-      round_of (correction_at v k) (λ e. flow_across f (edge_number v e)) v x y c correction_is
-      ∙ cell_balance v little s net grid (residue (raster_of scene)) f conserved x y c (balanced (node_at v x y) (let b = node_below v x y in omega (arith, grid.nodes, b)))
+      round_of (correction_at v k) (λ e. flow (edge_number v e)) v x y c correction_is
+      ∙ cell_balance v little weight (residue (raster_of scene)) flow excess potential within conserved x y c (balanced (node_at v x y) (let b = node_below v x y in omega (arith, b)))
       ∙ ap neg_ℤ (cell_supply (residue (raster_of scene)) v x y c)
+
+  small_at : (n : ℕ) → n < edges_of v → unsigned_abs (flow n) ≤ 16129
+  small_at n l =
+      let e = edge_of v n in
+      let is = edge_in v little n l in
+      let number = number_of_edge v little n l in
+      rw number at (flow_is_small v weight flow excess potential kept near e is (masked_weight (raster_of scene) (open_in v unmasked) e) (weighed e is) (within (edge_number v e)))
+
+  rights_small : (i : ℕ) → unsigned_abs (slice_index_or k.right.items i (pos 0)) ≤ 16129
+  rights_small i =
+      elim (cases_lt i (rights_of v)) [
+        | inl l ↦ rw (are_flows.right i l) (small_at i (omega (arith, l)))
+        | inr l ↦ rw (get_or_past k.right.items i (pos 0) (omega (arith, are_flows.right_count, l))) (omega (arith, ints))
+      ]
+
+  downs_small : (i : ℕ) → unsigned_abs (slice_index_or k.down.items i (pos 0)) ≤ 16129
+  downs_small i =
+      elim (cases_lt i (downs_of v)) [
+        | inl l ↦ rw (are_flows.down i l) (small_at (rights_of v + i) (omega (arith, l)))
+        | inr l ↦ rw (get_or_past k.down.items i (pos 0) (omega (arith, are_flows.down_count, l))) (omega (arith, ints))
+      ]
 
   pub is_answer : IsAnswer (raster_of scene) mask t v k faces
   is_answer =
-      tight_answer scene t v window unmasked mask tells f k faces are (rights.count, downs.count) (greatest_of_least k 16129 rights_small downs_small) cancels
-      (λ e i. difference_fits v s net grid f kept near e i (masked_weight (raster_of scene) (open_in v unmasked) e) (weighed e i))
-      (λ e i. rw (correction_is e i) (flow_is_tight v s net grid f kept near e i (masked_weight (raster_of scene) (open_in v unmasked) e) (weighed e i)))
+      tight_answer scene t v window unmasked mask tells (state_in weight flow excess potential) k faces are (are_flows.right_count, are_flows.down_count) (greatest_of_least k 16129 rights_small downs_small) cancels
+      (λ e i. difference_fits v weight flow excess potential kept near e i (masked_weight (raster_of scene) (open_in v unmasked) e) (weighed e i))
+      (λ e i. rw (correction_is e i) (flow_is_tight v weight flow excess potential kept near e i (masked_weight (raster_of scene) (open_in v unmasked) e) (weighed e i)))

@@ -28,7 +28,7 @@ use Rattle.dual_grid.proofs.TightLemmas.{tight_answer}
 abbrev turned_state : List ℤ → State
 turned_state faces = record { residual = λ a. 0; excess = λ u. pos 0; potential = λ u. neg_ℤ (face_of faces u) }
 
-turned_faces : (faces : List ℤ) (n : ℕ) → length faces ≡ n → AreFaces (turned_state faces) n n faces
+turned_faces : (faces : List ℤ) (n : ℕ) → length faces ≡ n → AreFaces (turned_state faces).potential n n faces
 turned_faces faces n e = record {
   count = e;
   values = λ u l. less_none (face_of faces u) (face_of faces n) (get_or_past faces n (pos 0) (omega (arith, e)));

@@ -1,5 +1,5 @@
 -- The numbers of a window's edges.
-use Rattle.std.proofs.Common.{◌≡◌, ℕ, ◌+◌, ◌-◌, ◌*◌, ◌/◌, ◌%◌, ◌<◌, ◌≤◌, ◌∙◌, sym, ap, ap₂, arith, Bool, true, false}
+use Rattle.std.proofs.Common.{◌≡◌, ℕ, zero, suc, ◌+◌, ◌-◌, ◌*◌, ◌/◌, ◌%◌, ◌<◌, ◌≤◌, ◌∙◌, sym, ap, ap₂, arith, Bool, true, false}
 use Rattle.std.proofs.lemmas.Nat.{div-mul-add, mod-mul-add, mul-le}
 use Rattle.raster_model.specs.declared.edge.Edge.{Edge}
 use Rattle.raster_model.specs.declared.tiling.Window.{Window}
@@ -9,6 +9,11 @@ use Rattle.wrapped_gradient.specs.Windows.{IsEdgeOf}
 use Rattle.wrapped_gradient.proofs.Places.{place_within}
 use Rattle.dual_grid.specs.Building.{IsSmall}
 use Rattle.dual_grid.specs.Nodes.{cells_of, rights_of, downs_of, edges_of, edge_number}
+
+-- rows in which a number lies have columns
+pub has_columns : (u a b : ℕ) → u < b * a → 0 < a
+has_columns u zero b l = absurd (omega (arith, l))
+has_columns u (suc a) b l = omega arith
 
 -- a place in rows of s tells its row and its column
 pub same_row : (s a b c d : ℕ) → b < s → d < s → a * s + b ≡ c * s + d → a ≡ c

@@ -1,7 +1,8 @@
 -- Faces are differences of potentials, and what flows does so where they differ by the whole weight.
-use Rattle.std.proofs.Common.{◌≡◌, ℕ, zero, suc, ◌+◌, ◌-◌, ◌*◌, ◌<◌, ◌≤◌, ◌∙◌, sym, ap, refl, arith, List, inl, inr, Bool, true, false}
+use Rattle.std.proofs.Common.{◌≡◌, ℕ, zero, suc, ◌+◌, ◌-◌, ◌*◌, ◌/◌, ◌%◌, ◌<◌, ◌≤◌, ◌∙◌, sym, ap, ap₂, refl, arith, List, inl, inr, Bool, true, false}
 use Rattle.std.specs.Prelude.{ℤ, pos, neg_ℤ, ◌+ℤ◌, ◌-ℤ◌, ◌*ℤ◌, ◌≤ℤ◌, unsigned_abs, slice_index_or}
 use Rattle.std.proofs.lemmas.Int.{ints}
+use Rattle.std.proofs.lemmas.Nat.{div-mul-add, mod-mul-add}
 use Rattle.raster_model.specs.declared.edge.Edge.{Edge}
 use Rattle.raster_model.specs.declared.scene.Scene.{Scene}
 use Rattle.raster_model.specs.declared.tiling.Window.{Window}
@@ -10,20 +11,23 @@ use Rattle.raster_model.specs.Certificates.{above, left, face_difference, faces_
 use Rattle.raster_model.specs.Scene.{raster_of}
 use Rattle.raster_model.specs.Tiles.{IsWindowOf}
 use Rattle.raster_model.proofs.TileCells.{face_inside, face_outside, cells_before-is}
-use Rattle.flow_network.specs.Nets.{Shape, State, IsNetwork, HasReducedCosts, reduced_cost}
-use Rattle.flow_network.proofs.CallerLemmas.{reduced_cost-twin}
+use Rattle.flow_network.specs.Nets.{State, IsArc, HasReducedCosts, reduced_cost}
 use Rattle.wrapped_gradient.specs.Windows.{IsCellOf, IsEdgeOf}
 use Rattle.dual_grid.specs.Answers.{IsNearStart}
-use Rattle.dual_grid.specs.Building.{AreFaces, flow_across}
-use Rattle.dual_grid.specs.Grids.{IsGridShape, CostsAcross}
+use Rattle.dual_grid.specs.Building.{AreFaces}
+use Rattle.dual_grid.specs.Grids.{CostsAcross, amount_of, cost_at, head_at, residual_at, shape_in, state_in}
 use Rattle.dual_grid.specs.Nodes.{cells_of, node_at, node_above, node_left, first_side, other_side, edge_number, arc_across}
-use Rattle.dual_grid.proofs.CrossLemmas.{start_even}
-use Rattle.dual_grid.proofs.GridLemmas.{across_is_arc, forth_is_arc, forth_tail, back_tail}
+use Rattle.dual_grid.proofs.ArcLemmas.{IsCharged, free_or_charged, place_is_arc, place_tail}
+use Rattle.dual_grid.proofs.EdgeLemmas.{number_below}
+use Rattle.dual_grid.proofs.FlowLemmas.{amount_is, amount_parts, twice_turned}
+use Rattle.dual_grid.proofs.GridLemmas.{back_head, back_is_arc, back_tail, forth_cost, forth_head, forth_is_arc, forth_tail}
+use Rattle.dual_grid.proofs.NumberLemmas.{edge_of_number}
+use Rattle.dual_grid.proofs.StartLemmas.{start_even}
 use Rattle.dual_grid.proofs.NodeLemmas.{cell_or_not, cell_below, node_inside, node_outside, above_inside, above_outside, left_inside, left_outside, first_down, first_right, other_down, other_right}
 use Rattle.sums_and_lists.proofs.Products.{products}
 use Rattle.std.proofs.lemmas.Bool.{cases_lt}
 
-module _ (s : Scene) (t : ℕ) (v : Window) (is : IsWindowOf s.tiling t v) (f : State) (faces : List ℤ) (are : AreFaces f (cells_of v) (cells_of v) faces) where
+module _ (s : Scene) (t : ℕ) (v : Window) (is : IsWindowOf s.tiling t v) (f : State) (faces : List ℤ) (are : AreFaces f.potential (cells_of v) (cells_of v) faces) where
   listed : (x y : ℕ) → IsCellOf v x y → face_at (raster_of s) t faces x y ≡ f.potential (cells_of v) -ℤ f.potential (node_at v x y)
   unfolding face_at
   listed x y c =
@@ -101,55 +105,129 @@ slack_of (suc b) (suc c) w k d e p q =
     let level : d ≡ pos 0 = omega (arith, ints, m, none) in
     rw (none, level) (omega (arith, ints))
 
-module _ (v : Window) (s : Shape) (net : IsNetwork s) (grid : IsGridShape v s) (f : State) (kept : HasReducedCosts s f) (near : IsNearStart s f) (e : Edge) (is : IsEdgeOf v e) (w : ℕ) (costs : CostsAcross s (arc_across v e) w) where
-  forth_cost : reduced_cost s f (arc_across v e) ≡ pos w +ℤ f.potential (first_side v e) -ℤ f.potential (other_side v e)
-  forth_cost =
-      let t = ap f.potential (forth_tail v s net grid e is) in
-      let h = ap f.potential (grid.crosses e is).forth in
+module _ (v : Window) (weight : ℕ → ℕ) (flow excess potential : ℕ → ℤ) (kept : HasReducedCosts (shape_in v weight) (state_in weight flow excess potential)) (near : IsNearStart (shape_in v weight) (state_in weight flow excess potential)) (e : Edge) (is : IsEdgeOf v e) (w : ℕ) (costs : CostsAcross (shape_in v weight) (arc_across v e) w) where
+  weight_is : weight (edge_number v e) ≡ w
+  weight_is =
+      let a = costs.0 in
+      let b = forth_cost v weight e is in
+      omega (arith, ints, a, b)
+
+  forth_reduced : reduced_cost (shape_in v weight) (state_in weight flow excess potential) (arc_across v e) ≡ pos w +ℤ potential (first_side v e) -ℤ potential (other_side v e)
+  forth_reduced =
+      let t = ap potential (forth_tail v weight e is) in
+      let h = ap potential (forth_head v weight e is) in
       omega (arith, ints, costs.0, t, h)
 
-  back_cost : reduced_cost s f (arc_across v e + 2) ≡ pos w +ℤ f.potential (other_side v e) -ℤ f.potential (first_side v e)
-  back_cost =
-      let t = ap f.potential (back_tail v s net grid e is) in
-      let h = ap f.potential (grid.crosses e is).back in
+  back_reduced : reduced_cost (shape_in v weight) (state_in weight flow excess potential) (arc_across v e + 2) ≡ pos w +ℤ potential (other_side v e) -ℤ potential (first_side v e)
+  back_reduced =
+      let t = ap potential (back_tail v weight e is) in
+      let h = ap potential (back_head v weight e is) in
       omega (arith, ints, costs.1, t, h)
 
   -- the arcs from side to side keep capacity
-  forth_least : pos 0 ≤ℤ reduced_cost s f (arc_across v e)
+  forth_least : pos 0 ≤ℤ reduced_cost (shape_in v weight) (state_in weight flow excess potential) (arc_across v e)
   forth_least =
-      let arc = forth_is_arc v s net grid e is in
+      let arc = forth_is_arc v weight e is in
       let h = (near (arc_across v e) arc).1 in
       kept.at_least (arc_across v e) arc (omega (arith, h, start_even (arc_across v e) (edge_number v e * 2) (omega arith)))
 
-  back_least : pos 0 ≤ℤ reduced_cost s f (arc_across v e + 2)
+  back_least : pos 0 ≤ℤ reduced_cost (shape_in v weight) (state_in weight flow excess potential) (arc_across v e + 2)
   back_least =
-      let arc = across_is_arc v s net grid e is 2 (omega arith) in
+      let arc = back_is_arc v weight e is in
       let h = (near (arc_across v e + 2) arc).1 in
       kept.at_least (arc_across v e + 2) arc (omega (arith, h, start_even (arc_across v e + 2) (edge_number v e * 2 + 1) (omega arith)))
 
-  pub difference_fits : unsigned_abs (f.potential (other_side v e) -ℤ f.potential (first_side v e)) ≤ w
-  difference_fits = omega (arith, ints, forth_cost, back_cost, forth_least, back_least)
+  pub difference_fits : unsigned_abs (potential (other_side v e) -ℤ potential (first_side v e)) ≤ w
+  difference_fits = omega (arith, ints, forth_reduced, back_reduced, forth_least, back_least)
 
-  -- where something flows, its twin can take it back, so the reduced cost is 0
-  forth_tight : 0 < f.residual (arc_across v e + 1) → f.potential (other_side v e) -ℤ f.potential (first_side v e) ≡ pos w
-  forth_tight l =
-      let twin = reduced_cost-twin s f (arc_across v e) net (forth_is_arc v s net grid e is) in
-      let at : reduced_cost s f (arc_across v e + 1) ≡ neg_ℤ (reduced_cost s f (arc_across v e)) = ap (λ (k : ℕ). reduced_cost s f k) (sym (grid.crosses e is).forth_twin) ∙ twin in
-      let h = kept.at_least (arc_across v e + 1) (across_is_arc v s net grid e is 1 (omega arith)) l in
-      tight (reduced_cost s f (arc_across v e)) (reduced_cost s f (arc_across v e + 1)) w (f.potential (first_side v e)) (f.potential (other_side v e)) at h forth_least forth_cost
-    where
-      tight : (a b : ℤ) (w : ℕ) (p q : ℤ) → b ≡ neg_ℤ a → pos 0 ≤ℤ b → pos 0 ≤ℤ a → a ≡ pos w +ℤ p -ℤ q → q -ℤ p ≡ pos w
-      tight a b w p q d h k e = omega (arith, ints, d, h, k, e)
+  -- what the arcs from side to side have left
+  forth_residual : (state_in weight flow excess potential).residual (arc_across v e) ≡ residual_at (weight (edge_number v e)) (flow (edge_number v e)) 0
+  forth_residual =
+      let n : arc_across v e / 4 ≡ edge_number v e = omega arith in
+      let k : arc_across v e % 4 ≡ 0 = omega arith in
+      ap₂ (λ (n k : ℕ). residual_at (weight n) (flow n) k) n k
 
-  back_tight : 0 < f.residual (arc_across v e + 3) → f.potential (other_side v e) -ℤ f.potential (first_side v e) ≡ neg_ℤ (pos w)
-  back_tight l =
-      let twin = reduced_cost-twin s f (arc_across v e + 2) net (across_is_arc v s net grid e is 2 (omega arith)) in
-      let at : reduced_cost s f (arc_across v e + 3) ≡ neg_ℤ (reduced_cost s f (arc_across v e + 2)) = ap (λ (k : ℕ). reduced_cost s f k) (sym (grid.crosses e is).back_twin) ∙ twin in
-      let h = kept.at_least (arc_across v e + 3) (across_is_arc v s net grid e is 3 (omega arith)) l in
-      tight (reduced_cost s f (arc_across v e + 2)) (reduced_cost s f (arc_across v e + 3)) w (f.potential (first_side v e)) (f.potential (other_side v e)) at h back_least back_cost
-    where
-      tight : (a b : ℤ) (w : ℕ) (p q : ℤ) → b ≡ neg_ℤ a → pos 0 ≤ℤ b → pos 0 ≤ℤ a → a ≡ pos w +ℤ q -ℤ p → q -ℤ p ≡ neg_ℤ (pos w)
-      tight a b w p q d h k e = omega (arith, ints, d, h, k, e)
+  back_residual : (state_in weight flow excess potential).residual (arc_across v e + 2) ≡ residual_at (weight (edge_number v e)) (flow (edge_number v e)) 2
+  back_residual = ap₂ (λ (n k : ℕ). residual_at (weight n) (flow n) k) (div-mul-add (edge_number v e) 4 2 (omega arith)) (mod-mul-add (edge_number v e) 4 2 (omega arith))
 
-  pub flow_is_tight : flow_across f (edge_number v e) *ℤ (f.potential (other_side v e) -ℤ f.potential (first_side v e)) ≡ pos (w * unsigned_abs (flow_across f (edge_number v e)))
-  flow_is_tight = slack_of (f.residual (arc_across v e + 1)) (f.residual (arc_across v e + 3)) w (flow_across f (edge_number v e)) (f.potential (other_side v e) -ℤ f.potential (first_side v e)) refl forth_tight back_tight
+  forth_near : (1 ≤ residual_at (weight (edge_number v e)) (flow (edge_number v e)) 0) × (residual_at (weight (edge_number v e)) (flow (edge_number v e)) 0 ≤ 32259)
+  forth_near =
+      let h = near (arc_across v e) (forth_is_arc v weight e is) in
+      let s = start_even (arc_across v e) (edge_number v e * 2) (omega arith) in
+      let r = forth_residual in
+      (omega (arith, h.1, s, r), omega (arith, h.0, s, r))
+
+  back_near : (1 ≤ residual_at (weight (edge_number v e)) (flow (edge_number v e)) 2) × (residual_at (weight (edge_number v e)) (flow (edge_number v e)) 2 ≤ 32259)
+  back_near =
+      let h = near (arc_across v e + 2) (back_is_arc v weight e is) in
+      let s = start_even (arc_across v e + 2) (edge_number v e * 2 + 1) (omega arith) in
+      let r = back_residual in
+      (omega (arith, h.1, s, r), omega (arith, h.0, s, r))
+
+  -- a twin that has something to give back holds the difference at the whole weight
+  module _ (charged : IsCharged (weight (edge_number v e))) where
+    forth_twin : IsArc (shape_in v weight) (arc_across v e + 1)
+    forth_twin = place_is_arc v weight (edge_number v e) 1 (number_below v e is) (omega arith) charged.1
+
+    back_twin : IsArc (shape_in v weight) (arc_across v e + 3)
+    back_twin = place_is_arc v weight (edge_number v e) 3 (number_below v e is) (omega arith) charged.1
+
+    -- the twin's tail and head are those of the arc, exchanged
+    forth_tight : 0 < amount_of (flow (edge_number v e)) → potential (other_side v e) -ℤ potential (first_side v e) ≡ pos w
+    forth_tight l =
+        let z = charged.0 in
+        let n = edge_number v e in
+        let r : residual_at (weight ((arc_across v e + 1) / 4)) (flow ((arc_across v e + 1) / 4)) ((arc_across v e + 1) % 4) ≡ residual_at (weight n) (flow n) 1 = ap₂ (λ (n k : ℕ). residual_at (weight n) (flow n) k) (div-mul-add n 4 1 (omega arith)) (mod-mul-add n 4 1 (omega arith)) in
+        let held : residual_at (weight n) (flow n) 1 ≡ amount_of (flow n) = rw z (twice_turned (flow n)) in
+        let h = kept.at_least (arc_across v e + 1) forth_twin (omega (arith, r, held, l)) in
+        let t = ap potential (place_tail v weight n 1 (omega arith) forth_twin ∙ ap (λ (i : Edge). other_side v i) (edge_of_number v e is)) in
+        let b = ap potential (ap₂ (λ (i k : ℕ). head_at v i k) (div-mul-add n 4 1 (omega arith)) (mod-mul-add n 4 1 (omega arith)) ∙ ap (λ (i : Edge). first_side v i) (edge_of_number v e is)) in
+        let c : (shape_in v weight).cost (arc_across v e + 1) ≡ neg_ℤ (pos (weight n)) = ap₂ (λ (i k : ℕ). cost_at (weight i) k) (div-mul-add n 4 1 (omega arith)) (mod-mul-add n 4 1 (omega arith)) in
+        omega (arith, ints, h, t, b, c, weight_is, forth_least, forth_reduced)
+
+    back_tight : 0 < amount_of (neg_ℤ (flow (edge_number v e))) → potential (other_side v e) -ℤ potential (first_side v e) ≡ neg_ℤ (pos w)
+    back_tight l =
+        let z = charged.0 in
+        let n = edge_number v e in
+        let r : residual_at (weight ((arc_across v e + 3) / 4)) (flow ((arc_across v e + 3) / 4)) ((arc_across v e + 3) % 4) ≡ residual_at (weight n) (flow n) 3 = ap₂ (λ (n k : ℕ). residual_at (weight n) (flow n) k) (div-mul-add n 4 3 (omega arith)) (mod-mul-add n 4 3 (omega arith)) in
+        let held : residual_at (weight n) (flow n) 3 ≡ amount_of (neg_ℤ (flow n)) = rw z refl in
+        let h = kept.at_least (arc_across v e + 3) back_twin (omega (arith, r, held, l)) in
+        let t = ap potential (place_tail v weight n 3 (omega arith) back_twin ∙ ap (λ (i : Edge). first_side v i) (edge_of_number v e is)) in
+        let b = ap potential (ap₂ (λ (i k : ℕ). head_at v i k) (div-mul-add n 4 3 (omega arith)) (mod-mul-add n 4 3 (omega arith)) ∙ ap (λ (i : Edge). other_side v i) (edge_of_number v e is)) in
+        let c : (shape_in v weight).cost (arc_across v e + 3) ≡ neg_ℤ (pos (weight n)) = ap₂ (λ (i k : ℕ). cost_at (weight i) k) (div-mul-add n 4 3 (omega arith)) (mod-mul-add n 4 3 (omega arith)) in
+        omega (arith, ints, h, t, b, c, weight_is, back_least, back_reduced)
+
+  level : weight (edge_number v e) ≡ 0 → potential (other_side v e) -ℤ potential (first_side v e) ≡ pos w
+  level z = let d = difference_fits in omega (arith, ints, d, z, weight_is)
+
+  level_back : weight (edge_number v e) ≡ 0 → potential (other_side v e) -ℤ potential (first_side v e) ≡ neg_ℤ (pos w)
+  level_back z = let d = difference_fits in omega (arith, ints, d, z, weight_is)
+
+  pub flow_is_tight : flow (edge_number v e) *ℤ (potential (other_side v e) -ℤ potential (first_side v e)) ≡ pos (w * unsigned_abs (flow (edge_number v e)))
+  flow_is_tight =
+      let q = flow (edge_number v e) in
+      let parts = (amount_parts q).0 in
+      elim (free_or_charged (weight (edge_number v e))) [
+        | inl f ↦ slack_of (amount_of q) (amount_of (neg_ℤ q)) w q (potential (other_side v e) -ℤ potential (first_side v e)) parts (λ l. level f.2) (λ l. level_back f.2)
+        | inr f ↦ slack_of (amount_of q) (amount_of (neg_ℤ q)) w q (potential (other_side v e) -ℤ potential (first_side v e)) parts (forth_tight f) (back_tight f)
+      ]
+
+  -- near the start no flow is above 16129
+  pub flow_is_small : unsigned_abs (flow (edge_number v e)) ≤ 16130 → unsigned_abs (flow (edge_number v e)) ≤ 16129
+  flow_is_small l =
+      let q = flow (edge_number v e) in
+      elim (free_or_charged (weight (edge_number v e))) [
+        | inl f ↦ (
+            let z = f.0 in
+            let forth : 1 ≤ amount_of (pos 16130 -ℤ q) = rw z at forth_near.0 in
+            let back : 1 ≤ amount_of (pos 16130 -ℤ neg_ℤ q) = rw z at back_near.0 in
+            let forth_is = amount_is (pos 16130 -ℤ q) (omega (arith, ints, l)) in
+            let back_is = amount_is (pos 16130 -ℤ neg_ℤ q) (omega (arith, ints, l)) in
+            omega (arith, ints, forth, back, forth_is, back_is))
+        | inr f ↦ (
+            let z = f.0 in
+            let forth : 1 ≤ 16130 - amount_of q = rw z at forth_near.0 in
+            let back : 1 ≤ 16130 - amount_of (neg_ℤ q) = rw z at back_near.0 in
+            let parts = (amount_parts q).0 in
+            omega (arith, ints, forth, back, parts))
+      ]

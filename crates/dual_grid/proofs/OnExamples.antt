@@ -2,6 +2,8 @@
 use Rattle.std.proofs.Common.{◌≡◌, refl}
 use Rattle.raster_model.specs.declared.tiling.Window.{Window}
 use Rattle.raster_model.specs.Sums.{right_edge, down_edge}
+use Rattle.std.specs.Prelude.{pos, negsuc, true, false}
+use Rattle.dual_grid.specs.Grids.{cost_at, is_taken, residual_at, twin_place}
 use Rattle.dual_grid.specs.Nodes.{node_at, node_above, node_left, first_side, other_side, arc_across}
 
 -- ---- three columns and two rows of pixels: the cells 0 and 1, and the outside 2
@@ -33,3 +35,32 @@ left_of_the_second_down = refl
 -- it is edge 5, after four right edges and one down edge
 arcs_of_the_second_down : arc_across box (down_edge 6 7) ≡ 20
 arcs_of_the_second_down = refl
+
+-- ---- across an edge of weight 4, over which 3 units flow forth
+forth_has_less : residual_at 4 (pos 3) 0 ≡ 16127
+forth_has_less = refl
+
+its_twin_has_three : residual_at 4 (pos 3) 1 ≡ 3
+its_twin_has_three = refl
+
+back_has_all : residual_at 4 (pos 3) 2 ≡ 16130
+back_has_all = refl
+
+twins_at_a_weight : twin_place 4 0 ≡ 1
+twins_at_a_weight = refl
+
+a_twin_costs_less_than_nothing : cost_at 4 1 ≡ negsuc 3
+a_twin_costs_less_than_nothing = refl
+
+-- ---- across an edge of weight 0
+forth_has_less_at_no_weight : residual_at 0 (pos 3) 0 ≡ 16127
+forth_has_less_at_no_weight = refl
+
+back_has_more_at_no_weight : residual_at 0 (pos 3) 2 ≡ 16133
+back_has_more_at_no_weight = refl
+
+twins_at_no_weight : twin_place 0 0 ≡ 2
+twins_at_no_weight = refl
+
+no_second_twin : is_taken 0 1 ≡ false
+no_second_twin = refl

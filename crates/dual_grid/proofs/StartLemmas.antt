@@ -1,8 +1,9 @@
 -- How a grid starts.
-use Rattle.std.proofs.Common.{◌≡◌, ℕ, zero, suc, ◌+◌, ◌-◌, ◌*◌, ◌/◌, ◌%◌, ◌<◌, ◌≤◌, ◌∙◌, sym, ap, arith, List, length, get_or, inl, inr}
-use Rattle.std.specs.Prelude.{ℤ, pos, negsuc, neg_ℤ, ◌+ℤ◌, ◌-ℤ◌, ◌≤ℤ◌, unsigned_abs, Bool}
+use Rattle.std.proofs.Common.{◌≡◌, ℕ, zero, suc, ◌+◌, ◌-◌, ◌*◌, ◌/◌, ◌%◌, ◌<◌, ◌≤◌, ◌∙◌, sym, ap, refl, arith, List, get_or, inl, inr}
+use Rattle.std.specs.Prelude.{ℤ, pos, negsuc, neg_ℤ, ◌+ℤ◌, ◌-ℤ◌, ◌≤ℤ◌, unsigned_abs}
+use Rattle.std.proofs.lemmas.Bool.{eq-eqb, ne_eqb}
 use Rattle.std.proofs.lemmas.Int.{ints}
-use Rattle.std.proofs.lemmas.Nat.{div_below, mod_below}
+use Rattle.std.proofs.lemmas.Nat.{div-add-mod', div_below, mod_below}
 use Rattle.raster_model.specs.declared.scene.Scene.{Scene}
 use Rattle.raster_model.specs.declared.tiling.Window.{Window}
 use Rattle.raster_model.specs.Sums.{Field}
@@ -11,29 +12,24 @@ use Rattle.raster_model.specs.Scene.{raster_of}
 use Rattle.raster_model.specs.Tiles.{IsWindowOf}
 use Rattle.raster_model.specs.declared.tiling.Tiling.{Tiling}
 use Rattle.raster_model.proofs.Exact.{residue_is_small}
-use Rattle.flow_network.specs.Nets.{Shape, State, IsNetwork}
-use Rattle.flow_network.specs.Moves.{IsConserved}
+use Rattle.flow_network.specs.Nets.{Shape, State, IsArc}
 use Rattle.flow_network.specs.Growing.{supply_sum, supply_sizes}
-use Rattle.flow_network.proofs.CallerLemmas.{conserved-still}
 use Rattle.wrapped_gradient.specs.Gradients.{AreGradientsOf, residue_at}
 use Rattle.wrapped_gradient.specs.GradientsView.{GradientsView}
 use Rattle.wrapped_gradient.specs.Windows.{IsCellOf}
 use Rattle.wrapped_gradient.proofs.GradientLemmas.{residues_are}
-use Rattle.dual_grid.specs.Nodes.{cells_of, edges_of}
-use Rattle.dual_grid.specs.Starts.{cell_value, supply_at, positive_part, positive_excess, start_state, open_in, IsAtStart}
-use Rattle.dual_grid.specs.Grids.{IsGridShape, AreWeighed, HasSmallCosts}
-use Rattle.dual_grid.specs.Building.{AreSupplies, IsCrossedTo, IsSmall}
-use Rattle.dual_grid.proofs.EdgeLemmas.{few_cells, number_below}
+use Rattle.dual_grid.specs.Grids.{residual_at, shape_in}
+use Rattle.dual_grid.specs.Nodes.{cells_of}
+use Rattle.dual_grid.specs.Starts.{cell_value, supply_at, positive_part, positive_excess, start_residual, IsAtStart}
+use Rattle.dual_grid.specs.Building.{AreSupplies, IsSmall}
+use Rattle.dual_grid.proofs.ArcLemmas.{arc_taken, four_places, free_or_charged, free_place}
+use Rattle.dual_grid.proofs.EdgeLemmas.{few_cells, has_columns}
 use Rattle.dual_grid.proofs.SupplyLemmas.{supply_inside, supply_outside, sum_within}
-use Rattle.sums_and_lists.specs.Sums.{sum_below, where_true}
+use Rattle.sums_and_lists.specs.Sums.{sum_below}
 use Rattle.sums_and_lists.proofs.Orders.{below_or_last}
-use Rattle.sums_and_lists.proofs.SumLemmas.{sum_below-none, sum_below-more, sum_below-same}
+use Rattle.sums_and_lists.proofs.SumLemmas.{sum_below-more, sum_below-same}
 
 -- a number below the count of cells is that of a cell
-pub has_columns : (u a b : ℕ) → u < b * a → 0 < a
-has_columns u zero b l = absurd (omega (arith, l))
-has_columns u (suc a) b l = omega arith
-
 pub cell_of_number : (v : Window) (u : ℕ) → u < cells_of v → IsCellOf v (v.x0 + u % (v.x1 - v.x0)) (v.y0 + u / (v.x1 - v.x0))
 cell_of_number v u l =
     let p = has_columns u (v.x1 - v.x0) (v.y1 - v.y0) l in
@@ -122,29 +118,6 @@ module _ (f : Field ℤ) (v : Window) (small : (x y : ℕ) → unsigned_abs (f x
       let e : positive_excess s g ≡ sum_below (cells_of v + 1) (λ u. positive_part (supply_at f v u)) = ap (λ (n : ℕ). sum_below n part) nodes ∙ sum_below-same (cells_of v + 1) part (λ u. positive_part (supply_at f v u)) (λ u l. ap positive_part (start.excess u (omega (arith, nodes, l)))) in
       rw e all_parts
 
--- a network of these supplies without arcs
-pub crossed_none : (scene : Scene) (unmasked : List Bool) (v : Window) (zs : List ℤ) (s : Shape) (g : State) → IsSmall v → IsNetwork s → AreSupplies (residue (raster_of scene)) v zs → s.nodes ≡ length zs → s.arcs ≡ 0 → ((u : ℕ) → u < length zs → g.excess u ≡ get_or zs u (pos 0)) → ((u : ℕ) → u < length zs → g.potential u ≡ pos 0) → IsCrossedTo scene unmasked v 0 s g
-crossed_none scene unmasked v zs s g little net are nodes arcs excess potential =
-    let f = residue (raster_of scene) in
-    let size = λ (u : ℕ). pos (unsigned_abs (g.excess u)) in
-    let residual = λ (a : ℕ). where_true (s.is_arc a) (pos (g.residual a)) in
-    let sizes : sum_below s.nodes size ≡ supply_sizes zs = ap (λ (n : ℕ). sum_below n size) nodes ∙ sum_below-same (length zs) size (λ u. pos (unsigned_abs (get_or zs u (pos 0)))) (λ u l. ap (λ (z : ℤ). pos (unsigned_abs z)) (excess u l)) in
-    let none : sum_below s.arcs residual ≡ pos 0 = ap (λ (n : ℕ). sum_below n residual) arcs ∙ sum_below-none residual in
-    record {
-      nodes = nodes ∙ are.count;
-      arcs = omega (arith, arcs);
-      are_arcs = λ a l. absurd (omega (arith, arcs, l));
-      crosses = λ e i l. absurd (omega (arith, l));
-      weighed = λ e i l. absurd (omega (arith, l));
-      cheap = λ a l. absurd (omega (arith, arcs, l));
-      start = record {
-        residual = λ a arc. (let l = net.below a arc in absurd (omega (arith, arcs, l)));
-        excess = λ u l. (let m : u < length zs = rw nodes at l in excess u m ∙ are.values u (rw are.count at m));
-        potential = λ u l. potential u (rw nodes at l);
-      };
-      amount = omega (arith, ints, sizes, none, supplies_sizes f v (λ x y. (residue_is_small (raster_of scene) x y).1) zs are, few_cells v little);
-    }
-
 -- the residues that gradients tell are the scene's
 pub scene_supplies : (s : Scene) (g : GradientsView) (zs : List ℤ) → AreGradientsOf s g → AreSupplies (residue_at g) g.window zs → AreSupplies (residue (raster_of s)) g.window zs
 scene_supplies s g zs h are = supplies_same (residue_at g) (residue (raster_of s)) g.window (residues_are s g h) zs are
@@ -163,21 +136,35 @@ tile_is_small g tile v is small =
     let sides = g.sides in
     record { across = (a.0, omega (arith, small, sides)); along = (b.0, omega (arith, small, sides)) }
 
--- once all edges have their arcs
-module _ (scene : Scene) (unmasked : List Bool) (v : Window) (s : Shape) (f : State) (net : IsNetwork s) (all : IsCrossedTo scene unmasked v (edges_of v) s f) where
-  pub crossed_shape : IsGridShape v s
-  crossed_shape = record { nodes = all.nodes; arcs = all.arcs; are_arcs = all.are_arcs; crosses = λ e i. all.crosses e i (number_below v e i) }
+-- the residuals at the start: on arcs of even numbers, and on their twins
+pub start_even : (a k : ℕ) → a ≡ k * 2 → start_residual a ≡ 16130
+start_even a k e = let t = eq-eqb (a % 2) 0 (omega (arith, e)) in rw t refl
 
-  pub crossed_weighed : AreWeighed (raster_of scene) (open_in v unmasked) v s
-  crossed_weighed e i = all.weighed e i (number_below v e i)
+pub start_odd : (a k : ℕ) → a ≡ k * 2 + 1 → start_residual a ≡ 0
+start_odd a k e = let t = ne_eqb (a % 2) 0 (λ z. omega (arith, e, z)) in rw t refl
 
-  pub crossed_conserved : IsConserved s (start_state (residue (raster_of scene)) v) f
-  crossed_conserved = conserved-still s (start_state (residue (raster_of scene)) v) f net all.start.residual all.start.excess
+-- ---- a grid that starts: nothing flows
+module _ (v : Window) (weight : ℕ → ℕ) where
+  -- at a weight of 0 no place of an odd number is taken, and at others nothing went along the arcs whose twins are there
+  pub idle_residual : (a : ℕ) → IsArc (shape_in v weight) a → residual_at (weight (a / 4)) (pos 0) (a % 4) ≡ start_residual a
+  idle_residual a arc =
+      let split = div-add-mod' a 4 in
+      let taken = arc_taken v weight a arc in
+      elim (free_or_charged (weight (a / 4))) [
+        | inl f ↦ (let z = f.0 in elim (free_place (weight (a / 4)) f (a % 4) (mod_below a 4 (omega arith)) taken) [
+          | inl e ↦ rw (e, z) (sym (start_even a (a / 4 * 2) (omega (arith, split, e))))
+          | inr e ↦ rw (e, z) (sym (start_even a (a / 4 * 2 + 1) (omega (arith, split, e))))
+        ])
+        | inr f ↦ (let z = f.0 in elim (four_places (a % 4) (mod_below a 4 (omega arith))) [
+          | inl e ↦ rw (e, z) (sym (start_even a (a / 4 * 2) (omega (arith, split, e))))
+          | inr (inl e) ↦ rw (e, z) (sym (start_odd a (a / 4 * 2) (omega (arith, split, e))))
+          | inr (inr (inl e)) ↦ rw (e, z) (sym (start_even a (a / 4 * 2 + 1) (omega (arith, split, e))))
+          | inr (inr (inr e)) ↦ rw (e, z) (sym (start_odd a (a / 4 * 2 + 1) (omega (arith, split, e))))
+        ])
+      ]
 
-  pub crossed_cheap : IsSmall v → HasSmallCosts s
-  crossed_cheap little = record { costs = λ a arc. all.cheap a (net.below a arc); few = omega (arith, all.nodes, few_cells v little) }
-
-  pub crossed_few : IsSmall v → positive_excess s f ≤ℤ pos 16129
-  crossed_few little =
-      let few = few_positive (residue (raster_of scene)) v (λ x y. (residue_is_small (raster_of scene) x y).1) s f all.nodes all.start in
-      omega (arith, ints, few, few_cells v little)
+-- at the start few of a scene's residues are to flow
+pub few_of_scene : (s : Scene) (v : Window) (z : Shape) (g : State) → IsSmall v → z.nodes ≡ cells_of v + 1 → IsAtStart (residue (raster_of s)) v z g → positive_excess z g ≤ℤ pos 16129
+few_of_scene s v z g little nodes start =
+    let few = few_positive (residue (raster_of s)) v (λ x y. (residue_is_small (raster_of s) x y).1) z g nodes start in
+    omega (arith, ints, few, few_cells v little)

@@ -1,5 +1,5 @@
 -- Corrections that cancel the residues, and faces that differ by the whole weight wherever something is corrected.
-use Rattle.std.proofs.Common.{◌≡◌, ℕ, ◌+◌, ◌*◌, ◌≤◌, ◌∙◌, sym, ap, ap₂, refl, arith, List, inl, inr, Bool, true}
+use Rattle.std.proofs.Common.{◌≡◌, ℕ, ◌+◌, ◌*◌, ◌≤◌, ◌∙◌, sym, ap, ap₂, arith, List, inl, inr, Bool}
 use Rattle.std.specs.Prelude.{ℤ, pos, neg_ℤ, ◌+ℤ◌, ◌-ℤ◌, ◌*ℤ◌, unsigned_abs, IsTrue, ◌&&◌, if◌then◌else◌}
 use Rattle.std.proofs.lemmas.Int.{ints}
 use Rattle.std.proofs.lemmas.Bool.{cases_Bool, and_parts, false≢true, and_from}
@@ -35,7 +35,7 @@ weight_told : (r : Raster) (v : Window) (unmasked : List Bool) (mask : Field Boo
 weight_told r v unmasked mask e tells i =
     ap₂ (λ (a b : Bool). if a && b then r.weight e else 0) (tells e.x e.y i.start) (tells (end_x e) (end_y e) i.end)
 
-module _ (scene : Scene) (t : ℕ) (v : Window) (window : IsWindowOf scene.tiling t v) (unmasked : List Bool) (mask : Field Bool) (tells : TellsMask v unmasked mask) (f : State) (k : Corrections) (faces : List ℤ) (are : AreFaces f (cells_of v) (cells_of v) faces) (shape : HasShapeOf v k) (small : greatest_of k ≤ 16129) (cancels : CancelResidues (raster_of scene) v k) (fits : (e : Edge) → IsEdgeOf v e → unsigned_abs (f.potential (other_side v e) -ℤ f.potential (first_side v e)) ≤ masked_weight (raster_of scene) (open_in v unmasked) e) (tight : (e : Edge) → IsEdgeOf v e → correction_at v k e *ℤ (f.potential (other_side v e) -ℤ f.potential (first_side v e)) ≡ pos (masked_weight (raster_of scene) (open_in v unmasked) e * unsigned_abs (correction_at v k e))) where
+module _ (scene : Scene) (t : ℕ) (v : Window) (window : IsWindowOf scene.tiling t v) (unmasked : List Bool) (mask : Field Bool) (tells : TellsMask v unmasked mask) (f : State) (k : Corrections) (faces : List ℤ) (are : AreFaces f.potential (cells_of v) (cells_of v) faces) (shape : HasShapeOf v k) (small : greatest_of k ≤ 16129) (cancels : CancelResidues (raster_of scene) v k) (fits : (e : Edge) → IsEdgeOf v e → unsigned_abs (f.potential (other_side v e) -ℤ f.potential (first_side v e)) ≤ masked_weight (raster_of scene) (open_in v unmasked) e) (tight : (e : Edge) → IsEdgeOf v e → correction_at v k e *ℤ (f.potential (other_side v e) -ℤ f.potential (first_side v e)) ≡ pos (masked_weight (raster_of scene) (open_in v unmasked) e * unsigned_abs (correction_at v k e))) where
   weight_is : (e : Edge) → IsEdgeOf v e → masked_weight (raster_of scene) (open_in v unmasked) e ≡ masked_weight (raster_of scene) mask e
   weight_is e i = weight_told (raster_of scene) v unmasked mask e tells i
 

@@ -1,18 +1,14 @@
--- A grid while it is made, and lists that it is made from or gives: words of helpers, which no clause of another module cites.
-use Rattle.std.specs.Prelude.{◌≡◌, ℕ, ◌+◌, ◌*◌, ◌<◌, ◌≤◌, ℤ, pos, ◌-ℤ◌, ◌≤ℤ◌, Bool, List, length, get_or, slice_index_or, unsigned_abs}
-use Rattle.raster_model.specs.declared.edge.Edge.{Edge}
+-- What a grid is made from, where an arc is looked for, and lists that a grid answers: words of helpers, which no clause of another module cites.
+use Rattle.std.specs.Prelude.{◌≡◌, ℕ, ◌+◌, ◌*◌, ◌<◌, ◌≤◌, ◌⊎◌, ℤ, pos, ◌-ℤ◌, Bool, false, IsTrue, ◌&&◌, if◌then◌else◌, List, length, get_or, slice_index_or, Option, Some, None}
 use Rattle.raster_model.specs.declared.scene.Scene.{Scene}
 use Rattle.raster_model.specs.declared.tiling.Window.{Window}
 use Rattle.raster_model.specs.Sums.{Field}
-use Rattle.raster_model.specs.Raster.{masked_weight, residue}
-use Rattle.raster_model.specs.Scene.{raster_of}
 use Rattle.raster_model.specs.Tiles.{IsWindowIn, width_of, height_of}
-use Rattle.flow_network.specs.Nets.{Shape, State, IsArc}
-use Rattle.flow_network.specs.Growing.{total_amount}
-use Rattle.wrapped_gradient.specs.Windows.{IsEdgeOf}
-use Rattle.dual_grid.specs.Nodes.{cells_of, edge_number, arc_across}
-use Rattle.dual_grid.specs.Starts.{supply_at, open_in, IsAtStart}
-use Rattle.dual_grid.specs.Grids.{Crosses, CostsAcross}
+use Rattle.wrapped_gradient.specs.declared.corrections.Corrections.{Corrections}
+use Rattle.flow_network.specs.Nets.{Shape, IsGreatest, NoneBetween}
+use Rattle.dual_grid.specs.Nodes.{cells_of, rights_of, downs_of, edge_of, first_side, other_side}
+use Rattle.dual_grid.specs.Starts.{supply_at}
+use Rattle.dual_grid.specs.Grids.{is_taken, leads_forth}
 use Rattle.sums_and_lists.specs.Sums.{sum_below}
 
 -- no side of the window is above 128 pixels
@@ -35,27 +31,41 @@ pub record AreSupplies (f : Field ℤ) (v : Window) (zs : List ℤ) : Type 0 whe
   pub count : length zs ≡ cells_of v + 1
   pub values : (u : ℕ) → u < cells_of v + 1 → get_or zs u (pos 0) ≡ supply_at f v u
 
--- the first n edges have their arcs, and nothing has flowed
-pub record IsCrossedTo (s : Scene) (unmasked : List Bool) (v : Window) (n : ℕ) (z : Shape) (f : State) : Type 0 where
-  pub nodes : z.nodes ≡ cells_of v + 1
-  pub arcs : z.arcs ≡ n * 4
-  pub are_arcs : (a : ℕ) → a < z.arcs → IsArc z a
-  pub crosses : (e : Edge) → IsEdgeOf v e → edge_number v e < n → Crosses v z e (arc_across v e)
-  pub weighed : (e : Edge) → IsEdgeOf v e → edge_number v e < n → CostsAcross z (arc_across v e) (masked_weight (raster_of s) (open_in v unmasked) e)
-  pub cheap : (a : ℕ) → a < z.arcs → unsigned_abs (z.cost a) ≤ 65535
-  pub start : IsAtStart (residue (raster_of s)) v z f
-  pub amount : total_amount z f ≤ℤ pos (32258 + 32260 * n)
+-- node u lies on a side of the edge of the number n
+abbrev pub LiesAt : Window → ℕ → ℕ → Type 0
+LiesAt v u n = (first_side v (edge_of v n) ≡ u) ⊎ (other_side v (edge_of v n) ≡ u)
 
--- the net flow across the edge of a number, from its first side to the other: what the twins hold
-abbrev pub flow_across : State → ℕ → ℤ
-flow_across f n = pos (f.residual (n * 4 + 1)) -ℤ pos (f.residual (n * 4 + 3))
+-- it lies on a side of no edge from `low` on and below `high`
+abbrev pub LiesAtNone : Window → ℕ → ℕ → ℕ → Type 0
+LiesAtNone v u low high = (m : ℕ) → low ≤ m → m < high → LiesAt v u m → ⊥
 
--- the list has the flows across n edges, from the one of the number `first` on
-pub record AreFlows (f : State) (first n : ℕ) (zs : List ℤ) : Type 0 where
-  pub count : length zs ≡ n
-  pub values : (k : ℕ) → k < n → slice_index_or zs k (pos 0) ≡ flow_across f (first + k)
+-- o is the edge of the greatest number below `high` that it lies at, and None where there is none
+pub record IsEdgeBelow (v : Window) (u high : ℕ) (o : Option ℕ) : Type 0 where
+  pub found : (n : ℕ) → o ≡ Some n → (n < high) × LiesAt v u n × LiesAtNone v u (n + 1) high
+  pub ended : o ≡ None → LiesAtNone v u 0 high
+
+-- across an edge of the weight w an arc in the place k starts at a node that lies on the first side or on the other
+abbrev pub starts_at : ℕ → Bool → Bool → ℕ → Bool
+starts_at w at_first at_other k = is_taken w k && (if leads_forth k then at_first else at_other)
+
+-- o is the greatest place below `high` of an arc that starts at a node, which lies on the first side or on the other; None where there is none
+pub record IsPlaceBelow (w : ℕ) (at_first at_other : Bool) (high : ℕ) (o : Option ℕ) : Type 0 where
+  pub found : (k : ℕ) → o ≡ Some k → (k < high) × IsTrue (starts_at w at_first at_other k) × ((j : ℕ) → k < j → j < high → starts_at w at_first at_other j ≡ false)
+  pub ended : o ≡ None → (j : ℕ) → j < high → starts_at w at_first at_other j ≡ false
+
+-- o is the greatest arc across the edge of the number n, in a place below `high`, that starts at u, and None where there is none
+pub record IsOutAcross (s : Shape) (u n high : ℕ) (o : Option ℕ) : Type 0 where
+  pub found : (a : ℕ) → o ≡ Some a → (n * 4 ≤ a) × IsGreatest s u (n * 4 + high) a
+  pub ended : o ≡ None → NoneBetween s u (n * 4) (n * 4 + high)
+
+-- the corrections are what flows across the edges, by their numbers
+pub record AreFlows (v : Window) (flow : ℕ → ℤ) (k : Corrections) : Type 0 where
+  pub right_count : length k.right.items ≡ rights_of v
+  pub right : (i : ℕ) → i < rights_of v → slice_index_or k.right.items i (pos 0) ≡ flow i
+  pub down_count : length k.down.items ≡ downs_of v
+  pub down : (i : ℕ) → i < downs_of v → slice_index_or k.down.items i (pos 0) ≡ flow (rights_of v + i)
 
 -- the list has for each of the first n cells how much higher the potential of the outside lies
-pub record AreFaces (f : State) (outside n : ℕ) (zs : List ℤ) : Type 0 where
+pub record AreFaces (potential : ℕ → ℤ) (outside n : ℕ) (zs : List ℤ) : Type 0 where
   pub count : length zs ≡ n
-  pub values : (u : ℕ) → u < n → slice_index_or zs u (pos 0) ≡ f.potential outside -ℤ f.potential u
+  pub values : (u : ℕ) → u < n → slice_index_or zs u (pos 0) ≡ potential outside -ℤ potential u

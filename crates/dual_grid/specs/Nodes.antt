@@ -1,9 +1,9 @@
 -- The nodes of a window's network and the arcs across its edges (Costantini 1998). Places count in the raster.
 -- Nodes are the window's cells in row order, and after them one for all that is outside. Each edge lies between two nodes.
-use Rattle.std.specs.Prelude.{ℕ, ◌+◌, ◌-◌, ◌*◌, Bool, ◌&&◌, if◌then◌else◌, nat_lt, nat_le}
+use Rattle.std.specs.Prelude.{ℕ, ◌+◌, ◌-◌, ◌*◌, ◌/◌, ◌%◌, Bool, ◌&&◌, if◌then◌else◌, nat_lt, nat_le}
 use Rattle.raster_model.specs.declared.edge.Edge.{Edge}
 use Rattle.raster_model.specs.declared.tiling.Window.{Window}
-use Rattle.raster_model.specs.Sums.{Field}
+use Rattle.raster_model.specs.Sums.{Field, right_edge, down_edge}
 use Rattle.raster_model.specs.Tiles.{width_of, height_of, place_in}
 
 -- how many cells the window has; it is also the number of the outside
@@ -46,6 +46,10 @@ edges_of v = rights_of v + downs_of v
 abbrev pub edge_number : Window → Edge → ℕ
 edge_number v e = if e.down then rights_of v + place_in v e.x e.y else (e.y - v.y0) * (width_of v - 1) + (e.x - v.x0)
 
--- the first of the four arcs across an edge: it goes from the first side to the other, the next is its twin, the third goes back, and the last is that one's twin
+-- the edge of a number
+unfoldable pub edge_of : Window → ℕ → Edge
+edge_of v n = if nat_lt n (rights_of v) then right_edge (v.x0 + n % (width_of v - 1)) (v.y0 + n / (width_of v - 1)) else down_edge (v.x0 + (n - rights_of v) % width_of v) (v.y0 + (n - rights_of v) / width_of v)
+
+-- the first of the numbers of the arcs across an edge
 abbrev pub arc_across : Window → Edge → ℕ
 arc_across v e = edge_number v e * 4

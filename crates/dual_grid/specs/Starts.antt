@@ -15,7 +15,7 @@ cell_value f v u = f (v.x0 + u % (v.x1 - v.x0)) (v.y0 + u / (v.x1 - v.x0))
 unfoldable pub supply_at : Field ℤ → Window → ℕ → ℤ
 supply_at f v u = if nat_lt u (cells_of v) then cell_value f v u else neg_ℤ (sum_below (cells_of v) (cell_value f v))
 
--- an arc's residual at the start: 16130 on the arcs of even numbers, which is more than ever flows, and 0 on their twins
+-- an arc's residual at the start: 16130 on those of even numbers, which is more than ever flows, and 0 on those of odd ones
 abbrev pub start_residual : ℕ → ℕ
 start_residual a = if a % 2 == 0 then 16130 else 0
 

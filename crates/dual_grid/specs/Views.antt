@@ -8,16 +8,16 @@ use Rattle.raster_model.specs.Tiles.{window_of}
 use Rattle.flow_network.specs.Nets.{Shape, State}
 use Rattle.flow_network.specs.Moves.{IsConserved}
 use Rattle.flow_network.proofs.CallerLemmas.{conserved-refl, conserved-trans}
-use Rattle.flow_network.specs.Views.{shape_of as network_shape, state_of as network_state}
 use Rattle.dual_grid.specs.declared.grid.DualGrid.{DualGrid}
 use Rattle.dual_grid.specs.Starts.{start_state, open_in}
 use Rattle.dual_grid.specs.Grids.{AreWeighed}
+use Rattle.dual_grid.specs.Layout.{shape_by, state_by}
 
 abbrev pub shape_of : DualGrid → Shape
-shape_of g = network_shape g.net
+shape_of g = shape_by g.window g.weights.items
 
 abbrev pub state_of : DualGrid → State
-state_of g = network_state g.net
+state_of g = state_by g.weights.items g.flows.items g.excesses.items g.potentials.items
 
 -- the grid of a tile of a scene under a mask, which a list tells over the tile's window; flow may have moved
 pub record IsGridOf (s : Scene) (t : ℕ) (unmasked : List Bool) (g : DualGrid) : Type 0 where

@@ -1,13 +1,15 @@
 ghost use Rattle.dual_grid.specs.Building.{IsSmall};
-ghost use Rattle.dual_grid.specs.Grids.{IsGridShape};
-ghost use Rattle.flow_network.specs.Views.{shape_of as network_shape};
-ghost use Rattle.std.specs.Prelude.{◌≡◌};
+ghost use Rattle.dual_grid.specs.Layout.{AreWithin, FitTogether, shape_by, state_by};
+ghost use Rattle.flow_network.specs.Lists.{HasRoom};
+ghost use Rattle.flow_network.specs.Nets.{HasReducedCosts, IsNetwork};
 
-use crate::answering::{faces, flows};
-use crate::crossing::{cross_down_edges, cross_right_edges};
+use crate::answering::faces;
+use crate::arcs::{flow_after, leads_forth, place_below, residual_at, twin_place};
+use crate::beside::{edge_below, first_at, other_at, right_count};
+use crate::listing::{down_weights, right_weights};
 use crate::sides::outside;
 use crate::supplies::supplies;
-use flow_network::{FlowNet, Network};
+use flow_network::{FlowNet, add_each, carry};
 use raster_model::{Scene, Window};
 use std::alloc::{AllocError, Global};
 use wrapped_gradient::{Corrections, Gradients};
@@ -18,12 +20,27 @@ use wrapped_gradient::{Corrections, Gradients};
 /// an arc leads each way, at the edge's weight under the mask; what flows from the first side of an edge to the other is
 /// the edge's correction, and the potential of the outside less that of a cell is the cell's face. (Costantini 1998.)
 /// A tile one pixel wide or high has no cell: each arc leads from the outside to the outside.
+///
+/// Arcs are numbers, from which edge and direction follow. At a weight above 0 the two arcs across an edge are never both
+/// in use, because of the reduced costs. At the weight 0 there is one arc and its twin. So one signed flow tells the
+/// residuals of all.
 #[derive(Drop)]
 pub struct DualGrid {
     pub(crate) window: Window,
-    net: Network,
+    /// By edge, the right edges first: its weight under the mask.
+    weights: Vec<i32>,
+    /// By edge: what flows from its first side to the other.
+    flows: Vec<i32>,
+    /// By node.
+    excesses: Vec<i64>,
+    /// By node.
+    potentials: Vec<i64>,
     ghost small: { IsSmall window },
-    ghost grid: { IsGridShape window (network_shape net) },
+    ghost fit: { FitTogether window weights.items flows.items excesses.items potentials.items },
+    ghost within: { AreWithin flows.items },
+    ghost is_network: { IsNetwork (shape_by window weights.items) },
+    ghost room: { HasRoom (shape_by window weights.items) (state_by weights.items flows.items excesses.items potentials.items) },
+    ghost has_reduced_costs: { HasReducedCosts (shape_by window weights.items) (state_by weights.items flows.items excesses.items potentials.items) },
 }
 
 impl FlowNet for DualGrid {
@@ -35,65 +52,86 @@ impl FlowNet for DualGrid {
 
     ghost same_origin = { λ x y. HaveOneOrigin x y };
 
-    ghost is_network = { λ x. x.net.is_network };
+    ghost is_network = { λ x. x.is_network };
 
-    ghost has_reduced_costs = { λ x. x.net.has_reduced_costs };
+    ghost has_reduced_costs = { λ x. x.has_reduced_costs };
 
     ghost origin_stays = { λ x. stays_of_one_origin x };
 
     ghost origin_follows = { λ x y z h k. follows_of_one_origin x y z h k };
 
     fn nodes(&self) -> u32 {
-        self.net.nodes()
+        outside(self.window) + 1
     }
 
     fn first_out(&self, node: u32) -> Option<u32> {
-        self.net.first_out(node)
+        self.out_below(node, self.flows.len() as u32 * 4)
     }
 
     fn next_out(&self, arc: u32) -> Option<u32> {
-        self.net.next_out(arc)
+        self.out_below(self.tail(arc), arc)
     }
 
     fn tail(&self, arc: u32) -> u32 {
-        self.net.tail(arc)
+        let edge = arc / 4;
+        if leads_forth(arc % 4) {
+            first_at(self.window, edge)
+        } else {
+            other_at(self.window, edge)
+        }
     }
 
     fn head(&self, arc: u32) -> u32 {
-        self.net.head(arc)
+        let edge = arc / 4;
+        if leads_forth(arc % 4) {
+            other_at(self.window, edge)
+        } else {
+            first_at(self.window, edge)
+        }
     }
 
     fn twin(&self, arc: u32) -> u32 {
-        self.net.twin(arc)
+        arc / 4 * 4 + twin_place(self.weight(arc / 4), arc % 4)
     }
 
     fn cost(&self, arc: u32) -> i64 {
-        self.net.cost(arc)
+        let weight = i64::from(self.weight(arc / 4));
+        if arc % 4 % 2 == 0 { weight } else { -weight }
     }
 
     fn residual(&self, arc: u32) -> u64 {
-        self.net.residual(arc)
+        let edge = arc / 4;
+        residual_at(self.weight(edge), self.flows[edge as usize], arc % 4)
     }
 
     fn excess(&self, node: u32) -> i64 {
-        self.net.excess(node)
+        self.excesses[node as usize]
     }
 
     fn potential(&self, node: u32) -> i64 {
-        self.net.potential(node)
+        self.potentials[node as usize]
     }
 
     fn push(&mut self, arc: u32, amount: u64) {
-        self.net.push(arc, amount);
+        let head = self.head(arc) as usize;
+        let tail = self.tail(arc) as usize;
+        let edge = arc as usize / 4;
+        let flow = self.flows[edge];
+        self.flows[edge] = flow_after(flow, arc % 4, amount);
+        carry(&mut self.excesses, tail, head, amount);
     }
 
     fn raise(&mut self, amounts: &[i64]) {
-        self.net.raise(amounts);
+        add_each(&mut self.potentials, amounts);
     }
 }
 
 impl DualGrid {
     ghost use Rattle.dual_grid.specs.Answers.{IsAnswer, IsBalanced, IsNearStart};
+    ghost use Rattle.dual_grid.specs.Building.{IsOutAcross};
+    ghost use Rattle.dual_grid.specs.Layout.{weight_in};
+    ghost use Rattle.dual_grid.specs.Nodes.{edges_of};
+    ghost use Rattle.flow_network.specs.Nets.{IsNextBelow};
     ghost use Rattle.dual_grid.specs.Grids.{HasSmallCosts, IsJoined};
     ghost use Rattle.dual_grid.specs.Starts.{IsAtStart, TellsMask, positive_excess};
     ghost use Rattle.dual_grid.specs.Views.{IsGridOf, shape_of, state_of};
@@ -102,7 +140,7 @@ impl DualGrid {
     ghost use Rattle.raster_model.specs.Sums.{Field};
     ghost use Rattle.raster_model.specs.Tiles.{tiles_of, window_of, width_of, height_of};
     ghost use Rattle.raster_model.specs.declared.scene.Scene.{Scene as SceneOf};
-    ghost use Rattle.std.specs.Prelude.{◌*◌, ◌<◌, ◌≤ℤ◌, ℕ, Bool, IfOk, List, length, pos};
+    ghost use Rattle.std.specs.Prelude.{◌≡◌, ◌*◌, ◌<◌, ◌≤◌, ◌≤ℤ◌, ℕ, Bool, IfOk, List, length, pos};
     ghost use Rattle.wrapped_gradient.specs.Gradients.{AreGradientsOf};
 
     /// The grid of a tile under the mask that `unmasked` tells: whether each pixel of the tile's window is open, in row
@@ -126,10 +164,19 @@ impl DualGrid {
         ensures joined { IfOk result (λ grid. IsJoined (shape_of grid)) }
     {
         let window = scene.tiling.window(tile);
-        let mut net = Network::new(alloc, supplies(alloc, gradients)?)?;
-        cross_right_edges(alloc, scene, window, unmasked, &mut net)?;
-        cross_down_edges(alloc, scene, window, unmasked, &mut net)?;
-        Ok(DualGrid { window, net })
+        let mut weights = right_weights(alloc, scene, window, unmasked)?;
+        let mut down = down_weights(alloc, scene, window, unmasked)?;
+        weights.append(&mut down)?;
+        let flows = vec![in alloc; 0; weights.len()]?;
+        let excesses = supplies(alloc, gradients)?;
+        let potentials = vec![in alloc; 0; excesses.len()]?;
+        Ok(DualGrid {
+            window,
+            weights,
+            flows,
+            excesses,
+            potentials,
+        })
     }
 
     /// The corrections of the window's edges, in whole cycles, and the faces of its cells in row order, which certify
@@ -140,15 +187,61 @@ impl DualGrid {
         requires near { IsNearStart (shape_of self) (state_of self) }
         ensures { IfOk result (λ made. (s : SceneOf) (t : ℕ) (unmasked : List Bool) (mask : Field Bool) → IsGridOf s t unmasked self → t < tiles_of s.tiling → TellsMask (window_of s.tiling t) unmasked mask → IsAnswer (raster_of s) mask t (window_of s.tiling t) made.0 made.1.items) }
     {
-        let across = self.window.x1 - self.window.x0;
-        let along = self.window.y1 - self.window.y0;
-        let rights = across * (along + 1);
-        let downs = (across + 1) * along;
-        let corrections = Corrections {
-            right: flows(alloc, &self.net, 0, rights)?,
-            down: flows(alloc, &self.net, rights, downs)?,
-        };
-        let faces = faces(alloc, &self.net, outside(self.window))?;
-        Ok((corrections, faces))
+        let faces = faces(alloc, &self.potentials, outside(self.window))?;
+        let mut right = self.flows;
+        let down = right.split_off(right_count(self.window) as usize)?;
+        Ok((Corrections { right, down }, faces))
+    }
+
+    /// The weight of the edge of a number. No weight is below 0.
+    fn weight(&self, edge: u32) -> u32
+        requires { edge < edges_of self.now.window }
+        ensures { result ≡ weight_in self.now.weights.items edge }
+    {
+        self.weights[edge as usize].unsigned_abs()
+    }
+
+    /// The arc of the greatest number that starts at a node, among those across an edge in places below `high`.
+    fn out_across(&self, edge: u32, node: u32, high: u32) -> Option<u32>
+        requires edge { edge < edges_of self.now.window }
+        requires high { high ≤ 4 }
+        ensures { IsOutAcross (shape_of self.now) node edge high result }
+    {
+        let at_first = first_at(self.window, edge) == node;
+        let at_other = other_at(self.window, edge) == node;
+        match place_below(self.weight(edge), at_first, at_other, high) {
+            Some(place) => Some(edge * 4 + place),
+            None => None,
+        }
+    }
+
+    /// The arc of the greatest number that starts at a node, among those across the edges below that of a number.
+    fn out_before(&self, edge: u32, node: u32) -> Option<u32>
+        requires node { node < (shape_of self.now).nodes }
+        requires edge { edge ≤ edges_of self.now.window }
+        ensures { IsNextBelow (shape_of self.now) node (edge * 4) result }
+    {
+        match edge_below(self.window, node, edge) {
+            Some(before) => self.out_across(before, node, 4),
+            None => None,
+        }
+    }
+
+    /// The arc of the greatest number that starts at a node, among those below `high`.
+    fn out_below(&self, node: u32, high: u32) -> Option<u32>
+        requires node { node < (shape_of self.now).nodes }
+        requires high { high ≤ (shape_of self.now).arcs }
+        ensures { IsNextBelow (shape_of self.now) node high result }
+    {
+        let edge = high / 4;
+        if high % 4 == 0 {
+            return self.out_before(edge, node);
+        }
+        let here = self.out_across(edge, node, high % 4);
+        if here.is_some() {
+            here
+        } else {
+            self.out_before(edge, node)
+        }
     }
 }

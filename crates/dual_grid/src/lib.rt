@@ -3,8 +3,9 @@
 #![tactic(auto)]
 
 mod answering;
+mod arcs;
+mod beside;
 mod checking;
-mod crossing;
 mod grid;
 mod listing;
 mod problem;

@@ -1,7 +1,7 @@
 ghost use Rattle.dual_grid.specs.Building.{IsMadeFor, IsSmall};
 ghost use Rattle.dual_grid.specs.Nodes.{cells_of};
 ghost use Rattle.dual_grid.specs.Problems.{of_down_edges, of_right_edges};
-ghost use Rattle.std.specs.Prelude.{◌*◌, ◌-◌, IfOk};
+ghost use Rattle.std.specs.Prelude.{◌*◌, ◌-◌, ◌≤◌, ℕ, IfOk, get_or, pos, unsigned_abs};
 ghost use Rattle.wrapped_gradient.specs.Gradients.{residue_at};
 ghost use Rattle.wrapped_gradient.specs.Rows.{AreInRows};
 ghost use Rattle.raster_model.specs.Tiles.{width_of, height_of};
@@ -19,7 +19,8 @@ pub(crate) fn right_weights(
     unmasked: &[bool],
 ) -> Result<Vec<i32>, AllocError>
     requires { IsMadeFor scene.now window unmasked.now }
-    ensures { IfOk result (λ list. AreInRows (of_right_edges scene.now window unmasked.now) window.x0 window.y0 (width_of window - 1) ((width_of window - 1) * height_of window) list.items) }
+    ensures rows { IfOk result (λ list. AreInRows (of_right_edges scene.now window unmasked.now) window.x0 window.y0 (width_of window - 1) ((width_of window - 1) * height_of window) list.items) }
+    ensures small { IfOk result (λ list. (k : ℕ) → unsigned_abs (get_or list.items k (pos 0)) ≤ 65535) }
 {
     let across = (window.x1 - window.x0) as usize;
     let along = window.height() as usize;
@@ -41,7 +42,8 @@ pub(crate) fn down_weights(
     unmasked: &[bool],
 ) -> Result<Vec<i32>, AllocError>
     requires { IsMadeFor scene.now window unmasked.now }
-    ensures { IfOk result (λ list. AreInRows (of_down_edges scene.now window unmasked.now) window.x0 window.y0 (width_of window) (width_of window * (height_of window - 1)) list.items) }
+    ensures rows { IfOk result (λ list. AreInRows (of_down_edges scene.now window unmasked.now) window.x0 window.y0 (width_of window) (width_of window * (height_of window - 1)) list.items) }
+    ensures small { IfOk result (λ list. (k : ℕ) → unsigned_abs (get_or list.items k (pos 0)) ≤ 65535) }
 {
     let across = window.width() as usize;
     let along = (window.y1 - window.y0) as usize;

@@ -18,7 +18,7 @@ unreachable-requires c =
     let s = shape_of c.args.grid.now in
     let f = state_of c.args.grid.now in
     let g = state_of c.balance.new.net in
-    let kept = subst (λ (z : Shape). HasReducedCosts z g) c.balance.ensures.kept.shape c.balance.new.net.net.has_reduced_costs in
+    let kept = subst (λ (z : Shape). HasReducedCosts z g) c.balance.ensures.kept.shape c.balance.new.net.has_reduced_costs in
     never_blocked s f g c.requires c.balance.ensures.moved c.in-Err-Blocked.field-0-0.items kept (rw (c.in-Err-Blocked.is, c.in-Err-Blocked.field-0-is) at c.balance.ensures.blocked)
 
 pub returns-clause-balanced : goal.returns-clause-balanced

@@ -1,75 +1,119 @@
-use Rattle.std.proofs.Common.{◌≡◌, ◌∙◌, sym, subst, arith}
-use Rattle.std.proofs.lemmas.Int.{ints}
+use Rattle.std.proofs.Common.{◌≡◌, ◌+◌, ◌*◌, ◌≤◌, ◌∙◌, ap, refl, sym, subst, arith, ℕ, List, ◌++◌, length, length-append, replicate}
+use Rattle.std.specs.Prelude.{ℤ, pos, ◌≤ℤ◌, unsigned_abs}
+use Rattle.std.proofs.lemmas.List.{length-replicate}
 use Rattle.raster_model.specs.declared.tiling.Window.{Window}
 use Rattle.raster_model.specs.Raster.{residue}
 use Rattle.raster_model.specs.Scene.{raster_of}
-use Rattle.flow_network.specs.Views.{shape_of, state_of}
+use Rattle.flow_network.specs.Growing.{supply_sizes}
 use Rattle.dual_grid.specs.Building.{AreSupplies, IsSmall}
-use Rattle.dual_grid.specs.Starts.{IsAtStart}
-use Rattle.dual_grid.proofs.EdgeLemmas.{few_cells}
-use Rattle.dual_grid.proofs.StartLemmas.{scene_supplies, scene_even, scene_sizes, tile_is_small, crossed_none, crossed_shape, crossed_weighed, crossed_conserved, crossed_cheap, crossed_few}
+use Rattle.dual_grid.specs.Nodes.{cells_of}
+use Rattle.dual_grid.specs.Grids.{AreWeighed}
+use Rattle.dual_grid.specs.Starts.{IsAtStart, open_in}
+use Rattle.dual_grid.specs.Layout.{FitTogether, number_in, shape_by, state_by, weight_in}
+use Rattle.dual_grid.proofs.ArcLemmas.{grid_is_network}
 use Rattle.dual_grid.proofs.GridLemmas.{grid_is_joined}
+use Rattle.dual_grid.proofs.MakeLemmas.{all_zero, joined_light, joined_weighed, start_at, start_cheap, start_conserved, start_kept, start_room, start_within}
+use Rattle.dual_grid.proofs.StartLemmas.{few_of_scene, scene_even, scene_sizes, scene_supplies, tile_is_small}
 use Rattle.dual_grid.proofs.grid.DualGrid.of.Goals as goal
+use Rattle.dual_grid.proofs.grid.DualGrid.of.Goals.{In_ok-potentials}
 
-pub new-requires-clause-even : goal.new-requires-clause-even
-new-requires-clause-even c = scene_even c.args.scene.now c.args.gradients.now c.in_ok-supplies.field-0.items c.requires.gradients c.in_ok-supplies.ensures
+small : (c : In_ok-potentials) → IsSmall c.window-window.result
+small c = let w = c.window-window in tile_is_small c.args.scene.now.tiling c.args.tile w.result w.ensures.pixels w.ensures.small
 
-pub new-requires-clause-room : goal.new-requires-clause-room
-new-requires-clause-room c =
-    let w = c.window-window in
-    let same : w.result ≡ c.args.gradients.now.window = w.ensures.value ∙ sym c.requires.window in
-    let small = subst IsSmall same (tile_is_small c.args.scene.now.tiling c.args.tile w.result w.ensures.pixels w.ensures.small) in
-    omega (arith, ints, scene_sizes c.args.scene.now c.args.gradients.now c.in_ok-supplies.field-0.items c.requires.gradients c.in_ok-supplies.ensures, few_cells c.args.gradients.now.window small)
+joined : (c : In_ok-potentials) → c.append.new.self.items ≡ c.in_ok-weights.weights.items ++ c.in_ok-down.down.items
+joined c = c.in_ok-append.ensures.items
 
-pub cross_right_edges-requires-clause-before : goal.cross_right_edges-requires-clause-before
-cross_right_edges-requires-clause-before c =
-    let w = c.window-window in
-    let zs = c.in_ok-supplies.field-0.items in
-    let net = c.in_ok-net.net in
-    let same : w.result ≡ c.args.gradients.now.window = w.ensures.value ∙ sym c.requires.window in
-    let are = subst (λ (v : Window). AreSupplies (residue (raster_of c.args.scene.now)) v zs) (sym same) (scene_supplies c.args.scene.now c.args.gradients.now zs c.requires.gradients c.in_ok-supplies.ensures) in
-    crossed_none c.args.scene.now c.args.unmasked.now w.result zs (shape_of net) (state_of net) (tile_is_small c.args.scene.now.tiling c.args.tile w.result w.ensures.pixels w.ensures.small) net.is_network are c.in_ok-net.ensures.nodes c.in_ok-net.ensures.arcs c.in_ok-net.ensures.excess c.in_ok-net.ensures.potential
+flows_are : (c : In_ok-potentials) → c.in_ok-flows.flows.items ≡ replicate c.len.result (pos 0)
+flows_are c = c.in_ok-flows.ensures.items_if_clones_equal (λ y h. h)
+
+potentials_are : (c : In_ok-potentials) → c.in_ok-potentials.potentials.items ≡ replicate c.len-2.result (pos 0)
+potentials_are c = c.in_ok-potentials.ensures.items_if_clones_equal (λ y h. h)
+
+same : (c : In_ok-potentials) → c.window-window.result ≡ c.args.gradients.now.window
+same c = c.window-window.ensures.value ∙ sym c.requires.window
+
+supplies_are : (c : In_ok-potentials) → AreSupplies (residue (raster_of c.args.scene.now)) c.window-window.result c.in_ok-excesses.excesses.items
+supplies_are c =
+    subst (λ (v : Window). AreSupplies (residue (raster_of c.args.scene.now)) v c.in_ok-excesses.excesses.items) (sym (same c))
+    (scene_supplies c.args.scene.now c.args.gradients.now c.in_ok-excesses.excesses.items c.requires.gradients c.in_ok-excesses.ensures)
+
+fit : (c : In_ok-potentials) → FitTogether c.window-window.result c.append.new.self.items c.in_ok-flows.flows.items c.in_ok-excesses.excesses.items c.in_ok-potentials.potentials.items
+fit c =
+    let right = c.in_ok-weights.ensures.rows.0 in
+    let down = c.in_ok-down.ensures.rows.0 in
+    let all : length c.append.new.self.items ≡ length c.in_ok-weights.weights.items + length c.in_ok-down.down.items = ap (λ (zs : List ℤ). length zs) (joined c) ∙ length-append c.in_ok-weights.weights.items c.in_ok-down.down.items in
+    let edges = length-replicate c.len.result (pos 0) in
+    let nodes = length-replicate c.len-2.result (pos 0) in
+    let flows = ap (λ (zs : List ℤ). length zs) (flows_are c) in
+    let potentials = ap (λ (zs : List ℤ). length zs) (potentials_are c) in
+    record {
+      by_weight = omega (arith, all, right, down);
+      by_edge = omega (arith, flows, edges, c.len.ensures, c.append.new.self.ok.0, all, right, down);
+      by_node = (supplies_are c).count;
+      by_height = omega (arith, potentials, nodes, c.len-2.ensures, c.in_ok-excesses.excesses.ok.0, (supplies_are c).count);
+    }
+
+light : (c : In_ok-potentials) → (n : ℕ) → unsigned_abs (number_in c.append.new.self.items n) ≤ 65535
+light c n = rw (joined c) (joined_light c.in_ok-weights.weights.items c.in_ok-down.down.items c.in_ok-weights.ensures.small c.in_ok-down.ensures.small n)
+
+none : (c : In_ok-potentials) → (n : ℕ) → number_in c.in_ok-flows.flows.items n ≡ pos 0
+none c n = ap (λ (zs : List ℤ). number_in zs n) (flows_are c) ∙ all_zero c.len.result n
+
+flat : (c : In_ok-potentials) → (n : ℕ) → number_in c.in_ok-potentials.potentials.items n ≡ pos 0
+flat c n = ap (λ (zs : List ℤ). number_in zs n) (potentials_are c) ∙ all_zero c.len-2.result n
+
+sizes : (c : In_ok-potentials) → supply_sizes c.in_ok-excesses.excesses.items ≤ℤ pos (2 * cells_of c.window-window.result)
+sizes c =
+    subst (λ (v : Window). supply_sizes c.in_ok-excesses.excesses.items ≤ℤ pos (2 * cells_of v)) (sym (same c))
+    (scene_sizes c.args.scene.now c.args.gradients.now c.in_ok-excesses.excesses.items c.requires.gradients c.in_ok-excesses.ensures)
+
+start : (c : In_ok-potentials) → IsAtStart (residue (raster_of c.args.scene.now)) c.window-window.result (shape_by c.window-window.result c.append.new.self.items) (state_by c.append.new.self.items c.in_ok-flows.flows.items c.in_ok-excesses.excesses.items c.in_ok-potentials.potentials.items)
+start c =
+    start_at c.window-window.result (small c) c.append.new.self.items c.in_ok-flows.flows.items c.in_ok-excesses.excesses.items c.in_ok-potentials.potentials.items (fit c) (light c) (none c) (flat c) (residue (raster_of c.args.scene.now)) (supplies_are c)
 
 pub invariant_of-result : goal.invariant_of-result
 invariant_of-result c =
-    let w = c.window-window in
-    let net = c.cross_down_edges.new.net in
+    let v = c.window-window.result in
+    let weights = c.append.new.self.items in
+    let flows = c.in_ok-flows.flows.items in
+    let excesses = c.in_ok-excesses.excesses.items in
+    let potentials = c.in_ok-potentials.potentials.items in
     record {
-      small = tile_is_small c.args.scene.now.tiling c.args.tile w.result w.ensures.pixels w.ensures.small;
-      grid = crossed_shape c.args.scene.now c.args.unmasked.now w.result (shape_of net) (state_of net) net.is_network c.in_ok-cross_down_edges.ensures;
+      small = small c;
+      fit = fit c;
+      within = start_within v (small c) weights flows excesses potentials (fit c) (light c) (none c) (flat c);
+      is_network = grid_is_network v (weight_in weights);
+      room = start_room v (small c) weights flows excesses potentials (fit c) (light c) (none c) (flat c) (sizes c);
+      has_reduced_costs = start_kept v (small c) weights flows excesses potentials (fit c) (light c) (none c) (flat c) (scene_even c.args.scene.now c.args.gradients.now excesses c.requires.gradients c.in_ok-excesses.ensures);
     }
 
 pub returns-clause-grid : goal.returns-clause-grid
 returns-clause-grid c =
-    let w = c.window-window in
-    let net = c.cross_down_edges.new.net in
+    let p = (goal.at.returns-clause-grid c).In_ok-potentials in
+    let v = c.window-window.result in
+    let s = c.args.scene.now in
+    let unmasked = c.args.unmasked.now in
     record {
-      window = w.ensures.value;
-      weighed = crossed_weighed c.args.scene.now c.args.unmasked.now w.result (shape_of net) (state_of net) net.is_network c.in_ok-cross_down_edges.ensures;
-      conserved = crossed_conserved c.args.scene.now c.args.unmasked.now w.result (shape_of net) (state_of net) net.is_network c.in_ok-cross_down_edges.ensures;
+      window = c.window-window.ensures.value;
+      weighed = subst (λ (zs : List ℤ). AreWeighed (raster_of s) (open_in v unmasked) v (shape_by v zs)) (sym (joined p))
+          (joined_weighed s v unmasked c.in_ok-weights.weights.items c.in_ok-down.down.items c.in_ok-weights.ensures.rows c.in_ok-down.ensures.rows);
+      conserved = start_conserved v (small p) c.append.new.self.items c.in_ok-flows.flows.items c.in_ok-excesses.excesses.items c.in_ok-potentials.potentials.items (fit p) (light p) (none p) (flat p) (residue (raster_of s)) (supplies_are p);
     }
 
 pub returns-clause-start : goal.returns-clause-start
 returns-clause-start c =
-    let w = c.window-window in
-    let net = c.cross_down_edges.new.net in
-    let all = c.in_ok-cross_down_edges.ensures in
-    subst (λ (v : Window). IsAtStart (residue (raster_of c.args.scene.now)) v (shape_of net) (state_of net)) w.ensures.value all.start
+    let p = (goal.at.returns-clause-start c).In_ok-potentials in
+    subst (λ (v : Window). IsAtStart (residue (raster_of c.args.scene.now)) v (shape_by c.window-window.result c.append.new.self.items) (state_by c.append.new.self.items c.in_ok-flows.flows.items c.in_ok-excesses.excesses.items c.in_ok-potentials.potentials.items)) c.window-window.ensures.value (start p)
 
 pub returns-clause-small : goal.returns-clause-small
 returns-clause-small c =
-    let w = c.window-window in
-    let net = c.cross_down_edges.new.net in
-    crossed_cheap c.args.scene.now c.args.unmasked.now w.result (shape_of net) (state_of net) net.is_network c.in_ok-cross_down_edges.ensures (tile_is_small c.args.scene.now.tiling c.args.tile w.result w.ensures.pixels w.ensures.small)
+    let p = (goal.at.returns-clause-small c).In_ok-potentials in
+    start_cheap c.window-window.result (small p) c.append.new.self.items c.in_ok-flows.flows.items c.in_ok-excesses.excesses.items c.in_ok-potentials.potentials.items (fit p) (light p) (none p) (flat p)
 
 pub returns-clause-few : goal.returns-clause-few
 returns-clause-few c =
-    let w = c.window-window in
-    let net = c.cross_down_edges.new.net in
-    crossed_few c.args.scene.now c.args.unmasked.now w.result (shape_of net) (state_of net) net.is_network c.in_ok-cross_down_edges.ensures (tile_is_small c.args.scene.now.tiling c.args.tile w.result w.ensures.pixels w.ensures.small)
+    let p = (goal.at.returns-clause-few c).In_ok-potentials in
+    few_of_scene c.args.scene.now c.window-window.result (shape_by c.window-window.result c.append.new.self.items) (state_by c.append.new.self.items c.in_ok-flows.flows.items c.in_ok-excesses.excesses.items c.in_ok-potentials.potentials.items) (small p) refl (start p)
 
 pub returns-clause-joined : goal.returns-clause-joined
-returns-clause-joined c =
-    let w = c.window-window in
-    let net = c.cross_down_edges.new.net in
-    grid_is_joined w.result (shape_of net) net.is_network (crossed_shape c.args.scene.now c.args.unmasked.now w.result (shape_of net) (state_of net) net.is_network c.in_ok-cross_down_edges.ensures)
+returns-clause-joined c = grid_is_joined c.window-window.result (weight_in c.append.new.self.items)

@@ -17,6 +17,6 @@ returns c =
     let rows = subst (λ (w : Window). AreInRows (residue_at g) w.x0 w.y0 (w.x1 - w.x0) (cells_of w) c.in_ok-residues.field-0.items) same c.in_ok-residues.ensures in
     record {
       window = c.window-window.ensures.value;
-      weights = weights_listed s v c.args.unmasked.now c.in_ok-right_weights.field-0.items c.in_ok-down_weights.field-0.items c.in_ok-right_weights.ensures c.in_ok-down_weights.ensures;
+      weights = weights_listed s v c.args.unmasked.now c.in_ok-right_weights.field-0.items c.in_ok-down_weights.field-0.items c.in_ok-right_weights.ensures.rows c.in_ok-down_weights.ensures.rows;
       residues = λ x y i. residues_listed (residue_at g) v c.in_ok-residues.field-0.items x y rows i ∙ residues_are s g c.requires.gradients x y (subst (λ (w : Window). IsCellOf w x y) (sym same) i);
     }

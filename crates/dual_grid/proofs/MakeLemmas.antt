@@ -1,0 +1,170 @@
+-- A grid that is made: what its lists say, and that it starts as it should.
+use Rattle.std.proofs.Common.{◌≡◌, ℕ, zero, suc, ◌+◌, ◌-◌, ◌*◌, ◌/◌, ◌%◌, ◌<◌, ◌≤◌, ◌∙◌, sym, ap, refl, arith, inl, inr, List, ◌++◌, length, get_or, replicate, Bool, true, false}
+use Rattle.std.specs.Prelude.{ℤ, pos, neg_ℤ, ◌+ℤ◌, ◌-ℤ◌, ◌≤ℤ◌, ◌==◌, ◌&&◌, unsigned_abs}
+use Rattle.std.proofs.lemmas.Bool.{cases_Bool, cases_lt}
+use Rattle.std.proofs.lemmas.Int.{ints}
+use Rattle.std.proofs.lemmas.List.{get_or_append_left, get_or-append-add, get_or-append_right, get_or_past, get_or-replicate, length-replicate}
+use Rattle.raster_model.specs.declared.edge.Edge.{Edge}
+use Rattle.raster_model.specs.declared.scene.Scene.{Scene}
+use Rattle.raster_model.specs.declared.tiling.Window.{Window}
+use Rattle.raster_model.specs.Raster.{masked_weight}
+use Rattle.raster_model.specs.Scene.{raster_of}
+use Rattle.raster_model.specs.Sums.{Field}
+use Rattle.raster_model.specs.Tiles.{width_of, height_of}
+use Rattle.flow_network.specs.Nets.{IsArc, HasReducedCosts, tail_of}
+use Rattle.flow_network.specs.Moves.{IsConserved, out_term, residual_out}
+use Rattle.flow_network.specs.Growing.{supply_sizes, supply_sum, total_residual}
+use Rattle.flow_network.specs.Lists.{HasRoom}
+use Rattle.flow_network.proofs.CallerLemmas.{conserved-still, sum-not_below, term-le}
+use Rattle.flow_network.proofs.RoomLemmas.{term-not_below}
+use Rattle.wrapped_gradient.specs.Rows.{AreInRows}
+use Rattle.wrapped_gradient.specs.Windows.{IsEdgeOf, number_at}
+use Rattle.dual_grid.specs.Building.{AreSupplies, IsSmall}
+use Rattle.dual_grid.specs.Grids.{AreWeighed, HasSmallCosts, residual_at}
+use Rattle.dual_grid.specs.Layout.{AreWithin, FitTogether, number_in, shape_by, state_by, weight_in}
+use Rattle.dual_grid.specs.Nodes.{cells_of, edges_of, edge_number}
+use Rattle.dual_grid.specs.Problems.{of_down_edges, of_right_edges}
+use Rattle.dual_grid.specs.Starts.{IsAtStart, open_in, start_residual, start_state}
+use Rattle.dual_grid.proofs.ArcLemmas.{grid_is_network}
+use Rattle.dual_grid.proofs.EdgeLemmas.{few_cells, few_edges, right_number_below}
+use Rattle.dual_grid.proofs.GridLemmas.{back_cost, forth_cost}
+use Rattle.dual_grid.proofs.ListingLemmas.{weights_listed}
+use Rattle.dual_grid.proofs.StartLemmas.{idle_residual}
+use Rattle.sums_and_lists.specs.Sums.{sum_below, where_true}
+use Rattle.sums_and_lists.proofs.SumLemmas.{sum_below-none, sum_below-more}
+
+-- ---- weights in one list, the right edges first
+module _ (s : Scene) (v : Window) (unmasked : List Bool) (right down : List ℤ) (rights : AreInRows (of_right_edges s v unmasked) v.x0 v.y0 (width_of v - 1) ((width_of v - 1) * height_of v) right) (downs : AreInRows (of_down_edges s v unmasked) v.x0 v.y0 (width_of v) (width_of v * (height_of v - 1)) down) where
+  joined_at : (e : Edge) → IsEdgeOf v e → number_in (right ++ down) (edge_number v e) ≡ number_at v right down e
+  joined_at e i = go e.x e.y e.down i
+    where
+      go : (x y : ℕ) (d : Bool) → IsEdgeOf v (record { x = x; y = y; down = d }) → number_in (right ++ down) (edge_number v (record { x = x; y = y; down = d })) ≡ number_at v right down (record { x = x; y = y; down = d })
+      go x y false i = get_or_append_left right down (pos 0) ((y - v.y0) * (width_of v - 1) + (x - v.x0)) (let l = right_number_below v x y i in let n = rights.0 in omega (arith, l, n))
+      go x y true i =
+          ap (λ (n : ℕ). number_in (right ++ down) (n + ((y - v.y0) * width_of v + (x - v.x0)))) (sym rights.0)
+          ∙ get_or-append-add right down ((y - v.y0) * width_of v + (x - v.x0)) (pos 0)
+
+  pub joined_weighed : AreWeighed (raster_of s) (open_in v unmasked) v (shape_by v (right ++ down))
+  joined_weighed e i =
+      let told : weight_in (right ++ down) (edge_number v e) ≡ masked_weight (raster_of s) (open_in v unmasked) e = ap unsigned_abs (joined_at e i ∙ weights_listed s v unmasked right down rights downs e i) in
+      (forth_cost v (weight_in (right ++ down)) e i ∙ ap pos told, back_cost v (weight_in (right ++ down)) e i ∙ ap pos told)
+
+pub joined_light : (right down : List ℤ) → ((k : ℕ) → unsigned_abs (get_or right k (pos 0)) ≤ 65535) → ((k : ℕ) → unsigned_abs (get_or down k (pos 0)) ≤ 65535) → (n : ℕ) → unsigned_abs (number_in (right ++ down) n) ≤ 65535
+joined_light right down a b n =
+    elim (cases_lt n (length right)) [
+      | inl l ↦ rw (get_or_append_left right down (pos 0) n l) (a n)
+      | inr l ↦ rw (get_or-append_right right down (length right) n (pos 0) refl l) (b (n - length right))
+    ]
+
+pub all_zero : (n k : ℕ) → number_in (replicate n (pos 0)) k ≡ pos 0
+all_zero n k =
+    elim (cases_lt k n) [
+      | inl l ↦ get_or-replicate n k (pos 0) (pos 0) l
+      | inr l ↦ get_or_past (replicate n (pos 0)) k (pos 0) (omega (arith, length-replicate n (pos 0), l))
+    ]
+
+-- terms that are at most c
+sum_bounded : (n c : ℕ) (f : ℕ → ℤ) → ((k : ℕ) → k < n → f k ≤ℤ pos c) → sum_below n f ≤ℤ pos (n * c)
+sum_bounded zero c f h = omega (arith, ints, sum_below-none f)
+sum_bounded (suc n) c f h =
+    let e : suc n ≡ n + 1 = omega arith in
+    let d : (n + 1) * c ≡ n * c + c = omega arith in
+    rw e (omega (arith, ints, sum_below-more n f, sum_bounded n c f (λ k l. h k (omega arith)), h n (omega arith), d))
+
+start_small : (a : ℕ) → start_residual a ≤ 16130
+start_small a =
+    elim (cases_Bool (a % 2 == 0)) [
+      | inl t ↦ rw t (omega arith)
+      | inr t ↦ rw t (omega arith)
+    ]
+
+-- ---- nothing flows, and all potentials are 0
+module _ (v : Window) (little : IsSmall v) (weights flows excesses potentials : List ℤ) (fit : FitTogether v weights flows excesses potentials) (light : (n : ℕ) → unsigned_abs (number_in weights n) ≤ 65535) (none : (n : ℕ) → number_in flows n ≡ pos 0) (flat : (n : ℕ) → number_in potentials n ≡ pos 0) where
+  pub start_within : AreWithin flows
+  start_within n = rw (none n) (omega (arith, ints))
+
+  residual_is : (a : ℕ) → IsArc (shape_by v weights) a → (state_by weights flows excesses potentials).residual a ≡ start_residual a
+  residual_is a arc = ap (λ (q : ℤ). residual_at (weight_in weights (a / 4)) q (a % 4)) (none (a / 4)) ∙ idle_residual v (weight_in weights) a arc
+
+  pub start_at : (r : Field ℤ) → AreSupplies r v excesses → IsAtStart r v (shape_by v weights) (state_by weights flows excesses potentials)
+  start_at r are = record { residual = residual_is; excess = are.values; potential = λ u l. flat u }
+
+  pub start_conserved : (r : Field ℤ) → AreSupplies r v excesses → IsConserved (shape_by v weights) (start_state r v) (state_by weights flows excesses potentials)
+  start_conserved r are = conserved-still (shape_by v weights) (start_state r v) (state_by weights flows excesses potentials) (grid_is_network v (weight_in weights)) residual_is are.values
+
+  cost_small : (a : ℕ) → unsigned_abs ((shape_by v weights).cost a) ≤ 65535
+  cost_small a =
+      let l = light (a / 4) in
+      elim (cases_Bool (a % 4 % 2 == 0)) [
+        | inl t ↦ rw t l
+        | inr t ↦ rw t (let n : unsigned_abs (neg_ℤ (pos (weight_in weights (a / 4)))) ≡ weight_in weights (a / 4) = omega (arith, ints) in omega (arith, n, l))
+      ]
+
+  pub start_cheap : HasSmallCosts (shape_by v weights)
+  start_cheap = record { costs = λ a arc. cost_small a; few = omega (arith, few_cells v little) }
+
+  -- an arc with capacity at the start costs something, or nothing
+  start_cost : (a : ℕ) → 0 < start_residual a → pos 0 ≤ℤ (shape_by v weights).cost a
+  start_cost a l =
+      elim (cases_Bool (a % 2 == 0)) [
+        | inl t ↦ (
+            let e : a % 4 % 2 ≡ a % 2 = omega arith in
+            let u : (a % 4 % 2 == 0) ≡ true = ap (λ (k : ℕ). k == 0) e ∙ t in
+            rw u (omega (arith, ints)))
+        | inr t ↦ (let z : start_residual a ≡ 0 = rw t refl in absurd (omega (arith, z, l)))
+      ]
+
+  level : (c x y : ℤ) → pos 0 ≤ℤ c → x ≡ pos 0 → y ≡ pos 0 → pos 0 ≤ℤ (c +ℤ x -ℤ y)
+  level c x y l p q = omega (arith, ints, l, p, q)
+
+  pub start_kept : supply_sum excesses ≡ pos 0 → HasReducedCosts (shape_by v weights) (state_by weights flows excesses potentials)
+  start_kept even = record {
+    at_least = λ a arc l. level ((shape_by v weights).cost a) _ _ (start_cost a (rw (residual_is a arc) at l)) (flat (tail_of (shape_by v weights) a)) (flat ((shape_by v weights).head a));
+    even = ap (λ (n : ℕ). sum_below n (number_in excesses)) (sym fit.by_node) ∙ even;
+  }
+
+  -- ---- the room for pushes
+  residual_term : (a : ℕ) → where_true ((shape_by v weights).is_arc a) (pos ((state_by weights flows excesses potentials).residual a)) ≤ℤ pos 16130
+  residual_term a =
+      elim (cases_Bool ((shape_by v weights).is_arc a)) [
+        | inl t ↦ (
+            let e = residual_is a t in
+            let l = start_small a in
+            rw t (omega (arith, ints, e, l)))
+        | inr t ↦ rw t (omega (arith, ints))
+      ]
+
+  both-le : (t u : Bool) (n : ℕ) → where_true t (pos n) ≤ℤ pos 16130 → where_true (t && u) (pos n) ≤ℤ pos 16130
+  both-le true true n l = l
+  both-le true false n l = omega (arith, ints)
+  both-le false u n l = l
+
+  few_arcs : edges_of v * 4 * 16130 ≤ 2097674240
+  few_arcs = let l = few_edges v little in omega (arith, l)
+
+  total_small : total_residual (shape_by v weights) (state_by weights flows excesses potentials) ≤ℤ pos (edges_of v * 4 * 16130)
+  total_small = sum_bounded (edges_of v * 4) 16130 (λ a. where_true ((shape_by v weights).is_arc a) (pos ((state_by weights flows excesses potentials).residual a))) (λ a l. residual_term a)
+
+  total_low : pos 0 ≤ℤ total_residual (shape_by v weights) (state_by weights flows excesses potentials)
+  total_low = sum-not_below (edges_of v * 4) (λ a. where_true ((shape_by v weights).is_arc a) (pos ((state_by weights flows excesses potentials).residual a))) (λ a l. term-not_below ((shape_by v weights).is_arc a) ((state_by weights flows excesses potentials).residual a))
+
+  out_small : (u : ℕ) → residual_out (shape_by v weights) (state_by weights flows excesses potentials) u ≤ℤ pos (edges_of v * 4 * 16130)
+  out_small u = sum_bounded (edges_of v * 4) 16130 (out_term (shape_by v weights) (state_by weights flows excesses potentials) u) (λ a l. both-le ((shape_by v weights).is_arc a) (tail_of (shape_by v weights) a == u) ((state_by weights flows excesses potentials).residual a) (residual_term a))
+
+  out_low : (u : ℕ) → pos 0 ≤ℤ residual_out (shape_by v weights) (state_by weights flows excesses potentials) u
+  out_low u = sum-not_below (edges_of v * 4) (out_term (shape_by v weights) (state_by weights flows excesses potentials) u) (λ a l. term-not_below ((shape_by v weights).is_arc a && (tail_of (shape_by v weights) a == u)) ((state_by weights flows excesses potentials).residual a))
+
+  excess_small : supply_sizes excesses ≤ℤ pos (2 * cells_of v) → (u : ℕ) → u < cells_of v + 1 → unsigned_abs (number_in excesses u) ≤ 32258
+  excess_small sizes u l =
+      let one = term-le (length excesses) u (λ k. pos (unsigned_abs (get_or excesses k (pos 0)))) (omega (arith, fit.by_node, l)) (λ k m. omega (arith, ints)) in
+      let few = few_cells v little in
+      omega (arith, ints, one, sizes, few)
+
+  pub start_room : supply_sizes excesses ≤ℤ pos (2 * cells_of v) → HasRoom (shape_by v weights) (state_by weights flows excesses potentials)
+  start_room sizes = record {
+    total = (let t = total_small in let f = few_arcs in omega (arith, ints, t, f));
+    above = λ u l. (let t = total_small in let f = few_arcs in let o = out_low u in let e = excess_small sizes u l in omega (arith, ints, t, f, o, e));
+    beneath = λ u l. (let f = few_arcs in let o = out_small u in let e = excess_small sizes u l in omega (arith, ints, f, o, e));
+    costs = λ a l. (let c = cost_small a in omega (arith, c));
+    potentials = λ u l. (let z = flat u in omega (arith, ints, z));
+  }

@@ -1,0 +1,29 @@
+-- A grid in lists: weights and flows by the numbers of the edges, excesses and potentials by node.
+use Rattle.std.specs.Prelude.{◌≡◌, ◌+◌, ◌≤◌, ℕ, ℤ, pos, List, length, get_or, unsigned_abs}
+use Rattle.raster_model.specs.declared.tiling.Window.{Window}
+use Rattle.flow_network.specs.Nets.{Shape, State}
+use Rattle.dual_grid.specs.Nodes.{cells_of, edges_of}
+use Rattle.dual_grid.specs.Grids.{shape_in, state_in}
+
+abbrev pub weight_in : List ℤ → ℕ → ℕ
+weight_in weights n = unsigned_abs (get_or weights n (pos 0))
+
+abbrev pub number_in : List ℤ → ℕ → ℤ
+number_in zs n = get_or zs n (pos 0)
+
+abbrev pub shape_by : Window → List ℤ → Shape
+shape_by v weights = shape_in v (weight_in weights)
+
+abbrev pub state_by : List ℤ → List ℤ → List ℤ → List ℤ → State
+state_by weights flows excesses potentials = state_in (weight_in weights) (number_in flows) (number_in excesses) (number_in potentials)
+
+-- the lists have one place for each edge or for each node
+pub record FitTogether (v : Window) (weights flows excesses potentials : List ℤ) : Type 0 where
+  pub by_weight : length weights ≡ edges_of v
+  pub by_edge : length flows ≡ edges_of v
+  pub by_node : length excesses ≡ cells_of v + 1
+  pub by_height : length potentials ≡ cells_of v + 1
+
+-- no flow is above the capacity
+abbrev pub AreWithin : List ℤ → Type 0
+AreWithin flows = (n : ℕ) → unsigned_abs (number_in flows n) ≤ 16130

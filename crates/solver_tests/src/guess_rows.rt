@@ -16,9 +16,9 @@ use wrapped_gradient::{Corrections, Gradients};
 /// Corrections of the right and of the down edges, faces, and whether these answer the full turn, whose one cell has the
 /// residue 1, and whose edges weigh 5 above, 3 below, 3 on the left and 5 on the right. By hand: one cycle goes across the
 /// edge below or across that on the left, so that the face is 3. Then a flow is missing, goes the other way, across a heavy
-/// edge or round twice; the face is off by one, turned, missing or one of two; corrections are missing; numbers lie at the
-/// ends of their types.
-const GUESSES: [(&[i32], &[i32], &[i64], bool); 15] = [
+/// edge or round twice; the face is off by one, turned, that of a tile without a residue, that of the full turn whose edges
+/// all weigh 5, missing or one of two; there are too few corrections, or too many; numbers lie at the ends of their types.
+const GUESSES: [(&[i32], &[i32], &[i64], bool); 19] = [
     (&[0, 1], &[0, 0], &[3], true),
     (&[0, 0], &[1, 0], &[3], true),
     (&[0, 0], &[0, 0], &[3], false),
@@ -28,9 +28,13 @@ const GUESSES: [(&[i32], &[i32], &[i64], bool); 15] = [
     (&[0, 1], &[0, 0], &[2], false),
     (&[0, 1], &[0, 0], &[4], false),
     (&[0, 1], &[0, 0], &[-3], false),
+    (&[0, 1], &[0, 0], &[0], false),
+    (&[0, 1], &[0, 0], &[5], false),
     (&[0, 1], &[0, 0], &[], false),
     (&[0, 1], &[0, 0], &[3, 0], false),
     (&[1], &[0, 0], &[3], false),
+    (&[0, 1], &[0], &[3], false),
+    (&[0, 1, 0], &[0, 0], &[3], false),
     (&[0, i32::MAX], &[i32::MIN, 0], &[3], false),
     (&[0, 1], &[0, 0], &[i64::MAX], false),
     (&[0, 1], &[0, 0], &[i64::MIN], false),

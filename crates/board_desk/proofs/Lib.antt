@@ -1,1 +1,11 @@
-pub mod PassLemmas
+pub mod Histories
+pub mod Fitting
+pub mod Steps
+pub mod Holding
+pub mod Merging
+pub mod Ending
+pub mod Calls
+pub mod Publications
+pub mod Closing
+pub mod Telling
+pub mod CallerLemmas

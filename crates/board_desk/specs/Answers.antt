@@ -1,8 +1,56 @@
--- What an answer of the desk tells of a script.
-use Rattle.std.specs.Prelude.{Bool, true, false, Result, Ok, Err}
+-- What the desk answers: what the board that stood there answers, and the board that this leaves.
+use Rattle.std.specs.Prelude.{◌≡◌, ◌||◌, ℕ, Bool, true, false, Option, Some, Result, Ok, Err, ⊤}
+use Rattle.std.specs.Option.{IfSome}
+use Rattle.std.specs.Result.{MatchResult}
+use Rattle.raster_model.specs.declared.script.Edit.{Edit}
+use Rattle.raster_model.specs.declared.session.Session.{Session}
+use Rattle.certificates.specs.declared.results.SeamResult.{SeamResult}
+use Rattle.certificates.specs.declared.results.TileResult.{TileResult}
 use Rattle.tile_board.specs.declared.answers.Advance.{Advance}
 use Rattle.tile_board.specs.declared.answers.Advance.TheVariants as advances
 use Rattle.tile_board.specs.declared.answers.AdvanceFault.{AdvanceFault}
+use Rattle.tile_board.specs.declared.answers.ClaimFault.{ClaimFault}
+use Rattle.tile_board.specs.declared.answers.GatherFault.{GatherFault}
+use Rattle.tile_board.specs.declared.answers.KeepFault.{KeepFault}
+use Rattle.tile_board.specs.declared.answers.PublishFault.{PublishFault}
+use Rattle.tile_board.specs.declared.entry.Entry.TheVariants.{Published, Revised, Settled, Shown}
+use Rattle.tile_board.specs.declared.gathered.Gathered.{Gathered}
+use Rattle.tile_board.specs.declared.ticket.Ticket.{Ticket}
+use Rattle.tile_board.specs.BoardView.{BoardView}
+use Rattle.tile_board.specs.Calls.{HasClaimFault, HasGatherFault, HasKeepFault, HasPublishFault, IsAdvance, IsClaim, IsGathering, IsKeep, IsPublication}
+use Rattle.tile_board.specs.Histories.{newest_of, now_of}
+use Rattle.tile_board.specs.Runs.{IsNoLater}
+use Rattle.board_desk.specs.Passes.{PassView, AddsOwn, IsAtSettle}
+
+abbrev pub ClaimAnswers : Result Ticket ClaimFault → BoardView → BoardView → Type 0
+ClaimAnswers answer old new = MatchResult answer (IsClaim old) (HasClaimFault old) × (new ≡ old)
+
+abbrev pub KeepAnswers : {U : Type 0} → TileResult → Result U KeepFault → BoardView → BoardView → Type 0
+KeepAnswers solved answer old new = MatchResult answer (λ _. IsKeep old new solved) (λ fault. HasKeepFault old solved fault × (new ≡ old))
+
+abbrev pub GatherAnswers : Result Gathered GatherFault → BoardView → BoardView → Type 0
+GatherAnswers answer old new = MatchResult answer (IsGathering old) (HasGatherFault old) × (new ≡ old)
+
+abbrev pub PublishAnswers : {U : Type 0} → Option ℕ → SeamResult → Result U PublishFault → BoardView → BoardView → Type 0
+PublishAnswers analyst seams answer old new = IfSome analyst (λ a. MatchResult answer (λ _. IsPublication old new a seams) (λ fault. HasPublishFault old a seams fault × (new ≡ old)))
+
+abbrev pub AdvanceAnswers : Option ℕ → Result Advance AdvanceFault → BoardView → BoardView → Type 0
+AdvanceAnswers analyst answer old new = IfSome analyst (λ a. MatchResult answer (IsAdvance old new a) (λ _. new ≡ old))
+
+-- ---- what an answer tells of the pass
+-- what was published in the analyst's name
+abbrev pub OwnPublish : {U : Type 0} → PassView → PassView → SeamResult → Result U PublishFault → Type 0
+OwnPublish p q seams (Ok done) = AddsOwn p q (λ a. Published a seams.revision)
+OwnPublish p q seams (Err fault) = q.mine ≡ p.mine
+
+-- what was done in the analyst's name
+abbrev pub OwnAdvance : PassView → PassView → Result Advance AdvanceFault → Type 0
+OwnAdvance p q (Ok (advances.Revised r)) = (edit : Edit) × AddsOwn p q (λ a. Revised a edit)
+OwnAdvance p q (Ok (advances.Settled r)) = AddsOwn p q (λ a. Settled a r)
+OwnAdvance p q (Ok (advances.Shown r)) = AddsOwn p q (λ a. Shown a r)
+OwnAdvance p q (Ok (advances.NotYet r)) = q.mine ≡ p.mine
+OwnAdvance p q (Ok advances.Ended) = q.mine ≡ p.mine
+OwnAdvance p q (Err fault) = q.mine ≡ p.mine
 
 -- the answer says that the script is at its end
 abbrev pub tells_end : Result Advance AdvanceFault → Bool
@@ -12,3 +60,30 @@ tells_end (Ok (advances.Settled revision)) = false
 tells_end (Ok (advances.Shown revision)) = false
 tells_end (Ok (advances.NotYet revision)) = false
 tells_end (Err fault) = false
+
+-- what is shown or settled is no earlier than any publication that the pass had seen; a settled revision is the present one, which counts every edit of the history that was seen, the analyst's own among them
+abbrev pub IsUpToDate : PassView → PassView → Result Advance AdvanceFault → Type 0
+IsUpToDate p q (Ok (advances.Revised r)) = ⊤
+IsUpToDate p q (Ok (advances.Settled r)) = IsNoLater (newest_of p.seen) (Some r) × (r ≡ now_of q.seen)
+IsUpToDate p q (Ok (advances.Shown r)) = IsNoLater (newest_of p.seen) r
+IsUpToDate p q (Ok (advances.NotYet r)) = ⊤
+IsUpToDate p q (Ok advances.Ended) = ⊤
+IsUpToDate p q (Err fault) = ⊤
+
+-- where the surface is not there yet, the next command is to settle
+abbrev pub AwaitsSurface : Session → PassView → Result Advance AdvanceFault → Type 0
+AwaitsSurface s q (Ok (advances.Revised r)) = ⊤
+AwaitsSurface s q (Ok (advances.Settled r)) = ⊤
+AwaitsSurface s q (Ok (advances.Shown r)) = ⊤
+AwaitsSurface s q (Ok (advances.NotYet r)) = IsAtSettle s q
+AwaitsSurface s q (Ok advances.Ended) = ⊤
+AwaitsSurface s q (Err fault) = ⊤
+
+-- where the next command is to settle, nothing else is answered
+abbrev pub IsOfSettle : Result Advance AdvanceFault → Type 0
+IsOfSettle (Ok (advances.Revised r)) = ⊥
+IsOfSettle (Ok (advances.Settled r)) = ⊤
+IsOfSettle (Ok (advances.Shown r)) = ⊥
+IsOfSettle (Ok (advances.NotYet r)) = ⊤
+IsOfSettle (Ok advances.Ended) = ⊥
+IsOfSettle (Err fault) = ⊤

@@ -1,2 +1,5 @@
+pub mod Mine
 pub mod Passes
 pub mod Answers
+pub mod Rules
+pub mod Seats

@@ -1,43 +1,120 @@
--- What passes know.
-use Rattle.std.specs.Prelude.{◌≡◌, ◌≢◌, ◌+◌, ◌<◌, ◌≤◌, ◌||◌, ℕ, zero, suc, Bool, true, false, List, [], ◌∷◌, ◌++◌, Some, None, All}
-use Rattle.board_desk.specs.declared.pass.Pass.{Pass}
+-- What contracts see of a desk and of a pass, and what a call tells of the one history.
+use Rattle.std.specs.Prelude.{◌≡◌, ◌≢◌, ◌+◌, ◌⊎◌, ℕ, zero, suc, Bool, true, false, List, [], ◌∷◌, ◌++◌, Option, Some, None, All, length, slice_get}
+use mathlib.Core.List.{IsPrefix}
+use Rattle.atomic_table.specs.Seated.{TableId}
+use Rattle.raster_model.specs.declared.script.Command.TheVariants.{Settle}
+use Rattle.raster_model.specs.declared.session.Session.{Session}
+use Rattle.tile_board.specs.declared.entry.Entry.{Entry}
+use Rattle.tile_board.specs.BoardView.{BoardView}
+use Rattle.tile_board.specs.Boards.{IsBoard}
+use Rattle.tile_board.specs.Histories.{next_command, script_of}
+use Rattle.board_desk.specs.Mine.{mine_of}
 
--- an analyst's pass before the first entry
-abbrev pub first_pass : ℕ → Pass
-first_pass analyst = record { analyst = Some analyst; front = 0; newest_seen = None; done = 0; ended = false }
+-- which desk it is, and the session that it was opened for
+pub record DeskView : Type 0 where
+  pub table : TableId
+  pub session : Session
 
--- the passes of the analysts from 1 on, in order
-abbrev pub first_passes : ℕ → List Pass
-first_passes zero = []
-first_passes (suc analysts) = first_passes analysts ++ first_pass (analysts + 1) ∷ []
+abbrev pub desk_of : TableId → Session → DeskView
+desk_of table session = record { table = table; session = session }
+
+-- the desk and the session of a pass, its analyst, what was seen of the history, and what was added through it in the analyst's name
+pub record PassView : Type 0 where
+  pub table : TableId
+  pub session : Option Session
+  pub analyst : Option ℕ
+  pub seen : List Entry
+  pub mine : List Entry
+  -- the desk has answered that the analyst's script is at its end
+  pub ended : Bool
+
+pub record IsPassOf (d : DeskView) (p : PassView) : Type 0 where
+  pub table : p.table ≡ d.table
+  pub session : p.session ≡ Some d.session
+
+-- a pass later: of the same desk and analyst
+pub record IsSamePass (p q : PassView) : Type 0 where
+  pub table : q.table ≡ p.table
+  pub session : q.session ≡ p.session
+  pub analyst : q.analyst ≡ p.analyst
+
+-- what was seen and what was added only grew
+pub record IsLater (p q : PassView) : Type 0 where
+  pub same : IsSamePass p q
+  pub seen : IsPrefix p.seen q.seen
+  pub mine : IsPrefix p.mine q.mine
+
+-- nothing was added in the analyst's name, and the analyst's script has not ended meanwhile
+pub record HasNotMoved (p q : PassView) : Type 0 where
+  pub mine : q.mine ≡ p.mine
+  pub ended : q.ended ≡ p.ended
+
+-- ---- passes by themselves
+-- the analyst's script is at its end, by what was seen; its next command is to settle, by what was added
+abbrev pub IsAtEnd : PassView → Type 0
+IsAtEnd p = (s : Session) (a : ℕ) → p.session ≡ Some s → p.analyst ≡ Some a → next_command s p.seen a ≡ None
+
+pub record IsAtSettle (s : Session) (p : PassView) : Type 0 where
+  pub analyst : ℕ
+  pub is : p.analyst ≡ Some analyst
+  pub next : slice_get (script_of s analyst) (length p.mine) ≡ Some Settle
+
+-- what was added in the analyst's name is what the history that was seen has of it; an end that was told is one
+pub record IsSound (p : PassView) : Type 0 where
+  pub exact : p.mine ≡ mine_of p.analyst p.seen
+  pub at_end : p.ended ≡ true → IsAtEnd p
+
+-- the passes of the analysts from 1 on, in order, before the first entry
+abbrev pub first_pass : DeskView → ℕ → PassView
+first_pass d analyst = record { table = d.table; session = Some d.session; analyst = Some analyst; seen = []; mine = []; ended = false }
+
+abbrev pub first_passes : DeskView → ℕ → List PassView
+first_passes d zero = []
+first_passes d (suc analysts) = first_passes d analysts ++ first_pass d (analysts + 1) ∷ []
 
 -- each pass has an analyst
-abbrev pub HaveAnalysts : List Pass → Type 0
+abbrev pub HaveAnalysts : List PassView → Type 0
 HaveAnalysts passes = All (λ pass. pass.analyst ≢ None) passes
 
--- a worker's pass that has heard what another has
-abbrev pub worker_pass : Pass → Pass
-worker_pass p = record { analyst = None; front = p.front; newest_seen = p.newest_seen; done = 0; ended = false }
+-- ---- calls
+-- A call was answered at one point of the history. There stood the board `before`, and the call left the board `after`. The history there begins with what the pass had seen, and its entries of the analyst are exactly what was added through the pass.
+pub record Called (s : Session) (p q : PassView) (answers : BoardView → BoardView → Type 0) : Type 0 where
+  pub same : IsSamePass p q
+  pub before : BoardView
+  pub after : BoardView
+  pub found : IsBoard before
+  pub left : IsBoard after
+  pub session : before.session ≡ s
+  pub session_after : after.session ≡ s
+  pub begins : IsPrefix p.seen before.entries
+  pub exact : p.mine ≡ mine_of p.analyst before.entries
+  pub added : List Entry
+  pub grown : after.entries ≡ before.entries ++ added
+  pub seen : q.seen ≡ after.entries
+  pub mine : q.mine ≡ p.mine ++ mine_of p.analyst added
+  pub answer : answers before after
 
--- a pass has heard more, and nothing was done for its analyst
-abbrev pub HasHeard : Pass → Pass → Type 0
-HasHeard p q = (q.analyst ≡ p.analyst) × ((q.done ≡ p.done) × (q.ended ≡ p.ended))
+-- this entry of the analyst was added
+pub record AddsOwn (p q : PassView) (entry : ℕ → Entry) : Type 0 where
+  pub analyst : ℕ
+  pub is : p.analyst ≡ Some analyst
+  pub mine : q.mine ≡ p.mine ++ entry analyst ∷ []
 
--- a pass has heard more, and commands of its analyst may have been done
-abbrev pub IsOfSame : Pass → Pass → Type 0
-IsOfSame p q = (q.analyst ≡ p.analyst) × (q.ended ≡ p.ended)
+-- ---- handing over
+-- a pass with no analyst that has seen as much
+abbrev pub worker_pass : PassView → PassView
+worker_pass p = record { table = p.table; session = p.session; analyst = None; seen = p.seen; mine = []; ended = false }
 
--- a pass whose analyst's script is at its end
-abbrev pub ended_pass : Pass → Pass
-ended_pass p = record { analyst = p.analyst; front = p.front; newest_seen = p.newest_seen; done = p.done; ended = true }
+-- p took w in, and is q now: what was seen is the longer of both, which the other begins
+pub record Merged (p w q : PassView) : Type 0 where
+  pub same : IsSamePass p q
+  pub still : HasNotMoved p q
+  pub one : (q.seen ≡ p.seen) ⊎ (q.seen ≡ w.seen)
+  pub first : IsPrefix p.seen q.seen
+  pub second : IsPrefix w.seen q.seen
 
--- an advance was answered; the script has ended where it had before, or where the answer says so
-abbrev pub HasMoved : Pass → Pass → Bool → Type 0
-HasMoved p q ended = (q.analyst ≡ p.analyst) × (q.ended ≡ p.ended || ended)
-
--- the first has heard what the longer of both has
-abbrev pub HasTakenBack : Pass → Pass → Pass → Type 0
-HasTakenBack p worker q =
-    HasHeard p q
-    × ((p.front < worker.front → (q.front ≡ worker.front) × (q.newest_seen ≡ worker.newest_seen))
-    × (worker.front ≤ p.front → (q.front ≡ p.front) × (q.newest_seen ≡ p.newest_seen)))
+-- ---- closing
+-- the history begins with what the pass had seen, and its entries of the analyst are exactly what was added through the pass
+pub record Stands (log : List Entry) (p : PassView) : Type 0 where
+  pub begins : IsPrefix p.seen log
+  pub exact : p.mine ≡ mine_of p.analyst log

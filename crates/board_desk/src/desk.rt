@@ -1,56 +1,102 @@
-ghost use Rattle.board_desk.specs.Passes.{HaveAnalysts, first_passes as passes_to};
-ghost use Rattle.std.specs.Prelude.{◌≡◌, ◌≢◌, ◌<◌, ◌-◌, ◌^◌, IfOk, None, Some};
+ghost use Rattle.board_desk.specs.Answers.{tells_end};
+ghost use Rattle.board_desk.specs.Mine.{mine_of};
+ghost use Rattle.board_desk.specs.Passes.{HaveAnalysts, IsPassOf, PassView, Stands, desk_of, first_passes as passes_to};
+ghost use Rattle.board_desk.specs.Rules.{Merges, longer_of};
+ghost use Rattle.std.specs.Prelude.{◌≡◌, ◌≢◌, ◌+◌, ◌-◌, ◌<◌, ◌^◌, ◌||◌, [], All, IfOk, None, Some, false, true};
 
-use crate::pass::Pass;
+use crate::law::{Copied, Enroll, Law, Look, Return, Settle, Sit, View};
+use crate::lock::{Hall, Place, WORDS, give_board, take_board};
+use crate::pass::{Heard, Pass};
 use crate::stamped::Stamped;
+use atomic_table::Table;
 use certificates::{SeamResult, TileResult};
+use raster_model::Session;
 use std::alloc::{AllocError, Global};
-use std::sync::{Mutex, Wait};
+use std::marker::Model;
+use std::snapshot::Snapshot;
+use std::sync::Wait;
 use tile_board::{
     Advance, AdvanceFault, Board, ClaimFault, GatherFault, Gathered, KeepFault, PublishFault,
     Ticket,
 };
 
-/// A session's board behind a lock, which only one call holds at a time. No tile is solved while it is held.
+/// A session's board behind a lock, which only one call holds at a time, in the order in which the calls came. No tile is
+/// solved while it is held.
 #[derive(Drop)]
 pub struct Desk {
-    board: Mutex<Board>,
+    table: Table<Option<Board>, View, Snapshot<Session>, Law, Global>,
+}
+
+impl Model for Desk {
+    ghost use Rattle.board_desk.specs.Passes.{DeskView, desk_of};
+    ghost use Rattle.std.specs.Prelude.{◌≡◌};
+
+    ghost Value = { DeskView };
+
+    ghost view = { λ d. desk_of d.table.shared.table_id d.table.shared.key.value };
+
+    ghost invariant = { λ d. (d.table.shared.table_id.words ≡ 67) × (d.table.shared.table_id.slots ≡ 1) };
 }
 
 impl Desk {
-    ghost use Rattle.board_desk.specs.Answers.{tells_end};
+    ghost use Rattle.board_desk.specs.Answers.{AdvanceAnswers, AwaitsSurface, ClaimAnswers, GatherAnswers, IsOfSettle, IsUpToDate, KeepAnswers, OwnAdvance, OwnPublish, PublishAnswers, tells_end};
+    ghost use Rattle.board_desk.specs.Passes.{Called, HasNotMoved, HaveAnalysts, IsAtSettle, IsPassOf, Merged, Stands, first_passes as passes_to, worker_pass as new_worker};
+    ghost use Rattle.std.specs.Prelude.{◌≡◌, ◌≢◌, ◌||◌, [], All, Err, IfOk, None, length, vec_len};
+    ghost use Rattle.tile_board.specs.declared.answers.PublishFault.TheVariants.{NotSettle};
     ghost use Rattle.tile_board.specs.Boards.{IsBoard};
-    ghost use Rattle.board_desk.specs.Passes.{HasHeard, HasMoved, HaveAnalysts, HasTakenBack, IsOfSame, first_passes as passes_to, worker_pass as new_worker};
-    ghost use Rattle.std.specs.Prelude.{◌≡◌, ◌≢◌, [], IfOk, None, vec_len};
 
     /// The desk of a board without history, and a pass for each analyst, in order.
     pub fn open(alloc: Global, board: Board) -> Result<(Desk, Vec<Pass>), AllocError>
         requires { board.entries ≡ [] }
-        ensures passes { IfOk result (λ made. made.1.items ≡ passes_to (vec_len board.session.scripts)) }
+        ensures session { IfOk result (λ made. made.0.session ≡ board.session) }
+        ensures passes { IfOk result (λ made. made.1.items ≡ passes_to made.0 (vec_len board.session.scripts)) }
+        ensures own { IfOk result (λ made. All (IsPassOf made.0) made.1.items) }
         ensures analysts { IfOk result (λ made. HaveAnalysts made.1.items) }
     {
         let analysts = board.session().scripts.len() as u32;
-        let passes = first_passes(alloc, analysts)?;
-        let desk = Desk {
-            board: Mutex::new(board),
+        let session = Snapshot::of(&**board.session());
+        let mut slots = Vec::with_capacity(alloc, 1)?;
+        slots.push(Some(board))?;
+        let words = vec![in alloc; 0; WORDS]?;
+        let Ok((table, mut giver)) = Table::new(alloc, &words, slots, &session) else {
+            return Err(AllocError);
         };
-        Ok((desk, passes))
+        let passes = first_passes(alloc, &table.shared, &mut giver, analysts)?;
+        Ok((Desk { table }, passes))
     }
 
-    /// A worker's pass that has heard what another has.
+    /// A worker's pass, by which as much was seen as by another.
     pub fn worker_pass<R: Wait>(&self, _rt: &R, from: &mut Pass) -> Pass
-        ensures worker { result ≡ new_worker from.old }
+        requires { IsPassOf self.now from.old }
         ensures same { from.new ≡ from.old }
+        ensures worker { result ≡ new_worker from.old }
     {
-        from.worker()
+        let seat = self.table.shared.split_seat::<Copied>(&mut from.seat);
+        Pass {
+            seat,
+            analyst: None,
+            heard: Heard {
+                front: from.heard.front,
+                newest: from.heard.newest,
+                done: 0,
+            },
+            ended: false,
+        }
     }
 
-    /// Takes a worker's pass back: the other has then heard what the longer of both has.
+    /// Takes a worker's pass back: by the other, what was seen is then the longer of both.
     pub fn give_back<R: Wait>(&self, _rt: &R, into: &mut Pass, worker: Pass)
-        requires { worker.analyst ≡ None }
-        ensures { HasTakenBack into.old worker into.new }
+        requires into { IsPassOf self.now into.old }
+        requires worker { IsPassOf self.now worker }
+        requires unnamed { worker.analyst ≡ None }
+        ensures { Merged into.old worker into.new }
     {
-        into.take_back(&worker);
+        let Pass { seat, heard, .. } = worker;
+        take_in(&self.table.shared, &mut into.seat, seat);
+        if into.heard.front < heard.front {
+            into.heard.front = heard.front;
+            into.heard.newest = heard.newest;
+        }
     }
 
     /// Asks for a tile to solve.
@@ -60,14 +106,17 @@ impl Desk {
         alloc: Global,
         pass: &mut Pass,
     ) -> Stamped<Result<Ticket, ClaimFault>>
-        ensures front { result.front ≡ pass.new.front }
-        ensures heard { HasHeard pass.old pass.new }
+        requires { IsPassOf self.now pass.old }
+        ensures call { Called self.now.session pass.old pass.new (ClaimAnswers result.answer) }
+        ensures own { HasNotMoved pass.old pass.new }
+        ensures front { result.front ≡ length pass.new.seen }
     {
-        let mut board = self.board.lock(rt);
+        let mut board = take_board(rt, &self.table.shared, &mut pass.seat);
         let answer = board.claim(alloc);
-        pass.hear(&board);
+        pass.heard = Heard::of(&board, pass.analyst);
+        give_board(&self.table.shared, &mut pass.seat, board);
         Stamped {
-            front: pass.front(),
+            front: pass.heard.front,
             answer,
         }
     }
@@ -80,14 +129,17 @@ impl Desk {
         pass: &mut Pass,
         solved: TileResult,
     ) -> Stamped<Result<(), KeepFault>>
-        ensures front { result.front ≡ pass.new.front }
-        ensures heard { HasHeard pass.old pass.new }
+        requires { IsPassOf self.now pass.old }
+        ensures call { Called self.now.session pass.old pass.new (KeepAnswers solved result.answer) }
+        ensures own { HasNotMoved pass.old pass.new }
+        ensures front { result.front ≡ length pass.new.seen }
     {
-        let mut board = self.board.lock(rt);
+        let mut board = take_board(rt, &self.table.shared, &mut pass.seat);
         let answer = board.keep(alloc, solved);
-        pass.hear(&board);
+        pass.heard = Heard::of(&board, pass.analyst);
+        give_board(&self.table.shared, &mut pass.seat, board);
         Stamped {
-            front: pass.front(),
+            front: pass.heard.front,
             answer,
         }
     }
@@ -99,14 +151,17 @@ impl Desk {
         alloc: Global,
         pass: &mut Pass,
     ) -> Stamped<Result<Gathered, GatherFault>>
-        ensures front { result.front ≡ pass.new.front }
-        ensures heard { HasHeard pass.old pass.new }
+        requires { IsPassOf self.now pass.old }
+        ensures call { Called self.now.session pass.old pass.new (GatherAnswers result.answer) }
+        ensures own { HasNotMoved pass.old pass.new }
+        ensures front { result.front ≡ length pass.new.seen }
     {
-        let board = self.board.lock(rt);
+        let board = take_board(rt, &self.table.shared, &mut pass.seat);
         let answer = board.gather(alloc);
-        pass.hear(&board);
+        pass.heard = Heard::of(&board, pass.analyst);
+        give_board(&self.table.shared, &mut pass.seat, board);
         Stamped {
-            front: pass.front(),
+            front: pass.heard.front,
             answer,
         }
     }
@@ -119,16 +174,21 @@ impl Desk {
         pass: &mut Pass,
         seams: SeamResult,
     ) -> Stamped<Result<(), PublishFault>>
-        requires { pass.old.analyst ≢ None }
-        ensures front { result.front ≡ pass.new.front }
-        ensures heard { IsOfSame pass.old pass.new }
+        requires pass { IsPassOf self.now pass.old }
+        requires analyst { pass.old.analyst ≢ None }
+        ensures call { Called self.now.session pass.old pass.new (PublishAnswers pass.old.analyst seams result.answer) }
+        ensures own { OwnPublish pass.old pass.new seams result.answer }
+        ensures settles { IsAtSettle self.now.session pass.old → result.answer ≢ Err NotSettle }
+        ensures ended { pass.new.ended ≡ pass.old.ended }
+        ensures front { result.front ≡ length pass.new.seen }
     {
         let analyst = number(pass);
-        let mut board = self.board.lock(rt);
+        let mut board = take_board(rt, &self.table.shared, &mut pass.seat);
         let answer = board.publish(alloc, analyst, seams);
-        pass.hear_own(&board, analyst);
+        pass.heard = Heard::of(&board, pass.analyst);
+        give_board(&self.table.shared, &mut pass.seat, board);
         Stamped {
-            front: pass.front(),
+            front: pass.heard.front,
             answer,
         }
     }
@@ -140,28 +200,42 @@ impl Desk {
         alloc: Global,
         pass: &mut Pass,
     ) -> Stamped<Result<Advance, AdvanceFault>>
-        requires { pass.old.analyst ≢ None }
-        ensures front { result.front ≡ pass.new.front }
-        ensures moved { HasMoved pass.old pass.new (tells_end result.answer) }
+        requires pass { IsPassOf self.now pass.old }
+        requires analyst { pass.old.analyst ≢ None }
+        ensures call { Called self.now.session pass.old pass.new (AdvanceAnswers pass.old.analyst result.answer) }
+        ensures own { OwnAdvance pass.old pass.new result.answer }
+        ensures ended { pass.new.ended ≡ pass.old.ended || tells_end result.answer }
+        ensures fresh { IsUpToDate pass.old pass.new result.answer }
+        ensures waits { AwaitsSurface self.now.session pass.new result.answer }
+        ensures settles { IsAtSettle self.now.session pass.old → IsOfSettle result.answer }
+        ensures front { result.front ≡ length pass.new.seen }
     {
         let analyst = number(pass);
-        let mut board = self.board.lock(rt);
+        let mut board = take_board(rt, &self.table.shared, &mut pass.seat);
         let answer = board.advance(alloc, analyst);
-        pass.hear_own(&board, analyst);
-        if answer == Ok(Advance::Ended) {
-            pass.end();
-        }
+        pass.heard = Heard::of(&board, pass.analyst);
+        give_board(&self.table.shared, &mut pass.seat, board);
+        pass.ended = has_ended(pass.ended, &answer);
         Stamped {
-            front: pass.front(),
+            front: pass.heard.front,
             answer,
         }
     }
 
     /// Ends the work: the board is given out, and the passes are of no more use.
-    pub fn close<R: Wait>(self, _rt: &R, _passes: Vec<Pass>) -> Board
-        ensures { IsBoard result }
+    pub fn close<R: Wait>(self, rt: &R, mut passes: Vec<Pass>) -> Board
+        requires { All (IsPassOf self) passes.items }
+        ensures board { IsBoard result }
+        ensures session { result.session ≡ self.session }
+        ensures stands { All (Stands result.entries) passes.items }
     {
-        self.board.into_inner()
+        let Desk { table } = self;
+        let (_, mut seat) = table.shared.load_new_seat::<Sit>(0);
+        let board = take_board(rt, &table.shared, &mut seat);
+        while let Some(pass) = passes.pop() {
+            meet(&table.shared, &mut seat, pass);
+        }
+        board
     }
 }
 
@@ -170,21 +244,87 @@ fn number(pass: &Pass) -> u32
     requires { pass.now.analyst ≢ None }
     ensures { Some result ≡ pass.now.analyst }
 {
-    match pass.analyst() {
+    match pass.analyst {
         Some(analyst) => analyst,
         None => unreachable!(),
     }
 }
 
-/// The passes of the analysts from 1 on, in order.
-fn first_passes(alloc: Global, analysts: u32) -> Result<Vec<Pass>, AllocError>
-    requires { analysts < 2 ^ 32 - 1 }
-    ensures passes { IfOk result (λ passes. passes.items ≡ passes_to analysts) }
+/// Whether a script has ended: it had before, or an answer says so.
+fn has_ended(before: bool, answer: &Result<Advance, AdvanceFault>) -> bool
+    ensures { result ≡ before || tells_end answer.now }
+{
+    before || *answer == Ok(Advance::Ended)
+}
+
+/// The passes of the analysts from 1 on, in order. The giver has given out no number yet.
+fn first_passes(
+    alloc: Global,
+    hall: &Hall,
+    giver: &mut Place,
+    analysts: u32,
+) -> Result<Vec<Pass>, AllocError>
+    requires few { analysts < 2 ^ 32 - 1 }
+    requires shape { hall.now.table_id.words ≡ 67 }
+    requires own { giver.old.table_id ≡ hall.now.table_id }
+    requires gives { (giver.old.me.0.gives ≡ true) × (giver.old.me.0.next ≡ 1) × (giver.old.me.0.own.seen ≡ []) × (giver.old.me.0.session ≡ Some hall.now.key.value) }
+    ensures passes { IfOk result (λ passes. passes.items ≡ passes_to (desk_of hall.now.table_id hall.now.key.value) analysts) }
+    ensures own { IfOk result (λ passes. All (IsPassOf (desk_of hall.now.table_id hall.now.key.value)) passes.items) }
     ensures analysts { IfOk result (λ passes. HaveAnalysts passes.items) }
 {
     let mut passes = Vec::with_capacity(alloc, analysts as usize)?;
     for before in 0..analysts {
-        passes.push(Pass::first(before + 1))?;
+        passes.push(enroll(hall, giver, before + 1))?;
     }
     Ok(passes)
+}
+
+/// A pass whose seat has the number of an analyst, which is the next one.
+fn enroll(hall: &Hall, giver: &mut Place, number: u32) -> Pass
+    requires shape { hall.now.table_id.words ≡ 67 }
+    requires own { giver.old.table_id ≡ hall.now.table_id }
+    requires gives { (giver.old.me.0.gives ≡ true) × (giver.old.me.0.next ≡ number) × (giver.old.me.0.own.seen ≡ []) }
+    ensures own { giver.new.table_id ≡ giver.old.table_id }
+    ensures gives { (giver.new.me.0.gives ≡ true) × (giver.new.me.0.next ≡ number + 1) × (giver.new.me.0.own.seen ≡ []) × (giver.new.me.0.session ≡ giver.old.me.0.session) }
+    ensures pass { result ≡ record { table = giver.old.table_id; session = giver.old.me.0.session; analyst = Some number; seen = []; mine = []; ended = false } }
+{
+    let seat = hall.split_seat::<Enroll>(giver);
+    Pass {
+        seat,
+        analyst: Some(number),
+        heard: Heard {
+            front: 0,
+            newest: None,
+            done: 0,
+        },
+        ended: false,
+    }
+}
+
+/// A seat takes in another, and has then seen the longer of both histories.
+fn take_in(hall: &Hall, seat: &mut Place, other: Place)
+    requires shape { hall.now.table_id.words ≡ 67 }
+    requires own { (seat.old.table_id ≡ hall.now.table_id) × (other.table_id ≡ hall.now.table_id) }
+    requires idle { (seat.old.me.1 ≡ []) × (seat.old.me.0.holds ≡ false) × (other.me.1 ≡ []) }
+    ensures own { (seat.new.table_id ≡ seat.old.table_id) × (seat.new.id ≡ seat.old.id) }
+    ensures now { seat.new.me ≡ (longer_of seat.old.me.0 other.me.0, []) }
+    ensures exact { seat.new.me.0.own.mine ≡ mine_of seat.new.me.0.own.analyst seat.new.me.0.own.seen }
+    ensures merged { Merges seat.old.me.0 other.me.0 seat.new.me.0 }
+{
+    hall.join_seat::<Return>(seat, other);
+    hall.load::<Look>(seat, 0);
+}
+
+/// The seat that has the board takes a pass in, and sees that it stands in the board's history.
+fn meet(hall: &Hall, first: &mut Place, other: Pass)
+    requires shape { hall.now.table_id.words ≡ 67 }
+    requires own { (first.old.table_id ≡ hall.now.table_id) × (other.table ≡ hall.now.table_id) }
+    requires holds { first.old.me.0.holds ≡ true }
+    ensures own { first.new.table_id ≡ first.old.table_id }
+    ensures holds { (first.new.me.0.holds ≡ true) × (first.new.me.0.own ≡ first.old.me.0.own) }
+    ensures stands { Stands first.old.me.0.own.seen other }
+{
+    let Pass { seat, .. } = other;
+    hall.join_seat::<Settle>(first, seat);
+    hall.load::<Look>(first, 0);
 }

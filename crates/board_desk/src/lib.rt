@@ -1,8 +1,10 @@
-//! The board behind one lock. Each analyst and each worker has a pass, by which the desk is asked, and an answer is the
-//! board's at one point of its history.
+//! The board behind a lock that serves calls in their order. Each analyst and each worker has a pass, by which the desk is
+//! asked. An answer is the board's at one point of its history, which begins with all that the pass had seen.
 #![tactic(auto)]
 
 mod desk;
+mod law;
+mod lock;
 mod pass;
 mod stamped;
 

@@ -1,77 +1,75 @@
-ghost use Rattle.board_desk.specs.Passes.{HasHeard, IsOfSame, HasTakenBack, ended_pass, first_pass, worker_pass as new_worker};
-ghost use Rattle.std.specs.Prelude.{◌≡◌};
+ghost use Rattle.board_desk.specs.Mine.{mine_of};
+ghost use Rattle.std.specs.Prelude.{◌≡◌, length};
+ghost use Rattle.tile_board.specs.Boards.{IsBoard};
+ghost use Rattle.tile_board.specs.Histories.{newest_of};
 
+use crate::lock::Place;
+use std::marker::Model;
 use tile_board::Board;
 
-/// What an analyst or a worker asks the desk by: who that is, and what was heard so far.
+/// What an analyst or a worker asks the desk by. It knows how much of the history was seen through it, and what was added in
+/// the analyst's name.
 #[derive(Drop)]
 pub struct Pass {
-    analyst: Option<u32>,
-    front: u64,
-    newest_seen: Option<u32>,
-    done: u32,
-    ended: bool,
+    pub(crate) seat: Place,
+    pub(crate) analyst: Option<u32>,
+    pub(crate) heard: Heard,
+    pub(crate) ended: bool,
+}
+
+impl Model for Pass {
+    ghost use Rattle.board_desk.specs.Passes.{IsSound, PassView};
+    ghost use Rattle.board_desk.specs.Seats.{IsHeard, pass_view};
+    ghost use Rattle.std.specs.Prelude.{◌≡◌, [], false};
+
+    ghost Value = { PassView };
+
+    ghost view = { λ p. pass_view p.seat.table_id p.seat.me p.ended };
+
+    ghost invariant = { λ p. (p.seat.me.1 ≡ []) × (p.seat.me.0.holds ≡ false) × (p.seat.me.0.own.analyst ≡ p.analyst) × IsHeard (pass_view p.seat.table_id p.seat.me p.ended) p.heard × IsSound (pass_view p.seat.table_id p.seat.me p.ended) };
+}
+
+/// What a pass remembers of the history that was seen through it.
+#[derive(Clone, Copy)]
+pub(crate) struct Heard {
+    /// Its length.
+    pub(crate) front: u64,
+    /// Its newest publication.
+    pub(crate) newest: Option<u32>,
+    /// How many of its entries name the analyst.
+    pub(crate) done: u32,
+}
+
+impl Heard {
+    /// What there is to remember of a board's history.
+    pub(crate) fn of(board: &Board, analyst: Option<u32>) -> Heard
+        ensures front { result.front ≡ length board.now.entries }
+        ensures newest { result.newest ≡ newest_of board.now.entries }
+        ensures done { result.done ≡ length (mine_of analyst board.now.entries) }
+        ensures board { IsBoard board.now }
+    {
+        Heard {
+            front: board.entries().len() as u64,
+            newest: board.newest(),
+            done: own_count(board, analyst),
+        }
+    }
+}
+
+/// How many entries of a board's history name an analyst.
+fn own_count(board: &Board, analyst: Option<u32>) -> u32
+    ensures { result ≡ length (mine_of analyst board.now.entries) }
+{
+    match analyst {
+        Some(number) => board.done(number),
+        None => 0,
+    }
 }
 
 impl Pass {
-    /// The pass of an analyst, before the first entry.
-    pub(crate) fn first(analyst: u32) -> Pass
-        ensures { result ≡ first_pass analyst }
-    {
-        Pass {
-            analyst: Some(analyst),
-            front: 0,
-            newest_seen: None,
-            done: 0,
-            ended: false,
-        }
-    }
-
-    /// A worker's pass that has heard what this one has.
-    pub(crate) fn worker(&self) -> Pass
-        ensures { result ≡ new_worker self.now }
-    {
-        Pass {
-            analyst: None,
-            front: self.front,
-            newest_seen: self.newest_seen,
-            done: 0,
-            ended: false,
-        }
-    }
-
-    /// Hears of the board's history.
-    pub(crate) fn hear(&mut self, board: &Board)
-        ensures heard { HasHeard self.old self.new }
-    {
-        self.front = board.entries().len() as u64;
-        self.newest_seen = board.newest();
-    }
-
-    /// Hears of the board's history, in which a command of the pass's analyst may have been done.
-    pub(crate) fn hear_own(&mut self, board: &Board, analyst: u32)
-        ensures heard { IsOfSame self.old self.new }
-    {
-        self.hear(board);
-        self.done = board.done(analyst);
-    }
-
-    /// Hears what a worker's pass has heard, where that is more.
-    pub(crate) fn take_back(&mut self, worker: &Pass)
-        ensures { HasTakenBack self.old worker.now self.new }
-    {
-        if self.front < worker.front {
-            self.front = worker.front;
-            self.newest_seen = worker.newest_seen;
-        }
-    }
-
-    /// Remembers that the script is at its end.
-    pub(crate) fn end(&mut self)
-        ensures { self.new ≡ ended_pass self.old }
-    {
-        self.ended = true;
-    }
+    ghost use Rattle.board_desk.specs.Passes.{IsSound};
+    ghost use Rattle.std.specs.Prelude.{◌≡◌, length};
+    ghost use Rattle.tile_board.specs.Histories.{newest_of};
 
     /// The analyst, numbered from 1; None for a worker.
     pub fn analyst(&self) -> Option<u32>
@@ -80,30 +78,31 @@ impl Pass {
         self.analyst
     }
 
-    /// The length of the longest history that was heard of.
+    /// The length of the longest history that was seen.
     pub fn front(&self) -> u64
-        ensures { result ≡ self.now.front }
+        ensures { result ≡ length self.now.seen }
     {
-        self.front
+        self.heard.front
     }
 
     /// The newest published revision of that history; None where it has none.
     pub fn newest_seen(&self) -> Option<u32>
-        ensures { result ≡ self.now.newest_seen }
+        ensures { result ≡ newest_of self.now.seen }
     {
-        self.newest_seen
+        self.heard.newest
     }
 
     /// How many commands of the analyst's script are done.
     pub fn done(&self) -> u32
-        ensures { result ≡ self.now.done }
+        ensures { result ≡ length self.now.mine }
     {
-        self.done
+        self.heard.done
     }
 
     /// Whether the desk has answered that the analyst's script is at its end.
     pub fn ended(&self) -> bool
-        ensures { result ≡ self.now.ended }
+        ensures value { result ≡ self.now.ended }
+        ensures sound { IsSound self.now }
     {
         self.ended
     }

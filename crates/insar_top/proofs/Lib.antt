@@ -5,7 +5,7 @@ pub mod CheckStatus
 pub mod OneVerdict
 pub mod VerdictLemmas
 pub mod ListLemmas
-pub mod SameLemmas
+pub mod BoardLemmas
 pub mod LastSurface
 pub mod GridLemmas
 pub mod OneScript

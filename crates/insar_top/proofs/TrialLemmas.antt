@@ -29,10 +29,8 @@ use Rattle.trial_maker.specs.declared.fault.TrialFault.{TrialFault}
 use Rattle.trial_maker.specs.declared.fault.TrialFault.TheVariants as trial_faults
 use Rattle.insar_top.specs.Refusals.{refusal_of_trial}
 use Rattle.insar_top.specs.Grids.{last_settled, settled_revisions}
-use Rattle.insar_top.specs.Same.{TellsSame}
 use Rattle.insar_top.specs.TrialLines.{AreLinesOf, HasTrialCause, IsLeastCost, IsLeastInTiles, IsTrialText, TrialsHaveOneText, count_grid, count_row, four_lines, open_pixels_of, residues_of}
 use Rattle.insar_top.proofs.OneScript.{newest_settled}
-use Rattle.insar_top.proofs.SameLemmas.{same_mask}
 use Rattle.sums_and_lists.specs.Sums.{count_below, one_if}
 use Rattle.sums_and_lists.proofs.SumLemmas.{sum_below-same}
 
@@ -41,18 +39,9 @@ use Rattle.sums_and_lists.proofs.SumLemmas.{sum_below-same}
 abbrev sample_in : PlaneOf → Field ℕ
 sample_in p x y = slice_index p.samples (y * p.width + x)
 
--- what tells the same as a trial's session is a trial's session
-pub trial_again : (seed w h side : ℕ) (rule : RuleKind) (s t : Session) → TellsSame s t → IsTrial seed w h side rule t → IsTrial seed w h side rule s
-trial_again seed w h side rule s t same is = record {
-  size = (ap (λ (p : PlaneOf). p.width) same.text.phase ∙ is.size.0, ap (λ (p : PlaneOf). p.height) same.text.phase ∙ is.size.1);
-  phases = λ x y l m. ap (λ (p : PlaneOf). sample_in p x y) same.text.phase ∙ is.phases x y l m;
-  greatest_weight = ap (λ (p : PlaneOf). p.maxval) same.text.weights ∙ is.greatest_weight;
-  weights = λ x y l m. ap (λ (p : PlaneOf). sample_in p x y) same.text.weights ∙ is.weights x y l m;
-  mask = same_mask s.first_mask t.first_mask w h (λ x y. is_open (state_at seed w x y)) (rw (is.size.0, is.size.1) at same.text.mask) is.mask;
-  tiles = same.side ∙ is.tiles;
-  rule = same.rule ∙ is.rule;
-  scripts = same.text.scripts ∙ is.scripts;
-}
+-- the board's session is the trial's
+pub trial_again : (seed w h side : ℕ) (rule : RuleKind) (s t : Session) → s ≡ t → IsTrial seed w h side rule t → IsTrial seed w h side rule s
+trial_again seed w h side rule s t same is = subst (IsTrial seed w h side rule) (sym same) is
 
 one_script : (scripts : List Script) → AreTrialScripts scripts → (script : Script) × ((scripts ≡ script ∷ []) × (script.commands.items ≡ Settle ∷ Show ∷ []))
 one_script [] e = absurd (cc)

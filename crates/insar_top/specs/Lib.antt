@@ -3,7 +3,6 @@ pub mod Causes
 pub mod Outcomes
 pub mod Refusals
 pub mod Lines
-pub mod Same
 pub mod VerdictLines
 pub mod Checks
 pub mod Grids

@@ -9,7 +9,6 @@ pub mod laws;
 mod reading;
 mod refusal;
 mod request;
-mod same;
 mod session;
 mod stated;
 mod summary;

@@ -1,11 +1,32 @@
--- What passes are before and after the scripts ran.
-use Rattle.std.specs.Prelude.{◌≡◌, ◌<◌, ℕ, List, true, All, length, slice_index_or}
-use Rattle.board_desk.specs.declared.pass.Pass.{Pass}
+-- What passes are after the work of scripts.
+use Rattle.std.specs.Prelude.{◌≡◌, ◌⊎◌, ◌<◌, ℕ, List, Option, Some, None, true, All, length, slice_index_or}
+use Rattle.tile_board.specs.declared.entry.Entry.TheVariants.{Published, Settled}
+use Rattle.board_desk.specs.Mine.{mine_of}
+use Rattle.board_desk.specs.Passes.{AddsOwn, HasNotMoved, IsAtEnd, IsLater, PassView}
 
--- each pass has the analyst that it had
-abbrev pub AreOfSame : List Pass → List Pass → Type 0
-AreOfSame before after = (k : ℕ) (d : Pass) → k < length before → (slice_index_or after k d).analyst ≡ (slice_index_or before k d).analyst
+-- more was seen, and nothing was added in the analyst's name
+pub record HasSeenMore (p q : PassView) : Type 0 where
+  pub later : IsLater p q
+  pub still : HasNotMoved p q
 
--- each pass's script is at its end
-abbrev pub AreEnded : List Pass → Type 0
-AreEnded passes = All (λ pass. pass.ended ≡ true) passes
+-- the analyst's settle command was done at this revision, by the one entry that was added in its name
+abbrev pub HasSettled : PassView → PassView → ℕ → Type 0
+HasSettled p q r = AddsOwn p q (λ a. Published a r) ⊎ AddsOwn p q (λ a. Settled a r)
+
+-- what became of a publication: it was done in the analyst's name, or it was not to be done
+abbrev pub HasPublished : PassView → PassView → Option ℕ → Type 0
+HasPublished p q None = HasNotMoved p q
+HasPublished p q (Some r) = AddsOwn p q (λ a. Published a r)
+
+-- each pass is a later one
+abbrev pub AreLater : List PassView → List PassView → Type 0
+AreLater before after = (k : ℕ) (d : PassView) → k < length before → IsLater (slice_index_or before k d) (slice_index_or after k d)
+
+-- the desk has answered that the analyst's script is at its end; so it is, and what was added in the analyst's name is what was seen of it
+pub record IsDone (p : PassView) : Type 0 where
+  pub ended : p.ended ≡ true
+  pub exact : p.mine ≡ mine_of p.analyst p.seen
+  pub at_end : IsAtEnd p
+
+abbrev pub AreEnded : List PassView → Type 0
+AreEnded passes = All IsDone passes

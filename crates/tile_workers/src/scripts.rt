@@ -1,6 +1,6 @@
-ghost use Rattle.std.specs.Prelude.{◌≡◌, ◌≢◌, None, OnOk};
-ghost use Rattle.board_desk.specs.Passes.{HaveAnalysts};
-ghost use Rattle.tile_workers.specs.Scripts.{AreEnded, AreOfSame};
+ghost use Rattle.board_desk.specs.Passes.{HaveAnalysts, IsLater, IsPassOf};
+ghost use Rattle.std.specs.Prelude.{◌≡◌, ◌≢◌, All, None, OnOk, true};
+ghost use Rattle.tile_workers.specs.Scripts.{AreEnded, AreLater};
 
 use crate::gate::Gate;
 use crate::settling::settle;
@@ -25,22 +25,55 @@ pub fn run_scripts<R: Threads + Wait + Sync, G: Gate>(
     workers: u32,
     gate: &G,
 ) -> Result<(), AllocError>
-    requires { HaveAnalysts passes.old }
-    ensures same { AreOfSame passes.old passes.new }
+    requires passes { All (IsPassOf desk.now) passes.old }
+    requires analysts { HaveAnalysts passes.old }
+    ensures later { AreLater passes.old passes.new }
     ensures ended { OnOk result (AreEnded passes.new) }
 {
-    let run = |_: usize, pass: &mut Pass|
-        requires { pass.now.analyst ≢ None }
-        ensures { pass.exit.now.analyst ≡ pass.entry.now.analyst }
-    {
-        let _run = run_script(rt, alloc, desk, pass, workers, gate);
-    };
-    thread::for_each_mut(rt, passes, MOST_ANALYSTS, &run);
-    if passes.iter().all(Pass::ended) {
+    run_each(rt, alloc, desk, passes, workers, gate);
+    if have_ended(passes) {
         Ok(())
     } else {
         Err(AllocError)
     }
+}
+
+/// Runs the scripts of the passes' analysts, each in a thread of its own.
+fn run_each<R: Threads + Wait + Sync, G: Gate>(
+    rt: &R,
+    alloc: Global,
+    desk: &Desk,
+    passes: &mut [Pass],
+    workers: u32,
+    gate: &G,
+)
+    requires passes { All (IsPassOf desk.now) passes.old }
+    requires analysts { HaveAnalysts passes.old }
+    ensures { AreLater passes.old passes.new }
+{
+    thread::for_each_mut(
+        rt,
+        passes,
+        MOST_ANALYSTS,
+        &|_, pass: &mut Pass|
+            requires { IsPassOf desk.now pass.old × (pass.old.analyst ≢ None) }
+            ensures { IsLater pass.entry.now pass.exit.now }
+        {
+            let _run = run_script(rt, alloc, desk, pass, workers, gate);
+        },
+    );
+}
+
+/// Whether the desk has answered of each pass that its script is at its end.
+fn have_ended(passes: &[Pass]) -> bool
+    ensures { result ≡ true → AreEnded passes.now }
+{
+    for pass in passes {
+        if !pass.ended() {
+            return false;
+        }
+    }
+    true
 }
 
 /// Runs the script of a pass's analyst to its end.
@@ -52,8 +85,9 @@ fn run_script<R: Threads + Wait + Sync, G: Gate>(
     workers: u32,
     gate: &G,
 ) -> Result<(), AllocError>
-    requires { pass.old.analyst ≢ None }
-    ensures { pass.new.analyst ≡ pass.old.analyst }
+    requires pass { IsPassOf desk.now pass.old }
+    requires analyst { pass.old.analyst ≢ None }
+    ensures { IsLater pass.old pass.new }
 {
     for _ in rt.forever() {
         match desk.advance(rt, alloc, pass).answer {

@@ -1,4 +1,6 @@
-ghost use Rattle.std.specs.Prelude.{◌≡◌, ◌≢◌, None};
+ghost use Rattle.board_desk.specs.Passes.{HasNotMoved, IsAtSettle, IsLater, IsPassOf};
+ghost use Rattle.std.specs.Prelude.{◌≡◌, ◌≢◌, All, IfOk, IfSome, None, OnErr};
+ghost use Rattle.tile_workers.specs.Scripts.{HasPublished, HasSeenMore, HasSettled};
 
 use crate::gate::Gate;
 use crate::solving::Worker;
@@ -14,8 +16,8 @@ use tile_board::{Advance, AdvanceFault, GatherFault, Gathered, PublishFault};
 /// The most workers that run at once.
 const MAX_CREW: usize = MAX_WORKERS as usize;
 
-/// Does the settle command of a pass's analyst, and answers the revision that is published. Workers solve the tiles, each in
-/// a thread of its own. It is refused for want of memory alone, and then some of the tiles may be solved.
+/// Does the next command of a pass's analyst, which is to settle, and answers the revision that is published. Workers solve
+/// the tiles, each in a thread of its own. It is refused for want of memory alone, and then some of the tiles may be solved.
 pub fn settle<R: Threads + Wait + Sync, G: Gate>(
     rt: &R,
     alloc: Global,
@@ -24,15 +26,18 @@ pub fn settle<R: Threads + Wait + Sync, G: Gate>(
     workers: u32,
     gate: &G,
 ) -> Result<u32, AllocError>
-    requires { pass.old.analyst ≢ None }
-    ensures { pass.new.analyst ≡ pass.old.analyst }
+    requires pass { IsPassOf desk.now pass.old }
+    requires next { IsAtSettle desk.now.session pass.old }
+    ensures later { IsLater pass.old pass.new }
+    ensures settled { IfOk result (HasSettled pass.old pass.new) }
+    ensures unsettled { OnErr result (HasNotMoved pass.old pass.new) }
+    ensures ended { pass.new.ended ≡ pass.old.ended }
 {
     for _ in rt.forever() {
         match desk.advance(rt, alloc, pass).answer {
             Ok(Advance::NotYet(_)) => {}
             Ok(Advance::Settled(revision)) => return Ok(revision),
-            // The command is no settle command.
-            Ok(Advance::Revised(_) | Advance::Shown(_) | Advance::Ended) => return Ok(0),
+            Ok(Advance::Revised(_) | Advance::Shown(_) | Advance::Ended) => unreachable!(),
             Err(AdvanceFault::Memory) => return Err(AllocError),
         }
         solve_tiles(rt, alloc, desk, pass, workers, gate)?;
@@ -52,19 +57,25 @@ fn solve_tiles<R: Threads + Wait + Sync, G: Gate>(
     workers: u32,
     gate: &G,
 ) -> Result<(), AllocError>
-    ensures { pass.new.analyst ≡ pass.old.analyst }
+    requires { IsPassOf desk.now pass.old }
+    ensures { HasSeenMore pass.old pass.new }
 {
     let mut workers = hire(rt, alloc, desk, pass, workers)?;
     thread::for_each_mut(
         rt,
         &mut workers,
         MAX_CREW,
-        &|_, worker| { worker.work(rt, alloc, desk, gate) },
+        &|_, worker: &mut Worker|
+            requires { IsPassOf desk.now worker.old.pass }
+            ensures { HasSeenMore worker.entry.now.pass worker.exit.now.pass }
+        {
+            worker.work(rt, alloc, desk, gate);
+        },
     );
     dismiss(rt, desk, pass, workers)
 }
 
-/// Workers that have heard what a pass has.
+/// Workers that have seen what a pass has.
 fn hire<R: Wait>(
     rt: &R,
     alloc: Global,
@@ -72,7 +83,9 @@ fn hire<R: Wait>(
     pass: &mut Pass,
     count: u32,
 ) -> Result<Vec<Worker>, AllocError>
-    ensures { pass.new ≡ pass.old }
+    requires { IsPassOf desk.now pass.old }
+    ensures same { pass.new ≡ pass.old }
+    ensures own { IfOk result (λ workers. All (λ worker. IsPassOf desk.now worker.pass) workers.items) }
 {
     let mut workers = Vec::with_capacity(alloc, count as usize)?;
     for before in 0..count {
@@ -90,12 +103,14 @@ fn dismiss<R: Wait>(
     rt: &R,
     desk: &Desk,
     pass: &mut Pass,
-    workers: Vec<Worker>,
+    mut workers: Vec<Worker>,
 ) -> Result<(), AllocError>
-    ensures { pass.new.analyst ≡ pass.old.analyst }
+    requires pass { IsPassOf desk.now pass.old }
+    requires own { All (λ worker. IsPassOf desk.now worker.pass) workers.items }
+    ensures { HasSeenMore pass.old pass.new }
 {
     let mut starved = false;
-    for worker in workers {
+    while let Some(worker) = workers.pop() {
         starved = starved || worker.starved;
         desk.give_back(rt, pass, worker.pass);
     }
@@ -110,8 +125,12 @@ fn publish<R: Wait>(
     desk: &Desk,
     pass: &mut Pass,
 ) -> Result<Option<u32>, AllocError>
-    requires { pass.old.analyst ≢ None }
-    ensures { pass.new.analyst ≡ pass.old.analyst }
+    requires pass { IsPassOf desk.now pass.old }
+    requires next { IsAtSettle desk.now.session pass.old }
+    ensures later { IsLater pass.old pass.new }
+    ensures published { IfOk result (HasPublished pass.old pass.new) }
+    ensures unpublished { OnErr result (HasNotMoved pass.old pass.new) }
+    ensures ended { pass.new.ended ≡ pass.old.ended }
 {
     let Some(gathered) = gather(rt, alloc, desk, pass)? else {
         return Ok(None);
@@ -120,9 +139,9 @@ fn publish<R: Wait>(
     match desk.publish(rt, alloc, pass, seams).answer {
         Ok(()) => Ok(Some(gathered.revision)),
         Err(PublishFault::Memory) => Err(AllocError),
+        Err(PublishFault::NotSettle) => unreachable!(),
         Err(
-            PublishFault::NotSettle
-            | PublishFault::Stale(_)
+            PublishFault::Stale(_)
             | PublishFault::Double(_)
             | PublishFault::Unready(_)
             | PublishFault::Uncertified(_),
@@ -137,7 +156,8 @@ fn gather<R: Wait>(
     desk: &Desk,
     pass: &mut Pass,
 ) -> Result<Option<Gathered>, AllocError>
-    ensures { pass.new.analyst ≡ pass.old.analyst }
+    requires { IsPassOf desk.now pass.old }
+    ensures { HasSeenMore pass.old pass.new }
 {
     match desk.gather(rt, alloc, pass).answer {
         Ok(gathered) => Ok(Some(gathered)),

@@ -1,5 +1,6 @@
-ghost use Rattle.board_desk.specs.Passes.{HasHeard};
+ghost use Rattle.board_desk.specs.Passes.{IsPassOf};
 ghost use Rattle.std.specs.Prelude.{◌≡◌, None};
+ghost use Rattle.tile_workers.specs.Scripts.{HasSeenMore};
 
 use crate::gate::Gate;
 use board_desk::{Desk, Pass};
@@ -21,7 +22,10 @@ pub(crate) struct Worker {
 
 impl Worker {
     /// Solves tiles until every tile has a kept result, or there is no memory.
-    pub(crate) fn work<R: Wait, G: Gate>(&mut self, rt: &R, alloc: Global, desk: &Desk, gate: &G) {
+    pub(crate) fn work<R: Wait, G: Gate>(&mut self, rt: &R, alloc: Global, desk: &Desk, gate: &G)
+        requires { IsPassOf desk.now self.old.pass }
+        ensures { HasSeenMore self.old.pass self.new.pass }
+    {
         self.starved = solve_all(rt, alloc, desk, &mut self.pass, self.number, gate).is_err();
     }
 }
@@ -35,7 +39,8 @@ fn solve_all<R: Wait, G: Gate>(
     number: u32,
     gate: &G,
 ) -> Result<(), AllocError>
-    ensures { pass.new.analyst ≡ pass.old.analyst }
+    requires { IsPassOf desk.now pass.old }
+    ensures { HasSeenMore pass.old pass.new }
 {
     for _ in rt.forever() {
         match desk.claim(rt, alloc, pass).answer {
@@ -59,7 +64,8 @@ fn solve<R: Wait>(
     pass: &mut Pass,
     ticket: &Ticket,
 ) -> Result<(), AllocError>
-    ensures { pass.new.analyst ≡ pass.old.analyst }
+    requires { IsPassOf desk.now pass.old }
+    ensures { HasSeenMore pass.old pass.new }
 {
     let scene = &ticket.session.scene;
     let solved = solve_tile(alloc, scene, ticket.tile, ticket.stamp, &ticket.unmasked)?;

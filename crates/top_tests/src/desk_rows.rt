@@ -21,8 +21,8 @@ end
 fn a_worker_hears_that_its_result_is_stale(rt: HostRuntime) -> Result<(), Fail> {
     let alloc = rt.alloc();
     let (desk, mut passes) = Desk::open(alloc, board(alloc, 64, TURN)?)?;
-    let _second = last_of(&rt, &mut passes, 2);
-    let mut analyst = last_of(&rt, &mut passes, 1);
+    let _second = last_of(&rt, &desk, &mut passes, 2);
+    let mut analyst = last_of(&rt, &desk, &mut passes, 1);
     let mut worker = desk.worker_pass(&rt, &mut analyst);
     let claimed = desk.claim(&rt, alloc, &mut worker);
     let ticket = claimed.answer?;
@@ -41,8 +41,8 @@ fn a_worker_hears_that_its_result_is_stale(rt: HostRuntime) -> Result<(), Fail> 
 fn an_analyst_hears_of_its_worker(rt: HostRuntime) -> Result<(), Fail> {
     let alloc = rt.alloc();
     let (desk, mut passes) = Desk::open(alloc, board(alloc, 64, TURN)?)?;
-    let _second = last_of(&rt, &mut passes, 2);
-    let mut analyst = last_of(&rt, &mut passes, 1);
+    let _second = last_of(&rt, &desk, &mut passes, 2);
+    let mut analyst = last_of(&rt, &desk, &mut passes, 1);
     assert!(rt; desk.advance(&rt, alloc, &mut analyst).front == 1);
     let mut worker = desk.worker_pass(&rt, &mut analyst);
     let solved = tile_result(alloc, 0, 1, &[0, 0, 0, 0], &[0])?;
@@ -59,8 +59,8 @@ fn an_analyst_hears_of_its_worker(rt: HostRuntime) -> Result<(), Fail> {
 fn a_pass_ends_where_its_script_does(rt: HostRuntime) -> Result<(), Fail> {
     let alloc = rt.alloc();
     let (desk, mut passes) = Desk::open(alloc, board(alloc, 64, TURN)?)?;
-    let mut two = last_of(&rt, &mut passes, 2);
-    let mut one = last_of(&rt, &mut passes, 1);
+    let mut two = last_of(&rt, &desk, &mut passes, 2);
+    let mut one = last_of(&rt, &desk, &mut passes, 1);
     assert!(rt; desk.advance(&rt, alloc, &mut two).front == 1);
     assert!(rt; desk.advance(&rt, alloc, &mut one).front == 2);
     assert!(rt; desk.advance(&rt, alloc, &mut two).front == 3 && !two.ended());
@@ -69,5 +69,39 @@ fn a_pass_ends_where_its_script_does(rt: HostRuntime) -> Result<(), Fail> {
     let board = desk.close(&rt, vec![in alloc; one, two]?);
     let entries = board.entries();
     assert!(rt; entries.len() == 3 && matches!(entries[0], Entry::Revised { analyst: 2, .. }));
+    Ok(())
+}
+
+/// Two analysts on the line in two tiles; each masks an end of it.
+const ENDS: &[u8] = b"P2 4 1 65535 0 40000 14464 54464
+analyst
+mask 3 0 3 0
+settle
+show
+analyst
+mask 0 0 0 0
+settle
+show
+end
+";
+
+/// Two passes of one history: each hears of its own edit, one hears of the other's by a worker, and the closed board has both.
+#[test]
+fn two_passes_stand_in_one_history(rt: HostRuntime) -> Result<(), Fail> {
+    let alloc = rt.alloc();
+    let (desk, mut passes) = Desk::open(alloc, board(alloc, 2, ENDS)?)?;
+    let mut two = last_of(&rt, &desk, &mut passes, 2);
+    let mut one = last_of(&rt, &desk, &mut passes, 1);
+    let first = desk.advance(&rt, alloc, &mut one);
+    assert!(rt; first.front == 1 && first.answer == Ok(Advance::Revised(1)));
+    let second = desk.advance(&rt, alloc, &mut two);
+    assert!(rt; second.front == 2 && second.answer == Ok(Advance::Revised(2)));
+    let worker = desk.worker_pass(&rt, &mut two);
+    desk.give_back(&rt, &mut one, worker);
+    assert!(rt; one.front() == 2 && one.done() == 1);
+    let board = desk.close(&rt, vec![in alloc; one, two]?);
+    let entries = board.entries();
+    assert!(rt; entries.len() == 2 && matches!(entries[0], Entry::Revised { analyst: 1, .. }));
+    assert!(rt; matches!(entries[1], Entry::Revised { analyst: 2, .. }));
     Ok(())
 }

@@ -12,4 +12,6 @@ mod running;
 #[cfg(test)]
 mod top_rows;
 #[cfg(test)]
+mod turn_rows;
+#[cfg(test)]
 mod worker_rows;

@@ -1,6 +1,7 @@
-ghost use Rattle.std.specs.Prelude.{◌≡◌, ◌≢◌, ◌≤◌, [], IfOk, None};
+ghost use Rattle.board_desk.specs.Passes.{IsPassOf};
+ghost use Rattle.std.specs.Prelude.{◌≡◌, ◌≢◌, ◌≤◌, [], All, IfOk, None};
 
-use board_desk::Pass;
+use board_desk::{Desk, Pass};
 use insar_ports::{Feed, MemorySink, MemorySource};
 use insar_top::insar;
 use raster_model::RuleKind;
@@ -79,8 +80,11 @@ pub fn lines_of(text: &str, start: &str) -> usize {
 }
 
 /// The last of the passes, which is this analyst's.
-pub fn last_of(rt: &impl Abort, passes: &mut Vec<Pass>, analyst: u32) -> Pass
-    ensures { result.analyst ≢ None }
+pub fn last_of(rt: &impl Abort, _desk: &Desk, passes: &mut Vec<Pass>, analyst: u32) -> Pass
+    requires { All (IsPassOf _desk.now) passes.old.items }
+    ensures own { IsPassOf _desk.now result }
+    ensures named { result.analyst ≢ None }
+    ensures rest { All (IsPassOf _desk.now) passes.new.items }
 {
     let pass = passes.pop().expect(rt, "a pass for each analyst");
     assert!(rt; pass.analyst() == Some(analyst));

@@ -3,8 +3,8 @@ use Rattle.std.proofs.lemmas.Result.{err_from_is_err_and}
 use Rattle.report_text.specs.Reports.{report_of}
 use Rattle.insar_top.specs.Grids.{IsGridCut}
 use Rattle.insar_top.specs.Outcomes.{Run, run_of}
+use Rattle.insar_top.proofs.BoardLemmas.{read_again}
 use Rattle.insar_top.proofs.GridLemmas.{grid_cut, grid_done}
-use Rattle.insar_top.proofs.SameLemmas.{read_again}
 use Rattle.insar_top.proofs.TopLemmas.{input_cause, is_report}
 use Rattle.insar_top.proofs.grid.run_grid.Goals as goal
 

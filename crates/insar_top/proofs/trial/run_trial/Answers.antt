@@ -5,7 +5,7 @@ use Rattle.insar_top.proofs.TrialLemmas.{trial_again, trial_text, unmade_cause}
 use Rattle.insar_top.proofs.trial.run_trial.Goals as goal
 
 pub summary_of-requires-clause-scripts : goal.summary_of-requires-clause-scripts
-summary_of-requires-clause-scripts g c = c.in_ok-board.ensures.session.text.scripts ∙ c.in_ok-session.ensures.made.scripts
+summary_of-requires-clause-scripts g c = ap (λ (x : Session). x.scripts.items) c.in_ok-board.ensures.session ∙ c.in_ok-session.ensures.made.scripts
 
 pub returns-in_err-session-clause-refused : goal.returns-in_err-session-clause-refused
 returns-in_err-session-clause-refused g c =

@@ -2,7 +2,7 @@ use Rattle.std.proofs.Common.{refl}
 use Rattle.std.proofs.lemmas.Result.{err_from_is_err_and}
 use Rattle.report_text.specs.Reports.{report_of}
 use Rattle.insar_top.specs.Outcomes.{Run, IsCut, run_of}
-use Rattle.insar_top.proofs.SameLemmas.{read_again}
+use Rattle.insar_top.proofs.BoardLemmas.{read_again}
 use Rattle.insar_top.proofs.TopLemmas.{is_done, is_cut, is_report, input_cause}
 use Rattle.insar_top.proofs.unwrap.run_unwrap.Goals as goal
 

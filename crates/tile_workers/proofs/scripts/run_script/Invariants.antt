@@ -1,6 +1,5 @@
-use Rattle.std.proofs.Common.{◌≡◌}
+use Rattle.board_desk.specs.Passes.{IsLater}
 use Rattle.tile_workers.proofs.scripts.run_script.Given as goal
 
 abbrev pub invariant-loop : goal.invariant-loop
-invariant-loop g l =
-    (goal.iterator-loop g).can_next l.iterator' × ((goal.iterator-loop g).is_finite l.iterator' × (l.pass.analyst ≡ l.initial.pass.analyst))
+invariant-loop g l = (goal.iterator-loop g).can_next l.iterator' × ((goal.iterator-loop g).is_finite l.iterator' × IsLater l.initial.pass l.pass)

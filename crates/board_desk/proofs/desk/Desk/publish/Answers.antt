@@ -1,0 +1,36 @@
+use Rattle.std.proofs.Common.{ap, ◌∙◌, rules, sym}
+use Rattle.board_desk.specs.Answers.{PublishAnswers}
+use Rattle.board_desk.specs.Passes.{PassView}
+use Rattle.board_desk.proofs.Calls.{called, grown, publish_answers, publish_grows_as, who}
+use Rattle.board_desk.specs.Seats.{pass_view}
+use Rattle.board_desk.proofs.Ending.{sound_after}
+use Rattle.board_desk.proofs.Telling.{not_refused, own_publish, publish_stays}
+use Rattle.board_desk.proofs.desk.Desk.publish.Goals as goal
+
+pub give_board-requires-clause-grown : goal.give_board-requires-clause-grown
+give_board-requires-clause-grown g c =
+    grown c.pass.inside.seat.me.0 c.take_board-board.new.seat.me c.take_board-board.result c.publish-answer.new.self c.args.self.now.session (ap (λ (p : PassView). p.session) c.pass.view_is ∙ c.requires.pass.session) c.take_board-board.ensures.held
+    (publish_grows_as c.pass.inside.seat.me.0.own.analyst c.number-analyst.result c.args.seams c.take_board-board.result c.publish-answer.new.self c.publish-answer.result (who c.number-analyst.result c.args.pass.now c.pass.inside.seat.table_id c.pass.inside.seat.me c.pass.inside.ended c.pass.view_is c.number-analyst.ensures) c.publish-answer.ensures.published c.publish-answer.ensures.unchanged)
+
+pub returns-clause-call : goal.returns-clause-call
+returns-clause-call g c =
+    called c.pass.inside.seat.table_id c.pass.inside.ended c.pass.inside.ended c.pass.inside.seat.me c.take_board-board.new.seat.me c.give_board.new.seat.me c.take_board-board.result c.publish-answer.new.self c.args.self.now.session
+    (PublishAnswers c.args.pass.now.analyst c.args.seams c.publish-answer.result) c.give_board.new.seat.table_id c.args.pass.now c.pass.view_is (c.give_board.ensures.own.0 ∙ c.take_board-board.ensures.own.0) c.requires.pass.session c.take_board-board.ensures.held c.give_board.ensures.given
+    (publish_grows_as c.pass.inside.seat.me.0.own.analyst c.number-analyst.result c.args.seams c.take_board-board.result c.publish-answer.new.self c.publish-answer.result (who c.number-analyst.result c.args.pass.now c.pass.inside.seat.table_id c.pass.inside.seat.me c.pass.inside.ended c.pass.view_is c.number-analyst.ensures) c.publish-answer.ensures.published c.publish-answer.ensures.unchanged) c.take_board-board.ensures.board c.of-pass-inside.ensures.board
+    (publish_answers c.args.pass.now.analyst c.number-analyst.result c.args.seams c.take_board-board.result c.publish-answer.new.self c.publish-answer.result c.number-analyst.ensures c.publish-answer.ensures.published c.publish-answer.ensures.refused c.publish-answer.ensures.unchanged)
+
+pub invariant_of-pass : goal.invariant_of-pass
+invariant_of-pass g c = (
+  search rules,
+  search rules,
+  search rules,
+  search rules,
+  sound_after c.pass.inside.seat.table_id c.give_board.new.seat.table_id c.pass.inside.ended c.pass.inside.ended c.pass.inside.seat.me c.take_board-board.new.seat.me c.give_board.new.seat.me c.take_board-board.result
+      c.publish-answer.new.self c.pass.invariant.4 c.take_board-board.ensures.held c.give_board.ensures.given (publish_stays c.take_board-board.result c.publish-answer.new.self c.pass.inside.seat.me.0.own.analyst c.number-analyst.result c.pass.inside.ended c.args.seams c.publish-answer.result (sym (who c.number-analyst.result c.args.pass.now c.pass.inside.seat.table_id c.pass.inside.seat.me c.pass.inside.ended c.pass.view_is c.number-analyst.ensures)) c.publish-answer.ensures.published c.publish-answer.ensures.unchanged),
+)
+
+pub returns-clause-own : goal.returns-clause-own
+returns-clause-own g c = own_publish c.args.self.now.session c.args.pass.now (pass_view c.give_board.new.seat.table_id c.give_board.new.seat.me c.pass.inside.ended) c.args.seams c.publish-answer.result c.requires.analyst (returns-clause-call g c)
+
+pub returns-clause-settles : goal.returns-clause-settles
+returns-clause-settles g c = not_refused c.args.self.now.session c.args.pass.now (pass_view c.give_board.new.seat.table_id c.give_board.new.seat.me c.pass.inside.ended) c.args.seams c.publish-answer.result (returns-clause-call g c)

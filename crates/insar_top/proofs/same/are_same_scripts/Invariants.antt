@@ -1,7 +1,0 @@
-use Rattle.std.proofs.Common.{◌≡◌, ◌<◌, ℕ}
-use Rattle.std.specs.Prelude.{slice_index_or}
-use Rattle.raster_model.specs.declared.script.Script.{Script}
-use Rattle.insar_top.proofs.same.are_same_scripts.Given as goal
-
-abbrev pub invariant-loop-place : goal.invariant-loop-place
-invariant-loop-place l = (k : ℕ) (d : Script) → k < l.place → (slice_index_or l.one k d).commands.items ≡ (slice_index_or l.other k d).commands.items

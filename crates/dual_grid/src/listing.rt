@@ -45,7 +45,7 @@ pub(crate) fn down_weights(
     ensures rows { IfOk result (λ list. AreInRows (of_down_edges scene.now window unmasked.now) window.x0 window.y0 (width_of window) (width_of window * (height_of window - 1)) list.items) }
     ensures small { IfOk result (λ list. (k : ℕ) → unsigned_abs (get_or list.items k (pos 0)) ≤ 65535) }
 {
-    let across = window.width() as usize;
+    let across = (window.x1 - window.x0) as usize + 1;
     let along = (window.y1 - window.y0) as usize;
     let mut list = Vec::with_capacity(alloc, across * along)?;
     for y in window.y0..window.y1 {

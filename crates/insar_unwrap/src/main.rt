@@ -6,6 +6,7 @@ ghost use Rattle.std.specs.Prelude.{◌≡◌, IfErr, IfOk};
 use insar_ports::{StdSink, StdSource};
 use insar_top::{insar, starved};
 use std::alloc::{AllocError, Global};
+use std::env::{Env, FillError};
 use std::io::{Read, Write};
 use std::process::ExitCode;
 use std::sync::Wait;
@@ -13,9 +14,33 @@ use std::thread::Threads;
 use std::{env, io};
 use tile_workers::OpenGate;
 
+/// The arguments after the program's name, which is no word and may have any bytes.
+#[derive(Drop)]
+struct Arguments<'a> {
+    rt: &'a HostRuntime,
+}
+
+impl Env for Arguments<'_> {
+    fn arg(&self, word: usize, buf: &mut [u8]) -> Result<usize, FillError> {
+        match word.checked_add(1) {
+            Some(argument) => self.rt.arg(argument, buf),
+            None => Err(FillError::NotPresent),
+        }
+    }
+
+    fn var(&self, name: &str, buf: &mut [u8]) -> Result<usize, FillError> {
+        self.rt.var(name, buf)
+    }
+
+    fn var_at(&self, place: usize, buf: &mut [u8]) -> Result<usize, FillError> {
+        self.rt.var_at(place, buf)
+    }
+}
+
 /// The words after the program's name.
 fn words(rt: &HostRuntime) -> io::Result<Vec<String>> {
-    Ok(env::args(rt)?.skip(1).collect(rt.alloc())?)
+    let arguments = (Arguments { rt }, rt.alloc());
+    Ok(env::args(&arguments)?.collect(rt.alloc())?)
 }
 
 /// The words as the top call takes them.

@@ -15,6 +15,7 @@ const LINE: &[u8] = b"P2 4 1 65535 0 40000 14464 54464";
 
 /// How many workers ask at once, and how often each.
 const WORKERS: u32 = 8;
+
 const TIMES: u64 = 10_000;
 
 /// Eight workers ask for a tile 10,000 times each, in threads of their own, and each call is answered. A call waits asleep for

@@ -1,0 +1,144 @@
+"""What a run has to answer to its input, told without the program, and what is wrong with what it answered."""
+import re
+
+import reading
+from reading import changed, stress
+from running import run
+
+DIGITS = re.compile(rb"(?<!input fault )(?<![0-9])-?[0-9]+")
+LARGE = 5000
+
+
+class Wrong(Exception):
+    """What is wrong with an answer."""
+
+
+def demand(holds, why):
+    if not holds:
+        raise Wrong(why)
+
+
+def option(words, name, default):
+    """The value of an option among the words."""
+    return words[words.index(name) + 1] if name in words else default
+
+
+def wanted(case):
+    """The session and the report of an input, and the line that refuses it, which is empty if nothing does."""
+    side, rule = int(option(case.words, "--tile", "64")), option(case.words, "--rule", "least")
+    alone = case.words[0] != "check"
+    try:
+        session, rest = reading.read_session(case.data, side, rule, alone)
+    except reading.Refused as refused:
+        return None, b"", str(refused).encode() + b"\n"
+    broken = None if alone else reading.broken_line(rest)
+    return session, rest, b"" if broken is None else b"report fault line %d\n" % broken
+
+
+def last_mask(session):
+    """The mask of the last publication of a session with one analyst: 1 for an open pixel, in row order."""
+    history = stress.History(session)
+    script = session.scripts[0]
+    last = max(place for place, command in enumerate(script) if command == "settle")
+    for command in script[:last]:
+        if isinstance(command, tuple):
+            history.revised(1, command)
+        else:
+            history.cursors[0] += 1
+    return history.opened
+
+
+def judge_value(value, phase, opened):
+    """A value of a grid is congruent, or NODATA; which of both if the mask is known."""
+    demand(value == stress.NODATA or (value - phase) % stress.CYCLE == 0, f"{value} is not congruent with {phase}")
+    demand(opened is None or (value == stress.NODATA) != opened, "the mask is another")
+
+
+def judge_grid(session, text):
+    """A text is a grid of the session, congruent with its phase and, if the mask is known, anchored."""
+    if not any("settle" in script for script in session.scripts):
+        demand(text == b"", "a grid of nothing published")
+        return
+    lines = stress.Lines(text)
+    for line in (b"ncols %d" % session.width, b"nrows %d" % session.height, b"xllcorner 0", b"yllcorner 0", b"cellsize 1"):
+        lines.expect(line)
+    lines.expect(b"NODATA_value %d" % stress.NODATA)
+    values = [value for _ in range(session.height) for value in lines.numbers(lines.next(), session.width)]
+    demand(lines.place == len(lines.lines), "a line after the grid")
+    mask = last_mask(session) if len(session.scripts) == 1 else [None] * len(values)
+    for value, phase, opened in zip(values, session.phase, mask):
+        judge_value(value, phase, opened)
+    if 1 in mask:
+        demand(values[mask.index(1)] == session.phase[mask.index(1)], "the anchor is missed")
+
+
+def judge_report(session, text):
+    """A text is a certified report of the session."""
+    broken = reading.broken_line(text)
+    demand(broken is None, f"line {broken} is none of a report")
+    stress.judge(session, text)
+
+
+def is_accepted(session, report):
+    """What the judge of bench/stress.py says of a report."""
+    try:
+        stress.judge(session, report)
+    except stress.Refused:
+        return False
+    return True
+
+
+def judge_verdict(session, report, done):
+    """`check` accepts what the judge accepts, and else tells a verdict."""
+    if is_accepted(session, report):
+        demand(done.status == 0 and done.out == b"accepted\n", f"an accepted report: {done.out[:80]!r}")
+    else:
+        demand(done.status == 1 and changed.VERDICT.fullmatch(done.out), f"a refused report: {done.out[:80]!r}")
+
+
+def judge_done(case, session, report, done):
+    """Standard output is what the command writes for the session. Large reports are judged by their ends alone."""
+    if case.words[0] == "check":
+        judge_verdict(session, report, done)
+        return
+    demand(done.status == 0, "it is a session")
+    if case.words[0] == "grid":
+        judge_grid(session, done.out)
+    elif len(session.phase) > LARGE:
+        demand(done.out.startswith(b"insar-report 1\n") and done.out.endswith(b"\nend\n"), "no report")
+    else:
+        judge_report(session, done.out)
+
+
+def judge(case, done):
+    """Raises Wrong or Refused if an answer is not the one of its input."""
+    demand(done.status is not None, "no end within its time")
+    demand(done.status >= 0, f"signal {-done.status}")
+    demand(done.err.count(b"\n") <= 1, "more than one line on standard error")
+    session, report, line = wanted(case)
+    demand(done.err == line, f"{done.err[:80]!r} in place of {line!r}")
+    if line:
+        demand(done.status == 3 and not done.out, f"status {done.status} at a refused input, {len(done.out)} bytes written")
+    else:
+        judge_done(case, session, report, done)
+
+
+def label(done):
+    """The kind of an answer: its status and its first line, without the numbers but that of an input fault."""
+    line = (done.err or done.out).split(b"\n")[0][:60]
+    return f"status {done.status}: " + DIGITS.sub(b"N", line).decode("latin-1")
+
+
+def answer(program, case):
+    """The kind of what a program answers to an input, and what is wrong with it, or None."""
+    done = run(program, case.words, case.data)
+    try:
+        judge(case, done)
+    except (Wrong, stress.Refused) as why:
+        return label(done), f"status {done.status}, {why}"
+    return label(done), None
+
+
+def refusal(program, case):
+    """What is wrong with the answer to an input, or None."""
+    return answer(program, case)[1]

@@ -1,0 +1,125 @@
+"""What a case is, and the inputs and undisturbed answers that the cases share.
+
+A command is one of bash. `$P` is the program, and the files that it names stand in the folder where it runs. A status above
+128 is that of a signal, less 128. The wanted values are those of docs/FORMATS.md and of the tables of the tests, or counted
+by hand, never what the program was seen to do.
+"""
+import random
+from typing import Callable, NamedTuple
+
+from reading import stress
+from wanted import NOTHING, Wanted, exactly
+
+LINE = b"P5\n4 1\n65535\n\x00\x00\x4e\x20\x9c\x40\xea\x60"
+GRID_HEAD = b"xllcorner 0\nyllcorner 0\ncellsize 1\nNODATA_value -9223372036854775808\n"
+LINE_GRID = b"ncols 4\nnrows 1\n" + GRID_HEAD + b"0 20000 40000 60000\n"
+TURN = b"P2\n2 2\n65535\n0 16384\n49152 32768\nanalyst\nmask 0 0 0 0\nsettle\nshow\nend\n"
+TURN_GRID = b"ncols 2\nnrows 2\n" + GRID_HEAD + b"-9223372036854775808 16384\n49152 32768\n"
+TRIAL = b"pixels 4096\nresidues 450\nunmasked 3834\ncost 16469\n"
+LARGE_SIDE = 256
+MAGIC, READ, WRITE = b"input fault 1 magic phase\n", b"read fault\n", b"write fault\n"
+WORDS, MEMORY, ENDLESS = b"words refused\n", b"no memory\n", b"input fault 7 long\n"
+SIGNAL = 128
+
+
+class End(NamedTuple):
+    """How a run may end: its status, and what it wrote."""
+
+    status: int
+    out: Wanted
+    err: Wanted
+
+
+class Row(NamedTuple):
+    """A case. `into` is the file that standard output goes into, if it is not captured; `run` runs what is no command."""
+
+    what: str
+    command: str
+    ends: tuple[End, ...]
+    into: str = ""
+    run: Callable | None = None
+
+
+def row(what, command, status, out, err):
+    """A case that may end in one way. What it writes is told by its bytes or as Wanted."""
+    out, err = (text if isinstance(text, Wanted) else exactly(text) for text in (out, err))
+    return Row(what, command, (End(status, out, err),))
+
+
+def refused(what, command, status, line):
+    """A case that writes nothing but a line on standard error."""
+    return row(what, command, status, NOTHING, line)
+
+
+class Use(NamedTuple):
+    """A command of the program with words and an input, and its undisturbed answer."""
+
+    name: str
+    words: str
+    file: str
+    status: int
+    out: bytes
+
+    def reads(self):
+        return self.name != "trial"
+
+    def text(self):
+        """The command, from its input, as bash takes it."""
+        return f"exec $P {self.words} <{self.file}"
+
+    def answered(self, what, command):
+        """A case whose answer is undisturbed."""
+        return row(f"{self.name}: {what}", command, self.status, self.out, NOTHING)
+
+    def refused(self, what, command, status, line):
+        """A case of this command that is refused with a line, which is empty if standard error takes none."""
+        return refused(f"{self.name}: {what}", command, status, line)
+
+
+USES = (
+    Use("unwrap", "unwrap", "line", 0, stress.LINE_REPORT),
+    Use("grid", "grid", "line", 0, LINE_GRID),
+    Use("check", "check", "accepted", 0, b"accepted\n"),
+    Use("check that refuses", "check", "refused", 1, b"refused history 2\n"),
+    Use("trial", "trial 7 64 64 --tile 32", "empty", 0, TRIAL),
+)
+READERS = tuple(use for use in USES if use.reads())
+TRIAL_USE = USES[-1]
+
+
+def raw_plane(side, maxval, samples):
+    """A raw square plane of so many pixels a side."""
+    size = 1 if maxval < 256 else 2
+    return b"P5\n%d %d\n%d\n" % (side, side, maxval) + b"".join(sample.to_bytes(size, "big") for sample in samples)
+
+
+def slope(side):
+    """A slope of 300 and 700 units a pixel, without a residue."""
+    return raw_plane(side, 65535, ((300 * x + 700 * y) % 65536 for y in range(side) for x in range(side)))
+
+
+def noisy(side):
+    """A session of one analyst on a slope with much noise, with weights and a mask, and an edit between two settles."""
+    dice = random.Random(side)
+    phase = [(300 * x + 700 * y + dice.randint(-20000, 20000)) % 65536 for y in range(side) for x in range(side)]
+    planes = raw_plane(side, 65535, phase) + raw_plane(side, 255, (dice.randint(1, 255) for _ in phase))
+    planes += raw_plane(side, 1, (int(dice.random() < 0.95) for _ in phase))
+    return planes + b"analyst\nsettle\nmask 0 0 9 9\nsettle\nshow\nend\n"
+
+
+def files():
+    """The files that the commands read, by their names."""
+    judged = LINE + b"end\n" + stress.LINE_REPORT
+    return {
+        "line": LINE,
+        "accepted": judged,
+        "refused": judged.replace(b"kept 0 0\n", b"kept 0 0\nkept 0 0\n"),
+        "shown": LINE + b"analyst\nshow\nend\n",
+        "broken": LINE + b"x\n",
+        "empty": b"",
+        "turn-report": stress.TURN_REPORT,
+        "head": b"".join(stress.LINE_REPORT.splitlines(True)[:4]),
+        "large": slope(LARGE_SIDE),
+        "noisy": noisy(160),
+        **{f"turn-{length}": TURN[:length] for length in range(len(TURN) + 1)},
+    }

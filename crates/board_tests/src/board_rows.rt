@@ -80,3 +80,38 @@ claim = Ok((1, 0))";
 fn two_claims_give_two_tiles(rt: HostRuntime) -> Result<(), Fail> {
     answered(rt.alloc(), HALVES, 2, CLAIMS)
 }
+
+/// The same turn without a script, with edges that weigh 5 (top), 5 (right), 3 (bottom) and 3 (left). Where the lower left
+/// pixel is a cycle down, the bottom edge alone departs, and the face 3 at the residue 1 certifies the cost 3.
+const WEIGHED: &str = "P2\n2 2\n65535\n0 16384 49152 32768\nP2\n2 2\n9\n5 5 3 9\n";
+
+/// After each result that is refused the board is as it was.
+const FORGED: &str = "\
+hand 1 0 3 0 0 -1 0 = Err(Stranger(1))
+state = 0 None 0 0
+entries = []
+hand 0 7 3 0 0 -1 0 = Err(Stale(0))
+state = 0 None 0 0
+entries = []
+hand 0 0 3 0 0 -1 = Err(Uncertified(Shape))
+state = 0 None 0 0
+entries = []
+hand 0 0 3 8388609 0 0 0 = Err(Uncertified(Range { x: 0, y: 0 }))
+state = 0 None 0 0
+entries = []
+hand 0 0 4 0 0 -1 0 = Err(Uncertified(FaceAtEdge(Edge { x: 0, y: 0, down: true })))
+state = 0 None 0 0
+entries = []
+hand 0 0 2 0 0 -1 0 = Err(Uncertified(CostDiffers { cost: 3, bound: 2 }))
+state = 0 None 0 0
+entries = []
+gather = Err(Unready(0))
+hand 0 0 3 0 0 -1 0 = Ok(())
+hand 0 0 3 0 0 -1 0 = Err(Double)
+entries = [Kept { tile: 0, stamp: 0 }]
+gather = Ok(0)";
+
+#[test]
+fn a_forged_result_changes_nothing(rt: HostRuntime) -> Result<(), Fail> {
+    answered(rt.alloc(), WEIGHED, 64, FORGED)
+}

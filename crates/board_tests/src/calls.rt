@@ -44,6 +44,23 @@ fn keep(alloc: Global, board: &mut Board, words: &mut Split<'_, char>) -> Result
     board.keep(alloc, solved)
 }
 
+/// Hands in a result, which words number: the tile, the stamp, the face and then the cycles.
+fn hand(alloc: Global, board: &mut Board, words: &mut Split<'_, char>) -> Result<(), KeepFault> {
+    let (tile, stamp) = (number(words), number(words));
+    let faces = vec![in alloc; i64::from(number(words))]?;
+    let mut cycles = Vec::new(alloc);
+    for word in words {
+        cycles.push(word.parse().unwrap_or(99))?;
+    }
+    let solved = TileResult {
+        tile,
+        stamp,
+        cycles,
+        faces,
+    };
+    board.keep(alloc, solved)
+}
+
 /// An offset for one region, where there are no seam edges.
 fn seams(alloc: Global, revision: u32, offset: i64) -> Result<SeamResult, AllocError> {
     Ok(SeamResult {
@@ -127,6 +144,7 @@ fn answer(alloc: Global, board: &mut Board, call: &str) -> Result<String, AllocE
         "advance" => format!(in alloc; "{:?}", board.advance(alloc, 1)),
         "claim" => format!(in alloc; "{:?}", claimed(alloc, board)),
         "finish" => format!(in alloc; "{:?}", finish(alloc, board)),
+        "hand" => format!(in alloc; "{:?}", hand(alloc, board, &mut words)),
         "keep" => format!(in alloc; "{:?}", keep(alloc, board, &mut words)),
         "publish" => format!(in alloc; "{:?}", publish(alloc, board, &mut words)),
         word => look(alloc, board, word),

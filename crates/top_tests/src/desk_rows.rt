@@ -1,5 +1,8 @@
-use crate::running::{board, last_of};
+use crate::running::{board, field, last_of};
 use board_desk::Desk;
+use certificates::TileResult;
+use std::alloc::Global;
+use std::str::Split;
 use std::test::Fail;
 use tile_board::{Advance, Entry, KeepFault};
 use worked_scenes::tile_result;
@@ -103,5 +106,54 @@ fn two_passes_stand_in_one_history(rt: HostRuntime) -> Result<(), Fail> {
     let entries = board.entries();
     assert!(rt; entries.len() == 2 && matches!(entries[0], Entry::Revised { analyst: 1, .. }));
     assert!(rt; matches!(entries[1], Entry::Revised { analyst: 2, .. }));
+    Ok(())
+}
+
+/// A full turn whose edges weigh 5 (top), 5 (right), 3 (bottom) and 3 (left).
+const WEIGHED: &[u8] = b"P2 2 2 65535 0 16384 49152 32768 P2 2 2 9 5 5 3 9";
+
+/// Results for it: the tile, the stamp, the face and the cycles; then how many entries there are, and the answer. What is
+/// refused leaves no entry.
+const FORGED: [&str; 8] = [
+    "1|0|3|0 0 -1 0|0 Err(Stranger(1))",
+    "0|7|3|0 0 -1 0|0 Err(Stale(0))",
+    "0|0|3|0 0 -1|0 Err(Uncertified(Shape))",
+    "0|0|3|8388609 0 0 0|0 Err(Uncertified(Range { x: 0, y: 0 }))",
+    "0|0|4|0 0 -1 0|0 Err(Uncertified(FaceAtEdge(Edge { x: 0, y: 0, down: true })))",
+    "0|0|2|0 0 -1 0|0 Err(Uncertified(CostDiffers { cost: 3, bound: 2 }))",
+    "0|0|3|0 0 -1 0|1 Ok(())",
+    "0|0|3|0 0 -1 0|1 Err(Double)",
+];
+
+/// The result of a row.
+fn forged(alloc: Global, fields: &mut Split<'_, char>) -> Result<TileResult, Fail> {
+    let tile = field(fields).parse()?;
+    let stamp = field(fields).parse()?;
+    let face = field(fields).parse()?;
+    let mut cycles = Vec::new(alloc);
+    for word in field(fields).split(' ') {
+        cycles.push(word.parse()?)?;
+    }
+    Ok(TileResult {
+        tile,
+        stamp,
+        cycles,
+        faces: vec![in alloc; face]?,
+    })
+}
+
+/// A worker is not believed.
+#[test]
+fn a_forged_result_is_refused(rt: HostRuntime) -> Result<(), Fail> {
+    let alloc = rt.alloc();
+    let (desk, mut passes) = Desk::open(alloc, board(alloc, 64, WEIGHED)?)?;
+    let mut analyst = last_of(&rt, &desk, &mut passes, 1);
+    let mut worker = desk.worker_pass(&rt, &mut analyst);
+    for row in &FORGED {
+        let mut fields = row.split('|');
+        let kept = desk.keep(&rt, alloc, &mut worker, forged(alloc, &mut fields)?);
+        let told = format!(in alloc; "{} {:?}", kept.front, kept.answer)?;
+        assert_eq!(rt; told.as_str(), field(&mut fields), "{row}");
+    }
     Ok(())
 }

@@ -2,7 +2,11 @@
 #![tactic(auto)]
 
 #[cfg(test)]
+mod cut_rows;
+#[cfg(test)]
 mod desk_rows;
+#[cfg(test)]
+mod failing_rows;
 #[cfg(test)]
 mod gate_rows;
 #[cfg(test)]

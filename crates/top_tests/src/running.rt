@@ -8,18 +8,21 @@ use raster_model::RuleKind;
 use session_script::{SessionUse, read_session};
 use std::alloc::Global;
 use std::process::Abort;
+use std::str::Split;
 use std::sync::{Arc, Wait};
 use std::test::Fail;
 use std::thread::Threads;
 use tile_board::Board;
 use tile_workers::Gate;
 
-/// Which calls of the source, of the sink and of `diag` fail, by their numbers from 1.
+/// Which calls of the source, of the sink and of `diag` fail, by their numbers from 1, and for how many pieces the sink has
+/// room.
 #[derive(Drop)]
 pub struct Failing<'a> {
     pub takes: &'a [u32],
     pub puts: &'a [u32],
     pub lines: &'a [u32],
+    pub room: usize,
 }
 
 /// No call fails.
@@ -27,6 +30,7 @@ pub const NOTHING: Failing<'static> = Failing {
     takes: &[],
     puts: &[],
     lines: &[],
+    room: 512,
 };
 
 /// How a run ended: its status, what the sink gained and what `diag` gained.
@@ -37,8 +41,7 @@ pub struct Ended {
     pub line: String,
 }
 
-/// The words, separated by spaces, over the bytes. The source and the sink take `piece` bytes a call, and the sink has
-/// room for 512 pieces.
+/// The words, separated by spaces, over the bytes. The source and the sink take `piece` bytes a call.
 pub fn run<R: Alloc<A = Global> + Threads + Wait + Sync, G: Gate>(
     rt: &R,
     words: &str,
@@ -53,7 +56,8 @@ pub fn run<R: Alloc<A = Global> + Threads + Wait + Sync, G: Gate>(
     let words: Vec<&str> = words.split_whitespace().collect(alloc)?;
     let takes = failing.takes.to_vec(alloc)?;
     let mut source = MemorySource::new(bytes.to_vec(alloc)?, piece, takes);
-    let mut sink = MemorySink::new(alloc, piece * 512, piece, failing.puts.to_vec(alloc)?)?;
+    let room = piece.saturating_mul(failing.room);
+    let mut sink = MemorySink::new(alloc, room, piece, failing.puts.to_vec(alloc)?)?;
     let mut diag = MemorySink::new(alloc, 99, 1, failing.lines.to_vec(alloc)?)?;
     let status = insar(rt, alloc, &words, &mut source, &mut sink, &mut diag, gate);
     Ok(Ended {
@@ -89,4 +93,9 @@ pub fn last_of(rt: &impl Abort, _desk: &Desk, passes: &mut Vec<Pass>, analyst: u
     let pass = passes.pop().expect(rt, "a pass for each analyst");
     assert!(rt; pass.analyst() == Some(analyst));
     pass
+}
+
+/// The next field of a row.
+pub fn field<'a>(fields: &mut Split<'a, char>) -> &'a str {
+    fields.next().unwrap_or("")
 }

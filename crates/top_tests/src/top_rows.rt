@@ -1,4 +1,4 @@
-use crate::running::{Ended, Failing, NOTHING, run};
+use crate::running::{NOTHING, run};
 use std::alloc::{AllocError, Global};
 use std::process::Abort;
 use std::sync::Wait;
@@ -70,6 +70,7 @@ check|P2 2 2 65535 0 16384 49152 32768;analyst;mask 0 0 0 0;settle;show;end;!2 2
 check|P2 2 2 65535 0 16384 49152 32768;analyst;mask 0 0 0 0;settle;show;end;!2 2;tile 64;rule least;revised 1 mask 0 0 0 0;kept 0 1;published 1 1;costs 0 0;ncols 2;nrows 2;%~ 16384;49152 32768;faces 0 0;flows;shown 1 1;|3|report fault line 20;
 check --tile 3|P2 4 3 65535 0 0 0 0 0 0 0 20000 0 0 0 40000 P2 4 3 9 4 4 4 4 4 4 4 4 9 9 9 9;end;!4 3;tile 3;rule mean;kept 0 0;kept 1 0;published 1 0;costs 0 8;ncols 4;nrows 3;%0 0 0 -65536;0 0 0 -45536;0 0 0 -25536;faces 0 0 0 0 0;faces 1;flows -4 -4 8;shown 1 0;end;|1|refused header 4;
 check --tile 3|P2 4 3 65535 0 0 0 0 0 0 0 20000 0 0 0 40000 P2 4 3 9 4 4 4 4 4 4 4 4 9 9 9 9;end;!4 3;tile 4;rule least;kept 0 0;kept 1 0;published 1 0;costs 0 8;ncols 4;nrows 3;%0 0 0 -65536;0 0 0 -45536;0 0 0 -25536;faces 0 0 0 0 0;faces 1;flows -4 -4 8;shown 1 0;end;|3|report fault line 19;
+check --tile 3|P2 4 3 65535 0 0 0 0 0 0 0 20000 0 0 0 40000 P2 4 3 9 4 4 4 4 4 4 4 4 9 9 9 9;end;!4 3;tile 3;rule least;kept 0 0;published 1 0;costs 0 8;ncols 4;nrows 3;%0 0 0 -65536;0 0 0 -45536;0 0 0 -25536;faces 0 0 0 0 0;faces 1;flows -4 -4 8;kept 1 0;shown 1 0;end;|1|refused history 2;
 check --tile 3|P2 4 3 65535 0 0 0 0 0 0 0 20000 0 0 0 40000 P2 4 3 9 4 4 4 4 4 4 4 4 9 9 9 9;end;!4 3;tile 3;rule least;kept 0 0;kept 0 0;kept 1 0;published 1 0;costs 0 8;ncols 4;nrows 3;%0 0 0 -65536;0 0 0 -45536;0 0 0 -25536;faces 0 0 0 0 0;faces 1;flows -4 -4 8;shown 1 0;end;|1|refused history 2;
 check --tile 3|P2 4 3 65535 0 0 0 0 0 0 0 20000 0 0 0 40000 P2 4 3 9 4 4 4 4 4 4 4 4 9 9 9 9;end;!4 3;tile 3;rule least;kept 0 0;kept 1 0;published 1 0;costs 0 8;ncols 4;nrows 3;%0 0 0 -65536;0 0 0 -45536;0 0 0 -25536;faces 0 0 0 0 0;faces 1;flows -4 -4 8;shown 1 none;end;|1|refused history 4;
 check --tile 3|P2 4 3 65535 0 0 0 0 0 0 0 20000 0 0 0 40000 P2 4 3 9 4 4 4 4 4 4 4 4 9 9 9 9;end;!4 3;tile 3;rule least;kept 0 0;kept 1 0;published 1 0;costs 0 8;ncols 4;nrows 3;%0 0 0 -65536;0 0 0 -45536;0 0 0 -25536;faces 0 0 0 0 0;faces 1;flows -4 -4 8;end;|1|refused history 4;
@@ -128,7 +129,7 @@ trial 0 4096 4096||2|words refused;
 ";
 
 /// What a text of the table stands for.
-fn spelled(alloc: Global, text: &str) -> Result<String, AllocError> {
+pub fn spelled(alloc: Global, text: &str) -> Result<String, AllocError> {
     let mut whole = String::new(alloc);
     for letter in text.chars() {
         match letter {
@@ -158,7 +159,7 @@ fn is_of(text: &str, pattern: &str) -> bool {
 }
 
 /// Whether a text is of one of the patterns.
-fn is_one_of(text: &str, patterns: &str) -> bool {
+pub fn is_one_of(text: &str, patterns: &str) -> bool {
     for pattern in patterns.split('/') {
         if is_of(text, pattern) {
             return true;
@@ -200,79 +201,6 @@ fn rows_are_answered(rt: HostRuntime) -> Result<(), Fail> {
     for row in ROWS.lines() {
         count = count.saturating_add(judge(&rt, row)?);
     }
-    assert!(rt; count == 98);
-    Ok(())
-}
-
-/// A raw line of the phases 0, 20000, 40000 and 60000.
-const LINE: &[u8] = b"P5\n4 1\n65535\n\x00\x00\x4e\x20\x9c\x40\xea\x60";
-
-/// Its report.
-const REPORT: &str =
-    "!4 1;tile 64;rule least;kept 0 0;published 1 0;costs 0 0;ncols 4;nrows 1;%0 20000 40000 60000;faces 0;flows;shown 1 0;end;";
-
-/// Its length in bytes.
-const REPORT_LENGTH: u32 = 209;
-
-/// How words over the line are refused where calls fail.
-fn refused<R: Alloc<A = Global> + Threads + Wait + Sync>(
-    rt: &R,
-    words: &str,
-    takes: &[u32],
-    puts: &[u32],
-    lines: &[u32],
-) -> Result<Ended, Fail> {
-    let failing = Failing { takes, puts, lines };
-    run(rt, words, LINE, 1, &failing, &OpenGate)
-}
-
-/// Each call of the source failing in turn: 21 for the bytes and one for the end of the input.
-#[test]
-fn each_failing_read_is_told(rt: HostRuntime) -> Result<(), Fail> {
-    for call in 1..23 {
-        let done = refused(&rt, "unwrap", &[call], &[], &[])?;
-        assert!(rt; done.status == 5 && done.line.as_str() == "read fault\n");
-        assert!(rt; done.text.is_empty());
-    }
-    Ok(())
-}
-
-/// Each put of the sink failing in turn, byte for byte: what was written before it is there.
-#[test]
-fn each_failing_write_is_told(rt: HostRuntime) -> Result<(), Fail> {
-    let report = spelled(rt.alloc(), REPORT)?;
-    for call in 1..REPORT_LENGTH + 1 {
-        let done = refused(&rt, "unwrap", &[], &[call], &[])?;
-        assert!(rt; done.status == 6 && done.line.as_str() == "write fault\n");
-        assert!(rt; done.text.len() < call as usize && report.starts_with(done.text.as_str()));
-    }
-    let whole = refused(&rt, "unwrap", &[], &[REPORT_LENGTH + 1], &[])?;
-    assert!(rt; whole.status == 0 && whole.text.as_str() == report.as_str());
-    Ok(())
-}
-
-/// A `diag` that fails changes neither a status nor the sink.
-#[test]
-fn a_failing_line_changes_nothing(rt: HostRuntime) -> Result<(), Fail> {
-    let done = refused(&rt, "unwrap", &[], &[2], &[1])?;
-    assert!(rt; done.status == 6 && done.line.is_empty() && done.text.as_str() == "i");
-    Ok(())
-}
-
-/// `grid` and `trial` tell a call that fails as `unwrap` does.
-#[test]
-fn other_commands_tell_a_failing_call(rt: HostRuntime) -> Result<(), Fail> {
-    let unread = refused(&rt, "grid", &[3], &[], &[])?;
-    assert!(rt;
-        unread.status == 5 && unread.line.as_str() == "read fault\n" && unread.text.is_empty()
-    );
-    let cut = refused(&rt, "grid", &[], &[3], &[])?;
-    assert!(rt;
-        cut.status == 6 && cut.line.as_str() == "write fault\n" && cut.text.as_str() == "nc"
-    );
-    let cut = refused(&rt, "trial 0 1 1", &[], &[4], &[])?;
-    assert!(rt;
-        cut.status == 6 && cut.line.as_str() == "write fault\n" && cut.text.as_str() == "pix"
-    );
+    assert!(rt; count == 99);
     Ok(())
 }

@@ -1,0 +1,203 @@
+use crate::running::{Ended, Failing, field, run};
+use crate::top_rows::{is_one_of, spelled};
+use std::alloc::{AllocError, Global};
+use std::process::Abort;
+use std::sync::Wait;
+use std::test::Fail;
+use std::thread::Threads;
+use tile_workers::OpenGate;
+
+/// The session for which `$` stands in a row.
+const SESSION: &str = "P2;2 2;65535;0 16384;49152 32768;analyst;mask 0 0 0 0;settle;show;end;";
+
+/// Its report, for which `&` stands.
+const REPORT: &str =
+    "!2 2;tile 64;rule least;revised 1 mask 0 0 0 0;kept 0 1;published 1 1;costs 0 0;ncols 2;nrows 2;%~ 16384;49152 32768;faces 0 0;flows;shown 1 1;end;";
+
+/// A row has seven fields: what is disturbed, the first and the last number for it, words, bytes, status, and what is written.
+/// `take` and `put` number the call that fails, of the source and of the sink; `room` is how many bytes the sink has room for.
+/// Bytes and what is written are spelled as in the table of `top_rows`, and `@` is the samples of the line 0 20000 40000 60000
+/// in two bytes each. What is written is the line to `diag` at the statuses 3 and 5, and else the whole text of an undisturbed
+/// run, of which the sink gains a part at status 6.
+const READS: &str = "\
+take|1|22|unwrap|P5;4 1;65535;@|5|read fault;
+take|1|71|unwrap|$|5|read fault;
+take|72|72|unwrap|$|0|&
+take|2|2|unwrap|XY|5|read fault;
+take|3|3|unwrap|XY|3|input fault 1 magic phase;
+take|28|28|check|P5;4 1;65535;@end;xy;|5|read fault;
+take|29|29|check|P5;4 1;65535;@end;xy;|3|report fault line 1;
+take|1|1|check|$&|5|read fault;
+take|71|71|check|$&|5|read fault;
+take|324|324|check|$&|5|read fault;
+take|1|1|grid|$|5|read fault;
+take|71|71|grid|$|5|read fault;
+take|1|1|trial 0 1 1||0|pixels 1;residues 0;unmasked 1;cost 0;";
+
+/// The same for the sink. One call after the last the run is undisturbed.
+const WRITES: &str = "\
+put|1|253|unwrap|$|6|&
+put|254|254|unwrap|$|0|&
+room|10|10|unwrap|$|6|&
+put|1|3|grid|$|6|ncols 2;nrows 2;%~ 16384;49152 32768;
+put|124|124|grid|$|6|ncols 2;nrows 2;%~ 16384;49152 32768;
+put|125|125|grid|$|0|ncols 2;nrows 2;%~ 16384;49152 32768;
+put|1|9|check|$&|6|accepted;
+put|10|10|check|$&|0|accepted;
+put|1|18|check|P5;4 1;65535;@end;!4 1;tile 64;rule least;end;|6|refused history 1;
+put|1|4|trial 0 1 1||6|pixels 1;residues 0;unmasked 1;cost 0;
+put|38|38|trial 0 1 1||6|pixels 1;residues 0;unmasked 1;cost 0;
+put|39|39|trial 0 1 1||0|pixels 1;residues 0;unmasked 1;cost 0;";
+
+/// The same for a line in raw bytes, whose report is shown whole.
+const LINES: &str = "\
+put|1|209|unwrap|P5;4 1;65535;@|6|!4 1;tile 64;rule least;kept 0 0;published 1 0;costs 0 0;ncols 4;nrows 1;%0 20000 40000 60000;faces 0;flows;shown 1 0;end;
+put|210|210|unwrap|P5;4 1;65535;@|0|!4 1;tile 64;rule least;kept 0 0;published 1 0;costs 0 0;ncols 4;nrows 1;%0 20000 40000 60000;faces 0;flows;shown 1 0;end;";
+
+/// How a run has to end.
+#[derive(Drop)]
+pub struct Wanted {
+    pub status: u8,
+    /// The texts of which the sink may have one, or at the statuses 2 to 5 the line to `diag`.
+    pub written: String,
+    /// How many bytes of the text the sink gained at status 6.
+    pub gained: usize,
+}
+
+/// Whether the status and the sink are what is wanted.
+fn has_ended(done: &Ended, wanted: &Wanted) -> bool {
+    done.status == wanted.status
+        && match done.status {
+            0 | 1 => is_one_of(&done.text, &wanted.written),
+            6 => done.text.len() == wanted.gained && wanted.written.starts_with(done.text.as_str()),
+            _ => done.text.is_empty(),
+        }
+}
+
+/// The line that has to be put to `diag`.
+fn line_of(wanted: &Wanted) -> &str {
+    match wanted.status {
+        0 | 1 => "",
+        6 => "write fault\n",
+        _ => &wanted.written,
+    }
+}
+
+/// Runs words over bytes that come and go one by one.
+fn try_once<R: Alloc<A = Global> + Threads + Wait + Sync + Abort>(
+    rt: &R,
+    words: &str,
+    bytes: &[u8],
+    failing: &Failing,
+    wanted: &Wanted,
+) -> Result<(), Fail> {
+    let done = run(rt, words, bytes, 1, failing, &OpenGate)?;
+    let line = if failing.lines.is_empty() {
+        line_of(wanted)
+    } else {
+        ""
+    };
+    let good = has_ended(&done, wanted) && done.line.as_str() == line;
+    assert!(rt; good, "{words}: {} {}{}", done.status, done.line, done.text);
+    Ok(())
+}
+
+/// Runs words, and runs them once more with the first line to `diag` failing, which changes neither the status nor the sink.
+pub fn try_twice<R: Alloc<A = Global> + Threads + Wait + Sync + Abort>(
+    rt: &R,
+    words: &str,
+    bytes: &[u8],
+    failing: Failing,
+    wanted: &Wanted,
+) -> Result<(), Fail> {
+    try_once(rt, words, bytes, &failing, wanted)?;
+    let lines = [1].as_slice();
+    try_once(rt, words, bytes, &Failing { lines, ..failing }, wanted)
+}
+
+/// The bytes of a row.
+fn bytes_of(alloc: Global, text: &str) -> Result<Vec<u8>, AllocError> {
+    let mut bytes = Vec::new(alloc);
+    for (place, piece) in text.split('@').enumerate() {
+        if place > 0 {
+            bytes.extend_from_slice(b"\x00\x00\x4e\x20\x9c\x40\xea\x60")?;
+        }
+        bytes.extend_from_slice(spelled(alloc, piece)?.as_bytes())?;
+    }
+    Ok(bytes)
+}
+
+/// What is disturbed by a row at one of its numbers.
+fn failing_at<'a>(what: &str, number: &'a [u32; 1]) -> Failing<'a> {
+    let (takes, puts) = match what {
+        "take" => (number.as_slice(), [].as_slice()),
+        "put" => ([].as_slice(), number.as_slice()),
+        _ => ([].as_slice(), [].as_slice()),
+    };
+    let room = if what == "room" {
+        number[0] as usize
+    } else {
+        512
+    };
+    Failing {
+        takes,
+        puts,
+        lines: &[],
+        room,
+    }
+}
+
+/// Tries a row at each of its numbers.
+fn try_row<R: Alloc<A = Global> + Threads + Wait + Sync + Abort>(
+    rt: &R,
+    row: &str,
+) -> Result<(), Fail> {
+    let row = row
+        .replace(rt.alloc(), "$", SESSION)?
+        .replace(rt.alloc(), "&", REPORT)?;
+    let mut fields = row.split('|');
+    let what = field(&mut fields);
+    let first = field(&mut fields).parse::<u32>()?;
+    let last = field(&mut fields).parse::<u32>()?;
+    let words = field(&mut fields);
+    let bytes = bytes_of(rt.alloc(), field(&mut fields))?;
+    let status = field(&mut fields).parse::<u8>()?;
+    let written = spelled(rt.alloc(), field(&mut fields))?;
+    let mut wanted = Wanted {
+        status,
+        written,
+        gained: 0,
+    };
+    for number in first..last.saturating_add(1) {
+        let before = if what == "put" { 1 } else { 0 };
+        wanted.gained = number.saturating_sub(before) as usize;
+        try_twice(rt, words, &bytes, failing_at(what, &[number]), &wanted)?;
+    }
+    Ok(())
+}
+
+/// Each call of the source fails in turn. The call after the last byte is the one that finds the end of the input.
+#[test]
+fn each_failing_read_is_told(rt: HostRuntime) -> Result<(), Fail> {
+    for row in READS.lines() {
+        try_row(&rt, row)?;
+    }
+    Ok(())
+}
+
+/// Each call of the sink fails in turn: what was written before it is there.
+#[test]
+fn each_failing_write_is_told(rt: HostRuntime) -> Result<(), Fail> {
+    for row in WRITES.lines() {
+        try_row(&rt, row)?;
+    }
+    Ok(())
+}
+
+#[test]
+fn each_failing_write_of_a_line_is_told(rt: HostRuntime) -> Result<(), Fail> {
+    for row in LINES.lines() {
+        try_row(&rt, row)?;
+    }
+    Ok(())
+}

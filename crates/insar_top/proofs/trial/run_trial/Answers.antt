@@ -1,11 +1,13 @@
-use Rattle.std.proofs.Common.{◌∙◌, Err, ap}
+use Rattle.std.proofs.Common.{◌∙◌, Err, ap, subst, sym}
 use Rattle.std.proofs.lemmas.Result.{err_from_is_err_and}
+use Rattle.raster_model.specs.declared.session.Session.{Session}
+use Rattle.trial_maker.specs.Trials.{AreTrialScripts}
 use Rattle.insar_top.specs.TrialLines.{four_lines}
 use Rattle.insar_top.proofs.TrialLemmas.{trial_again, trial_text, unmade_cause}
 use Rattle.insar_top.proofs.trial.run_trial.Goals as goal
 
 pub summary_of-requires-clause-scripts : goal.summary_of-requires-clause-scripts
-summary_of-requires-clause-scripts g c = ap (λ (x : Session). x.scripts.items) c.in_ok-board.ensures.session ∙ c.in_ok-session.ensures.made.scripts
+summary_of-requires-clause-scripts g c = subst (λ (x : Session). AreTrialScripts x.scripts.items) (sym c.in_ok-board.ensures.session) c.in_ok-session.ensures.made.scripts
 
 pub returns-in_err-session-clause-refused : goal.returns-in_err-session-clause-refused
 returns-in_err-session-clause-refused g c =

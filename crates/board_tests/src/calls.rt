@@ -44,20 +44,25 @@ fn keep(alloc: Global, board: &mut Board, words: &mut Split<'_, char>) -> Result
     board.keep(alloc, solved)
 }
 
-/// Hands in a result, which words number: the tile, the stamp, the face and then the cycles.
-fn hand(alloc: Global, board: &mut Board, words: &mut Split<'_, char>) -> Result<(), KeepFault> {
+/// A result that words number: the tile, the stamp, the face and then the cycles.
+fn numbered(alloc: Global, words: &mut Split<'_, char>) -> Result<TileResult, AllocError> {
     let (tile, stamp) = (number(words), number(words));
     let faces = vec![in alloc; i64::from(number(words))]?;
     let mut cycles = Vec::new(alloc);
     for word in words {
         cycles.push(word.parse().unwrap_or(99))?;
     }
-    let solved = TileResult {
+    Ok(TileResult {
         tile,
         stamp,
         cycles,
         faces,
-    };
+    })
+}
+
+/// Hands in such a result.
+fn hand(alloc: Global, board: &mut Board, words: &mut Split<'_, char>) -> Result<(), KeepFault> {
+    let solved = numbered(alloc, words)?;
     board.keep(alloc, solved)
 }
 

@@ -1,4 +1,4 @@
-use crate::running::{board, field, last_of};
+use crate::running::{board, closed, field, last_of};
 use board_desk::Desk;
 use certificates::TileResult;
 use std::alloc::Global;
@@ -69,7 +69,7 @@ fn a_pass_ends_where_its_script_does(rt: HostRuntime) -> Result<(), Fail> {
     assert!(rt; desk.advance(&rt, alloc, &mut two).front == 3 && !two.ended());
     assert!(rt; desk.advance(&rt, alloc, &mut two).answer == Ok(Advance::Ended));
     assert!(rt; two.ended() && !one.ended() && two.done() == 2 && one.done() == 1);
-    let board = desk.close(&rt, vec![in alloc; one, two]?);
+    let board = closed(&rt, alloc, desk, one, two)?;
     let entries = board.entries();
     assert!(rt; entries.len() == 3 && matches!(entries[0], Entry::Revised { analyst: 2, .. }));
     Ok(())

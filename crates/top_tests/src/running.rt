@@ -6,14 +6,14 @@ use insar_ports::{Feed, MemorySink, MemorySource};
 use insar_top::insar;
 use raster_model::RuleKind;
 use session_script::{SessionUse, read_session};
-use std::alloc::Global;
+use std::alloc::{AllocError, Global};
 use std::process::Abort;
 use std::str::Split;
 use std::sync::{Arc, Wait};
 use std::test::Fail;
 use std::thread::Threads;
 use tile_board::Board;
-use tile_workers::Gate;
+use tile_workers::{Gate, OpenGate, run_scripts};
 
 /// Which calls of the source, of the sink and of `diag` fail, by their numbers from 1, and for how many pieces the sink has
 /// room.
@@ -98,4 +98,36 @@ pub fn last_of(rt: &impl Abort, _desk: &Desk, passes: &mut Vec<Pass>, analyst: u
 /// The next field of a row.
 pub fn field<'a>(fields: &mut Split<'a, char>) -> &'a str {
     fields.next().unwrap_or("")
+}
+
+/// The board of a desk that is closed with two passes.
+pub fn closed<R: Wait>(
+    rt: &R,
+    alloc: Global,
+    desk: Desk,
+    one: Pass,
+    two: Pass,
+) -> Result<Board, AllocError>
+    requires one { IsPassOf desk one }
+    requires two { IsPassOf desk two }
+{
+    Ok(desk.close(rt, vec![in alloc; one, two]?))
+}
+
+/// The same, after the scripts of both were run to their ends.
+pub fn run_out<R: Threads + Wait + Sync>(
+    rt: &R,
+    alloc: Global,
+    desk: Desk,
+    one: Pass,
+    two: Pass,
+) -> Result<Board, AllocError>
+    requires one { IsPassOf desk one }
+    requires two { IsPassOf desk two }
+    requires first { one.analyst ≢ None }
+    requires second { two.analyst ≢ None }
+{
+    let mut passes = vec![in alloc; one, two]?;
+    run_scripts(rt, alloc, &desk, passes.as_mut_slice(), 2, &OpenGate)?;
+    Ok(desk.close(rt, passes))
 }

@@ -1,8 +1,8 @@
-use crate::running::{board, last_of};
+use crate::running::{board, last_of, run_out};
 use board_desk::Desk;
 use std::test::Fail;
 use tile_board::Advance;
-use tile_workers::{OpenGate, run_scripts, settle};
+use tile_workers::{OpenGate, settle};
 
 /// The line in two tiles, and two analysts who each settle and look.
 const LINE: &[u8] = b"P2 4 1 65535 0 40000 14464 54464
@@ -32,9 +32,7 @@ fn a_settle_command_is_answered_with_its_revision(rt: HostRuntime) -> Result<(),
     let first = settle(&rt, alloc, &desk, &mut one, 1, &OpenGate)?;
     let second = settle(&rt, alloc, &desk, &mut two, 8, &OpenGate)?;
     assert!(rt; first == 0 && second == 0 && one.done() == 1 && two.done() == 1);
-    let mut passes = vec![in alloc; one, two]?;
-    run_scripts(&rt, alloc, &desk, &mut passes, 2, &OpenGate)?;
-    let board = desk.close(&rt, passes);
+    let board = run_out(&rt, alloc, desk, one, two)?;
     assert!(rt; board.complete() && board.entries().len() == 6);
     Ok(())
 }

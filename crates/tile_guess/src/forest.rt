@@ -1,340 +1,220 @@
 use crate::grid::Grid;
-use crate::lists::{at, place_at, put, put_place};
-use crate::queue::Queue;
+use crate::node::{BLANK, DOWN, LEFT, NONE, Node, RIGHT, UP, node_at};
+use crate::waiting::Waiting;
 use std::alloc::{AllocError, Global};
 
-/// No node, and no arc.
-pub(crate) const NONE: u32 = u32::MAX;
-
-/// Marks an arc of a cell on the border that is gone the other way: from the outside into the cell.
-pub(crate) const INWARD: u32 = 1 << 31;
-
-/// The outside; the cells have the places of a frame around the grid as their numbers.
-pub(crate) const OUTSIDE: u32 = 0;
-
-/// The directions out of a cell, in the order of its arcs. That of a direction's turn differs in the last binary digit.
-const RIGHT: u32 = 0;
-
-const LEFT: u32 = 1;
-
-const DOWN: u32 = 2;
-
-const UP: u32 = 3;
-
-/// By arc, whose number is four times its cell's and its direction: the node it leads to, its edge's weight, what flows
-/// along it, and what one unit more would cost.
-#[derive(Drop)]
-struct Arcs {
-    heads: Vec<u32>,
-    weights: Vec<i32>,
-    flows: Vec<i32>,
-    costs: Vec<i32>,
+/// A place of the frame, the cell beside it, and the direction to that.
+#[derive(Clone, Copy)]
+pub(crate) struct Inlet {
+    pub(crate) place: u32,
+    pub(crate) cell: u32,
+    pub(crate) direction: u8,
 }
 
-/// By node: the root of its tree, the arc that joined it, and the next node of the tree. By root: the tree's first node.
-#[derive(Drop)]
-pub(crate) struct Trees {
-    pub(crate) roots: Vec<u32>,
-    pub(crate) steps: Vec<u32>,
-    pub(crate) following: Vec<u32>,
-    pub(crate) first: Vec<u32>,
-}
-
-/// The flow, the potentials and the trees of a grid.
+/// The flow, the potentials and the trees of a grid. A node's number is its place in row order; the cells have a frame of
+/// one place around them.
 #[derive(Drop)]
 pub(crate) struct Forest {
-    across: u32,
-    along: u32,
+    pub(crate) across: u32,
+    pub(crate) along: u32,
+    /// How far the nodes of one column are apart.
+    pub(crate) stride: u32,
+    /// How far a node's number is from that which its arc of a direction leads to.
+    offsets: [u32; 4],
     /// Whether all signs are turned, so that the outside has no flow to send.
-    turned: bool,
-    arcs: Arcs,
-    /// The arcs that lead outside.
-    pub(crate) border: Vec<u32>,
-    /// By node: what it has to send; its potential, to which in a tree the time is added.
-    pub(crate) excess: Vec<i32>,
-    pub(crate) heights: Vec<i32>,
-    pub(crate) trees: Trees,
-    pub(crate) queue: Queue,
-    pub(crate) time: i32,
-}
-
-/// Arcs of weight 0 that lead outside, and along which nothing flows.
-fn bare_arcs(alloc: Global, count: usize) -> Result<Arcs, AllocError> {
-    Ok(Arcs {
-        heads: vec![in alloc; OUTSIDE; count]?,
-        weights: vec![in alloc; 0; count]?,
-        flows: vec![in alloc; 0; count]?,
-        costs: vec![in alloc; 0; count]?,
-    })
-}
-
-/// No trees.
-fn no_trees(alloc: Global, nodes: usize) -> Result<Trees, AllocError> {
-    Ok(Trees {
-        roots: vec![in alloc; NONE; nodes]?,
-        steps: vec![in alloc; NONE; nodes]?,
-        following: vec![in alloc; NONE; nodes]?,
-        first: vec![in alloc; NONE; nodes]?,
-    })
+    pub(crate) turned: bool,
+    pub(crate) nodes: Vec<Node>,
+    /// The frame without its corners.
+    pub(crate) frame: Vec<Inlet>,
+    /// How much the outside lacks.
+    pub(crate) outside_lacks: i32,
+    /// The place of the frame where a tree has met the outside. It stands for the outside in the tree.
+    pub(crate) gate: u32,
+    pub(crate) waiting: Waiting,
 }
 
 impl Forest {
-    /// No flow, no potentials and no trees.
+    /// A grid without flow, potentials and trees.
     pub(crate) fn of(alloc: Global, grid: Grid<'_>) -> Result<Forest, AllocError> {
         let across = grid.across.min(4096);
         let along = grid.along.min(4096);
-        let nodes = (across as usize + 2) * (along as usize + 2);
+        let stride = across + 2;
+        let count = stride.wrapping_mul(along + 2);
+        let sum = sum(grid.residues);
         let mut forest = Forest {
             across,
             along,
-            turned: sum(grid.residues) < 0,
-            arcs: bare_arcs(alloc, nodes * 4)?,
-            border: Vec::new(alloc),
-            excess: vec![in alloc; 0; nodes]?,
-            heights: vec![in alloc; 0; nodes]?,
-            trees: no_trees(alloc, nodes)?,
-            queue: Queue::new(alloc)?,
-            time: 0,
+            stride,
+            offsets: [1, u32::MAX, stride, stride.wrapping_neg()],
+            turned: sum < 0,
+            nodes: vec![in alloc; BLANK; count as usize]?,
+            frame: frame(alloc, across, along)?,
+            outside_lacks: sum.wrapping_abs(),
+            gate: NONE,
+            waiting: Waiting::new(alloc, count)?,
         };
-        forest.load(grid)?;
+        forest.load(grid);
         Ok(forest)
     }
 
+    /// Sets the arcs' costs and what the nodes have to send.
+    fn load(&mut self, grid: Grid<'_>) {
+        let (across, along) = (self.across, self.along);
+        for y in 0..along.wrapping_add(1) {
+            let first = self.cell(0, y);
+            load_right(
+                &mut self.nodes,
+                row(grid.right, y, across),
+                first,
+                self.stride,
+            );
+            if y < along {
+                load_down(
+                    &mut self.nodes,
+                    row(grid.down, y, across.wrapping_add(1)),
+                    first,
+                );
+                load_residues(
+                    &mut self.nodes,
+                    row(grid.residues, y, across),
+                    first,
+                    self.turned,
+                );
+            }
+        }
+        load_frame(&mut self.nodes, &self.frame, self.outside_lacks > 0);
+    }
+
     /// The number of a cell, by its place in its row and its row.
-    fn cell(&self, x: u32, y: u32) -> u32 {
+    pub(crate) fn cell(&self, x: u32, y: u32) -> u32 {
         y.wrapping_add(1)
-            .wrapping_mul(self.across.wrapping_add(2))
+            .wrapping_mul(self.stride)
             .wrapping_add(x)
             .wrapping_add(1)
     }
 
-    /// Sets the cells' arcs and what they have to send.
-    fn load(&mut self, grid: Grid<'_>) -> Result<(), AllocError> {
-        let mut sent: i32 = 0;
-        for y in 0..self.along {
-            for x in 0..self.across {
-                let place = y.wrapping_mul(self.across).wrapping_add(x);
-                let residue = i32::from(grid.residues.get(place as usize).copied().unwrap_or(0));
-                let excess = if self.turned {
-                    residue.wrapping_neg()
-                } else {
-                    residue
-                };
-                sent = sent.wrapping_add(excess);
-                let cell = self.cell(x, y);
-                put(&mut self.excess, cell, excess);
-                self.load_cell(grid, x, y)?;
-            }
-        }
-        put(&mut self.excess, OUTSIDE, sent.wrapping_neg());
-        Ok(())
-    }
-
-    /// Sets the arcs of one cell.
-    fn load_cell(&mut self, grid: Grid<'_>, x: u32, y: u32) -> Result<(), AllocError> {
-        let cell = self.cell(x, y);
-        let stride = self.across.wrapping_add(2);
-        let above = y.wrapping_mul(self.across).wrapping_add(x);
-        let before = above.wrapping_add(y);
-        let right = at(grid.down, before.wrapping_add(1));
-        self.load_arc(
-            cell,
-            RIGHT,
-            cell.wrapping_add(1),
-            right,
-            x.wrapping_add(1) == self.across,
-        )?;
-        self.load_arc(
-            cell,
-            LEFT,
-            cell.wrapping_sub(1),
-            at(grid.down, before),
-            x == 0,
-        )?;
-        let down = at(grid.right, above.wrapping_add(self.across));
-        self.load_arc(
-            cell,
-            DOWN,
-            cell.wrapping_add(stride),
-            down,
-            y.wrapping_add(1) == self.along,
-        )?;
-        self.load_arc(
-            cell,
-            UP,
-            cell.wrapping_sub(stride),
-            at(grid.right, above),
-            y == 0,
-        )
-    }
-
-    /// Sets one arc.
-    fn load_arc(
-        &mut self,
-        cell: u32,
-        direction: u32,
-        head: u32,
-        weight: i32,
-        leaves: bool,
-    ) -> Result<(), AllocError> {
-        let arc = cell.wrapping_mul(4).wrapping_add(direction);
-        put(&mut self.arcs.weights, arc, weight);
-        put(&mut self.arcs.costs, arc, weight);
-        if leaves {
-            self.border.push(arc)?;
-        } else {
-            put_place(&mut self.arcs.heads, arc, head);
-        }
-        Ok(())
-    }
-
     /// The node that an arc leads to.
-    pub(crate) fn head(&self, arc: u32) -> u32 {
-        if arc & INWARD != 0 {
-            (arc & !INWARD) / 4
-        } else {
-            place_at(&self.arcs.heads, arc)
-        }
+    #[inline(always)]
+    pub(crate) fn head(&self, tail: u32, direction: u8) -> u32 {
+        tail.wrapping_add(self.offsets.get(direction as usize).copied().unwrap_or(0))
     }
 
-    /// The node that an arc leads out of.
-    pub(crate) fn tail(&self, arc: u32) -> u32 {
-        if arc & INWARD != 0 { OUTSIDE } else { arc / 4 }
-    }
-
-    /// What one unit more along an arc costs.
-    pub(crate) fn cost(&self, arc: u32) -> i32 {
-        if arc & INWARD != 0 {
-            let arc = arc & !INWARD;
-            cost_of(
-                at(&self.arcs.flows, arc).wrapping_neg(),
-                at(&self.arcs.weights, arc),
-            )
-        } else {
-            at(&self.arcs.costs, arc)
-        }
-    }
-
-    /// The arc that goes an arc's way back.
-    pub(crate) fn back(&self, arc: u32) -> u32 {
-        if arc & INWARD != 0 {
-            return arc & !INWARD;
-        }
-        let head = place_at(&self.arcs.heads, arc);
-        if head == OUTSIDE {
-            arc | INWARD
-        } else {
-            head.wrapping_mul(4).wrapping_add(arc % 4 ^ 1)
-        }
-    }
-
-    /// Adds to what flows along an arc of a cell.
-    fn add_flow(&mut self, arc: u32, amount: i32) {
-        let flow = at(&self.arcs.flows, arc).wrapping_add(amount);
-        put(&mut self.arcs.flows, arc, flow);
-        let cost = cost_of(flow, at(&self.arcs.weights, arc));
-        put(&mut self.arcs.costs, arc, cost);
+    /// The node that an arc into a node leads out of, by the arc's direction.
+    #[inline(always)]
+    pub(crate) fn tail(&self, head: u32, direction: u8) -> u32 {
+        head.wrapping_sub(self.offsets.get(direction as usize).copied().unwrap_or(0))
     }
 
     /// Lets a unit flow along an arc.
-    pub(crate) fn push_unit(&mut self, arc: u32) {
-        if arc & INWARD != 0 {
-            self.add_flow(arc & !INWARD, -1);
-            return;
+    pub(crate) fn push_unit(&mut self, tail: u32, direction: u8) {
+        let head = self.head(tail, direction);
+        let weight = node_at(&self.nodes, tail).cost(direction).wrapping_abs();
+        let unit: i16 = if direction % 2 == 0 { 1 } else { -1 };
+        let mut flow = 0;
+        if let Some(first) = self.nodes.get_mut(tail.min(head) as usize) {
+            flow = first.add_flow(direction, unit).wrapping_mul(unit);
         }
-        self.add_flow(arc, 1);
-        let back = self.back(arc);
-        if back & INWARD == 0 {
-            self.add_flow(back, -1);
+        if let Some(node) = self.nodes.get_mut(tail as usize) {
+            node.set_cost(direction, cost_of(flow, weight));
         }
-    }
-
-    /// How many nodes there are.
-    pub(crate) fn nodes(&self) -> u32 {
-        self.across
-            .wrapping_add(2)
-            .wrapping_mul(self.along.wrapping_add(2))
-    }
-
-    /// How many arcs lead outside.
-    pub(crate) fn border_arcs(&self) -> u32 {
-        self.across.wrapping_add(self.along).wrapping_mul(2)
-    }
-
-    /// When an arc out of a tree's node joins its head: as soon as its reduced cost is 0.
-    pub(crate) fn joining(&self, arc: u32) -> i32 {
-        let height = at(&self.heights, self.tail(arc));
-        self.cost(arc)
-            .wrapping_add(height)
-            .wrapping_sub(at(&self.heights, self.head(arc)))
-    }
-
-    /// The corrections of the right edges: what flows from the cell above to the cell below.
-    pub(crate) fn right_corrections(&self, alloc: Global) -> Result<Vec<i32>, AllocError> {
-        let mut list = Vec::with_capacity(alloc, self.across as usize * (self.along as usize + 1))?;
-        for y in 0..self.along.wrapping_add(1) {
-            for x in 0..self.across {
-                let flow = if y == 0 {
-                    self.flow(x, y, UP).wrapping_neg()
-                } else {
-                    self.flow(x, y.wrapping_sub(1), DOWN)
-                };
-                list.push(self.turned_back(flow))?;
-            }
-        }
-        Ok(list)
-    }
-
-    /// The corrections of the down edges: what flows from the cell on the right to the cell on the left.
-    pub(crate) fn down_corrections(&self, alloc: Global) -> Result<Vec<i32>, AllocError> {
-        let mut list = Vec::with_capacity(alloc, (self.across as usize + 1) * self.along as usize)?;
-        for y in 0..self.along {
-            for x in 0..self.across.wrapping_add(1) {
-                let flow = if x == 0 {
-                    self.flow(x, y, LEFT)
-                } else {
-                    self.flow(x.wrapping_sub(1), y, RIGHT).wrapping_neg()
-                };
-                list.push(self.turned_back(flow))?;
-            }
-        }
-        Ok(list)
-    }
-
-    /// The faces of the cells: how much higher the potential of the outside lies.
-    pub(crate) fn faces(&self, alloc: Global) -> Result<Vec<i64>, AllocError> {
-        let mut list = Vec::with_capacity(alloc, self.across as usize * self.along as usize)?;
-        let outside = at(&self.heights, OUTSIDE);
-        for y in 0..self.along {
-            for x in 0..self.across {
-                let height = at(&self.heights, self.cell(x, y));
-                list.push(i64::from(self.turned_back(outside.wrapping_sub(height))))?;
-            }
-        }
-        Ok(list)
-    }
-
-    /// What flows out of a cell in a direction.
-    fn flow(&self, x: u32, y: u32, direction: u32) -> i32 {
-        at(
-            &self.arcs.flows,
-            self.cell(x, y).wrapping_mul(4).wrapping_add(direction),
-        )
-    }
-
-    /// A number with the sign that it has where none was turned.
-    fn turned_back(&self, number: i32) -> i32 {
-        if self.turned {
-            number.wrapping_neg()
-        } else {
-            number
+        if let Some(node) = self.nodes.get_mut(head as usize) {
+            node.set_cost(direction ^ 1, cost_of(flow.wrapping_neg(), weight));
         }
     }
 }
 
-/// What one unit more costs across an edge of a weight along which so much flows: the weight, or its return where flow
-/// comes the other way.
-fn cost_of(flow: i32, weight: i32) -> i32 {
+/// A row of a list in row order, or nothing.
+fn row<T>(list: &[T], y: u32, width: u32) -> &[T] {
+    let first = y.wrapping_mul(width) as usize;
+    list.get(first..first + width as usize).unwrap_or(&[])
+}
+
+/// Sets the costs of the arcs across the right edges of a row, by the number of the first cell below them.
+fn load_right(nodes: &mut [Node], weights: &[i32], first: u32, stride: u32) {
+    let mut below = first;
+    for weight in weights {
+        if let Some(node) = nodes.get_mut(below.wrapping_sub(stride) as usize) {
+            node.set_cost(DOWN, *weight);
+        }
+        if let Some(node) = nodes.get_mut(below as usize) {
+            node.set_cost(UP, *weight);
+        }
+        below = below.wrapping_add(1);
+    }
+}
+
+/// Sets the costs of the arcs across the down edges of a row, by the number of its first cell.
+fn load_down(nodes: &mut [Node], weights: &[i32], first: u32) {
+    let mut cell = first;
+    for weight in weights {
+        if let Some(node) = nodes.get_mut(cell.wrapping_sub(1) as usize) {
+            node.set_cost(RIGHT, *weight);
+        }
+        if let Some(node) = nodes.get_mut(cell as usize) {
+            node.set_cost(LEFT, *weight);
+        }
+        cell = cell.wrapping_add(1);
+    }
+}
+
+/// Sets what the cells of a row have to send, by the number of the first.
+fn load_residues(nodes: &mut [Node], residues: &[i8], first: u32, turned: bool) {
+    let mut cell = first;
+    for residue in residues {
+        if let Some(node) = nodes.get_mut(cell as usize) {
+            node.excess = if turned {
+                residue.wrapping_neg()
+            } else {
+                *residue
+            };
+        }
+        cell = cell.wrapping_add(1);
+    }
+}
+
+/// Makes the frame the outside.
+fn load_frame(nodes: &mut [Node], frame: &[Inlet], lacks: bool) {
+    for inlet in frame {
+        if let Some(node) = nodes.get_mut(inlet.place as usize) {
+            node.outside = true;
+            node.excess = if lacks { -1 } else { 0 };
+        }
+    }
+}
+
+/// The frame of a grid.
+fn frame(alloc: Global, across: u32, along: u32) -> Result<Vec<Inlet>, AllocError> {
+    let stride = across.wrapping_add(2);
+    let mut frame = Vec::with_capacity(alloc, (across as usize + along as usize) * 2)?;
+    let mut above = stride.wrapping_add(1);
+    let mut below = along.wrapping_mul(stride).wrapping_add(1);
+    for _ in 0..across {
+        frame.push(inlet_at(above.wrapping_sub(stride), above, DOWN))?;
+        frame.push(inlet_at(below.wrapping_add(stride), below, UP))?;
+        above = above.wrapping_add(1);
+        below = below.wrapping_add(1);
+    }
+    let mut left = stride.wrapping_add(1);
+    let mut right = stride.wrapping_add(across);
+    for _ in 0..along {
+        frame.push(inlet_at(left.wrapping_sub(1), left, RIGHT))?;
+        frame.push(inlet_at(right.wrapping_add(1), right, LEFT))?;
+        left = left.wrapping_add(stride);
+        right = right.wrapping_add(stride);
+    }
+    Ok(frame)
+}
+
+fn inlet_at(place: u32, cell: u32, direction: u8) -> Inlet {
+    Inlet {
+        place,
+        cell,
+        direction,
+    }
+}
+
+/// What one unit more costs across an edge of a weight along which so much flows.
+fn cost_of(flow: i16, weight: i32) -> i32 {
     if flow >= 0 {
         weight
     } else {

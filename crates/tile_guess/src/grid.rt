@@ -27,7 +27,7 @@ pub struct Guess {
 
 /// Guesses corrections that cancel the residues at least weighted sum, and the faces that certify them. Nothing is promised
 /// of them; for a grid whose lists have their lengths and whose residues lie from -1 to 1 they are found right in every
-/// test. It takes a few dozen steps for each cell, and at most 4096.
+/// test. It takes two to ten steps for each cell there, and at most 4096.
 ///
 /// The flow leaves cells of positive residue and ends at those of negative residue or outside. Trees grow from all cells
 /// that hold flow, at one common time, along arcs as their reduced costs fall to 0; where one meets a node that lacks, a
@@ -35,7 +35,7 @@ pub struct Guess {
 /// Hopcroft and Karp's forests).
 pub fn guess_flow(alloc: Global, grid: Grid<'_>) -> Result<Guess, AllocError> {
     let mut forest = Forest::of(alloc, grid)?;
-    grow(alloc, &mut forest)?;
+    grow(&mut forest);
     Ok(Guess {
         right: forest.right_corrections(alloc)?,
         down: forest.down_corrections(alloc)?,

@@ -1,172 +1,260 @@
-use crate::forest::{Forest, INWARD, NONE, OUTSIDE};
-use crate::lists::{at, place_at, put, put_place};
-use crate::queue::Event;
-use std::alloc::{AllocError, Global};
+use crate::forest::Forest;
+use crate::node::{DOWN, IN_TREE, LEFT, NEVER, NONE, Node, RIGHT, UP, node_at};
+use crate::outside::{invite_outside, join_outside, lacks_less, release_outside};
+use crate::waiting::Waiting;
 
 /// Grows trees from all nodes that hold flow until none is left, or the steps run out.
-pub(crate) fn grow(alloc: Global, forest: &mut Forest) -> Result<(), AllocError> {
-    let mut left = plant(forest)?;
-    let steps = u64::from(forest.nodes()) * 4096;
+pub(crate) fn grow(forest: &mut Forest) {
+    let mut left = plant(&mut forest.nodes);
+    spread_all(forest);
+    let steps = u64::from(forest.waiting.nodes()) * 4096;
     for _ in 0..steps {
         if left <= 0 {
-            return Ok(());
+            return;
         }
-        let Some(event) = forest.queue.take(alloc)? else {
-            return Ok(());
+        let Some(node) = forest.waiting.take(&forest.nodes) else {
+            return;
         };
-        if meet(forest, event)? {
+        if join(forest, node) {
             left = left.wrapping_sub(1);
         }
     }
-    Ok(())
 }
 
 /// Makes each node that holds flow a tree of its own, and tells how much they hold.
-fn plant(forest: &mut Forest) -> Result<i32, AllocError> {
+fn plant(nodes: &mut [Node]) -> i32 {
     let mut left: i32 = 0;
-    for node in 0..forest.nodes() {
-        let excess = at(&forest.excess, node);
-        if excess > 0 {
-            left = left.wrapping_add(excess);
-            attach(forest, node, node, NONE)?;
+    for node in nodes {
+        if node.excess > 0 {
+            node.due = IN_TREE;
+            left = left.wrapping_add(i32::from(node.excess));
         }
     }
-    Ok(left)
+    left
 }
 
-/// Joins a node to the tree of a root, and tells when its arcs will join others.
-fn attach(forest: &mut Forest, node: u32, root: u32, step: u32) -> Result<(), AllocError> {
-    let height = at(&forest.heights, node).wrapping_add(forest.time);
-    put(&mut forest.heights, node, height);
-    put_place(&mut forest.trees.roots, node, root);
-    put_place(&mut forest.trees.steps, node, step);
-    let first = place_at(&forest.trees.first, root);
-    put_place(&mut forest.trees.following, node, first);
-    put_place(&mut forest.trees.first, root, node);
-    if node == OUTSIDE {
-        return tell_inward(forest);
+/// Tells when the first trees join others.
+fn spread_all(forest: &mut Forest) {
+    for node in 0..forest.waiting.nodes() {
+        if node_at(&forest.nodes, node).excess > 0 {
+            spread(
+                &mut forest.nodes,
+                &mut forest.waiting,
+                node,
+                forest.stride,
+                0,
+            );
+        }
     }
-    for direction in 0..4 {
-        tell(forest, node.wrapping_mul(4).wrapping_add(direction))?;
-    }
-    Ok(())
 }
 
-/// Tells when an arc out of a tree joins its head, if that is in no tree.
-fn tell(forest: &mut Forest, arc: u32) -> Result<(), AllocError> {
-    if place_at(&forest.trees.roots, forest.head(arc)) != NONE {
-        return Ok(());
-    }
-    let time = forest.joining(arc);
-    forest.queue.tell(Event { time, arc })
+/// Puts a node in a tree, at its height and the time, and tells when its arcs join others.
+#[inline(always)]
+fn spread(nodes: &mut [Node], waiting: &mut Waiting, place: u32, stride: u32, time: i32) {
+    let Some(node) = nodes.get_mut(place as usize) else {
+        return;
+    };
+    let height = node.height.wrapping_add(time);
+    node.height = height;
+    node.due = IN_TREE;
+    let [right, left, down, up] = node.costs;
+    tell(
+        nodes,
+        waiting,
+        place.wrapping_add(1),
+        height.wrapping_add(right),
+        RIGHT,
+    );
+    tell(
+        nodes,
+        waiting,
+        place.wrapping_sub(1),
+        height.wrapping_add(left),
+        LEFT,
+    );
+    tell(
+        nodes,
+        waiting,
+        place.wrapping_add(stride),
+        height.wrapping_add(down),
+        DOWN,
+    );
+    tell(
+        nodes,
+        waiting,
+        place.wrapping_sub(stride),
+        height.wrapping_add(up),
+        UP,
+    );
 }
 
-/// Tells this of all arcs that lead in from the outside.
-fn tell_inward(forest: &mut Forest) -> Result<(), AllocError> {
-    for place in 0..forest.border_arcs() {
-        let arc = place_at(&forest.border, place);
-        tell(forest, arc | INWARD)?;
+/// Tells that an arc out of a tree reaches a height at its head. When that has risen so far, by the time, the head joins:
+/// it waits for that time, unless it joins sooner or is in a tree.
+#[inline(always)]
+pub(crate) fn tell(
+    nodes: &mut [Node],
+    waiting: &mut Waiting,
+    head: u32,
+    reached: i32,
+    direction: u8,
+) {
+    let Some(node) = nodes.get_mut(head as usize) else {
+        return;
+    };
+    let time = reached.wrapping_sub(node.height);
+    if time < node.due {
+        let waits = node.due != NEVER;
+        node.due = time;
+        node.step = direction;
+        if waits {
+            waiting.remove(head);
+        }
+        waiting.add(head, time);
     }
-    Ok(())
 }
 
-/// What happens when an arc's time has come: it joins its head to its tree, or the tree has met a node that lacks. Tells
-/// whether a unit has flowed.
-fn meet(forest: &mut Forest, event: Event) -> Result<bool, AllocError> {
-    let head = forest.head(event.arc);
-    let root = place_at(&forest.trees.roots, forest.tail(event.arc));
-    if place_at(&forest.trees.roots, head) != NONE
-        || root == NONE
-        || forest.joining(event.arc) != event.time
-    {
-        return Ok(false);
+/// What happens when a node's time has come: it joins the tree at its step, or the tree has met a node that lacks. If that
+/// tree is gone, the node waits for the next. Tells whether a unit has flowed.
+#[inline(always)]
+fn join(forest: &mut Forest, place: u32) -> bool {
+    let Some(node) = forest.nodes.get(place as usize).copied() else {
+        return false;
+    };
+    let tail = forest.tail(place, node.step);
+    let Some(from) = forest.nodes.get(tail as usize).copied() else {
+        return false;
+    };
+    let time = from
+        .cost(node.step)
+        .wrapping_add(from.height)
+        .wrapping_sub(node.height);
+    if from.due != IN_TREE || time != forest.waiting.time {
+        invite(&mut forest.nodes, &mut forest.waiting, place, forest.stride);
+        return false;
     }
-    forest.time = event.time;
-    if at(&forest.excess, head) >= 0 {
-        attach(forest, head, root, event.arc)?;
-        return Ok(false);
+    if node.excess < 0 {
+        meet(forest, place, tail, node.step);
+        return true;
     }
-    let lacks = at(&forest.excess, head).wrapping_add(1);
-    put(&mut forest.excess, head, lacks);
-    send(forest, event.arc);
-    let holds = at(&forest.excess, root).wrapping_sub(1);
-    put(&mut forest.excess, root, holds);
-    if holds > 0 {
-        forest.queue.tell(event)?;
+    let before = if from.outside { forest.gate } else { tail };
+    forest.waiting.follow(before, place);
+    if node.outside {
+        join_outside(forest, place);
     } else {
-        dissolve(forest, root)?;
+        spread(
+            &mut forest.nodes,
+            &mut forest.waiting,
+            place,
+            forest.stride,
+            time,
+        );
     }
-    Ok(true)
+    false
 }
 
-/// Lets a unit flow along the branch that ends with an arc.
-fn send(forest: &mut Forest, arc: u32) {
-    let mut step = arc;
-    for _ in 0..forest.nodes() {
-        if step == NONE {
+/// Lets a unit flow from the root of a tree to a node that lacks, by an arc out of the tree, and dissolves the tree.
+fn meet(forest: &mut Forest, head: u32, tail: u32, direction: u8) {
+    if node_at(&forest.nodes, head).outside {
+        lacks_less(forest);
+    } else if let Some(node) = forest.nodes.get_mut(head as usize) {
+        node.excess = node.excess.wrapping_add(1);
+    }
+    let root = send(forest, tail, direction);
+    if let Some(node) = forest.nodes.get_mut(root as usize) {
+        node.excess = node.excess.wrapping_sub(1);
+    }
+    release(forest, root);
+    invite_tree(forest, root);
+    invite(&mut forest.nodes, &mut forest.waiting, head, forest.stride);
+}
+
+/// Lets a unit flow along the branch that ends with an arc, and tells its root.
+fn send(forest: &mut Forest, tail: u32, direction: u8) -> u32 {
+    let mut place = tail;
+    let mut step = direction;
+    for _ in 0..forest.waiting.nodes() {
+        forest.push_unit(place, step);
+        if node_at(&forest.nodes, place).outside {
+            place = forest.gate;
+        }
+        let node = node_at(&forest.nodes, place);
+        if node.excess > 0 {
+            return place;
+        }
+        step = node.step;
+        place = forest.tail(place, step);
+    }
+    NONE
+}
+
+/// Takes the nodes of a tree out of it.
+fn release(forest: &mut Forest, root: u32) {
+    let time = forest.waiting.time;
+    let mut place = root;
+    for _ in 0..forest.waiting.nodes() {
+        let Some(node) = forest.nodes.get_mut(place as usize) else {
+            return;
+        };
+        if node.outside {
+            release_outside(&mut forest.nodes, &forest.frame, time);
+        } else {
+            node.height = node.height.wrapping_sub(time);
+            node.due = NEVER;
+        }
+        place = forest.waiting.after(place);
+    }
+}
+
+/// Tells when other trees join the nodes of one that is no more.
+fn invite_tree(forest: &mut Forest, root: u32) {
+    let mut place = root;
+    for _ in 0..forest.waiting.nodes() {
+        if place == NONE {
             return;
         }
-        forest.push_unit(step);
-        step = place_at(&forest.trees.steps, forest.tail(step));
-    }
-}
-
-/// Takes the nodes of a tree out of it, and tells when other trees will join them.
-fn dissolve(forest: &mut Forest, root: u32) -> Result<(), AllocError> {
-    let first = place_at(&forest.trees.first, root);
-    put_place(&mut forest.trees.first, root, NONE);
-    release(forest, first);
-    let mut node = first;
-    for _ in 0..forest.nodes() {
-        if node == NONE {
-            return Ok(());
+        let next = forest.waiting.after(place);
+        if node_at(&forest.nodes, place).outside {
+            invite_outside(forest);
+        } else {
+            invite(&mut forest.nodes, &mut forest.waiting, place, forest.stride);
         }
-        invite(forest, node)?;
-        node = place_at(&forest.trees.following, node);
-    }
-    Ok(())
-}
-
-/// Takes these nodes out of their tree.
-fn release(forest: &mut Forest, first: u32) {
-    let mut node = first;
-    for _ in 0..forest.nodes() {
-        if node == NONE {
-            return;
-        }
-        let height = at(&forest.heights, node).wrapping_sub(forest.time);
-        put(&mut forest.heights, node, height);
-        put_place(&mut forest.trees.roots, node, NONE);
-        node = place_at(&forest.trees.following, node);
+        place = next;
     }
 }
 
-/// Tells when the trees around a free node will join it.
-fn invite(forest: &mut Forest, node: u32) -> Result<(), AllocError> {
-    if node == OUTSIDE {
-        return invite_outside(forest);
+/// Tells when the trees around a free node, which does not wait, join it.
+pub(crate) fn invite(nodes: &mut [Node], waiting: &mut Waiting, place: u32, stride: u32) {
+    let none = (NEVER, RIGHT);
+    let first = sooner(nodes, place.wrapping_sub(1), RIGHT, none);
+    let second = sooner(nodes, place.wrapping_add(1), LEFT, first);
+    let third = sooner(nodes, place.wrapping_sub(stride), DOWN, second);
+    let (reached, step) = sooner(nodes, place.wrapping_add(stride), UP, third);
+    let Some(node) = nodes.get_mut(place as usize) else {
+        return;
+    };
+    if reached == NEVER {
+        node.due = NEVER;
+        return;
     }
-    for direction in 0..4 {
-        let back = forest.back(node.wrapping_mul(4).wrapping_add(direction));
-        tell_of(forest, back)?;
-    }
-    Ok(())
+    let time = reached.wrapping_sub(node.height);
+    node.due = time;
+    node.step = step;
+    waiting.add(place, time);
 }
 
-/// Tells when the trees at the border will join the outside.
-fn invite_outside(forest: &mut Forest) -> Result<(), AllocError> {
-    for place in 0..forest.border_arcs() {
-        let arc = place_at(&forest.border, place);
-        tell_of(forest, arc)?;
+/// The lower of the height that an arc out of a tree reaches and another, with the arc's direction.
+#[inline(always)]
+fn sooner(nodes: &[Node], tail: u32, direction: u8, other: (i32, u8)) -> (i32, u8) {
+    let Some(node) = nodes.get(tail as usize) else {
+        return other;
+    };
+    if node.due != IN_TREE {
+        return other;
     }
-    Ok(())
-}
-
-/// Tells when an arc joins its head, if its tail is in a tree.
-fn tell_of(forest: &mut Forest, arc: u32) -> Result<(), AllocError> {
-    if place_at(&forest.trees.roots, forest.tail(arc)) == NONE {
-        return Ok(());
+    let reached = node.cost(direction).wrapping_add(node.height);
+    if reached < other.0 {
+        (reached, direction)
+    } else {
+        other
     }
-    let time = forest.joining(arc);
-    forest.queue.tell(Event { time, arc })
 }

@@ -2,10 +2,12 @@
 //! answers.
 #![tactic(auto)]
 
+mod answers;
 mod forest;
 mod grid;
 mod growing;
-mod lists;
-mod queue;
+mod node;
+mod outside;
+mod waiting;
 
 pub use crate::grid::{Grid, Guess, guess_flow};

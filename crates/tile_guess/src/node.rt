@@ -1,0 +1,77 @@
+/// No node.
+pub(crate) const NONE: u32 = u32::MAX;
+
+/// The directions out of a node, in the order of its arcs. That of a direction's turn differs in the last binary digit.
+pub(crate) const RIGHT: u8 = 0;
+
+pub(crate) const LEFT: u8 = 1;
+
+pub(crate) const DOWN: u8 = 2;
+
+pub(crate) const UP: u8 = 3;
+
+/// When a node of a tree joins one: it is in one already.
+pub(crate) const IN_TREE: i32 = i32::MIN;
+
+/// When a node joins a tree if no tree is beside it.
+pub(crate) const NEVER: i32 = i32::MAX;
+
+/// A cell, or a place of the frame around the grid. The places of the frame are the outside together.
+#[derive(Clone, Copy)]
+pub(crate) struct Node {
+    /// What one unit more costs along each arc, by direction: the edge's weight, or its return if flow comes the other way.
+    pub(crate) costs: [i32; 4],
+    /// Its potential; in a tree the time is added.
+    pub(crate) height: i32,
+    /// When it joins a tree, by what is known now.
+    pub(crate) due: i32,
+    /// What flows along its right arc and along its down arc.
+    pub(crate) flows: [i16; 2],
+    /// What it has to send; -1 at the frame while the outside lacks.
+    pub(crate) excess: i8,
+    /// The direction of the arc by which it joins, or has joined, its tree.
+    pub(crate) step: u8,
+    /// Whether it is a place of the frame.
+    pub(crate) outside: bool,
+}
+
+/// A node with nothing set, in no tree and beside none.
+pub(crate) const BLANK: Node = Node {
+    costs: [0; 4],
+    height: 0,
+    due: NEVER,
+    flows: [0; 2],
+    excess: 0,
+    step: RIGHT,
+    outside: false,
+};
+
+/// The node of a place, or a blank one.
+pub(crate) fn node_at(nodes: &[Node], place: u32) -> Node {
+    nodes.get(place as usize).copied().unwrap_or(BLANK)
+}
+
+impl Node {
+    /// What one unit more costs along the arc of a direction.
+    #[inline(always)]
+    pub(crate) fn cost(&self, direction: u8) -> i32 {
+        self.costs.get(direction as usize).copied().unwrap_or(0)
+    }
+
+    pub(crate) fn set_cost(&mut self, direction: u8, cost: i32) {
+        if let Some(held) = self.costs.get_mut(direction as usize) {
+            *held = cost;
+        }
+    }
+
+    /// Adds to what flows along the right arc, or the down arc, and tells how much that is now.
+    pub(crate) fn add_flow(&mut self, direction: u8, amount: i16) -> i16 {
+        match self.flows.get_mut(direction as usize / 2) {
+            Some(flow) => {
+                *flow = flow.wrapping_add(amount);
+                *flow
+            }
+            None => 0,
+        }
+    }
+}

@@ -1,3 +1,3 @@
-//! Definitions and lemmas that are of no raster and no network: sums of whole numbers below a bound, tests, order, and
+//! Definitions and lemmas that are not about rasters or networks: sums of whole numbers below a bound, tests, order and
 //! lists. There is no code here.
 #![tactic(auto)]

@@ -81,7 +81,7 @@ pub fn are_all_ones(words: &[u64], first: usize, last: usize) -> bool
     true
 }
 
-/// A word with one bit for each sample from `start` to before `end`: 0 if the sample is 0, and else 1. The other bits
+/// A word with one bit for each sample from `start` to before `end`: 0 if the sample is 0, else 1. The other bits
 /// are 0.
 pub fn word_of(samples: &[u16], start: usize, end: usize) -> u64
     requires order { start ≤ end }

@@ -29,7 +29,7 @@ pub fn wrapped_difference_is_unique()
     ensures turns { TurnsAreExact }
 {}
 
-/// The whole cycles round a cell are its residue: -1, 0 or 1.
+/// The whole cycles around a cell are its residue: -1, 0 or 1.
 pub fn residue_is_exact()
     ensures exact { ResidueIsExact }
     ensures small { ResidueIsSmall }
@@ -95,7 +95,7 @@ pub fn no_departures_are_best()
     ensures { NoDeparturesAreBest }
 {}
 
-/// No congruent surface costs less whole, over tiles and seams, than the tiles of the best surface do. So the best surface,
+/// No congruent surface costs less, over tiles and seams, than the tiles of the best surface do. So the best surface,
 /// and with it each certified one, is within its own seam cost of the least of all.
 pub fn best_is_within_its_seam_cost()
     ensures none { NoneCostsLessThanTheTiles }

@@ -13,7 +13,7 @@ pub const MIN_TILE_SIDE: u32 = 2;
 /// The greatest side of a tile, in pixels.
 pub const MAX_TILE_SIDE: u32 = 128;
 
-/// The side of a tile where none is named, in pixels.
+/// The side of a tile if none is named, in pixels.
 pub const DEFAULT_TILE_SIDE: u32 = 64;
 
 /// The greatest number of analysts of a session.
@@ -31,7 +31,7 @@ pub const MAX_CHANGED_TILES: u32 = 16_777_216;
 /// The greatest number of workers.
 pub const MAX_WORKERS: u32 = 8;
 
-/// The number of workers where none is named.
+/// The number of workers if none is named.
 pub const DEFAULT_WORKERS: u32 = 2;
 
 /// The greatest number of bytes of a session's text.

@@ -12,7 +12,7 @@ use std::marker::Model;
 pub struct Mask {
     width: u32,
     height: u32,
-    /// A bit for each pixel, 1 if it is open. Each row begins with a word of its own, and the first pixel of a
+    /// A bit for each pixel, 1 if it is open. Each row begins with a new word, and the first pixel of a
     /// word is its lowest bit. The bits after the end of a row may be 0 or 1.
     words: Vec<u64>,
 }
@@ -96,7 +96,7 @@ impl Mask {
         })
     }
 
-    /// A copy of its own.
+    /// A separate copy.
     pub fn try_copy(&self, alloc: Global) -> Result<Mask, AllocError>
         ensures { IfOk result (λ mask. mask ≡ self.now) }
     {

@@ -12,7 +12,7 @@ use crate::mask::Mask;
 use crate::phase::turns;
 use crate::scene::Scene;
 
-/// The weight of an edge under a mask: 0 where an end is masked.
+/// The weight of an edge under a mask: 0 if an end is masked.
 pub fn weight(scene: &Scene, mask: &Mask, edge: Edge) -> u16
     requires same_size { (mask.now.width ≡ scene.now.phase.width) × (mask.now.height ≡ scene.now.phase.height) }
     requires is_edge { IsTrue (is_edge scene.now.phase.width scene.now.phase.height edge) }

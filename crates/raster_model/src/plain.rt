@@ -112,7 +112,7 @@ pub fn gradient(scene: &Scene, edge: Edge) -> i32
 }
 
 /// The residue of the cell with the upper left corner (`x`, `y`), in cycles: -1, 0 or 1. It is the sum of
-/// the wrapped differences along the cell's top and right sides, less those along its bottom and left sides.
+/// the wrapped differences along the cell's top and right sides, minus those along its bottom and left sides.
 /// (Goldstein, Zebker and Werner 1988.)
 pub fn residue(scene: &Scene, x: u32, y: u32) -> i32
     requires across { x + 1 < scene.now.phase.width }
@@ -158,7 +158,7 @@ pub fn is_seam(scene: &Scene, edge: Edge) -> bool
     scene.tiling.tile_of(edge.x, edge.y) != scene.tiling.tile_of(edge.end_x(), edge.end_y())
 }
 
-/// What an edge adds to a cost: its weight times its absolute departure, and 0 where an end is masked.
+/// What an edge adds to a cost: its weight times its absolute departure, and 0 if an end is masked.
 pub fn edge_cost<H: Heights>(scene: &Scene, mask: &Mask, heights: &H, edge: Edge) -> u128
     requires same_size { (mask.now.width ≡ scene.now.phase.width) × (mask.now.height ≡ scene.now.phase.height) }
     requires is_edge { IsTrue (is_edge scene.now.phase.width scene.now.phase.height edge) }

@@ -35,7 +35,7 @@ pub struct Plane {
     pub ghost below: { (k : ℕ) → slice_index samples.items k ≤ maxval },
 }
 
-/// Why numbers and samples make no plane. Of several reasons the first in this order is told.
+/// Why numbers and samples do not make a plane. Of several reasons the first in this order is given.
 #[derive(Clone, Copy, Debug, PartialEq, Eq)]
 pub enum PlaneShape {
     /// A side or the number of pixels breaks a limit.

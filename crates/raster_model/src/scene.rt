@@ -12,7 +12,7 @@ pub struct Scene {
     pub phase: Plane,
     /// The weights of the pixels.
     pub weights: Plane,
-    /// How the pixels' weights make those of the edges.
+    /// How the pixels' weights give those of the edges.
     pub rule: RuleKind,
     /// The weights of the edges by that rule.
     pub edges: EdgeWeights,

@@ -40,18 +40,18 @@ const LINE_FEED: u8 = 10;
 pub enum FeedFault {
     /// The source failed and counted a fault.
     ReadFault,
-    /// As many bytes as the limit says were handed out, and another is there.
+    /// As many bytes as the limit says were handed out, and another follows.
     TooLong,
 }
 
 /// What `Feed::next_line` met.
 #[derive(Clone, Copy, Debug, PartialEq, Eq)]
 pub enum Line {
-    /// So many bytes and then a line feed, which is not kept.
+    /// This many bytes and then a line feed, which is not kept.
     Whole(usize),
-    /// So many bytes and then the end of the input.
+    /// This many bytes and then the end of the input.
     Cut(usize),
-    /// As many bytes as there is room for, and then another that is no line feed. That one stays.
+    /// As many bytes as there is room for, and then another that is not a line feed. That one stays.
     Over,
 }
 
@@ -66,7 +66,7 @@ impl Buffer for Vec<u8> {
 }
 
 /// Hands out the bytes of a source one by one or many at once, up to a limit. It takes from the source
-/// only where every byte that the source gave was handed out.
+/// only when every byte that the source gave was handed out.
 // `B` is always `Vec<u8>`: with `Vec<u8>` as a field's own type a dropped feed would tell nothing
 // of its source.
 pub struct Feed<'a, S, B: Buffer = Vec<u8>> {
@@ -110,8 +110,8 @@ impl<'a, S: Source> Feed<'a, S> {
       IsReady,
     };
 
-    /// A feed of the bytes that `source` has left, of which at most `limit` are handed out. Where memory
-    /// is wanting, nothing is said of the source. What waits in the feed is lost with it.
+    /// A feed of the bytes that `source` has left, of which at most `limit` are handed out. If memory
+    /// is short, nothing is said about the source. What waits in the feed is lost with it.
     pub fn new(alloc: Global, source: &'a mut S, limit: u64) -> Result<Feed<'a, S>, AllocError>
         ensures same_source { IfOk result (λ feed. source_name feed ≡ source.entry.ghost_name) }
         ensures source { IfOk result (λ feed. source_of feed ≡ source.old) }
@@ -174,8 +174,8 @@ impl<'a, S: Source> Feed<'a, S> {
         Ok(Some(self.buffer[self.start]))
     }
 
-    /// The bytes that `consume` may hand out: those that stand in the buffer, up to the limit. They are
-    /// none before the first look at the source and once all were handed out; where `peek` shows a byte
+    /// The bytes that `consume` may hand out: those in the buffer, up to the limit. They are
+    /// none before the first look at the source and once all were handed out; if `peek` shows a byte
     /// they begin with it.
     pub fn waiting(&self) -> &[u8]
         ensures value { result.now ≡ ready_of self.now }
@@ -226,7 +226,7 @@ impl<'a, S: Source> Feed<'a, S> {
         Ok(Some(byte))
     }
 
-    /// From here on, `limit` bytes in all are handed out at most.
+    /// From here on, at most `limit` bytes in all are handed out.
     pub fn set_limit(&mut self, limit: u64)
         requires { handed_of self.old ≤ limit }
         ensures same_source { source_name self.new ≡ source_name self.old }
@@ -285,7 +285,7 @@ impl<'a, S: Source> Feed<'a, S> {
         self.start += 1;
     }
 
-    /// Whether another byte stands in the buffer and may be handed out. Where the buffer is empty it
+    /// Whether another byte is in the buffer and may be handed out. If the buffer is empty it
     /// asks the source.
     fn fill(&mut self) -> Result<bool, FeedFault>
         ensures same_source { source_name self.new ≡ source_name self.old }

@@ -7,7 +7,7 @@ use crate::source::Failed;
 use std::alloc::{AllocError, Global};
 
 /// A sink that keeps bytes in memory, up to a capacity. It tells its bytes, takes them in pieces, and
-/// fails in the calls that it is told.
+/// fails in the calls that are named.
 #[derive(Drop)]
 pub struct MemorySink {
     buffer: Vec<u8>,
@@ -62,7 +62,7 @@ impl Sink for MemorySink {
     ghost faults = { λ sink. (sink_plan sink).faults };
 
     /// Appends as many bytes as a piece and the capacity have room for. A piece that is not empty fails
-    /// where the sink is full.
+    /// if the sink is full.
     fn put(&mut self, piece: &[u8]) -> Result<usize, Failed>
         ensures fails { OnErr result (WillFail (sink_plan self.old) ⊎ HasNoRoom self.old piece.now) }
         ensures works { OnOk result (¬ WillFail (sink_plan self.old)) }

@@ -4,7 +4,7 @@ use crate::plan::Plan;
 use crate::source::{Failed, Source};
 
 /// A source over bytes in memory. It tells its bytes, gives them in pieces, and fails in the calls
-/// that it is told.
+/// that are named.
 #[derive(Drop)]
 pub struct MemorySource {
     bytes: Vec<u8>,

@@ -28,7 +28,7 @@ impl Plan {
         }
     }
 
-    /// Counts a call, and a fault where it is to fail.
+    /// Counts a call, and a fault if it is to fail.
     pub fn call(&mut self) -> Result<(), Failed>
         ensures fails { OnErr result (WillFail self.old) }
         ensures works { OnOk result (¬ WillFail self.old) }

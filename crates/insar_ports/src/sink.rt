@@ -23,7 +23,7 @@ pub struct WriteFault;
 /// Keeps bytes that it is handed in pieces. Its count of faults starts at 0 and stays at the last
 /// value of a `u64`.
 pub trait Sink {
-    /// The bytes that it holds, where they are told.
+    /// The bytes that it holds, if they are told.
     ghost held: { Self → Option (List ℕ) };
 
     /// The count of faults.

@@ -19,7 +19,7 @@ pub struct Failed;
 
 /// Gives bytes in pieces. Its count of faults starts at 0 and stays at the last value of a `u64`.
 pub trait Source {
-    /// The bytes that are left, where they are told.
+    /// The bytes that are left, if they are told.
     ghost left: { Self → Option (List ℕ) };
 
     /// The count of faults.

@@ -1,4 +1,4 @@
-//! Flow networks whose arcs keep reduced costs of at least 0, and a network whose arcs stand in lists.
+//! Flow networks whose arcs keep reduced costs of at least 0, and a network whose arcs are kept in lists.
 #![tactic(auto)]
 
 pub mod laws;

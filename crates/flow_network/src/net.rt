@@ -6,8 +6,8 @@ ghost use Rattle.flow_network.specs.Moves.{IsPushed, IsRaised, MayRaise, StaysIn
 ///
 /// Nodes are the numbers below `nodes()`. Each arc has a twin, with the ends exchanged and the negated cost; what is
 /// pushed along an arc can be pushed back along its twin. The reduced cost of an arc is its cost, plus the potential of
-/// its tail, less the potential of its head. Every network keeps that an arc with capacity left has a reduced cost of at
-/// least 0, and that the excesses sum to 0. So where no excess is left, the flow has the least cost: `laws::balanced_is_least`
+/// its tail, minus that of its head. Every network keeps that an arc with capacity left has a reduced cost of at
+/// least 0, and that the excesses sum to 0. So if no excess is left, the flow has the least cost: `laws::balanced_is_least`
 /// (Ahuja, Magnanti and Orlin 1993, "Network Flows", section 9.3).
 ///
 /// Neither `push` nor `raise` changes the nodes, the arcs, their ends, twins and costs, or what the network was made from.
@@ -61,7 +61,7 @@ pub trait FlowNet {
         requires { IsArc (shape self.now) arc }
         ensures { result ≡ (state self.now).residual arc };
 
-    /// How much a node has above what it wants; below 0 the node lacks.
+    /// How much a node has above what it needs; a number below 0 is a deficit.
     fn excess(&self, node: u32) -> i64
         requires { node < (shape self.now).nodes }
         ensures { result ≡ (state self.now).excess node };

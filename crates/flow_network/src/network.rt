@@ -7,7 +7,7 @@ use crate::net::FlowNet;
 use crate::slices::{add_each, carry, no_arcs, push_reserved, shift};
 use std::alloc::{AllocError, Global};
 
-/// A flow network whose arcs stand in lists, in the order in which `add_arc` added them. Conforms to `FlowNet`.
+/// A flow network whose arcs are kept in lists, in the order in which `add_arc` added them. Conforms to `FlowNet`.
 ///
 /// Arcs 2k and 2k + 1 are twins: the first is what the k-th call of `add_arc` named, from its tail to its head.
 #[derive(Drop)]
@@ -141,7 +141,7 @@ impl Network {
 
     /// Adds an arc of capacity `forward` and its twin of capacity `back`, and names the arc.
     ///
-    /// It is called before any `raise`, while every potential is 0. Want of memory leaves the network as it was.
+    /// It is called before any `raise`, while every potential is 0. Lack of memory leaves the network as it was.
     pub fn add_arc(
         &mut self,
         _alloc: Global,

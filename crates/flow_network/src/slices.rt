@@ -57,7 +57,7 @@ pub fn add_each(values: &mut [i64], amounts: &[i64])
     }
 }
 
-/// Adds an item where there is room.
+/// Adds an item if there is room.
 pub(crate) fn push_reserved<T: Drop>(items: &mut Vec<T>, item: T)
     requires { vec_len items.old < vec_capacity items.old }
     ensures items { items.new.items ≡ items.old.items ++ item ∷ [] }
@@ -67,7 +67,7 @@ pub(crate) fn push_reserved<T: Drop>(items: &mut Vec<T>, item: T)
     let _pushed = items.push(item);
 }
 
-/// No arc at each of so many nodes.
+/// No arc at each of `count` nodes.
 pub(crate) fn no_arcs(alloc: Global, count: usize) -> Result<Vec<Option<u32>>, AllocError>
     ensures count { IfOk result (λ first. length first.items ≡ count) }
     ensures none { IfOk result (λ first. (v : ℕ) → v < count → get_or first.items v None ≡ None) }

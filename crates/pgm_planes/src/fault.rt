@@ -24,8 +24,8 @@ pub enum PlaneFault {
     /// The first two bytes are not `P5` or `P2`, or the input ends before them.
     #[error("no PGM magic")]
     Magic,
-    /// The byte at this place cannot stand there, or the input ends in the header after so many
-    /// bytes. For a weight or a mask also: maxval, whose first digit stands there, is 0 or above
+    /// The byte at this place is not allowed there, or the input ends in the header after this many
+    /// bytes. For a weight or a mask also: maxval, whose first digit is there, is 0 or above
     /// 65535.
     #[error("the form breaks at byte {0}")]
     Form(u64),
@@ -38,7 +38,7 @@ pub enum PlaneFault {
     /// The sample with this index, from 0 in row order, is above maxval.
     #[error("the sample {index} is {value}, above maxval")]
     SampleAbove { index: u32, value: u32 },
-    /// The input ends before the last sample; so many samples were whole.
+    /// The input ends before the last sample; this many samples were whole.
     #[error("the input ends after {0} samples")]
     Short(u32),
 }
@@ -46,9 +46,9 @@ pub enum PlaneFault {
 /// Why no plane was read.
 #[derive(Clone, Copy, Debug, PartialEq, Eq)]
 pub enum ReadPlaneFault {
-    /// The bytes are no plane, and this is the first break.
+    /// The bytes are not a plane, and this is the first break.
     Plane(PlaneFault),
-    /// The feed's limit was handed out, and another byte is there that is asked for.
+    /// The feed's limit was handed out, and another byte that is asked for follows.
     TooLong,
     /// The source failed and counted a fault.
     ReadFault,
@@ -92,10 +92,10 @@ pub enum InputFault {
     /// The input has more bytes than an input may have.
     #[error("the input is too long")]
     TooLong,
-    /// The plane of this role has not the phase plane's size.
+    /// The plane of this role does not have the phase plane's size.
     #[error("the size of the {0:?} plane is not that of the phase plane")]
     SizesDiffer(Role),
-    /// This line of the script part, from 1, is none that may stand there.
+    /// This line of the script part, from 1, is not one that is allowed there.
     #[error("line {0} of the scripts is none that may stand there")]
     ScriptLine(u32),
     /// The rectangle of this line does not lie in the raster.
@@ -113,7 +113,7 @@ pub enum InputFault {
     /// The input ends before the line `end`.
     #[error("the input ends before the line end")]
     NoEnd,
-    /// A byte stands at this place, after the line `end`.
+    /// A byte is at this place, after the line `end`.
     #[error("the input goes on behind the line end, at byte {0}")]
     AfterEnd(u64),
     /// With this line the change commands of all analysts times tiles are above 16777216.

@@ -60,7 +60,7 @@ fn is_digit(byte: u8) -> bool
     byte.is_ascii_digit()
 }
 
-/// What the magic's letter and the byte after it stand for.
+/// What the magic's letter and the byte after it mean.
 fn spelling_of(letter: u8, digit: Option<u8>) -> Option<Spelling>
     ensures { result ≡ spelling_of_magic letter digit }
 {
@@ -100,7 +100,7 @@ fn read_space<S: Source>(feed: &mut Feed<S>) -> Result<(), ReadPlaneFault>
     }
 }
 
-/// Whether a comment is open after `byte`, where the byte is white space or part of a comment.
+/// Whether a comment is open after `byte`, if the byte is white space or part of a comment.
 fn inside_after(inside: bool, byte: u8) -> Option<bool>
     ensures { result ≡ inside_after_byte inside byte }
 {
@@ -183,7 +183,7 @@ fn read_digits<S: Source>(feed: &mut Feed<S>, number: u32) -> Result<u32, ReadPl
     }
 }
 
-/// Takes a number; `cut` is told where the input ends before it.
+/// Takes a number; `cut` is reported if the input ends before it.
 pub fn read_number<S: Source>(feed: &mut Feed<S>, cut: PlaneFault) -> Result<u32, ReadPlaneFault>
     ensures same_source { source_name feed.new ≡ source_name feed.old }
     ensures limit { limit_of feed.new ≡ limit_of feed.old }
@@ -197,7 +197,7 @@ pub fn read_number<S: Source>(feed: &mut Feed<S>, cut: PlaneFault) -> Result<u32
     }
 }
 
-/// Takes a gap and a number, and tells where the number begins.
+/// Takes a gap and a number, and says where the number begins.
 fn read_field<S: Source>(feed: &mut Feed<S>) -> Result<(u32, u64), ReadPlaneFault>
     ensures same_source { source_name feed.new ≡ source_name feed.old }
     ensures limit { limit_of feed.new ≡ limit_of feed.old }

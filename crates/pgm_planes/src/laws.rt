@@ -2,12 +2,12 @@
 
 ghost use Rattle.pgm_planes.specs.Laws.{OnePlane, OneBreak, NoBreakOfPlane, PlaneOrBreak, AskOrNot, NoAskBehindPlane, WrittenIsRead};
 
-/// Bytes begin with one plane's text at most, and a text spells one plane.
+/// Bytes begin with at most one plane's text, and a text spells one plane.
 pub fn one_plane()
     ensures { OnePlane }
 {}
 
-/// Bytes either begin with a plane or have a first break, and one first break at most.
+/// Bytes either begin with a plane or have a first break, and at most one first break.
 pub fn plane_or_break()
     ensures either { PlaneOrBreak }
     ensures not_both { NoBreakOfPlane }

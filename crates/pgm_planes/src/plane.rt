@@ -14,12 +14,12 @@ use insar_ports::{Feed, Source};
 use raster_model::Plane;
 use std::alloc::Global;
 
-/// Reads one PGM plane, raw or plain, from where the feed stands (pgm(5), "The Format"). Comments may
-/// stand in the gaps of the header alone. Places of a fault count all bytes that the feed handed out.
-/// Of several faults the first in order of bytes is told.
-/// What lies after the feed's limit changes nothing that is judged within it.
+/// Reads one PGM plane, raw or plain, from where the feed is (pgm(5), "The Format"). Comments may
+/// stand only in the gaps of the header. Places of a fault count all bytes that the feed handed out.
+/// Of several faults the first in order of bytes is reported.
+/// What comes after the feed's limit changes nothing that is found within it.
 ///
-/// After a refusal the feed stands where it was met, and the caller ends.
+/// After a refusal the feed is where it was met, and the caller ends.
 pub fn read_plane<S: Source>(
     alloc: Global,
     feed: &mut Feed<S>,

@@ -22,7 +22,7 @@ pub enum SampleForm {
     Digits,
 }
 
-/// How the samples of a plane are spelled: a raw one has two bytes where maxval is from 256 on.
+/// How the samples of a plane are spelled: a raw one has two bytes if maxval is at least 256.
 fn form_of(spelling: Spelling, maxval: u16) -> SampleForm
     ensures { result ≡ form_of_spelling spelling maxval }
 {
@@ -114,7 +114,7 @@ fn read_sample<S: Source>(
     }
 }
 
-/// Takes so many samples.
+/// Takes the given number of samples.
 fn read_samples<S: Source>(
     alloc: Global,
     feed: &mut Feed<S>,
@@ -151,7 +151,7 @@ fn read_end<S: Source>(feed: &mut Feed<S>) -> Result<(), ReadPlaneFault>
     skip_blanks(feed)
 }
 
-/// Takes a raster of so many samples.
+/// Takes a raster of the given number of samples.
 pub fn read_raster<S: Source>(
     alloc: Global,
     feed: &mut Feed<S>,

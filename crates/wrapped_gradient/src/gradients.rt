@@ -106,7 +106,7 @@ impl Gradients {
     }
 
     /// The residue of the cell with the upper left corner (`x`, `y`), in cycles: -1, 0 or 1. It is the sum
-    /// of the wrapped differences along the cell's top and right sides, less those along its bottom and left
+    /// of the wrapped differences along the cell's top and right sides, minus those along its bottom and left
     /// sides. (Goldstein, Zebker and Werner 1988.)
     pub fn residue(&self, x: u32, y: u32) -> i8
         requires across { (self.now.window.x0 ≤ x) × (x < self.now.window.x1) }

@@ -1,4 +1,4 @@
-//! The mask of a raster through a list of edits: the mask at the newest revision, and for each tile the revision
+//! The mask of a raster after a list of edits: the mask at the newest revision, and for each tile the revision
 //! at which it changed last.
 #![tactic(auto)]
 

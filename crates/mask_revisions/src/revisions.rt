@@ -4,7 +4,7 @@ use std::alloc::{AllocError, Global};
 use std::marker::Model;
 
 /// A mask through its revisions. Revision 0 is the first mask, and each edit makes the next. Each tile has a
-/// stamp: the last revision at which one of its pixels changed, and 0 where none did.
+/// stamp: the last revision at which one of its pixels changed, and 0 if none did.
 #[derive(Drop)]
 pub struct Revisions {
     mask: Mask,
@@ -53,7 +53,7 @@ impl Revisions {
     }
 
     /// Applies an edit, which makes the next revision, and answers the tiles in which a pixel changed, in order.
-    /// For want of memory nothing changes.
+    /// If memory is short, nothing changes.
     pub fn push(&mut self, alloc: Global, edit: Edit) -> Result<Vec<u32>, AllocError>
         requires rect { IsRectIn self.old.tiling.width self.old.tiling.height (rect_of edit) }
         requires room { self.old.count + 1 < 2 ^ 32 }

@@ -82,7 +82,7 @@ fn push_row(
     Ok(())
 }
 
-/// The cycles by which the right neighbour of a pixel lies higher.
+/// The cycles by which the right neighbour of a pixel is higher.
 fn rise_right(
     scene: &Scene,
     gradients: &Gradients,
@@ -106,7 +106,7 @@ fn rise_right(
     rise(from, to, gradients.right(x, y), corrections.right[place])
 }
 
-/// The cycles by which the lower neighbour of a pixel lies higher.
+/// The cycles by which the lower neighbour of a pixel is higher.
 fn rise_down(scene: &Scene, gradients: &Gradients, corrections: &Corrections, x: u32, y: u32) -> i32
     requires gradients { AreGradientsOf scene.now gradients.now }
     requires shape { HasShapeOf gradients.now.window corrections.now }
@@ -122,7 +122,7 @@ fn rise_down(scene: &Scene, gradients: &Gradients, corrections: &Corrections, x:
     rise(from, to, gradients.down(x, y), corrections.down[place])
 }
 
-/// The cycles by which a pixel lies above its neighbour, for their phases, the wrapped difference and the
+/// The cycles by which a pixel is above its neighbour, for their phases, the wrapped difference and the
 /// correction.
 fn rise(from: u16, to: u16, gradient: i32, correction: i32) -> i32
     requires wrapped { gradient ≡ wrapped from to }

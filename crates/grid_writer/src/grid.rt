@@ -11,10 +11,10 @@ use insar_ports::{Sink, WriteFault};
 use itoa::Buffer;
 use surface_snapshots::Snapshot;
 
-/// What stands for the value of a masked pixel.
+/// What a masked pixel has in place of a value.
 const NO_DATA: i64 = i64::MIN;
 
-/// Writes what stands before the value at `x` of a row.
+/// Writes what comes before the value at `x` of a row.
 fn write_gap<K: Sink>(text: &mut TextBuffer, sink: &mut K, x: u32) -> Result<(), WriteFault>
     ensures written { OnOk result (Writes (K.held sink.old) (waiting_in text.old) (K.held sink.new) (waiting_in text.new) (gap_before x)) }
     ensures cut { OnErr result (GainsProperPrefix (K.held sink.old) (waiting_in text.old ++ (gap_before x)) (K.held sink.new)) }
@@ -73,7 +73,7 @@ fn write_row<K: Sink>(
     text.push(sink, b"\n")
 }
 
-/// The value at a pixel, and the NODATA value where it is masked.
+/// The value at a pixel, and the NODATA value if it is masked.
 fn shown_value(snapshot: &Snapshot, x: u32, y: u32) -> i64
     requires across { x < (parts_of snapshot.now).session.scene.phase.width }
     requires along { y < (parts_of snapshot.now).session.scene.phase.height }

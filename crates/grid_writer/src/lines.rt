@@ -57,7 +57,7 @@ impl Lines {
     }
 
     /// Reads the next line to its end, and keeps its first `most` bytes. Lines that are too many to be counted are refused as
-    /// want of memory.
+    /// lack of memory.
     pub fn next<S: Source>(&mut self, feed: &mut Feed<S>, most: usize) -> Result<LineEnd, GridFault>
         ensures same_source { source_name feed.new ≡ source_name feed.old }
         ensures same_limit { limit_of feed.new ≡ limit_of feed.old }
@@ -117,7 +117,7 @@ impl Lines {
     }
 }
 
-/// The bytes in front of the first LF, and whether there is one.
+/// The bytes before the first LF, and whether there is one.
 fn before_line_feed(bytes: &[u8]) -> (&[u8], bool)
     ensures inside { All IsInLine result.0.now }
     ensures front { MatchBool result.1 ((rest : List ℕ) × (bytes.now ≡ result.0.now ++ 10 ∷ rest)) (bytes.now ≡ result.0.now) }
@@ -128,7 +128,7 @@ fn before_line_feed(bytes: &[u8]) -> (&[u8], bool)
     }
 }
 
-/// How a line of so many bytes ended, where LF follows them.
+/// How a line of `length` bytes ended, if LF follows them.
 fn end_within(length: u64, most: usize) -> LineEnd
     ensures { ((length ≤ most) × (result ≡ Whole)) ⊎ ((most < length) × (result ≡ Long)) }
 {

@@ -6,10 +6,10 @@ ghost use Rattle.std.specs.Str.Parse.{AllDigits, digits_value};
 
 use std::alloc::AllocError;
 
-/// What stands between the fields of a line.
+/// What separates the fields of a line.
 const SPACE: u8 = b' ';
 
-/// What stands in front of a number below 0.
+/// What comes before a number below 0.
 const MINUS: u8 = b'-';
 
 /// No number of 64 bits with a sign has more digits.
@@ -79,7 +79,7 @@ fn split_count(text: &[u8]) -> Option<(u64, &[u8])>
     }
 }
 
-/// The number of the digits in front, of which no more than 19 are read, and how many were read.
+/// The number of the digits at the front, of which no more than 19 are read, and how many were read.
 fn leading_digits(text: &[u8]) -> (u64, usize)
     ensures within { result.1 ≤ length text.now }
     ensures few { result.1 ≤ 19 }
@@ -108,21 +108,21 @@ fn after_byte(bytes: &[u8], front: u8) -> Option<&[u8]>
     }
 }
 
-/// Whether there are digits and none of them is a zero in front of others.
+/// Whether there are digits and none of them is a zero before others.
 fn is_plain(digits: &[u8]) -> bool
     ensures { MatchBool result ((0 < length digits.now) × (slice_index digits.now 0 ≡ 48 → length digits.now ≡ 1)) ((length digits.now ≡ 0) ⊎ ((slice_index digits.now 0 ≡ 48) × (1 < length digits.now))) }
 {
     !matches!(digits, [] | [b'0', _, ..])
 }
 
-/// Whether no bytes are left, or a space in front.
+/// Whether no bytes are left, or a space is at the front.
 fn begins_field(rest: &[u8]) -> bool
     ensures { MatchBool result (BeginsField rest.now) (BeginsField rest.now → ⊥) }
 {
     matches!(rest, [] | [SPACE, ..])
 }
 
-/// The number from `least` to `most` that stands after a label.
+/// The number from `least` to `most` that comes after a label.
 pub fn labelled_count(line: &[u8], label: &[u8], least: u32, most: u32) -> Option<u32>
     ensures within { IfSome result (λ count. (least ≤ count) × (count ≤ most)) }
     ensures found { IfSome result (λ count. line.now ≡ label.now ++ decimal count) }
@@ -136,7 +136,7 @@ pub fn labelled_count(line: &[u8], label: &[u8], least: u32, most: u32) -> Optio
     }
 }
 
-/// Adds the numbers of a text, each of which stands after a space, to a list. Where the text is none of such numbers, the
+/// Adds the numbers of a text, each of which comes after a space, to a list. If the text is not such numbers, the
 /// list may have some of them.
 pub fn push_numbers(text: &[u8], numbers: &mut Vec<i64>) -> Result<bool, AllocError>
     ensures { IfOk result (λ all. MatchBool all ((new : List ℤ) × ((numbers.new.items ≡ numbers.old.items ++ new) × ((text.now ≡ numbers_text new) × AreLongs new))) ((new : List ℤ) → AreLongs new → text.now ≡ numbers_text new → ⊥)) }
@@ -152,7 +152,7 @@ pub fn push_numbers(text: &[u8], numbers: &mut Vec<i64>) -> Result<bool, AllocEr
     Ok(rest.is_empty())
 }
 
-/// Adds the `count` numbers of a row, between which spaces stand, to a list. Where the text is no such row, the list may
+/// Adds the `count` numbers of a row, with spaces between them, to a list. If the text is not such a row, the list may
 /// have some of them.
 pub fn push_row(text: &[u8], count: usize, numbers: &mut Vec<i64>) -> Result<bool, AllocError>
     requires { 0 < count }

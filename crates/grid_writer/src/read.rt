@@ -25,7 +25,7 @@ const COUNT_DIGITS: usize = 10;
 const VALUE_BYTES: usize = 21;
 
 /// Reads a grid in the one spelling in which it is written, up to the LF of its last row. Lines are numbered from 1. After a
-/// refusal the feed stands where it was met.
+/// refusal the feed is where it was met.
 pub fn read_grid<S: Source>(alloc: Global, feed: &mut Feed<S>) -> Result<Grid, GridFault>
     ensures same_source { source_name feed.new ≡ source_name feed.old }
     ensures same_limit { limit_of feed.new ≡ limit_of feed.old }
@@ -85,7 +85,7 @@ pub fn read_sized_grid<S: Source>(
     read_body(alloc, feed, lines, width, height)
 }
 
-/// Reads the next line, which is to be this text.
+/// Reads the next line, which has to be this text.
 pub fn expect_line<S: Source>(
     feed: &mut Feed<S>,
     lines: &mut Lines,
@@ -110,7 +110,7 @@ pub fn expect_line<S: Source>(
     }
 }
 
-/// Reads the next line, which is to tell a number from `least` to `most` after a label.
+/// Reads the next line, which has to give a number from `least` to `most` after a label.
 fn read_count<S: Source>(
     feed: &mut Feed<S>,
     lines: &mut Lines,
@@ -202,7 +202,7 @@ fn read_rows<S: Source>(
     Ok(())
 }
 
-/// Reads the next line, which is to be a row of `width` values, and adds them to a list.
+/// Reads the next line, which has to be a row of `width` values, and adds them to a list.
 fn read_row<S: Source>(
     feed: &mut Feed<S>,
     lines: &mut Lines,

@@ -39,7 +39,7 @@ impl TextBuffer {
         Ok(())
     }
 
-    /// Adds a piece of text of at most 128 bytes. Where it no longer fits, the sink gets first what waits; after a
+    /// Adds a piece of text of at most 128 bytes. If it no longer fits, the sink first gets what waits; after a
     /// fault the sink has a part of that.
     pub fn push<K: Sink>(&mut self, sink: &mut K, piece: &[u8]) -> Result<(), WriteFault>
         requires { length piece.now ≤ 128 }

@@ -34,7 +34,7 @@ pub fn weight_of(state: u64) -> u16
     1 + ((state >> 32) % 256) as u16
 }
 
-/// The mask's sample of a pixel by its number: 0 where it is masked, and else 1.
+/// The mask's sample of a pixel by its number: 0 if it is masked, and otherwise 1.
 pub fn mask_of(state: u64) -> u16
     ensures value { result ≡ one_if (is_open state) }
     ensures small { result ≤ 1 }

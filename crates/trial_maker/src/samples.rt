@@ -14,7 +14,7 @@ pub struct Samples {
     pub phase: Vec<u16>,
     /// Weights, from 1 to 256.
     pub weights: Vec<u16>,
-    /// 0 at masked pixels, and else 1.
+    /// 0 at masked pixels, and otherwise 1.
     pub mask: Vec<u16>,
 }
 
@@ -32,7 +32,7 @@ pub fn draw(alloc: Global, seed: u64, width: u32, height: u32) -> Result<Samples
     Ok(samples)
 }
 
-/// Empty lists with room for so many pixels.
+/// Empty lists with room for the given number of pixels.
 fn room_for(alloc: Global, pixels: usize) -> Result<Samples, AllocError>
     ensures { IfOk result (λ samples. (samples.phase.items ≡ []) × (samples.weights.items ≡ []) × (samples.mask.items ≡ [])) }
 {

@@ -10,7 +10,7 @@ use raster_model::{Command, Mask, RuleKind, Scene, Script, Session, Tiling, is_r
 use std::alloc::{AllocError, Global};
 
 /// The test session that a seed gives: a raster of this width and height in pixels, tiles of this side, edges by
-/// this rule, and one analyst who settles and shows. `Size` comes exactly where the raster breaks a limit.
+/// this rule, and one analyst who settles and shows. `Size` comes exactly if the raster breaks a limit.
 pub fn make_session(
     alloc: Global,
     seed: u64,
@@ -30,7 +30,7 @@ pub fn make_session(
     make_fitting(alloc, seed, Tiling::new(width, height, side), kind)
 }
 
-/// The test session of a raster that keeps the limits.
+/// The test session of a raster that is within the limits.
 fn make_fitting(
     alloc: Global,
     seed: u64,

@@ -9,7 +9,7 @@ use std::alloc::{AllocError, AllocFailed};
 /// Why no session was read.
 #[derive(Clone, Copy, Debug, PartialEq, Eq)]
 pub enum SessionFault {
-    /// The bytes are no session, and this is the first break.
+    /// The bytes are not a session, and this is the first break.
     Input(InputFault),
     /// The source failed and counted a fault.
     ReadFault,

@@ -2,7 +2,7 @@
 
 ghost use Rattle.session_script.specs.Laws.{NoBreakOfSession, NoFaultOfSession, OneBreak, OneFault, OneSession, SessionOrFault, WrittenIsRead};
 
-/// Bytes either are a session's text and then others, or have a fault, and one first break at most.
+/// Bytes either are a session's text and then others, or have a fault, and at most one first break.
 pub fn session_or_fault()
     ensures either { SessionOrFault }
     ensures not_both { NoBreakOfSession }
@@ -15,7 +15,7 @@ pub fn one_fault()
     ensures one_fault { OneFault }
 {}
 
-/// Bytes are one session's text at most, which ends in one place.
+/// Bytes are at most one session's text, which ends in one place.
 pub fn one_session()
     ensures { OneSession }
 {}

@@ -28,10 +28,10 @@ pub const MASK: &[u8] = b"mask";
 /// The name of an edit that opens.
 pub const UNMASK: &[u8] = b"unmask";
 
-/// What parts the fields of a line.
+/// What separates the fields of a line.
 pub const SPACE: &[u8] = b" ";
 
-/// What a line stands for, without its line feed.
+/// What a line means, without its line feed.
 pub fn word_of(line: &[u8]) -> Option<Word>
     ensures { MatchOption result (SpellsNone line.now) (Spells line.now) }
 {
@@ -79,14 +79,14 @@ fn rect_of(bytes: &[u8]) -> Option<Rect>
     }
 }
 
-/// The number after an SP in front, and what follows it.
+/// The number after an SP at the front, and what follows it.
 fn take_field(bytes: &[u8]) -> Option<(u32, &[u8])>
     ensures { told result ≡ field_in bytes.now }
 {
     take_number(bytes.strip_prefix(SPACE)?)
 }
 
-/// The plain number in front, and what follows it.
+/// The plain number at the front, and what follows it.
 fn take_number(bytes: &[u8]) -> Option<(u32, &[u8])>
     ensures { told result ≡ number_in bytes.now }
 {
@@ -98,7 +98,7 @@ fn take_number(bytes: &[u8]) -> Option<(u32, &[u8])>
     }
 }
 
-/// How many digits stand in front.
+/// How many digits are at the front.
 fn count_digits(bytes: &[u8]) -> usize
     ensures count { result ≡ digits_in bytes.now }
     ensures within { result ≤ length bytes.now }

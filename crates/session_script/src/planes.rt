@@ -27,7 +27,7 @@ pub struct Planes {
     pub ghost same_height: { (weights.height ≡ phase.height) × (mask.height ≡ phase.height) },
 }
 
-/// Reads the phase plane, and the weights and the mask where they stand.
+/// Reads the phase plane, and the weights and the mask if they are there.
 pub fn read_planes<S: Source>(alloc: Global, feed: &mut Feed<S>) -> Result<Planes, SessionFault>
     ensures same_source { source_name feed.new ≡ source_name feed.old }
     ensures limit { limit_of feed.new ≡ limit_of feed.old }
@@ -45,7 +45,7 @@ pub fn read_planes<S: Source>(alloc: Global, feed: &mut Feed<S>) -> Result<Plane
     })
 }
 
-/// Reads a later plane where one begins, and makes one of ones otherwise.
+/// Reads a later plane if one begins, and otherwise makes a plane of ones.
 fn read_later<S: Source>(
     alloc: Global,
     feed: &mut Feed<S>,

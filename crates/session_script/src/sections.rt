@@ -57,7 +57,7 @@ impl Sections {
     }
 
     /// What is wrong with a word in the next line. Of several refusals the first in the order line, analysts, commands,
-    /// rectangle, settles and edits is told.
+    /// rectangle, settles and edits is reported.
     pub fn refusal(&self, tiling: &Tiling, word: Word) -> Option<InputFault>
         requires { lines_in (sections_in self.now) < 4294967295 }
         ensures { result ≡ word_broken (frame_of tiling.now) (lines_in (sections_in self.now) + 1) (sections_in self.now) word }
@@ -86,7 +86,7 @@ impl Sections {
         self.limit_refusal(tiling, line, command)
     }
 
-    /// Which limit of all analysts a command passes in this line, or that its rectangle does not lie in the raster.
+    /// Which limit of all analysts a command exceeds in this line, or that its rectangle is not in the raster.
     fn limit_refusal(&self, tiling: &Tiling, line: u32, command: Command) -> Option<InputFault>
         ensures { result ≡ limit_broken (frame_of tiling.now) line (sections_in self.now) command }
     {

@@ -21,11 +21,11 @@ use insar_ports::{Feed, Source};
 use raster_model::{Mask, RuleKind, Scene, Script, Session, Tiling};
 use std::alloc::Global;
 
-/// Reads a session from the start of a source: a phase plane, weights and a mask where they stand, and the analysts'
+/// Reads a session from the start of a source: a phase plane, weights and a mask if they are there, and the analysts'
 /// scripts. The weights of the edges are those of the rule `kind`, and tiles have the side `side`. Places and lines of a
 /// fault count from the start of the source and of the script part.
 ///
-/// After a refusal the feed stands where it was met, and the caller ends.
+/// After a refusal the feed is where it was met, and the caller ends.
 pub fn read_session<S: Source>(
     alloc: Global,
     feed: &mut Feed<S>,

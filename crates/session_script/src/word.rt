@@ -1,6 +1,6 @@
 use raster_model::Command;
 
-/// What a line of the script part stands for.
+/// What a line of the script part means.
 #[derive(Clone, Copy, Debug, PartialEq, Eq)]
 pub enum Word {
     /// `analyst`, with which an analyst's section begins.

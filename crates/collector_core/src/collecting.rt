@@ -8,7 +8,7 @@ use std::alloc::{AllocError, Global};
 use tile_board::Gathered;
 
 /// Offsets of the regions of a gathered mask and the flows that certify them, for the gathered revision. Published with
-/// the gathered results they are never refused as uncertified. It is refused for want of memory alone. (Chen and Zebker
+/// the gathered results they are never refused as uncertified. It is refused only for lack of memory. (Chen and Zebker
 /// 2002.)
 pub fn collect(alloc: Global, gathered: &Gathered) -> Result<SeamResult, AllocError>
     ensures revision { IfOk result (λ seams. seams.revision ≡ gathered.now.revision) }

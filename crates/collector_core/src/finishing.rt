@@ -6,8 +6,8 @@ use crate::settling::settle;
 use std::alloc::{AllocError, Global};
 use tile_board::{Advance, AdvanceFault, Board};
 
-/// Does what the scripts still need, one analyst after another: each script to its end. It is refused for want of memory
-/// alone, and then some of it may be done.
+/// Does what the scripts still need, one analyst after another: each script to its end. It is refused only for lack of
+/// memory, and then some of it may be done.
 pub fn finish(alloc: Global, board: &mut Board) -> Result<(), AllocError>
     ensures session { board.new.session ≡ board.old.session }
     ensures begins { BeginsWith board.new.entries board.old.entries }
@@ -20,7 +20,7 @@ pub fn finish(alloc: Global, board: &mut Board) -> Result<(), AllocError>
     Ok(())
 }
 
-/// Does what is left of an analyst's script.
+/// Does the rest of an analyst's script.
 fn finish_script(alloc: Global, board: &mut Board, analyst: u32) -> Result<(), AllocError>
     ensures later { IsLater board.old board.new }
     ensures ended { OnOk result (next_command board.new.session board.new.entries analyst ≡ None) }
@@ -29,7 +29,7 @@ fn finish_script(alloc: Global, board: &mut Board, analyst: u32) -> Result<(), A
     Ok(())
 }
 
-/// Does an analyst's next command. False where the script is at its end.
+/// Does an analyst's next command. False if the script is at its end.
 fn do_command(alloc: Global, board: &mut Board, analyst: u32) -> Result<bool, AllocError>
     ensures later { IsLater board.old board.new }
     ensures more { IfOk result (DoesMore analyst board.old board.new) }

@@ -1,4 +1,4 @@
-//! What is left of a session's work, done on one thread: solved tiles are joined by offsets that may be published, and the
+//! The rest of a session's work, done on one thread: solved tiles are joined by offsets that may be published, and the
 //! analysts' scripts are done one after another.
 #![tactic(auto)]
 

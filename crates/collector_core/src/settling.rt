@@ -46,7 +46,7 @@ fn solve_all(alloc: Global, board: &mut Board) -> Result<(), AllocError>
     Ok(())
 }
 
-/// Solves a tile that is not kept, and keeps the result. False where every tile is kept.
+/// Solves a tile that is not kept, and keeps the result. False if every tile is kept.
 fn solve_one(alloc: Global, board: &mut Board) -> Result<bool, AllocError>
     ensures only { OnlyKept board.old board.new }
     ensures more { IfOk result (KeepsMore board.old board.new) }

@@ -1,4 +1,4 @@
-//! Analysts and workers at once: each analyst's script runs in a thread of its own, and where it settles, workers solve the
+//! Analysts and workers together: each analyst's script runs in a thread of its own, and if it settles, workers solve the
 //! tiles, all over one desk.
 #![tactic(auto)]
 

@@ -16,7 +16,7 @@ use tile_board::{Advance, AdvanceFault};
 const MOST_ANALYSTS: usize = MAX_ANALYSTS as usize;
 
 /// Runs the scripts of the passes' analysts to their ends, each in a thread of its own; each settle command has its workers.
-/// Where one finds no memory, which alone refuses, the others still go on.
+/// If one runs out of memory, the only cause of a refusal, the others still go on.
 pub fn run_scripts<R: Threads + Wait + Sync, G: Gate>(
     rt: &R,
     alloc: Global,

@@ -17,7 +17,7 @@ use tile_board::{Advance, AdvanceFault, GatherFault, Gathered, PublishFault};
 const MAX_CREW: usize = MAX_WORKERS as usize;
 
 /// Does the next command of a pass's analyst, which is to settle, and answers the revision that is published. Workers solve
-/// the tiles, each in a thread of its own. It is refused for want of memory alone, and then some of the tiles may be solved.
+/// the tiles, each in a thread of its own. It is refused only for lack of memory, and then some of the tiles may be solved.
 pub fn settle<R: Threads + Wait + Sync, G: Gate>(
     rt: &R,
     alloc: Global,
@@ -98,7 +98,7 @@ fn hire<R: Wait>(
     Ok(workers)
 }
 
-/// Takes the workers' passes back. It is refused where one of them found no memory.
+/// Takes the workers' passes back. It is refused if one of them ran out of memory.
 fn dismiss<R: Wait>(
     rt: &R,
     desk: &Desk,
@@ -117,7 +117,7 @@ fn dismiss<R: Wait>(
     if starved { Err(AllocError) } else { Ok(()) }
 }
 
-/// Publishes the present revision, and answers it; None where that was not to be done, as the mask has changed meanwhile, or
+/// Publishes the present revision, and answers it; None if that was not to be done, as the mask has changed meanwhile, or
 /// another analyst was faster.
 fn publish<R: Wait>(
     rt: &R,
@@ -149,7 +149,7 @@ fn publish<R: Wait>(
     }
 }
 
-/// The present revision's results; None where a tile has none.
+/// The present revision's results; None if a tile has none.
 fn gather<R: Wait>(
     rt: &R,
     alloc: Global,

@@ -15,7 +15,7 @@ pub(crate) struct Worker {
     /// From 1.
     pub(crate) number: u32,
     pub(crate) pass: Pass,
-    /// Whether it found no memory.
+    /// Whether it ran out of memory.
     pub(crate) starved: bool,
     pub(crate) ghost unnamed: { pass.analyst ≡ None },
 }

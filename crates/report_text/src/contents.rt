@@ -14,7 +14,7 @@ pub struct Report {
     pub height: u32,
     /// Pixels along a side of a tile.
     pub side: u32,
-    /// How the weights of two pixels make that of their edge.
+    /// How the weights of two pixels give that of their edge.
     pub rule: RuleKind,
     /// The history in order, and the surfaces after its publications.
     pub items: Vec<Item>,

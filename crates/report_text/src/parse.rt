@@ -42,7 +42,7 @@ const NONE: &[u8] = b" none";
 
 const SPACE: &[u8] = b" ";
 
-/// The width and the height of a line `size W H`, where they are within the limits of a raster.
+/// The width and the height of a line `size W H`, if they are within the limits of a raster.
 pub(crate) fn size_of(line: &[u8]) -> Option<(u32, u32)>
     ensures found { IfSome result (λ size. (line.now ≡ size_line size.0 size.1) × IsTrue (is_raster_size size.0 size.1)) }
     ensures none { IfNone result ((width height : ℕ) → IsTrue (is_raster_size width height) → line.now ≡ size_line width height → ⊥) }
@@ -55,7 +55,7 @@ pub(crate) fn size_of(line: &[u8]) -> Option<(u32, u32)>
     }
 }
 
-/// The side of a line `tile SIDE`, where it is from 2 to 128.
+/// The side of a line `tile SIDE`, if it is from 2 to 128.
 pub(crate) fn side_of(line: &[u8]) -> Option<u32>
     ensures found { IfSome result (λ side. (line.now ≡ tile_line side) × (IsTileSide side)) }
     ensures none { IfNone result ((side : ℕ) → 2 ≤ side → side ≤ 128 → line.now ≡ tile_line side → ⊥) }
@@ -134,7 +134,7 @@ fn edit_of(bytes: &[u8]) -> Option<Edit>
     Some(Edit::Unmask(rect_behind(bytes, UNMASK)?))
 }
 
-/// The box after a word, where nothing follows it.
+/// The box after a word, if nothing follows it.
 fn rect_behind(bytes: &[u8], word: &[u8]) -> Option<Rect>
     ensures { IsReadAs IsRectOfWords (behind word.now rect_text) bytes.now result }
 {
@@ -151,7 +151,7 @@ fn rect_of(bytes: &[u8]) -> Option<Rect>
     Some(Rect { x0, y0, x1, y1 })
 }
 
-/// The analyst and the revision of a line `shown ANALYST REVISION`; no revision where it says `none`.
+/// The analyst and the revision of a line `shown ANALYST REVISION`; no revision if it says `none`.
 fn shown_of(line: &[u8]) -> Option<(u32, Option<u32>)>
     ensures { IsReadAs IsShownOfWords (behind (codes "shown") shown_text) line.now result }
 {
@@ -162,7 +162,7 @@ fn shown_of(line: &[u8]) -> Option<(u32, Option<u32>)>
     Some((analyst, Some(last_field(revision)?)))
 }
 
-/// The two numbers after a word, where nothing follows them.
+/// The two numbers after a word, if nothing follows them.
 fn pair_behind(line: &[u8], word: &[u8]) -> Option<(u32, u32)>
     ensures { IsReadAs AreWords (behind word.now pair_text) line.now result }
 {
@@ -177,21 +177,21 @@ fn pair_of(bytes: &[u8]) -> Option<(u32, u32)>
     Some((first, last_field(second)?))
 }
 
-/// The number after a space, where nothing follows it.
+/// The number after a space, if nothing follows it.
 fn last_field(bytes: &[u8]) -> Option<u32>
     ensures { IsReadAs IsWord field_text bytes.now result }
 {
     word_of(bytes.strip_prefix(SPACE)?)
 }
 
-/// The cost after a space, where nothing follows it.
+/// The cost after a space, if nothing follows it.
 fn last_cost(bytes: &[u8]) -> Option<u128>
     ensures { IsReadAs IsCost field_text bytes.now result }
 {
     wide_of(bytes.strip_prefix(SPACE)?)
 }
 
-/// The number after a space in front, and what follows it.
+/// The number after a space at the front, and what follows it.
 fn take_field(bytes: &[u8]) -> Option<(u32, &[u8])>
     ensures { IsTaken IsWord bytes.now result }
 {
@@ -199,7 +199,7 @@ fn take_field(bytes: &[u8]) -> Option<(u32, &[u8])>
     Some((word_of(token)?, rest))
 }
 
-/// The cost after a space in front, and what follows it.
+/// The cost after a space at the front, and what follows it.
 fn take_cost(bytes: &[u8]) -> Option<(u128, &[u8])>
     ensures { IsTaken IsCost bytes.now result }
 {
@@ -207,7 +207,7 @@ fn take_cost(bytes: &[u8]) -> Option<(u128, &[u8])>
     Some((wide_of(token)?, rest))
 }
 
-/// What stands between a space in front and the next space, and what follows it.
+/// What is between a space at the front and the next space, and what follows it.
 fn split_field(bytes: &[u8]) -> Option<(&[u8], &[u8])>
     ensures { IsSplit bytes.now result }
 {
@@ -215,7 +215,7 @@ fn split_field(bytes: &[u8]) -> Option<(&[u8], &[u8])>
     Some(bytes.split_at(token_length(bytes)))
 }
 
-/// How many bytes stand before the first space.
+/// How many bytes are before the first space.
 fn token_length(bytes: &[u8]) -> usize
     ensures within { result ≤ length bytes.now }
     ensures token { (k : ℕ) → k < result → slice_index bytes.now k ≢ 32 }

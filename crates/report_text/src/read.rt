@@ -33,7 +33,7 @@ const LONGEST_LINE: usize = 128;
 /// The last line.
 const END: &[u8] = b"end";
 
-/// What the first four lines tell.
+/// What the first four lines say.
 #[derive(Clone, Copy)]
 struct Head {
     width: u32,
@@ -210,7 +210,7 @@ fn read_tile_faces<S: Source>(
     }
 }
 
-/// Reads the faces of so many tiles.
+/// Reads the faces of the given number of tiles.
 fn read_faces<S: Source>(
     alloc: Global,
     feed: &mut Feed<S>,
@@ -282,7 +282,7 @@ fn read_surface<S: Source>(
     })
 }
 
-/// Reads the lines of a surface where the entry is a publication.
+/// Reads the lines of a surface if the entry is a publication.
 fn read_item<S: Source>(
     alloc: Global,
     feed: &mut Feed<S>,
@@ -361,7 +361,7 @@ fn read_lines<S: Source>(
     })
 }
 
-/// Reads the end of the input. A line that is there in its place is refused.
+/// Reads the end of the input. A line that is there instead is refused.
 fn expect_end<S: Source>(feed: &mut Feed<S>, lines: &mut Lines) -> Result<(), GridFault>
     ensures same_source { source_name feed.new ≡ source_name feed.old }
     ensures same_limit { limit_of feed.new ≡ limit_of feed.old }
@@ -377,7 +377,7 @@ fn expect_end<S: Source>(feed: &mut Feed<S>, lines: &mut Lines) -> Result<(), Gr
 }
 
 /// Reads a report to the end of the input, in the one spelling in which it is written. Lines are numbered from 1. After a
-/// refusal the feed stands where it was met, and the caller ends. How many faces and flows a line has is not judged.
+/// refusal the feed is where it was met, and the caller ends. How many faces and flows a line has is not checked.
 pub fn read_report<S: Source>(alloc: Global, feed: &mut Feed<S>) -> Result<Report, ReportFault>
     ensures same_source { source_name feed.new ≡ source_name feed.old }
     ensures same_limit { limit_of feed.new ≡ limit_of feed.old }

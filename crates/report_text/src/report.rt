@@ -136,7 +136,7 @@ fn rule_name(rule: RuleKind) -> &'static [u8]
     }
 }
 
-/// Whether a surface stands after an entry.
+/// Whether a surface comes after an entry.
 pub(crate) fn is_publication(entry: Entry) -> bool
     ensures { result ≡ is_published entry }
 {
@@ -147,7 +147,7 @@ pub(crate) fn is_publication(entry: Entry) -> bool
     }
 }
 
-/// How many surfaces stand after an entry.
+/// How many surfaces come after an entry.
 fn surfaces_behind(entry: Entry) -> usize
     ensures { result ≡ one_if (is_published entry) }
 {

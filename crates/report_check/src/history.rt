@@ -8,7 +8,7 @@ use raster_model::Session;
 use report_text::Item;
 use std::alloc::{AllocError, Global};
 
-/// The number, from 1, of the first entry that may not come after those before it; or, where all may and the history
+/// The number, from 1, of the first entry that may not come after those before it; or, if all may and the history
 /// is not complete, one more than their number.
 pub(crate) fn first_break(
     alloc: Global,

@@ -13,7 +13,7 @@ pub fn equal_reports_are_certified_alike()
     ensures { EqualReportsAreCertifiedAlike }
 {}
 
-/// Whether a report is certified depends on what it and the session tell, and on nothing else: where one is, each
+/// Whether a report is certified depends on what it and the session tell, and on nothing else: if one is, each
 /// report that equals it is certified for each session that tells the same.
 pub fn acceptance_is_of_texts()
     ensures { AcceptanceIsOfTexts }

@@ -13,8 +13,8 @@ use report_text::Report;
 use std::alloc::{AllocError, Global};
 
 /// Checks a report against a session: that it is certified, or the first thing that is wrong with it. First its head
-/// is judged, then its history, then each published surface at the mask of its revision. It fails for want of
-/// memory alone.
+/// is judged, then its history, then each published surface at the mask of its revision. It fails only for
+/// lack of memory.
 pub fn check_report(
     alloc: Global,
     session: &Session,

@@ -10,7 +10,7 @@ use report_text::ReportSurface;
 use seam_regions::Regions;
 use std::alloc::{AllocError, Global};
 
-/// The value that stands at masked pixels.
+/// The value at masked pixels.
 const NO_DATA: i64 = i64::MIN;
 
 /// How many units make a cycle.

@@ -28,13 +28,13 @@ pub enum CheckVerdict {
         revision: u32,
         verdict: SeamVerdict,
     },
-    /// The cost of the tiles is written so, and counted otherwise.
+    /// The written cost of the tiles is not the counted one.
     TileCost {
         revision: u32,
         written: u128,
         counted: u128,
     },
-    /// The cost of the seams is.
+    /// The written cost of the seams is not the counted one.
     SeamCost {
         revision: u32,
         written: u128,

@@ -10,7 +10,7 @@ use tile_board::Board;
 use tile_workers::{Gate, run_scripts};
 
 /// The board of a session on which every script is done. Analysts and workers run over a desk, which is then closed. It is
-/// refused for want of memory alone.
+/// refused only for lack of memory.
 pub fn finished<R: Threads + Wait + Sync, G: Gate>(
     rt: &R,
     alloc: Global,

@@ -117,7 +117,7 @@ fn put_report_line<D: Sink>(diag: &mut D, number: u64) -> Result<(), WriteFault>
     put_all(diag, b"\n")
 }
 
-/// Puts the line that tells a refusal.
+/// Puts the line of a refusal.
 pub fn put_line<D: Sink>(diag: &mut D, refusal: Refusal) -> Result<(), WriteFault>
     ensures put { OnOk result (D.held diag.new ≡ with_end (D.held diag.old) (line_of refusal)) }
     ensures fault { OnErr result (HasRisen (D.faults diag.old) (D.faults diag.new)) }

@@ -18,7 +18,7 @@ use std::thread::Threads;
 use tile_board::Board;
 use tile_workers::Gate;
 
-/// Reads, runs the scripts as the words set it, and writes the grid of the last published surface alone; nothing where none
+/// Reads, runs the scripts as the words set it, and writes only the grid of the last published surface; nothing if none
 /// was published.
 pub fn run_grid<R: Threads + Wait + Sync, S: Source, K: Sink, G: Gate>(
     rt: &R,
@@ -37,7 +37,7 @@ pub fn run_grid<R: Threads + Wait + Sync, S: Source, K: Sink, G: Gate>(
     Ok(())
 }
 
-/// Writes the grid of the newest published surface, where there is one.
+/// Writes the grid of the newest published surface, if there is one.
 fn write_last_grid<K: Sink>(board: &Board, sink: &mut K) -> Result<(), WriteFault>
     ensures written { OnOk result (K.held sink.new ≡ with_end (K.held sink.old) (last_grid (report_of board.now.session board.now.entries board.now.surfaces))) }
     ensures cut { OnErr result (GainsProperPrefix (K.held sink.old) (last_grid (report_of board.now.session board.now.entries board.now.surfaces)) (K.held sink.new)) }

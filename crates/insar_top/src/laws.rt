@@ -7,8 +7,8 @@ ghost use Rattle.insar_top.specs.Asked.{OneRequest, RefusedOrAsking};
 ghost use Rattle.insar_top.specs.PlainForms.{PlainCheckIsRead, PlainSolvingIsRead, PlainTrialIsRead};
 ghost use Rattle.std.specs.Prelude.{codes};
 
-/// What `unwrap` writes for a session, `check` accepts: where the session's text stands before a report that the headline
-/// tells of, and that report has at most 4,294,967,296 bytes, the verdict on these bytes is `Accepted`.
+/// `check` accepts what `unwrap` writes for a session: if the session's text comes before a report that the headline
+/// is about, and that report has at most 4,294,967,296 bytes, the verdict on these bytes is `Accepted`.
 pub fn answers_are_accepted()
     ensures { AnswersAreAccepted }
 {}
@@ -20,13 +20,13 @@ pub fn bytes_have_one_verdict()
 {}
 
 /// The last surface of a session's report, whose grid `grid` writes, is the best at the mask of the newest published revision;
-/// there is none exactly where nothing was published.
+/// there is none exactly if nothing was published.
 pub fn last_surfaces_are_best()
     ensures { LastSurfacesAreBest }
 {}
 
-/// Where a session has one analyst, the newest published revision is the number of changes before the last settle command of
-/// the script; nothing is published exactly where it has none.
+/// If a session has one analyst, the newest published revision is the number of changes before the last settle command of
+/// the script; nothing is published exactly if it has none.
 pub fn one_script_tells_the_revision()
     ensures { OneScriptTellsTheRevision }
 {}
@@ -36,7 +36,7 @@ pub fn trials_have_one_text()
     ensures { TrialsHaveOneText }
 {}
 
-/// Words ask for one thing at most: one subcommand, one rule and one side.
+/// Words ask for at most one thing: one subcommand, one rule and one side.
 pub fn one_request()
     ensures { OneRequest }
 {}
@@ -46,7 +46,7 @@ pub fn words_are_refused_or_ask()
     ensures { RefusedOrAsking }
 {}
 
-/// Words in plain form are read, and ask just what they say.
+/// Words in plain form are read, and ask exactly what they say.
 pub fn plain_forms_are_read()
     ensures unwrap { PlainSolvingIsRead (codes "unwrap") }
     ensures grid { PlainSolvingIsRead (codes "grid") }

@@ -12,8 +12,8 @@ use clap::ArgMatches;
 use raster_model::{DEFAULT_WORKERS, MAX_PIXELS, RuleKind};
 use std::alloc::Global;
 
-/// What words ask for, as the stated command reads them. Words are refused where that command refuses them, a call for
-/// help too, and where they ask for a test session with too many pixels.
+/// What words ask for, as the stated command reads them. Words are refused if that command refuses them, a call for
+/// help too, and if they ask for a test session with too many pixels.
 pub fn read_words(alloc: Global, words: &[&str]) -> Result<Request, Refusal>
     ensures asked { IfOk result (IsRequest words.now) }
     ensures refused { IfErr result (HasWordsCause words.now) }
@@ -43,7 +43,7 @@ fn request_of(name: &str, found: &ArgMatches<'_>) -> Result<Request, Refusal>
     }
 }
 
-/// The test session that matches ask for, where its raster has no more pixels than a session may have.
+/// The test session that matches ask for, if its raster has no more pixels than a session may have.
 fn trial_of(found: &ArgMatches<'_>) -> Option<Trial>
     requires raster { HasRaster (rows_of (found_of found.now)) }
     requires options { HasSolving (rows_of (found_of found.now)) }
@@ -63,7 +63,7 @@ fn trial_of(found: &ArgMatches<'_>) -> Option<Trial>
     })
 }
 
-/// The settings that matches tell, with the workers.
+/// The settings that matches give, with the workers.
 fn solving_settings(found: &ArgMatches<'_>) -> Settings
     requires options { HasSolving (rows_of (found_of found.now)) }
     ensures told { TellsSettings (rows_of (found_of found.now)) result }
@@ -72,7 +72,7 @@ fn solving_settings(found: &ArgMatches<'_>) -> Settings
     settings_with(found, number_told(found, "workers"))
 }
 
-/// The settings that matches tell, where the workers are so many.
+/// The settings that matches give, with this number of workers.
 fn settings_with(found: &ArgMatches<'_>, workers: u32) -> Settings
     requires options { HasChecking (rows_of (found_of found.now)) }
     requires crew { IsWorkers workers }
@@ -86,7 +86,7 @@ fn settings_with(found: &ArgMatches<'_>, workers: u32) -> Settings
     }
 }
 
-/// The rule that matches tell.
+/// The rule that matches give.
 fn rule_told(found: &ArgMatches<'_>) -> RuleKind
     requires { HasRule (rows_of (found_of found.now)) }
     ensures { first_of (codes "rule") (rows_of (found_of found.now)) ≡ Some (rule_word result) }
@@ -98,7 +98,7 @@ fn rule_told(found: &ArgMatches<'_>) -> RuleKind
     }
 }
 
-/// The number that matches tell for a name.
+/// The number that matches give for a name.
 fn number_told(found: &ArgMatches<'_>, name: &str) -> u32
     requires { HasNumber name.now 0 4294967295 (rows_of (found_of found.now)) }
     ensures { number_of name.now (rows_of (found_of found.now)) ≡ Some result }
@@ -106,7 +106,7 @@ fn number_told(found: &ArgMatches<'_>, name: &str) -> u32
     found.get_one::<u32>(name).unwrap()
 }
 
-/// The seed that matches tell.
+/// The seed that matches give.
 fn seed_told(found: &ArgMatches<'_>) -> u64
     requires { HasNumber (codes "seed") 0 18446744073709551615 (rows_of (found_of found.now)) }
     ensures { number_of (codes "seed") (rows_of (found_of found.now)) ≡ Some result }

@@ -15,7 +15,7 @@ use trial_maker::TrialFault;
 /// Why a command was not done.
 #[derive(Clone, Copy, Debug, PartialEq, Eq)]
 pub enum Refusal {
-    /// The words are no command.
+    /// The words are not a command.
     Words,
     /// The input breaks its form or a limit.
     Input(InputFault),
@@ -32,7 +32,7 @@ pub enum Refusal {
 }
 
 impl Refusal {
-    /// The exit status that tells it.
+    /// Its exit status.
     pub fn status(&self) -> u8
         ensures { result ≡ status_of self.now }
     {

@@ -20,7 +20,7 @@ pub enum Request {
 /// What options set.
 #[derive(Clone, Copy)]
 pub struct Settings {
-    /// How the weights of two pixels make that of their edge.
+    /// How the weights of two pixels give that of their edge.
     pub rule: RuleKind,
     /// Pixels along a side of a tile.
     pub side: u32,

@@ -14,7 +14,7 @@ use insar_ports::{Sink, WriteFault};
 use raster_model::{Mask, Scene, Session, plain};
 use tile_board::Board;
 
-/// What a trial tells of a session and of its published surface.
+/// What a trial says of a session and of its published surface.
 #[derive(Clone, Copy)]
 pub struct Summary {
     /// How many pixels the raster has.
@@ -23,7 +23,7 @@ pub struct Summary {
     pub residues: u32,
     /// How many pixels are open in the first mask.
     pub unmasked: u32,
-    /// What the tiles cost together.
+    /// The cost of all tiles.
     pub tile_cost: u128,
 }
 
@@ -55,7 +55,7 @@ fn summary_with(session: &Session, tile_cost: u128) -> Summary
     }
 }
 
-/// What the tiles of the newest published surface cost.
+/// The cost of the tiles of the newest published surface.
 fn newest_cost(board: &Board) -> u128
     requires scripts { AreTrialScripts board.now.session.scripts.items }
     requires complete { IsComplete board.now.session board.now.entries }

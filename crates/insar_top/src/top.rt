@@ -33,28 +33,28 @@ use std::sync::Wait;
 use std::thread::Threads;
 use tile_workers::Gate;
 
-/// Runs the program: `words` are those after its name. It reads the source, writes the result to the sink and, where it
+/// Runs the program: `words` are those after its name. It reads the source, writes the result to the sink and, if it
 /// refuses, one line to `diag`, and answers the exit status.
 ///
 /// `unwrap` reads a session: PGM planes of phase, of weights and of a mask, the last two if they are there, and the analysts'
 /// scripts. It runs the scripts at once and writes the report: the whole history, and each published surface with its costs
-/// and certificates. `grid` does the same and writes the last published surface alone, as a grid of values in units of
-/// 1/65536 cycle, or nothing where none was published.
+/// and certificates. `grid` does the same and writes only the last published surface, as a grid of values in units of
+/// 1/65536 cycle, or nothing if none was published.
 ///
-/// `check` reads a session and then a report, solves nothing, and writes one line: `accepted`, or the first thing for which
+/// `check` reads a session and then a report, solves nothing, and writes one line: `accepted`, or the first reason why
 /// the report is not certified for the session.
 ///
-/// `trial SEED WIDTH HEIGHT` takes nothing from the source. It makes the test session of the number `SEED`, below 2^64, of
+/// `trial SEED WIDTH HEIGHT` reads nothing from the source. It makes the test session of the number `SEED`, below 2^64, of
 /// `WIDTH` times `HEIGHT` pixels, each from 1 to 4096 and together at most 4,194,304, runs it as `unwrap` does, and writes
 /// four lines: how many pixels it has, how many cells of the whole raster have a residue, how many pixels are open, and what
 /// the tiles cost.
 ///
-/// `--tile N` is the side of the square tiles in pixels, from 2 to 128, and 64 where the words do not tell it. `--rule R`
-/// names how the weights of two pixels make that of their edge: `least`, which is the default, `mean` or `product`.
+/// `--tile N` is the side of the square tiles in pixels, from 2 to 128, and 64 if the words do not give it. `--rule R`
+/// names how the weights of two pixels give that of their edge: `least`, which is the default, `mean` or `product`.
 /// `--workers N` is how many workers solve the tiles of an analyst at once, from 1 to 8, and 2 by default, each of which
 /// passes the gate before it solves; `check` has no workers.
 ///
-/// Words are judged before the source is read, as `clap` reads them, and a call for help is refused as others are. A fault of
+/// Words are checked before the source is read, as `clap` reads them, and a call for help is refused like others. A fault of
 /// `diag` changes nothing.
 pub fn insar<R: Threads + Wait + Sync, S: Source, K: Sink, D: Sink, G: Gate>(
     rt: &R,
@@ -115,7 +115,7 @@ pub fn insar<R: Threads + Wait + Sync, S: Source, K: Sink, D: Sink, G: Gate>(
     status_told(diag, ended)
 }
 
-/// Where there is no memory for the words: puts the line that tells it, and answers the exit status.
+/// If there is no memory for the words: puts the line that says so, and answers the exit status.
 pub fn starved<D: Sink>(diag: &mut D) -> u8
     ensures status { result ≡ 4 }
     ensures told { (HasRisen (D.faults diag.old) (D.faults diag.new) → ⊥) → D.held diag.new ≡ with_end (D.held diag.old) (line_of refusals.Memory) }
@@ -123,7 +123,7 @@ pub fn starved<D: Sink>(diag: &mut D) -> u8
     status_told(diag, Err(Refusal::Memory))
 }
 
-/// Reads the words and does what they ask for. The status is 1 where a report is not accepted, and else 0.
+/// Reads the words and does what they ask for. The status is 1 if a report is not accepted, and otherwise 0.
 fn run<R: Threads + Wait + Sync, S: Source, K: Sink, G: Gate>(
     rt: &R,
     alloc: Global,
@@ -163,7 +163,7 @@ fn do_request<R: Threads + Wait + Sync, S: Source, K: Sink, G: Gate>(
     }
 }
 
-/// The exit status of an end; the line of a refusal is put. Nothing is done where it cannot be put.
+/// The exit status of an end; the line of a refusal is put. Nothing is done if it cannot be put.
 fn status_told<D: Sink>(diag: &mut D, ended: Result<u8, Refusal>) -> u8
     ensures status { result ≡ end_status ended }
     ensures told { (HasRisen (D.faults diag.old) (D.faults diag.new) → ⊥) → D.held diag.new ≡ with_end (D.held diag.old) (end_line ended) }

@@ -14,7 +14,7 @@ use report_check::CheckVerdict;
 pub(crate) use report_text::fields::{append, append_decimal};
 use report_text::fields::{append_field, append_signed};
 
-/// Puts the line that tells a verdict. It takes no memory. After a fault the sink has a part of the line.
+/// Puts the line of a verdict. It takes no memory. After a fault the sink has a part of the line.
 pub fn put_verdict<K: Sink>(sink: &mut K, verdict: CheckVerdict) -> Result<(), WriteFault>
     ensures written { OnOk result (K.held sink.new ≡ with_end (K.held sink.old) (verdict_line verdict)) }
     ensures cut { OnErr result (GainsProperPrefix (K.held sink.old) (verdict_line verdict) (K.held sink.new)) }
@@ -137,7 +137,7 @@ fn append_seams<K: Sink>(
     append_seam_words(text, sink, verdict)
 }
 
-/// Adds that a cost, which the word names, is written so and counted otherwise.
+/// Adds that the written cost, which the word names, is not the counted one.
 fn append_costs<K: Sink>(
     text: &mut TextBuffer,
     sink: &mut K,
@@ -153,7 +153,7 @@ fn append_costs<K: Sink>(
     append_pair(text, sink, word, written, counted)
 }
 
-/// Adds what the faces of a tile are refused for.
+/// Adds why the faces of a tile are refused.
 fn append_tile_words<K: Sink>(
     text: &mut TextBuffer,
     sink: &mut K,
@@ -169,7 +169,7 @@ fn append_tile_words<K: Sink>(
     }
 }
 
-/// Adds what the flows at the seams are refused for.
+/// Adds why the flows at the seams are refused.
 fn append_seam_words<K: Sink>(
     text: &mut TextBuffer,
     sink: &mut K,

@@ -14,7 +14,7 @@ use std::thread::Threads;
 use std::{env, io};
 use tile_workers::OpenGate;
 
-/// The arguments after the program's name, which is no word and may have any bytes.
+/// The arguments after the program's name, which is not a word and may have any bytes.
 #[derive(Drop)]
 struct Arguments<'a> {
     rt: &'a HostRuntime,
@@ -76,7 +76,7 @@ fn run<R: Threads + Wait + Sync, I: Read + Drop, O: Write + Drop, E: Write + Dro
     ))
 }
 
-/// The exit status of what was done. Where there was no memory for the words, the line that tells it is put.
+/// The exit status of what was done. If there was no memory for the words, the line that says so is put.
 fn status(rt: &HostRuntime, done: io::Result<u8>) -> u8
     ensures done { IfOk done (λ status. result ≡ status) }
     ensures starved { IfErr done (λ error. result ≡ 4) }

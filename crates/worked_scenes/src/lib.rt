@@ -10,9 +10,9 @@ use std::alloc::{AllocError, Global};
 /// Why there is no such scene or mask.
 #[derive(Debug, Drop)]
 pub enum SceneFault {
-    /// The samples are no plane.
+    /// The samples are not a plane.
     Shape(PlaneShape),
-    /// Want of memory.
+    /// Lack of memory.
     Memory,
 }
 
@@ -92,7 +92,7 @@ pub fn tile_result(
     })
 }
 
-/// A row gave something else than it should.
+/// A row gave something other than expected.
 #[derive(Clone, Copy, Debug)]
 pub struct Differs(pub &'static str);
 

@@ -28,7 +28,7 @@ const MASKED: &[u16] = &[0; 4];
 /// Cycles of a pixel that are out of range.
 const FAR: i32 = 8_388_609;
 
-/// Mask, cycles and face of a full turn round the cell of `0 16384 / 49152 32768`, and what the check says. Its lightest
+/// Mask, cycles and face of the full turn `0 16384 / 49152 32768`, and what the check says. Its lightest
 /// edge weighs 3, so no surface costs less. Masked edges weigh nothing.
 const ROWS: [(&[u16], &[i32], i64, TileVerdict); 8] = [
     (OPEN, &[0, 0, -1, 0], 3, TileVerdict::Good),

@@ -27,7 +27,7 @@ fn a_full_turn_is_a_residue(rt: HostRuntime) -> Result<(), Fail> {
     Ok(())
 }
 
-/// A turn the other way round the cell at (2, 0), and no other residue.
+/// A turn the other way around the cell at (2, 0), and no other residue.
 #[test]
 fn counts_places_in_the_raster(rt: HostRuntime) -> Result<(), Fail> {
     let phases = [0, 0, 0, 49152, 0, 0, 16384, 32768, 0, 0, 0, 0];

@@ -36,7 +36,7 @@ fn pushed(alloc: Global, revisions: &mut Revisions, edit: Edit) -> Result<String
     format!(in alloc; "{tiles:?}")
 }
 
-/// Adds the stamp of a tile and its pixels, `1` where one is open.
+/// Adds the stamp of a tile and its pixels, `1` if one is open.
 fn add_tile(
     alloc: Global,
     revisions: &Revisions,
@@ -63,7 +63,7 @@ fn tiles(alloc: Global, revisions: &Revisions, count: u32) -> Result<String, All
     Ok(text)
 }
 
-/// Whether a pixel is open by the mask and by a copy of it; None where there is no such pixel.
+/// Whether a pixel is open by the mask and by a copy of it; None if there is no such pixel.
 fn opened(
     alloc: Global,
     revisions: &Revisions,
@@ -215,7 +215,7 @@ fn rows(alloc: Global, mask: &Mask) -> Result<String, AllocError> {
     Ok(text)
 }
 
-/// The tiles that change where a box is masked and another is opened after it, and the rows at the end.
+/// The tiles that change if a box is masked and another is opened after it, and the rows at the end.
 fn masked_and_opened(
     alloc: Global,
     tiling: Tiling,

@@ -4,10 +4,10 @@ use std::alloc::{AllocError, Global};
 use std::test::Fail;
 use worked_scenes::{SceneFault, masked};
 
-/// Width and height of a raster and the side of its tiles, its mask by rows, 1 where a pixel is open, the count of its
-/// regions, each pixel's label by rows, and the region of the last pixel. By hand: a masked column parts the upper tile
+/// Width and height of a raster and the side of its tiles, its mask by rows, 1 if a pixel is open, the count of its
+/// regions, each pixel's label by rows, and the region of the last pixel. By hand: a masked column splits the upper tile
 /// into two regions, and the row below it is a tile of its own. In `0 1 0 1 / 1 0 0 1 / 1 1 1 1` the pixel (1, 0) touches
-/// the others at a corner alone, and (0, 1) is joined to (3, 0) round the bottom. A ring is one region that closes at its
+/// the others only at a corner, and (0, 1) is joined to (3, 0) around the bottom. A ring is one region that closes at its
 /// last pixel. One pixel is a region, and masked ones are none.
 const ROWS: [(u32, u32, u32, &[u16], &str); 6] = [
     (
@@ -30,7 +30,7 @@ const ROWS: [(u32, u32, u32, &[u16], &str); 6] = [
     (2, 1, 2, &[0, 0], "0 .. None"),
 ];
 
-/// Labels as digits, and a point where there is none.
+/// Labels as digits, and a point if there is none.
 fn drawn(alloc: Global, labels: &[u32]) -> Result<String, AllocError> {
     let mut text = String::new(alloc);
     for &label in labels {

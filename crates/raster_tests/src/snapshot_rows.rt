@@ -18,7 +18,7 @@ use worked_scenes::{SceneFault, masked, scene, tile_result};
 /// The cycles and the faces of a tile.
 type Solved = (&'static [i32], &'static [i64]);
 
-/// A tile's result, where it is good.
+/// A tile's result, if it is good.
 fn solved(
     alloc: Global,
     scene: &Scene,
@@ -82,7 +82,7 @@ fn sampled(alloc: Global, tiling: Tiling, samples: [&[u16]; 3]) -> Result<Arc<Se
     Ok(session(alloc, scene, mask)?)
 }
 
-/// The set of the results of two tiles, where they are good.
+/// The set of the results of two tiles, if they are good.
 fn results(alloc: Global, session: &Session, tiles: [Solved; 2]) -> Option<TileSet>
     requires two { tiles_of session.now.scene.tiling ≡ 2 }
     ensures tiling { IfSome result (λ made. made.tiling ≡ session.now.scene.tiling) }
@@ -107,7 +107,7 @@ fn seams(alloc: Global, offsets: &[i64], flows: &[i64]) -> Result<SeamResult, Al
     })
 }
 
-/// Adds a pixel's value and its cycles above the phase, or `N` where it is masked.
+/// Adds a pixel's value and its cycles above the phase, or `N` if it is masked.
 fn add_pixel(
     alloc: Global,
     snapshot: &Snapshot,
@@ -205,7 +205,7 @@ const FLOWS: &[i64] = &[-4, -4, 8];
 const DEEP: i64 = -70_368_744_177_665;
 
 /// Offsets, flows, and what is built. The second tile lies best one cycle lower: then two edges of weight 4 depart by a
-/// cycle, and not one of weight 9. Of several breaks the first in the order of the verdicts is told.
+/// cycle, and not one of weight 9. Of several breaks the first in the order of the verdicts is reported.
 const ROWS: [(&[i64], &[i64], &str); 10] = [
     (
         &[0, -1],

@@ -30,7 +30,7 @@ fn rows() -> [&'static str; 11] {
     ]
 }
 
-/// The numbers in a text, or None where a word is none.
+/// The numbers in a text, or None if a word is none.
 fn numbers(alloc: Global, text: &str) -> Result<Option<Vec<i64>>, AllocError> {
     let mut all = Vec::new(alloc);
     for word in text.split_whitespace() {
@@ -42,7 +42,7 @@ fn numbers(alloc: Global, text: &str) -> Result<Option<Vec<i64>>, AllocError> {
     Ok(Some(all))
 }
 
-/// What few supplies that sum to 0 come to by size, or None where they are others.
+/// What few supplies that sum to 0 come to by size, or None if they are others.
 fn sizes(supplies: &[i64]) -> Option<u64>
     ensures few { IfSome result (λ size. length supplies.now < 1000) }
     ensures even { IfSome result (λ size. supply_sum supplies.now ≡ pos 0) }
@@ -64,7 +64,7 @@ fn sizes(supplies: &[i64]) -> Option<u64>
     if total == 0 { Some(size) } else { None }
 }
 
-/// The network of these supplies and arcs, each by tail, head, cost and capacity; None where there is none.
+/// The network of these supplies and arcs, each by tail, head, cost and capacity; None if there is none.
 fn build(alloc: Global, supplies: &[i64], arcs: &[i64]) -> Result<Option<Network>, AllocError>
     ensures flat { IfOk result (λ made. IfSome made (λ net. HasZeroPotentials (shape_of net) (state_of net))) }
     ensures bounded { IfOk result (λ made. IfSome made (λ net. BoundsCosts (shape_of net) (2 ^ 40))) }
@@ -100,7 +100,7 @@ fn build(alloc: Global, supplies: &[i64], arcs: &[i64]) -> Result<Option<Network
     Ok(Some(net))
 }
 
-/// The cost of all that flows, where twins have no capacity of their own: what flows along an arc stands on its twin.
+/// The cost of all that flows, if twins have no capacity of their own: what flows along an arc is on its twin.
 fn flow_cost<N: FlowNet>(net: &N) -> u64 {
     let mut total: u64 = 0;
     for node in 0..net.nodes() {
@@ -124,7 +124,7 @@ fn cost_out<N: FlowNet>(net: &N, node: u32) -> u64
     total
 }
 
-/// The cost of the balanced network of a row, less the cost that the row names, or None where nothing balances it.
+/// The cost of the balanced network of a row, minus the cost that the row names, or None if nothing balances it.
 fn cost_beyond(alloc: Global, row: &str) -> Result<Option<u64>, AllocError> {
     let Some(row) = numbers(alloc, row)? else {
         return Ok(None);
@@ -181,7 +181,7 @@ fn names_the_node_that_no_arc_leaves(rt: HostRuntime) -> Result<(), Fail> {
     Ok(())
 }
 
-/// So many arcs from one node to another, each of cost 1 and capacity 1.
+/// `count` arcs from one node to another, each of cost 1 and capacity 1.
 fn parallel(alloc: Global, count: usize) -> Result<Vec<i64>, AllocError> {
     let mut arcs = Vec::new(alloc);
     for _ in 0..count {

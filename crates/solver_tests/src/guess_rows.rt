@@ -51,7 +51,7 @@ fn full_turn(alloc: Global) -> Result<Scene, Fail> {
     Ok(scene(alloc, Tiling::new(2, 2, 128), 9, &phases, &[5, 5, 3, 9])?)
 }
 
-/// What a scene's one tile asks where all pixels are open.
+/// What a scene's one tile asks if all pixels are open.
 fn problem_of(alloc: Global, scene: &Scene) -> Result<Problem, AllocError>
     requires { 0 < tiles_of scene.now.tiling }
 {

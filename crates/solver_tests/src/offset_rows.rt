@@ -17,7 +17,7 @@ type Solved = (&'static [i32], &'static [i64]);
 /// By hand: a line whose second half lies a cycle lower; two light edges that give way to a heavy one (with the column
 /// unmoved the departures are 0, 0 and 1 and cost 9, a cycle lower they are -1, -1 and 0 and cost 8); a mask that separates a
 /// tile into two regions, which with that of the other tile lie 2, -3 and 5 cycles from a surface without departures; and the
-/// line where all is masked.
+/// line if all is masked.
 const ROWS: [(u32, &[u8], &[Solved], &[i64], &[i64]); 4] = [
     (
         2,

@@ -139,7 +139,7 @@ fn solved(
     solve_tile(alloc, scene, 0, 7, &unmasked)
 }
 
-/// With every face 0 in place of the solver's the check counts what the surface costs.
+/// With every face 0 instead of the solver's the check counts what the surface costs.
 #[test]
 fn tiles_cost_what_another_solver_finds(rt: HostRuntime) -> Result<(), Fail> {
     let alloc = rt.alloc();

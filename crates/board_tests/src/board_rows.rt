@@ -81,8 +81,8 @@ fn two_claims_give_two_tiles(rt: HostRuntime) -> Result<(), Fail> {
     answered(rt.alloc(), HALVES, 2, CLAIMS)
 }
 
-/// The same turn without a script, with edges that weigh 5 (top), 5 (right), 3 (bottom) and 3 (left). Where the lower left
-/// pixel is a cycle down, the bottom edge alone departs, and the face 3 at the residue 1 certifies the cost 3.
+/// The same turn without a script, with edges that weigh 5 (top), 5 (right), 3 (bottom) and 3 (left). If the lower left
+/// pixel is a cycle down, only the bottom edge departs, and the face 3 at the residue 1 certifies the cost 3.
 const WEIGHED: &str = "P2\n2 2\n65535\n0 16384 49152 32768\nP2\n2 2\n9\n5 5 3 9\n";
 
 /// After each result that is refused the board is as it was.

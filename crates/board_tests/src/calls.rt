@@ -9,7 +9,7 @@ use std::test::Fail;
 use surface_snapshots::Snapshot;
 use tile_board::{Board, ClaimFault, GatherFault, KeepFault, PublishFault};
 
-/// The next word as a number, and 99 where there is none.
+/// The next word as a number, and 99 if there is none.
 fn number(words: &mut Split<'_, char>) -> u32 {
     words.next().unwrap_or("").parse().unwrap_or(99)
 }
@@ -20,7 +20,7 @@ fn claimed(alloc: Global, board: &mut Board) -> Result<(u32, u32), ClaimFault> {
     Ok((ticket.tile, ticket.stamp))
 }
 
-/// The result of a tile at a stamp, with so many cycles and so many faces, all of them 0.
+/// The result of a tile at a stamp, with these numbers of cycles and faces, all of them 0.
 fn zeros(
     alloc: Global,
     tile: u32,
@@ -66,7 +66,7 @@ fn hand(alloc: Global, board: &mut Board, words: &mut Split<'_, char>) -> Result
     board.keep(alloc, solved)
 }
 
-/// An offset for one region, where there are no seam edges.
+/// An offset for one region, if there are no seam edges.
 fn seams(alloc: Global, revision: u32, offset: i64) -> Result<SeamResult, AllocError> {
     Ok(SeamResult {
         revision,
@@ -156,11 +156,11 @@ fn answer(alloc: Global, board: &mut Board, call: &str) -> Result<String, AllocE
     }
 }
 
-/// A call, with what was found in place of the answer that is wanted.
+/// A call, with what was found instead of the expected answer.
 #[derive(Debug, Drop)]
 struct Other(String);
 
-/// Does the calls on the left of the lines, one after another, and tells the first that is not answered with what stands on
+/// Does the calls on the left of the lines, one after another, and reports the first that is not answered with what is on
 /// its right.
 fn first_other(alloc: Global, board: &mut Board, lines: &str) -> Result<Option<Other>, AllocError> {
     for line in lines.lines() {
@@ -173,7 +173,7 @@ fn first_other(alloc: Global, board: &mut Board, lines: &str) -> Result<Option<O
     Ok(None)
 }
 
-/// Does the lines on the board of a session's text, with tiles of a side, and fails at the first that is answered otherwise.
+/// Does the lines on the board of a session's text, with tiles of a side, and fails at the first with another answer.
 pub fn answered(alloc: Global, text: &str, side: u32, lines: &str) -> Result<(), Fail>
     requires { (2 ≤ side) × (side ≤ 128) }
 {

@@ -21,7 +21,7 @@ fn a_settle_command_publishes_the_joined_tiles(rt: HostRuntime) -> Result<(), Fa
 const BOTH: &str = "P2\n4 1\n65535\n0 40000 14464 54464\n\
     analyst\nmask 3 0 3 0\nsettle\nsettle\nanalyst\nmask 0 0 0 0\nsettle\nshow\nend\n";
 
-/// The second analyst's edit changes the first tile alone, so the result of the other stays.
+/// The second analyst's edit changes only the first tile, so the result of the other stays.
 const ENTRIES: &str = "\
 finish = Ok(())
 entries = [Revised { analyst: 1, edit: Mask(Rect { x0: 3, y0: 0, x1: 3, y1: 0 }) }, Kept { tile: 0, stamp: 0 }, Kept { tile: 1, stamp: 1 }, Published { analyst: 1, revision: 1 }, Settled { analyst: 1, revision: 1 }, Revised { analyst: 2, edit: Mask(Rect { x0: 0, y0: 0, x1: 0, y1: 0 }) }, Kept { tile: 0, stamp: 2 }, Published { analyst: 2, revision: 2 }, Shown { analyst: 2, revision: Some(2) }]

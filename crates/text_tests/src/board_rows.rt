@@ -54,7 +54,7 @@ fn texts(alloc: Global, board: &Board) -> Result<Vec<u8>, Fail> {
     Ok(sink.bytes().to_vec(alloc)?)
 }
 
-/// What is written of the session of a text, whose one tile has no cycles and, where it has a cell, the face 0.
+/// What is written of the session of a text, whose one tile has no cycles and, if it has a cell, the face 0.
 fn written(alloc: Global, text: &str, cells: usize, offsets: &[i64]) -> Result<Vec<u8>, Fail> {
     let text = Vec::from_slice(alloc, text.as_bytes())?;
     let session = read(alloc, SessionUse::Alone, 64, text, 9, Vec::new(alloc))?;
@@ -164,7 +164,7 @@ const TURN: &str = "P2 2 2 65535 0 16384 49152 32768 analyst\nmask 0 0 0 0\nsett
 
 const SQUARE: &str = "P2 2 2 65535 100 200 300 400 P2 2 2 1 1 1 1 1 P2 2 2 1 0 1 1 0 ";
 
-/// After each report stands the grid of its surface once more.
+/// After each report comes the grid of its surface once more.
 #[test]
 fn reports_and_grids_are_written(rt: HostRuntime) -> Result<(), Fail> {
     for (text, cells, offsets, report) in [

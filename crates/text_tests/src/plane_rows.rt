@@ -4,7 +4,7 @@ use raster_model::Plane;
 use std::alloc::Global;
 use std::test::Fail;
 
-/// What is read from the front of a text of which the feed hands out so many bytes.
+/// What is read from the front of a text of which the feed hands out a number of bytes.
 fn read(
     alloc: Global,
     role: Role,
@@ -17,7 +17,7 @@ fn read(
     Ok(read_plane(alloc, &mut feed, role))
 }
 
-/// A role, how many bytes the feed hands out, a text and what is read of it, each counted by hand.
+/// A role, how many bytes the feed hands out, a text and what is read of it, each found by hand.
 const TEXTS: &str = "\
     Phase|100|P2 4 1 65535 0 20000 40000 60000 P|4 1 65535 [0, 20000, 40000, 60000];\
     Phase|100|P2\n#\n4 #1\n 1\t#2\r65535\n\n 00\x0b20000\x0c\n40000\r60000\t\n P|4 1 65535 [0, 20000, 40000, 60000];\

@@ -29,7 +29,7 @@ NODATA_value -9223372036854775808
 50000 75536
 ";
 
-/// A piece of the grid, what stands in its place, and what is read then.
+/// A piece of the grid, what is in its place, and what is read then.
 const GRIDS: &str = "\
     50000|50000|2 1 [50000, 75536];\
     50000|-0|Line(7);\
@@ -83,7 +83,7 @@ shown 1 1
 end
 ";
 
-/// A piece of the report, what stands in its place, and how many items are read then or which line is broken.
+/// A piece of the report, what is in its place, and how many items are read then or which line is broken.
 const REPORTS: &str = "\
     end|end|4;\
     end\n||Line(20);";
@@ -127,7 +127,7 @@ show
 end
 ";
 
-/// A piece of the report, what stands in its place, and the verdict then. The weights are 1, and 0 at the masked pixel.
+/// A piece of the report, what is in its place, and the verdict then. The weights are 1, and 0 at the masked pixel.
 const VERDICTS: &str = "\
     end|end|Accepted;\
     faces 0 0|faces 0 1|Tile { revision: 1, tile: 0, verdict: FaceAtEdge(Edge { x: 0, y: 0, down: false }) };\

@@ -8,7 +8,7 @@ use session_script::{SessionFault, SessionUse, read_session, write_session};
 use std::alloc::Global;
 use std::test::Fail;
 
-/// The session of a text that comes in pieces, where the numbered calls fail.
+/// The session of a text that comes in pieces, with the numbered calls failing.
 pub fn read(
     alloc: Global,
     use_as: SessionUse,
@@ -92,7 +92,7 @@ fn a_call_that_fails_is_told(rt: HostRuntime) -> Result<(), Fail> {
     Ok(())
 }
 
-/// Why no session is read of a raster of 4096 by 1024 and a section of so many equal lines.
+/// Why no session is read of a raster of 4096 by 1024 and a section of `count` equal lines.
 fn fault_of(alloc: Global, side: u32, line: &[u8], count: u32) -> Result<Option<SessionFault>, Fail>
     requires { (2 ≤ side) × (side ≤ 128) }
 {

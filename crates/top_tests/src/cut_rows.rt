@@ -29,7 +29,7 @@ const CUTS: &str = "\
 34|69|3|input fault 14 no end;
 70|70|0|!2 2;tile 64;rule least;revised 1 mask 0 0 0 0;kept 0 1;published 1 1;costs 0 0;ncols 2;nrows 2;%~ 16384;49152 32768;faces 0 0;flows;shown 1 1;end;";
 
-/// Cuts the session as a row says, and tells how often.
+/// Cuts the session as a row says, and answers how often.
 fn try_cuts<R: Alloc<A = Global> + Threads + Wait + Sync + Abort>(
     rt: &R,
     row: &str,

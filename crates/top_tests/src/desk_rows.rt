@@ -57,7 +57,7 @@ fn an_analyst_hears_of_its_worker(rt: HostRuntime) -> Result<(), Fail> {
     Ok(())
 }
 
-/// A script ends for its own pass alone, and the board has what was done.
+/// A script ends only for its own pass, and the board has what was done.
 #[test]
 fn a_pass_ends_where_its_script_does(rt: HostRuntime) -> Result<(), Fail> {
     let alloc = rt.alloc();

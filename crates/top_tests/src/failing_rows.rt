@@ -17,7 +17,7 @@ const REPORT: &str =
 /// A row has seven fields: what is disturbed, the first and the last number for it, words, bytes, status, and what is written.
 /// `take` and `put` number the call that fails, of the source and of the sink; `room` is how many bytes the sink has room for.
 /// Bytes and what is written are spelled as in the table of `top_rows`, and `@` is the samples of the line 0 20000 40000 60000
-/// in two bytes each. What is written is the line to `diag` at the statuses 3 and 5, and else the whole text of an undisturbed
+/// in two bytes each. What is written is the line to `diag` at the statuses 3 and 5, or else the whole text of an undisturbed
 /// run, of which the sink gains a part at status 6.
 const READS: &str = "\
 take|1|22|unwrap|P5;4 1;65535;@|5|read fault;
@@ -64,7 +64,7 @@ pub struct Wanted {
     pub gained: usize,
 }
 
-/// Whether the status and the sink are what is wanted.
+/// Whether the status and the sink are as expected.
 fn has_ended(done: &Ended, wanted: &Wanted) -> bool {
     done.status == wanted.status
         && match done.status {

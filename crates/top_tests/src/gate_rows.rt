@@ -33,7 +33,7 @@ impl Gate for Meeting {
     }
 }
 
-/// Two workers solve a tile each at one time, with no lock held.
+/// Two workers solve a tile each at the same time, with no lock held.
 #[test]
 fn workers_solve_at_once(rt: HostRuntime) -> Result<(), Fail> {
     let gate = Meeting {

@@ -33,7 +33,7 @@ fn grid(alloc: Global) -> Result<String, AllocError> {
     Ok(text)
 }
 
-/// A slope of 1024 by 1024 pixels. Before its grid stand the lines of 256 kept tiles, in any order.
+/// A slope of 1024 by 1024 pixels. Before its grid come the lines of 256 kept tiles, in any order.
 #[test]
 fn a_large_slope_is_unwrapped(rt: HostRuntime) -> Result<(), Fail> {
     let bytes = slope(rt.alloc(), 1024, 1024, "")?;
@@ -107,7 +107,7 @@ const LIMITS: [(&str, &str); 2] = [
     ),
 ];
 
-/// With so many commands 4096 by 1024 pixels, in tiles of the side 2, are too many.
+/// With these numbers of commands 4096 by 1024 pixels, in tiles of the side 2, are too many.
 #[test]
 fn limits_are_told_with_their_lines(rt: HostRuntime) -> Result<(), Fail> {
     for (script, line) in LIMITS {

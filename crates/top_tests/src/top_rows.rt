@@ -6,10 +6,10 @@ use std::test::Fail;
 use std::thread::Threads;
 use tile_workers::OpenGate;
 
-/// A row has four fields: words, bytes, status, and what is written, which is the sink's text at status 0 and 1 and else
+/// A row has four fields: words, bytes, status, and what is written, which is the sink's text at status 0 and 1 or else
 /// the line to `diag`. In a field `;` is LF, `.` is the byte 0, `~` is the NODATA value, `%` stands for the four
 /// lines of a grid between its size and its rows, and `!` for the head of a report up to its size. In what is written `*` is
-/// any text, and `/` parts two reports of which either may come. All values but those of `trial 7` were computed by hand.
+/// any text, and `/` splits two reports of which either may come. All values but those of `trial 7` were computed by hand.
 const ROWS: &str = "\
 -- Lines, which have no cell: a commented header, a wrap, the exact half cycle, one pixel.
 unwrap|P5;# by hand;2 1;65535;....|0|!2 1;tile 64;rule least;kept 0 0;published 1 0;costs 0 0;ncols 2;nrows 1;%0 0;faces 0;flows;shown 1 0;end;
@@ -168,7 +168,7 @@ pub fn is_one_of(text: &str, patterns: &str) -> bool {
     false
 }
 
-/// Runs a row, where the line has one: then its words and bytes give its status and what it writes.
+/// Runs a row, if the line has one: then its words and bytes give its status and what it writes.
 fn judge<R: Alloc<A = Global> + Threads + Wait + Sync + Abort>(
     rt: &R,
     row: &str,

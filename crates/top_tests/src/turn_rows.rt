@@ -19,7 +19,7 @@ const WORKERS: u32 = 8;
 const TIMES: u64 = 10_000;
 
 /// Eight workers ask for a tile 10,000 times each, in threads of their own, and each call is answered. A call waits asleep for
-/// those before it alone, so that the test ends in seconds.
+/// only those before it, so that the test ends in seconds.
 #[test]
 fn each_call_has_its_turn(rt: HostRuntime) -> Result<(), Fail> {
     let alloc = rt.alloc();

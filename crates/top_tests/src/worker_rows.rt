@@ -15,7 +15,7 @@ show
 end
 ";
 
-/// Both analysts are told that there is no surface yet. The settle command of the first is done by publishing, and that of
+/// Both analysts learn that there is no surface yet. The settle command of the first is done by publishing, and that of
 /// the second finds the surface there. The scripts then go on to their ends.
 #[test]
 fn a_settle_command_is_answered_with_its_revision(rt: HostRuntime) -> Result<(), Fail> {

@@ -172,9 +172,9 @@ class Lines:
         return numbers
 
     def numbers(self, text: bytes) -> np.ndarray:
-        """Numbers parted by one space; int64, (count)."""
+        """Numbers separated by one space; int64, (count)."""
         if not NUMBERS.fullmatch(text):
-            self.refuse("wanted whole numbers parted by one space")
+            self.refuse("wanted whole numbers separated by one space")
         if any(not -(2**63) <= int(word) < 2**63 for word in LONG.findall(text)):
             self.refuse("a number does not fit 64 bits")
         return np.fromstring(text, dtype=np.int64, sep=" ")

@@ -4,6 +4,7 @@ mod ZeroLemmas
 mod ZeroFlows
 pub mod TileParts
 pub mod CostLemmas
+pub mod EdgeCosts
 mod RangeLemmas
 pub mod VerdictLemmas
 pub mod Unique

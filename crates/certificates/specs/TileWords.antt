@@ -1,5 +1,5 @@
 -- Words of the helpers over a tile: no clause of a public function cites them.
-use Rattle.std.specs.Prelude.{◌≡◌, ℤ, Bool, List, length}
+use Rattle.std.specs.Prelude.{◌≡◌, ℕ, ◌+◌, ◌≤◌, ℤ, Bool, IsTrue, List, length}
 use Rattle.raster_model.specs.declared.edge.Edge.{Edge}
 use Rattle.raster_model.specs.Sums.{Field}
 use Rattle.raster_model.specs.Raster.{Raster, lifted, cost_from, tile_cost}
@@ -8,6 +8,7 @@ use Rattle.raster_model.specs.Cells.{cell_count, face_at}
 use Rattle.raster_model.specs.Heights.{KnowsOpenOf}
 use Rattle.raster_model.specs.Masks.{open_at}
 use Rattle.raster_model.specs.Scene.{raster_of}
+use Rattle.raster_model.specs.Tiles.{IsWithin}
 use Rattle.certificates.specs.declared.tile.Tile.{Tile}
 
 abbrev pub raster_in : Tile → Raster
@@ -51,3 +52,7 @@ cost_in k cycles = tile_cost (raster_in k) (mask_in k) k.number (surface_at k cy
 
 abbrev pub KnowsTile : Tile → Field Bool → Type 0
 KnowsTile k = KnowsOpenOf (raster_in k) (mask_in k) k.number
+
+-- the tile's pixels in row y and in the next one are open
+abbrev pub AreOpenFrom : Tile → ℕ → Type 0
+AreOpenFrom k y = (a b : ℕ) → IsWithin k.window a b → y ≤ b → b ≤ y + 1 → IsTrue (mask_in k a b)

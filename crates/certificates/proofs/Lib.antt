@@ -5,6 +5,7 @@ mod ZeroFlows
 pub mod TileParts
 pub mod CostLemmas
 pub mod EdgeCosts
+mod FreeRows
 mod RangeLemmas
 pub mod VerdictLemmas
 pub mod Unique

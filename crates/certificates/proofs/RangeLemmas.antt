@@ -51,7 +51,7 @@ module _ (v : Window) (mask : Field Bool) (cycles : List ℤ) where
   in_range x y z u e f l = rw (← e, ← f) l
 
 -- ---- a list that is in range as a whole
-neither : (a b : Bool) → (a || b) ≡ false → (a ≡ false) × (b ≡ false)
+pub neither : (a b : Bool) → (a || b) ≡ false → (a ≡ false) × (b ≡ false)
 neither true b e = absurd cc
 neither false b e = (refl, e)
 

@@ -39,7 +39,8 @@ impl TileCycles<'_> {
         requires { IsWithin self.now.window x y }
         ensures { result ≡ cycles_in self.now.window self.now.cycles.now x y }
     {
-        self.cycles[self.window.place(x, y)]
+        let row = (y - self.window.y0) as usize * self.window.width() as usize;
+        self.cycles[row + x as usize - self.window.x0 as usize]
     }
 
     /// The first open pixel, in row order, at which they are out of range.

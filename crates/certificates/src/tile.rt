@@ -3,7 +3,7 @@ ghost use Rattle.std.specs.Prelude.{◌≡◌};
 
 use crate::edge_costs::edge_cost;
 use crate::numbers::are_zeros;
-use raster_model::{Edge, Heights, Mask, Scene, Window, plain, weight};
+use raster_model::{Edge, Heights, Mask, Scene, Window, departure, plain, weight};
 
 /// A tile of a scene under a mask.
 #[derive(Clone, Copy)]
@@ -22,6 +22,8 @@ impl Tile<'_> {
     ghost use Rattle.certificates.specs.TileWords.{
       AreOpenFrom,
       FitAt,
+      FollowsDown,
+      FollowsRight,
       HasFaces,
       IsInner,
       KnowsTile,
@@ -243,6 +245,51 @@ impl Tile<'_> {
         to_right + to_lower
     }
 
+    /// Whether the surface departs at no right edge of a row of open pixels. It stops at none, so that they can be judged
+    /// some at a time.
+    fn follows_right<H: Heights>(&self, heights: &H, y: u32) -> bool
+        requires row { (self.now.window.y0 ≤ y) × (y ≤ self.now.window.y1) }
+        requires known { KnowsTile self.now (H.knows heights.now) }
+        requires unmasked { AreOpenFrom self.now y }
+        ensures { IsTrue result → FollowsRight self.now (H.cycles_at heights.now) y self.now.window.x1 }
+    {
+        let mut departs = false;
+        for x in self.window.x0..self.window.x1 {
+            let edge = Edge { x, y, down: false };
+            departs |= departure(self.scene, heights, edge) != 0;
+        }
+        !departs
+    }
+
+    /// Whether it departs at no down edge of such a row, which is not the tile's last.
+    fn follows_down<H: Heights>(&self, heights: &H, y: u32) -> bool
+        requires row { (self.now.window.y0 ≤ y) × (y < self.now.window.y1) }
+        requires known { KnowsTile self.now (H.knows heights.now) }
+        requires unmasked { AreOpenFrom self.now y }
+        ensures { IsTrue result → FollowsDown self.now (H.cycles_at heights.now) y (self.now.window.x1 + 1) }
+    {
+        let mut departs = false;
+        for x in self.window.x0..self.window.x1 + 1 {
+            let edge = Edge { x, y, down: true };
+            departs |= departure(self.scene, heights, edge) != 0;
+        }
+        !departs
+    }
+
+    /// Whether the edges that start in a row are known to add nothing to the tile's cost: its pixels and those of the
+    /// next row are open, and the surface departs at none of the edges.
+    fn is_free<H: Heights>(&self, heights: &H, y: u32, unmasked: bool) -> bool
+        requires row { (self.now.window.y0 ≤ y) × (y ≤ self.now.window.y1) }
+        requires known { KnowsTile self.now (H.knows heights.now) }
+        requires unmasked { IsTrue unmasked → AreOpenFrom self.now y }
+        ensures { IsTrue result → pos 0 ≡ sum_row self.now.scene.now.phase.width (cost_at self.now (H.cycles_at heights.now)) y }
+    {
+        if !unmasked || !self.follows_right(heights, y) {
+            return false;
+        }
+        y == self.window.y1 || self.follows_down(heights, y)
+    }
+
     /// What the edges that start in a row add to the tile's cost.
     fn row_cost<H: Heights>(&self, heights: &H, y: u32) -> u128
         requires row { (self.now.window.y0 ≤ y) × (y ≤ self.now.window.y1) }
@@ -250,8 +297,11 @@ impl Tile<'_> {
         ensures value { pos result ≡ sum_row self.now.scene.now.phase.width (cost_at self.now (H.cycles_at heights.now)) y }
         ensures small { result ≤ 2 * 65535 * (2 ^ 49 + 1) * 4096 }
     {
-        let window = self.window;
         let unmasked = self.are_open_from(y);
+        if self.is_free(heights, y, unmasked) {
+            return 0;
+        }
+        let window = self.window;
         let mut cost: u128 = 0;
         for x in window.x0..window.x1 + 1 {
             cost += self.cost_from(heights, x, y, unmasked);

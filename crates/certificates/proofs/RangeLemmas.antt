@@ -1,5 +1,5 @@
 -- Cycles in range, pixel by pixel of a window in row order.
-use Rattle.std.proofs.Common.{◌≡◌, ℕ, ◌+◌, ◌-◌, ◌*◌, ◌<◌, ◌≤◌, ℤ, List, length, Bool, true, false, refl, arith, inl, inr, ◌⊎◌}
+use Rattle.std.proofs.Common.{◌≡◌, ℕ, ◌+◌, ◌-◌, ◌<◌, ◌≤◌, ℤ, List, length, Bool, true, false, refl, arith, inl, inr, ◌⊎◌}
 use Rattle.std.specs.Prelude.{IsTrue, ◌||◌, not, nat_lt, pos, slice_index_or, unsigned_abs}
 use Rattle.std.proofs.lemmas.Nat.{mul-add-lt}
 use Rattle.raster_model.specs.declared.tiling.Window.{Window}

@@ -64,8 +64,8 @@ impl TileCycles<'_> {
     }
 }
 
-/// Whether all cycles are in range, those of masked pixels included. It stops at none that is not, so that they can be
-/// judged some at a time.
+/// Whether all cycles are in range, those of masked pixels too. It does not stop at the first that is not, so that
+/// several can be judged at once.
 fn are_in_range(cycles: &[i32]) -> bool
     ensures { IsTrue result → AreAllInRange cycles.now }
 {

@@ -245,8 +245,8 @@ impl Tile<'_> {
         to_right + to_lower
     }
 
-    /// Whether the surface departs at no right edge of a row of open pixels. It stops at none, so that they can be judged
-    /// some at a time.
+    /// Whether the surface departs at no right edge of a row of open pixels. It does not stop at the first at which it
+    /// does, so that several can be judged at once.
     fn follows_right<H: Heights>(&self, heights: &H, y: u32) -> bool
         requires row { (self.now.window.y0 ≤ y) × (y ≤ self.now.window.y1) }
         requires known { KnowsTile self.now (H.knows heights.now) }
@@ -261,7 +261,7 @@ impl Tile<'_> {
         !departs
     }
 
-    /// Whether it departs at no down edge of such a row, which is not the tile's last.
+    /// Whether it departs at no down edge of such a row, which is not the last of the tile.
     fn follows_down<H: Heights>(&self, heights: &H, y: u32) -> bool
         requires row { (self.now.window.y0 ≤ y) × (y < self.now.window.y1) }
         requires known { KnowsTile self.now (H.knows heights.now) }

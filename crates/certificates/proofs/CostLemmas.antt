@@ -1,16 +1,18 @@
 -- What the edges that start at a pixel add to the cost of a tile, as code adds it up.
-use Rattle.std.proofs.Common.{◌≡◌, ℕ, ◌+◌, ◌*◌, ◌^◌, ◌<◌, ◌≤◌, arith, Fits}
+use Rattle.std.proofs.Common.{◌≡◌, ℕ, ◌+◌, ◌*◌, ◌^◌, ◌<◌, ◌≤◌, arith, refl, Fits}
 use Rattle.std.specs.Int.{w128}
-use Rattle.std.specs.Prelude.{ℤ, pos, Bool, IsTrue, nat_lt}
+use Rattle.std.specs.Prelude.{ℤ, pos, Bool, IsTrue, ◌&&◌, nat_lt}
 use Rattle.std.proofs.lemmas.Bool.Decides.{nat_tests}
 use Rattle.std.proofs.lemmas.Int.{ints}
 use Rattle.raster_model.specs.declared.scene.Scene.{Scene}
 use Rattle.raster_model.specs.declared.tiling.Window.{Window}
 use Rattle.raster_model.specs.Sums.{Field, is_edge, right_edge, down_edge}
-use Rattle.raster_model.specs.Raster.{edge_cost, cost_from}
+use Rattle.raster_model.specs.Raster.{edge_cost, cost_from, has_open_ends}
 use Rattle.raster_model.specs.Tiles.{IsWithin, IsWindowOf}
 use Rattle.raster_model.specs.Heights.{KnowsEnds, KnowsOpenOf}
 use Rattle.raster_model.specs.Scene.{raster_of}
+use Rattle.certificates.specs.declared.tile.Tile.{Tile}
+use Rattle.certificates.specs.TileWords.{AreOpenFrom, mask_in}
 use Rattle.raster_model.proofs.WindowCosts.{cost_from_is}
 use Rattle.std.proofs.lemmas.Bool.{and_parts}
 use Rattle.sums_and_lists.specs.Sums.{where_true}
@@ -41,6 +43,19 @@ module _ (s : Scene) (mask knows : Field Bool) (tile : ℕ) (v : Window) (is : I
     is_lower s.phase.width s.phase.height x y (omega (arith, w, is.across, s.same_width)) (omega (arith, l, is.along, s.same_height)),
     λ o. (let b = and_parts (mask x y) (mask x (y + 1)) o in (at_pixel x y w b.0, at_pixel x (y + 1) (w.0, w.1, omega (arith, w), omega (arith, l)) b.1)),
   )
+
+-- where the tile's pixels in a row and in the next one are open, so are the ends of the edges that start in the row
+both_true : (a b : Bool) → IsTrue a → IsTrue b → IsTrue (a && b)
+both_true a b p q = rw (p, q) refl
+
+module _ (k : Tile) (x y : ℕ) (clear : AreOpenFrom k y) (w : IsWithin k.window x y) where
+  pub right_open : x < k.window.x1 → IsTrue (has_open_ends (mask_in k) (right_edge x y))
+  right_open l =
+      both_true (mask_in k x y) (mask_in k (x + 1) y) (clear x y w (omega arith) (omega arith)) (clear (x + 1) y (omega (arith, w), omega (arith, l), w.2, w.3) (omega arith) (omega arith))
+
+  pub lower_open : y < k.window.y1 → IsTrue (has_open_ends (mask_in k) (down_edge x y))
+  lower_open l =
+      both_true (mask_in k x y) (mask_in k x (y + 1)) (clear x y w (omega arith) (omega arith)) (clear x (y + 1) (w.0, w.1, omega (arith, w), omega (arith, l)) (omega arith) (omega arith))
 
 -- a cost that is worked out, or 0
 pub cost_or_none : (a b : ℕ) → a ≡ b → b ≤ 65535 * (2 ^ 49 + 1) → a ≤ 65535 * (2 ^ 49 + 1)

@@ -4,6 +4,8 @@ mod ZeroLemmas
 mod ZeroFlows
 pub mod TileParts
 pub mod CostLemmas
+pub mod EdgeCosts
+mod FreeRows
 mod RangeLemmas
 pub mod VerdictLemmas
 pub mod Unique

@@ -1,4 +1,4 @@
--- How numbers of a list grow, and which are 0: words of helpers, which no clause of a public function cites.
+-- How numbers of a list grow, which are 0, and which are in range: words of helpers, which no clause of a public function cites.
 use Rattle.std.specs.Prelude.{◌≡◌, ◌≢◌, ℕ, ◌*◌, ◌<◌, ◌≤◌, ℤ, pos, ◌+ℤ◌, List, length, slice_index_or, unsigned_abs}
 
 -- each number has grown by f, and no number is greater than n weights
@@ -17,3 +17,7 @@ pub record IsFirstOther (xs : List ℤ) (v : ℕ) : Type 0 where
   pub exists : v < length xs
   pub other : slice_index_or xs v (pos 0) ≢ pos 0
   pub zeros : (u : ℕ) → u < v → slice_index_or xs u (pos 0) ≡ pos 0
+
+-- all numbers are from -8388608 to 8388608
+abbrev pub AreAllInRange : List ℤ → Type 0
+AreAllInRange xs = (v : ℕ) → v < length xs → unsigned_abs (slice_index_or xs v (pos 0)) ≤ 8388608

@@ -1,13 +1,14 @@
 -- Words of the helpers over a tile: no clause of a public function cites them.
-use Rattle.std.specs.Prelude.{◌≡◌, ℤ, Bool, List, length}
+use Rattle.std.specs.Prelude.{◌≡◌, ℕ, ◌+◌, ◌<◌, ◌≤◌, ℤ, pos, Bool, IsTrue, List, length}
 use Rattle.raster_model.specs.declared.edge.Edge.{Edge}
-use Rattle.raster_model.specs.Sums.{Field}
-use Rattle.raster_model.specs.Raster.{Raster, lifted, cost_from, tile_cost}
+use Rattle.raster_model.specs.Sums.{Field, right_edge, down_edge}
+use Rattle.raster_model.specs.Raster.{Raster, departure, lifted, cost_from, tile_cost}
 use Rattle.raster_model.specs.Certificates.{faces_of_tile, face_difference, face_product, face_total, IsTileEdge, FacesFit}
 use Rattle.raster_model.specs.Cells.{cell_count, face_at}
 use Rattle.raster_model.specs.Heights.{KnowsOpenOf}
 use Rattle.raster_model.specs.Masks.{open_at}
 use Rattle.raster_model.specs.Scene.{raster_of}
+use Rattle.raster_model.specs.Tiles.{IsWithin}
 use Rattle.certificates.specs.declared.tile.Tile.{Tile}
 
 abbrev pub raster_in : Tile → Raster
@@ -51,3 +52,14 @@ cost_in k cycles = tile_cost (raster_in k) (mask_in k) k.number (surface_at k cy
 
 abbrev pub KnowsTile : Tile → Field Bool → Type 0
 KnowsTile k = KnowsOpenOf (raster_in k) (mask_in k) k.number
+
+-- the tile's pixels in row y and in the next one are open
+abbrev pub AreOpenFrom : Tile → ℕ → Type 0
+AreOpenFrom k y = (a b : ℕ) → IsWithin k.window a b → y ≤ b → b ≤ y + 1 → IsTrue (mask_in k a b)
+
+-- the surface of some cycles does not depart at the right edges that start in row y from the tile's first column to before column n; nor at the down edges
+abbrev pub FollowsRight : Tile → Field ℤ → ℕ → ℕ → Type 0
+FollowsRight k cycles y n = (x : ℕ) → k.window.x0 ≤ x → x < n → departure (raster_in k) (surface_at k cycles) (right_edge x y) ≡ pos 0
+
+abbrev pub FollowsDown : Tile → Field ℤ → ℕ → ℕ → Type 0
+FollowsDown k cycles y n = (x : ℕ) → k.window.x0 ≤ x → x < n → departure (raster_in k) (surface_at k cycles) (down_edge x y) ≡ pos 0

@@ -1,6 +1,7 @@
 ghost use Rattle.raster_model.specs.Limits.{max_side};
+ghost use Rattle.certificates.specs.Growth.{AreAllInRange};
 ghost use Rattle.certificates.specs.Results.{cycles_in, pixels_in};
-ghost use Rattle.std.specs.Prelude.{◌≡◌, ◌≤◌, ◌<◌, ◌&&◌, length, nat_le};
+ghost use Rattle.std.specs.Prelude.{◌≡◌, ◌≤◌, ◌<◌, ◌&&◌, IsTrue, length, nat_le};
 
 use raster_model::{Heights, Mask, Window};
 
@@ -31,14 +32,15 @@ impl TileCycles<'_> {
     ghost use Rattle.certificates.specs.Results.{AreInRange, IsFirstOutside};
     ghost use Rattle.raster_model.specs.Masks.{open_at};
     ghost use Rattle.raster_model.specs.Tiles.{IsWithin};
-    ghost use Rattle.std.specs.Prelude.{IfNone, IfSome, IsTrue};
+    ghost use Rattle.std.specs.Prelude.{IfNone, IfSome};
 
     /// The cycles at a pixel of the window.
     fn at(&self, x: u32, y: u32) -> i32
         requires { IsWithin self.now.window x y }
         ensures { result ≡ cycles_in self.now.window self.now.cycles.now x y }
     {
-        self.cycles[self.window.place(x, y)]
+        let row = (y - self.window.y0) as usize * self.window.width() as usize;
+        self.cycles[row + x as usize - self.window.x0 as usize]
     }
 
     /// The first open pixel, in row order, at which they are out of range.
@@ -47,6 +49,9 @@ impl TileCycles<'_> {
         ensures found { IfSome result (λ pixel. IsFirstOutside self.now.window (open_at mask.now) self.now.cycles.now pixel.0 pixel.1) }
         ensures none { IfNone result (AreInRange self.now.window (open_at mask.now) self.now.cycles.now) }
     {
+        if are_in_range(self.cycles) {
+            return None;
+        }
         let window = self.window;
         for y in window.y0..window.y1 + 1 {
             for x in window.x0..window.x1 + 1 {
@@ -57,4 +62,16 @@ impl TileCycles<'_> {
         }
         None
     }
+}
+
+/// Whether all cycles are in range, those of masked pixels too. It does not stop at the first that is not, so that
+/// several can be judged at once.
+fn are_in_range(cycles: &[i32]) -> bool
+    ensures { IsTrue result → AreAllInRange cycles.now }
+{
+    let mut outside = false;
+    for place in 0..cycles.len() {
+        outside |= cycles[place].unsigned_abs() > MAX_CYCLES;
+    }
+    !outside
 }

@@ -4,6 +4,7 @@
 
 mod anchor;
 mod cycles;
+mod edge_costs;
 pub mod laws;
 mod numbers;
 mod results;
@@ -17,6 +18,7 @@ mod tile_set;
 mod tiles;
 mod verdicts;
 
+pub use crate::edge_costs::edge_cost;
 pub use crate::results::{SeamResult, TileResult};
 pub use crate::seam_edges::is_seam_edge;
 pub use crate::seams::check_flows;

@@ -1,8 +1,9 @@
 ghost use Rattle.raster_model.specs.Tiles.{IsWindowOf};
 ghost use Rattle.std.specs.Prelude.{◌≡◌};
 
+use crate::edge_costs::edge_cost;
 use crate::numbers::are_zeros;
-use raster_model::{Edge, Heights, Mask, Scene, Window, plain, weight};
+use raster_model::{Edge, Heights, Mask, Scene, Window, departure, plain, weight};
 
 /// A tile of a scene under a mask.
 #[derive(Clone, Copy)]
@@ -19,7 +20,10 @@ impl Tile<'_> {
     ghost use Rattle.certificates.specs.EdgeOrder.{HoldsAtAll, IsFirstBreak};
     ghost use Rattle.certificates.specs.EdgeWords.{HoldsFrom, HoldsIfPart, IsBreak, IsFirstBreakFrom};
     ghost use Rattle.certificates.specs.TileWords.{
+      AreOpenFrom,
       FitAt,
+      FollowsDown,
+      FollowsRight,
       HasFaces,
       IsInner,
       KnowsTile,
@@ -32,7 +36,7 @@ impl Tile<'_> {
     };
     ghost use Rattle.raster_model.specs.Certificates.{above, left};
     ghost use Rattle.raster_model.specs.Order.{IsCellAt};
-    ghost use Rattle.raster_model.specs.Sums.{is_edge};
+    ghost use Rattle.raster_model.specs.Sums.{is_edge, sum_row};
     ghost use Rattle.raster_model.specs.Tiles.{IsWithin};
     ghost use Rattle.std.specs.Prelude.{
       ◌+◌,
@@ -207,24 +211,102 @@ impl Tile<'_> {
         }
     }
 
-    /// What the edges that start at a pixel add to the tile's cost.
-    fn cost_from<H: Heights>(&self, heights: &H, x: u32, y: u32) -> u128
+    /// Whether the tile's pixels in a row of it and in the next one are all open.
+    fn are_open_from(&self, y: u32) -> bool
+        requires { (self.now.window.y0 ≤ y) × (y ≤ self.now.window.y1) }
+        ensures { IsTrue result → AreOpenFrom self.now y }
+    {
+        let window = self.window;
+        self.mask.is_open_span(y, window.x0, window.x1)
+            && (y == window.y1 || self.mask.is_open_span(y + 1, window.x0, window.x1))
+    }
+
+    /// What the edges that start at a pixel add to the tile's cost. `unmasked` tells that the tile's pixels in this row and
+    /// in the next one are known to be open.
+    fn cost_from<H: Heights>(&self, heights: &H, x: u32, y: u32, unmasked: bool) -> u128
         requires within { IsWithin self.now.window x y }
         requires known { KnowsTile self.now (H.knows heights.now) }
+        requires unmasked { IsTrue unmasked → AreOpenFrom self.now y }
         ensures value { pos result ≡ cost_at self.now (H.cycles_at heights.now) x y }
         ensures small { result ≤ 2 * 65535 * (2 ^ 49 + 1) }
     {
         let to_right = if x < self.window.x1 {
-            plain::edge_cost(self.scene, self.mask, heights, Edge { x, y, down: false })
+            let edge = Edge { x, y, down: false };
+            edge_cost(self.scene, self.mask, heights, edge, unmasked)
         } else {
             0
         };
         let to_lower = if y < self.window.y1 {
-            plain::edge_cost(self.scene, self.mask, heights, Edge { x, y, down: true })
+            let edge = Edge { x, y, down: true };
+            edge_cost(self.scene, self.mask, heights, edge, unmasked)
         } else {
             0
         };
         to_right + to_lower
+    }
+
+    /// Whether the surface departs at no right edge of a row of open pixels. It does not stop at the first at which it
+    /// does, so that several can be judged at once.
+    fn follows_right<H: Heights>(&self, heights: &H, y: u32) -> bool
+        requires row { (self.now.window.y0 ≤ y) × (y ≤ self.now.window.y1) }
+        requires known { KnowsTile self.now (H.knows heights.now) }
+        requires unmasked { AreOpenFrom self.now y }
+        ensures { IsTrue result → FollowsRight self.now (H.cycles_at heights.now) y self.now.window.x1 }
+    {
+        let mut departs = false;
+        for x in self.window.x0..self.window.x1 {
+            let edge = Edge { x, y, down: false };
+            departs |= departure(self.scene, heights, edge) != 0;
+        }
+        !departs
+    }
+
+    /// Whether it departs at no down edge of such a row, which is not the last of the tile.
+    fn follows_down<H: Heights>(&self, heights: &H, y: u32) -> bool
+        requires row { (self.now.window.y0 ≤ y) × (y < self.now.window.y1) }
+        requires known { KnowsTile self.now (H.knows heights.now) }
+        requires unmasked { AreOpenFrom self.now y }
+        ensures { IsTrue result → FollowsDown self.now (H.cycles_at heights.now) y (self.now.window.x1 + 1) }
+    {
+        let mut departs = false;
+        for x in self.window.x0..self.window.x1 + 1 {
+            let edge = Edge { x, y, down: true };
+            departs |= departure(self.scene, heights, edge) != 0;
+        }
+        !departs
+    }
+
+    /// Whether the edges that start in a row are known to add nothing to the tile's cost: its pixels and those of the
+    /// next row are open, and the surface departs at none of the edges.
+    fn is_free<H: Heights>(&self, heights: &H, y: u32, unmasked: bool) -> bool
+        requires row { (self.now.window.y0 ≤ y) × (y ≤ self.now.window.y1) }
+        requires known { KnowsTile self.now (H.knows heights.now) }
+        requires unmasked { IsTrue unmasked → AreOpenFrom self.now y }
+        ensures { IsTrue result → pos 0 ≡ sum_row self.now.scene.now.phase.width (cost_at self.now (H.cycles_at heights.now)) y }
+    {
+        if !unmasked || !self.follows_right(heights, y) {
+            return false;
+        }
+        y == self.window.y1 || self.follows_down(heights, y)
+    }
+
+    /// What the edges that start in a row add to the tile's cost.
+    fn row_cost<H: Heights>(&self, heights: &H, y: u32) -> u128
+        requires row { (self.now.window.y0 ≤ y) × (y ≤ self.now.window.y1) }
+        requires known { KnowsTile self.now (H.knows heights.now) }
+        ensures value { pos result ≡ sum_row self.now.scene.now.phase.width (cost_at self.now (H.cycles_at heights.now)) y }
+        ensures small { result ≤ 2 * 65535 * (2 ^ 49 + 1) * 4096 }
+    {
+        let unmasked = self.are_open_from(y);
+        if self.is_free(heights, y, unmasked) {
+            return 0;
+        }
+        let window = self.window;
+        let mut cost: u128 = 0;
+        for x in window.x0..window.x1 + 1 {
+            cost += self.cost_from(heights, x, y, unmasked);
+        }
+        cost
     }
 
     /// The cost of the tile: the sum over its inner edges with open ends.
@@ -235,9 +317,7 @@ impl Tile<'_> {
         let window = self.window;
         let mut cost: u128 = 0;
         for y in window.y0..window.y1 + 1 {
-            for x in window.x0..window.x1 + 1 {
-                cost += self.cost_from(heights, x, y);
-            }
+            cost += self.row_cost(heights, y);
         }
         cost
     }

@@ -1,17 +1,19 @@
 -- The costs of tiles and of seams, as one pass over the edges adds them up; what all tiles cost together is the sum over the inner edges.
-use Rattle.std.proofs.Common.{◌≡◌, ◌∙◌, ℕ, ◌+◌, ◌<◌, sym, subst, ap, refl, arith, Bool, true, false, inl, inr}
-use Rattle.std.specs.Prelude.{ℤ, pos, ◌&&◌, ◌==◌, not, IsTrue, nat_lt}
+use Rattle.std.proofs.Common.{◌≡◌, ◌∙◌, ℕ, ◌+◌, ◌-◌, ◌<◌, ◌≤◌, sym, subst, ap, refl, arith, Bool, true, false, inl, inr}
+use Rattle.std.specs.Prelude.{ℤ, pos, ◌&&◌, ◌==◌, not, IsTrue, if◌then◌else◌, nat_lt}
 use Rattle.std.proofs.lemmas.Int.{ints}
 use Rattle.std.proofs.lemmas.Bool.{and_parts}
-use Rattle.std.proofs.lemmas.Bool.Decides.{eqb_tells}
+use Rattle.std.proofs.lemmas.Bool.Decides.{eqb_tells, nat_tests}
 use Rattle.raster_model.specs.declared.edge.Edge.{Edge}
 use Rattle.raster_model.specs.Heights.{KnowsEnds, KnowsOpen}
 use Rattle.raster_model.specs.Sums.{Field, right_edge, down_edge, end_x, end_y, is_edge, sum_grid}
-use Rattle.raster_model.specs.Raster.{Raster, edge_cost, inner_cost, seam_cost_from, seam_edge_cost, tile_cost}
+use Rattle.raster_model.specs.MaskView.{MaskView}
+use Rattle.raster_model.specs.Masks.{open_at}
+use Rattle.raster_model.specs.Raster.{Raster, edge_cost, has_open_ends, inner_cost, seam_cost_from, seam_edge_cost, tile_cost}
 use Rattle.raster_model.proofs.MaskAgrees.{edge_ends}
 use Rattle.raster_model.proofs.SumLemmas.{sum_edges-below, sum_edges-same}
 use Rattle.surface_snapshots.specs.Parts.{tile_costs}
-use Rattle.surface_snapshots.specs.Loops.{inner_cost_from, inner_edge_cost}
+use Rattle.surface_snapshots.specs.Loops.{AreOpenFrom, inner_cost_from, inner_edge_cost}
 use Rattle.sums_and_lists.proofs.Tests.{one_test, apart}
 use Rattle.sums_and_lists.specs.Sums.{sum_below, where_true}
 use Rattle.sums_and_lists.proofs.SumLemmas.{no_number, sum_below-pick, sum_below-same, sum_below-zeros}
@@ -22,6 +24,31 @@ ends_known r mask knows e known i o =
     let t = edge_ends r.width r.height e i in
     let ends = and_parts (mask e.x e.y) (mask (end_x e) (end_y e)) o in
     (known e.x e.y t.0 t.1 ends.0, known (end_x e) (end_y e) t.2 t.3 ends.1)
+
+both_true : (a b : Bool) → IsTrue a → IsTrue b → IsTrue (a && b)
+both_true a b p q = rw (p, q) refl
+
+-- where the pixels of a row and of the next one are known to be open, so are the ends of a pixel's edges
+module _ (m : MaskView) (x y : ℕ) (clear : AreOpenFrom m y x (x + 1)) where
+  pub right_open : x + 1 < m.width → y < m.height → IsTrue (has_open_ends (open_at m) (right_edge x y))
+  right_open l k =
+      both_true (open_at m x y) (open_at m (x + 1) y) (clear x y (omega (arith, l)) k (omega arith) (omega arith) (omega arith) (omega arith)) (clear (x + 1) y l k (omega arith) (omega arith) (omega arith) (omega arith))
+
+  pub lower_open : x < m.width → y + 1 < m.height → IsTrue (has_open_ends (open_at m) (down_edge x y))
+  lower_open l k =
+      both_true (open_at m x y) (open_at m x (y + 1)) (clear x y l (omega (arith, k)) (omega arith) (omega arith) (omega arith) (omega arith)) (clear x (y + 1) l k (omega arith) (omega arith) (omega arith) (omega arith))
+
+-- what is known of the pixels up to the next tile stays known until that tile begins
+next_within : (left side next : ℕ) → next ≡ (if left == 1 then side else left - 1) → 1 ≤ left → next < side → next + 1 ≡ left
+next_within left side next e l m = grind (arith, nat_tests)
+
+pub still_open : (m : MaskView) (x y left side next : ℕ) (clear : Bool) → (IsTrue clear → AreOpenFrom m y x (x + left)) → next ≡ (if left == 1 then side else left - 1) → 1 ≤ left → next < side → IsTrue clear → AreOpenFrom m y (x + 1) (x + 1 + next)
+still_open m x y left side next clear known e l within t a b p q r s =
+    let n = next_within left side next e l within in
+    known t a b p q (omega (arith, r)) (omega (arith, s, n))
+
+pub begins_next : (m : MaskView) (x y left : ℕ) (clear : Bool) → 1 ≤ left → (IsTrue clear → AreOpenFrom m y x (x + left)) → IsTrue clear → AreOpenFrom m y x (x + 1)
+begins_next m x y left clear l known t a b p q r s = known t a b p q r (omega (arith, s, l))
 
 -- the right and the lower edge of a pixel
 pub both_edges : (r : Raster) (mask : Field Bool) (S : Field ℤ) (x y a b : ℕ) → pos a ≡ where_true (nat_lt (x + 1) r.width) (inner_edge_cost r mask S (right_edge x y)) → pos b ≡ where_true (nat_lt (y + 1) r.height) (inner_edge_cost r mask S (down_edge x y)) → pos (a + b) ≡ inner_cost_from r mask S x y

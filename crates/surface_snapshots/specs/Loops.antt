@@ -24,6 +24,10 @@ inner_cost_from r mask S = edges_from r.width r.height (inner_edge_cost r mask S
 abbrev pub AreOfEdges : ℕ → Costs → Type 0
 AreOfEdges n costs = (costs.tiles ≤ 65535 * (2 ^ 49 + 1) * n) × (costs.seams ≤ 65535 * (2 ^ 49 + 1) * n)
 
+-- the pixels of row y and of the next one from column x to column z are open, as far as the raster goes
+abbrev pub AreOpenFrom : MaskView → ℕ → ℕ → ℕ → Type 0
+AreOpenFrom m y x z = (a b : ℕ) → a < m.width → b < m.height → x ≤ a → a ≤ z → y ≤ b → b ≤ y + 1 → IsTrue (open_at m a b)
+
 -- what a surface is put together from has one size: the scene, the mask, the results and the labels; each tile has a good result, and each open pixel a region
 pub record GoTogether (s : Scene) (m : MaskView) (v : RegionsView) (results : List TileResult) : Type 0 where
   pub across : m.width ≡ s.phase.width

@@ -1,14 +1,16 @@
 ghost use Rattle.raster_model.specs.Heights.{KnowsOpen};
+ghost use Rattle.raster_model.specs.Limits.{IsTileSide, max_side};
 ghost use Rattle.raster_model.specs.Masks.{open_at};
-ghost use Rattle.raster_model.specs.Raster.{edge_cost, is_seam, lifted, seam_cost as seam_cost_of, seam_cost_from, seam_edge_cost};
+ghost use Rattle.raster_model.specs.Raster.{has_open_ends, is_seam, lifted, seam_cost as seam_cost_of, seam_cost_from, seam_edge_cost};
 ghost use Rattle.raster_model.specs.Scene.{raster_of};
 ghost use Rattle.raster_model.specs.Sums.{down_edge, is_edge, right_edge, sum_row};
 ghost use Rattle.std.specs.Prelude.{◌≡◌, ◌==◌, ◌+◌, ◌-◌, ◌*◌, ◌%◌, ◌<◌, ◌≤◌, ◌^◌, IsTrue, if◌then◌else◌, nat_lt, pos};
 ghost use Rattle.sums_and_lists.specs.Sums.{where_true};
-ghost use Rattle.surface_snapshots.specs.Loops.{AreOfEdges, inner_cost_from, inner_edge_cost};
+ghost use Rattle.surface_snapshots.specs.Loops.{AreOfEdges, AreOpenFrom, inner_cost_from, inner_edge_cost};
 ghost use Rattle.surface_snapshots.specs.Parts.{tile_costs};
 
-use raster_model::{Edge, Heights, Mask, Scene, plain};
+use certificates::edge_cost;
+use raster_model::{Edge, Heights, Mask, Scene};
 use seam_regions::next_left;
 
 /// What a surface costs.
@@ -64,17 +66,36 @@ fn row_costs<H: Heights>(scene: &Scene, mask: &Mask, heights: &H, y: u32) -> Cos
     let side = scene.tiling.side;
     let lowest = (y + 1) % side == 0;
     let mut costs = NONE;
-    // the columns of the tile from `x` on
+    // the columns of the tile from `x` on, and whether they are known to be open here and in the next row
     let mut left = side;
+    let mut unmasked = false;
     for x in 0..scene.phase.width {
-        costs = costs.plus(costs_from(scene, mask, heights, x, y, left == 1, lowest));
+        unmasked = are_open_from(mask, x, y, left, side, unmasked);
+        let last = left == 1;
+        costs = costs.plus(costs_from(scene, mask, heights, x, y, last, lowest, unmasked));
         left = next_left(left, side);
     }
     costs
 }
 
+/// Whether the pixels of a row and of the next one are open, from column `x` to the first one of the next tile. `left`
+/// counts the columns of the tile from `x` on. Within a tile the answer for the column before stays, `unmasked`.
+fn are_open_from(mask: &Mask, x: u32, y: u32, left: u32, side: u32, unmasked: bool) -> bool
+    requires pixel { (x < mask.now.width) × (y < mask.now.height) }
+    requires sides { (mask.now.width ≤ max_side) × (mask.now.height ≤ max_side) × IsTileSide side }
+    requires left { left ≤ side }
+    requires unmasked { left < side → IsTrue unmasked → AreOpenFrom mask.now y x (x + left) }
+    ensures { IsTrue result → AreOpenFrom mask.now y x (x + left) }
+{
+    if left < side {
+        return unmasked;
+    }
+    let last = (x + side).min(mask.width() - 1);
+    mask.is_open_span(y, x, last) && (y + 1 == mask.height() || mask.is_open_span(y + 1, x, last))
+}
+
 /// What the edges that start at a pixel add. `last` tells that its column is the last of its tile, and
-/// `lowest` that its row is.
+/// `lowest` that its row is. `unmasked` tells that its pixels are known to be open.
 fn costs_from<H: Heights>(
     scene: &Scene,
     mask: &Mask,
@@ -83,18 +104,20 @@ fn costs_from<H: Heights>(
     y: u32,
     last: bool,
     lowest: bool,
+    unmasked: bool,
 ) -> Costs
     requires same_size { (mask.now.width ≡ scene.now.phase.width) × (mask.now.height ≡ scene.now.phase.height) }
     requires known { KnowsOpen (raster_of scene.now) (open_at mask.now) (H.knows heights.now) }
     requires pixel { (x < scene.now.phase.width) × (y < scene.now.phase.height) }
     requires last { last ≡ ((x + 1) % scene.now.tiling.side == 0) }
     requires lowest { lowest ≡ ((y + 1) % scene.now.tiling.side == 0) }
+    requires unmasked { IsTrue unmasked → AreOpenFrom mask.now y x (x + 1) }
     ensures tiles { pos result.tiles ≡ inner_cost_from (raster_of scene.now) (open_at mask.now) (lifted (raster_of scene.now) (H.cycles_at heights.now)) x y }
     ensures seams { pos result.seams ≡ seam_cost_from (raster_of scene.now) (open_at mask.now) (lifted (raster_of scene.now) (H.cycles_at heights.now)) x y }
     ensures small { AreOfEdges 2 result }
 {
-    let right = right_costs(scene, mask, heights, x, y, last);
-    right.plus(lower_costs(scene, mask, heights, x, y, lowest))
+    let right = right_costs(scene, mask, heights, x, y, last, unmasked);
+    right.plus(lower_costs(scene, mask, heights, x, y, lowest, unmasked))
 }
 
 /// What the right edge of a pixel adds, where there is one.
@@ -105,17 +128,20 @@ fn right_costs<H: Heights>(
     x: u32,
     y: u32,
     last: bool,
+    unmasked: bool,
 ) -> Costs
     requires same_size { (mask.now.width ≡ scene.now.phase.width) × (mask.now.height ≡ scene.now.phase.height) }
     requires known { KnowsOpen (raster_of scene.now) (open_at mask.now) (H.knows heights.now) }
     requires pixel { (x < scene.now.phase.width) × (y < scene.now.phase.height) }
     requires last { last ≡ ((x + 1) % scene.now.tiling.side == 0) }
+    requires unmasked { IsTrue unmasked → AreOpenFrom mask.now y x (x + 1) }
     ensures tiles { pos result.tiles ≡ where_true (nat_lt (x + 1) scene.now.phase.width) (inner_edge_cost (raster_of scene.now) (open_at mask.now) (lifted (raster_of scene.now) (H.cycles_at heights.now)) (right_edge x y)) }
     ensures seams { pos result.seams ≡ where_true (nat_lt (x + 1) scene.now.phase.width) (seam_edge_cost (raster_of scene.now) (open_at mask.now) (lifted (raster_of scene.now) (H.cycles_at heights.now)) (right_edge x y)) }
     ensures small { AreOfEdges 1 result }
 {
     if x + 1 < scene.phase.width {
-        edge_costs(scene, mask, heights, Edge { x, y, down: false }, last)
+        let edge = Edge { x, y, down: false };
+        edge_costs(scene, mask, heights, edge, last, unmasked)
     } else {
         NONE
     }
@@ -129,39 +155,44 @@ fn lower_costs<H: Heights>(
     x: u32,
     y: u32,
     lowest: bool,
+    unmasked: bool,
 ) -> Costs
     requires same_size { (mask.now.width ≡ scene.now.phase.width) × (mask.now.height ≡ scene.now.phase.height) }
     requires known { KnowsOpen (raster_of scene.now) (open_at mask.now) (H.knows heights.now) }
     requires pixel { (x < scene.now.phase.width) × (y < scene.now.phase.height) }
     requires lowest { lowest ≡ ((y + 1) % scene.now.tiling.side == 0) }
+    requires unmasked { IsTrue unmasked → AreOpenFrom mask.now y x (x + 1) }
     ensures tiles { pos result.tiles ≡ where_true (nat_lt (y + 1) scene.now.phase.height) (inner_edge_cost (raster_of scene.now) (open_at mask.now) (lifted (raster_of scene.now) (H.cycles_at heights.now)) (down_edge x y)) }
     ensures seams { pos result.seams ≡ where_true (nat_lt (y + 1) scene.now.phase.height) (seam_edge_cost (raster_of scene.now) (open_at mask.now) (lifted (raster_of scene.now) (H.cycles_at heights.now)) (down_edge x y)) }
     ensures small { AreOfEdges 1 result }
 {
     if y + 1 < scene.phase.height {
-        edge_costs(scene, mask, heights, Edge { x, y, down: true }, lowest)
+        let edge = Edge { x, y, down: true };
+        edge_costs(scene, mask, heights, edge, lowest, unmasked)
     } else {
         NONE
     }
 }
 
-/// What an edge adds. `across` tells that its ends lie in two tiles.
+/// What an edge adds. `across` tells that its ends lie in two tiles, and `unmasked` that they are known to be open.
 fn edge_costs<H: Heights>(
     scene: &Scene,
     mask: &Mask,
     heights: &H,
     edge: Edge,
     across: bool,
+    unmasked: bool,
 ) -> Costs
     requires same_size { (mask.now.width ≡ scene.now.phase.width) × (mask.now.height ≡ scene.now.phase.height) }
     requires known { KnowsOpen (raster_of scene.now) (open_at mask.now) (H.knows heights.now) }
     requires is_edge { IsTrue (is_edge scene.now.phase.width scene.now.phase.height edge) }
     requires across { across ≡ is_seam (raster_of scene.now) edge }
+    requires unmasked { IsTrue unmasked → IsTrue (has_open_ends (open_at mask.now) edge) }
     ensures tiles { pos result.tiles ≡ inner_edge_cost (raster_of scene.now) (open_at mask.now) (lifted (raster_of scene.now) (H.cycles_at heights.now)) edge }
     ensures seams { pos result.seams ≡ seam_edge_cost (raster_of scene.now) (open_at mask.now) (lifted (raster_of scene.now) (H.cycles_at heights.now)) edge }
     ensures small { AreOfEdges 1 result }
 {
-    let cost = plain::edge_cost(scene, mask, heights, edge);
+    let cost = edge_cost(scene, mask, heights, edge, unmasked);
     if across {
         Costs {
             tiles: 0,

@@ -6,6 +6,7 @@ use Rattle.raster_model.specs.Masks.{open_at}
 use Rattle.raster_model.specs.Scene.{raster_of}
 use Rattle.certificates.proofs.SeamCosts.{adds}
 use Rattle.seam_regions.proofs.ColumnLemmas.{all_left, last_left, still_left}
+use Rattle.surface_snapshots.proofs.CostLemmas.{begins_next, still_open}
 use Rattle.surface_snapshots.proofs.counting.row_costs.Goals as goal
 use Rattle.sums_and_lists.proofs.SumLemmas.{sum_below-none}
 
@@ -20,8 +21,24 @@ loop-x-init g c =
       seams = sym (sum_below-none (λ x. seam_cost_from r mask S x c.args.y));
       small = (omega arith, omega arith);
       within = (omega (arith, s.tiling.sides), omega arith);
+      unmasked = λ l. absurd (omega (arith, l));
       left = all_left s.tiling.side (omega (arith, s.tiling.sides));
     }
+
+pub are_open_from-unmasked-requires : goal.are_open_from-unmasked-requires
+are_open_from-unmasked-requires g c =
+    let s = c.args.scene.now in
+    let size = c.requires.same_size in
+    record {
+      pixel = (omega (arith, size), omega (arith, size, c.requires.row));
+      sides = (omega (arith, size, s.phase.wide), omega (arith, size, s.phase.high), s.tiling.sides);
+      left = c.loop-x.invariant.within.1;
+      unmasked = c.loop-x.invariant.unmasked;
+    }
+
+pub costs_from-requires-clause-unmasked : goal.costs_from-requires-clause-unmasked
+costs_from-requires-clause-unmasked g c =
+    begins_next c.args.mask.now c.loop-x.x c.args.y c.loop-x.left c.are_open_from-unmasked.result c.loop-x.invariant.within.0 c.are_open_from-unmasked.ensures
 
 pub costs_from-requires-clause-last : goal.costs_from-requires-clause-last
 costs_from-requires-clause-last g c =
@@ -48,6 +65,7 @@ loop-x-preserved g c =
       seams = ap pos k.seams ∙ adds c.loop-x.x _ _ (λ x. seam_cost_from r mask S x c.args.y) i.seams n.seams;
       small = (omega (arith, k.tiles, i.small, n.small), omega (arith, k.seams, i.small, n.small));
       within = c.next_left-left.ensures.within;
+      unmasked = still_open c.args.mask.now c.loop-x.x c.args.y c.loop-x.left s.tiling.side c.next_left-left.result c.are_open_from-unmasked.result c.are_open_from-unmasked.ensures c.next_left-left.ensures.next i.within.0;
       left = still_left c.loop-x.x c.loop-x.left s.tiling.side c.next_left-left.result i.within.0 i.within.1 i.left c.next_left-left.ensures.next;
     }
 

@@ -3,9 +3,13 @@ use Rattle.std.specs.Prelude.{unsigned_abs}
 use Rattle.std.proofs.lemmas.Int.{to_z-of_z}
 use Rattle.std.proofs.lemmas.Bool.{false≢true}
 use Rattle.raster_model.specs.Masks.{open_at}
-use Rattle.certificates.proofs.RangeLemmas.{none_before, one_more, row_more, all_before, first_outside, in_range}
+use Rattle.certificates.proofs.RangeLemmas.{all_in, none_before, one_more, row_more, all_before, first_outside, in_range}
 use Rattle.certificates.proofs.cycles.TileCycles.first_outside.Goals as goal
 use Rattle.certificates.proofs.cycles.TileCycles.first_outside.Goals.{else-is_open-via-then-is_open+else-unsigned_abs-gt-MAX_CYCLES, else-is_open-via-else-is_open}
+
+pub returns-then-are_in_range-clause-none : goal.returns-then-are_in_range-clause-none
+returns-then-are_in_range-clause-none c =
+    all_in c.args.self.now.window (open_at c.args.mask.now) c.args.self.now.cycles.now c.args.self.now.count (c.are_in_range.ensures c.if-are_in_range.true)
 
 pub loop-y-init : goal.loop-y-init
 loop-y-init c = none_before c.args.self.now.window (open_at c.args.mask.now) c.args.self.now.cycles.now

@@ -1,13 +1,7 @@
-use Rattle.std.proofs.Common.{◌≡◌, pos, ◌*◌, ◌+◌, ◌≤◌, ◌^◌, ◌+ℤ◌}
-use Rattle.raster_model.specs.Sums.{sum_row, sum_grid}
+use Rattle.std.proofs.Common.{◌≡◌, pos, ◌*◌, ◌+◌, ◌≤◌, ◌^◌}
+use Rattle.raster_model.specs.Sums.{sum_grid}
 use Rattle.certificates.specs.TileWords.{cost_at}
 use Rattle.certificates.proofs.tile.Tile.cost.Given as goal
-
-abbrev pub invariant-loop-x : goal.invariant-loop-x
-invariant-loop-x g l = record {
-  sum : pos l.cost ≡ sum_grid l.self.scene.now.phase.width l.y (cost_at l.self (g.H.Heights.cycles_at l.heights)) +ℤ sum_row l.x (cost_at l.self (g.H.Heights.cycles_at l.heights)) l.y;
-  small : l.cost ≤ 2 * 65535 * (2 ^ 49 + 1) * (4096 * l.y + l.x);
-}
 
 abbrev pub invariant-loop-y : goal.invariant-loop-y
 invariant-loop-y g l = record {

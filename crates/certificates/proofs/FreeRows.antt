@@ -1,0 +1,59 @@
+-- Rows whose edges add nothing to a tile's cost, since the surface departs at none of them.
+use Rattle.std.proofs.Common.{◌≡◌, ◌∙◌, ℕ, ◌+◌, ◌*◌, ◌<◌, ◌≤◌, ap, ap₂, sym, arith, Bool, false, inl, inr, of_z, w64, FitsSigned}
+use Rattle.std.specs.Prelude.{ℤ, pos, ◌+ℤ◌, ◌==◌, ◌||◌, not, nat_lt, unsigned_abs}
+use Rattle.std.proofs.lemmas.Bool.{cases_lt}
+use Rattle.std.proofs.lemmas.Bool.Decides.{nat_tests}
+use Rattle.raster_model.specs.Raster.{departure, edge_cost, has_open_ends, masked_weight}
+use Rattle.raster_model.specs.Sums.{Field, right_edge, down_edge, sum_row}
+use Rattle.raster_model.specs.declared.edge.Edge.{Edge}
+use Rattle.raster_model.proofs.WindowCosts.{cost_from_is, cost_from-outside}
+use Rattle.certificates.specs.declared.tile.Tile.{Tile}
+use Rattle.certificates.proofs.RangeLemmas.{neither}
+use Rattle.certificates.proofs.SeamLemmas.{is_zero}
+use Rattle.certificates.specs.TileWords.{FollowsDown, FollowsRight, cost_at, mask_in, raster_in, surface_at}
+use Rattle.sums_and_lists.specs.Sums.{where_true}
+use Rattle.sums_and_lists.proofs.Orders.{below_or_last, lt_is, not_lt_is}
+use Rattle.sums_and_lists.proofs.SumLemmas.{no_number, picked, sum_below-zeros, where_true-zero}
+
+no_product : (t : Bool) (w : ℕ) (d : ℤ) → d ≡ pos 0 → where_true t (pos (w * unsigned_abs d)) ≡ pos 0
+no_product t w d e =
+    let z : w * 0 ≡ 0 = omega arith in
+    rw e (ap (λ (n : ℕ). where_true t (pos n)) z ∙ where_true-zero t)
+
+none_before : (a b : ℕ) (z : ℤ) → (a < b → z ≡ pos 0) → where_true (nat_lt a b) z ≡ pos 0
+none_before a b z f =
+    elim (cases_lt a b) [ inl l ↦ picked (nat_lt a b) z (lt_is a b l) ∙ f l | inr l ↦ no_number (nat_lt a b) z (not_lt_is a b l) ]
+
+module _ (k : Tile) (cycles : Field ℤ) (y : ℕ) (row : (k.window.y0 ≤ y) × (y ≤ k.window.y1)) (right : FollowsRight k cycles y k.window.x1) (down : y < k.window.y1 → FollowsDown k cycles y (k.window.x1 + 1)) where
+  free_edge : (e : Edge) → departure (raster_in k) (surface_at k cycles) e ≡ pos 0 → edge_cost (raster_in k) (mask_in k) (surface_at k cycles) e ≡ pos 0
+  free_edge e d = no_product (has_open_ends (mask_in k) e) (masked_weight (raster_in k) (mask_in k) e) (departure (raster_in k) (surface_at k cycles) e) d
+
+  free_within : (x : ℕ) → k.window.x0 ≤ x → x ≤ k.window.x1 → cost_at k cycles x y ≡ pos 0
+  free_within x l m =
+      cost_from_is k.scene.now (mask_in k) (surface_at k cycles) k.number k.window k.pixels x y (l, m, row.0, row.1)
+      ∙ ap₂ (λ (a b : ℤ). a +ℤ b)
+      (none_before x k.window.x1 (edge_cost (raster_in k) (mask_in k) (surface_at k cycles) (right_edge x y)) (λ n. free_edge (right_edge x y) (right x l n)))
+      (none_before y k.window.y1 (edge_cost (raster_in k) (mask_in k) (surface_at k cycles) (down_edge x y)) (λ n. free_edge (down_edge x y) (down n x l (omega (arith, m)))))
+
+  free_at : (x : ℕ) → x < k.scene.now.phase.width → cost_at k cycles x y ≡ pos 0
+  free_at x l =
+      let high : y < k.scene.now.phase.height = omega (arith, row, k.pixels.along, k.scene.now.same_height) in
+      elim (cases_lt x k.window.x0) [
+        | inl m ↦ cost_from-outside k.scene.now (mask_in k) (surface_at k cycles) k.number k.window k.pixels x y l high (λ w. omega (arith, w, m))
+        | inr m ↦ (elim (cases_lt k.window.x1 x) [
+          | inl n ↦ cost_from-outside k.scene.now (mask_in k) (surface_at k cycles) k.number k.window k.pixels x y l high (λ w. omega (arith, w, n))
+          | inr n ↦ free_within x m n
+        ])
+      ]
+
+  pub free_row : pos 0 ≡ sum_row k.scene.now.phase.width (cost_at k cycles) y
+  free_row = sym (sum_below-zeros k.scene.now.phase.width (λ x. cost_at k cycles x y) free_at)
+
+-- ---- a departure more that is looked at
+tells_zero : (n : ℕ) → not (n == 0) ≡ false → n ≡ 0
+tells_zero n e = grind (arith, nat_tests)
+
+pub one_follows : (f : ℕ → ℤ) (a n : ℕ) (departs : Bool) (z : ℤ) → FitsSigned w64 z → z ≡ f n → (departs ≡ false → (x : ℕ) → a ≤ x → x < n → f x ≡ pos 0) → (departs || not (of_z w64 z == 0)) ≡ false → (x : ℕ) → a ≤ x → x < n + 1 → f x ≡ pos 0
+one_follows f a n departs z fits is before e x l m =
+    let both = neither departs (not (of_z w64 z == 0)) e in
+    elim (below_or_last x n m) [ inl b ↦ before both.0 x l b | inr b ↦ rw b (sym is ∙ is_zero z fits (tells_zero (of_z w64 z) both.1)) ]

@@ -1,0 +1,10 @@
+use Rattle.std.proofs.Common.{◌≡◌, pos, ◌*◌, ◌+◌, ◌≤◌, ◌^◌}
+use Rattle.raster_model.specs.Sums.{sum_row}
+use Rattle.certificates.specs.TileWords.{cost_at}
+use Rattle.certificates.proofs.tile.Tile.row_cost.Given as goal
+
+abbrev pub invariant-loop-x : goal.invariant-loop-x
+invariant-loop-x g l = record {
+  sum : pos l.cost ≡ sum_row l.x (cost_at l.self (g.H.Heights.cycles_at l.heights)) l.y;
+  small : l.cost ≤ 2 * 65535 * (2 ^ 49 + 1) * l.x;
+}

@@ -1,0 +1,59 @@
+ghost use Rattle.raster_model.specs.Heights.{KnowsEnds};
+ghost use Rattle.raster_model.specs.Limits.{max_side};
+ghost use Rattle.raster_model.specs.Masks.{open_at};
+ghost use Rattle.raster_model.specs.Raster.{departure as departure_of, edge_cost as edge_cost_of, has_open_ends, lifted};
+ghost use Rattle.raster_model.specs.Scene.{raster_of};
+ghost use Rattle.raster_model.specs.Sums.{at_end, at_start, is_edge};
+ghost use Rattle.raster_model.specs.Weights.{edge_weight};
+ghost use Rattle.std.specs.Prelude.{◌≡◌, ◌+◌, ◌*◌, ◌≤◌, ◌^◌, IsTrue, pos, unsigned_abs};
+
+use raster_model::{Edge, Heights, Mask, Scene, departure, stored_weight};
+
+/// What an edge adds to a cost: its weight times its absolute departure, and 0 where an end is masked. `unmasked` tells
+/// that both ends are known to be open.
+pub fn edge_cost<H: Heights>(
+    scene: &Scene,
+    mask: &Mask,
+    heights: &H,
+    edge: Edge,
+    unmasked: bool,
+) -> u128
+    requires same_size { (mask.now.width ≡ scene.now.phase.width) × (mask.now.height ≡ scene.now.phase.height) }
+    requires is_edge { IsTrue (is_edge scene.now.phase.width scene.now.phase.height edge) }
+    requires unmasked { IsTrue unmasked → IsTrue (has_open_ends (open_at mask.now) edge) }
+    requires known { KnowsEnds (open_at mask.now) (H.knows heights.now) edge }
+    ensures value { pos result ≡ edge_cost_of (raster_of scene.now) (open_at mask.now) (lifted (raster_of scene.now) (H.cycles_at heights.now)) edge }
+    ensures small { result ≤ 65535 * (2 ^ 49 + 1) }
+{
+    if are_ends_open(mask, edge, unmasked) {
+        open_cost(scene, heights, edge)
+    } else {
+        0
+    }
+}
+
+/// Whether both ends of an edge are open. `unmasked` tells that they are known to be.
+fn are_ends_open(mask: &Mask, edge: Edge, unmasked: bool) -> bool
+    requires sides { (mask.now.width ≤ max_side) × (mask.now.height ≤ max_side) }
+    requires is_edge { IsTrue (is_edge mask.now.width mask.now.height edge) }
+    requires unmasked { IsTrue unmasked → IsTrue (has_open_ends (open_at mask.now) edge) }
+    ensures { result ≡ has_open_ends (open_at mask.now) edge }
+{
+    unmasked || mask.is_open(edge.x, edge.y) && mask.is_open(edge.end_x(), edge.end_y())
+}
+
+/// The weight of an edge with open ends, times its absolute departure. Most surfaces depart at few edges, and where one
+/// does not, no weight is looked up.
+fn open_cost<H: Heights>(scene: &Scene, heights: &H, edge: Edge) -> u128
+    requires is_edge { IsTrue (is_edge scene.now.phase.width scene.now.phase.height edge) }
+    requires start { IsTrue (at_start (H.knows heights.now) edge) }
+    requires end { IsTrue (at_end (H.knows heights.now) edge) }
+    ensures value { result ≡ edge_weight scene.now.rule scene.now.weights edge * unsigned_abs (departure_of (raster_of scene.now) (lifted (raster_of scene.now) (H.cycles_at heights.now)) edge) }
+    ensures small { result ≤ 65535 * (2 ^ 49 + 1) }
+{
+    let departure = departure(scene, heights, edge);
+    if departure == 0 {
+        return 0;
+    }
+    u128::from(stored_weight(scene, edge)) * u128::from(departure.unsigned_abs())
+}

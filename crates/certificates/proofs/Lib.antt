@@ -12,6 +12,7 @@ pub mod SeamLemmas
 pub mod FlowSums
 pub mod EdgeBlocks
 pub mod EndLemmas
+pub mod PassLemmas
 pub mod SeamCosts
 pub mod SeamVerdictLemmas
 pub mod UniqueSeams

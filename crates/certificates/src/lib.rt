@@ -18,7 +18,7 @@ mod tiles;
 mod verdicts;
 
 pub use crate::results::{SeamResult, TileResult};
-pub use crate::seam_edges::is_seam_edge;
+pub use crate::seam_edges::{is_seam_edge, next_start, seam_count};
 pub use crate::seams::check_flows;
 pub use crate::tile_ends::TileEnds;
 pub use crate::tile_set::TileSet;

@@ -14,6 +14,7 @@ pub mod SeamLemmas
 pub mod FlowSums
 pub mod EdgeBlocks
 pub mod EndLemmas
+pub mod PassLemmas
 pub mod SeamCosts
 pub mod SeamVerdictLemmas
 pub mod UniqueSeams

@@ -1,5 +1,5 @@
 -- A table of where tiles end. Helpers' words, which no clause of a public function cites.
-use Rattle.std.specs.Prelude.{◌≡◌, ℕ, ◌+◌, ◌%◌, ◌<◌, ◌==◌, Bool, if◌then◌else◌, List, slice_index_or}
+use Rattle.std.specs.Prelude.{◌≡◌, ℕ, ◌+◌, ◌%◌, ◌<◌, ◌≤◌, ◌==◌, Bool, if◌then◌else◌, List, slice_index_or}
 use Rattle.raster_model.specs.declared.edge.Edge.{Edge}
 
 -- of the first n columns or rows the list tells whether each is the last of its tiles of this side
@@ -9,3 +9,7 @@ TellsEnds side n last = (k : ℕ) → k < n → slice_index_or last k Bool.false
 -- an edge leads beyond a multiple of the side
 abbrev pub passes_end : ℕ → Edge → Bool
 passes_end side e = if e.down then (e.y + 1) % side == 0 else (e.x + 1) % side == 0
+
+-- no edge of row y does that in the columns from a below b
+abbrev pub PassNoEnd : ℕ → ℕ → ℕ → ℕ → Type 0
+PassNoEnd side a b y = (e : Edge) → e.y ≡ y → a ≤ e.x → e.x < b → passes_end side e ≡ Bool.false

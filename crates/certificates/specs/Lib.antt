@@ -1,4 +1,5 @@
 pub mod Ends
+pub mod Starts
 pub mod EdgeOrder
 pub mod Results
 pub mod TileSets

@@ -20,7 +20,7 @@ mod verdicts;
 
 pub use crate::edge_costs::edge_cost;
 pub use crate::results::{SeamResult, TileResult};
-pub use crate::seam_edges::is_seam_edge;
+pub use crate::seam_edges::{is_seam_edge, next_start, seam_count};
 pub use crate::seams::check_flows;
 pub use crate::tile_ends::TileEnds;
 pub use crate::tile_set::TileSet;

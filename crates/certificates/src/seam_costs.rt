@@ -6,7 +6,7 @@ ghost use Rattle.raster_model.specs.Scene.{raster_of};
 ghost use Rattle.raster_model.specs.Sums.{is_edge, sum_row};
 ghost use Rattle.std.specs.Prelude.{◌≡◌, ◌+◌, ◌*◌, ◌<◌, ◌≤◌, ◌^◌, pos};
 
-use crate::seam_edges::is_seam_edge;
+use crate::seam_edges::{is_seam_edge, next_start};
 use crate::tile_ends::TileEnds;
 use raster_model::{Edge, Heights, Mask, Scene, plain};
 
@@ -39,8 +39,10 @@ fn row_cost<H: Heights>(scene: &Scene, ends: &TileEnds, mask: &Mask, heights: &H
     ensures small { result ≤ 2 * 65535 * (2 ^ 49 + 1) * 4096 }
 {
     let mut cost: u128 = 0;
-    for x in 0..scene.phase.width {
+    let mut x = next_start(scene, ends, 0, y);
+    while x < scene.phase.width {
         cost += cost_from(scene, ends, mask, heights, x, y);
+        x = next_start(scene, ends, x + 1, y);
     }
     cost
 }

@@ -1,3 +1,4 @@
+ghost use Rattle.certificates.specs.Starts.{HasNoSeams};
 ghost use Rattle.raster_model.specs.Flows.{is_seam_edge as is_seam_edge_of, seam_count as seam_count_of, seams_from as seams_from_of};
 ghost use Rattle.raster_model.specs.Raster.{is_seam};
 ghost use Rattle.raster_model.specs.Scene.{raster_of};
@@ -27,6 +28,16 @@ pub fn is_seam_edge(scene: &Scene, ends: &TileEnds, edge: Edge) -> bool
         && leaves_tile(scene, ends, edge)
 }
 
+/// The first column of a row at or after one at which a seam edge may start, and the width where there is none.
+pub fn next_start(scene: &Scene, ends: &TileEnds, x: u32, y: u32) -> u32
+    requires side { ends.now.side ≡ scene.now.tiling.side }
+    requires place { (x ≤ scene.now.phase.width) × (y < scene.now.phase.height) }
+    ensures place { (x ≤ result) × (result ≤ scene.now.phase.width) }
+    ensures passed { HasNoSeams (raster_of scene.now) x result y }
+{
+    ends.next_end(x, y).min(scene.phase.width)
+}
+
 /// How many seam edges start at a pixel.
 pub(crate) fn seams_from(scene: &Scene, ends: &TileEnds, x: u32, y: u32) -> usize
     requires side { ends.now.side ≡ scene.now.tiling.side }
@@ -39,14 +50,16 @@ pub(crate) fn seams_from(scene: &Scene, ends: &TileEnds, x: u32, y: u32) -> usiz
 }
 
 /// How many seam edges there are.
-pub(crate) fn seam_count(scene: &Scene, ends: &TileEnds) -> usize
+pub fn seam_count(scene: &Scene, ends: &TileEnds) -> usize
     requires side { ends.now.side ≡ scene.now.tiling.side }
     ensures { result ≡ seam_count_of (raster_of scene.now) }
 {
     let mut count = 0;
     for y in 0..scene.phase.height {
-        for x in 0..scene.phase.width {
+        let mut x = next_start(scene, ends, 0, y);
+        while x < scene.phase.width {
             count += seams_from(scene, ends, x, y);
+            x = next_start(scene, ends, x + 1, y);
         }
     }
     count

@@ -5,7 +5,7 @@ ghost use Rattle.certificates.specs.Growth.{AreWithin, HasGrown};
 ghost use Rattle.std.specs.Prelude.{◌≡◌, ℕ, ◌+◌, ◌<◌, ◌≤◌, ◌^◌, ◌==◌, length, unsigned_abs};
 
 use crate::numbers::are_zeros;
-use crate::seam_edges::{is_seam_edge, seams_from};
+use crate::seam_edges::{is_seam_edge, next_start, seams_from};
 use crate::tile_ends::TileEnds;
 use raster_model::{Edge, Heights, Mask, Scene, departure, weight};
 
@@ -117,11 +117,13 @@ impl SeamFlows<'_> {
         }
         let mut before = 0;
         for y in 0..self.scene.phase.height {
-            for x in 0..self.scene.phase.width {
+            let mut x = next_start(self.scene, self.ends, 0, y);
+            while x < self.scene.phase.width {
                 if let Some(edge) = self.first_heavy_from(x, y, before) {
                     return Some(edge);
                 }
                 before += seams_from(self.scene, self.ends, x, y);
+                x = next_start(self.scene, self.ends, x + 1, y);
             }
         }
         None
@@ -174,9 +176,11 @@ impl SeamFlows<'_> {
         }
         let mut before = 0;
         for y in 0..self.scene.phase.height {
-            for x in 0..self.scene.phase.width {
+            let mut x = next_start(self.scene, self.ends, 0, y);
+            while x < self.scene.phase.width {
                 self.move_flows_from(labels, x, y, before, sums);
                 before += seams_from(self.scene, self.ends, x, y);
+                x = next_start(self.scene, self.ends, x + 1, y);
             }
         }
     }
@@ -223,9 +227,11 @@ impl SeamFlows<'_> {
         let mut total: i128 = 0;
         let mut before = 0;
         for y in 0..self.scene.phase.height {
-            for x in 0..self.scene.phase.width {
+            let mut x = next_start(self.scene, self.ends, 0, y);
+            while x < self.scene.phase.width {
                 total += self.products_from(heights, x, y, before);
                 before += seams_from(self.scene, self.ends, x, y);
+                x = next_start(self.scene, self.ends, x + 1, y);
             }
         }
         total

@@ -1,5 +1,5 @@
-ghost use Rattle.raster_model.specs.Limits.{max_side};
-ghost use Rattle.certificates.specs.Ends.{TellsEnds, passes_end};
+ghost use Rattle.raster_model.specs.Limits.{IsTileSide, max_side};
+ghost use Rattle.certificates.specs.Ends.{PassNoEnd, TellsEnds, passes_end};
 ghost use Rattle.std.specs.Prelude.{◌≡◌, ◌<◌, ◌≤◌};
 
 use raster_model::{Edge, MAX_SIDE, Tiling};
@@ -12,6 +12,7 @@ const MOST: usize = MAX_SIDE as usize;
 pub struct TileEnds {
     pub side: u32,
     last: [bool; MOST],
+    ghost sides: { IsTileSide side },
     ghost told: { TellsEnds side 4096 last },
 }
 
@@ -35,5 +36,18 @@ impl TileEnds {
     {
         let place = if edge.down { edge.y } else { edge.x };
         self.last[place as usize]
+    }
+    /// The first column at or after one from which an edge of a row may lead beyond the end of a tile: the
+    /// column itself where the row is the last of its tiles, and else the last column of its tile.
+    pub(crate) fn next_end(&self, x: u32, y: u32) -> u32
+        requires { (x ≤ max_side) × (y < max_side) }
+        ensures from { x ≤ result }
+        ensures passed { PassNoEnd self.now.side x result y }
+    {
+        if self.last[y as usize] {
+            x
+        } else {
+            x - x % self.side + (self.side - 1)
+        }
     }
 }

@@ -9,7 +9,7 @@ ghost use Rattle.std.specs.Prelude.{◌≡◌, ◌<◌, IfOk, IsTrue, OnOk, leng
 
 use crate::link::Link;
 use crate::surface::TileSurface;
-use certificates::{TileEnds, is_seam_edge};
+use certificates::{TileEnds, is_seam_edge, next_start, seam_count};
 use raster_model::{Edge, weight};
 use seam_regions::Regions;
 use std::alloc::{AllocError, Global};
@@ -81,10 +81,12 @@ pub(crate) fn links(
     ensures fit { IfOk result (λ links. AreLinks regions.now.count links.items) }
 {
     let ends = TileEnds::of(&surface.scene.tiling);
-    let mut links = Vec::new(alloc);
+    let mut links = Vec::with_capacity(alloc, seam_count(surface.scene, &ends))?;
     for y in 0..surface.scene.phase.height {
-        for x in 0..surface.scene.phase.width {
+        let mut x = next_start(surface.scene, &ends, 0, y);
+        while x < surface.scene.phase.width {
             push_links_from(surface, &ends, regions, x, y, &mut links)?;
+            x = next_start(surface.scene, &ends, x + 1, y);
         }
     }
     Ok(links)

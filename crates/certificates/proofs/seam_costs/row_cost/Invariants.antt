@@ -1,4 +1,4 @@
-use Rattle.std.proofs.Common.{◌≡◌, ◌+◌, ◌*◌, ◌≤◌, ◌^◌, pos}
+use Rattle.std.proofs.Common.{◌≡◌, ◌+◌, ◌*◌, ◌≤◌, ◌^◌, pos, ◌-◌}
 use Rattle.raster_model.specs.Masks.{open_at}
 use Rattle.raster_model.specs.Raster.{lifted, seam_cost_from}
 use Rattle.raster_model.specs.Scene.{raster_of}
@@ -7,6 +7,10 @@ use Rattle.certificates.proofs.seam_costs.row_cost.Given as goal
 
 abbrev pub invariant-loop-x : goal.invariant-loop-x
 invariant-loop-x g l = record {
+  within : l.x ≤ l.scene.phase.width;
   sum : pos l.cost ≡ sum_row l.x (seam_cost_from (raster_of l.scene) (open_at l.mask) (lifted (raster_of l.scene) (g.H.Heights.cycles_at l.heights))) l.y;
   small : l.cost ≤ 2 * 65535 * (2 ^ 49 + 1) * l.x;
 }
+
+abbrev pub decreases-loop-x : goal.decreases-loop-x
+decreases-loop-x g l = l.scene.phase.width - l.x

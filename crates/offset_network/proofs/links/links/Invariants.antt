@@ -1,4 +1,4 @@
-use Rattle.std.proofs.Common.{◌≡◌, ◌+◌, ◌*◌, ◌≤◌, length}
+use Rattle.std.proofs.Common.{◌≡◌, ◌+◌, ◌*◌, ◌≤◌, ◌-◌, length}
 use Rattle.raster_model.specs.Flows.{seams_before}
 use Rattle.raster_model.specs.Masks.{open_at}
 use Rattle.raster_model.specs.Scene.{raster_of}
@@ -11,11 +11,15 @@ use Rattle.offset_network.proofs.links.links.Given as goal
 
 abbrev pub invariant-loop-x : goal.invariant-loop-x
 invariant-loop-x l = record {
+  within : l.x ≤ l.surface.scene.now.phase.width;
   counted : length l.links.items ≡ seams_before (raster_of l.surface.scene.now) l.x l.y;
   few : length l.links.items ≤ 2 * (4096 * l.y + l.x);
   placed : HoldsBefore (IsSeamEdge (raster_of l.surface.scene.now)) (IsPlaced (raster_of l.surface.scene.now) (open_at l.surface.mask.now) (label_at l.regions) (solved_cycles l.surface.scene.now l.surface.tiles.now.results) l.links.items) l.x l.y;
   join : JoinRegions l.regions.count l.links.items;
 }
+
+abbrev pub decreases-loop-x : goal.decreases-loop-x
+decreases-loop-x l = l.surface.scene.now.phase.width - l.x
 
 abbrev pub invariant-loop-y : goal.invariant-loop-y
 invariant-loop-y l = record {

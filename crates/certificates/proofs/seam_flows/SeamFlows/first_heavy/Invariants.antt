@@ -1,4 +1,4 @@
-use Rattle.std.proofs.Common.{◌≡◌, ◌+◌, ◌*◌, ◌≤◌}
+use Rattle.std.proofs.Common.{◌≡◌, ◌+◌, ◌*◌, ◌≤◌, ◌-◌}
 use Rattle.raster_model.specs.Flows.{seams_before}
 use Rattle.certificates.specs.EdgeWords.{HoldsBefore}
 use Rattle.certificates.specs.FlowWords.{raster_in, IsSeamOf, FlowFitsAt, IsSmallAt}
@@ -6,11 +6,15 @@ use Rattle.certificates.proofs.seam_flows.SeamFlows.first_heavy.Given as goal
 
 abbrev pub invariant-loop-x : goal.invariant-loop-x
 invariant-loop-x l = record {
+  within : l.x ≤ l.self.scene.now.phase.width;
   counted : l.before ≡ seams_before (raster_in l.self) l.x l.y;
   few : l.before ≤ 2 * (4096 * l.y + l.x);
   fit : HoldsBefore (IsSeamOf l.self) (FlowFitsAt l.self) l.x l.y;
   small : HoldsBefore (IsSeamOf l.self) (IsSmallAt l.self) l.x l.y;
 }
+
+abbrev pub decreases-loop-x : goal.decreases-loop-x
+decreases-loop-x l = l.self.scene.now.phase.width - l.x
 
 abbrev pub invariant-loop-y : goal.invariant-loop-y
 invariant-loop-y l = record {

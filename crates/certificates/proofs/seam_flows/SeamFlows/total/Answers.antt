@@ -1,9 +1,10 @@
-use Rattle.std.proofs.Common.{◌≡◌, ◌∙◌, arith, sym, to_z}
+use Rattle.std.proofs.Common.{◌≡◌, ◌∙◌, ◌+◌, arith, sym, to_z}
 use Rattle.std.specs.Int.{w128}
 use Rattle.raster_model.proofs.BoxSums.{column_more}
 use Rattle.raster_model.proofs.PartLemmas.{grid_none, row_none, grid_next, grid_all}
 use Rattle.raster_model.proofs.FlowLemmas.{before-none, before-row, before-next}
 use Rattle.certificates.specs.FlowWords.{raster_in, product_from}
+use Rattle.certificates.proofs.PassLemmas.{before_past, product_past}
 use Rattle.certificates.proofs.SeamLemmas.{flow_sum_fits, pixels_before}
 use Rattle.certificates.proofs.FlowSums.{total_is}
 use Rattle.certificates.proofs.ZeroFlows.{zero_flows_total}
@@ -22,10 +23,13 @@ loop-y-init g c =
 pub loop-x-init : goal.loop-x-init
 loop-x-init g c =
     let k = c.args.self.now in
+    let x = c.next_start-x.result in
+    let to = c.next_start-x.ensures in
     record {
-      counted = c.loop-y.invariant.counted;
+      within = to.place.1;
+      counted = c.loop-y.invariant.counted ∙ sym (before_past (raster_in k) 0 x c.loop-y.y to.passed to.place.0);
       few = omega (arith, c.loop-y.invariant.few);
-      sum = row_none k.scene.now.phase.width c.loop-y.y (product_from k (g.H.Heights.cycles_at c.args.heights.now)) _ c.loop-y.invariant.sum;
+      sum = product_past k 0 x c.loop-y.y to.passed to.place.0 to.place.1 c.loop-y-test.true (g.H.Heights.cycles_at c.args.heights.now) _ _ (row_none k.scene.now.phase.width c.loop-y.y (product_from k (g.H.Heights.cycles_at c.args.heights.now)) _ c.loop-y.invariant.sum);
       small = omega (arith, c.loop-y.invariant.small);
     }
 
@@ -44,18 +48,24 @@ pub loop-x-preserved : goal.loop-x-preserved
 loop-x-preserved g c =
     let k = c.args.self.now in
     let fit = flow_sum_fits (to_z w128 c.loop-x.total-bits) c.products_from-total.result c.loop-x.x c.loop-y.y c.loop-x.invariant.small c.products_from-total.ensures.small (pixels_before k.scene.now c.loop-x.x c.loop-y.y c.loop-x-test.true c.loop-y-test.true) in
+    let x = c.next_start-x-in-loop-x.result in
+    let to = c.next_start-x-in-loop-x.ensures in
     record {
-      counted = omega (arith, c.loop-x.invariant.counted, c.seams_from-before.ensures.value, before-next (raster_in k) c.loop-x.x c.loop-y.y);
-      few = omega (arith, c.loop-x.invariant.few, c.seams_from-before.ensures.few);
-      sum = fit.0 ∙ column_more (product_from k (g.H.Heights.cycles_at c.args.heights.now)) c.loop-x.x c.loop-y.y _ _ _ c.loop-x.invariant.sum c.products_from-total.ensures.value;
-      small = rw fit.0 fit.1;
+      within = to.place.1;
+      counted = omega (arith, c.loop-x.invariant.counted, c.seams_from-before.ensures.value, before-next (raster_in k) c.loop-x.x c.loop-y.y, before_past (raster_in k) (c.loop-x.x + 1) x c.loop-y.y to.passed to.place.0);
+      few = omega (arith, c.loop-x.invariant.few, c.seams_from-before.ensures.few, to.place.0);
+      sum = product_past k (c.loop-x.x + 1) x c.loop-y.y to.passed to.place.0 to.place.1 c.loop-y-test.true (g.H.Heights.cycles_at c.args.heights.now) _ _ (fit.0 ∙ column_more (product_from k (g.H.Heights.cycles_at c.args.heights.now)) c.loop-x.x c.loop-y.y _ _ _ c.loop-x.invariant.sum c.products_from-total.ensures.value);
+      small = rw fit.0 (omega (arith, fit.1, to.place.0));
     }
+
+pub loop-x-smaller : goal.loop-x-smaller
+loop-x-smaller g c = omega (arith, c.next_start-x-in-loop-x.ensures.place.0, c.loop-x-test.true)
 
 pub loop-y-preserved : goal.loop-y-preserved
 loop-y-preserved g c =
     let k = c.args.self.now in
     let r = raster_in k in
-    let e : c.loop-x.x ≡ r.width = omega arith in
+    let e : c.loop-x.x ≡ r.width = omega (arith, c.loop-x.invariant.within, c.loop-x-test.false) in
     record {
       counted = (rw e at c.loop-x.invariant.counted) ∙ sym (before-row r c.loop-y.y);
       few = omega (arith, c.loop-x.invariant.few);

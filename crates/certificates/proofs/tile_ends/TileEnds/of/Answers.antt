@@ -15,4 +15,4 @@ loop-place-preserved c =
     }
 
 pub invariant_of-result : goal.invariant_of-result
-invariant_of-result c = record { told = λ k l. c.loop-place.invariant.told k (omega (arith, l, c.loop-place-test.false)) }
+invariant_of-result c = record { sides = c.args.tiling.now.sides; told = λ k l. c.loop-place.invariant.told k (omega (arith, l, c.loop-place-test.false)) }

@@ -24,7 +24,7 @@ inner_cost_from r mask S = edges_from r.width r.height (inner_edge_cost r mask S
 abbrev pub AreOfEdges : ℕ → Costs → Type 0
 AreOfEdges n costs = (costs.tiles ≤ 65535 * (2 ^ 49 + 1) * n) × (costs.seams ≤ 65535 * (2 ^ 49 + 1) * n)
 
--- what a surface is put together from has one size: the scene, the mask, the results and the labels; each tile has a good result, and each open pixel a region
+-- what a surface is put together from has one size: the scene, the mask, the results and the labels; each tile has a good result, and each open pixel, and no masked one, a region
 pub record GoTogether (s : Scene) (m : MaskView) (v : RegionsView) (results : List TileResult) : Type 0 where
   pub across : m.width ≡ s.phase.width
   pub along : m.height ≡ s.phase.height
@@ -32,3 +32,4 @@ pub record GoTogether (s : Scene) (m : MaskView) (v : RegionsView) (results : Li
   pub wide : v.width ≡ s.phase.width
   pub high : v.height ≡ s.phase.height
   pub below : (x y : ℕ) → x < s.phase.width → y < s.phase.height → IsTrue (open_at m x y) → label_at v x y < v.count
+  pub told : (x y : ℕ) → x < s.phase.width → y < s.phase.height → label_at v x y < v.count → IsTrue (open_at m x y)

@@ -9,10 +9,14 @@ ghost use Rattle.surface_snapshots.specs.Views.{parts_of};
 use crate::text::TextBuffer;
 use insar_ports::{Sink, WriteFault};
 use itoa::Buffer;
+use raster_model::MAX_SIDE;
 use surface_snapshots::Snapshot;
 
 /// What a masked pixel has in place of a value.
 const NO_DATA: i64 = i64::MIN;
+
+/// The most values of a row.
+const MAX_WIDTH: usize = MAX_SIDE as usize;
 
 /// Writes what comes before the value at `x` of a row.
 fn write_gap<K: Sink>(text: &mut TextBuffer, sink: &mut K, x: u32) -> Result<(), WriteFault>
@@ -54,35 +58,27 @@ fn write_number<K: Sink>(text: &mut TextBuffer, sink: &mut K, number: i64) -> Re
     text.push(sink, digits.format(number).as_bytes())
 }
 
-/// Writes the values of row `y`, and LF.
+/// Writes the values of row `y`, and LF. The values stand in the front of `row` first.
 fn write_row<K: Sink>(
     text: &mut TextBuffer,
     sink: &mut K,
     snapshot: &Snapshot,
     y: u32,
+    row: &mut [i64],
 ) -> Result<(), WriteFault>
-    requires { y < (parts_of snapshot.now).session.scene.phase.height }
+    requires along { y < (parts_of snapshot.now).session.scene.phase.height }
+    requires room { (parts_of snapshot.now).session.scene.phase.width ≤ length row.old }
+    ensures same { length row.new ≡ length row.old }
     ensures written { OnOk result (Writes (K.held sink.old) (waiting_in text.old) (K.held sink.new) (waiting_in text.new) (row_text (parts_of snapshot.now).session.scene.phase.width (shown_in (parts_of snapshot.now)) y)) }
     ensures cut { OnErr result (GainsProperPrefix (K.held sink.old) (waiting_in text.old ++ row_text (parts_of snapshot.now).session.scene.phase.width (shown_in (parts_of snapshot.now)) y) (K.held sink.new)) }
     ensures fault { OnErr result (HasRisen (K.faults sink.old) (K.faults sink.new)) }
     ensures grows { K.faults sink.old ≤ K.faults sink.new }
 {
+    snapshot.fill_row(y, NO_DATA, row);
     for x in 0..snapshot.width() {
-        write_value(text, sink, x, shown_value(snapshot, x, y))?;
+        write_value(text, sink, x, row[x as usize])?;
     }
     text.push(sink, b"\n")
-}
-
-/// The value at a pixel, and the NODATA value if it is masked.
-fn shown_value(snapshot: &Snapshot, x: u32, y: u32) -> i64
-    requires across { x < (parts_of snapshot.now).session.scene.phase.width }
-    requires along { y < (parts_of snapshot.now).session.scene.phase.height }
-    ensures { result ≡ shown_in (parts_of snapshot.now) x y }
-{
-    match snapshot.value(x, y) {
-        Some(value) => value,
-        None => NO_DATA,
-    }
 }
 
 /// Writes the six lines of the header.
@@ -161,8 +157,9 @@ fn write_rows<K: Sink>(
     ensures fault { OnErr result (HasRisen (K.faults sink.old) (K.faults sink.new)) }
     ensures grows { K.faults sink.old ≤ K.faults sink.new }
 {
+    let mut row = [0; MAX_WIDTH];
     for y in 0..snapshot.height() {
-        write_row(text, sink, snapshot, y)?;
+        write_row(text, sink, snapshot, y, &mut row)?;
     }
     Ok(())
 }

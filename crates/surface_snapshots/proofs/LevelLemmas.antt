@@ -1,10 +1,7 @@
--- Lists of a surface's cycles: one more pixel, and what is read of them.
-use Rattle.std.proofs.Common.{◌≡◌, ◌∙◌, ℕ, ◌+◌, ◌*◌, ◌<◌, ◌≤◌, ◌^◌, sym, subst, arith, inl, inr, List, ◌∷◌, [], ◌++◌}
-use Rattle.std.specs.Prelude.{ℤ, pos, IsTrue, unsigned_abs}
-use Rattle.std.proofs.lemmas.Bool.{cases_lt}
+-- The window of a tile along the row of one of its pixels, and lists of cycles: what is read of them.
+use Rattle.std.proofs.Common.{◌≡◌, ℕ, ◌+◌, ◌*◌, ◌<◌, ◌≤◌, ◌^◌, sym, subst, arith, List, []}
+use Rattle.std.specs.Prelude.{ℤ, IsTrue, unsigned_abs}
 use Rattle.std.proofs.lemmas.Int.{ints}
-use Rattle.std.proofs.lemmas.List.{get_or_append_left, get_or_push, length_push}
-use Rattle.std.proofs.lemmas.Nat.{same_from_place}
 use Rattle.raster_model.specs.declared.tiling.Tiling.{Tiling}
 use Rattle.raster_model.specs.Tiles.{IsWindowOf, tile_at, tiles_of, window_of}
 use Rattle.raster_model.proofs.TileLemmas.{tiles_are_numbered, window_of-pixels}
@@ -26,22 +23,6 @@ module _ (g : Tiling) (x y t : ℕ) (across : x < g.width) (along : y < g.height
       sym ((its_window.pixels c y (omega (arith, row_reaches, upto)) along).1 (omega (arith, w.0, from), upto, w.2, w.3))
 
 module _ (s : ShiftedTiles) (x y : ℕ) where
-  pub one_more : (list : List ℤ) (v : ℤ) → x < s.scene.now.phase.width → AreListed s (y * s.scene.now.phase.width + x) list → (IsTrue (open_under s x y) → v ≡ cycles_under s x y) → AreListed s (y * s.scene.now.phase.width + (x + 1)) (list ++ (v ∷ []))
-  one_more list v l is here =
-      let w = s.scene.now.phase.width in
-      record {
-        count = length_push list v ∙ omega (arith, is.count);
-        at = λ a b p q o r. elim (cases_lt (b * w + a) (y * w + x)) [
-          | inl below ↦ get_or_append_left list (v ∷ []) (pos 0) (b * w + a) (omega (arith, is.count, below)) ∙ is.at a b p q o below
-          | inr above ↦
-              (let e : b * w + a ≡ y * w + x = omega (arith, r, above) in
-              let same = same_from_place b a y x w p l e in
-              get_or_push list v (pos 0) (b * w + a) (is.count ∙ sym e)
-              ∙ subst (λ (n : ℕ). IsTrue (open_under s n b) → v ≡ cycles_under s n b) (sym same.1)
-              (subst (λ (m : ℕ). IsTrue (open_under s x m) → v ≡ cycles_under s x m) (sym same.0) here) o)
-        ];
-      }
-
   pub small_there : x < s.scene.now.phase.width → y < s.scene.now.phase.height → IsTrue (open_under s x y) → unsigned_abs (cycles_under s x y) ≤ 2 ^ 46 + 8388608
   small_there l m o =
       omega (arith, ints, solved_small s.scene.now (open_under s) s.tiles.now.results s.together.tiles x y l m o, offset_small s.regions.now s.offsets.now s.near x y)

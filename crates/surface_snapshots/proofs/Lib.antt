@@ -1,6 +1,7 @@
 mod ShiftedLemmas
 mod CostLemmas
 mod LevelLemmas
+mod RowLemmas
 pub mod VerdictLemmas
 mod PublishedLemmas
 pub mod CallerLemmas

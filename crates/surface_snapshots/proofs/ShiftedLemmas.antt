@@ -1,6 +1,6 @@
 -- What the results and the offsets have at a pixel.
-use Rattle.std.proofs.Common.{◌≡◌, ◌∙◌, ℕ, ◌-◌, ◌<◌, ◌≤◌, ap, sym, subst, refl, arith, to_z, of_z, w32, w64, List, length}
-use Rattle.std.specs.Prelude.{ℤ, Bool, ◌&&◌, IsTrue, nat_lt, slice_get, Some, unsigned_abs}
+use Rattle.std.proofs.Common.{◌≡◌, ◌∙◌, ℕ, ◌-◌, ◌*◌, ◌<◌, ◌≤◌, ap, sym, subst, refl, arith, to_z, of_z, w32, w64, List, length}
+use Rattle.std.specs.Prelude.{ℤ, Bool, true, false, ◌==◌, ◌&&◌, IsTrue, if◌then◌else◌, nat_lt, slice_get, None, Some, unsigned_abs}
 use Rattle.std.proofs.lemmas.Int.{ints}
 use Rattle.std.proofs.lemmas.Bool.Decides.{nat_tests}
 use Rattle.std.proofs.lemmas.Nat.{mul-add-lt}
@@ -13,7 +13,7 @@ use Rattle.raster_model.specs.Tiles.{IsWindowOf, IsWithin, height_of, place_in, 
 use Rattle.raster_model.proofs.TileLemmas.{tiles_are_numbered, window_of-pixels}
 use Rattle.certificates.specs.declared.results.TileResult.{TileResult}
 use Rattle.certificates.specs.Results.{cycles_in, pixels_in}
-use Rattle.seam_regions.specs.Regions.{AreRegionsOf}
+use Rattle.seam_regions.specs.Regions.{AreRegionsOf, label_at}
 use Rattle.seam_regions.specs.RegionsView.{RegionsView}
 use Rattle.seam_regions.proofs.CallerLemmas.{regions_of_scene}
 use Rattle.certificates.specs.TileSets.{solved_cycles}
@@ -29,8 +29,16 @@ open_pixel w h x y o t = (grind (arith, nat_tests), grind (arith, nat_tests), la
     last Bool.true Bool.false c t = cc
     last Bool.false b c t = cc
 
+pub pixel_on : (x y w h : ℕ) → x < w → y < h → IsTrue (nat_lt x w && nat_lt y h && true)
+pixel_on x y w h l m = grind (arith, nat_tests)
+
 pub place_in_window : (v : Window) (x y : ℕ) → IsWithin v x y → place_in v x y < pixels_in v
 place_in_window v x y w = mul-add-lt (y - v.y0) (width_of v) (x - v.x0) (height_of v) (omega (arith, w)) (omega (arith, w))
+
+pub place_small : (v : Window) (x y : ℕ) → IsWithin v x y → v.x1 < 4096 → v.y1 < 4096 → place_in v x y < 16777216
+place_small v x y w l h =
+    let below : place_in v x y < width_of v * 4096 = mul-add-lt (y - v.y0) (width_of v) (x - v.x0) 4096 (omega (arith, w, h)) (omega (arith, w)) in
+    omega (arith, below, l)
 
 -- the window of an open pixel's tile, as code finds it, has the tile's pixels, and so this one
 module _ (s : Scene) (t : ℕ) (v : Window) (x y : ℕ) (o : Bool) (is : v ≡ window_of s.tiling t) (e : t ≡ tile_at s.tiling x y) (i : IsTrue (nat_lt x s.phase.width && nat_lt y s.phase.height && o)) where
@@ -64,6 +72,14 @@ module _ (s : Scene) (mask : Field Bool) (results : List TileResult) (tiles : Ar
   pub solved_is_small : IsWithin v x y → IsTrue (mask x y) → unsigned_abs (cycles_in v k.cycles.items x y) ≤ 8388608
   solved_is_small w o = subst (λ (u : Window). IsWithin u x y → unsigned_abs (cycles_in u k.cycles.items x y) ≤ 8388608) same_window (λ i. (tiles.good t k there).in_range x y (i, o)) w
 
+-- a label below the number of regions is none of a masked pixel
+told_open : (n : ℕ) (clear : Bool) → n < 4294967295 → (if n == 4294967295 then None else Some n) ≡ (if clear then Some n else None) → IsTrue clear
+told_open n true l e = refl
+told_open n false l e =
+    let f : (n == 4294967295) ≡ false = grind (arith, nat_tests) in
+    let g = rw f at e in
+    cc
+
 -- parts that fit together
 pub go_together : (s : Scene) (m : MaskView) (v : RegionsView) (results : List TileResult) → m.width ≡ s.phase.width → m.height ≡ s.phase.height → AreGoodTiles s (open_at m) results → AreRegionsOf s.tiling m v → GoTogether s m v results
 go_together s m v results across along tiles is = record {
@@ -73,4 +89,6 @@ go_together s m v results across along tiles is = record {
   wide = is.width ∙ s.same_width.1;
   high = is.height ∙ s.same_height.1;
   below = λ x y l h o. (regions_of_scene s m v is).labelling.below x y (l, h, o);
+  told = λ x y l h below.
+      told_open (label_at v x y) (open_at m x y) (omega (arith, below, is.few)) (is.told x y (omega (arith, l, s.same_width)) (omega (arith, h, s.same_height)));
 }

@@ -28,7 +28,7 @@ AreOfEdges n costs = (costs.tiles ≤ 65535 * (2 ^ 49 + 1) * n) × (costs.seams 
 abbrev pub AreOpenFrom : MaskView → ℕ → ℕ → ℕ → Type 0
 AreOpenFrom m y x z = (a b : ℕ) → a < m.width → b < m.height → x ≤ a → a ≤ z → y ≤ b → b ≤ y + 1 → IsTrue (open_at m a b)
 
--- what a surface is put together from has one size: the scene, the mask, the results and the labels; each tile has a good result, and each open pixel a region
+-- what a surface is put together from has one size: the scene, the mask, the results and the labels; each tile has a good result, and each open pixel, and no masked one, a region
 pub record GoTogether (s : Scene) (m : MaskView) (v : RegionsView) (results : List TileResult) : Type 0 where
   pub across : m.width ≡ s.phase.width
   pub along : m.height ≡ s.phase.height
@@ -36,3 +36,4 @@ pub record GoTogether (s : Scene) (m : MaskView) (v : RegionsView) (results : Li
   pub wide : v.width ≡ s.phase.width
   pub high : v.height ≡ s.phase.height
   pub below : (x y : ℕ) → x < s.phase.width → y < s.phase.height → IsTrue (open_at m x y) → label_at v x y < v.count
+  pub told : (x y : ℕ) → x < s.phase.width → y < s.phase.height → label_at v x y < v.count → IsTrue (open_at m x y)

@@ -1,5 +1,5 @@
 -- What a surface is put together from: the results of the tiles, with a whole number of cycles added on each region (Chen and Zebker 2002).
-use Rattle.std.specs.Prelude.{◌≡◌, ℕ, ◌<◌, ◌≤◌, ◌^◌, ℤ, pos, Bool, ◌&&◌, List, [], length, slice_get, slice_index_or, unsigned_abs, nat_lt, Option, Some, None, if◌then◌else◌}
+use Rattle.std.specs.Prelude.{◌≡◌, ℕ, ◌<◌, ◌≤◌, ◌^◌, ℤ, pos, Bool, ◌&&◌, List, [], length, slice_get, slice_index_or, unsigned_abs, nat_lt, Option, Some, None, unwrap_or, if◌then◌else◌}
 use Rattle.raster_model.specs.declared.scene.Scene.{Scene}
 use Rattle.raster_model.specs.declared.session.Session.{Session}
 use Rattle.raster_model.specs.MaskView.{MaskView}
@@ -61,6 +61,14 @@ surface_in p = lifted (raster_in p) (cycles_in_parts p)
 -- its value at a pixel, and none where the pixel is masked
 abbrev pub value_in : Parts → Field (Option ℤ)
 value_in p x y = if open_in p x y then Some (surface_in p x y) else None
+
+-- its value at a pixel, and another number where the pixel is masked
+abbrev pub value_or : Parts → ℤ → Field ℤ
+value_or p masked x y = unwrap_or (value_in p x y) masked
+
+-- the list begins with the first n numbers of row y
+abbrev pub BeginsWithRow : Field ℤ → ℕ → ℕ → List ℤ → Type 0
+BeginsWithRow numbers y n list = (x : ℕ) → x < n → slice_index_or list x (pos 0) ≡ numbers x y
 
 -- the faces of a tile, and the flows
 abbrev pub faces_in : Parts → ℕ → List ℤ

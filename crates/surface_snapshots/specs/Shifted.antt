@@ -1,11 +1,12 @@
 -- Words of helpers: a surface of shifted tiles as the definitions read it, and lists of its cycles. No clause of a public function cites them.
-use Rattle.std.specs.Prelude.{◌≡◌, ℕ, ◌+◌, ◌*◌, ◌<◌, ℤ, pos, Bool, IsTrue, List, length, slice_index_or}
+use Rattle.std.specs.Prelude.{◌≡◌, ℕ, ◌+◌, ◌*◌, ◌<◌, ℤ, pos, neg_ℤ, Bool, IsTrue, List, length, slice_get, slice_index_or, Some, if◌then◌else◌}
 use Rattle.raster_model.specs.Masks.{open_at}
 use Rattle.raster_model.specs.Raster.{Raster}
 use Rattle.raster_model.specs.Scene.{raster_of}
 use Rattle.raster_model.specs.Sums.{Field}
 use Rattle.surface_snapshots.specs.declared.shifted.ShiftedTiles.{ShiftedTiles}
-use Rattle.surface_snapshots.specs.Parts.{shifted_cycles}
+use Rattle.certificates.specs.declared.results.TileResult.{TileResult}
+use Rattle.surface_snapshots.specs.Parts.{Parts, cycles_in_parts, open_in, shifted_cycles}
 
 -- the raster, the open pixels and the cycles above the phase
 abbrev pub raster_under : ShiftedTiles → Raster
@@ -21,3 +22,21 @@ cycles_under s = shifted_cycles s.scene.now s.regions.now s.tiles.now.results s.
 pub record AreListed (s : ShiftedTiles) (n : ℕ) (list : List ℤ) : Type 0 where
   pub count : length list ≡ n
   pub at : (x y : ℕ) → x < s.scene.now.phase.width → y < s.scene.now.phase.height → IsTrue (open_under s x y) → y * s.scene.now.phase.width + x < n → slice_index_or list (y * s.scene.now.phase.width + x) (pos 0) ≡ cycles_under s x y
+
+-- what stands for the cycles of a masked pixel; the cycles where a pixel is open, and that where it is not
+abbrev pub no_cycles : ℤ
+no_cycles = neg_ℤ (pos 9223372036854775808)
+
+abbrev pub cycles_or_none : Bool → ℤ → ℤ
+cycles_or_none clear cycles = if clear then cycles else no_cycles
+
+-- the same at each pixel, of a surface and of parts
+unfoldable pub level_at : ShiftedTiles → Field ℤ
+level_at s x y = cycles_or_none (open_under s x y) (cycles_under s x y)
+
+abbrev pub level_in : Parts → Field ℤ
+level_in p x y = cycles_or_none (open_in p x y) (cycles_in_parts p x y)
+
+-- the result of tile t has these cycles
+abbrev pub HasCycles : ShiftedTiles → ℕ → List ℤ → Type 0
+HasCycles s t cycles = (k : TileResult) × (slice_get s.tiles.now.results t ≡ Some k) × (cycles ≡ k.cycles.items)

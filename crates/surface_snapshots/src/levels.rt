@@ -1,12 +1,14 @@
-ghost use Rattle.raster_model.specs.Tiles.{tile_at, window_of};
-ghost use Rattle.std.specs.Prelude.{◌≡◌, ◌+◌, ◌*◌, ◌<◌, IfOk, IsTrue, OnOk};
+ghost use Rattle.std.specs.Prelude.{◌≡◌, ◌+◌, ◌*◌, ◌<◌, IfOk};
 ghost use Rattle.surface_snapshots.specs.Parts.{is_open_pixel};
 ghost use Rattle.surface_snapshots.specs.Shifted.{AreListed, cycles_under, open_under};
 
 use crate::shifted::ShiftedTiles;
 use certificates::{SeamVerdict, check_flows};
-use raster_model::{Heights, Window};
+use raster_model::{Heights, MAX_SIDE};
 use std::alloc::{AllocError, Global};
+
+/// The most pixels of a row.
+const MAX_WIDTH: usize = MAX_SIDE as usize;
 
 /// A surface whose cycles were found once, for each pixel in row order.
 #[derive(Drop)]
@@ -39,8 +41,10 @@ impl<'a> Levels<'a> {
     {
         let pixels = surface.scene.phase.width * surface.scene.phase.height;
         let mut cycles = Vec::with_capacity(alloc, pixels as usize)?;
+        let mut row = [0; MAX_WIDTH];
         for y in 0..surface.scene.phase.height {
-            list_row(&surface, &mut cycles, y)?;
+            surface.fill_row(y, &mut row);
+            cycles.extend_from_slice(&row[..surface.scene.phase.width as usize])?;
         }
         Ok(Levels { surface, cycles })
     }
@@ -61,56 +65,5 @@ impl<'a> Levels<'a> {
             flows,
             &mut scratch,
         ))
-    }
-}
-
-/// Appends the cycles of a row.
-fn list_row(surface: &ShiftedTiles<'_>, cycles: &mut Vec<i64>, y: u32) -> Result<(), AllocError>
-    requires row { y < surface.now.scene.now.phase.height }
-    requires listed { AreListed surface.now (y * surface.now.scene.now.phase.width) cycles.old.items }
-    ensures { OnOk result (AreListed surface.now ((y + 1) * surface.now.scene.now.phase.width) cycles.new.items) }
-{
-    let mut x = 0;
-    while x < surface.scene.phase.width {
-        let tile = surface.scene.tiling.tile_of(x, y);
-        let window = surface.scene.tiling.window(tile);
-        list_piece(surface, cycles, tile, window, x, y)?;
-        x = window.x1 + 1;
-    }
-    Ok(())
-}
-
-/// Appends the cycles of a row from a pixel to the end of its tile.
-fn list_piece(
-    surface: &ShiftedTiles<'_>,
-    cycles: &mut Vec<i64>,
-    tile: u32,
-    window: Window,
-    x: u32,
-    y: u32,
-) -> Result<(), AllocError>
-    requires pixel { (x < surface.now.scene.now.phase.width) × (y < surface.now.scene.now.phase.height) }
-    requires tile { tile ≡ tile_at surface.now.scene.now.tiling x y }
-    requires window { window ≡ window_of surface.now.scene.now.tiling tile }
-    requires listed { AreListed surface.now (y * surface.now.scene.now.phase.width + x) cycles.old.items }
-    ensures { OnOk result (AreListed surface.now (y * surface.now.scene.now.phase.width + (window.x1 + 1)) cycles.new.items) }
-{
-    for column in x..window.x1 + 1 {
-        cycles.push(level(surface, tile, window, column, y))?;
-    }
-    Ok(())
-}
-
-/// The cycles at a pixel of a tile, and 0 where it is masked.
-fn level(surface: &ShiftedTiles<'_>, tile: u32, window: Window, x: u32, y: u32) -> i64
-    requires pixel { (x < surface.now.scene.now.phase.width) × (y < surface.now.scene.now.phase.height) }
-    requires tile { tile ≡ tile_at surface.now.scene.now.tiling x y }
-    requires window { window ≡ window_of surface.now.scene.now.tiling tile }
-    ensures { IsTrue (open_under surface.now x y) → result ≡ cycles_under surface.now x y }
-{
-    if surface.mask.is_open(x, y) {
-        surface.at_in(tile, window, x, y)
-    } else {
-        0
     }
 }

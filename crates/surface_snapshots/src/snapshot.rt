@@ -6,7 +6,7 @@ ghost use Rattle.surface_snapshots.specs.Parts.{AreNear, HaveCosts, IsPublished,
 
 use crate::costs::certified_costs;
 use crate::fault::BuildFault;
-use crate::shifted::ShiftedTiles;
+use crate::shifted::{NO_CYCLES, ShiftedTiles};
 use certificates::{SeamResult, TileSet};
 use raster_model::{Heights, Mask, Session};
 use seam_regions::Regions;
@@ -63,6 +63,7 @@ impl Snapshot {
     ghost use Rattle.std.specs.Prelude.{IfErr, IfOk, IfSome};
     ghost use Rattle.surface_snapshots.specs.Parts.{
       AreGoodTiles,
+      BeginsWithRow,
       faces_in,
       flows_in,
       open_in,
@@ -70,7 +71,9 @@ impl Snapshot {
       surface_in,
       tile_costs,
       value_in,
+      value_or,
     };
+    ghost use Rattle.surface_snapshots.specs.Shifted.{level_in};
     ghost use Rattle.surface_snapshots.specs.Verdicts.{IsFault, IsVerdict};
     ghost use Rattle.surface_snapshots.specs.Views.{parts_of};
 
@@ -169,6 +172,32 @@ impl Snapshot {
         }
         let sample = self.session.scene.phase.sample(x, y);
         Some(level(sample, self.shifted().at(x, y)))
+    }
+
+    /// Puts the values of row `y` into the front of `row`, and `masked` where a pixel is masked.
+    pub fn fill_row(&self, y: u32, masked: i64, row: &mut [i64])
+        requires along { y < (parts_of self.now).session.scene.phase.height }
+        requires room { (parts_of self.now).session.scene.phase.width ≤ length row.old }
+        ensures same { length row.new ≡ length row.old }
+        ensures front { BeginsWithRow (value_or (parts_of self.now) masked) y (parts_of self.now).session.scene.phase.width row.new }
+    {
+        self.shifted().fill_row(y, row);
+        for x in 0..self.width() {
+            row[x as usize] = self.value_above(row[x as usize], masked, x, y);
+        }
+    }
+
+    /// The value that lies so many cycles above the phase, and `masked` where there are none.
+    fn value_above(&self, cycles: i64, masked: i64, x: u32, y: u32) -> i64
+        requires across { x < (parts_of self.now).session.scene.phase.width }
+        requires along { y < (parts_of self.now).session.scene.phase.height }
+        requires cycles { cycles ≡ level_in (parts_of self.now) x y }
+        ensures { result ≡ value_or (parts_of self.now) masked x y }
+    {
+        if cycles == NO_CYCLES {
+            return masked;
+        }
+        level(self.session.scene.phase.sample(x, y), cycles)
     }
 
     /// The tiles' results with the offsets of the regions.

@@ -1,4 +1,4 @@
-use Rattle.std.proofs.Common.{arith}
+use Rattle.std.proofs.Common.{◌∙◌, arith, refl}
 use Rattle.surface_snapshots.specs.Views.{parts_of}
 use Rattle.grid_writer.specs.Grid.{row_text, shown_in}
 use Rattle.grid_writer.proofs.GridLemmas.{texts_more, texts_none, texts_tail}
@@ -9,13 +9,14 @@ use Rattle.sums_and_lists.proofs.Lists.{at_any_err}
 pub loop-y-init : goal.loop-y-init
 loop-y-init g c =
     let p = parts_of c.args.snapshot.now in
-    record { written = rw (texts_none (row_text p.session.scene.phase.width (shown_in p))) (writes_nothing _ _); grows = omega arith }
+    record { written = rw (texts_none (row_text p.session.scene.phase.width (shown_in p))) (writes_nothing _ _); size = refl; grows = omega arith }
 
 pub loop-y-preserved : goal.loop-y-preserved
 loop-y-preserved g c =
     let p = parts_of c.args.snapshot.now in
     record {
       written = rw (texts_more c.loop-y.y (row_text p.session.scene.phase.width (shown_in p))) (writes_then _ _ _ _ _ c.loop-y.invariant.written _ _ _ c.in_ok-write_row.ensures.written);
+      size = c.write_row.ensures.same ∙ c.loop-y.invariant.size;
       grows = omega (arith, c.loop-y.invariant.grows, c.write_row.ensures.grows);
     }
 

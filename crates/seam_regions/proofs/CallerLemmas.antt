@@ -13,8 +13,7 @@ use Rattle.raster_model.specs.Seams.AreJoined.{here, rightward, downward}
 use Rattle.raster_model.specs.Sums.{Field, at_start, at_end, is_edge, right_edge, down_edge}
 use Rattle.seam_regions.specs.Regions.{label_at, region_at, IsTiledBy, AreRegionsOf}
 use Rattle.seam_regions.specs.RegionsView.{RegionsView}
-use Rattle.seam_regions.proofs.FloodLemmas.{tests_say}
-use Rattle.seam_regions.proofs.NumberLemmas.{open_ends}
+use Rattle.seam_regions.proofs.EdgeLemmas.{open_ends, tests_say}
 use Rattle.seam_regions.proofs.TileTests.{down_is, right_is}
 use Rattle.std.proofs.lemmas.Bool.{cases_Bool}
 

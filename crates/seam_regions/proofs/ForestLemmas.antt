@@ -103,6 +103,30 @@ joined_already ps root a b e is = record {
   ends = λ i l f. same_root (root a) (root b) (root i) e ∙ is.ends i l f;
 }
 
+-- a root beyond the roots of two trees stays one
+pub root_with-beyond : (root : ℕ → ℕ) (a b i : ℕ) → root a < i → root b < i → root i ≡ i → root_with root a b i ≡ i
+root_with-beyond root a b i l m e = elim (choice (root i) (max (root a) (root b)) (min (root a) (root b))) [
+  | inl t ↦ absurd (omega (arith, t.0, e, l, m))
+  | inr t ↦ t.1 ∙ e
+]
+
+-- a number that is alone gets the parent of an earlier one
+pub hung : (ps : List ℕ) (root : ℕ → ℕ) (a k : ℕ) → a < k → k < length ps → root k ≡ k → root a < k → IsForest ps root → IsForest (slice_set ps k (slice_index ps a)) (root_with root a k)
+hung ps root a k l inside own less is =
+    let b : slice_index ps a ≤ a = is.below a (omega arith) in
+    set_one ps (root_with root a k) k (slice_index ps a) inside
+    (omega arith, root_with-same root a k (slice_index ps a) a (is.leads a (omega arith)) ∙ root_with-ends root a k, λ e. absurd (omega (arith, b, e, l)))
+    (λ i j n. (
+      is.below i j,
+      root_with-same root a k (slice_index ps i) i (is.leads i j),
+      λ e. (
+          let r = is.ends i j e in
+          elim (choice (root i) (max (root a) (root k)) (min (root a) (root k))) [
+            | inl t ↦ absurd (n (omega (arith, t.0, r, own, less)))
+            | inr t ↦ t.1 ∙ r
+          ]),
+    ))
+
 -- ---- what roots keep when two trees become one
 with_least : (u v r i : ℕ) → r ≤ i → (if r == max u v then min u v else r) ≤ i
 with_least u v r i l = grind (arith, nat_tests)

@@ -11,18 +11,13 @@ use Rattle.raster_model.specs.Seams.{AreJoined}
 use Rattle.raster_model.specs.Seams.AreJoined.{here, rightward, leftward, downward, upward}
 use Rattle.raster_model.proofs.Regions.{joined_sym}
 use Rattle.seam_regions.specs.Flood.{is_first, firsts_before, number_of, IsNumbered, IsFlood}
+use Rattle.seam_regions.proofs.EdgeLemmas.{open_ends}
 use Rattle.sums_and_lists.proofs.Tests.{one_at_most}
 use Rattle.sums_and_lists.specs.Sums.{count_below, one_if}
 use Rattle.sums_and_lists.proofs.CountLemmas.{count_below-more, count_below-none}
 use Rattle.sums_and_lists.proofs.Orders.{below_or_last}
 
 -- ---- a walk from an open pixel ends at an open one
-pub open_ends : (e m n s : Bool) → IsTrue ((e && (m && n)) && s) → IsTrue m × IsTrue n
-open_ends true true true s t = (refl, refl)
-open_ends true true false s t = cc
-open_ends true false n s t = cc
-open_ends false m n s t = cc
-
 pub open_along : {r : Raster} {mask : Field Bool} {x y a b : ℕ} → AreJoined r mask x y a b → IsTrue (mask x y) → IsTrue (mask a b)
 open_along here o = o
 open_along {r = r} {mask = mask} (rightward {a = a} {b = b} p i) o = (open_ends (is_edge r.width r.height (right_edge a b)) (mask a b) (mask (a + 1) b) (not (is_seam r (right_edge a b))) i).1

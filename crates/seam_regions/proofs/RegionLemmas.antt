@@ -1,19 +1,19 @@
 -- Numbers of the trees are the numbers of the regions.
 use Rattle.std.proofs.Common.{◌≡◌, ℕ, zero, suc, ◌+◌, ◌*◌, ◌/◌, ◌%◌, ◌<◌, ◌≤◌, ◌⊎◌, inl, inr, sym, ◌∙◌, ap, refl, arith, Bool, true, false, List, ne_eqb}
-use Rattle.std.specs.Prelude.{IsTrue, ◌↔◌, ◌==◌, not, if◌then◌else◌, Some, None, slice_index}
+use Rattle.std.specs.Prelude.{IsTrue, ◌↔◌, ◌==◌, if◌then◌else◌, Some, None, slice_index}
 use Rattle.std.proofs.lemmas.Nat.{mod-mul-add, div-mul-add, div-add-mod', mod_below, div_below, mul-le, mul-add-lt}
 use Rattle.raster_model.specs.declared.edge.Edge.{Edge}
 use Rattle.raster_model.specs.declared.tiling.Tiling.{Tiling}
 use Rattle.raster_model.specs.MaskView.{MaskView}
 use Rattle.raster_model.specs.Masks.{open_at}
 use Rattle.raster_model.specs.Sums.{Field, end_x, end_y, right_edge, down_edge}
-use Rattle.raster_model.specs.Raster.{Raster, is_seam, has_open_ends}
+use Rattle.raster_model.specs.Raster.{Raster}
 use Rattle.raster_model.specs.Seams.{IsOpenPixel, IsEarlier, IsFirst, AreJoined, AreRegions, is_open_inner}
 use Rattle.raster_model.specs.Seams.AreJoined.{here, rightward, leftward, downward, upward}
 use Rattle.raster_model.proofs.Regions.{joined_sym, joined_trans}
 use Rattle.seam_regions.specs.Flood.{tiled, is_first, firsts_before, number_of, IsFlooded, IsNumbered}
 use Rattle.seam_regions.specs.Regions.{IsTiledBy, most_regions, AreRegionsOf}
-use Rattle.seam_regions.proofs.FloodLemmas.{tests_say}
+use Rattle.seam_regions.proofs.EdgeLemmas.{ends_in}
 use Rattle.seam_regions.proofs.NumberLemmas.{at_place, open_along, firsts_before-more}
 use Rattle.sums_and_lists.proofs.Tests.{both_told, tells_both}
 use Rattle.sums_and_lists.proofs.Orders.{below_at_above}
@@ -94,10 +94,10 @@ module _ (w : ℕ) (mask : Field Bool) (root : ℕ → ℕ) where
 module _ (g : Tiling) (mask : Field Bool) (root : ℕ → ℕ) (is : IsFlooded g mask (2 * (g.height * g.width)) root) where
   edge_roots : (e : Edge) → IsTrue (is_open_inner (tiled g) mask e) → root (e.y * g.width + e.x) ≡ root (end_y e * g.width + end_x e)
   edge_roots e i =
-      let t = tests_say e.x e.y (end_x e) (end_y e) g.width g.height (has_open_ends mask e) (not (is_seam (tiled g) e)) i in
-      let within : e.y * g.width + e.x < g.width * g.height = mul-add-lt e.y g.width e.x g.height t.1 t.0 in
+      let t = ends_in g mask e i in
+      let within : end_y e * g.width + end_x e < g.width * g.height = mul-add-lt (end_y e) g.width (end_x e) g.height t.3 t.2 in
       let turned : g.width * g.height ≡ g.height * g.width = omega arith in
-      is.edges e i (number_fits e.down (e.y * g.width + e.x) (g.height * g.width) (omega (arith, within, turned)))
+      is.edges e i (number_fits e.down (end_y e * g.width + end_x e) (g.height * g.width) (omega (arith, within, turned)))
     where
       number_fits : (d : Bool) (p n : ℕ) → p < n → 2 * p + (if d then 1 else 0) < 2 * n
       number_fits true p n l = omega arith

@@ -1,6 +1,6 @@
 -- How many regions there can be: of three pixels side by side two lie in one tile, so at most two of them are first pixels.
 use Rattle.std.proofs.Common.{◌≡◌, ℕ, zero, suc, ◌+◌, ◌*◌, ◌/◌, ◌%◌, ◌<◌, ◌≤◌, inl, inr, sym, ◌∙◌, ap, refl, arith, Bool, true, false}
-use Rattle.std.specs.Prelude.{IsTrue, ◌==◌, ◌&&◌, not}
+use Rattle.std.specs.Prelude.{IsTrue, ◌==◌, not}
 use Rattle.std.proofs.lemmas.Bool.{cases_eq, cases_lt}
 use Rattle.std.proofs.lemmas.Bool.Decides.{nat_tests}
 use Rattle.std.proofs.lemmas.Nat.{mod-mul-add, div-add-mod', mul-add-lt, mul-le}
@@ -10,6 +10,7 @@ use Rattle.raster_model.specs.Raster.{is_seam}
 use Rattle.raster_model.specs.Seams.{is_open_inner}
 use Rattle.seam_regions.specs.Flood.{tiled, is_first, firsts_before, IsFlooded}
 use Rattle.seam_regions.specs.Regions.{most_regions}
+use Rattle.seam_regions.proofs.EdgeLemmas.{all_true}
 use Rattle.seam_regions.proofs.NumberLemmas.{at_place, firsts_at_most}
 use Rattle.seam_regions.proofs.TileTests.{inner_right}
 use Rattle.sums_and_lists.specs.Sums.{count_below, one_if}
@@ -52,13 +53,6 @@ begins_once n d l e f =
     let o : (n / d * d + 1) % d ≡ 1 = mod-mul-add (n / d) d 1 (omega arith) in
     omega (arith, ap (λ (k : ℕ). k % d) m, o, f)
 
-all_true : (e m n s : Bool) → (e && s) ≡ true → m ≡ true → n ≡ true → ((e && (m && n)) && s) ≡ true
-all_true true true true true t p q = refl
-all_true true true true false t p q = cc
-all_true true true false s t p q = cc
-all_true true false n s t p q = cc
-all_true false m n s t p q = cc
-
 no_border : (n : ℕ) → (n ≡ 0 → ⊥) → not (n == 0) ≡ true
 no_border n h = grind (arith, nat_tests)
 
@@ -71,7 +65,7 @@ module _ (g : Tiling) (mask : Field Bool) (root : ℕ → ℕ) (is : IsFlooded g
       let b = tells_both (mask (j % g.width) (j / g.width)) (root j) j q in
       let inner = sym (inner_right g x y (omega arith) m (omega arith)) ∙ no_border ((x + 1) % g.side) border in
       let t : IsTrue (is_open_inner (tiled g) mask (right_edge x y)) = all_true (is_edge g.width g.height (right_edge x y)) (mask x y) (mask (x + 1) y) (not (is_seam (tiled g) (right_edge x y))) inner (sym (at_place g mask x y (omega arith)) ∙ a.0) (sym (at_place g mask (x + 1) y l) ∙ b.0) in
-      let within : y * g.width + x < g.width * g.height = mul-add-lt y g.width x g.height m (omega arith) in
+      let within : y * g.width + (x + 1) < g.width * g.height = mul-add-lt y g.width (x + 1) g.height m l in
       let turned : g.width * g.height ≡ g.height * g.width = omega arith in
       let same : root (y * g.width + x) ≡ root (y * g.width + (x + 1)) = is.edges (right_edge x y) t (omega (arith, within, turned)) in
       omega (arith, same, a.1, b.1)

@@ -1,11 +1,14 @@
 -- What a flood over the edges of a raster has joined, and numbers of its trees. No public clause cites this file.
-use Rattle.std.specs.Prelude.{◌≡◌, ℕ, ◌+◌, ◌*◌, ◌/◌, ◌%◌, ◌<◌, ◌≤◌, Bool, ◌&&◌, ◌==◌, IsTrue, if◌then◌else◌, List, length, slice_index}
+use Rattle.std.specs.Prelude.{◌≡◌, ℕ, ◌+◌, ◌-◌, ◌*◌, ◌/◌, ◌%◌, ◌<◌, ◌≤◌, Bool, true, false, ◌&&◌, ◌==◌, IsTrue, if◌then◌else◌, List, length, slice_index}
 use Rattle.raster_model.specs.declared.edge.Edge.{Edge}
 use Rattle.raster_model.specs.declared.tiling.Tiling.{Tiling}
+use Rattle.raster_model.specs.MaskView.{MaskView}
+use Rattle.raster_model.specs.Masks.{IsSpanOf}
 use Rattle.raster_model.specs.Sums.{Field, end_x, end_y}
 use Rattle.raster_model.specs.Raster.{Raster}
 use Rattle.raster_model.specs.Seams.{AreJoined, is_open_inner}
 use Rattle.raster_model.specs.Tiles.{tiles_of, tile_at}
+use Rattle.seam_regions.specs.declared.pieces.Piece.{Piece}
 use Rattle.seam_regions.specs.Forest.{IsForest}
 use Rattle.sums_and_lists.specs.Sums.{count_below, one_if}
 
@@ -13,20 +16,34 @@ use Rattle.sums_and_lists.specs.Sums.{count_below, one_if}
 abbrev pub tiled : Tiling → Raster
 tiled g = record { width = g.width; height = g.height; phase = λ x y. 0; weight = λ e. 0; tile = tile_at g; tile_count = tiles_of g }
 
--- the edges in edge order, two numbers for each pixel
+-- the edges in the row order of their other ends, two numbers for each pixel: its left edge and its upper one
 abbrev pub edge_number : ℕ → Edge → ℕ
-edge_number w e = 2 * (e.y * w + e.x) + (if e.down then 1 else 0)
+edge_number w e = 2 * (end_y e * w + end_x e) + (if e.down then 1 else 0)
 
 -- the other end of an edge is the first pixel of a tile in the edge's direction
 abbrev pub next_begins : Tiling → Edge → Bool
 next_begins g e = (if e.down then end_y e else end_x e) % g.side == 0
 
--- each pixel is joined to the root of its tree, which is no later pixel, and the ends of each inner edge before number k with open ends have one root
+-- the piece is what one tile has of a row
+pub record IsPiece (g : Tiling) (p : Piece) : Type 0 where
+  pub row : p.y < g.height
+  pub across : (p.first ≤ p.last) × (p.last < g.width)
+  pub begins : p.first % g.side ≡ 0
+  pub short : p.last < p.first + g.side
+  pub top : p.top ≡ (p.y % g.side == 0)
+
+-- its pixels are open, and so are those of its tile above them
+pub record IsOpenPiece (m : MaskView) (p : Piece) : Type 0 where
+  pub own : IsSpanOf m p.y p.first p.last true
+  pub upper : p.top ≡ false → IsSpanOf m (p.y - 1) p.first p.last true
+
+-- each pixel is joined to the root of its tree, which is no later pixel; the ends of each inner edge before number k with open ends have one root; and a pixel whose edges all come later is alone
 pub record IsFlooded (g : Tiling) (mask : Field Bool) (k : ℕ) (root : ℕ → ℕ) : Type 0 where
   pub least : (i : ℕ) → root i ≤ i
   pub stays : (i : ℕ) → root (root i) ≡ root i
   pub walks : (i : ℕ) → AreJoined (tiled g) mask (i % g.width) (i / g.width) (root i % g.width) (root i / g.width)
   pub edges : (e : Edge) → IsTrue (is_open_inner (tiled g) mask e) → edge_number g.width e < k → root (e.y * g.width + e.x) ≡ root (end_y e * g.width + end_x e)
+  pub alone : (i : ℕ) → k ≤ 2 * i → root i ≡ i
 
 -- parents of the pixels make such trees
 pub record IsFlood (g : Tiling) (mask : Field Bool) (k : ℕ) (parents : List ℕ) : Type 0 where

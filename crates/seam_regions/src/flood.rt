@@ -1,13 +1,10 @@
 ghost use Rattle.raster_model.specs.Masks.{open_at};
-ghost use Rattle.raster_model.specs.Raster.{is_seam};
-ghost use Rattle.raster_model.specs.Seams.{is_open_inner as is_open_inner_edge};
-ghost use Rattle.raster_model.specs.Sums.{is_edge};
-ghost use Rattle.seam_regions.specs.Flood.{IsFlood, edge_number, next_begins, tiled};
-ghost use Rattle.std.specs.Prelude.{◌≡◌, ◌+◌, ◌*◌, ◌<◌, ◌&&◌, not};
+ghost use Rattle.seam_regions.specs.Flood.{IsFlood, IsOpenPiece, IsPiece};
+ghost use Rattle.std.specs.Prelude.{◌≡◌, ◌+◌, ◌*◌, ◌<◌, ◌≤◌, IsTrue};
 
-use crate::columns::next_left;
-use crate::forest::join;
-use raster_model::{Edge, Mask, Tiling};
+use crate::forest::{hang, join};
+use crate::pieces::Piece;
+use raster_model::{Mask, Tiling};
 
 /// Joins the pixels of each region.
 pub fn join_all(parents: &mut [u32], tiling: &Tiling, mask: &Mask)
@@ -21,7 +18,7 @@ pub fn join_all(parents: &mut [u32], tiling: &Tiling, mask: &Mask)
     }
 }
 
-/// Joins the ends of the edges that start in row `y`.
+/// Joins the pixels of row `y` to each other and to those above.
 fn join_row(parents: &mut [u32], tiling: &Tiling, mask: &Mask, y: u32)
     requires across { mask.now.width ≡ tiling.now.width }
     requires along { mask.now.height ≡ tiling.now.height }
@@ -29,56 +26,136 @@ fn join_row(parents: &mut [u32], tiling: &Tiling, mask: &Mask, y: u32)
     requires flood { IsFlood tiling.now (open_at mask.now) (2 * (y * tiling.now.width)) parents.old }
     ensures { IsFlood tiling.now (open_at mask.now) (2 * ((y + 1) * tiling.now.width)) parents.new }
 {
-    let lowest = (y + 1) % tiling.side == 0;
-    // the columns of the tile from `x` on
-    let mut left = tiling.side;
-    for x in 0..tiling.width {
-        join_ends(parents, tiling, mask, Edge { x, y, down: false }, left == 1);
-        join_ends(parents, tiling, mask, Edge { x, y, down: true }, lowest);
-        left = next_left(left, tiling.side);
+    let top = y % tiling.side == 0;
+    let mut first = 0;
+    while first < tiling.width {
+        let end = (first + tiling.side).min(tiling.width);
+        let last = end - 1;
+        join_piece(
+            parents,
+            tiling,
+            mask,
+            Piece {
+                y,
+                first,
+                last,
+                top,
+            },
+        );
+        first = end;
     }
 }
 
-/// Joins the ends of an edge, where they are open and in one tile. `last` tells that the edge starts in the last
-/// column of its tile, or for a down edge in the last row.
-fn join_ends(parents: &mut [u32], tiling: &Tiling, mask: &Mask, edge: Edge, last: bool)
+/// Joins the pixels of a piece of a row.
+fn join_piece(parents: &mut [u32], tiling: &Tiling, mask: &Mask, piece: Piece)
     requires across { mask.now.width ≡ tiling.now.width }
     requires along { mask.now.height ≡ tiling.now.height }
-    requires start { (edge.x < tiling.now.width) × (edge.y < tiling.now.height) }
-    requires last { last ≡ next_begins tiling.now edge }
-    requires flood { IsFlood tiling.now (open_at mask.now) (edge_number tiling.now.width edge) parents.old }
-    ensures { IsFlood tiling.now (open_at mask.now) (edge_number tiling.now.width edge + 1) parents.new }
+    requires piece { IsPiece tiling.now piece }
+    requires flood { IsFlood tiling.now (open_at mask.now) (2 * (piece.y * tiling.now.width + piece.first)) parents.old }
+    ensures { IsFlood tiling.now (open_at mask.now) (2 * (piece.y * tiling.now.width + piece.last + 1)) parents.new }
 {
-    if is_open_inner(tiling, mask, edge, last) {
-        let start = edge.y * tiling.width + edge.x;
-        let end = edge.end_y() * tiling.width + edge.end_x();
-        join(parents, start, end);
+    if is_open_piece(tiling, mask, piece) {
+        join_open(parents, tiling, mask, piece);
+    } else {
+        join_pixels(parents, tiling, mask, piece);
     }
 }
 
-/// Whether the edge is an inner edge with open ends.
-fn is_open_inner(tiling: &Tiling, mask: &Mask, edge: Edge, last: bool) -> bool
+/// Whether the pixels of a piece are open, and so are those of its tile above them.
+fn is_open_piece(tiling: &Tiling, mask: &Mask, piece: Piece) -> bool
     requires across { mask.now.width ≡ tiling.now.width }
     requires along { mask.now.height ≡ tiling.now.height }
-    requires start { (edge.x < tiling.now.width) × (edge.y < tiling.now.height) }
-    requires last { last ≡ next_begins tiling.now edge }
-    ensures { result ≡ is_open_inner_edge (tiled tiling.now) (open_at mask.now) edge }
+    requires piece { IsPiece tiling.now piece }
+    ensures { IsTrue result → IsOpenPiece mask.now piece }
 {
-    if !is_inner(tiling, edge, last) {
+    if !mask.is_open_span(piece.y, piece.first, piece.last) {
         return false;
     }
-    mask.is_open(edge.x, edge.y) && mask.is_open(edge.end_x(), edge.end_y())
+    if piece.top {
+        return true;
+    }
+    mask.is_open_span(piece.y - 1, piece.first, piece.last)
 }
 
-/// Whether both ends lie in the raster and in one tile. The other end of an edge from tile to tile is the first
-/// pixel of its tile in the edge's direction.
-fn is_inner(tiling: &Tiling, edge: Edge, last: bool) -> bool
-    requires start { (edge.x < tiling.now.width) × (edge.y < tiling.now.height) }
-    requires last { last ≡ next_begins tiling.now edge }
-    ensures { result ≡ (is_edge tiling.now.width tiling.now.height edge && not (is_seam (tiled tiling.now) edge)) }
+/// Joins the pixels of an open piece. All get the parent that its first pixel has.
+fn join_open(parents: &mut [u32], tiling: &Tiling, mask: &Mask, piece: Piece)
+    requires across { mask.now.width ≡ tiling.now.width }
+    requires along { mask.now.height ≡ tiling.now.height }
+    requires piece { IsPiece tiling.now piece }
+    requires open { IsOpenPiece mask.now piece }
+    requires flood { IsFlood tiling.now (open_at mask.now) (2 * (piece.y * tiling.now.width + piece.first)) parents.old }
+    ensures { IsFlood tiling.now (open_at mask.now) (2 * (piece.y * tiling.now.width + piece.last + 1)) parents.new }
 {
-    if edge.end_x() == tiling.width || edge.end_y() == tiling.height {
-        return false;
+    join_pixel(parents, tiling, mask, piece, piece.first);
+    let row = (piece.y * tiling.width) as usize;
+    let parent = parents[row + piece.first as usize];
+    for x in piece.first as usize + 1..piece.last as usize + 1 {
+        parents[row + x] = parent;
     }
-    !last
+}
+
+/// Joins the pixels of a piece one by one.
+fn join_pixels(parents: &mut [u32], tiling: &Tiling, mask: &Mask, piece: Piece)
+    requires across { mask.now.width ≡ tiling.now.width }
+    requires along { mask.now.height ≡ tiling.now.height }
+    requires piece { IsPiece tiling.now piece }
+    requires flood { IsFlood tiling.now (open_at mask.now) (2 * (piece.y * tiling.now.width + piece.first)) parents.old }
+    ensures { IsFlood tiling.now (open_at mask.now) (2 * (piece.y * tiling.now.width + piece.last + 1)) parents.new }
+{
+    for x in piece.first..piece.last + 1 {
+        join_pixel(parents, tiling, mask, piece, x);
+    }
+}
+
+/// Joins the pixel of a piece in column `x` to its left and its upper neighbour.
+fn join_pixel(parents: &mut [u32], tiling: &Tiling, mask: &Mask, piece: Piece, x: u32)
+    requires across { mask.now.width ≡ tiling.now.width }
+    requires along { mask.now.height ≡ tiling.now.height }
+    requires piece { IsPiece tiling.now piece }
+    requires column { (piece.first ≤ x) × (x ≤ piece.last) }
+    requires flood { IsFlood tiling.now (open_at mask.now) (2 * (piece.y * tiling.now.width + x)) parents.old }
+    ensures { IsFlood tiling.now (open_at mask.now) (2 * (piece.y * tiling.now.width + x + 1)) parents.new }
+{
+    if mask.is_open(x, piece.y) {
+        join_left(parents, tiling, mask, piece, x);
+        join_upper(parents, tiling, mask, piece, x);
+    }
+}
+
+/// Joins an open pixel of a piece to its left neighbour, where that is open and in the piece.
+fn join_left(parents: &mut [u32], tiling: &Tiling, mask: &Mask, piece: Piece, x: u32)
+    requires across { mask.now.width ≡ tiling.now.width }
+    requires along { mask.now.height ≡ tiling.now.height }
+    requires piece { IsPiece tiling.now piece }
+    requires column { (piece.first ≤ x) × (x ≤ piece.last) }
+    requires open { IsTrue (open_at mask.now x piece.y) }
+    requires flood { IsFlood tiling.now (open_at mask.now) (2 * (piece.y * tiling.now.width + x)) parents.old }
+    ensures { IsFlood tiling.now (open_at mask.now) (2 * (piece.y * tiling.now.width + x) + 1) parents.new }
+{
+    if x == piece.first {
+        return;
+    }
+    if mask.is_open(x - 1, piece.y) {
+        let place = piece.y * tiling.width + x;
+        hang(parents, place, place - 1);
+    }
+}
+
+/// Joins an open pixel of a piece to its upper neighbour, where that is open and in the piece's tile.
+fn join_upper(parents: &mut [u32], tiling: &Tiling, mask: &Mask, piece: Piece, x: u32)
+    requires across { mask.now.width ≡ tiling.now.width }
+    requires along { mask.now.height ≡ tiling.now.height }
+    requires piece { IsPiece tiling.now piece }
+    requires column { (piece.first ≤ x) × (x ≤ piece.last) }
+    requires open { IsTrue (open_at mask.now x piece.y) }
+    requires flood { IsFlood tiling.now (open_at mask.now) (2 * (piece.y * tiling.now.width + x) + 1) parents.old }
+    ensures { IsFlood tiling.now (open_at mask.now) (2 * (piece.y * tiling.now.width + x + 1)) parents.new }
+{
+    if piece.top {
+        return;
+    }
+    if mask.is_open(x, piece.y - 1) {
+        let place = piece.y * tiling.width + x;
+        join(parents, place - tiling.width, place);
+    }
 }

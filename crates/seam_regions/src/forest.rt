@@ -32,3 +32,11 @@ pub fn join(parents: &mut [u32], first: u32, second: u32)
     let other = root_of(parents, second);
     parents[one.max(other) as usize] = one.min(other);
 }
+
+/// Puts a root into the tree of an earlier number. It gets that one's parent.
+pub fn hang(parents: &mut [u32], alone: u32, earlier: u32)
+    requires within { (earlier < alone) × (alone < length parents.old) }
+    ensures { (root : ℕ → ℕ) → IsForest parents.old root → root alone ≡ alone → root earlier < alone → IsForest parents.new (root_with root earlier alone) }
+{
+    parents[alone as usize] = parents[earlier as usize];
+}

@@ -6,6 +6,7 @@ mod columns;
 mod flood;
 mod forest;
 mod numbers;
+mod pieces;
 mod regions;
 
 pub use crate::columns::next_left;

@@ -1,7 +1,7 @@
-ghost use Rattle.raster_model.specs.Masks.{open_at};
+ghost use Rattle.raster_model.specs.Masks.{open_at, IsSpanOf};
 ghost use Rattle.seam_regions.specs.Flood.{IsFlood, IsNumbered};
 ghost use Rattle.seam_regions.specs.Regions.{most_regions};
-ghost use Rattle.std.specs.Prelude.{◌≡◌, ◌+◌, ◌*◌, ◌<◌, ◌≤◌};
+ghost use Rattle.std.specs.Prelude.{◌≡◌, ◌+◌, ◌*◌, ◌<◌, ◌≤◌, IsTrue, true};
 
 use raster_model::{Mask, Tiling};
 
@@ -30,13 +30,88 @@ fn number_row(labels: &mut [u32], tiling: &Tiling, mask: &Mask, y: u32, count: u
     ensures { IsNumbered tiling.now (open_at mask.now) ((y + 1) * tiling.now.width) result labels.new }
 {
     let mut given = count;
-    for x in 0..tiling.width {
+    let mut first = 0;
+    while first < tiling.width {
+        // 64 pixels are one word of the mask, or two
+        let end = (first + 64).min(tiling.width);
+        given = number_span(labels, tiling, mask, y, first, end - 1, given);
+        first = end;
+    }
+    given
+}
+
+/// Numbers the pixels of row `y` from `first` to `last`, both included.
+fn number_span(
+    labels: &mut [u32],
+    tiling: &Tiling,
+    mask: &Mask,
+    y: u32,
+    first: u32,
+    last: u32,
+    count: u32,
+) -> u32
+    requires across { mask.now.width ≡ tiling.now.width }
+    requires along { mask.now.height ≡ tiling.now.height }
+    requires row { y < tiling.now.height }
+    requires span { (first ≤ last) × (last < tiling.now.width) }
+    requires numbers { IsNumbered tiling.now (open_at mask.now) (y * tiling.now.width + first) count labels.old }
+    ensures { IsNumbered tiling.now (open_at mask.now) (y * tiling.now.width + last + 1) result labels.new }
+{
+    if mask.is_open_span(y, first, last) {
+        number_open(labels, tiling, mask, y, first, last, count)
+    } else {
+        number_pixels(labels, tiling, mask, y, first, last, count)
+    }
+}
+
+/// Numbers the pixels of row `y` from `first` to `last`, which are open.
+fn number_open(
+    labels: &mut [u32],
+    tiling: &Tiling,
+    mask: &Mask,
+    y: u32,
+    first: u32,
+    last: u32,
+    count: u32,
+) -> u32
+    requires row { y < tiling.now.height }
+    requires span { (first ≤ last) × (last < tiling.now.width) }
+    requires open { IsSpanOf mask.now y first last true }
+    requires numbers { IsNumbered tiling.now (open_at mask.now) (y * tiling.now.width + first) count labels.old }
+    ensures { IsNumbered tiling.now (open_at mask.now) (y * tiling.now.width + last + 1) result labels.new }
+{
+    let mut given = count;
+    for x in first..last + 1 {
+        given = number_open_pixel(labels, tiling, mask, x, y, given);
+    }
+    given
+}
+
+/// Numbers the pixels of row `y` from `first` to `last` one by one.
+fn number_pixels(
+    labels: &mut [u32],
+    tiling: &Tiling,
+    mask: &Mask,
+    y: u32,
+    first: u32,
+    last: u32,
+    count: u32,
+) -> u32
+    requires across { mask.now.width ≡ tiling.now.width }
+    requires along { mask.now.height ≡ tiling.now.height }
+    requires row { y < tiling.now.height }
+    requires span { (first ≤ last) × (last < tiling.now.width) }
+    requires numbers { IsNumbered tiling.now (open_at mask.now) (y * tiling.now.width + first) count labels.old }
+    ensures { IsNumbered tiling.now (open_at mask.now) (y * tiling.now.width + last + 1) result labels.new }
+{
+    let mut given = count;
+    for x in first..last + 1 {
         given = number_pixel(labels, tiling, mask, x, y, given);
     }
     given
 }
 
-/// Numbers one pixel. A pixel whose parent is an earlier one has that one's number, and a root gets a new one.
+/// Numbers one pixel.
 fn number_pixel(labels: &mut [u32], tiling: &Tiling, mask: &Mask, x: u32, y: u32, count: u32) -> u32
     requires across { mask.now.width ≡ tiling.now.width }
     requires along { mask.now.height ≡ tiling.now.height }
@@ -44,11 +119,28 @@ fn number_pixel(labels: &mut [u32], tiling: &Tiling, mask: &Mask, x: u32, y: u32
     requires numbers { IsNumbered tiling.now (open_at mask.now) (y * tiling.now.width + x) count labels.old }
     ensures { IsNumbered tiling.now (open_at mask.now) (y * tiling.now.width + x + 1) result labels.new }
 {
-    let place = (y * tiling.width + x) as usize;
-    if !mask.is_open(x, y) {
-        labels[place] = u32::MAX;
-        return count;
+    if mask.is_open(x, y) {
+        return number_open_pixel(labels, tiling, mask, x, y, count);
     }
+    labels[(y * tiling.width + x) as usize] = u32::MAX;
+    count
+}
+
+/// Numbers an open pixel. One whose parent is an earlier pixel has that one's number, and a root gets a new one.
+fn number_open_pixel(
+    labels: &mut [u32],
+    tiling: &Tiling,
+    mask: &Mask,
+    x: u32,
+    y: u32,
+    count: u32,
+) -> u32
+    requires pixel { (x < tiling.now.width) × (y < tiling.now.height) }
+    requires open { IsTrue (open_at mask.now x y) }
+    requires numbers { IsNumbered tiling.now (open_at mask.now) (y * tiling.now.width + x) count labels.old }
+    ensures { IsNumbered tiling.now (open_at mask.now) (y * tiling.now.width + x + 1) result labels.new }
+{
+    let place = (y * tiling.width + x) as usize;
     let parent = labels[place] as usize;
     if parent < place {
         labels[place] = labels[parent];

@@ -3,6 +3,7 @@
 #![tactic(auto)]
 
 mod kinds;
+mod numbers;
 mod rule;
 
 pub use kinds::weigh;

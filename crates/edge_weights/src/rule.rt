@@ -1,7 +1,7 @@
-ghost use Rattle.raster_model.specs.Plain.{AreDownWeights, AreRightWeights};
 ghost use Rattle.raster_model.specs.Weights.{AreRuleWeights, rule_number};
-ghost use Rattle.std.specs.Prelude.{◌≡◌, ◌-◌, ◌*◌, ◌≤◌, ℕ, IfOk};
+ghost use Rattle.std.specs.Prelude.{◌≡◌, ◌≤◌, ℕ, IfOk};
 
+use crate::numbers::{EndRule, weigh_by};
 use raster_model::{EdgeWeights, Plane, RuleKind};
 use std::alloc::{AllocError, Global};
 
@@ -39,49 +39,16 @@ impl WeightRule {
         requires { weights.now.maxval ≡ self.now.maxval }
         ensures { IfOk result (λ edges. AreRuleWeights self.now.kind weights.now edges) }
     {
-        Ok(EdgeWeights {
-            right: self.right(alloc, weights)?,
-            down: self.down(alloc, weights)?,
-        })
+        weigh_by(alloc, self, weights)
     }
+}
 
-    /// The weight of an edge whose ends have these weights.
-    fn number(&self, a: u16, b: u16) -> u16
-        requires { (a ≤ self.now.maxval) × (b ≤ self.now.maxval) }
-        ensures { result ≡ rule_number self.now.kind self.now.maxval a b }
-    {
+impl EndRule for WeightRule {
+    ghost kind = { λ rule. rule.kind };
+
+    ghost maxval = { λ rule. rule.maxval };
+
+    fn number(&self, a: u16, b: u16) -> u16 {
         (self.by_ends)(a, b)
-    }
-
-    /// The weights of the right edges, in row order of first pixels.
-    fn right(&self, alloc: Global, weights: &Plane) -> Result<Vec<u16>, AllocError>
-        requires { weights.now.maxval ≡ self.now.maxval }
-        ensures { IfOk result (λ list. AreRightWeights self.now.kind weights.now ((weights.now.width - 1) * weights.now.height) list.items) }
-    {
-        let across = weights.width - 1;
-        let mut list = Vec::with_capacity(alloc, across as usize * weights.height as usize)?;
-        for y in 0..weights.height {
-            for x in 0..across {
-                let number = self.number(weights.sample(x, y), weights.sample(x + 1, y));
-                list.push(number)?;
-            }
-        }
-        Ok(list)
-    }
-
-    /// The weights of the down edges, in row order of first pixels.
-    fn down(&self, alloc: Global, weights: &Plane) -> Result<Vec<u16>, AllocError>
-        requires { weights.now.maxval ≡ self.now.maxval }
-        ensures { IfOk result (λ list. AreDownWeights self.now.kind weights.now (weights.now.width * (weights.now.height - 1)) list.items) }
-    {
-        let along = weights.height - 1;
-        let mut list = Vec::with_capacity(alloc, weights.width as usize * along as usize)?;
-        for y in 0..along {
-            for x in 0..weights.width {
-                let number = self.number(weights.sample(x, y), weights.sample(x, y + 1));
-                list.push(number)?;
-            }
-        }
-        Ok(list)
     }
 }

@@ -3,4 +3,5 @@ pub mod RowLemmas
 pub mod ResidueLemmas
 pub mod GradientLemmas
 pub mod CorrectionLemmas
+pub mod DifferenceLemmas
 mod OnExamples

@@ -1,12 +1,11 @@
 ghost use Rattle.raster_model.specs.Limits.{max_side};
-ghost use Rattle.raster_model.specs.Raster.{gradient as gradient_of};
+ghost use Rattle.raster_model.specs.Phase.{wrapped as wrapped_difference};
 ghost use Rattle.raster_model.specs.Scene.{raster_of};
-ghost use Rattle.raster_model.specs.Sums.{is_edge};
 ghost use Rattle.raster_model.specs.Tiles.{IsWindowIn, width_of, height_of};
-ghost use Rattle.std.specs.Prelude.{◌≡◌, ◌-◌, ◌*◌, IfOk, IsTrue};
-ghost use Rattle.wrapped_gradient.specs.Rows.{AreInRows, of_down_edges, of_right_edges};
+ghost use Rattle.std.specs.Prelude.{◌≡◌, ◌+◌, ◌-◌, ◌*◌, ◌≤◌, IfOk, length};
+ghost use Rattle.wrapped_gradient.specs.Rows.{AreDifferences, AreInRows, of_down_edges, of_right_edges};
 
-use raster_model::{Edge, Scene, Window, plain};
+use raster_model::{Scene, Window, wrapped};
 use std::alloc::{AllocError, Global};
 use std::marker::Model;
 
@@ -141,26 +140,21 @@ impl Gradients {
     }
 }
 
-/// The wrapped difference of an edge.
-fn difference(scene: &Scene, edge: Edge) -> i16
-    requires { IsTrue (is_edge scene.now.phase.width scene.now.phase.height edge) }
-    ensures { result ≡ gradient_of (raster_of scene.now) edge }
-{
-    plain::gradient(scene, edge) as i16
-}
-
 /// The wrapped differences of the window's right edges.
 fn right_differences(alloc: Global, scene: &Scene, window: Window) -> Result<Vec<i16>, AllocError>
     requires { IsWindowIn scene.now.phase.width scene.now.phase.height window }
     ensures { IfOk result (λ list. AreInRows (of_right_edges (raster_of scene.now)) window.x0 window.y0 (width_of window - 1) ((width_of window - 1) * height_of window) list.items) }
 {
     let across = (window.x1 - window.x0) as usize;
-    let along = window.height() as usize;
-    let mut list = Vec::with_capacity(alloc, across * along)?;
+    let along = (window.y1 - window.y0) as usize + 1;
+    let width = scene.phase.width as usize;
+    let samples: &[u16] = &scene.phase.samples;
+    let mut list = vec![in alloc; 0; across * along]?;
     for y in window.y0..window.y1 + 1 {
-        for x in window.x0..window.x1 {
-            list.push(difference(scene, Edge { x, y, down: false }))?;
-        }
+        let first = y as usize * width + window.x0 as usize;
+        let from = &samples[first..first + across];
+        let to = &samples[first + 1..first + 1 + across];
+        set_differences(from, to, &mut list, (y - window.y0) as usize * across);
     }
     Ok(list)
 }
@@ -170,13 +164,34 @@ fn down_differences(alloc: Global, scene: &Scene, window: Window) -> Result<Vec<
     requires { IsWindowIn scene.now.phase.width scene.now.phase.height window }
     ensures { IfOk result (λ list. AreInRows (of_down_edges (raster_of scene.now)) window.x0 window.y0 (width_of window) (width_of window * (height_of window - 1)) list.items) }
 {
-    let across = window.width() as usize;
+    let across = (window.x1 - window.x0) as usize + 1;
     let along = (window.y1 - window.y0) as usize;
-    let mut list = Vec::with_capacity(alloc, across * along)?;
+    let width = scene.phase.width as usize;
+    let samples: &[u16] = &scene.phase.samples;
+    let mut list = vec![in alloc; 0; across * along]?;
     for y in window.y0..window.y1 {
-        for x in window.x0..window.x1 + 1 {
-            list.push(difference(scene, Edge { x, y, down: true }))?;
-        }
+        let first = y as usize * width + window.x0 as usize;
+        let from = &samples[first..first + across];
+        let to = &samples[first + width..first + width + across];
+        set_differences(from, to, &mut list, (y - window.y0) as usize * across);
     }
     Ok(list)
+}
+
+/// Sets the numbers of a list from `start` on: the wrapped differences of the phases at the same places of two slices.
+fn set_differences(from: &[u16], to: &[u16], list: &mut [i16], start: usize)
+    requires counts { length to.now ≡ length from.now }
+    requires room { start + length from.now ≤ length list.old }
+    ensures { AreDifferences from.now to.now start (length from.now) list.old list.new }
+{
+    for place in 0..from.len() {
+        list[start + place] = difference(from[place], to[place]);
+    }
+}
+
+/// The wrapped difference of two phases.
+fn difference(from: u16, to: u16) -> i16
+    ensures { result ≡ wrapped_difference from to }
+{
+    wrapped(from, to) as i16
 }

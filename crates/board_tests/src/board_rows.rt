@@ -81,6 +81,36 @@ fn two_claims_give_two_tiles(rt: HostRuntime) -> Result<(), Fail> {
     answered(rt.alloc(), HALVES, 2, CLAIMS)
 }
 
+/// A line in 64 tiles, which is flat; the pixel that is masked lies in tile 40.
+const FLAT: &str = "\
+P2
+128 1
+65535
+0 0 0 0 0 0 0 0 0 0 0 0 0 0 0 0 0 0 0 0 0 0 0 0 0 0 0 0 0 0 0 0 0 0 0 0 0 0 0 0 0 0 0 0 0 0 0 0 0 0 0 0 0 0 0 \
+0 0 0 0 0 0 0 0 0 0 0 0 0 0 0 0 0 0 0 0 0 0 0 0 0 0 0 0 0 0 0 0 0 0 0 0 0 0 0 0 0 0 0 0 0 0 0 0 0 0 0 0 0 0 0 \
+0 0 0 0 0 0 0 0 0 0 0 0 0 0 0 0 0 0
+analyst
+mask 80 0 80 0
+end
+";
+
+/// As eight workers claim that keep nothing: each tile once, and then the first two again. Of the tiles that were claimed
+/// once the next is tile 2, but for its result; and tile 40 is unclaimed after its edit.
+const IN_TURN: &str = "\
+claims 66 = [0, 1, 2, 3, 4, 5, 6, 7, 8, 9, 10, 11, 12, 13, 14, 15, 16, 17, 18, 19, 20, 21, 22, 23, 24, 25, 26, 27, 28, 29, \
+30, 31, 32, 33, 34, 35, 36, 37, 38, 39, 40, 41, 42, 43, 44, 45, 46, 47, 48, 49, 50, 51, 52, 53, 54, 55, 56, \
+57, 58, 59, 60, 61, 62, 63, 0, 1]
+keep 2 0 2 0 = Ok(())
+claim = Ok((3, 0))
+advance = Ok(Revised(1))
+claim = Ok((40, 1))
+claim = Ok((4, 0))";
+
+#[test]
+fn tiles_are_claimed_in_turn(rt: HostRuntime) -> Result<(), Fail> {
+    answered(rt.alloc(), FLAT, 2, IN_TURN)
+}
+
 /// The same turn without a script, with edges that weigh 5 (top), 5 (right), 3 (bottom) and 3 (left). If the lower left
 /// pixel is a cycle down, only the bottom edge departs, and the face 3 at the residue 1 certifies the cost 3.
 const WEIGHED: &str = "P2\n2 2\n65535\n0 16384 49152 32768\nP2\n2 2\n9\n5 5 3 9\n";

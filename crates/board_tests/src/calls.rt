@@ -20,6 +20,17 @@ fn claimed(alloc: Global, board: &mut Board) -> Result<(u32, u32), ClaimFault> {
     Ok((ticket.tile, ticket.stamp))
 }
 
+/// The tiles of so many claims, one after another.
+fn claims(alloc: Global, board: &mut Board, count: u32) -> Result<String, AllocError> {
+    let mut tiles = Vec::new(alloc);
+    for _claim in 0..count {
+        if let Ok((tile, _stamp)) = claimed(alloc, board) {
+            tiles.push(tile)?;
+        }
+    }
+    format!(in alloc; "{tiles:?}")
+}
+
 /// The result of a tile at a stamp, with these numbers of cycles and faces, all of them 0.
 fn zeros(
     alloc: Global,
@@ -148,6 +159,10 @@ fn answer(alloc: Global, board: &mut Board, call: &str) -> Result<String, AllocE
     match words.next().unwrap_or("") {
         "advance" => format!(in alloc; "{:?}", board.advance(alloc, 1)),
         "claim" => format!(in alloc; "{:?}", claimed(alloc, board)),
+        "claims" => {
+            let count = number(&mut words);
+            claims(alloc, board, count)
+        }
         "finish" => format!(in alloc; "{:?}", finish(alloc, board)),
         "hand" => format!(in alloc; "{:?}", hand(alloc, board, &mut words)),
         "keep" => format!(in alloc; "{:?}", keep(alloc, board, &mut words)),

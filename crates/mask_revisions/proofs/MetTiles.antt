@@ -13,8 +13,8 @@ use Rattle.raster_model.specs.Sums.{Field}
 use Rattle.raster_model.specs.Tiles.{columns_of, tile_at}
 use Rattle.raster_model.proofs.TileLemmas.{block_below, tiles_are_numbered}
 use Rattle.mask_revisions.specs.Edits.{differ_in, edited, has_pixel, opens}
-use Rattle.mask_revisions.specs.Revisions.{AreChanged}
-use Rattle.mask_revisions.specs.Steps.{met_across, tiles_met, met_tile, AreListed, Meets}
+use Rattle.mask_revisions.specs.Revisions.{AreChanged, AreMet, Meets}
+use Rattle.mask_revisions.specs.Steps.{AreListed, any_tile, count_met, met_across, met_tile}
 use Rattle.mask_revisions.proofs.Differences.{box_has, box_says, chosen, differ_tells}
 use Rattle.sums_and_lists.proofs.Orders.{below_or_last}
 use Rattle.sums_and_lists.proofs.Tests.{true_and_false}
@@ -67,10 +67,10 @@ module _ (g : Tiling) (r : Rect) (is : IsRectIn g.width g.height r) where
   met_column : (k : ℕ) → r.x0 / g.side + k % met_across g r ≤ r.x1 / g.side
   met_column k = omega (arith, mod_below k (met_across g r) across, div_le r.x0 r.x1 g.side side is.0)
 
-  met_row : (k : ℕ) → k < tiles_met g r → r.y0 / g.side + k / met_across g r ≤ r.y1 / g.side
+  met_row : (k : ℕ) → k < count_met g r → r.y0 / g.side + k / met_across g r ≤ r.y1 / g.side
   met_row k l = omega (arith, div_below k (met_across g r) (r.y1 / g.side - r.y0 / g.side + 1) across l, div_le r.y0 r.y1 g.side side is.2)
 
-  pub met_top : (k : ℕ) → k < tiles_met g r → (r.y0 / g.side + k / met_across g r) * g.side < g.height
+  pub met_top : (k : ℕ) → k < count_met g r → (r.y0 / g.side + k / met_across g r) * g.side < g.height
   met_top k l = omega (arith, div_start (r.y0 / g.side + k / met_across g r) r.y1 g.side (met_row k l), is.3)
 
   pub met_left : (k : ℕ) → (r.x0 / g.side + k % met_across g r) * g.side < g.width
@@ -93,7 +93,7 @@ module _ (g : Tiling) (r : Rect) (is : IsRectIn g.width g.height r) where
   ]
 
   -- each pixel of the box lies in one of them
-  met_at : (x y : ℕ) → r.x0 ≤ x → x ≤ r.x1 → r.y0 ≤ y → y ≤ r.y1 → (k : ℕ) × (k < tiles_met g r) × (met_tile g r k ≡ tile_at g x y)
+  met_at : (x y : ℕ) → r.x0 ≤ x → x ≤ r.x1 → r.y0 ≤ y → y ≤ r.y1 → (k : ℕ) × (k < count_met g r) × (met_tile g r k ≡ tile_at g x y)
   met_at x y p q s u =
       let n = met_across g r in
       let a = y / g.side - r.y0 / g.side in
@@ -109,7 +109,7 @@ module _ (g : Tiling) (r : Rect) (is : IsRectIn g.width g.height r) where
       (a * n + b, omega (arith, l), ap₂ (λ (i j : ℕ). i * columns_of g + j) row column)
 
   -- a pixel of the box lies in each of them
-  pub met_meets : (k : ℕ) → k < tiles_met g r → Meets g r (met_tile g r k)
+  pub met_meets : (k : ℕ) → k < count_met g r → Meets g r (met_tile g r k)
   met_meets k l =
       let c = r.x0 / g.side + k % met_across g r in
       let d = r.y0 / g.side + k / met_across g r in
@@ -120,14 +120,14 @@ module _ (g : Tiling) (r : Rect) (is : IsRectIn g.width g.height r) where
       (x, y, omega (arith, p, is), omega (arith, q, is), box_has r x y (omega arith) (omega (arith, p, is)) (omega arith) (omega (arith, q, is)), ap₂ (λ (i j : ℕ). i * columns_of g + j) (div_from d r.y0 g.side side (omega arith)) (div_from c r.x0 g.side side (omega arith)))
 
   -- ---- which tiles of the box's pixels come before one of them
-  met_of : (x y : ℕ) → IsTrue (has_pixel r x y) → (k : ℕ) × (k < tiles_met g r) × (met_tile g r k ≡ tile_at g x y)
+  met_of : (x y : ℕ) → IsTrue (has_pixel r x y) → (k : ℕ) × (k < count_met g r) × (met_tile g r k ≡ tile_at g x y)
   met_of x y h = let b = box_says r x y h in met_at x y b.0 b.1 b.2 b.3
 
   pub before_first : (x y : ℕ) → IsTrue (has_pixel r x y) → nat_lt (tile_at g x y) (met_tile g r 0) ≡ false
   before_first x y h = let u = met_of x y h in not_below (tile_at g x y) (met_tile g r 0) (rw u.2 at (met_up 0 u.0 (omega arith)))
 
-  pub before_end : (x y : ℕ) → IsTrue (has_pixel r x y) → nat_lt (tile_at g x y) (met_tile g r (tiles_met g r)) ≡ true
-  before_end x y h = let u = met_of x y h in is_below (tile_at g x y) (met_tile g r (tiles_met g r)) (rw u.2 at (met_rises u.0 (tiles_met g r) u.1))
+  pub before_end : (x y : ℕ) → IsTrue (has_pixel r x y) → nat_lt (tile_at g x y) (met_tile g r (count_met g r)) ≡ true
+  before_end x y h = let u = met_of x y h in is_below (tile_at g x y) (met_tile g r (count_met g r)) (rw u.2 at (met_rises u.0 (count_met g r) u.1))
 
   pub before_next : (k x y : ℕ) → IsTrue (has_pixel r x y) → nat_lt (tile_at g x y) (met_tile g r (k + 1)) ≡ (nat_lt (tile_at g x y) (met_tile g r k) || (tile_at g x y == met_tile g r k))
   before_next k x y h =
@@ -182,9 +182,21 @@ module _ (g : Tiling) (r : Rect) (is : IsRectIn g.width g.height r) where
         new : slice_index (ts ++ (met_tile g r k ∷ [])) (length ts) ≡ met_tile g r k
         new = get_or_push ts (met_tile g r k) 0 (length ts) refl
 
+  -- ---- all of them
+  pub met_all : (ts : List ℕ) → AreListed g r (λ t. true) (count_met g r) ts → AreMet g r ts
+  met_all ts l = record {
+    rising = l.rising;
+    exist = λ i m. (let n = at i m in let t = tiles_are_numbered g n.0 n.1 n.2 n.3 in omega (arith, t, n.5));
+    met = at;
+    all = λ t n. (let u = met_of n.0 n.1 n.4 in let a = l.all u.0 u.1 refl in (a.0, a.1, a.2 ∙ u.2 ∙ n.5));
+  }
+    where
+      at : (i : ℕ) → i < length ts → Meets g r (slice_index ts i)
+      at i m = (let u = l.each i m in rw u.2 (met_meets u.0 u.1))
+
   -- ---- the tiles in which an edit changes a pixel
   module _ (mask : Field Bool) (e : Edit) (same : r ≡ rect_of e) where
-    pub listed_all : (ts : List ℕ) → AreListed g r (differ_in g mask (edited e mask)) (tiles_met g r) ts → AreChanged g mask (edited e mask) ts
+    pub listed_all : (ts : List ℕ) → AreListed g r (differ_in g mask (edited e mask)) (count_met g r) ts → AreChanged g mask (edited e mask) ts
     listed_all ts l = record {
       rising = l.rising;
       exist = λ i m. (

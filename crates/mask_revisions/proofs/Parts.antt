@@ -12,7 +12,8 @@ use Rattle.raster_model.specs.Masks.{open_at, IsMaskOf}
 use Rattle.raster_model.specs.Scripts.{IsRectIn, rect_of}
 use Rattle.raster_model.specs.Tiles.{tile_at, IsWindowOf, IsWithin}
 use Rattle.mask_revisions.specs.Edits.{has_pixel, opens, edited, differ_in}
-use Rattle.mask_revisions.specs.Steps.{IsAll, HasOther, IsBoxSet, IsPartOf, Meets, edited_before, met_tile, tiles_met}
+use Rattle.mask_revisions.specs.Revisions.{Meets}
+use Rattle.mask_revisions.specs.Steps.{IsAll, HasOther, IsBoxSet, IsPartOf, edited_before, met_tile, count_met}
 use Rattle.mask_revisions.proofs.Boxes.{same_box}
 use Rattle.mask_revisions.proofs.Differences.{box_has, box_says, chosen, chosen_from, differ_from, differ_tells}
 use Rattle.mask_revisions.proofs.MetTiles.{before_first, before_next, before_end}
@@ -74,11 +75,11 @@ module _ (g : Tiling) (e : Edit) (is : IsRectIn g.width g.height (rect_of e)) (m
     clear_at = λ x y l n. sym (none_before (has_pixel (rect_of e) x y) (nat_lt (tile_at g x y) (met_tile g (rect_of e) 0)) (opens e) (open_at m x y) (before_first g (rect_of e) is x y));
   }
 
-  pub edited_all : (m' : MaskView) → IsMaskOf m' m.width m.height (edited_before g (met_tile g (rect_of e) (tiles_met g (rect_of e))) e (open_at m)) → IsMaskOf m' m.width m.height (edited e (open_at m))
+  pub edited_all : (m' : MaskView) → IsMaskOf m' m.width m.height (edited_before g (met_tile g (rect_of e) (count_met g (rect_of e))) e (open_at m)) → IsMaskOf m' m.width m.height (edited e (open_at m))
   edited_all m' before = record {
     width = before.width;
     height = before.height;
-    clear_at = λ x y l n. before.clear_at x y l n ∙ all_before (has_pixel (rect_of e) x y) (nat_lt (tile_at g x y) (met_tile g (rect_of e) (tiles_met g (rect_of e)))) (opens e) (open_at m x y) (before_end g (rect_of e) is x y);
+    clear_at = λ x y l n. before.clear_at x y l n ∙ all_before (has_pixel (rect_of e) x y) (nat_lt (tile_at g x y) (met_tile g (rect_of e) (count_met g (rect_of e)))) (opens e) (open_at m x y) (before_end g (rect_of e) is x y);
   }
 
   module _ (w : m.width ≡ g.width) (h : m.height ≡ g.height) (m' : MaskView) (k : ℕ) (before : IsMaskOf m' m.width m.height (edited_before g (met_tile g (rect_of e) k) e (open_at m))) (part : Rect) (part_of : IsPartOf g (rect_of e) (met_tile g (rect_of e) k) part) where

@@ -1,12 +1,13 @@
 -- Revisions that belong to a first mask and a list of edits.
 use Rattle.std.specs.Prelude.{◌≡◌, ℕ, ◌+◌, ◌*◌, ◌<◌, Bool, IsTrue, if◌then◌else◌, List, length, slice_index, slice_index_or}
 use Rattle.raster_model.specs.declared.script.Edit.{Edit}
+use Rattle.raster_model.specs.declared.script.Rect.{Rect}
 use Rattle.raster_model.specs.declared.tiling.Tiling.{Tiling}
 use Rattle.raster_model.specs.declared.tiling.Window.{Window}
 use Rattle.raster_model.specs.Masks.{open_at, IsMaskOf}
 use Rattle.raster_model.specs.Sums.{Field}
-use Rattle.raster_model.specs.Tiles.{IsWithin, height_of, place_in, tiles_of, width_of}
-use Rattle.mask_revisions.specs.Edits.{edited, mask_after, differ_in, stamp_of}
+use Rattle.raster_model.specs.Tiles.{IsWithin, height_of, place_in, tile_at, tiles_of, width_of}
+use Rattle.mask_revisions.specs.Edits.{edited, has_pixel, mask_after, differ_in, stamp_of}
 use Rattle.mask_revisions.specs.RevisionsView.{RevisionsView}
 
 -- the revisions are those of a first mask and these edits
@@ -28,6 +29,17 @@ pub record AreChanged (g : Tiling) (old new : Field Bool) (tiles : List ℕ) : T
   pub exist : (i : ℕ) → i < length tiles → slice_index tiles i < tiles_of g
   pub changed : (i : ℕ) → i < length tiles → IsTrue (differ_in g old new (slice_index tiles i))
   pub all : (t : ℕ) → t < tiles_of g → IsTrue (differ_in g old new t) → (i : ℕ) × (i < length tiles) × (slice_index tiles i ≡ t)
+
+-- a pixel of the box lies in the tile
+abbrev pub Meets : Tiling → Rect → ℕ → Type 0
+Meets g r t = (x : ℕ) × (y : ℕ) × (x < g.width) × (y < g.height) × IsTrue (has_pixel r x y) × (tile_at g x y ≡ t)
+
+-- the list has exactly the tiles in which a pixel of the box lies, and each once, in order
+pub record AreMet (g : Tiling) (r : Rect) (tiles : List ℕ) : Type 0 where
+  pub rising : (i j : ℕ) → i < j → j < length tiles → slice_index tiles i < slice_index tiles j
+  pub exist : (i : ℕ) → i < length tiles → slice_index tiles i < tiles_of g
+  pub met : (i : ℕ) → i < length tiles → Meets g r (slice_index tiles i)
+  pub all : (t : ℕ) → Meets g r t → (i : ℕ) × (i < length tiles) × (slice_index tiles i ≡ t)
 
 -- the list says of each pixel of a window, in row order, whether it is open
 pub record IsWindowMask (v : Window) (mask : Field Bool) (list : List Bool) : Type 0 where

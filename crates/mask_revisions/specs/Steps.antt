@@ -27,10 +27,6 @@ IsAll mask x0 x1 y0 y1 unmasked = (x y : ℕ) → x0 ≤ x → x < x1 → y0 ≤
 abbrev pub HasOther : Field Bool → ℕ → ℕ → ℕ → ℕ → Bool → Type 0
 HasOther mask x0 x1 y0 y1 unmasked = (x : ℕ) × (y : ℕ) × (x0 ≤ x) × (x < x1) × (y0 ≤ y) × (y < y1) × (mask x y ≢ unmasked)
 
--- a pixel of the box lies in the tile
-abbrev pub Meets : Tiling → Rect → ℕ → Type 0
-Meets g r t = (x : ℕ) × (y : ℕ) × (x < g.width) × (y < g.height) × IsTrue (has_pixel r x y) × (tile_at g x y ≡ t)
-
 -- the part has exactly the pixels of the box that lie in the tile
 pub record IsPartOf (g : Tiling) (r : Rect) (t : ℕ) (part : Rect) : Type 0 where
   pub inside : IsRectIn g.width g.height part
@@ -44,8 +40,8 @@ edited_before g t e mask x y = if has_pixel (rect_of e) x y && nat_lt (tile_at g
 abbrev pub met_across : Tiling → Rect → ℕ
 met_across g r = r.x1 / g.side - r.x0 / g.side + 1
 
-abbrev pub tiles_met : Tiling → Rect → ℕ
-tiles_met g r = (r.y1 / g.side - r.y0 / g.side + 1) * met_across g r
+abbrev pub count_met : Tiling → Rect → ℕ
+count_met g r = (r.y1 / g.side - r.y0 / g.side + 1) * met_across g r
 
 abbrev pub met_tile : Tiling → Rect → ℕ → ℕ
 met_tile g r k = (r.y0 / g.side + k / met_across g r) * columns_of g + (r.x0 / g.side + k % met_across g r)
@@ -55,6 +51,10 @@ pub record AreListed (g : Tiling) (r : Rect) (p : ℕ → Bool) (k : ℕ) (tiles
   pub rising : (i j : ℕ) → i < j → j < length tiles → slice_index tiles i < slice_index tiles j
   pub each : (i : ℕ) → i < length tiles → (j : ℕ) × (j < k) × (slice_index tiles i ≡ met_tile g r j) × IsTrue (p (met_tile g r j))
   pub all : (j : ℕ) → j < k → IsTrue (p (met_tile g r j)) → (i : ℕ) × (i < length tiles) × (slice_index tiles i ≡ met_tile g r j)
+
+-- the test that every tile passes
+abbrev pub any_tile : ℕ → Bool
+any_tile t = Bool.true
 
 -- the first n tiles of a list have a new stamp, and the stamps of the others are as they were
 pub record AreStamped (old new tiles : List ℕ) (n stamp : ℕ) : Type 0 where

@@ -1,18 +1,19 @@
 ghost use Rattle.mask_revisions.specs.Edits.{edited};
-ghost use Rattle.mask_revisions.specs.Revisions.{AreChanged};
-ghost use Rattle.mask_revisions.specs.Steps.{AreStamped, IsPartOf, Meets, met_across, tiles_met};
+ghost use Rattle.mask_revisions.specs.Revisions.{AreChanged, AreMet, Meets};
+ghost use Rattle.mask_revisions.specs.Steps.{AreStamped, IsPartOf, count_met as met_in, met_across, met_tile};
 ghost use Rattle.raster_model.specs.Masks.{IsMaskOf, open_at};
 ghost use Rattle.raster_model.specs.Scripts.{IsRectIn, rect_of as box_of};
 ghost use Rattle.raster_model.specs.Tiles.{tiles_of};
-ghost use Rattle.std.specs.Prelude.{◌≡◌, ℕ, ◌<◌, ◌≤◌, [], length, slice_index, vec_capacity};
+ghost use Rattle.std.specs.Prelude.{◌≡◌, ℕ, ◌<◌, ◌≤◌, [], IfOk, length, slice_index, vec_capacity};
 
 use crate::edits::{opens, rect_of, set_box};
 use raster_model::{Edit, Mask, Rect, Tiling};
+use std::alloc::{AllocError, Global};
 
 /// How many tiles an edit's box meets.
 pub fn count_met(tiling: &Tiling, edit: Edit) -> u32
     requires { IsRectIn tiling.now.width tiling.now.height (box_of edit) }
-    ensures { result ≡ tiles_met tiling.now (box_of edit) }
+    ensures { result ≡ met_in tiling.now (box_of edit) }
 {
     let rect = rect_of(edit);
     (rect.y1 / tiling.side - rect.y0 / tiling.side + 1) * columns_met(tiling, rect)
@@ -26,6 +27,34 @@ fn columns_met(tiling: &Tiling, rect: Rect) -> u32
     rect.x1 / tiling.side - rect.x0 / tiling.side + 1
 }
 
+/// The tile at a place, from 0, of those that an edit's box meets, row by row.
+fn tile_met(tiling: &Tiling, edit: Edit, place: u32) -> u32
+    requires rect { IsRectIn tiling.now.width tiling.now.height (box_of edit) }
+    requires place { place < met_in tiling.now (box_of edit) }
+    ensures value { result ≡ met_tile tiling.now (box_of edit) place }
+    ensures meets { Meets tiling.now (box_of edit) result }
+    ensures exists { result < tiles_of tiling.now }
+{
+    let rect = rect_of(edit);
+    let across = columns_met(tiling, rect);
+    let column = rect.x0 / tiling.side + place % across;
+    let row = rect.y0 / tiling.side + place / across;
+    tiling.tile_of(column * tiling.side, row * tiling.side)
+}
+
+/// The tiles that an edit's box meets, in order. It fails for want of memory alone.
+pub fn tiles_met(alloc: Global, tiling: &Tiling, edit: Edit) -> Result<Vec<u32>, AllocError>
+    requires { IsRectIn tiling.now.width tiling.now.height (box_of edit) }
+    ensures { IfOk result (λ tiles. AreMet tiling.now (box_of edit) tiles.items) }
+{
+    let count = count_met(tiling, edit);
+    let mut tiles = Vec::with_capacity(alloc, count as usize)?;
+    for place in 0..count {
+        tiles.push(tile_met(tiling, edit, place))?;
+    }
+    Ok(tiles)
+}
+
 /// Applies an edit tile by tile, and lists the tiles in which a pixel changed, in order. The list has room for
 /// each tile that the edit's box meets.
 pub fn set_tiles(mask: &mut Mask, tiling: &Tiling, edit: Edit, tiles: &mut Vec<u32>)
@@ -33,18 +62,13 @@ pub fn set_tiles(mask: &mut Mask, tiling: &Tiling, edit: Edit, tiles: &mut Vec<u
     requires along { mask.old.height ≡ tiling.now.height }
     requires rect { IsRectIn tiling.now.width tiling.now.height (box_of edit) }
     requires none { tiles.old.items ≡ [] }
-    requires room { tiles_met tiling.now (box_of edit) ≤ vec_capacity tiles.old }
+    requires room { met_in tiling.now (box_of edit) ≤ vec_capacity tiles.old }
     ensures mask { IsMaskOf mask.new mask.old.width mask.old.height (edited edit (open_at mask.old)) }
     ensures changed { AreChanged tiling.now (open_at mask.old) (edited edit (open_at mask.old)) tiles.new.items }
 {
     let rect = rect_of(edit);
-    let left = rect.x0 / tiling.side;
-    let top = rect.y0 / tiling.side;
-    let across = columns_met(tiling, rect);
     for place in 0..count_met(tiling, edit) {
-        let column = left + place % across;
-        let row = top + place / across;
-        let tile = tiling.tile_of(column * tiling.side, row * tiling.side);
+        let tile = tile_met(tiling, edit, place);
         if set_box(mask, part_in(tiling, rect, tile), opens(edit)) {
             tiles.push_reserved(tile);
         }

@@ -7,4 +7,5 @@ mod edits;
 pub mod laws;
 mod revisions;
 
+pub use crate::changes::tiles_met;
 pub use crate::revisions::Revisions;

@@ -1,6 +1,8 @@
 pub mod ListLemmas
+pub mod KeyLemmas
 pub mod HistoryLemmas
 pub mod PlaceLemmas
+pub mod LackingLemmas
 pub mod SharedLemmas
 pub mod StateLemmas
 pub mod HeldLemmas

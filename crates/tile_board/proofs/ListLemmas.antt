@@ -1,7 +1,7 @@
 -- Lists with one more element, by places.
 use Rattle.std.proofs.Common.{◌≡◌, ◌≢◌, ℕ, zero, suc, ◌-◌, ◌<◌, ◌≤◌, ◌⊎◌, inl, inr, sym, ap, refl, subst, arith, List, [], ◌∷◌, ◌++◌, length, take}
 use Rattle.std.proofs.lemmas.List.{length_push}
-use Rattle.std.specs.Prelude.{IfErr, IsErrAnd, Result, Ok, Err, Some, None, map, replicate, set, slice_get}
+use Rattle.std.specs.Prelude.{IfErr, IsErrAnd, OnErr, Result, Ok, Err, Some, None, map, replicate, set, slice_get}
 
 -- an element of a list with one more is one of the list, at the same place, or the one
 pub get_push : {A : Type 0} (xs : List A) (y : A) (n : ℕ) (z : A) → slice_get (xs ++ (y ∷ [])) n ≡ Some z → ((slice_get xs n ≡ Some z) × (take n (xs ++ (y ∷ [])) ≡ take n xs)) ⊎ ((y ≡ z) × (take n (xs ++ (y ∷ [])) ≡ xs))
@@ -105,3 +105,8 @@ none_below (x ∷ xs) (suc k) l e = none_below xs k (omega arith) e
 pub err_is : {T E : Type 0} (r : Result T E) (e : E) (P : E → Type 0) → IsErrAnd r (λ (f : E). f ≡ e) → P e → IfErr r P
 err_is (Ok x) e P h p = tt
 err_is (Err f) e P h p = subst P (sym h) p
+
+-- what holds anyway holds after an error
+pub on_err : {T E : Type 0} (r : Result T E) (P : Type 0) → P → OnErr r P
+on_err (Ok x) P p = tt
+on_err (Err f) P p = p

@@ -1,6 +1,6 @@
 -- Places of results: which have one, copies, and places that were emptied.
-use Rattle.std.proofs.Common.{◌≡◌, ◌≢◌, ℕ, ◌+◌, ◌<◌, ◌≤◌, inl, inr, sym, ◌∙◌, ap, refl, subst, arith, Bool, true, false, List, length}
-use Rattle.std.specs.Prelude.{Option, Some, None, MatchOption, is_some, set, slice_get, slice_index, ⊤}
+use Rattle.std.proofs.Common.{◌≡◌, ◌≢◌, ℕ, ◌+◌, ◌<◌, ◌≤◌, inl, inr, sym, ◌∙◌, ap, refl, subst, arith, true, false, List, length}
+use Rattle.std.specs.Prelude.{Option, Some, None, is_some, set, slice_get, slice_index}
 use Rattle.std.proofs.lemmas.Bool.{cases_eq}
 use Rattle.std.proofs.lemmas.List.{length-set}
 use Rattle.tile_board.specs.Places.{AreSet}
@@ -41,22 +41,6 @@ set_one_more old new places n value is inside = record {
 
 pub until_end : {A : Type 0} (kept : List (Option A)) (t : ℕ) → length kept ≤ t → ((u : ℕ) → u < t → HasResult kept u) → HaveResults kept
 until_end kept t l before u m = before u (omega (arith, l, m))
-
--- the least claimed so far
-abbrev pub IsFound : {A : Type 0} → List (Option A) → ℕ → Option ℕ → Type 0
-IsFound kept n found = MatchOption found ((u : ℕ) → u < n → HasResult kept u) (λ t. (t < n) × IsGap kept t)
-
-pub found_stays : {A : Type 0} (kept : List (Option A)) (n : ℕ) (found : Option ℕ) → IsFound kept n found → (found ≡ None → HasResult kept n) → IsFound kept (n + 1) found
-found_stays kept n None is here = results_on kept n is (here refl)
-found_stays kept n (Some t) is here = (omega (arith, is.0), is.1)
-
-pub found_here : {A : Type 0} (kept : List (Option A)) (n : ℕ) → IsGap kept n → IsFound kept (n + 1) (Some n)
-found_here kept n gap = (omega arith, gap)
-
--- where the place has no result and another tile is preferred, there is one
-pub none_found : (found : Option ℕ) (less : Bool) → MatchOption found (less ≡ true) (λ other. ⊤) → less ≡ false → found ≡ None → ⊥
-none_found None less is l n = cc
-none_found (Some t) less is l n = cc
 
 pub no_gap : {A : Type 0} (kept : List (Option A)) (t : ℕ) → HasResult kept t → IsGap kept t → ⊥
 no_gap kept t has gap = cc

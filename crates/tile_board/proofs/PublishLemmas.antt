@@ -23,6 +23,7 @@ use Rattle.tile_board.specs.BoardView.{BoardView}
 use Rattle.tile_board.specs.Calls.{ArePublishable, HasPublishFault, IsFresh, IsGathering}
 use Rattle.tile_board.specs.Causes.{building_cause}
 use Rattle.tile_board.specs.Histories.{AreAllKept, mask_in, now_of}
+use Rattle.tile_board.specs.Lacking.{LackingView}
 use Rattle.tile_board.specs.States.{HasSurfaceFault, IsState, view_of}
 use Rattle.tile_board.proofs.StateFacts.{kept_good}
 
@@ -39,7 +40,7 @@ pub built_cause : (v : BoardView) (seams : SeamResult) (p : Parts) (fault : Buil
 built_cause v seams p (Uncertified verdict) ready are is = (ready, is.0, p, are, is.1)
 built_cause v seams p Memory ready are is = ready
 
-module _ {s : Session} {H : List Entry} {kept : List (Option TileResult)} {surfaces : List Parts} {held : RevisionsView} {tallies marks : List ℕ} {last : Option ℕ} (state : IsState (view_of s H kept surfaces) held tallies marks last) (seams : SeamResult) (p : Parts) (are : ArePublishable (view_of s H kept surfaces) seams p) where
+module _ {s : Session} {H : List Entry} {kept : List (Option TileResult)} {surfaces : List Parts} {held : RevisionsView} {waiting : LackingView} {marks : List ℕ} {last : Option ℕ} (state : IsState (view_of s H kept surfaces) held waiting marks last) (seams : SeamResult) (p : Parts) (are : ArePublishable (view_of s H kept surfaces) seams p) where
   good_parts : AreGoodTiles s.scene (open_in p) p.tiles.results
   good_parts = kept_good state (open_in p) (λ x y a b. are.mask.clear_at x y (rw (sym s.scene.same_width.1) a) (rw (sym s.scene.same_height.1) b)) p.tiles.results are.tiles.results
 

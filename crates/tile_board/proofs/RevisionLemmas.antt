@@ -16,11 +16,12 @@ use Rattle.tile_board.specs.declared.entry.Entry.TheVariants.{Revised}
 use Rattle.tile_board.specs.Calls.{IsRevision}
 use Rattle.tile_board.specs.Histories.{edits_of, next_command, present_mask}
 use Rattle.tile_board.specs.Places.{AreSet}
+use Rattle.tile_board.specs.Lacking.{LackingView}
 use Rattle.tile_board.specs.States.{IsState, view_of}
 use Rattle.tile_board.proofs.HeldLemmas.{differ_told}
 use Rattle.sums_and_lists.proofs.Tests.{true_and_false}
 
-module _ {s : Session} {H : List Entry} {kept : List (Option TileResult)} {surfaces : List Parts} {held : RevisionsView} {tallies marks : List ℕ} {last : Option ℕ} (state : IsState (view_of s H kept surfaces) held tallies marks last) (a : ℕ) (edit : Edit) (new : RevisionsView) (tiling : new.tiling ≡ held.tiling) (revisions : AreRevisionsOf (open_at s.first_mask) (edits_of H ++ (edit ∷ [])) new) where
+module _ {s : Session} {H : List Entry} {kept : List (Option TileResult)} {surfaces : List Parts} {held : RevisionsView} {waiting : LackingView} {marks : List ℕ} {last : Option ℕ} (state : IsState (view_of s H kept surfaces) held waiting marks last) (a : ℕ) (edit : Edit) (new : RevisionsView) (tiling : new.tiling ≡ held.tiling) (revisions : AreRevisionsOf (open_at s.first_mask) (edits_of H ++ (edit ∷ [])) new) where
   differ_there : (t : ℕ) → differ_in s.scene.tiling (open_at held.mask) (open_at new.mask) t ≡ differ_in s.scene.tiling (present_mask s H) (present_mask s (H ++ (Revised a edit ∷ []))) t
   differ_there = differ_told state.past a edit new tiling revisions
 

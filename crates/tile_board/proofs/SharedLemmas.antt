@@ -37,10 +37,6 @@ module _ (items : List (Option Shared)) where
   first_found None m = all_held m
   first_found (Some t) m = (gap_held t m.0, λ u l. has_held u (m.1 u l))
 
-  pub gap_found : (found : Option ℕ) → MatchOption found (HaveResults items) (IsGap items) → MatchOption found (HaveResults (held_results items)) (IsGap (held_results items))
-  gap_found None m = all_held m
-  gap_found (Some t) m = gap_held t m
-
   -- what stands at a place tells whether the tile has a result
   pub told : (t : ℕ) (place : Option Shared) (answer : Bool) → t < length items → place ≡ get_or items t place → answer ≡ is_some place → MatchBool answer (HasResult (held_results items) t) (IsGap (held_results items) t)
   told t None answer l e f = rw f (gap_held t (slice_get_read items (length items) t None refl l e))

@@ -23,6 +23,7 @@ use Rattle.tile_board.specs.Boards.{IsSurfaceOf}
 use Rattle.tile_board.specs.BoardView.{BoardView}
 use Rattle.tile_board.specs.Calls.{HasAdvanceFault}
 use Rattle.tile_board.specs.Histories.{IsStep, edit_of, edits_of, keeps, names, next_command, present_mask, published_of}
+use Rattle.tile_board.specs.Lacking.{AreLackingIn, LackingView}
 use Rattle.tile_board.specs.States.{IsAlone, IsState, view_of}
 use Rattle.tile_board.proofs.HeldLemmas.{cursor_room, cursor_there, tells_done, tells_on, tells_published, tells_revised}
 use Rattle.tile_board.proofs.HistoryLemmas.{legal_push}
@@ -75,16 +76,20 @@ revised_refused v a edit Memory next = (Revised a edit, next, names_itself a, re
 pub alone_refused : (v : BoardView) (a : ℕ) (e : Entry) (fault : AdvanceFault) → IsStep v.session v.entries e → IsAlone a e → HasAdvanceFault v a fault
 alone_refused v a e Memory step alone = (e, step, alone_names e a alone a ∙ names_itself a, alone_published e a alone)
 
-module _ {s : Session} {H : List Entry} {kept : List (Option TileResult)} {surfaces : List Parts} {held : RevisionsView} {tallies marks : List ℕ} {last : Option ℕ} (state : IsState (view_of s H kept surfaces) held tallies marks last) where
-  pub state_keep : (k : TileResult) (entries : List Entry) → entries ≡ H ++ (Kept k.tile k.stamp ∷ []) → IsStep s H (Kept k.tile k.stamp) → IsGoodTile s.scene (present_mask s H) k → IsState (view_of s entries (set kept k.tile (Some k)) surfaces) held tallies marks last
-  state_keep k entries e step good = rw e (record {
+module _ {s : Session} {H : List Entry} {kept : List (Option TileResult)} {surfaces : List Parts} {held : RevisionsView} {waiting : LackingView} {marks : List ℕ} {last : Option ℕ} (state : IsState (view_of s H kept surfaces) held waiting marks last) where
+  -- other keys of the same tiles
+  pub state_claimed : (waiting' : LackingView) → AreLackingIn kept waiting' → IsState (view_of s H kept surfaces) held waiting' marks last
+  state_claimed waiting' lacking = record { board = state.board; past = state.past; lacking = lacking }
+
+  pub state_keep : (k : TileResult) (entries : List Entry) (waiting' : LackingView) → entries ≡ H ++ (Kept k.tile k.stamp ∷ []) → IsStep s H (Kept k.tile k.stamp) → IsGoodTile s.scene (present_mask s H) k → AreLackingIn (set kept k.tile (Some k)) waiting' → IsState (view_of s entries (set kept k.tile (Some k)) surfaces) held waiting' marks last
+  state_keep k entries waiting' e step good lacking = rw e (record {
     board = record {
       legal = legal_push s H (Kept k.tile k.stamp) state.board.legal step;
       kept = kept_keep s H k kept step.1 good state.board.kept;
       surfaces = surfaces_on s H (Kept k.tile k.stamp) surfaces refl state.board.surfaces;
     };
     past = tells_on state.past (Kept k.tile k.stamp) refl refl (λ b. refl);
-    claims = state.claims;
+    lacking = lacking;
   })
 
   -- ---- the cursor of an analyst with a next command, as it is read
@@ -95,7 +100,7 @@ module _ {s : Session} {H : List Entry} {kept : List (Option TileResult)} {surfa
   cursor_small a c x n e = omega (arith, cursor_room state.past state.board.legal a c n, cursor_is_read a c x n e)
 
   -- ---- an entry that changes nothing else
-  pub state_alone : (e : Entry) (a : ℕ) (x : ℕ) (entries : List Entry) → entries ≡ H ++ (e ∷ []) → IsStep s H e → IsAlone a e → x ≡ get_or marks (a - 1) x → IsState (view_of s entries kept surfaces) held tallies (set marks (a - 1) (x + 1)) last
+  pub state_alone : (e : Entry) (a : ℕ) (x : ℕ) (entries : List Entry) → entries ≡ H ++ (e ∷ []) → IsStep s H e → IsAlone a e → x ≡ get_or marks (a - 1) x → IsState (view_of s entries kept surfaces) held waiting (set marks (a - 1) (x + 1)) last
   state_alone e a x entries q step alone r =
       let n = alone_edit e a alone in
       let p = alone_published e a alone in
@@ -106,23 +111,23 @@ module _ {s : Session} {H : List Entry} {kept : List (Option TileResult)} {surfa
           surfaces = surfaces_on s H e surfaces p state.board.surfaces;
         };
         past = (let next = alone_next s H e a step alone in rw (cursor_is_read a next.0 x next.1 r) (tells_done state.past e a next.0 next.1 n p (alone_names e a alone)));
-        claims = state.claims;
+        lacking = state.lacking;
       })
 
   -- ---- a revision
-  pub state_revised : (a : ℕ) (edit : Edit) (x : ℕ) (entries : List Entry) (kept' : List (Option TileResult)) (new : RevisionsView) (tallies' : List ℕ) → entries ≡ H ++ (Revised a edit ∷ []) → next_command s H a ≡ Some (Change edit) → x ≡ get_or marks (a - 1) x → new.tiling ≡ held.tiling → AreRevisionsOf (open_at s.first_mask) (edits_of H ++ (edit ∷ [])) new → length tallies' ≡ length tallies → length kept' ≡ length kept → ((t : ℕ) → t < tiles_of s.scene.tiling → slice_get kept' t ≡ (if differ_in s.scene.tiling (present_mask s H) (present_mask s (H ++ (Revised a edit ∷ []))) t then Some None else slice_get kept t)) → IsState (view_of s entries kept' surfaces) new tallies' (set marks (a - 1) (x + 1)) last
-  state_revised a edit x entries kept' new tallies' q n r tiling revisions claims count places = rw q (record {
+  pub state_revised : (a : ℕ) (edit : Edit) (x : ℕ) (entries : List Entry) (kept' : List (Option TileResult)) (new : RevisionsView) (waiting' : LackingView) → entries ≡ H ++ (Revised a edit ∷ []) → next_command s H a ≡ Some (Change edit) → x ≡ get_or marks (a - 1) x → new.tiling ≡ held.tiling → AreRevisionsOf (open_at s.first_mask) (edits_of H ++ (edit ∷ [])) new → AreLackingIn kept' waiting' → length kept' ≡ length kept → ((t : ℕ) → t < tiles_of s.scene.tiling → slice_get kept' t ≡ (if differ_in s.scene.tiling (present_mask s H) (present_mask s (H ++ (Revised a edit ∷ []))) t then Some None else slice_get kept t)) → IsState (view_of s entries kept' surfaces) new waiting' (set marks (a - 1) (x + 1)) last
+  state_revised a edit x entries kept' new waiting' q n r tiling revisions lacking count places = rw q (record {
     board = record {
       legal = legal_push s H (Revised a edit) state.board.legal n;
       kept = kept_revised s H a edit kept kept' state.board.legal count places state.board.kept;
       surfaces = surfaces_on s H (Revised a edit) surfaces refl state.board.surfaces;
     };
     past = rw (cursor_is_read a (Change edit) x n r) (tells_revised state.past a edit new tiling revisions n);
-    claims = claims ∙ state.claims;
+    lacking = lacking;
   })
 
   -- ---- a publication
-  pub state_published : (a r x : ℕ) (entries : List Entry) (surfaces' : List Parts) (p : Parts) → entries ≡ H ++ (Published a r ∷ []) → surfaces' ≡ surfaces ++ (p ∷ []) → IsStep s H (Published a r) → p.seams.revision ≡ r → IsSurfaceOf s H p → x ≡ get_or marks (a - 1) x → IsState (view_of s entries kept surfaces') held tallies (set marks (a - 1) (x + 1)) (Some r)
+  pub state_published : (a r x : ℕ) (entries : List Entry) (surfaces' : List Parts) (p : Parts) → entries ≡ H ++ (Published a r ∷ []) → surfaces' ≡ surfaces ++ (p ∷ []) → IsStep s H (Published a r) → p.seams.revision ≡ r → IsSurfaceOf s H p → x ≡ get_or marks (a - 1) x → IsState (view_of s entries kept surfaces') held waiting (set marks (a - 1) (x + 1)) (Some r)
   state_published a r x entries surfaces' p q w step e is y = rw (q, w) (record {
     board = record {
       legal = legal_push s H (Published a r) state.board.legal step;
@@ -130,5 +135,5 @@ module _ {s : Session} {H : List Entry} {kept : List (Option TileResult)} {surfa
       surfaces = surfaces_push s H a r surfaces p e is state.board.surfaces;
     };
     past = rw (cursor_is_read a Settle x step.0 y) (tells_published state.past a r step.0);
-    claims = state.claims;
+    lacking = state.lacking;
   })

@@ -2,6 +2,7 @@ pub mod Histories
 pub mod BoardView
 pub mod Boards
 pub mod Calls
+pub mod Lacking
 pub mod Runs
 pub mod Causes
 pub mod States

@@ -5,7 +5,6 @@ use Rattle.std.specs.declared.alloc.Global.{Global}
 use Rattle.std.specs.declared.sync.Arc.{Arc}
 use Rattle.raster_model.specs.declared.session.Session.{Session}
 use Rattle.raster_model.specs.Masks.{open_at}
-use Rattle.raster_model.specs.Tiles.{tiles_of}
 use Rattle.certificates.specs.declared.results.SeamResult.{SeamResult}
 use Rattle.certificates.specs.declared.results.TileResult.{TileResult}
 use Rattle.certificates.specs.declared.verdicts.SeamVerdict.TheVariants.{Good}
@@ -20,6 +19,7 @@ use Rattle.tile_board.specs.declared.entry.Entry.TheVariants.{Revised, Kept, Pub
 use Rattle.tile_board.specs.Boards.{IsBoard}
 use Rattle.tile_board.specs.BoardView.{BoardView}
 use Rattle.tile_board.specs.Calls.{ArePublishable}
+use Rattle.tile_board.specs.Lacking.{AreLackingIn, LackingView}
 use Rattle.tile_board.specs.Histories.{AreAllKept, IsLeastLacking, done_by, edits_of, newest_of, now_of}
 
 abbrev pub view_of : Session → List Entry → List (Option TileResult) → List Parts → BoardView
@@ -38,10 +38,10 @@ pub record TellsHistory (s : Session) (H : List Entry) (held : RevisionsView) (m
   pub cursors : AreCursors s H marks
   pub newest : last ≡ newest_of H
 
-pub record IsState (v : BoardView) (held : RevisionsView) (tallies marks : List ℕ) (last : Option ℕ) : Type 0 where
+pub record IsState (v : BoardView) (held : RevisionsView) (waiting : LackingView) (marks : List ℕ) (last : Option ℕ) : Type 0 where
   pub board : IsBoard v
   pub past : TellsHistory v.session v.entries held marks last
-  pub claims : length tallies ≡ tiles_of v.session.scene.tiling
+  pub lacking : AreLackingIn v.kept waiting
 
 -- the results that are shared, where there are some
 abbrev pub held_results : List (Option (Arc TileResult Global)) → List (Option TileResult)

@@ -3,10 +3,11 @@ use crate::cursors::{all_ended, command_at, cursor_of};
 use crate::entry::Entry;
 use crate::gathered::Gathered;
 use crate::kept::{KeptResults, share};
-use crate::places::{push_within, set_all};
+use crate::lacking::LackingTiles;
+use crate::places::push_within;
 use crate::ticket::Ticket;
 use certificates::{SeamResult, TileResult, TileSet, TileVerdict, check_tile};
-use mask_revisions::Revisions;
+use mask_revisions::{Revisions, tiles_met};
 use raster_model::{Command, Edit, Session};
 use seam_regions::Regions;
 use std::alloc::{AllocError, Global};
@@ -20,8 +21,7 @@ pub struct Board {
     session: Arc<Session>,
     revisions: Revisions,
     kept: KeptResults,
-    /// How often a tile was claimed at its stamp, by tile.
-    claims: Vec<u32>,
+    lacking: LackingTiles,
     /// How many commands were done, by analyst; the first is analyst 1.
     cursors: Vec<u32>,
     newest: Option<u32>,
@@ -41,7 +41,7 @@ impl Model for Board {
 
     ghost view = { λ b. view_of (arc_value b.session) b.entries.items b.kept (map parts_of b.snapshots.items) };
 
-    ghost invariant = { λ b. IsState (view_of (arc_value b.session) b.entries.items b.kept (map parts_of b.snapshots.items)) b.revisions b.claims.items b.cursors.items b.newest };
+    ghost invariant = { λ b. IsState (view_of (arc_value b.session) b.entries.items b.kept (map parts_of b.snapshots.items)) b.revisions b.lacking b.cursors.items b.newest };
 }
 
 impl Board {
@@ -93,13 +93,13 @@ impl Board {
         let first = session.first_mask.try_copy(alloc)?;
         let revisions = Revisions::new(alloc, first, tiling)?;
         let kept = KeptResults::none(alloc, tiles)?;
-        let claims = vec![in alloc; 0; tiles as usize]?;
+        let lacking = LackingTiles::all(alloc, tiles)?;
         let cursors = vec![in alloc; 0; session.scripts.len()]?;
         Ok(Board {
             session,
             revisions,
             kept,
-            claims,
+            lacking,
             cursors,
             newest: None,
             entries: Vec::new(alloc),
@@ -114,12 +114,12 @@ impl Board {
         ensures refused { IfErr result (HasClaimFault self.old) }
         ensures unchanged { self.new ≡ self.old }
     {
-        let Some(tile) = self.kept.least_claimed(&self.claims) else {
+        let Some(tile) = self.lacking.first() else {
             return Err(ClaimFault::NoJob);
         };
         let unmasked = self.revisions.window_mask(alloc, tile)?;
         let session = self.session.clone()?;
-        self.claims[tile as usize] = self.claims[tile as usize].saturating_add(1);
+        self.lacking.claim(tile)?;
         Ok(Ticket {
             session,
             tile,
@@ -144,6 +144,7 @@ impl Board {
         let shared = share(alloc, solved)?;
         push_within(&mut self.entries, entry);
         self.kept.keep(tile, shared);
+        self.lacking.take_out(tile);
         Ok(())
     }
 
@@ -334,9 +335,15 @@ impl Board {
         ensures unchanged { OnErr result (self.new ≡ self.old) }
     {
         self.entries.reserve(1)?;
-        let tiles = self.revisions.push(alloc, edit)?;
+        let met = tiles_met(alloc, &self.session.scene.tiling, edit)?;
+        self.lacking.add_fresh(&met, &self.kept)?;
+        let Ok(tiles) = self.revisions.push(alloc, edit) else {
+            self.lacking.tidy(&met, &self.kept);
+            return Err(AdvanceFault::Memory);
+        };
         self.kept.empty(&tiles);
-        set_all(&mut self.claims, &tiles, 0);
+        self.lacking.restart(&tiles);
+        self.lacking.tidy(&met, &self.kept);
         push_within(&mut self.entries, Entry::Revised { analyst, edit });
         self.cursors[analyst as usize - 1] += 1;
         Ok(Advance::Revised(self.revisions.count()))

@@ -3,7 +3,7 @@ ghost use Rattle.std.specs.Arc.{arc_value};
 ghost use Rattle.std.specs.Prelude.{◌≡◌, IfOk, Some, map};
 ghost use Rattle.tile_board.specs.States.{HaveResults, held_results};
 
-use crate::places::{empty, first_gap, least_claimed, no_items};
+use crate::places::{empty, first_gap, no_items};
 use certificates::TileResult;
 use std::alloc::{AllocError, Global};
 use std::marker::Model;
@@ -70,15 +70,6 @@ impl KeptResults {
         ensures { MatchOption result (HaveResults self.now) (IsFirstGap self.now) }
     {
         first_gap(&self.results)
-    }
-
-    /// A tile that has no result, one that was claimed least often.
-    pub(crate) fn least_claimed(&self, claims: &[u32]) -> Option<u32>
-        requires few { length self.now < 2 ^ 32 }
-        requires claims { length claims.now ≡ length self.now }
-        ensures { MatchOption result (HaveResults self.now) (IsGap self.now) }
-    {
-        least_claimed(&self.results, claims)
     }
 
     /// All results, each shared once more.

@@ -9,6 +9,7 @@ mod cursors;
 mod entry;
 mod gathered;
 mod kept;
+mod lacking;
 pub mod laws;
 mod places;
 mod ticket;

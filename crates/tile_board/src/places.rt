@@ -28,33 +28,6 @@ pub fn first_gap<T>(kept: &[Option<T>]) -> Option<u32>
     None
 }
 
-/// A tile that has no result, one that was claimed least often.
-pub fn least_claimed<T>(kept: &[Option<T>], claims: &[u32]) -> Option<u32>
-    requires few { length kept.now < 2 ^ 32 }
-    requires claims { length claims.now ≡ length kept.now }
-    ensures { MatchOption result (HaveResults kept.now) (IsGap kept.now) }
-{
-    let mut found = None;
-    for (tile, place) in kept.iter().enumerate() {
-        if place.is_none() && is_claimed_less(claims, tile as u32, found) {
-            found = Some(tile as u32);
-        }
-    }
-    found
-}
-
-/// Whether a tile was claimed less often than another, where there is one.
-fn is_claimed_less(claims: &[u32], tile: u32, found: Option<u32>) -> bool
-    requires tile { tile < length claims.now }
-    requires found { IfSome found (λ other. other < length claims.now) }
-    ensures { MatchOption found (result ≡ Bool.true) (λ other. ⊤) }
-{
-    match found {
-        Some(other) => claims[tile as usize] < claims[other as usize],
-        None => true,
-    }
-}
-
 /// Takes the results of some tiles away.
 pub fn empty<T: Drop>(kept: &mut [Option<T>], tiles: &[u32])
     requires { (i : ℕ) → i < length tiles.now → slice_index tiles.now i < length kept.old }

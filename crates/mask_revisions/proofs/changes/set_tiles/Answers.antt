@@ -2,8 +2,8 @@ use Rattle.std.proofs.Common.{◌≡◌, ◌∙◌, ap, sym, refl, length, arith
 use Rattle.raster_model.specs.Masks.{open_at}
 use Rattle.raster_model.specs.Scripts.{rect_of}
 use Rattle.mask_revisions.specs.Edits.{differ_in, edited}
-use Rattle.mask_revisions.specs.Steps.{met_tile, tiles_met}
-use Rattle.mask_revisions.proofs.MetTiles.{met_left, met_top, met_is, met_meets, listed_none, listed_without, listed_with, listed_all}
+use Rattle.mask_revisions.specs.Steps.{met_tile, count_met}
+use Rattle.mask_revisions.proofs.MetTiles.{listed_none, listed_without, listed_with, listed_all}
 use Rattle.mask_revisions.proofs.Parts.{edited_all, edited_more, edited_none, part_tells}
 use Rattle.mask_revisions.proofs.changes.set_tiles.Goals as goal
 use Rattle.mask_revisions.proofs.changes.set_tiles.Goals.{then-set_box, else-set_box}
@@ -16,21 +16,11 @@ loop-place-init c = record {
   listed = rw c.requires.none (listed_none c.args.tiling.now (rect_of c.args.edit) c.requires.rect _);
 }
 
-pub overflow_mul-row : goal.overflow_mul-row
-overflow_mul-row c =
-    let top = met_top c.args.tiling.now (rect_of c.args.edit) c.requires.rect c.loop-place.place (rw c.count_met-place-end.ensures at c.loop-place-test.true) in
-    rw (c.columns_met-across.ensures, c.rect_of-rect.ensures) (record { fits = omega (arith, top, c.args.tiling.now.high) })
-
-pub tile_of-tile-requires-clause-across : goal.tile_of-tile-requires-clause-across
-tile_of-tile-requires-clause-across c = rw (c.columns_met-across.ensures, c.rect_of-rect.ensures) (met_left c.args.tiling.now (rect_of c.args.edit) c.requires.rect c.loop-place.place)
-
-pub tile_of-tile-requires-clause-along : goal.tile_of-tile-requires-clause-along
-tile_of-tile-requires-clause-along c = rw (c.columns_met-across.ensures, c.rect_of-rect.ensures) (met_top c.args.tiling.now (rect_of c.args.edit) c.requires.rect c.loop-place.place (rw c.count_met-place-end.ensures at c.loop-place-test.true))
+pub tile_met-tile-requires-clause-place : goal.tile_met-tile-requires-clause-place
+tile_met-tile-requires-clause-place c = rw c.count_met-place-end.ensures at c.loop-place-test.true
 
 pub part_in-requires-clause-meets : goal.part_in-requires-clause-meets
-part_in-requires-clause-meets c =
-    let tile : c.tile_of-tile.result ≡ met_tile c.args.tiling.now (rect_of c.args.edit) c.loop-place.place = rw (c.columns_met-across.ensures, c.rect_of-rect.ensures) at c.tile_of-tile.ensures.value ∙ met_is c.args.tiling.now (rect_of c.args.edit) c.requires.rect c.loop-place.place in
-    rw (tile, c.rect_of-rect.ensures) (met_meets c.args.tiling.now (rect_of c.args.edit) c.requires.rect c.loop-place.place (rw c.count_met-place-end.ensures at c.loop-place-test.true))
+part_in-requires-clause-meets c = rw c.rect_of-rect.ensures c.tile_met-tile.ensures.meets
 
 pub loop-place-preserved : goal.loop-place-preserved
 loop-place-preserved c =
@@ -40,7 +30,7 @@ loop-place-preserved c =
     let is = c.requires.rect in
     let l = c.loop-place in
     let p = differ_in g (open_at m) (edited e (open_at m)) in
-    let tile : c.tile_of-tile.result ≡ met_tile g (rect_of e) l.place = rw (c.columns_met-across.ensures, c.rect_of-rect.ensures) at c.tile_of-tile.ensures.value ∙ met_is g (rect_of e) is l.place in
+    let tile : c.tile_met-tile.result ≡ met_tile g (rect_of e) l.place = c.tile_met-tile.ensures.value in
     let part = rw (tile, c.rect_of-rect.ensures) at c.part_in.ensures in
     let told = part_tells g e is m c.requires.across c.requires.along l.mask l.place l.invariant.mask c.part_in.result part c.set_box.result (rw c.opens.ensures at c.set_box.ensures.changed) in
     let mask = edited_more g e is m c.requires.across c.requires.along l.mask l.place l.invariant.mask c.part_in.result part c.set_box.new.mask (rw c.opens.ensures at c.set_box.ensures.set) in
@@ -65,10 +55,10 @@ loop-place-preserved c =
 
 pub returns-clause-mask : goal.returns-clause-mask
 returns-clause-mask c =
-    let end : c.loop-place.place ≡ tiles_met c.args.tiling.now (rect_of c.args.edit) = omega (arith, c.count_met-place-end.ensures) in
+    let end : c.loop-place.place ≡ count_met c.args.tiling.now (rect_of c.args.edit) = omega (arith, c.count_met-place-end.ensures) in
     edited_all c.args.tiling.now c.args.edit c.requires.rect c.args.mask.now c.loop-place.mask (rw end at c.loop-place.invariant.mask)
 
 pub returns-clause-changed : goal.returns-clause-changed
 returns-clause-changed c =
-    let end : c.loop-place.place ≡ tiles_met c.args.tiling.now (rect_of c.args.edit) = omega (arith, c.count_met-place-end.ensures) in
+    let end : c.loop-place.place ≡ count_met c.args.tiling.now (rect_of c.args.edit) = omega (arith, c.count_met-place-end.ensures) in
     listed_all c.args.tiling.now (rect_of c.args.edit) c.requires.rect (open_at c.args.mask.now) c.args.edit refl c.loop-place.tiles.items (rw end at c.loop-place.invariant.listed)

@@ -34,7 +34,7 @@ outer_true true true false s t = cc
 outer_true true false n s t = cc
 outer_true false m n s t = cc
 
-not_true : (b : Bool) → not b ≡ true → b ≡ false
+pub not_true : (b : Bool) → not b ≡ true → b ≡ false
 not_true true e = cc
 not_true false e = refl
 

@@ -100,6 +100,12 @@ module _ (g : Tiling) (mask : Field Bool) where
       flooded = flooded_with n is.root is.flooded e number open_inner;
     }
 
+  -- there is no edge of number n, and the trees of the ends of the next become one
+  pub flood_then : (n : ℕ) (ps : List ℕ) (is : IsFlood g mask n ps) → ((e : Edge) → IsTrue (is_open_inner (tiled g) mask e) → edge_number g.width e ≡ n → ⊥)
+      → (qs : List ℕ) (e : Edge) (a b : ℕ) → a ≡ e.y * g.width + e.x → b ≡ end_y e * g.width + end_x e → edge_number g.width e ≡ n + 1 → IsTrue (is_open_inner (tiled g) mask e) → length qs ≡ length ps → IsForest qs (root_with is.root a b) → IsFlood g mask (n + 1 + 1) qs
+  unfolding flood_without flood_already
+  flood_then n ps is none = flood_with (n + 1) ps (flood_without n ps is none)
+
 -- at first each pixel is its own parent, and nothing is joined
 pub flood_begins : (g : Tiling) (mask : Field Bool) (ps : List ℕ) → length ps ≡ g.width * g.height → ((i : ℕ) → i < length ps → slice_index ps i ≡ i) → IsFlood g mask 0 ps
 flood_begins g mask ps size own = record {

@@ -1,6 +1,6 @@
 -- A flood passes the pixels of a piece of a row.
 use Rattle.std.proofs.Common.{◌≡◌, ℕ, zero, suc, ◌+◌, ◌-◌, ◌*◌, ◌/◌, ◌%◌, ◌<◌, ◌≤◌, sym, ◌∙◌, ap, ap₂, refl, arith, Bool, true, false, List, length, length-set}
-use Rattle.std.specs.Prelude.{IsTrue, ◌==◌, min, if◌then◌else◌, slice_index, slice_set}
+use Rattle.std.specs.Prelude.{not, IsTrue, ◌==◌, min, if◌then◌else◌, slice_index, slice_set}
 use Rattle.std.proofs.lemmas.Bool.Decides.{nat_tests}
 use Rattle.std.proofs.lemmas.Nat.{mod-mul-add, div-add-mod', mul-add-lt}
 use Rattle.raster_model.specs.declared.edge.Edge.{Edge}
@@ -13,7 +13,7 @@ use Rattle.seam_regions.specs.declared.pieces.Piece.{Piece}
 use Rattle.seam_regions.specs.Flood.{tiled, edge_number, IsFlooded, IsFlood, IsPiece, IsOpenPiece}
 use Rattle.seam_regions.specs.Forest.{IsForest, root_with}
 use Rattle.seam_regions.proofs.EdgeLemmas.{inner_open, ends_in, ends_open, begins_none, ends_at, starts}
-use Rattle.seam_regions.proofs.FloodLemmas.{flood_already, flood_without, flood_with}
+use Rattle.seam_regions.proofs.FloodLemmas.{flood_already, flood_without, flood_with, flood_then}
 use Rattle.seam_regions.proofs.ForestLemmas.{hung}
 
 -- ---- pieces of a row
@@ -45,6 +45,10 @@ row_before : (y w : ℕ) → 1 ≤ y → (y - 1) * w + w ≡ y * w
 row_before zero w l = absurd (omega arith)
 row_before (suc y) w l = let e : suc y - 1 ≡ y = omega arith in rw e (omega arith)
 
+pub not_false : (b : Bool) → not b ≡ false → b ≡ true
+not_false true e = refl
+not_false false e = cc
+
 module _ (g : Tiling) (p : Piece) (is : IsPiece g p) where
   -- a row that is not the first of its tile is not the first of the raster
   pub row_above : p.top ≡ false → 1 ≤ p.y
@@ -53,6 +57,12 @@ module _ (g : Tiling) (p : Piece) (is : IsPiece g p) where
       above : (y : ℕ) → p.top ≡ (y % g.side == 0) → 1 ≤ y
       above zero f = absurd (clash (0 % g.side == 0) (rw (zero_begins g.side (omega (arith, g.sides))) refl) (sym f ∙ e))
       above (suc y) f = omega arith
+
+  -- the first pixel and the one above it
+  pub first_above : p.top ≡ false → (n : ℕ) → n ≡ g.width * g.height → (p.y * g.width + p.first - g.width < p.y * g.width + p.first) × (p.y * g.width + p.first < n)
+  first_above top n e =
+      let b = row_before p.y g.width (row_above top) in
+      (omega (arith, b, g.wide), omega (arith, e, mul-add-lt p.y g.width p.first g.height is.row (omega (arith, is.across))))
 
   -- a column after its first is not the first of a tile
   inside : (x : ℕ) → p.first < x → x ≤ p.last → (x % g.side == 0) ≡ false
@@ -111,11 +121,20 @@ module _ (g : Tiling) (p : Piece) (is : IsPiece g p) where
 
     -- ---- the steps at a pixel
     module _ (x : ℕ) (m : x ≤ p.last) (ps : List ℕ) where
+      no_left : x ≡ p.first → (e : Edge) → IsTrue (is_open_inner (tiled g) mask e) → edge_number g.width e ≡ 2 * (p.y * g.width + x) → ⊥
+      no_left f e t k =
+          let z : x % g.side ≡ 0 = ap (λ (n : ℕ). n % g.side) f ∙ is.begins in
+          clash (x % g.side == 0) (rw z refl) (not_first x m e t k)
+
+      upper_ends : p.top ≡ false → (p.y * g.width + x - g.width ≡ (p.y - 1) * g.width + x) × (p.y * g.width + x ≡ (p.y - 1 + 1) * g.width + x) × (2 * ((p.y - 1 + 1) * g.width + x) + 1 ≡ 2 * (p.y * g.width + x) + 1)
+      upper_ends top =
+          let b = row_before p.y g.width (row_above top) in
+          let e : p.y - 1 + 1 ≡ p.y = omega (arith, row_above top) in
+          let n : (p.y - 1 + 1) * g.width ≡ p.y * g.width = ap (λ (k : ℕ). k * g.width) e in
+          (omega (arith, b), omega (arith, n), omega (arith, n))
+
       pub left_none : IsFlood g mask (2 * (p.y * g.width + x)) ps → x ≡ p.first → IsFlood g mask (2 * (p.y * g.width + x) + 1) ps
-      left_none flood e =
-          flood_without g mask _ ps flood (λ f t k. (
-          let z : x % g.side ≡ 0 = ap (λ (n : ℕ). n % g.side) e ∙ is.begins in
-          clash (x % g.side == 0) (rw z refl) (not_first x m f t k)))
+      left_none flood e = flood_without g mask _ ps flood (no_left e)
 
       pub left_masked : IsFlood g mask (2 * (p.y * g.width + x)) ps → p.first < x → mask (x - 1) p.y ≡ false → IsFlood g mask (2 * (p.y * g.width + x) + 1) ps
       left_masked flood l e = flood_without g mask _ ps flood (λ f t k. clash (mask (x - 1) p.y) (left_start_open x m f t (omega arith) k) e)
@@ -135,14 +154,14 @@ module _ (g : Tiling) (p : Piece) (is : IsPiece g p) where
 
       pub upper_joined : (flood : IsFlood g mask (2 * (p.y * g.width + x) + 1) ps) → p.top ≡ false → mask x (p.y - 1) ≡ true → mask x p.y ≡ true → (qs : List ℕ) → length qs ≡ length ps → IsForest qs (root_with flood.root (p.y * g.width + x - g.width) (p.y * g.width + x)) → IsFlood g mask (2 * (p.y * g.width + x) + 1 + 1) qs
       upper_joined flood top s t qs size forest =
-          let l = row_above top in
-          let b = row_before p.y g.width l in
-          let e : p.y - 1 + 1 ≡ p.y = omega (arith, l) in
-          let n : (p.y - 1 + 1) * g.width ≡ p.y * g.width = ap (λ (k : ℕ). k * g.width) e in
-          let start : p.y * g.width + x - g.width ≡ (p.y - 1) * g.width + x = omega (arith, b) in
-          let end : p.y * g.width + x ≡ (p.y - 1 + 1) * g.width + x = omega (arith, n) in
-          let number : 2 * ((p.y - 1 + 1) * g.width + x) + 1 ≡ 2 * (p.y * g.width + x) + 1 = omega (arith, n) in
-          flood_with g mask _ ps flood qs (down_edge x (p.y - 1)) (p.y * g.width + x - g.width) (p.y * g.width + x) start end number (upper_open x top m s t) size forest
+          let u = upper_ends top in
+          flood_with g mask _ ps flood qs (down_edge x (p.y - 1)) (p.y * g.width + x - g.width) (p.y * g.width + x) u.0 u.1 u.2 (upper_open x top m s t) size forest
+
+      -- the first pixel of a piece has no left edge
+      pub first_joined : (flood : IsFlood g mask (2 * (p.y * g.width + x)) ps) → x ≡ p.first → p.top ≡ false → mask x (p.y - 1) ≡ true → mask x p.y ≡ true → (qs : List ℕ) → length qs ≡ length ps → IsForest qs (root_with flood.root (p.y * g.width + x - g.width) (p.y * g.width + x)) → IsFlood g mask (2 * (p.y * g.width + x) + 1 + 1) qs
+      first_joined flood e top s t qs size forest =
+          let u = upper_ends top in
+          flood_then g mask _ ps flood (no_left e) qs (down_edge x (p.y - 1)) (p.y * g.width + x - g.width) (p.y * g.width + x) u.0 u.1 u.2 (upper_open x top m s t) size forest
 
       -- a masked pixel is joined to none
       pub pixel_masked : IsFlood g mask (2 * (p.y * g.width + x)) ps → mask x p.y ≡ false → IsFlood g mask (2 * (p.y * g.width + x) + 1 + 1) ps

@@ -86,11 +86,24 @@ fn join_open(parents: &mut [u32], tiling: &Tiling, mask: &Mask, piece: Piece)
     requires flood { IsFlood tiling.now (open_at mask.now) (2 * (piece.y * tiling.now.width + piece.first)) parents.old }
     ensures { IsFlood tiling.now (open_at mask.now) (2 * (piece.y * tiling.now.width + piece.last + 1)) parents.new }
 {
-    join_pixel(parents, tiling, mask, piece, piece.first);
+    join_first(parents, tiling, mask, piece);
     let row = (piece.y * tiling.width) as usize;
     let parent = parents[row + piece.first as usize];
     for x in piece.first as usize + 1..piece.last as usize + 1 {
         parents[row + x] = parent;
+    }
+}
+
+/// Joins the first pixel of an open piece to the pixel of its tile above it.
+fn join_first(parents: &mut [u32], tiling: &Tiling, mask: &Mask, piece: Piece)
+    requires piece { IsPiece tiling.now piece }
+    requires open { IsOpenPiece mask.now piece }
+    requires flood { IsFlood tiling.now (open_at mask.now) (2 * (piece.y * tiling.now.width + piece.first)) parents.old }
+    ensures { IsFlood tiling.now (open_at mask.now) (2 * (piece.y * tiling.now.width + piece.first + 1)) parents.new }
+{
+    if !piece.top {
+        let place = piece.y * tiling.width + piece.first;
+        hang(parents, place, place - tiling.width);
     }
 }
 

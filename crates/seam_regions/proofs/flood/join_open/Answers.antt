@@ -10,10 +10,10 @@ pub loop-x-init : goal.loop-x-init
 loop-x-init c =
     let g = c.args.tiling.now in
     let p = c.args.piece in
-    let ps = c.join_pixel.new.parents in
+    let ps = c.join_first.new.parents in
     let here : p.y * g.width + (p.first + 1) - 1 ≡ p.y * g.width + p.first = omega arith in
     record {
-      flood = subst (λ (n : ℕ). IsFlood g (open_at c.args.mask.now) n ps) (omega arith) c.join_pixel.ensures;
+      flood = subst (λ (n : ℕ). IsFlood g (open_at c.args.mask.now) n ps) (omega arith) c.join_first.ensures;
       before = ap (λ (n : ℕ). slice_index ps n) here;
     }
 
@@ -28,7 +28,7 @@ loop-x-preserved c =
     let first : p.first < x = omega (arith, c.loop-x.auto.x) in
     let last : x ≤ p.last = omega arith in
     let place = p.y * g.width + x in
-    let parent = slice_index c.join_pixel.new.parents (p.y * g.width + p.first) in
+    let parent = slice_index c.join_first.new.parents (p.y * g.width + p.first) in
     let before : slice_index ps (place - 1) ≡ parent = c.loop-x.invariant.before in
     let step = open_step g p c.requires.piece mask c.requires.open x first last ps flood in
     let inside : place < length ps = place_inside g p c.requires.piece mask c.requires.open x first last ps flood in

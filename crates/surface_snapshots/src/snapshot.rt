@@ -174,7 +174,8 @@ impl Snapshot {
         Some(level(sample, self.shifted().at(x, y)))
     }
 
-    /// Puts the values of row `y` into the front of `row`, and `masked` where a pixel is masked.
+    /// Puts the values of row `y`, in units of 1/65536 cycle, into the front of `row`, and `masked` where a pixel is
+    /// masked. What stands behind them may change.
     pub fn fill_row(&self, y: u32, masked: i64, row: &mut [i64])
         requires along { y < (parts_of self.now).session.scene.phase.height }
         requires room { (parts_of self.now).session.scene.phase.width ≤ length row.old }

@@ -20,7 +20,7 @@ use Rattle.tile_board.specs.declared.gathered.Gathered.{Gathered}
 use Rattle.tile_board.specs.declared.ticket.Ticket.{Ticket}
 use Rattle.tile_board.specs.BoardView.{BoardView}
 use Rattle.tile_board.specs.Boards.{IsBoard}
-use Rattle.tile_board.specs.Calls.{Adds, HasClaimFault, HasGatherFault, HasKeepFault, HasPublishFault, IsAdvance, IsClaim, IsGathering, IsKeep, IsPublication}
+use Rattle.tile_board.specs.Calls.{Adds, HasAdvanceFault, HasClaimFault, HasGatherFault, HasKeepFault, HasPublishFault, IsAdvance, IsClaim, IsGathering, IsKeep, IsPublication}
 use Rattle.board_desk.specs.declared.law.View.{View}
 use Rattle.board_desk.specs.Answers.{AdvanceAnswers, ClaimAnswers, GatherAnswers, KeepAnswers, PublishAnswers}
 use Rattle.board_desk.specs.Mine.{mine_of}
@@ -137,9 +137,10 @@ pub publish_answers : {U : Type 0} (o : Option ℕ) (a : ℕ) (seams : SeamResul
 publish_answers {U} o a seams b c (Ok x) is ok fault err = subst (λ (p : Option ℕ). PublishAnswers {U = U} p seams (Ok x) b c) is ok
 publish_answers {U} o a seams b c (Err e) is ok fault err = subst (λ (p : Option ℕ). PublishAnswers {U = U} p seams (Err e) b c) is (fault, err)
 
-pub advance_answers : (o : Option ℕ) (a : ℕ) (b c : BoardView) (answer : Result Advance AdvanceFault) → Some a ≡ o → IfOk answer (IsAdvance b c a) → OnErr answer (c ≡ b) → AdvanceAnswers o answer b c
-advance_answers o a b c (Ok x) is ok err = subst (λ (p : Option ℕ). AdvanceAnswers p (Ok x) b c) is ok
-advance_answers o a b c (Err e) is ok err = subst (λ (p : Option ℕ). AdvanceAnswers p (Err e) b c) is err
+pub advance_answers : (o : Option ℕ) (a : ℕ) (b c : BoardView) (answer : Result Advance AdvanceFault) → Some a ≡ o → IfOk answer (IsAdvance b c a) → IfErr answer (HasAdvanceFault b a) → OnErr answer (c ≡ b)
+    → AdvanceAnswers o answer b c
+advance_answers o a b c (Ok x) is ok fault err = subst (λ (p : Option ℕ). AdvanceAnswers p (Ok x) b c) is ok
+advance_answers o a b c (Err e) is ok fault err = subst (λ (p : Option ℕ). AdvanceAnswers p (Err e) b c) is (fault, err)
 
 -- ---- the analyst of the pass that called
 pub who : (a : ℕ) (p : PassView) (t : TableId) (m : Place) (e : Bool) → pass_view t m e ≡ p → Some a ≡ p.analyst → Some a ≡ m.0.own.analyst

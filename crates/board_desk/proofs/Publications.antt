@@ -1,23 +1,25 @@
 -- What a longer history names as published is no earlier.
 use Rattle.std.proofs.Common.{◌≡◌, ℕ, zero, suc, ◌≤◌, List, [], ◌∷◌, ◌++◌, Option, Some, None, Result, Ok, Err, slice_get, take, length, refl, ap, sym, ◌∙◌, subst, arith, append_assoc}
 use Rattle.std.specs.Prelude.{⊤}
-use Rattle.std.specs.Result.{IfOk}
+use Rattle.std.specs.Result.{IfOk, OnOk}
 use Rattle.std.proofs.lemmas.List.{append-nil}
 use mathlib.Core.List.{IsPrefix}
 use Rattle.raster_model.specs.declared.script.Edit.{Edit}
 use Rattle.raster_model.specs.declared.session.Session.{Session}
+use Rattle.certificates.specs.declared.results.SeamResult.{SeamResult}
 use Rattle.tile_board.specs.declared.answers.Advance.{Advance}
 use Rattle.tile_board.specs.declared.answers.Advance.TheVariants as advances
 use Rattle.tile_board.specs.declared.answers.AdvanceFault.{AdvanceFault}
+use Rattle.tile_board.specs.declared.answers.PublishFault.{PublishFault}
 use Rattle.tile_board.specs.declared.entry.Entry.{Entry}
 use Rattle.tile_board.specs.declared.entry.Entry.TheVariants.{Kept, Published, Revised, Settled, Shown}
 use Rattle.tile_board.specs.BoardView.{BoardView}
-use Rattle.tile_board.specs.Calls.{IsAdvance}
+use Rattle.tile_board.specs.Calls.{IsAdvance, IsPublication}
 use Rattle.tile_board.specs.Histories.{IsLegal, IsStep, newest_of, now_of}
 use Rattle.tile_board.specs.Runs.{IsNoLater}
 use Rattle.tile_board.proofs.HistoryLemmas.{edits_same, legal_take, newest_more, newest_same, newest_within}
-use Rattle.board_desk.specs.Answers.{IsUpToDate}
-use Rattle.board_desk.specs.Passes.{PassView}
+use Rattle.board_desk.specs.Answers.{IsCurrent, IsUpToDate}
+use Rattle.board_desk.specs.Passes.{Called, IsLater, PassView}
 
 -- ---- revisions, or none
 later_self : (r : Option ℕ) → IsNoLater r r
@@ -59,6 +61,9 @@ module _ {A : Type 0} where
 pub legal_before : (s : Session) (H rest : List Entry) → IsLegal s (H ++ rest) → IsLegal s H
 legal_before s H rest legal = subst (IsLegal s) (take_at H rest) (legal_take s (H ++ rest) (length H) legal)
 
+pub legal_prefix : (s : Session) (G H : List Entry) → IsPrefix G H → IsLegal s H → IsLegal s G
+legal_prefix s G H p legal = legal_before s G p.0 (subst (IsLegal s) (sym p.1) legal)
+
 newest_on : (s : Session) (rest H : List Entry) → IsLegal s (H ++ rest) → IsNoLater (newest_of H) (newest_of (H ++ rest))
 newest_on s [] H legal = later_is (newest_of H) (newest_of (H ++ [])) (ap newest_of (append-nil H))
 newest_on s (e ∷ rest) H legal =
@@ -85,3 +90,20 @@ up_to_date p q a b c (Ok (advances.Shown r)) begins legal seen is = subst (λ (x
 up_to_date p q a b c (Ok (advances.NotYet r)) begins legal seen is = tt
 up_to_date p q a b c (Ok advances.Ended) begins legal seen is = tt
 up_to_date p q a b c (Err fault) begins legal seen is = tt
+
+pub published_now : {U : Type 0} (p q : PassView) (a : ℕ) (seams : SeamResult) (b c : BoardView) (answer : Result U PublishFault) → IsPrefix p.seen b.entries → IsLegal b.session b.entries → q.seen ≡ c.entries
+    → OnOk answer (IsPublication b c a seams) → OnOk answer (IsCurrent p q seams.revision)
+published_now p q a seams b c (Ok x) begins legal seen is = (
+  later_trans (newest_of p.seen) (newest_of b.entries) (Some seams.revision) (newest_later b.session p.seen b.entries begins legal)
+      (within (newest_of b.entries) seams.revision (λ k g. omega (arith, newest_within b.session b.entries legal k g, is.adds.step.1))),
+  is.adds.step.1 ∙ (now_same b c (Published a seams.revision) is.adds.entries (ap (λ (l : List Edit). length l) (edits_same b.entries (Published a seams.revision) refl)) ∙ ap now_of (sym seen)),
+)
+published_now p q a seams b c (Err fault) begins legal seen is = tt
+
+-- a revision that is current for a later pass, by a call, is so for an earlier one
+pub current_before : (s : Session) (e p q : PassView) (r : ℕ) (answers : BoardView → BoardView → Type 0) → IsLater e p → Called s p q answers → IsCurrent p q r → IsCurrent e q r
+current_before s e p q r answers later c now = (
+  later_trans (newest_of e.seen) (newest_of p.seen) (Some r)
+      (newest_later c.before.session e.seen p.seen later.seen (legal_prefix c.before.session p.seen c.before.entries c.begins c.found.legal)) now.0,
+  now.1,
+)

@@ -91,7 +91,7 @@ own_advance_at s p q (Ok advances.Ended) c a is =
     still_own s p q (AdvanceAnswers p.analyst (Ok advances.Ended)) c a is t.1
 own_advance_at s p q (Err fault) c a is =
     let t = subst (λ (o : Option ℕ). AdvanceAnswers o (Err fault) c.before c.after) is c.answer in
-    still_own s p q (AdvanceAnswers p.analyst (Err fault)) c a is t
+    still_own s p q (AdvanceAnswers p.analyst (Err fault)) c a is t.1
 
 pub own_advance : (s : Session) (p q : PassView) (answer : Result Advance AdvanceFault) → p.analyst ≢ None → Called s p q (AdvanceAnswers p.analyst answer) → OwnAdvance p q answer
 own_advance s p q answer some c = (let w = some_of p.analyst some in own_advance_at s p q answer c w.0 w.1)

@@ -17,7 +17,7 @@ use Rattle.tile_board.specs.declared.entry.Entry.TheVariants.{Published, Revised
 use Rattle.tile_board.specs.declared.gathered.Gathered.{Gathered}
 use Rattle.tile_board.specs.declared.ticket.Ticket.{Ticket}
 use Rattle.tile_board.specs.BoardView.{BoardView}
-use Rattle.tile_board.specs.Calls.{HasClaimFault, HasGatherFault, HasKeepFault, HasPublishFault, IsAdvance, IsClaim, IsGathering, IsKeep, IsPublication}
+use Rattle.tile_board.specs.Calls.{HasAdvanceFault, HasClaimFault, HasGatherFault, HasKeepFault, HasPublishFault, IsAdvance, IsClaim, IsGathering, IsKeep, IsPublication}
 use Rattle.tile_board.specs.Histories.{newest_of, now_of}
 use Rattle.tile_board.specs.Runs.{IsNoLater}
 use Rattle.board_desk.specs.Passes.{PassView, AddsOwn, IsAtSettle}
@@ -35,7 +35,7 @@ abbrev pub PublishAnswers : {U : Type 0} → Option ℕ → SeamResult → Resul
 PublishAnswers analyst seams answer old new = IfSome analyst (λ a. MatchResult answer (λ _. IsPublication old new a seams) (λ fault. HasPublishFault old a seams fault × (new ≡ old)))
 
 abbrev pub AdvanceAnswers : Option ℕ → Result Advance AdvanceFault → BoardView → BoardView → Type 0
-AdvanceAnswers analyst answer old new = IfSome analyst (λ a. MatchResult answer (IsAdvance old new a) (λ _. new ≡ old))
+AdvanceAnswers analyst answer old new = IfSome analyst (λ a. MatchResult answer (IsAdvance old new a) (λ fault. HasAdvanceFault old a fault × (new ≡ old)))
 
 -- ---- what an answer tells of the pass
 -- what was published in the analyst's name
@@ -61,10 +61,14 @@ tells_end (Ok (advances.Shown revision)) = false
 tells_end (Ok (advances.NotYet revision)) = false
 tells_end (Err fault) = false
 
--- what is shown or settled is no earlier than any publication that the pass had seen; a settled revision is the present one, which counts every edit of the history that was seen, the analyst's own among them
+-- a revision is the present one, which counts every edit of the history that was seen, the analyst's own among them; it is no earlier than any publication that the pass had seen
+abbrev pub IsCurrent : PassView → PassView → ℕ → Type 0
+IsCurrent p q r = IsNoLater (newest_of p.seen) (Some r) × (r ≡ now_of q.seen)
+
+-- what is shown or settled is no earlier than any publication that the pass had seen; a settled revision is the present one
 abbrev pub IsUpToDate : PassView → PassView → Result Advance AdvanceFault → Type 0
 IsUpToDate p q (Ok (advances.Revised r)) = ⊤
-IsUpToDate p q (Ok (advances.Settled r)) = IsNoLater (newest_of p.seen) (Some r) × (r ≡ now_of q.seen)
+IsUpToDate p q (Ok (advances.Settled r)) = IsCurrent p q r
 IsUpToDate p q (Ok (advances.Shown r)) = IsNoLater (newest_of p.seen) r
 IsUpToDate p q (Ok (advances.NotYet r)) = ⊤
 IsUpToDate p q (Ok advances.Ended) = ⊤

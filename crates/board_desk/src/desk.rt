@@ -39,9 +39,9 @@ impl Model for Desk {
 }
 
 impl Desk {
-    ghost use Rattle.board_desk.specs.Answers.{AdvanceAnswers, AwaitsSurface, ClaimAnswers, GatherAnswers, IsOfSettle, IsUpToDate, KeepAnswers, OwnAdvance, OwnPublish, PublishAnswers, tells_end};
+    ghost use Rattle.board_desk.specs.Answers.{AdvanceAnswers, AwaitsSurface, ClaimAnswers, GatherAnswers, IsCurrent, IsOfSettle, IsUpToDate, KeepAnswers, OwnAdvance, OwnPublish, PublishAnswers, tells_end};
     ghost use Rattle.board_desk.specs.Passes.{Called, HasNotMoved, HaveAnalysts, IsAtSettle, IsPassOf, Merged, Stands, first_passes as passes_to, worker_pass as new_worker};
-    ghost use Rattle.std.specs.Prelude.{◌≡◌, ◌≢◌, ◌||◌, [], All, Err, IfOk, None, length, vec_len};
+    ghost use Rattle.std.specs.Prelude.{◌≡◌, ◌≢◌, ◌||◌, [], All, Err, IfOk, None, OnOk, length, vec_len};
     ghost use Rattle.tile_board.specs.declared.answers.PublishFault.TheVariants.{NotSettle};
     ghost use Rattle.tile_board.specs.Boards.{IsBoard};
 
@@ -178,6 +178,7 @@ impl Desk {
         requires analyst { pass.old.analyst ≢ None }
         ensures call { Called self.now.session pass.old pass.new (PublishAnswers pass.old.analyst seams result.answer) }
         ensures own { OwnPublish pass.old pass.new seams result.answer }
+        ensures fresh { OnOk result.answer (IsCurrent pass.old pass.new seams.revision) }
         ensures settles { IsAtSettle self.now.session pass.old → result.answer ≢ Err NotSettle }
         ensures ended { pass.new.ended ≡ pass.old.ended }
         ensures front { result.front ≡ length pass.new.seen }

@@ -19,7 +19,7 @@ returns-clause-call g c =
     called c.pass.inside.seat.table_id c.pass.inside.ended c.has_ended-pass-inside.result c.pass.inside.seat.me c.take_board-board.new.seat.me c.give_board.new.seat.me c.take_board-board.result c.advance-answer.new.self c.args.self.now.session
     (AdvanceAnswers c.args.pass.now.analyst c.advance-answer.result) c.give_board.new.seat.table_id c.args.pass.now c.pass.view_is (c.give_board.ensures.own.0 ∙ c.take_board-board.ensures.own.0) c.requires.pass.session c.take_board-board.ensures.held c.give_board.ensures.given
     (advance_grows_as c.pass.inside.seat.me.0.own.analyst c.number-analyst.result c.take_board-board.result c.advance-answer.new.self c.advance-answer.result (who c.number-analyst.result c.args.pass.now c.pass.inside.seat.table_id c.pass.inside.seat.me c.pass.inside.ended c.pass.view_is c.number-analyst.ensures) c.advance-answer.ensures.advanced c.advance-answer.ensures.unchanged) c.take_board-board.ensures.board c.of-pass-inside.ensures.board
-    (advance_answers c.args.pass.now.analyst c.number-analyst.result c.take_board-board.result c.advance-answer.new.self c.advance-answer.result c.number-analyst.ensures c.advance-answer.ensures.advanced c.advance-answer.ensures.unchanged)
+    (advance_answers c.args.pass.now.analyst c.number-analyst.result c.take_board-board.result c.advance-answer.new.self c.advance-answer.result c.number-analyst.ensures c.advance-answer.ensures.advanced c.advance-answer.ensures.refused c.advance-answer.ensures.unchanged)
 
 pub invariant_of-pass : goal.invariant_of-pass
 invariant_of-pass g c =

@@ -1,4 +1,4 @@
-use Rattle.std.proofs.Common.{rules, ap, refl, ◌∙◌, [], ◌∷◌, arith}
+use Rattle.std.proofs.Common.{rules, ap, refl, ◌∙◌, [], ◌∷◌}
 use Rattle.std.proofs.lemmas.List.{append-nil}
 use Rattle.std.proofs.lemmas.List.Elements.{All-cons, All-nil}
 use Rattle.board_desk.specs.declared.law.Claim.{Claim}
@@ -41,4 +41,4 @@ loop-pass-preserved g c =
 pub returns-clause-stands : goal.returns-clause-stands
 returns-clause-stands g c =
     let rest = c.loop-pass.invariant.rest in
-    all_stand c.take_board-board.result.entries c.args.passes.items c.loop-pass.passes.items rest.0 rest.1 (omega (arith, c.loop-pass.passes.ok.0, c.in_default.ensures.cases.0)) rest.2
+    all_stand c.take_board-board.result.entries c.args.passes.items c.loop-pass.passes.items rest.0 rest.1 (search rules) rest.2

@@ -1,9 +1,11 @@
-use Rattle.std.proofs.Common.{ap, ◌∙◌, rules, sym}
+use Rattle.std.proofs.Common.{ap, ◌∙◌, rules, subst, sym}
+use mathlib.Core.List.{IsPrefix}
 use Rattle.board_desk.specs.Answers.{PublishAnswers}
 use Rattle.board_desk.specs.Passes.{PassView}
-use Rattle.board_desk.proofs.Calls.{called, grown, publish_answers, publish_grows_as, who}
+use Rattle.board_desk.proofs.Calls.{called, grown, publish_answers, publish_grows_as, seen_after, who}
 use Rattle.board_desk.specs.Seats.{pass_view}
 use Rattle.board_desk.proofs.Ending.{sound_after}
+use Rattle.board_desk.proofs.Publications.{published_now}
 use Rattle.board_desk.proofs.Telling.{not_refused, own_publish, publish_stays}
 use Rattle.board_desk.proofs.desk.Desk.publish.Goals as goal
 
@@ -34,3 +36,9 @@ returns-clause-own g c = own_publish c.args.self.now.session c.args.pass.now (pa
 
 pub returns-clause-settles : goal.returns-clause-settles
 returns-clause-settles g c = not_refused c.args.self.now.session c.args.pass.now (pass_view c.give_board.new.seat.table_id c.give_board.new.seat.me c.pass.inside.ended) c.args.seams c.publish-answer.result (returns-clause-call g c)
+
+pub returns-clause-fresh : goal.returns-clause-fresh
+returns-clause-fresh g c =
+    published_now c.args.pass.now (pass_view c.give_board.new.seat.table_id c.give_board.new.seat.me c.pass.inside.ended) c.number-analyst.result c.args.seams c.take_board-board.result c.publish-answer.new.self c.publish-answer.result
+    (subst (λ (p : PassView). IsPrefix p.seen c.take_board-board.result.entries) c.pass.view_is c.take_board-board.ensures.held.begins) c.take_board-board.ensures.board.legal
+    (seen_after c.pass.inside.seat.me.0 c.take_board-board.new.seat.me c.give_board.new.seat.me c.take_board-board.result c.publish-answer.new.self c.take_board-board.ensures.held c.give_board.ensures.given) c.publish-answer.ensures.published

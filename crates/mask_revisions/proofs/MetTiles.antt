@@ -14,7 +14,7 @@ use Rattle.raster_model.specs.Tiles.{columns_of, tile_at}
 use Rattle.raster_model.proofs.TileLemmas.{block_below, tiles_are_numbered}
 use Rattle.mask_revisions.specs.Edits.{differ_in, edited, has_pixel, opens}
 use Rattle.mask_revisions.specs.Revisions.{AreChanged, AreMet, Meets}
-use Rattle.mask_revisions.specs.Steps.{AreListed, any_tile, count_met, met_across, met_tile}
+use Rattle.mask_revisions.specs.Steps.{AreListed, count_met, met_across, met_tile}
 use Rattle.mask_revisions.proofs.Differences.{box_has, box_says, chosen, differ_tells}
 use Rattle.sums_and_lists.proofs.Orders.{below_or_last}
 use Rattle.sums_and_lists.proofs.Tests.{true_and_false}

@@ -45,7 +45,7 @@ module _ (s : Scene) (mask knows : Field Bool) (tile : ℕ) (v : Window) (is : I
   )
 
 -- where the tile's pixels in a row and in the next one are open, so are the ends of the edges that start in the row
-both_true : (a b : Bool) → IsTrue a → IsTrue b → IsTrue (a && b)
+pub both_true : (a b : Bool) → IsTrue a → IsTrue b → IsTrue (a && b)
 both_true a b p q = rw (p, q) refl
 
 module _ (k : Tile) (x y : ℕ) (clear : AreOpenFrom k y) (w : IsWithin k.window x y) where

@@ -3,7 +3,7 @@ ghost use Rattle.std.specs.Prelude.{◌≡◌};
 
 use crate::edge_costs::edge_cost;
 use crate::numbers::are_zeros;
-use raster_model::{Edge, Heights, Mask, Scene, Window, departure, plain, weight};
+use raster_model::{Edge, Heights, Mask, Scene, Window, departure, plain, stored_weight, weight};
 
 /// A tile of a scene under a mask.
 #[derive(Clone, Copy)]
@@ -18,7 +18,7 @@ pub(crate) struct Tile<'a> {
 
 impl Tile<'_> {
     ghost use Rattle.certificates.specs.EdgeOrder.{HoldsAtAll, IsFirstBreak};
-    ghost use Rattle.certificates.specs.EdgeWords.{HoldsFrom, HoldsIfPart, IsBreak, IsFirstBreakFrom};
+    ghost use Rattle.certificates.specs.EdgeWords.{HoldsBefore, HoldsFrom, HoldsIfPart, IsBreak, IsFirstBreakFrom};
     ghost use Rattle.certificates.specs.TileWords.{
       AreOpenFrom,
       FitAt,
@@ -31,11 +31,14 @@ impl Tile<'_> {
       cost_in,
       difference_at,
       faces_at,
+      mask_in,
       product_at,
+      raster_in,
       total_at,
     };
     ghost use Rattle.raster_model.specs.Certificates.{above, left};
     ghost use Rattle.raster_model.specs.Order.{IsCellAt};
+    ghost use Rattle.raster_model.specs.Raster.{has_open_ends, masked_weight};
     ghost use Rattle.raster_model.specs.Sums.{is_edge, sum_row};
     ghost use Rattle.raster_model.specs.Tiles.{IsWithin};
     ghost use Rattle.std.specs.Prelude.{
@@ -56,6 +59,17 @@ impl Tile<'_> {
       unsigned_abs,
     };
 
+    /// The face of the tile's cell with the upper left corner (`x`, `y`).
+    fn cell_face(&self, faces: &[i64], x: u32, y: u32) -> i64
+        requires count { HasFaces self.now faces.now }
+        requires cell { IsCellAt self.now.window x y }
+        ensures { result ≡ faces_at self.now faces.now x y }
+    {
+        let window = self.window;
+        let across = (window.x1 - window.x0) as usize;
+        faces[(y - window.y0) as usize * across + (x - window.x0) as usize]
+    }
+
     /// The face of the tile's cell with the upper left corner (`x`, `y`), and 0 where the tile has none there.
     fn face(&self, faces: &[i64], x: u32, y: u32) -> i64
         requires count { HasFaces self.now faces.now }
@@ -63,8 +77,7 @@ impl Tile<'_> {
     {
         let window = self.window;
         if window.x0 <= x && x < window.x1 && window.y0 <= y && y < window.y1 {
-            let across = (window.x1 - window.x0) as usize;
-            faces[(y - window.y0) as usize * across + (x - window.x0) as usize]
+            self.cell_face(faces, x, y)
         } else {
             0
         }
@@ -108,44 +121,79 @@ impl Tile<'_> {
         }
     }
 
-    /// Whether the faces on the two sides of an edge differ by no more than its weight.
-    fn faces_fit(&self, faces: &[i64], edge: Edge) -> bool
+    /// The weight of an edge under the mask. `unmasked` tells that both ends are known to be open.
+    fn edge_weight(&self, edge: Edge, unmasked: bool) -> u16
+        requires is_edge { IsTrue (is_edge self.now.scene.now.phase.width self.now.scene.now.phase.height edge) }
+        requires unmasked { IsTrue unmasked → IsTrue (has_open_ends (mask_in self.now) edge) }
+        ensures { result ≡ masked_weight (raster_in self.now) (mask_in self.now) edge }
+    {
+        if unmasked {
+            stored_weight(self.scene, edge)
+        } else {
+            weight(self.scene, self.mask, edge)
+        }
+    }
+
+    /// Whether the faces on the two sides of an edge differ by no more than its weight. `unmasked` tells that both ends
+    /// are known to be open.
+    fn faces_fit(&self, faces: &[i64], edge: Edge, unmasked: bool) -> bool
         requires count { HasFaces self.now faces.now }
         requires is_edge { IsTrue (is_edge self.now.scene.now.phase.width self.now.scene.now.phase.height edge) }
+        requires unmasked { IsTrue unmasked → IsTrue (has_open_ends (mask_in self.now) edge) }
         ensures { IsTrue result ↔ FitAt self.now faces.now edge }
     {
         let difference = self.face_difference(faces, edge);
-        difference == 0
-            || difference.unsigned_abs() <= u128::from(weight(self.scene, self.mask, edge))
+        difference == 0 || difference.unsigned_abs() <= u128::from(self.edge_weight(edge, unmasked))
     }
 
-    /// Whether an edge that starts in the tile is an inner edge whose faces do not fit.
-    fn is_unfit(&self, faces: &[i64], edge: Edge) -> bool
+    /// Whether an edge that starts in the tile is an inner edge whose faces do not fit. `unmasked` tells that the tile's
+    /// pixels in the row where it starts and in the next one are known to be open.
+    fn is_unfit(&self, faces: &[i64], edge: Edge, unmasked: bool) -> bool
         requires count { HasFaces self.now faces.now }
         requires start { IsWithin self.now.window edge.x edge.y }
+        requires unmasked { IsTrue unmasked → AreOpenFrom self.now edge.y }
         ensures { MatchBool result (IsBreak (IsInner self.now) (FitAt self.now faces.now) edge) (HoldsIfPart (IsInner self.now) (FitAt self.now faces.now) edge) }
     {
         edge.end_x() <= self.window.x1
             && edge.end_y() <= self.window.y1
-            && !self.faces_fit(faces, edge)
+            && !self.faces_fit(faces, edge, unmasked)
     }
 
     /// The first such edge of those that start at a pixel.
-    fn first_unfit_from(&self, faces: &[i64], x: u32, y: u32) -> Option<Edge>
+    fn first_unfit_from(&self, faces: &[i64], x: u32, y: u32, unmasked: bool) -> Option<Edge>
         requires count { HasFaces self.now faces.now }
         requires within { IsWithin self.now.window x y }
+        requires unmasked { IsTrue unmasked → AreOpenFrom self.now y }
         ensures found { IfSome result (IsFirstBreakFrom (IsInner self.now) (FitAt self.now faces.now) x y) }
         ensures none { IfNone result (HoldsFrom (IsInner self.now) (FitAt self.now faces.now) x y) }
     {
         let right = Edge { x, y, down: false };
         let down = Edge { x, y, down: true };
-        if self.is_unfit(faces, right) {
+        if self.is_unfit(faces, right, unmasked) {
             Some(right)
-        } else if self.is_unfit(faces, down) {
+        } else if self.is_unfit(faces, down, unmasked) {
             Some(down)
         } else {
             None
         }
+    }
+
+    /// The first of those that start in a row, which is the first of all where those before the row fit.
+    fn first_unfit_in(&self, faces: &[i64], y: u32) -> Option<Edge>
+        requires count { HasFaces self.now faces.now }
+        requires row { (self.now.window.y0 ≤ y) × (y ≤ self.now.window.y1) }
+        requires before { HoldsBefore (IsInner self.now) (FitAt self.now faces.now) self.now.window.x0 y }
+        ensures found { IfSome result (IsFirstBreak (IsInner self.now) (FitAt self.now faces.now)) }
+        ensures none { IfNone result (HoldsBefore (IsInner self.now) (FitAt self.now faces.now) self.now.window.x0 (y + 1)) }
+    {
+        let window = self.window;
+        let unmasked = self.are_open_from(y);
+        for x in window.x0..window.x1 + 1 {
+            if let Some(edge) = self.first_unfit_from(faces, x, y, unmasked) {
+                return Some(edge);
+            }
+        }
+        None
     }
 
     /// The first inner edge whose faces do not fit.
@@ -156,10 +204,8 @@ impl Tile<'_> {
     {
         let window = self.window;
         for y in window.y0..window.y1 + 1 {
-            for x in window.x0..window.x1 + 1 {
-                if let Some(edge) = self.first_unfit_from(faces, x, y) {
-                    return Some(edge);
-                }
+            if let Some(edge) = self.first_unfit_in(faces, y) {
+                return Some(edge);
             }
         }
         None
@@ -172,7 +218,7 @@ impl Tile<'_> {
         ensures value { result ≡ product_at self.now faces.now x y }
         ensures small { unsigned_abs result ≤ 2 ^ 63 }
     {
-        let face = self.face(faces, x, y);
+        let face = self.cell_face(faces, x, y);
         if face == 0 {
             return 0;
         }

@@ -15,19 +15,19 @@ residue-requires c =
 
 pub overflow_mul-result : goal.overflow_mul-result
 overflow_mul-result c =
-    (products_of_faces c.face-face.result c.residue.result c.from.result c.from-2.result (record { sfits = c.face-face.type_inv }) c.residue.ensures.small c.from.ensures c.from-2.ensures).2
+    (products_of_faces c.cell_face-face.result c.residue.result c.from.result c.from-2.result (record { sfits = c.cell_face-face.type_inv }) c.residue.ensures.small c.from.ensures c.from-2.ensures).2
 
 pub returns-clause-value : goal.returns-clause-value
 unfolding face_product
 returns-clause-value c =
-    (products_of_faces c.face-face.result c.residue.result c.from.result c.from-2.result (record { sfits = c.face-face.type_inv }) c.residue.ensures.small c.from.ensures c.from-2.ensures).0
-    ∙ ap₂ (λ (a b : ℤ). a *ℤ b) c.face-face.ensures c.residue.ensures.value
+    (products_of_faces c.cell_face-face.result c.residue.result c.from.result c.from-2.result (record { sfits = c.cell_face-face.type_inv }) c.residue.ensures.small c.from.ensures c.from-2.ensures).0
+    ∙ ap₂ (λ (a b : ℤ). a *ℤ b) c.cell_face-face.ensures c.residue.ensures.value
 
 pub returns-clause-small : goal.returns-clause-small
 returns-clause-small c =
-    (products_of_faces c.face-face.result c.residue.result c.from.result c.from-2.result (record { sfits = c.face-face.type_inv }) c.residue.ensures.small c.from.ensures c.from-2.ensures).1
+    (products_of_faces c.cell_face-face.result c.residue.result c.from.result c.from-2.result (record { sfits = c.cell_face-face.type_inv }) c.residue.ensures.small c.from.ensures c.from-2.ensures).1
 
 pub returns-then-face-eq0-clause-value : goal.returns-then-face-eq0-clause-value
 unfolding face_product
 returns-then-face-eq0-clause-value c =
-    no_product _ _ (sym c.face-face.ensures ∙ is_zero c.face-face.result (record { sfits = c.face-face.type_inv }) c.if-face-eq0.true)
+    no_product _ _ (sym c.cell_face-face.ensures ∙ is_zero c.cell_face-face.result (record { sfits = c.cell_face-face.type_inv }) c.if-face-eq0.true)

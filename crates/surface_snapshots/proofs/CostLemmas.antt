@@ -1,9 +1,9 @@
 -- The costs of tiles and of seams, as one pass over the edges adds them up; what all tiles cost together is the sum over the inner edges.
-use Rattle.std.proofs.Common.{◌≡◌, ◌∙◌, ℕ, ◌+◌, ◌-◌, ◌<◌, ◌≤◌, sym, subst, ap, refl, arith, Bool, true, false, inl, inr}
-use Rattle.std.specs.Prelude.{ℤ, pos, ◌&&◌, ◌==◌, not, IsTrue, if◌then◌else◌, nat_lt}
+use Rattle.std.proofs.Common.{◌≡◌, ◌∙◌, ℕ, ◌+◌, ◌<◌, sym, subst, ap, refl, arith, Bool, true, false, inl, inr}
+use Rattle.std.specs.Prelude.{ℤ, pos, ◌&&◌, ◌==◌, not, IsTrue, nat_lt}
 use Rattle.std.proofs.lemmas.Int.{ints}
 use Rattle.std.proofs.lemmas.Bool.{and_parts}
-use Rattle.std.proofs.lemmas.Bool.Decides.{eqb_tells, nat_tests}
+use Rattle.std.proofs.lemmas.Bool.Decides.{eqb_tells}
 use Rattle.raster_model.specs.declared.edge.Edge.{Edge}
 use Rattle.raster_model.specs.Heights.{KnowsEnds, KnowsOpen}
 use Rattle.raster_model.specs.Sums.{Field, right_edge, down_edge, end_x, end_y, is_edge, sum_grid}
@@ -37,18 +37,6 @@ module _ (m : MaskView) (x y : ℕ) (clear : AreOpenFrom m y x (x + 1)) where
   pub lower_open : x < m.width → y + 1 < m.height → IsTrue (has_open_ends (open_at m) (down_edge x y))
   lower_open l k =
       both_true (open_at m x y) (open_at m x (y + 1)) (clear x y l (omega (arith, k)) (omega arith) (omega arith) (omega arith) (omega arith)) (clear x (y + 1) l k (omega arith) (omega arith) (omega arith) (omega arith))
-
--- what is known of the pixels up to the next tile stays known until that tile begins
-next_within : (left side next : ℕ) → next ≡ (if left == 1 then side else left - 1) → 1 ≤ left → next < side → next + 1 ≡ left
-next_within left side next e l m = grind (arith, nat_tests)
-
-pub still_open : (m : MaskView) (x y left side next : ℕ) (clear : Bool) → (IsTrue clear → AreOpenFrom m y x (x + left)) → next ≡ (if left == 1 then side else left - 1) → 1 ≤ left → next < side → IsTrue clear → AreOpenFrom m y (x + 1) (x + 1 + next)
-still_open m x y left side next clear known e l within t a b p q r s =
-    let n = next_within left side next e l within in
-    known t a b p q (omega (arith, r)) (omega (arith, s, n))
-
-pub begins_next : (m : MaskView) (x y left : ℕ) (clear : Bool) → 1 ≤ left → (IsTrue clear → AreOpenFrom m y x (x + left)) → IsTrue clear → AreOpenFrom m y x (x + 1)
-begins_next m x y left clear l known t a b p q r s = known t a b p q r (omega (arith, s, l))
 
 -- the right and the lower edge of a pixel
 pub both_edges : (r : Raster) (mask : Field Bool) (S : Field ℤ) (x y a b : ℕ) → pos a ≡ where_true (nat_lt (x + 1) r.width) (inner_edge_cost r mask S (right_edge x y)) → pos b ≡ where_true (nat_lt (y + 1) r.height) (inner_edge_cost r mask S (down_edge x y)) → pos (a + b) ≡ inner_cost_from r mask S x y

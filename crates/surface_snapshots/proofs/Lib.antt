@@ -1,5 +1,6 @@
 mod ShiftedLemmas
 mod CostLemmas
+mod FreeLemmas
 mod LevelLemmas
 mod RowLemmas
 pub mod VerdictLemmas

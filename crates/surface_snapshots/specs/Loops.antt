@@ -1,5 +1,5 @@
 -- Words of helpers and of ghost fields: no clause of a public function cites them.
-use Rattle.std.specs.Prelude.{◌≡◌, ℕ, ◌+◌, ◌*◌, ◌<◌, ◌≤◌, ◌^◌, ℤ, Bool, not, IsTrue, List}
+use Rattle.std.specs.Prelude.{◌≡◌, ℕ, ◌+◌, ◌*◌, ◌<◌, ◌≤◌, ◌^◌, ℤ, ◌+ℤ◌, pos, Bool, not, IsTrue, List}
 use Rattle.raster_model.specs.declared.edge.Edge.{Edge}
 use Rattle.raster_model.specs.declared.scene.Scene.{Scene}
 use Rattle.raster_model.specs.MaskView.{MaskView}
@@ -9,8 +9,8 @@ use Rattle.seam_regions.specs.Regions.{label_at}
 use Rattle.seam_regions.specs.RegionsView.{RegionsView}
 use Rattle.surface_snapshots.specs.declared.counting.Costs.{Costs}
 use Rattle.surface_snapshots.specs.Parts.{AreGoodTiles}
-use Rattle.raster_model.specs.Raster.{Raster, edge_cost, is_seam}
-use Rattle.raster_model.specs.Sums.{Field, edges_from}
+use Rattle.raster_model.specs.Raster.{Raster, departure, edge_cost, is_seam}
+use Rattle.raster_model.specs.Sums.{Field, down_edge, edges_from, right_edge, sum_row}
 use Rattle.sums_and_lists.specs.Sums.{where_true}
 
 -- what an edge adds to the costs of all tiles, and what the edges that start at a pixel add
@@ -27,6 +27,21 @@ AreOfEdges n costs = (costs.tiles ≤ 65535 * (2 ^ 49 + 1) * n) × (costs.seams 
 -- the pixels of row y and of the next one from column x to column z are open, as far as the raster goes
 abbrev pub AreOpenFrom : MaskView → ℕ → ℕ → ℕ → Type 0
 AreOpenFrom m y x z = (a b : ℕ) → a < m.width → b < m.height → x ≤ a → a ≤ z → y ≤ b → b ≤ y + 1 → IsTrue (open_at m a b)
+
+-- those pixels of a raster are known
+abbrev pub KnowsFrom : Raster → Field Bool → ℕ → ℕ → ℕ → Type 0
+KnowsFrom r knows y x z = (a b : ℕ) → a < r.width → b < r.height → x ≤ a → a ≤ z → y ≤ b → b ≤ y + 1 → IsTrue (knows a b)
+
+-- the surface departs at no right edge that starts in row y from column a to before column b; nor at a down edge
+abbrev pub FollowsRight : Raster → Field ℤ → ℕ → ℕ → ℕ → Type 0
+FollowsRight r S y a b = (x : ℕ) → a ≤ x → x < b → x + 1 < r.width → departure r S (right_edge x y) ≡ pos 0
+
+abbrev pub FollowsDown : Raster → Field ℤ → ℕ → ℕ → ℕ → Type 0
+FollowsDown r S y a b = (x : ℕ) → a ≤ x → x < b → departure r S (down_edge x y) ≡ pos 0
+
+-- the numbers of row y from column a to before column b add up to z
+abbrev pub AddUpTo : Field ℤ → ℕ → ℕ → ℕ → ℤ → Type 0
+AddUpTo f y a b z = sum_row b f y ≡ sum_row a f y +ℤ z
 
 -- what a surface is put together from has one size: the scene, the mask, the results and the labels; each tile has a good result, and each open pixel, and no masked one, a region
 pub record GoTogether (s : Scene) (m : MaskView) (v : RegionsView) (results : List TileResult) : Type 0 where

@@ -1,16 +1,15 @@
 ghost use Rattle.raster_model.specs.Heights.{KnowsOpen};
-ghost use Rattle.raster_model.specs.Limits.{IsTileSide, max_side};
 ghost use Rattle.raster_model.specs.Masks.{open_at};
 ghost use Rattle.raster_model.specs.Raster.{has_open_ends, is_seam, lifted, seam_cost as seam_cost_of, seam_cost_from, seam_edge_cost};
 ghost use Rattle.raster_model.specs.Scene.{raster_of};
 ghost use Rattle.raster_model.specs.Sums.{down_edge, is_edge, right_edge, sum_row};
 ghost use Rattle.std.specs.Prelude.{◌≡◌, ◌==◌, ◌+◌, ◌-◌, ◌*◌, ◌%◌, ◌<◌, ◌≤◌, ◌^◌, IsTrue, if◌then◌else◌, nat_lt, pos};
 ghost use Rattle.sums_and_lists.specs.Sums.{where_true};
-ghost use Rattle.surface_snapshots.specs.Loops.{AreOfEdges, AreOpenFrom, inner_cost_from, inner_edge_cost};
+ghost use Rattle.surface_snapshots.specs.Loops.{AddUpTo, AreOfEdges, AreOpenFrom, FollowsDown, FollowsRight, KnowsFrom, inner_cost_from, inner_edge_cost};
 ghost use Rattle.surface_snapshots.specs.Parts.{tile_costs};
 
 use certificates::edge_cost;
-use raster_model::{Edge, Heights, Mask, Scene};
+use raster_model::{Edge, Heights, Mask, Scene, departure};
 use seam_regions::next_left;
 
 /// What a surface costs.
@@ -24,6 +23,9 @@ pub struct Costs {
 
 /// No costs.
 const NONE: Costs = Costs { tiles: 0, seams: 0 };
+
+/// How many pixels of a row are judged at once.
+const PIECE: u32 = 64;
 
 impl Costs {
     /// The costs of the surface that lies so high at the open pixels, in one pass over the edges.
@@ -63,35 +65,129 @@ fn row_costs<H: Heights>(scene: &Scene, mask: &Mask, heights: &H, y: u32) -> Cos
     ensures seams { pos result.seams ≡ sum_row scene.now.phase.width (seam_cost_from (raster_of scene.now) (open_at mask.now) (lifted (raster_of scene.now) (H.cycles_at heights.now))) y }
     ensures small { AreOfEdges 8192 result }
 {
+    let width = scene.phase.width;
+    let mut costs = NONE;
+    let mut x = 0;
+    while x < width {
+        let end = (x + PIECE).min(width);
+        costs = costs.plus(piece_costs(scene, mask, heights, y, x, end));
+        x = end;
+    }
+    costs
+}
+
+/// What the edges that start in a piece of a row add, from column `x0` to before column `end`. An edge at which the
+/// surface does not depart adds nothing, in a tile or from tile to tile.
+fn piece_costs<H: Heights>(
+    scene: &Scene,
+    mask: &Mask,
+    heights: &H,
+    y: u32,
+    x0: u32,
+    end: u32,
+) -> Costs
+    requires same_size { (mask.now.width ≡ scene.now.phase.width) × (mask.now.height ≡ scene.now.phase.height) }
+    requires known { KnowsOpen (raster_of scene.now) (open_at mask.now) (H.knows heights.now) }
+    requires row { y < scene.now.phase.height }
+    requires piece { (x0 < end) × (end ≤ scene.now.phase.width) }
+    ensures tiles { AddUpTo (inner_cost_from (raster_of scene.now) (open_at mask.now) (lifted (raster_of scene.now) (H.cycles_at heights.now))) y x0 end (pos result.tiles) }
+    ensures seams { AddUpTo (seam_cost_from (raster_of scene.now) (open_at mask.now) (lifted (raster_of scene.now) (H.cycles_at heights.now))) y x0 end (pos result.seams) }
+    ensures small { AreOfEdges (2 * (end - x0)) result }
+{
+    let unmasked = are_open_from(mask, y, x0, end);
+    if !unmasked || !follows(scene, heights, y, x0, end) {
+        return costs_by_pixels(scene, mask, heights, y, x0, end, unmasked);
+    }
+    NONE
+}
+
+/// Whether the pixels of a row and of the next one are open, from column `x0` to column `end`, as far as the raster
+/// goes.
+fn are_open_from(mask: &Mask, y: u32, x0: u32, end: u32) -> bool
+    requires row { y < mask.now.height }
+    requires piece { (x0 < end) × (end ≤ mask.now.width) }
+    ensures { IsTrue result → AreOpenFrom mask.now y x0 end }
+{
+    let last = end.min(mask.width() - 1);
+    mask.is_open_span(y, x0, last) && (y + 1 == mask.height() || mask.is_open_span(y + 1, x0, last))
+}
+
+/// Whether a surface departs at no edge that starts in a piece of a row.
+fn follows<H: Heights>(scene: &Scene, heights: &H, y: u32, x0: u32, end: u32) -> bool
+    requires row { y < scene.now.phase.height }
+    requires piece { (x0 < end) × (end ≤ scene.now.phase.width) }
+    requires known { KnowsFrom (raster_of scene.now) (H.knows heights.now) y x0 end }
+    ensures right { IsTrue result → FollowsRight (raster_of scene.now) (lifted (raster_of scene.now) (H.cycles_at heights.now)) y x0 end }
+    ensures down { IsTrue result → y + 1 < scene.now.phase.height → FollowsDown (raster_of scene.now) (lifted (raster_of scene.now) (H.cycles_at heights.now)) y x0 end }
+{
+    if !follows_right(scene, heights, y, x0, end) {
+        return false;
+    }
+    y + 1 == scene.phase.height || follows_down(scene, heights, y, x0, end)
+}
+
+/// Whether it departs at no right edge there. It does not stop at the first at which it does, so that several can be
+/// judged at once.
+fn follows_right<H: Heights>(scene: &Scene, heights: &H, y: u32, x0: u32, end: u32) -> bool
+    requires row { y < scene.now.phase.height }
+    requires piece { (x0 < end) × (end ≤ scene.now.phase.width) }
+    requires known { KnowsFrom (raster_of scene.now) (H.knows heights.now) y x0 end }
+    ensures { IsTrue result → FollowsRight (raster_of scene.now) (lifted (raster_of scene.now) (H.cycles_at heights.now)) y x0 end }
+{
+    let mut departs = false;
+    for x in x0..end.min(scene.phase.width - 1) {
+        let edge = Edge { x, y, down: false };
+        departs |= departure(scene, heights, edge) != 0;
+    }
+    !departs
+}
+
+/// Whether it departs at no down edge there. The row is not the last.
+fn follows_down<H: Heights>(scene: &Scene, heights: &H, y: u32, x0: u32, end: u32) -> bool
+    requires row { y + 1 < scene.now.phase.height }
+    requires piece { (x0 < end) × (end ≤ scene.now.phase.width) }
+    requires known { KnowsFrom (raster_of scene.now) (H.knows heights.now) y x0 end }
+    ensures { IsTrue result → FollowsDown (raster_of scene.now) (lifted (raster_of scene.now) (H.cycles_at heights.now)) y x0 end }
+{
+    let mut departs = false;
+    for x in x0..end {
+        let edge = Edge { x, y, down: true };
+        departs |= departure(scene, heights, edge) != 0;
+    }
+    !departs
+}
+
+/// What the edges that start in a piece of a row add, counted pixel by pixel. `unmasked` tells that the pixels of the
+/// row and of the next one are known to be open there.
+fn costs_by_pixels<H: Heights>(
+    scene: &Scene,
+    mask: &Mask,
+    heights: &H,
+    y: u32,
+    x0: u32,
+    end: u32,
+    unmasked: bool,
+) -> Costs
+    requires same_size { (mask.now.width ≡ scene.now.phase.width) × (mask.now.height ≡ scene.now.phase.height) }
+    requires known { KnowsOpen (raster_of scene.now) (open_at mask.now) (H.knows heights.now) }
+    requires row { y < scene.now.phase.height }
+    requires piece { (x0 < end) × (end ≤ scene.now.phase.width) }
+    requires unmasked { IsTrue unmasked → AreOpenFrom mask.now y x0 end }
+    ensures tiles { AddUpTo (inner_cost_from (raster_of scene.now) (open_at mask.now) (lifted (raster_of scene.now) (H.cycles_at heights.now))) y x0 end (pos result.tiles) }
+    ensures seams { AddUpTo (seam_cost_from (raster_of scene.now) (open_at mask.now) (lifted (raster_of scene.now) (H.cycles_at heights.now))) y x0 end (pos result.seams) }
+    ensures small { AreOfEdges (2 * (end - x0)) result }
+{
     let side = scene.tiling.side;
     let lowest = (y + 1) % side == 0;
     let mut costs = NONE;
-    // the columns of the tile from `x` on, and whether they are known to be open here and in the next row
-    let mut left = side;
-    let mut unmasked = false;
-    for x in 0..scene.phase.width {
-        unmasked = are_open_from(mask, x, y, left, side, unmasked);
+    // the columns of the tile from `x` on
+    let mut left = side - x0 % side;
+    for x in x0..end {
         let last = left == 1;
         costs = costs.plus(costs_from(scene, mask, heights, x, y, last, lowest, unmasked));
         left = next_left(left, side);
     }
     costs
-}
-
-/// Whether the pixels of a row and of the next one are open, from column `x` to the first one of the next tile. `left`
-/// counts the columns of the tile from `x` on. Within a tile the answer for the column before stays, `unmasked`.
-fn are_open_from(mask: &Mask, x: u32, y: u32, left: u32, side: u32, unmasked: bool) -> bool
-    requires pixel { (x < mask.now.width) × (y < mask.now.height) }
-    requires sides { (mask.now.width ≤ max_side) × (mask.now.height ≤ max_side) × IsTileSide side }
-    requires left { left ≤ side }
-    requires unmasked { left < side → IsTrue unmasked → AreOpenFrom mask.now y x (x + left) }
-    ensures { IsTrue result → AreOpenFrom mask.now y x (x + left) }
-{
-    if left < side {
-        return unmasked;
-    }
-    let last = (x + side).min(mask.width() - 1);
-    mask.is_open_span(y, x, last) && (y + 1 == mask.height() || mask.is_open_span(y + 1, x, last))
 }
 
 /// What the edges that start at a pixel add. `last` tells that its column is the last of its tile, and

@@ -1,4 +1,4 @@
-use Rattle.std.proofs.Common.{◌∙◌, arith, length, to_z, of_z, w64, SFits, rules}
+use Rattle.std.proofs.Common.{◌∙◌, arith, to_z, of_z, w64, SFits, rules}
 use Rattle.std.proofs.lemmas.Int.{to_z-of_z}
 use Rattle.std.proofs.lemmas.List.{length-set}
 use Rattle.surface_snapshots.specs.Parts.{value_or}

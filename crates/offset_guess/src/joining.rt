@@ -33,11 +33,13 @@ impl Network {
             return Ok(found);
         }
         let joint = number(self.joints.len());
+        let after_low = self.region(low).first;
+        let after_high = self.region(high).first;
         self.joints.push(Joint {
             low,
             high,
-            after_low: self.region(low).first,
-            after_high: self.region(high).first,
+            after_low,
+            after_high,
             first: NONE,
             present: NONE,
             weight: 0,

@@ -6,7 +6,7 @@ use Rattle.raster_model.proofs.SumLemmas.{sum_grid-swap}
 use Rattle.flow_network.specs.Nets.{Shape, State, IsArc, IsNetwork, tail_of}
 use Rattle.shortest_augment.specs.Balance.{IsBlocked}
 use Rattle.shortest_augment.proofs.CallerLemmas.{blocked_excess, contains-is_in, is_in, is_in-contains}
-use Rattle.offset_network.specs.declared.link.Link.{Link}
+use Rattle.offset_guess.specs.declared.link.Link.{Link}
 use Rattle.offset_network.specs.Links.{AreLinks, IsLink, arcs_before, brings, link_at}
 use Rattle.offset_network.specs.Networks.{HasArcs, HasFlows, flow_left, flow_of}
 use Rattle.offset_network.proofs.FlowLemmas.{first_is_arc, first_tail, twin_is_arc, twin_tail}

@@ -11,7 +11,7 @@ use Rattle.raster_model.proofs.Balance.{balanced_by_labels}
 use Rattle.raster_model.proofs.Exact.{cycles_depart}
 use Rattle.raster_model.proofs.SumLemmas.{sum_edges-same}
 use Rattle.flow_network.specs.Nets.{IsNetwork, Shape, State, reduced_cost, tail_of}
-use Rattle.offset_network.specs.declared.link.Link.{Link}
+use Rattle.offset_guess.specs.declared.link.Link.{Link}
 use Rattle.offset_network.specs.Links.{arcs_before, brings, link_at}
 use Rattle.offset_network.specs.Networks.{AreFlows, IsArcOf, IsSolved, flow_left, flow_of}
 use Rattle.offset_network.specs.Seams.{AreSeamLinks, link_of}

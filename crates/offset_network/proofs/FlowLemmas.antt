@@ -4,7 +4,7 @@ use Rattle.std.specs.Prelude.{ℤ, pos, ◌+ℤ◌, ◌-ℤ◌, ◌==◌, ◌&&�
 use Rattle.std.proofs.lemmas.Int.{ints}
 use Rattle.flow_network.specs.Nets.{Shape, State, IsArc, IsNetwork, tail_of}
 use Rattle.flow_network.specs.Moves.{IsConserved, out_term, residual_out}
-use Rattle.offset_network.specs.declared.link.Link.{Link}
+use Rattle.offset_guess.specs.declared.link.Link.{Link}
 use Rattle.offset_network.specs.Links.{arcs_before, brings, link_at, start_flow}
 use Rattle.offset_network.specs.Networks.{HasArcs, HasFlows, IsArcOf, IsStarted, flow_left, flow_of, supply_of}
 use Rattle.offset_network.proofs.LinkLemmas.{both_arcs, sum_arcs}

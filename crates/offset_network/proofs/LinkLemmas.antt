@@ -4,7 +4,7 @@ use Rattle.std.specs.Prelude.{ℤ, pos, negsuc, neg_ℤ, ◌+ℤ◌, ◌-ℤ◌,
 use lib.Dec.{T}
 use lib.Signed.{non_neg}
 use Rattle.std.proofs.lemmas.Int.{ints}
-use Rattle.offset_network.specs.declared.link.Link.{Link}
+use Rattle.offset_guess.specs.declared.link.Link.{Link}
 use Rattle.offset_network.specs.Links.{arcs_before, arcs_of, link_at, toward}
 use Rattle.sums_and_lists.specs.Sums.{sum_below, where_true}
 use Rattle.sums_and_lists.proofs.SumLemmas.{sum_below-add, sum_below-more, sum_below-none, sum_below-pick, sum_below-same}

@@ -19,7 +19,7 @@ use Rattle.certificates.specs.SeamVerdicts.{IsSeamEdge}
 use Rattle.certificates.proofs.EdgeLemmas.{both_hold, one_more}
 use Rattle.seam_regions.specs.Regions.{AreRegionsOf, label_at, region_at}
 use Rattle.seam_regions.specs.RegionsView.{RegionsView}
-use Rattle.offset_network.specs.declared.link.Link.{Link}
+use Rattle.offset_guess.specs.declared.link.Link.{Link}
 use Rattle.offset_network.specs.Links.{IsLink, IsLinkIn, link_at}
 use Rattle.offset_network.specs.Seams.{AddsLink, AddsLinksFrom, IsPlaced, JoinRegions, link_of}
 use Rattle.sums_and_lists.proofs.Tests.{one_at_most}

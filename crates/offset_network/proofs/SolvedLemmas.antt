@@ -14,7 +14,7 @@ use Rattle.flow_network.specs.Nets.{IsNetwork, Shape, State}
 use Rattle.seam_regions.specs.Regions.{AreRegionsOf, label_at, offset_at, shifted_by}
 use Rattle.seam_regions.specs.RegionsView.{RegionsView}
 use Rattle.seam_regions.proofs.CallerLemmas.{regions_of_scene}
-use Rattle.offset_network.specs.declared.link.Link.{Link}
+use Rattle.offset_guess.specs.declared.link.Link.{Link}
 use Rattle.offset_network.specs.Networks.{AreFlows, AreLowered, IsSolved}
 use Rattle.offset_network.specs.Seams.{AreSeamLinks}
 use Rattle.offset_network.specs.Surfaces.{IsGoodSeams}

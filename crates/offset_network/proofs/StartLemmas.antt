@@ -6,7 +6,7 @@ use Rattle.flow_network.specs.Nets.{Shape, State, IsNetwork}
 use Rattle.flow_network.specs.Growing.{AddsArc, supply_sizes, total_residual}
 use Rattle.flow_network.proofs.CallerLemmas.{total_amount-added}
 use Rattle.shortest_augment.specs.Balance.{BoundsCosts}
-use Rattle.offset_network.specs.declared.link.Link.{Link}
+use Rattle.offset_guess.specs.declared.link.Link.{Link}
 use Rattle.offset_network.specs.Links.{AreLinks, IsLink, IsLinkIn, arcs_before, arcs_of, link_at, start_flow}
 use Rattle.offset_network.specs.Networks.{AddsLinkArc, AreSupplies, IsArcOf, IsJoined, IsStarted, flow_left, flow_of}
 use Rattle.offset_network.proofs.LinkLemmas.{arcs-more, arcs-none}

@@ -4,7 +4,7 @@ use Rattle.std.specs.Prelude.{ℤ, pos, neg_ℤ, ◌+ℤ◌, ◌-ℤ◌, ◌≤�
 use Rattle.std.proofs.lemmas.Int.{ints}
 use Rattle.std.proofs.lemmas.List.{get_or-replicate, get_or_past, length-replicate}
 use Rattle.flow_network.specs.Growing.{supply_sum, supply_sizes}
-use Rattle.offset_network.specs.declared.link.Link.{Link}
+use Rattle.offset_guess.specs.declared.link.Link.{Link}
 use Rattle.offset_network.specs.Links.{IsLink, brings, link_at, link_start, start_flow}
 use Rattle.offset_network.specs.Networks.{AddsAt, AreSupplies, IsSupplied, supply_of}
 use Rattle.offset_network.proofs.LinkLemmas.{sum_added, toward_within}

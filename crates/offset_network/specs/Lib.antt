@@ -2,3 +2,4 @@ pub mod Links
 pub mod Networks
 pub mod Surfaces
 pub mod Seams
+pub mod Shifted

@@ -1,6 +1,6 @@
 -- Seam edges with open ends as links between regions, in edge order; None stands for a seam edge with a masked end. No public clause cites this file.
 use Rattle.std.specs.Prelude.{◌≡◌, ℕ, zero, suc, ◌<◌, ◌≤◌, ◌==◌, ℤ, pos, negsuc, neg_ℤ, ◌-ℤ◌, Option, Some, None, List, length, slice_index_or, unsigned_abs}
-use Rattle.offset_network.specs.declared.link.Link.{Link}
+use Rattle.offset_guess.specs.declared.link.Link.{Link}
 use Rattle.sums_and_lists.specs.Sums.{count_below, where_true}
 
 -- the link at a place

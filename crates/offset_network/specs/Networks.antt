@@ -3,7 +3,7 @@ use Rattle.std.specs.Prelude.{◌≡◌, ℕ, ◌+◌, ◌*◌, ◌<◌, ◌≤�
 use Rattle.flow_network.specs.Nets.{Shape, State, IsArc, HasReducedCosts}
 use Rattle.flow_network.specs.Growing.{AddsArc, supply_sum, supply_sizes, total_amount}
 use Rattle.shortest_augment.specs.Balance.{IsBalanced, LiesWithin}
-use Rattle.offset_network.specs.declared.link.Link.{Link}
+use Rattle.offset_guess.specs.declared.link.Link.{Link}
 use Rattle.offset_network.specs.Links.{arcs_before, brings, link_at, link_start, start_flow}
 use Rattle.sums_and_lists.specs.Sums.{sum_below, where_true}
 

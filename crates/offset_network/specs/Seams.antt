@@ -6,7 +6,7 @@ use Rattle.raster_model.specs.Raster.{Raster, cycle_departure, has_open_ends}
 use Rattle.raster_model.specs.Flows.{is_seam_edge, seam_count, seam_place, seams_from}
 use Rattle.certificates.specs.EdgeWords.{HoldsFrom}
 use Rattle.certificates.specs.SeamVerdicts.{IsSeamEdge}
-use Rattle.offset_network.specs.declared.link.Link.{Link}
+use Rattle.offset_guess.specs.declared.link.Link.{Link}
 use Rattle.offset_network.specs.Links.{IsLinkIn, link_at}
 use Rattle.sums_and_lists.specs.Sums.{one_if}
 

@@ -9,9 +9,10 @@ ghost use Rattle.seam_regions.specs.Regions.{AreRegionsOf, label_at};
 ghost use Rattle.shortest_augment.specs.Balance.{LiesWithin};
 ghost use Rattle.std.specs.Prelude.{◌≡◌, ℕ, ◌+◌, ◌*◌, ◌<◌, ◌≤◌, ◌+ℤ◌, ◌≤ℤ◌, IfNone, IfOk, IfSome, Some, length, neg_ℤ, pos, unsigned_abs, ◌^◌};
 
-use crate::link::{Link, arcs_of};
+use crate::link::arcs_of;
 use crate::surface::TileSurface;
 use flow_network::{FlowNet, Network};
+use offset_guess::Link;
 use raster_model::first_open;
 use seam_regions::Regions;
 use std::alloc::{AllocError, Global};

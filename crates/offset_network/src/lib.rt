@@ -3,10 +3,12 @@
 #![tactic(auto)]
 
 mod answer;
+mod guessing;
 mod link;
 mod links;
 mod network;
+mod shifted;
 mod solving;
 mod surface;
 
-pub use crate::solving::solve_offsets;
+pub use crate::solving::{solve_offsets, solve_offsets_from};

@@ -1,51 +1,38 @@
 ghost use Rattle.offset_network.specs.Links.{arcs_of as arcs_of_link, link_start};
 ghost use Rattle.std.specs.Prelude.{◌≡◌, ◌≤◌, ◌+ℤ◌, ◌-ℤ◌, pos};
 
-/// A seam edge with open ends, as the network sees it.
-#[derive(Clone, Copy)]
-pub(crate) struct Link {
-    /// The region of the edge's first pixel.
-    pub(crate) from: u32,
-    /// The region of the other.
-    pub(crate) to: u32,
-    /// The edge's weight.
-    pub(crate) weight: u16,
-    /// By how many whole cycles the surface of the tiles' results departs there.
-    pub(crate) departure: i64,
-}
+use offset_guess::Link;
 
-impl Link {
-    /// The flow at the start, from the first region to the other. A departure pulls it to an end of its range.
-    pub(crate) fn start_flow(self) -> i64
-        ensures { result ≡ link_start self }
-    {
-        if self.departure > 0 {
-            i64::from(self.weight)
-        } else if self.departure < 0 {
-            -i64::from(self.weight)
-        } else {
-            0
-        }
-    }
-
-    /// What is left of the link's arc at the start.
-    pub(crate) fn forward(self) -> u64
-        requires { self.weight ≤ 65535 }
-        ensures { pos result ≡ (pos self.weight -ℤ link_start self) }
-    {
-        (i64::from(self.weight) - self.start_flow()) as u64
-    }
-
-    /// What is left of its twin.
-    pub(crate) fn back(self) -> u64
-        requires { self.weight ≤ 65535 }
-        ensures { pos result ≡ (pos self.weight +ℤ link_start self) }
-    {
-        (i64::from(self.weight) + self.start_flow()) as u64
+/// The flow of a link at the start, from its first region to the other. A departure pulls it to an end of its range.
+pub(crate) fn start_flow(link: Link) -> i64
+    ensures { result ≡ link_start link }
+{
+    if link.departure > 0 {
+        i64::from(link.weight)
+    } else if link.departure < 0 {
+        -i64::from(link.weight)
+    } else {
+        0
     }
 }
 
-/// How many arcs a seam edge has: one and its twin where its ends are open.
+/// What is left of a link's arc at the start.
+pub(crate) fn forward(link: Link) -> u64
+    requires { link.weight ≤ 65535 }
+    ensures { pos result ≡ (pos link.weight -ℤ link_start link) }
+{
+    (i64::from(link.weight) - start_flow(link)) as u64
+}
+
+/// What is left of its twin.
+pub(crate) fn back(link: Link) -> u64
+    requires { link.weight ≤ 65535 }
+    ensures { pos result ≡ (pos link.weight +ℤ link_start link) }
+{
+    (i64::from(link.weight) + start_flow(link)) as u64
+}
+
+/// How many arcs a seam edge has: one and its twin if its ends are open.
 pub(crate) fn arcs_of(link: Option<Link>) -> u32
     ensures { result ≡ arcs_of_link link }
 {

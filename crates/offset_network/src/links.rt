@@ -7,9 +7,9 @@ ghost use Rattle.raster_model.specs.Scene.{raster_of};
 ghost use Rattle.seam_regions.specs.Regions.{AreRegionsOf, label_at};
 ghost use Rattle.std.specs.Prelude.{◌≡◌, ◌<◌, IfOk, IsTrue, OnOk, length};
 
-use crate::link::Link;
 use crate::surface::TileSurface;
 use certificates::{TileEnds, is_seam_edge, next_start, seam_count};
+use offset_guess::Link;
 use raster_model::{Edge, weight};
 use seam_regions::Regions;
 use std::alloc::{AllocError, Global};

@@ -4,8 +4,9 @@ ghost use Rattle.offset_network.specs.Links.{AreLinks, IsLinkIn};
 ghost use Rattle.offset_network.specs.Networks.{AddsAt, AreSupplies, IsJoined, IsSolved, IsStarted, IsSupplied};
 ghost use Rattle.std.specs.Prelude.{◌≡◌, ℕ, ◌+◌, ◌<◌, ◌≤◌, ◌^◌, ◌≤ℤ◌, IfOk, OnOk, length, pos, slice_index_or, unsigned_abs};
 
-use crate::link::Link;
+use crate::link::{back, forward, start_flow};
 use flow_network::Network;
+use offset_guess::Link;
 use shortest_augment::{BalanceFault, balance};
 use std::alloc::{AllocError, Global};
 
@@ -27,7 +28,7 @@ fn supply(supplies: &mut Vec<i64>, link: Option<Link>)
     ensures { IsSupplied supplies.old.items supplies.new.items link }
 {
     if let Some(link) = link {
-        let flow = link.start_flow();
+        let flow = start_flow(link);
         add_to(supplies, link.to as usize, flow);
         add_to(supplies, link.from as usize, -flow);
     }
@@ -55,8 +56,8 @@ fn join(alloc: Global, net: &mut Network, link: Option<Link>) -> Result<(), Allo
 {
     if let Some(link) = link {
         let cost = -link.departure;
-        let forward = link.forward();
-        let back = link.back();
+        let forward = forward(link);
+        let back = back(link);
         net.add_arc(alloc, link.from, link.to, cost, forward, back)?;
     }
     Ok(())

@@ -1,14 +1,20 @@
 ghost use Rattle.certificates.specs.SeamVerdicts.{IsGoodAtSeams};
+ghost use Rattle.certificates.specs.TileSets.{solved_cycles};
+ghost use Rattle.offset_network.specs.Links.{AreLinks};
+ghost use Rattle.offset_network.specs.Seams.{AreSeamLinks};
 ghost use Rattle.offset_network.specs.Surfaces.{AreGoodTiles, IsGoodSeams};
+ghost use Rattle.raster_model.specs.Scene.{raster_of};
 ghost use Rattle.raster_model.specs.Masks.{open_at};
-ghost use Rattle.seam_regions.specs.Regions.{AreRegionsOf};
+ghost use Rattle.seam_regions.specs.Regions.{AreRegionsOf, label_at};
 ghost use Rattle.std.specs.Prelude.{◌≡◌, IfOk};
 
 use crate::answer::{anchor, flows, lowered};
+use crate::guessing::{certified, guess_or_solver};
 use crate::links::links;
 use crate::network::solved;
 use crate::surface::TileSurface;
 use certificates::{SeamResult, TileSet};
+use offset_guess::{Guess, Link};
 use raster_model::{Mask, Scene};
 use seam_regions::Regions;
 use std::alloc::{AllocError, Global};
@@ -16,7 +22,7 @@ use std::alloc::{AllocError, Global};
 /// Whole cycles for each region of a scene under a mask, in the order of the regions' numbers, and the flows that certify
 /// them, one for each seam edge in edge order. Added to the cycles of the tiles' results, the offsets make a surface that
 /// equals the phase at the first open pixel in row order and whose seams cost least under any offsets. `revision` is that
-/// of the mask. It is refused for want of memory alone. (Chen and Zebker 2002.)
+/// of the mask. It is refused for lack of memory alone. (Chen and Zebker 2002.)
 pub fn solve_offsets(
     alloc: Global,
     scene: &Scene,
@@ -31,11 +37,54 @@ pub fn solve_offsets(
     ensures revision { IfOk result (λ solved. solved.revision ≡ revision) }
     ensures good { IfOk result (IsGoodSeams scene.now mask.now regions.now tiles.now) }
 {
+    solve_offsets_from(alloc, scene, mask, regions, tiles, revision, None)
+}
+
+/// Finds offsets as `solve_offsets` does, from a guess at them and at their flows, or from that of `offset_guess` if none is
+/// given. The offsets of a guess are lowered together so that the surface meets the first open pixel. A guess that then
+/// certifies itself is taken, and any other is dropped: so it can cost time, and nothing else. (McConnell, Mehlhorn, Naeher
+/// and Schweitzer 2011.)
+pub fn solve_offsets_from(
+    alloc: Global,
+    scene: &Scene,
+    mask: &Mask,
+    regions: &Regions,
+    tiles: &TileSet,
+    revision: u32,
+    guess: Option<Guess>,
+) -> Result<SeamResult, AllocError>
+    requires same_size { (mask.now.width ≡ scene.now.phase.width) × (mask.now.height ≡ scene.now.phase.height) }
+    requires regions { AreRegionsOf scene.now.tiling mask.now regions.now }
+    requires tiles { AreGoodTiles scene.now (open_at mask.now) tiles.now }
+    ensures revision { IfOk result (λ solved. solved.revision ≡ revision) }
+    ensures good { IfOk result (IsGoodSeams scene.now mask.now regions.now tiles.now) }
+{
     let surface = TileSurface { scene, mask, tiles };
     let links = links(alloc, &surface, regions)?;
-    let net = solved(alloc, regions.count(), &links)?;
-    let flows = flows(alloc, &net, &links)?;
-    let offsets = lowered(alloc, &net, anchor(&surface, regions, &net))?;
+    let guess = guess_or_solver(alloc, regions, &links, guess)?;
+    if let Some(solved) = certified(alloc, &surface, regions, guess, revision)? {
+        return Ok(solved);
+    }
+    by_network(alloc, &surface, regions, &links, revision)
+}
+
+/// Finds them by the proved network.
+fn by_network(
+    alloc: Global,
+    surface: &TileSurface,
+    regions: &Regions,
+    links: &[Option<Link>],
+    revision: u32,
+) -> Result<SeamResult, AllocError>
+    requires regions { AreRegionsOf surface.now.scene.now.tiling surface.now.mask.now regions.now }
+    requires links { AreLinks regions.now.count links.now }
+    requires seams { AreSeamLinks (raster_of surface.now.scene.now) (open_at surface.now.mask.now) (label_at regions.now) (solved_cycles surface.now.scene.now surface.now.tiles.now.results) links.now }
+    ensures revision { IfOk result (λ solved. solved.revision ≡ revision) }
+    ensures good { IfOk result (IsGoodSeams surface.now.scene.now surface.now.mask.now regions.now surface.now.tiles.now) }
+{
+    let net = solved(alloc, regions.count(), links)?;
+    let flows = flows(alloc, &net, links)?;
+    let offsets = lowered(alloc, &net, anchor(surface, regions, &net))?;
     Ok(SeamResult {
         revision,
         offsets,

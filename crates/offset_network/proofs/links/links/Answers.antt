@@ -8,7 +8,7 @@ use Rattle.certificates.specs.SeamVerdicts.{IsSeamEdge}
 use Rattle.certificates.proofs.EdgeLemmas.{all_before, none_before, row_more}
 use Rattle.certificates.proofs.PassLemmas.{before_past, holds_past}
 use Rattle.seam_regions.specs.Regions.{label_at}
-use Rattle.offset_network.specs.declared.link.Link.{Link}
+use Rattle.offset_guess.specs.declared.link.Link.{Link}
 use Rattle.offset_network.specs.Seams.{IsPlaced, JoinRegions}
 use Rattle.certificates.specs.TileSets.{solved_cycles}
 use Rattle.offset_network.proofs.PlaceLemmas.{in_raster, join_none, seams_at_most_two, still_placed}

@@ -3,7 +3,7 @@ use Rattle.std.specs.Prelude.{Option}
 use Rattle.raster_model.specs.Masks.{open_at}
 use Rattle.raster_model.specs.Scene.{raster_of}
 use Rattle.seam_regions.specs.Regions.{label_at}
-use Rattle.offset_network.specs.declared.link.Link.{Link}
+use Rattle.offset_guess.specs.declared.link.Link.{Link}
 use Rattle.offset_network.specs.Seams.{AddsLink}
 use Rattle.certificates.specs.TileSets.{solved_cycles}
 use Rattle.offset_network.proofs.PlaceLemmas.{adds_link}

@@ -1,6 +1,6 @@
 use Rattle.std.proofs.Common.{subst, sym, arith}
 use Rattle.std.specs.Prelude.{Option}
-use Rattle.offset_network.specs.declared.link.Link.{Link}
+use Rattle.offset_guess.specs.declared.link.Link.{Link}
 use Rattle.offset_network.specs.Networks.{IsSupplied}
 use Rattle.offset_network.proofs.LinkLemmas.{start_is}
 use Rattle.offset_network.proofs.SupplyLemmas.{supplied}

@@ -1,0 +1,116 @@
+ghost use Rattle.certificates.specs.SeamVerdicts.{IsGoodAtSeams};
+ghost use Rattle.offset_network.specs.Shifted.{cycles_under};
+ghost use Rattle.offset_network.specs.Surfaces.{AreNear, IsGoodSeams};
+ghost use Rattle.raster_model.specs.Masks.{open_at};
+ghost use Rattle.raster_model.specs.Scene.{raster_of};
+ghost use Rattle.seam_regions.specs.Regions.{AreRegionsOf};
+ghost use Rattle.std.specs.Prelude.{◌≡◌, IfOk, IfSome, IsTrue, length};
+
+use crate::shifted::ShiftedSurface;
+use crate::surface::TileSurface;
+use certificates::{SeamResult, SeamVerdict, check_flows};
+use offset_guess::{Guess, Link, guess_offsets};
+use raster_model::first_open;
+use seam_regions::Regions;
+use std::alloc::{AllocError, Global};
+
+/// The greatest absolute offset: 2^46.
+const MAX_OFFSET: u64 = 70_368_744_177_664;
+
+/// The guess that is given, or that of the fast solver.
+pub(crate) fn guess_or_solver(
+    alloc: Global,
+    regions: &Regions,
+    links: &[Option<Link>],
+    guess: Option<Guess>,
+) -> Result<Guess, AllocError> {
+    match guess {
+        Some(guess) => Ok(guess),
+        None => guess_offsets(alloc, regions.count(), links),
+    }
+}
+
+/// The offsets and flows of a guess, if they are found to certify the surface at its seams. A guess promises nothing: all
+/// rests on the check.
+pub(crate) fn certified(
+    alloc: Global,
+    surface: &TileSurface,
+    regions: &Regions,
+    guess: Guess,
+    revision: u32,
+) -> Result<Option<SeamResult>, AllocError>
+    requires regions { AreRegionsOf surface.now.scene.now.tiling surface.now.mask.now regions.now }
+    ensures { IfOk result (λ found. IfSome found (λ solved. (solved.revision ≡ revision) × IsGoodSeams surface.now.scene.now surface.now.mask.now regions.now surface.now.tiles.now solved)) }
+{
+    let mut offsets = guess.offsets;
+    let height = first_height(surface, regions, &offsets);
+    lower(&mut offsets, height);
+    if offsets.len() != regions.count() as usize || !are_near(&offsets) {
+        return Ok(None);
+    }
+    let shifted = ShiftedSurface {
+        surface: *surface,
+        regions,
+        offsets: &offsets,
+    };
+    if !certifies(alloc, &shifted, &guess.flows)? {
+        return Ok(None);
+    }
+    Ok(Some(SeamResult {
+        revision,
+        offsets,
+        flows: guess.flows,
+    }))
+}
+
+/// Whether the check of the flows finds that they certify a surface at its seams.
+fn certifies(alloc: Global, shifted: &ShiftedSurface, flows: &[i64]) -> Result<bool, AllocError>
+    requires { AreRegionsOf shifted.now.surface.scene.now.tiling shifted.now.surface.mask.now shifted.now.regions.now }
+    ensures { IfOk result (λ good. IsTrue good → IsGoodAtSeams (raster_of shifted.now.surface.scene.now) (open_at shifted.now.surface.mask.now) (cycles_under shifted.now) flows.now) }
+{
+    let surface = shifted.surface;
+    let mut scratch = vec![in alloc; 0; shifted.regions.count() as usize]?;
+    let labels = shifted.regions.labels();
+    match check_flows(
+        surface.scene,
+        surface.mask,
+        labels,
+        shifted,
+        flows,
+        &mut scratch,
+    ) {
+        SeamVerdict::Good => Ok(true),
+        _ => Ok(false),
+    }
+}
+
+/// How high the first open pixel lies: its cycles and the offset of its region. 0 if no pixel is open.
+fn first_height(surface: &TileSurface, regions: &Regions, offsets: &[i64]) -> i64
+    requires regions { AreRegionsOf surface.now.scene.now.tiling surface.now.mask.now regions.now }
+{
+    let Some((x, y)) = first_open(surface.scene, surface.mask) else {
+        return 0;
+    };
+    let Some(region) = regions.region(x, y) else {
+        return 0;
+    };
+    let offset = offsets.get(region as usize).copied().unwrap_or(0);
+    offset.wrapping_add(i64::from(surface.at(x, y)))
+}
+
+/// Takes a number from each.
+fn lower(offsets: &mut [i64], by: i64) {
+    for offset in offsets {
+        *offset = offset.wrapping_sub(by);
+    }
+}
+
+/// Whether all offsets lie from -2^46 to 2^46.
+fn are_near(offsets: &[i64]) -> bool
+    ensures { IsTrue result → AreNear offsets.now }
+{
+    let far = offsets
+        .iter()
+        .position(|&offset| offset.unsigned_abs() > MAX_OFFSET);
+    far.is_none()
+}

@@ -74,7 +74,7 @@ IsUpToDate p q (Ok (advances.NotYet r)) = ⊤
 IsUpToDate p q (Ok advances.Ended) = ⊤
 IsUpToDate p q (Err fault) = ⊤
 
--- where the surface is not there yet, the next command is to settle
+-- if the answer is that the surface is not there yet, the next command is to settle
 abbrev pub AwaitsSurface : Session → PassView → Result Advance AdvanceFault → Type 0
 AwaitsSurface s q (Ok (advances.Revised r)) = ⊤
 AwaitsSurface s q (Ok (advances.Settled r)) = ⊤
@@ -83,7 +83,7 @@ AwaitsSurface s q (Ok (advances.NotYet r)) = IsAtSettle s q
 AwaitsSurface s q (Ok advances.Ended) = ⊤
 AwaitsSurface s q (Err fault) = ⊤
 
--- where the next command is to settle, nothing else is answered
+-- what may be answered if the next command is to settle
 abbrev pub IsOfSettle : Result Advance AdvanceFault → Type 0
 IsOfSettle (Ok (advances.Revised r)) = ⊥
 IsOfSettle (Ok (advances.Settled r)) = ⊤

@@ -32,13 +32,13 @@ pub record IsPassOf (d : DeskView) (p : PassView) : Type 0 where
   pub table : p.table ≡ d.table
   pub session : p.session ≡ Some d.session
 
--- a pass later: of the same desk and analyst
+-- q is the pass p at another time: it has the same desk and the same analyst
 pub record IsSamePass (p q : PassView) : Type 0 where
   pub table : q.table ≡ p.table
   pub session : q.session ≡ p.session
   pub analyst : q.analyst ≡ p.analyst
 
--- what was seen and what was added only grew
+-- q is the pass p later: what was seen and what was added only grew
 pub record IsLater (p q : PassView) : Type 0 where
   pub same : IsSamePass p q
   pub seen : IsPrefix p.seen q.seen
@@ -50,7 +50,7 @@ pub record HasNotMoved (p q : PassView) : Type 0 where
   pub ended : q.ended ≡ p.ended
 
 -- ---- passes by themselves
--- the analyst's script is at its end, by what was seen; its next command is to settle, by what was added
+-- by what was seen, the analyst's script is at its end; by what was added, its next command is to settle
 abbrev pub IsAtEnd : PassView → Type 0
 IsAtEnd p = (s : Session) (a : ℕ) → p.session ≡ Some s → p.analyst ≡ Some a → next_command s p.seen a ≡ None
 
@@ -59,7 +59,7 @@ pub record IsAtSettle (s : Session) (p : PassView) : Type 0 where
   pub is : p.analyst ≡ Some analyst
   pub next : slice_get (script_of s analyst) (length p.mine) ≡ Some Settle
 
--- what was added in the analyst's name is what the history that was seen has of it; an end that was told is one
+-- what was added in the analyst's name is what the history that was seen has of it; if an end was told, the script is at its end there
 pub record IsSound (p : PassView) : Type 0 where
   pub exact : p.mine ≡ mine_of p.analyst p.seen
   pub at_end : p.ended ≡ true → IsAtEnd p
@@ -77,7 +77,7 @@ abbrev pub HaveAnalysts : List PassView → Type 0
 HaveAnalysts passes = All (λ pass. pass.analyst ≢ None) passes
 
 -- ---- calls
--- A call was answered at one point of the history. There stood the board `before`, and the call left the board `after`. The history there begins with what the pass had seen, and its entries of the analyst are exactly what was added through the pass.
+-- A call was answered at one point of the history. The board at that point is `before`, and the call left the board `after`. The history there begins with what the pass had seen, and its entries of the analyst are exactly what was added through the pass.
 pub record Called (s : Session) (p q : PassView) (answers : BoardView → BoardView → Type 0) : Type 0 where
   pub same : IsSamePass p q
   pub before : BoardView
@@ -105,7 +105,7 @@ pub record AddsOwn (p q : PassView) (entry : ℕ → Entry) : Type 0 where
 abbrev pub worker_pass : PassView → PassView
 worker_pass p = record { table = p.table; session = p.session; analyst = None; seen = p.seen; mine = []; ended = false }
 
--- p took w in, and is q now: what was seen is the longer of both, which the other begins
+-- the pass p took w in, and is now q: what was seen is the longer of both histories, and the other begins it
 pub record Merged (p w q : PassView) : Type 0 where
   pub same : IsSamePass p q
   pub still : HasNotMoved p q

@@ -12,12 +12,12 @@ use Rattle.board_desk.specs.declared.law.Claim.{Claim}
 use Rattle.board_desk.specs.declared.law.View.{View}
 use Rattle.board_desk.specs.Mine.{mine_of}
 
--- a claim against a history: what was seen begins it, and its entries of the analyst are those of the claim
+-- a claim stands in a history: what was seen begins the history, and the claim's entries are the analyst's entries there
 pub record Meets (log : List Entry) (c : Claim) : Type 0 where
   pub begins : IsPrefix c.seen log
   pub exact : c.mine ≡ mine_of c.analyst log
 
--- what the seat i knows, where the history is log: the session, what its own claim and the one beside it say, which analysts' numbers and which board are its own
+-- what the seat i knows, if the history is `log`: the session, what its own claim and the claim beside it say, and which analysts' numbers and which board are its own
 pub record Fits (session : Session) (log : List Entry) (owner : ℕ → ℕ) (next holder giver out : ℕ) (i : ℕ) (v : View) : Type 0 where
   pub session_is : (x : Session) → v.session ≡ Some x → x ≡ session
   pub own : Meets log v.own
@@ -40,7 +40,7 @@ pub record IsAtHome (session : Session) (log : List Entry) (homes : Homes) : Typ
   pub log_is : board.entries ≡ log
   pub session_is : board.session ≡ session
 
--- the word 2 tells whether the board is at home or out; each number of an analyst has one seat, and none of those that are left has an entry
+-- the word 2 tells whether the board is at home or out; each number of an analyst has one seat, and the numbers that are left have no entries
 pub record IsRuled (session : Session) (s : State Item View) : Type 0 where
   pub log : List Entry
   -- which seat has an analyst's number, the first number that is left, which seat has the board, and which gives out numbers
@@ -79,7 +79,7 @@ enrolling v = view v.session v.own v.beside v.holds v.gives (v.next + 1)
 abbrev pub enrolled : View → View
 enrolled v = view v.session (claim (Some v.next) v.own.seen []) no_claim false false 0
 
--- a seat with no analyst that has seen as much
+-- a seat with no analyst that has seen as much as another
 abbrev pub plain_copy : View → View
 plain_copy v = view v.session (claim None v.own.seen []) no_claim false false 0
 
@@ -149,7 +149,7 @@ pub record Held (v : View) (b : BoardView) (n : Place) : Type 0 where
   pub exact : v.own.mine ≡ mine_of v.own.analyst b.entries
   pub session_is : (x : Session) → v.session ≡ Some x → x ≡ b.session
 
--- what was seen is now the longer of both, which the other begins
+-- what was seen is now the longer of both histories, and the other begins it
 pub record Merges (v w n : View) : Type 0 where
   pub one : ((n.own.seen ≡ v.own.seen) × (length w.own.seen ≤ length v.own.seen)) ⊎ ((n.own.seen ≡ w.own.seen) × (length v.own.seen ≤ length w.own.seen))
   pub first : IsPrefix v.own.seen n.own.seen

@@ -20,8 +20,8 @@ use tile_board::{
     Ticket,
 };
 
-/// A session's board behind a lock, which only one call holds at a time, in the order in which the calls came. No tile is
-/// solved while it is held.
+/// A session's board under a lock. Only one call has the board at a time, and calls are served in the order in which
+/// they drew their tickets. No tile is solved while a call has it.
 #[derive(Drop)]
 pub struct Desk {
     table: Table<Option<Board>, View, Snapshot<Session>, Law, Global>,
@@ -45,7 +45,8 @@ impl Desk {
     ghost use Rattle.tile_board.specs.declared.answers.PublishFault.TheVariants.{NotSettle};
     ghost use Rattle.tile_board.specs.Boards.{IsBoard};
 
-    /// The desk of a board without history, and a pass for each analyst, in order.
+    /// The desk of a board whose history is empty, and the passes of the analysts, from analyst 1 on. It fails only for
+    /// lack of memory.
     pub fn open(alloc: Global, board: Board) -> Result<(Desk, Vec<Pass>), AllocError>
         requires { board.entries ≡ [] }
         ensures session { IfOk result (λ made. made.0.session ≡ board.session) }
@@ -65,7 +66,7 @@ impl Desk {
         Ok((Desk { table }, passes))
     }
 
-    /// A worker's pass, by which as much was seen as by another.
+    /// A worker's pass. It has seen as much as the pass `from`, which stays as it was.
     pub fn worker_pass<R: Wait>(&self, _rt: &R, from: &mut Pass) -> Pass
         requires { IsPassOf self.now from.old }
         ensures same { from.new ≡ from.old }
@@ -84,7 +85,7 @@ impl Desk {
         }
     }
 
-    /// Takes a worker's pass back: by the other, what was seen is then the longer of both.
+    /// Takes a worker's pass back. The pass `into` has then seen the longer of both histories.
     pub fn give_back<R: Wait>(&self, _rt: &R, into: &mut Pass, worker: Pass)
         requires into { IsPassOf self.now into.old }
         requires worker { IsPassOf self.now worker }
@@ -99,7 +100,7 @@ impl Desk {
         }
     }
 
-    /// Asks for a tile to solve.
+    /// Asks for a tile to solve, as `Board::claim` gives it.
     pub fn claim<R: Wait>(
         &self,
         rt: &R,
@@ -121,7 +122,7 @@ impl Desk {
         }
     }
 
-    /// Hands in a tile's result.
+    /// Hands in a tile's result, to be kept as by `Board::keep`.
     pub fn keep<R: Wait>(
         &self,
         rt: &R,
@@ -144,7 +145,7 @@ impl Desk {
         }
     }
 
-    /// Asks for the present revision's results.
+    /// Asks for the present revision's mask and results, as `Board::gather` gives them.
     pub fn gather<R: Wait>(
         &self,
         rt: &R,
@@ -166,7 +167,7 @@ impl Desk {
         }
     }
 
-    /// Publishes for the pass's analyst.
+    /// Publishes a surface for the pass's analyst, as `Board::publish` does.
     pub fn publish<R: Wait>(
         &self,
         rt: &R,
@@ -194,7 +195,7 @@ impl Desk {
         }
     }
 
-    /// Does the next command of the pass's analyst.
+    /// Does the next command of the pass's analyst, as `Board::advance` does.
     pub fn advance<R: Wait>(
         &self,
         rt: &R,
@@ -223,7 +224,7 @@ impl Desk {
         }
     }
 
-    /// Ends the work: the board is given out, and the passes are of no more use.
+    /// Closes the desk and gives the board out. The passes are used up.
     pub fn close<R: Wait>(self, rt: &R, mut passes: Vec<Pass>) -> Board
         requires { All (IsPassOf self) passes.items }
         ensures board { IsBoard result }
@@ -258,7 +259,7 @@ fn has_ended(before: bool, answer: &Result<Advance, AdvanceFault>) -> bool
     before || *answer == Ok(Advance::Ended)
 }
 
-/// The passes of the analysts from 1 on, in order. The giver has given out no number yet.
+/// The passes of the analysts from 1 on, in order. The seat `giver` has given out no number yet.
 fn first_passes(
     alloc: Global,
     hall: &Hall,
@@ -280,7 +281,7 @@ fn first_passes(
     Ok(passes)
 }
 
-/// A pass whose seat has the number of an analyst, which is the next one.
+/// The pass of the next analyst, whose number its seat gets.
 fn enroll(hall: &Hall, giver: &mut Place, number: u32) -> Pass
     requires shape { hall.now.table_id.words ≡ 67 }
     requires own { giver.old.table_id ≡ hall.now.table_id }
@@ -302,7 +303,7 @@ fn enroll(hall: &Hall, giver: &mut Place, number: u32) -> Pass
     }
 }
 
-/// A seat takes in another, and has then seen the longer of both histories.
+/// A seat takes in another seat, and has then seen the longer of both histories.
 fn take_in(hall: &Hall, seat: &mut Place, other: Place)
     requires shape { hall.now.table_id.words ≡ 67 }
     requires own { (seat.old.table_id ≡ hall.now.table_id) × (other.table_id ≡ hall.now.table_id) }
@@ -316,7 +317,8 @@ fn take_in(hall: &Hall, seat: &mut Place, other: Place)
     hall.load::<Look>(seat, 0);
 }
 
-/// The seat that has the board takes a pass in, and sees that it stands in the board's history.
+/// The seat that has the board takes in a pass's seat, and finds that what the pass has seen begins the board's
+/// history.
 fn meet(hall: &Hall, first: &mut Place, other: Pass)
     requires shape { hall.now.table_id.words ≡ 67 }
     requires own { (first.old.table_id ≡ hall.now.table_id) × (other.table ≡ hall.now.table_id) }

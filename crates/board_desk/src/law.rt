@@ -1,8 +1,8 @@
-//! The rule of the desk's table, and what each kind of step at it tells. Only the proofs see this: no value of `View` is
+//! The rule of the desk's table, and what each kind of step tells. Only the proofs see this: no value of `View` is
 //! made.
 //!
-//! The table has one slot, for the board. Its words are the next ticket (0), the ticket that is served (1), whether the board
-//! is out (2: 0 at home, 1 out), and then the bells, on which calls sleep until their turn.
+//! The table has one slot, for the board. Its words are the next ticket (0), the ticket that is served (1), whether the
+//! board is out (2: 0 if it is at home, 1 if it is out), and then the bells, on which calls sleep until their turn.
 
 use atomic_table::{Join, Play, Split, TableRule};
 use raster_model::Session;
@@ -10,7 +10,7 @@ use std::collections::LinkedList;
 use std::snapshot::Snapshot;
 use tile_board::{Board, Entry};
 
-/// A history that was seen, and the entries of one analyst, if there is one.
+/// What a seat claims: a history that it has seen, and its analyst's entries, if it has an analyst.
 pub struct Claim {
     pub analyst: Option<u32>,
     pub seen: LinkedList<Entry>,
@@ -24,11 +24,11 @@ pub struct View {
     pub own: Claim,
     /// The claim of a seat that this one took in.
     pub beside: Claim,
-    /// Whether it has the board.
+    /// Whether the seat has the board.
     pub holds: bool,
-    /// Whether it gives out the analysts' numbers.
+    /// Whether the seat gives out the analysts' numbers.
     pub gives: bool,
-    /// The number that it gives out next.
+    /// The number that the seat gives out next.
     pub next: u32,
 }
 
@@ -43,8 +43,8 @@ impl TableRule<Option<Board>, View, Snapshot<Session>> for Law {
     ghost first = { λ key. opener key.value };
 }
 
-/// A step that does not move the board: it draws a ticket, serves one or rings a bell, or only loads. After it a seat knows
-/// that the claim beside its own stands in what it has seen.
+/// A step that does not move the board: it draws a ticket, serves one, rings a bell, or only loads. After it a seat
+/// knows that the claim beside its own stands in what it has seen.
 pub struct Look;
 
 impl Play<Option<Board>, View> for Look {
@@ -91,7 +91,7 @@ impl Split<View> for Enroll {
     ghost right = { enrolled };
 }
 
-/// A new seat with no analyst, which has seen as much.
+/// A new seat with no analyst, which has seen as much as the given one.
 pub struct Copied;
 
 impl Split<View> for Copied {
@@ -102,7 +102,7 @@ impl Split<View> for Copied {
     ghost right = { plain_copy };
 }
 
-/// A seat takes in another, and has then seen the longer of both histories.
+/// A seat takes in another seat, and has then seen the longer of both histories.
 pub struct Return;
 
 impl Join<View> for Return {
@@ -113,7 +113,7 @@ impl Join<View> for Return {
     ghost spent = { spent };
 }
 
-/// The seat that has the board takes in another, with its claim.
+/// The seat that has the board takes in another seat, with its claim.
 pub struct Settle;
 
 impl Join<View> for Settle {

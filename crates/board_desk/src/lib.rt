@@ -1,5 +1,5 @@
-//! The board behind a lock that serves calls in their order. Each analyst and each worker has a pass, by which the desk is
-//! asked. An answer is the board's at one point of its history, which begins with all that the pass had seen.
+//! A session's board under a lock that serves calls in their order. Each analyst and each worker asks the desk with a
+//! pass. An answer is that of the board at one point of its history, which begins with all that the pass had seen.
 #![tactic(auto)]
 
 mod desk;

@@ -52,7 +52,7 @@ pub fn take_board<R: Wait>(rt: &R, hall: &Hall, seat: &mut Place) -> Board
             hall.park(rt, bell, (rung % (1 << 32)) as u32);
         } else if hall.compare_exchange::<Take>(seat, OUT, 0, 1) == 0 {
             let board = hall.exchange(seat, 0, None).unwrap();
-            // It ensures what every board keeps.
+            // Its contract says what every board keeps.
             let _history = board.entries();
             return board;
         }

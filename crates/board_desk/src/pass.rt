@@ -7,8 +7,8 @@ use crate::lock::Place;
 use std::marker::Model;
 use tile_board::Board;
 
-/// What an analyst or a worker asks the desk by. It knows how much of the history was seen through it, and what was added in
-/// the analyst's name.
+/// With a pass an analyst or a worker asks the desk. It records how much of the history was seen through it, and what
+/// was added through it in the analyst's name.
 #[derive(Drop)]
 pub struct Pass {
     pub(crate) seat: Place,
@@ -32,16 +32,16 @@ impl Model for Pass {
 /// What a pass remembers of the history that was seen through it.
 #[derive(Clone, Copy)]
 pub(crate) struct Heard {
-    /// Its length.
+    /// The length of that history.
     pub(crate) front: u64,
-    /// Its newest publication.
+    /// The newest published revision in it; None if it has none.
     pub(crate) newest: Option<u32>,
-    /// How many of its entries name the analyst.
+    /// How many entries in it name the analyst.
     pub(crate) done: u32,
 }
 
 impl Heard {
-    /// What there is to remember of a board's history.
+    /// What a pass of this analyst remembers of a board's history.
     pub(crate) fn of(board: &Board, analyst: Option<u32>) -> Heard
         ensures front { result.front ≡ length board.now.entries }
         ensures newest { result.newest ≡ newest_of board.now.entries }
@@ -78,21 +78,21 @@ impl Pass {
         self.analyst
     }
 
-    /// The length of the longest history that was seen.
+    /// The length of the longest history that was seen, in entries.
     pub fn front(&self) -> u64
         ensures { result ≡ length self.now.seen }
     {
         self.heard.front
     }
 
-    /// The newest published revision of that history; None where it has none.
+    /// The newest published revision of that history; None if it has none.
     pub fn newest_seen(&self) -> Option<u32>
         ensures { result ≡ newest_of self.now.seen }
     {
         self.heard.newest
     }
 
-    /// How many commands of the analyst's script are done.
+    /// How many commands of the analyst's script are done; 0 for a worker.
     pub fn done(&self) -> u32
         ensures { result ≡ length self.now.mine }
     {

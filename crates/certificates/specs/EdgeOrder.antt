@@ -7,11 +7,11 @@ use Rattle.raster_model.specs.Seams.{IsEarlier}
 abbrev pub ComesBefore : Edge → Edge → Type 0
 ComesBefore d e = IsEarlier d.x d.y e.x e.y ⊎ ((d.x ≡ e.x) × (d.y ≡ e.y) × (d.down ≡ false) × (e.down ≡ true))
 
--- at each edge of some part of the raster's edges the fact holds
+-- the fact holds at each edge of a part of the edges
 abbrev pub HoldsAtAll : (Edge → Type 0) → (Edge → Type 0) → Type 0
 HoldsAtAll Part Fact = (e : Edge) → Part e → Fact e
 
--- the first edge of that part at which it does not
+-- e is the first edge of the part at which the fact does not hold
 pub record IsFirstBreak (Part Fact : Edge → Type 0) (e : Edge) : Type 0 where
   pub edge : Part e
   pub breaks : Fact e → ⊥

@@ -1,24 +1,24 @@
--- Words of loops over edges in edge order: no clause of a public function cites them.
+-- Words of loops over edges in edge order. No clause of a public function cites them.
 use Rattle.std.specs.Prelude.{◌≡◌, ℕ}
 use Rattle.raster_model.specs.declared.edge.Edge.{Edge}
 use Rattle.raster_model.specs.Seams.{IsEarlier}
 use Rattle.certificates.specs.EdgeOrder.{ComesBefore}
 
--- the fact holds at an edge if it belongs to the part; it does not, though it does
+-- the fact holds at an edge if the edge belongs to the part; the edge belongs to the part, but the fact does not hold there
 abbrev pub HoldsIfPart : (Edge → Type 0) → (Edge → Type 0) → Edge → Type 0
 HoldsIfPart Part Fact e = Part e → Fact e
 
 abbrev pub IsBreak : (Edge → Type 0) → (Edge → Type 0) → Edge → Type 0
 IsBreak Part Fact e = Part e × (Fact e → ⊥)
 
--- it holds at the part's edges that start at a pixel, and at those that start before it in row order
+-- the fact holds at the part's edges that start at a pixel; it holds at those that start before the pixel in row order
 abbrev pub HoldsFrom : (Edge → Type 0) → (Edge → Type 0) → ℕ → ℕ → Type 0
 HoldsFrom Part Fact x y = (e : Edge) → Part e → e.x ≡ x → e.y ≡ y → Fact e
 
 abbrev pub HoldsBefore : (Edge → Type 0) → (Edge → Type 0) → ℕ → ℕ → Type 0
 HoldsBefore Part Fact x y = (e : Edge) → Part e → IsEarlier e.x e.y x y → Fact e
 
--- the first of those that start at a pixel at which it does not
+-- e is the first of the part's edges that start at a pixel at which the fact does not hold
 pub record IsFirstBreakFrom (Part Fact : Edge → Type 0) (x y : ℕ) (e : Edge) : Type 0 where
   pub place : (e.x ≡ x) × (e.y ≡ y)
   pub broken : IsBreak Part Fact e

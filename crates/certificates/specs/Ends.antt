@@ -2,7 +2,7 @@
 use Rattle.std.specs.Prelude.{◌≡◌, ℕ, ◌+◌, ◌%◌, ◌<◌, ◌≤◌, ◌==◌, Bool, if◌then◌else◌, List, slice_index_or}
 use Rattle.raster_model.specs.declared.edge.Edge.{Edge}
 
--- of the first n columns or rows the list tells whether each is the last of its tiles of this side
+-- the list says of each of the first n columns or rows whether it is the last of its tiles, if tiles have this side
 abbrev pub TellsEnds : ℕ → ℕ → List Bool → Type 0
 TellsEnds side n last = (k : ℕ) → k < n → slice_index_or last k Bool.false ≡ ((k + 1) % side == 0)
 
@@ -10,6 +10,6 @@ TellsEnds side n last = (k : ℕ) → k < n → slice_index_or last k Bool.false
 abbrev pub passes_end : ℕ → Edge → Bool
 passes_end side e = if e.down then (e.y + 1) % side == 0 else (e.x + 1) % side == 0
 
--- no edge of row y does that in the columns from a below b
+-- no edge that starts in row y, from column a to before column b, leads beyond such a multiple
 abbrev pub PassNoEnd : ℕ → ℕ → ℕ → ℕ → Type 0
 PassNoEnd side a b y = (e : Edge) → e.y ≡ y → a ≤ e.x → e.x < b → passes_end side e ≡ Bool.false

@@ -1,4 +1,4 @@
--- Words of the helpers over seam edges: no clause of a public function cites them.
+-- Words of the helpers over seam edges. No clause of a public function cites them.
 use Rattle.std.specs.Prelude.{◌≡◌, ℕ, ◌+◌, ◌*◌, ◌<◌, ◌≤◌, ℤ, pos, ◌-ℤ◌, ◌*ℤ◌, Bool, ◌&&◌, List, length, slice_index_or, unsigned_abs}
 use Rattle.raster_model.specs.declared.edge.Edge.{Edge}
 use Rattle.raster_model.specs.Sums.{Field, at_start, at_end, is_edge, edges_from}
@@ -28,7 +28,7 @@ flow_of k = flow_at (raster_in k) k.flows.now
 abbrev pub flow_or_none : SeamFlows → Edge → ℤ
 flow_or_none k e = where_true (is_seam_edge (raster_in k) e) (flow_of k e)
 
--- a pixel before which so many seam edges stand in edge order
+-- a pixel of the raster, before whose edges so many seam edges come in edge order
 abbrev pub StartsAt : SeamFlows → ℕ → ℕ → ℕ → Type 0
 StartsAt k x y before = (x < k.scene.now.phase.width) × (y < k.scene.now.phase.height) × (before ≡ seams_before (raster_in k) x y) × (before ≤ 2 * (max_side * y + x))
 
@@ -36,7 +36,7 @@ StartsAt k x y before = (x < k.scene.now.phase.width) × (y < k.scene.now.phase.
 abbrev pub PlacedAt : SeamFlows → Edge → ℕ → Type 0
 PlacedAt k e place = (e.x < k.scene.now.phase.width) × (e.y < k.scene.now.phase.height) × (place ≡ seam_place (raster_in k) e)
 
--- the flow at a seam edge is no greater than its weight, and no greater than any weight
+-- a seam edge; its flow is no greater than its weight; its flow is no greater than any weight; and both over the edges that start at a pixel, and over all
 abbrev pub IsSeamOf : SeamFlows → Edge → Type 0
 IsSeamOf k = IsSeamEdge (raster_in k)
 
@@ -52,14 +52,14 @@ FitFrom k x y = HoldsFrom (IsSeamOf k) (FlowFitsAt k) x y × HoldsFrom (IsSeamOf
 abbrev pub FlowsFit : SeamFlows → Type 0
 FlowsFit k = HoldsAtAll (IsSeamOf k) (FlowFitsAt k) × HoldsAtAll (IsSeamOf k) (IsSmallAt k)
 
--- each open pixel has one of so many labels
+-- each open pixel has a label below the count
 abbrev pub HasLabels : SeamFlows → List ℕ → ℕ → Type 0
 HasLabels k labels count = (length labels ≡ k.scene.now.phase.width * k.scene.now.phase.height) × ((x y : ℕ) → IsOpenPixel (raster_in k) (mask_in k) x y → label_at k.scene.now.phase.width labels x y < count)
 
 abbrev pub region_in : SeamFlows → List ℕ → ℕ → Field Bool
 region_in k labels = region_of (mask_in k) (label_at k.scene.now.phase.width labels)
 
--- what the flow on a seam edge adds to a region: it ends there, or it starts there; and what the edges that start at a pixel add
+-- what the flow on a seam edge adds to a region's sum, if the edge ends there or starts there; and what the edges that start at a pixel add
 unfoldable pub net_flow : Raster → (Edge → ℤ) → Field Bool → Edge → ℤ
 net_flow r F region e = where_true (is_seam r e) (where_true (at_end region e) (F e) -ℤ where_true (at_start region e) (F e))
 
@@ -69,7 +69,7 @@ moved_on k labels v e = where_true (is_edge k.scene.now.phase.width k.scene.now.
 abbrev pub moved_from : SeamFlows → List ℕ → ℕ → Field ℤ
 moved_from k labels v = edges_from k.scene.now.phase.width k.scene.now.phase.height (net_flow (raster_in k) (flow_of k) (region_in k labels v))
 
--- the sums at the regions of what flows in, less what flows out
+-- the sum of each region: what flows in minus what flows out
 abbrev pub AreExcessesOf : Raster → Field Bool → Field ℕ → (Edge → ℤ) → List ℤ → Type 0
 AreExcessesOf r mask labels F sums = (v : ℕ) → v < length sums → slice_index_or sums v (pos 0) ≡ flow_in r F (region_of mask labels v) -ℤ flow_out r F (region_of mask labels v)
 

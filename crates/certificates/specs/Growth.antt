@@ -1,4 +1,4 @@
--- How numbers of a list grow, which are 0, and which are in range: words of helpers, which no clause of a public function cites.
+-- How the numbers of a list grow, which are 0, and which are in range. These are words of helpers, which no clause of a public function cites.
 use Rattle.std.specs.Prelude.{◌≡◌, ◌≢◌, ℕ, ◌*◌, ◌<◌, ◌≤◌, ℤ, pos, ◌+ℤ◌, List, length, slice_index_or, unsigned_abs}
 
 -- each number has grown by f, and no number is greater than n weights

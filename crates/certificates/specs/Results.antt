@@ -24,7 +24,7 @@ window_in s k = window_of s.tiling k.tile
 abbrev pub result_surface : Scene → TileResult → Field ℤ
 result_surface s k = lifted (raster_of s) (cycles_in (window_in s k) k.cycles.items)
 
--- it has one number of cycles for each pixel of its tile, and one face for each cell
+-- the result has one number of cycles for each pixel of its tile, and one face for each cell
 abbrev pub HasShape : Scene → TileResult → Type 0
 HasShape s k = (length k.cycles.items ≡ pixels_in (window_in s k)) × (length k.faces.items ≡ cell_count (raster_of s) k.tile)
 
@@ -32,7 +32,7 @@ HasShape s k = (length k.cycles.items ≡ pixels_in (window_in s k)) × (length 
 abbrev pub IsOpenIn : Window → Field Bool → ℕ → ℕ → Type 0
 IsOpenIn v mask x y = IsWithin v x y × IsTrue (mask x y)
 
--- the cycles at a pixel are from -8388608 to 8388608; they are at each open pixel, and at each one before (x, y) in row order; (x, y) is the first at which they are not
+-- the cycles at a pixel are from -8388608 to 8388608; this holds at each open pixel; it holds at each open pixel before (x, y) in row order; (x, y) is the first open pixel at which it does not
 abbrev pub IsInRange : Window → List ℤ → ℕ → ℕ → Type 0
 IsInRange v cycles x y = unsigned_abs (cycles_in v cycles x y) ≤ 8388608
 
@@ -47,7 +47,7 @@ pub record IsFirstOutside (v : Window) (mask : Field Bool) (cycles : List ℤ) (
   pub outside : IsInRange v cycles x y → ⊥
   pub first : AreInRangeBefore v mask cycles x y
 
--- a good result: its shape is right, its cycles are in range where open, and its faces certify its surface
+-- a good result: it has its shape, its cycles are in range at the open pixels, and its faces certify its surface
 pub record IsGoodTile (s : Scene) (mask : Field Bool) (k : TileResult) : Type 0 where
   pub shape : HasShape s k
   pub in_range : AreInRange (window_in s k) mask k.cycles.items

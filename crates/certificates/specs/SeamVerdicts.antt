@@ -17,7 +17,7 @@ label_at width labels x y = slice_index labels (y * width + x)
 abbrev pub ListsRegions : Raster → Field Bool → List ℕ → ℕ → Type 0
 ListsRegions r mask labels count = (length labels ≡ r.width * r.height) × AreRegions r mask (label_at r.width labels) count
 
--- the cycles at that pixel are these, and not 0
+-- the cycles at the first open pixel are z, which is not 0
 pub record IsOffAnchor (r : Raster) (mask : Field Bool) (cycles : Field ℤ) (z : ℤ) : Type 0 where
   pub x : ℕ
   pub y : ℕ
@@ -25,7 +25,7 @@ pub record IsOffAnchor (r : Raster) (mask : Field Bool) (cycles : Field ℤ) (z 
   pub cycles_there : z ≡ cycles x y
   pub off : z ≢ pos 0
 
--- a seam edge; its flow is no greater than its weight; the first at which it is
+-- a seam edge; its flow is no greater than its weight; this holds at all seam edges; the first at which it does not
 abbrev pub IsSeamEdge : Raster → Edge → Type 0
 IsSeamEdge r e = IsTrue (is_seam_edge r e)
 
@@ -38,7 +38,7 @@ AllFlowsFit r mask flow = HoldsAtAll (IsSeamEdge r) (FlowFits r mask flow)
 abbrev pub IsFirstHeavy : Raster → Field Bool → (Edge → ℤ) → Edge → Type 0
 IsFirstHeavy r mask flow = IsFirstBreak (IsSeamEdge r) (FlowFits r mask flow)
 
--- as much flows into a region as out of it; all regions are so; region v is the least that is not
+-- as much flows into a region as out of it; this holds of all regions; v is the lowest-numbered region of which it does not
 abbrev pub IsBalanced : Raster → (Edge → ℤ) → Field Bool → Type 0
 IsBalanced r flow region = flow_in r flow region ≡ flow_out r flow region
 
@@ -63,6 +63,6 @@ IsSeamVerdict r mask labels count cycles flows (FlowAtEdge e) = (length flows �
 IsSeamVerdict r mask labels count cycles flows (Unbalanced v) = (length flows ≡ seam_count r) × IsAnchored r mask (lifted r cycles) × AllFlowsFit r mask (flow_at r flows) × IsLeastUnbalanced r mask labels (flow_at r flows) count v
 IsSeamVerdict r mask labels count cycles flows (CostDiffers cost bound) = (length flows ≡ seam_count r) × IsAnchored r mask (lifted r cycles) × AllFlowsFit r mask (flow_at r flows) × AreBalanced r mask labels (flow_at r flows) count × (pos cost ≡ seam_cost r mask (lifted r cycles)) × (bound ≡ flow_total r mask (lifted r cycles) (flow_at r flows)) × (bound ≢ pos cost)
 
--- there are no two verdicts on the same, where the numbers are those of the regions
+-- no input has two verdicts, if the labels are the numbers of the regions
 abbrev pub SeamsHaveOneVerdict : Type 0
 SeamsHaveOneVerdict = (r : Raster) (mask : Field Bool) (labels : Field ℕ) (count : ℕ) (cycles : Field ℤ) (flows : List ℤ) (a b : SeamVerdict) → AreRegions r mask labels count → IsSeamVerdict r mask labels count cycles flows a → IsSeamVerdict r mask labels count cycles flows b → a ≡ b

@@ -24,7 +24,7 @@ pub record HasOneForEach (g : Tiling) (results : List TileResult) : Type 0 where
   pub count : length results ≡ tiles_of g
   pub own : (t : ℕ) (k : TileResult) → slice_get results t ≡ Some k → k.tile ≡ t
 
--- the cycles that a result has at a pixel of its tile, and those that the result of a pixel's tile has there
+-- the cycles that a result has at a pixel of its tile; and at each pixel, those of the result of the pixel's tile
 abbrev pub cycles_of : Scene → Option TileResult → Field ℤ
 cycles_of s (Some k) x y = cycles_in (window_in s k) k.cycles.items x y
 cycles_of s None x y = pos 0

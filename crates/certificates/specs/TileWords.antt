@@ -1,4 +1,4 @@
--- Words of the helpers over a tile: no clause of a public function cites them.
+-- Words of the helpers over a tile. No clause of a public function cites them.
 use Rattle.std.specs.Prelude.{◌≡◌, ℕ, ◌+◌, ◌<◌, ◌≤◌, ℤ, pos, Bool, IsTrue, List, length}
 use Rattle.raster_model.specs.declared.edge.Edge.{Edge}
 use Rattle.raster_model.specs.Sums.{Field, right_edge, down_edge}
@@ -53,11 +53,11 @@ cost_in k cycles = tile_cost (raster_in k) (mask_in k) k.number (surface_at k cy
 abbrev pub KnowsTile : Tile → Field Bool → Type 0
 KnowsTile k = KnowsOpenOf (raster_in k) (mask_in k) k.number
 
--- the tile's pixels in row y and in the next one are open
+-- the tile's pixels in row y and in the next row are open
 abbrev pub AreOpenFrom : Tile → ℕ → Type 0
 AreOpenFrom k y = (a b : ℕ) → IsWithin k.window a b → y ≤ b → b ≤ y + 1 → IsTrue (mask_in k a b)
 
--- the surface of some cycles does not depart at the right edges that start in row y from the tile's first column to before column n; nor at the down edges
+-- the surface of some cycles departs at no right edge that starts in row y, from the tile's first column to before column n; nor at such a down edge
 abbrev pub FollowsRight : Tile → Field ℤ → ℕ → ℕ → Type 0
 FollowsRight k cycles y n = (x : ℕ) → k.window.x0 ≤ x → x < n → departure (raster_in k) (surface_at k cycles) (right_edge x y) ≡ pos 0
 

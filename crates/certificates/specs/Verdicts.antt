@@ -13,7 +13,7 @@ use Rattle.certificates.specs.declared.verdicts.TileVerdict.TheVariants.{Good, S
 use Rattle.certificates.specs.EdgeOrder.{HoldsAtAll, IsFirstBreak}
 use Rattle.certificates.specs.Results.{HasShape, AreInRange, IsFirstOutside, window_in, result_surface}
 
--- at each inner edge of the tile, masked ends included, the faces fit; the first at which they do not
+-- the faces fit at each inner edge of the tile, masked ends included; the first inner edge at which they do not
 abbrev pub AllFacesFit : Raster → Field Bool → ℕ → Field ℤ → Type 0
 AllFacesFit r mask t f = HoldsAtAll (IsTileEdge r t) (FacesFit r mask t f)
 
@@ -38,7 +38,7 @@ IsTileVerdict s mask k Shape = HasShape s k → ⊥
 IsTileVerdict s mask k (Range x y) = HasShape s k × IsFirstOutside (window_in s k) mask k.cycles.items x y
 IsTileVerdict s mask k verdict = HasShape s k × AreInRange (window_in s k) mask k.cycles.items × IsVerdictOnFaces s mask k verdict
 
--- there are no two verdicts on the same
+-- no input has two verdicts
 abbrev pub FacesHaveOneVerdict : Type 0
 FacesHaveOneVerdict = (r : Raster) (mask : Field Bool) (t : ℕ) (S : Field ℤ) (faces : List ℤ) (a b : TileVerdict) → IsFacesVerdict r mask t S faces a → IsFacesVerdict r mask t S faces b → a ≡ b
 

@@ -8,7 +8,7 @@ ghost use Rattle.std.specs.Prelude.{◌≡◌, ℕ, IfNone, IfSome};
 
 use raster_model::{Heights, Mask, Scene, first_open};
 
-/// The cycles at the first open pixel, where they are not 0.
+/// The cycles at the first open pixel in row order, if they are not 0.
 pub(crate) fn off_anchor<H: Heights>(scene: &Scene, mask: &Mask, heights: &H) -> Option<i64>
     requires same_size { (mask.now.width ≡ scene.now.phase.width) × (mask.now.height ≡ scene.now.phase.height) }
     requires known { KnowsOpen (raster_of scene.now) (open_at mask.now) (H.knows heights.now) }

@@ -43,7 +43,7 @@ impl TileCycles<'_> {
         self.cycles[row + x as usize - self.window.x0 as usize]
     }
 
-    /// The first open pixel, in row order, at which they are out of range.
+    /// The first open pixel, in row order, whose cycles are out of range.
     pub(crate) fn first_outside(&self, mask: &Mask) -> Option<(u32, u32)>
         requires inside { (self.now.window.x1 < mask.now.width) × (self.now.window.y1 < mask.now.height) }
         ensures found { IfSome result (λ pixel. IsFirstOutside self.now.window (open_at mask.now) self.now.cycles.now pixel.0 pixel.1) }
@@ -64,8 +64,8 @@ impl TileCycles<'_> {
     }
 }
 
-/// Whether all cycles are in range, those of masked pixels too. It does not stop at the first that is not, so that
-/// several can be judged at once.
+/// Whether all cycles are in range, those of masked pixels included. The loop does not stop at the first that is not,
+/// so that several can be judged at once.
 fn are_in_range(cycles: &[i32]) -> bool
     ensures { IsTrue result → AreAllInRange cycles.now }
 {

@@ -9,8 +9,8 @@ ghost use Rattle.std.specs.Prelude.{◌≡◌, ◌+◌, ◌*◌, ◌≤◌, ◌^
 
 use raster_model::{Edge, Heights, Mask, Scene, departure, stored_weight};
 
-/// What an edge adds to a cost: its weight times its absolute departure, and 0 where an end is masked. `unmasked` tells
-/// that both ends are known to be open.
+/// What an edge adds to a cost: its weight times its absolute departure in whole cycles, or 0 if an end is masked. If
+/// `unmasked` is true, both ends are known to be open. (Costantini 1998.)
 pub fn edge_cost<H: Heights>(
     scene: &Scene,
     mask: &Mask,
@@ -32,7 +32,7 @@ pub fn edge_cost<H: Heights>(
     }
 }
 
-/// Whether both ends of an edge are open. `unmasked` tells that they are known to be.
+/// Whether both ends of an edge are open. If `unmasked` is true, they are known to be.
 fn are_ends_open(mask: &Mask, edge: Edge, unmasked: bool) -> bool
     requires sides { (mask.now.width ≤ max_side) × (mask.now.height ≤ max_side) }
     requires is_edge { IsTrue (is_edge mask.now.width mask.now.height edge) }
@@ -42,8 +42,8 @@ fn are_ends_open(mask: &Mask, edge: Edge, unmasked: bool) -> bool
     unmasked || mask.is_open(edge.x, edge.y) && mask.is_open(edge.end_x(), edge.end_y())
 }
 
-/// The weight of an edge with open ends, times its absolute departure. Most surfaces depart at few edges, and where one
-/// does not, no weight is looked up.
+/// The weight of an edge with open ends times its absolute departure. Most surfaces depart at few edges, and no weight
+/// is looked up at the others.
 fn open_cost<H: Heights>(scene: &Scene, heights: &H, edge: Edge) -> u128
     requires is_edge { IsTrue (is_edge scene.now.phase.width scene.now.phase.height edge) }
     requires start { IsTrue (at_start (H.knows heights.now) edge) }

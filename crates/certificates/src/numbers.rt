@@ -1,7 +1,7 @@
 ghost use Rattle.certificates.specs.Growth.{AreZeros};
 ghost use Rattle.std.specs.Prelude.{◌≡◌, ◌↔◌, IsTrue, pos};
 
-/// Whether a sum and a cost are one number.
+/// Whether a sum and a cost are the same number.
 pub(crate) fn is_same(sum: i128, cost: u128) -> bool
     ensures { IsTrue result ↔ (sum ≡ pos cost) }
 {

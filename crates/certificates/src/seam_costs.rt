@@ -10,7 +10,8 @@ use crate::seam_edges::{is_seam_edge, next_start};
 use crate::tile_ends::TileEnds;
 use raster_model::{Edge, Heights, Mask, Scene, plain};
 
-/// The cost of the seams: the sum over the edges from tile to tile with open ends. (Chen and Zebker 2002.)
+/// The cost of the seams: the sum of weight times absolute departure over the seam edges with open ends. (Chen and
+/// Zebker 2002.)
 pub(crate) fn seam_cost<H: Heights>(
     scene: &Scene,
     ends: &TileEnds,
@@ -29,7 +30,7 @@ pub(crate) fn seam_cost<H: Heights>(
     cost
 }
 
-/// What the edges that start in a row add.
+/// What the edges that start in row `y` add to the cost of the seams.
 fn row_cost<H: Heights>(scene: &Scene, ends: &TileEnds, mask: &Mask, heights: &H, y: u32) -> u128
     requires side { ends.now.side ≡ scene.now.tiling.side }
     requires same_size { (mask.now.width ≡ scene.now.phase.width) × (mask.now.height ≡ scene.now.phase.height) }
@@ -47,7 +48,7 @@ fn row_cost<H: Heights>(scene: &Scene, ends: &TileEnds, mask: &Mask, heights: &H
     cost
 }
 
-/// What the edges that start at a pixel add.
+/// What the edges that start at a pixel add to it.
 fn cost_from<H: Heights>(
     scene: &Scene,
     ends: &TileEnds,
@@ -67,7 +68,7 @@ fn cost_from<H: Heights>(
     to_right + edge_cost(scene, ends, mask, heights, Edge { x, y, down: true })
 }
 
-/// What an edge that starts at a pixel adds, and 0 where it is no seam edge.
+/// What an edge that starts at a pixel adds to it, or 0 if it is not a seam edge.
 fn edge_cost<H: Heights>(
     scene: &Scene,
     ends: &TileEnds,

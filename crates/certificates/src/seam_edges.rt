@@ -8,7 +8,7 @@ ghost use Rattle.std.specs.Prelude.{◌≡◌, ◌<◌, ◌≤◌, IsTrue};
 use crate::tile_ends::TileEnds;
 use raster_model::{Edge, Scene};
 
-/// Whether an edge leads from tile to tile.
+/// Whether an edge leads from one tile to another.
 fn leaves_tile(scene: &Scene, ends: &TileEnds, edge: Edge) -> bool
     requires side { ends.now.side ≡ scene.now.tiling.side }
     requires is_edge { IsTrue (is_edge scene.now.phase.width scene.now.phase.height edge) }
@@ -17,7 +17,8 @@ fn leaves_tile(scene: &Scene, ends: &TileEnds, edge: Edge) -> bool
     ends.are_passed(edge)
 }
 
-/// Whether an edge that starts at a pixel leads to a pixel of another tile.
+/// Whether an edge that starts at a pixel of the raster is a seam edge: it leads to a pixel of another tile. The answer
+/// is false if its other end lies beyond the raster.
 pub fn is_seam_edge(scene: &Scene, ends: &TileEnds, edge: Edge) -> bool
     requires side { ends.now.side ≡ scene.now.tiling.side }
     requires start { (edge.x < scene.now.phase.width) × (edge.y < scene.now.phase.height) }
@@ -28,7 +29,8 @@ pub fn is_seam_edge(scene: &Scene, ends: &TileEnds, edge: Edge) -> bool
         && leaves_tile(scene, ends, edge)
 }
 
-/// The first column of a row at or after one at which a seam edge may start, and the width where there is none.
+/// The first column of row `y`, from `x` on, at which a seam edge may start, or the width if there is none. No seam
+/// edge starts at a column that is passed over.
 pub fn next_start(scene: &Scene, ends: &TileEnds, x: u32, y: u32) -> u32
     requires side { ends.now.side ≡ scene.now.tiling.side }
     requires place { (x ≤ scene.now.phase.width) × (y < scene.now.phase.height) }
@@ -38,7 +40,7 @@ pub fn next_start(scene: &Scene, ends: &TileEnds, x: u32, y: u32) -> u32
     ends.next_end(x, y).min(scene.phase.width)
 }
 
-/// How many seam edges start at a pixel.
+/// How many seam edges start at a pixel, masked ends included.
 pub(crate) fn seams_from(scene: &Scene, ends: &TileEnds, x: u32, y: u32) -> usize
     requires side { ends.now.side ≡ scene.now.tiling.side }
     requires pixel { (x < scene.now.phase.width) × (y < scene.now.phase.height) }
@@ -49,7 +51,7 @@ pub(crate) fn seams_from(scene: &Scene, ends: &TileEnds, x: u32, y: u32) -> usiz
         + usize::from(is_seam_edge(scene, ends, Edge { x, y, down: true }))
 }
 
-/// How many seam edges there are.
+/// How many seam edges a scene has, masked ends included.
 pub fn seam_count(scene: &Scene, ends: &TileEnds) -> usize
     requires side { ends.now.side ≡ scene.now.tiling.side }
     ensures { result ≡ seam_count_of (raster_of scene.now) }

@@ -9,8 +9,8 @@ use crate::seam_edges::{is_seam_edge, next_start, seams_from};
 use crate::tile_ends::TileEnds;
 use raster_model::{Edge, Heights, Mask, Scene, departure, weight};
 
-/// The seam edges of a scene under a mask, with a flow for each in edge order. Flows that are all 0 fit any weight and add
-/// up to 0 at each region, which is told without a look at the edges.
+/// The seam edges of a scene under a mask, with a flow for each in edge order. If all flows are 0, they fit any weight
+/// and add up to 0 at each region, so no edge is looked at.
 #[derive(Clone, Copy)]
 pub(crate) struct SeamFlows<'a> {
     pub(crate) scene: &'a Scene,
@@ -59,7 +59,7 @@ impl SeamFlows<'_> {
       unsigned_abs,
     };
 
-    /// The place of a pixel's down edge among the seam edges, where so many stand before its right edge.
+    /// The place of a pixel's down edge among the seam edges, if `before` of them come before the pixel's right edge.
     fn down_place(&self, x: u32, y: u32, before: usize) -> usize
         requires start { StartsAt self.now x y before }
         ensures { PlacedAt self.now (down_edge x y) result }
@@ -67,7 +67,8 @@ impl SeamFlows<'_> {
         before + usize::from(is_seam_edge(self.scene, self.ends, Edge { x, y, down: false }))
     }
 
-    /// The flow of an edge that starts at a pixel, with its place among the seam edges, and 0 where it is none.
+    /// The flow of an edge that starts at a pixel, or 0 if it is not a seam edge. `place` is its place among the seam
+    /// edges.
     fn flow(&self, edge: Edge, place: usize) -> i64
         requires placed { PlacedAt self.now edge place }
         ensures { result ≡ flow_or_none self.now edge }
@@ -90,7 +91,7 @@ impl SeamFlows<'_> {
                 > u64::from(weight(self.scene, self.mask, edge))
     }
 
-    /// The first such edge of those that start at a pixel.
+    /// The first edge that starts at a pixel and is a seam edge whose flow is greater than its weight.
     fn first_heavy_from(&self, x: u32, y: u32, before: usize) -> Option<Edge>
         requires start { StartsAt self.now x y before }
         ensures found { IfSome result (IsFirstBreakFrom (IsSeamOf self.now) (FlowFitsAt self.now) x y) }
@@ -129,7 +130,7 @@ impl SeamFlows<'_> {
         None
     }
 
-    /// Takes the flow of an edge from the sum of the region where it starts to that of the region where it
+    /// Moves the flow of an edge from the sum of the region where the edge starts to the sum of the region where it
     /// ends.
     fn move_flow(&self, labels: &[u32], edge: Edge, place: usize, sums: &mut [i64])
         requires placed { PlacedAt self.now edge place }
@@ -163,8 +164,8 @@ impl SeamFlows<'_> {
         self.move_flow(labels, Edge { x, y, down: true }, next, sums);
     }
 
-    /// At each region, the sum of the flows that end in it less those that start in it. They fit the weights,
-    /// so no sum leaves 64 bits.
+    /// For each region, the sum of the flows that end in it minus those that start in it. The flows fit the weights, so
+    /// no sum leaves 64 bits.
     pub(crate) fn add_up(&self, labels: &[u32], sums: &mut [i64])
         requires fit { FlowsFit self.now }
         requires labels { HasLabels self.now labels.now (length sums.old) }
@@ -185,8 +186,8 @@ impl SeamFlows<'_> {
         }
     }
 
-    /// The flow of an edge times the departure of a surface there, and 0 where it is no seam edge. Where an end
-    /// is masked, the weight is 0 and so is the flow.
+    /// The flow of an edge times the departure of a surface there, or 0 if it is not a seam edge. If an end is masked,
+    /// the weight is 0, and so is the flow.
     fn product<H: Heights>(&self, heights: &H, edge: Edge, place: usize) -> i128
         requires placed { PlacedAt self.now edge place }
         requires fit { FlowsFit self.now }
@@ -202,7 +203,7 @@ impl SeamFlows<'_> {
         }
     }
 
-    /// The sum of those products over the edges that start at a pixel.
+    /// The sum of flow times departure over the edges that start at a pixel.
     fn products_from<H: Heights>(&self, heights: &H, x: u32, y: u32, before: usize) -> i128
         requires start { StartsAt self.now x y before }
         requires fit { FlowsFit self.now }
@@ -238,7 +239,7 @@ impl SeamFlows<'_> {
     }
 }
 
-/// Adds to one of some numbers.
+/// Adds an amount to the number at a place.
 fn add_to(numbers: &mut [i64], place: usize, amount: i64)
     requires place { place < length numbers.old }
     requires small { AreWithin (2 ^ 31) numbers.old }

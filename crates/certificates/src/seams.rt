@@ -17,10 +17,10 @@ use crate::tile_ends::TileEnds;
 use crate::verdicts::SeamVerdict;
 use raster_model::{Heights, Mask, Scene};
 
-/// Checks the flows that certify a surface at its seams: one for each seam edge, in edge order. First their
-/// number is judged, then the surface's anchor, then each flow, then the balance at each region, then the cost.
-/// `labels` has the number of each open pixel's region in row order, and `scratch` one place for each region.
-/// It takes no memory. (Chen and Zebker 2002.)
+/// Checks the flows that certify a surface at its seams: one for each seam edge, in edge order. It judges first their
+/// number, then the surface's anchor, then each flow, then the balance at each region, then the cost. `labels` has a
+/// number for each pixel in row order, which is its region's if the pixel is open. `scratch` has one place for each
+/// region, and is written over. It takes no memory. (Chen and Zebker 2002.)
 pub fn check_flows<H: Heights>(
     scene: &Scene,
     mask: &Mask,
@@ -65,7 +65,7 @@ pub fn check_flows<H: Heights>(
     }
 }
 
-/// The place of the first of some numbers that is not 0.
+/// The place of the first number that is not 0.
 fn first_other(numbers: &[i64]) -> Option<usize>
     ensures found { IfSome result (IsFirstOther numbers.now) }
     ensures none { IfNone result (AreZeros numbers.now) }

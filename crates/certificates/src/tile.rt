@@ -70,7 +70,7 @@ impl Tile<'_> {
         faces[(y - window.y0) as usize * across + (x - window.x0) as usize]
     }
 
-    /// The face of the tile's cell with the upper left corner (`x`, `y`), and 0 where the tile has none there.
+    /// The face of the tile's cell with the upper left corner (`x`, `y`), or 0 if the tile has no such cell.
     fn face(&self, faces: &[i64], x: u32, y: u32) -> i64
         requires count { HasFaces self.now faces.now }
         ensures { result ≡ faces_at self.now faces.now x y }
@@ -83,7 +83,7 @@ impl Tile<'_> {
         }
     }
 
-    /// The face above a right edge, and 0 above the raster.
+    /// The face above the right edge that starts at (`x`, `y`), or 0 if nothing of the raster lies above it.
     fn face_above(&self, faces: &[i64], x: u32, y: u32) -> i64
         requires count { HasFaces self.now faces.now }
         ensures { result ≡ above (faces_at self.now faces.now) x y }
@@ -95,7 +95,7 @@ impl Tile<'_> {
         }
     }
 
-    /// The face left of a down edge, and 0 left of the raster.
+    /// The face left of the down edge that starts at (`x`, `y`), or 0 if nothing of the raster lies left of it.
     fn face_left(&self, faces: &[i64], x: u32, y: u32) -> i64
         requires count { HasFaces self.now faces.now }
         ensures { result ≡ left (faces_at self.now faces.now) x y }
@@ -107,8 +107,8 @@ impl Tile<'_> {
         }
     }
 
-    /// The face on one side of an edge less that on the other: above less below a right edge, right less left
-    /// of a down edge.
+    /// The face on one side of an edge minus the face on the other: above minus below for a right edge, right minus
+    /// left for a down edge.
     fn face_difference(&self, faces: &[i64], edge: Edge) -> i128
         requires count { HasFaces self.now faces.now }
         ensures { result ≡ difference_at self.now faces.now edge }
@@ -121,7 +121,7 @@ impl Tile<'_> {
         }
     }
 
-    /// The weight of an edge under the mask. `unmasked` tells that both ends are known to be open.
+    /// The weight of an edge under the mask. If `unmasked` is true, both ends are known to be open.
     fn edge_weight(&self, edge: Edge, unmasked: bool) -> u16
         requires is_edge { IsTrue (is_edge self.now.scene.now.phase.width self.now.scene.now.phase.height edge) }
         requires unmasked { IsTrue unmasked → IsTrue (has_open_ends (mask_in self.now) edge) }
@@ -134,8 +134,8 @@ impl Tile<'_> {
         }
     }
 
-    /// Whether the faces on the two sides of an edge differ by no more than its weight. `unmasked` tells that both ends
-    /// are known to be open.
+    /// Whether the faces on the two sides of an edge differ by no more than its weight. If `unmasked` is true, both
+    /// ends are known to be open.
     fn faces_fit(&self, faces: &[i64], edge: Edge, unmasked: bool) -> bool
         requires count { HasFaces self.now faces.now }
         requires is_edge { IsTrue (is_edge self.now.scene.now.phase.width self.now.scene.now.phase.height edge) }
@@ -146,8 +146,8 @@ impl Tile<'_> {
         difference == 0 || difference.unsigned_abs() <= u128::from(self.edge_weight(edge, unmasked))
     }
 
-    /// Whether an edge that starts in the tile is an inner edge whose faces do not fit. `unmasked` tells that the tile's
-    /// pixels in the row where it starts and in the next one are known to be open.
+    /// Whether an edge that starts in the tile is an inner edge whose faces do not fit. If `unmasked` is true, the
+    /// tile's pixels in the row where it starts and in the next row are known to be open.
     fn is_unfit(&self, faces: &[i64], edge: Edge, unmasked: bool) -> bool
         requires count { HasFaces self.now faces.now }
         requires start { IsWithin self.now.window edge.x edge.y }
@@ -159,7 +159,8 @@ impl Tile<'_> {
             && !self.faces_fit(faces, edge, unmasked)
     }
 
-    /// The first such edge of those that start at a pixel.
+    /// The first edge that starts at a pixel and is an inner edge whose faces do not fit. `unmasked` is as in
+    /// `is_unfit`.
     fn first_unfit_from(&self, faces: &[i64], x: u32, y: u32, unmasked: bool) -> Option<Edge>
         requires count { HasFaces self.now faces.now }
         requires within { IsWithin self.now.window x y }
@@ -178,7 +179,8 @@ impl Tile<'_> {
         }
     }
 
-    /// The first of those that start in a row, which is the first of all where those before the row fit.
+    /// The first inner edge that starts in row `y` and whose faces do not fit. The edges of the rows before fit, so it
+    /// is the first of the tile.
     fn first_unfit_in(&self, faces: &[i64], y: u32) -> Option<Edge>
         requires count { HasFaces self.now faces.now }
         requires row { (self.now.window.y0 ≤ y) × (y ≤ self.now.window.y1) }
@@ -240,8 +242,8 @@ impl Tile<'_> {
         total
     }
 
-    /// The sum of face times residue over the tile's cells, if the faces fit at each inner edge, and else the first
-    /// edge at which they do not. Faces that are all 0 fit everywhere and add up to 0.
+    /// The sum of face times residue over the tile's cells if the faces fit at each inner edge, and otherwise the first
+    /// edge at which they do not. Faces that are all 0 fit everywhere, and the sum is 0.
     pub(crate) fn bound(&self, faces: &[i64]) -> Result<i128, Edge>
         requires count { HasFaces self.now faces.now }
         ensures total { IfOk result (λ bound. bound ≡ total_at self.now faces.now) }
@@ -257,7 +259,7 @@ impl Tile<'_> {
         }
     }
 
-    /// Whether the tile's pixels in a row of it and in the next one are all open.
+    /// Whether the tile's pixels in row `y` and in the next row are all open.
     fn are_open_from(&self, y: u32) -> bool
         requires { (self.now.window.y0 ≤ y) × (y ≤ self.now.window.y1) }
         ensures { IsTrue result → AreOpenFrom self.now y }
@@ -267,8 +269,8 @@ impl Tile<'_> {
             && (y == window.y1 || self.mask.is_open_span(y + 1, window.x0, window.x1))
     }
 
-    /// What the edges that start at a pixel add to the tile's cost. `unmasked` tells that the tile's pixels in this row and
-    /// in the next one are known to be open.
+    /// What the edges that start at a pixel add to the tile's cost. If `unmasked` is true, the tile's pixels in this
+    /// row and in the next row are known to be open.
     fn cost_from<H: Heights>(&self, heights: &H, x: u32, y: u32, unmasked: bool) -> u128
         requires within { IsWithin self.now.window x y }
         requires known { KnowsTile self.now (H.knows heights.now) }
@@ -291,8 +293,8 @@ impl Tile<'_> {
         to_right + to_lower
     }
 
-    /// Whether the surface departs at no right edge of a row of open pixels. It does not stop at the first at which it
-    /// does, so that several can be judged at once.
+    /// Whether the surface departs at no right edge of row `y`, whose pixels are open. The loop does not stop at the
+    /// first edge at which it departs, so that several can be judged at once.
     fn follows_right<H: Heights>(&self, heights: &H, y: u32) -> bool
         requires row { (self.now.window.y0 ≤ y) × (y ≤ self.now.window.y1) }
         requires known { KnowsTile self.now (H.knows heights.now) }
@@ -307,7 +309,8 @@ impl Tile<'_> {
         !departs
     }
 
-    /// Whether it departs at no down edge of such a row, which is not the last of the tile.
+    /// Whether the surface departs at no down edge of row `y`. The row is not the tile's last, and its pixels and those
+    /// of the next row are open.
     fn follows_down<H: Heights>(&self, heights: &H, y: u32) -> bool
         requires row { (self.now.window.y0 ≤ y) × (y < self.now.window.y1) }
         requires known { KnowsTile self.now (H.knows heights.now) }
@@ -322,8 +325,8 @@ impl Tile<'_> {
         !departs
     }
 
-    /// Whether the edges that start in a row are known to add nothing to the tile's cost: its pixels and those of the
-    /// next row are open, and the surface departs at none of the edges.
+    /// Whether the edges that start in row `y` are known to add nothing to the tile's cost: the pixels of this row and
+    /// of the next are open, and the surface departs at none of the edges.
     fn is_free<H: Heights>(&self, heights: &H, y: u32, unmasked: bool) -> bool
         requires row { (self.now.window.y0 ≤ y) × (y ≤ self.now.window.y1) }
         requires known { KnowsTile self.now (H.knows heights.now) }
@@ -336,7 +339,7 @@ impl Tile<'_> {
         y == self.window.y1 || self.follows_down(heights, y)
     }
 
-    /// What the edges that start in a row add to the tile's cost.
+    /// What the edges that start in row `y` add to the tile's cost.
     fn row_cost<H: Heights>(&self, heights: &H, y: u32) -> u128
         requires row { (self.now.window.y0 ≤ y) × (y ≤ self.now.window.y1) }
         requires known { KnowsTile self.now (H.knows heights.now) }

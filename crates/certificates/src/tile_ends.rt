@@ -7,7 +7,8 @@ use raster_model::{Edge, MAX_SIDE, Tiling};
 /// The most columns or rows that a raster has.
 const MOST: usize = MAX_SIDE as usize;
 
-/// Where tiles end: for each column or row whether it is the last of its tiles. Found once, it spares a division at each edge.
+/// Where tiles end: for each column or row, whether it is the last of its tiles. The table is made once, and spares a
+/// division at each edge.
 #[derive(Drop)]
 pub struct TileEnds {
     pub side: u32,
@@ -37,8 +38,8 @@ impl TileEnds {
         let place = if edge.down { edge.y } else { edge.x };
         self.last[place as usize]
     }
-    /// The first column at or after one from which an edge of a row may lead beyond the end of a tile: the
-    /// column itself where the row is the last of its tiles, and else the last column of its tile.
+    /// The first column, from `x` on, at which an edge of row `y` may lead beyond the end of a tile: `x` itself if the
+    /// row is the last of its tiles, and otherwise the last column of the tile of `x`.
     pub(crate) fn next_end(&self, x: u32, y: u32) -> u32
         requires { (x ≤ max_side) × (y < max_side) }
         ensures from { x ≤ result }

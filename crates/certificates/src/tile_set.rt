@@ -7,7 +7,7 @@ use std::alloc::{AllocError, Global};
 use std::marker::Model;
 use std::sync::Arc;
 
-/// A result for each tile of a raster, which it shares with whoever else holds it.
+/// A result for each tile of a raster. Each result is shared with whoever else holds it.
 #[derive(Drop)]
 pub struct TileSet {
     tiling: Tiling,
@@ -29,7 +29,7 @@ impl TileSet {
     ghost use Rattle.raster_model.specs.Tiles.{tiles_of};
     ghost use Rattle.std.specs.Prelude.{◌≡◌, ◌<◌, IfOk, Some, slice_get};
 
-    /// The results of the tiling's tiles, in the order of their numbers.
+    /// The set of the results of a tiling's tiles. They come in the order of the tiles' numbers.
     pub fn of_shared(tiling: &Tiling, results: Vec<Arc<TileResult>>) -> TileSet
         requires { HasOneForEach tiling.now (shared_results results.items) }
         ensures tiling { result.tiling ≡ tiling.now }
@@ -50,7 +50,7 @@ impl TileSet {
         &self.results[tile as usize]
     }
 
-    /// A set of the same results, which both share.
+    /// A set of the same results, which both sets share. It fails only for lack of memory.
     pub fn try_copy(&self, alloc: Global) -> Result<TileSet, AllocError>
         ensures { IfOk result (λ copy. copy ≡ self.now) }
     {

@@ -17,9 +17,9 @@ use crate::tile::Tile;
 use crate::verdicts::TileVerdict;
 use raster_model::{Heights, Mask, Scene};
 
-/// Checks the faces that certify a surface in a tile: one for each of its cells, in row order. First their
-/// number is judged, then their differences at the inner edges in edge order, then the cost. It takes no
-/// memory and visits each pixel of the tile's window a few times. (Costantini 1998.)
+/// Checks the faces that certify a surface in a tile: one for each of its cells, in row order. It judges first their
+/// number, then their differences at the inner edges in edge order, then the cost. It takes no memory and visits each
+/// pixel of the tile's window a few times. (Costantini 1998.)
 pub fn check_faces<H: Heights>(
     scene: &Scene,
     mask: &Mask,
@@ -57,8 +57,8 @@ pub fn check_faces<H: Heights>(
     }
 }
 
-/// Checks a result for a tile that exists: first its shape, then the range of its cycles at the open pixels in
-/// row order, then its faces as `check_faces` does, for the surface of its cycles. It takes no memory.
+/// Checks a result for a tile that exists. It judges first the shape, then the range of the cycles at the open pixels
+/// in row order, then the faces as `check_faces` does, for the surface of the cycles. It takes no memory.
 pub fn check_tile(scene: &Scene, mask: &Mask, solved: &TileResult) -> TileVerdict
     requires same_size { (mask.now.width ≡ scene.now.phase.width) × (mask.now.height ≡ scene.now.phase.height) }
     requires exists { solved.now.tile < tiles_of scene.now.tiling }

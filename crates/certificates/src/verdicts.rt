@@ -7,12 +7,12 @@ pub enum TileVerdict {
     Good,
     /// There are not as many cycles as pixels, or not as many faces as cells.
     Shape,
-    /// The first open pixel, in row order, whose cycles lie below -8,388,608 or above 8,388,608.
+    /// The first open pixel, in row order, whose cycles are below -8,388,608 or above 8,388,608.
     Range { x: u32, y: u32 },
     /// The first inner edge, in edge order and masked ends included, whose faces differ by more than its
     /// weight.
     FaceAtEdge(Edge),
-    /// The tile's cost is not the sum of face times residue, which is `bound`.
+    /// The tile's cost, which is `cost`, is not the sum of face times residue, which is `bound`.
     CostDiffers { cost: u128, bound: i128 },
 }
 
@@ -23,16 +23,18 @@ pub enum SeamVerdict {
     /// The surface meets its anchor, and the flows certify it: no whole-cycle offsets of its regions make the
     /// seams cost less.
     Good,
-    /// There are not as many flows as seam edges, or not as many offsets as regions.
+    /// There are not as many flows as seam edges, or not as many offsets as regions. `check_flows` judges only the
+    /// flows.
     Shape,
-    /// The least region whose offset is out of range.
+    /// The lowest-numbered region whose offset is out of range. `check_flows` never answers this; it is for callers
+    /// that judge offsets.
     Range(u32),
     /// The cycles above the phase at the first open pixel, which are not 0.
     Anchor(i64),
     /// The first seam edge, in edge order and masked ends included, whose flow is greater than its weight.
     FlowAtEdge(Edge),
-    /// The least region into which another sum flows than out of it.
+    /// The lowest-numbered region that is out of balance: what flows into it is not what flows out of it.
     Unbalanced(u32),
-    /// The cost of the seams is not the sum of flow times departure, which is `bound`.
+    /// The cost of the seams, which is `cost`, is not the sum of flow times departure, which is `bound`.
     CostDiffers { cost: u128, bound: i128 },
 }

@@ -12,15 +12,15 @@ use Rattle.wrapped_gradient.specs.Corrections.{HasShapeOf, CancelResidues, corre
 use Rattle.dual_grid.specs.Starts.{start_residual}
 use Rattle.sums_and_lists.specs.Sums.{where_true}
 
--- no node has more than it wants, or less
+-- no node has an excess or a deficit
 abbrev pub IsBalanced : Shape → State → Type 0
 IsBalanced s f = (u : ℕ) → u < s.nodes → f.excess u ≡ pos 0
 
--- no arc's residual differs by more than 16129 from that at the start
+-- no arc's residual capacity differs by more than 16129 from that at the start
 abbrev pub IsNearStart : Shape → State → Type 0
 IsNearStart s f = (a : ℕ) → IsArc s a → (f.residual a ≤ start_residual a + 16129) × (start_residual a ≤ f.residual a + 16129)
 
--- what corrections cost in tile t, whose window is v: the sum over its inner edges of weight under the mask times absolute correction
+-- what corrections cost in tile t, whose window is v: the sum of weight under the mask times absolute correction over the tile's inner edges
 unfoldable pub correction_cost : Raster → Field Bool → ℕ → Window → Corrections → ℤ
 correction_cost r mask t v k = sum_edges r.width r.height (λ e. where_true (is_inner r t e) (pos (masked_weight r mask e * unsigned_abs (correction_at v k e))))
 

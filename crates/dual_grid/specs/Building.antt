@@ -1,4 +1,4 @@
--- What a grid is made from, where an arc is looked for, and lists that a grid answers: words of helpers, which no clause of another module cites.
+-- What a grid is made from, how an arc is found, and the lists that a grid answers. These are words of helpers, which no clause of another module cites.
 use Rattle.std.specs.Prelude.{◌≡◌, ℕ, ◌+◌, ◌*◌, ◌<◌, ◌≤◌, ◌⊎◌, ℤ, pos, ◌-ℤ◌, Bool, false, IsTrue, ◌&&◌, if◌then◌else◌, List, length, get_or, slice_index_or, Option, Some, None}
 use Rattle.raster_model.specs.declared.scene.Scene.{Scene}
 use Rattle.raster_model.specs.declared.tiling.Window.{Window}
@@ -16,13 +16,13 @@ pub record IsSmall (v : Window) : Type 0 where
   pub across : (v.x0 ≤ v.x1) × (v.x1 < v.x0 + 128)
   pub along : (v.y0 ≤ v.y1) × (v.y1 < v.y0 + 128)
 
--- the window lies in the scene, no side of it is above 128 pixels, and the list has one test for each of its pixels
+-- the window lies in the scene, no side of it is above 128 pixels, and the list tells of each of its pixels whether it is open
 pub record IsMadeFor (s : Scene) (v : Window) (unmasked : List Bool) : Type 0 where
   pub inside : IsWindowIn s.phase.width s.phase.height v
   pub small : IsSmall v
   pub count : length unmasked ≡ width_of v * height_of v
 
--- the first n numbers of a list in sum
+-- the sum of the first n numbers of a list
 abbrev pub sum_of_first : List ℤ → ℕ → ℤ
 sum_of_first zs n = sum_below n (λ k. get_or zs k (pos 0))
 
@@ -31,41 +31,41 @@ pub record AreSupplies (f : Field ℤ) (v : Window) (zs : List ℤ) : Type 0 whe
   pub count : length zs ≡ cells_of v + 1
   pub values : (u : ℕ) → u < cells_of v + 1 → get_or zs u (pos 0) ≡ supply_at f v u
 
--- node u lies on a side of the edge of the number n
+-- node u lies on a side of the edge with the number n
 abbrev pub LiesAt : Window → ℕ → ℕ → Type 0
 LiesAt v u n = (first_side v (edge_of v n) ≡ u) ⊎ (other_side v (edge_of v n) ≡ u)
 
--- it lies on a side of no edge from `low` on and below `high`
+-- node u lies on a side of no edge with a number from `low` to before `high`
 abbrev pub LiesAtNone : Window → ℕ → ℕ → ℕ → Type 0
 LiesAtNone v u low high = (m : ℕ) → low ≤ m → m < high → LiesAt v u m → ⊥
 
--- o is the edge of the greatest number below `high` that it lies at, and None where there is none
+-- o is the greatest number below `high` of an edge that node u lies at, or None if there is none
 pub record IsEdgeBelow (v : Window) (u high : ℕ) (o : Option ℕ) : Type 0 where
   pub found : (n : ℕ) → o ≡ Some n → (n < high) × LiesAt v u n × LiesAtNone v u (n + 1) high
   pub ended : o ≡ None → LiesAtNone v u 0 high
 
--- across an edge of the weight w an arc in the place k starts at a node that lies on the first side or on the other
+-- across an edge of the weight w, an arc in the place k starts at a node, which may lie on the first side, on the other, on both or on neither
 abbrev pub starts_at : ℕ → Bool → Bool → ℕ → Bool
 starts_at w at_first at_other k = is_taken w k && (if leads_forth k then at_first else at_other)
 
--- o is the greatest place below `high` of an arc that starts at a node, which lies on the first side or on the other; None where there is none
+-- o is the greatest place below `high` of an arc that starts at such a node, or None if there is none
 pub record IsPlaceBelow (w : ℕ) (at_first at_other : Bool) (high : ℕ) (o : Option ℕ) : Type 0 where
   pub found : (k : ℕ) → o ≡ Some k → (k < high) × IsTrue (starts_at w at_first at_other k) × ((j : ℕ) → k < j → j < high → starts_at w at_first at_other j ≡ false)
   pub ended : o ≡ None → (j : ℕ) → j < high → starts_at w at_first at_other j ≡ false
 
--- o is the greatest arc across the edge of the number n, in a place below `high`, that starts at u, and None where there is none
+-- o is the greatest arc that starts at u, of those across the edge with the number n in places below `high`, or None if there is none
 pub record IsOutAcross (s : Shape) (u n high : ℕ) (o : Option ℕ) : Type 0 where
   pub found : (a : ℕ) → o ≡ Some a → (n * 4 ≤ a) × IsGreatest s u (n * 4 + high) a
   pub ended : o ≡ None → NoneBetween s u (n * 4) (n * 4 + high)
 
--- the corrections are what flows across the edges, by their numbers
+-- the corrections are the flows across the edges, in the order of the edges' numbers
 pub record AreFlows (v : Window) (flow : ℕ → ℤ) (k : Corrections) : Type 0 where
   pub right_count : length k.right.items ≡ rights_of v
   pub right : (i : ℕ) → i < rights_of v → slice_index_or k.right.items i (pos 0) ≡ flow i
   pub down_count : length k.down.items ≡ downs_of v
   pub down : (i : ℕ) → i < downs_of v → slice_index_or k.down.items i (pos 0) ≡ flow (rights_of v + i)
 
--- the list has for each of the first n cells how much higher the potential of the outside lies
+-- for each of the first n cells the list has the potential of the outside minus that of the cell
 pub record AreFaces (potential : ℕ → ℤ) (outside n : ℕ) (zs : List ℤ) : Type 0 where
   pub count : length zs ≡ n
   pub values : (u : ℕ) → u < n → slice_index_or zs u (pos 0) ≡ potential outside -ℤ potential u

@@ -1,7 +1,7 @@
--- The network of a window: which arcs it has, what they cost, and how much a flow leaves of their capacity.
--- Arc a has the place a % 4 across the edge of the number a / 4. Places 0 and 3 lead from the first side of the edge to the
--- other, and 1 and 2 back. At a weight above 0 an arc leads each way at that cost, in the places 0 and 2, and their twins
--- have the places 1 and 3. At the weight 0 there is one arc, in the place 0, and its twin has the place 2.
+-- The network of a window: which arcs it has, what they cost, and how much residual capacity a flow leaves. Arc a has the
+-- place a % 4 across the edge with the number a / 4. Places 0 and 3 lead from the first side of the edge to the other, and 1
+-- and 2 lead back. At a weight above 0 an arc leads each way at that cost, in the places 0 and 2, and their twins have the
+-- places 1 and 3. At the weight 0 there is one arc, in the place 0, and its twin has the place 2.
 use Rattle.std.specs.Prelude.{◌≡◌, ℕ, ◌+◌, ◌-◌, ◌*◌, ◌/◌, ◌%◌, ◌<◌, ◌≤◌, ℤ, pos, negsuc, neg_ℤ, ◌-ℤ◌, Bool, true, false, ◌==◌, ◌&&◌, ◌||◌, if◌then◌else◌, nat_lt, unsigned_abs}
 use Rattle.raster_model.specs.declared.edge.Edge.{Edge}
 use Rattle.raster_model.specs.declared.tiling.Window.{Window}
@@ -28,11 +28,11 @@ twin_place w k = if w == 0 then 2 - k else if k % 2 == 0 then k + 1 else k - 1
 abbrev pub cost_at : ℕ → ℕ → ℤ
 cost_at w k = if k % 2 == 0 then pos w else neg_ℤ (pos w)
 
--- where it ends, across the edge of the number n
+-- where it ends, across the edge with the number n
 abbrev pub head_at : Window → ℕ → ℕ → ℕ
 head_at v n k = if leads_forth k then other_side v (edge_of v n) else first_side v (edge_of v n)
 
--- the network of a window whose edges have these weights, by their numbers
+-- the network of a window; the weights are given by the edges' numbers
 abbrev pub shape_in : Window → (ℕ → ℕ) → Shape
 shape_in v weight = record {
   nodes = cells_of v + 1;
@@ -43,7 +43,7 @@ shape_in v weight = record {
   cost = λ a. cost_at (weight (a / 4)) (a % 4);
 }
 
--- the number, or 0 where it is below 0
+-- the number, or 0 if it is below 0
 abbrev pub amount_of : ℤ → ℕ
 amount_of (pos n) = n
 amount_of (negsuc n) = 0
@@ -52,27 +52,27 @@ amount_of (negsuc n) = 0
 abbrev pub along : ℤ → ℕ → ℤ
 along q k = if leads_forth k then q else neg_ℤ q
 
--- what the flow q leaves of the capacity there. At a weight above 0 the two arcs that lead each way are never both in use.
+-- the residual capacity that the flow q leaves there. At a weight above 0 the two arcs that lead each way are never both in use.
 abbrev pub residual_at : ℕ → ℤ → ℕ → ℕ
 residual_at w q k = if w == 0 then amount_of (pos 16130 -ℤ along q k) else if k % 2 == 0 then 16130 - amount_of (along q k) else amount_of (neg_ℤ (along q k))
 
--- what flows across the edges, by their numbers, and what the nodes have
+-- the state of the network, from the flows by the edges' numbers and what the nodes have
 abbrev pub state_in : (ℕ → ℕ) → (ℕ → ℤ) → (ℕ → ℤ) → (ℕ → ℤ) → State
 state_in weight flow excess potential = record { residual = λ a. residual_at (weight (a / 4)) (flow (a / 4)) (a % 4); excess = excess; potential = potential }
 
--- the arcs from side to side of an edge, the first of which has the number a, cost this much
+-- the two arcs from side to side of an edge cost this much, if a is the first arc across the edge
 abbrev pub CostsAcross : Shape → ℕ → ℕ → Type 0
 CostsAcross s a cost = (s.cost a ≡ pos cost) × (s.cost (a + 2) ≡ pos cost)
 
--- those across each edge of the window cost its weight under the mask
+-- the arcs across each edge of the window cost its weight under the mask
 abbrev pub AreWeighed : Raster → Field Bool → Window → Shape → Type 0
 AreWeighed r mask v s = (e : Edge) → IsEdgeOf v e → CostsAcross s (arc_across v e) (masked_weight r mask e)
 
--- no cost is above 65535 on either side, and there are at most 16130 nodes
+-- no cost is above 65535 on either side of 0, and there are at most 16130 nodes
 pub record HasSmallCosts (s : Shape) : Type 0 where
   pub costs : (a : ℕ) → IsArc s a → unsigned_abs (s.cost a) ≤ 65535
   pub few : s.nodes ≤ 16130
 
--- from any set of nodes, but the empty one and the whole, an arc leads out that has capacity at the start
+-- from any set of nodes, except the empty one and the whole, an arc leads out that has capacity at the start
 abbrev pub IsJoined : Shape → Type 0
 IsJoined s = (inside : ℕ → Bool) (u w : ℕ) → u < s.nodes → w < s.nodes → inside u ≡ true → inside w ≡ false → (a : ℕ) × (IsArc s a × (start_residual a ≡ 16130) × (inside (tail_of s a) ≡ true) × (inside (s.head a) ≡ false))

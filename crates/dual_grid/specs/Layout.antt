@@ -1,4 +1,4 @@
--- A grid in lists: weights and flows by the numbers of the edges, excesses and potentials by node.
+-- A grid as lists: weights and flows in the order of the edges' numbers, excesses and potentials in that of the nodes.
 use Rattle.std.specs.Prelude.{◌≡◌, ◌+◌, ◌≤◌, ℕ, ℤ, pos, List, length, get_or, unsigned_abs}
 use Rattle.raster_model.specs.declared.tiling.Window.{Window}
 use Rattle.flow_network.specs.Nets.{Shape, State}

@@ -1,4 +1,4 @@
--- What a tile asks of its corrections and faces: weights and residues as lists hold them, and lists that meet them.
+-- What a tile asks of its corrections and faces: weights and residues as lists hold them, and lists that answer.
 use Rattle.std.specs.Prelude.{◌≡◌, ℕ, ◌<◌, ◌≤◌, ℤ, pos, neg_ℤ, ◌-ℤ◌, ◌*ℤ◌, Bool, List, length, slice_index_or, unsigned_abs}
 use Rattle.raster_model.specs.declared.edge.Edge.{Edge}
 use Rattle.raster_model.specs.declared.scene.Scene.{Scene}
@@ -22,33 +22,33 @@ weight_at p = number_at p.window p.right.items p.down.items
 abbrev pub residue_at : Problem → Field ℤ
 residue_at p x y = slice_index_or p.residues.items (node_at p.window x y) (pos 0)
 
--- the problem of a tile of a scene under a mask, which a list tells over the tile's window
+-- the problem of a tile of a scene; the list tells of each pixel of the tile's window whether it is open
 pub record IsProblemOf (s : Scene) (t : ℕ) (unmasked : List Bool) (p : Problem) : Type 0 where
   pub window : p.window ≡ window_of s.tiling t
   pub weights : (e : Edge) → IsEdgeOf p.window e → weight_at p e ≡ pos (masked_weight (raster_of s) (open_in p.window unmasked) e)
   pub residues : (x y : ℕ) → IsCellOf p.window x y → residue_at p x y ≡ residue (raster_of s) x y
 
--- the weights of the edges that start at a pixel of a window, in the scene under the mask that the list tells
+-- the weights of the right edge and of the down edge that start at a pixel of a window, under the mask that the list tells
 abbrev pub of_right_edges : Scene → Window → List Bool → Field ℤ
 of_right_edges s v unmasked x y = pos (masked_weight (raster_of s) (open_in v unmasked) (right_edge x y))
 
 abbrev pub of_down_edges : Scene → Window → List Bool → Field ℤ
 of_down_edges s v unmasked x y = pos (masked_weight (raster_of s) (open_in v unmasked) (down_edge x y))
 
--- the number of a node in a list of faces, which has none for the outside
+-- the face of a node in a list of faces, which is 0 for the outside
 abbrev pub face_of : List ℤ → ℕ → ℤ
 face_of faces u = slice_index_or faces u (pos 0)
 
--- a difference of faces is within a weight, and is the whole weight in the direction of the correction, if there is one
+-- a difference of faces is within a weight and, if there is a correction, is the whole weight in its direction
 pub record IsTight (difference weight correction : ℤ) : Type 0 where
   pub within : unsigned_abs difference ≤ unsigned_abs weight
   pub whole : correction *ℤ difference ≡ weight *ℤ pos (unsigned_abs correction)
 
--- that is so across an edge
+-- this holds across an edge
 abbrev pub IsTightAt : Problem → Corrections → List ℤ → Edge → Type 0
 IsTightAt p k faces e = IsTight (face_of faces (first_side p.window e) -ℤ face_of faces (other_side p.window e)) (weight_at p e) (correction_at p.window k e)
 
--- the corrections round a cell cancel its residue
+-- the corrections around a cell cancel its residue
 abbrev pub IsCancelled : Problem → Corrections → ℕ → ℕ → Type 0
 IsCancelled p k x y = round (correction_at p.window k) x y ≡ neg_ℤ (residue_at p x y)
 
@@ -56,10 +56,10 @@ IsCancelled p k x y = round (correction_at p.window k) x y ≡ neg_ℤ (residue_
 abbrev pub HaveShape : Problem → Corrections → List ℤ → Type 0
 HaveShape p k faces = HasShapeOf p.window k × (length faces ≡ cells_of p.window)
 
--- no number of the list is above 16129 on either side
+-- no number of the list is above 16129 on either side of 0
 abbrev pub AreSmall : List ℤ → Type 0
 AreSmall zs = (i : ℕ) → unsigned_abs (slice_index_or zs i (pos 0)) ≤ 16129
 
--- corrections and a list of faces that answer each tile of which this is the problem
+-- corrections and a list of faces that are an answer for each tile of which this is the problem
 abbrev pub Answers : Problem → Corrections → List ℤ → Type 0
 Answers p k faces = (s : Scene) (t : ℕ) (unmasked : List Bool) (mask : Field Bool) → IsProblemOf s t unmasked p → t < tiles_of s.tiling → TellsMask (window_of s.tiling t) unmasked mask → IsAnswer (raster_of s) mask t (window_of s.tiling t) k faces

@@ -1,4 +1,4 @@
--- How a grid starts: what flows, what each node has above what it wants, and which of its pixels are open.
+-- How a grid starts: what flows, what excess each node has, and which pixels are open.
 use Rattle.std.specs.Prelude.{◌≡◌, ℕ, ◌+◌, ◌-◌, ◌/◌, ◌%◌, ◌<◌, ℤ, pos, negsuc, neg_ℤ, Bool, ◌==◌, if◌then◌else◌, nat_lt, List, slice_index_or}
 use Rattle.raster_model.specs.declared.tiling.Window.{Window}
 use Rattle.raster_model.specs.Sums.{Field}
@@ -7,15 +7,15 @@ use Rattle.flow_network.specs.Nets.{Shape, State, IsArc}
 use Rattle.dual_grid.specs.Nodes.{cells_of}
 use Rattle.sums_and_lists.specs.Sums.{sum_below}
 
--- the value at the cell of a number
+-- the value at the cell with a number
 abbrev pub cell_value : Field ℤ → Window → ℕ → ℤ
 cell_value f v u = f (v.x0 + u % (v.x1 - v.x0)) (v.y0 + u / (v.x1 - v.x0))
 
--- what a node has at the start, for the residues f: a cell its residue, and the outside minus the sum of all
+-- what excess a node has at the start, for the residues f: a cell its residue, and the outside minus the sum of all
 unfoldable pub supply_at : Field ℤ → Window → ℕ → ℤ
 supply_at f v u = if nat_lt u (cells_of v) then cell_value f v u else neg_ℤ (sum_below (cells_of v) (cell_value f v))
 
--- an arc's residual at the start: 16130 on those of even numbers, which is more than ever flows, and 0 on those of odd ones
+-- an arc's residual capacity at the start: 16130 if its number is even, which is more than ever flows, and 0 if it is odd
 abbrev pub start_residual : ℕ → ℕ
 start_residual a = if a % 2 == 0 then 16130 else 0
 
@@ -28,7 +28,7 @@ pub record IsAtStart (f : Field ℤ) (v : Window) (s : Shape) (g : State) : Type
   pub excess : (u : ℕ) → u < s.nodes → g.excess u ≡ supply_at f v u
   pub potential : (u : ℕ) → u < s.nodes → g.potential u ≡ pos 0
 
--- the number, or 0 where it is below 0
+-- the number, or 0 if it is below 0
 abbrev pub positive_part : ℤ → ℤ
 positive_part (pos n) = pos n
 positive_part (negsuc n) = pos 0
@@ -37,7 +37,7 @@ positive_part (negsuc n) = pos 0
 abbrev pub positive_excess : Shape → State → ℤ
 positive_excess s g = sum_below s.nodes (λ u. positive_part (g.excess u))
 
--- which pixels are open, where the list tells of each pixel of the window in row order
+-- which pixels are open, by a list that tells it of each pixel of the window in row order
 abbrev pub open_in : Window → List Bool → Field Bool
 open_in v unmasked x y = slice_index_or unmasked (place_in v x y) Bool.false
 

@@ -19,7 +19,7 @@ shape_of g = shape_by g.window g.weights.items
 abbrev pub state_of : DualGrid → State
 state_of g = state_by g.weights.items g.flows.items g.excesses.items g.potentials.items
 
--- the grid of a tile of a scene under a mask, which a list tells over the tile's window; flow may have moved
+-- the grid of a tile of a scene; the list tells of each pixel of the tile's window whether it is open; flow may have moved
 pub record IsGridOf (s : Scene) (t : ℕ) (unmasked : List Bool) (g : DualGrid) : Type 0 where
   pub window : g.window ≡ window_of s.tiling t
   pub weighed : AreWeighed (raster_of s) (open_in g.window unmasked) g.window (shape_of g)

@@ -4,7 +4,8 @@ ghost use Rattle.std.specs.Prelude.{◌<◌, ◌≤◌, ◌^◌, ℕ, IfOk, leng
 
 use std::alloc::{AllocError, Global};
 
-/// The faces of so many cells: how much higher the potential of the next node lies, which is the outside.
+/// The faces of the cells, in row order: the potential of the outside, which is the node after the cells, minus that of
+/// the cell.
 pub(crate) fn faces(alloc: Global, potentials: &[i64], cells: u32) -> Result<Vec<i64>, AllocError>
     requires count { cells < length potentials.now }
     requires within { (u : ℕ) → unsigned_abs (number_in potentials.now u) ≤ 2 ^ 61 }

@@ -2,7 +2,7 @@ ghost use Rattle.dual_grid.specs.Building.{IsPlaceBelow};
 ghost use Rattle.dual_grid.specs.Grids.{along as along_of, is_taken, leads_forth as leads_forth_of, residual_at as residual_of, twin_place as twin_of};
 ghost use Rattle.std.specs.Prelude.{◌≡◌, ◌<◌, ◌≤◌, ◌+ℤ◌, ◌-ℤ◌, if◌then◌else◌, IsTrue, pos, unsigned_abs};
 
-/// What may flow across an edge: more than all cells of the largest tile have to send away.
+/// What may flow across an edge: more than all cells of the largest tile have to send.
 const CAPACITY: i32 = 16_130;
 
 /// Whether the arc in a place across an edge leads from the first side to the other.
@@ -37,7 +37,7 @@ fn along(flow: i32, place: u32) -> i32
     if leads_forth(place) { flow } else { -flow }
 }
 
-/// What is left of the capacity of the arc in a place across an edge of this weight, across which so much flows.
+/// The residual capacity of the arc in a place across an edge of this weight, with this flow across the edge.
 pub(crate) fn residual_at(weight: u32, flow: i32, place: u32) -> u64
     requires { unsigned_abs flow ≤ 16130 }
     ensures { result ≡ residual_of weight flow place }
@@ -53,7 +53,7 @@ pub(crate) fn residual_at(weight: u32, flow: i32, place: u32) -> u64
     left as u64
 }
 
-/// A flow from the first side of an edge to the other after an amount went along the arc in a place.
+/// The flow from the first side of an edge to the other, after an amount went along the arc in a place.
 pub(crate) fn flow_after(flow: i32, place: u32, amount: u64) -> i32
     requires flow { unsigned_abs flow ≤ 16130 }
     requires amount { amount ≤ 32260 }
@@ -66,8 +66,8 @@ pub(crate) fn flow_after(flow: i32, place: u32, amount: u64) -> i32
     }
 }
 
-/// The greatest place below `high`, across an edge of this weight, of an arc that starts at a node. It is told whether the
-/// node lies on the first side of the edge, and whether on the other.
+/// The greatest place below `high`, across an edge of this weight, of an arc that starts at a node. `at_first` says
+/// that the node lies on the first side of the edge, `at_other` that it lies on the other.
 pub(crate) fn place_below(weight: u32, at_first: bool, at_other: bool, high: u32) -> Option<u32>
     requires { high ≤ 4 }
     ensures { IsPlaceBelow weight at_first at_other high result }

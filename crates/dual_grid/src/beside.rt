@@ -5,7 +5,7 @@ ghost use Rattle.std.specs.Prelude.{◌≡◌, ◌+◌, ◌<◌, ◌≤◌};
 use crate::sides::outside;
 use raster_model::Window;
 
-/// How many right edges a window has. Down edges have the numbers from there on.
+/// How many right edges a window has. The numbers of down edges begin with this number.
 pub(crate) fn right_count(window: Window) -> u32
     requires { IsSmall window }
     ensures { result ≡ rights_of window }
@@ -13,7 +13,7 @@ pub(crate) fn right_count(window: Window) -> u32
     (window.x1 - window.x0) * (window.y1 - window.y0 + 1)
 }
 
-/// The node on the first side of the edge of a number.
+/// The node on the first side of the edge with a number.
 pub(crate) fn first_at(window: Window, edge: u32) -> u32
     requires small { IsSmall window }
     requires edge { edge < edges_of window }
@@ -30,7 +30,7 @@ pub(crate) fn first_at(window: Window, edge: u32) -> u32
     }
 }
 
-/// The node on the first side of a down edge, which is so far from the first of them.
+/// The node on the first side of a down edge. `place` is the edge's place among the down edges.
 fn down_first(window: Window, place: u32) -> u32
     requires small { IsSmall window }
     requires place { rights_of window + place < edges_of window }
@@ -44,7 +44,7 @@ fn down_first(window: Window, place: u32) -> u32
     }
 }
 
-/// The node on the other side of the edge of a number.
+/// The node on the other side of the edge with a number.
 pub(crate) fn other_at(window: Window, edge: u32) -> u32
     requires small { IsSmall window }
     requires edge { edge < edges_of window }
@@ -61,7 +61,7 @@ pub(crate) fn other_at(window: Window, edge: u32) -> u32
     }
 }
 
-/// The node on the other side of a down edge, which is so far from the first of them.
+/// The node on the other side of a down edge. `place` is the edge's place among the down edges.
 fn down_other(window: Window, place: u32) -> u32
     requires small { IsSmall window }
     requires place { rights_of window + place < edges_of window }
@@ -75,7 +75,7 @@ fn down_other(window: Window, place: u32) -> u32
     }
 }
 
-/// The edge of the greatest number below `high` that a cell lies at: that on its right, on its left, below it or above it.
+/// The greatest number below `high` of an edge of a cell: the edge on its right, on its left, below it or above it.
 fn cell_edge_below(window: Window, cell: u32, high: u32) -> Option<u32>
     requires small { IsSmall window }
     requires cell { cell < cells_of window }
@@ -97,7 +97,7 @@ fn cell_edge_below(window: Window, cell: u32, high: u32) -> Option<u32>
     }
 }
 
-/// The greatest place up to `place`, among the down edges, of one on the border of a window.
+/// The greatest place up to `place`, among the down edges, of a down edge on the border of a window.
 fn down_border(window: Window, place: u32) -> u32
     requires small { IsSmall window }
     requires place { rights_of window + place < edges_of window }
@@ -114,7 +114,7 @@ fn down_border(window: Window, place: u32) -> u32
     }
 }
 
-/// The edge of the greatest number below `high` on the border of a window, which the outside lies at.
+/// The greatest number below `high` of an edge on the border of a window. These are the edges of the outside.
 fn border_below(window: Window, high: u32) -> Option<u32>
     requires small { IsSmall window }
     requires high { high ≤ edges_of window }
@@ -135,7 +135,7 @@ fn border_below(window: Window, high: u32) -> Option<u32>
     }
 }
 
-/// The edge of the greatest number below `high` that a node lies at.
+/// The greatest number below `high` of an edge with a node on one of its sides.
 pub(crate) fn edge_below(window: Window, node: u32, high: u32) -> Option<u32>
     requires small { IsSmall window }
     requires node { node ≤ cells_of window }

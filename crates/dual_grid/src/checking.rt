@@ -9,7 +9,7 @@ use crate::sides::sides;
 use raster_model::{Edge, Window};
 use wrapped_gradient::Corrections;
 
-/// Whether corrections and faces have the lengths that they should have.
+/// Whether there is a correction for each edge of the window and a face for each cell.
 pub(crate) fn has_shape(problem: &Problem, corrections: &Corrections, faces: &[i64]) -> bool
     ensures { IsTrue result → HaveShape problem.now corrections.now faces.now }
 {
@@ -21,7 +21,8 @@ pub(crate) fn has_shape(problem: &Problem, corrections: &Corrections, faces: &[i
         && faces.len() == across * along
 }
 
-/// Whether no correction is above what all cells of the largest tile could send.
+/// Whether no correction is above 16,129 on either side of 0, which is all that the cells of the largest tile could
+/// send.
 pub(crate) fn are_small(corrections: &[i32]) -> bool
     ensures { IsTrue result → AreSmall corrections.now }
 {
@@ -33,7 +34,7 @@ pub(crate) fn are_small(corrections: &[i32]) -> bool
     true
 }
 
-/// The number that these lists hold for an edge.
+/// The number that two lists have for an edge: one is of right edges, the other of down edges.
 fn number(window: Window, right: &[i32], down: &[i32], edge: Edge) -> i32
     requires { IsEdgeOf window edge }
     ensures { result ≡ number_at window right.now down.now edge }
@@ -57,7 +58,7 @@ fn correction(window: Window, corrections: &Corrections, x: u32, y: u32, down: b
     i64::from(number(window, &corrections.right, &corrections.down, edge))
 }
 
-/// The residue of a place.
+/// The residue at a place of the list.
 fn residue_of(residues: &[i8], place: usize) -> i8
     ensures { result ≡ slice_index_or residues.now place (pos 0) }
 {
@@ -76,7 +77,7 @@ fn residue(problem: &Problem, x: u32, y: u32) -> i64
     i64::from(residue_of(&problem.residues, place))
 }
 
-/// Whether the corrections round a cell cancel its residue.
+/// Whether the corrections around a cell cancel its residue.
 fn is_cancelled(problem: &Problem, corrections: &Corrections, x: u32, y: u32) -> bool
     requires { IsCellOf problem.now.window x y }
     ensures { IsTrue result → IsCancelled problem.now corrections.now x y }
@@ -90,7 +91,7 @@ fn is_cancelled(problem: &Problem, corrections: &Corrections, x: u32, y: u32) ->
     around == -residue(problem, x, y)
 }
 
-/// Whether they do so round each cell of a row.
+/// Whether the corrections cancel the residue of each cell of row `y`.
 fn row_cancelled(problem: &Problem, corrections: &Corrections, y: u32) -> bool
     requires { (problem.now.window.y0 ≤ y) × (y < problem.now.window.y1) }
     ensures { IsTrue result → (x : ℕ) → problem.now.window.x0 ≤ x → x < problem.now.window.x1 → IsCancelled problem.now corrections.now x y }
@@ -103,7 +104,7 @@ fn row_cancelled(problem: &Problem, corrections: &Corrections, y: u32) -> bool
     true
 }
 
-/// Whether they do so round each cell.
+/// Whether the corrections cancel the residue of each cell.
 pub(crate) fn all_cancelled(problem: &Problem, corrections: &Corrections) -> bool
     ensures { IsTrue result → (x y : ℕ) → IsCellOf problem.now.window x y → IsCancelled problem.now corrections.now x y }
 {
@@ -115,14 +116,15 @@ pub(crate) fn all_cancelled(problem: &Problem, corrections: &Corrections) -> boo
     true
 }
 
-/// The face of a node; that of the outside is 0.
+/// The face of a node, which is 0 for the outside.
 fn face(faces: &[i64], node: u32) -> i64
     ensures { result ≡ face_of faces.now node }
 {
     faces.get(node as usize).copied().unwrap_or(0)
 }
 
-/// Whether a difference of faces is within a weight, and is the whole weight in the direction of a correction.
+/// Whether a difference of faces is within a weight and, if there is a correction, is the whole weight in its
+/// direction.
 fn is_tight(difference: i64, weight: i32, correction: i32) -> bool
     ensures { IsTrue result → IsTight difference weight correction }
 {
@@ -138,7 +140,7 @@ fn is_tight(difference: i64, weight: i32, correction: i32) -> bool
     }
 }
 
-/// Whether that is so across an edge.
+/// Whether the faces on the two sides of an edge differ so, by the edge's weight and correction.
 fn is_tight_at(problem: &Problem, corrections: &Corrections, faces: &[i64], edge: Edge) -> bool
     requires { IsEdgeOf problem.now.window edge }
     ensures { IsTrue result → IsTightAt problem.now corrections.now faces.now edge }
@@ -153,7 +155,7 @@ fn is_tight_at(problem: &Problem, corrections: &Corrections, faces: &[i64], edge
     is_tight(difference, weight, correction)
 }
 
-/// Whether that is so across each right edge of a row.
+/// Whether the faces differ so across each right edge of row `y`.
 fn right_row_tight(problem: &Problem, corrections: &Corrections, faces: &[i64], y: u32) -> bool
     requires { (problem.now.window.y0 ≤ y) × (y ≤ problem.now.window.y1) }
     ensures { IsTrue result → (x : ℕ) → IsEdgeOf problem.now.window (right_edge x y) → IsTightAt problem.now corrections.now faces.now (right_edge x y) }
@@ -166,7 +168,7 @@ fn right_row_tight(problem: &Problem, corrections: &Corrections, faces: &[i64], 
     true
 }
 
-/// Whether that is so across each down edge of a row.
+/// Whether the faces differ so across each down edge of row `y`.
 fn down_row_tight(problem: &Problem, corrections: &Corrections, faces: &[i64], y: u32) -> bool
     requires { (problem.now.window.y0 ≤ y) × (y < problem.now.window.y1) }
     ensures { IsTrue result → (x : ℕ) → IsEdgeOf problem.now.window (down_edge x y) → IsTightAt problem.now corrections.now faces.now (down_edge x y) }
@@ -179,7 +181,7 @@ fn down_row_tight(problem: &Problem, corrections: &Corrections, faces: &[i64], y
     true
 }
 
-/// Whether that is so across each right edge.
+/// Whether the faces differ so across each right edge.
 pub(crate) fn right_edges_tight(problem: &Problem, corrections: &Corrections, faces: &[i64]) -> bool
     ensures { IsTrue result → (x y : ℕ) → IsEdgeOf problem.now.window (right_edge x y) → IsTightAt problem.now corrections.now faces.now (right_edge x y) }
 {
@@ -191,7 +193,7 @@ pub(crate) fn right_edges_tight(problem: &Problem, corrections: &Corrections, fa
     true
 }
 
-/// Whether that is so across each down edge.
+/// Whether the faces differ so across each down edge.
 pub(crate) fn down_edges_tight(problem: &Problem, corrections: &Corrections, faces: &[i64]) -> bool
     ensures { IsTrue result → (x y : ℕ) → IsEdgeOf problem.now.window (down_edge x y) → IsTightAt problem.now corrections.now faces.now (down_edge x y) }
 {

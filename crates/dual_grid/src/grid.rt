@@ -17,23 +17,23 @@ use wrapped_gradient::{Corrections, Gradients};
 /// The network of a tile. Conforms to `FlowNet`.
 ///
 /// Nodes are the cells of the tile's window in row order, and one more for the outside. Across each edge of the window
-/// an arc leads each way, at the edge's weight under the mask; what flows from the first side of an edge to the other is
-/// the edge's correction, and the potential of the outside less that of a cell is the cell's face. (Costantini 1998.)
-/// A tile one pixel wide or high has no cell: each arc leads from the outside to the outside.
+/// an arc leads each way, and costs the edge's weight under the mask. What flows from the first side of an edge to the
+/// other is the edge's correction, and the potential of the outside minus that of a cell is the cell's face.
+/// (Costantini 1998.) A tile one pixel wide or high has no cell: each arc leads from the outside to the outside.
 ///
-/// Arcs are numbers, from which edge and direction follow. At a weight above 0 the two arcs across an edge are never both
-/// in use, because of the reduced costs. At the weight 0 there is one arc and its twin. So one signed flow tells the
-/// residuals of all.
+/// Arcs are numbers, from which edge and direction follow. At a weight above 0 the two arcs across an edge are never
+/// both in use, because of their reduced costs. At the weight 0 there is one arc and its twin. So one signed flow for
+/// each edge gives all residual capacities.
 #[derive(Drop)]
 pub struct DualGrid {
     pub(crate) window: Window,
-    /// By edge, the right edges first: its weight under the mask.
+    /// For each edge, the right edges first, its weight under the mask.
     weights: Vec<i32>,
-    /// By edge: what flows from its first side to the other.
+    /// For each edge, in the same order, what flows from its first side to the other.
     flows: Vec<i32>,
-    /// By node.
+    /// For each node, what it has to send; below 0, what it lacks.
     excesses: Vec<i64>,
-    /// By node.
+    /// For each node, its potential.
     potentials: Vec<i64>,
     ghost small: { IsSmall window },
     ghost fit: { FitTogether window weights.items flows.items excesses.items potentials.items },
@@ -143,9 +143,9 @@ impl DualGrid {
     ghost use Rattle.std.specs.Prelude.{◌≡◌, ◌*◌, ◌<◌, ◌≤◌, ◌≤ℤ◌, ℕ, Bool, IfOk, List, length, pos};
     ghost use Rattle.wrapped_gradient.specs.Gradients.{AreGradientsOf};
 
-    /// The grid of a tile under the mask that `unmasked` tells: whether each pixel of the tile's window is open, in row
-    /// order. The gradients are the scene's over that window. Nothing has flowed yet, and each cell has its residue as
-    /// excess. It fails for want of memory alone.
+    /// The grid of a tile. `unmasked` tells the mask: for each pixel of the tile's window, in row order, whether it is
+    /// open. The gradients are the scene's over that window. Nothing has flowed yet, and each cell has its residue as
+    /// excess. It fails only for lack of memory.
     pub fn of(
         alloc: Global,
         scene: &Scene,
@@ -180,8 +180,8 @@ impl DualGrid {
     }
 
     /// The corrections of the window's edges, in whole cycles, and the faces of its cells in row order, which certify
-    /// them. No excess is left, and no arc's residual differs by more than 16,129 from that at the start, so that each arc
-    /// from side to side keeps capacity. It fails for want of memory alone.
+    /// them. The grid has no excess left. No residual capacity differs by more than 16,129 from that at the start, so
+    /// each arc from side to side keeps capacity. It fails only for lack of memory.
     pub fn answer(self, alloc: Global) -> Result<(Corrections, Vec<i64>), AllocError>
         requires balanced { IsBalanced (shape_of self) (state_of self) }
         requires near { IsNearStart (shape_of self) (state_of self) }
@@ -193,7 +193,7 @@ impl DualGrid {
         Ok((Corrections { right, down }, faces))
     }
 
-    /// The weight of the edge of a number. No weight is below 0.
+    /// The weight of the edge with a number. No weight is below 0.
     fn weight(&self, edge: u32) -> u32
         requires { edge < edges_of self.now.window }
         ensures { result ≡ weight_in self.now.weights.items edge }
@@ -201,7 +201,7 @@ impl DualGrid {
         self.weights[edge as usize].unsigned_abs()
     }
 
-    /// The arc of the greatest number that starts at a node, among those across an edge in places below `high`.
+    /// The greatest arc that starts at a node, among those across an edge in places below `high`.
     fn out_across(&self, edge: u32, node: u32, high: u32) -> Option<u32>
         requires edge { edge < edges_of self.now.window }
         requires high { high ≤ 4 }
@@ -215,7 +215,7 @@ impl DualGrid {
         }
     }
 
-    /// The arc of the greatest number that starts at a node, among those across the edges below that of a number.
+    /// The greatest arc that starts at a node, among those across the edges with numbers below `edge`.
     fn out_before(&self, edge: u32, node: u32) -> Option<u32>
         requires node { node < (shape_of self.now).nodes }
         requires edge { edge ≤ edges_of self.now.window }
@@ -227,7 +227,7 @@ impl DualGrid {
         }
     }
 
-    /// The arc of the greatest number that starts at a node, among those below `high`.
+    /// The greatest arc that starts at a node, among those below `high`.
     fn out_below(&self, node: u32, high: u32) -> Option<u32>
         requires node { node < (shape_of self.now).nodes }
         requires high { high ≤ (shape_of self.now).arcs }

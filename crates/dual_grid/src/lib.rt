@@ -1,5 +1,5 @@
-//! The network of a tile: its cells and the outside as nodes, and arcs across its edges. Balanced, it tells the
-//! corrections of the edges and the faces that certify them.
+//! The network of a tile: its cells and the outside are the nodes, and arcs lead across its edges. Once it is balanced,
+//! it tells the corrections of the edges and the faces that certify them.
 #![tactic(auto)]
 
 mod answering;

@@ -8,15 +8,15 @@ use raster_model::{Scene, Window};
 use std::alloc::{AllocError, Global};
 use wrapped_gradient::{Corrections, Gradients};
 
-/// What a tile asks of its corrections and faces: the weights of its edges under the mask and the residues of its cells,
-/// each in row order. (Costantini 1998.)
+/// What a tile asks of its corrections and faces: the weights of its edges under the mask and the residues of its
+/// cells. Each list is in row order. (Costantini 1998.)
 #[derive(Drop)]
 pub struct Problem {
     /// The tile's window.
     pub window: Window,
-    /// The weights of the right edges: one fewer in a row than the window has pixels there.
+    /// The weights of the right edges. Each row has one fewer than the window has pixels across.
     pub right: Vec<i32>,
-    /// The weights of the down edges: in one row fewer than the window has.
+    /// The weights of the down edges. There is one row fewer than the window has.
     pub down: Vec<i32>,
     /// The residues of the cells, in cycles.
     pub residues: Vec<i8>,
@@ -30,8 +30,8 @@ impl Problem {
     ghost use Rattle.std.specs.Prelude.{◌≡◌, ◌*◌, ◌<◌, IfOk, IsTrue, length};
     ghost use Rattle.wrapped_gradient.specs.Gradients.{AreGradientsOf};
 
-    /// The problem of a tile under the mask that `unmasked` tells: whether each pixel of the tile's window is open, in row
-    /// order. The gradients are the scene's over that window. It fails for want of memory alone.
+    /// The problem of a tile. `unmasked` tells the mask: for each pixel of the tile's window, in row order, whether it
+    /// is open. The gradients are the scene's over that window. It fails only for lack of memory.
     pub fn of(
         alloc: Global,
         scene: &Scene,
@@ -54,8 +54,9 @@ impl Problem {
         })
     }
 
-    /// Whether corrections and faces are an answer: the corrections cancel the residues, and the faces differ across each
-    /// edge by no more than its weight, and by the whole weight where it is corrected. Then no corrections cost less.
+    /// Whether corrections and faces are an answer. The corrections cancel the residues, and the faces differ across
+    /// each edge by no more than its weight; if the edge is corrected, they differ by the whole weight. Then no
+    /// corrections cost less. (Ahuja, Magnanti and Orlin 1993, section 9.4.)
     pub fn is_answered_by(&self, corrections: &Corrections, faces: &[i64]) -> bool
         ensures { IsTrue result → Answers self.now corrections.now faces.now }
     {

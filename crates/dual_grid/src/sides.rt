@@ -5,7 +5,7 @@ ghost use Rattle.wrapped_gradient.specs.Windows.{IsEdgeOf};
 
 use raster_model::{Edge, Window};
 
-/// The node of all that is outside of the window. Those of the cells have the numbers below it.
+/// The node of all that is outside of the window. The nodes of the cells have the numbers below it.
 pub(crate) fn outside(window: Window) -> u32
     requires { IsSmall window }
     ensures { result ≡ cells_of window }
@@ -13,7 +13,7 @@ pub(crate) fn outside(window: Window) -> u32
     (window.y1 - window.y0) * (window.x1 - window.x0)
 }
 
-/// The node of the cell with the upper left corner (`x`, `y`); the outside where there is no such cell.
+/// The node of the cell with the upper left corner (`x`, `y`), or the outside if there is no such cell.
 fn node(window: Window, x: u32, y: u32) -> u32
     requires small { IsSmall window }
     requires from { (window.x0 ≤ x) × (window.y0 ≤ y) }

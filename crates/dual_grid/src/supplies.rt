@@ -8,7 +8,7 @@ use crate::sides::outside;
 use std::alloc::{AllocError, Global};
 use wrapped_gradient::Gradients;
 
-/// What each node has to send away: a cell its residue, the outside minus the sum of all residues.
+/// What each node has to send: a cell its residue, and the outside minus the sum of all residues.
 pub(crate) fn supplies(alloc: Global, gradients: &Gradients) -> Result<Vec<i64>, AllocError>
     requires { IsSmall gradients.now.window }
     ensures { IfOk result (λ supplies. AreSupplies (residue_at gradients.now) gradients.now.window supplies.items) }

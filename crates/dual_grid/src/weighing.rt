@@ -7,7 +7,7 @@ ghost use Rattle.wrapped_gradient.specs.Windows.{IsEdgeOf};
 
 use raster_model::{Edge, Scene, Window, stored_weight};
 
-/// The weight of an edge of the window under the mask: 0 where an end is masked. `unmasked` tells of each pixel of
+/// The weight of an edge of the window under the mask, which is 0 if an end is masked. `unmasked` says of each pixel of
 /// the window, in row order, whether it is open.
 pub(crate) fn weight(scene: &Scene, window: Window, unmasked: &[bool], edge: Edge) -> u16
     requires made { IsMadeFor scene.now window unmasked.now }

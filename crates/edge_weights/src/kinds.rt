@@ -6,8 +6,9 @@ use crate::numbers::{EndRule, weigh_by};
 use raster_model::{EdgeWeights, Plane, RuleKind};
 use std::alloc::{AllocError, Global};
 
-/// The weights of all edges of a raster before any mask, by the rule of a kind over the pixels' weights. It fails
-/// for want of memory alone.
+/// The weights of all edges of a raster before any mask, by the rule of a kind over the pixels' weights, which may be
+/// coherences. The weights of the right edges and of the down edges come in row order of first pixels. It fails only
+/// for lack of memory. (Chen and Zebker 2002.)
 pub fn weigh(alloc: Global, rule: RuleKind, weights: &Plane) -> Result<EdgeWeights, AllocError>
     ensures { IfOk result (λ edges. AreRuleWeights rule weights.now edges) }
 {
@@ -25,13 +26,13 @@ struct ByLeast {
     maxval: u16,
 }
 
-/// Half their sum, rounded down.
+/// Half the sum of the weights at an edge's ends, rounded down.
 #[derive(Drop)]
 struct ByMean {
     maxval: u16,
 }
 
-/// Their product divided by the maxval, rounded down.
+/// The product of the weights at an edge's ends divided by the maxval, rounded down.
 #[derive(Drop)]
 struct ByProduct {
     maxval: u16,

@@ -1,5 +1,5 @@
-//! Weights of edges by a rule: by the three kinds, or by any closure, which stands beside the fact that it answers
-//! the rule's numbers.
+//! Weights of edges by a rule: one of the three kinds, or any closure together with the fact that it answers the
+//! numbers of a kind.
 #![tactic(auto)]
 
 mod kinds;

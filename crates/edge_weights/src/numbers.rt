@@ -7,15 +7,15 @@ ghost use Rattle.std.specs.Prelude.{◌≡◌, ◌+◌, ◌-◌, ◌*◌, ◌≤
 use raster_model::{EdgeWeights, Plane, RuleKind};
 use std::alloc::{AllocError, Global};
 
-/// What makes the weight of an edge of the weights at its ends.
+/// A rule that makes the weight of an edge from the weights at its ends.
 pub(crate) trait EndRule {
-    /// The kind of rule whose numbers it answers.
+    /// The kind whose numbers the rule answers.
     ghost kind: { Self → RuleKind };
 
-    /// The number that no weight at an end is above.
+    /// The greatest weight that a pixel may have.
     ghost maxval: { Self → ℕ };
 
-    /// The weight of an edge whose ends have these weights.
+    /// The weight of an edge whose ends have the weights `a` and `b`.
     fn number(&self, a: u16, b: u16) -> u16
         requires { (a ≤ maxval self.now) × (b ≤ maxval self.now) }
         ensures { result ≡ rule_number (kind self.now) (maxval self.now) a b };
@@ -69,7 +69,7 @@ fn down<R: EndRule>(alloc: Global, rule: &R, weights: &Plane) -> Result<Vec<u16>
     Ok(list)
 }
 
-/// Sets the numbers of a list from `start` on: those of the weights at the same places of two slices.
+/// Sets the numbers of a list from `start` on: one for each pair of weights at the same place of two slices.
 fn set_numbers<R: EndRule>(rule: &R, firsts: &[u16], others: &[u16], list: &mut [u16], start: usize)
     requires counts { length others.now ≡ length firsts.now }
     requires room { start + length firsts.now ≤ length list.old }

@@ -8,8 +8,8 @@ use std::alloc::{AllocError, Global};
 /// A closure from the weights at the two ends of an edge to the weight of the edge.
 pub type EndWeights = Box<dyn Fn(u16, u16) -> u16>;
 
-/// A rule for the weights of edges: a closure, and with it the fact that for all weights up to a maxval it may be
-/// called and answers the number of a kind of rule.
+/// A rule for the weights of edges: a closure, with the fact that for all weights up to a maxval it may be called and
+/// answers the number of a kind of rule.
 #[derive(Drop)]
 pub struct WeightRule {
     kind: RuleKind,
@@ -34,7 +34,8 @@ impl WeightRule {
         }
     }
 
-    /// The weights of all edges of a raster before any mask, by the rule over the pixels' weights.
+    /// The weights of all edges of a raster before any mask, by the rule over the pixels' weights. The weight plane has
+    /// the rule's maxval. It fails only for lack of memory.
     pub fn weigh(&self, alloc: Global, weights: &Plane) -> Result<EdgeWeights, AllocError>
         requires { weights.now.maxval ≡ self.now.maxval }
         ensures { IfOk result (λ edges. AreRuleWeights self.now.kind weights.now edges) }

@@ -7,7 +7,7 @@ use Rattle.sums_and_lists.specs.Sums.{count_below, where_true}
 abbrev pub link_at : List (Option Link) → ℕ → Option Link
 link_at links i = slice_index_or links i None
 
--- so much in the direction of a departure
+-- the amount g with the sign of a departure, and 0 if there is none
 abbrev pub toward : ℤ → ℕ → ℤ
 toward (pos zero) g = pos 0
 toward (pos (suc n)) g = pos g
@@ -21,12 +21,12 @@ abbrev pub start_flow : Option Link → ℤ
 start_flow None = pos 0
 start_flow (Some k) = link_start k
 
--- what a flow on a link brings to a region: what ends there less what starts there
+-- what a flow on a link brings to a region: what ends there minus what starts there
 abbrev pub brings : Option Link → ℕ → ℤ → ℤ
 brings None v x = pos 0
 brings (Some k) v x = where_true (k.to == v) x -ℤ where_true (k.from == v) x
 
--- a link has one arc and its twin
+-- how many arcs a link has: one and its twin
 abbrev pub arcs_of : Option Link → ℕ
 arcs_of None = 0
 arcs_of (Some k) = 2
@@ -35,7 +35,7 @@ arcs_of (Some k) = 2
 abbrev pub arcs_before : List (Option Link) → ℕ → ℕ
 arcs_before links i = count_below i (λ j. arcs_of (link_at links j))
 
--- a link joins two of n regions, and is no greater than a weight and a departure can be
+-- a link joins two of n regions, and its weight and departure are no greater than these can be
 pub record IsLink (n : ℕ) (k : Link) : Type 0 where
   pub from : k.from < n
   pub to : k.to < n
@@ -45,7 +45,7 @@ pub record IsLink (n : ℕ) (k : Link) : Type 0 where
 abbrev pub IsLinkIn : ℕ → Option Link → Type 0
 IsLinkIn n o = (k : Link) → o ≡ Some k → IsLink n k
 
--- links between n regions, no more than a raster has edges
+-- links between n regions, of which there are no more than a raster can have edges
 pub record AreLinks (n : ℕ) (links : List (Option Link)) : Type 0 where
   pub few : length links ≤ 33554432
   pub regions : n ≤ 3145728

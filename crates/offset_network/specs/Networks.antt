@@ -11,7 +11,7 @@ use Rattle.sums_and_lists.specs.Sums.{sum_below, where_true}
 unfoldable pub supply_of : List (Option Link) → ℕ → ℕ → ℤ
 supply_of links i v = sum_below i (λ j. brings (link_at links j) v (start_flow (link_at links j)))
 
--- the list has that for each of n regions
+-- the list has this number for each of n regions
 pub record AreSupplies (n : ℕ) (links : List (Option Link)) (i : ℕ) (supplies : List ℤ) : Type 0 where
   pub count : length supplies ≡ n
   pub values : (v : ℕ) → v < n → slice_index_or supplies v (pos 0) ≡ supply_of links i v
@@ -19,7 +19,7 @@ pub record AreSupplies (n : ℕ) (links : List (Option Link)) (i : ℕ) (supplie
   pub sizes : supply_sizes supplies ≤ℤ pos (131070 * i)
   pub small : (v : ℕ) → unsigned_abs (slice_index_or supplies v (pos 0)) ≤ 131070 * i
 
--- arc a is the link's, from its first region to the other, and its twin comes next; the residuals sum to twice the weight
+-- arc a is the link's, from its first region to the other, and its twin comes next; their residual capacities sum to twice the weight
 pub record IsArcOf (s : Shape) (f : State) (a : ℕ) (k : Link) : Type 0 where
   pub below : a + 1 < s.arcs
   pub head : s.head a ≡ k.to
@@ -35,7 +35,7 @@ pub record HasArcs (n : ℕ) (links : List (Option Link)) (i : ℕ) (s : Shape) 
   pub are_arcs : (a : ℕ) → a < s.arcs → IsArc s a
   pub each : (j : ℕ) (k : Link) → j < i → link_at links j ≡ Some k → IsArcOf s f (arcs_before links j) k
 
--- the flow on a link: its weight less what is left of its arc
+-- the flow on a link: its weight minus the residual capacity of its arc
 abbrev pub flow_left : Option Link → ℕ → ℤ
 flow_left None left = pos 0
 flow_left (Some k) left = pos k.weight -ℤ pos left
@@ -87,7 +87,7 @@ pub record IsSupplied (old new : List ℤ) (link : Option Link) : Type 0 where
   pub sizes : supply_sizes new ≤ℤ (supply_sizes old +ℤ pos 131070)
   pub small : (m : ℕ) → ((v : ℕ) → unsigned_abs (slice_index_or old v (pos 0)) ≤ m) → (v : ℕ) → unsigned_abs (slice_index_or new v (pos 0)) ≤ m + 131070
 
--- the network got the arc of a link and its twin, whose capacities leave room for the flow at the start
+-- the network got the arc of a link and its twin, whose residual capacities count the flow at the start
 pub record AddsLinkArc (s z : Shape) (f g : State) (k : Link) : Type 0 where
   pub forward : ℕ
   pub back : ℕ

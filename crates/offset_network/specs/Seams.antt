@@ -23,14 +23,14 @@ pub record IsPlaced (r : Raster) (mask : Field Bool) (labels : Field ℕ) (cycle
 abbrev pub JoinRegions : ℕ → List (Option Link) → Type 0
 JoinRegions n links = (i : ℕ) → IsLinkIn n (link_at links i)
 
--- the new list is the old one and the link of an edge, where it is a seam edge
+-- the new list is the old one with the link of an edge added, if it is a seam edge
 pub record AddsLink (r : Raster) (mask : Field Bool) (labels : Field ℕ) (n : ℕ) (cycles : Field ℤ) (e : Edge) (old new : List (Option Link)) : Type 0 where
   pub count : length new ≡ length old + one_if (is_seam_edge r e)
   pub kept : (i : ℕ) → i < length old → link_at new i ≡ link_at old i
   pub placed : IsTrue (is_seam_edge r e) → IsPlaced r mask labels cycles new e
   pub join : JoinRegions n old → JoinRegions n new
 
--- and the links of the edges that start at a pixel
+-- the new list is the old one with the links of the edges that start at a pixel added
 pub record AddsLinksFrom (r : Raster) (mask : Field Bool) (labels : Field ℕ) (n : ℕ) (cycles : Field ℤ) (x y : ℕ) (old new : List (Option Link)) : Type 0 where
   pub count : length new ≡ length old + seams_from r x y
   pub kept : (i : ℕ) → i < length old → link_at new i ≡ link_at old i

@@ -19,7 +19,7 @@ pub record AreGoodTiles (s : Scene) (mask : Field Bool) (tiles : TileSetView) : 
   pub tiling : tiles.tiling ≡ s.tiling
   pub each : (t : ℕ) (k : TileResult) → t < tiles_of s.tiling → slice_get tiles.results t ≡ Some k → IsGoodTile s mask k
 
--- a good result: one offset within 2^46 on either side for each region, and the surface with them meets the anchor and is certified at the seams
+-- a good result: it has one offset from -2^46 to 2^46 for each region, and the surface with the offsets meets the anchor and is certified at the seams
 pub record IsGoodSeams (s : Scene) (mask : MaskView) (regions : RegionsView) (tiles : TileSetView) (k : SeamResult) : Type 0 where
   pub count : length k.offsets.items ≡ regions.count
   pub in_range : (v : ℕ) → v < regions.count → unsigned_abs (slice_index_or k.offsets.items v (pos 0)) ≤ 2 ^ 46

@@ -17,7 +17,7 @@ use raster_model::first_open;
 use seam_regions::Regions;
 use std::alloc::{AllocError, Global};
 
-/// The flow on a link whose arc has this number, from the link's first region to the other.
+/// The flow on a link, from its first region to the other. `arc` is the number of the link's arc.
 fn flow(net: &Network, link: Option<Link>, arc: u32) -> i64
     requires arc { (k : Link) → link ≡ Some k → IsArcOf (shape_of net.now) (state_of net.now) arc k }
     requires weight { (k : Link) → link ≡ Some k → k.weight ≤ 65535 }
@@ -29,7 +29,7 @@ fn flow(net: &Network, link: Option<Link>, arc: u32) -> i64
     }
 }
 
-/// The flows of the links.
+/// The flows of the links, in their order.
 pub(crate) fn flows(
     alloc: Global,
     net: &Network,
@@ -48,7 +48,8 @@ pub(crate) fn flows(
     Ok(flows)
 }
 
-/// How high the first open pixel lies: the potential of its region and its cycles. 0 where no pixel is open.
+/// How high the first open pixel lies, in whole cycles above the phase: the potential of its region plus its cycles. It
+/// is 0 if no pixel is open.
 pub(crate) fn anchor(surface: &TileSurface, regions: &Regions, net: &Network) -> i64
     requires regions { AreRegionsOf surface.now.scene.now.tiling surface.now.mask.now regions.now }
     requires nodes { (shape_of net.now).nodes ≡ regions.now.count }
@@ -66,7 +67,7 @@ pub(crate) fn anchor(surface: &TileSurface, regions: &Regions, net: &Network) ->
     net.potential(region) + i64::from(surface.at(x, y))
 }
 
-/// The potentials lowered by a number: one for each node.
+/// The potentials of all nodes, each lowered by a number.
 pub(crate) fn lowered(alloc: Global, net: &Network, by: i64) -> Result<Vec<i64>, AllocError>
     requires heights { LiesWithin (shape_of net.now) (state_of net.now) 16777217 }
     requires few { (shape_of net.now).nodes ≤ 3145728 }

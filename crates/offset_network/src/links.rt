@@ -14,7 +14,7 @@ use raster_model::{Edge, weight};
 use seam_regions::Regions;
 use std::alloc::{AllocError, Global};
 
-/// The link of a seam edge; None where an end is masked.
+/// The link of a seam edge, or None if an end is masked.
 fn link(surface: &TileSurface, regions: &Regions, edge: Edge) -> Option<Link>
     requires seam { IsTrue (is_seam_edge_of (raster_of surface.now.scene.now) edge) }
     requires regions { AreRegionsOf surface.now.scene.now.tiling surface.now.mask.now regions.now }
@@ -31,7 +31,7 @@ fn link(surface: &TileSurface, regions: &Regions, edge: Edge) -> Option<Link>
     })
 }
 
-/// Appends the link of an edge that starts at a pixel, where it is a seam edge.
+/// Appends the link of an edge that starts at a pixel, if it is a seam edge.
 fn push_link(
     surface: &TileSurface,
     ends: &TileEnds,
@@ -70,7 +70,7 @@ fn push_links_from(
     push_link(surface, ends, regions, Edge { x, y, down: true }, links)
 }
 
-/// The links of the seam edges in edge order.
+/// The links of the seam edges, in edge order.
 pub(crate) fn links(
     alloc: Global,
     surface: &TileSurface,

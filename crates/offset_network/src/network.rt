@@ -10,7 +10,7 @@ use offset_guess::Link;
 use shortest_augment::{BalanceFault, balance};
 use std::alloc::{AllocError, Global};
 
-/// Adds to one of some numbers.
+/// Adds an amount to the number at a place.
 fn add_to(numbers: &mut Vec<i64>, place: usize, amount: i64)
     requires place { place < length numbers.old.items }
     requires small { (v : ℕ) → unsigned_abs (slice_index_or numbers.old.items v (pos 0)) ≤ 2 ^ 61 }
@@ -21,7 +21,7 @@ fn add_to(numbers: &mut Vec<i64>, place: usize, amount: i64)
     numbers[place] += amount;
 }
 
-/// Counts the flow of a link at the start, at the regions that it joins.
+/// Counts the flow of a link at the start, in the supplies of the regions that it joins.
 fn supply(supplies: &mut Vec<i64>, link: Option<Link>)
     requires fits { IsLinkIn (length supplies.old.items) link }
     requires small { (v : ℕ) → unsigned_abs (slice_index_or supplies.old.items v (pos 0)) ≤ 2 ^ 60 }
@@ -65,8 +65,8 @@ fn join(alloc: Global, net: &mut Network, link: Option<Link>) -> Result<(), Allo
 
 /// The network of the links: a node for each region, and an arc and its twin for each link.
 ///
-/// What is left of both is twice the link's weight. Where the link departs, one has all of it, so that the flow starts at
-/// an end of its range, and the supplies count that flow. (Chen and Zebker 2002.)
+/// The residual capacities of both sum to twice the link's weight. If the link departs, one of them has all of it, so
+/// that the flow starts at an end of its range; the supplies count that flow. (Chen and Zebker 2002.)
 fn network(alloc: Global, regions: u32, links: &[Option<Link>]) -> Result<Network, AllocError>
     requires { AreLinks regions links.now }
     ensures { IfOk result (λ net. IsStarted regions links.now (length links.now) (shape_of net) (state_of net)) }
@@ -78,7 +78,8 @@ fn network(alloc: Global, regions: u32, links: &[Option<Link>]) -> Result<Networ
     Ok(net)
 }
 
-/// That network without excess. No nodes block: the flow on each link that leaves them is all that it can carry.
+/// The network of the links, balanced so that no node has excess. No nodes block it: each link that leaves such nodes
+/// carries all that it can.
 pub(crate) fn solved(
     alloc: Global,
     regions: u32,

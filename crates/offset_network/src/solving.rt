@@ -19,10 +19,10 @@ use raster_model::{Mask, Scene};
 use seam_regions::Regions;
 use std::alloc::{AllocError, Global};
 
-/// Whole cycles for each region of a scene under a mask, in the order of the regions' numbers, and the flows that certify
-/// them, one for each seam edge in edge order. Added to the cycles of the tiles' results, the offsets make a surface that
-/// equals the phase at the first open pixel in row order and whose seams cost least under any offsets. `revision` is that
-/// of the mask. It is refused for lack of memory alone. (Chen and Zebker 2002.)
+/// Finds whole cycles for each region of a scene under a mask, in the order of the regions' numbers, and the flows that
+/// certify them, one for each seam edge in edge order. Added to the cycles of the tiles' results, the offsets make a
+/// surface that equals the phase at the first open pixel in row order. No offsets make its seams cost less. `revision`
+/// is the revision of the mask. It fails only for lack of memory. (Chen and Zebker 2002.)
 pub fn solve_offsets(
     alloc: Global,
     scene: &Scene,

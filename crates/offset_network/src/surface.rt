@@ -9,7 +9,7 @@ ghost use Rattle.std.specs.Prelude.{◌≡◌, ◌≤◌, ◌&&◌, IsTrue, unsi
 use certificates::TileSet;
 use raster_model::{Edge, Mask, Scene, turns};
 
-/// The surface of the tiles' results, each as it is by itself.
+/// The surface of the tiles' results, each as it was solved, without offsets.
 #[derive(Clone, Copy)]
 pub(crate) struct TileSurface<'a> {
     pub(crate) scene: &'a Scene,
@@ -20,7 +20,7 @@ pub(crate) struct TileSurface<'a> {
 }
 
 impl TileSurface<'_> {
-    /// The cycles at an open pixel.
+    /// The cycles above the phase at an open pixel.
     pub(crate) fn at(&self, x: u32, y: u32) -> i32
         requires { IsTrue (is_pixel self.now.scene.now.phase.width self.now.scene.now.phase.height x y && open_at self.now.mask.now x y) }
         ensures value { result ≡ solved_cycles self.now.scene.now self.now.tiles.now.results x y }

@@ -1,4 +1,4 @@
--- What a flood over the edges of a raster has joined, and numbers of its trees. No public clause cites this file.
+-- What a flood over the edges of a raster has joined, and the numbers of its trees. No public clause cites this file.
 use Rattle.std.specs.Prelude.{◌≡◌, ℕ, ◌+◌, ◌-◌, ◌*◌, ◌/◌, ◌%◌, ◌<◌, ◌≤◌, Bool, true, false, ◌&&◌, ◌==◌, IsTrue, if◌then◌else◌, List, length, slice_index}
 use Rattle.raster_model.specs.declared.edge.Edge.{Edge}
 use Rattle.raster_model.specs.declared.tiling.Tiling.{Tiling}
@@ -16,7 +16,7 @@ use Rattle.sums_and_lists.specs.Sums.{count_below, one_if}
 abbrev pub tiled : Tiling → Raster
 tiled g = record { width = g.width; height = g.height; phase = λ x y. 0; weight = λ e. 0; tile = tile_at g; tile_count = tiles_of g }
 
--- the edges in the row order of their other ends, two numbers for each pixel: its left edge and its upper one
+-- the number of an edge: edges go in the row order of their other ends, and each pixel has two numbers, for its left edge and its upper edge
 abbrev pub edge_number : ℕ → Edge → ℕ
 edge_number w e = 2 * (end_y e * w + end_x e) + (if e.down then 1 else 0)
 
@@ -24,7 +24,7 @@ edge_number w e = 2 * (end_y e * w + end_x e) + (if e.down then 1 else 0)
 abbrev pub next_begins : Tiling → Edge → Bool
 next_begins g e = (if e.down then end_y e else end_x e) % g.side == 0
 
--- the piece is what one tile has of a row
+-- the piece is the part of a row that lies in one tile
 pub record IsPiece (g : Tiling) (p : Piece) : Type 0 where
   pub row : p.y < g.height
   pub across : (p.first ≤ p.last) × (p.last < g.width)
@@ -32,12 +32,12 @@ pub record IsPiece (g : Tiling) (p : Piece) : Type 0 where
   pub short : p.last < p.first + g.side
   pub top : p.top ≡ (p.y % g.side == 0)
 
--- its pixels are open, and so are those of its tile above them
+-- the pixels of the piece are open, and so are those of its tile right above them
 pub record IsOpenPiece (m : MaskView) (p : Piece) : Type 0 where
   pub own : IsSpanOf m p.y p.first p.last true
   pub upper : p.top ≡ false → IsSpanOf m (p.y - 1) p.first p.last true
 
--- each pixel is joined to the root of its tree, which is no later pixel; the ends of each inner edge before number k with open ends have one root; and a pixel whose edges all come later is alone
+-- a walk joins each pixel to its root, which is no later pixel; both ends of an inner edge with a number below k and open ends have the same root; and a pixel whose edges have numbers from k on is its own root
 pub record IsFlooded (g : Tiling) (mask : Field Bool) (k : ℕ) (root : ℕ → ℕ) : Type 0 where
   pub least : (i : ℕ) → root i ≤ i
   pub stays : (i : ℕ) → root (root i) ≡ root i
@@ -45,14 +45,14 @@ pub record IsFlooded (g : Tiling) (mask : Field Bool) (k : ℕ) (root : ℕ → 
   pub edges : (e : Edge) → IsTrue (is_open_inner (tiled g) mask e) → edge_number g.width e < k → root (e.y * g.width + e.x) ≡ root (end_y e * g.width + end_x e)
   pub alone : (i : ℕ) → k ≤ 2 * i → root i ≡ i
 
--- parents of the pixels make such trees
+-- the parents of the pixels form such trees
 pub record IsFlood (g : Tiling) (mask : Field Bool) (k : ℕ) (parents : List ℕ) : Type 0 where
   pub root : ℕ → ℕ
   pub size : length parents ≡ g.width * g.height
   pub forest : IsForest parents root
   pub flooded : IsFlooded g mask k root
 
--- the pixel at a place is open and the root of its tree
+-- the pixel at a place is open, and it is the root of its tree
 abbrev pub is_first : ℕ → Field Bool → (ℕ → ℕ) → ℕ → Bool
 is_first w mask root i = mask (i % w) (i / w) && (root i == i)
 
@@ -60,7 +60,7 @@ is_first w mask root i = mask (i % w) (i / w) && (root i == i)
 abbrev pub firsts_before : ℕ → Field Bool → (ℕ → ℕ) → ℕ → ℕ
 firsts_before w mask root k = count_below k (λ i. one_if (is_first w mask root i))
 
--- the number of a pixel's tree, and 2 ^ 32 - 1 where the pixel is masked
+-- the number of a pixel's tree, or 2 ^ 32 - 1 if the pixel is masked
 abbrev pub number_of : ℕ → Field Bool → (ℕ → ℕ) → ℕ → ℕ
 number_of w mask root i = if mask (i % w) (i / w) then firsts_before w mask root (root i) else 4294967295
 

@@ -13,11 +13,11 @@ use Rattle.seam_regions.specs.RegionsView.{RegionsView}
 abbrev pub label_at : RegionsView → Field ℕ
 label_at v x y = slice_index v.labels (y * v.width + x)
 
--- the number of its region; there is none where the label is 2 ^ 32 - 1
+-- the number of a pixel's region, and None if its label is 2 ^ 32 - 1
 abbrev pub region_at : RegionsView → Field (Option ℕ)
 region_at v x y = if label_at v x y == 4294967295 then None else Some (label_at v x y)
 
--- the offset of a pixel's region, and cycles with it
+-- the offset of a pixel's region, and cycles with this offset added
 unfoldable pub offset_at : RegionsView → List ℤ → Field ℤ
 offset_at v offsets x y = slice_index_or offsets (label_at v x y) (pos 0)
 
@@ -30,7 +30,7 @@ pub record IsTiledBy (r : Raster) (g : Tiling) : Type 0 where
   pub height : r.height ≡ g.height
   pub tile : r.tile ≡ tile_at g
 
--- there can be no more regions: 3 * 2 ^ 20
+-- the most regions that there can be: 3 * 2 ^ 20
 abbrev pub most_regions : ℕ
 most_regions = 3145728
 

@@ -6,7 +6,7 @@ use crate::forest::{hang, join};
 use crate::pieces::Piece;
 use raster_model::{Mask, Tiling};
 
-/// Joins the pixels of each region.
+/// Joins the open pixels of each region into one tree.
 pub fn join_all(parents: &mut [u32], tiling: &Tiling, mask: &Mask)
     requires across { mask.now.width ≡ tiling.now.width }
     requires along { mask.now.height ≡ tiling.now.height }
@@ -18,7 +18,7 @@ pub fn join_all(parents: &mut [u32], tiling: &Tiling, mask: &Mask)
     }
 }
 
-/// Joins the pixels of row `y` to each other and to those above.
+/// Joins the open pixels of row `y` to each other and to those of the row above.
 fn join_row(parents: &mut [u32], tiling: &Tiling, mask: &Mask, y: u32)
     requires across { mask.now.width ≡ tiling.now.width }
     requires along { mask.now.height ≡ tiling.now.height }
@@ -61,7 +61,7 @@ fn join_piece(parents: &mut [u32], tiling: &Tiling, mask: &Mask, piece: Piece)
     }
 }
 
-/// Whether the pixels of a piece are open, and so are those of its tile above them.
+/// Whether all pixels of a piece are open, and all pixels of its tile right above them.
 fn is_open_piece(tiling: &Tiling, mask: &Mask, piece: Piece) -> bool
     requires across { mask.now.width ≡ tiling.now.width }
     requires along { mask.now.height ≡ tiling.now.height }
@@ -77,7 +77,7 @@ fn is_open_piece(tiling: &Tiling, mask: &Mask, piece: Piece) -> bool
     mask.is_open_span(piece.y - 1, piece.first, piece.last)
 }
 
-/// Joins the pixels of an open piece. All get the parent that its first pixel has.
+/// Joins the pixels of an open piece: all of them get the parent of its first pixel.
 fn join_open(parents: &mut [u32], tiling: &Tiling, mask: &Mask, piece: Piece)
     requires across { mask.now.width ≡ tiling.now.width }
     requires along { mask.now.height ≡ tiling.now.height }
@@ -94,7 +94,7 @@ fn join_open(parents: &mut [u32], tiling: &Tiling, mask: &Mask, piece: Piece)
     }
 }
 
-/// Joins the first pixel of an open piece to the pixel of its tile above it.
+/// Joins the first pixel of an open piece to the pixel above it, if that is in the piece's tile.
 fn join_first(parents: &mut [u32], tiling: &Tiling, mask: &Mask, piece: Piece)
     requires piece { IsPiece tiling.now piece }
     requires open { IsOpenPiece mask.now piece }
@@ -135,7 +135,7 @@ fn join_pixel(parents: &mut [u32], tiling: &Tiling, mask: &Mask, piece: Piece, x
     }
 }
 
-/// Joins an open pixel of a piece to its left neighbour, where that is open and in the piece.
+/// Joins an open pixel of a piece to its left neighbour, if that is open and in the piece.
 fn join_left(parents: &mut [u32], tiling: &Tiling, mask: &Mask, piece: Piece, x: u32)
     requires across { mask.now.width ≡ tiling.now.width }
     requires along { mask.now.height ≡ tiling.now.height }
@@ -154,7 +154,7 @@ fn join_left(parents: &mut [u32], tiling: &Tiling, mask: &Mask, piece: Piece, x:
     }
 }
 
-/// Joins an open pixel of a piece to its upper neighbour, where that is open and in the piece's tile.
+/// Joins an open pixel of a piece to its upper neighbour, if that is open and in the piece's tile.
 fn join_upper(parents: &mut [u32], tiling: &Tiling, mask: &Mask, piece: Piece, x: u32)
     requires across { mask.now.width ≡ tiling.now.width }
     requires along { mask.now.height ≡ tiling.now.height }

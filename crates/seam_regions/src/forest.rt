@@ -1,8 +1,8 @@
 ghost use Rattle.seam_regions.specs.Forest.{IsForest, root_with};
 ghost use Rattle.std.specs.Prelude.{◌≡◌, ℕ, ◌<◌, ◌≤◌, length};
 
-/// The root of the tree that has `place`. Each number that is met on the way gets its parent's parent, so that
-/// later ways are shorter.
+/// The root of the tree that `place` belongs to. Each number on the way gets its parent's parent, so that later ways
+/// are shorter.
 fn root_of(parents: &mut [u32], place: u32) -> u32
     requires within { place < length parents.old }
     requires forest { (root : ℕ → ℕ) × IsForest parents.old root }
@@ -18,13 +18,13 @@ fn root_of(parents: &mut [u32], place: u32) -> u32
     here
 }
 
-/// Makes one tree of the trees that have two numbers. The lesser root is its root.
+/// Joins the trees of two numbers into one tree. Its root is the lesser of their roots.
 pub fn join(parents: &mut [u32], first: u32, second: u32)
     requires within { (first < length parents.old) × (second < length parents.old) }
     requires forest { (root : ℕ → ℕ) × IsForest parents.old root }
     ensures { (root : ℕ → ℕ) → IsForest parents.old root → IsForest parents.new (root_with root first second) }
 {
-    // Most pixels that are joined have one parent already.
+    // Most pairs of pixels that are joined already have the same parent.
     if parents[first as usize] == parents[second as usize] {
         return;
     }
@@ -33,7 +33,7 @@ pub fn join(parents: &mut [u32], first: u32, second: u32)
     parents[one.max(other) as usize] = one.min(other);
 }
 
-/// Puts a root into the tree of an earlier number. It gets that one's parent.
+/// Puts a root into the tree of an earlier number: it gets the parent of that number.
 pub fn hang(parents: &mut [u32], alone: u32, earlier: u32)
     requires within { (earlier < alone) × (alone < length parents.old) }
     ensures { (root : ℕ → ℕ) → IsForest parents.old root → root alone ≡ alone → root earlier < alone → IsForest parents.new (root_with root earlier alone) }

@@ -1,5 +1,5 @@
-//! The regions of a tiled raster under a mask: open pixels of one tile that a walk through open pixels of that
-//! tile joins. A forest with a parent for each pixel finds them.
+//! The regions of a tiled raster under a mask. Two open pixels of one tile are in one region if a walk through open
+//! pixels of that tile joins them. The regions are found with a forest, which has a parent for each pixel.
 #![tactic(auto)]
 
 mod columns;

@@ -5,8 +5,8 @@ ghost use Rattle.std.specs.Prelude.{◌≡◌, ◌+◌, ◌*◌, ◌<◌, ◌≤
 
 use raster_model::{Mask, Tiling};
 
-/// Puts in the place of each pixel's parent the number of its tree, or `u32::MAX` where the pixel is masked. Trees
-/// are numbered from 0 in the order of their roots. The result is how many have a number.
+/// Replaces each pixel's parent by the number of its tree, or by `u32::MAX` if the pixel is masked. Trees are numbered
+/// from 0 in the order of their roots. The result is how many numbers are given.
 pub fn number_all(labels: &mut [u32], tiling: &Tiling, mask: &Mask) -> u32
     requires across { mask.now.width ≡ tiling.now.width }
     requires along { mask.now.height ≡ tiling.now.height }
@@ -21,7 +21,7 @@ pub fn number_all(labels: &mut [u32], tiling: &Tiling, mask: &Mask) -> u32
     count
 }
 
-/// Numbers the pixels of row `y`, where `count` numbers were given before. The result is how many are given then.
+/// Numbers the pixels of row `y`. `count` numbers were given before; the result is how many are given in all.
 fn number_row(labels: &mut [u32], tiling: &Tiling, mask: &Mask, y: u32, count: u32) -> u32
     requires across { mask.now.width ≡ tiling.now.width }
     requires along { mask.now.height ≡ tiling.now.height }
@@ -64,7 +64,7 @@ fn number_span(
     }
 }
 
-/// Numbers the pixels of row `y` from `first` to `last`, which are open.
+/// Numbers the pixels of row `y` from `first` to `last`, all of which are open.
 fn number_open(
     labels: &mut [u32],
     tiling: &Tiling,
@@ -126,7 +126,7 @@ fn number_pixel(labels: &mut [u32], tiling: &Tiling, mask: &Mask, x: u32, y: u32
     count
 }
 
-/// Numbers an open pixel. One whose parent is an earlier pixel has that one's number, and a root gets a new one.
+/// Numbers an open pixel. If its parent is an earlier pixel, it gets the parent's number; a root gets a new number.
 fn number_open_pixel(
     labels: &mut [u32],
     tiling: &Tiling,

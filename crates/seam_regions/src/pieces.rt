@@ -4,6 +4,6 @@ pub struct Piece {
     pub y: u32,
     pub first: u32,
     pub last: u32,
-    /// The row is the first of its tile.
+    /// Whether the row is the first of its tile.
     pub top: bool,
 }

@@ -7,14 +7,14 @@ use raster_model::{Mask, Tiling};
 use std::alloc::{AllocError, Global};
 use std::marker::Model;
 
-/// The regions of a tiled raster under a mask, numbered from 0 in the row order of their first pixels. Two open
-/// pixels of one tile are in one region where a walk over right, left, upper and lower neighbours joins them
-/// through open pixels of that tile. (Chen and Zebker 2002, here with tiles that do not overlap.)
+/// The regions of a tiled raster under a mask, numbered from 0 in the row order of their first pixels. Two open pixels
+/// of one tile are in one region if a walk over right, left, upper and lower neighbours joins them through open pixels
+/// of that tile. (Chen and Zebker 2002, here with tiles that do not overlap.)
 #[derive(Drop)]
 pub struct Regions {
     width: u32,
     height: u32,
-    /// For each pixel in row order the number of its region, and `u32::MAX` where it is masked.
+    /// For each pixel in row order, the number of its region, or `u32::MAX` if it is masked.
     labels: Vec<u32>,
     count: u32,
 }
@@ -36,7 +36,7 @@ impl Regions {
     ghost use Rattle.seam_regions.specs.Regions.{AreRegionsOf, most_regions, region_at};
     ghost use Rattle.std.specs.Prelude.{◌≡◌, ◌*◌, ◌<◌, ◌≤◌, IfOk, length};
 
-    /// The regions of a tiling's raster under a mask of its size.
+    /// The regions of a tiling's raster under a mask of the same size. It fails only for lack of memory.
     pub fn of(alloc: Global, tiling: &Tiling, mask: &Mask) -> Result<Regions, AllocError>
         requires across { mask.now.width ≡ tiling.now.width }
         requires along { mask.now.height ≡ tiling.now.height }
@@ -61,7 +61,7 @@ impl Regions {
         self.count
     }
 
-    /// The region of the pixel (`x`, `y`); None exactly where the pixel is masked.
+    /// The number of the region of the pixel (`x`, `y`); None exactly if the pixel is masked.
     pub fn region(&self, x: u32, y: u32) -> Option<u32>
         requires across { x < self.now.width }
         requires along { y < self.now.height }
@@ -71,7 +71,7 @@ impl Regions {
         (label != u32::MAX).then_some(label)
     }
 
-    /// A number for each pixel of the raster in row order: that of its region, and `u32::MAX` where it is masked.
+    /// A number for each pixel of the raster in row order: that of its region, or `u32::MAX` if it is masked.
     pub fn labels(&self) -> &[u32]
         ensures value { result.now ≡ self.now.labels }
         ensures size { length result.now ≡ self.now.width * self.now.height }
@@ -80,7 +80,7 @@ impl Regions {
     }
 }
 
-/// Each of so many numbers as its own parent.
+/// A list of the given length in which each number is its own parent.
 fn own_parents(alloc: Global, numbers: u32) -> Result<Vec<u32>, AllocError>
     ensures { IfOk result (λ parents. parents.items ≡ range_with_len 0 numbers) }
 {

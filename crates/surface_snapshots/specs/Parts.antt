@@ -48,7 +48,7 @@ abbrev pub faces_of : Option TileResult → List ℤ
 faces_of (Some k) = k.faces.items
 faces_of None = []
 
--- the cycles that the result of a pixel's tile has there, with the offset of its region: so many lies the surface above the phase
+-- the cycles that the result of a pixel's tile has there, with the offset of its region added: so far lies the surface above the phase
 abbrev pub shifted_cycles : Scene → RegionsView → List TileResult → List ℤ → Field ℤ
 shifted_cycles s v results offsets = shifted_by v offsets (solved_cycles s results)
 
@@ -58,11 +58,11 @@ cycles_in_parts p = shifted_cycles p.session.scene p.regions p.tiles.results p.s
 abbrev pub surface_in : Parts → Field ℤ
 surface_in p = lifted (raster_in p) (cycles_in_parts p)
 
--- its value at a pixel, and none where the pixel is masked
+-- the surface's value at a pixel, and None if the pixel is masked
 abbrev pub value_in : Parts → Field (Option ℤ)
 value_in p x y = if open_in p x y then Some (surface_in p x y) else None
 
--- its value at a pixel, and another number where the pixel is masked
+-- the surface's value at a pixel, and another number if the pixel is masked
 abbrev pub value_or : Parts → ℤ → Field ℤ
 value_or p masked x y = unwrap_or (value_in p x y) masked
 

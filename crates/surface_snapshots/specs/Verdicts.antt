@@ -28,11 +28,11 @@ IsVerdict p Shape = (length p.seams.offsets.items ≢ p.regions.count) ⊎ (HasO
 IsVerdict p (Range v) = HasOffsets p × IsFirstFar p.seams.offsets.items v
 IsVerdict p verdict = HasOffsets p × AreNear p.seams.offsets.items × IsFlowsVerdict p verdict
 
--- why no snapshot is made of the parts: of a verdict other than Good, or for want of memory, which is told only of offsets that are right in number and range
+-- why no snapshot is made of the parts: a verdict other than Good, or lack of memory, which is told only of offsets that are right in number and range
 abbrev pub IsFault : Parts → BuildFault → Type 0
 IsFault p (Uncertified verdict) = (verdict ≢ Good) × IsVerdict p verdict
 IsFault p Memory = HasOffsets p × AreNear p.seams.offsets.items
 
--- there are no two verdicts on the same parts, where the regions are the mask's
+-- no parts have two verdicts, if the regions are the mask's
 abbrev pub PartsHaveOneVerdict : Type 0
 PartsHaveOneVerdict = (p : Parts) (a b : SeamVerdict) → AreRegionsOf p.session.scene.tiling p.mask p.regions → IsVerdict p a → IsVerdict p b → a ≡ b

@@ -15,7 +15,8 @@ use raster_model::{Mask, Session};
 use seam_regions::Regions;
 use std::alloc::Global;
 
-/// The costs of the surface that is put together from these parts, where it is certified.
+/// The costs of the surface that is put together from these parts, if it is certified, and otherwise the first break or
+/// lack of memory.
 pub(crate) fn certified_costs(
     alloc: Global,
     session: &Session,

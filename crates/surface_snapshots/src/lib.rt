@@ -1,5 +1,5 @@
-//! Published surfaces. A snapshot is the surface of the tiles' results with an offset added on each region. It
-//! keeps that it is certified, so that no congruent surface costs less in a tile and no offsets make its seams
+//! Published surfaces. A snapshot is the surface of the tiles' results with an offset added on each region. Its ghost
+//! fields keep the fact that it is certified: no congruent surface costs less in a tile, and no offsets make its seams
 //! cost less.
 #![tactic(auto)]
 

@@ -13,7 +13,7 @@ use seam_regions::Regions;
 use std::alloc::Global;
 use std::sync::Arc;
 
-/// The value that lies so many whole cycles above a phase.
+/// The value that lies this many whole cycles above a phase, in units of 1/65536 cycle.
 fn level(sample: u16, cycles: i64) -> i64
     requires { unsigned_abs cycles ≤ 2 ^ 46 + 8388608 }
     ensures value { result ≡ pos sample +ℤ pos 65536 *ℤ cycles }
@@ -77,8 +77,9 @@ impl Snapshot {
     ghost use Rattle.surface_snapshots.specs.Verdicts.{IsFault, IsVerdict};
     ghost use Rattle.surface_snapshots.specs.Views.{parts_of};
 
-    /// The snapshot of a session's surface under a mask. The surface lies above the phase by the cycles of the
-    /// tiles' results and the offsets of the regions.
+    /// Makes the snapshot of a session's surface under a mask. The surface lies above the phase by the cycles of the
+    /// tiles' results and the offsets of the regions. It is refused if the offsets and flows do not certify it, with
+    /// the first break, or for lack of memory. (Chen and Zebker 2002.)
     pub fn build(
         alloc: Global,
         session: Arc<Session>,
@@ -160,7 +161,7 @@ impl Snapshot {
         &self.seams.flows
     }
 
-    /// The surface's value at a pixel, in units of 1/65536 cycle; None exactly where the pixel is masked.
+    /// The surface's value at a pixel, in units of 1/65536 cycle; None exactly if the pixel is masked.
     pub fn value(&self, x: u32, y: u32) -> Option<i64>
         requires across { x < (parts_of self.now).session.scene.phase.width }
         requires along { y < (parts_of self.now).session.scene.phase.height }
@@ -174,8 +175,8 @@ impl Snapshot {
         Some(level(sample, self.shifted().at(x, y)))
     }
 
-    /// Puts the values of row `y`, in units of 1/65536 cycle, into the front of `row`, and `masked` where a pixel is
-    /// masked. What stands behind them may change.
+    /// Puts the values of row `y`, in units of 1/65536 cycle, into the front of `row`, with `masked` for each pixel
+    /// that is masked. What stands after them in `row` may change.
     pub fn fill_row(&self, y: u32, masked: i64, row: &mut [i64])
         requires along { y < (parts_of self.now).session.scene.phase.height }
         requires room { (parts_of self.now).session.scene.phase.width ≤ length row.old }
@@ -188,7 +189,7 @@ impl Snapshot {
         }
     }
 
-    /// The value that lies so many cycles above the phase, and `masked` where there are none.
+    /// The value that lies this many cycles above the phase, or `masked` if there are none.
     fn value_above(&self, cycles: i64, masked: i64, x: u32, y: u32) -> i64
         requires across { x < (parts_of self.now).session.scene.phase.width }
         requires along { y < (parts_of self.now).session.scene.phase.height }

@@ -1,4 +1,4 @@
--- A board as contracts see it: the session, the entries of its history, the kept result of each tile where there is one, and the published surfaces in order.
+-- A board as contracts see it: the session, the entries of its history, the kept result of each tile if there is one, and the published surfaces in order.
 use Rattle.std.specs.Prelude.{Option, List}
 use Rattle.raster_model.specs.declared.session.Session.{Session}
 use Rattle.certificates.specs.declared.results.TileResult.{TileResult}

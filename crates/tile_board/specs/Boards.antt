@@ -20,7 +20,7 @@ pub record IsHeld (s : Session) (H : List Entry) (t : ℕ) (k : TileResult) : Ty
   pub stamp : k.stamp ≡ stamp_in s H t
   pub good : IsGoodTile s.scene (present_mask s H) k
 
--- what is held for a tile: a result exactly where the history kept it
+-- what is held for a tile: a result exactly if the history kept the tile; and for all tiles
 abbrev pub IsPlace : Session → List Entry → ℕ → Option TileResult → Type 0
 IsPlace s H t None = IsFalse (is_kept s H t)
 IsPlace s H t (Some k) = IsHeld s H t k
@@ -29,7 +29,7 @@ pub record AreKept (s : Session) (H : List Entry) (kept : List (Option TileResul
   pub count : length kept ≡ tiles_of s.scene.tiling
   pub each : (t : ℕ) (place : Option TileResult) → slice_get kept t ≡ Some place → IsPlace s H t place
 
--- a certified surface of a revision of the history, over the mask there
+-- a certified surface of a revision of the history, over the mask at that revision
 pub record IsSurfaceOf (s : Session) (H : List Entry) (p : Parts) : Type 0 where
   pub revision : p.seams.revision ≤ now_of H
   pub session : p.session ≡ s

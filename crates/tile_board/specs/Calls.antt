@@ -63,7 +63,7 @@ pub record IsClaim (v : BoardView) (ticket : Ticket) : Type 0 where
   pub stamp : ticket.stamp ≡ stamp_in v.session v.entries ticket.tile
   pub window : IsWindowMask (window_of v.session.scene.tiling ticket.tile) (mask_now v) ticket.unmasked.items
 
--- no tile lacks a result; or one does, and there is no memory for its mask
+-- every tile is kept; or one is not, and there is no memory for its mask
 abbrev pub HasClaimFault : BoardView → ClaimFault → Type 0
 HasClaimFault v claim_faults.NoJob = AreAllKept v.session v.entries
 HasClaimFault v claim_faults.Memory = AreAllKept v.session v.entries → ⊥
@@ -132,7 +132,7 @@ pub record IsPublication (old new : BoardView) (a : ℕ) (seams : SeamResult) : 
   pub certified : IsPublished surface
   pub surfaces : new.surfaces ≡ old.surfaces ++ surface ∷ []
 
--- the next command is to settle; the offsets are for the present revision, which is not published; every tile is kept
+-- the next command is to settle; also, the offsets are for the present revision; also, it is not published; also, every tile is kept
 abbrev pub MaySettle : BoardView → ℕ → Type 0
 MaySettle v a = next_command v.session v.entries a ≡ Some Settle
 
@@ -154,13 +154,13 @@ HasPublishFault v a seams (publish_faults.Uncertified verdict) = MayPublish v a 
 HasPublishFault v a seams publish_faults.Memory = MayPublish v a seams
 
 -- ---- advance
--- nothing but the entry was added
+-- the entry was added, and nothing else changed
 pub record AddsAlone (old new : BoardView) (e : Entry) : Type 0 where
   pub adds : Adds old new e
   pub kept : new.kept ≡ old.kept
   pub surfaces : new.surfaces ≡ old.surfaces
 
--- the edit made the next revision, and each tile with a pixel that changed is no longer kept
+-- the edit made the next revision, and exactly the tiles in which a pixel changed lost their results
 pub record IsRevision (old new : BoardView) (a : ℕ) (edit : Edit) : Type 0 where
   pub adds : Adds old new (Revised a edit)
   pub count : length new.kept ≡ length old.kept

@@ -1,4 +1,4 @@
--- Why nothing is published, where nothing was gathered or built.
+-- Why nothing is published, if nothing was gathered or built.
 use Rattle.surface_snapshots.specs.declared.fault.BuildFault.{BuildFault}
 use Rattle.surface_snapshots.specs.declared.fault.BuildFault.TheVariants as build_faults
 use Rattle.tile_board.specs.declared.answers.GatherFault.{GatherFault}

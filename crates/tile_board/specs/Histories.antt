@@ -59,7 +59,7 @@ present_mask s H = mask_in s H (now_of H)
 abbrev pub stamp_in : Session → List Entry → ℕ → ℕ
 stamp_in s H t = stamp_of s.scene.tiling (open_at s.first_mask) (edits_of H) t
 
--- whether the history kept a tile at its stamp; it kept all tiles; a tile is the least that it did not keep
+-- whether the history kept a tile at its stamp; it kept all tiles; a tile is the lowest-numbered that it did not keep
 abbrev pub is_kept : Session → List Entry → ℕ → Bool
 is_kept s H t = list_any (keeps t (stamp_in s H t)) H
 
@@ -78,7 +78,7 @@ published_in H = filter_map published_of H
 abbrev pub newest_of : List Entry → Option ℕ
 newest_of H = slice_get (published_in H) (length (published_in H) - 1)
 
--- the script of an analyst; a number that is no analyst's, as 0, has an empty one
+-- the script of an analyst; a number that is no analyst's, such as 0, has an empty one
 abbrev pub commands_of : Option Script → List Command
 commands_of None = []
 commands_of (Some script) = script.commands.items
@@ -90,14 +90,14 @@ script_in scripts (suc k) = commands_of (slice_get scripts k)
 abbrev pub script_of : Session → ℕ → List Command
 script_of s a = script_in s.scripts.items a
 
--- how many commands an analyst has done, and the next
+-- how many commands an analyst has done, and its next command
 abbrev pub done_by : ℕ → List Entry → ℕ
 done_by a H = count_by (names a) H
 
 abbrev pub next_command : Session → List Entry → ℕ → Option Command
 next_command s H a = slice_get (script_of s a) (done_by a H)
 
--- the entry may come next
+-- the entry may come next in the history
 abbrev pub IsStep : Session → List Entry → Entry → Type 0
 IsStep s H (Revised a edit) = next_command s H a ≡ Some (Change edit)
 IsStep s H (Kept t r) = (t < tiles_of s.scene.tiling) × (r ≡ stamp_in s H t) × IsFalse (is_kept s H t)

@@ -5,7 +5,7 @@ use Rattle.std.specs.Ordering.{nat_cmp, ordering_then}
 use Rattle.std.specs.declared.cmp.Ordering.{Ordering}
 use Rattle.mask_revisions.specs.Edits.{any_below}
 
--- a key is a number of claims and a tile; fewer claims are first, and then the lesser tile
+-- a key is a number of claims and a tile; fewer claims come first, and then the lower-numbered tile
 abbrev pub Keys : Type 0
 Keys = BTreeSet (ℕ × ℕ)
 
@@ -30,11 +30,11 @@ IsAdded old new claims tile = (c t : ℕ) → has_key new c t ≡ (is_key claims
 abbrev pub IsTaken : Keys → Keys → ℕ → ℕ → Type 0
 IsTaken old new claims tile = (c t : ℕ) → has_key new c t ≡ (not (is_key claims tile c t) && has_key old c t)
 
--- it was taken out, but not if it has no claims
+-- the key was taken out, except if it has no claims
 abbrev pub IsTakenIfClaimed : Keys → Keys → ℕ → ℕ → Type 0
 IsTakenIfClaimed old new claims tile = (c t : ℕ) → has_key new c t ≡ (not (is_key claims tile c t && not (claims == 0)) && has_key old c t)
 
--- each tile that passes the test has the key with its number of claims, and there is no other key; or those that pass a second test have the key with no claims too
+-- each tile that passes the test has the key with its number of claims, and there is no other key; or each tile that passes a second test has the key with no claims too
 abbrev pub AreLacking : (ℕ → Bool) → List ℕ → Keys → Type 0
 AreLacking lacks claims keys = (c t : ℕ) → has_key keys c t ≡ (lacks t && (c == slice_index claims t))
 
@@ -69,7 +69,7 @@ AreAddedFresh old new tiles n = (c t : ℕ) → has_key new c t ≡ ((is_listed 
 abbrev pub AreAllFresh : (ℕ → Bool) → List ℕ → ℕ → Type 0
 AreAllFresh fresh tiles n = (i : ℕ) → i < n → IsTrue (fresh (slice_index tiles i))
 
--- a tile passes the test and was claimed least often
+-- a tile passes the test, and of those that do it was claimed least often; what is claimed next: such a tile, or None if no tile passes
 pub record IsLeastClaimed (lacks : ℕ → Bool) (claims : List ℕ) (t : ℕ) : Type 0 where
   pub lacking : IsTrue (lacks t)
   pub least : (u : ℕ) → IsTrue (lacks u) → slice_index claims t ≤ slice_index claims u

@@ -45,7 +45,7 @@ NamesRevision (Published a revision) r = r ≡ Some revision
 NamesRevision (Settled a revision) r = r ≡ Some revision
 NamesRevision (Shown a revision) r = r ≡ revision
 
--- what is shown is the newest published revision, and no earlier than what an entry before it named, whichever the analysts; so what is shown never falls
+-- what is shown is the newest published revision, and no earlier than what an entry before it named, whichever analysts these are of; so what is shown never falls
 abbrev pub ShownAreNewest : List Entry → Type 0
 ShownAreNewest H = (j b : ℕ) (s : Option ℕ) → slice_get H j ≡ Some (Shown b s) → (s ≡ newest_of (take j H)) × ((i : ℕ) (e : Entry) (r : Option ℕ) → i ≤ j → slice_get H i ≡ Some e → NamesRevision e r → IsNoLater r s)
 
@@ -61,6 +61,6 @@ EveryHistoryIsLegal = (s : Session) (first last : BoardView) (calls : List Call)
 abbrev pub LegalHistoriesMoveOn : Type 0
 LegalHistoriesMoveOn = (s : Session) (H : List Entry) → IsLegal s H → ShownAreNewest H × PublishedRise H
 
--- a held result is good under the mask at its stamp too, which has the same open pixels in the tile as the present mask
+-- a held result is good under the mask at its stamp too; in its tile that mask has the same open pixels as the present one
 abbrev pub HeldAreGoodAtStamp : Type 0
 HeldAreGoodAtStamp = (s : Session) (H : List Entry) (t : ℕ) (k : TileResult) → t < tiles_of s.scene.tiling → IsHeld s H t k → IsGoodTile s.scene (mask_in s H k.stamp) k × ((x y : ℕ) → x < s.scene.tiling.width → y < s.scene.tiling.height → tile_at s.scene.tiling x y ≡ t → mask_in s H k.stamp x y ≡ present_mask s H x y)

@@ -1,4 +1,4 @@
--- What a board holds beside the history, and that it is what the history says. No clause of a public function cites this file.
+-- What a board holds besides the history, and that it is what the history says. No clause of a public function cites this file.
 use Rattle.std.specs.Prelude.{◌≡◌, ◌≢◌, ℕ, ◌+◌, ◌<◌, ◌≤◌, Option, Some, None, List, length, map, option_map, slice_get, slice_index, sum}
 use Rattle.std.specs.Arc.{arc_value}
 use Rattle.std.specs.declared.alloc.Global.{Global}
@@ -25,13 +25,13 @@ use Rattle.tile_board.specs.Histories.{AreAllKept, IsLeastLacking, done_by, edit
 abbrev pub view_of : Session → List Entry → List (Option TileResult) → List Parts → BoardView
 view_of session entries kept surfaces = record { session = session; entries = entries; kept = kept; surfaces = surfaces }
 
--- how many commands each analyst has done, the first being analyst 1; no more edits were made than commands done
+-- the list has how many commands each analyst has done, from analyst 1 on; no more edits were made than commands done
 pub record AreCursors (s : Session) (H : List Entry) (cursors : List ℕ) : Type 0 where
   pub count : length cursors ≡ length s.scripts.items
   pub done : (k : ℕ) → k < length cursors → slice_index cursors k ≡ done_by (k + 1) H
   pub few : now_of H ≤ sum cursors
 
--- what is held tells of a history: its mask with the stamps of the tiles, how many commands each analyst has done, the newest publication
+-- what is held is what a history says: its mask with the stamps of the tiles, how many commands each analyst has done, and the newest publication
 pub record TellsHistory (s : Session) (H : List Entry) (held : RevisionsView) (marks : List ℕ) (last : Option ℕ) : Type 0 where
   pub tiling : held.tiling ≡ s.scene.tiling
   pub revisions : AreRevisionsOf (open_at s.first_mask) (edits_of H) held
@@ -43,11 +43,11 @@ pub record IsState (v : BoardView) (held : RevisionsView) (waiting : LackingView
   pub past : TellsHistory v.session v.entries held marks last
   pub lacking : AreLackingIn v.kept waiting
 
--- the results that are shared, where there are some
+-- the shared results, of the tiles that have one
 abbrev pub held_results : List (Option (Arc TileResult Global)) → List (Option TileResult)
 held_results results = map (option_map arc_value) results
 
--- a tile has a result; all tiles do; a tile is the least that has none
+-- a tile has a result; all tiles do; a tile has none; it is the lowest-numbered that has none
 module _ {A : Type 0} where
   abbrev pub HasResult : List (Option A) → ℕ → Type 0
   HasResult kept t = (k : A) × (slice_get kept t ≡ Some (Some k))

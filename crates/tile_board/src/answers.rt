@@ -7,11 +7,11 @@ use surface_snapshots::BuildFault;
 /// What became of an analyst's next command.
 #[derive(Clone, Copy, Debug, PartialEq, Eq)]
 pub enum Advance {
-    /// The mask was changed. It carries the revision that this made.
+    /// The mask was changed. It carries the revision that the change made.
     Revised(u32),
     /// A settle command found the present revision published, and carries it.
     Settled(u32),
-    /// A show command was told the newest published revision; None where nothing is published.
+    /// A show command was told the newest published revision, or None if nothing is published.
     Shown(Option<u32>),
     /// The next command is a settle command, and the present revision, which it carries, is not published yet.
     NotYet(u32),
@@ -46,14 +46,14 @@ pub enum KeepFault {
 /// Why the results of the tiles are not gathered.
 #[derive(Clone, Copy, Debug, PartialEq, Eq)]
 pub enum GatherFault {
-    /// The least tile that has no kept result.
+    /// The lowest-numbered tile that has no kept result.
     Unready(u32),
     /// There was no memory for copies of the mask and the results.
     Memory,
 }
 
-/// Why no surface is published. Of several reasons the first in the order of the variants is told; want of
-/// memory may be told in place of the last one.
+/// Why no surface is published. Of several reasons the first in the order of the variants is told, but lack of memory
+/// may be told in place of `Uncertified`.
 #[derive(Clone, Copy, Debug, PartialEq, Eq)]
 pub enum PublishFault {
     /// The analyst's next command is not a settle command.
@@ -62,7 +62,7 @@ pub enum PublishFault {
     Stale(u32),
     /// The present revision, which it carries, is published.
     Double(u32),
-    /// The least tile that has no kept result.
+    /// The lowest-numbered tile that has no kept result.
     Unready(u32),
     /// The offsets and flows do not certify the surface. It carries the first break.
     Uncertified(SeamVerdict),

@@ -22,7 +22,7 @@ pub struct Board {
     revisions: Revisions,
     kept: KeptResults,
     lacking: LackingTiles,
-    /// How many commands were done, by analyst; the first is analyst 1.
+    /// How many commands each analyst has done; the first is analyst 1.
     cursors: Vec<u32>,
     newest: Option<u32>,
     entries: Vec<Entry>,
@@ -84,7 +84,7 @@ impl Board {
     };
     ghost use Rattle.tile_board.specs.States.{HasSurfaceFault, IsAlone};
 
-    /// A board with an empty history. It is refused for want of memory alone.
+    /// A board with an empty history. It fails only for lack of memory.
     pub fn new(alloc: Global, session: Arc<Session>) -> Result<Board, AllocError>
         ensures { IfOk result (IsNew (arc_value session)) }
     {
@@ -107,8 +107,9 @@ impl Board {
         })
     }
 
-    /// Gives a tile that is not kept, one that was claimed least often at its stamp, with its stamp and its window of
-    /// the present mask. Memory is wanted only if there is such a tile. The board stays as contracts see it.
+    /// Gives a tile to solve: one that is not kept and, of these, was claimed least often at its stamp. With it come
+    /// its stamp and its window of the present mask. Lack of memory is told only if there is such a tile. What
+    /// contracts see of the board does not change.
     pub fn claim(&mut self, alloc: Global) -> Result<Ticket, ClaimFault>
         ensures claimed { IfOk result (IsClaim self.old) }
         ensures refused { IfErr result (HasClaimFault self.old) }
@@ -128,7 +129,7 @@ impl Board {
         })
     }
 
-    /// Keeps a result for its tile, which adds an entry. A refusal changes nothing.
+    /// Keeps a result for its tile, if it is good under the present mask, and adds an entry. A refusal changes nothing.
     pub fn keep(&mut self, alloc: Global, solved: TileResult) -> Result<(), KeepFault>
         ensures kept { OnOk result (IsKeep self.old self.new solved) }
         ensures refused { IfErr result (HasKeepFault self.old solved) }
@@ -148,8 +149,8 @@ impl Board {
         Ok(())
     }
 
-    /// Gathers what the present revision's offsets are found from: a copy of the present mask, and every tile's kept result,
-    /// which is shared.
+    /// Gathers what the present revision's offsets are found from: a copy of the present mask, and every tile's kept
+    /// result, which is shared. It is refused if a tile has no kept result.
     pub fn gather(&self, alloc: Global) -> Result<Gathered, GatherFault>
         ensures gathered { IfOk result (IsGathering self.now) }
         ensures refused { IfErr result (HasGatherFault self.now) }
@@ -168,8 +169,8 @@ impl Board {
         })
     }
 
-    /// Does an analyst's settle command by publishing the surface that the kept results and `seams` make under the
-    /// present mask. It adds an entry and the surface. A refusal changes nothing.
+    /// Does an analyst's settle command: publishes the surface that the kept results and `seams` make under the present
+    /// mask. It adds an entry and the surface. A refusal changes nothing.
     pub fn publish(
         &mut self,
         alloc: Global,
@@ -192,9 +193,9 @@ impl Board {
         Ok(())
     }
 
-    /// Does an analyst's next command. A settle command is done only if the present revision is published; else the
-    /// answer is `NotYet`. That changes nothing, nor does `Ended` or a refusal. Each other answer adds an entry, and
-    /// only such an answer can want memory.
+    /// Does an analyst's next command. A settle command is done only if the present revision is published; otherwise
+    /// the answer is `NotYet`. `NotYet`, `Ended` and a refusal change nothing. Each other answer adds an entry, and
+    /// lack of memory is told only in place of such an answer.
     pub fn advance(&mut self, alloc: Global, analyst: u32) -> Result<Advance, AdvanceFault>
         ensures advanced { IfOk result (IsAdvance self.old self.new analyst) }
         ensures refused { IfErr result (HasAdvanceFault self.old analyst) }
@@ -208,7 +209,7 @@ impl Board {
         }
     }
 
-    /// The history.
+    /// The history: its entries, the earliest first.
     pub fn entries(&self) -> &[Entry]
         ensures value { result.now ≡ self.now.entries }
         ensures board { IsBoard self.now }
@@ -239,14 +240,14 @@ impl Board {
         self.revisions.count()
     }
 
-    /// The newest published revision; None exactly where nothing is published.
+    /// The newest published revision; None exactly if nothing is published.
     pub fn newest(&self) -> Option<u32>
         ensures { result ≡ newest_of self.now.entries }
     {
         self.newest
     }
 
-    /// How many commands an analyst has done.
+    /// How many commands an analyst has done. Analysts are numbered from 1.
     pub fn done(&self, analyst: u32) -> u32
         ensures { result ≡ done_by analyst self.now.entries }
     {
@@ -267,7 +268,7 @@ impl Board {
         command_at(&self.session.scripts, analyst, self.done(analyst))
     }
 
-    /// Whether a result may be kept.
+    /// Whether a result may be kept, or the first reason why not.
     fn judge(&self, solved: &TileResult) -> Result<(), KeepFault>
         ensures good { OnOk result (MayKeep self.now solved.now × IsGoodTile self.now.session.scene (mask_now self.now) solved.now) }
         ensures refused { IfErr result (HasKeepFault self.now solved.now) }
@@ -288,7 +289,8 @@ impl Board {
         }
     }
 
-    /// Whether offsets are for the present revision, which an analyst's settle command may publish.
+    /// Whether an analyst's settle command may publish these offsets: they are for the present revision, which is not
+    /// published.
     fn may_publish(&self, analyst: u32, seams: &SeamResult) -> Result<(), PublishFault>
         ensures fresh { OnOk result (IsFresh self.now analyst seams.now) }
         ensures refused { IfErr result (HasPublishFault self.now analyst seams.now) }
@@ -306,7 +308,7 @@ impl Board {
         Ok(())
     }
 
-    /// The surface that the kept results and `seams` make under the present mask.
+    /// The surface that the kept results and `seams` make under the present mask, if it is certified.
     fn surface(&self, alloc: Global, seams: SeamResult) -> Result<Snapshot, PublishFault>
         ensures parts { IfOk result (λ made. ArePublishable self.now seams (parts_of made)) }
         ensures ready { OnOk result (AreAllKept self.now.session self.now.entries) }
@@ -349,7 +351,7 @@ impl Board {
         Ok(Advance::Revised(self.revisions.count()))
     }
 
-    /// Does an analyst's settle command, where the present revision is published.
+    /// Does an analyst's settle command if the present revision is published, and otherwise answers `NotYet`.
     fn settle(&mut self, analyst: u32) -> Result<Advance, AdvanceFault>
         requires { MaySettle self.old analyst }
         ensures advanced { IfOk result (IsAdvance self.old self.new analyst) }

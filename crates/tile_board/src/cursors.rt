@@ -5,8 +5,8 @@ ghost use Rattle.tile_board.specs.Places.{cursor_at};
 
 use raster_model::{Command, Script};
 
-/// How many commands an analyst has done, by the counts of all analysts, of which the first is that of analyst 1. It is 0
-/// where there is no such analyst.
+/// How many commands an analyst has done, or 0 if there is no such analyst. `cursors` has the count of each analyst,
+/// and the first is that of analyst 1.
 pub fn cursor_of(cursors: &[u32], analyst: u32) -> u32
     ensures { result ≡ cursor_at cursors.now analyst }
 {
@@ -19,8 +19,8 @@ pub fn cursor_of(cursors: &[u32], analyst: u32) -> u32
     }
 }
 
-/// The command at a place, from 0, of an analyst's script; the first script is that of analyst 1. None where there is no
-/// such analyst or command.
+/// The command at a place of an analyst's script, or None if there is no such analyst or command. Places count from 0,
+/// and the first script is that of analyst 1.
 pub fn command_at(scripts: &[Script], analyst: u32, place: u32) -> Option<Command>
     ensures { result ≡ slice_get (script_in scripts.now analyst) place }
 {
@@ -31,7 +31,7 @@ pub fn command_at(scripts: &[Script], analyst: u32, place: u32) -> Option<Comman
     script.commands.get(place as usize).copied()
 }
 
-/// Whether each analyst has done every command of the script. `cursors` has a count of commands for each script.
+/// Whether each analyst has done every command of its script. `cursors` has a count of commands for each script.
 pub fn all_ended(scripts: &[Script], cursors: &[u32]) -> bool
     requires { length cursors.now ≡ length scripts.now }
     ensures { IsTrue result ↔ ((k : ℕ) (script : ScriptOf) → slice_get scripts.now k ≡ Some script → slice_index cursors.now k ≡ length script.commands.items) }

@@ -11,6 +11,6 @@ pub enum Entry {
     Published { analyst: u32, revision: u32 },
     /// An analyst's settle command found its revision published.
     Settled { analyst: u32, revision: u32 },
-    /// An analyst looked at the newest published revision; None where nothing was published.
+    /// An analyst looked at the newest published revision, or at None if nothing was published.
     Shown { analyst: u32, revision: Option<u32> },
 }

@@ -7,7 +7,7 @@ use certificates::TileSet;
 use raster_model::{Mask, Session};
 use std::sync::Arc;
 
-/// What a revision's offsets are found from: its mask and a result for each tile, which is good under it.
+/// What a revision's offsets are found from: its mask, and a result for each tile that is good under it.
 #[derive(Drop)]
 pub struct Gathered {
     pub session: Arc<Session>,

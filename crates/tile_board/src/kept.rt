@@ -9,7 +9,7 @@ use std::alloc::{AllocError, Global};
 use std::marker::Model;
 use std::sync::Arc;
 
-/// The kept result of each tile, where there is one. Gathered and published surfaces share it.
+/// The kept result of each tile, if there is one. Gathered and published surfaces share it.
 #[derive(Drop)]
 pub(crate) struct KeptResults {
     /// By tile.
@@ -47,7 +47,7 @@ impl KeptResults {
     ghost use Rattle.tile_board.specs.Places.{AreSet};
     ghost use Rattle.tile_board.specs.States.{HasResult, HaveResults, IsFirstGap, IsGap};
 
-    /// No result for each of so many tiles.
+    /// The list of so many tiles, none of which has a result.
     pub(crate) fn none(alloc: Global, tiles: u32) -> Result<KeptResults, AllocError>
         ensures { IfOk result (λ kept. kept ≡ replicate tiles None) }
     {
@@ -64,7 +64,7 @@ impl KeptResults {
         self.results[tile as usize].is_some()
     }
 
-    /// The least tile that has no result.
+    /// The lowest-numbered tile that has no result.
     pub(crate) fn first_gap(&self) -> Option<u32>
         requires { length self.now < 2 ^ 32 }
         ensures { MatchOption result (HaveResults self.now) (IsFirstGap self.now) }
@@ -88,7 +88,7 @@ impl KeptResults {
         self.results[tile as usize] = Some(solved);
     }
 
-    /// Takes the results of some tiles away.
+    /// Takes away the results of some tiles.
     pub(crate) fn empty(&mut self, tiles: &[u32])
         requires { (i : ℕ) → i < length tiles.now → slice_index tiles.now i < length self.old }
         ensures { AreSet self.old self.new tiles.now (length tiles.now) None }
@@ -97,7 +97,7 @@ impl KeptResults {
     }
 }
 
-/// Results that are all there, each shared once more.
+/// The results of all tiles, each shared once more. Each tile has one.
 fn share_all(
     alloc: Global,
     results: &[Option<Arc<TileResult>>],

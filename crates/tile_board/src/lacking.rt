@@ -20,13 +20,13 @@ use std::alloc::{AllocError, Global};
 use std::collections::BTreeSet;
 use std::marker::Model;
 
-/// The tiles that lack a result, in the order in which they are claimed: those claimed least often are first, and of
-/// these the one with the least number.
+/// The tiles that lack a result, in the order in which they are claimed: those that were claimed least often come
+/// first, and of these the lowest-numbered.
 #[derive(Drop)]
 pub(crate) struct LackingTiles {
     /// How often a tile was claimed at its stamp, by tile.
     claims: Vec<u32>,
-    /// For each tile that lacks a result how often it was claimed at its stamp, and its number.
+    /// For each tile that lacks a result, how often it was claimed at its stamp, and its number.
     keys: BTreeSet<(u32, u32)>,
 }
 
@@ -98,7 +98,7 @@ impl LackingTiles {
         take_key(&mut self.keys, claims, tile);
     }
 
-    /// Adds the key with no claims for each tile of a list. For want of memory nothing changes.
+    /// Adds the key with no claims for each tile of a list. If memory is lacking, nothing changes.
     pub(crate) fn add_fresh(&mut self, tiles: &[u32], kept: &KeptResults) -> Result<(), AllocError>
         requires count { length self.old.claims ≡ length kept.now }
         requires exist { (i : ℕ) → i < length tiles.now → slice_index tiles.now i < length kept.now }
@@ -113,7 +113,7 @@ impl LackingTiles {
         Ok(())
     }
 
-    /// Lets tiles that have the key with no claims lack a result and be unclaimed.
+    /// Marks tiles as lacking a result and unclaimed. They already have the key with no claims.
     pub(crate) fn restart(&mut self, tiles: &[u32])
         requires { (i : ℕ) → i < length tiles.now → slice_index tiles.now i < length self.old.claims }
         ensures count { length self.new.claims ≡ length self.old.claims }
@@ -122,7 +122,7 @@ impl LackingTiles {
         restart(&mut self.claims, &mut self.keys, tiles);
     }
 
-    /// Takes out the keys with no claims that do not fit, of the tiles of a list.
+    /// For the tiles of a list, takes out the keys with no claims that do not fit.
     pub(crate) fn tidy(&mut self, tiles: &[u32], kept: &KeptResults)
         requires count { length self.old.claims ≡ length kept.now }
         requires exist { (i : ℕ) → i < length tiles.now → slice_index tiles.now i < length kept.now }
@@ -171,7 +171,7 @@ fn add_fresh(keys: &mut BTreeSet<(u32, u32)>, tiles: &[u32]) -> Result<(), Alloc
     Ok(())
 }
 
-/// Lets each tile of a list lack a result and be unclaimed.
+/// Marks each tile of a list as lacking a result and unclaimed.
 fn restart(claims: &mut [u32], keys: &mut BTreeSet<(u32, u32)>, tiles: &[u32])
     requires { (i : ℕ) → i < length tiles.now → slice_index tiles.now i < length claims.old }
     ensures { (lacks fresh : ℕ → Bool) → AreAllFresh fresh tiles.now (length tiles.now) → AreLackingWith lacks fresh claims.old keys.old → AreLackingWith (with_listed lacks tiles.now (length tiles.now)) fresh claims.new keys.new }
@@ -181,7 +181,7 @@ fn restart(claims: &mut [u32], keys: &mut BTreeSet<(u32, u32)>, tiles: &[u32])
     }
 }
 
-/// Lets a tile lack a result and be unclaimed.
+/// Marks a tile as lacking a result and unclaimed.
 fn restart_one(claims: &mut [u32], keys: &mut BTreeSet<(u32, u32)>, tile: u32)
     requires { tile < length claims.old }
     ensures { (lacks fresh : ℕ → Bool) → IsTrue (fresh tile) → AreLackingWith lacks fresh claims.old keys.old → AreLackingWith (with_one lacks tile) fresh claims.new keys.new }
@@ -190,7 +190,7 @@ fn restart_one(claims: &mut [u32], keys: &mut BTreeSet<(u32, u32)>, tile: u32)
     claims[tile as usize] = 0;
 }
 
-/// Takes the key of a tile out, but not if the tile is unclaimed.
+/// Takes a tile's key out, except if the tile is unclaimed.
 fn take_claimed(keys: &mut BTreeSet<(u32, u32)>, claims: u32, tile: u32)
     ensures { IsTakenIfClaimed keys.old keys.new claims tile }
 {
@@ -200,7 +200,7 @@ fn take_claimed(keys: &mut BTreeSet<(u32, u32)>, claims: u32, tile: u32)
     take_key(keys, claims, tile);
 }
 
-/// Takes out the keys with no claims that do not fit, of the tiles of a list.
+/// For the tiles of a list, takes out the keys with no claims that do not fit.
 fn tidy(keys: &mut BTreeSet<(u32, u32)>, claims: &[u32], tiles: &[u32], kept: &KeptResults)
     requires count { length claims.now ≡ length kept.now }
     requires exist { (i : ℕ) → i < length tiles.now → slice_index tiles.now i < length kept.now }
@@ -211,7 +211,7 @@ fn tidy(keys: &mut BTreeSet<(u32, u32)>, claims: &[u32], tiles: &[u32], kept: &K
     }
 }
 
-/// Takes the key with no claims of a tile out, if it does not fit.
+/// Takes out a tile's key with no claims, if it does not fit.
 fn tidy_one(keys: &mut BTreeSet<(u32, u32)>, claims: &[u32], tile: u32, kept: &KeptResults)
     requires count { length claims.now ≡ length kept.now }
     requires exists { tile < length kept.now }

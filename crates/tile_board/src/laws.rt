@@ -7,13 +7,14 @@ pub fn every_history_is_legal()
     ensures { EveryHistoryIsLegal }
 {}
 
-/// In a legal history what is shown is the newest published revision, no earlier than any that an entry before it
-/// named, and each publication is of a later revision than those before it.
+/// In a legal history what is shown is the newest published revision. It is no earlier than any revision that an entry
+/// before it named. Each publication is of a later revision than those before it.
 pub fn legal_histories_move_on()
     ensures { LegalHistoriesMoveOn }
 {}
 
-/// A result that is held is good under the mask at its stamp too, and there its tile is open where it is now.
+/// A held result is good under the mask at its stamp too. In its tile that mask has the same open pixels as the present
+/// one.
 pub fn held_are_good_at_stamp()
     ensures { HeldAreGoodAtStamp }
 {}

@@ -1,5 +1,5 @@
 //! The history of a session and what follows from it: which results of tiles are kept, which surfaces are published,
-//! which command of each analyst comes next. An event is one call, and each call adds one legal entry or changes
+//! and which command of each analyst comes next. An event is one call, and each call adds one legal entry or changes
 //! nothing.
 #![tactic(auto)]
 

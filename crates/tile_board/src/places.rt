@@ -4,7 +4,7 @@ ghost use Rattle.tile_board.specs.States.{HaveResults, IsFirstGap, IsGap};
 
 use std::alloc::{AllocError, Global};
 
-/// No item for each of so many places.
+/// A list of so many places without an item. It fails only for lack of memory.
 pub fn no_items<T: Drop>(alloc: Global, places: u32) -> Result<Vec<Option<T>>, AllocError>
     ensures { IfOk result (λ items. items.items ≡ replicate places None) }
 {
@@ -15,7 +15,7 @@ pub fn no_items<T: Drop>(alloc: Global, places: u32) -> Result<Vec<Option<T>>, A
     Ok(items)
 }
 
-/// The least tile that has no result.
+/// The lowest-numbered tile that has no result.
 pub fn first_gap<T>(kept: &[Option<T>]) -> Option<u32>
     requires { length kept.now < 2 ^ 32 }
     ensures { MatchOption result (HaveResults kept.now) (IsFirstGap kept.now) }
@@ -28,7 +28,7 @@ pub fn first_gap<T>(kept: &[Option<T>]) -> Option<u32>
     None
 }
 
-/// Takes the results of some tiles away.
+/// Takes away the results of some tiles.
 pub fn empty<T: Drop>(kept: &mut [Option<T>], tiles: &[u32])
     requires { (i : ℕ) → i < length tiles.now → slice_index tiles.now i < length kept.old }
     ensures { AreSet kept.old kept.new tiles.now (length tiles.now) None }
@@ -38,7 +38,7 @@ pub fn empty<T: Drop>(kept: &mut [Option<T>], tiles: &[u32])
     }
 }
 
-/// Gives some places of a list a value.
+/// Sets some places of a list to a value.
 pub fn set_all<T: Copy>(items: &mut [T], places: &[u32], value: T)
     requires { (i : ℕ) → i < length places.now → slice_index places.now i < length items.old }
     ensures { AreSet items.old items.new places.now (length places.now) value }
@@ -48,7 +48,7 @@ pub fn set_all<T: Copy>(items: &mut [T], places: &[u32], value: T)
     }
 }
 
-/// Adds an item where there is room for it.
+/// Adds an item to a list that has room for it, so no memory is needed.
 pub fn push_within<T: Drop>(items: &mut Vec<T>, item: T)
     requires { vec_len items.old < vec_capacity items.old }
     ensures items { items.new.items ≡ items.old.items ++ item ∷ [] }

@@ -12,7 +12,7 @@ pub struct Ticket {
     pub session: Arc<Session>,
     /// The tile's number.
     pub tile: u32,
-    /// The revision at which the tile's mask changed last; 0 where it never did.
+    /// The revision at which the tile's mask changed last, or 0 if it never did.
     pub stamp: u32,
     /// For each pixel of the tile's window, in row order, whether it is open.
     pub unmasked: Vec<bool>,

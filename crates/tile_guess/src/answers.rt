@@ -30,7 +30,7 @@ impl Forest {
         Ok(list)
     }
 
-    /// The faces of the cells: how much higher the potential of the outside lies.
+    /// The faces of the cells: the potential of the outside minus that of each cell.
     pub(crate) fn faces(&self, alloc: Global) -> Result<Vec<i64>, AllocError> {
         let mut list = Vec::with_capacity(alloc, self.across as usize * self.along as usize)?;
         let outside = self.outside_height();
@@ -43,13 +43,13 @@ impl Forest {
         Ok(list)
     }
 
-    /// So many nodes from one on, or none.
+    /// The `count` nodes from the node `first` on, or none if there are not so many.
     fn nodes_from(&self, first: u32, count: u32) -> &[Node] {
         let first = first as usize;
         self.nodes.get(first..first + count as usize).unwrap_or(&[])
     }
 
-    /// A number with the sign that it has if none was turned.
+    /// A number with its sign turned back, if the grid's signs were turned.
     fn turned_back(&self, number: i32) -> i32 {
         if self.turned {
             number.wrapping_neg()

@@ -3,7 +3,7 @@ use crate::node::{BLANK, DOWN, LEFT, NONE, Node, RIGHT, UP, node_at};
 use crate::waiting::Waiting;
 use std::alloc::{AllocError, Global};
 
-/// A place of the frame, the cell beside it, and the direction to that.
+/// A place of the frame, the cell beside it, and the direction to that cell.
 #[derive(Clone, Copy)]
 pub(crate) struct Inlet {
     pub(crate) place: u32,
@@ -11,22 +11,22 @@ pub(crate) struct Inlet {
     pub(crate) direction: u8,
 }
 
-/// The flow, the potentials and the trees of a grid. A node's number is its place in row order; the cells have a frame of
-/// one place around them.
+/// The flow, the potentials and the trees of a grid. The cells have a frame of one place around them, and a node's
+/// number is its place in row order.
 #[derive(Drop)]
 pub(crate) struct Forest {
     pub(crate) across: u32,
     pub(crate) along: u32,
-    /// How far the nodes of one column are apart.
+    /// How far apart the numbers of two nodes are that lie one above the other.
     pub(crate) stride: u32,
-    /// How far a node's number is from that which its arc of a direction leads to.
+    /// For each direction, how far a node's number is from that of the node to which its arc leads.
     offsets: [u32; 4],
     /// Whether all signs are turned, so that the outside has no flow to send.
     pub(crate) turned: bool,
     pub(crate) nodes: Vec<Node>,
     /// The frame without its corners.
     pub(crate) frame: Vec<Inlet>,
-    /// How much the outside lacks.
+    /// How many units of flow the outside lacks.
     pub(crate) outside_lacks: i32,
     /// The place of the frame where a tree has met the outside. It stands for the outside in the tree.
     pub(crate) gate: u32,
@@ -34,7 +34,7 @@ pub(crate) struct Forest {
 }
 
 impl Forest {
-    /// A grid without flow, potentials and trees.
+    /// A grid with no flow, potentials of 0 and no trees.
     pub(crate) fn of(alloc: Global, grid: Grid<'_>) -> Result<Forest, AllocError> {
         let across = grid.across.min(4096);
         let along = grid.along.min(4096);
@@ -57,7 +57,7 @@ impl Forest {
         Ok(forest)
     }
 
-    /// Sets the arcs' costs and what the nodes have to send.
+    /// Sets the costs of the arcs and what the nodes have to send.
     fn load(&mut self, grid: Grid<'_>) {
         let (across, along) = (self.across, self.along);
         for y in 0..along.wrapping_add(1) {
@@ -85,7 +85,7 @@ impl Forest {
         load_frame(&mut self.nodes, &self.frame, self.outside_lacks > 0);
     }
 
-    /// The number of a cell, by its place in its row and its row.
+    /// The number of the cell in column `x` and row `y`.
     pub(crate) fn cell(&self, x: u32, y: u32) -> u32 {
         y.wrapping_add(1)
             .wrapping_mul(self.stride)
@@ -123,13 +123,13 @@ impl Forest {
     }
 }
 
-/// A row of a list in row order, or nothing.
+/// A row of a list in row order, or nothing if the list is too short.
 fn row<T>(list: &[T], y: u32, width: u32) -> &[T] {
     let first = y.wrapping_mul(width) as usize;
     list.get(first..first + width as usize).unwrap_or(&[])
 }
 
-/// Sets the costs of the arcs across the right edges of a row, by the number of the first cell below them.
+/// Sets the costs of the arcs across the right edges of a row. `first` is the number of the first cell below them.
 fn load_right(nodes: &mut [Node], weights: &[i32], first: u32, stride: u32) {
     let mut below = first;
     for weight in weights {
@@ -143,7 +143,7 @@ fn load_right(nodes: &mut [Node], weights: &[i32], first: u32, stride: u32) {
     }
 }
 
-/// Sets the costs of the arcs across the down edges of a row, by the number of its first cell.
+/// Sets the costs of the arcs across the down edges of a row. `first` is the number of its first cell.
 fn load_down(nodes: &mut [Node], weights: &[i32], first: u32) {
     let mut cell = first;
     for weight in weights {
@@ -157,7 +157,7 @@ fn load_down(nodes: &mut [Node], weights: &[i32], first: u32) {
     }
 }
 
-/// Sets what the cells of a row have to send, by the number of the first.
+/// Sets what the cells of a row have to send. `first` is the number of its first cell.
 fn load_residues(nodes: &mut [Node], residues: &[i8], first: u32, turned: bool) {
     let mut cell = first;
     for residue in residues {
@@ -172,7 +172,7 @@ fn load_residues(nodes: &mut [Node], residues: &[i8], first: u32, turned: bool) 
     }
 }
 
-/// Makes the frame the outside.
+/// Marks the places of the frame as the outside.
 fn load_frame(nodes: &mut [Node], frame: &[Inlet], lacks: bool) {
     for inlet in frame {
         if let Some(node) = nodes.get_mut(inlet.place as usize) {
@@ -213,7 +213,7 @@ fn inlet_at(place: u32, cell: u32, direction: u8) -> Inlet {
     }
 }
 
-/// What one unit more costs across an edge of a weight along which so much flows.
+/// What one unit more costs across an edge of this weight, along which this much flows.
 fn cost_of(flow: i16, weight: i32) -> i32 {
     if flow >= 0 {
         weight

@@ -2,11 +2,11 @@ use crate::forest::Forest;
 use crate::growing::grow;
 use std::alloc::{AllocError, Global};
 
-/// The cells of a tile and the edges between them. A right edge lies between the cell above it and the one below, a down
-/// edge between the cell right of it and the one left; beyond the border lies the outside.
+/// The cells of a tile and the edges between them. A right edge lies between the cell above it and the cell below, and
+/// a down edge between the cell right of it and the cell left. Beyond the border lies the outside.
 #[derive(Clone, Copy)]
 pub struct Grid<'a> {
-    /// How many cells a row has, and how many rows there are; the product is below 2^28.
+    /// How many cells a row has, and how many rows there are. The product is below 2^28.
     pub across: u32,
     pub along: u32,
     /// The weights of the right edges in row order, `across` in each of `along + 1` rows.
@@ -17,7 +17,7 @@ pub struct Grid<'a> {
     pub residues: &'a [i8],
 }
 
-/// Corrections of the edges, in whole cycles, and faces of the cells, in the order of the grid.
+/// Corrections of the edges, in whole cycles, and faces of the cells, in the order of the grid's lists.
 #[derive(Drop)]
 pub struct Guess {
     pub right: Vec<i32>,
@@ -25,14 +25,15 @@ pub struct Guess {
     pub faces: Vec<i64>,
 }
 
-/// Guesses corrections that cancel the residues at least weighted sum, and the faces that certify them. Nothing is promised
-/// of them; for a grid whose lists have their lengths and whose residues lie from -1 to 1 they are found right in every
-/// test. It takes two to ten steps for each cell there, and at most 4096.
+/// Guesses corrections that cancel the residues with the least weighted sum, and the faces that certify them. Nothing
+/// is promised of them. If the grid's lists have their lengths and its residues lie from -1 to 1, they are right in
+/// every test, and take two to ten steps for each cell. It never takes more than 4096 steps for each node. It fails
+/// only for lack of memory.
 ///
-/// The flow leaves cells of positive residue and ends at those of negative residue or outside. Trees grow from all cells
-/// that hold flow, at one common time, along arcs as their reduced costs fall to 0; where one meets a node that lacks, a
-/// unit flows along its branch, and the tree is dissolved (Ahuja, Magnanti and Orlin 1993, section 9.8, in the form of
-/// Hopcroft and Karp's forests).
+/// The flow leaves cells of positive residue and ends at those of negative residue or outside. Trees grow from all
+/// cells that hold flow, at one common time, along arcs as their reduced costs fall to 0. When a tree meets a node that
+/// lacks flow, a unit flows along its branch, and the tree is dissolved. (Ahuja, Magnanti and Orlin 1993, section 9.8,
+/// in the form of Hopcroft and Karp's forests.)
 pub fn guess_flow(alloc: Global, grid: Grid<'_>) -> Result<Guess, AllocError> {
     let mut forest = Forest::of(alloc, grid)?;
     grow(&mut forest);

@@ -21,7 +21,7 @@ pub(crate) fn grow(forest: &mut Forest) {
     }
 }
 
-/// Makes each node that holds flow a tree of its own, and tells how much they hold.
+/// Makes each node that holds flow a tree of its own. The result is how much they hold in all.
 fn plant(nodes: &mut [Node]) -> i32 {
     let mut left: i32 = 0;
     for node in nodes {
@@ -33,7 +33,7 @@ fn plant(nodes: &mut [Node]) -> i32 {
     left
 }
 
-/// Tells when the first trees join others.
+/// Tells the nodes around the first trees when they will join.
 fn spread_all(forest: &mut Forest) {
     for node in 0..forest.waiting.nodes() {
         if node_at(&forest.nodes, node).excess > 0 {
@@ -48,7 +48,7 @@ fn spread_all(forest: &mut Forest) {
     }
 }
 
-/// Puts a node in a tree, at its height and the time, and tells when its arcs join others.
+/// Puts a node in a tree, adds the time to its height, and tells the nodes to which its arcs lead when they will join.
 #[inline(always)]
 fn spread(nodes: &mut [Node], waiting: &mut Waiting, place: u32, stride: u32, time: i32) {
     let Some(node) = nodes.get_mut(place as usize) else {
@@ -88,8 +88,8 @@ fn spread(nodes: &mut [Node], waiting: &mut Waiting, place: u32, stride: u32, ti
     );
 }
 
-/// Tells that an arc out of a tree reaches a height at its head. When that has risen so far, by the time, the head joins:
-/// it waits for that time, unless it joins sooner or is in a tree.
+/// Tells a node that an arc out of a tree reaches it at a height. The node joins the tree at the time that raises its
+/// own height so far. It waits for that time, unless it joins sooner or is in a tree.
 #[inline(always)]
 pub(crate) fn tell(
     nodes: &mut [Node],
@@ -113,8 +113,8 @@ pub(crate) fn tell(
     }
 }
 
-/// What happens when a node's time has come: it joins the tree at its step, or the tree has met a node that lacks. If that
-/// tree is gone, the node waits for the next. Tells whether a unit has flowed.
+/// What happens when a node's time has come: it joins the tree at its step, or the tree has met a node that lacks flow.
+/// If that tree is gone, the node waits for the next. The result is whether a unit has flowed.
 #[inline(always)]
 fn join(forest: &mut Forest, place: u32) -> bool {
     let Some(node) = forest.nodes.get(place as usize).copied() else {
@@ -152,7 +152,8 @@ fn join(forest: &mut Forest, place: u32) -> bool {
     false
 }
 
-/// Lets a unit flow from the root of a tree to a node that lacks, by an arc out of the tree, and dissolves the tree.
+/// Lets a unit flow from the root of a tree to a node that lacks flow, by an arc out of the tree, and dissolves the
+/// tree.
 fn meet(forest: &mut Forest, head: u32, tail: u32, direction: u8) {
     if node_at(&forest.nodes, head).outside {
         lacks_less(forest);
@@ -168,7 +169,7 @@ fn meet(forest: &mut Forest, head: u32, tail: u32, direction: u8) {
     invite(&mut forest.nodes, &mut forest.waiting, head, forest.stride);
 }
 
-/// Lets a unit flow along the branch that ends with an arc, and tells its root.
+/// Lets a unit flow along the branch that ends with an arc. The result is the root of the branch.
 fn send(forest: &mut Forest, tail: u32, direction: u8) -> u32 {
     let mut place = tail;
     let mut step = direction;
@@ -187,7 +188,7 @@ fn send(forest: &mut Forest, tail: u32, direction: u8) -> u32 {
     NONE
 }
 
-/// Takes the nodes of a tree out of it.
+/// Takes all nodes out of a tree.
 fn release(forest: &mut Forest, root: u32) {
     let time = forest.waiting.time;
     let mut place = root;
@@ -205,7 +206,7 @@ fn release(forest: &mut Forest, root: u32) {
     }
 }
 
-/// Tells when other trees join the nodes of one that is no more.
+/// Tells the nodes of a tree that is gone when other trees will join them.
 fn invite_tree(forest: &mut Forest, root: u32) {
     let mut place = root;
     for _ in 0..forest.waiting.nodes() {
@@ -222,7 +223,7 @@ fn invite_tree(forest: &mut Forest, root: u32) {
     }
 }
 
-/// Tells when the trees around a free node, which does not wait, join it.
+/// Tells a free node, which does not wait, when a tree around it will join it.
 pub(crate) fn invite(nodes: &mut [Node], waiting: &mut Waiting, place: u32, stride: u32) {
     let none = (NEVER, RIGHT);
     let first = sooner(nodes, place.wrapping_sub(1), RIGHT, none);
@@ -242,7 +243,8 @@ pub(crate) fn invite(nodes: &mut [Node], waiting: &mut Waiting, place: u32, stri
     waiting.add(place, time);
 }
 
-/// The lower of the height that an arc out of a tree reaches and another, with the arc's direction.
+/// The lower of two heights, with the direction of its arc: the one that the arc of `tail` reaches, if `tail` is in a
+/// tree, and another.
 #[inline(always)]
 fn sooner(nodes: &[Node], tail: u32, direction: u8, other: (i32, u8)) -> (i32, u8) {
     let Some(node) = nodes.get(tail as usize) else {

@@ -1,5 +1,4 @@
-//! A guess at the least flow of one tile, made fast. It promises nothing but that it returns: who calls it checks what it
-//! answers.
+//! A fast guess at the least flow of one tile. It promises only that it returns, so its caller checks what it answers.
 #![tactic(auto)]
 
 mod answers;

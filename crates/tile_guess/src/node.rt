@@ -1,7 +1,7 @@
 /// No node.
 pub(crate) const NONE: u32 = u32::MAX;
 
-/// The directions out of a node, in the order of its arcs. That of a direction's turn differs in the last binary digit.
+/// The directions out of a node, in the order of its arcs. A direction and its reverse differ in the last binary digit.
 pub(crate) const RIGHT: u8 = 0;
 
 pub(crate) const LEFT: u8 = 1;
@@ -10,28 +10,29 @@ pub(crate) const DOWN: u8 = 2;
 
 pub(crate) const UP: u8 = 3;
 
-/// When a node of a tree joins one: it is in one already.
+/// In place of a time: the node is in a tree already.
 pub(crate) const IN_TREE: i32 = i32::MIN;
 
-/// When a node joins a tree if no tree is beside it.
+/// In place of a time: no tree is beside the node.
 pub(crate) const NEVER: i32 = i32::MAX;
 
 /// A cell, or a place of the frame around the grid. The places of the frame are the outside together.
 #[derive(Clone, Copy)]
 pub(crate) struct Node {
-    /// What one unit more costs along each arc, by direction: the edge's weight, or its return if flow comes the other way.
+    /// What one unit more costs along each arc, by direction: the edge's weight, or minus the weight if flow comes the
+    /// other way.
     pub(crate) costs: [i32; 4],
-    /// Its potential; in a tree the time is added.
+    /// The potential. In a tree the time is added to it.
     pub(crate) height: i32,
-    /// When it joins a tree, by what is known now.
+    /// When the node joins a tree, by what is known now.
     pub(crate) due: i32,
     /// What flows along its right arc and along its down arc.
     pub(crate) flows: [i16; 2],
-    /// What it has to send; -1 at the frame while the outside lacks.
+    /// What the node has to send. It is -1 at the frame while the outside lacks flow.
     pub(crate) excess: i8,
-    /// The direction of the arc by which it joins, or has joined, its tree.
+    /// The direction of the arc by which the node joins, or has joined, its tree.
     pub(crate) step: u8,
-    /// Whether it is a place of the frame.
+    /// Whether the node is a place of the frame.
     pub(crate) outside: bool,
 }
 
@@ -46,7 +47,7 @@ pub(crate) const BLANK: Node = Node {
     outside: false,
 };
 
-/// The node of a place, or a blank one.
+/// The node at a place, or a blank one if there is none.
 pub(crate) fn node_at(nodes: &[Node], place: u32) -> Node {
     nodes.get(place as usize).copied().unwrap_or(BLANK)
 }
@@ -64,7 +65,7 @@ impl Node {
         }
     }
 
-    /// Adds to what flows along the right arc, or the down arc, and tells how much that is now.
+    /// Adds to what flows along the right arc, or the down arc. The result is how much flows there now.
     pub(crate) fn add_flow(&mut self, direction: u8, amount: i16) -> i16 {
         match self.flows.get_mut(direction as usize / 2) {
             Some(flow) => {

@@ -13,7 +13,7 @@ impl Forest {
     }
 }
 
-/// The outside joins a tree by a place of the frame, which waits no longer.
+/// The outside joins a tree at a place of the frame, which waits no longer.
 pub(crate) fn join_outside(forest: &mut Forest, gate: u32) {
     forest.gate = gate;
     enter(&mut forest.nodes, &mut forest.waiting, &forest.frame, gate);
@@ -33,7 +33,7 @@ fn enter(nodes: &mut [Node], waiting: &mut Waiting, frame: &[Inlet], gate: u32) 
     }
 }
 
-/// Tells when the arcs from the frame into the grid join others.
+/// Tells the cells at the border when the arcs from the frame will join them.
 fn tell_inward(nodes: &mut [Node], waiting: &mut Waiting, frame: &[Inlet]) {
     for inlet in frame {
         let node = node_at(nodes, inlet.place);
@@ -42,7 +42,7 @@ fn tell_inward(nodes: &mut [Node], waiting: &mut Waiting, frame: &[Inlet]) {
     }
 }
 
-/// The outside lacks one unit less.
+/// Counts that the outside lacks one unit less.
 pub(crate) fn lacks_less(forest: &mut Forest) {
     forest.outside_lacks = forest.outside_lacks.wrapping_sub(1);
     if forest.outside_lacks == 0 {
@@ -50,7 +50,7 @@ pub(crate) fn lacks_less(forest: &mut Forest) {
     }
 }
 
-/// The outside lacks nothing more.
+/// Marks that the outside lacks nothing more.
 fn fill(nodes: &mut [Node], frame: &[Inlet]) {
     for inlet in frame {
         if let Some(node) = nodes.get_mut(inlet.place as usize) {
@@ -69,7 +69,7 @@ pub(crate) fn release_outside(nodes: &mut [Node], frame: &[Inlet], time: i32) {
     }
 }
 
-/// Tells when the trees at the border join the outside.
+/// Tells the places of the frame when the trees at the border will join them.
 pub(crate) fn invite_outside(forest: &mut Forest) {
     for inlet in &forest.frame {
         invite(

@@ -1,10 +1,11 @@
 use crate::node::{NONE, Node, node_at};
 use std::alloc::{AllocError, Global};
 
-/// How many slots there are for the times of the present block, one each; a block has so many times.
+/// How many slots there are for the times of the present block, one for each. A block has this many times.
 const NEAR: u32 = 1024;
 
-/// How many slots there are for later blocks. No time lies further ahead than twice the largest weight, 128 blocks.
+/// How many slots there are for later blocks. No time lies further ahead than twice the largest weight, which is 128
+/// blocks.
 const FAR: u32 = 256;
 
 const SLOTS: u32 = 1280;
@@ -17,23 +18,24 @@ struct Link {
     before: u32,
 }
 
-/// The nodes that will join trees, by time, the first told first among those of one time. (Dial, Communications of the ACM
-/// 12(11), 1969; the far slots are those of a radix heap: Ahuja, Mehlhorn, Orlin and Tarjan 1990.)
+/// The nodes that will join trees, by time. Among those of one time the first that was told comes first. (Dial,
+/// Communications of the ACM 12(11), 1969; the far slots are those of a radix heap: Ahuja, Mehlhorn, Orlin and Tarjan
+/// 1990.)
 #[derive(Drop)]
 pub(crate) struct Waiting {
-    /// By node, then by slot: first the near ones, then the far ones.
+    /// The links of the nodes, then those of the near slots, then those of the far slots.
     links: Vec<Link>,
     /// A binary digit for each slot: 0 only if the slot is empty.
     marks: [u64; 20],
     /// How many nodes there are.
     nodes: u32,
-    /// The present time, and the first of its block.
+    /// The present time, and the first time of its block.
     pub(crate) time: i32,
     start: i32,
 }
 
 impl Waiting {
-    /// None of so many nodes waits.
+    /// A list of so many nodes, none of which waits.
     pub(crate) fn new(alloc: Global, nodes: u32) -> Result<Waiting, AllocError> {
         let single = Link {
             next: NONE,
@@ -62,7 +64,7 @@ impl Waiting {
         self.nodes
     }
 
-    /// The node or slot after one, in whatever list that is.
+    /// The node or slot that comes after one in its list.
     #[inline(always)]
     pub(crate) fn after(&self, node: u32) -> u32 {
         match self.links.get(node as usize) {
@@ -83,7 +85,7 @@ impl Waiting {
         }
     }
 
-    /// Lets a node wait for a time, which is not past. It waits for no other.
+    /// Lets a node wait for a time that is not past. The node waits for no other time.
     #[inline(always)]
     pub(crate) fn add(&mut self, node: u32, time: i32) {
         let ahead = time.wrapping_sub(self.start).cast_unsigned();
@@ -108,7 +110,7 @@ impl Waiting {
         }
     }
 
-    /// Lets a node that waits no longer wait.
+    /// Takes a node that waits out of its list.
     #[inline(always)]
     pub(crate) fn remove(&mut self, node: u32) {
         let Some(link) = self.links.get(node as usize).copied() else {
@@ -122,7 +124,7 @@ impl Waiting {
         }
     }
 
-    /// Takes the first node, and makes its time the present. The nodes' own list tells how long each waits.
+    /// Takes the first node that waits, and makes its time the present time. `nodes` tells how long each waits.
     #[inline(always)]
     pub(crate) fn take(&mut self, nodes: &[Node]) -> Option<u32> {
         let mut slot = self.present();
@@ -144,7 +146,7 @@ impl Waiting {
         self.nodes.wrapping_add(self.place())
     }
 
-    /// Its place among the slots.
+    /// The place of the present time's slot among the slots.
     #[inline(always)]
     fn place(&self) -> u32 {
         self.time.wrapping_sub(self.start).cast_unsigned()
@@ -172,7 +174,7 @@ impl Waiting {
         }
     }
 
-    /// The first place with a mark, from one on and before a multiple of 64.
+    /// The first place with a mark, from `from` on and before `end`, which is a multiple of 64.
     fn marked(&self, from: u32, end: u32) -> Option<u32> {
         let mut kept = u64::MAX.wrapping_shl(from);
         for word in from / 64..end / 64 {

@@ -1,4 +1,4 @@
--- What answers a tile without a residue. Helpers' words, which no clause of a public function cites.
+-- What answers a tile without a residue. These are helpers' words, which no clause of a public function cites.
 use Rattle.std.specs.Prelude.{◌≡◌, ℕ, ◌<◌, Bool, ℤ, List}
 use Rattle.raster_model.specs.declared.scene.Scene.{Scene}
 use Rattle.raster_model.specs.Scene.{raster_of}
@@ -16,6 +16,6 @@ pub record IsWithoutResidue (s : Scene) (t : ℕ) (g : GradientsView) : Type 0 w
   pub differences : AreGradientsOf s g
   pub none : HasNoResidue g
 
--- corrections and faces that answer each tile without a residue of which these are the gradients, under any mask
+-- corrections and faces that are an answer, under any mask, for each tile without a residue of which these are the gradients
 abbrev pub AnswersWithoutResidue : GradientsView → Corrections → List ℤ → Type 0
 AnswersWithoutResidue g k faces = (s : Scene) (t : ℕ) (mask : Field Bool) → IsWithoutResidue s t g → IsAnswer (raster_of s) mask t g.window k faces

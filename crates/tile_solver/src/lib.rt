@@ -1,4 +1,5 @@
-//! One tile solved: least corrections by network flow, cycles that depart by them, and the faces that certify both.
+//! Solves one tile: finds least corrections by network flow, cycles that depart by them, and the faces that certify
+//! both.
 #![tactic(auto)]
 
 mod solving;

@@ -20,9 +20,9 @@ use surface_integration::integrate;
 use tile_guess::{Grid, Guess, guess_flow};
 use wrapped_gradient::{Corrections, Gradients};
 
-/// Solves one tile of a scene under the mask that `unmasked` tells: whether each pixel of the tile's window is open, in
-/// row order. The result has the cycles of a congruent surface whose weighted departures cost least in the tile, and
-/// the faces that prove it. It is refused for want of memory alone. (Costantini 1998.)
+/// Solves one tile of a scene. `unmasked` tells the mask: for each pixel of the tile's window, in row order, whether it
+/// is open. The result has the cycles of a congruent surface whose weighted departures cost least in the tile, and the
+/// faces that prove it. It fails only for lack of memory. (Costantini 1998.)
 pub fn solve_tile(
     alloc: Global,
     scene: &Scene,
@@ -34,15 +34,15 @@ pub fn solve_tile(
     requires count { length unmasked.now ≡ pixels_in (window_of scene.now.tiling tile) }
     ensures named { IfOk result (λ solved. (solved.tile ≡ tile) × (solved.stamp ≡ stamp)) }
 
-    // Under any mask that is so over the tile's window.
+    // The mask is any that agrees with `unmasked` over the tile's window.
     ensures good { IfOk result (λ solved. (mask : Field Bool) → TellsMask (window_of scene.now.tiling tile) unmasked.now mask → IsGoodTile scene.now mask solved) }
 {
     solve_tile_from(alloc, scene, tile, stamp, unmasked, None)
 }
 
-/// Solves one tile as `solve_tile` does, from a guess at its corrections and faces, or from that of `tile_guess` if none is
-/// given. A guess that is an answer is taken, and any other is dropped: so it can cost time, and nothing else. (McConnell,
-/// Mehlhorn, Naeher and Schweitzer 2011.)
+/// Solves one tile as `solve_tile` does, from a guess at its corrections and faces. If none is given, the guess is that
+/// of `tile_guess`. A guess that is an answer is taken, and any other is dropped, so a guess can cost time and nothing
+/// else. (McConnell, Mehlhorn, Naeher and Schweitzer 2011.)
 pub fn solve_tile_from(
     alloc: Global,
     scene: &Scene,
@@ -95,7 +95,8 @@ fn least_corrections(
     grid.answer(alloc)
 }
 
-/// A guess, or that of the fast solver, if it is found to be an answer. Neither promises anything: all rests on the check.
+/// The given guess, or that of the fast solver, if it is found to be an answer, and otherwise None. Neither promises
+/// anything: all rests on the check.
 fn guessed_corrections(
     alloc: Global,
     problem: &Problem,
@@ -137,8 +138,8 @@ fn guess_or_solver(
     )
 }
 
-/// The correction 0 for each edge of a window, and the face 0 for each of its cells. Where no cell has a residue they are
-/// an answer under any mask, without a network.
+/// The correction 0 for each edge of a window, and the face 0 for each of its cells. If no cell has a residue, they are
+/// an answer under any mask, and no network is needed.
 fn no_corrections(
     alloc: Global,
     gradients: &Gradients,
@@ -156,8 +157,8 @@ fn no_corrections(
     Ok((corrections, faces))
 }
 
-/// Empties every excess of a grid. No nodes block: from any of them an arc leads out whose capacity is more than all that
-/// flows.
+/// Balances a grid, so that no node has excess. No nodes block it: an arc leads out of them whose capacity is more than
+/// all that flows.
 fn empty(alloc: Global, grid: &mut DualGrid) -> Result<(), AllocError>
     requires { IsFresh (shape_of grid.old) (state_of grid.old) }
     ensures origin { HaveOneOrigin grid.old grid.new }

@@ -6,5 +6,5 @@ mod collecting;
 mod finishing;
 mod settling;
 
-pub use crate::collecting::collect;
+pub use crate::collecting::{collect, collect_from};
 pub use crate::finishing::finish;

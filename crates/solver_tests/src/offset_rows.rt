@@ -1,10 +1,11 @@
 ghost use Rattle.std.specs.Prelude.{◌≤◌};
 
-use collector_core::collect;
+use collector_core::{collect, collect_from};
 use insar_ports::{Feed, MemorySource};
+use offset_guess::Guess;
 use raster_model::RuleKind;
 use session_script::{SessionUse, read_session};
-use std::alloc::Global;
+use std::alloc::{AllocError, Global};
 use std::sync::Arc;
 use std::test::Fail;
 use tile_board::Board;
@@ -65,18 +66,67 @@ fn board(alloc: Global, side: u32, planes: &[u8]) -> Result<Board, Fail>
     Ok(Board::new(alloc, Arc::new(alloc, session)?)?)
 }
 
+/// A board that keeps these results.
+fn kept(alloc: Global, side: u32, planes: &[u8], results: &[Solved]) -> Result<Board, Fail>
+    requires { (2 ≤ side) × (side ≤ 128) }
+{
+    let mut board = board(alloc, side, planes)?;
+    for (tile, (cycles, faces)) in (0u32..).zip(results) {
+        board.keep(alloc, tile_result(alloc, tile, 0, cycles, faces)?)?;
+    }
+    Ok(board)
+}
+
 #[test]
 fn regions_are_moved_where_their_seams_cost_least(rt: HostRuntime) -> Result<(), Fail> {
     let alloc = rt.alloc();
     for (side, planes, results, offsets, flows) in ROWS {
         assert!(rt; 2 <= side && side <= 128);
-        let mut board = board(alloc, side, planes)?;
-        for (tile, (cycles, faces)) in (0u32..).zip(results) {
-            board.keep(alloc, tile_result(alloc, tile, 0, cycles, faces)?)?;
-        }
+        let board = kept(alloc, side, planes, results)?;
         let seams = collect(alloc, &board.gather(alloc)?)?;
         assert_eq!(rt; seams.offsets.as_slice(), offsets);
         assert_eq!(rt; seams.flows.as_slice(), flows);
+    }
+    Ok(())
+}
+
+/// Guesses at offsets and flows for each of the rasters: none, one of another raster, a flow missing, off by one or turned, an
+/// offset too many, a region not moved, all seven cycles higher (which is right), and numbers at the ends of their types.
+const GUESSES: [(&[i64], &[i64]); 11] = [
+    (&[], &[]),
+    (&[0, -1], &[0]),
+    (&[0, -1], &[-4, -4]),
+    (&[0, -1], &[-4, -3, 8]),
+    (&[0, -1], &[4, 4, -8]),
+    (&[0, -1, 0], &[-4, -4, 8]),
+    (&[0, 0], &[-4, -4, 8]),
+    (&[7, 6], &[-4, -4, 8]),
+    (&[-2, 3, -5], &[0, 0, 0]),
+    (&[i64::MIN, i64::MAX], &[-4, -4, 8]),
+    (&[0, -1], &[i64::MIN, i64::MAX, 8]),
+];
+
+/// A list with the same numbers.
+fn list_of(alloc: Global, numbers: &[i64]) -> Result<Vec<i64>, AllocError> {
+    numbers.iter().copied().collect(alloc)
+}
+
+/// From any guess each raster gets its one answer.
+#[test]
+fn any_guess_ends_in_least_offsets(rt: HostRuntime) -> Result<(), Fail> {
+    let alloc = rt.alloc();
+    for (side, planes, results, offsets, flows) in ROWS {
+        assert!(rt; 2 <= side && side <= 128);
+        let board = kept(alloc, side, planes, results)?;
+        for (raised, carried) in GUESSES {
+            let guess = Guess {
+                offsets: list_of(alloc, raised)?,
+                flows: list_of(alloc, carried)?,
+            };
+            let seams = collect_from(alloc, &board.gather(alloc)?, Some(guess))?;
+            assert_eq!(rt; seams.offsets.as_slice(), offsets);
+            assert_eq!(rt; seams.flows.as_slice(), flows);
+        }
     }
     Ok(())
 }

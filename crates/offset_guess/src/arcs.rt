@@ -1,4 +1,4 @@
-use crate::network::{Joint, NONE, Network};
+use crate::network::{NONE, Network, Way};
 
 /// An arc, as it is at the present flow and offsets.
 #[derive(Clone, Copy)]
@@ -25,57 +25,71 @@ impl Network {
         let joint = self.joint(arc / 2);
         let rise = self.rise(joint.low, joint.high);
         if arc % 2 == 0 {
-            let bundle = self.bundle(self.filled_next(joint));
             Arc {
                 head: joint.high,
-                cost: bundle.rise.wrapping_sub(rise),
-                capacity: bundle.weight.wrapping_sub(bundle.flow),
+                cost: joint.up.rise.wrapping_sub(rise),
+                capacity: joint.up.capacity,
             }
         } else {
-            let bundle = self.bundle(self.emptied_next(joint));
             Arc {
                 head: joint.low,
-                cost: rise.wrapping_sub(bundle.rise),
-                capacity: bundle.weight.wrapping_add(bundle.flow),
+                cost: rise.wrapping_sub(joint.down.rise),
+                capacity: joint.down.capacity,
             }
-        }
-    }
-
-    /// The bundle that takes more flow to the region of the higher number.
-    #[inline(always)]
-    fn filled_next(&self, joint: Joint) -> u32 {
-        let present = self.bundle(joint.present);
-        if present.flow < present.weight || present.above == NONE {
-            joint.present
-        } else {
-            present.above
-        }
-    }
-
-    /// The bundle that takes more flow back.
-    #[inline(always)]
-    fn emptied_next(&self, joint: Joint) -> u32 {
-        let present = self.bundle(joint.present);
-        if present.flow > present.weight.wrapping_neg() || present.below == NONE {
-            joint.present
-        } else {
-            present.below
         }
     }
 
     /// Lets an amount flow along an arc.
     pub(crate) fn push(&mut self, arc: u32, amount: i64) {
-        let joint = self.joint(arc / 2);
+        let joint = arc / 2;
+        let present = self.joint(joint).present;
         let (place, amount) = if arc % 2 == 0 {
-            (self.filled_next(joint), amount)
+            (self.filled_next(present), amount)
         } else {
-            (self.emptied_next(joint), amount.wrapping_neg())
+            (self.emptied_next(present), amount.wrapping_neg())
         };
-        if let Some(joint) = self.joints.get_mut(arc as usize / 2) {
-            joint.present = place;
-        }
         if let Some(bundle) = self.bundles.get_mut(place as usize) {
             bundle.flow = bundle.flow.wrapping_add(amount);
+        }
+        self.stand_at(joint, place);
+    }
+
+    /// Notes in which bundle the flow of a joint stands, and so what its arcs cost and take.
+    pub(crate) fn stand_at(&mut self, joint: u32, present: u32) {
+        let filled = self.bundle(self.filled_next(present));
+        let emptied = self.bundle(self.emptied_next(present));
+        if let Some(joint) = self.joints.get_mut(joint as usize) {
+            joint.present = present;
+            joint.up = Way {
+                rise: filled.rise,
+                capacity: filled.weight.wrapping_sub(filled.flow),
+            };
+            joint.down = Way {
+                rise: emptied.rise,
+                capacity: emptied.weight.wrapping_add(emptied.flow),
+            };
+        }
+    }
+
+    /// The bundle that takes more flow to the region of the higher number.
+    #[inline(always)]
+    fn filled_next(&self, present: u32) -> u32 {
+        let bundle = self.bundle(present);
+        if bundle.flow < bundle.weight || bundle.above == NONE {
+            present
+        } else {
+            bundle.above
+        }
+    }
+
+    /// The bundle that takes more flow back.
+    #[inline(always)]
+    fn emptied_next(&self, present: u32) -> u32 {
+        let bundle = self.bundle(present);
+        if bundle.flow > bundle.weight.wrapping_neg() || bundle.below == NONE {
+            present
+        } else {
+            bundle.below
         }
     }
 }

@@ -13,7 +13,7 @@ impl Network {
         for _ in 0..ROUNDS {
             if self.find_levels(&mut queue)? {
                 self.drain(&queue, &mut path)?;
-            } else if !self.lower(&queue) {
+            } else if !self.raise(&queue) {
                 break;
             }
         }

@@ -2,14 +2,13 @@ use crate::network::{NONE, Network};
 use std::alloc::AllocError;
 
 impl Network {
-    /// Lets flow go along arcs of reduced cost 0, each to the next level, from the regions with excess to such with a
-    /// deficit, until no such way is left. `queue` begins with the regions with excess.
+    /// Lets flow go along arcs of reduced cost 0, each to the level below, from the regions with excess to such with a deficit,
+    /// until no such way is left.
     pub(crate) fn drain(&mut self, queue: &[u32], path: &mut Vec<u32>) -> Result<(), AllocError> {
         for source in queue {
-            if self.region(*source).level != 0 {
-                break;
+            if self.region(*source).excess > 0 {
+                self.drain_from(*source, path)?;
             }
-            self.drain_from(*source, path)?;
         }
         Ok(())
     }
@@ -21,8 +20,7 @@ impl Network {
         for _ in 0..u64::from(self.arcs()) * 4096 {
             if self.region(region).excess < 0 {
                 self.send(source, region, path);
-                path.clear();
-                region = source;
+                region = self.back_up(region, path);
             }
             if self.region(source).excess <= 0 {
                 break;
@@ -41,9 +39,13 @@ impl Network {
         Ok(())
     }
 
-    /// The next arc out of a region on which flow can go to the next level, or none.
+    /// The next arc out of a region on which flow can go to the level below, or none.
     fn step_from(&mut self, region: u32) -> u32 {
-        let level = self.region(region).level.wrapping_add(1);
+        let level = self.region(region).level;
+        if level == 0 {
+            return NONE;
+        }
+        let level = level.wrapping_sub(1);
         let mut next = self.region(region).cursor;
         for _ in 0..self.arcs() {
             if next == NONE {
@@ -79,6 +81,28 @@ impl Network {
         }
         self.add_excess(source, amount.wrapping_neg());
         self.add_excess(end, amount);
+    }
+
+    /// Goes back to where a path is full, if it is, and answers the region there.
+    fn back_up(&self, end: u32, path: &mut Vec<u32>) -> u32 {
+        let full = self.first_full(path);
+        match path.get(full).copied() {
+            Some(arc) => {
+                path.truncate(full);
+                self.tail(arc)
+            }
+            None => end,
+        }
+    }
+
+    /// The place of the first arc of a path that takes nothing more at a reduced cost of 0, or the path's length.
+    fn first_full(&self, path: &[u32]) -> usize {
+        for place in 0..path.len() {
+            if !self.arc(path[place]).is_tight() {
+                return place;
+            }
+        }
+        path.len()
     }
 
     /// How much of an amount a path can carry.

@@ -16,8 +16,8 @@ pub struct Guess {
 /// Links between two regions that ask for the same difference of offsets are one bundle, and the bundles between two
 /// regions one arc each way, whose cost rises as bundles are filled. Offsets begin as the links of a tree ask, and each
 /// region moves to where its own seams cost least. What then still flows goes from regions with excess to those with a
-/// deficit, along arcs of reduced cost 0 over as few of them as can be; if none is left, the offsets of the regions that flow
-/// comes to are lowered (Ahuja, Magnanti and Orlin 1993, "Network Flows", sections 7.5, 9.8 and 14.5).
+/// deficit, along arcs of reduced cost 0 over as few of them as can be; if none reaches one, the offsets of the regions from
+/// which flow does are raised (Ahuja, Magnanti and Orlin 1993, "Network Flows", sections 7.5, 9.8 and 14.5).
 pub fn guess_offsets(
     alloc: Global,
     regions: u32,

@@ -1,5 +1,5 @@
 use crate::link::Link;
-use crate::network::{Bundle, Joint, NONE, Network, number};
+use crate::network::{Bundle, CLOSED, Joint, NONE, Network, number};
 use std::alloc::AllocError;
 
 impl Network {
@@ -17,9 +17,6 @@ impl Network {
         };
         let joint = self.joint_of(link.from.min(link.to), link.from.max(link.to))?;
         let bundle = self.bundle_of(joint, rise)?;
-        if let Some(joint) = self.joints.get_mut(joint as usize) {
-            joint.weight = joint.weight.wrapping_add(weight);
-        }
         if let Some(bundle) = self.bundles.get_mut(bundle as usize) {
             bundle.weight = bundle.weight.wrapping_add(weight);
         }
@@ -40,9 +37,9 @@ impl Network {
             high,
             after_low,
             after_high,
-            first: NONE,
+            up: CLOSED,
+            down: CLOSED,
             present: NONE,
-            weight: 0,
         })?;
         let arc = joint.wrapping_mul(2);
         if let Some(region) = self.regions.get_mut(low as usize) {
@@ -77,7 +74,7 @@ impl Network {
             return Ok(below);
         }
         let above = if below == NONE {
-            self.joint(joint).first
+            self.joint(joint).present
         } else {
             found.above
         };
@@ -96,7 +93,7 @@ impl Network {
     /// The last bundle of a joint whose rise is not above one, or none.
     fn last_up_to(&self, joint: u32, rise: i64) -> u32 {
         let mut last = NONE;
-        let mut next = self.joint(joint).first;
+        let mut next = self.joint(joint).present;
         for _ in 0..self.bundles.len() {
             if next == NONE || self.bundle(next).rise > rise {
                 return last;
@@ -112,7 +109,7 @@ impl Network {
         if let Some(other) = self.bundles.get_mut(below as usize) {
             other.above = bundle;
         } else if let Some(joint) = self.joints.get_mut(joint as usize) {
-            joint.first = bundle;
+            joint.present = bundle;
         }
         if let Some(other) = self.bundles.get_mut(above as usize) {
             other.below = bundle;

@@ -17,6 +17,13 @@ pub(crate) struct Bundle {
     pub(crate) above: u32,
 }
 
+/// The arc of a joint, from one of its regions to the other: what its next bundle asks for, and how much that still takes.
+#[derive(Clone, Copy)]
+pub(crate) struct Way {
+    pub(crate) rise: i64,
+    pub(crate) capacity: i64,
+}
+
 /// Two regions that links join. What flows to the region of the higher number costs more the more it is: bundles below
 /// `present` are full, and those above it carry all that they can the other way.
 #[derive(Clone, Copy)]
@@ -27,11 +34,11 @@ pub(crate) struct Joint {
     /// The next arc out of each.
     pub(crate) after_low: u32,
     pub(crate) after_high: u32,
-    /// The bundle of the least rise.
-    pub(crate) first: u32,
+    /// The arc to the region of the higher number, and the arc back.
+    pub(crate) up: Way,
+    pub(crate) down: Way,
+    /// The bundle where the flow stands; until flow starts, that of the least rise.
     pub(crate) present: u32,
-    /// The sum of the weights of all links.
-    pub(crate) weight: i64,
 }
 
 /// A region, as a node of the network.
@@ -61,14 +68,20 @@ const NO_BUNDLE: Bundle = Bundle {
     above: NONE,
 };
 
+/// A way that takes nothing.
+pub(crate) const CLOSED: Way = Way {
+    rise: 0,
+    capacity: 0,
+};
+
 const NO_JOINT: Joint = Joint {
     low: NONE,
     high: NONE,
     after_low: NONE,
     after_high: NONE,
-    first: NONE,
+    up: CLOSED,
+    down: CLOSED,
     present: NONE,
-    weight: 0,
 };
 
 const NO_REGION: Region = Region {
@@ -86,6 +99,12 @@ pub(crate) struct Network {
     pub(crate) regions: Vec<Region>,
     pub(crate) joints: Vec<Joint>,
     pub(crate) bundles: Vec<Bundle>,
+}
+
+/// The arc the other way.
+#[inline(always)]
+pub(crate) fn twin(arc: u32) -> u32 {
+    arc ^ 1
 }
 
 impl Network {

@@ -70,16 +70,32 @@ impl Network {
 
     /// The weighted median of the rises that the links of a joint ask for.
     fn median(&self, joint: Joint) -> i64 {
-        let mut bundle = self.bundle(joint.first);
+        let half = self.total(joint) / 2;
+        let mut bundle = self.bundle(joint.present);
         let mut weight = bundle.weight;
         for _ in 0..self.bundles.len() {
-            if weight.wrapping_mul(2) >= joint.weight || bundle.above == NONE {
+            if weight >= half || bundle.above == NONE {
                 break;
             }
             bundle = self.bundle(bundle.above);
             weight = weight.wrapping_add(bundle.weight);
         }
         bundle.rise
+    }
+
+    /// The sum of the weights of a joint's links.
+    fn total(&self, joint: Joint) -> i64 {
+        let mut total: i64 = 0;
+        let mut next = joint.present;
+        for _ in 0..self.bundles.len() {
+            if next == NONE {
+                break;
+            }
+            let bundle = self.bundle(next);
+            total = total.wrapping_add(bundle.weight);
+            next = bundle.above;
+        }
+        total
     }
 
     /// Moves regions one by one to where their own seams cost least, as long as any moves.
@@ -149,7 +165,7 @@ impl Network {
         let rise = self.rise(joint.low, joint.high);
         let mut higher: i64 = 0;
         let mut lower: i64 = 0;
-        let mut next = joint.first;
+        let mut next = joint.present;
         for _ in 0..self.bundles.len() {
             if next == NONE {
                 break;

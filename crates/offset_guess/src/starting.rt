@@ -17,8 +17,8 @@ impl Network {
         let ends = self.joint(joint);
         let rise = self.rise(ends.low, ends.high);
         let mut sum: i64 = 0;
-        let mut present = ends.first;
-        let mut next = ends.first;
+        let mut present = ends.present;
+        let mut next = ends.present;
         for _ in 0..self.bundles.len() {
             if next == NONE {
                 break;
@@ -29,9 +29,7 @@ impl Network {
             sum = sum.wrapping_add(self.start_bundle(next, rise));
             next = self.bundle(next).above;
         }
-        if let Some(joint) = self.joints.get_mut(joint as usize) {
-            joint.present = present;
-        }
+        self.stand_at(joint, present);
         sum
     }
 

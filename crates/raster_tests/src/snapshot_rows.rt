@@ -254,3 +254,23 @@ fn a_masked_pixel_has_no_value(rt: HostRuntime) {
     let wanted = "7 (0, 0) N, 200 by 0, 300 by 0, [0] []";
     assert_eq!(rt; line(rt.alloc()).as_deref(), Some(wanted));
 }
+
+/// Two tiles, `100 _ 300` and `400`, of which the first has a masked pixel and so two regions.
+fn gap(alloc: Global) -> Option<String> {
+    let samples: [&[u16]; 3] = [&[100, 200, 300, 400], &[9, 5, 7, 4], &[1, 0, 1, 1]];
+    let tiles: [Solved; 2] = [(&[0, 9_000_000, 5], &[]), (&[-2], &[])];
+    told(
+        alloc,
+        Tiling::new(4, 1, 3),
+        samples,
+        tiles,
+        &[0, -3, 4],
+        &[0],
+    )
+}
+
+#[test]
+fn each_region_of_a_tile_has_its_offset(rt: HostRuntime) {
+    let wanted = "7 (0, 0) 100 by 0, N, 131372 by 2, 131472 by 2, [0] []";
+    assert_eq!(rt; gap(rt.alloc()).as_deref(), Some(wanted));
+}

@@ -6,6 +6,7 @@ use Rattle.raster_model.specs.declared.tiling.Tiling.{Tiling}
 use Rattle.raster_model.specs.Tiles.{IsWindowOf, tile_at, tiles_of, window_of}
 use Rattle.raster_model.proofs.TileLemmas.{tiles_are_numbered, window_of-pixels}
 use Rattle.surface_snapshots.specs.declared.shifted.ShiftedTiles.{ShiftedTiles}
+use Rattle.surface_snapshots.specs.Tiled.{regions_in}
 use Rattle.surface_snapshots.specs.Shifted.{AreListed, cycles_under, open_under}
 use Rattle.surface_snapshots.proofs.CallerLemmas.{offset_small, solved_small}
 
@@ -25,7 +26,7 @@ module _ (g : Tiling) (x y t : ℕ) (across : x < g.width) (along : y < g.height
 module _ (s : ShiftedTiles) (x y : ℕ) where
   pub small_there : x < s.scene.now.phase.width → y < s.scene.now.phase.height → IsTrue (open_under s x y) → unsigned_abs (cycles_under s x y) ≤ 2 ^ 46 + 8388608
   small_there l m o =
-      omega (arith, ints, solved_small s.scene.now (open_under s) s.tiles.now.results s.together.tiles x y l m o, offset_small s.regions.now s.offsets.now s.near x y)
+      omega (arith, ints, solved_small s.scene.now (open_under s) s.tiles.now.results s.together.tiles x y l m o, offset_small (regions_in s.regions.now) s.offsets.now s.near x y)
 
 -- the same number of pixels in other words, and none
 pub resized : (s : ShiftedTiles) (n m : ℕ) (list : List ℤ) → n ≡ m → AreListed s n list → AreListed s m list

@@ -3,6 +3,9 @@ mod CostLemmas
 mod FreeLemmas
 mod LevelLemmas
 mod RowLemmas
+mod PackingLemmas
+mod RunLemmas
+mod TiledLemmas
 pub mod VerdictLemmas
 mod PublishedLemmas
 pub mod CallerLemmas

@@ -9,6 +9,7 @@ use Rattle.raster_model.specs.Sums.{Field}
 use Rattle.certificates.specs.TileSets.{solved_cycles}
 use Rattle.seam_regions.specs.Regions.{label_at, offset_at}
 use Rattle.surface_snapshots.specs.declared.shifted.ShiftedTiles.{ShiftedTiles}
+use Rattle.surface_snapshots.specs.Tiled.{regions_in}
 use Rattle.surface_snapshots.specs.Parts.{AreGoodTiles, AreNear, BeginsWithRow, Parts, cycles_in_parts, open_in, raster_in, value_or}
 use Rattle.surface_snapshots.specs.Shifted.{AreListed, cycles_or_none, cycles_under, level_at, level_in, no_cycles, open_under}
 use Rattle.surface_snapshots.proofs.CallerLemmas.{offset_small, solved_small}
@@ -35,12 +36,12 @@ module _ (s : ShiftedTiles) (x y : ℕ) where
 
   -- a pixel is open exactly where its label is the number of an offset
   module _ (across : x < s.scene.now.phase.width) (along : y < s.scene.now.phase.height) where
-    pub level_found : (z offset : ℤ) → label_at s.regions.now x y < length s.offsets.now → offset ≡ slice_index_or s.offsets.now (label_at s.regions.now x y) (pos 0) → z ≡ solved_cycles s.scene.now s.tiles.now.results x y → z +ℤ offset ≡ level_at s x y
+    pub level_found : (z offset : ℤ) → label_at (regions_in s.regions.now) x y < length s.offsets.now → offset ≡ slice_index_or s.offsets.now (label_at (regions_in s.regions.now) x y) (pos 0) → z ≡ solved_cycles s.scene.now s.tiles.now.results x y → z +ℤ offset ≡ level_at s x y
     unfolding offset_at
     level_found z offset below found e =
         rw (e, found) (sym (level_there (s.together.told x y across along (omega (arith, below, s.count)))))
 
-    pub level_none : length s.offsets.now ≤ label_at s.regions.now x y → no_cycles ≡ level_at s x y
+    pub level_none : length s.offsets.now ≤ label_at (regions_in s.regions.now) x y → no_cycles ≡ level_at s x y
     unfolding level_at
     level_none past = go (open_under s x y) refl
       where
@@ -48,7 +49,7 @@ module _ (s : ShiftedTiles) (x y : ℕ) where
         go false e = refl
         go true e = absurd (omega (arith, past, s.together.below x y across along e, s.count))
 
-pub level_same : (s : ShiftedTiles) (p : Parts) (x y : ℕ) → s.scene.now ≡ p.session.scene → s.mask.now ≡ p.mask → s.regions.now ≡ p.regions → s.tiles.now ≡ p.tiles → s.offsets.now ≡ p.seams.offsets.items → level_at s x y ≡ level_in p x y
+pub level_same : (s : ShiftedTiles) (p : Parts) (x y : ℕ) → s.scene.now ≡ p.session.scene → s.mask.now ≡ p.mask → (regions_in s.regions.now) ≡ p.regions → s.tiles.now ≡ p.tiles → s.offsets.now ≡ p.seams.offsets.items → level_at s x y ≡ level_in p x y
 unfolding level_at
 level_same s p x y scene mask regions tiles offsets = rw (scene, mask, regions, tiles, offsets) refl
 

@@ -1,11 +1,15 @@
 -- Words of helpers: a surface of shifted tiles as the definitions read it, and lists of its cycles. No clause of a public function cites them.
-use Rattle.std.specs.Prelude.{◌≡◌, ℕ, ◌+◌, ◌*◌, ◌<◌, ℤ, pos, neg_ℤ, Bool, IsTrue, List, length, slice_get, slice_index_or, Some, if◌then◌else◌}
+use Rattle.std.specs.Prelude.{◌≡◌, ℕ, ◌+◌, ◌*◌, ◌<◌, ◌≤◌, ℤ, pos, neg_ℤ, Bool, IsTrue, List, length, slice_get, slice_index_or, Some, if◌then◌else◌}
 use Rattle.raster_model.specs.Masks.{open_at}
 use Rattle.raster_model.specs.Raster.{Raster}
 use Rattle.raster_model.specs.Scene.{raster_of}
 use Rattle.raster_model.specs.Sums.{Field}
 use Rattle.surface_snapshots.specs.declared.shifted.ShiftedTiles.{ShiftedTiles}
 use Rattle.certificates.specs.declared.results.TileResult.{TileResult}
+use Rattle.raster_model.specs.declared.tiling.Window.{Window}
+use Rattle.raster_model.specs.Tiles.{tile_at, window_of}
+use Rattle.seam_regions.specs.Regions.{label_at}
+use Rattle.surface_snapshots.specs.Tiled.{regions_in}
 use Rattle.surface_snapshots.specs.Parts.{Parts, cycles_in_parts, open_in, shifted_cycles}
 
 -- the raster, the open pixels and the cycles above the phase
@@ -16,7 +20,7 @@ abbrev pub open_under : ShiftedTiles → Field Bool
 open_under s = open_at s.mask.now
 
 abbrev pub cycles_under : ShiftedTiles → Field ℤ
-cycles_under s = shifted_cycles s.scene.now s.regions.now s.tiles.now.results s.offsets.now
+cycles_under s = shifted_cycles s.scene.now (regions_in s.regions.now) s.tiles.now.results s.offsets.now
 
 -- the list has a number for each of the first n pixels in row order: the cycles of each that is open
 pub record AreListed (s : ShiftedTiles) (n : ℕ) (list : List ℤ) : Type 0 where
@@ -36,6 +40,14 @@ level_at s x y = cycles_or_none (open_under s x y) (cycles_under s x y)
 
 abbrev pub level_in : Parts → Field ℤ
 level_in p x y = cycles_or_none (open_in p x y) (cycles_in_parts p x y)
+
+-- the pixels of row y from column x to before column z lie in one tile, which has this window, and have one label
+pub record IsSpan (s : ShiftedTiles) (w : Window) (x z y label : ℕ) : Type 0 where
+  pub across : (x < z) × (z ≤ w.x1 + 1)
+  pub row : y < s.scene.now.phase.height
+  pub column : x < s.scene.now.phase.width
+  pub window : w ≡ window_of s.scene.now.tiling (tile_at s.scene.now.tiling x y)
+  pub labels : (c : ℕ) → x ≤ c → c < z → label_at (regions_in s.regions.now) c y ≡ label
 
 -- the result of tile t has these cycles
 abbrev pub HasCycles : ShiftedTiles → ℕ → List ℤ → Type 0

@@ -3,6 +3,7 @@ ghost use Rattle.raster_model.specs.Masks.{open_at};
 ghost use Rattle.seam_regions.specs.Regions.{AreRegionsOf};
 ghost use Rattle.std.specs.Prelude.{◌≡◌, IfErr, IfOk};
 ghost use Rattle.surface_snapshots.specs.Parts.{AreGoodTiles, HaveCosts, parts_from};
+ghost use Rattle.surface_snapshots.specs.Tiled.{regions_in};
 ghost use Rattle.surface_snapshots.specs.Verdicts.{IsFault, IsVerdict};
 
 use crate::counting::Costs;
@@ -10,13 +11,21 @@ use crate::fault::BuildFault;
 use crate::levels::Levels;
 use crate::offsets::first_far;
 use crate::shifted::ShiftedTiles;
+use crate::tiled::TiledRegions;
 use certificates::{SeamResult, SeamVerdict, TileSet};
 use raster_model::{Mask, Session};
 use seam_regions::Regions;
 use std::alloc::Global;
 
-/// The costs of the surface that is put together from these parts, if it is certified, and otherwise the first break or
-/// lack of memory.
+/// What is kept of the regions and the costs of a surface that is certified.
+#[derive(Drop)]
+pub(crate) struct Certified {
+    pub(crate) regions: TiledRegions,
+    pub(crate) costs: Costs,
+}
+
+/// The regions, tile by tile, and the costs of the surface that is put together from these parts, if it is certified, and
+/// otherwise the first break or lack of memory.
 pub(crate) fn certified_costs(
     alloc: Global,
     session: &Session,
@@ -24,15 +33,17 @@ pub(crate) fn certified_costs(
     regions: &Regions,
     tiles: &TileSet,
     seams: &SeamResult,
-) -> Result<Costs, BuildFault>
+) -> Result<Certified, BuildFault>
     requires across { mask.now.width ≡ session.now.scene.phase.width }
     requires along { mask.now.height ≡ session.now.scene.phase.height }
     requires tiling { tiles.now.tiling ≡ session.now.scene.tiling }
     requires tiles { AreGoodTiles session.now.scene (open_at mask.now) tiles.now.results }
     requires regions { AreRegionsOf session.now.scene.tiling mask.now regions.now }
     ensures refused { IfErr result (IsFault (parts_from session.now mask.now regions.now tiles.now seams.now)) }
-    ensures certified { IfOk result (λ costs. IsVerdict (parts_from session.now mask.now regions.now tiles.now seams.now) Good) }
-    ensures costs { IfOk result (λ costs. HaveCosts (parts_from session.now mask.now regions.now tiles.now seams.now) costs.tiles costs.seams) }
+    ensures tiling { IfOk result (λ made. made.regions.tiling ≡ session.now.scene.tiling) }
+    ensures regions { IfOk result (λ made. regions_in made.regions ≡ regions.now) }
+    ensures certified { IfOk result (λ made. IsVerdict (parts_from session.now mask.now regions.now tiles.now seams.now) Good) }
+    ensures costs { IfOk result (λ made. HaveCosts (parts_from session.now mask.now regions.now tiles.now seams.now) made.costs.tiles made.costs.seams) }
 {
     if seams.offsets.len() != regions.count() as usize {
         return Err(BuildFault::Uncertified(SeamVerdict::Shape));
@@ -40,16 +51,23 @@ pub(crate) fn certified_costs(
     if let Some(region) = first_far(&seams.offsets) {
         return Err(BuildFault::Uncertified(SeamVerdict::Range(region as u32)));
     }
-    let surface = ShiftedTiles {
-        scene: &session.scene,
-        mask,
-        regions,
-        tiles,
-        offsets: &seams.offsets,
+    let tiled = TiledRegions::of(alloc, &session.scene.tiling, regions)?;
+    let costs = {
+        let surface = ShiftedTiles {
+            scene: &session.scene,
+            mask,
+            regions: &tiled,
+            tiles,
+            offsets: &seams.offsets,
+        };
+        let levels = Levels::of(alloc, surface)?;
+        match levels.judge(alloc, regions, &seams.flows)? {
+            SeamVerdict::Good => Costs::of(&session.scene, mask, &levels),
+            verdict => return Err(BuildFault::Uncertified(verdict)),
+        }
     };
-    let levels = Levels::of(alloc, surface)?;
-    match levels.judge(alloc, &seams.flows)? {
-        SeamVerdict::Good => Ok(Costs::of(&session.scene, mask, &levels)),
-        verdict => Err(BuildFault::Uncertified(verdict)),
-    }
+    Ok(Certified {
+        regions: tiled,
+        costs,
+    })
 }

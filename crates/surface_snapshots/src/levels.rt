@@ -5,6 +5,7 @@ ghost use Rattle.surface_snapshots.specs.Shifted.{AreListed, cycles_under, open_
 use crate::shifted::ShiftedTiles;
 use certificates::{SeamVerdict, check_flows};
 use raster_model::{Heights, MAX_SIDE};
+use seam_regions::Regions;
 use std::alloc::{AllocError, Global};
 
 /// The most pixels of a row.
@@ -34,6 +35,7 @@ impl<'a> Levels<'a> {
     ghost use Rattle.raster_model.specs.Raster.{lifted};
     ghost use Rattle.seam_regions.specs.Regions.{AreRegionsOf, label_at};
     ghost use Rattle.surface_snapshots.specs.Shifted.{raster_under};
+    ghost use Rattle.surface_snapshots.specs.Tiled.{regions_in};
 
     /// The cycles of a surface at all pixels.
     pub(crate) fn of(alloc: Global, surface: ShiftedTiles<'a>) -> Result<Levels<'a>, AllocError>
@@ -49,18 +51,23 @@ impl<'a> Levels<'a> {
         Ok(Levels { surface, cycles })
     }
 
-    /// What the check of the flows says of the surface.
-    pub(crate) fn judge(&self, alloc: Global, flows: &[i64]) -> Result<SeamVerdict, AllocError>
-        requires regions { AreRegionsOf self.now.surface.scene.now.tiling self.now.surface.mask.now self.now.surface.regions.now }
-        ensures { IfOk result (IsSeamVerdict (raster_under self.now.surface) (open_under self.now.surface) (label_at self.now.surface.regions.now) self.now.surface.regions.now.count (cycles_under self.now.surface) flows.now) }
+    /// What the check of the flows says of the surface, whose regions are these.
+    pub(crate) fn judge(
+        &self,
+        alloc: Global,
+        regions: &Regions,
+        flows: &[i64],
+    ) -> Result<SeamVerdict, AllocError>
+        requires same { regions_in self.now.surface.regions.now ≡ regions.now }
+        requires regions { AreRegionsOf self.now.surface.scene.now.tiling self.now.surface.mask.now regions.now }
+        ensures { IfOk result (IsSeamVerdict (raster_under self.now.surface) (open_under self.now.surface) (label_at regions.now) regions.now.count (cycles_under self.now.surface) flows.now) }
     {
         let surface = self.surface;
-        let mut scratch = vec![in alloc; 0; surface.regions.count() as usize]?;
-        let labels = surface.regions.labels();
+        let mut scratch = vec![in alloc; 0; regions.count() as usize]?;
         Ok(check_flows(
             surface.scene,
             surface.mask,
-            labels,
+            regions.labels(),
             self,
             flows,
             &mut scratch,

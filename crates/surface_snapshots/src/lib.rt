@@ -6,11 +6,16 @@
 mod costs;
 mod counting;
 mod fault;
+mod finding;
 pub mod laws;
 mod levels;
 mod offsets;
+mod packing;
+mod runs;
 mod shifted;
 mod snapshot;
+mod tiled;
+mod windows;
 
 pub use crate::counting::Costs;
 pub use crate::fault::BuildFault;

@@ -3,10 +3,12 @@ ghost use Rattle.std.specs.Arc.{arc_value};
 ghost use Rattle.std.specs.Prelude.{◌≡◌, ◌<◌, ◌≤◌, ◌+◌, ◌^◌, ◌+ℤ◌, ◌*ℤ◌, length, pos, unsigned_abs};
 ghost use Rattle.surface_snapshots.specs.Loops.{GoTogether};
 ghost use Rattle.surface_snapshots.specs.Parts.{AreNear, HaveCosts, IsPublished, parts_from};
+ghost use Rattle.surface_snapshots.specs.Tiled.{regions_in};
 
 use crate::costs::certified_costs;
 use crate::fault::BuildFault;
 use crate::shifted::{NO_CYCLES, ShiftedTiles};
+use crate::tiled::TiledRegions;
 use certificates::{SeamResult, TileSet};
 use raster_model::{Heights, Mask, Session};
 use seam_regions::Regions;
@@ -27,17 +29,18 @@ fn level(sample: u16, cycles: i64) -> i64
 pub struct Snapshot {
     session: Arc<Session>,
     mask: Mask,
-    regions: Regions,
+    regions: TiledRegions,
     tiles: TileSet,
     seams: SeamResult,
     tile_cost: u128,
     seam_cost: u128,
-    ghost together: { GoTogether (arc_value session).scene mask regions tiles.results },
+    ghost together: { GoTogether (arc_value session).scene mask (regions_in regions) tiles.results },
     ghost tiling: { tiles.tiling ≡ (arc_value session).scene.tiling },
-    ghost count: { length seams.offsets.items ≡ regions.count },
+    ghost places: { regions.tiling ≡ (arc_value session).scene.tiling },
+    ghost count: { length seams.offsets.items ≡ (regions_in regions).count },
     ghost near: { AreNear seams.offsets.items },
-    pub ghost published: { IsPublished (parts_from (arc_value session) mask regions tiles seams) },
-    pub ghost costs: { HaveCosts (parts_from (arc_value session) mask regions tiles seams) tile_cost seam_cost },
+    pub ghost published: { IsPublished (parts_from (arc_value session) mask (regions_in regions) tiles seams) },
+    pub ghost costs: { HaveCosts (parts_from (arc_value session) mask (regions_in regions) tiles seams) tile_cost seam_cost },
 }
 
 impl Heights for Snapshot {
@@ -99,16 +102,32 @@ impl Snapshot {
         ensures best { IfOk result (λ made. IsBest (raster_in (parts_of made)) (open_in (parts_of made)) (surface_in (parts_of made))) }
         ensures refused { IfErr result (IsFault (parts_from (arc_value session) mask regions tiles seams)) }
     {
-        let costs = certified_costs(alloc, &session, &mask, &regions, &tiles, &seams)?;
+        let certified = certified_costs(alloc, &session, &mask, &regions, &tiles, &seams)?;
+        let costs = certified.costs;
         Ok(Snapshot {
             session,
             mask,
-            regions,
+            regions: certified.regions,
             tiles,
             seams,
             tile_cost: costs.tiles,
             seam_cost: costs.seams,
         })
+    }
+
+    /// The same snapshot. What it keeps of a tile's regions is shared with an earlier one, if that has the same.
+    pub fn sharing(self, earlier: &Snapshot) -> Snapshot
+        ensures { parts_of result ≡ parts_of self }
+    {
+        Snapshot {
+            session: self.session,
+            mask: self.mask,
+            regions: self.regions.sharing(&earlier.regions),
+            tiles: self.tiles,
+            seams: self.seams,
+            tile_cost: self.tile_cost,
+            seam_cost: self.seam_cost,
+        }
     }
 
     /// Pixels in a row.

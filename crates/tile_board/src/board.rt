@@ -326,7 +326,17 @@ impl Board {
             gathered.tiles,
             seams,
         )?;
-        Ok(snapshot)
+        Ok(self.shared(snapshot))
+    }
+
+    /// The same surface, which shares with the last published one what both keep of a tile.
+    fn shared(&self, snapshot: Snapshot) -> Snapshot
+        ensures { parts_of result ≡ parts_of snapshot }
+    {
+        match self.snapshots.last() {
+            Some(earlier) => snapshot.sharing(earlier),
+            None => snapshot,
+        }
     }
 
     /// Does an analyst's change command.

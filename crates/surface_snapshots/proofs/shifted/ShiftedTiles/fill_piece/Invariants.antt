@@ -1,10 +1,15 @@
-use Rattle.std.proofs.Common.{◌≡◌, length}
+use Rattle.std.proofs.Common.{◌≡◌, ◌+◌, ◌-◌, ◌≤◌, length}
 use Rattle.surface_snapshots.specs.Parts.{BeginsWithRow}
 use Rattle.surface_snapshots.specs.Shifted.{level_at}
 use Rattle.surface_snapshots.proofs.shifted.ShiftedTiles.fill_piece.Given as goal
 
 abbrev pub invariant-loop-column : goal.invariant-loop-column
 invariant-loop-column l = record {
+  from : l.x ≤ l.column;
+  within : l.column ≤ l.window.x1 + 1;
   size : length l.row ≡ length l.fn.row;
   front : BeginsWithRow (level_at l.self) l.y l.column l.row;
 }
+
+abbrev pub decreases-loop-column : goal.decreases-loop-column
+decreases-loop-column l = l.window.x1 + 1 - l.column

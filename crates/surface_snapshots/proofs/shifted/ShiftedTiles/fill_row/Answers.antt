@@ -7,12 +7,6 @@ use Rattle.surface_snapshots.proofs.shifted.ShiftedTiles.fill_row.Goals as goal
 pub loop-x-init : goal.loop-x-init
 loop-x-init c = record { within = omega arith; size = refl; front = λ x below. absurd (omega (arith, below)) }
 
-pub tile-requires : goal.tile-requires
-tile-requires c = rw c.args.self.now.tiling c.tile_of-tile.ensures.exists
-
-pub fill_piece-requires-clause-cycles : goal.fill_piece-requires-clause-cycles
-fill_piece-requires-clause-cycles c = (c.tile.result.now, rw c.tile_of-tile.ensures.value at c.tile.ensures.place, c.deref.ensures.value)
-
 pub fill_piece-requires-clause-room : goal.fill_piece-requires-clause-room
 fill_piece-requires-clause-room c = omega (arith, c.loop-x.invariant.size, c.requires.room)
 

@@ -1,26 +1,27 @@
-use Rattle.std.proofs.Common.{◌≡◌, ◌∙◌, ◌+◌, ◌*◌, arith, length, pos, refl, rules, slice_index_or}
-use Rattle.std.specs.Prelude.{FitsSigned, slice_index}
+use Rattle.std.proofs.Common.{◌∙◌, arith, pos, refl, rules, slice_index_or}
+use Rattle.std.specs.Prelude.{FitsSigned}
 use Rattle.std.specs.Int.{w64}
 use Rattle.std.proofs.lemmas.Int.{to_z-of_z}
-use Rattle.std.proofs.lemmas.Nat.{mul-add-lt}
 use Rattle.raster_model.specs.Masks.{open_at}
 use Rattle.seam_regions.specs.Regions.{offset_at}
 use Rattle.surface_snapshots.proofs.ShiftedLemmas.{open_pixel}
 use Rattle.surface_snapshots.proofs.shifted.ShiftedTiles.offset.Goals as goal
 
-pub bounds-labels-y : goal.bounds-labels-y
-bounds-labels-y c =
+pub label-region-requires-clause-across : goal.label-region-requires-clause-across
+label-region-requires-clause-across c =
     let s = c.args.self.now in
-    let w = s.scene.now.phase.width in
-    let h = s.scene.now.phase.height in
-    let o = open_pixel w h c.args.x c.args.y (open_at s.mask.now c.args.x c.args.y) c.requires.open_pixel in
-    let size : length c.labels.result.now ≡ w * h = c.labels.ensures.size ∙ rw (s.together.wide, s.together.high) refl in
-    omega (arith, size, mul-add-lt c.args.y w c.args.x h o.1 o.0)
+    let o = open_pixel s.scene.now.phase.width s.scene.now.phase.height c.args.x c.args.y (open_at s.mask.now c.args.x c.args.y) c.requires.open_pixel in
+    rw s.places (omega (arith, o.0, s.scene.now.same_width))
+
+pub label-region-requires-clause-along : goal.label-region-requires-clause-along
+label-region-requires-clause-along c =
+    let s = c.args.self.now in
+    let o = open_pixel s.scene.now.phase.width s.scene.now.phase.height c.args.x c.args.y (open_at s.mask.now c.args.x c.args.y) c.requires.open_pixel in
+    rw s.places (omega (arith, o.1, s.scene.now.same_height))
 
 pub returns-clause-value : goal.returns-clause-value
 unfolding offset_at
 returns-clause-value c =
     let s = c.args.self.now in
-    let label = slice_index c.labels.result.now (c.args.y * s.scene.now.phase.width + c.args.x) in
-    let fits : FitsSigned w64 (slice_index_or s.offsets.now label (pos 0)) = search rules in
-    to_z-of_z w64 (slice_index_or s.offsets.now label (pos 0)) fits ∙ rw (c.labels.ensures.value, s.together.wide) refl
+    let fits : FitsSigned w64 (slice_index_or s.offsets.now c.label-region.result (pos 0)) = search rules in
+    to_z-of_z w64 (slice_index_or s.offsets.now c.label-region.result (pos 0)) fits ∙ rw c.label-region.ensures refl

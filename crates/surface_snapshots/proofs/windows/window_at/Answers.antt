@@ -2,7 +2,7 @@ use Rattle.std.proofs.Common.{◌≡◌, ◌/◌, ◌%◌, arith, refl}
 use Rattle.std.proofs.lemmas.Nat.{div-mul-add, mod-mul-add}
 use Rattle.raster_model.specs.Tiles.{columns_of, tile_at, window_of}
 use Rattle.raster_model.proofs.TileLemmas.{block_below}
-use Rattle.surface_snapshots.proofs.shifted.window_at.Goals as goal
+use Rattle.surface_snapshots.proofs.windows.window_at.Goals as goal
 
 pub returns : goal.returns
 unfolding window_of

@@ -5,9 +5,10 @@ use Rattle.raster_model.specs.Sums.{right_edge, down_edge}
 use Rattle.raster_model.specs.Seams.{IsEarlier}
 use Rattle.certificates.specs.EdgeOrder.{ComesBefore, HoldsAtAll, IsFirstBreak}
 use Rattle.certificates.specs.EdgeWords.{HoldsIfPart, IsBreak, HoldsFrom, HoldsBefore, IsFirstBreakFrom}
+use Rattle.sums_and_lists.proofs.Orders.{below_or_last}
 
 -- what holds of both edges that start at a pixel holds of each
-both_edges : (P : Edge → Type 0) (x y : ℕ) → P (right_edge x y) → P (down_edge x y) → (e : Edge) → e.x ≡ x → e.y ≡ y → P e
+pub both_edges : (P : Edge → Type 0) (x y : ℕ) → P (right_edge x y) → P (down_edge x y) → (e : Edge) → e.x ≡ x → e.y ≡ y → P e
 both_edges P x y p q e ex ey = go e.down
   where
     go : (d : Bool) → P (record { x = e.x; y = e.y; down = d })
@@ -76,6 +77,10 @@ module _ (Part Fact : Edge → Type 0) where
       where
         split : (a b c d : ℕ) → c < d → a ≤ b → (a < b) ⊎ ((a ≡ b) × (c < d))
         split a b c d l m = grind arith
+
+    pub whole_row : (y : ℕ) → HoldsBefore Part Fact a y → ((e : Edge) → Part e → e.y ≡ y → Fact e) → HoldsBefore Part Fact a (y + 1)
+    whole_row y before here e i (inl l) = elim (below_or_last e.y y l) [ inl m ↦ before e i (inl m) | inr m ↦ here e i m ]
+    whole_row y before here e i (inr m) = let w = inside e i in absurd (omega (arith, w, m))
 
     pub all_before : (y : ℕ) → y ≡ d → HoldsBefore Part Fact a y → HoldsAtAll Part Fact
     all_before y last before e i = let w = inside e i in before e i (inl (omega (arith, w, last)))

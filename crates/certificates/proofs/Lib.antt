@@ -6,6 +6,7 @@ pub mod TileParts
 pub mod CostLemmas
 pub mod EdgeCosts
 mod FreeRows
+mod FitRows
 mod RangeLemmas
 pub mod VerdictLemmas
 pub mod Unique

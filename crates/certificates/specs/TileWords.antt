@@ -40,6 +40,17 @@ IsInner k = IsTileEdge (raster_in k) k.number
 abbrev pub FitAt : Tile → List ℤ → Edge → Type 0
 FitAt k faces = FacesFit (raster_in k) (mask_in k) k.number (face_at (raster_in k) k.number faces)
 
+-- the faces fit at each right edge that starts in row y, from the tile's first column to before column n; and at each such down edge, from the tile's second column
+abbrev pub FitRight : Tile → List ℤ → ℕ → ℕ → Type 0
+FitRight k faces y n = (x : ℕ) → k.window.x0 ≤ x → x < n → FitAt k faces (right_edge x y)
+
+abbrev pub FitDown : Tile → List ℤ → ℕ → ℕ → Type 0
+FitDown k faces y n = (x : ℕ) → k.window.x0 + 1 ≤ x → x < n → FitAt k faces (down_edge x y)
+
+-- they fit at each inner edge that starts in row y
+abbrev pub FitIn : Tile → List ℤ → ℕ → Type 0
+FitIn k faces y = (e : Edge) → IsInner k e → e.y ≡ y → FitAt k faces e
+
 -- the surface of some cycles, what it costs at the edges that start at a pixel, and in the tile
 abbrev pub surface_at : Tile → Field ℤ → Field ℤ
 surface_at k cycles = lifted (raster_in k) cycles

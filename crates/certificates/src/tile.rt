@@ -22,6 +22,9 @@ impl Tile<'_> {
     ghost use Rattle.certificates.specs.TileWords.{
       AreOpenFrom,
       FitAt,
+      FitDown,
+      FitIn,
+      FitRight,
       FollowsDown,
       FollowsRight,
       HasFaces,
@@ -39,7 +42,7 @@ impl Tile<'_> {
     ghost use Rattle.raster_model.specs.Certificates.{above, left};
     ghost use Rattle.raster_model.specs.Order.{IsCellAt};
     ghost use Rattle.raster_model.specs.Raster.{has_open_ends, masked_weight};
-    ghost use Rattle.raster_model.specs.Sums.{is_edge, sum_row};
+    ghost use Rattle.raster_model.specs.Sums.{down_edge, is_edge, sum_row};
     ghost use Rattle.raster_model.specs.Tiles.{IsWithin};
     ghost use Rattle.std.specs.Prelude.{
       ◌+◌,
@@ -179,6 +182,82 @@ impl Tile<'_> {
         }
     }
 
+    /// Whether the faces fit at each right edge of row `y`. The tile has cells above and below the row, and the row's
+    /// pixels are open. The loop does not stop at the first edge at which they do not fit, so that several can be judged
+    /// at once.
+    fn fit_right(&self, faces: &[i64], y: u32) -> bool
+        requires count { HasFaces self.now faces.now }
+        requires row { (self.now.window.y0 < y) × (y < self.now.window.y1) }
+        requires unmasked { AreOpenFrom self.now y }
+        ensures { IsTrue result → FitRight self.now faces.now y self.now.window.x1 }
+    {
+        let mut unfit = false;
+        for x in self.window.x0..self.window.x1 {
+            let above = self.cell_face(faces, x, y - 1);
+            let below = self.cell_face(faces, x, y);
+            let edge = Edge { x, y, down: false };
+            unfit |= above.abs_diff(below) > u64::from(stored_weight(self.scene, edge));
+        }
+        !unfit
+    }
+
+    /// Whether the faces fit at each down edge of row `y` that has cells of the tile on both sides. The row is not the
+    /// tile's last, and its pixels and those of the next row are open.
+    fn fit_down(&self, faces: &[i64], y: u32) -> bool
+        requires count { HasFaces self.now faces.now }
+        requires row { (self.now.window.y0 ≤ y) × (y < self.now.window.y1) }
+        requires unmasked { AreOpenFrom self.now y }
+        ensures { IsTrue result → FitDown self.now faces.now y self.now.window.x1 }
+    {
+        let mut unfit = false;
+        for x in self.window.x0 + 1..self.window.x1 {
+            let left = self.cell_face(faces, x - 1, y);
+            let right = self.cell_face(faces, x, y);
+            let edge = Edge { x, y, down: true };
+            unfit |= right.abs_diff(left) > u64::from(stored_weight(self.scene, edge));
+        }
+        !unfit
+    }
+
+    /// Whether the faces fit at the down edges of row `y` that start in the tile's first and last column. The row is not
+    /// the tile's last, and its pixels and those of the next row are open.
+    fn fit_at_sides(&self, faces: &[i64], y: u32) -> bool
+        requires count { HasFaces self.now faces.now }
+        requires row { (self.now.window.y0 ≤ y) × (y < self.now.window.y1) }
+        requires unmasked { AreOpenFrom self.now y }
+        ensures { IsTrue result → FitAt self.now faces.now (down_edge self.now.window.x0 y) × FitAt self.now faces.now (down_edge self.now.window.x1 y) }
+    {
+        let first = Edge {
+            x: self.window.x0,
+            y,
+            down: true,
+        };
+        let last = Edge {
+            x: self.window.x1,
+            y,
+            down: true,
+        };
+        self.faces_fit(faces, first, true) && self.faces_fit(faces, last, true)
+    }
+
+    /// Whether the faces are known to fit at each inner edge that starts in row `y`: the tile has cells above and below
+    /// the row, the pixels of this row and of the next are open, and no edge was found at which they do not fit.
+    fn fit_in_row(&self, faces: &[i64], y: u32, unmasked: bool) -> bool
+        requires count { HasFaces self.now faces.now }
+        requires row { (self.now.window.y0 ≤ y) × (y ≤ self.now.window.y1) }
+        requires unmasked { IsTrue unmasked → AreOpenFrom self.now y }
+        ensures { IsTrue result → FitIn self.now faces.now y }
+    {
+        let window = self.window;
+        if !unmasked || y == window.y0 || y == window.y1 {
+            return false;
+        }
+        if !self.fit_right(faces, y) || !self.fit_down(faces, y) {
+            return false;
+        }
+        self.fit_at_sides(faces, y)
+    }
+
     /// The first inner edge that starts in row `y` and whose faces do not fit. The edges of the rows before fit, so it
     /// is the first of the tile.
     fn first_unfit_in(&self, faces: &[i64], y: u32) -> Option<Edge>
@@ -190,6 +269,9 @@ impl Tile<'_> {
     {
         let window = self.window;
         let unmasked = self.are_open_from(y);
+        if self.fit_in_row(faces, y, unmasked) {
+            return None;
+        }
         for x in window.x0..window.x1 + 1 {
             if let Some(edge) = self.first_unfit_from(faces, x, y, unmasked) {
                 return Some(edge);

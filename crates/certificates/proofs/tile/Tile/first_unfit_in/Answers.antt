@@ -1,8 +1,14 @@
 use Rattle.std.proofs.Common.{◌+◌, arith}
 use Rattle.certificates.specs.TileWords.{IsInner, FitAt}
-use Rattle.certificates.proofs.EdgeLemmas.{one_more, row_more, first_of_all}
+use Rattle.certificates.proofs.EdgeLemmas.{one_more, row_more, whole_row, first_of_all}
 use Rattle.certificates.proofs.TileParts.{in_window}
 use Rattle.certificates.proofs.tile.Tile.first_unfit_in.Goals as goal
+
+pub returns-then-fit_in_row-clause-none : goal.returns-then-fit_in_row-clause-none
+returns-then-fit_in_row-clause-none c =
+    let k = c.args.self.now in
+    let v = k.window in
+    whole_row (IsInner k) (FitAt k c.args.faces.now) v.x0 (v.x1 + 1) v.y0 (v.y1 + 1) (in_window k) c.args.y c.requires.before (c.fit_in_row.ensures c.if-fit_in_row.true)
 
 pub loop-x-init : goal.loop-x-init
 loop-x-init c = c.requires.before

@@ -3,3 +3,4 @@ pub mod RevisionsView
 pub mod Revisions
 pub mod Steps
 pub mod Stamps
+pub mod Windows

@@ -1,5 +1,11 @@
+ghost use Rattle.mask_revisions.specs.Windows.{AreListedBefore};
+ghost use Rattle.raster_model.specs.Limits.{max_side};
+ghost use Rattle.raster_model.specs.Masks.{open_at};
+ghost use Rattle.raster_model.specs.Tiles.{width_of};
+ghost use Rattle.std.specs.Prelude.{◌≡◌, ◌+◌, ◌-◌, ◌*◌, ◌<◌, ◌≤◌, OnOk};
+
 use crate::changes::{count_met, restamp, set_tiles};
-use raster_model::{Edit, Mask, Tiling};
+use raster_model::{Edit, Mask, Tiling, Window};
 use std::alloc::{AllocError, Global};
 use std::marker::Model;
 
@@ -114,14 +120,24 @@ impl Revisions {
         ensures { IfOk result (λ list. IsWindowMask (window_of self.now.tiling tile) (open_at self.now.mask) list.items) }
     {
         let window = self.tiling.window(tile);
-        let across = window.width();
-        let along = window.height();
-        let mut list = Vec::with_capacity(alloc, (across * along) as usize)?;
-        for place in 0..across * along {
-            let x = window.x0 + place % across;
-            let y = window.y0 + place / across;
-            list.push(self.mask.is_open(x, y))?;
+        let pixels = window.width() * window.height();
+        let mut list = Vec::with_capacity(alloc, pixels as usize)?;
+        for y in window.y0..window.y1 + 1 {
+            add_row(&self.mask, window, y, &mut list)?;
         }
         Ok(list)
     }
+}
+
+/// Adds to a list, for each pixel of a window's row, whether it is open.
+fn add_row(mask: &Mask, window: Window, y: u32, list: &mut Vec<bool>) -> Result<(), AllocError>
+    requires across { (window.x0 ≤ window.x1) × (window.x1 < mask.now.width) × (mask.now.width ≤ max_side) }
+    requires row { (window.y0 ≤ y) × (y < mask.now.height) }
+    requires listed { AreListedBefore window (open_at mask.now) ((y - window.y0) * width_of window) list.old.items }
+    ensures { OnOk result (AreListedBefore window (open_at mask.now) ((y + 1 - window.y0) * width_of window) list.new.items) }
+{
+    for x in window.x0..window.x1 + 1 {
+        list.push(mask.is_open(x, y))?;
+    }
+    Ok(())
 }

@@ -1,13 +1,18 @@
-use Rattle.std.proofs.Common.{◌≡◌, ◌*◌, ◌∙◌, refl, sym, arith}
+use Rattle.std.proofs.Common.{◌≡◌, ◌+◌, ◌-◌, ◌*◌, ◌≤◌, ℕ, arith, rules, subst}
 use Rattle.raster_model.specs.Masks.{open_at}
-use Rattle.raster_model.specs.Tiles.{height_of, width_of}
-use Rattle.mask_revisions.proofs.WindowLists.{window_listed}
+use Rattle.raster_model.specs.Tiles.{width_of}
+use Rattle.mask_revisions.specs.Windows.{AreListedBefore}
+use Rattle.mask_revisions.proofs.WindowLists.{none_listed, window_listed}
 use Rattle.mask_revisions.proofs.revisions.Revisions.window_mask.Goals as goal
+
+pub loop-y-init : goal.loop-y-init
+loop-y-init c = none_listed c.window-window.result (open_at c.self.inside.mask) c.in_ok-list.list.items c.in_ok-list.ensures.items
 
 pub returns : goal.returns
 returns c =
     let v = c.window-window.result in
-    let count : c.width-across.result * c.height-along.result ≡ width_of v * height_of v = rw (c.width-across.ensures, c.height-along.ensures) refl in
-    let end : c.loop-place.place ≡ width_of v * height_of v = omega (arith, count) in
-    let clear = rw c.width-across.ensures at c.loop-place.invariant.clear in
-    rw (← c.self.view_is, ← c.window-window.ensures.value) (window_listed v (open_at c.self.inside.mask) c.loop-place.place c.loop-place.list.items end (sym c.loop-place.list.ok.0 ∙ c.loop-place.invariant.count) clear)
+    let mask = open_at c.self.inside.mask in
+    let order : v.y0 ≤ v.y1 = search rules in
+    let end : c.loop-y.y ≡ v.y1 + 1 = omega (arith, c.loop-y-test.false, c.loop-y.auto.y-end, order) in
+    let all = subst (λ (y : ℕ). AreListedBefore v mask ((y - v.y0) * width_of v) c.loop-y.list.items) end c.loop-y.invariant in
+    rw (← c.self.view_is, ← c.window-window.ensures.value) (window_listed v mask c.loop-y.list.items all order)

@@ -1,6 +1,7 @@
 pub mod HeaderLemmas
 pub mod CallLemmas
 pub mod StepLemmas
+pub mod PieceLemmas
 pub mod PlaneSteps
 pub mod FieldLemmas
 pub mod NumberLemmas

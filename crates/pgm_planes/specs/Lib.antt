@@ -1,5 +1,6 @@
 pub mod Faults
 pub mod Gaps
+pub mod Pieces
 pub mod Planes
 pub mod Breaks
 pub mod Asking

@@ -4,6 +4,7 @@
 mod fault;
 mod header;
 pub mod laws;
+mod pieces;
 mod plane;
 mod samples;
 mod spelling;

@@ -6,6 +6,7 @@ ghost use Rattle.pgm_planes.specs.Reading.{Reads, nothing, told, form_of as form
 
 use crate::fault::{PlaneFault, ReadPlaneFault};
 use crate::header::{is_space, read_number, see_byte, skip_blanks, take_byte};
+use crate::pieces::take_waiting;
 use crate::spelling::Spelling;
 use byteorder::{BigEndian, ByteOrder};
 use insar_ports::{Feed, Source};
@@ -114,7 +115,8 @@ fn read_sample<S: Source>(
     }
 }
 
-/// Takes the given number of samples.
+/// Takes the given number of samples: one by itself, then those that wait, and so on. A sample that is
+/// cut or above `maxval` is always met by itself.
 fn read_samples<S: Source>(
     alloc: Global,
     feed: &mut Feed<S>,
@@ -129,9 +131,13 @@ fn read_samples<S: Source>(
     ensures reads { Reads (λ v. v.items) result (call_of S.left S.faults feed.old feed.new) (samples_at form maxval count 0) }
 {
     let mut samples = Vec::with_capacity(alloc, count as usize)?;
-    for index in 0..count {
+    let mut index = 0;
+    while index < count {
         let sample = read_sample(feed, form, maxval, index)?;
         samples.push(sample)?;
+        let others = (count - index - 1) as usize;
+        take_waiting(feed, form, maxval, others, &mut samples)?;
+        index = samples.len() as u32;
     }
     Ok(samples)
 }

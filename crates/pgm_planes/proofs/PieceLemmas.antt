@@ -1,0 +1,151 @@
+-- Samples that are taken at once are read as if they were taken one by one.
+use Rattle.std.proofs.Common.{◌≡◌, ℕ, zero, suc, get_or, ◌+◌, ◌*◌, ◌-◌, ◌≤◌, Bool, true, false, List, [], ◌∷◌, ◌++◌, length, take, drop, Option, refl, sym, ap, ◌∙◌, append_assoc, append-nil, arith}
+use Rattle.std.specs.List.{AllByRecursion}
+use Rattle.std.proofs.lemmas.Bool.{le-ltb}
+use Rattle.std.proofs.lemmas.List.{length-append}
+use Rattle.std.proofs.lemmas.List.Elements.{All-nil, recursion_from_All}
+use Rattle.std.proofs.Math.Seq.{take-append-add}
+use Rattle.byteorder.specs.Endian.{IsRead, big_number}
+use Rattle.insar_ports.specs.Bytes.{with_front}
+use Rattle.insar_ports.specs.Calls.{Call, Moves}
+use Rattle.insar_ports.proofs.CallLemmas.{call, some_is}
+use Rattle.insar_ports.proofs.CallerLemmas.{with_front-nil}
+use Rattle.pgm_planes.specs.declared.samples.SampleForm.{SampleForm}
+use Rattle.pgm_planes.specs.declared.samples.SampleForm.TheVariants.{Narrow, Wide, Digits}
+use Rattle.pgm_planes.specs.Pieces.{AreTogether, TakesPiece}
+use Rattle.pgm_planes.specs.Planes.{IsRaster}
+use Rattle.pgm_planes.specs.Reading.{Reader, goes_beyond, sample_at}
+use Rattle.pgm_planes.proofs.HeaderLemmas.{done}
+use Rattle.pgm_planes.proofs.CallLemmas.{Goes}
+use Rattle.pgm_planes.proofs.StepLemmas.{and_others, others_go}
+
+-- ---- what samples are
+
+-- bytes are their own raster
+pub raster_of_bytes : (bytes : List ℕ) → IsRaster false bytes bytes
+raster_of_bytes [] = refl
+raster_of_bytes (b ∷ bytes) = (refl, raster_of_bytes bytes)
+
+twice_more : (n : ℕ) → 2 * suc n ≡ suc (suc (2 * n))
+twice_more n = omega arith
+
+-- numbers that were read from bytes are their raster
+pub raster_of_read : (bytes vs : List ℕ) → length bytes ≡ 2 * length vs → IsRead big_number 2 bytes vs → IsRaster true bytes vs
+raster_of_read [] [] e r = refl
+raster_of_read (b ∷ bytes) [] e r = absurd (omega arith)
+raster_of_read [] (v ∷ vs) e r = absurd (omega arith)
+raster_of_read (b ∷ []) (v ∷ vs) e r = absurd (omega arith)
+raster_of_read (b ∷ d ∷ bytes) (v ∷ vs) e r =
+    let first : v ≡ big_number 2 (b ∷ d ∷ bytes) = r 0 (omega arith) in
+    let value : big_number 2 (b ∷ d ∷ bytes) ≡ 256 * b + d = omega arith in
+    let others : IsRead big_number 2 bytes vs = λ k lt. r (suc k) (omega arith) ∙ ap (λ (n : ℕ). big_number 2 (drop n (b ∷ d ∷ bytes))) (twice_more k) in
+    (first ∙ value, raster_of_read bytes vs (omega arith) others)
+
+-- the first samples of a raster
+pub raster_front : (n : ℕ) (bytes vs : List ℕ) → IsRaster true bytes vs → IsRaster true (take (2 * n) bytes) (take n vs)
+raster_front zero bytes vs r = refl
+raster_front (suc n) [] [] r = rw (twice_more n) refl
+raster_front (suc n) (b ∷ bytes) [] r = absurd cc
+raster_front (suc n) [] (v ∷ vs) r = absurd r
+raster_front (suc n) (b ∷ []) (v ∷ vs) r = absurd r
+raster_front (suc n) (b ∷ d ∷ bytes) (v ∷ vs) r = rw (twice_more n) (r.0, raster_front n bytes vs r.1)
+
+-- more samples that are not above maxval
+below_append : (m : ℕ) (xs ys : List ℕ) → ((k : ℕ) → get_or xs k 0 ≤ m) → AllByRecursion (λ v. v ≤ m) ys → (k : ℕ) → get_or (xs ++ ys) k 0 ≤ m
+below_append m [] [] h a k = h k
+below_append m [] (y ∷ ys) h a zero = a.0
+below_append m [] (y ∷ ys) h a (suc k) = below_append m [] ys (λ j. omega arith) a.1 k
+below_append m (x ∷ xs) ys h a zero = h 0
+below_append m (x ∷ xs) ys h a (suc k) = below_append m xs ys (λ j. h (suc j)) a k
+
+-- ---- reading them one by one
+
+module _ (maxval at k : ℕ) (more : Bool) (rest : List ℕ) where
+  narrow_good : (b v : ℕ) → v ≡ b → v ≤ maxval → sample_at Narrow maxval k more at (b ∷ rest) ≡ done v (at + 1) rest
+  unfolding sample_at
+  narrow_good b v e le = let n = le-ltb maxval v le in rw (← e, n) refl
+
+  wide_good : (b d v : ℕ) → v ≡ 256 * b + d → v ≤ maxval → sample_at Wide maxval k more at (b ∷ d ∷ rest) ≡ done v (at + 2) rest
+  unfolding sample_at
+  wide_good b d v e le = let n = le-ltb maxval v le in rw (← e, n) refl
+
+same_others : (form : SampleForm) (maxval : ℕ) (more : Bool) (rest front front_2 : List ℕ) (n n_2 k k_2 at at_2 : ℕ) → front ≡ front_2 → n ≡ n_2 → k ≡ k_2 → at ≡ at_2 → and_others front form maxval n k more at rest ≡ and_others front_2 form maxval n_2 k_2 more at_2 rest
+same_others form maxval more rest front front_2 n n_2 k k_2 at at_2 a b c d = cc
+
+module _ (maxval : ℕ) (more : Bool) (rest : List ℕ) where
+  narrow_together : (bytes vs : List ℕ) → IsRaster false bytes vs → AllByRecursion (λ v. v ≤ maxval) vs → (front : List ℕ) (n m k at : ℕ) → n ≡ length vs + m
+      → and_others front Narrow maxval n k more at (bytes ++ rest) ≡ and_others (front ++ vs) Narrow maxval m (k + length vs) more (at + length bytes) rest
+  narrow_together [] [] r below front n m k at is = same_others Narrow maxval more rest front (front ++ []) n m k (k + 0) at (at + 0) (sym (append-nil front)) (omega arith) (omega arith) (omega arith)
+  narrow_together (b ∷ bytes) [] r below front n m k at is = absurd cc
+  narrow_together [] (v ∷ vs) r below front n m k at is = absurd r
+  narrow_together (b ∷ bytes) (v ∷ vs) r below front n m k at is =
+      others_go Narrow maxval front n (length vs + m) k v more at (at + 1) (b ∷ (bytes ++ rest)) (bytes ++ rest) (omega arith) (narrow_good maxval at k more (bytes ++ rest) b v r.0 below.0)
+      ∙ narrow_together bytes vs r.1 below.1 (front ++ v ∷ []) (length vs + m) m (k + 1) (at + 1) refl
+      ∙ same_others Narrow maxval more rest ((front ++ v ∷ []) ++ vs) (front ++ v ∷ vs) m m ((k + 1) + length vs) (k + length (v ∷ vs)) ((at + 1) + length bytes) (at + length (b ∷ bytes)) (append_assoc front (v ∷ []) vs) refl (omega arith) (omega arith)
+
+  wide_together : (bytes vs : List ℕ) → IsRaster true bytes vs → AllByRecursion (λ v. v ≤ maxval) vs → (front : List ℕ) (n m k at : ℕ) → n ≡ length vs + m
+      → and_others front Wide maxval n k more at (bytes ++ rest) ≡ and_others (front ++ vs) Wide maxval m (k + length vs) more (at + length bytes) rest
+  wide_together [] [] r below front n m k at is = same_others Wide maxval more rest front (front ++ []) n m k (k + 0) at (at + 0) (sym (append-nil front)) (omega arith) (omega arith) (omega arith)
+  wide_together (b ∷ bytes) [] r below front n m k at is = absurd cc
+  wide_together [] (v ∷ vs) r below front n m k at is = absurd r
+  wide_together (b ∷ []) (v ∷ vs) r below front n m k at is = absurd r
+  wide_together (b ∷ d ∷ bytes) (v ∷ vs) r below front n m k at is =
+      others_go Wide maxval front n (length vs + m) k v more at (at + 2) (b ∷ d ∷ (bytes ++ rest)) (bytes ++ rest) (omega arith) (wide_good maxval at k more (bytes ++ rest) b d v r.0 below.0)
+      ∙ wide_together bytes vs r.1 below.1 (front ++ v ∷ []) (length vs + m) m (k + 1) (at + 2) refl
+      ∙ same_others Wide maxval more rest ((front ++ v ∷ []) ++ vs) (front ++ v ∷ vs) m m ((k + 1) + length vs) (k + length (v ∷ vs)) ((at + 2) + length bytes) (at + length (b ∷ d ∷ bytes)) (append_assoc front (v ∷ []) vs) refl (omega arith) (omega arith)
+
+  -- samples that stand together are read, and then the others
+  together : (form : SampleForm) (bytes vs : List ℕ) → AreTogether form bytes vs → AllByRecursion (λ v. v ≤ maxval) vs → (front : List ℕ) (n m k at : ℕ) → n ≡ length vs + m
+      → and_others front form maxval n k more at (bytes ++ rest) ≡ and_others (front ++ vs) form maxval m (k + length vs) more (at + length bytes) rest
+  together Narrow bytes vs are below front n m k at is = narrow_together bytes vs are below front n m k at is
+  together Wide bytes vs are below front n m k at is = wide_together bytes vs are below front n m k at is
+  together Digits bytes vs are below front n m k at is =
+      let size = ap length are.1 in
+      let gone = ap length are.0 in
+      ap (λ (b : List ℕ). and_others front Digits maxval n k more at (b ++ rest)) are.0
+      ∙ same_others Digits maxval more rest front (front ++ vs) n m k (k + length vs) at (at + length bytes) (sym (ap (λ (l : List ℕ). front ++ l) are.1 ∙ append-nil front)) (omega (arith, size)) (omega (arith, size)) (omega (arith, gone))
+
+-- ---- calls
+
+-- a call that took the front of what was told goes on with another reader
+part_goes : {A : Type 0} (c : Call) (part : List ℕ) (r q : Reader A) → c.told ≡ with_front part c.left → c.end ≡ c.at + length part → c.end ≤ c.limit → c.before ≤ c.after → ((more : Bool) (rest : List ℕ) → r more c.at (part ++ rest) ≡ q more (c.at + length part) rest) → Goes c r q
+part_goes c part r q e place within grows f = record {
+  moves = record { front = part; parts = e; place = place; grows = grows };
+  reads = λ bytes rest t l.
+      let parts : bytes ≡ part ++ rest = some_is bytes (part ++ rest) (sym t ∙ e ∙ ap (with_front part) l) in
+      let n : c.limit - c.at ≡ length part + (c.limit - c.end) = omega arith in
+      let out : take (c.limit - c.at) bytes ≡ part ++ take (c.limit - c.end) rest = ap (take (c.limit - c.at)) parts ∙ ap (λ (m : ℕ). take m (part ++ rest)) n ∙ take-append-add part rest (c.limit - c.end) in
+      ap (r (goes_beyond c.limit c.at bytes) c.at) out ∙ f (goes_beyond c.limit c.at bytes) (take (c.limit - c.end) rest) ∙ ap (λ (m : ℕ). q (goes_beyond c.limit c.at bytes) m (take (c.limit - c.end) rest)) (sym place);
+}
+
+module _ (form : SampleForm) (maxval most : ℕ) (old new : List ℕ) (c : Call) (p : TakesPiece form maxval most old new c) where
+  pub piece_moves : Moves c
+  piece_moves = record { front = p.bytes; parts = p.parts; place = p.place; grows = p.grows }
+
+  -- what is read after a piece
+  pub piece_goes : (n m k j : ℕ) → n ≡ length p.added + m → j ≡ k + length p.added → Goes c (and_others old form maxval n k) (and_others new form maxval m j)
+  piece_goes n m k j is next =
+      part_goes c p.bytes (and_others old form maxval n k) (and_others new form maxval m j) p.parts p.place p.within p.grows (λ more rest.
+      together maxval more rest form p.bytes p.added p.are (recursion_from_All (λ v. v ≤ maxval) p.added p.below) old n m k c.at is
+      ∙ same_others form maxval more rest (old ++ p.added) new m m (k + length p.added) j (c.at + length p.bytes) (c.at + length p.bytes) (sym p.gains) refl (sym next) refl)
+
+  pub piece_size : (length new ≡ length old + length p.added) × (length p.added ≤ most)
+  piece_size = (ap length p.gains ∙ length-append old p.added, p.few)
+
+  pub piece_below : ((k : ℕ) → get_or old k 0 ≤ maxval) → (k : ℕ) → get_or new k 0 ≤ maxval
+  piece_below h k = rw p.gains (below_append maxval old p.added h (recursion_from_All (λ v. v ≤ maxval) p.added p.below) k)
+
+-- nothing was taken
+pub takes_nothing : (form : SampleForm) (maxval most : ℕ) (old : List ℕ) (told : Option (List ℕ)) (at limit before : ℕ) → AreTogether form [] [] → at ≤ limit → TakesPiece form maxval most old old (call told at told at limit before before)
+takes_nothing form maxval most old told at limit before are within = record {
+  bytes = [];
+  added = [];
+  gains = sym (append-nil old);
+  few = omega arith;
+  below = All-nil (λ v. v ≤ maxval);
+  are = are;
+  parts = sym (with_front-nil told);
+  place = omega arith;
+  within = within;
+  grows = omega arith;
+}

@@ -6,7 +6,7 @@ use Rattle.std.proofs.lemmas.Bool.{cases_order}
 use Rattle.std.proofs.lemmas.List.{get_or-replicate, get_or_append_left, get_or_push}
 use Rattle.std.proofs.lemmas.Nat.Bits.{bit_at_ones}
 use Rattle.sums_and_lists.proofs.Orders.{below_or_last}
-use Rattle.std.proofs.lemmas.List.FromFn.{get_or-map-range_with_len}
+use Rattle.std.proofs.lemmas.List.FromFn.{get_or-map-range_with_len, length-map-range_with_len}
 use Rattle.std.proofs.lemmas.Nat.{mul-add-lt, mul-le, div-mul-add, mod-mul-add}
 use Rattle.raster_model.specs.declared.plane.Plane.{Plane}
 use Rattle.raster_model.specs.Bits.{has_bit, AreBitsSet, AreAllBits, HasOtherBit}
@@ -55,6 +55,10 @@ abbrev of_words : ℕ → ℕ → List ℕ → MaskView
 of_words w h words = record { width = w; height = h; unmasked = pixels_of w h words }
 
 module _ (w h : ℕ) where
+  pub has_each_pixel : (words : List ℕ) → length (pixels_of w h words) ≡ w * h
+  unfolding pixels_of
+  has_each_pixel words = length-map-range_with_len (λ k. has_bit words (bit_of w (k % w) (k / w))) 0 (w * h)
+
   pub open_is : (words : List ℕ) (x y : ℕ) → x < w → y < h → open_at (of_words w h words) x y ≡ has_bit words (bit_of w x y)
   unfolding pixels_of
   open_is words x y l m =

@@ -64,7 +64,7 @@ fn plane_word(plane: &Plane, y: usize, place: usize) -> u64
 impl Mask {
     ghost use Rattle.raster_model.specs.Limits.{is_raster_size};
     ghost use Rattle.raster_model.specs.Masks.{open_at, all_open as everywhere, open_by, IsMaskOf, IsSetAt, IsSpanOf, IsSpanSet, HasOtherInSpan};
-    ghost use Rattle.std.specs.Prelude.{◌≡◌, ◌<◌, ◌≤◌, ◌↔◌, IfOk, IsTrue, MatchBool, true};
+    ghost use Rattle.std.specs.Prelude.{◌≡◌, ◌*◌, ◌<◌, ◌≤◌, ◌↔◌, IfOk, IsTrue, MatchBool, length, true};
 
     /// The mask with every pixel open.
     pub fn all_open(alloc: Global, width: u32, height: u32) -> Result<Mask, AllocError>
@@ -113,6 +113,7 @@ impl Mask {
     pub fn width(&self) -> u32
         ensures value { result ≡ self.now.width }
         ensures size { IsTrue (is_raster_size self.now.width self.now.height) }
+        ensures pixels { length self.now.unmasked ≡ self.now.width * self.now.height }
     {
         self.width
     }

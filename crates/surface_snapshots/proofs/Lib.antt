@@ -1,4 +1,5 @@
 mod ShiftedLemmas
+mod MaskLemmas
 mod CostLemmas
 mod FreeLemmas
 mod LevelLemmas

@@ -5,13 +5,15 @@ use Rattle.std.proofs.lemmas.Bool.{cases_lt}
 use Rattle.std.proofs.lemmas.Int.{ints, to_z-of_z}
 use Rattle.std.proofs.lemmas.List.{get_or-append_right, get_or-set_other, get_or-set_same, get_or-take, get_or_append_left, length-append, length-take-le}
 use Rattle.std.proofs.lemmas.Nat.{same_from_place}
+use Rattle.raster_model.specs.MaskView.{MaskView}
+use Rattle.raster_model.specs.Masks.{open_at}
 use Rattle.raster_model.specs.Sums.{Field}
 use Rattle.certificates.specs.TileSets.{solved_cycles}
 use Rattle.seam_regions.specs.Regions.{label_at, offset_at}
 use Rattle.surface_snapshots.specs.declared.shifted.ShiftedTiles.{ShiftedTiles}
 use Rattle.surface_snapshots.specs.Tiled.{regions_in}
 use Rattle.surface_snapshots.specs.Parts.{AreGoodTiles, AreNear, BeginsWithRow, Parts, cycles_in_parts, open_in, raster_in, value_or}
-use Rattle.surface_snapshots.specs.Shifted.{AreListed, cycles_or_none, cycles_under, level_at, level_in, no_cycles, open_under}
+use Rattle.surface_snapshots.specs.Shifted.{AreListed, cycles_or_none, cycles_under, level_at, level_in, mask_under, no_cycles, open_under}
 use Rattle.surface_snapshots.proofs.CallerLemmas.{offset_small, solved_small}
 
 -- a number is written behind the front of a row, and what stands behind stays
@@ -49,9 +51,11 @@ module _ (s : ShiftedTiles) (x y : ℕ) where
         go false e = refl
         go true e = absurd (omega (arith, past, s.together.below x y across along e, s.count))
 
-pub level_same : (s : ShiftedTiles) (p : Parts) (x y : ℕ) → s.scene.now ≡ p.session.scene → s.mask.now ≡ p.mask → (regions_in s.regions.now) ≡ p.regions → s.tiles.now ≡ p.tiles → s.offsets.now ≡ p.seams.offsets.items → level_at s x y ≡ level_in p x y
+pub level_same : (s : ShiftedTiles) (p : Parts) (x y : ℕ) → s.scene.now ≡ p.session.scene → mask_under s ≡ p.mask → regions_in s.regions.now ≡ p.regions → s.tiles.now ≡ p.tiles → s.offsets.now ≡ p.seams.offsets.items → level_at s x y ≡ level_in p x y
 unfolding level_at
-level_same s p x y scene mask regions tiles offsets = rw (scene, mask, regions, tiles, offsets) refl
+level_same s p x y scene mask regions tiles offsets =
+    let cycles : cycles_under s x y ≡ cycles_in_parts p x y = rw (scene, regions, tiles, offsets) refl in
+    ap (λ (m : MaskView). cycles_or_none (open_at m x y) (cycles_under s x y)) mask ∙ ap (cycles_or_none (open_in p x y)) cycles
 
 -- a row is added to a list of cycles
 pub row_listed : (s : ShiftedTiles) (y : ℕ) (list row : List ℤ) → s.scene.now.phase.width ≤ length row → AreListed s (y * s.scene.now.phase.width) list → BeginsWithRow (level_at s) y s.scene.now.phase.width row → AreListed s ((y + 1) * s.scene.now.phase.width) (list ++ take s.scene.now.phase.width row)

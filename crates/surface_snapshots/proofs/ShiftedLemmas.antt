@@ -80,15 +80,24 @@ told_open n false l e =
     let g = rw f at e in
     cc
 
--- parts that fit together
-pub go_together : (s : Scene) (m : MaskView) (v : RegionsView) (results : List TileResult) → m.width ≡ s.phase.width → m.height ≡ s.phase.height → AreGoodTiles s (open_at m) results → AreRegionsOf s.tiling m v → GoTogether s m v results
-go_together s m v results across along tiles is = record {
-  across = across;
-  along = along;
-  tiles = tiles;
-  wide = is.width ∙ s.same_width.1;
-  high = is.height ∙ s.same_height.1;
-  below = λ x y l h o. (regions_of_scene s m v is).labelling.below x y (l, h, o);
-  told = λ x y l h below.
-      told_open (label_at v x y) (open_at m x y) (omega (arith, below, is.few)) (is.told x y (omega (arith, l, s.same_width)) (omega (arith, h, s.same_height)));
-}
+-- the open pixels are those whose label is a region's number
+module _ (s : Scene) (m : MaskView) (v : RegionsView) (across : m.width ≡ s.phase.width) (along : m.height ≡ s.phase.height) (is : AreRegionsOf s.tiling m v) where
+  module _ (x y : ℕ) (l : x < s.phase.width) (h : y < s.phase.height) where
+    pub label_below : IsTrue (open_at m x y) → label_at v x y < v.count
+    label_below o = (regions_of_scene s m v is).labelling.below x y (l, h, o)
+
+    pub label_open : label_at v x y < v.count → IsTrue (open_at m x y)
+    label_open below =
+        told_open (label_at v x y) (open_at m x y) (omega (arith, below, is.few)) (is.told x y (omega (arith, l, s.same_width)) (omega (arith, h, s.same_height)))
+
+  -- parts that fit together
+  pub go_together : (results : List TileResult) → AreGoodTiles s (open_at m) results → GoTogether s m v results
+  go_together results tiles = record {
+    across = across;
+    along = along;
+    tiles = tiles;
+    wide = is.width ∙ s.same_width.1;
+    high = is.height ∙ s.same_height.1;
+    below = label_below;
+    told = label_open;
+  }

@@ -55,6 +55,13 @@ module _ (g : Tiling) (labels : List ℕ) (tiles : List RunsView) where
         row : (i : ℕ) → i < g.width * g.height → i / g.width < g.height
         row i inside = (div-lt_iff_lt-mul {k = g.width} {x = i} {y = g.height} (omega (arith, g.wide))).1 (omega (arith, inside))
 
+-- there is a label for each pixel
+pub labels_count : (r : TiledRegions) → length (regions_in r).labels ≡ r.tiling.width * r.tiling.height
+unfolding labels_told
+labels_count r =
+    let g = r.tiling in
+    length-map-range_with_len (λ (k : ℕ). label_there r.labels.items (map shown r.tiles.items) (tile_at g (k % g.width) (k / g.width)) (place_in (window_of g (tile_at g (k % g.width) (k / g.width))) (k % g.width) (k / g.width))) 0 (g.width * g.height)
+
 -- the regions that are kept are those that were given
 pub regions_same : (g : Tiling) (labels : List ℕ) (tiles : List RunsView) (count : ℕ) (v : RegionsView) → v.width ≡ g.width → v.height ≡ g.height → length v.labels ≡ v.width * v.height → count ≡ v.count → TellTiles g v.labels labels tiles (tiles_of g) → record { width = g.width; height = g.height; labels = labels_told g labels tiles; count = count } ≡ v
 regions_same g labels tiles count v wide high size counted told =

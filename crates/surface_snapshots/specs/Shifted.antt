@@ -1,5 +1,6 @@
 -- Words of helpers: a surface of shifted tiles as the definitions read it, and lists of its cycles. No clause of a public function cites them.
 use Rattle.std.specs.Prelude.{◌≡◌, ℕ, ◌+◌, ◌*◌, ◌<◌, ◌≤◌, ℤ, pos, neg_ℤ, Bool, IsTrue, List, length, slice_get, slice_index_or, Some, if◌then◌else◌}
+use Rattle.raster_model.specs.MaskView.{MaskView}
 use Rattle.raster_model.specs.Masks.{open_at}
 use Rattle.raster_model.specs.Raster.{Raster}
 use Rattle.raster_model.specs.Scene.{raster_of}
@@ -9,15 +10,18 @@ use Rattle.certificates.specs.declared.results.TileResult.{TileResult}
 use Rattle.raster_model.specs.declared.tiling.Window.{Window}
 use Rattle.raster_model.specs.Tiles.{tile_at, window_of}
 use Rattle.seam_regions.specs.Regions.{label_at}
-use Rattle.surface_snapshots.specs.Tiled.{regions_in}
+use Rattle.surface_snapshots.specs.Tiled.{mask_told, regions_in}
 use Rattle.surface_snapshots.specs.Parts.{Parts, cycles_in_parts, open_in, shifted_cycles}
 
--- the raster, the open pixels and the cycles above the phase
+-- the raster, the mask, the open pixels and the cycles above the phase
 abbrev pub raster_under : ShiftedTiles → Raster
 raster_under s = raster_of s.scene.now
 
+abbrev pub mask_under : ShiftedTiles → MaskView
+mask_under s = mask_told (regions_in s.regions.now)
+
 abbrev pub open_under : ShiftedTiles → Field Bool
-open_under s = open_at s.mask.now
+open_under s = open_at (mask_under s)
 
 abbrev pub cycles_under : ShiftedTiles → Field ℤ
 cycles_under s = shifted_cycles s.scene.now (regions_in s.regions.now) s.tiles.now.results s.offsets.now

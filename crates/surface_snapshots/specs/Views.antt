@@ -2,7 +2,7 @@
 use Rattle.std.specs.Arc.{arc_value}
 use Rattle.surface_snapshots.specs.declared.snapshot.Snapshot.{Snapshot}
 use Rattle.surface_snapshots.specs.Parts.{Parts}
-use Rattle.surface_snapshots.specs.Tiled.{regions_in}
+use Rattle.surface_snapshots.specs.Tiled.{mask_told, regions_in}
 
 abbrev pub parts_of : Snapshot → Parts
-parts_of s = record { session = arc_value s.session; mask = s.mask; regions = regions_in s.regions; tiles = s.tiles; seams = s.seams }
+parts_of s = record { session = arc_value s.session; mask = mask_told (regions_in s.regions); regions = regions_in s.regions; tiles = s.tiles; seams = s.seams }

@@ -3,7 +3,7 @@ ghost use Rattle.raster_model.specs.Masks.{open_at};
 ghost use Rattle.seam_regions.specs.Regions.{AreRegionsOf};
 ghost use Rattle.std.specs.Prelude.{◌≡◌, IfErr, IfOk};
 ghost use Rattle.surface_snapshots.specs.Parts.{AreGoodTiles, HaveCosts, parts_from};
-ghost use Rattle.surface_snapshots.specs.Tiled.{regions_in};
+ghost use Rattle.surface_snapshots.specs.Tiled.{mask_told, regions_in};
 ghost use Rattle.surface_snapshots.specs.Verdicts.{IsFault, IsVerdict};
 
 use crate::counting::Costs;
@@ -13,7 +13,7 @@ use crate::offsets::first_far;
 use crate::shifted::ShiftedTiles;
 use crate::tiled::TiledRegions;
 use certificates::{SeamResult, SeamVerdict, TileSet};
-use raster_model::{Mask, Session};
+use raster_model::{Mask, Scene, Session};
 use seam_regions::Regions;
 use std::alloc::Global;
 
@@ -42,6 +42,7 @@ pub(crate) fn certified_costs(
     ensures refused { IfErr result (IsFault (parts_from session.now mask.now regions.now tiles.now seams.now)) }
     ensures tiling { IfOk result (λ made. made.regions.tiling ≡ session.now.scene.tiling) }
     ensures regions { IfOk result (λ made. regions_in made.regions ≡ regions.now) }
+    ensures mask { IfOk result (λ made. mask.now ≡ mask_told regions.now) }
     ensures certified { IfOk result (λ made. IsVerdict (parts_from session.now mask.now regions.now tiles.now seams.now) Good) }
     ensures costs { IfOk result (λ made. HaveCosts (parts_from session.now mask.now regions.now tiles.now seams.now) made.costs.tiles made.costs.seams) }
 {
@@ -51,17 +52,17 @@ pub(crate) fn certified_costs(
     if let Some(region) = first_far(&seams.offsets) {
         return Err(BuildFault::Uncertified(SeamVerdict::Range(region as u32)));
     }
+    told_by(&session.scene, mask, regions);
     let tiled = TiledRegions::of(alloc, &session.scene.tiling, regions)?;
     let costs = {
         let surface = ShiftedTiles {
             scene: &session.scene,
-            mask,
             regions: &tiled,
             tiles,
             offsets: &seams.offsets,
         };
         let levels = Levels::of(alloc, surface)?;
-        match levels.judge(alloc, regions, &seams.flows)? {
+        match levels.judge(alloc, mask, regions, &seams.flows)? {
             SeamVerdict::Good => Costs::of(&session.scene, mask, &levels),
             verdict => return Err(BuildFault::Uncertified(verdict)),
         }
@@ -70,4 +71,15 @@ pub(crate) fn certified_costs(
         regions: tiled,
         costs,
     })
+}
+
+/// A mask is told by its regions. This function does nothing; its contract is that fact.
+fn told_by(scene: &Scene, mask: &Mask, regions: &Regions)
+    requires across { mask.now.width ≡ scene.now.phase.width }
+    requires along { mask.now.height ≡ scene.now.phase.height }
+    requires regions { AreRegionsOf scene.now.tiling mask.now regions.now }
+    ensures { mask.now ≡ mask_told regions.now }
+{
+    let _width = mask.width();
+    let _labels = regions.labels();
 }

@@ -4,7 +4,7 @@ ghost use Rattle.surface_snapshots.specs.Shifted.{AreListed, cycles_under, open_
 
 use crate::shifted::ShiftedTiles;
 use certificates::{SeamVerdict, check_flows};
-use raster_model::{Heights, MAX_SIDE};
+use raster_model::{Heights, MAX_SIDE, Mask};
 use seam_regions::Regions;
 use std::alloc::{AllocError, Global};
 
@@ -32,9 +32,10 @@ impl Heights for Levels<'_> {
 
 impl<'a> Levels<'a> {
     ghost use Rattle.certificates.specs.SeamVerdicts.{IsSeamVerdict};
+    ghost use Rattle.raster_model.specs.Masks.{open_at};
     ghost use Rattle.raster_model.specs.Raster.{lifted};
     ghost use Rattle.seam_regions.specs.Regions.{AreRegionsOf, label_at};
-    ghost use Rattle.surface_snapshots.specs.Shifted.{raster_under};
+    ghost use Rattle.surface_snapshots.specs.Shifted.{mask_under, raster_under};
     ghost use Rattle.surface_snapshots.specs.Tiled.{regions_in};
 
     /// The cycles of a surface at all pixels.
@@ -51,22 +52,24 @@ impl<'a> Levels<'a> {
         Ok(Levels { surface, cycles })
     }
 
-    /// What the check of the flows says of the surface, whose regions are these.
+    /// What the check of the flows says of the surface, whose mask and regions are these.
     pub(crate) fn judge(
         &self,
         alloc: Global,
+        mask: &Mask,
         regions: &Regions,
         flows: &[i64],
     ) -> Result<SeamVerdict, AllocError>
+        requires told { mask.now ≡ mask_under self.now.surface }
         requires same { regions_in self.now.surface.regions.now ≡ regions.now }
-        requires regions { AreRegionsOf self.now.surface.scene.now.tiling self.now.surface.mask.now regions.now }
-        ensures { IfOk result (IsSeamVerdict (raster_under self.now.surface) (open_under self.now.surface) (label_at regions.now) regions.now.count (cycles_under self.now.surface) flows.now) }
+        requires regions { AreRegionsOf self.now.surface.scene.now.tiling mask.now regions.now }
+        ensures { IfOk result (IsSeamVerdict (raster_under self.now.surface) (open_at mask.now) (label_at regions.now) regions.now.count (cycles_under self.now.surface) flows.now) }
     {
         let surface = self.surface;
         let mut scratch = vec![in alloc; 0; regions.count() as usize]?;
         Ok(check_flows(
             surface.scene,
-            surface.mask,
+            mask,
             regions.labels(),
             self,
             flows,

@@ -2,12 +2,12 @@ ghost use Rattle.raster_model.specs.Tiles.{tile_at, window_of};
 ghost use Rattle.std.specs.Prelude.{◌≡◌, ◌<◌, length};
 ghost use Rattle.surface_snapshots.specs.Loops.{GoTogether};
 ghost use Rattle.surface_snapshots.specs.Parts.{AreNear};
-ghost use Rattle.surface_snapshots.specs.Tiled.{regions_in};
+ghost use Rattle.surface_snapshots.specs.Tiled.{mask_told, regions_in};
 
 use crate::tiled::TiledRegions;
 use crate::windows::window_at;
 use certificates::TileSet;
-use raster_model::{Mask, Scene, Window};
+use raster_model::{Scene, Window};
 
 /// What stands for the cycles of a masked pixel.
 pub(crate) const NO_CYCLES: i64 = i64::MIN;
@@ -16,13 +16,12 @@ pub(crate) const NO_CYCLES: i64 = i64::MIN;
 #[derive(Clone, Copy)]
 pub(crate) struct ShiftedTiles<'a> {
     pub(crate) scene: &'a Scene,
-    pub(crate) mask: &'a Mask,
     pub(crate) regions: &'a TiledRegions,
     pub(crate) tiles: &'a TileSet,
     pub(crate) offsets: &'a [i64],
     pub(crate) ghost tiling: { tiles.now.tiling ≡ scene.now.tiling },
     pub(crate) ghost places: { regions.now.tiling ≡ scene.now.tiling },
-    pub(crate) ghost together: { GoTogether scene.now mask.now (regions_in regions.now) tiles.now.results },
+    pub(crate) ghost together: { GoTogether scene.now (mask_told (regions_in regions.now)) (regions_in regions.now) tiles.now.results },
     pub(crate) ghost count: { length offsets.now ≡ (regions_in regions.now).count },
     pub(crate) ghost near: { AreNear offsets.now },
 }
@@ -32,12 +31,11 @@ impl ShiftedTiles<'_> {
     ghost use Rattle.certificates.specs.TileSets.{solved_cycles};
     ghost use Rattle.seam_regions.specs.Regions.{offset_at};
     ghost use Rattle.surface_snapshots.specs.Parts.{BeginsWithRow, is_open_pixel, shifted_cycles};
-    ghost use Rattle.surface_snapshots.specs.Shifted.{HasCycles, IsSpan, level_at, no_cycles};
-    ghost use Rattle.raster_model.specs.Masks.{open_at};
+    ghost use Rattle.surface_snapshots.specs.Shifted.{HasCycles, IsSpan, level_at, no_cycles, open_under};
 
     /// The cycles above the phase at an open pixel.
     pub(crate) fn at(&self, x: u32, y: u32) -> i64
-        requires open_pixel { IsTrue (is_open_pixel self.now.scene.now.phase.width self.now.scene.now.phase.height (open_at self.now.mask.now) x y) }
+        requires open_pixel { IsTrue (is_open_pixel self.now.scene.now.phase.width self.now.scene.now.phase.height (open_under self.now) x y) }
         ensures value { result ≡ shifted_cycles self.now.scene.now (regions_in self.now.regions.now) self.now.tiles.now.results self.now.offsets.now x y }
         ensures small { unsigned_abs result ≤ 2 ^ 46 + 8388608 }
     {
@@ -48,7 +46,7 @@ impl ShiftedTiles<'_> {
 
     /// The cycles that the result of an open pixel's tile has there.
     fn solved(&self, tile: u32, window: Window, x: u32, y: u32) -> i64
-        requires open_pixel { IsTrue (is_open_pixel self.now.scene.now.phase.width self.now.scene.now.phase.height (open_at self.now.mask.now) x y) }
+        requires open_pixel { IsTrue (is_open_pixel self.now.scene.now.phase.width self.now.scene.now.phase.height (open_under self.now) x y) }
         requires tile { tile ≡ tile_at self.now.scene.now.tiling x y }
         requires window { window ≡ window_of self.now.scene.now.tiling tile }
         ensures value { result ≡ solved_cycles self.now.scene.now self.now.tiles.now.results x y }
@@ -59,7 +57,7 @@ impl ShiftedTiles<'_> {
 
     /// The offset of an open pixel's region.
     fn offset(&self, x: u32, y: u32) -> i64
-        requires open_pixel { IsTrue (is_open_pixel self.now.scene.now.phase.width self.now.scene.now.phase.height (open_at self.now.mask.now) x y) }
+        requires open_pixel { IsTrue (is_open_pixel self.now.scene.now.phase.width self.now.scene.now.phase.height (open_under self.now) x y) }
         ensures value { result ≡ offset_at (regions_in self.now.regions.now) self.now.offsets.now x y }
         ensures small { unsigned_abs result ≤ 2 ^ 46 }
     {

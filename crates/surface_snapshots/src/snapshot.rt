@@ -3,7 +3,7 @@ ghost use Rattle.std.specs.Arc.{arc_value};
 ghost use Rattle.std.specs.Prelude.{◌≡◌, ◌<◌, ◌≤◌, ◌+◌, ◌^◌, ◌+ℤ◌, ◌*ℤ◌, length, pos, unsigned_abs};
 ghost use Rattle.surface_snapshots.specs.Loops.{GoTogether};
 ghost use Rattle.surface_snapshots.specs.Parts.{AreNear, HaveCosts, IsPublished, parts_from};
-ghost use Rattle.surface_snapshots.specs.Tiled.{regions_in};
+ghost use Rattle.surface_snapshots.specs.Tiled.{mask_told, regions_in};
 
 use crate::costs::certified_costs;
 use crate::fault::BuildFault;
@@ -28,19 +28,18 @@ fn level(sample: u16, cycles: i64) -> i64
 #[derive(Drop)]
 pub struct Snapshot {
     session: Arc<Session>,
-    mask: Mask,
     regions: TiledRegions,
     tiles: TileSet,
     seams: SeamResult,
     tile_cost: u128,
     seam_cost: u128,
-    ghost together: { GoTogether (arc_value session).scene mask (regions_in regions) tiles.results },
+    ghost together: { GoTogether (arc_value session).scene (mask_told (regions_in regions)) (regions_in regions) tiles.results },
     ghost tiling: { tiles.tiling ≡ (arc_value session).scene.tiling },
     ghost places: { regions.tiling ≡ (arc_value session).scene.tiling },
     ghost count: { length seams.offsets.items ≡ (regions_in regions).count },
     ghost near: { AreNear seams.offsets.items },
-    pub ghost published: { IsPublished (parts_from (arc_value session) mask (regions_in regions) tiles seams) },
-    pub ghost costs: { HaveCosts (parts_from (arc_value session) mask (regions_in regions) tiles seams) tile_cost seam_cost },
+    pub ghost published: { IsPublished (parts_from (arc_value session) (mask_told (regions_in regions)) (regions_in regions) tiles seams) },
+    pub ghost costs: { HaveCosts (parts_from (arc_value session) (mask_told (regions_in regions)) (regions_in regions) tiles seams) tile_cost seam_cost },
 }
 
 impl Heights for Snapshot {
@@ -106,7 +105,6 @@ impl Snapshot {
         let costs = certified.costs;
         Ok(Snapshot {
             session,
-            mask,
             regions: certified.regions,
             tiles,
             seams,
@@ -121,7 +119,6 @@ impl Snapshot {
     {
         Snapshot {
             session: self.session,
-            mask: self.mask,
             regions: self.regions.sharing(&earlier.regions),
             tiles: self.tiles,
             seams: self.seams,
@@ -187,7 +184,7 @@ impl Snapshot {
         ensures value { result ≡ value_in (parts_of self.now) x y }
         ensures small { IfSome result (λ value. unsigned_abs value < 2 ^ 63) }
     {
-        if !self.mask.is_open(x, y) {
+        if !self.regions.is_open(x, y) {
             return None;
         }
         let sample = self.session.scene.phase.sample(x, y);
@@ -224,14 +221,12 @@ impl Snapshot {
     /// The tiles' results with the offsets of the regions.
     fn shifted(&self) -> ShiftedTiles<'_>
         ensures scene { result.scene.now ≡ (arc_value self.now.session).scene }
-        ensures mask { result.mask.now ≡ self.now.mask }
         ensures regions { result.regions.now ≡ self.now.regions }
         ensures tiles { result.tiles.now ≡ self.now.tiles }
         ensures offsets { result.offsets.now ≡ self.now.seams.offsets.items }
     {
         ShiftedTiles {
             scene: &self.session.scene,
-            mask: &self.mask,
             regions: &self.regions,
             tiles: &self.tiles,
             offsets: &self.seams.offsets,

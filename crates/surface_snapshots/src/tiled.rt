@@ -35,11 +35,12 @@ pub(crate) struct Span {
 }
 
 impl TiledRegions {
+    ghost use Rattle.raster_model.specs.Masks.{open_at};
     ghost use Rattle.raster_model.specs.Tiles.{place_in, tile_at, window_of};
     ghost use Rattle.seam_regions.specs.Regions.{label_at};
     ghost use Rattle.std.specs.Prelude.{◌+◌, ◌*◌, ◌≤◌, ◌^◌, IfOk, map, unwrap_or};
     ghost use Rattle.surface_snapshots.specs.Runs.{label_there};
-    ghost use Rattle.surface_snapshots.specs.Tiled.{regions_in};
+    ghost use Rattle.surface_snapshots.specs.Tiled.{mask_told, regions_in};
 
     /// The regions of a tiling's raster.
     pub(crate) fn of(
@@ -109,6 +110,15 @@ impl TiledRegions {
         let window = window_at(&self.tiling, x, y);
         self.span(self.tiling.tile_of(x, y), window.place(x, y), 1, 0)
             .label
+    }
+
+    /// Whether a pixel has a region.
+    pub(crate) fn is_open(&self, x: u32, y: u32) -> bool
+        requires across { x < self.now.tiling.width }
+        requires along { y < self.now.tiling.height }
+        ensures { result ≡ open_at (mask_told (regions_in self.now)) x y }
+    {
+        self.label(x, y) < self.count
     }
 
     /// The same regions. A tile's runs are those of the other ones if they are equal.

@@ -1,7 +1,10 @@
 use Rattle.std.proofs.Common.{◌∙◌, ap, subst, sym}
+use Rattle.raster_model.specs.MaskView.{MaskView}
 use Rattle.seam_regions.specs.RegionsView.{RegionsView}
 use Rattle.seam_regions.specs.Regions.{label_at}
 use Rattle.certificates.specs.SeamVerdicts.{IsSeamVerdict}
+use Rattle.surface_snapshots.specs.Loops.{GoTogether}
+use Rattle.surface_snapshots.specs.Tiled.{mask_told}
 use Rattle.surface_snapshots.specs.Parts.{flows_in, open_in, parts_from, raster_in, shifted_cycles}
 use Rattle.surface_snapshots.specs.Verdicts.{IsVerdict}
 use Rattle.surface_snapshots.proofs.ShiftedLemmas.{go_together}
@@ -14,7 +17,10 @@ invariant_of-surface c =
     record {
       tiling = c.requires.tiling;
       places = c.in_ok-tiled.ensures.tiling;
-      together = rw same (go_together c.args.session.now.scene c.args.mask.now c.args.regions.now c.args.tiles.now.results c.requires.across c.requires.along c.requires.tiles c.requires.regions);
+      together =
+          subst (λ (v : RegionsView). GoTogether c.args.session.now.scene (mask_told v) v c.args.tiles.now.results) (sym same)
+          (subst (λ (m : MaskView). GoTogether c.args.session.now.scene m c.args.regions.now c.args.tiles.now.results) c.told_by.ensures
+          (go_together c.args.session.now.scene c.args.mask.now c.args.regions.now c.requires.across c.requires.along c.requires.regions c.args.tiles.now.results c.requires.tiles));
       count = c.deref-2.ensures.len ∙ sym c.len.ensures ∙ c.if-len-count.false ∙ c.count.ensures.value ∙ sym (ap (λ (v : RegionsView). v.count) same);
       near = rw (c.deref-2.ensures.value) (rw c.deref.ensures.value at c.in_default.ensures.none);
     }
@@ -35,6 +41,7 @@ returns-in_default-2 c =
       );
       tiling = tt;
       regions = tt;
+      mask = tt;
       certified = tt;
       costs = tt;
     }

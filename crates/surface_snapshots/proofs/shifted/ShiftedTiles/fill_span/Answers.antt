@@ -2,11 +2,10 @@ use Rattle.std.proofs.Common.{◌≡◌, ◌∙◌, ◌+◌, ◌-◌, ◌<◌, �
 use Rattle.std.specs.Prelude.{ℤ, FitsSigned, unsigned_abs}
 use Rattle.std.proofs.lemmas.Int.{ints, to_z-of_z}
 use Rattle.raster_model.specs.declared.tiling.Window.{Window}
-use Rattle.raster_model.specs.Masks.{open_at}
 use Rattle.raster_model.specs.Tiles.{IsWithin, place_in, tile_at, window_of}
 use Rattle.certificates.specs.TileSets.{solved_cycles}
 use Rattle.surface_snapshots.specs.declared.shifted.ShiftedTiles.{ShiftedTiles}
-use Rattle.surface_snapshots.specs.Shifted.{HasCycles, IsSpan}
+use Rattle.surface_snapshots.specs.Shifted.{HasCycles, IsSpan, open_under}
 use Rattle.surface_snapshots.proofs.LevelLemmas.{its_window, row_reaches, same_tile}
 use Rattle.surface_snapshots.proofs.RowLemmas.{level_found, level_none}
 use Rattle.surface_snapshots.proofs.ShiftedLemmas.{place_is_in, solved_is}
@@ -42,13 +41,13 @@ module _ (s : ShiftedTiles) (w : Window) (x z y label : ℕ) (is : IsSpan s w x 
     module _ (cycles : List ℤ) (has : HasCycles s (tile_at s.scene.now.tiling x y) cycles) where
       has_place : place_in w x y + (c - x) < length cycles
       has_place =
-          omega (arith, place_there, ap length has.2, place_is_in s.scene.now (open_at s.mask.now) s.tiles.now.results s.together.tiles c y (tile_at s.scene.now.tiling x y) has.0 w there has.1 is.window within)
+          omega (arith, place_there, ap length has.2, place_is_in s.scene.now (open_under s) s.tiles.now.results s.together.tiles c y (tile_at s.scene.now.tiling x y) has.0 w there has.1 is.window within)
 
       cycles_there : slice_index_or cycles (place_in w x y + (c - x)) (pos 0) ≡ solved_cycles s.scene.now s.tiles.now.results c y
       cycles_there =
           ap (λ (i : ℕ). slice_index_or cycles i (pos 0)) (sym place_there)
           ∙ ap (λ (l : List ℤ). slice_index_or l (place_in w c y) (pos 0)) has.2
-          ∙ solved_is s.scene.now (open_at s.mask.now) s.tiles.now.results s.together.tiles c y (tile_at s.scene.now.tiling x y) has.0 w there has.1 is.window
+          ∙ solved_is s.scene.now (open_under s) s.tiles.now.results s.together.tiles c y (tile_at s.scene.now.tiling x y) has.0 w there has.1 is.window
 
 pub place-requires-clause-across : goal.place-requires-clause-across
 place-requires-clause-across c =

@@ -2,7 +2,8 @@ use Rattle.std.proofs.Common.{◌∙◌, ap, arith, to_z, of_z, w64, SFits, rule
 use Rattle.std.proofs.lemmas.Int.{to_z-of_z}
 use Rattle.std.proofs.lemmas.List.{length-set}
 use Rattle.surface_snapshots.specs.Parts.{value_or}
-use Rattle.surface_snapshots.specs.Tiled.{regions_in}
+use Rattle.surface_snapshots.specs.declared.tiled.TiledRegions.{TiledRegions}
+use Rattle.surface_snapshots.specs.Tiled.{mask_told, regions_in}
 use Rattle.surface_snapshots.specs.Views.{parts_of}
 use Rattle.surface_snapshots.proofs.RowLemmas.{level_same, rest_stays, row_more}
 use Rattle.surface_snapshots.proofs.snapshot.Snapshot.fill_row.Goals as goal
@@ -14,7 +15,7 @@ loop-x-init c =
     record {
       size = c.fill_row.ensures.same;
       front = λ x below. absurd (omega (arith, below));
-      rest = λ x from below. c.fill_row.ensures.front x (rw e.scene below) ∙ level_same c.shifted.result p x c.args.y e.scene e.mask (ap regions_in e.regions) e.tiles e.offsets;
+      rest = λ x from below. c.fill_row.ensures.front x (rw e.scene below) ∙ level_same c.shifted.result p x c.args.y e.scene (ap (λ (r : TiledRegions). mask_told (regions_in r)) e.regions) (ap regions_in e.regions) e.tiles e.offsets;
     }
 
 pub loop-x-preserved : goal.loop-x-preserved

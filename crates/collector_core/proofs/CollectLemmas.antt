@@ -12,7 +12,8 @@ use Rattle.certificates.specs.TileSets.{TileSetView, solved_cycles}
 use Rattle.seam_regions.specs.Regions.{AreRegionsOf}
 use Rattle.seam_regions.specs.RegionsView.{RegionsView}
 use Rattle.offset_network.specs.Surfaces.{IsGoodSeams}
-use Rattle.surface_snapshots.specs.Parts.{parts_from}
+use Rattle.surface_snapshots.specs.Parts.{Parts, parts_from}
+use Rattle.surface_snapshots.specs.SeamsView.{SeamsView, seams_of}
 use Rattle.surface_snapshots.specs.Verdicts.{IsVerdict}
 use Rattle.tile_board.specs.declared.gathered.Gathered.{Gathered}
 use Rattle.tile_board.specs.BoardView.{BoardView}
@@ -36,8 +37,10 @@ masks_agree : (v : BoardView) (m n : MaskView) → IsMaskNow v m → IsMaskNow v
 masks_agree v m n p q x y l h = p.clear_at x y l h ∙ sym (q.clear_at x y l h)
 
 -- of a session and offsets that are the same as others
-parts_are : (s t : Session) (m : MaskView) (v : RegionsView) (ks : TileSetView) (a b : SeamResult) → t ≡ s → b ≡ a → IsVerdict (parts_from s m v ks a) Good → IsVerdict (parts_from t m v ks b) Good
-parts_are s t m v ks a b p q good = subst (λ (u : Session). IsVerdict (parts_from u m v ks b) Good) (sym p) (subst (λ (k : SeamResult). IsVerdict (parts_from s m v ks k) Good) (sym q) good)
+parts_are : (s : Session) (p : Parts) (a : SeamResult) → p.session ≡ s → p.seams ≡ seams_of a → IsVerdict (parts_from s p.mask p.regions p.tiles a) Good → IsVerdict p Good
+parts_are s p a session seams good =
+    subst (λ (k : SeamsView). IsVerdict (record { session = p.session; mask = p.mask; regions = p.regions; tiles = p.tiles; seams = k }) Good) (sym seams)
+    (subst (λ (u : Session). IsVerdict (parts_from u p.mask p.regions p.tiles a) Good) (sym session) good)
 
 module _ (g : Gathered) (regions : RegionsView) (seams : SeamResult) (are : AreRegionsOf (arc_value g.session).scene.tiling g.mask regions) (good : IsGoodSeams (arc_value g.session).scene g.mask regions g.tiles seams) where
   certified : IsVerdict (parts_from (arc_value g.session) g.mask regions g.tiles seams) Good
@@ -51,7 +54,7 @@ module _ (g : Gathered) (regions : RegionsView) (seams : SeamResult) (are : AreR
       let s = arc_value g.session in
       let here : IsVerdict (parts_from v.session g.mask regions g.tiles seams) Good = subst (λ (u : Session). IsVerdict (parts_from u g.mask regions g.tiles seams) Good) gathering.session certified in
       let are_here : AreRegionsOf v.session.scene.tiling g.mask regions = subst (λ (u : Session). AreRegionsOf u.scene.tiling g.mask regions) gathering.session are in
-      parts_are v.session p.session p.mask p.regions p.tiles seams p.seams parts.session parts.seams
+      parts_are v.session p seams parts.session parts.seams
       (verdict_too v.session g.mask p.mask regions p.regions g.tiles p.tiles seams
       (masks_agree v g.mask p.mask gathering.mask parts.mask) are_here parts.regions
       (λ x y l h. solved_same v g.tiles p.tiles gathering.tiles parts.tiles x y) here)

@@ -63,7 +63,7 @@ long_if_small (negsuc n) lt = record { sfits = omega (arith, ints, lt) }
 least_long : IsLong (neg_ℤ (pos 9223372036854775808))
 least_long = record { sfits = omega arith }
 
-module _ (p : Parts) (tiles : AreGoodTiles p.session.scene (open_in p) p.tiles.results) (near : AreNear p.seams.offsets.items) (x y : ℕ) (across : x < p.session.scene.phase.width) (along : y < p.session.scene.phase.height) where
+module _ (p : Parts) (tiles : AreGoodTiles p.session.scene (open_in p) p.tiles.results) (near : AreNear p.seams.offsets) (x y : ℕ) (across : x < p.session.scene.phase.width) (along : y < p.session.scene.phase.height) where
   open_long : IsTrue (open_in p x y) → IsLong (surface_in p x y)
   open_long clear = long_if_small (surface_in p x y) (surface_small p tiles near x y across along clear)
 

@@ -57,17 +57,17 @@ module _ (s : Scene) (mask : Field Bool) (results : List TileResult) (tiles : Ar
 value_small : (n : ℕ) (a b : ℤ) → n ≤ 65535 → unsigned_abs a ≤ 8388608 → unsigned_abs b ≤ 2 ^ 46 → unsigned_abs (pos n +ℤ pos 65536 *ℤ (a +ℤ b)) < 2 ^ 63
 value_small n a b t u v = omega (arith, ints, t, u, v)
 
-pub surface_small : (p : Parts) → AreGoodTiles p.session.scene (open_in p) p.tiles.results → AreNear p.seams.offsets.items → (x y : ℕ) → x < p.session.scene.phase.width → y < p.session.scene.phase.height → IsTrue (open_in p x y) → unsigned_abs (surface_in p x y) < 2 ^ 63
+pub surface_small : (p : Parts) → AreGoodTiles p.session.scene (open_in p) p.tiles.results → AreNear p.seams.offsets → (x y : ℕ) → x < p.session.scene.phase.width → y < p.session.scene.phase.height → IsTrue (open_in p x y) → unsigned_abs (surface_in p x y) < 2 ^ 63
 surface_small p tiles near x y across along clear =
     let below = p.session.scene.phase.below (y * p.session.scene.phase.width + x) in
     let sample : (raster_in p).phase x y ≤ 65535 = omega (arith, below, p.session.scene.cycle) in
-    value_small ((raster_in p).phase x y) (solved_cycles p.session.scene p.tiles.results x y) (offset_at p.regions p.seams.offsets.items x y) sample
+    value_small ((raster_in p).phase x y) (solved_cycles p.session.scene p.tiles.results x y) (offset_at p.regions p.seams.offsets x y) sample
     (solved_small p.session.scene (open_in p) p.tiles.results tiles x y across along clear)
-    (offset_small p.regions p.seams.offsets.items near x y)
+    (offset_small p.regions p.seams.offsets near x y)
 
 -- so none is the least number of 64 bits
 not_least : (z : ℤ) → unsigned_abs z < 2 ^ 63 → z ≢ neg_ℤ (pos 9223372036854775808)
 not_least z small e = omega (arith, ints, small, e)
 
-pub value_is_told : (p : Parts) → AreGoodTiles p.session.scene (open_in p) p.tiles.results → AreNear p.seams.offsets.items → (x y : ℕ) → x < p.session.scene.phase.width → y < p.session.scene.phase.height → IsTrue (open_in p x y) → surface_in p x y ≢ neg_ℤ (pos 9223372036854775808)
+pub value_is_told : (p : Parts) → AreGoodTiles p.session.scene (open_in p) p.tiles.results → AreNear p.seams.offsets → (x y : ℕ) → x < p.session.scene.phase.width → y < p.session.scene.phase.height → IsTrue (open_in p x y) → surface_in p x y ≢ neg_ℤ (pos 9223372036854775808)
 value_is_told p tiles near x y across along clear = not_least (surface_in p x y) (surface_small p tiles near x y across along clear)

@@ -1,6 +1,6 @@
 -- A mask is told by its regions: a pixel is open exactly if its label is a region's number.
 use Rattle.std.proofs.Common.{◌≡◌, ◌∙◌, ℕ, ◌+◌, ◌*◌, ◌/◌, ◌%◌, ◌<◌, ap, sym, refl, arith, inl, inr, Bool, true, false, List, length}
-use Rattle.std.specs.Prelude.{IsTrue, map, nat_lt, slice_index, slice_index_or}
+use Rattle.std.specs.Prelude.{ℤ, IsTrue, map, nat_lt, slice_index, slice_index_or}
 use Rattle.std.proofs.lemmas.Bool.{cases_lt}
 use Rattle.std.proofs.lemmas.List.{ext_get_or, get_or-map, length-map}
 use Rattle.std.proofs.lemmas.Nat.{div-add-mod', mul-add-lt}
@@ -14,6 +14,7 @@ use Rattle.certificates.specs.TileSets.{TileSetView}
 use Rattle.seam_regions.specs.Regions.{AreRegionsOf, label_at}
 use Rattle.seam_regions.specs.RegionsView.{RegionsView}
 use Rattle.sums_and_lists.proofs.Orders.{lt_is, not_lt_is}
+use Rattle.surface_snapshots.specs.Kept.{parts_kept}
 use Rattle.surface_snapshots.specs.Parts.{parts_from}
 use Rattle.surface_snapshots.specs.Tiled.{mask_told, pixels_told}
 use Rattle.surface_snapshots.proofs.ShiftedLemmas.{label_below, label_open}
@@ -59,7 +60,9 @@ open_by_label v x y size across along =
     let inside : y * v.width + x < v.width * v.height = mul-add-lt y v.width x v.height along across in
     get_or-map (λ (l : ℕ). nat_lt l v.count) v.labels (y * v.width + x) 0 false (omega (arith, inside, size))
 
--- parts whose mask is told by their regions
-pub parts_told : (session : Session) (m : MaskView) (v w : RegionsView) (tiles : TileSetView) (seams : SeamResult) → m ≡ mask_told v → w ≡ v → parts_from session (mask_told w) w tiles seams ≡ parts_from session m v tiles seams
-parts_told session m v w tiles seams told same =
-    ap (λ (u : RegionsView). parts_from session (mask_told u) u tiles seams) same ∙ ap (λ (n : MaskView). parts_from session n v tiles seams) (sym told)
+-- the parts that are kept are those that were given
+pub parts_told : (session : Session) (m : MaskView) (v w : RegionsView) (tiles : TileSetView) (seams : SeamResult) (flows : List ℤ) → m ≡ mask_told v → w ≡ v → flows ≡ seams.flows.items → parts_kept session w tiles seams.revision seams.offsets.items flows ≡ parts_from session m v tiles seams
+parts_told session m v w tiles seams flows told same kept =
+    ap (λ (u : RegionsView). parts_kept session u tiles seams.revision seams.offsets.items flows) same
+    ∙ ap (λ (l : List ℤ). parts_kept session v tiles seams.revision seams.offsets.items l) kept
+    ∙ ap (λ (n : MaskView). parts_from session n v tiles seams) (sym told)

@@ -33,7 +33,7 @@ open_inner true false u v t i o = cc
 open_inner false o u v t i o' = cc
 
 module _ (p : Parts) (tiles : AreGoodTiles p.session.scene (open_in p) p.tiles.results) (regions : AreRegionsOf p.session.scene.tiling p.mask p.regions) where
-  offsets_at_ends : (e : Edge) → IsTrue (is_open_inner (raster_in p) (open_in p) e) → offset_at p.regions p.seams.offsets.items e.x e.y ≡ offset_at p.regions p.seams.offsets.items (end_x e) (end_y e)
+  offsets_at_ends : (e : Edge) → IsTrue (is_open_inner (raster_in p) (open_in p) e) → offset_at p.regions p.seams.offsets e.x e.y ≡ offset_at p.regions p.seams.offsets (end_x e) (end_y e)
   unfolding offset_at
   offsets_at_ends e i = rw (one_label_at_ends (raster_in p) (open_in p) (label_at p.regions) p.regions.count (regions_of_scene p.session.scene p.mask p.regions regions).labelling e i) refl
 

@@ -51,7 +51,7 @@ module _ (s : ShiftedTiles) (x y : ℕ) where
         go false e = refl
         go true e = absurd (omega (arith, past, s.together.below x y across along e, s.count))
 
-pub level_same : (s : ShiftedTiles) (p : Parts) (x y : ℕ) → s.scene.now ≡ p.session.scene → mask_under s ≡ p.mask → regions_in s.regions.now ≡ p.regions → s.tiles.now ≡ p.tiles → s.offsets.now ≡ p.seams.offsets.items → level_at s x y ≡ level_in p x y
+pub level_same : (s : ShiftedTiles) (p : Parts) (x y : ℕ) → s.scene.now ≡ p.session.scene → mask_under s ≡ p.mask → regions_in s.regions.now ≡ p.regions → s.tiles.now ≡ p.tiles → s.offsets.now ≡ p.seams.offsets → level_at s x y ≡ level_in p x y
 unfolding level_at
 level_same s p x y scene mask regions tiles offsets =
     let cycles : cycles_under s x y ≡ cycles_in_parts p x y = rw (scene, regions, tiles, offsets) refl in
@@ -79,10 +79,10 @@ row_listed s y list row room is front =
     }
 
 -- what is above the phase at a pixel of parts: cycles, which are few, where it is open, and none where it is masked
-module _ (p : Parts) (tiles : AreGoodTiles p.session.scene (open_in p) p.tiles.results) (near : AreNear p.seams.offsets.items) (x y : ℕ) (across : x < p.session.scene.phase.width) (along : y < p.session.scene.phase.height) where
+module _ (p : Parts) (tiles : AreGoodTiles p.session.scene (open_in p) p.tiles.results) (near : AreNear p.seams.offsets) (x y : ℕ) (across : x < p.session.scene.phase.width) (along : y < p.session.scene.phase.height) where
   few_cycles : IsTrue (open_in p x y) → unsigned_abs (cycles_in_parts p x y) ≤ 2 ^ 46 + 8388608
   few_cycles clear =
-      omega (arith, ints, solved_small p.session.scene (open_in p) p.tiles.results tiles x y across along clear, offset_small p.regions p.seams.offsets.items near x y)
+      omega (arith, ints, solved_small p.session.scene (open_in p) p.tiles.results tiles x y across along clear, offset_small p.regions p.seams.offsets near x y)
 
   not_none : (z : ℤ) → unsigned_abs z ≤ 2 ^ 46 + 8388608 → z ≡ no_cycles → ⊥
   not_none z small e = omega (arith, ints, small, e)

@@ -35,7 +35,7 @@ module _ (s : Scene) (m : MaskView) (v : RegionsView) (is : AreRegionsOf s.tilin
       (rw (values, counted) at h)
 
 -- ---- what the check of the flows says is the verdict, where the offsets are in order
-pub judged : (p : Parts) (verdict : SeamVerdict) → HasOffsets p → AreNear p.seams.offsets.items → IsFlowsVerdict p verdict → IsVerdict p verdict
+pub judged : (p : Parts) (verdict : SeamVerdict) → HasOffsets p → AreNear p.seams.offsets → IsFlowsVerdict p verdict → IsVerdict p verdict
 judged p Good o n f = (o, n, f)
 judged p Shape o n f = inr (o, n, f)
 judged p (Range v) o n f = absurd f
@@ -49,15 +49,15 @@ record IsTooFar (p : Parts) (verdict : SeamVerdict) : Type 0 where
   region : ℕ
   is : verdict ≡ Range region
   offsets : HasOffsets p
-  first : IsFirstFar p.seams.offsets.items region
+  first : IsFirstFar p.seams.offsets region
 
 record IsOfFlows (p : Parts) (verdict : SeamVerdict) : Type 0 where
   offsets : HasOffsets p
-  near : AreNear p.seams.offsets.items
+  near : AreNear p.seams.offsets
   says : IsFlowsVerdict p verdict
 
 abbrev Kinds : Parts → SeamVerdict → Type 0
-Kinds p verdict = ((verdict ≡ Shape) × (length p.seams.offsets.items ≢ p.regions.count)) ⊎ (IsTooFar p verdict ⊎ IsOfFlows p verdict)
+Kinds p verdict = ((verdict ≡ Shape) × (length p.seams.offsets ≢ p.regions.count)) ⊎ (IsTooFar p verdict ⊎ IsOfFlows p verdict)
 
 kind_of : (p : Parts) (verdict : SeamVerdict) → IsVerdict p verdict → Kinds p verdict
 kind_of p Good h = inr (inr (record { offsets = h.0; near = h.1; says = h.2 }))
@@ -69,7 +69,7 @@ kind_of p (FlowAtEdge e) h = inr (inr (record { offsets = h.0; near = h.1; says 
 kind_of p (Unbalanced v) h = inr (inr (record { offsets = h.0; near = h.1; says = h.2 }))
 kind_of p (CostDiffers cost bound) h = inr (inr (record { offsets = h.0; near = h.1; says = h.2 }))
 
-one_far : (p : Parts) (u v : ℕ) → IsFirstFar p.seams.offsets.items u → IsFirstFar p.seams.offsets.items v → u ≡ v
+one_far : (p : Parts) (u v : ℕ) → IsFirstFar p.seams.offsets u → IsFirstFar p.seams.offsets v → u ≡ v
 one_far p u v f g = elim (cases_order u v) [
   | inl e ↦ e
   | inr (inl l) ↦ absurd (f.far (g.first u l))

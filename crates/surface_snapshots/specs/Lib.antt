@@ -1,3 +1,4 @@
+pub mod SeamsView
 pub mod Parts
 pub mod Verdicts
 pub mod Views
@@ -6,3 +7,4 @@ pub mod Shifted
 pub mod Runs
 pub mod Packing
 pub mod Tiled
+pub mod Kept

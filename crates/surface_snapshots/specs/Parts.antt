@@ -17,6 +17,7 @@ use Rattle.certificates.specs.Results.{IsGoodTile}
 use Rattle.certificates.specs.TileSets.{HasOneForEach, TileSetView, solved_cycles}
 use Rattle.seam_regions.specs.Regions.{shifted_by}
 use Rattle.seam_regions.specs.RegionsView.{RegionsView}
+use Rattle.surface_snapshots.specs.SeamsView.{SeamsView, seams_of}
 use Rattle.sums_and_lists.specs.Sums.{sum_below}
 
 pub record Parts : Type 0 where
@@ -24,10 +25,10 @@ pub record Parts : Type 0 where
   pub mask : MaskView
   pub regions : RegionsView
   pub tiles : TileSetView
-  pub seams : SeamResult
+  pub seams : SeamsView
 
 abbrev pub parts_from : Session → MaskView → RegionsView → TileSetView → SeamResult → Parts
-parts_from session mask regions tiles seams = record { session = session; mask = mask; regions = regions; tiles = tiles; seams = seams }
+parts_from session mask regions tiles seams = record { session = session; mask = mask; regions = regions; tiles = tiles; seams = seams_of seams }
 
 -- what the definitions read of the scene, and which pixels are open
 abbrev pub raster_in : Parts → Raster
@@ -53,7 +54,7 @@ abbrev pub shifted_cycles : Scene → RegionsView → List TileResult → List �
 shifted_cycles s v results offsets = shifted_by v offsets (solved_cycles s results)
 
 abbrev pub cycles_in_parts : Parts → Field ℤ
-cycles_in_parts p = shifted_cycles p.session.scene p.regions p.tiles.results p.seams.offsets.items
+cycles_in_parts p = shifted_cycles p.session.scene p.regions p.tiles.results p.seams.offsets
 
 abbrev pub surface_in : Parts → Field ℤ
 surface_in p = lifted (raster_in p) (cycles_in_parts p)
@@ -75,7 +76,7 @@ abbrev pub faces_in : Parts → ℕ → List ℤ
 faces_in p t = faces_of (slice_get p.tiles.results t)
 
 abbrev pub flows_in : Parts → List ℤ
-flows_in p = p.seams.flows.items
+flows_in p = p.seams.flows
 
 -- what all tiles cost together
 unfoldable pub tile_costs : Raster → Field Bool → Field ℤ → ℤ

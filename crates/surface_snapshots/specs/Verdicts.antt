@@ -10,7 +10,7 @@ use Rattle.surface_snapshots.specs.Parts.{Parts, raster_in, open_in, cycles_in_p
 
 -- there is an offset for each region
 abbrev pub HasOffsets : Parts → Type 0
-HasOffsets p = length p.seams.offsets.items ≡ p.regions.count
+HasOffsets p = length p.seams.offsets ≡ p.regions.count
 
 -- region v is the first whose offset is out of range
 pub record IsFirstFar (offsets : List ℤ) (v : ℕ) : Type 0 where
@@ -24,14 +24,14 @@ IsFlowsVerdict p = IsSeamVerdict (raster_in p) (open_in p) (label_at p.regions) 
 
 -- the verdict: the number of the offsets, then their range, then what the check of the flows says
 abbrev pub IsVerdict : Parts → SeamVerdict → Type 0
-IsVerdict p Shape = (length p.seams.offsets.items ≢ p.regions.count) ⊎ (HasOffsets p × AreNear p.seams.offsets.items × IsFlowsVerdict p Shape)
-IsVerdict p (Range v) = HasOffsets p × IsFirstFar p.seams.offsets.items v
-IsVerdict p verdict = HasOffsets p × AreNear p.seams.offsets.items × IsFlowsVerdict p verdict
+IsVerdict p Shape = (length p.seams.offsets ≢ p.regions.count) ⊎ (HasOffsets p × AreNear p.seams.offsets × IsFlowsVerdict p Shape)
+IsVerdict p (Range v) = HasOffsets p × IsFirstFar p.seams.offsets v
+IsVerdict p verdict = HasOffsets p × AreNear p.seams.offsets × IsFlowsVerdict p verdict
 
 -- why no snapshot is made of the parts: a verdict other than Good, or lack of memory, which is told only of offsets that are right in number and range
 abbrev pub IsFault : Parts → BuildFault → Type 0
 IsFault p (Uncertified verdict) = (verdict ≢ Good) × IsVerdict p verdict
-IsFault p Memory = HasOffsets p × AreNear p.seams.offsets.items
+IsFault p Memory = HasOffsets p × AreNear p.seams.offsets
 
 -- no parts have two verdicts, if the regions are the mask's
 abbrev pub PartsHaveOneVerdict : Type 0

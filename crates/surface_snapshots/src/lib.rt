@@ -7,6 +7,7 @@ mod costs;
 mod counting;
 mod fault;
 mod finding;
+mod flows;
 pub mod laws;
 mod levels;
 mod offsets;

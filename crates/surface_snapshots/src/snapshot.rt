@@ -2,11 +2,13 @@ ghost use Rattle.raster_model.specs.Masks.{open_at};
 ghost use Rattle.std.specs.Arc.{arc_value};
 ghost use Rattle.std.specs.Prelude.{◌≡◌, ◌<◌, ◌≤◌, ◌+◌, ◌^◌, ◌+ℤ◌, ◌*ℤ◌, length, pos, unsigned_abs};
 ghost use Rattle.surface_snapshots.specs.Loops.{GoTogether};
+ghost use Rattle.surface_snapshots.specs.Kept.{parts_kept};
 ghost use Rattle.surface_snapshots.specs.Parts.{AreNear, HaveCosts, IsPublished, parts_from};
 ghost use Rattle.surface_snapshots.specs.Tiled.{mask_told, regions_in};
 
 use crate::costs::certified_costs;
 use crate::fault::BuildFault;
+use crate::flows::{shared_flows, to_share};
 use crate::shifted::{NO_CYCLES, ShiftedTiles};
 use crate::tiled::TiledRegions;
 use certificates::{SeamResult, TileSet};
@@ -30,16 +32,18 @@ pub struct Snapshot {
     session: Arc<Session>,
     regions: TiledRegions,
     tiles: TileSet,
-    seams: SeamResult,
+    revision: u32,
+    offsets: Vec<i64>,
+    flows: Arc<Vec<i64>>,
     tile_cost: u128,
     seam_cost: u128,
     ghost together: { GoTogether (arc_value session).scene (mask_told (regions_in regions)) (regions_in regions) tiles.results },
     ghost tiling: { tiles.tiling ≡ (arc_value session).scene.tiling },
     ghost places: { regions.tiling ≡ (arc_value session).scene.tiling },
-    ghost count: { length seams.offsets.items ≡ (regions_in regions).count },
-    ghost near: { AreNear seams.offsets.items },
-    pub ghost published: { IsPublished (parts_from (arc_value session) (mask_told (regions_in regions)) (regions_in regions) tiles seams) },
-    pub ghost costs: { HaveCosts (parts_from (arc_value session) (mask_told (regions_in regions)) (regions_in regions) tiles seams) tile_cost seam_cost },
+    ghost count: { length offsets.items ≡ (regions_in regions).count },
+    ghost near: { AreNear offsets.items },
+    pub ghost published: { IsPublished (parts_kept (arc_value session) (regions_in regions) tiles revision offsets.items (arc_value flows).items) },
+    pub ghost costs: { HaveCosts (parts_kept (arc_value session) (regions_in regions) tiles revision offsets.items (arc_value flows).items) tile_cost seam_cost },
 }
 
 impl Heights for Snapshot {
@@ -103,17 +107,21 @@ impl Snapshot {
     {
         let certified = certified_costs(alloc, &session, &mask, &regions, &tiles, &seams)?;
         let costs = certified.costs;
+        let flows = to_share(alloc, seams.flows)?;
         Ok(Snapshot {
             session,
             regions: certified.regions,
             tiles,
-            seams,
+            revision: seams.revision,
+            offsets: seams.offsets,
+            flows,
             tile_cost: costs.tiles,
             seam_cost: costs.seams,
         })
     }
 
-    /// The same snapshot. What it keeps of a tile's regions is shared with an earlier one, if that has the same.
+    /// The same snapshot. What it keeps of a tile's regions, and its flows, are shared with an earlier one, if that has
+    /// the same.
     pub fn sharing(self, earlier: &Snapshot) -> Snapshot
         ensures { parts_of result ≡ parts_of self }
     {
@@ -121,7 +129,9 @@ impl Snapshot {
             session: self.session,
             regions: self.regions.sharing(&earlier.regions),
             tiles: self.tiles,
-            seams: self.seams,
+            revision: self.revision,
+            offsets: self.offsets,
+            flows: shared_flows(self.flows, &earlier.flows),
             tile_cost: self.tile_cost,
             seam_cost: self.seam_cost,
         }
@@ -145,7 +155,7 @@ impl Snapshot {
     pub fn revision(&self) -> u32
         ensures { result ≡ (parts_of self.now).seams.revision }
     {
-        self.seams.revision
+        self.revision
     }
 
     /// What all tiles cost together. (Costantini 1998.)
@@ -174,7 +184,7 @@ impl Snapshot {
     pub fn flows(&self) -> &[i64]
         ensures { result.now ≡ flows_in (parts_of self.now) }
     {
-        &self.seams.flows
+        &self.flows
     }
 
     /// The surface's value at a pixel, in units of 1/65536 cycle; None exactly if the pixel is masked.
@@ -223,13 +233,13 @@ impl Snapshot {
         ensures scene { result.scene.now ≡ (arc_value self.now.session).scene }
         ensures regions { result.regions.now ≡ self.now.regions }
         ensures tiles { result.tiles.now ≡ self.now.tiles }
-        ensures offsets { result.offsets.now ≡ self.now.seams.offsets.items }
+        ensures offsets { result.offsets.now ≡ self.now.offsets.items }
     {
         ShiftedTiles {
             scene: &self.session.scene,
             regions: &self.regions,
             tiles: &self.tiles,
-            offsets: &self.seams.offsets,
+            offsets: &self.offsets,
         }
     }
 }

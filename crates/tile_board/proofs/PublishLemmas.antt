@@ -13,6 +13,7 @@ use Rattle.seam_regions.specs.RegionsView.{RegionsView as RegionsOf}
 use Rattle.surface_snapshots.specs.declared.fault.BuildFault.{BuildFault}
 use Rattle.surface_snapshots.specs.declared.fault.BuildFault.TheVariants.{Uncertified, Memory}
 use Rattle.surface_snapshots.specs.Parts.{AreGoodTiles, IsPublished, Parts, open_in, parts_from}
+use Rattle.surface_snapshots.specs.SeamsView.{SeamsView}
 use Rattle.surface_snapshots.specs.Verdicts.{IsFault, IsVerdict}
 use Rattle.tile_board.specs.declared.answers.PublishFault.{PublishFault}
 use Rattle.tile_board.specs.declared.answers.PublishFault.TheVariants as publish_faults
@@ -46,7 +47,7 @@ module _ {s : Session} {H : List Entry} {kept : List (Option TileResult)} {surfa
 
   pub surface_is : seams.revision ≡ now_of H → IsPublished p → IsVerdict p Good → IsSurfaceOf s H p
   surface_is present published verdict =
-      let here : p.seams.revision ≡ now_of H = ap (λ (r : SeamResult). r.revision) are.seams ∙ present in
+      let here : p.seams.revision ≡ now_of H = ap (λ (r : SeamsView). r.revision) are.seams ∙ present in
       record {
         revision = omega (arith, here);
         session = are.session;

@@ -18,6 +18,7 @@ use Rattle.mask_revisions.specs.Edits.{differ_in}
 use Rattle.mask_revisions.specs.Revisions.{IsWindowMask}
 use Rattle.seam_regions.specs.Regions.{AreRegionsOf}
 use Rattle.surface_snapshots.specs.Parts.{Parts, IsPublished}
+use Rattle.surface_snapshots.specs.SeamsView.{seams_of}
 use Rattle.surface_snapshots.specs.Verdicts.{IsVerdict}
 use Rattle.tile_board.specs.declared.answers.Advance.{Advance}
 use Rattle.tile_board.specs.declared.answers.Advance.TheVariants as advances
@@ -121,7 +122,7 @@ pub record ArePublishable (v : BoardView) (found : SeamResult) (p : Parts) : Typ
   pub mask : IsMaskNow v p.mask
   pub regions : AreRegionsOf v.session.scene.tiling p.mask p.regions
   pub tiles : AreKeptResults v p.tiles
-  pub seams : p.seams ≡ found
+  pub seams : p.seams ≡ seams_of found
 
 pub record IsPublication (old new : BoardView) (a : ℕ) (seams : SeamResult) : Type 0 where
   pub adds : Adds old new (Published a seams.revision)

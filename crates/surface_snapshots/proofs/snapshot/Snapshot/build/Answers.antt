@@ -18,7 +18,7 @@ pub invariant_of-result : goal.invariant_of-result
 invariant_of-result c =
     let p = parts_from (arc_value c.args.session) c.args.mask c.args.regions c.args.tiles c.args.seams in
     let e = c.in_ok-certified.ensures in
-    let same = sym (parts_told (arc_value c.args.session) c.args.mask c.args.regions (regions_in c.in_ok-certified.certified.regions) c.args.tiles c.args.seams e.mask e.regions) in
+    let same = sym (parts_told (arc_value c.args.session) c.args.mask c.args.regions (regions_in c.in_ok-certified.certified.regions) c.args.tiles c.args.seams (arc_value c.in_ok-flows.flows).items e.mask e.regions c.in_ok-flows.ensures) in
     let certified = rw c.deref.ensures at e.certified in
     record {
       together = subst (λ (q : Parts). GoTogether q.session.scene q.mask q.regions q.tiles.results) same (go_together p.session.scene c.args.mask c.args.regions c.requires.across c.requires.along c.requires.regions c.args.tiles.results c.requires.tiles);
@@ -32,21 +32,21 @@ invariant_of-result c =
 
 pub returns-clause-parts : goal.returns-clause-parts
 returns-clause-parts c =
-    parts_told (arc_value c.args.session) c.args.mask c.args.regions (regions_in c.in_ok-certified.certified.regions) c.args.tiles c.args.seams c.in_ok-certified.ensures.mask c.in_ok-certified.ensures.regions
+    parts_told (arc_value c.args.session) c.args.mask c.args.regions (regions_in c.in_ok-certified.certified.regions) c.args.tiles c.args.seams (arc_value c.in_ok-flows.flows).items c.in_ok-certified.ensures.mask c.in_ok-certified.ensures.regions c.in_ok-flows.ensures
 
 pub returns-clause-certified : goal.returns-clause-certified
 returns-clause-certified c =
-    let same = sym (parts_told (arc_value c.args.session) c.args.mask c.args.regions (regions_in c.in_ok-certified.certified.regions) c.args.tiles c.args.seams c.in_ok-certified.ensures.mask c.in_ok-certified.ensures.regions) in
+    let same = sym (parts_told (arc_value c.args.session) c.args.mask c.args.regions (regions_in c.in_ok-certified.certified.regions) c.args.tiles c.args.seams (arc_value c.in_ok-flows.flows).items c.in_ok-certified.ensures.mask c.in_ok-certified.ensures.regions c.in_ok-flows.ensures) in
     subst (λ (q : Parts). IsVerdict q Good) same (rw c.deref.ensures at c.in_ok-certified.ensures.certified)
 
 pub returns-clause-anchored : goal.returns-clause-anchored
 returns-clause-anchored c =
     let p = parts_from (arc_value c.args.session) c.args.mask c.args.regions c.args.tiles c.args.seams in
-    let same = sym (parts_told (arc_value c.args.session) c.args.mask c.args.regions (regions_in c.in_ok-certified.certified.regions) c.args.tiles c.args.seams c.in_ok-certified.ensures.mask c.in_ok-certified.ensures.regions) in
+    let same = sym (parts_told (arc_value c.args.session) c.args.mask c.args.regions (regions_in c.in_ok-certified.certified.regions) c.args.tiles c.args.seams (arc_value c.in_ok-flows.flows).items c.in_ok-certified.ensures.mask c.in_ok-certified.ensures.regions c.in_ok-flows.ensures) in
     subst (λ (q : Parts). IsAnchored (raster_in q) (open_in q) (surface_in q)) same ((published p c.requires.tiles c.requires.regions (rw c.deref.ensures at c.in_ok-certified.ensures.certified)).anchored)
 
 pub returns-clause-best : goal.returns-clause-best
 returns-clause-best c =
     let p = parts_from (arc_value c.args.session) c.args.mask c.args.regions c.args.tiles c.args.seams in
-    let same = sym (parts_told (arc_value c.args.session) c.args.mask c.args.regions (regions_in c.in_ok-certified.certified.regions) c.args.tiles c.args.seams c.in_ok-certified.ensures.mask c.in_ok-certified.ensures.regions) in
+    let same = sym (parts_told (arc_value c.args.session) c.args.mask c.args.regions (regions_in c.in_ok-certified.certified.regions) c.args.tiles c.args.seams (arc_value c.in_ok-flows.flows).items c.in_ok-certified.ensures.mask c.in_ok-certified.ensures.regions c.in_ok-flows.ensures) in
     subst (λ (q : Parts). IsBest (raster_in q) (open_in q) (surface_in q)) same (published_is_best p (published p c.requires.tiles c.requires.regions (rw c.deref.ensures at c.in_ok-certified.ensures.certified)))

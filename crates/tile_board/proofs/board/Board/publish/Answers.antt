@@ -3,8 +3,8 @@ use Rattle.std.specs.Prelude.{Some, map}
 use Rattle.std.specs.Arc.{arc_value}
 use Rattle.std.proofs.lemmas.List.{map_push}
 use Rattle.raster_model.specs.declared.script.Command.TheVariants.{Settle}
-use Rattle.certificates.specs.declared.results.SeamResult.{SeamResult}
 use Rattle.surface_snapshots.specs.declared.snapshot.Snapshot.{Snapshot}
+use Rattle.surface_snapshots.specs.SeamsView.{SeamsView}
 use Rattle.surface_snapshots.specs.Views.{parts_of}
 use Rattle.tile_board.specs.declared.entry.Entry.{Entry}
 use Rattle.tile_board.specs.declared.entry.Entry.TheVariants.{Published}
@@ -40,7 +40,7 @@ invariant_of-self-2 c =
     let entries = c.push_within.ensures.items ∙ ap (λ (es : List Entry). es ++ (Published c.args.analyst c.args.seams.revision ∷ [])) c.in_ok-reserve.ensures.items in
     let surfaces = ap (map parts_of) (c.push_within-2.ensures.items ∙ ap (λ (ss : List Snapshot). ss ++ (c.in_ok-snapshot.snapshot ∷ [])) c.in_ok-reserve-2.ensures.items) ∙ map_push parts_of i.snapshots.items c.in_ok-snapshot.snapshot in
     let is = surface_is c.self.invariant c.args.seams p parts fresh.0.1 c.in_ok-snapshot.ensures.certified c.in_ok-snapshot.ensures.verdict in
-    state_published c.self.invariant c.args.analyst c.args.seams.revision c.index_mut.result.now c.push_within.new.items.items (map parts_of c.push_within-2.new.items.items) p entries surfaces (fresh.0.0, fresh.0.1, fresh.1, ready) (ap (λ (r : SeamResult). r.revision) parts.seams) is c.index_mut.ensures.value
+    state_published c.self.invariant c.args.analyst c.args.seams.revision c.index_mut.result.now c.push_within.new.items.items (map parts_of c.push_within-2.new.items.items) p entries surfaces (fresh.0.0, fresh.0.1, fresh.1, ready) (ap (λ (r : SeamsView). r.revision) parts.seams) is c.index_mut.ensures.value
 
 pub returns-clause-published : goal.returns-clause-published
 returns-clause-published c =

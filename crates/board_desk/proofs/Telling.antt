@@ -2,12 +2,14 @@
 use Rattle.std.proofs.Common.{◌≡◌, ◌≢◌, ◌∙◌, ℕ, ◌==◌, Bool, true, cond, List, [], ◌∷◌, ◌++◌, Option, Some, None, Result, Ok, Err, length, slice_get, refl, ap, sym, subst}
 use Rattle.std.proofs.lemmas.Bool.{eq-eqb}
 use Rattle.std.specs.Result.{OnErr, OnOk}
+use mathlib.Core.List.{IsPrefix}
 use Rattle.atomic_table.specs.Seated.{TableId}
 use Rattle.raster_model.specs.declared.script.Command.{Command}
 use Rattle.raster_model.specs.declared.script.Command.TheVariants.{Change, Settle, Show}
 use Rattle.raster_model.specs.declared.script.Edit.{Edit}
 use Rattle.raster_model.specs.declared.session.Session.{Session}
 use Rattle.certificates.specs.declared.results.SeamResult.{SeamResult}
+use Rattle.certificates.specs.declared.results.TileResult.{TileResult}
 use Rattle.tile_board.specs.declared.answers.Advance.{Advance}
 use Rattle.tile_board.specs.declared.answers.Advance.TheVariants as advances
 use Rattle.tile_board.specs.declared.answers.AdvanceFault.{AdvanceFault}
@@ -16,7 +18,7 @@ use Rattle.tile_board.specs.declared.answers.PublishFault.TheVariants as publish
 use Rattle.tile_board.specs.declared.entry.Entry.{Entry}
 use Rattle.tile_board.specs.declared.entry.Entry.TheVariants.{Published, Revised, Settled, Shown}
 use Rattle.tile_board.specs.BoardView.{BoardView}
-use Rattle.tile_board.specs.Calls.{IsAdvance, IsPublication}
+use Rattle.tile_board.specs.Calls.{IsPublication, WasGood, WasGoodAt}
 use Rattle.tile_board.specs.Histories.{names, next_command, script_of}
 use Rattle.board_desk.specs.Answers.{AdvanceAnswers, AwaitsSurface, IsOfSettle, OwnAdvance, OwnPublish, PublishAnswers}
 use Rattle.board_desk.specs.Mine.{mine_of}
@@ -36,6 +38,14 @@ not_moved t u e m n k b c p view held back grows =
       mine = after ∙ (same ∙ (sym held.exact ∙ ap (λ (x : PassView). x.mine) view));
       ended = ap (λ (x : PassView). x.ended) view;
     }
+
+-- ---- what was good at the end of what a pass had seen
+pub was_good : (t : TableId) (e : Bool) (m n : Place) (b : BoardView) (p : PassView) (s : Session) (k : TileResult) → pass_view t m e ≡ p → p.session ≡ Some s → Held m.0 b n → WasGoodAt s p.seen k → WasGood b k
+was_good t e m n b p s k view of held was = record {
+  earlier = p.seen;
+  begins = subst (λ (x : PassView). IsPrefix x.seen b.entries) view held.begins;
+  was = subst (λ (x : Session). WasGoodAt x p.seen k) (held.session_is s (ap (λ (x : PassView). x.session) view ∙ of)) was;
+}
 
 -- ---- calls in an analyst's name
 pub some_of : (o : Option ℕ) → o ≢ None → (a : ℕ) × (o ≡ Some a)

@@ -44,6 +44,7 @@ impl Desk {
     ghost use Rattle.std.specs.Prelude.{◌≡◌, ◌≢◌, ◌||◌, [], All, Err, IfOk, None, OnOk, length, vec_len};
     ghost use Rattle.tile_board.specs.declared.answers.PublishFault.TheVariants.{NotSettle};
     ghost use Rattle.tile_board.specs.Boards.{IsBoard};
+    ghost use Rattle.tile_board.specs.Calls.{WasGoodAt};
 
     /// The desk of a board whose history is empty, and the passes of the analysts, from analyst 1 on. It fails only for
     /// lack of memory.
@@ -137,6 +138,31 @@ impl Desk {
     {
         let mut board = take_board(rt, &self.table.shared, &mut pass.seat);
         let answer = board.keep(alloc, solved);
+        pass.heard = Heard::of(&board, pass.analyst);
+        give_board(&self.table.shared, &mut pass.seat, board);
+        Stamped {
+            front: pass.heard.front,
+            answer,
+        }
+    }
+
+    /// Hands in a tile's result that was good at the end of what the pass has seen, to be kept as by
+    /// `Board::keep_solved`. It is not checked again.
+    pub fn keep_solved<R: Wait>(
+        &self,
+        rt: &R,
+        alloc: Global,
+        pass: &mut Pass,
+        solved: TileResult,
+    ) -> Stamped<Result<(), KeepFault>>
+        requires pass { IsPassOf self.now pass.old }
+        requires good { WasGoodAt self.now.session pass.old.seen solved }
+        ensures call { Called self.now.session pass.old pass.new (KeepAnswers solved result.answer) }
+        ensures own { HasNotMoved pass.old pass.new }
+        ensures front { result.front ≡ length pass.new.seen }
+    {
+        let mut board = take_board(rt, &self.table.shared, &mut pass.seat);
+        let answer = board.keep_solved(alloc, solved);
         pass.heard = Heard::of(&board, pass.analyst);
         give_board(&self.table.shared, &mut pass.seat, board);
         Stamped {

@@ -79,7 +79,7 @@ fn keep(alloc: Global, board: &mut Board, solved: TileResult) -> Result<(), Allo
     ensures kept { OnOk result (IsKeep board.old board.new solved) }
     ensures unchanged { OnErr result (board.new ≡ board.old) }
 {
-    match board.keep(alloc, solved) {
+    match board.keep_solved(alloc, solved) {
         Ok(()) => Ok(()),
         Err(KeepFault::Memory) => Err(AllocError),
         Err(

@@ -1,21 +1,20 @@
 -- The laws.
-use Rattle.std.proofs.Common.{◌≡◌, ◌≢◌, ℕ, zero, suc, ◌+◌, ◌-◌, ◌<◌, ◌≤◌, ◌⊎◌, inl, inr, sym, ◌∙◌, ap, refl, subst, arith, List, [], ◌∷◌, ◌++◌, length, take}
+use Rattle.std.proofs.Common.{◌≡◌, ◌≢◌, ℕ, zero, suc, ◌+◌, ◌-◌, ◌<◌, ◌≤◌, ◌⊎◌, inl, inr, sym, ◌∙◌, ap, refl, subst, arith, List, [], ◌∷◌, ◌++◌, take}
 use Rattle.std.specs.Prelude.{Option, Some, None, slice_get, ⊤}
 use Rattle.raster_model.specs.declared.session.Session.{Session}
-use Rattle.raster_model.specs.Masks.{open_at}
 use Rattle.raster_model.specs.Tiles.{tile_at}
-use Rattle.mask_revisions.proofs.CallerLemmas.{same_since_stamp}
 use Rattle.tile_board.specs.declared.answers.Advance.{Advance}
 use Rattle.tile_board.specs.declared.answers.Advance.TheVariants as advances
 use Rattle.tile_board.specs.declared.entry.Entry.{Entry}
 use Rattle.tile_board.specs.declared.entry.Entry.TheVariants.{Revised, Kept, Published, Settled, Shown}
 use Rattle.tile_board.specs.BoardView.{BoardView}
 use Rattle.tile_board.specs.Calls.{Adds, IsAdvance}
-use Rattle.tile_board.specs.Histories.{IsLegal, IsStep, edits_of, mask_in, newest_of, now_of, present_mask, stamp_in}
+use Rattle.tile_board.specs.Histories.{IsLegal, IsStep, mask_in, newest_of, now_of, present_mask}
 use Rattle.tile_board.specs.Runs.{Call, IsCall, LeadTo, IsNoLater, NamesRevision, ShownAreNewest, PublishedRise, EveryHistoryIsLegal, LegalHistoriesMoveOn, HeldAreGoodAtStamp}
 use Rattle.tile_board.specs.Runs.Call.{Keeps, Publishes, Advances, Other}
-use Rattle.tile_board.proofs.HistoryLemmas.{legal_none, legal_push, legal_take, newest_more, newest_same, newest_within, present_is, stamp_within}
+use Rattle.tile_board.proofs.HistoryLemmas.{legal_none, legal_push, legal_take, newest_more, newest_same, newest_within}
 use Rattle.tile_board.proofs.KeptLemmas.{good_across}
+use Rattle.tile_board.proofs.EarlierLemmas.{same_at_stamp}
 use Rattle.tile_board.proofs.ListLemmas.{take_none, take_one}
 
 -- ---- every call
@@ -145,7 +144,4 @@ pub held_are_good_at_stamp : HeldAreGoodAtStamp
 held_are_good_at_stamp s H t k l held = (good_across s (present_mask s H) (mask_in s H k.stamp) k (rw held.tile l) (λ x y a b e. sym (same x y a b (e ∙ held.tile))) held.good, same)
   where
     same : (x y : ℕ) → x < s.scene.tiling.width → y < s.scene.tiling.height → tile_at s.scene.tiling x y ≡ t → mask_in s H k.stamp x y ≡ present_mask s H x y
-    same x y a b e =
-        let low : stamp_in s H (tile_at s.scene.tiling x y) ≤ k.stamp = omega (arith, held.stamp, ap (stamp_in s H) e) in
-        let high : k.stamp ≤ length (edits_of H) = omega (arith, held.stamp, stamp_within s H t) in
-        rw (present_is s H) (same_since_stamp s.scene.tiling (open_at s.first_mask) (edits_of H) x y a b k.stamp low high)
+    same x y a b e = same_at_stamp s H t k.stamp x y held.stamp a b e

@@ -8,6 +8,7 @@ pub mod StateLemmas
 pub mod HeldLemmas
 pub mod VerdictLemmas
 pub mod KeptLemmas
+pub mod EarlierLemmas
 pub mod SurfaceLemmas
 pub mod StateFacts
 pub mod StepLemmas

@@ -1,6 +1,7 @@
 -- What the calls of a board answer, and what they add.
-use Rattle.std.specs.Prelude.{◌≡◌, ◌≢◌, ℕ, ◌<◌, ◌≤◌, Bool, IsTrue, IsFalse, Some, None, [], ◌∷◌, ◌++◌, length, map, replicate, set, slice_get, if◌then◌else◌}
+use Rattle.std.specs.Prelude.{◌≡◌, ◌≢◌, ℕ, ◌<◌, ◌≤◌, Bool, IsTrue, IsFalse, Some, None, List, [], ◌∷◌, ◌++◌, length, map, replicate, set, slice_get, if◌then◌else◌}
 use Rattle.std.specs.Arc.{arc_value}
+use mathlib.Core.List.{IsPrefix}
 use Rattle.raster_model.specs.declared.script.Command.TheVariants.{Settle}
 use Rattle.raster_model.specs.declared.script.Edit.{Edit}
 use Rattle.raster_model.specs.declared.session.Session.{Session}
@@ -93,6 +94,18 @@ HasKeepFault v k (keep_faults.Stale r) = HasTile v k × (r ≡ stamp_in v.sessio
 HasKeepFault v k keep_faults.Double = HasStamp v k × IsTrue (is_kept v.session v.entries k.tile)
 HasKeepFault v k (keep_faults.Uncertified verdict) = MayKeep v k × (verdict ≢ GoodTile) × IsTileVerdict v.session.scene (mask_now v) k verdict
 HasKeepFault v k keep_faults.Memory = MayKeep v k × IsGoodTile v.session.scene (mask_now v) k
+
+-- a result has the stamp that its tile had at the end of a history, and is good under the mask there
+pub record WasGoodAt (s : Session) (H : List Entry) (k : TileResult) : Type 0 where
+  pub exists : k.tile < tiles_of s.scene.tiling
+  pub stamp : k.stamp ≡ stamp_in s H k.tile
+  pub good : IsGoodTile s.scene (present_mask s H) k
+
+-- it was so at an earlier point of the history
+pub record WasGood (v : BoardView) (k : TileResult) : Type 0 where
+  pub earlier : List Entry
+  pub begins : IsPrefix earlier v.entries
+  pub was : WasGoodAt v.session earlier k
 
 -- ---- gather
 -- a mask is the present one

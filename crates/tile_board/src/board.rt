@@ -71,6 +71,7 @@ impl Board {
       IsPublication,
       MayKeep,
       MaySettle,
+      WasGood,
       mask_now,
     };
     ghost use Rattle.tile_board.specs.Histories.{
@@ -136,17 +137,19 @@ impl Board {
         ensures unchanged { OnErr result (self.new ≡ self.old) }
     {
         self.judge(&solved)?;
-        self.entries.reserve(1)?;
-        let tile = solved.tile;
-        let entry = Entry::Kept {
-            tile,
-            stamp: solved.stamp,
-        };
-        let shared = share(alloc, solved)?;
-        push_within(&mut self.entries, entry);
-        self.kept.keep(tile, shared);
-        self.lacking.take_out(tile);
-        Ok(())
+        self.keep_good(alloc, solved)
+    }
+
+    /// Keeps a result as `keep` does, without checking it again: it was good at an earlier point of the history at
+    /// which its tile had the result's stamp. If the tile still has that stamp, its mask is still the same.
+    pub fn keep_solved(&mut self, alloc: Global, solved: TileResult) -> Result<(), KeepFault>
+        requires good { WasGood self.old solved }
+        ensures kept { OnOk result (IsKeep self.old self.new solved) }
+        ensures refused { IfErr result (HasKeepFault self.old solved) }
+        ensures unchanged { OnErr result (self.new ≡ self.old) }
+    {
+        self.may_keep(&solved)?;
+        self.keep_good(alloc, solved)
     }
 
     /// Gathers what the present revision's offsets are found from: a copy of the present mask, and every tile's kept
@@ -273,6 +276,18 @@ impl Board {
         ensures good { OnOk result (MayKeep self.now solved.now × IsGoodTile self.now.session.scene (mask_now self.now) solved.now) }
         ensures refused { IfErr result (HasKeepFault self.now solved.now) }
     {
+        self.may_keep(solved)?;
+        match check_tile(&self.session.scene, self.revisions.mask(), solved) {
+            TileVerdict::Good => Ok(()),
+            verdict => Err(KeepFault::Uncertified(verdict)),
+        }
+    }
+
+    /// Whether the entry of a result may come next, or the first reason why not.
+    fn may_keep(&self, solved: &TileResult) -> Result<(), KeepFault>
+        ensures may { OnOk result (MayKeep self.now solved.now) }
+        ensures refused { IfErr result (HasKeepFault self.now solved.now) }
+    {
         if solved.tile >= self.session.scene.tiling.tile_count() {
             return Err(KeepFault::Stranger(solved.tile));
         }
@@ -283,10 +298,28 @@ impl Board {
         if self.kept.has(solved.tile) {
             return Err(KeepFault::Double);
         }
-        match check_tile(&self.session.scene, self.revisions.mask(), solved) {
-            TileVerdict::Good => Ok(()),
-            verdict => Err(KeepFault::Uncertified(verdict)),
-        }
+        Ok(())
+    }
+
+    /// Keeps a good result whose entry may come next. It fails only for lack of memory.
+    fn keep_good(&mut self, alloc: Global, solved: TileResult) -> Result<(), KeepFault>
+        requires may { MayKeep self.old solved }
+        requires good { IsGoodTile self.old.session.scene (mask_now self.old) solved }
+        ensures kept { OnOk result (IsKeep self.old self.new solved) }
+        ensures refused { IfErr result (HasKeepFault self.old solved) }
+        ensures unchanged { OnErr result (self.new ≡ self.old) }
+    {
+        self.entries.reserve(1)?;
+        let tile = solved.tile;
+        let entry = Entry::Kept {
+            tile,
+            stamp: solved.stamp,
+        };
+        let shared = share(alloc, solved)?;
+        push_within(&mut self.entries, entry);
+        self.kept.keep(tile, shared);
+        self.lacking.take_out(tile);
+        Ok(())
     }
 
     /// Whether an analyst's settle command may publish these offsets: they are for the present revision, which is not

@@ -1,6 +1,10 @@
 -- What passes are after the work of scripts.
 use Rattle.std.specs.Prelude.{◌≡◌, ◌⊎◌, ◌<◌, ℕ, List, Option, Some, None, true, All, length, slice_index_or}
+use Rattle.raster_model.specs.declared.session.Session.{Session}
 use Rattle.tile_board.specs.declared.entry.Entry.TheVariants.{Published, Settled}
+use Rattle.tile_board.specs.declared.ticket.Ticket.{Ticket}
+use Rattle.tile_board.specs.BoardView.{BoardView}
+use Rattle.tile_board.specs.Calls.{IsClaim}
 use Rattle.board_desk.specs.Mine.{mine_of}
 use Rattle.board_desk.specs.Passes.{AddsOwn, HasNotMoved, IsAtEnd, IsLater, PassView}
 
@@ -8,6 +12,13 @@ use Rattle.board_desk.specs.Passes.{AddsOwn, HasNotMoved, IsAtEnd, IsLater, Pass
 pub record HasSeenMore (p q : PassView) : Type 0 where
   pub later : IsLater p q
   pub still : HasNotMoved p q
+
+-- the ticket was given at the end of what the pass has seen
+pub record HasClaimed (s : Session) (p : PassView) (ticket : Ticket) : Type 0 where
+  pub board : BoardView
+  pub session : board.session ≡ s
+  pub entries : board.entries ≡ p.seen
+  pub claim : IsClaim board ticket
 
 -- the analyst's settle command was done at this revision, by the one entry that was added in its name
 abbrev pub HasSettled : PassView → PassView → ℕ → Type 0

@@ -1,6 +1,6 @@
 ghost use Rattle.board_desk.specs.Passes.{IsPassOf};
 ghost use Rattle.std.specs.Prelude.{◌≡◌, None};
-ghost use Rattle.tile_workers.specs.Scripts.{HasSeenMore};
+ghost use Rattle.tile_workers.specs.Scripts.{HasClaimed, HasSeenMore};
 
 use crate::gate::Gate;
 use board_desk::{Desk, Pass};
@@ -55,8 +55,8 @@ fn solve_all<R: Wait, G: Gate>(
     unreachable!()
 }
 
-/// Solves the tile of a ticket, and hands the result in. It may come too late: the tile's mask has changed, or another
-/// worker was faster.
+/// Solves the tile of a ticket, and hands the result in, which is good at the point of the history at which the tile was
+/// claimed. It may come too late: the tile's mask has changed, or another worker was faster.
 fn solve<R: Wait>(
     rt: &R,
     alloc: Global,
@@ -64,12 +64,13 @@ fn solve<R: Wait>(
     pass: &mut Pass,
     ticket: &Ticket,
 ) -> Result<(), AllocError>
-    requires { IsPassOf desk.now pass.old }
+    requires pass { IsPassOf desk.now pass.old }
+    requires claimed { HasClaimed desk.now.session pass.old ticket.now }
     ensures { HasSeenMore pass.old pass.new }
 {
     let scene = &ticket.session.scene;
     let solved = solve_tile(alloc, scene, ticket.tile, ticket.stamp, &ticket.unmasked)?;
-    match desk.keep(rt, alloc, pass, solved).answer {
+    match desk.keep_solved(rt, alloc, pass, solved).answer {
         Err(KeepFault::Memory) => Err(AllocError),
         Ok(())
         | Err(

@@ -12,11 +12,14 @@ use seam_regions::Regions;
 use std::alloc::{AllocError, Global};
 use std::sync::Arc;
 use std::test::Fail;
-use surface_snapshots::Snapshot;
+use surface_snapshots::{BuildFault, Snapshot};
 use worked_scenes::{SceneFault, masked, scene, tile_result};
 
 /// The cycles and the faces of a tile.
 type Solved = (&'static [i32], &'static [i64]);
+
+/// A surface, or why there is none.
+type Built = Result<Snapshot, BuildFault>;
 
 /// A tile's result, if it is good.
 fn solved(
@@ -137,9 +140,7 @@ fn pixels(alloc: Global, snapshot: &Snapshot) -> Result<String, AllocError> {
 
 /// A surface in words: its revision, the costs of its tiles and of its seams, its pixels, the flows, and the faces of its
 /// first tile.
-fn surface(alloc: Global, snapshot: &Snapshot) -> Result<String, AllocError>
-    requires { 0 < tiles_of (parts_of snapshot.now).session.scene.tiling }
-{
+fn surface(alloc: Global, snapshot: &Snapshot) -> Result<String, AllocError> {
     let pixels = pixels(alloc, snapshot)?;
     let costs = (snapshot.tile_cost(), snapshot.seam_cost());
     let (flows, faces) = (snapshot.flows(), snapshot.faces(0));
@@ -149,6 +150,21 @@ fn surface(alloc: Global, snapshot: &Snapshot) -> Result<String, AllocError>
     )
 }
 
+/// What was built, in words.
+fn told(alloc: Global, made: Option<Built>) -> Option<String> {
+    match made? {
+        Ok(snapshot) => surface(alloc, &snapshot).ok(),
+        Err(fault) => format!(in alloc; "{fault:?}").ok(),
+    }
+}
+
+/// A surface in words that shares what it can with another.
+fn shared(alloc: Global, made: Option<Built>, earlier: Option<Built>) -> Option<String> {
+    let made = made?.ok()?;
+    let earlier = earlier?.ok()?;
+    surface(alloc, &made.sharing(&earlier)).ok()
+}
+
 /// What is built of results, offsets and flows, or why nothing is.
 fn built(
     alloc: Global,
@@ -156,46 +172,42 @@ fn built(
     tiles: TileSet,
     offsets: &[i64],
     flows: &[i64],
-) -> Result<String, AllocError>
-    requires two { tiles_of (arc_value session).scene.tiling ≡ 2 }
+) -> Built
     requires tiling { tiles.tiling ≡ (arc_value session).scene.tiling }
     requires good { AreGoodTiles (arc_value session).scene (open_at (arc_value session).first_mask) tiles.results }
 {
     let seams = seams(alloc, offsets, flows)?;
     let mask = session.first_mask.try_copy(alloc)?;
     let regions = Regions::of(alloc, &session.scene.tiling, &mask)?;
-    match Snapshot::build(alloc, session, mask, regions, tiles, seams) {
-        Ok(snapshot) => surface(alloc, &snapshot),
-        Err(fault) => format!(in alloc; "{fault:?}"),
-    }
+    Snapshot::build(alloc, session, mask, regions, tiles, seams)
 }
 
 /// The same for samples of phases, weights and mask, and for two tiles' numbers.
-fn told(
+fn sampled_surface(
     alloc: Global,
     tiling: Tiling,
     samples: [&[u16]; 3],
     tiles: [Solved; 2],
     offsets: &[i64],
     flows: &[i64],
-) -> Option<String>
+) -> Option<Built>
     requires { tiles_of tiling ≡ 2 }
 {
     let Ok(session) = sampled(alloc, tiling, samples) else {
         return None;
     };
     let tiles = results(alloc, &session, tiles)?;
-    built(alloc, session, tiles, offsets, flows).ok()
+    Some(built(alloc, session, tiles, offsets, flows))
 }
 
 /// The same for the two tiles of `0 0 0 0 / 0 0 0 20000 / 0 0 0 40000`. Across the seam, whose edges weigh 4, 4 and
 /// 9, the phase rises by 0, 20000 and 40000, of which the last is more than half a cycle.
-fn columns(alloc: Global, offsets: &[i64], flows: &[i64]) -> Option<String> {
+fn columns(alloc: Global, offsets: &[i64], flows: &[i64]) -> Option<Built> {
     let phases = [0, 0, 0, 0, 0, 0, 0, 20000, 0, 0, 0, 40000];
     let weights = [4, 4, 4, 4, 4, 4, 4, 4, 9, 9, 9, 9];
     let samples: [&[u16]; 3] = [&phases, &weights, &[1; 12]];
     let tiles: [Solved; 2] = [(&[0; 9], &[0; 4]), (&[0; 3], &[])];
-    told(alloc, Tiling::new(4, 3, 3), samples, tiles, offsets, flows)
+    sampled_surface(alloc, Tiling::new(4, 3, 3), samples, tiles, offsets, flows)
 }
 
 /// Flows that certify the second tile a cycle lower.
@@ -236,30 +248,30 @@ const ROWS: [(&[i64], &[i64], &str); 10] = [
 fn a_snapshot_is_built_or_its_first_break_is_told(rt: HostRuntime) {
     for (offsets, flows, wanted) in ROWS {
         assert_eq!(rt;
-            columns(rt.alloc(), offsets, flows).as_deref(),
+            told(rt.alloc(), columns(rt.alloc(), offsets, flows)).as_deref(),
             Some(wanted)
         );
     }
 }
 
 /// A row of two tiles, `100 200` and `300`, whose first pixel is masked, so that its cycles are any number.
-fn line(alloc: Global) -> Option<String> {
+fn line(alloc: Global) -> Option<Built> {
     let samples: [&[u16]; 3] = [&[100, 200, 300], &[9, 5, 7], &[0, 1, 1]];
     let tiles: [Solved; 2] = [(&[9_000_000, 3], &[]), (&[-2], &[])];
-    told(alloc, Tiling::new(3, 1, 2), samples, tiles, &[-3, 2], &[0])
+    sampled_surface(alloc, Tiling::new(3, 1, 2), samples, tiles, &[-3, 2], &[0])
 }
 
 #[test]
 fn a_masked_pixel_has_no_value(rt: HostRuntime) {
     let wanted = "7 (0, 0) N, 200 by 0, 300 by 0, [0] []";
-    assert_eq!(rt; line(rt.alloc()).as_deref(), Some(wanted));
+    assert_eq!(rt; told(rt.alloc(), line(rt.alloc())).as_deref(), Some(wanted));
 }
 
 /// Two tiles, `100 _ 300` and `400`, of which the first has a masked pixel and so two regions.
-fn gap(alloc: Global) -> Option<String> {
+fn gap(alloc: Global) -> Option<Built> {
     let samples: [&[u16]; 3] = [&[100, 200, 300, 400], &[9, 5, 7, 4], &[1, 0, 1, 1]];
     let tiles: [Solved; 2] = [(&[0, 9_000_000, 5], &[]), (&[-2], &[])];
-    told(
+    sampled_surface(
         alloc,
         Tiling::new(4, 1, 3),
         samples,
@@ -272,5 +284,20 @@ fn gap(alloc: Global) -> Option<String> {
 #[test]
 fn each_region_of_a_tile_has_its_offset(rt: HostRuntime) {
     let wanted = "7 (0, 0) 100 by 0, N, 131372 by 2, 131472 by 2, [0] []";
-    assert_eq!(rt; gap(rt.alloc()).as_deref(), Some(wanted));
+    assert_eq!(rt; told(rt.alloc(), gap(rt.alloc())).as_deref(), Some(wanted));
+}
+
+/// The surface of the two tiles that was told first in `ROWS`, which shares what it can with the same one, built
+/// again.
+fn shared_columns(alloc: Global) -> Option<String> {
+    let earlier = columns(alloc, &[0, -1], FLOWS);
+    shared(alloc, columns(alloc, &[0, -1], FLOWS), earlier)
+}
+
+#[test]
+fn a_surface_that_shares_with_another_reads_the_same(rt: HostRuntime) {
+    let alone = told(rt.alloc(), gap(rt.alloc()));
+    let with_line = shared(rt.alloc(), gap(rt.alloc()), line(rt.alloc()));
+    assert_eq!(rt; with_line.as_deref(), alone.as_deref());
+    assert_eq!(rt; shared_columns(rt.alloc()).as_deref(), Some(ROWS[0].2));
 }

@@ -17,7 +17,7 @@ IsWorkers workers = (1 ≤ workers) × (workers ≤ 8)
 abbrev pub IsTrialSide : ℕ → Type 0
 IsTrialSide pixels = (1 ≤ pixels) × (pixels ≤ max_side)
 
--- clap takes the words: a parse fails only for want of memory
+-- clap takes the words: a parse fails only for lack of memory
 abbrev pub IsTaken : List (Bor Text) → Type 0
 IsTaken words = fault_of stated (texts words) ≡ []
 

@@ -15,7 +15,7 @@ IsAlone told left P = IfSome told (λ bytes. P bytes × (left ≡ Some []))
 abbrev pub HasInputFault : ℕ → List ℕ → InputFault → Type 0
 HasInputFault side bytes fault = HasFault Alone side bytes fault
 
--- the causes that reading has: the bytes, want of memory, and a fault that was counted
+-- the causes that reading has: the bytes, lack of memory, and a fault that was counted
 abbrev pub HasInputCause : ℕ → Option (List ℕ) → ℕ → ℕ → Refusal → Type 0
 HasInputCause side told before after refusals.Words = ⊥
 HasInputCause side told before after (refusals.Input fault) = IfSome told (λ bytes. HasInputFault side bytes fault)

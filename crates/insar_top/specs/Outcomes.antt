@@ -40,7 +40,7 @@ SinkFailed r = HasRisen r.sink_before r.sink_after
 abbrev pub IsUnread : Run → Type 0
 IsUnread r = (r.left ≡ r.told) × (r.source_after ≡ r.source_before)
 
--- a refusal of a run that solves a session has its cause: a fault of the bytes, want of memory, a fault of the source, or one of the sink, at which `Cut` holds
+-- a refusal of a run that solves a session has its cause: a fault of the bytes, lack of memory, a fault of the source, or one of the sink, at which `Cut` holds
 abbrev pub HasSolvingCause : ℕ → Run → Type 0 → Refusal → Type 0
 HasSolvingCause side r Cut refusals.Words = ⊥
 HasSolvingCause side r Cut (refusals.Input fault) = IfSome r.told (λ bytes. HasInputFault side bytes fault) × (r.held_now ≡ r.held)

@@ -43,7 +43,7 @@ IsRequest words (Grid settings) = AsksWorkers (codes "grid") words settings.rule
 IsRequest words (Check settings) = IsCheck words settings.rule settings.side
 IsRequest words (Trial trial) = IsTrialCommand words trial.seed trial.width trial.height trial.settings.rule trial.settings.side
 
--- words are not read because they are refused, or for want of memory
+-- words are not read because they are refused, or for lack of memory
 abbrev pub HasWordsCause : List (Bor Text) → Refusal → Type 0
 HasWordsCause words refusals.Words = IsRefused words
 HasWordsCause words refusals.Memory = ⊤

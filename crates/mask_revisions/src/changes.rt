@@ -42,7 +42,7 @@ fn tile_met(tiling: &Tiling, edit: Edit, place: u32) -> u32
     tiling.tile_of(column * tiling.side, row * tiling.side)
 }
 
-/// The tiles that an edit's box meets, in order. It fails for want of memory alone.
+/// The tiles that an edit's box meets, in order. It fails only for lack of memory.
 pub fn tiles_met(alloc: Global, tiling: &Tiling, edit: Edit) -> Result<Vec<u32>, AllocError>
     requires { IsRectIn tiling.now.width tiling.now.height (box_of edit) }
     ensures { IfOk result (λ tiles. AreMet tiling.now (box_of edit) tiles.items) }

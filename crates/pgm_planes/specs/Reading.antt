@@ -190,7 +190,7 @@ goes_beyond limit at bytes = nat_lt limit (at + length bytes)
 abbrev pub Told : Call → (Bool → List ℕ → List ℕ → Type 0) → Type 0
 Told c P = (bytes rest : List ℕ) → c.told ≡ Some bytes → c.left ≡ Some rest → P (goes_beyond c.limit c.at bytes) (take (c.limit - c.at) bytes) (take (c.limit - c.end) rest)
 
--- the call answers what the reader gives; a read fault was counted; want of memory has no cause
+-- the call answers what the reader gives; a read fault was counted; lack of memory has no cause
 abbrev pub Answers : {X A : Type 0} → (X → A) → Result X ReadPlaneFault → Call → Reader A → Type 0
 Answers view (Ok x) c read = Told c (λ more bytes rest. read more c.at bytes ≡ Ok (view x, c.end, rest))
 Answers view (Err (errors.Plane fault)) c read = Told c (λ more bytes rest. read more c.at bytes ≡ breaks fault)

@@ -114,7 +114,7 @@ pub enum InputFault {
     #[error("the input ends before the line end")]
     NoEnd,
     /// A byte is at this place, after the line `end`.
-    #[error("the input goes on behind the line end, at byte {0}")]
+    #[error("the input goes on after the line end, at byte {0}")]
     AfterEnd(u64),
     /// With this line the change commands of all analysts times tiles are above 16777216.
     #[error("with line {0} too many tiles are changed")]

@@ -37,7 +37,7 @@ pub(crate) fn first_fault(
     Ok(None)
 }
 
-/// What is wrong with the surface behind an entry, which is judged at a mask.
+/// What is wrong with the surface after an entry, which is judged at a mask.
 fn fault_behind(
     alloc: Global,
     scene: &Scene,

@@ -29,7 +29,7 @@ abbrev pub IsTooLong : Call → InputFault → Type 0
 IsTooLong c fault = (fault ≡ TooLong) × (c.end ≡ c.limit) × HasMore c.left
 
 -- why a call refused: the limit, where the bytes that it lets out ask for more; a break that the bytes have, where those do
--- not ask; a fault that was counted; or want of memory
+-- not ask; a fault that was counted; or lack of memory
 abbrev pub HasCauseIn : Break → (List ℕ → Type 0) → Call → SessionFault → Type 0
 HasCauseIn F asks c (Input fault) = (IsTooLong c fault × IfSome c.told (IsCutOff asks c)) ⊎ IfSome c.told (λ bytes. F c.at bytes fault × (IsCutOff asks c bytes → ⊥))
 HasCauseIn F asks c ReadFault = HasRisen c.before c.after

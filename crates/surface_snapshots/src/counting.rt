@@ -216,7 +216,7 @@ fn costs_from<H: Heights>(
     right.plus(lower_costs(scene, mask, heights, x, y, lowest, unmasked))
 }
 
-/// What the right edge of a pixel adds, where there is one.
+/// What the right edge of a pixel adds, if there is one.
 fn right_costs<H: Heights>(
     scene: &Scene,
     mask: &Mask,
@@ -243,7 +243,7 @@ fn right_costs<H: Heights>(
     }
 }
 
-/// What the lower edge of a pixel adds, where there is one.
+/// What the lower edge of a pixel adds, if there is one.
 fn lower_costs<H: Heights>(
     scene: &Scene,
     mask: &Mask,

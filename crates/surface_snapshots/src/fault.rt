@@ -9,7 +9,7 @@ use std::alloc::AllocError;
 pub enum BuildFault {
     /// The offsets and flows do not certify the surface. It carries the first break.
     Uncertified(SeamVerdict),
-    /// There was no memory for a number at each region. The offsets are right in number and range.
+    /// There was too little memory. The offsets are right in number and range.
     Memory,
 }
 

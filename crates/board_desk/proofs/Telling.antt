@@ -8,6 +8,7 @@ use Rattle.raster_model.specs.declared.script.Command.{Command}
 use Rattle.raster_model.specs.declared.script.Command.TheVariants.{Change, Settle, Show}
 use Rattle.raster_model.specs.declared.script.Edit.{Edit}
 use Rattle.raster_model.specs.declared.session.Session.{Session}
+use Rattle.raster_model.specs.MaskView.{MaskView}
 use Rattle.certificates.specs.declared.results.SeamResult.{SeamResult}
 use Rattle.certificates.specs.declared.results.TileResult.{TileResult}
 use Rattle.tile_board.specs.declared.answers.Advance.{Advance}
@@ -18,7 +19,7 @@ use Rattle.tile_board.specs.declared.answers.PublishFault.TheVariants as publish
 use Rattle.tile_board.specs.declared.entry.Entry.{Entry}
 use Rattle.tile_board.specs.declared.entry.Entry.TheVariants.{Published, Revised, Settled, Shown}
 use Rattle.tile_board.specs.BoardView.{BoardView}
-use Rattle.tile_board.specs.Calls.{IsPublication, WasGood, WasGoodAt}
+use Rattle.tile_board.specs.Calls.{IsPublication, WasGood, WasGoodAt, WasMask, WasMaskAt}
 use Rattle.tile_board.specs.Histories.{names, next_command, script_of}
 use Rattle.board_desk.specs.Answers.{AdvanceAnswers, AwaitsSurface, IsOfSettle, OwnAdvance, OwnPublish, PublishAnswers}
 use Rattle.board_desk.specs.Mine.{mine_of}
@@ -39,12 +40,19 @@ not_moved t u e m n k b c p view held back grows =
       ended = ap (λ (x : PassView). x.ended) view;
     }
 
--- ---- what was good at the end of what a pass had seen
+-- ---- what was good, and the mask, at the end of what a pass had seen
 pub was_good : (t : TableId) (e : Bool) (m n : Place) (b : BoardView) (p : PassView) (s : Session) (k : TileResult) → pass_view t m e ≡ p → p.session ≡ Some s → Held m.0 b n → WasGoodAt s p.seen k → WasGood b k
 was_good t e m n b p s k view of held was = record {
   earlier = p.seen;
   begins = subst (λ (x : PassView). IsPrefix x.seen b.entries) view held.begins;
   was = subst (λ (x : Session). WasGoodAt x p.seen k) (held.session_is s (ap (λ (x : PassView). x.session) view ∙ of)) was;
+}
+
+pub was_mask : (t : TableId) (e : Bool) (m n : Place) (b : BoardView) (p : PassView) (s : Session) (mask : MaskView) (r : ℕ) → pass_view t m e ≡ p → p.session ≡ Some s → Held m.0 b n → WasMaskAt s p.seen mask r → WasMask b mask r
+was_mask t e m n b p s mask r view of held was = record {
+  earlier = p.seen;
+  begins = subst (λ (x : PassView). IsPrefix x.seen b.entries) view held.begins;
+  was = subst (λ (x : Session). WasMaskAt x p.seen mask r) (held.session_is s (ap (λ (x : PassView). x.session) view ∙ of)) was;
 }
 
 -- ---- calls in an analyst's name

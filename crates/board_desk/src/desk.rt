@@ -10,7 +10,8 @@ use crate::pass::{Heard, Pass};
 use crate::stamped::Stamped;
 use atomic_table::Table;
 use certificates::{SeamResult, TileResult};
-use raster_model::Session;
+use raster_model::{Mask, Session};
+use seam_regions::Regions;
 use std::alloc::{AllocError, Global};
 use std::marker::Model;
 use std::snapshot::Snapshot;
@@ -41,10 +42,11 @@ impl Model for Desk {
 impl Desk {
     ghost use Rattle.board_desk.specs.Answers.{AdvanceAnswers, AwaitsSurface, ClaimAnswers, GatherAnswers, IsCurrent, IsOfSettle, IsUpToDate, KeepAnswers, OwnAdvance, OwnPublish, PublishAnswers, tells_end};
     ghost use Rattle.board_desk.specs.Passes.{Called, HasNotMoved, HaveAnalysts, IsAtSettle, IsPassOf, Merged, Stands, first_passes as passes_to, worker_pass as new_worker};
+    ghost use Rattle.seam_regions.specs.Regions.{AreRegionsOf};
     ghost use Rattle.std.specs.Prelude.{◌≡◌, ◌≢◌, ◌||◌, [], All, Err, IfOk, None, OnOk, length, vec_len};
     ghost use Rattle.tile_board.specs.declared.answers.PublishFault.TheVariants.{NotSettle};
     ghost use Rattle.tile_board.specs.Boards.{IsBoard};
-    ghost use Rattle.tile_board.specs.Calls.{WasGoodAt};
+    ghost use Rattle.tile_board.specs.Calls.{WasGoodAt, WasMaskAt};
 
     /// The desk of a board whose history is empty, and the passes of the analysts, from analyst 1 on. It fails only for
     /// lack of memory.
@@ -213,6 +215,39 @@ impl Desk {
         let analyst = number(pass);
         let mut board = take_board(rt, &self.table.shared, &mut pass.seat);
         let answer = board.publish(alloc, analyst, seams);
+        pass.heard = Heard::of(&board, pass.analyst);
+        give_board(&self.table.shared, &mut pass.seat, board);
+        Stamped {
+            front: pass.heard.front,
+            answer,
+        }
+    }
+
+    /// Publishes a surface for the pass's analyst, as `Board::publish_over` does: over the mask at the end of what the pass
+    /// has seen, and over its regions.
+    pub fn publish_over<R: Wait>(
+        &self,
+        rt: &R,
+        alloc: Global,
+        pass: &mut Pass,
+        mask: Mask,
+        regions: Regions,
+        seams: SeamResult,
+    ) -> Stamped<Result<(), PublishFault>>
+        requires pass { IsPassOf self.now pass.old }
+        requires analyst { pass.old.analyst ≢ None }
+        requires mask { WasMaskAt self.now.session pass.old.seen mask seams.revision }
+        requires regions { AreRegionsOf self.now.session.scene.tiling mask regions }
+        ensures call { Called self.now.session pass.old pass.new (PublishAnswers pass.old.analyst seams result.answer) }
+        ensures own { OwnPublish pass.old pass.new seams result.answer }
+        ensures fresh { OnOk result.answer (IsCurrent pass.old pass.new seams.revision) }
+        ensures settles { IsAtSettle self.now.session pass.old → result.answer ≢ Err NotSettle }
+        ensures ended { pass.new.ended ≡ pass.old.ended }
+        ensures front { result.front ≡ length pass.new.seen }
+    {
+        let analyst = number(pass);
+        let mut board = take_board(rt, &self.table.shared, &mut pass.seat);
+        let answer = board.publish_over(alloc, analyst, mask, regions, seams);
         pass.heard = Heard::of(&board, pass.analyst);
         give_board(&self.table.shared, &mut pass.seat, board);
         Stamped {

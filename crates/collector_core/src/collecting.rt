@@ -1,4 +1,6 @@
 ghost use Rattle.collector_core.specs.Collecting.{WillPublish, CertifyGathered};
+ghost use Rattle.seam_regions.specs.Regions.{AreRegionsOf};
+ghost use Rattle.std.specs.Arc.{arc_value};
 ghost use Rattle.std.specs.Prelude.{◌≡◌, IfOk};
 
 use certificates::SeamResult;
@@ -19,8 +21,22 @@ pub fn collect(alloc: Global, gathered: &Gathered) -> Result<SeamResult, AllocEr
     collect_from(alloc, gathered, None)
 }
 
-/// Does so from a guess at offsets and flows, or from that of `offset_guess` if none is given. A wrong guess costs time, and
-/// nothing else.
+/// Collects as `collect` does, over the regions of the gathered mask, which are given.
+pub fn collect_over(
+    alloc: Global,
+    gathered: &Gathered,
+    regions: &Regions,
+) -> Result<SeamResult, AllocError>
+    requires { AreRegionsOf (arc_value gathered.now.session).scene.tiling gathered.now.mask regions.now }
+    ensures revision { IfOk result (λ seams. seams.revision ≡ gathered.now.revision) }
+    ensures good { IfOk result (CertifyGathered gathered.now) }
+    ensures publishable { IfOk result (WillPublish gathered.now) }
+{
+    collect_over_from(alloc, gathered, regions, None)
+}
+
+/// Collects as `collect` does, from a guess at offsets and flows, or from that of `offset_guess` if none is given. A wrong
+/// guess costs time, and nothing else.
 pub fn collect_from(
     alloc: Global,
     gathered: &Gathered,
@@ -30,13 +46,28 @@ pub fn collect_from(
     ensures good { IfOk result (CertifyGathered gathered.now) }
     ensures publishable { IfOk result (WillPublish gathered.now) }
 {
+    let regions = Regions::of(alloc, &gathered.session.scene.tiling, &gathered.mask)?;
+    collect_over_from(alloc, gathered, &regions, guess)
+}
+
+/// Collects over given regions and from a guess, if one is given.
+fn collect_over_from(
+    alloc: Global,
+    gathered: &Gathered,
+    regions: &Regions,
+    guess: Option<Guess>,
+) -> Result<SeamResult, AllocError>
+    requires { AreRegionsOf (arc_value gathered.now.session).scene.tiling gathered.now.mask regions.now }
+    ensures revision { IfOk result (λ seams. seams.revision ≡ gathered.now.revision) }
+    ensures good { IfOk result (CertifyGathered gathered.now) }
+    ensures publishable { IfOk result (WillPublish gathered.now) }
+{
     let scene = &gathered.session.scene;
-    let regions = Regions::of(alloc, &scene.tiling, &gathered.mask)?;
     solve_offsets_from(
         alloc,
         scene,
         &gathered.mask,
-        &regions,
+        regions,
         &gathered.tiles,
         gathered.revision,
         guess,

@@ -6,5 +6,5 @@ mod collecting;
 mod finishing;
 mod settling;
 
-pub use crate::collecting::{collect, collect_from};
+pub use crate::collecting::{collect, collect_from, collect_over};
 pub use crate::finishing::finish;

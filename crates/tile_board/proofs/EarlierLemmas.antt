@@ -1,10 +1,11 @@
--- Tiles at two points of a history.
-use Rattle.std.proofs.Common.{◌≡◌, ℕ, ◌<◌, ◌≤◌, sym, ◌∙◌, ap, arith, Bool, List, [], ◌++◌, length, take}
+-- Tiles and masks at two points of a history.
+use Rattle.std.proofs.Common.{◌≡◌, ℕ, ◌<◌, ◌≤◌, sym, ◌∙◌, ap, subst, arith, Bool, List, [], ◌++◌, length, take}
 use Rattle.std.proofs.lemmas.List.{append-nil, take-append-le}
 use Rattle.std.proofs.lemmas.List.Elements.{filter_map-append}
 use mathlib.Core.List.{IsPrefix}
 use Rattle.raster_model.specs.declared.session.Session.{Session}
-use Rattle.raster_model.specs.Masks.{open_at}
+use Rattle.raster_model.specs.Masks.{IsMaskOf, open_at}
+use Rattle.raster_model.specs.MaskView.{MaskView}
 use Rattle.raster_model.specs.Sums.{Field}
 use Rattle.raster_model.specs.Tiles.{tile_at}
 use Rattle.certificates.specs.declared.results.TileResult.{TileResult}
@@ -13,7 +14,7 @@ use Rattle.mask_revisions.specs.Edits.{mask_after}
 use Rattle.mask_revisions.proofs.CallerLemmas.{same_since_stamp}
 use Rattle.tile_board.specs.declared.entry.Entry.{Entry}
 use Rattle.tile_board.specs.BoardView.{BoardView}
-use Rattle.tile_board.specs.Calls.{HasStamp, WasGood, WasGoodAt, mask_now}
+use Rattle.tile_board.specs.Calls.{HasStamp, IsMaskNow, WasGood, WasGoodAt, WasMask, mask_now}
 use Rattle.tile_board.specs.Histories.{edit_of, edits_of, mask_in, now_of, present_mask, stamp_in}
 use Rattle.tile_board.proofs.HistoryLemmas.{present_is, stamp_within}
 use Rattle.tile_board.proofs.KeptLemmas.{good_across}
@@ -55,3 +56,13 @@ good_now v k has good = record {
   begins = ([], append-nil v.entries);
   was = record { exists = has.0; stamp = has.1; good = good };
 }
+
+-- ---- masks at two points
+-- the present mask stays while no edit is made
+pub present_still : (s : Session) (H K : List Entry) → IsPrefix H K → now_of H ≡ now_of K → present_mask s K ≡ present_mask s H
+present_still s H K p e = ap (mask_in s K) (sym e) ∙ mask_still s H K (now_of H) p (omega arith)
+
+-- of a board: the mask of the present revision is the present one, at whichever point it was so
+pub mask_is_now : (v : BoardView) (mask : MaskView) (r : ℕ) → WasMask v mask r → r ≡ now_of v.entries → IsMaskNow v mask
+mask_is_now v mask r is now =
+    subst (λ (f : Field Bool). IsMaskOf mask v.session.scene.phase.width v.session.scene.phase.height f) (sym (present_still v.session is.earlier v.entries is.begins (is.was.revision ∙ now))) is.was.present

@@ -1,39 +1,41 @@
--- What is published: the parts that were gathered, and why none are.
+-- What is published, and why nothing is.
 use Rattle.std.proofs.Common.{◌≡◌, ℕ, sym, ◌∙◌, ap, refl, subst, arith, List}
 use Rattle.std.specs.Prelude.{Option}
-use Rattle.std.specs.Arc.{arc_value}
 use Rattle.raster_model.specs.declared.session.Session.{Session}
-use Rattle.raster_model.specs.Masks.{IsMaskOf}
+use Rattle.raster_model.specs.Masks.{IsMaskOf, open_at}
+use Rattle.raster_model.specs.MaskView.{MaskView}
 use Rattle.certificates.specs.declared.results.SeamResult.{SeamResult}
 use Rattle.certificates.specs.declared.results.TileResult.{TileResult}
 use Rattle.certificates.specs.declared.verdicts.SeamVerdict.TheVariants.{Good}
+use Rattle.certificates.specs.TileSets.{TileSetView}
 use Rattle.mask_revisions.specs.RevisionsView.{RevisionsView}
 use Rattle.seam_regions.specs.Regions.{AreRegionsOf}
 use Rattle.seam_regions.specs.RegionsView.{RegionsView as RegionsOf}
 use Rattle.surface_snapshots.specs.declared.fault.BuildFault.{BuildFault}
 use Rattle.surface_snapshots.specs.declared.fault.BuildFault.TheVariants.{Uncertified, Memory}
-use Rattle.surface_snapshots.specs.Parts.{AreGoodTiles, IsPublished, Parts, open_in, parts_from}
+use Rattle.surface_snapshots.specs.Parts.{AreGoodTiles, IsPublished, Parts, parts_from}
 use Rattle.surface_snapshots.specs.SeamsView.{SeamsView}
 use Rattle.surface_snapshots.specs.Verdicts.{IsFault, IsVerdict}
 use Rattle.tile_board.specs.declared.answers.PublishFault.{PublishFault}
 use Rattle.tile_board.specs.declared.answers.PublishFault.TheVariants as publish_faults
 use Rattle.tile_board.specs.declared.entry.Entry.{Entry}
-use Rattle.tile_board.specs.declared.gathered.Gathered.{Gathered}
+use Rattle.tile_board.specs.declared.entry.Entry.TheVariants.{Published}
 use Rattle.tile_board.specs.Boards.{IsSurfaceOf}
 use Rattle.tile_board.specs.BoardView.{BoardView}
-use Rattle.tile_board.specs.Calls.{ArePublishable, HasPublishFault, IsFresh, IsGathering}
+use Rattle.tile_board.specs.Calls.{AreKeptResults, ArePublishable, HasPublishFault, IsFresh, IsMaskNow, IsPublication}
 use Rattle.tile_board.specs.Causes.{building_cause}
-use Rattle.tile_board.specs.Histories.{AreAllKept, mask_in, now_of}
+use Rattle.tile_board.specs.Histories.{AreAllKept, IsStep, mask_in, now_of}
 use Rattle.tile_board.specs.Lacking.{LackingView}
-use Rattle.tile_board.specs.States.{HasSurfaceFault, IsState, view_of}
+use Rattle.tile_board.specs.States.{AddsSurface, HasSurfaceFault, IsState, view_of}
 use Rattle.tile_board.proofs.StateFacts.{kept_good}
 
-pub gathered_parts : (v : BoardView) (g : Gathered) (regions : RegionsOf) (seams : SeamResult) → IsGathering v g → AreRegionsOf (arc_value g.session).scene.tiling g.mask regions → ArePublishable v seams (parts_from (arc_value g.session) g.mask regions g.tiles seams)
-gathered_parts v g regions seams is are = record {
-  session = is.session;
-  mask = is.mask;
-  regions = rw is.session at are;
-  tiles = is.tiles;
+-- parts that were made of a session like the board's
+pub parts_are : (v : BoardView) (s : Session) (mask : MaskView) (regions : RegionsOf) (tiles : TileSetView) (seams : SeamResult) → s ≡ v.session → IsMaskNow v mask → AreRegionsOf v.session.scene.tiling mask regions → AreKeptResults v tiles → ArePublishable v seams (parts_from s mask regions tiles seams)
+parts_are v s mask regions tiles seams same now are kept = record {
+  session = same;
+  mask = now;
+  regions = are;
+  tiles = kept;
   seams = refl;
 }
 
@@ -41,12 +43,13 @@ pub built_cause : (v : BoardView) (seams : SeamResult) (p : Parts) (fault : Buil
 built_cause v seams p (Uncertified verdict) ready are is = (ready, is.0, p, are, is.1)
 built_cause v seams p Memory ready are is = ready
 
-module _ {s : Session} {H : List Entry} {kept : List (Option TileResult)} {surfaces : List Parts} {held : RevisionsView} {waiting : LackingView} {marks : List ℕ} {last : Option ℕ} (state : IsState (view_of s H kept surfaces) held waiting marks last) (seams : SeamResult) (p : Parts) (are : ArePublishable (view_of s H kept surfaces) seams p) where
-  good_parts : AreGoodTiles s.scene (open_in p) p.tiles.results
-  good_parts = kept_good state (open_in p) (λ x y a b. are.mask.clear_at x y (rw (sym s.scene.same_width.1) a) (rw (sym s.scene.same_height.1) b)) p.tiles.results are.tiles.results
+module _ {s : Session} {H : List Entry} {kept : List (Option TileResult)} {surfaces : List Parts} {held : RevisionsView} {waiting : LackingView} {marks : List ℕ} {last : Option ℕ} (state : IsState (view_of s H kept surfaces) held waiting marks last) where
+  -- the kept results are good under the present mask
+  pub good_over : (mask : MaskView) (tiles : TileSetView) → IsMaskNow (view_of s H kept surfaces) mask → AreKeptResults (view_of s H kept surfaces) tiles → AreGoodTiles s.scene (open_at mask) tiles.results
+  good_over mask tiles now are = kept_good state (open_at mask) (λ x y a b. now.clear_at x y (rw (sym s.scene.same_width.1) a) (rw (sym s.scene.same_height.1) b)) tiles.results are.results
 
-  pub surface_is : seams.revision ≡ now_of H → IsPublished p → IsVerdict p Good → IsSurfaceOf s H p
-  surface_is present published verdict =
+  pub surface_is : (seams : SeamResult) (p : Parts) → ArePublishable (view_of s H kept surfaces) seams p → seams.revision ≡ now_of H → IsPublished p → IsVerdict p Good → IsSurfaceOf s H p
+  surface_is seams p are present published verdict =
       let here : p.seams.revision ≡ now_of H = ap (λ (r : SeamsView). r.revision) are.seams ∙ present in
       record {
         revision = omega (arith, here);
@@ -54,7 +57,7 @@ module _ {s : Session} {H : List Entry} {kept : List (Option TileResult)} {surfa
         mask = subst (λ (r : ℕ). IsMaskOf p.mask s.scene.phase.width s.scene.phase.height (mask_in s H r)) (sym here) are.mask;
         regions = are.regions;
         tiling = are.tiles.tiling;
-        tiles = good_parts;
+        tiles = good_over p.mask p.tiles are.mask are.tiles;
         published = published;
         verdict = verdict;
       }
@@ -67,3 +70,21 @@ surface_cause v a seams (publish_faults.Double r) fresh is = absurd is
 surface_cause v a seams (publish_faults.Unready t) fresh is = (fresh, is)
 surface_cause v a seams (publish_faults.Uncertified verdict) fresh is = ((fresh, is.0), is.1, is.2, is.3, is.4)
 surface_cause v a seams publish_faults.Memory fresh is = (fresh, is)
+
+-- a surface that was added is a publication
+pub publication : (old new : BoardView) (a : ℕ) (seams : SeamResult) (p : Parts) → ArePublishable old seams p → IsSurfaceOf old.session old.entries p → AddsSurface old new a seams.revision p → IsPublication old new a seams
+publication old new a seams p parts is added = record {
+  adds = added.adds;
+  kept = added.kept;
+  surface = p;
+  parts = parts;
+  verdict = is.verdict;
+  certified = is.published;
+  surfaces = added.surfaces;
+}
+
+pub may_add : (v : BoardView) (a : ℕ) (seams : SeamResult) → IsFresh v a seams → AreAllKept v.session v.entries → IsStep v.session v.entries (Published a seams.revision)
+may_add v a seams fresh ready = (fresh.0.0, fresh.0.1, fresh.1, ready)
+
+pub starved_cause : (v : BoardView) (a : ℕ) (seams : SeamResult) (fault : PublishFault) → IsFresh v a seams → AreAllKept v.session v.entries → fault ≡ publish_faults.Memory → HasPublishFault v a seams fault
+starved_cause v a seams fault fresh ready is = subst (HasPublishFault v a seams) (sym is) (fresh, ready)

@@ -146,6 +146,17 @@ pub record IsPublication (old new : BoardView) (a : ℕ) (seams : SeamResult) : 
   pub certified : IsPublished surface
   pub surfaces : new.surfaces ≡ old.surfaces ++ surface ∷ []
 
+-- a mask is the one at the end of a history, at which this revision was the present one
+pub record WasMaskAt (s : Session) (H : List Entry) (mask : MaskView) (r : ℕ) : Type 0 where
+  pub revision : now_of H ≡ r
+  pub present : IsMaskOf mask s.scene.phase.width s.scene.phase.height (present_mask s H)
+
+-- it was so at an earlier point of the history
+pub record WasMask (v : BoardView) (mask : MaskView) (r : ℕ) : Type 0 where
+  pub earlier : List Entry
+  pub begins : IsPrefix earlier v.entries
+  pub was : WasMaskAt v.session earlier mask r
+
 -- the next command is to settle; also, the offsets are for the present revision; also, it is not published; also, every tile is kept
 abbrev pub MaySettle : BoardView → ℕ → Type 0
 MaySettle v a = next_command v.session v.entries a ≡ Some Settle

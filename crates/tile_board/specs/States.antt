@@ -1,5 +1,5 @@
 -- What a board holds besides the history, and that it is what the history says. No clause of a public function cites this file.
-use Rattle.std.specs.Prelude.{◌≡◌, ◌≢◌, ℕ, ◌+◌, ◌<◌, ◌≤◌, Option, Some, None, List, length, map, option_map, slice_get, slice_index, sum}
+use Rattle.std.specs.Prelude.{◌≡◌, ◌≢◌, ℕ, ◌+◌, ◌<◌, ◌≤◌, Option, Some, None, List, [], ◌∷◌, ◌++◌, length, map, option_map, slice_get, slice_index, sum}
 use Rattle.std.specs.Arc.{arc_value}
 use Rattle.std.specs.declared.alloc.Global.{Global}
 use Rattle.std.specs.declared.sync.Arc.{Arc}
@@ -18,7 +18,7 @@ use Rattle.tile_board.specs.declared.entry.Entry.{Entry}
 use Rattle.tile_board.specs.declared.entry.Entry.TheVariants.{Revised, Kept, Published, Settled, Shown}
 use Rattle.tile_board.specs.Boards.{IsBoard}
 use Rattle.tile_board.specs.BoardView.{BoardView}
-use Rattle.tile_board.specs.Calls.{ArePublishable}
+use Rattle.tile_board.specs.Calls.{Adds, ArePublishable}
 use Rattle.tile_board.specs.Lacking.{AreLackingIn, LackingView}
 use Rattle.tile_board.specs.Histories.{AreAllKept, IsLeastLacking, done_by, edits_of, newest_of, now_of}
 
@@ -77,3 +77,9 @@ HasSurfaceFault v seams (Double r) = ⊥
 HasSurfaceFault v seams (Unready t) = IsLeastLacking v.session v.entries t
 HasSurfaceFault v seams (Uncertified verdict) = AreAllKept v.session v.entries × (verdict ≢ Good) × (p : Parts) × ArePublishable v seams p × IsVerdict p verdict
 HasSurfaceFault v seams Memory = AreAllKept v.session v.entries
+
+-- a surface and its entry were added, and nothing else changed
+pub record AddsSurface (old new : BoardView) (a r : ℕ) (p : Parts) : Type 0 where
+  pub adds : Adds old new (Published a r)
+  pub kept : new.kept ≡ old.kept
+  pub surfaces : new.surfaces ≡ old.surfaces ++ p ∷ []

@@ -8,7 +8,7 @@ use crate::places::push_within;
 use crate::ticket::Ticket;
 use certificates::{SeamResult, TileResult, TileSet, TileVerdict, check_tile};
 use mask_revisions::{Revisions, tiles_met};
-use raster_model::{Command, Edit, Session};
+use raster_model::{Command, Edit, Mask, Session};
 use seam_regions::Regions;
 use std::alloc::{AllocError, Global};
 use std::marker::Model;
@@ -45,17 +45,18 @@ impl Model for Board {
 }
 
 impl Board {
-    ghost use Rattle.certificates.specs.declared.verdicts.SeamVerdict.TheVariants.{Good};
     ghost use Rattle.certificates.specs.Results.{IsGoodTile};
     ghost use Rattle.raster_model.specs.declared.script.Command.TheVariants.{Change, Show};
+    ghost use Rattle.seam_regions.specs.Regions.{AreRegionsOf};
     ghost use Rattle.std.specs.Arc.{arc_value};
     ghost use Rattle.std.specs.Prelude.{◌≡◌, ◌↔◌, IfErr, IfOk, IsTrue, OnErr, OnOk, Some, map};
-    ghost use Rattle.surface_snapshots.specs.Parts.{IsPublished};
     ghost use Rattle.surface_snapshots.specs.Views.{parts_of};
-    ghost use Rattle.tile_board.specs.Boards.{IsBoard};
-    ghost use Rattle.surface_snapshots.specs.Verdicts.{IsVerdict};
+    ghost use Rattle.tile_board.specs.declared.answers.PublishFault.TheVariants.{Memory};
+    ghost use Rattle.tile_board.specs.declared.entry.Entry.TheVariants.{Published};
+    ghost use Rattle.tile_board.specs.Boards.{IsBoard, IsSurfaceOf};
     ghost use Rattle.tile_board.specs.Calls.{
       AddsAlone,
+      AreKeptResults,
       ArePublishable,
       HasAdvanceFault,
       HasClaimFault,
@@ -67,11 +68,13 @@ impl Board {
       IsFresh,
       IsGathering,
       IsKeep,
+      IsMaskNow,
       IsNew,
       IsPublication,
       MayKeep,
       MaySettle,
       WasGood,
+      WasMask,
       mask_now,
     };
     ghost use Rattle.tile_board.specs.Histories.{
@@ -83,7 +86,7 @@ impl Board {
       next_command,
       now_of,
     };
-    ghost use Rattle.tile_board.specs.States.{HasSurfaceFault, IsAlone};
+    ghost use Rattle.tile_board.specs.States.{AddsSurface, HasSurfaceFault, IsAlone};
 
     /// A board with an empty history. It fails only for lack of memory.
     pub fn new(alloc: Global, session: Arc<Session>) -> Result<Board, AllocError>
@@ -158,17 +161,14 @@ impl Board {
         ensures gathered { IfOk result (IsGathering self.now) }
         ensures refused { IfErr result (HasGatherFault self.now) }
     {
-        if let Some(tile) = self.kept.first_gap() {
-            return Err(GatherFault::Unready(tile));
-        }
-        let results = self.kept.shared(alloc)?;
+        let tiles = self.results(alloc)?;
         let mask = self.revisions.mask_copy(alloc)?;
         let session = self.session.clone()?;
         Ok(Gathered {
             session,
             revision: self.revisions.count(),
             mask,
-            tiles: TileSet::of_shared(&self.session.scene.tiling, results),
+            tiles,
         })
     }
 
@@ -187,13 +187,29 @@ impl Board {
         self.may_publish(analyst, &seams)?;
         let revision = seams.revision;
         let snapshot = self.surface(alloc, seams)?;
-        self.entries.reserve(1)?;
-        self.snapshots.reserve(1)?;
-        push_within(&mut self.entries, Entry::Published { analyst, revision });
-        push_within(&mut self.snapshots, snapshot);
-        self.newest = Some(revision);
-        self.cursors[analyst as usize - 1] += 1;
-        Ok(())
+        self.add_surface(analyst, revision, snapshot)
+    }
+
+    /// Publishes as `publish` does, over a mask and its regions that are given: the mask of the revision that `seams` are
+    /// for, from this or an earlier point of the history. If that is still the present revision, it is the present mask.
+    pub fn publish_over(
+        &mut self,
+        alloc: Global,
+        analyst: u32,
+        mask: Mask,
+        regions: Regions,
+        seams: SeamResult,
+    ) -> Result<(), PublishFault>
+        requires mask { WasMask self.old mask seams.revision }
+        requires regions { AreRegionsOf self.old.session.scene.tiling mask regions }
+        ensures published { OnOk result (IsPublication self.old self.new analyst seams) }
+        ensures refused { IfErr result (HasPublishFault self.old analyst seams) }
+        ensures unchanged { OnErr result (self.new ≡ self.old) }
+    {
+        self.may_publish(analyst, &seams)?;
+        let revision = seams.revision;
+        let snapshot = self.surface_over(alloc, mask, regions, seams)?;
+        self.add_surface(analyst, revision, snapshot)
     }
 
     /// Does an analyst's next command. A settle command is done only if the present revision is published; otherwise
@@ -341,28 +357,76 @@ impl Board {
         Ok(())
     }
 
+    /// The kept results of all tiles, which are shared. It is refused if a tile has none.
+    fn results(&self, alloc: Global) -> Result<TileSet, GatherFault>
+        ensures results { IfOk result (AreKeptResults self.now) }
+        ensures ready { OnOk result (AreAllKept self.now.session self.now.entries) }
+        ensures refused { IfErr result (HasGatherFault self.now) }
+    {
+        if let Some(tile) = self.kept.first_gap() {
+            return Err(GatherFault::Unready(tile));
+        }
+        let results = self.kept.shared(alloc)?;
+        Ok(TileSet::of_shared(&self.session.scene.tiling, results))
+    }
+
     /// The surface that the kept results and `seams` make under the present mask, if it is certified.
     fn surface(&self, alloc: Global, seams: SeamResult) -> Result<Snapshot, PublishFault>
+        requires { seams.revision ≡ now_of self.now.entries }
         ensures parts { IfOk result (λ made. ArePublishable self.now seams (parts_of made)) }
         ensures ready { OnOk result (AreAllKept self.now.session self.now.entries) }
-        ensures verdict { IfOk result (λ made. IsVerdict (parts_of made) Good) }
-        ensures certified { IfOk result (λ made. IsPublished (parts_of made)) }
+        ensures surface { IfOk result (λ made. IsSurfaceOf self.now.session self.now.entries (parts_of made)) }
         ensures refused { IfErr result (HasSurfaceFault self.now seams) }
     {
         let gathered = self.gather(alloc)?;
         let regions = Regions::of(alloc, &gathered.session.scene.tiling, &gathered.mask)?;
-        let snapshot = Snapshot::build(
-            alloc,
-            gathered.session,
-            gathered.mask,
-            regions,
-            gathered.tiles,
-            seams,
-        )?;
+        self.build(alloc, gathered.mask, regions, gathered.tiles, seams)
+    }
+
+    /// The surface that the kept results and `seams` make over the present mask and its regions, if it is certified.
+    fn surface_over(
+        &self,
+        alloc: Global,
+        mask: Mask,
+        regions: Regions,
+        seams: SeamResult,
+    ) -> Result<Snapshot, PublishFault>
+        requires present { seams.revision ≡ now_of self.now.entries }
+        requires mask { IsMaskNow self.now mask }
+        requires regions { AreRegionsOf self.now.session.scene.tiling mask regions }
+        ensures parts { IfOk result (λ made. ArePublishable self.now seams (parts_of made)) }
+        ensures ready { OnOk result (AreAllKept self.now.session self.now.entries) }
+        ensures surface { IfOk result (λ made. IsSurfaceOf self.now.session self.now.entries (parts_of made)) }
+        ensures refused { IfErr result (HasSurfaceFault self.now seams) }
+    {
+        let tiles = self.results(alloc)?;
+        self.build(alloc, mask, regions, tiles, seams)
+    }
+
+    /// The surface that all kept results and `seams` make over the present mask and its regions, if it is certified.
+    fn build(
+        &self,
+        alloc: Global,
+        mask: Mask,
+        regions: Regions,
+        tiles: TileSet,
+        seams: SeamResult,
+    ) -> Result<Snapshot, PublishFault>
+        requires present { seams.revision ≡ now_of self.now.entries }
+        requires ready { AreAllKept self.now.session self.now.entries }
+        requires mask { IsMaskNow self.now mask }
+        requires regions { AreRegionsOf self.now.session.scene.tiling mask regions }
+        requires tiles { AreKeptResults self.now tiles }
+        ensures parts { IfOk result (λ made. ArePublishable self.now seams (parts_of made)) }
+        ensures surface { IfOk result (λ made. IsSurfaceOf self.now.session self.now.entries (parts_of made)) }
+        ensures refused { IfErr result (HasSurfaceFault self.now seams) }
+    {
+        let session = self.session.clone()?;
+        let snapshot = Snapshot::build(alloc, session, mask, regions, tiles, seams)?;
         Ok(self.shared(snapshot))
     }
 
-    /// The same surface, which shares with the last published one what both keep of a tile.
+    /// The same surface, which shares with the last published one what both keep of a tile, and equal flows.
     fn shared(&self, snapshot: Snapshot) -> Snapshot
         ensures { parts_of result ≡ parts_of snapshot }
     {
@@ -370,6 +434,29 @@ impl Board {
             Some(earlier) => snapshot.sharing(earlier),
             None => snapshot,
         }
+    }
+
+    /// Adds a surface that may be published, and its entry. It fails only for lack of memory.
+    fn add_surface(
+        &mut self,
+        analyst: u32,
+        revision: u32,
+        snapshot: Snapshot,
+    ) -> Result<(), PublishFault>
+        requires step { IsStep self.old.session self.old.entries (Published analyst revision) }
+        requires revision { (parts_of snapshot).seams.revision ≡ revision }
+        requires surface { IsSurfaceOf self.old.session self.old.entries (parts_of snapshot) }
+        ensures added { OnOk result (AddsSurface self.old self.new analyst revision (parts_of snapshot)) }
+        ensures starved { IfErr result (λ fault. fault ≡ Memory) }
+        ensures unchanged { OnErr result (self.new ≡ self.old) }
+    {
+        self.entries.reserve(1)?;
+        self.snapshots.reserve(1)?;
+        push_within(&mut self.entries, Entry::Published { analyst, revision });
+        push_within(&mut self.snapshots, snapshot);
+        self.newest = Some(revision);
+        self.cursors[analyst as usize - 1] += 1;
+        Ok(())
     }
 
     /// Does an analyst's change command.

@@ -1,3 +1,4 @@
 pub mod ScriptLemmas
 pub mod ClaimLemmas
+pub mod GatherLemmas
 pub mod CallerLemmas

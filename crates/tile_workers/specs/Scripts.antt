@@ -1,10 +1,12 @@
 -- What passes are after the work of scripts.
 use Rattle.std.specs.Prelude.{◌≡◌, ◌⊎◌, ◌<◌, ℕ, List, Option, Some, None, true, All, length, slice_index_or}
+use Rattle.std.specs.Arc.{arc_value}
 use Rattle.raster_model.specs.declared.session.Session.{Session}
 use Rattle.tile_board.specs.declared.entry.Entry.TheVariants.{Published, Settled}
+use Rattle.tile_board.specs.declared.gathered.Gathered.{Gathered}
 use Rattle.tile_board.specs.declared.ticket.Ticket.{Ticket}
 use Rattle.tile_board.specs.BoardView.{BoardView}
-use Rattle.tile_board.specs.Calls.{IsClaim}
+use Rattle.tile_board.specs.Calls.{IsClaim, WasMaskAt}
 use Rattle.board_desk.specs.Mine.{mine_of}
 use Rattle.board_desk.specs.Passes.{AddsOwn, HasNotMoved, IsAtEnd, IsLater, PassView}
 
@@ -19,6 +21,11 @@ pub record HasClaimed (s : Session) (p : PassView) (ticket : Ticket) : Type 0 wh
   pub session : board.session ≡ s
   pub entries : board.entries ≡ p.seen
   pub claim : IsClaim board ticket
+
+-- this was gathered at the end of what the pass has seen
+pub record HasGathered (s : Session) (p : PassView) (gathered : Gathered) : Type 0 where
+  pub session : arc_value gathered.session ≡ s
+  pub mask : WasMaskAt s p.seen gathered.mask gathered.revision
 
 -- the analyst's settle command was done at this revision, by the one entry that was added in its name
 abbrev pub HasSettled : PassView → PassView → ℕ → Type 0

@@ -1,12 +1,13 @@
 ghost use Rattle.board_desk.specs.Passes.{HasNotMoved, IsAtSettle, IsLater, IsPassOf};
 ghost use Rattle.std.specs.Prelude.{◌≡◌, ◌≢◌, All, IfOk, IfSome, None, OnErr};
-ghost use Rattle.tile_workers.specs.Scripts.{HasPublished, HasSeenMore, HasSettled};
+ghost use Rattle.tile_workers.specs.Scripts.{HasGathered, HasPublished, HasSeenMore, HasSettled};
 
 use crate::gate::Gate;
 use crate::solving::Worker;
 use board_desk::{Desk, Pass};
-use collector_core::collect;
+use collector_core::collect_over;
 use raster_model::MAX_WORKERS;
+use seam_regions::Regions;
 use std::alloc::{AllocError, Global};
 use std::sync::Wait;
 use std::thread;
@@ -135,8 +136,12 @@ fn publish<R: Wait>(
     let Some(gathered) = gather(rt, alloc, desk, pass)? else {
         return Ok(None);
     };
-    let seams = collect(alloc, &gathered)?;
-    match desk.publish(rt, alloc, pass, seams).answer {
+    let regions = Regions::of(alloc, &gathered.session.scene.tiling, &gathered.mask)?;
+    let seams = collect_over(alloc, &gathered, &regions)?;
+    match desk
+        .publish_over(rt, alloc, pass, gathered.mask, regions, seams)
+        .answer
+    {
         Ok(()) => Ok(Some(gathered.revision)),
         Err(PublishFault::Memory) => Err(AllocError),
         Err(PublishFault::NotSettle) => unreachable!(),
@@ -149,7 +154,8 @@ fn publish<R: Wait>(
     }
 }
 
-/// The present revision's results; None if a tile has none.
+/// The present revision's mask and results, as they are at the end of what the pass has then seen; None if a tile has no
+/// result.
 fn gather<R: Wait>(
     rt: &R,
     alloc: Global,
@@ -157,7 +163,8 @@ fn gather<R: Wait>(
     pass: &mut Pass,
 ) -> Result<Option<Gathered>, AllocError>
     requires { IsPassOf desk.now pass.old }
-    ensures { HasSeenMore pass.old pass.new }
+    ensures more { HasSeenMore pass.old pass.new }
+    ensures gathered { IfOk result (λ answer. IfSome answer (HasGathered desk.now.session pass.new)) }
 {
     match desk.gather(rt, alloc, pass).answer {
         Ok(gathered) => Ok(Some(gathered)),

@@ -3,7 +3,7 @@ use Rattle.std.specs.Arc.{arc_value}
 use Rattle.raster_model.specs.Masks.{open_at}
 use Rattle.collector_core.proofs.CollectLemmas.{certify_gathered, publishable}
 use Rattle.collector_core.proofs.JoinLemmas.{good_in_set}
-use Rattle.collector_core.proofs.collecting.collect_from.Goals as goal
+use Rattle.collector_core.proofs.collecting.collect_over_from.Goals as goal
 
 pub solve_offsets_from-requires-clause-tiles : goal.solve_offsets_from-requires-clause-tiles
 solve_offsets_from-requires-clause-tiles c =
@@ -12,12 +12,10 @@ solve_offsets_from-requires-clause-tiles c =
 
 pub returns-clause-good : goal.returns-clause-good
 returns-clause-good c =
-    let are = rw c.deref.ensures at c.in_ok-regions.ensures in
     let good = rw c.deref.ensures at c.solve_offsets_from.ensures.good in
-    IfOk-weaker c.solve_offsets_from.result _ _ (λ seams is. certify_gathered c.args.gathered.now c.in_ok-regions.regions seams are is) good
+    IfOk-weaker c.solve_offsets_from.result _ _ (λ seams is. certify_gathered c.args.gathered.now c.args.regions.now seams c.requires is) good
 
 pub returns-clause-publishable : goal.returns-clause-publishable
 returns-clause-publishable c =
-    let are = rw c.deref.ensures at c.in_ok-regions.ensures in
     let good = rw c.deref.ensures at c.solve_offsets_from.ensures.good in
-    IfOk-weaker c.solve_offsets_from.result _ _ (λ seams is. publishable c.args.gathered.now c.in_ok-regions.regions seams are is) good
+    IfOk-weaker c.solve_offsets_from.result _ _ (λ seams is. publishable c.args.gathered.now c.args.regions.now seams c.requires is) good

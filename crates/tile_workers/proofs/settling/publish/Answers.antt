@@ -1,0 +1,16 @@
+use Rattle.tile_workers.proofs.GatherLemmas.{gathered_there}
+use Rattle.tile_workers.proofs.settling.publish.Goals as goal
+
+pub collect_over-requires : goal.collect_over-requires
+collect_over-requires g c = rw c.deref.ensures at c.in_ok-regions.ensures
+
+pub publish_over-requires-clause-mask : goal.publish_over-requires-clause-mask
+publish_over-requires-clause-mask g c =
+    let there = gathered_there c.args.desk.now.session c.gather.new.pass c.in_ok-gathered.field-0 c.in-Some.gathered c.in_ok-gathered.ensures.gathered c.in-Some.is in
+    rw c.in_ok-seams.ensures.revision there.mask
+
+pub publish_over-requires-clause-regions : goal.publish_over-requires-clause-regions
+publish_over-requires-clause-regions g c =
+    let there = gathered_there c.args.desk.now.session c.gather.new.pass c.in_ok-gathered.field-0 c.in-Some.gathered c.in_ok-gathered.ensures.gathered c.in-Some.is in
+    let regions = rw c.deref.ensures at c.in_ok-regions.ensures in
+    rw there.session at regions

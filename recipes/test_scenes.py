@@ -1,5 +1,6 @@
 #!/usr/bin/python3
-"""Tests the workflow of scenes: failures are told with their status, and a run that was stopped goes on."""
+"""Tests the workflow of scenes: failures are told with their status, a run that was stopped goes on, and jobs are submitted as
+on a cluster."""
 import shutil
 import signal
 import subprocess
@@ -18,14 +19,14 @@ class Scenes(InFolder):
         program()
         subprocess.run([HERE / "kit/make_scenes", str(COUNT), self.folder], check=True)
 
-    def start(self):
+    def start(self, *words):
         return subprocess.Popen(
-            [HERE / "scenes", self.folder], stdout=subprocess.PIPE, stderr=subprocess.STDOUT, text=True
+            [HERE / "scenes", self.folder, *words], stdout=subprocess.PIPE, stderr=subprocess.STDOUT, text=True
         )
 
-    def run_all(self):
-        """Runs the workflow to its end; its status and what it wrote."""
-        running = self.start()
+    def run_all(self, *words):
+        """Runs the workflow to its end, with words for snakemake; its status and what it wrote."""
+        running = self.start(*words)
         told = running.communicate()[0]
         return running.returncode, told
 
@@ -68,6 +69,13 @@ class Scenes(InFolder):
         status, told = self.run_all()
         self.assertEqual(status, 0, told)
         self.assertEqual({path: path.stat().st_mtime_ns for path in stood}, stood)
+
+    def test_jobs_are_submitted(self):
+        for folder in sorted(self.folder.glob("scene-*"))[2:]:
+            shutil.rmtree(folder)
+        status, told = self.run_all("--cluster", "bash", "--jobs", "2")  # a job is submitted to a shell
+        self.assertEqual(status, 0, told)
+        self.assertIn("2 of 2 scenes are accepted and have their surface, 0 failed", told)
 
 
 if __name__ == "__main__":

@@ -4,7 +4,8 @@
 The scene is that of examples/interferogram.py, 19.2 km wide. phase.tif has radians from -pi to pi and -9999 as NODATA on
 the lake, coherence.tif is NaN there, and complex.tif has the same phases with the coherence as amplitude, 0 on the lake.
 All lie in UTM zone 33 north. With --plain complex.tif is not made. With --times N each pixel stands N times in a row and N
-times in a column, so that large rasters take seconds.
+times in a column, so that large rasters take seconds. With --trial SEED the phases, weights and mask are those of the command
+`trial SEED WIDTH HEIGHT`, of which 12 % of the cells have a residue.
 """
 import argparse
 import math
@@ -45,15 +46,17 @@ def main() -> int:
     words.add_argument(
         "--times", type=int, default=1, metavar="N", help="rasters N times as wide and high (default: 1)"
     )
+    words.add_argument("--trial", metavar="SEED", help="the session of this number, in place of the scene")
     asked = words.parse_args()
-    script = [sys.executable, str(TOP / "examples/interferogram.py"), str(asked.width), str(asked.height)]
+    script = ["bench/terrain.py", "trial", asked.trial] if asked.trial else ["examples/interferogram.py"]
+    script = [sys.executable, str(TOP / script[0]), *script[1:], str(asked.width), str(asked.height)]
     scene = read_session(subprocess.run(script, check=True, capture_output=True).stdout)
     phase, weights, opened = (
         np.kron(plane, np.ones((asked.times,) * 2)) for plane in (scene.phase, scene.weights, scene.opened)
     )
     radians = phase * (2 * math.pi / CYCLE)
     radians = np.where(radians > math.pi, radians - 2 * math.pi, radians)
-    coherence = weights / 255
+    coherence = weights / (256 if asked.trial else 255)
     asked.folder.mkdir(parents=True, exist_ok=True)
     write(asked.folder / "phase.tif", np.where(opened, radians, -9999), gdal.GDT_Float32, -9999)
     write(asked.folder / "coherence.tif", np.where(opened, coherence, np.nan), gdal.GDT_Float32)

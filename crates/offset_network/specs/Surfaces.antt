@@ -1,5 +1,5 @@
 -- The surface of the results of tiles and of offsets of the regions, and what makes these good (Chen and Zebker 2002).
-use Rattle.std.specs.Prelude.{◌≡◌, ℕ, ◌<◌, ◌≤◌, ◌^◌, ℤ, pos, Bool, IsTrue, List, Some, length, slice_get, slice_index_or, unsigned_abs}
+use Rattle.std.specs.Prelude.{◌≡◌, ℕ, ◌<◌, pos, Bool, IsTrue, Some, length, slice_get, slice_index_or}
 use Rattle.raster_model.specs.declared.scene.Scene.{Scene}
 use Rattle.raster_model.specs.MaskView.{MaskView}
 use Rattle.raster_model.specs.Masks.{open_at}
@@ -11,6 +11,7 @@ use Rattle.certificates.specs.declared.results.TileResult.{TileResult}
 use Rattle.certificates.specs.Results.{IsGoodTile}
 use Rattle.certificates.specs.SeamVerdicts.{IsGoodAtSeams}
 use Rattle.certificates.specs.TileSets.{TileSetView, solved_cycles}
+use Rattle.seam_regions.specs.Offsets.{IsNear}
 use Rattle.seam_regions.specs.Regions.{label_at, shifted_by}
 use Rattle.seam_regions.specs.RegionsView.{RegionsView}
 
@@ -22,12 +23,8 @@ pub record AreGoodTiles (s : Scene) (mask : Field Bool) (tiles : TileSetView) : 
 -- a good result: it has one offset from -2^46 to 2^46 for each region, and the surface with the offsets meets the anchor and is certified at the seams
 pub record IsGoodSeams (s : Scene) (mask : MaskView) (regions : RegionsView) (tiles : TileSetView) (k : SeamResult) : Type 0 where
   pub count : length k.offsets.items ≡ regions.count
-  pub in_range : (v : ℕ) → v < regions.count → unsigned_abs (slice_index_or k.offsets.items v (pos 0)) ≤ 2 ^ 46
+  pub in_range : (v : ℕ) → v < regions.count → IsNear (slice_index_or k.offsets.items v (pos 0))
   pub certified : IsGoodAtSeams (raster_of s) (open_at mask) (shifted_by regions k.offsets.items (solved_cycles s tiles.results)) k.flows.items
-
--- each offset lies from -2 ^ 46 to 2 ^ 46
-abbrev pub AreNear : List ℤ → Type 0
-AreNear offsets = (v : ℕ) → v < length offsets → unsigned_abs (slice_index_or offsets v (pos 0)) ≤ 2 ^ 46
 
 -- each open pixel has the number of a region
 pub record AreLabelled (s : Scene) (m : MaskView) (v : RegionsView) : Type 0 where

@@ -1,6 +1,6 @@
 ghost use Rattle.certificates.specs.SeamVerdicts.{IsGoodAtSeams};
 ghost use Rattle.offset_network.specs.Shifted.{cycles_under};
-ghost use Rattle.offset_network.specs.Surfaces.{AreNear, IsGoodSeams};
+ghost use Rattle.offset_network.specs.Surfaces.{IsGoodSeams};
 ghost use Rattle.raster_model.specs.Masks.{open_at};
 ghost use Rattle.raster_model.specs.Scene.{raster_of};
 ghost use Rattle.seam_regions.specs.Regions.{AreRegionsOf};
@@ -11,11 +11,8 @@ use crate::surface::TileSurface;
 use certificates::{SeamResult, SeamVerdict, check_flows};
 use offset_guess::{Guess, Link, guess_offsets};
 use raster_model::first_open;
-use seam_regions::Regions;
+use seam_regions::{Regions, first_far};
 use std::alloc::{AllocError, Global};
-
-/// The greatest absolute offset: 2^46.
-const MAX_OFFSET: u64 = 70_368_744_177_664;
 
 /// The guess that is given, or that of the fast solver.
 pub(crate) fn guess_or_solver(
@@ -45,7 +42,7 @@ pub(crate) fn certified(
     let mut offsets = guess.offsets;
     let height = first_height(surface, regions, &offsets);
     lower(&mut offsets, height);
-    if offsets.len() != regions.count() as usize || !are_near(&offsets) {
+    if offsets.len() != regions.count() as usize || first_far(&offsets).is_some() {
         return Ok(None);
     }
     let shifted = ShiftedSurface {
@@ -103,14 +100,4 @@ fn lower(offsets: &mut [i64], by: i64) {
     for offset in offsets {
         *offset = offset.wrapping_sub(by);
     }
-}
-
-/// Whether all offsets lie from -2^46 to 2^46.
-fn are_near(offsets: &[i64]) -> bool
-    ensures { IsTrue result → AreNear offsets.now }
-{
-    let far = offsets
-        .iter()
-        .position(|&offset| offset.unsigned_abs() > MAX_OFFSET);
-    far.is_none()
 }

@@ -1,4 +1,5 @@
-ghost use Rattle.offset_network.specs.Surfaces.{AreLabelled, AreNear};
+ghost use Rattle.offset_network.specs.Surfaces.{AreLabelled};
+ghost use Rattle.seam_regions.specs.Offsets.{AreNear};
 ghost use Rattle.std.specs.Prelude.{◌≡◌, length};
 
 use crate::surface::TileSurface;

@@ -9,7 +9,8 @@ use Rattle.insar_ports.specs.declared.sink.WriteFault.{WriteFault}
 use Rattle.raster_model.specs.declared.session.Session.{Session}
 use Rattle.raster_model.specs.Limits.{is_raster_size}
 use Rattle.raster_model.specs.Tiles.{tiles_of}
-use Rattle.surface_snapshots.specs.Parts.{AreGoodTiles, AreNear, Parts, open_in, surface_in}
+use Rattle.seam_regions.specs.Offsets.{AreNear}
+use Rattle.surface_snapshots.specs.Parts.{AreGoodTiles, Parts, open_in, surface_in}
 use Rattle.surface_snapshots.proofs.CallerLemmas.{surface_small}
 use Rattle.grid_writer.specs.Grid.{shown, shown_in}
 use Rattle.grid_writer.specs.Grids.{AreLong}

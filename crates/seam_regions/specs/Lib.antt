@@ -1,4 +1,5 @@
 pub mod RegionsView
 pub mod Regions
+pub mod Offsets
 pub mod Forest
 pub mod Flood

@@ -6,8 +6,10 @@ mod columns;
 mod flood;
 mod forest;
 mod numbers;
+mod offsets;
 mod pieces;
 mod regions;
 
 pub use crate::columns::next_left;
+pub use crate::offsets::first_far;
 pub use crate::regions::Regions;

@@ -10,12 +10,13 @@ use Rattle.raster_model.specs.Sums.{Field}
 use Rattle.raster_model.specs.Tiles.{tile_at, tiles_of}
 use Rattle.raster_model.proofs.TileLemmas.{tiles_are_numbered, window_of-pixels}
 use Rattle.certificates.specs.declared.results.TileResult.{TileResult}
+use Rattle.seam_regions.specs.Offsets.{AreNear}
 use Rattle.seam_regions.specs.Regions.{label_at, offset_at}
 use Rattle.seam_regions.specs.RegionsView.{RegionsView}
 use Rattle.raster_model.proofs.Exact.{lifted_is_congruent}
 use Rattle.raster_model.proofs.SeamLeast.{certified_is_best}
 use Rattle.certificates.specs.TileSets.{cycles_of, solved_cycles}
-use Rattle.surface_snapshots.specs.Parts.{AreGoodTiles, AreNear, Parts, IsPublished, cycles_in_parts, faces_in, flows_in, open_in, raster_in, surface_in}
+use Rattle.surface_snapshots.specs.Parts.{AreGoodTiles, Parts, IsPublished, cycles_in_parts, faces_in, flows_in, open_in, raster_in, surface_in}
 
 pub published_is_certified : (p : Parts) → IsPublished p → IsCertified (raster_in p) (open_in p) (surface_in p) (faces_in p) (flows_in p)
 published_is_certified p is = record {

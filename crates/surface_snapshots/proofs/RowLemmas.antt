@@ -9,10 +9,11 @@ use Rattle.raster_model.specs.MaskView.{MaskView}
 use Rattle.raster_model.specs.Masks.{open_at}
 use Rattle.raster_model.specs.Sums.{Field}
 use Rattle.certificates.specs.TileSets.{solved_cycles}
+use Rattle.seam_regions.specs.Offsets.{AreNear}
 use Rattle.seam_regions.specs.Regions.{label_at, offset_at}
 use Rattle.surface_snapshots.specs.declared.shifted.ShiftedTiles.{ShiftedTiles}
 use Rattle.surface_snapshots.specs.Tiled.{regions_in}
-use Rattle.surface_snapshots.specs.Parts.{AreGoodTiles, AreNear, BeginsWithRow, Parts, cycles_in_parts, open_in, raster_in, value_or}
+use Rattle.surface_snapshots.specs.Parts.{AreGoodTiles, BeginsWithRow, Parts, cycles_in_parts, open_in, raster_in, value_or}
 use Rattle.surface_snapshots.specs.Shifted.{AreListed, cycles_or_none, cycles_under, level_at, level_in, mask_under, no_cycles, open_under}
 use Rattle.surface_snapshots.proofs.CallerLemmas.{offset_small, solved_small}
 

@@ -11,11 +11,12 @@ use Rattle.certificates.specs.declared.verdicts.SeamVerdict.{SeamVerdict}
 use Rattle.certificates.specs.declared.verdicts.SeamVerdict.TheVariants.{Good, Shape, Range, Anchor, FlowAtEdge, Unbalanced, CostDiffers}
 use Rattle.certificates.specs.SeamVerdicts.{IsSeamVerdict, ListsRegions, label_at as label_in}
 use Rattle.certificates.proofs.UniqueSeams.{seams_have_one_verdict}
+use Rattle.seam_regions.specs.Offsets.{AreNear, IsFirstFar}
 use Rattle.seam_regions.specs.Regions.{AreRegionsOf, label_at}
 use Rattle.seam_regions.specs.RegionsView.{RegionsView}
 use Rattle.seam_regions.proofs.CallerLemmas.{regions_of_scene}
-use Rattle.surface_snapshots.specs.Parts.{Parts, AreNear, cycles_in_parts, flows_in, open_in, raster_in}
-use Rattle.surface_snapshots.specs.Verdicts.{HasOffsets, IsFirstFar, IsFlowsVerdict, IsVerdict, PartsHaveOneVerdict}
+use Rattle.surface_snapshots.specs.Parts.{Parts, cycles_in_parts, flows_in, open_in, raster_in}
+use Rattle.surface_snapshots.specs.Verdicts.{HasOffsets, IsFlowsVerdict, IsVerdict, PartsHaveOneVerdict}
 use Rattle.std.proofs.lemmas.Bool.{cases_order}
 
 -- ---- the labels, as the check of the flows reads them

@@ -1,5 +1,5 @@
 -- What a surface is put together from: the results of the tiles, with a whole number of cycles added on each region (Chen and Zebker 2002).
-use Rattle.std.specs.Prelude.{◌≡◌, ℕ, ◌<◌, ◌≤◌, ◌^◌, ℤ, pos, Bool, ◌&&◌, List, [], length, slice_get, slice_index_or, unsigned_abs, nat_lt, Option, Some, None, unwrap_or, if◌then◌else◌}
+use Rattle.std.specs.Prelude.{◌≡◌, ℕ, ◌<◌, ℤ, pos, Bool, ◌&&◌, List, [], slice_get, slice_index_or, nat_lt, Option, Some, None, unwrap_or, if◌then◌else◌}
 use Rattle.raster_model.specs.declared.scene.Scene.{Scene}
 use Rattle.raster_model.specs.declared.session.Session.{Session}
 use Rattle.raster_model.specs.MaskView.{MaskView}
@@ -90,13 +90,6 @@ HaveCosts p tiles seams = (pos tiles ≡ tile_costs (raster_in p) (open_in p) (s
 pub record AreGoodTiles (s : Scene) (mask : Field Bool) (results : List TileResult) : Type 0 where
   pub each : HasOneForEach s.tiling results
   pub good : (t : ℕ) (k : TileResult) → slice_get results t ≡ Some k → IsGoodTile s mask k
-
--- an offset is from -2 ^ 46 to 2 ^ 46; all are
-abbrev pub IsNear : ℤ → Type 0
-IsNear z = unsigned_abs z ≤ 2 ^ 46
-
-abbrev pub AreNear : List ℤ → Type 0
-AreNear offsets = (v : ℕ) → v < length offsets → IsNear (slice_index_or offsets v (pos 0))
 
 -- the surface has the phase at the first open pixel, and is certified in each tile by its faces and at the seams by its flows; like each surface of whole cycles above the phase it is congruent
 pub record IsPublished (p : Parts) : Type 0 where

@@ -1,22 +1,17 @@
 -- What is said of offsets and flows for a surface: that they are certified, or the first break.
-use Rattle.std.specs.Prelude.{◌≡◌, ◌≢◌, ◌⊎◌, ℕ, ◌<◌, ℤ, pos, List, length, slice_index_or}
+use Rattle.std.specs.Prelude.{◌≡◌, ◌≢◌, ◌⊎◌, length}
 use Rattle.certificates.specs.declared.verdicts.SeamVerdict.{SeamVerdict}
 use Rattle.certificates.specs.declared.verdicts.SeamVerdict.TheVariants.{Good, Shape, Range}
 use Rattle.certificates.specs.SeamVerdicts.{IsSeamVerdict}
+use Rattle.seam_regions.specs.Offsets.{AreNear, IsFirstFar}
 use Rattle.seam_regions.specs.Regions.{AreRegionsOf, label_at}
 use Rattle.surface_snapshots.specs.declared.fault.BuildFault.{BuildFault}
 use Rattle.surface_snapshots.specs.declared.fault.BuildFault.TheVariants.{Uncertified, Memory}
-use Rattle.surface_snapshots.specs.Parts.{Parts, raster_in, open_in, cycles_in_parts, flows_in, IsNear, AreNear}
+use Rattle.surface_snapshots.specs.Parts.{Parts, raster_in, open_in, cycles_in_parts, flows_in}
 
 -- there is an offset for each region
 abbrev pub HasOffsets : Parts → Type 0
 HasOffsets p = length p.seams.offsets ≡ p.regions.count
-
--- region v is the first whose offset is out of range
-pub record IsFirstFar (offsets : List ℤ) (v : ℕ) : Type 0 where
-  pub exists : v < length offsets
-  pub far : IsNear (slice_index_or offsets v (pos 0)) → ⊥
-  pub first : (u : ℕ) → u < v → IsNear (slice_index_or offsets u (pos 0))
 
 -- what the check of the flows says of the surface
 abbrev pub IsFlowsVerdict : Parts → SeamVerdict → Type 0

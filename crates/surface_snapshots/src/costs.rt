@@ -9,12 +9,11 @@ ghost use Rattle.surface_snapshots.specs.Verdicts.{IsFault, IsVerdict};
 use crate::counting::Costs;
 use crate::fault::BuildFault;
 use crate::levels::Levels;
-use crate::offsets::first_far;
 use crate::shifted::ShiftedTiles;
 use crate::tiled::TiledRegions;
 use certificates::{SeamResult, SeamVerdict, TileSet};
 use raster_model::{Mask, Scene, Session};
-use seam_regions::Regions;
+use seam_regions::{Regions, first_far};
 use std::alloc::Global;
 
 /// What is kept of the regions and the costs of a surface that is certified.

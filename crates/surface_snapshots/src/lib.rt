@@ -10,7 +10,6 @@ mod finding;
 mod flows;
 pub mod laws;
 mod levels;
-mod offsets;
 mod packing;
 mod runs;
 mod shifted;

@@ -1,7 +1,7 @@
 ghost use Rattle.raster_model.specs.Tiles.{tile_at, window_of};
+ghost use Rattle.seam_regions.specs.Offsets.{AreNear};
 ghost use Rattle.std.specs.Prelude.{◌≡◌, ◌<◌, length};
 ghost use Rattle.surface_snapshots.specs.Loops.{GoTogether};
-ghost use Rattle.surface_snapshots.specs.Parts.{AreNear};
 ghost use Rattle.surface_snapshots.specs.Tiled.{mask_told, regions_in};
 
 use crate::tiled::TiledRegions;

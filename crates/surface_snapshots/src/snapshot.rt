@@ -1,9 +1,10 @@
 ghost use Rattle.raster_model.specs.Masks.{open_at};
+ghost use Rattle.seam_regions.specs.Offsets.{AreNear};
 ghost use Rattle.std.specs.Arc.{arc_value};
 ghost use Rattle.std.specs.Prelude.{◌≡◌, ◌<◌, ◌≤◌, ◌+◌, ◌^◌, ◌+ℤ◌, ◌*ℤ◌, length, pos, unsigned_abs};
 ghost use Rattle.surface_snapshots.specs.Loops.{GoTogether};
 ghost use Rattle.surface_snapshots.specs.Kept.{parts_kept};
-ghost use Rattle.surface_snapshots.specs.Parts.{AreNear, HaveCosts, IsPublished, parts_from};
+ghost use Rattle.surface_snapshots.specs.Parts.{HaveCosts, IsPublished, parts_from};
 ghost use Rattle.surface_snapshots.specs.Tiled.{mask_told, regions_in};
 
 use crate::costs::certified_costs;

@@ -36,9 +36,8 @@ pub(crate) struct Span {
 
 impl TiledRegions {
     ghost use Rattle.raster_model.specs.Masks.{open_at};
-    ghost use Rattle.raster_model.specs.Tiles.{place_in, tile_at, window_of};
     ghost use Rattle.seam_regions.specs.Regions.{label_at};
-    ghost use Rattle.std.specs.Prelude.{◌+◌, ◌*◌, ◌≤◌, ◌^◌, IfOk, map, unwrap_or};
+    ghost use Rattle.std.specs.Prelude.{◌+◌, ◌≤◌, IfOk, map, unwrap_or};
     ghost use Rattle.surface_snapshots.specs.Runs.{label_there};
     ghost use Rattle.surface_snapshots.specs.Tiled.{mask_told, regions_in};
 

@@ -1,16 +1,15 @@
 -- For the crates above: where every analyst's script has ended and every pass stands in a history, that history is complete.
-use Rattle.std.proofs.Common.{◌≡◌, ◌≢◌, ℕ, zero, suc, ◌+◌, ◌-◌, ◌<◌, ◌≤◌, List, [], ◌∷◌, ◌++◌, length, get_or, Option, Some, None, slice_get, refl, ap, sym, ◌∙◌, subst, arith, length-append}
+use Rattle.std.proofs.Common.{◌≡◌, ℕ, zero, suc, ◌+◌, ◌<◌, ◌≤◌, List, [], ◌∷◌, ◌++◌, length, get_or, Option, Some, None, slice_get, refl, ap, sym, ◌∙◌, subst, arith, length-append}
 use Rattle.std.specs.List.{All}
 use mathlib.Core.Logic.{dite}
 use native.Mathlib.Decide.{dec_lt}
 use Rattle.raster_model.specs.declared.session.Session.{Session}
-use Rattle.raster_model.specs.declared.script.Command.{Command}
 use Rattle.raster_model.specs.declared.script.Script.{Script}
 use Rattle.tile_board.specs.declared.entry.Entry.{Entry}
-use Rattle.tile_board.specs.Histories.{IsComplete, commands_of, done_by, next_command, script_of}
+use Rattle.tile_board.specs.Histories.{IsComplete, commands_of, done_by, next_command}
 use Rattle.tile_board.proofs.ListLemmas.{get_beyond}
 use Rattle.board_desk.specs.Mine.{mine_of}
-use Rattle.board_desk.specs.Passes.{DeskView, IsLater, PassView, Stands, first_pass, first_passes}
+use Rattle.board_desk.specs.Passes.{DeskView, PassView, Stands, first_pass, first_passes}
 use Rattle.board_desk.proofs.Ending.{same_next}
 use Rattle.tile_workers.specs.Scripts.{AreEnded, AreLater, IsDone}
 

@@ -1,4 +1,5 @@
 pub mod ScriptLemmas
 pub mod ClaimLemmas
 pub mod GatherLemmas
+pub mod FreshLemmas
 pub mod CallerLemmas

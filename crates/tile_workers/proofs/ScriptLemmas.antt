@@ -1,11 +1,10 @@
 -- Passes through the work of a script.
-use Rattle.std.proofs.Common.{◌≡◌, ◌⊎◌, ◌∙◌, inl, inr, sym, subst, ap, refl, ℕ, Option, Some, None}
+use Rattle.std.proofs.Common.{◌≡◌, ◌∙◌, subst, refl}
 use Rattle.raster_model.specs.declared.session.Session.{Session}
-use Rattle.tile_board.specs.declared.entry.Entry.{Entry}
 use Rattle.tile_board.specs.BoardView.{BoardView}
-use Rattle.board_desk.specs.Passes.{AddsOwn, Called, DeskView, HasNotMoved, IsAtSettle, IsLater, IsPassOf, Merged, PassView}
+use Rattle.board_desk.specs.Passes.{Called, DeskView, HasNotMoved, IsLater, IsPassOf, Merged, PassView}
 use Rattle.board_desk.proofs.CallerLemmas.{later_called, later_merged, later_self, later_trans, still_of_desk}
-use Rattle.tile_workers.specs.Scripts.{HasSeenMore, HasSettled}
+use Rattle.tile_workers.specs.Scripts.{HasSeenMore}
 
 pub later_at : (p p' q q' : PassView) → p ≡ p' → q ≡ q' → IsLater p q → IsLater p' q'
 later_at p p' q q' a b later = subst (λ (r : PassView × PassView). IsLater r.0 r.1) (λ i. (a i, b i)) later

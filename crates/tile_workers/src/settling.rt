@@ -1,5 +1,7 @@
+ghost use Rattle.board_desk.specs.Answers.{IsCurrent};
 ghost use Rattle.board_desk.specs.Passes.{HasNotMoved, IsAtSettle, IsLater, IsPassOf};
-ghost use Rattle.std.specs.Prelude.{◌≡◌, ◌≢◌, All, IfOk, IfSome, None, OnErr};
+ghost use Rattle.std.specs.Prelude.{◌≡◌, ◌≢◌, All, IfOk, IfSome, None, OnErr, OnSome};
+ghost use Rattle.tile_board.specs.Histories.{IsLegal};
 ghost use Rattle.tile_workers.specs.Scripts.{HasGathered, HasPublished, HasSeenMore, HasSettled};
 
 use crate::gate::Gate;
@@ -31,6 +33,7 @@ pub fn settle<R: Threads + Wait + Sync, G: Gate>(
     requires next { IsAtSettle desk.now.session pass.old }
     ensures later { IsLater pass.old pass.new }
     ensures settled { IfOk result (HasSettled pass.old pass.new) }
+    ensures fresh { IfOk result (IsCurrent pass.old pass.new) }
     ensures unsettled { OnErr result (HasNotMoved pass.old pass.new) }
     ensures ended { pass.new.ended ≡ pass.old.ended }
 {
@@ -130,6 +133,8 @@ fn publish<R: Wait>(
     requires next { IsAtSettle desk.now.session pass.old }
     ensures later { IsLater pass.old pass.new }
     ensures published { IfOk result (HasPublished pass.old pass.new) }
+    ensures fresh { IfOk result (λ answer. IfSome answer (IsCurrent pass.old pass.new)) }
+    ensures legal { IfOk result (λ answer. OnSome answer (IsLegal desk.now.session pass.new.seen)) }
     ensures unpublished { OnErr result (HasNotMoved pass.old pass.new) }
     ensures ended { pass.new.ended ≡ pass.old.ended }
 {

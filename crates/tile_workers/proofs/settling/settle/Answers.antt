@@ -1,0 +1,21 @@
+use Rattle.std.proofs.Common.{rules}
+use Rattle.board_desk.proofs.CallerLemmas.{later_called, later_trans}
+use Rattle.board_desk.proofs.Publications.{current_before}
+use Rattle.board_desk.specs.Answers.{IsCurrent}
+use Rattle.tile_workers.proofs.FreshLemmas.{current_since, settled_now}
+use Rattle.tile_workers.proofs.settling.settle.Goals as goal
+
+pub returns-in-Ok-Settled-clause-fresh : goal.returns-in-Ok-Settled-clause-fresh
+returns-in-Ok-Settled-clause-fresh g c =
+    let now : IsCurrent c.loop.pass c.advance.new.pass c.in-Ok-Settled.revision = settled_now c.loop.pass c.advance.new.pass c.advance.result.answer c.in-Ok-Settled.revision search rules c.advance.ensures.fresh in
+    current_before c.args.desk.now.session c.args.pass.now c.loop.pass c.advance.new.pass c.in-Ok-Settled.revision _ c.loop.invariant.1.1.later c.advance.ensures.call now
+
+pub returns-in-Some-2-clause-fresh : goal.returns-in-Some-2-clause-fresh
+returns-in-Some-2-clause-fresh g c =
+    let now = rw c.in-Some-2.is at c.in_ok-revision.ensures.fresh in
+    let legal = rw c.in-Some-2.is at c.in_ok-revision.ensures.legal in
+    let called = later_called c.args.desk.now.session c.loop.pass c.advance.new.pass _ c.advance.ensures.call in
+    let published = later_trans c.advance.new.pass c.solve_tiles.new.pass c.publish.new.pass c.solve_tiles.ensures.later c.publish.ensures.later in
+    let later =
+    later_trans c.args.pass.now c.loop.pass c.publish.new.pass c.loop.invariant.1.1.later (later_trans c.loop.pass c.advance.new.pass c.publish.new.pass called published) in
+    current_since c.args.desk.now.session c.args.pass.now c.publish.new.pass c.in-Some-2.revision later.seen legal now.1

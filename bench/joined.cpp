@@ -8,6 +8,7 @@
 #include <cstdio>
 #include <cstdlib>
 #include <string>
+#include <tuple>
 #include <vector>
 
 #include <lemon/network_simplex.h>
@@ -158,9 +159,12 @@ static void flood(Raster &raster) {
   }
 }
 
+// Seam edges between two regions, the lower-numbered first, whose surfaces differ by the same cycles: as many as weigh this
+// together.
 struct Seam {
-  int from, to, weight;
-  std::int64_t departure;
+  int from, to;
+  std::int64_t departure, weight;
+  auto key() const { return std::tie(from, to, departure); }
 };
 
 static std::vector<Seam> seams_of(const Raster &raster) {
@@ -168,7 +172,9 @@ static std::vector<Seam> seams_of(const Raster &raster) {
   auto add = [&](std::size_t p, std::size_t q) {
     if (!raster.is_open(p) || !raster.is_open(q)) return;
     std::int64_t departure = std::int64_t(raster.cycles[q]) - raster.cycles[p] - raster.turns(p, q);
-    seams.push_back({raster.regions[p], raster.regions[q], raster.weight(p, q), departure});
+    int from = raster.regions[p], to = raster.regions[q];
+    if (from > to) std::swap(from, to), departure = -departure;
+    seams.push_back({from, to, departure, raster.weight(p, q)});
   };
   for (int y = 0; y < raster.height; ++y)
     for (int x = 0; x < raster.width; ++x) {
@@ -176,29 +182,51 @@ static std::vector<Seam> seams_of(const Raster &raster) {
       if (x + 1 < raster.width && (x + 1) % raster.side == 0) add(p, p + 1);
       if (y + 1 < raster.height && (y + 1) % raster.side == 0) add(p, p + raster.width);
     }
-  return seams;
+  std::sort(seams.begin(), seams.end(), [](const Seam &a, const Seam &b) { return a.key() < b.key(); });
+  std::vector<Seam> joined;
+  for (const Seam &seam : seams)
+    if (joined.empty() || joined.back().key() != seam.key()) joined.push_back(seam);
+    else joined.back().weight += seam.weight;
+  return joined;
 }
 
-// One arc for each seam edge, from its first pixel's region to the other's, with flows from minus its weight to its
-// weight; the offsets are the potentials.
+// The flow of a seam lies from minus its weight to its weight. It starts at the end at which it costs least, counted as supply,
+// so that no arc costs less than 0; where the surface does not depart it starts at 0. The offsets are the potentials.
 static std::vector<std::int64_t> offsets_of(const Raster &raster) {
   std::vector<Seam> seams = seams_of(raster);
-  std::vector<std::int64_t> offsets(raster.region_count, 0);
+  std::vector<std::int64_t> offsets(raster.region_count, 0), supply(raster.region_count, 0);
   if (raster.region_count < 2 || seams.empty()) return offsets;
+  struct Arc {
+    int from, to;
+    std::int64_t cost, capacity;
+  };
+  std::vector<Arc> arcs;
+  for (const Seam &seam : seams) {
+    int from = seam.departure > 0 ? seam.to : seam.from, to = seam.departure > 0 ? seam.from : seam.to;
+    if (seam.departure == 0) {
+      arcs.push_back({from, to, 0, seam.weight});
+      arcs.push_back({to, from, 0, seam.weight});
+    } else {
+      arcs.push_back({from, to, std::abs(seam.departure), 2 * seam.weight});
+      supply[from] += seam.weight;
+      supply[to] -= seam.weight;
+    }
+  }
+  std::sort(arcs.begin(), arcs.end(), [](const Arc &a, const Arc &b) { return std::tie(a.from, a.to) < std::tie(b.from, b.to); });
   Graph graph;
   graph.reserveNode(raster.region_count);
-  graph.reserveArc(seams.size());
+  graph.reserveArc(arcs.size());
   for (int k = 0; k < raster.region_count; ++k) graph.addNode();
-  for (const Seam &seam : seams) graph.addArc(graph.nodeFromId(seam.from), graph.nodeFromId(seam.to));
-  Graph::ArcMap<std::int64_t> lower(graph), upper(graph), costs(graph);
-  for (std::size_t k = 0; k < seams.size(); ++k) {
-    Graph::Arc arc = graph.arcFromId(int(k));
-    lower[arc] = -seams[k].weight;
-    upper[arc] = seams[k].weight;
-    costs[arc] = -seams[k].departure;
+  for (const Arc &arc : arcs) graph.addArc(graph.nodeFromId(arc.from), graph.nodeFromId(arc.to));
+  Graph::ArcMap<std::int64_t> capacities(graph), costs(graph);
+  for (std::size_t k = 0; k < arcs.size(); ++k) {
+    capacities[graph.arcFromId(int(k))] = arcs[k].capacity;
+    costs[graph.arcFromId(int(k))] = arcs[k].cost;
   }
+  Graph::NodeMap<std::int64_t> supplies(graph);
+  for (int k = 0; k < raster.region_count; ++k) supplies[graph.nodeFromId(k)] = supply[k];
   Simplex simplex(graph);
-  if (simplex.lowerMap(lower).upperMap(upper).costMap(costs).run() != Simplex::OPTIMAL) std::exit(1);
+  if (simplex.upperMap(capacities).costMap(costs).supplyMap(supplies).run() != Simplex::OPTIMAL) std::exit(1);
   for (int k = 0; k < raster.region_count; ++k) offsets[k] = simplex.potential(graph.nodeFromId(k));
   return offsets;
 }

@@ -20,7 +20,7 @@ use Rattle.tile_board.specs.declared.gathered.Gathered.{Gathered}
 use Rattle.tile_board.specs.declared.ticket.Ticket.{Ticket}
 use Rattle.tile_board.specs.BoardView.{BoardView}
 use Rattle.tile_board.specs.Boards.{IsBoard}
-use Rattle.tile_board.specs.Calls.{Adds, HasAdvanceFault, HasClaimFault, HasGatherFault, HasKeepFault, HasPublishFault, IsAdvance, IsClaim, IsGathering, IsKeep, IsPublication}
+use Rattle.tile_board.specs.Calls.{AddsEntry, HasAdvanceFault, HasClaimFault, HasGatherFault, HasKeepFault, HasPublishFault, IsAdvance, IsClaim, IsGathering, IsKeep, IsPublication}
 use Rattle.board_desk.specs.declared.law.View.{View}
 use Rattle.board_desk.specs.Answers.{AdvanceAnswers, ClaimAnswers, GatherAnswers, KeepAnswers, PublishAnswers}
 use Rattle.board_desk.specs.Mine.{mine_of}
@@ -87,7 +87,7 @@ some_apart : (a b : ℕ) → (Some a ≡ Some b → ⊥) → a ≢ b
 some_apart a b h e = h (ap (λ (x : ℕ). Some x) e)
 
 -- one entry that names the analyst a, or nobody
-adds_own : (a : ℕ) (b c : BoardView) (e : Entry) → ((d : ℕ) → a ≢ d → mine_of (Some d) (e ∷ []) ≡ []) → Adds b c e → Grows (Some a) b c
+adds_own : (a : ℕ) (b c : BoardView) (e : Entry) → ((d : ℕ) → a ≢ d → mine_of (Some d) (e ∷ []) ≡ []) → AddsEntry b c e → Grows (Some a) b c
 adds_own a b c e others adds = record {
   added = e ∷ [];
   log_is = adds.entries;

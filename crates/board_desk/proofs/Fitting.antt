@@ -9,7 +9,7 @@ use Rattle.raster_model.specs.declared.session.Session.{Session}
 use Rattle.tile_board.specs.declared.entry.Entry.{Entry}
 use Rattle.board_desk.specs.declared.law.View.{View}
 use Rattle.board_desk.specs.Mine.{mine_of}
-use Rattle.board_desk.specs.Rules.{Meets, Fits, claim, no_claim, opener, spent, enrolling, enrolled, plain_copy, with_seen, longer_of, beside_of, holding_it, given}
+use Rattle.board_desk.specs.Rules.{HoldsIn, Fits, claim, no_claim, opener, spent, enrolling, enrolled, plain_copy, with_seen, longer_of, beside_of, holding_it, given}
 use Rattle.board_desk.proofs.Histories.{prefix_nil, prefix_self, prefix_more, prefix_shorter, same_mine, none_before, mine_between}
 
 -- the view of one seat changes
@@ -30,10 +30,10 @@ pub each_end : (P : ℕ → View → Type 0) (vs : List View) (w : View) → P (
 each_end P vs w mine others j v e = ⊎_elim (λ t. others j v t)
     (λ (t : (j ≡ length vs) × (some w ≡ some v)). let same : w ≡ v = cc (t.1) in subst (λ (x : ℕ × View). P x.0 x.1) (λ i. (sym t.0 i, same i)) mine) (at_end vs w v j e)
 
-meets_none : (log : List Entry) → Meets log no_claim
+meets_none : (log : List Entry) → HoldsIn log no_claim
 meets_none log = record { begins = prefix_nil log; exact = refl }
 
-meets_plain : (log seen : List Entry) → IsPrefix seen log → Meets log (claim None seen [])
+meets_plain : (log seen : List Entry) → IsPrefix seen log → HoldsIn log (claim None seen [])
 meets_plain log seen p = record { begins = p; exact = refl }
 
 module _ (session : Session) (log : List Entry) (owner : ℕ → ℕ) (next holder giver out : ℕ) where

@@ -10,12 +10,12 @@ use Rattle.board_desk.proofs.Ending.{same_next}
 use mathlib.Core.List.{IsPrefix}
 use Rattle.tile_board.specs.declared.entry.Entry.{Entry}
 use Rattle.board_desk.specs.declared.law.View.{View}
-use Rattle.board_desk.specs.Rules.{Meets, Merges, Place, longer_of, with_seen}
+use Rattle.board_desk.specs.Rules.{HoldsIn, Merges, Place, longer_of, with_seen}
 use Rattle.board_desk.proofs.Histories.{prefix_self}
 use Rattle.board_desk.proofs.Fitting.{length_cases}
 
 merged_at : (v w n : View) (b : Bool) → ((b ≡ true) × (length w.own.seen ≤ length v.own.seen)) ⊎ ((b ≡ false) × (length v.own.seen ≤ length w.own.seen))
-    → n ≡ cond b (with_seen v v.own.seen w.own.seen) (with_seen v w.own.seen v.own.seen) → Meets n.own.seen n.beside → Merges v w n
+    → n ≡ cond b (with_seen v v.own.seen w.own.seen) (with_seen v w.own.seen v.own.seen) → HoldsIn n.own.seen n.beside → Merges v w n
 merged_at v w n true h is m =
     let short : length w.own.seen ≤ length v.own.seen = ⊎_elim (λ (t : (true ≡ true) × (length w.own.seen ≤ length v.own.seen)). t.1) (λ (t : (true ≡ false) × (length v.own.seen ≤ length w.own.seen)). absurd (cc (t.0))) h in
     let seen : n.own.seen ≡ v.own.seen = ap (λ (x : View). x.own.seen) is in
@@ -33,7 +33,7 @@ merged_at v w n false h is m =
       second = subst (λ (l : List Entry). IsPrefix w.own.seen l) (sym seen) (prefix_self w.own.seen);
     }
 
-pub merged : (v w n : View) → n ≡ longer_of v w → Meets n.own.seen n.beside → Merges v w n
+pub merged : (v w n : View) → n ≡ longer_of v w → HoldsIn n.own.seen n.beside → Merges v w n
 merged v w n is m = merged_at v w n (leb (length w.own.seen) (length v.own.seen)) (length_cases (length w.own.seen) (length v.own.seen)) is m
 
 -- the seat that took in another has seen the other's history, where that is longer

@@ -19,7 +19,7 @@ use Rattle.tile_board.specs.Histories.{IsLegal, IsStep, newest_of, now_of}
 use Rattle.tile_board.specs.Runs.{IsNoLater}
 use Rattle.tile_board.proofs.HistoryLemmas.{edits_same, legal_take, newest_more, newest_same, newest_within}
 use Rattle.board_desk.specs.Answers.{IsCurrent, IsUpToDate}
-use Rattle.board_desk.specs.Passes.{Called, IsLater, PassView}
+use Rattle.board_desk.specs.Passes.{Called, IsLaterPass, PassView}
 
 -- ---- revisions, or none
 later_self : (r : Option ℕ) → IsNoLater r r
@@ -101,7 +101,7 @@ published_now p q a seams b c (Ok x) begins legal seen is = (
 published_now p q a seams b c (Err fault) begins legal seen is = tt
 
 -- a revision that is current for a later pass, by a call, is so for an earlier one
-pub current_before : (s : Session) (e p q : PassView) (r : ℕ) (answers : BoardView → BoardView → Type 0) → IsLater e p → Called s p q answers → IsCurrent p q r → IsCurrent e q r
+pub current_before : (s : Session) (e p q : PassView) (r : ℕ) (answers : BoardView → BoardView → Type 0) → IsLaterPass e p → Called s p q answers → IsCurrent p q r → IsCurrent e q r
 current_before s e p q r answers later c now = (
   later_trans (newest_of e.seen) (newest_of p.seen) (Some r)
       (newest_later c.before.session e.seen p.seen later.seen (legal_prefix c.before.session p.seen c.before.entries c.begins c.found.legal)) now.0,

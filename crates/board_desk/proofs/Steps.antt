@@ -13,7 +13,7 @@ use Rattle.tile_board.specs.declared.entry.Entry.{Entry}
 use Rattle.tile_board.specs.BoardView.{BoardView}
 use Rattle.board_desk.specs.declared.law.View.{View}
 use Rattle.board_desk.specs.Mine.{mine_of}
-use Rattle.board_desk.specs.Rules.{Meets, Fits, Item, Homes, IsAtHome, IsRuled, Place, opener, spent, enrolling, enrolled, plain_copy, with_seen, longer_of, beside_of, holding_it, given, looked, sat, took, gave, TakesOut, Grown}
+use Rattle.board_desk.specs.Rules.{HoldsIn, Fits, Item, Homes, IsAtHome, IsRuled, Place, opener, spent, enrolling, enrolled, plain_copy, with_seen, longer_of, beside_of, holding_it, given, looked, sat, took, gave, TakesOut, Grown}
 use Rattle.board_desk.proofs.Fitting.{each_set, each_end, spent_fits, copy_fits, owner_after, still_fits, enrolling_fits, enrolled_fits, not_giving, longer_fits, length_cases, takes_fits, no_holder_fits, gives_fits, others_fit, newcomer_fits, opener_fits}
 use Rattle.board_desk.proofs.Histories.{prefix_self, prefix_shorter, same_mine}
 
@@ -117,7 +117,7 @@ settles session id other v w on = joins session id other v w (beside_of v w) (λ
   session_is = f.session_is;
   own = f.own;
   own_seen = f.own_seen;
-  beside = subst (λ (l : List Entry). Meets l w.own) (sym (f.holding on).1) g.own;
+  beside = subst (λ (l : List Entry). HoldsIn l w.own) (sym (f.holding on).1) g.own;
   owns = f.owns;
   holding = f.holding;
   giving = f.giving;

@@ -39,7 +39,7 @@ pub record IsSamePass (p q : PassView) : Type 0 where
   pub analyst : q.analyst ≡ p.analyst
 
 -- q is the pass p later: what was seen and what was added only grew
-pub record IsLater (p q : PassView) : Type 0 where
+pub record IsLaterPass (p q : PassView) : Type 0 where
   pub same : IsSamePass p q
   pub seen : IsPrefix p.seen q.seen
   pub mine : IsPrefix p.mine q.mine
@@ -51,8 +51,8 @@ pub record HasNotMoved (p q : PassView) : Type 0 where
 
 -- ---- passes by themselves
 -- by what was seen, the analyst's script is at its end; by what was added, its next command is to settle
-abbrev pub IsAtEnd : PassView → Type 0
-IsAtEnd p = (s : Session) (a : ℕ) → p.session ≡ Some s → p.analyst ≡ Some a → next_command s p.seen a ≡ None
+abbrev pub HasNoCommandLeft : PassView → Type 0
+HasNoCommandLeft p = (s : Session) (a : ℕ) → p.session ≡ Some s → p.analyst ≡ Some a → next_command s p.seen a ≡ None
 
 pub record IsAtSettle (s : Session) (p : PassView) : Type 0 where
   pub analyst : ℕ
@@ -62,7 +62,7 @@ pub record IsAtSettle (s : Session) (p : PassView) : Type 0 where
 -- what was added in the analyst's name is what the history that was seen has of it; if an end was told, the script is at its end there
 pub record IsSound (p : PassView) : Type 0 where
   pub exact : p.mine ≡ mine_of p.analyst p.seen
-  pub at_end : p.ended ≡ true → IsAtEnd p
+  pub at_end : p.ended ≡ true → HasNoCommandLeft p
 
 -- the passes of the analysts from 1 on, in order, before the first entry
 abbrev pub first_pass : DeskView → ℕ → PassView

@@ -13,16 +13,16 @@ use Rattle.board_desk.specs.declared.law.View.{View}
 use Rattle.board_desk.specs.Mine.{mine_of}
 
 -- a claim stands in a history: what was seen begins the history, and the claim's entries are the analyst's entries there
-pub record Meets (log : List Entry) (c : Claim) : Type 0 where
+pub record HoldsIn (log : List Entry) (c : Claim) : Type 0 where
   pub begins : IsPrefix c.seen log
   pub exact : c.mine ≡ mine_of c.analyst log
 
 -- what the seat i knows, if the history is `log`: the session, what its own claim and the claim beside it say, and which analysts' numbers and which board are its own
 pub record Fits (session : Session) (log : List Entry) (owner : ℕ → ℕ) (next holder giver out : ℕ) (i : ℕ) (v : View) : Type 0 where
   pub session_is : (x : Session) → v.session ≡ Some x → x ≡ session
-  pub own : Meets log v.own
+  pub own : HoldsIn log v.own
   pub own_seen : v.own.mine ≡ mine_of v.own.analyst v.own.seen
-  pub beside : Meets v.own.seen v.beside
+  pub beside : HoldsIn v.own.seen v.beside
   pub owns : (a : ℕ) → v.own.analyst ≡ Some a → (owner a ≡ i) × (a < next)
   pub holding : v.holds ≡ true → (holder ≡ i) × (v.own.seen ≡ log) × (out ≡ 1)
   pub giving : v.gives ≡ true → (giver ≡ i) × (v.next ≡ next)
@@ -105,7 +105,7 @@ abbrev pub Place : Type 0
 Place = Me Item View
 
 abbrev pub looked : Step Item → Place → ℕ → Place → Type 0
-looked st m found n = (n ≡ m) × Meets m.0.own.seen m.0.beside × (m.0.own.mine ≡ mine_of m.0.own.analyst m.0.own.seen)
+looked st m found n = (n ≡ m) × HoldsIn m.0.own.seen m.0.beside × (m.0.own.mine ≡ mine_of m.0.own.analyst m.0.own.seen)
 
 -- a new seat, which has seen nothing
 abbrev pub sat : Step Item → Place → ℕ → Place → Type 0

@@ -294,11 +294,11 @@ impl Desk {
     {
         let Desk { table } = self;
         let (_, mut seat) = table.shared.load_new_seat::<Sit>(0);
-        let board = take_board(rt, &table.shared, &mut seat);
+        let home = take_board(rt, &table.shared, &mut seat);
         while let Some(pass) = passes.pop() {
             meet(&table.shared, &mut seat, pass);
         }
-        board
+        home
     }
 }
 

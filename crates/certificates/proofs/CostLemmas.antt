@@ -12,7 +12,7 @@ use Rattle.raster_model.specs.Tiles.{IsWithin, IsWindowOf}
 use Rattle.raster_model.specs.Heights.{KnowsEnds, KnowsOpenOf}
 use Rattle.raster_model.specs.Scene.{raster_of}
 use Rattle.certificates.specs.declared.tile.Tile.{Tile}
-use Rattle.certificates.specs.TileWords.{AreOpenFrom, mask_in}
+use Rattle.certificates.specs.TileWords.{AreRowsOpen, held_mask}
 use Rattle.raster_model.proofs.WindowCosts.{cost_from_is}
 use Rattle.std.proofs.lemmas.Bool.{and_parts}
 use Rattle.sums_and_lists.specs.Sums.{where_true}
@@ -48,14 +48,14 @@ module _ (s : Scene) (mask knows : Field Bool) (tile : ℕ) (v : Window) (is : I
 pub both_true : (a b : Bool) → IsTrue a → IsTrue b → IsTrue (a && b)
 both_true a b p q = rw (p, q) refl
 
-module _ (k : Tile) (x y : ℕ) (clear : AreOpenFrom k y) (w : IsWithin k.window x y) where
-  pub right_open : x < k.window.x1 → IsTrue (has_open_ends (mask_in k) (right_edge x y))
+module _ (k : Tile) (x y : ℕ) (clear : AreRowsOpen k y) (w : IsWithin k.window x y) where
+  pub right_open : x < k.window.x1 → IsTrue (has_open_ends (held_mask k) (right_edge x y))
   right_open l =
-      both_true (mask_in k x y) (mask_in k (x + 1) y) (clear x y w (omega arith) (omega arith)) (clear (x + 1) y (omega (arith, w), omega (arith, l), w.2, w.3) (omega arith) (omega arith))
+      both_true (held_mask k x y) (held_mask k (x + 1) y) (clear x y w (omega arith) (omega arith)) (clear (x + 1) y (omega (arith, w), omega (arith, l), w.2, w.3) (omega arith) (omega arith))
 
-  pub lower_open : y < k.window.y1 → IsTrue (has_open_ends (mask_in k) (down_edge x y))
+  pub lower_open : y < k.window.y1 → IsTrue (has_open_ends (held_mask k) (down_edge x y))
   lower_open l =
-      both_true (mask_in k x y) (mask_in k x (y + 1)) (clear x y w (omega arith) (omega arith)) (clear x (y + 1) (w.0, w.1, omega (arith, w), omega (arith, l)) (omega arith) (omega arith))
+      both_true (held_mask k x y) (held_mask k x (y + 1)) (clear x y w (omega arith) (omega arith)) (clear x (y + 1) (w.0, w.1, omega (arith, w), omega (arith, l)) (omega arith) (omega arith))
 
 -- a cost that is worked out, or 0
 pub cost_or_none : (a b : ℕ) → a ≡ b → b ≤ 65535 * (2 ^ 49 + 1) → a ≤ 65535 * (2 ^ 49 + 1)

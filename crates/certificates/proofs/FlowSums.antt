@@ -5,13 +5,13 @@ use Rattle.std.proofs.lemmas.Int.{ints, fits_signed_from_abs}
 use Rattle.std.proofs.lemmas.Bool.Decides.{nat_tests, eqb_tells}
 use Rattle.std.proofs.lemmas.List.{length-set, get_or-set_same, get_or-set_other, get_or-replicate, get_or_past, length-replicate}
 use Rattle.raster_model.specs.declared.edge.Edge.{Edge}
-use Rattle.raster_model.specs.Sums.{Field, is_edge, right_edge, down_edge, edges_from, sum_edges, sum_grid, sum_row, at_start, at_end}
+use Rattle.raster_model.specs.Sums.{Field, is_edge, right_edge, down_edge, edges_from, sum_edges, sum_grid, sum_row, at_edge_start, at_edge_end}
 use Rattle.raster_model.specs.Raster.{Raster, is_seam, lifted}
 use Rattle.raster_model.specs.Seams.{flow_in, flow_out, flow_total}
 use Rattle.raster_model.proofs.SumLemmas.{sum_edges-add, sum_edges-same}
 use Rattle.certificates.specs.declared.seam_flows.SeamFlows.{SeamFlows}
-use Rattle.certificates.specs.FlowWords.{raster_in, mask_in, flow_of, region_in, net_flow, moved_on, moved_from, seam_product, product_on, product_from, total_of}
-use Rattle.certificates.specs.Growth.{AreWithin, HasGrown}
+use Rattle.certificates.specs.FlowWords.{held_raster, held_mask, flow_of, region_in, net_flow, moved_on, moved_from, seam_product, product_on, product_from, total_of}
+use Rattle.certificates.specs.Growth.{AreWithinWeights, HasGrown}
 use Rattle.std.proofs.lemmas.Bool.{cases_lt}
 use Rattle.sums_and_lists.proofs.Tests.{same_number}
 use Rattle.sums_and_lists.specs.Sums.{where_true}
@@ -30,7 +30,7 @@ set_grown xs place a z l e = record {
     none : (x m : ℤ) → m ≡ pos 0 → x ≡ x +ℤ m
     none x m p = omega (arith, ints)
 
-pub set_within : (xs : List ℤ) (place : ℕ) (a z : ℤ) → place < length xs → z ≡ get_or xs place (pos 0) +ℤ a → unsigned_abs a ≤ 65535 → (n : ℕ) → AreWithin n xs → AreWithin (n + 1) (set xs place z)
+pub set_within : (xs : List ℤ) (place : ℕ) (a z : ℤ) → place < length xs → z ≡ get_or xs place (pos 0) +ℤ a → unsigned_abs a ≤ 65535 → (n : ℕ) → AreWithinWeights n xs → AreWithinWeights (n + 1) (set xs place z)
 set_within xs place a z l e small n h v = elim (eqb_tells place v) [
   | inl t ↦ rw (← t.1, get_or-set_same xs place z (pos 0) l, e) (grows (get_or xs place (pos 0)) a n (h place) small)
   | inr t ↦ rw (get_or-set_other xs place v z (pos 0) (λ p. t.1 (sym p))) (stays (get_or xs v (pos 0)) n (h v))
@@ -69,7 +69,7 @@ pub moved_both : (k : SeamFlows) (labels : List ℕ) (x y : ℕ) → x < k.scene
 moved_both k labels x y l m a b c g h = record {
   same_length = h.same_length ∙ g.same_length;
   grown = λ v n. (
-      let t = both_terms k.scene.now.phase.width k.scene.now.phase.height x y (net_flow (raster_in k) (flow_of k) (region_in k labels v)) l m in
+      let t = both_terms k.scene.now.phase.width k.scene.now.phase.height x y (net_flow (held_raster k) (flow_of k) (region_in k labels v)) l m in
       added _ _ _ _ _ _ (g.grown v n) (h.grown v (omega (arith, g.same_length))) t);
 }
   where
@@ -78,7 +78,7 @@ moved_both k labels x y l m a b c g h = record {
 
 pub product_both : (k : SeamFlows) (cycles : Field ℤ) (x y : ℕ) → x < k.scene.now.phase.width → y < k.scene.now.phase.height → (p q : ℤ) → p ≡ product_on k cycles (right_edge x y) → q ≡ product_on k cycles (down_edge x y) → p +ℤ q ≡ product_from k cycles x y
 product_both k cycles x y l m p q e f =
-    rw (e, f) (both_terms k.scene.now.phase.width k.scene.now.phase.height x y (seam_product (raster_in k) (mask_in k) (lifted (raster_in k) cycles) (flow_of k)) l m)
+    rw (e, f) (both_terms k.scene.now.phase.width k.scene.now.phase.height x y (seam_product (held_raster k) (held_mask k) (lifted (held_raster k) cycles) (flow_of k)) l m)
 
 pub total_is : (k : SeamFlows) (cycles : Field ℤ) → sum_grid k.scene.now.phase.width k.scene.now.phase.height (product_from k cycles) ≡ total_of k cycles
 unfolding flow_total seam_product
@@ -95,8 +95,8 @@ net_is false t u z = omega (arith, ints)
 net_total : (r : Raster) (F : Edge → ℤ) (R : Field Bool) → sum_edges r.width r.height (net_flow r F R) ≡ flow_in r F R -ℤ flow_out r F R
 unfolding net_flow
 net_total r F R =
-    let a = sum_edges-add r.width r.height (λ e. where_true (is_seam r e) (where_true (at_end R e) (F e) -ℤ where_true (at_start R e) (F e))) (λ e. where_true (is_seam r e && at_start R e) (F e)) in
-    let b = sum_edges-same r.width r.height (λ e. where_true (is_seam r e) (where_true (at_end R e) (F e) -ℤ where_true (at_start R e) (F e)) +ℤ where_true (is_seam r e && at_start R e) (F e)) (λ e. where_true (is_seam r e && at_end R e) (F e)) (λ e i. net_is (is_seam r e) (at_end R e) (at_start R e) (F e)) in
+    let a = sum_edges-add r.width r.height (λ e. where_true (is_seam r e) (where_true (at_edge_end R e) (F e) -ℤ where_true (at_edge_start R e) (F e))) (λ e. where_true (is_seam r e && at_edge_start R e) (F e)) in
+    let b = sum_edges-same r.width r.height (λ e. where_true (is_seam r e) (where_true (at_edge_end R e) (F e) -ℤ where_true (at_edge_start R e) (F e)) +ℤ where_true (is_seam r e && at_edge_start R e) (F e)) (λ e. where_true (is_seam r e && at_edge_end R e) (F e)) (λ e i. net_is (is_seam r e) (at_edge_end R e) (at_edge_start R e) (F e)) in
     less _ _ _ (sym a ∙ b)
   where
     less : (x y z : ℤ) → x +ℤ y ≡ z → x ≡ z -ℤ y
@@ -140,11 +140,11 @@ module _ (k : SeamFlows) (labels : List ℕ) where
       row : (a g s h n : ℤ) → a ≡ g +ℤ s → h ≡ g +ℤ s → n ≡ pos 0 → a ≡ h +ℤ n
       row a g s h n p q e = omega (arith, ints)
 
-  pub so_far_all : (y : ℕ) (sums : List ℤ) → y ≡ k.scene.now.phase.height → AreSoFar k labels 0 y sums → (v : ℕ) → v < length sums → get_or sums v (pos 0) ≡ flow_in (raster_in k) (flow_of k) (region_in k labels v) -ℤ flow_out (raster_in k) (flow_of k) (region_in k labels v)
+  pub so_far_all : (y : ℕ) (sums : List ℤ) → y ≡ k.scene.now.phase.height → AreSoFar k labels 0 y sums → (v : ℕ) → v < length sums → get_or sums v (pos 0) ≡ flow_in (held_raster k) (flow_of k) (region_in k labels v) -ℤ flow_out (held_raster k) (flow_of k) (region_in k labels v)
   so_far_all y sums e s v l =
       let f : Field ℤ = moved_from k labels v in
       let t = rw e at (s.each v l) in
-      last _ _ _ t (sum_below-none (λ i. f i k.scene.now.phase.height)) ∙ net_total (raster_in k) (flow_of k) (region_in k labels v)
+      last _ _ _ t (sum_below-none (λ i. f i k.scene.now.phase.height)) ∙ net_total (held_raster k) (flow_of k) (region_in k labels v)
     where
       last : (a g n : ℤ) → a ≡ g +ℤ n → n ≡ pos 0 → a ≡ g
       last a g n p e = omega (arith, ints)

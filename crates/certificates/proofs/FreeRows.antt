@@ -10,7 +10,7 @@ use Rattle.raster_model.proofs.WindowCosts.{cost_from_is, cost_from-outside}
 use Rattle.certificates.specs.declared.tile.Tile.{Tile}
 use Rattle.certificates.proofs.RangeLemmas.{neither}
 use Rattle.certificates.proofs.SeamLemmas.{is_zero}
-use Rattle.certificates.specs.TileWords.{FollowsDown, FollowsRight, cost_at, mask_in, raster_in, surface_at}
+use Rattle.certificates.specs.TileWords.{TileFollowsDown, TileFollowsRight, cost_at, held_mask, held_raster, surface_of_cycles}
 use Rattle.sums_and_lists.specs.Sums.{where_true}
 use Rattle.sums_and_lists.proofs.Orders.{below_or_last, lt_is, not_lt_is}
 use Rattle.sums_and_lists.proofs.SumLemmas.{no_number, picked, sum_below-zeros, where_true-zero}
@@ -24,24 +24,24 @@ none_before : (a b : ℕ) (z : ℤ) → (a < b → z ≡ pos 0) → where_true (
 none_before a b z f =
     elim (cases_lt a b) [ inl l ↦ picked (nat_lt a b) z (lt_is a b l) ∙ f l | inr l ↦ no_number (nat_lt a b) z (not_lt_is a b l) ]
 
-module _ (k : Tile) (cycles : Field ℤ) (y : ℕ) (row : (k.window.y0 ≤ y) × (y ≤ k.window.y1)) (right : FollowsRight k cycles y k.window.x1) (down : y < k.window.y1 → FollowsDown k cycles y (k.window.x1 + 1)) where
-  free_edge : (e : Edge) → departure (raster_in k) (surface_at k cycles) e ≡ pos 0 → edge_cost (raster_in k) (mask_in k) (surface_at k cycles) e ≡ pos 0
-  free_edge e d = no_product (has_open_ends (mask_in k) e) (masked_weight (raster_in k) (mask_in k) e) (departure (raster_in k) (surface_at k cycles) e) d
+module _ (k : Tile) (cycles : Field ℤ) (y : ℕ) (row : (k.window.y0 ≤ y) × (y ≤ k.window.y1)) (right : TileFollowsRight k cycles y k.window.x1) (down : y < k.window.y1 → TileFollowsDown k cycles y (k.window.x1 + 1)) where
+  free_edge : (e : Edge) → departure (held_raster k) (surface_of_cycles k cycles) e ≡ pos 0 → edge_cost (held_raster k) (held_mask k) (surface_of_cycles k cycles) e ≡ pos 0
+  free_edge e d = no_product (has_open_ends (held_mask k) e) (masked_weight (held_raster k) (held_mask k) e) (departure (held_raster k) (surface_of_cycles k cycles) e) d
 
   free_within : (x : ℕ) → k.window.x0 ≤ x → x ≤ k.window.x1 → cost_at k cycles x y ≡ pos 0
   free_within x l m =
-      cost_from_is k.scene.now (mask_in k) (surface_at k cycles) k.number k.window k.pixels x y (l, m, row.0, row.1)
+      cost_from_is k.scene.now (held_mask k) (surface_of_cycles k cycles) k.number k.window k.pixels x y (l, m, row.0, row.1)
       ∙ ap₂ (λ (a b : ℤ). a +ℤ b)
-      (none_before x k.window.x1 (edge_cost (raster_in k) (mask_in k) (surface_at k cycles) (right_edge x y)) (λ n. free_edge (right_edge x y) (right x l n)))
-      (none_before y k.window.y1 (edge_cost (raster_in k) (mask_in k) (surface_at k cycles) (down_edge x y)) (λ n. free_edge (down_edge x y) (down n x l (omega (arith, m)))))
+      (none_before x k.window.x1 (edge_cost (held_raster k) (held_mask k) (surface_of_cycles k cycles) (right_edge x y)) (λ n. free_edge (right_edge x y) (right x l n)))
+      (none_before y k.window.y1 (edge_cost (held_raster k) (held_mask k) (surface_of_cycles k cycles) (down_edge x y)) (λ n. free_edge (down_edge x y) (down n x l (omega (arith, m)))))
 
   free_at : (x : ℕ) → x < k.scene.now.phase.width → cost_at k cycles x y ≡ pos 0
   free_at x l =
       let high : y < k.scene.now.phase.height = omega (arith, row, k.pixels.along, k.scene.now.same_height) in
       elim (cases_lt x k.window.x0) [
-        | inl m ↦ cost_from-outside k.scene.now (mask_in k) (surface_at k cycles) k.number k.window k.pixels x y l high (λ w. omega (arith, w, m))
+        | inl m ↦ cost_from-outside k.scene.now (held_mask k) (surface_of_cycles k cycles) k.number k.window k.pixels x y l high (λ w. omega (arith, w, m))
         | inr m ↦ (elim (cases_lt k.window.x1 x) [
-          | inl n ↦ cost_from-outside k.scene.now (mask_in k) (surface_at k cycles) k.number k.window k.pixels x y l high (λ w. omega (arith, w, n))
+          | inl n ↦ cost_from-outside k.scene.now (held_mask k) (surface_of_cycles k cycles) k.number k.window k.pixels x y l high (λ w. omega (arith, w, n))
           | inr n ↦ free_within x m n
         ])
       ]

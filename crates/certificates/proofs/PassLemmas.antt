@@ -13,7 +13,7 @@ use Rattle.raster_model.specs.Flows.{is_seam_edge, seams_before, seams_from}
 use Rattle.certificates.specs.Ends.{PassNoEnd, passes_end}
 use Rattle.certificates.specs.declared.seam_flows.SeamFlows.{SeamFlows}
 use Rattle.certificates.specs.EdgeWords.{HoldsBefore}
-use Rattle.certificates.specs.FlowWords.{flow_of, mask_in, moved_from, net_flow, product_from, raster_in, region_in, seam_product}
+use Rattle.certificates.specs.FlowWords.{flow_of, held_mask, moved_from, net_flow, product_from, held_raster, region_in, seam_product}
 use Rattle.certificates.specs.SeamVerdicts.{IsSeamEdge}
 use Rattle.certificates.specs.Starts.{HasNoSeams}
 use Rattle.certificates.proofs.EdgeBlocks.{passes_leads}
@@ -86,17 +86,17 @@ unfolding seam_cost_from
 cost_past r mask S a b y z none l m n e = e ∙ sym (row_past r a b y none l (seam_edge_cost r mask S) (λ e s. rw s refl) m n)
 
 -- the sum of products, and the sums at the regions
-module _ (k : SeamFlows) (a b y : ℕ) (none : HasNoSeams (raster_in k) a b y) (l : a ≤ b) (m : b ≤ k.scene.now.phase.width) (n : y < k.scene.now.phase.height) where
+module _ (k : SeamFlows) (a b y : ℕ) (none : HasNoSeams (held_raster k) a b y) (l : a ≤ b) (m : b ≤ k.scene.now.phase.width) (n : y < k.scene.now.phase.height) where
   product_row : (cycles : Field ℤ) → sum_row b (product_from k cycles) y ≡ sum_row a (product_from k cycles) y
   unfolding seam_product
-  product_row cycles = row_past (raster_in k) a b y none l (seam_product (raster_in k) (mask_in k) (lifted (raster_in k) cycles) (flow_of k)) (λ e s. rw s refl) m n
+  product_row cycles = row_past (held_raster k) a b y none l (seam_product (held_raster k) (held_mask k) (lifted (held_raster k) cycles) (flow_of k)) (λ e s. rw s refl) m n
 
   pub product_past : (cycles : Field ℤ) (z R : ℤ) → z ≡ R +ℤ sum_row a (product_from k cycles) y → z ≡ R +ℤ sum_row b (product_from k cycles) y
   product_past cycles z R e = e ∙ sym (ap (λ (s : ℤ). R +ℤ s) (product_row cycles))
 
   moved_row : (labels : List ℕ) (v : ℕ) → sum_row b (moved_from k labels v) y ≡ sum_row a (moved_from k labels v) y
   unfolding net_flow
-  moved_row labels v = row_past (raster_in k) a b y none l (net_flow (raster_in k) (flow_of k) (region_in k labels v)) (λ e s. rw s refl) m n
+  moved_row labels v = row_past (held_raster k) a b y none l (net_flow (held_raster k) (flow_of k) (region_in k labels v)) (λ e s. rw s refl) m n
 
   pub so_far_past : (labels : List ℕ) (sums : List ℤ) → AreSoFar k labels a y sums → AreSoFar k labels b y sums
   so_far_past labels sums s = record { each = λ v i. s.each v i ∙ sym (ap (λ (t : ℤ). sum_grid k.scene.now.phase.width y (moved_from k labels v) +ℤ t) (moved_row labels v)) }

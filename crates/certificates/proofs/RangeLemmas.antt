@@ -7,7 +7,7 @@ use Rattle.raster_model.specs.Seams.{IsEarlier}
 use Rattle.raster_model.specs.Sums.{Field}
 use Rattle.raster_model.specs.Tiles.{IsWithin, height_of, place_in, width_of}
 use Rattle.certificates.specs.Growth.{AreAllInRange}
-use Rattle.certificates.specs.Results.{cycles_in, pixels_in, IsInRange, AreInRange, AreInRangeBefore, IsFirstOutside}
+use Rattle.certificates.specs.Results.{listed_cycles, pixels_in, IsInRange, AreInRange, AreInRangeBefore, IsFirstOutside}
 use Rattle.certificates.proofs.EdgeLemmas.{earlier_more}
 use Rattle.sums_and_lists.proofs.Orders.{below_or_last, not_lt}
 
@@ -37,7 +37,7 @@ module _ (v : Window) (mask : Field Bool) (cycles : List ℤ) where
   pub all_before : (y : ℕ) → v.y1 < y → AreInRangeBefore v mask cycles v.x0 y → AreInRange v mask cycles
   all_before y last before a b o = before a b o (inl (omega (arith, o.0.3, last)))
 
-  pub first_outside : (x y : ℕ) (z : ℤ) (u : ℕ) → IsWithin v x y → IsTrue (mask x y) → AreInRangeBefore v mask cycles x y → z ≡ cycles_in v cycles x y → u ≡ unsigned_abs z → 8388608 < u → IsFirstOutside v mask cycles x y
+  pub first_outside : (x y : ℕ) (z : ℤ) (u : ℕ) → IsWithin v x y → IsTrue (mask x y) → AreInRangeBefore v mask cycles x y → z ≡ listed_cycles v cycles x y → u ≡ unsigned_abs z → 8388608 < u → IsFirstOutside v mask cycles x y
   first_outside x y z u w o before e f l = record {
     pixel = (w, o);
     outside = λ i. above u (rw (f, e) i) l;
@@ -47,7 +47,7 @@ module _ (v : Window) (mask : Field Bool) (cycles : List ℤ) where
       above : (n : ℕ) → n ≤ 8388608 → 8388608 < n → ⊥
       above n p q = omega (arith, p, q)
 
-  pub in_range : (x y : ℕ) (z : ℤ) (u : ℕ) → z ≡ cycles_in v cycles x y → u ≡ unsigned_abs z → u ≤ 8388608 → IsInRange v cycles x y
+  pub in_range : (x y : ℕ) (z : ℤ) (u : ℕ) → z ≡ listed_cycles v cycles x y → u ≡ unsigned_abs z → u ≤ 8388608 → IsInRange v cycles x y
   in_range x y z u e f l = rw (← e, ← f) l
 
 -- ---- a list that is in range as a whole

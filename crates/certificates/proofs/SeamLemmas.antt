@@ -7,7 +7,7 @@ use Rattle.std.proofs.lemmas.Nat.{mul-add-lt, mul-le}
 use Rattle.std.proofs.lemmas.Bool.Decides.{nat_tests}
 use Rattle.raster_model.specs.declared.edge.Edge.{Edge}
 use Rattle.raster_model.specs.declared.scene.Scene.{Scene}
-use Rattle.raster_model.specs.Sums.{Field, is_edge, end_x, end_y, at_start, at_end}
+use Rattle.raster_model.specs.Sums.{Field, is_edge, end_x, end_y, at_edge_start, at_edge_end}
 use Rattle.raster_model.specs.Heights.{KnowsOpen, KnowsEnds}
 use Rattle.raster_model.specs.Raster.{Raster, is_seam, has_open_ends, masked_weight, departure, lifted}
 use Rattle.raster_model.specs.Flows.{is_seam_edge, flow_at}
@@ -16,18 +16,18 @@ use Rattle.raster_model.proofs.FlowLemmas.{place_below}
 use Rattle.certificates.specs.declared.seam_flows.SeamFlows.{SeamFlows}
 use Rattle.certificates.specs.EdgeWords.{HoldsIfPart, IsBreak}
 use Rattle.certificates.specs.SeamVerdicts.{label_at}
-use Rattle.certificates.specs.FlowWords.{raster_in, mask_in, flow_of, flow_or_none, PlacedAt, IsSeamOf, IsSmallAt, FlowFitsAt, FlowsFit, HasLabels, net_flow, moved_on, seam_product, product_on}
-use Rattle.certificates.specs.Growth.{AreWithin, HasGrown}
+use Rattle.certificates.specs.FlowWords.{held_raster, held_mask, flow_of, flow_or_none, PlacedAt, IsSeamOf, IsSmallAt, FlowFitsAt, FlowsFit, HasLabels, net_flow, moved_on, seam_product, product_on}
+use Rattle.certificates.specs.Growth.{AreWithinWeights, HasGrown}
 use Rattle.sums_and_lists.proofs.Orders.{ends_in, not_lt}
 use Rattle.sums_and_lists.specs.Sums.{where_true, one_if}
 
 -- ---- the place of a flow
-pub place_is_below : (k : SeamFlows) (e : Edge) (place : ℕ) → PlacedAt k e place → is_seam_edge (raster_in k) e ≡ true → place < length k.flows.now
+pub place_is_below : (k : SeamFlows) (e : Edge) (place : ℕ) → PlacedAt k e place → is_seam_edge (held_raster k) e ≡ true → place < length k.flows.now
 place_is_below k e place p s =
-    let one : one_if (is_seam_edge (raster_in k) e) ≡ 1 = rw s refl in
-    omega (arith, p, k.count, place_below (raster_in k) e p.0 p.1, one)
+    let one : one_if (is_seam_edge (held_raster k) e) ≡ 1 = rw s refl in
+    omega (arith, p, k.count, place_below (held_raster k) e p.0 p.1, one)
 
-pub flow_there : (k : SeamFlows) (e : Edge) (place : ℕ) → PlacedAt k e place → is_seam_edge (raster_in k) e ≡ true → get_or k.flows.now place (pos 0) ≡ flow_or_none k e
+pub flow_there : (k : SeamFlows) (e : Edge) (place : ℕ) → PlacedAt k e place → is_seam_edge (held_raster k) e ≡ true → get_or k.flows.now place (pos 0) ≡ flow_or_none k e
 unfolding flow_at
 flow_there k e place p s = rw (s, p.2) refl
 
@@ -49,14 +49,14 @@ pub in_raster : (k : SeamFlows) (e : Edge) → IsSeamOf k e → (0 ≤ e.x) × (
 in_raster k e i =
     let w = k.scene.now.phase.width in
     let h = k.scene.now.phase.height in
-    let t = ends_in e.x e.y w h (end_x e) (end_y e) (both_hold (is_edge w h e) (is_seam (raster_in k) e) i).0 in
+    let t = ends_in e.x e.y w h (end_x e) (end_y e) (both_hold (is_edge w h e) (is_seam (held_raster k) e) i).0 in
     (omega arith, t.0, omega arith, t.1)
 
-pub edge_of_seam : (k : SeamFlows) (e : Edge) → is_seam_edge (raster_in k) e ≡ true → is_edge k.scene.now.phase.width k.scene.now.phase.height e ≡ true
-edge_of_seam k e s = (both_hold (is_edge k.scene.now.phase.width k.scene.now.phase.height e) (is_seam (raster_in k) e) s).0
+pub edge_of_seam : (k : SeamFlows) (e : Edge) → is_seam_edge (held_raster k) e ≡ true → is_edge k.scene.now.phase.width k.scene.now.phase.height e ≡ true
+edge_of_seam k e s = (both_hold (is_edge k.scene.now.phase.width k.scene.now.phase.height e) (is_seam (held_raster k) e) s).0
 
 -- what a test of a flow against its weight says
-module _ (k : SeamFlows) (e : Edge) (z : ℤ) (u w : ℕ) (is : z ≡ flow_or_none k e) (a : u ≡ unsigned_abs z) (b : w ≡ masked_weight (raster_in k) (mask_in k) e) (s : is_seam_edge (raster_in k) e ≡ true) where
+module _ (k : SeamFlows) (e : Edge) (z : ℤ) (u w : ℕ) (is : z ≡ flow_or_none k e) (a : u ≡ unsigned_abs z) (b : w ≡ masked_weight (held_raster k) (held_mask k) e) (s : is_seam_edge (held_raster k) e ≡ true) where
   size_there : u ≡ unsigned_abs (flow_of k e)
   size_there =
       let here : flow_or_none k e ≡ flow_of k e = rw s refl in
@@ -87,7 +87,7 @@ ends_known r mask knows e known s =
     let i = (both_hold (is_edge r.width r.height e) (is_seam r e) s).0 in
     let t = ends_in e.x e.y r.width r.height (end_x e) (end_y e) i in (
       i,
-      λ o. (let b = both_hold (at_start mask e) (at_end mask e) o in (known e.x e.y t.0 t.1 b.0, known (end_x e) (end_y e) t.2 t.3 b.1)),
+      λ o. (let b = both_hold (at_edge_start mask e) (at_edge_end mask e) o in (known e.x e.y t.0 t.1 b.0, known (end_x e) (end_y e) t.2 t.3 b.1)),
     )
 
 pub not_zero : (z : ℤ) → (of_z w64 z ≡ 0 → ⊥) → z ≡ pos 0 → ⊥
@@ -97,44 +97,44 @@ pub is_zero : (z : ℤ) → FitsSigned w64 z → of_z w64 z ≡ 0 → z ≡ pos 
 is_zero z f e = sym (to_z-of_z w64 z f) ∙ ap (to_z w64) e
 
 module _ (k : SeamFlows) (e : Edge) (fit : FlowsFit k) (z : ℤ) (is : z ≡ flow_or_none k e) (n : z ≡ pos 0 → ⊥) where
-  pub seam : is_seam_edge (raster_in k) e ≡ true
-  seam = (chosen (is_seam_edge (raster_in k) e) (flow_of k e) z is n).0
+  pub seam : is_seam_edge (held_raster k) e ≡ true
+  seam = (chosen (is_seam_edge (held_raster k) e) (flow_of k e) z is n).0
 
   pub is_flow : z ≡ flow_of k e
-  is_flow = (chosen (is_seam_edge (raster_in k) e) (flow_of k e) z is n).1
+  is_flow = (chosen (is_seam_edge (held_raster k) e) (flow_of k e) z is n).1
 
   pub is_small : unsigned_abs z ≤ 65535
   is_small = rw is_flow (fit.1 e seam)
 
   pub on_edge : is_edge k.scene.now.phase.width k.scene.now.phase.height e ≡ true
-  on_edge = (both_hold (is_edge k.scene.now.phase.width k.scene.now.phase.height e) (is_seam (raster_in k) e) seam).0
+  on_edge = (both_hold (is_edge k.scene.now.phase.width k.scene.now.phase.height e) (is_seam (held_raster k) e) seam).0
 
-  on_seam : is_seam (raster_in k) e ≡ true
-  on_seam = (both_hold (is_edge k.scene.now.phase.width k.scene.now.phase.height e) (is_seam (raster_in k) e) seam).1
+  on_seam : is_seam (held_raster k) e ≡ true
+  on_seam = (both_hold (is_edge k.scene.now.phase.width k.scene.now.phase.height e) (is_seam (held_raster k) e) seam).1
 
-  pub ends_open : has_open_ends (mask_in k) e ≡ true
-  ends_open = open_if (has_open_ends (mask_in k) e) ((raster_in k).weight e) (flow_of k e) (fit.0 e seam) (λ q. n (is_flow ∙ q))
+  pub ends_open : has_open_ends (held_mask k) e ≡ true
+  ends_open = open_if (has_open_ends (held_mask k) e) ((held_raster k).weight e) (flow_of k e) (fit.0 e seam) (λ q. n (is_flow ∙ q))
 
-  pub start_open : IsOpenPixel (raster_in k) (mask_in k) e.x e.y
+  pub start_open : IsOpenPixel (held_raster k) (held_mask k) e.x e.y
   start_open =
       let t = ends_in e.x e.y k.scene.now.phase.width k.scene.now.phase.height (end_x e) (end_y e) on_edge in
-      (t.0, t.1, (both_hold (at_start (mask_in k) e) (at_end (mask_in k) e) ends_open).0)
+      (t.0, t.1, (both_hold (at_edge_start (held_mask k) e) (at_edge_end (held_mask k) e) ends_open).0)
 
-  pub end_open : IsOpenPixel (raster_in k) (mask_in k) (end_x e) (end_y e)
+  pub end_open : IsOpenPixel (held_raster k) (held_mask k) (end_x e) (end_y e)
   end_open =
       let t = ends_in e.x e.y k.scene.now.phase.width k.scene.now.phase.height (end_x e) (end_y e) on_edge in
-      (t.2, t.3, (both_hold (at_start (mask_in k) e) (at_end (mask_in k) e) ends_open).1)
+      (t.2, t.3, (both_hold (at_edge_start (held_mask k) e) (at_edge_end (held_mask k) e) ends_open).1)
 
 -- ---- the label of an open pixel
 module _ (k : SeamFlows) (labels : List ℕ) (count : ℕ) (has : HasLabels k labels count) where
-  pub label_place : (x y a b : ℕ) → a ≡ x → b ≡ y → IsOpenPixel (raster_in k) (mask_in k) x y → b * k.scene.now.phase.width + a < length labels
+  pub label_place : (x y a b : ℕ) → a ≡ x → b ≡ y → IsOpenPixel (held_raster k) (held_mask k) x y → b * k.scene.now.phase.width + a < length labels
   label_place x y a b p q o =
       omega (arith, has.0, mul-add-lt b k.scene.now.phase.width a k.scene.now.phase.height (omega (arith, q, o.1)) (omega (arith, p, o.0)))
 
-  pub label_below : (x y a b : ℕ) → a ≡ x → b ≡ y → IsOpenPixel (raster_in k) (mask_in k) x y → label_at k.scene.now.phase.width labels a b < count
+  pub label_below : (x y a b : ℕ) → a ≡ x → b ≡ y → IsOpenPixel (held_raster k) (held_mask k) x y → label_at k.scene.now.phase.width labels a b < count
   label_below x y a b p q o = rw (p, q) (has.1 x y o)
 
-  pub label_fits : (x y a b : ℕ) → a ≡ x → b ≡ y → IsOpenPixel (raster_in k) (mask_in k) x y → Fits w64 (b * k.scene.now.phase.width) × Fits w64 (b * k.scene.now.phase.width + a) × Fits w64 ((b * k.scene.now.phase.width + a) * 4)
+  pub label_fits : (x y a b : ℕ) → a ≡ x → b ≡ y → IsOpenPixel (held_raster k) (held_mask k) x y → Fits w64 (b * k.scene.now.phase.width) × Fits w64 (b * k.scene.now.phase.width + a) × Fits w64 ((b * k.scene.now.phase.width + a) * 4)
   label_fits x y a b p q o =
       let s = k.scene.now in
       let m = mul-le b s.phase.width 4096 4096 (omega (arith, q, o.1, s.same_height, s.tiling.high)) (omega (arith, s.same_width, s.tiling.wide)) in
@@ -142,7 +142,7 @@ module _ (k : SeamFlows) (labels : List ℕ) (count : ℕ) (has : HasLabels k la
       (record { fits = omega (arith, m) }, record { fits = omega (arith, m, l) }, record { fits = omega (arith, m, l) })
 
 -- ---- a flow taken from one region to another
-pub within_more : (m n : ℕ) (xs : List ℤ) → m ≤ n → AreWithin m xs → AreWithin n xs
+pub within_more : (m n : ℕ) (xs : List ℤ) → m ≤ n → AreWithinWeights m xs → AreWithinWeights n xs
 within_more m n xs l h v = let k = h v in omega (arith, k, l)
 
 pub few_moves : (s : Scene) (x y : ℕ) → x < s.phase.width → y < s.phase.height → 4 * (4096 * y + x) ≤ 536870912
@@ -172,7 +172,7 @@ moved_grown k labels e fit z is n x y p q ex ey ep eq a b c g h = record {
       let w = k.scene.now.phase.width in
       let s = rw (ex, ey, ep) at (g.grown v l) in
       let t = rw eq at (h.grown v (omega (arith, g.same_length))) in
-      let m = moved_value (is_edge w k.scene.now.phase.height e) (is_seam (raster_in k) e) (at_end (mask_in k) e) (at_start (mask_in k) e) (label_at w labels (end_x e) (end_y e) == v) (label_at w labels e.x e.y == v) (flow_of k e) z
+      let m = moved_value (is_edge w k.scene.now.phase.height e) (is_seam (held_raster k) e) (at_edge_end (held_mask k) e) (at_edge_start (held_mask k) e) (label_at w labels (end_x e) (end_y e) == v) (label_at w labels e.x e.y == v) (flow_of k e) z
       (on_edge k e fit z is n) (on_seam k e fit z is n) (end_open k e fit z is n).2 (start_open k e fit z is n).2 (is_flow k e fit z is n) in
       added _ _ _ _ _ _ s t m);
 }
@@ -194,7 +194,7 @@ none_grown k labels e z is n a = record {
   same_length = refl;
   grown = λ v l. (
       let w = k.scene.now.phase.width in
-      let m = nothing_moved (is_edge w k.scene.now.phase.height e) (is_seam (raster_in k) e) (mask_in k (end_x e) (end_y e) && (label_at w labels (end_x e) (end_y e) == v)) (mask_in k e.x e.y && (label_at w labels e.x e.y == v)) (flow_of k e) (sym is ∙ n) in
+      let m = nothing_moved (is_edge w k.scene.now.phase.height e) (is_seam (held_raster k) e) (held_mask k (end_x e) (end_y e) && (label_at w labels (end_x e) (end_y e) == v)) (held_mask k e.x e.y && (label_at w labels e.x e.y == v)) (flow_of k e) (sym is ∙ n) in
       omega (arith, ints, m));
 }
 
@@ -202,11 +202,11 @@ none_grown k labels e z is n a = record {
 product_value : (ie is oe : Bool) (f z d : ℤ) → ie ≡ true → is ≡ true → oe ≡ true → z ≡ f → z *ℤ d ≡ where_true ie (where_true (is && oe) (f *ℤ d))
 product_value ie is oe f z d a b c e = rw (a, b, c, e) refl
 
-pub product_there : (k : SeamFlows) (cycles : Field ℤ) (e : Edge) (fit : FlowsFit k) (z d : ℤ) → z ≡ flow_or_none k e → (z ≡ pos 0 → ⊥) → d ≡ departure (raster_in k) (lifted (raster_in k) cycles) e → z *ℤ d ≡ product_on k cycles e
+pub product_there : (k : SeamFlows) (cycles : Field ℤ) (e : Edge) (fit : FlowsFit k) (z d : ℤ) → z ≡ flow_or_none k e → (z ≡ pos 0 → ⊥) → d ≡ departure (held_raster k) (lifted (held_raster k) cycles) e → z *ℤ d ≡ product_on k cycles e
 unfolding seam_product
 product_there k cycles e fit z d is n m =
     ap (λ (d : ℤ). z *ℤ d) m
-    ∙ product_value (is_edge k.scene.now.phase.width k.scene.now.phase.height e) (is_seam (raster_in k) e) (has_open_ends (mask_in k) e) (flow_of k e) z (departure (raster_in k) (lifted (raster_in k) cycles) e) (on_edge k e fit z is n) (on_seam k e fit z is n) (ends_open k e fit z is n) (is_flow k e fit z is n)
+    ∙ product_value (is_edge k.scene.now.phase.width k.scene.now.phase.height e) (is_seam (held_raster k) e) (has_open_ends (held_mask k) e) (flow_of k e) z (departure (held_raster k) (lifted (held_raster k) cycles) e) (on_edge k e fit z is n) (on_seam k e fit z is n) (ends_open k e fit z is n) (is_flow k e fit z is n)
 
 no_product_value : (ie is oe : Bool) (f d : ℤ) → where_true (ie && is) f ≡ pos 0 → pos 0 ≡ where_true ie (where_true (is && oe) (f *ℤ d))
 no_product_value true true true f d e = rw e (omega (arith, ints))
@@ -217,7 +217,7 @@ no_product_value false is oe f d e = refl
 pub no_product : (k : SeamFlows) (cycles : Field ℤ) (e : Edge) (z : ℤ) → z ≡ flow_or_none k e → z ≡ pos 0 → pos 0 ≡ product_on k cycles e
 unfolding seam_product
 no_product k cycles e z is n =
-    no_product_value (is_edge k.scene.now.phase.width k.scene.now.phase.height e) (is_seam (raster_in k) e) (has_open_ends (mask_in k) e) (flow_of k e) (departure (raster_in k) (lifted (raster_in k) cycles) e) (sym is ∙ n)
+    no_product_value (is_edge k.scene.now.phase.width k.scene.now.phase.height e) (is_seam (held_raster k) e) (has_open_ends (held_mask k) e) (flow_of k e) (departure (held_raster k) (lifted (held_raster k) cycles) e) (sym is ∙ n)
 
 -- the code's product and sums, at 128 bits
 pub flow_product_fits : (a b : ℤ) → unsigned_abs a ≤ 65535 → unsigned_abs b ≤ 2 ^ 49 + 1 → (to_z w128 (of_z w128 (to_z w128 (of_z w128 a) *ℤ to_z w128 (of_z w128 b))) ≡ a *ℤ b) × (unsigned_abs (a *ℤ b) ≤ 65535 * (2 ^ 49 + 1)) × FitsSigned w128 (to_z w128 (of_z w128 a) *ℤ to_z w128 (of_z w128 b))

@@ -10,7 +10,7 @@ use Rattle.raster_model.specs.Tiles.{IsWithin}
 use Rattle.raster_model.proofs.TileEdges.{ends_within, from_ends}
 use Rattle.certificates.specs.declared.tile.Tile.{Tile}
 use Rattle.certificates.specs.EdgeWords.{HoldsIfPart, IsBreak}
-use Rattle.certificates.specs.TileWords.{AreOpenFrom, IsInner, mask_in}
+use Rattle.certificates.specs.TileWords.{AreRowsOpen, IsInner, held_mask}
 use Rattle.certificates.proofs.CostLemmas.{both_true}
 
 -- an edge does not lead back, and no further than to the next row
@@ -48,7 +48,7 @@ module _ (k : Tile) where
   in_window e i = let w = ends_within k.scene.now k.number k.window k.pixels e i in omega (arith, w)
 
   -- where the tile's pixels in a row and in the next one are open, so are the ends of an edge that starts in the row and ends in the window
-  pub ends_open : (e : Edge) → AreOpenFrom k e.y → IsWithin k.window e.x e.y → end_x e ≤ k.window.x1 → end_y e ≤ k.window.y1 → IsTrue (has_open_ends (mask_in k) e)
+  pub ends_open : (e : Edge) → AreRowsOpen k e.y → IsWithin k.window e.x e.y → end_x e ≤ k.window.x1 → end_y e ≤ k.window.y1 → IsTrue (has_open_ends (held_mask k) e)
   ends_open e clear w l m =
       let a = end_after e in
-      both_true (mask_in k e.x e.y) (mask_in k (end_x e) (end_y e)) (clear e.x e.y w (omega arith) (omega arith)) (clear (end_x e) (end_y e) (omega (arith, w, a), l, omega (arith, w, a), m) a.1 a.2)
+      both_true (held_mask k e.x e.y) (held_mask k (end_x e) (end_y e)) (clear e.x e.y w (omega arith) (omega arith)) (clear (end_x e) (end_y e) (omega (arith, w, a), l, omega (arith, w, a), m) a.1 a.2)

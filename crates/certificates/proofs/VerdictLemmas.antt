@@ -16,7 +16,7 @@ use Rattle.raster_model.proofs.TileLeast.{certified_tiles_are_least}
 use Rattle.certificates.specs.declared.results.TileResult.{TileResult}
 use Rattle.certificates.specs.declared.verdicts.TileVerdict.{TileVerdict}
 use Rattle.certificates.specs.declared.verdicts.TileVerdict.TheVariants.{Good, Shape, Range, FaceAtEdge, CostDiffers}
-use Rattle.certificates.specs.Results.{HasShape, AreInRange, IsGoodTile, cycles_in, pixels_in, window_in, result_surface}
+use Rattle.certificates.specs.Results.{HasShape, AreInRange, IsGoodTile, listed_cycles, pixels_in, window_in, result_surface}
 use Rattle.certificates.specs.Verdicts.{IsFacesVerdict, IsVerdictOnFaces, IsTileVerdict}
 
 -- good exactly where the faces certify
@@ -51,7 +51,7 @@ from_faces s mask k (FaceAtEdge edge) p q h = (p, q, h)
 from_faces s mask k (CostDiffers cost bound) p q h = (p, q, h)
 
 pub tile_from_faces : (s : Scene) (mask : Field Bool) (k : TileResult) (v : Window) (cycles faces : List ℤ) (verdict : TileVerdict) → v ≡ window_in s k → cycles ≡ k.cycles.items → faces ≡ k.faces.items
-    → HasShape s k → AreInRange v mask cycles → IsFacesVerdict (raster_of s) mask k.tile (lifted (raster_of s) (cycles_in v cycles)) faces verdict → IsTileVerdict s mask k verdict
+    → HasShape s k → AreInRange v mask cycles → IsFacesVerdict (raster_of s) mask k.tile (lifted (raster_of s) (listed_cycles v cycles)) faces verdict → IsTileVerdict s mask k verdict
 tile_from_faces s mask k v cycles faces verdict w c f shape range h =
     from_faces s mask k verdict shape (rw (w, c) at range) (rw (w, c, f) at h)
 

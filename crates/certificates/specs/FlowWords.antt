@@ -1,7 +1,7 @@
 -- Words of the helpers over seam edges. No clause of a public function cites them.
 use Rattle.std.specs.Prelude.{◌≡◌, ℕ, ◌+◌, ◌*◌, ◌<◌, ◌≤◌, ℤ, pos, ◌-ℤ◌, ◌*ℤ◌, Bool, ◌&&◌, List, length, slice_index_or, unsigned_abs}
 use Rattle.raster_model.specs.declared.edge.Edge.{Edge}
-use Rattle.raster_model.specs.Sums.{Field, at_start, at_end, is_edge, edges_from}
+use Rattle.raster_model.specs.Sums.{Field, at_edge_start, at_edge_end, is_edge, edges_from}
 use Rattle.raster_model.specs.Raster.{Raster, lifted, departure, has_open_ends, is_seam}
 use Rattle.raster_model.specs.Flows.{is_seam_edge, seams_before, seam_place, flow_at}
 use Rattle.raster_model.specs.Heights.{KnowsOpen}
@@ -15,33 +15,33 @@ use Rattle.certificates.specs.SeamVerdicts.{IsSeamEdge, FlowFits, label_at}
 use Rattle.sums_and_lists.specs.Sums.{where_true}
 use Rattle.raster_model.specs.Limits.{max_side}
 
-abbrev pub raster_in : SeamFlows → Raster
-raster_in k = raster_of k.scene.now
+abbrev pub held_raster : SeamFlows → Raster
+held_raster k = raster_of k.scene.now
 
-abbrev pub mask_in : SeamFlows → Field Bool
-mask_in k = open_at k.mask.now
+abbrev pub held_mask : SeamFlows → Field Bool
+held_mask k = open_at k.mask.now
 
 -- the flow that the list has at a seam edge, and 0 at any other edge
 abbrev pub flow_of : SeamFlows → Edge → ℤ
-flow_of k = flow_at (raster_in k) k.flows.now
+flow_of k = flow_at (held_raster k) k.flows.now
 
 abbrev pub flow_or_none : SeamFlows → Edge → ℤ
-flow_or_none k e = where_true (is_seam_edge (raster_in k) e) (flow_of k e)
+flow_or_none k e = where_true (is_seam_edge (held_raster k) e) (flow_of k e)
 
 -- a pixel of the raster, before whose edges so many seam edges come in edge order
 abbrev pub StartsAt : SeamFlows → ℕ → ℕ → ℕ → Type 0
-StartsAt k x y before = (x < k.scene.now.phase.width) × (y < k.scene.now.phase.height) × (before ≡ seams_before (raster_in k) x y) × (before ≤ 2 * (max_side * y + x))
+StartsAt k x y before = (x < k.scene.now.phase.width) × (y < k.scene.now.phase.height) × (before ≡ seams_before (held_raster k) x y) × (before ≤ 2 * (max_side * y + x))
 
 -- an edge that starts at a pixel, and its place among the seam edges
 abbrev pub PlacedAt : SeamFlows → Edge → ℕ → Type 0
-PlacedAt k e place = (e.x < k.scene.now.phase.width) × (e.y < k.scene.now.phase.height) × (place ≡ seam_place (raster_in k) e)
+PlacedAt k e place = (e.x < k.scene.now.phase.width) × (e.y < k.scene.now.phase.height) × (place ≡ seam_place (held_raster k) e)
 
 -- a seam edge; its flow is no greater than its weight; its flow is no greater than any weight; and both over the edges that start at a pixel, and over all
 abbrev pub IsSeamOf : SeamFlows → Edge → Type 0
-IsSeamOf k = IsSeamEdge (raster_in k)
+IsSeamOf k = IsSeamEdge (held_raster k)
 
 abbrev pub FlowFitsAt : SeamFlows → Edge → Type 0
-FlowFitsAt k = FlowFits (raster_in k) (mask_in k) (flow_of k)
+FlowFitsAt k = FlowFits (held_raster k) (held_mask k) (flow_of k)
 
 abbrev pub IsSmallAt : SeamFlows → Edge → Type 0
 IsSmallAt k e = unsigned_abs (flow_of k e) ≤ 65535
@@ -54,40 +54,40 @@ FlowsFit k = HoldsAtAll (IsSeamOf k) (FlowFitsAt k) × HoldsAtAll (IsSeamOf k) (
 
 -- each open pixel has a label below the count
 abbrev pub HasLabels : SeamFlows → List ℕ → ℕ → Type 0
-HasLabels k labels count = (length labels ≡ k.scene.now.phase.width * k.scene.now.phase.height) × ((x y : ℕ) → IsOpenPixel (raster_in k) (mask_in k) x y → label_at k.scene.now.phase.width labels x y < count)
+HasLabels k labels count = (length labels ≡ k.scene.now.phase.width * k.scene.now.phase.height) × ((x y : ℕ) → IsOpenPixel (held_raster k) (held_mask k) x y → label_at k.scene.now.phase.width labels x y < count)
 
 abbrev pub region_in : SeamFlows → List ℕ → ℕ → Field Bool
-region_in k labels = region_of (mask_in k) (label_at k.scene.now.phase.width labels)
+region_in k labels = region_of (held_mask k) (label_at k.scene.now.phase.width labels)
 
 -- what the flow on a seam edge adds to a region's sum, if the edge ends there or starts there; and what the edges that start at a pixel add
 unfoldable pub net_flow : Raster → (Edge → ℤ) → Field Bool → Edge → ℤ
-net_flow r F region e = where_true (is_seam r e) (where_true (at_end region e) (F e) -ℤ where_true (at_start region e) (F e))
+net_flow r F region e = where_true (is_seam r e) (where_true (at_edge_end region e) (F e) -ℤ where_true (at_edge_start region e) (F e))
 
 abbrev pub moved_on : SeamFlows → List ℕ → ℕ → Edge → ℤ
-moved_on k labels v e = where_true (is_edge k.scene.now.phase.width k.scene.now.phase.height e) (net_flow (raster_in k) (flow_of k) (region_in k labels v) e)
+moved_on k labels v e = where_true (is_edge k.scene.now.phase.width k.scene.now.phase.height e) (net_flow (held_raster k) (flow_of k) (region_in k labels v) e)
 
 abbrev pub moved_from : SeamFlows → List ℕ → ℕ → Field ℤ
-moved_from k labels v = edges_from k.scene.now.phase.width k.scene.now.phase.height (net_flow (raster_in k) (flow_of k) (region_in k labels v))
+moved_from k labels v = edges_from k.scene.now.phase.width k.scene.now.phase.height (net_flow (held_raster k) (flow_of k) (region_in k labels v))
 
 -- the sum of each region: what flows in minus what flows out
 abbrev pub AreExcessesOf : Raster → Field Bool → Field ℕ → (Edge → ℤ) → List ℤ → Type 0
 AreExcessesOf r mask labels F sums = (v : ℕ) → v < length sums → slice_index_or sums v (pos 0) ≡ flow_in r F (region_of mask labels v) -ℤ flow_out r F (region_of mask labels v)
 
 abbrev pub AreExcesses : SeamFlows → List ℕ → List ℤ → Type 0
-AreExcesses k labels = AreExcessesOf (raster_in k) (mask_in k) (label_at k.scene.now.phase.width labels) (flow_of k)
+AreExcesses k labels = AreExcessesOf (held_raster k) (held_mask k) (label_at k.scene.now.phase.width labels) (flow_of k)
 
 -- flow times departure on a seam edge with open ends, for the edges that start at a pixel, and in all
 unfoldable pub seam_product : Raster → Field Bool → Field ℤ → (Edge → ℤ) → Edge → ℤ
 seam_product r mask S F e = where_true (is_seam r e && has_open_ends mask e) (F e *ℤ departure r S e)
 
 abbrev pub product_on : SeamFlows → Field ℤ → Edge → ℤ
-product_on k cycles e = where_true (is_edge k.scene.now.phase.width k.scene.now.phase.height e) (seam_product (raster_in k) (mask_in k) (lifted (raster_in k) cycles) (flow_of k) e)
+product_on k cycles e = where_true (is_edge k.scene.now.phase.width k.scene.now.phase.height e) (seam_product (held_raster k) (held_mask k) (lifted (held_raster k) cycles) (flow_of k) e)
 
 abbrev pub product_from : SeamFlows → Field ℤ → Field ℤ
-product_from k cycles = edges_from k.scene.now.phase.width k.scene.now.phase.height (seam_product (raster_in k) (mask_in k) (lifted (raster_in k) cycles) (flow_of k))
+product_from k cycles = edges_from k.scene.now.phase.width k.scene.now.phase.height (seam_product (held_raster k) (held_mask k) (lifted (held_raster k) cycles) (flow_of k))
 
 abbrev pub total_of : SeamFlows → Field ℤ → ℤ
-total_of k cycles = flow_total (raster_in k) (mask_in k) (lifted (raster_in k) cycles) (flow_of k)
+total_of k cycles = flow_total (held_raster k) (held_mask k) (lifted (held_raster k) cycles) (flow_of k)
 
 abbrev pub KnowsSeams : SeamFlows → Field Bool → Type 0
-KnowsSeams k = KnowsOpen (raster_in k) (mask_in k)
+KnowsSeams k = KnowsOpen (held_raster k) (held_mask k)

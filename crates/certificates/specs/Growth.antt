@@ -6,8 +6,8 @@ pub record HasGrown (old new : List ℤ) (f : ℕ → ℤ) : Type 0 where
   pub same_length : length new ≡ length old
   pub grown : (v : ℕ) → v < length old → slice_index_or new v (pos 0) ≡ slice_index_or old v (pos 0) +ℤ f v
 
-abbrev pub AreWithin : ℕ → List ℤ → Type 0
-AreWithin n xs = (v : ℕ) → unsigned_abs (slice_index_or xs v (pos 0)) ≤ 65535 * n
+abbrev pub AreWithinWeights : ℕ → List ℤ → Type 0
+AreWithinWeights n xs = (v : ℕ) → unsigned_abs (slice_index_or xs v (pos 0)) ≤ 65535 * n
 
 -- all numbers are 0; v is the first place at which one is not
 abbrev pub AreZeros : List ℤ → Type 0

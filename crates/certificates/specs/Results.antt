@@ -14,15 +14,15 @@ use Rattle.certificates.specs.declared.results.TileResult.{TileResult}
 abbrev pub pixels_in : Window → ℕ
 pixels_in v = width_of v * height_of v
 
-abbrev pub cycles_in : Window → List ℤ → Field ℤ
-cycles_in v cycles x y = slice_index_or cycles (place_in v x y) (pos 0)
+abbrev pub listed_cycles : Window → List ℤ → Field ℤ
+listed_cycles v cycles x y = slice_index_or cycles (place_in v x y) (pos 0)
 
 -- the window of a result's tile, and the surface that lies the result's cycles above the phase
 abbrev pub window_in : Scene → TileResult → Window
 window_in s k = window_of s.tiling k.tile
 
 abbrev pub result_surface : Scene → TileResult → Field ℤ
-result_surface s k = lifted (raster_of s) (cycles_in (window_in s k) k.cycles.items)
+result_surface s k = lifted (raster_of s) (listed_cycles (window_in s k) k.cycles.items)
 
 -- the result has one number of cycles for each pixel of its tile, and one face for each cell
 abbrev pub HasShape : Scene → TileResult → Type 0
@@ -34,7 +34,7 @@ IsOpenIn v mask x y = IsWithin v x y × IsTrue (mask x y)
 
 -- the cycles at a pixel are from -8388608 to 8388608; this holds at each open pixel; it holds at each open pixel before (x, y) in row order; (x, y) is the first open pixel at which it does not
 abbrev pub IsInRange : Window → List ℤ → ℕ → ℕ → Type 0
-IsInRange v cycles x y = unsigned_abs (cycles_in v cycles x y) ≤ 8388608
+IsInRange v cycles x y = unsigned_abs (listed_cycles v cycles x y) ≤ 8388608
 
 abbrev pub AreInRange : Window → Field Bool → List ℤ → Type 0
 AreInRange v mask cycles = (x y : ℕ) → IsOpenIn v mask x y → IsInRange v cycles x y

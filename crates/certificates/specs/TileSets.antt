@@ -8,7 +8,7 @@ use Rattle.raster_model.specs.declared.tiling.Tiling.{Tiling}
 use Rattle.raster_model.specs.Sums.{Field}
 use Rattle.raster_model.specs.Tiles.{tile_at, tiles_of}
 use Rattle.certificates.specs.declared.results.TileResult.{TileResult}
-use Rattle.certificates.specs.Results.{cycles_in, window_in}
+use Rattle.certificates.specs.Results.{listed_cycles, window_in}
 
 -- a set of results as contracts see it: the tiling, and the results in the order of the tiles
 pub record TileSetView : Type 0 where
@@ -26,7 +26,7 @@ pub record HasOneForEach (g : Tiling) (results : List TileResult) : Type 0 where
 
 -- the cycles that a result has at a pixel of its tile; and at each pixel, those of the result of the pixel's tile
 abbrev pub cycles_of : Scene → Option TileResult → Field ℤ
-cycles_of s (Some k) x y = cycles_in (window_in s k) k.cycles.items x y
+cycles_of s (Some k) x y = listed_cycles (window_in s k) k.cycles.items x y
 cycles_of s None x y = pos 0
 
 unfoldable pub solved_cycles : Scene → List TileResult → Field ℤ

@@ -1,6 +1,6 @@
 ghost use Rattle.raster_model.specs.Limits.{max_side};
 ghost use Rattle.certificates.specs.Growth.{AreAllInRange};
-ghost use Rattle.certificates.specs.Results.{cycles_in, pixels_in};
+ghost use Rattle.certificates.specs.Results.{listed_cycles, pixels_in};
 ghost use Rattle.std.specs.Prelude.{◌≡◌, ◌≤◌, ◌<◌, ◌&&◌, IsTrue, length, nat_le};
 
 use raster_model::{Heights, Mask, Window};
@@ -21,7 +21,7 @@ pub(crate) struct TileCycles<'a> {
 impl Heights for TileCycles<'_> {
     ghost knows = { λ s x y. nat_le s.window.x0 x && nat_le x s.window.x1 && nat_le s.window.y0 y && nat_le y s.window.y1 };
 
-    ghost cycles_at = { λ s x y. cycles_in s.window s.cycles.now x y };
+    ghost cycles_at = { λ s x y. listed_cycles s.window s.cycles.now x y };
 
     fn cycles(&self, x: u32, y: u32) -> i64 {
         i64::from(self.at(x, y))
@@ -37,7 +37,7 @@ impl TileCycles<'_> {
     /// The cycles at a pixel of the window.
     fn at(&self, x: u32, y: u32) -> i32
         requires { IsWithin self.now.window x y }
-        ensures { result ≡ cycles_in self.now.window self.now.cycles.now x y }
+        ensures { result ≡ listed_cycles self.now.window self.now.cycles.now x y }
     {
         let row = (y - self.window.y0) as usize * self.window.width() as usize;
         self.cycles[row + x as usize - self.window.x0 as usize]

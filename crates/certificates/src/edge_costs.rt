@@ -3,7 +3,7 @@ ghost use Rattle.raster_model.specs.Limits.{max_side};
 ghost use Rattle.raster_model.specs.Masks.{open_at};
 ghost use Rattle.raster_model.specs.Raster.{departure as departure_of, edge_cost as edge_cost_of, has_open_ends, lifted};
 ghost use Rattle.raster_model.specs.Scene.{raster_of};
-ghost use Rattle.raster_model.specs.Sums.{at_end, at_start, is_edge};
+ghost use Rattle.raster_model.specs.Sums.{at_edge_end, at_edge_start, is_edge};
 ghost use Rattle.raster_model.specs.Weights.{edge_weight};
 ghost use Rattle.std.specs.Prelude.{◌≡◌, ◌+◌, ◌*◌, ◌≤◌, ◌^◌, IsTrue, pos, unsigned_abs};
 
@@ -46,8 +46,8 @@ fn are_ends_open(mask: &Mask, edge: Edge, unmasked: bool) -> bool
 /// is looked up at the others.
 fn open_cost<H: Heights>(scene: &Scene, heights: &H, edge: Edge) -> u128
     requires is_edge { IsTrue (is_edge scene.now.phase.width scene.now.phase.height edge) }
-    requires start { IsTrue (at_start (H.knows heights.now) edge) }
-    requires end { IsTrue (at_end (H.knows heights.now) edge) }
+    requires start { IsTrue (at_edge_start (H.knows heights.now) edge) }
+    requires end { IsTrue (at_edge_end (H.knows heights.now) edge) }
     ensures value { result ≡ edge_weight scene.now.rule scene.now.weights edge * unsigned_abs (departure_of (raster_of scene.now) (lifted (raster_of scene.now) (H.cycles_at heights.now)) edge) }
     ensures small { result ≤ 65535 * (2 ^ 49 + 1) }
 {

@@ -1,7 +1,7 @@
 ghost use Rattle.sums_and_lists.specs.Sums.{where_true};
 ghost use Rattle.raster_model.specs.Flows.{seam_count};
 ghost use Rattle.raster_model.specs.Scene.{raster_of};
-ghost use Rattle.certificates.specs.Growth.{AreWithin, HasGrown};
+ghost use Rattle.certificates.specs.Growth.{AreWithinWeights, HasGrown};
 ghost use Rattle.std.specs.Prelude.{◌≡◌, ℕ, ◌+◌, ◌<◌, ◌≤◌, ◌^◌, ◌==◌, length, unsigned_abs};
 
 use crate::numbers::are_zeros;
@@ -59,12 +59,12 @@ impl SeamFlows<'_> {
       unsigned_abs,
     };
 
-    /// The place of a pixel's down edge among the seam edges, if `before` of them come before the pixel's right edge.
-    fn down_place(&self, x: u32, y: u32, before: usize) -> usize
-        requires start { StartsAt self.now x y before }
+    /// The place of a pixel's down edge among the seam edges. `place` is how many come before its right edge.
+    fn down_place(&self, x: u32, y: u32, place: usize) -> usize
+        requires start { StartsAt self.now x y place }
         ensures { PlacedAt self.now (down_edge x y) result }
     {
-        before + usize::from(is_seam_edge(self.scene, self.ends, Edge { x, y, down: false }))
+        place + usize::from(is_seam_edge(self.scene, self.ends, Edge { x, y, down: false }))
     }
 
     /// The flow of an edge that starts at a pixel, or 0 if it is not a seam edge. `place` is its place among the seam
@@ -92,16 +92,16 @@ impl SeamFlows<'_> {
     }
 
     /// The first edge that starts at a pixel and is a seam edge whose flow is greater than its weight.
-    fn first_heavy_from(&self, x: u32, y: u32, before: usize) -> Option<Edge>
-        requires start { StartsAt self.now x y before }
+    fn first_heavy_from(&self, x: u32, y: u32, place: usize) -> Option<Edge>
+        requires start { StartsAt self.now x y place }
         ensures found { IfSome result (IsFirstBreakFrom (IsSeamOf self.now) (FlowFitsAt self.now) x y) }
         ensures none { IfNone result (FitFrom self.now x y) }
     {
         let right = Edge { x, y, down: false };
         let down = Edge { x, y, down: true };
-        if self.is_heavy(right, before) {
+        if self.is_heavy(right, place) {
             Some(right)
-        } else if self.is_heavy(down, self.down_place(x, y, before)) {
+        } else if self.is_heavy(down, self.down_place(x, y, place)) {
             Some(down)
         } else {
             None
@@ -116,14 +116,14 @@ impl SeamFlows<'_> {
         if are_zeros(self.flows) {
             return None;
         }
-        let mut before = 0;
+        let mut place = 0;
         for y in 0..self.scene.phase.height {
             let mut x = next_start(self.scene, self.ends, 0, y);
             while x < self.scene.phase.width {
-                if let Some(edge) = self.first_heavy_from(x, y, before) {
+                if let Some(edge) = self.first_heavy_from(x, y, place) {
                     return Some(edge);
                 }
-                before += seams_from(self.scene, self.ends, x, y);
+                place += seams_from(self.scene, self.ends, x, y);
                 x = next_start(self.scene, self.ends, x + 1, y);
             }
         }
@@ -136,9 +136,9 @@ impl SeamFlows<'_> {
         requires placed { PlacedAt self.now edge place }
         requires fit { FlowsFit self.now }
         requires labels { HasLabels self.now labels.now (length sums.old) }
-        requires small { AreWithin (2 ^ 30) sums.old }
+        requires small { AreWithinWeights (2 ^ 30) sums.old }
         ensures grown { HasGrown sums.old sums.new (λ v. moved_on self.now labels.now v edge) }
-        ensures within { (n : ℕ) → AreWithin n sums.old → AreWithin (n + 2) sums.new }
+        ensures within { (n : ℕ) → AreWithinWeights n sums.old → AreWithinWeights (n + 2) sums.new }
     {
         let flow = self.flow(edge, place);
         if flow != 0 {
@@ -151,16 +151,16 @@ impl SeamFlows<'_> {
     }
 
     /// Moves the flows of the edges that start at a pixel.
-    fn move_flows_from(&self, labels: &[u32], x: u32, y: u32, before: usize, sums: &mut [i64])
-        requires start { StartsAt self.now x y before }
+    fn move_flows_from(&self, labels: &[u32], x: u32, y: u32, place: usize, sums: &mut [i64])
+        requires start { StartsAt self.now x y place }
         requires fit { FlowsFit self.now }
         requires labels { HasLabels self.now labels.now (length sums.old) }
-        requires small { AreWithin (2 ^ 29) sums.old }
+        requires small { AreWithinWeights (2 ^ 29) sums.old }
         ensures grown { HasGrown sums.old sums.new (λ v. moved_from self.now labels.now v x y) }
-        ensures within { (n : ℕ) → AreWithin n sums.old → AreWithin (n + 4) sums.new }
+        ensures within { (n : ℕ) → AreWithinWeights n sums.old → AreWithinWeights (n + 4) sums.new }
     {
-        self.move_flow(labels, Edge { x, y, down: false }, before, sums);
-        let next = self.down_place(x, y, before);
+        self.move_flow(labels, Edge { x, y, down: false }, place, sums);
+        let next = self.down_place(x, y, place);
         self.move_flow(labels, Edge { x, y, down: true }, next, sums);
     }
 
@@ -175,12 +175,12 @@ impl SeamFlows<'_> {
         if are_zeros(self.flows) {
             return;
         }
-        let mut before = 0;
+        let mut place = 0;
         for y in 0..self.scene.phase.height {
             let mut x = next_start(self.scene, self.ends, 0, y);
             while x < self.scene.phase.width {
-                self.move_flows_from(labels, x, y, before, sums);
-                before += seams_from(self.scene, self.ends, x, y);
+                self.move_flows_from(labels, x, y, place, sums);
+                place += seams_from(self.scene, self.ends, x, y);
                 x = next_start(self.scene, self.ends, x + 1, y);
             }
         }
@@ -204,15 +204,15 @@ impl SeamFlows<'_> {
     }
 
     /// The sum of flow times departure over the edges that start at a pixel.
-    fn products_from<H: Heights>(&self, heights: &H, x: u32, y: u32, before: usize) -> i128
-        requires start { StartsAt self.now x y before }
+    fn products_from<H: Heights>(&self, heights: &H, x: u32, y: u32, place: usize) -> i128
+        requires start { StartsAt self.now x y place }
         requires fit { FlowsFit self.now }
         requires known { KnowsSeams self.now (H.knows heights.now) }
         ensures value { result ≡ product_from self.now (H.cycles_at heights.now) x y }
         ensures small { unsigned_abs result ≤ 2 * 65535 * (2 ^ 49 + 1) }
     {
-        let next = self.down_place(x, y, before);
-        self.product(heights, Edge { x, y, down: false }, before)
+        let next = self.down_place(x, y, place);
+        self.product(heights, Edge { x, y, down: false }, place)
             + self.product(heights, Edge { x, y, down: true }, next)
     }
 
@@ -226,12 +226,12 @@ impl SeamFlows<'_> {
             return 0;
         }
         let mut total: i128 = 0;
-        let mut before = 0;
+        let mut place = 0;
         for y in 0..self.scene.phase.height {
             let mut x = next_start(self.scene, self.ends, 0, y);
             while x < self.scene.phase.width {
-                total += self.products_from(heights, x, y, before);
-                before += seams_from(self.scene, self.ends, x, y);
+                total += self.products_from(heights, x, y, place);
+                place += seams_from(self.scene, self.ends, x, y);
                 x = next_start(self.scene, self.ends, x + 1, y);
             }
         }
@@ -242,10 +242,10 @@ impl SeamFlows<'_> {
 /// Adds an amount to the number at a place.
 fn add_to(numbers: &mut [i64], place: usize, amount: i64)
     requires place { place < length numbers.old }
-    requires small { AreWithin (2 ^ 31) numbers.old }
+    requires small { AreWithinWeights (2 ^ 31) numbers.old }
     requires amount { unsigned_abs amount ≤ 65535 }
     ensures grown { HasGrown numbers.old numbers.new (λ v. where_true (place == v) amount) }
-    ensures within { (n : ℕ) → AreWithin n numbers.old → AreWithin (n + 1) numbers.new }
+    ensures within { (n : ℕ) → AreWithinWeights n numbers.old → AreWithinWeights (n + 1) numbers.new }
 {
     numbers[place] += amount;
 }

@@ -20,13 +20,13 @@ impl Tile<'_> {
     ghost use Rattle.certificates.specs.EdgeOrder.{HoldsAtAll, IsFirstBreak};
     ghost use Rattle.certificates.specs.EdgeWords.{HoldsBefore, HoldsFrom, HoldsIfPart, IsBreak, IsFirstBreakFrom};
     ghost use Rattle.certificates.specs.TileWords.{
-      AreOpenFrom,
+      AreRowsOpen,
       FitAt,
       FitDown,
       FitIn,
       FitRight,
-      FollowsDown,
-      FollowsRight,
+      TileFollowsDown,
+      TileFollowsRight,
       HasFaces,
       IsInner,
       KnowsTile,
@@ -34,9 +34,9 @@ impl Tile<'_> {
       cost_in,
       difference_at,
       faces_at,
-      mask_in,
+      held_mask,
       product_at,
-      raster_in,
+      held_raster,
       total_at,
     };
     ghost use Rattle.raster_model.specs.Certificates.{above, left};
@@ -127,8 +127,8 @@ impl Tile<'_> {
     /// The weight of an edge under the mask. If `unmasked` is true, both ends are known to be open.
     fn edge_weight(&self, edge: Edge, unmasked: bool) -> u16
         requires is_edge { IsTrue (is_edge self.now.scene.now.phase.width self.now.scene.now.phase.height edge) }
-        requires unmasked { IsTrue unmasked → IsTrue (has_open_ends (mask_in self.now) edge) }
-        ensures { result ≡ masked_weight (raster_in self.now) (mask_in self.now) edge }
+        requires unmasked { IsTrue unmasked → IsTrue (has_open_ends (held_mask self.now) edge) }
+        ensures { result ≡ masked_weight (held_raster self.now) (held_mask self.now) edge }
     {
         if unmasked {
             stored_weight(self.scene, edge)
@@ -142,7 +142,7 @@ impl Tile<'_> {
     fn faces_fit(&self, faces: &[i64], edge: Edge, unmasked: bool) -> bool
         requires count { HasFaces self.now faces.now }
         requires is_edge { IsTrue (is_edge self.now.scene.now.phase.width self.now.scene.now.phase.height edge) }
-        requires unmasked { IsTrue unmasked → IsTrue (has_open_ends (mask_in self.now) edge) }
+        requires unmasked { IsTrue unmasked → IsTrue (has_open_ends (held_mask self.now) edge) }
         ensures { IsTrue result ↔ FitAt self.now faces.now edge }
     {
         let difference = self.face_difference(faces, edge);
@@ -154,7 +154,7 @@ impl Tile<'_> {
     fn is_unfit(&self, faces: &[i64], edge: Edge, unmasked: bool) -> bool
         requires count { HasFaces self.now faces.now }
         requires start { IsWithin self.now.window edge.x edge.y }
-        requires unmasked { IsTrue unmasked → AreOpenFrom self.now edge.y }
+        requires unmasked { IsTrue unmasked → AreRowsOpen self.now edge.y }
         ensures { MatchBool result (IsBreak (IsInner self.now) (FitAt self.now faces.now) edge) (HoldsIfPart (IsInner self.now) (FitAt self.now faces.now) edge) }
     {
         edge.end_x() <= self.window.x1
@@ -167,7 +167,7 @@ impl Tile<'_> {
     fn first_unfit_from(&self, faces: &[i64], x: u32, y: u32, unmasked: bool) -> Option<Edge>
         requires count { HasFaces self.now faces.now }
         requires within { IsWithin self.now.window x y }
-        requires unmasked { IsTrue unmasked → AreOpenFrom self.now y }
+        requires unmasked { IsTrue unmasked → AreRowsOpen self.now y }
         ensures found { IfSome result (IsFirstBreakFrom (IsInner self.now) (FitAt self.now faces.now) x y) }
         ensures none { IfNone result (HoldsFrom (IsInner self.now) (FitAt self.now faces.now) x y) }
     {
@@ -188,7 +188,7 @@ impl Tile<'_> {
     fn fit_right(&self, faces: &[i64], y: u32) -> bool
         requires count { HasFaces self.now faces.now }
         requires row { (self.now.window.y0 < y) × (y < self.now.window.y1) }
-        requires unmasked { AreOpenFrom self.now y }
+        requires unmasked { AreRowsOpen self.now y }
         ensures { IsTrue result → FitRight self.now faces.now y self.now.window.x1 }
     {
         let mut unfit = false;
@@ -206,7 +206,7 @@ impl Tile<'_> {
     fn fit_down(&self, faces: &[i64], y: u32) -> bool
         requires count { HasFaces self.now faces.now }
         requires row { (self.now.window.y0 ≤ y) × (y < self.now.window.y1) }
-        requires unmasked { AreOpenFrom self.now y }
+        requires unmasked { AreRowsOpen self.now y }
         ensures { IsTrue result → FitDown self.now faces.now y self.now.window.x1 }
     {
         let mut unfit = false;
@@ -224,7 +224,7 @@ impl Tile<'_> {
     fn fit_at_sides(&self, faces: &[i64], y: u32) -> bool
         requires count { HasFaces self.now faces.now }
         requires row { (self.now.window.y0 ≤ y) × (y < self.now.window.y1) }
-        requires unmasked { AreOpenFrom self.now y }
+        requires unmasked { AreRowsOpen self.now y }
         ensures { IsTrue result → FitAt self.now faces.now (down_edge self.now.window.x0 y) × FitAt self.now faces.now (down_edge self.now.window.x1 y) }
     {
         let first = Edge {
@@ -245,7 +245,7 @@ impl Tile<'_> {
     fn fit_in_row(&self, faces: &[i64], y: u32, unmasked: bool) -> bool
         requires count { HasFaces self.now faces.now }
         requires row { (self.now.window.y0 ≤ y) × (y ≤ self.now.window.y1) }
-        requires unmasked { IsTrue unmasked → AreOpenFrom self.now y }
+        requires unmasked { IsTrue unmasked → AreRowsOpen self.now y }
         ensures { IsTrue result → FitIn self.now faces.now y }
     {
         let window = self.window;
@@ -344,7 +344,7 @@ impl Tile<'_> {
     /// Whether the tile's pixels in row `y` and in the next row are all open.
     fn are_open_from(&self, y: u32) -> bool
         requires { (self.now.window.y0 ≤ y) × (y ≤ self.now.window.y1) }
-        ensures { IsTrue result → AreOpenFrom self.now y }
+        ensures { IsTrue result → AreRowsOpen self.now y }
     {
         let window = self.window;
         self.mask.is_open_span(y, window.x0, window.x1)
@@ -356,7 +356,7 @@ impl Tile<'_> {
     fn cost_from<H: Heights>(&self, heights: &H, x: u32, y: u32, unmasked: bool) -> u128
         requires within { IsWithin self.now.window x y }
         requires known { KnowsTile self.now (H.knows heights.now) }
-        requires unmasked { IsTrue unmasked → AreOpenFrom self.now y }
+        requires unmasked { IsTrue unmasked → AreRowsOpen self.now y }
         ensures value { pos result ≡ cost_at self.now (H.cycles_at heights.now) x y }
         ensures small { result ≤ 2 * 65535 * (2 ^ 49 + 1) }
     {
@@ -380,8 +380,8 @@ impl Tile<'_> {
     fn follows_right<H: Heights>(&self, heights: &H, y: u32) -> bool
         requires row { (self.now.window.y0 ≤ y) × (y ≤ self.now.window.y1) }
         requires known { KnowsTile self.now (H.knows heights.now) }
-        requires unmasked { AreOpenFrom self.now y }
-        ensures { IsTrue result → FollowsRight self.now (H.cycles_at heights.now) y self.now.window.x1 }
+        requires unmasked { AreRowsOpen self.now y }
+        ensures { IsTrue result → TileFollowsRight self.now (H.cycles_at heights.now) y self.now.window.x1 }
     {
         let mut departs = false;
         for x in self.window.x0..self.window.x1 {
@@ -396,8 +396,8 @@ impl Tile<'_> {
     fn follows_down<H: Heights>(&self, heights: &H, y: u32) -> bool
         requires row { (self.now.window.y0 ≤ y) × (y < self.now.window.y1) }
         requires known { KnowsTile self.now (H.knows heights.now) }
-        requires unmasked { AreOpenFrom self.now y }
-        ensures { IsTrue result → FollowsDown self.now (H.cycles_at heights.now) y (self.now.window.x1 + 1) }
+        requires unmasked { AreRowsOpen self.now y }
+        ensures { IsTrue result → TileFollowsDown self.now (H.cycles_at heights.now) y (self.now.window.x1 + 1) }
     {
         let mut departs = false;
         for x in self.window.x0..self.window.x1 + 1 {
@@ -412,7 +412,7 @@ impl Tile<'_> {
     fn is_free<H: Heights>(&self, heights: &H, y: u32, unmasked: bool) -> bool
         requires row { (self.now.window.y0 ≤ y) × (y ≤ self.now.window.y1) }
         requires known { KnowsTile self.now (H.knows heights.now) }
-        requires unmasked { IsTrue unmasked → AreOpenFrom self.now y }
+        requires unmasked { IsTrue unmasked → AreRowsOpen self.now y }
         ensures { IsTrue result → pos 0 ≡ sum_row self.now.scene.now.phase.width (cost_at self.now (H.cycles_at heights.now)) y }
     {
         if !unmasked || !self.follows_right(heights, y) {

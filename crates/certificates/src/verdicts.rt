@@ -1,6 +1,6 @@
 use raster_model::Edge;
 
-/// What a check says of a tile. Of several breaks it tells the first in the order of the variants.
+/// What a check says of a tile. If it has several breaks, the first variant is returned.
 #[derive(Clone, Copy, Debug, PartialEq, Eq)]
 pub enum TileVerdict {
     /// The faces certify the surface: no congruent surface costs less in the tile.
@@ -16,8 +16,7 @@ pub enum TileVerdict {
     CostDiffers { cost: u128, bound: i128 },
 }
 
-/// What a check says of the seams of a surface. Of several breaks it tells the first in the order of the
-/// variants.
+/// What a check says of the seams of a surface. If they have several breaks, the first variant is returned.
 #[derive(Clone, Copy, Debug, PartialEq, Eq)]
 pub enum SeamVerdict {
     /// The surface meets its anchor, and the flows certify it: no whole-cycle offsets of its regions make the

@@ -14,7 +14,7 @@ use Rattle.seam_regions.specs.RegionsView.{RegionsView}
 use Rattle.offset_network.specs.Surfaces.{IsGoodSeams}
 use Rattle.surface_snapshots.specs.Parts.{Parts, parts_from}
 use Rattle.surface_snapshots.specs.SeamsView.{SeamsView, seams_of}
-use Rattle.surface_snapshots.specs.Verdicts.{IsVerdict}
+use Rattle.surface_snapshots.specs.Verdicts.{IsPartsVerdict}
 use Rattle.tile_board.specs.declared.gathered.Gathered.{Gathered}
 use Rattle.tile_board.specs.BoardView.{BoardView}
 use Rattle.tile_board.specs.Calls.{AreKeptResults, IsMaskNow}
@@ -37,13 +37,13 @@ masks_agree : (v : BoardView) (m n : MaskView) → IsMaskNow v m → IsMaskNow v
 masks_agree v m n p q x y l h = p.clear_at x y l h ∙ sym (q.clear_at x y l h)
 
 -- of a session and offsets that are the same as others
-parts_are : (s : Session) (p : Parts) (a : SeamResult) → p.session ≡ s → p.seams ≡ seams_of a → IsVerdict (parts_from s p.mask p.regions p.tiles a) Good → IsVerdict p Good
+parts_are : (s : Session) (p : Parts) (a : SeamResult) → p.session ≡ s → p.seams ≡ seams_of a → IsPartsVerdict (parts_from s p.mask p.regions p.tiles a) Good → IsPartsVerdict p Good
 parts_are s p a session seams good =
-    subst (λ (k : SeamsView). IsVerdict (record { session = p.session; mask = p.mask; regions = p.regions; tiles = p.tiles; seams = k }) Good) (sym seams)
-    (subst (λ (u : Session). IsVerdict (parts_from u p.mask p.regions p.tiles a) Good) (sym session) good)
+    subst (λ (k : SeamsView). IsPartsVerdict (record { session = p.session; mask = p.mask; regions = p.regions; tiles = p.tiles; seams = k }) Good) (sym seams)
+    (subst (λ (u : Session). IsPartsVerdict (parts_from u p.mask p.regions p.tiles a) Good) (sym session) good)
 
 module _ (g : Gathered) (regions : RegionsView) (seams : SeamResult) (are : AreRegionsOf (arc_value g.session).scene.tiling g.mask regions) (good : IsGoodSeams (arc_value g.session).scene g.mask regions g.tiles seams) where
-  certified : IsVerdict (parts_from (arc_value g.session) g.mask regions g.tiles seams) Good
+  certified : IsPartsVerdict (parts_from (arc_value g.session) g.mask regions g.tiles seams) Good
   certified = is_certified (arc_value g.session) g.mask regions g.tiles seams good
 
   pub certify_gathered : CertifyGathered g seams
@@ -52,7 +52,7 @@ module _ (g : Gathered) (regions : RegionsView) (seams : SeamResult) (are : AreR
   pub publishable : WillPublish g seams
   publishable v p gathering parts =
       let s = arc_value g.session in
-      let here : IsVerdict (parts_from v.session g.mask regions g.tiles seams) Good = subst (λ (u : Session). IsVerdict (parts_from u g.mask regions g.tiles seams) Good) gathering.session certified in
+      let here : IsPartsVerdict (parts_from v.session g.mask regions g.tiles seams) Good = subst (λ (u : Session). IsPartsVerdict (parts_from u g.mask regions g.tiles seams) Good) gathering.session certified in
       let are_here : AreRegionsOf v.session.scene.tiling g.mask regions = subst (λ (u : Session). AreRegionsOf u.scene.tiling g.mask regions) gathering.session are in
       parts_are v.session p seams parts.session parts.seams
       (verdict_too v.session g.mask p.mask regions p.regions g.tiles p.tiles seams

@@ -17,7 +17,7 @@ use Rattle.tile_board.specs.declared.entry.Entry.{Entry}
 use Rattle.tile_board.specs.declared.entry.Entry.TheVariants.{Revised, Kept, Published, Settled, Shown}
 use Rattle.tile_board.specs.declared.gathered.Gathered.{Gathered}
 use Rattle.tile_board.specs.BoardView.{BoardView}
-use Rattle.tile_board.specs.Calls.{Adds, IsAdvance, IsGathering, IsKeep, IsPublication, MayPublish, MaySettle}
+use Rattle.tile_board.specs.Calls.{AddsEntry, IsAdvance, IsGathering, IsKeep, IsPublication, MayPublish, MaySettle}
 use Rattle.tile_board.specs.Histories.{IsComplete, commands_of, done_by, is_kept, keeps, names, newest_of, next_command, now_of, script_of, stamp_in}
 use Rattle.tile_board.proofs.HistoryLemmas.{done_push, edits_same, kept_push, newest_same}
 use Rattle.tile_board.proofs.ListLemmas.{get_below, get_beyond, get_none}
@@ -36,7 +36,7 @@ later_trans u v w a b = record {
   begins = (a.begins.0 ++ b.begins.0, b.begins.1 ∙ ap (λ (H : List Entry). H ++ b.begins.0) a.begins.1 ∙ append_assoc u.entries a.begins.0 b.begins.0);
 }
 
-pub later_adds : (old new : BoardView) (e : Entry) → Adds old new e → IsLater old new
+pub later_adds : (old new : BoardView) (e : Entry) → AddsEntry old new e → IsLater old new
 later_adds old new e a = record { session = a.session; begins = (e ∷ [], a.entries) }
 
 -- ---- commands
@@ -70,7 +70,7 @@ fewer_left n d e l q = omega (arith, l, q)
 done_once : (H K : List Entry) (e : Entry) (a : ℕ) → K ≡ H ++ (e ∷ []) → names a e ≡ true → done_by a K ≡ done_by a H + 1
 done_once H K e a k n = ap (done_by a) k ∙ done_push H e a ∙ ap (λ (b : Bool). done_by a H + cond b 1 0) n
 
-pub does_more : (old new : BoardView) (e : Entry) (a : ℕ) (c : Command) → Adds old new e → names a e ≡ true → next_command old.session old.entries a ≡ Some c → commands_left a new < commands_left a old
+pub does_more : (old new : BoardView) (e : Entry) (a : ℕ) (c : Command) → AddsEntry old new e → names a e ≡ true → next_command old.session old.entries a ≡ Some c → commands_left a new < commands_left a old
 does_more old new e a c adds named next =
     subst (λ (s : Session). length (script_of s a) - done_by a new.entries < commands_left a old) (sym adds.session)
     (fewer_left (length (script_of old.session a)) (done_by a old.entries) (done_by a new.entries)

@@ -9,7 +9,7 @@ use Rattle.certificates.specs.Results.{IsGoodTile}
 use Rattle.certificates.proofs.Unique.{tiles_have_one_verdict}
 use Rattle.seam_regions.specs.Regions.{AreRegionsOf}
 use Rattle.surface_snapshots.specs.Parts.{Parts}
-use Rattle.surface_snapshots.specs.Verdicts.{IsVerdict, PartsHaveOneVerdict}
+use Rattle.surface_snapshots.specs.Verdicts.{IsPartsVerdict, PartsHaveOneVerdict}
 use Rattle.tile_board.specs.declared.answers.GatherFault.{GatherFault}
 use Rattle.tile_board.specs.declared.answers.GatherFault.TheVariants as gather_faults
 use Rattle.tile_board.specs.declared.answers.KeepFault.{KeepFault}
@@ -35,7 +35,7 @@ gathered_or_memory v all (gather_faults.Unready t) h = absurd (true_and_false _ 
 gathered_or_memory v all gather_faults.Memory h = refl
 
 -- offsets that certify whatever is published with them
-pub published_or_memory : (v : BoardView) (a : ℕ) (seams : SeamResult) → PartsHaveOneVerdict → MayPublish v a seams → ((p : Parts) → ArePublishable v seams p → IsVerdict p GoodSeams) → (fault : PublishFault) → HasPublishFault v a seams fault → fault ≡ publish_faults.Memory
+pub published_or_memory : (v : BoardView) (a : ℕ) (seams : SeamResult) → PartsHaveOneVerdict → MayPublish v a seams → ((p : Parts) → ArePublishable v seams p → IsPartsVerdict p GoodSeams) → (fault : PublishFault) → HasPublishFault v a seams fault → fault ≡ publish_faults.Memory
 published_or_memory v a seams one may good publish_faults.NotSettle h = absurd (h may.0.0.0)
 published_or_memory v a seams one may good (publish_faults.Stale r) h = absurd (h.2 (may.0.0.1 ∙ sym h.1))
 published_or_memory v a seams one may good (publish_faults.Double r) h = absurd (may.0.1 (h.2 ∙ ap Some h.1))

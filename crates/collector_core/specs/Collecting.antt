@@ -5,15 +5,15 @@ use Rattle.certificates.specs.declared.verdicts.SeamVerdict.TheVariants.{Good}
 use Rattle.seam_regions.specs.Regions.{AreRegionsOf}
 use Rattle.seam_regions.specs.RegionsView.{RegionsView}
 use Rattle.surface_snapshots.specs.Parts.{Parts, parts_from}
-use Rattle.surface_snapshots.specs.Verdicts.{IsVerdict}
+use Rattle.surface_snapshots.specs.Verdicts.{IsPartsVerdict}
 use Rattle.tile_board.specs.declared.gathered.Gathered.{Gathered}
 use Rattle.tile_board.specs.BoardView.{BoardView}
 use Rattle.tile_board.specs.Calls.{ArePublishable, IsGathering}
 
 -- over the regions of the gathered mask they certify the surface that they make of the gathered results
 abbrev pub CertifyGathered : Gathered → SeamResult → Type 0
-CertifyGathered g seams = (regions : RegionsView) → AreRegionsOf (arc_value g.session).scene.tiling g.mask regions → IsVerdict (parts_from (arc_value g.session) g.mask regions g.tiles seams) Good
+CertifyGathered g seams = (regions : RegionsView) → AreRegionsOf (arc_value g.session).scene.tiling g.mask regions → IsPartsVerdict (parts_from (arc_value g.session) g.mask regions g.tiles seams) Good
 
 -- whichever board this was gathered from, all that it would publish with them is certified
 abbrev pub WillPublish : Gathered → SeamResult → Type 0
-WillPublish g seams = (v : BoardView) (p : Parts) → IsGathering v g → ArePublishable v seams p → IsVerdict p Good
+WillPublish g seams = (v : BoardView) (p : Parts) → IsGathering v g → ArePublishable v seams p → IsPartsVerdict p Good

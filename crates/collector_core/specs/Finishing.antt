@@ -6,15 +6,15 @@ use Rattle.tile_board.specs.BoardView.{BoardView}
 use Rattle.tile_board.specs.Histories.{AreAllKept, done_by, is_kept, newest_of, next_command, now_of, script_of}
 
 -- a history begins with another
-abbrev pub BeginsWith : List Entry → List Entry → Type 0
-BeginsWith H K = (more : List Entry) × (H ≡ K ++ more)
+abbrev pub Continues : List Entry → List Entry → Type 0
+Continues H K = (more : List Entry) × (H ≡ K ++ more)
 
 -- ---- words of helpers, which no clause of a public function cites
 
 -- the session is the same, and the history begins with the old one
 pub record IsLater (old new : BoardView) : Type 0 where
   pub session : new.session ≡ old.session
-  pub begins : BeginsWith new.entries old.entries
+  pub begins : Continues new.entries old.entries
 
 -- and only tiles were kept: no command was done, no edit made, and nothing published
 pub record OnlyKept (old new : BoardView) : Type 0 where

@@ -1,4 +1,4 @@
-ghost use Rattle.collector_core.specs.Finishing.{BeginsWith, DoesMore, IsLater};
+ghost use Rattle.collector_core.specs.Finishing.{Continues, DoesMore, IsLater};
 ghost use Rattle.std.specs.Prelude.{◌≡◌, IfOk, None, OnOk};
 ghost use Rattle.tile_board.specs.Histories.{IsComplete, next_command};
 
@@ -10,7 +10,7 @@ use tile_board::{Advance, AdvanceFault, Board};
 /// memory, and then some of it may be done.
 pub fn finish(alloc: Global, board: &mut Board) -> Result<(), AllocError>
     ensures session { board.new.session ≡ board.old.session }
-    ensures begins { BeginsWith board.new.entries board.old.entries }
+    ensures begins { Continues board.new.entries board.old.entries }
     ensures complete { OnOk result (IsComplete board.new.session board.new.entries) }
 {
     let analysts = board.session().scripts.len() as u32;

@@ -3,7 +3,7 @@ ghost use Rattle.certificates.specs.Results.{IsGoodTile};
 ghost use Rattle.collector_core.specs.Finishing.{IsLater, KeepsMore, OnlyKept, commands_left};
 ghost use Rattle.std.specs.Prelude.{◌≡◌, ◌≢◌, ◌<◌, Bool, IfOk, OnErr, OnOk, Some};
 ghost use Rattle.surface_snapshots.specs.Parts.{Parts};
-ghost use Rattle.surface_snapshots.specs.Verdicts.{IsVerdict};
+ghost use Rattle.surface_snapshots.specs.Verdicts.{IsPartsVerdict};
 ghost use Rattle.tile_board.specs.Calls.{
   ArePublishable,
   IsClaim,
@@ -111,7 +111,7 @@ fn publish(
     seams: SeamResult,
 ) -> Result<(), AllocError>
     requires may { MayPublish board.old analyst seams }
-    requires certify { (p : Parts) → ArePublishable board.old seams p → IsVerdict p Good }
+    requires certify { (p : Parts) → ArePublishable board.old seams p → IsPartsVerdict p Good }
     ensures published { OnOk result (IsPublication board.old board.new analyst seams) }
     ensures unchanged { OnErr result (board.new ≡ board.old) }
 {

@@ -7,7 +7,7 @@ use Rattle.std.proofs.lemmas.Int.{ints}
 use Rattle.std.proofs.lemmas.Nat.{div-add-mod', div-mul-add, mod-mul-add, mod_below}
 use Rattle.raster_model.specs.declared.tiling.Window.{Window}
 use Rattle.flow_network.specs.Nets.{IsArc, IsNetwork, tail_of}
-use Rattle.dual_grid.specs.Grids.{cost_at, head_at, is_taken, leads_forth, shape_in, twin_place}
+use Rattle.dual_grid.specs.Grids.{cost_in_place, head_at, is_taken, leads_forth, window_shape, twin_place}
 use Rattle.dual_grid.specs.Nodes.{cells_of, edges_of, edge_of, first_side, other_side}
 use Rattle.dual_grid.proofs.NodeLemmas.{first_below, other_below}
 use Rattle.sums_and_lists.proofs.Orders.{is_below, is_lt}
@@ -37,7 +37,7 @@ pub record IsTwinPlace (w k : ℕ) : Type 0 where
   pub back : twin_place w (twin_place w k) ≡ k
   pub apart : twin_place w k ≡ k → ⊥
   pub turned : leads_forth (twin_place w k) ≡ not (leads_forth k)
-  pub negated : cost_at w (twin_place w k) ≡ neg_ℤ (cost_at w k)
+  pub negated : cost_in_place w (twin_place w k) ≡ neg_ℤ (cost_in_place w k)
 
 free_0 : (w : ℕ) → IsFree w → IsTwinPlace w 0
 free_0 w f = let z = f.0 in let p = f.2 in record { below = rw z (omega arith); taken = rw z refl; back = rw z refl; apart = λ e. (let h : 2 ≡ 0 = rw z at e in omega (arith, h)); turned = rw z refl; negated = rw (z, p) refl }
@@ -94,34 +94,34 @@ starts_side false a b = refl
 
 module _ (v : Window) (weight : ℕ → ℕ) where
   -- an arc has a number below the end, and its place is taken
-  pub arc_below : (a : ℕ) → IsArc (shape_in v weight) a → a < edges_of v * 4
+  pub arc_below : (a : ℕ) → IsArc (window_shape v weight) a → a < edges_of v * 4
   arc_below a arc = is_lt a (edges_of v * 4) (and_parts (nat_lt a (edges_of v * 4)) (is_taken (weight (a / 4)) (a % 4)) arc).0
 
-  pub arc_taken : (a : ℕ) → IsArc (shape_in v weight) a → is_taken (weight (a / 4)) (a % 4) ≡ true
+  pub arc_taken : (a : ℕ) → IsArc (window_shape v weight) a → is_taken (weight (a / 4)) (a % 4) ≡ true
   arc_taken a arc = (and_parts (nat_lt a (edges_of v * 4)) (is_taken (weight (a / 4)) (a % 4)) arc).1
 
   pub edge_below_end : (a : ℕ) → a < edges_of v * 4 → a / 4 < edges_of v
   edge_below_end a l = omega (arith, l)
 
-  pub is_arc_at : (a : ℕ) → a < edges_of v * 4 → is_taken (weight (a / 4)) (a % 4) ≡ true → IsArc (shape_in v weight) a
+  pub is_arc_at : (a : ℕ) → a < edges_of v * 4 → is_taken (weight (a / 4)) (a % 4) ≡ true → IsArc (window_shape v weight) a
   is_arc_at a l t = and_from (nat_lt a (edges_of v * 4)) (is_taken (weight (a / 4)) (a % 4)) (is_below a (edges_of v * 4) l) t
 
-  facts : (a : ℕ) → IsArc (shape_in v weight) a → IsTwinPlace (weight (a / 4)) (a % 4)
+  facts : (a : ℕ) → IsArc (window_shape v weight) a → IsTwinPlace (weight (a / 4)) (a % 4)
   facts a arc = twin_facts (weight (a / 4)) (a % 4) (mod_below a 4 (omega arith)) (arc_taken a arc)
 
   -- the twin is across the same edge
-  pub twin_edge : (a : ℕ) → IsArc (shape_in v weight) a → (shape_in v weight).twin a / 4 ≡ a / 4
+  pub twin_edge : (a : ℕ) → IsArc (window_shape v weight) a → (window_shape v weight).twin a / 4 ≡ a / 4
   twin_edge a arc = div-mul-add (a / 4) 4 (twin_place (weight (a / 4)) (a % 4)) (facts a arc).below
 
-  pub twin_at_place : (a : ℕ) → IsArc (shape_in v weight) a → (shape_in v weight).twin a % 4 ≡ twin_place (weight (a / 4)) (a % 4)
+  pub twin_at_place : (a : ℕ) → IsArc (window_shape v weight) a → (window_shape v weight).twin a % 4 ≡ twin_place (weight (a / 4)) (a % 4)
   twin_at_place a arc = mod-mul-add (a / 4) 4 (twin_place (weight (a / 4)) (a % 4)) (facts a arc).below
 
-  twin_arc : (a : ℕ) → IsArc (shape_in v weight) a → IsArc (shape_in v weight) ((shape_in v weight).twin a)
+  twin_arc : (a : ℕ) → IsArc (window_shape v weight) a → IsArc (window_shape v weight) ((window_shape v weight).twin a)
   twin_arc a arc =
-      is_arc_at ((shape_in v weight).twin a) (let l = arc_below a arc in let b = (facts a arc).below in omega (arith, l, b))
+      is_arc_at ((window_shape v weight).twin a) (let l = arc_below a arc in let b = (facts a arc).below in omega (arith, l, b))
       (ap₂ (λ (n k : ℕ). is_taken (weight n) k) (twin_edge a arc) (twin_at_place a arc) ∙ (facts a arc).taken)
 
-  twin_back : (a : ℕ) → IsArc (shape_in v weight) a → (shape_in v weight).twin ((shape_in v weight).twin a) ≡ a
+  twin_back : (a : ℕ) → IsArc (window_shape v weight) a → (window_shape v weight).twin ((window_shape v weight).twin a) ≡ a
   twin_back a arc =
       ap₂ (λ (n k : ℕ). n * 4 + twin_place (weight n) k) (twin_edge a arc) (twin_at_place a arc)
       ∙ ap (λ (k : ℕ). a / 4 * 4 + k) (facts a arc).back ∙ div-add-mod' a 4
@@ -134,30 +134,30 @@ module _ (v : Window) (weight : ℕ → ℕ) where
       ]
 
   -- an arc starts at the side that it does not lead to
-  pub tail_is : (a : ℕ) → IsArc (shape_in v weight) a → tail_of (shape_in v weight) a ≡ (if leads_forth (a % 4) then first_side v (edge_of v (a / 4)) else other_side v (edge_of v (a / 4)))
+  pub tail_is : (a : ℕ) → IsArc (window_shape v weight) a → tail_of (window_shape v weight) a ≡ (if leads_forth (a % 4) then first_side v (edge_of v (a / 4)) else other_side v (edge_of v (a / 4)))
   tail_is a arc =
       ap₂ (λ (n k : ℕ). head_at v n k) (twin_edge a arc) (twin_at_place a arc)
       ∙ ap (λ (t : Bool). if t then other_side v (edge_of v (a / 4)) else first_side v (edge_of v (a / 4))) (facts a arc).turned
       ∙ starts_side (leads_forth (a % 4)) (other_side v (edge_of v (a / 4))) (first_side v (edge_of v (a / 4)))
 
   -- ---- by edge and place
-  pub place_is_arc : (n k : ℕ) → n < edges_of v → k < 4 → is_taken (weight n) k ≡ true → IsArc (shape_in v weight) (n * 4 + k)
+  pub place_is_arc : (n k : ℕ) → n < edges_of v → k < 4 → is_taken (weight n) k ≡ true → IsArc (window_shape v weight) (n * 4 + k)
   place_is_arc n k l m t = is_arc_at (n * 4 + k) (omega (arith, l, m)) (ap₂ (λ (i j : ℕ). is_taken (weight i) j) (div-mul-add n 4 k m) (mod-mul-add n 4 k m) ∙ t)
 
-  pub place_is_no_arc : (n k : ℕ) → n < edges_of v → k < 4 → is_taken (weight n) k ≡ false → (shape_in v weight).is_arc (n * 4 + k) ≡ false
+  pub place_is_no_arc : (n k : ℕ) → n < edges_of v → k < 4 → is_taken (weight n) k ≡ false → (window_shape v weight).is_arc (n * 4 + k) ≡ false
   place_is_no_arc n k l m t = ap₂ (λ (b c : Bool). b && c) (is_below (n * 4 + k) (edges_of v * 4) (omega (arith, l, m))) (ap₂ (λ (i j : ℕ). is_taken (weight i) j) (div-mul-add n 4 k m) (mod-mul-add n 4 k m) ∙ t)
 
-  pub place_tail : (n k : ℕ) → k < 4 → IsArc (shape_in v weight) (n * 4 + k) → tail_of (shape_in v weight) (n * 4 + k) ≡ (if leads_forth k then first_side v (edge_of v n) else other_side v (edge_of v n))
+  pub place_tail : (n k : ℕ) → k < 4 → IsArc (window_shape v weight) (n * 4 + k) → tail_of (window_shape v weight) (n * 4 + k) ≡ (if leads_forth k then first_side v (edge_of v n) else other_side v (edge_of v n))
   place_tail n k m arc =
       tail_is (n * 4 + k) arc
       ∙ ap₂ (λ (i j : ℕ). if leads_forth j then first_side v (edge_of v i) else other_side v (edge_of v i)) (div-mul-add n 4 k m) (mod-mul-add n 4 k m)
 
-  pub grid_is_network : IsNetwork (shape_in v weight)
+  pub grid_is_network : IsNetwork (window_shape v weight)
   grid_is_network = record {
     below = arc_below;
     ends = λ a arc. head_below (a / 4) (a % 4);
     has_twin = twin_arc;
     back = twin_back;
     apart = λ a arc e. (let split = div-add-mod' a 4 in (facts a arc).apart (omega (arith, e, split)));
-    negated = λ a arc. ap₂ (λ (n k : ℕ). cost_at (weight n) k) (twin_edge a arc) (twin_at_place a arc) ∙ (facts a arc).negated;
+    negated = λ a arc. ap₂ (λ (n k : ℕ). cost_in_place (weight n) k) (twin_edge a arc) (twin_at_place a arc) ∙ (facts a arc).negated;
   }

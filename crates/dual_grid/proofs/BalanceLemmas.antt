@@ -16,8 +16,8 @@ use Rattle.wrapped_gradient.specs.Windows.{IsCellOf, IsEdgeOf, round}
 use Rattle.wrapped_gradient.proofs.GradientLemmas.{right_edge_of, down_edge_of}
 use Rattle.dual_grid.specs.Nodes.{node_at, first_side, other_side, rights_of, downs_of, edges_of, edge_number, edge_of}
 use Rattle.dual_grid.specs.Starts.{supply_at, start_state}
-use Rattle.dual_grid.specs.Grids.{amount_of, is_taken, leads_forth, residual_at, shape_in, state_in}
-use Rattle.dual_grid.specs.Building.{IsSmall}
+use Rattle.dual_grid.specs.Grids.{amount_of, is_taken, leads_forth, residual_at, window_shape, window_state}
+use Rattle.dual_grid.specs.Building.{IsSmallWindow}
 use Rattle.dual_grid.proofs.ArcLemmas.{free_or_charged, place_is_arc, place_is_no_arc, place_tail}
 use Rattle.dual_grid.proofs.FlowLemmas.{amount_is, amount_parts, amounts_small, twice_turned}
 use Rattle.dual_grid.proofs.NodeLemmas.{first_right, first_down, other_right, other_down, node_below}
@@ -74,21 +74,21 @@ terms_leave w q t u l =
           rw (z, some) (four_terms t u (16130 - amount_of q) (amount_of (neg_ℤ (neg_ℤ q))) (16130 - amount_of (neg_ℤ q)) (amount_of (neg_ℤ q)) q (omega (arith, ints, parts, small)) (omega (arith, ints, parts, small, turned))))
     ]
 
-module _ (v : Window) (little : IsSmall v) (weight : ℕ → ℕ) where
+module _ (v : Window) (little : IsSmallWindow v) (weight : ℕ → ℕ) where
   -- what starts at a node, edge by edge
-  by_edges : (f : State) (u : ℕ) → residual_out (shape_in v weight) f u ≡ sum_grid (width_of v - 1) (height_of v) (λ i j. quad (shape_in v weight) f u (edge_number v (right_edge (v.x0 + i) (v.y0 + j)))) +ℤ sum_grid (width_of v) (height_of v - 1) (λ i j. quad (shape_in v weight) f u (edge_number v (down_edge (v.x0 + i) (v.y0 + j))))
+  by_edges : (f : State) (u : ℕ) → residual_out (window_shape v weight) f u ≡ sum_grid (width_of v - 1) (height_of v) (λ i j. quad (window_shape v weight) f u (edge_number v (right_edge (v.x0 + i) (v.y0 + j)))) +ℤ sum_grid (width_of v) (height_of v - 1) (λ i j. quad (window_shape v weight) f u (edge_number v (down_edge (v.x0 + i) (v.y0 + j))))
   by_edges f u =
       let rights : rights_of v ≡ height_of v * (width_of v - 1) = omega arith in
       let downs : downs_of v ≡ (height_of v - 1) * width_of v = omega arith in
-      sum_below-fours (edges_of v) (out_term (shape_in v weight) f u)
-      ∙ sum_below-parts (rights_of v) (downs_of v) (quad (shape_in v weight) f u)
+      sum_below-fours (edges_of v) (out_term (window_shape v weight) f u)
+      ∙ sum_below-parts (rights_of v) (downs_of v) (quad (window_shape v weight) f u)
       ∙ ap₂ (λ (y z : ℤ). y +ℤ z)
-      (ap (λ (n : ℕ). sum_below n (quad (shape_in v weight) f u)) rights
-      ∙ sum_below-rows (width_of v - 1) (height_of v) (quad (shape_in v weight) f u)
-      ∙ sum_grid-same (width_of v - 1) (height_of v) (λ i j. quad (shape_in v weight) f u (j * (width_of v - 1) + i)) (λ i j. quad (shape_in v weight) f u (edge_number v (right_edge (v.x0 + i) (v.y0 + j)))) (λ i j l m. ap (quad (shape_in v weight) f u) (right_place i j)))
-      (ap (λ (n : ℕ). sum_below n (λ i. quad (shape_in v weight) f u (rights_of v + i))) downs
-      ∙ sum_below-rows (width_of v) (height_of v - 1) (λ i. quad (shape_in v weight) f u (rights_of v + i))
-      ∙ sum_grid-same (width_of v) (height_of v - 1) (λ i j. quad (shape_in v weight) f u (rights_of v + (j * width_of v + i))) (λ i j. quad (shape_in v weight) f u (edge_number v (down_edge (v.x0 + i) (v.y0 + j)))) (λ i j l m. ap (quad (shape_in v weight) f u) (down_place i j)))
+      (ap (λ (n : ℕ). sum_below n (quad (window_shape v weight) f u)) rights
+      ∙ sum_below-rows (width_of v - 1) (height_of v) (quad (window_shape v weight) f u)
+      ∙ sum_grid-same (width_of v - 1) (height_of v) (λ i j. quad (window_shape v weight) f u (j * (width_of v - 1) + i)) (λ i j. quad (window_shape v weight) f u (edge_number v (right_edge (v.x0 + i) (v.y0 + j)))) (λ i j l m. ap (quad (window_shape v weight) f u) (right_place i j)))
+      (ap (λ (n : ℕ). sum_below n (λ i. quad (window_shape v weight) f u (rights_of v + i))) downs
+      ∙ sum_below-rows (width_of v) (height_of v - 1) (λ i. quad (window_shape v weight) f u (rights_of v + i))
+      ∙ sum_grid-same (width_of v) (height_of v - 1) (λ i j. quad (window_shape v weight) f u (rights_of v + (j * width_of v + i))) (λ i j. quad (window_shape v weight) f u (edge_number v (down_edge (v.x0 + i) (v.y0 + j)))) (λ i j l m. ap (quad (window_shape v weight) f u) (down_place i j)))
     where
       right_place : (i j : ℕ) → j * (width_of v - 1) + i ≡ edge_number v (right_edge (v.x0 + i) (v.y0 + j))
       right_place i j =
@@ -116,7 +116,7 @@ module _ (v : Window) (little : IsSmall v) (weight : ℕ → ℕ) where
 
   -- ---- with what flows
   module _ (flow excess potential : ℕ → ℤ) (within : (n : ℕ) → unsigned_abs (flow n) ≤ 16130) where
-    term_at : (u n k : ℕ) → n < edges_of v → k < 4 → out_term (shape_in v weight) (state_in weight flow excess potential) u (n * 4 + k) ≡ term (weight n) (flow n) (first_side v (edge_of v n) == u) (other_side v (edge_of v n) == u) k
+    term_at : (u n k : ℕ) → n < edges_of v → k < 4 → out_term (window_shape v weight) (window_state weight flow excess potential) u (n * 4 + k) ≡ term (weight n) (flow n) (first_side v (edge_of v n) == u) (other_side v (edge_of v n) == u) k
     term_at u n k l m =
         elim (cases_Bool (is_taken (weight n) k)) [
           | inl t ↦ (
@@ -124,7 +124,7 @@ module _ (v : Window) (little : IsSmall v) (weight : ℕ → ℕ) where
               let tail = place_tail v weight n k m arc in
               rw (arc, t) (ap₂ (λ (i : ℕ) (r : ℕ). where_true (i == u) (pos r)) tail residual ∙ chosen (leads_forth k) (first_side v (edge_of v n)) (other_side v (edge_of v n)) (residual_at (weight n) (flow n) k)))
           | inr t ↦ (
-              let none : (shape_in v weight).is_arc (n * 4 + k) ≡ false = place_is_no_arc v weight n k l m t in
+              let none : (window_shape v weight).is_arc (n * 4 + k) ≡ false = place_is_no_arc v weight n k l m t in
               rw (none, t) refl)
         ]
       where
@@ -136,23 +136,23 @@ module _ (v : Window) (little : IsSmall v) (weight : ℕ → ℕ) where
         chosen false i j r = refl
 
     -- what can leave a node across an edge
-    quad_leaves : (u n : ℕ) → n < edges_of v → quad (shape_in v weight) (state_in weight flow excess potential) u n ≡ leaving (first_side v (edge_of v n) == u) (other_side v (edge_of v n) == u) (flow n)
+    quad_leaves : (u n : ℕ) → n < edges_of v → quad (window_shape v weight) (window_state weight flow excess potential) u n ≡ leaving (first_side v (edge_of v n) == u) (other_side v (edge_of v n) == u) (flow n)
     quad_leaves u n l =
         let zero_more : n * 4 + 0 ≡ n * 4 = omega arith in
         sums _ _ _ _ _ _ _ _ _
-        (ap (λ (a : ℕ). out_term (shape_in v weight) (state_in weight flow excess potential) u a) (sym zero_more) ∙ term_at u n 0 l (omega arith)) (term_at u n 1 l (omega arith)) (term_at u n 2 l (omega arith)) (term_at u n 3 l (omega arith))
+        (ap (λ (a : ℕ). out_term (window_shape v weight) (window_state weight flow excess potential) u a) (sym zero_more) ∙ term_at u n 0 l (omega arith)) (term_at u n 1 l (omega arith)) (term_at u n 2 l (omega arith)) (term_at u n 3 l (omega arith))
         (terms_leave (weight n) (flow n) (first_side v (edge_of v n) == u) (other_side v (edge_of v n) == u) (within n))
       where
         sums : (a b c d i j k l z : ℤ) → a ≡ i → b ≡ j → c ≡ k → d ≡ l → i +ℤ j +ℤ k +ℤ l ≡ z → a +ℤ b +ℤ c +ℤ d ≡ z
         sums a b c d i j k l z p q r t h = rw (p, q, r, t) h
 
   -- at the start nothing flows
-  start_leaves : (r : Field ℤ) (u : ℕ) → residual_out (shape_in v weight) (start_state r v) u ≡ residual_out (shape_in v weight) (state_in weight (λ n. pos 0) (λ n. pos 0) (λ n. pos 0)) u
-  start_leaves r u = residual_out-same (shape_in v weight) (state_in weight (λ n. pos 0) (λ n. pos 0) (λ n. pos 0)) (start_state r v) u (λ a arc. sym (idle_residual v weight a arc))
+  start_leaves : (r : Field ℤ) (u : ℕ) → residual_out (window_shape v weight) (start_state r v) u ≡ residual_out (window_shape v weight) (window_state weight (λ n. pos 0) (λ n. pos 0) (λ n. pos 0)) u
+  start_leaves r u = residual_out-same (window_shape v weight) (window_state weight (λ n. pos 0) (λ n. pos 0) (λ n. pos 0)) (start_state r v) u (λ a arc. sym (idle_residual v weight a arc))
 
-  module _ (r : Field ℤ) (flow excess potential : ℕ → ℤ) (within : (n : ℕ) → unsigned_abs (flow n) ≤ 16130) (conserved : IsConserved (shape_in v weight) (start_state r v) (state_in weight flow excess potential)) where
+  module _ (r : Field ℤ) (flow excess potential : ℕ → ℤ) (within : (n : ℕ) → unsigned_abs (flow n) ≤ 16130) (conserved : IsConserved (window_shape v weight) (start_state r v) (window_state weight flow excess potential)) where
     -- since the start the flow across an edge left what starts at its first side, and came to the other
-    moved : (e : Edge) → IsEdgeOf v e → (u : ℕ) → quad (shape_in v weight) (state_in weight (λ n. pos 0) (λ n. pos 0) (λ n. pos 0)) u (edge_number v e) ≡ quad (shape_in v weight) (state_in weight flow excess potential) u (edge_number v e) +ℤ share v flow u e
+    moved : (e : Edge) → IsEdgeOf v e → (u : ℕ) → quad (window_shape v weight) (window_state weight (λ n. pos 0) (λ n. pos 0) (λ n. pos 0)) u (edge_number v e) ≡ quad (window_shape v weight) (window_state weight flow excess potential) u (edge_number v e) +ℤ share v flow u e
     moved e is u =
         let n = edge_number v e in
         let l = number_below v e is in
@@ -168,11 +168,11 @@ module _ (v : Window) (little : IsSmall v) (weight : ℕ → ℕ) where
         split false false q = omega (arith, ints)
 
     -- what a node had at the start is what flows out of it across the edges
-    shares : (u : ℕ) → u < (shape_in v weight).nodes → excess u ≡ pos 0 → supply_at r v u ≡ sum_grid (width_of v - 1) (height_of v) (λ i j. share v flow u (right_edge (v.x0 + i) (v.y0 + j))) +ℤ sum_grid (width_of v) (height_of v - 1) (λ i j. share v flow u (down_edge (v.x0 + i) (v.y0 + j)))
+    shares : (u : ℕ) → u < (window_shape v weight).nodes → excess u ≡ pos 0 → supply_at r v u ≡ sum_grid (width_of v - 1) (height_of v) (λ i j. share v flow u (right_edge (v.x0 + i) (v.y0 + j))) +ℤ sum_grid (width_of v) (height_of v - 1) (λ i j. share v flow u (down_edge (v.x0 + i) (v.y0 + j)))
     shares u l empty =
-        let s = shape_in v weight in
-        let f = state_in weight flow excess potential in
-        let g = state_in weight (λ n. pos 0) (λ n. pos 0) (λ n. pos 0) in
+        let s = window_shape v weight in
+        let f = window_state weight flow excess potential in
+        let g = window_state weight (λ n. pos 0) (λ n. pos 0) (λ n. pos 0) in
         let right = λ (h : State) (i j : ℕ). quad s h u (edge_number v (right_edge (v.x0 + i) (v.y0 + j))) in
         let down = λ (h : State) (i j : ℕ). quad s h u (edge_number v (down_edge (v.x0 + i) (v.y0 + j))) in
         let right_share = λ (i j : ℕ). share v flow u (right_edge (v.x0 + i) (v.y0 + j)) in

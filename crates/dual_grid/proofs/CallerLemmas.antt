@@ -7,14 +7,14 @@ use Rattle.raster_model.specs.declared.tiling.Window.{Window}
 use Rattle.raster_model.specs.Raster.{residue}
 use Rattle.raster_model.specs.Scene.{raster_of}
 use Rattle.raster_model.specs.Sums.{Field}
-use Rattle.flow_network.specs.Nets.{Shape, State, IsArc, tail_of}
+use Rattle.flow_network.specs.Nets.{Shape, State, IsArc, tail_of, positive_part, total_excess}
 use Rattle.flow_network.specs.Moves.{IsConserved}
 use Rattle.flow_network.proofs.CallerLemmas.{conserved-trans}
 use Rattle.dual_grid.specs.declared.grid.DualGrid.{DualGrid}
 use Rattle.dual_grid.specs.Answers.{IsNearStart}
-use Rattle.dual_grid.specs.Grids.{AreWeighed, IsJoined}
-use Rattle.dual_grid.specs.Starts.{IsAtStart, open_in, positive_excess, positive_part, start_state}
-use Rattle.dual_grid.specs.Views.{HaveOneOrigin, IsGridOf, shape_of, state_of}
+use Rattle.dual_grid.specs.Grids.{AreWeighed, IsConnected}
+use Rattle.dual_grid.specs.Starts.{IsAtStart, open_in_window, start_state}
+use Rattle.dual_grid.specs.Views.{HaveOneOrigin, IsGridOf, grid_shape, grid_state}
 use Rattle.sums_and_lists.specs.Sums.{sum_below}
 use Rattle.sums_and_lists.proofs.SumLemmas.{sum_below-same}
 
@@ -22,13 +22,13 @@ use Rattle.sums_and_lists.proofs.SumLemmas.{sum_below-same}
 pub grid_stays : (s : Scene) (t : ℕ) (unmasked : List Bool) (g h : DualGrid) → HaveOneOrigin g h → IsGridOf s t unmasked g → IsGridOf s t unmasked h
 grid_stays s t unmasked g h origin grid =
     let r = raster_of s in
-    let weighed = subst (λ (v : Window). AreWeighed r (open_in v unmasked) v (shape_of g)) (sym origin.window) grid.weighed in
-    let conserved = conserved-trans (shape_of g) (start_state (residue r) g.window) (state_of g) (state_of h) grid.conserved origin.conserved in
-    let placed = subst (λ (v : Window). IsConserved (shape_of g) (start_state (residue r) v) (state_of h)) (sym origin.window) conserved in
+    let weighed = subst (λ (v : Window). AreWeighed r (open_in_window v unmasked) v (grid_shape g)) (sym origin.window) grid.weighed in
+    let conserved = conserved-trans (grid_shape g) (start_state (residue r) g.window) (grid_state g) (grid_state h) grid.conserved origin.conserved in
+    let placed = subst (λ (v : Window). IsConserved (grid_shape g) (start_state (residue r) v) (grid_state h)) (sym origin.window) conserved in
     record {
       window = origin.window ∙ grid.window;
-      weighed = subst (λ (z : Shape). AreWeighed r (open_in h.window unmasked) h.window z) (sym origin.shape) weighed;
-      conserved = subst (λ (z : Shape). IsConserved z (start_state (residue r) h.window) (state_of h)) (sym origin.shape) placed;
+      weighed = subst (λ (z : Shape). AreWeighed r (open_in_window h.window unmasked) h.window z) (sym origin.shape) weighed;
+      conserved = subst (λ (z : Shape). IsConserved z (start_state (residue r) h.window) (grid_state h)) (sym origin.shape) placed;
     }
 
 -- residuals that differ from those of the start by at most the positive excesses are near them
@@ -39,7 +39,7 @@ near_start f v s g h m start few moves a arc =
     (omega (arith, ints, k.0, e, few), omega (arith, ints, k.1, e, few))
 
 -- the sum of the positive excesses, with another word for the positive part
-pub positive_excess-same : (part : ℤ → ℤ) (s : Shape) (g : State) → ((n : ℕ) → part (pos n) ≡ pos n) → ((n : ℕ) → part (negsuc n) ≡ pos 0) → sum_below s.nodes (λ u. part (g.excess u)) ≡ positive_excess s g
+pub positive_excess-same : (part : ℤ → ℤ) (s : Shape) (g : State) → ((n : ℕ) → part (pos n) ≡ pos n) → ((n : ℕ) → part (negsuc n) ≡ pos 0) → sum_below s.nodes (λ u. part (g.excess u)) ≡ total_excess s g
 positive_excess-same part s g at least = sum_below-same s.nodes (λ u. part (g.excess u)) (λ u. positive_part (g.excess u)) (λ u l. same (g.excess u))
   where
     same : (z : ℤ) → part z ≡ positive_part z
@@ -47,7 +47,7 @@ positive_excess-same part s g at least = sum_below-same s.nodes (λ u. part (g.e
     same (negsuc n) = least n
 
 -- near the start an arc with capacity left leads out of each set of nodes but the empty one and the whole, so no nodes block
-pub leads_out : (s : Shape) (g : State) → IsJoined s → IsNearStart s g → (inside : ℕ → Bool) (u w : ℕ) → u < s.nodes → w < s.nodes → inside u ≡ true → inside w ≡ false → (a : ℕ) × (IsArc s a × (0 < g.residual a) × (inside (tail_of s a) ≡ true) × (inside (s.head a) ≡ false))
+pub leads_out : (s : Shape) (g : State) → IsConnected s → IsNearStart s g → (inside : ℕ → Bool) (u w : ℕ) → u < s.nodes → w < s.nodes → inside u ≡ true → inside w ≡ false → (a : ℕ) × (IsArc s a × (0 < g.residual a) × (inside (tail_of s a) ≡ true) × (inside (s.head a) ≡ false))
 leads_out s g joined near inside u w l m p q =
     let k = joined inside u w l m p q in
     let a = k.0 in

@@ -11,7 +11,7 @@ use Rattle.raster_model.specs.Sums.{Field, right_edge, down_edge}
 use Rattle.raster_model.specs.Raster.{residue, masked_weight}
 use Rattle.raster_model.specs.Scene.{raster_of}
 use Rattle.raster_model.specs.Tiles.{IsWindowOf, width_of}
-use Rattle.flow_network.specs.Nets.{HasReducedCosts}
+use Rattle.flow_network.specs.Nets.{HasReducedCosts, HasNoExcess}
 use Rattle.flow_network.specs.Moves.{IsConserved}
 use Rattle.wrapped_gradient.specs.declared.corrections.Corrections.{Corrections}
 use Rattle.wrapped_gradient.specs.Corrections.{CancelResidues, correction_at}
@@ -19,11 +19,11 @@ use Rattle.wrapped_gradient.specs.Windows.{IsCellOf, IsEdgeOf, round}
 use Rattle.wrapped_gradient.proofs.CorrectionLemmas.{greatest_of_least}
 use Rattle.wrapped_gradient.proofs.GradientLemmas.{right_edge_of, down_edge_of}
 use Rattle.wrapped_gradient.proofs.Places.{field_at}
-use Rattle.dual_grid.specs.Answers.{IsAnswer, IsBalanced, IsNearStart}
-use Rattle.dual_grid.specs.Building.{IsSmall, AreFaces, AreFlows}
-use Rattle.dual_grid.specs.Grids.{AreWeighed, shape_in, state_in}
+use Rattle.dual_grid.specs.Answers.{AreCertifiedCorrections, IsNearStart}
+use Rattle.dual_grid.specs.Building.{IsSmallWindow, AreFaces, AreEdgeFlows}
+use Rattle.dual_grid.specs.Grids.{AreWeighed, window_shape, window_state}
 use Rattle.dual_grid.specs.Nodes.{cells_of, node_at, rights_of, downs_of, edges_of, edge_number, edge_of}
-use Rattle.dual_grid.specs.Starts.{supply_at, start_state, open_in, TellsMask}
+use Rattle.dual_grid.specs.Starts.{supply_at, start_state, open_in_window, TellsMask}
 use Rattle.dual_grid.proofs.BalanceLemmas.{cell_balance}
 use Rattle.dual_grid.proofs.EdgeLemmas.{right_number_below, down_number_below}
 use Rattle.dual_grid.proofs.FaceLemmas.{difference_fits, flow_is_small, flow_is_tight}
@@ -54,7 +54,7 @@ round_of f g v x y c same =
     sums : (a b c d i j k l : ℤ) → a ≡ i → b ≡ j → c ≡ k → d ≡ l → a +ℤ b -ℤ c -ℤ d ≡ i +ℤ j -ℤ k -ℤ l
     sums a b c d i j k l p q t u = rw (p, q, t, u) refl
 
-module _ (scene : Scene) (t : ℕ) (v : Window) (window : IsWindowOf scene.tiling t v) (little : IsSmall v) (unmasked : List Bool) (mask : Field Bool) (tells : TellsMask v unmasked mask) (weight : ℕ → ℕ) (weighed : AreWeighed (raster_of scene) (open_in v unmasked) v (shape_in v weight)) (flow excess potential : ℕ → ℤ) (within : (n : ℕ) → unsigned_abs (flow n) ≤ 16130) (kept : HasReducedCosts (shape_in v weight) (state_in weight flow excess potential)) (conserved : IsConserved (shape_in v weight) (start_state (residue (raster_of scene)) v) (state_in weight flow excess potential)) (balanced : IsBalanced (shape_in v weight) (state_in weight flow excess potential)) (near : IsNearStart (shape_in v weight) (state_in weight flow excess potential)) (k : Corrections) (are_flows : AreFlows v flow k) (faces : List ℤ) (are : AreFaces potential (cells_of v) (cells_of v) faces) where
+module _ (scene : Scene) (t : ℕ) (v : Window) (window : IsWindowOf scene.tiling t v) (little : IsSmallWindow v) (unmasked : List Bool) (mask : Field Bool) (tells : TellsMask v unmasked mask) (weight : ℕ → ℕ) (weighed : AreWeighed (raster_of scene) (open_in_window v unmasked) v (window_shape v weight)) (flow excess potential : ℕ → ℤ) (within : (n : ℕ) → unsigned_abs (flow n) ≤ 16130) (kept : HasReducedCosts (window_shape v weight) (window_state weight flow excess potential)) (conserved : IsConserved (window_shape v weight) (start_state (residue (raster_of scene)) v) (window_state weight flow excess potential)) (balanced : HasNoExcess (window_shape v weight) (window_state weight flow excess potential)) (near : IsNearStart (window_shape v weight) (window_state weight flow excess potential)) (k : Corrections) (are_flows : AreEdgeFlows v flow k) (faces : List ℤ) (are : AreFaces potential (cells_of v) (cells_of v) faces) where
   -- a correction is what flows across the edge
   correction_is : (e : Edge) → IsEdgeOf v e → correction_at v k e ≡ flow (edge_number v e)
   correction_is e i = go e.x e.y e.down i
@@ -74,7 +74,7 @@ module _ (scene : Scene) (t : ℕ) (v : Window) (window : IsWindowOf scene.tilin
       let e = edge_of v n in
       let is = edge_in v little n l in
       let number = number_of_edge v little n l in
-      rw number at (flow_is_small v weight flow excess potential kept near e is (masked_weight (raster_of scene) (open_in v unmasked) e) (weighed e is) (within (edge_number v e)))
+      rw number at (flow_is_small v weight flow excess potential kept near e is (masked_weight (raster_of scene) (open_in_window v unmasked) e) (weighed e is) (within (edge_number v e)))
 
   rights_small : (i : ℕ) → unsigned_abs (slice_index_or k.right.items i (pos 0)) ≤ 16129
   rights_small i =
@@ -90,8 +90,8 @@ module _ (scene : Scene) (t : ℕ) (v : Window) (window : IsWindowOf scene.tilin
         | inr l ↦ rw (get_or_past k.down.items i (pos 0) (omega (arith, are_flows.down_count, l))) (omega (arith, ints))
       ]
 
-  pub is_answer : IsAnswer (raster_of scene) mask t v k faces
+  pub is_answer : AreCertifiedCorrections (raster_of scene) mask t v k faces
   is_answer =
-      tight_answer scene t v window unmasked mask tells (state_in weight flow excess potential) k faces are (are_flows.right_count, are_flows.down_count) (greatest_of_least k 16129 rights_small downs_small) cancels
-      (λ e i. difference_fits v weight flow excess potential kept near e i (masked_weight (raster_of scene) (open_in v unmasked) e) (weighed e i))
-      (λ e i. rw (correction_is e i) (flow_is_tight v weight flow excess potential kept near e i (masked_weight (raster_of scene) (open_in v unmasked) e) (weighed e i)))
+      tight_answer scene t v window unmasked mask tells (window_state weight flow excess potential) k faces are (are_flows.right_count, are_flows.down_count) (greatest_of_least k 16129 rights_small downs_small) cancels
+      (λ e i. difference_fits v weight flow excess potential kept near e i (masked_weight (raster_of scene) (open_in_window v unmasked) e) (weighed e i))
+      (λ e i. rw (correction_is e i) (flow_is_tight v weight flow excess potential kept near e i (masked_weight (raster_of scene) (open_in_window v unmasked) e) (weighed e i)))

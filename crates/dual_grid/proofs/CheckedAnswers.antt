@@ -17,11 +17,11 @@ use Rattle.wrapped_gradient.specs.Corrections.{correction_at}
 use Rattle.wrapped_gradient.specs.Windows.{IsCellOf, IsEdgeOf}
 use Rattle.wrapped_gradient.proofs.CorrectionLemmas.{greatest_of_least}
 use Rattle.dual_grid.specs.declared.problem.Problem.{Problem}
-use Rattle.dual_grid.specs.Answers.{IsAnswer}
+use Rattle.dual_grid.specs.Answers.{AreCertifiedCorrections}
 use Rattle.dual_grid.specs.Building.{AreFaces}
 use Rattle.dual_grid.specs.Nodes.{cells_of, first_side, other_side}
-use Rattle.dual_grid.specs.Problems.{AreSmall, HaveShape, IsCancelled, IsProblemOf, IsTightAt, face_of, weight_at}
-use Rattle.dual_grid.specs.Starts.{TellsMask, open_in}
+use Rattle.dual_grid.specs.Problems.{AreSmallNumbers, HaveShape, IsCancelled, IsProblemOf, IsTightAt, face_of, weight_at}
+use Rattle.dual_grid.specs.Starts.{TellsMask, open_in_window}
 use Rattle.dual_grid.proofs.TightLemmas.{tight_answer}
 
 -- potentials whose differences are those of the faces
@@ -37,7 +37,7 @@ turned_faces faces n e = record {
     less_none : (a b : ℤ) → b ≡ pos 0 → a ≡ neg_ℤ b -ℤ neg_ℤ a
     less_none a b e = omega (arith, ints, e)
 
-module _ (p : Problem) (k : Corrections) (faces : List ℤ) (shape : HaveShape p k faces) (rights_small : AreSmall k.right.items) (downs_small : AreSmall k.down.items) (cancelled : (x y : ℕ) → IsCellOf p.window x y → IsCancelled p k x y) (rights : (x y : ℕ) → IsEdgeOf p.window (right_edge x y) → IsTightAt p k faces (right_edge x y)) (downs : (x y : ℕ) → IsEdgeOf p.window (down_edge x y) → IsTightAt p k faces (down_edge x y)) where
+module _ (p : Problem) (k : Corrections) (faces : List ℤ) (shape : HaveShape p k faces) (rights_small : AreSmallNumbers k.right.items) (downs_small : AreSmallNumbers k.down.items) (cancelled : (x y : ℕ) → IsCellOf p.window x y → IsCancelled p k x y) (rights : (x y : ℕ) → IsEdgeOf p.window (right_edge x y) → IsTightAt p k faces (right_edge x y)) (downs : (x y : ℕ) → IsEdgeOf p.window (down_edge x y) → IsTightAt p k faces (down_edge x y)) where
   tight : (e : Edge) → IsEdgeOf p.window e → IsTightAt p k faces e
   tight e i = go e.x e.y e.down i
     where
@@ -54,13 +54,13 @@ module _ (p : Problem) (k : Corrections) (faces : List ℤ) (shape : HaveShape p
   whole : (a b w k : ℤ) (n : ℕ) → k *ℤ (a -ℤ b) ≡ w *ℤ pos (unsigned_abs k) → w ≡ pos n → k *ℤ (neg_ℤ b -ℤ neg_ℤ a) ≡ pos (n * unsigned_abs k)
   whole a b w k n e i = ap (λ (z : ℤ). k *ℤ z) (turned a b) ∙ e ∙ rw i refl
 
-  pub checked_answer : (s : Scene) (t : ℕ) (unmasked : List Bool) (mask : Field Bool) → IsProblemOf s t unmasked p → t < tiles_of s.tiling → TellsMask (window_of s.tiling t) unmasked mask → IsAnswer (raster_of s) mask t (window_of s.tiling t) k faces
+  pub checked_answer : (s : Scene) (t : ℕ) (unmasked : List Bool) (mask : Field Bool) → IsProblemOf s t unmasked p → t < tiles_of s.tiling → TellsMask (window_of s.tiling t) unmasked mask → AreCertifiedCorrections (raster_of s) mask t (window_of s.tiling t) k faces
   checked_answer s t unmasked mask problem exists tells =
       let v = p.window in
       let f = turned_state faces in
       let window = subst (λ (w : Window). IsWindowOf s.tiling t w) (sym problem.window) (window_of-pixels s.tiling t exists) in
-      subst (λ (w : Window). IsAnswer (raster_of s) mask t w k faces) problem.window
+      subst (λ (w : Window). AreCertifiedCorrections (raster_of s) mask t w k faces) problem.window
       (tight_answer s t v window unmasked mask (subst (λ (w : Window). TellsMask w unmasked mask) (sym problem.window) tells) f k faces (turned_faces faces (cells_of v) shape.1) shape.0 (greatest_of_least k 16129 rights_small downs_small)
       (λ x y i. cancelled x y i ∙ ap neg_ℤ (problem.residues x y i))
-      (λ e i. within (face_of faces (first_side v e)) (face_of faces (other_side v e)) (weight_at p e) (masked_weight (raster_of s) (open_in v unmasked) e) (tight e i).within (problem.weights e i))
-      (λ e i. whole (face_of faces (first_side v e)) (face_of faces (other_side v e)) (weight_at p e) (correction_at v k e) (masked_weight (raster_of s) (open_in v unmasked) e) (tight e i).whole (problem.weights e i)))
+      (λ e i. within (face_of faces (first_side v e)) (face_of faces (other_side v e)) (weight_at p e) (masked_weight (raster_of s) (open_in_window v unmasked) e) (tight e i).within (problem.weights e i))
+      (λ e i. whole (face_of faces (first_side v e)) (face_of faces (other_side v e)) (weight_at p e) (correction_at v k e) (masked_weight (raster_of s) (open_in_window v unmasked) e) (tight e i).whole (problem.weights e i)))

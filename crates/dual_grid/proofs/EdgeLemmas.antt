@@ -7,7 +7,7 @@ use Rattle.raster_model.specs.Sums.{right_edge, down_edge}
 use Rattle.raster_model.specs.Tiles.{width_of, height_of}
 use Rattle.wrapped_gradient.specs.Windows.{IsEdgeOf}
 use Rattle.wrapped_gradient.proofs.Places.{place_within}
-use Rattle.dual_grid.specs.Building.{IsSmall}
+use Rattle.dual_grid.specs.Building.{IsSmallWindow}
 use Rattle.dual_grid.specs.Nodes.{cells_of, rights_of, downs_of, edges_of, edge_number}
 
 -- rows in which a number lies have columns
@@ -79,7 +79,7 @@ same_number v e f i j h = go e.x e.y e.down f.x f.y f.down i j h
     go x y false u w true i j h = let p = right_number_below v x y i in absurd (omega (arith, p, h))
 
 -- the number of edges and of cells of the greatest window
-pub few_edges : (v : Window) → IsSmall v → edges_of v ≤ 32512
+pub few_edges : (v : Window) → IsSmallWindow v → edges_of v ≤ 32512
 few_edges v s =
     let a = s.across in
     let b = s.along in
@@ -87,7 +87,7 @@ few_edges v s =
     let q = mul-le (width_of v) (height_of v - 1) 128 127 (omega (arith, a)) (omega (arith, b)) in
     omega (arith, p, q)
 
-pub few_cells : (v : Window) → IsSmall v → cells_of v ≤ 16129
+pub few_cells : (v : Window) → IsSmallWindow v → cells_of v ≤ 16129
 few_cells v s =
     let a = s.across in
     let b = s.along in

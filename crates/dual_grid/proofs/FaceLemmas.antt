@@ -15,7 +15,7 @@ use Rattle.flow_network.specs.Nets.{State, IsArc, HasReducedCosts, reduced_cost}
 use Rattle.wrapped_gradient.specs.Windows.{IsCellOf, IsEdgeOf}
 use Rattle.dual_grid.specs.Answers.{IsNearStart}
 use Rattle.dual_grid.specs.Building.{AreFaces}
-use Rattle.dual_grid.specs.Grids.{CostsAcross, amount_of, cost_at, head_at, residual_at, shape_in, state_in}
+use Rattle.dual_grid.specs.Grids.{CostsAcross, amount_of, cost_in_place, head_at, residual_at, window_shape, window_state}
 use Rattle.dual_grid.specs.Nodes.{cells_of, node_at, node_above, node_left, first_side, other_side, edge_number, arc_across}
 use Rattle.dual_grid.proofs.ArcLemmas.{IsCharged, free_or_charged, place_is_arc, place_tail}
 use Rattle.dual_grid.proofs.EdgeLemmas.{number_below}
@@ -105,33 +105,33 @@ slack_of (suc b) (suc c) w k d e p q =
     let level : d ≡ pos 0 = omega (arith, ints, m, none) in
     rw (none, level) (omega (arith, ints))
 
-module _ (v : Window) (weight : ℕ → ℕ) (flow excess potential : ℕ → ℤ) (kept : HasReducedCosts (shape_in v weight) (state_in weight flow excess potential)) (near : IsNearStart (shape_in v weight) (state_in weight flow excess potential)) (e : Edge) (is : IsEdgeOf v e) (w : ℕ) (costs : CostsAcross (shape_in v weight) (arc_across v e) w) where
+module _ (v : Window) (weight : ℕ → ℕ) (flow excess potential : ℕ → ℤ) (kept : HasReducedCosts (window_shape v weight) (window_state weight flow excess potential)) (near : IsNearStart (window_shape v weight) (window_state weight flow excess potential)) (e : Edge) (is : IsEdgeOf v e) (w : ℕ) (costs : CostsAcross (window_shape v weight) (arc_across v e) w) where
   weight_is : weight (edge_number v e) ≡ w
   weight_is =
       let a = costs.0 in
       let b = forth_cost v weight e is in
       omega (arith, ints, a, b)
 
-  forth_reduced : reduced_cost (shape_in v weight) (state_in weight flow excess potential) (arc_across v e) ≡ pos w +ℤ potential (first_side v e) -ℤ potential (other_side v e)
+  forth_reduced : reduced_cost (window_shape v weight) (window_state weight flow excess potential) (arc_across v e) ≡ pos w +ℤ potential (first_side v e) -ℤ potential (other_side v e)
   forth_reduced =
       let t = ap potential (forth_tail v weight e is) in
       let h = ap potential (forth_head v weight e is) in
       omega (arith, ints, costs.0, t, h)
 
-  back_reduced : reduced_cost (shape_in v weight) (state_in weight flow excess potential) (arc_across v e + 2) ≡ pos w +ℤ potential (other_side v e) -ℤ potential (first_side v e)
+  back_reduced : reduced_cost (window_shape v weight) (window_state weight flow excess potential) (arc_across v e + 2) ≡ pos w +ℤ potential (other_side v e) -ℤ potential (first_side v e)
   back_reduced =
       let t = ap potential (back_tail v weight e is) in
       let h = ap potential (back_head v weight e is) in
       omega (arith, ints, costs.1, t, h)
 
   -- the arcs from side to side keep capacity
-  forth_least : pos 0 ≤ℤ reduced_cost (shape_in v weight) (state_in weight flow excess potential) (arc_across v e)
+  forth_least : pos 0 ≤ℤ reduced_cost (window_shape v weight) (window_state weight flow excess potential) (arc_across v e)
   forth_least =
       let arc = forth_is_arc v weight e is in
       let h = (near (arc_across v e) arc).1 in
       kept.at_least (arc_across v e) arc (omega (arith, h, start_even (arc_across v e) (edge_number v e * 2) (omega arith)))
 
-  back_least : pos 0 ≤ℤ reduced_cost (shape_in v weight) (state_in weight flow excess potential) (arc_across v e + 2)
+  back_least : pos 0 ≤ℤ reduced_cost (window_shape v weight) (window_state weight flow excess potential) (arc_across v e + 2)
   back_least =
       let arc = back_is_arc v weight e is in
       let h = (near (arc_across v e + 2) arc).1 in
@@ -141,13 +141,13 @@ module _ (v : Window) (weight : ℕ → ℕ) (flow excess potential : ℕ → �
   difference_fits = omega (arith, ints, forth_reduced, back_reduced, forth_least, back_least)
 
   -- what the arcs from side to side have left
-  forth_residual : (state_in weight flow excess potential).residual (arc_across v e) ≡ residual_at (weight (edge_number v e)) (flow (edge_number v e)) 0
+  forth_residual : (window_state weight flow excess potential).residual (arc_across v e) ≡ residual_at (weight (edge_number v e)) (flow (edge_number v e)) 0
   forth_residual =
       let n : arc_across v e / 4 ≡ edge_number v e = omega arith in
       let k : arc_across v e % 4 ≡ 0 = omega arith in
       ap₂ (λ (n k : ℕ). residual_at (weight n) (flow n) k) n k
 
-  back_residual : (state_in weight flow excess potential).residual (arc_across v e + 2) ≡ residual_at (weight (edge_number v e)) (flow (edge_number v e)) 2
+  back_residual : (window_state weight flow excess potential).residual (arc_across v e + 2) ≡ residual_at (weight (edge_number v e)) (flow (edge_number v e)) 2
   back_residual = ap₂ (λ (n k : ℕ). residual_at (weight n) (flow n) k) (div-mul-add (edge_number v e) 4 2 (omega arith)) (mod-mul-add (edge_number v e) 4 2 (omega arith))
 
   forth_near : (1 ≤ residual_at (weight (edge_number v e)) (flow (edge_number v e)) 0) × (residual_at (weight (edge_number v e)) (flow (edge_number v e)) 0 ≤ 32259)
@@ -166,10 +166,10 @@ module _ (v : Window) (weight : ℕ → ℕ) (flow excess potential : ℕ → �
 
   -- a twin that has something to give back holds the difference at the whole weight
   module _ (charged : IsCharged (weight (edge_number v e))) where
-    forth_twin : IsArc (shape_in v weight) (arc_across v e + 1)
+    forth_twin : IsArc (window_shape v weight) (arc_across v e + 1)
     forth_twin = place_is_arc v weight (edge_number v e) 1 (number_below v e is) (omega arith) charged.1
 
-    back_twin : IsArc (shape_in v weight) (arc_across v e + 3)
+    back_twin : IsArc (window_shape v weight) (arc_across v e + 3)
     back_twin = place_is_arc v weight (edge_number v e) 3 (number_below v e is) (omega arith) charged.1
 
     -- the twin's tail and head are those of the arc, exchanged
@@ -182,7 +182,7 @@ module _ (v : Window) (weight : ℕ → ℕ) (flow excess potential : ℕ → �
         let h = kept.at_least (arc_across v e + 1) forth_twin (omega (arith, r, held, l)) in
         let t = ap potential (place_tail v weight n 1 (omega arith) forth_twin ∙ ap (λ (i : Edge). other_side v i) (edge_of_number v e is)) in
         let b = ap potential (ap₂ (λ (i k : ℕ). head_at v i k) (div-mul-add n 4 1 (omega arith)) (mod-mul-add n 4 1 (omega arith)) ∙ ap (λ (i : Edge). first_side v i) (edge_of_number v e is)) in
-        let c : (shape_in v weight).cost (arc_across v e + 1) ≡ neg_ℤ (pos (weight n)) = ap₂ (λ (i k : ℕ). cost_at (weight i) k) (div-mul-add n 4 1 (omega arith)) (mod-mul-add n 4 1 (omega arith)) in
+        let c : (window_shape v weight).cost (arc_across v e + 1) ≡ neg_ℤ (pos (weight n)) = ap₂ (λ (i k : ℕ). cost_in_place (weight i) k) (div-mul-add n 4 1 (omega arith)) (mod-mul-add n 4 1 (omega arith)) in
         omega (arith, ints, h, t, b, c, weight_is, forth_least, forth_reduced)
 
     back_tight : 0 < amount_of (neg_ℤ (flow (edge_number v e))) → potential (other_side v e) -ℤ potential (first_side v e) ≡ neg_ℤ (pos w)
@@ -194,7 +194,7 @@ module _ (v : Window) (weight : ℕ → ℕ) (flow excess potential : ℕ → �
         let h = kept.at_least (arc_across v e + 3) back_twin (omega (arith, r, held, l)) in
         let t = ap potential (place_tail v weight n 3 (omega arith) back_twin ∙ ap (λ (i : Edge). first_side v i) (edge_of_number v e is)) in
         let b = ap potential (ap₂ (λ (i k : ℕ). head_at v i k) (div-mul-add n 4 3 (omega arith)) (mod-mul-add n 4 3 (omega arith)) ∙ ap (λ (i : Edge). other_side v i) (edge_of_number v e is)) in
-        let c : (shape_in v weight).cost (arc_across v e + 3) ≡ neg_ℤ (pos (weight n)) = ap₂ (λ (i k : ℕ). cost_at (weight i) k) (div-mul-add n 4 3 (omega arith)) (mod-mul-add n 4 3 (omega arith)) in
+        let c : (window_shape v weight).cost (arc_across v e + 3) ≡ neg_ℤ (pos (weight n)) = ap₂ (λ (i k : ℕ). cost_in_place (weight i) k) (div-mul-add n 4 3 (omega arith)) (mod-mul-add n 4 3 (omega arith)) in
         omega (arith, ints, h, t, b, c, weight_is, back_least, back_reduced)
 
   level : weight (edge_number v e) ≡ 0 → potential (other_side v e) -ℤ potential (first_side v e) ≡ pos w

@@ -11,7 +11,7 @@ use Rattle.wrapped_gradient.specs.Windows.{IsEdgeOf}
 use Rattle.wrapped_gradient.proofs.GradientLemmas.{down_edge_of}
 use Rattle.dual_grid.specs.Nodes.{cells_of, node_at, first_side, other_side, edge_number, edge_of, arc_across}
 use Rattle.dual_grid.specs.Starts.{start_residual}
-use Rattle.dual_grid.specs.Grids.{IsJoined, cost_at, head_at, is_taken, leads_forth, shape_in}
+use Rattle.dual_grid.specs.Grids.{IsConnected, cost_in_place, head_at, is_taken, leads_forth, window_shape}
 use Rattle.dual_grid.proofs.ArcLemmas.{is_arc_at, tail_is}
 use Rattle.dual_grid.proofs.NodeLemmas.{node_inside, left_inside, left_outside, first_down, other_down}
 use Rattle.dual_grid.proofs.NumberLemmas.{edge_of_number}
@@ -33,33 +33,33 @@ module _ (v : Window) (weight : ℕ → ℕ) (e : Edge) (is : IsEdgeOf v e) wher
   back_place : (arc_across v e + 2) % 4 ≡ 2
   back_place = mod-mul-add (edge_number v e) 4 2 (omega arith)
 
-  pub forth_is_arc : IsArc (shape_in v weight) (arc_across v e)
+  pub forth_is_arc : IsArc (window_shape v weight) (arc_across v e)
   forth_is_arc = is_arc_at v weight (arc_across v e) (omega (arith, number_below v e is)) (ap₂ (λ (n k : ℕ). is_taken (weight n) k) forth_edge forth_place)
 
-  pub back_is_arc : IsArc (shape_in v weight) (arc_across v e + 2)
+  pub back_is_arc : IsArc (window_shape v weight) (arc_across v e + 2)
   back_is_arc = is_arc_at v weight (arc_across v e + 2) (omega (arith, number_below v e is)) (ap₂ (λ (n k : ℕ). is_taken (weight n) k) back_edge back_place)
 
-  pub forth_head : (shape_in v weight).head (arc_across v e) ≡ other_side v e
+  pub forth_head : (window_shape v weight).head (arc_across v e) ≡ other_side v e
   forth_head = ap₂ (λ (n k : ℕ). head_at v n k) forth_edge forth_place ∙ ap (λ (i : Edge). other_side v i) (edge_of_number v e is)
 
-  pub back_head : (shape_in v weight).head (arc_across v e + 2) ≡ first_side v e
+  pub back_head : (window_shape v weight).head (arc_across v e + 2) ≡ first_side v e
   back_head = ap₂ (λ (n k : ℕ). head_at v n k) back_edge back_place ∙ ap (λ (i : Edge). first_side v i) (edge_of_number v e is)
 
-  pub forth_tail : tail_of (shape_in v weight) (arc_across v e) ≡ first_side v e
+  pub forth_tail : tail_of (window_shape v weight) (arc_across v e) ≡ first_side v e
   forth_tail =
       tail_is v weight (arc_across v e) forth_is_arc
       ∙ ap₂ (λ (n k : ℕ). if leads_forth k then first_side v (edge_of v n) else other_side v (edge_of v n)) forth_edge forth_place ∙ ap (λ (i : Edge). first_side v i) (edge_of_number v e is)
 
-  pub back_tail : tail_of (shape_in v weight) (arc_across v e + 2) ≡ other_side v e
+  pub back_tail : tail_of (window_shape v weight) (arc_across v e + 2) ≡ other_side v e
   back_tail =
       tail_is v weight (arc_across v e + 2) back_is_arc
       ∙ ap₂ (λ (n k : ℕ). if leads_forth k then first_side v (edge_of v n) else other_side v (edge_of v n)) back_edge back_place ∙ ap (λ (i : Edge). other_side v i) (edge_of_number v e is)
 
-  pub forth_cost : (shape_in v weight).cost (arc_across v e) ≡ pos (weight (edge_number v e))
-  forth_cost = ap₂ (λ (n k : ℕ). cost_at (weight n) k) forth_edge forth_place
+  pub forth_cost : (window_shape v weight).cost (arc_across v e) ≡ pos (weight (edge_number v e))
+  forth_cost = ap₂ (λ (n k : ℕ). cost_in_place (weight n) k) forth_edge forth_place
 
-  pub back_cost : (shape_in v weight).cost (arc_across v e + 2) ≡ pos (weight (edge_number v e))
-  back_cost = ap₂ (λ (n k : ℕ). cost_at (weight n) k) back_edge back_place
+  pub back_cost : (window_shape v weight).cost (arc_across v e + 2) ≡ pos (weight (edge_number v e))
+  back_cost = ap₂ (λ (n k : ℕ). cost_in_place (weight n) k) back_edge back_place
 
 pub node_of_number : (v : Window) (u : ℕ) → u < cells_of v → node_at v (v.x0 + u % (v.x1 - v.x0)) (v.y0 + u / (v.x1 - v.x0)) ≡ u
 node_of_number v u l =
@@ -74,7 +74,7 @@ Leads s inside = (a : ℕ) × (IsArc s a × (start_residual a ≡ 16130) × (ins
 
 module _ (v : Window) (weight : ℕ → ℕ) (inside : ℕ → Bool) where
   -- across an edge whose sides lie one inside and one outside
-  out_forth : (e : Edge) → IsEdgeOf v e → inside (first_side v e) ≡ true → inside (other_side v e) ≡ false → Leads (shape_in v weight) inside
+  out_forth : (e : Edge) → IsEdgeOf v e → inside (first_side v e) ≡ true → inside (other_side v e) ≡ false → Leads (window_shape v weight) inside
   out_forth e is p q = (
     arc_across v e,
     (
@@ -85,7 +85,7 @@ module _ (v : Window) (weight : ℕ → ℕ) (inside : ℕ → Bool) where
     ),
   )
 
-  out_back : (e : Edge) → IsEdgeOf v e → inside (other_side v e) ≡ true → inside (first_side v e) ≡ false → Leads (shape_in v weight) inside
+  out_back : (e : Edge) → IsEdgeOf v e → inside (other_side v e) ≡ true → inside (first_side v e) ≡ false → Leads (window_shape v weight) inside
   out_back e is p q = (
     arc_across v e + 2,
     (
@@ -112,7 +112,7 @@ module _ (v : Window) (weight : ℕ → ℕ) (inside : ℕ → Bool) where
         other_down v (down_edge (v.x0 + (i + 1)) y) refl ∙ left_inside v (v.x0 + (i + 1)) y (omega arith) ∙ ap (λ (x : ℕ). node_at v x y) e
 
     -- leftwards along a row, from a cell to the outside
-    leaves : (i : ℕ) → i < v.x1 - v.x0 → inside (node_at v (v.x0 + i) y) ≡ true → inside (cells_of v) ≡ false → Leads (shape_in v weight) inside
+    leaves : (i : ℕ) → i < v.x1 - v.x0 → inside (node_at v (v.x0 + i) y) ≡ true → inside (cells_of v) ≡ false → Leads (window_shape v weight) inside
     leaves zero l p q = out_forth (down_edge (v.x0 + 0) y) (edge 0 l) (ap inside (first 0) ∙ p) (ap inside other_first ∙ q)
     leaves (suc i) l p q =
         let e : suc i ≡ i + 1 = omega arith in
@@ -122,7 +122,7 @@ module _ (v : Window) (weight : ℕ → ℕ) (inside : ℕ → Bool) where
           | inr t ↦ out_forth (down_edge (v.x0 + (i + 1)) y) (edge (i + 1) (omega (arith, l))) (ap inside (first (i + 1)) ∙ at) (ap inside (other_next i) ∙ t)
         ]
 
-    enters : (i : ℕ) → i < v.x1 - v.x0 → inside (node_at v (v.x0 + i) y) ≡ false → inside (cells_of v) ≡ true → Leads (shape_in v weight) inside
+    enters : (i : ℕ) → i < v.x1 - v.x0 → inside (node_at v (v.x0 + i) y) ≡ false → inside (cells_of v) ≡ true → Leads (window_shape v weight) inside
     enters zero l p q = out_back (down_edge (v.x0 + 0) y) (edge 0 l) (ap inside other_first ∙ q) (ap inside (first 0) ∙ p)
     enters (suc i) l p q =
         let e : suc i ≡ i + 1 = omega arith in
@@ -133,7 +133,7 @@ module _ (v : Window) (weight : ℕ → ℕ) (inside : ℕ → Bool) where
         ]
 
   -- a node that is not on the outside's side is a cell
-  is_cell : (u : ℕ) (t : Bool) → u < (shape_in v weight).nodes → inside u ≡ t → (inside (cells_of v) ≡ t → ⊥) → u < cells_of v
+  is_cell : (u : ℕ) (t : Bool) → u < (window_shape v weight).nodes → inside u ≡ t → (inside (cells_of v) ≡ t → ⊥) → u < cells_of v
   is_cell u t l e n =
       elim (below_or_last u (cells_of v) (omega (arith, l))) [
         | inl m ↦ m
@@ -143,7 +143,7 @@ module _ (v : Window) (weight : ℕ → ℕ) (inside : ℕ → Bool) where
   column : (u : ℕ) → u < cells_of v → u % (v.x1 - v.x0) < v.x1 - v.x0
   column u l = mod_below u (v.x1 - v.x0) (has_columns u (v.x1 - v.x0) (v.y1 - v.y0) l)
 
-  joins : (u w : ℕ) → u < (shape_in v weight).nodes → w < (shape_in v weight).nodes → inside u ≡ true → inside w ≡ false → Leads (shape_in v weight) inside
+  joins : (u w : ℕ) → u < (window_shape v weight).nodes → w < (window_shape v weight).nodes → inside u ≡ true → inside w ≡ false → Leads (window_shape v weight) inside
   joins u w l m p q =
       elim (cases_Bool (inside (cells_of v))) [
         | inl t ↦ (
@@ -156,5 +156,5 @@ module _ (v : Window) (weight : ℕ → ℕ) (inside : ℕ → Bool) where
             leaves (v.y0 + u / (v.x1 - v.x0)) (c.2, c.3) (u % (v.x1 - v.x0)) (column u k) (ap inside (node_of_number v u k) ∙ p) t)
       ]
 
-pub grid_is_joined : (v : Window) (weight : ℕ → ℕ) → IsJoined (shape_in v weight)
+pub grid_is_joined : (v : Window) (weight : ℕ → ℕ) → IsConnected (window_shape v weight)
 grid_is_joined v weight inside u w l m p q = joins v weight inside u w l m p q

@@ -18,13 +18,13 @@ use Rattle.flow_network.specs.Lists.{HasRoom}
 use Rattle.flow_network.proofs.CallerLemmas.{conserved-still, sum-not_below, term-le}
 use Rattle.flow_network.proofs.RoomLemmas.{term-not_below}
 use Rattle.wrapped_gradient.specs.Rows.{AreInRows}
-use Rattle.wrapped_gradient.specs.Windows.{IsEdgeOf, number_at}
-use Rattle.dual_grid.specs.Building.{AreSupplies, IsSmall}
+use Rattle.wrapped_gradient.specs.Windows.{IsEdgeOf, edge_value}
+use Rattle.dual_grid.specs.Building.{AreCellSupplies, IsSmallWindow}
 use Rattle.dual_grid.specs.Grids.{AreWeighed, HasSmallCosts, residual_at}
-use Rattle.dual_grid.specs.Layout.{AreWithin, FitTogether, number_in, shape_by, state_by, weight_in}
+use Rattle.dual_grid.specs.Layout.{AreWithinCapacity, FitGrid, number_or_zero, shape_by, state_by, weight_in}
 use Rattle.dual_grid.specs.Nodes.{cells_of, edges_of, edge_number}
-use Rattle.dual_grid.specs.Problems.{of_down_edges, of_right_edges}
-use Rattle.dual_grid.specs.Starts.{IsAtStart, open_in, start_residual, start_state}
+use Rattle.dual_grid.specs.Problems.{down_edge_weights, right_edge_weights}
+use Rattle.dual_grid.specs.Starts.{IsAtStart, open_in_window, start_residual, start_state}
 use Rattle.dual_grid.proofs.ArcLemmas.{grid_is_network}
 use Rattle.dual_grid.proofs.EdgeLemmas.{few_cells, few_edges, right_number_below}
 use Rattle.dual_grid.proofs.GridLemmas.{back_cost, forth_cost}
@@ -34,29 +34,29 @@ use Rattle.sums_and_lists.specs.Sums.{sum_below, where_true}
 use Rattle.sums_and_lists.proofs.SumLemmas.{sum_below-none, sum_below-more}
 
 -- ---- weights in one list, the right edges first
-module _ (s : Scene) (v : Window) (unmasked : List Bool) (right down : List ℤ) (rights : AreInRows (of_right_edges s v unmasked) v.x0 v.y0 (width_of v - 1) ((width_of v - 1) * height_of v) right) (downs : AreInRows (of_down_edges s v unmasked) v.x0 v.y0 (width_of v) (width_of v * (height_of v - 1)) down) where
-  joined_at : (e : Edge) → IsEdgeOf v e → number_in (right ++ down) (edge_number v e) ≡ number_at v right down e
+module _ (s : Scene) (v : Window) (unmasked : List Bool) (right down : List ℤ) (rights : AreInRows (right_edge_weights s v unmasked) v.x0 v.y0 (width_of v - 1) ((width_of v - 1) * height_of v) right) (downs : AreInRows (down_edge_weights s v unmasked) v.x0 v.y0 (width_of v) (width_of v * (height_of v - 1)) down) where
+  joined_at : (e : Edge) → IsEdgeOf v e → number_or_zero (right ++ down) (edge_number v e) ≡ edge_value v right down e
   joined_at e i = go e.x e.y e.down i
     where
-      go : (x y : ℕ) (d : Bool) → IsEdgeOf v (record { x = x; y = y; down = d }) → number_in (right ++ down) (edge_number v (record { x = x; y = y; down = d })) ≡ number_at v right down (record { x = x; y = y; down = d })
+      go : (x y : ℕ) (d : Bool) → IsEdgeOf v (record { x = x; y = y; down = d }) → number_or_zero (right ++ down) (edge_number v (record { x = x; y = y; down = d })) ≡ edge_value v right down (record { x = x; y = y; down = d })
       go x y false i = get_or_append_left right down (pos 0) ((y - v.y0) * (width_of v - 1) + (x - v.x0)) (let l = right_number_below v x y i in let n = rights.0 in omega (arith, l, n))
       go x y true i =
-          ap (λ (n : ℕ). number_in (right ++ down) (n + ((y - v.y0) * width_of v + (x - v.x0)))) (sym rights.0)
+          ap (λ (n : ℕ). number_or_zero (right ++ down) (n + ((y - v.y0) * width_of v + (x - v.x0)))) (sym rights.0)
           ∙ get_or-append-add right down ((y - v.y0) * width_of v + (x - v.x0)) (pos 0)
 
-  pub joined_weighed : AreWeighed (raster_of s) (open_in v unmasked) v (shape_by v (right ++ down))
+  pub joined_weighed : AreWeighed (raster_of s) (open_in_window v unmasked) v (shape_by v (right ++ down))
   joined_weighed e i =
-      let told : weight_in (right ++ down) (edge_number v e) ≡ masked_weight (raster_of s) (open_in v unmasked) e = ap unsigned_abs (joined_at e i ∙ weights_listed s v unmasked right down rights downs e i) in
+      let told : weight_in (right ++ down) (edge_number v e) ≡ masked_weight (raster_of s) (open_in_window v unmasked) e = ap unsigned_abs (joined_at e i ∙ weights_listed s v unmasked right down rights downs e i) in
       (forth_cost v (weight_in (right ++ down)) e i ∙ ap pos told, back_cost v (weight_in (right ++ down)) e i ∙ ap pos told)
 
-pub joined_light : (right down : List ℤ) → ((k : ℕ) → unsigned_abs (get_or right k (pos 0)) ≤ 65535) → ((k : ℕ) → unsigned_abs (get_or down k (pos 0)) ≤ 65535) → (n : ℕ) → unsigned_abs (number_in (right ++ down) n) ≤ 65535
+pub joined_light : (right down : List ℤ) → ((k : ℕ) → unsigned_abs (get_or right k (pos 0)) ≤ 65535) → ((k : ℕ) → unsigned_abs (get_or down k (pos 0)) ≤ 65535) → (n : ℕ) → unsigned_abs (number_or_zero (right ++ down) n) ≤ 65535
 joined_light right down a b n =
     elim (cases_lt n (length right)) [
       | inl l ↦ rw (get_or_append_left right down (pos 0) n l) (a n)
       | inr l ↦ rw (get_or-append_right right down (length right) n (pos 0) refl l) (b (n - length right))
     ]
 
-pub all_zero : (n k : ℕ) → number_in (replicate n (pos 0)) k ≡ pos 0
+pub all_zero : (n k : ℕ) → number_or_zero (replicate n (pos 0)) k ≡ pos 0
 all_zero n k =
     elim (cases_lt k n) [
       | inl l ↦ get_or-replicate n k (pos 0) (pos 0) l
@@ -79,17 +79,17 @@ start_small a =
     ]
 
 -- ---- nothing flows, and all potentials are 0
-module _ (v : Window) (little : IsSmall v) (weights flows excesses potentials : List ℤ) (fit : FitTogether v weights flows excesses potentials) (light : (n : ℕ) → unsigned_abs (number_in weights n) ≤ 65535) (none : (n : ℕ) → number_in flows n ≡ pos 0) (flat : (n : ℕ) → number_in potentials n ≡ pos 0) where
-  pub start_within : AreWithin flows
+module _ (v : Window) (little : IsSmallWindow v) (weights flows excesses potentials : List ℤ) (fit : FitGrid v weights flows excesses potentials) (light : (n : ℕ) → unsigned_abs (number_or_zero weights n) ≤ 65535) (none : (n : ℕ) → number_or_zero flows n ≡ pos 0) (flat : (n : ℕ) → number_or_zero potentials n ≡ pos 0) where
+  pub start_within : AreWithinCapacity flows
   start_within n = rw (none n) (omega (arith, ints))
 
   residual_is : (a : ℕ) → IsArc (shape_by v weights) a → (state_by weights flows excesses potentials).residual a ≡ start_residual a
   residual_is a arc = ap (λ (q : ℤ). residual_at (weight_in weights (a / 4)) q (a % 4)) (none (a / 4)) ∙ idle_residual v (weight_in weights) a arc
 
-  pub start_at : (r : Field ℤ) → AreSupplies r v excesses → IsAtStart r v (shape_by v weights) (state_by weights flows excesses potentials)
+  pub start_at : (r : Field ℤ) → AreCellSupplies r v excesses → IsAtStart r v (shape_by v weights) (state_by weights flows excesses potentials)
   start_at r are = record { residual = residual_is; excess = are.values; potential = λ u l. flat u }
 
-  pub start_conserved : (r : Field ℤ) → AreSupplies r v excesses → IsConserved (shape_by v weights) (start_state r v) (state_by weights flows excesses potentials)
+  pub start_conserved : (r : Field ℤ) → AreCellSupplies r v excesses → IsConserved (shape_by v weights) (start_state r v) (state_by weights flows excesses potentials)
   start_conserved r are = conserved-still (shape_by v weights) (start_state r v) (state_by weights flows excesses potentials) (grid_is_network v (weight_in weights)) residual_is are.values
 
   cost_small : (a : ℕ) → unsigned_abs ((shape_by v weights).cost a) ≤ 65535
@@ -120,7 +120,7 @@ module _ (v : Window) (little : IsSmall v) (weights flows excesses potentials : 
   pub start_kept : supply_sum excesses ≡ pos 0 → HasReducedCosts (shape_by v weights) (state_by weights flows excesses potentials)
   start_kept even = record {
     at_least = λ a arc l. level ((shape_by v weights).cost a) _ _ (start_cost a (rw (residual_is a arc) at l)) (flat (tail_of (shape_by v weights) a)) (flat ((shape_by v weights).head a));
-    even = ap (λ (n : ℕ). sum_below n (number_in excesses)) (sym fit.by_node) ∙ even;
+    even = ap (λ (n : ℕ). sum_below n (number_or_zero excesses)) (sym fit.by_node) ∙ even;
   }
 
   -- ---- the room for pushes
@@ -154,7 +154,7 @@ module _ (v : Window) (little : IsSmall v) (weights flows excesses potentials : 
   out_low : (u : ℕ) → pos 0 ≤ℤ residual_out (shape_by v weights) (state_by weights flows excesses potentials) u
   out_low u = sum-not_below (edges_of v * 4) (out_term (shape_by v weights) (state_by weights flows excesses potentials) u) (λ a l. term-not_below ((shape_by v weights).is_arc a && (tail_of (shape_by v weights) a == u)) ((state_by weights flows excesses potentials).residual a))
 
-  excess_small : supply_sizes excesses ≤ℤ pos (2 * cells_of v) → (u : ℕ) → u < cells_of v + 1 → unsigned_abs (number_in excesses u) ≤ 32258
+  excess_small : supply_sizes excesses ≤ℤ pos (2 * cells_of v) → (u : ℕ) → u < cells_of v + 1 → unsigned_abs (number_or_zero excesses u) ≤ 32258
   excess_small sizes u l =
       let one = term-le (length excesses) u (λ k. pos (unsigned_abs (get_or excesses k (pos 0)))) (omega (arith, fit.by_node, l)) (λ k m. omega (arith, ints)) in
       let few = few_cells v little in

@@ -3,7 +3,7 @@ use Rattle.std.proofs.Common.{◌≡◌, refl}
 use Rattle.raster_model.specs.declared.tiling.Window.{Window}
 use Rattle.raster_model.specs.Sums.{right_edge, down_edge}
 use Rattle.std.specs.Prelude.{pos, negsuc, true, false}
-use Rattle.dual_grid.specs.Grids.{cost_at, is_taken, residual_at, twin_place}
+use Rattle.dual_grid.specs.Grids.{cost_in_place, is_taken, residual_at, twin_place}
 use Rattle.dual_grid.specs.Nodes.{node_at, node_above, node_left, first_side, other_side, arc_across}
 
 -- ---- three columns and two rows of pixels: the cells 0 and 1, and the outside 2
@@ -49,7 +49,7 @@ back_has_all = refl
 twins_at_a_weight : twin_place 4 0 ≡ 1
 twins_at_a_weight = refl
 
-a_twin_costs_less_than_nothing : cost_at 4 1 ≡ negsuc 3
+a_twin_costs_less_than_nothing : cost_in_place 4 1 ≡ negsuc 3
 a_twin_costs_less_than_nothing = refl
 
 -- ---- across an edge of weight 0

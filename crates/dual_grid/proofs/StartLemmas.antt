@@ -12,16 +12,16 @@ use Rattle.raster_model.specs.Scene.{raster_of}
 use Rattle.raster_model.specs.Tiles.{IsWindowOf}
 use Rattle.raster_model.specs.declared.tiling.Tiling.{Tiling}
 use Rattle.raster_model.proofs.Exact.{residue_is_small}
-use Rattle.flow_network.specs.Nets.{Shape, State, IsArc}
+use Rattle.flow_network.specs.Nets.{Shape, State, IsArc, positive_part, total_excess}
 use Rattle.flow_network.specs.Growing.{supply_sum, supply_sizes}
 use Rattle.wrapped_gradient.specs.Gradients.{AreGradientsOf, residue_at}
 use Rattle.wrapped_gradient.specs.GradientsView.{GradientsView}
 use Rattle.wrapped_gradient.specs.Windows.{IsCellOf}
 use Rattle.wrapped_gradient.proofs.GradientLemmas.{residues_are}
-use Rattle.dual_grid.specs.Grids.{residual_at, shape_in}
+use Rattle.dual_grid.specs.Grids.{residual_at, window_shape}
 use Rattle.dual_grid.specs.Nodes.{cells_of}
-use Rattle.dual_grid.specs.Starts.{cell_value, supply_at, positive_part, positive_excess, start_residual, IsAtStart}
-use Rattle.dual_grid.specs.Building.{AreSupplies, IsSmall}
+use Rattle.dual_grid.specs.Starts.{cell_value, supply_at, start_residual, IsAtStart}
+use Rattle.dual_grid.specs.Building.{AreCellSupplies, IsSmallWindow}
 use Rattle.dual_grid.proofs.ArcLemmas.{arc_taken, four_places, free_or_charged, free_place}
 use Rattle.dual_grid.proofs.EdgeLemmas.{few_cells, has_columns}
 use Rattle.dual_grid.proofs.SupplyLemmas.{supply_inside, supply_outside, sum_within}
@@ -49,7 +49,7 @@ module _ (f g : Field ℤ) (v : Window) (same : (x y : ℕ) → IsCellOf v x y �
         | inr m ↦ rw m (supply_outside f v ∙ ap neg_ℤ (sum_below-same (cells_of v) (cell_value f v) (cell_value g v) cells_same) ∙ sym (supply_outside g v))
       ]
 
-  pub supplies_same : (zs : List ℤ) → AreSupplies f v zs → AreSupplies g v zs
+  pub supplies_same : (zs : List ℤ) → AreCellSupplies f v zs → AreCellSupplies g v zs
   supplies_same zs h = record { count = h.count; values = λ u l. h.values u l ∙ supply_same u l }
 
 -- numbers from -1 to 1 and their positive parts
@@ -100,7 +100,7 @@ module _ (f : Field ℤ) (v : Window) (small : (x y : ℕ) → unsigned_abs (f x
       let both = part_either (supply_at f v (cells_of v)) (sum_below (cells_of v) (λ u. positive_part (cell_value f v u))) (cells_of v) most.0 (omega (arith, ints, most.1, supply_outside f v)) in
       omega (arith, ints, sum_below-more (cells_of v) part, rest, both)
 
-  module _ (zs : List ℤ) (are : AreSupplies f v zs) where
+  module _ (zs : List ℤ) (are : AreCellSupplies f v zs) where
     pub supplies_even : supply_sum zs ≡ pos 0
     supplies_even =
         ap (λ (n : ℕ). sum_below n (λ u. get_or zs u (pos 0))) are.count ∙ sum_below-same (cells_of v + 1) (λ u. get_or zs u (pos 0)) (supply_at f v) are.values ∙ all_even
@@ -112,24 +112,24 @@ module _ (f : Field ℤ) (v : Window) (small : (x y : ℕ) → unsigned_abs (f x
         rw e all_sizes
 
   -- at the start the positive excesses are at most the cells
-  pub few_positive : (s : Shape) (g : State) → s.nodes ≡ cells_of v + 1 → IsAtStart f v s g → positive_excess s g ≤ℤ pos (cells_of v)
+  pub few_positive : (s : Shape) (g : State) → s.nodes ≡ cells_of v + 1 → IsAtStart f v s g → total_excess s g ≤ℤ pos (cells_of v)
   few_positive s g nodes start =
       let part = λ (u : ℕ). positive_part (g.excess u) in
-      let e : positive_excess s g ≡ sum_below (cells_of v + 1) (λ u. positive_part (supply_at f v u)) = ap (λ (n : ℕ). sum_below n part) nodes ∙ sum_below-same (cells_of v + 1) part (λ u. positive_part (supply_at f v u)) (λ u l. ap positive_part (start.excess u (omega (arith, nodes, l)))) in
+      let e : total_excess s g ≡ sum_below (cells_of v + 1) (λ u. positive_part (supply_at f v u)) = ap (λ (n : ℕ). sum_below n part) nodes ∙ sum_below-same (cells_of v + 1) part (λ u. positive_part (supply_at f v u)) (λ u l. ap positive_part (start.excess u (omega (arith, nodes, l)))) in
       rw e all_parts
 
 -- the residues that gradients tell are the scene's
-pub scene_supplies : (s : Scene) (g : GradientsView) (zs : List ℤ) → AreGradientsOf s g → AreSupplies (residue_at g) g.window zs → AreSupplies (residue (raster_of s)) g.window zs
+pub scene_supplies : (s : Scene) (g : GradientsView) (zs : List ℤ) → AreGradientsOf s g → AreCellSupplies (residue_at g) g.window zs → AreCellSupplies (residue (raster_of s)) g.window zs
 scene_supplies s g zs h are = supplies_same (residue_at g) (residue (raster_of s)) g.window (residues_are s g h) zs are
 
-pub scene_even : (s : Scene) (g : GradientsView) (zs : List ℤ) → AreGradientsOf s g → AreSupplies (residue_at g) g.window zs → supply_sum zs ≡ pos 0
+pub scene_even : (s : Scene) (g : GradientsView) (zs : List ℤ) → AreGradientsOf s g → AreCellSupplies (residue_at g) g.window zs → supply_sum zs ≡ pos 0
 scene_even s g zs h are = supplies_even (residue (raster_of s)) g.window (λ x y. (residue_is_small (raster_of s) x y).1) zs (scene_supplies s g zs h are)
 
-pub scene_sizes : (s : Scene) (g : GradientsView) (zs : List ℤ) → AreGradientsOf s g → AreSupplies (residue_at g) g.window zs → supply_sizes zs ≤ℤ pos (2 * cells_of g.window)
+pub scene_sizes : (s : Scene) (g : GradientsView) (zs : List ℤ) → AreGradientsOf s g → AreCellSupplies (residue_at g) g.window zs → supply_sizes zs ≤ℤ pos (2 * cells_of g.window)
 scene_sizes s g zs h are = supplies_sizes (residue (raster_of s)) g.window (λ x y. (residue_is_small (raster_of s) x y).1) zs (scene_supplies s g zs h are)
 
 -- a tile's window is small
-pub tile_is_small : (g : Tiling) (tile : ℕ) (v : Window) → IsWindowOf g tile v → (v.x1 < v.x0 + g.side) × (v.y1 < v.y0 + g.side) → IsSmall v
+pub tile_is_small : (g : Tiling) (tile : ℕ) (v : Window) → IsWindowOf g tile v → (v.x1 < v.x0 + g.side) × (v.y1 < v.y0 + g.side) → IsSmallWindow v
 tile_is_small g tile v is small =
     let a = is.across in
     let b = is.along in
@@ -146,7 +146,7 @@ start_odd a k e = let t = ne_eqb (a % 2) 0 (λ z. omega (arith, e, z)) in rw t r
 -- ---- a grid that starts: nothing flows
 module _ (v : Window) (weight : ℕ → ℕ) where
   -- at a weight of 0 no place of an odd number is taken, and at others nothing went along the arcs whose twins are there
-  pub idle_residual : (a : ℕ) → IsArc (shape_in v weight) a → residual_at (weight (a / 4)) (pos 0) (a % 4) ≡ start_residual a
+  pub idle_residual : (a : ℕ) → IsArc (window_shape v weight) a → residual_at (weight (a / 4)) (pos 0) (a % 4) ≡ start_residual a
   idle_residual a arc =
       let split = div-add-mod' a 4 in
       let taken = arc_taken v weight a arc in
@@ -164,7 +164,7 @@ module _ (v : Window) (weight : ℕ → ℕ) where
       ]
 
 -- at the start few of a scene's residues are to flow
-pub few_of_scene : (s : Scene) (v : Window) (z : Shape) (g : State) → IsSmall v → z.nodes ≡ cells_of v + 1 → IsAtStart (residue (raster_of s)) v z g → positive_excess z g ≤ℤ pos 16129
+pub few_of_scene : (s : Scene) (v : Window) (z : Shape) (g : State) → IsSmallWindow v → z.nodes ≡ cells_of v + 1 → IsAtStart (residue (raster_of s)) v z g → total_excess z g ≤ℤ pos 16129
 few_of_scene s v z g little nodes start =
     let few = few_positive (residue (raster_of s)) v (λ x y. (residue_is_small (raster_of s) x y).1) z g nodes start in
     omega (arith, ints, few, few_cells v little)

@@ -10,7 +10,7 @@ use Rattle.raster_model.specs.Sums.{Field}
 use Rattle.wrapped_gradient.specs.Rows.{AreInRows}
 use Rattle.dual_grid.specs.Nodes.{cells_of}
 use Rattle.dual_grid.specs.Starts.{cell_value, supply_at}
-use Rattle.dual_grid.specs.Building.{AreSupplies, sum_of_first}
+use Rattle.dual_grid.specs.Building.{AreCellSupplies, sum_of_first}
 use Rattle.sums_and_lists.proofs.Orders.{below_at_past, below_or_last}
 use Rattle.sums_and_lists.specs.Sums.{sum_below}
 use Rattle.sums_and_lists.proofs.SumLemmas.{sum_below-none, sum_below-more, sum_below-same}
@@ -54,7 +54,7 @@ pushed_small zs z b h l k =
       | inr (inr m) ↦ rw (get_or_past (zs ++ z ∷ []) k (pos 0) (omega (arith, length-append zs (z ∷ []), m))) (omega (arith, ints))
     ]
 
-pub listed_supplies : (f : Field ℤ) (v : Window) (zs : List ℤ) (r : ℤ) → AreInRows f v.x0 v.y0 (v.x1 - v.x0) (cells_of v) zs → r ≡ neg_ℤ (sum_of_first zs (length zs)) → AreSupplies f v (zs ++ r ∷ [])
+pub listed_supplies : (f : Field ℤ) (v : Window) (zs : List ℤ) (r : ℤ) → AreInRows f v.x0 v.y0 (v.x1 - v.x0) (cells_of v) zs → r ≡ neg_ℤ (sum_of_first zs (length zs)) → AreCellSupplies f v (zs ++ r ∷ [])
 listed_supplies f v zs r h e =
     let count : length zs ≡ cells_of v = h.0 in
     let sums : sum_below (cells_of v) (λ k. get_or zs k (pos 0)) ≡ sum_below (cells_of v) (cell_value f v) = sum_below-same (cells_of v) (λ k. get_or zs k (pos 0)) (cell_value f v) (λ k l. h.1 k l) in

@@ -21,22 +21,22 @@ use Rattle.flow_network.specs.Nets.{State}
 use Rattle.wrapped_gradient.specs.declared.corrections.Corrections.{Corrections}
 use Rattle.wrapped_gradient.specs.Corrections.{CancelResidues, HasShapeOf, correction_at, greatest_of}
 use Rattle.wrapped_gradient.specs.Windows.{IsEdgeOf}
-use Rattle.dual_grid.specs.Answers.{IsAnswer, correction_cost}
+use Rattle.dual_grid.specs.Answers.{AreCertifiedCorrections, correction_cost}
 use Rattle.dual_grid.specs.Building.{AreFaces}
 use Rattle.dual_grid.specs.Nodes.{cells_of, first_side, other_side}
-use Rattle.dual_grid.specs.Starts.{open_in, TellsMask}
+use Rattle.dual_grid.specs.Starts.{open_in_window, TellsMask}
 use Rattle.dual_grid.proofs.FaceLemmas.{difference_of_nodes}
 use Rattle.dual_grid.proofs.NodeLemmas.{cell_or_not}
 use Rattle.dual_grid.proofs.SideLemmas.{sides_outside}
 use Rattle.sums_and_lists.specs.Sums.{where_true}
 
 -- the weight under the mask that the list tells
-weight_told : (r : Raster) (v : Window) (unmasked : List Bool) (mask : Field Bool) (e : Edge) → TellsMask v unmasked mask → IsEdgeOf v e → masked_weight r (open_in v unmasked) e ≡ masked_weight r mask e
+weight_told : (r : Raster) (v : Window) (unmasked : List Bool) (mask : Field Bool) (e : Edge) → TellsMask v unmasked mask → IsEdgeOf v e → masked_weight r (open_in_window v unmasked) e ≡ masked_weight r mask e
 weight_told r v unmasked mask e tells i =
     ap₂ (λ (a b : Bool). if a && b then r.weight e else 0) (tells e.x e.y i.start) (tells (end_x e) (end_y e) i.end)
 
-module _ (scene : Scene) (t : ℕ) (v : Window) (window : IsWindowOf scene.tiling t v) (unmasked : List Bool) (mask : Field Bool) (tells : TellsMask v unmasked mask) (f : State) (k : Corrections) (faces : List ℤ) (are : AreFaces f.potential (cells_of v) (cells_of v) faces) (shape : HasShapeOf v k) (small : greatest_of k ≤ 16129) (cancels : CancelResidues (raster_of scene) v k) (fits : (e : Edge) → IsEdgeOf v e → unsigned_abs (f.potential (other_side v e) -ℤ f.potential (first_side v e)) ≤ masked_weight (raster_of scene) (open_in v unmasked) e) (tight : (e : Edge) → IsEdgeOf v e → correction_at v k e *ℤ (f.potential (other_side v e) -ℤ f.potential (first_side v e)) ≡ pos (masked_weight (raster_of scene) (open_in v unmasked) e * unsigned_abs (correction_at v k e))) where
-  weight_is : (e : Edge) → IsEdgeOf v e → masked_weight (raster_of scene) (open_in v unmasked) e ≡ masked_weight (raster_of scene) mask e
+module _ (scene : Scene) (t : ℕ) (v : Window) (window : IsWindowOf scene.tiling t v) (unmasked : List Bool) (mask : Field Bool) (tells : TellsMask v unmasked mask) (f : State) (k : Corrections) (faces : List ℤ) (are : AreFaces f.potential (cells_of v) (cells_of v) faces) (shape : HasShapeOf v k) (small : greatest_of k ≤ 16129) (cancels : CancelResidues (raster_of scene) v k) (fits : (e : Edge) → IsEdgeOf v e → unsigned_abs (f.potential (other_side v e) -ℤ f.potential (first_side v e)) ≤ masked_weight (raster_of scene) (open_in_window v unmasked) e) (tight : (e : Edge) → IsEdgeOf v e → correction_at v k e *ℤ (f.potential (other_side v e) -ℤ f.potential (first_side v e)) ≡ pos (masked_weight (raster_of scene) (open_in_window v unmasked) e * unsigned_abs (correction_at v k e))) where
+  weight_is : (e : Edge) → IsEdgeOf v e → masked_weight (raster_of scene) (open_in_window v unmasked) e ≡ masked_weight (raster_of scene) mask e
   weight_is e i = weight_told (raster_of scene) v unmasked mask e tells i
 
   tile_edge : (e : Edge) → IsTileEdge (raster_of scene) t e → IsEdgeOf v e
@@ -85,7 +85,7 @@ module _ (scene : Scene) (t : ℕ) (v : Window) (window : IsWindowOf scene.tilin
       ∙ planar w h face (correction_at v k) (no_column (raster_of scene) t (face_at (raster_of scene) t faces)) (no_row (raster_of scene) t (face_at (raster_of scene) t faces))
       ∙ sum_edges-same w h (λ e. correction_at v k e *ℤ face_difference face e) (λ e. where_true (is_inner (raster_of scene) t e) (pos (masked_weight (raster_of scene) mask e * unsigned_abs (correction_at v k e)))) edge_part
 
-  pub tight_answer : IsAnswer (raster_of scene) mask t v k faces
+  pub tight_answer : AreCertifiedCorrections (raster_of scene) mask t v k faces
   tight_answer = record {
     shape = shape;
     cancel = cancels;

@@ -12,10 +12,6 @@ use Rattle.wrapped_gradient.specs.Corrections.{HasShapeOf, CancelResidues, corre
 use Rattle.dual_grid.specs.Starts.{start_residual}
 use Rattle.sums_and_lists.specs.Sums.{where_true}
 
--- no node has an excess or a deficit
-abbrev pub IsBalanced : Shape → State → Type 0
-IsBalanced s f = (u : ℕ) → u < s.nodes → f.excess u ≡ pos 0
-
 -- no arc's residual capacity differs by more than 16129 from that at the start
 abbrev pub IsNearStart : Shape → State → Type 0
 IsNearStart s f = (a : ℕ) → IsArc s a → (f.residual a ≤ start_residual a + 16129) × (start_residual a ≤ f.residual a + 16129)
@@ -25,7 +21,7 @@ unfoldable pub correction_cost : Raster → Field Bool → ℕ → Window → Co
 correction_cost r mask t v k = sum_edges r.width r.height (λ e. where_true (is_inner r t e) (pos (masked_weight r mask e * unsigned_abs (correction_at v k e))))
 
 -- corrections for the edges of tile t, whose window is v, and a list of faces that certifies them
-pub record IsAnswer (r : Raster) (mask : Field Bool) (t : ℕ) (v : Window) (k : Corrections) (faces : List ℤ) : Type 0 where
+pub record AreCertifiedCorrections (r : Raster) (mask : Field Bool) (t : ℕ) (v : Window) (k : Corrections) (faces : List ℤ) : Type 0 where
   pub shape : HasShapeOf v k
   pub cancel : CancelResidues r v k
   pub small : greatest_of k ≤ 16129

@@ -12,14 +12,14 @@ use Rattle.dual_grid.specs.Grids.{is_taken, leads_forth}
 use Rattle.sums_and_lists.specs.Sums.{sum_below}
 
 -- no side of the window is above 128 pixels
-pub record IsSmall (v : Window) : Type 0 where
+pub record IsSmallWindow (v : Window) : Type 0 where
   pub across : (v.x0 ≤ v.x1) × (v.x1 < v.x0 + 128)
   pub along : (v.y0 ≤ v.y1) × (v.y1 < v.y0 + 128)
 
 -- the window lies in the scene, no side of it is above 128 pixels, and the list tells of each of its pixels whether it is open
 pub record IsMadeFor (s : Scene) (v : Window) (unmasked : List Bool) : Type 0 where
   pub inside : IsWindowIn s.phase.width s.phase.height v
-  pub small : IsSmall v
+  pub small : IsSmallWindow v
   pub count : length unmasked ≡ width_of v * height_of v
 
 -- the sum of the first n numbers of a list
@@ -27,7 +27,7 @@ abbrev pub sum_of_first : List ℤ → ℕ → ℤ
 sum_of_first zs n = sum_below n (λ k. get_or zs k (pos 0))
 
 -- the list has what each node has at the start
-pub record AreSupplies (f : Field ℤ) (v : Window) (zs : List ℤ) : Type 0 where
+pub record AreCellSupplies (f : Field ℤ) (v : Window) (zs : List ℤ) : Type 0 where
   pub count : length zs ≡ cells_of v + 1
   pub values : (u : ℕ) → u < cells_of v + 1 → get_or zs u (pos 0) ≡ supply_at f v u
 
@@ -59,7 +59,7 @@ pub record IsOutAcross (s : Shape) (u n high : ℕ) (o : Option ℕ) : Type 0 wh
   pub ended : o ≡ None → NoneBetween s u (n * 4) (n * 4 + high)
 
 -- the corrections are the flows across the edges, in the order of the edges' numbers
-pub record AreFlows (v : Window) (flow : ℕ → ℤ) (k : Corrections) : Type 0 where
+pub record AreEdgeFlows (v : Window) (flow : ℕ → ℤ) (k : Corrections) : Type 0 where
   pub right_count : length k.right.items ≡ rights_of v
   pub right : (i : ℕ) → i < rights_of v → slice_index_or k.right.items i (pos 0) ≡ flow i
   pub down_count : length k.down.items ≡ downs_of v

@@ -25,22 +25,22 @@ abbrev pub twin_place : ℕ → ℕ → ℕ
 twin_place w k = if w == 0 then 2 - k else if k % 2 == 0 then k + 1 else k - 1
 
 -- what it costs
-abbrev pub cost_at : ℕ → ℕ → ℤ
-cost_at w k = if k % 2 == 0 then pos w else neg_ℤ (pos w)
+abbrev pub cost_in_place : ℕ → ℕ → ℤ
+cost_in_place w k = if k % 2 == 0 then pos w else neg_ℤ (pos w)
 
 -- where it ends, across the edge with the number n
 abbrev pub head_at : Window → ℕ → ℕ → ℕ
 head_at v n k = if leads_forth k then other_side v (edge_of v n) else first_side v (edge_of v n)
 
 -- the network of a window; the weights are given by the edges' numbers
-abbrev pub shape_in : Window → (ℕ → ℕ) → Shape
-shape_in v weight = record {
+abbrev pub window_shape : Window → (ℕ → ℕ) → Shape
+window_shape v weight = record {
   nodes = cells_of v + 1;
   arcs = edges_of v * 4;
   is_arc = λ a. nat_lt a (edges_of v * 4) && is_taken (weight (a / 4)) (a % 4);
   head = λ a. head_at v (a / 4) (a % 4);
   twin = λ a. a / 4 * 4 + twin_place (weight (a / 4)) (a % 4);
-  cost = λ a. cost_at (weight (a / 4)) (a % 4);
+  cost = λ a. cost_in_place (weight (a / 4)) (a % 4);
 }
 
 -- the number, or 0 if it is below 0
@@ -57,8 +57,8 @@ abbrev pub residual_at : ℕ → ℤ → ℕ → ℕ
 residual_at w q k = if w == 0 then amount_of (pos 16130 -ℤ along q k) else if k % 2 == 0 then 16130 - amount_of (along q k) else amount_of (neg_ℤ (along q k))
 
 -- the state of the network, from the flows by the edges' numbers and what the nodes have
-abbrev pub state_in : (ℕ → ℕ) → (ℕ → ℤ) → (ℕ → ℤ) → (ℕ → ℤ) → State
-state_in weight flow excess potential = record { residual = λ a. residual_at (weight (a / 4)) (flow (a / 4)) (a % 4); excess = excess; potential = potential }
+abbrev pub window_state : (ℕ → ℕ) → (ℕ → ℤ) → (ℕ → ℤ) → (ℕ → ℤ) → State
+window_state weight flow excess potential = record { residual = λ a. residual_at (weight (a / 4)) (flow (a / 4)) (a % 4); excess = excess; potential = potential }
 
 -- the two arcs from side to side of an edge cost this much, if a is the first arc across the edge
 abbrev pub CostsAcross : Shape → ℕ → ℕ → Type 0
@@ -74,5 +74,5 @@ pub record HasSmallCosts (s : Shape) : Type 0 where
   pub few : s.nodes ≤ 16130
 
 -- from any set of nodes, except the empty one and the whole, an arc leads out that has capacity at the start
-abbrev pub IsJoined : Shape → Type 0
-IsJoined s = (inside : ℕ → Bool) (u w : ℕ) → u < s.nodes → w < s.nodes → inside u ≡ true → inside w ≡ false → (a : ℕ) × (IsArc s a × (start_residual a ≡ 16130) × (inside (tail_of s a) ≡ true) × (inside (s.head a) ≡ false))
+abbrev pub IsConnected : Shape → Type 0
+IsConnected s = (inside : ℕ → Bool) (u w : ℕ) → u < s.nodes → w < s.nodes → inside u ≡ true → inside w ≡ false → (a : ℕ) × (IsArc s a × (start_residual a ≡ 16130) × (inside (tail_of s a) ≡ true) × (inside (s.head a) ≡ false))

@@ -3,27 +3,27 @@ use Rattle.std.specs.Prelude.{◌≡◌, ◌+◌, ◌≤◌, ℕ, ℤ, pos, List
 use Rattle.raster_model.specs.declared.tiling.Window.{Window}
 use Rattle.flow_network.specs.Nets.{Shape, State}
 use Rattle.dual_grid.specs.Nodes.{cells_of, edges_of}
-use Rattle.dual_grid.specs.Grids.{shape_in, state_in}
+use Rattle.dual_grid.specs.Grids.{window_shape, window_state}
 
 abbrev pub weight_in : List ℤ → ℕ → ℕ
 weight_in weights n = unsigned_abs (get_or weights n (pos 0))
 
-abbrev pub number_in : List ℤ → ℕ → ℤ
-number_in zs n = get_or zs n (pos 0)
+abbrev pub number_or_zero : List ℤ → ℕ → ℤ
+number_or_zero zs n = get_or zs n (pos 0)
 
 abbrev pub shape_by : Window → List ℤ → Shape
-shape_by v weights = shape_in v (weight_in weights)
+shape_by v weights = window_shape v (weight_in weights)
 
 abbrev pub state_by : List ℤ → List ℤ → List ℤ → List ℤ → State
-state_by weights flows excesses potentials = state_in (weight_in weights) (number_in flows) (number_in excesses) (number_in potentials)
+state_by weights flows excesses potentials = window_state (weight_in weights) (number_or_zero flows) (number_or_zero excesses) (number_or_zero potentials)
 
 -- the lists have one place for each edge or for each node
-pub record FitTogether (v : Window) (weights flows excesses potentials : List ℤ) : Type 0 where
+pub record FitGrid (v : Window) (weights flows excesses potentials : List ℤ) : Type 0 where
   pub by_weight : length weights ≡ edges_of v
   pub by_edge : length flows ≡ edges_of v
   pub by_node : length excesses ≡ cells_of v + 1
   pub by_height : length potentials ≡ cells_of v + 1
 
 -- no flow is above the capacity
-abbrev pub AreWithin : List ℤ → Type 0
-AreWithin flows = (n : ℕ) → unsigned_abs (number_in flows n) ≤ 16130
+abbrev pub AreWithinCapacity : List ℤ → Type 0
+AreWithinCapacity flows = (n : ℕ) → unsigned_abs (number_or_zero flows n) ≤ 16130

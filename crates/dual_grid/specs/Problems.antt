@@ -9,31 +9,31 @@ use Rattle.raster_model.specs.Scene.{raster_of}
 use Rattle.raster_model.specs.Tiles.{tiles_of, window_of}
 use Rattle.wrapped_gradient.specs.declared.corrections.Corrections.{Corrections}
 use Rattle.wrapped_gradient.specs.Corrections.{HasShapeOf, correction_at}
-use Rattle.wrapped_gradient.specs.Windows.{IsCellOf, IsEdgeOf, number_at, round}
+use Rattle.wrapped_gradient.specs.Windows.{IsCellOf, IsEdgeOf, edge_value, round}
 use Rattle.dual_grid.specs.declared.problem.Problem.{Problem}
-use Rattle.dual_grid.specs.Answers.{IsAnswer}
+use Rattle.dual_grid.specs.Answers.{AreCertifiedCorrections}
 use Rattle.dual_grid.specs.Nodes.{cells_of, first_side, node_at, other_side}
-use Rattle.dual_grid.specs.Starts.{TellsMask, open_in}
+use Rattle.dual_grid.specs.Starts.{TellsMask, open_in_window}
 
 -- the weight that is held for an edge, and the residue that is held for a cell
 abbrev pub weight_at : Problem → Edge → ℤ
-weight_at p = number_at p.window p.right.items p.down.items
+weight_at p = edge_value p.window p.right.items p.down.items
 
-abbrev pub residue_at : Problem → Field ℤ
-residue_at p x y = slice_index_or p.residues.items (node_at p.window x y) (pos 0)
+abbrev pub problem_residue : Problem → Field ℤ
+problem_residue p x y = slice_index_or p.residues.items (node_at p.window x y) (pos 0)
 
 -- the problem of a tile of a scene; the list tells of each pixel of the tile's window whether it is open
 pub record IsProblemOf (s : Scene) (t : ℕ) (unmasked : List Bool) (p : Problem) : Type 0 where
   pub window : p.window ≡ window_of s.tiling t
-  pub weights : (e : Edge) → IsEdgeOf p.window e → weight_at p e ≡ pos (masked_weight (raster_of s) (open_in p.window unmasked) e)
-  pub residues : (x y : ℕ) → IsCellOf p.window x y → residue_at p x y ≡ residue (raster_of s) x y
+  pub weights : (e : Edge) → IsEdgeOf p.window e → weight_at p e ≡ pos (masked_weight (raster_of s) (open_in_window p.window unmasked) e)
+  pub residues : (x y : ℕ) → IsCellOf p.window x y → problem_residue p x y ≡ residue (raster_of s) x y
 
 -- the weights of the right edge and of the down edge that start at a pixel of a window, under the mask that the list tells
-abbrev pub of_right_edges : Scene → Window → List Bool → Field ℤ
-of_right_edges s v unmasked x y = pos (masked_weight (raster_of s) (open_in v unmasked) (right_edge x y))
+abbrev pub right_edge_weights : Scene → Window → List Bool → Field ℤ
+right_edge_weights s v unmasked x y = pos (masked_weight (raster_of s) (open_in_window v unmasked) (right_edge x y))
 
-abbrev pub of_down_edges : Scene → Window → List Bool → Field ℤ
-of_down_edges s v unmasked x y = pos (masked_weight (raster_of s) (open_in v unmasked) (down_edge x y))
+abbrev pub down_edge_weights : Scene → Window → List Bool → Field ℤ
+down_edge_weights s v unmasked x y = pos (masked_weight (raster_of s) (open_in_window v unmasked) (down_edge x y))
 
 -- the face of a node in a list of faces, which is 0 for the outside
 abbrev pub face_of : List ℤ → ℕ → ℤ
@@ -50,16 +50,16 @@ IsTightAt p k faces e = IsTight (face_of faces (first_side p.window e) -ℤ face
 
 -- the corrections around a cell cancel its residue
 abbrev pub IsCancelled : Problem → Corrections → ℕ → ℕ → Type 0
-IsCancelled p k x y = round (correction_at p.window k) x y ≡ neg_ℤ (residue_at p x y)
+IsCancelled p k x y = round (correction_at p.window k) x y ≡ neg_ℤ (problem_residue p x y)
 
 -- the lists have their lengths
 abbrev pub HaveShape : Problem → Corrections → List ℤ → Type 0
 HaveShape p k faces = HasShapeOf p.window k × (length faces ≡ cells_of p.window)
 
 -- no number of the list is above 16129 on either side of 0
-abbrev pub AreSmall : List ℤ → Type 0
-AreSmall zs = (i : ℕ) → unsigned_abs (slice_index_or zs i (pos 0)) ≤ 16129
+abbrev pub AreSmallNumbers : List ℤ → Type 0
+AreSmallNumbers zs = (i : ℕ) → unsigned_abs (slice_index_or zs i (pos 0)) ≤ 16129
 
 -- corrections and a list of faces that are an answer for each tile of which this is the problem
-abbrev pub Answers : Problem → Corrections → List ℤ → Type 0
-Answers p k faces = (s : Scene) (t : ℕ) (unmasked : List Bool) (mask : Field Bool) → IsProblemOf s t unmasked p → t < tiles_of s.tiling → TellsMask (window_of s.tiling t) unmasked mask → IsAnswer (raster_of s) mask t (window_of s.tiling t) k faces
+abbrev pub IsAnsweredBy : Problem → Corrections → List ℤ → Type 0
+IsAnsweredBy p k faces = (s : Scene) (t : ℕ) (unmasked : List Bool) (mask : Field Bool) → IsProblemOf s t unmasked p → t < tiles_of s.tiling → TellsMask (window_of s.tiling t) unmasked mask → AreCertifiedCorrections (raster_of s) mask t (window_of s.tiling t) k faces

@@ -28,19 +28,10 @@ pub record IsAtStart (f : Field ℤ) (v : Window) (s : Shape) (g : State) : Type
   pub excess : (u : ℕ) → u < s.nodes → g.excess u ≡ supply_at f v u
   pub potential : (u : ℕ) → u < s.nodes → g.potential u ≡ pos 0
 
--- the number, or 0 if it is below 0
-abbrev pub positive_part : ℤ → ℤ
-positive_part (pos n) = pos n
-positive_part (negsuc n) = pos 0
-
--- the sum of the positive excesses
-abbrev pub positive_excess : Shape → State → ℤ
-positive_excess s g = sum_below s.nodes (λ u. positive_part (g.excess u))
-
 -- which pixels are open, by a list that tells it of each pixel of the window in row order
-abbrev pub open_in : Window → List Bool → Field Bool
-open_in v unmasked x y = slice_index_or unmasked (place_in v x y) Bool.false
+abbrev pub open_in_window : Window → List Bool → Field Bool
+open_in_window v unmasked x y = slice_index_or unmasked (place_in v x y) Bool.false
 
 -- the list tells what the mask has at the window's pixels
 abbrev pub TellsMask : Window → List Bool → Field Bool → Type 0
-TellsMask v unmasked mask = (x y : ℕ) → IsWithin v x y → open_in v unmasked x y ≡ mask x y
+TellsMask v unmasked mask = (x y : ℕ) → IsWithin v x y → open_in_window v unmasked x y ≡ mask x y

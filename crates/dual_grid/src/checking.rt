@@ -1,8 +1,8 @@
-ghost use Rattle.dual_grid.specs.Problems.{AreSmall, HaveShape, IsCancelled, IsTight, IsTightAt, face_of, residue_at};
+ghost use Rattle.dual_grid.specs.Problems.{AreSmallNumbers, HaveShape, IsCancelled, IsTight, IsTightAt, face_of, problem_residue};
 ghost use Rattle.raster_model.specs.Sums.{down_edge, right_edge};
 ghost use Rattle.std.specs.Prelude.{◌≡◌, ◌<◌, ◌≤◌, ℕ, IsTrue, pos, slice_index_or, unsigned_abs};
 ghost use Rattle.wrapped_gradient.specs.Corrections.{correction_at};
-ghost use Rattle.wrapped_gradient.specs.Windows.{IsCellOf, IsEdgeOf, number_at};
+ghost use Rattle.wrapped_gradient.specs.Windows.{IsCellOf, IsEdgeOf, edge_value};
 
 use crate::problem::Problem;
 use crate::sides::sides;
@@ -24,7 +24,7 @@ pub(crate) fn has_shape(problem: &Problem, corrections: &Corrections, faces: &[i
 /// Whether no correction is above 16,129 on either side of 0, which is all that the cells of the largest tile could
 /// send.
 pub(crate) fn are_small(corrections: &[i32]) -> bool
-    ensures { IsTrue result → AreSmall corrections.now }
+    ensures { IsTrue result → AreSmallNumbers corrections.now }
 {
     for correction in corrections {
         if correction.unsigned_abs() > 16_129 {
@@ -37,7 +37,7 @@ pub(crate) fn are_small(corrections: &[i32]) -> bool
 /// The number that two lists have for an edge: one is of right edges, the other of down edges.
 fn number(window: Window, right: &[i32], down: &[i32], edge: Edge) -> i32
     requires { IsEdgeOf window edge }
-    ensures { result ≡ number_at window right.now down.now edge }
+    ensures { result ≡ edge_value window right.now down.now edge }
 {
     let across = (window.x1 - window.x0) as usize;
     let (column, row) = ((edge.x - window.x0) as usize, (edge.y - window.y0) as usize);
@@ -68,7 +68,7 @@ fn residue_of(residues: &[i8], place: usize) -> i8
 /// The residue of a cell.
 fn residue(problem: &Problem, x: u32, y: u32) -> i64
     requires { IsCellOf problem.now.window x y }
-    ensures value { result ≡ residue_at problem.now x y }
+    ensures value { result ≡ problem_residue problem.now x y }
     ensures small { unsigned_abs result ≤ 128 }
 {
     let window = problem.window;

@@ -1,7 +1,7 @@
-ghost use Rattle.dual_grid.specs.Building.{IsSmall};
-ghost use Rattle.dual_grid.specs.Layout.{AreWithin, FitTogether, shape_by, state_by};
+ghost use Rattle.dual_grid.specs.Building.{IsSmallWindow};
+ghost use Rattle.dual_grid.specs.Layout.{AreWithinCapacity, FitGrid, shape_by, state_by};
 ghost use Rattle.flow_network.specs.Lists.{HasRoom};
-ghost use Rattle.flow_network.specs.Nets.{HasReducedCosts, IsNetwork};
+ghost use Rattle.flow_network.specs.Nets.{HasReducedCosts, IsNetwork, HasNoExcess, total_excess};
 
 use crate::answering::faces;
 use crate::arcs::{flow_after, leads_forth, place_below, residual_at, twin_place};
@@ -35,20 +35,20 @@ pub struct DualGrid {
     excesses: Vec<i64>,
     /// For each node, its potential.
     potentials: Vec<i64>,
-    ghost small: { IsSmall window },
-    ghost fit: { FitTogether window weights.items flows.items excesses.items potentials.items },
-    ghost within: { AreWithin flows.items },
+    ghost small: { IsSmallWindow window },
+    ghost fit: { FitGrid window weights.items flows.items excesses.items potentials.items },
+    ghost within: { AreWithinCapacity flows.items },
     ghost is_network: { IsNetwork (shape_by window weights.items) },
     ghost room: { HasRoom (shape_by window weights.items) (state_by weights.items flows.items excesses.items potentials.items) },
     ghost has_reduced_costs: { HasReducedCosts (shape_by window weights.items) (state_by weights.items flows.items excesses.items potentials.items) },
 }
 
 impl FlowNet for DualGrid {
-    ghost use Rattle.dual_grid.specs.Views.{HaveOneOrigin, follows_of_one_origin, shape_of, state_of, stays_of_one_origin};
+    ghost use Rattle.dual_grid.specs.Views.{HaveOneOrigin, follows_of_one_origin, grid_shape, grid_state, stays_of_one_origin};
 
-    ghost shape = { λ x. shape_of x };
+    ghost shape = { λ x. grid_shape x };
 
-    ghost state = { λ x. state_of x };
+    ghost state = { λ x. grid_state x };
 
     ghost same_origin = { λ x y. HaveOneOrigin x y };
 
@@ -127,14 +127,14 @@ impl FlowNet for DualGrid {
 }
 
 impl DualGrid {
-    ghost use Rattle.dual_grid.specs.Answers.{IsAnswer, IsBalanced, IsNearStart};
+    ghost use Rattle.dual_grid.specs.Answers.{AreCertifiedCorrections, IsNearStart};
     ghost use Rattle.dual_grid.specs.Building.{IsOutAcross};
     ghost use Rattle.dual_grid.specs.Layout.{weight_in};
     ghost use Rattle.dual_grid.specs.Nodes.{edges_of};
     ghost use Rattle.flow_network.specs.Nets.{IsNextBelow};
-    ghost use Rattle.dual_grid.specs.Grids.{HasSmallCosts, IsJoined};
-    ghost use Rattle.dual_grid.specs.Starts.{IsAtStart, TellsMask, positive_excess};
-    ghost use Rattle.dual_grid.specs.Views.{IsGridOf, shape_of, state_of};
+    ghost use Rattle.dual_grid.specs.Grids.{HasSmallCosts, IsConnected};
+    ghost use Rattle.dual_grid.specs.Starts.{IsAtStart, TellsMask};
+    ghost use Rattle.dual_grid.specs.Views.{IsGridOf, grid_shape, grid_state};
     ghost use Rattle.raster_model.specs.Raster.{residue};
     ghost use Rattle.raster_model.specs.Scene.{raster_of};
     ghost use Rattle.raster_model.specs.Sums.{Field};
@@ -158,10 +158,10 @@ impl DualGrid {
         requires window { gradients.now.window ≡ window_of scene.now.tiling tile }
         requires count { length unmasked.now ≡ width_of gradients.now.window * height_of gradients.now.window }
         ensures grid { IfOk result (λ grid. IsGridOf scene.now tile unmasked.now grid) }
-        ensures start { IfOk result (λ grid. IsAtStart (residue (raster_of scene.now)) (window_of scene.now.tiling tile) (shape_of grid) (state_of grid)) }
-        ensures small { IfOk result (λ grid. HasSmallCosts (shape_of grid)) }
-        ensures few { IfOk result (λ grid. positive_excess (shape_of grid) (state_of grid) ≤ℤ pos 16129) }
-        ensures joined { IfOk result (λ grid. IsJoined (shape_of grid)) }
+        ensures start { IfOk result (λ grid. IsAtStart (residue (raster_of scene.now)) (window_of scene.now.tiling tile) (grid_shape grid) (grid_state grid)) }
+        ensures small { IfOk result (λ grid. HasSmallCosts (grid_shape grid)) }
+        ensures few { IfOk result (λ grid. total_excess (grid_shape grid) (grid_state grid) ≤ℤ pos 16129) }
+        ensures joined { IfOk result (λ grid. IsConnected (grid_shape grid)) }
     {
         let window = scene.tiling.window(tile);
         let mut weights = right_weights(alloc, scene, window, unmasked)?;
@@ -183,9 +183,9 @@ impl DualGrid {
     /// them. The grid has no excess left. No residual capacity differs by more than 16,129 from that at the start, so
     /// each arc from side to side keeps capacity. It fails only for lack of memory.
     pub fn answer(self, alloc: Global) -> Result<(Corrections, Vec<i64>), AllocError>
-        requires balanced { IsBalanced (shape_of self) (state_of self) }
-        requires near { IsNearStart (shape_of self) (state_of self) }
-        ensures { IfOk result (λ made. (s : SceneOf) (t : ℕ) (unmasked : List Bool) (mask : Field Bool) → IsGridOf s t unmasked self → t < tiles_of s.tiling → TellsMask (window_of s.tiling t) unmasked mask → IsAnswer (raster_of s) mask t (window_of s.tiling t) made.0 made.1.items) }
+        requires balanced { HasNoExcess (grid_shape self) (grid_state self) }
+        requires near { IsNearStart (grid_shape self) (grid_state self) }
+        ensures { IfOk result (λ made. (s : SceneOf) (t : ℕ) (unmasked : List Bool) (mask : Field Bool) → IsGridOf s t unmasked self → t < tiles_of s.tiling → TellsMask (window_of s.tiling t) unmasked mask → AreCertifiedCorrections (raster_of s) mask t (window_of s.tiling t) made.0 made.1.items) }
     {
         let faces = faces(alloc, &self.potentials, outside(self.window))?;
         let mut right = self.flows;
@@ -205,7 +205,7 @@ impl DualGrid {
     fn out_across(&self, edge: u32, node: u32, high: u32) -> Option<u32>
         requires edge { edge < edges_of self.now.window }
         requires high { high ≤ 4 }
-        ensures { IsOutAcross (shape_of self.now) node edge high result }
+        ensures { IsOutAcross (grid_shape self.now) node edge high result }
     {
         let at_first = first_at(self.window, edge) == node;
         let at_other = other_at(self.window, edge) == node;
@@ -217,9 +217,9 @@ impl DualGrid {
 
     /// The greatest arc that starts at a node, among those across the edges with numbers below `edge`.
     fn out_before(&self, edge: u32, node: u32) -> Option<u32>
-        requires node { node < (shape_of self.now).nodes }
+        requires node { node < (grid_shape self.now).nodes }
         requires edge { edge ≤ edges_of self.now.window }
-        ensures { IsNextBelow (shape_of self.now) node (edge * 4) result }
+        ensures { IsNextBelow (grid_shape self.now) node (edge * 4) result }
     {
         match edge_below(self.window, node, edge) {
             Some(before) => self.out_across(before, node, 4),
@@ -229,9 +229,9 @@ impl DualGrid {
 
     /// The greatest arc that starts at a node, among those below `high`.
     fn out_below(&self, node: u32, high: u32) -> Option<u32>
-        requires node { node < (shape_of self.now).nodes }
-        requires high { high ≤ (shape_of self.now).arcs }
-        ensures { IsNextBelow (shape_of self.now) node high result }
+        requires node { node < (grid_shape self.now).nodes }
+        requires high { high ≤ (grid_shape self.now).arcs }
+        ensures { IsNextBelow (grid_shape self.now) node high result }
     {
         let edge = high / 4;
         if high % 4 == 0 {

@@ -1,6 +1,6 @@
-ghost use Rattle.dual_grid.specs.Building.{IsMadeFor, IsSmall};
+ghost use Rattle.dual_grid.specs.Building.{IsMadeFor, IsSmallWindow};
 ghost use Rattle.dual_grid.specs.Nodes.{cells_of};
-ghost use Rattle.dual_grid.specs.Problems.{of_down_edges, of_right_edges};
+ghost use Rattle.dual_grid.specs.Problems.{down_edge_weights, right_edge_weights};
 ghost use Rattle.std.specs.Prelude.{◌*◌, ◌-◌, ◌≤◌, ℕ, IfOk, get_or, pos, unsigned_abs};
 ghost use Rattle.wrapped_gradient.specs.Gradients.{residue_at};
 ghost use Rattle.wrapped_gradient.specs.Rows.{AreInRows};
@@ -19,7 +19,7 @@ pub(crate) fn right_weights(
     unmasked: &[bool],
 ) -> Result<Vec<i32>, AllocError>
     requires { IsMadeFor scene.now window unmasked.now }
-    ensures rows { IfOk result (λ list. AreInRows (of_right_edges scene.now window unmasked.now) window.x0 window.y0 (width_of window - 1) ((width_of window - 1) * height_of window) list.items) }
+    ensures rows { IfOk result (λ list. AreInRows (right_edge_weights scene.now window unmasked.now) window.x0 window.y0 (width_of window - 1) ((width_of window - 1) * height_of window) list.items) }
     ensures small { IfOk result (λ list. (k : ℕ) → unsigned_abs (get_or list.items k (pos 0)) ≤ 65535) }
 {
     let across = (window.x1 - window.x0) as usize;
@@ -42,7 +42,7 @@ pub(crate) fn down_weights(
     unmasked: &[bool],
 ) -> Result<Vec<i32>, AllocError>
     requires { IsMadeFor scene.now window unmasked.now }
-    ensures rows { IfOk result (λ list. AreInRows (of_down_edges scene.now window unmasked.now) window.x0 window.y0 (width_of window) (width_of window * (height_of window - 1)) list.items) }
+    ensures rows { IfOk result (λ list. AreInRows (down_edge_weights scene.now window unmasked.now) window.x0 window.y0 (width_of window) (width_of window * (height_of window - 1)) list.items) }
     ensures small { IfOk result (λ list. (k : ℕ) → unsigned_abs (get_or list.items k (pos 0)) ≤ 65535) }
 {
     let across = (window.x1 - window.x0) as usize + 1;
@@ -59,7 +59,7 @@ pub(crate) fn down_weights(
 
 /// The residues of the cells.
 pub(crate) fn residues(alloc: Global, gradients: &Gradients) -> Result<Vec<i8>, AllocError>
-    requires { IsSmall gradients.now.window }
+    requires { IsSmallWindow gradients.now.window }
     ensures { IfOk result (λ list. AreInRows (residue_at gradients.now) gradients.now.window.x0 gradients.now.window.y0 (gradients.now.window.x1 - gradients.now.window.x0) (cells_of gradients.now.window) list.items) }
 {
     let window = gradients.window();

@@ -1,5 +1,5 @@
 ghost use Rattle.raster_model.specs.Limits.{max_side};
-ghost use Rattle.dual_grid.specs.Building.{IsSmall};
+ghost use Rattle.dual_grid.specs.Building.{IsSmallWindow};
 ghost use Rattle.std.specs.Prelude.{◌<◌};
 
 use crate::checking::{all_cancelled, are_small, down_edges_tight, has_shape, right_edges_tight};
@@ -20,12 +20,12 @@ pub struct Problem {
     pub down: Vec<i32>,
     /// The residues of the cells, in cycles.
     pub residues: Vec<i8>,
-    pub(crate) ghost small: { IsSmall window },
+    pub(crate) ghost small: { IsSmallWindow window },
     pub(crate) ghost within: { (window.x1 < max_side) × (window.y1 < max_side) },
 }
 
 impl Problem {
-    ghost use Rattle.dual_grid.specs.Problems.{Answers, IsProblemOf};
+    ghost use Rattle.dual_grid.specs.Problems.{IsAnsweredBy, IsProblemOf};
     ghost use Rattle.raster_model.specs.Tiles.{tiles_of, window_of, width_of, height_of};
     ghost use Rattle.std.specs.Prelude.{◌≡◌, ◌*◌, ◌<◌, IfOk, IsTrue, length};
     ghost use Rattle.wrapped_gradient.specs.Gradients.{AreGradientsOf};
@@ -58,7 +58,7 @@ impl Problem {
     /// each edge by no more than its weight; if the edge is corrected, they differ by the whole weight. Then no
     /// corrections cost less. (Ahuja, Magnanti and Orlin 1993, section 9.4.)
     pub fn is_answered_by(&self, corrections: &Corrections, faces: &[i64]) -> bool
-        ensures { IsTrue result → Answers self.now corrections.now faces.now }
+        ensures { IsTrue result → IsAnsweredBy self.now corrections.now faces.now }
     {
         if !has_shape(self, corrections, faces) {
             return false;

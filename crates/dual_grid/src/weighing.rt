@@ -1,5 +1,5 @@
 ghost use Rattle.dual_grid.specs.Building.{IsMadeFor};
-ghost use Rattle.dual_grid.specs.Starts.{open_in};
+ghost use Rattle.dual_grid.specs.Starts.{open_in_window};
 ghost use Rattle.raster_model.specs.Raster.{masked_weight};
 ghost use Rattle.raster_model.specs.Scene.{raster_of};
 ghost use Rattle.std.specs.Prelude.{◌≡◌};
@@ -12,7 +12,7 @@ use raster_model::{Edge, Scene, Window, stored_weight};
 pub(crate) fn weight(scene: &Scene, window: Window, unmasked: &[bool], edge: Edge) -> u16
     requires made { IsMadeFor scene.now window unmasked.now }
     requires edge { IsEdgeOf window edge }
-    ensures { result ≡ masked_weight (raster_of scene.now) (open_in window unmasked.now) edge }
+    ensures { result ≡ masked_weight (raster_of scene.now) (open_in_window window unmasked.now) edge }
 {
     let open_start = unmasked[window.place(edge.x, edge.y)];
     let open_end = unmasked[window.place(edge.end_x(), edge.end_y())];

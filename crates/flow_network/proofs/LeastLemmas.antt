@@ -4,9 +4,9 @@ use Rattle.std.specs.Prelude.{◌==◌, ◌&&◌, ℤ, pos, negsuc, neg_ℤ, ◌
 use Rattle.std.proofs.Math.IntN.{zero-*ℤ, *ℤ-zero, pos-*ℤ-pos, negsuc-*ℤ-negsuc}
 use Rattle.std.proofs.lemmas.Int.{ints}
 use Rattle.std.proofs.lemmas.Bool.{cases_Bool, false≢true, ne_eqb}
-use Rattle.flow_network.specs.Nets.{Shape, State, IsArc, IsNetwork, HasReducedCosts, reduced_cost, tail_of}
+use Rattle.flow_network.specs.Nets.{Shape, State, HasNoExcess, IsArc, IsNetwork, HasReducedCosts, reduced_cost, tail_of}
 use Rattle.flow_network.specs.Moves.{IsConserved, out_term, residual_out}
-use Rattle.flow_network.specs.Laws.{HasNoExcess, residual_cost, BalancedIsLeast}
+use Rattle.flow_network.specs.Laws.{residual_cost, BalancedIsLeast}
 use Rattle.flow_network.proofs.RoomLemmas.{sum-not_below}
 use Rattle.flow_network.proofs.PushLemmas.{at_place, reduced_cost-twin}
 use Rattle.sums_and_lists.proofs.SumLemmas.{where_zero, sum_below-add, sum_below-swap, sum_below-times, sum_below-same, sum_below-zeros, sum_below-one, same_tests}

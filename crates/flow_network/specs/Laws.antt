@@ -1,6 +1,6 @@
 -- What the kept facts are for: they stay over pushes and raises, and once no excess is left they say that no flow costs less.
 use Rattle.std.specs.Prelude.{◌≡◌, ◌<◌, ℕ, ℤ, pos, ◌-ℤ◌, ◌*ℤ◌, ◌≤ℤ◌, List}
-use Rattle.flow_network.specs.Nets.{Shape, State, IsArc, IsNetwork, HasReducedCosts, reduced_cost}
+use Rattle.flow_network.specs.Nets.{Shape, State, HasNoExcess, IsArc, IsNetwork, HasReducedCosts, reduced_cost}
 use Rattle.flow_network.specs.Moves.{IsPushed, IsRaised, MayRaise, IsConserved}
 use Rattle.sums_and_lists.specs.Sums.{sum_below, where_true}
 
@@ -11,10 +11,6 @@ PushKeepsNetwork = (s : Shape) (a amount : ℕ) (f g : State) → IsNetwork s �
 -- So after a raise that leaves no arc with capacity left below a reduced cost of 0.
 abbrev pub RaiseKeepsNetwork : Type 0
 RaiseKeepsNetwork = (s : Shape) (amounts : List ℤ) (f g : State) → IsNetwork s → HasReducedCosts s f → MayRaise s f amounts → IsRaised s amounts f g → HasReducedCosts s g × IsConserved s f g
-
--- No excess is left.
-abbrev pub HasNoExcess : Shape → State → Type 0
-HasNoExcess s f = (v : ℕ) → v < s.nodes → f.excess v ≡ pos 0
 
 -- what it would cost to fill all arcs
 abbrev pub residual_cost : Shape → State → ℤ

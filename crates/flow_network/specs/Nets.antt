@@ -1,5 +1,5 @@
 -- Flow networks: their arcs, what flows, and the fact that each network keeps.
-use Rattle.std.specs.Prelude.{◌≡◌, ◌<◌, ◌≤◌, ◌+◌, ℕ, ℤ, pos, neg_ℤ, ◌+ℤ◌, ◌-ℤ◌, ◌≤ℤ◌, Bool, IsTrue, Option, Some, None}
+use Rattle.std.specs.Prelude.{◌≡◌, ◌<◌, ◌≤◌, ◌+◌, ℕ, ℤ, pos, negsuc, neg_ℤ, ◌+ℤ◌, ◌-ℤ◌, ◌≤ℤ◌, Bool, IsTrue, Option, Some, None}
 use Rattle.sums_and_lists.specs.Sums.{sum_below}
 
 -- What no push and no raise changes. Nodes are the numbers below `nodes`; an arc's number is below `arcs`.
@@ -40,6 +40,19 @@ reduced_cost s f a = s.cost a +ℤ f.potential (tail_of s a) -ℤ f.potential (s
 pub record HasReducedCosts (s : Shape) (f : State) : Type 0 where
   pub at_least : (a : ℕ) → IsArc s a → 0 < f.residual a → pos 0 ≤ℤ reduced_cost s f a
   pub even : sum_below s.nodes f.excess ≡ pos 0
+
+-- no node has an excess or a deficit
+abbrev pub HasNoExcess : Shape → State → Type 0
+HasNoExcess s f = (v : ℕ) → v < s.nodes → f.excess v ≡ pos 0
+
+-- the number, or 0 if it is below 0
+abbrev pub positive_part : ℤ → ℤ
+positive_part (pos n) = pos n
+positive_part (negsuc n) = pos 0
+
+-- the sum of the positive excesses
+abbrev pub total_excess : Shape → State → ℤ
+total_excess s f = sum_below s.nodes (λ v. positive_part (f.excess v))
 
 -- Arcs out of a node are met from the greatest number down.
 -- No arc that starts at v has a number from `low` on and below `high`.

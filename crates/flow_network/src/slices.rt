@@ -39,6 +39,7 @@ pub fn carry(values: &mut Vec<i64>, from: usize, to: usize, amount: u64)
     ensures carried { (v : ℕ) → get_or values.new.items v (pos 0) ≡ get_or values.old.items v (pos 0) -ℤ where_true (v == from) (pos amount) +ℤ where_true (v == to) (pos amount) }
 {
     let signed = amount as i64;
+    // The range of a number is known to the proof once it is read.
     let _from = values[from];
     let _to = values[to];
     add_at(values, from, -signed);

@@ -11,7 +11,7 @@ use Rattle.raster_model.specs.Scripts.{rect_of}
 use Rattle.raster_model.specs.Sums.{Field}
 use Rattle.raster_model.specs.Tiles.{tiles_of}
 use Rattle.mask_revisions.specs.Edits.{has_pixel, opens, edited, mask_after, mask_at, differ_in, last_up_to, changes_at, stamp_of}
-use Rattle.mask_revisions.specs.Revisions.{AreRevisionsOf, IsPushed, AreChanged}
+use Rattle.mask_revisions.specs.Revisions.{AreRevisionsOf, AddsEdit, AreChanged}
 use Rattle.mask_revisions.specs.RevisionsView.{RevisionsView}
 use Rattle.mask_revisions.specs.Steps.{AreStamped}
 use Rattle.mask_revisions.proofs.Differences.{differ_same}
@@ -72,7 +72,7 @@ begins first g stamps n w h few e = record {
   stamps = λ t l. rw e (get_or-replicate n t 0 0 (omega arith));
 }
 
-pub next_are : (first : Field Bool) (es : List Edit) (e : Edit) (old new : RevisionsView) → AreRevisionsOf first es old → IsPushed old new e → AreRevisionsOf first (es ++ (e ∷ [])) new
+pub next_are : (first : Field Bool) (es : List Edit) (e : Edit) (old new : RevisionsView) → AreRevisionsOf first es old → AddsEdit old new e → AreRevisionsOf first (es ++ (e ∷ [])) new
 next_are first es e old new is push = record {
   mask = record {
     width = push.mask.width ∙ width;
@@ -136,7 +136,7 @@ stamps_are g old new before after tiles s changed stamped t l = go (differ_in g 
 pub now_changed : (mask mask' : MaskView) (g : Tiling) (tiles : List ℕ) (e : Edit) → mask.width ≡ g.width → mask.height ≡ g.height → IsMaskOf mask' mask.width mask.height (edited e (open_at mask)) → AreChanged g (open_at mask) (edited e (open_at mask)) tiles → AreChanged g (open_at mask) (open_at mask') tiles
 now_changed mask mask' g tiles e w h is changed = changed_same g (open_at mask) (edited e (open_at mask)) (open_at mask') tiles (λ x y l m. sym (is.clear_at x y (rw w l) (rw h m))) changed
 
-pub pushed_is : (mask mask' : MaskView) (g : Tiling) (stamps stamps' tiles : List ℕ) (count : ℕ) (e : Edit) → mask.width ≡ g.width → mask.height ≡ g.height → IsMaskOf mask' mask.width mask.height (edited e (open_at mask)) → AreChanged g (open_at mask) (edited e (open_at mask)) tiles → AreStamped stamps stamps' tiles (length tiles) (count + 1) → IsPushed (record { mask = mask; tiling = g; stamps = stamps; count = count }) (record { mask = mask'; tiling = g; stamps = stamps'; count = count + 1 }) e
+pub pushed_is : (mask mask' : MaskView) (g : Tiling) (stamps stamps' tiles : List ℕ) (count : ℕ) (e : Edit) → mask.width ≡ g.width → mask.height ≡ g.height → IsMaskOf mask' mask.width mask.height (edited e (open_at mask)) → AreChanged g (open_at mask) (edited e (open_at mask)) tiles → AreStamped stamps stamps' tiles (length tiles) (count + 1) → AddsEdit (record { mask = mask; tiling = g; stamps = stamps; count = count }) (record { mask = mask'; tiling = g; stamps = stamps'; count = count + 1 }) e
 pushed_is mask mask' g stamps stamps' tiles count e w h is changed stamped = record {
   tiling = refl;
   mask = record {

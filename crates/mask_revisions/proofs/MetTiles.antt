@@ -10,11 +10,11 @@ use Rattle.raster_model.specs.declared.script.Rect.{Rect}
 use Rattle.raster_model.specs.declared.tiling.Tiling.{Tiling}
 use Rattle.raster_model.specs.Scripts.{IsRectIn, rect_of}
 use Rattle.raster_model.specs.Sums.{Field}
-use Rattle.raster_model.specs.Tiles.{columns_of, tile_at}
+use Rattle.raster_model.specs.Tiles.{columns_of_tiles, tile_at}
 use Rattle.raster_model.proofs.TileLemmas.{block_below, tiles_are_numbered}
 use Rattle.mask_revisions.specs.Edits.{differ_in, edited, has_pixel, opens}
 use Rattle.mask_revisions.specs.Revisions.{AreChanged, AreMet, Meets}
-use Rattle.mask_revisions.specs.Steps.{AreListed, count_met, met_across, met_tile}
+use Rattle.mask_revisions.specs.Steps.{AreListedTiles, count_met, met_across, met_tile}
 use Rattle.mask_revisions.proofs.Differences.{box_has, box_says, chosen, differ_tells}
 use Rattle.sums_and_lists.proofs.Orders.{below_or_last}
 use Rattle.sums_and_lists.proofs.Tests.{true_and_false}
@@ -82,8 +82,8 @@ module _ (g : Tiling) (r : Rect) (is : IsRectIn g.width g.height r) where
 
   met_rises : (j k : ℕ) → j < k → met_tile g r j < met_tile g r k
   met_rises j k l = elim (next_place j k (met_across g r) across l) [
-    | inl h ↦ later_row (r.y0 / g.side + j / met_across g r) (r.y0 / g.side + k / met_across g r) (r.x0 / g.side + j % met_across g r) (r.x0 / g.side + k % met_across g r) (columns_of g) (omega arith) (omega (arith, met_column j, block_below r.x1 g.width g.side side is.1))
-    | inr h ↦ (let e : (r.y0 / g.side + j / met_across g r) * columns_of g ≡ (r.y0 / g.side + k / met_across g r) * columns_of g = ap (λ (n : ℕ). (r.y0 / g.side + n) * columns_of g) h.0 in omega (arith, e, h.1))
+    | inl h ↦ later_row (r.y0 / g.side + j / met_across g r) (r.y0 / g.side + k / met_across g r) (r.x0 / g.side + j % met_across g r) (r.x0 / g.side + k % met_across g r) (columns_of_tiles g) (omega arith) (omega (arith, met_column j, block_below r.x1 g.width g.side side is.1))
+    | inr h ↦ (let e : (r.y0 / g.side + j / met_across g r) * columns_of_tiles g ≡ (r.y0 / g.side + k / met_across g r) * columns_of_tiles g = ap (λ (n : ℕ). (r.y0 / g.side + n) * columns_of_tiles g) h.0 in omega (arith, e, h.1))
   ]
 
   met_up : (j k : ℕ) → j ≤ k → met_tile g r j ≤ met_tile g r k
@@ -106,7 +106,7 @@ module _ (g : Tiling) (r : Rect) (is : IsRectIn g.width g.height r) where
       let l : a * n + b < n * (r.y1 / g.side - r.y0 / g.side + 1) = mul-add-lt a n b (r.y1 / g.side - r.y0 / g.side + 1) (omega (arith, hy, ly)) m in
       let row : r.y0 / g.side + (a * n + b) / n ≡ y / g.side = omega (arith, div-mul-add a n b m, ly) in
       let column : r.x0 / g.side + (a * n + b) % n ≡ x / g.side = omega (arith, mod-mul-add a n b m, lx) in
-      (a * n + b, omega (arith, l), ap₂ (λ (i j : ℕ). i * columns_of g + j) row column)
+      (a * n + b, omega (arith, l), ap₂ (λ (i j : ℕ). i * columns_of_tiles g + j) row column)
 
   -- a pixel of the box lies in each of them
   pub met_meets : (k : ℕ) → k < count_met g r → Meets g r (met_tile g r k)
@@ -117,7 +117,7 @@ module _ (g : Tiling) (r : Rect) (is : IsRectIn g.width g.height r) where
       let y = max (d * g.side) r.y0 in
       let p : c * g.side ≤ r.x1 = div_start c r.x1 g.side (met_column k) in
       let q : d * g.side ≤ r.y1 = div_start d r.y1 g.side (met_row k l) in
-      (x, y, omega (arith, p, is), omega (arith, q, is), box_has r x y (omega arith) (omega (arith, p, is)) (omega arith) (omega (arith, q, is)), ap₂ (λ (i j : ℕ). i * columns_of g + j) (div_from d r.y0 g.side side (omega arith)) (div_from c r.x0 g.side side (omega arith)))
+      (x, y, omega (arith, p, is), omega (arith, q, is), box_has r x y (omega arith) (omega (arith, p, is)) (omega arith) (omega (arith, q, is)), ap₂ (λ (i j : ℕ). i * columns_of_tiles g + j) (div_from d r.y0 g.side side (omega arith)) (div_from c r.x0 g.side side (omega arith)))
 
   -- ---- which tiles of the box's pixels come before one of them
   met_of : (x y : ℕ) → IsTrue (has_pixel r x y) → (k : ℕ) × (k < count_met g r) × (met_tile g r k ≡ tile_at g x y)
@@ -140,14 +140,14 @@ module _ (g : Tiling) (r : Rect) (is : IsRectIn g.width g.height r) where
 
   -- ---- a list of those that pass a test
   module _ (p : ℕ → Bool) where
-    pub listed_none : AreListed g r p 0 []
+    pub listed_none : AreListedTiles g r p 0 []
     listed_none = record {
       rising = λ i j l m. absurd (omega arith);
       each = λ i l. absurd (omega arith);
       all = λ j l t. absurd (omega arith);
     }
 
-    pub listed_without : (k : ℕ) (ts : List ℕ) → AreListed g r p k ts → p (met_tile g r k) ≡ false → AreListed g r p (k + 1) ts
+    pub listed_without : (k : ℕ) (ts : List ℕ) → AreListedTiles g r p k ts → p (met_tile g r k) ≡ false → AreListedTiles g r p (k + 1) ts
     listed_without k ts is f = record {
       rising = is.rising;
       each = λ i l. (let u = is.each i l in (u.0, omega (arith, u.1), u.2, u.3));
@@ -157,7 +157,7 @@ module _ (g : Tiling) (r : Rect) (is : IsRectIn g.width g.height r) where
       ];
     }
 
-    pub listed_with : (k : ℕ) (ts : List ℕ) → AreListed g r p k ts → IsTrue (p (met_tile g r k)) → AreListed g r p (k + 1) (ts ++ (met_tile g r k ∷ []))
+    pub listed_with : (k : ℕ) (ts : List ℕ) → AreListedTiles g r p k ts → IsTrue (p (met_tile g r k)) → AreListedTiles g r p (k + 1) (ts ++ (met_tile g r k ∷ []))
     listed_with k ts is t = record {
       rising = λ i j l m. elim (below_or_last j (length ts) (omega (arith, m, count))) [
         | inl h ↦ rw (old i (omega arith), old j h) (is.rising i j l h)
@@ -183,7 +183,7 @@ module _ (g : Tiling) (r : Rect) (is : IsRectIn g.width g.height r) where
         new = get_or_push ts (met_tile g r k) 0 (length ts) refl
 
   -- ---- all of them
-  pub met_all : (ts : List ℕ) → AreListed g r (λ t. true) (count_met g r) ts → AreMet g r ts
+  pub met_all : (ts : List ℕ) → AreListedTiles g r (λ t. true) (count_met g r) ts → AreMet g r ts
   met_all ts l = record {
     rising = l.rising;
     exist = λ i m. (let n = at i m in let t = tiles_are_numbered g n.0 n.1 n.2 n.3 in omega (arith, t, n.5));
@@ -196,7 +196,7 @@ module _ (g : Tiling) (r : Rect) (is : IsRectIn g.width g.height r) where
 
   -- ---- the tiles in which an edit changes a pixel
   module _ (mask : Field Bool) (e : Edit) (same : r ≡ rect_of e) where
-    pub listed_all : (ts : List ℕ) → AreListed g r (differ_in g mask (edited e mask)) (count_met g r) ts → AreChanged g mask (edited e mask) ts
+    pub listed_all : (ts : List ℕ) → AreListedTiles g r (differ_in g mask (edited e mask)) (count_met g r) ts → AreChanged g mask (edited e mask) ts
     listed_all ts l = record {
       rising = l.rising;
       exist = λ i m. (

@@ -17,7 +17,7 @@ pub record AreRevisionsOf (first : Field Bool) (edits : List Edit) (v : Revision
   pub stamps : (t : ℕ) → t < tiles_of v.tiling → slice_index v.stamps t ≡ stamp_of v.tiling first edits t
 
 -- one more edit was applied: the count rose, and the tiles that changed have the new one as their stamp
-pub record IsPushed (old new : RevisionsView) (e : Edit) : Type 0 where
+pub record AddsEdit (old new : RevisionsView) (e : Edit) : Type 0 where
   pub tiling : new.tiling ≡ old.tiling
   pub mask : IsMaskOf new.mask old.tiling.width old.tiling.height (edited e (open_at old.mask))
   pub count : new.count ≡ old.count + 1

@@ -7,7 +7,7 @@ use Rattle.raster_model.specs.MaskView.{MaskView}
 use Rattle.raster_model.specs.Masks.{open_at}
 use Rattle.raster_model.specs.Scripts.{IsRectIn, rect_of}
 use Rattle.raster_model.specs.Sums.{Field}
-use Rattle.raster_model.specs.Tiles.{columns_of, tile_at}
+use Rattle.raster_model.specs.Tiles.{columns_of_tiles, tile_at}
 use Rattle.mask_revisions.specs.Edits.{has_pixel, opens}
 
 -- the box from (x0, y0) to before column x1 and row y1 has the pixel
@@ -44,10 +44,10 @@ abbrev pub count_met : Tiling → Rect → ℕ
 count_met g r = (r.y1 / g.side - r.y0 / g.side + 1) * met_across g r
 
 abbrev pub met_tile : Tiling → Rect → ℕ → ℕ
-met_tile g r k = (r.y0 / g.side + k / met_across g r) * columns_of g + (r.x0 / g.side + k % met_across g r)
+met_tile g r k = (r.y0 / g.side + k / met_across g r) * columns_of_tiles g + (r.x0 / g.side + k % met_across g r)
 
 -- the list has those of the first k of them that pass a test, in order
-pub record AreListed (g : Tiling) (r : Rect) (p : ℕ → Bool) (k : ℕ) (tiles : List ℕ) : Type 0 where
+pub record AreListedTiles (g : Tiling) (r : Rect) (p : ℕ → Bool) (k : ℕ) (tiles : List ℕ) : Type 0 where
   pub rising : (i j : ℕ) → i < j → j < length tiles → slice_index tiles i < slice_index tiles j
   pub each : (i : ℕ) → i < length tiles → (j : ℕ) × (j < k) × (slice_index tiles i ≡ met_tile g r j) × IsTrue (p (met_tile g r j))
   pub all : (j : ℕ) → j < k → IsTrue (p (met_tile g r j)) → (i : ℕ) × (i < length tiles) × (slice_index tiles i ≡ met_tile g r j)

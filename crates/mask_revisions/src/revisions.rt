@@ -33,7 +33,7 @@ impl Model for Revisions {
 }
 
 impl Revisions {
-    ghost use Rattle.mask_revisions.specs.Revisions.{AreChanged, AreRevisionsOf, IsPushed, IsWindowMask};
+    ghost use Rattle.mask_revisions.specs.Revisions.{AreChanged, AreRevisionsOf, AddsEdit, IsWindowMask};
     ghost use Rattle.raster_model.specs.Masks.{open_at};
     ghost use Rattle.raster_model.specs.Scripts.{IsRectIn, rect_of};
     ghost use Rattle.raster_model.specs.Sums.{Field};
@@ -58,16 +58,18 @@ impl Revisions {
         })
     }
 
-    /// Applies an edit, which makes the next revision, and answers the tiles in which a pixel changed, in order.
-    /// If memory is short, nothing changes.
+    /// Applies an edit, which makes the next revision, and answers the tiles in which a pixel changed, in order. It fails
+    /// for lack of memory, also if there is no number left for a revision; then nothing changes.
     pub fn push(&mut self, alloc: Global, edit: Edit) -> Result<Vec<u32>, AllocError>
         requires rect { IsRectIn self.old.tiling.width self.old.tiling.height (rect_of edit) }
-        requires room { self.old.count + 1 < 2 ^ 32 }
         ensures refused { OnErr result (self.new ≡ self.old) }
-        ensures pushed { OnOk result (IsPushed self.old self.new edit) }
+        ensures pushed { OnOk result (AddsEdit self.old self.new edit) }
         ensures next { OnOk result ((first : Field Bool) (edits : List Change) → AreRevisionsOf first edits self.old → AreRevisionsOf first (edits ++ edit ∷ []) self.new) }
         ensures changed { IfOk result (λ tiles. AreChanged self.old.tiling (open_at self.old.mask) (open_at self.new.mask) tiles.items) }
     {
+        if self.count == u32::MAX {
+            return Err(AllocError);
+        }
         let met = count_met(&self.tiling, edit);
         let mut tiles = Vec::with_capacity(alloc, met as usize)?;
         set_tiles(&mut self.mask, &self.tiling, edit, &mut tiles);

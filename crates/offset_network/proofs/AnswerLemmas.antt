@@ -5,7 +5,7 @@ use Rattle.std.proofs.lemmas.Int.{ints}
 use Rattle.std.proofs.lemmas.List.{length-append}
 use Rattle.flow_network.specs.Nets.{State}
 use Rattle.offset_guess.specs.declared.link.Link.{Link}
-use Rattle.offset_network.specs.Networks.{AreFlows, AreLowered, flow_of}
+use Rattle.offset_network.specs.Networks.{AreFlows, AreLowered, link_flow}
 use Rattle.sums_and_lists.proofs.Lists.{longer}
 
 -- what is left of an arc is at most what it shares with its twin
@@ -19,10 +19,10 @@ flow_is w p x l m e = (omega (arith, ints, m), omega (arith, ints, l, m, e), ome
 pub flows_none : (links : List (Option Link)) (f : State) (zs : List ℤ) → zs ≡ [] → AreFlows links f 0 zs
 flows_none links f zs e = record { count = ap length e; values = λ j l. absurd (omega (arith, l)) }
 
-pub flows_more : (links : List (Option Link)) (f : State) (i : ℕ) (zs : List ℤ) (z : ℤ) → z ≡ flow_of links f i → AreFlows links f i zs → AreFlows links f (i + 1) (zs ++ z ∷ [])
+pub flows_more : (links : List (Option Link)) (f : State) (i : ℕ) (zs : List ℤ) (z : ℤ) → z ≡ link_flow links f i → AreFlows links f i zs → AreFlows links f (i + 1) (zs ++ z ∷ [])
 flows_more links f i zs z e h = record {
   count = omega (arith, length-append zs (z ∷ []), h.count);
-  values = longer (flow_of links f) i zs z h.count h.values e;
+  values = longer (link_flow links f) i zs z h.count h.values e;
 }
 
 pub lowered_more : (f : State) (by : ℤ) (n : ℕ) (zs : List ℤ) (z : ℤ) → z ≡ f.potential n -ℤ by → AreLowered f by n zs → AreLowered f by (n + 1) (zs ++ z ∷ [])

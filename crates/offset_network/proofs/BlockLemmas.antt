@@ -8,7 +8,7 @@ use Rattle.shortest_augment.specs.Balance.{IsBlocked}
 use Rattle.shortest_augment.proofs.CallerLemmas.{blocked_excess, contains-is_in, is_in, is_in-contains}
 use Rattle.offset_guess.specs.declared.link.Link.{Link}
 use Rattle.offset_network.specs.Links.{AreLinks, IsLink, arcs_before, brings, link_at}
-use Rattle.offset_network.specs.Networks.{HasArcs, HasFlows, flow_left, flow_of}
+use Rattle.offset_network.specs.Networks.{HasArcs, HasFlows, flow_left, link_flow}
 use Rattle.offset_network.proofs.FlowLemmas.{first_is_arc, first_tail, twin_is_arc, twin_tail}
 use Rattle.sums_and_lists.proofs.Tests.{true_and_false}
 use Rattle.sums_and_lists.specs.Sums.{sum_below, where_true}
@@ -76,7 +76,7 @@ module _ (n : ℕ) (links : List (Option Link)) (s : Shape) (g : State) (net : I
   pub never_blocked : ⊥
   never_blocked =
       let m = length links in
-      let at = λ (v j : ℕ). brings (link_at links j) v (flow_of links g j) in
+      let at = λ (v j : ℕ). brings (link_at links j) v (link_flow links g j) in
       let held = blocked_excess s g names b in
       let raster = ap (λ (k : ℕ). sum_below k (λ v. where_true (inside v) (g.excess v))) h.nodes in
       let terms : sum_below n (λ v. where_true (inside v) (g.excess v)) ≡ sum_below n (λ v. sum_below m (λ j. where_true (inside v) (at v j))) =
@@ -84,6 +84,6 @@ module _ (n : ℕ) (links : List (Option Link)) (s : Shape) (g : State) (net : I
       let swap = sum_grid-swap m n (λ j v. where_true (inside v) (at v j)) in
       let all : sum_below m (λ j. sum_below n (λ v. where_true (inside v) (at v j))) ≤ℤ sum_below m (λ j. pos 0) =
       sum_below-le m (λ j. sum_below n (λ v. where_true (inside v) (at v j))) (λ j. pos 0)
-      (λ j l. rw (brings_in_sum n inside (link_at links j) (flow_of links g j) (are.each j)) (link_brings j l (link_at links j) refl)) in
+      (λ j l. rw (brings_in_sum n inside (link_at links j) (link_flow links g j) (are.each j)) (link_brings j l (link_at links j) refl)) in
       let zero = sum_below-zeros m (λ j. pos 0) (λ j l. refl) in
       omega (arith, ints, held, raster, terms, swap, all, zero)

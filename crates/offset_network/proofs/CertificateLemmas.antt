@@ -3,7 +3,7 @@ use Rattle.std.proofs.Common.{◌≡◌, ℕ, zero, suc, ◌+◌, ◌*◌, ◌<�
 use Rattle.std.specs.Prelude.{ℤ, pos, negsuc, neg_ℤ, ◌+ℤ◌, ◌-ℤ◌, ◌*ℤ◌, ◌≤ℤ◌, ◌&&◌, ◌==◌, IsTrue, Option, Some, None, unsigned_abs}
 use Rattle.std.proofs.lemmas.Int.{ints}
 use Rattle.raster_model.specs.declared.edge.Edge.{Edge}
-use Rattle.raster_model.specs.Sums.{Field, at_end, at_start, end_x, end_y, is_edge}
+use Rattle.raster_model.specs.Sums.{Field, at_edge_end, at_edge_start, end_x, end_y, is_edge}
 use Rattle.raster_model.specs.Raster.{Raster, cycle_departure, departure, has_open_ends, is_seam, lifted, masked_weight, seam_cost}
 use Rattle.raster_model.specs.Flows.{AreCertifiedSeams, flow_at, is_seam_edge, seam_count, seam_place}
 use Rattle.raster_model.specs.Seams.{AreRegions, flow_in, flow_out, flow_total, region_of}
@@ -13,7 +13,7 @@ use Rattle.raster_model.proofs.SumLemmas.{sum_edges-same}
 use Rattle.flow_network.specs.Nets.{IsNetwork, Shape, State, reduced_cost, tail_of}
 use Rattle.offset_guess.specs.declared.link.Link.{Link}
 use Rattle.offset_network.specs.Links.{arcs_before, brings, link_at}
-use Rattle.offset_network.specs.Networks.{AreFlows, IsArcOf, IsSolved, flow_left, flow_of}
+use Rattle.offset_network.specs.Networks.{AreFlows, IsArcOf, IsSolved, flow_left, link_flow}
 use Rattle.offset_network.specs.Seams.{AreSeamLinks, link_of}
 use Rattle.offset_network.proofs.FlowLemmas.{arc_is, first_is_arc, first_tail, twin_is_arc, twin_tail}
 use Rattle.offset_network.proofs.PlaceLemmas.{ends_in}
@@ -89,7 +89,7 @@ module _ (r : Raster) (mask : Field Bool) (labels : Field ℕ) (n : ℕ) (base :
 
   -- the link of a seam edge with open ends
   abbrev link_there : Edge → Link
-  link_there e = record { from = at_start labels e; to = at_end labels e; weight = r.weight e; departure = cycle_departure r base e }
+  link_there e = record { from = at_edge_start labels e; to = at_edge_end labels e; weight = r.weight e; departure = cycle_departure r base e }
 
   open_link : (e : Edge) → has_open_ends mask e ≡ true → link_of r mask labels base e ≡ Some (link_there e)
   open_link e o = rw o refl
@@ -109,7 +109,7 @@ module _ (r : Raster) (mask : Field Bool) (labels : Field ℕ) (n : ℕ) (base :
   arc_there : (e : Edge) → IsTrue (is_seam_edge r e) → has_open_ends mask e ≡ true → IsArcOf z g (arcs_before links (seam_place r e)) (link_there e)
   arc_there e s o = arc_is n links z g net solved.built (seam_place r e) (link_there e) (seams.each e s).below (placed e s o)
 
-  flow_of_place : (e : Edge) → IsTrue (is_seam_edge r e) → flow_of links g (seam_place r e) ≡ flow e
+  flow_of_place : (e : Edge) → IsTrue (is_seam_edge r e) → link_flow links g (seam_place r e) ≡ flow e
   flow_of_place e s = sym (flow_is e s ∙ ap (λ (o : Option Link). flow_left o (residual_at e)) (sym (seams.each e s).link))
 
   -- ---- no flow is greater than its weight
@@ -122,44 +122,44 @@ module _ (r : Raster) (mask : Field Bool) (labels : Field ℕ) (n : ℕ) (base :
 
   -- ---- as much flows into a region as out of it
   abbrev ends_at : ℕ → ℕ → ℤ
-  ends_at v i = ends (link_at links i) v (flow_of links g i)
+  ends_at v i = ends (link_at links i) v (link_flow links g i)
 
   abbrev starts_at : ℕ → ℕ → ℤ
-  starts_at v i = starts (link_at links i) v (flow_of links g i)
+  starts_at v i = starts (link_at links i) v (link_flow links g i)
 
   flow_in-places : (v : ℕ) → flow_in r flow (region_of mask labels v) ≡ sum_below (seam_count r) (ends_at v)
   flow_in-places v =
       let region = region_of mask labels v in
-      sum_edges-same r.width r.height (λ e. where_true (is_seam r e && at_end region e) (flow e)) (λ e. where_true (is_seam r e) (where_true (at_end region e) (flow e))) (λ e i. where_both (is_seam r e) (at_end region e) (flow e))
-      ∙ sum_at_places r (λ e. where_true (at_end region e) (flow e)) (ends_at v) (λ e s. at e s (has_open_ends mask e) refl)
+      sum_edges-same r.width r.height (λ e. where_true (is_seam r e && at_edge_end region e) (flow e)) (λ e. where_true (is_seam r e) (where_true (at_edge_end region e) (flow e))) (λ e i. where_both (is_seam r e) (at_edge_end region e) (flow e))
+      ∙ sum_at_places r (λ e. where_true (at_edge_end region e) (flow e)) (ends_at v) (λ e s. at e s (has_open_ends mask e) refl)
     where
-      at : (e : Edge) → IsTrue (is_seam_edge r e) → (b : Bool) → has_open_ends mask e ≡ b → ends_at v (seam_place r e) ≡ where_true (at_end (region_of mask labels v) e) (flow e)
+      at : (e : Edge) → IsTrue (is_seam_edge r e) → (b : Bool) → has_open_ends mask e ≡ b → ends_at v (seam_place r e) ≡ where_true (at_edge_end (region_of mask labels v) e) (flow e)
       at e s true o =
           let is = ap₂ (λ (k : Option Link) (x : ℤ). ends k v x) (placed e s o) (flow_of_place e s) in
-          is ∙ open_term (at_start mask e) (at_end mask e) (at_end labels e == v) (flow e) o
+          is ∙ open_term (at_edge_start mask e) (at_edge_end mask e) (at_edge_end labels e == v) (flow e) o
       at e s false o =
           let is = ap₂ (λ (k : Option Link) (x : ℤ). ends k v x) ((seams.each e s).link ∙ masked_link e o) (flow_of_place e s) in
-          is ∙ sym (where_zero (at_end (region_of mask labels v) e) (flow e) (masked_flow e s o))
+          is ∙ sym (where_zero (at_edge_end (region_of mask labels v) e) (flow e) (masked_flow e s o))
 
   flow_out-places : (v : ℕ) → flow_out r flow (region_of mask labels v) ≡ sum_below (seam_count r) (starts_at v)
   flow_out-places v =
       let region = region_of mask labels v in
-      sum_edges-same r.width r.height (λ e. where_true (is_seam r e && at_start region e) (flow e)) (λ e. where_true (is_seam r e) (where_true (at_start region e) (flow e))) (λ e i. where_both (is_seam r e) (at_start region e) (flow e))
-      ∙ sum_at_places r (λ e. where_true (at_start region e) (flow e)) (starts_at v) (λ e s. at e s (has_open_ends mask e) refl)
+      sum_edges-same r.width r.height (λ e. where_true (is_seam r e && at_edge_start region e) (flow e)) (λ e. where_true (is_seam r e) (where_true (at_edge_start region e) (flow e))) (λ e i. where_both (is_seam r e) (at_edge_start region e) (flow e))
+      ∙ sum_at_places r (λ e. where_true (at_edge_start region e) (flow e)) (starts_at v) (λ e s. at e s (has_open_ends mask e) refl)
     where
-      at : (e : Edge) → IsTrue (is_seam_edge r e) → (b : Bool) → has_open_ends mask e ≡ b → starts_at v (seam_place r e) ≡ where_true (at_start (region_of mask labels v) e) (flow e)
+      at : (e : Edge) → IsTrue (is_seam_edge r e) → (b : Bool) → has_open_ends mask e ≡ b → starts_at v (seam_place r e) ≡ where_true (at_edge_start (region_of mask labels v) e) (flow e)
       at e s true o =
           let is = ap₂ (λ (k : Option Link) (x : ℤ). starts k v x) (placed e s o) (flow_of_place e s) in
-          is ∙ open_term_first (at_start mask e) (at_end mask e) (at_start labels e == v) (flow e) o
+          is ∙ open_term_first (at_edge_start mask e) (at_edge_end mask e) (at_edge_start labels e == v) (flow e) o
       at e s false o =
           let is = ap₂ (λ (k : Option Link) (x : ℤ). starts k v x) ((seams.each e s).link ∙ masked_link e o) (flow_of_place e s) in
-          is ∙ sym (where_zero (at_start (region_of mask labels v) e) (flow e) (masked_flow e s o))
+          is ∙ sym (where_zero (at_edge_start (region_of mask labels v) e) (flow e) (masked_flow e s o))
 
   balanced_at : (v : ℕ) → v < n → flow_in r flow (region_of mask labels v) ≡ flow_out r flow (region_of mask labels v)
   balanced_at v l =
       let m = length links in
-      let at = λ (i : ℕ). brings (link_at links i) v (flow_of links g i) in
-      let parts = sum_below-same m (λ i. at i +ℤ starts_at v i) (ends_at v) (λ i k. brings-parts (link_at links i) v (flow_of links g i)) in
+      let at = λ (i : ℕ). brings (link_at links i) v (link_flow links g i) in
+      let parts = sum_below-same m (λ i. at i +ℤ starts_at v i) (ends_at v) (λ i k. brings-parts (link_at links i) v (link_flow links g i)) in
       let none : g.excess v ≡ pos 0 = solved.balanced v (omega (arith, l, solved.built.nodes)) in
       let count : seam_count r ≡ m = sym seams.count in
       let inside = flow_in-places v ∙ ap (λ (k : ℕ). sum_below k (ends_at v)) count in
@@ -168,11 +168,11 @@ module _ (r : Raster) (mask : Field Bool) (labels : Field ℕ) (n : ℕ) (base :
 
   -- ---- flow times departure is the cost, where the regions' offsets are the potentials lowered by a number
   module _ (cycles : Field ℤ) (by : ℤ) (moved : (x y : ℕ) → x < r.width → y < r.height → IsTrue (mask x y) → cycles x y ≡ base x y +ℤ (g.potential (labels x y) -ℤ by)) where
-    departs : (e : Edge) → IsTrue (is_seam_edge r e) → has_open_ends mask e ≡ true → departure r (lifted r cycles) e ≡ cycle_departure r base e +ℤ g.potential (at_end labels e) -ℤ g.potential (at_start labels e)
+    departs : (e : Edge) → IsTrue (is_seam_edge r e) → has_open_ends mask e ≡ true → departure r (lifted r cycles) e ≡ cycle_departure r base e +ℤ g.potential (at_edge_end labels e) -ℤ g.potential (at_edge_start labels e)
     departs e s o =
         let t = ends_in r e s in
-        let from = moved e.x e.y t.0 t.1 (and_first (at_start mask e) (at_end mask e) o) in
-        let to = moved (end_x e) (end_y e) t.2 t.3 (and_second (at_start mask e) (at_end mask e) o) in
+        let from = moved e.x e.y t.0 t.1 (and_first (at_edge_start mask e) (at_edge_end mask e) o) in
+        let to = moved (end_x e) (end_y e) t.2 t.3 (and_second (at_edge_start mask e) (at_edge_end mask e) o) in
         cycles_depart r cycles e ∙ omega (arith, ints, from, to)
 
     edge_equal : (e : Edge) → IsTrue (is_seam_edge r e) → has_open_ends mask e ≡ true → flow e *ℤ departure r (lifted r cycles) e ≡ pos (masked_weight r mask e * unsigned_abs (departure r (lifted r cycles) e))

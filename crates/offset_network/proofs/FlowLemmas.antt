@@ -6,7 +6,7 @@ use Rattle.flow_network.specs.Nets.{Shape, State, IsArc, IsNetwork, tail_of}
 use Rattle.flow_network.specs.Moves.{IsConserved, out_term, residual_out}
 use Rattle.offset_guess.specs.declared.link.Link.{Link}
 use Rattle.offset_network.specs.Links.{arcs_before, brings, link_at, start_flow}
-use Rattle.offset_network.specs.Networks.{HasArcs, HasFlows, IsArcOf, IsStarted, flow_left, flow_of, supply_of}
+use Rattle.offset_network.specs.Networks.{HasArcs, HasFlows, IsArcOf, IsStarted, flow_left, link_flow, supply_of}
 use Rattle.offset_network.proofs.LinkLemmas.{both_arcs, sum_arcs}
 use Rattle.sums_and_lists.specs.Sums.{sum_below, where_true}
 use Rattle.sums_and_lists.proofs.SumLemmas.{sum_below-add, sum_below-same}
@@ -85,7 +85,7 @@ module _ (n : ℕ) (links : List (Option Link)) (s : Shape) (f g : State) (net :
   has_flows v l =
       let m = length links in
       let start = λ (j : ℕ). brings (link_at links j) v (start_flow (link_at links j)) in
-      let now = λ (j : ℕ). brings (link_at links j) v (flow_of links g j) in
+      let now = λ (j : ℕ). brings (link_at links j) v (link_flow links g j) in
       let sums = sum_below-same m (λ j. start j +ℤ left_at links g v j) (λ j. now j +ℤ left_at links f v j) (λ j d. at v j d (link_at links j) refl (h.flows j d)) in
       let kept = same.nodes v (omega (arith, l, h.built.nodes)) in
       omega (arith, ints, kept, h.excess v l, sums, sum_below-add m start (left_at links g v), sum_below-add m now (left_at links f v), residual_out-links n links s f net h.built v, residual_out-links n links s g net arcs_stay v)

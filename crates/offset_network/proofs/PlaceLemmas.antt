@@ -10,14 +10,14 @@ use Rattle.raster_model.specs.declared.scene.Scene.{Scene}
 use Rattle.raster_model.specs.Scene.{raster_of}
 use Rattle.raster_model.specs.MaskView.{MaskView}
 use Rattle.raster_model.specs.Masks.{open_at}
-use Rattle.raster_model.specs.Sums.{Field, at_start, at_end, end_x, end_y, down_edge, right_edge}
+use Rattle.raster_model.specs.Sums.{Field, at_edge_start, at_edge_end, end_x, end_y, down_edge, right_edge}
 use Rattle.raster_model.specs.Raster.{Raster, cycle_departure, is_seam, masked_weight}
 use Rattle.raster_model.specs.Flows.{is_seam_edge, seam_place, seams_from}
 use Rattle.raster_model.specs.Seams.{IsLabelling, IsOpenPixel}
 use Rattle.certificates.specs.EdgeWords.{HoldsBefore}
 use Rattle.certificates.specs.SeamVerdicts.{IsSeamEdge}
 use Rattle.certificates.proofs.EdgeLemmas.{both_hold, one_more}
-use Rattle.seam_regions.specs.Regions.{AreRegionsOf, label_at, region_at}
+use Rattle.seam_regions.specs.Regions.{AreRegionsOf, region_label, region_at}
 use Rattle.seam_regions.specs.RegionsView.{RegionsView}
 use Rattle.offset_guess.specs.declared.link.Link.{Link}
 use Rattle.offset_network.specs.Links.{IsLink, IsLinkIn, link_at}
@@ -42,30 +42,30 @@ picked true l n e = (refl, some_same n l e)
     some_same n l e = cc
 picked false l n e = cc
 
-pub has_region : (s : Scene) (m : MaskView) (v : RegionsView) (x y n : ℕ) → AreRegionsOf s.tiling m v → IsOpenPixel (raster_of s) (open_at m) x y → Some n ≡ region_at v x y → n ≡ label_at v x y
-has_region s m v x y n is o e = (picked (open_at m x y) (label_at v x y) n (e ∙ is.told x y (omega (arith, o.0, s.same_width)) (omega (arith, o.1, s.same_height)))).1
+pub has_region : (s : Scene) (m : MaskView) (v : RegionsView) (x y n : ℕ) → AreRegionsOf s.tiling m v → IsOpenPixel (raster_of s) (open_at m) x y → Some n ≡ region_at v x y → n ≡ region_label v x y
+has_region s m v x y n is o e = (picked (open_at m x y) (region_label v x y) n (e ∙ is.told x y (omega (arith, o.0, s.same_width)) (omega (arith, o.1, s.same_height)))).1
 
 -- so it is at both ends of a seam edge
 pub record ReadsEnds (mask : Field Bool) (labels : Field ℕ) (e : Edge) (a b : ℕ) : Type 0 where
-  pub start : at_start mask e ≡ true
-  pub end : at_end mask e ≡ true
-  pub from : a ≡ at_start labels e
-  pub to : b ≡ at_end labels e
+  pub start : at_edge_start mask e ≡ true
+  pub end : at_edge_end mask e ≡ true
+  pub from : a ≡ at_edge_start labels e
+  pub to : b ≡ at_edge_end labels e
 
-pub reads_ends : (s : Scene) (m : MaskView) (v : RegionsView) (e : Edge) (x y a b : ℕ) → AreRegionsOf s.tiling m v → IsTrue (is_seam_edge (raster_of s) e) → x ≡ end_x e → y ≡ end_y e → Some a ≡ region_at v e.x e.y → Some b ≡ region_at v x y → ReadsEnds (open_at m) (label_at v) e a b
+pub reads_ends : (s : Scene) (m : MaskView) (v : RegionsView) (e : Edge) (x y a b : ℕ) → AreRegionsOf s.tiling m v → IsTrue (is_seam_edge (raster_of s) e) → x ≡ end_x e → y ≡ end_y e → Some a ≡ region_at v e.x e.y → Some b ≡ region_at v x y → ReadsEnds (open_at m) (region_label v) e a b
 reads_ends s m v e x y a b is seam ex ey ea eb =
     let t = ends_in (raster_of s) e seam in
     let w : s.tiling.width ≡ s.phase.width = s.same_width.1 in
     let h : s.tiling.height ≡ s.phase.height = s.same_height.1 in
-    let p = picked (open_at m e.x e.y) (label_at v e.x e.y) a (ea ∙ is.told e.x e.y (omega (arith, t.0, w)) (omega (arith, t.1, h))) in
-    let q = picked (open_at m (end_x e) (end_y e)) (label_at v (end_x e) (end_y e)) b ((rw (ex, ey) at eb) ∙ is.told (end_x e) (end_y e) (omega (arith, t.2, w)) (omega (arith, t.3, h))) in
+    let p = picked (open_at m e.x e.y) (region_label v e.x e.y) a (ea ∙ is.told e.x e.y (omega (arith, t.0, w)) (omega (arith, t.1, h))) in
+    let q = picked (open_at m (end_x e) (end_y e)) (region_label v (end_x e) (end_y e)) b ((rw (ex, ey) at eb) ∙ is.told (end_x e) (end_y e) (omega (arith, t.2, w)) (omega (arith, t.3, h))) in
     record { start = p.0; end = q.0; from = p.1; to = q.1 }
 
 -- the link made of what the code reads
 pub link_made : (r : Raster) (mask : Field Bool) (labels : Field ℕ) (cycles : Field ℤ) (e : Edge) (a b w : ℕ) (d : ℤ) → ReadsEnds mask labels e a b → w ≡ masked_weight r mask e → d ≡ cycle_departure r cycles e
     → (let k : Link = record { from = a; to = b; weight = w; departure = d } in Some k) ≡ link_of r mask labels cycles e
 link_made r mask labels cycles e a b w d reads ew ed =
-    let o = and_from (at_start mask e) (at_end mask e) reads.start reads.end in
+    let o = and_from (at_edge_start mask e) (at_edge_end mask e) reads.start reads.end in
     let w' : w ≡ r.weight e = ew ∙ (rw o refl) in
     rw (o, reads.from, reads.to, w', ed) refl
 

@@ -11,7 +11,7 @@ use Rattle.raster_model.specs.Seams.{IsAnchored, IsFirstOpen}
 use Rattle.certificates.specs.declared.results.SeamResult.{SeamResult}
 use Rattle.certificates.specs.TileSets.{TileSetView, solved_cycles}
 use Rattle.flow_network.specs.Nets.{IsNetwork, Shape, State}
-use Rattle.seam_regions.specs.Regions.{AreRegionsOf, label_at, offset_at, shifted_by}
+use Rattle.seam_regions.specs.Regions.{AreRegionsOf, region_label, offset_at, shifted_by}
 use Rattle.seam_regions.specs.RegionsView.{RegionsView}
 use Rattle.seam_regions.proofs.CallerLemmas.{regions_of_scene}
 use Rattle.offset_guess.specs.declared.link.Link.{Link}
@@ -29,18 +29,18 @@ at_anchor : (f : ℕ) (b o p by : ℤ) → o ≡ p -ℤ by → by ≡ p +ℤ b �
 at_anchor f b o p by e h = omega (arith, ints, e, h)
 
 module _ (s : Scene) (m : MaskView) (v : RegionsView) (tiles : TileSetView) (k : SeamResult) (links : List (Option Link)) (z : Shape) (g : State) (by : ℤ)
-    (regions : AreRegionsOf s.tiling m v) (seams : AreSeamLinks (raster_of s) (open_at m) (label_at v) (solved_cycles s tiles.results) links) (net : IsNetwork z) (solved : IsSolved v.count links z g) (flows : AreFlows links g (length links) k.flows.items)
-    (lowered : AreLowered g by z.nodes k.offsets.items) (anchor : (x y : ℕ) → IsFirstOpen (raster_of s) (open_at m) x y → by ≡ g.potential (label_at v x y) +ℤ solved_cycles s tiles.results x y) (low : neg_ℤ (pos 8388608) ≤ℤ by) (high : by ≤ℤ pos (v.count * 16777217 + 8388608)) where
+    (regions : AreRegionsOf s.tiling m v) (seams : AreSeamLinks (raster_of s) (open_at m) (region_label v) (solved_cycles s tiles.results) links) (net : IsNetwork z) (solved : IsSolved v.count links z g) (flows : AreFlows links g (length links) k.flows.items)
+    (lowered : AreLowered g by z.nodes k.offsets.items) (anchor : (x y : ℕ) → IsFirstOpen (raster_of s) (open_at m) x y → by ≡ g.potential (region_label v x y) +ℤ solved_cycles s tiles.results x y) (low : neg_ℤ (pos 8388608) ≤ℤ by) (high : by ≤ℤ pos (v.count * 16777217 + 8388608)) where
   offset_of : (u : ℕ) → u < v.count → slice_index_or k.offsets.items u (pos 0) ≡ g.potential u -ℤ by
   offset_of u l = lowered.values u (omega (arith, l, solved.built.nodes))
 
-  label_below : (x y : ℕ) → x < s.phase.width → y < s.phase.height → IsTrue (open_at m x y) → label_at v x y < v.count
+  label_below : (x y : ℕ) → x < s.phase.width → y < s.phase.height → IsTrue (open_at m x y) → region_label v x y < v.count
   label_below x y l h o = (regions_of_scene s m v regions).labelling.below x y (l, h, o)
 
   anchored : IsAnchored (raster_of s) (open_at m) (lifted (raster_of s) (shifted_by v k.offsets.items (solved_cycles s tiles.results)))
   unfolding offset_at
   anchored x y o first =
-      at_anchor ((raster_of s).phase x y) (solved_cycles s tiles.results x y) (slice_index_or k.offsets.items (label_at v x y) (pos 0)) (g.potential (label_at v x y)) by (offset_of (label_at v x y) (label_below x y o.0 o.1 o.2)) (anchor x y (o, first))
+      at_anchor ((raster_of s).phase x y) (solved_cycles s tiles.results x y) (slice_index_or k.offsets.items (region_label v x y) (pos 0)) (g.potential (region_label v x y)) by (offset_of (region_label v x y) (label_below x y o.0 o.1 o.2)) (anchor x y (o, first))
 
   pub good_seams : IsGoodSeams s m v tiles k
   unfolding offset_at
@@ -50,7 +50,7 @@ module _ (s : Scene) (m : MaskView) (v : RegionsView) (tiles : TileSetView) (k :
         (let h = solved.heights u (omega (arith, l, solved.built.nodes)) in let n = solved.built.nodes in rw n at h) low high;
     certified = (
       anchored,
-      certified (raster_of s) (open_at m) (label_at v) v.count (solved_cycles s tiles.results) links z g k.flows.items (regions_of_scene s m v regions) seams net solved flows (shifted_by v k.offsets.items (solved_cycles s tiles.results)) by
-          (λ x y l h o. ap (λ (c : ℤ). solved_cycles s tiles.results x y +ℤ c) (offset_of (label_at v x y) (label_below x y l h o))),
+      certified (raster_of s) (open_at m) (region_label v) v.count (solved_cycles s tiles.results) links z g k.flows.items (regions_of_scene s m v regions) seams net solved flows (shifted_by v k.offsets.items (solved_cycles s tiles.results)) by
+          (λ x y l h o. ap (λ (c : ℤ). solved_cycles s tiles.results x y +ℤ c) (offset_of (region_label v x y) (label_below x y l h o))),
     );
   }

@@ -8,7 +8,7 @@ use Rattle.flow_network.proofs.CallerLemmas.{total_amount-added}
 use Rattle.shortest_augment.specs.Balance.{BoundsCosts}
 use Rattle.offset_guess.specs.declared.link.Link.{Link}
 use Rattle.offset_network.specs.Links.{AreLinks, IsLink, IsLinkIn, arcs_before, arcs_of, link_at, start_flow}
-use Rattle.offset_network.specs.Networks.{AddsLinkArc, AreSupplies, IsArcOf, IsJoined, IsStarted, flow_left, flow_of}
+use Rattle.offset_network.specs.Networks.{AddsLinkArc, AreSupplies, IsArcOf, IsJoined, IsStarted, flow_left, link_flow}
 use Rattle.offset_network.proofs.LinkLemmas.{arcs-more, arcs-none}
 use Rattle.sums_and_lists.specs.Sums.{sum_below}
 use Rattle.sums_and_lists.proofs.Orders.{below_or_last}
@@ -108,7 +108,7 @@ module _ (n : ℕ) (links : List (Option Link)) (i : ℕ) (s z : Shape) (f g : S
         the_same : Some m ≡ Some k → m ≡ k
         the_same p = cc
 
-    flow_at_start : (j : ℕ) → j < i + 1 → flow_of links g j ≡ start_flow (link_at links j)
+    flow_at_start : (j : ℕ) → j < i + 1 → link_flow links g j ≡ start_flow (link_at links j)
     flow_at_start j l =
         elim (below_or_last j i l) [
           | inl d ↦ left_same (link_at links j) (g.residual (arcs_before links j)) (f.residual (arcs_before links j)) (λ m w. (let b = (h.built.each j m d w).below in q.arc.residuals (arcs_before links j) (omega (arith, b)))) ∙ h.flows j d

@@ -12,7 +12,7 @@ use Rattle.raster_model.specs.Raster.{Raster, cycle_departure}
 use Rattle.raster_model.specs.Sums.{Field, end_x, end_y}
 use Rattle.raster_model.specs.Tiles.{IsWindowOf, IsWithin, tile_at, tiles_of, window_of}
 use Rattle.certificates.specs.declared.results.TileResult.{TileResult}
-use Rattle.certificates.specs.Results.{IsGoodTile, cycles_in, pixels_in, window_in}
+use Rattle.certificates.specs.Results.{IsGoodTile, listed_cycles, pixels_in, window_in}
 use Rattle.certificates.specs.TileSets.{TileSetView, solved_cycles}
 use Rattle.certificates.specs.SeamVerdicts.{ListsRegions, label_at as label_in}
 use Rattle.raster_model.specs.MaskView.{MaskView}
@@ -22,13 +22,13 @@ use Rattle.raster_model.specs.Seams.{AreRegions}
 use Rattle.seam_regions.specs.Regions.{AreRegionsOf}
 use Rattle.seam_regions.specs.RegionsView.{RegionsView}
 use Rattle.seam_regions.proofs.CallerLemmas.{regions_of_scene}
-use Rattle.offset_network.specs.Surfaces.{AreGoodTiles, AreLabelled}
+use Rattle.offset_network.specs.Surfaces.{IsGoodTileSet, AreLabelled}
 
 pub open_tells : (w h x y : ℕ) (b : Bool) → IsTrue ((nat_lt x w && nat_lt y h) && b) → (x < w) × (y < h) × IsTrue b
 open_tells w h x y b t = (grind (arith, nat_tests), grind (arith, nat_tests), grind (arith, nat_tests))
 
 -- the result k of tile t, whose window is v
-module _ (s : Scene) (mask : Field Bool) (tiles : TileSetView) (good : AreGoodTiles s mask tiles) (t : ℕ) (v : Window) (k : TileResult) (exists : t < tiles_of s.tiling) (window : v ≡ window_of s.tiling t) (pixels : IsWindowOf s.tiling t v) (place : slice_get tiles.results t ≡ Some k) (number : k.tile ≡ t) where
+module _ (s : Scene) (mask : Field Bool) (tiles : TileSetView) (good : IsGoodTileSet s mask tiles) (t : ℕ) (v : Window) (k : TileResult) (exists : t < tiles_of s.tiling) (window : v ≡ window_of s.tiling t) (pixels : IsWindowOf s.tiling t v) (place : slice_get tiles.results t ≡ Some k) (number : k.tile ≡ t) where
   is_good : IsGoodTile s mask k
   is_good = good.each t k exists place
 
@@ -45,15 +45,15 @@ module _ (s : Scene) (mask : Field Bool) (tiles : TileSetView) (good : AreGoodTi
         let p = mul-add-lt (y - v.y0) (v.x1 - v.x0 + 1) (x - v.x0) (v.y1 - v.y0 + 1) (omega (arith, within)) (omega (arith, within)) in
         omega (arith, all, p)
 
-    pub cycles_are : cycles_in v k.cycles.items x y ≡ solved_cycles s tiles.results x y
+    pub cycles_are : listed_cycles v k.cycles.items x y ≡ solved_cycles s tiles.results x y
     unfolding solved_cycles
     cycles_are =
         let at : slice_get tiles.results (tile_at s.tiling x y) ≡ Some k = ap (slice_get tiles.results) (sym here) ∙ place in
         rw (at, same_window) refl
 
-    pub cycles_small : IsTrue (mask x y) → unsigned_abs (cycles_in v k.cycles.items x y) ≤ 8388608
+    pub cycles_small : IsTrue (mask x y) → unsigned_abs (listed_cycles v k.cycles.items x y) ≤ 8388608
     cycles_small o =
-        let small = subst (λ (u : Window). IsWithin u x y × IsTrue (mask x y) → unsigned_abs (cycles_in u k.cycles.items x y) ≤ 8388608) same_window (is_good.in_range x y) in
+        let small = subst (λ (u : Window). IsWithin u x y × IsTrue (mask x y) → unsigned_abs (listed_cycles u k.cycles.items x y) ≤ 8388608) same_window (is_good.in_range x y) in
         small (within, o)
 
 -- such cycles in code at 32 bits

@@ -1,8 +1,8 @@
 -- The network of some links: while it is made, while flow moves in it, and solved. No public clause cites this file.
 use Rattle.std.specs.Prelude.{◌≡◌, ℕ, ◌+◌, ◌*◌, ◌<◌, ◌≤◌, ◌==◌, ℤ, pos, neg_ℤ, ◌+ℤ◌, ◌-ℤ◌, ◌≤ℤ◌, Option, Some, None, List, length, slice_index_or, unsigned_abs}
-use Rattle.flow_network.specs.Nets.{Shape, State, IsArc, HasReducedCosts}
+use Rattle.flow_network.specs.Nets.{Shape, State, IsArc, HasReducedCosts, HasNoExcess}
 use Rattle.flow_network.specs.Growing.{AddsArc, supply_sum, supply_sizes, total_amount}
-use Rattle.shortest_augment.specs.Balance.{IsBalanced, LiesWithin}
+use Rattle.shortest_augment.specs.Balance.{LiesWithin}
 use Rattle.offset_guess.specs.declared.link.Link.{Link}
 use Rattle.offset_network.specs.Links.{arcs_before, brings, link_at, link_start, start_flow}
 use Rattle.sums_and_lists.specs.Sums.{sum_below, where_true}
@@ -40,13 +40,13 @@ abbrev pub flow_left : Option Link → ℕ → ℤ
 flow_left None left = pos 0
 flow_left (Some k) left = pos k.weight -ℤ pos left
 
-abbrev pub flow_of : List (Option Link) → State → ℕ → ℤ
-flow_of links f j = flow_left (link_at links j) (f.residual (arcs_before links j))
+abbrev pub link_flow : List (Option Link) → State → ℕ → ℤ
+link_flow links f j = flow_left (link_at links j) (f.residual (arcs_before links j))
 
 -- nothing has flowed yet in the network of the first i links, and the flows at the start are counted as supplies
 pub record IsStarted (n : ℕ) (links : List (Option Link)) (i : ℕ) (s : Shape) (f : State) : Type 0 where
   pub built : HasArcs n links i s f
-  pub flows : (j : ℕ) → j < i → flow_of links f j ≡ start_flow (link_at links j)
+  pub flows : (j : ℕ) → j < i → link_flow links f j ≡ start_flow (link_at links j)
   pub excess : (v : ℕ) → v < n → f.excess v ≡ supply_of links (length links) v
   pub flat : (v : ℕ) → v < n → f.potential v ≡ pos 0
   pub costs : (a : ℕ) → a < s.arcs → unsigned_abs (s.cost a) ≤ 16777217
@@ -54,20 +54,20 @@ pub record IsStarted (n : ℕ) (links : List (Option Link)) (i : ℕ) (s : Shape
 
 -- each region's excess is what the flows bring to it
 abbrev pub HasFlows : ℕ → List (Option Link) → State → Type 0
-HasFlows n links f = (v : ℕ) → v < n → f.excess v ≡ sum_below (length links) (λ j. brings (link_at links j) v (flow_of links f j))
+HasFlows n links f = (v : ℕ) → v < n → f.excess v ≡ sum_below (length links) (λ j. brings (link_at links j) v (link_flow links f j))
 
 -- a network of all links without excess
 pub record IsSolved (n : ℕ) (links : List (Option Link)) (s : Shape) (f : State) : Type 0 where
   pub built : HasArcs n links (length links) s f
   pub flows : HasFlows n links f
-  pub balanced : IsBalanced s f
+  pub balanced : HasNoExcess s f
   pub heights : LiesWithin s f 16777217
   pub reduced : HasReducedCosts s f
 
 -- the flows of the first i links
 pub record AreFlows (links : List (Option Link)) (f : State) (i : ℕ) (flows : List ℤ) : Type 0 where
   pub count : length flows ≡ i
-  pub values : (j : ℕ) → j < i → slice_index_or flows j (pos 0) ≡ flow_of links f j
+  pub values : (j : ℕ) → j < i → slice_index_or flows j (pos 0) ≡ link_flow links f j
 
 -- the potentials of the first n nodes, lowered by a number
 pub record AreLowered (f : State) (by : ℤ) (n : ℕ) (offsets : List ℤ) : Type 0 where

@@ -1,7 +1,7 @@
 -- The links of a raster's seam edges. No public clause cites this file.
 use Rattle.std.specs.Prelude.{◌≡◌, ℕ, ◌+◌, ◌<◌, ℤ, Bool, IsTrue, Option, Some, None, List, length, if◌then◌else◌}
 use Rattle.raster_model.specs.declared.edge.Edge.{Edge}
-use Rattle.raster_model.specs.Sums.{Field, at_start, at_end}
+use Rattle.raster_model.specs.Sums.{Field, at_edge_start, at_edge_end}
 use Rattle.raster_model.specs.Raster.{Raster, cycle_departure, has_open_ends}
 use Rattle.raster_model.specs.Flows.{is_seam_edge, seam_count, seam_place, seams_from}
 use Rattle.certificates.specs.EdgeWords.{HoldsFrom}
@@ -12,7 +12,7 @@ use Rattle.sums_and_lists.specs.Sums.{one_if}
 
 -- the link of a seam edge, by the regions' labels and the cycles of a surface
 abbrev pub link_of : Raster → Field Bool → Field ℕ → Field ℤ → Edge → Option Link
-link_of r mask labels cycles e = if has_open_ends mask e then Some (record { from = at_start labels e; to = at_end labels e; weight = r.weight e; departure = cycle_departure r cycles e }) else None
+link_of r mask labels cycles e = if has_open_ends mask e then Some (record { from = at_edge_start labels e; to = at_edge_end labels e; weight = r.weight e; departure = cycle_departure r cycles e }) else None
 
 -- the list has the edge's link at the edge's place
 pub record IsPlaced (r : Raster) (mask : Field Bool) (labels : Field ℕ) (cycles : Field ℤ) (links : List (Option Link)) (e : Edge) : Type 0 where

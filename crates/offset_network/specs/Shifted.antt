@@ -11,5 +11,5 @@ abbrev pub is_open_under : ShiftedSurface → Field Bool
 is_open_under s x y = is_pixel s.surface.scene.now.phase.width s.surface.scene.now.phase.height x y && open_at s.surface.mask.now x y
 
 -- the cycles above the phase
-abbrev pub cycles_under : ShiftedSurface → Field ℤ
-cycles_under s = shifted_by s.regions.now s.offsets.now (solved_cycles s.surface.scene.now s.surface.tiles.now.results)
+abbrev pub cycles_with_offsets : ShiftedSurface → Field ℤ
+cycles_with_offsets s = shifted_by s.regions.now s.offsets.now (solved_cycles s.surface.scene.now s.surface.tiles.now.results)

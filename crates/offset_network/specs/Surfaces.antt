@@ -12,11 +12,11 @@ use Rattle.certificates.specs.Results.{IsGoodTile}
 use Rattle.certificates.specs.SeamVerdicts.{IsGoodAtSeams}
 use Rattle.certificates.specs.TileSets.{TileSetView, solved_cycles}
 use Rattle.seam_regions.specs.Offsets.{IsNear}
-use Rattle.seam_regions.specs.Regions.{label_at, shifted_by}
+use Rattle.seam_regions.specs.Regions.{region_label, shifted_by}
 use Rattle.seam_regions.specs.RegionsView.{RegionsView}
 
 -- the set has a good result for each tile of the scene
-pub record AreGoodTiles (s : Scene) (mask : Field Bool) (tiles : TileSetView) : Type 0 where
+pub record IsGoodTileSet (s : Scene) (mask : Field Bool) (tiles : TileSetView) : Type 0 where
   pub tiling : tiles.tiling ≡ s.tiling
   pub each : (t : ℕ) (k : TileResult) → t < tiles_of s.tiling → slice_get tiles.results t ≡ Some k → IsGoodTile s mask k
 
@@ -30,4 +30,4 @@ pub record IsGoodSeams (s : Scene) (mask : MaskView) (regions : RegionsView) (ti
 pub record AreLabelled (s : Scene) (m : MaskView) (v : RegionsView) : Type 0 where
   pub wide : v.width ≡ s.phase.width
   pub high : v.height ≡ s.phase.height
-  pub below : (x y : ℕ) → x < s.phase.width → y < s.phase.height → IsTrue (open_at m x y) → label_at v x y < v.count
+  pub below : (x y : ℕ) → x < s.phase.width → y < s.phase.height → IsTrue (open_at m x y) → region_label v x y < v.count

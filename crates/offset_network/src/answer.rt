@@ -5,7 +5,7 @@ ghost use Rattle.certificates.specs.TileSets.{solved_cycles};
 ghost use Rattle.raster_model.specs.Masks.{open_at};
 ghost use Rattle.raster_model.specs.Scene.{raster_of};
 ghost use Rattle.raster_model.specs.Seams.{IsOpenPixel, IsFirstOpen};
-ghost use Rattle.seam_regions.specs.Regions.{AreRegionsOf, label_at};
+ghost use Rattle.seam_regions.specs.Regions.{AreRegionsOf, region_label};
 ghost use Rattle.shortest_augment.specs.Balance.{LiesWithin};
 ghost use Rattle.std.specs.Prelude.{◌≡◌, ℕ, ◌+◌, ◌*◌, ◌<◌, ◌≤◌, ◌+ℤ◌, ◌≤ℤ◌, IfNone, IfOk, IfSome, Some, length, neg_ℤ, pos, unsigned_abs, ◌^◌};
 
@@ -54,7 +54,7 @@ pub(crate) fn anchor(surface: &TileSurface, regions: &Regions, net: &Network) ->
     requires regions { AreRegionsOf surface.now.scene.now.tiling surface.now.mask.now regions.now }
     requires nodes { (shape_of net.now).nodes ≡ regions.now.count }
     requires heights { LiesWithin (shape_of net.now) (state_of net.now) 16777217 }
-    ensures value { (x y : ℕ) → IsFirstOpen (raster_of surface.now.scene.now) (open_at surface.now.mask.now) x y → result ≡ ((state_of net.now).potential (label_at regions.now x y) +ℤ solved_cycles surface.now.scene.now surface.now.tiles.now.results x y) }
+    ensures value { (x y : ℕ) → IsFirstOpen (raster_of surface.now.scene.now) (open_at surface.now.mask.now) x y → result ≡ ((state_of net.now).potential (region_label regions.now x y) +ℤ solved_cycles surface.now.scene.now surface.now.tiles.now.results x y) }
     ensures low { neg_ℤ (pos 8388608) ≤ℤ result }
     ensures high { result ≤ℤ pos (regions.now.count * 16777217 + 8388608) }
 {

@@ -1,5 +1,5 @@
 ghost use Rattle.certificates.specs.SeamVerdicts.{IsGoodAtSeams};
-ghost use Rattle.offset_network.specs.Shifted.{cycles_under};
+ghost use Rattle.offset_network.specs.Shifted.{cycles_with_offsets};
 ghost use Rattle.offset_network.specs.Surfaces.{IsGoodSeams};
 ghost use Rattle.raster_model.specs.Masks.{open_at};
 ghost use Rattle.raster_model.specs.Scene.{raster_of};
@@ -63,7 +63,7 @@ pub(crate) fn certified(
 /// Whether the check of the flows finds that they certify a surface at its seams.
 fn certifies(alloc: Global, shifted: &ShiftedSurface, flows: &[i64]) -> Result<bool, AllocError>
     requires { AreRegionsOf shifted.now.surface.scene.now.tiling shifted.now.surface.mask.now shifted.now.regions.now }
-    ensures { IfOk result (λ good. IsTrue good → IsGoodAtSeams (raster_of shifted.now.surface.scene.now) (open_at shifted.now.surface.mask.now) (cycles_under shifted.now) flows.now) }
+    ensures { IfOk result (λ good. IsTrue good → IsGoodAtSeams (raster_of shifted.now.surface.scene.now) (open_at shifted.now.surface.mask.now) (cycles_with_offsets shifted.now) flows.now) }
 {
     let surface = shifted.surface;
     let mut scratch = vec![in alloc; 0; shifted.regions.count() as usize]?;

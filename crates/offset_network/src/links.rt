@@ -4,7 +4,7 @@ ghost use Rattle.certificates.specs.TileSets.{solved_cycles};
 ghost use Rattle.raster_model.specs.Flows.{is_seam_edge as is_seam_edge_of, seam_place, seams_before};
 ghost use Rattle.raster_model.specs.Masks.{open_at};
 ghost use Rattle.raster_model.specs.Scene.{raster_of};
-ghost use Rattle.seam_regions.specs.Regions.{AreRegionsOf, label_at};
+ghost use Rattle.seam_regions.specs.Regions.{AreRegionsOf, region_label};
 ghost use Rattle.std.specs.Prelude.{◌≡◌, ◌<◌, IfOk, IsTrue, OnOk, length};
 
 use crate::surface::TileSurface;
@@ -18,7 +18,7 @@ use std::alloc::{AllocError, Global};
 fn link(surface: &TileSurface, regions: &Regions, edge: Edge) -> Option<Link>
     requires seam { IsTrue (is_seam_edge_of (raster_of surface.now.scene.now) edge) }
     requires regions { AreRegionsOf surface.now.scene.now.tiling surface.now.mask.now regions.now }
-    ensures value { result ≡ link_of (raster_of surface.now.scene.now) (open_at surface.now.mask.now) (label_at regions.now) (solved_cycles surface.now.scene.now surface.now.tiles.now.results) edge }
+    ensures value { result ≡ link_of (raster_of surface.now.scene.now) (open_at surface.now.mask.now) (region_label regions.now) (solved_cycles surface.now.scene.now surface.now.tiles.now.results) edge }
     ensures fits { IsLinkIn regions.now.count result }
 {
     let from = regions.region(edge.x, edge.y)?;
@@ -43,7 +43,7 @@ fn push_link(
     requires start { (edge.x < surface.now.scene.now.phase.width) × (edge.y < surface.now.scene.now.phase.height) }
     requires regions { AreRegionsOf surface.now.scene.now.tiling surface.now.mask.now regions.now }
     requires place { length links.old.items ≡ seam_place (raster_of surface.now.scene.now) edge }
-    ensures { OnOk result (AddsLink (raster_of surface.now.scene.now) (open_at surface.now.mask.now) (label_at regions.now) regions.now.count (solved_cycles surface.now.scene.now surface.now.tiles.now.results) edge links.old.items links.new.items) }
+    ensures { OnOk result (AddsLink (raster_of surface.now.scene.now) (open_at surface.now.mask.now) (region_label regions.now) regions.now.count (solved_cycles surface.now.scene.now surface.now.tiles.now.results) edge links.old.items links.new.items) }
 {
     if is_seam_edge(surface.scene, ends, edge) {
         links.push(link(surface, regions, edge))?;
@@ -64,7 +64,7 @@ fn push_links_from(
     requires pixel { (x < surface.now.scene.now.phase.width) × (y < surface.now.scene.now.phase.height) }
     requires regions { AreRegionsOf surface.now.scene.now.tiling surface.now.mask.now regions.now }
     requires counted { length links.old.items ≡ seams_before (raster_of surface.now.scene.now) x y }
-    ensures { OnOk result (AddsLinksFrom (raster_of surface.now.scene.now) (open_at surface.now.mask.now) (label_at regions.now) regions.now.count (solved_cycles surface.now.scene.now surface.now.tiles.now.results) x y links.old.items links.new.items) }
+    ensures { OnOk result (AddsLinksFrom (raster_of surface.now.scene.now) (open_at surface.now.mask.now) (region_label regions.now) regions.now.count (solved_cycles surface.now.scene.now surface.now.tiles.now.results) x y links.old.items links.new.items) }
 {
     push_link(surface, ends, regions, Edge { x, y, down: false }, links)?;
     push_link(surface, ends, regions, Edge { x, y, down: true }, links)
@@ -77,7 +77,7 @@ pub(crate) fn links(
     regions: &Regions,
 ) -> Result<Vec<Option<Link>>, AllocError>
     requires regions { AreRegionsOf surface.now.scene.now.tiling surface.now.mask.now regions.now }
-    ensures seams { IfOk result (λ links. AreSeamLinks (raster_of surface.now.scene.now) (open_at surface.now.mask.now) (label_at regions.now) (solved_cycles surface.now.scene.now surface.now.tiles.now.results) links.items) }
+    ensures seams { IfOk result (λ links. AreSeamLinks (raster_of surface.now.scene.now) (open_at surface.now.mask.now) (region_label regions.now) (solved_cycles surface.now.scene.now surface.now.tiles.now.results) links.items) }
     ensures fit { IfOk result (λ links. AreLinks regions.now.count links.items) }
 {
     let ends = TileEnds::of(&surface.scene.tiling);

@@ -18,11 +18,11 @@ pub(crate) struct ShiftedSurface<'a> {
 }
 
 impl Heights for ShiftedSurface<'_> {
-    ghost use Rattle.offset_network.specs.Shifted.{cycles_under, is_open_under};
+    ghost use Rattle.offset_network.specs.Shifted.{cycles_with_offsets, is_open_under};
 
     ghost knows = { λ s. is_open_under s };
 
-    ghost cycles_at = { λ s. cycles_under s };
+    ghost cycles_at = { λ s. cycles_with_offsets s };
 
     fn cycles(&self, x: u32, y: u32) -> i64 {
         i64::from(self.surface.at(x, y)) + self.offset(x, y)

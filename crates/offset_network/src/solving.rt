@@ -2,10 +2,10 @@ ghost use Rattle.certificates.specs.SeamVerdicts.{IsGoodAtSeams};
 ghost use Rattle.certificates.specs.TileSets.{solved_cycles};
 ghost use Rattle.offset_network.specs.Links.{AreLinks};
 ghost use Rattle.offset_network.specs.Seams.{AreSeamLinks};
-ghost use Rattle.offset_network.specs.Surfaces.{AreGoodTiles, IsGoodSeams};
+ghost use Rattle.offset_network.specs.Surfaces.{IsGoodTileSet, IsGoodSeams};
 ghost use Rattle.raster_model.specs.Scene.{raster_of};
 ghost use Rattle.raster_model.specs.Masks.{open_at};
-ghost use Rattle.seam_regions.specs.Regions.{AreRegionsOf, label_at};
+ghost use Rattle.seam_regions.specs.Regions.{AreRegionsOf, region_label};
 ghost use Rattle.std.specs.Prelude.{◌≡◌, IfOk};
 
 use crate::answer::{anchor, flows, lowered};
@@ -33,7 +33,7 @@ pub fn solve_offsets(
 ) -> Result<SeamResult, AllocError>
     requires same_size { (mask.now.width ≡ scene.now.phase.width) × (mask.now.height ≡ scene.now.phase.height) }
     requires regions { AreRegionsOf scene.now.tiling mask.now regions.now }
-    requires tiles { AreGoodTiles scene.now (open_at mask.now) tiles.now }
+    requires tiles { IsGoodTileSet scene.now (open_at mask.now) tiles.now }
     ensures revision { IfOk result (λ solved. solved.revision ≡ revision) }
     ensures good { IfOk result (IsGoodSeams scene.now mask.now regions.now tiles.now) }
 {
@@ -55,7 +55,7 @@ pub fn solve_offsets_from(
 ) -> Result<SeamResult, AllocError>
     requires same_size { (mask.now.width ≡ scene.now.phase.width) × (mask.now.height ≡ scene.now.phase.height) }
     requires regions { AreRegionsOf scene.now.tiling mask.now regions.now }
-    requires tiles { AreGoodTiles scene.now (open_at mask.now) tiles.now }
+    requires tiles { IsGoodTileSet scene.now (open_at mask.now) tiles.now }
     ensures revision { IfOk result (λ solved. solved.revision ≡ revision) }
     ensures good { IfOk result (IsGoodSeams scene.now mask.now regions.now tiles.now) }
 {
@@ -78,7 +78,7 @@ fn by_network(
 ) -> Result<SeamResult, AllocError>
     requires regions { AreRegionsOf surface.now.scene.now.tiling surface.now.mask.now regions.now }
     requires links { AreLinks regions.now.count links.now }
-    requires seams { AreSeamLinks (raster_of surface.now.scene.now) (open_at surface.now.mask.now) (label_at regions.now) (solved_cycles surface.now.scene.now surface.now.tiles.now.results) links.now }
+    requires seams { AreSeamLinks (raster_of surface.now.scene.now) (open_at surface.now.mask.now) (region_label regions.now) (solved_cycles surface.now.scene.now surface.now.tiles.now.results) links.now }
     ensures revision { IfOk result (λ solved. solved.revision ≡ revision) }
     ensures good { IfOk result (IsGoodSeams surface.now.scene.now surface.now.mask.now regions.now surface.now.tiles.now) }
 {

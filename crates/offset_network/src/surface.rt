@@ -1,5 +1,5 @@
 ghost use Rattle.certificates.specs.TileSets.{solved_cycles};
-ghost use Rattle.offset_network.specs.Surfaces.{AreGoodTiles};
+ghost use Rattle.offset_network.specs.Surfaces.{IsGoodTileSet};
 ghost use Rattle.raster_model.specs.Masks.{open_at};
 ghost use Rattle.raster_model.specs.Raster.{cycle_departure, has_open_ends};
 ghost use Rattle.raster_model.specs.Scene.{raster_of};
@@ -16,7 +16,7 @@ pub(crate) struct TileSurface<'a> {
     pub(crate) mask: &'a Mask,
     pub(crate) tiles: &'a TileSet,
     pub(crate) ghost same_size: { (mask.now.width ≡ scene.now.phase.width) × (mask.now.height ≡ scene.now.phase.height) },
-    pub(crate) ghost good: { AreGoodTiles scene.now (open_at mask.now) tiles.now },
+    pub(crate) ghost good: { IsGoodTileSet scene.now (open_at mask.now) tiles.now },
 }
 
 impl TileSurface<'_> {

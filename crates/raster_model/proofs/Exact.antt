@@ -4,7 +4,7 @@ use Rattle.std.specs.Prelude.{ℤ, pos, negsuc, ◌+ℤ◌, ◌-ℤ◌, ◌*ℤ�
 use Rattle.std.proofs.lemmas.Int.{ints}
 use Rattle.std.proofs.lemmas.Bool.Decides.{nat_tests}
 use Rattle.raster_model.specs.declared.edge.Edge.{Edge}
-use Rattle.raster_model.specs.Sums.{Field, at_start, at_end, end_x, end_y, right_edge, down_edge}
+use Rattle.raster_model.specs.Sums.{Field, at_edge_start, at_edge_end, end_x, end_y, right_edge, down_edge}
 use Rattle.raster_model.specs.Raster.{Raster, gradient, round_cell, residue, departure, lifted, cycle_departure}
 use Rattle.raster_model.specs.Certificates.{face_total, face_product, face_difference, faces_of_tile}
 use Rattle.raster_model.specs.Exact.{DepartureIsExact, LiftedIsCongruent, CyclesDepart, ResidueIsExact, ResidueIsSmall, FacesMeetDepartures}
@@ -15,15 +15,15 @@ use Rattle.raster_model.proofs.TileLeast.{no_column, no_row, cycles_of, cycles_e
 use Rattle.sums_and_lists.proofs.Orders.{ends_in}
 use Rattle.sums_and_lists.proofs.Tests.{and_first, and_second}
 
-whole : (r : Raster) (S : Field ℤ) (e : Edge) → at_start S e ≡ pos (at_start r.phase e) +ℤ pos 65536 *ℤ at_start (cycles_of r S) e → at_end S e ≡ pos (at_end r.phase e) +ℤ pos 65536 *ℤ at_end (cycles_of r S) e → at_end S e -ℤ at_start S e ≡ gradient r e +ℤ pos 65536 *ℤ departure r S e
+whole : (r : Raster) (S : Field ℤ) (e : Edge) → at_edge_start S e ≡ pos (at_edge_start r.phase e) +ℤ pos 65536 *ℤ at_edge_start (cycles_of r S) e → at_edge_end S e ≡ pos (at_edge_end r.phase e) +ℤ pos 65536 *ℤ at_edge_end (cycles_of r S) e → at_edge_end S e -ℤ at_edge_start S e ≡ gradient r e +ℤ pos 65536 *ℤ departure r S e
 whole r S e p q =
-    let t = turns_exact (at_start r.phase e) (at_end r.phase e) in
+    let t = turns_exact (at_edge_start r.phase e) (at_edge_end r.phase e) in
     rw (departure_is r S e p q) (omega (arith, ints, p, q, t))
 
 pub departure_is_exact : DepartureIsExact
 departure_is_exact r mask S good e i o =
     let t = ends_in e.x e.y r.width r.height (end_x e) (end_y e) i in
-    whole r S e (cycles_exact r mask S good e.x e.y t.0 t.1 (and_first (at_start mask e) (at_end mask e) o)) (cycles_exact r mask S good (end_x e) (end_y e) t.2 t.3 (and_second (at_start mask e) (at_end mask e) o))
+    whole r S e (cycles_exact r mask S good e.x e.y t.0 t.1 (and_first (at_edge_start mask e) (at_edge_end mask e) o)) (cycles_exact r mask S good (end_x e) (end_y e) t.2 t.3 (and_second (at_edge_start mask e) (at_edge_end mask e) o))
 
 pub residue_is_exact : ResidueIsExact
 residue_is_exact r x y =
@@ -60,6 +60,6 @@ lifted_is_congruent r mask cycles x y l m o = (cycles x y, refl)
 
 pub cycles_depart : CyclesDepart
 cycles_depart r cycles e =
-    let t = turns_exact (at_start r.phase e) (at_end r.phase e) in
-    let d : at_end (lifted r cycles) e -ℤ at_start (lifted r cycles) e -ℤ gradient r e ≡ pos 65536 *ℤ cycle_departure r cycles e = omega (arith, ints, t) in
+    let t = turns_exact (at_edge_start r.phase e) (at_edge_end r.phase e) in
+    let d : at_edge_end (lifted r cycles) e -ℤ at_edge_start (lifted r cycles) e -ℤ gradient r e ≡ pos 65536 *ℤ cycle_departure r cycles e = omega (arith, ints, t) in
     ap (λ (z : ℤ). int_div z (pos 65536)) d ∙ div_exact (cycle_departure r cycles e)

@@ -125,5 +125,14 @@ module _ (r : Raster) (mask : Field Bool) (L : Field ℕ) (c : ℕ) (M : Field �
   unfolding Agree
   numbers_agree x y o = sym ((agree (suc (L x y))).0 (L x y) (omega arith) x y o refl)
 
+-- each number below one count is that of a pixel, so it is below the other
+count_within : (r : Raster) (mask : Field Bool) (L : Field ℕ) (c : ℕ) (M : Field ℕ) (d : ℕ) → AreRegions r mask L c → AreRegions r mask M d → c ≤ d
+count_within r mask L zero M d isL isM = omega arith
+count_within r mask L (suc v) M d isL isM =
+    let p = isL.labelling.used v (omega arith) in
+    let same = numbers_agree r mask L (suc v) M d isL isM p.0 p.1 p.2 in
+    omega (arith, p.3, same, isM.labelling.below p.0 p.1 p.2)
+
 pub region_numbers_are_unique : RegionNumbersAreUnique
-region_numbers_are_unique r mask L c M d isL isM x y o = numbers_agree r mask L c M d isL isM x y o
+region_numbers_are_unique r mask L c M d isL isM =
+    (omega (arith, count_within r mask L c M d isL isM, count_within r mask M d L c isM isL), numbers_agree r mask L c M d isL isM)

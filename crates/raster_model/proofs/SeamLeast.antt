@@ -4,7 +4,7 @@ use Rattle.std.specs.Prelude.{ℤ, pos, ◌+ℤ◌, ◌-ℤ◌, ◌*ℤ◌, ◌�
 use Rattle.std.proofs.lemmas.Int.{ints}
 use Rattle.std.proofs.lemmas.Bool.Decides.{nat_tests}
 use Rattle.raster_model.specs.declared.edge.Edge.{Edge}
-use Rattle.raster_model.specs.Sums.{Field, at_start, at_end, is_edge, sum_edges, right_edge, down_edge}
+use Rattle.raster_model.specs.Sums.{Field, at_edge_start, at_edge_end, is_edge, sum_edges, right_edge, down_edge}
 use Rattle.raster_model.specs.Phase.{wrapped, turns}
 use Rattle.raster_model.specs.Raster.{Raster, IsCongruent, departure, has_open_ends, is_seam, edge_cost, seam_cost}
 use Rattle.raster_model.specs.Seams.{AreJoined, IsOpenPixel, AreOffsets, IsRegion, shifted, flow_in, flow_out, flow_total, IsSeamCertificate, IsLabelling, IsLeastAtSeams}
@@ -149,38 +149,38 @@ module _ (r : Raster) (mask : Field Bool) (labels : Field ℕ) (count : ℕ) (la
         zero_by f true w h l = cc
         zero_by f false w h l = omega (arith, ints)
 
-    ends : sum_edges r.width r.height (λ e. where_true (is_seam r e) (F e *ℤ at_end o e)) ≡ sum_below count (λ v. number v *ℤ flow_in r F (region v))
+    ends : sum_edges r.width r.height (λ e. where_true (is_seam r e) (F e *ℤ at_edge_end o e)) ≡ sum_below count (λ v. number v *ℤ flow_in r F (region v))
     ends =
-        sum_edges-same r.width r.height (λ e. where_true (is_seam r e) (F e *ℤ at_end o e)) (λ e. sum_below count (λ v. number v *ℤ where_true (is_seam r e && at_end (region v) e) (F e)))
-        (on_each_edge r.width r.height (λ e. where_true (is_seam r e) (F e *ℤ at_end o e) ≡ sum_below count (λ v. number v *ℤ where_true (is_seam r e && at_end (region v) e) (F e)))
+        sum_edges-same r.width r.height (λ e. where_true (is_seam r e) (F e *ℤ at_edge_end o e)) (λ e. sum_below count (λ v. number v *ℤ where_true (is_seam r e && at_edge_end (region v) e) (F e)))
+        (on_each_edge r.width r.height (λ e. where_true (is_seam r e) (F e *ℤ at_edge_end o e) ≡ sum_below count (λ v. number v *ℤ where_true (is_seam r e && at_edge_end (region v) e) (F e)))
         (λ x y l m n. sym (taken (x + 1) y (is_seam r (right_edge x y)) (F (right_edge x y)) n m (λ s k. none_masked (right_edge x y) (right_is_edge r.width r.height x y l m n) s (second_off (mask x y) (mask (x + 1) y) k))))
         (λ x y l m n. sym (taken x (y + 1) (is_seam r (down_edge x y)) (F (down_edge x y)) l n (λ s k. none_masked (down_edge x y) (down_is_edge r.width r.height x y l m n) s (second_off (mask x y) (mask x (y + 1)) k)))))
-        ∙ sum_edges-below r.width r.height count (λ v e. number v *ℤ where_true (is_seam r e && at_end (region v) e) (F e))
-        ∙ sum_below-same count (λ v. sum_edges r.width r.height (λ e. number v *ℤ where_true (is_seam r e && at_end (region v) e) (F e))) (λ v. number v *ℤ flow_in r F (region v)) (λ v n. sum_edges-scale r.width r.height (number v) (λ e. where_true (is_seam r e && at_end (region v) e) (F e)))
+        ∙ sum_edges-below r.width r.height count (λ v e. number v *ℤ where_true (is_seam r e && at_edge_end (region v) e) (F e))
+        ∙ sum_below-same count (λ v. sum_edges r.width r.height (λ e. number v *ℤ where_true (is_seam r e && at_edge_end (region v) e) (F e))) (λ v. number v *ℤ flow_in r F (region v)) (λ v n. sum_edges-scale r.width r.height (number v) (λ e. where_true (is_seam r e && at_edge_end (region v) e) (F e)))
 
-    starts : sum_edges r.width r.height (λ e. where_true (is_seam r e) (F e *ℤ at_start o e)) ≡ sum_below count (λ v. number v *ℤ flow_out r F (region v))
+    starts : sum_edges r.width r.height (λ e. where_true (is_seam r e) (F e *ℤ at_edge_start o e)) ≡ sum_below count (λ v. number v *ℤ flow_out r F (region v))
     starts =
-        sum_edges-same r.width r.height (λ e. where_true (is_seam r e) (F e *ℤ at_start o e)) (λ e. sum_below count (λ v. number v *ℤ where_true (is_seam r e && at_start (region v) e) (F e)))
-        (on_each_edge r.width r.height (λ e. where_true (is_seam r e) (F e *ℤ at_start o e) ≡ sum_below count (λ v. number v *ℤ where_true (is_seam r e && at_start (region v) e) (F e)))
+        sum_edges-same r.width r.height (λ e. where_true (is_seam r e) (F e *ℤ at_edge_start o e)) (λ e. sum_below count (λ v. number v *ℤ where_true (is_seam r e && at_edge_start (region v) e) (F e)))
+        (on_each_edge r.width r.height (λ e. where_true (is_seam r e) (F e *ℤ at_edge_start o e) ≡ sum_below count (λ v. number v *ℤ where_true (is_seam r e && at_edge_start (region v) e) (F e)))
         (λ x y l m n. sym (taken x y (is_seam r (right_edge x y)) (F (right_edge x y)) l m (λ s k. none_masked (right_edge x y) (right_is_edge r.width r.height x y l m n) s (first_off (mask x y) (mask (x + 1) y) k))))
         (λ x y l m n. sym (taken x y (is_seam r (down_edge x y)) (F (down_edge x y)) l m (λ s k. none_masked (down_edge x y) (down_is_edge r.width r.height x y l m n) s (first_off (mask x y) (mask x (y + 1)) k)))))
-        ∙ sum_edges-below r.width r.height count (λ v e. number v *ℤ where_true (is_seam r e && at_start (region v) e) (F e))
-        ∙ sum_below-same count (λ v. sum_edges r.width r.height (λ e. number v *ℤ where_true (is_seam r e && at_start (region v) e) (F e))) (λ v. number v *ℤ flow_out r F (region v)) (λ v n. sum_edges-scale r.width r.height (number v) (λ e. where_true (is_seam r e && at_start (region v) e) (F e)))
+        ∙ sum_edges-below r.width r.height count (λ v e. number v *ℤ where_true (is_seam r e && at_edge_start (region v) e) (F e))
+        ∙ sum_below-same count (λ v. sum_edges r.width r.height (λ e. number v *ℤ where_true (is_seam r e && at_edge_start (region v) e) (F e))) (λ v. number v *ℤ flow_out r F (region v)) (λ v n. sum_edges-scale r.width r.height (number v) (λ e. where_true (is_seam r e && at_edge_start (region v) e) (F e)))
 
     -- the offsets add as much at the ends as at the starts
-    level : sum_edges r.width r.height (λ e. where_true (is_seam r e) (F e *ℤ at_end o e)) ≡ sum_edges r.width r.height (λ e. where_true (is_seam r e) (F e *ℤ at_start o e))
+    level : sum_edges r.width r.height (λ e. where_true (is_seam r e) (F e *ℤ at_edge_end o e)) ≡ sum_edges r.width r.height (λ e. where_true (is_seam r e) (F e *ℤ at_edge_start o e))
     level =
         ends
         ∙ sum_below-same count (λ v. number v *ℤ flow_in r F (region v)) (λ v. number v *ℤ flow_out r F (region v)) (λ v n. ap (λ (z : ℤ). number v *ℤ z) (cert.balanced (region v) (region_is v n)))
         ∙ sym starts
 
-    step_right : (x y : ℕ) → x < r.width → y < r.height → x + 1 < r.width → (where_true (is_seam r (right_edge x y) && has_open_ends mask (right_edge x y)) (F (right_edge x y) *ℤ departure r S (right_edge x y)) +ℤ where_true (is_seam r (right_edge x y)) (F (right_edge x y) *ℤ at_end o (right_edge x y))) ≤ℤ (where_true (is_seam r (right_edge x y)) (edge_cost r mask (shifted S o) (right_edge x y)) +ℤ where_true (is_seam r (right_edge x y)) (F (right_edge x y) *ℤ at_start o (right_edge x y)))
+    step_right : (x y : ℕ) → x < r.width → y < r.height → x + 1 < r.width → (where_true (is_seam r (right_edge x y) && has_open_ends mask (right_edge x y)) (F (right_edge x y) *ℤ departure r S (right_edge x y)) +ℤ where_true (is_seam r (right_edge x y)) (F (right_edge x y) *ℤ at_edge_end o (right_edge x y))) ≤ℤ (where_true (is_seam r (right_edge x y)) (edge_cost r mask (shifted S o) (right_edge x y)) +ℤ where_true (is_seam r (right_edge x y)) (F (right_edge x y) *ℤ at_edge_start o (right_edge x y)))
     step_right x y l m n =
         edge_step (is_seam r (right_edge x y)) (has_open_ends mask (right_edge x y)) (F (right_edge x y)) (departure r S (right_edge x y)) (departure r (shifted S o) (right_edge x y)) (o x y) (o (x + 1) y) (r.weight (right_edge x y))
         (cert.bounded (right_edge x y) (right_is_edge r.width r.height x y l m n))
         (λ k. departure_moved (r.phase x y) (r.phase (x + 1) y) (S x y) (S (x + 1) y) (cycles_of r S x y) (cycles_of r S (x + 1) y) (o x y) (o (x + 1) y) (cycles_exact r mask S good x y l m (and_first (mask x y) (mask (x + 1) y) k)) (cycles_exact r mask S good (x + 1) y n m (and_second (mask x y) (mask (x + 1) y) k)))
 
-    step_down : (x y : ℕ) → x < r.width → y < r.height → y + 1 < r.height → (where_true (is_seam r (down_edge x y) && has_open_ends mask (down_edge x y)) (F (down_edge x y) *ℤ departure r S (down_edge x y)) +ℤ where_true (is_seam r (down_edge x y)) (F (down_edge x y) *ℤ at_end o (down_edge x y))) ≤ℤ (where_true (is_seam r (down_edge x y)) (edge_cost r mask (shifted S o) (down_edge x y)) +ℤ where_true (is_seam r (down_edge x y)) (F (down_edge x y) *ℤ at_start o (down_edge x y)))
+    step_down : (x y : ℕ) → x < r.width → y < r.height → y + 1 < r.height → (where_true (is_seam r (down_edge x y) && has_open_ends mask (down_edge x y)) (F (down_edge x y) *ℤ departure r S (down_edge x y)) +ℤ where_true (is_seam r (down_edge x y)) (F (down_edge x y) *ℤ at_edge_end o (down_edge x y))) ≤ℤ (where_true (is_seam r (down_edge x y)) (edge_cost r mask (shifted S o) (down_edge x y)) +ℤ where_true (is_seam r (down_edge x y)) (F (down_edge x y) *ℤ at_edge_start o (down_edge x y)))
     step_down x y l m n =
         edge_step (is_seam r (down_edge x y)) (has_open_ends mask (down_edge x y)) (F (down_edge x y)) (departure r S (down_edge x y)) (departure r (shifted S o) (down_edge x y)) (o x y) (o x (y + 1)) (r.weight (down_edge x y))
         (cert.bounded (down_edge x y) (down_is_edge r.width r.height x y l m n))
@@ -190,10 +190,10 @@ module _ (r : Raster) (mask : Field Bool) (labels : Field ℕ) (count : ℕ) (la
     unfolding seam_cost flow_total
     least =
         finish _ _ _ _ _ _
-        (sum_edges-le r.width r.height (λ e. where_true (is_seam r e && has_open_ends mask e) (F e *ℤ departure r S e) +ℤ where_true (is_seam r e) (F e *ℤ at_end o e)) (λ e. where_true (is_seam r e) (edge_cost r mask (shifted S o) e) +ℤ where_true (is_seam r e) (F e *ℤ at_start o e))
-        (on_each_edge r.width r.height (λ e. (where_true (is_seam r e && has_open_ends mask e) (F e *ℤ departure r S e) +ℤ where_true (is_seam r e) (F e *ℤ at_end o e)) ≤ℤ (where_true (is_seam r e) (edge_cost r mask (shifted S o) e) +ℤ where_true (is_seam r e) (F e *ℤ at_start o e))) step_right step_down))
-        (sum_edges-add r.width r.height (λ e. where_true (is_seam r e && has_open_ends mask e) (F e *ℤ departure r S e)) (λ e. where_true (is_seam r e) (F e *ℤ at_end o e)) ∙ ap (λ (z : ℤ). z +ℤ sum_edges r.width r.height (λ e. where_true (is_seam r e) (F e *ℤ at_end o e))) cert.equal)
-        (sum_edges-add r.width r.height (λ e. where_true (is_seam r e) (edge_cost r mask (shifted S o) e)) (λ e. where_true (is_seam r e) (F e *ℤ at_start o e)))
+        (sum_edges-le r.width r.height (λ e. where_true (is_seam r e && has_open_ends mask e) (F e *ℤ departure r S e) +ℤ where_true (is_seam r e) (F e *ℤ at_edge_end o e)) (λ e. where_true (is_seam r e) (edge_cost r mask (shifted S o) e) +ℤ where_true (is_seam r e) (F e *ℤ at_edge_start o e))
+        (on_each_edge r.width r.height (λ e. (where_true (is_seam r e && has_open_ends mask e) (F e *ℤ departure r S e) +ℤ where_true (is_seam r e) (F e *ℤ at_edge_end o e)) ≤ℤ (where_true (is_seam r e) (edge_cost r mask (shifted S o) e) +ℤ where_true (is_seam r e) (F e *ℤ at_edge_start o e))) step_right step_down))
+        (sum_edges-add r.width r.height (λ e. where_true (is_seam r e && has_open_ends mask e) (F e *ℤ departure r S e)) (λ e. where_true (is_seam r e) (F e *ℤ at_edge_end o e)) ∙ ap (λ (z : ℤ). z +ℤ sum_edges r.width r.height (λ e. where_true (is_seam r e) (F e *ℤ at_edge_end o e))) cert.equal)
+        (sum_edges-add r.width r.height (λ e. where_true (is_seam r e) (edge_cost r mask (shifted S o) e)) (λ e. where_true (is_seam r e) (F e *ℤ at_edge_start o e)))
         level
 
 pub least_by_labels : (r : Raster) (mask : Field Bool) (labels : Field ℕ) (count : ℕ) → IsLabelling r mask labels count → (S : Field ℤ) → IsCongruent r mask S → (F : Edge → ℤ) → IsSeamCertificate r mask S F → IsLeastAtSeams r mask S

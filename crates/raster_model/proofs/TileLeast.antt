@@ -4,7 +4,7 @@ use Rattle.std.specs.Prelude.{ℤ, pos, ◌+ℤ◌, ◌-ℤ◌, ◌*ℤ◌, ◌�
 use Rattle.std.proofs.lemmas.Int.{ints}
 use Rattle.std.proofs.lemmas.Bool.Decides.{nat_tests}
 use Rattle.raster_model.specs.declared.edge.Edge.{Edge}
-use Rattle.raster_model.specs.Sums.{Field, at_start, at_end, is_edge, right_edge, down_edge}
+use Rattle.raster_model.specs.Sums.{Field, at_edge_start, at_edge_end, is_edge, right_edge, down_edge}
 use Rattle.raster_model.specs.Raster.{Raster, IsCongruent, gradient, round_cell, residue, departure, cycle_departure, has_open_ends, is_inner, edge_cost, tile_cost}
 use Rattle.raster_model.specs.Certificates.{above, left, face_difference, is_cell, faces_of_tile, face_product, face_total, IsTileCertificate, IsLeastInTile}
 use Rattle.raster_model.specs.Best.{CertifiedTilesAreLeast}
@@ -39,10 +39,10 @@ residue_is r c x y =
     ap (λ (z : ℤ). int_div z (pos 65536)) e ∙ div_exact (cycle_departure r c (right_edge x (y + 1)) +ℤ cycle_departure r c (down_edge x y) -ℤ cycle_departure r c (right_edge x y) -ℤ cycle_departure r c (down_edge (x + 1) y))
 
 -- on an edge whose ends are open it is the departure
-pub departure_is : (r : Raster) (S : Field ℤ) (e : Edge) → at_start S e ≡ pos (at_start r.phase e) +ℤ pos 65536 *ℤ at_start (cycles_of r S) e → at_end S e ≡ pos (at_end r.phase e) +ℤ pos 65536 *ℤ at_end (cycles_of r S) e → departure r S e ≡ cycle_departure r (cycles_of r S) e
+pub departure_is : (r : Raster) (S : Field ℤ) (e : Edge) → at_edge_start S e ≡ pos (at_edge_start r.phase e) +ℤ pos 65536 *ℤ at_edge_start (cycles_of r S) e → at_edge_end S e ≡ pos (at_edge_end r.phase e) +ℤ pos 65536 *ℤ at_edge_end (cycles_of r S) e → departure r S e ≡ cycle_departure r (cycles_of r S) e
 departure_is r S e p q =
-    let t = turns_exact (at_start r.phase e) (at_end r.phase e) in
-    let d : at_end S e -ℤ at_start S e -ℤ gradient r e ≡ pos 65536 *ℤ cycle_departure r (cycles_of r S) e = omega (arith, ints, p, q, t) in
+    let t = turns_exact (at_edge_start r.phase e) (at_edge_end r.phase e) in
+    let d : at_edge_end S e -ℤ at_edge_start S e -ℤ gradient r e ≡ pos 65536 *ℤ cycle_departure r (cycles_of r S) e = omega (arith, ints, p, q, t) in
     ap (λ (z : ℤ). int_div z (pos 65536)) d ∙ div_exact (cycle_departure r (cycles_of r S) e)
 
 -- ---- one edge

@@ -4,7 +4,7 @@ use Rattle.std.specs.Prelude.{◌↔◌}
 use Rattle.std.proofs.lemmas.Nat.{mul-le, mul-add-lt, div_below, div-add-mod', mod_below, div-mul-add, mod-mul-add}
 use Rattle.raster_model.specs.declared.tiling.Tiling.{Tiling}
 use Rattle.raster_model.specs.declared.tiling.Window.{Window}
-use Rattle.raster_model.specs.Tiles.{columns_of, rows_of, tiles_of, tile_at, window_of, IsWindowOf, TilesAreNumbered, TilesAreSquares, PixelsHaveOneWindow, IsWindowIn}
+use Rattle.raster_model.specs.Tiles.{columns_of_tiles, rows_of_tiles, tiles_of, tile_at, window_of, IsWindowOf, TilesAreNumbered, TilesAreSquares, PixelsHaveOneWindow, IsWindowIn}
 
 -- the place of x in blocks of d
 pub in_block : (x d q : ℕ) → 0 < d → x / d ≡ q → (q * d ≤ x) × (x < q * d + d)
@@ -40,26 +40,26 @@ split_is a b t n l = (
 )
 
 pub window_is : (g : Tiling) (tile : ℕ) (v : Window) → tile < tiles_of g
-    → v.x0 ≡ tile % columns_of g * g.side → v.y0 ≡ tile / columns_of g * g.side
+    → v.x0 ≡ tile % columns_of_tiles g * g.side → v.y0 ≡ tile / columns_of_tiles g * g.side
     → v.x1 ≡ min (v.x0 + g.side) g.width - 1 → v.y1 ≡ min (v.y0 + g.side) g.height - 1 → IsWindowOf g tile v
 window_is g tile v l ex ey fx fy =
     let p : 0 < g.side = omega arith in
-    let some : 0 < columns_of g = omega (arith, block_below 0 g.width g.side p (omega arith)) in
-    let cx = block_start (tile % columns_of g) g.width g.side p (mod_below tile (columns_of g) some) in
-    let cy = block_start (tile / columns_of g) g.height g.side p (div_below tile (columns_of g) (rows_of g) some l) in
+    let some : 0 < columns_of_tiles g = omega (arith, block_below 0 g.width g.side p (omega arith)) in
+    let cx = block_start (tile % columns_of_tiles g) g.width g.side p (mod_below tile (columns_of_tiles g) some) in
+    let cy = block_start (tile / columns_of_tiles g) g.height g.side p (div_below tile (columns_of_tiles g) (rows_of_tiles g) some l) in
     record {
       across = (omega (arith, cx, ex, fx), omega (arith, cx, ex, fx));
       along = (omega (arith, cy, ey, fy), omega (arith, cy, ey, fy));
       pixels = λ x y h k. (
         (λ e.
-            let q = (split_is (y / g.side) (x / g.side) tile (columns_of g) (block_below x g.width g.side p h)).0 e in
-            let bx = in_block x g.side (tile % columns_of g) p q.1 in
-            let by = in_block y g.side (tile / columns_of g) p q.0 in
+            let q = (split_is (y / g.side) (x / g.side) tile (columns_of_tiles g) (block_below x g.width g.side p h)).0 e in
+            let bx = in_block x g.side (tile % columns_of_tiles g) p q.1 in
+            let by = in_block y g.side (tile / columns_of_tiles g) p q.0 in
             (omega (arith, bx, ex, fx), omega (arith, bx, ex, fx), omega (arith, by, ey, fy), omega (arith, by, ey, fy))),
         (λ w.
-            let bx = from_block x g.side (tile % columns_of g) p (omega (arith, w, ex, fx)) (omega (arith, w, ex, fx)) in
-            let by = from_block y g.side (tile / columns_of g) p (omega (arith, w, ey, fy)) (omega (arith, w, ey, fy)) in
-            (split_is (y / g.side) (x / g.side) tile (columns_of g) (block_below x g.width g.side p h)).1 (by, bx)),
+            let bx = from_block x g.side (tile % columns_of_tiles g) p (omega (arith, w, ex, fx)) (omega (arith, w, ex, fx)) in
+            let by = from_block y g.side (tile / columns_of_tiles g) p (omega (arith, w, ey, fy)) (omega (arith, w, ey, fy)) in
+            (split_is (y / g.side) (x / g.side) tile (columns_of_tiles g) (block_below x g.width g.side p h)).1 (by, bx)),
       );
     }
 
@@ -70,7 +70,7 @@ window_of-pixels g tile l = window_is g tile (window_of g tile) l refl refl refl
 pub tiles_are_numbered : TilesAreNumbered
 tiles_are_numbered g x y l m =
     let p : 0 < g.side = omega (arith, g.sides) in
-    let e : (y / g.side) * columns_of g + x / g.side < columns_of g * rows_of g = mul-add-lt (y / g.side) (columns_of g) (x / g.side) (rows_of g) (block_below y g.height g.side p m) (block_below x g.width g.side p l) in
+    let e : (y / g.side) * columns_of_tiles g + x / g.side < columns_of_tiles g * rows_of_tiles g = mul-add-lt (y / g.side) (columns_of_tiles g) (x / g.side) (rows_of_tiles g) (block_below y g.height g.side p m) (block_below x g.width g.side p l) in
     grind arith
 
 pub tiles_are_squares : TilesAreSquares
@@ -79,10 +79,10 @@ tiles_are_squares g x y a b l m =
     let u = block_below x g.width g.side p l in
     let v = block_below a g.width g.side p m in (
       λ e. (
-        sym (mod-mul-add (y / g.side) (columns_of g) (x / g.side) u) ∙ ap (λ (n : ℕ). n % columns_of g) e ∙ mod-mul-add (b / g.side) (columns_of g) (a / g.side) v,
-        sym (div-mul-add (y / g.side) (columns_of g) (x / g.side) u) ∙ ap (λ (n : ℕ). n / columns_of g) e ∙ div-mul-add (b / g.side) (columns_of g) (a / g.side) v,
+        sym (mod-mul-add (y / g.side) (columns_of_tiles g) (x / g.side) u) ∙ ap (λ (n : ℕ). n % columns_of_tiles g) e ∙ mod-mul-add (b / g.side) (columns_of_tiles g) (a / g.side) v,
+        sym (div-mul-add (y / g.side) (columns_of_tiles g) (x / g.side) u) ∙ ap (λ (n : ℕ). n / columns_of_tiles g) e ∙ div-mul-add (b / g.side) (columns_of_tiles g) (a / g.side) v,
       ),
-      λ h. ap₂ (λ (i j : ℕ). i * columns_of g + j) h.1 h.0,
+      λ h. ap₂ (λ (i j : ℕ). i * columns_of_tiles g + j) h.1 h.0,
     )
 
 pub pixels_have_one_window : PixelsHaveOneWindow
@@ -100,7 +100,7 @@ blocks_at_most a d p =
 pub few_tiles : (g : Tiling) → tiles_of g ≤ 4194304
 few_tiles g =
     let p : 0 < g.side = omega (arith, g.sides) in
-    omega (arith, g.few, mul-le (rows_of g) (columns_of g) g.height g.width (blocks_at_most g.height g.side p) (blocks_at_most g.width g.side p))
+    omega (arith, g.few, mul-le (rows_of_tiles g) (columns_of_tiles g) g.height g.width (blocks_at_most g.height g.side p) (blocks_at_most g.width g.side p))
 
 pub window_in : (g : Tiling) (tile : ℕ) (v : Window) → IsWindowOf g tile v → IsWindowIn g.width g.height v
 window_in g tile v is = record { across = is.across; along = is.along }

@@ -1,13 +1,13 @@
 -- What the departure and the residue are, with no division.
 use Rattle.std.specs.Prelude.{◌≡◌, ℕ, ◌≤◌, ℤ, pos, ◌+ℤ◌, ◌-ℤ◌, ◌*ℤ◌, Bool, IsTrue, unsigned_abs}
 use Rattle.raster_model.specs.declared.edge.Edge.{Edge}
-use Rattle.raster_model.specs.Sums.{Field, at_start, at_end, is_edge, sum_edges}
+use Rattle.raster_model.specs.Sums.{Field, at_edge_start, at_edge_end, is_edge, sum_edges}
 use Rattle.raster_model.specs.Certificates.{face_total, face_difference, faces_of_tile}
 use Rattle.raster_model.specs.Raster.{Raster, IsCongruent, gradient, round_cell, residue, departure, lifted, cycle_departure, has_open_ends}
 
 -- on an edge with open ends a congruent surface rises by the wrapped difference and the departure's whole cycles
 abbrev pub DepartureIsExact : Type 0
-DepartureIsExact = (r : Raster) (mask : Field Bool) (S : Field ℤ) → IsCongruent r mask S → (e : Edge) → IsTrue (is_edge r.width r.height e) → IsTrue (has_open_ends mask e) → at_end S e -ℤ at_start S e ≡ gradient r e +ℤ pos 65536 *ℤ departure r S e
+DepartureIsExact = (r : Raster) (mask : Field Bool) (S : Field ℤ) → IsCongruent r mask S → (e : Edge) → IsTrue (is_edge r.width r.height e) → IsTrue (has_open_ends mask e) → at_edge_end S e -ℤ at_edge_start S e ≡ gradient r e +ℤ pos 65536 *ℤ departure r S e
 
 -- a surface of whole cycles above the phase is congruent under any mask, and its departures are those of its cycles
 abbrev pub LiftedIsCongruent : Type 0

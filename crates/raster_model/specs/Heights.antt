@@ -1,7 +1,7 @@
 -- What is known of heights.
 use Rattle.std.specs.Prelude.{◌≡◌, ℕ, ◌<◌, Bool, IsTrue}
 use Rattle.raster_model.specs.declared.edge.Edge.{Edge}
-use Rattle.raster_model.specs.Sums.{Field, at_start, at_end}
+use Rattle.raster_model.specs.Sums.{Field, at_edge_start, at_edge_end}
 use Rattle.raster_model.specs.Raster.{Raster, has_open_ends}
 
 -- every open pixel is known; every open pixel of tile t is; both ends of an edge are, where they are open
@@ -12,4 +12,4 @@ abbrev pub KnowsOpenOf : Raster → Field Bool → ℕ → Field Bool → Type 0
 KnowsOpenOf r mask t knows = (x y : ℕ) → x < r.width → y < r.height → r.tile x y ≡ t → IsTrue (mask x y) → IsTrue (knows x y)
 
 abbrev pub KnowsEnds : Field Bool → Field Bool → Edge → Type 0
-KnowsEnds mask knows e = IsTrue (has_open_ends mask e) → IsTrue (at_start knows e) × IsTrue (at_end knows e)
+KnowsEnds mask knows e = IsTrue (has_open_ends mask e) → IsTrue (at_edge_start knows e) × IsTrue (at_edge_end knows e)

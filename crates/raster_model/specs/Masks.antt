@@ -3,7 +3,7 @@ use Rattle.std.specs.Prelude.{◌≡◌, ◌≢◌, ◌⊎◌, ℕ, ◌+◌, ◌
 use Rattle.raster_model.specs.declared.plane.Plane.{Plane}
 use Rattle.raster_model.specs.MaskView.{MaskView}
 use Rattle.raster_model.specs.Sums.{Field}
-use Rattle.raster_model.specs.Planes.{sample_at}
+use Rattle.raster_model.specs.Planes.{plane_sample}
 
 -- whether a pixel is open
 abbrev pub open_at : MaskView → Field Bool
@@ -20,7 +20,7 @@ abbrev pub all_open : Field Bool
 all_open x y = true
 
 abbrev pub open_by : Plane → Field Bool
-open_by p x y = not (sample_at p x y == 0)
+open_by p x y = not (plane_sample p x y == 0)
 
 -- the new mask is the old one but for the pixel (x, y), where it is open exactly if the test says so
 pub record IsSetAt (old new : MaskView) (x y : ℕ) (unmasked : Bool) : Type 0 where

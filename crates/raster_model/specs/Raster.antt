@@ -2,7 +2,7 @@
 -- A surface, a mask, a phase and tile numbers are functions of x and y; an edge is named by its first pixel and its direction.
 use Rattle.std.specs.Prelude.{◌≡◌, ℕ, ◌+◌, ◌*◌, ◌<◌, ℤ, pos, ◌+ℤ◌, ◌-ℤ◌, ◌*ℤ◌, Bool, ◌&&◌, ◌==◌, not, IsTrue, if◌then◌else◌, unsigned_abs, int_div}
 use Rattle.raster_model.specs.declared.edge.Edge.{Edge}
-use Rattle.raster_model.specs.Sums.{Field, at_start, at_end, edges_from, sum_edges, right_edge, down_edge}
+use Rattle.raster_model.specs.Sums.{Field, at_edge_start, at_edge_end, edges_from, sum_edges, right_edge, down_edge}
 use Rattle.raster_model.specs.Phase.{wrapped, turns}
 use Rattle.sums_and_lists.specs.Sums.{where_true}
 
@@ -17,7 +17,7 @@ pub record Raster : Type 0 where
 
 -- the wrapped difference of an edge, from its first end to the other
 abbrev pub gradient : Raster → Edge → ℤ
-gradient r e = wrapped (at_start r.phase e) (at_end r.phase e)
+gradient r e = wrapped (at_edge_start r.phase e) (at_edge_end r.phase e)
 
 -- the sum of the wrapped differences round the cell whose upper left corner is (x, y): along its top and its right side, and back along its bottom and its left side
 abbrev pub round_cell : Raster → Field ℤ
@@ -33,17 +33,17 @@ IsCongruent r mask S = (x y : ℕ) → x < r.width → y < r.height → IsTrue (
 
 -- whole cycles by which a congruent surface departs from the wrapped difference of an edge with open ends
 abbrev pub departure : Raster → Field ℤ → Edge → ℤ
-departure r S e = int_div (at_end S e -ℤ at_start S e -ℤ gradient r e) (pos 65536)
+departure r S e = int_div (at_edge_end S e -ℤ at_edge_start S e -ℤ gradient r e) (pos 65536)
 
 -- the surface that lies so many whole cycles above the phase, and its departures by the cycles alone
 abbrev pub lifted : Raster → Field ℤ → Field ℤ
 lifted r cycles x y = pos (r.phase x y) +ℤ pos 65536 *ℤ cycles x y
 
 abbrev pub cycle_departure : Raster → Field ℤ → Edge → ℤ
-cycle_departure r cycles e = at_end cycles e -ℤ at_start cycles e +ℤ turns (at_start r.phase e) (at_end r.phase e)
+cycle_departure r cycles e = at_edge_end cycles e -ℤ at_edge_start cycles e +ℤ turns (at_edge_start r.phase e) (at_edge_end r.phase e)
 
 abbrev pub has_open_ends : Field Bool → Edge → Bool
-has_open_ends mask e = at_start mask e && at_end mask e
+has_open_ends mask e = at_edge_start mask e && at_edge_end mask e
 
 -- the weight under a mask: 0 where an end is masked
 abbrev pub masked_weight : Raster → Field Bool → Edge → ℕ
@@ -51,10 +51,10 @@ masked_weight r mask e = if has_open_ends mask e then r.weight e else 0
 
 -- both ends lie in tile t; the ends lie in two tiles
 abbrev pub is_inner : Raster → ℕ → Edge → Bool
-is_inner r t e = (at_start r.tile e == t) && (at_end r.tile e == t)
+is_inner r t e = (at_edge_start r.tile e == t) && (at_edge_end r.tile e == t)
 
 abbrev pub is_seam : Raster → Edge → Bool
-is_seam r e = not (at_start r.tile e == at_end r.tile e)
+is_seam r e = not (at_edge_start r.tile e == at_edge_end r.tile e)
 
 -- what an edge with open ends adds to a cost: its weight times its absolute departure (Costantini 1998)
 abbrev pub edge_cost : Raster → Field Bool → Field ℤ → Edge → ℤ

@@ -1,7 +1,7 @@
 -- Regions, their offsets and what certifies the seams (Chen and Zebker 2002, tiles that do not overlap).
 use Rattle.std.specs.Prelude.{◌≡◌, ℕ, ◌+◌, ◌<◌, ◌≤◌, ℤ, pos, ◌+ℤ◌, ◌*ℤ◌, ◌≤ℤ◌, Bool, ◌&&◌, ◌==◌, not, ◌↔◌, IsTrue, unsigned_abs, ◌⊎◌}
 use Rattle.raster_model.specs.declared.edge.Edge.{Edge}
-use Rattle.raster_model.specs.Sums.{Field, at_start, at_end, is_edge, sum_edges, right_edge, down_edge}
+use Rattle.raster_model.specs.Sums.{Field, at_edge_start, at_edge_end, is_edge, sum_edges, right_edge, down_edge}
 use Rattle.raster_model.specs.Raster.{Raster, departure, has_open_ends, masked_weight, is_seam, seam_cost}
 use Rattle.sums_and_lists.specs.Sums.{where_true}
 
@@ -54,13 +54,13 @@ pub record AreRegions (r : Raster) (mask : Field Bool) (labels : Field ℕ) (cou
   pub labelling : IsLabelling r mask labels count
   pub in_order : (x y a b : ℕ) → IsFirst r mask x y → IsFirst r mask a b → IsEarlier x y a b → labels x y < labels a b
 
--- there are no two such numberings
+-- there are no two such numberings, and no two such counts
 abbrev pub RegionNumbersAreUnique : Type 0
-RegionNumbersAreUnique = (r : Raster) (mask : Field Bool) (labels : Field ℕ) (count : ℕ) (labels' : Field ℕ) (count' : ℕ) → AreRegions r mask labels count → AreRegions r mask labels' count' → (x y : ℕ) → IsOpenPixel r mask x y → labels x y ≡ labels' x y
+RegionNumbersAreUnique = (r : Raster) (mask : Field Bool) (labels : Field ℕ) (count : ℕ) (labels' : Field ℕ) (count' : ℕ) → AreRegions r mask labels count → AreRegions r mask labels' count' → (count ≡ count') × ((x y : ℕ) → IsOpenPixel r mask x y → labels x y ≡ labels' x y)
 
 -- whole numbers that are one number on each region: both ends of each inner edge with open ends have the same
 abbrev pub AreOffsets : Raster → Field Bool → Field ℤ → Type 0
-AreOffsets r mask o = (e : Edge) → IsTrue (is_open_inner r mask e) → at_start o e ≡ at_end o e
+AreOffsets r mask o = (e : Edge) → IsTrue (is_open_inner r mask e) → at_edge_start o e ≡ at_edge_end o e
 
 -- the surface moved by so many cycles at each pixel
 abbrev pub shifted : Field ℤ → Field ℤ → Field ℤ
@@ -68,10 +68,10 @@ shifted S o x y = S x y +ℤ pos 65536 *ℤ o x y
 
 -- the sum of F over the seam edges that end in a region, and over those that start in it
 abbrev pub flow_in : Raster → (Edge → ℤ) → Field Bool → ℤ
-flow_in r F region = sum_edges r.width r.height (λ e. where_true (is_seam r e && at_end region e) (F e))
+flow_in r F region = sum_edges r.width r.height (λ e. where_true (is_seam r e && at_edge_end region e) (F e))
 
 abbrev pub flow_out : Raster → (Edge → ℤ) → Field Bool → ℤ
-flow_out r F region = sum_edges r.width r.height (λ e. where_true (is_seam r e && at_start region e) (F e))
+flow_out r F region = sum_edges r.width r.height (λ e. where_true (is_seam r e && at_edge_start region e) (F e))
 
 -- a flow times a departure, summed over the seam edges with open ends
 unfoldable pub flow_total : Raster → Field Bool → Field ℤ → (Edge → ℤ) → ℤ

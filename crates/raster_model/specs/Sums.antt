@@ -15,8 +15,8 @@ abbrev pub sum_grid : ℕ → ℕ → Field ℤ → ℤ
 sum_grid w h f = sum_below h (sum_row w f)
 
 -- what a field has at the first end of an edge, and at the other
-abbrev pub at_start : {A : Type 0} → Field A → Edge → A
-at_start f e = f e.x e.y
+abbrev pub at_edge_start : {A : Type 0} → Field A → Edge → A
+at_edge_start f e = f e.x e.y
 
 abbrev pub end_x : Edge → ℕ
 end_x e = if e.down then e.x else e.x + 1
@@ -24,8 +24,8 @@ end_x e = if e.down then e.x else e.x + 1
 abbrev pub end_y : Edge → ℕ
 end_y e = if e.down then e.y + 1 else e.y
 
-abbrev pub at_end : {A : Type 0} → Field A → Edge → A
-at_end f e = f (end_x e) (end_y e)
+abbrev pub at_edge_end : {A : Type 0} → Field A → Edge → A
+at_edge_end f e = f (end_x e) (end_y e)
 
 -- a pixel of a raster of w by h pixels
 abbrev pub is_pixel : ℕ → ℕ → Field Bool
@@ -33,7 +33,7 @@ is_pixel w h x y = nat_lt x w && nat_lt y h
 
 -- an edge of that raster: both ends are pixels of it
 abbrev pub is_edge : ℕ → ℕ → Edge → Bool
-is_edge w h e = at_start (is_pixel w h) e && at_end (is_pixel w h) e
+is_edge w h e = at_edge_start (is_pixel w h) e && at_edge_end (is_pixel w h) e
 
 -- the edges that start at a pixel
 abbrev pub right_edge : ℕ → ℕ → Edge

@@ -5,24 +5,24 @@ use Rattle.raster_model.specs.declared.tiling.Window.{Window}
 use Rattle.raster_model.specs.Sums.{Field}
 
 -- how many tiles lie side by side, how many one below another, and how many there are
-abbrev pub columns_of : Tiling → ℕ
-columns_of g = (g.width + g.side - 1) / g.side
+abbrev pub columns_of_tiles : Tiling → ℕ
+columns_of_tiles g = (g.width + g.side - 1) / g.side
 
-abbrev pub rows_of : Tiling → ℕ
-rows_of g = (g.height + g.side - 1) / g.side
+abbrev pub rows_of_tiles : Tiling → ℕ
+rows_of_tiles g = (g.height + g.side - 1) / g.side
 
 abbrev pub tiles_of : Tiling → ℕ
-tiles_of g = rows_of g * columns_of g
+tiles_of g = rows_of_tiles g * columns_of_tiles g
 
 -- the tile of a pixel; tiles are numbered row by row
 abbrev pub tile_at : Tiling → Field ℕ
-tile_at g x y = (y / g.side) * columns_of g + x / g.side
+tile_at g x y = (y / g.side) * columns_of_tiles g + x / g.side
 
 -- the window of a tile: its corners
 unfoldable pub window_of : Tiling → ℕ → Window
 window_of g t =
-    let x = t % columns_of g * g.side in
-    let y = t / columns_of g * g.side in
+    let x = t % columns_of_tiles g * g.side in
+    let y = t / columns_of_tiles g * g.side in
     record { x0 = x; y0 = y; x1 = min (x + g.side) g.width - 1; y1 = min (y + g.side) g.height - 1 }
 
 -- the window has a pixel

@@ -5,8 +5,8 @@ use Rattle.raster_model.specs.declared.plane.Plane.{Plane}
 use Rattle.raster_model.specs.declared.weights.EdgeWeights.{EdgeWeights}
 use Rattle.raster_model.specs.declared.weights.RuleKind.{RuleKind}
 use Rattle.raster_model.specs.declared.weights.RuleKind.TheVariants.{Least, Mean, Product}
-use Rattle.raster_model.specs.Sums.{at_start, at_end, is_edge}
-use Rattle.raster_model.specs.Planes.{sample_at}
+use Rattle.raster_model.specs.Sums.{at_edge_start, at_edge_end, is_edge}
+use Rattle.raster_model.specs.Planes.{plane_sample}
 
 -- the number of a rule over the weights a and b of an edge's ends, with the weight plane's maxval, rounded down
 abbrev pub rule_number : RuleKind → ℕ → ℕ → ℕ → ℕ
@@ -16,7 +16,7 @@ rule_number Product maxval a b = a * b / maxval
 
 -- the weight of an edge before any mask
 abbrev pub edge_weight : RuleKind → Plane → Edge → ℕ
-edge_weight rule p e = rule_number rule p.maxval (at_start (sample_at p) e) (at_end (sample_at p) e)
+edge_weight rule p e = rule_number rule p.maxval (at_edge_start (plane_sample p) e) (at_edge_end (plane_sample p) e)
 
 -- the number that two lists in row order hold for an edge of a raster that is w pixels wide
 abbrev pub stored_weight : ℕ → EdgeWeights → Edge → ℕ

@@ -2,7 +2,7 @@ ghost use Rattle.raster_model.specs.Masks.{open_at};
 ghost use Rattle.raster_model.specs.Raster.{departure as departure_of, lifted, masked_weight};
 ghost use Rattle.raster_model.specs.Scene.{raster_of};
 ghost use Rattle.raster_model.specs.Seams.{IsFirstOpen, IsOpenPixel};
-ghost use Rattle.raster_model.specs.Sums.{at_end, at_start, is_edge};
+ghost use Rattle.raster_model.specs.Sums.{at_edge_end, at_edge_start, is_edge};
 ghost use Rattle.raster_model.specs.Weights.{edge_weight};
 ghost use Rattle.std.specs.Prelude.{◌≡◌, ◌+◌, ◌≤◌, ◌^◌, ℕ, IfNone, IfSome, IsTrue, unsigned_abs};
 
@@ -43,8 +43,8 @@ pub fn stored_weight(scene: &Scene, edge: Edge) -> u16
 /// (Chen and Zebker 2002.)
 pub fn departure<H: Heights>(scene: &Scene, heights: &H, edge: Edge) -> i64
     requires is_edge { IsTrue (is_edge scene.now.phase.width scene.now.phase.height edge) }
-    requires start { IsTrue (at_start (H.knows heights.now) edge) }
-    requires end { IsTrue (at_end (H.knows heights.now) edge) }
+    requires start { IsTrue (at_edge_start (H.knows heights.now) edge) }
+    requires end { IsTrue (at_edge_end (H.knows heights.now) edge) }
     ensures value { result ≡ departure_of (raster_of scene.now) (lifted (raster_of scene.now) (H.cycles_at heights.now)) edge }
     ensures small { unsigned_abs result ≤ 2 ^ 49 + 1 }
 {

@@ -35,7 +35,7 @@ pub struct Plane {
     pub ghost below: { (k : ℕ) → slice_index samples.items k ≤ maxval },
 }
 
-/// Why numbers and samples do not make a plane. Of several reasons the first in this order is given.
+/// Why numbers and samples do not make a plane. If several apply, the first variant is returned.
 #[derive(Clone, Copy, Debug, PartialEq, Eq)]
 pub enum PlaneShape {
     /// A side or the number of pixels breaks a limit.
@@ -49,13 +49,13 @@ pub enum PlaneShape {
 }
 
 impl Plane {
-    ghost use Rattle.raster_model.specs.Planes.{refusal_of, sample_at};
+    ghost use Rattle.raster_model.specs.Planes.{plane_refusal, plane_sample};
     ghost use Rattle.std.specs.Prelude.{IfOk, IsOkAnd};
 
     /// The plane with these fields. Samples are in row order. It takes no memory.
     pub fn new(width: u32, height: u32, maxval: u16, samples: Vec<u16>) -> Result<Plane, PlaneShape>
-        ensures refused { IfSome (refusal_of width height maxval samples.items) (λ reason. result ≡ Err reason) }
-        ensures accepted { IfNone (refusal_of width height maxval samples.items) (IsOkAnd result (λ plane. (plane.width ≡ width) × (plane.height ≡ height) × (plane.maxval ≡ maxval) × (plane.samples ≡ samples))) }
+        ensures refused { IfSome (plane_refusal width height maxval samples.items) (λ reason. result ≡ Err reason) }
+        ensures accepted { IfNone (plane_refusal width height maxval samples.items) (IsOkAnd result (λ plane. (plane.width ≡ width) × (plane.height ≡ height) × (plane.maxval ≡ maxval) × (plane.samples ≡ samples))) }
         ensures fields { IfOk result (λ plane. (plane.width ≡ width) × (plane.height ≡ height) × (plane.maxval ≡ maxval) × (plane.samples ≡ samples)) }
     {
         if !is_raster_size(width, height) {
@@ -82,7 +82,7 @@ impl Plane {
     pub fn sample(&self, x: u32, y: u32) -> u16
         requires across { x < self.now.width }
         requires along { y < self.now.height }
-        ensures value { result ≡ sample_at self.now x y }
+        ensures value { result ≡ plane_sample self.now x y }
         ensures small { result ≤ self.now.maxval }
     {
         self.samples[y as usize * self.width as usize + x as usize]

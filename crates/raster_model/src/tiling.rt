@@ -59,7 +59,7 @@ impl Window {
 
 impl Tiling {
     ghost use Rattle.raster_model.specs.Limits.{is_raster_size};
-    ghost use Rattle.raster_model.specs.Tiles.{columns_of, rows_of, tiles_of, tile_at, window_of, IsWindowOf};
+    ghost use Rattle.raster_model.specs.Tiles.{columns_of_tiles, rows_of_tiles, tiles_of, tile_at, window_of, IsWindowOf};
     ghost use Rattle.std.specs.Prelude.{◌<◌, ◌+◌, IsTrue};
 
     /// The tiles of this side in a raster of this size.
@@ -113,14 +113,14 @@ impl Tiling {
 
     /// How many tiles lie side by side.
     fn columns(&self) -> u32
-        ensures { result ≡ columns_of self.now }
+        ensures { result ≡ columns_of_tiles self.now }
     {
         (self.width + self.side - 1) / self.side
     }
 
     /// How many tiles lie one below another.
     fn rows(&self) -> u32
-        ensures { result ≡ rows_of self.now }
+        ensures { result ≡ rows_of_tiles self.now }
     {
         (self.height + self.side - 1) / self.side
     }

@@ -1,18 +1,18 @@
 ghost use Rattle.raster_model.specs.Limits.{is_raster_size};
 ghost use Rattle.raster_model.specs.Scripts.{IsRectIn, rect_of};
 ghost use Rattle.raster_model.specs.Tiles.{tiles_of};
-ghost use Rattle.std.specs.Prelude.{◌≡◌, ◌+◌, ◌<◌, ◌≤◌, IfOk, IsTrue, OnOk};
+ghost use Rattle.std.specs.Prelude.{◌≡◌, ◌+◌, ◌<◌, ◌≤◌, IfOk, IsTrue, OnOk, true};
 
 use mask_revisions::Revisions;
 use raster_model::{Edit, Mask, Rect, Tiling};
 use std::alloc::{AllocError, Global};
-use std::test::Fail;
+use std::process::Abort;
+use std::str::Split;
 
 /// Revision 0 of a raster with every pixel open.
 fn all_open(alloc: Global, tiling: Tiling) -> Result<Revisions, AllocError>
     requires { IsTrue (is_raster_size tiling.width tiling.height) }
     ensures tiling { IfOk result (λ made. made.tiling ≡ tiling) }
-    ensures count { IfOk result (λ made. made.count ≡ 0) }
 {
     let mask = Mask::all_open(alloc, tiling.width, tiling.height)?;
     Revisions::new(alloc, mask, tiling)
@@ -28,9 +28,7 @@ fn rect(x0: u32, y0: u32, x1: u32, y1: u32) -> Rect
 /// The tiles that an edit changes, in words. Nothing is said of the mask.
 fn pushed(alloc: Global, revisions: &mut Revisions, edit: Edit) -> Result<String, AllocError>
     requires rect { IsRectIn revisions.old.tiling.width revisions.old.tiling.height (rect_of edit) }
-    requires room { revisions.old.count ≤ 1 }
     ensures tiling { OnOk result (revisions.new.tiling ≡ revisions.old.tiling) }
-    ensures count { OnOk result (revisions.new.count ≡ revisions.old.count + 1) }
 {
     let tiles = revisions.push(alloc, edit)?;
     format!(in alloc; "{tiles:?}")
@@ -111,83 +109,47 @@ fn state(alloc: Global, revisions: &Revisions, count: u32) -> Result<String, All
 /// Tiles of side 2 in a raster of 5 by 5, by hand: rows 0 and 1 lie in the tiles 0, 1, 2, rows 2 and 3 in 3, 4, 5. Of the
 /// second edit (3, 1) was masked, and (4, 1) is open already.
 #[test]
-fn the_tiles_with_a_changed_pixel_get_the_new_stamp(rt: HostRuntime) -> Result<(), Fail> {
+fn the_tiles_with_a_changed_pixel_get_the_new_stamp(rt: HostRuntime) {
     let masked = Edit::Mask(rect(1, 1, 3, 2));
     let opened = Edit::Unmask(rect(3, 1, 4, 1));
+    let told = told(rt.alloc(), Tiling::new(5, 5, 2), masked, opened).expect(&rt, "memory");
     assert_eq!(rt;
-        told(rt.alloc(), Tiling::new(5, 5, 2), masked, opened)?.as_str(),
+        told.as_str(),
         "[0, 1, 3, 4] [1]; 2 [true, true] [Some([true, true]), Some([true, true])]; \
             1 1110; 2 1101; 0 11; 1 1011; 1 0011; 0 11; 0 11; 0 11; 0 1"
     );
-    Ok(())
 }
 
 #[test]
-fn an_edit_without_a_change_is_a_revision(rt: HostRuntime) -> Result<(), Fail> {
+fn an_edit_without_a_change_is_a_revision(rt: HostRuntime) {
     let none = Edit::Unmask(rect(0, 0, 3, 0));
     let one = Edit::Mask(rect(3, 0, 3, 0));
+    let told = told(rt.alloc(), Tiling::new(4, 1, 2), none, one).expect(&rt, "memory");
     assert_eq!(rt;
-        told(rt.alloc(), Tiling::new(4, 1, 2), none, one)?.as_str(),
+        told.as_str(),
         "[] [1]; 2 [true, false] [Some([true, true]), Some([false, false])]; 0 11; 2 10"
     );
-    Ok(())
 }
 
-/// Width and height of a raster and the side of its tiles, a box that is masked, one that is opened after it, and in words
-/// the tiles that each changes and for each row how many pixels are masked in the end. By hand: a raster of 130 columns has
+/// Width and height of a raster and the side of its tiles, a box that is masked and one that is opened after it; then the tiles
+/// that each changes, and for each row how many pixels are masked in the end. By hand: a raster of 130 columns has
 /// the tiles 0, 1 and 2 from the columns 0, 64 and 128 on, where words of 64 pixels begin as well. The rows are: the whole
 /// raster and one pixel; the last pixel and the whole raster; a column of which two pixels are opened; 63, 64 and 65 pixels
 /// from the first on, and 64 from the second on; a tile of two words; rasters of 63, 64 and 65 columns up to their last
 /// pixel; a box in which nothing is masked.
-const SPANS: [(u32, u32, u32, [u32; 4], [u32; 4], &str); 12] = [
-    (
-        130,
-        3,
-        64,
-        [0, 0, 129, 2],
-        [64, 1, 64, 1],
-        "[0, 1, 2] [1] 130 129 130",
-    ),
-    (
-        130,
-        3,
-        64,
-        [129, 2, 129, 2],
-        [0, 0, 129, 2],
-        "[2] [2] open open open",
-    ),
-    (
-        130,
-        3,
-        64,
-        [63, 0, 63, 2],
-        [62, 1, 64, 2],
-        "[0] [0] 1 open open",
-    ),
-    (130, 1, 64, [0, 0, 62, 0], [62, 0, 64, 0], "[0] [0] 62"),
-    (130, 1, 64, [0, 0, 63, 0], [63, 0, 65, 0], "[0] [0] 63"),
-    (
-        130,
-        1,
-        64,
-        [0, 0, 64, 0],
-        [63, 0, 64, 0],
-        "[0, 1] [0, 1] 63",
-    ),
-    (130, 1, 64, [1, 0, 64, 0], [64, 0, 129, 0], "[0, 1] [1] 63"),
-    (128, 1, 128, [60, 0, 127, 0], [61, 0, 126, 0], "[0] [0] 2"),
-    (63, 2, 32, [0, 0, 62, 1], [62, 1, 62, 1], "[0, 1] [1] 63 62"),
-    (64, 2, 32, [0, 0, 63, 1], [63, 1, 63, 1], "[0, 1] [1] 64 63"),
-    (
-        65,
-        2,
-        32,
-        [0, 0, 64, 1],
-        [64, 0, 64, 0],
-        "[0, 1, 2] [2] 64 65",
-    ),
-    (130, 1, 64, [0, 0, 0, 0], [1, 0, 129, 0], "[0] [] 1"),
-];
+const SPANS: &str = "\
+130 3 64 0 0 129 2 64 1 64 1 = [0, 1, 2] [1] 130 129 130
+130 3 64 129 2 129 2 0 0 129 2 = [2] [2] open open open
+130 3 64 63 0 63 2 62 1 64 2 = [0] [0] 1 open open
+130 1 64 0 0 62 0 62 0 64 0 = [0] [0] 62
+130 1 64 0 0 63 0 63 0 65 0 = [0] [0] 63
+130 1 64 0 0 64 0 63 0 64 0 = [0, 1] [0, 1] 63
+130 1 64 1 0 64 0 64 0 129 0 = [0, 1] [1] 63
+128 1 128 60 0 127 0 61 0 126 0 = [0] [0] 2
+63 2 32 0 0 62 1 62 1 62 1 = [0, 1] [1] 63 62
+64 2 32 0 0 63 1 63 1 63 1 = [0, 1] [1] 64 63
+65 2 32 0 0 64 1 64 0 64 0 = [0, 1, 2] [2] 64 65
+130 1 64 0 0 0 0 1 0 129 0 = [0] [] 1";
 
 /// How many pixels of a row are masked.
 fn count_masked(mask: &Mask, y: u32) -> u32
@@ -233,15 +195,40 @@ fn masked_and_opened(
     format!(in alloc; "{first} {second}{rows}")
 }
 
+/// The next number of a row, and 0 if there is none.
+fn number(words: &mut Split<'_, char>) -> u32 {
+    words.next().unwrap_or("").parse().unwrap_or(0)
+}
+
+/// The next box of a row.
+fn next_rect(words: &mut Split<'_, char>) -> Rect {
+    let (x0, y0) = (number(words), number(words));
+    let (x1, y1) = (number(words), number(words));
+    rect(x0, y0, x1, y1)
+}
+
+/// Whether a box lies in a raster.
+fn fits(rect: Rect, width: u32, height: u32) -> bool
+    ensures { result ≡ true → IsRectIn width height rect }
+{
+    rect.x0 <= rect.x1 && rect.x1 < width && rect.y0 <= rect.y1 && rect.y1 < height
+}
+
+/// What the boxes of a row change.
+fn changed(rt: &impl Abort, alloc: Global, numbers: &str) -> Result<String, AllocError> {
+    let mut words = numbers.split(' ');
+    let (width, height, side) = (number(&mut words), number(&mut words), number(&mut words));
+    assert!(rt; 0 < width && width < 200 && 0 < height && height < 9 && 1 < side && side < 129);
+    let (masked, opened) = (next_rect(&mut words), next_rect(&mut words));
+    assert!(rt; fits(masked, width, height) && fits(opened, width, height));
+    masked_and_opened(alloc, Tiling::new(width, height, side), masked, opened)
+}
+
 #[test]
-fn boxes_change_their_pixels_over_the_ends_of_words(rt: HostRuntime) -> Result<(), Fail> {
-    for (width, height, side, [a, b, c, d], [e, f, g, h], words) in SPANS {
-        assert!(rt; 0 < width && width < 200 && 0 < height && height < 9 && 1 < side && side < 129);
-        assert!(rt; a <= c && c < width && b <= d && d < height);
-        assert!(rt; e <= g && g < width && f <= h && h < height);
-        let tiling = Tiling::new(width, height, side);
-        let told = masked_and_opened(rt.alloc(), tiling, rect(a, b, c, d), rect(e, f, g, h))?;
-        assert_eq!(rt; told.as_str(), words);
+fn boxes_change_their_pixels_over_the_ends_of_words(rt: HostRuntime) {
+    for row in SPANS.lines() {
+        let (numbers, wanted) = row.split_once(" = ").unwrap_or((row, ""));
+        let found = changed(&rt, rt.alloc(), numbers).expect(&rt, "memory");
+        assert!(rt; found.as_str() == wanted);
     }
-    Ok(())
 }

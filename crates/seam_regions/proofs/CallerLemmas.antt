@@ -10,8 +10,8 @@ use Rattle.raster_model.specs.Scene.{raster_of}
 use Rattle.raster_model.specs.Raster.{Raster, is_seam, has_open_ends}
 use Rattle.raster_model.specs.Seams.{AreOffsets, AreRegions, IsLabelling, is_open_inner}
 use Rattle.raster_model.specs.Seams.AreJoined.{here, rightward, downward}
-use Rattle.raster_model.specs.Sums.{Field, at_start, at_end, is_edge, right_edge, down_edge}
-use Rattle.seam_regions.specs.Regions.{label_at, region_at, IsTiledBy, AreRegionsOf}
+use Rattle.raster_model.specs.Sums.{Field, at_edge_start, at_edge_end, is_edge, right_edge, down_edge}
+use Rattle.seam_regions.specs.Regions.{region_label, region_at, IsTiledBy, AreRegionsOf}
 use Rattle.seam_regions.specs.RegionsView.{RegionsView}
 use Rattle.seam_regions.proofs.EdgeLemmas.{open_ends, tests_say}
 use Rattle.seam_regions.proofs.TileTests.{down_is, right_is}
@@ -20,11 +20,11 @@ use Rattle.std.proofs.lemmas.Bool.{cases_Bool}
 pub scene_is_tiled : (s : Scene) → IsTiledBy (raster_of s) s.tiling
 scene_is_tiled s = record { width = sym s.same_width.1; height = sym s.same_height.1; tile = refl }
 
-pub regions_of_scene : (s : Scene) (m : MaskView) (v : RegionsView) → AreRegionsOf s.tiling m v → AreRegions (raster_of s) (open_at m) (label_at v) v.count
+pub regions_of_scene : (s : Scene) (m : MaskView) (v : RegionsView) → AreRegionsOf s.tiling m v → AreRegions (raster_of s) (open_at m) (region_label v) v.count
 regions_of_scene s m v is = is.regions (raster_of s) (scene_is_tiled s)
 
 -- an open pixel has a region, whose number is its label
-pub region_open : (g : Tiling) (m : MaskView) (v : RegionsView) (x y : ℕ) → AreRegionsOf g m v → x < g.width → y < g.height → IsTrue (open_at m x y) → region_at v x y ≡ Some (label_at v x y)
+pub region_open : (g : Tiling) (m : MaskView) (v : RegionsView) (x y : ℕ) → AreRegionsOf g m v → x < g.width → y < g.height → IsTrue (open_at m x y) → region_at v x y ≡ Some (region_label v x y)
 region_open g m v x y is l h o = is.told x y l h ∙ rw o refl
 
 -- the ends of an inner edge with open ends have one label
@@ -43,9 +43,9 @@ module _ (r : Raster) (mask : Field Bool) (labels : Field ℕ) (count : ℕ) (is
       let o = open_ends (is_edge r.width r.height e) (mask x y) (mask x (y + 1)) (not (is_seam r e)) i in
       (is.same x y x (y + 1) (t.0, t.1, o.0) (t.2, t.3, o.1)).1 (downward here i)
 
-  pub one_label_at_ends : (e : Edge) → IsTrue (is_open_inner r mask e) → at_start labels e ≡ at_end labels e
+  pub one_label_at_ends : (e : Edge) → IsTrue (is_open_inner r mask e) → at_edge_start labels e ≡ at_edge_end labels e
   one_label_at_ends e i =
-      let P : Edge → Type 0 = λ f. at_start labels f ≡ at_end labels f in
+      let P : Edge → Type 0 = λ f. at_edge_start labels f ≡ at_edge_end labels f in
       let Q : Edge → Type 0 = λ f. IsTrue (is_open_inner r mask f) in
       elim (cases_Bool e.down) [
         | inl h ↦ (let s = down_is e h in subst P (sym s) (down_ends e.x e.y (subst Q s i)))

@@ -8,7 +8,7 @@ use Rattle.raster_model.specs.Sums.{Field, end_x, end_y, is_edge}
 use Rattle.raster_model.specs.Raster.{is_seam, has_open_ends}
 use Rattle.raster_model.specs.Seams.{is_open_inner}
 use Rattle.raster_model.proofs.MaskLemmas.{same_place}
-use Rattle.seam_regions.specs.Flood.{tiled, edge_number, next_begins}
+use Rattle.seam_regions.specs.Flood.{tiled, edge_rank, next_begins}
 use Rattle.seam_regions.proofs.TileTests.{inner_is}
 
 pub tests_say : (x y a b w h : ℕ) (k s : Bool) → IsTrue ((((nat_lt x w && nat_lt y h) && (nat_lt a w && nat_lt b h)) && k) && s) → (x < w) × (y < h) × (a < w) × (b < h)
@@ -64,7 +64,7 @@ same_half p q false true e = absurd (omega arith)
 same_half p q false false e = (omega arith, refl)
 
 -- it ends at a pixel in its direction
-pub ends_at : (w : ℕ) (e : Edge) (x y : ℕ) (d : Bool) → end_x e < w → x < w → edge_number w e ≡ 2 * (y * w + x) + (if d then 1 else 0) → (e.down ≡ d) × (end_x e ≡ x) × (end_y e ≡ y)
+pub ends_at : (w : ℕ) (e : Edge) (x y : ℕ) (d : Bool) → end_x e < w → x < w → edge_rank w e ≡ 2 * (y * w + x) + (if d then 1 else 0) → (e.down ≡ d) × (end_x e ≡ x) × (end_y e ≡ y)
 ends_at w e x y d l m n =
     let h = same_half (end_y e * w + end_x e) (y * w + x) e.down d n in
     let p = same_place w x y (end_x e) (end_y e) m l h.0 in
@@ -84,7 +84,7 @@ same_edge e f p q r =
     let at_down : Bool → Edge = λ a. record { x = f.x; y = f.y; down = a } in
     ap at_x p ∙ ap at_y q ∙ ap at_down r
 
-pub one_number : (w : ℕ) (e f : Edge) → end_x e < w → end_x f < w → edge_number w e ≡ edge_number w f → e ≡ f
+pub one_number : (w : ℕ) (e f : Edge) → end_x e < w → end_x f < w → edge_rank w e ≡ edge_rank w f → e ≡ f
 one_number w e f l m n =
     let h = ends_at w e (end_x f) (end_y f) f.down l m n in
     let p = starts e.down f.down e.x e.y f.x f.y h.0 h.1 h.2 in

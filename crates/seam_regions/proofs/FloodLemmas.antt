@@ -8,7 +8,7 @@ use Rattle.raster_model.specs.Sums.{Field, end_x, end_y, right_edge, down_edge}
 use Rattle.raster_model.specs.Seams.{AreJoined, is_open_inner}
 use Rattle.raster_model.specs.Seams.AreJoined.{here, rightward, downward}
 use Rattle.raster_model.proofs.Regions.{joined_sym, joined_trans}
-use Rattle.seam_regions.specs.Flood.{tiled, edge_number, IsFlooded, IsFlood}
+use Rattle.seam_regions.specs.Flood.{tiled, edge_rank, IsFlooded, IsFlood}
 use Rattle.seam_regions.specs.Forest.{IsForest, root_with}
 use Rattle.seam_regions.proofs.EdgeLemmas.{ends_in, one_number}
 use Rattle.seam_regions.proofs.ForestLemmas.{root_with-beyond, root_with-ends, root_with-same, root_with-least, root_with-stays, root_with-related}
@@ -51,17 +51,17 @@ module _ (g : Tiling) (mask : Field Bool) where
 
   module _ (n : ℕ) (root : ℕ → ℕ) (is : IsFlooded g mask n root) where
     -- nothing is joined where the ends have one root already, or no edge is an inner one with open ends
-    pub flooded_already : ((e : Edge) → IsTrue (is_open_inner (tiled g) mask e) → edge_number g.width e ≡ n → root (e.y * g.width + e.x) ≡ root (end_y e * g.width + end_x e)) → IsFlooded g mask (n + 1) root
+    pub flooded_already : ((e : Edge) → IsTrue (is_open_inner (tiled g) mask e) → edge_rank g.width e ≡ n → root (e.y * g.width + e.x) ≡ root (end_y e * g.width + end_x e)) → IsFlooded g mask (n + 1) root
     flooded_already same = record {
       least = is.least;
       stays = is.stays;
       walks = is.walks;
-      edges = λ f t m. elim (below_or_last (edge_number g.width f) n m) [ inl k ↦ is.edges f t k | inr k ↦ same f t k ];
+      edges = λ f t m. elim (below_or_last (edge_rank g.width f) n m) [ inl k ↦ is.edges f t k | inr k ↦ same f t k ];
       alone = λ i l. is.alone i (omega arith);
     }
 
     -- else the trees of its ends become one
-    pub flooded_with : (e : Edge) → edge_number g.width e ≡ n → IsTrue (is_open_inner (tiled g) mask e) → IsFlooded g mask (n + 1) (root_with root (e.y * g.width + e.x) (end_y e * g.width + end_x e))
+    pub flooded_with : (e : Edge) → edge_rank g.width e ≡ n → IsTrue (is_open_inner (tiled g) mask e) → IsFlooded g mask (n + 1) (root_with root (e.y * g.width + e.x) (end_y e * g.width + end_x e))
     flooded_with e number open_inner =
         let a = e.y * g.width + e.x in
         let b = end_y e * g.width + end_x e in
@@ -69,7 +69,7 @@ module _ (g : Tiling) (mask : Field Bool) where
           least = root_with-least root a b is.least;
           stays = root_with-stays root a b is.stays;
           walks = root_with-related Walk (λ i j. joined_sym) (λ i j k. joined_trans) root a b is.walks (edge_walk e open_inner);
-          edges = λ f t m. elim (below_or_last (edge_number g.width f) n m) [
+          edges = λ f t m. elim (below_or_last (edge_rank g.width f) n m) [
             | inl k ↦ root_with-same root a b (f.y * g.width + f.x) (end_y f * g.width + end_x f) (is.edges f t k)
             | inr k ↦ rw (one_number g.width f e (ends_in g mask f t).2 (ends_in g mask e open_inner).2 (k ∙ sym number)) (root_with-ends root a b)
           ];
@@ -80,7 +80,7 @@ module _ (g : Tiling) (mask : Field Bool) where
         }
 
   module _ (n : ℕ) (ps : List ℕ) (is : IsFlood g mask n ps) where
-    pub flood_already : ((e : Edge) → IsTrue (is_open_inner (tiled g) mask e) → edge_number g.width e ≡ n → is.root (e.y * g.width + e.x) ≡ is.root (end_y e * g.width + end_x e)) → IsFlood g mask (n + 1) ps
+    pub flood_already : ((e : Edge) → IsTrue (is_open_inner (tiled g) mask e) → edge_rank g.width e ≡ n → is.root (e.y * g.width + e.x) ≡ is.root (end_y e * g.width + end_x e)) → IsFlood g mask (n + 1) ps
     flood_already same = record {
       root = is.root;
       size = is.size;
@@ -88,11 +88,11 @@ module _ (g : Tiling) (mask : Field Bool) where
       flooded = flooded_already n is.root is.flooded same;
     }
 
-    pub flood_without : ((e : Edge) → IsTrue (is_open_inner (tiled g) mask e) → edge_number g.width e ≡ n → ⊥) → IsFlood g mask (n + 1) ps
+    pub flood_without : ((e : Edge) → IsTrue (is_open_inner (tiled g) mask e) → edge_rank g.width e ≡ n → ⊥) → IsFlood g mask (n + 1) ps
     flood_without none = flood_already (λ e t k. absurd (none e t k))
 
     -- a and b are the ends
-    pub flood_with : (qs : List ℕ) (e : Edge) (a b : ℕ) → a ≡ e.y * g.width + e.x → b ≡ end_y e * g.width + end_x e → edge_number g.width e ≡ n → IsTrue (is_open_inner (tiled g) mask e) → length qs ≡ length ps → IsForest qs (root_with is.root a b) → IsFlood g mask (n + 1) qs
+    pub flood_with : (qs : List ℕ) (e : Edge) (a b : ℕ) → a ≡ e.y * g.width + e.x → b ≡ end_y e * g.width + end_x e → edge_rank g.width e ≡ n → IsTrue (is_open_inner (tiled g) mask e) → length qs ≡ length ps → IsForest qs (root_with is.root a b) → IsFlood g mask (n + 1) qs
     flood_with qs e a b p q number open_inner size forest = record {
       root = root_with is.root (e.y * g.width + e.x) (end_y e * g.width + end_x e);
       size = size ∙ is.size;
@@ -101,8 +101,8 @@ module _ (g : Tiling) (mask : Field Bool) where
     }
 
   -- there is no edge of number n, and the trees of the ends of the next become one
-  pub flood_then : (n : ℕ) (ps : List ℕ) (is : IsFlood g mask n ps) → ((e : Edge) → IsTrue (is_open_inner (tiled g) mask e) → edge_number g.width e ≡ n → ⊥)
-      → (qs : List ℕ) (e : Edge) (a b : ℕ) → a ≡ e.y * g.width + e.x → b ≡ end_y e * g.width + end_x e → edge_number g.width e ≡ n + 1 → IsTrue (is_open_inner (tiled g) mask e) → length qs ≡ length ps → IsForest qs (root_with is.root a b) → IsFlood g mask (n + 1 + 1) qs
+  pub flood_then : (n : ℕ) (ps : List ℕ) (is : IsFlood g mask n ps) → ((e : Edge) → IsTrue (is_open_inner (tiled g) mask e) → edge_rank g.width e ≡ n → ⊥)
+      → (qs : List ℕ) (e : Edge) (a b : ℕ) → a ≡ e.y * g.width + e.x → b ≡ end_y e * g.width + end_x e → edge_rank g.width e ≡ n + 1 → IsTrue (is_open_inner (tiled g) mask e) → length qs ≡ length ps → IsForest qs (root_with is.root a b) → IsFlood g mask (n + 1 + 1) qs
   unfolding flood_without flood_already
   flood_then n ps is none = flood_with (n + 1) ps (flood_without n ps is none)
 

@@ -10,7 +10,7 @@ use Rattle.raster_model.specs.Raster.{Raster, is_seam}
 use Rattle.raster_model.specs.Seams.{AreJoined}
 use Rattle.raster_model.specs.Seams.AreJoined.{here, rightward, leftward, downward, upward}
 use Rattle.raster_model.proofs.Regions.{joined_sym}
-use Rattle.seam_regions.specs.Flood.{is_first, firsts_before, number_of, IsNumbered, IsFlood}
+use Rattle.seam_regions.specs.Flood.{is_first, firsts_before, region_number, IsNumbered, IsFlood}
 use Rattle.seam_regions.proofs.EdgeLemmas.{open_ends}
 use Rattle.sums_and_lists.proofs.Tests.{one_at_most}
 use Rattle.sums_and_lists.specs.Sums.{count_below, one_if}
@@ -46,7 +46,7 @@ root_is_first : (m : Bool) (r i : ℕ) → m ≡ true → r ≡ i → one_if (m 
 root_is_first m r i e f = grind (arith, nat_tests)
 
 module _ (g : Tiling) (mask : Field Bool) (k count : ℕ) (ls : List ℕ) (is : IsNumbered g mask k count ls) (inside : k < length ls) where
-  numbered_on : (count' label : ℕ) → label ≡ number_of g.width mask is.root k → count' ≡ count + one_if (is_first g.width mask is.root k) → IsNumbered g mask (k + 1) count' (slice_set ls k label)
+  numbered_on : (count' label : ℕ) → label ≡ region_number g.width mask is.root k → count' ≡ count + one_if (is_first g.width mask is.root k) → IsNumbered g mask (k + 1) count' (slice_set ls k label)
   numbered_on count' label e f = record {
     root = is.root;
     size = length-set ls k label ∙ is.size;
@@ -75,7 +75,7 @@ module _ (g : Tiling) (mask : Field Bool) (k count : ℕ) (ls : List ℕ) (is : 
       let at_root : IsTrue (mask (is.root k % g.width) (is.root k / g.width)) = open_along (is.flooded.walks k) m in
       let back = joined_sym (is.flooded.walks p) in
       let at_parent : mask (p % g.width) (p / g.width) ≡ true = open_along back (rw same at_root) in
-      let number : number_of g.width mask is.root p ≡ number_of g.width mask is.root k = rw (at_parent, m, same) refl in
+      let number : region_number g.width mask is.root p ≡ region_number g.width mask is.root k = rw (at_parent, m, same) refl in
       numbered_on count (slice_index ls p) (is.numbers p l ∙ number)
       (omega (arith, lesser_is_no_first (mask (k % g.width) (k / g.width)) (is.root k) k (omega (arith, same, is.flooded.least p))))
 
@@ -84,7 +84,7 @@ module _ (g : Tiling) (mask : Field Bool) (k count : ℕ) (ls : List ℕ) (is : 
   numbered_anew m l =
       let own : slice_index ls k ≡ k = omega (arith, is.below k (omega arith) inside) in
       let top : is.root k ≡ k = is.ends k (omega arith) inside own in
-      let number : firsts_before g.width mask is.root k ≡ number_of g.width mask is.root k = rw (m, top) refl in
+      let number : firsts_before g.width mask is.root k ≡ region_number g.width mask is.root k = rw (m, top) refl in
       numbered_on (count + 1) count (is.counted ∙ number)
       (omega (arith, root_is_first (mask (k % g.width) (k / g.width)) (is.root k) k m top))
 

@@ -10,7 +10,7 @@ use Rattle.raster_model.specs.Masks.{open_at}
 use Rattle.raster_model.specs.Sums.{Field, end_x, end_y, right_edge, down_edge}
 use Rattle.raster_model.specs.Seams.{is_open_inner}
 use Rattle.seam_regions.specs.declared.pieces.Piece.{Piece}
-use Rattle.seam_regions.specs.Flood.{tiled, edge_number, IsFlooded, IsFlood, IsPiece, IsOpenPiece}
+use Rattle.seam_regions.specs.Flood.{tiled, edge_rank, IsFlooded, IsFlood, IsPiece, IsOpenPiece}
 use Rattle.seam_regions.specs.Forest.{IsForest, root_with}
 use Rattle.seam_regions.proofs.EdgeLemmas.{inner_open, ends_in, ends_open, begins_none, ends_at, starts}
 use Rattle.seam_regions.proofs.FloodLemmas.{flood_already, flood_without, flood_with, flood_then}
@@ -85,23 +85,23 @@ module _ (g : Tiling) (p : Piece) (is : IsPiece g p) where
 
     -- ---- the edge that ends at a pixel from the left, and the one from above
     module _ (x : ℕ) (m : x ≤ p.last) (e : Edge) (t : IsTrue (is_open_inner (tiled g) mask e)) where
-      at_left : edge_number g.width e ≡ 2 * (p.y * g.width + x) → (e.down ≡ false) × (end_x e ≡ x) × (end_y e ≡ p.y)
+      at_left : edge_rank g.width e ≡ 2 * (p.y * g.width + x) → (e.down ≡ false) × (end_x e ≡ x) × (end_y e ≡ p.y)
       at_left k = ends_at g.width e x p.y false (ends_in g mask e t).2 (omega (arith, is.across, m)) (k ∙ (omega arith))
 
-      at_upper : edge_number g.width e ≡ 2 * (p.y * g.width + x) + 1 → (e.down ≡ true) × (end_x e ≡ x) × (end_y e ≡ p.y)
+      at_upper : edge_rank g.width e ≡ 2 * (p.y * g.width + x) + 1 → (e.down ≡ true) × (end_x e ≡ x) × (end_y e ≡ p.y)
       at_upper k = ends_at g.width e x p.y true (ends_in g mask e t).2 (omega (arith, is.across, m)) k
 
       end_open : end_x e ≡ x → end_y e ≡ p.y → mask x p.y ≡ true
       end_open a b = ap₂ (λ (u v : ℕ). mask u v) (sym a) (sym b) ∙ (ends_open g mask e t).1
 
-      left_start_open : 1 ≤ x → edge_number g.width e ≡ 2 * (p.y * g.width + x) → mask (x - 1) p.y ≡ true
+      left_start_open : 1 ≤ x → edge_rank g.width e ≡ 2 * (p.y * g.width + x) → mask (x - 1) p.y ≡ true
       left_start_open l k =
           let h = at_left k in
           let back : x ≡ x - 1 + 1 = omega arith in
           let s = starts e.down false e.x e.y (x - 1) p.y h.0 (h.1 ∙ back) h.2 in
           ap₂ (λ (u v : ℕ). mask u v) (sym s.0) (sym s.1) ∙ (ends_open g mask e t).0
 
-      upper_start_open : 1 ≤ p.y → edge_number g.width e ≡ 2 * (p.y * g.width + x) + 1 → mask x (p.y - 1) ≡ true
+      upper_start_open : 1 ≤ p.y → edge_rank g.width e ≡ 2 * (p.y * g.width + x) + 1 → mask x (p.y - 1) ≡ true
       upper_start_open l k =
           let h = at_upper k in
           let back : p.y ≡ p.y - 1 + 1 = omega arith in
@@ -109,19 +109,19 @@ module _ (g : Tiling) (p : Piece) (is : IsPiece g p) where
           ap₂ (λ (u v : ℕ). mask u v) (sym s.0) (sym s.1) ∙ (ends_open g mask e t).0
 
       -- it comes from the same tile
-      not_first : edge_number g.width e ≡ 2 * (p.y * g.width + x) → (x % g.side == 0) ≡ false
+      not_first : edge_rank g.width e ≡ 2 * (p.y * g.width + x) → (x % g.side == 0) ≡ false
       not_first k =
           let h = at_left k in
           ap (λ (n : ℕ). n % g.side == 0) (sym h.1) ∙ sym (next_right e.down (end_y e) (end_x e) g.side h.0) ∙ begins_none g mask e t
 
-      not_top : edge_number g.width e ≡ 2 * (p.y * g.width + x) + 1 → p.top ≡ false
+      not_top : edge_rank g.width e ≡ 2 * (p.y * g.width + x) + 1 → p.top ≡ false
       not_top k =
           let h = at_upper k in
           is.top ∙ ap (λ (n : ℕ). n % g.side == 0) (sym h.2) ∙ sym (next_down e.down (end_y e) (end_x e) g.side h.0) ∙ begins_none g mask e t
 
     -- ---- the steps at a pixel
     module _ (x : ℕ) (m : x ≤ p.last) (ps : List ℕ) where
-      no_left : x ≡ p.first → (e : Edge) → IsTrue (is_open_inner (tiled g) mask e) → edge_number g.width e ≡ 2 * (p.y * g.width + x) → ⊥
+      no_left : x ≡ p.first → (e : Edge) → IsTrue (is_open_inner (tiled g) mask e) → edge_rank g.width e ≡ 2 * (p.y * g.width + x) → ⊥
       no_left f e t k =
           let z : x % g.side ≡ 0 = ap (λ (n : ℕ). n % g.side) f ∙ is.begins in
           clash (x % g.side == 0) (rw z refl) (not_first x m e t k)
@@ -206,7 +206,7 @@ module _ (g : Tiling) (p : Piece) (is : IsPiece g p) where
         left_joined (open_at m) x last ps flood first (own_at (x - 1) (omega arith) (omega arith)) (own_at x (omega arith) last) qs (length-set ps place (slice_index ps (place - 1)))
         (hung ps flood.root (place - 1) place (omega (arith, first)) place_inside own (omega (arith, less, first)) flood.forest)
 
-    upper_half : (e : Edge) → IsTrue (is_open_inner (tiled g) (open_at m) e) → edge_number g.width e ≡ 2 * (p.y * g.width + x) + 1 → left_half.root (e.y * g.width + e.x) ≡ left_half.root (end_y e * g.width + end_x e)
+    upper_half : (e : Edge) → IsTrue (is_open_inner (tiled g) (open_at m) e) → edge_rank g.width e ≡ 2 * (p.y * g.width + x) + 1 → left_half.root (e.y * g.width + e.x) ≡ left_half.root (end_y e * g.width + end_x e)
     upper_half e t k =
         let top = not_top (open_at m) x last e t k in
         let up = clear.upper top in

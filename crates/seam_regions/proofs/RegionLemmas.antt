@@ -11,7 +11,7 @@ use Rattle.raster_model.specs.Raster.{Raster}
 use Rattle.raster_model.specs.Seams.{IsOpenPixel, IsEarlier, IsFirst, AreJoined, AreRegions, is_open_inner}
 use Rattle.raster_model.specs.Seams.AreJoined.{here, rightward, leftward, downward, upward}
 use Rattle.raster_model.proofs.Regions.{joined_sym, joined_trans}
-use Rattle.seam_regions.specs.Flood.{tiled, is_first, firsts_before, number_of, IsFlooded, IsNumbered}
+use Rattle.seam_regions.specs.Flood.{tiled, is_first, firsts_before, region_number, IsFlooded, IsNumbered}
 use Rattle.seam_regions.specs.Regions.{IsTiledBy, most_regions, AreRegionsOf}
 use Rattle.seam_regions.proofs.EdgeLemmas.{ends_in}
 use Rattle.seam_regions.proofs.NumberLemmas.{at_place, open_along, firsts_before-more}
@@ -139,10 +139,10 @@ module _ (g : Tiling) (mask : Field Bool) (root : ℕ → ℕ) (is : IsFlooded g
         ]
 
 -- ---- the label of an open pixel, and of a masked one
-number_open : (w : ℕ) (mask : Field Bool) (root : ℕ → ℕ) (i : ℕ) → mask (i % w) (i / w) ≡ true → number_of w mask root i ≡ firsts_before w mask root (root i)
+number_open : (w : ℕ) (mask : Field Bool) (root : ℕ → ℕ) (i : ℕ) → mask (i % w) (i / w) ≡ true → region_number w mask root i ≡ firsts_before w mask root (root i)
 number_open w mask root i o = rw o refl
 
-number_masked : (w : ℕ) (mask : Field Bool) (root : ℕ → ℕ) (i : ℕ) → mask (i % w) (i / w) ≡ false → number_of w mask root i ≡ 4294967295
+number_masked : (w : ℕ) (mask : Field Bool) (root : ℕ → ℕ) (i : ℕ) → mask (i % w) (i / w) ≡ false → region_number w mask root i ≡ 4294967295
 number_masked w mask root i o = rw o refl
 
 told_open : (m : Bool) (label : ℕ) → m ≡ true → label < 4294967295 → (if label == 4294967295 then None else Some label) ≡ (if m then Some label else None)

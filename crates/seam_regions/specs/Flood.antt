@@ -10,6 +10,7 @@ use Rattle.raster_model.specs.Seams.{AreJoined, is_open_inner}
 use Rattle.raster_model.specs.Tiles.{tiles_of, tile_at}
 use Rattle.seam_regions.specs.declared.pieces.Piece.{Piece}
 use Rattle.seam_regions.specs.Forest.{IsForest}
+use Rattle.seam_regions.specs.Regions.{masked_label}
 use Rattle.sums_and_lists.specs.Sums.{count_below, one_if}
 
 -- a raster with a tiling's size and tiles
@@ -17,8 +18,8 @@ abbrev pub tiled : Tiling → Raster
 tiled g = record { width = g.width; height = g.height; phase = λ x y. 0; weight = λ e. 0; tile = tile_at g; tile_count = tiles_of g }
 
 -- the number of an edge: edges go in the row order of their other ends, and each pixel has two numbers, for its left edge and its upper edge
-abbrev pub edge_number : ℕ → Edge → ℕ
-edge_number w e = 2 * (end_y e * w + end_x e) + (if e.down then 1 else 0)
+abbrev pub edge_rank : ℕ → Edge → ℕ
+edge_rank w e = 2 * (end_y e * w + end_x e) + (if e.down then 1 else 0)
 
 -- the other end of an edge is the first pixel of a tile in the edge's direction
 abbrev pub next_begins : Tiling → Edge → Bool
@@ -42,7 +43,7 @@ pub record IsFlooded (g : Tiling) (mask : Field Bool) (k : ℕ) (root : ℕ → 
   pub least : (i : ℕ) → root i ≤ i
   pub stays : (i : ℕ) → root (root i) ≡ root i
   pub walks : (i : ℕ) → AreJoined (tiled g) mask (i % g.width) (i / g.width) (root i % g.width) (root i / g.width)
-  pub edges : (e : Edge) → IsTrue (is_open_inner (tiled g) mask e) → edge_number g.width e < k → root (e.y * g.width + e.x) ≡ root (end_y e * g.width + end_x e)
+  pub edges : (e : Edge) → IsTrue (is_open_inner (tiled g) mask e) → edge_rank g.width e < k → root (e.y * g.width + e.x) ≡ root (end_y e * g.width + end_x e)
   pub alone : (i : ℕ) → k ≤ 2 * i → root i ≡ i
 
 -- the parents of the pixels form such trees
@@ -61,8 +62,8 @@ abbrev pub firsts_before : ℕ → Field Bool → (ℕ → ℕ) → ℕ → ℕ
 firsts_before w mask root k = count_below k (λ i. one_if (is_first w mask root i))
 
 -- the number of a pixel's tree, or 2 ^ 32 - 1 if the pixel is masked
-abbrev pub number_of : ℕ → Field Bool → (ℕ → ℕ) → ℕ → ℕ
-number_of w mask root i = if mask (i % w) (i / w) then firsts_before w mask root (root i) else 4294967295
+abbrev pub region_number : ℕ → Field Bool → (ℕ → ℕ) → ℕ → ℕ
+region_number w mask root i = if mask (i % w) (i / w) then firsts_before w mask root (root i) else masked_label
 
 -- the first k places have their numbers, the others still have their parents, and `count` numbers are given
 pub record IsNumbered (g : Tiling) (mask : Field Bool) (k count : ℕ) (labels : List ℕ) : Type 0 where
@@ -72,5 +73,5 @@ pub record IsNumbered (g : Tiling) (mask : Field Bool) (k count : ℕ) (labels :
   pub below : (i : ℕ) → k ≤ i → i < length labels → slice_index labels i ≤ i
   pub leads : (i : ℕ) → k ≤ i → i < length labels → root (slice_index labels i) ≡ root i
   pub ends : (i : ℕ) → k ≤ i → i < length labels → slice_index labels i ≡ i → root i ≡ i
-  pub numbers : (i : ℕ) → i < k → slice_index labels i ≡ number_of g.width mask root i
+  pub numbers : (i : ℕ) → i < k → slice_index labels i ≡ region_number g.width mask root i
   pub counted : count ≡ firsts_before g.width mask root k

@@ -9,17 +9,21 @@ use Rattle.raster_model.specs.Sums.{Field}
 use Rattle.raster_model.specs.Tiles.{tile_at}
 use Rattle.seam_regions.specs.RegionsView.{RegionsView}
 
--- the label of a pixel
-abbrev pub label_at : RegionsView → Field ℕ
-label_at v x y = slice_index v.labels (y * v.width + x)
+-- what stands in place of a label at a masked pixel
+abbrev pub masked_label : ℕ
+masked_label = 4294967295
 
--- the number of a pixel's region, and None if its label is 2 ^ 32 - 1
+-- the label of a pixel
+abbrev pub region_label : RegionsView → Field ℕ
+region_label v x y = slice_index v.labels (y * v.width + x)
+
+-- the number of a pixel's region, and None if it is masked
 abbrev pub region_at : RegionsView → Field (Option ℕ)
-region_at v x y = if label_at v x y == 4294967295 then None else Some (label_at v x y)
+region_at v x y = if region_label v x y == masked_label then None else Some (region_label v x y)
 
 -- the offset of a pixel's region, and cycles with this offset added
 unfoldable pub offset_at : RegionsView → List ℤ → Field ℤ
-offset_at v offsets x y = slice_index_or offsets (label_at v x y) (pos 0)
+offset_at v offsets x y = slice_index_or offsets (region_label v x y) (pos 0)
 
 abbrev pub shifted_by : RegionsView → List ℤ → Field ℤ → Field ℤ
 shifted_by v offsets cycles x y = cycles x y +ℤ offset_at v offsets x y
@@ -38,6 +42,6 @@ most_regions = 3145728
 pub record AreRegionsOf (g : Tiling) (mask : MaskView) (v : RegionsView) : Type 0 where
   pub width : v.width ≡ g.width
   pub height : v.height ≡ g.height
-  pub regions : (r : Raster) → IsTiledBy r g → AreRegions r (open_at mask) (label_at v) v.count
-  pub told : (x y : ℕ) → x < g.width → y < g.height → region_at v x y ≡ (if open_at mask x y then Some (label_at v x y) else None)
+  pub regions : (r : Raster) → IsTiledBy r g → AreRegions r (open_at mask) (region_label v) v.count
+  pub told : (x y : ℕ) → x < g.width → y < g.height → region_at v x y ≡ (if open_at mask x y then Some (region_label v x y) else None)
   pub few : v.count ≤ most_regions

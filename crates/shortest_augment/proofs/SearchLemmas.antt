@@ -8,7 +8,7 @@ use Rattle.std.proofs.Math.Seq.{get_or-append_seam}
 use Rattle.std.proofs.lemmas.List.Elements.{Contains-push_cases}
 use Rattle.std.proofs.lemmas.Bool.{cases_eq}
 use Rattle.flow_network.specs.Nets.{Shape, State, IsArc, IsNetwork}
-use Rattle.shortest_augment.specs.Labels.{AreDistances, IsSearched, AreSteps, IsFresh, IsKept, IsNearest, IsLowered, IsFalling, AreFalls, GoesOn, fall_to, work}
+use Rattle.shortest_augment.specs.Labels.{AreDistances, IsSearched, AreSteps, IsUntouched, IsKept, IsNearest, IsLowered, IsFalling, AreFalls, ContinuesSearch, fall_to, work}
 use Rattle.shortest_augment.specs.Trees.{mark_at, no_mark}
 use Rattle.shortest_augment.specs.declared.mark.Mark.{Mark}
 use Rattle.shortest_augment.specs.declared.search.Search.{Search}
@@ -151,14 +151,14 @@ kept_falls s old new kept most falls el es et = record {
       ]);
 }
 
-pub wiped_end : (z : Search) (place v : ℕ) → length z.touched.items ≤ place → IsFresh z place v → (get_or z.labels.items v 0 ≡ 2 ^ 62) × (get_or z.amounts.items v (pos 0) ≡ pos 0)
+pub wiped_end : (z : Search) (place v : ℕ) → length z.touched.items ≤ place → IsUntouched z place v → (get_or z.labels.items v 0 ≡ 2 ^ 62) × (get_or z.amounts.items v (pos 0) ≡ pos 0)
 wiped_end z place v le fresh =
     elim fresh [
       | inl k ↦ k
       | inr k ↦ absurd (let a = k.1.0 in let b = k.1.1 in omega (arith, a, b, le))
     ]
 
-pub on-refl : (z : Search) → GoesOn z z
+pub on-refl : (z : Search) → ContinuesSearch z z
 on-refl z = record { source = refl; limit = refl; work = omega arith }
 
 -- a lower label leaves less to do, even if its node waits
@@ -167,7 +167,7 @@ work_lowered labels h y waiting more l shorter few =
     let e : sum (slice_set labels h y) + get_or labels h 0 ≡ sum labels + y = sum_by-set (λ (x : ℕ). x) labels h y 0 l in
     omega (arith, e, shorter, few)
 
-pub on-trans : (x y z : Search) → GoesOn x y → GoesOn y z → GoesOn x z
+pub on-trans : (x y z : Search) → ContinuesSearch x y → ContinuesSearch y z → ContinuesSearch x z
 on-trans x y z p q = record { source = q.source ∙ p.source; limit = q.limit ∙ p.limit; work = omega (arith, p.work, q.work) }
 
 -- other lists do not matter

@@ -1,54 +1,60 @@
 ghost use Rattle.raster_model.specs.Tiles.{tiles_of};
-ghost use Rattle.std.specs.Prelude.{◌<◌};
+ghost use Rattle.std.specs.Prelude.{◌<◌, IfOk};
 
+use crate::reading::{cycles, field, numbers, read_raster};
 use crate::tile_rows::ROWS;
 use certificates::{TileVerdict, check_tile};
 use dual_grid::Problem;
-use raster_model::{Mask, Scene, Tiling};
+use raster_model::{Mask, Scene};
 use std::alloc::{AllocError, Global};
 use std::process::Abort;
 use std::test::Fail;
 use tile_guess::Guess;
 use tile_solver::solve_tile_from;
-use worked_scenes::{masked, scene};
+use worked_scenes::masked;
 use wrapped_gradient::{Corrections, Gradients};
 
-/// Corrections of the right and of the down edges, faces, and whether these answer the full turn, whose one cell has the
+/// Rows of `guess`: corrections of the right and of the down edges, faces, and whether these answer the full turn, whose one cell has the
 /// residue 1, and whose edges weigh 5 above, 3 below, 3 on the left and 5 on the right. By hand: one cycle goes across the
 /// edge below or across that on the left, so that the face is 3. Then a flow is missing, goes the other way, across a heavy
 /// edge or round twice; the face is off by one, turned, that of a tile without a residue, that of the full turn whose edges
 /// all weigh 5, missing or one of two; there are too few corrections, or too many; numbers lie at the ends of their types.
-const GUESSES: [(&[i32], &[i32], &[i64], bool); 19] = [
-    (&[0, 1], &[0, 0], &[3], true),
-    (&[0, 0], &[1, 0], &[3], true),
-    (&[0, 0], &[0, 0], &[3], false),
-    (&[0, -1], &[0, 0], &[3], false),
-    (&[-1, 0], &[0, 0], &[3], false),
-    (&[0, 2], &[-1, 0], &[3], false),
-    (&[0, 1], &[0, 0], &[2], false),
-    (&[0, 1], &[0, 0], &[4], false),
-    (&[0, 1], &[0, 0], &[-3], false),
-    (&[0, 1], &[0, 0], &[0], false),
-    (&[0, 1], &[0, 0], &[5], false),
-    (&[0, 1], &[0, 0], &[], false),
-    (&[0, 1], &[0, 0], &[3, 0], false),
-    (&[1], &[0, 0], &[3], false),
-    (&[0, 1], &[0], &[3], false),
-    (&[0, 1, 0], &[0, 0], &[3], false),
-    (&[0, i32::MAX], &[i32::MIN, 0], &[3], false),
-    (&[0, 1], &[0, 0], &[i64::MAX], false),
-    (&[0, 1], &[0, 0], &[i64::MIN], false),
-];
+const GUESSES: &str = "\
+0 1|0 0|3|true
+0 0|1 0|3|true
+0 0|0 0|3|false
+0 -1|0 0|3|false
+-1 0|0 0|3|false
+0 2|-1 0|3|false
+0 1|0 0|2|false
+0 1|0 0|4|false
+0 1|0 0|-3|false
+0 1|0 0|0|false
+0 1|0 0|5|false
+0 1|0 0||false
+0 1|0 0|3 0|false
+1|0 0|3|false
+0 1|0|3|false
+0 1 0|0 0|3|false
+0 2147483647|-2147483648 0|3|false
+0 1|0 0|9223372036854775807|false
+0 1|0 0|-9223372036854775808|false";
 
-/// A list with the same numbers.
-fn list_of<T: Copy + Drop>(alloc: Global, numbers: &[T]) -> Result<Vec<T>, AllocError> {
-    numbers.iter().copied().collect(alloc)
+/// The guess at the beginning of a row.
+fn guess(alloc: Global, row: &str) -> Result<Guess, AllocError> {
+    let mut fields = row.split('|');
+    Ok(Guess {
+        right: cycles(alloc, field(&mut fields))?,
+        down: cycles(alloc, field(&mut fields))?,
+        faces: numbers(alloc, field(&mut fields))?,
+    })
 }
 
 /// The full turn in one tile.
-fn full_turn(alloc: Global) -> Result<Scene, Fail> {
-    let phases = [0, 16384, 49152, 32768];
-    Ok(scene(alloc, Tiling::new(2, 2, 128), 9, &phases, &[5, 5, 3, 9])?)
+fn full_turn(rt: &impl Abort, alloc: Global) -> Result<Scene, Fail>
+    ensures { IfOk result (λ made. 0 < tiles_of made.tiling) }
+{
+    Ok(read_raster(rt, alloc, "2|2|0 16384 49152 32768|5 5 3 9|1 1 1 1")?.scene)
 }
 
 /// What a scene's one tile asks if all pixels are open.
@@ -62,19 +68,24 @@ fn problem_of(alloc: Global, scene: &Scene) -> Result<Problem, AllocError>
     Problem::of(alloc, scene, &gradients, 0, &unmasked)
 }
 
+/// Whether the guess of a row is taken as an answer exactly if the row says so.
+fn is_as_told(alloc: Global, problem: &Problem, row: &str) -> Result<bool, AllocError> {
+    let guess = guess(alloc, row)?;
+    let corrections = Corrections {
+        right: guess.right,
+        down: guess.down,
+    };
+    Ok(problem.is_answered_by(&corrections, &guess.faces) == row.ends_with("true"))
+}
+
 /// Guesses are taken where they are answers, and nowhere else.
 #[test]
 fn guesses_are_taken_where_they_answer(rt: HostRuntime) -> Result<(), Fail> {
     let alloc = rt.alloc();
-    let scene = full_turn(alloc)?;
-    assert!(rt; 0 < scene.tiling.tile_count());
+    let scene = full_turn(&rt, alloc)?;
     let problem = problem_of(alloc, &scene)?;
-    for (right, down, faces, taken) in GUESSES {
-        let corrections = Corrections {
-            right: list_of(alloc, right)?,
-            down: list_of(alloc, down)?,
-        };
-        assert!(rt; problem.is_answered_by(&corrections, faces) == taken);
+    for row in GUESSES.lines() {
+        assert!(rt; is_as_told(alloc, &problem, row).expect(&rt, "memory"));
     }
     Ok(())
 }
@@ -102,33 +113,30 @@ fn verdict(
 #[test]
 fn any_guess_ends_in_a_certified_tile(rt: HostRuntime) -> Result<(), Fail> {
     let alloc = rt.alloc();
-    let scene = full_turn(alloc)?;
-    assert!(rt; 0 < scene.tiling.tile_count());
-    for (right, down, faces, _) in GUESSES {
-        let guess = Guess {
-            right: list_of(alloc, right)?,
-            down: list_of(alloc, down)?,
-            faces: list_of(alloc, faces)?,
-        };
+    let scene = full_turn(&rt, alloc)?;
+    for row in GUESSES.lines() {
+        let guess = guess(alloc, row).expect(&rt, "memory");
         assert!(rt; verdict(&rt, alloc, &scene, &[1, 1, 1, 1], guess)? == TileVerdict::Good);
     }
     Ok(())
 }
 
+/// What the check says of a row's raster, solved by the network alone.
+fn network_verdict(rt: &impl Abort, alloc: Global, row: &str) -> Result<TileVerdict, Fail> {
+    let raster = read_raster(rt, alloc, row)?;
+    let nothing = Guess {
+        right: Vec::new(alloc),
+        down: Vec::new(alloc),
+        faces: Vec::new(alloc),
+    };
+    verdict(rt, alloc, &raster.scene, &raster.opened, nothing)
+}
+
 /// The network alone certifies each raster whose least cost is known.
 #[test]
 fn the_network_certifies_too(rt: HostRuntime) -> Result<(), Fail> {
-    let alloc = rt.alloc();
-    for (width, height, phases, weights, opened, _) in ROWS {
-        assert!(rt; 0 < width && width <= 9 && 0 < height && height <= 9);
-        let scene = scene(alloc, Tiling::new(width, height, 128), 9, phases, weights)?;
-        assert!(rt; 0 < scene.tiling.tile_count());
-        let nothing = Guess {
-            right: Vec::new(alloc),
-            down: Vec::new(alloc),
-            faces: Vec::new(alloc),
-        };
-        assert!(rt; verdict(&rt, alloc, &scene, opened, nothing)? == TileVerdict::Good);
+    for row in ROWS.lines() {
+        assert!(rt; network_verdict(&rt, rt.alloc(), row)? == TileVerdict::Good);
     }
     Ok(())
 }

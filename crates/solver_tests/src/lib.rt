@@ -6,4 +6,6 @@ mod guess_rows;
 #[cfg(test)]
 mod offset_rows;
 #[cfg(test)]
+mod reading;
+#[cfg(test)]
 mod tile_rows;

@@ -1,123 +1,41 @@
 ghost use Rattle.raster_model.specs.Tiles.{tiles_of};
 ghost use Rattle.std.specs.Prelude.{◌≡◌, ◌<◌, IfOk};
 
+use crate::reading::read_raster;
 use certificates::{TileResult, TileVerdict, check_tile};
-use raster_model::{Scene, Tiling};
+use raster_model::Scene;
 use std::alloc::{AllocError, Global};
 use std::process::Abort;
 use std::test::Fail;
 use tile_solver::solve_tile;
-use worked_scenes::{masked, scene, tile_result};
+use worked_scenes::{masked, tile_result};
 
-/// Width, height, phases, weights and mask of a raster in one tile, and the least cost of its surfaces. First a full turn by
+/// Rows of `read_raster`: width, height, phases, weights and mask of a raster in one tile, and the least cost of its surfaces. First a full turn by
 /// hand, whole, with a pixel masked and with all; a line; a ramp that turns over between its first columns, under two masks.
 /// Then random rasters, whose costs `network_simplex` of networkx 3.6.1 found over the residues; on smaller ones it agreed
 /// with a search through all cycles from -1 to 1.
-pub(crate) const ROWS: [(u32, u32, &[u16], &[u16], &[u16], u128); 11] = [
-    (
-        2,
-        2,
-        &[0, 16384, 49152, 32768],
-        &[5, 5, 3, 9],
-        &[1, 1, 1, 1],
-        3,
-    ),
-    (
-        2,
-        2,
-        &[0, 16384, 49152, 32768],
-        &[5, 5, 3, 9],
-        &[0, 1, 1, 1],
-        0,
-    ),
-    (
-        2,
-        2,
-        &[0, 16384, 49152, 32768],
-        &[5, 5, 3, 9],
-        &[0, 0, 0, 0],
-        0,
-    ),
-    (
-        4,
-        1,
-        &[0, 20000, 40000, 60000],
-        &[1, 1, 1, 1],
-        &[1, 1, 1, 1],
-        0,
-    ),
-    (
-        3,
-        2,
-        &[60000, 4000, 14000, 62000, 6000, 16000],
-        &[5, 0, 3, 9, 1, 7],
-        &[1, 1, 1, 1, 1, 1],
-        0,
-    ),
-    (
-        3,
-        2,
-        &[60000, 4000, 14000, 62000, 6000, 16000],
-        &[5, 0, 3, 9, 1, 7],
-        &[1, 0, 1, 0, 1, 1],
-        0,
-    ),
-    (
-        5,
-        4,
-        &[
-            13037, 21675, 41434, 21825, 47648, 19849, 61187, 57663, 63037, 58550, 57558, 40106,
-            49185, 17513, 3903, 64553, 24184, 37472, 32599, 30102,
-        ],
-        &[8, 7, 1, 1, 2, 8, 1, 7, 2, 9, 4, 4, 1, 3, 9, 9, 5, 7, 8, 8],
-        &[1, 1, 1, 1, 1, 1, 1, 1, 1, 1, 1, 1, 1, 1, 1, 1, 1, 1, 1, 1],
-        8,
-    ),
-    (
-        5,
-        4,
-        &[
-            46191, 21014, 683, 18723, 7305, 4746, 57404, 3014, 55298, 36561, 56083, 56600, 62890,
-            29200, 36216, 8657, 52874, 62787, 5568, 61092,
-        ],
-        &[0, 3, 3, 6, 5, 8, 4, 0, 8, 9, 1, 0, 1, 7, 7, 6, 8, 3, 9, 2],
-        &[1, 1, 1, 1, 1, 1, 1, 1, 1, 1, 1, 1, 1, 1, 1, 1, 1, 1, 1, 1],
-        8,
-    ),
-    (
-        5,
-        4,
-        &[
-            23688, 35226, 31355, 50113, 25004, 61619, 13927, 31503, 52610, 25967, 52712, 51505,
-            19020, 45672, 36544, 14904, 9917, 61928, 31071, 55999,
-        ],
-        &[7, 7, 7, 2, 9, 0, 4, 1, 9, 9, 6, 9, 0, 1, 9, 3, 6, 8, 1, 1],
-        &[1, 1, 1, 1, 1, 1, 1, 1, 1, 1, 1, 1, 1, 1, 1, 1, 1, 1, 1, 1],
-        1,
-    ),
-    (
-        5,
-        4,
-        &[
-            40058, 30516, 22246, 38018, 14095, 42256, 15514, 26586, 39620, 9605, 46399, 7897,
-            22690, 18678, 16623, 22579, 15862, 37713, 41774, 8988,
-        ],
-        &[9, 7, 2, 1, 1, 1, 3, 5, 4, 3, 7, 9, 5, 9, 6, 2, 4, 6, 7, 8],
-        &[1, 1, 0, 1, 1, 1, 1, 1, 1, 1, 1, 1, 1, 0, 1, 1, 1, 0, 1, 1],
-        3,
-    ),
-    (
-        5,
-        4,
-        &[
-            28422, 43734, 43623, 63012, 49376, 33276, 36839, 171, 30599, 16949, 35678, 23082, 2134,
-            2914, 53204, 28092, 54389, 27076, 25752, 45638,
-        ],
-        &[4, 5, 5, 9, 6, 0, 9, 3, 5, 1, 3, 7, 8, 7, 9, 3, 1, 0, 0, 1],
-        &[0, 1, 1, 1, 1, 1, 1, 1, 1, 1, 1, 1, 1, 1, 1, 0, 0, 1, 1, 1],
-        6,
-    ),
-];
+pub(crate) const ROWS: &str = "\
+2|2|0 16384 49152 32768|5 5 3 9|1 1 1 1|3
+2|2|0 16384 49152 32768|5 5 3 9|0 1 1 1|0
+2|2|0 16384 49152 32768|5 5 3 9|0 0 0 0|0
+4|1|0 20000 40000 60000|1 1 1 1|1 1 1 1|0
+3|2|60000 4000 14000 62000 6000 16000|5 0 3 9 1 7|1 1 1 1 1 1|0
+3|2|60000 4000 14000 62000 6000 16000|5 0 3 9 1 7|1 0 1 0 1 1|0
+5|4|13037 21675 41434 21825 47648 19849 61187 57663 63037 58550 57558 40106 49185 17513 3903 \
+    64553 24184 37472 32599 30102|8 7 1 1 2 8 1 7 2 9 4 4 1 3 9 9 5 7 8 8|1 1 1 1 1 1 1 1 1 1 1 1 1 \
+    1 1 1 1 1 1 1|8
+5|4|46191 21014 683 18723 7305 4746 57404 3014 55298 36561 56083 56600 62890 29200 36216 8657 \
+    52874 62787 5568 61092|0 3 3 6 5 8 4 0 8 9 1 0 1 7 7 6 8 3 9 2|1 1 1 1 1 1 1 1 1 1 1 1 1 1 1 1 \
+    1 1 1 1|8
+5|4|23688 35226 31355 50113 25004 61619 13927 31503 52610 25967 52712 51505 19020 45672 36544 \
+    14904 9917 61928 31071 55999|7 7 7 2 9 0 4 1 9 9 6 9 0 1 9 3 6 8 1 1|1 1 1 1 1 1 1 1 1 1 1 1 1 \
+    1 1 1 1 1 1 1|1
+5|4|40058 30516 22246 38018 14095 42256 15514 26586 39620 9605 46399 7897 22690 18678 16623 \
+    22579 15862 37713 41774 8988|9 7 2 1 1 1 3 5 4 3 7 9 5 9 6 2 4 6 7 8|1 1 0 1 1 1 1 1 1 1 1 1 1 \
+    0 1 1 1 0 1 1|3
+5|4|28422 43734 43623 63012 49376 33276 36839 171 30599 16949 35678 23082 2134 2914 53204 28092 \
+    54389 27076 25752 45638|4 5 5 9 6 0 9 3 5 1 3 7 8 7 9 3 1 0 0 1|0 1 1 1 1 1 1 1 1 1 1 1 1 1 1 0 \
+    0 1 1 1|6";
 
 /// The result of a raster in one tile.
 fn solved(
@@ -139,25 +57,35 @@ fn solved(
     solve_tile(alloc, scene, 0, 7, &unmasked)
 }
 
-/// With every face 0 instead of the solver's the check counts what the surface costs.
+/// What the check says of a row's raster with the solver's faces, and what with every face 0: then it counts what the
+/// surface costs.
+fn verdicts(rt: &impl Abort, alloc: Global, row: &str) -> Result<[TileVerdict; 2], Fail> {
+    let raster = read_raster(rt, alloc, row)?;
+    let mask = masked(alloc, &raster.scene.tiling, &raster.opened)?;
+    let solved = solved(rt, alloc, &raster.scene, &raster.opened)?;
+    let none = vec![in alloc; 0; solved.faces.len()]?;
+    let bare = tile_result(alloc, 0, 7, &solved.cycles, &none)?;
+    Ok([
+        check_tile(&raster.scene, &mask, &solved),
+        check_tile(&raster.scene, &mask, &bare),
+    ])
+}
+
+/// The cost at the end of a row.
+fn cost_of(row: &str) -> u128 {
+    row.rsplit('|').next().unwrap_or("").parse().unwrap_or(99)
+}
+
 #[test]
 fn tiles_cost_what_another_solver_finds(rt: HostRuntime) -> Result<(), Fail> {
-    let alloc = rt.alloc();
-    for (width, height, phases, weights, opened, cost) in ROWS {
-        assert!(rt; 0 < width && width <= 9 && 0 < height && height <= 9);
-        let scene = scene(alloc, Tiling::new(width, height, 128), 9, phases, weights)?;
-        let mask = masked(alloc, &scene.tiling, opened)?;
-        assert!(rt; 0 < scene.tiling.tile_count());
-        let solved = solved(&rt, alloc, &scene, opened)?;
-        assert_eq!(rt; check_tile(&scene, &mask, &solved), TileVerdict::Good);
-        let none = vec![in alloc; 0; solved.faces.len()]?;
-        let bare = tile_result(alloc, 0, 7, &solved.cycles, &none)?;
-        let counted = if cost == 0 {
-            TileVerdict::Good
-        } else {
-            TileVerdict::CostDiffers { cost, bound: 0 }
+    for row in ROWS.lines() {
+        let [solved, bare] = verdicts(&rt, rt.alloc(), row)?;
+        assert_eq!(rt; solved, TileVerdict::Good);
+        let counted = match cost_of(row) {
+            0 => TileVerdict::Good,
+            cost => TileVerdict::CostDiffers { cost, bound: 0 },
         };
-        assert_eq!(rt; check_tile(&scene, &mask, &bare), counted);
+        assert_eq!(rt; bare, counted);
     }
     Ok(())
 }

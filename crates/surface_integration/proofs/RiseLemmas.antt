@@ -7,7 +7,7 @@ use Rattle.raster_model.specs.declared.edge.Edge.{Edge}
 use Rattle.raster_model.specs.declared.scene.Scene.{Scene}
 use Rattle.raster_model.specs.declared.tiling.Window.{Window}
 use Rattle.raster_model.specs.Phase.{wrapped, turns}
-use Rattle.raster_model.specs.Planes.{sample_at}
+use Rattle.raster_model.specs.Planes.{plane_sample}
 use Rattle.raster_model.specs.Scene.{raster_of}
 use Rattle.raster_model.specs.Sums.{right_edge, down_edge}
 use Rattle.raster_model.proofs.PhaseLemmas.{wrapped_is_it}
@@ -73,19 +73,19 @@ module _ (s : Scene) (g : GradientsView) (k : Corrections) where
       refl_length : length k.down.items ≡ length k.down.items
       refl_length = omega arith
 
-  pub wrapped_right : (x y a b : ℕ) (z : ℤ) → AreGradientsOf s g → (g.window.x0 ≤ x) × (x < g.window.x1) → (g.window.y0 ≤ y) × (y ≤ g.window.y1) → z ≡ gradient_at g (right_edge x y) → a ≡ sample_at s.phase x y → b ≡ sample_at s.phase (x + 1) y → z ≡ wrapped a b
+  pub wrapped_right : (x y a b : ℕ) (z : ℤ) → AreGradientsOf s g → (g.window.x0 ≤ x) × (x < g.window.x1) → (g.window.y0 ≤ y) × (y ≤ g.window.y1) → z ≡ gradient_at g (right_edge x y) → a ≡ plane_sample s.phase x y → b ≡ plane_sample s.phase (x + 1) y → z ≡ wrapped a b
   wrapped_right x y a b z h across along e p q =
-      e ∙ h.differences (right_edge x y) (right_edge_of g.window x y across.0 across.1 along.0 along.1) ∙ same_wrapped a b (sample_at s.phase x y) (sample_at s.phase (x + 1) y) p q
+      e ∙ h.differences (right_edge x y) (right_edge_of g.window x y across.0 across.1 along.0 along.1) ∙ same_wrapped a b (plane_sample s.phase x y) (plane_sample s.phase (x + 1) y) p q
 
-  pub wrapped_down : (x y a b : ℕ) (z : ℤ) → AreGradientsOf s g → (g.window.x0 ≤ x) × (x ≤ g.window.x1) → (g.window.y0 ≤ y) × (y < g.window.y1) → z ≡ gradient_at g (down_edge x y) → a ≡ sample_at s.phase x y → b ≡ sample_at s.phase x (y + 1) → z ≡ wrapped a b
+  pub wrapped_down : (x y a b : ℕ) (z : ℤ) → AreGradientsOf s g → (g.window.x0 ≤ x) × (x ≤ g.window.x1) → (g.window.y0 ≤ y) × (y < g.window.y1) → z ≡ gradient_at g (down_edge x y) → a ≡ plane_sample s.phase x y → b ≡ plane_sample s.phase x (y + 1) → z ≡ wrapped a b
   wrapped_down x y a b z h across along e p q =
-      e ∙ h.differences (down_edge x y) (down_edge_of g.window x y across.0 across.1 along.0 along.1) ∙ same_wrapped a b (sample_at s.phase x y) (sample_at s.phase x (y + 1)) p q
+      e ∙ h.differences (down_edge x y) (down_edge_of g.window x y across.0 across.1 along.0 along.1) ∙ same_wrapped a b (plane_sample s.phase x y) (plane_sample s.phase x (y + 1)) p q
 
-  pub rise_right_is : (x y a b : ℕ) (z t : ℤ) → z ≡ correction_at g.window k (right_edge x y) → a ≡ sample_at s.phase x y → b ≡ sample_at s.phase (x + 1) y → t ≡ z -ℤ turns a b → t ≡ rise_of (raster_of s) g.window k (right_edge x y)
-  rise_right_is x y a b z t e p q u = u ∙ same_rise z (correction_at g.window k (right_edge x y)) a b (sample_at s.phase x y) (sample_at s.phase (x + 1) y) e p q
+  pub rise_right_is : (x y a b : ℕ) (z t : ℤ) → z ≡ correction_at g.window k (right_edge x y) → a ≡ plane_sample s.phase x y → b ≡ plane_sample s.phase (x + 1) y → t ≡ z -ℤ turns a b → t ≡ rise_of (raster_of s) g.window k (right_edge x y)
+  rise_right_is x y a b z t e p q u = u ∙ same_rise z (correction_at g.window k (right_edge x y)) a b (plane_sample s.phase x y) (plane_sample s.phase (x + 1) y) e p q
 
-  pub rise_down_is : (x y a b : ℕ) (z t : ℤ) → z ≡ correction_at g.window k (down_edge x y) → a ≡ sample_at s.phase x y → b ≡ sample_at s.phase x (y + 1) → t ≡ z -ℤ turns a b → t ≡ rise_of (raster_of s) g.window k (down_edge x y)
-  rise_down_is x y a b z t e p q u = u ∙ same_rise z (correction_at g.window k (down_edge x y)) a b (sample_at s.phase x y) (sample_at s.phase x (y + 1)) e p q
+  pub rise_down_is : (x y a b : ℕ) (z t : ℤ) → z ≡ correction_at g.window k (down_edge x y) → a ≡ plane_sample s.phase x y → b ≡ plane_sample s.phase x (y + 1) → t ≡ z -ℤ turns a b → t ≡ rise_of (raster_of s) g.window k (down_edge x y)
+  rise_down_is x y a b z t e p q u = u ∙ same_rise z (correction_at g.window k (down_edge x y)) a b (plane_sample s.phase x y) (plane_sample s.phase x (y + 1)) e p q
 
 -- a correction is small, and so is a rise
 pub correction_small : (v : Window) (k : Corrections) (e : Edge) (z : ℤ) → AreSmall v k → z ≡ correction_at v k e → unsigned_abs z < 2147483647

@@ -11,7 +11,7 @@ use Rattle.raster_model.specs.Tiles.{tile_at, tiles_of}
 use Rattle.raster_model.proofs.TileLemmas.{tiles_are_numbered, window_of-pixels}
 use Rattle.certificates.specs.declared.results.TileResult.{TileResult}
 use Rattle.seam_regions.specs.Offsets.{AreNear}
-use Rattle.seam_regions.specs.Regions.{label_at, offset_at}
+use Rattle.seam_regions.specs.Regions.{region_label, offset_at}
 use Rattle.seam_regions.specs.RegionsView.{RegionsView}
 use Rattle.raster_model.proofs.Exact.{lifted_is_congruent}
 use Rattle.raster_model.proofs.SeamLeast.{certified_is_best}
@@ -39,7 +39,7 @@ near_or_none offsets near v =
 
 pub offset_small : (v : RegionsView) (offsets : List ℤ) → AreNear offsets → (x y : ℕ) → unsigned_abs (offset_at v offsets x y) ≤ 2 ^ 46
 unfolding offset_at
-offset_small v offsets near x y = near_or_none offsets near (label_at v x y)
+offset_small v offsets near x y = near_or_none offsets near (region_label v x y)
 
 module _ (s : Scene) (mask : Field Bool) (results : List TileResult) (tiles : AreGoodTiles s mask results) (x y : ℕ) (across : x < s.phase.width) (along : y < s.phase.height) (clear : IsTrue (mask x y)) where
   found_small : (found : Option TileResult) → slice_get results (tile_at s.tiling x y) ≡ found → unsigned_abs (cycles_of s found x y) ≤ 8388608

@@ -11,7 +11,7 @@ use Rattle.raster_model.specs.Masks.{open_at}
 use Rattle.raster_model.specs.declared.session.Session.{Session}
 use Rattle.certificates.specs.declared.results.SeamResult.{SeamResult}
 use Rattle.certificates.specs.TileSets.{TileSetView}
-use Rattle.seam_regions.specs.Regions.{AreRegionsOf, label_at}
+use Rattle.seam_regions.specs.Regions.{AreRegionsOf, region_label}
 use Rattle.seam_regions.specs.RegionsView.{RegionsView}
 use Rattle.sums_and_lists.proofs.Orders.{lt_is, not_lt_is}
 use Rattle.surface_snapshots.specs.Kept.{parts_kept}
@@ -48,13 +48,13 @@ mask_is_told s m v across along is pixels listed =
     let wide : v.width ≡ w = is.width ∙ s.same_width.1 in
     let high : v.height ≡ h = is.height ∙ s.same_height.1 in
     let some : 0 < w = omega (arith, s.phase.wide) in
-    let told = tests_told w h v.count m.unmasked v.labels some (pixels ∙ rw (across, along) refl) (listed ∙ rw (wide, high) refl) (λ x y l k. rw (across, wide) at (test_told (label_at v x y) v.count (open_at m x y) (label_below s m v across along is x y l k) (label_open s m v across along is x y l k))) in
+    let told = tests_told w h v.count m.unmasked v.labels some (pixels ∙ rw (across, along) refl) (listed ∙ rw (wide, high) refl) (λ x y l k. rw (across, wide) at (test_told (region_label v x y) v.count (open_at m x y) (label_below s m v across along is x y l k) (label_open s m v across along is x y l k))) in
     ap (λ (n : ℕ). record { width = n; height = m.height; unmasked = m.unmasked }) (across ∙ sym wide)
     ∙ ap (λ (n : ℕ). record { width = v.width; height = n; unmasked = m.unmasked }) (along ∙ sym high)
     ∙ ap (λ (l : List Bool). record { width = v.width; height = v.height; unmasked = l }) told
 
 -- what the mask that regions tell says of a pixel
-pub open_by_label : (v : RegionsView) (x y : ℕ) → length v.labels ≡ v.width * v.height → x < v.width → y < v.height → open_at (mask_told v) x y ≡ nat_lt (label_at v x y) v.count
+pub open_by_label : (v : RegionsView) (x y : ℕ) → length v.labels ≡ v.width * v.height → x < v.width → y < v.height → open_at (mask_told v) x y ≡ nat_lt (region_label v x y) v.count
 unfolding pixels_told
 open_by_label v x y size across along =
     let inside : y * v.width + x < v.width * v.height = mul-add-lt y v.width x v.height along across in

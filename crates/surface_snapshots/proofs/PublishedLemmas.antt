@@ -13,13 +13,13 @@ use Rattle.raster_model.specs.Tiles.{tile_at, window_of}
 use Rattle.raster_model.proofs.Exact.{cycles_depart}
 use Rattle.certificates.specs.declared.results.TileResult.{TileResult}
 use Rattle.certificates.specs.declared.verdicts.SeamVerdict.TheVariants.{Good}
-use Rattle.certificates.specs.Results.{cycles_in, result_surface, window_in}
+use Rattle.certificates.specs.Results.{listed_cycles, result_surface, window_in}
 use Rattle.certificates.proofs.CallerLemmas.{certified_same}
-use Rattle.seam_regions.specs.Regions.{AreRegionsOf, label_at, offset_at}
+use Rattle.seam_regions.specs.Regions.{AreRegionsOf, region_label, offset_at}
 use Rattle.seam_regions.proofs.CallerLemmas.{one_label_at_ends, regions_of_scene}
 use Rattle.certificates.specs.TileSets.{solved_cycles}
 use Rattle.surface_snapshots.specs.Parts.{Parts, AreGoodTiles, IsPublished, cycles_in_parts, faces_in, faces_of, open_in, raster_in, surface_in}
-use Rattle.surface_snapshots.specs.Verdicts.{IsVerdict}
+use Rattle.surface_snapshots.specs.Verdicts.{IsPartsVerdict}
 use Rattle.surface_snapshots.proofs.ShiftedLemmas.{solved_is}
 use Rattle.sums_and_lists.proofs.Lists.{some_at}
 
@@ -35,13 +35,13 @@ open_inner false o u v t i o' = cc
 module _ (p : Parts) (tiles : AreGoodTiles p.session.scene (open_in p) p.tiles.results) (regions : AreRegionsOf p.session.scene.tiling p.mask p.regions) where
   offsets_at_ends : (e : Edge) → IsTrue (is_open_inner (raster_in p) (open_in p) e) → offset_at p.regions p.seams.offsets e.x e.y ≡ offset_at p.regions p.seams.offsets (end_x e) (end_y e)
   unfolding offset_at
-  offsets_at_ends e i = rw (one_label_at_ends (raster_in p) (open_in p) (label_at p.regions) p.regions.count (regions_of_scene p.session.scene p.mask p.regions regions).labelling e i) refl
+  offsets_at_ends e i = rw (one_label_at_ends (raster_in p) (open_in p) (region_label p.regions) p.regions.count (regions_of_scene p.session.scene p.mask p.regions regions).labelling e i) refl
 
   module _ (t : ℕ) (k : TileResult) (there : slice_get p.tiles.results t ≡ Some k) where
     own : k.tile ≡ t
     own = tiles.each.own t k there
 
-    solved_there : (x y : ℕ) → tile_at p.session.scene.tiling x y ≡ t → solved_cycles p.session.scene p.tiles.results x y ≡ cycles_in (window_in p.session.scene k) k.cycles.items x y
+    solved_there : (x y : ℕ) → tile_at p.session.scene.tiling x y ≡ t → solved_cycles p.session.scene p.tiles.results x y ≡ listed_cycles (window_in p.session.scene k) k.cycles.items x y
     solved_there x y e = sym (solved_is p.session.scene (open_in p) p.tiles.results tiles x y t k (window_in p.session.scene k) (sym e) there (ap (window_of p.session.scene.tiling) own))
 
     departs : (e : Edge) → IsTileEdge (raster_in p) t e → IsTrue (has_open_ends (open_in p) e) → departure (raster_in p) (result_surface p.session.scene k) e ≡ departure (raster_in p) (surface_in p) e
@@ -52,7 +52,7 @@ module _ (p : Parts) (tiles : AreGoodTiles p.session.scene (open_in p) p.tiles.r
         let v = tile_at g (end_x e) (end_y e) in
         let ends = tiled_ends r.width r.height e.x e.y (end_x e) (end_y e) t u v i in
         let inner = open_inner (is_edge r.width r.height e) (has_open_ends (open_in p) e) u v t i o in
-        cycles_depart r (cycles_in (window_in p.session.scene k) k.cycles.items) e
+        cycles_depart r (listed_cycles (window_in p.session.scene k) k.cycles.items) e
         ∙ omega (arith, ints, solved_there e.x e.y ends.0, solved_there (end_x e) (end_y e) ends.1, offsets_at_ends e inner)
         ∙ sym (cycles_depart r (cycles_in_parts p) e)
 
@@ -62,7 +62,7 @@ module _ (p : Parts) (tiles : AreGoodTiles p.session.scene (open_in p) p.tiles.r
         (certified_same (raster_in p) (open_in p) (open_in p) (result_surface p.session.scene k) (surface_in p) t (λ e i. record { ends = refl; departs = departs e i }) k.faces.items
         (subst (λ (n : ℕ). IsCertifiedTile (raster_in p) (open_in p) n (result_surface p.session.scene k) k.faces.items) own (tiles.good t k there).certified))
 
-  pub published : IsVerdict p Good → IsPublished p
+  pub published : IsPartsVerdict p Good → IsPublished p
   published good = record {
     anchored = good.2.0;
     tiles = λ t l. (let k = some_at p.tiles.results t (omega (arith, l, tiles.each.count)) in certified_there t k.0 k.1);

@@ -10,11 +10,11 @@ use Rattle.raster_model.specs.Masks.{open_at}
 use Rattle.raster_model.specs.Sums.{Field}
 use Rattle.certificates.specs.TileSets.{solved_cycles}
 use Rattle.seam_regions.specs.Offsets.{AreNear}
-use Rattle.seam_regions.specs.Regions.{label_at, offset_at}
+use Rattle.seam_regions.specs.Regions.{region_label, offset_at}
 use Rattle.surface_snapshots.specs.declared.shifted.ShiftedTiles.{ShiftedTiles}
 use Rattle.surface_snapshots.specs.Tiled.{regions_in}
 use Rattle.surface_snapshots.specs.Parts.{AreGoodTiles, BeginsWithRow, Parts, cycles_in_parts, open_in, raster_in, value_or}
-use Rattle.surface_snapshots.specs.Shifted.{AreListed, cycles_or_none, cycles_under, level_at, level_in, mask_under, no_cycles, open_under}
+use Rattle.surface_snapshots.specs.Shifted.{AreListedCycles, cycles_or_none, cycles_under, level_at, level_in, mask_under, no_cycles, open_under}
 use Rattle.surface_snapshots.proofs.CallerLemmas.{offset_small, solved_small}
 
 -- a number is written behind the front of a row, and what stands behind stays
@@ -39,12 +39,12 @@ module _ (s : ShiftedTiles) (x y : ℕ) where
 
   -- a pixel is open exactly where its label is the number of an offset
   module _ (across : x < s.scene.now.phase.width) (along : y < s.scene.now.phase.height) where
-    pub level_found : (z offset : ℤ) → label_at (regions_in s.regions.now) x y < length s.offsets.now → offset ≡ slice_index_or s.offsets.now (label_at (regions_in s.regions.now) x y) (pos 0) → z ≡ solved_cycles s.scene.now s.tiles.now.results x y → z +ℤ offset ≡ level_at s x y
+    pub level_found : (z offset : ℤ) → region_label (regions_in s.regions.now) x y < length s.offsets.now → offset ≡ slice_index_or s.offsets.now (region_label (regions_in s.regions.now) x y) (pos 0) → z ≡ solved_cycles s.scene.now s.tiles.now.results x y → z +ℤ offset ≡ level_at s x y
     unfolding offset_at
     level_found z offset below found e =
         rw (e, found) (sym (level_there (s.together.told x y across along (omega (arith, below, s.count)))))
 
-    pub level_none : length s.offsets.now ≤ label_at (regions_in s.regions.now) x y → no_cycles ≡ level_at s x y
+    pub level_none : length s.offsets.now ≤ region_label (regions_in s.regions.now) x y → no_cycles ≡ level_at s x y
     unfolding level_at
     level_none past = go (open_under s x y) refl
       where
@@ -59,7 +59,7 @@ level_same s p x y scene mask regions tiles offsets =
     ap (λ (m : MaskView). cycles_or_none (open_at m x y) (cycles_under s x y)) mask ∙ ap (cycles_or_none (open_in p x y)) cycles
 
 -- a row is added to a list of cycles
-pub row_listed : (s : ShiftedTiles) (y : ℕ) (list row : List ℤ) → s.scene.now.phase.width ≤ length row → AreListed s (y * s.scene.now.phase.width) list → BeginsWithRow (level_at s) y s.scene.now.phase.width row → AreListed s ((y + 1) * s.scene.now.phase.width) (list ++ take s.scene.now.phase.width row)
+pub row_listed : (s : ShiftedTiles) (y : ℕ) (list row : List ℤ) → s.scene.now.phase.width ≤ length row → AreListedCycles s (y * s.scene.now.phase.width) list → BeginsWithRow (level_at s) y s.scene.now.phase.width row → AreListedCycles s ((y + 1) * s.scene.now.phase.width) (list ++ take s.scene.now.phase.width row)
 row_listed s y list row room is front =
     let w = s.scene.now.phase.width in
     record {

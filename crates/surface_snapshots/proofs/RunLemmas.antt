@@ -5,10 +5,10 @@ use Rattle.std.proofs.lemmas.Bool.{cases_lt}
 use Rattle.std.proofs.lemmas.Bool.Decides.{nat_tests}
 use Rattle.std.proofs.lemmas.List.Sorted.{IsNonDecreasingBy-push, IsNonDecreasingBy-short}
 use Rattle.surface_snapshots.specs.declared.runs.Run.{Run}
-use Rattle.surface_snapshots.specs.Runs.{ArePacked, BeginsWith, label_in, label_of, number_in}
+use Rattle.surface_snapshots.specs.Runs.{ArePacked, Extends, label_in, label_of, run_number}
 
 -- ---- the run at place i is the first that ends after place p, and ends after place q too
-pub first_number : (runs : List Run) (d : Run) (p q i : ℕ) → ((j : ℕ) → j < i → (get_or runs j d).end ≤ p) → p ≤ q → i < length runs → q < (get_or runs i d).end → number_in runs q ≡ Some (get_or runs i d).number
+pub first_number : (runs : List Run) (d : Run) (p q i : ℕ) → ((j : ℕ) → j < i → (get_or runs j d).end ≤ p) → p ≤ q → i < length runs → q < (get_or runs i d).end → run_number runs q ≡ Some (get_or runs i d).number
 first_number [] d p q i passed from inside below = absurd (omega (arith, inside))
 first_number (r ∷ rs) d p q zero passed from inside below =
     let f : nat_lt q r.end ≡ true = grind (arith, nat_tests) in
@@ -19,7 +19,7 @@ first_number (r ∷ rs) d p q (suc i) passed from inside below =
     rw f (first_number rs d p q i (λ j l. passed (suc j) (omega (arith, l))) from (omega (arith, inside)) below)
 
 -- ---- no run ends after place p, and so none after place q
-pub no_number : (runs : List Run) (d : Run) (p q : ℕ) → ((j : ℕ) → j < length runs → (get_or runs j d).end ≤ p) → p ≤ q → number_in runs q ≡ None
+pub no_number : (runs : List Run) (d : Run) (p q : ℕ) → ((j : ℕ) → j < length runs → (get_or runs j d).end ≤ p) → p ≤ q → run_number runs q ≡ None
 no_number [] d p q passed from = refl
 no_number (r ∷ rs) d p q passed from =
     let ends : r.end ≤ p = passed 0 (omega arith) in
@@ -27,16 +27,16 @@ no_number (r ∷ rs) d p q passed from =
     rw f (no_number rs d p q (λ j l. passed (suc j) (omega (arith, l))) from)
 
 -- ---- one more run
-found_first : (runs more : List Run) (p n : ℕ) → number_in runs p ≡ Some n → number_in (runs ++ more) p ≡ Some n
+found_first : (runs more : List Run) (p n : ℕ) → run_number runs p ≡ Some n → run_number (runs ++ more) p ≡ Some n
 found_first [] more p n e = cc
 found_first (r ∷ rs) more p n e = go (nat_lt p r.end) (found_first rs more p n) e
   where
-    go : (b : Bool) → (number_in rs p ≡ Some n → number_in (rs ++ more) p ≡ Some n) → (if b then Some r.number else number_in rs p) ≡ Some n → (if b then Some r.number else number_in (rs ++ more) p) ≡ Some n
+    go : (b : Bool) → (run_number rs p ≡ Some n → run_number (rs ++ more) p ≡ Some n) → (if b then Some r.number else run_number rs p) ≡ Some n → (if b then Some r.number else run_number (rs ++ more) p) ≡ Some n
     go true before h = h
     go false before h = before h
 
 -- no run ends after a place
-none_passed : (runs : List Run) (d : Run) (p : ℕ) → number_in runs p ≡ None → (i : ℕ) → i < length runs → (get_or runs i d).end ≤ p
+none_passed : (runs : List Run) (d : Run) (p : ℕ) → run_number runs p ≡ None → (i : ℕ) → i < length runs → (get_or runs i d).end ≤ p
 none_passed [] d p e i inside = absurd (omega (arith, inside))
 none_passed (r ∷ rs) d p e i inside = go (nat_lt p r.end) (none_passed rs d p) refl e
   where
@@ -44,27 +44,27 @@ none_passed (r ∷ rs) d p e i inside = go (nat_lt p r.end) (none_passed rs d p)
     at zero before ends l = ends
     at (suc j) before ends l = before j (omega (arith, l))
 
-    go : (b : Bool) → (number_in rs p ≡ None → (k : ℕ) → k < length rs → (get_or rs k d).end ≤ p) → nat_lt p r.end ≡ b → (if b then Some r.number else number_in rs p) ≡ None → (get_or (r ∷ rs) i d).end ≤ p
+    go : (b : Bool) → (run_number rs p ≡ None → (k : ℕ) → k < length rs → (get_or rs k d).end ≤ p) → nat_lt p r.end ≡ b → (if b then Some r.number else run_number rs p) ≡ None → (get_or (r ∷ rs) i d).end ≤ p
     go true before t h = cc
     go false before t h = at i (before h) (let ends : r.end ≤ p = grind (arith, nat_tests) in ends) inside
 
-none_later : (runs : List Run) (p q : ℕ) → number_in runs p ≡ None → p ≤ q → number_in runs q ≡ None
+none_later : (runs : List Run) (p q : ℕ) → run_number runs p ≡ None → p ≤ q → run_number runs q ≡ None
 none_later [] p q e from = refl
 none_later (r ∷ rs) p q e from = no_number (r ∷ rs) r p q (none_passed (r ∷ rs) r p e) from
 
-found_last : (runs : List Run) (r : Run) (p : ℕ) → number_in runs p ≡ None → p < r.end → number_in (runs ++ r ∷ []) p ≡ Some r.number
+found_last : (runs : List Run) (r : Run) (p : ℕ) → run_number runs p ≡ None → p < r.end → run_number (runs ++ r ∷ []) p ≡ Some r.number
 found_last [] r p e below = let f : nat_lt p r.end ≡ true = grind (arith, nat_tests) in rw f refl
 found_last (x ∷ xs) r p e below = go (nat_lt p x.end) (λ h. found_last xs r p h below) e
   where
-    go : (b : Bool) → (number_in xs p ≡ None → number_in (xs ++ r ∷ []) p ≡ Some r.number) → (if b then Some x.number else number_in xs p) ≡ None → (if b then Some x.number else number_in (xs ++ r ∷ []) p) ≡ Some r.number
+    go : (b : Bool) → (run_number xs p ≡ None → run_number (xs ++ r ∷ []) p ≡ Some r.number) → (if b then Some x.number else run_number xs p) ≡ None → (if b then Some x.number else run_number (xs ++ r ∷ []) p) ≡ Some r.number
     go true before h = cc
     go false before h = before h
 
-none_more : (runs : List Run) (r : Run) (p : ℕ) → number_in runs p ≡ None → r.end ≤ p → number_in (runs ++ r ∷ []) p ≡ None
+none_more : (runs : List Run) (r : Run) (p : ℕ) → run_number runs p ≡ None → r.end ≤ p → run_number (runs ++ r ∷ []) p ≡ None
 none_more [] r p e above = let f : nat_lt p r.end ≡ false = grind (arith, nat_tests) in rw f refl
 none_more (x ∷ xs) r p e above = go (nat_lt p x.end) (λ h. none_more xs r p h above) e
   where
-    go : (b : Bool) → (number_in xs p ≡ None → number_in (xs ++ r ∷ []) p ≡ None) → (if b then Some x.number else number_in xs p) ≡ None → (if b then Some x.number else number_in (xs ++ r ∷ []) p) ≡ None
+    go : (b : Bool) → (run_number xs p ≡ None → run_number (xs ++ r ∷ []) p ≡ None) → (if b then Some x.number else run_number xs p) ≡ None → (if b then Some x.number else run_number (xs ++ r ∷ []) p) ≡ None
     go true before h = cc
     go false before h = before h
 
@@ -76,9 +76,9 @@ longer_has (x ∷ xs) rest (suc k) l e = longer_has xs rest k l e
 
 -- the runs of a tile with labels that follow, and with runs that follow
 pub label_stays : (labels rest : List ℕ) (first : ℕ) (runs more : List Run) (p l : ℕ) → label_in labels first runs p ≡ Some l → label_in (labels ++ rest) first (runs ++ more) p ≡ Some l
-label_stays labels rest first runs more p l e = go (number_in runs p) refl e
+label_stays labels rest first runs more p l e = go (run_number runs p) refl e
   where
-    go : (o : Option ℕ) → number_in runs p ≡ o → label_of labels first o ≡ Some l → label_in (labels ++ rest) first (runs ++ more) p ≡ Some l
+    go : (o : Option ℕ) → run_number runs p ≡ o → label_of labels first o ≡ Some l → label_in (labels ++ rest) first (runs ++ more) p ≡ Some l
     go None h f = cc
     go (Some n) h f = rw (found_first runs more p n h) (longer_has labels rest (first + n) l f)
 
@@ -89,7 +89,7 @@ packed_none labels first list runs e = rw e record {
   rising = IsNonDecreasingBy-short (λ (r : Run). r.end) [] (omega arith);
 }
 
-pub packed_more : (labels longer : List ℕ) (first : ℕ) (runs : List Run) (list : List ℕ) (n : ℕ) (r : Run) → ArePacked labels first runs list n → BeginsWith longer labels → n < r.end → slice_get longer (first + r.number) ≡ Some (slice_index list n) → ((p : ℕ) → n ≤ p → p < r.end → slice_index list p ≡ slice_index list n) → ArePacked longer first (runs ++ r ∷ []) list r.end
+pub packed_more : (labels longer : List ℕ) (first : ℕ) (runs : List Run) (list : List ℕ) (n : ℕ) (r : Run) → ArePacked labels first runs list n → Extends longer labels → n < r.end → slice_get longer (first + r.number) ≡ Some (slice_index list n) → ((p : ℕ) → n ≤ p → p < r.end → slice_index list p ≡ slice_index list n) → ArePacked longer first (runs ++ r ∷ []) list r.end
 packed_more labels longer first runs list n r is begins more found same = record {
   told = λ p below.
       elim (cases_lt p n) [

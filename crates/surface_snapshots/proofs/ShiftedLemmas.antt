@@ -12,8 +12,8 @@ use Rattle.raster_model.specs.Sums.{Field}
 use Rattle.raster_model.specs.Tiles.{IsWindowOf, IsWithin, height_of, place_in, tile_at, tiles_of, width_of, window_of}
 use Rattle.raster_model.proofs.TileLemmas.{tiles_are_numbered, window_of-pixels}
 use Rattle.certificates.specs.declared.results.TileResult.{TileResult}
-use Rattle.certificates.specs.Results.{cycles_in, pixels_in}
-use Rattle.seam_regions.specs.Regions.{AreRegionsOf, label_at}
+use Rattle.certificates.specs.Results.{listed_cycles, pixels_in}
+use Rattle.seam_regions.specs.Regions.{AreRegionsOf, region_label}
 use Rattle.seam_regions.specs.RegionsView.{RegionsView}
 use Rattle.seam_regions.proofs.CallerLemmas.{regions_of_scene}
 use Rattle.certificates.specs.TileSets.{solved_cycles}
@@ -65,12 +65,12 @@ module _ (s : Scene) (mask : Field Bool) (results : List TileResult) (tiles : Ar
   pub place_is_in : IsWithin v x y → place_in v x y < length k.cycles.items
   place_is_in w = omega (arith, place_in_window v x y w, (tiles.good t k there).shape.0 ∙ ap pixels_in same_window)
 
-  pub solved_is : cycles_in v k.cycles.items x y ≡ solved_cycles s results x y
+  pub solved_is : listed_cycles v k.cycles.items x y ≡ solved_cycles s results x y
   unfolding solved_cycles
   solved_is = rw (← of_tile, there, same_window) refl
 
-  pub solved_is_small : IsWithin v x y → IsTrue (mask x y) → unsigned_abs (cycles_in v k.cycles.items x y) ≤ 8388608
-  solved_is_small w o = subst (λ (u : Window). IsWithin u x y → unsigned_abs (cycles_in u k.cycles.items x y) ≤ 8388608) same_window (λ i. (tiles.good t k there).in_range x y (i, o)) w
+  pub solved_is_small : IsWithin v x y → IsTrue (mask x y) → unsigned_abs (listed_cycles v k.cycles.items x y) ≤ 8388608
+  solved_is_small w o = subst (λ (u : Window). IsWithin u x y → unsigned_abs (listed_cycles u k.cycles.items x y) ≤ 8388608) same_window (λ i. (tiles.good t k there).in_range x y (i, o)) w
 
 -- a label below the number of regions is none of a masked pixel
 told_open : (n : ℕ) (clear : Bool) → n < 4294967295 → (if n == 4294967295 then None else Some n) ≡ (if clear then Some n else None) → IsTrue clear
@@ -83,12 +83,12 @@ told_open n false l e =
 -- the open pixels are those whose label is a region's number
 module _ (s : Scene) (m : MaskView) (v : RegionsView) (across : m.width ≡ s.phase.width) (along : m.height ≡ s.phase.height) (is : AreRegionsOf s.tiling m v) where
   module _ (x y : ℕ) (l : x < s.phase.width) (h : y < s.phase.height) where
-    pub label_below : IsTrue (open_at m x y) → label_at v x y < v.count
+    pub label_below : IsTrue (open_at m x y) → region_label v x y < v.count
     label_below o = (regions_of_scene s m v is).labelling.below x y (l, h, o)
 
-    pub label_open : label_at v x y < v.count → IsTrue (open_at m x y)
+    pub label_open : region_label v x y < v.count → IsTrue (open_at m x y)
     label_open below =
-        told_open (label_at v x y) (open_at m x y) (omega (arith, below, is.few)) (is.told x y (omega (arith, l, s.same_width)) (omega (arith, h, s.same_height)))
+        told_open (region_label v x y) (open_at m x y) (omega (arith, below, is.few)) (is.told x y (omega (arith, l, s.same_width)) (omega (arith, h, s.same_height)))
 
   -- parts that fit together
   pub go_together : (results : List TileResult) → AreGoodTiles s (open_at m) results → GoTogether s m v results

@@ -11,13 +11,13 @@ use Rattle.std.proofs.lemmas.Nat.{div-add-mod', div-mul-add, mod-mul-add, mul-ad
 use Rattle.raster_model.specs.declared.tiling.Tiling.{Tiling}
 use Rattle.raster_model.specs.Tiles.{IsWithin, height_of, place_in, tile_at, tiles_of, width_of, window_of}
 use Rattle.raster_model.proofs.TileLemmas.{tiles_are_numbered, window_of-pixels}
-use Rattle.seam_regions.specs.Regions.{label_at}
+use Rattle.seam_regions.specs.Regions.{region_label}
 use Rattle.seam_regions.specs.RegionsView.{RegionsView}
 use Rattle.surface_snapshots.specs.declared.runs.Run.{Run}
 use Rattle.surface_snapshots.specs.declared.runs.TileRuns.{TileRuns}
 use Rattle.surface_snapshots.specs.declared.tiled.TiledRegions.{TiledRegions}
 use Rattle.surface_snapshots.specs.Packing.{AreLabelsBefore, TellTiles}
-use Rattle.surface_snapshots.specs.Runs.{ArePacked, AreRising, BeginsWith, IsFirstAfter, RunsView, label_by, label_of, label_there, labels_told, number_in, shown}
+use Rattle.surface_snapshots.specs.Runs.{ArePacked, AreRising, Extends, IsFirstAfter, RunsView, label_by, label_of, label_there, labels_told, run_number, runs_of}
 use Rattle.surface_snapshots.specs.Tiled.{regions_in}
 use Rattle.surface_snapshots.proofs.LevelLemmas.{its_window, row_reaches, same_tile}
 use Rattle.surface_snapshots.proofs.RunLemmas.{first_number, longer_has, no_number}
@@ -60,7 +60,7 @@ pub labels_count : (r : TiledRegions) → length (regions_in r).labels ≡ r.til
 unfolding labels_told
 labels_count r =
     let g = r.tiling in
-    length-map-range_with_len (λ (k : ℕ). label_there r.labels.items (map shown r.tiles.items) (tile_at g (k % g.width) (k / g.width)) (place_in (window_of g (tile_at g (k % g.width) (k / g.width))) (k % g.width) (k / g.width))) 0 (g.width * g.height)
+    length-map-range_with_len (λ (k : ℕ). label_there r.labels.items (map runs_of r.tiles.items) (tile_at g (k % g.width) (k / g.width)) (place_in (window_of g (tile_at g (k % g.width) (k / g.width))) (k % g.width) (k / g.width))) 0 (g.width * g.height)
 
 -- the regions that are kept are those that were given
 pub regions_same : (g : Tiling) (labels : List ℕ) (tiles : List RunsView) (count : ℕ) (v : RegionsView) → v.width ≡ g.width → v.height ≡ g.height → length v.labels ≡ v.width * v.height → count ≡ v.count → TellTiles g v.labels labels tiles (tiles_of g) → record { width = g.width; height = g.height; labels = labels_told g labels tiles; count = count } ≡ v
@@ -90,13 +90,13 @@ get_before (x ∷ xs) k (suc t) below = get_before xs k t (omega (arith, below))
 
 label_kept : (labels rest : List ℕ) (o : Option RunsView) (p l : ℕ) → label_by labels o p ≡ Some l → label_by (labels ++ rest) o p ≡ Some l
 label_kept labels rest None p l e = cc
-label_kept labels rest (Some k) p l e = go (number_in k.runs p) e
+label_kept labels rest (Some k) p l e = go (run_number k.runs p) e
   where
     go : (o : Option ℕ) → label_of labels k.first o ≡ Some l → label_of (labels ++ rest) k.first o ≡ Some l
     go None f = cc
     go (Some n) f = longer_has labels rest (k.first + n) l f
 
-pub tiles_more : (g : Tiling) (all labels longer : List ℕ) (tiles : List RunsView) (k : RunsView) (n : ℕ) → length tiles ≡ n → TellTiles g all labels tiles n → BeginsWith longer labels → ((x y : ℕ) → x < g.width → y < g.height → tile_at g x y ≡ n → label_by longer (Some k) (place_in (window_of g n) x y) ≡ Some (slice_index all (y * g.width + x))) → TellTiles g all longer (tiles ++ k ∷ []) (n + 1)
+pub tiles_more : (g : Tiling) (all labels longer : List ℕ) (tiles : List RunsView) (k : RunsView) (n : ℕ) → length tiles ≡ n → TellTiles g all labels tiles n → Extends longer labels → ((x y : ℕ) → x < g.width → y < g.height → tile_at g x y ≡ n → label_by longer (Some k) (place_in (window_of g n) x y) ≡ Some (slice_index all (y * g.width + x))) → TellTiles g all longer (tiles ++ k ∷ []) (n + 1)
 tiles_more g all labels longer tiles k n size told begins new t below x y across along of_tile =
     elim (cases_lt t n) [
       | inl before ↦ rw (get_before tiles k t (omega (arith, before, size)), begins.1) (label_kept labels begins.0 (slice_get tiles t) (place_in (window_of g t) x y) (slice_index all (y * g.width + x)) (told t before x y across along of_tile))
@@ -114,24 +114,24 @@ last_or_before (z ∷ zs) x y zero e = inl e
 last_or_before (z ∷ zs) x y (suc t) e = last_or_before zs x y t e
 
 -- runs that rise in each tile
-pub shown_rises : (tiles : List TileRuns) (t : ℕ) (r : RunsView) → slice_get (map shown tiles) t ≡ Some r → ((u : ℕ) (k : TileRuns) → slice_get tiles u ≡ Some k → AreRising (arc_value k.runs).items) → AreRising r.runs
-shown_rises tiles t r e rising = go (slice_get tiles t) refl (sym (slice_get-map shown tiles t) ∙ e)
+pub shown_rises : (tiles : List TileRuns) (t : ℕ) (r : RunsView) → slice_get (map runs_of tiles) t ≡ Some r → ((u : ℕ) (k : TileRuns) → slice_get tiles u ≡ Some k → AreRising (arc_value k.runs).items) → AreRising r.runs
+shown_rises tiles t r e rising = go (slice_get tiles t) refl (sym (slice_get-map runs_of tiles t) ∙ e)
   where
-    go : (o : Option TileRuns) → slice_get tiles t ≡ o → option_map shown o ≡ Some r → AreRising r.runs
+    go : (o : Option TileRuns) → slice_get tiles t ≡ o → option_map runs_of o ≡ Some r → AreRising r.runs
     go None h f = cc
-    go (Some k) h f = subst (λ (v : RunsView). AreRising v.runs) (ap (λ (o : Option RunsView). unwrap_or o (shown k)) f) (rising t k h)
+    go (Some k) h f = subst (λ (v : RunsView). AreRising v.runs) (ap (λ (o : Option RunsView). unwrap_or o (runs_of k)) f) (rising t k h)
 
 -- ---- the label at a place, by the first run that ends after an earlier place
 module _ (labels : List ℕ) (tiles : List TileRuns) (t : ℕ) (k : TileRuns) (place p at : ℕ) (there : slice_get tiles t ≡ Some k) (is : IsFirstAfter (arc_value k.runs).items place at) (from : place ≤ p) where
-  shown_there : slice_get (map shown tiles) t ≡ Some (shown k)
-  shown_there = slice_get-map shown tiles t ∙ rw there refl
+  shown_there : slice_get (map runs_of tiles) t ≡ Some (runs_of k)
+  shown_there = slice_get-map runs_of tiles t ∙ rw there refl
 
-  pub run_label : (d : Run) → at < length (arc_value k.runs).items → p < (slice_index_or (arc_value k.runs).items at d).end → label_there labels (map shown tiles) t p ≡ unwrap_or (slice_get labels (k.first + (slice_index_or (arc_value k.runs).items at d).number)) 4294967295
+  pub run_label : (d : Run) → at < length (arc_value k.runs).items → p < (slice_index_or (arc_value k.runs).items at d).end → label_there labels (map runs_of tiles) t p ≡ unwrap_or (slice_get labels (k.first + (slice_index_or (arc_value k.runs).items at d).number)) 4294967295
   unfolding label_there
   run_label d inside below =
       rw (shown_there, first_number (arc_value k.runs).items d place p at (λ j l. is.passed j d l) from inside below) refl
 
-  pub no_label : (d : Run) → length (arc_value k.runs).items ≤ at → 4294967295 ≡ label_there labels (map shown tiles) t p
+  pub no_label : (d : Run) → length (arc_value k.runs).items ≤ at → 4294967295 ≡ label_there labels (map runs_of tiles) t p
   unfolding label_there
   no_label d past =
       rw (shown_there, no_number (arc_value k.runs).items d place p (λ j l. is.passed j d (omega (arith, l, past))) from) refl
@@ -143,11 +143,11 @@ module _ (r : TiledRegions) (x y t : ℕ) (across : x < r.tiling.width) (along :
       let inside : IsWithin (window_of r.tiling t) x y = ((its_window r.tiling x y t across along of_tile).pixels x y across along).0 (sym of_tile) in
       omega (arith, inside, from)
 
-  pub span_labels : (n label : ℕ) → x + n ≤ (window_of r.tiling t).x1 + 1 → ((p : ℕ) → place_in (window_of r.tiling t) x y ≤ p → p < place_in (window_of r.tiling t) x y + n → label_there r.labels.items (map shown r.tiles.items) t p ≡ label) → (c : ℕ) → x ≤ c → c < x + n → label_at (regions_in r) c y ≡ label
+  pub span_labels : (n label : ℕ) → x + n ≤ (window_of r.tiling t).x1 + 1 → ((p : ℕ) → place_in (window_of r.tiling t) x y ≤ p → p < place_in (window_of r.tiling t) x y + n → label_there r.labels.items (map runs_of r.tiles.items) t p ≡ label) → (c : ℕ) → x ≤ c → c < x + n → region_label (regions_in r) c y ≡ label
   span_labels n label upto told c from below =
       let g = r.tiling in
       let reach = row_reaches g x y t across along of_tile in
       let same : t ≡ tile_at g c y = same_tile g x y t across along of_tile c from (omega (arith, below, upto)) in
       let place = place_on c from in
-      label_is g r.labels.items (map shown r.tiles.items) c y (omega (arith, below, upto, reach)) along
-      ∙ subst (λ (u : ℕ). label_there r.labels.items (map shown r.tiles.items) u (place_in (window_of g u) c y) ≡ label) same (told (place_in (window_of g t) c y) (omega (arith, place)) (omega (arith, place, from, below)))
+      label_is g r.labels.items (map runs_of r.tiles.items) c y (omega (arith, below, upto, reach)) along
+      ∙ subst (λ (u : ℕ). label_there r.labels.items (map runs_of r.tiles.items) u (place_in (window_of g u) c y) ≡ label) same (told (place_in (window_of g t) c y) (omega (arith, place)) (omega (arith, place, from, below)))

@@ -12,11 +12,11 @@ use Rattle.certificates.specs.declared.verdicts.SeamVerdict.TheVariants.{Good, S
 use Rattle.certificates.specs.SeamVerdicts.{IsSeamVerdict, ListsRegions, label_at as label_in}
 use Rattle.certificates.proofs.UniqueSeams.{seams_have_one_verdict}
 use Rattle.seam_regions.specs.Offsets.{AreNear, IsFirstFar}
-use Rattle.seam_regions.specs.Regions.{AreRegionsOf, label_at}
+use Rattle.seam_regions.specs.Regions.{AreRegionsOf, region_label}
 use Rattle.seam_regions.specs.RegionsView.{RegionsView}
 use Rattle.seam_regions.proofs.CallerLemmas.{regions_of_scene}
 use Rattle.surface_snapshots.specs.Parts.{Parts, cycles_in_parts, flows_in, open_in, raster_in}
-use Rattle.surface_snapshots.specs.Verdicts.{HasOffsets, IsFlowsVerdict, IsVerdict, PartsHaveOneVerdict}
+use Rattle.surface_snapshots.specs.Verdicts.{HasOffsets, IsPartsFlowsVerdict, IsPartsVerdict, PartsHaveOneVerdict}
 use Rattle.std.proofs.lemmas.Bool.{cases_order}
 
 -- ---- the labels, as the check of the flows reads them
@@ -30,13 +30,13 @@ module _ (s : Scene) (m : MaskView) (v : RegionsView) (is : AreRegionsOf s.tilin
     rw (values, counted) (subst (λ (w : ℕ). AreRegions (raster_of s) (open_at m) (label_in w v.labels) v.count) wide (regions_of_scene s m v is)),
   )
 
-  pub flows_verdict : (cycles : Field ℤ) (flows : List ℤ) (verdict : SeamVerdict) → IsSeamVerdict (raster_of s) (open_at m) (label_in s.phase.width labels) count cycles flows verdict → IsSeamVerdict (raster_of s) (open_at m) (label_at v) v.count cycles flows verdict
+  pub flows_verdict : (cycles : Field ℤ) (flows : List ℤ) (verdict : SeamVerdict) → IsSeamVerdict (raster_of s) (open_at m) (label_in s.phase.width labels) count cycles flows verdict → IsSeamVerdict (raster_of s) (open_at m) (region_label v) v.count cycles flows verdict
   flows_verdict cycles flows verdict h =
       subst (λ (w : ℕ). IsSeamVerdict (raster_of s) (open_at m) (label_in w v.labels) v.count cycles flows verdict) (sym wide)
       (rw (values, counted) at h)
 
 -- ---- what the check of the flows says is the verdict, where the offsets are in order
-pub judged : (p : Parts) (verdict : SeamVerdict) → HasOffsets p → AreNear p.seams.offsets → IsFlowsVerdict p verdict → IsVerdict p verdict
+pub judged : (p : Parts) (verdict : SeamVerdict) → HasOffsets p → AreNear p.seams.offsets → IsPartsFlowsVerdict p verdict → IsPartsVerdict p verdict
 judged p Good o n f = (o, n, f)
 judged p Shape o n f = inr (o, n, f)
 judged p (Range v) o n f = absurd f
@@ -55,12 +55,12 @@ record IsTooFar (p : Parts) (verdict : SeamVerdict) : Type 0 where
 record IsOfFlows (p : Parts) (verdict : SeamVerdict) : Type 0 where
   offsets : HasOffsets p
   near : AreNear p.seams.offsets
-  says : IsFlowsVerdict p verdict
+  says : IsPartsFlowsVerdict p verdict
 
 abbrev Kinds : Parts → SeamVerdict → Type 0
 Kinds p verdict = ((verdict ≡ Shape) × (length p.seams.offsets ≢ p.regions.count)) ⊎ (IsTooFar p verdict ⊎ IsOfFlows p verdict)
 
-kind_of : (p : Parts) (verdict : SeamVerdict) → IsVerdict p verdict → Kinds p verdict
+kind_of : (p : Parts) (verdict : SeamVerdict) → IsPartsVerdict p verdict → Kinds p verdict
 kind_of p Good h = inr (inr (record { offsets = h.0; near = h.1; says = h.2 }))
 kind_of p Shape (inl n) = inl (refl, n)
 kind_of p Shape (inr h) = inr (inr (record { offsets = h.0; near = h.1; says = h.2 }))
@@ -89,4 +89,4 @@ parts_have_one_verdict p a b is h k = go (kind_of p a h) (kind_of p b k)
     go (inr (inl e)) (inr (inr f)) = absurd (e.first.far (f.near e.region e.first.exists))
     go (inr (inr e)) (inl f) = absurd (f.1 e.offsets)
     go (inr (inr e)) (inr (inl f)) = absurd (f.first.far (e.near f.region f.first.exists))
-    go (inr (inr e)) (inr (inr f)) = seams_have_one_verdict (raster_in p) (open_in p) (label_at p.regions) p.regions.count (cycles_in_parts p) (flows_in p) a b (regions_of_scene p.session.scene p.mask p.regions is) e.says f.says
+    go (inr (inr e)) (inr (inr f)) = seams_have_one_verdict (raster_in p) (open_in p) (region_label p.regions) p.regions.count (cycles_in_parts p) (flows_in p) a b (regions_of_scene p.session.scene p.mask p.regions is) e.says f.says

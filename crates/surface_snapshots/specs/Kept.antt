@@ -1,4 +1,4 @@
--- The parts of a surface, from what a snapshot keeps of them. No clause of a public function cites this word.
+-- The parts of a surface, from what a snapshot keeps of them. Clauses cite it only through `parts_of`, which unfolds into it.
 use Rattle.std.specs.Prelude.{ℕ, ℤ, List}
 use Rattle.raster_model.specs.declared.session.Session.{Session}
 use Rattle.certificates.specs.TileSets.{TileSetView}

@@ -5,7 +5,7 @@ use Rattle.raster_model.specs.declared.scene.Scene.{Scene}
 use Rattle.raster_model.specs.MaskView.{MaskView}
 use Rattle.raster_model.specs.Masks.{open_at}
 use Rattle.certificates.specs.declared.results.TileResult.{TileResult}
-use Rattle.seam_regions.specs.Regions.{label_at}
+use Rattle.seam_regions.specs.Regions.{region_label}
 use Rattle.seam_regions.specs.RegionsView.{RegionsView}
 use Rattle.surface_snapshots.specs.declared.counting.Costs.{Costs}
 use Rattle.surface_snapshots.specs.Parts.{AreGoodTiles}
@@ -50,5 +50,5 @@ pub record GoTogether (s : Scene) (m : MaskView) (v : RegionsView) (results : Li
   pub tiles : AreGoodTiles s (open_at m) results
   pub wide : v.width ≡ s.phase.width
   pub high : v.height ≡ s.phase.height
-  pub below : (x y : ℕ) → x < s.phase.width → y < s.phase.height → IsTrue (open_at m x y) → label_at v x y < v.count
-  pub told : (x y : ℕ) → x < s.phase.width → y < s.phase.height → label_at v x y < v.count → IsTrue (open_at m x y)
+  pub below : (x y : ℕ) → x < s.phase.width → y < s.phase.height → IsTrue (open_at m x y) → region_label v x y < v.count
+  pub told : (x y : ℕ) → x < s.phase.width → y < s.phase.height → region_label v x y < v.count → IsTrue (open_at m x y)

@@ -9,7 +9,7 @@ use Rattle.surface_snapshots.specs.declared.shifted.ShiftedTiles.{ShiftedTiles}
 use Rattle.certificates.specs.declared.results.TileResult.{TileResult}
 use Rattle.raster_model.specs.declared.tiling.Window.{Window}
 use Rattle.raster_model.specs.Tiles.{tile_at, window_of}
-use Rattle.seam_regions.specs.Regions.{label_at}
+use Rattle.seam_regions.specs.Regions.{region_label}
 use Rattle.surface_snapshots.specs.Tiled.{mask_told, regions_in}
 use Rattle.surface_snapshots.specs.Parts.{Parts, cycles_in_parts, open_in, shifted_cycles}
 
@@ -27,7 +27,7 @@ abbrev pub cycles_under : ShiftedTiles → Field ℤ
 cycles_under s = shifted_cycles s.scene.now (regions_in s.regions.now) s.tiles.now.results s.offsets.now
 
 -- the list has a number for each of the first n pixels in row order: the cycles of each that is open
-pub record AreListed (s : ShiftedTiles) (n : ℕ) (list : List ℤ) : Type 0 where
+pub record AreListedCycles (s : ShiftedTiles) (n : ℕ) (list : List ℤ) : Type 0 where
   pub count : length list ≡ n
   pub at : (x y : ℕ) → x < s.scene.now.phase.width → y < s.scene.now.phase.height → IsTrue (open_under s x y) → y * s.scene.now.phase.width + x < n → slice_index_or list (y * s.scene.now.phase.width + x) (pos 0) ≡ cycles_under s x y
 
@@ -51,7 +51,7 @@ pub record IsSpan (s : ShiftedTiles) (w : Window) (x z y label : ℕ) : Type 0 w
   pub row : y < s.scene.now.phase.height
   pub column : x < s.scene.now.phase.width
   pub window : w ≡ window_of s.scene.now.tiling (tile_at s.scene.now.tiling x y)
-  pub labels : (c : ℕ) → x ≤ c → c < z → label_at (regions_in s.regions.now) c y ≡ label
+  pub labels : (c : ℕ) → x ≤ c → c < z → region_label (regions_in s.regions.now) c y ≡ label
 
 -- the result of tile t has these cycles
 abbrev pub HasCycles : ShiftedTiles → ℕ → List ℤ → Type 0

@@ -4,7 +4,7 @@ ghost use Rattle.seam_regions.specs.Regions.{AreRegionsOf};
 ghost use Rattle.std.specs.Prelude.{◌≡◌, IfErr, IfOk};
 ghost use Rattle.surface_snapshots.specs.Parts.{AreGoodTiles, HaveCosts, parts_from};
 ghost use Rattle.surface_snapshots.specs.Tiled.{mask_told, regions_in};
-ghost use Rattle.surface_snapshots.specs.Verdicts.{IsFault, IsVerdict};
+ghost use Rattle.surface_snapshots.specs.Verdicts.{IsFault, IsPartsVerdict};
 
 use crate::counting::Costs;
 use crate::fault::BuildFault;
@@ -42,7 +42,7 @@ pub(crate) fn certified_costs(
     ensures tiling { IfOk result (λ made. made.regions.tiling ≡ session.now.scene.tiling) }
     ensures regions { IfOk result (λ made. regions_in made.regions ≡ regions.now) }
     ensures mask { IfOk result (λ made. mask.now ≡ mask_told regions.now) }
-    ensures certified { IfOk result (λ made. IsVerdict (parts_from session.now mask.now regions.now tiles.now seams.now) Good) }
+    ensures certified { IfOk result (λ made. IsPartsVerdict (parts_from session.now mask.now regions.now tiles.now seams.now) Good) }
     ensures costs { IfOk result (λ made. HaveCosts (parts_from session.now mask.now regions.now tiles.now seams.now) made.costs.tiles made.costs.seams) }
 {
     if seams.offsets.len() != regions.count() as usize {
@@ -72,13 +72,14 @@ pub(crate) fn certified_costs(
     })
 }
 
-/// A mask is told by its regions. This function does nothing; its contract is that fact.
+/// The regions determine the mask. This function does nothing; its contract is that fact.
 fn told_by(scene: &Scene, mask: &Mask, regions: &Regions)
     requires across { mask.now.width ≡ scene.now.phase.width }
     requires along { mask.now.height ≡ scene.now.phase.height }
     requires regions { AreRegionsOf scene.now.tiling mask.now regions.now }
     ensures { mask.now ≡ mask_told regions.now }
 {
+    // Their contracts say what every mask and all regions keep.
     let _width = mask.width();
     let _labels = regions.labels();
 }

@@ -22,7 +22,7 @@ pub struct Costs {
 }
 
 /// No costs.
-const NONE: Costs = Costs { tiles: 0, seams: 0 };
+const NO_COSTS: Costs = Costs { tiles: 0, seams: 0 };
 
 /// How many pixels of a row are judged at once.
 const PIECE: u32 = 64;
@@ -35,7 +35,7 @@ impl Costs {
         ensures tiles { pos result.tiles ≡ tile_costs (raster_of scene.now) (open_at mask.now) (lifted (raster_of scene.now) (H.cycles_at heights.now)) }
         ensures seams { pos result.seams ≡ seam_cost_of (raster_of scene.now) (open_at mask.now) (lifted (raster_of scene.now) (H.cycles_at heights.now)) }
     {
-        let mut costs = NONE;
+        let mut costs = NO_COSTS;
         for y in 0..scene.phase.height {
             costs = costs.plus(row_costs(scene, mask, heights, y));
         }
@@ -66,7 +66,7 @@ fn row_costs<H: Heights>(scene: &Scene, mask: &Mask, heights: &H, y: u32) -> Cos
     ensures small { AreOfEdges 8192 result }
 {
     let width = scene.phase.width;
-    let mut costs = NONE;
+    let mut costs = NO_COSTS;
     let mut x = 0;
     while x < width {
         let end = (x + PIECE).min(width);
@@ -98,7 +98,7 @@ fn piece_costs<H: Heights>(
     if !unmasked || !follows(scene, heights, y, x0, end) {
         return costs_by_pixels(scene, mask, heights, y, x0, end, unmasked);
     }
-    NONE
+    NO_COSTS
 }
 
 /// Whether the pixels of a row and of the next one are open, from column `x0` to column `end`, as far as the raster
@@ -179,7 +179,7 @@ fn costs_by_pixels<H: Heights>(
 {
     let side = scene.tiling.side;
     let lowest = (y + 1) % side == 0;
-    let mut costs = NONE;
+    let mut costs = NO_COSTS;
     // the columns of the tile from `x` on
     let mut left = side - x0 % side;
     for x in x0..end {
@@ -239,7 +239,7 @@ fn right_costs<H: Heights>(
         let edge = Edge { x, y, down: false };
         edge_costs(scene, mask, heights, edge, last, unmasked)
     } else {
-        NONE
+        NO_COSTS
     }
 }
 
@@ -266,7 +266,7 @@ fn lower_costs<H: Heights>(
         let edge = Edge { x, y, down: true };
         edge_costs(scene, mask, heights, edge, lowest, unmasked)
     } else {
-        NONE
+        NO_COSTS
     }
 }
 

@@ -1,6 +1,6 @@
 ghost use Rattle.std.specs.Prelude.{◌≡◌, ◌+◌, ◌*◌, ◌<◌, IfOk};
 ghost use Rattle.surface_snapshots.specs.Parts.{is_open_pixel};
-ghost use Rattle.surface_snapshots.specs.Shifted.{AreListed, cycles_under, open_under};
+ghost use Rattle.surface_snapshots.specs.Shifted.{AreListedCycles, cycles_under, open_under};
 
 use crate::shifted::ShiftedTiles;
 use certificates::{SeamVerdict, check_flows};
@@ -16,7 +16,7 @@ const MAX_WIDTH: usize = MAX_SIDE as usize;
 pub(crate) struct Levels<'a> {
     pub(crate) surface: ShiftedTiles<'a>,
     cycles: Vec<i64>,
-    ghost listed: { AreListed surface (surface.scene.now.phase.height * surface.scene.now.phase.width) cycles.items },
+    ghost listed: { AreListedCycles surface (surface.scene.now.phase.height * surface.scene.now.phase.width) cycles.items },
 }
 
 impl Heights for Levels<'_> {
@@ -34,7 +34,7 @@ impl<'a> Levels<'a> {
     ghost use Rattle.certificates.specs.SeamVerdicts.{IsSeamVerdict};
     ghost use Rattle.raster_model.specs.Masks.{open_at};
     ghost use Rattle.raster_model.specs.Raster.{lifted};
-    ghost use Rattle.seam_regions.specs.Regions.{AreRegionsOf, label_at};
+    ghost use Rattle.seam_regions.specs.Regions.{AreRegionsOf, region_label};
     ghost use Rattle.surface_snapshots.specs.Shifted.{mask_under, raster_under};
     ghost use Rattle.surface_snapshots.specs.Tiled.{regions_in};
 
@@ -63,7 +63,7 @@ impl<'a> Levels<'a> {
         requires told { mask.now ≡ mask_under self.now.surface }
         requires same { regions_in self.now.surface.regions.now ≡ regions.now }
         requires regions { AreRegionsOf self.now.surface.scene.now.tiling mask.now regions.now }
-        ensures { IfOk result (IsSeamVerdict (raster_under self.now.surface) (open_at mask.now) (label_at regions.now) regions.now.count (cycles_under self.now.surface) flows.now) }
+        ensures { IfOk result (IsSeamVerdict (raster_under self.now.surface) (open_at mask.now) (region_label regions.now) regions.now.count (cycles_under self.now.surface) flows.now) }
     {
         let surface = self.surface;
         let mut scratch = vec![in alloc; 0; regions.count() as usize]?;

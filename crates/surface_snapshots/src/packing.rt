@@ -1,6 +1,6 @@
 ghost use Rattle.raster_model.specs.Limits.{max_side};
 ghost use Rattle.std.specs.Prelude.{◌≡◌, ℕ, ◌+◌, ◌*◌, ◌<◌, ◌≤◌, IfOk, IfSome, Some, [], length, slice_get, slice_index};
-ghost use Rattle.surface_snapshots.specs.Runs.{ArePacked, BeginsWith, shown};
+ghost use Rattle.surface_snapshots.specs.Runs.{ArePacked, Extends, runs_of};
 ghost use Rattle.surface_snapshots.specs.Packing.{AreLabelsBefore};
 
 use crate::runs::{Run, TileRuns};
@@ -31,8 +31,8 @@ impl Packing {
     /// The runs of a tile whose pixels have these labels in row order.
     pub(crate) fn pack(&mut self, alloc: Global, list: &[u32]) -> Result<TileRuns, AllocError>
         requires few { length list.now ≤ 16777216 }
-        ensures kept { IfOk result (λ tile. BeginsWith self.new.labels.items self.old.labels.items) }
-        ensures packed { IfOk result (λ tile. ArePacked self.new.labels.items (shown tile).first (shown tile).runs list.now (length list.now)) }
+        ensures kept { IfOk result (λ tile. Extends self.new.labels.items self.old.labels.items) }
+        ensures packed { IfOk result (λ tile. ArePacked self.new.labels.items (runs_of tile).first (runs_of tile).runs list.now (length list.now)) }
     {
         let first = self.labels.len();
         self.labels.push(u32::MAX)?;
@@ -54,7 +54,7 @@ impl Packing {
     fn number(&mut self, first: usize, label: u32) -> Result<u32, AllocError>
         requires first { first < length self.old.labels.items }
         requires few { length self.old.labels.items ≤ first + 16777217 }
-        ensures kept { IfOk result (λ number. BeginsWith self.new.labels.items self.old.labels.items) }
+        ensures kept { IfOk result (λ number. Extends self.new.labels.items self.old.labels.items) }
         ensures more { IfOk result (λ number. length self.new.labels.items ≤ length self.old.labels.items + 1) }
         ensures told { IfOk result (λ number. slice_get self.new.labels.items (first + number) ≡ Some label) }
     {

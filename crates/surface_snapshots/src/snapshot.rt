@@ -81,7 +81,7 @@ impl Snapshot {
       value_or,
     };
     ghost use Rattle.surface_snapshots.specs.Shifted.{level_in};
-    ghost use Rattle.surface_snapshots.specs.Verdicts.{IsFault, IsVerdict};
+    ghost use Rattle.surface_snapshots.specs.Verdicts.{IsFault, IsPartsVerdict};
     ghost use Rattle.surface_snapshots.specs.Views.{parts_of};
 
     /// Makes the snapshot of a session's surface under a mask. The surface lies above the phase by the cycles of the
@@ -101,7 +101,7 @@ impl Snapshot {
         requires tiles { AreGoodTiles (arc_value session).scene (open_at mask) tiles.results }
         requires regions { AreRegionsOf (arc_value session).scene.tiling mask regions }
         ensures parts { IfOk result (λ made. parts_of made ≡ parts_from (arc_value session) mask regions tiles seams) }
-        ensures certified { IfOk result (λ made. IsVerdict (parts_of made) Good) }
+        ensures certified { IfOk result (λ made. IsPartsVerdict (parts_of made) Good) }
         ensures anchored { IfOk result (λ made. IsAnchored (raster_in (parts_of made)) (open_in (parts_of made)) (surface_in (parts_of made))) }
         ensures best { IfOk result (λ made. IsBest (raster_in (parts_of made)) (open_in (parts_of made)) (surface_in (parts_of made))) }
         ensures refused { IfErr result (IsFault (parts_from (arc_value session) mask regions tiles seams)) }

@@ -1,7 +1,7 @@
 ghost use Rattle.raster_model.specs.Tiles.{tiles_of};
 ghost use Rattle.std.specs.Arc.{arc_value};
 ghost use Rattle.std.specs.Prelude.{◌≡◌, ℕ, ◌<◌, IsTrue, Some, length, slice_get};
-ghost use Rattle.surface_snapshots.specs.Runs.{AreRising, shown};
+ghost use Rattle.surface_snapshots.specs.Runs.{AreRising, runs_of};
 ghost use Rattle.surface_snapshots.specs.declared.runs.TileRuns.{TileRuns};
 
 use crate::finding::first_after;
@@ -36,7 +36,7 @@ pub(crate) struct Span {
 
 impl TiledRegions {
     ghost use Rattle.raster_model.specs.Masks.{open_at};
-    ghost use Rattle.seam_regions.specs.Regions.{label_at};
+    ghost use Rattle.seam_regions.specs.Regions.{masked_label, region_label};
     ghost use Rattle.std.specs.Prelude.{◌+◌, ◌≤◌, IfOk, map, unwrap_or};
     ghost use Rattle.surface_snapshots.specs.Runs.{label_there};
     ghost use Rattle.surface_snapshots.specs.Tiled.{mask_told, regions_in};
@@ -75,7 +75,7 @@ impl TiledRegions {
         requires tile { tile < tiles_of self.now.tiling }
         requires left { 1 ≤ left }
         ensures count { (1 ≤ result.count) × (result.count ≤ left) }
-        ensures label { (p : ℕ) → place ≤ p → p < place + result.count → label_there self.now.labels.items (map shown self.now.tiles.items) tile p ≡ result.label }
+        ensures label { (p : ℕ) → place ≤ p → p < place + result.count → label_there self.now.labels.items (map runs_of self.now.tiles.items) tile p ≡ result.label }
     {
         let tile = &self.tiles[tile as usize];
         let at = first_after(&tile.runs, place, hint);
@@ -95,7 +95,7 @@ impl TiledRegions {
 
     /// The label at a place of the list of all tiles' labels, and that of masked pixels if there is none.
     fn label_of(&self, place: usize) -> u32
-        ensures { result ≡ unwrap_or (slice_get self.now.labels.items place) 4294967295 }
+        ensures { result ≡ unwrap_or (slice_get self.now.labels.items place) masked_label }
     {
         self.labels.get(place).copied().unwrap_or(u32::MAX)
     }
@@ -104,7 +104,7 @@ impl TiledRegions {
     pub(crate) fn label(&self, x: u32, y: u32) -> u32
         requires across { x < self.now.tiling.width }
         requires along { y < self.now.tiling.height }
-        ensures { result ≡ label_at (regions_in self.now) x y }
+        ensures { result ≡ region_label (regions_in self.now) x y }
     {
         let window = window_at(&self.tiling, x, y);
         self.span(self.tiling.tile_of(x, y), window.place(x, y), 1, 0)
@@ -142,7 +142,7 @@ impl TiledRegions {
 /// Lets a tile have the runs of another, if they are equal. If the count of those who share is too high, it keeps its
 /// own.
 fn share_runs(tile: &mut TileRuns, other: &TileRuns)
-    ensures { shown tile.new ≡ shown tile.old }
+    ensures { runs_of tile.new ≡ runs_of tile.old }
 {
     if !are_equal(&tile.runs, &other.runs) {
         return;

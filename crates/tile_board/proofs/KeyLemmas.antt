@@ -10,7 +10,7 @@ use Rattle.std.proofs.lemmas.Bool.{cases_eq}
 use Rattle.std.proofs.lemmas.Bool.Decides.{nat_tests}
 use Rattle.std.proofs.lemmas.List.{get_or-set_same, get_or-set_other}
 use Rattle.mask_revisions.specs.Edits.{any_below}
-use Rattle.tile_board.specs.Lacking.{AreAddedFresh, AreLacking, AreLackingWith, IsAdded, IsLeastClaimed, IsTaken, IsTakenIfClaimed, Keys, but_for, has_key, is_below, is_key, is_listed, key_order, with_listed, with_one, without_listed}
+use Rattle.tile_board.specs.Lacking.{AreAddedFresh, AreLacking, AreLackingWith, IsAdded, IsLeastClaimed, IsKeyTaken, IsTakenIfClaimed, Keys, but_for, has_key, is_below, is_key, is_listed, key_order, with_listed, with_one, without_listed}
 
 -- ---- one key
 tied : (a b : ℕ) → is_eq (nat_cmp a b) ≡ (a == b)
@@ -30,7 +30,7 @@ when_false false y = refl
 pub added_is : (old new : Keys) (a b : ℕ) → Updates key_order old new (a, b) true → IsAdded old new a b
 added_is old new a b up c t = up.0 (c, t) ∙ ap (λ (x : Bool). cond x true (has_key old c t)) (key_at a b c t) ∙ when_true (is_key a b c t) (has_key old c t)
 
-pub taken_is : (old new : Keys) (a b : ℕ) → Updates key_order old new (a, b) false → IsTaken old new a b
+pub taken_is : (old new : Keys) (a b : ℕ) → Updates key_order old new (a, b) false → IsKeyTaken old new a b
 taken_is old new a b up c t = up.0 (c, t) ∙ ap (λ (x : Bool). cond x false (has_key old c t)) (key_at a b c t) ∙ when_false (is_key a b c t) (has_key old c t)
 
 -- ---- the first key
@@ -101,7 +101,7 @@ claimed_here l k c u e = rw e (grind (arith, nat_tests))
 claimed_there : (k m c u t : ℕ) (h : Bool) → t ≢ u → (not (is_key k u c t) && (is_key m u c t || h)) ≡ h
 claimed_there k m c u t h d = grind (arith, nat_tests)
 
-pub lacking_claimed : (lacks : ℕ → Bool) (claims : List ℕ) (old mid new : Keys) (u k m : ℕ) → u < length claims → k ≡ slice_index claims u → m ≡ k + 1 → IsTrue (lacks u) → AreLacking lacks claims old → IsAdded old mid m u → IsTaken mid new k u → AreLacking lacks (set claims u m) new
+pub lacking_claimed : (lacks : ℕ → Bool) (claims : List ℕ) (old mid new : Keys) (u k m : ℕ) → u < length claims → k ≡ slice_index claims u → m ≡ k + 1 → IsTrue (lacks u) → AreLacking lacks claims old → IsAdded old mid m u → IsKeyTaken mid new k u → AreLacking lacks (set claims u m) new
 lacking_claimed lacks claims old mid new u k m inside is next lack are added taken c t = taken c t ∙ ap (λ (x : Bool). not (is_key k u c t) && x) (added c t ∙ ap (λ (x : Bool). is_key m u c t || x) (are c t)) ∙ elim (cases_eq t u) [
   | inl e ↦ rw (e, get_or-set_same claims u m 0 inside, ← is, next) (claimed_here (lacks u) k c u lack)
   | inr d ↦ rw (get_or-set_other claims u t m 0 d) (claimed_there k m c u t (lacks t && (c == slice_index claims t)) d)
@@ -114,7 +114,7 @@ kept_here l k c u = grind (arith, nat_tests)
 kept_there : (l x : Bool) (k c u t : ℕ) → t ≢ u → (not (is_key k u c t) && (l && x)) ≡ ((l && not (u == t)) && x)
 kept_there l x k c u t d = grind (arith, nat_tests)
 
-pub lacking_kept : (lacks : ℕ → Bool) (claims : List ℕ) (old new : Keys) (u k : ℕ) → k ≡ slice_index claims u → AreLacking lacks claims old → IsTaken old new k u → AreLacking (but_for lacks u) claims new
+pub lacking_kept : (lacks : ℕ → Bool) (claims : List ℕ) (old new : Keys) (u k : ℕ) → k ≡ slice_index claims u → AreLacking lacks claims old → IsKeyTaken old new k u → AreLacking (but_for lacks u) claims new
 lacking_kept lacks claims old new u k is are taken c t = taken c t ∙ ap (λ (x : Bool). not (is_key k u c t) && x) (are c t) ∙ elim (cases_eq t u) [
   | inl e ↦ rw (e, ← is) (kept_here (lacks u) k c u)
   | inr d ↦ kept_there (lacks t) (c == slice_index claims t) k c u t d
@@ -154,7 +154,7 @@ pub lacking_fresh : (lacks : ℕ → Bool) (claims : List ℕ) (old new : Keys) 
 lacking_fresh lacks claims old new tiles n added are c t = added c t ∙ ap (λ (x : Bool). (is_listed tiles n t && (c == 0)) || x) (are c t) ∙ swapped (is_listed tiles n t && (c == 0)) (lacks t && (c == slice_index claims t))
 
 -- ---- a tile that is unclaimed again
-pub taken_claimed : (old new : Keys) (k u : ℕ) → 0 < k → IsTaken old new k u → IsTakenIfClaimed old new k u
+pub taken_claimed : (old new : Keys) (k u : ℕ) → 0 < k → IsKeyTaken old new k u → IsTakenIfClaimed old new k u
 taken_claimed old new k u l taken c t = taken c t ∙ ap (λ (x : Bool). not x && has_key old c t) (claimed (is_key k u c t) k l)
   where
     claimed : (x : Bool) (k : ℕ) → 0 < k → x ≡ (x && not (k == 0))
@@ -224,7 +224,7 @@ out_there true false c u t d = grind (arith, nat_tests)
 out_there false true c u t d = grind (arith, nat_tests)
 out_there false false c u t d = grind (arith, nat_tests)
 
-pub tidy_out : (lacks fresh : ℕ → Bool) (claims : List ℕ) (old new : Keys) (u : ℕ) → (lacks u && (slice_index claims u == 0)) ≡ false → IsTaken old new 0 u → AreLackingWith lacks fresh claims old → AreLackingWith lacks (but_for fresh u) claims new
+pub tidy_out : (lacks fresh : ℕ → Bool) (claims : List ℕ) (old new : Keys) (u : ℕ) → (lacks u && (slice_index claims u == 0)) ≡ false → IsKeyTaken old new 0 u → AreLackingWith lacks fresh claims old → AreLackingWith lacks (but_for fresh u) claims new
 tidy_out lacks fresh claims old new u fits taken are c t = taken c t ∙ ap (λ (x : Bool). not (is_key 0 u c t) && x) (are c t) ∙ elim (cases_eq t u) [
   | inl e ↦ rw e (out_here (lacks u) (fresh u) (slice_index claims u) c u fits)
   | inr d ↦ out_there (lacks t && (c == slice_index claims t)) (fresh t) c u t d

@@ -8,10 +8,10 @@ use Rattle.tile_board.specs.declared.answers.Advance.TheVariants as advances
 use Rattle.tile_board.specs.declared.entry.Entry.{Entry}
 use Rattle.tile_board.specs.declared.entry.Entry.TheVariants.{Revised, Kept, Published, Settled, Shown}
 use Rattle.tile_board.specs.BoardView.{BoardView}
-use Rattle.tile_board.specs.Calls.{Adds, IsAdvance}
+use Rattle.tile_board.specs.Calls.{AddsEntry, IsAdvance}
 use Rattle.tile_board.specs.Histories.{IsLegal, IsStep, mask_in, newest_of, now_of, present_mask}
-use Rattle.tile_board.specs.Runs.{Call, IsCall, LeadTo, IsNoLater, NamesRevision, ShownAreNewest, PublishedRise, EveryHistoryIsLegal, LegalHistoriesMoveOn, HeldAreGoodAtStamp}
-use Rattle.tile_board.specs.Runs.Call.{Keeps, Publishes, Advances, Other}
+use Rattle.tile_board.specs.Runs.{BoardCall, IsCall, LeadTo, IsNoLater, NamesRevision, ShownAreNewest, PublishedRise, EveryHistoryIsLegal, LegalHistoriesMoveOn, HeldAreGoodAtStamp}
+use Rattle.tile_board.specs.Runs.BoardCall.{Keeps, Publishes, Advances, Other}
 use Rattle.tile_board.proofs.HistoryLemmas.{legal_none, legal_push, legal_take, newest_more, newest_same, newest_within}
 use Rattle.tile_board.proofs.KeptLemmas.{good_across}
 use Rattle.tile_board.proofs.EarlierLemmas.{same_at_stamp}
@@ -22,7 +22,7 @@ module _ (s : Session) where
   abbrev IsLegalBoard : BoardView → Type 0
   IsLegalBoard v = (v.session ≡ s) × IsLegal s v.entries
 
-  added : (old new : BoardView) (e : Entry) → Adds old new e → IsLegalBoard old → IsLegalBoard new
+  added : (old new : BoardView) (e : Entry) → AddsEntry old new e → IsLegalBoard old → IsLegalBoard new
   added old new e adds is = (
     adds.session ∙ is.0,
     subst (IsLegal s) (sym adds.entries) (legal_push s old.entries e is.1 (subst (λ (t : Session). IsStep t old.entries e) is.0 adds.step)),
@@ -35,13 +35,13 @@ module _ (s : Session) where
   advanced old new a (advances.NotYet r) c is = subst IsLegalBoard (sym c.3) is
   advanced old new a advances.Ended c is = subst IsLegalBoard (sym c.1) is
 
-  called : (call : Call) (old new : BoardView) → IsCall call old new → IsLegalBoard old → IsLegalBoard new
+  called : (call : BoardCall) (old new : BoardView) → IsCall call old new → IsLegalBoard old → IsLegalBoard new
   called (Keeps k) old new c is = added old new (Kept k.tile k.stamp) c.adds is
   called (Publishes a seams) old new c is = added old new (Published a seams.revision) c.adds is
   called (Advances a answer) old new c is = advanced old new a answer c is
   called Other old new c is = subst IsLegalBoard (sym c) is
 
-  led : (calls : List Call) (first last : BoardView) → LeadTo calls first last → IsLegalBoard first → IsLegalBoard last
+  led : (calls : List BoardCall) (first last : BoardView) → LeadTo calls first last → IsLegalBoard first → IsLegalBoard last
   led [] first last c is = subst IsLegalBoard (sym c) is
   led (call ∷ calls) first last c is = led calls c.0 last c.2 (called call first c.0 c.1 is)
 

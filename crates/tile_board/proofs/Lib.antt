@@ -15,3 +15,5 @@ pub mod StepLemmas
 pub mod RevisionLemmas
 pub mod PublishLemmas
 pub mod LawLemmas
+pub mod OneScript
+pub mod NewestSurface

@@ -15,7 +15,7 @@ use Rattle.surface_snapshots.specs.declared.fault.BuildFault.{BuildFault}
 use Rattle.surface_snapshots.specs.declared.fault.BuildFault.TheVariants.{Uncertified, Memory}
 use Rattle.surface_snapshots.specs.Parts.{AreGoodTiles, IsPublished, Parts, parts_from}
 use Rattle.surface_snapshots.specs.SeamsView.{SeamsView}
-use Rattle.surface_snapshots.specs.Verdicts.{IsFault, IsVerdict}
+use Rattle.surface_snapshots.specs.Verdicts.{IsFault, IsPartsVerdict}
 use Rattle.tile_board.specs.declared.answers.PublishFault.{PublishFault}
 use Rattle.tile_board.specs.declared.answers.PublishFault.TheVariants as publish_faults
 use Rattle.tile_board.specs.declared.entry.Entry.{Entry}
@@ -26,7 +26,7 @@ use Rattle.tile_board.specs.Calls.{AreKeptResults, ArePublishable, HasPublishFau
 use Rattle.tile_board.specs.Causes.{building_cause}
 use Rattle.tile_board.specs.Histories.{AreAllKept, IsStep, mask_in, now_of}
 use Rattle.tile_board.specs.Lacking.{LackingView}
-use Rattle.tile_board.specs.States.{AddsSurface, HasSurfaceFault, IsState, view_of}
+use Rattle.tile_board.specs.States.{AddsSurface, HasSurfaceFault, IsState, board_view_of}
 use Rattle.tile_board.proofs.StateFacts.{kept_good}
 
 -- parts that were made of a session like the board's
@@ -43,12 +43,12 @@ pub built_cause : (v : BoardView) (seams : SeamResult) (p : Parts) (fault : Buil
 built_cause v seams p (Uncertified verdict) ready are is = (ready, is.0, p, are, is.1)
 built_cause v seams p Memory ready are is = ready
 
-module _ {s : Session} {H : List Entry} {kept : List (Option TileResult)} {surfaces : List Parts} {held : RevisionsView} {waiting : LackingView} {marks : List ℕ} {last : Option ℕ} (state : IsState (view_of s H kept surfaces) held waiting marks last) where
+module _ {s : Session} {H : List Entry} {kept : List (Option TileResult)} {surfaces : List Parts} {held : RevisionsView} {waiting : LackingView} {marks : List ℕ} {last : Option ℕ} (state : IsState (board_view_of s H kept surfaces) held waiting marks last) where
   -- the kept results are good under the present mask
-  pub good_over : (mask : MaskView) (tiles : TileSetView) → IsMaskNow (view_of s H kept surfaces) mask → AreKeptResults (view_of s H kept surfaces) tiles → AreGoodTiles s.scene (open_at mask) tiles.results
+  pub good_over : (mask : MaskView) (tiles : TileSetView) → IsMaskNow (board_view_of s H kept surfaces) mask → AreKeptResults (board_view_of s H kept surfaces) tiles → AreGoodTiles s.scene (open_at mask) tiles.results
   good_over mask tiles now are = kept_good state (open_at mask) (λ x y a b. now.clear_at x y (rw (sym s.scene.same_width.1) a) (rw (sym s.scene.same_height.1) b)) tiles.results are.results
 
-  pub surface_is : (seams : SeamResult) (p : Parts) → ArePublishable (view_of s H kept surfaces) seams p → seams.revision ≡ now_of H → IsPublished p → IsVerdict p Good → IsSurfaceOf s H p
+  pub surface_is : (seams : SeamResult) (p : Parts) → ArePublishable (board_view_of s H kept surfaces) seams p → seams.revision ≡ now_of H → IsPublished p → IsPartsVerdict p Good → IsSurfaceOf s H p
   surface_is seams p are present published verdict =
       let here : p.seams.revision ≡ now_of H = ap (λ (r : SeamsView). r.revision) are.seams ∙ present in
       record {

@@ -18,13 +18,13 @@ use Rattle.surface_snapshots.specs.Parts.{AreGoodTiles, Parts}
 use Rattle.tile_board.specs.declared.entry.Entry.{Entry}
 use Rattle.tile_board.specs.Histories.{AreAllKept, IsLeastLacking, is_kept, present_mask}
 use Rattle.tile_board.specs.Lacking.{LackingView}
-use Rattle.tile_board.specs.States.{HasResult, HaveResults, IsFirstGap, IsGap, IsState, view_of}
+use Rattle.tile_board.specs.States.{HasResult, HaveResults, IsFirstGap, IsGap, IsState, board_view_of}
 use Rattle.tile_board.proofs.HeldLemmas.{mask_here}
 use Rattle.tile_board.proofs.KeptLemmas.{good_across, within_tile}
 use Rattle.tile_board.proofs.ListLemmas.{get_below}
 use Rattle.tile_board.proofs.VerdictLemmas.{verdict_under}
 
-module _ {s : Session} {H : List Entry} {kept : List (Option TileResult)} {surfaces : List Parts} {held : RevisionsView} {waiting : LackingView} {marks : List ℕ} {last : Option ℕ} (state : IsState (view_of s H kept surfaces) held waiting marks last) where
+module _ {s : Session} {H : List Entry} {kept : List (Option TileResult)} {surfaces : List Parts} {held : RevisionsView} {waiting : LackingView} {marks : List ℕ} {last : Option ℕ} (state : IsState (board_view_of s H kept surfaces) held waiting marks last) where
   pub gap_below : (t : ℕ) → IsGap kept t → t < tiles_of s.scene.tiling
   gap_below t g = omega (arith, get_below kept t None g, state.board.kept.count)
 

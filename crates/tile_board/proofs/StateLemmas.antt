@@ -18,7 +18,7 @@ use Rattle.tile_board.specs.declared.entry.Entry.{Entry}
 use Rattle.tile_board.specs.Histories.{IsComplete, IsLegal, commands_of, done_by, names, next_command, now_of}
 use Rattle.tile_board.specs.Places.{cursor_at}
 use Rattle.tile_board.specs.Lacking.{AreLackingIn, LackingView}
-use Rattle.tile_board.specs.States.{AreCursors, IsState, TellsHistory, view_of}
+use Rattle.tile_board.specs.States.{AreCursors, IsState, TellsHistory, board_view_of}
 use Rattle.tile_board.proofs.HistoryLemmas.{done_push, done_within, legal_none}
 use Rattle.tile_board.proofs.KeptLemmas.{kept_none}
 use Rattle.tile_board.proofs.SurfaceLemmas.{surfaces_none}
@@ -146,7 +146,7 @@ tells_none s held tiling revisions = record {
     count : length (replicate {A = ℕ} (length s.scripts.items) 0) ≡ length s.scripts.items
     count = length-replicate {A = ℕ} (length s.scripts.items) 0
 
-pub state_new : (s : Session) (held : RevisionsView) (entries : List Entry) (kept : List (Option TileResult)) (surfaces : List Parts) (waiting : LackingView) (marks : List ℕ) → entries ≡ [] → kept ≡ replicate (tiles_of s.scene.tiling) None → surfaces ≡ [] → held.tiling ≡ s.scene.tiling → AreRevisionsOf (open_at s.first_mask) [] held → AreLackingIn kept waiting → marks ≡ replicate (length s.scripts.items) 0 → IsState (view_of s entries kept surfaces) held waiting marks None
+pub state_new : (s : Session) (held : RevisionsView) (entries : List Entry) (kept : List (Option TileResult)) (surfaces : List Parts) (waiting : LackingView) (marks : List ℕ) → entries ≡ [] → kept ≡ replicate (tiles_of s.scene.tiling) None → surfaces ≡ [] → held.tiling ≡ s.scene.tiling → AreRevisionsOf (open_at s.first_mask) [] held → AreLackingIn kept waiting → marks ≡ replicate (length s.scripts.items) 0 → IsState (board_view_of s entries kept surfaces) held waiting marks None
 state_new s held entries kept surfaces waiting marks e k p tiling revisions lacking m = rw (e, k, p, m) (record {
   board = record { legal = legal_none s; kept = kept_none s; surfaces = surfaces_none s };
   past = tells_none s held tiling revisions;

@@ -8,7 +8,7 @@ use Rattle.certificates.specs.declared.verdicts.SeamVerdict.TheVariants.{Good}
 use Rattle.certificates.specs.Results.{IsGoodTile}
 use Rattle.seam_regions.specs.Regions.{AreRegionsOf}
 use Rattle.surface_snapshots.specs.Parts.{Parts, open_in, AreGoodTiles, IsPublished}
-use Rattle.surface_snapshots.specs.Verdicts.{IsVerdict}
+use Rattle.surface_snapshots.specs.Verdicts.{IsPartsVerdict}
 use Rattle.tile_board.specs.declared.entry.Entry.{Entry}
 use Rattle.tile_board.specs.BoardView.{BoardView}
 use Rattle.tile_board.specs.Histories.{IsLegal, is_kept, mask_in, now_of, present_mask, published_in, stamp_in}
@@ -38,7 +38,7 @@ pub record IsSurfaceOf (s : Session) (H : List Entry) (p : Parts) : Type 0 where
   pub tiling : p.tiles.tiling ≡ s.scene.tiling
   pub tiles : AreGoodTiles s.scene (open_in p) p.tiles.results
   pub published : IsPublished p
-  pub verdict : IsVerdict p Good
+  pub verdict : IsPartsVerdict p Good
 
 -- the surfaces are those of the published revisions, in order
 pub record AreSurfacesOf (s : Session) (H : List Entry) (surfaces : List Parts) : Type 0 where

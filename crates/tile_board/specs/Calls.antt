@@ -20,7 +20,7 @@ use Rattle.mask_revisions.specs.Revisions.{IsWindowMask}
 use Rattle.seam_regions.specs.Regions.{AreRegionsOf}
 use Rattle.surface_snapshots.specs.Parts.{Parts, IsPublished}
 use Rattle.surface_snapshots.specs.SeamsView.{seams_of}
-use Rattle.surface_snapshots.specs.Verdicts.{IsVerdict}
+use Rattle.surface_snapshots.specs.Verdicts.{IsPartsVerdict}
 use Rattle.tile_board.specs.declared.answers.Advance.{Advance}
 use Rattle.tile_board.specs.declared.answers.Advance.TheVariants as advances
 use Rattle.tile_board.specs.declared.answers.AdvanceFault.{AdvanceFault}
@@ -52,7 +52,7 @@ pub record IsNew (s : Session) (v : BoardView) : Type 0 where
   pub surfaces : v.surfaces ≡ []
 
 -- the entry may come next, and was added
-pub record Adds (old new : BoardView) (e : Entry) : Type 0 where
+pub record AddsEntry (old new : BoardView) (e : Entry) : Type 0 where
   pub session : new.session ≡ old.session
   pub step : IsStep old.session old.entries e
   pub entries : new.entries ≡ old.entries ++ e ∷ []
@@ -73,7 +73,7 @@ HasClaimFault v claim_faults.Memory = AreAllKept v.session v.entries → ⊥
 -- ---- keep
 -- the result is good, and kept
 pub record IsKeep (old new : BoardView) (k : TileResult) : Type 0 where
-  pub adds : Adds old new (Kept k.tile k.stamp)
+  pub adds : AddsEntry old new (Kept k.tile k.stamp)
   pub good : IsGoodTile old.session.scene (mask_now old) k
   pub kept : new.kept ≡ set old.kept k.tile (Some k)
   pub surfaces : new.surfaces ≡ old.surfaces
@@ -138,11 +138,11 @@ pub record ArePublishable (v : BoardView) (found : SeamResult) (p : Parts) : Typ
   pub seams : p.seams ≡ seams_of found
 
 pub record IsPublication (old new : BoardView) (a : ℕ) (seams : SeamResult) : Type 0 where
-  pub adds : Adds old new (Published a seams.revision)
+  pub adds : AddsEntry old new (Published a seams.revision)
   pub kept : new.kept ≡ old.kept
   pub surface : Parts
   pub parts : ArePublishable old seams surface
-  pub verdict : IsVerdict surface GoodSeams
+  pub verdict : IsPartsVerdict surface GoodSeams
   pub certified : IsPublished surface
   pub surfaces : new.surfaces ≡ old.surfaces ++ surface ∷ []
 
@@ -175,19 +175,19 @@ HasPublishFault v a seams publish_faults.NotSettle = next_command v.session v.en
 HasPublishFault v a seams (publish_faults.Stale r) = MaySettle v a × (r ≡ now_of v.entries) × (seams.revision ≢ r)
 HasPublishFault v a seams (publish_faults.Double r) = IsPresent v a seams × (r ≡ seams.revision) × (newest_of v.entries ≡ Some r)
 HasPublishFault v a seams (publish_faults.Unready t) = IsFresh v a seams × IsLeastLacking v.session v.entries t
-HasPublishFault v a seams (publish_faults.Uncertified verdict) = MayPublish v a seams × (verdict ≢ GoodSeams) × (p : Parts) × ArePublishable v seams p × IsVerdict p verdict
+HasPublishFault v a seams (publish_faults.Uncertified verdict) = MayPublish v a seams × (verdict ≢ GoodSeams) × (p : Parts) × ArePublishable v seams p × IsPartsVerdict p verdict
 HasPublishFault v a seams publish_faults.Memory = MayPublish v a seams
 
 -- ---- advance
 -- the entry was added, and nothing else changed
 pub record AddsAlone (old new : BoardView) (e : Entry) : Type 0 where
-  pub adds : Adds old new e
+  pub adds : AddsEntry old new e
   pub kept : new.kept ≡ old.kept
   pub surfaces : new.surfaces ≡ old.surfaces
 
 -- the edit made the next revision, and exactly the tiles in which a pixel changed lost their results
 pub record IsRevision (old new : BoardView) (a : ℕ) (edit : Edit) : Type 0 where
-  pub adds : Adds old new (Revised a edit)
+  pub adds : AddsEntry old new (Revised a edit)
   pub count : length new.kept ≡ length old.kept
   pub kept : (t : ℕ) → t < tiles_of old.session.scene.tiling → slice_get new.kept t ≡ (if differ_in old.session.scene.tiling (mask_now old) (mask_now new) t then Some None else slice_get old.kept t)
   pub surfaces : new.surfaces ≡ old.surfaces

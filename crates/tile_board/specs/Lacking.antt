@@ -27,8 +27,8 @@ is_key claims tile c t = (claims == c) && (tile == t)
 abbrev pub IsAdded : Keys → Keys → ℕ → ℕ → Type 0
 IsAdded old new claims tile = (c t : ℕ) → has_key new c t ≡ (is_key claims tile c t || has_key old c t)
 
-abbrev pub IsTaken : Keys → Keys → ℕ → ℕ → Type 0
-IsTaken old new claims tile = (c t : ℕ) → has_key new c t ≡ (not (is_key claims tile c t) && has_key old c t)
+abbrev pub IsKeyTaken : Keys → Keys → ℕ → ℕ → Type 0
+IsKeyTaken old new claims tile = (c t : ℕ) → has_key new c t ≡ (not (is_key claims tile c t) && has_key old c t)
 
 -- the key was taken out, except if it has no claims
 abbrev pub IsTakenIfClaimed : Keys → Keys → ℕ → ℕ → Type 0

@@ -7,3 +7,4 @@ pub mod Runs
 pub mod Causes
 pub mod States
 pub mod Places
+pub mod LastSettled

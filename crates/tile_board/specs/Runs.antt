@@ -14,20 +14,20 @@ use Rattle.tile_board.specs.Boards.{IsHeld}
 use Rattle.tile_board.specs.Histories.{IsLegal, mask_in, newest_of, present_mask}
 
 -- a call: one that kept a result, published, or was an analyst's next command with its answer; or any other, a refused one too
-pub data Call : Type 0 where
-  Keeps : TileResult → Call
-  Publishes : ℕ → SeamResult → Call
-  Advances : ℕ → Advance → Call
-  Other : Call
+pub data BoardCall : Type 0 where
+  Keeps : TileResult → BoardCall
+  Publishes : ℕ → SeamResult → BoardCall
+  Advances : ℕ → Advance → BoardCall
+  Other : BoardCall
 
 -- what the contracts say of the board before and after it, and through a list of calls
-abbrev pub IsCall : Call → BoardView → BoardView → Type 0
+abbrev pub IsCall : BoardCall → BoardView → BoardView → Type 0
 IsCall (Keeps k) old new = IsKeep old new k
 IsCall (Publishes a seams) old new = IsPublication old new a seams
 IsCall (Advances a answer) old new = IsAdvance old new a answer
 IsCall Other old new = new ≡ old
 
-abbrev pub LeadTo : List Call → BoardView → BoardView → Type 0
+abbrev pub LeadTo : List BoardCall → BoardView → BoardView → Type 0
 LeadTo [] first last = last ≡ first
 LeadTo (call ∷ calls) first last = (next : BoardView) × IsCall call first next × LeadTo calls next last
 
@@ -55,7 +55,7 @@ PublishedRise H = (i j a b r s : ℕ) → i < j → slice_get H i ≡ Some (Publ
 
 -- whatever is called on a new board, by whichever analysts, its history is legal
 abbrev pub EveryHistoryIsLegal : Type 0
-EveryHistoryIsLegal = (s : Session) (first last : BoardView) (calls : List Call) → IsNew s first → LeadTo calls first last → (last.session ≡ s) × IsLegal s last.entries
+EveryHistoryIsLegal = (s : Session) (first last : BoardView) (calls : List BoardCall) → IsNew s first → LeadTo calls first last → (last.session ≡ s) × IsLegal s last.entries
 
 -- a legal history shows the newest, and publishes each revision once, later ones later
 abbrev pub LegalHistoriesMoveOn : Type 0

@@ -11,19 +11,19 @@ use Rattle.certificates.specs.declared.verdicts.SeamVerdict.TheVariants.{Good}
 use Rattle.mask_revisions.specs.Revisions.{AreRevisionsOf}
 use Rattle.mask_revisions.specs.RevisionsView.{RevisionsView}
 use Rattle.surface_snapshots.specs.Parts.{Parts}
-use Rattle.surface_snapshots.specs.Verdicts.{IsVerdict}
+use Rattle.surface_snapshots.specs.Verdicts.{IsPartsVerdict}
 use Rattle.tile_board.specs.declared.answers.PublishFault.{PublishFault}
 use Rattle.tile_board.specs.declared.answers.PublishFault.TheVariants.{NotSettle, Stale, Double, Unready, Uncertified, Memory}
 use Rattle.tile_board.specs.declared.entry.Entry.{Entry}
 use Rattle.tile_board.specs.declared.entry.Entry.TheVariants.{Revised, Kept, Published, Settled, Shown}
 use Rattle.tile_board.specs.Boards.{IsBoard}
 use Rattle.tile_board.specs.BoardView.{BoardView}
-use Rattle.tile_board.specs.Calls.{Adds, ArePublishable}
+use Rattle.tile_board.specs.Calls.{AddsEntry, ArePublishable}
 use Rattle.tile_board.specs.Lacking.{AreLackingIn, LackingView}
 use Rattle.tile_board.specs.Histories.{AreAllKept, IsLeastLacking, done_by, edits_of, newest_of, now_of}
 
-abbrev pub view_of : Session → List Entry → List (Option TileResult) → List Parts → BoardView
-view_of session entries kept surfaces = record { session = session; entries = entries; kept = kept; surfaces = surfaces }
+abbrev pub board_view_of : Session → List Entry → List (Option TileResult) → List Parts → BoardView
+board_view_of session entries kept surfaces = record { session = session; entries = entries; kept = kept; surfaces = surfaces }
 
 -- the list has how many commands each analyst has done, from analyst 1 on; no more edits were made than commands done
 pub record AreCursors (s : Session) (H : List Entry) (cursors : List ℕ) : Type 0 where
@@ -62,12 +62,12 @@ module _ {A : Type 0} where
   IsFirstGap kept t = IsGap kept t × ((u : ℕ) → u < t → HasResult kept u)
 
 -- the entry names the analyst, and is neither an edit nor a publication nor a kept result
-abbrev pub IsAlone : ℕ → Entry → Type 0
-IsAlone a (Revised b edit) = ⊥
-IsAlone a (Kept t r) = ⊥
-IsAlone a (Published b r) = ⊥
-IsAlone a (Settled b r) = b ≡ a
-IsAlone a (Shown b r) = b ≡ a
+abbrev pub IsWithoutOthers : ℕ → Entry → Type 0
+IsWithoutOthers a (Revised b edit) = ⊥
+IsWithoutOthers a (Kept t r) = ⊥
+IsWithoutOthers a (Published b r) = ⊥
+IsWithoutOthers a (Settled b r) = b ≡ a
+IsWithoutOthers a (Shown b r) = b ≡ a
 
 -- why no surface is made: a tile is not kept, or it is not certified, or there is no memory for it
 abbrev pub HasSurfaceFault : BoardView → SeamResult → PublishFault → Type 0
@@ -75,11 +75,11 @@ HasSurfaceFault v seams NotSettle = ⊥
 HasSurfaceFault v seams (Stale r) = ⊥
 HasSurfaceFault v seams (Double r) = ⊥
 HasSurfaceFault v seams (Unready t) = IsLeastLacking v.session v.entries t
-HasSurfaceFault v seams (Uncertified verdict) = AreAllKept v.session v.entries × (verdict ≢ Good) × (p : Parts) × ArePublishable v seams p × IsVerdict p verdict
+HasSurfaceFault v seams (Uncertified verdict) = AreAllKept v.session v.entries × (verdict ≢ Good) × (p : Parts) × ArePublishable v seams p × IsPartsVerdict p verdict
 HasSurfaceFault v seams Memory = AreAllKept v.session v.entries
 
 -- a surface and its entry were added, and nothing else changed
 pub record AddsSurface (old new : BoardView) (a r : ℕ) (p : Parts) : Type 0 where
-  pub adds : Adds old new (Published a r)
+  pub adds : AddsEntry old new (Published a r)
   pub kept : new.kept ≡ old.kept
   pub surfaces : new.surfaces ≡ old.surfaces ++ p ∷ []

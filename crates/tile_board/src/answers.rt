@@ -28,7 +28,7 @@ pub enum ClaimFault {
     Memory,
 }
 
-/// Why a result is not kept. Of several reasons the first in the order of the variants is told.
+/// Why a result is not kept. If several apply, the first variant is returned.
 #[derive(Clone, Copy, Debug, PartialEq, Eq)]
 pub enum KeepFault {
     /// There is no tile of this number.
@@ -52,8 +52,8 @@ pub enum GatherFault {
     Memory,
 }
 
-/// Why no surface is published. Of several reasons the first in the order of the variants is told, but lack of memory
-/// may be told in place of `Uncertified`.
+/// Why no surface is published. If several apply, the first variant is returned; but `Memory` may be returned in place of
+/// `Uncertified`.
 #[derive(Clone, Copy, Debug, PartialEq, Eq)]
 pub enum PublishFault {
     /// The analyst's next command is not a settle command.

@@ -35,13 +35,13 @@ impl Model for Board {
     ghost use Rattle.std.specs.Prelude.{◌≡◌, map, vec_len};
     ghost use Rattle.surface_snapshots.specs.Views.{parts_of};
     ghost use Rattle.tile_board.specs.BoardView.{BoardView};
-    ghost use Rattle.tile_board.specs.States.{IsState, view_of};
+    ghost use Rattle.tile_board.specs.States.{IsState, board_view_of};
 
     ghost Value = { BoardView };
 
-    ghost view = { λ b. view_of (arc_value b.session) b.entries.items b.kept (map parts_of b.snapshots.items) };
+    ghost view = { λ b. board_view_of (arc_value b.session) b.entries.items b.kept (map parts_of b.snapshots.items) };
 
-    ghost invariant = { λ b. IsState (view_of (arc_value b.session) b.entries.items b.kept (map parts_of b.snapshots.items)) b.revisions b.lacking b.cursors.items b.newest };
+    ghost invariant = { λ b. IsState (board_view_of (arc_value b.session) b.entries.items b.kept (map parts_of b.snapshots.items)) b.revisions b.lacking b.cursors.items b.newest };
 }
 
 impl Board {
@@ -86,7 +86,7 @@ impl Board {
       next_command,
       now_of,
     };
-    ghost use Rattle.tile_board.specs.States.{AddsSurface, HasSurfaceFault, IsAlone};
+    ghost use Rattle.tile_board.specs.States.{AddsSurface, HasSurfaceFault, IsWithoutOthers};
 
     /// A board with an empty history. It fails only for lack of memory.
     pub fn new(alloc: Global, session: Arc<Session>) -> Result<Board, AllocError>
@@ -112,8 +112,8 @@ impl Board {
     }
 
     /// Gives a tile to solve: one that is not kept and, of these, was claimed least often at its stamp. With it come
-    /// its stamp and its window of the present mask. Lack of memory is told only if there is such a tile. What
-    /// contracts see of the board does not change.
+    /// its stamp and its window of the present mask. `Memory` is returned only if there is such a tile. What contracts
+    /// see of the board does not change.
     pub fn claim(&mut self, alloc: Global) -> Result<Ticket, ClaimFault>
         ensures claimed { IfOk result (IsClaim self.old) }
         ensures refused { IfErr result (HasClaimFault self.old) }
@@ -213,8 +213,8 @@ impl Board {
     }
 
     /// Does an analyst's next command. A settle command is done only if the present revision is published; otherwise
-    /// the answer is `NotYet`. `NotYet`, `Ended` and a refusal change nothing. Each other answer adds an entry, and
-    /// lack of memory is told only in place of such an answer.
+    /// the answer is `NotYet`. `NotYet`, `Ended` and an error change nothing. Each other answer adds an entry, and
+    /// `Memory` is returned only in place of such an answer.
     pub fn advance(&mut self, alloc: Global, analyst: u32) -> Result<Advance, AdvanceFault>
         ensures advanced { IfOk result (IsAdvance self.old self.new analyst) }
         ensures refused { IfErr result (HasAdvanceFault self.old analyst) }
@@ -511,7 +511,7 @@ impl Board {
     /// Adds an entry of an analyst that changes nothing else.
     fn add(&mut self, analyst: u32, entry: Entry) -> Result<(), AdvanceFault>
         requires step { IsStep self.old.session self.old.entries entry }
-        requires alone { IsAlone analyst entry }
+        requires alone { IsWithoutOthers analyst entry }
         ensures added { OnOk result (AddsAlone self.old self.new entry) }
         ensures refused { IfErr result (HasAdvanceFault self.old analyst) }
         ensures unchanged { OnErr result (self.new ≡ self.old) }

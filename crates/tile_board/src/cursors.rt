@@ -13,10 +13,7 @@ pub fn cursor_of(cursors: &[u32], analyst: u32) -> u32
     if analyst == 0 {
         return 0;
     }
-    match cursors.get(analyst as usize - 1) {
-        Some(&cursor) => cursor,
-        None => 0,
-    }
+    cursors.get(analyst as usize - 1).copied().unwrap_or(0)
 }
 
 /// The command at a place of an analyst's script, or None if there is no such analyst or command. Places count from 0,

@@ -4,7 +4,7 @@ ghost use Rattle.tile_board.specs.Lacking.{
   AreAllFresh,
   AreLackingWith,
   IsAdded,
-  IsTaken,
+  IsKeyTaken,
   IsTakenIfClaimed,
   but_for,
   has_key,
@@ -144,7 +144,7 @@ fn add_key(keys: &mut BTreeSet<(u32, u32)>, claims: u32, tile: u32) -> Result<()
 
 /// Takes a key out, if it is there.
 fn take_key(keys: &mut BTreeSet<(u32, u32)>, claims: u32, tile: u32)
-    ensures { IsTaken keys.old keys.new claims tile }
+    ensures { IsKeyTaken keys.old keys.new claims tile }
 {
     keys.remove(&(claims, tile));
 }

@@ -1,5 +1,6 @@
 //! Laws of the definitions. The functions do nothing; each contract is the law.
 
+ghost use Rattle.tile_board.specs.LastSettled.{OneScriptTellsTheRevision};
 ghost use Rattle.tile_board.specs.Runs.{EveryHistoryIsLegal, HeldAreGoodAtStamp, LegalHistoriesMoveOn};
 
 /// Whatever is called on a new board, by any analysts and with any results handed in, its history is legal.
@@ -17,4 +18,10 @@ pub fn legal_histories_move_on()
 /// one.
 pub fn held_are_good_at_stamp()
     ensures { HeldAreGoodAtStamp }
+{}
+
+/// If a session has one analyst, the newest published revision is the number of changes before the last settle command of
+/// the script; nothing is published exactly if it has none.
+pub fn one_script_tells_the_revision()
+    ensures { OneScriptTellsTheRevision }
 {}

@@ -3,12 +3,12 @@ use Rattle.std.proofs.Common.{◌≡◌, ℕ, zero, suc, ◌<◌, sym, refl, ◌
 use Rattle.std.specs.Prelude.{pos, ◌≤ℤ◌, not}
 use Rattle.std.proofs.lemmas.Int.{ints}
 use Rattle.std.proofs.lemmas.Bool.{cases_Bool, false≢true, not-true, not-false}
-use Rattle.flow_network.specs.Nets.{Shape, State, HasReducedCosts, tail_of}
-use Rattle.shortest_augment.specs.Balance.{IsBlocked, MovesAtMost, total_excess}
+use Rattle.flow_network.specs.Nets.{Shape, State, HasReducedCosts, tail_of, total_excess}
+use Rattle.shortest_augment.specs.Balance.{IsBlocked, MovesAtMost}
 use Rattle.shortest_augment.proofs.CallerLemmas.{is_in, is_in-contains, contains-is_in, blocked_excess, blocked_outside}
 use Rattle.dual_grid.specs.Answers.{IsNearStart}
 use Rattle.dual_grid.proofs.CallerLemmas.{leads_out}
-use Rattle.tile_solver.specs.Fresh.{IsFresh}
+use Rattle.tile_solver.specs.Fresh.{CanBeBalanced}
 use Rattle.sums_and_lists.proofs.Orders.{below_or_at}
 use Rattle.sums_and_lists.specs.Sums.{sum_below, where_true}
 use Rattle.sums_and_lists.proofs.SumLemmas.{sum_below-zeros}
@@ -24,7 +24,7 @@ some_or_none test (suc n) =
       ]
     ]
 
-module _ (s : Shape) (f g : State) (fresh : IsFresh s f) (moved : MovesAtMost s (total_excess s f) f g) where
+module _ (s : Shape) (f g : State) (fresh : CanBeBalanced s f) (moved : MovesAtMost s (total_excess s f) f g) where
   -- no residual is far from that at the start
   pub near_start : IsNearStart s g
   near_start a i =

@@ -18,7 +18,7 @@ use Rattle.wrapped_gradient.specs.declared.corrections.Corrections.{Corrections}
 use Rattle.wrapped_gradient.specs.Corrections.{correction_at, greatest_of}
 use Rattle.wrapped_gradient.specs.Windows.{IsEdgeOf}
 use Rattle.surface_integration.specs.Cycles.{AreSmall, DepartBy, StaySmall, cycles_at}
-use Rattle.dual_grid.specs.Answers.{IsAnswer, correction_cost}
+use Rattle.dual_grid.specs.Answers.{AreCertifiedCorrections, correction_cost}
 use Rattle.sums_and_lists.specs.Sums.{where_true}
 
 -- no side of the window is above 128 pixels
@@ -82,7 +82,7 @@ pub record IsSolved (s : Scene) (k : TileResult) (mask : Field Bool) (correction
   pub pixels : IsWindowOf s.tiling k.tile v
   pub narrow : IsNarrow v
   pub count : length k.cycles.items ≡ pixels_in v
-  pub answer : IsAnswer (raster_of s) mask k.tile v corrections k.faces.items
+  pub answer : AreCertifiedCorrections (raster_of s) mask k.tile v corrections k.faces.items
   pub departs : DepartBy (raster_of s) v (cycles_at v k.cycles.items) corrections
   pub small : StaySmall v (cycles_at v k.cycles.items) (greatest_of corrections)
 

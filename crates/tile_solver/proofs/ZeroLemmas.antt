@@ -21,7 +21,7 @@ use Rattle.wrapped_gradient.specs.Corrections.{HasShapeOf, correction_at}
 use Rattle.wrapped_gradient.specs.GradientsView.{GradientsView}
 use Rattle.wrapped_gradient.proofs.CorrectionLemmas.{correction_within}
 use Rattle.surface_integration.proofs.CallerLemmas.{AreZero, repeated_zero, zeros_cancel, zeros_greatest}
-use Rattle.dual_grid.specs.Answers.{IsAnswer, correction_cost}
+use Rattle.dual_grid.specs.Answers.{AreCertifiedCorrections, correction_cost}
 use Rattle.tile_solver.specs.Zeros.{IsWithoutResidue}
 use Rattle.sums_and_lists.specs.Sums.{where_true}
 use Rattle.sums_and_lists.proofs.SumLemmas.{sum_below-zeros, where_true-zero}
@@ -101,7 +101,7 @@ module _ (s : Scene) (t : ℕ) (mask : Field Bool) (g : GradientsView) (without 
       (λ e i. edge_free (is_inner r t e) (masked_weight r mask e) (unsigned_abs (correction_at g.window k e)) (uncorrected e))
       ∙ sum_edges-zeros r.width r.height
 
-  pub zeros_answer : IsAnswer (raster_of s) mask t g.window k faces
+  pub zeros_answer : AreCertifiedCorrections (raster_of s) mask t g.window k faces
   zeros_answer = record {
     shape = zeros.shape;
     cancel = zeros_cancel s g k without.differences without.none zeros.corrections;

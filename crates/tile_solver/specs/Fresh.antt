@@ -1,13 +1,13 @@
 -- What makes sure that a tile's network can be balanced. This is a helper's word, which no clause of a public function cites.
 use Rattle.std.specs.Prelude.{◌≡◌, ℕ, ◌<◌, pos, ◌≤ℤ◌}
-use Rattle.flow_network.specs.Nets.{Shape, State, IsArc}
-use Rattle.dual_grid.specs.Grids.{HasSmallCosts, IsJoined}
-use Rattle.dual_grid.specs.Starts.{positive_excess, start_residual}
+use Rattle.flow_network.specs.Nets.{Shape, State, IsArc, total_excess}
+use Rattle.dual_grid.specs.Grids.{HasSmallCosts, IsConnected}
+use Rattle.dual_grid.specs.Starts.{start_residual}
 
 -- nothing has flowed, costs are small, at most 16129 units are to flow, and an arc with more capacity than that leads out of any set of nodes
-pub record IsFresh (s : Shape) (f : State) : Type 0 where
+pub record CanBeBalanced (s : Shape) (f : State) : Type 0 where
   pub residual : (a : ℕ) → IsArc s a → f.residual a ≡ start_residual a
   pub flat : (u : ℕ) → u < s.nodes → f.potential u ≡ pos 0
   pub small : HasSmallCosts s
-  pub few : positive_excess s f ≤ℤ pos 16129
-  pub joined : IsJoined s
+  pub few : total_excess s f ≤ℤ pos 16129
+  pub joined : IsConnected s

@@ -7,7 +7,7 @@ use Rattle.raster_model.specs.Tiles.{tiles_of, window_of}
 use Rattle.wrapped_gradient.specs.declared.corrections.Corrections.{Corrections}
 use Rattle.wrapped_gradient.specs.Gradients.{AreGradientsOf, HasNoResidue}
 use Rattle.wrapped_gradient.specs.GradientsView.{GradientsView}
-use Rattle.dual_grid.specs.Answers.{IsAnswer}
+use Rattle.dual_grid.specs.Answers.{AreCertifiedCorrections}
 
 -- these are the gradients of tile t of the scene, and no cell of it has a residue
 pub record IsWithoutResidue (s : Scene) (t : ℕ) (g : GradientsView) : Type 0 where
@@ -18,4 +18,4 @@ pub record IsWithoutResidue (s : Scene) (t : ℕ) (g : GradientsView) : Type 0 w
 
 -- corrections and faces that are an answer, under any mask, for each tile without a residue of which these are the gradients
 abbrev pub AnswersWithoutResidue : GradientsView → Corrections → List ℤ → Type 0
-AnswersWithoutResidue g k faces = (s : Scene) (t : ℕ) (mask : Field Bool) → IsWithoutResidue s t g → IsAnswer (raster_of s) mask t g.window k faces
+AnswersWithoutResidue g k faces = (s : Scene) (t : ℕ) (mask : Field Bool) → IsWithoutResidue s t g → AreCertifiedCorrections (raster_of s) mask t g.window k faces

@@ -1,13 +1,14 @@
+ghost use Rattle.flow_network.specs.Nets.{HasNoExcess};
 ghost use Rattle.certificates.specs.Results.{IsGoodTile, pixels_in};
-ghost use Rattle.dual_grid.specs.Answers.{IsAnswer, IsBalanced, IsNearStart};
+ghost use Rattle.dual_grid.specs.Answers.{AreCertifiedCorrections, IsNearStart};
 ghost use Rattle.dual_grid.specs.Starts.{TellsMask};
-ghost use Rattle.dual_grid.specs.Views.{HaveOneOrigin, shape_of, state_of};
+ghost use Rattle.dual_grid.specs.Views.{HaveOneOrigin, grid_shape, grid_state};
 ghost use Rattle.raster_model.specs.Scene.{raster_of};
 ghost use Rattle.raster_model.specs.Sums.{Field};
 ghost use Rattle.raster_model.specs.Tiles.{tiles_of, window_of};
 ghost use Rattle.std.specs.Prelude.{◌≡◌, ◌<◌, Bool, IfOk, IfSome, OnOk, length};
-ghost use Rattle.tile_solver.specs.Fresh.{IsFresh};
-ghost use Rattle.dual_grid.specs.Problems.{Answers};
+ghost use Rattle.tile_solver.specs.Fresh.{CanBeBalanced};
+ghost use Rattle.dual_grid.specs.Problems.{IsAnsweredBy};
 ghost use Rattle.tile_solver.specs.Zeros.{AnswersWithoutResidue};
 ghost use Rattle.wrapped_gradient.specs.Gradients.{AreGradientsOf};
 
@@ -81,7 +82,7 @@ fn least_corrections(
     requires gradients { AreGradientsOf scene.now gradients.now }
     requires window { gradients.now.window ≡ window_of scene.now.tiling tile }
     requires count { length unmasked.now ≡ pixels_in gradients.now.window }
-    ensures { IfOk result (λ made. (mask : Field Bool) → TellsMask (window_of scene.now.tiling tile) unmasked.now mask → IsAnswer (raster_of scene.now) mask tile (window_of scene.now.tiling tile) made.0 made.1.items) }
+    ensures { IfOk result (λ made. (mask : Field Bool) → TellsMask (window_of scene.now.tiling tile) unmasked.now mask → AreCertifiedCorrections (raster_of scene.now) mask tile (window_of scene.now.tiling tile) made.0 made.1.items) }
 {
     if gradients.first_residue().is_none() {
         return no_corrections(alloc, gradients);
@@ -102,7 +103,7 @@ fn guessed_corrections(
     problem: &Problem,
     guess: Option<Guess>,
 ) -> Result<Option<(Corrections, Vec<i64>)>, AllocError>
-    ensures { IfOk result (λ found. IfSome found (λ made. Answers problem.now made.0 made.1.items)) }
+    ensures { IfOk result (λ found. IfSome found (λ made. IsAnsweredBy problem.now made.0 made.1.items)) }
 {
     let guess = guess_or_solver(alloc, problem, guess)?;
     let corrections = Corrections {
@@ -160,10 +161,10 @@ fn no_corrections(
 /// Balances a grid, so that no node has excess. No nodes block it: an arc leads out of them whose capacity is more than
 /// all that flows.
 fn empty(alloc: Global, grid: &mut DualGrid) -> Result<(), AllocError>
-    requires { IsFresh (shape_of grid.old) (state_of grid.old) }
+    requires { CanBeBalanced (grid_shape grid.old) (grid_state grid.old) }
     ensures origin { HaveOneOrigin grid.old grid.new }
-    ensures balanced { OnOk result (IsBalanced (shape_of grid.new) (state_of grid.new)) }
-    ensures near { IsNearStart (shape_of grid.new) (state_of grid.new) }
+    ensures balanced { OnOk result (HasNoExcess (grid_shape grid.new) (grid_state grid.new)) }
+    ensures near { IsNearStart (grid_shape grid.new) (grid_state grid.new) }
 {
     match balance(alloc, grid) {
         Ok(()) => Ok(()),

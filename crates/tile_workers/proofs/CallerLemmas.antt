@@ -11,7 +11,7 @@ use Rattle.tile_board.proofs.ListLemmas.{get_beyond}
 use Rattle.board_desk.specs.Mine.{mine_of}
 use Rattle.board_desk.specs.Passes.{DeskView, PassView, Stands, first_pass, first_passes}
 use Rattle.board_desk.proofs.Ending.{same_next}
-use Rattle.tile_workers.specs.Scripts.{AreEnded, AreLater, IsDone}
+use Rattle.tile_workers.specs.Scripts.{AreEnded, AreLater, HasScriptEnded}
 
 -- ---- the passes of a desk, by place
 module _ {A : Type 0} where
@@ -39,7 +39,7 @@ first_at d (suc n) k p l = dite (dec_lt k n)
     get_end (first_passes d n) (first_pass d (n + 1)) p k (e ∙ sym (first_count d n)) ∙ ap (λ (a : ℕ). first_pass d (a + 1)) (sym e)))
 
 -- ---- a script at its end
-ends : (s : Session) (log : List Entry) (p : PassView) (a : ℕ) → p.session ≡ Some s → p.analyst ≡ Some a → Stands log p → IsDone p → next_command s log a ≡ None
+ends : (s : Session) (log : List Entry) (p : PassView) (a : ℕ) → p.session ≡ Some s → p.analyst ≡ Some a → Stands log p → HasScriptEnded p → next_command s log a ≡ None
 ends s log p a of who stands done =
     same_next s a log p.seen (subst (λ (o : Option ℕ). mine_of o log ≡ mine_of o p.seen) who (sym stands.exact ∙ done.exact)) ∙ done.at_end s a of who
 

@@ -2,12 +2,12 @@
 use Rattle.std.proofs.Common.{◌≡◌, ◌∙◌, subst, refl}
 use Rattle.raster_model.specs.declared.session.Session.{Session}
 use Rattle.tile_board.specs.BoardView.{BoardView}
-use Rattle.board_desk.specs.Passes.{Called, DeskView, HasNotMoved, IsLater, IsPassOf, Merged, PassView}
+use Rattle.board_desk.specs.Passes.{Called, DeskView, HasNotMoved, IsLaterPass, IsPassOf, Merged, PassView}
 use Rattle.board_desk.proofs.CallerLemmas.{later_called, later_merged, later_self, later_trans, still_of_desk}
 use Rattle.tile_workers.specs.Scripts.{HasSeenMore}
 
-pub later_at : (p p' q q' : PassView) → p ≡ p' → q ≡ q' → IsLater p q → IsLater p' q'
-later_at p p' q q' a b later = subst (λ (r : PassView × PassView). IsLater r.0 r.1) (λ i. (a i, b i)) later
+pub later_at : (p p' q q' : PassView) → p ≡ p' → q ≡ q' → IsLaterPass p q → IsLaterPass p' q'
+later_at p p' q q' a b later = subst (λ (r : PassView × PassView). IsLaterPass r.0 r.1) (λ i. (a i, b i)) later
 
 pub more_self : (p : PassView) → HasSeenMore p p
 more_self p = record { later = later_self p; still = record { mine = refl; ended = refl } }

@@ -8,11 +8,11 @@ use Rattle.tile_board.specs.declared.ticket.Ticket.{Ticket}
 use Rattle.tile_board.specs.BoardView.{BoardView}
 use Rattle.tile_board.specs.Calls.{IsClaim, WasMaskAt}
 use Rattle.board_desk.specs.Mine.{mine_of}
-use Rattle.board_desk.specs.Passes.{AddsOwn, HasNotMoved, IsAtEnd, IsLater, PassView}
+use Rattle.board_desk.specs.Passes.{AddsOwn, HasNotMoved, HasNoCommandLeft, IsLaterPass, PassView}
 
 -- more was seen, and nothing was added in the analyst's name
 pub record HasSeenMore (p q : PassView) : Type 0 where
-  pub later : IsLater p q
+  pub later : IsLaterPass p q
   pub still : HasNotMoved p q
 
 -- the ticket was given at the end of what the pass has seen
@@ -38,13 +38,13 @@ HasPublished p q (Some r) = AddsOwn p q (λ a. Published a r)
 
 -- each pass is a later one
 abbrev pub AreLater : List PassView → List PassView → Type 0
-AreLater before after = (k : ℕ) (d : PassView) → k < length before → IsLater (slice_index_or before k d) (slice_index_or after k d)
+AreLater before after = (k : ℕ) (d : PassView) → k < length before → IsLaterPass (slice_index_or before k d) (slice_index_or after k d)
 
 -- the desk has answered that the analyst's script is at its end; so it is, and what was added in the analyst's name is what was seen of it
-pub record IsDone (p : PassView) : Type 0 where
+pub record HasScriptEnded (p : PassView) : Type 0 where
   pub ended : p.ended ≡ true
   pub exact : p.mine ≡ mine_of p.analyst p.seen
-  pub at_end : IsAtEnd p
+  pub at_end : HasNoCommandLeft p
 
 abbrev pub AreEnded : List PassView → Type 0
-AreEnded passes = All IsDone passes
+AreEnded passes = All HasScriptEnded passes

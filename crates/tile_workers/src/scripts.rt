@@ -1,9 +1,9 @@
-ghost use Rattle.board_desk.specs.Passes.{HaveAnalysts, IsLater, IsPassOf};
+ghost use Rattle.board_desk.specs.Passes.{HaveAnalysts, IsLaterPass, IsPassOf};
 ghost use Rattle.std.specs.Prelude.{◌≡◌, ◌≢◌, All, None, OnOk, true};
 ghost use Rattle.tile_workers.specs.Scripts.{AreEnded, AreLater};
 
 use crate::gate::Gate;
-use crate::settling::settle;
+use crate::settling::try_settle;
 use board_desk::{Desk, Pass};
 use raster_model::MAX_ANALYSTS;
 use std::alloc::{AllocError, Global};
@@ -15,8 +15,9 @@ use tile_board::{Advance, AdvanceFault};
 /// The most analysts that run at once.
 const MOST_ANALYSTS: usize = MAX_ANALYSTS as usize;
 
-/// Runs the scripts of the passes' analysts to their ends, each in a thread of its own; each settle command has its workers.
-/// If one runs out of memory, the only cause of a refusal, the others still go on.
+/// Runs the scripts of the passes' analysts to their ends, each in a thread of its own. Each settle command has workers of
+/// its own; if `workers` is 0, it has one. It fails only for lack of memory; if one script runs out of memory, the others
+/// still go on.
 pub fn run_scripts<R: Threads + Wait + Sync, G: Gate>(
     rt: &R,
     alloc: Global,
@@ -57,7 +58,7 @@ fn run_each<R: Threads + Wait + Sync, G: Gate>(
         MOST_ANALYSTS,
         &|_, pass: &mut Pass|
             requires { IsPassOf desk.now pass.old × (pass.old.analyst ≢ None) }
-            ensures { IsLater pass.entry.now pass.exit.now }
+            ensures { IsLaterPass pass.entry.now pass.exit.now }
         {
             let _run = run_script(rt, alloc, desk, pass, workers, gate);
         },
@@ -87,13 +88,13 @@ fn run_script<R: Threads + Wait + Sync, G: Gate>(
 ) -> Result<(), AllocError>
     requires pass { IsPassOf desk.now pass.old }
     requires analyst { pass.old.analyst ≢ None }
-    ensures { IsLater pass.old pass.new }
+    ensures { IsLaterPass pass.old pass.new }
 {
     for _ in rt.forever() {
         match desk.advance(rt, alloc, pass).answer {
             Ok(Advance::Revised(_) | Advance::Settled(_) | Advance::Shown(_)) => {}
             Ok(Advance::NotYet(_)) => {
-                settle(rt, alloc, desk, pass, workers, gate)?;
+                try_settle(rt, alloc, desk, pass, workers, gate)?;
             }
             Ok(Advance::Ended) => return Ok(()),
             Err(AdvanceFault::Memory) => return Err(AllocError),

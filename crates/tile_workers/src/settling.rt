@@ -1,7 +1,7 @@
 ghost use Rattle.board_desk.specs.Answers.{IsCurrent};
-ghost use Rattle.board_desk.specs.Passes.{HasNotMoved, IsAtSettle, IsLater, IsPassOf};
+ghost use Rattle.board_desk.specs.Passes.{HasNotMoved, IsAtSettle, IsLaterPass, IsPassOf};
 ghost use Rattle.std.specs.Prelude.{◌≡◌, ◌≢◌, All, IfOk, IfSome, None, OnErr, OnSome};
-ghost use Rattle.tile_board.specs.Histories.{IsLegal};
+ghost use Rattle.tile_board.specs.Histories.{IsLegal, now_of};
 ghost use Rattle.tile_workers.specs.Scripts.{HasGathered, HasPublished, HasSeenMore, HasSettled};
 
 use crate::gate::Gate;
@@ -17,10 +17,11 @@ use std::thread::Threads;
 use tile_board::{Advance, AdvanceFault, GatherFault, Gathered, PublishFault};
 
 /// The most workers that run at once.
-const MAX_CREW: usize = MAX_WORKERS as usize;
+const MOST_WORKERS: usize = MAX_WORKERS as usize;
 
-/// Does the next command of a pass's analyst, which is to settle, and answers the revision that is published. Workers solve
-/// the tiles, each in a thread of its own. It is refused only for lack of memory, and then some of the tiles may be solved.
+/// Does the next command of a pass's analyst, which is to settle, and returns the revision that is published. Workers solve
+/// the tiles, each in a thread of its own; if `workers` is 0, one does. It fails only for lack of memory, and then some of
+/// the tiles may be solved.
 pub fn settle<R: Threads + Wait + Sync, G: Gate>(
     rt: &R,
     alloc: Global,
@@ -31,7 +32,7 @@ pub fn settle<R: Threads + Wait + Sync, G: Gate>(
 ) -> Result<u32, AllocError>
     requires pass { IsPassOf desk.now pass.old }
     requires next { IsAtSettle desk.now.session pass.old }
-    ensures later { IsLater pass.old pass.new }
+    ensures later { IsLaterPass pass.old pass.new }
     ensures settled { IfOk result (HasSettled pass.old pass.new) }
     ensures fresh { IfOk result (IsCurrent pass.old pass.new) }
     ensures unsettled { OnErr result (HasNotMoved pass.old pass.new) }
@@ -44,12 +45,34 @@ pub fn settle<R: Threads + Wait + Sync, G: Gate>(
             Ok(Advance::Revised(_) | Advance::Shown(_) | Advance::Ended) => unreachable!(),
             Err(AdvanceFault::Memory) => return Err(AllocError),
         }
-        solve_tiles(rt, alloc, desk, pass, workers, gate)?;
-        if let Some(revision) = publish(rt, alloc, desk, pass)? {
+        if let Some(revision) = try_settle(rt, alloc, desk, pass, workers, gate)? {
             return Ok(revision);
         }
     }
     unreachable!()
+}
+
+/// Has workers solve the tiles, publishes the present revision and returns it. Returns None if nothing was published, as the
+/// mask has changed meanwhile, or another analyst was faster. It fails only for lack of memory.
+pub(crate) fn try_settle<R: Threads + Wait + Sync, G: Gate>(
+    rt: &R,
+    alloc: Global,
+    desk: &Desk,
+    pass: &mut Pass,
+    workers: u32,
+    gate: &G,
+) -> Result<Option<u32>, AllocError>
+    requires pass { IsPassOf desk.now pass.old }
+    requires next { IsAtSettle desk.now.session pass.old }
+    ensures later { IsLaterPass pass.old pass.new }
+    ensures published { IfOk result (HasPublished pass.old pass.new) }
+    ensures present { IfOk result (λ answer. IfSome answer (λ revision. revision ≡ now_of pass.new.seen)) }
+    ensures legal { IfOk result (λ answer. OnSome answer (IsLegal desk.now.session pass.new.seen)) }
+    ensures unpublished { OnErr result (HasNotMoved pass.old pass.new) }
+    ensures ended { pass.new.ended ≡ pass.old.ended }
+{
+    solve_tiles(rt, alloc, desk, pass, workers, gate)?;
+    publish(rt, alloc, desk, pass)
 }
 
 /// Has workers solve the tiles.
@@ -68,7 +91,7 @@ fn solve_tiles<R: Threads + Wait + Sync, G: Gate>(
     thread::for_each_mut(
         rt,
         &mut workers,
-        MAX_CREW,
+        MOST_WORKERS,
         &|_, worker: &mut Worker|
             requires { IsPassOf desk.now worker.old.pass }
             ensures { HasSeenMore worker.entry.now.pass worker.exit.now.pass }
@@ -79,7 +102,7 @@ fn solve_tiles<R: Threads + Wait + Sync, G: Gate>(
     dismiss(rt, desk, pass, workers)
 }
 
-/// Workers that have seen what a pass has.
+/// Workers that have seen what a pass has: as many as `count` says, but at least one.
 fn hire<R: Wait>(
     rt: &R,
     alloc: Global,
@@ -91,6 +114,7 @@ fn hire<R: Wait>(
     ensures same { pass.new ≡ pass.old }
     ensures own { IfOk result (λ workers. All (λ worker. IsPassOf desk.now worker.pass) workers.items) }
 {
+    let count = count.max(1);
     let mut workers = Vec::with_capacity(alloc, count as usize)?;
     for before in 0..count {
         workers.push(Worker {
@@ -131,9 +155,9 @@ fn publish<R: Wait>(
 ) -> Result<Option<u32>, AllocError>
     requires pass { IsPassOf desk.now pass.old }
     requires next { IsAtSettle desk.now.session pass.old }
-    ensures later { IsLater pass.old pass.new }
+    ensures later { IsLaterPass pass.old pass.new }
     ensures published { IfOk result (HasPublished pass.old pass.new) }
-    ensures fresh { IfOk result (λ answer. IfSome answer (IsCurrent pass.old pass.new)) }
+    ensures present { IfOk result (λ answer. IfSome answer (λ revision. revision ≡ now_of pass.new.seen)) }
     ensures legal { IfOk result (λ answer. OnSome answer (IsLegal desk.now.session pass.new.seen)) }
     ensures unpublished { OnErr result (HasNotMoved pass.old pass.new) }
     ensures ended { pass.new.ended ≡ pass.old.ended }

@@ -1,7 +1,7 @@
 -- Words of the steps that make a test session: no clause of another crate cites them.
 use Rattle.std.specs.Prelude.{◌≡◌, ℕ, ◌+◌, ◌/◌, ◌%◌, ◌<◌, List, length, slice_index}
 use Rattle.raster_model.specs.declared.plane.Plane.{Plane}
-use Rattle.raster_model.specs.Planes.{sample_at}
+use Rattle.raster_model.specs.Planes.{plane_sample}
 use Rattle.trial_maker.specs.Trials.{state, phase_of, weight_of, is_open, state_at}
 use Rattle.sums_and_lists.specs.Sums.{one_if}
 
@@ -31,6 +31,6 @@ pub record AreDrawnPlanes (seed w h : ℕ) (phase weights mask : Plane) : Type 0
   pub phase_size : (phase.width ≡ w) × (phase.height ≡ h) × (phase.maxval ≡ 65535)
   pub weight_size : (weights.width ≡ w) × (weights.height ≡ h) × (weights.maxval ≡ 256)
   pub mask_size : (mask.width ≡ w) × (mask.height ≡ h)
-  pub phases : (x y : ℕ) → x < w → y < h → sample_at phase x y ≡ phase_of (state_at seed w x y) x y
-  pub weighed : (x y : ℕ) → x < w → y < h → sample_at weights x y ≡ weight_of (state_at seed w x y)
-  pub masked : (x y : ℕ) → x < w → y < h → sample_at mask x y ≡ one_if (is_open (state_at seed w x y))
+  pub phases : (x y : ℕ) → x < w → y < h → plane_sample phase x y ≡ phase_of (state_at seed w x y) x y
+  pub weighed : (x y : ℕ) → x < w → y < h → plane_sample weights x y ≡ weight_of (state_at seed w x y)
+  pub masked : (x y : ℕ) → x < w → y < h → plane_sample mask x y ≡ one_if (is_open (state_at seed w x y))

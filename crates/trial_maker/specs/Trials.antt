@@ -5,7 +5,7 @@ use Rattle.raster_model.specs.declared.script.Script.{Script}
 use Rattle.raster_model.specs.declared.session.Session.{Session}
 use Rattle.raster_model.specs.declared.weights.RuleKind.{RuleKind}
 use Rattle.raster_model.specs.Masks.{IsMaskOf}
-use Rattle.raster_model.specs.Planes.{sample_at}
+use Rattle.raster_model.specs.Planes.{plane_sample}
 use Rattle.raster_model.specs.Sums.{Field}
 
 -- the number after s, and the number after n steps from a seed
@@ -37,9 +37,9 @@ AreTrialScripts scripts = map (λ script. script.commands.items) scripts ≡ (Se
 -- the session is the one that a seed gives to w by h pixels, with tiles of a side and edges by a rule
 pub record IsTrial (seed w h side : ℕ) (kind : RuleKind) (s : Session) : Type 0 where
   pub size : (s.scene.phase.width ≡ w) × (s.scene.phase.height ≡ h)
-  pub phases : (x y : ℕ) → x < w → y < h → sample_at s.scene.phase x y ≡ phase_of (state_at seed w x y) x y
+  pub phases : (x y : ℕ) → x < w → y < h → plane_sample s.scene.phase x y ≡ phase_of (state_at seed w x y) x y
   pub greatest_weight : s.scene.weights.maxval ≡ 256
-  pub weights : (x y : ℕ) → x < w → y < h → sample_at s.scene.weights x y ≡ weight_of (state_at seed w x y)
+  pub weights : (x y : ℕ) → x < w → y < h → plane_sample s.scene.weights x y ≡ weight_of (state_at seed w x y)
   pub mask : IsMaskOf s.first_mask w h (λ x y. is_open (state_at seed w x y))
   pub tiles : s.scene.tiling.side ≡ side
   pub rule : s.scene.rule ≡ kind

@@ -5,7 +5,7 @@ use Rattle.raster_model.specs.declared.tiling.Window.{Window}
 use Rattle.raster_model.specs.Sums.{right_edge, down_edge}
 use Rattle.wrapped_gradient.specs.Corrections.{greatest}
 use Rattle.wrapped_gradient.specs.Gradients.{residue_at}
-use Rattle.wrapped_gradient.specs.Windows.{number_at, round}
+use Rattle.wrapped_gradient.specs.Windows.{edge_value, round}
 
 -- ---- three columns and two rows of pixels: four right edges and three down edges
 abbrev box : Window
@@ -17,17 +17,17 @@ rights = pos 1 ∷ (pos 2 ∷ (pos 3 ∷ (pos 4 ∷ [])))
 abbrev downs : List ℤ
 downs = pos 5 ∷ (pos 6 ∷ (pos 7 ∷ []))
 
-second_right : number_at box rights downs (right_edge 6 7) ≡ pos 2
+second_right : edge_value box rights downs (right_edge 6 7) ≡ pos 2
 second_right = refl
 
-first_right_below : number_at box rights downs (right_edge 5 8) ≡ pos 3
+first_right_below : edge_value box rights downs (right_edge 5 8) ≡ pos 3
 first_right_below = refl
 
-last_down : number_at box rights downs (down_edge 7 7) ≡ pos 7
+last_down : edge_value box rights downs (down_edge 7 7) ≡ pos 7
 last_down = refl
 
 -- 2 along the top and 7 along the right side, less 4 along the bottom and 6 along the left side
-round_the_second_cell : round (number_at box rights downs) 6 7 ≡ negsuc 0
+round_the_second_cell : round (edge_value box rights downs) 6 7 ≡ negsuc 0
 round_the_second_cell = refl
 
 -- ---- a full turn in four quarters, clockwise with rows from the top

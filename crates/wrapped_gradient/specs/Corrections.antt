@@ -4,7 +4,7 @@ use Rattle.raster_model.specs.declared.edge.Edge.{Edge}
 use Rattle.raster_model.specs.declared.tiling.Window.{Window}
 use Rattle.raster_model.specs.Raster.{Raster, residue}
 use Rattle.wrapped_gradient.specs.declared.corrections.Corrections.{Corrections}
-use Rattle.wrapped_gradient.specs.Windows.{IsCellOf, HaveShapeOf, number_at, round}
+use Rattle.wrapped_gradient.specs.Windows.{IsCellOf, HaveShapeOf, edge_value, round}
 
 -- there is a correction for each right edge and for each down edge of the window
 abbrev pub HasShapeOf : Window → Corrections → Type 0
@@ -12,7 +12,7 @@ HasShapeOf v k = HaveShapeOf v k.right.items k.down.items
 
 -- the correction of an edge
 abbrev pub correction_at : Window → Corrections → Edge → ℤ
-correction_at v k = number_at v k.right.items k.down.items
+correction_at v k = edge_value v k.right.items k.down.items
 
 -- the sum of the corrections round each cell of the window is minus its residue
 abbrev pub CancelResidues : Raster → Window → Corrections → Type 0

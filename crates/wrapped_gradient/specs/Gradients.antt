@@ -8,11 +8,11 @@ use Rattle.raster_model.specs.Scene.{raster_of}
 use Rattle.raster_model.specs.Seams.{IsEarlier}
 use Rattle.raster_model.specs.Tiles.{IsWindowIn}
 use Rattle.wrapped_gradient.specs.GradientsView.{GradientsView}
-use Rattle.wrapped_gradient.specs.Windows.{IsEdgeOf, IsCellOf, number_at, round}
+use Rattle.wrapped_gradient.specs.Windows.{IsEdgeOf, IsCellOf, edge_value, round}
 
 -- the wrapped difference that is held for an edge
 abbrev pub gradient_at : GradientsView → Edge → ℤ
-gradient_at g = number_at g.window g.right g.down
+gradient_at g = edge_value g.window g.right g.down
 
 -- the residue of a cell: the whole cycles of the sum of the wrapped differences round it
 abbrev pub residue_at : GradientsView → Field ℤ

@@ -19,8 +19,8 @@ abbrev pub HaveShapeOf : Window → List ℤ → List ℤ → Type 0
 HaveShapeOf v right down = (length right ≡ (width_of v - 1) * height_of v) × (length down ≡ width_of v * (height_of v - 1))
 
 -- the number that these lists hold for an edge; they are in row order of first pixels
-abbrev pub number_at : Window → List ℤ → List ℤ → Edge → ℤ
-number_at v right down e = if e.down then slice_index_or down (place_in v e.x e.y) (pos 0) else slice_index_or right ((e.y - v.y0) * (width_of v - 1) + (e.x - v.x0)) (pos 0)
+abbrev pub edge_value : Window → List ℤ → List ℤ → Edge → ℤ
+edge_value v right down e = if e.down then slice_index_or down (place_in v e.x e.y) (pos 0) else slice_index_or right ((e.y - v.y0) * (width_of v - 1) + (e.x - v.x0)) (pos 0)
 
 -- the sum of the numbers of a cell's edges round it: along its top and its right side, and back along its bottom and its left side
 abbrev pub round : (Edge → ℤ) → Field ℤ

@@ -1,5 +1,5 @@
 use Rattle.std.proofs.Common.{ap, rules, subst, sym, ◌∙◌}
-use Rattle.board_desk.specs.Rules.{Meets, Place}
+use Rattle.board_desk.specs.Rules.{HoldsIn, Place}
 use Rattle.board_desk.proofs.Merging.{merged}
 use Rattle.board_desk.proofs.Steps.{loads, returns_seat}
 use Rattle.board_desk.proofs.desk.take_in.Goals as goal
@@ -13,4 +13,4 @@ load-requires c = (search rules, search rules, loads c.args.hall.now.key.value c
 pub returns-clause-merged : goal.returns-clause-merged
 returns-clause-merged c =
     merged c.args.seat.now.me.0 c.args.other.me.0 c.load.new.seat.me.0 (ap (λ (p : Place). p.0) (c.load.ensures.2.0 ∙ c.join_seat.ensures.2))
-    (subst (λ (p : Place). Meets p.0.own.seen p.0.beside) (sym c.load.ensures.2.0) c.load.ensures.2.1)
+    (subst (λ (p : Place). HoldsIn p.0.own.seen p.0.beside) (sym c.load.ensures.2.0) c.load.ensures.2.1)

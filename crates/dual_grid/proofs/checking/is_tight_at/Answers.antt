@@ -1,7 +1,7 @@
 use Rattle.std.proofs.Common.{◌≡◌, ◌∙◌, ap, ap₂, sym, arith, ℕ, SFits, List, w32, w64, rules}
 use Rattle.std.specs.Prelude.{ℤ, ◌-ℤ◌}
 use Rattle.std.proofs.lemmas.Int.{ints, to_z-of_z}
-use Rattle.wrapped_gradient.specs.Windows.{number_at}
+use Rattle.wrapped_gradient.specs.Windows.{edge_value}
 use Rattle.dual_grid.specs.Nodes.{first_side, other_side}
 use Rattle.dual_grid.specs.Problems.{IsTight, face_of}
 use Rattle.dual_grid.proofs.checking.is_tight_at.Goals as goal
@@ -19,8 +19,8 @@ returns c =
     let weight_fits : SFits w32 c.number-weight.result = search rules in
     let correction_fits : SFits w32 c.number-correction.result = search rules in
     let fits : SFits w64 c.in-Some.difference = search rules in
-    same _ _ _ _ _ _ (to_z-of_z w64 c.in-Some.difference fits ∙ difference ∙ ap₂ (λ (a b : ℤ). a -ℤ b) first other) (to_z-of_z w32 c.number-weight.result weight_fits ∙ c.number-weight.ensures ∙ ap₂ (λ (r d : List ℤ). number_at p.window r d c.args.edge) c.deref.ensures.value c.deref-2.ensures.value)
-    (to_z-of_z w32 c.number-correction.result correction_fits ∙ c.number-correction.ensures ∙ ap₂ (λ (r d : List ℤ). number_at p.window r d c.args.edge) c.deref-3.ensures.value c.deref-4.ensures.value) (c.is_tight.ensures yes)
+    same _ _ _ _ _ _ (to_z-of_z w64 c.in-Some.difference fits ∙ difference ∙ ap₂ (λ (a b : ℤ). a -ℤ b) first other) (to_z-of_z w32 c.number-weight.result weight_fits ∙ c.number-weight.ensures ∙ ap₂ (λ (r d : List ℤ). edge_value p.window r d c.args.edge) c.deref.ensures.value c.deref-2.ensures.value)
+    (to_z-of_z w32 c.number-correction.result correction_fits ∙ c.number-correction.ensures ∙ ap₂ (λ (r d : List ℤ). edge_value p.window r d c.args.edge) c.deref-3.ensures.value c.deref-4.ensures.value) (c.is_tight.ensures yes)
   where
     same : (d w k e v i : ℤ) → d ≡ e → w ≡ v → k ≡ i → IsTight d w k → IsTight e v i
     same d w k e v i p q r t = rw (sym p, sym q, sym r) t

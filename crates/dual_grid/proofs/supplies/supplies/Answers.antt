@@ -2,7 +2,7 @@ use Rattle.std.proofs.Common.{◌≡◌, ◌∙◌, ap, subst, sym, arith, rules
 use Rattle.std.specs.Prelude.{neg_ℤ}
 use Rattle.std.proofs.lemmas.Int.{to_z-of_z}
 use Rattle.wrapped_gradient.specs.Gradients.{residue_at}
-use Rattle.dual_grid.specs.Building.{AreSupplies, sum_of_first}
+use Rattle.dual_grid.specs.Building.{AreCellSupplies, sum_of_first}
 use Rattle.dual_grid.proofs.EdgeLemmas.{few_cells}
 use Rattle.dual_grid.proofs.SupplyLemmas.{listed_supplies}
 use Rattle.dual_grid.proofs.supplies.supplies.Goals as goal
@@ -18,5 +18,5 @@ returns c =
     let fits : SFits w64 c.minus_sum-rest.result = search rules in
     let same : c.deref.result.now ≡ zs = c.deref.ensures.value in
     let rest : c.minus_sum-rest.result ≡ neg_ℤ (sum_of_first zs (length zs)) = rw same at c.minus_sum-rest.ensures in
-    subst (AreSupplies (residue_at c.args.gradients.now) c.args.gradients.now.window) (sym {A = List ℤ} c.in_ok-push.ensures.items)
+    subst (AreCellSupplies (residue_at c.args.gradients.now) c.args.gradients.now.window) (sym {A = List ℤ} c.in_ok-push.ensures.items)
     (listed_supplies (residue_at c.args.gradients.now) c.args.gradients.now.window zs (to_z w64 (of_z w64 c.minus_sum-rest.result)) c.in_ok-supplies.ensures.rows (to_z-of_z w64 c.minus_sum-rest.result fits ∙ rest))

@@ -3,7 +3,7 @@ use Rattle.std.specs.Prelude.{◌+ℤ◌}
 use Rattle.std.proofs.lemmas.Int.{ints}
 use Rattle.flow_network.specs.Views.{shape_of, state_of}
 use Rattle.certificates.proofs.Unique.{same_pixel}
-use Rattle.seam_regions.specs.Regions.{label_at}
+use Rattle.seam_regions.specs.Regions.{region_label}
 use Rattle.seam_regions.proofs.CallerLemmas.{regions_of_scene}
 use Rattle.certificates.specs.TileSets.{solved_cycles}
 use Rattle.offset_network.proofs.AnswerLemmas.{height_is}
@@ -43,7 +43,7 @@ returns-clause-value c = λ x y first. (
     let below : c.in-Some-region.region < (shape_of c.args.net.now).nodes = omega (arith, there, label, c.requires.nodes) in
     let same = same_pixel c.in-Some.x c.in-Some.y x y (λ l. first.1 c.in-Some.x c.in-Some.y o l) (λ l. c.in-Some.ensures.found.1 x y first.0 l) in
     (height_is c.potential.result _ c.at.result c.from.result (shape_of c.args.net.now).nodes c.potential.ensures (c.requires.heights c.in-Some-region.region below) (omega (arith, c.requires.nodes, c.requires.regions.few)) c.at.ensures.small c.from.ensures).1
-    ∙ ap₂ ◌+ℤ◌ (ap (state_of c.args.net.now).potential (there ∙ ap₂ (label_at v) same.0 same.1)) (c.at.ensures.value ∙ ap₂ (solved_cycles s c.args.surface.now.tiles.now.results) same.0 same.1))
+    ∙ ap₂ ◌+ℤ◌ (ap (state_of c.args.net.now).potential (there ∙ ap₂ (region_label v) same.0 same.1)) (c.at.ensures.value ∙ ap₂ (solved_cycles s c.args.surface.now.tiles.now.results) same.0 same.1))
 
 pub returns-clause-low : goal.returns-clause-low
 returns-clause-low c =

@@ -7,7 +7,7 @@ use Rattle.raster_model.proofs.FlowLemmas.{before-next, before-none, before-row}
 use Rattle.certificates.specs.SeamVerdicts.{IsSeamEdge}
 use Rattle.certificates.proofs.EdgeLemmas.{all_before, none_before, row_more}
 use Rattle.certificates.proofs.PassLemmas.{before_past, holds_past}
-use Rattle.seam_regions.specs.Regions.{label_at}
+use Rattle.seam_regions.specs.Regions.{region_label}
 use Rattle.offset_guess.specs.declared.link.Link.{Link}
 use Rattle.offset_network.specs.Seams.{IsPlaced, JoinRegions}
 use Rattle.certificates.specs.TileSets.{solved_cycles}
@@ -22,7 +22,7 @@ loop-y-init c =
     record {
       counted = ap length none ∙ before-none r;
       few = (let n = ap length none in omega (arith, n));
-      placed = none_before (IsSeamEdge r) (IsPlaced (raster_of k.scene.now) (open_at k.mask.now) (label_at c.args.regions.now) (solved_cycles k.scene.now k.tiles.now.results) c.in_ok-links.links.items) 0 r.width 0 r.height (in_raster r);
+      placed = none_before (IsSeamEdge r) (IsPlaced (raster_of k.scene.now) (open_at k.mask.now) (region_label c.args.regions.now) (solved_cycles k.scene.now k.tiles.now.results) c.in_ok-links.links.items) 0 r.width 0 r.height (in_raster r);
       join = subst (JoinRegions c.args.regions.now.count) (sym {A = List (Option Link)} none) (join_none c.args.regions.now.count);
     }
 
@@ -35,7 +35,7 @@ loop-x-init c =
       within = to.place.1;
       counted = c.loop-y.invariant.counted ∙ sym (before_past r 0 c.next_start-x.result c.loop-y.y to.passed to.place.0);
       few = omega (arith, c.loop-y.invariant.few);
-      placed = holds_past r 0 c.next_start-x.result c.loop-y.y to.passed to.place.0 (IsPlaced r (open_at k.mask.now) (label_at c.args.regions.now) (solved_cycles k.scene.now k.tiles.now.results) c.loop-y.links.items) c.loop-y.invariant.placed;
+      placed = holds_past r 0 c.next_start-x.result c.loop-y.y to.passed to.place.0 (IsPlaced r (open_at k.mask.now) (region_label c.args.regions.now) (solved_cycles k.scene.now k.tiles.now.results) c.loop-y.links.items) c.loop-y.invariant.placed;
       join = c.loop-y.invariant.join;
     }
 
@@ -50,8 +50,8 @@ loop-x-preserved c =
       within = to.place.1;
       counted = omega (arith, c.loop-x.invariant.counted, added.count, before-next r c.loop-x.x c.loop-y.y, before_past r (c.loop-x.x + 1) x c.loop-y.y to.passed to.place.0);
       few = (let two = seams_at_most_two r c.loop-x.x c.loop-y.y in omega (arith, c.loop-x.invariant.few, added.count, two, to.place.0));
-      placed = holds_past r (c.loop-x.x + 1) x c.loop-y.y to.passed to.place.0 (IsPlaced r (open_at k.mask.now) (label_at c.args.regions.now) (solved_cycles k.scene.now k.tiles.now.results) c.push_links_from.new.links.items)
-          (still_placed (raster_of k.scene.now) (open_at k.mask.now) (label_at c.args.regions.now) c.args.regions.now.count (solved_cycles k.scene.now k.tiles.now.results) c.loop-x.x c.loop-y.y c.loop-x.links.items c.push_links_from.new.links.items added c.loop-x.invariant.placed);
+      placed = holds_past r (c.loop-x.x + 1) x c.loop-y.y to.passed to.place.0 (IsPlaced r (open_at k.mask.now) (region_label c.args.regions.now) (solved_cycles k.scene.now k.tiles.now.results) c.push_links_from.new.links.items)
+          (still_placed (raster_of k.scene.now) (open_at k.mask.now) (region_label c.args.regions.now) c.args.regions.now.count (solved_cycles k.scene.now k.tiles.now.results) c.loop-x.x c.loop-y.y c.loop-x.links.items c.push_links_from.new.links.items added c.loop-x.invariant.placed);
       join = added.join c.loop-x.invariant.join;
     }
 
@@ -66,7 +66,7 @@ loop-y-preserved c =
     record {
       counted = (rw e at c.loop-x.invariant.counted) ∙ sym (before-row r c.loop-y.y);
       few = omega (arith, c.loop-x.invariant.few);
-      placed = row_more (IsSeamEdge r) (IsPlaced (raster_of k.scene.now) (open_at k.mask.now) (label_at c.args.regions.now) (solved_cycles k.scene.now k.tiles.now.results) c.loop-x.links.items) 0 r.width 0 r.height (in_raster r) c.loop-x.x c.loop-y.y e c.loop-x.invariant.placed;
+      placed = row_more (IsSeamEdge r) (IsPlaced (raster_of k.scene.now) (open_at k.mask.now) (region_label c.args.regions.now) (solved_cycles k.scene.now k.tiles.now.results) c.loop-x.links.items) 0 r.width 0 r.height (in_raster r) c.loop-x.x c.loop-y.y e c.loop-x.invariant.placed;
       join = c.loop-x.invariant.join;
     }
 
@@ -78,5 +78,5 @@ returns-clause-seams c =
     let e : c.loop-y.y ≡ r.height = omega arith in
     record {
       count = rw e at c.loop-y.invariant.counted;
-      each = all_before (IsSeamEdge r) (IsPlaced (raster_of k.scene.now) (open_at k.mask.now) (label_at c.args.regions.now) (solved_cycles k.scene.now k.tiles.now.results) c.loop-y.links.items) 0 r.width 0 r.height (in_raster r) c.loop-y.y e c.loop-y.invariant.placed;
+      each = all_before (IsSeamEdge r) (IsPlaced (raster_of k.scene.now) (open_at k.mask.now) (region_label c.args.regions.now) (solved_cycles k.scene.now k.tiles.now.results) c.loop-y.links.items) 0 r.width 0 r.height (in_raster r) c.loop-y.y e c.loop-y.invariant.placed;
     }

@@ -4,7 +4,7 @@ use Rattle.raster_model.specs.Masks.{open_at}
 use Rattle.raster_model.specs.Scene.{raster_of}
 use Rattle.certificates.specs.EdgeWords.{HoldsBefore}
 use Rattle.certificates.specs.SeamVerdicts.{IsSeamEdge}
-use Rattle.seam_regions.specs.Regions.{label_at}
+use Rattle.seam_regions.specs.Regions.{region_label}
 use Rattle.offset_network.specs.Seams.{IsPlaced, JoinRegions}
 use Rattle.certificates.specs.TileSets.{solved_cycles}
 use Rattle.offset_network.proofs.links.links.Given as goal
@@ -14,7 +14,7 @@ invariant-loop-x l = record {
   within : l.x ≤ l.surface.scene.now.phase.width;
   counted : length l.links.items ≡ seams_before (raster_of l.surface.scene.now) l.x l.y;
   few : length l.links.items ≤ 2 * (4096 * l.y + l.x);
-  placed : HoldsBefore (IsSeamEdge (raster_of l.surface.scene.now)) (IsPlaced (raster_of l.surface.scene.now) (open_at l.surface.mask.now) (label_at l.regions) (solved_cycles l.surface.scene.now l.surface.tiles.now.results) l.links.items) l.x l.y;
+  placed : HoldsBefore (IsSeamEdge (raster_of l.surface.scene.now)) (IsPlaced (raster_of l.surface.scene.now) (open_at l.surface.mask.now) (region_label l.regions) (solved_cycles l.surface.scene.now l.surface.tiles.now.results) l.links.items) l.x l.y;
   join : JoinRegions l.regions.count l.links.items;
 }
 
@@ -25,6 +25,6 @@ abbrev pub invariant-loop-y : goal.invariant-loop-y
 invariant-loop-y l = record {
   counted : length l.links.items ≡ seams_before (raster_of l.surface.scene.now) 0 l.y;
   few : length l.links.items ≤ 2 * (4096 * l.y);
-  placed : HoldsBefore (IsSeamEdge (raster_of l.surface.scene.now)) (IsPlaced (raster_of l.surface.scene.now) (open_at l.surface.mask.now) (label_at l.regions) (solved_cycles l.surface.scene.now l.surface.tiles.now.results) l.links.items) 0 l.y;
+  placed : HoldsBefore (IsSeamEdge (raster_of l.surface.scene.now)) (IsPlaced (raster_of l.surface.scene.now) (open_at l.surface.mask.now) (region_label l.regions) (solved_cycles l.surface.scene.now l.surface.tiles.now.results) l.links.items) 0 l.y;
   join : JoinRegions l.regions.count l.links.items;
 }

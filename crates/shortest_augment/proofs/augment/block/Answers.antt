@@ -2,11 +2,11 @@ use Rattle.std.proofs.Common.{◌≡◌, sym, ◌∙◌, ap, List, true, false, 
 use Rattle.std.specs.Prelude.{ℕ, ◌<◌, pos, ◌<ℤ◌, Contains}
 use Rattle.std.proofs.lemmas.Int.{ints}
 use Rattle.std.proofs.lemmas.Bool.{false≢true, cases_Bool}
-use Rattle.flow_network.specs.Nets.{Shape}
+use Rattle.flow_network.specs.Nets.{Shape, total_excess}
 use Rattle.shortest_augment.specs.Labels.{IsSmall}
 use Rattle.shortest_augment.specs.Heights.{IsReached}
-use Rattle.shortest_augment.specs.Sending.{IsAugmented, total_excess}
-use Rattle.shortest_augment.specs.Trees.{mark_at, IsForest, IsWiping, AreClear}
+use Rattle.shortest_augment.specs.Sending.{IsAugmented}
+use Rattle.shortest_augment.specs.Trees.{mark_at, IsMarkForest, IsWiping, AreClear}
 use Rattle.shortest_augment.specs.declared.mark.Mark.{Mark}
 use Rattle.shortest_augment.proofs.SendLemmas.{augmented-trans, forest-augmented, augmented-refl}
 use Rattle.shortest_augment.proofs.TreeLemmas.{tight_marked, wiping_start}
@@ -47,7 +47,7 @@ pub drain_rest-requires-clause-forest : goal.drain_rest-requires-clause-forest
 drain_rest-requires-clause-forest g c =
     let now = g.N.FlowNet.state c.fill_all.new.net in
     let marks = c.tree.new.marks.items in
-    subst (λ (t : Shape). IsForest t now marks) (sym c.fill_all.ensures.shape) (forest-augmented (g.N.FlowNet.shape c.args.net.now) (g.N.FlowNet.state c.args.net.now) now marks (g.met.N.FlowNet.is_network c.args.net.now) c.in_ok-queue.ensures.tree.forest c.fill_all.ensures.augmented)
+    subst (λ (t : Shape). IsMarkForest t now marks) (sym c.fill_all.ensures.shape) (forest-augmented (g.N.FlowNet.shape c.args.net.now) (g.N.FlowNet.state c.args.net.now) now marks (g.met.N.FlowNet.is_network c.args.net.now) c.in_ok-queue.ensures.tree.forest c.fill_all.ensures.augmented)
 
 pub returns-in_err-drain_rest-clause-augmented : goal.returns-in_err-drain_rest-clause-augmented
 returns-in_err-drain_rest-clause-augmented g c = augmented-trans (g.N.FlowNet.shape c.args.net.now) (g.N.FlowNet.state c.args.net.now) (g.N.FlowNet.state c.fill_all.new.net) (g.N.FlowNet.state c.drain_rest.new.net) c.fill_all.ensures.augmented (second g (goal.at.returns-in_err-drain_rest-clause-augmented g c).After-drain_rest)

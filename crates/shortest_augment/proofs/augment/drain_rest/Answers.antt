@@ -1,6 +1,6 @@
 use Rattle.shortest_augment.proofs.SendLemmas.{augmented-refl}
 use Rattle.shortest_augment.specs.declared.mark.Mark.{Mark}
-use Rattle.shortest_augment.specs.Trees.{IsForest}
+use Rattle.shortest_augment.specs.Trees.{IsMarkForest}
 use Rattle.std.proofs.Common.{List, sym, subst}
 use Rattle.shortest_augment.proofs.augment.drain_rest.Goals as goal
 
@@ -17,7 +17,7 @@ pub returns-in_err-copy-clause-augmented : goal.returns-in_err-copy-clause-augme
 returns-in_err-copy-clause-augmented g c = augmented-refl (g.N.FlowNet.shape c.args.net.now) (g.N.FlowNet.state c.args.net.now)
 
 pub drain-requires-clause-forest : goal.drain-requires-clause-forest
-drain-requires-clause-forest g c = subst (λ (xs : List Mark). IsForest (g.N.FlowNet.shape c.args.net.now) (g.N.FlowNet.state c.args.net.now) xs) (sym (c.in_ok-copy.ensures.items_if_clones_equal (λ x y e. e))) (rw c.deref.ensures.value c.requires.forest)
+drain-requires-clause-forest g c = subst (λ (xs : List Mark). IsMarkForest (g.N.FlowNet.shape c.args.net.now) (g.N.FlowNet.state c.args.net.now) xs) (sym (c.in_ok-copy.ensures.items_if_clones_equal (λ x y e. e))) (rw c.deref.ensures.value c.requires.forest)
 
 pub drain-requires-clause-ends : goal.drain-requires-clause-ends
 drain-requires-clause-ends g c = c.requires.ends

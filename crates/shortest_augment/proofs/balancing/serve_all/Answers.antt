@@ -2,10 +2,9 @@ use Rattle.std.proofs.Common.{◌≡◌, ℕ, ◌<◌, subst, arith, inl, inr}
 use Rattle.std.specs.Prelude.{◌<ℤ◌, ◌≤ℤ◌, ◌^◌, ℤ, pos, None}
 use Rattle.std.proofs.lemmas.Int.{ints, by_lt_z}
 use Rattle.std.proofs.lemmas.Bool.{cases_lt}
-use Rattle.flow_network.specs.Nets.{Shape}
+use Rattle.flow_network.specs.Nets.{Shape, total_excess}
 use Rattle.shortest_augment.specs.Labels.{AreDistances}
 use Rattle.shortest_augment.specs.Balance.{IsServed}
-use Rattle.shortest_augment.specs.Sending.{total_excess}
 use Rattle.shortest_augment.proofs.Blocking.{served-refl, served-trans, has_depths, measure, total_excess-not_below, zero-all}
 use Rattle.shortest_augment.proofs.balancing.serve_all.Goals as goal
 use Rattle.shortest_augment.proofs.balancing.serve_all.Goals.{After-serve}

@@ -1,7 +1,7 @@
+use Rattle.flow_network.specs.Nets.{total_excess}
 use Rattle.std.proofs.Common.{◌<◌, ◌≤◌, ℕ}
 use Rattle.std.specs.Prelude.{unsigned_abs, pos, ◌≤ℤ◌}
 use Rattle.shortest_augment.specs.Balance.{IsServed, AreReady}
-use Rattle.shortest_augment.specs.Sending.{total_excess}
 use Rattle.shortest_augment.proofs.balancing.serve_all.Given as goal
 
 abbrev pub invariant-loop-source : goal.invariant-loop-source

@@ -1,7 +1,6 @@
 use Rattle.std.proofs.Common.{subst}
 use Rattle.std.specs.Prelude.{◌<ℤ◌}
-use Rattle.flow_network.specs.Nets.{Shape}
-use Rattle.shortest_augment.specs.Sending.{total_excess}
+use Rattle.flow_network.specs.Nets.{Shape, total_excess}
 use Rattle.shortest_augment.proofs.Blocking.{served-refl, served-trans, has_depths, measure, total_excess-not_below}
 use Rattle.shortest_augment.proofs.balancing.serve_near.Goals as goal
 

@@ -1,6 +1,6 @@
+use Rattle.flow_network.specs.Nets.{total_excess}
 use Rattle.std.specs.Prelude.{unsigned_abs}
 use Rattle.shortest_augment.specs.Balance.{IsServed, AreReady}
-use Rattle.shortest_augment.specs.Sending.{total_excess}
 use Rattle.shortest_augment.proofs.balancing.serve_near.Given as goal
 
 abbrev pub invariant-loop-alloc : goal.invariant-loop-alloc

@@ -1,5 +1,5 @@
 use Rattle.std.proofs.Common.{◌≡◌, ◌<◌, ℕ, length}
-use Rattle.shortest_augment.specs.Labels.{IsFresh}
+use Rattle.shortest_augment.specs.Labels.{IsUntouched}
 use Rattle.shortest_augment.proofs.search.wipe.Given as goal
 
 abbrev pub invariant-loop-place : goal.invariant-loop-place
@@ -10,5 +10,5 @@ invariant-loop-place g l =
       amounts : length l.search.amounts.items ≡ s.nodes;
       steps : l.search.steps.items ≡ l.fn.search.steps.items;
       touched : l.search.touched.items ≡ l.fn.search.touched.items;
-      fresh : (v : ℕ) → v < s.nodes → IsFresh l.search l.place v;
+      fresh : (v : ℕ) → v < s.nodes → IsUntouched l.search l.place v;
     }

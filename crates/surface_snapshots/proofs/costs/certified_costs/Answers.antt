@@ -1,12 +1,12 @@
 use Rattle.std.proofs.Common.{◌∙◌, ap, subst, sym}
 use Rattle.raster_model.specs.MaskView.{MaskView}
 use Rattle.seam_regions.specs.RegionsView.{RegionsView}
-use Rattle.seam_regions.specs.Regions.{label_at}
+use Rattle.seam_regions.specs.Regions.{region_label}
 use Rattle.certificates.specs.SeamVerdicts.{IsSeamVerdict}
 use Rattle.surface_snapshots.specs.Loops.{GoTogether}
 use Rattle.surface_snapshots.specs.Tiled.{mask_told}
 use Rattle.surface_snapshots.specs.Parts.{flows_in, open_in, parts_from, raster_in, shifted_cycles}
-use Rattle.surface_snapshots.specs.Verdicts.{IsVerdict}
+use Rattle.surface_snapshots.specs.Verdicts.{IsPartsVerdict}
 use Rattle.surface_snapshots.proofs.ShiftedLemmas.{go_together}
 use Rattle.surface_snapshots.proofs.VerdictLemmas.{judged}
 use Rattle.surface_snapshots.proofs.costs.certified_costs.Goals as goal
@@ -37,7 +37,7 @@ returns-in_default-2 c =
         judged p c.in_ok-verdict.verdict
             (sym c.args.seams.now.offsets.ok.0 ∙ sym c.len.ensures ∙ c.if-len-count.false ∙ c.count.ensures.value)
             (rw c.deref.ensures.value at c.in_default.ensures.none)
-            (subst (λ (u : RegionsView). IsSeamVerdict (raster_in p) (open_in p) (label_at v) v.count (shifted_cycles s u c.args.tiles.now.results c.args.seams.now.offsets.items) (flows_in p) c.in_ok-verdict.verdict) c.in_ok-tiled.ensures.regions said),
+            (subst (λ (u : RegionsView). IsSeamVerdict (raster_in p) (open_in p) (region_label v) v.count (shifted_cycles s u c.args.tiles.now.results c.args.seams.now.offsets.items) (flows_in p) c.in_ok-verdict.verdict) c.in_ok-tiled.ensures.regions said),
       );
       tiling = tt;
       regions = tt;
@@ -52,8 +52,8 @@ returns-clause-certified c =
     let v = c.args.regions.now in
     let p = parts_from c.args.session.now c.args.mask.now v c.args.tiles.now c.args.seams.now in
     let said = rw (c.in_ok-levels.ensures, c.deref-2.ensures.value, c.deref-3.ensures.value) at c.in_ok-verdict.ensures in
-    subst (IsVerdict p) c.in-Good.is
+    subst (IsPartsVerdict p) c.in-Good.is
     (judged p c.in_ok-verdict.verdict
     (sym c.args.seams.now.offsets.ok.0 ∙ sym c.len.ensures ∙ c.if-len-count.false ∙ c.count.ensures.value)
     (rw c.deref.ensures.value at c.in_default.ensures.none)
-    (subst (λ (u : RegionsView). IsSeamVerdict (raster_in p) (open_in p) (label_at v) v.count (shifted_cycles s u c.args.tiles.now.results c.args.seams.now.offsets.items) (flows_in p) c.in_ok-verdict.verdict) c.in_ok-tiled.ensures.regions said))
+    (subst (λ (u : RegionsView). IsSeamVerdict (raster_in p) (open_in p) (region_label v) v.count (shifted_cycles s u c.args.tiles.now.results c.args.seams.now.offsets.items) (flows_in p) c.in_ok-verdict.verdict) c.in_ok-tiled.ensures.regions said))

@@ -4,7 +4,7 @@ use Rattle.std.specs.Option.{is_some}
 use Rattle.std.proofs.lemmas.Result.{IfOk-weaker}
 use Rattle.raster_model.specs.declared.tiling.Window.{Window}
 use Rattle.raster_model.specs.Scene.{raster_of}
-use Rattle.dual_grid.specs.Answers.{IsAnswer}
+use Rattle.dual_grid.specs.Answers.{AreCertifiedCorrections}
 use Rattle.wrapped_gradient.specs.Gradients.{HasNoResidue}
 use Rattle.dual_grid.proofs.CallerLemmas.{grid_stays}
 use Rattle.tile_solver.specs.Zeros.{IsWithoutResidue}
@@ -26,7 +26,7 @@ returns-then-is_none c =
       none = where_none c.first_residue.result (HasNoResidue g) (c.if-is_none.ensures {u = tt}) c.first_residue.ensures.none;
     } in
     IfOk-weaker c.no_corrections.result _ _
-    (λ made answers mask told. subst (λ (v : Window). IsAnswer (raster_of s) mask c.args.tile v made.0 made.1.items) c.requires.window (answers s c.args.tile mask without))
+    (λ made answers mask told. subst (λ (v : Window). AreCertifiedCorrections (raster_of s) mask c.args.tile v made.0 made.1.items) c.requires.window (answers s c.args.tile mask without))
     c.no_corrections.ensures
 
 pub empty-requires : goal.empty-requires

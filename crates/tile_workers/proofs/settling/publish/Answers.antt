@@ -1,4 +1,3 @@
-use Rattle.board_desk.proofs.Publications.{current_before}
 use Rattle.tile_workers.proofs.FreshLemmas.{legal_called}
 use Rattle.tile_workers.proofs.GatherLemmas.{gathered_there}
 use Rattle.tile_workers.proofs.settling.publish.Goals as goal
@@ -17,10 +16,10 @@ publish_over-requires-clause-regions g c =
     let regions = rw c.deref.ensures at c.in_ok-regions.ensures in
     rw there.session at regions
 
-pub returns-in-Ok-clause-fresh : goal.returns-in-Ok-clause-fresh
-returns-in-Ok-clause-fresh g c =
+pub returns-in-Ok-clause-present : goal.returns-in-Ok-clause-present
+returns-in-Ok-clause-present g c =
     let now = rw (c.in-Ok.is, c.in_ok-seams.ensures.revision) at c.publish_over.ensures.fresh in
-    current_before c.args.desk.now.session c.args.pass.now c.gather.new.pass c.publish_over.new.pass c.in-Some.gathered.revision _ c.gather.ensures.more.later c.publish_over.ensures.call now
+    now.1
 
 pub returns-in-Ok-clause-legal : goal.returns-in-Ok-clause-legal
 returns-in-Ok-clause-legal g c = legal_called c.args.desk.now.session c.gather.new.pass c.publish_over.new.pass _ c.publish_over.ensures.call

@@ -12,10 +12,9 @@ returns-in-Ok-Settled-clause-fresh g c =
 
 pub returns-in-Some-2-clause-fresh : goal.returns-in-Some-2-clause-fresh
 returns-in-Some-2-clause-fresh g c =
-    let now = rw c.in-Some-2.is at c.in_ok-revision.ensures.fresh in
+    let now = rw c.in-Some-2.is at c.in_ok-revision.ensures.present in
     let legal = rw c.in-Some-2.is at c.in_ok-revision.ensures.legal in
     let called = later_called c.args.desk.now.session c.loop.pass c.advance.new.pass _ c.advance.ensures.call in
-    let published = later_trans c.advance.new.pass c.solve_tiles.new.pass c.publish.new.pass c.solve_tiles.ensures.later c.publish.ensures.later in
     let later =
-    later_trans c.args.pass.now c.loop.pass c.publish.new.pass c.loop.invariant.1.1.later (later_trans c.loop.pass c.advance.new.pass c.publish.new.pass called published) in
-    current_since c.args.desk.now.session c.args.pass.now c.publish.new.pass c.in-Some-2.revision later.seen legal now.1
+    later_trans c.args.pass.now c.loop.pass c.try_settle.new.pass c.loop.invariant.1.1.later (later_trans c.loop.pass c.advance.new.pass c.try_settle.new.pass called c.try_settle.ensures.later) in
+    current_since c.args.desk.now.session c.args.pass.now c.try_settle.new.pass c.in-Some-2.revision later.seen legal now

@@ -14,18 +14,18 @@ load_new_seat-seat-requires g c = (search rules, sits c.self.inside.table.shared
 pub loop-pass-init : goal.loop-pass-init
 loop-pass-init g c = record {
   own = refl;
-  holds = ap (λ (p : Place). p.0.holds) c.take_board-board.ensures.held.now;
+  holds = ap (λ (p : Place). p.0.holds) c.take_board-home.ensures.held.now;
   same = refl;
   passes = c.requires;
-  rest = ([], append-nil c.args.passes.items, All-nil (Stands c.take_board-board.result.entries));
+  rest = ([], append-nil c.args.passes.items, All-nil (Stands c.take_board-home.result.entries));
 }
 
 pub loop-pass-preserved : goal.loop-pass-preserved
 loop-pass-preserved g c =
     let two = popped (IsPassOf c.args.self) c.loop-pass.passes.items c.pop.new.self.items c.in-Some.pass c.in-Some.ensures.items c.loop-pass.invariant.passes in
     let rest = c.loop-pass.invariant.rest in
-    let seen = ap (λ (x : Claim). x.seen) c.loop-pass.invariant.same ∙ held_seen c.load_new_seat-seat.result.1.me.0 c.take_board-board.result c.take_board-board.new.seat.me c.take_board-board.ensures.held in
-    let one = stands_at c.loop-pass.seat.me.0.own.seen c.take_board-board.result.entries c.in-Some.pass seen c.meet.ensures.stands in
+    let seen = ap (λ (x : Claim). x.seen) c.loop-pass.invariant.same ∙ held_seen c.load_new_seat-seat.result.1.me.0 c.take_board-home.result c.take_board-home.new.seat.me c.take_board-home.ensures.held in
+    let one = stands_at c.loop-pass.seat.me.0.own.seen c.take_board-home.result.entries c.in-Some.pass seen c.meet.ensures.stands in
     record {
       own = c.meet.ensures.own ∙ c.loop-pass.invariant.own;
       holds = c.meet.ensures.holds.0;
@@ -34,11 +34,11 @@ loop-pass-preserved g c =
       rest = (
         c.in-Some.pass ∷ rest.0,
         moved_on c.loop-pass.passes.items c.pop.new.self.items rest.0 c.args.passes.items c.in-Some.pass c.in-Some.ensures.items rest.1,
-        All-cons (Stands c.take_board-board.result.entries) c.in-Some.pass rest.0 one rest.2,
+        All-cons (Stands c.take_board-home.result.entries) c.in-Some.pass rest.0 one rest.2,
       );
     }
 
 pub returns-clause-stands : goal.returns-clause-stands
 returns-clause-stands g c =
     let rest = c.loop-pass.invariant.rest in
-    all_stand c.take_board-board.result.entries c.args.passes.items c.loop-pass.passes.items rest.0 rest.1 (search rules) rest.2
+    all_stand c.take_board-home.result.entries c.args.passes.items c.loop-pass.passes.items rest.0 rest.1 (search rules) rest.2

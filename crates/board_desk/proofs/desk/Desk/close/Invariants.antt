@@ -9,7 +9,7 @@ invariant-loop-pass g l = record {
   holds : l.seat.me.0.holds ≡ true;
   same : l.seat.me.0.own ≡ l.initial.seat.me.0.own;
   passes : All (IsPassOf l.fn.self) l.passes.items;
-  rest : (done : List PassView) × (l.passes.items ++ done ≡ l.initial.passes.items) × All (Stands l.board.entries) done;
+  rest : (done : List PassView) × (l.passes.items ++ done ≡ l.initial.passes.items) × All (Stands l.home.entries) done;
 }
 
 abbrev pub decreases-loop-pass : goal.decreases-loop-pass

@@ -1,7 +1,7 @@
 use Rattle.std.proofs.Common.{◌≡◌, ℕ, ◌+◌, ◌*◌, ◌∙◌, arith, rules, sym, get_or, pos, length}
 use Rattle.std.proofs.lemmas.Int.{ints}
 use Rattle.raster_model.proofs.FlowLemmas.{before-none, before-row, before-next}
-use Rattle.certificates.specs.FlowWords.{raster_in}
+use Rattle.certificates.specs.FlowWords.{held_raster}
 use Rattle.certificates.proofs.FlowSums.{zeros, so_far_none, so_far_more, so_far_row, so_far_all}
 use Rattle.certificates.proofs.PassLemmas.{before_past, so_far_past}
 use Rattle.certificates.proofs.SeamLemmas.{within_more, few_moves}
@@ -13,7 +13,7 @@ loop-y-init c =
     let k = c.args.self.now in
     let z : (v : ℕ) → get_or c.fill.new.self v (pos 0) ≡ pos 0 = zeros c.fill.new.self (length c.args.sums.now) (c.fill.ensures.after (λ y e. search rules)) in
     record {
-      counted = before-none (raster_in k);
+      counted = before-none (held_raster k);
       few = omega arith;
       so_far = so_far_none k c.args.labels.now c.fill.new.self z;
       sizes = λ v. omega (arith, ints, z v);
@@ -26,7 +26,7 @@ loop-x-init c =
     let to = c.next_start-x.ensures in
     record {
       within = to.place.1;
-      counted = c.loop-y.invariant.counted ∙ sym (before_past (raster_in k) 0 x c.loop-y.y to.passed to.place.0);
+      counted = c.loop-y.invariant.counted ∙ sym (before_past (held_raster k) 0 x c.loop-y.y to.passed to.place.0);
       few = omega (arith, c.loop-y.invariant.few);
       so_far = so_far_past k 0 x c.loop-y.y to.passed to.place.0 to.place.1 c.loop-y-test.true c.args.labels.now c.loop-y.sums c.loop-y.invariant.so_far;
       sizes = λ v. (let m = c.loop-y.invariant.sizes v in omega (arith, m));
@@ -47,8 +47,8 @@ loop-x-preserved c =
     let to = c.next_start-x-in-loop-x.ensures in
     record {
       within = to.place.1;
-      counted = omega (arith, c.loop-x.invariant.counted, c.seams_from-before.ensures.value, before-next (raster_in k) c.loop-x.x c.loop-y.y, before_past (raster_in k) (c.loop-x.x + 1) x c.loop-y.y to.passed to.place.0);
-      few = omega (arith, c.loop-x.invariant.few, c.seams_from-before.ensures.few, to.place.0);
+      counted = omega (arith, c.loop-x.invariant.counted, c.seams_from-place.ensures.value, before-next (held_raster k) c.loop-x.x c.loop-y.y, before_past (held_raster k) (c.loop-x.x + 1) x c.loop-y.y to.passed to.place.0);
+      few = omega (arith, c.loop-x.invariant.few, c.seams_from-place.ensures.few, to.place.0);
       so_far = so_far_past k (c.loop-x.x + 1) x c.loop-y.y to.passed to.place.0 to.place.1 c.loop-y-test.true c.args.labels.now c.move_flows_from.new.sums (so_far_more k c.args.labels.now c.loop-x.x c.loop-y.y c.loop-x.sums c.move_flows_from.new.sums c.loop-x.invariant.so_far c.move_flows_from.ensures.grown);
       sizes = λ v. (let m = c.move_flows_from.ensures.within (4 * (4096 * c.loop-y.y + c.loop-x.x)) c.loop-x.invariant.sizes v in omega (arith, m, to.place.0));
     }
@@ -59,7 +59,7 @@ loop-x-smaller c = omega (arith, c.next_start-x-in-loop-x.ensures.place.0, c.loo
 pub loop-y-preserved : goal.loop-y-preserved
 loop-y-preserved c =
     let k = c.args.self.now in
-    let r = raster_in k in
+    let r = held_raster k in
     let e : c.loop-x.x ≡ r.width = omega (arith, c.loop-x.invariant.within, c.loop-x-test.false) in
     record {
       counted = (rw e at c.loop-x.invariant.counted) ∙ sym (before-row r c.loop-y.y);

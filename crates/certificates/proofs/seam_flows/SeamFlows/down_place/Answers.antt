@@ -2,7 +2,7 @@ use Rattle.std.proofs.Common.{◌≡◌, ◌∙◌, ◌≤◌, ap, arith, Bool, 
 use Rattle.raster_model.specs.Sums.{right_edge}
 use Rattle.raster_model.specs.Flows.{is_seam_edge}
 use Rattle.raster_model.proofs.FlowLemmas.{place-down}
-use Rattle.certificates.specs.FlowWords.{raster_in}
+use Rattle.certificates.specs.FlowWords.{held_raster}
 use Rattle.certificates.proofs.seam_flows.SeamFlows.down_place.Goals as goal
 use mir.Val.{bool_byte}
 use Rattle.sums_and_lists.specs.Sums.{one_if}
@@ -22,6 +22,6 @@ overflow_add-result c =
 
 pub returns : goal.returns
 returns c =
-    let r = raster_in c.args.self.now in
+    let r = held_raster c.args.self.now in
     let added : c.from.result ≡ one_if (is_seam_edge r (right_edge c.args.x c.args.y)) = c.from.ensures ∙ byte_is c.is_seam_edge.result ∙ ap one_if c.is_seam_edge.ensures in
     (c.requires.start.0, c.requires.start.1, omega (arith, c.requires.start.2, added, place-down r c.args.x c.args.y))

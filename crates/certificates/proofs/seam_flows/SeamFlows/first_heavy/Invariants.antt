@@ -1,14 +1,14 @@
 use Rattle.std.proofs.Common.{◌≡◌, ◌+◌, ◌*◌, ◌≤◌, ◌-◌}
 use Rattle.raster_model.specs.Flows.{seams_before}
 use Rattle.certificates.specs.EdgeWords.{HoldsBefore}
-use Rattle.certificates.specs.FlowWords.{raster_in, IsSeamOf, FlowFitsAt, IsSmallAt}
+use Rattle.certificates.specs.FlowWords.{held_raster, IsSeamOf, FlowFitsAt, IsSmallAt}
 use Rattle.certificates.proofs.seam_flows.SeamFlows.first_heavy.Given as goal
 
 abbrev pub invariant-loop-x : goal.invariant-loop-x
 invariant-loop-x l = record {
   within : l.x ≤ l.self.scene.now.phase.width;
-  counted : l.before ≡ seams_before (raster_in l.self) l.x l.y;
-  few : l.before ≤ 2 * (4096 * l.y + l.x);
+  counted : l.place ≡ seams_before (held_raster l.self) l.x l.y;
+  few : l.place ≤ 2 * (4096 * l.y + l.x);
   fit : HoldsBefore (IsSeamOf l.self) (FlowFitsAt l.self) l.x l.y;
   small : HoldsBefore (IsSeamOf l.self) (IsSmallAt l.self) l.x l.y;
 }
@@ -18,8 +18,8 @@ decreases-loop-x l = l.self.scene.now.phase.width - l.x
 
 abbrev pub invariant-loop-y : goal.invariant-loop-y
 invariant-loop-y l = record {
-  counted : l.before ≡ seams_before (raster_in l.self) 0 l.y;
-  few : l.before ≤ 2 * (4096 * l.y);
+  counted : l.place ≡ seams_before (held_raster l.self) 0 l.y;
+  few : l.place ≤ 2 * (4096 * l.y);
   fit : HoldsBefore (IsSeamOf l.self) (FlowFitsAt l.self) 0 l.y;
   small : HoldsBefore (IsSeamOf l.self) (IsSmallAt l.self) 0 l.y;
 }

@@ -1,12 +1,12 @@
 use Rattle.std.proofs.Common.{sym, ◌∙◌}
 use Rattle.raster_model.proofs.FlowLemmas.{place-right}
-use Rattle.certificates.specs.FlowWords.{raster_in, IsSeamOf, FlowFitsAt, IsSmallAt}
+use Rattle.certificates.specs.FlowWords.{held_raster, IsSeamOf, FlowFitsAt, IsSmallAt}
 use Rattle.certificates.proofs.EdgeLemmas.{right_first, down_first, both_hold}
 use Rattle.certificates.proofs.seam_flows.SeamFlows.first_heavy_from.Goals as goal
 
 pub is_heavy-requires : goal.is_heavy-requires
 is_heavy-requires c =
-    record { placed = (c.requires.start.0, c.requires.start.1, c.requires.start.2 ∙ sym (place-right (raster_in c.args.self.now) c.args.x c.args.y)) }
+    record { placed = (c.requires.start.0, c.requires.start.1, c.requires.start.2 ∙ sym (place-right (held_raster c.args.self.now) c.args.x c.args.y)) }
 
 pub returns-then-is_heavy-clause-found : goal.returns-then-is_heavy-clause-found
 returns-then-is_heavy-clause-found c =

@@ -1,13 +1,13 @@
 use Rattle.std.proofs.Common.{◌+◌, ◌∙◌, arith, sym}
 use Rattle.raster_model.proofs.FlowLemmas.{place-right}
-use Rattle.certificates.specs.FlowWords.{raster_in}
+use Rattle.certificates.specs.FlowWords.{held_raster}
 use Rattle.certificates.proofs.FlowSums.{moved_both}
 use Rattle.certificates.proofs.SeamLemmas.{within_more}
 use Rattle.certificates.proofs.seam_flows.SeamFlows.move_flows_from.Goals as goal
 
 pub move_flow-requires : goal.move_flow-requires
 move_flow-requires c = record {
-  placed = (c.requires.start.0, c.requires.start.1, c.requires.start.2 ∙ sym (place-right (raster_in c.args.self.now) c.args.x c.args.y));
+  placed = (c.requires.start.0, c.requires.start.1, c.requires.start.2 ∙ sym (place-right (held_raster c.args.self.now) c.args.x c.args.y));
   fit = c.requires.fit;
   labels = c.requires.labels;
   small = within_more 536870912 1073741824 c.args.sums.now (omega arith) c.requires.small;

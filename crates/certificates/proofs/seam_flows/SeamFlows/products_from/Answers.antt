@@ -1,13 +1,13 @@
 use Rattle.std.proofs.Common.{◌∙◌, sym}
 use Rattle.raster_model.proofs.FlowLemmas.{place-right}
-use Rattle.certificates.specs.FlowWords.{raster_in}
+use Rattle.certificates.specs.FlowWords.{held_raster}
 use Rattle.certificates.proofs.FlowSums.{product_both}
 use Rattle.certificates.proofs.SeamLemmas.{products_fit}
 use Rattle.certificates.proofs.seam_flows.SeamFlows.products_from.Goals as goal
 
 pub product-requires : goal.product-requires
 product-requires g c = record {
-  placed = (c.requires.start.0, c.requires.start.1, c.requires.start.2 ∙ sym (place-right (raster_in c.args.self.now) c.args.x c.args.y));
+  placed = (c.requires.start.0, c.requires.start.1, c.requires.start.2 ∙ sym (place-right (held_raster c.args.self.now) c.args.x c.args.y));
   fit = c.requires.fit;
   known = c.requires.known;
 }

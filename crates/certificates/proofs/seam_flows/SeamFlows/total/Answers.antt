@@ -3,7 +3,7 @@ use Rattle.std.specs.Int.{w128}
 use Rattle.raster_model.proofs.BoxSums.{column_more}
 use Rattle.raster_model.proofs.PartLemmas.{grid_none, row_none, grid_next, grid_all}
 use Rattle.raster_model.proofs.FlowLemmas.{before-none, before-row, before-next}
-use Rattle.certificates.specs.FlowWords.{raster_in, product_from}
+use Rattle.certificates.specs.FlowWords.{held_raster, product_from}
 use Rattle.certificates.proofs.PassLemmas.{before_past, product_past}
 use Rattle.certificates.proofs.SeamLemmas.{flow_sum_fits, pixels_before}
 use Rattle.certificates.proofs.FlowSums.{total_is}
@@ -14,7 +14,7 @@ pub loop-y-init : goal.loop-y-init
 loop-y-init g c =
     let k = c.args.self.now in
     record {
-      counted = before-none (raster_in k);
+      counted = before-none (held_raster k);
       few = omega arith;
       sum = grid_none k.scene.now.phase.width (product_from k (g.H.Heights.cycles_at c.args.heights.now));
       small = omega arith;
@@ -27,7 +27,7 @@ loop-x-init g c =
     let to = c.next_start-x.ensures in
     record {
       within = to.place.1;
-      counted = c.loop-y.invariant.counted ∙ sym (before_past (raster_in k) 0 x c.loop-y.y to.passed to.place.0);
+      counted = c.loop-y.invariant.counted ∙ sym (before_past (held_raster k) 0 x c.loop-y.y to.passed to.place.0);
       few = omega (arith, c.loop-y.invariant.few);
       sum = product_past k 0 x c.loop-y.y to.passed to.place.0 to.place.1 c.loop-y-test.true (g.H.Heights.cycles_at c.args.heights.now) _ _ (row_none k.scene.now.phase.width c.loop-y.y (product_from k (g.H.Heights.cycles_at c.args.heights.now)) _ c.loop-y.invariant.sum);
       small = omega (arith, c.loop-y.invariant.small);
@@ -52,8 +52,8 @@ loop-x-preserved g c =
     let to = c.next_start-x-in-loop-x.ensures in
     record {
       within = to.place.1;
-      counted = omega (arith, c.loop-x.invariant.counted, c.seams_from-before.ensures.value, before-next (raster_in k) c.loop-x.x c.loop-y.y, before_past (raster_in k) (c.loop-x.x + 1) x c.loop-y.y to.passed to.place.0);
-      few = omega (arith, c.loop-x.invariant.few, c.seams_from-before.ensures.few, to.place.0);
+      counted = omega (arith, c.loop-x.invariant.counted, c.seams_from-place.ensures.value, before-next (held_raster k) c.loop-x.x c.loop-y.y, before_past (held_raster k) (c.loop-x.x + 1) x c.loop-y.y to.passed to.place.0);
+      few = omega (arith, c.loop-x.invariant.few, c.seams_from-place.ensures.few, to.place.0);
       sum = product_past k (c.loop-x.x + 1) x c.loop-y.y to.passed to.place.0 to.place.1 c.loop-y-test.true (g.H.Heights.cycles_at c.args.heights.now) _ _ (fit.0 ∙ column_more (product_from k (g.H.Heights.cycles_at c.args.heights.now)) c.loop-x.x c.loop-y.y _ _ _ c.loop-x.invariant.sum c.products_from-total.ensures.value);
       small = rw fit.0 (omega (arith, fit.1, to.place.0));
     }
@@ -64,7 +64,7 @@ loop-x-smaller g c = omega (arith, c.next_start-x-in-loop-x.ensures.place.0, c.l
 pub loop-y-preserved : goal.loop-y-preserved
 loop-y-preserved g c =
     let k = c.args.self.now in
-    let r = raster_in k in
+    let r = held_raster k in
     let e : c.loop-x.x ≡ r.width = omega (arith, c.loop-x.invariant.within, c.loop-x-test.false) in
     record {
       counted = (rw e at c.loop-x.invariant.counted) ∙ sym (before-row r c.loop-y.y);
@@ -76,7 +76,7 @@ loop-y-preserved g c =
 pub returns : goal.returns
 returns g c =
     let k = c.args.self.now in
-    let r = raster_in k in
+    let r = held_raster k in
     grid_all r.width r.height c.loop-y.y (product_from k (g.H.Heights.cycles_at c.args.heights.now)) _ (omega arith) c.loop-y.invariant.sum ∙ total_is k (g.H.Heights.cycles_at c.args.heights.now)
 
 pub returns-then-are_zeros : goal.returns-then-are_zeros

@@ -2,14 +2,14 @@ use Rattle.std.proofs.Common.{◌≡◌, ◌*◌, ◌+◌, ◌≤◌, ◌^◌, �
 use Rattle.std.specs.Prelude.{unsigned_abs}
 use Rattle.raster_model.specs.Flows.{seams_before}
 use Rattle.raster_model.specs.Sums.{sum_row, sum_grid}
-use Rattle.certificates.specs.FlowWords.{raster_in, product_from}
+use Rattle.certificates.specs.FlowWords.{held_raster, product_from}
 use Rattle.certificates.proofs.seam_flows.SeamFlows.total.Given as goal
 
 abbrev pub invariant-loop-x : goal.invariant-loop-x
 invariant-loop-x g l = record {
   within : l.x ≤ l.self.scene.now.phase.width;
-  counted : l.before ≡ seams_before (raster_in l.self) l.x l.y;
-  few : l.before ≤ 2 * (4096 * l.y + l.x);
+  counted : l.place ≡ seams_before (held_raster l.self) l.x l.y;
+  few : l.place ≤ 2 * (4096 * l.y + l.x);
   sum : l.total ≡ sum_grid l.self.scene.now.phase.width l.y (product_from l.self (g.H.Heights.cycles_at l.heights)) +ℤ sum_row l.x (product_from l.self (g.H.Heights.cycles_at l.heights)) l.y;
   small : unsigned_abs l.total ≤ 2 * 65535 * (2 ^ 49 + 1) * (4096 * l.y + l.x);
 }
@@ -19,8 +19,8 @@ decreases-loop-x g l = l.self.scene.now.phase.width - l.x
 
 abbrev pub invariant-loop-y : goal.invariant-loop-y
 invariant-loop-y g l = record {
-  counted : l.before ≡ seams_before (raster_in l.self) 0 l.y;
-  few : l.before ≤ 2 * (4096 * l.y);
+  counted : l.place ≡ seams_before (held_raster l.self) 0 l.y;
+  few : l.place ≤ 2 * (4096 * l.y);
   sum : l.total ≡ sum_grid l.self.scene.now.phase.width l.y (product_from l.self (g.H.Heights.cycles_at l.heights));
   small : unsigned_abs l.total ≤ 2 * 65535 * (2 ^ 49 + 1) * (4096 * l.y);
 }

@@ -1,15 +1,15 @@
 use Rattle.std.proofs.Common.{sym, arith}
 use Rattle.raster_model.specs.Sums.{sum_row}
 use Rattle.raster_model.proofs.WindowCosts.{rows_start, total}
-use Rattle.certificates.specs.TileWords.{mask_in, surface_at, cost_at}
+use Rattle.certificates.specs.TileWords.{held_mask, surface_of_cycles, cost_at}
 use Rattle.certificates.proofs.SeamCosts.{adds}
 use Rattle.certificates.proofs.tile.Tile.cost.Goals as goal
 
 pub loop-y-init : goal.loop-y-init
 loop-y-init g c =
     let k = c.args.self.now in
-    let S = surface_at k (g.H.Heights.cycles_at c.args.heights.now) in
-    record { sum = sym (rows_start k.scene.now (mask_in k) S k.number k.window k.pixels); small = omega arith }
+    let S = surface_of_cycles k (g.H.Heights.cycles_at c.args.heights.now) in
+    record { sum = sym (rows_start k.scene.now (held_mask k) S k.number k.window k.pixels); small = omega arith }
 
 pub loop-y-preserved : goal.loop-y-preserved
 loop-y-preserved g c =
@@ -23,5 +23,5 @@ loop-y-preserved g c =
 pub returns : goal.returns
 returns g c =
     let k = c.args.self.now in
-    let S = surface_at k (g.H.Heights.cycles_at c.args.heights.now) in
-    total k.scene.now (mask_in k) S k.number k.window k.pixels c.loop-y.y _ (omega arith) c.loop-y.invariant.sum
+    let S = surface_of_cycles k (g.H.Heights.cycles_at c.args.heights.now) in
+    total k.scene.now (held_mask k) S k.number k.window k.pixels c.loop-y.y _ (omega arith) c.loop-y.invariant.sum

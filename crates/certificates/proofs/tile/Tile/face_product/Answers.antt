@@ -2,7 +2,7 @@ use Rattle.std.proofs.Common.{◌∙◌, sym, ap₂}
 use Rattle.std.specs.Prelude.{ℤ, ◌*ℤ◌}
 use Rattle.raster_model.specs.Certificates.{face_product}
 use Rattle.raster_model.specs.Cells.{face_at}
-use Rattle.certificates.specs.TileWords.{raster_in}
+use Rattle.certificates.specs.TileWords.{held_raster}
 use Rattle.certificates.proofs.FaceLemmas.{no_product, products_of_faces, ends_in_raster}
 use Rattle.certificates.proofs.SeamLemmas.{is_zero}
 use Rattle.certificates.proofs.tile.Tile.face_product.Goals as goal
@@ -10,7 +10,7 @@ use Rattle.certificates.proofs.tile.Tile.face_product.Goals as goal
 pub residue-requires : goal.residue-requires
 residue-requires c =
     let k = c.args.self.now in
-    let e = ends_in_raster k.scene.now k.number k.window k.pixels (face_at (raster_in k) k.number c.args.faces.now) c.args.x c.args.y c.requires.cell in
+    let e = ends_in_raster k.scene.now k.number k.window k.pixels (face_at (held_raster k) k.number c.args.faces.now) c.args.x c.args.y c.requires.cell in
     record { across = e.0; along = e.1 }
 
 pub overflow_mul-result : goal.overflow_mul-result

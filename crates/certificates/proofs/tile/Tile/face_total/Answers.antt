@@ -3,7 +3,7 @@ use Rattle.std.specs.Int.{w128}
 use Rattle.raster_model.specs.Certificates.{face_total}
 use Rattle.raster_model.specs.Cells.{face_at}
 use Rattle.raster_model.proofs.BoxSums.{column_more, part_starts, row_starts, row_more, part_ends}
-use Rattle.certificates.specs.TileWords.{raster_in, product_at}
+use Rattle.certificates.specs.TileWords.{held_raster, product_at}
 use Rattle.certificates.proofs.FaceLemmas.{sum_fits, cells_before_fit, product_outside, cells_across_fit, cells_along_fit}
 use Rattle.certificates.proofs.tile.Tile.face_total.Goals as goal
 
@@ -12,7 +12,7 @@ loop-y-init c =
     let k = c.args.self.now in
     let s = k.scene.now in
     let v = k.window in
-    let f = face_at (raster_in k) k.number c.args.faces.now in
+    let f = face_at (held_raster k) k.number c.args.faces.now in
     record {
       sum = part_starts s.phase.width s.phase.height v.x0 v.x1 v.y0 v.y1 (product_at k c.args.faces.now) (cells_across_fit s k.number v k.pixels f) (cells_along_fit s k.number v k.pixels f) (product_outside s k.number v k.pixels f);
       small = omega arith;
@@ -23,7 +23,7 @@ loop-x-init c =
     let k = c.args.self.now in
     let s = k.scene.now in
     let v = k.window in
-    let f = face_at (raster_in k) k.number c.args.faces.now in
+    let f = face_at (held_raster k) k.number c.args.faces.now in
     record {
       sum = row_starts s.phase.width s.phase.height v.x0 v.x1 v.y0 v.y1 (product_at k c.args.faces.now) (cells_across_fit s k.number v k.pixels f) (cells_along_fit s k.number v k.pixels f) (product_outside s k.number v k.pixels f) c.loop-y.y _ (omega arith) c.loop-y.invariant.sum;
       small = omega (arith, c.loop-y.invariant.small);
@@ -32,13 +32,13 @@ loop-x-init c =
 pub overflow_add-total : goal.overflow_add-total
 overflow_add-total c =
     let k = c.args.self.now in
-    let f = face_at (raster_in k) k.number c.args.faces.now in
+    let f = face_at (held_raster k) k.number c.args.faces.now in
     (sum_fits (to_z w128 c.loop-x.total-bits) c.face_product-total.result c.loop-x.x c.loop-y.y c.loop-x.invariant.small c.face_product-total.ensures.small (cells_before_fit k.scene.now k.number k.window k.pixels f c.loop-x.x c.loop-y.y c.loop-x-test.true c.loop-y-test.true)).2
 
 pub loop-x-preserved : goal.loop-x-preserved
 loop-x-preserved c =
     let k = c.args.self.now in
-    let f = face_at (raster_in k) k.number c.args.faces.now in
+    let f = face_at (held_raster k) k.number c.args.faces.now in
     let fit = sum_fits (to_z w128 c.loop-x.total-bits) c.face_product-total.result c.loop-x.x c.loop-y.y c.loop-x.invariant.small c.face_product-total.ensures.small (cells_before_fit k.scene.now k.number k.window k.pixels f c.loop-x.x c.loop-y.y c.loop-x-test.true c.loop-y-test.true) in
     record {
       sum = fit.0 ∙ column_more (product_at k c.args.faces.now) c.loop-x.x c.loop-y.y _ _ _ c.loop-x.invariant.sum c.face_product-total.ensures.value;
@@ -50,7 +50,7 @@ loop-y-preserved c =
     let k = c.args.self.now in
     let s = k.scene.now in
     let v = k.window in
-    let f = face_at (raster_in k) k.number c.args.faces.now in
+    let f = face_at (held_raster k) k.number c.args.faces.now in
     record {
       sum = row_more s.phase.width s.phase.height v.x0 v.x1 v.y0 v.y1 (product_at k c.args.faces.now) (cells_across_fit s k.number v k.pixels f) (cells_along_fit s k.number v k.pixels f) (product_outside s k.number v k.pixels f) c.loop-x.x c.loop-y.y _ (omega arith) (omega arith) c.loop-x.invariant.sum;
       small = omega (arith, c.loop-x.invariant.small, k.pixels.across, k.scene.now.tiling.wide);
@@ -62,5 +62,5 @@ returns c =
     let k = c.args.self.now in
     let s = k.scene.now in
     let v = k.window in
-    let f = face_at (raster_in k) k.number c.args.faces.now in
+    let f = face_at (held_raster k) k.number c.args.faces.now in
     part_ends s.phase.width s.phase.height v.x0 v.x1 v.y0 v.y1 (product_at k c.args.faces.now) (cells_across_fit s k.number v k.pixels f) (cells_along_fit s k.number v k.pixels f) (product_outside s k.number v k.pixels f) c.loop-y.y _ (omega arith) c.loop-y.invariant.sum

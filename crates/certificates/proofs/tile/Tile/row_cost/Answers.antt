@@ -1,16 +1,16 @@
 use Rattle.std.proofs.Common.{◌≡◌, ◌+◌, ◌≤◌, ◌∙◌, ℕ, ap, sym, arith}
 use Rattle.raster_model.specs.Sums.{sum_row}
 use Rattle.raster_model.proofs.WindowCosts.{row_starts, row_ends}
-use Rattle.certificates.specs.TileWords.{mask_in, surface_at, cost_at}
+use Rattle.certificates.specs.TileWords.{held_mask, surface_of_cycles, cost_at}
 use Rattle.certificates.proofs.SeamCosts.{adds}
 use Rattle.certificates.proofs.tile.Tile.row_cost.Goals as goal
 
 pub loop-x-init : goal.loop-x-init
 loop-x-init g c =
     let k = c.args.self.now in
-    let S = surface_at k (g.H.Heights.cycles_at c.args.heights.now) in
+    let S = surface_of_cycles k (g.H.Heights.cycles_at c.args.heights.now) in
     record {
-      sum = sym (row_starts k.scene.now (mask_in k) S k.number k.window k.pixels c.args.y (omega (arith, c.requires.row, k.pixels.along, k.scene.now.same_height)));
+      sum = sym (row_starts k.scene.now (held_mask k) S k.number k.window k.pixels c.args.y (omega (arith, c.requires.row, k.pixels.along, k.scene.now.same_height)));
       small = omega arith;
     }
 
@@ -26,12 +26,12 @@ loop-x-preserved g c =
 pub returns-clause-value : goal.returns-clause-value
 returns-clause-value g c =
     let k = c.args.self.now in
-    let S = surface_at k (g.H.Heights.cycles_at c.args.heights.now) in
+    let S = surface_of_cycles k (g.H.Heights.cycles_at c.args.heights.now) in
     let f = cost_at k (g.H.Heights.cycles_at c.args.heights.now) in
     let e : c.loop-x.x ≡ k.window.x1 + 1 = omega arith in
     c.loop-x.invariant.sum
     ∙ ap (λ (n : ℕ). sum_row n f c.args.y) e
-    ∙ sym (row_ends k.scene.now (mask_in k) S k.number k.window k.pixels c.args.y (omega (arith, c.requires.row, k.pixels.along, k.scene.now.same_height)))
+    ∙ sym (row_ends k.scene.now (held_mask k) S k.number k.window k.pixels c.args.y (omega (arith, c.requires.row, k.pixels.along, k.scene.now.same_height)))
 
 pub returns-clause-small : goal.returns-clause-small
 returns-clause-small g c =

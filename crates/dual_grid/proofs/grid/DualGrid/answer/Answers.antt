@@ -5,21 +5,21 @@ use Rattle.raster_model.specs.declared.tiling.Window.{Window}
 use Rattle.raster_model.specs.Tiles.{IsWindowOf}
 use Rattle.raster_model.proofs.TileLemmas.{window_of-pixels}
 use Rattle.raster_model.specs.Scene.{raster_of}
-use Rattle.dual_grid.specs.Answers.{IsAnswer}
+use Rattle.dual_grid.specs.Answers.{AreCertifiedCorrections}
 use Rattle.dual_grid.specs.Starts.{TellsMask}
-use Rattle.dual_grid.specs.Building.{AreFaces, AreFlows}
-use Rattle.dual_grid.specs.Layout.{number_in, weight_in}
+use Rattle.dual_grid.specs.Building.{AreFaces, AreEdgeFlows}
+use Rattle.dual_grid.specs.Layout.{number_or_zero, weight_in}
 use Rattle.dual_grid.specs.Nodes.{rights_of, downs_of}
 use Rattle.dual_grid.proofs.CertificateLemmas.{is_answer}
 use Rattle.dual_grid.proofs.grid.DualGrid.answer.Goals as goal
 
 -- the flows in two lists
-split : (v : Window) (flows right down : List ℤ) (r : ℕ) → r ≡ rights_of v → length flows ≡ rights_of v + downs_of v → right ≡ take r flows → down ≡ drop r flows → (length right ≡ rights_of v) × ((i : ℕ) → i < rights_of v → get_or right i (pos 0) ≡ number_in flows i) × (length down ≡ downs_of v) × ((i : ℕ) → i < downs_of v → get_or down i (pos 0) ≡ number_in flows (rights_of v + i))
+split : (v : Window) (flows right down : List ℤ) (r : ℕ) → r ≡ rights_of v → length flows ≡ rights_of v + downs_of v → right ≡ take r flows → down ≡ drop r flows → (length right ≡ rights_of v) × ((i : ℕ) → i < rights_of v → get_or right i (pos 0) ≡ number_or_zero flows i) × (length down ≡ downs_of v) × ((i : ℕ) → i < downs_of v → get_or down i (pos 0) ≡ number_or_zero flows (rights_of v + i))
 split v flows right down r e count f g = (
   ap length f ∙ length-take-le r flows (omega (arith, e, count)) ∙ e,
   λ i l. ap (λ (zs : List ℤ). get_or zs i (pos 0)) f ∙ get_or-take r flows i (pos 0) (omega (arith, e, l)),
   ap length g ∙ length-drop r flows ∙ omega (arith, e, count),
-  λ i l. ap (λ (zs : List ℤ). get_or zs i (pos 0)) g ∙ get_or-drop r flows i (pos 0) ∙ ap (λ (k : ℕ). number_in flows (k + i)) e,
+  λ i l. ap (λ (zs : List ℤ). get_or zs i (pos 0)) g ∙ get_or-drop r flows i (pos 0) ∙ ap (λ (k : ℕ). number_or_zero flows (k + i)) e,
 )
 
 pub returns : goal.returns
@@ -27,10 +27,10 @@ returns c = λ s t unmasked mask grid exists tells. (
     let g = c.args.self in
     let v = g.window in
     let window = subst (λ (v : Window). IsWindowOf s.tiling t v) (sym grid.window) (window_of-pixels s.tiling t exists) in
-    let told = subst (λ (zs : List ℤ). AreFaces (number_in zs) c.outside.result c.outside.result c.in_ok-faces.faces.items) c.deref.ensures.value c.in_ok-faces.ensures in
-    let faces = subst (λ (n : ℕ). AreFaces (number_in g.potentials.items) n n c.in_ok-faces.faces.items) c.outside.ensures told in
+    let told = subst (λ (zs : List ℤ). AreFaces (number_or_zero zs) c.outside.result c.outside.result c.in_ok-faces.faces.items) c.deref.ensures.value c.in_ok-faces.ensures in
+    let faces = subst (λ (n : ℕ). AreFaces (number_or_zero g.potentials.items) n n c.in_ok-faces.faces.items) c.outside.ensures told in
     let parts = split v g.flows.items c.split_off.new.self.items c.in_ok-down.down.items c.right_count.result c.right_count.ensures g.fit.by_edge c.in_ok-down.ensures.items c.in_ok-down.ensures.tail in
-    let flows : AreFlows v (number_in g.flows.items) (record { right = c.split_off.new.self; down = c.in_ok-down.down }) = record { right_count = parts.0; right = parts.1; down_count = parts.2; down = parts.3 } in
-    subst (λ (w : Window). IsAnswer (raster_of s) mask t w (record { right = c.split_off.new.self; down = c.in_ok-down.down }) c.in_ok-faces.faces.items) grid.window
-    (is_answer s t v window g.small unmasked mask (subst (λ (w : Window). TellsMask w unmasked mask) (sym grid.window) tells) (weight_in g.weights.items) grid.weighed (number_in g.flows.items) (number_in g.excesses.items) (number_in g.potentials.items) g.within g.has_reduced_costs grid.conserved c.requires.balanced c.requires.near
+    let flows : AreEdgeFlows v (number_or_zero g.flows.items) (record { right = c.split_off.new.self; down = c.in_ok-down.down }) = record { right_count = parts.0; right = parts.1; down_count = parts.2; down = parts.3 } in
+    subst (λ (w : Window). AreCertifiedCorrections (raster_of s) mask t w (record { right = c.split_off.new.self; down = c.in_ok-down.down }) c.in_ok-faces.faces.items) grid.window
+    (is_answer s t v window g.small unmasked mask (subst (λ (w : Window). TellsMask w unmasked mask) (sym grid.window) tells) (weight_in g.weights.items) grid.weighed (number_or_zero g.flows.items) (number_or_zero g.excesses.items) (number_or_zero g.potentials.items) g.within g.has_reduced_costs grid.conserved c.requires.balanced c.requires.near
     (record { right = c.split_off.new.self; down = c.in_ok-down.down }) flows c.in_ok-faces.faces.items faces))

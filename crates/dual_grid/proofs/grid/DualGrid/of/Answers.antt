@@ -5,11 +5,11 @@ use Rattle.raster_model.specs.declared.tiling.Window.{Window}
 use Rattle.raster_model.specs.Raster.{residue}
 use Rattle.raster_model.specs.Scene.{raster_of}
 use Rattle.flow_network.specs.Growing.{supply_sizes}
-use Rattle.dual_grid.specs.Building.{AreSupplies, IsSmall}
+use Rattle.dual_grid.specs.Building.{AreCellSupplies, IsSmallWindow}
 use Rattle.dual_grid.specs.Nodes.{cells_of}
 use Rattle.dual_grid.specs.Grids.{AreWeighed}
-use Rattle.dual_grid.specs.Starts.{IsAtStart, open_in}
-use Rattle.dual_grid.specs.Layout.{FitTogether, number_in, shape_by, state_by, weight_in}
+use Rattle.dual_grid.specs.Starts.{IsAtStart, open_in_window}
+use Rattle.dual_grid.specs.Layout.{FitGrid, number_or_zero, shape_by, state_by, weight_in}
 use Rattle.dual_grid.proofs.ArcLemmas.{grid_is_network}
 use Rattle.dual_grid.proofs.GridLemmas.{grid_is_joined}
 use Rattle.dual_grid.proofs.MakeLemmas.{all_zero, joined_light, joined_weighed, start_at, start_cheap, start_conserved, start_kept, start_room, start_within}
@@ -17,7 +17,7 @@ use Rattle.dual_grid.proofs.StartLemmas.{few_of_scene, scene_even, scene_sizes, 
 use Rattle.dual_grid.proofs.grid.DualGrid.of.Goals as goal
 use Rattle.dual_grid.proofs.grid.DualGrid.of.Goals.{In_ok-potentials}
 
-small : (c : In_ok-potentials) → IsSmall c.window-window.result
+small : (c : In_ok-potentials) → IsSmallWindow c.window-window.result
 small c = let w = c.window-window in tile_is_small c.args.scene.now.tiling c.args.tile w.result w.ensures.pixels w.ensures.small
 
 joined : (c : In_ok-potentials) → c.append.new.self.items ≡ c.in_ok-weights.weights.items ++ c.in_ok-down.down.items
@@ -32,12 +32,12 @@ potentials_are c = c.in_ok-potentials.ensures.items_if_clones_equal (λ y h. h)
 same : (c : In_ok-potentials) → c.window-window.result ≡ c.args.gradients.now.window
 same c = c.window-window.ensures.value ∙ sym c.requires.window
 
-supplies_are : (c : In_ok-potentials) → AreSupplies (residue (raster_of c.args.scene.now)) c.window-window.result c.in_ok-excesses.excesses.items
+supplies_are : (c : In_ok-potentials) → AreCellSupplies (residue (raster_of c.args.scene.now)) c.window-window.result c.in_ok-excesses.excesses.items
 supplies_are c =
-    subst (λ (v : Window). AreSupplies (residue (raster_of c.args.scene.now)) v c.in_ok-excesses.excesses.items) (sym (same c))
+    subst (λ (v : Window). AreCellSupplies (residue (raster_of c.args.scene.now)) v c.in_ok-excesses.excesses.items) (sym (same c))
     (scene_supplies c.args.scene.now c.args.gradients.now c.in_ok-excesses.excesses.items c.requires.gradients c.in_ok-excesses.ensures)
 
-fit : (c : In_ok-potentials) → FitTogether c.window-window.result c.append.new.self.items c.in_ok-flows.flows.items c.in_ok-excesses.excesses.items c.in_ok-potentials.potentials.items
+fit : (c : In_ok-potentials) → FitGrid c.window-window.result c.append.new.self.items c.in_ok-flows.flows.items c.in_ok-excesses.excesses.items c.in_ok-potentials.potentials.items
 fit c =
     let right = c.in_ok-weights.ensures.rows.0 in
     let down = c.in_ok-down.ensures.rows.0 in
@@ -53,14 +53,14 @@ fit c =
       by_height = omega (arith, potentials, nodes, c.len-2.ensures, c.in_ok-excesses.excesses.ok.0, (supplies_are c).count);
     }
 
-light : (c : In_ok-potentials) → (n : ℕ) → unsigned_abs (number_in c.append.new.self.items n) ≤ 65535
+light : (c : In_ok-potentials) → (n : ℕ) → unsigned_abs (number_or_zero c.append.new.self.items n) ≤ 65535
 light c n = rw (joined c) (joined_light c.in_ok-weights.weights.items c.in_ok-down.down.items c.in_ok-weights.ensures.small c.in_ok-down.ensures.small n)
 
-none : (c : In_ok-potentials) → (n : ℕ) → number_in c.in_ok-flows.flows.items n ≡ pos 0
-none c n = ap (λ (zs : List ℤ). number_in zs n) (flows_are c) ∙ all_zero c.len.result n
+none : (c : In_ok-potentials) → (n : ℕ) → number_or_zero c.in_ok-flows.flows.items n ≡ pos 0
+none c n = ap (λ (zs : List ℤ). number_or_zero zs n) (flows_are c) ∙ all_zero c.len.result n
 
-flat : (c : In_ok-potentials) → (n : ℕ) → number_in c.in_ok-potentials.potentials.items n ≡ pos 0
-flat c n = ap (λ (zs : List ℤ). number_in zs n) (potentials_are c) ∙ all_zero c.len-2.result n
+flat : (c : In_ok-potentials) → (n : ℕ) → number_or_zero c.in_ok-potentials.potentials.items n ≡ pos 0
+flat c n = ap (λ (zs : List ℤ). number_or_zero zs n) (potentials_are c) ∙ all_zero c.len-2.result n
 
 sizes : (c : In_ok-potentials) → supply_sizes c.in_ok-excesses.excesses.items ≤ℤ pos (2 * cells_of c.window-window.result)
 sizes c =
@@ -95,7 +95,7 @@ returns-clause-grid c =
     let unmasked = c.args.unmasked.now in
     record {
       window = c.window-window.ensures.value;
-      weighed = subst (λ (zs : List ℤ). AreWeighed (raster_of s) (open_in v unmasked) v (shape_by v zs)) (sym (joined p))
+      weighed = subst (λ (zs : List ℤ). AreWeighed (raster_of s) (open_in_window v unmasked) v (shape_by v zs)) (sym (joined p))
           (joined_weighed s v unmasked c.in_ok-weights.weights.items c.in_ok-down.down.items c.in_ok-weights.ensures.rows c.in_ok-down.ensures.rows);
       conserved = start_conserved v (small p) c.append.new.self.items c.in_ok-flows.flows.items c.in_ok-excesses.excesses.items c.in_ok-potentials.potentials.items (fit p) (light p) (none p) (flat p) (residue (raster_of s)) (supplies_are p);
     }

@@ -1,6 +1,6 @@
 use Rattle.std.proofs.Common.{◌*◌, arith, refl}
 use Rattle.dual_grid.specs.Layout.{weight_in}
-use Rattle.dual_grid.specs.Views.{shape_of}
+use Rattle.dual_grid.specs.Views.{grid_shape}
 use Rattle.dual_grid.proofs.OutLemmas.{next_edge, no_arc, none_across}
 use Rattle.dual_grid.proofs.grid.DualGrid.out_before.Goals as goal
 
@@ -21,4 +21,4 @@ pub returns-in-None : goal.returns-in-None
 returns-in-None c =
     let g = c.args.self.now in
     let below = rw c.in-None.is at c.edge_below.ensures in
-    no_arc (shape_of g) c.args.node (c.args.edge * 4) (none_across g.window (weight_in g.weights.items) c.args.node 0 c.args.edge (below.ended refl))
+    no_arc (grid_shape g) c.args.node (c.args.edge * 4) (none_across g.window (weight_in g.weights.items) c.args.node 0 c.args.edge (below.ended refl))

@@ -4,8 +4,8 @@ use Rattle.std.proofs.lemmas.Int.{to_z-of_z}
 use Rattle.flow_network.specs.Moves.{IsPushed}
 use Rattle.flow_network.proofs.CallerLemmas.{conserved-pushed, kept-pushed}
 use Rattle.flow_network.proofs.RoomLemmas.{high-fits, low-fits, room-pushed}
-use Rattle.dual_grid.specs.Layout.{number_in, state_by, weight_in}
-use Rattle.dual_grid.specs.Views.{shape_of, state_of}
+use Rattle.dual_grid.specs.Layout.{number_or_zero, state_by, weight_in}
+use Rattle.dual_grid.specs.Views.{grid_shape, grid_state}
 use Rattle.dual_grid.proofs.ArcLemmas.{arc_below}
 use Rattle.dual_grid.proofs.FlowLemmas.{flow_after, residual_small}
 use Rattle.dual_grid.proofs.PushLemmas.{pushed_lists, within_after}
@@ -23,7 +23,7 @@ flow_after-requires-clause-flow c =
 pub flow_after-requires-clause-amount : goal.flow_after-requires-clause-amount
 flow_after-requires-clause-amount c =
     let g = c.args.self.now in
-    let small = residual_small (weight_in g.weights.items (c.args.arc / 4)) (number_in g.flows.items (c.args.arc / 4)) (c.args.arc % 4) (g.within (c.args.arc / 4)) in
+    let small = residual_small (weight_in g.weights.items (c.args.arc / 4)) (number_or_zero g.flows.items (c.args.arc / 4)) (c.args.arc % 4) (g.within (c.args.arc / 4)) in
     let room = c.requires.room in
     omega (arith, small, room)
 
@@ -31,21 +31,21 @@ pub carry-requires-clause-from : goal.carry-requires-clause-from
 carry-requires-clause-from c =
     let g = c.args.self.now in
     let net = g.is_network in
-    let below = net.ends ((shape_of g).twin c.args.arc) (net.has_twin c.args.arc c.requires.arc) in
+    let below = net.ends ((grid_shape g).twin c.args.arc) (net.has_twin c.args.arc c.requires.arc) in
     omega (arith, below, c.tail-tail.ensures, g.fit.by_node)
 
 pub carry-requires-clause-low : goal.carry-requires-clause-low
 carry-requires-clause-low c =
     let g = c.args.self.now in
-    rw c.tail-tail.ensures (low-fits (shape_of g) c.args.arc c.args.amount (state_of g) g.is_network c.requires.arc g.room c.requires.room)
+    rw c.tail-tail.ensures (low-fits (grid_shape g) c.args.arc c.args.amount (grid_state g) g.is_network c.requires.arc g.room c.requires.room)
 
 pub carry-requires-clause-high : goal.carry-requires-clause-high
 carry-requires-clause-high c = λ apart. (
     let g = c.args.self.now in
-    rw c.head-head.ensures (high-fits (shape_of g) c.args.arc c.args.amount (state_of g) g.is_network c.requires.arc g.room c.requires.room (λ e. apart (c.tail-tail.ensures ∙ e ∙ sym c.head-head.ensures))))
+    rw c.head-head.ensures (high-fits (grid_shape g) c.args.arc c.args.amount (grid_state g) g.is_network c.requires.arc g.room c.requires.room (λ e. apart (c.tail-tail.ensures ∙ e ∙ sym c.head-head.ensures))))
 
 -- the flow that is written
-flow_written : (c : goal.After-carry) → to_z w32 (of_z w32 c.flow_after.result) ≡ flow_after (number_in c.args.self.now.flows.items (c.args.arc / 4)) (c.args.arc % 4) c.args.amount
+flow_written : (c : goal.After-carry) → to_z w32 (of_z w32 c.flow_after.result) ≡ flow_after (number_or_zero c.args.self.now.flows.items (c.args.arc / 4)) (c.args.arc % 4) c.args.amount
 flow_written c =
     let g = c.args.self.now in
     let l = arc_below g.window (weight_in g.weights.items) c.args.arc c.requires.arc in
@@ -54,7 +54,7 @@ flow_written c =
     to_z-of_z w32 c.flow_after.result fits ∙ c.flow_after.ensures
     ∙ ap (λ (q : ℤ). flow_after q (c.args.arc % 4) c.args.amount) (read_32 g.flows.items (c.args.arc / 4) c.index-flow.result.now read (omega (arith, l, g.fit.by_edge)) c.index-flow.ensures)
 
-pushed : (c : goal.After-carry) → IsPushed (shape_of c.args.self.now) c.args.arc c.args.amount (state_of c.args.self.now) (state_by c.args.self.now.weights.items (set c.args.self.now.flows.items (c.args.arc / 4) (to_z w32 (of_z w32 c.flow_after.result))) c.carry.new.values.items c.args.self.now.potentials.items)
+pushed : (c : goal.After-carry) → IsPushed (grid_shape c.args.self.now) c.args.arc c.args.amount (grid_state c.args.self.now) (state_by c.args.self.now.weights.items (set c.args.self.now.flows.items (c.args.arc / 4) (to_z w32 (of_z w32 c.flow_after.result))) c.carry.new.values.items c.args.self.now.potentials.items)
 pushed c =
     let g = c.args.self.now in
     pushed_lists g.window g.weights.items g.flows.items g.excesses.items g.potentials.items c.args.arc c.args.amount g.fit g.within g.has_reduced_costs c.requires.arc c.requires.tight c.requires.room
@@ -74,8 +74,8 @@ invariant_of-self c =
       };
       within = within_after g.window g.weights.items g.flows.items g.excesses.items g.potentials.items c.args.arc c.args.amount g.fit g.within g.has_reduced_costs c.requires.arc c.requires.tight c.requires.room (to_z w32 (of_z w32 c.flow_after.result)) (flow_written c);
       is_network = g.is_network;
-      room = room-pushed (shape_of g) c.args.arc c.args.amount (state_of g) _ g.is_network c.requires.arc moved g.room;
-      has_reduced_costs = kept-pushed (shape_of g) c.args.arc c.args.amount (state_of g) _ g.is_network g.has_reduced_costs c.requires.arc c.requires.tight moved;
+      room = room-pushed (grid_shape g) c.args.arc c.args.amount (grid_state g) _ g.is_network c.requires.arc moved g.room;
+      has_reduced_costs = kept-pushed (grid_shape g) c.args.arc c.args.amount (grid_state g) _ g.is_network g.has_reduced_costs c.requires.arc c.requires.tight moved;
     }
 
 pub returns-clause-pushed : goal.returns-clause-pushed
@@ -87,5 +87,5 @@ returns-clause-origin c =
     record {
       window = refl;
       shape = refl;
-      conserved = conserved-pushed (shape_of g) c.args.arc c.args.amount (state_of g) _ g.is_network c.requires.arc (pushed (goal.at.returns-clause-origin c).After-carry);
+      conserved = conserved-pushed (grid_shape g) c.args.arc c.args.amount (grid_state g) _ g.is_network c.requires.arc (pushed (goal.at.returns-clause-origin c).After-carry);
     }

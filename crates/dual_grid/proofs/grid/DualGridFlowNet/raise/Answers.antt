@@ -6,7 +6,7 @@ use Rattle.flow_network.specs.Moves.{IsRaised}
 use Rattle.flow_network.proofs.CallerLemmas.{conserved-raised, kept-raised}
 use Rattle.flow_network.proofs.RoomLemmas.{room-raised}
 use Rattle.dual_grid.specs.Layout.{state_by}
-use Rattle.dual_grid.specs.Views.{shape_of, state_of}
+use Rattle.dual_grid.specs.Views.{grid_shape, grid_state}
 use Rattle.dual_grid.proofs.grid.DualGridFlowNet.raise.Goals as goal
 use Rattle.dual_grid.proofs.grid.DualGridFlowNet.raise.Goals.{After-add_each}
 
@@ -14,7 +14,7 @@ use Rattle.dual_grid.proofs.grid.DualGridFlowNet.raise.Goals.{After-add_each}
 held : (c : After-add_each) → (with_items c.args.self.now.potentials c.add_each.new.values).items ≡ c.add_each.new.values
 held c = with_items_is c.args.self.now.potentials c.add_each.new.values (c.add_each.ensures.length ∙ c.deref_mut.ensures.len)
 
-raised : (c : After-add_each) → IsRaised (shape_of c.args.self.now) c.args.amounts.now (state_of c.args.self.now) (state_by c.args.self.now.weights.items c.args.self.now.flows.items c.args.self.now.excesses.items (with_items c.args.self.now.potentials c.add_each.new.values).items)
+raised : (c : After-add_each) → IsRaised (grid_shape c.args.self.now) c.args.amounts.now (grid_state c.args.self.now) (state_by c.args.self.now.weights.items c.args.self.now.flows.items c.args.self.now.excesses.items (with_items c.args.self.now.potentials c.add_each.new.values).items)
 raised c =
     let g = c.args.self.now in
     let values = c.add_each.new.values in
@@ -40,8 +40,8 @@ invariant_of-self c =
       };
       within = g.within;
       is_network = g.is_network;
-      room = room-raised (shape_of g) (state_of g) _ (λ b arc. refl) (λ v l. refl) (λ v l. rw (moved.potential v l) (c.requires.within v l)) g.room;
-      has_reduced_costs = kept-raised (shape_of g) (state_of g) _ c.args.amounts.now g.is_network g.has_reduced_costs moved c.requires.kept;
+      room = room-raised (grid_shape g) (grid_state g) _ (λ b arc. refl) (λ v l. refl) (λ v l. rw (moved.potential v l) (c.requires.within v l)) g.room;
+      has_reduced_costs = kept-raised (grid_shape g) (grid_state g) _ c.args.amounts.now g.is_network g.has_reduced_costs moved c.requires.kept;
     }
 
 pub returns-clause-origin : goal.returns-clause-origin
@@ -50,5 +50,5 @@ returns-clause-origin c =
     record {
       window = refl;
       shape = refl;
-      conserved = conserved-raised (shape_of g) (state_of g) _ c.args.amounts.now g.is_network (raised (goal.at.returns-clause-origin c).After-add_each);
+      conserved = conserved-raised (grid_shape g) (grid_state g) _ c.args.amounts.now g.is_network (raised (goal.at.returns-clause-origin c).After-add_each);
     }

@@ -1,6 +1,6 @@
 use Rattle.std.proofs.Common.{◌∙◌, ◌+◌, ◌*◌, ◌≤◌, arith, ap, length, refl, subst, sym, ℕ, List}
 use Rattle.std.specs.Prelude.{ℤ}
-use Rattle.surface_snapshots.specs.Shifted.{AreListed}
+use Rattle.surface_snapshots.specs.Shifted.{AreListedCycles}
 use Rattle.surface_snapshots.proofs.LevelLemmas.{none_listed, resized}
 use Rattle.surface_snapshots.proofs.RowLemmas.{row_listed}
 use Rattle.surface_snapshots.proofs.levels.Levels.of.Goals as goal
@@ -16,7 +16,7 @@ loop-y-preserved c =
     let s = c.args.surface in
     let room : s.scene.now.phase.width ≤ length c.fill_row.new.row = omega (arith, c.fill_row.ensures.same, c.loop-y.invariant.size, s.scene.now.phase.wide) in
     record {
-      listed = subst (AreListed s ((c.loop-y.y + 1) * s.scene.now.phase.width)) (sym {A = List ℤ} c.in_ok-extend_from_slice.ensures.items) (row_listed s c.loop-y.y c.loop-y.cycles.items c.fill_row.new.row room c.loop-y.invariant.listed c.fill_row.ensures.front);
+      listed = subst (AreListedCycles s ((c.loop-y.y + 1) * s.scene.now.phase.width)) (sym {A = List ℤ} c.in_ok-extend_from_slice.ensures.items) (row_listed s c.loop-y.y c.loop-y.cycles.items c.fill_row.new.row room c.loop-y.invariant.listed c.fill_row.ensures.front);
       size = c.fill_row.ensures.same ∙ c.loop-y.invariant.size;
     }
 

@@ -1,10 +1,10 @@
 use Rattle.std.proofs.Common.{◌+◌, ◌-◌, ◌<◌, ◌≤◌, length}
-use Rattle.surface_snapshots.specs.Runs.{ArePacked, BeginsWith}
+use Rattle.surface_snapshots.specs.Runs.{ArePacked, Extends}
 use Rattle.surface_snapshots.proofs.packing.Packing.pack.Given as goal
 
 abbrev pub invariant-loop-at : goal.invariant-loop-at
 invariant-loop-at l = record {
-  begins : BeginsWith l.self.labels.items l.fn.self.labels.items;
+  begins : Extends l.self.labels.items l.fn.self.labels.items;
   some : l.first < length l.self.labels.items;
   few : length l.self.labels.items ≤ l.first + 1 + l.at;
   within : l.at ≤ length l.list;

@@ -3,7 +3,7 @@ use Rattle.std.specs.Prelude.{ℤ, unsigned_abs}
 use Rattle.std.proofs.lemmas.List.{get_or_read_under}
 use Rattle.raster_model.specs.Tiles.{place_in}
 use Rattle.raster_model.proofs.TileLemmas.{tiles_are_numbered}
-use Rattle.certificates.specs.Results.{cycles_in}
+use Rattle.certificates.specs.Results.{listed_cycles}
 use Rattle.surface_snapshots.specs.Shifted.{open_under}
 use Rattle.surface_snapshots.proofs.ShiftedLemmas.{open_pixel, place_is_in, solved_is, solved_is_small, widened, window_told, within_window}
 use Rattle.surface_snapshots.proofs.shifted.ShiftedTiles.solved.Goals as goal
@@ -39,7 +39,7 @@ index-requires c =
     let w = within_window s.scene.now c.args.tile v c.args.x c.args.y (open_under s c.args.x c.args.y) c.requires.window c.requires.tile c.requires.open_pixel in
     omega (arith, c.place.ensures, k.cycles.ok.0, place_is_in s.scene.now (open_under s) s.tiles.now.results s.together.tiles c.args.x c.args.y c.args.tile k v c.requires.tile c.tile.ensures.place c.requires.window w)
 
-both : (c : goal.After-from) → (c.index.result.now ≡ cycles_in c.args.window c.tile.result.now.cycles.items c.args.x c.args.y) × (unsigned_abs c.index.result.now ≤ 8388608)
+both : (c : goal.After-from) → (c.index.result.now ≡ listed_cycles c.args.window c.tile.result.now.cycles.items c.args.x c.args.y) × (unsigned_abs c.index.result.now ≤ 8388608)
 both c =
     let s = c.args.self.now in
     let k = c.tile.result.now in
@@ -47,7 +47,7 @@ both c =
     let o = open_pixel s.scene.now.phase.width s.scene.now.phase.height c.args.x c.args.y (open_under s c.args.x c.args.y) c.requires.open_pixel in
     let w = within_window s.scene.now c.args.tile v c.args.x c.args.y (open_under s c.args.x c.args.y) c.requires.window c.requires.tile c.requires.open_pixel in
     let within = place_is_in s.scene.now (open_under s) s.tiles.now.results s.together.tiles c.args.x c.args.y c.args.tile k v c.requires.tile c.tile.ensures.place c.requires.window w in
-    let read : c.index.result.now ≡ cycles_in v k.cycles.items c.args.x c.args.y = get_or_read_under k.cycles.items (place_in v c.args.x c.args.y) k.cycles.len c.index.result.now (pos 0) (rw c.place.ensures at c.index.ensures) (omega (arith, within, k.cycles.ok.0)) k.cycles.ok.0 in (
+    let read : c.index.result.now ≡ listed_cycles v k.cycles.items c.args.x c.args.y = get_or_read_under k.cycles.items (place_in v c.args.x c.args.y) k.cycles.len c.index.result.now (pos 0) (rw c.place.ensures at c.index.ensures) (omega (arith, within, k.cycles.ok.0)) k.cycles.ok.0 in (
       read,
       subst (λ (z : ℤ). unsigned_abs z ≤ 8388608) (sym read) (solved_is_small s.scene.now (open_under s) s.tiles.now.results s.together.tiles c.args.x c.args.y c.args.tile k v c.requires.tile c.tile.ensures.place c.requires.window w o.2),
     )

@@ -7,7 +7,7 @@ use Rattle.seam_regions.specs.RegionsView.{RegionsView}
 use Rattle.surface_snapshots.specs.Loops.{GoTogether}
 use Rattle.surface_snapshots.specs.Parts.{HaveCosts, IsPublished, Parts, open_in, parts_from, raster_in, surface_in}
 use Rattle.surface_snapshots.specs.Tiled.{regions_in}
-use Rattle.surface_snapshots.specs.Verdicts.{IsVerdict}
+use Rattle.surface_snapshots.specs.Verdicts.{IsPartsVerdict}
 use Rattle.surface_snapshots.proofs.CallerLemmas.{published_is_best}
 use Rattle.surface_snapshots.proofs.MaskLemmas.{parts_told}
 use Rattle.surface_snapshots.proofs.PublishedLemmas.{published}
@@ -37,7 +37,7 @@ returns-clause-parts c =
 pub returns-clause-certified : goal.returns-clause-certified
 returns-clause-certified c =
     let same = sym (parts_told (arc_value c.args.session) c.args.mask c.args.regions (regions_in c.in_ok-certified.certified.regions) c.args.tiles c.args.seams (arc_value c.in_ok-flows.flows).items c.in_ok-certified.ensures.mask c.in_ok-certified.ensures.regions c.in_ok-flows.ensures) in
-    subst (λ (q : Parts). IsVerdict q Good) same (rw c.deref.ensures at c.in_ok-certified.ensures.certified)
+    subst (λ (q : Parts). IsPartsVerdict q Good) same (rw c.deref.ensures at c.in_ok-certified.ensures.certified)
 
 pub returns-clause-anchored : goal.returns-clause-anchored
 returns-clause-anchored c =

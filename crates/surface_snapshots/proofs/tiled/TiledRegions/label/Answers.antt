@@ -1,7 +1,7 @@
 use Rattle.std.proofs.Common.{◌∙◌, arith, refl, sym}
 use Rattle.std.specs.Prelude.{map}
 use Rattle.raster_model.specs.Tiles.{tile_at}
-use Rattle.surface_snapshots.specs.Runs.{shown}
+use Rattle.surface_snapshots.specs.Runs.{runs_of}
 use Rattle.surface_snapshots.proofs.LevelLemmas.{its_window}
 use Rattle.surface_snapshots.proofs.TiledLemmas.{label_is}
 use Rattle.surface_snapshots.proofs.tiled.TiledRegions.label.Goals as goal
@@ -29,5 +29,5 @@ returns c =
     let r = c.args.self.now in
     let g = r.tiling in
     let here = c.span.ensures.label c.place.result (omega arith) (omega (arith, c.span.ensures.count)) in
-    sym (label_is g r.labels.items (map shown r.tiles.items) c.args.x c.args.y c.requires.across c.requires.along
+    sym (label_is g r.labels.items (map runs_of r.tiles.items) c.args.x c.args.y c.requires.across c.requires.along
     ∙ (rw (c.tile_of.ensures.value, c.place.ensures, c.window_at-window.ensures) at here))

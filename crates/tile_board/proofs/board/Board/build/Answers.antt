@@ -2,7 +2,7 @@ use Rattle.std.proofs.Common.{◌≡◌, ◌∙◌, ap, sym, subst}
 use Rattle.std.specs.Arc.{arc_value}
 use Rattle.certificates.specs.declared.verdicts.SeamVerdict.TheVariants.{Good}
 use Rattle.surface_snapshots.specs.Parts.{Parts}
-use Rattle.surface_snapshots.specs.Verdicts.{IsVerdict}
+use Rattle.surface_snapshots.specs.Verdicts.{IsPartsVerdict}
 use Rattle.surface_snapshots.specs.Views.{parts_of}
 use Rattle.tile_board.specs.BoardView.{BoardView}
 use Rattle.tile_board.specs.Calls.{ArePublishable}
@@ -38,5 +38,5 @@ pub returns-clause-surface : goal.returns-clause-surface
 returns-clause-surface c =
     let parts = rw (← c.self.view_is) at (returns-clause-parts c) in
     let present = rw (← c.self.view_is) at c.requires.present in
-    let verdict : IsVerdict (parts_of c.shared.result) Good = subst (λ (p : Parts). IsVerdict p Good) (sym c.shared.ensures) c.in_ok-snapshot.ensures.certified in
+    let verdict : IsPartsVerdict (parts_of c.shared.result) Good = subst (λ (p : Parts). IsPartsVerdict p Good) (sym c.shared.ensures) c.in_ok-snapshot.ensures.certified in
     rw (← c.self.view_is) (surface_is c.self.invariant c.args.seams (parts_of c.shared.result) parts present c.shared.result.published verdict)

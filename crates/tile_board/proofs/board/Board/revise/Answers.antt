@@ -7,7 +7,7 @@ use Rattle.tile_board.specs.declared.entry.Entry.{Entry}
 use Rattle.tile_board.specs.declared.entry.Entry.TheVariants.{Revised}
 use Rattle.tile_board.specs.Lacking.{AreLackingIn, is_listed, lacks_in}
 use Rattle.tile_board.specs.Histories.{edits_of, next_command, now_of}
-use Rattle.tile_board.proofs.HeldLemmas.{count_told, cursor_there, revision_room}
+use Rattle.tile_board.proofs.HeldLemmas.{count_told, cursor_there}
 use Rattle.tile_board.proofs.HistoryLemmas.{now_more}
 use Rattle.tile_board.proofs.RevisionLemmas.{places_told, revision_is}
 use Rattle.tile_board.specs.declared.answers.AdvanceFault.TheVariants.{Memory}
@@ -15,11 +15,6 @@ use Rattle.tile_board.proofs.LackingLemmas.{changed_are_met, lacking_emptied}
 use Rattle.tile_board.proofs.ListLemmas.{err_is}
 use Rattle.tile_board.proofs.StepLemmas.{cursor_small, revised_refused, state_claimed, state_revised}
 use Rattle.tile_board.proofs.board.Board.revise.Goals as goal
-
-pub push-requires-clause-room : goal.push-requires-clause-room
-push-requires-clause-room c =
-    let i = c.self.invariant in
-    revision_room i.past i.board.legal
 
 pub index_mut-requires : goal.index_mut-requires
 index_mut-requires c =

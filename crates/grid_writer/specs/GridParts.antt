@@ -1,14 +1,11 @@
 -- The parts of a grid's text, line by line: words of helpers.
-use Rattle.std.specs.Prelude.{◌≡◌, ℕ, ◌≤◌, ℤ, List, ◌++◌, codes, decimal, length}
+use Rattle.std.specs.Prelude.{◌≡◌, ℕ, ◌*◌, ◌≤◌, ℤ, List, ◌++◌, decimal, length}
 use Rattle.raster_model.specs.Sums.{Field}
-use Rattle.grid_writer.specs.Forms.{Form, LineOf}
-use Rattle.grid_writer.specs.Grid.{row_text, texts_below}
-use Rattle.grid_writer.specs.Grids.{AreLong}
-use Rattle.grid_writer.specs.Numbers.{AreLongs, numbers_line}
-
--- this text alone
-abbrev pub IsText : List ℕ → Form
-IsText whole text = text ≡ whole
+use Rattle.text_lines.specs.Forms.{Form, LineOf}
+use Rattle.text_lines.specs.Numbers.{AreLongs, numbers_line}
+use Rattle.grid_writer.specs.declared.read.Sizes.{Sizes}
+use Rattle.grid_writer.specs.Grid.{frame_lines, grid_rows}
+use Rattle.grid_writer.specs.Grids.{AreLong, GridOf, IsGrid, text_of_grid}
 
 -- a number from `least` to `most` after a label, and such a line
 abbrev pub IsCount : List ℕ → ℕ → ℕ → List ℕ → Type 0
@@ -17,10 +14,6 @@ IsCount label least most line = (n : ℕ) × ((least ≤ n) × ((n ≤ most) × 
 abbrev pub IsCountLine : List ℕ → ℕ → ℕ → Form
 IsCountLine label least most = LineOf (IsCount label least most)
 
--- the four lines of the header that are the same in every grid
-unfoldable pub frame_lines : List ℕ
-frame_lines = codes "xllcorner 0\nyllcorner 0\ncellsize 1\nNODATA_value -9223372036854775808\n"
-
 -- so many values that fit 64 bits, and such a line
 abbrev pub IsRow : ℕ → List ℕ → Type 0
 IsRow width line = (row : List ℤ) × (AreLongs row × ((length row ≡ width) × (line ≡ numbers_line row)))
@@ -28,14 +21,30 @@ IsRow width line = (row : List ℤ) × (AreLongs row × ((length row ≡ width) 
 abbrev pub IsRowLine : ℕ → Form
 IsRowLine width = LineOf (IsRow width)
 
--- the rows of values, from the top
-unfoldable pub rows_of : ℕ → ℕ → Field ℤ → List ℕ
-rows_of width height values = texts_below height (row_text width values)
-
--- rows of values that fit 64 bits
+-- rows of values that fit 64 bits, and what follows the size
 abbrev pub IsRowsText : ℕ → ℕ → Form
-IsRowsText width height text = (values : Field ℤ) × (AreLong width height values × (text ≡ rows_of width height values))
+IsRowsText width height text = (values : Field ℤ) × (AreLong width height values × (text ≡ grid_rows width height values))
 
--- what follows the size
 abbrev pub IsBodyText : ℕ → ℕ → Form
-IsBodyText width height text = (values : Field ℤ) × (AreLong width height values × (text ≡ frame_lines ++ rows_of width height values))
+IsBodyText width height text = (values : Field ℤ) × (AreLong width height values × (text ≡ frame_lines ++ grid_rows width height values))
+
+-- limits of a size that some grid has
+pub record AreSizes (s : Sizes) : Type 0 where
+  pub wide : 1 ≤ s.least_width
+  pub widths : s.least_width ≤ s.most_width
+  pub narrow : s.most_width ≤ 4096
+  pub high : 1 ≤ s.least_height
+  pub heights : s.least_height ≤ s.most_height
+  pub low : s.most_height ≤ 4096
+  pub few : s.most_width * s.least_height ≤ 4194304
+
+-- a size within limits
+pub record IsWithin (s : Sizes) (width height : ℕ) : Type 0 where
+  pub wide : s.least_width ≤ width
+  pub narrow : width ≤ s.most_width
+  pub high : s.least_height ≤ height
+  pub low : height ≤ s.most_height
+
+-- the text of a grid whose size is within limits
+abbrev pub IsGridTextIn : Sizes → Form
+IsGridTextIn s text = (g : GridOf) × (IsGrid g × (IsWithin s g.width g.height × (text ≡ text_of_grid g)))

@@ -3,9 +3,9 @@ use Rattle.std.specs.Prelude.{◌≡◌, ℕ, ◌+◌, ◌*◌, ◌<◌, ℤ, po
 use Rattle.raster_model.specs.Limits.{is_raster_size}
 use Rattle.raster_model.specs.Sums.{Field}
 use Rattle.grid_writer.specs.declared.values.Grid.{Grid}
-use Rattle.grid_writer.specs.Forms.{Form}
+use Rattle.text_lines.specs.Forms.{Form}
 use Rattle.grid_writer.specs.Grid.{grid_text}
-use Rattle.grid_writer.specs.Numbers.{IsLong}
+use Rattle.text_lines.specs.Numbers.{FitsLong}
 
 -- what a grid's text tells: its size, and the value at each pixel
 pub record GridOf : Type 0 where
@@ -22,7 +22,7 @@ grid_of g = record { width = g.width; height = g.height; values = value_at g.wid
 
 -- the values on the raster fit 64 bits
 abbrev pub AreLong : ℕ → ℕ → Field ℤ → Type 0
-AreLong width height values = (x y : ℕ) → x < width → y < height → IsLong (values x y)
+AreLong width height values = (x y : ℕ) → x < width → y < height → FitsLong (values x y)
 
 -- a size within the limits, and values that fit
 pub record IsGrid (g : GridOf) : Type 0 where

@@ -1,10 +1,6 @@
 pub mod Grid
-pub mod Writing
-pub mod Waiting
-pub mod Forms
-pub mod Grids
-pub mod Numbers
-pub mod LineWords
-pub mod Reading
-pub mod Faults
 pub mod GridParts
+pub mod Grids
+pub mod Laws
+pub mod Reading
+pub mod Shown

@@ -1,22 +1,22 @@
-ghost use Rattle.grid_writer.specs.Forms.{IsLine};
-ghost use Rattle.grid_writer.specs.GridParts.{IsBodyText, IsCountLine, IsRowLine, IsRowsText, IsText, frame_lines, rows_of};
+ghost use Rattle.grid_writer.specs.Grid.{frame_lines, grid_rows};
+ghost use Rattle.grid_writer.specs.GridParts.{AreSizes, IsBodyText, IsCountLine, IsGridTextIn, IsRowLine, IsRowsText, IsWithin};
 ghost use Rattle.grid_writer.specs.Grids.{IsGrid, IsGridText, IsGridTextOf, grid_of, text_of_grid, value_at};
-ghost use Rattle.grid_writer.specs.LineWords.{TakesLines, number_of};
-ghost use Rattle.grid_writer.specs.Numbers.{AreLongs, numbers_line};
-ghost use Rattle.grid_writer.specs.Reading.{HasBrokenLine, HasLineCause, IsReadAs, IsRefusedAt, room_of};
+ghost use Rattle.grid_writer.specs.Reading.{IsGridRead, IsGridRefusedAt};
 ghost use Rattle.insar_ports.specs.Calls.{Moves, Takes, call_of};
 ghost use Rattle.insar_ports.specs.Feeding.{left_of, limit_of, source_name};
 ghost use Rattle.insar_ports.specs.Lines.{IsInLine};
 ghost use Rattle.raster_model.specs.Limits.{is_raster_size, max_side};
-ghost use Rattle.std.specs.Prelude.{◌≡◌, ◌≤◌, ◌<◌, ◌+◌, ◌*◌, [], ◌++◌, ℕ, ℤ, List, All, IfErr, IfOk, IfSome, IsTrue, OnOk, decimal, length, vec_len};
+ghost use Rattle.std.specs.Prelude.{◌≡◌, ◌≤◌, ◌<◌, ◌*◌, [], ◌++◌, ℕ, ℤ, List, All, IfErr, IfOk, IfSome, IsTrue, OnOk, decimal, length, vec_len};
+ghost use Rattle.text_lines.specs.Forms.{IsLine, IsText};
+ghost use Rattle.text_lines.specs.LineWords.{TakesLines, lines_read};
+ghost use Rattle.text_lines.specs.Numbers.{AreLongs, numbers_line};
+ghost use Rattle.text_lines.specs.Reading.{HasBrokenLine, HasLineCause, room_of};
 
-use crate::fault::GridFault;
-use crate::lines::{LineEnd, Lines};
-use crate::numbers::{labelled_count, push_row};
 use crate::values::Grid;
 use insar_ports::{Feed, Source};
 use raster_model::{MAX_PIXELS, MAX_SIDE};
 use std::alloc::Global;
+use text_lines::{LineEnd, LineFault, Lines, expect_line, labelled_count, push_row};
 
 /// How many digits a count has at most.
 const COUNT_DIGITS: usize = 10;
@@ -24,9 +24,26 @@ const COUNT_DIGITS: usize = 10;
 /// How many bytes a value has at most, with the space before it.
 const VALUE_BYTES: usize = 21;
 
+/// The least and the greatest width and height of a grid that is read.
+#[derive(Clone, Copy)]
+struct Sizes {
+    least_width: u32,
+    most_width: u32,
+    least_height: u32,
+    most_height: u32,
+}
+
+/// The sizes of all grids.
+const ANY_SIZE: Sizes = Sizes {
+    least_width: 1,
+    most_width: MAX_SIDE,
+    least_height: 1,
+    most_height: MAX_SIDE,
+};
+
 /// Reads a grid in the one spelling in which it is written, up to the LF of its last row. Lines are numbered from 1. After a
 /// refusal the feed is where it was met.
-pub fn read_grid<S: Source>(alloc: Global, feed: &mut Feed<S>) -> Result<Grid, GridFault>
+pub fn read_grid<S: Source>(alloc: Global, feed: &mut Feed<S>) -> Result<Grid, LineFault>
     ensures same_source { source_name feed.new ≡ source_name feed.old }
     ensures same_limit { limit_of feed.new ≡ limit_of feed.old }
     // What was handed out is what the feed has no more.
@@ -37,30 +54,12 @@ pub fn read_grid<S: Source>(alloc: Global, feed: &mut Feed<S>) -> Result<Grid, G
     // The first broken line, or why else no grid is read.
     ensures refused { IfErr result (HasLineCause IsGridText 0 (call_of S.left S.faults feed.old feed.new)) }
     // What is spelled so is read, and what follows is left.
-    ensures accepted { IfSome (left_of S.left feed.old) (λ bytes. (text rest : List ℕ) → bytes ≡ text ++ rest → IsGridText text → length text ≤ room_of (call_of S.left S.faults feed.old feed.new) → IsReadAs (call_of S.left S.faults feed.old feed.new) text rest result) }
+    ensures accepted { IfSome (left_of S.left feed.old) (λ bytes. (text rest : List ℕ) → bytes ≡ text ++ rest → IsGridText text → length text ≤ room_of (call_of S.left S.faults feed.old feed.new) → IsGridRead (call_of S.left S.faults feed.old feed.new) text rest result) }
     // A first broken line is told.
-    ensures exact { IfSome (left_of S.left feed.old) (λ bytes. (n : ℕ) → HasBrokenLine IsGridText (room_of (call_of S.left S.faults feed.old feed.new)) n bytes → IsRefusedAt (call_of S.left S.faults feed.old feed.new) n result) }
+    ensures exact { IfSome (left_of S.left feed.old) (λ bytes. (n : ℕ) → HasBrokenLine IsGridText (room_of (call_of S.left S.faults feed.old feed.new)) n bytes → IsGridRefusedAt (call_of S.left S.faults feed.old feed.new) n result) }
 {
     let mut lines = Lines::new(alloc);
-    read_lines(alloc, feed, &mut lines)
-}
-
-/// Reads a grid after the lines that were read.
-fn read_lines<S: Source>(
-    alloc: Global,
-    feed: &mut Feed<S>,
-    lines: &mut Lines,
-) -> Result<Grid, GridFault>
-    ensures same_source { source_name feed.new ≡ source_name feed.old }
-    ensures same_limit { limit_of feed.new ≡ limit_of feed.old }
-    ensures moves { Moves (call_of S.left S.faults feed.old feed.new) }
-    ensures fits { IfOk result (λ grid. IsGrid (grid_of grid)) }
-    ensures read { IfOk result (λ grid. TakesLines (IsText (text_of_grid (grid_of grid))) (number_of lines.old) (number_of lines.new) (call_of S.left S.faults feed.old feed.new)) }
-    ensures refused { IfErr result (HasLineCause IsGridText (number_of lines.old) (call_of S.left S.faults feed.old feed.new)) }
-{
-    let width = read_count(feed, lines, b"ncols ", 1, MAX_SIDE)?;
-    let height = read_count(feed, lines, b"nrows ", 1, MAX_SIDE.min(MAX_PIXELS / width))?;
-    read_body(alloc, feed, lines, width, height)
+    read_within(alloc, feed, &mut lines, ANY_SIZE)
 }
 
 /// Reads a grid of a size that is known, as a part of a longer text.
@@ -70,44 +69,45 @@ pub fn read_sized_grid<S: Source>(
     lines: &mut Lines,
     width: u32,
     height: u32,
-) -> Result<Grid, GridFault>
+) -> Result<Grid, LineFault>
     requires sized { IsTrue (is_raster_size width height) }
     ensures same_source { source_name feed.new ≡ source_name feed.old }
     ensures same_limit { limit_of feed.new ≡ limit_of feed.old }
     ensures moves { Moves (call_of S.left S.faults feed.old feed.new) }
     ensures size { IfOk result (λ grid. (grid.width ≡ width) × (grid.height ≡ height)) }
     ensures fits { IfOk result (λ grid. IsGrid (grid_of grid)) }
-    ensures read { IfOk result (λ grid. TakesLines (λ text. text ≡ text_of_grid (grid_of grid)) (number_of lines.old) (number_of lines.new) (call_of S.left S.faults feed.old feed.new)) }
-    ensures refused { IfErr result (HasLineCause (IsGridTextOf width height) (number_of lines.old) (call_of S.left S.faults feed.old feed.new)) }
+    ensures read { IfOk result (λ grid. TakesLines (λ text. text ≡ text_of_grid (grid_of grid)) (lines_read lines.old) (lines_read lines.new) (call_of S.left S.faults feed.old feed.new)) }
+    ensures refused { IfErr result (HasLineCause (IsGridTextOf width height) (lines_read lines.old) (call_of S.left S.faults feed.old feed.new)) }
 {
-    read_count(feed, lines, b"ncols ", width, width)?;
-    read_count(feed, lines, b"nrows ", height, height)?;
-    read_body(alloc, feed, lines, width, height)
+    let sizes = Sizes {
+        least_width: width,
+        most_width: width,
+        least_height: height,
+        most_height: height,
+    };
+    read_within(alloc, feed, lines, sizes)
 }
 
-/// Reads the next line, which has to be this text.
-pub fn expect_line<S: Source>(
+/// Reads a grid whose size is within limits.
+fn read_within<S: Source>(
+    alloc: Global,
     feed: &mut Feed<S>,
     lines: &mut Lines,
-    text: &[u8],
-) -> Result<(), GridFault>
-    requires { All IsInLine text.now }
+    sizes: Sizes,
+) -> Result<Grid, LineFault>
+    requires { AreSizes sizes }
     ensures same_source { source_name feed.new ≡ source_name feed.old }
     ensures same_limit { limit_of feed.new ≡ limit_of feed.old }
     ensures moves { Moves (call_of S.left S.faults feed.old feed.new) }
-    ensures read { OnOk result (TakesLines (IsLine text.now) (number_of lines.old) (number_of lines.new) (call_of S.left S.faults feed.old feed.new)) }
-    ensures refused { IfErr result (HasLineCause (IsLine text.now) (number_of lines.old) (call_of S.left S.faults feed.old feed.new)) }
+    ensures size { IfOk result (λ grid. IsWithin sizes grid.width grid.height) }
+    ensures fits { IfOk result (λ grid. IsGrid (grid_of grid)) }
+    ensures read { IfOk result (λ grid. TakesLines (IsText (text_of_grid (grid_of grid))) (lines_read lines.old) (lines_read lines.new) (call_of S.left S.faults feed.old feed.new)) }
+    ensures refused { IfErr result (HasLineCause (IsGridTextIn sizes) (lines_read lines.old) (call_of S.left S.faults feed.old feed.new)) }
 {
-    match lines.next(feed, text.len())? {
-        LineEnd::Whole => {
-            if lines.line() == text {
-                Ok(())
-            } else {
-                Err(GridFault::Line(lines.number()))
-            }
-        }
-        LineEnd::Long | LineEnd::Cut => Err(GridFault::Line(lines.number())),
-    }
+    let width = read_count(feed, lines, b"ncols ", sizes.least_width, sizes.most_width)?;
+    let most_height = sizes.most_height.min(MAX_PIXELS / width);
+    let height = read_count(feed, lines, b"nrows ", sizes.least_height, most_height)?;
+    read_body(alloc, feed, lines, width, height)
 }
 
 /// Reads the next line, which has to give a number from `least` to `most` after a label.
@@ -117,7 +117,7 @@ fn read_count<S: Source>(
     label: &[u8],
     least: u32,
     most: u32,
-) -> Result<u32, GridFault>
+) -> Result<u32, LineFault>
     requires short { length label.now ≤ 128 }
     requires inside { All IsInLine label.now }
     requires some { least ≤ most }
@@ -125,15 +125,15 @@ fn read_count<S: Source>(
     ensures same_limit { limit_of feed.new ≡ limit_of feed.old }
     ensures moves { Moves (call_of S.left S.faults feed.old feed.new) }
     ensures within { IfOk result (λ count. (least ≤ count) × (count ≤ most)) }
-    ensures read { IfOk result (λ count. TakesLines (IsLine (label.now ++ decimal count)) (number_of lines.old) (number_of lines.new) (call_of S.left S.faults feed.old feed.new)) }
-    ensures refused { IfErr result (HasLineCause (IsCountLine label.now least most) (number_of lines.old) (call_of S.left S.faults feed.old feed.new)) }
+    ensures read { IfOk result (λ count. TakesLines (IsLine (label.now ++ decimal count)) (lines_read lines.old) (lines_read lines.new) (call_of S.left S.faults feed.old feed.new)) }
+    ensures refused { IfErr result (HasLineCause (IsCountLine label.now least most) (lines_read lines.old) (call_of S.left S.faults feed.old feed.new)) }
 {
     match lines.next(feed, label.len() + COUNT_DIGITS)? {
         LineEnd::Whole => match labelled_count(lines.line(), label, least, most) {
             Some(count) => Ok(count),
-            None => Err(GridFault::Line(lines.number())),
+            None => Err(LineFault::Line(lines.number())),
         },
-        LineEnd::Long | LineEnd::Cut => Err(GridFault::Line(lines.number())),
+        LineEnd::Long | LineEnd::Cut => Err(LineFault::Line(lines.number())),
     }
 }
 
@@ -144,15 +144,15 @@ fn read_body<S: Source>(
     lines: &mut Lines,
     width: u32,
     height: u32,
-) -> Result<Grid, GridFault>
+) -> Result<Grid, LineFault>
     requires sized { IsTrue (is_raster_size width height) }
     ensures same_source { source_name feed.new ≡ source_name feed.old }
     ensures same_limit { limit_of feed.new ≡ limit_of feed.old }
     ensures moves { Moves (call_of S.left S.faults feed.old feed.new) }
     ensures size { IfOk result (λ grid. (grid.width ≡ width) × (grid.height ≡ height)) }
     ensures fits { IfOk result (λ grid. IsGrid (grid_of grid)) }
-    ensures read { IfOk result (λ grid. TakesLines (IsText (frame_lines ++ rows_of width height (value_at width grid.values.items))) (number_of lines.old) (number_of lines.new) (call_of S.left S.faults feed.old feed.new)) }
-    ensures refused { IfErr result (HasLineCause (IsBodyText width height) (number_of lines.old) (call_of S.left S.faults feed.old feed.new)) }
+    ensures read { IfOk result (λ grid. TakesLines (IsText (frame_lines ++ grid_rows width height (value_at width grid.values.items))) (lines_read lines.old) (lines_read lines.new) (call_of S.left S.faults feed.old feed.new)) }
+    ensures refused { IfErr result (HasLineCause (IsBodyText width height) (lines_read lines.old) (call_of S.left S.faults feed.old feed.new)) }
 {
     read_frame(feed, lines)?;
     let mut values = Vec::new(alloc);
@@ -165,12 +165,12 @@ fn read_body<S: Source>(
 }
 
 /// Reads the four lines of the header that are the same in every grid.
-fn read_frame<S: Source>(feed: &mut Feed<S>, lines: &mut Lines) -> Result<(), GridFault>
+fn read_frame<S: Source>(feed: &mut Feed<S>, lines: &mut Lines) -> Result<(), LineFault>
     ensures same_source { source_name feed.new ≡ source_name feed.old }
     ensures same_limit { limit_of feed.new ≡ limit_of feed.old }
     ensures moves { Moves (call_of S.left S.faults feed.old feed.new) }
-    ensures read { OnOk result (TakesLines (IsText frame_lines) (number_of lines.old) (number_of lines.new) (call_of S.left S.faults feed.old feed.new)) }
-    ensures refused { IfErr result (HasLineCause (IsText frame_lines) (number_of lines.old) (call_of S.left S.faults feed.old feed.new)) }
+    ensures read { OnOk result (TakesLines (IsText frame_lines) (lines_read lines.old) (lines_read lines.new) (call_of S.left S.faults feed.old feed.new)) }
+    ensures refused { IfErr result (HasLineCause (IsText frame_lines) (lines_read lines.old) (call_of S.left S.faults feed.old feed.new)) }
 {
     expect_line(feed, lines, b"xllcorner 0")?;
     expect_line(feed, lines, b"yllcorner 0")?;
@@ -185,7 +185,7 @@ fn read_rows<S: Source>(
     width: u32,
     height: u32,
     values: &mut Vec<i64>,
-) -> Result<(), GridFault>
+) -> Result<(), LineFault>
     requires sized { IsTrue (is_raster_size width height) }
     requires empty { values.old.items ≡ [] }
     ensures same_source { source_name feed.new ≡ source_name feed.old }
@@ -193,8 +193,8 @@ fn read_rows<S: Source>(
     ensures moves { Moves (call_of S.left S.faults feed.old feed.new) }
     ensures full { OnOk result (vec_len values.new ≡ width * height) }
     ensures fits { OnOk result (AreLongs values.new.items) }
-    ensures read { OnOk result (TakesLines (IsText (rows_of width height (value_at width values.new.items))) (number_of lines.old) (number_of lines.new) (call_of S.left S.faults feed.old feed.new)) }
-    ensures refused { IfErr result (HasLineCause (IsRowsText width height) (number_of lines.old) (call_of S.left S.faults feed.old feed.new)) }
+    ensures read { OnOk result (TakesLines (IsText (grid_rows width height (value_at width values.new.items))) (lines_read lines.old) (lines_read lines.new) (call_of S.left S.faults feed.old feed.new)) }
+    ensures refused { IfErr result (HasLineCause (IsRowsText width height) (lines_read lines.old) (call_of S.left S.faults feed.old feed.new)) }
 {
     for _ in 0..height {
         read_row(feed, lines, width as usize, values)?;
@@ -208,22 +208,22 @@ fn read_row<S: Source>(
     lines: &mut Lines,
     width: usize,
     values: &mut Vec<i64>,
-) -> Result<(), GridFault>
+) -> Result<(), LineFault>
     requires wide { (0 < width) × (width ≤ max_side) }
     ensures same_source { source_name feed.new ≡ source_name feed.old }
     ensures same_limit { limit_of feed.new ≡ limit_of feed.old }
     ensures moves { Moves (call_of S.left S.faults feed.old feed.new) }
-    ensures read { OnOk result ((row : List ℤ) × ((values.new.items ≡ values.old.items ++ row) × ((length row ≡ width) × (AreLongs row × TakesLines (IsLine (numbers_line row)) (number_of lines.old) (number_of lines.new) (call_of S.left S.faults feed.old feed.new))))) }
-    ensures refused { IfErr result (HasLineCause (IsRowLine width) (number_of lines.old) (call_of S.left S.faults feed.old feed.new)) }
+    ensures read { OnOk result ((row : List ℤ) × ((values.new.items ≡ values.old.items ++ row) × ((length row ≡ width) × (AreLongs row × TakesLines (IsLine (numbers_line row)) (lines_read lines.old) (lines_read lines.new) (call_of S.left S.faults feed.old feed.new))))) }
+    ensures refused { IfErr result (HasLineCause (IsRowLine width) (lines_read lines.old) (call_of S.left S.faults feed.old feed.new)) }
 {
     match lines.next(feed, VALUE_BYTES * width)? {
         LineEnd::Whole => {
             if push_row(lines.line(), width, values)? {
                 Ok(())
             } else {
-                Err(GridFault::Line(lines.number()))
+                Err(LineFault::Line(lines.number()))
             }
         }
-        LineEnd::Long | LineEnd::Cut => Err(GridFault::Line(lines.number())),
+        LineEnd::Long | LineEnd::Cut => Err(LineFault::Line(lines.number())),
     }
 }

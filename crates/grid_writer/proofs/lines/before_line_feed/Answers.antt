@@ -1,8 +1,0 @@
-use Rattle.grid_writer.proofs.TakeLemmas.{line_feed_at, no_line_feed}
-use Rattle.grid_writer.proofs.lines.before_line_feed.Goals as goal
-
-pub returns-in-Some-clause-front : goal.returns-in-Some-clause-front
-returns-in-Some-clause-front c = line_feed_at c.args.bytes.now c.in-Some.count c.in-Some.ensures.0.high c.in-Some.ensures.1
-
-pub returns-in-None-clause-inside : goal.returns-in-None-clause-inside
-returns-in-None-clause-inside c = no_line_feed c.args.bytes.now c.in-None.ensures

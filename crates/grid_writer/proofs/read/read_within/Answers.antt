@@ -1,0 +1,79 @@
+use Rattle.std.proofs.Common.{◌∙◌, ◌++◌}
+use Rattle.std.specs.Prelude.{codes}
+use Rattle.std.proofs.lemmas.Result.{IfErr-weaker, IfOk-weaker, err_from_is_err_and}
+use Rattle.insar_ports.specs.Calls.{call_of}
+use Rattle.text_lines.specs.LineWords.{lines_read}
+use Rattle.text_lines.specs.Reading.{HasLineCause}
+use Rattle.text_lines.proofs.StepLemmas.{cause_begin, cause_join, fails_next, joined, moves_join, texts_join}
+use Rattle.grid_writer.specs.Grid.{columns_line, rows_line}
+use Rattle.grid_writer.specs.GridParts.{IsBodyText, IsCountLine, IsGridTextIn, IsWithin}
+use Rattle.grid_writer.proofs.GridReads.{grid_read}
+use Rattle.grid_writer.proofs.HeadLemmas.{columns_whole, grid_after, grid_first, grid_second}
+use Rattle.grid_writer.proofs.SizeLemmas.{most_rows, sized_by, sized_within, some_rows, within_at, within_same}
+use Rattle.grid_writer.proofs.read.read_within.Goals as goal
+
+pub returns-in_err-width-clause-refused : goal.returns-in_err-width-clause-refused
+returns-in_err-width-clause-refused g c =
+    let s = c.args.sizes in
+    let p = err_from_is_err_and c.from_residual.result c.from_residual.ensures.1 in
+    rw (p.1, p.2) (cause_begin (IsCountLine (codes "ncols ") s.least_width s.most_width) (IsGridTextIn s) (grid_first s c.requires) (call_of g.S.Source.left g.S.Source.faults c.args.feed.now c.read_count.new.feed) (lines_read c.args.lines.now) c.in_err-width.field-0.0 c.in_err-width.ensures.refused)
+
+pub read_count-requires-2-clause-some : goal.read_count-requires-2-clause-some
+read_count-requires-2-clause-some g c = rw c.min-most_height.ensures (some_rows c.args.sizes c.requires c.in_ok-width.width c.in_ok-width.ensures.within.0 c.in_ok-width.ensures.within.1)
+
+pub returns-in_err-height-clause-moves : goal.returns-in_err-height-clause-moves
+returns-in_err-height-clause-moves g c = moves_join (call_of g.S.Source.left g.S.Source.faults c.args.feed.now c.read_count.new.feed) (call_of g.S.Source.left g.S.Source.faults c.read_count.new.feed c.read_count-2.new.feed) c.read_count.ensures.moves c.read_count-2.ensures.moves
+
+pub returns-in_err-height-clause-refused : goal.returns-in_err-height-clause-refused
+unfolding columns_line
+returns-in_err-height-clause-refused g c =
+    let s = c.args.sizes in
+    let w = c.in_ok-width.width in
+    let p = err_from_is_err_and c.from_residual-in_err-height.result c.from_residual-in_err-height.ensures.1 in
+    rw (p.1, p.2) (fails_next (IsGridTextIn s) (IsCountLine (codes "nrows ") s.least_height (most_rows s w)) (columns_line w) (columns_whole w) (grid_second s c.requires w c.in_ok-width.ensures.within.0 c.in_ok-width.ensures.within.1)
+    (call_of g.S.Source.left g.S.Source.faults c.args.feed.now c.read_count.new.feed) (call_of g.S.Source.left g.S.Source.faults c.read_count.new.feed c.read_count-2.new.feed) (lines_read c.args.lines.now) (lines_read c.read_count.new.lines)
+    c.in_err-height.field-0.0 c.read_count.ensures.same_limit c.read_count.ensures.moves c.in_ok-width.ensures.read (rw c.min-most_height.ensures at c.in_err-height.ensures.refused))
+
+pub read_body-requires : goal.read_body-requires
+read_body-requires g c =
+    let w = c.in_ok-width in
+    let h = c.in_ok-height in
+    record { sized = sized_by w.width h.height (sized_within c.args.sizes c.requires w.width w.ensures.within.0 w.ensures.within.1 h.height h.ensures.within.0 (rw c.min-most_height.ensures at h.ensures.within.1)) }
+
+pub returns-clause-moves : goal.returns-clause-moves
+returns-clause-moves g c =
+    let a = call_of g.S.Source.left g.S.Source.faults c.args.feed.now c.read_count.new.feed in
+    let b = call_of g.S.Source.left g.S.Source.faults c.read_count.new.feed c.read_count-2.new.feed in
+    moves_join (joined a b) (call_of g.S.Source.left g.S.Source.faults c.read_count-2.new.feed c.read_body.new.feed) (moves_join a b c.read_count.ensures.moves c.read_count-2.ensures.moves) c.read_body.ensures.moves
+
+pub returns-clause-size : goal.returns-clause-size
+returns-clause-size g c =
+    let w = c.in_ok-width in
+    let h = c.in_ok-height in
+    IfOk-weaker c.read_body.result (λ grid. _) (λ grid. IsWithin c.args.sizes grid.width grid.height) (λ grid e. within_same c.args.sizes w.width h.height grid.width grid.height e (within_at c.args.sizes c.requires w.width w.ensures.within.0 w.ensures.within.1 h.height h.ensures.within.0 (rw c.min-most_height.ensures at h.ensures.within.1))) c.read_body.ensures.size
+
+pub returns-clause-read : goal.returns-clause-read
+unfolding columns_line rows_line
+returns-clause-read g c =
+    let a = call_of g.S.Source.left g.S.Source.faults c.args.feed.now c.read_count.new.feed in
+    let b = call_of g.S.Source.left g.S.Source.faults c.read_count.new.feed c.read_count-2.new.feed in
+    let done = lines_read c.args.lines.now in
+    let here = lines_read c.read_count-2.new.lines in
+    grid_read c.read_body.result c.in_ok-width.width c.in_ok-height.height (joined a b) (call_of g.S.Source.left g.S.Source.faults c.read_count-2.new.feed c.read_body.new.feed) done here _ c.read_body.ensures.size
+    (texts_join a b (columns_line c.in_ok-width.width) (rows_line c.in_ok-height.height) done (lines_read c.read_count.new.lines) here c.in_ok-width.ensures.read c.in_ok-height.ensures.read) c.read_body.ensures.read
+
+pub returns-clause-refused : goal.returns-clause-refused
+unfolding columns_line rows_line
+returns-clause-refused g c =
+    let s = c.args.sizes in
+    let w = c.in_ok-width in
+    let h = c.in_ok-height in
+    let a = call_of g.S.Source.left g.S.Source.faults c.args.feed.now c.read_count.new.feed in
+    let b = call_of g.S.Source.left g.S.Source.faults c.read_count.new.feed c.read_count-2.new.feed in
+    let d = call_of g.S.Source.left g.S.Source.faults c.read_count-2.new.feed c.read_body.new.feed in
+    let done = lines_read c.args.lines.now in
+    let here = lines_read c.read_count-2.new.lines in
+    IfErr-weaker c.read_body.result (HasLineCause (IsBodyText w.width h.height) here d) (HasLineCause (IsGridTextIn s) done (joined (joined a b) d))
+    (λ fault cause. cause_join (columns_line w.width ++ rows_line h.height) (IsBodyText w.width h.height) (IsGridTextIn s) (grid_after s c.requires w.width w.ensures.within.0 w.ensures.within.1 h.height h.ensures.within.0 (rw c.min-most_height.ensures at h.ensures.within.1)) (joined a b) d done here fault (c.read_count-2.ensures.same_limit ∙ c.read_count.ensures.same_limit)
+    (moves_join a b c.read_count.ensures.moves c.read_count-2.ensures.moves) (texts_join a b (columns_line w.width) (rows_line h.height) done (lines_read c.read_count.new.lines) here w.ensures.read h.ensures.read) cause)
+    c.read_body.ensures.refused

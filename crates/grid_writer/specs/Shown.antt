@@ -1,0 +1,20 @@
+-- The grid of a surface.
+use Rattle.std.specs.Prelude.{ℕ, ℤ, pos, neg_ℤ, List, Option, Some, None}
+use Rattle.raster_model.specs.Sums.{Field}
+use Rattle.surface_snapshots.specs.Parts.{Parts, value_in}
+use Rattle.grid_writer.specs.Grids.{GridOf, text_of_grid}
+
+-- what stands for the value at a pixel: the NODATA value where it has none
+abbrev pub shown_value : Option ℤ → ℤ
+shown_value (Some value) = value
+shown_value None = neg_ℤ (pos 9223372036854775808)
+
+-- the values of a surface as its grid shows them, and its grid
+abbrev pub shown_in : Parts → Field ℤ
+shown_in p x y = shown_value (value_in p x y)
+
+abbrev pub shown_grid : Parts → GridOf
+shown_grid p = record { width = p.session.scene.phase.width; height = p.session.scene.phase.height; values = shown_in p }
+
+abbrev pub text_of : Parts → List ℕ
+text_of p = text_of_grid (shown_grid p)

@@ -1,0 +1,150 @@
+-- Bytes in front of which no text of a form stands have a first broken line, where it can be told of whole lines what they are.
+use Rattle.std.proofs.Common.{◌≡◌, ℕ, ◌+◌, ◌<◌, ◌≤◌, List, [], ◌∷◌, ◌++◌, length, take, drop, inl, inr, ◌⊎◌, refl, sym, ap, subst, ◌∙◌, append_assoc, arith}
+use Rattle.std.proofs.lemmas.Bool.{cases_eq, cases_lt}
+use Rattle.std.proofs.lemmas.List.{append-nil, length-append, length-take, take_all, take-append-drop}
+use Rattle.text_lines.specs.Forms.{Form, Begins, NeedsMore, AreWholeLines, IsInLineOf, IsText, LineOf, lines_in}
+use Rattle.text_lines.specs.Reading.{BreaksFormAt, EndsFormIn, HasBrokenLine, IsCutIn, OneBrokenLine, StandsInFront, TextOrBreak}
+use Rattle.text_lines.proofs.FirstLemmas.{line_then, no_end_within, not_both, one_break, one_end}
+use Rattle.text_lines.proofs.FormLemmas.{ComesFirst, InLine, breaks_first, cons_head, cons_same, cons_tail, cut_unique, ends_with, goes_on_first, in_line, in_line_all, not_nil, whole_append, whole_line}
+use Rattle.text_lines.proofs.SeqLemmas.{SameForms, line_begins}
+use Rattle.text_lines.proofs.TextLemmas.{in_append}
+
+-- what bytes are for a form: a text of it, the front of a longer one, or the front of none
+abbrev pub Decided : Form → List ℕ → Type 0
+Decided F text = F text ⊎ (NeedsMore F text ⊎ (Begins F text → ⊥))
+
+abbrev pub IsDecided : Form → Type 0
+IsDecided F = (text : List ℕ) → AreWholeLines text → Decided F text
+
+-- a text of the form stands in front, or lines up to the first broken one, or the bytes end in a line that the form needs
+abbrev pub Found : Form → List ℕ → Type 0
+Found F bytes = ((text : List ℕ) × (rest : List ℕ) × (F text × (bytes ≡ text ++ rest))) ⊎ (((n : ℕ) × (front : List ℕ) × (rest : List ℕ) × (BreaksFormAt F n front × (bytes ≡ front ++ rest))) ⊎ ((n : ℕ) × EndsFormIn F n bytes))
+
+-- ---- line by line
+
+module _ (F : Form) (before line rest : List ℕ) (w : AreWholeLines before) (m : NeedsMore F before) (i : InLine line) where
+  abbrev here : List ℕ
+  here = before ++ (line ++ 10 ∷ [])
+
+  in_next : IsInLineOf (NeedsMore F) (lines_in before + 1) before line
+  in_next = record { whole = w; holds = m; inside = in_line_all line i; number = refl }
+
+  next_line : (bytes : List ℕ) → bytes ≡ here ++ rest → (NeedsMore F here → Found F (here ++ rest)) → Decided F here → Found F bytes
+  next_line bytes e next (inl t) = inl (here, rest, (t, e))
+  next_line bytes e next (inr (inl g)) = subst (Found F) (sym e) (next g)
+  next_line bytes e next (inr (inr none)) = inr (inl (lines_in before + 1, here, rest, ((before, line, (in_next, (refl, none))), e)))
+
+look : (F : Form) → IsDecided F → (before line rest : List ℕ) → AreWholeLines before → NeedsMore F before → InLine line → Found F (before ++ (line ++ rest))
+look F d before line [] w m i = inr (inr (lines_in before + 1, (before, line, (in_next F before line [] w m i, ap (λ (l : List ℕ). before ++ l) (append-nil line)))))
+look F d before line (b ∷ rest) w m i = elim (cases_eq b 10) [
+  | inl e ↦
+      let text = before ++ (line ++ 10 ∷ []) in
+      let whole = whole_append before (line ++ 10 ∷ []) w (whole_line line) in
+      next_line F before line rest w m i (before ++ (line ++ b ∷ rest)) (ap (λ (c : ℕ). before ++ (line ++ c ∷ rest)) e ∙ sym (line_then before line rest)) (λ g. look F d text [] rest whole g tt) (d text whole)
+  | inr n ↦ subst (λ (l : List ℕ). Found F (before ++ l)) (append_assoc line (b ∷ []) rest) (look F d before (line ++ b ∷ []) rest w m (in_append line (b ∷ []) i (n, tt)))
+]
+
+pub find_break : (F : Form) → IsDecided F → NeedsMore F [] → (bytes : List ℕ) → Found F bytes
+find_break F d m bytes = look F d [] [] bytes (inl refl) m tt
+
+module _ (F : Form) (room : ℕ) (bytes : List ℕ) where
+  whole_of : (p r : List ℕ) → take room bytes ≡ p ++ r → bytes ≡ p ++ (r ++ drop room bytes)
+  whole_of p r e = sym (take-append-drop room bytes) ∙ ap (λ (l : List ℕ). l ++ drop room bytes) e ∙ append_assoc p r (drop room bytes)
+
+  short_of : (p r : List ℕ) → take room bytes ≡ p ++ r → length p ≤ room
+  short_of p r e = let l = ap length e in omega (arith, l, length-append p r, length-take room bytes)
+
+  let_out : Found F (take room bytes) → StandsInFront F room bytes ⊎ (((n : ℕ) × HasBrokenLine F room n bytes) ⊎ IsCutIn F room bytes)
+  let_out (inl (t, r, (f, e))) = inl (t, r ++ drop room bytes, (f, (short_of t r e, whole_of t r e)))
+  let_out (inr (inl (n, f, r, (b, e)))) = inr (inl (n, inl (f, r ++ drop room bytes, (whole_of f r e, (short_of f r e, b)))))
+  let_out (inr (inr (n, h))) = elim (cases_lt room (length bytes)) [
+    | inl lt ↦ inr (inr (lt, (n, h)))
+    | inr le ↦ inr (inl (n, inr (le, subst (EndsFormIn F n) (take_all room bytes le) h)))
+  ]
+
+pub text_or_break : (F : Form) → IsDecided F → NeedsMore F [] → TextOrBreak F
+text_or_break F d m room bytes = let_out F room bytes (find_break F d m (take room bytes))
+
+begins_if_needs : (F : Form) (bytes : List ℕ) → NeedsMore F bytes → Begins F bytes
+begins_if_needs F bytes g = (g.0, g.1.1)
+
+pub one_broken_line : (F : Form) → OneBrokenLine F
+one_broken_line F r m n bytes (inl (f, s, (e, (le, b)))) (inl (g, t, (i, (lf, d)))) = one_break F (NeedsMore F) (begins_if_needs F) m n f g s t (sym e ∙ i) b d
+one_broken_line F r m n bytes (inl (f, s, (e, (le, b)))) (inr (lf, d)) = absurd (not_both F (NeedsMore F) (begins_if_needs F) m n f s bytes (sym e) b d)
+one_broken_line F r m n bytes (inr (le, b)) (inl (g, t, (i, (lf, d)))) = absurd (not_both F (NeedsMore F) (begins_if_needs F) n m g t bytes (sym i) d b)
+one_broken_line F r m n bytes (inr (le, b)) (inr (lf, d)) = one_end F (NeedsMore F) (begins_if_needs F) m n bytes b d
+
+-- ---- forms that are made of forms
+
+whole_rest : (p r : List ℕ) → AreWholeLines (p ++ r) → AreWholeLines r
+whole_rest p [] w = inl refl
+whole_rest p (b ∷ r) (inl e) = absurd (let q = ap length e in omega (arith, q, length-append p (b ∷ r)))
+whole_rest p (b ∷ r) (inr f) = inr (ends_with p r f.0 b f.1)
+
+after_part : (F : Form) (p r : List ℕ) → Decided (λ (t : List ℕ). F (p ++ t)) r → Decided F (p ++ r)
+after_part F p r (inl t) = inl t
+after_part F p r (inr (inl g)) = inr (inl (g.0, (g.1.0, subst F (sym (append_assoc p r g.0)) g.1.1)))
+after_part F p r (inr (inr none)) = inr (inr (λ b. none (b.0, subst F (append_assoc p r b.0) b.1)))
+
+-- forms with the same texts
+pub decided_same : (F G : Form) → SameForms F G → (t : List ℕ) → Decided F t → Decided G t
+decided_same F G s t (inl f) = inl (s.to t f)
+decided_same F G s t (inr (inl g)) = inr (inl (g.0, (g.1.0, s.to (t ++ g.0) g.1.1)))
+decided_same F G s t (inr (inr none)) = inr (inr (λ b. none (b.0, s.«from» (t ++ b.0) b.1)))
+
+-- a part that comes first, and what comes after each such part
+module _ (F1 F : Form) (f : ComesFirst F1 F) (next : (p : List ℕ) → F1 p → IsDecided (λ (t : List ℕ). F (p ++ t))) where
+  first_decided : (t : List ℕ) → AreWholeLines t → Found F1 t → Decided F t
+  first_decided t w (inl (p, r, (a, e))) = subst (Decided F) (sym e) (after_part F p r (next p a r (whole_rest p r (subst AreWholeLines e w))))
+  first_decided t w (inr (inl (n, p, r, (b, e)))) = inr (inr (λ g. (breaks_first F1 F f n p b).2.1.1 (r ++ g.0, subst F (ap (λ (l : List ℕ). l ++ g.0) e ∙ append_assoc p r g.0) g.1)))
+  first_decided t w (inr (inr (n, (before, line, (h, e))))) =
+      let none = no_end_within t before line line [] w e (in_line line h.inside) (sym (append-nil line)) in
+      let same : t ≡ before = e ∙ ap (λ (l : List ℕ). before ++ l) none ∙ append-nil before in
+      inr (inl (goes_on_first F1 F f t (subst (NeedsMore F1) (sym same) h.holds)))
+
+  pub parts_decided : IsDecided F1 → NeedsMore F1 [] → IsDecided F
+  parts_decided d m t w = first_decided t w (find_break F1 d m t)
+
+-- the first line of some bytes
+first_line : (t : List ℕ) → InLine t ⊎ ((line : List ℕ) × (rest : List ℕ) × (InLine line × (t ≡ line ++ 10 ∷ rest)))
+first_line [] = inl tt
+first_line (b ∷ t) = elim (cases_eq b 10) [
+  | inl e ↦ inr ([], t, (tt, ap (λ (c : ℕ). c ∷ t) e))
+  | inr n ↦ elim (first_line t) [ inl i ↦ inl (n, i) | inr l ↦ inr (b ∷ l.0, l.1, ((n, l.2.0), ap (λ (m : List ℕ). b ∷ m) l.2.1)) ]
+]
+
+-- a line of a kind that can be told
+module _ (D : List ℕ → Type 0) (inside : (line : List ℕ) → D line → InLine line) (tell : (line : List ℕ) → D line ⊎ (D line → ⊥)) (some : (line : List ℕ) × D line) where
+  pub needs_line : NeedsMore (LineOf D) []
+  needs_line = (line_begins D inside some.0 some.1).some
+
+  same_cut : (t line rest : List ℕ) → InLine line → t ≡ line ++ 10 ∷ rest → (b : Begins (LineOf D) t) → (line ≡ b.1.0) × (rest ++ b.0 ≡ [])
+  same_cut t line rest i e b = cut_unique line b.1.0 (rest ++ b.0) [] i (inside b.1.0 b.1.1.0) (sym (append_assoc line (10 ∷ rest) b.0) ∙ ap (λ (l : List ℕ). l ++ b.0) (sym e) ∙ b.1.1.1)
+
+  line_is : (t line rest : List ℕ) → InLine line → t ≡ line ++ 10 ∷ rest → Decided (LineOf D) t
+  line_is t line [] i e = elim (tell line) [
+    | inl d ↦ inl (line, (d, e))
+    | inr n ↦ inr (inr (λ b. n (subst D (sym (same_cut t line [] i e b).0) b.1.1.0)))
+  ]
+  line_is t line (c ∷ rest) i e = inr (inr (λ b. not_nil c (rest ++ b.0) (sym (same_cut t line (c ∷ rest) i e b).1)))
+
+  pub line_decided : IsDecided (LineOf D)
+  line_decided t w = elim (first_line t) [
+    | inl i ↦ let none = no_end_within t [] t t [] w refl i (sym (append-nil t)) in inr (inl (subst (NeedsMore (LineOf D)) (sym none) needs_line))
+    | inr l ↦ line_is t l.0 l.1 l.2.0 l.2.1
+  ]
+
+-- a text that is known
+more_of : (a : ℕ) (x t : List ℕ) → Decided (IsText x) t → Decided (IsText (a ∷ x)) (a ∷ t)
+more_of a x t (inl e) = inl (ap (λ (l : List ℕ). a ∷ l) e)
+more_of a x t (inr (inl g)) = inr (inl (g.0, (g.1.0, ap (λ (l : List ℕ). a ∷ l) g.1.1)))
+more_of a x t (inr (inr none)) = inr (inr (λ b. none (b.0, cons_tail a a (t ++ b.0) x b.1)))
+
+pub text_decided : (x t : List ℕ) → Decided (IsText x) t
+text_decided [] [] = inl refl
+text_decided [] (b ∷ t) = inr (inr (λ g. not_nil b (t ++ g.0) (sym g.1)))
+text_decided (a ∷ x) [] = inr (inl (a ∷ x, (λ e. not_nil a x (sym e), refl)))
+text_decided (a ∷ x) (b ∷ t) = elim (cases_eq a b) [
+  | inl e ↦ subst (λ (c : ℕ). Decided (IsText (a ∷ x)) (c ∷ t)) e (more_of a x t (text_decided x t))
+  | inr n ↦ inr (inr (λ g. n (sym (cons_head b a (t ++ g.0) x g.1))))
+]

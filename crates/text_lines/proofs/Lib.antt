@@ -1,0 +1,17 @@
+pub mod AddLemmas
+pub mod BreakLemmas
+pub mod CauseLemmas
+pub mod ChainLemmas
+pub mod DigitLemmas
+pub mod FieldLemmas
+pub mod FirstLemmas
+pub mod FormLemmas
+pub mod LineLemmas
+pub mod NumberLemmas
+pub mod NumberLines
+pub mod ParseLemmas
+pub mod SeqLemmas
+pub mod StepLemmas
+pub mod TakeLemmas
+pub mod TellLemmas
+pub mod TextLemmas

@@ -1,0 +1,57 @@
+-- Parts of a text that are read one after another: what they took together, and why the second was not read.
+use Rattle.std.proofs.Common.{◌≡◌, ℕ, ◌+◌, List, [], ◌∷◌, ◌++◌, refl, sym, ap, subst, ◌∙◌, arith}
+use Rattle.insar_ports.specs.Calls.{Call, Moves}
+use Rattle.insar_ports.proofs.CallLemmas.{call, Moves-then, Takes-then, stays}
+use Rattle.text_lines.specs.declared.fault.LineFault.{LineFault}
+use Rattle.text_lines.specs.Forms.{AreWholeLines, Form, IsLine, IsText, lines_in}
+use Rattle.text_lines.specs.LineWords.{TakesLines}
+use Rattle.text_lines.specs.Reading.{HasLineCause}
+use Rattle.text_lines.proofs.FormLemmas.{ComesFirst, ComesAfter, lines_append}
+use Rattle.text_lines.proofs.CauseLemmas.{cause_first, cause_after}
+use Rattle.text_lines.proofs.LineLemmas.{after_known, known_first, takes_nothing}
+use Rattle.text_lines.proofs.SeqLemmas.{SameForms, same_after}
+
+-- the second of two calls, and both as one
+abbrev pub second : Call → Call → Call
+second a b = call a.left a.end b.left b.end b.limit a.after b.after
+
+abbrev pub joined : Call → Call → Call
+joined a b = call a.told a.at b.left b.end a.limit a.before b.after
+
+pub moves_join : (a b : Call) → Moves a → Moves (second a b) → Moves (joined a b)
+moves_join a b p q = Moves-then a.told a.at a.left a.end b.left b.end a.limit b.limit a.before a.after b.after p q
+
+abbrev Taken : Form → ℕ → ℕ → List ℕ → List ℕ → Type 0
+Taken F done now text rest = F text × (now ≡ done + lines_in text)
+
+both_texts : (x y : List ℕ) (done mid now : ℕ) (p m q r : List ℕ) → Taken (IsText x) done mid p m → m ≡ q ++ r → Taken (IsText y) mid now q r → Taken (IsText (x ++ y)) done now (p ++ q) r
+both_texts x y done mid now p m q r a e b =
+    let c = a.1 in
+    let d = b.1 in
+    (ap (λ (l : List ℕ). l ++ q) a.0 ∙ ap (λ (l : List ℕ). x ++ l) b.0, omega (arith, c, d, lines_append p q))
+
+pub texts_join : (a b : Call) (x y : List ℕ) (done mid now : ℕ) → TakesLines (IsText x) done mid a → TakesLines (IsText y) mid now (second a b) → TakesLines (IsText (x ++ y)) done now (joined a b)
+texts_join a b x y done mid now t u = Takes-then a.told a.at a.left a.end b.left b.end a.limit b.limit a.before a.after b.after (Taken (IsText x) done mid) (Taken (IsText y) mid now) (Taken (IsText (x ++ y)) done now) (both_texts x y done mid now) t u
+
+pub texts_are : (c : Call) (x y : List ℕ) (done now : ℕ) → x ≡ y → TakesLines (IsText x) done now c → TakesLines (IsText y) done now c
+texts_are c x y done now e t = subst (λ (l : List ℕ). TakesLines (IsText l) done now c) e t
+
+pub cause_join : (x : List ℕ) (F2 F : Form) → ComesAfter x F2 F → (a b : Call) (done now : ℕ) (fault : LineFault) → b.limit ≡ a.limit → Moves a → TakesLines (IsText x) done now a → HasLineCause F2 now (second a b) fault → HasLineCause F done (joined a b) fault
+cause_join x F2 F f a b done now fault l m t h = cause_after (IsText x) F2 F (λ p e. subst (λ (q : List ℕ). ComesAfter q F2 F) (sym e) f) done now a.told a.at a.left a.end b.left b.end a.limit b.limit a.before a.after b.after fault l m.grows t h
+
+pub cause_begin : (F1 F : Form) → ComesFirst F1 F → (c : Call) (done : ℕ) (fault : LineFault) → HasLineCause F1 done c fault → HasLineCause F done c fault
+cause_begin F1 F f c done fault h = cause_first F1 F f done c.told c.at c.left c.end c.limit c.before c.after fault h
+
+-- what comes next after a known part was not read
+pub fails_next : (F F1 : Form) (p : List ℕ) → AreWholeLines p → ComesFirst F1 (λ (t : List ℕ). F (p ++ t)) → (a b : Call) (done now : ℕ) (fault : LineFault) → b.limit ≡ a.limit → Moves a → TakesLines (IsText p) done now a → HasLineCause F1 now (second a b) fault → HasLineCause F done (joined a b) fault
+fails_next F F1 p w f a b done now fault l m t h = cause_join p (λ (t : List ℕ). F (p ++ t)) F (after_known p F w p refl) a b done now fault l m t (cause_begin F1 (λ (t : List ℕ). F (p ++ t)) f (second a b) now fault h)
+
+-- the same, for a line of a text that is known
+pub line_fails : (p line r whole : List ℕ) → AreWholeLines p → whole ≡ p ++ ((line ++ 10 ∷ []) ++ r) → (a b : Call) (done now : ℕ) (fault : LineFault) → b.limit ≡ a.limit → Moves a → TakesLines (IsText p) done now a → HasLineCause (IsLine line) now (second a b) fault → HasLineCause (IsText whole) done (joined a b) fault
+line_fails p line r whole w e = fails_next (IsText whole) (IsLine line) p w (known_first p line r whole e)
+
+-- forms with the same texts have the same causes
+pub cause_same : (F G : Form) → SameForms F G → (c : Call) (done : ℕ) (fault : LineFault) → HasLineCause F done c fault → HasLineCause G done c fault
+cause_same F G s c done fault h =
+    cause_join [] F G (same_after F G s) (call c.told c.at c.told c.at c.limit c.before c.before) c done done fault refl (stays c.told c.told c.at c.at c.limit c.before c.before refl refl (omega arith))
+    (takes_nothing c.told c.at c.limit c.before c.before [] done refl) h

@@ -1,0 +1,9 @@
+pub mod Adding
+pub mod Faults
+pub mod Forms
+pub mod LineWords
+pub mod Numbers
+pub mod Parsing
+pub mod Reading
+pub mod Text
+pub mod Views

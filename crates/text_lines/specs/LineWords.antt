@@ -1,0 +1,36 @@
+-- A line as it is read: words of helpers and of `Lines`.
+use Rattle.std.specs.Prelude.{◌≡◌, ℕ, ◌+◌, ◌<◌, List, [], ◌∷◌, ◌++◌, All, length, ⊤}
+use Rattle.insar_ports.specs.Bytes.{HasMore, HasRisen}
+use Rattle.insar_ports.specs.Calls.{Call, Takes}
+use Rattle.insar_ports.specs.Lines.{IsInLine}
+use Rattle.text_lines.specs.Forms.{Form, lines_in}
+use Rattle.text_lines.specs.declared.fault.LineFault.{LineFault}
+use Rattle.text_lines.specs.declared.fault.LineFault.TheVariants as faults
+use Rattle.text_lines.specs.declared.lines.LineEnd.{LineEnd}
+use Rattle.text_lines.specs.declared.lines.LineEnd.TheVariants.{Whole, Long, Cut}
+use Rattle.text_lines.specs.declared.lines.Lines.{Lines}
+
+-- the bytes of the line that was read last, without its LF, and its number
+abbrev pub kept_line : Lines → List ℕ
+kept_line lines = lines.line.items
+
+abbrev pub lines_read : Lines → ℕ
+lines_read lines = lines.number
+
+-- What the read of a line says of the bytes that are told: a line and its LF were taken, and the line is kept; or a line of more
+-- than `most` bytes; or the input ended within a line.
+abbrev pub IsLineRead : ℕ → List ℕ → Call → LineEnd → Type 0
+IsLineRead most kept c Whole = Takes c (λ text rest. (text ≡ kept ++ 10 ∷ []) × All IsInLine kept)
+IsLineRead most kept c Long = Takes c (λ text rest. (line : List ℕ) × ((text ≡ line ++ 10 ∷ []) × (All IsInLine line × (most < length line))))
+IsLineRead most kept c Cut = Takes c (λ text rest. All IsInLine text × (rest ≡ []))
+
+-- why no line was read
+abbrev pub HasNextCause : Call → LineFault → Type 0
+HasNextCause c (faults.Line n) = ⊥
+HasNextCause c faults.TooLong = (c.end ≡ c.limit) × (HasMore c.left × Takes c (λ text rest. All IsInLine text))
+HasNextCause c faults.ReadFault = HasRisen c.before c.after
+HasNextCause c faults.Memory = ⊤
+
+-- Lines of the form F were taken: so many lines were read before them, and so many have been read now.
+abbrev pub TakesLines : Form → ℕ → ℕ → Call → Type 0
+TakesLines F done now c = Takes c (λ text rest. F text × (now ≡ done + lines_in text))

@@ -1,21 +1,8 @@
 -- A whole plane: from what the reader gives to what its callers are promised.
-use Rattle.std.proofs.Common.{◌≡◌, ℕ, ◌+◌, ◌-◌, ◌<◌, true, false, List, [], ◌∷◌, ◌++◌, length, take, drop, Option, Some, None, Result, Ok, Err, refl, sym, ap, subst, ◌∙◌, arith, inl, inr, ltb}
-use Rattle.std.specs.Prelude.{IfSome, IfOk, IfErr}
-use Rattle.std.proofs.lemmas.Bool.{cases_Bool, ltb-false, lt-ltb}
-use Rattle.std.proofs.lemmas.List.{length-append, take-append-drop, take_all}
-use Rattle.insar_ports.specs.Bytes.{with_front}
-use Rattle.raster_model.specs.declared.plane.Plane.{Plane}
-use Rattle.pgm_planes.specs.declared.fault.Role.{Role}
-use Rattle.pgm_planes.specs.declared.fault.PlaneFault.{PlaneFault}
-use Rattle.pgm_planes.specs.declared.fault.ReadPlaneFault.{ReadPlaneFault}
+use Rattle.std.proofs.Common.{◌≡◌, ℕ, ◌+◌, ◌-◌, ◌<◌, true, false, List, [], ◌∷◌, ◌++◌, length, take, drop, Some, Result, Ok, Err, sym, ap, subst, ◌∙◌, arith, inl, inr, ltb}
+use Rattle.pgm_planes.proofs.Words.{IfSome, IfOk, IfErr, cases_Bool, ltb-false, lt-ltb, length-append, take-append-drop, take_all, with_front, Plane, Role, PlaneFault, ReadPlaneFault, PlaneOf, plane_of, SpellsPlane, IsPlaneIn, FirstBreak, AsksForMore, Call, IsCutOff, HasPlaneCause, IsReadAsPlane, IsCutShort, Reading, asks, breaks, goes_beyond, Reads, plane_at}
 use Rattle.pgm_planes.specs.declared.fault.ReadPlaneFault.TheVariants as errors
-use Rattle.pgm_planes.specs.Planes.{PlaneOf, plane_of, SpellsPlane, IsPlaneIn}
-use Rattle.pgm_planes.specs.Breaks.{FirstBreak}
-use Rattle.pgm_planes.specs.Asking.{AsksForMore}
-use Rattle.insar_ports.specs.Calls.{Call, IsCutOff}
 use Rattle.insar_ports.specs.Calls.{Takes as TakesText}
-use Rattle.pgm_planes.specs.Causes.{HasCause, IsReadAs, IsCutShort}
-use Rattle.pgm_planes.specs.Reading.{Reading, asks, breaks, goes_beyond, Reads, plane_at}
 use Rattle.pgm_planes.proofs.HeaderLemmas.{done, ok_is, break_is, done_asks, break_asks, not_both, same_value, same_rest}
 use Rattle.pgm_planes.proofs.PlaneWalk.{PlaneRead, plane_walk}
 use Rattle.pgm_planes.proofs.PlaneAgain.{plane_told}
@@ -100,7 +87,7 @@ module _ (role : Role) (c : Call) where
       let asked : plane_at role (goes_beyond c.limit c.at bytes) c.at (take (c.limit - c.at) bytes) ≡ asks = r.answers.1 bytes l.0 t l.1 in
       (beyond, asks_told role c.at (take (c.limit - c.at) bytes) (rw (lt-ltb c.limit (c.at + length bytes) beyond) at asked)))
 
-  pub has_cause : (r : Result Plane ReadPlaneFault) → Reads plane_of r c (plane_at role) → IfErr r (HasCause role c)
+  pub has_cause : (r : Result Plane ReadPlaneFault) → Reads plane_of r c (plane_at role) → IfErr r (HasPlaneCause role c)
   has_cause (Ok plane) r = tt
   has_cause (Err (errors.Plane fault)) r = if_told c.told _ (λ bytes t. broken role c.at bytes fault (break_all fault r bytes t))
   has_cause (Err errors.TooLong) r = (r.answers.0.0, r.answers.0.1, is_asked r)
@@ -108,7 +95,7 @@ module _ (role : Role) (c : Call) where
   has_cause (Err errors.Memory) r = tt
 
   -- bytes that begin with the plane are read as it
-  pub read_as : (r : Result Plane ReadPlaneFault) → Reads plane_of r c (plane_at role) → (bytes : List ℕ) → c.told ≡ Some bytes → (p : PlaneOf) (rest : List ℕ) → IsPlaneIn role bytes p rest → IsReadAs c p rest r
+  pub read_as : (r : Result Plane ReadPlaneFault) → Reads plane_of r c (plane_at role) → (bytes : List ℕ) → c.told ≡ Some bytes → (p : PlaneOf) (rest : List ℕ) → IsPlaneIn role bytes p rest → IsReadAsPlane c p rest r
   read_as (Ok plane) r bytes t p rest i =
       let l = read_all plane r bytes t in
       let both : done (plane_of plane) c.end l.0 ≡ done p (c.at + length i.0) rest = sym l.2 ∙ ap (plane_at role false c.at) i.1 ∙ plane_told role c.at i.0 p rest i.2 in
@@ -119,7 +106,7 @@ module _ (role : Role) (c : Call) where
   read_as (Err errors.ReadFault) r bytes t p rest i = tt
   read_as (Err errors.Memory) r bytes t p rest i = tt
 
-  pub accepts_plane : (r : Result Plane ReadPlaneFault) → Reads plane_of r c (plane_at role) → IfSome c.told (λ bytes. (p : PlaneOf) (rest : List ℕ) → IsPlaneIn role bytes p rest → IsReadAs c p rest r)
+  pub accepts_plane : (r : Result Plane ReadPlaneFault) → Reads plane_of r c (plane_at role) → IfSome c.told (λ bytes. (p : PlaneOf) (rest : List ℕ) → IsPlaneIn role bytes p rest → IsReadAsPlane c p rest r)
   accepts_plane r h = if_told c.told _ (λ bytes t. read_as r h bytes t)
 
   -- bytes that are cut off ask for more within the limit

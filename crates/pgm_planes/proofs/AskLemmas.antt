@@ -1,32 +1,19 @@
 -- The reader of a plane asks for more bytes where they are judged at their end, and not elsewhere.
-use Rattle.std.proofs.Common.{◌≡◌, ℕ, suc, ◌+◌, ◌*◌, ◌≤◌, ◌<◌, true, false, ◌⊎◌, List, [], ◌∷◌, ◌++◌, length, Some, None, Ok, Err, refl, sym, ap, subst, ◌∙◌, arith, inl, inr}
-use Rattle.std.proofs.lemmas.List.{length-append, append-nil}
-use Rattle.pgm_planes.specs.declared.fault.Role.{Role}
-use Rattle.pgm_planes.specs.declared.fault.PlaneFault.{PlaneFault}
-use Rattle.pgm_planes.specs.declared.fault.PlaneFault.TheVariants.{Magic, Form, Size, SampleAbove, Short}
-use Rattle.pgm_planes.specs.declared.spelling.Spelling.{Spelling}
-use Rattle.pgm_planes.specs.declared.spelling.Spelling.TheVariants.{Raw, Plain}
-use Rattle.pgm_planes.specs.declared.samples.SampleForm.{SampleForm}
-use Rattle.pgm_planes.specs.declared.samples.SampleForm.TheVariants.{Digits}
-use Rattle.pgm_planes.specs.Gaps.{is_space}
-use Rattle.pgm_planes.specs.Planes.{PlaneOf, digit_of, IsPlaneText, IsPlaneIn}
-use Rattle.pgm_planes.specs.Breaks.{BreaksInHeader, IsShort, FirstBreak}
-use Rattle.pgm_planes.specs.Asking.{EndsAbove, EndsInRaster, AsksForMore}
-use Rattle.pgm_planes.specs.Reading.{Reading, ◌>>=◌, asks, breaks, nothing, magic_at, HeaderOf, header_at, form_of, blanks_at, samples_at, end_at, end_of, raster_at, plane_at}
-use Rattle.pgm_planes.proofs.HeaderLemmas.{done, ok_is, break_is, done_asks, break_asks, not_both, same_place, same_rest}
-use Rattle.pgm_planes.proofs.NumberLemmas.{IsStuck, HeaderText, header_record, header_walk}
-use Rattle.pgm_planes.proofs.HeaderAgain.{header_breaks_again}
-use Rattle.pgm_planes.proofs.SampleLemmas.{LeadFits}
-use Rattle.pgm_planes.proofs.RasterLemmas.{AllBelow, AboveIn, samples_walk, last_sample, samples_again}
+use Rattle.std.proofs.Common.{Option, ◌≡◌, ℕ, ◌+◌, ◌*◌, ◌<◌, true, false, ◌⊎◌, List, [], ◌∷◌, ◌++◌, length, Some, None, Ok, Err, refl, sym, ap, subst, ◌∙◌, arith, inl, inr}
+use Rattle.pgm_planes.proofs.Words.{Narrow, Wide, IsPlaneEnd, unless_broken, Role, PlaneFault, Magic, Form, Size, SampleAbove, Short, Spelling, Raw, Plain, SampleForm, Digits, PlaneOf, digit_of, IsPlaneText, IsPlaneIn, BreaksInHeader, IsShort, FirstBreak, EndsAbove, EndsInRaster, AsksForMore, Reading, ◌⟫◌, asks, breaks, nothing, magic_at, HeaderOf, header_at, form_of, samples_at, end_at, end_of, raster_at, plane_at}
+use Rattle.std.proofs.lemmas.List.{append-nil}
+use Rattle.pgm_planes.proofs.HeaderLemmas.{done, seen, seen_false, ok_is, done_asks, break_asks, not_both, same_rest}
+use Rattle.pgm_planes.proofs.NumberLemmas.{IsStuck, header_record, header_walk}
+use Rattle.pgm_planes.proofs.HeaderAgain.{header_again, header_breaks_again}
+use Rattle.pgm_planes.proofs.SampleLemmas.{heard, LeadFits, EndsSample}
+use Rattle.pgm_planes.proofs.RasterLemmas.{SamplesBreak, SamplesText, samples_walk, above_again, bad_again, samples_again}
 use Rattle.pgm_planes.proofs.LimitLemmas.{limit_walk}
 use Rattle.pgm_planes.proofs.PlaneSteps.{after_header}
 use Rattle.pgm_planes.proofs.PlaneLemmas.{magic_walk, lead_of, lead_fits}
 use Rattle.pgm_planes.proofs.PlaneWalk.{Headed, TextRead, digits_alone, above_break, samples_break, end_walk, text_read, pixels_some, header_is}
 use Rattle.pgm_planes.proofs.PlaneAgain.{GoodHeader, above_over, above_read, short_over, plane_over, end_of_blanks, plane_told, no_break_of_plane}
+use Rattle.pgm_planes.proofs.StepLemmas.{end_breaks}
 use Rattle.pgm_planes.proofs.FarLemmas.{further, Holds, header_far, samples_far}
-use Rattle.pgm_planes.proofs.NearLemmas.{header_near, limits_near, end_near}
-use Rattle.pgm_planes.proofs.CutLemmas.{raw_asks, raw_told, PlainCut, plain_asks, plain_told}
-use Rattle.sums_and_lists.proofs.Lists.{no_length}
 
 -- ---- what is not asked for is the same whether more bytes come or not
 
@@ -44,7 +31,7 @@ header_same role at bytes = same_far (header_at role true at bytes) (header_at r
 samples_same : (form : SampleForm) (maxval n k at : ℕ) (bytes : List ℕ) → (samples_at form maxval n k true at bytes ≡ asks) ⊎ (samples_at form maxval n k true at bytes ≡ samples_at form maxval n k false at bytes)
 samples_same form maxval n k at bytes = same_far (samples_at form maxval n k true at bytes) (samples_at form maxval n k false at (bytes ++ [])) (samples_at form maxval n k false at bytes) (samples_far [] form maxval n k at bytes) (ap (samples_at form maxval n k false at) (append-nil bytes))
 
-bind_asks : {A B : Type 0} (r : Reading A) (f : A → ℕ → List ℕ → Reading B) → (r >>= f) ≡ asks → (r ≡ asks) ⊎ ((x : A) × (at : ℕ) × (rest : List ℕ) × (r ≡ done x at rest) × (f x at rest ≡ asks))
+bind_asks : {A B : Type 0} (r : Reading A) (f : A → ℕ → List ℕ → Reading B) → (r ⟫ f) ≡ asks → (r ≡ asks) ⊎ ((x : A) × (at : ℕ) × (rest : List ℕ) × (r ≡ done x at rest) × (f x at rest ≡ asks))
 bind_asks (Ok x) f h = inr (x.0, x.1, x.2, refl, h)
 bind_asks (Err None) f h = inl refl
 bind_asks (Err (Some fault)) f h = absurd cc
@@ -63,7 +50,7 @@ magic_true Raw at behind = refl
 magic_true Plain at behind = refl
 
 module _ (role : Role) (spelling : Spelling) (at : ℕ) where
-  plane_true : (rest : List ℕ) → plane_at role true at (80 ∷ digit_of spelling ∷ rest) ≡ (header_at role true (at + 2) rest >>= λ header. after_header spelling header true)
+  plane_true : (rest : List ℕ) → plane_at role true at (80 ∷ digit_of spelling ∷ rest) ≡ (header_at role true (at + 2) rest ⟫ λ header. after_header spelling header true)
   unfolding plane_at after_header
   plane_true rest = rw (magic_true spelling at rest) refl
 
@@ -87,77 +74,32 @@ module _ (w h m start : ℕ) (rest : List ℕ) where
   end_asks vs end others e a = rw (e, a) refl
 
 form_ends : (role : Role) (at : ℕ) (bytes : List ℕ) → BreaksInHeader bytes [] → plane_at role true at bytes ≡ asks
-form_ends role at bytes b =
-    let text : List ℕ = b.numbers ++ (b.part ++ []) in
-    let e : ℕ = (at + 2) + length text in
-    let place : (at + 2) + length (b.numbers ++ b.part) ≡ e = omega (arith, length-append b.numbers b.part, length-append b.numbers (b.part ++ []), length-append b.part []) in
-    ap (plane_at role true at) b.whole ∙ elim (header_near role (at + 2) text e refl) [
-      | inl d ↦ header_asks role b.spelling at text d.0
-      | inr d ↦ absurd (d.1 (header_breaks_again role (at + 2) b.numbers b.values b.part [] b.are b.stuck ∙ ap (λ (n : ℕ). breaks (Form n)) place))
-    ]
-
-not_digits : (m : ℕ) → form_of Raw m ≡ Digits → ⊥
-not_digits m e = let x = digits_alone Raw m e in cc
-
--- samples that are missing are asked for
-missing_ask : (spelling : Spelling) (m n start : ℕ) (rest : List ℕ) (i : ℕ) → 1 ≤ n → samples_at (form_of spelling m) m n 0 false start rest ≡ breaks (Short i) → samples_at (form_of spelling m) m n 0 true start rest ≡ asks
-missing_ask Raw m n start rest i one h = raw_told (form_of Raw m) m n 0 start rest i (not_digits m) h
-missing_ask Plain m n start rest i one h = plain_told m n 0 start rest (start + length rest) refl one (inl (i, h))
+form_ends role at bytes b = ap (plane_at role true at) b.whole ∙ header_asks role b.spelling at (b.numbers ++ (b.part ++ [])) (header_breaks_again true role (at + 2) b.numbers b.values b.part [] b.are b.stuck)
 
 short_ends : (role : Role) (at : ℕ) (bytes : List ℕ) (found : ℕ) → IsShort role bytes found → plane_at role true at bytes ≡ asks
 short_ends role at bytes found b =
     let t = short_over role at bytes found b in
     let o = t.over in
-    let one : 1 ≤ b.good.width * b.good.height = pixels_some b.good.width b.good.height b.good.size in
-    good_asks role b.spelling at bytes b.good.width b.good.height b.maxval o.start o.rest o.good
-    (samples_ask b.good.width b.good.height b.maxval o.start o.rest b.spelling (missing_ask b.spelling b.maxval (b.good.width * b.good.height) o.start o.rest found one t.samples))
+    good_asks role b.spelling at bytes b.good.width b.good.height b.maxval o.start o.rest o.good (samples_ask b.good.width b.good.height b.maxval o.start o.rest b.spelling (t.samples true))
 
-below_all : (m top v : ℕ) (vs : List ℕ) → AllBelow m vs → m ≤ top → v ≤ top → AllBelow top (vs ++ v ∷ [])
-below_all m top v [] b le lv = (lv, tt)
-below_all m top v (x ∷ vs) b le lv = (omega (arith, b.0, le), below_all m top v vs b.1 le lv)
-
--- without a maxval the samples up to the one that is above are read, and what follows is left
-above_all : (m n start : ℕ) (lead rest : List ℕ) (f : PlaneFault) → LeadFits Digits lead rest → (a : AboveIn Digits m n 0 (lead ++ rest) f) → (end : ℕ) × (start + length rest ≡ end + length a.rest) × (samples_at Digits 4294967295 (suc (length a.values)) 0 false start rest ≡ done (a.values ++ a.value ∷ []) end a.rest)
-above_all m n start lead rest f fits a =
-    let l = last_sample Digits a.samples a.values a.value a.are in
-    let small : a.value ≤ 4294967295 = omega (arith, l.is.6) in
-    let count : length (a.values ++ a.value ∷ []) ≡ suc (length a.values) = omega (arith, length-append a.values (a.value ∷ [])) in
-    let s = samples_again Digits 4294967295 0 start lead rest a.samples (a.values ++ a.value ∷ []) a.rest a.are a.parts fits a.ends (below_all m 4294967295 a.value a.values a.below (omega (arith, small, a.above)) small) (omega (arith, count)) in
-    (s.0, s.1, ap (λ (k : ℕ). samples_at Digits 4294967295 k 0 false start rest) (sym count) ∙ s.2)
-
-above_asks : (role : Role) (spelling : Spelling) (at : ℕ) (bytes : List ℕ) (w h m space start : ℕ) (rest : List ℕ) (index value : ℕ) → is_space space ≡ true → 1 ≤ w * h → GoodHeader role spelling at bytes w h m start rest
-    → (a : AboveIn (form_of spelling m) m (w * h) 0 (lead_of spelling space ++ rest) (SampleAbove index value)) → samples_at (form_of spelling m) m (w * h) 0 false start rest ≡ breaks (SampleAbove index value) → spelling ≡ Plain → a.rest ≡ [] → plane_at role true at bytes ≡ asks
-above_asks role Raw at bytes w h m space start rest index value s one g a read plain none = absurd cc
-above_asks role Plain at bytes w h m space start rest index value s one g a read plain none =
-    let all = above_all m (w * h) start (space ∷ []) rest (SampleAbove index value) (lead_fits Plain m space rest s) a in
-    let last : all.0 ≡ start + length rest = omega (arith, all.1, ap length none) in
-    let whole : samples_at Digits 4294967295 (suc (length a.values)) 0 false start rest ≡ done (a.values ++ a.value ∷ []) (start + length rest) []
-    = all.2 ∙ ap (λ (t : List ℕ). done (a.values ++ a.value ∷ []) all.0 t) none ∙ ap (λ (n : ℕ). done (a.values ++ a.value ∷ []) n []) last in
-    let cut : PlainCut m (w * h) 0 start rest (start + length rest) = inr (inr (length a.values, a.value, a.values ++ a.value ∷ [], read ∙ ap (λ (f : PlaneFault). breaks f) a.fault, whole)) in
-    good_asks role Plain at bytes w h m start rest g (samples_ask w h m start rest Plain (plain_told m (w * h) 0 start rest (start + length rest) refl one cut))
+-- a plain sample at the end of the bytes is seen no further
+ended_ask : {A : Type 0} (spelling : Spelling) (m : ℕ) (rest : List ℕ) (r : Reading A) → spelling ≡ Plain → rest ≡ [] → heard (form_of spelling m) true rest r ≡ asks
+ended_ask spelling m rest r plain none = rw (plain, none) refl
 
 above_ends : (role : Role) (at : ℕ) (bytes : List ℕ) → EndsAbove role bytes → plane_at role true at bytes ≡ asks
 above_ends role at bytes a =
     let b = a.sample in
     let t = above_over role at bytes a.index a.value b in
-    above_asks role b.spelling at bytes b.good.width b.good.height b.maxval t.over.space t.over.start t.over.rest a.index a.value t.over.spaces (pixels_some b.good.width b.good.height b.good.size) t.over.good t.above (above_read role at bytes a.index a.value b t) a.plain (t.rest_is ∙ a.ended)
-
--- where white space is read to the end more is asked for
-blanks_ask : (end : ℕ) (others : List ℕ) (last : ℕ) → end_at false end others ≡ done nothing last [] → end_at true end others ≡ asks
-blanks_ask end others last e = elim (end_near end others (end + length others) refl) [
-  | inl n ↦ n.0
-  | inr s ↦ elim s [
-    | inl b ↦ absurd (not_both nothing last [] (Form b.0) (sym e ∙ b.3))
-    | inr d ↦ absurd (let x = same_rest nothing d.0 last d.1 [] (d.2 ∷ d.3) (sym e ∙ d.5) in cc)
-  ]
-]
+    let o = t.over in
+    good_asks role b.spelling at bytes b.good.width b.good.height b.maxval o.start o.rest o.good (samples_ask b.good.width b.good.height b.maxval o.start o.rest b.spelling
+    (above_read true role at bytes a.index a.value b t ∙ ended_ask b.spelling b.maxval t.above.rest (breaks (SampleAbove a.index a.value)) a.plain (t.rest_is ∙ a.ended)))
 
 plain_ends : (role : Role) (at : ℕ) (bytes : List ℕ) (p : PlaneOf) → IsPlaneText Plain role bytes p [] → plane_at role true at bytes ≡ asks
 plain_ends role at bytes p t =
     let o = plane_over role Plain at bytes p [] t in
     let asked : plane_at role true at (bytes ++ []) ≡ asks = good_asks role Plain at (bytes ++ []) p.width p.height p.maxval o.start o.others o.good (elim (samples_same Digits p.maxval (p.width * p.height) 0 o.start o.others) [
       | inl x ↦ samples_ask p.width p.height p.maxval o.start o.others Plain x
-      | inr x ↦ end_asks p.width p.height p.maxval o.start o.others p.samples o.end (t.end ++ []) (x ∙ o.samples) (blanks_ask o.end (t.end ++ []) (o.end + length t.end) (end_of_blanks o.end t.end [] t.ended.0 t.ended.1 t.ended.2))
+      | inr x ↦ end_asks p.width p.height p.maxval o.start o.others p.samples o.end (t.end ++ []) (x ∙ o.samples false ∙ seen_false (t.end ++ []) (done p.samples o.end (t.end ++ []))) (end_of_blanks true o.end t.end [] t.ended.0 t.ended.1 t.ended.2)
     ]) in
     ap (plane_at role true at) (sym (append-nil bytes)) ∙ asked
 
@@ -176,29 +118,23 @@ told_asks role at bytes (inr a) = elim a [
 
 -- ---- and nowhere else
 
-module _ (role : Role) (spelling : Spelling) (at : ℕ) (bytes : List ℕ) (w h m space start : ℕ) (rest : List ℕ) (d : Headed role spelling at bytes w h m space start rest) where
-  lead_none : w * h ≡ 0 → lead_of spelling space ≡ []
-  lead_none none = absurd (let p = pixels_some w h d.size in omega (arith, p, none))
+-- a sample is asked for at the end of the bytes alone, where it is of digits
+heard_asks : {A : Type 0} (form : SampleForm) (rest : List ℕ) (r : Reading A) → (r ≡ asks → ⊥) → heard form true rest r ≡ asks → (form ≡ Digits) × (rest ≡ [])
+heard_asks Narrow rest r n e = absurd (n e)
+heard_asks Wide rest r n e = absurd (n e)
+heard_asks Digits [] r n e = (refl, refl)
+heard_asks Digits (b ∷ rest) r n e = absurd (n e)
 
-  missing_short : (i : ℕ) → samples_at (form_of spelling m) m (w * h) 0 false start rest ≡ breaks (Short i) → IsShort role bytes i
-  missing_short i e = elim (samples_walk (form_of spelling m) m (w * h) 0 start (lead_of spelling space) rest (lead_fits spelling m space rest d.spaces) lead_none) [
-    | inl b ↦ subst (FirstBreak role at bytes) (break_is {A = List ℕ} b.0 (Short i) (sym b.1 ∙ e)) (samples_break role spelling at bytes w h m space start rest d b.0 b.2)
-    | inr t ↦ absurd (not_both t.0 t.1 t.2 (Short i) (sym t.3 ∙ e))
-  ]
+heard_breaks : (form : SampleForm) (rest : List ℕ) (f : PlaneFault) (vs : List ℕ) (end : ℕ) (others : List ℕ) → heard form true rest (breaks f) ≡ done vs end others → ⊥
+heard_breaks Narrow rest f vs end others e = cc
+heard_breaks Wide rest f vs end others e = cc
+heard_breaks Digits [] f vs end others e = cc
+heard_breaks Digits (b ∷ rest) f vs end others e = cc
 
-  raster_of_asks : after_header spelling (header_record w h m) true start rest ≡ asks → raster_at spelling m (w * h) true start rest ≡ asks
-  unfolding after_header
-  raster_of_asks a =
-      let plane : List ℕ → ℕ → List ℕ → Reading PlaneOf = λ vs end others. Ok (record { width = w; height = h; maxval = m; samples = vs }, end, others) in
-      elim (bind_asks (raster_at spelling m (w * h) true start rest) plane a) [
-        | inl r ↦ r
-        | inr x ↦ absurd (let y = x.4 in cc)
-      ]
-
-  samples_of_asks : after_header spelling (header_record w h m) true start rest ≡ asks
-      → (samples_at (form_of spelling m) m (w * h) 0 true start rest ≡ asks) ⊎ ((vs : List ℕ) × (end : ℕ) × (others : List ℕ) × (samples_at (form_of spelling m) m (w * h) 0 true start rest ≡ done vs end others) × (end_of spelling vs true end others ≡ asks))
-  unfolding raster_at
-  samples_of_asks a = bind_asks (samples_at (form_of spelling m) m (w * h) 0 true start rest) (λ vs. end_of spelling vs true) (raster_of_asks a)
+fits_ended : (form : SampleForm) (rest : List ℕ) → LeadFits form [] rest → EndsSample form rest
+fits_ended Narrow rest f = tt
+fits_ended Wide rest f = tt
+fits_ended Digits rest f = f.1 refl
 
 -- a text that is the whole
 whole_text : (role : Role) (at : ℕ) (bytes : List ℕ) (p : PlaneOf) (end : ℕ) (rest : List ℕ) → TextRead Plain role at bytes p end rest → rest ≡ [] → IsPlaneText Plain role bytes p []
@@ -206,89 +142,104 @@ whole_text role at bytes p end rest t none =
     let whole : t.text ≡ bytes = sym (t.parts ∙ ap (λ (x : List ℕ). t.text ++ x) none ∙ append-nil t.text) in
     subst (λ (x : List ℕ). IsPlaneText Plain role x p []) whole (subst (IsPlaneText Plain role t.text p) none t.spells)
 
-end_none : (e : ℕ) → end_at false e [] ≡ done nothing e []
-unfolding end_at blanks_at
-end_none e = refl
+-- what is judged at its end is asked for there alone
+seen_asks : {A : Type 0} (rest : List ℕ) (r : Reading A) → (r ≡ asks → ⊥) → seen true rest r ≡ asks → rest ≡ []
+seen_asks [] r n e = refl
+seen_asks (b ∷ rest) r n e = absurd (n e)
 
-module _ (role : Role) (at : ℕ) (bytes : List ℕ) (w h m space start : ℕ) (rest : List ℕ) (d : Headed role Plain at bytes w h m space start rest) where
-  whole_plane : (vs : List ℕ) (end : ℕ) (others : List ℕ) (last : ℕ) → samples_at Digits m (w * h) 0 false start rest ≡ done vs end others → end_at false end others ≡ done nothing last [] → (p : PlaneOf) × IsPlaneText Plain role bytes p []
-  whole_plane vs end others last e f = elim (samples_walk Digits m (w * h) 0 start (space ∷ []) rest (lead_fits Plain m space rest d.spaces) (lead_none role Plain at bytes w h m space start rest d)) [
-    | inl b ↦ absurd (not_both vs end others b.0 (sym e ∙ b.1))
-    | inr t ↦
-        let both : done t.0 t.1 t.2 ≡ done vs end others = sym t.3 ∙ e in
-        let ended : end_at false t.1 t.2 ≡ done nothing last [] = ap (λ (n : ℕ). end_at false n t.2) (same_place t.0 vs t.1 end t.2 others both) ∙ ap (end_at false end) (same_rest t.0 vs t.1 end t.2 others both) ∙ f in
-        elim (end_walk t.1 t.2) [
-          | inl b ↦ absurd (not_both nothing last [] (Form t.1) (sym ended ∙ b.4))
-          | inr k ↦
-              let p : PlaneOf = record { width = w; height = h; maxval = m; samples = t.0 } in
-              (p, whole_text role at bytes p k.1 k.2 (text_read role Plain at bytes w h m space start rest t.0 t.1 t.2 k.0 k.1 k.2 d t.4 k.4 k.5) (same_rest nothing nothing k.1 last k.2 [] (sym k.3 ∙ ended)))
-        ]
+-- after the last sample white space is asked for at the end alone
+end_is_asked : (at : ℕ) (bytes : List ℕ) → end_at true at bytes ≡ asks → (blank : List ℕ) × IsPlaneEnd Plain blank [] × (bytes ≡ blank)
+end_is_asked at bytes a = elim (end_walk at bytes) [
+  | inl b ↦ absurd (break_asks {A = Unit {0}} (Form at) (sym (end_breaks true at b.0 b.1 b.3) ∙ ap (end_at true at) (sym b.2) ∙ a))
+  | inr k ↦
+      let none : k.2 ≡ [] = seen_asks k.2 (done nothing (at + length k.0) k.2) (done_asks nothing (at + length k.0) k.2) (sym (end_of_blanks true at k.0 k.2 k.4.0 k.4.1 k.4.2) ∙ ap (end_at true at) (sym k.5.parts) ∙ a) in
+      (k.0, subst (IsPlaneEnd Plain k.0) none k.4, k.5.parts ∙ ap (λ (t : List ℕ). k.0 ++ t) none ∙ append-nil k.0)
+]
+
+plain_end : (spelling : Spelling) (vs : List ℕ) (end : ℕ) (others : List ℕ) → end_of spelling vs true end others ≡ asks → (spelling ≡ Plain) × (blank : List ℕ) × IsPlaneEnd Plain blank [] × (others ≡ blank)
+plain_end Raw vs end others a = absurd (done_asks vs end others a)
+plain_end Plain vs end others a = elim (bind_asks (end_at true end others) (λ _ last more. done vs last more) a) [
+  | inl x ↦ let k = end_is_asked end others x in (refl, k.0, k.1, k.2)
+  | inr x ↦ absurd (done_asks vs x.1 x.2 x.4)
+]
+
+module _ (role : Role) (spelling : Spelling) (at : ℕ) (bytes : List ℕ) (w h m space start : ℕ) (rest : List ℕ) (d : Headed role spelling at bytes w h m space start rest) where
+  lead_none : w * h ≡ 0 → lead_of spelling space ≡ []
+  lead_none none = absurd (let p = pixels_some w h d.size in omega (arith, p, none))
+
+  samples_of_asks : after_header spelling (header_record w h m) true start rest ≡ asks
+      → (samples_at (form_of spelling m) m (w * h) 0 true start rest ≡ asks) ⊎ ((vs : List ℕ) × (end : ℕ) × (others : List ℕ) × (samples_at (form_of spelling m) m (w * h) 0 true start rest ≡ done vs end others) × (end_of spelling vs true end others ≡ asks))
+  unfolding after_header raster_at
+  samples_of_asks a = elim (bind_asks (samples_at (form_of spelling m) m (w * h) 0 true start rest ⟫ λ vs end others. end_of spelling vs true end others) (λ vs end others. done (record { width = w; height = h; maxval = m; samples = vs }) end others) a) [
+    | inl r ↦ bind_asks (samples_at (form_of spelling m) m (w * h) 0 true start rest) (λ vs end others. end_of spelling vs true end others) r
+    | inr x ↦ absurd (let y = x.4 in cc)
   ]
 
-  ends_above : (j v : ℕ) (vs : List ℕ) (e : ℕ) → samples_at Digits m (w * h) 0 false start rest ≡ breaks (SampleAbove (0 + j) v) → samples_at Digits 4294967295 (suc j) 0 false start rest ≡ done vs e [] → EndsAbove role bytes
-  ends_above j v vs e read all = elim (samples_walk Digits m (w * h) 0 start (space ∷ []) rest (lead_fits Plain m space rest d.spaces) (lead_none role Plain at bytes w h m space start rest d)) [
-    | inr t ↦ absurd (not_both t.0 t.1 t.2 (SampleAbove (0 + j) v) (sym t.3 ∙ read))
-    | inl b ↦
-        let fault : b.0 ≡ SampleAbove (0 + j) v = break_is {A = List ℕ} b.0 (SampleAbove (0 + j) v) (sym b.1 ∙ read) in
-        elim b.2 [
-          | inl a ↦
-              let same : 0 + length a.values ≡ 0 + j = (let x : SampleAbove (0 + length a.values) a.value ≡ SampleAbove (0 + j) v = sym a.fault ∙ fault in cc) in
-              let count : length a.values ≡ j = omega (arith, same) in
-              let found = above_all m (w * h) start (space ∷ []) rest b.0 (lead_fits Plain m space rest d.spaces) a in
-              let both : done (a.values ++ a.value ∷ []) found.0 a.rest ≡ done vs e [] = sym found.2 ∙ ap (λ (n : ℕ). samples_at Digits 4294967295 (suc n) 0 false start rest) count ∙ all in
-              let x = above_break role Plain at bytes w h m space start rest d b.0 a in
-              record { index = length a.values; value = a.value; sample = x.0; plain = x.1; ended = x.2 ∙ same_rest (a.values ++ a.value ∷ []) vs found.0 e a.rest [] both }
-          | inr c ↦ elim c [
-            | inl a ↦ absurd (let x : Short (0 + length a.values) ≡ SampleAbove (0 + j) v = sym a.fault ∙ fault in cc)
-            | inr a ↦ absurd (let x : Form a.place ≡ SampleAbove (0 + j) v = sym a.fault ∙ fault in cc)
-          ]
-        ]
-  ]
-
-  cut_ends : PlainCut m (w * h) 0 start rest (start + length rest) → EndsInRaster role bytes
-  cut_ends (inl c) = inl (c.0, missing_short role Plain at bytes w h m space start rest d c.0 c.1)
-  cut_ends (inr s) = elim s [
-    | inl c ↦ inr (inr (whole_plane c.0 (start + length rest) [] (start + length rest) c.1 (end_none (start + length rest))))
-    | inr c ↦ inr (inl (ends_above c.0 c.1 c.2 (start + length rest) c.3 c.4))
-  ]
-
-  blanks_end : (vs : List ℕ) (end : ℕ) (others : List ℕ) → samples_at Digits m (w * h) 0 true start rest ≡ done vs end others → end_at true end others ≡ asks → EndsInRaster role bytes
-  blanks_end vs end others e a = elim (samples_same Digits m (w * h) 0 start rest) [
-    | inl x ↦ absurd (done_asks vs end others (sym e ∙ x))
-    | inr x ↦ elim (end_near end others (end + length others) refl) [
-      | inl n ↦ inr (inr (whole_plane vs end others (end + length others) (sym x ∙ e) n.1))
-      | inr s ↦ elim s [
-        | inl b ↦ absurd (break_asks {A = Unit {0}} (Form b.0) (sym b.2 ∙ a))
-        | inr k ↦ absurd (done_asks k.0 k.1 (k.2 ∷ k.3) (sym k.4 ∙ a))
+  -- where the samples break
+  break_ends : (f : PlaneFault) → SamplesBreak (form_of spelling m) m (w * h) 0 start rest (lead_of spelling space ++ rest) f → after_header spelling (header_record w h m) true start rest ≡ asks → EndsInRaster role bytes
+  break_ends f (inl a) e =
+      let reads = above_again true (form_of spelling m) m (w * h) 0 start (lead_of spelling space) rest f (lead_fits spelling m space rest d.spaces) a in
+      let x = above_break role spelling at bytes w h m space start rest d f a in
+      elim (samples_of_asks e) [
+        | inl s ↦
+            let k = heard_asks (form_of spelling m) a.rest (breaks f) (break_asks {A = List ℕ} f) (sym reads ∙ s) in
+            inr (inl (record { index = length a.values; value = a.value; sample = x.0; plain = x.1 ∙ digits_alone spelling m k.0; ended = x.2 ∙ k.1 }))
+        | inr s ↦ absurd (heard_breaks (form_of spelling m) a.rest f s.0 s.1 s.2 (sym reads ∙ s.3))
       ]
-    ]
-  ]
+  break_ends f (inr (inl a)) e = inl (0 + length a.values, subst (FirstBreak role at bytes) a.fault (samples_break role spelling at bytes w h m space start rest d f (inr (inl a))))
+  break_ends f (inr (inr a)) e =
+      let reads = bad_again true (form_of spelling m) m (w * h) 0 start (lead_of spelling space) rest f (lead_fits spelling m space rest d.spaces) a in
+      absurd (elim (samples_of_asks e) [
+        | inl s ↦ break_asks {A = List ℕ} f (sym reads ∙ s)
+        | inr s ↦ not_both s.0 s.1 s.2 f (sym s.3 ∙ reads)
+      ])
+
+  -- where all samples are read
+  module _ (vs : List ℕ) (end : ℕ) (others : List ℕ) (r : samples_at (form_of spelling m) m (w * h) 0 false start rest ≡ done vs end others) (t : SamplesText (form_of spelling m) m (w * h) start rest (lead_of spelling space ++ rest) vs end others) where
+    asked_samples : samples_at (form_of spelling m) m (w * h) 0 true start rest ≡ asks → (form_of spelling m ≡ Digits) × (others ≡ [])
+    asked_samples e =
+        let p = pixels_some w h d.size in
+        let s = samples_again (form_of spelling m) m 0 start (lead_of spelling space) rest t.samples vs others t.are t.parts (lead_fits spelling m space rest d.spaces) (fits_ended (form_of spelling m) others t.fits) t.below (omega (arith, p, t.count)) in
+        heard_asks (form_of spelling m) others (done vs s.0 others) (done_asks vs s.0 others) (sym (s.2 true) ∙ ap (λ (n : ℕ). samples_at (form_of spelling m) m n 0 true start rest) t.count ∙ e)
+
+    text_ends : (blank : List ℕ) → spelling ≡ Plain → IsPlaneEnd Plain blank [] → others ≡ blank → EndsInRaster role bytes
+    text_ends blank plain ends is = inr (inr (
+      record { width = w; height = h; maxval = m; samples = vs },
+      whole_text role at bytes (record { width = w; height = h; maxval = m; samples = vs }) (end + length blank) []
+          (subst (λ (s : Spelling). TextRead s role at bytes (record { width = w; height = h; maxval = m; samples = vs }) (end + length blank) []) plain
+          (text_read role spelling at bytes w h m space start rest vs end others blank (end + length blank) [] d t (subst (λ (s : Spelling). IsPlaneEnd s blank []) (sym plain) ends) (record { parts = is ∙ sym (append-nil blank); place = refl }))) refl,
+    ))
 
 raster_ends : (role : Role) (spelling : Spelling) (at : ℕ) (bytes : List ℕ) (w h m space start : ℕ) (rest : List ℕ) → Headed role spelling at bytes w h m space start rest → after_header spelling (header_record w h m) true start rest ≡ asks → EndsInRaster role bytes
-raster_ends role Raw at bytes w h m space start rest d a = elim (samples_of_asks role Raw at bytes w h m space start rest d a) [
-  | inl x ↦ let s = raw_asks (form_of Raw m) m (w * h) 0 start rest (not_digits m) x in inl (s.0, missing_short role Raw at bytes w h m space start rest d s.0 s.1)
-  | inr x ↦ absurd (done_asks x.0 x.1 x.2 x.4)
-]
-raster_ends role Plain at bytes w h m space start rest d a = elim (samples_of_asks role Plain at bytes w h m space start rest d a) [
-  | inl x ↦ cut_ends role at bytes w h m space start rest d (plain_asks m (w * h) 0 start rest (start + length rest) refl x)
-  | inr x ↦ elim (bind_asks (end_at true x.1 x.2) (λ _ end others. done x.0 end others) x.4) [
-    | inl y ↦ blanks_end role at bytes w h m space start rest d x.0 x.1 x.2 x.3 y
-    | inr y ↦ absurd (done_asks x.0 y.1 y.2 y.4)
-  ]
-]
+raster_ends role spelling at bytes w h m space start rest d a =
+    elim (samples_walk (form_of spelling m) m (w * h) 0 start (lead_of spelling space) rest (lead_fits spelling m space rest d.spaces) (lead_none role spelling at bytes w h m space start rest d)) [
+      | inl b ↦ break_ends role spelling at bytes w h m space start rest d b.0 b.2 a
+      | inr t ↦ elim (samples_of_asks role spelling at bytes w h m space start rest d a) [
+        | inl s ↦
+            let k = asked_samples role spelling at bytes w h m space start rest d t.0 t.1 t.2 t.3 t.4 s in
+            text_ends role spelling at bytes w h m space start rest d t.0 t.1 t.2 t.3 t.4 [] (digits_alone spelling m k.0) (refl, refl, λ _. refl) k.1
+        | inr s ↦ elim (samples_same (form_of spelling m) m (w * h) 0 start rest) [
+          | inl y ↦ absurd (done_asks s.0 s.1 s.2 (sym s.3 ∙ y))
+          | inr y ↦
+              let same : done s.0 s.1 s.2 ≡ done t.0 t.1 t.2 = sym s.3 ∙ y ∙ t.3 in
+              let asked : end_of spelling t.0 true t.1 t.2 ≡ asks = subst (λ (x : List ℕ × ℕ × List ℕ). end_of spelling x.0 true x.1 x.2 ≡ asks) {x = (s.0, s.1, s.2)} {y = (t.0, t.1, t.2)} (ok_is (s.0, s.1, s.2) (t.0, t.1, t.2) same) s.4 in
+              let k = plain_end spelling t.0 t.1 t.2 asked in
+              text_ends role spelling at bytes w h m space start rest d t.0 t.1 t.2 t.3 t.4 k.1 k.0 k.2 k.3
+        ]
+      ]
+    ]
+
+-- a whole header is not asked for
+judged_asks : (o : Option PlaneFault) (x : HeaderOf) (end : ℕ) (rest : List ℕ) → unless_broken o (done x end rest) ≡ asks → ⊥
+judged_asks None x end rest e = cc
+judged_asks (Some f) x end rest e = cc
 
 module _ (role : Role) (spelling : Spelling) (at : ℕ) (rest : List ℕ) where
-  placed : (w h m place end : ℕ) (others : List ℕ) → HeaderText w h m place (at + 2) rest end others → place < (at + 2) + length rest
-  placed w h m place end others t =
-      omega (arith, t.place_is, ap length t.parts, length-append t.sizes t.gap, length-append t.sizes (t.gap ++ (t.digits ++ (t.space ∷ others))), length-append t.gap (t.digits ++ (t.space ∷ others)), length-append t.digits (t.space ∷ others))
-
-  header_ended : header_at role false (at + 2) rest ≡ breaks (Form ((at + 2) + length rest)) → BreaksInHeader (80 ∷ digit_of spelling ∷ rest) []
+  header_ended : header_at role true (at + 2) rest ≡ asks → BreaksInHeader (80 ∷ digit_of spelling ∷ rest) []
   header_ended e = elim (header_walk role (at + 2) rest) [
     | inl b ↦
         let k = b.2 in
-        let fault : Form ((at + 2) + length (k.numbers ++ k.part)) ≡ Form ((at + 2) + length rest) = sym k.fault ∙ break_is {A = HeaderOf} b.0 (Form ((at + 2) + length rest)) (sym b.1 ∙ e) in
-        let place : (at + 2) + length (k.numbers ++ k.part) ≡ (at + 2) + length rest = cc in
-        let none : k.rest ≡ [] = no_length k.rest (omega (arith, place, ap length k.parts, length-append k.numbers k.part, length-append k.numbers (k.part ++ k.rest), length-append k.part k.rest)) in
+        let none : k.rest ≡ [] = seen_asks {A = HeaderOf} k.rest (breaks (Form ((at + 2) + length (k.numbers ++ k.part)))) (break_asks {A = HeaderOf} (Form ((at + 2) + length (k.numbers ++ k.part)))) (sym (header_breaks_again true role (at + 2) k.numbers k.values k.part k.rest k.are k.stuck) ∙ ap (header_at role true (at + 2)) (sym k.parts) ∙ e) in
         record {
           spelling = spelling;
           numbers = k.numbers;
@@ -298,10 +249,7 @@ module _ (role : Role) (spelling : Spelling) (at : ℕ) (rest : List ℕ) where
           are = k.are;
           stuck = subst (IsStuck (length k.values) k.part) none k.stuck;
         }
-    | inr t ↦ absurd (elim (limits_near role t.0 t.1 t.2 t.3 ((at + 2) + length rest) t.4 t.5 (placed t.0 t.1 t.2 t.3 t.4 t.5 t.7)) [
-      | inl y ↦ break_asks {A = HeaderOf} (Form ((at + 2) + length rest)) (sym y.1 ∙ y.0)
-      | inr y ↦ y.1 (sym t.6 ∙ e)
-    ])
+    | inr t ↦ let h = t.7 in absurd (judged_asks _ _ _ _ (sym (header_again true role (at + 2) h.sizes t.0 t.1 h.gap h.digits h.space t.5 h.sizes_are h.is_a_gap h.is_a_number h.spaces) ∙ ap (header_at role true (at + 2)) (sym h.parts) ∙ e))
   ]
 
   behind_good : (k : HeaderOf) (end : ℕ) (others : List ℕ) → header_at role false (at + 2) rest ≡ done k end others → after_header spelling k true end others ≡ asks → EndsInRaster role (80 ∷ digit_of spelling ∷ rest)
@@ -322,14 +270,11 @@ module _ (role : Role) (spelling : Spelling) (at : ℕ) (rest : List ℕ) where
   ]
 
   asks_behind : plane_at role true at (80 ∷ digit_of spelling ∷ rest) ≡ asks → AsksForMore role (80 ∷ digit_of spelling ∷ rest)
-  asks_behind a = elim (header_near role (at + 2) rest ((at + 2) + length rest) refl) [
-    | inl d ↦ inr (inl (header_ended d.1))
-    | inr d ↦ elim (bind_asks (header_at role true (at + 2) rest) (λ header. after_header spelling header true) (sym (plane_true role spelling at rest) ∙ a)) [
-      | inl x ↦ absurd (d.0 x)
-      | inr x ↦ elim (header_same role (at + 2) rest) [
-        | inl y ↦ absurd (d.0 y)
-        | inr y ↦ inr (inr (behind_good x.0 x.1 x.2 (sym y ∙ x.3) x.4))
-      ]
+  asks_behind a = elim (bind_asks (header_at role true (at + 2) rest) (λ header. after_header spelling header true) (sym (plane_true role spelling at rest) ∙ a)) [
+    | inl x ↦ inr (inl (header_ended x))
+    | inr x ↦ elim (header_same role (at + 2) rest) [
+      | inl y ↦ absurd (done_asks x.0 x.1 x.2 (sym x.3 ∙ y))
+      | inr y ↦ inr (inr (behind_good x.0 x.1 x.2 (sym y ∙ x.3) x.4))
     ]
   ]
 

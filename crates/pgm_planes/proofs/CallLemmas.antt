@@ -1,21 +1,8 @@
 -- How calls on a feed that come one after another answer what one reader gives.
 use Rattle.std.proofs.Common.{◌≡◌, ℕ, zero, ◌+◌, ◌-◌, ◌≤◌, ◌<◌, suc, Bool, List, [], ◌∷◌, ◌++◌, length, take, drop, Option, Some, None, Result, Ok, Err, true, false, refl, sym, ap, subst, ◌∙◌, arith, ltb}
-use Rattle.std.specs.Prelude.{IfSome}
-use Rattle.std.proofs.lemmas.Bool.{le-ltb, lt-ltb}
-use Rattle.std.proofs.lemmas.List.{length-append}
-use Rattle.insar_ports.specs.Bytes.{with_front, after_first, BeginsWith, HasMore, HasRisen, IsAtEnd}
-use Rattle.insar_ports.specs.declared.feed.FeedFault.{FeedFault}
+use Rattle.pgm_planes.proofs.Words.{IfSome, le-ltb, lt-ltb, length-append, with_front, after_first, BeginsWith, HasMore, HasRisen, IsAtEnd, FeedFault, PlaneFault, Form, ReadPlaneFault, Spelling, Call, Moves, Reading, Reader, breaks, asks, goes_beyond, Told, Reads, nothing, byte_at, sight_at, space_at, plane_fault_of_feed, is_space}
 use Rattle.insar_ports.specs.declared.feed.FeedFault.TheVariants as feed_faults
-use Rattle.insar_ports.proofs.CallerLemmas.{with_front-append, with_front-nil}
-use Rattle.pgm_planes.specs.declared.fault.PlaneFault.{PlaneFault}
-use Rattle.pgm_planes.specs.declared.fault.PlaneFault.TheVariants.{Form}
-use Rattle.pgm_planes.specs.declared.fault.ReadPlaneFault.{ReadPlaneFault}
 use Rattle.pgm_planes.specs.declared.fault.ReadPlaneFault.TheVariants as errors
-use Rattle.pgm_planes.specs.declared.spelling.Spelling.{Spelling}
-use Rattle.insar_ports.specs.Calls.{Call, Moves}
-use Rattle.pgm_planes.specs.Reading.{Reading, Reader, breaks, asks, goes_beyond, Told, Reads, nothing, byte_at, sight_at, space_at}
-use Rattle.pgm_planes.specs.Faults.{fault_of_feed}
-use Rattle.pgm_planes.specs.Gaps.{is_space}
 use Rattle.pgm_planes.proofs.HeaderLemmas.{done, same_value, same_place, same_rest, space_taken, space_refused, space_missed}
 use Rattle.insar_ports.proofs.CallLemmas.{call, some_is, risen_before, Moves-then, stays}
 
@@ -131,7 +118,7 @@ takes_a_byte (Some byte) told left at end limit before after parts place ended l
 -- a byte that the limit does not let out is asked for, and a read fault was counted
 pub byte_fails : (f : FeedFault) (told left : Option (List ℕ)) (at end limit before after : ℕ) (r : Reader (Option ℕ))
     → left ≡ told → end ≡ at → before ≤ after → (f ≡ feed_faults.ReadFault → HasRisen before after) → (f ≡ feed_faults.TooLong → at ≡ limit) → (f ≡ feed_faults.TooLong → HasMore told) → r true at [] ≡ asks
-    → Reads (λ (g : Option ℕ). g) (Err (fault_of_feed f)) (call told at left end limit before after) r
+    → Reads (λ (g : Option ℕ). g) (Err (plane_fault_of_feed f)) (call told at left end limit before after) r
 byte_fails feed_faults.ReadFault told left at end limit before after r l e g risen full more a = record { moves = stays told left at end limit before after l e g; answers = risen refl }
 byte_fails feed_faults.TooLong told left at end limit before after r l e g risen full more a = record {
   moves = stays told left at end limit before after l e g;

@@ -1,19 +1,8 @@
 -- What is read of bytes after which more come is read of all of them too, where none was asked for.
 use Rattle.std.proofs.Common.{◌≡◌, ℕ, zero, suc, ◌+◌, ◌*◌, ◌-◌, Bool, true, false, ◌⊎◌, List, [], ◌∷◌, ◌++◌, Option, Some, None, Result, Ok, Err, refl, inl, inr, eqb}
-use Rattle.std.proofs.lemmas.Bool.{cases_Bool}
-use Rattle.pgm_planes.specs.declared.fault.Role.{Role}
-use Rattle.pgm_planes.specs.declared.fault.PlaneFault.{PlaneFault}
-use Rattle.pgm_planes.specs.declared.fault.PlaneFault.TheVariants.{Magic, Form, Short}
-use Rattle.pgm_planes.specs.declared.spelling.Spelling.{Spelling}
-use Rattle.pgm_planes.specs.declared.spelling.Spelling.TheVariants.{Raw, Plain}
-use Rattle.pgm_planes.specs.declared.samples.SampleForm.{SampleForm}
-use Rattle.pgm_planes.specs.declared.samples.SampleForm.TheVariants.{Narrow, Wide, Digits}
-use Rattle.pgm_planes.specs.Gaps.{is_space, is_line_end, is_digit}
-use Rattle.pgm_planes.specs.Planes.{PlaneOf}
-use Rattle.pgm_planes.specs.Reading.{Reading, ◌>>=◌, asks, or_breaks, spelling_of, magic_at, space_at, filling_at, blanks_at, with_digit, digits_at, number_at, field_at, HeaderOf, header_break, unless_broken, header_at, judged, and_behind, form_of, sample_at, samples_at, end_at, end_of, raster_at, plane_at}
+use Rattle.pgm_planes.proofs.Words.{cases_Bool, Role, PlaneFault, Magic, Form, Short, Spelling, Raw, Plain, SampleForm, Narrow, Wide, Digits, is_space, is_line_end, is_digit, Reading, Reader, ◌⟫◌, ◌▸◌, pure, here, asks, or_breaks, spelling_of, magic_at, space_at, filling_at, blanks_at, with_digit, digits_at, numeral_at, field_at, HeaderOf, header_break, unless_broken, header_at, judged, and_behind, form_of, spelled_sample_at, samples_at, end_at, end_of, raster_at, plane_at}
 use Rattle.pgm_planes.proofs.HeaderLemmas.{done}
-use Rattle.pgm_planes.proofs.StepLemmas.{after_filling, after_space, after_width, after_height, after_maxval, after_blanks, end_asks}
-use Rattle.pgm_planes.proofs.PlaneSteps.{after_header, after_magic}
+use Rattle.pgm_planes.proofs.StepLemmas.{end_asks}
 
 -- a reading with other bytes after those that are left
 abbrev pub further : {A : Type 0} → Reading A → List ℕ → Reading A
@@ -24,14 +13,24 @@ further (Err e) others = Err e
 abbrev pub Holds : {A : Type 0} → List ℕ → Reading A → Reading A → Type 0
 Holds others r q = (r ≡ asks) ⊎ (q ≡ further r others)
 
-module _ (h : List ℕ) where
-  bind_far : {A B : Type 0} (r q : Reading A) (f g : A → ℕ → List ℕ → Reading B) → Holds h r q → ((x : A) (at : ℕ) (rest : List ℕ) → Holds h (f x at rest) (g x at (rest ++ h))) → Holds h (r >>= f) (q >>= g)
-  bind_far (Ok x) q f g (inl e) k = absurd cc
-  bind_far (Ok x) q f g (inr e) k = rw e (k x.0 x.1 x.2)
-  bind_far (Err None) q f g s k = inl refl
-  bind_far (Err (Some fault)) q f g (inl e) k = absurd cc
-  bind_far (Err (Some fault)) q f g (inr e) k = inr (rw e refl)
+bind_far : {A B : Type 0} (h : List ℕ) (r q : Reading A) (f g : A → ℕ → List ℕ → Reading B) → Holds h r q → ((x : A) (at : ℕ) (rest : List ℕ) → Holds h (f x at rest) (g x at (rest ++ h))) → Holds h (r ⟫ f) (q ⟫ g)
+bind_far h (Ok x) q f g (inl e) k = absurd cc
+bind_far h (Ok x) q f g (inr e) k = rw e (k x.0 x.1 x.2)
+bind_far h (Err None) q f g s k = inl refl
+bind_far h (Err (Some fault)) q f g (inl e) k = absurd cc
+bind_far h (Err (Some fault)) q f g (inr e) k = inr (rw e refl)
 
+-- what a reader reads, where it asks for nothing more, it reads of those bytes with others after too
+record Far {A : Type 0} (p : Reader A) : Type 0 where
+  far : (h : List ℕ) (at : ℕ) (bytes : List ℕ) → Holds h (p true at bytes) (p false at (bytes ++ h))
+
+far_then : {A B : Type 0} {p : Reader A} {f : A → Reader B} → Far p → ((x : A) → Far (f x)) → Far (p ▸ f)
+far_then {p = p} {f = f} a b = record { far = λ h at bytes. bind_far h (p true at bytes) (p false at (bytes ++ h)) (λ x. f x true) (λ x. f x false) (a.far h at bytes) (λ x. (b x).far h) }
+
+far_pure : {A : Type 0} (x : A) → Far (pure x)
+far_pure x = record { far = λ h at bytes. inr refl }
+
+module _ (h : List ℕ) where
   space_far : (at : ℕ) (bytes : List ℕ) → Holds h (space_at true at bytes) (space_at false at (bytes ++ h))
   unfolding space_at
   space_far at [] = inl refl
@@ -79,84 +78,21 @@ module _ (h : List ℕ) where
     | inr m ↦ inr (rw m refl)
   ]
 
-  number_far : (cut : PlaneFault) (at : ℕ) (bytes : List ℕ) → Holds h (number_at cut true at bytes) (number_at cut false at (bytes ++ h))
-  unfolding number_at
+  number_far : (cut : PlaneFault) (at : ℕ) (bytes : List ℕ) → Holds h (numeral_at cut true at bytes) (numeral_at cut false at (bytes ++ h))
+  unfolding numeral_at
   number_far cut at [] = inl refl
   number_far cut at (b ∷ bytes) = elim (cases_Bool (is_digit b)) [
     | inl y ↦ rw y (digits_far (b - 48) (at + 1) bytes)
     | inr m ↦ inr (rw m refl)
   ]
 
-  -- ---- the header
-
-  after_filling_far : (at : ℕ) (bytes : List ℕ) → Holds h (after_filling true at bytes) (after_filling false at (bytes ++ h))
-  unfolding after_filling
-  after_filling_far at bytes =
-      bind_far (number_at (Form at) true at bytes) (number_at (Form at) false at (bytes ++ h)) (λ n end others. Ok ((n, at), end, others)) (λ n end others. Ok ((n, at), end, others)) (number_far (Form at) at bytes) (λ n end others. inr refl)
-
-  after_space_far : (at : ℕ) (bytes : List ℕ) → Holds h (after_space true at bytes) (after_space false at (bytes ++ h))
-  unfolding after_space
-  after_space_far at bytes =
-      bind_far (filling_at false true at bytes) (filling_at false false at (bytes ++ h)) (λ _. after_filling true) (λ _. after_filling false) (filling_far false at bytes) (λ _ place digits. after_filling_far place digits)
-
-  field_far : (at : ℕ) (bytes : List ℕ) → Holds h (field_at true at bytes) (field_at false at (bytes ++ h))
-  unfolding field_at after_space after_filling
-  field_far at bytes = bind_far (space_at true at bytes) (space_at false at (bytes ++ h)) (λ _. after_space true) (λ _. after_space false) (space_far at bytes) (λ _ after rest. after_space_far after rest)
-
   broken_far : (o : Option PlaneFault) (x : HeaderOf) (at : ℕ) (rest : List ℕ) → Holds h (unless_broken o (done x at rest)) (unless_broken o (done x at (rest ++ h)))
   broken_far None x at rest = inr refl
   broken_far (Some fault) x at rest = inr refl
 
-  module _ (role : Role) where
-    after_maxval_far : (w k m : ℕ × ℕ) (at : ℕ) (bytes : List ℕ) → Holds h (after_maxval role w k m true at bytes) (after_maxval role w k m false at (bytes ++ h))
-    unfolding after_maxval
-    after_maxval_far w k m at bytes =
-        let found : HeaderOf = record { width = w.0; height = k.0; maxval = m.0 } in
-        let broken = header_break role w.0 k.0 m.0 m.1 in
-        bind_far (space_at true at bytes) (space_at false at (bytes ++ h)) (λ _ end others. unless_broken broken (done found end others)) (λ _ end others. unless_broken broken (done found end others)) (space_far at bytes)
-        (λ _ end others. broken_far broken found end others)
-
-    after_height_far : (w k : ℕ × ℕ) (at : ℕ) (bytes : List ℕ) → Holds h (after_height role w k true at bytes) (after_height role w k false at (bytes ++ h))
-    unfolding after_height
-    after_height_far w k at bytes = bind_far (field_at true at bytes) (field_at false at (bytes ++ h)) (λ m. after_maxval role w k m true) (λ m. after_maxval role w k m false) (field_far at bytes) (after_maxval_far w k)
-
-    after_width_far : (w : ℕ × ℕ) (at : ℕ) (bytes : List ℕ) → Holds h (after_width role w true at bytes) (after_width role w false at (bytes ++ h))
-    unfolding after_width
-    after_width_far w at bytes = bind_far (field_at true at bytes) (field_at false at (bytes ++ h)) (λ k. after_height role w k true) (λ k. after_height role w k false) (field_far at bytes) (after_height_far w)
-
-    pub header_far : (at : ℕ) (bytes : List ℕ) → Holds h (header_at role true at bytes) (header_at role false at (bytes ++ h))
-    unfolding header_at after_width after_height after_maxval
-    header_far at bytes = bind_far (field_at true at bytes) (field_at false at (bytes ++ h)) (λ w. after_width role w true) (λ w. after_width role w false) (field_far at bytes) after_width_far
-
-  -- ---- the raster
-
   behind_far : (r : Result ℕ PlaneFault) (at : ℕ) (rest : List ℕ) → Holds h (and_behind r at rest) (and_behind r at (rest ++ h))
   behind_far (Ok v) at rest = inr refl
   behind_far (Err e) at rest = inr refl
-
-  after_blanks_far : (maxval k at : ℕ) (bytes : List ℕ) → Holds h (after_blanks maxval k true at bytes) (after_blanks maxval k false at (bytes ++ h))
-  unfolding after_blanks
-  after_blanks_far maxval k at bytes =
-      bind_far (number_at (Short k) true at bytes) (number_at (Short k) false at (bytes ++ h)) (λ v. and_behind (judged maxval k v)) (λ v. and_behind (judged maxval k v)) (number_far (Short k) at bytes) (λ v. behind_far (judged maxval k v))
-
-  sample_far : (form : SampleForm) (maxval k at : ℕ) (bytes : List ℕ) → Holds h (sample_at form maxval k true at bytes) (sample_at form maxval k false at (bytes ++ h))
-  unfolding sample_at after_blanks
-  sample_far Narrow maxval k at [] = inl refl
-  sample_far Narrow maxval k at (b ∷ rest) = behind_far (judged maxval k b) (at + 1) rest
-  sample_far Wide maxval k at [] = inl refl
-  sample_far Wide maxval k at (b ∷ []) = inl refl
-  sample_far Wide maxval k at (b ∷ c ∷ rest) = behind_far (judged maxval k (256 * b + c)) (at + 2) rest
-  sample_far Digits maxval k at bytes = bind_far (blanks_at true at bytes) (blanks_at false at (bytes ++ h)) (λ _. after_blanks maxval k true) (λ _. after_blanks maxval k false) (blanks_far at bytes) (λ _. after_blanks_far maxval k)
-
-  pub samples_far : (form : SampleForm) (maxval n k at : ℕ) (bytes : List ℕ) → Holds h (samples_at form maxval n k true at bytes) (samples_at form maxval n k false at (bytes ++ h))
-  unfolding samples_at
-  samples_far form maxval zero k at bytes = inr refl
-  samples_far form maxval (suc n) k at bytes =
-      bind_far (sample_at form maxval k true at bytes) (sample_at form maxval k false at (bytes ++ h))
-      (λ v after rest. samples_at form maxval n (k + 1) true after rest >>= λ vs end others. Ok (v ∷ vs, end, others))
-      (λ v after rest. samples_at form maxval n (k + 1) false after rest >>= λ vs end others. Ok (v ∷ vs, end, others))
-      (sample_far form maxval k at bytes)
-      (λ v after rest. bind_far (samples_at form maxval n (k + 1) true after rest) (samples_at form maxval n (k + 1) false after (rest ++ h)) (λ vs end others. Ok (v ∷ vs, end, others)) (λ vs end others. Ok (v ∷ vs, end, others)) (samples_far form maxval n (k + 1) after rest) (λ vs end others. inr refl))
 
   end_far : (at : ℕ) (bytes : List ℕ) → Holds h (end_at true at bytes) (end_at false at (bytes ++ h))
   unfolding end_at
@@ -166,28 +102,49 @@ module _ (h : List ℕ) where
     | inr n ↦ inr (rw n refl)
   ]
 
-  end_of_far : (spelling : Spelling) (vs : List ℕ) (at : ℕ) (bytes : List ℕ) → Holds h (end_of spelling vs true at bytes) (end_of spelling vs false at (bytes ++ h))
-  end_of_far Raw vs at bytes = inr refl
-  end_of_far Plain vs at bytes = bind_far (end_at true at bytes) (end_at false at (bytes ++ h)) (λ _ end others. Ok (vs, end, others)) (λ _ end others. Ok (vs, end, others)) (end_far at bytes) (λ _ end others. inr refl)
+number_is_far : (cut : PlaneFault) → Far (numeral_at cut)
+number_is_far cut = record { far = λ h. number_far h cut }
 
-  raster_far : (spelling : Spelling) (maxval count at : ℕ) (bytes : List ℕ) → Holds h (raster_at spelling maxval count true at bytes) (raster_at spelling maxval count false at (bytes ++ h))
-  unfolding raster_at
-  raster_far spelling maxval count at bytes =
-      bind_far (samples_at (form_of spelling maxval) maxval count 0 true at bytes) (samples_at (form_of spelling maxval) maxval count 0 false at (bytes ++ h)) (λ vs. end_of spelling vs true) (λ vs. end_of spelling vs false) (samples_far (form_of spelling maxval) maxval count 0 at bytes) (end_of_far spelling)
+space_is_far : Far space_at
+space_is_far = record { far = space_far }
 
-  -- ---- the plane
+field_is_far : Far field_at
+unfolding field_at
+field_is_far = far_then space_is_far (λ _. far_then (record { far = λ h. filling_far h false }) (λ _. far_then {p = here} (record { far = λ h at bytes. inr refl }) (λ place. far_then (number_is_far (Form place)) (λ n. far_pure (n, place)))))
 
-  after_header_far : (spelling : Spelling) (k : HeaderOf) (at : ℕ) (bytes : List ℕ) → Holds h (after_header spelling k true at bytes) (after_header spelling k false at (bytes ++ h))
-  unfolding after_header
-  after_header_far spelling k at bytes =
-      let plane : List ℕ → ℕ → List ℕ → Reading PlaneOf = λ vs end others. Ok (record { width = k.width; height = k.height; maxval = k.maxval; samples = vs }, end, others) in
-      bind_far (raster_at spelling k.maxval (k.width * k.height) true at bytes) (raster_at spelling k.maxval (k.width * k.height) false at (bytes ++ h)) plane plane (raster_far spelling k.maxval (k.width * k.height) at bytes) (λ vs end others. inr refl)
+header_is_far : (role : Role) → Far (header_at role)
+unfolding header_at
+header_is_far role = far_then field_is_far (λ w. far_then field_is_far (λ k. far_then field_is_far (λ m. far_then space_is_far (λ _. record { far = λ h at rest. broken_far h (header_break role w.0 k.0 m.0 m.1) (record { width = w.0; height = k.0; maxval = m.0 }) at rest }))))
 
-  after_magic_far : (role : Role) (spelling : Spelling) (at : ℕ) (bytes : List ℕ) → Holds h (after_magic role spelling true at bytes) (after_magic role spelling false at (bytes ++ h))
-  unfolding after_magic
-  after_magic_far role spelling at bytes = bind_far (header_at role true at bytes) (header_at role false at (bytes ++ h)) (λ k. after_header spelling k true) (λ k. after_header spelling k false) (header_far role at bytes) (after_header_far spelling)
+sample_far : (h : List ℕ) (form : SampleForm) (maxval k at : ℕ) (bytes : List ℕ) → Holds h (spelled_sample_at form maxval k true at bytes) (spelled_sample_at form maxval k false at (bytes ++ h))
+unfolding spelled_sample_at
+sample_far h Narrow maxval k at [] = inl refl
+sample_far h Narrow maxval k at (b ∷ rest) = behind_far h (judged maxval k b) (at + 1) rest
+sample_far h Wide maxval k at [] = inl refl
+sample_far h Wide maxval k at (b ∷ []) = inl refl
+sample_far h Wide maxval k at (b ∷ c ∷ rest) = behind_far h (judged maxval k (256 * b + c)) (at + 2) rest
+sample_far h Digits maxval k at bytes = (far_then {p = blanks_at} (record { far = blanks_far }) (λ _. far_then {f = λ v _. and_behind (judged maxval k v)} (number_is_far (Short k)) (λ v. record { far = λ h. behind_far h (judged maxval k v) }))).far h at bytes
+
+pub samples_far : (h : List ℕ) (form : SampleForm) (maxval n k at : ℕ) (bytes : List ℕ) → Holds h (samples_at form maxval n k true at bytes) (samples_at form maxval n k false at (bytes ++ h))
+unfolding samples_at
+samples_far h form maxval zero k at bytes = inr refl
+samples_far h form maxval (suc n) k at bytes =
+    (far_then {p = spelled_sample_at form maxval k} (record { far = λ h. sample_far h form maxval k }) (λ v. far_then {p = samples_at form maxval n (k + 1)} (record { far = λ h. samples_far h form maxval n (k + 1) }) (λ vs. far_pure (v ∷ vs)))).far h at bytes
+
+end_is_far : (spelling : Spelling) (vs : List ℕ) → Far (end_of spelling vs)
+end_is_far Raw vs = far_pure vs
+end_is_far Plain vs = far_then {p = end_at} (record { far = end_far }) (λ _. far_pure vs)
+
+plane_is_far : (role : Role) → Far (plane_at role)
+unfolding plane_at raster_at
+plane_is_far role = far_then {p = magic_at} (record { far = magic_far }) (λ spelling. far_then (header_is_far role) (λ k. far_then
+    (far_then {p = samples_at (form_of spelling k.maxval) k.maxval (k.width * k.height) 0} (record { far = λ h. samples_far h (form_of spelling k.maxval) k.maxval (k.width * k.height) 0 }) (end_is_far spelling))
+    (λ vs. far_pure (record { width = k.width; height = k.height; maxval = k.maxval; samples = vs }))))
+
+module _ (h : List ℕ) (role : Role) (at : ℕ) (bytes : List ℕ) where
+  pub header_far : Holds h (header_at role true at bytes) (header_at role false at (bytes ++ h))
+  header_far = (header_is_far role).far h at bytes
 
   -- what is read of a plane, where nothing is asked for, is read of all bytes
-  pub plane_far : (role : Role) (at : ℕ) (bytes : List ℕ) → Holds h (plane_at role true at bytes) (plane_at role false at (bytes ++ h))
-  unfolding plane_at after_magic after_header
-  plane_far role at bytes = bind_far (magic_at true at bytes) (magic_at false at (bytes ++ h)) (λ s. after_magic role s true) (λ s. after_magic role s false) (magic_far at bytes) (after_magic_far role)
+  pub plane_far : Holds h (plane_at role true at bytes) (plane_at role false at (bytes ++ h))
+  plane_far = (plane_is_far role).far h at bytes

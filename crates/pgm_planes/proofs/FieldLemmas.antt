@@ -1,14 +1,8 @@
 -- A gap and a number: what is read is spelled so, what is spelled so is read, and where the form breaks.
-use Rattle.std.proofs.Common.{◌≡◌, ℕ, ◌+◌, true, false, ◌⊎◌, List, [], ◌∷◌, ◌++◌, length, Some, None, Ok, Err, refl, sym, ap, subst, ◌∙◌, append_assoc, arith, inl, inr, eqb, ltb}
-use Rattle.std.specs.List.{list_all}
-use Rattle.std.proofs.lemmas.Bool.{and_parts, cases_Bool, both_ways, ltb-true, le-ltb, ne_eqb}
-use Rattle.std.proofs.lemmas.List.{length-append, append-nil}
-use Rattle.pgm_planes.specs.declared.fault.PlaneFault.{PlaneFault}
-use Rattle.pgm_planes.specs.declared.fault.PlaneFault.TheVariants.{Form}
-use Rattle.pgm_planes.specs.Gaps.{is_space, is_digit, is_filling, is_gap, is_blank, begins, is_number, number_of}
-use Rattle.pgm_planes.specs.Breaks.{is_in_comment}
-use Rattle.pgm_planes.specs.Reading.{Reading, breaks, asks, nothing, space_at, filling_at, number_at, field_at}
-use Rattle.pgm_planes.proofs.HeaderLemmas.{done, Takes, StopsFilling, filling_found, filling_again, filling_cut_found, filling_cut_again, filling_answers, number_found, number_again, number_answers, number_break, no_number, space_taken}
+use Rattle.std.proofs.Common.{◌≡◌, ℕ, Bool, ◌+◌, true, false, ◌⊎◌, List, [], ◌∷◌, ◌++◌, length, Some, None, Ok, Err, refl, sym, ap, subst, ◌∙◌, append_assoc, arith, inl, inr, eqb, ltb}
+use Rattle.pgm_planes.proofs.Words.{unless_more, list_all, and_parts, cases_Bool, both_ways, ltb-true, le-ltb, ne_eqb, length-append, PlaneFault, Form, is_space, is_digit, is_filling, is_gap, is_blank, begins, is_number, capped_number, is_in_comment, Reading, breaks, asks, nothing, space_at, filling_at, numeral_at, field_at}
+use Rattle.std.proofs.lemmas.List.{append-nil}
+use Rattle.pgm_planes.proofs.HeaderLemmas.{done, seen, seen_then, seen_behind, Takes, StopsFilling, filling_found, filling_again, filling_cut_found, filling_cut_again, filling_answers, number_found, number_again, number_answers, number_break, no_number, space_taken}
 
 -- a reading that asks for nothing breaks or reads a value
 pub cases_reading : {A : Type 0} (r : Reading A) → (r ≡ asks → ⊥) → ((f : PlaneFault) × (r ≡ breaks f)) ⊎ ((x : A) × (at : ℕ) × (rest : List ℕ) × (r ≡ done x at rest))
@@ -66,7 +60,7 @@ pub record FieldText (n place at : ℕ) (bytes : List ℕ) (end : ℕ) (rest : L
   pub number : List ℕ
   pub is_a_gap : is_gap gap ≡ true
   pub is_a_number : is_number number ≡ true
-  pub value : n ≡ number_of number
+  pub value : n ≡ capped_number number
   pub place_is : place ≡ at + length gap
   pub takes : Takes at bytes (gap ++ number) end rest
   pub no_digit : begins is_digit rest ≡ false
@@ -95,7 +89,7 @@ pub record FieldBreak (at : ℕ) (bytes : List ℕ) (f : PlaneFault) : Type 0 wh
   pub fault : f ≡ Form (at + length part)
   pub why : NoField part rest
 
-number_form : (at : ℕ) (bytes : List ℕ) (f : PlaneFault) → number_at (Form at) false at bytes ≡ breaks f → (f ≡ Form at) × (begins is_digit bytes ≡ false)
+number_form : (at : ℕ) (bytes : List ℕ) (f : PlaneFault) → numeral_at (Form at) false at bytes ≡ breaks f → (f ≡ Form at) × (begins is_digit bytes ≡ false)
 number_form at bytes f e = elim (number_break (Form at) at bytes f e) [
   | inl n ↦ (n.1, rw n.0 refl)
   | inr n ↦ (n.4, rw n.2 n.3)
@@ -117,7 +111,7 @@ module _ (at b : ℕ) (bytes : List ℕ) (s : is_space b ≡ true) (after : ℕ)
         why = inr (inr (record { gap = b ∷ o.1.gap; comment = o.1.comment; parts = ap (λ (t : List ℕ). b ∷ t) o.1.parts; is = rw (s, o.1.filled) refl; within = o.1.within }, refl));
       }
 
-  walk_no_number : (place : ℕ) (rest : List ℕ) (f : PlaneFault) → filling_at false false after bytes ≡ done nothing place rest → number_at (Form place) false place rest ≡ breaks f → FieldBreak at (b ∷ bytes) f
+  walk_no_number : (place : ℕ) (rest : List ℕ) (f : PlaneFault) → filling_at false false after bytes ≡ done nothing place rest → numeral_at (Form place) false place rest ≡ breaks f → FieldBreak at (b ∷ bytes) f
   walk_no_number place rest f h g =
       let t = filling_found false after bytes place rest h in
       let n = number_form place rest f g in
@@ -129,7 +123,7 @@ module _ (at b : ℕ) (bytes : List ℕ) (s : is_space b ≡ true) (after : ℕ)
         why = inr (inl (record { gap = rw (s, t.1) refl; stops = t.3; no_digit = n.1 }));
       }
 
-  walk_number : (place : ℕ) (rest : List ℕ) (n end : ℕ) (others : List ℕ) → filling_at false false after bytes ≡ done nothing place rest → number_at (Form place) false place rest ≡ done n end others → FieldText n place at (b ∷ bytes) end others
+  walk_number : (place : ℕ) (rest : List ℕ) (n end : ℕ) (others : List ℕ) → filling_at false false after bytes ≡ done nothing place rest → numeral_at (Form place) false place rest ≡ done n end others → FieldText n place at (b ∷ bytes) end others
   walk_number place rest n end others h g =
       let t = filling_found false after bytes place rest h in
       let d = number_found (Form place) place rest n end others g in
@@ -153,7 +147,7 @@ field_walk at bytes = elim (space_cases at bytes) [
   | inr n ↦ inl (Form at, rw n.1 refl, record { part = []; rest = bytes; parts = refl; fault = ap Form (omega arith); why = inl (refl, n.0) })
   | inl s ↦ elim (cases_reading (filling_at false false (at + 1) s.1) (filling_answers false (at + 1) s.1)) [
     | inl f ↦ inl (f.0, rw (s.4, f.1) refl, subst (λ (t : List ℕ). FieldBreak at t f.0) (sym s.2) (walk_cut at s.0 s.1 s.3 (at + 1) refl f.0 f.1))
-    | inr t ↦ elim (cases_reading (number_at (Form t.1) false t.1 t.2) (number_answers (Form t.1) t.1 t.2)) [
+    | inr t ↦ elim (cases_reading (numeral_at (Form t.1) false t.1 t.2) (number_answers (Form t.1) t.1 t.2)) [
       | inl f ↦ inl (f.0, rw (s.4, t.3, f.1) refl, subst (λ (x : List ℕ). FieldBreak at x f.0) (sym s.2) (walk_no_number at s.0 s.1 s.3 (at + 1) refl t.1 t.2 f.0 t.3 f.1))
       | inr d ↦ inr (d.0, t.1, d.1, d.2, rw (s.4, t.3, d.3) refl, subst (λ (x : List ℕ). FieldText d.0 t.1 at x d.1 d.2) (sym s.2) (walk_number at s.0 s.1 s.3 (at + 1) refl t.1 t.2 d.0 d.1 d.2 t.3 d.3))
     ]
@@ -161,46 +155,50 @@ field_walk at bytes = elim (space_cases at bytes) [
 ]
 
 -- a gap and a number are read again, where no digit follows
-pub field_again : (at : ℕ) (gap number more : List ℕ) → is_gap gap ≡ true → is_number number ≡ true → begins is_digit more ≡ false → field_at false at (gap ++ (number ++ more)) ≡ done (number_of number, at + length gap) (at + length (gap ++ number)) more
+pub field_again : (goes : Bool) (at : ℕ) (gap number more : List ℕ) → is_gap gap ≡ true → is_number number ≡ true → begins is_digit more ≡ false → field_at goes at (gap ++ (number ++ more)) ≡ seen goes more (done (capped_number number, at + length gap) (at + length (gap ++ number)) more)
 unfolding field_at
-field_again at [] number more g n s = absurd cc
-field_again at (b ∷ gap) number more g n s =
+field_again goes at [] number more g n s = absurd cc
+field_again goes at (b ∷ gap) [] more g n s = absurd cc
+field_again goes at (b ∷ gap) (d ∷ number) more g n s =
     let parts = and_parts (is_space b) (is_filling false gap) g in
     let place : (at + 1) + length gap ≡ at + length (b ∷ gap) = omega arith in
-    let end : (at + length (b ∷ gap)) + length number ≡ at + length ((b ∷ gap) ++ number) = omega (arith, length-append (b ∷ gap) number) in
-    let one = space_taken false at b (gap ++ (number ++ more)) parts.0 in
-    let two = filling_again false (at + 1) gap (number ++ more) parts.1 (number_stops number more n) in
-    rw (one, two, place, number_again (Form (at + length (b ∷ gap))) (at + length (b ∷ gap)) number more n s, end) refl
+    let end : (at + length (b ∷ gap)) + length (d ∷ number) ≡ at + length ((b ∷ gap) ++ d ∷ number) = omega (arith, length-append (b ∷ gap) (d ∷ number)) in
+    let one = space_taken goes at b (gap ++ (d ∷ number ++ more)) parts.0 in
+    let two = filling_again goes false (at + 1) gap (d ∷ number ++ more) parts.1 (number_stops (d ∷ number) more n) in
+    let start : ℕ = at + length (b ∷ gap) in
+    rw (one, two, place, number_again goes (Form (at + length (b ∷ gap))) (at + length (b ∷ gap)) (d ∷ number) more n s, end)
+    (seen_then goes more (done (capped_number (d ∷ number)) (at + length ((b ∷ gap) ++ d ∷ number)) more) (λ m after rest. done (m, start) after rest))
 
-pub no_space : (at : ℕ) (rest : List ℕ) → begins is_space rest ≡ false → space_at false at rest ≡ breaks (Form at)
+pub no_space : (goes : Bool) (at : ℕ) (rest : List ℕ) → begins is_space rest ≡ false → space_at goes at rest ≡ seen goes rest (breaks (Form at))
 unfolding space_at
-no_space at [] h = refl
-no_space at (b ∷ rest) h = rw h refl
+no_space goes at [] h = refl
+no_space goes at (b ∷ rest) h = rw h refl
 
-open_over : (at : ℕ) (gap comment : List ℕ) → is_gap gap ≡ true → list_all is_in_comment comment ≡ true → field_at false at (gap ++ 35 ∷ comment) ≡ breaks (Form (at + length (gap ++ 35 ∷ comment)))
+open_over : (goes : Bool) (at : ℕ) (gap comment : List ℕ) → is_gap gap ≡ true → list_all is_in_comment comment ≡ true → field_at goes at (gap ++ 35 ∷ comment) ≡ unless_more goes (breaks (Form (at + length (gap ++ 35 ∷ comment))))
 unfolding field_at
-open_over at [] comment g c = absurd cc
-open_over at (b ∷ gap) comment g c =
+open_over goes at [] comment g c = absurd cc
+open_over goes at (b ∷ gap) comment g c =
     let parts = and_parts (is_space b) (is_filling false gap) g in
     let place : (at + 1) + length (gap ++ 35 ∷ comment) ≡ at + length (b ∷ (gap ++ 35 ∷ comment)) = omega arith in
-    let one = space_taken false at b (gap ++ 35 ∷ comment) parts.0 in
-    let two = filling_cut_again (at + 1) (gap ++ 35 ∷ comment) (record { gap = gap; comment = comment; parts = refl; filled = parts.1; within = c }) in
-    rw (one, two, place) refl
+    let one = space_taken goes at b (gap ++ 35 ∷ comment) parts.0 in
+    let two = filling_cut_again goes (at + 1) (gap ++ 35 ∷ comment) (record { gap = gap; comment = comment; parts = refl; filled = parts.1; within = c }) in
+    rw (one, two, place) (seen_then goes [] (breaks (Form (at + length (b ∷ (gap ++ 35 ∷ comment))))) _)
 
 -- where no field begins the form breaks again
-pub field_break_again : (at : ℕ) (part rest : List ℕ) → NoField part rest → field_at false at (part ++ rest) ≡ breaks (Form (at + length part))
+pub field_break_again : (goes : Bool) (at : ℕ) (part rest : List ℕ) → NoField part rest → field_at goes at (part ++ rest) ≡ seen goes rest (breaks (Form (at + length part)))
 unfolding field_at
-field_break_again at part rest (inl n) =
+field_break_again goes at part rest (inl n) =
     let place : at ≡ at + 0 = omega arith in
-    rw n.0 (rw (no_space at rest n.1) (ap (λ (k : ℕ). breaks (Form k)) place))
-field_break_again at [] rest (inr (inl n)) = absurd (let x = n.gap in cc)
-field_break_again at (b ∷ gap) rest (inr (inl n)) =
+    rw n.0 (rw (no_space goes at rest n.1) (seen_then goes rest (breaks (Form at)) _ ∙ ap (λ (k : ℕ). seen goes rest (breaks (Form k))) place))
+field_break_again goes at [] rest (inr (inl n)) = absurd (let x = n.gap in cc)
+field_break_again goes at (b ∷ gap) rest (inr (inl n)) =
     let parts = and_parts (is_space b) (is_filling false gap) n.gap in
     let place : (at + 1) + length gap ≡ at + length (b ∷ gap) = omega arith in
-    let one = space_taken false at b (gap ++ rest) parts.0 in
-    let two = filling_again false (at + 1) gap rest parts.1 n.stops in
-    rw (one, two, place, no_number (at + length (b ∷ gap)) rest n.no_digit) refl
-field_break_again at part rest (inr (inr n)) =
+    let one = space_taken goes at b (gap ++ rest) parts.0 in
+    let two = filling_again goes false (at + 1) gap rest parts.1 n.stops in
+    rw (one, two, place) (seen_behind goes [] rest (done nothing (at + length (b ∷ gap)) rest) _ (breaks (Form (at + length (b ∷ gap))))
+    (rw (no_number goes (at + length (b ∷ gap)) rest n.no_digit) (seen_then goes rest (breaks (Form (at + length (b ∷ gap)))) _)))
+field_break_again goes at part rest (inr (inr n)) =
     let o = n.0 in
     let whole : part ++ rest ≡ o.gap ++ 35 ∷ o.comment = ap (λ (t : List ℕ). part ++ t) n.1 ∙ append-nil part ∙ o.parts in
-    ap (field_at false at) whole ∙ open_over at o.gap o.comment o.is o.within ∙ ap (λ (t : List ℕ). breaks (Form (at + length t))) (sym o.parts)
+    ap (field_at goes at) whole ∙ open_over goes at o.gap o.comment o.is o.within ∙ ap (λ (t : List ℕ). unless_more goes (breaks (Form (at + length t)))) (sym o.parts) ∙ ap (λ (t : List ℕ). seen goes t (breaks (Form (at + length part)))) (sym n.1)

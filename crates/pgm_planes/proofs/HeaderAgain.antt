@@ -1,46 +1,45 @@
 -- A header that is spelled so is read, and one that breaks breaks there.
-use Rattle.std.proofs.Common.{◌≡◌, ℕ, ◌+◌, ◌≤◌, ◌<◌, true, false, List, [], ◌∷◌, ◌++◌, length, refl, sym, ap, ◌∙◌, append_assoc, arith, inl, inr}
-use Rattle.std.proofs.lemmas.List.{length-append}
-use Rattle.pgm_planes.specs.declared.fault.Role.{Role}
-use Rattle.pgm_planes.specs.declared.fault.PlaneFault.TheVariants.{Form}
-use Rattle.pgm_planes.specs.Gaps.{is_space, is_digit, is_gap, begins, is_number, number_of}
-use Rattle.pgm_planes.specs.Planes.{AreNumbers}
-use Rattle.pgm_planes.specs.Reading.{breaks, field_at, header_break, unless_broken, header_at}
-use Rattle.pgm_planes.proofs.HeaderLemmas.{done, space_taken}
+use Rattle.std.proofs.Common.{◌≡◌, ℕ, Bool, ◌+◌, ◌≤◌, ◌<◌, true, false, List, [], ◌∷◌, ◌++◌, length, refl, sym, ap, ◌∙◌, append_assoc, arith, inl, inr}
+use Rattle.pgm_planes.proofs.Words.{Reading, length-append, Role, Form, is_space, is_digit, is_gap, begins, is_number, capped_number, AreNumbers, breaks, field_at, header_break, unless_broken, header_at}
+use Rattle.pgm_planes.proofs.HeaderLemmas.{done, seen, seen_begun, seen_then, seen_behind, space_taken}
 use Rattle.pgm_planes.proofs.FieldLemmas.{spaced, gap_spaced, NoField, field_again, field_break_again, no_space}
 use Rattle.pgm_planes.proofs.NumberLemmas.{numbers_begin, IsStuck, header_record}
 
 -- the first of several numbers is read
-field_over : (at : ℕ) (bytes : List ℕ) (n : ℕ) (ns more : List ℕ) (a : AreNumbers is_gap bytes (n ∷ ns)) → begins is_digit more ≡ false → field_at false at (bytes ++ more) ≡ done (n, at + length a.0) (at + length (a.0 ++ a.1)) (a.2 ++ more)
-field_over at bytes n ns more a d =
+field_over : (goes : Bool) (at : ℕ) (bytes : List ℕ) (n : ℕ) (ns more : List ℕ) (a : AreNumbers is_gap bytes (n ∷ ns)) → begins is_digit more ≡ false → field_at goes at (bytes ++ more) ≡ seen goes (a.2 ++ more) (done (n, at + length a.0) (at + length (a.0 ++ a.1)) (a.2 ++ more))
+field_over goes at bytes n ns more a d =
     let parts : bytes ++ more ≡ a.0 ++ (a.1 ++ (a.2 ++ more)) = ap (λ (t : List ℕ). t ++ more) a.3 ∙ append_assoc a.0 (a.1 ++ a.2) more ∙ ap (λ (t : List ℕ). a.0 ++ t) (append_assoc a.1 a.2 more) in
-    ap (field_at false at) parts
-    ∙ field_again at a.0 a.1 (a.2 ++ more) a.4 a.5 (numbers_begin is_gap gap_spaced a.2 ns more a.7 d)
-    ∙ ap (λ (k : ℕ). done (k, at + length a.0) (at + length (a.0 ++ a.1)) (a.2 ++ more)) (sym a.6)
+    ap (field_at goes at) parts
+    ∙ field_again goes at a.0 a.1 (a.2 ++ more) a.4 a.5 (numbers_begin is_gap gap_spaced a.2 ns more a.7 d)
+    ∙ ap (λ (k : ℕ). seen goes (a.2 ++ more) (done (k, at + length a.0) (at + length (a.0 ++ a.1)) (a.2 ++ more))) (sym a.6)
 
 -- the last of them is read
-field_last : (at : ℕ) (bytes : List ℕ) (n : ℕ) (more : List ℕ) (a : AreNumbers is_gap bytes (n ∷ [])) → begins is_digit more ≡ false → field_at false at (bytes ++ more) ≡ done (n, at + length a.0) (at + length bytes) more
-field_last at bytes n more a d =
+field_last : (goes : Bool) (at : ℕ) (bytes : List ℕ) (n : ℕ) (more : List ℕ) (a : AreNumbers is_gap bytes (n ∷ [])) → begins is_digit more ≡ false → field_at goes at (bytes ++ more) ≡ seen goes more (done (n, at + length a.0) (at + length bytes) more)
+field_last goes at bytes n more a d =
     let long : at + length (a.0 ++ a.1) ≡ at + length bytes = omega (arith, ap length a.3, length-append a.0 (a.1 ++ a.2), length-append a.1 a.2, length-append a.0 a.1, ap length a.7) in
-    field_over at bytes n [] more a d ∙ ap (λ (t : List ℕ). done (n, at + length a.0) (at + length (a.0 ++ a.1)) (t ++ more)) a.7 ∙ ap (λ (k : ℕ). done (n, at + length a.0) k more) long
+    field_over goes at bytes n [] more a d ∙ ap (λ (t : List ℕ). seen goes (t ++ more) (done (n, at + length a.0) (at + length (a.0 ++ a.1)) (t ++ more))) a.7 ∙ ap (λ (k : ℕ). seen goes more (done (n, at + length a.0) k more)) long
+
+-- where numbers follow, a byte follows
+followed : {A : Type 0} (goes : Bool) (bytes : List ℕ) (n : ℕ) (ns more : List ℕ) (r : Reading A) → AreNumbers is_gap bytes (n ∷ ns) → seen goes (bytes ++ more) r ≡ r
+followed goes bytes n ns more r a = seen_begun goes is_space (bytes ++ more) r (rw (a.3, append_assoc a.0 (a.1 ++ a.2) more) (gap_spaced a.0 ((a.1 ++ a.2) ++ more) a.4))
 
 -- where the first of several numbers ends
 behind_first : (bytes : List ℕ) (n : ℕ) (ns : List ℕ) (a : AreNumbers is_gap bytes (n ∷ ns)) → length (a.0 ++ a.1) + length a.2 ≡ length bytes
 behind_first bytes n ns a = omega (arith, ap length a.3, length-append a.0 (a.1 ++ a.2), length-append a.1 a.2, length-append a.0 a.1)
 
-module _ (role : Role) (at : ℕ) where
+module _ (goes : Bool) (role : Role) (at : ℕ) where
   pub header_again : (sizes : List ℕ) (w h : ℕ) (gap digits : List ℕ) (s : ℕ) (more : List ℕ) → AreNumbers is_gap sizes (w ∷ h ∷ []) → is_gap gap ≡ true → is_number digits ≡ true → is_space s ≡ true
-      → header_at role false at (sizes ++ (gap ++ (digits ++ (s ∷ more)))) ≡ unless_broken (header_break role w h (number_of digits) (at + length (sizes ++ gap))) (done (header_record w h (number_of digits)) (at + length (sizes ++ (gap ++ (digits ++ (s ∷ []))))) more)
+      → header_at role goes at (sizes ++ (gap ++ (digits ++ (s ∷ more)))) ≡ unless_broken (header_break role w h (capped_number digits) (at + length (sizes ++ gap))) (done (header_record w h (capped_number digits)) (at + length (sizes ++ (gap ++ (digits ++ (s ∷ []))))) more)
   unfolding header_at
   header_again sizes w h gap digits s more a g n k =
       let tail : List ℕ = gap ++ (digits ++ (s ∷ more)) in
       let d : begins is_digit tail ≡ false = spaced tail (gap_spaced gap (digits ++ (s ∷ more)) g) in
       let at_2 : ℕ = at + length (a.0 ++ a.1) in
       let at_3 : ℕ = at_2 + length a.2 in
-      let one = field_over at sizes w (h ∷ []) tail a d in
-      let two = field_last at_2 a.2 h tail a.7 d in
-      let three = field_again at_3 gap digits (s ∷ more) g n (spaced (s ∷ more) k) in
-      let four = space_taken false (at_3 + length (gap ++ digits)) s more k in
+      let one = field_over goes at sizes w (h ∷ []) tail a d ∙ followed goes a.2 h [] tail _ a.7 in
+      let two = field_last goes at_2 a.2 h tail a.7 d ∙ seen_begun goes is_space tail _ (gap_spaced gap (digits ++ (s ∷ more)) g) in
+      let three = field_again goes at_3 gap digits (s ∷ more) g n (spaced (s ∷ more) k) in
+      let four = space_taken goes (at_3 + length (gap ++ digits)) s more k in
       let place : at_3 + length gap ≡ at + length (sizes ++ gap) = omega (arith, behind_first sizes w (h ∷ []) a, length-append sizes gap) in
       let end : (at_3 + length (gap ++ digits)) + 1 ≡ at + length (sizes ++ (gap ++ (digits ++ (s ∷ []))))
       = omega (arith, behind_first sizes w (h ∷ []) a, length-append sizes (gap ++ (digits ++ (s ∷ []))), length-append gap (digits ++ (s ∷ [])), length-append digits (s ∷ []), length-append gap digits) in
@@ -63,37 +62,37 @@ all_numbers k part rest three (inl n) = (n.none, n.no_space, (let le = n.header 
 all_numbers k part rest three (inr (inl n)) = absurd (let lt = n.header in omega arith)
 all_numbers k part rest three (inr (inr n)) = absurd (let lt = n.header in omega arith)
 
-module _ (role : Role) (at : ℕ) where
-  pub header_breaks_again : (numbers values part rest : List ℕ) → AreNumbers is_gap numbers values → IsStuck (length values) part rest → header_at role false at (numbers ++ (part ++ rest)) ≡ breaks (Form (at + length (numbers ++ part)))
+module _ (goes : Bool) (role : Role) (at : ℕ) where
+  pub header_breaks_again : (numbers values part rest : List ℕ) → AreNumbers is_gap numbers values → IsStuck (length values) part rest → header_at role goes at (numbers ++ (part ++ rest)) ≡ seen goes rest (breaks (Form (at + length (numbers ++ part))))
   unfolding header_at
-  header_breaks_again numbers [] part rest a s = rw a (rw (field_break_again at part rest (unstuck 0 part rest (omega arith) s)) refl)
+  header_breaks_again numbers [] part rest a s = rw a (rw (field_break_again goes at part rest (unstuck 0 part rest (omega arith) s)) (seen_then goes rest (breaks (Form (at + length part))) _))
   header_breaks_again numbers (v ∷ []) part rest a s =
       let d = no_digit_stuck 1 part rest (omega arith) s in
-      let one = field_last at numbers v (part ++ rest) a d in
-      let two = field_break_again (at + length numbers) part rest (unstuck 1 part rest (omega arith) s) in
+      let one = field_last goes at numbers v (part ++ rest) a d in
+      let two = field_break_again goes (at + length numbers) part rest (unstuck 1 part rest (omega arith) s) in
       let place : (at + length numbers) + length part ≡ at + length (numbers ++ part) = omega (arith, length-append numbers part) in
-      rw (one, two, place) refl
+      rw one (seen_behind goes part rest (done (v, at + length a.0) (at + length numbers) (part ++ rest)) _ (breaks (Form (at + length (numbers ++ part)))) (rw (two, place) (seen_then goes rest (breaks (Form (at + length (numbers ++ part)))) _)))
   header_breaks_again numbers (v ∷ w ∷ []) part rest a s =
       let d = no_digit_stuck 2 part rest (omega arith) s in
       let at_2 : ℕ = at + length (a.0 ++ a.1) in
-      let one = field_over at numbers v (w ∷ []) (part ++ rest) a d in
-      let two = field_last at_2 a.2 w (part ++ rest) a.7 d in
-      let three = field_break_again (at_2 + length a.2) part rest (unstuck 2 part rest (omega arith) s) in
+      let one = field_over goes at numbers v (w ∷ []) (part ++ rest) a d ∙ followed goes a.2 w [] (part ++ rest) _ a.7 in
+      let two = field_last goes at_2 a.2 w (part ++ rest) a.7 d in
+      let three = field_break_again goes (at_2 + length a.2) part rest (unstuck 2 part rest (omega arith) s) in
       let place : (at_2 + length a.2) + length part ≡ at + length (numbers ++ part) = omega (arith, behind_first numbers v (w ∷ []) a, length-append numbers part) in
-      rw (one, two, three, place) refl
+      rw (one, two) (seen_behind goes part rest (done (w, at_2 + length a.7.0) (at_2 + length a.2) (part ++ rest)) _ (breaks (Form (at + length (numbers ++ part)))) (rw (three, place) (seen_then goes rest (breaks (Form (at + length (numbers ++ part)))) _)))
   header_breaks_again numbers (v ∷ w ∷ x ∷ []) part rest a s =
       let d = no_digit_stuck 3 part rest (omega arith) s in
       let l = all_numbers 3 part rest (omega arith) s in
       let b = a.7 in
       let at_2 : ℕ = at + length (a.0 ++ a.1) in
       let at_3 : ℕ = at_2 + length (b.0 ++ b.1) in
-      let one = field_over at numbers v (w ∷ x ∷ []) (part ++ rest) a d in
-      let two = field_over at_2 a.2 w (x ∷ []) (part ++ rest) b d in
-      let three = field_last at_3 b.2 x (part ++ rest) b.7 d in
+      let one = field_over goes at numbers v (w ∷ x ∷ []) (part ++ rest) a d ∙ followed goes a.2 w (x ∷ []) (part ++ rest) _ b in
+      let two = field_over goes at_2 a.2 w (x ∷ []) (part ++ rest) b d ∙ followed goes b.2 x [] (part ++ rest) _ b.7 in
+      let three = field_last goes at_3 b.2 x (part ++ rest) b.7 d in
       let same : part ++ rest ≡ rest = ap (λ (t : List ℕ). t ++ rest) l.0 in
-      let four = no_space (at_3 + length b.2) rest l.1 in
+      let four = no_space goes (at_3 + length b.2) rest l.1 in
       let place : at_3 + length b.2 ≡ at + length (numbers ++ part)
       = omega (arith, behind_first numbers v (w ∷ x ∷ []) a, behind_first a.2 w (x ∷ []) b, length-append numbers part, ap length l.0) in
-      rw (one, two, three, same, four, place) refl
+      rw (one, two, three) (seen_behind goes part rest (done (x, at_3 + length b.7.0) (at_3 + length b.2) (part ++ rest)) _ (breaks (Form (at + length (numbers ++ part)))) (rw (same, four, place) (seen_then goes rest (breaks (Form (at + length (numbers ++ part)))) _)))
   header_breaks_again numbers (v ∷ w ∷ x ∷ y ∷ values) part rest a s =
       absurd (let l = all_numbers (length (v ∷ w ∷ x ∷ y ∷ values)) part rest (omega arith) s in omega (arith, l.2))

@@ -1,12 +1,6 @@
 -- What is read of a header is spelled so, and what is spelled so is read.
 use Rattle.std.proofs.Common.{◌≡◌, ℕ, ◌+◌, ◌-◌, ◌*◌, ◌≤◌, min, Bool, true, false, cond, ◌&&◌, ◌⊎◌, List, [], ◌∷◌, ◌++◌, length, Ok, refl, sym, ap, subst, ◌∙◌, arith, inl, inr, eqb, ltb}
-use Rattle.std.specs.List.{list_all}
-use Rattle.std.proofs.lemmas.Bool.{and_parts, or_cases, cases_Bool, both_ways, eqb-true, ltb-true}
-use Rattle.pgm_planes.specs.declared.fault.PlaneFault.{PlaneFault}
-use Rattle.pgm_planes.specs.declared.fault.PlaneFault.TheVariants.{Form}
-use Rattle.pgm_planes.specs.Gaps.{is_space, is_line_end, is_digit, begins, is_filling, is_number, goes_on_to, number_of}
-use Rattle.pgm_planes.specs.Breaks.{is_hash, is_in_comment}
-use Rattle.pgm_planes.specs.Reading.{Reading, breaks, asks, nothing, space_at, filling_at, blanks_at, with_digit, digits_at, number_at}
+use Rattle.pgm_planes.proofs.Words.{unless_more, ◌⟫◌, list_all, and_parts, or_cases, cases_Bool, both_ways, eqb-true, ltb-true, PlaneFault, Form, is_space, is_line_end, is_digit, begins, is_filling, is_number, goes_on_to, capped_number, is_hash, is_in_comment, Reading, breaks, asks, nothing, space_at, filling_at, blanks_at, with_digit, digits_at, numeral_at}
 
 -- which way a test went
 pub chosen : {A : Type 0} (b : Bool) (x y z : A) → cond b x y ≡ z → ((b ≡ true) × (x ≡ z)) ⊎ ((b ≡ false) × (y ≡ z))
@@ -41,6 +35,31 @@ done_asks x at rest e = cc
 
 pub break_asks : {A : Type 0} (f : PlaneFault) → (let r : Reading A = breaks f in r) ≡ asks → ⊥
 break_asks f e = cc
+
+-- where the bytes end and more come, these are asked for
+abbrev pub seen : {A : Type 0} → Bool → List ℕ → Reading A → Reading A
+seen goes [] r = unless_more goes r
+seen goes (b ∷ rest) r = r
+
+pub seen_false : {A : Type 0} (rest : List ℕ) (r : Reading A) → seen false rest r ≡ r
+seen_false [] r = refl
+seen_false (b ∷ rest) r = refl
+
+pub seen_begun : {A : Type 0} (goes : Bool) (test : ℕ → Bool) (rest : List ℕ) (r : Reading A) → begins test rest ≡ true → seen goes rest r ≡ r
+seen_begun goes test [] r h = absurd cc
+seen_begun goes test (b ∷ rest) r h = refl
+
+pub seen_then : {A B : Type 0} (goes : Bool) (rest : List ℕ) (r : Reading A) (f : A → ℕ → List ℕ → Reading B) → (seen goes rest r ⟫ f) ≡ seen goes rest (r ⟫ f)
+seen_then true [] r f = refl
+seen_then false [] r f = refl
+seen_then goes (b ∷ rest) r f = refl
+
+-- what follows is seen to its end, which is that of all
+pub seen_behind : {A B : Type 0} (goes : Bool) (part rest : List ℕ) (r : Reading A) (f : A → ℕ → List ℕ → Reading B) (q : Reading B) → (r ⟫ f) ≡ seen goes rest q → (seen goes (part ++ rest) r ⟫ f) ≡ seen goes rest q
+seen_behind true [] [] r f q e = refl
+seen_behind false [] [] r f q e = e
+seen_behind goes [] (b ∷ rest) r f q e = e
+seen_behind goes (b ∷ part) rest r f q e = e
 
 -- a text was taken from the front
 pub record Takes (at : ℕ) (bytes text : List ℕ) (end : ℕ) (rest : List ℕ) : Type 0 where
@@ -132,26 +151,26 @@ by_hash b text s f =
     ]
 
 -- what begins neither with white space nor with # ends the filling
-filling_stops : (at : ℕ) (more : List ℕ) → StopsFilling more → filling_at false false at more ≡ done nothing at more
+filling_stops : (goes : Bool) (at : ℕ) (more : List ℕ) → StopsFilling more → filling_at false goes at more ≡ seen goes more (done nothing at more)
 unfolding filling_at
-filling_stops at [] s = refl
-filling_stops at (d ∷ more) s = rw (s.no_space, s.no_hash) refl
+filling_stops goes at [] s = refl
+filling_stops goes at (d ∷ more) s = rw (s.no_space, s.no_hash) refl
 
-pub filling_again : (inside : Bool) (at : ℕ) (text more : List ℕ) → is_filling inside text ≡ true → StopsFilling more → filling_at inside false at (text ++ more) ≡ done nothing (at + length text) more
+pub filling_again : (goes inside : Bool) (at : ℕ) (text more : List ℕ) → is_filling inside text ≡ true → StopsFilling more → filling_at inside goes at (text ++ more) ≡ seen goes more (done nothing (at + length text) more)
 unfolding filling_at
-filling_again false at [] more f s = filling_stops at more s ∙ (let e : at ≡ at + 0 = omega arith in ap (λ (n : ℕ). done nothing n more) e)
-filling_again true at [] more f s = absurd cc
-filling_again false at (b ∷ text) more f s =
+filling_again goes false at [] more f s = filling_stops goes at more s ∙ (let e : at ≡ at + 0 = omega arith in ap (λ (n : ℕ). seen goes more (done nothing n more)) e)
+filling_again goes true at [] more f s = absurd cc
+filling_again goes false at (b ∷ text) more f s =
     let place : (at + 1) + length text ≡ at + length (b ∷ text) = omega arith in
     elim (cases_Bool (is_space b)) [
-      | inl y ↦ rw y (rw (← place) (filling_again false (at + 1) text more (by_space b text y f) s))
-      | inr n ↦ rw (n, (by_hash b text n f).0) (rw (← place) (filling_again true (at + 1) text more (by_hash b text n f).1 s))
+      | inl y ↦ rw y (rw (← place) (filling_again goes false (at + 1) text more (by_space b text y f) s))
+      | inr n ↦ rw (n, (by_hash b text n f).0) (rw (← place) (filling_again goes true (at + 1) text more (by_hash b text n f).1 s))
     ]
-filling_again true at (b ∷ text) more f s =
+filling_again goes true at (b ∷ text) more f s =
     let place : (at + 1) + length text ≡ at + length (b ∷ text) = omega arith in
     elim (cases_Bool (is_line_end b)) [
-      | inl y ↦ rw y (rw (← place) (filling_again false (at + 1) text more (rw y at f) s))
-      | inr n ↦ rw n (rw (← place) (filling_again true (at + 1) text more (rw n at f) s))
+      | inl y ↦ rw y (rw (← place) (filling_again goes false (at + 1) text more (rw y at f) s))
+      | inr n ↦ rw n (rw (← place) (filling_again goes true (at + 1) text more (rw n at f) s))
     ]
 
 -- ---- an open comment
@@ -208,33 +227,33 @@ in_comment b bs h =
     let p = and_parts (is_in_comment b) (list_all is_in_comment bs) h in
     (elim (cases_Bool (is_line_end b)) [ inl y ↦ absurd (let x = rw y at p.0 in cc) | inr n ↦ n ], p.1)
 
-comment_again : (at : ℕ) (comment : List ℕ) → list_all is_in_comment comment ≡ true → filling_at true false at comment ≡ breaks (Form (at + length comment))
+comment_again : (goes : Bool) (at : ℕ) (comment : List ℕ) → list_all is_in_comment comment ≡ true → filling_at true goes at comment ≡ unless_more goes (breaks (Form (at + length comment)))
 unfolding filling_at
-comment_again at [] h = ap (λ (n : ℕ). breaks (Form n)) (omega arith)
-comment_again at (b ∷ bs) h =
+comment_again goes at [] h = ap (λ (n : ℕ). unless_more goes (breaks (Form n))) (omega arith)
+comment_again goes at (b ∷ bs) h =
     let p = in_comment b bs h in
     let place : (at + 1) + length bs ≡ at + length (b ∷ bs) = omega arith in
-    rw p.0 (rw (← place) (comment_again (at + 1) bs p.1))
+    rw p.0 (rw (← place) (comment_again goes (at + 1) bs p.1))
 
-filling_cut_over : (inside : Bool) (at : ℕ) (gap comment : List ℕ) → is_filling inside gap ≡ true → list_all is_in_comment comment ≡ true → filling_at inside false at (gap ++ 35 ∷ comment) ≡ breaks (Form (at + length (gap ++ 35 ∷ comment)))
+filling_cut_over : (goes inside : Bool) (at : ℕ) (gap comment : List ℕ) → is_filling inside gap ≡ true → list_all is_in_comment comment ≡ true → filling_at inside goes at (gap ++ 35 ∷ comment) ≡ unless_more goes (breaks (Form (at + length (gap ++ 35 ∷ comment))))
 unfolding filling_at
-filling_cut_over true at [] comment f c = absurd cc
-filling_cut_over false at [] comment f c = comment_again (at + 1) comment c ∙ ap (λ (n : ℕ). breaks (Form n)) (omega arith)
-filling_cut_over false at (b ∷ gap) comment f c =
+filling_cut_over goes true at [] comment f c = absurd cc
+filling_cut_over goes false at [] comment f c = comment_again goes (at + 1) comment c ∙ ap (λ (n : ℕ). unless_more goes (breaks (Form n))) (omega arith)
+filling_cut_over goes false at (b ∷ gap) comment f c =
     let place : (at + 1) + length (gap ++ 35 ∷ comment) ≡ at + length (b ∷ (gap ++ 35 ∷ comment)) = omega arith in
     elim (cases_Bool (is_space b)) [
-      | inl y ↦ rw y (rw (← place) (filling_cut_over false (at + 1) gap comment (by_space b gap y f) c))
-      | inr n ↦ rw (n, (by_hash b gap n f).0) (rw (← place) (filling_cut_over true (at + 1) gap comment (by_hash b gap n f).1 c))
+      | inl y ↦ rw y (rw (← place) (filling_cut_over goes false (at + 1) gap comment (by_space b gap y f) c))
+      | inr n ↦ rw (n, (by_hash b gap n f).0) (rw (← place) (filling_cut_over goes true (at + 1) gap comment (by_hash b gap n f).1 c))
     ]
-filling_cut_over true at (b ∷ gap) comment f c =
+filling_cut_over goes true at (b ∷ gap) comment f c =
     let place : (at + 1) + length (gap ++ 35 ∷ comment) ≡ at + length (b ∷ (gap ++ 35 ∷ comment)) = omega arith in
     elim (cases_Bool (is_line_end b)) [
-      | inl y ↦ rw y (rw (← place) (filling_cut_over false (at + 1) gap comment (rw y at f) c))
-      | inr n ↦ rw n (rw (← place) (filling_cut_over true (at + 1) gap comment (rw n at f) c))
+      | inl y ↦ rw y (rw (← place) (filling_cut_over goes false (at + 1) gap comment (rw y at f) c))
+      | inr n ↦ rw n (rw (← place) (filling_cut_over goes true (at + 1) gap comment (rw n at f) c))
     ]
 
-pub filling_cut_again : (at : ℕ) (bytes : List ℕ) → IsOpen false bytes → filling_at false false at bytes ≡ breaks (Form (at + length bytes))
-filling_cut_again at bytes o = subst (λ (t : List ℕ). filling_at false false at t ≡ breaks (Form (at + length t))) (sym o.parts) (filling_cut_over false at o.gap o.comment o.filled o.within)
+pub filling_cut_again : (goes : Bool) (at : ℕ) (bytes : List ℕ) → IsOpen false bytes → filling_at false goes at bytes ≡ unless_more goes (breaks (Form (at + length bytes)))
+filling_cut_again goes at bytes o = subst (λ (t : List ℕ). filling_at false goes at t ≡ unless_more goes (breaks (Form (at + length t)))) (sym o.parts) (filling_cut_over goes false at o.gap o.comment o.filled o.within)
 
 -- ---- white space
 
@@ -247,32 +266,23 @@ blanks_found at (b ∷ bytes) end rest e =
       | inr s ↦ ([], refl, Takes-end nothing nothing at end (b ∷ bytes) rest s.1, subst (λ (t : List ℕ). begins is_space t ≡ false) (same_rest nothing nothing at end (b ∷ bytes) rest s.1) s.0)
     ]
 
-pub blanks_again : (at : ℕ) (text more : List ℕ) → list_all is_space text ≡ true → begins is_space more ≡ false → blanks_at false at (text ++ more) ≡ done nothing (at + length text) more
+pub blanks_again : (goes : Bool) (at : ℕ) (text more : List ℕ) → list_all is_space text ≡ true → begins is_space more ≡ false → blanks_at goes at (text ++ more) ≡ seen goes more (done nothing (at + length text) more)
 unfolding blanks_at
-blanks_again at [] [] h s = ap (λ (n : ℕ). done nothing n []) (omega arith)
-blanks_again at [] (d ∷ more) h s = rw s (ap (λ (n : ℕ). done nothing n (d ∷ more)) (omega arith))
-blanks_again at (b ∷ text) more h s =
+blanks_again goes at [] [] h s = ap (λ (n : ℕ). unless_more goes (done nothing n [])) (omega arith)
+blanks_again goes at [] (d ∷ more) h s = rw s (ap (λ (n : ℕ). done nothing n (d ∷ more)) (omega arith))
+blanks_again goes at (b ∷ text) more h s =
     let p = and_parts (is_space b) (list_all is_space text) h in
     let place : (at + 1) + length text ≡ at + length (b ∷ text) = omega arith in
-    rw p.0 (rw (← place) (blanks_again (at + 1) text more p.1 s))
+    rw p.0 (rw (← place) (blanks_again goes (at + 1) text more p.1 s))
 
-pub blanks_never : (at : ℕ) (bytes : List ℕ) (f : PlaneFault) → blanks_at false at bytes ≡ breaks f → ⊥
+-- where no more bytes come white space is read to its end
+pub blanks_end : (at : ℕ) (bytes : List ℕ) → (end : ℕ) × (rest : List ℕ) × (blanks_at false at bytes ≡ done nothing end rest)
 unfolding blanks_at
-blanks_never at [] f e = cc
-blanks_never at (b ∷ bytes) f e =
-    elim (chosen (is_space b) _ _ _ e) [
-      | inl s ↦ blanks_never (at + 1) bytes f s.1
-      | inr s ↦ not_both nothing at (b ∷ bytes) f s.1
-    ]
-
-pub blanks_answers : (at : ℕ) (bytes : List ℕ) → blanks_at false at bytes ≡ asks → ⊥
-unfolding blanks_at
-blanks_answers at [] e = cc
-blanks_answers at (b ∷ bytes) e =
-    elim (chosen (is_space b) _ _ _ e) [
-      | inl s ↦ blanks_answers (at + 1) bytes s.1
-      | inr s ↦ done_asks nothing at (b ∷ bytes) s.1
-    ]
+blanks_end at [] = (at, [], refl)
+blanks_end at (b ∷ bytes) = elim (cases_Bool (is_space b)) [
+  | inl y ↦ let t = blanks_end (at + 1) bytes in (t.0, t.1, rw y t.2)
+  | inr n ↦ (at, b ∷ bytes, rw n refl)
+]
 
 -- ---- numbers
 
@@ -299,51 +309,41 @@ digits_found n at (b ∷ bytes) m end rest le e =
       | inr s ↦ ([], refl, omega (arith, same_value n m at end (b ∷ bytes) rest s.1), Takes-end n m at end (b ∷ bytes) rest s.1, subst (λ (t : List ℕ). begins is_digit t ≡ false) (same_rest n m at end (b ∷ bytes) rest s.1) s.0)
     ]
 
-digits_stop : (n at : ℕ) (more : List ℕ) → begins is_digit more ≡ false → digits_at n false at more ≡ done n at more
+digits_stop : (goes : Bool) (n at : ℕ) (more : List ℕ) → begins is_digit more ≡ false → digits_at n goes at more ≡ seen goes more (done n at more)
 unfolding digits_at
-digits_stop n at [] s = refl
-digits_stop n at (d ∷ more) s = rw s refl
+digits_stop goes n at [] s = refl
+digits_stop goes n at (d ∷ more) s = rw s refl
 
-pub digits_again : (n at : ℕ) (text more : List ℕ) → n ≤ 4294967295 → list_all is_digit text ≡ true → begins is_digit more ≡ false → digits_at n false at (text ++ more) ≡ done (capped (goes_on_to n text)) (at + length text) more
+pub digits_again : (goes : Bool) (n at : ℕ) (text more : List ℕ) → n ≤ 4294967295 → list_all is_digit text ≡ true → begins is_digit more ≡ false → digits_at n goes at (text ++ more) ≡ seen goes more (done (capped (goes_on_to n text)) (at + length text) more)
 unfolding digits_at
-digits_again n at [] more le f s = digits_stop n at more s ∙ (let e : at ≡ at + 0 = omega arith in let c : n ≡ capped n = omega arith in ap (λ (k : ℕ). done n k more) e ∙ ap (λ (k : ℕ). done k (at + 0) more) c)
-digits_again n at (b ∷ text) more le f s =
+digits_again goes n at [] more le f s = digits_stop goes n at more s ∙ (let e : at ≡ at + 0 = omega arith in let c : n ≡ capped n = omega arith in ap (λ (k : ℕ). seen goes more (done n k more)) e ∙ ap (λ (k : ℕ). seen goes more (done k (at + 0) more)) c)
+digits_again goes n at (b ∷ text) more le f s =
     let place : (at + 1) + length text ≡ at + length (b ∷ text) = omega arith in
     let parts = and_parts (is_digit b) (list_all is_digit text) f in
-    rw parts.0 (digits_again (with_digit n b) (at + 1) text more (omega arith) parts.1 s ∙ rw (place, capped_on_the_way (10 * n + (b - 48)) text) refl)
+    rw parts.0 (digits_again goes (with_digit n b) (at + 1) text more (omega arith) parts.1 s ∙ rw (place, capped_on_the_way (10 * n + (b - 48)) text) refl)
 
-digits_never : (n at : ℕ) (bytes : List ℕ) (f : PlaneFault) → digits_at n false at bytes ≡ breaks f → ⊥
+digits_end : (n at : ℕ) (bytes : List ℕ) → (m : ℕ) × (end : ℕ) × (rest : List ℕ) × (digits_at n false at bytes ≡ done m end rest)
 unfolding digits_at
-digits_never n at [] f e = cc
-digits_never n at (b ∷ bytes) f e =
-    elim (chosen (is_digit b) _ _ _ e) [
-      | inl s ↦ digits_never (with_digit n b) (at + 1) bytes f s.1
-      | inr s ↦ not_both n at (b ∷ bytes) f s.1
-    ]
+digits_end n at [] = (n, at, [], refl)
+digits_end n at (b ∷ bytes) = elim (cases_Bool (is_digit b)) [
+  | inl y ↦ let t = digits_end (with_digit n b) (at + 1) bytes in (t.0, t.1, t.2, rw y t.3)
+  | inr m ↦ (n, at, b ∷ bytes, rw m refl)
+]
 
-digits_answers : (n at : ℕ) (bytes : List ℕ) → digits_at n false at bytes ≡ asks → ⊥
-unfolding digits_at
-digits_answers n at [] e = cc
-digits_answers n at (b ∷ bytes) e =
-    elim (chosen (is_digit b) _ _ _ e) [
-      | inl s ↦ digits_answers (with_digit n b) (at + 1) bytes s.1
-      | inr s ↦ done_asks n at (b ∷ bytes) s.1
-    ]
-
-pub number_answers : (cut : PlaneFault) (at : ℕ) (bytes : List ℕ) → number_at cut false at bytes ≡ asks → ⊥
-unfolding number_at
+pub number_answers : (cut : PlaneFault) (at : ℕ) (bytes : List ℕ) → numeral_at cut false at bytes ≡ asks → ⊥
+unfolding numeral_at
 number_answers cut at [] e = cc
 number_answers cut at (b ∷ bytes) e =
     elim (chosen (is_digit b) _ _ _ e) [
-      | inl s ↦ digits_answers (b - 48) (at + 1) bytes s.1
+      | inl s ↦ let t = digits_end (b - 48) (at + 1) bytes in done_asks t.0 t.1 t.2 (sym t.3 ∙ s.1)
       | inr s ↦ break_asks {A = ℕ} (Form at) s.1
     ]
 
 pub digit_small : (b : ℕ) → is_digit b ≡ true → b - 48 ≤ 4294967295
 digit_small b d = let p = and_parts (ltb 47 b) (ltb b 58) d in omega (arith, ltb-true b 58 p.1)
 
-pub number_found : (cut : PlaneFault) (at : ℕ) (bytes : List ℕ) (m end : ℕ) (rest : List ℕ) → number_at cut false at bytes ≡ done m end rest → (text : List ℕ) × (is_number text ≡ true) × (m ≡ number_of text) × Takes at bytes text end rest × (begins is_digit rest ≡ false)
-unfolding number_at
+pub number_found : (cut : PlaneFault) (at : ℕ) (bytes : List ℕ) (m end : ℕ) (rest : List ℕ) → numeral_at cut false at bytes ≡ done m end rest → (text : List ℕ) × (is_number text ≡ true) × (m ≡ capped_number text) × Takes at bytes text end rest × (begins is_digit rest ≡ false)
+unfolding numeral_at
 number_found cut at [] m end rest e = absurd cc
 number_found cut at (b ∷ bytes) m end rest e =
     elim (chosen (is_digit b) _ _ _ e) [
@@ -354,30 +354,30 @@ number_found cut at (b ∷ bytes) m end rest e =
       | inr s ↦ absurd (let x = s.1 in cc)
     ]
 
-pub number_again : (cut : PlaneFault) (at : ℕ) (text more : List ℕ) → is_number text ≡ true → begins is_digit more ≡ false → number_at cut false at (text ++ more) ≡ done (number_of text) (at + length text) more
-unfolding number_at
-number_again cut at [] more f s = absurd cc
-number_again cut at (b ∷ text) more f s =
+pub number_again : (goes : Bool) (cut : PlaneFault) (at : ℕ) (text more : List ℕ) → is_number text ≡ true → begins is_digit more ≡ false → numeral_at cut goes at (text ++ more) ≡ seen goes more (done (capped_number text) (at + length text) more)
+unfolding numeral_at
+number_again goes cut at [] more f s = absurd cc
+number_again goes cut at (b ∷ text) more f s =
     let place : (at + 1) + length text ≡ at + length (b ∷ text) = omega arith in
     let parts = and_parts (is_digit b) (list_all is_digit text) f in
     let small : b - 48 ≤ 4294967295 = digit_small b parts.0 in
     let start : 10 * 0 + (b - 48) ≡ b - 48 = omega arith in
-    rw parts.0 (digits_again (b - 48) (at + 1) text more small parts.1 s ∙ rw (place, start) refl)
+    rw parts.0 (digits_again goes (b - 48) (at + 1) text more small parts.1 s ∙ rw (place, start) refl)
 
 -- where no number begins: the end, or another byte
-pub number_break : (cut : PlaneFault) (at : ℕ) (bytes : List ℕ) (f : PlaneFault) → number_at cut false at bytes ≡ breaks f → ((bytes ≡ []) × (f ≡ cut)) ⊎ ((b : ℕ) × (rest : List ℕ) × (bytes ≡ b ∷ rest) × (is_digit b ≡ false) × (f ≡ Form at))
-unfolding number_at
+pub number_break : (cut : PlaneFault) (at : ℕ) (bytes : List ℕ) (f : PlaneFault) → numeral_at cut false at bytes ≡ breaks f → ((bytes ≡ []) × (f ≡ cut)) ⊎ ((b : ℕ) × (rest : List ℕ) × (bytes ≡ b ∷ rest) × (is_digit b ≡ false) × (f ≡ Form at))
+unfolding numeral_at
 number_break cut at [] f e = inl (refl, sym (break_is cut f e))
 number_break cut at (b ∷ bytes) f e =
     elim (chosen (is_digit b) _ _ _ e) [
-      | inl s ↦ absurd (digits_never (b - 48) (at + 1) bytes f s.1)
+      | inl s ↦ let t = digits_end (b - 48) (at + 1) bytes in absurd (not_both t.0 t.1 t.2 f (sym t.3 ∙ s.1))
       | inr s ↦ inr (b, bytes, refl, s.0, sym (break_is (Form at) f s.1))
     ]
 
-pub no_number : (at : ℕ) (rest : List ℕ) → begins is_digit rest ≡ false → number_at (Form at) false at rest ≡ breaks (Form at)
-unfolding number_at
-no_number at [] h = refl
-no_number at (b ∷ rest) h = rw h refl
+pub no_number : (goes : Bool) (at : ℕ) (rest : List ℕ) → begins is_digit rest ≡ false → numeral_at (Form at) goes at rest ≡ seen goes rest (breaks (Form at))
+unfolding numeral_at
+no_number goes at [] h = refl
+no_number goes at (b ∷ rest) h = rw h refl
 
 -- what one byte is read as
 pub space_taken : (more : Bool) (at b : ℕ) (rest : List ℕ) → is_space b ≡ true → space_at more at (b ∷ rest) ≡ done nothing (at + 1) rest

@@ -1,3 +1,4 @@
+pub mod Words
 pub mod HeaderLemmas
 pub mod CallLemmas
 pub mod StepLemmas
@@ -13,8 +14,6 @@ pub mod PlaneLemmas
 pub mod PlaneWalk
 pub mod PlaneAgain
 pub mod FarLemmas
-pub mod NearLemmas
-pub mod CutLemmas
 pub mod AskLemmas
 pub mod AnswerLemmas
 pub mod WriteLemmas

@@ -1,13 +1,6 @@
 -- The limits of a header: what breaks them and what keeps them.
-use Rattle.std.proofs.Common.{◌≡◌, ℕ, ◌*◌, ◌≤◌, Bool, true, false, ◌||◌, ◌⊎◌, Some, None, refl, sym, ◌∙◌, arith, inl, inr, eqb, ltb}
-use Rattle.std.specs.Prelude.{◌≢◌}
-use Rattle.std.proofs.lemmas.Bool.{cases_Bool, eqb-true, eqb-false, ltb-false, le-ltb, ne_eqb, or_parts}
-use Rattle.pgm_planes.specs.declared.fault.Role.{Role}
-use Rattle.pgm_planes.specs.declared.fault.Role.TheVariants.{Phase, Weight, Mask}
-use Rattle.pgm_planes.specs.declared.fault.PlaneFault.{PlaneFault}
-use Rattle.pgm_planes.specs.declared.fault.PlaneFault.TheVariants.{Form, Size, PhaseMaxval}
-use Rattle.pgm_planes.specs.Planes.{HasMaxval, IsSize}
-use Rattle.pgm_planes.specs.Reading.{is_too_large, maxval_break, header_break}
+use Rattle.std.proofs.Common.{◌≡◌, ℕ, ◌*◌, ◌≤◌, true, false, ◌||◌, ◌⊎◌, Some, None, refl, sym, ◌∙◌, arith, inl, inr, eqb, ltb}
+use Rattle.pgm_planes.proofs.Words.{◌≢◌, cases_Bool, eqb-true, eqb-false, ltb-false, le-ltb, ne_eqb, or_parts, Role, Phase, Weight, Mask, PlaneFault, Form, Size, PhaseMaxval, HasMaxval, IsSize, is_too_large, maxval_break, header_break}
 
 within_u16 : (m : ℕ) → (eqb m 0 || ltb 65535 m) ≡ false → (1 ≤ m) × (m ≤ 65535)
 within_u16 m e = let p = or_parts (eqb m 0) (ltb 65535 m) e in (omega (arith, eqb-false m 0 p.0), ltb-false 65535 m p.1)

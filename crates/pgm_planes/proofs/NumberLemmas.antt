@@ -1,18 +1,12 @@
 -- Numbers one after the other, and the header.
 use Rattle.std.proofs.Common.{◌≡◌, ℕ, ◌+◌, ◌≤◌, ◌<◌, Bool, true, false, ◌⊎◌, List, [], ◌∷◌, ◌++◌, length, refl, sym, ap, subst, ◌∙◌, append_assoc, arith, inl, inr}
-use Rattle.std.proofs.lemmas.List.{length-append, append-nil}
-use Rattle.pgm_planes.specs.declared.fault.Role.{Role}
-use Rattle.pgm_planes.specs.declared.fault.PlaneFault.{PlaneFault}
-use Rattle.pgm_planes.specs.declared.fault.PlaneFault.TheVariants.{Form}
-use Rattle.pgm_planes.specs.Gaps.{is_space, is_digit, is_gap, begins, is_number, number_of}
-use Rattle.pgm_planes.specs.Planes.{AreNumbers}
-use Rattle.pgm_planes.specs.Breaks.{HasNoGap, HasNoNumber, EndsInComment}
-use Rattle.pgm_planes.specs.Reading.{breaks, HeaderOf, header_break, unless_broken, header_at}
+use Rattle.pgm_planes.proofs.Words.{length-append, Role, PlaneFault, Form, is_space, is_digit, is_gap, begins, is_number, capped_number, AreNumbers, HasNoGap, HasNoNumber, EndsInComment, breaks, HeaderOf, header_break, unless_broken, header_at}
+use Rattle.std.proofs.lemmas.List.{append-nil}
 use Rattle.pgm_planes.proofs.HeaderLemmas.{done, Takes}
 use Rattle.pgm_planes.proofs.FieldLemmas.{space_cases, spaced, FieldText, FieldBreak, NoField, field_walk}
 
 -- one more number after those that stand
-pub more_numbers : (gaps : List ℕ → Bool) (bytes gap digits : List ℕ) (vs : List ℕ) (n : ℕ) → AreNumbers gaps bytes vs → gaps gap ≡ true → is_number digits ≡ true → n ≡ number_of digits → AreNumbers gaps (bytes ++ (gap ++ digits)) (vs ++ n ∷ [])
+pub more_numbers : (gaps : List ℕ → Bool) (bytes gap digits : List ℕ) (vs : List ℕ) (n : ℕ) → AreNumbers gaps bytes vs → gaps gap ≡ true → is_number digits ≡ true → n ≡ capped_number digits → AreNumbers gaps (bytes ++ (gap ++ digits)) (vs ++ n ∷ [])
 more_numbers gaps bytes gap digits [] n a g d e = (gap, digits, [], ap (λ (t : List ℕ). t ++ (gap ++ digits)) a ∙ ap (λ (t : List ℕ). gap ++ t) (sym (append-nil digits)), g, d, e, refl)
 more_numbers gaps bytes gap digits (v ∷ vs) n a g d e = (
   a.0,
@@ -34,7 +28,7 @@ pub record LastNumber (gaps : List ℕ → Bool) (bytes vs : List ℕ) (n : ℕ)
   pub are : AreNumbers gaps front vs
   pub is_a_gap : gaps gap ≡ true
   pub is_a_number : is_number digits ≡ true
-  pub value : n ≡ number_of digits
+  pub value : n ≡ capped_number digits
 
 pub last_number : (gaps : List ℕ → Bool) (bytes vs : List ℕ) (n : ℕ) → AreNumbers gaps bytes (vs ++ n ∷ []) → LastNumber gaps bytes vs n
 last_number gaps bytes [] n a = record { front = []; gap = a.0; digits = a.1; parts = a.3 ∙ ap (λ (t : List ℕ). a.0 ++ (a.1 ++ t)) a.7 ∙ ap (λ (t : List ℕ). a.0 ++ t) (append-nil a.1); are = refl; is_a_gap = a.4; is_a_number = a.5; value = a.6 }
@@ -131,7 +125,7 @@ pub record HeaderText (w h m place at : ℕ) (bytes : List ℕ) (end : ℕ) (res
   pub digits : List ℕ
   pub is_a_gap : is_gap gap ≡ true
   pub is_a_number : is_number digits ≡ true
-  pub value : m ≡ number_of digits
+  pub value : m ≡ capped_number digits
   pub place_is : place ≡ at + length (sizes ++ gap)
   pub space : ℕ
   pub spaces : is_space space ≡ true

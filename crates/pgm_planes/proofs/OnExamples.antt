@@ -1,14 +1,8 @@
 -- Worked examples: a line of four phases, raw, raw with a comment in its header, and plain; and a sample above maxval.
 use Rattle.std.proofs.Common.{◌≡◌, [], ◌∷◌, refl, arith}
-use Rattle.std.proofs.lemmas.List.Elements.{All-from_recursion}
-use Rattle.std.specs.Prelude.{◌≤◌}
 use Rattle.std.specs.Fmt.{digits}
-use Rattle.pgm_planes.specs.declared.fault.Role.TheVariants.{Phase}
-use Rattle.pgm_planes.specs.declared.fault.PlaneFault.TheVariants.{SampleAbove}
-use Rattle.pgm_planes.specs.declared.spelling.Spelling.TheVariants.{Raw, Plain}
-use Rattle.pgm_planes.specs.Planes.{PlaneOf, IsSize, IsPlane, IsPlaneText}
-use Rattle.pgm_planes.specs.Breaks.{FirstBreak}
-use Rattle.pgm_planes.specs.Text.{header_text, plane_text}
+use Rattle.pgm_planes.proofs.Words.{All-from_recursion, Phase, SampleAbove, Raw, Plain, PlaneOf, IsSize, IsPlane, IsPlaneText, FirstBreak, plane_header_text, plane_text}
+use Rattle.std.specs.Prelude.{◌≤◌}
 
 -- 4 by 1 pixels with the phases 0, 20000, 40000 and 60000
 abbrev pub line : PlaneOf
@@ -114,5 +108,5 @@ second_is_above = record {
 
 -- P5, LF, 2 1, LF, 65535, LF, and four bytes
 pair_is_written : plane_text pair ≡ 80 ∷ 53 ∷ 10 ∷ 50 ∷ 32 ∷ 49 ∷ 10 ∷ 54 ∷ 53 ∷ 53 ∷ 51 ∷ 53 ∷ 10 ∷ 0 ∷ 0 ∷ 0 ∷ 7 ∷ []
-unfolding plane_text header_text digits
+unfolding plane_text plane_header_text digits
 pair_is_written = refl

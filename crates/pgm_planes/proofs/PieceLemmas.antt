@@ -1,20 +1,8 @@
 -- Samples that are taken at once are read as if they were taken one by one.
 use Rattle.std.proofs.Common.{◌≡◌, ℕ, zero, suc, get_or, ◌+◌, ◌*◌, ◌-◌, ◌≤◌, Bool, true, false, List, [], ◌∷◌, ◌++◌, length, take, drop, Option, refl, sym, ap, ◌∙◌, append_assoc, append-nil, arith}
-use Rattle.std.specs.List.{AllByRecursion}
-use Rattle.std.proofs.lemmas.Bool.{le-ltb}
-use Rattle.std.proofs.lemmas.List.{length-append}
-use Rattle.std.proofs.lemmas.List.Elements.{All-nil, recursion_from_All}
-use Rattle.std.proofs.Math.Seq.{take-append-add}
-use Rattle.byteorder.specs.Endian.{IsRead, big_number}
-use Rattle.insar_ports.specs.Bytes.{with_front}
-use Rattle.insar_ports.specs.Calls.{Call, Moves}
+use Rattle.pgm_planes.proofs.Words.{AllByRecursion, le-ltb, length-append, All-nil, recursion_from_All, take-append-add, IsRead, big_number, with_front, Call, Moves, SampleForm, Narrow, Wide, Digits, AreTogether, TakesPiece, IsRaster, Reader, goes_beyond, spelled_sample_at}
 use Rattle.insar_ports.proofs.CallLemmas.{call, some_is}
 use Rattle.insar_ports.proofs.CallerLemmas.{with_front-nil}
-use Rattle.pgm_planes.specs.declared.samples.SampleForm.{SampleForm}
-use Rattle.pgm_planes.specs.declared.samples.SampleForm.TheVariants.{Narrow, Wide, Digits}
-use Rattle.pgm_planes.specs.Pieces.{AreTogether, TakesPiece}
-use Rattle.pgm_planes.specs.Planes.{IsRaster}
-use Rattle.pgm_planes.specs.Reading.{Reader, goes_beyond, sample_at}
 use Rattle.pgm_planes.proofs.HeaderLemmas.{done}
 use Rattle.pgm_planes.proofs.CallLemmas.{Goes}
 use Rattle.pgm_planes.proofs.StepLemmas.{and_others, others_go}
@@ -61,12 +49,12 @@ below_append m (x ∷ xs) ys h a (suc k) = below_append m xs ys (λ j. h (suc j)
 -- ---- reading them one by one
 
 module _ (maxval at k : ℕ) (more : Bool) (rest : List ℕ) where
-  narrow_good : (b v : ℕ) → v ≡ b → v ≤ maxval → sample_at Narrow maxval k more at (b ∷ rest) ≡ done v (at + 1) rest
-  unfolding sample_at
+  narrow_good : (b v : ℕ) → v ≡ b → v ≤ maxval → spelled_sample_at Narrow maxval k more at (b ∷ rest) ≡ done v (at + 1) rest
+  unfolding spelled_sample_at
   narrow_good b v e le = let n = le-ltb maxval v le in rw (← e, n) refl
 
-  wide_good : (b d v : ℕ) → v ≡ 256 * b + d → v ≤ maxval → sample_at Wide maxval k more at (b ∷ d ∷ rest) ≡ done v (at + 2) rest
-  unfolding sample_at
+  wide_good : (b d v : ℕ) → v ≡ 256 * b + d → v ≤ maxval → spelled_sample_at Wide maxval k more at (b ∷ d ∷ rest) ≡ done v (at + 2) rest
+  unfolding spelled_sample_at
   wide_good b d v e le = let n = le-ltb maxval v le in rw (← e, n) refl
 
 same_others : (form : SampleForm) (maxval : ℕ) (more : Bool) (rest front front_2 : List ℕ) (n n_2 k k_2 at at_2 : ℕ) → front ≡ front_2 → n ≡ n_2 → k ≡ k_2 → at ≡ at_2 → and_others front form maxval n k more at rest ≡ and_others front_2 form maxval n_2 k_2 more at_2 rest

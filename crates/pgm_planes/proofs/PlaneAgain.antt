@@ -1,23 +1,11 @@
 -- A plane that is spelled so is read, and a first break is told.
-use Rattle.std.proofs.Common.{◌≡◌, ℕ, ◌+◌, ◌*◌, ◌≤◌, true, false, ◌⊎◌, List, [], ◌∷◌, ◌++◌, length, None, refl, sym, ap, subst, ◌∙◌, append_assoc, arith, inl, inr}
-use Rattle.std.specs.List.{list_all}
-use Rattle.std.proofs.lemmas.Bool.{and_parts, cases_lt}
-use Rattle.std.proofs.lemmas.List.{length-append, append_cancel_right}
-use Rattle.std.proofs.lemmas.List.Elements.{recursion_from_All}
-use Rattle.pgm_planes.specs.declared.fault.Role.{Role}
-use Rattle.pgm_planes.specs.declared.fault.PlaneFault.{PlaneFault}
-use Rattle.pgm_planes.specs.declared.fault.PlaneFault.TheVariants.{Magic, Form, Size, PhaseMaxval, SampleAbove, Short}
-use Rattle.pgm_planes.specs.declared.spelling.Spelling.{Spelling}
-use Rattle.pgm_planes.specs.declared.spelling.Spelling.TheVariants.{Raw, Plain}
-use Rattle.pgm_planes.specs.declared.samples.SampleForm.TheVariants.{Digits}
-use Rattle.pgm_planes.specs.Gaps.{is_space, is_digit, is_gap, is_number, number_of, begins}
-use Rattle.pgm_planes.specs.Planes.{PlaneOf, HasMaxval, IsSize, AreNumbers, digit_of, HasHeader, IsEnd, IsPlaneText, SpellsPlane, IsPlaneIn}
-use Rattle.pgm_planes.specs.Breaks.{HasNoMagic, BreaksInHeader, BreaksAtMaxval, BreaksInRaster, HasEnded, IsAbove, IsShort, HasOtherMaxval, HasOtherSize, FirstBreak}
-use Rattle.pgm_planes.specs.Reading.{◌>>=◌, breaks, nothing, header_break, unless_broken, header_at, form_of, samples_at, end_at, raster_at, plane_at}
-use Rattle.pgm_planes.proofs.HeaderLemmas.{done, break_is, not_both, same_value, same_rest, blanks_again}
+use Rattle.std.proofs.Common.{◌≡◌, ℕ, Bool, ◌+◌, ◌*◌, ◌≤◌, true, false, ◌⊎◌, List, [], ◌∷◌, ◌++◌, length, None, refl, sym, ap, subst, ◌∙◌, append_assoc, arith, inl, inr}
+use Rattle.pgm_planes.proofs.Words.{unless_more, list_all, and_parts, cases_lt, length-append, append_cancel_right, recursion_from_All, Role, PlaneFault, Magic, Form, Size, PhaseMaxval, SampleAbove, Short, Spelling, Raw, Plain, Digits, is_space, is_digit, is_gap, is_number, capped_number, begins, PlaneOf, HasMaxval, IsSize, AreNumbers, digit_of, HasHeader, IsPlaneEnd, IsPlaneText, SpellsPlane, IsPlaneIn, HasNoMagic, BreaksInHeader, BreaksAtMaxval, BreaksInRaster, HasEnded, IsAbove, IsShort, HasOtherMaxval, HasSizeBeyond, FirstBreak, ◌⟫◌, breaks, nothing, header_break, unless_broken, header_at, form_of, samples_at, end_at, raster_at, plane_at}
+use Rattle.pgm_planes.proofs.HeaderLemmas.{done, seen, seen_false, break_is, not_both, same_value, same_rest, blanks_again}
 use Rattle.pgm_planes.proofs.FieldLemmas.{spaced}
 use Rattle.pgm_planes.proofs.NumberLemmas.{last_number, header_record}
 use Rattle.pgm_planes.proofs.HeaderAgain.{header_again, header_breaks_again}
+use Rattle.pgm_planes.proofs.SampleLemmas.{heard, heard_false}
 use Rattle.pgm_planes.proofs.RasterLemmas.{AboveIn, above_again, short_again, bad_again, samples_again}
 use Rattle.pgm_planes.proofs.LimitLemmas.{limit_walk}
 use Rattle.pgm_planes.proofs.PlaneSteps.{after_header}
@@ -38,7 +26,7 @@ pub record HeaderOver (role : Role) (spelling : Spelling) (at : ℕ) (bytes : Li
   pub text : List ℕ
   pub whole : bytes ≡ 80 ∷ digit_of spelling ∷ text
   pub header : header_at role false (at + 2) text ≡ unless_broken (header_break role w h m place) (done (header_record w h m) start rest)
-  pub reads : plane_at role false at bytes ≡ (unless_broken (header_break role w h m place) (done (header_record w h m) start rest) >>= λ header. after_header spelling header false)
+  pub reads : plane_at role false at bytes ≡ (unless_broken (header_break role w h m place) (done (header_record w h m) start rest) ⟫ λ header. after_header spelling header false)
 
 split_space : (bytes : List ℕ) → begins is_space bytes ≡ true → (space : ℕ) × (rest : List ℕ) × (bytes ≡ space ∷ rest) × (is_space space ≡ true)
 split_space [] h = absurd cc
@@ -46,9 +34,9 @@ split_space (b ∷ bytes) h = (b, bytes, refl, h)
 
 module _ (role : Role) (spelling : Spelling) (at : ℕ) where
   pieces_over : (sizes : List ℕ) (w h : ℕ) (gap digits : List ℕ) (s : ℕ) (more : List ℕ) → AreNumbers is_gap sizes (w ∷ h ∷ []) → is_gap gap ≡ true → is_number digits ≡ true → is_space s ≡ true
-      → plane_at role false at (80 ∷ digit_of spelling ∷ (sizes ++ (gap ++ (digits ++ (s ∷ more))))) ≡ (unless_broken (header_break role w h (number_of digits) ((at + 2) + length (sizes ++ gap))) (done (header_record w h (number_of digits)) ((at + 2) + length (sizes ++ (gap ++ (digits ++ (s ∷ []))))) more) >>= λ header. after_header spelling header false)
+      → plane_at role false at (80 ∷ digit_of spelling ∷ (sizes ++ (gap ++ (digits ++ (s ∷ more))))) ≡ (unless_broken (header_break role w h (capped_number digits) ((at + 2) + length (sizes ++ gap))) (done (header_record w h (capped_number digits)) ((at + 2) + length (sizes ++ (gap ++ (digits ++ (s ∷ []))))) more) ⟫ λ header. after_header spelling header false)
   pieces_over sizes w h gap digits s more a g n k =
-      plane_behind role spelling at (sizes ++ (gap ++ (digits ++ (s ∷ more)))) ∙ rw (header_again role (at + 2) sizes w h gap digits s more a g n k) refl
+      plane_behind role spelling at (sizes ++ (gap ++ (digits ++ (s ∷ more)))) ∙ rw (header_again false role (at + 2) sizes w h gap digits s more a g n k) refl
 
   header_over : (bytes : List ℕ) (w h m : ℕ) (behind : List ℕ) → HasHeader spelling bytes w h m behind → HeaderOver role spelling at bytes w h m behind
   header_over bytes w h m behind d =
@@ -70,8 +58,8 @@ module _ (role : Role) (spelling : Spelling) (at : ℕ) where
         start_is = omega (arith, ap length whole, length-append l.front (l.gap ++ (l.digits ++ (s.0 ∷ s.1))), length-append l.gap (l.digits ++ (s.0 ∷ s.1)), length-append l.digits (s.0 ∷ s.1), length-append l.front (l.gap ++ (l.digits ++ (s.0 ∷ []))), length-append l.gap (l.digits ++ (s.0 ∷ [])), length-append l.digits (s.0 ∷ []));
         text = text;
         whole = whole;
-        header = header_again role (at + 2) l.front w h l.gap l.digits s.0 s.1 l.are l.is_a_gap l.is_a_number s.3 ∙ ap (λ (k : ℕ). unless_broken (header_break role w h k place) (done (header_record w h k) start s.1)) (sym l.value);
-        reads = ap (plane_at role false at) whole ∙ read ∙ ap (λ (k : ℕ). unless_broken (header_break role w h k place) (done (header_record w h k) start s.1) >>= λ header. after_header spelling header false) (sym l.value);
+        header = header_again false role (at + 2) l.front w h l.gap l.digits s.0 s.1 l.are l.is_a_gap l.is_a_number s.3 ∙ ap (λ (k : ℕ). unless_broken (header_break role w h k place) (done (header_record w h k) start s.1)) (sym l.value);
+        reads = ap (plane_at role false at) whole ∙ read ∙ ap (λ (k : ℕ). unless_broken (header_break role w h k place) (done (header_record w h k) start s.1) ⟫ λ header. after_header spelling header false) (sym l.value);
       }
 
 kept : (role : Role) (w h m place : ℕ) → IsSize w h → HasMaxval role m → header_break role w h m place ≡ None
@@ -90,12 +78,12 @@ magic_tells role at bytes n = elim (magic_walk at bytes) [
 
 header_tells : (role : Role) (at : ℕ) (bytes rest : List ℕ) (place : ℕ) → at + length bytes ≡ place + length rest → BreaksInHeader bytes rest → plane_at role false at bytes ≡ breaks (Form place)
 header_tells role at bytes rest place e b =
-    let read = header_breaks_again role (at + 2) b.numbers b.values b.part rest b.are b.stuck in
+    let read = header_breaks_again false role (at + 2) b.numbers b.values b.part rest b.are b.stuck ∙ seen_false rest (breaks (Form ((at + 2) + length (b.numbers ++ b.part)))) in
     let same : (at + 2) + length (b.numbers ++ b.part) ≡ place
     = omega (arith, e, ap length b.whole, length-append b.numbers (b.part ++ rest), length-append b.part rest, length-append b.numbers b.part) in
     ap (plane_at role false at) b.whole ∙ plane_behind role b.spelling at (b.numbers ++ (b.part ++ rest)) ∙ rw (read, same) refl
 
-size_tells : (role : Role) (at : ℕ) (bytes : List ℕ) (w h : ℕ) → HasOtherSize bytes w h → plane_at role false at bytes ≡ breaks (Size w h)
+size_tells : (role : Role) (at : ℕ) (bytes : List ℕ) (w h : ℕ) → HasSizeBeyond bytes w h → plane_at role false at bytes ≡ breaks (Size w h)
 size_tells role at bytes w h b =
     let o = header_over role b.spelling at bytes w h b.maxval b.behind b.header in
     elim (limit_walk role w h b.maxval o.place) [
@@ -125,7 +113,7 @@ other_tells role at bytes rest place e b =
     let read = pieces_over role b.spelling at b.numbers b.width b.height b.gap b.digits s.0 s.1 b.are b.is b.number s.3 in
     let same : (at + 2) + length (b.numbers ++ b.gap) ≡ place
     = omega (arith, e, ap length b.whole, length-append b.numbers (b.gap ++ rest), length-append b.gap rest, length-append b.numbers b.gap) in
-    elim (limit_walk role b.width b.height (number_of b.digits) ((at + 2) + length (b.numbers ++ b.gap))) [
+    elim (limit_walk role b.width b.height (capped_number b.digits) ((at + 2) + length (b.numbers ++ b.gap))) [
       | inl l ↦ absurd (b.refused l.2)
       | inr k ↦ elim k [
         | inl z ↦ absurd (z.1 b.size)
@@ -207,19 +195,19 @@ above_over role at bytes index value b =
       rest_is = refl;
     }
 
-pub above_read : (role : Role) (at : ℕ) (bytes : List ℕ) (index value : ℕ) (b : IsAbove role bytes index value) (t : AboveOver role at bytes index value b) → samples_at (form_of b.spelling b.maxval) b.maxval (b.good.width * b.good.height) 0 false t.over.start t.over.rest ≡ breaks (SampleAbove index value)
-above_read role at bytes index value b t =
-    above_again (form_of b.spelling b.maxval) b.maxval (b.good.width * b.good.height) 0 t.over.start (lead_of b.spelling t.over.space) t.over.rest (SampleAbove index value) (lead_fits b.spelling b.maxval t.over.space t.over.rest t.over.spaces) t.above
+pub above_read : (goes : Bool) (role : Role) (at : ℕ) (bytes : List ℕ) (index value : ℕ) (b : IsAbove role bytes index value) (t : AboveOver role at bytes index value b) → samples_at (form_of b.spelling b.maxval) b.maxval (b.good.width * b.good.height) 0 goes t.over.start t.over.rest ≡ heard (form_of b.spelling b.maxval) goes t.above.rest (breaks (SampleAbove index value))
+above_read goes role at bytes index value b t =
+    above_again goes (form_of b.spelling b.maxval) b.maxval (b.good.width * b.good.height) 0 t.over.start (lead_of b.spelling t.over.space) t.over.rest (SampleAbove index value) (lead_fits b.spelling b.maxval t.over.space t.over.rest t.over.spaces) t.above
 
 above_tells : (role : Role) (at : ℕ) (bytes : List ℕ) (index value : ℕ) → IsAbove role bytes index value → plane_at role false at bytes ≡ breaks (SampleAbove index value)
 above_tells role at bytes index value b =
     let t = above_over role at bytes index value b in
-    t.over.reads ∙ after_breaks b.spelling b.good.width b.good.height b.maxval t.over.start t.over.rest (SampleAbove index value) (above_read role at bytes index value b t)
+    t.over.reads ∙ after_breaks b.spelling b.good.width b.good.height b.maxval t.over.start t.over.rest (SampleAbove index value) (above_read false role at bytes index value b t ∙ heard_false (form_of b.spelling b.maxval) t.above.rest (breaks (SampleAbove index value)))
 
 -- the header before samples that are missing was read, and they are missing in what follows
 pub record ShortOver (role : Role) (at : ℕ) (bytes : List ℕ) (found : ℕ) (b : IsShort role bytes found) : Type 0 where
   pub over : GoodOver role b.spelling at bytes b.good.width b.good.height b.maxval (b.samples ++ b.part)
-  pub samples : samples_at (form_of b.spelling b.maxval) b.maxval (b.good.width * b.good.height) 0 false over.start over.rest ≡ breaks (Short found)
+  pub samples : (goes : Bool) → samples_at (form_of b.spelling b.maxval) b.maxval (b.good.width * b.good.height) 0 goes over.start over.rest ≡ unless_more goes (breaks (Short found))
 
 pub short_over : (role : Role) (at : ℕ) (bytes : List ℕ) (found : ℕ) (b : IsShort role bytes found) → ShortOver role at bytes found b
 short_over role at bytes found b =
@@ -228,7 +216,7 @@ short_over role at bytes found b =
     let a = are_samples b.spelling b.maxval b.samples b.values b.part o.space o.rest b.are o.behind_is in
     record {
       over = o;
-      samples = short_again (form_of b.spelling b.maxval) b.maxval (g.width * g.height) 0 o.start (lead_of b.spelling o.space) o.rest (Short found) (lead_fits b.spelling b.maxval o.space o.rest o.spaces) (record {
+      samples = λ goes. short_again goes (form_of b.spelling b.maxval) b.maxval (g.width * g.height) 0 o.start (lead_of b.spelling o.space) o.rest (Short found) (lead_fits b.spelling b.maxval o.space o.rest o.spaces) (record {
         samples = a.0;
         values = b.values;
         part = b.part;
@@ -244,7 +232,7 @@ short_over role at bytes found b =
 short_tells : (role : Role) (at : ℕ) (bytes : List ℕ) (found : ℕ) → IsShort role bytes found → plane_at role false at bytes ≡ breaks (Short found)
 short_tells role at bytes found b =
     let t = short_over role at bytes found b in
-    t.over.reads ∙ after_breaks b.spelling b.good.width b.good.height b.maxval t.over.start t.over.rest (Short found) t.samples
+    t.over.reads ∙ after_breaks b.spelling b.good.width b.good.height b.maxval t.over.start t.over.rest (Short found) (t.samples false)
 
 no_end : (at b : ℕ) (rest : List ℕ) → is_space b ≡ false → end_at false at (b ∷ rest) ≡ breaks (Form at)
 unfolding end_at
@@ -259,7 +247,7 @@ module _ (role : Role) (at : ℕ) (bytes rest : List ℕ) (place : ℕ) (e : at 
       let fits = lead_fits Plain b.maxval o.space o.rest o.spaces in
       elim (cases_lt (length b.values) b.pixels) [
         | inl lt ↦ o.reads ∙ after_breaks Plain g.width g.height b.maxval o.start o.rest (Form place)
-            (bad_again Digits b.maxval (g.width * g.height) 0 o.start (o.space ∷ []) o.rest (Form place) fits (record {
+            (bad_again false Digits b.maxval (g.width * g.height) 0 o.start (o.space ∷ []) o.rest (Form place) fits (record {
               samples = b.samples;
               values = b.values;
               from = b.blank ++ rest;
@@ -280,7 +268,7 @@ module _ (role : Role) (at : ℕ) (bytes rest : List ℕ) (place : ℕ) (e : at 
             let s = samples_again Digits b.maxval 0 o.start (o.space ∷ []) o.rest b.samples b.values (b.byte ∷ b.behind) b.are (sym o.behind_is ∙ ap (λ (t : List ℕ). b.samples ++ t) more) fits b.no_digit below one in
             let same : s.0 ≡ place = omega (arith, s.1, o.start_is, e, ap length b.stands) in
             o.reads ∙ after_end_breaks g.width g.height b.maxval o.start o.rest b.values s.0 (b.byte ∷ b.behind) (Form place)
-            (ap (λ (n : ℕ). samples_at Digits b.maxval n 0 false o.start o.rest) (sym count) ∙ s.2)
+            (ap (λ (n : ℕ). samples_at Digits b.maxval n 0 false o.start o.rest) (sym count) ∙ s.2 false)
             (no_end s.0 b.byte b.behind b.no_space ∙ ap (λ (n : ℕ). breaks (Form n)) same)
       ]
 
@@ -305,14 +293,14 @@ end_begins : (blank rest : List ℕ) → list_all is_space blank ≡ true → (b
 end_begins [] rest a n = rw (n refl) refl
 end_begins (b ∷ blank) rest a n = spaced (b ∷ (blank ++ rest)) (and_parts (is_space b) (list_all is_space blank) a).0
 
-end_ended : (spelling : Spelling) (blank rest : List ℕ) → IsEnd spelling blank rest → HasEnded spelling (blank ++ rest)
+end_ended : (spelling : Spelling) (blank rest : List ℕ) → IsPlaneEnd spelling blank rest → HasEnded spelling (blank ++ rest)
 end_ended Raw blank rest e = tt
 end_ended Plain blank rest e = end_begins blank rest e.0 e.2
 
-pub end_of_blanks : (at : ℕ) (blank rest : List ℕ) → list_all is_space blank ≡ true → begins is_space rest ≡ false → (blank ≡ [] → rest ≡ []) → end_at false at (blank ++ rest) ≡ done nothing (at + length blank) rest
+pub end_of_blanks : (goes : Bool) (at : ℕ) (blank rest : List ℕ) → list_all is_space blank ≡ true → begins is_space rest ≡ false → (blank ≡ [] → rest ≡ []) → end_at goes at (blank ++ rest) ≡ seen goes rest (done nothing (at + length blank) rest)
 unfolding end_at
-end_of_blanks at [] rest a s n = rw (n refl) (blanks_again at [] [] refl refl)
-end_of_blanks at (b ∷ blank) rest a s n = rw (and_parts (is_space b) (list_all is_space blank) a).0 (blanks_again at (b ∷ blank) rest a s)
+end_of_blanks goes at [] rest a s n = rw (n refl) (blanks_again goes at [] [] refl refl)
+end_of_blanks goes at (b ∷ blank) rest a s n = rw (and_parts (is_space b) (list_all is_space blank) a).0 (blanks_again goes at (b ∷ blank) rest a s)
 
 begins_more : (xs ys : List ℕ) → begins is_space xs ≡ true → begins is_space (xs ++ ys) ≡ true
 begins_more [] ys h = absurd cc
@@ -325,7 +313,7 @@ pub record PlaneOver (role : Role) (spelling : Spelling) (at : ℕ) (bytes : Lis
   pub end : ℕ
   pub good : GoodHeader role spelling at bytes w h m start others
   pub reads : plane_at role false at bytes ≡ after_header spelling (header_record w h m) false start others
-  pub samples : samples_at (form_of spelling m) m (w * h) 0 false start others ≡ done vs end (blank ++ rest)
+  pub samples : (goes : Bool) → samples_at (form_of spelling m) m (w * h) 0 goes start others ≡ heard (form_of spelling m) goes (blank ++ rest) (done vs end (blank ++ rest))
   pub place : at + length bytes ≡ end + length (blank ++ rest)
 
 pub plane_over : (role : Role) (spelling : Spelling) (at : ℕ) (text : List ℕ) (p : PlaneOf) (rest : List ℕ) (t : IsPlaneText spelling role text p rest) → PlaneOver role spelling at (text ++ rest) p.width p.height p.maxval p.samples t.end rest
@@ -348,7 +336,7 @@ plane_over role spelling at text p rest t =
       end = s.0;
       good = o.good;
       reads = o.reads;
-      samples = ap (λ (n : ℕ). samples_at (form_of spelling p.maxval) p.maxval n 0 false o.start o.rest) (sym t.plane.count) ∙ s.2;
+      samples = λ goes. ap (λ (n : ℕ). samples_at (form_of spelling p.maxval) p.maxval n 0 goes o.start o.rest) (sym t.plane.count) ∙ s.2 goes;
       place = o.start_is ∙ s.1;
     }
 
@@ -357,12 +345,12 @@ plane_by role Raw at text p rest t =
     let o = plane_over role Raw at text p rest t in
     let tail : t.end ++ rest ≡ rest = ap (λ (x : List ℕ). x ++ rest) t.ended in
     let last : o.end ≡ at + length text = omega (arith, o.place, length-append text rest, ap length tail) in
-    o.reads ∙ after_raw p.width p.height p.maxval o.start o.others p.samples o.end (t.end ++ rest) o.samples ∙ rw (tail, last) refl
+    o.reads ∙ after_raw p.width p.height p.maxval o.start o.others p.samples o.end (t.end ++ rest) (o.samples false ∙ heard_false (form_of Raw p.maxval) (t.end ++ rest) (done p.samples o.end (t.end ++ rest))) ∙ rw (tail, last) refl
 plane_by role Plain at text p rest t =
     let o = plane_over role Plain at text p rest t in
     let last : o.end + length t.end ≡ at + length text = omega (arith, o.place, length-append text rest, length-append t.end rest) in
     o.reads
-    ∙ after_plain p.width p.height p.maxval o.start o.others p.samples o.end (t.end ++ rest) (o.end + length t.end) rest o.samples (end_of_blanks o.end t.end rest t.ended.0 t.ended.1 t.ended.2)
+    ∙ after_plain p.width p.height p.maxval o.start o.others p.samples o.end (t.end ++ rest) (o.end + length t.end) rest (o.samples false ∙ seen_false (t.end ++ rest) (done p.samples o.end (t.end ++ rest))) (end_of_blanks false o.end t.end rest t.ended.0 t.ended.1 t.ended.2 ∙ seen_false rest (done nothing (o.end + length t.end) rest))
     ∙ ap (λ (n : ℕ). done p n rest) last
 
 -- a plane's text is read as the plane, and what follows is left

@@ -1,13 +1,6 @@
 -- A whole plane: bytes begin with one, or break where the reader does.
 use Rattle.std.proofs.Common.{◌≡◌, ℕ, ◌+◌, true, false, ◌&&◌, ◌⊎◌, List, [], ◌∷◌, ◌++◌, refl, sym, ap, ◌∙◌, inl, inr, eqb, ltb}
-use Rattle.std.proofs.lemmas.Bool.{and_parts, cases_Bool, eqb-true}
-use Rattle.pgm_planes.specs.declared.fault.PlaneFault.TheVariants.{Magic}
-use Rattle.pgm_planes.specs.declared.spelling.Spelling.{Spelling}
-use Rattle.pgm_planes.specs.declared.spelling.Spelling.TheVariants.{Raw, Plain}
-use Rattle.pgm_planes.specs.Gaps.{is_space}
-use Rattle.pgm_planes.specs.Planes.{digit_of, AreSamples}
-use Rattle.pgm_planes.specs.Breaks.{HasNoMagic, HasEnded, IsCut}
-use Rattle.pgm_planes.specs.Reading.{breaks, magic_at, form_of}
+use Rattle.pgm_planes.proofs.Words.{and_parts, cases_Bool, eqb-true, Magic, Spelling, Raw, Plain, is_space, digit_of, AreSamples, HasNoMagic, HasEnded, IsPartOfSample, breaks, magic_at, form_of}
 use Rattle.pgm_planes.proofs.HeaderLemmas.{done, not_both}
 use Rattle.pgm_planes.proofs.SampleLemmas.{Rastered, LeadFits, EndsSample, CutSample}
 
@@ -70,11 +63,11 @@ pub has_ended : (spelling : Spelling) (m : ℕ) (rest : List ℕ) → EndsSample
 has_ended Raw m rest e = tt
 has_ended Plain m rest e = e
 
-pub is_cut : (spelling : Spelling) (m : ℕ) (part : List ℕ) → CutSample (form_of spelling m) part → IsCut spelling m part
+pub is_cut : (spelling : Spelling) (m : ℕ) (part : List ℕ) → CutSample (form_of spelling m) part → IsPartOfSample spelling m part
 is_cut Raw m part c = elim (cases_Bool (ltb 255 m)) [ inl y ↦ rw y (rw y at c) | inr n ↦ rw n (rw n at c) ]
 is_cut Plain m part c = c
 
-pub cut_is : (spelling : Spelling) (m : ℕ) (part : List ℕ) → IsCut spelling m part → CutSample (form_of spelling m) part
+pub cut_is : (spelling : Spelling) (m : ℕ) (part : List ℕ) → IsPartOfSample spelling m part → CutSample (form_of spelling m) part
 cut_is Raw m part c = elim (cases_Bool (ltb 255 m)) [ inl y ↦ rw y (rw y at c) | inr n ↦ rw n (rw n at c) ]
 cut_is Plain m part c = c
 

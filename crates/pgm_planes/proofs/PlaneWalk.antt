@@ -1,21 +1,8 @@
 -- What the reader gives is a plane's text, or the first break.
 use Rattle.std.proofs.Common.{◌≡◌, ℕ, ◌+◌, ◌*◌, ◌≤◌, ◌<◌, true, false, ◌⊎◌, List, [], ◌∷◌, ◌++◌, length, refl, sym, ap, subst, ◌∙◌, append_assoc, arith, inl, inr, ltb}
-use Rattle.std.proofs.lemmas.Bool.{cases_Bool, both_ways}
-use Rattle.std.proofs.lemmas.List.{length-append}
-use Rattle.std.proofs.lemmas.List.Elements.{All-from_recursion}
-use Rattle.std.proofs.lemmas.Nat.{mul-le}
-use Rattle.pgm_planes.specs.declared.fault.Role.{Role}
-use Rattle.pgm_planes.specs.declared.fault.PlaneFault.{PlaneFault}
-use Rattle.pgm_planes.specs.declared.fault.PlaneFault.TheVariants.{Magic, Form, Size, SampleAbove}
-use Rattle.pgm_planes.specs.declared.spelling.Spelling.{Spelling}
-use Rattle.pgm_planes.specs.declared.spelling.Spelling.TheVariants.{Raw, Plain}
-use Rattle.pgm_planes.specs.declared.samples.SampleForm.TheVariants.{Digits}
-use Rattle.pgm_planes.specs.Gaps.{is_space, is_gap, is_blank, begins}
-use Rattle.pgm_planes.specs.Planes.{PlaneOf, HasMaxval, IsSize, AreNumbers, digit_of, HasHeader, AreSamples, IsEnd, IsPlaneText, SpellsPlane}
-use Rattle.pgm_planes.specs.Breaks.{HasSamples, IsAbove, FirstBreak}
-use Rattle.pgm_planes.specs.Reading.{Reading, ◌>>=◌, breaks, nothing, magic_at, header_break, unless_broken, header_at, blanks_at, form_of, end_at, raster_at, plane_at}
-use Rattle.pgm_planes.proofs.HeaderLemmas.{done, Takes, Takes-none, blanks_found, blanks_never, blanks_answers}
-use Rattle.pgm_planes.proofs.FieldLemmas.{cases_reading, blank_spaced}
+use Rattle.pgm_planes.proofs.Words.{cases_Bool, both_ways, length-append, All-from_recursion, mul-le, Role, PlaneFault, Magic, Form, Size, SampleAbove, Spelling, Raw, Plain, Digits, is_space, is_gap, is_blank, begins, PlaneOf, HasMaxval, IsSize, AreNumbers, digit_of, HasHeader, AreSamples, IsPlaneEnd, IsPlaneText, SpellsPlane, HasSamples, IsAbove, FirstBreak, Reading, ◌⟫◌, breaks, nothing, magic_at, header_break, unless_broken, header_at, blanks_at, form_of, end_at, raster_at, plane_at}
+use Rattle.pgm_planes.proofs.HeaderLemmas.{done, Takes, Takes-none, blanks_found, blanks_end}
+use Rattle.pgm_planes.proofs.FieldLemmas.{blank_spaced}
 use Rattle.pgm_planes.proofs.NumberLemmas.{more_numbers, BrokenHeader, HeaderText, header_record, header_walk}
 use Rattle.pgm_planes.proofs.SampleLemmas.{BadByte}
 use Rattle.pgm_planes.proofs.RasterLemmas.{AllBelow, AboveIn, SamplesBreak, SamplesText, samples_walk}
@@ -40,7 +27,7 @@ walk_is role at bytes r q e w = subst (PlaneWalk role at bytes) (sym e) w
 
 abbrev pub EndWalk : ℕ → List ℕ → Type 0
 EndWalk at bytes = ((byte : ℕ) × (behind : List ℕ) × (bytes ≡ byte ∷ behind) × (is_space byte ≡ false) × (end_at false at bytes ≡ breaks (Form at)))
-    ⊎ ((blank : List ℕ) × (end : ℕ) × (rest : List ℕ) × (end_at false at bytes ≡ done nothing end rest) × IsEnd Plain blank rest × Takes at bytes blank end rest)
+    ⊎ ((blank : List ℕ) × (end : ℕ) × (rest : List ℕ) × (end_at false at bytes ≡ done nothing end rest) × IsPlaneEnd Plain blank rest × Takes at bytes blank end rest)
 
 some_blank : (at b : ℕ) (bytes blank : List ℕ) (end : ℕ) (rest : List ℕ) → is_space b ≡ true → begins is_space rest ≡ false → Takes at (b ∷ bytes) blank end rest → blank ≡ [] → rest ≡ []
 some_blank at b bytes blank end rest y n t e =
@@ -51,13 +38,11 @@ unfolding end_at blanks_at
 end_walk at [] = inr ([], at, [], refl, (refl, refl, λ _. refl), Takes-none at [])
 end_walk at (b ∷ bytes) = elim (cases_Bool (is_space b)) [
   | inr n ↦ inl (b, bytes, refl, n, rw n refl)
-  | inl y ↦ elim (cases_reading (blanks_at false (at + 1) bytes) (blanks_answers (at + 1) bytes)) [
-    | inl f ↦ absurd (blanks_never (at + 1) bytes f.0 f.1)
-    | inr t ↦
-        let found = blanks_found (at + 1) bytes t.1 t.2 t.3 in
-        let takes : Takes at (b ∷ bytes) (b ∷ found.0) t.1 t.2 = record { parts = ap (λ (x : List ℕ). b ∷ x) found.2.parts; place = omega (arith, found.2.place) } in
-        inr (b ∷ found.0, t.1, t.2, rw (y, t.3) refl, (rw (y, found.1) refl, found.3, some_blank at b bytes (b ∷ found.0) t.1 t.2 y found.3 takes), takes)
-  ]
+  | inl y ↦
+      let t = blanks_end (at + 1) bytes in
+      let found = blanks_found (at + 1) bytes t.0 t.1 t.2 in
+      let takes : Takes at (b ∷ bytes) (b ∷ found.0) t.0 t.1 = record { parts = ap (λ (x : List ℕ). b ∷ x) found.2.parts; place = omega (arith, found.2.place) } in
+      inr (b ∷ found.0, t.0, t.1, rw (y, t.2) refl, (rw (y, found.1) refl, found.3, some_blank at b bytes (b ∷ found.0) t.0 t.1 y found.3 takes), takes)
 ]
 
 -- ---- after a good header
@@ -190,7 +175,7 @@ pub record TextRead (spelling : Spelling) (role : Role) (at : ℕ) (bytes : List
   pub place : end ≡ at + length text
   pub spells : IsPlaneText spelling role text p rest
 
-pub text_read : (role : Role) (spelling : Spelling) (at : ℕ) (bytes : List ℕ) (w h m space start : ℕ) (rest vs : List ℕ) (end : ℕ) (others blank : List ℕ) (last : ℕ) (more : List ℕ) → Headed role spelling at bytes w h m space start rest → SamplesText (form_of spelling m) m (w * h) start rest (lead_of spelling space ++ rest) vs end others → IsEnd spelling blank more → Takes end others blank last more
+pub text_read : (role : Role) (spelling : Spelling) (at : ℕ) (bytes : List ℕ) (w h m space start : ℕ) (rest vs : List ℕ) (end : ℕ) (others blank : List ℕ) (last : ℕ) (more : List ℕ) → Headed role spelling at bytes w h m space start rest → SamplesText (form_of spelling m) m (w * h) start rest (lead_of spelling space ++ rest) vs end others → IsPlaneEnd spelling blank more → Takes end others blank last more
     → TextRead spelling role at bytes (record { width = w; height = h; maxval = m; samples = vs }) last more
 text_read role spelling at bytes w h m space start rest vs end others blank last more d t e k =
     let samples : List ℕ = front_of spelling space ++ t.samples in
@@ -239,7 +224,7 @@ raster_walk role Plain at bytes w h m space start rest d =
 -- ---- the header
 
 module _ (role : Role) (spelling : Spelling) (at : ℕ) (rest : List ℕ) where
-  pub plane_behind : plane_at role false at (80 ∷ digit_of spelling ∷ rest) ≡ (header_at role false (at + 2) rest >>= λ header. after_header spelling header false)
+  pub plane_behind : plane_at role false at (80 ∷ digit_of spelling ∷ rest) ≡ (header_at role false (at + 2) rest ⟫ λ header. after_header spelling header false)
   unfolding plane_at after_header
   plane_behind = rw (magic_again spelling at rest) refl
 
@@ -286,7 +271,7 @@ module _ (role : Role) (spelling : Spelling) (at : ℕ) (rest : List ℕ) where
       )
     ]
 
-    judged_walk : PlaneWalk role at (80 ∷ digit_of spelling ∷ rest) (unless_broken (header_break role w h m place) (done (header_record w h m) end others) >>= λ header. after_header spelling header false)
+    judged_walk : PlaneWalk role at (80 ∷ digit_of spelling ∷ rest) (unless_broken (header_break role w h m place) (done (header_record w h m) end others) ⟫ λ header. after_header spelling header false)
     judged_walk = elim (limit_walk role w h m place) [
       | inl l ↦ rw l.0 (raster_walk role spelling at (80 ∷ digit_of spelling ∷ rest) w h m t.space end others (record { header = header_is; spaces = t.spaces; size = l.1; fits = l.2; place = omega (arith, t.end_is) }))
       | inr b ↦ elim b [
@@ -295,7 +280,7 @@ module _ (role : Role) (spelling : Spelling) (at : ℕ) (rest : List ℕ) where
       ]
     ]
 
-  behind_walk : PlaneWalk role at (80 ∷ digit_of spelling ∷ rest) (header_at role false (at + 2) rest >>= λ header. after_header spelling header false)
+  behind_walk : PlaneWalk role at (80 ∷ digit_of spelling ∷ rest) (header_at role false (at + 2) rest ⟫ λ header. after_header spelling header false)
   behind_walk = elim (header_walk role (at + 2) rest) [
     | inl b ↦ inl (b.0, rw b.1 refl, header_first b.0 b.2)
     | inr t ↦ rw t.6 (judged_walk t.0 t.1 t.2 t.3 t.4 t.5 t.7)
@@ -310,5 +295,5 @@ pub plane_walk : (role : Role) (at : ℕ) (bytes : List ℕ) → PlaneWalk role 
 plane_walk role at bytes = elim (magic_walk at bytes) [
   | inl e ↦ inl (Magic, no_magic role at bytes e.0, e.1)
   | inr s ↦ subst (λ (t : List ℕ). PlaneWalk role at t (plane_at role false at t)) (sym s.2)
-      (walk_is role at (80 ∷ digit_of s.0 ∷ s.1) (plane_at role false at (80 ∷ digit_of s.0 ∷ s.1)) (header_at role false (at + 2) s.1 >>= λ header. after_header s.0 header false) (plane_behind role s.0 at s.1) (behind_walk role s.0 at s.1))
+      (walk_is role at (80 ∷ digit_of s.0 ∷ s.1) (plane_at role false at (80 ∷ digit_of s.0 ∷ s.1)) (header_at role false (at + 2) s.1 ⟫ λ header. after_header s.0 header false) (plane_behind role s.0 at s.1) (behind_walk role s.0 at s.1))
 ]

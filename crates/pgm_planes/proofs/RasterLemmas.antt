@@ -1,19 +1,11 @@
 -- Samples one after the other: what is read is spelled so, what is spelled so is read, and where the form breaks.
-use Rattle.std.proofs.Common.{◌≡◌, ℕ, zero, suc, ◌+◌, ◌≤◌, ◌<◌, true, false, ◌⊎◌, List, [], ◌∷◌, ◌++◌, length, Some, Ok, Err, refl, sym, ap, subst, ◌∙◌, append_assoc, arith, inl, inr}
-use Rattle.std.specs.List.{list_all, AllByRecursion}
-use Rattle.std.proofs.lemmas.Bool.{and_parts, le-ltb, lt-ltb}
-use Rattle.pgm_planes.specs.declared.fault.PlaneFault.{PlaneFault}
-use Rattle.pgm_planes.specs.declared.fault.PlaneFault.TheVariants.{Form, SampleAbove, Short}
-use Rattle.pgm_planes.specs.declared.samples.SampleForm.{SampleForm}
-use Rattle.pgm_planes.specs.declared.samples.SampleForm.TheVariants.{Narrow, Wide, Digits}
-use Rattle.pgm_planes.specs.Gaps.{is_space, is_digit, is_blank, begins}
-use Rattle.pgm_planes.specs.Planes.{AreNumbers}
-use Rattle.pgm_planes.specs.Reading.{Reading, ◌>>=◌, breaks, judged, and_behind, sample_at, samples_at}
-use Rattle.pgm_planes.proofs.HeaderLemmas.{done}
+use Rattle.std.proofs.Common.{◌≡◌, ℕ, Bool, zero, suc, ◌+◌, ◌≤◌, ◌<◌, true, false, ◌⊎◌, List, [], ◌∷◌, ◌++◌, length, Ok, Err, refl, sym, ap, subst, ◌∙◌, append_assoc, arith, inl, inr}
+use Rattle.pgm_planes.proofs.Words.{unless_more, list_all, AllByRecursion, and_parts, le-ltb, lt-ltb, PlaneFault, Form, SampleAbove, Short, SampleForm, Narrow, Wide, Digits, is_space, is_digit, is_blank, begins, AreNumbers, Reading, ◌⟫◌, breaks, judged, and_behind, spelled_sample_at, samples_at}
+use Rattle.pgm_planes.proofs.HeaderLemmas.{done, seen, seen_then}
 use Rattle.pgm_planes.proofs.FieldLemmas.{spaced, blank_spaced}
 use Rattle.pgm_planes.proofs.NumberLemmas.{numbers_begin}
-use Rattle.pgm_planes.proofs.SampleLemmas.{Rastered, LeadFits, EndsSample, CutSample, SampleText, BadByte, SampleBreak, sample_walk, sample_step, sample_cut, sample_bad}
-use Rattle.pgm_planes.proofs.StepLemmas.{and_others, others_begin, others_end, others_break}
+use Rattle.pgm_planes.proofs.SampleLemmas.{heard, heard_then, heard_more, Rastered, LeadFits, EndsSample, CutSample, SampleText, BadByte, SampleBreak, sample_walk, sample_step, sample_cut, sample_bad}
+use Rattle.pgm_planes.proofs.StepLemmas.{and_others, others_begin, others_end}
 
 abbrev pub AllBelow : ℕ → List ℕ → Type 0
 AllBelow maxval vs = AllByRecursion (λ v. v ≤ maxval) vs
@@ -231,6 +223,35 @@ samples_walk form maxval (suc n) k at lead bytes fits none = elim (sample_walk f
 
 -- ---- what is spelled so is read
 
+-- after samples that were read the last one is seen to its end
+abbrev pub heard_after : {A : Type 0} → SampleForm → List ℕ → Bool → List ℕ → Reading A → Reading A
+heard_after form [] goes rest r = r
+heard_after form (v ∷ vs) goes rest r = heard form goes rest r
+
+heard_some : {A : Type 0} (form : SampleForm) (values : List ℕ) (goes : Bool) (rest : List ℕ) (r : Reading A) → 1 ≤ length values → heard_after form values goes rest r ≡ heard form goes rest r
+heard_some form [] goes rest r one = absurd (omega arith)
+heard_some form (v ∷ vs) goes rest r one = refl
+
+seen_front : {A : Type 0} (goes : Bool) (part last : List ℕ) (r : Reading A) → seen goes (part ++ last) (seen goes last r) ≡ seen goes last r
+seen_front true [] [] r = refl
+seen_front false [] [] r = refl
+seen_front goes [] (b ∷ last) r = refl
+seen_front goes (b ∷ part) last r = refl
+
+heard_last : {A : Type 0} (form : SampleForm) (values : List ℕ) (goes : Bool) (rest part last : List ℕ) (r : Reading A) → (1 ≤ length values → rest ≡ part ++ last) → heard_after form values goes rest (heard form goes last r) ≡ heard form goes last r
+heard_last form [] goes rest part last r e = refl
+heard_last Narrow (v ∷ vs) goes rest part last r e = refl
+heard_last Wide (v ∷ vs) goes rest part last r e = refl
+heard_last Digits (v ∷ vs) goes rest part last r e = rw (e (omega arith)) (seen_front goes part last r)
+
+heard_cut : {A : Type 0} (form : SampleForm) (values : List ℕ) (goes : Bool) (rest : List ℕ) (r : Reading A) → heard_after form values goes rest (unless_more goes r) ≡ unless_more goes r
+heard_cut form [] goes rest r = refl
+heard_cut Narrow (v ∷ vs) goes rest r = refl
+heard_cut Wide (v ∷ vs) goes rest r = refl
+heard_cut Digits (v ∷ vs) true [] r = refl
+heard_cut Digits (v ∷ vs) false [] r = refl
+heard_cut Digits (v ∷ vs) goes (b ∷ rest) r = refl
+
 -- good samples were read over
 pub record Over (form : SampleForm) (maxval n k at : ℕ) (first bytes values more : List ℕ) : Type 0 where
   pub lead : List ℕ
@@ -241,16 +262,27 @@ pub record Over (form : SampleForm) (maxval n k at : ℕ) (first bytes values mo
   pub place : at + length bytes ≡ end + length rest
   pub stays : first ≡ [] → lead ≡ []
   pub whole : 1 ≤ length values → lead ≡ []
-  pub reads : samples_at form maxval (length values + n) k false at bytes ≡ and_others values form maxval n (k + length values) false end rest
+  pub none : values ≡ [] → rest ≡ bytes
+  pub reads : (goes : Bool) → samples_at form maxval (length values + n) k goes at bytes ≡ heard_after form values goes rest (and_others values form maxval n (k + length values) goes end rest)
 
-module _ (form : SampleForm) (maxval n k end v : ℕ) (rest values : List ℕ) where
-  regroup_first : (r : Reading (List ℕ)) → ((r >>= λ vs end others. Ok (values ++ vs, end, others)) >>= λ vs end others. Ok (v ∷ vs, end, others)) ≡ (r >>= λ vs end others. Ok ((v ∷ values) ++ vs, end, others))
-  regroup_first (Ok x) = refl
-  regroup_first (Err e) = refl
+regroup_first : (v : ℕ) (values : List ℕ) (r : Reading (List ℕ)) → ((r ⟫ λ vs end others. Ok (values ++ vs, end, others)) ⟫ λ vs end others. Ok (v ∷ vs, end, others)) ≡ (r ⟫ λ vs end others. Ok ((v ∷ values) ++ vs, end, others))
+regroup_first v values (Ok x) = refl
+regroup_first v values (Err e) = refl
 
-  over_first : (at j m count : ℕ) (bytes middle : List ℕ) (after : ℕ) → count ≡ suc m → sample_at form maxval j false at bytes ≡ done v after middle → samples_at form maxval m (j + 1) false after middle ≡ and_others values form maxval n k false end rest → samples_at form maxval count j false at bytes ≡ and_others (v ∷ values) form maxval n k false end rest
-  unfolding samples_at and_others
-  over_first at j m count bytes middle after is one others = rw (is, one, others) (regroup_first (samples_at form maxval n k false end rest))
+fold_first : (form : SampleForm) (maxval n k end v : ℕ) (rest values : List ℕ) (goes : Bool) (middle : List ℕ) → (values ≡ [] → rest ≡ middle) → ((r : Reading (List ℕ)) → 1 ≤ length values → heard form goes middle r ≡ r) → heard form goes middle (heard_after form values goes rest (and_others values form maxval n k goes end rest) ⟫ λ vs end others. Ok (v ∷ vs, end, others)) ≡ heard form goes rest (and_others (v ∷ values) form maxval n k goes end rest)
+unfolding and_others
+fold_first form maxval n k end v rest [] goes middle same drop =
+    ap (λ (t : List ℕ). heard form goes t ((samples_at form maxval n k goes end rest ⟫ λ vs end others. Ok ([] ++ vs, end, others)) ⟫ λ vs end others. Ok (v ∷ vs, end, others))) (sym (same refl)) ∙ ap (heard form goes rest) (regroup_first v [] (samples_at form maxval n k goes end rest))
+fold_first form maxval n k end v rest (w ∷ ws) goes middle same drop =
+    drop _ (omega arith) ∙ heard_then form goes rest (samples_at form maxval n k goes end rest ⟫ λ vs end others. Ok ((w ∷ ws) ++ vs, end, others)) (λ vs end others. Ok (v ∷ vs, end, others)) ∙ ap (heard form goes rest) (regroup_first v (w ∷ ws) (samples_at form maxval n k goes end rest))
+
+over_first : (form : SampleForm) (maxval n k end v : ℕ) (rest values : List ℕ) (goes : Bool) (at j m count : ℕ) (bytes middle : List ℕ) (after : ℕ) → count ≡ suc m → spelled_sample_at form maxval j goes at bytes ≡ heard form goes middle (done v after middle) → samples_at form maxval m (j + 1) goes after middle ≡ heard_after form values goes rest (and_others values form maxval n k goes end rest) → (values ≡ [] → rest ≡ middle) → ((r : Reading (List ℕ)) → 1 ≤ length values → heard form goes middle r ≡ r)
+    → samples_at form maxval count j goes at bytes ≡ heard form goes rest (and_others (v ∷ values) form maxval n k goes end rest)
+unfolding samples_at
+over_first form maxval n k end v rest values goes at j m count bytes middle after is one others same drop = rw (is, one)
+    (heard_then form goes middle (done v after middle) (λ v after rest. samples_at form maxval m (j + 1) goes after rest ⟫ λ vs end others. Ok (v ∷ vs, end, others))
+    ∙ ap (λ (r : Reading (List ℕ)). heard form goes middle (r ⟫ λ vs end others. Ok (v ∷ vs, end, others))) others
+    ∙ fold_first form maxval n k end v rest values goes middle same drop)
 
 pub good : (maxval k v end : ℕ) (rest : List ℕ) → v ≤ maxval → and_behind (judged maxval k v) end rest ≡ done v end rest
 good maxval k v end rest le = rw (le-ltb maxval v le) refl
@@ -265,12 +297,12 @@ samples_over form maxval n k at lead bytes samples [] more r e fits s b = record
   place = refl;
   stays = λ none. none;
   whole = λ one. absurd (omega arith);
-  reads = let z : k ≡ k + 0 = omega arith in let m : 0 + n ≡ n = omega arith in rw (m, ← z) (others_begin form maxval n k false at bytes);
+  none = λ _. refl;
+  reads = λ goes. let z : k ≡ k + 0 = omega arith in let m : 0 + n ≡ n = omega arith in rw (m, ← z) (others_begin form maxval n k goes at bytes);
 }
 samples_over form maxval n k at lead bytes samples (v ∷ values) more r e fits s b =
     let t = sample_step form maxval k at lead bytes samples v values more r e fits s in
     let o = samples_over form maxval n (k + 1) t.end [] (t.others ++ more) t.others values more t.are refl (ended_fits form (t.others ++ more) t.ends) s b.1 in
-    let one = t.reads ∙ good maxval k v t.end (t.others ++ more) b.0 in
     let count : (length (v ∷ values) + n) ≡ suc (length values + n) = omega arith in
     let place : (k + 1) + length values ≡ k + length (v ∷ values) = omega arith in
     record {
@@ -282,14 +314,22 @@ samples_over form maxval n k at lead bytes samples (v ∷ values) more r e fits 
       place = t.place ∙ o.place;
       stays = λ _. o.stays refl;
       whole = λ _. o.stays refl;
-      reads = subst (λ (i : ℕ). samples_at form maxval (length (v ∷ values) + n) k false at bytes ≡ and_others (v ∷ values) form maxval n i false o.end o.rest) place
-          (over_first form maxval n ((k + 1) + length values) o.end v o.rest values at k (length values + n) (length (v ∷ values) + n) bytes (t.others ++ more) t.end count one o.reads);
+      none = λ e. absurd cc;
+      reads = λ goes. subst (λ (i : ℕ). samples_at form maxval (length (v ∷ values) + n) k goes at bytes ≡ heard form goes o.rest (and_others (v ∷ values) form maxval n i goes o.end o.rest)) place
+          (over_first form maxval n ((k + 1) + length values) o.end v o.rest values goes at k (length values + n) (length (v ∷ values) + n) bytes (t.others ++ more) t.end count
+          (t.reads goes ∙ ap (heard form goes (t.others ++ more)) (good maxval k v t.end (t.others ++ more) b.0)) (o.reads goes) o.none (λ r one. heard_more form goes t.others values more r t.are one));
     }
 
--- the last of the samples breaks
-ends_at_break : (form : SampleForm) (maxval n count k at : ℕ) (first bytes values more : List ℕ) (f : PlaneFault) → n ≡ length values + suc count → (o : Over form maxval (suc count) k at first bytes values more) → sample_at form maxval (k + length values) false o.end o.rest ≡ breaks f → samples_at form maxval n k false at bytes ≡ breaks f
-ends_at_break form maxval n count k at first bytes values more f is o b =
-    ap (λ (m : ℕ). samples_at form maxval m k false at bytes) is ∙ o.reads ∙ others_break form maxval values (suc count) count (k + length values) false o.end o.rest (Some f) refl b
+-- the last of the samples breaks, or is asked for
+others_stop : (values : List ℕ) (form : SampleForm) (maxval count k : ℕ) (goes : Bool) (end : ℕ) (rest : List ℕ) (r : Reading ℕ) (q : Reading (List ℕ)) → spelled_sample_at form maxval k goes end rest ≡ r → ((g : ℕ → ℕ → List ℕ → Reading (List ℕ)) → (r ⟫ g) ≡ q) → ((g : List ℕ → ℕ → List ℕ → Reading (List ℕ)) → (q ⟫ g) ≡ q) → and_others values form maxval (suc count) k goes end rest ≡ q
+unfolding and_others samples_at
+others_stop values form maxval count k goes end rest r q b f h = rw b
+    (ap (λ (x : Reading (List ℕ)). x ⟫ λ vs end others. Ok (values ++ vs, end, others)) (f (λ v after rest. samples_at form maxval count (k + 1) goes after rest ⟫ λ vs end others. Ok (v ∷ vs, end, others))) ∙ h (λ vs end others. Ok (values ++ vs, end, others)))
+
+ends_at_break : (form : SampleForm) (maxval n count k at : ℕ) (first bytes values more : List ℕ) (goes : Bool) (r : Reading ℕ) (q : Reading (List ℕ)) → n ≡ length values + suc count → (o : Over form maxval (suc count) k at first bytes values more) → spelled_sample_at form maxval (k + length values) goes o.end o.rest ≡ r → ((g : ℕ → ℕ → List ℕ → Reading (List ℕ)) → (r ⟫ g) ≡ q) → ((g : List ℕ → ℕ → List ℕ → Reading (List ℕ)) → (q ⟫ g) ≡ q)
+    → samples_at form maxval n k goes at bytes ≡ heard_after form values goes o.rest q
+ends_at_break form maxval n count k at first bytes values more goes r q is o b f h =
+    ap (λ (m : ℕ). samples_at form maxval m k goes at bytes) is ∙ o.reads goes ∙ ap (heard_after form values goes o.rest) (others_stop values form maxval count (k + length values) goes o.end o.rest r q b f h)
 
 numbers_ended : (form : SampleForm) (last : List ℕ) (value : ℕ) (rest : List ℕ) → Rastered form last (value ∷ []) → EndsSample form rest → EndsSample form (last ++ rest)
 numbers_ended Narrow last value rest r e = tt
@@ -305,15 +345,18 @@ fewer a zero lt = absurd (omega arith)
 fewer zero (suc n) lt = (n, omega arith)
 fewer (suc a) (suc n) lt = let f = fewer a n (omega arith) in (f.0, omega (arith, f.1))
 
-pub above_again : (form : SampleForm) (maxval n k at : ℕ) (lead bytes : List ℕ) (f : PlaneFault) → LeadFits form lead bytes → AboveIn form maxval n k (lead ++ bytes) f → samples_at form maxval n k false at bytes ≡ breaks f
-above_again form maxval n k at lead bytes f fits a =
+pub above_again : (goes : Bool) (form : SampleForm) (maxval n k at : ℕ) (lead bytes : List ℕ) (f : PlaneFault) → LeadFits form lead bytes → (a : AboveIn form maxval n k (lead ++ bytes) f) → samples_at form maxval n k goes at bytes ≡ heard form goes a.rest (breaks f)
+above_again goes form maxval n k at lead bytes f fits a =
     let l = last_sample form a.samples a.values a.value a.are in
     let m = fewer (length a.values) n a.some in
     let parts : lead ++ bytes ≡ l.front ++ (l.last ++ a.rest) = a.parts ∙ ap (λ (t : List ℕ). t ++ a.rest) l.parts ∙ append_assoc l.front l.last a.rest in
     let o = samples_over form maxval (suc m.0) k at lead bytes l.front a.values (l.last ++ a.rest) l.are parts fits (numbers_ended form l.last a.value a.rest l.is a.ends) a.below in
     let t = sample_step form maxval (k + length a.values) o.end o.lead o.rest l.last a.value [] a.rest l.is o.parts o.fits a.ends in
-    ends_at_break form maxval n m.0 k at lead bytes a.values (l.last ++ a.rest) f m.1 o
-    (t.reads ∙ bad_value maxval (k + length a.values) a.value t.end (t.others ++ a.rest) a.above ∙ ap (λ (x : PlaneFault). breaks x) (sym a.fault))
+    let broken : and_behind (judged maxval (k + length a.values) a.value) t.end (t.others ++ a.rest) ≡ breaks f = bad_value maxval (k + length a.values) a.value t.end (t.others ++ a.rest) a.above ∙ ap (λ (x : PlaneFault). breaks x) (sym a.fault) in
+    ends_at_break form maxval n m.0 k at lead bytes a.values (l.last ++ a.rest) goes (heard form goes a.rest (breaks f)) (heard form goes a.rest (breaks f)) m.1 o
+    (t.reads goes ∙ ap (heard form goes (t.others ++ a.rest)) broken ∙ ap (λ (x : List ℕ). heard form goes (x ++ a.rest) (breaks f)) (none_rastered form t.others t.are))
+    (heard_then form goes a.rest (breaks f)) (heard_then form goes a.rest (breaks f))
+    ∙ heard_last form a.values goes o.rest l.last a.rest (breaks f) (λ one. ap (λ (t : List ℕ). t ++ o.rest) (sym (o.whole one)) ∙ o.parts)
 
 blank_digit : (b : ℕ) (bytes : List ℕ) → list_all is_space (b ∷ bytes) ≡ true → is_digit b ≡ false
 blank_digit b bytes h = spaced (b ∷ bytes) (and_parts (is_space b) (list_all is_space bytes) h).0
@@ -327,38 +370,43 @@ cut_ended Narrow part c = tt
 cut_ended Wide part c = tt
 cut_ended Digits part c = all_spaces part c
 
-pub short_again : (form : SampleForm) (maxval n k at : ℕ) (lead bytes : List ℕ) (f : PlaneFault) → LeadFits form lead bytes → ShortIn form maxval n k (lead ++ bytes) f → samples_at form maxval n k false at bytes ≡ breaks f
-short_again form maxval n k at lead bytes f fits a =
+pub short_again : (goes : Bool) (form : SampleForm) (maxval n k at : ℕ) (lead bytes : List ℕ) (f : PlaneFault) → LeadFits form lead bytes → ShortIn form maxval n k (lead ++ bytes) f → samples_at form maxval n k goes at bytes ≡ unless_more goes (breaks f)
+short_again goes form maxval n k at lead bytes f fits a =
     let m = fewer (length a.values) n a.some in
     let o = samples_over form maxval (suc m.0) k at lead bytes a.samples a.values a.part a.are a.parts fits (cut_ended form a.part a.cut) a.below in
-    ends_at_break form maxval n m.0 k at lead bytes a.values a.part f m.1 o
-    (sample_cut form maxval (k + length a.values) o.end o.lead o.rest o.fits (subst (CutSample form) (sym o.parts) a.cut) ∙ ap (λ (x : PlaneFault). breaks x) (sym a.fault))
+    ends_at_break form maxval n m.0 k at lead bytes a.values a.part goes (unless_more goes (breaks f)) (unless_more goes (breaks f)) m.1 o
+    (sample_cut goes form maxval (k + length a.values) o.end o.lead o.rest o.fits (subst (CutSample form) (sym o.parts) a.cut) ∙ ap (λ (x : PlaneFault). unless_more goes (breaks x)) (sym a.fault))
+    (seen_then goes [] (breaks f)) (seen_then goes [] (breaks f))
+    ∙ heard_cut form a.values goes o.rest (breaks f)
 
 bad_begins : (blank : List ℕ) (byte : ℕ) (behind : List ℕ) → list_all is_space blank ≡ true → is_digit byte ≡ false → begins is_digit (blank ++ byte ∷ behind) ≡ false
 bad_begins [] byte behind a n = n
 bad_begins (b ∷ blank) byte behind a n = blank_digit b blank a
 
-bad_digits : (maxval n k at : ℕ) (lead bytes : List ℕ) (f : PlaneFault) → LeadFits Digits lead bytes → BadIn Digits maxval n at bytes (lead ++ bytes) f → samples_at Digits maxval n k false at bytes ≡ breaks f
-bad_digits maxval n k at lead bytes f fits a =
+bad_digits : (goes : Bool) (maxval n k at : ℕ) (lead bytes : List ℕ) (f : PlaneFault) → LeadFits Digits lead bytes → BadIn Digits maxval n at bytes (lead ++ bytes) f → samples_at Digits maxval n k goes at bytes ≡ breaks f
+bad_digits goes maxval n k at lead bytes f fits a =
     let m = fewer (length a.values) n a.some in
     let ends : begins is_digit a.from ≡ false = ap (begins is_digit) a.bad.parts ∙ bad_begins a.bad.blank a.bad.byte a.bad.behind a.bad.blanks a.bad.no_digit in
     let o = samples_over Digits maxval (suc m.0) k at lead bytes a.samples a.values a.from a.are a.parts fits ends a.below in
     let b = moved o.end o.rest a.from a.place at bytes a.bad (sym o.place) in
-    ends_at_break Digits maxval n m.0 k at lead bytes a.values a.from f m.1 o
-    (sample_bad maxval (k + length a.values) o.end o.lead o.rest a.place o.fits (subst (λ (t : List ℕ). BadByte o.end o.rest t a.place) (sym o.parts) b) ∙ ap (λ (x : PlaneFault). breaks x) (sym a.fault))
+    ends_at_break Digits maxval n m.0 k at lead bytes a.values a.from goes (breaks f) (breaks f) m.1 o
+    (sample_bad goes maxval (k + length a.values) o.end o.lead o.rest a.place o.fits (subst (λ (t : List ℕ). BadByte o.end o.rest t a.place) (sym o.parts) b) ∙ ap (λ (x : PlaneFault). breaks x) (sym a.fault))
+    (λ g. refl) (λ g. refl)
+    ∙ heard_last Digits a.values goes o.rest a.bad.blank (a.bad.byte ∷ a.bad.behind) (breaks f) (λ one. ap (λ (t : List ℕ). t ++ o.rest) (sym (o.whole one)) ∙ o.parts ∙ a.bad.parts)
 
-pub bad_again : (form : SampleForm) (maxval n k at : ℕ) (lead bytes : List ℕ) (f : PlaneFault) → LeadFits form lead bytes → BadIn form maxval n at bytes (lead ++ bytes) f → samples_at form maxval n k false at bytes ≡ breaks f
-bad_again Narrow maxval n k at lead bytes f fits a = absurd (let e = a.digits in cc)
-bad_again Wide maxval n k at lead bytes f fits a = absurd (let e = a.digits in cc)
-bad_again Digits maxval n k at lead bytes f fits a = bad_digits maxval n k at lead bytes f fits a
+pub bad_again : (goes : Bool) (form : SampleForm) (maxval n k at : ℕ) (lead bytes : List ℕ) (f : PlaneFault) → LeadFits form lead bytes → BadIn form maxval n at bytes (lead ++ bytes) f → samples_at form maxval n k goes at bytes ≡ breaks f
+bad_again goes Narrow maxval n k at lead bytes f fits a = absurd (let e = a.digits in cc)
+bad_again goes Wide maxval n k at lead bytes f fits a = absurd (let e = a.digits in cc)
+bad_again goes Digits maxval n k at lead bytes f fits a = bad_digits goes maxval n k at lead bytes f fits a
 
 -- good samples are read, and what follows is left
-pub samples_again : (form : SampleForm) (maxval k at : ℕ) (lead bytes samples vs more : List ℕ) → Rastered form samples vs → lead ++ bytes ≡ samples ++ more → LeadFits form lead bytes → EndsSample form more → AllBelow maxval vs → 1 ≤ length vs → (end : ℕ) × (at + length bytes ≡ end + length more) × (samples_at form maxval (length vs) k false at bytes ≡ done vs end more)
+pub samples_again : (form : SampleForm) (maxval k at : ℕ) (lead bytes samples vs more : List ℕ) → Rastered form samples vs → lead ++ bytes ≡ samples ++ more → LeadFits form lead bytes → EndsSample form more → AllBelow maxval vs → 1 ≤ length vs → (end : ℕ) × (at + length bytes ≡ end + length more) × ((goes : Bool) → samples_at form maxval (length vs) k goes at bytes ≡ heard form goes more (done vs end more))
 samples_again form maxval k at lead bytes samples vs more r e fits s b one =
     let o = samples_over form maxval 0 k at lead bytes samples vs more r e fits s b in
     let same : o.rest ≡ more = ap (λ (t : List ℕ). t ++ o.rest) (sym (o.whole one)) ∙ o.parts in
     let count : length vs + 0 ≡ length vs = omega arith in (
       o.end,
       o.place ∙ ap (λ (t : List ℕ). o.end + length t) same,
-      ap (λ (m : ℕ). samples_at form maxval m k false at bytes) (sym count) ∙ o.reads ∙ others_end form maxval vs (k + length vs) false o.end o.rest ∙ ap (λ (t : List ℕ). done vs o.end t) same,
+      λ goes. ap (λ (m : ℕ). samples_at form maxval m k goes at bytes) (sym count) ∙ o.reads goes ∙ ap (heard_after form vs goes o.rest) (others_end form maxval vs (k + length vs) goes o.end o.rest)
+          ∙ heard_some form vs goes o.rest (done vs o.end o.rest) one ∙ ap (λ (t : List ℕ). heard form goes t (done vs o.end t)) same,
     )

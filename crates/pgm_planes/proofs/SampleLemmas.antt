@@ -1,17 +1,8 @@
 -- One sample: what is read is spelled so, what is spelled so is read, and where the form breaks.
 use Rattle.std.proofs.Common.{◌≡◌, ℕ, ◌+◌, ◌*◌, ◌≤◌, ◌<◌, Bool, true, false, ◌⊎◌, List, [], ◌∷◌, ◌++◌, length, refl, sym, ap, ◌∙◌, append_assoc, arith, inl, inr, ltb}
-use Rattle.std.specs.Prelude.{⊤}
-use Rattle.std.specs.List.{list_all}
-use Rattle.std.proofs.lemmas.Bool.{and_parts, cases_Bool, both_ways, ltb-true, ltb-false}
-use Rattle.std.proofs.lemmas.List.{length-append, append-nil}
-use Rattle.pgm_planes.specs.declared.fault.PlaneFault.{PlaneFault}
-use Rattle.pgm_planes.specs.declared.fault.PlaneFault.TheVariants.{Form, SampleAbove, Short}
-use Rattle.pgm_planes.specs.declared.samples.SampleForm.{SampleForm}
-use Rattle.pgm_planes.specs.declared.samples.SampleForm.TheVariants.{Narrow, Wide, Digits}
-use Rattle.pgm_planes.specs.Gaps.{is_space, is_digit, is_blank, begins, is_number}
-use Rattle.pgm_planes.specs.Planes.{AreNumbers, IsRaster}
-use Rattle.pgm_planes.specs.Reading.{Reading, ◌>>=◌, breaks, nothing, blanks_at, number_at, judged, and_behind, sample_at}
-use Rattle.pgm_planes.proofs.HeaderLemmas.{done, blanks_found, blanks_again, blanks_never, blanks_answers, number_found, number_again, number_answers, number_break}
+use Rattle.pgm_planes.proofs.Words.{unless_more, capped_number, ⊤, list_all, and_parts, cases_Bool, both_ways, ltb-true, ltb-false, length-append, PlaneFault, Form, SampleAbove, Short, SampleForm, Narrow, Wide, Digits, is_space, is_digit, is_blank, begins, is_number, AreNumbers, IsRaster, Reading, ◌⟫◌, breaks, nothing, blanks_at, numeral_at, judged, and_behind, spelled_sample_at}
+use Rattle.std.proofs.lemmas.List.{append-nil}
+use Rattle.pgm_planes.proofs.HeaderLemmas.{done, seen, seen_false, seen_begun, seen_then, seen_behind, blanks_found, blanks_again, blanks_end, number_found, number_again, number_answers, number_break}
 use Rattle.pgm_planes.proofs.FieldLemmas.{cases_reading, blank_spaced, number_stops}
 use Rattle.pgm_planes.proofs.NumberLemmas.{numbers_begin}
 
@@ -38,6 +29,29 @@ abbrev pub CutSample : SampleForm → List ℕ → Type 0
 CutSample Narrow part = length part < 1
 CutSample Wide part = length part < 2
 CutSample Digits part = list_all is_space part ≡ true
+
+-- a sample of digits is seen to the byte after it
+abbrev pub heard : {A : Type 0} → SampleForm → Bool → List ℕ → Reading A → Reading A
+heard Narrow goes rest r = r
+heard Wide goes rest r = r
+heard Digits goes rest r = seen goes rest r
+
+pub heard_false : {A : Type 0} (form : SampleForm) (rest : List ℕ) (r : Reading A) → heard form false rest r ≡ r
+heard_false Narrow rest r = refl
+heard_false Wide rest r = refl
+heard_false Digits rest r = seen_false rest r
+
+pub heard_then : {A B : Type 0} (form : SampleForm) (goes : Bool) (rest : List ℕ) (r : Reading A) (f : A → ℕ → List ℕ → Reading B) → (heard form goes rest r ⟫ f) ≡ heard form goes rest (r ⟫ f)
+heard_then Narrow goes rest r f = refl
+heard_then Wide goes rest r f = refl
+heard_then Digits goes rest r f = seen_then goes rest r f
+
+-- where samples follow, a byte follows
+pub heard_more : {A : Type 0} (form : SampleForm) (goes : Bool) (samples vs more : List ℕ) (r : Reading A) → Rastered form samples vs → 1 ≤ length vs → heard form goes (samples ++ more) r ≡ r
+heard_more Narrow goes samples vs more r a one = refl
+heard_more Wide goes samples vs more r a one = refl
+heard_more Digits goes samples [] more r a one = absurd (omega arith)
+heard_more Digits goes samples (v ∷ vs) more r a one = seen_begun goes is_space (samples ++ more) r (rw (a.3, append_assoc a.0 (a.1 ++ a.2) more) (blank_spaced a.0 ((a.1 ++ a.2) ++ more) a.4))
 
 -- a sample was read from the bytes, and with what stands before them it is `total`
 pub record SampleText (form : SampleForm) (v at : ℕ) (bytes total : List ℕ) (end : ℕ) (rest : List ℕ) : Type 0 where
@@ -99,7 +113,7 @@ number_begins [] more h = absurd cc
 number_begins (c ∷ number) more h = (and_parts (is_digit c) (list_all is_digit number) h).0
 
 module _ (maxval k at : ℕ) (lead bytes : List ℕ) where
-  digits_text : (place : ℕ) (digits : List ℕ) (v end : ℕ) (rest : List ℕ) → LeadFits Digits lead bytes → blanks_at false at bytes ≡ done nothing place digits → number_at (Short k) false place digits ≡ done v end rest → SampleText Digits v at bytes (lead ++ bytes) end rest
+  digits_text : (place : ℕ) (digits : List ℕ) (v end : ℕ) (rest : List ℕ) → LeadFits Digits lead bytes → blanks_at false at bytes ≡ done nothing place digits → numeral_at (Short k) false place digits ≡ done v end rest → SampleText Digits v at bytes (lead ++ bytes) end rest
   digits_text place digits v end rest fits b n =
       let t = blanks_found at bytes place digits b in
       let d = number_found (Short k) place digits v end rest n in
@@ -115,7 +129,7 @@ module _ (maxval k at : ℕ) (lead bytes : List ℕ) where
         place = omega (arith, ap length t.2.parts, t.2.place, ap length d.3.parts, d.3.place, length-append t.0 digits, length-append d.0 rest);
       }
 
-  digits_break : (place : ℕ) (digits : List ℕ) (f : PlaneFault) → LeadFits Digits lead bytes → blanks_at false at bytes ≡ done nothing place digits → number_at (Short k) false place digits ≡ breaks f → SampleBreak Digits maxval k at bytes (lead ++ bytes) f
+  digits_break : (place : ℕ) (digits : List ℕ) (f : PlaneFault) → LeadFits Digits lead bytes → blanks_at false at bytes ≡ done nothing place digits → numeral_at (Short k) false place digits ≡ breaks f → SampleBreak Digits maxval k at bytes (lead ++ bytes) f
   digits_break place digits f fits b n =
       let t = blanks_found at bytes place digits b in
       elim (number_break (Short k) place digits f n) [
@@ -139,8 +153,8 @@ module _ (maxval k at : ℕ) (lead bytes : List ℕ) where
         ))
       ]
 
-pub sample_walk : (form : SampleForm) (maxval k at : ℕ) (lead bytes : List ℕ) → LeadFits form lead bytes → SampleWalk form maxval k at bytes (lead ++ bytes) (sample_at form maxval k false at bytes)
-unfolding sample_at
+pub sample_walk : (form : SampleForm) (maxval k at : ℕ) (lead bytes : List ℕ) → LeadFits form lead bytes → SampleWalk form maxval k at bytes (lead ++ bytes) (spelled_sample_at form maxval k false at bytes)
+unfolding spelled_sample_at
 sample_walk Narrow maxval k at lead [] fits = inl (Short k, refl, inr (inl (rw fits (omega arith), refl)))
 sample_walk Narrow maxval k at lead (b ∷ rest) fits =
     judged_walk Narrow maxval k b at (b ∷ rest) (lead ++ b ∷ rest) (at + 1) rest (and_behind (judged maxval k b) (at + 1) rest) refl
@@ -150,14 +164,13 @@ sample_walk Wide maxval k at lead (b ∷ []) fits = inl (Short k, refl, inr (inl
 sample_walk Wide maxval k at lead (b ∷ c ∷ rest) fits =
     judged_walk Wide maxval k (256 * b + c) at (b ∷ c ∷ rest) (lead ++ b ∷ c ∷ rest) (at + 2) rest (and_behind (judged maxval k (256 * b + c)) (at + 2) rest) refl
     (record { text = b ∷ c ∷ []; parts = ap (λ (x : List ℕ). x ++ b ∷ c ∷ rest) fits; are = (refl, refl); ends = tt; place = omega arith })
-sample_walk Digits maxval k at lead bytes fits = elim (cases_reading (blanks_at false at bytes) (blanks_answers at bytes)) [
-  | inl f ↦ absurd (blanks_never at bytes f.0 f.1)
-  | inr t ↦ elim (cases_reading (number_at (Short k) false t.1 t.2) (number_answers (Short k) t.1 t.2)) [
-    | inl f ↦ inl (f.0, rw (t.3, f.1) refl, digits_break maxval k at lead bytes t.1 t.2 f.0 fits t.3 f.1)
-    | inr d ↦ judged_walk Digits maxval k d.0 at bytes (lead ++ bytes) d.1 d.2 (blanks_at false at bytes >>= λ _ place digits. number_at (Short k) false place digits >>= λ v. and_behind (judged maxval k v)) (rw (t.3, d.3) refl)
-        (digits_text maxval k at lead bytes t.1 t.2 d.0 d.1 d.2 fits t.3 d.3)
-  ]
-]
+sample_walk Digits maxval k at lead bytes fits =
+    let t = blanks_end at bytes in
+    elim (cases_reading (numeral_at (Short k) false t.0 t.1) (number_answers (Short k) t.0 t.1)) [
+      | inl f ↦ inl (f.0, rw (t.2, f.1) refl, digits_break maxval k at lead bytes t.0 t.1 f.0 fits t.2 f.1)
+      | inr d ↦ judged_walk Digits maxval k d.0 at bytes (lead ++ bytes) d.1 d.2 (blanks_at false at bytes ⟫ λ _ place digits. numeral_at (Short k) false place digits ⟫ λ v. and_behind (judged maxval k v)) (rw (t.2, d.3) refl)
+          (digits_text maxval k at lead bytes t.0 t.1 d.0 d.1 d.2 fits t.2 d.3)
+    ]
 
 -- ---- what is spelled so is read
 
@@ -172,51 +185,52 @@ behind_lead (x ∷ lead) bytes (y ∷ gap) tail e a g n =
 pub record SampleStep (form : SampleForm) (maxval k at : ℕ) (bytes : List ℕ) (v : ℕ) (vs more : List ℕ) : Type 0 where
   pub others : List ℕ
   pub end : ℕ
-  pub reads : sample_at form maxval k false at bytes ≡ and_behind (judged maxval k v) end (others ++ more)
+  pub reads : (goes : Bool) → spelled_sample_at form maxval k goes at bytes ≡ heard form goes (others ++ more) (and_behind (judged maxval k v) end (others ++ more))
   pub are : Rastered form others vs
   pub place : at + length bytes ≡ end + length (others ++ more)
   pub ends : EndsSample form (others ++ more)
 
 module _ (maxval k at : ℕ) (bytes : List ℕ) (v : ℕ) (vs more : List ℕ) where
   narrow_step : (samples : List ℕ) → IsRaster false samples (v ∷ vs) → bytes ≡ samples ++ more → SampleStep Narrow maxval k at bytes v vs more
-  unfolding sample_at
+  unfolding spelled_sample_at
   narrow_step [] r e = absurd r
   narrow_step (b ∷ others) r e = record {
     others = others;
     end = at + 1;
-    reads = ap (sample_at Narrow maxval k false at) e ∙ ap (λ (x : ℕ). and_behind (judged maxval k x) (at + 1) (others ++ more)) (sym r.0);
+    reads = λ goes. ap (spelled_sample_at Narrow maxval k goes at) e ∙ ap (λ (x : ℕ). and_behind (judged maxval k x) (at + 1) (others ++ more)) (sym r.0);
     are = r.1;
     place = omega (arith, ap length e);
     ends = tt;
   }
 
   wide_step : (samples : List ℕ) → IsRaster true samples (v ∷ vs) → bytes ≡ samples ++ more → SampleStep Wide maxval k at bytes v vs more
-  unfolding sample_at
+  unfolding spelled_sample_at
   wide_step [] r e = absurd r
   wide_step (b ∷ []) r e = absurd r
   wide_step (b ∷ c ∷ others) r e = record {
     others = others;
     end = at + 2;
-    reads = ap (sample_at Wide maxval k false at) e ∙ ap (λ (x : ℕ). and_behind (judged maxval k x) (at + 2) (others ++ more)) (sym r.0);
+    reads = λ goes. ap (spelled_sample_at Wide maxval k goes at) e ∙ ap (λ (x : ℕ). and_behind (judged maxval k x) (at + 2) (others ++ more)) (sym r.0);
     are = r.1;
     place = omega (arith, ap length e);
     ends = tt;
   }
 
   digits_step : (lead samples : List ℕ) → AreNumbers is_blank samples (v ∷ vs) → lead ++ bytes ≡ samples ++ more → LeadFits Digits lead bytes → begins is_digit more ≡ false → SampleStep Digits maxval k at bytes v vs more
-  unfolding sample_at
+  unfolding spelled_sample_at
   digits_step lead samples a e fits s =
       let tail : List ℕ = a.1 ++ (a.2 ++ more) in
       let whole : lead ++ bytes ≡ a.0 ++ tail = e ∙ ap (λ (t : List ℕ). t ++ more) a.3 ∙ append_assoc a.0 (a.1 ++ a.2) more ∙ ap (λ (t : List ℕ). a.0 ++ t) (append_assoc a.1 a.2 more) in
       let stop = (number_stops a.1 (a.2 ++ more) a.5).no_space in
       let g = behind_lead lead bytes a.0 tail whole fits.0 (of_blank a.0 a.4) stop in
       let last = numbers_begin is_blank blank_spaced a.2 vs more a.7 s in
-      let one = blanks_again at g.0 tail g.2 stop in
-      let two = number_again (Short k) (at + length g.0) a.1 (a.2 ++ more) a.5 last in
       record {
         others = a.2;
         end = (at + length g.0) + length a.1;
-        reads = ap (sample_at Digits maxval k false at) g.1 ∙ rw (one, two) (ap (λ (x : ℕ). and_behind (judged maxval k x) ((at + length g.0) + length a.1) (a.2 ++ more)) (sym a.6));
+        reads = λ goes. ap (spelled_sample_at Digits maxval k goes at) g.1
+            ∙ rw (blanks_again goes at g.0 tail g.2 stop ∙ seen_begun goes is_digit tail (done nothing (at + length g.0) tail) (number_begins a.1 (a.2 ++ more) a.5), number_again goes (Short k) (at + length g.0) a.1 (a.2 ++ more) a.5 last)
+            (seen_then goes (a.2 ++ more) (done (capped_number a.1) ((at + length g.0) + length a.1) (a.2 ++ more)) (λ v. and_behind (judged maxval k v))
+            ∙ ap (λ (x : ℕ). seen goes (a.2 ++ more) (and_behind (judged maxval k x) ((at + length g.0) + length a.1) (a.2 ++ more))) (sym a.6));
         are = a.7;
         place = omega (arith, ap length g.1, length-append g.0 tail, length-append a.1 (a.2 ++ more));
         ends = last;
@@ -228,42 +242,31 @@ sample_step Wide maxval k at lead bytes samples v vs more r e fits s = wide_step
 sample_step Digits maxval k at lead bytes samples v vs more r e fits s = digits_step maxval k at bytes v vs more lead samples r e fits s
 
 -- less than a sample is cut
-narrow_cut : (maxval k at : ℕ) (bytes : List ℕ) → length bytes < 1 → sample_at Narrow maxval k false at bytes ≡ breaks (Short k)
-unfolding sample_at
-narrow_cut maxval k at [] lt = refl
-narrow_cut maxval k at (b ∷ bytes) lt = absurd (omega arith)
+no_more : (goes : Bool) (cut : PlaneFault) (at : ℕ) → numeral_at cut goes at [] ≡ unless_more goes (breaks cut)
+unfolding numeral_at
+no_more goes cut at = refl
 
-wide_cut : (maxval k at : ℕ) (bytes : List ℕ) → length bytes < 2 → sample_at Wide maxval k false at bytes ≡ breaks (Short k)
-unfolding sample_at
-wide_cut maxval k at [] lt = refl
-wide_cut maxval k at (b ∷ []) lt = refl
-wide_cut maxval k at (b ∷ c ∷ bytes) lt = absurd (omega arith)
+pub sample_cut : (goes : Bool) (form : SampleForm) (maxval k at : ℕ) (lead bytes : List ℕ) → LeadFits form lead bytes → CutSample form (lead ++ bytes) → spelled_sample_at form maxval k goes at bytes ≡ unless_more goes (breaks (Short k))
+unfolding spelled_sample_at
+sample_cut goes Narrow maxval k at lead [] fits c = refl
+sample_cut goes Narrow maxval k at lead (b ∷ bytes) fits c = absurd (let x = ap length fits in omega (arith, c, x, length-append lead (b ∷ bytes)))
+sample_cut goes Wide maxval k at lead [] fits c = refl
+sample_cut goes Wide maxval k at lead (b ∷ []) fits c = refl
+sample_cut goes Wide maxval k at lead (b ∷ d ∷ bytes) fits c = absurd (let x = ap length fits in omega (arith, c, x, length-append lead (b ∷ d ∷ bytes)))
+sample_cut goes Digits maxval k at lead bytes fits c =
+    let one : blanks_at goes at bytes ≡ seen goes [] (done nothing (at + length bytes) []) = ap (blanks_at goes at) (sym (append-nil bytes)) ∙ blanks_again goes at bytes [] (all_tail is_space lead bytes c) refl in
+    rw one (seen_behind goes [] [] (done nothing (at + length bytes) []) (λ _ place digits. numeral_at (Short k) goes place digits ⟫ λ v. and_behind (judged maxval k v)) (breaks (Short k)) (rw (no_more goes (Short k) (at + length bytes)) (seen_then goes [] (breaks (Short k)) (λ v. and_behind (judged maxval k v)))))
 
-no_more : (cut : PlaneFault) (at : ℕ) → number_at cut false at [] ≡ breaks cut
-unfolding number_at
-no_more cut at = refl
-
-digits_cut : (maxval k at : ℕ) (bytes : List ℕ) → list_all is_space bytes ≡ true → sample_at Digits maxval k false at bytes ≡ breaks (Short k)
-unfolding sample_at
-digits_cut maxval k at bytes a =
-    let one : blanks_at false at bytes ≡ done nothing (at + length bytes) [] = ap (blanks_at false at) (sym (append-nil bytes)) ∙ blanks_again at bytes [] a refl in
-    rw (one, no_more (Short k) (at + length bytes)) refl
-
-pub sample_cut : (form : SampleForm) (maxval k at : ℕ) (lead bytes : List ℕ) → LeadFits form lead bytes → CutSample form (lead ++ bytes) → sample_at form maxval k false at bytes ≡ breaks (Short k)
-sample_cut Narrow maxval k at lead bytes fits c = narrow_cut maxval k at bytes (rw fits at c)
-sample_cut Wide maxval k at lead bytes fits c = wide_cut maxval k at bytes (rw fits at c)
-sample_cut Digits maxval k at lead bytes fits c = digits_cut maxval k at bytes (all_tail is_space lead bytes c)
-
-refused : (cut : PlaneFault) (at b : ℕ) (rest : List ℕ) → is_digit b ≡ false → number_at cut false at (b ∷ rest) ≡ breaks (Form at)
-unfolding number_at
-refused cut at b rest n = rw n refl
+refused : (goes : Bool) (cut : PlaneFault) (at b : ℕ) (rest : List ℕ) → is_digit b ≡ false → numeral_at cut goes at (b ∷ rest) ≡ breaks (Form at)
+unfolding numeral_at
+refused goes cut at b rest n = rw n refl
 
 -- a byte that begins no number breaks the form
-pub sample_bad : (maxval k at : ℕ) (lead bytes : List ℕ) (place : ℕ) → LeadFits Digits lead bytes → BadByte at bytes (lead ++ bytes) place → sample_at Digits maxval k false at bytes ≡ breaks (Form place)
-unfolding sample_at
-sample_bad maxval k at lead bytes place fits b =
+pub sample_bad : (goes : Bool) (maxval k at : ℕ) (lead bytes : List ℕ) (place : ℕ) → LeadFits Digits lead bytes → BadByte at bytes (lead ++ bytes) place → spelled_sample_at Digits maxval k goes at bytes ≡ breaks (Form place)
+unfolding spelled_sample_at
+sample_bad goes maxval k at lead bytes place fits b =
     let g = behind_lead lead bytes b.blank (b.byte ∷ b.behind) b.parts fits.0 b.blanks b.no_space in
-    let one : blanks_at false at bytes ≡ done nothing (at + length g.0) (b.byte ∷ b.behind) = ap (blanks_at false at) g.1 ∙ blanks_again at g.0 (b.byte ∷ b.behind) g.2 b.no_space in
-    let two = refused (Short k) (at + length g.0) b.byte b.behind b.no_digit in
+    let one : blanks_at goes at bytes ≡ done nothing (at + length g.0) (b.byte ∷ b.behind) = ap (blanks_at goes at) g.1 ∙ blanks_again goes at g.0 (b.byte ∷ b.behind) g.2 b.no_space in
+    let two = refused goes (Short k) (at + length g.0) b.byte b.behind b.no_digit in
     let same : at + length g.0 ≡ place = omega (arith, ap length g.1, length-append g.0 (b.byte ∷ b.behind), b.place_is) in
     rw (one, two, same) refl

@@ -1,15 +1,7 @@
 -- What is written of a plane spells it.
 use Rattle.std.proofs.Common.{◌≡◌, ℕ, ◌+◌, ◌*◌, ◌/◌, ◌%◌, ◌-◌, ◌≤◌, ◌<◌, Bool, true, false, List, [], ◌∷◌, ◌++◌, decimal, refl, sym, ap, ◌∙◌, append_assoc, arith}
-use Rattle.std.specs.List.{list_all}
-use Rattle.std.proofs.lemmas.Bool.{and_parts, lt-ltb}
-use Rattle.std.proofs.lemmas.Fmt.{decimal_by_steps}
+use Rattle.pgm_planes.proofs.Words.{list_all, and_parts, lt-ltb, decimal_by_steps, Role, Phase, Weight, Mask, Raw, is_digit, is_gap, is_number, goes_on_to, capped_number, PlaneOf, HasMaxval, IsPlane, AreNumbers, IsRaster, is_wide, IsPlaneText, raster_text, plane_header_text, plane_text}
 use Rattle.std.proofs.lemmas.List.{append-nil}
-use Rattle.pgm_planes.specs.declared.fault.Role.{Role}
-use Rattle.pgm_planes.specs.declared.fault.Role.TheVariants.{Phase, Weight, Mask}
-use Rattle.pgm_planes.specs.declared.spelling.Spelling.TheVariants.{Raw}
-use Rattle.pgm_planes.specs.Gaps.{is_digit, is_gap, is_number, goes_on_to, number_of}
-use Rattle.pgm_planes.specs.Planes.{PlaneOf, HasMaxval, IsPlane, AreNumbers, IsRaster, is_wide, IsPlaneText}
-use Rattle.pgm_planes.specs.Text.{raster_text, header_text, plane_text}
 use Rattle.pgm_planes.proofs.SampleLemmas.{all_append}
 
 -- digits that spell a number
@@ -42,7 +34,7 @@ next_digit n ds le s = record {
 spelled : (n : ℕ) → n ≤ 65535 → Spells n (decimal n)
 spelled n le = decimal_by_steps Spells one_digit next_digit n (omega arith)
 
-value_of : (n : ℕ) → n ≤ 65535 → n ≡ number_of (decimal n)
+value_of : (n : ℕ) → n ≤ 65535 → n ≡ capped_number (decimal n)
 value_of n le = let v = (spelled n le).value in omega arith
 
 raster_of : (wide : Bool) (vs : List ℕ) → IsRaster wide (raster_text wide vs) vs
@@ -89,7 +81,7 @@ pieces a b c d r =
     ∙ ap (λ (t : List ℕ). a ++ (32 ∷ t)) (append_assoc b (10 ∷ (c ++ d)) r ∙ ap (λ (t : List ℕ). b ++ (10 ∷ t)) (append_assoc c d r))
 
 parted : (p : PlaneOf) → plane_text p ≡ 80 ∷ 53 ∷ (numbers p.width p.height p.maxval ++ ((10 ∷ raster_text (is_wide p.maxval) p.samples) ++ []))
-unfolding plane_text header_text numbers
+unfolding plane_text plane_header_text numbers
 parted p =
     let raster : List ℕ = raster_text (is_wide p.maxval) p.samples in
     let one = pieces (decimal p.width) (decimal p.height) (decimal p.maxval) (10 ∷ []) raster in

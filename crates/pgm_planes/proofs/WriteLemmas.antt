@@ -1,20 +1,6 @@
 -- Texts that are written one after the other, and a text that was cut.
-use Rattle.std.proofs.Common.{◌≡◌, ℕ, ◌+◌, ◌/◌, ◌%◌, ◌-◌, ◌≤◌, Bool, true, false, Result, Ok, Err, List, [], ◌∷◌, ◌++◌, take, drop, Option, refl, sym, ap, ◌∙◌, arith}
-use Rattle.std.specs.Prelude.{OnErr, All, flat_map}
-use Rattle.std.specs.List.{AllByRecursion}
-use Rattle.std.proofs.lemmas.List.Elements.{recursion_from_All}
-use Rattle.std.proofs.Math.Seq.{take-add}
-use Rattle.std.proofs.lemmas.Grind.{flat_map-append}
-use Rattle.std.proofs.lemmas.List.{take-append-drop}
-use Rattle.insar_ports.specs.Bytes.{with_end, GainsProperPrefix}
-use Rattle.insar_ports.proofs.CallerLemmas.{with_end-append, cut-first, cut-later}
-use Rattle.byteorder.specs.Endian.{big_bytes}
-use Rattle.pgm_planes.specs.Text.{sample_text, raster_text}
-use Rattle.sums_and_lists.proofs.Lists.{at_any_err}
-
--- two texts were written
-pub written_then : (held mid now : Option (List ℕ)) (a b : List ℕ) → mid ≡ with_end held a → now ≡ with_end mid b → now ≡ with_end held (a ++ b)
-written_then held mid now a b p q = q ∙ ap (λ (o : Option (List ℕ)). with_end o b) p ∙ with_end-append held a b
+use Rattle.std.proofs.Common.{◌≡◌, ℕ, ◌+◌, ◌/◌, ◌%◌, ◌-◌, ◌≤◌, Bool, true, false, List, [], ◌∷◌, ◌++◌, take, drop, refl, sym, ap, ◌∙◌, arith}
+use Rattle.pgm_planes.proofs.Words.{All, flat_map, AllByRecursion, recursion_from_All, take-add, flat_map-append, big_bytes, sample_text, raster_text}
 
 -- a sample of two bytes
 two_bytes : (v : ℕ) → v ≤ 65535 → big_bytes 2 v ≡ sample_text true v
@@ -39,15 +25,3 @@ module _ (wide : Bool) (samples : List ℕ) where
       sym (flat_map-append (sample_text wide) (take start samples) (take (end - start) (drop start samples)))
       ∙ ap (raster_text wide) (sym (take-add start (end - start) samples))
       ∙ ap (λ (k : ℕ). raster_text wide (take k samples)) n
-
-  pub parted : (end : ℕ) → raster_text wide samples ≡ raster_text wide (take end samples) ++ raster_text wide (drop end samples)
-  parted end = ap (raster_text wide) (sym (take-append-drop end samples)) ∙ flat_map-append (sample_text wide) (take end samples) (drop end samples)
-
--- a piece was cut after those that were written
-pub cut_piece : (wide : Bool) (samples : List ℕ) (start end : ℕ) (held mid now : Option (List ℕ)) → start ≤ end → mid ≡ with_end held (raster_text wide (take start samples)) → GainsProperPrefix mid (raster_text wide (take (end - start) (drop start samples))) now → GainsProperPrefix held (raster_text wide samples) now
-cut_piece wide samples start end held mid now le was cut =
-    let a : List ℕ = raster_text wide (take start samples) in
-    let b : List ℕ = raster_text wide (take (end - start) (drop start samples)) in
-    let c : List ℕ = raster_text wide (drop end samples) in
-    let whole : (a ++ b) ++ c ≡ raster_text wide samples = ap (λ (t : List ℕ). t ++ c) (more_samples wide samples start end le) ∙ sym (parted wide samples end) in
-    rw (← whole) (cut-first held now (a ++ b) c (cut-later held mid now a b was cut))

@@ -9,7 +9,7 @@ use Rattle.pgm_planes.specs.declared.fault.PlaneFault.{PlaneFault}
 use Rattle.pgm_planes.specs.declared.fault.PlaneFault.TheVariants.{Magic, Form, Size, PhaseMaxval, SampleAbove, Short}
 use Rattle.pgm_planes.specs.declared.spelling.Spelling.{Spelling}
 use Rattle.pgm_planes.specs.declared.spelling.Spelling.TheVariants.{Raw, Plain}
-use Rattle.pgm_planes.specs.Gaps.{is_space, is_line_end, is_digit, is_gap, is_blank, is_number, number_of, begins}
+use Rattle.pgm_planes.specs.Gaps.{is_space, is_line_end, is_digit, is_gap, is_blank, is_number, capped_number, begins}
 use Rattle.pgm_planes.specs.Planes.{HasMaxval, IsSize, AreNumbers, digit_of, HasHeader, is_wide, AreSamples}
 
 abbrev pub is_hash : ℕ → Bool
@@ -74,7 +74,7 @@ pub record BreaksAtMaxval (role : Role) (bytes rest : List ℕ) : Type 0 where
   pub space : IsTrue (begins is_space behind)
   pub size : IsSize width height
   pub other_role : role ≢ Phase
-  pub refused : HasMaxval role (number_of digits) → ⊥
+  pub refused : HasMaxval role (capped_number digits) → ⊥
 
 -- The header is good; then so many good samples stand, in `samples`, fewer than there are pixels or all, and then `rest`.
 pub record HasSamples (spelling : Spelling) (role : Role) (bytes samples values rest : List ℕ) (maxval pixels : ℕ) : Type 0 where
@@ -125,9 +125,9 @@ pub record IsAbove (role : Role) (bytes : List ℕ) (index value : ℕ) : Type 0
   pub above : maxval < value
 
 -- less than a sample
-abbrev pub IsCut : Spelling → ℕ → List ℕ → Type 0
-IsCut Raw maxval part = length part < (if is_wide maxval then 2 else 1)
-IsCut Plain maxval part = IsTrue (list_all is_space part)
+abbrev pub IsPartOfSample : Spelling → ℕ → List ℕ → Type 0
+IsPartOfSample Raw maxval part = length part < (if is_wide maxval then 2 else 1)
+IsPartOfSample Plain maxval part = IsTrue (list_all is_space part)
 
 -- The input ends after so many good samples and less than another.
 pub record IsShort (role : Role) (bytes : List ℕ) (found : ℕ) : Type 0 where
@@ -139,7 +139,7 @@ pub record IsShort (role : Role) (bytes : List ℕ) (found : ℕ) : Type 0 where
   pub pixels : ℕ
   pub good : HasSamples spelling role bytes samples values part maxval pixels
   pub are : AreSamples spelling maxval samples values
-  pub cut : IsCut spelling maxval part
+  pub cut : IsPartOfSample spelling maxval part
   pub count : found ≡ length values
   pub some : found < pixels
 
@@ -155,7 +155,7 @@ pub record HasOtherMaxval (role : Role) (bytes : List ℕ) (maxval : ℕ) : Type
   pub other : maxval ≢ 65535
 
 -- The header was read, and its size is beyond the limits.
-pub record HasOtherSize (bytes : List ℕ) (width height : ℕ) : Type 0 where
+pub record HasSizeBeyond (bytes : List ℕ) (width height : ℕ) : Type 0 where
   pub spelling : Spelling
   pub maxval : ℕ
   pub behind : List ℕ
@@ -166,7 +166,7 @@ pub record HasOtherSize (bytes : List ℕ) (width height : ℕ) : Type 0 where
 abbrev pub FirstBreak : Role → ℕ → List ℕ → PlaneFault → Type 0
 FirstBreak role at bytes Magic = HasNoMagic bytes
 FirstBreak role at bytes (Form place) = (rest : List ℕ) × (at + length bytes ≡ place + length rest) × (BreaksInHeader bytes rest ⊎ (BreaksAtMaxval role bytes rest ⊎ BreaksInRaster role bytes rest))
-FirstBreak role at bytes (Size width height) = HasOtherSize bytes width height
+FirstBreak role at bytes (Size width height) = HasSizeBeyond bytes width height
 FirstBreak role at bytes (PhaseMaxval maxval) = HasOtherMaxval role bytes maxval
 FirstBreak role at bytes (SampleAbove index value) = IsAbove role bytes index value
 FirstBreak role at bytes (Short found) = IsShort role bytes found

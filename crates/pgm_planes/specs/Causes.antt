@@ -12,20 +12,20 @@ use Rattle.insar_ports.specs.Calls.{Call, IsCutOff}
 
 -- Where the bytes are told, they have this first break; or the limit was handed out and another byte is there, which was
 -- asked for; or a fault of the source was counted; or memory ran out, which has no cause.
-abbrev pub HasCause : Role → Call → ReadPlaneFault → Type 0
-HasCause role c (errors.Plane fault) = IfSome c.told (λ bytes. FirstBreak role c.at bytes fault)
-HasCause role c errors.TooLong = (c.end ≡ c.limit) × HasMore c.left × IfSome c.told (IsCutOff (AsksForMore role) c)
-HasCause role c errors.ReadFault = HasRisen c.before c.after
-HasCause role c errors.Memory = ⊤
+abbrev pub HasPlaneCause : Role → Call → ReadPlaneFault → Type 0
+HasPlaneCause role c (errors.Plane fault) = IfSome c.told (λ bytes. FirstBreak role c.at bytes fault)
+HasPlaneCause role c errors.TooLong = (c.end ≡ c.limit) × HasMore c.left × IfSome c.told (IsCutOff (AsksForMore role) c)
+HasPlaneCause role c errors.ReadFault = HasRisen c.before c.after
+HasPlaneCause role c errors.Memory = ⊤
 
 -- Bytes that begin with the plane p are read as it, and `rest` is left; or a read failed, the limit cut them or memory
 -- ran out.
-abbrev pub IsReadAs : Call → PlaneOf → List ℕ → Result Plane ReadPlaneFault → Type 0
-IsReadAs c p rest (Ok plane) = (plane_of plane ≡ p) × (c.left ≡ Some rest)
-IsReadAs c p rest (Err (errors.Plane fault)) = ⊥
-IsReadAs c p rest (Err errors.TooLong) = ⊤
-IsReadAs c p rest (Err errors.ReadFault) = ⊤
-IsReadAs c p rest (Err errors.Memory) = ⊤
+abbrev pub IsReadAsPlane : Call → PlaneOf → List ℕ → Result Plane ReadPlaneFault → Type 0
+IsReadAsPlane c p rest (Ok plane) = (plane_of plane ≡ p) × (c.left ≡ Some rest)
+IsReadAsPlane c p rest (Err (errors.Plane fault)) = ⊥
+IsReadAsPlane c p rest (Err errors.TooLong) = ⊤
+IsReadAsPlane c p rest (Err errors.ReadFault) = ⊤
+IsReadAsPlane c p rest (Err errors.Memory) = ⊤
 
 -- Bytes that are cut off are told to be too long; or a read failed or memory ran out.
 abbrev pub IsCutShort : Call → Result Plane ReadPlaneFault → Type 0

@@ -4,6 +4,6 @@ use Rattle.insar_ports.specs.declared.feed.FeedFault.TheVariants as feed_faults
 use Rattle.pgm_planes.specs.declared.fault.ReadPlaneFault.{ReadPlaneFault}
 use Rattle.pgm_planes.specs.declared.fault.ReadPlaneFault.TheVariants as faults
 
-abbrev pub fault_of_feed : FeedFault → ReadPlaneFault
-fault_of_feed feed_faults.ReadFault = faults.ReadFault
-fault_of_feed feed_faults.TooLong = faults.TooLong
+abbrev pub plane_fault_of_feed : FeedFault → ReadPlaneFault
+plane_fault_of_feed feed_faults.ReadFault = faults.ReadFault
+plane_fault_of_feed feed_faults.TooLong = faults.TooLong

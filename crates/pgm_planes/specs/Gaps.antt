@@ -46,5 +46,5 @@ goes_on_to n [] = n
 goes_on_to n (b ∷ bs) = goes_on_to (10 * n + (b - 48)) bs
 
 -- the number that digits spell; one above 4,294,967,295 counts as that number
-abbrev pub number_of : List ℕ → ℕ
-number_of bs = min (goes_on_to 0 bs) 4294967295
+abbrev pub capped_number : List ℕ → ℕ
+capped_number bs = min (goes_on_to 0 bs) 4294967295

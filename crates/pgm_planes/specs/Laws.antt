@@ -13,8 +13,8 @@ abbrev pub OnePlane : Type 0
 OnePlane = (role : Role) (text x other y : List ℕ) (p q : PlaneOf) → SpellsPlane role text p x → SpellsPlane role other q y → text ++ x ≡ other ++ y → (text ≡ other) × (p ≡ q)
 
 -- bytes have one first break
-abbrev pub OneBreak : Type 0
-OneBreak = (role : Role) (at : ℕ) (bytes : List ℕ) (e f : PlaneFault) → FirstBreak role at bytes e → FirstBreak role at bytes f → e ≡ f
+abbrev pub OnePlaneBreak : Type 0
+OnePlaneBreak = (role : Role) (at : ℕ) (bytes : List ℕ) (e f : PlaneFault) → FirstBreak role at bytes e → FirstBreak role at bytes f → e ≡ f
 
 -- bytes that begin with a plane have no first break
 abbrev pub NoBreakOfPlane : Type 0
@@ -25,8 +25,8 @@ abbrev pub PlaneOrBreak : Type 0
 PlaneOrBreak = (role : Role) (at : ℕ) (bytes : List ℕ) → ((p : PlaneOf) × (rest : List ℕ) × IsPlaneIn role bytes p rest) ⊎ ((fault : PlaneFault) × FirstBreak role at bytes fault)
 
 -- a plane's raw text spells it, whatever follows, in each role whose rule it meets
-abbrev pub WrittenIsRead : Type 0
-WrittenIsRead = (role : Role) (p : PlaneOf) (rest : List ℕ) → IsPlane role p → IsPlaneText Raw role (plane_text p) p rest
+abbrev pub WrittenPlaneIsRead : Type 0
+WrittenPlaneIsRead = (role : Role) (p : PlaneOf) (rest : List ℕ) → IsPlane role p → IsPlaneText Raw role (plane_text p) p rest
 
 -- bytes either ask for more or do not, and those that begin with a plane and go on do not
 abbrev pub AskOrNot : Type 0

@@ -6,7 +6,7 @@ use Rattle.pgm_planes.specs.declared.fault.Role.{Role}
 use Rattle.pgm_planes.specs.declared.fault.Role.TheVariants.{Phase, Weight, Mask}
 use Rattle.pgm_planes.specs.declared.spelling.Spelling.{Spelling}
 use Rattle.pgm_planes.specs.declared.spelling.Spelling.TheVariants.{Raw, Plain}
-use Rattle.pgm_planes.specs.Gaps.{is_space, is_gap, is_blank, is_number, number_of, begins}
+use Rattle.pgm_planes.specs.Gaps.{is_space, is_gap, is_blank, is_number, capped_number, begins}
 use Rattle.raster_model.specs.Limits.{max_pixels, max_side}
 
 -- a plane without where its samples lie in memory
@@ -41,7 +41,7 @@ pub record IsPlane (role : Role) (p : PlaneOf) : Type 0 where
 -- Numbers one after the other, each after a gap that passes the test.
 abbrev pub AreNumbers : (List ℕ → Bool) → List ℕ → List ℕ → Type 0
 AreNumbers gaps bytes [] = bytes ≡ []
-AreNumbers gaps bytes (n ∷ ns) = (gap : List ℕ) × (digits : List ℕ) × (others : List ℕ) × (bytes ≡ gap ++ (digits ++ others)) × IsTrue (gaps gap) × IsTrue (is_number digits) × (n ≡ number_of digits) × AreNumbers gaps others ns
+AreNumbers gaps bytes (n ∷ ns) = (gap : List ℕ) × (digits : List ℕ) × (others : List ℕ) × (bytes ≡ gap ++ (digits ++ others)) × IsTrue (gaps gap) × IsTrue (is_number digits) × (n ≡ capped_number digits) × AreNumbers gaps others ns
 
 -- the second byte of the magic: P5 is a raw plane and P2 a plain one
 abbrev pub digit_of : Spelling → ℕ
@@ -75,9 +75,9 @@ AreSamples Plain maxval bytes vs = AreNumbers is_blank bytes vs
 
 -- What of white space belongs to the plane after its last sample, and what may follow: after a plain sample white space
 -- or the end, and all white space there is taken.
-abbrev pub IsEnd : Spelling → List ℕ → List ℕ → Type 0
-IsEnd Raw blank rest = blank ≡ []
-IsEnd Plain blank rest = IsTrue (list_all is_space blank) × (begins is_space rest ≡ false) × (blank ≡ [] → rest ≡ [])
+abbrev pub IsPlaneEnd : Spelling → List ℕ → List ℕ → Type 0
+IsPlaneEnd Raw blank rest = blank ≡ []
+IsPlaneEnd Plain blank rest = IsTrue (list_all is_space blank) × (begins is_space rest ≡ false) × (blank ≡ [] → rest ≡ [])
 
 -- The bytes spell a plane, where `rest` follows: the header, the samples and the end.
 pub record IsPlaneText (spelling : Spelling) (role : Role) (bytes : List ℕ) (p : PlaneOf) (rest : List ℕ) : Type 0 where
@@ -85,7 +85,7 @@ pub record IsPlaneText (spelling : Spelling) (role : Role) (bytes : List ℕ) (p
   pub end : List ℕ
   pub header : HasHeader spelling bytes p.width p.height p.maxval (samples ++ end)
   pub raster : AreSamples spelling p.maxval samples p.samples
-  pub ended : IsEnd spelling end rest
+  pub ended : IsPlaneEnd spelling end rest
   pub plane : IsPlane role p
 
 -- the bytes spell a plane in either way, where `rest` follows

@@ -26,10 +26,10 @@ Reading A = Result (A × ℕ × List ℕ) (Option PlaneFault)
 abbrev pub Reader : Type 0 → Type 0
 Reader A = Bool → ℕ → List ℕ → Reading A
 
-infixl 10 ◌>>=◌
-abbrev pub ◌>>=◌ : {A B : Type 0} → Reading A → (A → ℕ → List ℕ → Reading B) → Reading B
-(Ok x) >>= f = f x.0 x.1 x.2
-(Err e) >>= f = Err e
+infixl 10 ◌⟫◌
+abbrev pub ◌⟫◌ : {A B : Type 0} → Reading A → (A → ℕ → List ℕ → Reading B) → Reading B
+(Ok x) ⟫ f = f x.0 x.1 x.2
+(Err e) ⟫ f = Err e
 
 abbrev pub breaks : {A : Type 0} → PlaneFault → Reading A
 breaks fault = Err (Some fault)
@@ -38,20 +38,34 @@ abbrev pub asks : {A : Type 0} → Reading A
 asks = Err None
 
 -- what is read at the end of the bytes, where no more come
-abbrev pub at_end : {A : Type 0} → Bool → Reading A → Reading A
-at_end true reading = asks
-at_end false reading = reading
+abbrev pub unless_more : {A : Type 0} → Bool → Reading A → Reading A
+unless_more true reading = asks
+unless_more false reading = reading
 
 abbrev pub nothing : Unit {0}
 nothing = tt
 
+-- ---- readers one after another
+
+-- a reader, and then the one that its value names
+infixl 10 ◌▸◌
+abbrev pub ◌▸◌ : {A B : Type 0} → Reader A → (A → Reader B) → Reader B
+(p ▸ f) more at bytes = p more at bytes ⟫ λ x after rest. f x more after rest
+
+-- a value, of which no byte is read, and the place
+abbrev pub pure : {A : Type 0} → A → Reader A
+pure x more at rest = Ok (x, at, rest)
+
+abbrev pub here : Reader ℕ
+here more at rest = Ok (at, at, rest)
+
 -- the next byte, which is taken or stays, and none at the end
 unfoldable pub byte_at : Reader (Option ℕ)
-byte_at more at [] = at_end more (Ok (None, at, []))
+byte_at more at [] = unless_more more (Ok (None, at, []))
 byte_at more at (b ∷ rest) = Ok (Some b, at + 1, rest)
 
 unfoldable pub sight_at : Reader (Option ℕ)
-sight_at more at [] = at_end more (Ok (None, at, []))
+sight_at more at [] = unless_more more (Ok (None, at, []))
 sight_at more at (b ∷ rest) = Ok (Some b, at, b ∷ rest)
 
 -- what a value or a break is, or none
@@ -65,12 +79,12 @@ spelling_of a None = None
 spelling_of a (Some b) = if (a == 80) && (b == 53) then Some Raw else (if (a == 80) && (b == 50) then Some Plain else None)
 
 unfoldable pub magic_at : Reader Spelling
-magic_at more at [] = at_end more (breaks Magic)
-magic_at more at (a ∷ []) = at_end more (breaks Magic)
+magic_at more at [] = unless_more more (breaks Magic)
+magic_at more at (a ∷ []) = unless_more more (breaks Magic)
 magic_at more at (a ∷ b ∷ rest) = or_breaks Magic (spelling_of a (Some b)) (at + 2) rest
 
 unfoldable pub space_at : Reader (Unit {0})
-space_at more at [] = at_end more (breaks (Form at))
+space_at more at [] = unless_more more (breaks (Form at))
 space_at more at (b ∷ rest) = if is_space b then Ok (nothing, at + 1, rest) else breaks (Form at)
 
 -- whether a comment is open after a byte of white space or of a comment; none after any other byte
@@ -80,14 +94,14 @@ inside_after false b = if is_space b then Some false else (if b == 35 then Some 
 
 -- white space and comments, from outside a comment or from inside one
 unfoldable pub filling_at : Bool → Reader (Unit {0})
-filling_at false more at [] = at_end more (Ok (nothing, at, []))
-filling_at true more at [] = at_end more (breaks (Form at))
+filling_at false more at [] = unless_more more (Ok (nothing, at, []))
+filling_at true more at [] = unless_more more (breaks (Form at))
 filling_at false more at (b ∷ rest) = if is_space b then filling_at false more (at + 1) rest else (if b == 35 then filling_at true more (at + 1) rest else Ok (nothing, at, b ∷ rest))
 filling_at true more at (b ∷ rest) = if is_line_end b then filling_at false more (at + 1) rest else filling_at true more (at + 1) rest
 
 -- white space
 unfoldable pub blanks_at : Reader (Unit {0})
-blanks_at more at [] = at_end more (Ok (nothing, at, []))
+blanks_at more at [] = unless_more more (Ok (nothing, at, []))
 blanks_at more at (b ∷ rest) = if is_space b then blanks_at more (at + 1) rest else Ok (nothing, at, b ∷ rest)
 
 -- one more digit; numbers stop growing at 4,294,967,295
@@ -95,17 +109,17 @@ abbrev pub with_digit : ℕ → ℕ → ℕ
 with_digit n b = min (10 * n + (b - 48)) 4294967295
 
 unfoldable pub digits_at : ℕ → Reader ℕ
-digits_at n more at [] = at_end more (Ok (n, at, []))
+digits_at n more at [] = unless_more more (Ok (n, at, []))
 digits_at n more at (b ∷ rest) = if is_digit b then digits_at (with_digit n b) more (at + 1) rest else Ok (n, at, b ∷ rest)
 
 -- a number, or `cut` where the input ends before it
-unfoldable pub number_at : PlaneFault → Reader ℕ
-number_at cut more at [] = at_end more (breaks cut)
-number_at cut more at (b ∷ rest) = if is_digit b then digits_at (b - 48) more (at + 1) rest else breaks (Form at)
+unfoldable pub numeral_at : PlaneFault → Reader ℕ
+numeral_at cut more at [] = unless_more more (breaks cut)
+numeral_at cut more at (b ∷ rest) = if is_digit b then digits_at (b - 48) more (at + 1) rest else breaks (Form at)
 
 -- a gap and a number, with the place of its first digit
 unfoldable pub field_at : Reader (ℕ × ℕ)
-field_at more at bytes = space_at more at bytes >>= λ _ after rest. filling_at false more after rest >>= λ _ place digits. number_at (Form place) more place digits >>= λ n end others. Ok ((n, place), end, others)
+field_at = space_at ▸ λ _. filling_at false ▸ λ _. here ▸ λ place. numeral_at (Form place) ▸ λ n. pure (n, place)
 
 pub record HeaderOf : Type 0 where
   pub width : ℕ
@@ -131,7 +145,7 @@ unless_broken None reading = reading
 unless_broken (Some fault) reading = breaks fault
 
 unfoldable pub header_at : Role → Reader HeaderOf
-header_at role more at bytes = field_at more at bytes >>= λ w at_2 rest_2. field_at more at_2 rest_2 >>= λ h at_3 rest_3. field_at more at_3 rest_3 >>= λ m at_4 rest_4. space_at more at_4 rest_4 >>= λ _ end others. unless_broken (header_break role w.0 h.0 m.0 m.1) (Ok (record { width = w.0; height = h.0; maxval = m.0 }, end, others))
+header_at role = field_at ▸ λ w. field_at ▸ λ h. field_at ▸ λ m. space_at ▸ λ _ more at rest. unless_broken (header_break role w.0 h.0 m.0 m.1) (Ok (record { width = w.0; height = h.0; maxval = m.0 }, at, rest))
 
 -- the sample with the given index, if it is not above maxval
 abbrev pub judged : ℕ → ℕ → ℕ → Result ℕ PlaneFault
@@ -147,18 +161,18 @@ form_of Raw maxval = if nat_lt 255 maxval then Wide else Narrow
 form_of Plain maxval = Digits
 
 -- one sample, that with the given index
-unfoldable pub sample_at : SampleForm → ℕ → ℕ → Reader ℕ
-sample_at Narrow maxval index more at [] = at_end more (breaks (Short index))
-sample_at Narrow maxval index more at (b ∷ rest) = and_behind (judged maxval index b) (at + 1) rest
-sample_at Wide maxval index more at [] = at_end more (breaks (Short index))
-sample_at Wide maxval index more at (high ∷ []) = at_end more (breaks (Short index))
-sample_at Wide maxval index more at (high ∷ low ∷ rest) = and_behind (judged maxval index (256 * high + low)) (at + 2) rest
-sample_at Digits maxval index more at bytes = blanks_at more at bytes >>= λ _ place digits. number_at (Short index) more place digits >>= λ v. and_behind (judged maxval index v)
+unfoldable pub spelled_sample_at : SampleForm → ℕ → ℕ → Reader ℕ
+spelled_sample_at Narrow maxval index more at [] = unless_more more (breaks (Short index))
+spelled_sample_at Narrow maxval index more at (b ∷ rest) = and_behind (judged maxval index b) (at + 1) rest
+spelled_sample_at Wide maxval index more at [] = unless_more more (breaks (Short index))
+spelled_sample_at Wide maxval index more at (high ∷ []) = unless_more more (breaks (Short index))
+spelled_sample_at Wide maxval index more at (high ∷ low ∷ rest) = and_behind (judged maxval index (256 * high + low)) (at + 2) rest
+spelled_sample_at Digits maxval index more at bytes = (blanks_at ▸ λ _. numeral_at (Short index) ▸ λ v _. and_behind (judged maxval index v)) more at bytes
 
 -- so many samples, the first with the given index
 unfoldable pub samples_at : SampleForm → ℕ → ℕ → ℕ → Reader (List ℕ)
 samples_at form maxval zero index more at bytes = Ok ([], at, bytes)
-samples_at form maxval (suc n) index more at bytes = sample_at form maxval index more at bytes >>= λ v after rest. samples_at form maxval n (index + 1) more after rest >>= λ vs end others. Ok (v ∷ vs, end, others)
+samples_at form maxval (suc n) index more at bytes = spelled_sample_at form maxval index more at bytes ⟫ λ v after rest. samples_at form maxval n (index + 1) more after rest ⟫ λ vs end others. Ok (v ∷ vs, end, others)
 
 -- the white space after the last sample of a plain raster
 unfoldable pub end_at : Reader (Unit {0})
@@ -166,21 +180,21 @@ end_at more at [] = blanks_at more at []
 end_at more at (b ∷ rest) = if is_space b then blanks_at more at (b ∷ rest) else breaks (Form at)
 
 abbrev pub end_of : Spelling → List ℕ → Reader (List ℕ)
-end_of Raw vs more at rest = Ok (vs, at, rest)
-end_of Plain vs more at rest = end_at more at rest >>= λ _ end others. Ok (vs, end, others)
+end_of Raw vs = pure vs
+end_of Plain vs = end_at ▸ λ _. pure vs
 
 unfoldable pub raster_at : Spelling → ℕ → ℕ → Reader (List ℕ)
-raster_at spelling maxval count more at bytes = samples_at (form_of spelling maxval) maxval count 0 more at bytes >>= λ vs end others. end_of spelling vs more end others
+raster_at spelling maxval count = samples_at (form_of spelling maxval) maxval count 0 ▸ end_of spelling
 
 unfoldable pub plane_at : Role → Reader PlaneOf
-plane_at role more at bytes = magic_at more at bytes >>= λ spelling at_1 rest_1. header_at role more at_1 rest_1 >>= λ h at_2 rest_2. raster_at spelling h.maxval (h.width * h.height) more at_2 rest_2 >>= λ vs end others. Ok (record { width = h.width; height = h.height; maxval = h.maxval; samples = vs }, end, others)
+plane_at role = magic_at ▸ λ spelling. header_at role ▸ λ h. raster_at spelling h.maxval (h.width * h.height) ▸ λ vs. pure (record { width = h.width; height = h.height; maxval = h.maxval; samples = vs })
 
 -- ---- calls on a feed
 
 -- a break as a refusal
-abbrev pub told : {A : Type 0} → Result A PlaneFault → Result A ReadPlaneFault
-told (Ok x) = Ok x
-told (Err fault) = Err (errors.Plane fault)
+abbrev pub as_refusal : {A : Type 0} → Result A PlaneFault → Result A ReadPlaneFault
+as_refusal (Ok x) = Ok x
+as_refusal (Err fault) = Err (errors.Plane fault)
 
 -- bytes at a place go beyond the limit
 abbrev pub goes_beyond : ℕ → ℕ → List ℕ → Bool
@@ -191,16 +205,16 @@ abbrev pub Told : Call → (Bool → List ℕ → List ℕ → Type 0) → Type 
 Told c P = (bytes rest : List ℕ) → c.told ≡ Some bytes → c.left ≡ Some rest → P (goes_beyond c.limit c.at bytes) (take (c.limit - c.at) bytes) (take (c.limit - c.end) rest)
 
 -- the call answers what the reader gives; a read fault was counted; lack of memory has no cause
-abbrev pub Answers : {X A : Type 0} → (X → A) → Result X ReadPlaneFault → Call → Reader A → Type 0
-Answers view (Ok x) c read = Told c (λ more bytes rest. read more c.at bytes ≡ Ok (view x, c.end, rest))
-Answers view (Err (errors.Plane fault)) c read = Told c (λ more bytes rest. read more c.at bytes ≡ breaks fault)
-Answers view (Err errors.TooLong) c read = ((c.end ≡ c.limit) × HasMore c.left) × Told c (λ more bytes rest. read more c.at bytes ≡ asks)
-Answers view (Err errors.ReadFault) c read = HasRisen c.before c.after
-Answers view (Err errors.Memory) c read = Unit {0}
+abbrev pub AnswersReader : {X A : Type 0} → (X → A) → Result X ReadPlaneFault → Call → Reader A → Type 0
+AnswersReader view (Ok x) c read = Told c (λ more bytes rest. read more c.at bytes ≡ Ok (view x, c.end, rest))
+AnswersReader view (Err (errors.Plane fault)) c read = Told c (λ more bytes rest. read more c.at bytes ≡ breaks fault)
+AnswersReader view (Err errors.TooLong) c read = ((c.end ≡ c.limit) × HasMore c.left) × Told c (λ more bytes rest. read more c.at bytes ≡ asks)
+AnswersReader view (Err errors.ReadFault) c read = HasRisen c.before c.after
+AnswersReader view (Err errors.Memory) c read = Unit {0}
 
 pub record Reads {X A : Type 0} (view : X → A) (result : Result X ReadPlaneFault) (c : Call) (read : Reader A) : Type 0 where
   pub moves : Moves c
-  pub answers : Answers view result c read
+  pub answers : AnswersReader view result c read
 
 abbrev pub header_of : Header → HeaderOf
 header_of h = record { width = h.width; height = h.height; maxval = h.maxval }

@@ -1,5 +1,5 @@
 -- The text that a plane is written as: pgm(5), "The Format", raw.
-use Rattle.std.specs.Prelude.{ℕ, ◌/◌, ◌%◌, Bool, true, false, List, [], ◌∷◌, ◌++◌, decimal, flat_map}
+use Rattle.std.specs.Prelude.{ℕ, ◌/◌, ◌%◌, Bool, true, false, List, [], ◌∷◌, ◌++◌, codes, decimal, flat_map}
 use Rattle.pgm_planes.specs.Planes.{PlaneOf, is_wide}
 
 -- a sample as one byte (false) or as two, the most significant first (true)
@@ -10,13 +10,9 @@ sample_text true v = (v / 256) ∷ (v % 256) ∷ []
 abbrev pub raster_text : Bool → List ℕ → List ℕ
 raster_text wide samples = flat_map (sample_text wide) samples
 
--- a number after its label
-abbrev pub labelled : List ℕ → ℕ → List ℕ
-labelled label n = label ++ decimal n
-
 -- P5, LF, width, SP, height, LF, maxval, LF
-unfoldable pub header_text : ℕ → ℕ → ℕ → List ℕ
-header_text width height maxval = labelled (80 ∷ 53 ∷ 10 ∷ []) width ++ (labelled (32 ∷ []) height ++ (labelled (10 ∷ []) maxval ++ 10 ∷ []))
+unfoldable pub plane_header_text : ℕ → ℕ → ℕ → List ℕ
+plane_header_text width height maxval = codes "P5\n" ++ (decimal width ++ (codes " " ++ (decimal height ++ (codes "\n" ++ (decimal maxval ++ codes "\n")))))
 
 unfoldable pub plane_text : PlaneOf → List ℕ
-plane_text p = header_text p.width p.height p.maxval ++ raster_text (is_wide p.maxval) p.samples
+plane_text p = plane_header_text p.width p.height p.maxval ++ raster_text (is_wide p.maxval) p.samples

@@ -1,7 +1,7 @@
 ghost use Rattle.std.specs.Prelude.{◌≡◌};
 ghost use Rattle.insar_ports.specs.declared.feed.FeedFault.TheVariants as feed_faults;
 ghost use Rattle.pgm_planes.specs.declared.fault.ReadPlaneFault.TheVariants as faults;
-ghost use Rattle.pgm_planes.specs.Faults.{fault_of_feed};
+ghost use Rattle.pgm_planes.specs.Faults.{plane_fault_of_feed};
 
 use insar_ports::FeedFault;
 use std::alloc::{AllocError, AllocFailed};
@@ -57,7 +57,7 @@ pub enum ReadPlaneFault {
 }
 
 impl From<FeedFault> for ReadPlaneFault {
-    ghost from_gives = { λ fault e. e ≡ fault_of_feed fault };
+    ghost from_gives = { λ fault e. e ≡ plane_fault_of_feed fault };
 
     fn from(fault: FeedFault) -> ReadPlaneFault {
         match fault {

@@ -3,7 +3,7 @@ ghost use Rattle.insar_ports.specs.Feeding.{source_name, limit_of, handed_of, wa
 ghost use Rattle.pgm_planes.specs.Gaps.{is_space as is_space_byte, is_line_end as is_line_end_byte, is_digit as is_digit_byte};
 ghost use Rattle.pgm_planes.specs.Planes.{HasMaxval, IsSize};
 ghost use Rattle.insar_ports.specs.Calls.{call_of};
-ghost use Rattle.pgm_planes.specs.Reading.{Reads, nothing, byte_at, sight_at, spelling_of as spelling_of_magic, magic_at, space_at, filling_at, blanks_at, inside_after as inside_after_byte, digits_at, number_at, field_at, with_digit as with_digit_byte, header_break as break_of_header, header_at, header_of};
+ghost use Rattle.pgm_planes.specs.Reading.{Reads, nothing, byte_at, sight_at, spelling_of as spelling_of_magic, magic_at, space_at, filling_at, blanks_at, inside_after as inside_after_byte, digits_at, numeral_at, field_at, with_digit as with_digit_byte, header_break as break_of_header, header_at, header_of};
 
 use crate::fault::{PlaneFault, ReadPlaneFault, Role};
 use crate::spelling::Spelling;
@@ -187,7 +187,7 @@ fn read_digits<S: Source>(feed: &mut Feed<S>, number: u32) -> Result<u32, ReadPl
 pub fn read_number<S: Source>(feed: &mut Feed<S>, cut: PlaneFault) -> Result<u32, ReadPlaneFault>
     ensures same_source { source_name feed.new ≡ source_name feed.old }
     ensures limit { limit_of feed.new ≡ limit_of feed.old }
-    ensures reads { Reads (λ n. n) result (call_of S.left S.faults feed.old feed.new) (number_at cut) }
+    ensures reads { Reads (λ n. n) result (call_of S.left S.faults feed.old feed.new) (numeral_at cut) }
 {
     let place = feed.handed();
     match take_byte(feed)? {

@@ -1,6 +1,6 @@
 //! Laws of the definitions. The functions do nothing; each contract is the law.
 
-ghost use Rattle.pgm_planes.specs.Laws.{OnePlane, OneBreak, NoBreakOfPlane, PlaneOrBreak, AskOrNot, NoAskBehindPlane, WrittenIsRead};
+ghost use Rattle.pgm_planes.specs.Laws.{OnePlane, OnePlaneBreak, NoBreakOfPlane, PlaneOrBreak, AskOrNot, NoAskBehindPlane, WrittenPlaneIsRead};
 
 /// Bytes begin with at most one plane's text, and a text spells one plane.
 pub fn one_plane()
@@ -11,7 +11,7 @@ pub fn one_plane()
 pub fn plane_or_break()
     ensures either { PlaneOrBreak }
     ensures not_both { NoBreakOfPlane }
-    ensures one_break { OneBreak }
+    ensures one_break { OnePlaneBreak }
 {}
 
 /// Whether a reader of bytes asks for one after the last is decided, and after a plane it does not.
@@ -22,5 +22,5 @@ pub fn ask_or_not()
 
 /// What `write_plane` writes is read as the plane, whatever follows.
 pub fn written_is_read()
-    ensures { WrittenIsRead }
+    ensures { WrittenPlaneIsRead }
 {}

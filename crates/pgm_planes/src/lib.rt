@@ -12,4 +12,4 @@ mod write;
 
 pub use fault::{InputFault, PlaneFault, ReadPlaneFault, Role};
 pub use plane::read_plane;
-pub use write::write_plane;
+pub use write::{add_header, add_plane, write_plane};

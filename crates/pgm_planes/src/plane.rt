@@ -5,7 +5,7 @@ ghost use Rattle.pgm_planes.specs.Asking.{AsksForMore};
 ghost use Rattle.insar_ports.specs.Calls.{IsCutOff, call_of};
 ghost use Rattle.pgm_planes.specs.Reading.{Reads, plane_at};
 ghost use Rattle.insar_ports.specs.Calls.{Moves, Takes};
-ghost use Rattle.pgm_planes.specs.Causes.{HasCause, IsCutShort, IsReadAs};
+ghost use Rattle.pgm_planes.specs.Causes.{HasPlaneCause, IsCutShort, IsReadAsPlane};
 
 use crate::fault::{ReadPlaneFault, Role};
 use crate::header::{read_header, read_magic};
@@ -32,11 +32,13 @@ pub fn read_plane<S: Source>(
     // What is read is spelled so, each byte of it.
     ensures read { IfOk result (λ plane. Takes (call_of S.left S.faults feed.old feed.new) (λ text rest. SpellsPlane role text (plane_of plane) rest)) }
     // What is spelled so is read, and what follows is left.
-    ensures accepted { IfSome (left_of S.left feed.old) (λ bytes. (p : PlaneOf) (rest : List ℕ) → IsPlaneIn role bytes p rest → IsReadAs (call_of S.left S.faults feed.old feed.new) p rest result) }
+    ensures accepted { IfSome (left_of S.left feed.old) (λ bytes. (p : PlaneOf) (rest : List ℕ) → IsPlaneIn role bytes p rest → IsReadAsPlane (call_of S.left S.faults feed.old feed.new) p rest result) }
     // What asks for a byte after the limit is not judged.
     ensures cut { IfSome (left_of S.left feed.old) (λ bytes. IsCutOff (AsksForMore role) (call_of S.left S.faults feed.old feed.new) bytes → IsCutShort (call_of S.left S.faults feed.old feed.new) result) }
     // The first break, or why else a plane is not read.
-    ensures refused { IfErr result (HasCause role (call_of S.left S.faults feed.old feed.new)) }
+    ensures refused { IfErr result (HasPlaneCause role (call_of S.left S.faults feed.old feed.new)) }
+    // All of these say what a reader of the bytes that the limit lets out gives.
+    ensures reads { Reads plane_of result (call_of S.left S.faults feed.old feed.new) (plane_at role) }
     ensures maxval { IfOk result (λ plane. HasMaxval role plane.maxval) }
 {
     read_spelled(alloc, feed, role)

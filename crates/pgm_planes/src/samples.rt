@@ -2,7 +2,7 @@ ghost use Rattle.std.specs.Prelude.{◌≡◌, ◌≤◌, ◌<◌, ℕ, IfOk, ve
 ghost use Rattle.insar_ports.specs.Feeding.{source_name, limit_of};
 ghost use Rattle.pgm_planes.specs.declared.samples.SampleForm.TheVariants as forms;
 ghost use Rattle.insar_ports.specs.Calls.{call_of};
-ghost use Rattle.pgm_planes.specs.Reading.{Reads, nothing, told, form_of as form_of_spelling, sample_at, samples_at, end_at, raster_at, judged as judged_sample};
+ghost use Rattle.pgm_planes.specs.Reading.{Reads, nothing, as_refusal, form_of as form_of_spelling, spelled_sample_at, samples_at, end_at, raster_at, judged as judged_sample};
 
 use crate::fault::{PlaneFault, ReadPlaneFault};
 use crate::header::{is_space, read_number, see_byte, skip_blanks, take_byte};
@@ -36,7 +36,7 @@ fn form_of(spelling: Spelling, maxval: u16) -> SampleForm
 
 /// The sample with this index, if it is not above `maxval`.
 fn judged(sample: u32, maxval: u16, index: u32) -> Result<u16, ReadPlaneFault>
-    ensures exact { result ≡ told (judged_sample maxval index sample) }
+    ensures exact { result ≡ as_refusal (judged_sample maxval index sample) }
     ensures below { IfOk result (λ sample. sample ≤ maxval) }
 {
     if sample > u32::from(maxval) {
@@ -57,7 +57,7 @@ fn read_narrow<S: Source>(
     ensures same_source { source_name feed.new ≡ source_name feed.old }
     ensures limit { limit_of feed.new ≡ limit_of feed.old }
     ensures below { IfOk result (λ sample. sample ≤ maxval) }
-    ensures reads { Reads (λ n. n) result (call_of S.left S.faults feed.old feed.new) (sample_at forms.Narrow maxval index) }
+    ensures reads { Reads (λ n. n) result (call_of S.left S.faults feed.old feed.new) (spelled_sample_at forms.Narrow maxval index) }
 {
     match take_byte(feed)? {
         Some(byte) => judged(u32::from(byte), maxval, index),
@@ -70,7 +70,7 @@ fn read_wide<S: Source>(feed: &mut Feed<S>, maxval: u16, index: u32) -> Result<u
     ensures same_source { source_name feed.new ≡ source_name feed.old }
     ensures limit { limit_of feed.new ≡ limit_of feed.old }
     ensures below { IfOk result (λ sample. sample ≤ maxval) }
-    ensures reads { Reads (λ n. n) result (call_of S.left S.faults feed.old feed.new) (sample_at forms.Wide maxval index) }
+    ensures reads { Reads (λ n. n) result (call_of S.left S.faults feed.old feed.new) (spelled_sample_at forms.Wide maxval index) }
 {
     let Some(high) = take_byte(feed)? else {
         return Err(ReadPlaneFault::Plane(PlaneFault::Short(index)));
@@ -89,7 +89,7 @@ fn read_plain<S: Source>(feed: &mut Feed<S>, maxval: u16, index: u32) -> Result<
     ensures same_source { source_name feed.new ≡ source_name feed.old }
     ensures limit { limit_of feed.new ≡ limit_of feed.old }
     ensures below { IfOk result (λ sample. sample ≤ maxval) }
-    ensures reads { Reads (λ n. n) result (call_of S.left S.faults feed.old feed.new) (sample_at forms.Digits maxval index) }
+    ensures reads { Reads (λ n. n) result (call_of S.left S.faults feed.old feed.new) (spelled_sample_at forms.Digits maxval index) }
 {
     skip_blanks(feed)?;
     let sample = read_number(feed, PlaneFault::Short(index))?;
@@ -106,7 +106,7 @@ fn read_sample<S: Source>(
     ensures same_source { source_name feed.new ≡ source_name feed.old }
     ensures limit { limit_of feed.new ≡ limit_of feed.old }
     ensures below { IfOk result (λ sample. sample ≤ maxval) }
-    ensures reads { Reads (λ n. n) result (call_of S.left S.faults feed.old feed.new) (sample_at form maxval index) }
+    ensures reads { Reads (λ n. n) result (call_of S.left S.faults feed.old feed.new) (spelled_sample_at form maxval index) }
 {
     match form {
         SampleForm::Narrow => read_narrow(feed, maxval, index),

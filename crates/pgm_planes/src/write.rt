@@ -1,16 +1,18 @@
-ghost use Rattle.std.specs.Prelude.{◌≡◌, ◌≤◌, ◌*◌, ◌++◌, All, length, take, flat_map, decimal, OnOk, OnErr};
+ghost use Rattle.std.specs.Prelude.{◌≡◌, ◌≤◌, ◌*◌, All, length, take, flat_map, OnOk, OnErr};
 ghost use Rattle.byteorder.specs.Endian.{big_bytes};
 ghost use Rattle.insar_ports.specs.Bytes.{HasRisen, GainsProperPrefix, with_end};
 ghost use Rattle.pgm_planes.specs.Planes.{plane_of, is_wide as is_wide_maxval};
-ghost use Rattle.pgm_planes.specs.Text.{raster_text, header_text, plane_text};
+ghost use Rattle.pgm_planes.specs.Text.{raster_text, plane_header_text, plane_text};
+ghost use Rattle.text_lines.specs.Adding.{Adds};
+ghost use Rattle.text_lines.specs.Views.{view_of};
 
 use byteorder::{BigEndian, ByteOrder};
-use insar_ports::{Sink, WriteFault, put_all};
-use itoa::Buffer;
+use insar_ports::{Sink, WriteFault};
 use raster_model::Plane;
+use text_lines::TextWriter;
 
-/// How many samples are put into the sink at once.
-const PIECE_SAMPLES: usize = 2048;
+/// How many samples are added to a text at once.
+const PIECE_SAMPLES: usize = 4096;
 
 /// How many bytes they have at most.
 const PIECE_BYTES: usize = 2 * PIECE_SAMPLES;
@@ -23,72 +25,71 @@ pub fn write_plane<K: Sink>(plane: &Plane, sink: &mut K) -> Result<(), WriteFaul
     ensures fault { OnErr result (HasRisen (K.faults sink.old) (K.faults sink.new)) }
     ensures grows { K.faults sink.old ≤ K.faults sink.new }
 {
-    write_header(sink, plane.width, plane.height, plane.maxval)?;
-    write_raster(sink, &plane.samples, plane.maxval)
+    let mut text = TextWriter::new(sink);
+    add_plane(&mut text, plane);
+    text.finish()
 }
 
-/// Writes a number after its label.
-fn write_number<K: Sink>(sink: &mut K, label: &[u8], number: u32) -> Result<(), WriteFault>
-    ensures written { OnOk result (K.held sink.new ≡ with_end (K.held sink.old) (label.now ++ decimal number)) }
-    ensures cut { OnErr result (GainsProperPrefix (K.held sink.old) (label.now ++ decimal number) (K.held sink.new)) }
-    ensures fault { OnErr result (HasRisen (K.faults sink.old) (K.faults sink.new)) }
-    ensures grows { K.faults sink.old ≤ K.faults sink.new }
+/// Adds the raw form of a plane to a text.
+pub fn add_plane<K: Sink>(text: &mut TextWriter<K>, plane: &Plane)
+    ensures { Adds (view_of K.held K.faults text.old) (view_of K.held K.faults text.new) (plane_text (plane_of plane.now)) }
 {
-    put_all(sink, label)?;
-    let mut digits = Buffer::new();
-    put_all(sink, digits.format(number).as_bytes())
+    add_header(text, plane.width, plane.height, plane.maxval);
+    add_raster(text, &plane.samples, plane.maxval);
 }
 
-fn write_header<K: Sink>(
-    sink: &mut K,
-    width: u32,
-    height: u32,
-    maxval: u16,
-) -> Result<(), WriteFault>
-    ensures written { OnOk result (K.held sink.new ≡ with_end (K.held sink.old) (header_text width height maxval)) }
-    ensures cut { OnErr result (GainsProperPrefix (K.held sink.old) (header_text width height maxval) (K.held sink.new)) }
-    ensures fault { OnErr result (HasRisen (K.faults sink.old) (K.faults sink.new)) }
-    ensures grows { K.faults sink.old ≤ K.faults sink.new }
+/// Adds what stands in a raw plane before its samples: `P5`, LF, width, SP, height, LF, maxval, LF.
+pub fn add_header<K: Sink>(text: &mut TextWriter<K>, width: u32, height: u32, maxval: u16)
+    ensures { Adds (view_of K.held K.faults text.old) (view_of K.held K.faults text.new) (plane_header_text width height maxval) }
 {
-    write_number(sink, b"P5\n", width)?;
-    write_number(sink, b" ", height)?;
-    write_number(sink, b"\n", u32::from(maxval))?;
-    put_all(sink, b"\n")
+    text.bytes(b"P5\n");
+    text.number(width);
+    text.space();
+    text.number(height);
+    text.end_line();
+    text.number(maxval);
+    text.end_line();
 }
 
-/// Writes samples in pieces.
-fn write_raster<K: Sink>(sink: &mut K, samples: &[u16], maxval: u16) -> Result<(), WriteFault>
+/// Adds samples in pieces.
+fn add_raster<K: Sink>(text: &mut TextWriter<K>, samples: &[u16], maxval: u16)
     requires { All (λ v. v ≤ maxval) samples.now }
-    ensures written { OnOk result (K.held sink.new ≡ with_end (K.held sink.old) (raster_text (is_wide_maxval maxval) samples.now)) }
-    ensures cut { OnErr result (GainsProperPrefix (K.held sink.old) (raster_text (is_wide_maxval maxval) samples.now) (K.held sink.new)) }
-    ensures fault { OnErr result (HasRisen (K.faults sink.old) (K.faults sink.new)) }
-    ensures grows { K.faults sink.old ≤ K.faults sink.new }
+    ensures { Adds (view_of K.held K.faults text.old) (view_of K.held K.faults text.new) (raster_text (is_wide_maxval maxval) samples.now) }
 {
     let mut start = 0;
     while start < samples.len() {
         let end = samples.len().min(start + PIECE_SAMPLES);
-        write_piece(sink, &samples[start..end], maxval)?;
+        add_piece(text, &samples[start..end], maxval);
         start = end;
     }
-    Ok(())
 }
 
-/// Writes as many samples as are put at once.
-fn write_piece<K: Sink>(sink: &mut K, piece: &[u16], maxval: u16) -> Result<(), WriteFault>
-    requires short { length piece.now ≤ 2048 }
+/// Adds as many samples as are added at once.
+fn add_piece<K: Sink>(text: &mut TextWriter<K>, piece: &[u16], maxval: u16)
+    requires short { length piece.now ≤ 4096 }
     requires below { All (λ v. v ≤ maxval) piece.now }
-    ensures written { OnOk result (K.held sink.new ≡ with_end (K.held sink.old) (raster_text (is_wide_maxval maxval) piece.now)) }
-    ensures cut { OnErr result (GainsProperPrefix (K.held sink.old) (raster_text (is_wide_maxval maxval) piece.now) (K.held sink.new)) }
-    ensures fault { OnErr result (HasRisen (K.faults sink.old) (K.faults sink.new)) }
-    ensures grows { K.faults sink.old ≤ K.faults sink.new }
+    ensures { Adds (view_of K.held K.faults text.old) (view_of K.held K.faults text.new) (raster_text (is_wide_maxval maxval) piece.now) }
 {
     let mut bytes = [0; PIECE_BYTES];
+    let count = fill(piece, maxval, &mut bytes);
+    text.bytes(&bytes[..count]);
+}
+
+/// Puts the text of samples into the front of `bytes`, and says how many bytes it has.
+fn fill(piece: &[u16], maxval: u16, bytes: &mut [u8]) -> usize
+    requires room { 2 * length piece.now ≤ length bytes.old }
+    requires below { All (λ v. v ≤ maxval) piece.now }
+    ensures same { length bytes.new ≡ length bytes.old }
+    ensures within { result ≤ length bytes.new }
+    ensures front { take result bytes.new ≡ raster_text (is_wide_maxval maxval) piece.now }
+{
     if maxval > 255 {
-        fill_wide(piece, &mut bytes);
-        return put_all(sink, &bytes[..2 * piece.len()]);
+        fill_wide(piece, bytes);
+        2 * piece.len()
+    } else {
+        fill_narrow(piece, bytes);
+        piece.len()
     }
-    fill_narrow(piece, &mut bytes);
-    put_all(sink, &bytes[..piece.len()])
 }
 
 /// Puts samples that fit a byte into the front of `bytes`.

@@ -5,11 +5,11 @@ use Rattle.std.proofs.lemmas.Bool.{and_parts, eqb-true, cases_Bool}
 use Rattle.std.proofs.lemmas.List.{take-append-drop, append-nil}
 use Rattle.std.proofs.Math.Seq.{take-append_seam, drop-append_seam}
 use Rattle.raster_model.specs.declared.script.Rect.{Rect}
-use Rattle.pgm_planes.specs.Gaps.{is_digit, begins, is_number, goes_on_to, number_of}
+use Rattle.pgm_planes.specs.Gaps.{is_digit, begins, is_number, goes_on_to, capped_number}
 use Rattle.pgm_planes.specs.Reading.{with_digit}
 use Rattle.pgm_planes.proofs.HeaderLemmas.{capped}
 use Rattle.session_script.specs.Lines.{is_plain, rect_by, SpellsRect}
-use Rattle.session_script.specs.Fields.{digits_in, number_in, field_in, rect_unless, rect_in}
+use Rattle.session_script.specs.Fields.{digits_in, plain_number_in, field_in, rect_unless, rect_in}
 
 -- the number that digits make after n, capped at each of them
 abbrev pub counted : ℕ → List ℕ → ℕ
@@ -20,7 +20,7 @@ counted_on : (n m : ℕ) (bs : List ℕ) → n ≡ capped m → counted n bs ≡
 counted_on n m [] e = e
 counted_on n m (b ∷ bs) e = counted_on (with_digit n b) (10 * m + (b - 48)) bs (omega arith)
 
-pub counted_is : (bs : List ℕ) → counted 0 bs ≡ number_of bs
+pub counted_is : (bs : List ℕ) → counted 0 bs ≡ capped_number bs
 counted_is bs = counted_on 0 0 bs refl
 
 -- ---- the digits in front
@@ -67,21 +67,21 @@ pub record HasNumber (bytes : List ℕ) (found : ℕ × List ℕ) : Type 0 where
   pub digits : List ℕ
   pub parts : bytes ≡ digits ++ found.1
   pub plain : is_plain digits ≡ true
-  pub value : found.0 ≡ number_of digits
+  pub value : found.0 ≡ capped_number digits
 
-number_found : (bytes : List ℕ) (found : ℕ × List ℕ) → number_in bytes ≡ Some found → HasNumber bytes found
-unfolding number_in
+number_found : (bytes : List ℕ) (found : ℕ × List ℕ) → plain_number_in bytes ≡ Some found → HasNumber bytes found
+unfolding plain_number_in
 number_found bytes found e =
     let digits = take (digits_in bytes) bytes in
     elim (cases_Bool (is_plain digits)) [
       | inl p ↦
-          let same : found ≡ (number_of digits, drop (digits_in bytes) bytes) = (let q = rw p at e in cc) in
+          let same : found ≡ (capped_number digits, drop (digits_in bytes) bytes) = (let q = rw p at e in cc) in
           rw same (record { digits = digits; parts = sym (take-append-drop (digits_in bytes) bytes); plain = p; value = refl })
       | inr p ↦ absurd (let q = rw p at e in cc)
     ]
 
-number_again : (digits rest : List ℕ) → is_plain digits ≡ true → begins is_digit rest ≡ false → number_in (digits ++ rest) ≡ Some (number_of digits, rest)
-unfolding number_in
+number_again : (digits rest : List ℕ) → is_plain digits ≡ true → begins is_digit rest ≡ false → plain_number_in (digits ++ rest) ≡ Some (capped_number digits, rest)
+unfolding plain_number_in
 number_again digits rest p s =
     let count = digits_before digits rest (all_digits digits p) s in
     rw (count, take-append_seam digits rest, drop-append_seam digits rest, p) refl
@@ -94,7 +94,7 @@ field_found (b ∷ bytes) found e = elim (cases_Bool (eqb b 32)) [
   | inr t ↦ absurd (let q = rw t at e in cc)
 ]
 
-field_again : (digits rest : List ℕ) → is_plain digits ≡ true → begins is_digit rest ≡ false → field_in (32 ∷ (digits ++ rest)) ≡ Some (number_of digits, rest)
+field_again : (digits rest : List ℕ) → is_plain digits ≡ true → begins is_digit rest ≡ false → field_in (32 ∷ (digits ++ rest)) ≡ Some (capped_number digits, rest)
 unfolding field_in
 field_again digits rest p s = number_again digits rest p s
 
@@ -145,7 +145,7 @@ pub rect_again : (bytes : List ℕ) (r : Rect) → SpellsRect bytes r → rect_i
 unfolding rect_in
 rect_again bytes r s =
     let bottom : s.bottom ++ [] ≡ s.bottom = append-nil s.bottom in
-    let last : field_in (32 ∷ s.bottom) ≡ Some (number_of s.bottom, []) = subst (λ (t : List ℕ). field_in (32 ∷ t) ≡ Some (number_of s.bottom, [])) bottom (field_again s.bottom [] s.plain.3 refl) in
+    let last : field_in (32 ∷ s.bottom) ≡ Some (capped_number s.bottom, []) = subst (λ (t : List ℕ). field_in (32 ∷ t) ≡ Some (capped_number s.bottom, [])) bottom (field_again s.bottom [] s.plain.3 refl) in
     rw (
       s.parts,
       field_again s.left (32 ∷ (s.top ++ (32 ∷ (s.right ++ (32 ∷ s.bottom))))) s.plain.0 refl,
@@ -164,15 +164,15 @@ module _ (bytes digits rest : List ℕ) (count n : ℕ) (plain : Bool) (front : 
   pub digits_stand : list_all is_digit digits ≡ true
   digits_stand = rw (front, counts) (front_digits bytes)
 
-  pub number_taken : rest ≡ drop count bytes → plain ≡ is_plain digits → plain ≡ true → n ≡ number_of digits → taken n rest ≡ number_in bytes
-  unfolding number_in
+  pub number_taken : rest ≡ drop count bytes → plain ≡ is_plain digits → plain ≡ true → n ≡ capped_number digits → taken n rest ≡ plain_number_in bytes
+  unfolding plain_number_in
   number_taken back test holds value =
       let same : digits ≡ take (digits_in bytes) bytes = rw (front, counts) refl in
       let tested : is_plain (take (digits_in bytes) bytes) ≡ true = subst (λ (d : List ℕ). is_plain d ≡ true) same (sym test ∙ holds) in
       rw (tested, value, same, back, counts) refl
 
-  pub number_missed : plain ≡ is_plain digits → plain ≡ false → None ≡ number_in bytes
-  unfolding number_in
+  pub number_missed : plain ≡ is_plain digits → plain ≡ false → None ≡ plain_number_in bytes
+  unfolding plain_number_in
   number_missed test fails =
       let same : digits ≡ take (digits_in bytes) bytes = rw (front, counts) refl in
       let tested : is_plain (take (digits_in bytes) bytes) ≡ false = subst (λ (d : List ℕ). is_plain d ≡ false) same (sym test ∙ fails) in

@@ -13,7 +13,7 @@ use Rattle.raster_model.specs.declared.script.Edit.TheVariants.{Mask, Unmask}
 use Rattle.raster_model.specs.declared.script.Rect.{Rect}
 use Rattle.session_script.specs.declared.word.Word.TheVariants as words
 use Rattle.session_script.specs.Lines.{SpellsEdit, Spells}
-use Rattle.session_script.specs.Fields.{field_in, number_in, rect_in}
+use Rattle.session_script.specs.Fields.{field_in, plain_number_in, rect_in}
 use Rattle.session_script.proofs.FieldLemmas.{rect_found, rect_again}
 
 abbrev pub HasNoFront : List ℕ → List ℕ → Type 0
@@ -31,7 +31,7 @@ not_stripped line name h = strip_prefix_is Decides-eqb line name no_bytes h
 
 -- ---- fields
 
-pub field_behind : (bytes more : List ℕ) → bytes ≡ 32 ∷ more → number_in more ≡ field_in bytes
+pub field_behind : (bytes more : List ℕ) → bytes ≡ 32 ∷ more → plain_number_in more ≡ field_in bytes
 unfolding field_in
 field_behind bytes more e = rw e refl
 

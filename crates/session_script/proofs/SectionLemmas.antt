@@ -10,7 +10,7 @@ use Rattle.raster_model.specs.declared.script.Command.{Command}
 use Rattle.raster_model.specs.declared.script.Script.{Script}
 use Rattle.session_script.specs.declared.word.Word.{Word}
 use Rattle.session_script.specs.declared.word.Word.TheVariants as words
-use Rattle.session_script.specs.Sections.{Sections, sections_of, command_words, section_words, words_of, lines_in, last_of, with_command}
+use Rattle.session_script.specs.Sections.{Sections, sections_of, command_words, section_words, words_of, line_count, last_of, with_command}
 
 -- ---- words of sections
 
@@ -39,13 +39,13 @@ module _ (f : List Command → ℕ) (ss : Sections) (c : Command) (n : ℕ) (som
   pub counted_added : f (last_of ss ++ c ∷ []) ≡ f (last_of ss) + n → sum_by f (with_command c ss) ≡ sum_by f ss + n
   counted_added e = omega (arith, sum_by-set f ss (length ss - 1) (last_of ss ++ c ∷ []) [] (omega (arith, some)), e)
 
-lines_are : (ss : Sections) → lines_in ss ≡ sum_by (λ s. length (section_words s)) ss
+lines_are : (ss : Sections) → line_count ss ≡ sum_by (λ s. length (section_words s)) ss
 lines_are ss = length-flat_map section_words ss
 
 pub count_by_pushed : (test : Command → Bool) (s : List Command) (c : Command) → count_by test (s ++ c ∷ []) ≡ count_by test s + cond (test c) 1 0
 count_by_pushed test s c = let e = sum_by-append (λ x. cond (test x) 1 0) s (c ∷ []) in omega (arith, e)
 
-pub fewer : (test : Command → Bool) (ss : Sections) → sum_by (count_by test) ss ≤ lines_in ss
+pub fewer : (test : Command → Bool) (ss : Sections) → sum_by (count_by test) ss ≤ line_count ss
 fewer test ss = rw lines_are (sum_by-le-sum_by (count_by test) (λ s. length (section_words s)) ss (λ s. omega (arith, count_by-le-length test s, map_length s)))
 
 -- ---- the last section
@@ -89,7 +89,7 @@ module _ (scripts : List Script) (old new : Script) (k : ℕ) (c : Command) (pla
   some_here : 1 ≤ length (sections_of scripts)
   some_here = some_sections scripts old k place some
 
-  pub lines_added : new.commands.items ≡ old.commands.items ++ c ∷ [] → lines_in (sections_of (set scripts k new)) ≡ lines_in (sections_of scripts) + 1
+  pub lines_added : new.commands.items ≡ old.commands.items ++ c ∷ [] → line_count (sections_of (set scripts k new)) ≡ line_count (sections_of scripts) + 1
   lines_added e = rw (sections_added e, words_added (sections_of scripts) c some_here) (length-append (words_of (sections_of scripts)) (words.Command c ∷ []))
 
   pub counts_added : (test : Command → Bool) → new.commands.items ≡ old.commands.items ++ c ∷ [] → sum_by (count_by test) (sections_of (set scripts k new)) ≡ sum_by (count_by test) (sections_of scripts) + cond (test c) 1 0

@@ -1,9 +1,9 @@
--- Lines of sections stand in one way: a reader of them, word by word, that is the relation.
-use Rattle.std.proofs.Common.{◌≡◌, ℕ, zero, suc, ◌+◌, ◌-◌, ◌*◌, ◌≤◌, ◌<◌, ◌≢◌, sum_by, count_by, Bool, true, false, cond, ◌⊎◌, inl, inr, List, [], ◌∷◌, ◌++◌, length, get_or, set, Option, Some, None, Result, Ok, Err, refl, sym, ap, subst, ◌∙◌, append_assoc, arith, le_refl}
+-- Lines of sections stand in one way: the parser of them, line by line, gives what the relations say.
+use Rattle.std.proofs.Common.{◌≡◌, ℕ, zero, suc, ◌+◌, ◌-◌, ◌*◌, ◌≤◌, ◌<◌, ◌≢◌, sum_by, count_by, eqb, nat_lt, Bool, true, false, cond, ◌⊎◌, inl, inr, List, [], ◌∷◌, ◌++◌, length, get_or, set, Option, Some, None, refl, sym, ap, subst, ◌∙◌, append_assoc, arith, le_refl}
 use Rattle.std.specs.Prelude.{slice_get}
-use Rattle.std.specs.List.{AllByRecursion}
+use Rattle.std.specs.List.{list_all, AllByRecursion}
 use Rattle.std.proofs.Math.Seq.{get_or-append_seam, set-append_seam}
-use Rattle.std.proofs.lemmas.Bool.{lt-ltb, le-ltb, ne_eqb}
+use Rattle.std.proofs.lemmas.Bool.{lt-ltb, le-ltb, ltb-true, ltb-false, ne_eqb, eqb-true, cases_Bool}
 use Rattle.std.proofs.lemmas.List.{length-append, length-set, append-nil}
 use Rattle.std.proofs.lemmas.List.Sums.{sum_by-append}
 use Rattle.std.proofs.lemmas.Nat.{mul-le}
@@ -14,14 +14,19 @@ use Rattle.raster_model.specs.declared.script.Rect.{Rect}
 use Rattle.raster_model.specs.Scripts.{is_settle, is_change, rect_of, IsRectIn, CommandsFit}
 use Rattle.pgm_planes.specs.declared.fault.InputFault.{InputFault}
 use Rattle.pgm_planes.specs.declared.fault.InputFault.TheVariants.{ScriptLine, NoEnd}
+use Rattle.pgm_planes.proofs.SampleLemmas.{all_append}
 use Rattle.session_script.specs.declared.word.Word.{Word}
 use Rattle.session_script.specs.declared.word.Word.TheVariants as words
-use Rattle.session_script.specs.Scripts.{BeginsLine, AreLines, StandBefore, AreSections, BreaksAtLine, BreaksAtWord, SectionsBreak, IsNoLine, IsCut}
-use Rattle.session_script.specs.Sections.{Sections, Frame, settles_of, changes_of, command_words, words_of, lines_in, AreWithin, lies_in, last_of, limit_broken, command_broken, word_broken, with_command, with_word}
+use Rattle.session_script.specs.Fields.{word_in}
+use Rattle.session_script.specs.Parsing.{Parse, Parser, if_no_more, and_then, word_or_fault, line_parser, on_word, on_line, sections_parser}
+use Rattle.session_script.specs.Scripts.{BeginsLine, AreLines, StandBefore, AreSections, SectionsBreak, IsNoLine, IsCutLine}
+use Rattle.session_script.specs.Sections.{Sections, Frame, settles_of, changes_of, command_words, words_of, line_count, AreWithinLimits, lies_in, last_of, limit_broken, command_broken, word_broken, with_command, with_word}
 use Rattle.session_script.proofs.FieldLemmas.{found_or_none}
-use Rattle.session_script.proofs.LineAgain.{LineRead, line_at, begins_again, none_again, cut_again, next_line}
+use Rattle.session_script.proofs.LineAgain.{is_in_line, in_line_all, line_begins, line_refused, line_missing}
+use Rattle.session_script.proofs.ParseLemmas.{done, broken}
 use Rattle.session_script.proofs.SectionLemmas.{counted_added, count_by_pushed}
 use Rattle.session_script.proofs.WithinLemmas.{more_lines, words_with, stays_within, has_begun}
+use Rattle.session_script.proofs.WordAgain.{word_found, word_again}
 
 -- ---- a word that stands after sections
 
@@ -103,11 +108,11 @@ lies_again : (f : Frame) (r : Rect) → IsRectIn f.width f.height r → lies_in 
 lies_again f r i = rw (le-ltb r.x1 r.x0 i.0, lt-ltb r.x1 f.width i.1, le-ltb r.y1 r.y0 i.2, lt-ltb r.y1 f.height i.3) refl
 
 module _ (f : Frame) (n : ℕ) (ss : Sections) where
-  module _ (within : AreWithin f (ss ++ [] ∷ [])) where
+  module _ (within : AreWithinLimits f (ss ++ [] ∷ [])) where
     same_sum : (test : Command → Bool) → sum_by (count_by test) (ss ++ [] ∷ []) ≡ sum_by (count_by test) ss
     same_sum test = let e = sum_by-append (count_by test) ss ([] ∷ []) in omega (arith, e)
 
-    less_analyst : AreWithin f ss
+    less_analyst : AreWithinLimits f ss
     less_analyst = record {
       analysts = omega (arith, within.analysts, length-append ss ([] ∷ []));
       short = all_init (λ commands. length commands ≤ 4096) ss [] within.short;
@@ -119,7 +124,7 @@ module _ (f : Frame) (n : ℕ) (ss : Sections) where
     analyst_may : word_broken f n ss words.Analyst ≡ None
     analyst_may = rw (le-ltb 7 (length ss) (omega (arith, within.analysts, length-append ss ([] ∷ [])))) refl
 
-  module _ (c : Command) (some : 1 ≤ length ss) (within : AreWithin f (with_command c ss)) where
+  module _ (c : Command) (some : 1 ≤ length ss) (within : AreWithinLimits f (with_command c ss)) where
     here : length ss - 1 < length ss
     here = omega (arith, some)
 
@@ -137,7 +142,7 @@ module _ (f : Frame) (n : ℕ) (ss : Sections) where
         let more : sum_by (count_by test) ss ≤ sum_by (count_by test) (with_command c ss) = rw (sum_is test) (omega arith) in
         omega (arith, le, mul-le (sum_by (count_by test) ss) m (sum_by (count_by test) (with_command c ss)) m more (le_refl m))
 
-    less_command : AreWithin f ss
+    less_command : AreWithinLimits f ss
     less_command = record {
       analysts = omega (arith, within.analysts, length-set ss (length ss - 1) (last_of ss ++ c ∷ []));
       short = short_parts.1;
@@ -146,168 +151,163 @@ module _ (f : Frame) (n : ℕ) (ss : Sections) where
       changes = less is_change f.tiles 16777216 within.changes;
     }
 
-  settle_may : settles_of ss + 1 ≡ settles_of (with_command Settle ss) → AreWithin f (with_command Settle ss) → limit_broken f n ss Settle ≡ None
+  settle_may : settles_of ss + 1 ≡ settles_of (with_command Settle ss) → AreWithinLimits f (with_command Settle ss) → limit_broken f n ss Settle ≡ None
   settle_may e within = rw (e, le-ltb 67108864 (settles_of (with_command Settle ss) * (f.width * f.height)) within.settles) refl
 
-  change_may : (edit : Edit) → IsRectIn f.width f.height (rect_of edit) → changes_of ss + 1 ≡ changes_of (with_command (Change edit) ss) → AreWithin f (with_command (Change edit) ss) → limit_broken f n ss (Change edit) ≡ None
+  change_may : (edit : Edit) → IsRectIn f.width f.height (rect_of edit) → changes_of ss + 1 ≡ changes_of (with_command (Change edit) ss) → AreWithinLimits f (with_command (Change edit) ss) → limit_broken f n ss (Change edit) ≡ None
   change_may edit i e within = rw (lies_again f (rect_of edit) i, e, le-ltb 16777216 (changes_of (with_command (Change edit) ss) * f.tiles) within.changes) refl
 
-  limit_may : (c : Command) (some : 1 ≤ length ss) → AreWithin f (with_command c ss) → limit_broken f n ss c ≡ None
+  limit_may : (c : Command) (some : 1 ≤ length ss) → AreWithinLimits f (with_command c ss) → limit_broken f n ss c ≡ None
   limit_may (Change edit) some within = change_may edit (last_fits f.width f.height (last_of ss) edit (inside_parts (Change edit) some within).0) (sym (sum_is (Change edit) some within is_change)) within
   limit_may Settle some within = settle_may (sym (sum_is Settle some within is_settle)) within
   limit_may Show some within = refl
 
-  command_may : (c : Command) (some : 1 ≤ length ss) → AreWithin f (with_command c ss) → command_broken f n ss c ≡ None
+  command_may : (c : Command) (some : 1 ≤ length ss) → AreWithinLimits f (with_command c ss) → command_broken f n ss c ≡ None
   command_may c some within =
       let room : length (last_of ss) ≤ 4095 = omega (arith, (short_parts c some within).0, length-append (last_of ss) (c ∷ [])) in
       rw (ne_eqb (length ss) 0 (λ e. omega (arith, e, some)), le-ltb 4095 (length (last_of ss)) room) (limit_may c some within)
 
-  pub word_may : (w : Word) → IsNext w ss → AreWithin f (with_word w ss) → word_broken f n ss w ≡ None
+  pub word_may : (w : Word) → IsNext w ss → AreWithinLimits f (with_word w ss) → word_broken f n ss w ≡ None
   word_may words.Analyst next within = analyst_may within
   word_may words.End next within = absurd next
   word_may (words.Command c) next within = command_may c next within
 
-  less_word : (w : Word) → IsNext w ss → AreWithin f (with_word w ss) → AreWithin f ss
+  less_word : (w : Word) → IsNext w ss → AreWithinLimits f (with_word w ss) → AreWithinLimits f ss
   less_word words.Analyst next within = less_analyst within
   less_word words.End next within = absurd next
   less_word (words.Command c) next within = less_command c next within
 
-pub within_before : (f : Frame) (ws : List Word) (ss : Sections) → Goes ss ws → AreWithin f (built ss ws) → AreWithin f ss
+pub within_before : (f : Frame) (ws : List Word) (ss : Sections) → Goes ss ws → AreWithinLimits f (built ss ws) → AreWithinLimits f ss
 within_before f [] ss go within = within
 within_before f (w ∷ ws) ss go within = less_word f 0 ss w go.0 (within_before f ws (with_word w ss) go.1 within)
 
--- ---- a reader of sections
+-- ---- the parser of lines, line by line
 
-abbrev pub SectionsRead : Type 0
-SectionsRead = Result (Sections × List ℕ) InputFault
+abbrev pub after : Frame → Sections → Word → Parser Sections
+after f ss w = on_word (λ later. sections_parser f later []) ss w (word_broken f (line_count ss + 1) ss w)
 
-abbrev pub sections_end : Sections → List ℕ → SectionsRead
-sections_end ss rest = Ok (ss, rest)
+module _ (f : Frame) (ss : Sections) (more : Bool) where
+  same_word : (at : ℕ) (bytes : List ℕ) (w : Word) (o : Option InputFault) → on_word (λ later beyond place rest. sections_parser f later [] more at bytes) ss w o more at bytes ≡ on_word (λ later. sections_parser f later []) ss w o more at bytes
+  same_word at bytes w (Some fault) = refl
+  same_word at bytes words.Analyst None = refl
+  same_word at bytes words.End None = refl
+  same_word at bytes (words.Command c) None = refl
 
-abbrev pub sections_break : InputFault → SectionsRead
-sections_break fault = Err fault
+  same_line : (at : ℕ) (bytes : List ℕ) (o : Option Word) → on_line (λ later beyond place rest. sections_parser f later [] more at bytes) f ss o more at bytes ≡ and_then (word_or_fault (line_count ss + 1) o more at bytes) (λ w. after f ss w more)
+  same_line at bytes None = refl
+  same_line at bytes (Some w) = same_word at bytes w (word_broken f (line_count ss + 1) ss w)
 
-abbrev on_word : (Sections → List ℕ → SectionsRead) → Sections → Word → List ℕ → Option InputFault → SectionsRead
-on_word go ss w rest (Some fault) = sections_break fault
-on_word go ss words.Analyst rest None = go (with_word words.Analyst ss) rest
-on_word go ss words.End rest None = sections_end ss rest
-on_word go ss (words.Command c) rest None = go (with_command c ss) rest
+  ended : (b : Bool) → if_no_more b (broken NoEnd) ≡ and_then (if_no_more b (broken NoEnd)) (λ w. after f ss w b)
+  ended true = refl
+  ended false = refl
 
-abbrev on_line : (Sections → List ℕ → SectionsRead) → Frame → Sections → LineRead → SectionsRead
-on_line go f ss (Err true) = sections_break (ScriptLine (lines_in ss + 1))
-on_line go f ss (Err false) = sections_break NoEnd
-on_line go f ss (Ok x) = on_word go ss x.0 x.1 (word_broken f (lines_in ss + 1) ss x.0)
-
--- at most so many lines after some sections
-abbrev pub sections_at : Frame → ℕ → Sections → List ℕ → SectionsRead
-sections_at f zero ss bytes = sections_break NoEnd
-sections_at f (suc n) ss bytes = on_line (λ more rest. sections_at f n more rest) f ss (line_at bytes)
-
-module _ (f : Frame) (n : ℕ) (ss : Sections) (bytes : List ℕ) where
-  ends_here : (rest : List ℕ) → BeginsLine bytes words.End rest → sections_at f (suc n) ss bytes ≡ sections_end ss rest
-  ends_here rest b = rw (begins_again bytes words.End rest b) refl
-
-  pub none_here : IsNoLine bytes → sections_at f (suc n) ss bytes ≡ sections_break (ScriptLine (lines_in ss + 1))
-  none_here b = rw (none_again bytes b) refl
-
-  pub cut_here : IsCut bytes → sections_at f (suc n) ss bytes ≡ sections_break NoEnd
-  cut_here b = rw (cut_again bytes b) refl
-
-  broken_here : (w : Word) (rest : List ℕ) (fault : InputFault) → BeginsLine bytes w rest → word_broken f (lines_in ss + 1) ss w ≡ Some fault → sections_at f (suc n) ss bytes ≡ sections_break fault
-  broken_here w rest fault b e = rw (begins_again bytes w rest b, e) refl
-
-  goes_on : (w : Word) (rest : List ℕ) → BeginsLine bytes w rest → IsNext w ss → word_broken f (lines_in ss + 1) ss w ≡ None → sections_at f (suc n) ss bytes ≡ sections_at f n (with_word w ss) rest
-  goes_on words.Analyst rest b next e = rw (begins_again bytes words.Analyst rest b, e) refl
-  goes_on words.End rest b next e = absurd next
-  goes_on (words.Command c) rest b next e = rw (begins_again bytes (words.Command c) rest b, e) refl
-
-along : (f : Frame) (ws : List Word) (ss : Sections) (bytes mid : List ℕ) (n : ℕ) → AreLines bytes ws mid → Goes ss ws → AreWithin f (built ss ws) → sections_at f (length ws + n) ss bytes ≡ sections_at f n (built ss ws) mid
-along f [] ss bytes mid n a go within = let none : 0 + n ≡ n = omega arith in rw none (ap (sections_at f n ss) a)
-along f (w ∷ ws) ss bytes mid n a go within =
-    let count : length (w ∷ ws) + n ≡ suc (length ws + n) = omega arith in
-    let here = within_before f ws (with_word w ss) go.1 within in
-    rw count (goes_on f (length ws + n) ss bytes w a.0 a.1 go.0 (word_may f (lines_in ss + 1) ss w go.0 here) ∙ along f ws (with_word w ss) a.0 mid n a.2 go.1 within)
-
-lines_take : (ws : List Word) (bytes mid : List ℕ) → AreLines bytes ws mid → length ws + length mid ≤ length bytes
-lines_take [] bytes mid a = omega (arith, ap length a)
-lines_take (w ∷ ws) bytes mid a =
-    let b = a.1 in
-    omega (arith, lines_take ws a.0 mid a.2, ap length b.parts, length-append b.line (10 ∷ a.0))
-
--- as many lines as there are bytes, and one more
-abbrev pub read_sections : Frame → List ℕ → SectionsRead
-read_sections f bytes = sections_at f (suc (length bytes)) [] bytes
-
-module _ (f : Frame) (bytes : List ℕ) (ss : Sections) (mid : List ℕ) (b : StandBefore f bytes ss mid) where
-  -- after sections that stand
-  pub stands_read : (n : ℕ) × (read_sections f bytes ≡ sections_at f (suc n) ss mid)
-  stands_read =
-      let ws = words_of ss in
-      let all : built [] ws ≡ ss = built_all [] ss in
-      let n : ℕ = length bytes - length ws in
-      let count : suc (length bytes) ≡ length ws + suc n = omega (arith, lines_take ws bytes mid b.lines) in
-      let within : AreWithin f (built [] ws) = rw all b.within in
-      (n, ap (λ (k : ℕ). sections_at f k [] bytes) count ∙ along f ws [] bytes mid (suc n) b.lines (all_go [] ss) within ∙ ap (λ (t : Sections). sections_at f (suc n) t mid) all)
-
-pub sections_told : (f : Frame) (bytes : List ℕ) (ss : Sections) (rest : List ℕ) → AreSections f bytes ss rest → read_sections f bytes ≡ sections_end ss rest
-sections_told f bytes ss rest a =
-    let s = stands_read f bytes ss a.0 a.1 in
-    s.1 ∙ ends_here f s.0 ss a.0 rest a.2
-
--- they take bytes from the front
-pub sections_take : (f : Frame) (bytes : List ℕ) (ss : Sections) (rest : List ℕ) → AreSections f bytes ss rest → length rest ≤ length bytes
-sections_take f bytes ss rest a = omega (arith, lines_take (words_of ss) bytes a.0 a.1.lines, ap length a.2.parts, length-append a.2.line (10 ∷ rest))
-
-line_told : (f : Frame) (bytes : List ℕ) (fault : InputFault) → BreaksAtLine f bytes fault → read_sections f bytes ≡ sections_break fault
-line_told f bytes fault b =
-    let s = stands_read f bytes b.sections b.rest b.before in
-    elim b.why [
-      | inl n ↦ s.1 ∙ none_here f s.0 b.sections b.rest n.0 ∙ ap sections_break (sym n.1)
-      | inr n ↦ s.1 ∙ cut_here f s.0 b.sections b.rest n.0 ∙ ap sections_break (sym n.1)
+  pub by_line : (line : List ℕ) (at : ℕ) (bytes : List ℕ) → sections_parser f ss line more at bytes ≡ and_then (line_parser (line_count ss + 1) line more at bytes) (λ w. after f ss w more)
+  unfolding line_parser sections_parser
+  by_line line at [] = ended more
+  by_line line at (b ∷ bytes) = elim (cases_Bool (eqb b 10)) [
+    | inl t ↦ rw t (same_line (at + 1) bytes (word_in line))
+    | inr t ↦ elim (cases_Bool (nat_lt 63 (length line))) [
+      | inl l ↦ rw (t, l) refl
+      | inr l ↦ rw (t, l) (by_line (line ++ b ∷ []) (at + 1) bytes)
     ]
+  ]
 
-word_told : (f : Frame) (bytes : List ℕ) (fault : InputFault) → BreaksAtWord f bytes fault → read_sections f bytes ≡ sections_break fault
-word_told f bytes fault b =
-    let s = stands_read f bytes b.sections b.rest b.before in
-    s.1 ∙ broken_here f s.0 b.sections b.rest b.word b.others fault b.next b.broken
+goes : (f : Frame) (ss : Sections) (at : ℕ) (rest : List ℕ) (w : Word) → IsNext w ss → word_broken f (line_count ss + 1) ss w ≡ None → after f ss w false at rest ≡ sections_parser f (with_word w ss) [] false at rest
+goes f ss at rest words.Analyst n o = rw o refl
+goes f ss at rest words.End n o = absurd n
+goes f ss at rest (words.Command c) n o = rw o refl
 
-pub sections_break_told : (f : Frame) (bytes : List ℕ) (fault : InputFault) → SectionsBreak f bytes fault → read_sections f bytes ≡ sections_break fault
-sections_break_told f bytes fault (inl b) = line_told f bytes fault b
-sections_break_told f bytes fault (inr b) = word_told f bytes fault b
+goes_on : (f : Frame) (ss : Sections) (at : ℕ) (bytes : List ℕ) (w : Word) (rest : List ℕ) (b : BeginsLine bytes w rest) → IsNext w ss → word_broken f (line_count ss + 1) ss w ≡ None → sections_parser f ss [] false at bytes ≡ sections_parser f (with_word w ss) [] false ((at + length b.line) + 1) rest
+goes_on f ss at bytes w rest b next e = by_line f ss false [] at bytes ∙ ap (λ (r : Parse Word). and_then r (λ w. after f ss w false)) (line_begins (line_count ss + 1) false at bytes w rest b) ∙ goes f ss ((at + length b.line) + 1) rest w next e
+
+-- what follows begins at this place, and is parsed on after these sections
+abbrev GoesTo : Frame → Sections → ℕ → List ℕ → Sections → List ℕ → Type 0
+GoesTo f ss at bytes later mid = (end : ℕ) × (end + length mid ≡ at + length bytes) × (sections_parser f ss [] false at bytes ≡ sections_parser f later [] false end mid)
+
+line_place : (at : ℕ) (bytes : List ℕ) (w : Word) (rest : List ℕ) (b : BeginsLine bytes w rest) → ((at + length b.line) + 1) + length rest ≡ at + length bytes
+line_place at bytes w rest b = omega (arith, ap length b.parts, length-append b.line (10 ∷ rest))
+
+along : (f : Frame) (ws : List Word) (ss : Sections) (at : ℕ) (bytes mid : List ℕ) → AreLines bytes ws mid → Goes ss ws → AreWithinLimits f (built ss ws) → GoesTo f ss at bytes (built ss ws) mid
+along f [] ss at bytes mid a go within = (at, omega (arith, ap length a), ap (sections_parser f ss [] false at) a)
+along f (w ∷ ws) ss at bytes mid a go within =
+    let here = within_before f ws (with_word w ss) go.1 within in
+    let t = along f ws (with_word w ss) ((at + length a.1.line) + 1) a.0 mid a.2 go.1 within in
+    (t.0, omega (arith, t.1, line_place at bytes w a.0 a.1), goes_on f ss at bytes w a.0 a.1 go.0 (word_may f (line_count ss + 1) ss w go.0 here) ∙ t.2)
+
+module _ (f : Frame) (at : ℕ) (bytes : List ℕ) where
+  -- after sections that stand
+  stands_parsed : (ss : Sections) (mid : List ℕ) → StandBefore f bytes ss mid → GoesTo f [] at bytes ss mid
+  stands_parsed ss mid b =
+      let all : built [] (words_of ss) ≡ ss = built_all [] ss in
+      let t = along f (words_of ss) [] at bytes mid b.lines (all_go [] ss) (rw all b.within) in
+      subst (λ (s : Sections). GoesTo f [] at bytes s mid) all t
+
+  then_line : (ss : Sections) (mid : List ℕ) → StandBefore f bytes ss mid → (r : Parse Word) → ((place : ℕ) → line_parser (line_count ss + 1) [] false place mid ≡ r) → (place : ℕ) × (sections_parser f [] [] false at bytes ≡ and_then r (λ w. after f ss w false))
+  then_line ss mid b r e = let t = stands_parsed ss mid b in (t.0, t.2 ∙ by_line f ss false [] t.0 mid ∙ ap (λ (x : Parse Word). and_then x (λ w. after f ss w false)) (e t.0))
+
+  pub sections_told : (ss : Sections) (rest : List ℕ) → AreSections f bytes ss rest → (end : ℕ) × (end + length rest ≡ at + length bytes) × (sections_parser f [] [] false at bytes ≡ done ss end rest)
+  sections_told ss rest a =
+      let t = stands_parsed ss a.0 a.1 in (
+        (t.0 + length a.2.line) + 1,
+        omega (arith, t.1, line_place t.0 a.0 words.End rest a.2),
+        t.2 ∙ by_line f ss false [] t.0 a.0 ∙ ap (λ (x : Parse Word). and_then x (λ w. after f ss w false)) (line_begins (line_count ss + 1) false t.0 a.0 words.End rest a.2),
+      )
+
+  pub sections_break_told : (fault : InputFault) → SectionsBreak f bytes fault → sections_parser f [] [] false at bytes ≡ broken fault
+  sections_break_told fault (inl b) = elim b.why [
+    | inl n ↦ (then_line b.sections b.rest b.before (broken (ScriptLine (line_count b.sections + 1))) (λ place. line_refused _ false place b.rest n.0)).1 ∙ ap broken (sym n.1)
+    | inr n ↦ (then_line b.sections b.rest b.before (broken NoEnd) (λ place. line_missing _ false place b.rest n.0)).1 ∙ ap broken (sym n.1)
+  ]
+  sections_break_told fault (inr b) =
+      let t = stands_parsed b.sections b.rest b.before in
+      t.2 ∙ by_line f b.sections false [] t.0 b.rest ∙ ap (λ (x : Parse Word). and_then x (λ w. after f b.sections w false)) (line_begins (line_count b.sections + 1) false t.0 b.rest b.word b.others b.next)
+      ∙ ap (λ (o : Option InputFault). on_word (λ later. sections_parser f later []) b.sections b.word o false ((t.0 + length b.next.line) + 1) b.others) b.broken
 
 -- ---- sections stand, or break
 
 abbrev pub SectionsOrBreak : Frame → List ℕ → Type 0
 SectionsOrBreak f bytes = ((ss : Sections) × (rest : List ℕ) × AreSections f bytes ss rest) ⊎ ((fault : InputFault) × SectionsBreak f bytes fault)
 
-is_end : (w : Word) → (w ≡ words.End) ⊎ (w ≢ words.End)
+pub is_end : (w : Word) → (w ≡ words.End) ⊎ (w ≢ words.End)
 is_end words.Analyst = inr (λ e. cc)
 is_end words.End = inl refl
 is_end (words.Command c) = inr (λ e. cc)
 
-walk : (f : Frame) (whole : List ℕ) (n : ℕ) (ss : Sections) (bytes : List ℕ) → AreLines whole (words_of ss) bytes → AreWithin f ss → length bytes < n → SectionsOrBreak f whole
-walk f whole zero ss bytes a within lt = absurd (omega (arith, lt))
-walk f whole (suc n) ss bytes a within lt = elim (next_line bytes) [
-  | inr o ↦ elim o [
-    | inl none ↦ inr (ScriptLine (lines_in ss + 1), inl (record { sections = ss; rest = bytes; before = record { lines = a; within = within }; why = inl (none, refl) }))
-    | inr cut ↦ inr (NoEnd, inl (record { sections = ss; rest = bytes; before = record { lines = a; within = within }; why = inr (cut, refl) }))
-  ]
-  | inl l ↦
-      let w = l.0 in
-      elim (found_or_none (word_broken f (lines_in ss + 1) ss w)) [
-        | inl broken ↦ inr (broken.0, inr (record { sections = ss; rest = bytes; word = w; others = l.1; before = record { lines = a; within = within }; next = l.2; broken = broken.1 }))
-        | inr may ↦ elim (is_end w) [
-          | inl e ↦ inl (ss, l.1, (bytes, record { lines = a; within = within }, subst (λ (x : Word). BeginsLine bytes x l.1) e l.2))
-          | inr other ↦
-              let now = words_with w ss other (has_begun f (lines_in ss + 1) ss within w may) in
-              walk f whole n (with_word w ss) l.1 (rw now (more_lines whole (words_of ss) bytes w l.1 a l.2)) (stays_within f (lines_in ss + 1) ss within w may)
-              (omega (arith, lt, ap length l.2.parts, length-append l.2.line (10 ∷ l.1)))
-        ]
-      ]
-]
+module _ (f : Frame) (whole : List ℕ) where
+  at_line : (ss : Sections) (bytes : List ℕ) → AreLines whole (words_of ss) bytes → AreWithinLimits f ss → IsNoLine bytes ⊎ IsCutLine bytes → SectionsOrBreak f whole
+  at_line ss bytes a within (inl n) = inr (ScriptLine (line_count ss + 1), inl (record { sections = ss; rest = bytes; before = record { lines = a; within = within }; why = inl (n, refl) }))
+  at_line ss bytes a within (inr n) = inr (NoEnd, inl (record { sections = ss; rest = bytes; before = record { lines = a; within = within }; why = inr (n, refl) }))
 
-pub none_within : (f : Frame) → AreWithin f []
+  walk : (ss : Sections) (line bytes : List ℕ) → AreLines whole (words_of ss) (line ++ bytes) → AreWithinLimits f ss → list_all is_in_line line ≡ true → length line ≤ 64 → SectionsOrBreak f whole
+  walk ss line [] a within all le = at_line ss (line ++ []) a within (inr (omega (arith, le, length-append line []), in_line_all (line ++ []) (rw (append-nil line) all)))
+  walk ss line (b ∷ bytes) a within all le = elim (cases_Bool (eqb b 10)) [
+    | inl t ↦
+        let parts : line ++ b ∷ bytes ≡ line ++ 10 ∷ bytes = ap (λ (x : ℕ). line ++ x ∷ bytes) (eqb-true b 10 t) in
+        elim (found_or_none (word_in line)) [
+          | inr n ↦ at_line ss (line ++ b ∷ bytes) a within (inl (inr (record { line = line; others = bytes; parts = parts; whole = in_line_all line all; short = le; spells = λ w s. let q = sym n ∙ word_again line w s in cc })))
+          | inl w ↦
+              let begins : BeginsLine (line ++ b ∷ bytes) w.0 bytes = record { line = line; parts = parts; short = le; spells = word_found line w.0 w.1 } in
+              elim (found_or_none (word_broken f (line_count ss + 1) ss w.0)) [
+                | inl fault ↦ inr (fault.0, inr (record { sections = ss; rest = line ++ b ∷ bytes; word = w.0; others = bytes; before = record { lines = a; within = within }; next = begins; broken = fault.1 }))
+                | inr may ↦ elim (is_end w.0) [
+                  | inl e ↦ inl (ss, bytes, (line ++ b ∷ bytes, record { lines = a; within = within }, subst (λ (x : Word). BeginsLine (line ++ b ∷ bytes) x bytes) e begins))
+                  | inr other ↦
+                      let now = words_with w.0 ss other (has_begun f (line_count ss + 1) ss within w.0 may) in
+                      walk (with_word w.0 ss) [] bytes (rw now (more_lines whole (words_of ss) (line ++ b ∷ bytes) w.0 bytes a begins)) (stays_within f (line_count ss + 1) ss within w.0 may) refl (omega arith)
+                ]
+              ]
+        ]
+    | inr t ↦
+        let in_line : list_all is_in_line (line ++ b ∷ []) ≡ true = all_append is_in_line line (b ∷ []) all (rw t refl) in
+        let parts : line ++ b ∷ bytes ≡ (line ++ b ∷ []) ++ bytes = sym (append_assoc line (b ∷ []) bytes) in
+        elim (cases_Bool (nat_lt 63 (length line))) [
+          | inl l ↦ at_line ss (line ++ b ∷ bytes) a within (inl (inl (line ++ b ∷ [], bytes, parts, omega (arith, le, ltb-true 63 (length line) l, length-append line (b ∷ [])), in_line_all (line ++ b ∷ []) in_line)))
+          | inr l ↦ walk ss (line ++ b ∷ []) bytes (subst (AreLines whole (words_of ss)) parts a) within in_line (omega (arith, ltb-false 63 (length line) l, length-append line (b ∷ [])))
+        ]
+  ]
+
+pub none_within : (f : Frame) → AreWithinLimits f []
 none_within f = record { analysts = omega arith; short = tt; inside = tt; settles = omega arith; changes = omega arith }
 
 pub sections_or_break : (f : Frame) (bytes : List ℕ) → SectionsOrBreak f bytes
-sections_or_break f bytes = walk f bytes (suc (length bytes)) [] bytes refl (none_within f) (omega arith)
+sections_or_break f bytes = walk f bytes [] [] bytes refl (none_within f) refl (omega arith)

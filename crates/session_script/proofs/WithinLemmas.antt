@@ -15,7 +15,7 @@ use Rattle.pgm_planes.specs.declared.fault.InputFault.TheVariants.{TooManyAnalys
 use Rattle.session_script.specs.declared.word.Word.{Word}
 use Rattle.session_script.specs.declared.word.Word.TheVariants as words
 use Rattle.session_script.specs.Scripts.{BeginsLine, AreLines}
-use Rattle.session_script.specs.Sections.{Sections, Frame, settles_of, changes_of, words_of, AreWithin, lies_in, last_of, limit_broken, command_broken, word_broken, with_command, with_word}
+use Rattle.session_script.specs.Sections.{Sections, Frame, settles_of, changes_of, words_of, AreWithinLimits, lies_in, last_of, limit_broken, command_broken, word_broken, with_command, with_word}
 use Rattle.session_script.proofs.SectionLemmas.{not_empty, counted_added, count_by_pushed, words_begun, words_added}
 use Rattle.sums_and_lists.proofs.Lists.{all_push}
 
@@ -46,11 +46,11 @@ lies f r e =
 
 -- ---- one word more
 
-module _ (f : Frame) (n : ℕ) (ss : Sections) (within : AreWithin f ss) where
+module _ (f : Frame) (n : ℕ) (ss : Sections) (within : AreWithinLimits f ss) where
   none_more : (test : Command → Bool) → sum_by (count_by test) (ss ++ [] ∷ []) ≡ sum_by (count_by test) ss
   none_more test = let e = sum_by-append (count_by test) ss ([] ∷ []) in omega (arith, e)
 
-  begins_section : word_broken f n ss words.Analyst ≡ None → AreWithin f (ss ++ [] ∷ [])
+  begins_section : word_broken f n ss words.Analyst ≡ None → AreWithinLimits f (ss ++ [] ∷ [])
   begins_section e =
       let room = ltb-false 7 (length ss) (unless (nat_lt 7 (length ss)) (TooManyAnalysts n) None e).0 in
       record {
@@ -84,7 +84,7 @@ module _ (f : Frame) (n : ℕ) (ss : Sections) (within : AreWithin f ss) where
   changes_fit Settle e = let same : changes_of ss + 0 ≡ changes_of ss = omega arith in rw same within.changes
   changes_fit Show e = let same : changes_of ss + 0 ≡ changes_of ss = omega arith in rw same within.changes
 
-  adds_command : (c : Command) → command_broken f n ss c ≡ None → AreWithin f (with_command c ss)
+  adds_command : (c : Command) → command_broken f n ss c ≡ None → AreWithinLimits f (with_command c ss)
   adds_command c e =
       let some = begun c e in
       let parts = behind_begun c e in
@@ -99,7 +99,7 @@ module _ (f : Frame) (n : ℕ) (ss : Sections) (within : AreWithin f ss) where
         changes = rw (counted_added (count_by is_change) ss c (cond (is_change c) 1 0) some (count_by_pushed is_change (last_of ss) c)) (changes_fit c parts.1);
       }
 
-  pub stays_within : (w : Word) → word_broken f n ss w ≡ None → AreWithin f (with_word w ss)
+  pub stays_within : (w : Word) → word_broken f n ss w ≡ None → AreWithinLimits f (with_word w ss)
   stays_within words.Analyst e = begins_section e
   stays_within words.End e = within
   stays_within (words.Command c) e = adds_command c e

@@ -1,5 +1,5 @@
 -- A line spells one word at most, and whether it spells any can be told: a reader of a line that is the relation.
-use Rattle.std.proofs.Common.{◌≡◌, ℕ, cond, eqb, ◌⊎◌, inl, inr, List, [], ◌∷◌, ◌++◌, Option, Some, None, refl, ap}
+use Rattle.std.proofs.Common.{◌≡◌, ℕ, eqb, ◌⊎◌, inl, inr, List, [], ◌∷◌, ◌++◌, Option, Some, None, refl, ap}
 use Rattle.std.specs.Prelude.{codes}
 use Rattle.std.proofs.lemmas.Bool.{eqb-true, cases_Bool}
 use Rattle.raster_model.specs.declared.script.Command.TheVariants.{Change, Settle, Show}
@@ -8,76 +8,35 @@ use Rattle.raster_model.specs.declared.script.Rect.{Rect}
 use Rattle.session_script.specs.declared.word.Word.{Word}
 use Rattle.session_script.specs.declared.word.Word.TheVariants as words
 use Rattle.session_script.specs.Lines.{SpellsEdit, Spells}
-use Rattle.session_script.specs.Fields.{rect_in}
+use Rattle.session_script.specs.Fields.{rect_in, after_name, if_ends, of_rect, of_fields, or_else, masks, unmasks, edit_in, command_in, word_in}
 use Rattle.session_script.proofs.FieldLemmas.{rect_found, rect_again}
 
--- what follows a name in front of a line
-abbrev behind : List ℕ → List ℕ → Option (List ℕ)
-behind [] line = Some line
-behind (b ∷ name) [] = None
-behind (b ∷ name) (c ∷ line) = cond (eqb b c) (behind name line) None
-
-behind_found : (name line rest : List ℕ) → behind name line ≡ Some rest → line ≡ name ++ rest
-behind_found [] line rest e = cc
-behind_found (b ∷ name) [] rest e = absurd cc
-behind_found (b ∷ name) (c ∷ line) rest e = elim (cases_Bool (eqb b c)) [
-  | inl t ↦ rw (eqb-true b c t) (ap (λ (x : List ℕ). c ∷ x) (behind_found name line rest (rw t at e)))
+after_found : (name line rest : List ℕ) → after_name name line ≡ Some rest → line ≡ name ++ rest
+after_found [] line rest e = cc
+after_found (b ∷ name) [] rest e = absurd cc
+after_found (b ∷ name) (c ∷ line) rest e = elim (cases_Bool (eqb b c)) [
+  | inl t ↦ rw (eqb-true b c t) (ap (λ (x : List ℕ). c ∷ x) (after_found name line rest (rw t at e)))
   | inr t ↦ absurd (let q = rw t at e in cc)
 ]
 
--- the word, where nothing follows its name
-abbrev if_ends : Word → Option (List ℕ) → Option Word
-if_ends w None = None
-if_ends w (Some []) = Some w
-if_ends w (Some (b ∷ rest)) = None
-
-if_ends_found : (w v : Word) (name line : List ℕ) (o : Option (List ℕ)) → behind name line ≡ o → if_ends w o ≡ Some v → (line ≡ name ++ []) × (v ≡ w)
+if_ends_found : (w v : Word) (name line : List ℕ) (o : Option (List ℕ)) → after_name name line ≡ o → if_ends w o ≡ Some v → (line ≡ name ++ []) × (v ≡ w)
 if_ends_found w v name line None b e = absurd cc
-if_ends_found w v name line (Some []) b e = (behind_found name line [] b, cc)
+if_ends_found w v name line (Some []) b e = (after_found name line [] b, cc)
 if_ends_found w v name line (Some (c ∷ rest)) b e = absurd cc
-
--- the edit, where a rectangle follows its name
-abbrev of_rect : (Rect → Word) → Option Rect → Option Word
-of_rect f None = None
-of_rect f (Some r) = Some (f r)
-
-abbrev of_fields : (Rect → Word) → Option (List ℕ) → Option Word
-of_fields f None = None
-of_fields f (Some fields) = of_rect f (rect_in fields)
 
 of_rect_found : (f : Rect → Word) (v : Word) (o : Option Rect) → of_rect f o ≡ Some v → (r : Rect) × (o ≡ Some r) × (v ≡ f r)
 of_rect_found f v None e = absurd cc
 of_rect_found f v (Some r) e = (r, refl, cc)
 
-of_fields_found : (f : Rect → Word) (v : Word) (name line : List ℕ) (o : Option (List ℕ)) → behind name line ≡ o → of_fields f o ≡ Some v → (r : Rect) × SpellsEdit name line r × (v ≡ f r)
+of_fields_found : (f : Rect → Word) (v : Word) (name line : List ℕ) (o : Option (List ℕ)) → after_name name line ≡ o → of_fields f o ≡ Some v → (r : Rect) × SpellsEdit name line r × (v ≡ f r)
 of_fields_found f v name line None b e = absurd cc
 of_fields_found f v name line (Some fields) b e =
     let r = of_rect_found f v (rect_in fields) e in
-    (r.0, (fields, behind_found name line fields b, rect_found fields r.0 r.1), r.2)
-
-abbrev or_else : Option Word → Option Word → Option Word
-or_else None o = o
-or_else (Some w) o = Some w
+    (r.0, (fields, after_found name line fields b, rect_found fields r.0 r.1), r.2)
 
 either_found : (a b : Option Word) (v : Word) → or_else a b ≡ Some v → (a ≡ Some v) ⊎ (b ≡ Some v)
 either_found None b v e = inr e
 either_found (Some w) b v e = inl e
-
-abbrev masks : Rect → Word
-masks r = words.Command (Change (Mask r))
-
-abbrev unmasks : Rect → Word
-unmasks r = words.Command (Change (Unmask r))
-
-abbrev edit_in : List ℕ → Option Word
-edit_in line = or_else (of_fields masks (behind (codes "mask") line)) (of_fields unmasks (behind (codes "unmask") line))
-
-abbrev command_in : List ℕ → Option Word
-command_in line = or_else (if_ends (words.Command Settle) (behind (codes "settle") line)) (or_else (if_ends (words.Command Show) (behind (codes "show") line)) (edit_in line))
-
--- the word that a line spells
-unfoldable pub word_in : List ℕ → Option Word
-word_in line = or_else (if_ends words.Analyst (behind (codes "analyst") line)) (or_else (if_ends words.End (behind (codes "end") line)) (command_in line))
 
 edit_found : (line : List ℕ) (w : Word) → edit_in line ≡ Some w → Spells line w
 edit_found line w e = elim (either_found _ _ w e) [

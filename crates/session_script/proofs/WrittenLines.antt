@@ -1,8 +1,8 @@
 -- What is written of scripts spells them.
-use Rattle.std.proofs.Common.{◌≡◌, ℕ, suc, ◌+◌, ◌*◌, ◌/◌, ◌%◌, ◌-◌, ◌≤◌, ◌<◌, true, false, List, [], ◌∷◌, ◌++◌, length, decimal, flat_map, inl, inr, refl, sym, ap, ◌∙◌, append_assoc, arith}
+use Rattle.std.proofs.Common.{◌≡◌, ℕ, suc, ◌+◌, ◌*◌, ◌/◌, ◌%◌, ◌≤◌, ◌<◌, true, false, List, [], ◌∷◌, ◌++◌, length, decimal, flat_map, inl, inr, refl, sym, ap, ◌∙◌, append_assoc, arith}
 use Rattle.std.specs.Prelude.{codes, Some}
-use Rattle.std.specs.List.{list_all, AllByRecursion}
-use Rattle.std.proofs.lemmas.Bool.{and_parts, cases_lt, lt-ltb, ne_eqb}
+use Rattle.std.specs.List.{AllByRecursion}
+use Rattle.std.proofs.lemmas.Bool.{cases_lt, ne_eqb}
 use Rattle.std.proofs.lemmas.Fmt.{decimal_by_steps, length-decimal-le}
 use Rattle.std.proofs.lemmas.List.{length-append, length-map}
 use Rattle.std.proofs.lemmas.Grind.{flat_map-append}
@@ -11,15 +11,16 @@ use Rattle.raster_model.specs.declared.script.Command.TheVariants.{Change, Settl
 use Rattle.raster_model.specs.declared.script.Edit.{Edit}
 use Rattle.raster_model.specs.declared.script.Edit.TheVariants.{Mask, Unmask}
 use Rattle.raster_model.specs.declared.script.Rect.{Rect}
+use Rattle.raster_model.specs.declared.script.Script.{Script}
 use Rattle.raster_model.specs.Scripts.{IsRectIn, rect_of, CommandsFit}
-use Rattle.pgm_planes.specs.Gaps.{is_digit, begins, is_number, goes_on_to, number_of}
-use Rattle.pgm_planes.proofs.SampleLemmas.{all_append}
+use Rattle.pgm_planes.specs.Gaps.{begins, is_number, goes_on_to, capped_number}
 use Rattle.session_script.specs.declared.word.Word.{Word}
 use Rattle.session_script.specs.declared.word.Word.TheVariants as words
 use Rattle.session_script.specs.Lines.{is_zero, is_plain, SpellsRect, Spells}
 use Rattle.session_script.specs.Scripts.{BeginsLine, AreLines, AreSections}
-use Rattle.session_script.specs.Sections.{Sections, Frame, command_words, section_words, words_of, AreWithin}
-use Rattle.session_script.specs.Text.{field_text, rect_text, word_text, line_text, command_line, section_text, scripts_text}
+use Rattle.session_script.specs.Sections.{Sections, Frame, command_words, section_words, words_of, sections_of, AreWithinLimits}
+use Rattle.text_lines.specs.Text.{field_text, rect_text}
+use Rattle.session_script.specs.Text.{word_text, line_text, command_line, section_text, scripts_text}
 use Rattle.pgm_planes.proofs.TextLemmas.{digit, goes_further, number_further}
 
 -- ---- numbers
@@ -67,7 +68,7 @@ plain_decimal n le =
       | inr ge ↦ plain_lead (decimal n) s.number (s.lead (omega (arith, ge)))
     ]
 
-pub value_of : (n : ℕ) → n ≤ 4294967295 → n ≡ number_of (decimal n)
+pub value_of : (n : ℕ) → n ≤ 4294967295 → n ≡ capped_number (decimal n)
 value_of n le = let v = (numeral n le).value in omega arith
 
 -- ---- rectangles
@@ -80,7 +81,7 @@ pub record IsSmall (r : Rect) : Type 0 where
   pub bottom : r.y1 ≤ 4095
 
 spells_rect : (r : Rect) → IsSmall r → SpellsRect (rect_text r) r
-unfolding rect_text
+unfolding rect_text field_text
 spells_rect r s = record {
   left = decimal r.x0;
   top = decimal r.y0;
@@ -95,7 +96,7 @@ four_digits : (n : ℕ) → n ≤ 4095 → length (decimal n) ≤ 4
 four_digits n le = length-decimal-le 4 n (omega arith) (omega (arith, le)) (omega (arith, le))
 
 rect_short : (r : Rect) → IsSmall r → length (rect_text r) ≤ 20
-unfolding rect_text
+unfolding rect_text field_text
 rect_short r s =
     let a = four_digits r.x0 s.left in
     let b = four_digits r.y0 s.top in
@@ -185,7 +186,7 @@ words_few : (ss : Sections) → AllByRecursion (λ (commands : List Command). le
 words_few [] a = omega arith
 words_few (s ∷ ss) a = omega (arith, words_few ss a.1, a.0, length-append (section_words s) (words_of ss), length-map s words.Command)
 
-module _ (f : Frame) (wide : f.width ≤ 4096) (high : f.height ≤ 4096) (ss : Sections) (within : AreWithin f ss) where
+module _ (f : Frame) (wide : f.width ≤ 4096) (high : f.height ≤ 4096) (ss : Sections) (within : AreWithinLimits f ss) where
   writable : AllByRecursion IsWritable (words_of ss)
   writable = sections_writable f.width f.height wide high ss within.inside
 
@@ -201,3 +202,12 @@ module _ (f : Frame) (wide : f.width ≤ 4096) (high : f.height ≤ 4096) (ss : 
   pub scripts_short : length (scripts_text ss) ≤ 900000
   scripts_short =
       omega (arith, lines_short (words_of ss) writable, words_few ss within.short, within.analysts, ap length (section_lines ss), length-append (flat_map section_text ss) (line_text words.End))
+
+-- ---- scripts as sections
+
+abbrev pub script_text : Script → List ℕ
+script_text script = section_text script.commands.items
+
+pub scripts_as_sections : (scripts : List Script) → flat_map script_text scripts ≡ flat_map section_text (sections_of scripts)
+scripts_as_sections [] = refl
+scripts_as_sections (x ∷ scripts) = ap (λ (t : List ℕ). script_text x ++ t) (scripts_as_sections scripts)

@@ -14,12 +14,12 @@ use Rattle.pgm_planes.specs.declared.fault.Role.{Role}
 use Rattle.pgm_planes.specs.declared.fault.Role.TheVariants.{Phase, Weight, Mask}
 use Rattle.pgm_planes.specs.declared.spelling.Spelling.TheVariants.{Raw}
 use Rattle.pgm_planes.specs.Planes.{PlaneOf, HasMaxval, IsSize, IsPlane, IsPlaneIn, is_wide, plane_of}
-use Rattle.pgm_planes.specs.Text.{raster_text, header_text, plane_text}
+use Rattle.pgm_planes.specs.Text.{raster_text, plane_header_text, plane_text}
 use Rattle.pgm_planes.proofs.TextLemmas.{written_is_read}
 use Rattle.session_script.specs.declared.session_use.SessionUse.{SessionUse}
 use Rattle.session_script.specs.declared.session_use.SessionUse.TheVariants.{Alone}
 use Rattle.session_script.specs.Scripts.{meant, IsScriptPart}
-use Rattle.session_script.specs.Sections.{Sections, Frame, sections_of, frame_of, AreWithin}
+use Rattle.session_script.specs.Sections.{Sections, Frame, sections_of, frame_of, AreWithinLimits}
 use Rattle.session_script.specs.Sessions.{session_of, ArePlanes, frame_in, IsSessionIn}
 use Rattle.session_script.specs.Text.{mask_text, scripts_text, session_text}
 use Rattle.session_script.proofs.SectionLemmas.{length_is}
@@ -54,31 +54,19 @@ raster_short false (v ∷ vs) = omega (arith, raster_short false vs)
 digits : (n : ℕ) → n ≤ 65535 → length (decimal n) ≤ 5
 digits n le = length-decimal-le 5 n (omega arith) (omega (arith, le)) (omega (arith, le))
 
-header_short : (w h m : ℕ) → w ≤ 4096 → h ≤ 4096 → m ≤ 65535 → length (header_text w h m) ≤ 30
-unfolding header_text
+header_short : (w h m : ℕ) → w ≤ 4096 → h ≤ 4096 → m ≤ 65535 → length (plane_header_text w h m) ≤ 30
+unfolding plane_header_text
 header_short w h m a b c =
     let x = digits w (omega (arith, a)) in
     let y = digits h (omega (arith, b)) in
     let z = digits m c in
-    let one : List ℕ = (10 ∷ []) ++ decimal m in
-    omega (
-      arith,
-      x,
-      y,
-      z,
-      length-append ((80 ∷ 53 ∷ 10 ∷ []) ++ decimal w) (((32 ∷ []) ++ decimal h) ++ (((10 ∷ []) ++ decimal m) ++ 10 ∷ [])),
-      length-append ((32 ∷ []) ++ decimal h) (((10 ∷ []) ++ decimal m) ++ 10 ∷ []),
-      length-append ((10 ∷ []) ++ decimal m) (10 ∷ []),
-      length-append (80 ∷ 53 ∷ 10 ∷ []) (decimal w),
-      length-append (32 ∷ []) (decimal h),
-      length-append (10 ∷ []) (decimal m),
-    )
+    omega (arith, x, y, z, length-append (decimal w) (32 ∷ (decimal h ++ 10 ∷ (decimal m ++ 10 ∷ []))), length-append (decimal h) (10 ∷ (decimal m ++ 10 ∷ [])), length-append (decimal m) (10 ∷ []))
 
 plane_short : (role : Role) (p : PlaneOf) → IsPlane role p → p.maxval ≤ 65535 → length (plane_text p) ≤ 9000000
 unfolding plane_text
 plane_short role p i le =
     let s = i.size in
-    omega (arith, header_short p.width p.height p.maxval s.across.1 s.along.1 le, raster_short (is_wide p.maxval) p.samples, i.count, s.pixels, length-append (header_text p.width p.height p.maxval) (raster_text (is_wide p.maxval) p.samples))
+    omega (arith, header_short p.width p.height p.maxval s.across.1 s.along.1 le, raster_short (is_wide p.maxval) p.samples, i.count, s.pixels, length-append (plane_header_text p.width p.height p.maxval) (raster_text (is_wide p.maxval) p.samples))
 
 -- ---- scripts
 
@@ -118,7 +106,7 @@ module _ (session : Session) (fits : session.scene.weights.maxval < 2 ^ 16) wher
   tiles : (frame_in side phase).tiles ≡ tiles_of session.scene.tiling
   tiles = ap (λ (f : Frame). f.tiles) (sym frame)
 
-  within : AreWithin (frame_in side phase) sections
+  within : AreWithinLimits (frame_in side phase) sections
   within = record {
     analysts = omega (arith, session.analysts.1, length_is session.scripts.items, session.scripts.ok.0);
     short = all_short session.scripts.items session.short;
@@ -188,6 +176,6 @@ module _ (session : Session) (fits : session.scene.weights.maxval < 2 ^ 16) wher
     short = omega (arith, length-append (session_text (session_of session)) rest, text_short);
   }
 
--- what `WrittenIsRead` says
+-- what `WrittenSessionIsRead` says
 pub written_again : (usage : SessionUse) (session : Session) (rest : List ℕ) → session.scene.weights.maxval < 2 ^ 16 → (usage ≡ Alone → rest ≡ []) → IsSessionIn usage session.scene.tiling.side (session_text (session_of session) ++ rest) (session_of session) rest
 written_again usage session rest fits ends = session_again session fits usage rest ends

@@ -11,18 +11,18 @@ use Rattle.session_script.specs.Sessions.{SessionOf, session_of, IsSameSession, 
 use Rattle.raster_model.specs.Limits.{max_session_bytes}
 
 -- where the bytes are told, they have this fault; or a fault of the source was counted; or memory ran out, which has no cause
-abbrev pub HasCause : SessionUse → ℕ → Call → SessionFault → Type 0
-HasCause usage side c (Input fault) = IfSome c.told (λ bytes. HasFault usage side bytes fault)
-HasCause usage side c ReadFault = HasRisen c.before c.after
-HasCause usage side c Memory = ⊤
+abbrev pub HasSessionCause : SessionUse → ℕ → Call → SessionFault → Type 0
+HasSessionCause usage side c (Input fault) = IfSome c.told (λ bytes. HasFault usage side bytes fault)
+HasSessionCause usage side c ReadFault = HasRisen c.before c.after
+HasSessionCause usage side c Memory = ⊤
 
 -- Bytes that are the text of the session s and then `rest` are read as it, and `rest` is left; or a fault of the source was
 -- counted, or memory ran out.
-abbrev pub IsReadAs : Call → SessionOf → List ℕ → Result Session SessionFault → Type 0
-IsReadAs c s rest (Ok session) = IsSameSession (session_of session) s × (c.left ≡ Some rest)
-IsReadAs c s rest (Err (Input fault)) = ⊥
-IsReadAs c s rest (Err ReadFault) = HasRisen c.before c.after
-IsReadAs c s rest (Err Memory) = ⊤
+abbrev pub IsReadAsSession : Call → SessionOf → List ℕ → Result Session SessionFault → Type 0
+IsReadAsSession c s rest (Ok session) = IsSameSession (session_of session) s × (c.left ≡ Some rest)
+IsReadAsSession c s rest (Err (Input fault)) = ⊥
+IsReadAsSession c s rest (Err ReadFault) = HasRisen c.before c.after
+IsReadAsSession c s rest (Err Memory) = ⊤
 
 -- Bytes that have this fault are refused with it; or one of the same happened.
 abbrev pub IsRefusedFor : Call → InputFault → Result Session SessionFault → Type 0

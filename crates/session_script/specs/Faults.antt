@@ -8,9 +8,9 @@ use Rattle.pgm_planes.specs.declared.fault.Role.{Role}
 use Rattle.session_script.specs.declared.fault.SessionFault.{SessionFault}
 use Rattle.session_script.specs.declared.fault.SessionFault.TheVariants as session_faults
 
-abbrev pub fault_of_feed : FeedFault → SessionFault
-fault_of_feed feed_faults.ReadFault = session_faults.ReadFault
-fault_of_feed feed_faults.TooLong = session_faults.Input faults.TooLong
+abbrev pub session_fault_of_feed : FeedFault → SessionFault
+session_fault_of_feed feed_faults.ReadFault = session_faults.ReadFault
+session_fault_of_feed feed_faults.TooLong = session_faults.Input faults.TooLong
 
 abbrev pub fault_of_plane : Role → ReadPlaneFault → SessionFault
 fault_of_plane role (plane_faults.Plane fault) = session_faults.Input (faults.Plane role fault)

@@ -16,8 +16,8 @@ abbrev pub NoBreakOfSession : Type 0
 NoBreakOfSession = (usage : SessionUse) (side at : ℕ) (bytes : List ℕ) (s : SessionOf) (rest : List ℕ) (fault : InputFault) → IsSessionIn usage side bytes s rest → SessionBreak usage side at bytes fault → ⊥
 
 -- bytes have one first break
-abbrev pub OneBreak : Type 0
-OneBreak = (usage : SessionUse) (side at : ℕ) (bytes : List ℕ) (e f : InputFault) → SessionBreak usage side at bytes e → SessionBreak usage side at bytes f → e ≡ f
+abbrev pub OneSessionBreak : Type 0
+OneSessionBreak = (usage : SessionUse) (side at : ℕ) (bytes : List ℕ) (e f : InputFault) → SessionBreak usage side at bytes e → SessionBreak usage side at bytes f → e ≡ f
 
 -- bytes have one fault, and none where they are a session's text and then others
 abbrev pub OneFault : Type 0
@@ -32,5 +32,5 @@ OneSession = (usage : SessionUse) (side : ℕ) (bytes : List ℕ) (s t : Session
 
 -- What is written of a session is its text: before a report whatever follows, and alone where nothing follows. A maxval is a
 -- `u16`.
-abbrev pub WrittenIsRead : Type 0
-WrittenIsRead = (usage : SessionUse) (session : Session) (rest : List ℕ) → session.scene.weights.maxval < 2 ^ 16 → (usage ≡ Alone → rest ≡ []) → IsSessionIn usage session.scene.tiling.side (session_text (session_of session) ++ rest) (session_of session) rest
+abbrev pub WrittenSessionIsRead : Type 0
+WrittenSessionIsRead = (usage : SessionUse) (session : Session) (rest : List ℕ) → session.scene.weights.maxval < 2 ^ 16 → (usage ≡ Alone → rest ≡ []) → IsSessionIn usage session.scene.tiling.side (session_text (session_of session) ++ rest) (session_of session) rest

@@ -2,12 +2,12 @@ pub mod Faults
 pub mod Lines
 pub mod Fields
 pub mod Sections
-pub mod Building
 pub mod Scripts
 pub mod Reaching
 pub mod Sessions
 pub mod Causes
+pub mod Parsing
+pub mod Building
 pub mod Making
 pub mod Text
-pub mod Writing
 pub mod Laws

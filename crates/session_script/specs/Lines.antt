@@ -3,7 +3,7 @@ use Rattle.std.specs.Prelude.{◌≡◌, ℕ, ◌==◌, ◌||◌, ◌&&◌, not,
 use Rattle.raster_model.specs.declared.script.Command.TheVariants.{Change, Settle, Show}
 use Rattle.raster_model.specs.declared.script.Edit.TheVariants.{Mask, Unmask}
 use Rattle.raster_model.specs.declared.script.Rect.{Rect}
-use Rattle.pgm_planes.specs.Gaps.{begins, is_number, number_of}
+use Rattle.pgm_planes.specs.Gaps.{begins, is_number, capped_number}
 use Rattle.session_script.specs.declared.word.Word.{Word}
 use Rattle.session_script.specs.declared.word.Word.TheVariants as words
 
@@ -25,7 +25,7 @@ pub record SpellsRect (bytes : List ℕ) (rect : Rect) : Type 0 where
   pub bottom : List ℕ
   pub parts : bytes ≡ 32 ∷ (left ++ (32 ∷ (top ++ (32 ∷ (right ++ (32 ∷ bottom))))))
   pub plain : IsTrue (is_plain left) × IsTrue (is_plain top) × IsTrue (is_plain right) × IsTrue (is_plain bottom)
-  pub corners : rect ≡ rect_by (number_of left) (number_of top) (number_of right) (number_of bottom)
+  pub corners : rect ≡ rect_by (capped_number left) (capped_number top) (capped_number right) (capped_number bottom)
 
 -- the name of an edit and a rectangle
 abbrev pub SpellsEdit : List ℕ → List ℕ → Rect → Type 0

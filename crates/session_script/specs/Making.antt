@@ -1,12 +1,24 @@
--- A session made of planes and scripts: a word of helpers, which no clause of a public function cites.
-use Rattle.std.specs.Prelude.{◌≡◌}
+-- A session made of planes and scripts: words of helpers, which no clause of a public function cites.
+use Rattle.std.specs.Prelude.{◌≡◌, ℕ, Result, Ok, Err}
+use Rattle.insar_ports.specs.Calls.{Call}
+use Rattle.raster_model.specs.declared.session.Session.{Session}
 use Rattle.raster_model.specs.Masks.{IsMaskOf}
-use Rattle.pgm_planes.specs.Planes.{PlaneOf}
+use Rattle.session_script.specs.declared.fault.SessionFault.{SessionFault}
+use Rattle.session_script.specs.declared.session_use.SessionUse.{SessionUse}
+use Rattle.session_script.specs.Parsing.{ThreePlanes, IsOutcome, session_parser}
 use Rattle.session_script.specs.Sections.{Sections}
-use Rattle.session_script.specs.Sessions.{SessionOf, open_in}
+use Rattle.session_script.specs.Sessions.{SessionOf, session_of, mask_open_in}
 
-pub record IsMadeOf (phase weights mask : PlaneOf) (scripts : Sections) (s : SessionOf) : Type 0 where
-  pub phase_is : s.phase ≡ phase
-  pub weights_are : s.weights ≡ weights
-  pub mask_is : IsMaskOf s.mask phase.width phase.height (open_in mask)
+pub record IsMadeOf (planes : ThreePlanes) (scripts : Sections) (s : SessionOf) : Type 0 where
+  pub phase_is : s.phase ≡ planes.phase
+  pub weights_are : s.weights ≡ planes.weights
+  pub mask_is : IsMaskOf s.mask planes.phase.width planes.phase.height (mask_open_in planes.mask)
   pub scripts_are : s.scripts ≡ scripts
+
+abbrev pub as_is : ThreePlanes × Sections → ThreePlanes × Sections
+as_is x = x
+
+-- a session is made of what the parser gives, or the call's outcome is its fault
+abbrev pub IsSessionOutcome : SessionUse → ℕ → Call → Result Session SessionFault → Type 0
+IsSessionOutcome usage side c (Ok session) = (x : ThreePlanes × Sections) × IsMadeOf x.0 x.1 (session_of session) × IsOutcome as_is (Ok x) c (session_parser usage side)
+IsSessionOutcome usage side c (Err fault) = IsOutcome as_is (Err fault) c (session_parser usage side)

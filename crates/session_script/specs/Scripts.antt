@@ -9,7 +9,7 @@ use Rattle.session_script.specs.declared.session_use.SessionUse.TheVariants.{Alo
 use Rattle.session_script.specs.declared.word.Word.{Word}
 use Rattle.session_script.specs.declared.word.Word.TheVariants.{End}
 use Rattle.session_script.specs.Lines.{Spells, SpellsNone}
-use Rattle.session_script.specs.Sections.{Sections, Frame, words_of, lines_in, AreWithin, word_broken}
+use Rattle.session_script.specs.Sections.{Sections, Frame, words_of, line_count, AreWithinLimits, word_broken}
 
 -- the bytes begin with a line that spells the word, and then `rest` stands
 pub record BeginsLine (bytes : List ℕ) (word : Word) (rest : List ℕ) : Type 0 where
@@ -26,7 +26,7 @@ AreLines bytes (word ∷ words) rest = (others : List ℕ) × BeginsLine bytes w
 -- lines of sections that are within the limits, and then `rest`
 pub record StandBefore (f : Frame) (bytes : List ℕ) (sections : Sections) (rest : List ℕ) : Type 0 where
   pub lines : AreLines bytes (words_of sections) rest
-  pub within : AreWithin f sections
+  pub within : AreWithinLimits f sections
 
 -- sections and the line `end`, and then `rest`
 abbrev pub AreSections : Frame → List ℕ → Sections → List ℕ → Type 0
@@ -57,8 +57,8 @@ IsScriptPart f usage bytes scripts rest = HasNoScript usage bytes scripts rest �
 -- ---- breaks
 
 -- the bytes begin with more than 64 bytes without a line feed, or with a line that spells no word
-abbrev pub IsLong : List ℕ → Type 0
-IsLong bytes = (line : List ℕ) × (others : List ℕ) × (bytes ≡ line ++ others) × (length line ≡ 65) × All IsInLine line
+abbrev pub IsLongLine : List ℕ → Type 0
+IsLongLine bytes = (line : List ℕ) × (others : List ℕ) × (bytes ≡ line ++ others) × (length line ≡ 65) × All IsInLine line
 
 pub record IsOther (bytes : List ℕ) : Type 0 where
   pub line : List ℕ
@@ -69,18 +69,18 @@ pub record IsOther (bytes : List ℕ) : Type 0 where
   pub spells : SpellsNone line
 
 abbrev pub IsNoLine : List ℕ → Type 0
-IsNoLine bytes = IsLong bytes ⊎ IsOther bytes
+IsNoLine bytes = IsLongLine bytes ⊎ IsOther bytes
 
 -- the input ends within a line
-abbrev pub IsCut : List ℕ → Type 0
-IsCut bytes = (length bytes ≤ 64) × All IsInLine bytes
+abbrev pub IsCutLine : List ℕ → Type 0
+IsCutLine bytes = (length bytes ≤ 64) × All IsInLine bytes
 
 -- after good lines stands one that spells no word, or the input ends within one
 pub record BreaksAtLine (f : Frame) (bytes : List ℕ) (fault : InputFault) : Type 0 where
   pub sections : Sections
   pub rest : List ℕ
   pub before : StandBefore f bytes sections rest
-  pub why : (IsNoLine rest × (fault ≡ ScriptLine (lines_in sections + 1))) ⊎ (IsCut rest × (fault ≡ NoEnd))
+  pub why : (IsNoLine rest × (fault ≡ ScriptLine (line_count sections + 1))) ⊎ (IsCutLine rest × (fault ≡ NoEnd))
 
 -- after good lines stands a word that may not
 pub record BreaksAtWord (f : Frame) (bytes : List ℕ) (fault : InputFault) : Type 0 where
@@ -90,13 +90,13 @@ pub record BreaksAtWord (f : Frame) (bytes : List ℕ) (fault : InputFault) : Ty
   pub others : List ℕ
   pub before : StandBefore f bytes sections rest
   pub next : BeginsLine rest word others
-  pub broken : word_broken f (lines_in sections + 1) sections word ≡ Some fault
+  pub broken : word_broken f (line_count sections + 1) sections word ≡ Some fault
 
 abbrev pub SectionsBreak : Frame → List ℕ → InputFault → Type 0
 SectionsBreak f bytes fault = BreaksAtLine f bytes fault ⊎ BreaksAtWord f bytes fault
 
 -- a byte stands after the line `end`; places count from the start, where the first of the bytes has the place `at`
-pub record GoesOn (f : Frame) (at : ℕ) (bytes : List ℕ) (fault : InputFault) : Type 0 where
+pub record ContinuesAfterEnd (f : Frame) (at : ℕ) (bytes : List ℕ) (fault : InputFault) : Type 0 where
   pub sections : Sections
   pub rest : List ℕ
   pub place : ℕ
@@ -107,4 +107,4 @@ pub record GoesOn (f : Frame) (at : ℕ) (bytes : List ℕ) (fault : InputFault)
 
 -- the first break of the script part
 abbrev pub ScriptBreak : Frame → SessionUse → ℕ → List ℕ → InputFault → Type 0
-ScriptBreak f usage at bytes fault = (SectionsBreak f bytes fault × (usage ≡ Alone → bytes ≢ [])) ⊎ ((usage ≡ Alone) × GoesOn f at bytes fault)
+ScriptBreak f usage at bytes fault = (SectionsBreak f bytes fault × (usage ≡ Alone → bytes ≢ [])) ⊎ ((usage ≡ Alone) × ContinuesAfterEnd f at bytes fault)

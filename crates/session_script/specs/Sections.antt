@@ -32,8 +32,8 @@ abbrev pub words_of : Sections → List Word
 words_of sections = flat_map section_words sections
 
 -- how many lines these are, and how many of them settle and change the mask
-abbrev pub lines_in : Sections → ℕ
-lines_in sections = length (words_of sections)
+abbrev pub line_count : Sections → ℕ
+line_count sections = length (words_of sections)
 
 abbrev pub settles_of : Sections → ℕ
 settles_of sections = sum_by (count_by is_settle) sections
@@ -51,7 +51,7 @@ abbrev pub frame_of : Tiling → Frame
 frame_of tiling = record { width = tiling.width; height = tiling.height; tiles = tiles_of tiling }
 
 -- within the limits of a session
-pub record AreWithin (f : Frame) (sections : Sections) : Type 0 where
+pub record AreWithinLimits (f : Frame) (sections : Sections) : Type 0 where
   pub analysts : length sections ≤ 8
   pub short : AllByRecursion (λ commands. length commands ≤ max_commands) sections
   pub inside : AllByRecursion (CommandsFit f.width f.height) sections
@@ -59,8 +59,8 @@ pub record AreWithin (f : Frame) (sections : Sections) : Type 0 where
   pub changes : changes_of sections * f.tiles ≤ max_changed_tiles
 
 -- and not without an analyst
-abbrev pub IsComplete : Frame → Sections → Type 0
-IsComplete f sections = (1 ≤ length sections) × AreWithin f sections
+abbrev pub AreComplete : Frame → Sections → Type 0
+AreComplete f sections = (1 ≤ length sections) × AreWithinLimits f sections
 
 -- the rectangle lies in the raster
 abbrev pub lies_in : Frame → Rect → Bool

@@ -40,8 +40,8 @@ pub record IsSameSession (s t : SessionOf) : Type 0 where
 abbrev pub ones_of : PlaneOf → PlaneOf
 ones_of p = record { width = p.width; height = p.height; maxval = 1; samples = replicate (p.width * p.height) 1 }
 
-abbrev pub HasSizeOf : PlaneOf → PlaneOf → Type 0
-HasSizeOf p q = (q.width ≡ p.width) × (q.height ≡ p.height)
+abbrev pub HasPlaneSize : PlaneOf → PlaneOf → Type 0
+HasPlaneSize p q = (q.width ≡ p.width) × (q.height ≡ p.height)
 
 -- P (80) begins a plane
 abbrev pub is_p : ℕ → Bool
@@ -49,7 +49,7 @@ is_p b = b == 80
 
 -- where the next byte is P, a plane of the phase plane's size stands; otherwise the plane is that of ones
 abbrev pub IsLaterPlane : Role → PlaneOf → List ℕ → PlaneOf → List ℕ → Type 0
-IsLaterPlane role phase bytes p rest = (IsPlaneIn role bytes p rest × HasSizeOf phase p) ⊎ ((begins is_p bytes ≡ false) × (p ≡ ones_of phase) × (rest ≡ bytes))
+IsLaterPlane role phase bytes p rest = (IsPlaneIn role bytes p rest × HasPlaneSize phase p) ⊎ ((begins is_p bytes ≡ false) × (p ≡ ones_of phase) × (rest ≡ bytes))
 
 -- the phase plane, the weights if any and the mask if any, and then `rest`
 pub record ArePlanes (bytes : List ℕ) (phase weights mask : PlaneOf) (rest : List ℕ) : Type 0 where
@@ -60,22 +60,22 @@ pub record ArePlanes (bytes : List ℕ) (phase weights mask : PlaneOf) (rest : L
   pub third : IsLaterPlane Mask phase behind_weights mask rest
 
 -- the raster of a phase plane in tiles of this side
-abbrev pub tiles_along : ℕ → ℕ → ℕ
-tiles_along side pixels = (pixels + side - 1) / side
+abbrev pub tiles_in_length : ℕ → ℕ → ℕ
+tiles_in_length side pixels = (pixels + side - 1) / side
 
 abbrev pub frame_in : ℕ → PlaneOf → Frame
-frame_in side phase = record { width = phase.width; height = phase.height; tiles = tiles_along side phase.height * tiles_along side phase.width }
+frame_in side phase = record { width = phase.width; height = phase.height; tiles = tiles_in_length side phase.height * tiles_in_length side phase.width }
 
 -- a pixel is open where the mask plane's sample is not 0
-abbrev pub open_in : PlaneOf → Field Bool
-open_in p x y = not (slice_index p.samples (y * p.width + x) == 0)
+abbrev pub mask_open_in : PlaneOf → Field Bool
+mask_open_in p x y = not (slice_index p.samples (y * p.width + x) == 0)
 
 -- the bytes are a session's text, of at most 268,435,456 bytes, and then `rest`
 pub record IsSessionIn (usage : SessionUse) (side : ℕ) (bytes : List ℕ) (s : SessionOf) (rest : List ℕ) : Type 0 where
   pub mask_plane : PlaneOf
   pub between : List ℕ
   pub planes : ArePlanes bytes s.phase s.weights mask_plane between
-  pub mask : IsMaskOf s.mask s.phase.width s.phase.height (open_in mask_plane)
+  pub mask : IsMaskOf s.mask s.phase.width s.phase.height (mask_open_in mask_plane)
   pub script : IsScriptPart (frame_in side s.phase) usage between s.scripts rest
   pub short : length bytes ≤ max_session_bytes + length rest
 
@@ -85,11 +85,11 @@ abbrev pub PlaneBreak : Role → ℕ → List ℕ → InputFault → Type 0
 PlaneBreak role at bytes fault = (found : PlaneFault) × (fault ≡ faults.Plane role found) × FirstBreak role at bytes found
 
 -- a later plane begins, and breaks its form or has another size than the phase plane
-abbrev pub HasOtherSize : Role → PlaneOf → List ℕ → Type 0
-HasOtherSize role phase bytes = (plane : PlaneOf) × (rest : List ℕ) × IsPlaneIn role bytes plane rest × (HasSizeOf phase plane → ⊥)
+abbrev pub HasOtherPlaneSize : Role → PlaneOf → List ℕ → Type 0
+HasOtherPlaneSize role phase bytes = (plane : PlaneOf) × (rest : List ℕ) × IsPlaneIn role bytes plane rest × (HasPlaneSize phase plane → ⊥)
 
 abbrev pub LaterBreak : Role → PlaneOf → ℕ → List ℕ → InputFault → Type 0
-LaterBreak role phase at bytes fault = IsTrue (begins is_p bytes) × (PlaneBreak role at bytes fault ⊎ ((fault ≡ faults.SizesDiffer role) × HasOtherSize role phase bytes))
+LaterBreak role phase at bytes fault = IsTrue (begins is_p bytes) × (PlaneBreak role at bytes fault ⊎ ((fault ≡ faults.SizesDiffer role) × HasOtherPlaneSize role phase bytes))
 
 -- a plane of this role may begin at `rest`, after a phase plane and, for a mask, the weights if any
 abbrev pub StandsBefore : Role → List ℕ → PlaneOf → List ℕ → Type 0

@@ -1,23 +1,16 @@
 -- The text that a session is written as.
-use Rattle.std.specs.Prelude.{ℕ, zero, suc, Bool, if◌then◌else◌, List, [], ◌∷◌, ◌++◌, codes, decimal, flat_map}
+use Rattle.std.specs.Prelude.{ℕ, Bool, if◌then◌else◌, List, [], ◌∷◌, ◌++◌, codes, flat_map}
 use Rattle.raster_model.specs.declared.script.Command.{Command}
 use Rattle.raster_model.specs.declared.script.Command.TheVariants.{Change, Settle, Show}
 use Rattle.raster_model.specs.declared.script.Edit.TheVariants.{Mask, Unmask}
-use Rattle.raster_model.specs.declared.script.Rect.{Rect}
 use Rattle.raster_model.specs.MaskView.{MaskView}
 use Rattle.raster_model.specs.Masks.{open_at}
-use Rattle.pgm_planes.specs.Text.{header_text, plane_text}
+use Rattle.pgm_planes.specs.Text.{plane_header_text, plane_text}
+use Rattle.text_lines.specs.Text.{rect_text, texts_below}
 use Rattle.session_script.specs.declared.word.Word.{Word}
 use Rattle.session_script.specs.declared.word.Word.TheVariants as words
 use Rattle.session_script.specs.Sections.{Sections}
 use Rattle.session_script.specs.Sessions.{SessionOf}
-
--- a number after an SP
-abbrev pub field_text : ℕ → List ℕ
-field_text n = codes " " ++ decimal n
-
-unfoldable pub rect_text : Rect → List ℕ
-rect_text r = field_text r.x0 ++ (field_text r.y0 ++ (field_text r.x1 ++ field_text r.y1))
 
 abbrev pub command_text : Command → List ℕ
 command_text (Change (Mask rect)) = codes "mask" ++ rect_text rect
@@ -44,17 +37,12 @@ section_text commands = line_text words.Analyst ++ flat_map command_line command
 abbrev pub sample_of : Bool → ℕ
 sample_of unmasked = if unmasked then 1 else 0
 
--- so many texts one after the other
-abbrev pub texts_below : ℕ → (ℕ → List ℕ) → List ℕ
-texts_below zero text = []
-texts_below (suc n) text = texts_below n text ++ text n
-
-abbrev pub row_text : MaskView → ℕ → List ℕ
-row_text m y = texts_below m.width (λ x. sample_of (open_at m x y) ∷ [])
+abbrev pub mask_row_text : MaskView → ℕ → List ℕ
+mask_row_text m y = texts_below m.width (λ x. sample_of (open_at m x y) ∷ [])
 
 -- the mask as a raw plane with the maxval 1
 abbrev pub mask_text : MaskView → List ℕ
-mask_text m = header_text m.width m.height 1 ++ texts_below m.height (row_text m)
+mask_text m = plane_header_text m.width m.height 1 ++ texts_below m.height (mask_row_text m)
 
 -- the scripts of a session that has an analyst
 abbrev pub scripts_text : Sections → List ℕ

@@ -1,4 +1,4 @@
-ghost use Rattle.session_script.specs.Faults.{fault_of_feed, fault_of_plane};
+ghost use Rattle.session_script.specs.Faults.{session_fault_of_feed, fault_of_plane};
 ghost use Rattle.session_script.specs.declared.fault.SessionFault.TheVariants as session_faults;
 ghost use Rattle.std.specs.Prelude.{◌≡◌};
 
@@ -18,7 +18,7 @@ pub enum SessionFault {
 }
 
 impl From<FeedFault> for SessionFault {
-    ghost from_gives = { λ fault e. e ≡ fault_of_feed fault };
+    ghost from_gives = { λ fault e. e ≡ session_fault_of_feed fault };
 
     fn from(fault: FeedFault) -> SessionFault {
         match fault {

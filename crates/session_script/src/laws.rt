@@ -1,12 +1,12 @@
 //! Laws of the definitions. The functions do nothing; each contract is the law.
 
-ghost use Rattle.session_script.specs.Laws.{NoBreakOfSession, NoFaultOfSession, OneBreak, OneFault, OneSession, SessionOrFault, WrittenIsRead};
+ghost use Rattle.session_script.specs.Laws.{NoBreakOfSession, NoFaultOfSession, OneSessionBreak, OneFault, OneSession, SessionOrFault, WrittenSessionIsRead};
 
 /// Bytes either are a session's text and then others, or have a fault, and at most one first break.
 pub fn session_or_fault()
     ensures either { SessionOrFault }
     ensures not_both { NoBreakOfSession }
-    ensures one_break { OneBreak }
+    ensures one_break { OneSessionBreak }
 {}
 
 /// Bytes are a session's text and then others, or they have one fault, which may be that they are too many.
@@ -22,5 +22,5 @@ pub fn one_session()
 
 /// What `write_session` writes is read as the same session.
 pub fn written_is_read()
-    ensures { WrittenIsRead }
+    ensures { WrittenSessionIsRead }
 {}

@@ -5,6 +5,7 @@
 mod fault;
 pub mod laws;
 mod line;
+mod parts;
 mod planes;
 mod script;
 mod sections;

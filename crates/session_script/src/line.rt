@@ -1,5 +1,5 @@
-ghost use Rattle.pgm_planes.specs.Gaps.{is_digit as is_digit_byte, number_of as number_by};
-ghost use Rattle.session_script.specs.Fields.{digits_in, field_in, number_in, rect_in, told};
+ghost use Rattle.pgm_planes.specs.Gaps.{is_digit as is_digit_byte, capped_number as number_by};
+ghost use Rattle.session_script.specs.Fields.{digits_in, field_in, plain_number_in, rect_in, given_field};
 ghost use Rattle.session_script.specs.Lines.{Spells, SpellsNone, SpellsEdit, is_plain as is_plain_number};
 ghost use Rattle.raster_model.specs.declared.script.Edit.{Edit as AnyEdit};
 ghost use Rattle.session_script.specs.declared.word.Word.TheVariants as words;
@@ -81,14 +81,14 @@ fn rect_of(bytes: &[u8]) -> Option<Rect>
 
 /// The number after an SP at the front, and what follows it.
 fn take_field(bytes: &[u8]) -> Option<(u32, &[u8])>
-    ensures { told result ≡ field_in bytes.now }
+    ensures { given_field result ≡ field_in bytes.now }
 {
     take_number(bytes.strip_prefix(SPACE)?)
 }
 
 /// The plain number at the front, and what follows it.
 fn take_number(bytes: &[u8]) -> Option<(u32, &[u8])>
-    ensures { told result ≡ number_in bytes.now }
+    ensures { given_field result ≡ plain_number_in bytes.now }
 {
     let (digits, rest) = bytes.split_at(count_digits(bytes));
     if is_plain(digits) {

@@ -1,39 +1,24 @@
-ghost use Rattle.insar_ports.specs.Feeding.{left_of, limit_of, source_name};
-ghost use Rattle.pgm_planes.specs.Asking.{AsksForMore};
-ghost use Rattle.insar_ports.specs.Calls.{Moves, call_of};
-ghost use Rattle.pgm_planes.specs.Planes.{HasMaxval, IsPlaneIn, plane_of};
-ghost use Rattle.session_script.specs.Reaching.{HasCauseIn, IsNothing, IsSeen, LaterAsks, LooksFor, NoBreak, PlanesAsk, Reaches};
-ghost use Rattle.session_script.specs.Sessions.{ArePlanes, HasSizeOf, IsLaterPlane, LaterBreak, PlaneBreak, PlanesBreak, ones_of};
+ghost use Rattle.insar_ports.specs.Calls.{call_of};
+ghost use Rattle.insar_ports.specs.Feeding.{limit_of, source_name};
+ghost use Rattle.pgm_planes.specs.Planes.{HasMaxval, plane_of};
+ghost use Rattle.session_script.specs.Building.{planes_in};
+ghost use Rattle.session_script.specs.Parsing.{Parses, is_begun, later_parser, peek_parser, plane_parser, planes_parser};
+ghost use Rattle.session_script.specs.Sessions.{HasPlaneSize, ones_of};
 ghost use Rattle.session_script.specs.declared.fault.SessionFault.TheVariants as session_faults;
 ghost use Rattle.std.specs.Prelude.{◌≡◌, IfErr, IfOk};
 
 use crate::fault::{SessionFault, plane_fault};
+use crate::parts::Planes;
 use insar_ports::{Feed, Source};
 use pgm_planes::{InputFault, Role, read_plane};
 use raster_model::Plane;
 use std::alloc::Global;
 
-/// The planes of an input, which have one size.
-#[derive(Drop)]
-pub struct Planes {
-    /// The wrapped phase, in units of 1/65536 cycle.
-    pub phase: Plane,
-    /// The weights of the pixels.
-    pub weights: Plane,
-    /// 0 at masked pixels.
-    pub mask: Plane,
-    pub ghost cycle: { phase.maxval ≡ 65535 },
-    pub ghost same_width: { (weights.width ≡ phase.width) × (mask.width ≡ phase.width) },
-    pub ghost same_height: { (weights.height ≡ phase.height) × (mask.height ≡ phase.height) },
-}
-
 /// Reads the phase plane, and the weights and the mask if they are there.
 pub fn read_planes<S: Source>(alloc: Global, feed: &mut Feed<S>) -> Result<Planes, SessionFault>
     ensures same_source { source_name feed.new ≡ source_name feed.old }
     ensures limit { limit_of feed.new ≡ limit_of feed.old }
-    ensures moves { Moves (call_of S.left S.faults feed.old feed.new) }
-    ensures read { IfOk result (λ planes. Reaches (call_of S.left S.faults feed.old feed.new) (λ bytes rest. ArePlanes bytes (plane_of planes.phase) (plane_of planes.weights) (plane_of planes.mask) rest)) }
-    ensures refused { IfErr result (HasCauseIn PlanesBreak PlanesAsk (call_of S.left S.faults feed.old feed.new)) }
+    ensures parses { Parses planes_in result (call_of S.left S.faults feed.old feed.new) planes_parser }
 {
     let phase = read(alloc, feed, Role::Phase)?;
     let weights = read_later(alloc, feed, Role::Weight, &phase)?;
@@ -54,12 +39,10 @@ fn read_later<S: Source>(
 ) -> Result<Plane, SessionFault>
     ensures same_source { source_name feed.new ≡ source_name feed.old }
     ensures limit { limit_of feed.new ≡ limit_of feed.old }
-    ensures moves { Moves (call_of S.left S.faults feed.old feed.new) }
-    ensures read { IfOk result (λ plane. Reaches (call_of S.left S.faults feed.old feed.new) (λ bytes rest. IsLaterPlane role (plane_of phase.now) bytes (plane_of plane) rest)) }
-    ensures sized { IfOk result (λ plane. HasSizeOf (plane_of phase.now) (plane_of plane)) }
-    ensures refused { IfErr result (HasCauseIn (LaterBreak role (plane_of phase.now)) (LaterAsks role) (call_of S.left S.faults feed.old feed.new)) }
+    ensures sized { IfOk result (λ plane. HasPlaneSize (plane_of phase.now) (plane_of plane)) }
+    ensures parses { Parses plane_of result (call_of S.left S.faults feed.old feed.new) (later_parser role (plane_of phase.now)) }
 {
-    if !begins_plane(feed)? {
+    if !begins_plane(see_byte(feed)?) {
         return ones(alloc, phase);
     }
     let plane = read(alloc, feed, role)?;
@@ -69,17 +52,22 @@ fn read_later<S: Source>(
     Ok(plane)
 }
 
-/// Whether a plane begins: the next byte is `P`.
-fn begins_plane<S: Source>(feed: &mut Feed<S>) -> Result<bool, SessionFault>
+/// The next byte, which stays.
+pub fn see_byte<S: Source>(feed: &mut Feed<S>) -> Result<Option<u8>, SessionFault>
     ensures same_source { source_name feed.new ≡ source_name feed.old }
     ensures limit { limit_of feed.new ≡ limit_of feed.old }
-    ensures moves { Moves (call_of S.left S.faults feed.old feed.new) }
-    ensures read { IfOk result (λ begun. Reaches (call_of S.left S.faults feed.old feed.new) (LooksFor begun)) }
-    ensures refused { IfErr result (HasCauseIn NoBreak IsNothing (call_of S.left S.faults feed.old feed.new)) }
+    ensures parses { Parses (λ got. got) result (call_of S.left S.faults feed.old feed.new) peek_parser }
 {
-    match feed.peek()? {
-        Some(byte) => Ok(byte == b'P'),
-        None => Ok(false),
+    Ok(feed.peek()?)
+}
+
+/// Whether a plane begins with the next byte: it is `P`.
+fn begins_plane(got: Option<u8>) -> bool
+    ensures { result ≡ is_begun got }
+{
+    match got {
+        Some(byte) => byte == b'P',
+        None => false,
     }
 }
 
@@ -87,11 +75,8 @@ fn begins_plane<S: Source>(feed: &mut Feed<S>) -> Result<bool, SessionFault>
 fn read<S: Source>(alloc: Global, feed: &mut Feed<S>, role: Role) -> Result<Plane, SessionFault>
     ensures same_source { source_name feed.new ≡ source_name feed.old }
     ensures limit { limit_of feed.new ≡ limit_of feed.old }
-    ensures moves { Moves (call_of S.left S.faults feed.old feed.new) }
-    ensures read { IfOk result (λ plane. Reaches (call_of S.left S.faults feed.old feed.new) (λ bytes rest. IsPlaneIn role bytes (plane_of plane) rest)) }
     ensures maxval { IfOk result (λ plane. HasMaxval role plane.maxval) }
-    ensures seen { IfOk result (λ _. IsSeen (AsksForMore role) (call_of S.left S.faults feed.old feed.new)) }
-    ensures refused { IfErr result (HasCauseIn (PlaneBreak role) (AsksForMore role) (call_of S.left S.faults feed.old feed.new)) }
+    ensures parses { Parses plane_of result (call_of S.left S.faults feed.old feed.new) (plane_parser role) }
 {
     match read_plane(alloc, feed, role) {
         Ok(plane) => Ok(plane),

@@ -1,4 +1,4 @@
-ghost use Rattle.session_script.specs.Sections.{changes_of, lines_in, sections_of, settles_of};
+ghost use Rattle.session_script.specs.Sections.{changes_of, line_count, sections_of, settles_of};
 ghost use Rattle.session_script.specs.Sections.{frame_of, lies_in as lies_in_frame};
 ghost use Rattle.raster_model.specs.Scripts.{is_change as changes_by, is_settle as settles_by};
 ghost use Rattle.std.specs.Prelude.{◌≡◌, ◌+◌, ◌*◌, nat_lt};
@@ -18,7 +18,7 @@ pub struct Sections {
     lines: u32,
     settles: u32,
     changes: u32,
-    ghost lines_counted: { lines ≡ lines_in (sections_of scripts.items) },
+    ghost lines_counted: { lines ≡ line_count (sections_of scripts.items) },
     ghost settles_counted: { settles ≡ settles_of (sections_of scripts.items) },
     ghost changes_counted: { changes ≡ changes_of (sections_of scripts.items) },
 }
@@ -44,7 +44,7 @@ impl Sections {
 
     /// How many lines they have.
     pub fn lines(&self) -> u32
-        ensures { result ≡ lines_in (sections_in self.now) }
+        ensures { result ≡ line_count (sections_in self.now) }
     {
         self.lines
     }
@@ -59,8 +59,8 @@ impl Sections {
     /// What is wrong with a word in the next line. Of several refusals the first in the order line, analysts, commands,
     /// rectangle, settles and edits is reported.
     pub fn refusal(&self, tiling: &Tiling, word: Word) -> Option<InputFault>
-        requires { lines_in (sections_in self.now) < 4294967295 }
-        ensures { result ≡ word_broken (frame_of tiling.now) (lines_in (sections_in self.now) + 1) (sections_in self.now) word }
+        requires { line_count (sections_in self.now) < 4294967295 }
+        ensures { result ≡ word_broken (frame_of tiling.now) (line_count (sections_in self.now) + 1) (sections_in self.now) word }
     {
         let line = self.lines + 1;
         match word {
@@ -113,7 +113,7 @@ impl Sections {
 
     /// Adds a word: a section begins, or the last one goes on.
     pub fn push(&mut self, alloc: Global, word: Word) -> Result<(), AllocError>
-        requires lines { lines_in (sections_in self.old) < 4294967295 }
+        requires lines { line_count (sections_in self.old) < 4294967295 }
         requires begun { (command : AnyCommand) → word ≡ words.Command command → 1 ≤ length (sections_in self.old) }
         ensures { OnOk result (sections_in self.new ≡ with_word word (sections_in self.old)) }
     {
@@ -126,7 +126,7 @@ impl Sections {
 
     /// Begins the section of another analyst.
     fn begin(&mut self, alloc: Global) -> Result<(), AllocError>
-        requires { lines_in (sections_in self.old) < 4294967295 }
+        requires { line_count (sections_in self.old) < 4294967295 }
         ensures { OnOk result (sections_in self.new ≡ sections_in self.old ++ [] ∷ []) }
     {
         let commands = Vec::new(alloc);
@@ -137,7 +137,7 @@ impl Sections {
 
     /// Adds a command to the last section.
     fn add(&mut self, command: Command) -> Result<(), AllocError>
-        requires lines { lines_in (sections_in self.old) < 4294967295 }
+        requires lines { line_count (sections_in self.old) < 4294967295 }
         requires begun { 1 ≤ length (sections_in self.old) }
         ensures { OnOk result (sections_in self.new ≡ with_command command (sections_in self.old)) }
     {

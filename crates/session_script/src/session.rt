@@ -1,19 +1,21 @@
 ghost use Rattle.raster_model.specs.Limits.{IsTileSide, max_session_bytes};
 ghost use Rattle.insar_ports.specs.Feeding.{handed_of, left_of, limit_of, source_name};
 ghost use Rattle.insar_ports.specs.Calls.{Moves, call_of};
-ghost use Rattle.pgm_planes.specs.Planes.{plane_of};
 ghost use Rattle.pgm_planes.specs.declared.fault.InputFault.{InputFault as AnyFault};
 ghost use Rattle.pgm_planes.specs.declared.fault.InputFault.TheVariants as faults;
 ghost use Rattle.session_script.specs.declared.fault.SessionFault.TheVariants as session_faults;
-ghost use Rattle.session_script.specs.Causes.{HasCause, IsAtLimit, IsReadAs, IsRefusedFor};
-ghost use Rattle.session_script.specs.Reaching.{HasCauseIn, Reaches};
-ghost use Rattle.session_script.specs.Sections.{IsComplete, frame_of, sections_of};
+ghost use Rattle.session_script.specs.Building.{IsSized, parts_in, planes_in, scripts_in};
+ghost use Rattle.session_script.specs.Sections.{AreComplete, frame_of};
+ghost use Rattle.session_script.specs.Causes.{HasSessionCause, IsAtLimit, IsReadAsSession, IsRefusedFor};
+ghost use Rattle.session_script.specs.Making.{IsMadeOf, IsSessionOutcome};
+ghost use Rattle.session_script.specs.Parsing.{Parses, session_parser};
+ghost use Rattle.session_script.specs.Reaching.{Reaches};
 ghost use Rattle.session_script.specs.Sessions.{HasFault, IsSessionIn, SessionOf, session_of};
-ghost use Rattle.session_script.specs.Making.{IsMadeOf};
-ghost use Rattle.std.specs.Prelude.{◌≡◌, ◌≤◌, IfErr, IfOk, IfSome, Err, List, ℕ};
+ghost use Rattle.std.specs.Prelude.{◌≡◌, IfErr, IfOk, IfSome, Err, List, ℕ};
 
 use crate::fault::SessionFault;
-use crate::planes::{Planes, read_planes};
+use crate::parts::{Parts, Planes};
+use crate::planes::read_planes;
 use crate::script::read_scripts;
 use crate::session_use::SessionUse;
 use edge_weights::weigh;
@@ -44,56 +46,76 @@ pub fn read_session<S: Source>(
     ensures read { IfOk result (λ session. Reaches (call_of S.left S.faults feed.old feed.new) (λ bytes rest. IsSessionIn use_as side bytes (session_of session) rest)) }
     ensures scene { IfOk result (λ session. (session.scene.rule ≡ kind) × (session.scene.tiling.side ≡ side)) }
     // What is spelled so is read, and what follows is left.
-    ensures accepted { IfSome (left_of S.left feed.old) (λ bytes. (s : SessionOf) (rest : List ℕ) → IsSessionIn use_as side bytes s rest → IsReadAs (call_of S.left S.faults feed.old feed.new) s rest result) }
+    ensures accepted { IfSome (left_of S.left feed.old) (λ bytes. (s : SessionOf) (rest : List ℕ) → IsSessionIn use_as side bytes s rest → IsReadAsSession (call_of S.left S.faults feed.old feed.new) s rest result) }
     // The first break, or why else a session is not read.
-    ensures refused { IfErr result (HasCause use_as side (call_of S.left S.faults feed.old feed.new)) }
+    ensures refused { IfErr result (HasSessionCause use_as side (call_of S.left S.faults feed.old feed.new)) }
     // More bytes are told where so many were handed out and another is there.
     ensures too_long { result ≡ Err (session_faults.Input faults.TooLong) → IsAtLimit (call_of S.left S.faults feed.old feed.new) }
     // What has a fault is refused with it: with its first break, or as too long.
     ensures exact { IfSome (left_of S.left feed.old) (λ bytes. (fault : AnyFault) → HasFault use_as side bytes fault → IsRefusedFor (call_of S.left S.faults feed.old feed.new) fault result) }
 {
-    read_spelled(alloc, feed, use_as, side, kind)
+    read_whole(alloc, feed, use_as, side, kind)
 }
 
-/// Reads the planes, and then the scripts.
-fn read_spelled<S: Source>(
+/// Reads the parts of a session and makes it.
+fn read_whole<S: Source>(
     alloc: Global,
     feed: &mut Feed<S>,
     use_as: SessionUse,
     side: u32,
     kind: RuleKind,
 ) -> Result<Session, SessionFault>
-    requires start { handed_of feed.old ≡ 0 }
     requires limit { limit_of feed.old ≡ max_session_bytes }
     requires sides { IsTileSide side }
     ensures same_source { source_name feed.new ≡ source_name feed.old }
     ensures same_limit { limit_of feed.new ≡ limit_of feed.old }
     ensures moves { Moves (call_of S.left S.faults feed.old feed.new) }
-    ensures read { IfOk result (λ session. Reaches (call_of S.left S.faults feed.old feed.new) (λ bytes rest. IsSessionIn use_as side bytes (session_of session) rest)) }
     ensures scene { IfOk result (λ session. (session.scene.rule ≡ kind) × (session.scene.tiling.side ≡ side)) }
-    ensures refused { IfErr result (HasCause use_as side (call_of S.left S.faults feed.old feed.new)) }
-    ensures too_long { result ≡ Err (session_faults.Input faults.TooLong) → IsAtLimit (call_of S.left S.faults feed.old feed.new) }
+    ensures outcome { IsSessionOutcome use_as side (call_of S.left S.faults feed.old feed.new) result }
+{
+    let parts = read_parts(alloc, feed, use_as, side)?;
+    made_of(alloc, kind, parts)
+}
+
+/// Reads the planes, and then the scripts.
+fn read_parts<S: Source>(
+    alloc: Global,
+    feed: &mut Feed<S>,
+    use_as: SessionUse,
+    side: u32,
+) -> Result<Parts, SessionFault>
+    requires limit { limit_of feed.old ≡ max_session_bytes }
+    requires sides { IsTileSide side }
+    ensures same_source { source_name feed.new ≡ source_name feed.old }
+    ensures limit { limit_of feed.new ≡ limit_of feed.old }
+    ensures side { IfOk result (λ parts. parts.tiling.side ≡ side) }
+    ensures sized { IfOk result IsSized }
+    ensures complete { IfOk result (λ parts. AreComplete (frame_of parts.tiling) (scripts_in parts.scripts)) }
+    ensures parses { Parses parts_in result (call_of S.left S.faults feed.old feed.new) (session_parser use_as side) }
 {
     let planes = read_planes(alloc, feed)?;
     let tiling = Tiling::new(planes.phase.width, planes.phase.height, side);
     let scripts = read_scripts(alloc, feed, use_as, &tiling)?;
-    made_of(alloc, planes, tiling, kind, scripts)
+    Ok(Parts {
+        planes,
+        tiling,
+        scripts,
+    })
 }
 
-/// The session of planes and scripts.
-fn made_of(
-    alloc: Global,
-    planes: Planes,
-    tiling: Tiling,
-    kind: RuleKind,
-    scripts: Vec<Script>,
-) -> Result<Session, SessionFault>
-    requires sized { (tiling.width ≡ planes.phase.width) × (tiling.height ≡ planes.phase.height) }
-    requires complete { IsComplete (frame_of tiling) (sections_of scripts.items) }
-    ensures made { IfOk result (λ session. IsMadeOf (plane_of planes.phase) (plane_of planes.weights) (plane_of planes.mask) (sections_of scripts.items) (session_of session)) }
-    ensures scene { IfOk result (λ session. (session.scene.rule ≡ kind) × (session.scene.tiling.side ≡ tiling.side)) }
+/// The session of its parts.
+fn made_of(alloc: Global, kind: RuleKind, parts: Parts) -> Result<Session, SessionFault>
+    requires sized { IsSized parts }
+    requires complete { AreComplete (frame_of parts.tiling) (scripts_in parts.scripts) }
+    ensures made { IfOk result (λ session. IsMadeOf (planes_in parts.planes) (scripts_in parts.scripts) (session_of session)) }
+    ensures scene { IfOk result (λ session. (session.scene.rule ≡ kind) × (session.scene.tiling.side ≡ parts.tiling.side)) }
     ensures starved { IfErr result (λ fault. fault ≡ session_faults.Memory) }
 {
+    let Parts {
+        planes,
+        tiling,
+        scripts,
+    } = parts;
     let edges = weigh(alloc, kind, &planes.weights)?;
     let first_mask = Mask::of_plane(alloc, &planes.mask)?;
     let Planes {

@@ -1,7 +1,5 @@
 use Rattle.std.proofs.Common.{◌≡◌, ◌-◌}
-use Rattle.insar_ports.specs.Feeding.{source_name, limit_of, handed_of}
-use Rattle.insar_ports.specs.Calls.{call_of}
-use Rattle.pgm_planes.specs.Reading.{digits_at}
+use Rattle.pgm_planes.proofs.Words.{source_name, limit_of, handed_of, call_of, digits_at}
 use Rattle.pgm_planes.proofs.CallLemmas.{Goes}
 use Rattle.pgm_planes.proofs.header.read_digits.Given as goal
 

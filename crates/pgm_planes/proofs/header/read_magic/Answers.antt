@@ -1,6 +1,5 @@
 use Rattle.std.proofs.Common.{sym, ◌∙◌}
-use Rattle.std.proofs.lemmas.Result.{err_from_is_err_and}
-use Rattle.pgm_planes.specs.Reading.{magic_at}
+use Rattle.pgm_planes.proofs.Words.{err_from_is_err_and, magic_at}
 use Rattle.pgm_planes.proofs.CallLemmas.{as_spelling, Reads-then}
 use Rattle.pgm_planes.proofs.StepLemmas.{magic_asks, letter_asks, after_letter, magic_goes, magic_misses, magic_ends, magic_breaks, byte_passes_on}
 use Rattle.pgm_planes.proofs.header.read_magic.Goals as goal

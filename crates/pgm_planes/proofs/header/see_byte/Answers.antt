@@ -1,6 +1,5 @@
 use Rattle.std.proofs.Common.{ap, Ok, Err, arith}
-use Rattle.std.proofs.lemmas.Result.{err_from_is_err_and}
-use Rattle.pgm_planes.specs.Reading.{sight_at}
+use Rattle.pgm_planes.proofs.Words.{err_from_is_err_and, sight_at}
 use Rattle.pgm_planes.proofs.CallLemmas.{takes_a_sight, byte_fails, sight_asks}
 use Rattle.pgm_planes.proofs.header.see_byte.Goals as goal
 

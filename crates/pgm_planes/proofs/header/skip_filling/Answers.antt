@@ -1,7 +1,5 @@
 use Rattle.std.proofs.Common.{◌∙◌, sym, false}
-use Rattle.std.proofs.lemmas.Result.{err_from_is_err_and}
-use Rattle.pgm_planes.specs.Reading.{filling_at}
-use Rattle.pgm_planes.specs.declared.fault.PlaneFault.TheVariants.{Form}
+use Rattle.pgm_planes.proofs.Words.{err_from_is_err_and, filling_at, Form}
 use Rattle.pgm_planes.proofs.CallLemmas.{as_nothing, Reads-then, Goes-then}
 use Rattle.pgm_planes.proofs.StepLemmas.{filling_asks, still, sight_passes_on, sight_ends, sight_cuts, sight_stops, byte_goes, seen_is_taken, filling_over, filling_cut, filling_stops, filling_goes}
 use Rattle.pgm_planes.proofs.header.skip_filling.Goals as goal

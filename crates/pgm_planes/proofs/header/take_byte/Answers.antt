@@ -1,6 +1,5 @@
 use Rattle.std.proofs.Common.{ap, Ok, Err, arith}
-use Rattle.std.proofs.lemmas.Result.{err_from_is_err_and}
-use Rattle.pgm_planes.specs.Reading.{byte_at}
+use Rattle.pgm_planes.proofs.Words.{err_from_is_err_and, byte_at}
 use Rattle.pgm_planes.proofs.CallLemmas.{takes_a_byte, byte_fails, byte_asks}
 use Rattle.pgm_planes.proofs.header.take_byte.Goals as goal
 

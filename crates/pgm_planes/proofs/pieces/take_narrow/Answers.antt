@@ -1,7 +1,5 @@
 use Rattle.std.proofs.Common.{◌≡◌, ◌≤◌, ◌∙◌, List, ℕ, false, length, take, arith, sym, ap, subst}
-use Rattle.std.proofs.lemmas.List.{length-take, length-take-le, take-take}
-use Rattle.insar_ports.specs.Feeding.{ready_of}
-use Rattle.pgm_planes.specs.Planes.{IsRaster}
+use Rattle.pgm_planes.proofs.Words.{length-take, length-take-le, take-take, ready_of, IsRaster}
 use Rattle.pgm_planes.proofs.PieceLemmas.{raster_of_bytes}
 use Rattle.pgm_planes.proofs.pieces.take_narrow.Goals as goal
 

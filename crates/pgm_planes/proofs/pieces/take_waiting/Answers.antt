@@ -1,7 +1,6 @@
 use Rattle.std.proofs.Common.{[], refl, arith}
-use Rattle.insar_ports.specs.Feeding.{faults_of, handed_of, left_of, limit_of}
+use Rattle.pgm_planes.proofs.Words.{faults_of, handed_of, left_of, limit_of, AreTogether}
 use Rattle.insar_ports.proofs.CallLemmas.{stays}
-use Rattle.pgm_planes.specs.Pieces.{AreTogether}
 use Rattle.pgm_planes.proofs.PieceLemmas.{takes_nothing}
 use Rattle.pgm_planes.proofs.pieces.take_waiting.Goals as goal
 

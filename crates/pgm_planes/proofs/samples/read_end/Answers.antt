@@ -1,19 +1,19 @@
-use Rattle.std.proofs.Common.{◌∙◌, sym}
-use Rattle.std.proofs.lemmas.Result.{err_from_is_err_and}
-use Rattle.pgm_planes.specs.Reading.{blanks_at, end_at}
-use Rattle.pgm_planes.specs.declared.fault.PlaneFault.TheVariants.{Form}
+use Rattle.std.proofs.Common.{refl, ◌∙◌, sym}
+use Rattle.pgm_planes.proofs.Words.{err_from_is_err_and, blanks_at, end_at, Form}
 use Rattle.pgm_planes.proofs.CallLemmas.{as_nothing, Reads-then}
-use Rattle.pgm_planes.proofs.StepLemmas.{end_asks, sight_passes_on, sight_ends, sight_breaks, sight_goes, end_over, end_goes, end_breaks, blanks_over}
+use Rattle.pgm_planes.proofs.StepLemmas.{sight_passes_on, sight_ends, sight_breaks, sight_goes, end_goes, end_breaks}
 use Rattle.pgm_planes.proofs.samples.read_end.Goals as goal
 
 pub returns-in_err-byte-clause-reads : goal.returns-in_err-byte-clause-reads
+unfolding end_at blanks_at
 returns-in_err-byte-clause-reads g c =
     let p = err_from_is_err_and c.from_residual.result c.from_residual.ensures.1 in
-    rw (p.1, p.2) (sight_passes_on as_nothing _ c.in_err-byte.field-0.0 end_at (end_asks _) c.in_err-byte.ensures.reads)
+    rw (p.1, p.2) (sight_passes_on as_nothing _ c.in_err-byte.field-0.0 end_at refl c.in_err-byte.ensures.reads)
 
 pub returns-in_default-clause-reads : goal.returns-in_default-clause-reads
+unfolding end_at blanks_at
 returns-in_default-clause-reads g c =
-    sight_ends _ c.in_ok-byte.field-0 c.in_ok-byte.ensures.reads as_nothing tt end_at c.in_default.is (end_over _ ∙ blanks_over _)
+    sight_ends _ c.in_ok-byte.field-0 c.in_ok-byte.ensures.reads as_nothing tt end_at c.in_default.is refl
 
 pub returns-then-not-is_space-clause-reads : goal.returns-then-not-is_space-clause-reads
 returns-then-not-is_space-clause-reads g c =

@@ -1,30 +1,29 @@
-use Rattle.std.proofs.lemmas.Result.{err_from_is_err_and}
-use Rattle.pgm_planes.specs.Reading.{raster_at, end_of}
-use Rattle.pgm_planes.specs.declared.spelling.Spelling.TheVariants.{Plain}
-use Rattle.pgm_planes.proofs.CallLemmas.{Reads-then}
-use Rattle.pgm_planes.proofs.StepLemmas.{as_samples, raster_samples, raster_passes, raster_raw, end_passes, end_finds}
+use Rattle.std.proofs.Common.{refl}
+use Rattle.pgm_planes.proofs.Words.{err_from_is_err_and, samples_at, end_at, end_of, raster_at, form_of, Raw, Plain}
+use Rattle.pgm_planes.proofs.CallLemmas.{as_nothing}
+use Rattle.pgm_planes.proofs.StepLemmas.{as_samples, then_passes, then_finds, then_reads}
 use Rattle.pgm_planes.proofs.samples.read_raster.Goals as goal
 
 pub returns-in_err-samples-clause-reads : goal.returns-in_err-samples-clause-reads
+unfolding raster_at
 returns-in_err-samples-clause-reads g c =
     let p = err_from_is_err_and c.from_residual.result c.from_residual.ensures.1 in
-    rw (p.1, p.2) (raster_passes c.args.maxval c.args.count _ c.args.spelling c.in_err-samples.field-0.0 (rw c.form_of.ensures at c.in_err-samples.ensures.reads))
+    rw (p.1, p.2) (then_passes as_samples as_samples _ c.in_err-samples.field-0.0 (samples_at (form_of c.args.spelling c.args.maxval) c.args.maxval c.args.count 0) _ (rw c.form_of.ensures at c.in_err-samples.ensures.reads))
 
 pub returns-in_err-read_end-in-Plain-clause-reads : goal.returns-in_err-read_end-in-Plain-clause-reads
+unfolding raster_at
 returns-in_err-read_end-in-Plain-clause-reads g c =
     let p = err_from_is_err_and c.from_residual-in_err-read_end-in-Plain.result c.from_residual-in_err-read_end-in-Plain.ensures.1 in
-    rw (p.1, p.2, c.in-Plain.is) (Reads-then _ _ _ _ _ _ _ _ _ _ _ as_samples _ (raster_at Plain c.args.maxval c.args.count) (end_of Plain c.in_ok-samples.samples.items)
-    (raster_samples c.args.maxval c.args.count _ Plain c.in_ok-samples.samples (rw (c.form_of.ensures, c.in-Plain.is) at c.in_ok-samples.ensures.reads))
-    c.read_samples.ensures.limit
-    (end_passes _ c.in_ok-samples.samples c.in_err-read_end-in-Plain.field-0.0 c.in_err-read_end-in-Plain.ensures.reads))
+    rw (p.1, p.2, c.in-Plain.is) (then_reads as_samples as_samples c.in_ok-samples.samples _ (samples_at (form_of Plain c.args.maxval) c.args.maxval c.args.count 0) (end_of Plain) (rw (c.form_of.ensures, c.in-Plain.is) at c.in_ok-samples.ensures.reads) c.read_samples.ensures.limit
+    (then_passes as_nothing as_samples _ c.in_err-read_end-in-Plain.field-0.0 end_at _ c.in_err-read_end-in-Plain.ensures.reads))
 
 pub returns-in-Raw-clause-reads : goal.returns-in-Raw-clause-reads
+unfolding raster_at
 returns-in-Raw-clause-reads g c =
-    rw c.in-Raw.is (raster_raw c.args.maxval c.args.count _ c.in_ok-samples.samples (rw (c.form_of.ensures, c.in-Raw.is) at c.in_ok-samples.ensures.reads))
+    rw c.in-Raw.is (then_finds as_samples as_samples _ c.in_ok-samples.samples _ (samples_at (form_of Raw c.args.maxval) c.args.maxval c.args.count 0) (end_of Raw) (rw (c.form_of.ensures, c.in-Raw.is) at c.in_ok-samples.ensures.reads) (λ more rest. refl))
 
 pub returns-in_ok-read_end-in-Plain-clause-reads : goal.returns-in_ok-read_end-in-Plain-clause-reads
+unfolding raster_at
 returns-in_ok-read_end-in-Plain-clause-reads g c =
-    rw c.in-Plain.is (Reads-then _ _ _ _ _ _ _ _ _ _ _ as_samples _ (raster_at Plain c.args.maxval c.args.count) (end_of Plain c.in_ok-samples.samples.items)
-    (raster_samples c.args.maxval c.args.count _ Plain c.in_ok-samples.samples (rw (c.form_of.ensures, c.in-Plain.is) at c.in_ok-samples.ensures.reads))
-    c.read_samples.ensures.limit
-    (end_finds _ c.in_ok-samples.samples tt c.in_ok-read_end-in-Plain.ensures.reads))
+    rw c.in-Plain.is (then_reads as_samples as_samples c.in_ok-samples.samples _ (samples_at (form_of Plain c.args.maxval) c.args.maxval c.args.count 0) (end_of Plain) (rw (c.form_of.ensures, c.in-Plain.is) at c.in_ok-samples.ensures.reads) c.read_samples.ensures.limit
+    (then_finds as_nothing as_samples _ tt _ end_at _ c.in_ok-read_end-in-Plain.ensures.reads (λ more rest. refl)))

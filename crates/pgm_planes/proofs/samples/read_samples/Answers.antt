@@ -1,8 +1,5 @@
 use Rattle.std.proofs.Common.{◌≡◌, ◌∙◌, ◌≤◌, ◌+◌, ◌-◌, ◌++◌, ◌∷◌, [], ℕ, suc, get_or, arith, refl, sym}
-use Rattle.std.proofs.lemmas.Result.{err_from_is_err_and}
-use Rattle.pgm_planes.specs.Reading.{samples_at, sample_at}
-use Rattle.insar_ports.specs.Feeding.{limit_of}
-use Rattle.insar_ports.specs.Calls.{call_of}
+use Rattle.pgm_planes.proofs.Words.{err_from_is_err_and, samples_at, spelled_sample_at, limit_of, call_of}
 use Rattle.insar_ports.proofs.CallLemmas.{Moves-then}
 use Rattle.pgm_planes.proofs.CallLemmas.{Goes, as_number, Reads-then, Goes-then, gone, passes_on, finds}
 use Rattle.pgm_planes.proofs.PieceLemmas.{piece_below, piece_goes, piece_size}
@@ -50,7 +47,7 @@ loop-index-preserved g c =
     (and_others c.loop-index.samples.items c.args.form c.args.maxval (c.args.count - c.loop-index.index) c.loop-index.index)
     (and_others (c.loop-index.samples.items ++ c.in_ok-sample.sample ∷ []) c.args.form c.args.maxval (c.args.count - (c.loop-index.index + 1)) (c.loop-index.index + 1))
     c.loop-index.invariant.limit c.loop-index.invariant.goes
-    (gone as_number (λ xs. xs) _ c.in_ok-sample.sample (sample_at c.args.form c.args.maxval c.loop-index.index)
+    (gone as_number (λ xs. xs) _ c.in_ok-sample.sample (spelled_sample_at c.args.form c.args.maxval c.loop-index.index)
     (and_others c.loop-index.samples.items c.args.form c.args.maxval (c.args.count - c.loop-index.index) c.loop-index.index)
     (and_others (c.loop-index.samples.items ++ c.in_ok-sample.sample ∷ []) c.args.form c.args.maxval (c.args.count - (c.loop-index.index + 1)) (c.loop-index.index + 1))
     c.in_ok-sample.ensures.reads
@@ -82,7 +79,7 @@ returns-in_err-sample-clause-reads g c =
     (and_others c.loop-index.samples.items c.args.form c.args.maxval (c.args.count - c.loop-index.index) c.loop-index.index)
     c.loop-index.invariant.goes
     c.loop-index.invariant.limit
-    (passes_on as_number as_samples _ c.in_err-sample.field-0.0 (sample_at c.args.form c.args.maxval c.loop-index.index)
+    (passes_on as_number as_samples _ c.in_err-sample.field-0.0 (spelled_sample_at c.args.form c.args.maxval c.loop-index.index)
     (and_others c.loop-index.samples.items c.args.form c.args.maxval (c.args.count - c.loop-index.index) c.loop-index.index)
     c.in_err-sample.ensures.reads
     (λ beyond bytes f e. others_break c.args.form c.args.maxval c.loop-index.samples.items _ (c.args.count - (c.loop-index.index + 1)) c.loop-index.index beyond _ bytes f more e)))

@@ -1,7 +1,5 @@
 use Rattle.std.proofs.Common.{◌≡◌, ◌≤◌, ◌-◌, ℕ, vec_len, get_or}
-use Rattle.insar_ports.specs.Feeding.{source_name, limit_of}
-use Rattle.insar_ports.specs.Calls.{call_of}
-use Rattle.pgm_planes.specs.Reading.{samples_at}
+use Rattle.pgm_planes.proofs.Words.{source_name, limit_of, call_of, samples_at}
 use Rattle.pgm_planes.proofs.CallLemmas.{Goes}
 use Rattle.pgm_planes.proofs.StepLemmas.{and_others}
 use Rattle.pgm_planes.proofs.samples.read_samples.Given as goal

@@ -5,8 +5,8 @@ use Rattle.session_script.proofs.session.made_of.Goals as goal
 
 pub invariant_of-result : goal.invariant_of-result
 invariant_of-result c =
-    let p = c.args.planes in
-    let scripts = c.args.scripts in
+    let p = c.args.parts.planes in
+    let scripts = c.args.parts.scripts in
     let within = c.requires.complete.1 in
     record {
       same_size = (c.in_ok-first_mask.ensures.width ∙ p.same_width.1, c.in_ok-first_mask.ensures.height ∙ p.same_height.1);
@@ -19,7 +19,7 @@ invariant_of-result c =
 
 pub invariant_of-scene : goal.invariant_of-scene
 invariant_of-scene c =
-    let p = c.args.planes in
+    let p = c.args.parts.planes in
     record {
       cycle = p.cycle;
       same_width = (p.same_width.0, c.requires.sized.0);
@@ -29,7 +29,7 @@ invariant_of-scene c =
 
 pub returns-clause-made : goal.returns-clause-made
 returns-clause-made c =
-    let p = c.args.planes in
+    let p = c.args.parts.planes in
     record {
       phase_is = refl;
       weights_are = refl;

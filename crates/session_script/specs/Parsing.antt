@@ -1,0 +1,155 @@
+-- Parsing a session from left to right: words of helpers, which no clause of a public function cites. A parser is told whether
+-- more bytes come after those that it is given, the place of the first of them, and them. Where it needs a byte that comes, its
+-- outcome is the fault that bytes are too many: it is used where the limit lets no more out.
+use Rattle.std.specs.Prelude.{◌≡◌, ℕ, ◌+◌, ◌==◌, ◌&&◌, nat_lt, Bool, true, false, if◌then◌else◌, List, [], ◌∷◌, ◌++◌, length, Option, Some, None, Result, Ok, Err, ⊤}
+use Rattle.insar_ports.specs.Bytes.{HasMore, HasRisen}
+use Rattle.insar_ports.specs.Calls.{Call, Moves}
+use Rattle.pgm_planes.specs.declared.fault.InputFault.{InputFault}
+use Rattle.pgm_planes.specs.declared.fault.InputFault.TheVariants.{TooLong, Plane, SizesDiffer, ScriptLine, NoEnd, AfterEnd}
+use Rattle.pgm_planes.specs.declared.fault.Role.{Role}
+use Rattle.pgm_planes.specs.declared.fault.Role.TheVariants.{Phase, Weight, Mask}
+use Rattle.pgm_planes.specs.Planes.{PlaneOf}
+use Rattle.pgm_planes.specs.Reading.{Reading, Told, plane_at}
+use Rattle.session_script.specs.declared.fault.SessionFault.{SessionFault}
+use Rattle.session_script.specs.declared.fault.SessionFault.TheVariants.{Input, ReadFault, Memory}
+use Rattle.session_script.specs.declared.session_use.SessionUse.{SessionUse}
+use Rattle.session_script.specs.declared.session_use.SessionUse.TheVariants.{Alone, BeforeReport}
+use Rattle.session_script.specs.declared.word.Word.{Word}
+use Rattle.session_script.specs.declared.word.Word.TheVariants as words
+use Rattle.session_script.specs.Fields.{word_in}
+use Rattle.session_script.specs.Sections.{Sections, Frame, line_count, word_broken, with_command, with_word}
+use Rattle.session_script.specs.Scripts.{usual, meant}
+use Rattle.session_script.specs.Sessions.{ones_of, is_p, frame_in}
+
+-- a value, the place after it and the bytes from there; or a fault
+abbrev pub Parse : Type 0 → Type 0
+Parse A = Result (A × ℕ × List ℕ) InputFault
+
+abbrev pub Parser : Type 0 → Type 0
+Parser A = Bool → ℕ → List ℕ → Parse A
+
+abbrev pub parsed : {A : Type 0} → A → Parser A
+parsed x more at bytes = Ok (x, at, bytes)
+
+abbrev pub fails : {A : Type 0} → InputFault → Parser A
+fails fault more at bytes = Err fault
+
+-- the outcome at the end of the bytes, where no more come
+abbrev pub if_no_more : {A : Type 0} → Bool → Parse A → Parse A
+if_no_more true outcome = Err TooLong
+if_no_more false outcome = outcome
+
+-- one parser after the other
+abbrev pub and_then : {A B : Type 0} → Parse A → (A → ℕ → List ℕ → Parse B) → Parse B
+and_then (Ok x) f = f x.0 x.1 x.2
+and_then (Err fault) f = Err fault
+
+abbrev pub chain : {A B : Type 0} → Parser A → (A → Parser B) → Parser B
+chain p f more at bytes = and_then (p more at bytes) (λ x. f x more)
+
+-- the next byte, which stays
+unfoldable pub peek_parser : Parser (Option ℕ)
+peek_parser more at [] = if_no_more more (Ok (None, at, []))
+peek_parser more at (b ∷ bytes) = Ok (Some b, at, b ∷ bytes)
+
+-- ---- lines
+
+abbrev pub word_or_fault : ℕ → Option Word → Parser Word
+word_or_fault n None = fails (ScriptLine n)
+word_or_fault n (Some w) = parsed w
+
+-- the line with the number n, of which `line` was read: it is judged at its line feed or at its 65th byte
+unfoldable pub line_parser : ℕ → List ℕ → Parser Word
+line_parser n line more at [] = if_no_more more (Err NoEnd)
+line_parser n line more at (b ∷ bytes) = if b == 10 then word_or_fault n (word_in line) more (at + 1) bytes else (if nat_lt 63 (length line) then Err (ScriptLine n) else line_parser n (line ++ b ∷ []) more (at + 1) bytes)
+
+-- a word after sections; `next` is what parses the lines after it
+abbrev pub on_word : (Sections → Parser Sections) → Sections → Word → Option InputFault → Parser Sections
+on_word next ss w (Some fault) = fails fault
+on_word next ss words.Analyst None = next (with_word words.Analyst ss)
+on_word next ss words.End None = parsed ss
+on_word next ss (words.Command c) None = next (with_command c ss)
+
+abbrev pub on_line : (Sections → Parser Sections) → Frame → Sections → Option Word → Parser Sections
+on_line next f ss None = fails (ScriptLine (line_count ss + 1))
+on_line next f ss (Some w) = on_word next ss w (word_broken f (line_count ss + 1) ss w)
+
+-- the lines after some sections and a part of the next line
+unfoldable pub sections_parser : Frame → Sections → List ℕ → Parser Sections
+sections_parser f ss line more at [] = if_no_more more (Err NoEnd)
+sections_parser f ss line more at (b ∷ bytes) = if b == 10 then on_line (λ later beyond place rest. sections_parser f later [] more (at + 1) bytes) f ss (word_in line) more (at + 1) bytes else (if nat_lt 63 (length line) then Err (ScriptLine (line_count ss + 1)) else sections_parser f ss (line ++ b ∷ []) more (at + 1) bytes)
+
+-- ---- the script part
+
+-- after the line `end` of a session that stands alone
+abbrev pub alone_end : Sections → Option ℕ → Parser Sections
+alone_end ss None = parsed (meant ss)
+alone_end ss (Some b) = λ more at bytes. Err (AfterEnd at)
+
+abbrev pub alone_script : Frame → Option ℕ → Parser Sections
+alone_script f None = parsed usual
+alone_script f (Some b) = chain (sections_parser f [] []) (λ ss. chain peek_parser (alone_end ss))
+
+abbrev pub script_parser : Frame → SessionUse → Parser Sections
+script_parser f Alone = chain peek_parser (alone_script f)
+script_parser f BeforeReport = chain (sections_parser f [] []) (λ ss. parsed (meant ss))
+
+-- ---- the planes
+
+abbrev pub as_parse : {A : Type 0} → Role → Reading A → Parse A
+as_parse role (Ok x) = Ok x
+as_parse role (Err (Some fault)) = Err (Plane role fault)
+as_parse role (Err None) = Err TooLong
+
+abbrev pub plane_parser : Role → Parser PlaneOf
+plane_parser role more at bytes = as_parse role (plane_at role more at bytes)
+
+abbrev pub has_size : PlaneOf → PlaneOf → Bool
+has_size p q = (q.width == p.width) && (q.height == p.height)
+
+abbrev pub if_sized : Role → PlaneOf → PlaneOf → Parser PlaneOf
+if_sized role phase p more at bytes = if has_size phase p then Ok (p, at, bytes) else Err (SizesDiffer role)
+
+abbrev pub is_begun : Option ℕ → Bool
+is_begun None = false
+is_begun (Some b) = is_p b
+
+abbrev pub later_plane : Role → PlaneOf → Bool → Parser PlaneOf
+later_plane role phase true = chain (plane_parser role) (if_sized role phase)
+later_plane role phase false = parsed (ones_of phase)
+
+abbrev pub later_parser : Role → PlaneOf → Parser PlaneOf
+later_parser role phase = chain peek_parser (λ got. later_plane role phase (is_begun got))
+
+pub record ThreePlanes : Type 0 where
+  pub phase : PlaneOf
+  pub weights : PlaneOf
+  pub mask : PlaneOf
+
+abbrev pub three : PlaneOf → PlaneOf → PlaneOf → ThreePlanes
+three phase weights mask = record { phase = phase; weights = weights; mask = mask }
+
+abbrev pub planes_parser : Parser ThreePlanes
+planes_parser = chain (plane_parser Phase) (λ p. chain (later_parser Weight p) (λ w. chain (later_parser Mask p) (λ m. parsed (three p w m))))
+
+-- ---- a session
+
+abbrev pub session_parser : SessionUse → ℕ → Parser (ThreePlanes × Sections)
+session_parser usage side = chain planes_parser (λ p. chain (script_parser (frame_in side p.phase) usage) (λ ss. parsed (p, ss)))
+
+-- ---- calls on a feed
+
+-- the limit was handed out and another byte is there
+abbrev pub IsFull : Call → Type 0
+IsFull c = (c.end ≡ c.limit) × HasMore c.left
+
+-- the call's outcome is the parser's, of the bytes that the limit lets out; or a read fault was counted; lack of memory has no cause
+abbrev pub IsOutcome : {X A : Type 0} → (X → A) → Result X SessionFault → Call → Parser A → Type 0
+IsOutcome view (Ok x) c p = Told c (λ more bytes rest. p more c.at bytes ≡ Ok (view x, c.end, rest))
+IsOutcome view (Err (Input fault)) c p = Told c (λ more bytes rest. p more c.at bytes ≡ Err fault) × (fault ≡ TooLong → IsFull c)
+IsOutcome view (Err ReadFault) c p = HasRisen c.before c.after
+IsOutcome view (Err Memory) c p = ⊤
+
+pub record Parses {X A : Type 0} (view : X → A) (result : Result X SessionFault) (c : Call) (p : Parser A) : Type 0 where
+  pub moves : Moves c
+  pub outcome : IsOutcome view result c p

@@ -1,0 +1,25 @@
+ghost use Rattle.std.specs.Prelude.{◌≡◌};
+
+use raster_model::{Plane, Script, Tiling};
+
+/// The planes of an input, which have one size.
+#[derive(Drop)]
+pub struct Planes {
+    /// The wrapped phase, in units of 1/65536 cycle.
+    pub phase: Plane,
+    /// The weights of the pixels.
+    pub weights: Plane,
+    /// 0 at masked pixels.
+    pub mask: Plane,
+    pub ghost cycle: { phase.maxval ≡ 65535 },
+    pub ghost same_width: { (weights.width ≡ phase.width) × (mask.width ≡ phase.width) },
+    pub ghost same_height: { (weights.height ≡ phase.height) × (mask.height ≡ phase.height) },
+}
+
+/// The planes and scripts of a session, of which it is made.
+#[derive(Drop)]
+pub struct Parts {
+    pub planes: Planes,
+    pub tiling: Tiling,
+    pub scripts: Vec<Script>,
+}

@@ -13,10 +13,10 @@ use Rattle.tile_board.specs.declared.entry.Entry.{Entry}
 use Rattle.tile_board.specs.declared.entry.Entry.TheVariants.{Revised, Kept, Published, Settled, Shown}
 use Rattle.tile_board.specs.Histories.{IsComplete, IsLegal, mask_in}
 use Rattle.tile_board.proofs.ListLemmas.{get_below}
-use Rattle.report_text.specs.Certified.{IsCertifiedAt, IsCertifiedBehind, IsCertifiedReport, IsCertifiedSurface, ShowsSurface, history_of, no_data}
+use Rattle.report_text.specs.Certified.{IsCertifiedAt, IsCertifiedAfter, IsCertifiedReport, IsCertifiedSurface, ShowsSurface, history_of, no_data}
 use Rattle.report_text.specs.Reports.{ItemOf, ReportOf, SurfaceOf}
 use Rattle.report_text.specs.Same.{AreSameItems, IsSameItem, IsSameReport, IsSameSurface, MayBeSame}
-use Rattle.report_text.specs.Text.{tiles_along, tiles_in}
+use Rattle.report_text.specs.Text.{tiles_by, tiles_in}
 use Rattle.report_check.specs.Same.{EqualReportsAreCertifiedAlike}
 use Rattle.report_check.specs.Verdicts.{HasHeadOf}
 use Rattle.sums_and_lists.proofs.Lists.{some_at}
@@ -83,7 +83,7 @@ module _ (s t : Session) (H : List Entry) (alike : AreAlike s t H) where
     subst (λ (r : Raster). IsCertifiedSurface r (mask_in t H revision) l is.0) alike.raster (certified_too (raster_of s.scene) (mask_in s H revision) (mask_in t H revision) (alike.masks revision) k l same is.0 is.1),
   )
 
-  behind_too : (e : Entry) (a b : Option SurfaceOf) → MayBeSameOn (raster_of s.scene) a b → IsCertifiedBehind s H e a → IsCertifiedBehind t H e b
+  behind_too : (e : Entry) (a b : Option SurfaceOf) → MayBeSameOn (raster_of s.scene) a b → IsCertifiedAfter s H e a → IsCertifiedAfter t H e b
   behind_too (Revised analyst edit) a b same is = none_too (raster_of s.scene) a b same is
   behind_too (Kept tile stamp) a b same is = none_too (raster_of s.scene) a b same is
   behind_too (Published analyst revision) a b same is = at_too revision a b same is
@@ -94,8 +94,8 @@ module _ (s t : Session) (H : List Entry) (alike : AreAlike s t H) where
 module _ (s t : Session) (v w : ReportOf) (equal : IsSameReport v w) (head : HasHeadOf s v) where
   tiles_there : tiles_in v ≡ tiles_of s.scene.tiling
   tiles_there =
-      ap (λ (n : ℕ). tiles_along v.height n * tiles_along v.width n) head.side
-      ∙ ap₂ (λ (x y : ℕ). tiles_along y s.scene.tiling.side * tiles_along x s.scene.tiling.side) (head.size.0 ∙ sym s.scene.same_width.1) (head.size.1 ∙ sym s.scene.same_height.1)
+      ap (λ (n : ℕ). tiles_by v.width v.height n) head.side
+      ∙ ap₂ (λ (x y : ℕ). tiles_by x y s.scene.tiling.side) (head.size.0 ∙ sym s.scene.same_width.1) (head.size.1 ∙ sym s.scene.same_height.1)
 
   pub same_there : (a b : Option SurfaceOf) → MayBeSame v.width v.height (tiles_in v) a b → MayBeSameOn (raster_of s.scene) a b
   same_there a b same =
@@ -103,14 +103,14 @@ module _ (s t : Session) (v w : ReportOf) (equal : IsSameReport v w) (head : Has
       let two = subst (λ (n : ℕ). MayBeSame s.scene.phase.width n (tiles_in v) a b) head.size.1 one in
       subst (λ (n : ℕ). MayBeSame s.scene.phase.width s.scene.phase.height n a b) tiles_there two
 
-  pub item_too : AreAlike s t (history_of v) → (i j : ItemOf) → IsSameItem v.width v.height (tiles_in v) i j → IsCertifiedBehind s (history_of v) i.entry i.surface → IsCertifiedBehind t (history_of w) j.entry j.surface
+  pub item_too : AreAlike s t (history_of v) → (i j : ItemOf) → IsSameItem v.width v.height (tiles_in v) i j → IsCertifiedAfter s (history_of v) i.entry i.surface → IsCertifiedAfter t (history_of w) j.entry j.surface
   item_too alike i j same is =
       let behind = behind_too s t (history_of v) alike i.entry i.surface j.surface (same_there i.surface j.surface same.surface) is in
-      let entry = subst (λ (e : Entry). IsCertifiedBehind t (history_of v) e j.surface) same.entry behind in
-      subst (λ (H : List Entry). IsCertifiedBehind t H j.entry j.surface) (same_history v w equal) entry
+      let entry = subst (λ (e : Entry). IsCertifiedAfter t (history_of v) e j.surface) same.entry behind in
+      subst (λ (H : List Entry). IsCertifiedAfter t H j.entry j.surface) (same_history v w equal) entry
 
 -- all of them, where the report is certified
-pub items_too : (s t : Session) (v w : ReportOf) → IsSameReport v w → IsCertifiedReport s v → AreAlike s t (history_of v) → (k : ℕ) (j : ItemOf) → slice_get w.items k ≡ Some j → IsCertifiedBehind t (history_of w) j.entry j.surface
+pub items_too : (s t : Session) (v w : ReportOf) → IsSameReport v w → IsCertifiedReport s v → AreAlike s t (history_of v) → (k : ℕ) (j : ItemOf) → slice_get w.items k ≡ Some j → IsCertifiedAfter t (history_of w) j.entry j.surface
 items_too s t v w equal c alike k j at =
     let there = same_item v w equal k j at in
     let head : HasHeadOf s v = record { size = (c.width, c.height); side = c.side; rule = c.rule } in

@@ -11,11 +11,11 @@ use Rattle.raster_model.specs.declared.session.Session.{Session}
 use Rattle.raster_model.specs.declared.tiling.Tiling.{Tiling}
 use Rattle.raster_model.specs.declared.weights.RuleKind.{RuleKind}
 use Rattle.raster_model.specs.Masks.{open_at}
-use Rattle.raster_model.specs.Planes.{sample_at}
+use Rattle.raster_model.specs.Planes.{plane_sample}
 use Rattle.raster_model.specs.Raster.{Raster}
 use Rattle.raster_model.specs.Scene.{raster_of}
 use Rattle.raster_model.specs.Scripts.{rect_of}
-use Rattle.raster_model.specs.Sums.{Field, at_end, at_start}
+use Rattle.raster_model.specs.Sums.{Field, at_edge_end, at_edge_start}
 use Rattle.raster_model.specs.Tiles.{tile_at, tiles_of}
 use Rattle.raster_model.specs.Weights.{edge_weight, rule_number}
 use Rattle.mask_revisions.specs.Edits.{any_below, changes_at, differ_in, differs, edited, has_pixel, last_up_to, mask_after, mask_at, opens, stamp_of}
@@ -32,15 +32,15 @@ abbrev samples_by : ℕ → List ℕ → Field ℕ
 samples_by width samples x y = slice_index samples (y * width + x)
 
 abbrev weights_by : RuleKind → ℕ → Field ℕ → Edge → ℕ
-weights_by rule maxval samples e = rule_number rule maxval (at_start samples e) (at_end samples e)
+weights_by rule maxval samples e = rule_number rule maxval (at_edge_start samples e) (at_edge_end samples e)
 
 module _ (p q : Plane) (same : IsSamePlane p q) where
-  same_samples : sample_at p ≡ sample_at q
+  same_samples : plane_sample p ≡ plane_sample q
   same_samples = ap₂ samples_by same.width same.samples
 
   same_weights : (rule other : RuleKind) → rule ≡ other → edge_weight rule p ≡ edge_weight other q
   same_weights rule other e =
-      ap (λ (k : RuleKind). weights_by k p.maxval (sample_at p)) e
+      ap (λ (k : RuleKind). weights_by k p.maxval (plane_sample p)) e
       ∙ ap₂ (weights_by other) same.maxval same_samples
 
 -- ---- tiles
@@ -119,7 +119,7 @@ module _ (s t : Session) (same : IsSameInput s t) where
     side = same.side;
   }
 
-  phases : sample_at s.scene.phase ≡ sample_at t.scene.phase
+  phases : plane_sample s.scene.phase ≡ plane_sample t.scene.phase
   phases = same_samples s.scene.phase t.scene.phase same.phase
 
   edges : edge_weight s.scene.rule s.scene.weights ≡ edge_weight t.scene.rule t.scene.weights

@@ -27,7 +27,7 @@ use Rattle.report_text.specs.Same.{IsSameReport, IsSameSurface}
 use Rattle.report_check.specs.declared.verdict.CheckVerdict.{CheckVerdict}
 use Rattle.report_check.specs.declared.verdict.CheckVerdict.TheVariants.{Accepted, Header, History, Value, Tile, Seams, TileCost, SeamCost}
 use Rattle.report_check.specs.Same.{IsSameInput, IsSamePlane, VerdictIsOfTexts}
-use Rattle.report_check.specs.Verdicts.{AllValuesFit, AreUnfitSeams, BreaksHistoryAt, BreaksInSurfaces, DiffersAt, FitsPhase, HasHeadOf, HasRuleOf, HasSideOf, HasSizeOf, IsFirstUnfitSurface, IsFirstUnfitTile, IsFirstUnfitValue, IsMiscounted, IsSurfaceVerdict, MayNotCome, PassesSeams, PassesTiles, TilesAreCertified, ValueFits, cycles_in, surface_in}
+use Rattle.report_check.specs.Verdicts.{AllValuesFit, AreUnfitSeams, BreaksHistoryAt, BreaksInSurfaces, DiffersAt, FitsPhase, HasHeadOf, HasRuleOf, HasSideOf, HasReportSize, IsFirstUnfitSurface, IsFirstUnfitTile, IsFirstUnfitValue, IsMiscounted, IsSurfaceVerdict, MayNotCome, PassesSeams, PassesTiles, TilesAreCertified, ValueFits, cycles_shown, surface_shown}
 use Rattle.report_check.proofs.EqualReports.{MayBeSameOn, item_too, same_history, same_item, same_there}
 use Rattle.report_check.proofs.EqualSessions.{acceptance_is_of_texts, are_alike, complete_too, legal_too, step_too}
 use Rattle.report_check.proofs.SurfaceLemmas.{surface_verdict_too}
@@ -49,10 +49,10 @@ same_input_back s t same = record {
 
 -- ---- the head
 module _ (s t : Session) (v w : ReportOf) (same : IsSameInput s t) (equal : IsSameReport v w) where
-  size_too : HasSizeOf s v → HasSizeOf t w
+  size_too : HasReportSize s v → HasReportSize t w
   size_too h = (sym equal.width ∙ h.0 ∙ same.phase.width, sym equal.height ∙ h.1 ∙ same.phase.height)
 
-  size_back : HasSizeOf t w → HasSizeOf s v
+  size_back : HasReportSize t w → HasReportSize s v
   size_back h = (equal.width ∙ h.0 ∙ sym same.phase.width, equal.height ∙ h.1 ∙ sym same.phase.height)
 
   side_too : HasSideOf s v → HasSideOf t w
@@ -99,29 +99,29 @@ value_too r m values others x y e f = record {
 
 -- ---- surfaces that are equal, under one mask
 module _ (r : Raster) (m : Field Bool) (k l : SurfaceOf) (equal : IsSameSurface r.width r.height r.tile_count k l) where
-  same_cycles : (x y : ℕ) → x < r.width → y < r.height → cycles_in k.values x y ≡ cycles_in l.values x y
+  same_cycles : (x y : ℕ) → x < r.width → y < r.height → cycles_shown k.values x y ≡ cycles_shown l.values x y
   same_cycles x y a b = ap (λ (z : ℤ). int_div_euclid z (pos 65536)) (equal.values x y a b)
 
-  same_surface : (x y : ℕ) → x < r.width → y < r.height → surface_in r k x y ≡ surface_in r l x y
+  same_surface : (x y : ℕ) → x < r.width → y < r.height → surface_shown r k x y ≡ surface_shown r l x y
   same_surface x y a b = ap (λ (z : ℤ). pos (r.phase x y) +ℤ pos 65536 *ℤ z) (same_cycles x y a b)
 
   same_mask : (x y : ℕ) → x < r.width → y < r.height → m x y ≡ m x y
   same_mask x y a b = refl
 
-  agree : (x y : ℕ) → x < r.width → y < r.height → IsTrue (m x y) → surface_in r k x y ≡ surface_in r l x y
+  agree : (x y : ℕ) → x < r.width → y < r.height → IsTrue (m x y) → surface_shown r k x y ≡ surface_shown r l x y
   agree x y a b o = same_surface x y a b
 
-  same_total : (F : Edge → ℤ) → flow_total r m (surface_in r k) F ≡ flow_total r m (surface_in r l) F
-  same_total = same_flow_total r m m same_mask (surface_in r k) (surface_in r l) agree
+  same_total : (F : Edge → ℤ) → flow_total r m (surface_shown r k) F ≡ flow_total r m (surface_shown r l) F
+  same_total = same_flow_total r m m same_mask (surface_shown r k) (surface_shown r l) agree
 
-  same_tile : (t : ℕ) → tile_cost r m t (surface_in r k) ≡ tile_cost r m t (surface_in r l)
-  same_tile = same_tile_cost r m m same_mask (surface_in r k) (surface_in r l) agree
+  same_tile : (t : ℕ) → tile_cost r m t (surface_shown r k) ≡ tile_cost r m t (surface_shown r l)
+  same_tile = same_tile_cost r m m same_mask (surface_shown r k) (surface_shown r l) agree
 
-  same_tiles : tile_costs r m (surface_in r k) ≡ tile_costs r m (surface_in r l)
-  same_tiles = same_tile_costs r m m same_mask (surface_in r k) (surface_in r l) agree
+  same_tiles : tile_costs r m (surface_shown r k) ≡ tile_costs r m (surface_shown r l)
+  same_tiles = same_tile_costs r m m same_mask (surface_shown r k) (surface_shown r l) agree
 
-  same_seams : seam_cost r m (surface_in r k) ≡ seam_cost r m (surface_in r l)
-  same_seams = same_seam_cost r m m same_mask (surface_in r k) (surface_in r l) agree
+  same_seams : seam_cost r m (surface_shown r k) ≡ seam_cost r m (surface_shown r l)
+  same_seams = same_seam_cost r m m same_mask (surface_shown r k) (surface_shown r l) agree
 
   -- values
   values_too : AllValuesFit r m k.values → AllValuesFit r m l.values
@@ -136,15 +136,15 @@ module _ (r : Raster) (m : Field Bool) (k l : SurfaceOf) (equal : IsSameSurface 
   }
 
   -- faces
-  faces_on : (t : ℕ) (faces : List ℤ) (v : TileVerdict) → IsFacesVerdict r m t (surface_in r k) faces v → IsFacesVerdict r m t (surface_in r l) faces v
-  faces_on t faces tile_verdicts.Good h = tile_too r m m same_mask (surface_in r k) (surface_in r l) agree t faces h
+  faces_on : (t : ℕ) (faces : List ℤ) (v : TileVerdict) → IsFacesVerdict r m t (surface_shown r k) faces v → IsFacesVerdict r m t (surface_shown r l) faces v
+  faces_on t faces tile_verdicts.Good h = tile_too r m m same_mask (surface_shown r k) (surface_shown r l) agree t faces h
   faces_on t faces tile_verdicts.Shape h = h
   faces_on t faces (tile_verdicts.Range x y) h = h
   faces_on t faces (tile_verdicts.FaceAtEdge e) h = h
   faces_on t faces (tile_verdicts.CostDiffers cost bound) h = (h.0, h.1, h.2 ∙ same_tile t, h.3, h.4)
 
-  faces_too : (t : ℕ) → t < r.tile_count → (v : TileVerdict) → IsFacesVerdict r m t (surface_in r k) (k.faces t) v → IsFacesVerdict r m t (surface_in r l) (l.faces t) v
-  faces_too t below v h = subst (λ (faces : List ℤ). IsFacesVerdict r m t (surface_in r l) faces v) (equal.faces t below) (faces_on t (k.faces t) v h)
+  faces_too : (t : ℕ) → t < r.tile_count → (v : TileVerdict) → IsFacesVerdict r m t (surface_shown r k) (k.faces t) v → IsFacesVerdict r m t (surface_shown r l) (l.faces t) v
+  faces_too t below v h = subst (λ (faces : List ℤ). IsFacesVerdict r m t (surface_shown r l) faces v) (equal.faces t below) (faces_on t (k.faces t) v h)
 
   tiles_too : (count : ℕ) → count ≤ r.tile_count → TilesAreCertified r m k count → TilesAreCertified r m l count
   tiles_too count within all t below = faces_too t (omega (arith, within, below)) tile_verdicts.Good (all t below)
@@ -161,16 +161,16 @@ module _ (r : Raster) (m : Field Bool) (k l : SurfaceOf) (equal : IsSameSurface 
   passes_tiles_too p = record { values = values_too p.values; tiles = tiles_too r.tile_count (omega arith) p.tiles }
 
   -- flows
-  anchor_too : IsAnchored r m (surface_in r k) → IsAnchored r m (surface_in r l)
-  anchor_too anchored = anchored_too r m m same_mask (surface_in r k) (surface_in r l) agree anchored
+  anchor_too : IsAnchored r m (surface_shown r k) → IsAnchored r m (surface_shown r l)
+  anchor_too anchored = anchored_too r m m same_mask (surface_shown r k) (surface_shown r l) agree anchored
 
-  off_too : (z : ℤ) → IsOffAnchor r m (cycles_in k.values) z → IsOffAnchor r m (cycles_in l.values) z
+  off_too : (z : ℤ) → IsOffAnchor r m (cycles_shown k.values) z → IsOffAnchor r m (cycles_shown l.values) z
   off_too z o = record { x = o.x; y = o.y; first = o.first; cycles_there = o.cycles_there ∙ same_cycles o.x o.y o.first.0.0 o.first.0.1; off = o.off }
 
-  good_on : (flows : List ℤ) → IsGoodAtSeams r m (cycles_in k.values) flows → IsGoodAtSeams r m (cycles_in l.values) flows
-  good_on flows h = (anchor_too h.0, seams_too r m m same_mask (surface_in r k) (surface_in r l) agree flows h.1)
+  good_on : (flows : List ℤ) → IsGoodAtSeams r m (cycles_shown k.values) flows → IsGoodAtSeams r m (cycles_shown l.values) flows
+  good_on flows h = (anchor_too h.0, seams_too r m m same_mask (surface_shown r k) (surface_shown r l) agree flows h.1)
 
-  flows_on : (labels : Field ℕ) (count : ℕ) (flows : List ℤ) (v : SeamVerdict) → IsSeamVerdict r m labels count (cycles_in k.values) flows v → IsSeamVerdict r m labels count (cycles_in l.values) flows v
+  flows_on : (labels : Field ℕ) (count : ℕ) (flows : List ℤ) (v : SeamVerdict) → IsSeamVerdict r m labels count (cycles_shown k.values) flows v → IsSeamVerdict r m labels count (cycles_shown l.values) flows v
   flows_on labels count flows seam_verdicts.Good h = good_on flows h
   flows_on labels count flows seam_verdicts.Shape h = h
   flows_on labels count flows (seam_verdicts.Range v) h = h
@@ -184,14 +184,14 @@ module _ (r : Raster) (m : Field Bool) (k l : SurfaceOf) (equal : IsSameSurface 
     labels = u.labels;
     count = u.count;
     regions = u.regions;
-    verdict_is = subst (λ (flows : List ℤ). IsSeamVerdict r m u.labels u.count (cycles_in l.values) flows v) equal.flows (flows_on u.labels u.count k.flows v u.verdict_is);
+    verdict_is = subst (λ (flows : List ℤ). IsSeamVerdict r m u.labels u.count (cycles_shown l.values) flows v) equal.flows (flows_on u.labels u.count k.flows v u.verdict_is);
     not_good = u.not_good;
   }
 
   passes_too : PassesSeams r m k → PassesSeams r m l
   passes_too p = record {
     tiles = passes_tiles_too p.tiles;
-    seams = subst (λ (flows : List ℤ). IsGoodAtSeams r m (cycles_in l.values) flows) equal.flows (good_on k.flows p.seams);
+    seams = subst (λ (flows : List ℤ). IsGoodAtSeams r m (cycles_shown l.values) flows) equal.flows (good_on k.flows p.seams);
   }
 
   -- costs
@@ -207,7 +207,7 @@ module _ (r : Raster) (m : Field Bool) (k l : SurfaceOf) (equal : IsSameSurface 
   equal_surface_verdict revision (Seams told v) h = (h.0, (passes_tiles_too h.1.0, unfit_seams_too v h.1.1))
   equal_surface_verdict revision (TileCost told written counted) h = (
     h.0,
-    (passes_too h.1.0, miscounted_too k.tile_cost l.tile_cost (tile_costs r m (surface_in r k)) (tile_costs r m (surface_in r l)) written counted equal.tile_cost same_tiles h.1.1),
+    (passes_too h.1.0, miscounted_too k.tile_cost l.tile_cost (tile_costs r m (surface_shown r k)) (tile_costs r m (surface_shown r l)) written counted equal.tile_cost same_tiles h.1.1),
   )
   equal_surface_verdict revision (SeamCost told written counted) h = (
     h.0,
@@ -215,15 +215,15 @@ module _ (r : Raster) (m : Field Bool) (k l : SurfaceOf) (equal : IsSameSurface 
       passes_too h.1.0,
       (
         ap pos (sym equal.tile_cost) ∙ h.1.1.0 ∙ same_tiles,
-        miscounted_too k.seam_cost l.seam_cost (seam_cost r m (surface_in r k)) (seam_cost r m (surface_in r l)) written counted equal.seam_cost same_seams h.1.1.1,
+        miscounted_too k.seam_cost l.seam_cost (seam_cost r m (surface_shown r k)) (seam_cost r m (surface_shown r l)) written counted equal.seam_cost same_seams h.1.1.1,
       ),
     ),
   )
 
 -- ---- the first surface that is not in order
-surface_behind : (r : Raster) (k : SurfaceOf) (b : Option SurfaceOf) → MayBeSameOn r (Some k) b → (l : SurfaceOf) × (b ≡ Some l) × IsSameSurface r.width r.height r.tile_count k l
-surface_behind r k None same = absurd same
-surface_behind r k (Some l) same = (l, refl, same)
+surface_after : (r : Raster) (k : SurfaceOf) (b : Option SurfaceOf) → MayBeSameOn r (Some k) b → (l : SurfaceOf) × (b ≡ Some l) × IsSameSurface r.width r.height r.tile_count k l
+surface_after r k None same = absurd same
+surface_after r k (Some l) same = (l, refl, same)
 
 module _ (s t : Session) (v w : ReportOf) (same : IsSameInput s t) (equal : IsSameReport v w) where
   abbrev H : List Entry
@@ -242,7 +242,7 @@ module _ (s t : Session) (v w : ReportOf) (same : IsSameInput s t) (equal : IsSa
       let there = some_at w.items u.at (omega (arith, get_below v.items u.at u.item u.item_is, equal.items.0)) in
       let item = equal.items.1 u.at u.item there.0 u.item_is there.1 in
       let behind = subst (λ (a : Option SurfaceOf). MayBeSameOn (raster_of s.scene) a there.0.surface) u.surface_is (same_there s t v w equal head u.item.surface there.0.surface item.surface) in
-      let found = surface_behind (raster_of s.scene) u.surface there.0.surface behind in
+      let found = surface_after (raster_of s.scene) u.surface there.0.surface behind in
       record {
         at = u.at;
         item = there.0;

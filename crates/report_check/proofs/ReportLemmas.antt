@@ -18,17 +18,17 @@ use Rattle.tile_board.proofs.ListLemmas.{get_map}
 use Rattle.report_text.specs.declared.contents.Report.{Report}
 use Rattle.report_text.specs.declared.items.Item.{Item}
 use Rattle.report_text.specs.declared.items.ReportSurface.{ReportSurface}
-use Rattle.report_text.specs.Certified.{IsCertifiedBehind, IsCertifiedReport, SurfacesAreBest, history_of}
-use Rattle.report_text.specs.Contents.{report_told, told_behind, told_item}
+use Rattle.report_text.specs.Certified.{IsCertifiedAfter, IsCertifiedReport, SurfacesAreBest, history_of}
+use Rattle.report_text.specs.Contents.{report_told, told_after, told_item}
 use Rattle.report_text.specs.Fitting.{SurfaceFits}
 use Rattle.report_text.specs.Reports.{ItemOf, ReportOf, SurfaceOf}
-use Rattle.report_text.specs.Text.{tiles_along}
+use Rattle.report_text.specs.Text.{tiles_by}
 use Rattle.report_text.proofs.CertifiedLemmas.{certified_reports_are_best}
 use Rattle.report_check.specs.declared.verdict.CheckVerdict.{CheckVerdict}
 use Rattle.report_check.specs.declared.verdict.CheckVerdict.TheVariants.{Accepted, Header, History, Value, Tile, Seams, TileCost, SeamCost}
 use Rattle.report_check.specs.Replays.{IsReplay, entries_in}
-use Rattle.report_check.specs.Shown.{AreCertifiedBehind, IsGoodBehind, IsUnfitBehind}
-use Rattle.report_check.specs.Verdicts.{BreaksHistoryAt, HasHeadOf, IsFirstUnfitSurface, IsSurfaceVerdict, IsVerdict, surface_in}
+use Rattle.report_check.specs.Shown.{AreCertifiedAfter, IsGoodAfter, IsUnfitAfter}
+use Rattle.report_check.specs.Verdicts.{BreaksHistoryAt, HasHeadOf, IsFirstUnfitSurface, IsSurfaceVerdict, IsCheckVerdict, surface_shown}
 use Rattle.report_check.proofs.HistoryLemmas.{entry_at}
 use Rattle.tile_board.proofs.HeldLemmas.{mask_told}
 use Rattle.report_check.proofs.SurfaceLemmas.{good_is_certified, good_too, has_phases, surface_verdict_too}
@@ -70,17 +70,17 @@ module _ (s : Session) (E : List Entry) (n : ℕ) (held : RevisionsView) (kept :
       let present : mask_in s (take n E) r ≡ present_mask s (take n E) = ap (mask_in s (take n E)) e in
       (mask_told is.past).clear_at x y l h ∙ sym (ap (λ (f : Field Bool). f x y) (later ∙ present))
 
-  pub certified_there : (e : Entry) (behind : Option SurfaceOf) → IsStep s (take n E) e → IsGoodBehind (raster_of s.scene) (open_at held.mask) e behind → IsCertifiedBehind s E e behind
+  pub certified_there : (e : Entry) (behind : Option SurfaceOf) → IsStep s (take n E) e → IsGoodAfter (raster_of s.scene) (open_at held.mask) e behind → IsCertifiedAfter s E e behind
   certified_there (Revised a edit) behind step good = good
   certified_there (Kept t stamp) behind step good = good
   certified_there (Published a r) None step good = good
   certified_there (Published a r) (Some k) step good =
       let there = good_too (raster_of s.scene) (open_at held.mask) (mask_in s E r) (same r step.1) k good in
-      (surface_in (raster_of s.scene) k, good_is_certified (raster_of s.scene) (mask_in s E r) k (has_phases s.scene) there)
+      (surface_shown (raster_of s.scene) k, good_is_certified (raster_of s.scene) (mask_in s E r) k (has_phases s.scene) there)
   certified_there (Settled a r) behind step good = good
   certified_there (Shown a r) behind step good = good
 
-  pub unfit_there : (e : Entry) (behind : Option SurfaceOf) (verdict : CheckVerdict) → IsStep s (take n E) e → IsUnfitBehind (raster_of s.scene) (open_at held.mask) e behind verdict → IsUnfitEntry s E e behind verdict
+  pub unfit_there : (e : Entry) (behind : Option SurfaceOf) (verdict : CheckVerdict) → IsStep s (take n E) e → IsUnfitAfter (raster_of s.scene) (open_at held.mask) e behind verdict → IsUnfitEntry s E e behind verdict
   unfit_there (Revised a edit) behind verdict step unfit = absurd unfit
   unfit_there (Kept t stamp) behind verdict step unfit = absurd unfit
   unfit_there (Published a r) None verdict step unfit = absurd unfit
@@ -96,7 +96,7 @@ module _ (s : Session) (E : List Entry) (n : ℕ) (held : RevisionsView) (kept :
   unfit_there (Shown a r) behind verdict step unfit = absurd unfit
 
 -- ---- the items of a report, one by one
-tiles_same : (a b c w h g : ℕ) → a ≡ w → b ≡ h → c ≡ g → tiles_along b c * tiles_along a c ≡ ((h + g - 1) / g) * ((w + g - 1) / g)
+tiles_same : (a b c w h g : ℕ) → a ≡ w → b ≡ h → c ≡ g → tiles_by a b c ≡ ((h + g - 1) / g) * ((w + g - 1) / g)
 tiles_same a b c w h g e f d = rw (e, f, d) refl
 
 module _ (s : Session) (v : Report) (head : HasHeadOf s (report_told v)) (legal : IsLegal s (entries_in v.items.items)) (n : ℕ) (item : Item) (there : slice_get v.items.items n ≡ Some item) where
@@ -118,24 +118,24 @@ module _ (s : Session) (v : Report) (head : HasHeadOf s (report_told v)) (legal 
         faces = f.faces ∙ tiles_same v.width v.height v.side s.scene.tiling.width s.scene.tiling.height s.scene.tiling.side (head.size.0 ∙ sym s.scene.same_width.1) (head.size.1 ∙ sym s.scene.same_height.1) head.side;
       }
 
-  module _ (held : RevisionsView) (kept : List Bool) (marks : List ℕ) (last : Option ℕ) (is : IsReplay s (take n (entries_in items)) held kept marks last) (before : (k : ℕ) (i : ItemOf) → k < n → slice_get told.items k ≡ Some i → IsCertifiedBehind s (history_of told) i.entry i.surface) where
-    certified_here : IsGoodBehind (raster_of s.scene) (open_at held.mask) item.entry (told_behind item.surface) → IsCertifiedBehind s (history_of told) item.entry (told_behind item.surface)
-    certified_here good = subst (λ (E : List Entry). IsCertifiedBehind s E item.entry (told_behind item.surface)) (sym (told_entries items)) (certified_there s (entries_in items) n held kept marks last is item.entry (told_behind item.surface) step_there good)
+  module _ (held : RevisionsView) (kept : List Bool) (marks : List ℕ) (last : Option ℕ) (is : IsReplay s (take n (entries_in items)) held kept marks last) (before : (k : ℕ) (i : ItemOf) → k < n → slice_get told.items k ≡ Some i → IsCertifiedAfter s (history_of told) i.entry i.surface) where
+    certified_here : IsGoodAfter (raster_of s.scene) (open_at held.mask) item.entry (told_after item.surface) → IsCertifiedAfter s (history_of told) item.entry (told_after item.surface)
+    certified_here good = subst (λ (E : List Entry). IsCertifiedAfter s E item.entry (told_after item.surface)) (sym (told_entries items)) (certified_there s (entries_in items) n held kept marks last is item.entry (told_after item.surface) step_there good)
 
     last_or : (k : ℕ) → k < n + 1 → (k < n) ⊎ (k ≡ n)
     last_or k l = grind arith
 
-    pub more_certified : IsGoodBehind (raster_of s.scene) (open_at held.mask) item.entry (told_behind item.surface) → (k : ℕ) (i : ItemOf) → k < n + 1 → slice_get told.items k ≡ Some i → IsCertifiedBehind s (history_of told) i.entry i.surface
+    pub more_certified : IsGoodAfter (raster_of s.scene) (open_at held.mask) item.entry (told_after item.surface) → (k : ℕ) (i : ItemOf) → k < n + 1 → slice_get told.items k ≡ Some i → IsCertifiedAfter s (history_of told) i.entry i.surface
     more_certified good k i l g = elim (last_or k l) [
       | inl m ↦ before k i m g
       | inr e ↦ (
           let here : told_item item ≡ i = told_is items n item i there (ap (slice_get told.items) (sym e) ∙ g) in
-          subst (λ (j : ItemOf). IsCertifiedBehind s (history_of told) j.entry j.surface) here (certified_here good))
+          subst (λ (j : ItemOf). IsCertifiedAfter s (history_of told) j.entry j.surface) here (certified_here good))
     ]
 
-    pub first_unfit : (verdict : CheckVerdict) → IsUnfitBehind (raster_of s.scene) (open_at held.mask) item.entry (told_behind item.surface) verdict → IsFirstUnfitSurface s told verdict
+    pub first_unfit : (verdict : CheckVerdict) → IsUnfitAfter (raster_of s.scene) (open_at held.mask) item.entry (told_after item.surface) verdict → IsFirstUnfitSurface s told verdict
     first_unfit verdict unfit =
-        let u = unfit_there s (entries_in items) n held kept marks last is item.entry (told_behind item.surface) verdict step_there unfit in
+        let u = unfit_there s (entries_in items) n held kept marks last is item.entry (told_after item.surface) verdict step_there unfit in
         record {
           at = n;
           item = told_item item;
@@ -151,7 +151,7 @@ module _ (s : Session) (v : Report) (head : HasHeadOf s (report_told v)) (legal 
 
 -- ---- the verdict
 module _ (s : Session) (v : Report) (head : HasHeadOf s (report_told v)) where
-  pub breaks_history : (n : ℕ) → BreaksHistoryAt s (entries_in v.items.items) n → IsVerdict s (report_told v) (History n)
+  pub breaks_history : (n : ℕ) → BreaksHistoryAt s (entries_in v.items.items) n → IsCheckVerdict s (report_told v) (History n)
   breaks_history n b = (head, subst (λ (E : List Entry). BreaksHistoryAt s E n) (sym (told_entries v.items.items)) b)
 
   module _ (legal : IsLegal s (entries_in v.items.items)) (complete : IsComplete s (entries_in v.items.items)) where
@@ -161,7 +161,7 @@ module _ (s : Session) (v : Report) (head : HasHeadOf s (report_told v)) where
     complete_told : IsComplete s (history_of (report_told v))
     complete_told = subst (λ (E : List Entry). IsComplete s E) (sym (told_entries v.items.items)) complete
 
-    pub breaks_in_surfaces : (a : CheckVerdict) → IsFirstUnfitSurface s (report_told v) a → IsVerdict s (report_told v) a
+    pub breaks_in_surfaces : (a : CheckVerdict) → IsFirstUnfitSurface s (report_told v) a → IsCheckVerdict s (report_told v) a
     breaks_in_surfaces Accepted u = absurd u.unfit
     breaks_in_surfaces (Header n) u = absurd u.unfit
     breaks_in_surfaces (History n) u = absurd u.unfit
@@ -171,7 +171,7 @@ module _ (s : Session) (v : Report) (head : HasHeadOf s (report_told v)) where
     breaks_in_surfaces (TileCost r w c) u = (head, (legal_told, (complete_told, u)))
     breaks_in_surfaces (SeamCost r w c) u = (head, (legal_told, (complete_told, u)))
 
-    pub is_certified : AreCertifiedBehind s (report_told v) → IsVerdict s (report_told v) Accepted
+    pub is_certified : AreCertifiedAfter s (report_told v) → IsCheckVerdict s (report_told v) Accepted
     is_certified all = record {
       width = head.size.0;
       height = head.size.1;
@@ -183,8 +183,8 @@ module _ (s : Session) (v : Report) (head : HasHeadOf s (report_told v)) where
     }
 
 -- what a verdict says of acceptance
-pub accepted_tells : (s : Session) (v : ReportOf) (a : CheckVerdict) → IsVerdict s v a → (a ≡ Accepted) ↔ IsCertifiedReport s v
-accepted_tells s v a h = (λ e. subst (λ (b : CheckVerdict). IsVerdict s v b) e h, λ c. certified_not_unfit s v a h c)
+pub accepted_tells : (s : Session) (v : ReportOf) (a : CheckVerdict) → IsCheckVerdict s v a → (a ≡ Accepted) ↔ IsCertifiedReport s v
+accepted_tells s v a h = (λ e. subst (λ (b : CheckVerdict). IsCheckVerdict s v b) e h, λ c. certified_not_unfit s v a h c)
 
-pub accepted_is_best : (s : Session) (v : ReportOf) (a : CheckVerdict) → IsVerdict s v a → a ≡ Accepted → SurfacesAreBest s v
+pub accepted_is_best : (s : Session) (v : ReportOf) (a : CheckVerdict) → IsCheckVerdict s v a → a ≡ Accepted → SurfacesAreBest s v
 accepted_is_best s v a h e = certified_reports_are_best s v ((accepted_tells s v a h).0 e)

@@ -23,12 +23,12 @@ use Rattle.tile_board.specs.declared.entry.Entry.{Entry}
 use Rattle.tile_board.specs.declared.entry.Entry.TheVariants.{Published}
 use Rattle.tile_board.specs.Histories.{IsComplete, IsLegal, IsStep, mask_in}
 use Rattle.tile_board.proofs.ListLemmas.{get_none, none_below}
-use Rattle.report_text.specs.Certified.{IsCertifiedAt, IsCertifiedBehind, IsCertifiedReport, history_of}
+use Rattle.report_text.specs.Certified.{IsCertifiedAt, IsCertifiedAfter, IsCertifiedReport, history_of}
 use Rattle.report_text.specs.Reports.{ItemOf, ReportOf, SurfaceOf}
 use Rattle.report_check.specs.declared.verdict.CheckVerdict.{CheckVerdict}
 use Rattle.report_check.specs.declared.verdict.CheckVerdict.TheVariants.{Accepted, Header, History, Value, Tile, Seams, TileCost, SeamCost}
 use Rattle.report_check.specs.Shown.{IsGoodSurface}
-use Rattle.report_check.specs.Verdicts.{AreUnfitSeams, BreaksHistoryAt, BreaksInSurfaces, DiffersAt, HasHeadOf, IsFirstUnfitSurface, IsFirstUnfitTile, IsFirstUnfitValue, IsMiscounted, IsSurfaceVerdict, IsVerdict, MayNotCome, PassesTiles, ReportsHaveOneVerdict, cycles_in, surface_in}
+use Rattle.report_check.specs.Verdicts.{AreUnfitSeams, BreaksHistoryAt, BreaksInSurfaces, DiffersAt, HasHeadOf, IsFirstUnfitSurface, IsFirstUnfitTile, IsFirstUnfitValue, IsMiscounted, IsSurfaceVerdict, IsCheckVerdict, MayNotCome, PassesTiles, ReportsHaveOneVerdict, cycles_shown, surface_shown}
 use Rattle.report_check.proofs.SurfaceLemmas.{certified_is_good, has_phases}
 use Rattle.std.proofs.lemmas.Bool.{cases_order}
 
@@ -77,10 +77,10 @@ same_number m n e = cc
 
 module _ (r : Raster) (mask : Field Bool) (revision : ℕ) (k : SurfaceOf) where
   tile_not_passed : (t : ℕ) (v : TileVerdict) → IsFirstUnfitTile r mask k t v → PassesTiles r mask k → ⊥
-  tile_not_passed t v u p = u.not_good (faces_have_one_verdict r mask t (surface_in r k) (k.faces t) v tile_verdicts.Good u.verdict_is (p.tiles t u.exists))
+  tile_not_passed t v u p = u.not_good (faces_have_one_verdict r mask t (surface_shown r k) (k.faces t) v tile_verdicts.Good u.verdict_is (p.tiles t u.exists))
 
-  seams_not_passed : (v : SeamVerdict) → AreUnfitSeams r mask k v → IsGoodAtSeams r mask (cycles_in k.values) k.flows → ⊥
-  seams_not_passed v u g = u.not_good (seams_have_one_verdict r mask u.labels u.count (cycles_in k.values) k.flows v seam_verdicts.Good u.regions u.verdict_is g)
+  seams_not_passed : (v : SeamVerdict) → AreUnfitSeams r mask k v → IsGoodAtSeams r mask (cycles_shown k.values) k.flows → ⊥
+  seams_not_passed v u g = u.not_good (seams_have_one_verdict r mask u.labels u.count (cycles_shown k.values) k.flows v seam_verdicts.Good u.regions u.verdict_is g)
 
   not_miscounted : (told : ℕ) (cost : ℤ) (written counted : ℕ) → pos told ≡ cost → IsMiscounted told cost written counted → ⊥
   not_miscounted told cost written counted e m = m.1.1 (m.0 ∙ same_number told counted (e ∙ sym m.1.0))
@@ -92,26 +92,26 @@ module _ (r : Raster) (mask : Field Bool) (revision : ℕ) (k : SurfaceOf) where
   unfit_not_good (Value told x y) h g = h.1.unfit (g.passes.tiles.values x y h.1.across h.1.along)
   unfit_not_good (Tile told t v) h g = tile_not_passed t v h.1.1 g.passes.tiles
   unfit_not_good (Seams told v) h g = seams_not_passed v h.1.1 g.passes.seams
-  unfit_not_good (TileCost told written counted) h g = not_miscounted k.tile_cost (tile_costs r mask (surface_in r k)) written counted g.tile_cost h.1.1
-  unfit_not_good (SeamCost told written counted) h g = not_miscounted k.seam_cost (seam_cost r mask (surface_in r k)) written counted g.seam_cost_is h.1.1.1
+  unfit_not_good (TileCost told written counted) h g = not_miscounted k.tile_cost (tile_costs r mask (surface_shown r k)) written counted g.tile_cost h.1.1
+  unfit_not_good (SeamCost told written counted) h g = not_miscounted k.seam_cost (seam_cost r mask (surface_shown r k)) written counted g.seam_cost_is h.1.1.1
 
   same_value : (a b x y : ℕ) → IsFirstUnfitValue r mask k.values a b → IsFirstUnfitValue r mask k.values x y → (a ≡ x) × (b ≡ y)
   same_value a b x y p q = same_pixel a b x y (λ e. p.unfit (q.first a b p.across p.along e)) (λ e. q.unfit (p.first x y q.across q.along e))
 
   tile_before : (t u : ℕ) (v w : TileVerdict) → t < u → IsFirstUnfitTile r mask k t v → IsFirstUnfitTile r mask k u w → ⊥
-  tile_before t u v w l p q = p.not_good (faces_have_one_verdict r mask t (surface_in r k) (k.faces t) v tile_verdicts.Good p.verdict_is (q.before t l))
+  tile_before t u v w l p q = p.not_good (faces_have_one_verdict r mask t (surface_shown r k) (k.faces t) v tile_verdicts.Good p.verdict_is (q.before t l))
 
   same_tile : (t u : ℕ) (v w : TileVerdict) → IsFirstUnfitTile r mask k t v → IsFirstUnfitTile r mask k u w → (t ≡ u) × (v ≡ w)
   same_tile t u v w p q = elim (cases_order t u) [
-    | inl e ↦ (e, faces_have_one_verdict r mask t (surface_in r k) (k.faces t) v w p.verdict_is (subst (λ (n : ℕ). IsFirstUnfitTile r mask k n w) (sym e) q).verdict_is)
+    | inl e ↦ (e, faces_have_one_verdict r mask t (surface_shown r k) (k.faces t) v w p.verdict_is (subst (λ (n : ℕ). IsFirstUnfitTile r mask k n w) (sym e) q).verdict_is)
     | inr (inl l) ↦ absurd (tile_before t u v w l p q)
     | inr (inr l) ↦ absurd (tile_before u t w v l q p)
   ]
 
   same_seams : (v w : SeamVerdict) → AreUnfitSeams r mask k v → AreUnfitSeams r mask k w → v ≡ w
   same_seams v w p q =
-      seams_have_one_verdict r mask p.labels p.count (cycles_in k.values) k.flows v w p.regions p.verdict_is
-      (renumbered r mask p.labels q.labels p.count q.count p.regions q.regions (cycles_in k.values) k.flows w q.verdict_is)
+      seams_have_one_verdict r mask p.labels p.count (cycles_shown k.values) k.flows v w p.regions p.verdict_is
+      (renumbered r mask p.labels q.labels p.count q.count p.regions q.regions (cycles_shown k.values) k.flows w q.verdict_is)
 
   same_costs : (told : ℕ) (cost : ℤ) (w c v d : ℕ) → IsMiscounted told cost w c → IsMiscounted told cost v d → (w ≡ v) × (c ≡ d)
   same_costs told cost w c v d m n = (m.0 ∙ sym n.0, same_number c d (m.1.0 ∙ sym n.1.0))
@@ -169,10 +169,10 @@ module _ (r : Raster) (mask : Field Bool) (revision : ℕ) (k : SurfaceOf) where
   one_surface_verdict (Seams t v) (SeamCost u w c) p q = absurd (seams_not_passed v p.1.1 q.1.0.seams)
   one_surface_verdict (TileCost u w c) (Seams t v) p q = absurd (seams_not_passed v q.1.1 p.1.0.seams)
   one_surface_verdict (SeamCost u w c) (Seams t v) p q = absurd (seams_not_passed v q.1.1 p.1.0.seams)
-  one_surface_verdict (TileCost t w c) (TileCost u v d) p q = (let s = same_costs k.tile_cost (tile_costs r mask (surface_in r k)) w c v d p.1.1 q.1.1 in let e : t ≡ u = p.0 ∙ sym q.0 in rw (e, s.0, s.1) refl)
-  one_surface_verdict (TileCost t w c) (SeamCost u v d) p q = absurd (not_miscounted k.tile_cost (tile_costs r mask (surface_in r k)) w c q.1.1.0 p.1.1)
-  one_surface_verdict (SeamCost u v d) (TileCost t w c) p q = absurd (not_miscounted k.tile_cost (tile_costs r mask (surface_in r k)) w c p.1.1.0 q.1.1)
-  one_surface_verdict (SeamCost t w c) (SeamCost u v d) p q = (let s = same_costs k.seam_cost (seam_cost r mask (surface_in r k)) w c v d p.1.1.1 q.1.1.1 in let e : t ≡ u = p.0 ∙ sym q.0 in rw (e, s.0, s.1) refl)
+  one_surface_verdict (TileCost t w c) (TileCost u v d) p q = (let s = same_costs k.tile_cost (tile_costs r mask (surface_shown r k)) w c v d p.1.1 q.1.1 in let e : t ≡ u = p.0 ∙ sym q.0 in rw (e, s.0, s.1) refl)
+  one_surface_verdict (TileCost t w c) (SeamCost u v d) p q = absurd (not_miscounted k.tile_cost (tile_costs r mask (surface_shown r k)) w c q.1.1.0 p.1.1)
+  one_surface_verdict (SeamCost u v d) (TileCost t w c) p q = absurd (not_miscounted k.tile_cost (tile_costs r mask (surface_shown r k)) w c p.1.1.0 q.1.1)
+  one_surface_verdict (SeamCost t w c) (SeamCost u v d) p q = (let s = same_costs k.seam_cost (seam_cost r mask (surface_shown r k)) w c v d p.1.1.1 q.1.1.1 in let e : t ≡ u = p.0 ∙ sym q.0 in rw (e, s.0, s.1) refl)
 
 -- ---- histories
 get_within : {A : Type 0} (xs : List A) (n m : ℕ) → m < n → slice_get (take n xs) m ≡ slice_get xs m
@@ -246,9 +246,9 @@ module _ (s : Session) (v : ReportOf) where
   abbrev H : List Entry
   H = history_of v
 
-  certified_there : (a : CheckVerdict) (p : IsFirstUnfitSurface s v a) → IsCertifiedBehind s H p.item.entry p.item.surface → ⊥
+  certified_there : (a : CheckVerdict) (p : IsFirstUnfitSurface s v a) → IsCertifiedAfter s H p.item.entry p.item.surface → ⊥
   certified_there a p c =
-      let at = subst (λ (o : Option SurfaceOf). IsCertifiedAt s H p.revision o) p.surface_is (subst (λ (e : Entry). IsCertifiedBehind s H e p.item.surface) p.entry_is c) in
+      let at = subst (λ (o : Option SurfaceOf). IsCertifiedAt s H p.revision o) p.surface_is (subst (λ (e : Entry). IsCertifiedAfter s H e p.item.surface) p.entry_is c) in
       unfit_not_good (raster_of s.scene) (mask_in s H p.revision) p.revision p.surface a p.unfit (certified_is_good (raster_of s.scene) (mask_in s H p.revision) p.surface (has_phases s.scene) at.0 at.1)
 
   unfit_before : (a b : CheckVerdict) (p : IsFirstUnfitSurface s v a) (q : IsFirstUnfitSurface s v b) → p.at < q.at → ⊥
@@ -297,7 +297,7 @@ module _ (s : Session) (v : ReportOf) where
   of_surfaces : (a : CheckVerdict) → BreaksInSurfaces s v a → Kinds a
   of_surfaces a h = inr (inr (record { head = h.0; legal = h.1.0; complete = h.1.1.0; unfit = h.1.1.1 }))
 
-  kind_of : (a : CheckVerdict) → IsVerdict s v a → Kinds a
+  kind_of : (a : CheckVerdict) → IsCheckVerdict s v a → Kinds a
   kind_of Accepted h = inl (inl (record { is = refl; certified = h }))
   kind_of (Header n) h = inl (inr (record { line = n; is = refl; differs = h }))
   kind_of (History n) h = inr (inl (record { number = n; is = refl; head = h.0; breaks = h.1 }))
@@ -341,5 +341,5 @@ pub reports_have_one_verdict : ReportsHaveOneVerdict
 reports_have_one_verdict s v a b p q = one_kind s v a b (kind_of s v a p) (kind_of s v b q)
 
 -- what is said of a verdict
-pub certified_not_unfit : (s : Session) (v : ReportOf) (a : CheckVerdict) → IsVerdict s v a → IsCertifiedReport s v → a ≡ Accepted
+pub certified_not_unfit : (s : Session) (v : ReportOf) (a : CheckVerdict) → IsCheckVerdict s v a → IsCertifiedReport s v → a ≡ Accepted
 certified_not_unfit s v a p c = reports_have_one_verdict s v a Accepted p c

@@ -42,8 +42,8 @@ TellsStep s p e test = (H : List Entry) → IsReplayOf s H p → IsTrue test ↔
 abbrev pub TellsComplete : Session → Replay → Bool → Type 0
 TellsComplete s p test = (H : List Entry) → IsReplayOf s H p → IsTrue test ↔ IsComplete s H
 
-abbrev pub Takes : Replay → Replay → Entry → Type 0
-Takes old new e = (s : Session) (H : List Entry) → IsReplayOf s H old → IsStep s H e → IsReplayOf s (H ++ e ∷ []) new
+abbrev pub TakesEntry : Replay → Replay → Entry → Type 0
+TakesEntry old new e = (s : Session) (H : List Entry) → IsReplayOf s H old → IsStep s H e → IsReplayOf s (H ++ e ∷ []) new
 
 -- an edit was applied, and the tiles with a pixel that changed are kept no longer
 pub record IsRevised (old new : Replay) (edit : Edit) : Type 0 where

@@ -9,7 +9,7 @@ use Rattle.report_text.specs.Certified.{IsCertifiedReport}
 use Rattle.report_text.specs.Reports.{ReportOf}
 use Rattle.report_text.specs.Same.{IsSameReport}
 use Rattle.report_check.specs.declared.verdict.CheckVerdict.{CheckVerdict}
-use Rattle.report_check.specs.Verdicts.{IsVerdict}
+use Rattle.report_check.specs.Verdicts.{IsCheckVerdict}
 
 -- two planes have one size, one maxval and the same samples
 pub record IsSamePlane (p q : Plane) : Type 0 where
@@ -41,4 +41,4 @@ AcceptanceIsOfTexts = (s t : Session) (v w : ReportOf) → IsSameInput s t → I
 
 -- the verdict on a report is the same for all that tells the same
 abbrev pub VerdictIsOfTexts : Type 0
-VerdictIsOfTexts = (s t : Session) (v w : ReportOf) (verdict : CheckVerdict) → IsSameInput s t → IsSameReport v w → IsVerdict s v verdict → IsVerdict t w verdict
+VerdictIsOfTexts = (s t : Session) (v w : ReportOf) (verdict : CheckVerdict) → IsSameInput s t → IsSameReport v w → IsCheckVerdict s v verdict → IsCheckVerdict t w verdict

@@ -12,11 +12,11 @@ use Rattle.certificates.specs.SeamVerdicts.{IsSeamVerdict}
 use Rattle.tile_board.specs.declared.entry.Entry.{Entry}
 use Rattle.tile_board.specs.declared.entry.Entry.TheVariants.{Revised, Kept, Published, Settled, Shown}
 use Rattle.report_text.specs.Contents.{told_surface}
-use Rattle.report_text.specs.Certified.{IsCertifiedBehind, history_of}
+use Rattle.report_text.specs.Certified.{IsCertifiedAfter, history_of}
 use Rattle.report_text.specs.Reports.{ItemOf, ReportOf, SurfaceOf}
 use Rattle.report_check.specs.declared.shown.ShownSurface.{ShownSurface}
 use Rattle.report_check.specs.declared.verdict.CheckVerdict.{CheckVerdict}
-use Rattle.report_check.specs.Verdicts.{IsSurfaceVerdict, PassesSeams, ValueFits, cycles_in, surface_in}
+use Rattle.report_check.specs.Verdicts.{IsSurfaceVerdict, PassesSeams, ValueFits, cycles_shown, surface_shown}
 
 -- the raster, the open pixels, what is told
 abbrev pub raster_shown : ShownSurface → Raster
@@ -42,35 +42,35 @@ abbrev pub FitInRows : Raster → Field Bool → Field ℤ → ℕ → Type 0
 FitInRows r mask values n = (y : ℕ) → y < n → FitInRow r mask values y r.width
 
 -- the verdict on the flows, with some numbers of the regions
-pub record IsFlowsVerdict (r : Raster) (mask : Field Bool) (k : SurfaceOf) (verdict : SeamVerdict) : Type 0 where
+pub record IsShownFlowsVerdict (r : Raster) (mask : Field Bool) (k : SurfaceOf) (verdict : SeamVerdict) : Type 0 where
   pub labels : Field ℕ
   pub count : ℕ
   pub regions : AreRegions r mask labels count
-  pub says : IsSeamVerdict r mask labels count (cycles_in k.values) k.flows verdict
+  pub says : IsSeamVerdict r mask labels count (cycles_shown k.values) k.flows verdict
 
 -- a surface with which nothing is wrong
 pub record IsGoodSurface (r : Raster) (mask : Field Bool) (k : SurfaceOf) : Type 0 where
   pub passes : PassesSeams r mask k
-  pub tile_cost : pos k.tile_cost ≡ tile_costs r mask (surface_in r k)
-  pub seam_cost_is : pos k.seam_cost ≡ seam_cost r mask (surface_in r k)
+  pub tile_cost : pos k.tile_cost ≡ tile_costs r mask (surface_shown r k)
+  pub seam_cost_is : pos k.seam_cost ≡ seam_cost r mask (surface_shown r k)
 
 -- what stands after an entry is so, or has this verdict
-abbrev pub IsGoodBehind : Raster → Field Bool → Entry → Option SurfaceOf → Type 0
-IsGoodBehind r mask (Revised a edit) behind = behind ≡ None
-IsGoodBehind r mask (Kept t stamp) behind = behind ≡ None
-IsGoodBehind r mask (Published a revision) None = ⊥
-IsGoodBehind r mask (Published a revision) (Some k) = IsGoodSurface r mask k
-IsGoodBehind r mask (Settled a revision) behind = behind ≡ None
-IsGoodBehind r mask (Shown a revision) behind = behind ≡ None
+abbrev pub IsGoodAfter : Raster → Field Bool → Entry → Option SurfaceOf → Type 0
+IsGoodAfter r mask (Revised a edit) behind = behind ≡ None
+IsGoodAfter r mask (Kept t stamp) behind = behind ≡ None
+IsGoodAfter r mask (Published a revision) None = ⊥
+IsGoodAfter r mask (Published a revision) (Some k) = IsGoodSurface r mask k
+IsGoodAfter r mask (Settled a revision) behind = behind ≡ None
+IsGoodAfter r mask (Shown a revision) behind = behind ≡ None
 
-abbrev pub IsUnfitBehind : Raster → Field Bool → Entry → Option SurfaceOf → CheckVerdict → Type 0
-IsUnfitBehind r mask (Revised a edit) behind verdict = ⊥
-IsUnfitBehind r mask (Kept t stamp) behind verdict = ⊥
-IsUnfitBehind r mask (Published a revision) None verdict = ⊥
-IsUnfitBehind r mask (Published a revision) (Some k) verdict = IsSurfaceVerdict r mask revision k verdict
-IsUnfitBehind r mask (Settled a revision) behind verdict = ⊥
-IsUnfitBehind r mask (Shown a revision) behind verdict = ⊥
+abbrev pub IsUnfitAfter : Raster → Field Bool → Entry → Option SurfaceOf → CheckVerdict → Type 0
+IsUnfitAfter r mask (Revised a edit) behind verdict = ⊥
+IsUnfitAfter r mask (Kept t stamp) behind verdict = ⊥
+IsUnfitAfter r mask (Published a revision) None verdict = ⊥
+IsUnfitAfter r mask (Published a revision) (Some k) verdict = IsSurfaceVerdict r mask revision k verdict
+IsUnfitAfter r mask (Settled a revision) behind verdict = ⊥
+IsUnfitAfter r mask (Shown a revision) behind verdict = ⊥
 
 -- what stands after all entries of a report is certified
-abbrev pub AreCertifiedBehind : Session → ReportOf → Type 0
-AreCertifiedBehind s v = (k : ℕ) (i : ItemOf) → slice_get v.items k ≡ Some i → IsCertifiedBehind s (history_of v) i.entry i.surface
+abbrev pub AreCertifiedAfter : Session → ReportOf → Type 0
+AreCertifiedAfter s v = (k : ℕ) (i : ItemOf) → slice_get v.items k ≡ Some i → IsCertifiedAfter s (history_of v) i.entry i.surface

@@ -17,15 +17,15 @@ use Rattle.certificates.specs.Verdicts.{IsFacesVerdict}
 use Rattle.tile_board.specs.declared.entry.Entry.{Entry}
 use Rattle.tile_board.specs.declared.entry.Entry.TheVariants.{Published}
 use Rattle.tile_board.specs.Histories.{IsComplete, IsLegal, IsStep, mask_in}
-use Rattle.report_text.specs.Certified.{IsCertifiedBehind, IsCertifiedReport, history_of, no_data}
+use Rattle.report_text.specs.Certified.{IsCertifiedAfter, IsCertifiedReport, history_of, no_data}
 use Rattle.report_text.specs.Reports.{ItemOf, ReportOf, SurfaceOf}
 use Rattle.report_check.specs.declared.verdict.CheckVerdict.{CheckVerdict}
 use Rattle.report_check.specs.declared.verdict.CheckVerdict.TheVariants.{Accepted, Header, History, Value, Tile, Seams, TileCost, SeamCost}
 
 -- ---- the head: lines 2, 3 and 4 give the session's size, side and rule
 
-abbrev pub HasSizeOf : Session → ReportOf → Type 0
-HasSizeOf s v = (v.width ≡ s.scene.phase.width) × (v.height ≡ s.scene.phase.height)
+abbrev pub HasReportSize : Session → ReportOf → Type 0
+HasReportSize s v = (v.width ≡ s.scene.phase.width) × (v.height ≡ s.scene.phase.height)
 
 abbrev pub HasSideOf : Session → ReportOf → Type 0
 HasSideOf s v = v.side ≡ s.scene.tiling.side
@@ -34,16 +34,16 @@ abbrev pub HasRuleOf : Session → ReportOf → Type 0
 HasRuleOf s v = v.rule ≡ s.scene.rule
 
 pub record HasHeadOf (s : Session) (v : ReportOf) : Type 0 where
-  pub size : HasSizeOf s v
+  pub size : HasReportSize s v
   pub side : HasSideOf s v
   pub rule : HasRuleOf s v
 
 -- the first of them that does not has this number
 abbrev pub DiffersAt : Session → ReportOf → ℕ → Type 0
 DiffersAt s v n =
-    ((n ≡ 2) × (HasSizeOf s v → ⊥))
-    ⊎ (((n ≡ 3) × (HasSizeOf s v × (HasSideOf s v → ⊥)))
-    ⊎ ((n ≡ 4) × (HasSizeOf s v × (HasSideOf s v × (HasRuleOf s v → ⊥)))))
+    ((n ≡ 2) × (HasReportSize s v → ⊥))
+    ⊎ (((n ≡ 3) × (HasReportSize s v × (HasSideOf s v → ⊥)))
+    ⊎ ((n ≡ 4) × (HasReportSize s v × (HasSideOf s v × (HasRuleOf s v → ⊥)))))
 
 -- ---- the history: entry n, from 1, may not come after those before it; or all may and the scripts are not at their ends, and n is one more than their number
 
@@ -81,15 +81,15 @@ pub record IsFirstUnfitValue (r : Raster) (mask : Field Bool) (values : Field �
   pub first : (a b : ℕ) → a < r.width → b < r.height → IsEarlier a b x y → ValueFits r mask values a b
 
 -- the cycles above the phase that values show, and their surface, which has the values where they fit and the pixel is open
-abbrev pub cycles_in : Field ℤ → Field ℤ
-cycles_in values x y = int_div_euclid (values x y) (pos 65536)
+abbrev pub cycles_shown : Field ℤ → Field ℤ
+cycles_shown values x y = int_div_euclid (values x y) (pos 65536)
 
-abbrev pub surface_in : Raster → SurfaceOf → Field ℤ
-surface_in r k = lifted r (cycles_in k.values)
+abbrev pub surface_shown : Raster → SurfaceOf → Field ℤ
+surface_shown r k = lifted r (cycles_shown k.values)
 
 -- the first so many tiles are certified; all are; and the seams are
 abbrev pub TilesAreCertified : Raster → Field Bool → SurfaceOf → ℕ → Type 0
-TilesAreCertified r mask k count = (t : ℕ) → t < count → IsCertifiedTile r mask t (surface_in r k) (k.faces t)
+TilesAreCertified r mask k count = (t : ℕ) → t < count → IsCertifiedTile r mask t (surface_shown r k) (k.faces t)
 
 pub record PassesTiles (r : Raster) (mask : Field Bool) (k : SurfaceOf) : Type 0 where
   pub values : AllValuesFit r mask k.values
@@ -97,20 +97,20 @@ pub record PassesTiles (r : Raster) (mask : Field Bool) (k : SurfaceOf) : Type 0
 
 pub record PassesSeams (r : Raster) (mask : Field Bool) (k : SurfaceOf) : Type 0 where
   pub tiles : PassesTiles r mask k
-  pub seams : IsGoodAtSeams r mask (cycles_in k.values) k.flows
+  pub seams : IsGoodAtSeams r mask (cycles_shown k.values) k.flows
 
 -- a tile's faces have another verdict than Good, and those before it are certified; so with the flows, where the regions have their numbers
 pub record IsFirstUnfitTile (r : Raster) (mask : Field Bool) (k : SurfaceOf) (t : ℕ) (verdict : TileVerdict) : Type 0 where
   pub exists : t < r.tile_count
   pub before : TilesAreCertified r mask k t
-  pub verdict_is : IsFacesVerdict r mask t (surface_in r k) (k.faces t) verdict
+  pub verdict_is : IsFacesVerdict r mask t (surface_shown r k) (k.faces t) verdict
   pub not_good : verdict ≢ tile_verdicts.Good
 
 pub record AreUnfitSeams (r : Raster) (mask : Field Bool) (k : SurfaceOf) (verdict : SeamVerdict) : Type 0 where
   pub labels : Field ℕ
   pub count : ℕ
   pub regions : AreRegions r mask labels count
-  pub verdict_is : IsSeamVerdict r mask labels count (cycles_in k.values) k.flows verdict
+  pub verdict_is : IsSeamVerdict r mask labels count (cycles_shown k.values) k.flows verdict
   pub not_good : verdict ≢ seam_verdicts.Good
 
 -- a cost is written so, and another is counted
@@ -125,8 +125,8 @@ IsSurfaceVerdict r mask revision k (History n) = ⊥
 IsSurfaceVerdict r mask revision k (Value told x y) = (told ≡ revision) × IsFirstUnfitValue r mask k.values x y
 IsSurfaceVerdict r mask revision k (Tile told t verdict) = (told ≡ revision) × (AllValuesFit r mask k.values × IsFirstUnfitTile r mask k t verdict)
 IsSurfaceVerdict r mask revision k (Seams told verdict) = (told ≡ revision) × (PassesTiles r mask k × AreUnfitSeams r mask k verdict)
-IsSurfaceVerdict r mask revision k (TileCost told written counted) = (told ≡ revision) × (PassesSeams r mask k × IsMiscounted k.tile_cost (tile_costs r mask (surface_in r k)) written counted)
-IsSurfaceVerdict r mask revision k (SeamCost told written counted) = (told ≡ revision) × (PassesSeams r mask k × ((pos k.tile_cost ≡ tile_costs r mask (surface_in r k)) × IsMiscounted k.seam_cost (seam_cost r mask (surface_in r k)) written counted))
+IsSurfaceVerdict r mask revision k (TileCost told written counted) = (told ≡ revision) × (PassesSeams r mask k × IsMiscounted k.tile_cost (tile_costs r mask (surface_shown r k)) written counted)
+IsSurfaceVerdict r mask revision k (SeamCost told written counted) = (told ≡ revision) × (PassesSeams r mask k × ((pos k.tile_cost ≡ tile_costs r mask (surface_shown r k)) × IsMiscounted k.seam_cost (seam_cost r mask (surface_shown r k)) written counted))
 
 -- ---- the report
 
@@ -140,23 +140,23 @@ pub record IsFirstUnfitSurface (s : Session) (v : ReportOf) (verdict : CheckVerd
   pub item_is : slice_get v.items at ≡ Some item
   pub entry_is : item.entry ≡ Published analyst revision
   pub surface_is : item.surface ≡ Some surface
-  pub before : (k : ℕ) (i : ItemOf) → k < at → slice_get v.items k ≡ Some i → IsCertifiedBehind s (history_of v) i.entry i.surface
+  pub before : (k : ℕ) (i : ItemOf) → k < at → slice_get v.items k ≡ Some i → IsCertifiedAfter s (history_of v) i.entry i.surface
   pub unfit : IsSurfaceVerdict (raster_of s.scene) (mask_in s (history_of v) revision) revision surface verdict
 
 -- head and history are in order, and this surface is the first that is not
 abbrev pub BreaksInSurfaces : Session → ReportOf → CheckVerdict → Type 0
 BreaksInSurfaces s v verdict = HasHeadOf s v × (IsLegal s (history_of v) × (IsComplete s (history_of v) × IsFirstUnfitSurface s v verdict))
 
-abbrev pub IsVerdict : Session → ReportOf → CheckVerdict → Type 0
-IsVerdict s v Accepted = IsCertifiedReport s v
-IsVerdict s v (Header n) = DiffersAt s v n
-IsVerdict s v (History n) = HasHeadOf s v × BreaksHistoryAt s (history_of v) n
-IsVerdict s v (Value revision x y) = BreaksInSurfaces s v (Value revision x y)
-IsVerdict s v (Tile revision t verdict) = BreaksInSurfaces s v (Tile revision t verdict)
-IsVerdict s v (Seams revision verdict) = BreaksInSurfaces s v (Seams revision verdict)
-IsVerdict s v (TileCost revision written counted) = BreaksInSurfaces s v (TileCost revision written counted)
-IsVerdict s v (SeamCost revision written counted) = BreaksInSurfaces s v (SeamCost revision written counted)
+abbrev pub IsCheckVerdict : Session → ReportOf → CheckVerdict → Type 0
+IsCheckVerdict s v Accepted = IsCertifiedReport s v
+IsCheckVerdict s v (Header n) = DiffersAt s v n
+IsCheckVerdict s v (History n) = HasHeadOf s v × BreaksHistoryAt s (history_of v) n
+IsCheckVerdict s v (Value revision x y) = BreaksInSurfaces s v (Value revision x y)
+IsCheckVerdict s v (Tile revision t verdict) = BreaksInSurfaces s v (Tile revision t verdict)
+IsCheckVerdict s v (Seams revision verdict) = BreaksInSurfaces s v (Seams revision verdict)
+IsCheckVerdict s v (TileCost revision written counted) = BreaksInSurfaces s v (TileCost revision written counted)
+IsCheckVerdict s v (SeamCost revision written counted) = BreaksInSurfaces s v (SeamCost revision written counted)
 
 -- a report has no two verdicts
 abbrev pub ReportsHaveOneVerdict : Type 0
-ReportsHaveOneVerdict = (s : Session) (v : ReportOf) (a b : CheckVerdict) → IsVerdict s v a → IsVerdict s v b → a ≡ b
+ReportsHaveOneVerdict = (s : Session) (v : ReportOf) (a b : CheckVerdict) → IsCheckVerdict s v a → IsCheckVerdict s v b → a ≡ b

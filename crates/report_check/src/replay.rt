@@ -1,6 +1,6 @@
 ghost use Rattle.raster_model.specs.Scripts.{IsRectIn, rect_of};
 ghost use Rattle.raster_model.specs.Tiles.{tiles_of};
-ghost use Rattle.report_check.specs.Replays.{IsReplayOf, IsReplaying, IsRevised, MayTake, Takes, TellsComplete, TellsStep};
+ghost use Rattle.report_check.specs.Replays.{IsReplayOf, IsReplaying, IsRevised, MayTake, TakesEntry, TellsComplete, TellsStep};
 ghost use Rattle.std.specs.Prelude.{◌≡◌, ◌↔◌, ℕ, ◌+◌, ◌-◌, ◌<◌, ◌≤◌, ◌^◌, [], Bool, IfOk, IsTrue, OnOk, Some, length, slice_get, slice_index, slice_index_or, slice_set, vec_len};
 ghost use Rattle.tile_board.specs.Histories.{script_in};
 ghost use Rattle.tile_board.specs.Places.{cursor_at};
@@ -74,10 +74,10 @@ impl Replay {
         all_ended(&session.scripts, &self.cursors)
     }
 
-    /// Takes an entry that may come next.
+    /// TakesEntry an entry that may come next.
     pub(crate) fn take(&mut self, alloc: Global, entry: Entry) -> Result<(), AllocError>
         requires { MayTake self.old entry }
-        ensures { OnOk result (Takes self.old self.new entry) }
+        ensures { OnOk result (TakesEntry self.old self.new entry) }
     {
         match entry {
             Entry::Revised { analyst, edit } => {

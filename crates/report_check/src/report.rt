@@ -1,4 +1,4 @@
-ghost use Rattle.report_check.specs.Verdicts.{IsVerdict};
+ghost use Rattle.report_check.specs.Verdicts.{IsCheckVerdict};
 ghost use Rattle.report_check.specs.declared.verdict.CheckVerdict.TheVariants.{Accepted};
 ghost use Rattle.report_text.specs.Certified.{IsCertifiedReport, SurfacesAreBest};
 ghost use Rattle.report_text.specs.Contents.{report_told};
@@ -20,7 +20,7 @@ pub fn check_report(
     session: &Session,
     report: &Report,
 ) -> Result<CheckVerdict, AllocError>
-    ensures verdict { IfOk result (IsVerdict session.now (report_told report.now)) }
+    ensures verdict { IfOk result (IsCheckVerdict session.now (report_told report.now)) }
     ensures accepted { IfOk result (λ verdict. (verdict ≡ Accepted) ↔ IsCertifiedReport session.now (report_told report.now)) }
     ensures best { IfOk result (λ verdict. verdict ≡ Accepted → SurfacesAreBest session.now (report_told report.now)) }
 {

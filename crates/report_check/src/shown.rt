@@ -2,7 +2,7 @@ ghost use Rattle.raster_model.specs.Tiles.{tiles_of};
 ghost use Rattle.std.specs.Prelude.{◌≡◌, ◌↔◌, ◌<◌, IfNone, IfOk, IfSome, IsTrue, vec_len};
 ghost use Rattle.report_text.specs.Contents.{told_surface};
 ghost use Rattle.raster_model.specs.Sums.{is_pixel};
-ghost use Rattle.report_check.specs.Verdicts.{cycles_in};
+ghost use Rattle.report_check.specs.Verdicts.{cycles_shown};
 
 use certificates::{SeamVerdict, TileVerdict, check_faces, check_flows};
 use raster_model::{Heights, Mask, Scene};
@@ -30,7 +30,7 @@ pub(crate) struct ShownSurface<'a> {
 impl Heights for ShownSurface<'_> {
     ghost knows = { λ s. is_pixel s.told.now.grid.width s.told.now.grid.height };
 
-    ghost cycles_at = { λ s. cycles_in (told_surface s.told.now).values };
+    ghost cycles_at = { λ s. cycles_shown (told_surface s.told.now).values };
 
     fn cycles(&self, x: u32, y: u32) -> i64 {
         self.value(x, y).div_euclid(CYCLE)
@@ -38,7 +38,7 @@ impl Heights for ShownSurface<'_> {
 }
 
 impl ShownSurface<'_> {
-    ghost use Rattle.report_check.specs.Shown.{FitInRow, IsFirstUnfitInRow, IsFlowsVerdict, open_shown, raster_shown, told_shown};
+    ghost use Rattle.report_check.specs.Shown.{FitInRow, IsFirstUnfitInRow, IsShownFlowsVerdict, open_shown, raster_shown, told_shown};
     ghost use Rattle.report_check.specs.Verdicts.{AllValuesFit, IsFirstUnfitTile, IsFirstUnfitValue, TilesAreCertified, ValueFits};
 
     /// The value at a pixel.
@@ -113,7 +113,7 @@ impl ShownSurface<'_> {
 
     /// What the check of the flows says.
     pub(crate) fn seams(&self, alloc: Global) -> Result<SeamVerdict, AllocError>
-        ensures { IfOk result (IsFlowsVerdict (raster_shown self.now) (open_shown self.now) (told_shown self.now)) }
+        ensures { IfOk result (IsShownFlowsVerdict (raster_shown self.now) (open_shown self.now) (told_shown self.now)) }
     {
         let regions = Regions::of(alloc, &self.scene.tiling, self.mask)?;
         let mut scratch = vec![in alloc; 0; regions.count() as usize]?;

@@ -2,9 +2,9 @@ ghost use Rattle.raster_model.specs.Masks.{open_at};
 ghost use Rattle.raster_model.specs.Scene.{raster_of};
 ghost use Rattle.raster_model.specs.Tiles.{tiles_of};
 ghost use Rattle.report_check.specs.Replays.{entries_in};
-ghost use Rattle.report_check.specs.Shown.{AreCertifiedBehind, IsGoodBehind, IsGoodSurface, IsUnfitBehind};
+ghost use Rattle.report_check.specs.Shown.{AreCertifiedAfter, IsGoodAfter, IsGoodSurface, IsUnfitAfter};
 ghost use Rattle.report_check.specs.Verdicts.{HasHeadOf, IsFirstUnfitSurface, IsSurfaceVerdict};
-ghost use Rattle.report_text.specs.Contents.{report_told, told_behind, told_surface};
+ghost use Rattle.report_text.specs.Contents.{report_told, told_after, told_surface};
 ghost use Rattle.report_text.specs.Fitting.{MayFit, SurfaceFits};
 ghost use Rattle.std.specs.Prelude.{◌≡◌, IfOk, MatchOption};
 ghost use Rattle.tile_board.specs.Histories.{IsLegal};
@@ -25,11 +25,11 @@ pub(crate) fn first_fault(
 ) -> Result<Option<CheckVerdict>, AllocError>
     requires head { HasHeadOf session.now (report_told report.now) }
     requires legal { IsLegal session.now (entries_in report.now.items.items) }
-    ensures { IfOk result (λ fault. MatchOption fault (AreCertifiedBehind session.now (report_told report.now)) (IsFirstUnfitSurface session.now (report_told report.now))) }
+    ensures { IfOk result (λ fault. MatchOption fault (AreCertifiedAfter session.now (report_told report.now)) (IsFirstUnfitSurface session.now (report_told report.now))) }
 {
     let mut replay = Replay::new(alloc, session)?;
     for item in &report.items {
-        if let Some(verdict) = fault_behind(alloc, &session.scene, replay.mask(), item)? {
+        if let Some(verdict) = fault_after(alloc, &session.scene, replay.mask(), item)? {
             return Ok(Some(verdict));
         }
         replay.take(alloc, item.entry)?;
@@ -38,7 +38,7 @@ pub(crate) fn first_fault(
 }
 
 /// What is wrong with the surface after an entry, which is judged at a mask.
-fn fault_behind(
+fn fault_after(
     alloc: Global,
     scene: &Scene,
     mask: &Mask,
@@ -46,7 +46,7 @@ fn fault_behind(
 ) -> Result<Option<CheckVerdict>, AllocError>
     requires size { (mask.now.width ≡ scene.now.phase.width) × (mask.now.height ≡ scene.now.phase.height) }
     requires fits { MayFit scene.now.phase.width scene.now.phase.height (tiles_of scene.now.tiling) item.now.surface }
-    ensures { IfOk result (λ fault. MatchOption fault (IsGoodBehind (raster_of scene.now) (open_at mask.now) item.now.entry (told_behind item.now.surface)) (IsUnfitBehind (raster_of scene.now) (open_at mask.now) item.now.entry (told_behind item.now.surface))) }
+    ensures { IfOk result (λ fault. MatchOption fault (IsGoodAfter (raster_of scene.now) (open_at mask.now) item.now.entry (told_after item.now.surface)) (IsUnfitAfter (raster_of scene.now) (open_at mask.now) item.now.entry (told_after item.now.surface))) }
 {
     match (item.entry, &item.surface) {
         (Entry::Published { revision, .. }, Some(told)) => surface_fault(

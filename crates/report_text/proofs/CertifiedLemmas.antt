@@ -12,13 +12,13 @@ use Rattle.raster_model.proofs.SeamLeast.{certified_is_best}
 use Rattle.surface_snapshots.specs.Parts.{AreGoodTiles, Parts, cycles_in_parts, faces_in, flows_in, open_in, raster_in, surface_in, tile_costs}
 use Rattle.surface_snapshots.proofs.CallerLemmas.{value_is_told}
 use Rattle.surface_snapshots.proofs.SameLemmas.{anchored_too, same_seam_cost, same_tile_costs, seams_too, tile_too}
-use Rattle.grid_writer.specs.Grid.{shown}
+use Rattle.grid_writer.specs.Shown.{shown_value}
 use Rattle.tile_board.specs.declared.entry.Entry.{Entry}
 use Rattle.tile_board.specs.declared.entry.Entry.TheVariants.{Revised, Kept, Published, Settled, Shown}
 use Rattle.tile_board.specs.BoardView.{BoardView}
 use Rattle.tile_board.specs.Boards.{IsBoard, IsSurfaceOf}
 use Rattle.tile_board.specs.Histories.{IsComplete, mask_in, published_of}
-use Rattle.report_text.specs.Certified.{CertifiedReportsAreBest, IsBestAt, IsCertifiedAt, IsCertifiedBehind, IsCertifiedReport, IsCertifiedSurface, history_of, no_data}
+use Rattle.report_text.specs.Certified.{CertifiedReportsAreBest, IsBestAt, IsCertifiedAt, IsCertifiedAfter, IsCertifiedReport, IsCertifiedSurface, history_of, no_data}
 use Rattle.report_text.specs.Reports.{ItemOf, SurfaceOf, items_of, report_of, surface_of}
 use Rattle.sums_and_lists.specs.Sums.{sum_below}
 
@@ -41,7 +41,7 @@ tile_costs-not_below : (r : Raster) (mask : Field Bool) (S : Field ℤ) → pos 
 unfolding tile_costs
 tile_costs-not_below r mask S = costs_not_below r.tile_count (λ t. tile_cost r mask t S) (λ t. tile_cost-not_below r mask t S)
 
-shown_either : (b c : Bool) (z : ℤ) → b ≡ c → shown (if b then Some z else None) ≡ (if c then z else no_data)
+shown_either : (b c : Bool) (z : ℤ) → b ≡ c → shown_value (if b then Some z else None) ≡ (if c then z else no_data)
 shown_either true true z e = refl
 shown_either false false z e = refl
 shown_either true false z e = cc
@@ -79,7 +79,7 @@ module _ (s : Session) (H : List Entry) (p : Parts) (is : IsSurfaceOf s H p) whe
 
 -- an item is certified
 abbrev pub IsFine : Session → List Entry → ItemOf → Type 0
-IsFine s H i = IsCertifiedBehind s H i.entry i.surface
+IsFine s H i = IsCertifiedAfter s H i.entry i.surface
 
 abbrev pub AreFine : Session → List Entry → List ItemOf → Type 0
 AreFine s H items = (k : ℕ) (i : ItemOf) → slice_get items k ≡ Some i → IsFine s H i
@@ -116,8 +116,8 @@ board_is_certified v is complete = record {
 }
 
 -- each published surface of a certified report is the best at the mask of its revision
-behind_published : (s : Session) (H : List Entry) (e : Entry) (behind : Option SurfaceOf) (a r : ℕ) → e ≡ Published a r → IsCertifiedBehind s H e behind → IsCertifiedAt s H r behind
-behind_published s H e behind a r is c = subst (λ (x : Entry). IsCertifiedBehind s H x behind) is c
+behind_published : (s : Session) (H : List Entry) (e : Entry) (behind : Option SurfaceOf) (a r : ℕ) → e ≡ Published a r → IsCertifiedAfter s H e behind → IsCertifiedAt s H r behind
+behind_published s H e behind a r is c = subst (λ (x : Entry). IsCertifiedAfter s H x behind) is c
 
 best_at : (s : Session) (H : List Entry) (r : ℕ) (behind : Option SurfaceOf) → IsCertifiedAt s H r behind → IsBestAt s H r behind
 best_at s H r None c = c

@@ -5,18 +5,18 @@ use Rattle.insar_ports.specs.Bytes.{BeginsWith}
 use Rattle.insar_ports.specs.Calls.{Takes}
 use Rattle.insar_ports.specs.Lines.{IsInLine}
 use Rattle.insar_ports.proofs.CallLemmas.{call, risen_before, some_is, Takes-weaker}
-use Rattle.grid_writer.specs.declared.fault.GridFault.{GridFault}
-use Rattle.grid_writer.specs.declared.fault.GridFault.TheVariants as faults
-use Rattle.grid_writer.specs.declared.lines.LineEnd.{LineEnd}
-use Rattle.grid_writer.specs.declared.lines.LineEnd.TheVariants.{Whole, Long, Cut}
-use Rattle.grid_writer.specs.LineWords.{HasNextCause, IsLineRead}
+use Rattle.text_lines.specs.declared.fault.LineFault.{LineFault}
+use Rattle.text_lines.specs.declared.fault.LineFault.TheVariants as faults
+use Rattle.text_lines.specs.declared.lines.LineEnd.{LineEnd}
+use Rattle.text_lines.specs.declared.lines.LineEnd.TheVariants.{Whole, Long, Cut}
+use Rattle.text_lines.specs.LineWords.{HasNextCause, IsLineRead}
 use Rattle.report_text.specs.Parts.{HasMoreCause, IsLineMore}
 
 module _ (told told_2 : Option (List ℕ)) (at at_2 : ℕ) (left : Option (List ℕ)) (end limit limit_2 before middle after : ℕ) (same : told_2 ≡ told) (place : at_2 ≡ at) where
   moved : (P : List ℕ → List ℕ → Type 0) → Takes (call told_2 at_2 left end limit_2 middle after) P → Takes (call told at left end limit before after) P
   moved P h = subst (λ (n : ℕ). Takes (call told n left end limit before after) P) place (subst (λ (o : Option (List ℕ)). Takes (call o at_2 left end limit before after) P) same h)
 
-  pub more_next : (done : ℕ) (fault : GridFault) → limit_2 ≡ limit → before ≤ middle → HasNextCause (call told_2 at_2 left end limit_2 middle after) fault → HasMoreCause done (call told at left end limit before after) fault
+  pub more_next : (done : ℕ) (fault : LineFault) → limit_2 ≡ limit → before ≤ middle → HasNextCause (call told_2 at_2 left end limit_2 middle after) fault → HasMoreCause done (call told at left end limit before after) fault
   more_next done (faults.Line n) l g h = absurd h
   more_next done faults.TooLong l g h = (h.0 ∙ l, (h.1.0, moved (λ text rest. All IsInLine text) h.1.1))
   more_next done faults.ReadFault l g h = risen_before before middle after g h

@@ -1,14 +1,14 @@
-pub mod AppendLemmas
 mod ItemLemmas
 pub mod FieldLemmas
 pub mod EntryLemmas
 pub mod LineLemmas
+pub mod LineEnds
+pub mod ReadsLemmas
 pub mod ReadLemmas
 pub mod NumberLemmas
 pub mod LineFacts
 pub mod ListsLemmas
 pub mod EndLemmas
-pub mod EntryParts
 pub mod PartForms
 pub mod ItemForms
 pub mod ItemsLemmas

@@ -1,19 +1,21 @@
 -- What a reader of reports promises of all bytes, from what it took and why it refused.
 use Rattle.std.proofs.Common.{◌≡◌, ℕ, ◌+◌, ◌-◌, ◌≤◌, ◌<◌, List, [], ◌∷◌, ◌++◌, length, Option, Some, None, Result, Ok, Err, inl, inr, refl, sym, ap, subst, ◌∙◌, arith}
-use Rattle.std.specs.Prelude.{IfErr, IfOk, IfSome}
+use Rattle.std.specs.Prelude.{IfSome, IsErrAnd}
 use Rattle.std.proofs.lemmas.List.{append-nil, length-append}
 use Rattle.insar_ports.specs.Bytes.{HasMore}
 use Rattle.insar_ports.specs.Calls.{Call, Takes}
-use Rattle.insar_ports.proofs.CallLemmas.{call}
-use Rattle.grid_writer.specs.Forms.{Form, Begins, EndsIn}
-use Rattle.grid_writer.specs.Reading.{room_of}
-use Rattle.grid_writer.proofs.FormLemmas.{fronts}
-use Rattle.grid_writer.proofs.FirstLemmas.{one_break, not_both, one_end}
-use Rattle.report_text.specs.declared.fault.ReportFault.{ReportFault}
-use Rattle.report_text.specs.declared.fault.ReportFault.TheVariants as faults
+use Rattle.insar_ports.proofs.CallLemmas.{Takes-then, call}
+use Rattle.text_lines.specs.LineWords.{TakesLines}
+use Rattle.text_lines.proofs.StepLemmas.{joined, second}
+use Rattle.text_lines.specs.Forms.{Form, Begins, EndsIn, lines_in}
+use Rattle.text_lines.specs.Reading.{room_of}
+use Rattle.text_lines.proofs.FormLemmas.{fronts}
+use Rattle.text_lines.proofs.FirstLemmas.{one_break, not_both, one_end}
+use Rattle.text_lines.specs.declared.fault.LineFault.{LineFault}
+use Rattle.text_lines.specs.declared.fault.LineFault.TheVariants as faults
 use Rattle.report_text.specs.declared.contents.Report.{Report}
 use Rattle.report_text.specs.Contents.{IsReport, IsReportText, report_told}
-use Rattle.report_text.specs.Reading.{BreaksReportAt, EndsReportIn, HasBrokenReportLine, HasReportCause, IsReportRead, IsReportRefusedAt}
+use Rattle.report_text.specs.Reading.{BreaksReportAt, BrokenReportLineIsOne, EndsReportIn, HasBrokenReportLine, HasReportCause, IsReader, IsReportRead, IsReportRefusedAt}
 use Rattle.report_text.specs.Text.{report_text}
 
 abbrev F : Form
@@ -26,9 +28,19 @@ empty (b ∷ m) e = absurd (omega (arith, e))
 weak : (bytes : List ℕ) → Begins F bytes → Begins F bytes
 weak bytes b = b
 
--- the result of a reader: what it took is a report's text and nothing is left, or there is a cause
-abbrev pub IsReader : Call → Result Report ReportFault → Type 0
-IsReader c result = IfOk result (λ report. Takes c (λ text rest. (text ≡ report_text (report_told report)) × (rest ≡ []))) × (IfOk result (λ report. IsReport (report_told report)) × IfErr result (HasReportCause c))
+-- a first broken line is one, and a text of the form has none
+one_line : (bytes : List ℕ) (room more m n : ℕ) → HasBrokenReportLine room m bytes → HasBrokenReportLine more n bytes → m ≡ n
+one_line bytes room more m n (inl (f, r, (e, (le, b)))) (inl (g, s, (h, (lt, d)))) = one_break F (Begins F) weak m n f g r s (sym e ∙ h) b d
+one_line bytes room more m n (inl (f, r, (e, (le, b)))) (inr (lt, d)) = absurd (not_both F (Begins F) weak m n f r bytes (sym e) b d.0)
+one_line bytes room more m n (inr (le, b)) (inl (g, s, (h, (lt, d)))) = absurd (not_both F (Begins F) weak n m g s bytes (sym h) d b.0)
+one_line bytes room more m n (inr (le, b)) (inr (lt, d)) = one_end F (Begins F) weak m n bytes b.0 d.0
+
+no_line : (bytes : List ℕ) (room n : ℕ) → HasBrokenReportLine room n bytes → F bytes → ⊥
+no_line bytes room n (inl (f, r, (e, (le, b)))) t = b.2.1.1 (r, subst F e t)
+no_line bytes room n (inr (le, b)) t = b.1 t
+
+pub broken_line_is_one : BrokenReportLineIsOne
+broken_line_is_one bytes room more m n b d = (one_line bytes room more m n b d, no_line bytes room m b)
 
 module _ (bytes : List ℕ) (at : ℕ) (left : Option (List ℕ)) (end limit before after : ℕ) where
   abbrev c : Call
@@ -47,7 +59,7 @@ module _ (bytes : List ℕ) (at : ℕ) (left : Option (List ℕ)) (end limit bef
   whole_text : (text rest : List ℕ) → bytes ≡ text ++ rest → rest ≡ [] → text ≡ bytes
   whole_text text rest e f = sym (e ∙ ap (λ (l : List ℕ). text ++ l) f ∙ append-nil text)
 
-  pub accepted : (result : Result Report ReportFault) → IsReader c result → F bytes → length bytes ≤ room_of c → IsReportRead c bytes result
+  pub accepted : (result : Result Report LineFault) → IsReader c result → F bytes → length bytes ≤ room_of c → IsReportRead c bytes result
   accepted (Ok report) h f le =
       let t = h.0 in
       (sym t.2.1.1.1.0 ∙ whole_text t.0 t.1 t.2.0 t.2.1.1.1.1, t.2.1.0 ∙ ap Some t.2.1.1.1.1)
@@ -69,7 +81,7 @@ module _ (bytes : List ℕ) (at : ℕ) (left : Option (List ℕ)) (end limit bef
         ([], append-nil front ∙ f.1.0 ∙ ap (λ (l : List ℕ). text ++ l) (empty f.0 short) ∙ append-nil text)
   ]
 
-  exact_front : (n : ℕ) (front rest : List ℕ) (result : Result Report ReportFault) → IsReader c result → bytes ≡ front ++ rest → length front ≤ room_of c → BreaksReportAt n front → IsReportRefusedAt c n result
+  exact_front : (n : ℕ) (front rest : List ℕ) (result : Result Report LineFault) → IsReader c result → bytes ≡ front ++ rest → length front ≤ room_of c → BreaksReportAt n front → IsReportRefusedAt c n result
   exact_front n front rest (Ok report) h e le b = let t = h.0 in b.2.1.1 (rest, subst F e (is_report t.0 t.1 report h.1.0 t.2.0 t.2.1.1.1.0 t.2.1.1.1.1))
   exact_front n front rest (Err (faults.Line m)) h e le b = let t = h.1.1 in elim t.2.1.1.1 [
     | inl d ↦ one_break F (Begins F) weak m n t.0 front t.1 rest (sym t.2.0 ∙ e) d b
@@ -84,7 +96,7 @@ module _ (bytes : List ℕ) (at : ℕ) (left : Option (List ℕ)) (end limit bef
   exact_front n front rest (Err faults.ReadFault) h e le b = h.1.1
   exact_front n front rest (Err faults.Memory) h e le b = tt
 
-  exact_end : (n : ℕ) (result : Result Report ReportFault) → IsReader c result → length bytes ≤ room_of c → EndsReportIn n bytes → IsReportRefusedAt c n result
+  exact_end : (n : ℕ) (result : Result Report LineFault) → IsReader c result → length bytes ≤ room_of c → EndsReportIn n bytes → IsReportRefusedAt c n result
   exact_end n (Ok report) h le b = let t = h.0 in b.1 (is_report t.0 t.1 report h.1.0 t.2.0 t.2.1.1.1.0 t.2.1.1.1.1)
   exact_end n (Err (faults.Line m)) h le b = let t = h.1.1 in elim t.2.1.1.1 [
     | inl d ↦ absurd (not_both F (Begins F) weak m n t.0 t.1 bytes (sym t.2.0) d b.0)
@@ -94,19 +106,35 @@ module _ (bytes : List ℕ) (at : ℕ) (left : Option (List ℕ)) (end limit bef
   exact_end n (Err faults.ReadFault) h le b = h.1.1
   exact_end n (Err faults.Memory) h le b = tt
 
-  pub exact : (result : Result Report ReportFault) → IsReader c result → (n : ℕ) → HasBrokenReportLine (room_of c) n bytes → IsReportRefusedAt c n result
+  pub exact : (result : Result Report LineFault) → IsReader c result → (n : ℕ) → HasBrokenReportLine (room_of c) n bytes → IsReportRefusedAt c n result
   exact result h n (inl (front, rest, (e, (le, b)))) = exact_front n front rest result h e le b
   exact result h n (inr (le, b)) = exact_end n result h le b
 
 -- the same, whether the bytes are told or not
-pub accepts : (told : Option (List ℕ)) (at : ℕ) (left : Option (List ℕ)) (end limit before after : ℕ) (result : Result Report ReportFault) → IsReader (call told at left end limit before after) result → IfSome told (λ bytes. F bytes → length bytes ≤ room_of (call told at left end limit before after) → IsReportRead (call told at left end limit before after) bytes result)
-accepts None at left end limit before after result h = tt
-accepts (Some bytes) at left end limit before after result h = accepted bytes at left end limit before after result h
+accepts_by : (told : Option (List ℕ)) (at : ℕ) (left : Option (List ℕ)) (end limit before after : ℕ) (result : Result Report LineFault) → IsReader (call told at left end limit before after) result → IfSome told (λ bytes. F bytes → length bytes ≤ room_of (call told at left end limit before after) → IsReportRead (call told at left end limit before after) bytes result)
+accepts_by None at left end limit before after result h = tt
+accepts_by (Some bytes) at left end limit before after result h = accepted bytes at left end limit before after result h
 
-pub refuses : (told : Option (List ℕ)) (at : ℕ) (left : Option (List ℕ)) (end limit before after : ℕ) (result : Result Report ReportFault) → IsReader (call told at left end limit before after) result → IfSome told (λ bytes. (n : ℕ) → HasBrokenReportLine (room_of (call told at left end limit before after)) n bytes → IsReportRefusedAt (call told at left end limit before after) n result)
-refuses None at left end limit before after result h = tt
-refuses (Some bytes) at left end limit before after result h = exact bytes at left end limit before after result h
+refuses_by : (told : Option (List ℕ)) (at : ℕ) (left : Option (List ℕ)) (end limit before after : ℕ) (result : Result Report LineFault) → IsReader (call told at left end limit before after) result → IfSome told (λ bytes. (n : ℕ) → HasBrokenReportLine (room_of (call told at left end limit before after)) n bytes → IsReportRefusedAt (call told at left end limit before after) n result)
+refuses_by None at left end limit before after result h = tt
+refuses_by (Some bytes) at left end limit before after result h = exact bytes at left end limit before after result h
 
-pub reader_failed : (c : Call) (result : Result Report ReportFault) (fault : ReportFault) → result ≡ Err fault → HasReportCause c fault → IsReader c result
-reader_failed c (Ok report) fault e h = absurd cc
-reader_failed c (Err other) fault e h = let f : other ≡ fault = cc in (tt, (tt, subst (HasReportCause c) (sym f) h))
+module _ (c : Call) where
+  pub accepts : (result : Result Report LineFault) → IsReader c result → IfSome c.told (λ bytes. F bytes → length bytes ≤ room_of c → IsReportRead c bytes result)
+  accepts result h = accepts_by c.told c.at c.left c.end c.limit c.before c.after result h
+
+  pub refuses : (result : Result Report LineFault) → IsReader c result → IfSome c.told (λ bytes. (n : ℕ) → HasBrokenReportLine (room_of c) n bytes → IsReportRefusedAt c n result)
+  refuses result h = refuses_by c.told c.at c.left c.end c.limit c.before c.after result h
+
+  pub reader_failed : (result : Result Report LineFault) (fault : LineFault) → IsErrAnd result (λ y. y ≡ fault) → HasReportCause c fault → IsReader c result
+  reader_failed (Ok report) fault i h = absurd i
+  reader_failed (Err other) fault i h = (tt, (tt, subst (HasReportCause c) (sym i) h))
+
+-- the lines of a report were taken, and then the input ended
+module _ (a b : Call) where
+  pub reader_done : (report : Report) (done now : ℕ) → IsReport (report_told report) → TakesLines (λ text. text ≡ report_text (report_told report)) done now a → Takes (second a b) (λ text rest. (text ≡ []) × (rest ≡ [])) → IsReader (joined a b) (Ok report)
+  reader_done report done now i t e = (
+    Takes-then a.told a.at a.left a.end b.left b.end a.limit b.limit a.before a.after b.after (λ text rest. (text ≡ report_text (report_told report)) × (now ≡ done + lines_in text)) (λ text rest. (text ≡ []) × (rest ≡ [])) (λ text rest. (text ≡ report_text (report_told report)) × (rest ≡ []))
+        (λ p m q r x f y. (ap (λ (l : List ℕ). p ++ l) y.0 ∙ append-nil p ∙ x.0, y.1)) t e,
+    (i, tt),
+  )

@@ -3,68 +3,61 @@ use Rattle.std.proofs.Common.{◌≡◌, ℕ, zero, suc, ◌<◌, ℤ, true, fal
 use Rattle.std.specs.Prelude.{codes, is_some}
 use Rattle.std.proofs.lemmas.List.{append_cancel_left, append_cancel_right}
 use Rattle.raster_model.specs.Limits.{is_raster_size}
-use Rattle.grid_writer.specs.Grid.{grid_text, texts_below}
+use Rattle.grid_writer.specs.Grid.{grid_text}
 use Rattle.grid_writer.specs.Grids.{GridOf}
-use Rattle.grid_writer.specs.Numbers.{AreLongs, numbers_text}
-use Rattle.grid_writer.proofs.FormLemmas.{cut_unique}
+use Rattle.text_lines.specs.Numbers.{AreLongs, numbers_text}
+use Rattle.text_lines.proofs.FormLemmas.{cut_unique}
 use Rattle.grid_writer.proofs.GridReads.{grids_cancel}
-use Rattle.grid_writer.proofs.RowLemmas.{IsOneLine, texts_cancel}
-use Rattle.report_text.specs.Contents.{IsCost, IsSurfaceInRange, MayBeInRange}
-use Rattle.report_text.specs.Lines.{costs_line, faces_front, flows_line, tile_faces_line}
+use Rattle.text_lines.proofs.TextLemmas.{IsOneLine, texts_cancel}
+use Rattle.report_text.specs.Contents.{IsSurfaceInRange, MayBeInRange}
+use Rattle.text_lines.specs.Parsing.{IsWide}
 use Rattle.report_text.specs.Reports.{ItemOf, SurfaceOf, is_published}
 use Rattle.report_text.specs.Same.{AreSameItems, IsSameItem, IsSameSurface, MayBeSame, ReportTextsAreUnique}
-use Rattle.report_text.specs.Text.{behind_text, costs_text, faces_line, faces_text, flows_text, item_text, surface_text, tiles_in}
+use Rattle.report_text.specs.Parsing.{AreCosts}
+use Rattle.report_text.specs.Parts.{AreItems, items_text}
+use Rattle.report_text.specs.Text.{after_text, all_faces_text, costs_line, ended_line, faces_front, faces_line, faces_text, flows_line, item_text, line_end, surface_block_text, tiles_by, tiles_in}
 use Rattle.report_text.proofs.EntryLemmas.{costs_unique}
 use Rattle.report_text.proofs.FieldLemmas.{numbers_unique}
-use Rattle.report_text.proofs.ItemForms.{AreItems, ended, item_not_end, item_unique, line_apart}
+use Rattle.report_text.proofs.ItemForms.{item_not_end, item_unique, line_apart}
 use Rattle.report_text.proofs.LineFacts.{tiles_small}
 use Rattle.report_text.proofs.LineLemmas.{costs_in_line, faces_in_line}
-use Rattle.report_text.proofs.PartForms.{costs_is, faces_is, flows_is, surface_is}
-use Rattle.report_text.proofs.ReportForms.{head_unique, report_is, tiles_by}
+use Rattle.report_text.proofs.PartForms.{surface_is}
+use Rattle.report_text.proofs.ReportForms.{frame_of, head_unique, report_is}
 
 -- ---- a surface
 
-costs_apart : (a b : ℕ) (r : List ℕ) → costs_text a b ++ r ≡ costs_line a b ++ 10 ∷ r
-costs_apart a b r = ap (λ (l : List ℕ). l ++ r) (costs_is a b) ∙ line_apart (costs_line a b) r
+costs_cancel : (p q : ℕ × ℕ) (r s : List ℕ) → AreCosts p → AreCosts q → ended_line costs_line p ++ r ≡ ended_line costs_line q ++ s → ((p.0 ≡ q.0) × (p.1 ≡ q.1)) × (r ≡ s)
+costs_cancel p q r s a b e =
+    let parts = cut_unique (costs_line p) (costs_line q) r s (costs_in_line p.0 p.1 a.0 a.1) (costs_in_line q.0 q.1 b.0 b.1) (sym (line_apart (costs_line p) r) ∙ e ∙ line_apart (costs_line q) s) in
+    (costs_unique p.0 p.1 q.0 q.1 a.0 a.1 b.0 b.1 parts.0, parts.1)
 
-costs_cancel : (a b c d : ℕ) (r s : List ℕ) → IsCost a → IsCost b → IsCost c → IsCost d → costs_text a b ++ r ≡ costs_text c d ++ s → ((a ≡ c) × (b ≡ d)) × (r ≡ s)
-costs_cancel a b c d r s p q t u e =
-    let parts = cut_unique (costs_line a b) (costs_line c d) r s (costs_in_line a b p q) (costs_in_line c d t u) (sym (costs_apart a b r) ∙ e ∙ costs_apart c d s) in
-    (costs_unique a b c d p q t u parts.0, parts.1)
+faces_one_line : (tile : ℕ) (faces : List ℤ) → IsWide tile → AreLongs faces → IsOneLine (ended_line (faces_line tile) faces)
+faces_one_line tile faces small long = (faces_line tile faces, (faces_in_line tile faces small long, refl))
 
-faces_one_line : (tile : ℕ) (faces : List ℤ) → IsCost tile → AreLongs faces → IsOneLine (faces_line tile faces)
-faces_one_line tile faces small long = (tile_faces_line tile faces, (faces_in_line tile faces small long, faces_is tile faces))
+-- lists after a front
+after_front : (front : List ℕ) (a b : List ℤ) → AreLongs a → AreLongs b → (front ++ numbers_text a) ++ line_end ≡ (front ++ numbers_text b) ++ line_end → a ≡ b
+after_front front a b f g e = numbers_unique a b f g (append_cancel_left front (numbers_text a) (numbers_text b) (append_cancel_right (front ++ numbers_text a) (front ++ numbers_text b) line_end e))
 
-faces_unique : (tile : ℕ) (a b : List ℤ) → AreLongs a → AreLongs b → faces_line tile a ≡ faces_line tile b → a ≡ b
-faces_unique tile a b f g e =
-    let lines = append_cancel_right (tile_faces_line tile a) (tile_faces_line tile b) (10 ∷ []) (sym (faces_is tile a) ∙ e ∙ faces_is tile b) in
-    numbers_unique a b f g (append_cancel_left (faces_front tile) (numbers_text a) (numbers_text b) lines)
-
-flows_unique : (a b : List ℤ) → AreLongs a → AreLongs b → flows_text a ≡ flows_text b → a ≡ b
-flows_unique a b f g e =
-    let lines = append_cancel_right (flows_line a) (flows_line b) (10 ∷ []) (sym (flows_is a) ∙ e ∙ flows_is b) in
-    numbers_unique a b f g (append_cancel_left (codes "flows") (numbers_text a) (numbers_text b) lines)
-
-module _ (width height tiles : ℕ) (z : IsTrue (is_raster_size width height)) (small : IsCost tiles) where
-  faces_cancel : (f g : ℕ → List ℤ) (r s : List ℕ) → ((t : ℕ) → t < tiles → AreLongs (f t)) → ((t : ℕ) → t < tiles → AreLongs (g t)) → texts_below tiles (faces_text f) ++ r ≡ texts_below tiles (faces_text g) ++ s → ((t : ℕ) → t < tiles → f t ≡ g t) × (r ≡ s)
+module _ (width height tiles : ℕ) (z : IsTrue (is_raster_size width height)) (small : IsWide tiles) where
+  faces_cancel : (f g : ℕ → List ℤ) (r s : List ℕ) → ((t : ℕ) → t < tiles → AreLongs (f t)) → ((t : ℕ) → t < tiles → AreLongs (g t)) → all_faces_text tiles f ++ r ≡ all_faces_text tiles g ++ s → ((t : ℕ) → t < tiles → f t ≡ g t) × (r ≡ s)
   faces_cancel f g r s p q e =
       let lines = texts_cancel tiles (faces_text f) (faces_text g) r s (λ t lt. faces_one_line t (f t) (omega (arith, lt, small)) (p t lt)) (λ t lt. faces_one_line t (g t) (omega (arith, lt, small)) (q t lt)) e in
-      (λ t lt. faces_unique t (f t) (g t) (p t lt) (q t lt) (lines.0 t lt), lines.1)
+      (λ t lt. after_front (faces_front t) (f t) (g t) (p t lt) (q t lt) (lines.0 t lt), lines.1)
 
   abbrev grid_by : SurfaceOf → GridOf
   grid_by k = record { width = width; height = height; values = k.values }
 
-  pub surface_unique : (k l : SurfaceOf) → IsSurfaceInRange width height tiles k → IsSurfaceInRange width height tiles l → surface_text width height tiles k ≡ surface_text width height tiles l → IsSameSurface width height tiles k l
+  pub surface_unique : (k l : SurfaceOf) → IsSurfaceInRange width height tiles k → IsSurfaceInRange width height tiles l → surface_block_text width height tiles k ≡ surface_block_text width height tiles l → IsSameSurface width height tiles k l
   surface_unique k l a b e =
-      let faces_k : List ℕ = texts_below tiles (faces_text k.faces) ++ flows_text k.flows in
-      let faces_l : List ℕ = texts_below tiles (faces_text l.faces) ++ flows_text l.flows in
-      let costs = costs_cancel k.tile_cost k.seam_cost l.tile_cost l.seam_cost (grid_text width height k.values ++ faces_k) (grid_text width height l.values ++ faces_l) a.tile_cost a.seam_cost b.tile_cost b.seam_cost (sym (surface_is width height tiles k) ∙ e ∙ surface_is width height tiles l) in
+      let faces_k : List ℕ = all_faces_text tiles k.faces ++ ended_line flows_line k.flows in
+      let faces_l : List ℕ = all_faces_text tiles l.faces ++ ended_line flows_line l.flows in
+      let costs = costs_cancel (k.tile_cost, k.seam_cost) (l.tile_cost, l.seam_cost) (grid_text width height k.values ++ faces_k) (grid_text width height l.values ++ faces_l) (a.tile_cost, a.seam_cost) (b.tile_cost, b.seam_cost) (sym (surface_is width height tiles k) ∙ e ∙ surface_is width height tiles l) in
       let grids = grids_cancel (grid_by k) (grid_by l) faces_k faces_l (record { sized = z; fits = a.values }) (record { sized = z; fits = b.values }) costs.1 in
-      let faces = faces_cancel k.faces l.faces (flows_text k.flows) (flows_text l.flows) a.faces b.faces grids.1 in
+      let faces = faces_cancel k.faces l.faces (ended_line flows_line k.flows) (ended_line flows_line l.flows) a.faces b.faces grids.1 in
       let values = grids.0 in
-      record { tile_cost = costs.0.0; seam_cost = costs.0.1; values = values.values; faces = faces.0; flows = flows_unique k.flows l.flows a.flows b.flows faces.1 }
+      record { tile_cost = costs.0.0; seam_cost = costs.0.1; values = values.values; faces = faces.0; flows = after_front (codes "flows") k.flows l.flows a.flows b.flows faces.1 }
 
-  behind_same : (a b : Option SurfaceOf) → is_some a ≡ is_some b → MayBeInRange width height tiles a → MayBeInRange width height tiles b → behind_text width height tiles a ≡ behind_text width height tiles b → MayBeSame width height tiles a b
+  behind_same : (a b : Option SurfaceOf) → is_some a ≡ is_some b → MayBeInRange width height tiles a → MayBeInRange width height tiles b → after_text width height tiles a ≡ after_text width height tiles b → MayBeSame width height tiles a b
   behind_same None None same x y e = tt
   behind_same None (Some l) same x y e = absurd (let q : false ≡ true = same in cc)
   behind_same (Some k) None same x y e = absurd (let q : true ≡ false = same in cc)
@@ -72,7 +65,7 @@ module _ (width height tiles : ℕ) (z : IsTrue (is_raster_size width height)) (
 
   -- ---- items
 
-  ended_with : (i : ItemOf) (items : List ItemOf) → ended width height tiles (i ∷ items) ≡ item_text width height tiles i ++ ended width height tiles items
+  ended_with : (i : ItemOf) (items : List ItemOf) → items_text width height tiles (i ∷ items) ≡ item_text width height tiles i ++ items_text width height tiles items
   ended_with i items = append_assoc (item_text width height tiles i) (flat_map (item_text width height tiles) items) (codes "end\n")
 
   same_first : (i j : ItemOf) (items others : List ItemOf) → IsSameItem width height tiles i j → AreSameItems width height tiles items others → AreSameItems width height tiles (i ∷ items) (j ∷ others)
@@ -85,12 +78,12 @@ module _ (width height tiles : ℕ) (z : IsTrue (is_raster_size width height)) (
           subst (λ (x : ItemOf). IsSameItem width height tiles x n) e (subst (λ (y : ItemOf). IsSameItem width height tiles i y) f first)
       each (suc k) m n p q = rest.1 k m n p q
 
-  items_same : (items others : List ItemOf) → AreItems width height tiles items → AreItems width height tiles others → ended width height tiles items ≡ ended width height tiles others → AreSameItems width height tiles items others
+  items_same : (items others : List ItemOf) → AreItems width height tiles items → AreItems width height tiles others → items_text width height tiles items ≡ items_text width height tiles others → AreSameItems width height tiles items others
   items_same [] [] a b e = (refl, λ k i j p q. absurd (cc))
-  items_same [] (j ∷ others) a b e = absurd (item_not_end width height tiles z small j (ended width height tiles others) [] b.0 (sym (e ∙ ended_with j others)))
-  items_same (i ∷ items) [] a b e = absurd (item_not_end width height tiles z small i (ended width height tiles items) [] a.0 (sym (ended_with i items) ∙ e))
+  items_same [] (j ∷ others) a b e = absurd (item_not_end width height tiles z small j (items_text width height tiles others) [] b.0 (sym (e ∙ ended_with j others)))
+  items_same (i ∷ items) [] a b e = absurd (item_not_end width height tiles z small i (items_text width height tiles items) [] a.0 (sym (ended_with i items) ∙ e))
   items_same (i ∷ items) (j ∷ others) a b e =
-      let parts = item_unique width height tiles z small i j (ended width height tiles items) (ended width height tiles others) a.0 b.0 (sym (ended_with i items) ∙ e ∙ ended_with j others) in
+      let parts = item_unique width height tiles z small i j (items_text width height tiles items) (items_text width height tiles others) a.0 b.0 (sym (ended_with i items) ∙ e ∙ ended_with j others) in
       let x = a.0 in
       let y = b.0 in
       let both : is_some i.surface ≡ is_some j.surface = x.published ∙ ap is_published parts.0 ∙ sym y.published in
@@ -100,12 +93,12 @@ module _ (width height tiles : ℕ) (z : IsTrue (is_raster_size width height)) (
 
 -- the items of a report, as those of a raster of this size in tiles of this side
 abbrev AreItemsBy : List ℕ → List ItemOf → ℕ → ℕ → ℕ → Type 0
-AreItemsBy text items width height tiles = AreItems width height tiles items × (text ≡ ended width height tiles items)
+AreItemsBy text items width height tiles = AreItems width height tiles items × (text ≡ items_text width height tiles items)
 
 pub reports_unique : ReportTextsAreUnique
 reports_unique v w a b e =
-    let head = head_unique v.width v.height v.side v.rule w.width w.height w.side w.rule (ended v.width v.height (tiles_in v) v.items) (ended w.width w.height (tiles_in w) w.items) a.sized b.sized a.sides b.sides (sym (report_is v) ∙ e ∙ report_is w) in
-    let text : List ℕ = ended v.width v.height (tiles_in v) v.items in
+    let text : List ℕ = items_text v.width v.height (tiles_in v) v.items in
+    let head = head_unique (frame_of v) (frame_of w) text (items_text w.width w.height (tiles_in w) w.items) (a.sized, (a.sides, tt)) (b.sized, (b.sides, tt)) (sym (report_is v) ∙ e ∙ report_is w) in
     let there : AreItemsBy text w.items w.width w.height (tiles_in w) = (b.items, head.after) in
     let one = subst (λ (n : ℕ). AreItemsBy text w.items n w.height (tiles_by n w.height w.side)) (sym head.width) there in
     let two = subst (λ (n : ℕ). AreItemsBy text w.items v.width n (tiles_by v.width n w.side)) (sym head.height) one in

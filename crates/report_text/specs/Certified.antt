@@ -38,12 +38,12 @@ abbrev pub IsCertifiedAt : Session → List Entry → ℕ → Option SurfaceOf �
 IsCertifiedAt s H revision (Some k) = (surface : Field ℤ) × IsCertifiedSurface (raster_of s.scene) (mask_in s H revision) k surface
 IsCertifiedAt s H revision None = ⊥
 
-abbrev pub IsCertifiedBehind : Session → List Entry → Entry → Option SurfaceOf → Type 0
-IsCertifiedBehind s H (Revised analyst edit) behind = behind ≡ None
-IsCertifiedBehind s H (Kept tile stamp) behind = behind ≡ None
-IsCertifiedBehind s H (Published analyst revision) behind = IsCertifiedAt s H revision behind
-IsCertifiedBehind s H (Settled analyst revision) behind = behind ≡ None
-IsCertifiedBehind s H (Shown analyst revision) behind = behind ≡ None
+abbrev pub IsCertifiedAfter : Session → List Entry → Entry → Option SurfaceOf → Type 0
+IsCertifiedAfter s H (Revised analyst edit) behind = behind ≡ None
+IsCertifiedAfter s H (Kept tile stamp) behind = behind ≡ None
+IsCertifiedAfter s H (Published analyst revision) behind = IsCertifiedAt s H revision behind
+IsCertifiedAfter s H (Settled analyst revision) behind = behind ≡ None
+IsCertifiedAfter s H (Shown analyst revision) behind = behind ≡ None
 
 -- the history of a report
 abbrev pub history_of : ReportOf → List Entry
@@ -56,7 +56,7 @@ pub record IsCertifiedReport (s : Session) (v : ReportOf) : Type 0 where
   pub rule : v.rule ≡ s.scene.rule
   pub legal : IsLegal s (history_of v)
   pub complete : IsComplete s (history_of v)
-  pub surfaces : (k : ℕ) (i : ItemOf) → slice_get v.items k ≡ Some i → IsCertifiedBehind s (history_of v) i.entry i.surface
+  pub surfaces : (k : ℕ) (i : ItemOf) → slice_get v.items k ≡ Some i → IsCertifiedAfter s (history_of v) i.entry i.surface
 
 -- each published surface is the best at the mask of its revision, and its grid shows it
 abbrev pub IsBestAt : Session → List Entry → ℕ → Option SurfaceOf → Type 0

@@ -1,13 +1,13 @@
 -- A report that was read, as its text tells it.
-use Rattle.std.specs.Prelude.{◌≡◌, ℕ, ◌<◌, ◌≤◌, ◌^◌, ℤ, IsTrue, List, [], map, slice_index_or, Option, Some, None, ⊤}
+use Rattle.std.specs.Prelude.{◌≡◌, ℕ, ◌<◌, ℤ, IsTrue, List, [], map, slice_index_or, Option, Some, None, ⊤}
 use Rattle.std.specs.List.{AllByRecursion}
 use Rattle.std.specs.Global.{Vec, Box}
 use Rattle.raster_model.specs.Limits.{is_raster_size, IsTileSide}
 use Rattle.raster_model.specs.declared.script.Edit.TheVariants.{Mask, Unmask}
-use Rattle.raster_model.specs.declared.script.Rect.{Rect}
-use Rattle.grid_writer.specs.Forms.{Form}
+use Rattle.text_lines.specs.Forms.{Form}
 use Rattle.grid_writer.specs.Grids.{AreLong, value_at}
-use Rattle.grid_writer.specs.Numbers.{AreLongs}
+use Rattle.text_lines.specs.Numbers.{AreLongs}
+use Rattle.text_lines.specs.Parsing.{IsRectOfWords, IsWide, IsWord}
 use Rattle.tile_board.specs.declared.entry.Entry.{Entry}
 use Rattle.tile_board.specs.declared.entry.Entry.TheVariants.{Revised, Kept, Published, Settled, Shown}
 use Rattle.report_text.specs.declared.items.Item.{Item}
@@ -23,30 +23,17 @@ lists_of lists t = slice_index_or (map (λ list. list.items) lists) t []
 abbrev pub told_surface : ReportSurface → SurfaceOf
 told_surface k = record { tile_cost = k.tile_cost; seam_cost = k.seam_cost; values = value_at k.grid.width k.grid.values.items; faces = lists_of k.faces.items; flows = k.flows.items }
 
-abbrev pub told_behind : Option (Box ReportSurface) → Option SurfaceOf
-told_behind None = None
-told_behind (Some k) = Some (told_surface k.value)
+abbrev pub told_after : Option (Box ReportSurface) → Option SurfaceOf
+told_after None = None
+told_after (Some k) = Some (told_surface k.value)
 
 abbrev pub told_item : Item → ItemOf
-told_item i = record { entry = i.entry; surface = told_behind i.surface }
+told_item i = record { entry = i.entry; surface = told_after i.surface }
 
 abbrev pub report_told : Report → ReportOf
 report_told v = record { width = v.width; height = v.height; side = v.side; rule = v.rule; items = map told_item v.items.items }
 
 -- ---- the numbers of a report are in their ranges
-
--- a number of 32 bits; a cost of 128
-abbrev pub IsWord : ℕ → Type 0
-IsWord n = n < 2 ^ 32
-
-abbrev pub IsCost : ℕ → Type 0
-IsCost n = n < 2 ^ 128
-
-pub record IsRectOfWords (r : Rect) : Type 0 where
-  pub x0 : IsWord r.x0
-  pub y0 : IsWord r.y0
-  pub x1 : IsWord r.x1
-  pub y1 : IsWord r.y1
 
 abbrev pub MayBeWord : Option ℕ → Type 0
 MayBeWord None = ⊤
@@ -61,8 +48,8 @@ IsEntryOfWords (Settled analyst revision) = IsWord analyst × IsWord revision
 IsEntryOfWords (Shown analyst revision) = IsWord analyst × MayBeWord revision
 
 pub record IsSurfaceInRange (width height tiles : ℕ) (k : SurfaceOf) : Type 0 where
-  pub tile_cost : IsCost k.tile_cost
-  pub seam_cost : IsCost k.seam_cost
+  pub tile_cost : IsWide k.tile_cost
+  pub seam_cost : IsWide k.seam_cost
   pub values : AreLong width height k.values
   pub faces : (t : ℕ) → t < tiles → AreLongs (k.faces t)
   pub flows : AreLongs k.flows

@@ -1,9 +1,9 @@
 -- The surfaces of a report that was read fit its raster.
-use Rattle.std.specs.Prelude.{◌≡◌, ℕ, ◌*◌, List, Option, Some, slice_get}
+use Rattle.std.specs.Prelude.{◌≡◌, ℕ, List, Option, Some, slice_get}
 use Rattle.std.specs.Global.{Box}
 use Rattle.report_text.specs.declared.items.Item.{Item}
 use Rattle.report_text.specs.declared.items.ReportSurface.{ReportSurface}
-use Rattle.report_text.specs.Text.{tiles_along}
+use Rattle.report_text.specs.Text.{tiles_by}
 
 -- a surface has a grid of this size and a list of faces for each of so many tiles
 pub record SurfaceFits (width height tiles : ℕ) (k : ReportSurface) : Type 0 where
@@ -16,4 +16,4 @@ MayFit width height tiles behind = (k : Box ReportSurface) → behind ≡ Some k
 
 -- the surfaces of the items do, for a raster in tiles of this side
 abbrev pub ItemsFit : ℕ → ℕ → ℕ → List Item → Type 0
-ItemsFit width height side items = (n : ℕ) (i : Item) → slice_get items n ≡ Some i → MayFit width height (tiles_along height side * tiles_along width side) i.surface
+ItemsFit width height side items = (n : ℕ) (i : Item) → slice_get items n ≡ Some i → MayFit width height (tiles_by width height side) i.surface

@@ -1,10 +1,9 @@
 pub mod Reports
 pub mod Text
-pub mod Lines
+pub mod Steps
 pub mod Parsing
 pub mod Fitting
 pub mod Contents
-pub mod Faults
 pub mod Reading
 pub mod Same
 pub mod Parts

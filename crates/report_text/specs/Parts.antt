@@ -1,82 +1,119 @@
 -- The parts of a report's text: words of helpers, which no clause of a public function cites.
-use Rattle.std.specs.Prelude.{◌≡◌, ◌≢◌, ◌⊎◌, ℕ, ◌+◌, ◌<◌, ◌≤◌, IsTrue, ℤ, List, [], ◌∷◌, ◌++◌, All, codes, flat_map, ⊤}
+use Rattle.std.specs.Prelude.{◌≡◌, ◌≢◌, ◌⊎◌, ℕ, ◌+◌, ◌<◌, IsTrue, ℤ, List, [], ◌∷◌, ◌++◌, All, Option, Some, None, codes, flat_map, map, ⊤}
+use Rattle.std.specs.Global.{Vec}
 use Rattle.std.specs.List.{AllByRecursion}
 use Rattle.insar_ports.specs.Bytes.{HasMore, HasRisen}
 use Rattle.insar_ports.specs.Calls.{Call, Takes}
 use Rattle.insar_ports.specs.Lines.{IsInLine}
-use Rattle.grid_writer.specs.declared.fault.GridFault.{GridFault}
-use Rattle.grid_writer.specs.declared.fault.GridFault.TheVariants as faults
-use Rattle.grid_writer.specs.Reading.{HasLineCause}
+use Rattle.text_lines.specs.declared.fault.LineFault.{LineFault}
+use Rattle.text_lines.specs.declared.fault.LineFault.TheVariants as faults
+use Rattle.text_lines.specs.Reading.{HasLineCause}
 use Rattle.raster_model.specs.Limits.{is_raster_size, IsTileSide}
 use Rattle.raster_model.specs.declared.weights.RuleKind.{RuleKind}
-use Rattle.grid_writer.specs.Forms.{Form}
-use Rattle.grid_writer.specs.Grid.{texts_below}
-use Rattle.grid_writer.specs.Numbers.{AreLongs}
+use Rattle.raster_model.specs.Sums.{Field}
+use Rattle.grid_writer.specs.declared.values.Grid.{Grid}
+use Rattle.text_lines.specs.Forms.{Form}
+use Rattle.grid_writer.specs.Grid.{grid_text}
+use Rattle.grid_writer.specs.Grids.{AreLong, value_at}
+use Rattle.text_lines.specs.Numbers.{AreLongs}
 use Rattle.tile_board.specs.declared.entry.Entry.{Entry}
-use Rattle.report_text.specs.Contents.{IsCost, IsEntryOfWords, IsItemInRange, IsSurfaceInRange}
-use Rattle.report_text.specs.Lines.{costs_line, flows_line, rule_line, size_line, tile_faces_line, tile_line}
-use Rattle.report_text.specs.Reports.{ItemOf, SurfaceOf, is_published}
-use Rattle.report_text.specs.Text.{entry_text, faces_text, item_text, rule_text, size_text, surface_text, tile_text, title_text}
+use Rattle.report_text.specs.declared.head.Head.{Head}
+use Rattle.report_text.specs.declared.items.Item.{Item}
+use Rattle.report_text.specs.Contents.{IsEntryOfWords, IsItemInRange, IsSurfaceInRange, lists_of, told_item}
+use Rattle.text_lines.specs.Parsing.{IsAnyRule, IsWide}
+use Rattle.report_text.specs.Reports.{ItemOf, is_published}
+use Rattle.report_text.specs.Steps.{TextOf, both, in_turn}
+use Rattle.report_text.specs.Text.{all_faces_text, ended_line, flows_line, item_text, rule_line, size_line, surface_block_text, tile_line, title_text}
 
--- a line of each kind, whose numbers are in their ranges
-abbrev pub IsSizeLine : List ℕ → Type 0
-IsSizeLine line = (width : ℕ) × (height : ℕ) × (IsTrue (is_raster_size width height) × (line ≡ size_line width height))
+-- which values lines may have: a size within the limits, an entry of words or none
+abbrev pub IsRasterSize : ℕ × ℕ → Type 0
+IsRasterSize size = IsTrue (is_raster_size size.0 size.1)
 
-abbrev pub IsSideLine : List ℕ → Type 0
-IsSideLine line = (side : ℕ) × ((IsTileSide side) × (line ≡ tile_line side))
+abbrev pub MayStand : Option Entry → Type 0
+MayStand None = ⊤
+MayStand (Some entry) = IsEntryOfWords entry
 
-abbrev pub IsRuleLine : List ℕ → Type 0
-IsRuleLine line = (rule : RuleKind) × (line ≡ rule_line rule)
+-- the side and the rule; the size before them; the head
+abbrev pub IsTiling : ℕ × RuleKind → Type 0
+IsTiling = both IsTileSide IsAnyRule
 
-abbrev pub IsCostsLine : List ℕ → Type 0
-IsCostsLine line = (tiles : ℕ) × (seams : ℕ) × (IsCost tiles × (IsCost seams × (line ≡ costs_line tiles seams)))
+abbrev pub tiling_text : ℕ × RuleKind → List ℕ
+tiling_text = in_turn (ended_line tile_line) (ended_line rule_line)
 
-abbrev pub IsFacesLine : ℕ → List ℕ → Type 0
-IsFacesLine tile line = (faces : List ℤ) × ((IsCost tile × AreLongs faces) × (line ≡ tile_faces_line tile faces))
+abbrev pub IsFrame : (ℕ × ℕ) × (ℕ × RuleKind) → Type 0
+IsFrame = both IsRasterSize IsTiling
 
-abbrev pub IsFlowsLine : List ℕ → Type 0
-IsFlowsLine line = (flows : List ℤ) × (AreLongs flows × (line ≡ flows_line flows))
+abbrev pub frame_text : (ℕ × ℕ) × (ℕ × RuleKind) → List ℕ
+frame_text = in_turn (ended_line size_line) tiling_text
 
--- the line of an entry, or `end`
-abbrev pub end_line : List ℕ
-end_line = codes "end"
+abbrev pub head_frame : Head → (ℕ × ℕ) × (ℕ × RuleKind)
+head_frame head = ((head.width, head.height), (head.side, head.rule))
 
-abbrev pub IsEntryLine : List ℕ → Type 0
-IsEntryLine line = (entry : Entry) × (IsEntryOfWords entry × (line ≡ entry_text entry))
+abbrev pub head_by : (ℕ × ℕ) × (ℕ × RuleKind) → List ℕ
+head_by frame = title_text ++ frame_text frame
 
-abbrev pub IsEntryOrEnd : List ℕ → Type 0
-IsEntryOrEnd line = IsEntryLine line ⊎ (line ≡ end_line)
+-- the faces of the tiles below a number
+abbrev pub AreFacesBelow : ℕ → (ℕ → List ℤ) → Type 0
+AreFacesBelow tiles faces = (t : ℕ) → t < tiles → AreLongs (faces t)
 
--- the head
-abbrev pub head_by : ℕ → ℕ → ℕ → RuleKind → List ℕ
-head_by width height side rule = title_text ++ (size_text width height ++ (tile_text side ++ rule_text rule))
+abbrev pub AreFacesOf : ℕ → List ℤ → Type 0
+AreFacesOf tile faces = IsWide tile × AreLongs faces
 
-abbrev pub IsHeadText : Form
-IsHeadText text = (width : ℕ) × (height : ℕ) × (side : ℕ) × (rule : RuleKind) × (IsTrue (is_raster_size width height) × ((IsTileSide side) × (text ≡ head_by width height side rule)))
+-- the faces and the flows; the values before them
+abbrev pub AreCertificates : ℕ → (ℕ → List ℤ) × List ℤ → Type 0
+AreCertificates tiles = both (AreFacesBelow tiles) AreLongs
 
--- the faces of so many tiles; the block of a surface
-abbrev pub IsFacesText : ℕ → Form
-IsFacesText tiles text = (faces : ℕ → List ℤ) × (((t : ℕ) → t < tiles → AreLongs (faces t)) × (text ≡ texts_below tiles (faces_text faces)))
+abbrev pub certificates_text : ℕ → (ℕ → List ℤ) × List ℤ → List ℕ
+certificates_text tiles = in_turn (all_faces_text tiles) (ended_line flows_line)
 
+abbrev pub AreSolved : ℕ → ℕ → ℕ → Field ℤ × ((ℕ → List ℤ) × List ℤ) → Type 0
+AreSolved width height tiles = both (AreLong width height) (AreCertificates tiles)
+
+abbrev pub solved_text : ℕ → ℕ → ℕ → Field ℤ × ((ℕ → List ℤ) × List ℤ) → List ℕ
+solved_text width height tiles = in_turn (grid_text width height) (certificates_text tiles)
+
+-- what readers of parts return, as its text tells it
+abbrev pub list_in : Vec ℤ → List ℤ
+list_in list = list.items
+
+abbrev pub lists_in : Vec (Vec ℤ) → ℕ → List ℤ
+lists_in lists = lists_of lists.items
+
+abbrev pub values_in : Grid → Field ℤ
+values_in grid = value_at grid.width grid.values.items
+
+abbrev pub certificates_in : Vec (Vec ℤ) × Vec ℤ → (ℕ → List ℤ) × List ℤ
+certificates_in p = (lists_in p.0, list_in p.1)
+
+abbrev pub solved_in : Grid × (Vec (Vec ℤ) × Vec ℤ) → Field ℤ × ((ℕ → List ℤ) × List ℤ)
+solved_in p = (values_in p.0, certificates_in p.1)
+
+abbrev pub items_in : Vec Item → List ItemOf
+items_in items = map told_item items.items
+
+-- the block of a surface
 abbrev pub IsSurfaceText : ℕ → ℕ → ℕ → Form
-IsSurfaceText width height tiles text = (k : SurfaceOf) × (IsSurfaceInRange width height tiles k × (text ≡ surface_text width height tiles k))
+IsSurfaceText width height tiles = TextOf (IsSurfaceInRange width height tiles) (surface_block_text width height tiles)
 
--- an item; items, and then `end`
-abbrev pub IsItemText : ℕ → ℕ → ℕ → Form
-IsItemText width height tiles text = (i : ItemOf) × (IsItemInRange width height tiles i × (text ≡ item_text width height tiles i))
+-- items, and then `end`
+abbrev pub items_text : ℕ → ℕ → ℕ → List ItemOf → List ℕ
+items_text width height tiles items = flat_map (item_text width height tiles) items ++ codes "end\n"
+
+abbrev pub AreItems : ℕ → ℕ → ℕ → List ItemOf → Type 0
+AreItems width height tiles items = AllByRecursion (IsItemInRange width height tiles) items
 
 abbrev pub IsItemsText : ℕ → ℕ → ℕ → Form
-IsItemsText width height tiles text = (items : List ItemOf) × (AllByRecursion (IsItemInRange width height tiles) items × (text ≡ flat_map (item_text width height tiles) items ++ codes "end\n"))
+IsItemsText width height tiles = TextOf (AreItems width height tiles) (items_text width height tiles)
 
 -- why no lines were read after an entry: it is a publication, and a surface was not read
-abbrev pub HasBehindCause : ℕ → ℕ → ℕ → Entry → ℕ → Call → GridFault → Type 0
-HasBehindCause width height tiles entry done c fault = IsTrue (is_published entry) × HasLineCause (IsSurfaceText width height tiles) done c fault
+abbrev pub HasAfterCause : ℕ → ℕ → ℕ → Entry → ℕ → Call → LineFault → Type 0
+HasAfterCause width height tiles entry done c fault = IsTrue (is_published entry) × HasLineCause (IsSurfaceText width height tiles) done c fault
 
 -- why the input did not end: another line is there, whole or cut, or the limit cuts one
 abbrev pub IsLineMore : List ℕ → List ℕ → Type 0
 IsLineMore text rest = ((line : List ℕ) × (All IsInLine line × (text ≡ line ++ 10 ∷ []))) ⊎ (All IsInLine text × ((text ≢ []) × (rest ≡ [])))
 
-abbrev pub HasMoreCause : ℕ → Call → GridFault → Type 0
+abbrev pub HasMoreCause : ℕ → Call → LineFault → Type 0
 HasMoreCause done c (faults.Line n) = (n ≡ done + 1) × Takes c IsLineMore
 HasMoreCause done c faults.TooLong = (c.end ≡ c.limit) × (HasMore c.left × Takes c (λ text rest. All IsInLine text))
 HasMoreCause done c faults.ReadFault = HasRisen c.before c.after

@@ -5,7 +5,7 @@ use Rattle.raster_model.specs.declared.weights.RuleKind.{RuleKind}
 use Rattle.raster_model.specs.Raster.{seam_cost}
 use Rattle.raster_model.specs.Sums.{Field}
 use Rattle.surface_snapshots.specs.Parts.{Parts, faces_in, flows_in, open_in, raster_in, surface_in, tile_costs}
-use Rattle.grid_writer.specs.Grid.{shown_in}
+use Rattle.grid_writer.specs.Shown.{shown_in}
 use Rattle.tile_board.specs.declared.entry.Entry.{Entry}
 use Rattle.tile_board.specs.declared.entry.Entry.TheVariants.{Revised, Kept, Published, Settled, Shown}
 use Rattle.sums_and_lists.specs.Sums.{one_if}

@@ -1,44 +1,34 @@
 -- The text of a report, in the one spelling of this project.
-use Rattle.std.specs.Prelude.{ℕ, ◌+◌, ◌-◌, ◌*◌, ◌/◌, ℤ, List, [], ◌∷◌, ◌++◌, Option, Some, None, codes, decimal, flat_map}
+use Rattle.std.specs.Prelude.{ℕ, ◌+◌, ◌-◌, ◌*◌, ◌/◌, ℤ, List, [], ◌∷◌, ◌++◌, Option, Some, None, codes, flat_map}
 use Rattle.raster_model.specs.declared.script.Edit.TheVariants.{Mask, Unmask}
-use Rattle.raster_model.specs.declared.script.Rect.{Rect}
 use Rattle.raster_model.specs.declared.weights.RuleKind.{RuleKind}
-use Rattle.raster_model.specs.declared.weights.RuleKind.TheVariants.{Least, Mean, Product}
-use Rattle.grid_writer.specs.Grid.{grid_text, texts_below}
-use Rattle.grid_writer.specs.Numbers.{numbers_text}
+use Rattle.grid_writer.specs.Grid.{grid_text}
+use Rattle.text_lines.specs.Numbers.{numbers_text}
 use Rattle.tile_board.specs.declared.entry.Entry.{Entry}
 use Rattle.tile_board.specs.declared.entry.Entry.TheVariants.{Revised, Kept, Published, Settled, Shown}
+use Rattle.text_lines.specs.Text.{field_text, rect_text, rule_word, texts_below}
 use Rattle.report_text.specs.Reports.{ItemOf, ReportOf, SurfaceOf}
 
--- the end of a line, and a number after a space
+-- the end of a line
 abbrev pub line_end : List ℕ
 line_end = 10 ∷ []
 
-unfoldable pub field_text : ℕ → List ℕ
-field_text n = codes " " ++ decimal n
+-- ---- lines, each without its end
 
 -- the four lines of the head
-unfoldable pub title_text : List ℕ
-title_text = codes "insar-report 1\n"
+abbrev pub title_line : List ℕ
+title_line = codes "insar-report 1"
 
-abbrev pub size_text : ℕ → ℕ → List ℕ
-size_text width height = codes "size" ++ (field_text width ++ (field_text height ++ line_end))
+abbrev pub size_line : ℕ × ℕ → List ℕ
+size_line size = codes "size" ++ (field_text size.0 ++ field_text size.1)
 
-abbrev pub tile_text : ℕ → List ℕ
-tile_text side = codes "tile" ++ (field_text side ++ line_end)
+abbrev pub tile_line : ℕ → List ℕ
+tile_line side = codes "tile" ++ field_text side
 
-abbrev pub rule_word : RuleKind → List ℕ
-rule_word Least = codes "least"
-rule_word Mean = codes "mean"
-rule_word Product = codes "product"
-
-abbrev pub rule_text : RuleKind → List ℕ
-rule_text rule = codes "rule " ++ (rule_word rule ++ line_end)
+abbrev pub rule_line : RuleKind → List ℕ
+rule_line rule = codes "rule " ++ rule_word rule
 
 -- an entry's words
-unfoldable pub rect_text : Rect → List ℕ
-rect_text r = field_text r.x0 ++ (field_text r.y0 ++ (field_text r.x1 ++ field_text r.y1))
-
 abbrev pub revision_text : Option ℕ → List ℕ
 revision_text (Some revision) = field_text revision
 revision_text None = codes " none"
@@ -51,39 +41,61 @@ entry_text (Published analyst revision) = codes "published" ++ (field_text analy
 entry_text (Settled analyst revision) = codes "settled" ++ (field_text analyst ++ field_text revision)
 entry_text (Shown analyst revision) = codes "shown" ++ (field_text analyst ++ revision_text revision)
 
--- the lines of a surface: costs, grid, the faces of each tile, flows
-abbrev pub costs_text : ℕ → ℕ → List ℕ
-costs_text tiles seams = codes "costs" ++ (field_text tiles ++ (field_text seams ++ line_end))
+-- the line of an entry; without one, the last line
+abbrev pub history_line : Option Entry → List ℕ
+history_line (Some entry) = entry_text entry
+history_line None = codes "end"
+
+-- the costs of a surface: of all tiles, and at the seams
+abbrev pub costs_line : ℕ × ℕ → List ℕ
+costs_line costs = codes "costs" ++ (field_text costs.0 ++ field_text costs.1)
+
+-- what stands before the faces of a tile, and their line; the line of the flows
+abbrev pub faces_front : ℕ → List ℕ
+faces_front tile = codes "faces" ++ field_text tile
 
 abbrev pub faces_line : ℕ → List ℤ → List ℕ
-faces_line tile faces = codes "faces" ++ (field_text tile ++ (numbers_text faces ++ line_end))
+faces_line tile faces = faces_front tile ++ numbers_text faces
 
+abbrev pub flows_line : List ℤ → List ℕ
+flows_line flows = codes "flows" ++ numbers_text flows
+
+-- ---- texts of whole lines
+
+abbrev pub ended_line : {A : Type 0} → (A → List ℕ) → A → List ℕ
+ended_line line a = line a ++ line_end
+
+unfoldable pub title_text : List ℕ
+title_text = title_line ++ line_end
+
+-- the lines of faces of the tiles below a number
 abbrev pub faces_text : (ℕ → List ℤ) → ℕ → List ℕ
-faces_text faces tile = faces_line tile (faces tile)
+faces_text faces tile = faces_line tile (faces tile) ++ line_end
 
-abbrev pub flows_text : List ℤ → List ℕ
-flows_text flows = codes "flows" ++ (numbers_text flows ++ line_end)
+abbrev pub all_faces_text : ℕ → (ℕ → List ℤ) → List ℕ
+all_faces_text tiles faces = texts_below tiles (faces_text faces)
 
-abbrev pub tiles_along : ℕ → ℕ → ℕ
-tiles_along pixels side = (pixels + side - 1) / side
+-- how many tiles of this side cover a raster, and the raster of a report
+abbrev pub tiles_by : ℕ → ℕ → ℕ → ℕ
+tiles_by width height side = ((height + side - 1) / side) * ((width + side - 1) / side)
 
 abbrev pub tiles_in : ReportOf → ℕ
-tiles_in v = tiles_along v.height v.side * tiles_along v.width v.side
+tiles_in v = tiles_by v.width v.height v.side
 
-unfoldable pub surface_text : ℕ → ℕ → ℕ → SurfaceOf → List ℕ
-surface_text width height tiles k = costs_text k.tile_cost k.seam_cost ++ (grid_text width height k.values ++ (texts_below tiles (faces_text k.faces) ++ flows_text k.flows))
+unfoldable pub surface_block_text : ℕ → ℕ → ℕ → SurfaceOf → List ℕ
+surface_block_text width height tiles k = ended_line costs_line (k.tile_cost, k.seam_cost) ++ (grid_text width height k.values ++ (all_faces_text tiles k.faces ++ ended_line flows_line k.flows))
 
 -- an entry's line, and after it the lines of its surface, if any
-abbrev pub behind_text : ℕ → ℕ → ℕ → Option SurfaceOf → List ℕ
-behind_text width height tiles (Some k) = surface_text width height tiles k
-behind_text width height tiles None = []
+abbrev pub after_text : ℕ → ℕ → ℕ → Option SurfaceOf → List ℕ
+after_text width height tiles (Some k) = surface_block_text width height tiles k
+after_text width height tiles None = []
 
 unfoldable pub item_text : ℕ → ℕ → ℕ → ItemOf → List ℕ
-item_text width height tiles i = entry_text i.entry ++ (line_end ++ behind_text width height tiles i.surface)
+item_text width height tiles i = entry_text i.entry ++ (line_end ++ after_text width height tiles i.surface)
 
 -- the head, the items, and the line `end`
 abbrev pub head_text : ReportOf → List ℕ
-head_text v = title_text ++ (size_text v.width v.height ++ (tile_text v.side ++ rule_text v.rule))
+head_text v = title_text ++ (ended_line size_line (v.width, v.height) ++ (ended_line tile_line v.side ++ ended_line rule_line v.rule))
 
 unfoldable pub report_text : ReportOf → List ℕ
 report_text v = head_text v ++ (flat_map (item_text v.width v.height (tiles_in v)) v.items ++ codes "end\n")

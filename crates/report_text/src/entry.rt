@@ -1,107 +1,68 @@
-ghost use Rattle.grid_writer.specs.Waiting.{waiting_in};
-ghost use Rattle.report_text.specs.Appending.{Appends};
-ghost use Rattle.report_text.specs.Contents.{IsEntryOfWords};
-ghost use Rattle.report_text.specs.Text.{entry_text, field_text, rect_text, revision_text};
-ghost use Rattle.std.specs.Prelude.{◌≤◌, ◌++◌, codes, length};
+#![tactic(auto, using(text_lines::proofs::AddLemmas::adds_then, text_lines::proofs::ChainLemmas::adds_two, text_lines::proofs::ChainLemmas::adds_three, text_lines::proofs::ChainLemmas::adds_four))]
 
-use crate::fields::{append, append_field};
-use grid_writer::TextBuffer;
-use insar_ports::{Sink, WriteFault};
+ghost use Rattle.report_text.specs.Contents.{IsEntryOfWords};
+ghost use Rattle.report_text.specs.Text.{entry_text, revision_text};
+ghost use Rattle.text_lines.specs.Text.{rect_text, field_text};
+ghost use Rattle.std.specs.Prelude.{◌++◌, codes};
+ghost use Rattle.text_lines.specs.Adding.{Adds};
+ghost use Rattle.text_lines.specs.Views.{view_of};
+
+use insar_ports::Sink;
 use raster_model::{Edit, Rect};
+use text_lines::{TextWriter, add_field, add_rect};
 use tile_board::Entry;
 
 /// Adds an entry's line without its end.
-pub(crate) fn append_entry<K: Sink>(
-    text: &mut TextBuffer,
-    sink: &mut K,
-    entry: Entry,
-) -> Result<(), WriteFault>
-    ensures text { Appends (K.held sink.old) (waiting_in text.old) (K.faults sink.old) (K.held sink.new) (waiting_in text.new) (K.faults sink.new) (entry_text entry) result }
+pub(crate) fn add_entry<K: Sink>(text: &mut TextWriter<K>, entry: Entry)
+    ensures text { Adds (view_of K.held K.faults text.old) (view_of K.held K.faults text.new) (entry_text entry) }
     ensures words { IsEntryOfWords entry }
 {
     match entry {
         Entry::Revised {
             analyst,
             edit: Edit::Mask(rect),
-        } => append_revised(text, sink, analyst, b" mask", rect),
+        } => add_revised(text, analyst, b" mask", rect),
         Entry::Revised {
             analyst,
             edit: Edit::Unmask(rect),
-        } => append_revised(text, sink, analyst, b" unmask", rect),
-        Entry::Kept { tile, stamp } => append_pair(text, sink, b"kept", tile, stamp),
-        Entry::Published { analyst, revision } => {
-            append_pair(text, sink, b"published", analyst, revision)
-        }
-        Entry::Settled { analyst, revision } => {
-            append_pair(text, sink, b"settled", analyst, revision)
-        }
-        Entry::Shown { analyst, revision } => append_shown(text, sink, analyst, revision),
+        } => add_revised(text, analyst, b" unmask", rect),
+        Entry::Kept { tile, stamp } => add_pair(text, b"kept", tile, stamp),
+        Entry::Published { analyst, revision } => add_pair(text, b"published", analyst, revision),
+        Entry::Settled { analyst, revision } => add_pair(text, b"settled", analyst, revision),
+        Entry::Shown { analyst, revision } => add_shown(text, analyst, revision),
     }
 }
 
 /// Adds an entry's word and its two numbers.
-fn append_pair<K: Sink>(
-    text: &mut TextBuffer,
-    sink: &mut K,
-    word: &[u8],
-    first: u32,
-    second: u32,
-) -> Result<(), WriteFault>
-    requires { length word.now ≤ 128 }
-    ensures { Appends (K.held sink.old) (waiting_in text.old) (K.faults sink.old) (K.held sink.new) (waiting_in text.new) (K.faults sink.new) (word.now ++ (field_text first ++ field_text second)) result }
+fn add_pair<K: Sink>(text: &mut TextWriter<K>, word: &[u8], first: u32, second: u32)
+    ensures { Adds (view_of K.held K.faults text.old) (view_of K.held K.faults text.new) (word.now ++ (field_text first ++ field_text second)) }
 {
-    append(text, sink, word)?;
-    append_field(text, sink, u128::from(first))?;
-    append_field(text, sink, u128::from(second))
+    text.bytes(word);
+    add_field(text, first);
+    add_field(text, second);
 }
 
-fn append_revised<K: Sink>(
-    text: &mut TextBuffer,
-    sink: &mut K,
-    analyst: u32,
-    edit: &[u8],
-    rect: Rect,
-) -> Result<(), WriteFault>
-    requires { length edit.now ≤ 128 }
-    ensures { Appends (K.held sink.old) (waiting_in text.old) (K.faults sink.old) (K.held sink.new) (waiting_in text.new) (K.faults sink.new) (codes "revised" ++ (field_text analyst ++ (edit.now ++ rect_text rect))) result }
+fn add_revised<K: Sink>(text: &mut TextWriter<K>, analyst: u32, edit: &[u8], rect: Rect)
+    ensures { Adds (view_of K.held K.faults text.old) (view_of K.held K.faults text.new) (codes "revised" ++ (field_text analyst ++ (edit.now ++ rect_text rect))) }
 {
-    append(text, sink, b"revised")?;
-    append_field(text, sink, u128::from(analyst))?;
-    append(text, sink, edit)?;
-    append_rect(text, sink, rect)
+    text.bytes(b"revised");
+    add_field(text, analyst);
+    add_rect(text, edit, rect);
 }
 
-fn append_rect<K: Sink>(text: &mut TextBuffer, sink: &mut K, rect: Rect) -> Result<(), WriteFault>
-    ensures { Appends (K.held sink.old) (waiting_in text.old) (K.faults sink.old) (K.held sink.new) (waiting_in text.new) (K.faults sink.new) (rect_text rect) result }
+fn add_shown<K: Sink>(text: &mut TextWriter<K>, analyst: u32, revision: Option<u32>)
+    ensures { Adds (view_of K.held K.faults text.old) (view_of K.held K.faults text.new) (codes "shown" ++ (field_text analyst ++ revision_text revision)) }
 {
-    append_field(text, sink, u128::from(rect.x0))?;
-    append_field(text, sink, u128::from(rect.y0))?;
-    append_field(text, sink, u128::from(rect.x1))?;
-    append_field(text, sink, u128::from(rect.y1))
+    text.bytes(b"shown");
+    add_field(text, analyst);
+    add_revision(text, revision);
 }
 
-fn append_shown<K: Sink>(
-    text: &mut TextBuffer,
-    sink: &mut K,
-    analyst: u32,
-    revision: Option<u32>,
-) -> Result<(), WriteFault>
-    ensures { Appends (K.held sink.old) (waiting_in text.old) (K.faults sink.old) (K.held sink.new) (waiting_in text.new) (K.faults sink.new) (codes "shown" ++ (field_text analyst ++ revision_text revision)) result }
-{
-    append(text, sink, b"shown")?;
-    append_field(text, sink, u128::from(analyst))?;
-    append_revision(text, sink, revision)
-}
-
-fn append_revision<K: Sink>(
-    text: &mut TextBuffer,
-    sink: &mut K,
-    revision: Option<u32>,
-) -> Result<(), WriteFault>
-    ensures { Appends (K.held sink.old) (waiting_in text.old) (K.faults sink.old) (K.held sink.new) (waiting_in text.new) (K.faults sink.new) (revision_text revision) result }
+fn add_revision<K: Sink>(text: &mut TextWriter<K>, revision: Option<u32>)
+    ensures { Adds (view_of K.held K.faults text.old) (view_of K.held K.faults text.new) (revision_text revision) }
 {
     match revision {
-        Some(revision) => append_field(text, sink, u128::from(revision)),
-        None => append(text, sink, b" none"),
+        Some(revision) => add_field(text, revision),
+        None => text.bytes(b" none"),
     }
 }

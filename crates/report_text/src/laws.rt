@@ -1,6 +1,7 @@
 //! Laws of the definitions. The functions do nothing; each contract is the law.
 
 ghost use Rattle.report_text.specs.Certified.{CertifiedReportsAreBest};
+ghost use Rattle.report_text.specs.Reading.{BrokenReportLineIsOne};
 ghost use Rattle.report_text.specs.Same.{ReportTextsAreUnique};
 
 /// Each published surface of a certified report is the best at the mask of its revision: congruent, least in each
@@ -14,4 +15,9 @@ pub fn certified_reports_are_best()
 /// same costs, values on the raster, faces of each tile, and flows.
 pub fn report_texts_are_unique()
     ensures { ReportTextsAreUnique }
+{}
+
+/// Bytes have at most one first line that breaks the form of a report, and the text of a report has none.
+pub fn broken_report_line_is_one()
+    ensures { BrokenReportLineIsOne }
 {}

@@ -3,8 +3,7 @@
 
 mod contents;
 mod entry;
-mod fault;
-pub mod fields;
+mod head;
 mod items;
 pub mod laws;
 mod parse;
@@ -13,7 +12,7 @@ mod report;
 mod surface;
 
 pub use crate::contents::Report;
-pub use crate::fault::ReportFault;
 pub use crate::items::{Item, ReportSurface};
 pub use crate::read::read_report;
 pub use crate::report::write_report;
+pub use text_lines::LineFault as ReportFault;

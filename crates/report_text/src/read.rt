@@ -1,135 +1,102 @@
-ghost use Rattle.grid_writer.specs.Forms.{IsLine, LineOf};
-ghost use Rattle.grid_writer.specs.Grid.{texts_below};
-ghost use Rattle.grid_writer.specs.LineWords.{TakesLines, number_of};
-ghost use Rattle.grid_writer.specs.Numbers.{AreLongs, numbers_text};
-ghost use Rattle.grid_writer.specs.Reading.{HasLineCause, room_of};
+ghost use Rattle.grid_writer.specs.Grids.{AreLong};
+ghost use Rattle.grid_writer.specs.Grid.{grid_text};
 ghost use Rattle.insar_ports.specs.Calls.{Moves, Takes, call_of};
 ghost use Rattle.insar_ports.specs.Feeding.{handed_of, left_of, limit_of, source_name};
-ghost use Rattle.raster_model.specs.Limits.{is_raster_size, IsTileSide};
-ghost use Rattle.report_text.specs.Contents.{IsCost, IsEntryOfWords, IsItemInRange, IsReport, IsReportText, IsSurfaceInRange, lists_of, report_told, told_behind, told_item, told_surface};
+ghost use Rattle.raster_model.specs.Limits.{IsTileSide};
+ghost use Rattle.report_text.specs.Contents.{IsEntryOfWords, IsItemInRange, IsReport, IsReportText, IsSurfaceInRange, report_told, told_after, told_item, told_surface};
 ghost use Rattle.report_text.specs.Fitting.{ItemsFit, MayFit, SurfaceFits};
-ghost use Rattle.report_text.specs.Lines.{costs_line, flows_line, rule_line, size_line, tile_faces_line, tile_line};
-ghost use Rattle.report_text.specs.Parts.{HasBehindCause, HasMoreCause, IsCostsLine, IsEntryOrEnd, IsFacesLine, IsFacesText, IsFlowsLine, IsHeadText, IsItemsText, IsRuleLine, IsSideLine, IsSizeLine, IsSurfaceText, end_line, head_by};
-ghost use Rattle.report_text.specs.Reading.{HasBrokenReportLine, HasReportCause, IsReportRead, IsReportRefusedAt};
-ghost use Rattle.report_text.specs.Text.{behind_text, entry_text, faces_text, item_text, report_text, surface_text, tiles_along};
-ghost use Rattle.std.specs.List.{AllByRecursion};
-ghost use Rattle.std.specs.Prelude.{◌≡◌, ◌≤◌, ◌<◌, ◌*◌, ◌++◌, [], ℕ, ℤ, List, codes, flat_map, map, IfErr, IfOk, IfSome, OnOk, IsTrue, MatchOption, length, vec_len};
+ghost use Rattle.report_text.specs.Parsing.{AreCosts, IsListParsedAs};
+ghost use Rattle.report_text.specs.Parts.{AreCertificates, AreFacesBelow, AreFacesOf, AreItems, AreSolved, HasAfterCause, HasMoreCause, IsFrame, IsRasterSize, IsTiling, MayStand, certificates_in, certificates_text, head_frame, frame_text, head_by, items_in, items_text, list_in, lists_in, solved_in, solved_text, tiling_text, values_in};
+ghost use Rattle.report_text.specs.Reading.{HasBrokenReportLine, HasReportCause, IsReader, IsReportRead, IsReportRefusedAt};
+ghost use Rattle.report_text.specs.Steps.{Advances, ReadsPart, ReadsLine, Took, between, itself, parsed_at, place_of};
+ghost use Rattle.report_text.specs.Text.{after_text, all_faces_text, costs_line, ended_line, faces_line, flows_line, history_line, report_text, rule_line, size_line, surface_block_text, tile_line};
+ghost use Rattle.std.specs.Prelude.{◌≡◌, ◌≤◌, ◌<◌, ◌++◌, [], ℕ, ℤ, List, IfErr, IfOk, IfSome, OnOk, MatchOption, length, vec_len};
+ghost use Rattle.text_lines.specs.LineWords.{kept_line, lines_read};
+ghost use Rattle.text_lines.specs.Numbers.{AreLongs, numbers_text};
+ghost use Rattle.text_lines.specs.Parsing.{IsAnyRule, behind};
+ghost use Rattle.text_lines.specs.Reading.{room_of};
 
 use crate::contents::Report;
-use crate::fault::ReportFault;
+use crate::head::Head;
 use crate::items::{Item, ReportSurface};
-use crate::parse::{costs_of, entry_of, rule_of, side_of, size_of};
+use crate::parse::{costs_of, history_of, rule_of, side_of, size_of};
 use crate::report::is_publication;
-use grid_writer::{GridFault, LineEnd, Lines, expect_line, push_numbers, read_sized_grid};
+use grid_writer::{Grid, read_sized_grid};
 use insar_ports::{Feed, Source};
 use itoa::Buffer;
 use raster_model::{RuleKind, Tiling};
 use std::alloc::{AllocError, Global};
+use text_lines::{LineEnd, LineFault, Lines, expect_line, push_numbers};
 use tile_board::Entry;
 
 /// No line but those of numbers has more bytes.
 const LONGEST_LINE: usize = 128;
 
-/// The last line.
-const END: &[u8] = b"end";
+/// What certifies a surface: the faces of its tiles, and its flows.
+type Certificates = (Vec<Vec<i64>>, Vec<i64>);
 
-/// What the first four lines say.
-#[derive(Clone, Copy)]
-struct Head {
-    width: u32,
-    height: u32,
-    side: u32,
-    rule: RuleKind,
-    /// How many tiles there are.
-    tiles: u32,
-    ghost sized: { IsTrue (is_raster_size width height) },
-    ghost sides: { IsTileSide side },
-    ghost counted: { tiles ≡ tiles_along height side * tiles_along width side },
+/// Reads the next line to its end. One that has more than `most` bytes, or that the input cuts, is refused.
+fn read_line<S: Source>(feed: &mut Feed<S>, lines: &mut Lines, most: usize) -> Result<(), LineFault>
+    ensures { ReadsLine most (kept_line lines.new) (place_of S.left S.faults feed.old lines.old) (place_of S.left S.faults feed.new lines.new) result }
+{
+    match lines.next(feed, most)? {
+        LineEnd::Whole => Ok(()),
+        LineEnd::Long | LineEnd::Cut => Err(LineFault::Line(lines.number())),
+    }
+}
+
+/// What was parsed of the last line, or its refusal.
+fn parsed<T: Drop>(lines: &Lines, found: Option<T>) -> Result<T, LineFault>
+    ensures { result ≡ parsed_at (lines_read lines.now) found }
+{
+    match found {
+        Some(value) => Ok(value),
+        None => Err(LineFault::Line(lines.number())),
+    }
 }
 
 /// Reads the line of the size.
-fn read_size<S: Source>(feed: &mut Feed<S>, lines: &mut Lines) -> Result<(u32, u32), GridFault>
-    ensures same_source { source_name feed.new ≡ source_name feed.old }
-    ensures same_limit { limit_of feed.new ≡ limit_of feed.old }
-    ensures moves { Moves (call_of S.left S.faults feed.old feed.new) }
-    ensures read { IfOk result (λ size. TakesLines (IsLine (size_line size.0 size.1)) (number_of lines.old) (number_of lines.new) (call_of S.left S.faults feed.old feed.new)) }
-    ensures sized { IfOk result (λ size. IsTrue (is_raster_size size.0 size.1)) }
-    ensures refused { IfErr result (HasLineCause (LineOf IsSizeLine) (number_of lines.old) (call_of S.left S.faults feed.old feed.new)) }
+fn read_size<S: Source>(feed: &mut Feed<S>, lines: &mut Lines) -> Result<(u32, u32), LineFault>
+    ensures { ReadsPart itself IsRasterSize (ended_line size_line) (place_of S.left S.faults feed.old lines.old) (place_of S.left S.faults feed.new lines.new) result }
 {
-    match lines.next(feed, LONGEST_LINE)? {
-        LineEnd::Whole => match size_of(lines.line()) {
-            Some(size) => Ok(size),
-            None => Err(GridFault::Line(lines.number())),
-        },
-        LineEnd::Long | LineEnd::Cut => Err(GridFault::Line(lines.number())),
-    }
+    read_line(feed, lines, LONGEST_LINE)?;
+    parsed(lines, size_of(lines.line()))
 }
 
 /// Reads the line of the side of tiles.
-fn read_side<S: Source>(feed: &mut Feed<S>, lines: &mut Lines) -> Result<u32, GridFault>
-    ensures same_source { source_name feed.new ≡ source_name feed.old }
-    ensures same_limit { limit_of feed.new ≡ limit_of feed.old }
-    ensures moves { Moves (call_of S.left S.faults feed.old feed.new) }
-    ensures read { IfOk result (λ side. TakesLines (IsLine (tile_line side)) (number_of lines.old) (number_of lines.new) (call_of S.left S.faults feed.old feed.new)) }
-    ensures sides { IfOk result (λ side. IsTileSide side) }
-    ensures refused { IfErr result (HasLineCause (LineOf IsSideLine) (number_of lines.old) (call_of S.left S.faults feed.old feed.new)) }
+fn read_side<S: Source>(feed: &mut Feed<S>, lines: &mut Lines) -> Result<u32, LineFault>
+    ensures { ReadsPart itself IsTileSide (ended_line tile_line) (place_of S.left S.faults feed.old lines.old) (place_of S.left S.faults feed.new lines.new) result }
 {
-    match lines.next(feed, LONGEST_LINE)? {
-        LineEnd::Whole => match side_of(lines.line()) {
-            Some(side) => Ok(side),
-            None => Err(GridFault::Line(lines.number())),
-        },
-        LineEnd::Long | LineEnd::Cut => Err(GridFault::Line(lines.number())),
-    }
+    read_line(feed, lines, LONGEST_LINE)?;
+    parsed(lines, side_of(lines.line()))
 }
 
 /// Reads the line of the rule.
-fn read_rule<S: Source>(feed: &mut Feed<S>, lines: &mut Lines) -> Result<RuleKind, GridFault>
-    ensures same_source { source_name feed.new ≡ source_name feed.old }
-    ensures same_limit { limit_of feed.new ≡ limit_of feed.old }
-    ensures moves { Moves (call_of S.left S.faults feed.old feed.new) }
-    ensures read { IfOk result (λ rule. TakesLines (IsLine (rule_line rule)) (number_of lines.old) (number_of lines.new) (call_of S.left S.faults feed.old feed.new)) }
-    ensures refused { IfErr result (HasLineCause (LineOf IsRuleLine) (number_of lines.old) (call_of S.left S.faults feed.old feed.new)) }
+fn read_rule<S: Source>(feed: &mut Feed<S>, lines: &mut Lines) -> Result<RuleKind, LineFault>
+    ensures { ReadsPart itself IsAnyRule (ended_line rule_line) (place_of S.left S.faults feed.old lines.old) (place_of S.left S.faults feed.new lines.new) result }
 {
-    match lines.next(feed, LONGEST_LINE)? {
-        LineEnd::Whole => match rule_of(lines.line()) {
-            Some(rule) => Ok(rule),
-            None => Err(GridFault::Line(lines.number())),
-        },
-        LineEnd::Long | LineEnd::Cut => Err(GridFault::Line(lines.number())),
-    }
+    read_line(feed, lines, LONGEST_LINE)?;
+    parsed(lines, rule_of(lines.line()))
 }
 
-/// Reads the line of the costs of a surface: of all tiles, and at the seams.
-fn read_costs<S: Source>(feed: &mut Feed<S>, lines: &mut Lines) -> Result<(u128, u128), GridFault>
-    ensures same_source { source_name feed.new ≡ source_name feed.old }
-    ensures same_limit { limit_of feed.new ≡ limit_of feed.old }
-    ensures moves { Moves (call_of S.left S.faults feed.old feed.new) }
-    ensures read { IfOk result (λ costs. TakesLines (IsLine (costs_line costs.0 costs.1)) (number_of lines.old) (number_of lines.new) (call_of S.left S.faults feed.old feed.new)) }
-    ensures small { IfOk result (λ costs. IsCost costs.0 × IsCost costs.1) }
-    ensures refused { IfErr result (HasLineCause (LineOf IsCostsLine) (number_of lines.old) (call_of S.left S.faults feed.old feed.new)) }
+/// Reads the lines of the side of tiles and of the rule.
+fn read_tiling<S: Source>(
+    feed: &mut Feed<S>,
+    lines: &mut Lines,
+) -> Result<(u32, RuleKind), LineFault>
+    ensures { ReadsPart itself IsTiling tiling_text (place_of S.left S.faults feed.old lines.old) (place_of S.left S.faults feed.new lines.new) result }
 {
-    match lines.next(feed, LONGEST_LINE)? {
-        LineEnd::Whole => match costs_of(lines.line()) {
-            Some(costs) => Ok(costs),
-            None => Err(GridFault::Line(lines.number())),
-        },
-        LineEnd::Long | LineEnd::Cut => Err(GridFault::Line(lines.number())),
-    }
-}
-
-/// Reads the four lines of the head.
-fn read_head<S: Source>(feed: &mut Feed<S>, lines: &mut Lines) -> Result<Head, GridFault>
-    ensures same_source { source_name feed.new ≡ source_name feed.old }
-    ensures same_limit { limit_of feed.new ≡ limit_of feed.old }
-    ensures moves { Moves (call_of S.left S.faults feed.old feed.new) }
-    ensures read { IfOk result (λ head. TakesLines (λ text. text ≡ head_by head.width head.height head.side head.rule) (number_of lines.old) (number_of lines.new) (call_of S.left S.faults feed.old feed.new)) }
-    ensures refused { IfErr result (HasLineCause IsHeadText (number_of lines.old) (call_of S.left S.faults feed.old feed.new)) }
-{
-    expect_line(feed, lines, b"insar-report 1")?;
-    let (width, height) = read_size(feed, lines)?;
     let side = read_side(feed, lines)?;
     let rule = read_rule(feed, lines)?;
+    Ok((side, rule))
+}
+
+/// Reads the lines of the size, the side and the rule.
+fn read_frame<S: Source>(feed: &mut Feed<S>, lines: &mut Lines) -> Result<Head, LineFault>
+    ensures { ReadsPart head_frame IsFrame frame_text (place_of S.left S.faults feed.old lines.old) (place_of S.left S.faults feed.new lines.new) result }
+{
+    let (width, height) = read_size(feed, lines)?;
+    let (side, rule) = read_tiling(feed, lines)?;
     Ok(Head {
         width,
         height,
@@ -139,30 +106,34 @@ fn read_head<S: Source>(feed: &mut Feed<S>, lines: &mut Lines) -> Result<Head, G
     })
 }
 
-/// Reads the line of an entry; None is the line `end`.
-fn read_entry<S: Source>(feed: &mut Feed<S>, lines: &mut Lines) -> Result<Option<Entry>, GridFault>
-    ensures same_source { source_name feed.new ≡ source_name feed.old }
-    ensures same_limit { limit_of feed.new ≡ limit_of feed.old }
-    ensures moves { Moves (call_of S.left S.faults feed.old feed.new) }
-    ensures read { IfOk result (λ found. MatchOption found (TakesLines (IsLine end_line) (number_of lines.old) (number_of lines.new) (call_of S.left S.faults feed.old feed.new)) (λ entry. TakesLines (IsLine (entry_text entry)) (number_of lines.old) (number_of lines.new) (call_of S.left S.faults feed.old feed.new))) }
-    ensures words { IfOk result (λ found. IfSome found IsEntryOfWords) }
-    ensures further { IfOk result (λ found. IfSome found (λ _. (handed_of feed.old < handed_of feed.new) × (handed_of feed.new ≤ limit_of feed.old))) }
-    ensures refused { IfErr result (HasLineCause (LineOf IsEntryOrEnd) (number_of lines.old) (call_of S.left S.faults feed.old feed.new)) }
+/// Reads the four lines of the head.
+fn read_head<S: Source>(feed: &mut Feed<S>, lines: &mut Lines) -> Result<Head, LineFault>
+    ensures { ReadsPart head_frame IsFrame head_by (place_of S.left S.faults feed.old lines.old) (place_of S.left S.faults feed.new lines.new) result }
 {
-    match lines.next(feed, LONGEST_LINE)? {
-        LineEnd::Whole if lines.line() == END => Ok(None),
-        LineEnd::Whole => match entry_of(lines.line()) {
-            Some(entry) => Ok(Some(entry)),
-            None => Err(GridFault::Line(lines.number())),
-        },
-        LineEnd::Long | LineEnd::Cut => Err(GridFault::Line(lines.number())),
-    }
+    expect_line(feed, lines, b"insar-report 1")?;
+    read_frame(feed, lines)
+}
+
+/// Reads the line of the costs of a surface: of all tiles, and at the seams.
+fn read_costs<S: Source>(feed: &mut Feed<S>, lines: &mut Lines) -> Result<(u128, u128), LineFault>
+    ensures { ReadsPart itself AreCosts (ended_line costs_line) (place_of S.left S.faults feed.old lines.old) (place_of S.left S.faults feed.new lines.new) result }
+{
+    read_line(feed, lines, LONGEST_LINE)?;
+    parsed(lines, costs_of(lines.line()))
+}
+
+/// Reads the line of an entry; None is the line `end`.
+fn read_entry<S: Source>(feed: &mut Feed<S>, lines: &mut Lines) -> Result<Option<Entry>, LineFault>
+    ensures read { ReadsPart itself MayStand (ended_line history_line) (place_of S.left S.faults feed.old lines.old) (place_of S.left S.faults feed.new lines.new) result }
+    ensures further { OnOk result ((handed_of feed.old < handed_of feed.new) × (handed_of feed.new ≤ limit_of feed.old)) }
+{
+    read_line(feed, lines, LONGEST_LINE)?;
+    parsed(lines, history_of(lines.line()))
 }
 
 /// The numbers of a line that begins so, each after a space.
 fn numbers_after(alloc: Global, line: &[u8], front: &[u8]) -> Result<Option<Vec<i64>>, AllocError>
-    ensures found { IfOk result (λ found. MatchOption found ((numbers : List ℤ) → AreLongs numbers → line.now ≡ front.now ++ numbers_text numbers → ⊥) (λ numbers. line.now ≡ front.now ++ numbers_text numbers.items)) }
-    ensures longs { IfOk result (λ found. IfSome found (λ numbers. AreLongs numbers.items)) }
+    ensures { IfOk result (IsListParsedAs AreLongs (behind front.now numbers_text) line.now) }
 {
     let Some(fields) = line.strip_prefix(front) else {
         return Ok(None);
@@ -177,8 +148,7 @@ fn numbers_after(alloc: Global, line: &[u8], front: &[u8]) -> Result<Option<Vec<
 
 /// The faces of the line of a tile's faces.
 fn faces_of(alloc: Global, line: &[u8], tile: u32) -> Result<Option<Vec<i64>>, AllocError>
-    ensures found { IfOk result (λ found. MatchOption found ((faces : List ℤ) → AreLongs faces → line.now ≡ tile_faces_line tile faces → ⊥) (λ faces. line.now ≡ tile_faces_line tile faces.items)) }
-    ensures longs { IfOk result (λ found. IfSome found (λ faces. AreLongs faces.items)) }
+    ensures { IfOk result (IsListParsedAs (AreFacesOf tile) (faces_line tile) line.now) }
 {
     let Some(fields) = line.strip_prefix(b"faces ") else {
         return Ok(None);
@@ -193,21 +163,11 @@ fn read_tile_faces<S: Source>(
     feed: &mut Feed<S>,
     lines: &mut Lines,
     tile: u32,
-) -> Result<Vec<i64>, GridFault>
-    ensures same_source { source_name feed.new ≡ source_name feed.old }
-    ensures same_limit { limit_of feed.new ≡ limit_of feed.old }
-    ensures moves { Moves (call_of S.left S.faults feed.old feed.new) }
-    ensures longs { IfOk result (λ faces. AreLongs faces.items) }
-    ensures read { IfOk result (λ faces. TakesLines (IsLine (tile_faces_line tile faces.items)) (number_of lines.old) (number_of lines.new) (call_of S.left S.faults feed.old feed.new)) }
-    ensures refused { IfErr result (HasLineCause (LineOf (IsFacesLine tile)) (number_of lines.old) (call_of S.left S.faults feed.old feed.new)) }
+) -> Result<Vec<i64>, LineFault>
+    ensures { ReadsPart list_in (AreFacesOf tile) (ended_line (faces_line tile)) (place_of S.left S.faults feed.old lines.old) (place_of S.left S.faults feed.new lines.new) result }
 {
-    match lines.next(feed, usize::MAX)? {
-        LineEnd::Whole => match faces_of(alloc, lines.line(), tile)? {
-            Some(faces) => Ok(faces),
-            None => Err(GridFault::Line(lines.number())),
-        },
-        LineEnd::Long | LineEnd::Cut => Err(GridFault::Line(lines.number())),
-    }
+    read_line(feed, lines, usize::MAX)?;
+    parsed(lines, faces_of(alloc, lines.line(), tile)?)
 }
 
 /// Reads the faces of the given number of tiles.
@@ -216,14 +176,9 @@ fn read_faces<S: Source>(
     feed: &mut Feed<S>,
     lines: &mut Lines,
     tiles: u32,
-) -> Result<Vec<Vec<i64>>, GridFault>
-    ensures same_source { source_name feed.new ≡ source_name feed.old }
-    ensures same_limit { limit_of feed.new ≡ limit_of feed.old }
-    ensures moves { Moves (call_of S.left S.faults feed.old feed.new) }
+) -> Result<Vec<Vec<i64>>, LineFault>
+    ensures read { ReadsPart lists_in (AreFacesBelow tiles) (all_faces_text tiles) (place_of S.left S.faults feed.old lines.old) (place_of S.left S.faults feed.new lines.new) result }
     ensures count { IfOk result (λ faces. vec_len faces ≡ tiles) }
-    ensures longs { IfOk result (λ faces. (t : ℕ) → AreLongs (lists_of faces.items t)) }
-    ensures read { IfOk result (λ faces. TakesLines (λ text. text ≡ texts_below tiles (faces_text (lists_of faces.items))) (number_of lines.old) (number_of lines.new) (call_of S.left S.faults feed.old feed.new)) }
-    ensures refused { IfErr result (HasLineCause (IsFacesText tiles) (number_of lines.old) (call_of S.left S.faults feed.old feed.new)) }
 {
     let mut faces = Vec::new(alloc);
     for tile in 0..tiles {
@@ -237,21 +192,55 @@ fn read_flows<S: Source>(
     alloc: Global,
     feed: &mut Feed<S>,
     lines: &mut Lines,
-) -> Result<Vec<i64>, GridFault>
-    ensures same_source { source_name feed.new ≡ source_name feed.old }
-    ensures same_limit { limit_of feed.new ≡ limit_of feed.old }
-    ensures moves { Moves (call_of S.left S.faults feed.old feed.new) }
-    ensures longs { IfOk result (λ flows. AreLongs flows.items) }
-    ensures read { IfOk result (λ flows. TakesLines (IsLine (flows_line flows.items)) (number_of lines.old) (number_of lines.new) (call_of S.left S.faults feed.old feed.new)) }
-    ensures refused { IfErr result (HasLineCause (LineOf IsFlowsLine) (number_of lines.old) (call_of S.left S.faults feed.old feed.new)) }
+) -> Result<Vec<i64>, LineFault>
+    ensures { ReadsPart list_in AreLongs (ended_line flows_line) (place_of S.left S.faults feed.old lines.old) (place_of S.left S.faults feed.new lines.new) result }
 {
-    match lines.next(feed, usize::MAX)? {
-        LineEnd::Whole => match numbers_after(alloc, lines.line(), b"flows")? {
-            Some(flows) => Ok(flows),
-            None => Err(GridFault::Line(lines.number())),
-        },
-        LineEnd::Long | LineEnd::Cut => Err(GridFault::Line(lines.number())),
-    }
+    read_line(feed, lines, usize::MAX)?;
+    parsed(lines, numbers_after(alloc, lines.line(), b"flows")?)
+}
+
+/// Reads the faces of the tiles, and the flows.
+fn read_certificates<S: Source>(
+    alloc: Global,
+    feed: &mut Feed<S>,
+    lines: &mut Lines,
+    head: Head,
+) -> Result<Certificates, LineFault>
+    ensures read { ReadsPart certificates_in (AreCertificates head.tiles) (certificates_text head.tiles) (place_of S.left S.faults feed.old lines.old) (place_of S.left S.faults feed.new lines.new) result }
+    ensures count { IfOk result (λ certificates. vec_len certificates.0 ≡ head.tiles) }
+{
+    let faces = read_faces(alloc, feed, lines, head.tiles)?;
+    let flows = read_flows(alloc, feed, lines)?;
+    Ok((faces, flows))
+}
+
+/// Reads the grid of a surface.
+fn read_grid<S: Source>(
+    alloc: Global,
+    feed: &mut Feed<S>,
+    lines: &mut Lines,
+    head: Head,
+) -> Result<Grid, LineFault>
+    ensures read { ReadsPart values_in (AreLong head.width head.height) (grid_text head.width head.height) (place_of S.left S.faults feed.old lines.old) (place_of S.left S.faults feed.new lines.new) result }
+    ensures size { IfOk result (λ grid. (grid.width ≡ head.width) × (grid.height ≡ head.height)) }
+{
+    read_sized_grid(alloc, feed, lines, head.width, head.height)
+}
+
+/// Reads the lines of a surface after those of its costs.
+fn read_solved<S: Source>(
+    alloc: Global,
+    feed: &mut Feed<S>,
+    lines: &mut Lines,
+    head: Head,
+) -> Result<(Grid, Certificates), LineFault>
+    ensures read { ReadsPart solved_in (AreSolved head.width head.height head.tiles) (solved_text head.width head.height head.tiles) (place_of S.left S.faults feed.old lines.old) (place_of S.left S.faults feed.new lines.new) result }
+    ensures size { IfOk result (λ solved. (solved.0.width ≡ head.width) × (solved.0.height ≡ head.height)) }
+    ensures count { IfOk result (λ solved. vec_len solved.1.0 ≡ head.tiles) }
+{
+    let grid = read_grid(alloc, feed, lines, head)?;
+    let certificates = read_certificates(alloc, feed, lines, head)?;
+    Ok((grid, certificates))
 }
 
 /// Reads the lines of a surface.
@@ -260,19 +249,12 @@ fn read_surface<S: Source>(
     feed: &mut Feed<S>,
     lines: &mut Lines,
     head: Head,
-) -> Result<ReportSurface, GridFault>
-    ensures same_source { source_name feed.new ≡ source_name feed.old }
-    ensures same_limit { limit_of feed.new ≡ limit_of feed.old }
-    ensures moves { Moves (call_of S.left S.faults feed.old feed.new) }
+) -> Result<ReportSurface, LineFault>
+    ensures read { ReadsPart told_surface (IsSurfaceInRange head.width head.height head.tiles) (surface_block_text head.width head.height head.tiles) (place_of S.left S.faults feed.old lines.old) (place_of S.left S.faults feed.new lines.new) result }
     ensures fits { IfOk result (SurfaceFits head.width head.height head.tiles) }
-    ensures read { IfOk result (λ surface. TakesLines (λ text. text ≡ surface_text head.width head.height head.tiles (told_surface surface)) (number_of lines.old) (number_of lines.new) (call_of S.left S.faults feed.old feed.new)) }
-    ensures ranges { IfOk result (λ surface. IsSurfaceInRange head.width head.height head.tiles (told_surface surface)) }
-    ensures refused { IfErr result (HasLineCause (IsSurfaceText head.width head.height head.tiles) (number_of lines.old) (call_of S.left S.faults feed.old feed.new)) }
 {
     let (tile_cost, seam_cost) = read_costs(feed, lines)?;
-    let grid = read_sized_grid(alloc, feed, lines, head.width, head.height)?;
-    let faces = read_faces(alloc, feed, lines, head.tiles)?;
-    let flows = read_flows(alloc, feed, lines)?;
+    let (grid, (faces, flows)) = read_solved(alloc, feed, lines, head)?;
     Ok(ReportSurface {
         tile_cost,
         seam_cost,
@@ -289,16 +271,14 @@ fn read_item<S: Source>(
     lines: &mut Lines,
     head: Head,
     entry: Entry,
-) -> Result<Item, GridFault>
+) -> Result<Item, LineFault>
     requires words { IsEntryOfWords entry }
-    ensures same_source { source_name feed.new ≡ source_name feed.old }
-    ensures same_limit { limit_of feed.new ≡ limit_of feed.old }
-    ensures moves { Moves (call_of S.left S.faults feed.old feed.new) }
+    ensures advances { Advances (place_of S.left S.faults feed.old lines.old) (place_of S.left S.faults feed.new lines.new) }
     ensures entry { IfOk result (λ item. item.entry ≡ entry) }
     ensures fits { IfOk result (λ item. MayFit head.width head.height head.tiles item.surface) }
     ensures ranges { IfOk result (λ item. IsItemInRange head.width head.height head.tiles (told_item item)) }
-    ensures read { IfOk result (λ item. TakesLines (λ text. text ≡ behind_text head.width head.height head.tiles (told_behind item.surface)) (number_of lines.old) (number_of lines.new) (call_of S.left S.faults feed.old feed.new)) }
-    ensures refused { IfErr result (HasBehindCause head.width head.height head.tiles entry (number_of lines.old) (call_of S.left S.faults feed.old feed.new)) }
+    ensures read { IfOk result (λ item. Took (after_text head.width head.height head.tiles (told_after item.surface)) (place_of S.left S.faults feed.old lines.old) (place_of S.left S.faults feed.new lines.new)) }
+    ensures refused { IfErr result (HasAfterCause head.width head.height head.tiles entry (lines_read lines.old) (between (place_of S.left S.faults feed.old lines.old) (place_of S.left S.faults feed.new lines.new))) }
 {
     if !is_publication(entry) {
         return Ok(Item {
@@ -319,14 +299,9 @@ fn read_items<S: Source>(
     feed: &mut Feed<S>,
     lines: &mut Lines,
     head: Head,
-) -> Result<Vec<Item>, GridFault>
-    ensures same_source { source_name feed.new ≡ source_name feed.old }
-    ensures same_limit { limit_of feed.new ≡ limit_of feed.old }
-    ensures moves { Moves (call_of S.left S.faults feed.old feed.new) }
+) -> Result<Vec<Item>, LineFault>
+    ensures read { ReadsPart items_in (AreItems head.width head.height head.tiles) (items_text head.width head.height head.tiles) (place_of S.left S.faults feed.old lines.old) (place_of S.left S.faults feed.new lines.new) result }
     ensures fits { IfOk result (λ items. ItemsFit head.width head.height head.side items.items) }
-    ensures ranges { IfOk result (λ items. AllByRecursion (IsItemInRange head.width head.height head.tiles) (map told_item items.items)) }
-    ensures read { IfOk result (λ items. TakesLines (λ text. text ≡ flat_map (item_text head.width head.height head.tiles) (map told_item items.items) ++ codes "end\n") (number_of lines.old) (number_of lines.new) (call_of S.left S.faults feed.old feed.new)) }
-    ensures refused { IfErr result (HasLineCause (IsItemsText head.width head.height head.tiles) (number_of lines.old) (call_of S.left S.faults feed.old feed.new)) }
 {
     let mut items = Vec::new(alloc);
     loop {
@@ -342,13 +317,8 @@ fn read_lines<S: Source>(
     alloc: Global,
     feed: &mut Feed<S>,
     lines: &mut Lines,
-) -> Result<Report, GridFault>
-    ensures same_source { source_name feed.new ≡ source_name feed.old }
-    ensures same_limit { limit_of feed.new ≡ limit_of feed.old }
-    ensures moves { Moves (call_of S.left S.faults feed.old feed.new) }
-    ensures fits { IfOk result (λ report. IsReport (report_told report)) }
-    ensures read { IfOk result (λ report. TakesLines (λ text. text ≡ report_text (report_told report)) (number_of lines.old) (number_of lines.new) (call_of S.left S.faults feed.old feed.new)) }
-    ensures refused { IfErr result (HasLineCause IsReportText (number_of lines.old) (call_of S.left S.faults feed.old feed.new)) }
+) -> Result<Report, LineFault>
+    ensures { ReadsPart report_told IsReport report_text (place_of S.left S.faults feed.old lines.old) (place_of S.left S.faults feed.new lines.new) result }
 {
     let head = read_head(feed, lines)?;
     let items = read_items(alloc, feed, lines, head)?;
@@ -362,23 +332,38 @@ fn read_lines<S: Source>(
 }
 
 /// Reads the end of the input. A line that is there instead is refused.
-fn expect_end<S: Source>(feed: &mut Feed<S>, lines: &mut Lines) -> Result<(), GridFault>
+fn expect_end<S: Source>(feed: &mut Feed<S>, lines: &mut Lines) -> Result<(), LineFault>
     ensures same_source { source_name feed.new ≡ source_name feed.old }
     ensures same_limit { limit_of feed.new ≡ limit_of feed.old }
     ensures moves { Moves (call_of S.left S.faults feed.old feed.new) }
     ensures ended { OnOk result (Takes (call_of S.left S.faults feed.old feed.new) (λ text rest. (text ≡ []) × (rest ≡ []))) }
-    ensures refused { IfErr result (HasMoreCause (number_of lines.old) (call_of S.left S.faults feed.old feed.new)) }
+    ensures refused { IfErr result (HasMoreCause (lines_read lines.old) (call_of S.left S.faults feed.old feed.new)) }
 {
     if feed.peek()?.is_none() {
         return Ok(());
     }
     lines.next(feed, 0)?;
-    Err(GridFault::Line(lines.number()))
+    Err(LineFault::Line(lines.number()))
+}
+
+/// Reads a report and the end of the input.
+fn read_whole<S: Source>(
+    alloc: Global,
+    feed: &mut Feed<S>,
+    lines: &mut Lines,
+) -> Result<Report, LineFault>
+    requires { lines_read lines.old ≡ 0 }
+    ensures advances { Advances (place_of S.left S.faults feed.old lines.old) (place_of S.left S.faults feed.new lines.new) }
+    ensures reads { IsReader (call_of S.left S.faults feed.old feed.new) result }
+{
+    let report = read_lines(alloc, feed, lines)?;
+    expect_end(feed, lines)?;
+    Ok(report)
 }
 
 /// Reads a report to the end of the input, in the one spelling in which it is written. Lines are numbered from 1. After a
 /// refusal the feed is where it was met, and the caller ends. How many faces and flows a line has is not checked.
-pub fn read_report<S: Source>(alloc: Global, feed: &mut Feed<S>) -> Result<Report, ReportFault>
+pub fn read_report<S: Source>(alloc: Global, feed: &mut Feed<S>) -> Result<Report, LineFault>
     ensures same_source { source_name feed.new ≡ source_name feed.old }
     ensures same_limit { limit_of feed.new ≡ limit_of feed.old }
     // What was handed out is what the feed has no more.
@@ -394,7 +379,5 @@ pub fn read_report<S: Source>(alloc: Global, feed: &mut Feed<S>) -> Result<Repor
     ensures exact { IfSome (left_of S.left feed.old) (λ bytes. (n : ℕ) → HasBrokenReportLine (room_of (call_of S.left S.faults feed.old feed.new)) n bytes → IsReportRefusedAt (call_of S.left S.faults feed.old feed.new) n result) }
 {
     let mut lines = Lines::new(alloc);
-    let report = read_lines(alloc, feed, &mut lines)?;
-    expect_end(feed, &mut lines)?;
-    Ok(report)
+    read_whole(alloc, feed, &mut lines)
 }

@@ -1,139 +1,97 @@
+#![tactic(auto, using(text_lines::proofs::AddLemmas::adds_then, text_lines::proofs::ChainLemmas::adds_two, text_lines::proofs::ChainLemmas::adds_three, text_lines::proofs::ChainLemmas::adds_four, crate::proofs::LineEnds::adds_line_two, crate::proofs::LineEnds::adds_line_three))]
+
 ghost use Rattle.sums_and_lists.specs.Sums.{one_if};
-ghost use Rattle.grid_writer.specs.Waiting.{waiting_in};
-ghost use Rattle.insar_ports.specs.Bytes.{GainsProperPrefix, HasRisen, with_end};
 ghost use Rattle.raster_model.specs.Tiles.{tiles_of};
-ghost use Rattle.report_text.specs.Appending.{Appends, AreOver, AreSmallItems, IsSmallItem, MayHaveSmallNumbers, surface_at};
+ghost use Rattle.report_text.specs.Appending.{AreOver, AreSmallItems, IsSmallItem, next_surface};
 ghost use Rattle.report_text.specs.Certified.{IsCertifiedReport};
-ghost use Rattle.report_text.specs.Contents.{IsReport};
+ghost use Rattle.report_text.specs.Contents.{IsReport, MayBeInRange};
 ghost use Rattle.report_text.specs.Reports.{is_published, item_of, items_of, report_of};
-ghost use Rattle.report_text.specs.Text.{behind_text, head_text, item_text, report_text, rule_text, rule_word, size_text, tile_text, title_text};
-ghost use Rattle.std.specs.Prelude.{◌≡◌, ◌≤◌, [], IfSome, OnErr, OnOk, flat_map, length, map};
+ghost use Rattle.report_text.specs.Text.{after_text, ended_line, head_text, item_text, report_text, rule_line, size_line, tile_line};
+ghost use Rattle.std.specs.Prelude.{◌≡◌, [], IfSome, flat_map, map};
 ghost use Rattle.surface_snapshots.specs.Views.{parts_of};
+ghost use Rattle.text_lines.specs.Adding.{Adds, Puts};
+ghost use Rattle.text_lines.specs.Views.{view_of};
 ghost use Rattle.tile_board.specs.Boards.{IsBoard};
 ghost use Rattle.tile_board.specs.Histories.{IsComplete};
 
-use crate::entry::append_entry;
-use crate::fields::{append, append_field, end_line};
-use crate::surface::append_surface;
-use grid_writer::TextBuffer;
+use crate::entry::add_entry;
+use crate::surface::add_surface;
 use insar_ports::{Sink, WriteFault};
 use raster_model::{RuleKind, Session};
 use surface_snapshots::Snapshot;
+use text_lines::{TextWriter, add_field, rule_name};
 use tile_board::{Board, Entry};
 
 /// Writes the report of a board: the head, then the whole history in order, after each publication the published
 /// surface with its costs, faces and flows, and the line `end`. It takes no memory. After a fault the sink has a
-/// part of the text. What was written can be read: each of its numbers is in its range.
+/// part of the text. The text can be read: each of its numbers is in its range.
 pub fn write_report<K: Sink>(board: &Board, sink: &mut K) -> Result<(), WriteFault>
-    ensures written { OnOk result (K.held sink.new ≡ with_end (K.held sink.old) (report_text (report_of board.now.session board.now.entries board.now.surfaces))) }
-    ensures cut { OnErr result (GainsProperPrefix (K.held sink.old) (report_text (report_of board.now.session board.now.entries board.now.surfaces)) (K.held sink.new)) }
-    ensures fault { OnErr result (HasRisen (K.faults sink.old) (K.faults sink.new)) }
-    ensures grows { K.faults sink.old ≤ K.faults sink.new }
-    ensures ranges { OnOk result (IsReport (report_of board.now.session board.now.entries board.now.surfaces)) }
+    ensures text { Puts (K.held sink.old) (K.faults sink.old) (K.held sink.new) (K.faults sink.new) (report_text (report_of board.now.session board.now.entries board.now.surfaces)) result }
+    ensures ranges { IsReport (report_of board.now.session board.now.entries board.now.surfaces) }
     ensures certified { IsComplete board.now.session board.now.entries → IsCertifiedReport board.now.session (report_of board.now.session board.now.entries board.now.surfaces) }
 {
-    let mut text = TextBuffer::new();
-    append_board(&mut text, sink, board)?;
-    text.flush(sink)
+    let mut text = TextWriter::new(sink);
+    add_board(&mut text, board);
+    text.finish()
 }
 
-fn append_board<K: Sink>(
-    text: &mut TextBuffer,
-    sink: &mut K,
-    board: &Board,
-) -> Result<(), WriteFault>
-    ensures text { Appends (K.held sink.old) (waiting_in text.old) (K.faults sink.old) (K.held sink.new) (waiting_in text.new) (K.faults sink.new) (report_text (report_of board.now.session board.now.entries board.now.surfaces)) result }
+fn add_board<K: Sink>(text: &mut TextWriter<K>, board: &Board)
+    ensures text { Adds (view_of K.held K.faults text.old) (view_of K.held K.faults text.new) (report_text (report_of board.now.session board.now.entries board.now.surfaces)) }
     ensures board { IsBoard board.now }
-    ensures small { OnOk result (AreSmallItems (tiles_of board.now.session.scene.tiling) (items_of board.now.entries board.now.surfaces)) }
+    ensures small { AreSmallItems board.now.session.scene.phase.width board.now.session.scene.phase.height (tiles_of board.now.session.scene.tiling) (items_of board.now.entries board.now.surfaces) }
 {
-    append_report(
-        text,
-        sink,
-        board.session(),
-        board.entries(),
-        board.snapshots(),
-    )
+    add_report(text, board.session(), board.entries(), board.snapshots());
 }
 
 /// Adds the report of a session with a history and the snapshots of its publications.
-fn append_report<K: Sink>(
-    text: &mut TextBuffer,
-    sink: &mut K,
+fn add_report<K: Sink>(
+    text: &mut TextWriter<K>,
     session: &Session,
     entries: &[Entry],
     snapshots: &[Snapshot],
-) -> Result<(), WriteFault>
+)
     requires { AreOver session.now snapshots.now }
-    ensures text { Appends (K.held sink.old) (waiting_in text.old) (K.faults sink.old) (K.held sink.new) (waiting_in text.new) (K.faults sink.new) (report_text (report_of session.now entries.now (map parts_of snapshots.now))) result }
-    ensures small { OnOk result (AreSmallItems (tiles_of session.now.scene.tiling) (items_of entries.now (map parts_of snapshots.now))) }
+    ensures text { Adds (view_of K.held K.faults text.old) (view_of K.held K.faults text.new) (report_text (report_of session.now entries.now (map parts_of snapshots.now))) }
+    ensures small { AreSmallItems session.now.scene.phase.width session.now.scene.phase.height (tiles_of session.now.scene.tiling) (items_of entries.now (map parts_of snapshots.now)) }
 {
-    append_head(text, sink, session)?;
+    add_head(text, session);
     let tiles = session.scene.tiling.tile_count();
-    append_items(text, sink, tiles, session, entries, snapshots)?;
-    append(text, sink, b"end\n")
+    add_items(text, tiles, session, entries, snapshots);
+    text.bytes(b"end\n");
 }
 
-fn append_head<K: Sink>(
-    text: &mut TextBuffer,
-    sink: &mut K,
-    session: &Session,
-) -> Result<(), WriteFault>
-    ensures { Appends (K.held sink.old) (waiting_in text.old) (K.faults sink.old) (K.held sink.new) (waiting_in text.new) (K.faults sink.new) (head_text (report_of session.now [] [])) result }
+fn add_head<K: Sink>(text: &mut TextWriter<K>, session: &Session)
+    ensures { Adds (view_of K.held K.faults text.old) (view_of K.held K.faults text.new) (head_text (report_of session.now [] [])) }
 {
-    append(text, sink, b"insar-report 1\n")?;
-    append_size(
-        text,
-        sink,
-        session.scene.phase.width,
-        session.scene.phase.height,
-    )?;
-    append_side(text, sink, session.scene.tiling.side)?;
-    append_rule(text, sink, session.scene.rule)
+    text.bytes(b"insar-report 1\n");
+    add_size(text, session.scene.phase.width, session.scene.phase.height);
+    add_side(text, session.scene.tiling.side);
+    add_rule(text, session.scene.rule);
 }
 
-fn append_size<K: Sink>(
-    text: &mut TextBuffer,
-    sink: &mut K,
-    width: u32,
-    height: u32,
-) -> Result<(), WriteFault>
-    ensures { Appends (K.held sink.old) (waiting_in text.old) (K.faults sink.old) (K.held sink.new) (waiting_in text.new) (K.faults sink.new) (size_text width height) result }
+fn add_size<K: Sink>(text: &mut TextWriter<K>, width: u32, height: u32)
+    ensures { Adds (view_of K.held K.faults text.old) (view_of K.held K.faults text.new) (ended_line size_line (width, height)) }
 {
-    append(text, sink, b"size")?;
-    append_field(text, sink, u128::from(width))?;
-    append_field(text, sink, u128::from(height))?;
-    end_line(text, sink)
+    text.bytes(b"size");
+    add_field(text, width);
+    add_field(text, height);
+    text.end_line();
 }
 
-fn append_side<K: Sink>(text: &mut TextBuffer, sink: &mut K, side: u32) -> Result<(), WriteFault>
-    ensures { Appends (K.held sink.old) (waiting_in text.old) (K.faults sink.old) (K.held sink.new) (waiting_in text.new) (K.faults sink.new) (tile_text side) result }
+fn add_side<K: Sink>(text: &mut TextWriter<K>, side: u32)
+    ensures { Adds (view_of K.held K.faults text.old) (view_of K.held K.faults text.new) (ended_line tile_line side) }
 {
-    append(text, sink, b"tile")?;
-    append_field(text, sink, u128::from(side))?;
-    end_line(text, sink)
+    text.bytes(b"tile");
+    add_field(text, side);
+    text.end_line();
 }
 
-fn append_rule<K: Sink>(
-    text: &mut TextBuffer,
-    sink: &mut K,
-    rule: RuleKind,
-) -> Result<(), WriteFault>
-    ensures { Appends (K.held sink.old) (waiting_in text.old) (K.faults sink.old) (K.held sink.new) (waiting_in text.new) (K.faults sink.new) (rule_text rule) result }
+fn add_rule<K: Sink>(text: &mut TextWriter<K>, rule: RuleKind)
+    ensures { Adds (view_of K.held K.faults text.old) (view_of K.held K.faults text.new) (ended_line rule_line rule) }
 {
-    append(text, sink, b"rule ")?;
-    append(text, sink, rule_name(rule))?;
-    end_line(text, sink)
-}
-
-fn rule_name(rule: RuleKind) -> &'static [u8]
-    ensures name { result.now ≡ rule_word rule }
-    ensures short { length result.now ≤ 128 }
-{
-    match rule {
-        RuleKind::Least => b"least",
-        RuleKind::Mean => b"mean",
-        RuleKind::Product => b"product",
-    }
+    text.bytes(b"rule ");
+    text.bytes(rule_name(rule));
+    text.end_line();
 }
 
 /// Whether a surface comes after an entry.
@@ -148,7 +106,7 @@ pub(crate) fn is_publication(entry: Entry) -> bool
 }
 
 /// How many surfaces come after an entry.
-fn surfaces_behind(entry: Entry) -> usize
+fn surfaces_after(entry: Entry) -> usize
     ensures { result ≡ one_if (is_published entry) }
 {
     if is_publication(entry) {
@@ -158,62 +116,62 @@ fn surfaces_behind(entry: Entry) -> usize
 }
 
 /// Adds the items of a session of `tiles` tiles: each entry, and after each publication the next of the snapshots.
-fn append_items<K: Sink>(
-    text: &mut TextBuffer,
-    sink: &mut K,
+/// After a fault they are only read.
+fn add_items<K: Sink>(
+    text: &mut TextWriter<K>,
     tiles: u32,
     session: &Session,
     entries: &[Entry],
     snapshots: &[Snapshot],
-) -> Result<(), WriteFault>
+)
     requires tiles { tiles ≡ tiles_of session.now.scene.tiling }
     requires sessions { AreOver session.now snapshots.now }
-    ensures text { Appends (K.held sink.old) (waiting_in text.old) (K.faults sink.old) (K.held sink.new) (waiting_in text.new) (K.faults sink.new) (flat_map (item_text session.now.scene.phase.width session.now.scene.phase.height tiles) (items_of entries.now (map parts_of snapshots.now))) result }
-    ensures small { OnOk result (AreSmallItems tiles (items_of entries.now (map parts_of snapshots.now))) }
+    ensures text { Adds (view_of K.held K.faults text.old) (view_of K.held K.faults text.new) (flat_map (item_text session.now.scene.phase.width session.now.scene.phase.height tiles) (items_of entries.now (map parts_of snapshots.now))) }
+    ensures small { AreSmallItems session.now.scene.phase.width session.now.scene.phase.height tiles (items_of entries.now (map parts_of snapshots.now)) }
 {
     let mut place = 0;
     for entry in entries {
-        append_item(text, sink, tiles, session, *entry, snapshots.get(place))?;
-        place += surfaces_behind(*entry);
+        add_item(text, tiles, session, *entry, snapshots.get(place));
+        place += surfaces_after(*entry);
     }
-    Ok(())
 }
 
 /// Adds an entry's line, and after a publication the lines of the next snapshot, if any.
-fn append_item<K: Sink>(
-    text: &mut TextBuffer,
-    sink: &mut K,
+#[tactic(auto, using(text_lines::proofs::ChainLemmas::adds_three), unfolding(crate::specs::Text::item_text))]
+fn add_item<K: Sink>(
+    text: &mut TextWriter<K>,
     tiles: u32,
     session: &Session,
     entry: Entry,
     next: Option<&Snapshot>,
-) -> Result<(), WriteFault>
+)
     requires tiles { tiles ≡ tiles_of session.now.scene.tiling }
     requires over { IfSome next (λ snapshot. (parts_of snapshot.now).session ≡ session.now) }
-    ensures text { Appends (K.held sink.old) (waiting_in text.old) (K.faults sink.old) (K.held sink.new) (waiting_in text.new) (K.faults sink.new) (item_text session.now.scene.phase.width session.now.scene.phase.height tiles (item_of entry (surface_at next.entry))) result }
-    ensures small { OnOk result (IsSmallItem tiles (item_of entry (surface_at next.entry))) }
+    ensures text { Adds (view_of K.held K.faults text.old) (view_of K.held K.faults text.new) (item_text session.now.scene.phase.width session.now.scene.phase.height tiles (item_of entry (next_surface next.entry))) }
+    ensures small { IsSmallItem session.now.scene.phase.width session.now.scene.phase.height tiles (item_of entry (next_surface next.entry)) }
 {
-    append_entry(text, sink, entry)?;
-    end_line(text, sink)?;
-    append_behind(text, sink, tiles, session, entry, next)
+    add_entry(text, entry);
+    text.end_line();
+    add_after(text, tiles, session, entry, next);
 }
 
 /// Adds the lines of the next snapshot after a publication, and nothing after another entry.
-fn append_behind<K: Sink>(
-    text: &mut TextBuffer,
-    sink: &mut K,
+fn add_after<K: Sink>(
+    text: &mut TextWriter<K>,
     tiles: u32,
     session: &Session,
     entry: Entry,
     next: Option<&Snapshot>,
-) -> Result<(), WriteFault>
+)
     requires tiles { tiles ≡ tiles_of session.now.scene.tiling }
     requires over { IfSome next (λ snapshot. (parts_of snapshot.now).session ≡ session.now) }
-    ensures text { Appends (K.held sink.old) (waiting_in text.old) (K.faults sink.old) (K.held sink.new) (waiting_in text.new) (K.faults sink.new) (behind_text session.now.scene.phase.width session.now.scene.phase.height tiles (item_of entry (surface_at next.entry)).surface) result }
-    ensures small { OnOk result (MayHaveSmallNumbers tiles (item_of entry (surface_at next.entry)).surface) }
+    ensures text { Adds (view_of K.held K.faults text.old) (view_of K.held K.faults text.new) (after_text session.now.scene.phase.width session.now.scene.phase.height tiles (item_of entry (next_surface next.entry)).surface) }
+    ensures small { MayBeInRange session.now.scene.phase.width session.now.scene.phase.height tiles (item_of entry (next_surface next.entry)).surface }
 {
-    match next {
-        Some(snapshot) if is_publication(entry) => append_surface(text, sink, tiles, snapshot),
-        _ => Ok(()),
+    let Some(snapshot) = next else {
+        return;
+    };
+    if is_publication(entry) {
+        add_surface(text, tiles, snapshot);
     }
 }

@@ -8,8 +8,8 @@ use Rattle.report_check.proofs.HistoryLemmas.{taken_more}
 use Rattle.report_check.proofs.ReportLemmas.{first_unfit, fits_there, more_certified, step_there}
 use Rattle.report_check.proofs.surfaces.first_fault.Goals as goal
 
-pub fault_behind-requires-clause-fits : goal.fault_behind-requires-clause-fits
-fault_behind-requires-clause-fits c =
+pub fault_after-requires-clause-fits : goal.fault_after-requires-clause-fits
+fault_after-requires-clause-fits c =
     let v = c.args.report.now in
     let items = v.items.items in
     let n = c.loop-item.item-index in

@@ -1,33 +1,13 @@
-use Rattle.std.proofs.Common.{inl, inr, sym, ◌∙◌}
-use Rattle.std.proofs.lemmas.Result.{err_from_is_err_and}
-use Rattle.insar_ports.specs.Calls.{call_of}
-use Rattle.grid_writer.specs.Forms.{LineOf}
-use Rattle.grid_writer.specs.LineWords.{line_of}
-use Rattle.grid_writer.proofs.CauseLemmas.{cause_next, taken_line, broken_line, not_whole}
-use Rattle.report_text.specs.Parts.{IsEntryOrEnd}
-use Rattle.report_text.specs.Text.{entry_text}
-use Rattle.report_text.proofs.LineFacts.{entry_short}
-use Rattle.report_text.proofs.EntryParts.{entry_begins, is_not_end}
+use Rattle.std.proofs.Common.{refl}
+use Rattle.report_text.proofs.PartForms.{entry_kind}
+use Rattle.report_text.proofs.ReadsLemmas.{on_ok_if, reads_parsed, reads_unread}
 use Rattle.report_text.proofs.read.read_entry.Goals as goal
 
-pub returns-in_err-next-clause-refused : goal.returns-in_err-next-clause-refused
-returns-in_err-next-clause-refused g c =
-    let p = err_from_is_err_and c.from_residual.result c.from_residual.ensures.1 in
-    rw (p.1, p.2) (cause_next IsEntryOrEnd (LineOf IsEntryOrEnd) entry_begins _ _ _ _ _ _ _ _ c.in_err-next.field-0.0 c.in_err-next.ensures.refused)
+pub returns-in_err-read_line-clause-read : goal.returns-in_err-read_line-clause-read
+returns-in_err-read_line-clause-read g c = reads_unread entry_kind c.from_residual.result c.from_residual.ensures.1 c.in_err-read_line.ensures
 
-pub returns-in-Some-clause-read : goal.returns-in-Some-clause-read
-returns-in-Some-clause-read g c = taken_line (call_of g.S.Source.left g.S.Source.faults c.args.feed.now c.next.new.feed) 128 _ _ (line_of c.next.new.self) (entry_text c.in-Some.entry) c.in_ok-next.field-0 c.in_ok-next.ensures.number (sym c.line-in-Whole-2.ensures ∙ c.in-Some.ensures.found) c.in-Whole.is c.in_ok-next.ensures.line
+pub returns-clause-read : goal.returns-clause-read
+returns-clause-read g c = reads_parsed entry_kind c.history_of.result c.parsed.result c.in_ok-read_line.ensures c.line.ensures c.history_of.ensures refl c.parsed.ensures
 
-pub returns-in-None-clause-refused : goal.returns-in-None-clause-refused
-returns-in-None-clause-refused g c = broken_line IsEntryOrEnd (LineOf IsEntryOrEnd) entry_begins _ (call_of g.S.Source.left g.S.Source.faults c.args.feed.now c.next.new.feed) c.in_ok-next.field-0 128 (line_of c.next.new.self) _ (c.number.ensures ∙ c.in_ok-next.ensures.number) c.in_ok-next.ensures.line (λ w d. elim d [ inl e ↦ c.in-None.ensures.none e.0 e.1.0 (c.line-in-Whole-2.ensures ∙ e.1.1) | inr f ↦ is_not_end c.line.result.now (line_of c.next.new.self) c.line.ensures c.if-eq.ensures f ]) entry_short
-
-pub returns-in-Long : goal.returns-in-Long
-returns-in-Long g c = record {
-  same_source = c.in_ok-next.ensures.same_source;
-  same_limit = c.in_ok-next.ensures.same_limit;
-  moves = c.in_ok-next.ensures.moves;
-  read = tt;
-  words = tt;
-  further = tt;
-  refused = broken_line IsEntryOrEnd (LineOf IsEntryOrEnd) entry_begins _ (call_of g.S.Source.left g.S.Source.faults c.args.feed.now c.next.new.feed) c.in_ok-next.field-0 128 (line_of c.next.new.self) _ (c.number-in-Long.ensures ∙ c.in_ok-next.ensures.number) c.in_ok-next.ensures.line (λ w d. not_whole c.in_ok-next.field-0 c.in-Long.is w) entry_short;
-}
+pub returns-clause-further : goal.returns-clause-further
+returns-clause-further g c = on_ok_if c.parsed.result c.in_ok-read_line.ensures.further

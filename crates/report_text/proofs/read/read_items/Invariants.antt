@@ -1,22 +1,17 @@
-use Rattle.std.proofs.Common.{◌≡◌, ◌-◌, map}
+use Rattle.std.proofs.Common.{◌-◌}
 use Rattle.std.specs.List.{AllByRecursion}
-use Rattle.insar_ports.specs.Calls.{Moves, call_of}
-use Rattle.insar_ports.specs.Feeding.{handed_of, limit_of, source_name}
-use Rattle.grid_writer.specs.LineWords.{TakesLines, number_of}
-use Rattle.grid_writer.proofs.StepLemmas.{IsText}
-use Rattle.report_text.specs.Contents.{told_item}
+use Rattle.insar_ports.specs.Feeding.{handed_of, limit_of}
 use Rattle.report_text.specs.Fitting.{MayFit}
-use Rattle.report_text.proofs.ItemForms.{AreItems, texts}
+use Rattle.report_text.specs.Parts.{AreItems, items_in}
+use Rattle.report_text.specs.Steps.{Took, place_of}
+use Rattle.report_text.proofs.ItemForms.{texts}
 use Rattle.report_text.proofs.read.read_items.Given as goal
 
 abbrev pub invariant-loop-items : goal.invariant-loop-items
 invariant-loop-items g l = record {
-  name : source_name l.feed ≡ source_name l.fn.feed;
-  limit : limit_of l.feed ≡ limit_of l.fn.feed;
-  moves : Moves (call_of g.S.Source.left g.S.Source.faults l.fn.feed l.feed);
+  took : Took (texts l.head.width l.head.height l.head.tiles (items_in l.items)) (place_of g.S.Source.left g.S.Source.faults l.fn.feed l.fn.lines) (place_of g.S.Source.left g.S.Source.faults l.feed l.lines);
   fits : AllByRecursion (λ i. MayFit l.head.width l.head.height l.head.tiles i.surface) l.items.items;
-  ranges : AreItems l.head.width l.head.height l.head.tiles (map told_item l.items.items);
-  taken : TakesLines (IsText (texts l.head.width l.head.height l.head.tiles (map told_item l.items.items))) (number_of l.fn.lines) (number_of l.lines) (call_of g.S.Source.left g.S.Source.faults l.fn.feed l.feed);
+  ranges : AreItems l.head.width l.head.height l.head.tiles (items_in l.items);
 }
 
 abbrev pub decreases-loop-items : goal.decreases-loop-items

@@ -3,7 +3,7 @@ use Rattle.raster_model.specs.Cells.{IsCertifiedTile}
 use Rattle.certificates.specs.Verdicts.{IsFacesVerdict}
 use Rattle.report_text.specs.Contents.{lists_of}
 use Rattle.report_check.specs.Shown.{open_shown, raster_shown, told_shown}
-use Rattle.report_check.specs.Verdicts.{surface_in}
+use Rattle.report_check.specs.Verdicts.{surface_shown}
 use Rattle.report_check.proofs.ShownLemmas.{faces_read}
 use Rattle.report_check.proofs.shown.ShownSurface.first_unfit_tile.Goals as goal
 
@@ -13,7 +13,7 @@ loop-tile-preserved c =
     let lists = s.told.now.faces in
     let t = c.loop-tile.tile in
     let read : c.deref.result.now ≡ lists_of lists.items t = c.deref.ensures.value ∙ sym (faces_read lists.items t c.index-faces.result.now (omega (arith, c.loop-tile-test.true, c.tile_count-tile-end.ensures.count, s.one_each, lists.ok.0)) c.index-faces.ensures) in
-    let S = surface_in (raster_shown s) (told_shown s) in
+    let S = surface_shown (raster_shown s) (told_shown s) in
     below_more (λ (t : ℕ). IsCertifiedTile (raster_shown s) (open_shown s) t S (lists_of lists.items t)) t c.loop-tile.invariant
     (subst (λ (faces : List ℤ). IsCertifiedTile (raster_shown s) (open_shown s) t S faces) read (c.check_faces.ensures.good.0 c.in-Good.is))
 
@@ -23,7 +23,7 @@ returns-in_default-clause-found c =
     let lists = s.told.now.faces in
     let t = c.loop-tile.tile in
     let read : c.deref.result.now ≡ lists_of lists.items t = c.deref.ensures.value ∙ sym (faces_read lists.items t c.index-faces.result.now (omega (arith, c.loop-tile-test.true, c.tile_count-tile-end.ensures.count, s.one_each, lists.ok.0)) c.index-faces.ensures) in
-    let S = surface_in (raster_shown s) (told_shown s) in
+    let S = surface_shown (raster_shown s) (told_shown s) in
     record {
       exists = omega (arith, c.loop-tile-test.true, c.tile_count-tile-end.ensures.count);
       before = c.loop-tile.invariant;

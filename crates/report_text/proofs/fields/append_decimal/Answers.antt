@@ -1,6 +1,0 @@
-use Rattle.std.proofs.Common.{◌∙◌}
-use Rattle.report_text.proofs.fields.append_decimal.Goals as goal
-
-pub returns : goal.returns
-returns g c =
-    rw (c.as_bytes.ensures.value ∙ c.format.ensures.text) at c.append.ensures

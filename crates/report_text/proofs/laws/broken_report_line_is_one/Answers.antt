@@ -1,0 +1,5 @@
+use Rattle.report_text.proofs.ReportAnswers.{broken_line_is_one}
+use Rattle.report_text.proofs.laws.broken_report_line_is_one.Goals as goal
+
+pub returns : goal.returns
+returns c = broken_line_is_one

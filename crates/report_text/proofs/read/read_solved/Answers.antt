@@ -1,0 +1,23 @@
+use Rattle.std.proofs.Common.{refl}
+use Rattle.text_lines.specs.Parsing.{IsWide}
+use Rattle.report_text.proofs.LineFacts.{tiles_small}
+use Rattle.report_text.proofs.PartForms.{grid_after, grid_first}
+use Rattle.report_text.proofs.ReadsLemmas.{reads_first, reads_ok, reads_second, took, took_then}
+use Rattle.report_text.proofs.read.read_solved.Goals as goal
+
+pub returns-in_err-grid-clause-read : goal.returns-in_err-grid-clause-read
+returns-in_err-grid-clause-read g c =
+    let small : IsWide c.args.head.tiles = rw c.args.head.counted (tiles_small c.args.head.width c.args.head.height c.args.head.side c.args.head.sized c.args.head.sides) in
+    reads_first c.from_residual.result c.from_residual.ensures.1 (grid_first c.args.head.width c.args.head.height c.args.head.tiles c.args.head.sized small) c.in_err-grid.ensures.read
+
+pub returns-in_err-certificates-clause-read : goal.returns-in_err-certificates-clause-read
+returns-in_err-certificates-clause-read g c =
+    let small : IsWide c.args.head.tiles = rw c.args.head.counted (tiles_small c.args.head.width c.args.head.height c.args.head.side c.args.head.sized c.args.head.sides) in
+    let a = c.in_ok-grid.ensures.read in
+    reads_second c.from_residual-in_err-certificates.result c.from_residual-in_err-certificates.ensures.1 (grid_after c.args.head.width c.args.head.height c.args.head.tiles c.args.head.sized small _ a.read.0) (took a) c.in_err-certificates.ensures.read
+
+pub returns-clause-read : goal.returns-clause-read
+returns-clause-read g c =
+    let a = c.in_ok-grid.ensures.read in
+    let b = c.in_ok-certificates.ensures.read in
+    reads_ok (took_then (took a) (took b)) (a.read.0, b.read.0) refl

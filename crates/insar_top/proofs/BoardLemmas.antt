@@ -1,20 +1,14 @@
 -- The board on which a session's scripts are done.
-use Rattle.std.proofs.Common.{◌≡◌, ◌∙◌, ℕ, ◌<◌, List, [], ◌∷◌, ◌++◌, Option, length, take, drop, ap, refl, sym, subst, arith}
+use Rattle.std.proofs.Common.{◌≡◌, ◌∙◌, ℕ, ◌<◌, List, [], ◌∷◌, ◌++◌, length, take, drop, refl, ap, sym, subst, arith}
 use Rattle.std.specs.List.{All}
 use Rattle.raster_model.specs.declared.session.Session.{Session}
-use Rattle.raster_model.specs.declared.weights.RuleKind.{RuleKind}
 use Rattle.tile_board.specs.declared.entry.Entry.{Entry}
 use Rattle.tile_board.specs.Histories.{IsComplete}
-use Rattle.board_desk.specs.Passes.{DeskView, IsPassOf, PassView, Stands, first_passes}
+use Rattle.board_desk.specs.Passes.{DeskView, IsPassOf, PassView, Stands}
 use Rattle.board_desk.proofs.CallerLemmas.{still_of_desk}
 use Rattle.tile_workers.specs.Scripts.{AreEnded, AreLater}
 use Rattle.tile_workers.proofs.CallerLemmas.{complete}
-use Rattle.insar_top.specs.Answers.{IsGiven}
-use Rattle.insar_top.specs.Causes.{IsAlone}
-
--- what was read of a session was read of the board's, which is the same
-pub read_again : (told left : Option (List ℕ)) (rule : RuleKind) (side : ℕ) (s t : Session) → s ≡ t → IsAlone told left (λ bytes. IsGiven rule side bytes t) → IsAlone told left (λ bytes. IsGiven rule side bytes s)
-read_again told left rule side s t same read = subst (λ (x : Session). IsAlone told left (λ bytes. IsGiven rule side bytes x)) (sym same) read
+use Rattle.insar_top.specs.Desks.{HaveRun, passes_at_start}
 
 -- ---- the passes that the run wrote back
 module _ {A : Type 0} where
@@ -37,9 +31,10 @@ later_own d before after count later own k p l = (let less : k < length before =
 pub later_from : (xs ys zs : List PassView) → xs ≡ zs → AreLater xs ys → AreLater zs ys
 later_from xs ys zs e later = subst (λ (l : List PassView). AreLater l ys) e later
 
--- the history is complete, for the session that the desk was opened for
-pub complete_of : (s : Session) (d : DeskView) (log : List Entry) (before after : List PassView) → d.session ≡ s → before ≡ first_passes d (length s.scripts.items) → length after ≡ length before → AreLater before after → AreEnded after
-    → All (Stands log) after → IsComplete s log
-complete_of s d log before after is first count later ended stand =
-    subst (λ (x : Session). IsComplete x log) is
-    (complete d log before after (first ∙ ap (λ (x : Session). first_passes d (length x.scripts.items)) (sym is)) count later ended stand)
+-- passes that began as the first ones, and have ended
+pub have_run : (d : DeskView) (xs ys : List PassView) → xs ≡ passes_at_start d → length ys ≡ length xs → AreLater xs ys → All (IsPassOf d) xs → AreEnded ys → HaveRun d ys
+have_run d xs ys first count later own ended = record { own = later_own d xs ys count later own; count = count ∙ ap length first; later = later_from xs ys (passes_at_start d) first later; ended = ended }
+
+-- where the analysts are done, the history is complete
+pub complete_of : (s : Session) (d : DeskView) (log : List Entry) (passes : List PassView) → s ≡ d.session → HaveRun d passes → All (Stands log) passes → IsComplete s log
+complete_of s d log passes is run stand = rw is (complete d log (passes_at_start d) passes refl run.count run.later run.ended stand)

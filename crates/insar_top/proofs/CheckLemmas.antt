@@ -1,37 +1,40 @@
 -- A session and then a report: what was read of them, and why they were not.
-use Rattle.std.proofs.Common.{◌≡◌, ℕ, ◌+◌, ◌≤◌, ◌<◌, List, [], ◌∷◌, ◌++◌, length, take, Option, Some, None, inl, inr, ◌⊎◌, sym, ap, subst, ◌∙◌, arith}
+use Rattle.std.proofs.Common.{◌≡◌, ℕ, ◌+◌, ◌≤◌, ◌<◌, List, [], ◌∷◌, ◌++◌, length, take, Option, Some, None, inl, inr, ◌⊎◌, refl, sym, ap, subst, ◌∙◌, arith}
 use Rattle.std.specs.Prelude.{IfSome}
 use Rattle.std.proofs.lemmas.List.{append-nil, length-append, take_all, take-append-le}
-use Rattle.insar_ports.specs.Bytes.{HasMore, with_front, with_end, GainsProperPrefix}
+use Rattle.insar_ports.specs.Bytes.{HasMore, with_front}
 use Rattle.insar_ports.specs.Calls.{Takes}
-use Rattle.insar_ports.proofs.CallLemmas.{call, risen_before}
+use Rattle.insar_ports.proofs.CallLemmas.{at_told, call, if_told, risen_before}
 use Rattle.raster_model.specs.declared.session.Session.{Session}
 use Rattle.raster_model.specs.declared.weights.RuleKind.{RuleKind}
 use Rattle.session_script.specs.declared.session_use.SessionUse.TheVariants.{BeforeReport}
 use Rattle.session_script.specs.declared.fault.SessionFault.{SessionFault}
 use Rattle.session_script.specs.declared.fault.SessionFault.TheVariants as session_faults
-use Rattle.session_script.specs.Causes.{HasCause}
+use Rattle.session_script.specs.Causes.{HasSessionCause}
 use Rattle.session_script.specs.Reaching.{Reaches}
 use Rattle.session_script.specs.Sessions.{IsSessionIn, session_of}
-use Rattle.grid_writer.specs.Forms.{Begins, EndsIn}
+use Rattle.text_lines.specs.Forms.{Begins, EndsIn}
 use Rattle.report_text.specs.declared.contents.Report.{Report}
-use Rattle.report_text.specs.declared.fault.ReportFault.{ReportFault}
-use Rattle.report_text.specs.declared.fault.ReportFault.TheVariants as report_faults
+use Rattle.text_lines.specs.declared.fault.LineFault.{LineFault as ReportFault}
+use Rattle.text_lines.specs.declared.fault.LineFault.TheVariants as report_faults
 use Rattle.report_text.specs.Contents.{IsReport, IsReportText, report_told}
 use Rattle.report_text.specs.Reading.{BreaksReportAt, EndsReportIn, HasBrokenReportLine, HasReportCause}
 use Rattle.report_text.specs.Text.{report_text}
 use Rattle.report_check.specs.declared.verdict.CheckVerdict.{CheckVerdict}
-use Rattle.report_check.specs.Verdicts.{IsVerdict}
-use Rattle.insar_top.specs.Checks.{AnswersAreAccepted, AreRead, HasCheckCause, HasReadCause, IsBoth, IsChecked, IsCheckCut, IsJudged, IsReportTooLong, most_of_report}
-use Rattle.insar_top.specs.Outcomes.{Run}
-use Rattle.insar_top.specs.Refusals.{refusal_of, refusal_of_report}
+use Rattle.report_check.specs.Verdicts.{IsCheckVerdict}
+use Rattle.report_check.specs.declared.verdict.CheckVerdict.TheVariants.{Accepted}
+use Rattle.insar_words.specs.declared.request.Request.TheVariants.{Check}
+use Rattle.insar_words.specs.declared.settings.Settings.{Settings}
+use Rattle.insar_top.specs.Answers.{IsAnswerTo, IsUsedUp}
+use Rattle.insar_top.specs.Causes.{HasReadCause}
+use Rattle.insar_top.specs.Check.{AnswersAreAccepted, AreRead, BreaksBoth, IsJudged, IsReportTooLong, IsStatusOf, most_of_report}
+use Rattle.insar_top.specs.Run.{Run}
+use Rattle.insar_top.specs.Refusals.{report_refusal, session_refusal}
 use Rattle.insar_top.specs.VerdictLines.{verdict_line}
-use Rattle.insar_top.specs.declared.refusal.Refusal.{Refusal}
-use Rattle.insar_top.specs.declared.refusal.Refusal.TheVariants as refusals
 
 -- ---- the session was not read
 
-pub session_cause : (side : ℕ) (told : Option (List ℕ)) (at : ℕ) (left : Option (List ℕ)) (end limit before after : ℕ) (fault : SessionFault) → HasCause BeforeReport side (call told at left end limit before after) fault → HasReadCause side told before after (refusal_of fault)
+pub session_cause : (side : ℕ) (told : Option (List ℕ)) (at : ℕ) (left : Option (List ℕ)) (end limit before after : ℕ) (fault : SessionFault) → HasSessionCause BeforeReport side (call told at left end limit before after) fault → HasReadCause (BreaksBoth side) told before after (session_refusal fault)
 session_cause side told at left end limit before after (session_faults.Input fault) h = h
 session_cause side told at left end limit before after session_faults.ReadFault h = h
 session_cause side told at left end limit before after session_faults.Memory h = tt
@@ -82,7 +85,7 @@ module _ (side : ℕ) (s : Session) where
   abbrev IsFirst : List ℕ → List ℕ → Type 0
   IsFirst bytes rest = IsSessionIn BeforeReport side bytes (session_of s) rest
 
-  pub report_cause : (told mid again left : Option (List ℕ)) (at passed from end limit limit_2 before middle middle_2 after : ℕ) (fault : ReportFault) → limit_2 ≡ from + most_of_report → end ≤ limit_2 → before ≤ middle_2 → again ≡ mid → Reaches (call told at mid passed limit before middle) IsFirst → HasReportCause (call again from left end limit_2 middle_2 after) fault → HasReadCause side told before after (refusal_of_report fault)
+  pub report_cause : (told mid again left : Option (List ℕ)) (at passed from end limit limit_2 before middle middle_2 after : ℕ) (fault : ReportFault) → limit_2 ≡ from + most_of_report → end ≤ limit_2 → before ≤ middle_2 → again ≡ mid → Reaches (call told at mid passed limit before middle) IsFirst → HasReportCause (call again from left end limit_2 middle_2 after) fault → HasReadCause (BreaksBoth side) told before after (report_refusal fault)
   report_cause None mid again left at passed from end limit limit_2 before middle middle_2 after (report_faults.Line n) r w g m h t = tt
   report_cause (Some bytes) mid again left at passed from end limit limit_2 before middle middle_2 after (report_faults.Line n) r w g m h t =
       let u = at_mid again h.0 (λ bytes. (text : List ℕ) × (rest : List ℕ) × ((bytes ≡ text ++ rest) × ((left ≡ Some rest) × ((end ≡ from + length text) × (BreaksReportAt n text ⊎ (EndsReportIn n text × (rest ≡ []))))))) (m ∙ h.1.0) t in
@@ -96,38 +99,33 @@ module _ (side : ℕ) (s : Session) where
 
 -- ---- a check
 
-if_told : (o : Option (List ℕ)) (P Q : List ℕ → Type 0) → ((bytes : List ℕ) → P bytes → Q bytes) → IfSome o P → IfSome o Q
-if_told None P Q f h = tt
-if_told (Some bytes) P Q f h = f bytes h
+-- the verdict on both is what answers
+pub verdict_ready : (settings : Settings) (r : Run) (s : Session) (report : Report) (verdict : CheckVerdict) (status : ℕ) → AreRead settings.rule settings.side r.told r.left s report → IsCheckVerdict s (report_told report) verdict → IsStatusOf verdict status
+    → IfSome r.told (λ bytes. IsAnswerTo (Check settings) bytes status (verdict_line verdict) × IsUsedUp (Check settings) r)
+verdict_ready settings r s report verdict status read is status_is = if_told r.told _ (λ bytes t.
+    let k = at_told r.told _ bytes t read in
+    let b = k.0 in
+    let judged : IsJudged settings.rule settings.side bytes verdict = record { session = s; report = report_told report; spelled = b.spelled; rule_is = b.rule_is; side_is = b.side_is; in_range = b.in_range; within = b.within; verdict_is = is } in
+    (record { verdict = verdict; judged = judged; status_is = status_is; line = refl }, k.1))
 
-module _ (rule : RuleKind) (side : ℕ) (r : Run) (s : Session) (report : Report) (verdict : CheckVerdict) (read : AreRead rule side r.told r.left s report) (judged : IsVerdict s (report_told report) verdict) where
-  judged_so : (bytes : List ℕ) → IsBoth rule side bytes s report → IsJudged rule side bytes verdict
-  judged_so bytes b = record { session = s; report = report_told report; spelled = b.spelled; rule_is = b.rule_is; side_is = b.side_is; in_range = b.in_range; within = b.within; verdict_is = judged }
+pub small_verdict : (verdict : CheckVerdict) (status : ℕ) → IsStatusOf verdict status → status ≤ 1
+small_verdict verdict status (inl e) = omega (arith, e.1)
+small_verdict verdict status (inr e) = omega (arith, e.1)
 
-  pub is_checked : r.held_now ≡ with_end r.held (verdict_line verdict) → IsChecked rule side r verdict
-  is_checked h = if_told r.told (λ bytes. IsBoth rule side bytes s report × (r.left ≡ Some [])) (λ bytes. IsJudged rule side bytes verdict × ((r.left ≡ Some []) × (r.held_now ≡ with_end r.held (verdict_line verdict)))) (λ bytes b. (judged_so bytes b.0, (b.1, h))) read
-
-  pub is_check_cut : GainsProperPrefix r.held (verdict_line verdict) r.held_now → IsCheckCut rule side r
-  is_check_cut h = if_told r.told (λ bytes. IsBoth rule side bytes s report × (r.left ≡ Some [])) (λ bytes. (verdict : CheckVerdict) × (IsJudged rule side bytes verdict × GainsProperPrefix r.held (verdict_line verdict) r.held_now)) (λ bytes b. (verdict, (judged_so bytes b.0, h))) read
-
-pub read_cause : (rule : RuleKind) (side : ℕ) (r : Run) (e : Refusal) → r.held_now ≡ r.held → HasReadCause side r.told r.source_before r.source_after e → HasCheckCause rule side r e
-read_cause rule side r refusals.Words same h = absurd h
-read_cause rule side r (refusals.Input fault) same h = (h, same)
-read_cause rule side r (refusals.ReportLine n) same h = (h, same)
-read_cause rule side r refusals.ReportLong same h = (h, same)
-read_cause rule side r refusals.Memory same h = same
-read_cause rule side r refusals.ReadFault same h = (h, same)
-read_cause rule side r refusals.WriteFault same h = absurd h
+-- some status tells a verdict
+pub some_status : (verdict : CheckVerdict) → (status : ℕ) × IsStatusOf verdict status
+some_status Accepted = (0, inl (refl, refl))
+some_status verdict = (1, inr ((λ e. cc), refl))
 
 pub answers_are_accepted : AnswersAreAccepted
-answers_are_accepted rule side bytes text both answer ranges short spelled =
+answers_are_accepted rule side bytes text both answer short spelled =
     record {
       session = answer.session;
       report = answer.report;
       spelled = subst (λ (t : List ℕ). IsSessionIn BeforeReport side both (session_of answer.session) t) answer.written spelled;
       rule_is = answer.given.rule_is;
       side_is = answer.given.side_is;
-      in_range = ranges;
+      in_range = answer.in_range;
       within = subst (λ (t : List ℕ). length t ≤ most_of_report) answer.written short;
       verdict_is = answer.reported.certified;
     }

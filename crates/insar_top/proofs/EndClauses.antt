@@ -1,341 +1,191 @@
 -- The clauses of the top call, by how it ended.
-use Rattle.std.proofs.Common.{◌≡◌, ◌∙◌, ◌≤◌, ℕ, List, [], Option, Some, Result, Ok, Err, refl, sym, ap, subst, inl, inr, arith}
-use Rattle.std.specs.Prelude.{◌⊎◌, IfSome, ⊤}
+use Rattle.std.proofs.Common.{◌≡◌, ◌≤◌, ℕ, List, Result, Ok, Err, refl, sym, subst, inl, inr, arith}
+use Rattle.std.specs.Prelude.{◌⊎◌, IfSome}
 use Rattle.std.specs.Borrow.{Bor}
 use Rattle.clap.specs.Walk.{Text}
-use Rattle.pgm_planes.specs.declared.fault.InputFault.{InputFault}
+use Rattle.insar_ports.proofs.CallLemmas.{at_told, if_told}
+use Rattle.insar_words.specs.Asked.{AskSomething, IsCheck, IsCommand, IsRefused}
+use Rattle.insar_words.specs.Requests.{HasWordsCause, IsRequest}
+use Rattle.insar_words.specs.declared.fault.WordsFault.{WordsFault}
+use Rattle.insar_words.specs.declared.fault.WordsFault.TheVariants as words_faults
+use Rattle.insar_words.specs.declared.request.Request.{Request}
+use Rattle.insar_words.specs.declared.request.Request.TheVariants.{Unwrap, Check}
 use Rattle.raster_model.specs.declared.weights.RuleKind.{RuleKind}
 use Rattle.report_check.specs.declared.verdict.CheckVerdict.{CheckVerdict}
-use Rattle.report_check.specs.declared.verdict.CheckVerdict.TheVariants.{Accepted}
-use Rattle.session_script.specs.Sessions.{SessionOf, session_of}
 use Rattle.insar_top.specs.declared.refusal.Refusal.{Refusal}
 use Rattle.insar_top.specs.declared.refusal.Refusal.TheVariants as refusals
-use Rattle.insar_top.specs.declared.request.Request.{Request}
-use Rattle.insar_top.specs.declared.request.Request.TheVariants.{Unwrap, Grid, Check, Trial}
-use Rattle.insar_top.specs.Answers.{IsInput, IsNoInput}
-use Rattle.insar_top.specs.Asked.{AskSomething, IsCheck, IsCommand, IsGridCommand, IsRefused, IsTrialCommand}
-use Rattle.insar_top.specs.Causes.{HasInputFault}
-use Rattle.insar_top.specs.Checks.{ByCheck, HasCheckCause, IsCheckable, IsChecked, IsJudged, IsNotCheckable, IsRejected, IsVerdictTold}
-use Rattle.insar_top.specs.Ends.{EndsBy, IsCheckEnd, IsEnd, IsRequestEnd, IsSolvingEnd, Solves, end_line, end_status}
-use Rattle.insar_top.specs.Ends.IsEnd.{not_read, asked}
-use Rattle.insar_top.specs.Grids.{IsGridCut, IsGridDone}
-use Rattle.insar_top.specs.Outcomes.{HasSolvingCause, IsCut, IsDone, IsLineAt, IsUnread, Run, SinkFailed, SourceFailed}
-use Rattle.insar_top.specs.Refusals.{status_of}
-use Rattle.insar_top.specs.Requests.{HasWordsCause, IsRequest}
-use Rattle.insar_top.specs.TrialLines.{HasTrialCause, IsTrialCut, IsTrialDone}
-use Rattle.insar_top.proofs.CheckStatus.{at_least_two, complete_done, complete_of, taken_judged, taken_refused}
-use Rattle.insar_top.proofs.EndLemmas.{HasAnyCause, IsAnyEnd, any_end, asks_something, check_end, grid_end, no_words, read_fault_at_five, trial_end, unwrap_end, words_at_two, write_fault_at_six}
+use Rattle.insar_top.specs.Answers.{HasAnswered, HasCutShort, IsDoneStatus, IsInputTo, IsWithinInput, input_of}
+use Rattle.insar_top.specs.Causes.{BreaksInput, HasRefusalCause}
+use Rattle.insar_top.specs.Check.{IsJudged, IsVerdictTold}
+use Rattle.insar_top.specs.Ends.{EndsBy, IsLineAt, IsProgramEnd, IsRequestEnd, end_status, line_of_end}
+use Rattle.insar_top.specs.Ends.IsProgramEnd.{not_read, done}
+use Rattle.insar_top.specs.Refusals.{status_of, words_refusal}
+use Rattle.insar_top.specs.Run.{HasKept, IsUnread, Run, SinkFailed, SourceFailed}
+use Rattle.insar_top.specs.Unwrap.{IsDone}
+use Rattle.insar_top.proofs.AnswerLemmas.{answer_input, small_status, unread_within}
+use Rattle.insar_top.proofs.BrokenLemmas.{broken_bytes_are_no_input}
 use Rattle.insar_top.proofs.OneVerdict.{verdict_told}
-use Rattle.insar_top.proofs.RequestLemmas.{refused_or_asking}
-use Rattle.insar_top.proofs.TopLemmas.{fault_refuses}
-use Rattle.insar_ports.proofs.CallLemmas.{at_told, if_told}
+use Rattle.insar_words.proofs.RequestLemmas.{asking_is_request, check_is_request, one_request, refused_or_asking, unwrap_is_request}
 
--- ---- an end that is done at 0 alone
+-- ---- refusals by their statuses
 
-module _ (Done : Type 0) (HasCause : Refusal → Type 0) where
-  abbrev IsZeroEnd : Result ℕ Refusal → Type 0
-  IsZeroEnd = EndsBy (λ status. (status ≡ 0) × Done) HasCause
+refused_status : (x : Refusal) → (2 ≤ status_of x) × (status_of x ≤ 6)
+refused_status refusals.Words = (omega arith, omega arith)
+refused_status refusals.Memory = (omega arith, omega arith)
+refused_status refusals.ReadFault = (omega arith, omega arith)
+refused_status refusals.WriteFault = (omega arith, omega arith)
+refused_status x = (omega arith, omega arith)
 
-  done_at : (d : Result ℕ Refusal) → IsZeroEnd d → end_status d ≡ 0 → Done
-  done_at (Ok n) e zero = e.1
-  done_at (Err x) e zero = let two = (at_least_two x).0 in absurd (omega (arith, zero, two))
+-- what the status of a refusal says
+record IsTold (asked : Request) (r : Run) (status : ℕ) : Type 0 where
+  two : status ≡ 2 → ⊥
+  five : status ≡ 5 → SourceFailed r
+  six : status ≡ 6 → SinkFailed r × HasCutShort asked r
+  kept : status ≤ 5 → HasKept r
 
-  cut_at : (d : Result ℕ Refusal) → IsZeroEnd d → end_status d ≡ 6 → HasCause refusals.WriteFault
-  cut_at (Ok n) e six = let zero = e.0 in absurd (omega (arith, zero, six))
-  cut_at (Err x) e six = subst HasCause (write_fault_at_six x six) e
+told_by : (asked : Request) (r : Run) (x : Refusal) → HasRefusalCause asked r x → IsTold asked r (status_of x)
+told_by asked r refusals.Words e = absurd e.0
+told_by asked r refusals.Memory e = record { two = λ q. omega (arith, q); five = λ q. absurd (omega (arith, q)); six = λ q. absurd (omega (arith, q)); kept = λ q. e.1 }
+told_by asked r refusals.ReadFault e = record { two = λ q. omega (arith, q); five = λ q. e.0; six = λ q. absurd (omega (arith, q)); kept = λ q. e.1 }
+told_by asked r refusals.WriteFault e = record { two = λ q. omega (arith, q); five = λ q. absurd (omega (arith, q)); six = λ q. e; kept = λ q. absurd (omega (arith, q)) }
+told_by asked r x e = record { two = λ q. omega (arith, q); five = λ q. absurd (omega (arith, q)); six = λ q. absurd (omega (arith, q)); kept = λ q. e.1 }
 
-  not_one : (d : Result ℕ Refusal) → IsZeroEnd d → end_status d ≡ 1 → ⊥
-  not_one (Ok n) e one = let zero = e.0 in omega (arith, zero, one)
-  not_one (Err x) e one = let two = (at_least_two x).0 in omega (arith, one, two)
+-- ---- how a request ended
 
--- ---- a run that solves a session
+module _ (asked : Request) (r : Run) where
+  abbrev Ends : Result ℕ Refusal → Type 0
+  Ends = EndsBy (HasAnswered asked r) (HasRefusalCause asked r)
 
-module _ (side : ℕ) (r : Run) (Done Cut : Type 0) where
+  done_at : (d : Result ℕ Refusal) → Ends d → end_status d ≤ 1 → HasAnswered asked r (end_status d)
+  done_at (Ok n) e small = e
+  done_at (Err x) e small = let two = (refused_status x).0 in absurd (omega (arith, small, two))
+
   -- P: what holds where the line of a refusal was put
-  fault_at : (d : Result ℕ Refusal) → IsSolvingEnd side r Done Cut d → (P : Result ℕ Refusal → Type 0) → P d → end_status d ≡ 3
-      → IfSome r.told (λ bytes. (fault : InputFault) × (HasInputFault side bytes fault × P (Err (refusals.Input fault))))
-  fault_at (Ok n) e P p three = let zero = e.0 in absurd (omega (arith, zero, three))
-  fault_at (Err refusals.Words) e P p three = absurd e
-  fault_at (Err (refusals.Input fault)) e P p three = if_told r.told _ (λ bytes t. (fault, (at_told r.told _ bytes t e.0, p)))
-  fault_at (Err (refusals.ReportLine n)) e P p three = absurd e
-  fault_at (Err refusals.ReportLong) e P p three = absurd e
-  fault_at (Err refusals.Memory) e P p three = absurd (omega (arith, three))
-  fault_at (Err refusals.ReadFault) e P p three = absurd (omega (arith, three))
-  fault_at (Err refusals.WriteFault) e P p three = absurd (omega (arith, three))
+  refused_at : (d : Result ℕ Refusal) → Ends d → (P : Result ℕ Refusal → Type 0) → P d → 2 ≤ end_status d → (x : Refusal) × ((end_status d ≡ status_of x) × (HasRefusalCause asked r x × P (Err x)))
+  refused_at (Ok n) e P p more = let small = small_status asked n e.0 in absurd (omega (arith, small, more))
+  refused_at (Err x) e P p more = (x, (refl, (e, p)))
 
-  refused_at : (d : Result ℕ Refusal) → IsSolvingEnd side r Done Cut d → end_status d ≡ 3 → IfSome r.told (IsNoInput side)
-  refused_at d e three = if_told r.told _ (λ bytes t.
-      let f = at_told r.told _ bytes t (fault_at d e (λ (d : Result ℕ Refusal). ⊤) tt three) in
-      fault_refuses side bytes f.0 f.1.0)
+  cut_at : (d : Result ℕ Refusal) → Ends d → end_status d ≡ 6 → HasCutShort asked r
+  cut_at (Ok n) e six = let small = small_status asked n e.0 in absurd (omega (arith, small, six))
+  cut_at (Err x) e six = ((told_by asked r x e).six six).1
 
-  -- a session is not refused
-  complete_at : (d : Result ℕ Refusal) → IsSolvingEnd side r Done Cut d
-      → IfSome r.told (λ bytes. (s : SessionOf) → IsInput side bytes s → (SourceFailed r → ⊥) → (SinkFailed r → ⊥) → (end_status d ≡ 0) ⊎ (end_status d ≡ 4))
-  complete_at (Ok n) e = if_told r.told _ (λ bytes t s input no_source no_sink. inl e.0)
-  complete_at (Err refusals.Words) e = absurd e
-  complete_at (Err (refusals.Input fault)) e = if_told r.told _ (λ bytes t s input no_source no_sink. absurd (fault_refuses side bytes fault (at_told r.told _ bytes t e.0) s input))
-  complete_at (Err (refusals.ReportLine n)) e = absurd e
-  complete_at (Err refusals.ReportLong) e = absurd e
-  complete_at (Err refusals.Memory) e = if_told r.told _ (λ bytes t s input no_source no_sink. inr refl)
-  complete_at (Err refusals.ReadFault) e = if_told r.told _ (λ bytes t s input no_source no_sink. absurd (no_source e.0))
-  complete_at (Err refusals.WriteFault) e = if_told r.told _ (λ bytes t s input no_source no_sink. absurd (no_sink e.0))
+  taken_at : (d : Result ℕ Refusal) → Ends d → IfSome (input_of asked r) (λ bytes. (IsInputTo asked bytes → ⊥) → (end_status d ≡ 3) ⊎ ((end_status d ≡ 4) ⊎ (end_status d ≡ 5)))
+  taken_at (Ok n) e = if_told (input_of asked r) _ (λ bytes t none. let k = at_told (input_of asked r) _ bytes t e.1 in absurd (none (answer_input asked bytes n k.0 k.1.0)))
+  taken_at (Err refusals.Words) e = absurd e.0
+  taken_at (Err refusals.Memory) e = if_told (input_of asked r) _ (λ bytes t none. inr (inl refl))
+  taken_at (Err refusals.ReadFault) e = if_told (input_of asked r) _ (λ bytes t none. inr (inr refl))
+  taken_at (Err refusals.WriteFault) e = if_told (input_of asked r) _ (λ bytes t none. let k = at_told (input_of asked r) _ bytes t e.1 in absurd (none (answer_input asked bytes k.0 k.1 k.2.0)))
+  taken_at (Err x) e = if_told (input_of asked r) _ (λ bytes t none. inl refl)
 
-  -- the bytes are a session's
-  abbrev IsSpelled : Type 0
-  IsSpelled = IfSome r.told (λ bytes. (s : SessionOf) × IsInput side bytes s)
+  complete_at : (d : Result ℕ Refusal) → Ends d → IfSome (input_of asked r) (λ bytes. IsInputTo asked bytes → (SourceFailed r → ⊥) → (SinkFailed r → ⊥) → IsDoneStatus asked (end_status d) ⊎ (end_status d ≡ 4))
+  complete_at (Ok n) e = if_told (input_of asked r) _ (λ bytes t input no_source no_sink. inl e.0)
+  complete_at (Err refusals.Words) e = absurd e.0
+  complete_at (Err refusals.Memory) e = if_told (input_of asked r) _ (λ bytes t input no_source no_sink. inr refl)
+  complete_at (Err refusals.ReadFault) e = if_told (input_of asked r) _ (λ bytes t input no_source no_sink. absurd (no_source e.0))
+  complete_at (Err refusals.WriteFault) e = if_told (input_of asked r) _ (λ bytes t input no_source no_sink. absurd (no_sink e.0))
+  complete_at (Err x) e = if_told (input_of asked r) _ (λ bytes t input no_source no_sink. absurd (broken_bytes_are_no_input asked bytes x (at_told (input_of asked r) (λ bytes. BreaksInput asked bytes x) bytes t e.0) input))
 
-  taken_at : (Done → IsSpelled) → (Cut → IsSpelled) → (d : Result ℕ Refusal) → IsSolvingEnd side r Done Cut d
-      → IfSome r.told (λ bytes. IsNoInput side bytes → (end_status d ≡ 3) ⊎ ((end_status d ≡ 4) ⊎ (end_status d ≡ 5)))
-  taken_at done cut (Ok n) e = if_told r.told _ (λ bytes t none. let s = at_told r.told _ bytes t (done e.1) in absurd (none s.0 s.1))
-  taken_at done cut (Err refusals.Words) e = absurd e
-  taken_at done cut (Err (refusals.Input fault)) e = if_told r.told _ (λ bytes t none. inl refl)
-  taken_at done cut (Err (refusals.ReportLine n)) e = absurd e
-  taken_at done cut (Err refusals.ReportLong) e = absurd e
-  taken_at done cut (Err refusals.Memory) e = if_told r.told _ (λ bytes t none. inr (inl refl))
-  taken_at done cut (Err refusals.ReadFault) e = if_told r.told _ (λ bytes t none. inr (inr refl))
-  taken_at done cut (Err refusals.WriteFault) e = if_told r.told _ (λ bytes t none. let s = at_told r.told _ bytes t (cut e.1) in absurd (none s.0 s.1))
+-- ---- how the program ended
 
-module _ (rule : RuleKind) (side : ℕ) (r : Run) where
-  done_spelled : IsDone rule side r → IsSpelled side r (IsDone rule side r) (IsCut rule side r)
-  done_spelled h = if_told r.told _ (λ bytes t. let k = at_told r.told _ bytes t h in (session_of k.1.0.session, k.1.0.given.spelled))
+refused_words : (words : List (Bor Text)) (fault : WordsFault) → HasWordsCause words fault → status_of (words_refusal fault) ≡ 2 → IsRefused words
+refused_words words words_faults.Refused cause two = cause
+refused_words words words_faults.Memory cause two = absurd (omega (arith, two))
 
-  cut_spelled : IsCut rule side r → IsSpelled side r (IsDone rule side r) (IsCut rule side r)
-  cut_spelled h = if_told r.told _ (λ bytes t. let k = at_told r.told _ bytes t h in (session_of k.1.0.session, k.1.0.given.spelled))
+two_or_four : (fault : WordsFault) → (status_of (words_refusal fault) ≡ 2) ⊎ (status_of (words_refusal fault) ≡ 4)
+two_or_four words_faults.Refused = inl refl
+two_or_four words_faults.Memory = inr refl
 
-  grid_done_spelled : IsGridDone rule side r → IsSpelled side r (IsGridDone rule side r) (IsGridCut rule side r)
-  grid_done_spelled h = if_told r.told _ (λ bytes t. let k = at_told r.told _ bytes t h in (session_of k.1.0.session, k.1.0.given.spelled))
+not_above : (fault : WordsFault) → 5 ≤ status_of (words_refusal fault) → ⊥
+not_above words_faults.Refused five = omega (arith, five)
+not_above words_faults.Memory five = omega (arith, five)
 
-  grid_cut_spelled : IsGridCut rule side r → IsSpelled side r (IsGridDone rule side r) (IsGridCut rule side r)
-  grid_cut_spelled h = if_told r.told _ (λ bytes t. let k = at_told r.told _ bytes t h in (session_of k.1.0.session, k.1.0.given.spelled))
+asks_something : (words : List (Bor Text)) (q : Request) → IsRequest words q → AskSomething words
+asks_something words q is = (asking_is_request words).1 q is
 
--- ---- `unwrap` and `grid`
+module _ {words : List (Bor Text)} {r : Run} {d : Result ℕ Refusal} (ended : IsProgramEnd words r d) where
+  -- by cases of the end
+  by_end : (P : Result ℕ Refusal → Type 0) → ((fault : WordsFault) → HasWordsCause words fault → IsUnread r → HasKept r → P (Err (words_refusal fault)))
+      → ((q : Request) → IsRequest words q → (n : ℕ) → n ≤ 1 → P (Ok n)) → ((q : Request) → IsRequest words q → (x : Refusal) → HasRefusalCause q r x → P (Err x)) → P d
+  by_end P unread fine refused = go ended
+    where
+      request : (q : Request) → IsRequest words q → (o : Result ℕ Refusal) → EndsBy (HasAnswered q r) (HasRefusalCause q r) o → P o
+      request q is (Ok n) e = fine q is n (small_status q n e.0)
+      request q is (Err x) e = refused q is x e
 
-pub headline : {words : List (Bor Text)} {r : Run} {d : Result ℕ Refusal} → IsEnd words r d → (rule : RuleKind) (side : ℕ) → IsCommand words rule side → end_status d ≡ 0 → IsDone rule side r
-headline {words} {r} {d} e rule side c = done_at (IsDone rule side r) (HasSolvingCause side r (IsCut rule side r)) d (unwrap_end e rule side c)
+      go : IsProgramEnd words r d → P d
+      go (not_read fault cause none kept is) = subst P (sym is) (unread fault cause none kept)
+      go (done q is e) = request q is d e.1
 
-pub grid : {words : List (Bor Text)} {r : Run} {d : Result ℕ Refusal} → IsEnd words r d → (rule : RuleKind) (side : ℕ) → IsGridCommand words rule side → end_status d ≡ 0 → IsGridDone rule side r
-grid {words} {r} {d} e rule side c = done_at (IsGridDone rule side r) (HasSolvingCause side r (IsGridCut rule side r)) d (grid_end e rule side c)
+  module _ (asked : Request) (asks : IsRequest words asked) where
+    for_memory : (fault : WordsFault) → HasWordsCause words fault → IsUnread r → HasKept r → IsRequestEnd asked r (Err (words_refusal fault))
+    for_memory words_faults.Refused cause none kept = absurd ((refused_or_asking words).1 cause (asks_something words asked asks))
+    for_memory words_faults.Memory cause none kept = (unread_within asked r none, (tt, kept))
 
-pub cut : {words : List (Bor Text)} {r : Run} {d : Result ℕ Refusal} → IsEnd words r d → (rule : RuleKind) (side : ℕ) → IsCommand words rule side → end_status d ≡ 6 → IsCut rule side r
-cut {words} {r} {d} e rule side c six = (cut_at (IsDone rule side r) (HasSolvingCause side r (IsCut rule side r)) d (unwrap_end e rule side c) six).1
+    end_of : IsRequestEnd asked r d
+    end_of = go ended
+      where
+        go : IsProgramEnd words r d → IsRequestEnd asked r d
+        go (not_read fault cause none kept is) = subst (IsRequestEnd asked r) (sym is) (for_memory fault cause none kept)
+        go (done q is e) = subst (λ (q : Request). IsRequestEnd q r d) (one_request words q asked is asks) e
 
-pub grid_cut : {words : List (Bor Text)} {r : Run} {d : Result ℕ Refusal} → IsEnd words r d → (rule : RuleKind) (side : ℕ) → IsGridCommand words rule side → end_status d ≡ 6 → IsGridCut rule side r
-grid_cut {words} {r} {d} e rule side c six = (cut_at (IsGridDone rule side r) (HasSolvingCause side r (IsGridCut rule side r)) d (grid_end e rule side c) six).1
+    pub done_clause : end_status d ≤ 1 → HasAnswered asked r (end_status d)
+    done_clause = done_at asked r d end_of.1
 
-pub complete : {words : List (Bor Text)} {r : Run} {d : Result ℕ Refusal} → IsEnd words r d → (rule : RuleKind) (side : ℕ) → IsCommand words rule side
-    → IfSome r.told (λ bytes. (s : SessionOf) → IsInput side bytes s → (SourceFailed r → ⊥) → (SinkFailed r → ⊥) → (end_status d ≡ 0) ⊎ (end_status d ≡ 4))
-complete {words} {r} {d} e rule side c = complete_at side r (IsDone rule side r) (IsCut rule side r) d (unwrap_end e rule side c)
+    pub refused_clause : (P : Result ℕ Refusal → Type 0) → P d → 2 ≤ end_status d → (x : Refusal) × ((end_status d ≡ status_of x) × (HasRefusalCause asked r x × P (Err x)))
+    refused_clause = refused_at asked r d end_of.1
 
-pub grid_complete : {words : List (Bor Text)} {r : Run} {d : Result ℕ Refusal} → IsEnd words r d → (rule : RuleKind) (side : ℕ) → IsGridCommand words rule side
-    → IfSome r.told (λ bytes. (s : SessionOf) → IsInput side bytes s → (SourceFailed r → ⊥) → (SinkFailed r → ⊥) → (end_status d ≡ 0) ⊎ (end_status d ≡ 4))
-grid_complete {words} {r} {d} e rule side c = complete_at side r (IsGridDone rule side r) (IsGridCut rule side r) d (grid_end e rule side c)
+    pub cut_clause : end_status d ≡ 6 → HasCutShort asked r
+    cut_clause = cut_at asked r d end_of.1
 
--- P: what holds where the line of a refusal was put
-pub fault : {words : List (Bor Text)} {r : Run} {d : Result ℕ Refusal} → IsEnd words r d → (P : Result ℕ Refusal → Type 0) → P d → (rule : RuleKind) (side : ℕ) → Solves words rule side → end_status d ≡ 3
-    → IfSome r.told (λ bytes. (fault : InputFault) × (HasInputFault side bytes fault × P (Err (refusals.Input fault))))
-fault {words} {r} {d} e P p rule side (inl c) = fault_at side r (IsDone rule side r) (IsCut rule side r) d (unwrap_end e rule side c) P p
-fault {words} {r} {d} e P p rule side (inr c) = fault_at side r (IsGridDone rule side r) (IsGridCut rule side r) d (grid_end e rule side c) P p
+    pub taken_clause : IfSome (input_of asked r) (λ bytes. (IsInputTo asked bytes → ⊥) → (end_status d ≡ 3) ⊎ ((end_status d ≡ 4) ⊎ (end_status d ≡ 5)))
+    taken_clause = taken_at asked r d end_of.1
 
-pub input_refused : {words : List (Bor Text)} {r : Run} {d : Result ℕ Refusal} → IsEnd words r d → (rule : RuleKind) (side : ℕ) → Solves words rule side → end_status d ≡ 3 → IfSome r.told (IsNoInput side)
-input_refused {words} {r} {d} e rule side (inl c) = refused_at side r (IsDone rule side r) (IsCut rule side r) d (unwrap_end e rule side c)
-input_refused {words} {r} {d} e rule side (inr c) = refused_at side r (IsGridDone rule side r) (IsGridCut rule side r) d (grid_end e rule side c)
+    pub complete_clause : IfSome (input_of asked r) (λ bytes. IsInputTo asked bytes → (SourceFailed r → ⊥) → (SinkFailed r → ⊥) → IsDoneStatus asked (end_status d) ⊎ (end_status d ≡ 4))
+    complete_clause = complete_at asked r d end_of.1
 
-pub input_taken : {words : List (Bor Text)} {r : Run} {d : Result ℕ Refusal} → IsEnd words r d → (rule : RuleKind) (side : ℕ) → Solves words rule side
-    → IfSome r.told (λ bytes. IsNoInput side bytes → (end_status d ≡ 3) ⊎ ((end_status d ≡ 4) ⊎ (end_status d ≡ 5)))
-input_taken {words} {r} {d} e rule side (inl c) = taken_at side r (IsDone rule side r) (IsCut rule side r) (done_spelled rule side r) (cut_spelled rule side r) d (unwrap_end e rule side c)
-input_taken {words} {r} {d} e rule side (inr c) = taken_at side r (IsGridDone rule side r) (IsGridCut rule side r) (grid_done_spelled rule side r) (grid_cut_spelled rule side r) d (grid_end e rule side c)
+    pub alone_clause : IsWithinInput asked r
+    alone_clause = end_of.0
 
--- ---- `check`
+  pub headline_clause : (rule : RuleKind) (side : ℕ) → IsCommand words rule side → end_status d ≡ 0 → IsDone rule side r
+  headline_clause rule side c zero =
+      let q = (unwrap_is_request words).0 rule side c in
+      let answer = done_clause (Unwrap q.0) q.2 (omega (arith, zero)) in
+      let its : IsDone q.0.rule q.0.side r = if_told r.told _ (λ bytes t. let k = at_told r.told _ bytes t answer.1 in (k.0, (k.1.0.1, k.1.1))) in
+      subst (λ (k : RuleKind). IsDone k side r) q.1.0 (subst (λ (n : ℕ). IsDone q.0.rule n r) q.1.1 its)
 
-module _ (rule : RuleKind) (side : ℕ) (r : Run) where
-  accepted_at : (d : Result ℕ Refusal) → IsCheckEnd rule side r d → end_status d ≡ 0 → IsChecked rule side r Accepted
-  accepted_at (Ok n) (inl e) zero = e.1
-  accepted_at (Ok n) (inr e) zero = let one = e.0 in absurd (omega (arith, zero, one))
-  accepted_at (Err x) e zero = let two = (at_least_two x).0 in absurd (omega (arith, zero, two))
+  pub judged_clause : (rule : RuleKind) (side : ℕ) → IsCheck words rule side → IfSome r.told (λ bytes. (verdict : CheckVerdict) → IsJudged rule side bytes verdict → IsVerdictTold (end_status d) r verdict)
+  judged_clause rule side c =
+      let q = (check_is_request words).0 rule side c in
+      let its = verdict_told q.0 r (end_status d) (done_clause (Check q.0) q.2) in
+      subst (λ (k : RuleKind). IfSome r.told (λ bytes. (verdict : CheckVerdict) → IsJudged k side bytes verdict → IsVerdictTold (end_status d) r verdict)) q.1.0
+      (subst (λ (n : ℕ). IfSome r.told (λ bytes. (verdict : CheckVerdict) → IsJudged q.0.rule n bytes verdict → IsVerdictTold (end_status d) r verdict)) q.1.1 its)
 
-  rejected_at : (d : Result ℕ Refusal) → IsCheckEnd rule side r d → end_status d ≡ 1 → IsRejected rule side r
-  rejected_at (Ok n) (inl e) one = let zero = e.0 in absurd (omega (arith, zero, one))
-  rejected_at (Ok n) (inr e) one = e.1
-  rejected_at (Err x) e one = let two = (at_least_two x).0 in absurd (omega (arith, one, two))
+  pub status : end_status d ≤ 6
+  status = by_end (λ d. end_status d ≤ 6) (λ fault c u k. (refused_status (words_refusal fault)).1) (λ q is n small. omega (arith, small)) (λ q is x h. (refused_status x).1)
 
-  check_refused_at : (d : Result ℕ Refusal) → IsCheckEnd rule side r d → (P : Result ℕ Refusal → Type 0) → P d → 2 ≤ end_status d
-      → (x : Refusal) × ((end_status d ≡ status_of x) × (HasCheckCause rule side r x × P (Err x)))
-  check_refused_at (Ok n) (inl e) P p more = let zero = e.0 in absurd (omega (arith, zero, more))
-  check_refused_at (Ok n) (inr e) P p more = let one = e.0 in absurd (omega (arith, one, more))
-  check_refused_at (Err x) e P p more = (x, (refl, (e, p)))
+  pub words_refused : end_status d ≡ 2 → IsRefused words
+  words_refused = by_end (λ d. end_status d ≡ 2 → IsRefused words) (λ fault c u k two. refused_words words fault c two) (λ q is n small two. absurd (omega (arith, small, two))) (λ q is x h two. absurd ((told_by q r x h).two two))
 
-  check_taken_at : (d : Result ℕ Refusal) → IsCheckEnd rule side r d → IfSome r.told (λ bytes. IsNotCheckable rule side bytes → (end_status d ≡ 3) ⊎ ((end_status d ≡ 4) ⊎ (end_status d ≡ 5)))
-  check_taken_at (Ok n) (inl e) = taken_judged rule side r n Accepted e.1
-  check_taken_at (Ok n) (inr e) = taken_judged rule side r n e.1.0 e.1.1.1
-  check_taken_at (Err x) e = taken_refused rule side r x (status_of x) refl e
+  pub unread : end_status d ≡ 2 → IsUnread r
+  unread = by_end (λ d. end_status d ≡ 2 → IsUnread r) (λ fault c u k two. u) (λ q is n small two. absurd (omega (arith, small, two))) (λ q is x h two. absurd ((told_by q r x h).two two))
 
-  check_complete_at : (d : Result ℕ Refusal) → IsCheckEnd rule side r d → IfSome r.told (λ bytes. IsCheckable rule side bytes → (SourceFailed r → ⊥) → (SinkFailed r → ⊥) → (end_status d ≤ 1) ⊎ (end_status d ≡ 4))
-  check_complete_at (Ok n) (inl e) = let zero = e.0 in complete_done r rule side n (omega (arith, zero))
-  check_complete_at (Ok n) (inr e) = let one = e.0 in complete_done r rule side n (omega (arith, one))
-  check_complete_at (Err x) e = complete_of r rule side x (status_of x) refl e
+  pub words_taken : IsRefused words → (end_status d ≡ 2) ⊎ (end_status d ≡ 4)
+  words_taken refused =
+      by_end (λ d. (end_status d ≡ 2) ⊎ (end_status d ≡ 4)) (λ fault c u k. two_or_four fault) (λ q is n small. absurd ((refused_or_asking words).1 refused (asks_something words q is)))
+      (λ q is x h. absurd ((refused_or_asking words).1 refused (asks_something words q is)))
 
-pub accepted : {words : List (Bor Text)} {r : Run} {d : Result ℕ Refusal} → IsEnd words r d → (rule : RuleKind) (side : ℕ) → IsCheck words rule side → end_status d ≡ 0 → IsChecked rule side r Accepted
-accepted {words} {r} {d} e rule side c = accepted_at rule side r d (check_end e rule side c)
+  pub named : (end_status d ≡ 2 → ⊥) → (end_status d ≡ 4 → ⊥) → AskSomething words
+  named = by_end (λ d. (end_status d ≡ 2 → ⊥) → (end_status d ≡ 4 → ⊥) → AskSomething words) (λ fault c u k two four. elim (two_or_four fault) [ inl e ↦ absurd (two e) | inr e ↦ absurd (four e) ])
+      (λ q is n small two four. asks_something words q is) (λ q is x h two four. asks_something words q is)
 
-pub judged : {words : List (Bor Text)} {r : Run} {d : Result ℕ Refusal} → IsEnd words r d → (rule : RuleKind) (side : ℕ) → IsCheck words rule side
-    → IfSome r.told (λ bytes. (verdict : CheckVerdict) → IsJudged rule side bytes verdict → IsVerdictTold (end_status d) r verdict)
-judged {words} {r} {d} e rule side c = verdict_told rule side r (end_status d) (accepted_at rule side r d (check_end e rule side c)) (rejected_at rule side r d (check_end e rule side c))
+  pub read_fault : end_status d ≡ 5 → SourceFailed r
+  read_fault = by_end (λ d. end_status d ≡ 5 → SourceFailed r) (λ fault c u k five. absurd (not_above fault (omega (arith, five)))) (λ q is n small five. absurd (omega (arith, small, five))) (λ q is x h five. (told_by q r x h).five five)
 
-pub check_refused : {words : List (Bor Text)} {r : Run} {d : Result ℕ Refusal} → IsEnd words r d → (P : Result ℕ Refusal → Type 0) → P d → (rule : RuleKind) (side : ℕ) → IsCheck words rule side → 2 ≤ end_status d
-    → (x : Refusal) × ((end_status d ≡ status_of x) × (HasCheckCause rule side r x × P (Err x)))
-check_refused {words} {r} {d} e P p rule side c = check_refused_at rule side r d (check_end e rule side c) P p
+  pub write_fault : end_status d ≡ 6 → SinkFailed r
+  write_fault = by_end (λ d. end_status d ≡ 6 → SinkFailed r) (λ fault c u k six. absurd (not_above fault (omega (arith, six)))) (λ q is n small six. absurd (omega (arith, small, six))) (λ q is x h six. ((told_by q r x h).six six).0)
 
-pub check_taken : {words : List (Bor Text)} {r : Run} {d : Result ℕ Refusal} → IsEnd words r d → (rule : RuleKind) (side : ℕ) → IsCheck words rule side
-    → IfSome r.told (λ bytes. IsNotCheckable rule side bytes → (end_status d ≡ 3) ⊎ ((end_status d ≡ 4) ⊎ (end_status d ≡ 5)))
-check_taken {words} {r} {d} e rule side c = check_taken_at rule side r d (check_end e rule side c)
+  pub untouched : 2 ≤ end_status d → end_status d ≤ 5 → HasKept r
+  untouched = by_end (λ d. 2 ≤ end_status d → end_status d ≤ 5 → HasKept r) (λ fault c u k two five. k) (λ q is n small two five. absurd (omega (arith, small, two))) (λ q is x h two five. (told_by q r x h).kept five)
 
-pub check_complete : {words : List (Bor Text)} {r : Run} {d : Result ℕ Refusal} → IsEnd words r d → (rule : RuleKind) (side : ℕ) → IsCheck words rule side
-    → IfSome r.told (λ bytes. IsCheckable rule side bytes → (SourceFailed r → ⊥) → (SinkFailed r → ⊥) → (end_status d ≤ 1) ⊎ (end_status d ≡ 4))
-check_complete {words} {r} {d} e rule side c = check_complete_at rule side r d (check_end e rule side c)
-
--- 1 comes from a check alone
-rejected_by : (words : List (Bor Text)) (r : Run) (q : Request) (d : Result ℕ Refusal) → IsRequest words q → IsRequestEnd q r d → end_status d ≡ 1 → ByCheck words (λ rule side. IsRejected rule side r)
-rejected_by words r (Unwrap s) d is e one = absurd (not_one (IsDone s.rule s.side r) (HasSolvingCause s.side r (IsCut s.rule s.side r)) d e one)
-rejected_by words r (Grid s) d is e one = absurd (not_one (IsGridDone s.rule s.side r) (HasSolvingCause s.side r (IsGridCut s.rule s.side r)) d e one)
-rejected_by words r (Check s) d is e one = (s.rule, s.side, (is, rejected_at s.rule s.side r d e one))
-rejected_by words r (Trial t) d is e one =
-    absurd (not_one (IsTrialDone t.seed t.width t.height t.settings.side t.settings.rule r.held r.held_now) (HasTrialCause t.seed t.width t.height t.settings.side t.settings.rule r.held r.held_now r.sink_before r.sink_after) d e.1 one)
-
-pub rejected : {words : List (Bor Text)} {r : Run} {d : Result ℕ Refusal} → IsEnd words r d → end_status d ≡ 1 → ByCheck words (λ rule side. IsRejected rule side r)
-rejected {words} {r} {d} (not_read x unread is) one =
-    let two = (at_least_two x).0 in
-    let same : status_of x ≡ 1 = sym (ap end_status is) ∙ one in
-    absurd (omega (arith, two, same))
-rejected {words} {r} {d} (asked q is e) one = rejected_by words r q d is e one
-
--- ---- words that are refused
-
-words_cause : (words : List (Bor Text)) (x : Refusal) → HasWordsCause words x → (status_of x ≡ 2) ⊎ (status_of x ≡ 4)
-words_cause words refusals.Words h = inl refl
-words_cause words (refusals.Input fault) h = absurd h
-words_cause words (refusals.ReportLine n) h = absurd h
-words_cause words refusals.ReportLong h = absurd h
-words_cause words refusals.Memory h = inr refl
-words_cause words refusals.ReadFault h = absurd h
-words_cause words refusals.WriteFault h = absurd h
-
-not_two : (q : Request) (r : Run) (d : Result ℕ Refusal) → IsRequestEnd q r d → IsAnyEnd r d → end_status d ≡ 2 → ⊥
-not_two q r (Ok n) e small two = omega (arith, small, two)
-not_two q r (Err x) e any two = no_words q r (subst (λ (x : Refusal). IsRequestEnd q r (Err x)) (words_at_two x two) e)
-
-pub words_refused : {words : List (Bor Text)} {r : Run} {d : Result ℕ Refusal} → IsEnd words r d → end_status d ≡ 2 → IsRefused words
-words_refused {words} {r} {d} (not_read x unread is) two = subst (HasWordsCause words) (words_at_two x (sym (ap end_status is) ∙ two)) unread.cause
-words_refused {words} {r} {d} (asked q is e) two = absurd (not_two q r d e (any_end (asked q is e)) two)
-
--- ---- `trial`
-
-module _ (seed width height : ℕ) (rule : RuleKind) (side : ℕ) (r : Run) where
-  abbrev IsLinesDone : Type 0
-  IsLinesDone = IsTrialDone seed width height side rule r.held r.held_now
-
-  abbrev HasLinesCause : Refusal → Type 0
-  HasLinesCause = HasTrialCause seed width height side rule r.held r.held_now r.sink_before r.sink_after
-
-pub trial : {words : List (Bor Text)} {r : Run} {d : Result ℕ Refusal} → IsEnd words r d → (seed width height : ℕ) (rule : RuleKind) (side : ℕ) → IsTrialCommand words seed width height rule side → end_status d ≡ 0
-    → IsTrialDone seed width height side rule r.held r.held_now
-trial {words} {r} {d} e seed width height rule side c = done_at (IsLinesDone seed width height rule side r) (HasLinesCause seed width height rule side r) d (trial_end e seed width height rule side c).1
-
-pub trial_cut : {words : List (Bor Text)} {r : Run} {d : Result ℕ Refusal} → IsEnd words r d → (seed width height : ℕ) (rule : RuleKind) (side : ℕ) → IsTrialCommand words seed width height rule side → end_status d ≡ 6
-    → IsTrialCut seed width height side rule r.held r.held_now
-trial_cut {words} {r} {d} e seed width height rule side c six = (cut_at (IsLinesDone seed width height rule side r) (HasLinesCause seed width height rule side r) d (trial_end e seed width height rule side c).1 six).1
-
--- the statuses of a trial: the words keep the raster within its limits
-statuses : {words : List (Bor Text)} {r : Run} {d : Result ℕ Refusal} → IsEnd words r d → (seed width height : ℕ) (rule : RuleKind) (side : ℕ) → IsTrialCommand words seed width height rule side
-    → (end_status d ≡ 0) ⊎ ((end_status d ≡ 4) ⊎ ((end_status d ≡ 6) × SinkFailed r))
-statuses {words} {r} {d} e seed width height rule side c = go d e (trial_end e seed width height rule side c).1
-  where
-    go : (d : Result ℕ Refusal) → IsEnd words r d → EndsBy (λ status. (status ≡ 0) × IsLinesDone seed width height rule side r) (HasLinesCause seed width height rule side r) d
-        → (end_status d ≡ 0) ⊎ ((end_status d ≡ 4) ⊎ ((end_status d ≡ 6) × SinkFailed r))
-    go (Ok n) e h = inl h.0
-    go (Err refusals.Words) e h = absurd ((refused_or_asking words).1 (words_refused e refl) (inr (inr (inr (seed, width, height, rule, side, c)))))
-    go (Err (refusals.Input fault)) e h = absurd h
-    go (Err (refusals.ReportLine n)) e h = absurd h
-    go (Err refusals.ReportLong) e h = absurd h
-    go (Err refusals.Memory) e h = inr (inl refl)
-    go (Err refusals.ReadFault) e h = absurd h
-    go (Err refusals.WriteFault) e h = inr (inr (refl, h.0))
-
-pub trial_alone : {words : List (Bor Text)} {r : Run} {d : Result ℕ Refusal} → IsEnd words r d → (seed width height : ℕ) (rule : RuleKind) (side : ℕ) → IsTrialCommand words seed width height rule side
-    → IsUnread r × ((end_status d ≡ 0) ⊎ ((end_status d ≡ 4) ⊎ (end_status d ≡ 6)))
-trial_alone {words} {r} {d} e seed width height rule side c = (
-  (trial_end e seed width height rule side c).0,
-  elim (statuses e seed width height rule side c) [
-    | inl zero ↦ inl zero
-    | inr (inl four) ↦ inr (inl four)
-    | inr (inr six) ↦ inr (inr six.0)
-  ],
-)
-
-pub trial_complete : {words : List (Bor Text)} {r : Run} {d : Result ℕ Refusal} → IsEnd words r d → (seed width height : ℕ) (rule : RuleKind) (side : ℕ) → IsTrialCommand words seed width height rule side → (SinkFailed r → ⊥)
-    → (end_status d ≡ 0) ⊎ (end_status d ≡ 4)
-trial_complete {words} {r} {d} e seed width height rule side c no_sink = elim (statuses e seed width height rule side c) [
-  | inl zero ↦ inl zero
-  | inr (inl four) ↦ inr four
-  | inr (inr six) ↦ absurd (no_sink six.1)
-]
-
--- ---- any words
-
-pub words_taken : {words : List (Bor Text)} {r : Run} {d : Result ℕ Refusal} → IsEnd words r d → IsRefused words → (end_status d ≡ 2) ⊎ (end_status d ≡ 4)
-words_taken {words} {r} {d} (not_read x unread is) refused = subst (λ (d : Result ℕ Refusal). (end_status d ≡ 2) ⊎ (end_status d ≡ 4)) (sym is) (words_cause words x unread.cause)
-words_taken {words} {r} {d} (asked q is e) refused = absurd ((refused_or_asking words).1 refused (asks_something words q is))
-
-pub named : {words : List (Bor Text)} {r : Run} {d : Result ℕ Refusal} → IsEnd words r d → (end_status d ≡ 2 → ⊥) → (end_status d ≡ 4 → ⊥) → AskSomething words
-named {words} {r} {d} (not_read x unread is) not_two not_four = elim (words_cause words x unread.cause) [
-  | inl two ↦ absurd (not_two (ap end_status is ∙ two))
-  | inr four ↦ absurd (not_four (ap end_status is ∙ four))
-]
-named {words} {r} {d} (asked q is e) not_two not_four = asks_something words q is
-
-status_at : (r : Run) (d : Result ℕ Refusal) → IsAnyEnd r d → end_status d ≤ 6
-status_at r (Ok n) small = omega (arith, small)
-status_at r (Err x) any = (at_least_two x).1
-
-pub status : {words : List (Bor Text)} {r : Run} {d : Result ℕ Refusal} → IsEnd words r d → end_status d ≤ 6
-status {words} {r} {d} e = status_at r d (any_end e)
-
-unread_at : (r : Run) (d : Result ℕ Refusal) → IsAnyEnd r d → end_status d ≡ 2 → IsUnread r
-unread_at r (Ok n) small two = absurd (omega (arith, small, two))
-unread_at r (Err x) any two = (subst (HasAnyCause r) (words_at_two x two) any).0
-
-pub unread : {words : List (Bor Text)} {r : Run} {d : Result ℕ Refusal} → IsEnd words r d → end_status d ≡ 2 → IsUnread r
-unread {words} {r} {d} e = unread_at r d (any_end e)
-
-read_fault_at : (r : Run) (d : Result ℕ Refusal) → IsAnyEnd r d → end_status d ≡ 5 → SourceFailed r
-read_fault_at r (Ok n) small five = absurd (omega (arith, small, five))
-read_fault_at r (Err x) any five = (subst (HasAnyCause r) (read_fault_at_five x five) any).0
-
-pub read_fault : {words : List (Bor Text)} {r : Run} {d : Result ℕ Refusal} → IsEnd words r d → end_status d ≡ 5 → SourceFailed r
-read_fault {words} {r} {d} e = read_fault_at r d (any_end e)
-
-write_fault_at : (r : Run) (d : Result ℕ Refusal) → IsAnyEnd r d → end_status d ≡ 6 → SinkFailed r
-write_fault_at r (Ok n) small six = absurd (omega (arith, small, six))
-write_fault_at r (Err x) any six = subst (HasAnyCause r) (write_fault_at_six x six) any
-
-pub write_fault : {words : List (Bor Text)} {r : Run} {d : Result ℕ Refusal} → IsEnd words r d → end_status d ≡ 6 → SinkFailed r
-write_fault {words} {r} {d} e = write_fault_at r d (any_end e)
-
-untouched_at : (r : Run) (d : Result ℕ Refusal) → IsAnyEnd r d → 2 ≤ end_status d → end_status d ≤ 5 → r.held_now ≡ r.held
-untouched_at r (Ok n) small two five = absurd (omega (arith, small, two))
-untouched_at r (Err refusals.Words) any two five = any.1
-untouched_at r (Err (refusals.Input fault)) any two five = any
-untouched_at r (Err (refusals.ReportLine n)) any two five = any
-untouched_at r (Err refusals.ReportLong) any two five = any
-untouched_at r (Err refusals.Memory) any two five = any
-untouched_at r (Err refusals.ReadFault) any two five = any.1
-untouched_at r (Err refusals.WriteFault) any two five = absurd (omega (arith, five))
-
-pub untouched : {words : List (Bor Text)} {r : Run} {d : Result ℕ Refusal} → IsEnd words r d → 2 ≤ end_status d → end_status d ≤ 5 → r.held_now ≡ r.held
-untouched {words} {r} {d} e = untouched_at r d (any_end e)
-
-line_at : (r : Run) (d : Result ℕ Refusal) → IsAnyEnd r d → IsLineAt (end_status d) (end_line d)
-line_at r (Ok n) small = inl (small, refl)
-line_at r (Err x) any = inr (x, (refl, refl))
-
-pub line : {words : List (Bor Text)} {r : Run} {d : Result ℕ Refusal} → IsEnd words r d → IsLineAt (end_status d) (end_line d)
-line {words} {r} {d} e = line_at r d (any_end e)
+  pub line : IsLineAt (end_status d) (line_of_end d)
+  line = by_end (λ d. IsLineAt (end_status d) (line_of_end d)) (λ fault c u k. inr (words_refusal fault, (refl, refl))) (λ q is n small. inl (small, refl)) (λ q is x h. inr (x, (refl, refl)))

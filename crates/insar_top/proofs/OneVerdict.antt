@@ -1,11 +1,10 @@
 -- Bytes have one verdict, and it is the one that is told.
-use Rattle.std.proofs.Common.{◌≡◌, ◌≤◌, ℕ, List, [], ap, ◌∙◌, sym, arith}
-use Rattle.std.specs.Prelude.{IfSome, Some}
+use Rattle.std.proofs.Common.{◌≡◌, ◌≢◌, ◌≤◌, ℕ, List, Some, ap, ◌∙◌, sym, subst, inl, inr, arith}
+use Rattle.std.specs.Prelude.{IfSome}
 use Rattle.insar_ports.specs.Bytes.{with_end}
 use Rattle.pgm_planes.specs.Planes.{PlaneOf, plane_of}
 use Rattle.raster_model.specs.declared.plane.Plane.{Plane}
 use Rattle.raster_model.specs.declared.session.Session.{Session}
-use Rattle.raster_model.specs.declared.weights.RuleKind.{RuleKind}
 use Rattle.session_script.specs.declared.session_use.SessionUse.TheVariants.{BeforeReport}
 use Rattle.session_script.specs.Sessions.{IsSameSession, session_of}
 use Rattle.session_script.proofs.SessionAgain.{one_session}
@@ -16,10 +15,12 @@ use Rattle.report_check.specs.declared.verdict.CheckVerdict.TheVariants.{Accepte
 use Rattle.report_check.specs.Same.{IsSameInput, IsSamePlane}
 use Rattle.report_check.proofs.EqualVerdicts.{verdict_is_of_texts}
 use Rattle.report_check.proofs.UniqueLemmas.{reports_have_one_verdict}
-use Rattle.insar_top.specs.Checks.{BytesHaveOneVerdict, IsChecked, IsJudged, IsRejected, IsVerdictTold}
-use Rattle.insar_top.specs.Outcomes.{Run}
+use Rattle.insar_words.specs.declared.request.Request.TheVariants.{Check}
+use Rattle.insar_words.specs.declared.settings.Settings.{Settings}
+use Rattle.insar_top.specs.Answers.{HasAnswered}
+use Rattle.insar_top.specs.Check.{BytesHaveOneVerdict, IsJudged, IsStatusOf, IsVerdictTold}
+use Rattle.insar_top.specs.Run.{Run}
 use Rattle.insar_top.specs.VerdictLines.{verdict_line}
-use Rattle.insar_top.proofs.CheckStatus.{by_status}
 use Rattle.insar_ports.proofs.CallLemmas.{at_told, if_told}
 
 same_plane : (p q : Plane) → plane_of p ≡ plane_of q → IsSamePlane p q
@@ -49,27 +50,28 @@ bytes_have_one_verdict rule side bytes one other a j =
     let reports = reports_unique a.report j.report a.in_range j.in_range same.1 in
     reports_have_one_verdict j.session j.report one other (verdict_is_of_texts a.session j.session a.report j.report one input reports a.verdict_is) j.verdict_is
 
-module _ (rule : RuleKind) (side : ℕ) (run : Run) (status : ℕ) (accepted : status ≡ 0 → IsChecked rule side run Accepted) (rejected : status ≡ 1 → IsRejected rule side run) where
-  -- the bytes are judged so, and the sink gained the line
-  abbrev IsJudgedSo : CheckVerdict → List ℕ → Type 0
-  IsJudgedSo verdict bytes = IsJudged rule side bytes verdict × ((run.left ≡ Some []) × (run.held_now ≡ with_end run.held (verdict_line verdict)))
+module _ (settings : Settings) (r : Run) (status : ℕ) (done : status ≤ 1 → HasAnswered (Check settings) r status) where
+  module _ (bytes : List ℕ) (told : r.told ≡ Some bytes) (verdict : CheckVerdict) (judged : IsJudged settings.rule settings.side bytes verdict) where
+    -- the verdict is the one that was answered, and the sink gained its line
+    its : status ≤ 1 → IsStatusOf verdict status × (r.held_now ≡ with_end r.held (verdict_line verdict))
+    its small =
+        let k = at_told r.told _ bytes told (done small).1 in
+        let answer = k.1.0 in
+        let same : answer.verdict ≡ verdict = bytes_have_one_verdict settings.rule settings.side bytes answer.verdict verdict answer.judged judged in (
+          subst (λ (v : CheckVerdict). IsStatusOf v status) same answer.status_is,
+          k.1.1.1 ∙ ap (with_end r.held) (answer.line ∙ ap verdict_line same),
+        )
 
-  module _ (bytes : List ℕ) (told : run.told ≡ Some bytes) (verdict : CheckVerdict) (judged : IsJudged rule side bytes verdict) where
-    at_zero : status ≡ 0 → verdict ≡ Accepted
-    at_zero zero = bytes_have_one_verdict rule side bytes verdict Accepted judged (at_told run.told (IsJudgedSo Accepted) bytes told (accepted zero)).0
+    at_zero : status ≡ 0 → IsStatusOf verdict status → verdict ≡ Accepted
+    at_zero zero (inl e) = e.0
+    at_zero zero (inr e) = let one = e.1 in absurd (omega (arith, zero, one))
 
-    at_one : (one : status ≡ 1) → verdict ≡ (rejected one).0
-    at_one one = bytes_have_one_verdict rule side bytes verdict (rejected one).0 judged (at_told run.told (IsJudgedSo (rejected one).0) bytes told (rejected one).1.1).0
+    at_one : status ≡ 1 → IsStatusOf verdict status → verdict ≢ Accepted
+    at_one one (inl e) = let zero = e.1 in absurd (omega (arith, zero, one))
+    at_one one (inr e) = e.0
 
-    line_of_verdict : status ≤ 1 → run.held_now ≡ with_end run.held (verdict_line verdict)
-    line_of_verdict small =
-        by_status status (run.held_now ≡ with_end run.held (verdict_line verdict))
-        (λ zero. (at_told run.told (IsJudgedSo Accepted) bytes told (accepted zero)).1.1 ∙ ap (λ (v : CheckVerdict). with_end run.held (verdict_line v)) (sym (at_zero zero)))
-        (λ one. (at_told run.told (IsJudgedSo (rejected one).0) bytes told (rejected one).1.1).1.1 ∙ ap (λ (v : CheckVerdict). with_end run.held (verdict_line v)) (sym (at_one one)))
-        (λ more. absurd (omega (arith, small, more)))
-
-  pub verdict_told : IfSome run.told (λ bytes. (verdict : CheckVerdict) → IsJudged rule side bytes verdict → IsVerdictTold status run verdict)
-  verdict_told = if_told run.told (λ bytes. (verdict : CheckVerdict) → IsJudged rule side bytes verdict → IsVerdictTold status run verdict) (λ bytes told verdict judged. (
-    at_zero bytes told verdict judged,
-    (λ one is. (rejected one).1.0 (sym (at_one bytes told verdict judged one) ∙ is), line_of_verdict bytes told verdict judged),
+  pub verdict_told : IfSome r.told (λ bytes. (verdict : CheckVerdict) → IsJudged settings.rule settings.side bytes verdict → IsVerdictTold status r verdict)
+  verdict_told = if_told r.told _ (λ bytes told verdict judged. (
+    (λ zero. at_zero bytes told verdict judged zero (its bytes told verdict judged (omega (arith, zero))).0),
+    ((λ one. at_one bytes told verdict judged one (its bytes told verdict judged (omega (arith, one))).0), (λ small. (its bytes told verdict judged small).1)),
   ))

@@ -1,8 +1,9 @@
 -- Counts that grow by one, and the least cost of the tiles.
-use Rattle.std.proofs.Common.{◌≡◌, ◌∙◌, ℕ, ◌+◌, ◌<◌, ◌≤◌, List, Bool, true, false, refl, sym, ap, subst, arith}
+use Rattle.std.proofs.Common.{◌≡◌, ◌∙◌, ◌==◌, ℕ, ◌+◌, ◌≤◌, List, Bool, true, false, refl, sym, ap, subst, arith, of_z, w32}
+use Rattle.std.specs.Int.{from_bool}
 use Rattle.std.specs.Prelude.{ℤ, pos, ◌≤ℤ◌, not, unsigned_abs}
 use Rattle.std.specs.Ordering.{int_eq}
-use Rattle.std.proofs.lemmas.Bool.Decides.{Decides-int_eq}
+use Rattle.std.proofs.lemmas.Bool.Decides.{Decides-eqb, Decides-int_eq, same_from_decides}
 use Rattle.std.proofs.lemmas.Int.{ints}
 use Rattle.raster_model.specs.declared.session.Session.{Session}
 use Rattle.raster_model.specs.Best.{tiles_cost}
@@ -18,7 +19,7 @@ use Rattle.tile_board.specs.declared.entry.Entry.{Entry}
 use Rattle.tile_board.specs.Boards.{IsSurfaceOf}
 use Rattle.tile_board.specs.Histories.{mask_in}
 use Rattle.report_text.proofs.CertifiedLemmas.{surface_is_certified}
-use Rattle.insar_top.specs.TrialLines.{IsLeastCost, IsLeastInTiles}
+use Rattle.insar_top.specs.Trial.{IsLeastCost, IsLeastInTiles}
 use Rattle.sums_and_lists.specs.Sums.{count_below, one_if}
 use Rattle.sums_and_lists.proofs.CountLemmas.{count_below-more}
 use Rattle.sums_and_lists.proofs.SumLemmas.{sum_below-same}
@@ -28,21 +29,25 @@ use Rattle.sums_and_lists.proofs.SumLemmas.{sum_below-same}
 pub count_next : (n : ℕ) (f : ℕ → ℕ) (count next : ℕ) → count ≡ count_below n f → next ≡ count + f n → next ≡ count_below (n + 1) f
 count_next n f count next was is = is ∙ ap (λ (k : ℕ). k + f n) was ∙ sym (count_below-more n f)
 
-pub one_there : (b : Bool) → b ≡ true → one_if b ≡ 1
-one_there b e = ap one_if e
+byte_is : (b : Bool) → from_bool b ≡ one_if b
+byte_is true = refl
+byte_is false = refl
 
-pub none_there : (b : Bool) → b ≡ false → one_if b ≡ 0
-none_there b e = ap one_if e
+at_most_one : (b : Bool) → one_if b ≤ 1
+at_most_one true = omega arith
+at_most_one false = omega arith
 
-tested : (b : Bool) → (b ≡ true → ⊥) → b ≡ false
-tested true h = absurd (h refl)
-tested false h = refl
+-- one more place of a row is counted where it passes the test
+pub row_next : (x : ℕ) (test : ℕ → Bool) (count more : ℕ) (seen : Bool) → count ≡ count_below x (λ k. one_if (test k)) → count ≤ x → more ≡ from_bool seen → seen ≡ test x → (count + more ≡ count_below (x + 1) (λ k. one_if (test k))) × (count + more ≤ x + 1)
+row_next x test count more seen was few is same =
+    let one : more ≡ one_if (test x) = is ∙ byte_is seen ∙ ap one_if same in
+    (count_next x (λ k. one_if (test k)) count (count + more) was (ap (λ (n : ℕ). count + n) one), (let small = at_most_one (test x) in omega (arith, few, one, small)))
 
-pub residue_seen : (z : ℤ) → (z ≡ pos 0 → ⊥) → one_if (not (int_eq z (pos 0))) ≡ 1
-residue_seen z some = ap (λ (b : Bool). one_if (not b)) (tested (int_eq z (pos 0)) (λ e. some ((Decides-int_eq z (pos 0)).0 e)))
-
-pub residue_none : (z : ℤ) → z ≡ pos 0 → one_if (not (int_eq z (pos 0))) ≡ 0
-residue_none z none = ap (λ (b : Bool). one_if (not b)) ((Decides-int_eq z (pos 0)).1 none)
+-- a small residue is 0 where its 32 bits are
+pub residue_test : (z : ℤ) → unsigned_abs z ≤ 1 → not (of_z w32 z == 0) ≡ not (int_eq z (pos 0))
+residue_test z small =
+    let bits = Decides-eqb (of_z w32 z) 0 in
+    ap not (same_from_decides (of_z w32 z == 0) (int_eq z (pos 0)) ((λ e. (let none = bits.0 e in omega (arith, ints, none, small))), (λ e. bits.1 (ap (of_z w32) e))) (Decides-int_eq z (pos 0)))
 
 -- ---- the least cost
 

@@ -1,11 +1,10 @@
 -- A trial's session, what is written of it, and that its words determine the text.
-use Rattle.std.proofs.Common.{◌≡◌, ◌∙◌, ℕ, zero, suc, ◌+◌, ◌*◌, ◌/◌, ◌%◌, ◌<◌, ◌≤◌, Bool, false, true, List, [], ◌∷◌, Option, Some, length, map, refl, sym, ap, ap₂, subst, arith}
-use Rattle.std.specs.Prelude.{ℤ, pos, IsTrue, ◌≤ℤ◌, slice_index}
+use Rattle.std.proofs.Common.{◌≡◌, ◌∙◌, ℕ, zero, suc, ◌+◌, ◌*◌, ◌/◌, ◌%◌, ◌<◌, Bool, false, true, List, [], ◌∷◌, Some, length, refl, sym, ap, ap₂, subst, arith, true≢false}
+use Rattle.std.specs.Prelude.{ℤ, pos, ◌≤ℤ◌, slice_index}
+use Rattle.std.proofs.lemmas.Bool.Decides.{nat_tests}
 use Rattle.std.proofs.lemmas.Grind.{same_number_lists}
 use Rattle.std.proofs.lemmas.Nat.{div-add-mod', div_below, mod_below}
-use Rattle.insar_ports.specs.Bytes.{with_end, GainsProperPrefix, HasRisen}
-use Rattle.pgm_planes.specs.Planes.{PlaneOf, plane_of}
-use Rattle.raster_model.specs.declared.edge.Edge.{Edge}
+use Rattle.pgm_planes.specs.Planes.{PlaneOf}
 use Rattle.raster_model.specs.declared.plane.Plane.{Plane}
 use Rattle.raster_model.specs.declared.script.Command.TheVariants.{Settle, Show}
 use Rattle.raster_model.specs.declared.script.Script.{Script}
@@ -13,24 +12,27 @@ use Rattle.raster_model.specs.declared.session.Session.{Session}
 use Rattle.raster_model.specs.declared.weights.RuleKind.{RuleKind}
 use Rattle.raster_model.specs.Best.{tiles_cost}
 use Rattle.raster_model.specs.Limits.{is_raster_size}
-use Rattle.raster_model.specs.Masks.{IsMaskOf, open_at}
-use Rattle.raster_model.specs.Planes.{sample_at}
+use Rattle.raster_model.specs.Masks.{open_at}
+use Rattle.raster_model.specs.Planes.{plane_sample}
 use Rattle.raster_model.specs.Raster.{Raster, IsCongruent, tile_cost}
 use Rattle.raster_model.specs.Scene.{raster_of}
 use Rattle.raster_model.specs.Sums.{Field}
-use Rattle.certificates.proofs.CallerLemmas.{tile_cost-same}
 use Rattle.tile_board.specs.declared.entry.Entry.{Entry}
+use Rattle.tile_board.specs.LastSettled.{last_settled, settled_revisions}
+use Rattle.tile_board.proofs.OneScript.{newest_settled}
 use Rattle.tile_board.specs.Histories.{IsComplete, IsLegal, newest_of}
-use Rattle.trial_maker.specs.Trials.{AreTrialScripts, IsTrial, is_open, state_at}
+use Rattle.trial_maker.specs.Trials.{AreTrialScripts, IsTrial}
 use Rattle.report_check.specs.Same.{IsSameInput, IsSamePlane}
 use Rattle.report_check.proofs.EqualSessions.{are_alike}
 use Rattle.surface_snapshots.proofs.SameLemmas.{same_tile_cost}
 use Rattle.trial_maker.specs.declared.fault.TrialFault.{TrialFault}
 use Rattle.trial_maker.specs.declared.fault.TrialFault.TheVariants as trial_faults
-use Rattle.insar_top.specs.Refusals.{refusal_of_trial}
-use Rattle.insar_top.specs.Grids.{last_settled, settled_revisions}
-use Rattle.insar_top.specs.TrialLines.{AreLinesOf, HasTrialCause, IsLeastCost, IsLeastInTiles, IsTrialText, TrialsHaveOneText, count_grid, count_row, four_lines, open_pixels_of, residues_of}
-use Rattle.insar_top.proofs.OneScript.{newest_settled}
+use Rattle.insar_words.specs.declared.request.Request.TheVariants.{Trial}
+use Rattle.insar_words.specs.declared.trial.Trial.{Trial as TrialSession}
+use Rattle.insar_top.specs.Causes.{HasRefusalCause}
+use Rattle.insar_top.specs.Refusals.{trial_refusal}
+use Rattle.insar_top.specs.Run.{HasKept, Run}
+use Rattle.insar_top.specs.Trial.{IsLeastCost, IsLeastInTiles, IsTrialText, TrialsHaveOneText, count_grid, count_row, four_lines, open_pixels_of, residues_of}
 use Rattle.sums_and_lists.specs.Sums.{count_below, one_if}
 use Rattle.sums_and_lists.proofs.SumLemmas.{sum_below-same}
 
@@ -40,8 +42,8 @@ abbrev sample_in : PlaneOf → Field ℕ
 sample_in p x y = slice_index p.samples (y * p.width + x)
 
 -- the board's session is the trial's
-pub trial_again : (seed w h side : ℕ) (rule : RuleKind) (s t : Session) → s ≡ t → IsTrial seed w h side rule t → IsTrial seed w h side rule s
-trial_again seed w h side rule s t same is = subst (IsTrial seed w h side rule) (sym same) is
+pub trial_again : (t : TrialSession) (s made : Session) → s ≡ made → IsTrial t.seed t.width t.height t.settings.side t.settings.rule made → IsTrial t.seed t.width t.height t.settings.side t.settings.rule s
+trial_again t s made same is = subst (IsTrial t.seed t.width t.height t.settings.side t.settings.rule) (sym same) is
 
 one_script : (scripts : List Script) → AreTrialScripts scripts → (script : Script) × ((scripts ≡ script ∷ []) × (script.commands.items ≡ Settle ∷ Show ∷ []))
 one_script [] e = absurd (cc)
@@ -60,26 +62,30 @@ first_published s H scripts legal complete =
 
 -- ---- what is written
 
-pub trial_text : (seed w h side : ℕ) (rule : RuleKind) (s : Session) (pixels residues unmasked cost : ℕ) → IsTrial seed w h side rule s → pixels ≡ s.scene.phase.width * s.scene.phase.height → residues ≡ residues_of (raster_of s.scene) → unmasked ≡ open_pixels_of s → IsLeastCost (raster_of s.scene) (open_at s.first_mask) cost → IsTrialText seed w h side rule (four_lines pixels residues unmasked cost)
-trial_text seed w h side rule s pixels residues unmasked cost made p r u least = record {
+pub trial_text : (t : TrialSession) (s : Session) (pixels residues unmasked cost : ℕ) → IsTrial t.seed t.width t.height t.settings.side t.settings.rule s → pixels ≡ s.scene.phase.width * s.scene.phase.height → residues ≡ residues_of (raster_of s.scene) → unmasked ≡ open_pixels_of s
+    → IsLeastCost (raster_of s.scene) (open_at s.first_mask) cost → IsTrialText t.seed t.width t.height t.settings.side t.settings.rule (four_lines pixels residues unmasked cost)
+trial_text t s pixels residues unmasked cost made p r u least = record {
   session = s;
   made = made;
-  lines = record {
-    cost = cost;
-    least = least;
-    spelled = ap₂ (λ (m n : ℕ). four_lines m n unmasked cost) p r ∙ ap (λ (n : ℕ). four_lines (s.scene.phase.width * s.scene.phase.height) (residues_of (raster_of s.scene)) n cost) u;
-  };
+  lines = record { cost = cost; least = least; spelled = rw (p, r, u) refl };
 }
 
--- no session was made: the raster breaks a limit, or there was no memory
-pub unmade_cause : (seed w h side : ℕ) (rule : RuleKind) (held : Option (List ℕ)) (count : ℕ) (fault : TrialFault) → (fault ≡ trial_faults.Size → is_raster_size w h ≡ false) → HasTrialCause seed w h side rule held held count count (refusal_of_trial fault)
-unmade_cause seed w h side rule held count trial_faults.Size small = (small refl, refl)
-unmade_cause seed w h side rule held count trial_faults.Memory small = refl
+-- the raster of a trial that is asked for breaks no limit, so no session is made for want of memory alone
+raster_fits : (t : TrialSession) → is_raster_size t.width t.height ≡ true
+raster_fits t =
+    let across = t.across in
+    let along = t.along in
+    let few = t.few in
+    grind (arith, nat_tests, across, along, few)
+
+pub unmade_cause : (t : TrialSession) (r : Run) (fault : TrialFault) → HasKept r → (fault ≡ trial_faults.Size → is_raster_size t.width t.height ≡ false) → HasRefusalCause (Trial t) r (trial_refusal fault)
+unmade_cause t r trial_faults.Size kept small = absurd (true≢false (sym (raster_fits t) ∙ small refl))
+unmade_cause t r trial_faults.Memory kept small = (tt, kept)
 
 -- ---- two sessions of the same words
 
 -- the samples of a plane by its pixels
-module _ (p q : Plane) (w h : ℕ) (f : Field ℕ) (sizes : (p.width ≡ w) × ((p.height ≡ h) × ((q.width ≡ w) × (q.height ≡ h)))) (here : (x y : ℕ) → x < w → y < h → sample_at p x y ≡ f x y) (there : (x y : ℕ) → x < w → y < h → sample_at q x y ≡ f x y) where
+module _ (p q : Plane) (w h : ℕ) (f : Field ℕ) (sizes : (p.width ≡ w) × ((p.height ≡ h) × ((q.width ≡ w) × (q.height ≡ h)))) (here : (x y : ℕ) → x < w → y < h → plane_sample p x y ≡ f x y) (there : (x y : ℕ) → x < w → y < h → plane_sample q x y ≡ f x y) where
   counts : (length p.samples.items ≡ w * h) × (length q.samples.items ≡ w * h)
   counts = (
     sym p.samples.ok.0 ∙ p.full ∙ ap₂ ◌*◌ sizes.0 sizes.1.0,

@@ -1,38 +1,52 @@
--- What is written for a session: the headline.
-use Rattle.std.specs.Prelude.{◌≡◌, ℕ, List, []}
-use Rattle.raster_model.specs.declared.session.Session.{Session}
-use Rattle.raster_model.specs.declared.weights.RuleKind.{RuleKind}
-use Rattle.session_script.specs.declared.session_use.SessionUse.TheVariants.{Alone}
-use Rattle.session_script.specs.Sessions.{SessionOf, IsSessionIn, session_of}
-use Rattle.report_text.specs.Certified.{IsCertifiedReport, SurfacesAreBest, history_of}
-use Rattle.report_text.specs.Reports.{ReportOf}
-use Rattle.report_text.specs.Text.{report_text}
-use Rattle.tile_board.specs.Runs.{PublishedRise, ShownAreNewest}
+-- What a request reads and what answers it, for every command.
+use Rattle.std.specs.Prelude.{◌≡◌, ◌≤◌, ℕ, List, [], Option, Some, IfSome, ⊤}
+use Rattle.insar_ports.specs.Bytes.{GainsProperPrefix, with_end}
+use Rattle.insar_words.specs.declared.request.Request.{Request}
+use Rattle.insar_words.specs.declared.request.Request.TheVariants.{Unwrap, Grid, Check, Trial}
+use Rattle.insar_top.specs.Check.{IsCheckable, IsVerdictAnswer}
+use Rattle.insar_top.specs.Grid.{IsGridAnswer}
+use Rattle.insar_top.specs.Run.{IsUnread, Run}
+use Rattle.insar_top.specs.Trial.{IsTrialText}
+use Rattle.insar_top.specs.Unwrap.{IsReportAnswer, IsSomeInput}
 
--- the bytes are the text of a session that stands alone; they are none's
-abbrev pub IsInput : ℕ → List ℕ → SessionOf → Type 0
-IsInput side bytes s = IsSessionIn Alone side bytes s []
+-- the bytes that a request is about, where the source tells them; `trial` is about none
+abbrev pub input_of : Request → Run → Option (List ℕ)
+input_of (Trial trial) r = Some []
+input_of asked r = r.told
 
-abbrev pub IsNoInput : ℕ → List ℕ → Type 0
-IsNoInput side bytes = (s : SessionOf) → IsInput side bytes s → ⊥
+-- nothing of them is left, and `trial` takes nothing
+abbrev pub IsUsedUp : Request → Run → Type 0
+IsUsedUp (Trial trial) r = IsUnread r
+IsUsedUp asked r = r.left ≡ Some []
 
--- they are the text of this session, by a rule of weights and a side of tiles
-pub record IsGiven (rule : RuleKind) (side : ℕ) (bytes : List ℕ) (s : Session) : Type 0 where
-  pub spelled : IsInput side bytes (session_of s)
-  pub rule_is : s.scene.rule ≡ rule
-  pub side_is : s.scene.tiling.side ≡ side
+-- nothing is taken for a request that is about no bytes
+abbrev pub IsWithinInput : Request → Run → Type 0
+IsWithinInput (Trial trial) r = IsUnread r
+IsWithinInput asked r = ⊤
 
--- the report of a session: its history is legal and complete; each surface that it publishes is the best at the mask of its revision, and certified; each time a surface is shown it is the newest
-pub record IsReportOf (s : Session) (v : ReportOf) : Type 0 where
-  pub certified : IsCertifiedReport s v
-  pub best : SurfacesAreBest s v
-  pub newest : ShownAreNewest (history_of v)
-  pub rising : PublishedRise (history_of v)
+-- the bytes are of the form that a request reads
+abbrev pub IsInputTo : Request → List ℕ → Type 0
+IsInputTo (Unwrap settings) bytes = IsSomeInput settings.side bytes
+IsInputTo (Grid settings) bytes = IsSomeInput settings.side bytes
+IsInputTo (Check settings) bytes = IsCheckable settings.side bytes
+IsInputTo (Trial trial) bytes = ⊤
 
--- the text is that of a report of the session that the bytes spell
-pub record IsAnswer (rule : RuleKind) (side : ℕ) (bytes text : List ℕ) : Type 0 where
-  pub session : Session
-  pub report : ReportOf
-  pub given : IsGiven rule side bytes session
-  pub reported : IsReportOf session report
-  pub written : text ≡ report_text report
+-- with this status, the text answers a request that is about these bytes
+abbrev pub IsAnswerTo : Request → List ℕ → ℕ → List ℕ → Type 0
+IsAnswerTo (Unwrap settings) bytes status text = (status ≡ 0) × IsReportAnswer settings.rule settings.side bytes text
+IsAnswerTo (Grid settings) bytes status text = (status ≡ 0) × IsGridAnswer settings.rule settings.side bytes text
+IsAnswerTo (Check settings) bytes status text = IsVerdictAnswer settings.rule settings.side bytes status text
+IsAnswerTo (Trial trial) bytes status text = (status ≡ 0) × IsTrialText trial.seed trial.width trial.height trial.settings.side trial.settings.rule text
+
+-- a request that was done may end with this status: 1 is of `check` alone
+abbrev pub IsDoneStatus : Request → ℕ → Type 0
+IsDoneStatus (Check settings) status = status ≤ 1
+IsDoneStatus asked status = status ≡ 0
+
+-- a request was done with this status: where the bytes are told, a text answers it, nothing is left, and the sink gained exactly the text
+abbrev pub HasAnswered : Request → Run → ℕ → Type 0
+HasAnswered asked r status = IsDoneStatus asked status × IfSome (input_of asked r) (λ bytes. (text : List ℕ) × (IsAnswerTo asked bytes status text × (IsUsedUp asked r × (r.held_now ≡ with_end r.held text))))
+
+-- where the bytes are told, the sink gained a part of a text that answers the request, and not the whole
+abbrev pub HasCutShort : Request → Run → Type 0
+HasCutShort asked r = IfSome (input_of asked r) (λ bytes. (status : ℕ) × (text : List ℕ) × (IsAnswerTo asked bytes status text × GainsProperPrefix r.held text r.held_now))

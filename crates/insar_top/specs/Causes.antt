@@ -1,26 +1,35 @@
--- Why a session is not read.
-use Rattle.std.specs.Prelude.{◌≡◌, ℕ, List, [], Option, Some, IfSome, ⊤}
+-- Why a request is refused, for every command.
+use Rattle.std.specs.Prelude.{ℕ, List, Option, IfSome, ⊤}
 use Rattle.insar_ports.specs.Bytes.{HasRisen}
-use Rattle.pgm_planes.specs.declared.fault.InputFault.{InputFault}
-use Rattle.session_script.specs.declared.session_use.SessionUse.TheVariants.{Alone}
-use Rattle.session_script.specs.Sessions.{HasFault}
 use Rattle.insar_top.specs.declared.refusal.Refusal.{Refusal}
 use Rattle.insar_top.specs.declared.refusal.Refusal.TheVariants as refusals
+use Rattle.insar_words.specs.declared.request.Request.{Request}
+use Rattle.insar_words.specs.declared.request.Request.TheVariants.{Unwrap, Grid, Check, Trial}
+use Rattle.insar_top.specs.Answers.{HasCutShort, IsInputTo, input_of}
+use Rattle.insar_top.specs.Check.{BreaksBoth}
+use Rattle.insar_top.specs.Run.{HasKept, Run, SinkFailed}
+use Rattle.insar_top.specs.Unwrap.{BreaksAlone}
 
--- where the bytes are told, P holds of all of them, and nothing is left
-abbrev pub IsAlone : Option (List ℕ) → Option (List ℕ) → (List ℕ → Type 0) → Type 0
-IsAlone told left P = IfSome told (λ bytes. P bytes × (left ≡ Some []))
+-- the break of the bytes for which a request is refused
+abbrev pub BreaksInput : Request → List ℕ → Refusal → Type 0
+BreaksInput (Unwrap settings) = BreaksAlone settings.side
+BreaksInput (Grid settings) = BreaksAlone settings.side
+BreaksInput (Check settings) = BreaksBoth settings.side
+BreaksInput (Trial trial) = λ bytes refusal. ⊥
 
--- the bytes have this fault as a session that stands alone, in tiles of this side
-abbrev pub HasInputFault : ℕ → List ℕ → InputFault → Type 0
-HasInputFault side bytes fault = HasFault Alone side bytes fault
+-- why bytes are not read: lack of memory, a counted fault of the source, or a break of the bytes where they are told
+abbrev pub HasReadCause : (List ℕ → Refusal → Type 0) → Option (List ℕ) → ℕ → ℕ → Refusal → Type 0
+HasReadCause Breaks told before after refusals.Words = ⊥
+HasReadCause Breaks told before after refusals.Memory = ⊤
+HasReadCause Breaks told before after refusals.ReadFault = HasRisen before after
+HasReadCause Breaks told before after refusals.WriteFault = ⊥
+HasReadCause Breaks told before after broken = IfSome told (λ bytes. Breaks bytes broken)
 
--- the causes that reading has: the bytes, lack of memory, and a fault that was counted
-abbrev pub HasInputCause : ℕ → Option (List ℕ) → ℕ → ℕ → Refusal → Type 0
-HasInputCause side told before after refusals.Words = ⊥
-HasInputCause side told before after (refusals.Input fault) = IfSome told (λ bytes. HasInputFault side bytes fault)
-HasInputCause side told before after (refusals.ReportLine n) = ⊥
-HasInputCause side told before after refusals.ReportLong = ⊥
-HasInputCause side told before after refusals.Memory = ⊤
-HasInputCause side told before after refusals.ReadFault = HasRisen before after
-HasInputCause side told before after refusals.WriteFault = ⊥
+-- why a request is refused: its input is not read, and the sink holds what it held; or a fault of the sink was counted, which gained a part of an answer
+abbrev pub HasRefusalCause : Request → Run → Refusal → Type 0
+HasRefusalCause asked r refusals.WriteFault = SinkFailed r × HasCutShort asked r
+HasRefusalCause asked r refusal = HasReadCause (BreaksInput asked) (input_of asked r) r.source_before r.source_after refusal × HasKept r
+
+-- bytes that have a break are not of the form that the request reads
+abbrev pub BrokenBytesAreNoInput : Type 0
+BrokenBytesAreNoInput = (asked : Request) (bytes : List ℕ) (refusal : Refusal) → BreaksInput asked bytes refusal → IsInputTo asked bytes → ⊥

@@ -2,12 +2,12 @@
 use Rattle.std.specs.Prelude.{ℕ}
 use Rattle.session_script.specs.declared.fault.SessionFault.{SessionFault}
 use Rattle.session_script.specs.declared.fault.SessionFault.TheVariants as session_faults
-use Rattle.report_text.specs.declared.fault.ReportFault.{ReportFault}
-use Rattle.report_text.specs.declared.fault.ReportFault.TheVariants as report_faults
+use Rattle.text_lines.specs.declared.fault.LineFault.{LineFault as ReportFault}
+use Rattle.text_lines.specs.declared.fault.LineFault.TheVariants as report_faults
 use Rattle.trial_maker.specs.declared.fault.TrialFault.{TrialFault}
 use Rattle.trial_maker.specs.declared.fault.TrialFault.TheVariants as trial_faults
-use Rattle.clap.specs.declared.error.ErrorKind.{ErrorKind}
-use Rattle.clap.specs.declared.error.ErrorKind.TheVariants.{OutOfMemory}
+use Rattle.insar_words.specs.declared.fault.WordsFault.{WordsFault}
+use Rattle.insar_words.specs.declared.fault.WordsFault.TheVariants as words_faults
 use Rattle.insar_top.specs.declared.refusal.Refusal.{Refusal}
 use Rattle.insar_top.specs.declared.refusal.Refusal.TheVariants as refusals
 
@@ -20,22 +20,21 @@ status_of refusals.Memory = 4
 status_of refusals.ReadFault = 5
 status_of refusals.WriteFault = 6
 
-abbrev pub refusal_of : SessionFault → Refusal
-refusal_of (session_faults.Input fault) = refusals.Input fault
-refusal_of session_faults.ReadFault = refusals.ReadFault
-refusal_of session_faults.Memory = refusals.Memory
+abbrev pub session_refusal : SessionFault → Refusal
+session_refusal (session_faults.Input fault) = refusals.Input fault
+session_refusal session_faults.ReadFault = refusals.ReadFault
+session_refusal session_faults.Memory = refusals.Memory
 
-abbrev pub refusal_of_report : ReportFault → Refusal
-refusal_of_report (report_faults.Line n) = refusals.ReportLine n
-refusal_of_report report_faults.TooLong = refusals.ReportLong
-refusal_of_report report_faults.ReadFault = refusals.ReadFault
-refusal_of_report report_faults.Memory = refusals.Memory
+abbrev pub report_refusal : ReportFault → Refusal
+report_refusal (report_faults.Line n) = refusals.ReportLine n
+report_refusal report_faults.TooLong = refusals.ReportLong
+report_refusal report_faults.ReadFault = refusals.ReadFault
+report_refusal report_faults.Memory = refusals.Memory
 
-abbrev pub refusal_of_trial : TrialFault → Refusal
-refusal_of_trial trial_faults.Size = refusals.Words
-refusal_of_trial trial_faults.Memory = refusals.Memory
+abbrev pub trial_refusal : TrialFault → Refusal
+trial_refusal trial_faults.Size = refusals.Words
+trial_refusal trial_faults.Memory = refusals.Memory
 
--- by the kind of clap's error
-abbrev pub refusal_of_words : ErrorKind → Refusal
-refusal_of_words OutOfMemory = refusals.Memory
-refusal_of_words kind = refusals.Words
+abbrev pub words_refusal : WordsFault → Refusal
+words_refusal words_faults.Refused = refusals.Words
+words_refusal words_faults.Memory = refusals.Memory

@@ -5,10 +5,10 @@ use Rattle.certificates.specs.declared.verdicts.SeamVerdict.{SeamVerdict}
 use Rattle.certificates.specs.declared.verdicts.SeamVerdict.TheVariants as seam_verdicts
 use Rattle.certificates.specs.declared.verdicts.TileVerdict.{TileVerdict}
 use Rattle.certificates.specs.declared.verdicts.TileVerdict.TheVariants as tile_verdicts
-use Rattle.grid_writer.specs.Numbers.{number_text}
+use Rattle.text_lines.specs.Numbers.{number_text}
 use Rattle.report_check.specs.declared.verdict.CheckVerdict.{CheckVerdict}
 use Rattle.report_check.specs.declared.verdict.CheckVerdict.TheVariants.{Accepted, Header, History, Value, Tile, Seams, TileCost, SeamCost}
-use Rattle.report_text.specs.Text.{field_text}
+use Rattle.text_lines.specs.Text.{field_text}
 
 -- an edge: its direction and its first pixel
 abbrev pub direction : Bool → List ℕ
@@ -39,18 +39,18 @@ seam_words (seam_verdicts.CostDiffers cost bound) = codes " cost" ++ (field_text
 unfoldable pub surface_start : ℕ → List ℕ
 surface_start revision = codes "refused surface" ++ field_text revision
 
-abbrev pub surface_text : ℕ → List ℕ → List ℕ
-surface_text revision words = surface_start revision ++ words
+abbrev pub surface_refused : ℕ → List ℕ → List ℕ
+surface_refused revision words = surface_start revision ++ words
 
 abbrev pub verdict_text : CheckVerdict → List ℕ
 verdict_text Accepted = codes "accepted"
 verdict_text (Header n) = codes "refused header" ++ field_text n
 verdict_text (History n) = codes "refused history" ++ field_text n
-verdict_text (Value revision x y) = surface_text revision (codes " value" ++ (field_text x ++ field_text y))
-verdict_text (Tile revision tile verdict) = surface_text revision (codes " tile" ++ (field_text tile ++ tile_words verdict))
-verdict_text (Seams revision verdict) = surface_text revision (codes " seams" ++ seam_words verdict)
-verdict_text (TileCost revision written counted) = surface_text revision (codes " tilecost" ++ (field_text written ++ field_text counted))
-verdict_text (SeamCost revision written counted) = surface_text revision (codes " seamcost" ++ (field_text written ++ field_text counted))
+verdict_text (Value revision x y) = surface_refused revision (codes " value" ++ (field_text x ++ field_text y))
+verdict_text (Tile revision tile verdict) = surface_refused revision (codes " tile" ++ (field_text tile ++ tile_words verdict))
+verdict_text (Seams revision verdict) = surface_refused revision (codes " seams" ++ seam_words verdict)
+verdict_text (TileCost revision written counted) = surface_refused revision (codes " tilecost" ++ (field_text written ++ field_text counted))
+verdict_text (SeamCost revision written counted) = surface_refused revision (codes " seamcost" ++ (field_text written ++ field_text counted))
 
 -- the line of a verdict
 abbrev pub verdict_line : CheckVerdict → List ℕ

@@ -1,34 +1,48 @@
-ghost use Rattle.raster_model.specs.Limits.{max_session_bytes};
-ghost use Rattle.insar_ports.specs.Bytes.{HasRisen};
 ghost use Rattle.insar_ports.specs.Feeding.{faults_of, handed_of, left_of, limit_of, source_name, source_of};
-ghost use Rattle.insar_top.specs.Checks.{HasCheckCause, HasReadCause, IsChecked, AreRead};
-ghost use Rattle.insar_top.specs.Outcomes.{run_of};
+ghost use Rattle.insar_top.specs.Causes.{HasReadCause};
+ghost use Rattle.insar_top.specs.Check.{AreRead, BreaksBoth, IsStatusOf};
+ghost use Rattle.insar_top.specs.Ends.{IsRequestEnd};
+ghost use Rattle.insar_top.specs.Run.{run_of};
+ghost use Rattle.insar_words.specs.declared.request.Request.TheVariants as requests;
+ghost use Rattle.raster_model.specs.Limits.{max_session_bytes};
 ghost use Rattle.std.specs.Prelude.{◌≡◌, IfErr, IfOk};
 
+mod verdict;
+
+use crate::check::verdict::put_verdict;
 use crate::refusal::Refusal;
-use crate::request::Settings;
-use crate::verdict::put_verdict;
 use insar_ports::{Feed, Sink, Source};
+use insar_words::Settings;
 use raster_model::{MAX_REPORT_BYTES, MAX_SESSION_BYTES, Session};
 use report_check::{CheckVerdict, check_report};
 use report_text::{Report, read_report};
 use session_script::{SessionUse, read_session};
 use std::alloc::Global;
 
-/// Reads a session and then a report, judges the report, and puts the line of the verdict into the sink.
+/// Reads a session and then a report, judges the report, puts the line of the verdict into the sink, and answers the status:
+/// 0 if the report is accepted, and 1 if it is not.
 pub fn run_check<S: Source, K: Sink>(
     alloc: Global,
     settings: Settings,
     source: &mut S,
     sink: &mut K,
-) -> Result<CheckVerdict, Refusal>
-    ensures done { IfOk result (IsChecked settings.rule settings.side (run_of S.left S.faults source.old source.new K.held K.faults sink.old sink.new)) }
-    ensures refused { IfErr result (HasCheckCause settings.rule settings.side (run_of S.left S.faults source.old source.new K.held K.faults sink.old sink.new)) }
+) -> Result<u8, Refusal>
+    ensures { IsRequestEnd (requests.Check settings) (run_of S.left S.faults source.old source.new K.held K.faults sink.old sink.new) result }
 {
     let (session, report) = read_both(alloc, source, settings)?;
     let verdict = check_report(alloc, &session, &report)?;
     put_verdict(sink, verdict)?;
-    Ok(verdict)
+    Ok(status_of(verdict))
+}
+
+/// The exit status of a verdict.
+fn status_of(verdict: CheckVerdict) -> u8
+    ensures { IsStatusOf verdict result }
+{
+    match verdict {
+        CheckVerdict::Accepted => 0,
+        _ => 1,
+    }
 }
 
 /// Reads the session and the report that a source gives one after the other.
@@ -38,7 +52,7 @@ fn read_both<S: Source>(
     settings: Settings,
 ) -> Result<(Session, Report), Refusal>
     ensures read { IfOk result (λ both. AreRead settings.rule settings.side (S.left source.old) (S.left source.new) both.0 both.1) }
-    ensures refused { IfErr result (HasReadCause settings.side (S.left source.old) (S.faults source.old) (S.faults source.new)) }
+    ensures refused { IfErr result (HasReadCause (BreaksBoth settings.side) (S.left source.old) (S.faults source.old) (S.faults source.new)) }
 {
     let mut feed = Feed::new(alloc, source, MAX_SESSION_BYTES)?;
     read_fed(alloc, &mut feed, settings)
@@ -54,7 +68,7 @@ fn read_fed<S: Source>(
     requires limit { limit_of feed.old ≡ max_session_bytes }
     ensures same_source { source_name feed.new ≡ source_name feed.old }
     ensures read { IfOk result (λ both. AreRead settings.rule settings.side (left_of S.left feed.old) (S.left (source_of feed.new)) both.0 both.1) }
-    ensures refused { IfErr result (HasReadCause settings.side (left_of S.left feed.old) (faults_of S.faults feed.old) (faults_of S.faults feed.new)) }
+    ensures refused { IfErr result (HasReadCause (BreaksBoth settings.side) (left_of S.left feed.old) (faults_of S.faults feed.old) (faults_of S.faults feed.new)) }
 {
     let session = read_session(
         alloc,

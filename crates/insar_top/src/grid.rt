@@ -1,25 +1,25 @@
-ghost use Rattle.insar_ports.specs.Bytes.{GainsProperPrefix, HasRisen, with_end};
-ghost use Rattle.insar_top.specs.Grids.{HasGridCause, IsGridDone, last_grid};
-ghost use Rattle.insar_top.specs.Outcomes.{run_of};
+ghost use Rattle.insar_top.specs.Ends.{IsRequestEnd};
+ghost use Rattle.insar_top.specs.Grid.{IsSurfaceGrid, last_grid, last_surface};
+ghost use Rattle.insar_top.specs.Run.{run_of};
+ghost use Rattle.insar_words.specs.declared.request.Request.TheVariants as requests;
 ghost use Rattle.report_text.specs.Certified.{IsCertifiedReport};
 ghost use Rattle.report_text.specs.Reports.{report_of};
-ghost use Rattle.std.specs.Prelude.{◌≡◌, IfErr, OnErr, OnOk};
+ghost use Rattle.text_lines.specs.Adding.{Puts};
 ghost use Rattle.tile_board.specs.Histories.{IsComplete};
 
-use crate::board::finished;
 use crate::refusal::Refusal;
-use crate::request::Settings;
-use crate::session::read_alone;
+use crate::session::solved;
 use grid_writer::write_grid;
 use insar_ports::{Sink, Source, WriteFault};
+use insar_words::Settings;
 use std::alloc::Global;
 use std::sync::Wait;
 use std::thread::Threads;
 use tile_board::Board;
 use tile_workers::Gate;
 
-/// Reads, runs the scripts as the words set it, and writes only the grid of the last published surface; nothing if none
-/// was published.
+/// Reads a session, runs its scripts as the words set it, writes only the grid of the last published surface, or nothing if
+/// none was published, and answers the status 0.
 pub fn run_grid<R: Threads + Wait + Sync, S: Source, K: Sink, G: Gate>(
     rt: &R,
     alloc: Global,
@@ -27,21 +27,18 @@ pub fn run_grid<R: Threads + Wait + Sync, S: Source, K: Sink, G: Gate>(
     source: &mut S,
     sink: &mut K,
     gate: &G,
-) -> Result<(), Refusal>
-    ensures done { OnOk result (IsGridDone settings.rule settings.side (run_of S.left S.faults source.old source.new K.held K.faults sink.old sink.new)) }
-    ensures refused { IfErr result (HasGridCause settings.rule settings.side (run_of S.left S.faults source.old source.new K.held K.faults sink.old sink.new)) }
+) -> Result<u8, Refusal>
+    ensures { IsRequestEnd (requests.Grid settings) (run_of S.left S.faults source.old source.new K.held K.faults sink.old sink.new) result }
 {
-    let session = read_alone(alloc, source, settings)?;
-    let board = finished(rt, alloc, session, settings.workers, gate)?;
+    let board = solved(rt, alloc, settings, source, gate)?;
     write_last_grid(&board, sink)?;
-    Ok(())
+    Ok(0)
 }
 
 /// Writes the grid of the newest published surface, if there is one.
 fn write_last_grid<K: Sink>(board: &Board, sink: &mut K) -> Result<(), WriteFault>
-    ensures written { OnOk result (K.held sink.new ≡ with_end (K.held sink.old) (last_grid (report_of board.now.session board.now.entries board.now.surfaces))) }
-    ensures cut { OnErr result (GainsProperPrefix (K.held sink.old) (last_grid (report_of board.now.session board.now.entries board.now.surfaces)) (K.held sink.new)) }
-    ensures fault { OnErr result (HasRisen (K.faults sink.old) (K.faults sink.new)) }
+    ensures put { Puts (K.held sink.old) (K.faults sink.old) (K.held sink.new) (K.faults sink.new) (last_grid (report_of board.now.session board.now.entries board.now.surfaces)) result }
+    ensures ranges { IsSurfaceGrid board.now.session.scene.phase.width board.now.session.scene.phase.height (last_surface (report_of board.now.session board.now.entries board.now.surfaces)) }
     ensures certified { IsComplete board.now.session board.now.entries → IsCertifiedReport board.now.session (report_of board.now.session board.now.entries board.now.surfaces) }
 {
     match board.snapshots().last() {

@@ -6,15 +6,10 @@ mod check;
 mod diag;
 mod grid;
 pub mod laws;
-mod reading;
 mod refusal;
-mod request;
 mod session;
-mod stated;
-mod summary;
 mod top;
 mod trial;
 mod unwrap;
-mod verdict;
 
 pub use top::{insar, starved};

@@ -1,11 +1,9 @@
 ghost use Rattle.std.specs.Prelude.{◌≡◌};
 ghost use Rattle.insar_top.specs.declared.refusal.Refusal.TheVariants as refusals;
-ghost use Rattle.clap.specs.Words.{kind_of};
-ghost use Rattle.insar_top.specs.Refusals.{refusal_of, refusal_of_report, refusal_of_trial, refusal_of_words, status_of};
+ghost use Rattle.insar_top.specs.Refusals.{report_refusal, session_refusal, status_of, trial_refusal, words_refusal};
 
-use clap::Error;
-use clap::error::ErrorKind;
 use insar_ports::WriteFault;
+use insar_words::WordsFault;
 use pgm_planes::InputFault;
 use report_text::ReportFault;
 use session_script::SessionFault;
@@ -63,7 +61,7 @@ impl From<WriteFault> for Refusal {
 }
 
 impl From<SessionFault> for Refusal {
-    ghost from_gives = { λ fault e. e ≡ refusal_of fault };
+    ghost from_gives = { λ fault e. e ≡ session_refusal fault };
 
     fn from(fault: SessionFault) -> Refusal {
         match fault {
@@ -75,7 +73,7 @@ impl From<SessionFault> for Refusal {
 }
 
 impl From<ReportFault> for Refusal {
-    ghost from_gives = { λ fault e. e ≡ refusal_of_report fault };
+    ghost from_gives = { λ fault e. e ≡ report_refusal fault };
 
     fn from(fault: ReportFault) -> Refusal {
         match fault {
@@ -88,7 +86,7 @@ impl From<ReportFault> for Refusal {
 }
 
 impl From<TrialFault> for Refusal {
-    ghost from_gives = { λ fault e. e ≡ refusal_of_trial fault };
+    ghost from_gives = { λ fault e. e ≡ trial_refusal fault };
 
     fn from(fault: TrialFault) -> Refusal {
         match fault {
@@ -98,13 +96,13 @@ impl From<TrialFault> for Refusal {
     }
 }
 
-impl From<Error> for Refusal {
-    ghost from_gives = { λ error refusal. refusal ≡ refusal_of_words (kind_of error) };
+impl From<WordsFault> for Refusal {
+    ghost from_gives = { λ fault e. e ≡ words_refusal fault };
 
-    fn from(error: Error) -> Refusal {
-        match error.kind() {
-            ErrorKind::OutOfMemory => Refusal::Memory,
-            _ => Refusal::Words,
+    fn from(fault: WordsFault) -> Refusal {
+        match fault {
+            WordsFault::Refused => Refusal::Words,
+            WordsFault::Memory => Refusal::Memory,
         }
     }
 }

@@ -1,15 +1,39 @@
-ghost use Rattle.raster_model.specs.Limits.{max_session_bytes};
 ghost use Rattle.insar_ports.specs.Feeding.{faults_of, handed_of, left_of, limit_of, source_name, source_of};
-ghost use Rattle.insar_top.specs.Answers.{IsGiven};
-ghost use Rattle.insar_top.specs.Causes.{HasInputCause, IsAlone};
+ghost use Rattle.insar_top.specs.Causes.{HasReadCause};
+ghost use Rattle.insar_top.specs.Run.{ReadsAll};
+ghost use Rattle.insar_top.specs.Unwrap.{BreaksAlone, IsGiven};
+ghost use Rattle.raster_model.specs.Limits.{max_session_bytes};
 ghost use Rattle.std.specs.Prelude.{◌≡◌, IfErr, IfOk};
+ghost use Rattle.tile_board.specs.Histories.{IsComplete};
 
+use crate::board::finished;
 use crate::refusal::Refusal;
-use crate::request::Settings;
 use insar_ports::{Feed, Source};
+use insar_words::Settings;
 use raster_model::{MAX_SESSION_BYTES, Session};
 use session_script::{SessionUse, read_session};
 use std::alloc::Global;
+use std::sync::Wait;
+use std::thread::Threads;
+use tile_board::Board;
+use tile_workers::Gate;
+
+/// The board of the session that a source gives, on which every script is done. After the session the source ends.
+pub fn solved<R: Threads + Wait + Sync, S: Source, G: Gate>(
+    rt: &R,
+    alloc: Global,
+    settings: Settings,
+    source: &mut S,
+    gate: &G,
+) -> Result<Board, Refusal>
+    ensures given { IfOk result (λ board. ReadsAll (S.left source.old) (S.left source.new) (λ bytes. IsGiven settings.rule settings.side bytes board.session)) }
+    ensures complete { IfOk result (λ board. IsComplete board.session board.entries) }
+    ensures refused { IfErr result (HasReadCause (BreaksAlone settings.side) (S.left source.old) (S.faults source.old) (S.faults source.new)) }
+{
+    let session = read_alone(alloc, source, settings)?;
+    let board = finished(rt, alloc, session, settings.workers, gate)?;
+    Ok(board)
+}
 
 /// Reads the session that a source gives, after which it ends.
 pub fn read_alone<S: Source>(
@@ -17,8 +41,8 @@ pub fn read_alone<S: Source>(
     source: &mut S,
     settings: Settings,
 ) -> Result<Session, Refusal>
-    ensures read { IfOk result (λ session. IsAlone (S.left source.old) (S.left source.new) (λ bytes. IsGiven settings.rule settings.side bytes session)) }
-    ensures refused { IfErr result (HasInputCause settings.side (S.left source.old) (S.faults source.old) (S.faults source.new)) }
+    ensures given { IfOk result (λ session. ReadsAll (S.left source.old) (S.left source.new) (λ bytes. IsGiven settings.rule settings.side bytes session)) }
+    ensures refused { IfErr result (HasReadCause (BreaksAlone settings.side) (S.left source.old) (S.faults source.old) (S.faults source.new)) }
 {
     let mut feed = Feed::new(alloc, source, MAX_SESSION_BYTES)?;
     read_fed(alloc, &mut feed, settings)
@@ -33,8 +57,8 @@ fn read_fed<S: Source>(
     requires start { handed_of feed.old ≡ 0 }
     requires limit { limit_of feed.old ≡ max_session_bytes }
     ensures same_source { source_name feed.new ≡ source_name feed.old }
-    ensures read { IfOk result (λ session. IsAlone (left_of S.left feed.old) (S.left (source_of feed.new)) (λ bytes. IsGiven settings.rule settings.side bytes session)) }
-    ensures refused { IfErr result (HasInputCause settings.side (left_of S.left feed.old) (faults_of S.faults feed.old) (faults_of S.faults feed.new)) }
+    ensures given { IfOk result (λ session. ReadsAll (left_of S.left feed.old) (S.left (source_of feed.new)) (λ bytes. IsGiven settings.rule settings.side bytes session)) }
+    ensures refused { IfErr result (HasReadCause (BreaksAlone settings.side) (left_of S.left feed.old) (faults_of S.faults feed.old) (faults_of S.faults feed.new)) }
 {
     let session = read_session(alloc, feed, SessionUse::Alone, settings.side, settings.rule)?;
     Ok(session)

@@ -1,18 +1,18 @@
-ghost use Rattle.insar_top.specs.Outcomes.{HasRunCause, IsDone, run_of};
-ghost use Rattle.std.specs.Prelude.{IfErr, OnOk};
+ghost use Rattle.insar_top.specs.Ends.{IsRequestEnd};
+ghost use Rattle.insar_top.specs.Run.{run_of};
+ghost use Rattle.insar_words.specs.declared.request.Request.TheVariants as requests;
 
-use crate::board::finished;
 use crate::refusal::Refusal;
-use crate::request::Settings;
-use crate::session::read_alone;
+use crate::session::solved;
 use insar_ports::{Sink, Source};
+use insar_words::Settings;
 use report_text::write_report;
 use std::alloc::Global;
 use std::sync::Wait;
 use std::thread::Threads;
 use tile_workers::Gate;
 
-/// Reads, runs the scripts as the words set it, and writes the report.
+/// Reads a session, runs its scripts as the words set it, writes the report, and answers the status 0.
 pub fn run_unwrap<R: Threads + Wait + Sync, S: Source, K: Sink, G: Gate>(
     rt: &R,
     alloc: Global,
@@ -20,12 +20,10 @@ pub fn run_unwrap<R: Threads + Wait + Sync, S: Source, K: Sink, G: Gate>(
     source: &mut S,
     sink: &mut K,
     gate: &G,
-) -> Result<(), Refusal>
-    ensures done { OnOk result (IsDone settings.rule settings.side (run_of S.left S.faults source.old source.new K.held K.faults sink.old sink.new)) }
-    ensures refused { IfErr result (HasRunCause settings.rule settings.side (run_of S.left S.faults source.old source.new K.held K.faults sink.old sink.new)) }
+) -> Result<u8, Refusal>
+    ensures { IsRequestEnd (requests.Unwrap settings) (run_of S.left S.faults source.old source.new K.held K.faults sink.old sink.new) result }
 {
-    let session = read_alone(alloc, source, settings)?;
-    let board = finished(rt, alloc, session, settings.workers, gate)?;
+    let board = solved(rt, alloc, settings, source, gate)?;
     write_report(&board, sink)?;
-    Ok(())
+    Ok(0)
 }

@@ -1,33 +1,30 @@
 use Rattle.std.proofs.Common.{refl}
 use Rattle.std.proofs.lemmas.Result.{err_from_is_err_and}
 use Rattle.report_text.specs.Reports.{report_of}
-use Rattle.insar_top.specs.Grids.{IsGridCut}
-use Rattle.insar_top.specs.Outcomes.{Run, run_of}
-use Rattle.insar_top.proofs.BoardLemmas.{read_again}
-use Rattle.insar_top.proofs.GridLemmas.{grid_cut, grid_done}
-use Rattle.insar_top.proofs.TopLemmas.{input_cause, is_report}
+use Rattle.insar_words.specs.declared.request.Request.TheVariants.{Grid}
+use Rattle.insar_top.specs.Grid.{last_grid}
+use Rattle.insar_top.specs.Run.{Run, run_of}
+use Rattle.insar_top.proofs.AnswerLemmas.{answered, cut_short, read_cause}
+use Rattle.insar_top.proofs.UnwrapLemmas.{grid_ready, is_report}
 use Rattle.insar_top.proofs.grid.run_grid.Goals as goal
 
-pub returns-clause-done : goal.returns-clause-done
-returns-clause-done g c =
-    let b = c.in_ok-board.board in
-    let run : Run = run_of g.S.Source.left g.S.Source.faults c.args.source.now c.read_alone.new.source g.K.Sink.held g.K.Sink.faults c.args.sink.now c.write_last_grid.new.sink in
-    grid_done c.args.settings.rule c.args.settings.side run b.session (report_of b.session b.entries b.surfaces) (read_again _ _ _ _ _ _ c.in_ok-board.ensures.session c.in_ok-session.ensures.read)
-    (is_report b b.session refl (c.write_last_grid.ensures.certified c.in_ok-board.ensures.complete)) c.in_ok-write_last_grid.ensures.written
-
-pub returns-in_err-session-clause-refused : goal.returns-in_err-session-clause-refused
-returns-in_err-session-clause-refused g c =
+pub returns-in_err-board : goal.returns-in_err-board
+returns-in_err-board g c =
     let p = err_from_is_err_and c.from_residual.result c.from_residual.ensures.1 in
-    let run : Run = run_of g.S.Source.left g.S.Source.faults c.args.source.now c.read_alone.new.source g.K.Sink.held g.K.Sink.faults c.args.sink.now c.args.sink.now in
-    rw (p.1, p.2) (input_cause c.args.settings.side run (IsGridCut c.args.settings.rule c.args.settings.side run) c.in_err-session.field-0.0 refl c.in_err-session.ensures.refused)
+    let run : Run = run_of g.S.Source.left g.S.Source.faults c.args.source.now c.solved.new.source g.K.Sink.held g.K.Sink.faults c.args.sink.now c.args.sink.now in
+    rw (p.1, p.2) (tt, read_cause (Grid c.args.settings) run c.in_err-board.field-0.0 refl c.in_err-board.ensures.refused)
 
-pub returns-in_err-write_last_grid-clause-refused : goal.returns-in_err-write_last_grid-clause-refused
-returns-in_err-write_last_grid-clause-refused g c =
+pub returns-in_err-write_last_grid : goal.returns-in_err-write_last_grid
+returns-in_err-write_last_grid g c =
     let p = err_from_is_err_and c.from_residual-in_err-write_last_grid.result c.from_residual-in_err-write_last_grid.ensures.1 in
     let b = c.in_ok-board.board in
-    let run : Run = run_of g.S.Source.left g.S.Source.faults c.args.source.now c.read_alone.new.source g.K.Sink.held g.K.Sink.faults c.args.sink.now c.write_last_grid.new.sink in
-    rw (p.1, p.2) (
-      c.in_err-write_last_grid.ensures.fault,
-      grid_cut c.args.settings.rule c.args.settings.side run b.session (report_of b.session b.entries b.surfaces) (read_again _ _ _ _ _ _ c.in_ok-board.ensures.session c.in_ok-session.ensures.read)
-          (is_report b b.session refl (c.write_last_grid.ensures.certified c.in_ok-board.ensures.complete)) c.in_err-write_last_grid.ensures.cut,
-    )
+    let run : Run = run_of g.S.Source.left g.S.Source.faults c.args.source.now c.solved.new.source g.K.Sink.held g.K.Sink.faults c.args.sink.now c.write_last_grid.new.sink in
+    let ready = grid_ready c.args.settings run b.session (report_of b.session b.entries b.surfaces) c.in_ok-board.ensures.given (is_report b (c.write_last_grid.ensures.certified c.in_ok-board.ensures.complete)) c.write_last_grid.ensures.ranges in
+    rw (p.1, p.2) (tt, (c.in_err-write_last_grid.ensures.put.fault, cut_short (Grid c.args.settings) run 0 (last_grid (report_of b.session b.entries b.surfaces)) ready c.in_err-write_last_grid.ensures.put.cut))
+
+pub returns : goal.returns
+returns g c =
+    let b = c.in_ok-board.board in
+    let run : Run = run_of g.S.Source.left g.S.Source.faults c.args.source.now c.solved.new.source g.K.Sink.held g.K.Sink.faults c.args.sink.now c.write_last_grid.new.sink in
+    let ready = grid_ready c.args.settings run b.session (report_of b.session b.entries b.surfaces) c.in_ok-board.ensures.given (is_report b (c.write_last_grid.ensures.certified c.in_ok-board.ensures.complete)) c.write_last_grid.ensures.ranges in
+    (tt, answered (Grid c.args.settings) run 0 (last_grid (report_of b.session b.entries b.surfaces)) ready refl c.in_ok-write_last_grid.ensures.put.written)

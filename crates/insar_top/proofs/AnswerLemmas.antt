@@ -1,0 +1,42 @@
+-- From what a command wrote, or why it was refused, to what its request promises.
+use Rattle.std.proofs.Common.{◌≡◌, ◌≤◌, ℕ, List, refl, arith}
+use Rattle.std.specs.Prelude.{IfSome}
+use Rattle.insar_ports.specs.Bytes.{GainsProperPrefix, with_end}
+use Rattle.insar_ports.proofs.CallLemmas.{at_told, if_told}
+use Rattle.session_script.specs.Sessions.{session_of}
+use Rattle.report_text.specs.Text.{report_text}
+use Rattle.insar_words.specs.declared.request.Request.{Request}
+use Rattle.insar_words.specs.declared.request.Request.TheVariants.{Unwrap, Grid, Check, Trial}
+use Rattle.insar_top.specs.declared.refusal.Refusal.{Refusal}
+use Rattle.insar_top.specs.declared.refusal.Refusal.TheVariants as refusals
+use Rattle.insar_top.specs.Answers.{HasAnswered, HasCutShort, IsAnswerTo, IsDoneStatus, IsInputTo, IsUsedUp, IsWithinInput, input_of}
+use Rattle.insar_top.specs.Causes.{BreaksInput, HasReadCause, HasRefusalCause}
+use Rattle.insar_top.specs.Run.{HasKept, IsUnread, Run}
+
+-- the text answers the request, and nothing is left
+module _ (asked : Request) (r : Run) (status : ℕ) (text : List ℕ) (ready : IfSome (input_of asked r) (λ bytes. IsAnswerTo asked bytes status text × IsUsedUp asked r)) where
+  pub answered : IsDoneStatus asked status → r.held_now ≡ with_end r.held text → HasAnswered asked r status
+  answered may e = (may, if_told (input_of asked r) _ (λ bytes t. let k = at_told (input_of asked r) _ bytes t ready in (text, (k.0, (k.1, e)))))
+
+  pub cut_short : GainsProperPrefix r.held text r.held_now → HasCutShort asked r
+  cut_short e = if_told (input_of asked r) _ (λ bytes t. let k = at_told (input_of asked r) _ bytes t ready in (status, text, (k.0, e)))
+
+-- why the input was not read is why the request is refused
+pub read_cause : (asked : Request) (r : Run) (refusal : Refusal) → HasKept r → HasReadCause (BreaksInput asked) (input_of asked r) r.source_before r.source_after refusal → HasRefusalCause asked r refusal
+read_cause asked r refusals.WriteFault kept h = absurd h
+read_cause asked r refusal kept h = (h, kept)
+
+-- what is answered was read
+pub answer_input : (asked : Request) (bytes : List ℕ) (status : ℕ) (text : List ℕ) → IsAnswerTo asked bytes status text → IsInputTo asked bytes
+answer_input (Unwrap settings) bytes status text a = (session_of a.1.session, a.1.given.spelled)
+answer_input (Grid settings) bytes status text a = (session_of a.1.session, a.1.given.spelled)
+answer_input (Check settings) bytes status text a = (session_of a.judged.session, report_text a.judged.report, (a.judged.spelled, ((a.judged.report, (a.judged.in_range, refl)), a.judged.within)))
+answer_input (Trial trial) bytes status text a = tt
+
+pub unread_within : (asked : Request) (r : Run) → IsUnread r → IsWithinInput asked r
+unread_within (Trial trial) r unread = unread
+unread_within asked r unread = tt
+
+pub small_status : (asked : Request) (status : ℕ) → IsDoneStatus asked status → status ≤ 1
+small_status (Check settings) status e = e
+small_status asked status e = omega (arith, e)

@@ -1,0 +1,7 @@
+use Rattle.insar_top.proofs.diag.add_refusal.Goals as goal
+
+pub returns-in-ReportLong : goal.returns-in-ReportLong
+returns-in-ReportLong g c = rw c.in-ReportLong.is c.bytes-in-ReportLong.ensures
+
+pub returns-in-ReadFault : goal.returns-in-ReadFault
+returns-in-ReadFault g c = rw c.in-ReadFault.is c.bytes-in-ReadFault.ensures

@@ -1,5 +1,0 @@
-use Rattle.insar_top.proofs.OneScript.{one_script_tells_the_revision}
-use Rattle.insar_top.proofs.laws.one_script_tells_the_revision.Goals as goal
-
-pub returns : goal.returns
-returns c = one_script_tells_the_revision

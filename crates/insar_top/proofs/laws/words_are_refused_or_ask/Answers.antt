@@ -1,5 +1,0 @@
-use Rattle.insar_top.proofs.RequestLemmas.{refused_or_asking}
-use Rattle.insar_top.proofs.laws.words_are_refused_or_ask.Goals as goal
-
-pub returns : goal.returns
-returns c = refused_or_asking

@@ -1,0 +1,10 @@
+pub mod TakenLemmas
+pub mod PlainLemmas
+pub mod ValueLemmas
+pub mod FormLemmas
+pub mod NamedLemmas
+pub mod ReadLemmas
+pub mod RequestLemmas
+pub mod PairLemmas
+pub mod PlainReads
+pub mod PlainLaws

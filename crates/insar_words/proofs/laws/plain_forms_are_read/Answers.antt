@@ -1,0 +1,6 @@
+use Rattle.insar_words.proofs.PlainLaws.{plain_check, plain_grid, plain_trial, plain_unwrap}
+use Rattle.insar_words.proofs.PlainReads.{plain_forms}
+use Rattle.insar_words.proofs.laws.plain_forms_are_read.Goals as goal
+
+pub returns : goal.returns
+returns c = record { any = plain_forms; unwrap = plain_unwrap; grid = plain_grid; check = plain_check; trial = plain_trial }

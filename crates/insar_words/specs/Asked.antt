@@ -1,0 +1,96 @@
+-- What words ask, by what clap reads of them as the stated command.
+use Rattle.std.specs.Prelude.{◌≡◌, ◌⊎◌, ◌||◌, ◌*◌, ◌<◌, ◌≤◌, ℕ, Bool, true, not, List, [], Option, Some, None, codes, option_map}
+use Rattle.std.specs.Borrow.{Bor}
+use Rattle.std.specs.List.{list_all}
+use Rattle.std.specs.Str.{bytes_eq}
+use Rattle.std.specs.Str.Parse.{digits_value, without_leading_plus}
+use Rattle.clap.specs.Words.{Row, Text, fault_of, first_of, one_of, subcommand_of}
+use Rattle.clap.specs.Walk.{texts}
+use Rattle.raster_model.specs.declared.weights.RuleKind.{RuleKind}
+use Rattle.raster_model.specs.Limits.{max_pixels}
+use Rattle.insar_words.specs.Forms.{CommandForm, Taking, arguments_of, forms, is_among, names, rule_name}
+use Rattle.insar_words.specs.Stated.{stated}
+
+-- the subcommand that the words name, with what clap found for each of its arguments
+abbrev pub asked : List (Bor Text) → Option (Text × List Row)
+asked words = subcommand_of stated (texts words)
+
+-- the number that an argument has, from the words or by default
+abbrev pub number_asked : Text → List Row → Option ℕ
+number_asked id rows = option_map (λ text. digits_value 10 (without_leading_plus text)) (one_of id rows)
+
+-- an argument of names has one of them
+abbrev pub is_named : Taking → Option Text → Bool
+is_named (names all) (Some text) = is_among text all
+is_named taking text = true
+
+abbrev pub has_names : List Row → CommandForm → Bool
+has_names rows form = list_all (λ a. is_named a.takes (first_of a.id rows)) (arguments_of form)
+
+abbrev pub asks_by_names : Option (Text × List Row) → Bool
+asks_by_names None = true
+asks_by_names (Some p) = list_all (λ form. not (bytes_eq form.command p.0) || has_names p.1 form) forms
+
+-- the words are taken: a parse by clap fails only for lack of memory, and each argument of names has one of them
+pub record AreTaken (words : List (Bor Text)) : Type 0 where
+  pub parsed : fault_of stated (texts words) ≡ []
+  pub in_names : asks_by_names (asked words) ≡ true
+
+-- the words ask for this subcommand, by a rule of weights and with tiles of a side
+pub record Asks (command : Text) (words : List (Bor Text)) (rule : RuleKind) (side : ℕ) : Type 0 where
+  pub taken : AreTaken words
+  pub rows : List Row
+  pub named : asked words ≡ Some (command, rows)
+  pub rule_is : first_of (codes "rule") rows ≡ Some (rule_name rule)
+  pub side_is : number_asked (codes "tile") rows ≡ Some side
+
+-- and with this number of workers
+pub record AsksWorkers (command : Text) (words : List (Bor Text)) (rule : RuleKind) (side workers : ℕ) : Type 0 where
+  pub asks : Asks command words rule side
+  pub workers_are : number_asked (codes "workers") asks.rows ≡ Some workers
+
+-- the words ask for `unwrap`, for `grid`, or for `check`
+abbrev pub IsCommand : List (Bor Text) → RuleKind → ℕ → Type 0
+IsCommand words rule side = Asks (codes "unwrap") words rule side
+
+abbrev pub IsGridCommand : List (Bor Text) → RuleKind → ℕ → Type 0
+IsGridCommand words rule side = Asks (codes "grid") words rule side
+
+abbrev pub IsCheck : List (Bor Text) → RuleKind → ℕ → Type 0
+IsCheck words rule side = Asks (codes "check") words rule side
+
+-- the words ask for a test session of any size
+pub record AsksTrial (words : List (Bor Text)) (seed width height : ℕ) (rule : RuleKind) (side : ℕ) : Type 0 where
+  pub asks : Asks (codes "trial") words rule side
+  pub seed_is : number_asked (codes "seed") asks.rows ≡ Some seed
+  pub width_is : number_asked (codes "width") asks.rows ≡ Some width
+  pub height_is : number_asked (codes "height") asks.rows ≡ Some height
+
+-- the words ask for `trial`, with no more pixels than a session may have
+pub record IsTrialCommand (words : List (Bor Text)) (seed width height : ℕ) (rule : RuleKind) (side : ℕ) : Type 0 where
+  pub asks : AsksTrial words seed width height rule side
+  pub pixels : width * height ≤ max_pixels
+
+-- the words ask for a test session with more pixels
+abbrev pub IsTooLarge : List (Bor Text) → Type 0
+IsTooLarge words = (seed : ℕ) × (width : ℕ) × (height : ℕ) × (rule : RuleKind) × (side : ℕ) × (AsksTrial words seed width height rule side × (max_pixels < width * height))
+
+-- the words are refused: they are not taken, or they ask for too many pixels
+abbrev pub IsRefused : List (Bor Text) → Type 0
+IsRefused words = (AreTaken words → ⊥) ⊎ IsTooLarge words
+
+-- words ask for one subcommand at most, with one rule and one side
+abbrev pub OneCommand : Type 0
+OneCommand = (words : List (Bor Text)) (command other : Text) (rule rule_too : RuleKind) (side side_too : ℕ) → Asks command words rule side → Asks other words rule_too side_too → (command ≡ other) × ((rule ≡ rule_too) × (side ≡ side_too))
+
+-- the words ask for one of the four
+abbrev pub AskSomething : List (Bor Text) → Type 0
+AskSomething words =
+    ((rule : RuleKind) × (side : ℕ) × IsCommand words rule side)
+    ⊎ (((rule : RuleKind) × (side : ℕ) × IsGridCommand words rule side)
+    ⊎ (((rule : RuleKind) × (side : ℕ) × IsCheck words rule side)
+    ⊎ ((seed : ℕ) × (width : ℕ) × (height : ℕ) × (rule : RuleKind) × (side : ℕ) × IsTrialCommand words seed width height rule side)))
+
+-- words are refused or ask for something, and never both
+abbrev pub RefusedOrAsking : Type 0
+RefusedOrAsking = (words : List (Bor Text)) → (IsRefused words ⊎ AskSomething words) × (IsRefused words → AskSomething words → ⊥)

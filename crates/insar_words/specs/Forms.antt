@@ -1,0 +1,108 @@
+-- The commands, each with its arguments, as a table: the stated command, what words ask for and plain forms are made from it.
+use Rattle.std.specs.Prelude.{◌⊎◌, ◌&&◌, ◌^◌, ℕ, Bool, false, List, [], ◌∷◌, ◌++◌, Option, Some, None, codes, decimal, map, nat_le, nat_lt}
+use Rattle.std.specs.List.{list_any}
+use Rattle.std.specs.Str.{bytes_eq}
+use Rattle.clap.specs.Words.{Text}
+use Rattle.raster_model.specs.declared.weights.RuleKind.{RuleKind}
+use Rattle.raster_model.specs.declared.weights.RuleKind.TheVariants.{Least, Mean, Product}
+
+-- the value of an argument, and its text
+pub data Value : Type 0 where
+  number : ℕ → Value
+  name : Text → Value
+
+abbrev pub word_of : Value → Text
+word_of (number n) = decimal n
+word_of (name text) = text
+
+-- what an argument takes: a number from a least to a most, any number below 2 ^ 64, or one of some names
+pub data Taking : Type 0 where
+  numbers : ℕ → ℕ → Taking
+  any_number : Taking
+  names : List Text → Taking
+
+abbrev pub is_among : Text → List Text → Bool
+is_among text all = list_any (λ each. bytes_eq each text) all
+
+-- it takes the value
+abbrev pub fits : Taking → Value → Bool
+fits (numbers least most) (number n) = nat_le least n && nat_le n most
+fits any_number (number n) = nat_lt n (2 ^ 64)
+fits (names all) (name text) = is_among text all
+fits taking value = false
+
+-- an argument: its name, what it takes, and its default; without one it must be given
+pub record Argument : Type 0 where
+  pub id : Text
+  pub takes : Taking
+  pub default : Option Value
+
+-- a command: its name, its positionals in order, and its options
+pub record CommandForm : Type 0 where
+  pub command : Text
+  pub positionals : List Argument
+  pub options : List Argument
+
+abbrev pub arguments_of : CommandForm → List Argument
+arguments_of form = form.positionals ++ form.options
+
+-- the names of the rules of weights
+abbrev pub rule_name : RuleKind → Text
+rule_name Least = codes "least"
+rule_name Mean = codes "mean"
+rule_name Product = codes "product"
+
+abbrev pub rule_names : List Text
+rule_names = map rule_name (Least ∷ Mean ∷ Product ∷ [])
+
+-- ---- arguments
+
+abbrev pub tile_entry : Argument
+tile_entry = record { id = codes "tile"; takes = numbers 2 128; default = Some (number 64) }
+
+abbrev pub rule_entry : Argument
+rule_entry = record { id = codes "rule"; takes = names rule_names; default = Some (name (rule_name Least)) }
+
+abbrev pub workers_entry : Argument
+workers_entry = record { id = codes "workers"; takes = numbers 1 8; default = Some (number 2) }
+
+abbrev pub seed_entry : Argument
+seed_entry = record { id = codes "seed"; takes = any_number; default = None }
+
+abbrev pub width_entry : Argument
+width_entry = record { id = codes "width"; takes = numbers 1 4096; default = None }
+
+abbrev pub height_entry : Argument
+height_entry = record { id = codes "height"; takes = numbers 1 4096; default = None }
+
+-- what is asked of a check, of a run, and of a test session besides
+abbrev pub checking : List Argument
+checking = tile_entry ∷ rule_entry ∷ []
+
+abbrev pub solving : List Argument
+solving = tile_entry ∷ rule_entry ∷ workers_entry ∷ []
+
+abbrev pub drawing : List Argument
+drawing = seed_entry ∷ width_entry ∷ height_entry ∷ []
+
+-- ---- commands
+
+abbrev pub unwrap_form : CommandForm
+unwrap_form = record { command = codes "unwrap"; positionals = []; options = solving }
+
+abbrev pub grid_form : CommandForm
+grid_form = record { command = codes "grid"; positionals = []; options = solving }
+
+abbrev pub check_form : CommandForm
+check_form = record { command = codes "check"; positionals = []; options = checking }
+
+abbrev pub trial_form : CommandForm
+trial_form = record { command = codes "trial"; positionals = drawing; options = solving }
+
+abbrev pub forms : List CommandForm
+forms = unwrap_form ∷ grid_form ∷ check_form ∷ trial_form ∷ []
+
+-- P holds of one of the forms
+abbrev pub OfOne : (CommandForm → Type 0) → List CommandForm → Type 0
+OfOne P [] = ⊥
+OfOne P (form ∷ rest) = P form ⊎ OfOne P rest

@@ -1,0 +1,121 @@
+-- Words in plain form: the command, its positionals, and then pairs `--name value`, each name at most once.
+use Rattle.std.specs.Prelude.{◌≡◌, ◌≢◌, ◌*◌, ◌<◌, ◌≤◌, ◌&&◌, ◌^◌, ℕ, Bool, true, false, if◌then◌else◌, List, [], ◌∷◌, ◌++◌, Option, Some, None, codes, decimal, is_some, map, ⊤}
+use Rattle.std.specs.Borrow.{Bor}
+use Rattle.std.specs.List.{find, list_all}
+use Rattle.std.specs.Option.{option_map_or}
+use Rattle.std.specs.Str.{bytes_eq}
+use Rattle.clap.specs.Words.{Row, Text, first_of}
+use Rattle.clap.specs.Walk.{texts}
+use Rattle.raster_model.specs.declared.weights.RuleKind.{RuleKind}
+use Rattle.raster_model.specs.declared.weights.RuleKind.TheVariants.{Least, Mean, Product}
+use Rattle.raster_model.specs.Limits.{max_pixels}
+use Rattle.insar_words.specs.Asked.{AreTaken, AsksWorkers, IsCheck, IsTrialCommand, asked, number_asked}
+use Rattle.insar_words.specs.Forms.{Argument, CommandForm, OfOne, Value, checking, fits, forms, name, number, rule_entry, solving, tile_entry, word_of, workers_entry}
+use Rattle.insar_words.specs.Limits.{IsTrialSide}
+
+-- what one pair sets: an option by its name, to a value
+abbrev pub Setting : Type 0
+Setting = Text × Value
+
+-- pairs `--name value`, one after another
+abbrev pub pairs : List Setting → List Text
+pairs [] = []
+pairs (s ∷ rest) = (codes "--" ++ s.0) ∷ word_of s.1 ∷ pairs rest
+
+-- no pair has this name
+abbrev pub IsUnset : Text → List Setting → Type 0
+IsUnset id [] = ⊤
+IsUnset id (s ∷ rest) = (s.0 ≢ id) × IsUnset id rest
+
+-- each name stands at most once
+abbrev pub EachOnce : List Setting → Type 0
+EachOnce [] = ⊤
+EachOnce (s ∷ rest) = IsUnset s.0 rest × EachOnce rest
+
+-- the pair names one of the options, and gives it a value that it takes
+abbrev pub option_named : List Argument → Text → Option Argument
+option_named options id = find (λ a. bytes_eq a.id id) options
+
+abbrev pub is_setting : List Argument → Setting → Bool
+is_setting options s = option_map_or (λ a. fits a.takes s.1) (option_named options s.0) false
+
+-- the value that pairs give an option, or its default
+abbrev pub set_to : Argument → List Setting → Option Value
+set_to a [] = a.default
+set_to a (s ∷ rest) = if bytes_eq s.0 a.id then Some s.1 else set_to a rest
+
+-- the pairs may stand for these options: each name at most once, each value taken, and all is given that must be
+pub record ArePlain (options : List Argument) (settings : List Setting) : Type 0 where
+  pub once : EachOnce settings
+  pub taken : list_all (is_setting options) settings ≡ true
+  pub given : list_all (λ a. is_some (set_to a settings)) options ≡ true
+
+-- the values may stand for the positionals
+abbrev pub are_values : List Argument → List Value → Bool
+are_values [] [] = true
+are_values (a ∷ rest) (v ∷ values) = fits a.takes v && are_values rest values
+are_values positionals values = false
+
+-- the matches have this value
+abbrev pub Has : List Row → Text → Option Value → Type 0
+Has rows id None = ⊥
+Has rows id (Some (number n)) = number_asked id rows ≡ Some n
+Has rows id (Some (name text)) = first_of id rows ≡ Some text
+
+abbrev pub HasGiven : List Row → List Argument → List Value → Type 0
+HasGiven rows (a ∷ rest) (v ∷ values) = Has rows a.id (Some v) × HasGiven rows rest values
+HasGiven rows positionals values = ⊤
+
+abbrev pub HasSet : List Row → List Argument → List Setting → Type 0
+HasSet rows [] settings = ⊤
+HasSet rows (a ∷ rest) settings = Has rows a.id (set_to a settings) × HasSet rows rest settings
+
+-- the words are read as this command, with these values and settings
+pub record IsPlainlyRead (form : CommandForm) (words : List (Bor Text)) (values : List Value) (settings : List Setting) : Type 0 where
+  pub taken : AreTaken words
+  pub rows : List Row
+  pub named : asked words ≡ Some (form.command, rows)
+  pub positionals : HasGiven rows form.positionals values
+  pub options : HasSet rows form.options settings
+
+-- a command of the table, its positionals and its pairs are read, and ask just what they say
+abbrev pub PlainFormsAreRead : Type 0
+PlainFormsAreRead = (words : List (Bor Text)) (form : CommandForm) (values : List Value) (settings : List Setting) → OfOne (λ each. form ≡ each) forms → are_values form.positionals values ≡ true → ArePlain form.options settings
+    → texts words ≡ form.command ∷ (map word_of values ++ pairs settings) → IsPlainlyRead form words values settings
+
+-- ---- the commands of today
+
+-- the number that pairs set
+abbrev pub number_in_value : Option Value → ℕ
+number_in_value (Some (number n)) = n
+number_in_value other = 0
+
+abbrev pub side_set : List Setting → ℕ
+side_set settings = number_in_value (set_to tile_entry settings)
+
+abbrev pub workers_set : List Setting → ℕ
+workers_set settings = number_in_value (set_to workers_entry settings)
+
+-- the rule of a name
+abbrev pub rule_called : Option Value → RuleKind
+rule_called (Some (name text)) = if bytes_eq (codes "mean") text then Mean else (if bytes_eq (codes "product") text then Product else Least)
+rule_called other = Least
+
+abbrev pub rule_set : List Setting → RuleKind
+rule_set settings = rule_called (set_to rule_entry settings)
+
+-- so are `unwrap` and `grid`
+abbrev pub PlainSolvingIsRead : Text → Type 0
+PlainSolvingIsRead command = (words : List (Bor Text)) (settings : List Setting) → ArePlain solving settings → texts words ≡ command ∷ pairs settings
+    → AsksWorkers command words (rule_set settings) (side_set settings) (workers_set settings)
+
+-- `check`, which has no `--workers`
+abbrev pub PlainCheckIsRead : Type 0
+PlainCheckIsRead = (words : List (Bor Text)) (settings : List Setting) → ArePlain checking settings → texts words ≡ codes "check" ∷ pairs settings
+    → IsCheck words (rule_set settings) (side_set settings)
+
+-- and `trial` with its positionals
+abbrev pub PlainTrialIsRead : Type 0
+PlainTrialIsRead = (words : List (Bor Text)) (seed width height : ℕ) (settings : List Setting) → seed < 2 ^ 64 → IsTrialSide width → IsTrialSide height → width * height ≤ max_pixels → ArePlain solving settings
+    → texts words ≡ codes "trial" ∷ decimal seed ∷ decimal width ∷ decimal height ∷ pairs settings
+    → IsTrialCommand words seed width height (rule_set settings) (side_set settings) × AsksWorkers (codes "trial") words (rule_set settings) (side_set settings) (workers_set settings)

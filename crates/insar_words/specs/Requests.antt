@@ -1,0 +1,102 @@
+-- Requests, as words ask for them, and why words are refused.
+use Rattle.std.specs.Prelude.{◌≡◌, ◌⊎◌, ◌*◌, ◌<◌, ℕ, false, List, Some, codes, ⊤}
+use Rattle.std.specs.Borrow.{Bor}
+use Rattle.clap.specs.Words.{Row, Text, first_of}
+use Rattle.raster_model.specs.declared.weights.RuleKind.{RuleKind}
+use Rattle.raster_model.specs.Limits.{max_pixels}
+use Rattle.insar_words.specs.Asked.{AskSomething, AsksWorkers, IsCheck, IsCommand, IsGridCommand, IsRefused, IsTrialCommand, asks_by_names, is_named, number_asked}
+use Rattle.insar_words.specs.Forms.{rule_entry, rule_name}
+use Rattle.insar_words.specs.declared.fault.WordsFault.{WordsFault}
+use Rattle.insar_words.specs.declared.fault.WordsFault.TheVariants as faults
+use Rattle.insar_words.specs.declared.request.Request.{Request}
+use Rattle.insar_words.specs.declared.request.Request.TheVariants.{Unwrap, Grid, Check, Trial}
+use Rattle.insar_words.specs.declared.settings.Settings.{Settings}
+use Rattle.insar_words.specs.declared.trial.Trial.{Trial as TrialSession}
+
+-- ---- what matches tell
+
+-- these settings, but for the workers; and with them
+abbrev pub TellsSettings : List Row → Settings → Type 0
+TellsSettings rows settings = (first_of (codes "rule") rows ≡ Some (rule_name settings.rule)) × (number_asked (codes "tile") rows ≡ Some settings.side)
+
+abbrev pub TellsAll : List Row → Settings → Type 0
+TellsAll rows settings = TellsSettings rows settings × (number_asked (codes "workers") rows ≡ Some settings.workers)
+
+-- this test session
+abbrev pub TellsTrial : List Row → TrialSession → Type 0
+TellsTrial rows trial = TellsAll rows trial.settings × ((number_asked (codes "seed") rows ≡ Some trial.seed)
+    × ((number_asked (codes "width") rows ≡ Some trial.width) × (number_asked (codes "height") rows ≡ Some trial.height)))
+
+-- a raster with too many pixels
+abbrev pub TellsTooMany : List Row → Type 0
+TellsTooMany rows = (width : ℕ) × (height : ℕ) × ((number_asked (codes "width") rows ≡ Some width) × ((number_asked (codes "height") rows ≡ Some height) × (max_pixels < width * height)))
+
+-- a rule that there is not
+abbrev pub NamesNoRule : List Row → Type 0
+NamesNoRule rows = is_named rule_entry.takes (first_of rule_entry.id rows) ≡ false
+
+-- a subcommand asks for this by its matches
+abbrev pub TellsRequest : Text → List Row → Request → Type 0
+TellsRequest command rows (Unwrap settings) = (command ≡ codes "unwrap") × TellsAll rows settings
+TellsRequest command rows (Grid settings) = (command ≡ codes "grid") × TellsAll rows settings
+TellsRequest command rows (Check settings) = (command ≡ codes "check") × (TellsSettings rows settings × (settings.workers ≡ 2))
+TellsRequest command rows (Trial trial) = (command ≡ codes "trial") × TellsTrial rows trial
+
+-- it is refused, for a name or for too many pixels
+abbrev pub TellsNothing : Text → List Row → Type 0
+TellsNothing command rows = (asks_by_names (Some (command, rows)) ≡ false) ⊎ ((command ≡ codes "trial") × TellsTooMany rows)
+
+abbrev pub TellsRefusal : Text → List Row → WordsFault → Type 0
+TellsRefusal command rows fault = (fault ≡ faults.Refused) × TellsNothing command rows
+
+-- ---- what words ask for
+
+abbrev pub IsRequest : List (Bor Text) → Request → Type 0
+IsRequest words (Unwrap settings) = AsksWorkers (codes "unwrap") words settings.rule settings.side settings.workers
+IsRequest words (Grid settings) = AsksWorkers (codes "grid") words settings.rule settings.side settings.workers
+IsRequest words (Check settings) = IsCheck words settings.rule settings.side × (settings.workers ≡ 2)
+IsRequest words (Trial trial) = IsTrialCommand words trial.seed trial.width trial.height trial.settings.rule trial.settings.side × AsksWorkers (codes "trial") words trial.settings.rule trial.settings.side trial.settings.workers
+
+-- words are not read because they are refused, or for lack of memory
+abbrev pub HasWordsCause : List (Bor Text) → WordsFault → Type 0
+HasWordsCause words faults.Refused = IsRefused words
+HasWordsCause words faults.Memory = ⊤
+
+-- ---- laws
+
+-- words are one request at most
+abbrev pub OneRequest : Type 0
+OneRequest = (words : List (Bor Text)) (request other : Request) → IsRequest words request → IsRequest words other → request ≡ other
+
+-- settings with this rule and this side
+abbrev pub AreSettings : RuleKind → ℕ → Settings → Type 0
+AreSettings rule side settings = (settings.rule ≡ rule) × (settings.side ≡ side)
+
+-- what is asked by rule and side is one request; and a request is asked by its rule and its side
+abbrev pub UnwrapIsRequest : Type 0
+UnwrapIsRequest = (words : List (Bor Text)) → ((rule : RuleKind) (side : ℕ) → IsCommand words rule side → (settings : Settings) × AreSettings rule side settings × IsRequest words (Unwrap settings))
+    × ((settings : Settings) → IsRequest words (Unwrap settings) → IsCommand words settings.rule settings.side)
+
+abbrev pub GridIsRequest : Type 0
+GridIsRequest = (words : List (Bor Text)) → ((rule : RuleKind) (side : ℕ) → IsGridCommand words rule side → (settings : Settings) × AreSettings rule side settings × IsRequest words (Grid settings))
+    × ((settings : Settings) → IsRequest words (Grid settings) → IsGridCommand words settings.rule settings.side)
+
+abbrev pub CheckIsRequest : Type 0
+CheckIsRequest = (words : List (Bor Text)) → ((rule : RuleKind) (side : ℕ) → IsCheck words rule side → (settings : Settings) × AreSettings rule side settings × IsRequest words (Check settings))
+    × ((settings : Settings) → IsRequest words (Check settings) → IsCheck words settings.rule settings.side)
+
+-- this test session
+pub record IsSession (seed width height : ℕ) (rule : RuleKind) (side : ℕ) (trial : TrialSession) : Type 0 where
+  pub seed_is : trial.seed ≡ seed
+  pub width_is : trial.width ≡ width
+  pub height_is : trial.height ≡ height
+  pub settings_are : AreSettings rule side trial.settings
+
+abbrev pub TrialIsRequest : Type 0
+TrialIsRequest = (words : List (Bor Text))
+    → ((seed width height : ℕ) (rule : RuleKind) (side : ℕ) → IsTrialCommand words seed width height rule side → (trial : TrialSession) × IsSession seed width height rule side trial × IsRequest words (Trial trial))
+    × ((trial : TrialSession) → IsRequest words (Trial trial) → IsTrialCommand words trial.seed trial.width trial.height trial.settings.rule trial.settings.side)
+
+-- words that ask for something are a request, and the other way round
+abbrev pub AskingIsRequest : Type 0
+AskingIsRequest = (words : List (Bor Text)) → (AskSomething words → (request : Request) × IsRequest words request) × ((request : Request) → IsRequest words request → AskSomething words)

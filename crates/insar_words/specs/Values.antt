@@ -1,0 +1,41 @@
+-- What clap's matches have for the arguments of a command that it takes.
+use Rattle.std.specs.Prelude.{◌≡◌, ◌≤◌, ℕ, List, [], ◌∷◌, Some, ⊤}
+use Rattle.std.specs.Str.Parse.{IsNumeral, digits_value, without_leading_plus}
+use Rattle.clap.specs.Words.{Row, Text, first_of, one_of}
+use Rattle.insar_words.specs.Forms.{Argument, OfOne, Taking, any_number, arguments_of, checking, drawing, forms, names, numbers, solving}
+
+-- a number from `least` to `most`
+pub record HasNumber (id : Text) (least most : ℕ) (rows : List Row) : Type 0 where
+  pub text : Text
+  pub told : one_of id rows ≡ Some text
+  pub numeral : IsNumeral 10 (without_leading_plus text)
+  pub at_least : least ≤ digits_value 10 (without_leading_plus text)
+  pub at_most : digits_value 10 (without_leading_plus text) ≤ most
+
+-- some text
+abbrev pub HasText : Text → List Row → Type 0
+HasText id rows = (text : Text) × (first_of id rows ≡ Some text)
+
+-- what the argument takes, but for its names
+abbrev pub HasValue : Taking → Text → List Row → Type 0
+HasValue (numbers least most) id rows = HasNumber id least most rows
+HasValue any_number id rows = HasNumber id 0 18446744073709551615 rows
+HasValue (names all) id rows = HasText id rows
+
+abbrev pub HasValues : List Argument → List Row → Type 0
+HasValues [] rows = ⊤
+HasValues (a ∷ rest) rows = HasValue a.takes a.id rows × HasValues rest rows
+
+-- what `check` needs, what `unwrap`, `grid` and `trial` need, and the raster of a trial
+abbrev pub HasChecking : List Row → Type 0
+HasChecking rows = HasValues checking rows
+
+abbrev pub HasSolving : List Row → Type 0
+HasSolving rows = HasValues solving rows
+
+abbrev pub HasRaster : List Row → Type 0
+HasRaster rows = HasValues drawing rows
+
+-- a command of the table, with what its arguments have
+abbrev pub ReadsAs : Text → List Row → Type 0
+ReadsAs command rows = OfOne (λ form. (command ≡ form.command) × HasValues (arguments_of form) rows) forms

@@ -1,0 +1,132 @@
+ghost use Rattle.clap.specs.Words.{first_of, found_of, rows_of};
+ghost use Rattle.insar_words.specs.Asked.{number_asked};
+ghost use Rattle.insar_words.specs.Forms.{rule_name};
+ghost use Rattle.insar_words.specs.Limits.{IsWorkers};
+ghost use Rattle.insar_words.specs.Requests.{HasWordsCause, IsRequest, NamesNoRule, TellsNothing, TellsRefusal, TellsRequest, TellsSettings, TellsTooMany, TellsTrial};
+ghost use Rattle.insar_words.specs.Values.{HasChecking, HasNumber, HasRaster, HasSolving, HasText, ReadsAs};
+ghost use Rattle.std.specs.Prelude.{◌≡◌, ◌⊎◌, IfErr, IfNone, IfOk, IfSome, Some, codes};
+
+use crate::fault::WordsFault;
+use crate::request::Request;
+use crate::settings::Settings;
+use crate::stated::stated_command;
+use crate::trial::Trial;
+use clap::ArgMatches;
+use raster_model::{DEFAULT_WORKERS, MAX_PIXELS, RuleKind};
+use std::alloc::Global;
+
+/// What words ask for, as the stated command reads them. Words are refused if that command refuses them, a call for
+/// help too, if they name a rule that there is not, and if they ask for a test session with too many pixels.
+pub fn read_words(alloc: Global, words: &[&str]) -> Result<Request, WordsFault>
+    ensures asked { IfOk result (IsRequest words.now) }
+    ensures refused { IfErr result (HasWordsCause words.now) }
+{
+    let matches = stated_command(alloc)?.try_get_matches_from(words)?;
+    match matches.subcommand() {
+        Some((name, found)) => request_or_fault(name, found),
+        None => unreachable!(),
+    }
+}
+
+/// What a subcommand asks for by its matches, or that they are refused.
+fn request_or_fault(name: &str, found: &ArgMatches<'_>) -> Result<Request, WordsFault>
+    requires named { ReadsAs name.now (rows_of (found_of found.now)) }
+    ensures asked { IfOk result (TellsRequest name.now (rows_of (found_of found.now))) }
+    ensures refused { IfErr result (TellsRefusal name.now (rows_of (found_of found.now))) }
+{
+    match request_of(name, found) {
+        Some(request) => Ok(request),
+        None => Err(WordsFault::Refused),
+    }
+}
+
+/// What a subcommand asks for by its matches, if they name a rule and do not ask for too many pixels.
+fn request_of(name: &str, found: &ArgMatches<'_>) -> Option<Request>
+    requires named { ReadsAs name.now (rows_of (found_of found.now)) }
+    ensures asked { IfSome result (TellsRequest name.now (rows_of (found_of found.now))) }
+    ensures refused { IfNone result (TellsNothing name.now (rows_of (found_of found.now))) }
+{
+    match name {
+        "unwrap" => Some(Request::Unwrap(solving_settings(found)?)),
+        "grid" => Some(Request::Grid(solving_settings(found)?)),
+        "check" => Some(Request::Check(settings_with(found, DEFAULT_WORKERS)?)),
+        "trial" => Some(Request::Trial(trial_of(found)?)),
+        _ => unreachable!(),
+    }
+}
+
+/// The test session that matches ask for, if its raster has no more pixels than a session may have.
+fn trial_of(found: &ArgMatches<'_>) -> Option<Trial>
+    requires raster { HasRaster (rows_of (found_of found.now)) }
+    requires options { HasSolving (rows_of (found_of found.now)) }
+    ensures told { IfSome result (TellsTrial (rows_of (found_of found.now))) }
+    ensures refused { IfNone result (NamesNoRule (rows_of (found_of found.now)) ⊎ TellsTooMany (rows_of (found_of found.now))) }
+{
+    let settings = solving_settings(found)?;
+    let width = number_told(found, "width");
+    let height = number_told(found, "height");
+    if width * height > MAX_PIXELS {
+        return None;
+    }
+    Some(Trial {
+        seed: seed_told(found),
+        width,
+        height,
+        settings,
+    })
+}
+
+/// The settings that matches give, with the workers.
+fn solving_settings(found: &ArgMatches<'_>) -> Option<Settings>
+    requires options { HasSolving (rows_of (found_of found.now)) }
+    ensures told { IfSome result (TellsSettings (rows_of (found_of found.now))) }
+    ensures workers { IfSome result (λ settings. number_asked (codes "workers") (rows_of (found_of found.now)) ≡ Some settings.workers) }
+    ensures refused { IfNone result (NamesNoRule (rows_of (found_of found.now))) }
+{
+    settings_with(found, number_told(found, "workers"))
+}
+
+/// The settings that matches give, with this number of workers.
+fn settings_with(found: &ArgMatches<'_>, workers: u32) -> Option<Settings>
+    requires options { HasChecking (rows_of (found_of found.now)) }
+    requires crew { IsWorkers workers }
+    ensures told { IfSome result (TellsSettings (rows_of (found_of found.now))) }
+    ensures workers { IfSome result (λ settings. settings.workers ≡ workers) }
+    ensures refused { IfNone result (NamesNoRule (rows_of (found_of found.now))) }
+{
+    Some(Settings {
+        rule: rule_told(found)?,
+        side: number_told(found, "tile"),
+        workers,
+    })
+}
+
+/// The rule that matches name.
+fn rule_told(found: &ArgMatches<'_>) -> Option<RuleKind>
+    requires { HasText (codes "rule") (rows_of (found_of found.now)) }
+    ensures told { IfSome result (λ rule. first_of (codes "rule") (rows_of (found_of found.now)) ≡ Some (rule_name rule)) }
+    ensures refused { IfNone result (NamesNoRule (rows_of (found_of found.now))) }
+{
+    match found.get_str("rule").unwrap() {
+        "least" => Some(RuleKind::Least),
+        "mean" => Some(RuleKind::Mean),
+        "product" => Some(RuleKind::Product),
+        _ => None,
+    }
+}
+
+/// The number that matches give for a name.
+fn number_told(found: &ArgMatches<'_>, name: &str) -> u32
+    requires { HasNumber name.now 0 4294967295 (rows_of (found_of found.now)) }
+    ensures { number_asked name.now (rows_of (found_of found.now)) ≡ Some result }
+{
+    found.get_one::<u32>(name).unwrap()
+}
+
+/// The seed that matches give.
+fn seed_told(found: &ArgMatches<'_>) -> u64
+    requires { HasNumber (codes "seed") 0 18446744073709551615 (rows_of (found_of found.now)) }
+    ensures { number_asked (codes "seed") (rows_of (found_of found.now)) ≡ Some result }
+{
+    found.get_one::<u64>("seed").unwrap()
+}

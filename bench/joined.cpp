@@ -1,38 +1,19 @@
-// The same job without proofs, over LEMON: reads raw planes of phase, weights and mask from standard input, solves the
-// network of each tile and then that of the seams by LEMON's network simplex on the same costs, and writes the grid.
-// The words are the tile side. It trusts its input. Times go to standard error.
+// The same job without proofs, over LEMON: reads planes of phase, weights and mask from standard input, solves the network of
+// each tile and then that of the seams by LEMON's network simplex on the same costs, and writes the grid. The word is the tile
+// side. Times go to standard error.
 #include <algorithm>
 #include <charconv>
 #include <chrono>
-#include <cstdint>
-#include <cstdio>
-#include <cstdlib>
 #include <string>
 #include <tuple>
-#include <vector>
 
 #include <lemon/network_simplex.h>
 #include <lemon/smart_graph.h>
 
+#include "planes.hpp"
+
 using Graph = lemon::SmartDigraph;
 using Simplex = lemon::NetworkSimplex<Graph, std::int64_t, std::int64_t>;
-
-struct Plane {
-  int width = 0, height = 0, maxval = 1;
-  std::vector<std::uint16_t> samples;
-};
-
-static bool read_plane(Plane &plane) {
-  if (std::scanf("P5 %d %d %d", &plane.width, &plane.height, &plane.maxval) != 3) return false;
-  std::getchar();
-  std::size_t count = std::size_t(plane.width) * plane.height, size = plane.maxval < 256 ? 1 : 2;
-  std::vector<unsigned char> bytes(count * size);
-  if (std::fread(bytes.data(), 1, bytes.size(), stdin) != bytes.size()) std::exit(3);
-  plane.samples.resize(count);
-  for (std::size_t k = 0; k < count; ++k)
-    plane.samples[k] = size == 1 ? bytes[k] : bytes[2 * k] * 256 + bytes[2 * k + 1];
-  return true;
-}
 
 static int wrapped(int from, int to) { return static_cast<std::int16_t>(static_cast<std::uint16_t>(to - from)); }
 

@@ -446,7 +446,10 @@ def main():
     if len(sys.argv) < 2:
         return 0
     program = sys.argv[1]
-    count, seed = (int(number) for number in (sys.argv[2:] + ["500", "7"][len(sys.argv) - 2 :])[:2])
+    if len(sys.argv) > 4 or not all(word.isdigit() for word in sys.argv[2:]):
+        print("stress.py: the words are PROGRAM [COUNT [SEED]], as in stress.py PROGRAM 500 7", file=sys.stderr)
+        return 2
+    count, seed = (int(number) for number in sys.argv[2:] + ["500", "7"][len(sys.argv) - 2 :])
     failed = 0
     for number in range(count):
         dice = random.Random(f"{seed} {number}")

@@ -168,7 +168,7 @@ def reported(program, seed, place):
 
 
 def report_altered(dice, report):
-    """A report changed in one place as bench/changed does, in one to three of its numbers, or as any text is."""
+    """A report changed in one place as changed.py does, in one to three of its numbers, or as any text is."""
     kind = dice.random()
     if kind < 0.35 and report:
         return dice.choice(changed.CHANGES)(dice, report)

@@ -1,8 +1,21 @@
 """Runs the built program as a process on bytes, within a limit of time."""
 import os
+import pathlib
 import select
 import signal
+import sys
 from typing import NamedTuple
+
+BUILT = pathlib.Path(__file__).resolve().parent.parent.parent / "crates/insar_unwrap/out/insar_unwrap"
+
+
+def tried_program() -> str:
+    """The program that is tried: the built one, or that which UNWRAP names. If it is not there, the script ends with status 2."""
+    path = os.path.abspath(os.environ.get("UNWRAP", BUILT))
+    if not os.access(path, os.X_OK):
+        print(f"{path} is not built: run ./demo or rt ci, or set UNWRAP", file=sys.stderr)
+        sys.exit(2)
+    return path
 
 
 class Ended(NamedTuple):

@@ -48,8 +48,11 @@ def main() -> int:
     )
     words.add_argument("--trial", metavar="SEED", help="the session of this number, in place of the scene")
     asked = words.parse_args()
-    script = ["bench/terrain.py", "trial", asked.trial] if asked.trial else ["examples/interferogram.py"]
-    script = [sys.executable, str(TOP / script[0]), *script[1:], str(asked.width), str(asked.height)]
+    if asked.trial:
+        script = ["bench/rasters.py", f"trial-{asked.trial}-{asked.width}x{asked.height}"]
+    else:
+        script = ["examples/interferogram.py", str(asked.width), str(asked.height)]
+    script = [sys.executable, str(TOP / script[0]), *script[1:]]
     scene = read_session(subprocess.run(script, check=True, capture_output=True).stdout)
     phase, weights, opened = (
         np.kron(plane, np.ones((asked.times,) * 2)) for plane in (scene.phase, scene.weights, scene.opened)

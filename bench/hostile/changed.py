@@ -1,20 +1,24 @@
 #!/usr/bin/env python3
-"""Changes reports in one place each and compares `check` with a judge of its own: changed.py PROGRAM [COUNT [SEED]].
+"""Changes reports in one place each and compares `check` with a judge of its own: changed.py [COUNT [SEED]].
 
-Each report is that of a random session (stress.py). `check` has to accept it as it is written. Then it is changed in one
+Each report is that of a random session (bench/stress.py). `check` has to accept it as it was written. Then it is changed in one
 place, 100 times: a digit, a number by one, a sign, a space or a zero too many, a byte that is no text, a line left out,
 doubled or cut, two lines exchanged, or a surface with its `published` line moved to another place. `check` has to accept just
-those reports that the judge of stress.py accepts, and to refuse the others by one line of its table, with status 1 or 3.
+those reports that the judge of stress.py accepts, and to refuse the others by one line of its tables, with status 1 or 3.
 
-The last lines tell how many changes of each kind were accepted, and 'N passed, M failed'; the status is 1 where one failed.
+COUNT is 20,000 and SEED 7 if they are not given. UNWRAP names another program than the built one. The last lines say how many
+changes of each kind were accepted, and 'N passed, M failed'; the status is 1 if one failed.
 """
 import collections
+import pathlib
 import random
 import re
 import subprocess
 import sys
 
-import stress
+sys.path.insert(0, str(pathlib.Path(__file__).resolve().parent.parent))
+import stress  # noqa: E402
+from running import tried_program  # noqa: E402
 
 # The lines that refuse a report: those of verdicts, and those of broken forms.
 VERDICT = re.compile(
@@ -122,8 +126,11 @@ def judged(session, report):
 
 def main():
     stress.try_the_judge()
-    program = sys.argv[1]
-    count, seed = (int(number) for number in (sys.argv[2:] + ["20000", "7"][len(sys.argv) - 2 :])[:2])
+    program = tried_program()
+    if len(sys.argv) > 3 or not all(word.isdigit() for word in sys.argv[1:]):
+        print("changed.py: the words are [COUNT [SEED]], as in changed.py 20000 7", file=sys.stderr)
+        return 2
+    count, seed = (int(number) for number in sys.argv[1:] + ["20000", "7"][len(sys.argv) - 1 :])
     done, failed, accepted, tried = 0, 0, collections.Counter(), collections.Counter()
     number = 0
     while done < count:

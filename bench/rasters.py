@@ -1,0 +1,199 @@
+#!/usr/bin/python3
+"""Writes a session for benchmarks to standard output: rasters.py NAME.
+
+NAME is KIND-SIZE, KIND-SEED-SIZE or KIND-SEED-SIZE-LEVEL. SIZE is SIDE or WIDTHxHEIGHT in pixels, as in trial-7-512x256.
+
+slope-SIZE, gentle-SIZE, flat-SIZE
+    A phase plane that rises by 300, 30 or 0 units of 1/65536 cycle a pixel to the right, and by 700, 20 or 0 downwards.
+    No cell has a residue. With -plain at the end of NAME it is a plain plane, otherwise a raw one.
+trial-SEED-SIZE
+    The planes of the command `trial SEED WIDTH HEIGHT`: random phases on a slope, random weights from 1 to 256, and one
+    pixel in sixteen masked, all from a linear congruential generator (Knuth's multiplier of 64 bits). 12 % of the cells
+    have a residue.
+hills-SEED-SIZE-LEVEL, mogi-SEED-SIZE-LEVEL, fractal-SEED-SIZE-LEVEL
+    Smooth hills, a point source that swells (Mogi 1958) on a ramp, or a fractal field, with noise by coherence
+    (Cramer-Rao bound, one look). LEVEL is low, medium or high: 0.5, 5 or 20 % of the cells have a residue. The weights are
+    the square of an estimate of the coherence, 1 to 255; the least coherent 6 % of the pixels are masked.
+
+A NAME that is none of these ends with status 2 and one line. It needs NumPy (python3-numpy).
+"""
+import re
+import sys
+from typing import NamedTuple
+
+import numpy as np
+
+CYCLE = 65536  # units in a cycle
+MAX_SIDE, MAX_PIXELS = 4096, 4194304
+SLOPES = {"slope": (300, 700), "gentle": (30, 20), "flat": (0, 0)}  # units a pixel to the right, and downwards
+FIELDS = ("hills", "mogi", "fractal")
+LEVELS = {"low": 0.005, "medium": 0.05, "high": 0.20}  # of the cells
+MULTIPLIER, INCREMENT, WORD = 6364136223846793005, 1442695040888963407, 2**64
+NAME = re.compile(
+    r"(?P<kind>[a-z]+)(?:-(?P<seed>[0-9]{1,18}))?-(?P<width>[0-9]{1,4})(?:x(?P<height>[0-9]{1,4}))?"
+    r"(?:-(?P<level>low|medium|high))?(?P<plain>-plain)?"
+)
+
+
+class Mistake(Exception):
+    """A name that is not one of a raster."""
+
+
+class Raster(NamedTuple):
+    """A scene by rows. `surface` has the phases before they are wrapped, in units of 1/65536 cycle."""
+
+    surface: np.ndarray
+    weights: np.ndarray | None = None
+    max_weight: int = 1
+    opened: np.ndarray | None = None
+
+
+def wrap(differences: np.ndarray) -> np.ndarray:
+    """The differences up to whole cycles, from -32768 to 32767."""
+    return (differences + CYCLE // 2) % CYCLE - CYCLE // 2
+
+
+def residues(phase: np.ndarray) -> np.ndarray:
+    """The residue of each cell of the whole raster."""
+    right, down = wrap(np.diff(phase.astype(np.int64), axis=1)), wrap(np.diff(phase.astype(np.int64), axis=0))
+    return (right[:-1] + down[:, 1:] - right[1:] - down[:, :-1]) // CYCLE
+
+
+def states(seed: int, count: int) -> np.ndarray:
+    """The first states of the generator after `seed`. Each round doubles how many are known."""
+    factor, term = MULTIPLIER, INCREMENT
+    found = np.empty(count, np.uint64)
+    found[0] = (seed * factor + term) % WORD
+    known = 1
+    while known < count:
+        more = min(known, count - known)
+        with np.errstate(over="ignore"):
+            found[known : known + more] = found[:more] * np.uint64(factor) + np.uint64(term)
+        factor, term = factor * factor % WORD, (factor * term + term) % WORD
+        known += more
+    return found
+
+
+def slope(kind: str, width: int, height: int) -> Raster:
+    across, down = SLOPES[kind]
+    return Raster(across * np.arange(width)[None, :] + down * np.arange(height)[:, None])
+
+
+def trial(seed: int, width: int, height: int) -> Raster:
+    drawn = states(seed, width * height).reshape(height, width)
+    noise = ((drawn >> np.uint64(48)) * np.uint64(5) // np.uint64(8)).astype(np.int64)
+    surface = 700 * np.arange(width)[None, :] + 300 * np.arange(height)[:, None] + noise
+    weights = 1 + (drawn >> np.uint64(32)) % np.uint64(256)
+    return Raster(surface, weights, 256, (drawn >> np.uint64(20)) % np.uint64(16) != 0)
+
+
+def random_field(random: np.random.Generator, width: int, height: int, scale: float, power: float = 0.0) -> np.ndarray:
+    """A random field, mean 0 and deviation 1: smooth with that scale in pixels or, with a power, a fractal."""
+    frequency = np.hypot(np.fft.fftfreq(height)[:, None], np.fft.rfftfreq(width)[None, :])
+    frequency[0, 0] = 1
+    amplitude = frequency**-power if power else np.exp(-((frequency * scale) ** 2) * 2)
+    amplitude[0, 0] = 0
+    field = np.fft.irfft2(np.fft.rfft2(random.standard_normal((height, width))) * amplitude, s=(height, width))
+    return field / field.std()
+
+
+def field(kind: str, random: np.random.Generator, width: int, height: int) -> np.ndarray:
+    """The surface without noise, in cycles."""
+    y, x = np.mgrid[0:height, 0:width].astype(np.float64)
+    size = max(width, height)
+    if kind == "hills":
+        heights = np.zeros((height, width))
+        for _ in range(14):
+            left, top = random.uniform(0, width), random.uniform(0, height)
+            radius = random.uniform(0.05, 0.2) * size
+            hill = np.exp(-((x - left) ** 2 + (y - top) ** 2) / (2 * radius * radius))
+            heights += random.uniform(-1, 1) * radius / 14 * hill
+        return heights
+    if kind == "mogi":
+        left, top, depth = width * random.uniform(0.4, 0.6), height * random.uniform(0.4, 0.6), 0.12 * size
+        source = depth**3 / ((x - left) ** 2 + (y - top) ** 2 + depth * depth) ** 1.5
+        return source * 0.035 * size + x * 0.01 + y * 0.004
+    heights = random_field(random, width, height, 0, power=1.9)
+    steep = np.hypot(np.diff(heights, axis=1)[1:], np.diff(heights, axis=0)[:, 1:])
+    return heights * (0.09 / np.sqrt((steep * steep).mean()))
+
+
+def noisy(kind: str, seed: int, width: int, height: int, level: str) -> Raster:
+    """A field with noise by coherence. The noise is scaled until just less than the level's share of cells has a residue."""
+    random = np.random.Generator(np.random.PCG64([seed, FIELDS.index(kind)]))
+    cycles = field(kind, random, width, height)
+    rough = random_field(random, width, height, 12) * 0.5 + random_field(random, width, height, 90)
+    coherence = np.clip(1 / (1 + np.exp(-(0.9 + 1.1 * rough))), 0.05, 0.99)  # mean about 0.67
+    deviation = np.minimum(np.sqrt((1 - coherence**2) / (2 * coherence**2)), 8) / (2 * np.pi)  # Cramer-Rao, one look
+    noise = random.standard_normal((height, width)) * deviation
+
+    def surface(scale: float) -> np.ndarray:
+        return np.floor((cycles + noise * scale) * CYCLE).astype(np.int64)
+
+    low, high = 0.0, 60.0
+    for _ in range(24):
+        middle = (low + high) / 2
+        if np.count_nonzero(residues(surface(middle) % CYCLE)) < LEVELS[level] * (width - 1) * (height - 1):
+            low = middle
+        else:
+            high = middle
+    estimate = np.clip(coherence + random.standard_normal((height, width)) * 0.03, 0, 1)
+    weights = np.clip(np.rint(255 * estimate**2), 1, 255)
+    return Raster(surface(low), weights, 255, coherence > np.quantile(coherence, 0.06))
+
+
+def raster(name: str) -> tuple[Raster, bool]:
+    """The raster of a name, and whether its planes are plain."""
+    words = NAME.fullmatch(name)
+    if not words:
+        raise Mistake(f"{name}: no name of a raster, as slope-1024, trial-7-512 and hills-1-512-low are")
+    kind, seed, level = words["kind"], words["seed"], words["level"]
+    width, height = int(words["width"]), int(words["height"] or words["width"])
+    if not (0 < width <= MAX_SIDE and 0 < height <= MAX_SIDE and width * height <= MAX_PIXELS):
+        raise Mistake(f"{name}: {width} by {height} pixels are beyond the limits of a session")
+    is_plain = words["plain"] is not None
+    if kind in SLOPES and seed is None and level is None:
+        return slope(kind, width, height), is_plain
+    if kind == "trial" and seed is not None and level is None and not is_plain:
+        return trial(int(seed), width, height), False
+    if kind in FIELDS and seed is not None and level is not None and not is_plain:
+        if min(width, height) < 2:
+            raise Mistake(f"{name}: a field has at least two pixels a side")
+        return noisy(kind, int(seed), width, height, level), False
+    raise Mistake(f"{name}: no name of a raster, as slope-1024, trial-7-512 and hills-1-512-low are")
+
+
+def plane(samples: np.ndarray, maxval: int, is_plain: bool = False) -> bytes:
+    """A PGM plane."""
+    height, width = samples.shape
+    head = b"P%d\n%d %d\n%d\n" % (2 if is_plain else 5, width, height, maxval)
+    if is_plain:
+        return head + b"".join(" ".join(map(str, row)).encode() + b"\n" for row in samples.tolist())
+    return head + samples.astype(">u2" if maxval > 255 else "u1").tobytes()
+
+
+def session(made: Raster, is_plain: bool = False) -> bytes:
+    """The planes of a raster, without scripts."""
+    text = plane(made.surface % CYCLE, CYCLE - 1, is_plain)
+    if made.weights is not None and made.opened is not None:
+        text += plane(made.weights, made.max_weight) + plane(made.opened, 1)
+    return text
+
+
+def main(words: list[str]) -> int:
+    if len(words) != 1 or words[0] in ("-h", "--help"):
+        print(__doc__, file=sys.stdout if words[:1] in (["-h"], ["--help"]) else sys.stderr)
+        return 0 if len(words) == 1 else 2
+    try:
+        sys.stdout.buffer.write(session(*raster(words[0])))
+    except Mistake as mistake:
+        print(mistake, file=sys.stderr)
+        return 2
+    except (OSError, MemoryError) as error:
+        print(error or "no memory", file=sys.stderr)
+        return 5
+    return 0
+
+
+if __name__ == "__main__":
+    sys.exit(main(sys.argv[1:]))

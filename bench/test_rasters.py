@@ -1,0 +1,50 @@
+#!/usr/bin/python3
+"""Tests of rasters.py. Each expected value was found by hand or by another solver, or follows from what a name means."""
+import subprocess
+import unittest
+from pathlib import Path
+
+import numpy as np
+
+import rasters
+
+SCRIPT = Path(__file__).resolve().parent / "rasters.py"
+
+
+def run(*words: str) -> subprocess.CompletedProcess[bytes]:
+    return subprocess.run([SCRIPT, *words], capture_output=True)
+
+
+class Rasters(unittest.TestCase):
+    def test_slopes_rise_and_wrap(self) -> None:
+        self.assertEqual(run("slope-2x3-plain").stdout, b"P2\n2 3\n65535\n0 300\n700 1000\n1400 1700\n")
+        self.assertEqual(run("gentle-2").stdout, b"P5\n2 2\n65535\n" + bytes([0, 0, 0, 30, 0, 20, 0, 50]))
+        self.assertEqual(rasters.session(rasters.slope("slope", 300, 1))[-2:], (299 * 300 % 65536).to_bytes(2, "big"))
+
+    def test_a_trial_is_that_of_the_command(self) -> None:
+        made, _ = rasters.raster("trial-7-64")
+        self.assertEqual(np.count_nonzero(rasters.residues(made.surface % 65536)), 450)
+        self.assertEqual(np.count_nonzero(made.opened), 3834)
+
+    def test_states_follow_one_another(self) -> None:
+        found, state = rasters.states(7, 5), 7
+        for number in found.tolist():
+            state = (state * rasters.MULTIPLIER + rasters.INCREMENT) % rasters.WORD
+            self.assertEqual(number, state)
+
+    def test_fields_have_the_residues_of_their_level(self) -> None:
+        for kind in rasters.FIELDS:
+            made, _ = rasters.raster(f"{kind}-1-64x48-medium")
+            share = np.count_nonzero(rasters.residues(made.surface % 65536)) / (63 * 47)
+            self.assertTrue(0.04 < share <= 0.05, (kind, share))
+            self.assertEqual((made.surface.shape, made.weights.min() >= 1, made.weights.max() <= 255), ((48, 64), True, True))
+
+    def test_mistakes_end_in_one_line(self) -> None:
+        for name in ("slope", "slope-0", "slope-9-3", "trial-64", "hills-1-64", "hills-1-1-low", "flat-4096", "fields-3", "-"):
+            done = run(name)
+            self.assertEqual((done.returncode, done.stdout, done.stderr.count(b"\n")), (2, b"", 1), name)
+        self.assertEqual((run().returncode, run("--help").returncode), (2, 0))
+
+
+if __name__ == "__main__":
+    unittest.main()

@@ -116,7 +116,8 @@ def check(program, session, text, report):
     raise stress.Refused(f"status {done.returncode}: {done.stdout[:80]!r} {done.stderr[:80]!r}")
 
 
-def judged(session, report):
+def is_accepted(session, report):
+    """What the judge of bench/stress.py says of a report."""
     try:
         stress.judge(session, report)
     except stress.Refused:
@@ -138,7 +139,7 @@ def main():
         session = stress.random_session(dice)
         text = session.bytes_of(dice)
         report = stress.run(program, session, text, 2)
-        demand = judged(session, report) and check(program, session, text, report)
+        demand = is_accepted(session, report) and check(program, session, text, report)
         failed += not demand
         for _ in range(min(100, count - done)):
             done += 1
@@ -149,7 +150,7 @@ def main():
                 answer = check(program, session, text, other)
             except stress.Refused as why:
                 answer = why
-            if answer is not judged(session, other):
+            if answer is not is_accepted(session, other):
                 failed += 1
                 print(f"session {number} of the seed {seed}, {change.__name__}: {answer}", flush=True)
             accepted[change.__name__] += answer is True and other != report

@@ -79,18 +79,9 @@ def judge_report(session, text):
     stress.judge(session, text)
 
 
-def is_accepted(session, report):
-    """What the judge of bench/stress.py says of a report."""
-    try:
-        stress.judge(session, report)
-    except stress.Refused:
-        return False
-    return True
-
-
 def judge_verdict(session, report, done):
     """`check` accepts what the judge accepts, and else tells a verdict."""
-    if is_accepted(session, report):
+    if changed.is_accepted(session, report):
         demand(done.status == 0 and done.out == b"accepted\n", f"an accepted report: {done.out[:80]!r}")
     else:
         demand(done.status == 1 and changed.VERDICT.fullmatch(done.out), f"a refused report: {done.out[:80]!r}")

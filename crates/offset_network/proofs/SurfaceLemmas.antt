@@ -7,8 +7,7 @@ use Rattle.std.proofs.lemmas.Bool.Decides.{nat_tests}
 use Rattle.raster_model.specs.declared.scene.Scene.{Scene}
 use Rattle.raster_model.specs.declared.tiling.Window.{Window}
 use Rattle.raster_model.specs.declared.edge.Edge.{Edge}
-use Rattle.raster_model.specs.Phase.{turns}
-use Rattle.raster_model.specs.Raster.{Raster, cycle_departure}
+use Rattle.raster_model.specs.Raster.{Raster, cycle_departure, turns_of}
 use Rattle.raster_model.specs.Sums.{Field, end_x, end_y}
 use Rattle.raster_model.specs.Tiles.{IsWindowOf, IsWithin, tile_at, tiles_of, window_of}
 use Rattle.certificates.specs.declared.results.TileResult.{TileResult}
@@ -70,8 +69,8 @@ rise_fits u v t a b k = omega (arith, ints, a, b, k)
 pub rise_value : (u v t f : ℤ) → unsigned_abs u ≤ 8388608 → unsigned_abs v ≤ 8388608 → unsigned_abs t ≤ 1 → f ≡ to_z w32 (of_z w32 (rise_in_code u v t)) → (to_z w64 (of_z w64 f) ≡ v -ℤ u +ℤ t) × (unsigned_abs (v -ℤ u +ℤ t) ≤ 16777217)
 rise_value u v t f a b k e = (omega (arith, ints, a, b, k, e), omega (arith, ints, a, b, k))
 
-pub rise_is : (r : Raster) (c : Field ℤ) (e : Edge) (x y p q : ℕ) (u v t : ℤ) → x ≡ end_x e → y ≡ end_y e → p ≡ r.phase e.x e.y → q ≡ r.phase x y → u ≡ c e.x e.y → v ≡ c x y → t ≡ turns p q → v -ℤ u +ℤ t ≡ cycle_departure r c e
-rise_is r c e x y p q u v t ex ey ep eq eu ev et = rw (eu, ev, et, ep, eq, ex, ey) refl
+pub rise_is : (r : Raster) (c : Field ℤ) (e : Edge) (x y : ℕ) (u v t : ℤ) → x ≡ end_x e → y ≡ end_y e → u ≡ c e.x e.y → v ≡ c x y → t ≡ turns_of r e → v -ℤ u +ℤ t ≡ cycle_departure r c e
+rise_is r c e x y u v t ex ey eu ev et = rw (eu, ev, et, ex, ey) refl
 
 -- the regions' numbers, as the check of the flows reads them
 module _ (s : Scene) (m : MaskView) (v : RegionsView) (is : AreRegionsOf s.tiling m v) where

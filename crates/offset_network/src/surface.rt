@@ -38,10 +38,8 @@ impl TileSurface<'_> {
         ensures value { result ≡ cycle_departure (raster_of self.now.scene.now) (solved_cycles self.now.scene.now self.now.tiles.now.results) edge }
         ensures small { unsigned_abs result ≤ 16777217 }
     {
-        let x = edge.end_x();
-        let y = edge.end_y();
-        let from = self.scene.phase.sample(edge.x, edge.y);
-        let to = self.scene.phase.sample(x, y);
-        i64::from(self.at(x, y) - self.at(edge.x, edge.y) + turns(from, to))
+        let to = self.at(edge.end_x(), edge.end_y());
+        let from = self.at(edge.x, edge.y);
+        i64::from(to - from + turns(self.scene, edge))
     }
 }

@@ -4,8 +4,7 @@ use Rattle.std.specs.Prelude.{ℤ, ◌+ℤ◌, ◌-ℤ◌, unsigned_abs}
 use Rattle.std.proofs.lemmas.Int.{ints}
 use Rattle.raster_model.specs.declared.edge.Edge.{Edge}
 use Rattle.raster_model.specs.Sums.{Field, end_x, end_y}
-use Rattle.raster_model.specs.Phase.{turns}
-use Rattle.raster_model.specs.Raster.{Raster, departure, lifted}
+use Rattle.raster_model.specs.Raster.{Raster, departure, lifted, turns_of}
 use Rattle.raster_model.proofs.Exact.{cycles_depart}
 
 -- the code's sum
@@ -13,6 +12,5 @@ pub sum_fits : (u v t f : ℤ) → unsigned_abs u ≤ 2 ^ 48 → unsigned_abs v 
 sum_fits u v t f a b k e = omega (arith, ints)
 
 -- the departure, from what the code reads
-pub departure_at : (r : Raster) (c : Field ℤ) (e : Edge) (x y p q : ℕ) (u v t : ℤ) → x ≡ end_x e → y ≡ end_y e → p ≡ r.phase e.x e.y → q ≡ r.phase x y → u ≡ c e.x e.y → v ≡ c x y → t ≡ turns p q → v -ℤ u +ℤ t ≡ departure r (lifted r c) e
-departure_at r c e x y p q u v t ex ey ep eq eu ev et =
-    rw (eu, ev, et, ep, eq, ex, ey) (sym (cycles_depart r c e))
+pub departure_at : (r : Raster) (c : Field ℤ) (e : Edge) (x y : ℕ) (u v t : ℤ) → x ≡ end_x e → y ≡ end_y e → u ≡ c e.x e.y → v ≡ c x y → t ≡ turns_of r e → v -ℤ u +ℤ t ≡ departure r (lifted r c) e
+departure_at r c e x y u v t ex ey eu ev et = rw (eu, ev, et, ex, ey) (sym (cycles_depart r c e))

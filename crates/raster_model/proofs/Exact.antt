@@ -1,8 +1,7 @@
 -- The definitions by division are exact: what they stand for, said by whole cycles alone.
-use Rattle.std.proofs.Common.{◌≡◌, ℕ, suc, ◌+◌, ◌/◌, ◌<◌, ◌≤◌, ◌∙◌, sym, ap, refl, arith, true}
-use Rattle.std.specs.Prelude.{ℤ, pos, negsuc, ◌+ℤ◌, ◌-ℤ◌, ◌*ℤ◌, nat_lt, IsTrue, int_div, unsigned_abs, ◌&&◌}
+use Rattle.std.proofs.Common.{◌≡◌, suc, ◌+◌, ◌/◌, ◌≤◌, ◌∙◌, sym, ap, refl, arith, true, false}
+use Rattle.std.specs.Prelude.{ℤ, pos, negsuc, ◌+ℤ◌, ◌-ℤ◌, ◌*ℤ◌, int_div, unsigned_abs}
 use Rattle.std.proofs.lemmas.Int.{ints}
-use Rattle.std.proofs.lemmas.Bool.Decides.{nat_tests}
 use Rattle.raster_model.specs.declared.edge.Edge.{Edge}
 use Rattle.raster_model.specs.Sums.{Field, at_edge_start, at_edge_end, end_x, end_y, right_edge, down_edge}
 use Rattle.raster_model.specs.Raster.{Raster, gradient, round_cell, residue, departure, lifted, cycle_departure}
@@ -10,14 +9,14 @@ use Rattle.raster_model.specs.Certificates.{face_total, face_product, face_diffe
 use Rattle.raster_model.specs.Exact.{DepartureIsExact, LiftedIsCongruent, CyclesDepart, ResidueIsExact, ResidueIsSmall, FacesMeetDepartures}
 use Rattle.raster_model.proofs.SumLemmas.{sum_grid-same, sum_edges-same}
 use Rattle.raster_model.proofs.Planar.{planar}
-use Rattle.raster_model.proofs.PhaseLemmas.{div_exact, turns_exact, wrapped_is_it}
+use Rattle.raster_model.proofs.PhaseLemmas.{div_exact, edge_exact, wrapped_is_it}
 use Rattle.raster_model.proofs.TileLeast.{no_column, no_row, cycles_of, cycles_exact, departure_is, residue_is}
 use Rattle.sums_and_lists.proofs.Orders.{ends_in}
 use Rattle.sums_and_lists.proofs.Tests.{and_first, and_second}
 
 whole : (r : Raster) (S : Field ℤ) (e : Edge) → at_edge_start S e ≡ pos (at_edge_start r.phase e) +ℤ pos 65536 *ℤ at_edge_start (cycles_of r S) e → at_edge_end S e ≡ pos (at_edge_end r.phase e) +ℤ pos 65536 *ℤ at_edge_end (cycles_of r S) e → at_edge_end S e -ℤ at_edge_start S e ≡ gradient r e +ℤ pos 65536 *ℤ departure r S e
 whole r S e p q =
-    let t = turns_exact (at_edge_start r.phase e) (at_edge_end r.phase e) in
+    let t = edge_exact r e in
     rw (departure_is r S e p q) (omega (arith, ints, p, q, t))
 
 pub departure_is_exact : DepartureIsExact
@@ -27,10 +26,10 @@ departure_is_exact r mask S good e i o =
 
 pub residue_is_exact : ResidueIsExact
 residue_is_exact r x y =
-    let ab = turns_exact (r.phase x y) (r.phase (x + 1) y) in
-    let bd = turns_exact (r.phase (x + 1) y) (r.phase (x + 1) (y + 1)) in
-    let cd = turns_exact (r.phase x (y + 1)) (r.phase (x + 1) (y + 1)) in
-    let ac = turns_exact (r.phase x y) (r.phase x (y + 1)) in
+    let ab = edge_exact r (right_edge x y) in
+    let bd = edge_exact r (down_edge (x + 1) y) in
+    let cd = edge_exact r (right_edge x (y + 1)) in
+    let ac = edge_exact r (down_edge x y) in
     rw (residue_is r (λ a b. pos 0) x y) (omega (arith, ints, ab, bd, cd, ac))
 
 pub faces_meet_departures : FacesMeetDepartures
@@ -44,10 +43,10 @@ faces_meet_departures r S good t f =
 
 pub residue_is_small : ResidueIsSmall
 residue_is_small r x y =
-    let ab = wrapped_is_it (r.phase x y) (r.phase (x + 1) y) in
-    let bd = wrapped_is_it (r.phase (x + 1) y) (r.phase (x + 1) (y + 1)) in
-    let cd = wrapped_is_it (r.phase x (y + 1)) (r.phase (x + 1) (y + 1)) in
-    let ac = wrapped_is_it (r.phase x y) (r.phase x (y + 1)) in
+    let ab = wrapped_is_it (r.slope false) (r.phase x y) (r.phase (x + 1) y) in
+    let bd = wrapped_is_it (r.slope true) (r.phase (x + 1) y) (r.phase (x + 1) (y + 1)) in
+    let cd = wrapped_is_it (r.slope false) (r.phase x (y + 1)) (r.phase (x + 1) (y + 1)) in
+    let ac = wrapped_is_it (r.slope true) (r.phase x y) (r.phase x (y + 1)) in
     let round : unsigned_abs (round_cell r x y) ≤ 131070 = omega (arith, ints, ab.low, ab.high, bd.low, bd.high, cd.low, cd.high, ac.low, ac.high) in
     (round, quotient_small (round_cell r x y) round)
   where
@@ -60,6 +59,6 @@ lifted_is_congruent r mask cycles x y l m o = (cycles x y, refl)
 
 pub cycles_depart : CyclesDepart
 cycles_depart r cycles e =
-    let t = turns_exact (at_edge_start r.phase e) (at_edge_end r.phase e) in
+    let t = edge_exact r e in
     let d : at_edge_end (lifted r cycles) e -ℤ at_edge_start (lifted r cycles) e -ℤ gradient r e ≡ pos 65536 *ℤ cycle_departure r cycles e = omega (arith, ints, t) in
     ap (λ (z : ℤ). int_div z (pos 65536)) d ∙ div_exact (cycle_departure r cycles e)

@@ -2,7 +2,7 @@
 use Rattle.std.proofs.Common.{◌≡◌, ◌+◌, ◌*◌, refl, Bool, true, false, List, [], ◌∷◌, pos, negsuc}
 use Rattle.std.specs.Prelude.{ℤ, slice_index, slice_index_or, if◌then◌else◌}
 use Rattle.raster_model.specs.Sums.{Field, right_edge, down_edge}
-use Rattle.raster_model.specs.Phase.{wrapped}
+use Rattle.raster_model.specs.Phase.{wrapped, wrapped_by}
 use Rattle.raster_model.specs.Raster.{Raster, residue, departure, tile_cost, seam_cost}
 use Rattle.raster_model.specs.Certificates.{face_total, face_product, face_difference, faces_of_tile}
 use Rattle.raster_model.specs.Seams.{shifted, flow_in, flow_out, flow_total}
@@ -14,28 +14,45 @@ use Rattle.sums_and_lists.specs.Sums.{sum_below, count_below}
 
 -- ---- wrapped differences: an exact half cycle is -32768
 wrapped-half_cycle_up : wrapped 0 32768 ≡ negsuc 32767
-unfolding wrapped
+unfolding wrapped_by
 wrapped-half_cycle_up = refl
 
 wrapped-half_cycle_down : wrapped 32768 0 ≡ negsuc 32767
-unfolding wrapped
+unfolding wrapped_by
 wrapped-half_cycle_down = refl
 
 wrapped-below_half : wrapped 0 32767 ≡ pos 32767
-unfolding wrapped
+unfolding wrapped_by
 wrapped-below_half = refl
 
 wrapped-over_the_top : wrapped 50000 10000 ≡ pos 25536
-unfolding wrapped
+unfolding wrapped_by
 wrapped-over_the_top = refl
 
 wrapped-one_more : wrapped 65535 0 ≡ pos 1
-unfolding wrapped
+unfolding wrapped_by
 wrapped-one_more = refl
 
 wrapped-one_less : wrapped 0 65535 ≡ negsuc 0
-unfolding wrapped
+unfolding wrapped_by
 wrapped-one_less = refl
+
+-- around a slope: an exact half cycle beyond it is half a cycle below it
+wrapped_by-half_cycle_up : wrapped_by (pos 30000) 0 62768 ≡ negsuc 2767
+unfolding wrapped_by
+wrapped_by-half_cycle_up = refl
+
+wrapped_by-below_half : wrapped_by (pos 30000) 0 62767 ≡ pos 62767
+unfolding wrapped_by
+wrapped_by-below_half = refl
+
+wrapped_by-least_slope : wrapped_by (negsuc 32767) 0 0 ≡ negsuc 65535
+unfolding wrapped_by
+wrapped_by-least_slope = refl
+
+wrapped_by-greatest_slope : wrapped_by (pos 32767) 0 0 ≡ pos 0
+unfolding wrapped_by
+wrapped_by-greatest_slope = refl
 
 -- ---- rules
 mean-rounds_down : rule_number Mean 9 4 9 ≡ 6
@@ -50,6 +67,7 @@ vortex = record {
   width = 2;
   height = 2;
   phase = λ x y. slice_index (0 ∷ 16384 ∷ 49152 ∷ 32768 ∷ []) (y * 2 + x);
+  slope = λ down. pos 0;
   weight = λ e. slice_index (if e.down then 3 ∷ 5 ∷ [] else 5 ∷ 3 ∷ []) (if e.down then e.x else e.y);
   tile = λ x y. 0;
   tile_count = 1;
@@ -66,19 +84,31 @@ abbrev kept : Field ℤ
 kept x y = slice_index_or (pos 0 ∷ pos 16384 ∷ pos 49152 ∷ pos 32768 ∷ []) (y * 2 + x) (pos 0)
 
 residue-vortex : residue vortex 0 0 ≡ pos 1
-unfolding wrapped
+unfolding wrapped_by
 residue-vortex = refl
 
+-- where the phase is expected to rise by 30000 along a row, it has no residue, and the first surface costs nothing
+abbrev ramped : Raster
+ramped = record { width = 2; height = 2; phase = vortex.phase; slope = λ down. if down then pos 0 else pos 30000; weight = vortex.weight; tile = vortex.tile; tile_count = 1 }
+
+residue-ramped : residue ramped 0 0 ≡ pos 0
+unfolding wrapped_by
+residue-ramped = refl
+
+tile_cost-ramped : tile_cost ramped all_open 0 lowered ≡ pos 0
+unfolding wrapped_by tile_cost sum_below
+tile_cost-ramped = refl
+
 tile_cost-lowered : tile_cost vortex all_open 0 lowered ≡ pos 3
-unfolding wrapped tile_cost sum_below
+unfolding wrapped_by tile_cost sum_below
 tile_cost-lowered = refl
 
 tile_cost-kept : tile_cost vortex all_open 0 kept ≡ pos 3
-unfolding wrapped tile_cost sum_below
+unfolding wrapped_by tile_cost sum_below
 tile_cost-kept = refl
 
 seam_cost-lowered : seam_cost vortex all_open lowered ≡ pos 0
-unfolding wrapped seam_cost sum_below
+unfolding wrapped_by seam_cost sum_below
 seam_cost-lowered = refl
 
 -- its tile has one cell, and the face 3 certifies both surfaces
@@ -87,7 +117,7 @@ unfolding cell_count count_below
 cell_count-vortex = refl
 
 face_total-vortex : face_total vortex 0 (face_at vortex 0 (pos 3 ∷ [])) ≡ pos 3
-unfolding wrapped face_total face_product face_at count_below sum_below
+unfolding wrapped_by face_total face_product face_at count_below sum_below
 face_total-vortex = refl
 
 face_difference-top : face_difference (faces_of_tile vortex 0 (λ x y. pos 3)) (right_edge 0 0) ≡ negsuc 2
@@ -108,6 +138,7 @@ seam = record {
   width = 4;
   height = 3;
   phase = λ x y. slice_index (0 ∷ 0 ∷ 0 ∷ 0 ∷ 0 ∷ 0 ∷ 0 ∷ 20000 ∷ 0 ∷ 0 ∷ 0 ∷ 40000 ∷ []) (y * 4 + x);
+  slope = λ down. pos 0;
   weight = λ e. if e.down then 4 else slice_index (4 ∷ 4 ∷ 9 ∷ []) e.y;
   tile = λ x y. slice_index (0 ∷ 0 ∷ 0 ∷ 1 ∷ []) x;
   tile_count = 2;
@@ -127,19 +158,19 @@ on_the_right x y = slice_index_or (false ∷ false ∷ false ∷ true ∷ []) x 
 
 -- unmoved the seams cost 9, and 8 where the tile on the right is one cycle lower
 seam_cost-unmoved : seam_cost seam all_open unmoved ≡ pos 9
-unfolding wrapped seam_cost sum_below
+unfolding wrapped_by seam_cost sum_below
 seam_cost-unmoved = refl
 
 seam_cost-one_down : seam_cost seam all_open (shifted unmoved one_down) ≡ pos 8
-unfolding wrapped seam_cost sum_below
+unfolding wrapped_by seam_cost sum_below
 seam_cost-one_down = refl
 
 departure-top : departure seam (shifted unmoved one_down) (right_edge 2 0) ≡ negsuc 0
-unfolding wrapped
+unfolding wrapped_by
 departure-top = refl
 
 departure-last : departure seam (shifted unmoved one_down) (right_edge 2 2) ≡ pos 0
-unfolding wrapped
+unfolding wrapped_by
 departure-last = refl
 
 -- the flows -4 -4 8 certify that
@@ -160,5 +191,5 @@ unfolding flow_at seam_place count_below sum_below
 flow_out-balanced = refl
 
 flow_total-equal : flow_total seam all_open (shifted unmoved one_down) (flow_at seam flows) ≡ pos 8
-unfolding wrapped flow_total flow_at seam_place count_below sum_below
+unfolding wrapped_by flow_total flow_at seam_place count_below sum_below
 flow_total-equal = refl

@@ -5,7 +5,7 @@ use Rattle.std.proofs.lemmas.Int.{ints}
 use Rattle.std.proofs.lemmas.Bool.Decides.{nat_tests}
 use Rattle.raster_model.specs.declared.edge.Edge.{Edge}
 use Rattle.raster_model.specs.Sums.{Field, at_edge_start, at_edge_end, is_edge, sum_edges, right_edge, down_edge}
-use Rattle.raster_model.specs.Phase.{wrapped, turns}
+use Rattle.raster_model.specs.Phase.{wrapped_by, turns_by}
 use Rattle.raster_model.specs.Raster.{Raster, IsCongruent, departure, has_open_ends, is_seam, edge_cost, seam_cost}
 use Rattle.raster_model.specs.Seams.{AreJoined, IsOpenPixel, AreOffsets, IsRegion, shifted, flow_in, flow_out, flow_total, IsSeamCertificate, IsLabelling, IsLeastAtSeams}
 use Rattle.raster_model.specs.Seams.AreJoined.{here, rightward, leftward, downward, upward}
@@ -57,12 +57,12 @@ finish : (a b x y p q : ℤ) → p ≤ℤ q → p ≡ a +ℤ x → q ≡ b +ℤ 
 finish a b x y p q h i j k = omega (arith, ints)
 
 -- offsets add their difference to a departure
-departure_moved : (p q : ℕ) (sp sq cp cq op oq : ℤ) → sp ≡ pos p +ℤ pos 65536 *ℤ cp → sq ≡ pos q +ℤ pos 65536 *ℤ cq → int_div ((sq +ℤ pos 65536 *ℤ oq) -ℤ (sp +ℤ pos 65536 *ℤ op) -ℤ wrapped p q) (pos 65536) ≡ int_div (sq -ℤ sp -ℤ wrapped p q) (pos 65536) +ℤ oq -ℤ op
-departure_moved p q sp sq cp cq op oq hp hq =
-    let t = turns_exact p q in
-    let d : sq -ℤ sp -ℤ wrapped p q ≡ pos 65536 *ℤ (cq -ℤ cp +ℤ turns p q) = omega (arith, ints, hp, hq, t) in
-    let m : (sq +ℤ pos 65536 *ℤ oq) -ℤ (sp +ℤ pos 65536 *ℤ op) -ℤ wrapped p q ≡ pos 65536 *ℤ ((cq -ℤ cp +ℤ turns p q) +ℤ oq -ℤ op) = omega (arith, ints, d) in
-    rw (d, m, div_exact (cq -ℤ cp +ℤ turns p q), div_exact ((cq -ℤ cp +ℤ turns p q) +ℤ oq -ℤ op)) refl
+departure_moved : (slope : ℤ) (p q : ℕ) (sp sq cp cq op oq : ℤ) → sp ≡ pos p +ℤ pos 65536 *ℤ cp → sq ≡ pos q +ℤ pos 65536 *ℤ cq → int_div ((sq +ℤ pos 65536 *ℤ oq) -ℤ (sp +ℤ pos 65536 *ℤ op) -ℤ wrapped_by slope p q) (pos 65536) ≡ int_div (sq -ℤ sp -ℤ wrapped_by slope p q) (pos 65536) +ℤ oq -ℤ op
+departure_moved slope p q sp sq cp cq op oq hp hq =
+    let t = turns_exact slope p q in
+    let d : sq -ℤ sp -ℤ wrapped_by slope p q ≡ pos 65536 *ℤ (cq -ℤ cp +ℤ turns_by slope p q) = omega (arith, ints, hp, hq, t) in
+    let m : (sq +ℤ pos 65536 *ℤ oq) -ℤ (sp +ℤ pos 65536 *ℤ op) -ℤ wrapped_by slope p q ≡ pos 65536 *ℤ ((cq -ℤ cp +ℤ turns_by slope p q) +ℤ oq -ℤ op) = omega (arith, ints, d) in
+    rw (d, m, div_exact (cq -ℤ cp +ℤ turns_by slope p q), div_exact ((cq -ℤ cp +ℤ turns_by slope p q) +ℤ oq -ℤ op)) refl
 
 -- one edge: its flow times its departure, and what the offsets add, at most its cost when shifted
 edge_step : (s k : Bool) (f d e u v : ℤ) (w : ℕ) → (s ≡ true → unsigned_abs f ≤ (if k then w else 0)) → (k ≡ true → e ≡ d +ℤ v -ℤ u) → (where_true (s && k) (f *ℤ d) +ℤ where_true s (f *ℤ v)) ≤ℤ (where_true s (where_true k (pos ((if k then w else 0) * unsigned_abs e))) +ℤ where_true s (f *ℤ u))
@@ -178,13 +178,13 @@ module _ (r : Raster) (mask : Field Bool) (labels : Field ℕ) (count : ℕ) (la
     step_right x y l m n =
         edge_step (is_seam r (right_edge x y)) (has_open_ends mask (right_edge x y)) (F (right_edge x y)) (departure r S (right_edge x y)) (departure r (shifted S o) (right_edge x y)) (o x y) (o (x + 1) y) (r.weight (right_edge x y))
         (cert.bounded (right_edge x y) (right_is_edge r.width r.height x y l m n))
-        (λ k. departure_moved (r.phase x y) (r.phase (x + 1) y) (S x y) (S (x + 1) y) (cycles_of r S x y) (cycles_of r S (x + 1) y) (o x y) (o (x + 1) y) (cycles_exact r mask S good x y l m (and_first (mask x y) (mask (x + 1) y) k)) (cycles_exact r mask S good (x + 1) y n m (and_second (mask x y) (mask (x + 1) y) k)))
+        (λ k. departure_moved (r.slope false) (r.phase x y) (r.phase (x + 1) y) (S x y) (S (x + 1) y) (cycles_of r S x y) (cycles_of r S (x + 1) y) (o x y) (o (x + 1) y) (cycles_exact r mask S good x y l m (and_first (mask x y) (mask (x + 1) y) k)) (cycles_exact r mask S good (x + 1) y n m (and_second (mask x y) (mask (x + 1) y) k)))
 
     step_down : (x y : ℕ) → x < r.width → y < r.height → y + 1 < r.height → (where_true (is_seam r (down_edge x y) && has_open_ends mask (down_edge x y)) (F (down_edge x y) *ℤ departure r S (down_edge x y)) +ℤ where_true (is_seam r (down_edge x y)) (F (down_edge x y) *ℤ at_edge_end o (down_edge x y))) ≤ℤ (where_true (is_seam r (down_edge x y)) (edge_cost r mask (shifted S o) (down_edge x y)) +ℤ where_true (is_seam r (down_edge x y)) (F (down_edge x y) *ℤ at_edge_start o (down_edge x y)))
     step_down x y l m n =
         edge_step (is_seam r (down_edge x y)) (has_open_ends mask (down_edge x y)) (F (down_edge x y)) (departure r S (down_edge x y)) (departure r (shifted S o) (down_edge x y)) (o x y) (o x (y + 1)) (r.weight (down_edge x y))
         (cert.bounded (down_edge x y) (down_is_edge r.width r.height x y l m n))
-        (λ k. departure_moved (r.phase x y) (r.phase x (y + 1)) (S x y) (S x (y + 1)) (cycles_of r S x y) (cycles_of r S x (y + 1)) (o x y) (o x (y + 1)) (cycles_exact r mask S good x y l m (and_first (mask x y) (mask x (y + 1)) k)) (cycles_exact r mask S good x (y + 1) l n (and_second (mask x y) (mask x (y + 1)) k)))
+        (λ k. departure_moved (r.slope true) (r.phase x y) (r.phase x (y + 1)) (S x y) (S x (y + 1)) (cycles_of r S x y) (cycles_of r S x (y + 1)) (o x y) (o x (y + 1)) (cycles_exact r mask S good x y l m (and_first (mask x y) (mask x (y + 1)) k)) (cycles_exact r mask S good x (y + 1) l n (and_second (mask x y) (mask x (y + 1)) k)))
 
     least : seam_cost r mask S ≤ℤ seam_cost r mask (shifted S o)
     unfolding seam_cost flow_total

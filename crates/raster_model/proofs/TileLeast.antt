@@ -8,7 +8,7 @@ use Rattle.raster_model.specs.Sums.{Field, at_edge_start, at_edge_end, is_edge, 
 use Rattle.raster_model.specs.Raster.{Raster, IsCongruent, gradient, round_cell, residue, departure, cycle_departure, has_open_ends, is_inner, edge_cost, tile_cost}
 use Rattle.raster_model.specs.Certificates.{above, left, face_difference, is_cell, faces_of_tile, face_product, face_total, IsTileCertificate, IsLeastInTile}
 use Rattle.raster_model.specs.Best.{CertifiedTilesAreLeast}
-use Rattle.raster_model.proofs.PhaseLemmas.{div_exact, turns_exact}
+use Rattle.raster_model.proofs.PhaseLemmas.{div_exact, edge_exact}
 use Rattle.raster_model.proofs.SumLemmas.{sum_grid-same, sum_edges-le, right_is_edge, down_is_edge, on_each_edge}
 use Rattle.raster_model.proofs.Planar.{planar}
 use Rattle.std.proofs.lemmas.Bool.{and_from}
@@ -30,10 +30,10 @@ cycles_exact r mask S h x y l m o =
 -- what goes round a cell is its residue
 pub residue_is : (r : Raster) (c : Field ℤ) (x y : ℕ) → residue r x y ≡ cycle_departure r c (right_edge x (y + 1)) +ℤ cycle_departure r c (down_edge x y) -ℤ cycle_departure r c (right_edge x y) -ℤ cycle_departure r c (down_edge (x + 1) y)
 residue_is r c x y =
-    let ab = turns_exact (r.phase x y) (r.phase (x + 1) y) in
-    let bd = turns_exact (r.phase (x + 1) y) (r.phase (x + 1) (y + 1)) in
-    let cd = turns_exact (r.phase x (y + 1)) (r.phase (x + 1) (y + 1)) in
-    let ac = turns_exact (r.phase x y) (r.phase x (y + 1)) in
+    let ab = edge_exact r (right_edge x y) in
+    let bd = edge_exact r (down_edge (x + 1) y) in
+    let cd = edge_exact r (right_edge x (y + 1)) in
+    let ac = edge_exact r (down_edge x y) in
     let e : round_cell r x y ≡ pos 65536 *ℤ (cycle_departure r c (right_edge x (y + 1)) +ℤ cycle_departure r c (down_edge x y) -ℤ cycle_departure r c (right_edge x y) -ℤ cycle_departure r c (down_edge (x + 1) y)) =
     omega (arith, ints, ab, bd, cd, ac) in
     ap (λ (z : ℤ). int_div z (pos 65536)) e ∙ div_exact (cycle_departure r c (right_edge x (y + 1)) +ℤ cycle_departure r c (down_edge x y) -ℤ cycle_departure r c (right_edge x y) -ℤ cycle_departure r c (down_edge (x + 1) y))
@@ -41,7 +41,7 @@ residue_is r c x y =
 -- on an edge whose ends are open it is the departure
 pub departure_is : (r : Raster) (S : Field ℤ) (e : Edge) → at_edge_start S e ≡ pos (at_edge_start r.phase e) +ℤ pos 65536 *ℤ at_edge_start (cycles_of r S) e → at_edge_end S e ≡ pos (at_edge_end r.phase e) +ℤ pos 65536 *ℤ at_edge_end (cycles_of r S) e → departure r S e ≡ cycle_departure r (cycles_of r S) e
 departure_is r S e p q =
-    let t = turns_exact (at_edge_start r.phase e) (at_edge_end r.phase e) in
+    let t = edge_exact r e in
     let d : at_edge_end S e -ℤ at_edge_start S e -ℤ gradient r e ≡ pos 65536 *ℤ cycle_departure r (cycles_of r S) e = omega (arith, ints, p, q, t) in
     ap (λ (z : ℤ). int_div z (pos 65536)) d ∙ div_exact (cycle_departure r (cycles_of r S) e)
 

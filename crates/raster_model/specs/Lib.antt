@@ -16,7 +16,9 @@ pub mod Bits
 pub mod MaskView
 pub mod MaskWords
 pub mod Masks
+pub mod Terms
 pub mod Scene
+pub mod Sessions
 pub mod Heights
 pub mod Scripts
 pub mod Plain

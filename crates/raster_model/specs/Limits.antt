@@ -1,5 +1,5 @@
 -- The limits of rasters, tiles and sessions.
-use Rattle.std.specs.Prelude.{ℕ, ◌*◌, ◌≤◌, Bool, ◌&&◌, nat_le}
+use Rattle.std.specs.Prelude.{ℕ, ◌*◌, ◌≤◌, ℤ, pos, neg_ℤ, ◌≤ℤ◌, Bool, ◌&&◌, nat_le}
 
 -- the most pixels along a side of a raster, and in all
 abbrev pub max_side : ℕ
@@ -33,3 +33,11 @@ is_raster_size w h = nat_le 1 w && nat_le w max_side && nat_le 1 h && nat_le h m
 -- tiles may have this side
 abbrev pub IsTileSide : ℕ → Type 0
 IsTileSide side = (2 ≤ side) × (side ≤ 128)
+
+-- a ramp may rise by so much from a pixel to its neighbour, in units of 1/65536 cycle
+abbrev pub IsSlope : ℤ → Type 0
+IsSlope slope = (neg_ℤ (pos 32768) ≤ℤ slope) × (slope ≤ℤ pos 32767)
+
+-- costs may have this steepness
+abbrev pub IsSteepness : ℕ → Type 0
+IsSteepness steep = (1 ≤ steep) × (steep ≤ 16)

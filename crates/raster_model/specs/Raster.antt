@@ -3,21 +3,26 @@
 use Rattle.std.specs.Prelude.{◌≡◌, ℕ, ◌+◌, ◌*◌, ◌<◌, ℤ, pos, ◌+ℤ◌, ◌-ℤ◌, ◌*ℤ◌, Bool, ◌&&◌, ◌==◌, not, IsTrue, if◌then◌else◌, unsigned_abs, int_div}
 use Rattle.raster_model.specs.declared.edge.Edge.{Edge}
 use Rattle.raster_model.specs.Sums.{Field, at_edge_start, at_edge_end, edges_from, sum_edges, right_edge, down_edge}
-use Rattle.raster_model.specs.Phase.{wrapped, turns}
+use Rattle.raster_model.specs.Phase.{wrapped_by, turns_by}
 use Rattle.sums_and_lists.specs.Sums.{where_true}
 
--- what the definitions read of a scene; the weight of an edge is that before any mask
+-- what the definitions read of a scene; the slope is what the phase is expected to rise along a down edge, or along a right one, and the weight of an edge is that before any mask
 pub record Raster : Type 0 where
   pub width : ℕ
   pub height : ℕ
   pub phase : Field ℕ
+  pub slope : Bool → ℤ
   pub weight : Edge → ℕ
   pub tile : Field ℕ
   pub tile_count : ℕ
 
--- the wrapped difference of an edge, from its first end to the other
+-- the wrapped difference of an edge around its slope, from its first end to the other
 abbrev pub gradient : Raster → Edge → ℤ
-gradient r e = wrapped (at_edge_start r.phase e) (at_edge_end r.phase e)
+gradient r e = wrapped_by (r.slope e.down) (at_edge_start r.phase e) (at_edge_end r.phase e)
+
+-- the whole cycles that it leaves out of the difference of the phases
+abbrev pub turns_of : Raster → Edge → ℤ
+turns_of r e = turns_by (r.slope e.down) (at_edge_start r.phase e) (at_edge_end r.phase e)
 
 -- the sum of the wrapped differences round the cell whose upper left corner is (x, y): along its top and its right side, and back along its bottom and its left side
 abbrev pub round_cell : Raster → Field ℤ
@@ -40,7 +45,7 @@ abbrev pub lifted : Raster → Field ℤ → Field ℤ
 lifted r cycles x y = pos (r.phase x y) +ℤ pos 65536 *ℤ cycles x y
 
 abbrev pub cycle_departure : Raster → Field ℤ → Edge → ℤ
-cycle_departure r cycles e = at_edge_end cycles e -ℤ at_edge_start cycles e +ℤ turns (at_edge_start r.phase e) (at_edge_end r.phase e)
+cycle_departure r cycles e = at_edge_end cycles e -ℤ at_edge_start cycles e +ℤ turns_of r e
 
 abbrev pub has_open_ends : Field Bool → Edge → Bool
 has_open_ends mask e = at_edge_start mask e && at_edge_end mask e

@@ -18,15 +18,17 @@ ghost use Rattle.raster_model.specs.Exact.{
   ResidueIsSmall,
 };
 ghost use Rattle.raster_model.specs.Order.{CellsFollowTheWindow, FlowsFollowEdgeOrder};
-ghost use Rattle.raster_model.specs.Phase.{TurnsAreExact, WrappedIsIt, WrappedIsOnly};
+ghost use Rattle.raster_model.specs.Phase.{TurnsAreExact, WrappedHasNoSlope, WrappedIsIt, WrappedIsOnly};
 ghost use Rattle.raster_model.specs.Seams.{RegionNumbersAreUnique};
 ghost use Rattle.raster_model.specs.Tiles.{PixelsHaveOneWindow, TilesAreNumbered, TilesAreSquares};
 
-/// Two phases have one wrapped difference, and it leaves out whole cycles.
+/// Two phases have one wrapped difference around each slope, and it leaves out whole cycles. Around the slope 0 it is the
+/// number from -32768 to 32767.
 pub fn wrapped_difference_is_unique()
     ensures found { WrappedIsIt }
     ensures only { WrappedIsOnly }
     ensures turns { TurnsAreExact }
+    ensures no_slope { WrappedHasNoSlope }
 {}
 
 /// The whole cycles around a cell are its residue: -1, 0 or 1.

@@ -15,6 +15,7 @@ mod plane;
 mod scene;
 mod script;
 mod session;
+mod terms;
 mod tiling;
 mod weights;
 
@@ -26,11 +27,12 @@ pub use crate::limits::{
     MIN_TILE_SIDE, is_raster_size,
 };
 pub use crate::mask::Mask;
-pub use crate::measures::{departure, first_open, stored_weight, weight};
-pub use crate::phase::{turns, wrapped};
+pub use crate::measures::{departure, first_open, stored_weight, turns, weight};
+pub use crate::phase::{turns_ramp, wrapped, wrapped_ramp};
 pub use crate::plane::{Plane, PlaneShape};
 pub use crate::scene::Scene;
 pub use crate::script::{Command, Edit, Rect, Script};
 pub use crate::session::Session;
+pub use crate::terms::Terms;
 pub use crate::tiling::{Tiling, Window};
 pub use crate::weights::{EdgeWeights, RuleKind};

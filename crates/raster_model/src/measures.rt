@@ -1,5 +1,5 @@
 ghost use Rattle.raster_model.specs.Masks.{open_at};
-ghost use Rattle.raster_model.specs.Raster.{departure as departure_of, lifted, masked_weight};
+ghost use Rattle.raster_model.specs.Raster.{departure as departure_of, lifted, masked_weight, turns_of};
 ghost use Rattle.raster_model.specs.Scene.{raster_of};
 ghost use Rattle.raster_model.specs.Seams.{IsFirstOpen, IsOpenPixel};
 ghost use Rattle.raster_model.specs.Sums.{at_edge_end, at_edge_start, is_edge};
@@ -9,7 +9,7 @@ ghost use Rattle.std.specs.Prelude.{◌≡◌, ◌+◌, ◌≤◌, ◌^◌, ℕ,
 use crate::edge::Edge;
 use crate::heights::Heights;
 use crate::mask::Mask;
-use crate::phase::turns;
+use crate::phase::turns_ramp;
 use crate::scene::Scene;
 
 /// The weight of an edge under a mask: 0 if an end is masked.
@@ -39,6 +39,18 @@ pub fn stored_weight(scene: &Scene, edge: Edge) -> u16
     }
 }
 
+/// The whole cycles that the wrapped difference of an edge, around its slope, leaves out of the difference of the phases
+/// at its ends: -1, 0 or 1.
+pub fn turns(scene: &Scene, edge: Edge) -> i32
+    requires { IsTrue (is_edge scene.now.phase.width scene.now.phase.height edge) }
+    ensures value { result ≡ turns_of (raster_of scene.now) edge }
+    ensures small { unsigned_abs result ≤ 1 }
+{
+    let from = scene.phase.sample(edge.x, edge.y);
+    let to = scene.phase.sample(edge.end_x(), edge.end_y());
+    turns_ramp(from, to, scene.terms.slope(edge.down))
+}
+
 /// The whole cycles by which a surface departs from the wrapped difference of an edge, whose ends are open.
 /// (Chen and Zebker 2002.)
 pub fn departure<H: Heights>(scene: &Scene, heights: &H, edge: Edge) -> i64
@@ -48,11 +60,9 @@ pub fn departure<H: Heights>(scene: &Scene, heights: &H, edge: Edge) -> i64
     ensures value { result ≡ departure_of (raster_of scene.now) (lifted (raster_of scene.now) (H.cycles_at heights.now)) edge }
     ensures small { unsigned_abs result ≤ 2 ^ 49 + 1 }
 {
-    let x = edge.end_x();
-    let y = edge.end_y();
-    let from = scene.phase.sample(edge.x, edge.y);
-    let to = scene.phase.sample(x, y);
-    heights.cycles(x, y) - heights.cycles(edge.x, edge.y) + i64::from(turns(from, to))
+    let to = heights.cycles(edge.end_x(), edge.end_y());
+    let from = heights.cycles(edge.x, edge.y);
+    to - from + i64::from(turns(scene, edge))
 }
 
 /// The first open pixel in row order.

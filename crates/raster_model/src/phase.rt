@@ -1,4 +1,5 @@
-ghost use Rattle.raster_model.specs.Phase.{IsWrapped, turns as turns_between, wrapped as wrapped_difference};
+ghost use Rattle.raster_model.specs.Limits.{IsSlope};
+ghost use Rattle.raster_model.specs.Phase.{IsWrapped, IsWrappedBy, turns_by, wrapped as wrapped_difference, wrapped_by};
 ghost use Rattle.std.specs.Prelude.{◌≡◌, ◌≤◌, pos, ◌+ℤ◌, ◌-ℤ◌, ◌*ℤ◌, unsigned_abs};
 
 /// The wrapped difference from phase `a` to phase `b`, in units of 1/65536 cycle, from -32768 to 32767.
@@ -10,11 +11,22 @@ pub fn wrapped(a: u16, b: u16) -> i32
     (i32::from(b) - i32::from(a) + 32768).rem_euclid(65536) - 32768
 }
 
-/// The whole cycles that the wrapped difference leaves out of the difference of two phases: -1, 0 or 1.
-pub fn turns(a: u16, b: u16) -> i32
-    ensures value { result ≡ turns_between a b }
-    ensures exact { pos b -ℤ pos a ≡ wrapped_difference a b +ℤ pos 65536 *ℤ result }
+/// The wrapped difference from phase `a` to phase `b` around a slope, from 32768 below it to 32767 above it. Around the
+/// slope 0 it is `wrapped`.
+pub fn wrapped_ramp(a: u16, b: u16, slope: i32) -> i32
+    requires { IsSlope slope }
+    ensures meets { IsWrappedBy slope a b result }
+    ensures value { result ≡ wrapped_by slope a b }
+{
+    slope + ((i32::from(b) - i32::from(a) - slope + 32768).rem_euclid(65536) - 32768)
+}
+
+/// The whole cycles that the wrapped difference around a slope leaves out of the difference of two phases: -1, 0 or 1.
+pub fn turns_ramp(a: u16, b: u16, slope: i32) -> i32
+    requires { IsSlope slope }
+    ensures value { result ≡ turns_by slope a b }
+    ensures exact { pos b -ℤ pos a ≡ wrapped_by slope a b +ℤ pos 65536 *ℤ result }
     ensures small { unsigned_abs result ≤ 1 }
 {
-    (i32::from(b) - i32::from(a) - wrapped(a, b)) / 65536
+    (i32::from(b) - i32::from(a) - wrapped_ramp(a, b, slope)) / 65536
 }

@@ -15,6 +15,7 @@ ghost use Rattle.raster_model.specs.Raster.{
 };
 ghost use Rattle.raster_model.specs.Scene.{raster_of};
 ghost use Rattle.raster_model.specs.Sums.{is_edge};
+ghost use Rattle.raster_model.specs.Terms.{slope_of};
 ghost use Rattle.raster_model.specs.Tiles.{tiles_of};
 ghost use Rattle.raster_model.specs.Weights.{AreRuleWeights, edge_weight as edge_weight_of};
 ghost use Rattle.std.specs.Prelude.{
@@ -25,10 +26,11 @@ ghost use Rattle.std.specs.Prelude.{
   ◌<◌,
   ◌≤◌,
   ◌^◌,
+  ◌+ℤ◌,
+  ◌-ℤ◌,
   ◌≤ℤ◌,
   IfOk,
   IsTrue,
-  neg_ℤ,
   pos,
   unsigned_abs,
 };
@@ -37,7 +39,7 @@ use crate::edge::Edge;
 use crate::heights::Heights;
 use crate::mask::Mask;
 use crate::measures::{departure, weight};
-use crate::phase::wrapped;
+use crate::phase::wrapped_ramp;
 use crate::plane::Plane;
 use crate::scene::Scene;
 use crate::weights::{EdgeWeights, RuleKind};
@@ -99,16 +101,16 @@ fn down_weights(alloc: Global, rule: RuleKind, weights: &Plane) -> Result<Vec<u1
     Ok(list)
 }
 
-/// The wrapped difference of an edge, from its first pixel to the other.
+/// The wrapped difference of an edge around its slope, from its first pixel to the other.
 pub fn gradient(scene: &Scene, edge: Edge) -> i32
     requires { IsTrue (is_edge scene.now.phase.width scene.now.phase.height edge) }
     ensures value { result ≡ gradient_of (raster_of scene.now) edge }
-    ensures low { neg_ℤ (pos 32768) ≤ℤ result }
-    ensures high { result ≤ℤ pos 32767 }
+    ensures low { (slope_of scene.now.terms edge.down -ℤ pos 32768) ≤ℤ result }
+    ensures high { result ≤ℤ (slope_of scene.now.terms edge.down +ℤ pos 32767) }
 {
     let from = scene.phase.sample(edge.x, edge.y);
     let to = scene.phase.sample(edge.end_x(), edge.end_y());
-    wrapped(from, to)
+    wrapped_ramp(from, to, scene.terms.slope(edge.down))
 }
 
 /// The residue of the cell with the upper left corner (`x`, `y`), in cycles: -1, 0 or 1. It is the sum of

@@ -2,6 +2,7 @@ ghost use Rattle.raster_model.specs.Weights.{AreRuleWeights};
 ghost use Rattle.std.specs.Prelude.{◌≡◌};
 
 use crate::plane::Plane;
+use crate::terms::Terms;
 use crate::tiling::Tiling;
 use crate::weights::{EdgeWeights, RuleKind};
 
@@ -18,6 +19,8 @@ pub struct Scene {
     pub edges: EdgeWeights,
     /// The tiles.
     pub tiling: Tiling,
+    /// The ramp that is expected of the phase, and the steepness of costs.
+    pub terms: Terms,
     pub ghost cycle: { phase.maxval ≡ 65535 },
     pub ghost same_width: { (weights.width ≡ phase.width) × (tiling.width ≡ phase.width) },
     pub ghost same_height: { (weights.height ≡ phase.height) × (tiling.height ≡ phase.height) },

@@ -6,6 +6,7 @@ ghost use Rattle.std.specs.Prelude.{◌≡◌, ◌*◌, ◌≤◌, vec_len};
 use crate::mask::Mask;
 use crate::scene::Scene;
 use crate::script::Script;
+use crate::terms::Terms;
 
 /// What is worked on: a scene, the mask that the analysts start from, and a script for each of them.
 #[derive(Drop)]
@@ -20,4 +21,43 @@ pub struct Session {
     pub ghost settles: { settles_in scripts.items * (scene.phase.width * scene.phase.height) ≤ max_settled_pixels },
     pub ghost changes: { changes_in scripts.items * tiles_of scene.tiling ≤ max_changed_tiles },
     pub ghost inside: { ScriptsFit scene.phase.width scene.phase.height scripts.items },
+    pub ghost unsteep: { scene.terms.steep ≡ 1 },
+}
+
+impl Session {
+    ghost use Rattle.raster_model.specs.Sessions.{HasNewTerms};
+    ghost use Rattle.std.specs.Prelude.{◌≡◌};
+
+    /// The same session on other terms.
+    pub fn with_terms(self, terms: Terms) -> Session
+        requires { terms.steep ≡ 1 }
+        ensures { HasNewTerms self terms result }
+    {
+        let Session {
+            scene,
+            first_mask,
+            scripts,
+        } = self;
+        let Scene {
+            phase,
+            weights,
+            rule,
+            edges,
+            tiling,
+            ..
+        } = scene;
+        let scene = Scene {
+            phase,
+            weights,
+            rule,
+            edges,
+            tiling,
+            terms,
+        };
+        Session {
+            scene,
+            first_mask,
+            scripts,
+        }
+    }
 }

@@ -1,6 +1,6 @@
-use raster_model::{Tiling, Window};
+use raster_model::{Terms, Tiling, Window};
 use std::test::Fail;
-use worked_scenes::{same, scene};
+use worked_scenes::{same, scene, scene_on};
 use wrapped_gradient::Gradients;
 
 /// The four quarter turns of `0 16384 / 49152 32768`, by hand.
@@ -24,6 +24,36 @@ fn a_full_turn_is_a_residue(rt: HostRuntime) -> Result<(), Fail> {
     )?;
     let residues = (gradients.residue(0, 0), gradients.first_residue());
     same("residue", residues, (1, Some((0, 0))))?;
+    Ok(())
+}
+
+/// The same phases where a rise is expected along rows and along columns: the bottom edge and the left edge rise by three
+/// quarters of a cycle, and the turn goes the other way.
+#[test]
+fn a_ramp_goes_both_ways(rt: HostRuntime) -> Result<(), Fail> {
+    let terms = Terms {
+        ramp_x: 30000,
+        ramp_y: 20000,
+        steep: 1,
+    };
+    let phases = [0, 16384, 49152, 32768];
+    let scene = scene_on(rt.alloc(), terms, Tiling::new(2, 2, 2), 1, &phases, &[1; 4])?;
+    let window = Window {
+        x0: 0,
+        y0: 0,
+        x1: 1,
+        y1: 1,
+    };
+    let gradients = Gradients::of(rt.alloc(), &scene, window)?;
+    let (top, bottom) = (gradients.right(0, 0), gradients.right(0, 1));
+    let (left, right) = (gradients.down(0, 0), gradients.down(1, 0));
+    same(
+        "quarters",
+        [top, right, bottom, left],
+        [16384, 16384, 49152, 49152],
+    )?;
+    let residues = (gradients.residue(0, 0), gradients.first_residue());
+    same("residue", residues, (-1, Some((0, 0))))?;
     Ok(())
 }
 

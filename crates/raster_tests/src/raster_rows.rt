@@ -1,11 +1,11 @@
 ghost use Rattle.std.specs.Prelude.{◌&&◌, if◌then◌else◌, nat_le, pos, true};
 
 use raster_model::{
-    Edge, Heights, Mask, Plane, PlaneShape, Rect, Tiling, Window, departure, plain, turns, weight,
-    wrapped,
+    Edge, Heights, Mask, Plane, PlaneShape, Rect, Terms, Tiling, Window, departure, plain, turns,
+    turns_ramp, weight, wrapped, wrapped_ramp,
 };
 use std::test::Fail;
-use worked_scenes::{plane, same, scene};
+use worked_scenes::{plane, same, scene, scene_on};
 
 /// The phase, raised by whole cycles in a box.
 #[derive(Drop)]
@@ -64,8 +64,76 @@ fn wraps_a_half_cycle_down(_rt: HostRuntime) -> Result<(), Fail> {
         (0, 65535, -1, 1),
     ];
     for (a, b, difference, cycles) in cases {
-        same("pair", (wrapped(a, b), turns(a, b)), (difference, cycles))?;
+        same(
+            "pair",
+            (wrapped(a, b), turns_ramp(a, b, 0)),
+            (difference, cycles),
+        )?;
     }
+    Ok(())
+}
+
+/// Pairs of phases and the slope of a ramp: the difference lies from half a cycle below the slope to a little less than
+/// half a cycle above it.
+#[test]
+fn wraps_around_a_slope(_rt: HostRuntime) -> Result<(), Fail> {
+    let around_30000 = [
+        (wrapped_ramp(0, 40000, 30000), turns_ramp(0, 40000, 30000)),
+        (
+            wrapped_ramp(40000, 14464, 30000),
+            turns_ramp(40000, 14464, 30000),
+        ),
+        (wrapped_ramp(0, 62767, 30000), turns_ramp(0, 62767, 30000)),
+        (wrapped_ramp(0, 62768, 30000), turns_ramp(0, 62768, 30000)),
+    ];
+    let wanted = [(40000, 0), (40000, -1), (62767, 0), (-2768, 1)];
+    same("around 30000", around_30000, wanted)?;
+    let at_the_ends = [
+        (wrapped_ramp(0, 0, -32768), turns_ramp(0, 0, -32768)),
+        (wrapped_ramp(0, 0, 32767), turns_ramp(0, 0, 32767)),
+        (wrapped_ramp(65535, 0, -32768), turns_ramp(65535, 0, -32768)),
+    ];
+    same("ends", at_the_ends, [(-65536, 1), (0, 0), (-65535, 0)])?;
+    Ok(())
+}
+
+/// What is a full turn without a ramp has no residue where the phase is expected to rise along a row: its bottom edge
+/// rises by 49152. The surface whose third pixel lies one cycle lower then costs nothing.
+#[test]
+fn a_ramp_takes_a_residue_away(rt: HostRuntime) -> Result<(), Fail> {
+    let terms = Terms {
+        ramp_x: 30000,
+        ramp_y: 0,
+        steep: 1,
+    };
+    let tiling = Tiling::new(2, 2, 128);
+    let phases = [0, 16384, 49152, 32768];
+    let scene = scene_on(rt.alloc(), terms, tiling, 9, &phases, &[5, 5, 3, 9])?;
+    let mask = Mask::all_open(rt.alloc(), 2, 2)?;
+    let rect = Rect {
+        x0: 0,
+        y0: 1,
+        x1: 0,
+        y1: 1,
+    };
+    let heights = Raised { rect, cycles: -1 };
+    let costs = (
+        plain::tile_cost(&scene, &mask, &heights, 0),
+        plain::seam_cost(&scene, &mask, &heights),
+    );
+    same("costs", costs, (0, 0))?;
+    let bottom = Edge {
+        x: 0,
+        y: 1,
+        down: false,
+    };
+    let numbers = (
+        plain::residue(&scene, 0, 0),
+        plain::gradient(&scene, bottom),
+        turns(&scene, bottom),
+        departure(&scene, &heights, bottom),
+    );
+    same("cell", numbers, (0, 49152, -1, 0))?;
     Ok(())
 }
 

@@ -1,5 +1,5 @@
 -- What a flood over the edges of a raster has joined, and the numbers of its trees. No public clause cites this file.
-use Rattle.std.specs.Prelude.{◌≡◌, ℕ, ◌+◌, ◌-◌, ◌*◌, ◌/◌, ◌%◌, ◌<◌, ◌≤◌, Bool, true, false, ◌&&◌, ◌==◌, IsTrue, if◌then◌else◌, List, length, slice_index}
+use Rattle.std.specs.Prelude.{◌≡◌, ℕ, ◌+◌, ◌-◌, ◌*◌, ◌/◌, ◌%◌, ◌<◌, ◌≤◌, pos, Bool, true, false, ◌&&◌, ◌==◌, IsTrue, if◌then◌else◌, List, length, slice_index}
 use Rattle.raster_model.specs.declared.edge.Edge.{Edge}
 use Rattle.raster_model.specs.declared.tiling.Tiling.{Tiling}
 use Rattle.raster_model.specs.MaskView.{MaskView}
@@ -15,7 +15,7 @@ use Rattle.sums_and_lists.specs.Sums.{count_below, one_if}
 
 -- a raster with a tiling's size and tiles
 abbrev pub tiled : Tiling → Raster
-tiled g = record { width = g.width; height = g.height; phase = λ x y. 0; weight = λ e. 0; tile = tile_at g; tile_count = tiles_of g }
+tiled g = record { width = g.width; height = g.height; phase = λ x y. 0; slope = λ down. pos 0; weight = λ e. 0; tile = tile_at g; tile_count = tiles_of g }
 
 -- the number of an edge: edges go in the row order of their other ends, and each pixel has two numbers, for its left edge and its upper edge
 abbrev pub edge_rank : ℕ → Edge → ℕ

@@ -3,12 +3,12 @@ ghost use Rattle.std.specs.Prelude.{◌≡◌, ◌<◌, IfOk};
 
 use crate::reading::read_raster;
 use certificates::{TileResult, TileVerdict, check_tile};
-use raster_model::Scene;
+use raster_model::{Scene, Terms, Tiling};
 use std::alloc::{AllocError, Global};
 use std::process::Abort;
 use std::test::Fail;
 use tile_solver::solve_tile;
-use worked_scenes::{masked, tile_result};
+use worked_scenes::{masked, same, scene_on, tile_result};
 
 /// Rows of `read_raster`: width, height, phases, weights and mask of a raster in one tile, and the least cost of its surfaces. First a full turn by
 /// hand, whole, with a pixel masked and with all; a line; a ramp that turns over between its first columns, under two masks.
@@ -86,6 +86,40 @@ fn tiles_cost_what_another_solver_finds(rt: HostRuntime) -> Result<(), Fail> {
             cost => TileVerdict::CostDiffers { cost, bound: 0 },
         };
         assert_eq!(rt; bare, counted);
+    }
+    Ok(())
+}
+
+/// Where a rise of 30000 is expected along a row, the line `0 40000 14464 54464` is `0 40000 80000 120000`, and what is a
+/// full turn without a ramp is `0 16384 / -16384 32768`. Neither costs anything, so faces of 0 certify it.
+#[test]
+fn a_tile_follows_its_ramp(rt: HostRuntime) -> Result<(), Fail> {
+    let terms = Terms {
+        ramp_x: 30000,
+        ramp_y: 0,
+        steep: 1,
+    };
+    let cases: [(Tiling, [u16; 4], [i32; 4]); 2] = [
+        (
+            Tiling::new(4, 1, 128),
+            [0, 40000, 14464, 54464],
+            [0, 0, 1, 1],
+        ),
+        (
+            Tiling::new(2, 2, 128),
+            [0, 16384, 49152, 32768],
+            [0, 0, -1, 0],
+        ),
+    ];
+    for (tiling, phases, cycles) in cases {
+        let scene = scene_on(rt.alloc(), terms, tiling, 9, &phases, &[5, 5, 3, 9])?;
+        assert!(rt; 0 < scene.tiling.tile_count());
+        let solved = solved(&rt, rt.alloc(), &scene, &[1; 4])?;
+        same("cycles", solved.cycles.as_slice(), cycles.as_slice())?;
+        let none = vec![in rt.alloc(); 0; solved.faces.len()]?;
+        let bare = tile_result(rt.alloc(), 0, 7, &solved.cycles, &none)?;
+        let mask = masked(rt.alloc(), &scene.tiling, &[1; 4])?;
+        assert_eq!(rt; check_tile(&scene, &mask, &bare), TileVerdict::Good);
     }
     Ok(())
 }

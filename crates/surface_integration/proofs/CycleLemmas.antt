@@ -5,13 +5,10 @@ use Rattle.std.proofs.lemmas.Int.{ints}
 use Rattle.raster_model.specs.declared.edge.Edge.{Edge}
 use Rattle.raster_model.specs.declared.scene.Scene.{Scene}
 use Rattle.raster_model.specs.declared.tiling.Window.{Window}
-use Rattle.raster_model.specs.Phase.{turns}
-use Rattle.raster_model.specs.Planes.{plane_sample}
-use Rattle.raster_model.specs.Raster.{Raster, cycle_departure}
+use Rattle.raster_model.specs.Raster.{Raster, cycle_departure, turns_of}
 use Rattle.raster_model.specs.Scene.{raster_of}
-use Rattle.raster_model.specs.Sums.{end_x, end_y, right_edge, down_edge}
+use Rattle.raster_model.specs.Sums.{right_edge, down_edge}
 use Rattle.raster_model.proofs.Exact.{cycles_depart}
-use Rattle.raster_model.proofs.PhaseLemmas.{turns_small}
 use Rattle.raster_model.proofs.TileLeast.{residue_is}
 use Rattle.wrapped_gradient.specs.declared.corrections.Corrections.{Corrections}
 use Rattle.wrapped_gradient.specs.Corrections.{CancelResidues, correction_at, greatest_of}
@@ -21,7 +18,7 @@ use Rattle.wrapped_gradient.proofs.CorrectionLemmas.{correction_within}
 use Rattle.surface_integration.specs.Cycles.{DepartBy, StaySmall, cycles_at}
 use Rattle.surface_integration.specs.Rows.{rise_of}
 use Rattle.surface_integration.proofs.Filled.{IsFilled}
-use Rattle.surface_integration.proofs.RiseLemmas.{rise_bounded}
+use Rattle.surface_integration.proofs.RiseLemmas.{rise_bounded, turns_of_small}
 use Rattle.surface_integration.proofs.RowLemmas.{bound_next}
 
 -- a rise makes the departure
@@ -68,14 +65,9 @@ module _ (r : Raster) (v : Window) (k : Corrections) (zs : List ℤ) (across : v
       go x y false i = right_departs x y i.start.0 (omega (arith, i.end.1)) i.start.2 i.start.3
       go x y true i = down_departs x y i.start.0 i.start.1 i.start.2 (omega (arith, i.end.3))
 
--- the phases of a scene have 16 bits
-phase_small : (s : Scene) (x y : ℕ) → plane_sample s.phase x y < 65536
-phase_small s x y = let h = s.phase.below (y * s.phase.width + x) in omega (arith, h, s.cycle)
-
 pub rise_small : (s : Scene) (v : Window) (k : Corrections) (e : Edge) → unsigned_abs (rise_of (raster_of s) v k e) ≤ greatest_of k + 1
 rise_small s v k e =
-    let t = turns_small (plane_sample s.phase e.x e.y) (plane_sample s.phase (end_x e) (end_y e)) (phase_small s e.x e.y) (phase_small s (end_x e) (end_y e)) in
-    let p = rise_bounded (correction_at v k e) (turns (plane_sample s.phase e.x e.y) (plane_sample s.phase (end_x e) (end_y e))) t in
+    let p = rise_bounded (correction_at v k e) (turns_of (raster_of s) e) (turns_of_small s e) in
     let q = correction_within v k e in
     omega (arith, p, q)
 

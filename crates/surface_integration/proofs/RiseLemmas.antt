@@ -1,16 +1,18 @@
 -- The rise of the cycles along an edge.
-use Rattle.std.proofs.Common.{◌≡◌, ◌∙◌, ℕ, ◌+◌, ◌-◌, ◌*◌, ◌<◌, ◌≤◌, sym, ap, subst, arith, length, to_z, of_z, w32}
-use Rattle.std.specs.Prelude.{ℤ, pos, ◌-ℤ◌, unsigned_abs, slice_index_or, FitsSigned}
+use Rattle.std.proofs.Common.{◌≡◌, ◌∙◌, ℕ, suc, ◌+◌, ◌-◌, ◌*◌, ◌/◌, ◌<◌, ◌≤◌, sym, ap, refl, subst, arith, length, to_z, of_z, w32}
+use Rattle.std.specs.Prelude.{ℤ, pos, negsuc, ◌-ℤ◌, int_div, unsigned_abs, slice_index_or, FitsSigned}
 use Rattle.std.proofs.lemmas.Int.{ints}
 use Rattle.std.proofs.lemmas.List.{get_or_read_under}
 use Rattle.raster_model.specs.declared.edge.Edge.{Edge}
 use Rattle.raster_model.specs.declared.scene.Scene.{Scene}
 use Rattle.raster_model.specs.declared.tiling.Window.{Window}
-use Rattle.raster_model.specs.Phase.{wrapped, turns}
+use Rattle.raster_model.specs.Phase.{turns_by}
 use Rattle.raster_model.specs.Planes.{plane_sample}
+use Rattle.raster_model.specs.Raster.{gradient, turns_of}
 use Rattle.raster_model.specs.Scene.{raster_of}
-use Rattle.raster_model.specs.Sums.{right_edge, down_edge}
-use Rattle.raster_model.proofs.PhaseLemmas.{wrapped_is_it}
+use Rattle.raster_model.specs.Sums.{end_x, end_y, right_edge, down_edge}
+use Rattle.raster_model.specs.Terms.{slope_of}
+use Rattle.raster_model.proofs.PhaseLemmas.{edge_exact, slope_in_range, turns_small}
 use Rattle.wrapped_gradient.specs.declared.corrections.Corrections.{Corrections}
 use Rattle.wrapped_gradient.specs.Corrections.{HasShapeOf, correction_at, greatest_of}
 use Rattle.wrapped_gradient.specs.Gradients.{AreGradientsOf, gradient_at}
@@ -22,10 +24,21 @@ use Rattle.surface_integration.specs.Cycles.{AreSmall}
 use Rattle.surface_integration.specs.Rows.{rise_of}
 
 -- as code adds it up, at 32 bits
-pub difference_fits : (a b : ℕ) (p q d : ℤ) → p ≡ pos a → q ≡ pos b → d ≡ wrapped a b → a < 65536 → b < 65536 → FitsSigned w32 (to_z w32 (of_z w32 (to_z w32 (of_z w32 q) -ℤ to_z w32 (of_z w32 p))) -ℤ to_z w32 (of_z w32 d))
-difference_fits a b p q d ep eq ed l m =
-    let w = wrapped_is_it a b in
-    omega (arith, ints, ep, eq, ed, w.low, w.high)
+pub difference_fits : (a b : ℕ) (p q d : ℤ) → p ≡ pos a → q ≡ pos b → unsigned_abs (pos b -ℤ pos a -ℤ d) ≤ 131071 → a < 65536 → b < 65536 → FitsSigned w32 (to_z w32 (of_z w32 (to_z w32 (of_z w32 q) -ℤ to_z w32 (of_z w32 p))) -ℤ to_z w32 (of_z w32 d))
+difference_fits a b p q d ep eq near l m = omega (arith, ints, ep, eq, near)
+
+-- a quotient that is at most one cycle
+pub quotient_small : (z : ℤ) → unsigned_abs z ≤ 131071 → unsigned_abs (int_div z (pos 65536)) ≤ 1
+quotient_small (pos n) h = omega arith
+quotient_small (negsuc n) h = let e : suc n / 65536 ≤ 1 = omega arith in omega (arith, ints, e)
+
+pub quotient_at : (a b : ℕ) (p q d : ℤ) → p ≡ pos a → q ≡ pos b → unsigned_abs (pos b -ℤ pos a -ℤ d) ≤ 131071 → a < 65536 → b < 65536 → to_z w32 (of_z w32 (int_div (to_z w32 (of_z w32 (to_z w32 (of_z w32 (to_z w32 (of_z w32 q) -ℤ to_z w32 (of_z w32 p))) -ℤ to_z w32 (of_z w32 d)))) (pos 65536))) ≡ int_div (pos b -ℤ pos a -ℤ d) (pos 65536)
+quotient_at a b p q d ep eq near l m =
+    let inner : to_z w32 (of_z w32 (to_z w32 (of_z w32 (to_z w32 (of_z w32 q) -ℤ to_z w32 (of_z w32 p))) -ℤ to_z w32 (of_z w32 d))) ≡ pos b -ℤ pos a -ℤ d = omega (arith, ints, ep, eq, near) in
+    rw inner (fits (int_div (pos b -ℤ pos a -ℤ d) (pos 65536)) (quotient_small (pos b -ℤ pos a -ℤ d) near))
+  where
+    fits : (z : ℤ) → unsigned_abs z ≤ 1 → to_z w32 (of_z w32 z) ≡ z
+    fits z k = omega (arith, ints)
 
 pub rise_fits : (k t u : ℤ) → u ≡ t → unsigned_abs t ≤ 1 → unsigned_abs k < 2147483647 → FitsSigned w32 (to_z w32 (of_z w32 k) -ℤ u)
 rise_fits k t u e s l = rw e (omega (arith, ints, s, l))
@@ -43,11 +56,26 @@ greatest_small v k h = two_sides (v.x1 - v.x0) (v.y1 - v.y0) (greatest_of k) h
     two_sides : (w h b : ℕ) → (w + 1 + (h + 1)) * (b + 1) ≤ 2147483647 → b < 2147483646
     two_sides w h b l = grind arith
 
-same_rise : (k k' : ℤ) (a b a' b' : ℕ) → k ≡ k' → a ≡ a' → b ≡ b' → k -ℤ turns a b ≡ k' -ℤ turns a' b'
-same_rise k k' a b a' b' e f g = cc
+-- the phases of a scene have 16 bits, so the wrapped difference of an edge leaves out at most one cycle
+phase_small : (s : Scene) (x y : ℕ) → plane_sample s.phase x y < 65536
+phase_small s x y = let h = s.phase.below (y * s.phase.width + x) in omega (arith, h, s.cycle)
 
-same_wrapped : (a b a' b' : ℕ) → a ≡ a' → b ≡ b' → wrapped a' b' ≡ wrapped a b
-same_wrapped a b a' b' f g = cc
+pub turns_of_small : (s : Scene) (e : Edge) → unsigned_abs (turns_of (raster_of s) e) ≤ 1
+turns_of_small s e = turns_small (slope_of s.terms e.down) (plane_sample s.phase e.x e.y) (plane_sample s.phase (end_x e) (end_y e)) (slope_in_range s.terms e.down) (phase_small s e.x e.y) (phase_small s (end_x e) (end_y e))
+
+-- what it leaves, as code reads it
+module _ (s : Scene) (e : Edge) (a b : ℕ) (d : ℤ) (start : a ≡ plane_sample s.phase e.x e.y) (end : b ≡ plane_sample s.phase (end_x e) (end_y e)) (wrapped : d ≡ gradient (raster_of s) e) where
+  pub left_near : unsigned_abs (pos b -ℤ pos a -ℤ d) ≤ 131071
+  left_near =
+      let t = edge_exact (raster_of s) e in
+      rw (start, end, wrapped) (omega (arith, ints, t, turns_of_small s e))
+
+  pub left_out : int_div (pos b -ℤ pos a -ℤ d) (pos 65536) ≡ turns_of (raster_of s) e
+  unfolding turns_by
+  left_out = rw (start, end, wrapped) refl
+
+  pub rise_told : (v : Window) (k : Corrections) (z t : ℤ) → z ≡ correction_at v k e → t ≡ z -ℤ int_div (pos b -ℤ pos a -ℤ d) (pos 65536) → t ≡ rise_of (raster_of s) v k e
+  rise_told v k z t held made = made ∙ rw (held, left_out) refl
 
 module _ (s : Scene) (g : GradientsView) (k : Corrections) where
   -- what the lists hold for an edge
@@ -73,19 +101,11 @@ module _ (s : Scene) (g : GradientsView) (k : Corrections) where
       refl_length : length k.down.items ≡ length k.down.items
       refl_length = omega arith
 
-  pub wrapped_right : (x y a b : ℕ) (z : ℤ) → AreGradientsOf s g → (g.window.x0 ≤ x) × (x < g.window.x1) → (g.window.y0 ≤ y) × (y ≤ g.window.y1) → z ≡ gradient_at g (right_edge x y) → a ≡ plane_sample s.phase x y → b ≡ plane_sample s.phase (x + 1) y → z ≡ wrapped a b
-  wrapped_right x y a b z h across along e p q =
-      e ∙ h.differences (right_edge x y) (right_edge_of g.window x y across.0 across.1 along.0 along.1) ∙ same_wrapped a b (plane_sample s.phase x y) (plane_sample s.phase (x + 1) y) p q
+  pub right_gradient : (x y : ℕ) (z : ℤ) → AreGradientsOf s g → (g.window.x0 ≤ x) × (x < g.window.x1) → (g.window.y0 ≤ y) × (y ≤ g.window.y1) → z ≡ gradient_at g (right_edge x y) → z ≡ gradient (raster_of s) (right_edge x y)
+  right_gradient x y z h across along e = e ∙ h.differences (right_edge x y) (right_edge_of g.window x y across.0 across.1 along.0 along.1)
 
-  pub wrapped_down : (x y a b : ℕ) (z : ℤ) → AreGradientsOf s g → (g.window.x0 ≤ x) × (x ≤ g.window.x1) → (g.window.y0 ≤ y) × (y < g.window.y1) → z ≡ gradient_at g (down_edge x y) → a ≡ plane_sample s.phase x y → b ≡ plane_sample s.phase x (y + 1) → z ≡ wrapped a b
-  wrapped_down x y a b z h across along e p q =
-      e ∙ h.differences (down_edge x y) (down_edge_of g.window x y across.0 across.1 along.0 along.1) ∙ same_wrapped a b (plane_sample s.phase x y) (plane_sample s.phase x (y + 1)) p q
-
-  pub rise_right_is : (x y a b : ℕ) (z t : ℤ) → z ≡ correction_at g.window k (right_edge x y) → a ≡ plane_sample s.phase x y → b ≡ plane_sample s.phase (x + 1) y → t ≡ z -ℤ turns a b → t ≡ rise_of (raster_of s) g.window k (right_edge x y)
-  rise_right_is x y a b z t e p q u = u ∙ same_rise z (correction_at g.window k (right_edge x y)) a b (plane_sample s.phase x y) (plane_sample s.phase (x + 1) y) e p q
-
-  pub rise_down_is : (x y a b : ℕ) (z t : ℤ) → z ≡ correction_at g.window k (down_edge x y) → a ≡ plane_sample s.phase x y → b ≡ plane_sample s.phase x (y + 1) → t ≡ z -ℤ turns a b → t ≡ rise_of (raster_of s) g.window k (down_edge x y)
-  rise_down_is x y a b z t e p q u = u ∙ same_rise z (correction_at g.window k (down_edge x y)) a b (plane_sample s.phase x y) (plane_sample s.phase x (y + 1)) e p q
+  pub down_gradient : (x y : ℕ) (z : ℤ) → AreGradientsOf s g → (g.window.x0 ≤ x) × (x ≤ g.window.x1) → (g.window.y0 ≤ y) × (y < g.window.y1) → z ≡ gradient_at g (down_edge x y) → z ≡ gradient (raster_of s) (down_edge x y)
+  down_gradient x y z h across along e = e ∙ h.differences (down_edge x y) (down_edge_of g.window x y across.0 across.1 along.0 along.1)
 
 -- a correction is small, and so is a rise
 pub correction_small : (v : Window) (k : Corrections) (e : Edge) (z : ℤ) → AreSmall v k → z ≡ correction_at v k e → unsigned_abs z < 2147483647

@@ -2,15 +2,14 @@
 use Rattle.std.specs.Prelude.{◌≡◌, ℕ, ◌+◌, ◌<◌, ℤ, pos, ◌+ℤ◌, ◌-ℤ◌, List, length, slice_index_or}
 use Rattle.raster_model.specs.declared.edge.Edge.{Edge}
 use Rattle.raster_model.specs.declared.tiling.Window.{Window}
-use Rattle.raster_model.specs.Phase.{turns}
-use Rattle.raster_model.specs.Raster.{Raster}
-use Rattle.raster_model.specs.Sums.{at_edge_start, at_edge_end, right_edge}
+use Rattle.raster_model.specs.Raster.{Raster, turns_of}
+use Rattle.raster_model.specs.Sums.{right_edge}
 use Rattle.wrapped_gradient.specs.declared.corrections.Corrections.{Corrections}
 use Rattle.wrapped_gradient.specs.Corrections.{correction_at}
 
 -- the rise of the cycles along an edge whose departure is the correction: it makes up for the cycles that the wrapped difference leaves out
 abbrev pub rise_of : Raster → Window → Corrections → Edge → ℤ
-rise_of r v k e = correction_at v k e -ℤ turns (at_edge_start r.phase e) (at_edge_end r.phase e)
+rise_of r v k e = correction_at v k e -ℤ turns_of r e
 
 -- the new list is the old one and then n + 1 pixels of row y, which begin with a number and rise along n right edges
 pub record IsRowAdded (r : Raster) (v : Window) (k : Corrections) (y n : ℕ) (first : ℤ) (old new : List ℤ) : Type 0 where

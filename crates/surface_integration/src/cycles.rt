@@ -1,4 +1,3 @@
-ghost use Rattle.raster_model.specs.Phase.{turns, wrapped};
 ghost use Rattle.raster_model.specs.Scene.{raster_of};
 ghost use Rattle.raster_model.specs.Sums.{down_edge, right_edge};
 ghost use Rattle.std.specs.Prelude.{
@@ -11,6 +10,7 @@ ghost use Rattle.std.specs.Prelude.{
   ◌-ℤ◌,
   IfOk,
   OnOk,
+  int_div,
   pos,
   unsigned_abs,
   vec_len,
@@ -125,9 +125,9 @@ fn rise_down(scene: &Scene, gradients: &Gradients, corrections: &Corrections, x:
 /// The cycles by which a pixel is above its neighbour, for their phases, the wrapped difference and the
 /// correction.
 fn rise(from: u16, to: u16, gradient: i32, correction: i32) -> i32
-    requires wrapped { gradient ≡ wrapped from to }
+    requires near { unsigned_abs (pos to -ℤ pos from -ℤ gradient) ≤ 131071 }
     requires small { unsigned_abs correction < 2147483647 }
-    ensures value { result ≡ correction -ℤ turns from to }
+    ensures value { result ≡ correction -ℤ int_div (pos to -ℤ pos from -ℤ gradient) (pos 65536) }
     ensures small { unsigned_abs result ≤ unsigned_abs correction + 1 }
 {
     correction - (i32::from(to) - i32::from(from) - gradient) / 65536

@@ -7,6 +7,7 @@ use Rattle.raster_model.specs.declared.weights.RuleKind.{RuleKind}
 use Rattle.raster_model.specs.Masks.{IsMaskOf}
 use Rattle.raster_model.specs.Planes.{plane_sample}
 use Rattle.raster_model.specs.Sums.{Field}
+use Rattle.raster_model.specs.Terms.{ArePlainTerms}
 
 -- the number after s, and the number after n steps from a seed
 unfoldable pub next : ℕ → ℕ
@@ -34,7 +35,7 @@ state_at seed w x y = state seed (y * w + x + 1)
 abbrev pub AreTrialScripts : List Script → Type 0
 AreTrialScripts scripts = map (λ script. script.commands.items) scripts ≡ (Settle ∷ Show ∷ []) ∷ []
 
--- the session is the one that a seed gives to w by h pixels, with tiles of a side and edges by a rule
+-- the session is the one that a seed gives to w by h pixels, with tiles of a side, edges by a rule and the plain terms
 pub record IsTrial (seed w h side : ℕ) (kind : RuleKind) (s : Session) : Type 0 where
   pub size : (s.scene.phase.width ≡ w) × (s.scene.phase.height ≡ h)
   pub phases : (x y : ℕ) → x < w → y < h → plane_sample s.scene.phase x y ≡ phase_of (state_at seed w x y) x y
@@ -43,4 +44,5 @@ pub record IsTrial (seed w h side : ℕ) (kind : RuleKind) (s : Session) : Type 
   pub mask : IsMaskOf s.first_mask w h (λ x y. is_open (state_at seed w x y))
   pub tiles : s.scene.tiling.side ≡ side
   pub rule : s.scene.rule ≡ kind
+  pub terms : ArePlainTerms s.scene.terms
   pub scripts : AreTrialScripts s.scripts.items

@@ -6,11 +6,13 @@ ghost use Rattle.trial_maker.specs.declared.fault.TrialFault.TheVariants as faul
 use crate::fault::TrialFault;
 use crate::planes::{Planes, draw_planes};
 use edge_weights::weigh;
-use raster_model::{Command, Mask, RuleKind, Scene, Script, Session, Tiling, is_raster_size};
+use raster_model::{
+    Command, Mask, RuleKind, Scene, Script, Session, Terms, Tiling, is_raster_size,
+};
 use std::alloc::{AllocError, Global};
 
 /// The test session that a seed gives: a raster of this width and height in pixels, tiles of this side, edges by
-/// this rule, and one analyst who settles and shows. `Size` comes exactly if the raster breaks a limit.
+/// this rule, the plain terms, and one analyst who settles and shows. `Size` comes exactly if the raster breaks a limit.
 pub fn make_session(
     alloc: Global,
     seed: u64,
@@ -55,6 +57,7 @@ fn make_fitting(
         rule: kind,
         edges,
         tiling,
+        terms: Terms::plain(),
     };
     Ok(Session {
         scene,

@@ -1,10 +1,11 @@
 //! Small scenes, masks and results by hand, from which the tests of other crates begin.
 #![tactic(auto)]
 
+ghost use Rattle.raster_model.specs.Terms.{ArePlainTerms};
 ghost use Rattle.std.specs.Prelude.{◌≡◌, IfOk};
 
 use certificates::TileResult;
-use raster_model::{Mask, Plane, PlaneShape, RuleKind, Scene, Tiling, plain};
+use raster_model::{Mask, Plane, PlaneShape, RuleKind, Scene, Terms, Tiling, plain};
 use std::alloc::{AllocError, Global};
 
 /// Why there is no such scene or mask.
@@ -43,7 +44,7 @@ pub fn plane(
     Ok(Plane::new(tiling.width, tiling.height, maxval, samples)?)
 }
 
-/// A scene by the rule least, with weights up to `maxval`.
+/// A scene by the rule least and on the plain terms, with weights up to `maxval`.
 pub fn scene(
     alloc: Global,
     tiling: Tiling,
@@ -51,7 +52,23 @@ pub fn scene(
     phases: &[u16],
     weights: &[u16],
 ) -> Result<Scene, SceneFault>
-    ensures { IfOk result (λ made. made.tiling ≡ tiling) }
+    ensures tiling { IfOk result (λ made. made.tiling ≡ tiling) }
+    ensures terms { IfOk result (λ made. ArePlainTerms made.terms) }
+{
+    scene_on(alloc, Terms::plain(), tiling, maxval, phases, weights)
+}
+
+/// The same on these terms.
+pub fn scene_on(
+    alloc: Global,
+    terms: Terms,
+    tiling: Tiling,
+    maxval: u16,
+    phases: &[u16],
+    weights: &[u16],
+) -> Result<Scene, SceneFault>
+    ensures tiling { IfOk result (λ made. made.tiling ≡ tiling) }
+    ensures terms { IfOk result (λ made. made.terms ≡ terms) }
 {
     let phase = plane(alloc, &tiling, 65535, phases)?;
     let weights = plane(alloc, &tiling, maxval, weights)?;
@@ -62,6 +79,7 @@ pub fn scene(
         rule: RuleKind::Least,
         edges,
         tiling,
+        terms,
     })
 }
 

@@ -1,6 +1,7 @@
 -- Wrapped differences over a window are those of the scene.
 use Rattle.std.proofs.Common.{inl, inr, ◌≡◌, ℕ, ◌+◌, ◌-◌, ◌*◌, ◌<◌, ◌≤◌, arith, List, Bool, true, false}
 use Rattle.std.specs.Prelude.{ℤ, pos, ◌+ℤ◌, ◌-ℤ◌, int_div}
+use Rattle.std.proofs.lemmas.Int.{ints}
 use Rattle.raster_model.specs.declared.edge.Edge.{Edge}
 use Rattle.raster_model.specs.declared.scene.Scene.{Scene}
 use Rattle.raster_model.specs.declared.tiling.Window.{Window}
@@ -17,22 +18,25 @@ use Rattle.wrapped_gradient.proofs.RowLemmas.{rows_tell}
 use Rattle.sums_and_lists.proofs.Orders.{below_or_last}
 
 module _ (r : Raster) (v : Window) (right down : List ℤ) (rights : AreInRows (of_right_edges r) v.x0 v.y0 (width_of v - 1) ((width_of v - 1) * height_of v) right) (downs : AreInRows (of_down_edges r) v.x0 v.y0 (width_of v) (width_of v * (height_of v - 1)) down) where
-  right_is : (x y : ℕ) → v.x0 ≤ x → x < v.x1 → v.y0 ≤ y → y ≤ v.y1 → edge_value v right down (right_edge x y) ≡ gradient r (right_edge x y)
+  right_is : (x y : ℕ) → v.x0 ≤ x → x < v.x1 → v.y0 ≤ y → y ≤ v.y1 → edge_value v right down (right_edge x y) ≡ gradient r (right_edge x y) -ℤ r.slope false
   right_is x y a b c d =
       rows_tell (of_right_edges r) v.x0 v.y0 (width_of v - 1) ((width_of v - 1) * height_of v) x y right rights a (omega arith) c
       (place_within (width_of v - 1) (height_of v) (y - v.y0) (x - v.x0) (omega arith) (omega arith))
 
-  down_is : (x y : ℕ) → v.x0 ≤ x → x ≤ v.x1 → v.y0 ≤ y → y < v.y1 → edge_value v right down (down_edge x y) ≡ gradient r (down_edge x y)
+  down_is : (x y : ℕ) → v.x0 ≤ x → x ≤ v.x1 → v.y0 ≤ y → y < v.y1 → edge_value v right down (down_edge x y) ≡ gradient r (down_edge x y) -ℤ r.slope true
   down_is x y a b c d =
       rows_tell (of_down_edges r) v.x0 v.y0 (width_of v) (width_of v * (height_of v - 1)) x y down downs a (omega arith) c
       (place_within (width_of v) (height_of v - 1) (y - v.y0) (x - v.x0) (omega arith) (omega arith))
 
-  pub numbers_are : (e : Edge) → IsEdgeOf v e → edge_value v right down e ≡ gradient r e
+  pub numbers_are : (e : Edge) → IsEdgeOf v e → r.slope e.down +ℤ edge_value v right down e ≡ gradient r e
   numbers_are e i = go e.x e.y e.down i
     where
-      go : (x y : ℕ) (d : Bool) → IsEdgeOf v (record { x = x; y = y; down = d }) → edge_value v right down (record { x = x; y = y; down = d }) ≡ gradient r (record { x = x; y = y; down = d })
-      go x y false i = right_is x y i.start.0 (omega (arith, i.end.1)) i.start.2 i.start.3
-      go x y true i = down_is x y i.start.0 i.start.1 i.start.2 (omega (arith, i.end.3))
+      back : (slope d g : ℤ) → d ≡ g -ℤ slope → slope +ℤ d ≡ g
+      back slope d g e = omega (arith, ints, e)
+
+      go : (x y : ℕ) (d : Bool) → IsEdgeOf v (record { x = x; y = y; down = d }) → r.slope d +ℤ edge_value v right down (record { x = x; y = y; down = d }) ≡ gradient r (record { x = x; y = y; down = d })
+      go x y false i = back (r.slope false) _ _ (right_is x y i.start.0 (omega (arith, i.end.1)) i.start.2 i.start.3)
+      go x y true i = back (r.slope true) _ _ (down_is x y i.start.0 i.start.1 i.start.2 (omega (arith, i.end.3)))
 
 -- an edge of a window
 pub right_edge_of : (v : Window) (x y : ℕ) → v.x0 ≤ x → x < v.x1 → v.y0 ≤ y → y ≤ v.y1 → IsEdgeOf v (right_edge x y)

@@ -1,6 +1,8 @@
 -- Worked examples.
-use Rattle.std.proofs.Common.{◌≡◌, refl, List, [], ◌∷◌, pos, negsuc}
+use Rattle.std.proofs.Common.{◌≡◌, refl, arith, List, [], ◌∷◌, pos, negsuc}
 use Rattle.std.specs.Prelude.{ℤ}
+use Rattle.std.proofs.lemmas.Int.{ints}
+use Rattle.raster_model.specs.declared.terms.Terms.{Terms}
 use Rattle.raster_model.specs.declared.tiling.Window.{Window}
 use Rattle.raster_model.specs.Sums.{right_edge, down_edge}
 use Rattle.wrapped_gradient.specs.Corrections.{greatest}
@@ -31,7 +33,10 @@ round_the_second_cell : round (edge_value box rights downs) 6 7 ≡ negsuc 0
 round_the_second_cell = refl
 
 -- ---- a full turn in four quarters, clockwise with rows from the top
-turn : residue_at (record { window = record { x0 = 0; y0 = 0; x1 = 1; y1 = 1 }; right = pos 16384 ∷ (negsuc 16383 ∷ []); down = negsuc 16383 ∷ (pos 16384 ∷ []) }) 0 0 ≡ pos 1
+abbrev without_ramp : Terms
+without_ramp = record { ramp_x = pos 0; ramp_y = pos 0; steep = 1; across = (omega (arith, ints), omega (arith, ints)); along = (omega (arith, ints), omega (arith, ints)); steepness = (omega arith, omega arith) }
+
+turn : residue_at (record { window = record { x0 = 0; y0 = 0; x1 = 1; y1 = 1 }; terms = without_ramp; right = pos 16384 ∷ (negsuc 16383 ∷ []); down = negsuc 16383 ∷ (pos 16384 ∷ []) }) 0 0 ≡ pos 1
 turn = refl
 
 -- ---- the greatest absolute number

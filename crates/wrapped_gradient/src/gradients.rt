@@ -1,11 +1,11 @@
-ghost use Rattle.raster_model.specs.Limits.{max_side};
-ghost use Rattle.raster_model.specs.Phase.{wrapped as wrapped_difference};
+ghost use Rattle.raster_model.specs.Limits.{IsSlope, max_side};
+ghost use Rattle.raster_model.specs.Phase.{wrapped_by};
 ghost use Rattle.raster_model.specs.Scene.{raster_of};
 ghost use Rattle.raster_model.specs.Tiles.{IsWindowIn, width_of, height_of};
-ghost use Rattle.std.specs.Prelude.{◌≡◌, ◌+◌, ◌-◌, ◌*◌, ◌≤◌, IfOk, length};
+ghost use Rattle.std.specs.Prelude.{◌≡◌, ◌+◌, ◌-◌, ◌*◌, ◌≤◌, ◌-ℤ◌, IfOk, length};
 ghost use Rattle.wrapped_gradient.specs.Rows.{AreDifferences, AreInRows, of_down_edges, of_right_edges};
 
-use raster_model::{Scene, Window, wrapped};
+use raster_model::{Scene, Terms, Window, wrapped_ramp};
 use std::alloc::{AllocError, Global};
 use std::marker::Model;
 
@@ -13,9 +13,10 @@ use std::marker::Model;
 #[derive(Drop)]
 pub struct Gradients {
     window: Window,
-    /// Of the right edges, in row order of first pixels.
+    terms: Terms,
+    /// Of the right edges, in row order of first pixels, less the slope of the ramp.
     right: Vec<i16>,
-    /// Of the down edges, in row order of first pixels.
+    /// Of the down edges, in row order of first pixels, less the slope of the ramp.
     down: Vec<i16>,
 }
 
@@ -27,7 +28,7 @@ impl Model for Gradients {
 
     ghost Value = { GradientsView };
 
-    ghost view = { λ g. record { window = g.window; right = g.right.items; down = g.down.items } };
+    ghost view = { λ g. record { window = g.window; terms = g.terms; right = g.right.items; down = g.down.items } };
 
     ghost invariant = { λ g. (g.window.x0 ≤ g.window.x1) × (g.window.x1 < max_side) × (g.window.y0 ≤ g.window.y1) × (g.window.y1 < max_side) × HaveShapeOf g.window g.right.items g.down.items };
 }
@@ -39,10 +40,11 @@ impl Gradients {
       ℕ,
       ◌<◌,
       ◌≤◌,
+      ◌+ℤ◌,
+      ◌-ℤ◌,
       ◌≤ℤ◌,
       IfNone,
       IfSome,
-      neg_ℤ,
       pos,
       unsigned_abs,
     };
@@ -65,6 +67,7 @@ impl Gradients {
     {
         Ok(Gradients {
             window,
+            terms: scene.terms,
             right: right_differences(alloc, scene, window)?,
             down: down_differences(alloc, scene, window)?,
         })
@@ -84,13 +87,13 @@ impl Gradients {
         requires across { (self.now.window.x0 ≤ x) × (x < self.now.window.x1) }
         requires along { (self.now.window.y0 ≤ y) × (y ≤ self.now.window.y1) }
         ensures value { result ≡ gradient_at self.now (right_edge x y) }
-        ensures low { neg_ℤ (pos 32768) ≤ℤ result }
-        ensures high { result ≤ℤ pos 32767 }
+        ensures low { (self.now.terms.ramp_x -ℤ pos 32768) ≤ℤ result }
+        ensures high { result ≤ℤ (self.now.terms.ramp_x +ℤ pos 32767) }
     {
         let window = self.window;
         let across = (window.x1 - window.x0) as usize;
         let place = (y - window.y0) as usize * across + (x - window.x0) as usize;
-        i32::from(self.right[place])
+        self.terms.ramp_x + i32::from(self.right[place])
     }
 
     /// The wrapped difference from the pixel (`x`, `y`) to its lower neighbour.
@@ -98,10 +101,10 @@ impl Gradients {
         requires across { (self.now.window.x0 ≤ x) × (x ≤ self.now.window.x1) }
         requires along { (self.now.window.y0 ≤ y) × (y < self.now.window.y1) }
         ensures value { result ≡ gradient_at self.now (down_edge x y) }
-        ensures low { neg_ℤ (pos 32768) ≤ℤ result }
-        ensures high { result ≤ℤ pos 32767 }
+        ensures low { (self.now.terms.ramp_y -ℤ pos 32768) ≤ℤ result }
+        ensures high { result ≤ℤ (self.now.terms.ramp_y +ℤ pos 32767) }
     {
-        i32::from(self.down[self.window.place(x, y)])
+        self.terms.ramp_y + i32::from(self.down[self.window.place(x, y)])
     }
 
     /// The residue of the cell with the upper left corner (`x`, `y`), in cycles: -1, 0 or 1. It is the sum
@@ -140,7 +143,7 @@ impl Gradients {
     }
 }
 
-/// The wrapped differences of the window's right edges.
+/// The wrapped differences of the window's right edges, less their slope.
 fn right_differences(alloc: Global, scene: &Scene, window: Window) -> Result<Vec<i16>, AllocError>
     requires { IsWindowIn scene.now.phase.width scene.now.phase.height window }
     ensures { IfOk result (λ list. AreInRows (of_right_edges (raster_of scene.now)) window.x0 window.y0 (width_of window - 1) ((width_of window - 1) * height_of window) list.items) }
@@ -154,12 +157,13 @@ fn right_differences(alloc: Global, scene: &Scene, window: Window) -> Result<Vec
         let first = y as usize * width + window.x0 as usize;
         let from = &samples[first..first + across];
         let to = &samples[first + 1..first + 1 + across];
-        set_differences(from, to, &mut list, (y - window.y0) as usize * across);
+        let start = (y - window.y0) as usize * across;
+        set_differences(from, to, scene.terms.ramp_x, &mut list, start);
     }
     Ok(list)
 }
 
-/// The wrapped differences of the window's down edges.
+/// The wrapped differences of the window's down edges, less their slope.
 fn down_differences(alloc: Global, scene: &Scene, window: Window) -> Result<Vec<i16>, AllocError>
     requires { IsWindowIn scene.now.phase.width scene.now.phase.height window }
     ensures { IfOk result (λ list. AreInRows (of_down_edges (raster_of scene.now)) window.x0 window.y0 (width_of window) (width_of window * (height_of window - 1)) list.items) }
@@ -173,25 +177,29 @@ fn down_differences(alloc: Global, scene: &Scene, window: Window) -> Result<Vec<
         let first = y as usize * width + window.x0 as usize;
         let from = &samples[first..first + across];
         let to = &samples[first + width..first + width + across];
-        set_differences(from, to, &mut list, (y - window.y0) as usize * across);
+        let start = (y - window.y0) as usize * across;
+        set_differences(from, to, scene.terms.ramp_y, &mut list, start);
     }
     Ok(list)
 }
 
-/// Sets the numbers of a list from `start` on: the wrapped differences of the phases at the same places of two slices.
-fn set_differences(from: &[u16], to: &[u16], list: &mut [i16], start: usize)
+/// Sets the numbers of a list from `start` on: the wrapped differences of the phases at the same places of two slices,
+/// less the slope.
+fn set_differences(from: &[u16], to: &[u16], slope: i32, list: &mut [i16], start: usize)
+    requires slope { IsSlope slope }
     requires counts { length to.now ≡ length from.now }
     requires room { start + length from.now ≤ length list.old }
-    ensures { AreDifferences from.now to.now start (length from.now) list.old list.new }
+    ensures { AreDifferences slope from.now to.now start (length from.now) list.old list.new }
 {
     for place in 0..from.len() {
-        list[start + place] = difference(from[place], to[place]);
+        list[start + place] = difference(from[place], to[place], slope);
     }
 }
 
-/// The wrapped difference of two phases.
-fn difference(from: u16, to: u16) -> i16
-    ensures { result ≡ wrapped_difference from to }
+/// The wrapped difference of two phases around a slope, less the slope.
+fn difference(from: u16, to: u16, slope: i32) -> i16
+    requires { IsSlope slope }
+    ensures { result ≡ wrapped_by slope from to -ℤ slope }
 {
-    wrapped(from, to) as i16
+    (wrapped_ramp(from, to, slope) - slope) as i16
 }

@@ -1,13 +1,14 @@
 use Rattle.std.proofs.Common.{◌∙◌, to_z, of_z, w32, SFits, rules}
 use Rattle.std.proofs.lemmas.Int.{to_z-of_z}
 use Rattle.raster_model.specs.Sums.{right_edge}
-use Rattle.surface_integration.proofs.RiseLemmas.{correction_right, wrapped_right, rise_right_is, correction_small, below_greatest}
+use Rattle.surface_integration.proofs.RiseLemmas.{correction_right, left_near, rise_told, right_gradient, correction_small, below_greatest}
 use Rattle.surface_integration.proofs.cycles.rise_right.Goals as goal
 
-pub rise-requires-clause-wrapped : goal.rise-requires-clause-wrapped
-rise-requires-clause-wrapped c =
+pub rise-requires-clause-near : goal.rise-requires-clause-near
+rise-requires-clause-near c =
     let fits : SFits w32 c.right.result = search rules in
-    to_z-of_z w32 c.right.result fits ∙ wrapped_right c.args.scene.now c.args.gradients.now c.args.corrections.now c.args.x c.args.y c.sample-from.result c.sample-to.result c.right.result c.requires.gradients c.requires.across c.requires.along c.right.ensures.value c.sample-from.ensures.value c.sample-to.ensures.value
+    left_near c.args.scene.now (right_edge c.args.x c.args.y) c.sample-from.result c.sample-to.result _ c.sample-from.ensures.value c.sample-to.ensures.value
+    (to_z-of_z w32 c.right.result fits ∙ right_gradient c.args.scene.now c.args.gradients.now c.args.corrections.now c.args.x c.args.y c.right.result c.requires.gradients c.requires.across c.requires.along c.right.ensures.value)
 
 pub rise-requires-clause-small : goal.rise-requires-clause-small
 rise-requires-clause-small c =
@@ -20,7 +21,11 @@ returns-clause-value c =
     let fits : SFits w32 c.index.result.now = search rules in
     let held = correction_right c.args.scene.now c.args.gradients.now c.args.corrections.now c.window-window.result c.args.x c.args.y c.index.result.now c.requires.shape c.window-window.ensures.value c.requires.across c.requires.along c.index.ensures in
     let back : SFits w32 c.rise.result = search rules in
-    to_z-of_z w32 c.rise.result back ∙ rise_right_is c.args.scene.now c.args.gradients.now c.args.corrections.now c.args.x c.args.y c.sample-from.result c.sample-to.result (to_z w32 (of_z w32 c.index.result.now)) c.rise.result (to_z-of_z w32 c.index.result.now fits ∙ held) c.sample-from.ensures.value c.sample-to.ensures.value c.rise.ensures.value
+    let gradient : SFits w32 c.right.result = search rules in
+    to_z-of_z w32 c.rise.result back
+    ∙ rise_told c.args.scene.now (right_edge c.args.x c.args.y) c.sample-from.result c.sample-to.result _ c.sample-from.ensures.value c.sample-to.ensures.value
+    (to_z-of_z w32 c.right.result gradient ∙ right_gradient c.args.scene.now c.args.gradients.now c.args.corrections.now c.args.x c.args.y c.right.result c.requires.gradients c.requires.across c.requires.along c.right.ensures.value)
+    c.args.gradients.now.window c.args.corrections.now (to_z w32 (of_z w32 c.index.result.now)) c.rise.result (to_z-of_z w32 c.index.result.now fits ∙ held) c.rise.ensures.value
 
 pub returns-clause-small : goal.returns-clause-small
 returns-clause-small c =

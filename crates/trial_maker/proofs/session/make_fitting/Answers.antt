@@ -29,6 +29,7 @@ invariant_of-result c =
       settles = trial_settles scripts.items _ _ _ _ are p.0 p.1 c.args.tiling.few;
       changes = trial_changes scripts.items _ are;
       inside = trial_fits _ _ scripts.items are;
+      unsteep = c.plain.ensures.steepness;
     }
 
 pub returns-clause-made : goal.returns-clause-made
@@ -42,5 +43,6 @@ returns-clause-made c =
       mask = trial_mask _ _ _ _ _ _ _ drawn c.in_ok-first_mask.ensures;
       tiles = refl;
       rule = refl;
+      terms = c.plain.ensures;
       scripts = c.in_ok-scripts.ensures;
     }

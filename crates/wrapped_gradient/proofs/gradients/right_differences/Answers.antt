@@ -1,7 +1,7 @@
-use Rattle.std.proofs.Common.{◌≡◌, ◌+◌, ◌-◌, ◌*◌, ◌∙◌, ap, sym, subst, arith, ℕ, ℤ, List, length}
+use Rattle.std.proofs.Common.{◌≡◌, ◌+◌, ◌-◌, ◌*◌, ◌∙◌, ap, sym, subst, arith, ℕ, ℤ, List, length, to_z, of_z, w32}
 use Rattle.raster_model.specs.Scene.{raster_of}
 use Rattle.wrapped_gradient.specs.Rows.{AreInRows, of_right_edges}
-use Rattle.wrapped_gradient.proofs.DifferenceLemmas.{AreTold, part_inside, right_row, told_none, written_back}
+use Rattle.wrapped_gradient.proofs.DifferenceLemmas.{AreTold, part_inside, right_row, slope_plain, told_none, written_back}
 use Rattle.wrapped_gradient.proofs.gradients.right_differences.Goals as goal
 
 pub loop-y-init : goal.loop-y-init
@@ -27,7 +27,7 @@ loop-y-preserved c =
     }) (sym back)
     (record {
       count = count ∙ c.loop-y.invariant.count;
-      told = right_row s c.deref-samples.result.now c.deref-samples.ensures.value v.x0 v.y0 (v.x1 - v.x0) c.loop-y.y c.deref_mut.result.now c.set_differences.new.list (omega arith) (omega (arith, full, inside)) c.set_differences.ensures
+      told = right_row s c.deref-samples.result.now c.deref-samples.ensures.value (to_z w32 (of_z w32 s.terms.ramp_x)) (slope_plain s.terms.ramp_x s.terms.across) v.x0 v.y0 (v.x1 - v.x0) c.loop-y.y c.deref_mut.result.now c.set_differences.new.list (omega arith) (omega (arith, full, inside)) c.set_differences.ensures
           (subst (λ (zs : List ℤ). AreTold (of_right_edges (raster_of s)) v.x0 v.y0 (v.x1 - v.x0) ((c.loop-y.y - v.y0) * (v.x1 - v.x0)) zs) (sym old) c.loop-y.invariant.told);
     })
 

@@ -1,0 +1,13 @@
+-- On which terms a phase is unwrapped.
+use Rattle.std.specs.Prelude.{◌≡◌, ℤ, pos, Bool, if◌then◌else◌}
+use Rattle.raster_model.specs.declared.terms.Terms.{Terms}
+
+-- the rise that is expected along a down edge, or along a right one
+abbrev pub slope_of : Terms → Bool → ℤ
+slope_of t down = if down then t.ramp_y else t.ramp_x
+
+-- no ramp is expected, and each cycle of a departure costs the same
+pub record ArePlainTerms (t : Terms) : Type 0 where
+  pub across : t.ramp_x ≡ pos 0
+  pub along : t.ramp_y ≡ pos 0
+  pub steepness : t.steep ≡ 1

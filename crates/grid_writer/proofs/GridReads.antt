@@ -1,5 +1,5 @@
 -- Grids by their texts, and what the first broken line and the text say of the answer of a reader.
-use Rattle.std.proofs.Common.{◌≡◌, ℕ, ◌+◌, ◌-◌, ◌<◌, ◌≤◌, List, [], ◌∷◌, ◌++◌, length, Option, Some, None, Result, Ok, Err, inl, inr, ◌⊎◌, refl, sym, ap, subst, ◌∙◌, append_assoc, arith}
+use Rattle.std.proofs.Common.{◌≡◌, ℕ, ◌+◌, ◌-◌, ◌<◌, ◌≤◌, List, [], ◌∷◌, ◌++◌, length, Option, Some, None, Result, Ok, Err, inl, inr, refl, sym, ap, subst, ◌∙◌, append_assoc, arith}
 use Rattle.std.specs.Prelude.{IfErr, IfOk, IfSome}
 use Rattle.std.proofs.lemmas.Result.{IfErr-weaker}
 use Rattle.std.proofs.lemmas.List.{append_cancel_left, append-nil, length-append}
@@ -8,10 +8,11 @@ use Rattle.insar_ports.specs.Calls.{Call, Takes}
 use Rattle.insar_ports.proofs.CallLemmas.{call, Takes-weaker}
 use Rattle.text_lines.specs.declared.fault.LineFault.{LineFault}
 use Rattle.text_lines.specs.declared.fault.LineFault.TheVariants as faults
-use Rattle.text_lines.specs.Forms.{AreWholeLines, Begins, IsText, NeedsMore, lines_in}
+use Rattle.text_lines.specs.Forms.{AreWholeLines, IsText, NeedsMore, lines_in}
 use Rattle.text_lines.specs.LineWords.{TakesLines}
-use Rattle.text_lines.specs.Reading.{BreaksFormAt, EndsFormIn, HasBrokenLine, HasLineCause}
-use Rattle.text_lines.proofs.FirstLemmas.{not_both, one_break, one_end, text_not_cut, text_unbroken}
+use Rattle.text_lines.specs.Reading.{EndsFormIn, HasBrokenLine, HasLineCause}
+use Rattle.text_lines.proofs.BreakLemmas.{begins_if_needs, cause_stop, stop_of}
+use Rattle.text_lines.proofs.FirstLemmas.{StopsIn, not_both, one_stop, stops_cut, text_past}
 use Rattle.text_lines.proofs.FormLemmas.{fronts, whole_append}
 use Rattle.text_lines.proofs.SeqLemmas.{IsCode, code_unique}
 use Rattle.text_lines.proofs.StepLemmas.{cause_same, joined, second, texts_are, texts_join}
@@ -82,17 +83,8 @@ grid_code = record { whole = grid_whole; free = grid_free }
 
 -- ---- the answer of a reader
 
-goes_begins : (bytes : List ℕ) → NeedsMore IsGridText bytes → Begins IsGridText bytes
-goes_begins bytes g = (g.0, g.1.1)
-
-unbroken : (n : ℕ) (t r f s : List ℕ) → IsGridText t → t ++ r ≡ f ++ s → BreaksFormAt IsGridText n f → ⊥
-unbroken = text_unbroken IsGridText grid_whole grid_free
-
-not_cut : (n : ℕ) (t r bytes : List ℕ) → IsGridText t → t ++ r ≡ bytes → EndsFormIn IsGridText n bytes → ⊥
-not_cut = text_not_cut IsGridText grid_whole grid_free
-
-all_of : (bytes text rest : List ℕ) → bytes ≡ text ++ rest → rest ≡ [] → bytes ≡ text
-all_of bytes text rest e none = e ∙ ap (λ (l : List ℕ). text ++ l) none ∙ append-nil text
+not_stopped : (n : ℕ) (t r bytes : List ℕ) → IsGridText t → bytes ≡ t ++ r → StopsIn (NeedsMore IsGridText) IsGridText n bytes → ⊥
+not_stopped = text_past IsGridText grid_whole grid_free
 
 -- a shorter front is a front
 shorter : (p q r s : List ℕ) → p ++ r ≡ q ++ s → length p ≤ length q → (m : List ℕ) × (p ++ m ≡ q)
@@ -117,38 +109,25 @@ module _ (bytes : List ℕ) (at : ℕ) (left : Option (List ℕ)) (end limit bef
   pub accepts : (result : Result Grid LineFault) → IfOk result (λ grid. Takes here (λ text rest. text ≡ text_of_grid (grid_of grid))) → IfOk result (λ grid. IsGrid (grid_of grid)) → IfErr result (HasLineCause IsGridText 0 here)
       → (text rest : List ℕ) → bytes ≡ text ++ rest → IsGridText text → length text ≤ limit - at → IsGridRead here text rest result
   accepts (Ok grid) read fits refused text rest f g le = accepts_ok grid read fits text rest f g
-  accepts (Err (faults.Line n)) read fits (t, r, (e, (l, (p, (k, (m, inl b)))))) text rest f g le = unbroken k text rest t r g (sym f ∙ e) b
-  accepts (Err (faults.Line n)) read fits (t, r, (e, (l, (p, (k, (m, inr b)))))) text rest f g le = not_cut k text rest t g (sym f ∙ all_of bytes t r e b.1) b.0
+  accepts (Err (faults.Line n)) read fits (t, r, (e, (l, (p, (k, (m, d)))))) text rest f g le = not_stopped k text rest bytes g f (cause_stop IsGridText k bytes t r e d)
   accepts (Err faults.TooLong) read fits (full, (more, (t, r, (e, (l, (p, (k, b))))))) text rest f g le =
       let s = shorter text t rest r (sym f ∙ e) (omega (arith, le, full, p)) in
-      not_cut k text s.0 t g s.1 b
+      not_stopped k text s.0 t g (sym s.1) (stops_cut (NeedsMore IsGridText) IsGridText k t b)
   accepts (Err faults.ReadFault) read fits refused text rest f g le = refused
   accepts (Err faults.Memory) read fits refused text rest f g le = tt
-
-  refuses_ok : (n room : ℕ) (grid : Grid) → Takes here (λ text rest. text ≡ text_of_grid (grid_of grid)) → IsGrid (grid_of grid) → HasBrokenLine IsGridText room n bytes → ⊥
-  refuses_ok n room grid (t, r, (e, (l, (p, s)))) fits (inl (f, q, (h, (le, b)))) = unbroken n t r f q (grid_of grid, (fits, s)) (sym e ∙ h) b
-  refuses_ok n room grid (t, r, (e, (l, (p, s)))) fits (inr (le, b)) = not_cut n t r bytes (grid_of grid, (fits, s)) (sym e) b
-
-  same_line : (m n k room : ℕ) (t r : List ℕ) → m ≡ 0 + k → bytes ≡ t ++ r → BreaksFormAt IsGridText k t ⊎ (EndsFormIn IsGridText k t × (r ≡ [])) → HasBrokenLine IsGridText room n bytes → m ≡ n
-  same_line m n k room t r e h (inl b) (inl (f, q, (i, (le, d)))) =
-      let same = one_break IsGridText (NeedsMore IsGridText) goes_begins k n t f r q (sym h ∙ i) b d in
-      omega (arith, e, same)
-  same_line m n k room t r e h (inl b) (inr (le, d)) = absurd (not_both IsGridText (NeedsMore IsGridText) goes_begins k n t r bytes (sym h) b d)
-  same_line m n k room t r e h (inr b) (inl (f, q, (i, (le, d)))) = absurd (not_both IsGridText (NeedsMore IsGridText) goes_begins n k f q t (sym i ∙ all_of bytes t r h b.1) d b.0)
-  same_line m n k room t r e h (inr b) (inr (le, d)) =
-      let same = one_end IsGridText (NeedsMore IsGridText) goes_begins k n t b.0 (subst (EndsFormIn IsGridText n) (all_of bytes t r h b.1) d) in
-      omega (arith, e, same)
 
   not_cut_off : (n k room : ℕ) (t r : List ℕ) → bytes ≡ t ++ r → room ≤ length t → 0 < length r → EndsFormIn IsGridText k t → HasBrokenLine IsGridText room n bytes → ⊥
   not_cut_off n k room t r e all more b (inl (f, q, (i, (le, d)))) =
       let s = shorter f t q r (sym i ∙ e) (omega (arith, le, all)) in
-      not_both IsGridText (NeedsMore IsGridText) goes_begins n k f s.0 t s.1 d b
+      not_both IsGridText (NeedsMore IsGridText) (begins_if_needs IsGridText) n k f s.0 t s.1 d b
   not_cut_off n k room t r e all more b (inr (le, d)) = let len = ap length e in omega (arith, len, le, all, more, length-append t r)
 
   pub refuses : (result : Result Grid LineFault) → IfOk result (λ grid. Takes here (λ text rest. text ≡ text_of_grid (grid_of grid))) → IfOk result (λ grid. IsGrid (grid_of grid)) → IfErr result (HasLineCause IsGridText 0 here)
       → (n : ℕ) → HasBrokenLine IsGridText (limit - at) n bytes → IsGridRefusedAt here n result
-  refuses (Ok grid) read fits refused n b = refuses_ok n (limit - at) grid read fits b
-  refuses (Err (faults.Line m)) read fits (t, r, (e, (l, (p, (k, (f, d)))))) n b = same_line m n k (limit - at) t r f e d b
+  refuses (Ok grid) (t, r, (e, (l, (p, s)))) fits refused n b = not_stopped n t r bytes (grid_of grid, (fits, s)) e (stop_of IsGridText (limit - at) n bytes b)
+  refuses (Err (faults.Line m)) read fits (t, r, (e, (l, (p, (k, (f, d)))))) n b =
+      let same = one_stop IsGridText (NeedsMore IsGridText) (begins_if_needs IsGridText) k n bytes (cause_stop IsGridText k bytes t r e d) (stop_of IsGridText (limit - at) n bytes b) in
+      omega (arith, f, same)
   refuses (Err faults.TooLong) read fits (full, (more, (t, r, (e, (l, (p, (k, d))))))) n b = not_cut_off n k (limit - at) t r e (omega (arith, full, p)) (subst HasMore l more) d b
   refuses (Err faults.ReadFault) read fits refused n b = refused
   refuses (Err faults.Memory) read fits refused n b = tt

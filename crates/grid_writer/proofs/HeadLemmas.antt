@@ -70,24 +70,20 @@ pub rows_inside : InLine (codes "nrows ")
 unfolding is_line
 rows_inside = line_by (codes "nrows ") refl
 
-columns_one : (n : ℕ) → n < 2 ^ 64 → IsOneLine (columns_line n)
-unfolding columns_line
-columns_one n small = (codes "ncols " ++ decimal n, (in_append (codes "ncols ") (decimal n) columns_inside (decimal_without 10 (lit< tt) n small), refl))
-
-rows_one : (n : ℕ) → n < 2 ^ 64 → IsOneLine (rows_line n)
-unfolding rows_line
-rows_one n small = (codes "nrows " ++ decimal n, (in_append (codes "nrows ") (decimal n) rows_inside (decimal_without 10 (lit< tt) n small), refl))
-
-labelled_same : (label : List ℕ) (m n : ℕ) → m < 2 ^ 64 → n < 2 ^ 64 → (label ++ decimal m) ++ 10 ∷ [] ≡ (label ++ decimal n) ++ 10 ∷ [] → m ≡ n
-labelled_same label m n p q e = decimal_injective m n p q (append_cancel_left label (decimal m) (decimal n) (append_cancel_right (label ++ decimal m) (label ++ decimal n) (10 ∷ []) e))
+-- a line that tells a count is known by the text, and so is what follows it
+labelled_same : (label : List ℕ) → InLine label → (m n : ℕ) (r s : List ℕ) → m < 2 ^ 64 → n < 2 ^ 64 → ((label ++ decimal m) ++ 10 ∷ []) ++ r ≡ ((label ++ decimal n) ++ 10 ∷ []) ++ s → (m ≡ n) × (r ≡ s)
+labelled_same label inside m n r s p q e =
+    let one : (k : ℕ) → k < 2 ^ 64 → IsOneLine ((label ++ decimal k) ++ 10 ∷ []) = λ k small. (label ++ decimal k, (in_append label (decimal k) inside (decimal_without 10 (lit< tt) k small), refl)) in
+    let t = line_cancel ((label ++ decimal m) ++ 10 ∷ []) ((label ++ decimal n) ++ 10 ∷ []) r s (one m p) (one n q) e in
+    (decimal_injective m n p q (append_cancel_left label (decimal m) (decimal n) (append_cancel_right (label ++ decimal m) (label ++ decimal n) (10 ∷ []) t.0)), t.1)
 
 columns_same : (m n : ℕ) (r s : List ℕ) → m < 2 ^ 64 → n < 2 ^ 64 → columns_line m ++ r ≡ columns_line n ++ s → (m ≡ n) × (r ≡ s)
 unfolding columns_line
-columns_same m n r s p q e = let t = line_cancel (columns_line m) (columns_line n) r s (columns_one m p) (columns_one n q) e in (labelled_same (codes "ncols ") m n p q t.0, t.1)
+columns_same = labelled_same (codes "ncols ") columns_inside
 
 rows_same : (m n : ℕ) (r s : List ℕ) → m < 2 ^ 64 → n < 2 ^ 64 → rows_line m ++ r ≡ rows_line n ++ s → (m ≡ n) × (r ≡ s)
 unfolding rows_line
-rows_same m n r s p q e = let t = line_cancel (rows_line m) (rows_line n) r s (rows_one m p) (rows_one n q) e in (labelled_same (codes "nrows ") m n p q t.0, t.1)
+rows_same = labelled_same (codes "nrows ") rows_inside
 
 -- the same size is told by the same lines, and then comes the same
 pub record SameSize (w h w' h' : ℕ) (x x' : List ℕ) : Type 0 where
@@ -118,20 +114,11 @@ zero_fits : (w h : ℕ) → AreLong w h zero_field
 unfolding zero_field
 zero_fits w h x y lx ly = zero_long
 
-columns_code : (least most : ℕ) → most ≤ 4096 → IsCode (IsCountLine (codes "ncols ") least most)
-columns_code least most le = line_code (IsCount (codes "ncols ") least most) (count_inside (codes "ncols ") least most columns_inside (omega (arith, le)))
-
-rows_code : (least most : ℕ) → most ≤ 4096 → IsCode (IsCountLine (codes "nrows ") least most)
-rows_code least most le = line_code (IsCount (codes "nrows ") least most) (count_inside (codes "nrows ") least most rows_inside (omega (arith, le)))
+count_code : (label : List ℕ) (least most : ℕ) → InLine label → most ≤ 4096 → IsCode (IsCountLine label least most)
+count_code label least most inside le = line_code (IsCount label least most) (count_inside label least most inside (omega (arith, le)))
 
 body_of : (w h w' h' : ℕ) (v : Field ℤ) (t : List ℕ) → w ≡ w' → h ≡ h' → AreLong w' h' v → t ≡ frame_lines ++ grid_rows w' h' v → IsBodyText w h t
-body_of w h w' h' v t e f long g = (
-  v,
-  (
-    λ x y lx ly. long x y (omega (arith, lx, e)) (omega (arith, ly, f)),
-    g ∙ ap (λ (n : ℕ). frame_lines ++ grid_rows n h' v) (sym e) ∙ ap (λ (n : ℕ). frame_lines ++ grid_rows w n v) (sym f),
-  ),
-)
+body_of w h w' h' v t e f long g = rw (e, f) (v, (long, g))
 
 -- ---- a grid's lines in their order
 
@@ -147,8 +134,8 @@ module _ (s : Sizes) (ok : AreSizes s) where
         let least = some_rows s ok n low high in
         let more = rows_line s.least_height ++ (frame_lines ++ grid_rows n s.least_height zero_field) in
         (more, subst (λ (l : List ℕ). IsGridTextIn s (l ++ more)) (sym (f ∙ ap (λ (l : List ℕ). l ++ 10 ∷ []) e)) (some_grid n s.least_height (sized_within s ok n low high s.least_height (omega arith) least) (within_at s ok n low high s.least_height (omega arith) least)));
-    whole = (columns_code s.least_width s.most_width ok.narrow).whole;
-    free = (columns_code s.least_width s.most_width ok.narrow).free;
+    whole = (count_code (codes "ncols ") s.least_width s.most_width columns_inside ok.narrow).whole;
+    free = (count_code (codes "ncols ") s.least_width s.most_width columns_inside ok.narrow).free;
   }
 
   module _ (w : ℕ) (wide : s.least_width ≤ w) (narrow : w ≤ s.most_width) where
@@ -163,8 +150,8 @@ module _ (s : Sizes) (ok : AreSizes s) where
       extends = λ p (line, ((n, (low, (high, e))), f)).
           let more = frame_lines ++ grid_rows w n zero_field in
           (more, subst (λ (l : List ℕ). IsGridTextIn s (columns_line w ++ (l ++ more))) (sym (f ∙ ap (λ (l : List ℕ). l ++ 10 ∷ []) e)) (some_grid w n (sized_within s ok w wide narrow n low high) (within_at s ok w wide narrow n low high)));
-      whole = (rows_code s.least_height (most_rows s w) (omega (arith, ok.low))).whole;
-      free = (rows_code s.least_height (most_rows s w) (omega (arith, ok.low))).free;
+      whole = (count_code (codes "nrows ") s.least_height (most_rows s w) rows_inside (omega (arith, ok.low))).whole;
+      free = (count_code (codes "nrows ") s.least_height (most_rows s w) rows_inside (omega (arith, ok.low))).free;
     }
 
     pub grid_after : (h : ℕ) → s.least_height ≤ h → h ≤ most_rows s w → ComesAfter (columns_line w ++ rows_line h) (IsBodyText w h) (IsGridTextIn s)
@@ -210,7 +197,7 @@ any_size s a b c d = record {
 }
 
 values_of : (w h w' h' : ℕ) (v : Field ℤ) (t : List ℕ) → w ≡ w' → h ≡ h' → AreLong w' h' v → t ≡ grid_text w' h' v → IsGridTextOf w h t
-values_of w h w' h' v t e f long g = (v, (λ x y lx ly. long x y (omega (arith, lx, e)) (omega (arith, ly, f)), g ∙ ap (λ (n : ℕ). grid_text n h' v) (sym e) ∙ ap (λ (n : ℕ). grid_text w n v) (sym f)))
+values_of w h w' h' v t e f long g = rw (e, f) (v, (long, g))
 
 pub one_size : (w h : ℕ) → IsTrue (is_raster_size w h) → SameForms (IsGridTextIn (record { least_width = w; most_width = w; least_height = h; most_height = h })) (IsGridTextOf w h)
 one_size w h z = record {

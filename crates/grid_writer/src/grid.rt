@@ -17,7 +17,8 @@ use text_lines::{TextWriter, add_row, see_longs};
 const MAX_WIDTH: usize = MAX_SIDE as usize;
 
 /// The lines of the header that are the same in every grid.
-const FRAME: &[u8] = b"xllcorner 0\nyllcorner 0\ncellsize 1\nNODATA_value -9223372036854775808\n";
+pub(crate) const FRAME: &[u8] =
+    b"xllcorner 0\nyllcorner 0\ncellsize 1\nNODATA_value -9223372036854775808\n";
 
 /// Adds a line with a number after its label.
 fn add_size<K: Sink>(text: &mut TextWriter<K>, label: &[u8], count: u32)

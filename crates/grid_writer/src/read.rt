@@ -12,11 +12,12 @@ ghost use Rattle.text_lines.specs.LineWords.{TakesLines, lines_read};
 ghost use Rattle.text_lines.specs.Numbers.{AreLongs, numbers_line};
 ghost use Rattle.text_lines.specs.Reading.{HasBrokenLine, HasLineCause, room_of};
 
+use crate::grid::FRAME;
 use crate::values::Grid;
 use insar_ports::{Feed, Source};
 use raster_model::{MAX_PIXELS, MAX_SIDE};
 use std::alloc::Global;
-use text_lines::{LineEnd, LineFault, Lines, expect_line, labelled_count, push_row};
+use text_lines::{LineEnd, LineFault, Lines, expect_text, labelled_count, push_row};
 
 /// How many digits a count has at most.
 const COUNT_DIGITS: usize = 10;
@@ -89,6 +90,7 @@ pub fn read_sized_grid<S: Source>(
 }
 
 /// Reads a grid whose size is within limits.
+#[tactic(auto, using(text_lines::proofs::StepLemmas::moves_on))]
 fn read_within<S: Source>(
     alloc: Global,
     feed: &mut Feed<S>,
@@ -138,6 +140,7 @@ fn read_count<S: Source>(
 }
 
 /// Reads what follows the size.
+#[tactic(auto, using(text_lines::proofs::StepLemmas::moves_on))]
 fn read_body<S: Source>(
     alloc: Global,
     feed: &mut Feed<S>,
@@ -165,6 +168,7 @@ fn read_body<S: Source>(
 }
 
 /// Reads the four lines of the header that are the same in every grid.
+#[tactic(auto, using(crate::proofs::HeadLemmas::frame_whole), unfolding(crate::specs::Grid::frame_lines))]
 fn read_frame<S: Source>(feed: &mut Feed<S>, lines: &mut Lines) -> Result<(), LineFault>
     ensures same_source { source_name feed.new ≡ source_name feed.old }
     ensures same_limit { limit_of feed.new ≡ limit_of feed.old }
@@ -172,13 +176,11 @@ fn read_frame<S: Source>(feed: &mut Feed<S>, lines: &mut Lines) -> Result<(), Li
     ensures read { OnOk result (TakesLines (IsText frame_lines) (lines_read lines.old) (lines_read lines.new) (call_of S.left S.faults feed.old feed.new)) }
     ensures refused { IfErr result (HasLineCause (IsText frame_lines) (lines_read lines.old) (call_of S.left S.faults feed.old feed.new)) }
 {
-    expect_line(feed, lines, b"xllcorner 0")?;
-    expect_line(feed, lines, b"yllcorner 0")?;
-    expect_line(feed, lines, b"cellsize 1")?;
-    expect_line(feed, lines, b"NODATA_value -9223372036854775808")
+    expect_text(feed, lines, FRAME)
 }
 
 /// Reads the rows into an empty list.
+#[tactic(auto, using(text_lines::proofs::StepLemmas::moves_on))]
 fn read_rows<S: Source>(
     feed: &mut Feed<S>,
     lines: &mut Lines,
@@ -217,13 +219,7 @@ fn read_row<S: Source>(
     ensures refused { IfErr result (HasLineCause (IsRowLine width) (lines_read lines.old) (call_of S.left S.faults feed.old feed.new)) }
 {
     match lines.next(feed, VALUE_BYTES * width)? {
-        LineEnd::Whole => {
-            if push_row(lines.line(), width, values)? {
-                Ok(())
-            } else {
-                Err(LineFault::Line(lines.number()))
-            }
-        }
-        LineEnd::Long | LineEnd::Cut => Err(LineFault::Line(lines.number())),
+        LineEnd::Whole if push_row(lines.line(), width, values)? => Ok(()),
+        _ => Err(LineFault::Line(lines.number())),
     }
 }

@@ -1,6 +1,10 @@
 -- Texts that are added one after the other.
-use Rattle.std.specs.Prelude.{OnOk, OnErr}
-use Rattle.std.proofs.Common.{◌≡◌, ℕ, suc, ◌+◌, ◌<◌, ◌≤◌, List, [], ◌∷◌, ◌++◌, Option, Result, Ok, Err, Bool, true, false, refl, flat_map, get_or, length, take, drop, sym, ap, subst, ◌∙◌, append_assoc, arith}
+use Rattle.std.specs.Prelude.{ℤ, FitsSigned, OnOk, OnErr, codes}
+use Rattle.std.specs.Fmt.{signed_decimal}
+use Rattle.std.proofs.lemmas.Int.{to_z-of_z}
+use mir.Syntax.{Width}
+use Rattle.text_lines.specs.Numbers.{number_text}
+use Rattle.std.proofs.Common.{◌≡◌, ℕ, suc, ◌+◌, ◌<◌, ◌≤◌, List, [], ◌∷◌, ◌++◌, Option, Result, Ok, Err, Bool, true, false, refl, flat_map, get_or, length, take, drop, sym, ap, subst, ◌∙◌, append_assoc, arith, of_z, to_z}
 use Rattle.std.proofs.lemmas.List.{append-nil, get_or_default, length-append, take_more, length-drop, take-append-drop}
 use Rattle.std.proofs.lemmas.Grind.{flat_map-append}
 use Rattle.std.proofs.Math.Seq.{take-append_seam}
@@ -31,9 +35,6 @@ module _ {v m w : View} {s t : List ℕ} (p : Adds v m s) (q : Adds m w t) where
     ap (λ (l : List ℕ). (p.put ++ l) ++ (c.0 ++ t)) (q.stays e).1 ∙ ap (λ (l : List ℕ). l ++ (c.0 ++ t)) (append-nil p.put) ∙ sym (append_assoc p.put c.0 t) ∙ ap (λ (l : List ℕ). l ++ t) c.2 ∙ append_assoc v.waiting s t,
   )
 
-  late : m.sound ≡ true → (rest : List ℕ) × (0 < length rest) × (q.put ++ rest ≡ m.waiting ++ t) → (rest : List ℕ) × (0 < length rest) × ((p.put ++ q.put) ++ rest ≡ v.waiting ++ (s ++ t))
-  late e c = (c.0, c.1, joined c.0 e c.2)
-
   pub adds_then : Adds v w (s ++ t)
   adds_then = record {
     name = q.name ∙ p.name;
@@ -42,19 +43,19 @@ module _ {v m w : View} {s t : List ℕ} (p : Adds v m s) (q : Adds m w t) where
     gained = q.gained ∙ ap (λ (o : Option (List ℕ)). with_end o q.put) p.gained ∙ with_end-append v.held p.put q.put;
     stays = λ e. let a = p.stays e in let b = q.stays a.0 in (b.0, ap (λ (l : List ℕ). l ++ q.put) a.1 ∙ b.1);
     whole = λ e. by_bool _ m.sound (λ f. joined w.waiting f (q.whole e)) (λ f. absurd (both w.sound e (q.stays f).0));
-    cut = λ e f. by_bool _ m.sound (λ g. late g (q.cut g f)) (λ g. early g (p.cut e g));
+    cut = λ e f. by_bool _ m.sound (λ g. let c = q.cut g f in (c.0, c.1, joined c.0 g c.2)) (λ g. early g (p.cut e g));
     fault = λ e f. by_bool _ m.sound (λ g. let a = q.fault g f in omega (arith, a, p.grows)) (λ g. let a = p.fault e g in omega (arith, a, q.grows));
   }
 
--- the buffer took the text
-pub adds_kept : (v w : View) (text : List ℕ) → w.name ≡ v.name → w.held ≡ v.held → w.faults ≡ v.faults → w.sound ≡ v.sound → w.waiting ≡ v.waiting ++ text → Adds v w text
-adds_kept v w text n h f s e = record {
+-- nothing was put: the buffer took the text, or a fault had come before
+pub adds_still : (v w : View) (text : List ℕ) → w.name ≡ v.name → w.held ≡ v.held → w.faults ≡ v.faults → w.sound ≡ v.sound → (v.sound ≡ true → w.waiting ≡ v.waiting ++ text) → Adds v w text
+adds_still v w text n h f s e = record {
   name = n;
   grows = omega (arith, f);
   put = [];
   gained = h ∙ sym (with_end-nil v.held);
   stays = λ a. (s ∙ a, refl);
-  whole = λ a. e;
+  whole = λ a. e (sym s ∙ a);
   cut = λ a b. absurd (both v.sound a (sym s ∙ b));
   fault = λ a b. absurd (both v.sound a (sym s ∙ b));
 }
@@ -84,19 +85,6 @@ adds_put v w text all s n e z g wrote cut risen =
       fault = λ a b. risen b;
     })
 
--- nothing is done after a fault
-pub adds_lost : (v w : View) (text : List ℕ) → v.sound ≡ false → w.name ≡ v.name → w.held ≡ v.held → w.faults ≡ v.faults → w.sound ≡ v.sound → Adds v w text
-adds_lost v w text z n h f s = record {
-  name = n;
-  grows = omega (arith, f);
-  put = [];
-  gained = h ∙ sym (with_end-nil v.held);
-  stays = λ a. (s ∙ a, refl);
-  whole = λ a. absurd (both w.sound a (s ∙ z));
-  cut = λ a b. absurd (both v.sound a z);
-  fault = λ a b. absurd (both v.sound a z);
-}
-
 -- a new writer was handed a text and then was finished
 pub puts_whole : (v w : View) (text : List ℕ) (r : Result (Unit {0}) WriteFault) → Adds v w text → v.sound ≡ true → v.waiting ≡ [] → w.waiting ≡ [] → OnOk r (w.sound ≡ true) → OnErr r (w.sound ≡ false) → Puts v.held v.faults w.held w.faults text r
 puts_whole v w text (Ok u) a s z y good bad = record {
@@ -125,21 +113,13 @@ puts_all {u} {w} {x} {text} {name} {held} {faults} r e a b z good bad =
 pub same_name : {u w x : View} {text : List ℕ} {name : GName} {held : Option (List ℕ)} {faults : ℕ} → u ≡ fresh name held faults → Adds u w text → Adds w x [] → name ≡ x.name
 same_name e a b = sym (b.name ∙ a.name ∙ ap (λ (v : View). v.name) e)
 
--- the sink ended as the writer left it
-pub puts_end : {K : Type 0} (held_of : K → Option (List ℕ)) (faults_of : K → ℕ) {y z : K} {held : Option (List ℕ)} {faults : ℕ} {text : List ℕ} {r : Result (Unit {0}) WriteFault} → y ≡ z → Puts held faults (held_of z) (faults_of z) text r → Puts held faults (held_of y) (faults_of y) text r
-puts_end held_of faults_of {y} {z} {held} {faults} {text} {r} e p = subst (λ (k : _). Puts held faults (held_of k) (faults_of k) text r) (sym e) p
-
 -- nothing was done
 pub adds_nothing : (v : View) → Adds v v []
-adds_nothing v = adds_kept v v [] refl refl refl refl (sym (append-nil v.waiting))
+adds_nothing v = adds_still v v [] refl refl refl refl (λ _. sym (append-nil v.waiting))
 
 -- after a fault nothing need be done
 pub adds_no_more : (v : View) (text : List ℕ) → v.sound ≡ false → Adds v v text
-adds_no_more v text e = adds_lost v v text e refl refl refl refl
-
--- after a fault nothing more need be handed to the writer
-pub adds_cut : {v m : View} {s : List ℕ} (t : List ℕ) → Adds v m s → m.sound ≡ false → Adds v m (s ++ t)
-adds_cut {v} {m} {s} t p e = adds_then p (adds_no_more m t e)
+adds_no_more v text e = adds_still v v text refl refl refl refl (λ a. absurd (both v.sound a e))
 
 -- one more element's text was added
 pub adds_next : {X : Type 0} {v m w : View} (f : X → List ℕ) (xs : List X) (i : ℕ) (d : X) → i < length xs → Adds v m (flat_map f (take i xs)) → Adds m w (f (get_or xs i d)) → Adds v w (flat_map f (take (i + 1) xs))
@@ -149,6 +129,14 @@ adds_next {X} f xs i d within p q =
     let more : flat_map f (take (i + 1) xs) ≡ flat_map f (take i xs) ++ f x = ap (flat_map f) e ∙ flat_map-append f (take i xs) (x ∷ []) ∙ ap (λ (t : List ℕ). flat_map f (take i xs) ++ t) (append-nil (f x)) in
     rw more (adds_then p q)
 
+-- a number with its sign, which its width holds
+pub adds_signed : {a b : View} (w : Width) (n : ℤ) → FitsSigned w n → Adds a b (signed_decimal (to_z w (of_z w n))) → Adds a b (signed_decimal n)
+adds_signed {a} {b} w n fits p = rw (to_z-of_z w n fits) at p
+
+pub adds_number : {a b c : View} (w : Width) (n : ℤ) → FitsSigned w n → Adds a b (codes " ") → Adds b c (signed_decimal (to_z w (of_z w n))) → Adds a c (number_text n)
+unfolding number_text
+adds_number w n fits p q = adds_then p (adds_signed w n fits q)
+
 -- one more of the texts f 0, f 1 .. was added
 pub adds_below : {v m w : View} (f : ℕ → List ℕ) (n : ℕ) → Adds v m (texts_below n f) → Adds m w (f n) → Adds v w (texts_below (n + 1) f)
 unfolding texts_below
@@ -157,4 +145,4 @@ adds_below f n p q = let e : n + 1 ≡ suc n = omega arith in rw e (adds_then p 
 -- a function made a writer for its sink, handed it a text and finished it: `same` is that the sink ends as the writer left it
 pub puts_made : {K : Type 0} (held_of : K → Option (List ℕ)) (faults_of : K → ℕ) {y z : K} {u w : View} {text waiting : List ℕ} {name last : GName} {sound : Bool} {held : Option (List ℕ)} {faults : ℕ} (r : Result (Unit {0}) WriteFault)
     → (name ≡ last → y ≡ z) → u ≡ fresh name held faults → Adds u w text → Adds w (record { name = last; held = held_of z; waiting = waiting; sound = sound; faults = faults_of z }) [] → waiting ≡ [] → OnOk r (sound ≡ true) → OnErr r (sound ≡ false) → Puts held faults (held_of y) (faults_of y) text r
-puts_made held_of faults_of r same e a b n good bad = puts_end held_of faults_of (same (same_name e a b)) (puts_all r e a b n good bad)
+puts_made held_of faults_of {text = text} {held = held} {faults = faults} r same e a b n good bad = subst (λ (k : _). Puts held faults (held_of k) (faults_of k) text r) (sym (same (same_name e a b))) (puts_all r e a b n good bad)

@@ -1,12 +1,13 @@
 -- Bytes in front of which no text of a form stands have a first broken line, where it can be told of whole lines what they are.
-use Rattle.std.proofs.Common.{◌≡◌, ℕ, ◌+◌, ◌<◌, ◌≤◌, List, [], ◌∷◌, ◌++◌, length, take, drop, inl, inr, ◌⊎◌, refl, sym, ap, subst, ◌∙◌, append_assoc, arith}
+use Rattle.std.proofs.Common.{◌≡◌, ℕ, ◌+◌, ◌≤◌, List, [], ◌∷◌, ◌++◌, length, take, drop, inl, inr, ◌⊎◌, refl, sym, ap, subst, ◌∙◌, append_assoc, arith}
 use Rattle.std.proofs.lemmas.Bool.{cases_eq, cases_lt}
-use Rattle.std.proofs.lemmas.List.{append-nil, length-append, length-take, take_all, take-append-drop}
+use Rattle.std.proofs.lemmas.List.{append-nil, length-append, length-take, take_all, take_at, take-append-drop}
 use Rattle.text_lines.specs.Forms.{Form, Begins, NeedsMore, AreWholeLines, IsInLineOf, IsText, LineOf, lines_in}
 use Rattle.text_lines.specs.Reading.{BreaksFormAt, EndsFormIn, HasBrokenLine, IsCutIn, OneBrokenLine, StandsInFront, TextOrBreak}
-use Rattle.text_lines.proofs.FirstLemmas.{line_then, no_end_within, not_both, one_break, one_end}
-use Rattle.text_lines.proofs.FormLemmas.{ComesFirst, InLine, breaks_first, cons_head, cons_same, cons_tail, cut_unique, ends_with, goes_on_first, in_line, in_line_all, not_nil, whole_append, whole_line}
+use Rattle.text_lines.proofs.FirstLemmas.{StopsIn, line_then, no_end_within, one_stop, stops_broken, stops_cut}
+use Rattle.text_lines.proofs.FormLemmas.{ComesAfter, ComesFirst, InLine, breaks_first, cut_unique, ends_with, goes_on_first, in_line, in_line_all, not_nil, whole_append, whole_line}
 use Rattle.text_lines.proofs.SeqLemmas.{SameForms, line_begins}
+use Rattle.text_lines.proofs.TellLemmas.{bytes_told}
 use Rattle.text_lines.proofs.TextLemmas.{in_append}
 
 -- what bytes are for a form: a text of it, the front of a longer one, or the front of none
@@ -65,14 +66,20 @@ module _ (F : Form) (room : ℕ) (bytes : List ℕ) where
 pub text_or_break : (F : Form) → IsDecided F → NeedsMore F [] → TextOrBreak F
 text_or_break F d m room bytes = let_out F room bytes (find_break F d m (take room bytes))
 
-begins_if_needs : (F : Form) (bytes : List ℕ) → NeedsMore F bytes → Begins F bytes
+pub begins_if_needs : (F : Form) (bytes : List ℕ) → NeedsMore F bytes → Begins F bytes
 begins_if_needs F bytes g = (g.0, g.1.1)
 
+pub stop_of : (F : Form) (room n : ℕ) (bytes : List ℕ) → HasBrokenLine F room n bytes → StopsIn (NeedsMore F) F n bytes
+stop_of F room n bytes (inl (f, r, (e, (le, b)))) = stops_broken (NeedsMore F) F n bytes f r e b
+stop_of F room n bytes (inr (le, d)) = stops_cut (NeedsMore F) F n bytes d
+
+-- the line for which a text was refused
+pub cause_stop : (F : Form) (n : ℕ) (bytes text rest : List ℕ) → bytes ≡ text ++ rest → BreaksFormAt F n text ⊎ (EndsFormIn F n text × (rest ≡ [])) → StopsIn (NeedsMore F) F n bytes
+cause_stop F n bytes text rest e (inl b) = stops_broken (NeedsMore F) F n bytes text rest e b
+cause_stop F n bytes text rest e (inr (d, none)) = subst (StopsIn (NeedsMore F) F n) (sym (e ∙ ap (λ (l : List ℕ). text ++ l) none ∙ append-nil text)) (stops_cut (NeedsMore F) F n text d)
+
 pub one_broken_line : (F : Form) → OneBrokenLine F
-one_broken_line F r m n bytes (inl (f, s, (e, (le, b)))) (inl (g, t, (i, (lf, d)))) = one_break F (NeedsMore F) (begins_if_needs F) m n f g s t (sym e ∙ i) b d
-one_broken_line F r m n bytes (inl (f, s, (e, (le, b)))) (inr (lf, d)) = absurd (not_both F (NeedsMore F) (begins_if_needs F) m n f s bytes (sym e) b d)
-one_broken_line F r m n bytes (inr (le, b)) (inl (g, t, (i, (lf, d)))) = absurd (not_both F (NeedsMore F) (begins_if_needs F) n m g t bytes (sym i) d b)
-one_broken_line F r m n bytes (inr (le, b)) (inr (lf, d)) = one_end F (NeedsMore F) (begins_if_needs F) m n bytes b d
+one_broken_line F room m n bytes b d = one_stop F (NeedsMore F) (begins_if_needs F) m n bytes (stop_of F room m bytes b) (stop_of F room n bytes d)
 
 -- ---- forms that are made of forms
 
@@ -91,6 +98,13 @@ pub decided_same : (F G : Form) → SameForms F G → (t : List ℕ) → Decided
 decided_same F G s t (inl f) = inl (s.to t f)
 decided_same F G s t (inr (inl g)) = inr (inl (g.0, (g.1.0, s.to (t ++ g.0) g.1.1)))
 decided_same F G s t (inr (inr none)) = inr (inr (λ b. none (b.0, s.«from» (t ++ b.0) b.1)))
+
+-- the same texts after other bytes
+pub decided_at : (F : Form) (f g : List ℕ → List ℕ) → ((t : List ℕ) → f t ≡ g t) → IsDecided (λ (t : List ℕ). F (f t)) → IsDecided (λ (t : List ℕ). F (g t))
+decided_at F f g e d t w = decided_same (λ (t : List ℕ). F (f t)) (λ (t : List ℕ). F (g t)) (record { to = λ t a. subst F (e t) a; «from» = λ t a. subst F (sym (e t)) a }) t (d t w)
+
+pub decided_after : (p : List ℕ) (F2 F : Form) → ComesAfter p F2 F → IsDecided F2 → IsDecided (λ (t : List ℕ). F (p ++ t))
+decided_after p F2 F f d t w = decided_same F2 (λ (t : List ℕ). F (p ++ t)) (record { to = f.to; «from» = f.«from» }) t (d t w)
 
 -- a part that comes first, and what comes after each such part
 module _ (F1 F : Form) (f : ComesFirst F1 F) (next : (p : List ℕ) → F1 p → IsDecided (λ (t : List ℕ). F (p ++ t))) where
@@ -134,17 +148,17 @@ module _ (D : List ℕ → Type 0) (inside : (line : List ℕ) → D line → In
     | inr l ↦ line_is t l.0 l.1 l.2.0 l.2.1
   ]
 
--- a text that is known
-more_of : (a : ℕ) (x t : List ℕ) → Decided (IsText x) t → Decided (IsText (a ∷ x)) (a ∷ t)
-more_of a x t (inl e) = inl (ap (λ (l : List ℕ). a ∷ l) e)
-more_of a x t (inr (inl g)) = inr (inl (g.0, (g.1.0, ap (λ (l : List ℕ). a ∷ l) g.1.1)))
-more_of a x t (inr (inr none)) = inr (inr (λ b. none (b.0, cons_tail a a (t ++ b.0) x b.1)))
+  -- such a line comes first
+  pub after_line_decided : (F : Form) → ComesFirst (LineOf D) F → ((line : List ℕ) → D line → IsDecided (λ (t : List ℕ). F ((line ++ 10 ∷ []) ++ t))) → IsDecided F
+  after_line_decided F f next = parts_decided (LineOf D) F f (λ p (line, (d, e)). subst (λ (l : List ℕ). IsDecided (λ (t : List ℕ). F (l ++ t))) (sym e) (next line d)) line_decided needs_line
 
+-- a text that is known
 pub text_decided : (x t : List ℕ) → Decided (IsText x) t
-text_decided [] [] = inl refl
-text_decided [] (b ∷ t) = inr (inr (λ g. not_nil b (t ++ g.0) (sym g.1)))
-text_decided (a ∷ x) [] = inr (inl (a ∷ x, (λ e. not_nil a x (sym e), refl)))
-text_decided (a ∷ x) (b ∷ t) = elim (cases_eq a b) [
-  | inl e ↦ subst (λ (c : ℕ). Decided (IsText (a ∷ x)) (c ∷ t)) e (more_of a x t (text_decided x t))
-  | inr n ↦ inr (inr (λ g. n (sym (cons_head b a (t ++ g.0) x g.1))))
+text_decided x t = elim (bytes_told t (take (length t) x)) [
+  | inl e ↦ rest (drop (length t) x) (ap (λ (l : List ℕ). l ++ drop (length t) x) e ∙ take-append-drop (length t) x)
+  | inr n ↦ inr (inr (λ g. n (sym (take_at t g.0 (length t) refl) ∙ ap (take (length t)) g.1)))
 ]
+  where
+    rest : (more : List ℕ) → t ++ more ≡ x → Decided (IsText x) t
+    rest [] e = inl (sym (append-nil t) ∙ e)
+    rest (b ∷ more) e = inr (inl (b ∷ more, (λ f. not_nil b more (sym f), e)))

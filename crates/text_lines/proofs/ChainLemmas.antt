@@ -17,6 +17,3 @@ adds_four p q r z e = adds_is (adds_then p (adds_then q (adds_then r z))) e
 
 pub adds_five : {a b c d k l : View} {s t u x y text : List ℕ} → Adds a b s → Adds b c t → Adds c d u → Adds d k x → Adds k l y → text ≡ s ++ (t ++ (u ++ (x ++ y))) → Adds a l text
 adds_five p q r z o e = adds_is (adds_then p (adds_then q (adds_then r (adds_then z o)))) e
-
-pub adds_six : {a b c d k l m : View} {s t u x y z text : List ℕ} → Adds a b s → Adds b c t → Adds c d u → Adds d k x → Adds k l y → Adds l m z → text ≡ s ++ (t ++ (u ++ (x ++ (y ++ z)))) → Adds a m text
-adds_six p q r z o n e = adds_is (adds_then p (adds_then q (adds_then r (adds_then z (adds_then o n))))) e

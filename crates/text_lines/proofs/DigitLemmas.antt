@@ -6,7 +6,7 @@ use Rattle.std.specs.Char.{digit_value}
 use Rattle.std.specs.Fmt.{signed_decimal}
 use Rattle.std.specs.Int.{IsInRange}
 use Rattle.std.specs.Str.Parse.{AllDigits, digits_value}
-use Rattle.std.proofs.lemmas.Bool.{cases_lt}
+use Rattle.std.proofs.lemmas.Bool.{cases_lt, eqb-true}
 use Rattle.std.proofs.lemmas.Bool.Decides.{nat_tests}
 use Rattle.std.proofs.lemmas.Fmt.{decimal_is_IsNumeral, decimal_digit, decimal_injective, decimal_nonempty, decimal-digits_value, first_decimal, length-decimal-le}
 use Rattle.std.proofs.lemmas.Int.Digits.{digits_more, digits_value_more}
@@ -14,10 +14,11 @@ use Rattle.std.proofs.lemmas.List.{append-nil, drop_at, get_or-take, get_or_appe
 use Rattle.std.proofs.lemmas.Option.{none-some}
 use Rattle.std.proofs.lemmas.Str.{digit_value_digit}
 use Rattle.std.proofs.lemmas.Str.Parse.{IsNumeralModel, digit_at, digits_value_short, numerals_by_value, tells_digits}
+use Rattle.sums_and_lists.proofs.Lists.{no_length}
 use Rattle.text_lines.specs.Numbers.{BeginsField, FitsLong}
 use Rattle.text_lines.specs.Parsing.{IsParsedAs, IsWord}
-use Rattle.text_lines.proofs.FormLemmas.{cons_tail}
-use Rattle.text_lines.proofs.NumberLemmas.{decimal_without, parts_unique, signed_without}
+use Rattle.text_lines.proofs.FormLemmas.{Without, cons_tail}
+use Rattle.text_lines.proofs.NumberLemmas.{decimal_without, parts_unique}
 
 own : IsNumeralModel (AllDigits 10) (digits_value 10)
 own = numerals_by_value (AllDigits 10) tells_digits
@@ -159,32 +160,17 @@ not_in_range (Err e) P x none is p = is p
 
 -- ---- a whole text
 
-nothing_behind : (rest : List ℕ) → (length rest == 0) ≡ true → rest ≡ []
-nothing_behind [] e = refl
-nothing_behind (byte ∷ rest) e = absurd (grind (arith, nat_tests, e))
-
 whole : (text front rest : List ℕ) → text ≡ front ++ rest → (length rest == 0) ≡ true → text ≡ front
-whole text front rest e none = e ∙ ap (λ (l : List ℕ). front ++ l) (nothing_behind rest none) ∙ append-nil front
+whole text front rest e none = e ∙ ap (λ (l : List ℕ). front ++ l) (no_length rest (eqb-true (length rest) 0 none)) ∙ append-nil front
 
 pub no_whole_count : (text : List ℕ) → NoCount text → (n : ℕ) → n < 2 ^ 32 → text ≡ decimal n → ⊥
 no_whole_count text none n small e = none n [] (omega (arith, small)) (inl refl) (e ∙ sym (append-nil (decimal n)))
 
-behind : (a b rest : List ℕ) → (length rest == 0) ≡ false → ((a ++ rest ≡ b ++ []) → rest ≡ []) → a ++ rest ≡ b → ⊥
-behind a b rest some one e =
-    let none = ap length (one (e ∙ sym (append-nil b))) in
+-- a text in front of more is no whole text
+pub more_behind : (text a b rest : List ℕ) → Without 32 a → Without 32 b → text ≡ a ++ rest → BeginsField rest → (length rest == 0) ≡ false → text ≡ b → ⊥
+more_behind text a b rest p q found f some e =
+    let none = ap length (parts_unique a b rest [] p q f (inl refl) (sym found ∙ e ∙ sym (append-nil b))).1 in
     grind (arith, nat_tests, none, some)
-
-pub more_than_number : (text rest : List ℕ) (m : ℤ) → text ≡ signed_decimal m ++ rest → FitsLong m → BeginsField rest → (length rest == 0) ≡ false → (n : ℤ) → FitsLong n → text ≡ signed_decimal n → ⊥
-more_than_number text rest m found long f some n long_n e =
-    behind (signed_decimal m) (signed_decimal n) rest some
-    (λ same. (parts_unique (signed_decimal m) (signed_decimal n) rest [] (signed_without 32 (omega arith) m long) (signed_without 32 (omega arith) n long_n) f (inl refl) same).1)
-    (sym found ∙ e)
-
-pub more_than_count : (text rest : List ℕ) (m : ℕ) → text ≡ decimal m ++ rest → m < 2 ^ 64 → BeginsField rest → (length rest == 0) ≡ false → (n : ℕ) → n < 2 ^ 32 → text ≡ decimal n → ⊥
-more_than_count text rest m found small f some n small_n e =
-    behind (decimal m) (decimal n) rest some
-    (λ same. (parts_unique (decimal m) (decimal n) rest [] (decimal_without 32 (omega arith) m small) (decimal_without 32 (omega arith) n (omega (arith, small_n))) f (inl refl) same).1)
-    (sym found ∙ e)
 
 other_count : (text : List ℕ) (m : ℕ) → text ≡ decimal m → m < 2 ^ 64 → (m < 2 ^ 32 → ⊥) → (n : ℕ) → n < 2 ^ 32 → text ≡ decimal n → ⊥
 other_count text m found small big n small_n e =

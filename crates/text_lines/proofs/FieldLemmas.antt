@@ -10,7 +10,7 @@ use Rattle.raster_model.specs.declared.script.Rect.{Rect}
 use Rattle.text_lines.specs.Numbers.{BeginsField}
 use Rattle.text_lines.specs.Parsing.{IsRectOfWords, IsWide, IsWord}
 use Rattle.text_lines.specs.Text.{field_text, rect_text}
-use Rattle.text_lines.proofs.NumberLemmas.{parts_unique}
+use Rattle.text_lines.proofs.NumberLemmas.{parts_unique, wide_without}
 
 abbrev pub IsNoSpace : ℕ → Type 0
 IsNoSpace byte = byte ≢ 32
@@ -36,11 +36,8 @@ digits_stand (d ∷ ds) a = (digit_from_value d a.0, digits_stand ds a.1)
 pub decimal_digits : (n : ℕ) → IsWide n → AllByRecursion IsDigit (decimal n)
 decimal_digits n lt = digits_stand (decimal n) (decimal_is_IsNumeral_wide n (is_printed n lt)).0.1
 
-no_space : (byte : ℕ) → IsDigit byte → IsNoSpace byte
-no_space byte d e = omega (arith, d.0, e)
-
 pub decimal_token : (n : ℕ) → IsWide n → AllByRecursion IsNoSpace (decimal n)
-decimal_token n lt = all_weaker IsDigit IsNoSpace no_space (decimal n) (decimal_digits n lt)
+decimal_token = wide_without 32 (omega arith)
 
 pub decimal_unique : (m n : ℕ) → IsWide m → IsWide n → decimal m ≡ decimal n → m ≡ n
 decimal_unique m n a b e = sym (decimal_is_IsNumeral_wide m (is_printed m a)).1 ∙ ap (digits_value 10) e ∙ (decimal_is_IsNumeral_wide n (is_printed n b)).1

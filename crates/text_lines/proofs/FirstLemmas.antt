@@ -2,16 +2,12 @@
 use Rattle.std.proofs.Common.{◌≡◌, ℕ, ◌+◌, List, [], ◌∷◌, ◌++◌, length, inl, inr, refl, sym, ap, subst, ◌∙◌, append_assoc, arith}
 use Rattle.std.proofs.lemmas.List.{length-append, append-nil, append_cancel_left}
 use Rattle.text_lines.specs.Forms.{Form, Begins, NeedsMore, AreWholeLines, IsInLineOf, EndsIn, BreaksAt, lines_in}
-use Rattle.text_lines.proofs.FormLemmas.{InLine, in_line, beside_line, fronts, ends_with, not_nil}
+use Rattle.text_lines.proofs.FormLemmas.{EndsBy, InLine, in_line, beside_line, ends_with, front_unique, no_more, not_nil}
 use Rattle.sums_and_lists.proofs.Lists.{no_length}
 
 -- a line with its LF, and then more, after some bytes
 pub line_then : (before line rest : List ℕ) → (before ++ (line ++ 10 ∷ [])) ++ rest ≡ before ++ (line ++ 10 ∷ rest)
 line_then before line rest = append_assoc before (line ++ 10 ∷ []) rest ∙ ap (λ (l : List ℕ). before ++ l) (append_assoc line (10 ∷ []) rest)
-
-no_more : (m more : List ℕ) → m ++ more ≡ [] → more ≡ []
-no_more [] more e = e
-no_more (b ∷ m) more e = absurd (not_nil b (m ++ more) (sym e))
 
 has_no_feed : (n r : List ℕ) → InLine (n ++ 10 ∷ r) → ⊥
 has_no_feed [] r a = a.0 refl
@@ -25,56 +21,74 @@ no_end_within w before (b ∷ m) line r (inr f) g a e =
     let n = ends_with before m f.0 b (sym g ∙ f.1) in
     absurd (has_no_feed n.0 r (subst InLine (e ∙ ap (λ (l : List ℕ). l ++ r) n.1 ∙ append_assoc n.0 (10 ∷ []) r) a))
 
-ends_equal : (P : List ℕ → Type 0) (n k : ℕ) (b l c m q : List ℕ) → IsInLineOf P n b l → IsInLineOf P k c m → c ≡ b ++ q → l ≡ q ++ m → n ≡ k
-ends_equal P n k b l c m q h h2 e f =
-    let none : q ≡ [] = no_end_within c b q l m h2.whole e (in_line l h.inside) f in
-    let same : c ≡ b = e ∙ ap (λ (x : List ℕ). b ++ x) none ∙ append-nil b in
-    h.number ∙ ap (λ (x : List ℕ). lines_in x + 1) (sym same) ∙ sym h2.number
+-- line n of some bytes, and no text of the form goes past it: it is broken, or the bytes end in it
+pub record StopsIn (P : List ℕ → Type 0) (F : Form) (n : ℕ) (bytes : List ℕ) : Type 0 where
+  pub before : List ℕ
+  pub line : List ℕ
+  pub rest : List ℕ
+  pub is : IsInLineOf P n before line
+  pub parts : bytes ≡ before ++ (line ++ rest)
+  pub ends : EndsBy 10 rest
+  pub last : (m r : List ℕ) → bytes ≡ (before ++ (line ++ 10 ∷ m)) ++ r → Begins F (before ++ (line ++ 10 ∷ m)) → ⊥
+
+module _ (P : List ℕ → Type 0) (F : Form) (n : ℕ) (bytes : List ℕ) where
+  pub stops_broken : (f r : List ℕ) → bytes ≡ f ++ r → BreaksAt P F n f → StopsIn P F n bytes
+  stops_broken f r e (b, l, (h, (i, none))) = record {
+    before = b;
+    line = l;
+    rest = 10 ∷ r;
+    is = h;
+    parts = e ∙ ap (λ (x : List ℕ). x ++ r) i ∙ line_then b l r;
+    ends = inr (r, refl);
+    last = λ m s g c. none (m ++ c.0, subst F (ap (λ (x : List ℕ). x ++ c.0) (sym (line_then b l m) ∙ ap (λ (x : List ℕ). x ++ m) (sym i)) ∙ append_assoc f m c.0) c.1);
+  }
+
+  pub stops_cut : EndsIn P n bytes → StopsIn P F n bytes
+  stops_cut (b, l, (h, i)) = record {
+    before = b;
+    line = l;
+    rest = [];
+    is = h;
+    parts = i ∙ ap (λ (x : List ℕ). b ++ x) (sym (append-nil l));
+    ends = inl refl;
+    last = λ m s g c. let q : length (b ++ l) ≡ length ((b ++ (l ++ 10 ∷ m)) ++ s) = ap length (sym i ∙ g) in omega (arith, simp length-append at q);
+  }
 
 module _ (F : Form) (P : List ℕ → Type 0) (weak : (bytes : List ℕ) → P bytes → Begins F bytes) where
-  -- a text that needs lines past a broken one has none such
-  past_broken : (before line m far : List ℕ) → far ≡ before ++ (line ++ 10 ∷ m) → P far → (Begins F (before ++ (line ++ 10 ∷ [])) → ⊥) → ⊥
-  past_broken before line m far e p none =
-      let b = weak far p in
-      none (m ++ b.0, subst F (ap (λ (l : List ℕ). l ++ b.0) (e ∙ sym (line_then before line m)) ∙ append_assoc (before ++ (line ++ 10 ∷ [])) m b.0) b.1)
+  not_past : (n k : ℕ) (bytes : List ℕ) (x : StopsIn P F n bytes) (y : StopsIn P F k bytes) → (q : List ℕ) × (y.before ≡ x.before ++ q)
+  not_past n k bytes x y =
+      elim (beside_line x.before (x.line ++ x.rest) y.before y.line y.rest x.is.whole (in_line y.line y.is.inside) y.ends (sym x.parts ∙ y.parts)) [
+        | inl q ↦ q
+        | inr q ↦ absurd (y.last q.0 (x.line ++ x.rest) (x.parts ∙ ap (λ (l : List ℕ). l ++ (x.line ++ x.rest)) q.1) (subst (Begins F) q.1 (weak x.before x.is.holds)))
+      ]
 
-  -- a broken line and another: the same
+  same_front : (n k : ℕ) (bytes : List ℕ) (x : StopsIn P F n bytes) (y : StopsIn P F k bytes) → x.before ≡ y.before
+  same_front n k bytes x y =
+      let p = not_past n k bytes x y in
+      let q = not_past k n bytes y x in
+      let lp = ap length p.1 in
+      let lq = ap length q.1 in
+      let none = no_length p.0 (omega (arith, lp, lq, length-append x.before p.0, length-append y.before q.0)) in
+      sym (p.1 ∙ ap (λ (l : List ℕ). x.before ++ l) none ∙ append-nil x.before)
+
+  -- there is one such line, and one that is broken does not end the bytes
+  pub one_stop : (n k : ℕ) (bytes : List ℕ) → StopsIn P F n bytes → StopsIn P F k bytes → n ≡ k
+  one_stop n k bytes x y = x.is.number ∙ ap (λ (l : List ℕ). lines_in l + 1) (same_front n k bytes x y) ∙ sym y.is.number
+
+  same_rest : (n k : ℕ) (bytes : List ℕ) (x : StopsIn P F n bytes) (y : StopsIn P F k bytes) → x.rest ≡ y.rest
+  same_rest n k bytes x y =
+      let parts = ap (λ (l : List ℕ). l ++ (x.line ++ x.rest)) (sym (same_front n k bytes x y)) ∙ sym x.parts ∙ y.parts in
+      (front_unique 10 x.line y.line x.rest y.rest (in_line x.line x.is.inside) (in_line y.line y.is.inside) x.ends y.ends (append_cancel_left y.before (x.line ++ x.rest) (y.line ++ y.rest) parts)).1
+
   pub one_break : (n k : ℕ) (f g r s : List ℕ) → f ++ r ≡ g ++ s → BreaksAt P F n f → BreaksAt P F k g → n ≡ k
-  one_break n k f g r s e (b, l, (h, (i, none))) (c, m, (h2, (i2, none2))) =
-      let long : b ++ (l ++ 10 ∷ r) ≡ c ++ (m ++ 10 ∷ s) = sym (line_then b l r) ∙ ap (λ (x : List ℕ). x ++ r) (sym i) ∙ e ∙ ap (λ (x : List ℕ). x ++ s) i2 ∙ line_then c m s in
-      elim (beside_line b (l ++ 10 ∷ r) c m s h.whole (in_line m h2.inside) long) [
-        | inr q ↦ absurd (past_broken c m q.0 b q.1 h.holds (λ x. none2 (subst (Begins F) (sym i2) x)))
-        | inl q ↦ elim (beside_line c (m ++ 10 ∷ s) b l r h2.whole (in_line l h.inside) (sym long)) [
-          | inr z ↦ absurd (past_broken b l z.0 c z.1 h2.holds (λ x. none (subst (Begins F) (sym i) x)))
-          | inl z ↦
-              let lc = ap length q.1 in
-              let lb = ap length z.1 in
-              let short : length q.0 ≡ 0 = omega (arith, lc, lb, length-append b q.0, length-append c z.0) in
-              let same : c ≡ b = q.1 ∙ ap (λ (x : List ℕ). b ++ x) (no_length q.0 short) ∙ append-nil b in
-              let p = h.number in
-              let u = h2.number in
-              p ∙ ap (λ (x : List ℕ). lines_in x + 1) (sym same) ∙ sym u
-        ]
-      ]
+  one_break n k f g r s e b d = one_stop n k (f ++ r) (stops_broken P F n (f ++ r) f r refl b) (stops_broken P F k (f ++ r) g s e d)
 
-  -- a broken line, where the bytes end in a line: not both
   pub not_both : (n k : ℕ) (f r bytes : List ℕ) → f ++ r ≡ bytes → BreaksAt P F n f → EndsIn P k bytes → ⊥
-  not_both n k f r bytes e (b, l, (h, (i, none))) (c, m, (h2, i2)) =
-      let long : c ++ m ≡ b ++ (l ++ 10 ∷ r) = sym i2 ∙ sym e ∙ ap (λ (x : List ℕ). x ++ r) i ∙ line_then b l r in
-      elim (beside_line c m b l r h2.whole (in_line l h.inside) long) [
-        | inr q ↦ past_broken b l q.0 c q.1 h2.holds (λ x. none (subst (Begins F) (sym i) x))
-        | inl q ↦
-            let inside : m ≡ q.0 ++ (l ++ 10 ∷ r) = append_cancel_left c m (q.0 ++ (l ++ 10 ∷ r)) (long ∙ ap (λ (x : List ℕ). x ++ (l ++ 10 ∷ r)) q.1 ∙ append_assoc c q.0 (l ++ 10 ∷ r)) in
-            has_no_feed (q.0 ++ l) r (subst InLine (inside ∙ sym (append_assoc q.0 l (10 ∷ r))) (in_line m h2.inside))
-      ]
+  unfolding stops_cut stops_broken
+  not_both n k f r bytes e b d = not_nil 10 r (sym (same_rest n k bytes (stops_broken P F n bytes f r (sym e) b) (stops_cut P F k bytes d)))
 
-  -- the line in which bytes end is one
   pub one_end : (n k : ℕ) (bytes : List ℕ) → EndsIn P n bytes → EndsIn P k bytes → n ≡ k
-  one_end n k bytes (b, l, (h, i)) (c, m, (h2, i2)) =
-      elim (fronts b c l m (sym i ∙ i2)) [
-        | inl q ↦ ends_equal P n k b l c m q.0 h h2 q.1.0 q.1.1
-        | inr q ↦ sym (ends_equal P k n c m b l q.0 h2 h q.1.0 q.1.1)
-      ]
+  one_end n k bytes b d = one_stop n k bytes (stops_cut P F n bytes b) (stops_cut P F k bytes d)
 
 -- ---- a text of the form stands in front
 
@@ -84,22 +98,13 @@ module _ (F : Form) (whole : (t : List ℕ) → F t → AreWholeLines t) (free :
       let none = free t (m ++ g.0) f (subst F (append_assoc t m g.0) g.1.1) in
       g.1.0 (no_more m g.0 none)
 
-  -- no line breaks
-  pub text_unbroken : (n : ℕ) (t r f s : List ℕ) → F t → t ++ r ≡ f ++ s → BreaksAt (NeedsMore F) F n f → ⊥
-  text_unbroken n t r f s a e (b, l, (h, (i, none))) =
-      let long : t ++ r ≡ b ++ (l ++ 10 ∷ s) = e ∙ ap (λ (x : List ℕ). x ++ s) i ∙ line_then b l s in
-      elim (beside_line t r b l s (whole t a) (in_line l h.inside) long) [
-        | inl q ↦ goes_past t q.0 a (subst (NeedsMore F) q.1 h.holds)
-        | inr q ↦ none (q.0, subst F (q.1 ∙ sym (line_then b l q.0) ∙ ap (λ (x : List ℕ). x ++ q.0) (sym i)) a)
+  -- no line breaks, and the bytes do not end in one that it needs
+  pub text_past : (n : ℕ) (t r bytes : List ℕ) → F t → bytes ≡ t ++ r → StopsIn (NeedsMore F) F n bytes → ⊥
+  text_past n t r bytes a e x =
+      elim (beside_line t r x.before x.line x.rest (whole t a) (in_line x.line x.is.inside) x.ends (sym e ∙ x.parts)) [
+        | inl q ↦ goes_past t q.0 a (subst (NeedsMore F) q.1 x.is.holds)
+        | inr q ↦ x.last q.0 r (e ∙ ap (λ (l : List ℕ). l ++ r) q.1) ([], subst F (q.1 ∙ sym (append-nil (x.before ++ (x.line ++ 10 ∷ q.0)))) a)
       ]
 
-  -- the bytes do not end in a line that it needs
   pub text_not_cut : (n : ℕ) (t r bytes : List ℕ) → F t → t ++ r ≡ bytes → EndsIn (NeedsMore F) n bytes → ⊥
-  text_not_cut n t r bytes a e (b, l, (h, i)) =
-      elim (fronts t b r l (e ∙ i)) [
-        | inl q ↦ goes_past t q.0 a (subst (NeedsMore F) q.1.0 h.holds)
-        | inr q ↦
-            let none : q.0 ≡ [] = no_end_within t b q.0 l r (whole t a) q.1.0 (in_line l h.inside) q.1.1 in
-            let same : t ≡ b = q.1.0 ∙ ap (λ (x : List ℕ). b ++ x) none ∙ append-nil b in
-            goes_past t [] a (subst (NeedsMore F) (sym same ∙ sym (append-nil t)) h.holds)
-      ]
+  text_not_cut n t r bytes a e d = text_past n t r bytes a (sym e) (stops_cut (NeedsMore F) F n bytes d)

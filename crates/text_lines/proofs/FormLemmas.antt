@@ -36,14 +36,26 @@ in_line bytes a = recursion_from_All IsInLine bytes a
 pub in_line_all : (bytes : List ℕ) → InLine bytes → All IsInLine bytes
 in_line_all bytes a = All-from_recursion IsInLine bytes a
 
--- a line and what follows its LF are known by the bytes
+-- a byte does not stand among the bytes; they are empty or begin with it
+abbrev pub Without : ℕ → List ℕ → Type 0
+Without byte bytes = AllByRecursion (λ (b : ℕ). b ≢ byte) bytes
+
+abbrev pub EndsBy : ℕ → List ℕ → Type 0
+EndsBy byte bytes = (bytes ≡ []) ⊎ ((more : List ℕ) × (bytes ≡ byte ∷ more))
+
+-- what stands in front of a byte, and what follows, are known by the bytes
+pub front_unique : (byte : ℕ) (a b r s : List ℕ) → Without byte a → Without byte b → EndsBy byte r → EndsBy byte s → a ++ r ≡ b ++ s → (a ≡ b) × (r ≡ s)
+front_unique byte [] [] r s p q f g e = (refl, e)
+front_unique byte [] (y ∷ b) r s p q (inl f) g e = absurd (not_nil y (b ++ s) (sym f ∙ e))
+front_unique byte [] (y ∷ b) r s p q (inr f) g e = absurd (q.0 (sym (cons_head byte y f.0 (b ++ s) (sym f.1 ∙ e))))
+front_unique byte (x ∷ a) [] r s p q f (inl g) e = absurd (not_nil x (a ++ r) (sym (e ∙ g)))
+front_unique byte (x ∷ a) [] r s p q f (inr g) e = absurd (p.0 (cons_head x byte (a ++ r) g.0 (e ∙ g.1)))
+front_unique byte (x ∷ a) (y ∷ b) r s p q f g e =
+    let t = front_unique byte a b r s p.1 q.1 f g (cons_tail x y (a ++ r) (b ++ s) e) in
+    (cons_same x y a b (cons_head x y (a ++ r) (b ++ s) e) t.0, t.1)
+
 pub cut_unique : (x y r s : List ℕ) → InLine x → InLine y → x ++ 10 ∷ r ≡ y ++ 10 ∷ s → (x ≡ y) × (r ≡ s)
-cut_unique [] [] r s p q e = (refl, cons_tail 10 10 r s e)
-cut_unique [] (b ∷ y) r s p q e = absurd (q.0 (sym (cons_head 10 b r (y ++ 10 ∷ s) e)))
-cut_unique (a ∷ x) [] r s p q e = absurd (p.0 (cons_head a 10 (x ++ 10 ∷ r) s e))
-cut_unique (a ∷ x) (b ∷ y) r s p q e =
-    let t = cut_unique x y r s p.1 q.1 (cons_tail a b (x ++ 10 ∷ r) (y ++ 10 ∷ s) e) in
-    (cons_same a b x y (cons_head a b (x ++ 10 ∷ r) (y ++ 10 ∷ s) e) t.0, t.1)
+cut_unique x y r s p q e = let t = front_unique 10 x y (10 ∷ r) (10 ∷ s) p q (inr (r, refl)) (inr (s, refl)) e in (t.0, cons_tail 10 10 r s t.1)
 
 -- of two fronts of the same bytes one is a front of the other
 abbrev pub IsFront : List ℕ → List ℕ → List ℕ → List ℕ → Type 0
@@ -81,32 +93,32 @@ ends_with [] m front b e = (front, e)
 ends_with (a ∷ p) m [] b e = absurd (let q = ap length e in omega (arith, q, length-append p (b ∷ m)))
 ends_with (a ∷ p) m (c ∷ front) b e = ends_with p m front b (cons_tail a c (p ++ b ∷ m) (front ++ 10 ∷ []) e)
 
--- m begins with a line that is known, where it ends with LF
-line_within : (line s n r : List ℕ) → InLine line → line ++ 10 ∷ s ≡ n ++ 10 ∷ r → (k : List ℕ) × (n ++ 10 ∷ [] ≡ line ++ 10 ∷ k)
-line_within [] s [] r a e = ([], refl)
-line_within [] s (c ∷ n) r a e = (n ++ 10 ∷ [], cons_same c 10 (n ++ 10 ∷ []) (n ++ 10 ∷ []) (sym (cons_head 10 c s (n ++ 10 ∷ r) e)) refl)
-line_within (b ∷ line) s [] r a e = absurd (a.0 (cons_head b 10 (line ++ 10 ∷ s) r e))
-line_within (b ∷ line) s (c ∷ n) r a e =
-    let t = line_within line s n r a.1 (cons_tail b c (line ++ 10 ∷ s) (n ++ 10 ∷ r) e) in
-    (t.0, cons_same c b (n ++ 10 ∷ []) (line ++ 10 ∷ t.0) (sym (cons_head b c (line ++ 10 ∷ s) (n ++ 10 ∷ r) e)) t.1)
+-- n begins with a line that is known, where LF follows it
+line_within : (line s n r : List ℕ) → InLine line → EndsBy 10 s → line ++ s ≡ n ++ 10 ∷ r → (k : List ℕ) × (n ++ 10 ∷ [] ≡ line ++ 10 ∷ k)
+line_within [] s [] r a z e = ([], refl)
+line_within [] s (c ∷ n) r a (inl f) e = absurd (not_nil c (n ++ 10 ∷ r) (sym f ∙ e))
+line_within [] s (c ∷ n) r a (inr f) e = (n ++ 10 ∷ [], cons_same c 10 (n ++ 10 ∷ []) (n ++ 10 ∷ []) (cons_head c 10 (n ++ 10 ∷ r) f.0 (sym e ∙ f.1)) refl)
+line_within (b ∷ line) s [] r a z e = absurd (a.0 (cons_head b 10 (line ++ s) r e))
+line_within (b ∷ line) s (c ∷ n) r a z e =
+    let t = line_within line s n r a.1 z (cons_tail b c (line ++ s) (n ++ 10 ∷ r) e) in
+    (t.0, cons_same c b (n ++ 10 ∷ []) (line ++ 10 ∷ t.0) (sym (cons_head b c (line ++ s) (n ++ 10 ∷ r) e)) t.1)
 
 -- whole lines in front of bytes end before a line of these bytes, or not before its LF
 abbrev pub EndsBeforeOrAfter : List ℕ → List ℕ → List ℕ → Type 0
 EndsBeforeOrAfter w before line = ((m : List ℕ) × (before ≡ w ++ m)) ⊎ ((m : List ℕ) × (w ≡ before ++ (line ++ 10 ∷ m)))
 
-longer : (w before line r s m : List ℕ) → InLine line → AreWholeLines w → w ≡ before ++ m → line ++ 10 ∷ s ≡ m ++ r → EndsBeforeOrAfter w before line
-longer w before line r s [] a f e g = inl ([], sym (append-nil before) ∙ sym e ∙ sym (append-nil w))
-longer w before line r s (b ∷ m) a (inl f) e g = absurd (let q = ap length (sym e ∙ f) in omega (arith, q, length-append before (b ∷ m)))
-longer w before line r s (b ∷ m) a (inr f) e g =
+longer : (w before line r s m : List ℕ) → InLine line → EndsBy 10 s → AreWholeLines w → w ≡ before ++ m → line ++ s ≡ m ++ r → EndsBeforeOrAfter w before line
+longer w before line r s [] a z f e g = inl ([], sym (append-nil before) ∙ sym e ∙ sym (append-nil w))
+longer w before line r s (b ∷ m) a z (inl f) e g = absurd (let q = ap length (sym e ∙ f) in omega (arith, q, length-append before (b ∷ m)))
+longer w before line r s (b ∷ m) a z (inr f) e g =
     let n = ends_with before m f.0 b (sym e ∙ f.1) in
-    let same : line ++ 10 ∷ s ≡ n.0 ++ 10 ∷ r = g ∙ ap (λ (l : List ℕ). l ++ r) n.1 ∙ append_assoc n.0 (10 ∷ []) r in
-    let k = line_within line s n.0 r a same in
+    let k = line_within line s n.0 r a z (g ∙ ap (λ (l : List ℕ). l ++ r) n.1 ∙ append_assoc n.0 (10 ∷ []) r) in
     inr (k.0, e ∙ ap (λ (l : List ℕ). before ++ l) (n.1 ∙ k.1))
 
-pub beside_line : (w r before line s : List ℕ) → AreWholeLines w → InLine line → w ++ r ≡ before ++ (line ++ 10 ∷ s) → EndsBeforeOrAfter w before line
-beside_line w r before line s f a e = elim (fronts w before r (line ++ 10 ∷ s) e) [
+pub beside_line : (w r before line s : List ℕ) → AreWholeLines w → InLine line → EndsBy 10 s → w ++ r ≡ before ++ (line ++ s) → EndsBeforeOrAfter w before line
+beside_line w r before line s f a z e = elim (fronts w before r (line ++ s) e) [
   | inl h ↦ inl (h.0, h.1.0)
-  | inr h ↦ longer w before line r s h.0 a f h.1.0 h.1.1
+  | inr h ↦ longer w before line r s h.0 a z f h.1.0 h.1.1
 ]
 
 -- ---- a part that comes first
@@ -117,7 +129,7 @@ pub record ComesFirst (F1 F : Form) : Type 0 where
   pub whole : (p : List ℕ) → F1 p → AreWholeLines p
   pub free : (p m : List ℕ) → F1 p → F1 (p ++ m) → m ≡ []
 
-no_more : (m more : List ℕ) → m ++ more ≡ [] → more ≡ []
+pub no_more : (m more : List ℕ) → m ++ more ≡ [] → more ≡ []
 no_more [] more e = e
 no_more (b ∷ m) more e = absurd (not_nil b (m ++ more) (sym e))
 
@@ -142,7 +154,7 @@ module _ (F1 F : Form) (f : ComesFirst F1 F) where
       let p = f.splits (text ++ m) t in
       let long : text ++ m ≡ before ++ (line ++ 10 ∷ m) = ap (λ (l : List ℕ). l ++ m) e ∙ append_assoc before (line ++ 10 ∷ []) m ∙ ap (λ (l : List ℕ). before ++ l) (append_assoc line (10 ∷ []) m) in
       let inside = in_line line h.inside in
-      elim (beside_line p.0 p.1 before line m (f.whole p.0 p.2.0) inside (sym p.2.1 ∙ long)) [
+      elim (beside_line p.0 p.1 before line (10 ∷ m) (f.whole p.0 p.2.0) inside (inr (m, refl)) (sym p.2.1 ∙ long)) [
         | inl q ↦ h.holds.1.0 (no_more q.0 h.holds.0 (f.free p.0 (q.0 ++ h.holds.0) p.2.0 (subst F1 (ap (λ (l : List ℕ). l ++ h.holds.0) q.1 ∙ append_assoc p.0 q.0 h.holds.0) h.holds.1.1)))
         | inr q ↦ none (q.0, subst F1 (q.1 ∙ ap (λ (l : List ℕ). before ++ l) (sym (append_assoc line (10 ∷ []) q.0)) ∙ sym (append_assoc before (line ++ 10 ∷ []) q.0) ∙ ap (λ (l : List ℕ). l ++ q.0) (sym e)) p.2.0)
       ]

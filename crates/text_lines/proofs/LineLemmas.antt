@@ -1,14 +1,11 @@
 -- Lines as they are taken, and what comes after a part that is known.
-use Rattle.std.proofs.Common.{◌≡◌, ℕ, ◌+◌, ◌≤◌, List, [], ◌∷◌, ◌++◌, length, Option, Some, None, refl, sym, ap, subst, ◌∙◌, arith}
+use Rattle.std.proofs.Common.{◌≡◌, ℕ, List, [], ◌∷◌, ◌++◌, length, Option, Some, None, refl, sym, ap, subst, ◌∙◌, arith}
 use Rattle.std.specs.Prelude.{◌≢◌}
 use Rattle.std.proofs.lemmas.List.{append-nil, append_cancel_left, length-append}
-use Rattle.insar_ports.proofs.CallLemmas.{call, Takes-then}
-use Rattle.text_lines.specs.declared.fault.LineFault.{LineFault}
-use Rattle.text_lines.specs.Forms.{Form, AreWholeLines, IsLine, IsText, lines_in}
+use Rattle.insar_ports.proofs.CallLemmas.{call}
+use Rattle.text_lines.specs.Forms.{Form, AreWholeLines, IsLine, IsText}
 use Rattle.text_lines.specs.LineWords.{TakesLines}
-use Rattle.text_lines.specs.Reading.{HasLineCause}
-use Rattle.text_lines.proofs.CauseLemmas.{cause_after, cause_first}
-use Rattle.text_lines.proofs.FormLemmas.{BeginsWithLine, ComesAfter, ComesFirst, InLine, lines_append, whole_line}
+use Rattle.text_lines.proofs.FormLemmas.{BeginsWithLine, ComesAfter, ComesFirst, InLine, whole_line}
 
 ends_not_nil : (line : List ℕ) → line ++ 10 ∷ [] ≢ []
 ends_not_nil line e = let q = ap length e in omega (arith, q, length-append line (10 ∷ []))

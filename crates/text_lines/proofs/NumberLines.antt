@@ -16,25 +16,23 @@ text_in_line (n ∷ numbers) longs =
 
 pub line_in_line : (row : List ℤ) → AreLongs row → InLine (numbers_line row)
 line_in_line [] longs = tt
-line_in_line (n ∷ row) longs = in_append (signed_decimal n) (numbers_text row) (number_in_line n (All-head FitsLong n row longs)) (text_in_line row (All-tail FitsLong n row longs))
+line_in_line (n ∷ row) longs = (rw (numbers_cons n row) at (text_in_line (n ∷ row) longs)).1
 
 pub zero_long : FitsLong (pos 0)
 zero_long = record { sfits = lit< tt }
 
-number_short : (n : ℤ) → FitsLong n → length (signed_decimal n) ≤ 20
-number_short n long = let small = magnitude n long in length_signed_le 19 n (omega (arith, small)) small
-
-pub text_short : (numbers : List ℤ) → AreLongs numbers → length (numbers_text numbers) ≤ 21 * length numbers
+text_short : (numbers : List ℤ) → AreLongs numbers → length (numbers_text numbers) ≤ 21 * length numbers
 text_short [] longs = omega arith
 text_short (n ∷ numbers) longs =
     let e = ap length (numbers_cons n numbers) in
-    let a = number_short n (All-head FitsLong n numbers longs) in
+    let small = magnitude n (All-head FitsLong n numbers longs) in
+    let a = length_signed_le 19 n (omega (arith, small)) small in
     let b = text_short numbers (All-tail FitsLong n numbers longs) in
     omega (arith, e, a, b, length-append (signed_decimal n) (numbers_text numbers))
 
 pub line_short : (row : List ℤ) → AreLongs row → length (numbers_line row) ≤ 21 * length row
 line_short [] longs = omega arith
 line_short (n ∷ row) longs =
-    let a = number_short n (All-head FitsLong n row longs) in
-    let b = text_short row (All-tail FitsLong n row longs) in
-    omega (arith, a, b, length-append (signed_decimal n) (numbers_text row))
+    let e = ap length (numbers_cons n row) in
+    let s = text_short (n ∷ row) longs in
+    omega (arith, e, s)

@@ -3,7 +3,7 @@ use Rattle.std.proofs.Common.{◌≡◌, ℕ, zero, suc, ◌+◌, List, [], ◌�
 use Rattle.std.proofs.lemmas.List.{length-append, append-nil}
 use Rattle.text_lines.specs.Forms.{Form, LineOf, AreWholeLines}
 use Rattle.text_lines.specs.Text.{texts_below}
-use Rattle.text_lines.proofs.FormLemmas.{InLine, ComesFirst, ComesAfter, BeginsWithLine, cut_unique, fronts, whole_append, whole_line, not_nil}
+use Rattle.text_lines.proofs.FormLemmas.{InLine, ComesFirst, ComesAfter, BeginsWithLine, cut_unique, fronts, whole_append, whole_line, no_more}
 
 -- texts of whole lines, of which none begins with another
 pub record IsCode (F : Form) : Type 0 where
@@ -89,14 +89,6 @@ first_same F1 F G s f = record {
   free = f.free;
 }
 
-pub first_from : (F1 G1 F : Form) → SameForms F1 G1 → ComesFirst F1 F → ComesFirst G1 F
-first_from F1 G1 F s f = record {
-  splits = λ t a. let b = f.splits t a in (b.0, b.1, (s.to b.0 b.2.0, b.2.1));
-  extends = λ p a. f.extends p (s.«from» p a);
-  whole = λ p a. f.whole p (s.«from» p a);
-  free = λ p m a b. f.free p m (s.«from» p a) (s.«from» (p ++ m) b);
-}
-
 -- ---- one part after another
 
 pub after_then : (p q : List ℕ) (F3 F2 F : Form) → ComesAfter p F2 F → ComesAfter q F3 F2 → ComesAfter (p ++ q) F3 F
@@ -114,10 +106,6 @@ abbrev pub Rest : (ℕ → Form) → ℕ → ℕ → Form
 Rest L zero k text = text ≡ []
 Rest L (suc m) k text = Seq (L k) (Rest L m (suc k)) text
 
-no_more : (p m : List ℕ) → p ++ m ≡ [] → m ≡ []
-no_more [] m e = e
-no_more (b ∷ p) m e = absurd (not_nil b (p ++ m) (sym e))
-
 module _ (L : ℕ → Form) (c : (k : ℕ) → IsCode (L k)) where
   pub rest_code : (m k : ℕ) → IsCode (Rest L m k)
   rest_code zero k = record {
@@ -125,11 +113,6 @@ module _ (L : ℕ → Form) (c : (k : ℕ) → IsCode (L k)) where
     free = λ p n a b. no_more p n b;
   }
   rest_code (suc m) k = seq_code (L k) (Rest L m (suc k)) (c k) (rest_code m (suc k))
-
-  module _ (some : (k : ℕ) → (t : List ℕ) × L k t) where
-    pub rest_some : (m k : ℕ) → (t : List ℕ) × Rest L m k t
-    rest_some zero k = ([], refl)
-    rest_some (suc m) k = let a = some k in let b = rest_some m (suc k) in (a.0 ++ b.0, (a.0, b.0, (a.1, (b.1, refl))))
 
 -- the texts f k, f (k + 1), .. : so many of them, and all below one number in two parts
 abbrev pub texts_from : (ℕ → List ℕ) → ℕ → ℕ → List ℕ

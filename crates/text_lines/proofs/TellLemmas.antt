@@ -1,15 +1,13 @@
 -- Whether bytes are the text of a number, or of numbers: one or the other can be told.
-use Rattle.std.proofs.Common.{◌≡◌, ℕ, zero, suc, ◌+◌, ◌^◌, ◌<◌, ◌≤◌, List, [], ◌∷◌, ◌++◌, length, ℤ, pos, negsuc, inl, inr, ◌⊎◌, refl, sym, ap, ◌∙◌, arith}
-use Rattle.std.specs.Prelude.{◌≢◌}
+use Rattle.std.proofs.Common.{◌≡◌, ℕ, zero, suc, ◌^◌, ◌<◌, ◌≤◌, List, [], ◌∷◌, ◌++◌, length, ℤ, pos, negsuc, inl, inr, ◌⊎◌, refl, sym, ap, ◌∙◌, arith}
 use Rattle.std.specs.Fmt.{signed_decimal}
-use Rattle.std.specs.List.{AllByRecursion}
 use Rattle.std.proofs.lemmas.Bool.{cases_eq}
 use Rattle.std.proofs.lemmas.List.{length-append}
-use Rattle.std.proofs.lemmas.List.Elements.{All-cons, All-from_recursion, All-nil}
+use Rattle.std.proofs.lemmas.List.Elements.{All-cons, All-nil}
 use Rattle.sums_and_lists.proofs.Orders.{below_or_last}
-use Rattle.text_lines.specs.Numbers.{AreLongs, BeginsField, FitsLong, IsToken, numbers_text}
-use Rattle.text_lines.proofs.FormLemmas.{cons_head, cons_same, cons_tail, not_nil}
-use Rattle.text_lines.proofs.NumberLemmas.{first_of_numbers, numbers_cons}
+use Rattle.text_lines.specs.Numbers.{AreLongs, BeginsField, FitsLong, numbers_text}
+use Rattle.text_lines.proofs.FormLemmas.{Without, bytes_of, cons_head, cons_same, cons_tail, not_nil}
+use Rattle.text_lines.proofs.NumberLemmas.{first_of_numbers, numbers_cons, numbers_field}
 
 -- a statement or its opposite
 abbrev pub Told : Type 0 → Type 0
@@ -66,7 +64,7 @@ pub number_told : (token : List ℕ) → Told (IsNumberText token)
 number_told = number_told_at most_long most_is
 
 -- the bytes up to the first space, and the rest
-pub token_in_front : (bytes : List ℕ) → (token : List ℕ) × (rest : List ℕ) × (AllByRecursion (λ (b : ℕ). b ≢ 32) token × (BeginsField rest × (bytes ≡ token ++ rest)))
+pub token_in_front : (bytes : List ℕ) → (token : List ℕ) × (rest : List ℕ) × (Without 32 token × (BeginsField rest × (bytes ≡ token ++ rest)))
 token_in_front [] = ([], [], (tt, (inl refl, refl)))
 token_in_front (b ∷ bytes) = elim (cases_eq b 32) [
   | inl e ↦ ([], b ∷ bytes, (tt, (inr (bytes, ap (λ (c : ℕ). c ∷ bytes) e), refl)))
@@ -81,18 +79,14 @@ numbers_by : (f : ℕ) (bytes : List ℕ) → length bytes ≤ f → Told (AreNu
 numbers_by f [] le = inl ([], (All-nil FitsLong, refl))
 numbers_by zero (b ∷ bytes) le = absurd (omega (arith, le))
 numbers_by (suc f) (b ∷ bytes) le = elim (cases_eq b 32) [
-  | inr n ↦ inr (λ r. other n r.0 r.1.1)
-  | inl e ↦ (let t = token_in_front bytes in let size = ap length t.2.1.1 in numbers_in e t.0 t.1 t.2.0 t.2.1.0 t.2.1.1 (number_told t.0) (numbers_by f t.1 (omega (arith, le, size, length-append t.0 t.1))))
+  | inr n ↦ inr (λ r. elim (numbers_field r.0) [ inl e ↦ not_nil b bytes (sym (r.1.1 ∙ e)) | inr e ↦ n (cons_head b 32 bytes e.0 (r.1.1 ∙ e.1)) ])
+  | inl e ↦ (let t = token_in_front bytes in let size = ap length t.2.1.1 in numbers_in t.0 t.1 t.2.0 t.2.1.0 (cons_same b 32 bytes (t.0 ++ t.1) e t.2.1.1) (number_told t.0) (numbers_by f t.1 (omega (arith, le, size, length-append t.0 t.1))))
 ]
   where
-    other : b ≢ 32 → (row : List ℤ) → b ∷ bytes ≡ numbers_text row → ⊥
-    other n [] e = not_nil b bytes (sym e)
-    other n (m ∷ row) e = n (cons_head b 32 bytes (signed_decimal m ++ numbers_text row) (e ∙ numbers_cons m row))
-
-    numbers_in : b ≡ 32 → (token rest : List ℕ) → AllByRecursion (λ (b : ℕ). b ≢ 32) token → BeginsField rest → bytes ≡ token ++ rest → Told (IsNumberText token) → Told (AreNumbersText rest) → Told (AreNumbersText (b ∷ bytes))
-    numbers_in e token rest t g parts (inl n) (inl r) = inl (n.0 ∷ r.0, (All-cons FitsLong n.0 r.0 n.1.0 r.1.0, cons_same b 32 bytes (signed_decimal n.0 ++ numbers_text r.0) e (parts ∙ ap (λ (l : List ℕ). l ++ rest) n.1.1 ∙ ap (λ (l : List ℕ). signed_decimal n.0 ++ l) r.1.1) ∙ sym (numbers_cons n.0 r.0)))
-    numbers_in e token rest t g parts (inr bad) r = inr (λ a. let w = first_of_numbers (b ∷ bytes) bytes token rest a.0 a.1.0 a.1.1 (ap (λ (c : ℕ). c ∷ bytes) e) parts (All-from_recursion (λ (b : ℕ). b ≢ 32) token t) g in bad (w.first, (w.long, w.spelled)))
-    numbers_in e token rest t g parts (inl n) (inr bad) = inr (λ a. let w = first_of_numbers (b ∷ bytes) bytes token rest a.0 a.1.0 a.1.1 (ap (λ (c : ℕ). c ∷ bytes) e) parts (All-from_recursion (λ (b : ℕ). b ≢ 32) token t) g in bad (w.others, (w.longs, w.rest)))
+    numbers_in : (token rest : List ℕ) → Without 32 token → BeginsField rest → bytes_of (b ∷ bytes) ≡ 32 ∷ (token ++ rest) → Told (IsNumberText token) → Told (AreNumbersText rest) → Told (AreNumbersText (b ∷ bytes))
+    numbers_in token rest t g parts (inl n) (inl r) = inl (n.0 ∷ r.0, (All-cons FitsLong n.0 r.0 n.1.0 r.1.0, parts ∙ ap (λ (l : List ℕ). 32 ∷ (l ++ rest)) n.1.1 ∙ ap (λ (l : List ℕ). 32 ∷ (signed_decimal n.0 ++ l)) r.1.1 ∙ sym (numbers_cons n.0 r.0)))
+    numbers_in token rest t g parts (inr bad) r = inr (λ a. let w = first_of_numbers (b ∷ bytes) token rest parts t g a.0 a.1.0 a.1.1 in bad (w.first, (w.long, w.spelled)))
+    numbers_in token rest t g parts (inl n) (inr bad) = inr (λ a. let w = first_of_numbers (b ∷ bytes) token rest parts t g a.0 a.1.0 a.1.1 in bad (w.others, (w.longs, w.rest)))
 
 pub numbers_told : (bytes : List ℕ) → Told (AreNumbersText bytes)
 numbers_told bytes = numbers_by (length bytes) bytes (omega arith)

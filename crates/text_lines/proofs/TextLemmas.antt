@@ -62,11 +62,6 @@ pub in_append : (a b : List ℕ) → InLine a → InLine b → InLine (a ++ b)
 in_append [] b p q = q
 in_append (x ∷ a) b p q = (p.0, in_append a b p.1 q)
 
-pub texts_in_line : (n : ℕ) (f : ℕ → List ℕ) → ((k : ℕ) → k < n → InLine (f k)) → InLine (texts_below n f)
-unfolding texts_below
-texts_in_line zero f p = tt
-texts_in_line (suc n) f p = in_append (texts_below n f) (f n) (texts_in_line n f (λ k lt. p k (omega arith))) (p n (omega arith))
-
 -- bytes without LF, tried one by one
 unfoldable pub is_line : List ℕ → Bool
 is_line [] = true

@@ -1,5 +1,5 @@
 -- A line as it is read: words of helpers and of `Lines`.
-use Rattle.std.specs.Prelude.{◌≡◌, ℕ, ◌+◌, ◌<◌, List, [], ◌∷◌, ◌++◌, All, length, ⊤}
+use Rattle.std.specs.Prelude.{◌≡◌, ℕ, ◌+◌, ◌<◌, Bool, true, false, List, [], ◌∷◌, ◌++◌, All, Option, Some, None, length, take, ⊤}
 use Rattle.insar_ports.specs.Bytes.{HasMore, HasRisen}
 use Rattle.insar_ports.specs.Calls.{Call, Takes}
 use Rattle.insar_ports.specs.Lines.{IsInLine}
@@ -23,6 +23,20 @@ abbrev pub IsLineRead : ℕ → List ℕ → Call → LineEnd → Type 0
 IsLineRead most kept c Whole = Takes c (λ text rest. (text ≡ kept ++ 10 ∷ []) × All IsInLine kept)
 IsLineRead most kept c Long = Takes c (λ text rest. (line : List ℕ) × ((text ≡ line ++ 10 ∷ []) × (All IsInLine line × (most < length line))))
 IsLineRead most kept c Cut = Takes c (λ text rest. All IsInLine text × (rest ≡ []))
+
+-- LF, or nothing
+abbrev pub feed_if : Bool → List ℕ
+feed_if true = 10 ∷ []
+feed_if false = []
+
+-- a text is a part of a line, and LF if it ended the line; of what was kept before and the part the first `most` bytes are kept
+abbrev pub KeepsPart : ℕ → List ℕ → List ℕ → Bool → List ℕ → List ℕ → Type 0
+KeepsPart most old new ended text rest = (part : List ℕ) × ((text ≡ part ++ feed_if ended) × (All IsInLine part × (new ≡ take most (old ++ part))))
+
+-- What the read of a part of a line says of the bytes that are told: the part was taken, or the input ended.
+abbrev pub IsPartTaken : ℕ → List ℕ → List ℕ → Call → Option Bool → Type 0
+IsPartTaken most old new c (Some ended) = Takes c (KeepsPart most old new ended)
+IsPartTaken most old new c None = Takes c (λ text rest. (text ≡ []) × (rest ≡ []))
 
 -- why no line was read
 abbrev pub HasNextCause : Call → LineFault → Type 0

@@ -1,5 +1,5 @@
 -- Lists of numbers as text, and which numbers a text may have.
-use Rattle.std.specs.Prelude.{◌≡◌, ◌≢◌, ℕ, ℤ, List, [], ◌∷◌, ◌++◌, ◌⊎◌, All, codes, flat_map, FitsSigned}
+use Rattle.std.specs.Prelude.{◌≡◌, ◌≢◌, ℕ, ℤ, Bool, List, [], ◌∷◌, ◌++◌, ◌⊎◌, All, MatchBool, codes, flat_map, FitsSigned}
 use mir.Syntax.{w64}
 use Rattle.std.specs.Fmt.{signed_decimal}
 
@@ -27,3 +27,7 @@ numbers_text numbers = flat_map number_text numbers
 abbrev pub numbers_line : List ℤ → List ℕ
 numbers_line [] = []
 numbers_line (n ∷ numbers) = signed_decimal n ++ numbers_text numbers
+
+-- the numbers of a text were added to a list; or the text is no numbers
+abbrev pub ArePushed : List ℕ → List ℤ → List ℤ → Bool → Type 0
+ArePushed text old new all = MatchBool all ((row : List ℤ) × ((new ≡ old ++ row) × ((text ≡ numbers_text row) × AreLongs row))) ((row : List ℤ) → AreLongs row → text ≡ numbers_text row → ⊥)

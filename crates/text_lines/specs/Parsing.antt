@@ -26,6 +26,13 @@ pub record IsRectOfWords (r : Rect) : Type 0 where
 abbrev pub pair_text : ℕ × ℕ → List ℕ
 pair_text p = field_text p.0 ++ field_text p.1
 
+-- a number of 32 bits, and what follows it
+abbrev pub IsWordThen : {A : Type 0} → (A → Type 0) → ℕ × A → Type 0
+IsWordThen MayStand p = IsWord p.0 × MayStand p.1
+
+abbrev pub field_then : {A : Type 0} → (A → List ℕ) → ℕ × A → List ℕ
+field_then text p = field_text p.0 ++ text p.1
+
 -- a text after a word
 abbrev pub behind : {A : Type 0} → List ℕ → (A → List ℕ) → A → List ℕ
 behind word text a = word ++ text a
@@ -33,6 +40,10 @@ behind word text a = word ++ text a
 -- the bytes are the text of a value that may stand; or they are the text of none
 abbrev pub IsParsedAs : {A : Type 0} → (A → Type 0) → (A → List ℕ) → List ℕ → Option A → Type 0
 IsParsedAs {A} MayStand text bytes result = MatchOption result ((a : A) → MayStand a → bytes ≡ text a → ⊥) (λ a. MayStand a × (bytes ≡ text a))
+
+-- what follows a word in front; or the word is not there
+abbrev pub IsAfter : List ℕ → List ℕ → Option (Bor (List ℕ)) → Type 0
+IsAfter word bytes result = MatchOption result ((rest : List ℕ) → bytes ≡ word ++ rest → ⊥) (λ rest. bytes ≡ word ++ rest.now)
 
 -- a space, bytes up to the next space, and the rest; or no space in front
 abbrev pub IsSplit : List ℕ → Option (Bor (List ℕ) × Bor (List ℕ)) → Type 0

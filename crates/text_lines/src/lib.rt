@@ -12,7 +12,7 @@ mod rules;
 mod waiting;
 mod writer;
 
-pub use crate::expect::expect_line;
+pub use crate::expect::{expect_line, expect_text};
 pub use crate::fault::LineFault;
 pub use crate::fields::{
     add_field, add_long_field, add_numbers, add_rect, add_row, add_signed_field, add_wide_field,

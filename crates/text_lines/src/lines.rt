@@ -1,7 +1,7 @@
 ghost use Rattle.insar_ports.specs.Calls.{Moves, call_of};
 ghost use Rattle.insar_ports.specs.Feeding.{handed_of, limit_of, source_name};
 ghost use Rattle.insar_ports.specs.Lines.{IsInLine};
-ghost use Rattle.std.specs.Prelude.{◌≡◌, ◌+◌, ◌<◌, ◌≤◌, ◌∷◌, ◌++◌, ◌⊎◌, [], ℕ, List, All, IfErr, IfOk, MatchBool, Ok, OnOk, length, take};
+ghost use Rattle.std.specs.Prelude.{◌≡◌, ◌+◌, ◌<◌, ◌≤◌, ◌∷◌, ◌++◌, ◌⊎◌, [], ℕ, List, All, IfErr, IfOk, MatchBool, Ok, OnOk, OnSome, length, take};
 ghost use Rattle.text_lines.specs.declared.lines.LineEnd.TheVariants.{Whole, Long};
 
 use crate::fault::LineFault;
@@ -30,7 +30,7 @@ pub struct Lines {
 }
 
 impl Lines {
-    ghost use Rattle.text_lines.specs.LineWords.{HasNextCause, IsLineRead, kept_line, lines_read};
+    ghost use Rattle.text_lines.specs.LineWords.{HasNextCause, IsLineRead, IsPartTaken, kept_line, lines_read};
 
     /// Before the first line.
     pub fn new(alloc: Global) -> Lines
@@ -77,6 +77,7 @@ impl Lines {
     }
 
     /// Takes the bytes up to the next LF, and keeps the first `most` of them.
+    #[tactic(auto, using(crate::proofs::StepLemmas::moves_on))]
     fn take_line<S: Source>(
         &mut self,
         feed: &mut Feed<S>,
@@ -92,18 +93,39 @@ impl Lines {
         ensures refused { IfErr result (HasNextCause (call_of S.left S.faults feed.old feed.new)) }
     {
         let start = feed.handed();
-        while feed.peek()?.is_some() {
-            let (part, ended) = before_line_feed(feed.waiting());
-            self.keep(part, most)?;
-            let count = part.len();
-            feed.consume(count);
+        while let Some(ended) = self.take_part(feed, most)? {
             if ended {
-                let length = feed.handed() - start;
-                feed.consume(1);
-                return Ok(end_within(length, most));
+                return Ok(end_within(feed.handed() - start - 1, most));
             }
         }
         Ok(LineEnd::Cut)
+    }
+
+    /// Takes bytes of a line that wait, and its LF if it follows them, and says whether it did; none at the end of the input. The
+    /// first `most` bytes of the line are kept.
+    fn take_part<S: Source>(
+        &mut self,
+        feed: &mut Feed<S>,
+        most: usize,
+    ) -> Result<Option<bool>, LineFault>
+        requires { length (kept_line self.old) ≤ most }
+        ensures same_source { source_name feed.new ≡ source_name feed.old }
+        ensures same_limit { limit_of feed.new ≡ limit_of feed.old }
+        ensures moves { Moves (call_of S.left S.faults feed.old feed.new) }
+        ensures number { lines_read self.new ≡ lines_read self.old }
+        ensures room { OnOk result (length (kept_line self.new) ≤ most) }
+        ensures part { IfOk result (IsPartTaken most (kept_line self.old) (kept_line self.new) (call_of S.left S.faults feed.old feed.new)) }
+        ensures further { IfOk result (λ part. OnSome part ((handed_of feed.old < handed_of feed.new) × (handed_of feed.new ≤ limit_of feed.old))) }
+        ensures refused { IfErr result (HasNextCause (call_of S.left S.faults feed.old feed.new)) }
+    {
+        if feed.peek()?.is_none() {
+            return Ok(None);
+        }
+        let (part, ended) = before_line_feed(feed.waiting());
+        self.keep(part, most)?;
+        let count = part.len() + usize::from(ended);
+        feed.consume(count);
+        Ok(Some(ended))
     }
 
     /// Keeps more bytes of a line, of which the first `most` are kept.

@@ -1,10 +1,11 @@
-ghost use Rattle.text_lines.specs.Numbers.{FitsLong, AreLongs, BeginsField, numbers_line, numbers_text};
+ghost use Rattle.text_lines.specs.Numbers.{AreLongs, ArePushed, BeginsField, FitsLong, numbers_line, numbers_text};
 ghost use Rattle.text_lines.specs.Parsing.{IsParsedAs, IsWord};
 ghost use Rattle.std.specs.Fmt.{signed_decimal};
 ghost use Rattle.std.specs.Int.{IsInRange};
 ghost use Rattle.std.specs.Prelude.{◌≡◌, ◌≢◌, ◌≤◌, ◌<◌, ◌^◌, ◌∷◌, ◌++◌, ◌⊎◌, ℕ, ℤ, List, IfNone, IfOk, IfSome, MatchBool, decimal, length, neg_ℤ, pos, slice_index, take};
 ghost use Rattle.std.specs.Str.Parse.{AllDigits, digits_value};
 
+use crate::parse::after_word;
 use std::alloc::AllocError;
 
 /// What separates the fields of a line.
@@ -128,7 +129,7 @@ pub fn labelled_count(line: &[u8], label: &[u8], least: u32, most: u32) -> Optio
     ensures found { IfSome result (λ count. line.now ≡ label.now ++ decimal count) }
     ensures none { IfNone result ((count : ℕ) → least ≤ count → count ≤ most → line.now ≡ label.now ++ decimal count → ⊥) }
 {
-    let count = count_of(line.strip_prefix(label)?)?;
+    let count = count_of(after_word(line, label)?)?;
     if least <= count && count <= most {
         Some(count)
     } else {
@@ -159,9 +160,16 @@ pub fn push_row(text: &[u8], count: usize, numbers: &mut Vec<i64>) -> Result<boo
     ensures { IfOk result (λ all. MatchBool all ((row : List ℤ) × ((numbers.new.items ≡ numbers.old.items ++ row) × ((length row ≡ count) × ((text.now ≡ numbers_line row) × AreLongs row)))) ((row : List ℤ) → AreLongs row → length row ≡ count → text.now ≡ numbers_line row → ⊥)) }
 {
     let before = numbers.len();
+    Ok(push_first(text, numbers)? && numbers.len() - before == count)
+}
+
+/// Adds the numbers of a text, with spaces between them, to a list, if there are any.
+fn push_first(text: &[u8], numbers: &mut Vec<i64>) -> Result<bool, AllocError>
+    ensures { IfOk result (ArePushed (32 ∷ text.now) numbers.old.items numbers.new.items) }
+{
     let Some((number, rest)) = split_number(text) else {
         return Ok(false);
     };
     numbers.push(number)?;
-    Ok(push_numbers(rest, numbers)? && numbers.len() - before == count)
+    push_numbers(rest, numbers)
 }

@@ -1,5 +1,5 @@
-ghost use Rattle.std.specs.Prelude.{◌≡◌, ◌≢◌, ◌<◌, ◌≤◌, ℕ, decimal, length, slice_index};
-ghost use Rattle.text_lines.specs.Parsing.{AreWords, IsFieldTaken, IsParsedAs, IsRectOfWords, IsSplit, IsWide, IsWord, behind, pair_text};
+ghost use Rattle.std.specs.Prelude.{◌≡◌, ◌≢◌, ◌<◌, ◌≤◌, ℕ, MatchOption, None, Some, decimal, length, slice_index};
+ghost use Rattle.text_lines.specs.Parsing.{AreWords, IsAfter, IsFieldTaken, IsParsedAs, IsRectOfWords, IsSplit, IsWide, IsWord, IsWordThen, behind, field_then, pair_text};
 ghost use Rattle.text_lines.specs.Text.{field_text, rect_text};
 
 use crate::numbers::count_of;
@@ -11,72 +11,78 @@ use raster_model::Rect;
 const SPACE: &[u8] = b" ";
 
 /// The box after a word, if nothing follows it.
+#[tactic(auto, using(crate::proofs::ParseLemmas::read_behind))]
 pub fn rect_behind(bytes: &[u8], word: &[u8]) -> Option<Rect>
     ensures { IsParsedAs IsRectOfWords (behind word.now rect_text) bytes.now result }
 {
-    rect_of(bytes.strip_prefix(word)?)
+    rect_of(after_word(bytes, word)?)
 }
 
 /// Four numbers, each after a space.
+#[tactic(auto, unfolding(crate::specs::Text::rect_text))]
 pub fn rect_of(bytes: &[u8]) -> Option<Rect>
     ensures { IsParsedAs IsRectOfWords rect_text bytes.now result }
 {
-    let (x0, bytes) = take_field(bytes)?;
-    let (y0, bytes) = take_field(bytes)?;
-    let (x1, y1) = pair_of(bytes)?;
+    let (x0, (y0, (x1, y1))) = four_of(bytes)?;
     Some(Rect { x0, y0, x1, y1 })
 }
 
 /// The two numbers after a word, if nothing follows them.
+#[tactic(auto, using(crate::proofs::ParseLemmas::read_behind))]
 pub fn pair_behind(line: &[u8], word: &[u8]) -> Option<(u32, u32)>
     ensures { IsParsedAs AreWords (behind word.now pair_text) line.now result }
 {
-    pair_of(line.strip_prefix(word)?)
+    pair_of(after_word(line, word)?)
 }
 
 /// Two numbers, each after a space.
+#[tactic(auto, using(crate::proofs::FieldLemmas::last_begins))]
 pub fn pair_of(bytes: &[u8]) -> Option<(u32, u32)>
     ensures { IsParsedAs AreWords pair_text bytes.now result }
 {
     let (first, second) = take_field(bytes)?;
-    Some((first, last_field(second)?))
+    with_first(first, last_field(second))
 }
 
 /// The number after a space, if nothing follows it.
+#[tactic(auto, using(crate::proofs::ParseLemmas::read_behind), unfolding(crate::specs::Text::field_text))]
 pub fn last_field(bytes: &[u8]) -> Option<u32>
     ensures { IsParsedAs IsWord field_text bytes.now result }
 {
-    count_of(bytes.strip_prefix(SPACE)?)
+    count_of(after_word(bytes, SPACE)?)
 }
 
 /// The number of 128 bits after a space, if nothing follows it.
+#[tactic(auto, using(crate::proofs::ParseLemmas::read_behind), unfolding(crate::specs::Text::field_text))]
 pub fn last_wide(bytes: &[u8]) -> Option<u128>
     ensures { IsParsedAs IsWide field_text bytes.now result }
 {
-    wide_of(bytes.strip_prefix(SPACE)?)
+    wide_of(after_word(bytes, SPACE)?)
 }
 
 /// The number after a space at the front, and what follows it.
+#[tactic(auto, using(crate::proofs::ParseLemmas::token_read, crate::proofs::FieldLemmas::word_wide), unfolding(crate::specs::Text::field_text))]
 pub fn take_field(bytes: &[u8]) -> Option<(u32, &[u8])>
     ensures { IsFieldTaken IsWord bytes.now result }
 {
     let (token, rest) = split_field(bytes)?;
-    Some((count_of(token)?, rest))
+    with_rest(count_of(token), rest)
 }
 
 /// The number of 128 bits after a space at the front, and what follows it.
+#[tactic(auto, using(crate::proofs::ParseLemmas::token_read, crate::proofs::FieldLemmas::word_wide), unfolding(crate::specs::Text::field_text))]
 pub fn take_wide(bytes: &[u8]) -> Option<(u128, &[u8])>
     ensures { IsFieldTaken IsWide bytes.now result }
 {
     let (token, rest) = split_field(bytes)?;
-    Some((wide_of(token)?, rest))
+    with_rest(wide_of(token), rest)
 }
 
 /// What is between a space at the front and the next space, and what follows it.
 pub fn split_field(bytes: &[u8]) -> Option<(&[u8], &[u8])>
     ensures { IsSplit bytes.now result }
 {
-    let bytes = bytes.strip_prefix(SPACE)?;
+    let bytes = after_word(bytes, SPACE)?;
     Some(bytes.split_at(token_length(bytes)))
 }
 
@@ -103,4 +109,43 @@ pub fn wide_of(token: &[u8]) -> Option<u128>
     } else {
         None
     }
+}
+
+/// What follows a word at the front.
+pub(crate) fn after_word<'a>(bytes: &'a [u8], word: &[u8]) -> Option<&'a [u8]>
+    ensures { IsAfter word.now bytes.now result }
+{
+    bytes.strip_prefix(word)
+}
+
+/// A number that was found, and what follows it.
+fn with_rest<N: Copy>(number: Option<N>, rest: &[u8]) -> Option<(N, &[u8])>
+    ensures { MatchOption result (number ≡ None) (λ found. (number ≡ Some found.0) × (found.1.now ≡ rest.now)) }
+{
+    Some((number?, rest))
+}
+
+/// Four numbers, each after a space.
+#[tactic(auto, using(crate::proofs::FieldLemmas::field_begins))]
+fn four_of(bytes: &[u8]) -> Option<(u32, (u32, (u32, u32)))>
+    ensures { IsParsedAs (IsWordThen (IsWordThen AreWords)) (field_then (field_then pair_text)) bytes.now result }
+{
+    let (first, rest) = take_field(bytes)?;
+    with_first(first, three_of(rest))
+}
+
+/// Three numbers, each after a space.
+#[tactic(auto, using(crate::proofs::ParseLemmas::pair_read, crate::proofs::FieldLemmas::last_begins, crate::proofs::FieldLemmas::field_begins))]
+fn three_of(bytes: &[u8]) -> Option<(u32, (u32, u32))>
+    ensures { IsParsedAs (IsWordThen AreWords) (field_then pair_text) bytes.now result }
+{
+    let (first, rest) = take_field(bytes)?;
+    with_first(first, pair_of(rest))
+}
+
+/// A number and what was found after it.
+fn with_first<N: Copy>(first: u32, found: Option<N>) -> Option<(u32, N)>
+    ensures { MatchOption result (found ≡ None) (λ both. (both.0 ≡ first) × (found ≡ Some both.1)) }
+{
+    Some((first, found?))
 }

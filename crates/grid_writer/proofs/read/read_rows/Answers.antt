@@ -48,15 +48,6 @@ loop-preserved g c =
           (texts_join a b rows (numbers_line r.0 ++ 10 ∷ []) done (lines_read c.loop.lines) (lines_read c.read_row.new.lines) i.taken r.1.1.1.1));
     }
 
-pub returns-in_err-read_row-clause-same_source : goal.returns-in_err-read_row-clause-same_source
-returns-in_err-read_row-clause-same_source g c = c.read_row.ensures.same_source ∙ c.loop.invariant.name
-
-pub returns-in_err-read_row-clause-same_limit : goal.returns-in_err-read_row-clause-same_limit
-returns-in_err-read_row-clause-same_limit g c = c.read_row.ensures.same_limit ∙ c.loop.invariant.limit
-
-pub returns-in_err-read_row-clause-moves : goal.returns-in_err-read_row-clause-moves
-returns-in_err-read_row-clause-moves g c = moves_join (call_of g.S.Source.left g.S.Source.faults c.args.feed.now c.loop.feed) (call_of g.S.Source.left g.S.Source.faults c.loop.feed c.read_row.new.feed) c.loop.invariant.moves c.read_row.ensures.moves
-
 pub returns-in_err-read_row-clause-refused : goal.returns-in_err-read_row-clause-refused
 returns-in_err-read_row-clause-refused g c =
     let i = c.loop.invariant in

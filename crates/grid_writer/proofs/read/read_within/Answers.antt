@@ -4,7 +4,7 @@ use Rattle.std.proofs.lemmas.Result.{IfErr-weaker, IfOk-weaker, err_from_is_err_
 use Rattle.insar_ports.specs.Calls.{call_of}
 use Rattle.text_lines.specs.LineWords.{lines_read}
 use Rattle.text_lines.specs.Reading.{HasLineCause}
-use Rattle.text_lines.proofs.StepLemmas.{cause_begin, cause_join, fails_next, joined, moves_join, texts_join}
+use Rattle.text_lines.proofs.StepLemmas.{cause_begin, cause_join, fails_next, joined, moves_join, moves_on, texts_join}
 use Rattle.grid_writer.specs.Grid.{columns_line, rows_line}
 use Rattle.grid_writer.specs.GridParts.{IsBodyText, IsCountLine, IsGridTextIn, IsWithin}
 use Rattle.grid_writer.proofs.GridReads.{grid_read}
@@ -20,9 +20,6 @@ returns-in_err-width-clause-refused g c =
 
 pub read_count-requires-2-clause-some : goal.read_count-requires-2-clause-some
 read_count-requires-2-clause-some g c = rw c.min-most_height.ensures (some_rows c.args.sizes c.requires c.in_ok-width.width c.in_ok-width.ensures.within.0 c.in_ok-width.ensures.within.1)
-
-pub returns-in_err-height-clause-moves : goal.returns-in_err-height-clause-moves
-returns-in_err-height-clause-moves g c = moves_join (call_of g.S.Source.left g.S.Source.faults c.args.feed.now c.read_count.new.feed) (call_of g.S.Source.left g.S.Source.faults c.read_count.new.feed c.read_count-2.new.feed) c.read_count.ensures.moves c.read_count-2.ensures.moves
 
 pub returns-in_err-height-clause-refused : goal.returns-in_err-height-clause-refused
 unfolding columns_line
@@ -41,10 +38,7 @@ read_body-requires g c =
     record { sized = sized_by w.width h.height (sized_within c.args.sizes c.requires w.width w.ensures.within.0 w.ensures.within.1 h.height h.ensures.within.0 (rw c.min-most_height.ensures at h.ensures.within.1)) }
 
 pub returns-clause-moves : goal.returns-clause-moves
-returns-clause-moves g c =
-    let a = call_of g.S.Source.left g.S.Source.faults c.args.feed.now c.read_count.new.feed in
-    let b = call_of g.S.Source.left g.S.Source.faults c.read_count.new.feed c.read_count-2.new.feed in
-    moves_join (joined a b) (call_of g.S.Source.left g.S.Source.faults c.read_count-2.new.feed c.read_body.new.feed) (moves_join a b c.read_count.ensures.moves c.read_count-2.ensures.moves) c.read_body.ensures.moves
+returns-clause-moves g c = moves_on (moves_on c.read_count.ensures.moves c.read_count-2.ensures.moves) c.read_body.ensures.moves
 
 pub returns-clause-size : goal.returns-clause-size
 returns-clause-size g c =

@@ -1,5 +1,6 @@
-use Rattle.std.proofs.Common.{◌∙◌, rules, sym}
-use Rattle.text_lines.proofs.DigitLemmas.{count_read, more_than_count, no_whole_count}
+use Rattle.std.proofs.Common.{◌∙◌, arith, decimal, rules, sym}
+use Rattle.text_lines.proofs.DigitLemmas.{count_read, more_behind, no_whole_count}
+use Rattle.text_lines.proofs.NumberLemmas.{decimal_without}
 use Rattle.text_lines.proofs.numbers.count_of.Goals as goal
 
 pub returns-in_err-count : goal.returns-in_err-count
@@ -12,5 +13,5 @@ returns-then-is_empty c =
 
 pub returns-else-is_empty : goal.returns-else-is_empty
 returns-else-is_empty c =
-    let split = c.in_ok-count in
-    more_than_count c.args.text.now split.rest.now split.count split.ensures.found (search rules) split.ensures.rest (sym c.is_empty.ensures ∙ c.if-is_empty.false)
+    let s = c.in_ok-count in
+    λ n small e. more_behind c.args.text.now (decimal s.count) (decimal n) s.rest.now (decimal_without 32 (omega arith) s.count (search rules)) (decimal_without 32 (omega arith) n (omega (arith, small))) s.ensures.found s.ensures.rest (sym c.is_empty.ensures ∙ c.if-is_empty.false) e

@@ -1,13 +1,10 @@
-use Rattle.std.proofs.Common.{◌≡◌, ◌++◌, List, ℤ, length}
-use Rattle.text_lines.specs.Numbers.{AreLongs, numbers_text}
-use Rattle.text_lines.proofs.NumberLemmas.{LeavesNumbers}
+use Rattle.std.proofs.Common.{Bool, List, ℤ, length}
+use Rattle.text_lines.specs.Numbers.{ArePushed}
 use Rattle.text_lines.proofs.numbers.push_numbers.Given as goal
 
+-- what is added of the rest is added of the text
 abbrev pub invariant-loop-fields : goal.invariant-loop-fields
-invariant-loop-fields l = record {
-  built : (new : List ℤ) × ((l.numbers.items ≡ l.fn.numbers.items ++ new) × ((l.text ≡ numbers_text new ++ l.rest) × AreLongs new));
-  leaves : LeavesNumbers l.text l.rest;
-}
+invariant-loop-fields l = (now : List ℤ) (all : Bool) → ArePushed l.rest l.numbers.items now all → ArePushed l.text l.fn.numbers.items now all
 
 abbrev pub decreases-loop-fields : goal.decreases-loop-fields
 decreases-loop-fields l = length l.rest

@@ -1,7 +1,6 @@
-use Rattle.std.proofs.Common.{[], ◌∷◌}
-use Rattle.text_lines.proofs.ParseLemmas.{is_split, stripped}
+use Rattle.text_lines.proofs.ParseLemmas.{is_split}
 use Rattle.text_lines.proofs.parse.split_field.Goals as goal
 
 pub returns : goal.returns
 returns c =
-    is_split c.args.bytes.now c.in_ok-bytes.bytes.now c.token_length.result c.split_at.result.0.now c.split_at.result.1.now (stripped c.args.bytes.now (32 ∷ []) c.in_ok-bytes.bytes c.in_ok-bytes.ensures.cases) c.token_length.ensures.within c.token_length.ensures.token c.token_length.ensures.space c.split_at.ensures.front c.split_at.ensures.back
+    is_split c.args.bytes.now c.in_ok-bytes.bytes.now c.token_length.result c.split_at.result.0.now c.split_at.result.1.now c.in_ok-bytes.ensures c.token_length.ensures.within c.token_length.ensures.token c.token_length.ensures.space c.split_at.ensures.front c.split_at.ensures.back

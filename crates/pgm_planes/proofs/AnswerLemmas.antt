@@ -1,30 +1,36 @@
 -- A whole plane: from what the reader gives to what its callers are promised.
-use Rattle.std.proofs.Common.{◌≡◌, ℕ, ◌+◌, ◌-◌, ◌<◌, true, false, List, [], ◌∷◌, ◌++◌, length, take, drop, Some, Result, Ok, Err, sym, ap, subst, ◌∙◌, arith, inl, inr, ltb}
+use Rattle.std.proofs.Common.{◌≡◌, ℕ, ◌+◌, ◌-◌, ◌<◌, true, false, List, [], ◌∷◌, ◌++◌, length, take, drop, Some, Result, Ok, Err, refl, sym, ap, subst, ◌∙◌, arith, inl, inr, ltb}
 use Rattle.pgm_planes.proofs.Words.{IfSome, IfOk, IfErr, cases_Bool, ltb-false, lt-ltb, length-append, take-append-drop, take_all, with_front, Plane, Role, PlaneFault, ReadPlaneFault, PlaneOf, plane_of, SpellsPlane, IsPlaneIn, FirstBreak, AsksForMore, Call, IsCutOff, HasPlaneCause, IsReadAsPlane, IsCutShort, Reading, asks, breaks, goes_beyond, Reads, plane_at}
 use Rattle.pgm_planes.specs.declared.fault.ReadPlaneFault.TheVariants as errors
 use Rattle.insar_ports.specs.Calls.{Takes as TakesText}
 use Rattle.pgm_planes.proofs.HeaderLemmas.{done, ok_is, break_is, done_asks, break_asks, not_both, same_value, same_rest}
-use Rattle.pgm_planes.proofs.PlaneWalk.{PlaneRead, plane_walk}
-use Rattle.pgm_planes.proofs.PlaneAgain.{plane_told}
-use Rattle.pgm_planes.proofs.FarLemmas.{further, plane_far}
-use Rattle.pgm_planes.proofs.AskLemmas.{further_none, told_asks, asks_told}
+use Rattle.pgm_planes.proofs.PlaneAgain.{plane_or_break, break_told, plane_told}
+use Rattle.pgm_planes.proofs.FarLemmas.{further, further_none, plane_far}
+use Rattle.pgm_planes.proofs.AskLemmas.{told_asks, asks_told}
 use Rattle.pgm_planes.proofs.CallLemmas.{told_on}
 use Rattle.insar_ports.proofs.CallLemmas.{if_told, some_of, some_is}
 
 -- what the reader read is a plane's text
-found : (role : Role) (at : ℕ) (bytes : List ℕ) (p : PlaneOf) (end : ℕ) (rest : List ℕ) → plane_at role false at bytes ≡ done p end rest → PlaneRead role at bytes p end rest
-found role at bytes p end rest e = elim (plane_walk role at bytes) [
-  | inl b ↦ absurd (not_both p end rest b.0 (sym e ∙ b.1))
-  | inr t ↦
-      let same = ok_is (t.0, t.1, t.2) (p, end, rest) (sym t.3 ∙ e) in
-      subst (λ (x : PlaneOf × ℕ × List ℕ). PlaneRead role at bytes x.0 x.1 x.2) {x = (t.0, t.1, t.2)} {y = (p, end, rest)} same t.4
+pub record PlaneRead (role : Role) (at : ℕ) (bytes : List ℕ) (p : PlaneOf) (end : ℕ) (rest : List ℕ) : Type 0 where
+  pub text : List ℕ
+  pub parts : bytes ≡ text ++ rest
+  pub place : end ≡ at + length text
+  pub spells : SpellsPlane role text p rest
+
+pub found : (role : Role) (at : ℕ) (bytes : List ℕ) (p : PlaneOf) (end : ℕ) (rest : List ℕ) → plane_at role false at bytes ≡ done p end rest → PlaneRead role at bytes p end rest
+found role at bytes p end rest e = elim (plane_or_break role at bytes) [
+  | inr b ↦ absurd (not_both p end rest b.0 (sym e ∙ break_told role at bytes b.0 b.1))
+  | inl t ↦
+      let i = t.2 in
+      let same = ok_is (t.0, at + length i.0, t.1) (p, end, rest) (sym (ap (plane_at role false at) i.1 ∙ plane_told role at i.0 t.0 t.1 i.2) ∙ e) in
+      subst (λ (x : PlaneOf × ℕ × List ℕ). PlaneRead role at bytes x.0 x.1 x.2) {x = (t.0, at + length i.0, t.1)} {y = (p, end, rest)} same (record { text = i.0; parts = i.1; place = refl; spells = i.2 })
 ]
 
 -- what the reader refused has this first break
-broken : (role : Role) (at : ℕ) (bytes : List ℕ) (f : PlaneFault) → plane_at role false at bytes ≡ breaks f → FirstBreak role at bytes f
-broken role at bytes f e = elim (plane_walk role at bytes) [
-  | inl b ↦ subst (FirstBreak role at bytes) (break_is {A = PlaneOf} b.0 f (sym b.1 ∙ e)) b.2
-  | inr t ↦ absurd (not_both t.0 t.1 t.2 f (sym t.3 ∙ e))
+pub broken : (role : Role) (at : ℕ) (bytes : List ℕ) (f : PlaneFault) → plane_at role false at bytes ≡ breaks f → FirstBreak role at bytes f
+broken role at bytes f e = elim (plane_or_break role at bytes) [
+  | inr b ↦ subst (FirstBreak role at bytes) (break_is {A = PlaneOf} b.0 f (sym (break_told role at bytes b.0 b.1) ∙ e)) b.1
+  | inl t ↦ let i = t.2 in absurd (not_both t.0 (at + length i.0) t.1 f (sym (ap (plane_at role false at) i.1 ∙ plane_told role at i.0 t.0 t.1 i.2) ∙ e))
 ]
 
 -- what was read within the limit, where nothing more was asked for, is read of all bytes

@@ -1,9 +1,9 @@
 -- How calls on a feed that come one after another answer what one reader gives.
 use Rattle.std.proofs.Common.{◌≡◌, ℕ, zero, ◌+◌, ◌-◌, ◌≤◌, ◌<◌, suc, Bool, List, [], ◌∷◌, ◌++◌, length, take, drop, Option, Some, None, Result, Ok, Err, true, false, refl, sym, ap, subst, ◌∙◌, arith, ltb}
-use Rattle.pgm_planes.proofs.Words.{IfSome, le-ltb, lt-ltb, length-append, with_front, after_first, BeginsWith, HasMore, HasRisen, IsAtEnd, FeedFault, PlaneFault, Form, ReadPlaneFault, Spelling, Call, Moves, Reading, Reader, breaks, asks, goes_beyond, Told, Reads, nothing, byte_at, sight_at, space_at, plane_fault_of_feed, is_space}
+use Rattle.pgm_planes.proofs.Words.{IfSome, IsErrAnd, err_from_is_err_and, le-ltb, lt-ltb, length-append, with_front, after_first, BeginsWith, HasMore, HasRisen, IsAtEnd, FeedFault, ReadPlaneFault, Spelling, Call, Moves, Reading, Reader, breaks, asks, goes_beyond, Told, AnswersReader, Reads, nothing, byte_at, sight_at, plane_fault_of_feed}
 use Rattle.insar_ports.specs.declared.feed.FeedFault.TheVariants as feed_faults
 use Rattle.pgm_planes.specs.declared.fault.ReadPlaneFault.TheVariants as errors
-use Rattle.pgm_planes.proofs.HeaderLemmas.{done, same_value, same_place, same_rest, space_taken, space_refused, space_missed}
+use Rattle.pgm_planes.proofs.HeaderLemmas.{done}
 use Rattle.insar_ports.proofs.CallLemmas.{call, some_is, risen_before, Moves-then, stays}
 
 -- where the bytes were told, those that are left are told too
@@ -30,49 +30,31 @@ module _ (told : Option (List ℕ)) (at : ℕ) (mid : Option (List ℕ)) (at_mid
       = subst (λ (n : ℕ). P (goes_beyond n at_mid m.0) (take (n - at_mid) m.0) (take (n - end) rest)) l_is (h m.0 rest m.1 l) in
       (m.0, m.1, subst (λ (b : Bool). P b (take (limit - at_mid) m.0) (take (limit - end) rest)) (same_beyond p bytes m.0 t m.1) here)
 
-  pub Goes-then : {A : Type 0} (r q s : Reader A) → limit_2 ≡ limit → Goes (call told at mid at_mid limit before middle) r q → Goes (call mid at_mid left end limit_2 middle after) q s → Goes (call told at left end limit before after) r s
-  Goes-then r q s l_is g h = record {
-    moves = Moves-then told at mid at_mid left end limit limit_2 before middle after g.moves h.moves;
-    reads = λ bytes rest t l. let m = Told-then (λ more bytes rest. q more at_mid bytes ≡ s more end rest) g.moves l_is h.reads bytes rest t l in g.reads bytes m.0 t m.1 ∙ m.2;
-  }
+-- a call by which the reading by r went on by q, and one after it
+module _ {told : Option (List ℕ)} {at : ℕ} {mid : Option (List ℕ)} {at_mid limit limit_2 before middle : ℕ} {A : Type 0} {r q : Reader A} (g : Goes (call told at mid at_mid limit before middle) r q) (l_is : limit_2 ≡ limit) where
+  told_then : (left : Option (List ℕ)) (end after : ℕ) (x : Bool → List ℕ → Reading A) → Told (call mid at_mid left end limit_2 middle after) (λ more bytes rest. q more at_mid bytes ≡ x more rest) → Told (call told at left end limit before after) (λ more bytes rest. r more at bytes ≡ x more rest)
+  told_then left end after x h bytes rest t l = let m = Told-then told at mid at_mid left end limit limit_2 before middle after (λ more bytes rest. q more at_mid bytes ≡ x more rest) g.moves l_is h bytes rest t l in g.reads bytes m.0 t m.1 ∙ m.2
 
-  pub Reads-then : {X A : Type 0} (view : X → A) (result : Result X ReadPlaneFault) (r q : Reader A) → Goes (call told at mid at_mid limit before middle) r q → limit_2 ≡ limit → Reads view result (call mid at_mid left end limit_2 middle after) q → Reads view result (call told at left end limit before after) r
-  Reads-then view (Ok x) r q g l_is h = record {
-    moves = Moves-then told at mid at_mid left end limit limit_2 before middle after g.moves h.moves;
-    answers = λ bytes rest t l. let m = Told-then (λ more bytes rest. q more at_mid bytes ≡ done (view x) end rest) g.moves l_is h.answers bytes rest t l in g.reads bytes m.0 t m.1 ∙ m.2;
-  }
-  Reads-then view (Err (errors.Plane fault)) r q g l_is h = record {
-    moves = Moves-then told at mid at_mid left end limit limit_2 before middle after g.moves h.moves;
-    answers = λ bytes rest t l. let m = Told-then (λ more bytes rest. q more at_mid bytes ≡ breaks fault) g.moves l_is h.answers bytes rest t l in g.reads bytes m.0 t m.1 ∙ m.2;
-  }
-  Reads-then view (Err errors.TooLong) r q g l_is h = record {
-    moves = Moves-then told at mid at_mid left end limit limit_2 before middle after g.moves h.moves;
-    answers = (
-      (h.answers.0.0 ∙ l_is, h.answers.0.1),
-      λ bytes rest t l. let m = Told-then (λ more bytes rest. q more at_mid bytes ≡ asks) g.moves l_is h.answers.1 bytes rest t l in g.reads bytes m.0 t m.1 ∙ m.2,
-    );
-  }
-  Reads-then view (Err errors.ReadFault) r q g l_is h = record {
-    moves = Moves-then told at mid at_mid left end limit limit_2 before middle after g.moves h.moves;
-    answers = risen_before before middle after g.moves.grows h.answers;
-  }
-  Reads-then view (Err errors.Memory) r q g l_is h = record { moves = Moves-then told at mid at_mid left end limit limit_2 before middle after g.moves h.moves; answers = tt }
+  pub goes_then : {left : Option (List ℕ)} {end after : ℕ} {s : Reader A} → Goes (call mid at_mid left end limit_2 middle after) q s → Goes (call told at left end limit before after) r s
+  goes_then {left} {end} {after} {s} h = record { moves = Moves-then told at mid at_mid left end limit limit_2 before middle after g.moves h.moves; reads = told_then left end after (λ more rest. s more end rest) h.reads }
 
-module _ {X A Y B : Type 0} (view : X → A) (other : Y → B) (c : Call) where
-  -- after a call that read something the rest is read by q
-  pub gone : (x : X) (p : Reader A) (r q : Reader B) → Reads view (Ok x) c p → ((more : Bool) (bytes rest : List ℕ) → p more c.at bytes ≡ done (view x) c.end rest → r more c.at bytes ≡ q more c.end rest) → Goes c r q
-  gone x p r q h f = record { moves = h.moves; reads = λ bytes rest t l. f (goes_beyond c.limit c.at bytes) (take (c.limit - c.at) bytes) (take (c.limit - c.end) rest) (h.answers bytes rest t l) }
+  answers_then : (left : Option (List ℕ)) (end after : ℕ) {X : Type 0} (view : X → A) (result : Result X ReadPlaneFault) → AnswersReader view result (call mid at_mid left end limit_2 middle after) q → AnswersReader view result (call told at left end limit before after) r
+  answers_then left end after view (Ok x) h = told_then left end after (λ more rest. done (view x) end rest) h
+  answers_then left end after view (Err (errors.Plane fault)) h = told_then left end after (λ more rest. breaks fault) h
+  answers_then left end after view (Err errors.TooLong) h = ((h.0.0 ∙ l_is, h.0.1), told_then left end after (λ more rest. asks) h.1)
+  answers_then left end after view (Err errors.ReadFault) h = risen_before before middle after g.moves.grows h
+  answers_then left end after view (Err errors.Memory) h = tt
 
-  -- a call that did not read ends what it is the beginning of
-  pub passes_on : (e : ReadPlaneFault) (p : Reader A) (r : Reader B) → Reads view (Err e) c p → ((more : Bool) (bytes : List ℕ) (f : Option PlaneFault) → (let x : Reading A = Err f in p more c.at bytes ≡ x) → (let y : Reading B = Err f in r more c.at bytes ≡ y)) → Reads other (Err e) c r
-  passes_on (errors.Plane fault) p r h f = record { moves = h.moves; answers = λ bytes rest t l. f (goes_beyond c.limit c.at bytes) (take (c.limit - c.at) bytes) (Some fault) (h.answers bytes rest t l) }
-  passes_on errors.TooLong p r h f = record { moves = h.moves; answers = (h.answers.0, λ bytes rest t l. f (goes_beyond c.limit c.at bytes) (take (c.limit - c.at) bytes) None (h.answers.1 bytes rest t l)) }
-  passes_on errors.ReadFault p r h f = record { moves = h.moves; answers = h.answers }
-  passes_on errors.Memory p r h f = record { moves = h.moves; answers = tt }
+  pub reads_then : {X : Type 0} {view : X → A} {result : Result X ReadPlaneFault} {left : Option (List ℕ)} {end after : ℕ} → Reads view result (call mid at_mid left end limit_2 middle after) q → Reads view result (call told at left end limit before after) r
+  reads_then {X} {view} {result} {left} {end} {after} h = record { moves = Moves-then told at mid at_mid left end limit limit_2 before middle after g.moves h.moves; answers = answers_then left end after view result h.answers }
 
-module _ {X A : Type 0} (view : X → A) (c : Call) where
-  pub finds : (x : X) (r q : Reader A) → Goes c r q → ((more : Bool) (rest : List ℕ) → q more c.end rest ≡ done (view x) c.end rest) → Reads view (Ok x) c r
-  finds x r q g f = record { moves = g.moves; answers = λ bytes rest t l. g.reads bytes rest t l ∙ f (goes_beyond c.limit c.at bytes) (take (c.limit - c.end) rest) }
+-- what is read at the end of a call
+pub finds : {X A : Type 0} {view : X → A} {c : Call} {r q : Reader A} {x : X} → Goes c r q → ((more : Bool) (rest : List ℕ) → q more c.end rest ≡ done (view x) c.end rest) → Reads view (Ok x) c r
+finds {c = c} g f = record { moves = g.moves; answers = λ bytes rest t l. g.reads bytes rest t l ∙ f (goes_beyond c.limit c.at bytes) (take (c.limit - c.end) rest) }
+
+-- what a `?` returns
+pub passed : {X A : Type 0} {view : X → A} {c : Call} {r : Reader A} {e : ReadPlaneFault} (result : Result X ReadPlaneFault) → IsErrAnd result (λ f. f ≡ e) → Reads view (Err e) c r → Reads view result c r
+passed result h r = let p = err_from_is_err_and result h in rw (p.1, p.2) r
 
 -- ---- single bytes
 
@@ -132,30 +114,6 @@ byte_fails feed_faults.TooLong told left at end limit before after r l e g risen
   );
 }
 
--- what the next byte tells of the bytes
-pub byte_some : (more : Bool) (at : ℕ) (bytes : List ℕ) (b end : ℕ) (rest : List ℕ) → byte_at more at bytes ≡ done (Some b) end rest → (bytes ≡ b ∷ rest) × (end ≡ at + 1)
-unfolding byte_at
-byte_some true at [] b end rest e = absurd cc
-byte_some false at [] b end rest e = absurd (let x = same_value None (Some b) at end [] rest e in cc)
-byte_some more at (a ∷ bytes) b end rest e =
-    let v : a ≡ b = let x = same_value (Some a) (Some b) (at + 1) end bytes rest e in cc in
-    let r = same_rest (Some a) (Some b) (at + 1) end bytes rest e in
-    (ap (λ (x : ℕ). x ∷ bytes) v ∙ ap (λ (x : List ℕ). b ∷ x) r, sym (same_place (Some a) (Some b) (at + 1) end bytes rest e))
-
-pub byte_none : (more : Bool) (at : ℕ) (bytes : List ℕ) (end : ℕ) (rest : List ℕ) → byte_at more at bytes ≡ done None end rest → (more ≡ false) × (bytes ≡ [])
-unfolding byte_at
-byte_none true at [] end rest e = absurd cc
-byte_none false at [] end rest e = (refl, refl)
-byte_none more at (a ∷ bytes) end rest e = absurd (let x = same_value (Some a) None (at + 1) end bytes rest e in cc)
-
--- the next byte never breaks a form, and is asked for at the end alone
-pub byte_never : {B : Type 0} (more : Bool) (at : ℕ) (bytes : List ℕ) (f : Option PlaneFault) (r : Reader B) → (let x : Reading (Option ℕ) = Err f in byte_at more at bytes ≡ x) → r true at [] ≡ asks → (let y : Reading B = Err f in r more at bytes ≡ y)
-unfolding byte_at
-byte_never true at [] (Some f) r e a = absurd cc
-byte_never true at [] None r e a = a
-byte_never false at [] f r e a = absurd cc
-byte_never more at (b ∷ rest) f r e a = absurd cc
-
 pub byte_asks : (at : ℕ) → byte_at true at [] ≡ asks
 unfolding byte_at
 byte_asks at = refl
@@ -163,14 +121,6 @@ byte_asks at = refl
 pub sight_asks : (at : ℕ) → sight_at true at [] ≡ asks
 unfolding sight_at
 sight_asks at = refl
-
--- what a call read says what another reader gives
-module _ {X A Y B : Type 0} (view : X → A) (other : Y → B) (c : Call) where
-  pub becomes : (x : X) (y : Y) (p : Reader A) (r : Reader B) → Reads view (Ok x) c p → ((more : Bool) (bytes rest : List ℕ) → p more c.at bytes ≡ done (view x) c.end rest → r more c.at bytes ≡ done (other y) c.end rest) → Reads other (Ok y) c r
-  becomes x y p r h f = record { moves = h.moves; answers = λ bytes rest t l. f (goes_beyond c.limit c.at bytes) (take (c.limit - c.at) bytes) (take (c.limit - c.end) rest) (h.answers bytes rest t l) }
-
-  pub becomes_break : (x : X) (fault : PlaneFault) (p : Reader A) (r : Reader B) → Reads view (Ok x) c p → ((more : Bool) (bytes rest : List ℕ) → p more c.at bytes ≡ done (view x) c.end rest → r more c.at bytes ≡ breaks fault) → Reads other (Err (errors.Plane fault)) c r
-  becomes_break x fault p r h f = record { moves = h.moves; answers = λ bytes rest t l. f (goes_beyond c.limit c.at bytes) (take (c.limit - c.at) bytes) (take (c.limit - c.end) rest) (h.answers bytes rest t l) }
 
 -- the view of a byte that was got, and of what has no value
 abbrev pub as_got : Option ℕ → Option ℕ
@@ -184,32 +134,6 @@ as_spelling s = s
 
 abbrev pub as_nothing : Unit {0} → Unit {0}
 as_nothing _ = nothing
-
-module _ (c : Call) (got : Option ℕ) (h : Reads as_got (Ok got) c byte_at) where
-  pub reads_space : (b : ℕ) → got ≡ Some b → is_space b ≡ true → Reads as_nothing (Ok tt) c space_at
-  reads_space b e s =
-      becomes as_got as_nothing c got tt byte_at space_at h (λ more bytes rest r.
-      let p = byte_some more c.at bytes b c.end rest (r ∙ ap (λ (g : Option ℕ). done g c.end rest) e) in
-      ap (space_at more c.at) p.0 ∙ space_taken more c.at b rest s ∙ ap (λ (n : ℕ). done nothing n rest) (sym p.1))
-
-  pub refuses_space : (b : ℕ) → got ≡ Some b → is_space b ≡ false → Reads as_nothing (Err (errors.Plane (Form c.at))) c space_at
-  refuses_space b e s =
-      becomes_break as_got as_nothing c got (Form c.at) byte_at space_at h (λ more bytes rest r.
-      let p = byte_some more c.at bytes b c.end rest (r ∙ ap (λ (g : Option ℕ). done g c.end rest) e) in
-      ap (space_at more c.at) p.0 ∙ space_refused more c.at b rest s)
-
-  pub misses_space : got ≡ None → Reads as_nothing (Err (errors.Plane (Form c.at))) c space_at
-  misses_space e =
-      becomes_break as_got as_nothing c got (Form c.at) byte_at space_at h (λ more bytes rest r.
-      let p = byte_none more c.at bytes c.end rest (r ∙ ap (λ (g : Option ℕ). done g c.end rest) e) in
-      rw (p.0, p.1) (space_missed c.at))
-
-space_asks : (at : ℕ) → space_at true at [] ≡ asks
-unfolding space_at
-space_asks at = refl
-
-pub space_passes_on : (c : Call) (e : ReadPlaneFault) → Reads as_got (Err e) c byte_at → Reads as_nothing (Err e) c space_at
-space_passes_on c e h = passes_on as_got as_nothing c e byte_at space_at h (λ more bytes f r. byte_never more c.at bytes f space_at r (space_asks c.at))
 
 sight_first : (more : Bool) (at : ℕ) (bytes : List ℕ) (b : ℕ) (rest : List ℕ) → bytes ≡ b ∷ rest → sight_at more at bytes ≡ done (Some b) at bytes
 unfolding sight_at

@@ -1,9 +1,9 @@
 -- A header that is spelled so is read, and one that breaks breaks there.
-use Rattle.std.proofs.Common.{◌≡◌, ℕ, Bool, ◌+◌, ◌≤◌, ◌<◌, true, false, List, [], ◌∷◌, ◌++◌, length, refl, sym, ap, ◌∙◌, append_assoc, arith, inl, inr}
+use Rattle.std.proofs.Common.{◌≡◌, ℕ, Bool, ◌+◌, ◌≤◌, true, false, List, [], ◌∷◌, ◌++◌, length, refl, sym, ap, ◌∙◌, append_assoc, arith, inl, inr}
 use Rattle.pgm_planes.proofs.Words.{Reading, length-append, Role, Form, is_space, is_digit, is_gap, begins, is_number, capped_number, AreNumbers, breaks, field_at, header_break, unless_broken, header_at}
 use Rattle.pgm_planes.proofs.HeaderLemmas.{done, seen, seen_begun, seen_then, seen_behind, space_taken}
-use Rattle.pgm_planes.proofs.FieldLemmas.{spaced, gap_spaced, NoField, field_again, field_break_again, no_space}
-use Rattle.pgm_planes.proofs.NumberLemmas.{numbers_begin, IsStuck, header_record}
+use Rattle.pgm_planes.proofs.FieldLemmas.{spaced, gap_spaced, IsStuck, field_again, field_break_again, no_space}
+use Rattle.pgm_planes.proofs.NumberLemmas.{numbers_begin, header_record}
 
 -- the first of several numbers is read
 field_over : (goes : Bool) (at : ℕ) (bytes : List ℕ) (n : ℕ) (ns more : List ℕ) (a : AreNumbers is_gap bytes (n ∷ ns)) → begins is_digit more ≡ false → field_at goes at (bytes ++ more) ≡ seen goes (a.2 ++ more) (done (n, at + length a.0) (at + length (a.0 ++ a.1)) (a.2 ++ more))
@@ -29,7 +29,7 @@ behind_first bytes n ns a = omega (arith, ap length a.3, length-append a.0 (a.1 
 
 module _ (goes : Bool) (role : Role) (at : ℕ) where
   pub header_again : (sizes : List ℕ) (w h : ℕ) (gap digits : List ℕ) (s : ℕ) (more : List ℕ) → AreNumbers is_gap sizes (w ∷ h ∷ []) → is_gap gap ≡ true → is_number digits ≡ true → is_space s ≡ true
-      → header_at role goes at (sizes ++ (gap ++ (digits ++ (s ∷ more)))) ≡ unless_broken (header_break role w h (capped_number digits) (at + length (sizes ++ gap))) (done (header_record w h (capped_number digits)) (at + length (sizes ++ (gap ++ (digits ++ (s ∷ []))))) more)
+      → header_at role goes at (sizes ++ (gap ++ (digits ++ (s ∷ more)))) ≡ unless_broken (header_break role w h (capped_number digits) (at + length (sizes ++ gap))) (done (header_record w h (capped_number digits)) ((at + length (sizes ++ (gap ++ digits))) + 1) more)
   unfolding header_at
   header_again sizes w h gap digits s more a g n k =
       let tail : List ℕ = gap ++ (digits ++ (s ∷ more)) in
@@ -41,14 +41,8 @@ module _ (goes : Bool) (role : Role) (at : ℕ) where
       let three = field_again goes at_3 gap digits (s ∷ more) g n (spaced (s ∷ more) k) in
       let four = space_taken goes (at_3 + length (gap ++ digits)) s more k in
       let place : at_3 + length gap ≡ at + length (sizes ++ gap) = omega (arith, behind_first sizes w (h ∷ []) a, length-append sizes gap) in
-      let end : (at_3 + length (gap ++ digits)) + 1 ≡ at + length (sizes ++ (gap ++ (digits ++ (s ∷ []))))
-      = omega (arith, behind_first sizes w (h ∷ []) a, length-append sizes (gap ++ (digits ++ (s ∷ []))), length-append gap (digits ++ (s ∷ [])), length-append digits (s ∷ []), length-append gap digits) in
+      let end : at_3 + length (gap ++ digits) ≡ at + length (sizes ++ (gap ++ digits)) = omega (arith, behind_first sizes w (h ∷ []) a, length-append sizes (gap ++ digits)) in
       rw (one, two, three, four, place, end) refl
-
-unstuck : (k : ℕ) (part rest : List ℕ) → k < 3 → IsStuck k part rest → NoField part rest
-unstuck k part rest lt (inl n) = inl (n.none, n.no_space)
-unstuck k part rest lt (inr (inl n)) = inr (inl (record { gap = n.gap; stops = record { no_space = n.no_space; no_hash = n.no_comment }; no_digit = n.no_digit }))
-unstuck k part rest lt (inr (inr n)) = inr (inr (record { gap = n.gap; comment = n.comment; parts = n.parts; is = n.is; within = n.inside }, n.ended))
 
 -- after a number no digit stands where the form breaks
 no_digit_stuck : (k : ℕ) (part rest : List ℕ) → 1 ≤ k → IsStuck k part rest → begins is_digit (part ++ rest) ≡ false
@@ -65,11 +59,11 @@ all_numbers k part rest three (inr (inr n)) = absurd (let lt = n.header in omega
 module _ (goes : Bool) (role : Role) (at : ℕ) where
   pub header_breaks_again : (numbers values part rest : List ℕ) → AreNumbers is_gap numbers values → IsStuck (length values) part rest → header_at role goes at (numbers ++ (part ++ rest)) ≡ seen goes rest (breaks (Form (at + length (numbers ++ part))))
   unfolding header_at
-  header_breaks_again numbers [] part rest a s = rw a (rw (field_break_again goes at part rest (unstuck 0 part rest (omega arith) s)) (seen_then goes rest (breaks (Form (at + length part))) _))
+  header_breaks_again numbers [] part rest a s = rw a (rw (field_break_again goes 0 at part rest s) (seen_then goes rest (breaks (Form (at + length part))) _))
   header_breaks_again numbers (v ∷ []) part rest a s =
       let d = no_digit_stuck 1 part rest (omega arith) s in
       let one = field_last goes at numbers v (part ++ rest) a d in
-      let two = field_break_again goes (at + length numbers) part rest (unstuck 1 part rest (omega arith) s) in
+      let two = field_break_again goes 1 (at + length numbers) part rest s in
       let place : (at + length numbers) + length part ≡ at + length (numbers ++ part) = omega (arith, length-append numbers part) in
       rw one (seen_behind goes part rest (done (v, at + length a.0) (at + length numbers) (part ++ rest)) _ (breaks (Form (at + length (numbers ++ part)))) (rw (two, place) (seen_then goes rest (breaks (Form (at + length (numbers ++ part)))) _)))
   header_breaks_again numbers (v ∷ w ∷ []) part rest a s =
@@ -77,7 +71,7 @@ module _ (goes : Bool) (role : Role) (at : ℕ) where
       let at_2 : ℕ = at + length (a.0 ++ a.1) in
       let one = field_over goes at numbers v (w ∷ []) (part ++ rest) a d ∙ followed goes a.2 w [] (part ++ rest) _ a.7 in
       let two = field_last goes at_2 a.2 w (part ++ rest) a.7 d in
-      let three = field_break_again goes (at_2 + length a.2) part rest (unstuck 2 part rest (omega arith) s) in
+      let three = field_break_again goes 2 (at_2 + length a.2) part rest s in
       let place : (at_2 + length a.2) + length part ≡ at + length (numbers ++ part) = omega (arith, behind_first numbers v (w ∷ []) a, length-append numbers part) in
       rw (one, two) (seen_behind goes part rest (done (w, at_2 + length a.7.0) (at_2 + length a.2) (part ++ rest)) _ (breaks (Form (at + length (numbers ++ part)))) (rw (three, place) (seen_then goes rest (breaks (Form (at + length (numbers ++ part)))) _)))
   header_breaks_again numbers (v ∷ w ∷ x ∷ []) part rest a s =

@@ -1,11 +1,11 @@
 -- Samples that are taken at once are read as if they were taken one by one.
-use Rattle.std.proofs.Common.{◌≡◌, ℕ, zero, suc, get_or, ◌+◌, ◌*◌, ◌-◌, ◌≤◌, Bool, true, false, List, [], ◌∷◌, ◌++◌, length, take, drop, Option, refl, sym, ap, ◌∙◌, append_assoc, append-nil, arith}
-use Rattle.pgm_planes.proofs.Words.{AllByRecursion, le-ltb, length-append, All-nil, recursion_from_All, take-append-add, IsRead, big_number, with_front, Call, Moves, SampleForm, Narrow, Wide, Digits, AreTogether, TakesPiece, IsRaster, Reader, goes_beyond, spelled_sample_at}
+use Rattle.std.proofs.Common.{◌≡◌, ℕ, zero, suc, get_or, ◌+◌, ◌*◌, ◌-◌, ◌≤◌, Bool, true, false, List, [], ◌∷◌, ◌++◌, length, take, drop, Option, refl, sym, ap, ◌∙◌, append-nil, arith}
+use Rattle.pgm_planes.proofs.Words.{AllByRecursion, length-append, All-nil, recursion_from_All, take-append-add, IsRead, big_number, with_front, Call, SampleForm, Narrow, Wide, Digits, AreTogether, TakesPiece, IsRaster, Reader, goes_beyond}
 use Rattle.insar_ports.proofs.CallLemmas.{call, some_is}
 use Rattle.insar_ports.proofs.CallerLemmas.{with_front-nil}
-use Rattle.pgm_planes.proofs.HeaderLemmas.{done}
 use Rattle.pgm_planes.proofs.CallLemmas.{Goes}
-use Rattle.pgm_planes.proofs.StepLemmas.{and_others, others_go}
+use Rattle.pgm_planes.proofs.StepLemmas.{and_others}
+use Rattle.pgm_planes.proofs.SampleLemmas.{same_others, samples_over}
 
 -- ---- what samples are
 
@@ -39,7 +39,7 @@ raster_front (suc n) (b ∷ []) (v ∷ vs) r = absurd r
 raster_front (suc n) (b ∷ d ∷ bytes) (v ∷ vs) r = rw (twice_more n) (r.0, raster_front n bytes vs r.1)
 
 -- more samples that are not above maxval
-below_append : (m : ℕ) (xs ys : List ℕ) → ((k : ℕ) → get_or xs k 0 ≤ m) → AllByRecursion (λ v. v ≤ m) ys → (k : ℕ) → get_or (xs ++ ys) k 0 ≤ m
+pub below_append : (m : ℕ) (xs ys : List ℕ) → ((k : ℕ) → get_or xs k 0 ≤ m) → AllByRecursion (λ v. v ≤ m) ys → (k : ℕ) → get_or (xs ++ ys) k 0 ≤ m
 below_append m [] [] h a k = h k
 below_append m [] (y ∷ ys) h a zero = a.0
 below_append m [] (y ∷ ys) h a (suc k) = below_append m [] ys (λ j. omega arith) a.1 k
@@ -48,50 +48,18 @@ below_append m (x ∷ xs) ys h a (suc k) = below_append m xs ys (λ j. h (suc j)
 
 -- ---- reading them one by one
 
-module _ (maxval at k : ℕ) (more : Bool) (rest : List ℕ) where
-  narrow_good : (b v : ℕ) → v ≡ b → v ≤ maxval → spelled_sample_at Narrow maxval k more at (b ∷ rest) ≡ done v (at + 1) rest
-  unfolding spelled_sample_at
-  narrow_good b v e le = let n = le-ltb maxval v le in rw (← e, n) refl
-
-  wide_good : (b d v : ℕ) → v ≡ 256 * b + d → v ≤ maxval → spelled_sample_at Wide maxval k more at (b ∷ d ∷ rest) ≡ done v (at + 2) rest
-  unfolding spelled_sample_at
-  wide_good b d v e le = let n = le-ltb maxval v le in rw (← e, n) refl
-
-same_others : (form : SampleForm) (maxval : ℕ) (more : Bool) (rest front front_2 : List ℕ) (n n_2 k k_2 at at_2 : ℕ) → front ≡ front_2 → n ≡ n_2 → k ≡ k_2 → at ≡ at_2 → and_others front form maxval n k more at rest ≡ and_others front_2 form maxval n_2 k_2 more at_2 rest
-same_others form maxval more rest front front_2 n n_2 k k_2 at at_2 a b c d = cc
-
-module _ (maxval : ℕ) (more : Bool) (rest : List ℕ) where
-  narrow_together : (bytes vs : List ℕ) → IsRaster false bytes vs → AllByRecursion (λ v. v ≤ maxval) vs → (front : List ℕ) (n m k at : ℕ) → n ≡ length vs + m
-      → and_others front Narrow maxval n k more at (bytes ++ rest) ≡ and_others (front ++ vs) Narrow maxval m (k + length vs) more (at + length bytes) rest
-  narrow_together [] [] r below front n m k at is = same_others Narrow maxval more rest front (front ++ []) n m k (k + 0) at (at + 0) (sym (append-nil front)) (omega arith) (omega arith) (omega arith)
-  narrow_together (b ∷ bytes) [] r below front n m k at is = absurd cc
-  narrow_together [] (v ∷ vs) r below front n m k at is = absurd r
-  narrow_together (b ∷ bytes) (v ∷ vs) r below front n m k at is =
-      others_go Narrow maxval front n (length vs + m) k v more at (at + 1) (b ∷ (bytes ++ rest)) (bytes ++ rest) (omega arith) (narrow_good maxval at k more (bytes ++ rest) b v r.0 below.0)
-      ∙ narrow_together bytes vs r.1 below.1 (front ++ v ∷ []) (length vs + m) m (k + 1) (at + 1) refl
-      ∙ same_others Narrow maxval more rest ((front ++ v ∷ []) ++ vs) (front ++ v ∷ vs) m m ((k + 1) + length vs) (k + length (v ∷ vs)) ((at + 1) + length bytes) (at + length (b ∷ bytes)) (append_assoc front (v ∷ []) vs) refl (omega arith) (omega arith)
-
-  wide_together : (bytes vs : List ℕ) → IsRaster true bytes vs → AllByRecursion (λ v. v ≤ maxval) vs → (front : List ℕ) (n m k at : ℕ) → n ≡ length vs + m
-      → and_others front Wide maxval n k more at (bytes ++ rest) ≡ and_others (front ++ vs) Wide maxval m (k + length vs) more (at + length bytes) rest
-  wide_together [] [] r below front n m k at is = same_others Wide maxval more rest front (front ++ []) n m k (k + 0) at (at + 0) (sym (append-nil front)) (omega arith) (omega arith) (omega arith)
-  wide_together (b ∷ bytes) [] r below front n m k at is = absurd cc
-  wide_together [] (v ∷ vs) r below front n m k at is = absurd r
-  wide_together (b ∷ []) (v ∷ vs) r below front n m k at is = absurd r
-  wide_together (b ∷ d ∷ bytes) (v ∷ vs) r below front n m k at is =
-      others_go Wide maxval front n (length vs + m) k v more at (at + 2) (b ∷ d ∷ (bytes ++ rest)) (bytes ++ rest) (omega arith) (wide_good maxval at k more (bytes ++ rest) b d v r.0 below.0)
-      ∙ wide_together bytes vs r.1 below.1 (front ++ v ∷ []) (length vs + m) m (k + 1) (at + 2) refl
-      ∙ same_others Wide maxval more rest ((front ++ v ∷ []) ++ vs) (front ++ v ∷ vs) m m ((k + 1) + length vs) (k + length (v ∷ vs)) ((at + 2) + length bytes) (at + length (b ∷ d ∷ bytes)) (append_assoc front (v ∷ []) vs) refl (omega arith) (omega arith)
-
-  -- samples that stand together are read, and then the others
-  together : (form : SampleForm) (bytes vs : List ℕ) → AreTogether form bytes vs → AllByRecursion (λ v. v ≤ maxval) vs → (front : List ℕ) (n m k at : ℕ) → n ≡ length vs + m
-      → and_others front form maxval n k more at (bytes ++ rest) ≡ and_others (front ++ vs) form maxval m (k + length vs) more (at + length bytes) rest
-  together Narrow bytes vs are below front n m k at is = narrow_together bytes vs are below front n m k at is
-  together Wide bytes vs are below front n m k at is = wide_together bytes vs are below front n m k at is
-  together Digits bytes vs are below front n m k at is =
-      let size = ap length are.1 in
-      let gone = ap length are.0 in
-      ap (λ (b : List ℕ). and_others front Digits maxval n k more at (b ++ rest)) are.0
-      ∙ same_others Digits maxval more rest front (front ++ vs) n m k (k + length vs) at (at + length bytes) (sym (ap (λ (l : List ℕ). front ++ l) are.1 ∙ append-nil front)) (omega (arith, size)) (omega (arith, size)) (omega (arith, gone))
+-- samples that stand together are read, and then the others
+together : (maxval : ℕ) (more : Bool) (rest : List ℕ) (form : SampleForm) (bytes vs : List ℕ) → AreTogether form bytes vs → AllByRecursion (λ v. v ≤ maxval) vs → (front : List ℕ) (n m k at : ℕ) → n ≡ length vs + m
+    → and_others front form maxval n k more at (bytes ++ rest) ≡ and_others (front ++ vs) form maxval m (k + length vs) more (at + length bytes) rest
+together maxval more rest Narrow bytes [] are below front n m k at is = samples_over Narrow maxval more bytes [] rest are below tt front n m k at is
+together maxval more rest Narrow bytes (v ∷ vs) are below front n m k at is = samples_over Narrow maxval more bytes (v ∷ vs) rest are below tt front n m k at is
+together maxval more rest Wide bytes [] are below front n m k at is = samples_over Wide maxval more bytes [] rest are below tt front n m k at is
+together maxval more rest Wide bytes (v ∷ vs) are below front n m k at is = samples_over Wide maxval more bytes (v ∷ vs) rest are below tt front n m k at is
+together maxval more rest Digits bytes vs are below front n m k at is =
+    let size = ap length are.1 in
+    let gone = ap length are.0 in
+    ap (λ (b : List ℕ). and_others front Digits maxval n k more at (b ++ rest)) are.0
+    ∙ same_others Digits maxval more rest front (front ++ vs) n m k (k + length vs) at (at + length bytes) (sym (ap (λ (l : List ℕ). front ++ l) are.1 ∙ append-nil front)) (omega (arith, size)) (omega (arith, size)) (omega (arith, gone))
 
 -- ---- calls
 
@@ -106,13 +74,10 @@ part_goes c part r q e place within grows f = record {
       ap (r (goes_beyond c.limit c.at bytes) c.at) out ∙ f (goes_beyond c.limit c.at bytes) (take (c.limit - c.end) rest) ∙ ap (λ (m : ℕ). q (goes_beyond c.limit c.at bytes) m (take (c.limit - c.end) rest)) (sym place);
 }
 
-module _ (form : SampleForm) (maxval most : ℕ) (old new : List ℕ) (c : Call) (p : TakesPiece form maxval most old new c) where
-  pub piece_moves : Moves c
-  piece_moves = record { front = p.bytes; parts = p.parts; place = p.place; grows = p.grows }
-
+module _ {form : SampleForm} {maxval most : ℕ} {old new : List ℕ} {c : Call} (p : TakesPiece form maxval most old new c) where
   -- what is read after a piece
-  pub piece_goes : (n m k j : ℕ) → n ≡ length p.added + m → j ≡ k + length p.added → Goes c (and_others old form maxval n k) (and_others new form maxval m j)
-  piece_goes n m k j is next =
+  pub piece_goes : (m k : ℕ) {n j : ℕ} → n ≡ length p.added + m → j ≡ k + length p.added → Goes c (and_others old form maxval n k) (and_others new form maxval m j)
+  piece_goes m k {n} {j} is next =
       part_goes c p.bytes (and_others old form maxval n k) (and_others new form maxval m j) p.parts p.place p.within p.grows (λ more rest.
       together maxval more rest form p.bytes p.added p.are (recursion_from_All (λ v. v ≤ maxval) p.added p.below) old n m k c.at is
       ∙ same_others form maxval more rest (old ++ p.added) new m m (k + length p.added) j (c.at + length p.bytes) (c.at + length p.bytes) (sym p.gains) refl (sym next) refl)

@@ -1,291 +1,206 @@
--- A plane that is spelled so is read, and a first break is told.
-use Rattle.std.proofs.Common.{◌≡◌, ℕ, Bool, ◌+◌, ◌*◌, ◌≤◌, true, false, ◌⊎◌, List, [], ◌∷◌, ◌++◌, length, None, refl, sym, ap, subst, ◌∙◌, append_assoc, arith, inl, inr}
-use Rattle.pgm_planes.proofs.Words.{unless_more, list_all, and_parts, cases_lt, length-append, append_cancel_right, recursion_from_All, Role, PlaneFault, Magic, Form, Size, PhaseMaxval, SampleAbove, Short, Spelling, Raw, Plain, Digits, is_space, is_digit, is_gap, is_number, capped_number, begins, PlaneOf, HasMaxval, IsSize, AreNumbers, digit_of, HasHeader, IsPlaneEnd, IsPlaneText, SpellsPlane, IsPlaneIn, HasNoMagic, BreaksInHeader, BreaksAtMaxval, BreaksInRaster, HasEnded, IsAbove, IsShort, HasOtherMaxval, HasSizeBeyond, FirstBreak, ◌⟫◌, breaks, nothing, header_break, unless_broken, header_at, form_of, samples_at, end_at, raster_at, plane_at}
-use Rattle.pgm_planes.proofs.HeaderLemmas.{done, seen, seen_false, break_is, not_both, same_value, same_rest, blanks_again}
-use Rattle.pgm_planes.proofs.FieldLemmas.{spaced}
-use Rattle.pgm_planes.proofs.NumberLemmas.{last_number, header_record}
+-- A plane that is spelled so is read, and a first break is told; and where the end of the bytes is met, others are asked for.
+use Rattle.std.proofs.Common.{◌≡◌, ℕ, Bool, suc, ◌+◌, ◌*◌, ◌-◌, ◌≤◌, true, false, ◌⊎◌, List, [], ◌∷◌, ◌++◌, length, None, refl, sym, ap, subst, ◌∙◌, append_assoc, arith, inl, inr}
+use Rattle.pgm_planes.proofs.Words.{unless_more, All, list_all, and_parts, cases_lt, length-append, append_cancel_right, recursion_from_All, Role, PlaneFault, Magic, Form, Size, PhaseMaxval, SampleAbove, Short, Spelling, Raw, Plain, SampleForm, Digits, is_space, is_digit, is_gap, is_number, capped_number, begins, PlaneOf, HasMaxval, IsSize, AreNumbers, AreSamples, digit_of, HasHeader, IsPlaneEnd, IsPlaneText, SpellsPlane, IsPlaneIn, HasNoMagic, BreaksInHeader, BreaksAtMaxval, BreaksInRaster, IsAbove, IsShort, HasOtherMaxval, HasSizeBeyond, FirstBreak, AsksForMore, Reading, Reader, ◌⟫◌, ◌▸◌, pure, breaks, nothing, byte_at, octet_at, magic_at, HeaderOf, header_break, unless_broken, header_at, form_of, samples_at, sight_at, end_or, end_at, end_of, raster_at, plane_at}
+use Rattle.std.proofs.lemmas.List.{append-nil}
+use Rattle.pgm_planes.proofs.HeaderLemmas.{done, seen, seen_then, seen_behind, break_is, not_both, same_value, same_rest, blanks_again}
+use Rattle.pgm_planes.proofs.FieldLemmas.{spaced, split_space}
+use Rattle.pgm_planes.proofs.NumberLemmas.{header_record, header_pieces}
 use Rattle.pgm_planes.proofs.HeaderAgain.{header_again, header_breaks_again}
-use Rattle.pgm_planes.proofs.SampleLemmas.{heard, heard_false}
-use Rattle.pgm_planes.proofs.RasterLemmas.{AboveIn, above_again, short_again, bad_again, samples_again}
-use Rattle.pgm_planes.proofs.LimitLemmas.{limit_walk}
-use Rattle.pgm_planes.proofs.PlaneSteps.{after_header}
-use Rattle.pgm_planes.proofs.PlaneLemmas.{magic_walk, lead_of, lead_fits, are_samples, cut_is, ended_is}
-use Rattle.pgm_planes.proofs.PlaneWalk.{plane_behind, pixels_some, no_magic, plane_walk}
+use Rattle.pgm_planes.proofs.SampleLemmas.{Rastered, EndsSample, heard, heard_or, heard_then, samples_again, above_again, short_again, bad_again}
+use Rattle.pgm_planes.proofs.LimitLemmas.{size_told, maxval_told, kept, phase_told, form_told}
+use Rattle.pgm_planes.proofs.PlaneLemmas.{magic_again, spelling_cases, lead_of, front_of, front_then, samples_from, are_samples, cut_is, ended_is, digits_alone}
+pub use Rattle.pgm_planes.proofs.PlaneWalk.{pixels_some, plane_or_break}
+
+-- what is read of a plane after its header
+unfoldable after_header : Spelling → HeaderOf → Reader PlaneOf
+after_header spelling h = raster_at spelling h.maxval (h.width * h.height) ▸ λ vs. pure (record { width = h.width; height = h.height; maxval = h.maxval; samples = vs })
 
 -- ---- the header
 
 -- bytes whose header was read: what is read of them is what is read after it, where the limits are kept
-pub record HeaderOver (role : Role) (spelling : Spelling) (at : ℕ) (bytes : List ℕ) (w h m : ℕ) (behind : List ℕ) : Type 0 where
-  pub space : ℕ
-  pub rest : List ℕ
-  pub place : ℕ
-  pub start : ℕ
-  pub behind_is : behind ≡ space ∷ rest
-  pub spaces : is_space space ≡ true
-  pub start_is : at + length bytes ≡ start + length rest
-  pub text : List ℕ
-  pub whole : bytes ≡ 80 ∷ digit_of spelling ∷ text
-  pub header : header_at role false (at + 2) text ≡ unless_broken (header_break role w h m place) (done (header_record w h m) start rest)
-  pub reads : plane_at role false at bytes ≡ (unless_broken (header_break role w h m place) (done (header_record w h m) start rest) ⟫ λ header. after_header spelling header false)
-
-split_space : (bytes : List ℕ) → begins is_space bytes ≡ true → (space : ℕ) × (rest : List ℕ) × (bytes ≡ space ∷ rest) × (is_space space ≡ true)
-split_space [] h = absurd cc
-split_space (b ∷ bytes) h = (b, bytes, refl, h)
+record HeaderOver (role : Role) (spelling : Spelling) (at : ℕ) (bytes : List ℕ) (w h m place : ℕ) (behind : List ℕ) : Type 0 where
+  space : ℕ
+  rest : List ℕ
+  start : ℕ
+  behind_is : behind ≡ space ∷ rest
+  spaces : is_space space ≡ true
+  start_is : at + length bytes ≡ start + length behind
+  reads : (goes : Bool) → plane_at role goes at bytes ≡ (unless_broken (header_break role w h m place) (done (header_record w h m) (start + 1) rest) ⟫ λ header. after_header spelling header goes)
 
 module _ (role : Role) (spelling : Spelling) (at : ℕ) where
-  pieces_over : (sizes : List ℕ) (w h : ℕ) (gap digits : List ℕ) (s : ℕ) (more : List ℕ) → AreNumbers is_gap sizes (w ∷ h ∷ []) → is_gap gap ≡ true → is_number digits ≡ true → is_space s ≡ true
-      → plane_at role false at (80 ∷ digit_of spelling ∷ (sizes ++ (gap ++ (digits ++ (s ∷ more))))) ≡ (unless_broken (header_break role w h (capped_number digits) ((at + 2) + length (sizes ++ gap))) (done (header_record w h (capped_number digits)) ((at + 2) + length (sizes ++ (gap ++ (digits ++ (s ∷ []))))) more) ⟫ λ header. after_header spelling header false)
-  pieces_over sizes w h gap digits s more a g n k =
-      plane_behind role spelling at (sizes ++ (gap ++ (digits ++ (s ∷ more)))) ∙ rw (header_again false role (at + 2) sizes w h gap digits s more a g n k) refl
+  plane_behind : (goes : Bool) (rest : List ℕ) → plane_at role goes at (80 ∷ digit_of spelling ∷ rest) ≡ (header_at role goes (at + 2) rest ⟫ λ header. after_header spelling header goes)
+  unfolding plane_at after_header
+  plane_behind goes rest = rw (magic_again spelling goes at rest) refl
 
-  header_over : (bytes : List ℕ) (w h m : ℕ) (behind : List ℕ) → HasHeader spelling bytes w h m behind → HeaderOver role spelling at bytes w h m behind
-  header_over bytes w h m behind d =
-      let l = last_number is_gap d.numbers (w ∷ h ∷ []) m d.are in
-      let s = split_space behind d.space in
-      let text : List ℕ = l.front ++ (l.gap ++ (l.digits ++ (s.0 ∷ s.1))) in
-      let whole : bytes ≡ 80 ∷ digit_of spelling ∷ text
-      = d.whole ∙ ap (λ (t : List ℕ). 80 ∷ digit_of spelling ∷ t) (ap (λ (t : List ℕ). t ++ behind) l.parts ∙ append_assoc l.front (l.gap ++ l.digits) behind ∙ ap (λ (t : List ℕ). l.front ++ t) (append_assoc l.gap l.digits behind ∙ ap (λ (t : List ℕ). l.gap ++ (l.digits ++ t)) s.2)) in
-      let read = pieces_over l.front w h l.gap l.digits s.0 s.1 l.are l.is_a_gap l.is_a_number s.3 in
-      let start : ℕ = (at + 2) + length (l.front ++ (l.gap ++ (l.digits ++ (s.0 ∷ [])))) in
-      let place : ℕ = (at + 2) + length (l.front ++ l.gap) in
+  pieces_over : (bytes sizes : List ℕ) (w h m : ℕ) (gap digits behind : List ℕ) → bytes ≡ 80 ∷ digit_of spelling ∷ (sizes ++ (gap ++ (digits ++ behind))) → AreNumbers is_gap sizes (w ∷ h ∷ []) → is_gap gap ≡ true → is_number digits ≡ true → m ≡ capped_number digits → begins is_space behind ≡ true → HeaderOver role spelling at bytes w h m ((at + 2) + length (sizes ++ gap)) behind
+  pieces_over bytes sizes w h m gap digits behind whole a g n v b =
+      let s = split_space behind b in
+      let text : List ℕ = sizes ++ (gap ++ (digits ++ (s.0 ∷ s.1))) in
+      let start : ℕ = (at + 2) + length (sizes ++ (gap ++ digits)) in
+      let parted : bytes ≡ 80 ∷ digit_of spelling ∷ text = whole ∙ ap (λ (t : List ℕ). 80 ∷ digit_of spelling ∷ (sizes ++ (gap ++ (digits ++ t)))) s.2 in
       record {
         space = s.0;
         rest = s.1;
-        place = place;
         start = start;
         behind_is = s.2;
         spaces = s.3;
-        start_is = omega (arith, ap length whole, length-append l.front (l.gap ++ (l.digits ++ (s.0 ∷ s.1))), length-append l.gap (l.digits ++ (s.0 ∷ s.1)), length-append l.digits (s.0 ∷ s.1), length-append l.front (l.gap ++ (l.digits ++ (s.0 ∷ []))), length-append l.gap (l.digits ++ (s.0 ∷ [])), length-append l.digits (s.0 ∷ []));
-        text = text;
-        whole = whole;
-        header = header_again false role (at + 2) l.front w h l.gap l.digits s.0 s.1 l.are l.is_a_gap l.is_a_number s.3 ∙ ap (λ (k : ℕ). unless_broken (header_break role w h k place) (done (header_record w h k) start s.1)) (sym l.value);
-        reads = ap (plane_at role false at) whole ∙ read ∙ ap (λ (k : ℕ). unless_broken (header_break role w h k place) (done (header_record w h k) start s.1) ⟫ λ header. after_header spelling header false) (sym l.value);
+        start_is = omega (arith, ap length whole, length-append sizes (gap ++ (digits ++ behind)), length-append gap (digits ++ behind), length-append digits behind, length-append sizes (gap ++ digits), length-append gap digits);
+        reads = λ goes. ap (plane_at role goes at) parted ∙ plane_behind goes text ∙ rw (header_again goes role (at + 2) sizes w h gap digits s.0 s.1 a g n s.3, v) refl;
       }
 
-kept : (role : Role) (w h m place : ℕ) → IsSize w h → HasMaxval role m → header_break role w h m place ≡ None
-kept role w h m place s f = elim (limit_walk role w h m place) [
-  | inl l ↦ l.0
-  | inr b ↦ elim b [ inl z ↦ absurd (z.1 s) | inr k ↦ absurd (k.3.refused f) ]
-]
+  header_over : (bytes : List ℕ) (w h m : ℕ) (behind : List ℕ) → HasHeader spelling bytes w h m behind → (place : ℕ) × HeaderOver role spelling at bytes w h m place behind
+  header_over bytes w h m behind d =
+      let p = header_pieces spelling bytes w h m behind d in
+      ((at + 2) + length (p.sizes ++ p.gap), pieces_over bytes p.sizes w h m p.gap p.digits behind p.whole p.are p.is_a_gap p.is_a_number p.value d.space)
 
 -- ---- breaks before the raster
 
-magic_tells : (role : Role) (at : ℕ) (bytes : List ℕ) → HasNoMagic bytes → plane_at role false at bytes ≡ breaks Magic
-magic_tells role at bytes n = elim (magic_walk at bytes) [
-  | inl e ↦ no_magic role at bytes e.0
-  | inr s ↦ absurd (n s.0 s.1 s.2)
-]
+magic_tells : (goes : Bool) (role : Role) (at : ℕ) (bytes : List ℕ) → HasNoMagic bytes → (plane_at role goes at bytes ≡ breaks Magic) ⊎ ((goes ≡ true) × AsksForMore role bytes)
+unfolding plane_at magic_at octet_at byte_at
+magic_tells true role at [] n = inr (refl, inl (omega arith))
+magic_tells false role at [] n = inl refl
+magic_tells true role at (a ∷ []) n = inr (refl, inl (omega arith))
+magic_tells false role at (a ∷ []) n = inl refl
+magic_tells goes role at (a ∷ b ∷ bytes) n = inl (elim (spelling_cases a b) [ inl e ↦ rw e refl | inr s ↦ absurd (n s.0 bytes (rw (s.1, s.2) refl)) ])
 
-header_tells : (role : Role) (at : ℕ) (bytes rest : List ℕ) (place : ℕ) → at + length bytes ≡ place + length rest → BreaksInHeader bytes rest → plane_at role false at bytes ≡ breaks (Form place)
-header_tells role at bytes rest place e b =
-    let read = header_breaks_again false role (at + 2) b.numbers b.values b.part rest b.are b.stuck ∙ seen_false rest (breaks (Form ((at + 2) + length (b.numbers ++ b.part)))) in
+pub header_tells : (goes : Bool) (role : Role) (at : ℕ) (bytes rest : List ℕ) (place : ℕ) → at + length bytes ≡ place + length rest → BreaksInHeader bytes rest → plane_at role goes at bytes ≡ seen goes rest (breaks (Form place))
+header_tells goes role at bytes rest place e b =
     let same : (at + 2) + length (b.numbers ++ b.part) ≡ place
     = omega (arith, e, ap length b.whole, length-append b.numbers (b.part ++ rest), length-append b.part rest, length-append b.numbers b.part) in
-    ap (plane_at role false at) b.whole ∙ plane_behind role b.spelling at (b.numbers ++ (b.part ++ rest)) ∙ rw (read, same) refl
+    ap (plane_at role goes at) b.whole ∙ plane_behind role b.spelling at goes (b.numbers ++ (b.part ++ rest))
+    ∙ rw (header_breaks_again goes role (at + 2) b.numbers b.values b.part rest b.are b.stuck, same) (seen_then goes rest (breaks (Form place)) (λ header. after_header b.spelling header goes))
 
-size_tells : (role : Role) (at : ℕ) (bytes : List ℕ) (w h : ℕ) → HasSizeBeyond bytes w h → plane_at role false at bytes ≡ breaks (Size w h)
-size_tells role at bytes w h b =
-    let o = header_over role b.spelling at bytes w h b.maxval b.behind b.header in
-    elim (limit_walk role w h b.maxval o.place) [
-      | inl l ↦ absurd (b.beyond l.1)
-      | inr k ↦ elim k [ inl s ↦ o.reads ∙ rw s.0 refl | inr z ↦ absurd (b.beyond z.2) ]
-    ]
+pub size_tells : (goes : Bool) (role : Role) (at : ℕ) (bytes : List ℕ) (w h : ℕ) → HasSizeBeyond bytes w h → plane_at role goes at bytes ≡ breaks (Size w h)
+size_tells goes role at bytes w h b = let o = header_over role b.spelling at bytes w h b.maxval b.behind b.header in o.1.reads goes ∙ rw (size_told role w h b.maxval o.0 b.beyond) refl
 
-maxval_tells : (role : Role) (at : ℕ) (bytes : List ℕ) (m : ℕ) → HasOtherMaxval role bytes m → plane_at role false at bytes ≡ breaks (PhaseMaxval m)
-maxval_tells role at bytes m b =
+pub maxval_tells : (goes : Bool) (role : Role) (at : ℕ) (bytes : List ℕ) (m : ℕ) → HasOtherMaxval role bytes m → plane_at role goes at bytes ≡ breaks (PhaseMaxval m)
+maxval_tells goes role at bytes m b =
     let o = header_over role b.spelling at bytes b.width b.height m b.behind b.header in
-    elim (limit_walk role b.width b.height m o.place) [
-      | inl l ↦ absurd (b.other (subst (λ (r : Role). HasMaxval r m) b.phase l.2))
-      | inr k ↦ elim k [
-        | inl s ↦ absurd (s.1 b.size)
-        | inr z ↦ elim z.3.kind [
-          | inl y ↦ o.reads ∙ rw (z.1, y.2) refl
-          | inr n ↦ absurd (n.0 b.phase)
-        ]
-      ]
-    ]
+    o.1.reads goes ∙ rw (maxval_told role b.width b.height m o.0 b.size ∙ phase_told role m o.0 b.phase b.other) refl
 
-other_tells : (role : Role) (at : ℕ) (bytes rest : List ℕ) (place : ℕ) → at + length bytes ≡ place + length rest → BreaksAtMaxval role bytes rest → plane_at role false at bytes ≡ breaks (Form place)
-other_tells role at bytes rest place e b =
-    let s = split_space b.behind b.space in
-    let text : rest ≡ b.digits ++ (s.0 ∷ s.1) = b.maxval ∙ ap (λ (t : List ℕ). b.digits ++ t) s.2 in
-    let whole : bytes ≡ 80 ∷ digit_of b.spelling ∷ (b.numbers ++ (b.gap ++ (b.digits ++ (s.0 ∷ s.1)))) = b.whole ∙ ap (λ (t : List ℕ). 80 ∷ digit_of b.spelling ∷ (b.numbers ++ (b.gap ++ t))) text in
-    let read = pieces_over role b.spelling at b.numbers b.width b.height b.gap b.digits s.0 s.1 b.are b.is b.number s.3 in
-    let same : (at + 2) + length (b.numbers ++ b.gap) ≡ place
-    = omega (arith, e, ap length b.whole, length-append b.numbers (b.gap ++ rest), length-append b.gap rest, length-append b.numbers b.gap) in
-    elim (limit_walk role b.width b.height (capped_number b.digits) ((at + 2) + length (b.numbers ++ b.gap))) [
-      | inl l ↦ absurd (b.refused l.2)
-      | inr k ↦ elim k [
-        | inl z ↦ absurd (z.1 b.size)
-        | inr z ↦ elim z.3.kind [
-          | inl y ↦ absurd (b.other_role y.0)
-          | inr n ↦ ap (plane_at role false at) whole ∙ read ∙ rw (z.1, n.1, same) refl
-        ]
-      ]
-    ]
+pub other_tells : (goes : Bool) (role : Role) (at : ℕ) (bytes rest : List ℕ) (place : ℕ) → at + length bytes ≡ place + length rest → BreaksAtMaxval role bytes rest → plane_at role goes at bytes ≡ breaks (Form place)
+other_tells goes role at bytes rest place e b =
+    let whole = b.whole ∙ ap (λ (t : List ℕ). 80 ∷ digit_of b.spelling ∷ (b.numbers ++ (b.gap ++ t))) b.maxval in
+    let m : ℕ = capped_number b.digits in
+    let first : ℕ = (at + 2) + length (b.numbers ++ b.gap) in
+    let o = pieces_over role b.spelling at bytes b.numbers b.width b.height m b.gap b.digits b.behind whole b.are b.is b.number refl b.space in
+    let same : first ≡ place = omega (arith, e, ap length b.whole, length-append b.numbers (b.gap ++ rest), length-append b.gap rest, length-append b.numbers b.gap) in
+    o.reads goes ∙ rw (maxval_told role b.width b.height m first b.size ∙ form_told role m first b.other_role b.refused, same) refl
 
--- ---- breaks in the raster
+-- ---- the raster
 
-module _ (spelling : Spelling) (w h m start : ℕ) (rest : List ℕ) where
-  after_breaks : (f : PlaneFault) → samples_at (form_of spelling m) m (w * h) 0 false start rest ≡ breaks f → after_header spelling (header_record w h m) false start rest ≡ breaks f
-  unfolding after_header raster_at
-  after_breaks f e = rw e refl
+-- what is read of samples, and then of a plane
+abbrev then_end : Spelling → ℕ → ℕ → ℕ → Bool → Reading (List ℕ) → Reading PlaneOf
+then_end spelling w h m goes r = (r ⟫ λ vs. end_of spelling vs goes) ⟫ λ vs end rest. done (record { width = w; height = h; maxval = m; samples = vs }) end rest
 
-module _ (w h m start : ℕ) (rest vs : List ℕ) (end : ℕ) (others : List ℕ) where
-  after_end_breaks : (f : PlaneFault) → samples_at Digits m (w * h) 0 false start rest ≡ done vs end others → end_at false end others ≡ breaks f → after_header Plain (header_record w h m) false start rest ≡ breaks f
-  unfolding after_header raster_at
-  after_end_breaks f e g = rw (e, g) refl
+-- bytes with samples behind a good header: what is read of them is what is read of the samples
+record SamplesOver (role : Role) (spelling : Spelling) (at : ℕ) (bytes : List ℕ) (w h m : ℕ) (vs more : List ℕ) : Type 0 where
+  text : List ℕ
+  start : ℕ
+  are : Rastered (form_of spelling m) text vs
+  place : at + length bytes ≡ (start + length text) + length more
+  reads : (goes : Bool) → plane_at role goes at bytes ≡ then_end spelling w h m goes (samples_at (form_of spelling m) m (w * h) 0 goes start (text ++ more))
 
-  after_plain : (last : ℕ) (more : List ℕ) → samples_at Digits m (w * h) 0 false start rest ≡ done vs end others → end_at false end others ≡ done nothing last more → after_header Plain (header_record w h m) false start rest ≡ done (record { width = w; height = h; maxval = m; samples = vs }) last more
-  unfolding after_header raster_at
-  after_plain last more e g = rw (e, g) refl
+samples_first : (spelling : Spelling) (w h m n : ℕ) (goes : Bool) (start space : ℕ) (rest : List ℕ) → w * h ≡ suc n → is_space space ≡ true → after_header spelling (header_record w h m) goes (start + 1) rest ≡ then_end spelling w h m goes (samples_at (form_of spelling m) m (w * h) 0 goes (start + length (front_of spelling space)) (lead_of spelling space ++ rest))
+unfolding after_header raster_at
+samples_first spelling w h m n goes start space rest e s = rw (e, samples_from spelling m n goes start space rest s) refl
 
-  after_raw : samples_at (form_of Raw m) m (w * h) 0 false start rest ≡ done vs end others → after_header Raw (header_record w h m) false start rest ≡ done (record { width = w; height = h; maxval = m; samples = vs }) end others
-  unfolding after_header raster_at
-  after_raw e = rw e refl
-
--- the magic was taken, and this is read of the header after it
-pub record GoodHeader (role : Role) (spelling : Spelling) (at : ℕ) (bytes : List ℕ) (w h m start : ℕ) (rest : List ℕ) : Type 0 where
-  pub text : List ℕ
-  pub whole : bytes ≡ 80 ∷ digit_of spelling ∷ text
-  pub header : header_at role false (at + 2) text ≡ done (header_record w h m) start rest
-
--- bytes with good samples: the header was read and its limits are kept
-pub record GoodOver (role : Role) (spelling : Spelling) (at : ℕ) (bytes : List ℕ) (w h m : ℕ) (behind : List ℕ) : Type 0 where
-  pub space : ℕ
-  pub rest : List ℕ
-  pub start : ℕ
-  pub behind_is : behind ≡ space ∷ rest
-  pub spaces : is_space space ≡ true
-  pub start_is : at + length bytes ≡ start + length rest
-  pub good : GoodHeader role spelling at bytes w h m start rest
-  pub reads : plane_at role false at bytes ≡ after_header spelling (header_record w h m) false start rest
-
-pub good_over : (role : Role) (spelling : Spelling) (at : ℕ) (bytes : List ℕ) (w h m : ℕ) (behind : List ℕ) → HasHeader spelling bytes w h m behind → IsSize w h → HasMaxval role m → GoodOver role spelling at bytes w h m behind
-good_over role spelling at bytes w h m behind d s f =
-    let o = header_over role spelling at bytes w h m behind d in
-    record { space = o.space; rest = o.rest; start = o.start; behind_is = o.behind_is; spaces = o.spaces; start_is = o.start_is; good = record { text = o.text; whole = o.whole; header = o.header ∙ rw (kept role w h m o.place s f) refl }; reads = o.reads ∙ rw (kept role w h m o.place s f) refl }
-
--- the header before a sample that is above maxval was read, and the sample is above in what follows
-pub record AboveOver (role : Role) (at : ℕ) (bytes : List ℕ) (index value : ℕ) (b : IsAbove role bytes index value) : Type 0 where
-  pub over : GoodOver role b.spelling at bytes b.good.width b.good.height b.maxval (b.samples ++ b.rest)
-  pub above : AboveIn (form_of b.spelling b.maxval) b.maxval (b.good.width * b.good.height) 0 (lead_of b.spelling over.space ++ over.rest) (SampleAbove index value)
-  pub rest_is : above.rest ≡ b.rest
-
-pub above_over : (role : Role) (at : ℕ) (bytes : List ℕ) (index value : ℕ) (b : IsAbove role bytes index value) → AboveOver role at bytes index value b
-above_over role at bytes index value b =
-    let g = b.good in
-    let o = good_over role b.spelling at bytes g.width g.height b.maxval (b.samples ++ b.rest) g.header g.size g.fits in
-    let a = are_samples b.spelling b.maxval b.samples (b.values ++ value ∷ []) b.rest o.space o.rest b.are o.behind_is in
+samples_over : (role : Role) (spelling : Spelling) (at : ℕ) (bytes : List ℕ) (w h m : ℕ) (samples vs more : List ℕ) → HasHeader spelling bytes w h m (samples ++ more) → IsSize w h → HasMaxval role m → AreSamples spelling m samples vs → SamplesOver role spelling at bytes w h m vs more
+samples_over role spelling at bytes w h m samples vs more d s f a =
+    let o = (header_over role spelling at bytes w h m (samples ++ more) d).1 in
+    let place = (header_over role spelling at bytes w h m (samples ++ more) d).0 in
+    let t = are_samples spelling m samples vs more o.space o.rest a o.behind_is in
+    let front : List ℕ = front_of spelling o.space in
+    let one = pixels_some w h s in
+    let first : samples ++ more ≡ front ++ (t.0 ++ more) = o.behind_is ∙ sym (front_then spelling o.space o.rest) ∙ ap (λ (x : List ℕ). front ++ x) t.2 in
+    let count : w * h ≡ suc (w * h - 1) = omega (arith, one) in
     record {
-      over = o;
-      above = record {
-        samples = a.0;
-        values = b.values;
-        value = value;
-        rest = b.rest;
-        parts = a.2;
-        are = a.1;
-        ends = ended_is b.spelling b.maxval b.rest b.ended;
-        below = recursion_from_All (λ v. v ≤ b.maxval) b.values g.below;
-        some = omega (arith, b.some, b.place, g.pixels_are);
-        above = b.above;
-        fault = ap (λ (i : ℕ). SampleAbove i value) (omega (arith, b.place));
-      };
-      rest_is = refl;
+      text = t.0;
+      start = o.start + length front;
+      are = t.1;
+      place = omega (arith, o.start_is, ap length first, length-append front (t.0 ++ more), length-append t.0 more);
+      reads = λ goes. o.reads goes ∙ rw (maxval_told role w h m place s ∙ kept role m place f) (samples_first spelling w h m (w * h - 1) goes o.start o.space o.rest count o.spaces ∙ ap (λ (x : List ℕ). then_end spelling w h m goes (samples_at (form_of spelling m) m (w * h) 0 goes (o.start + length front) x)) t.2);
     }
 
-pub above_read : (goes : Bool) (role : Role) (at : ℕ) (bytes : List ℕ) (index value : ℕ) (b : IsAbove role bytes index value) (t : AboveOver role at bytes index value b) → samples_at (form_of b.spelling b.maxval) b.maxval (b.good.width * b.good.height) 0 goes t.over.start t.over.rest ≡ heard (form_of b.spelling b.maxval) goes t.above.rest (breaks (SampleAbove index value))
-above_read goes role at bytes index value b t =
-    above_again goes (form_of b.spelling b.maxval) b.maxval (b.good.width * b.good.height) 0 t.over.start (lead_of b.spelling t.over.space) t.over.rest (SampleAbove index value) (lead_fits b.spelling b.maxval t.over.space t.over.rest t.over.spaces) t.above
+-- what asks or breaks ends the plane
+module _ (spelling : Spelling) (w h m : ℕ) (goes : Bool) (fault : PlaneFault) where
+  heard_end : (form : SampleForm) (rest : List ℕ) → then_end spelling w h m goes (heard form goes rest (breaks fault)) ≡ heard form goes rest (breaks fault)
+  heard_end form rest = ap (λ (r : Reading (List ℕ)). r ⟫ λ vs end rest. done (record { width = w; height = h; maxval = m; samples = vs }) end rest) (heard_then form goes rest (breaks fault) (λ vs. end_of spelling vs goes)) ∙ heard_then form goes rest (breaks fault) (λ vs end rest. done (record { width = w; height = h; maxval = m; samples = vs }) end rest)
 
-above_tells : (role : Role) (at : ℕ) (bytes : List ℕ) (index value : ℕ) → IsAbove role bytes index value → plane_at role false at bytes ≡ breaks (SampleAbove index value)
-above_tells role at bytes index value b =
-    let t = above_over role at bytes index value b in
-    t.over.reads ∙ after_breaks b.spelling b.good.width b.good.height b.maxval t.over.start t.over.rest (SampleAbove index value) (above_read false role at bytes index value b t ∙ heard_false (form_of b.spelling b.maxval) t.above.rest (breaks (SampleAbove index value)))
-
--- the header before samples that are missing was read, and they are missing in what follows
-pub record ShortOver (role : Role) (at : ℕ) (bytes : List ℕ) (found : ℕ) (b : IsShort role bytes found) : Type 0 where
-  pub over : GoodOver role b.spelling at bytes b.good.width b.good.height b.maxval (b.samples ++ b.part)
-  pub samples : (goes : Bool) → samples_at (form_of b.spelling b.maxval) b.maxval (b.good.width * b.good.height) 0 goes over.start over.rest ≡ unless_more goes (breaks (Short found))
-
-pub short_over : (role : Role) (at : ℕ) (bytes : List ℕ) (found : ℕ) (b : IsShort role bytes found) → ShortOver role at bytes found b
-short_over role at bytes found b =
+pub above_tells : (goes : Bool) (role : Role) (at : ℕ) (bytes : List ℕ) (index value : ℕ) (b : IsAbove role bytes index value) → plane_at role goes at bytes ≡ heard (form_of b.spelling b.maxval) goes b.rest (breaks (SampleAbove index value))
+above_tells goes role at bytes index value b =
     let g = b.good in
-    let o = good_over role b.spelling at bytes g.width g.height b.maxval (b.samples ++ b.part) g.header g.size g.fits in
-    let a = are_samples b.spelling b.maxval b.samples b.values b.part o.space o.rest b.are o.behind_is in
-    record {
-      over = o;
-      samples = λ goes. short_again goes (form_of b.spelling b.maxval) b.maxval (g.width * g.height) 0 o.start (lead_of b.spelling o.space) o.rest (Short found) (lead_fits b.spelling b.maxval o.space o.rest o.spaces) (record {
-        samples = a.0;
-        values = b.values;
-        part = b.part;
-        parts = a.2;
-        are = a.1;
-        cut = cut_is b.spelling b.maxval b.part b.cut;
-        below = recursion_from_All (λ v. v ≤ b.maxval) b.values g.below;
-        some = omega (arith, b.some, b.count, g.pixels_are);
-        fault = ap Short (omega (arith, b.count));
-      });
-    }
+    let form = form_of b.spelling b.maxval in
+    let o = samples_over role b.spelling at bytes g.width g.height b.maxval b.samples (b.values ++ value ∷ []) b.rest g.header g.size g.fits b.are in
+    o.reads goes
+    ∙ ap (then_end b.spelling g.width g.height b.maxval goes) (above_again form b.maxval goes (g.width * g.height) 0 o.start o.text b.values value b.rest o.are (recursion_from_All (λ v. v ≤ b.maxval) b.values g.below) (ended_is b.spelling b.maxval b.rest b.ended) (omega (arith, b.some, b.place, g.pixels_are)) b.above)
+    ∙ heard_end b.spelling g.width g.height b.maxval goes (SampleAbove (0 + length b.values) value) form b.rest
+    ∙ ap (λ (i : ℕ). heard form goes b.rest (breaks (SampleAbove i value))) (omega (arith, b.place))
 
-short_tells : (role : Role) (at : ℕ) (bytes : List ℕ) (found : ℕ) → IsShort role bytes found → plane_at role false at bytes ≡ breaks (Short found)
-short_tells role at bytes found b =
-    let t = short_over role at bytes found b in
-    t.over.reads ∙ after_breaks b.spelling b.good.width b.good.height b.maxval t.over.start t.over.rest (Short found) (t.samples false)
+pub short_tells : (goes : Bool) (role : Role) (at : ℕ) (bytes : List ℕ) (found : ℕ) → IsShort role bytes found → plane_at role goes at bytes ≡ unless_more goes (breaks (Short found))
+short_tells goes role at bytes found b =
+    let g = b.good in
+    let o = samples_over role b.spelling at bytes g.width g.height b.maxval b.samples b.values b.part g.header g.size g.fits b.are in
+    o.reads goes
+    ∙ ap (then_end b.spelling g.width g.height b.maxval goes) (short_again (form_of b.spelling b.maxval) b.maxval goes (g.width * g.height) 0 o.start o.text b.values b.part o.are (recursion_from_All (λ v. v ≤ b.maxval) b.values g.below) (cut_is b.spelling b.maxval b.part b.cut) (omega (arith, b.some, b.count, g.pixels_are)))
+    ∙ heard_end b.spelling g.width g.height b.maxval goes (Short (0 + length b.values)) Digits []
+    ∙ ap (λ (i : ℕ). unless_more goes (breaks (Short i))) (omega (arith, b.count))
 
-no_end : (at b : ℕ) (rest : List ℕ) → is_space b ≡ false → end_at false at (b ∷ rest) ≡ breaks (Form at)
-unfolding end_at
-no_end at b rest n = rw n refl
+-- samples that were all read, and what is read at their end
+module _ (goes : Bool) (role : Role) (spelling : Spelling) (at : ℕ) (bytes : List ℕ) (w h m : ℕ) (vs more : List ℕ) (o : SamplesOver role spelling at bytes w h m vs more) (size : IsSize w h) (count : length vs ≡ w * h) (below : All (λ v. v ≤ m) vs) (ends : EndsSample (form_of spelling m) more) where
+  all_over : plane_at role goes at bytes ≡ then_end spelling w h m goes (heard (form_of spelling m) goes more (done vs (o.start + length o.text) more))
+  all_over = o.reads goes ∙ ap (then_end spelling w h m goes) (ap (λ (n : ℕ). samples_at (form_of spelling m) m n 0 goes o.start (o.text ++ more)) (sym count)
+      ∙ samples_again (form_of spelling m) m goes 0 o.start o.text vs more o.are (recursion_from_All (λ v. v ≤ m) vs below) ends (let one = pixels_some w h size in omega (arith, one, count)))
 
-module _ (role : Role) (at : ℕ) (bytes rest : List ℕ) (place : ℕ) (e : at + length bytes ≡ place + length rest) (b : BreaksInRaster role bytes rest) where
-  raster_tells : plane_at role false at bytes ≡ breaks (Form place)
-  raster_tells =
-      let g = b.good in
-      let o = good_over role Plain at bytes g.width g.height b.maxval (b.samples ++ (b.blank ++ rest)) g.header g.size g.fits in
-      let below = recursion_from_All (λ v. v ≤ b.maxval) b.values g.below in
-      let fits = lead_fits Plain b.maxval o.space o.rest o.spaces in
-      elim (cases_lt (length b.values) b.pixels) [
-        | inl lt ↦ o.reads ∙ after_breaks Plain g.width g.height b.maxval o.start o.rest (Form place)
-            (bad_again false Digits b.maxval (g.width * g.height) 0 o.start (o.space ∷ []) o.rest (Form place) fits (record {
-              samples = b.samples;
-              values = b.values;
-              from = b.blank ++ rest;
-              place = place;
-              digits = refl;
-              parts = sym o.behind_is;
-              are = b.are;
-              bad = record { blank = b.blank; byte = b.byte; behind = b.behind; parts = ap (λ (t : List ℕ). b.blank ++ t) b.stands; blanks = b.blanks; no_space = b.no_space; no_digit = b.no_digit; place_is = sym o.start_is ∙ e ∙ ap (λ (t : List ℕ). place + length t) b.stands };
-              below = below;
-              some = omega (arith, lt, g.pixels_are);
-              fault = refl;
-            }))
-        | inr ge ↦
-            let all : length b.values ≡ b.pixels = omega (arith, b.some) in
-            let count : length b.values ≡ g.width * g.height = all ∙ g.pixels_are in
-            let more : b.blank ++ rest ≡ b.byte ∷ b.behind = ap (λ (t : List ℕ). t ++ rest) (b.last all) ∙ b.stands in
-            let one : 1 ≤ length b.values = let p = pixels_some g.width g.height g.size in omega (arith, p, count) in
-            let s = samples_again Digits b.maxval 0 o.start (o.space ∷ []) o.rest b.samples b.values (b.byte ∷ b.behind) b.are (sym o.behind_is ∙ ap (λ (t : List ℕ). b.samples ++ t) more) fits b.no_digit below one in
-            let same : s.0 ≡ place = omega (arith, s.1, o.start_is, e, ap length b.stands) in
-            o.reads ∙ after_end_breaks g.width g.height b.maxval o.start o.rest b.values s.0 (b.byte ∷ b.behind) (Form place)
-            (ap (λ (n : ℕ). samples_at Digits b.maxval n 0 false o.start o.rest) (sym count) ∙ s.2 false)
-            (no_end s.0 b.byte b.behind b.no_space ∙ ap (λ (n : ℕ). breaks (Form n)) same)
-      ]
+end_breaks : (w h m : ℕ) (goes : Bool) (vs : List ℕ) (at byte : ℕ) (behind more : List ℕ) → more ≡ byte ∷ behind → is_space byte ≡ false → then_end Plain w h m goes (heard Digits goes more (done vs at more)) ≡ breaks (Form at)
+unfolding end_at sight_at
+end_breaks w h m goes vs at byte behind more e n = rw (e, n) refl
 
--- where the bytes have a first break the reader tells it
-pub break_told : (role : Role) (at : ℕ) (bytes : List ℕ) (f : PlaneFault) → FirstBreak role at bytes f → plane_at role false at bytes ≡ breaks f
-break_told role at bytes Magic b = magic_tells role at bytes b
-break_told role at bytes (Form place) b = elim b.2 [
-  | inl h ↦ header_tells role at bytes b.0 place b.1 h
-  | inr c ↦ elim c [
-    | inl m ↦ other_tells role at bytes b.0 place b.1 m
-    | inr r ↦ raster_tells role at bytes b.0 place b.1 r
+pub raster_tells : (goes : Bool) (role : Role) (at : ℕ) (bytes rest : List ℕ) (place : ℕ) → at + length bytes ≡ place + length rest → BreaksInRaster role bytes rest → plane_at role goes at bytes ≡ breaks (Form place)
+raster_tells goes role at bytes rest place e b =
+    let g = b.good in
+    let tail : List ℕ = b.blank ++ (b.byte ∷ b.behind) in
+    let stands : b.blank ++ rest ≡ tail = ap (λ (t : List ℕ). b.blank ++ t) b.stands in
+    let header = subst (λ (t : List ℕ). HasHeader Plain bytes g.width g.height b.maxval (b.samples ++ t)) stands g.header in
+    let o = samples_over role Plain at bytes g.width g.height b.maxval b.samples b.values tail header g.size g.fits b.are in
+    elim (cases_lt (length b.values) b.pixels) [
+      | inl lt ↦
+          let same : (o.start + length o.text) + length b.blank ≡ place = omega (arith, o.place, e, ap length b.stands, length-append b.blank (b.byte ∷ b.behind)) in
+          o.reads goes
+          ∙ ap (then_end Plain g.width g.height b.maxval goes) (bad_again b.maxval goes (g.width * g.height) 0 o.start o.text b.values b.blank b.byte b.behind o.are (recursion_from_All (λ v. v ≤ b.maxval) b.values g.below) b.blanks b.no_space b.no_digit (omega (arith, lt, g.pixels_are)))
+          ∙ ap (λ (n : ℕ). breaks (Form n)) same
+      | inr ge ↦
+          let all : length b.values ≡ b.pixels = omega (arith, b.some) in
+          let none : tail ≡ b.byte ∷ b.behind = ap (λ (t : List ℕ). t ++ (b.byte ∷ b.behind)) (b.last all) in
+          let same : o.start + length o.text ≡ place = omega (arith, o.place, e, ap length b.stands, ap length none) in
+          all_over goes role Plain at bytes g.width g.height b.maxval b.values tail o g.size (all ∙ g.pixels_are) g.below (ap (begins is_digit) none ∙ b.no_digit)
+          ∙ end_breaks g.width g.height b.maxval goes b.values (o.start + length o.text) b.byte b.behind tail none b.no_space
+          ∙ ap (λ (n : ℕ). breaks (Form n)) same
+    ]
+
+-- where the bytes have a first break the reader tells it, or asks for more where they are judged at their end
+pub fault_reads : (goes : Bool) (role : Role) (at : ℕ) (bytes : List ℕ) (f : PlaneFault) → FirstBreak role at bytes f → (plane_at role goes at bytes ≡ breaks f) ⊎ ((goes ≡ true) × AsksForMore role bytes)
+fault_reads goes role at bytes Magic b = magic_tells goes role at bytes b
+fault_reads goes role at bytes (Form place) b = elim b.2 [
+  | inl h ↦ elim (heard_or {A = PlaneOf} Digits goes b.0 (breaks (Form place))) [
+    | inl e ↦ inl (header_tells goes role at bytes b.0 place b.1 h ∙ e)
+    | inr k ↦ inr (k.0, inr (inl (subst (BreaksInHeader bytes) k.2 h)))
   ]
+  | inr c ↦ inl (elim c [ inl m ↦ other_tells goes role at bytes b.0 place b.1 m | inr r ↦ raster_tells goes role at bytes b.0 place b.1 r ])
 ]
-break_told role at bytes (Size w h) b = size_tells role at bytes w h b
-break_told role at bytes (PhaseMaxval m) b = maxval_tells role at bytes m b
-break_told role at bytes (SampleAbove index value) b = above_tells role at bytes index value b
-break_told role at bytes (Short found) b = short_tells role at bytes found b
+fault_reads goes role at bytes (Size w h) b = inl (size_tells goes role at bytes w h b)
+fault_reads goes role at bytes (PhaseMaxval m) b = inl (maxval_tells goes role at bytes m b)
+fault_reads goes role at bytes (SampleAbove index value) b = elim (heard_or {A = PlaneOf} (form_of b.spelling b.maxval) goes b.rest (breaks (SampleAbove index value))) [
+  | inl e ↦ inl (above_tells goes role at bytes index value b ∙ e)
+  | inr k ↦ inr (k.0, inr (inr (inr (inl (record { index = index; value = value; sample = b; plain = digits_alone b.spelling b.maxval k.1; ended = k.2 })))))
+]
+fault_reads goes role at bytes (Short found) b = elim (heard_or {A = PlaneOf} Digits goes [] (breaks (Short found))) [
+  | inl e ↦ inl (short_tells goes role at bytes found b ∙ e)
+  | inr k ↦ inr (k.0, inr (inr (inl (found, b))))
+]
+
+pub break_told : (role : Role) (at : ℕ) (bytes : List ℕ) (f : PlaneFault) → FirstBreak role at bytes f → plane_at role false at bytes ≡ breaks f
+break_told role at bytes f b = elim (fault_reads false role at bytes f b) [ inl e ↦ e | inr k ↦ absurd (let x = k.0 in cc) ]
 
 -- ---- a plane
 
@@ -293,31 +208,30 @@ end_begins : (blank rest : List ℕ) → list_all is_space blank ≡ true → (b
 end_begins [] rest a n = rw (n refl) refl
 end_begins (b ∷ blank) rest a n = spaced (b ∷ (blank ++ rest)) (and_parts (is_space b) (list_all is_space blank) a).0
 
-end_ended : (spelling : Spelling) (blank rest : List ℕ) → IsPlaneEnd spelling blank rest → HasEnded spelling (blank ++ rest)
-end_ended Raw blank rest e = tt
-end_ended Plain blank rest e = end_begins blank rest e.0 e.2
+end_ended : (spelling : Spelling) (m : ℕ) (blank rest : List ℕ) → IsPlaneEnd spelling blank rest → EndsSample (form_of spelling m) (blank ++ rest)
+end_ended Raw m blank rest e = ended_is Raw m (blank ++ rest) tt
+end_ended Plain m blank rest e = end_begins blank rest e.0 e.2
 
-pub end_of_blanks : (goes : Bool) (at : ℕ) (blank rest : List ℕ) → list_all is_space blank ≡ true → begins is_space rest ≡ false → (blank ≡ [] → rest ≡ []) → end_at goes at (blank ++ rest) ≡ seen goes rest (done nothing (at + length blank) rest)
-unfolding end_at
-end_of_blanks goes at [] rest a s n = rw (n refl) (blanks_again goes at [] [] refl refl)
+end_of_blanks : (goes : Bool) (at : ℕ) (blank rest : List ℕ) → list_all is_space blank ≡ true → begins is_space rest ≡ false → (blank ≡ [] → rest ≡ []) → end_at goes at (blank ++ rest) ≡ seen goes rest (done nothing (at + length blank) rest)
+unfolding end_at sight_at
+end_of_blanks goes at [] rest a s n = let place : at + 0 ≡ at = omega arith in rw (n refl, place) (seen_then goes [] (done None at []) (λ g. end_or at g goes))
 end_of_blanks goes at (b ∷ blank) rest a s n = rw (and_parts (is_space b) (list_all is_space blank) a).0 (blanks_again goes at (b ∷ blank) rest a s)
+
+end_again : (spelling : Spelling) (w h m : ℕ) (goes : Bool) (vs : List ℕ) (at : ℕ) (blank rest : List ℕ) → IsPlaneEnd spelling blank rest → then_end spelling w h m goes (heard (form_of spelling m) goes (blank ++ rest) (done vs at (blank ++ rest))) ≡ heard (form_of spelling m) goes rest (done (record { width = w; height = h; maxval = m; samples = vs }) (at + length blank) rest)
+end_again Raw w h m goes vs at blank rest e =
+    let place : at + 0 ≡ at = omega arith in
+    rw (e, place) (ap (λ (r : Reading (List ℕ)). r ⟫ λ vs end rest. done (record { width = w; height = h; maxval = m; samples = vs }) end rest) (heard_then (form_of Raw m) goes rest (done vs at rest) (λ vs. end_of Raw vs goes)) ∙ heard_then (form_of Raw m) goes rest (done vs at rest) (λ vs end rest. done (record { width = w; height = h; maxval = m; samples = vs }) end rest))
+end_again Plain w h m goes vs at blank rest e =
+    let p : PlaneOf = record { width = w; height = h; maxval = m; samples = vs } in
+    ap (λ (r : Reading (List ℕ)). r ⟫ λ vs end rest. done (record { width = w; height = h; maxval = m; samples = vs }) end rest) (seen_behind goes blank rest (done vs at (blank ++ rest)) (λ vs. end_of Plain vs goes) (done vs (at + length blank) rest) (rw (end_of_blanks goes at blank rest e.0 e.1 e.2) (seen_then goes rest (done nothing (at + length blank) rest) (λ _. pure vs goes))))
+    ∙ seen_then goes rest (done vs (at + length blank) rest) (λ vs end rest. done (record { width = w; height = h; maxval = m; samples = vs }) end rest)
 
 begins_more : (xs ys : List ℕ) → begins is_space xs ≡ true → begins is_space (xs ++ ys) ≡ true
 begins_more [] ys h = absurd cc
 begins_more (x ∷ xs) ys h = h
 
--- the bytes are the header's, the samples, the end and then others
-pub record PlaneOver (role : Role) (spelling : Spelling) (at : ℕ) (bytes : List ℕ) (w h m : ℕ) (vs blank rest : List ℕ) : Type 0 where
-  pub start : ℕ
-  pub others : List ℕ
-  pub end : ℕ
-  pub good : GoodHeader role spelling at bytes w h m start others
-  pub reads : plane_at role false at bytes ≡ after_header spelling (header_record w h m) false start others
-  pub samples : (goes : Bool) → samples_at (form_of spelling m) m (w * h) 0 goes start others ≡ heard (form_of spelling m) goes (blank ++ rest) (done vs end (blank ++ rest))
-  pub place : at + length bytes ≡ end + length (blank ++ rest)
-
-pub plane_over : (role : Role) (spelling : Spelling) (at : ℕ) (text : List ℕ) (p : PlaneOf) (rest : List ℕ) (t : IsPlaneText spelling role text p rest) → PlaneOver role spelling at (text ++ rest) p.width p.height p.maxval p.samples t.end rest
-plane_over role spelling at text p rest t =
+pub plane_again : (goes : Bool) (role : Role) (spelling : Spelling) (at : ℕ) (text : List ℕ) (p : PlaneOf) (rest : List ℕ) → IsPlaneText spelling role text p rest → plane_at role goes at (text ++ rest) ≡ heard (form_of spelling p.maxval) goes rest (done p (at + length text) rest)
+plane_again goes role spelling at text p rest t =
     let d = t.header in
     let regroup : (t.samples ++ t.end) ++ rest ≡ t.samples ++ (t.end ++ rest) = append_assoc t.samples t.end rest in
     let header : HasHeader spelling (text ++ rest) p.width p.height p.maxval (t.samples ++ (t.end ++ rest)) = record {
@@ -326,36 +240,23 @@ plane_over role spelling at text p rest t =
       are = d.are;
       space = ap (begins is_space) (sym regroup) ∙ begins_more (t.samples ++ t.end) rest d.space;
     } in
-    let o = good_over role spelling at (text ++ rest) p.width p.height p.maxval (t.samples ++ (t.end ++ rest)) header t.plane.size t.plane.maxval in
-    let a = are_samples spelling p.maxval t.samples p.samples (t.end ++ rest) o.space o.rest t.raster o.behind_is in
-    let one : 1 ≤ length p.samples = let k = pixels_some p.width p.height t.plane.size in omega (arith, k, t.plane.count) in
-    let s = samples_again (form_of spelling p.maxval) p.maxval 0 o.start (lead_of spelling o.space) o.rest a.0 p.samples (t.end ++ rest) a.1 a.2 (lead_fits spelling p.maxval o.space o.rest o.spaces) (ended_is spelling p.maxval (t.end ++ rest) (end_ended spelling t.end rest t.ended)) (recursion_from_All (λ v. v ≤ p.maxval) p.samples t.plane.samples) one in
-    record {
-      start = o.start;
-      others = o.rest;
-      end = s.0;
-      good = o.good;
-      reads = o.reads;
-      samples = λ goes. ap (λ (n : ℕ). samples_at (form_of spelling p.maxval) p.maxval n 0 goes o.start o.rest) (sym t.plane.count) ∙ s.2 goes;
-      place = o.start_is ∙ s.1;
-    }
+    let o = samples_over role spelling at (text ++ rest) p.width p.height p.maxval t.samples p.samples (t.end ++ rest) header t.plane.size t.plane.maxval t.raster in
+    let last : (o.start + length o.text) + length t.end ≡ at + length text = omega (arith, o.place, length-append text rest, length-append t.end rest) in
+    all_over goes role spelling at (text ++ rest) p.width p.height p.maxval p.samples (t.end ++ rest) o t.plane.size t.plane.count t.plane.samples (end_ended spelling p.maxval t.end rest t.ended)
+    ∙ end_again spelling p.width p.height p.maxval goes p.samples (o.start + length o.text) t.end rest t.ended
+    ∙ ap (λ (n : ℕ). heard (form_of spelling p.maxval) goes rest (done p n rest)) last
 
-plane_by : (role : Role) (spelling : Spelling) (at : ℕ) (text : List ℕ) (p : PlaneOf) (rest : List ℕ) → IsPlaneText spelling role text p rest → plane_at role false at (text ++ rest) ≡ done p (at + length text) rest
-plane_by role Raw at text p rest t =
-    let o = plane_over role Raw at text p rest t in
-    let tail : t.end ++ rest ≡ rest = ap (λ (x : List ℕ). x ++ rest) t.ended in
-    let last : o.end ≡ at + length text = omega (arith, o.place, length-append text rest, ap length tail) in
-    o.reads ∙ after_raw p.width p.height p.maxval o.start o.others p.samples o.end (t.end ++ rest) (o.samples false ∙ heard_false (form_of Raw p.maxval) (t.end ++ rest) (done p.samples o.end (t.end ++ rest))) ∙ rw (tail, last) refl
-plane_by role Plain at text p rest t =
-    let o = plane_over role Plain at text p rest t in
-    let last : o.end + length t.end ≡ at + length text = omega (arith, o.place, length-append text rest, length-append t.end rest) in
-    o.reads
-    ∙ after_plain p.width p.height p.maxval o.start o.others p.samples o.end (t.end ++ rest) (o.end + length t.end) rest (o.samples false ∙ seen_false (t.end ++ rest) (done p.samples o.end (t.end ++ rest))) (end_of_blanks false o.end t.end rest t.ended.0 t.ended.1 t.ended.2 ∙ seen_false rest (done nothing (o.end + length t.end) rest))
-    ∙ ap (λ (n : ℕ). done p n rest) last
+-- a plane's text is read as the plane, and what follows is left; or more is asked for at its end
+pub plane_reads : (goes : Bool) (role : Role) (at : ℕ) (text : List ℕ) (p : PlaneOf) (rest : List ℕ) → SpellsPlane role text p rest → (plane_at role goes at (text ++ rest) ≡ done p (at + length text) rest) ⊎ ((goes ≡ true) × (rest ≡ []) × AsksForMore role (text ++ rest))
+plane_reads goes role at text p rest s = elim (heard_or (form_of s.0 p.maxval) goes rest (done p (at + length text) rest)) [
+  | inl e ↦ inl (plane_again goes role s.0 at text p rest s.1 ∙ e)
+  | inr k ↦
+      let whole : text ≡ text ++ rest = sym (ap (λ (t : List ℕ). text ++ t) k.2 ∙ append-nil text) in
+      inr (k.0, k.2, inr (inr (inr (inr (p, subst (λ (t : List ℕ). IsPlaneText Plain role t p []) whole (rw (← k.2, ← digits_alone s.0 p.maxval k.1) s.1))))))
+]
 
--- a plane's text is read as the plane, and what follows is left
 pub plane_told : (role : Role) (at : ℕ) (text : List ℕ) (p : PlaneOf) (rest : List ℕ) → SpellsPlane role text p rest → plane_at role false at (text ++ rest) ≡ done p (at + length text) rest
-plane_told role at text p rest s = plane_by role s.0 at text p rest s.1
+plane_told role at text p rest s = elim (plane_reads false role at text p rest s) [ inl e ↦ e | inr k ↦ absurd (let x = k.0 in cc) ]
 
 -- ---- the laws
 
@@ -372,9 +273,3 @@ one_break role at bytes e f a b = break_is {A = PlaneOf} e f (sym (break_told ro
 pub no_break_of_plane : (role : Role) (at : ℕ) (bytes : List ℕ) (p : PlaneOf) (rest : List ℕ) (fault : PlaneFault) → IsPlaneIn role bytes p rest → FirstBreak role at bytes fault → ⊥
 no_break_of_plane role at bytes p rest fault i b =
     not_both p (at + length i.0) rest fault (sym (plane_told role at i.0 p rest i.2) ∙ ap (plane_at role false at) (sym i.1) ∙ break_told role at bytes fault b)
-
-pub plane_or_break : (role : Role) (at : ℕ) (bytes : List ℕ) → ((p : PlaneOf) × (rest : List ℕ) × IsPlaneIn role bytes p rest) ⊎ ((fault : PlaneFault) × FirstBreak role at bytes fault)
-plane_or_break role at bytes = elim (plane_walk role at bytes) [
-  | inl b ↦ inr (b.0, b.2)
-  | inr t ↦ inl (t.0, t.2, (t.4.text, t.4.parts, t.4.spells))
-]

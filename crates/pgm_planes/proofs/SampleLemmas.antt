@@ -1,10 +1,11 @@
--- One sample: what is read is spelled so, what is spelled so is read, and where the form breaks.
-use Rattle.std.proofs.Common.{◌≡◌, ℕ, ◌+◌, ◌*◌, ◌≤◌, ◌<◌, Bool, true, false, ◌⊎◌, List, [], ◌∷◌, ◌++◌, length, refl, sym, ap, ◌∙◌, append_assoc, arith, inl, inr, ltb}
-use Rattle.pgm_planes.proofs.Words.{unless_more, capped_number, ⊤, list_all, and_parts, cases_Bool, both_ways, ltb-true, ltb-false, length-append, PlaneFault, Form, SampleAbove, Short, SampleForm, Narrow, Wide, Digits, is_space, is_digit, is_blank, begins, is_number, AreNumbers, IsRaster, Reading, ◌⟫◌, breaks, nothing, blanks_at, numeral_at, judged, and_behind, spelled_sample_at}
+-- Samples one after the other: how bytes part into them, and what is read of the parts.
+use Rattle.std.proofs.Common.{◌≡◌, ℕ, zero, suc, ◌+◌, ◌*◌, ◌≤◌, ◌<◌, Bool, true, false, ◌⊎◌, List, [], ◌∷◌, ◌++◌, length, refl, sym, ap, subst, ◌∙◌, append_assoc, arith, inl, inr, ltb}
+use Rattle.pgm_planes.proofs.Words.{scan_at, unless_more, capped_number, ⊤, list_all, AllByRecursion, and_parts, cases_Bool, both_ways, ltb-true, ltb-false, le-ltb, lt-ltb, length-append, PlaneFault, Form, SampleAbove, Short, SampleForm, Narrow, Wide, Digits, is_space, is_digit, is_blank, begins, is_number, AreNumbers, IsRaster, Reading, ◌⟫◌, ◌▸◌, breaks, nothing, byte_at, octet_at, blanks_at, numeral_at, judged_at, spelled_sample_at, samples_at}
 use Rattle.std.proofs.lemmas.List.{append-nil}
-use Rattle.pgm_planes.proofs.HeaderLemmas.{done, seen, seen_false, seen_begun, seen_then, seen_behind, blanks_found, blanks_again, blanks_end, number_found, number_again, number_answers, number_break}
-use Rattle.pgm_planes.proofs.FieldLemmas.{cases_reading, blank_spaced, number_stops}
+use Rattle.pgm_planes.proofs.HeaderLemmas.{done, seen, seen_begun, seen_then, seen_behind, passing, blanks_again, number_again, octet_cut, number_cut}
+use Rattle.pgm_planes.proofs.FieldLemmas.{spaced, blank_spaced, number_stops}
 use Rattle.pgm_planes.proofs.NumberLemmas.{numbers_begin}
+use Rattle.pgm_planes.proofs.StepLemmas.{and_others, others_begin, others_end, others_are}
 
 -- samples of one form, one after the other
 abbrev pub Rastered : SampleForm → List ℕ → List ℕ → Type 0
@@ -12,13 +13,7 @@ Rastered Narrow bytes vs = IsRaster false bytes vs
 Rastered Wide bytes vs = IsRaster true bytes vs
 Rastered Digits bytes vs = AreNumbers is_blank bytes vs
 
--- what stands before the bytes and belongs to the first sample: for digits white space, where not, no digit follows
-abbrev pub LeadFits : SampleForm → List ℕ → List ℕ → Type 0
-LeadFits Narrow lead bytes = lead ≡ []
-LeadFits Wide lead bytes = lead ≡ []
-LeadFits Digits lead bytes = (list_all is_space lead ≡ true) × (lead ≡ [] → begins is_digit bytes ≡ false)
-
--- what may follow a sample
+-- what may follow a sample, and what may stand before one
 abbrev pub EndsSample : SampleForm → List ℕ → Type 0
 EndsSample Narrow rest = ⊤
 EndsSample Wide rest = ⊤
@@ -30,243 +25,323 @@ CutSample Narrow part = length part < 1
 CutSample Wide part = length part < 2
 CutSample Digits part = list_all is_space part ≡ true
 
+abbrev pub AllBelow : ℕ → List ℕ → Type 0
+AllBelow maxval vs = AllByRecursion (λ v. v ≤ maxval) vs
+
+pub all_append : (p : ℕ → Bool) (xs ys : List ℕ) → list_all p xs ≡ true → list_all p ys ≡ true → list_all p (xs ++ ys) ≡ true
+all_append p [] ys a b = b
+all_append p (x ∷ xs) ys a b = let q = and_parts (p x) (list_all p xs) a in rw (q.0, all_append p xs ys q.1 b) refl
+
+-- ---- samples before and behind others
+
+rastered_none : (form : SampleForm) → Rastered form [] []
+rastered_none Narrow = refl
+rastered_none Wide = refl
+rastered_none Digits = refl
+
+none_rastered : (form : SampleForm) (samples : List ℕ) → Rastered form samples [] → samples ≡ []
+none_rastered Narrow samples r = r
+none_rastered Wide samples r = r
+none_rastered Digits samples r = r
+
+rastered_cons : (form : SampleForm) (text : List ℕ) (v : ℕ) (samples vs : List ℕ) → Rastered form text (v ∷ []) → Rastered form samples vs → Rastered form (text ++ samples) (v ∷ vs)
+rastered_cons Narrow [] v samples vs r s = absurd r
+rastered_cons Narrow (b ∷ text) v samples vs r s = (r.0, rw r.1 s)
+rastered_cons Wide [] v samples vs r s = absurd r
+rastered_cons Wide (b ∷ []) v samples vs r s = absurd r
+rastered_cons Wide (b ∷ c ∷ text) v samples vs r s = (r.0, rw r.1 s)
+rastered_cons Digits text v samples vs r s = (
+  r.0,
+  r.1,
+  samples,
+  ap (λ (t : List ℕ). t ++ samples) r.3 ∙ append_assoc r.0 (r.1 ++ r.2) samples ∙ ap (λ (t : List ℕ). r.0 ++ t) (append_assoc r.1 r.2 samples ∙ ap (λ (t : List ℕ). r.1 ++ (t ++ samples)) r.7),
+  r.4,
+  r.5,
+  r.6,
+  s,
+)
+
+-- the first sample and those after it
+first_sample : (form : SampleForm) (bytes : List ℕ) (v : ℕ) (vs : List ℕ) → Rastered form bytes (v ∷ vs) → (text : List ℕ) × (others : List ℕ) × (bytes ≡ text ++ others) × Rastered form text (v ∷ []) × Rastered form others vs
+first_sample Narrow [] v vs r = absurd r
+first_sample Narrow (b ∷ bytes) v vs r = (b ∷ [], bytes, refl, (r.0, refl), r.1)
+first_sample Wide [] v vs r = absurd r
+first_sample Wide (b ∷ []) v vs r = absurd r
+first_sample Wide (b ∷ c ∷ bytes) v vs r = (b ∷ c ∷ [], bytes, refl, (r.0, refl), r.1)
+first_sample Digits bytes v vs r = (r.0 ++ r.1, r.2, r.3 ∙ sym (append_assoc r.0 r.1 r.2), (r.0, r.1, [], ap (λ (t : List ℕ). r.0 ++ t) (sym (append-nil r.1)), r.4, r.5, r.6, refl), r.7)
+
+-- samples and those after them
+parted : (form : SampleForm) (bytes vs ws : List ℕ) → Rastered form bytes (vs ++ ws) → (front : List ℕ) × (last : List ℕ) × (bytes ≡ front ++ last) × Rastered form front vs × Rastered form last ws
+parted form bytes [] ws r = ([], bytes, refl, rastered_none form, r)
+parted form bytes (v ∷ vs) ws r =
+    let f = first_sample form bytes v (vs ++ ws) r in
+    let l = parted form f.1 vs ws f.4 in
+    (f.0 ++ l.0, l.1, f.2 ∙ ap (λ (t : List ℕ). f.0 ++ t) l.2 ∙ sym (append_assoc f.0 l.0 l.1), rastered_cons form f.0 v l.0 vs f.3 l.3, l.4)
+
+pub rastered_append : (form : SampleForm) (a vs b ws : List ℕ) → Rastered form a vs → Rastered form b ws → Rastered form (a ++ b) (vs ++ ws)
+rastered_append form a [] b ws r s = rw (none_rastered form a r) s
+rastered_append form a (v ∷ vs) b ws r s =
+    let f = first_sample form a v vs r in
+    let whole : f.0 ++ (f.1 ++ b) ≡ a ++ b = sym (append_assoc f.0 f.1 b) ∙ ap (λ (t : List ℕ). t ++ b) (sym f.2) in
+    subst (λ (t : List ℕ). Rastered form t (v ∷ (vs ++ ws))) whole (rastered_cons form f.0 v (f.1 ++ b) (vs ++ ws) f.3 (rastered_append form f.1 vs b ws f.4 s))
+
+samples_end : (form : SampleForm) (samples vs rest : List ℕ) → Rastered form samples vs → EndsSample form rest → EndsSample form (samples ++ rest)
+samples_end Narrow samples vs rest r e = tt
+samples_end Wide samples vs rest r e = tt
+samples_end Digits samples vs rest r e = numbers_begin is_blank blank_spaced samples vs rest r e
+
+-- ---- how bytes part into samples
+
+pub record NextSample (form : SampleForm) (bytes : List ℕ) : Type 0 where
+  pub text : List ℕ
+  pub value : ℕ
+  pub rest : List ℕ
+  pub parts : bytes ≡ text ++ rest
+  pub is : Rastered form text (value ∷ [])
+  pub ends : EndsSample form rest
+
+-- a byte that begins no number, after white space
+pub record BadByte (bytes : List ℕ) : Type 0 where
+  pub blank : List ℕ
+  pub byte : ℕ
+  pub behind : List ℕ
+  pub parts : bytes ≡ blank ++ byte ∷ behind
+  pub blanks : list_all is_space blank ≡ true
+  pub no_space : is_space byte ≡ false
+  pub no_digit : is_digit byte ≡ false
+
+-- no sample begins
+abbrev pub NoSample : SampleForm → List ℕ → Type 0
+NoSample form bytes = CutSample form bytes ⊎ ((form ≡ Digits) × BadByte bytes)
+
+digits_behind : (bytes blank tail number rest : List ℕ) → begins is_digit bytes ≡ false → bytes ≡ blank ++ tail → list_all is_space blank ≡ true → begins is_space tail ≡ false → tail ≡ number ++ rest → list_all is_digit number ≡ true → begins is_digit rest ≡ false → NoSample Digits bytes ⊎ NextSample Digits bytes
+digits_behind bytes blank tail [] [] n p a s q d e = inl (inl (ap (list_all is_space) (p ∙ ap (λ (t : List ℕ). blank ++ t) q ∙ append-nil blank) ∙ a))
+digits_behind bytes blank tail [] (b ∷ behind) n p a s q d e =
+    inl (inr (refl, record { blank = blank; byte = b; behind = behind; parts = p ∙ ap (λ (t : List ℕ). blank ++ t) q; blanks = a; no_space = ap (begins is_space) (sym q) ∙ s; no_digit = e }))
+digits_behind bytes [] tail (x ∷ number) rest n p a s q d e = absurd (both_ways (begins is_digit bytes) n (ap (begins is_digit) (p ∙ q) ∙ (and_parts (is_digit x) (list_all is_digit number) d).0))
+digits_behind bytes (y ∷ blank) tail (x ∷ number) rest n p a s q d e = inr (record {
+  text = (y ∷ blank) ++ (x ∷ number);
+  value = capped_number (x ∷ number);
+  rest = rest;
+  parts = p ∙ ap (λ (t : List ℕ). (y ∷ blank) ++ t) q ∙ sym (append_assoc (y ∷ blank) (x ∷ number) rest);
+  is = (y ∷ blank, x ∷ number, [], ap (λ (t : List ℕ). (y ∷ blank) ++ t) (sym (append-nil (x ∷ number))), a, d, refl, refl);
+  ends = e;
+})
+
+next_sample : (form : SampleForm) (bytes : List ℕ) → EndsSample form bytes → NoSample form bytes ⊎ NextSample form bytes
+next_sample Narrow [] n = inl (inl (omega arith))
+next_sample Narrow (b ∷ rest) n = inr (record { text = b ∷ []; value = b; rest = rest; parts = refl; is = (refl, refl); ends = tt })
+next_sample Wide [] n = inl (inl (omega arith))
+next_sample Wide (b ∷ []) n = inl (inl (omega arith))
+next_sample Wide (b ∷ c ∷ rest) n = inr (record { text = b ∷ c ∷ []; value = 256 * b + c; rest = rest; parts = refl; is = (refl, refl); ends = tt })
+next_sample Digits bytes n =
+    let p = passing is_space bytes in
+    let d = passing is_digit p.rest in
+    digits_behind bytes p.front p.rest d.front d.rest n p.parts p.all p.stops d.parts d.all d.stops
+
+-- what stands behind good samples, of which so many are missing
+abbrev pub Behind : SampleForm → ℕ → ℕ → List ℕ → Type 0
+Behind form maxval missing rest = ((missing ≡ 0) × EndsSample form rest) ⊎ ((1 ≤ missing) × (NoSample form rest ⊎ ((s : NextSample form rest) × (maxval < s.value))))
+
+pub record Samples (form : SampleForm) (maxval n : ℕ) (bytes : List ℕ) : Type 0 where
+  pub samples : List ℕ
+  pub values : List ℕ
+  pub rest : List ℕ
+  pub missing : ℕ
+  pub parts : bytes ≡ samples ++ rest
+  pub are : Rastered form samples values
+  pub below : AllBelow maxval values
+  pub count : length values + missing ≡ n
+  pub behind : Behind form maxval missing rest
+
+no_samples : (form : SampleForm) (maxval n : ℕ) (bytes : List ℕ) → Behind form maxval n bytes → Samples form maxval n bytes
+no_samples form maxval n bytes b = record { samples = []; values = []; rest = bytes; missing = n; parts = refl; are = rastered_none form; below = tt; count = omega arith; behind = b }
+
+pub samples_parts : (form : SampleForm) (maxval n : ℕ) (bytes : List ℕ) → EndsSample form bytes → Samples form maxval n bytes
+samples_parts form maxval zero bytes e = no_samples form maxval 0 bytes (inl (refl, e))
+samples_parts form maxval (suc n) bytes e = elim (next_sample form bytes e) [
+  | inl k ↦ no_samples form maxval (suc n) bytes (inr (omega arith, inl k))
+  | inr s ↦ elim (cases_Bool (ltb maxval s.value)) [
+    | inl y ↦ no_samples form maxval (suc n) bytes (inr (omega arith, inr (s, ltb-true maxval s.value y)))
+    | inr m ↦
+        let p = samples_parts form maxval n s.rest s.ends in
+        record {
+          samples = s.text ++ p.samples;
+          values = s.value ∷ p.values;
+          rest = p.rest;
+          missing = p.missing;
+          parts = s.parts ∙ ap (λ (t : List ℕ). s.text ++ t) p.parts ∙ sym (append_assoc s.text p.samples p.rest);
+          are = rastered_cons form s.text s.value p.samples p.values s.is p.are;
+          below = (ltb-false maxval s.value m, p.below);
+          count = omega (arith, p.count);
+          behind = p.behind;
+        }
+  ]
+]
+
+-- ---- what is read of one sample
+
 -- a sample of digits is seen to the byte after it
 abbrev pub heard : {A : Type 0} → SampleForm → Bool → List ℕ → Reading A → Reading A
 heard Narrow goes rest r = r
 heard Wide goes rest r = r
 heard Digits goes rest r = seen goes rest r
 
-pub heard_false : {A : Type 0} (form : SampleForm) (rest : List ℕ) (r : Reading A) → heard form false rest r ≡ r
-heard_false Narrow rest r = refl
-heard_false Wide rest r = refl
-heard_false Digits rest r = seen_false rest r
+pub heard_or : {A : Type 0} (form : SampleForm) (goes : Bool) (rest : List ℕ) (r : Reading A) → (heard form goes rest r ≡ r) ⊎ ((goes ≡ true) × (form ≡ Digits) × (rest ≡ []))
+heard_or Narrow goes rest r = inl refl
+heard_or Wide goes rest r = inl refl
+heard_or Digits true [] r = inr (refl, refl, refl)
+heard_or Digits false [] r = inl refl
+heard_or Digits goes (b ∷ rest) r = inl refl
 
 pub heard_then : {A B : Type 0} (form : SampleForm) (goes : Bool) (rest : List ℕ) (r : Reading A) (f : A → ℕ → List ℕ → Reading B) → (heard form goes rest r ⟫ f) ≡ heard form goes rest (r ⟫ f)
 heard_then Narrow goes rest r f = refl
 heard_then Wide goes rest r f = refl
 heard_then Digits goes rest r f = seen_then goes rest r f
 
--- where samples follow, a byte follows
-pub heard_more : {A : Type 0} (form : SampleForm) (goes : Bool) (samples vs more : List ℕ) (r : Reading A) → Rastered form samples vs → 1 ≤ length vs → heard form goes (samples ++ more) r ≡ r
-heard_more Narrow goes samples vs more r a one = refl
-heard_more Wide goes samples vs more r a one = refl
-heard_more Digits goes samples [] more r a one = absurd (omega arith)
-heard_more Digits goes samples (v ∷ vs) more r a one = seen_begun goes is_space (samples ++ more) r (rw (a.3, append_assoc a.0 (a.1 ++ a.2) more) (blank_spaced a.0 ((a.1 ++ a.2) ++ more) a.4))
-
--- a sample was read from the bytes, and with what stands before them it is `total`
-pub record SampleText (form : SampleForm) (v at : ℕ) (bytes total : List ℕ) (end : ℕ) (rest : List ℕ) : Type 0 where
-  pub text : List ℕ
-  pub parts : total ≡ text ++ rest
-  pub are : Rastered form text (v ∷ [])
-  pub ends : EndsSample form rest
-  pub place : at + length bytes ≡ end + length rest
-
--- a byte that begins no number, after white space
-pub record BadByte (at : ℕ) (bytes total : List ℕ) (place : ℕ) : Type 0 where
-  pub blank : List ℕ
-  pub byte : ℕ
-  pub behind : List ℕ
-  pub parts : total ≡ blank ++ byte ∷ behind
-  pub blanks : list_all is_space blank ≡ true
-  pub no_space : is_space byte ≡ false
-  pub no_digit : is_digit byte ≡ false
-  pub place_is : at + length bytes ≡ place + length (byte ∷ behind)
-
-abbrev pub SampleBreak : SampleForm → ℕ → ℕ → ℕ → List ℕ → List ℕ → PlaneFault → Type 0
-SampleBreak form maxval k at bytes total f = ((value : ℕ) × (end : ℕ) × (rest : List ℕ) × SampleText form value at bytes total end rest × (maxval < value) × (f ≡ SampleAbove k value))
-    ⊎ ((CutSample form total × (f ≡ Short k)) ⊎ ((place : ℕ) × (form ≡ Digits) × BadByte at bytes total place × (f ≡ Form place)))
-
--- a sample is read, or the form breaks
-abbrev pub SampleWalk : SampleForm → ℕ → ℕ → ℕ → List ℕ → List ℕ → Reading ℕ → Type 0
-SampleWalk form maxval k at bytes total r = ((f : PlaneFault) × (r ≡ breaks f) × SampleBreak form maxval k at bytes total f)
-    ⊎ ((v : ℕ) × (end : ℕ) × (rest : List ℕ) × (r ≡ done v end rest) × (v ≤ maxval) × SampleText form v at bytes total end rest)
-
-judged_walk : (form : SampleForm) (maxval k x at : ℕ) (bytes total : List ℕ) (end : ℕ) (rest : List ℕ) (r : Reading ℕ) → r ≡ and_behind (judged maxval k x) end rest → SampleText form x at bytes total end rest → SampleWalk form maxval k at bytes total r
-judged_walk form maxval k x at bytes total end rest r e t = elim (cases_Bool (ltb maxval x)) [
-  | inl y ↦ inl (SampleAbove k x, e ∙ rw y refl, inl (x, end, rest, t, ltb-true maxval x y, refl))
-  | inr n ↦ inr (x, end, rest, e ∙ rw n refl, ltb-false maxval x n, t)
-]
-
-pub all_append : (p : ℕ → Bool) (xs ys : List ℕ) → list_all p xs ≡ true → list_all p ys ≡ true → list_all p (xs ++ ys) ≡ true
-all_append p [] ys a b = b
-all_append p (x ∷ xs) ys a b = let q = and_parts (p x) (list_all p xs) a in rw (q.0, all_append p xs ys q.1 b) refl
-
-all_tail : (p : ℕ → Bool) (xs ys : List ℕ) → list_all p (xs ++ ys) ≡ true → list_all p ys ≡ true
-all_tail p [] ys a = a
-all_tail p (x ∷ xs) ys a = all_tail p xs ys (and_parts (p x) (list_all p (xs ++ ys)) a).1
-
--- white space, not without any
-blank_of : (xs : List ℕ) → list_all is_space xs ≡ true → (xs ≡ [] → ⊥) → is_blank xs ≡ true
-blank_of [] a n = absurd (n refl)
-blank_of (x ∷ xs) a n = a
-
 of_blank : (xs : List ℕ) → is_blank xs ≡ true → list_all is_space xs ≡ true
 of_blank [] a = absurd cc
 of_blank (x ∷ xs) a = a
-
-both_nil : (xs ys : List ℕ) → xs ++ ys ≡ [] → (xs ≡ []) × (ys ≡ [])
-both_nil [] ys e = (refl, e)
-both_nil (x ∷ xs) ys e = absurd cc
 
 number_begins : (number more : List ℕ) → is_number number ≡ true → begins is_digit (number ++ more) ≡ true
 number_begins [] more h = absurd cc
 number_begins (c ∷ number) more h = (and_parts (is_digit c) (list_all is_digit number) h).0
 
-module _ (maxval k at : ℕ) (lead bytes : List ℕ) where
-  digits_text : (place : ℕ) (digits : List ℕ) (v end : ℕ) (rest : List ℕ) → LeadFits Digits lead bytes → blanks_at false at bytes ≡ done nothing place digits → numeral_at (Short k) false place digits ≡ done v end rest → SampleText Digits v at bytes (lead ++ bytes) end rest
-  digits_text place digits v end rest fits b n =
-      let t = blanks_found at bytes place digits b in
-      let d = number_found (Short k) place digits v end rest n in
-      let some : lead ++ t.0 ≡ [] → ⊥ = λ e.
-      let p = both_nil lead t.0 e in
-      let whole : bytes ≡ d.0 ++ rest = t.2.parts ∙ ap (λ (x : List ℕ). x ++ digits) p.1 ∙ d.3.parts in
-      both_ways (begins is_digit bytes) (fits.1 p.0) (ap (begins is_digit) whole ∙ number_begins d.0 rest d.1) in
-      record {
-        text = (lead ++ t.0) ++ d.0;
-        parts = ap (λ (x : List ℕ). lead ++ x) (t.2.parts ∙ ap (λ (x : List ℕ). t.0 ++ x) d.3.parts) ∙ sym (append_assoc (lead ++ t.0) d.0 rest ∙ append_assoc lead t.0 (d.0 ++ rest));
-        are = (lead ++ t.0, d.0, [], ap (λ (x : List ℕ). (lead ++ t.0) ++ x) (sym (append-nil d.0)), blank_of (lead ++ t.0) (all_append is_space lead t.0 fits.0 t.1) some, d.1, d.2, refl);
-        ends = d.4;
-        place = omega (arith, ap length t.2.parts, t.2.place, ap length d.3.parts, d.3.place, length-append t.0 digits, length-append d.0 rest);
-      }
+module _ (maxval k at : ℕ) (goes : Bool) where
+  sample_again : (form : SampleForm) (text : List ℕ) (v : ℕ) (rest : List ℕ) → Rastered form text (v ∷ []) → EndsSample form rest → spelled_sample_at form maxval k goes at (text ++ rest) ≡ heard form goes rest (judged_at maxval k v goes (at + length text) rest)
+  unfolding spelled_sample_at octet_at byte_at
+  sample_again Narrow [] v rest r e = absurd r
+  sample_again Narrow (b ∷ []) v rest r e = ap (λ (x : ℕ). judged_at maxval k x goes (at + 1) rest) (sym r.0)
+  sample_again Narrow (b ∷ c ∷ text) v rest r e = absurd (let x = r.1 in cc)
+  sample_again Wide [] v rest r e = absurd r
+  sample_again Wide (b ∷ []) v rest r e = absurd r
+  sample_again Wide (b ∷ c ∷ []) v rest r e = let place : (at + 1) + 1 ≡ at + 2 = omega arith in rw (place, r.0) refl
+  sample_again Wide (b ∷ c ∷ d ∷ text) v rest r e = absurd (let x = r.1 in cc)
+  sample_again Digits text v rest r e =
+      let same : text ≡ r.0 ++ r.1 = r.3 ∙ ap (λ (t : List ℕ). r.0 ++ (r.1 ++ t)) r.7 ∙ ap (λ (t : List ℕ). r.0 ++ t) (append-nil r.1) in
+      let whole : text ++ rest ≡ r.0 ++ (r.1 ++ rest) = ap (λ (t : List ℕ). t ++ rest) same ∙ append_assoc r.0 r.1 rest in
+      let place : (at + length r.0) + length r.1 ≡ at + length text = omega (arith, ap length same, length-append r.0 r.1) in
+      let blanks = blanks_again goes at r.0 (r.1 ++ rest) (of_blank r.0 r.4) (number_stops r.1 rest r.5).no_space ∙ seen_begun goes is_digit (r.1 ++ rest) (done nothing (at + length r.0) (r.1 ++ rest)) (number_begins r.1 rest r.5) in
+      ap (spelled_sample_at Digits maxval k goes at) whole
+      ∙ rw (blanks, number_again goes (Short k) (at + length r.0) r.1 rest r.5 e, place)
+      (seen_then goes rest (done (capped_number r.1) (at + length text) rest) (λ v. judged_at maxval k v goes)
+      ∙ ap (λ (x : ℕ). seen goes rest (judged_at maxval k x goes (at + length text) rest)) (sym r.6))
 
-  digits_break : (place : ℕ) (digits : List ℕ) (f : PlaneFault) → LeadFits Digits lead bytes → blanks_at false at bytes ≡ done nothing place digits → numeral_at (Short k) false place digits ≡ breaks f → SampleBreak Digits maxval k at bytes (lead ++ bytes) f
-  digits_break place digits f fits b n =
-      let t = blanks_found at bytes place digits b in
-      elim (number_break (Short k) place digits f n) [
-        | inl e ↦
-            let all : bytes ≡ t.0 = t.2.parts ∙ ap (λ (x : List ℕ). t.0 ++ x) e.0 ∙ append-nil t.0 in
-            inr (inl (all_append is_space lead bytes fits.0 (ap (list_all is_space) all ∙ t.1), e.1))
-        | inr d ↦ inr (inr (
-          place,
-          refl,
-          record {
-            blank = lead ++ t.0;
-            byte = d.0;
-            behind = d.1;
-            parts = ap (λ (x : List ℕ). lead ++ x) (t.2.parts ∙ ap (λ (x : List ℕ). t.0 ++ x) d.2) ∙ sym (append_assoc lead t.0 (d.0 ∷ d.1));
-            blanks = all_append is_space lead t.0 fits.0 t.1;
-            no_space = ap (begins is_space) (sym d.2) ∙ t.3;
-            no_digit = d.3;
-            place_is = omega (arith, ap length t.2.parts, t.2.place, ap length d.2, length-append t.0 digits);
-          },
-          d.4,
-        ))
-      ]
+  sample_cut : (form : SampleForm) (bytes : List ℕ) → CutSample form bytes → spelled_sample_at form maxval k goes at bytes ≡ unless_more goes (breaks (Short k))
+  unfolding spelled_sample_at numeral_at octet_at byte_at
+  sample_cut Narrow [] c = octet_cut goes (Short k) at _
+  sample_cut Narrow (b ∷ bytes) c = absurd (omega arith)
+  sample_cut Wide [] c = octet_cut goes (Short k) at _
+  sample_cut Wide (b ∷ []) c = octet_cut goes (Short k) (at + 1) _
+  sample_cut Wide (b ∷ d ∷ bytes) c = absurd (omega arith)
+  sample_cut Digits bytes c =
+      let one : blanks_at goes at bytes ≡ seen goes [] (done nothing (at + length bytes) []) = ap (blanks_at goes at) (sym (append-nil bytes)) ∙ blanks_again goes at bytes [] c refl in
+      rw one (seen_behind goes [] [] (done nothing (at + length bytes) []) (λ _. (numeral_at (Short k) ▸ judged_at maxval k) goes) (breaks (Short k)) (rw (number_cut goes (Short k) (at + length bytes)) (seen_then goes [] (breaks (Short k)) (λ v. judged_at maxval k v goes))))
 
-pub sample_walk : (form : SampleForm) (maxval k at : ℕ) (lead bytes : List ℕ) → LeadFits form lead bytes → SampleWalk form maxval k at bytes (lead ++ bytes) (spelled_sample_at form maxval k false at bytes)
-unfolding spelled_sample_at
-sample_walk Narrow maxval k at lead [] fits = inl (Short k, refl, inr (inl (rw fits (omega arith), refl)))
-sample_walk Narrow maxval k at lead (b ∷ rest) fits =
-    judged_walk Narrow maxval k b at (b ∷ rest) (lead ++ b ∷ rest) (at + 1) rest (and_behind (judged maxval k b) (at + 1) rest) refl
-    (record { text = b ∷ []; parts = ap (λ (x : List ℕ). x ++ b ∷ rest) fits; are = (refl, refl); ends = tt; place = omega arith })
-sample_walk Wide maxval k at lead [] fits = inl (Short k, refl, inr (inl (rw fits (omega arith), refl)))
-sample_walk Wide maxval k at lead (b ∷ []) fits = inl (Short k, refl, inr (inl (rw fits (omega arith), refl)))
-sample_walk Wide maxval k at lead (b ∷ c ∷ rest) fits =
-    judged_walk Wide maxval k (256 * b + c) at (b ∷ c ∷ rest) (lead ++ b ∷ c ∷ rest) (at + 2) rest (and_behind (judged maxval k (256 * b + c)) (at + 2) rest) refl
-    (record { text = b ∷ c ∷ []; parts = ap (λ (x : List ℕ). x ++ b ∷ c ∷ rest) fits; are = (refl, refl); ends = tt; place = omega arith })
-sample_walk Digits maxval k at lead bytes fits =
-    let t = blanks_end at bytes in
-    elim (cases_reading (numeral_at (Short k) false t.0 t.1) (number_answers (Short k) t.0 t.1)) [
-      | inl f ↦ inl (f.0, rw (t.2, f.1) refl, digits_break maxval k at lead bytes t.0 t.1 f.0 fits t.2 f.1)
-      | inr d ↦ judged_walk Digits maxval k d.0 at bytes (lead ++ bytes) d.1 d.2 (blanks_at false at bytes ⟫ λ _ place digits. numeral_at (Short k) false place digits ⟫ λ v. and_behind (judged maxval k v)) (rw (t.2, d.3) refl)
-          (digits_text maxval k at lead bytes t.0 t.1 d.0 d.1 d.2 fits t.2 d.3)
-    ]
+  -- a byte that begins no number breaks the form
+  sample_bad : (blank : List ℕ) (byte : ℕ) (behind : List ℕ) → list_all is_space blank ≡ true → is_space byte ≡ false → is_digit byte ≡ false → spelled_sample_at Digits maxval k goes at (blank ++ byte ∷ behind) ≡ breaks (Form (at + length blank))
+  unfolding spelled_sample_at numeral_at octet_at byte_at
+  sample_bad blank byte behind a s n = rw (blanks_again goes at blank (byte ∷ behind) a s, n) refl
 
--- ---- what is spelled so is read
+-- ---- what is read of samples one after the other
 
--- white space before the bytes is the front of the gap
-behind_lead : (lead bytes gap tail : List ℕ) → lead ++ bytes ≡ gap ++ tail → list_all is_space lead ≡ true → list_all is_space gap ≡ true → begins is_space tail ≡ false → (others : List ℕ) × (bytes ≡ others ++ tail) × (list_all is_space others ≡ true)
-behind_lead [] bytes gap tail e a g n = (gap, e, g)
-behind_lead (x ∷ lead) bytes [] tail e a g n =
-    absurd (both_ways (begins is_space tail) n (ap (begins is_space) (sym e) ∙ (and_parts (is_space x) (list_all is_space lead) a).0))
-behind_lead (x ∷ lead) bytes (y ∷ gap) tail e a g n =
-    behind_lead lead bytes gap tail (cc) (and_parts (is_space x) (list_all is_space lead) a).1 (and_parts (is_space y) (list_all is_space gap) g).1 n
+-- after samples that were read the last one is seen to its end
+abbrev pub heard_after : {A : Type 0} → SampleForm → List ℕ → Bool → List ℕ → Reading A → Reading A
+heard_after form [] goes rest r = r
+heard_after form (v ∷ vs) goes rest r = heard form goes rest r
 
-pub record SampleStep (form : SampleForm) (maxval k at : ℕ) (bytes : List ℕ) (v : ℕ) (vs more : List ℕ) : Type 0 where
-  pub others : List ℕ
-  pub end : ℕ
-  pub reads : (goes : Bool) → spelled_sample_at form maxval k goes at bytes ≡ heard form goes (others ++ more) (and_behind (judged maxval k v) end (others ++ more))
-  pub are : Rastered form others vs
-  pub place : at + length bytes ≡ end + length (others ++ more)
-  pub ends : EndsSample form (others ++ more)
+-- where another sample follows or is looked for, nothing else is heard
+heard_once : {A : Type 0} (form : SampleForm) (others vs : List ℕ) (goes : Bool) (rest : List ℕ) (r : Reading A) → Rastered form others vs → heard form goes (others ++ rest) (heard_after form vs goes rest r) ≡ heard form goes rest r
+heard_once form others [] goes rest r a = ap (λ (t : List ℕ). heard form goes (t ++ rest) r) (none_rastered form others a)
+heard_once Narrow others (v ∷ vs) goes rest r a = refl
+heard_once Wide others (v ∷ vs) goes rest r a = refl
+heard_once Digits others (v ∷ vs) goes rest r a = seen_begun goes is_space (others ++ rest) (seen goes rest r) (rw (a.3, append_assoc a.0 (a.1 ++ a.2) rest) (blank_spaced a.0 ((a.1 ++ a.2) ++ rest) a.4))
 
-module _ (maxval k at : ℕ) (bytes : List ℕ) (v : ℕ) (vs more : List ℕ) where
-  narrow_step : (samples : List ℕ) → IsRaster false samples (v ∷ vs) → bytes ≡ samples ++ more → SampleStep Narrow maxval k at bytes v vs more
-  unfolding spelled_sample_at
-  narrow_step [] r e = absurd r
-  narrow_step (b ∷ others) r e = record {
-    others = others;
-    end = at + 1;
-    reads = λ goes. ap (spelled_sample_at Narrow maxval k goes at) e ∙ ap (λ (x : ℕ). and_behind (judged maxval k x) (at + 1) (others ++ more)) (sym r.0);
-    are = r.1;
-    place = omega (arith, ap length e);
-    ends = tt;
-  }
+heard_others : (form : SampleForm) (front vs : List ℕ) (maxval n k : ℕ) (goes : Bool) (at : ℕ) (rest : List ℕ) → heard_after form vs goes rest (and_others front form maxval (suc n) k goes at rest) ≡ and_others front form maxval (suc n) k goes at rest
+unfolding and_others samples_at spelled_sample_at scan_at
+heard_others form front [] maxval n k goes at rest = refl
+heard_others Narrow front (v ∷ vs) maxval n k goes at rest = refl
+heard_others Wide front (v ∷ vs) maxval n k goes at rest = refl
+heard_others Digits front (v ∷ vs) maxval n k true at [] = refl
+heard_others Digits front (v ∷ vs) maxval n k false at [] = refl
+heard_others Digits front (v ∷ vs) maxval n k goes at (b ∷ rest) = refl
 
-  wide_step : (samples : List ℕ) → IsRaster true samples (v ∷ vs) → bytes ≡ samples ++ more → SampleStep Wide maxval k at bytes v vs more
-  unfolding spelled_sample_at
-  wide_step [] r e = absurd r
-  wide_step (b ∷ []) r e = absurd r
-  wide_step (b ∷ c ∷ others) r e = record {
-    others = others;
-    end = at + 2;
-    reads = λ goes. ap (spelled_sample_at Wide maxval k goes at) e ∙ ap (λ (x : ℕ). and_behind (judged maxval k x) (at + 2) (others ++ more)) (sym r.0);
-    are = r.1;
-    place = omega (arith, ap length e);
-    ends = tt;
-  }
+pub same_others : (form : SampleForm) (maxval : ℕ) (more : Bool) (rest front front_2 : List ℕ) (n n_2 k k_2 at at_2 : ℕ) → front ≡ front_2 → n ≡ n_2 → k ≡ k_2 → at ≡ at_2 → and_others front form maxval n k more at rest ≡ and_others front_2 form maxval n_2 k_2 more at_2 rest
+same_others form maxval more rest front front_2 n n_2 k k_2 at at_2 a b c d = cc
 
-  digits_step : (lead samples : List ℕ) → AreNumbers is_blank samples (v ∷ vs) → lead ++ bytes ≡ samples ++ more → LeadFits Digits lead bytes → begins is_digit more ≡ false → SampleStep Digits maxval k at bytes v vs more
-  unfolding spelled_sample_at
-  digits_step lead samples a e fits s =
-      let tail : List ℕ = a.1 ++ (a.2 ++ more) in
-      let whole : lead ++ bytes ≡ a.0 ++ tail = e ∙ ap (λ (t : List ℕ). t ++ more) a.3 ∙ append_assoc a.0 (a.1 ++ a.2) more ∙ ap (λ (t : List ℕ). a.0 ++ t) (append_assoc a.1 a.2 more) in
-      let stop = (number_stops a.1 (a.2 ++ more) a.5).no_space in
-      let g = behind_lead lead bytes a.0 tail whole fits.0 (of_blank a.0 a.4) stop in
-      let last = numbers_begin is_blank blank_spaced a.2 vs more a.7 s in
-      record {
-        others = a.2;
-        end = (at + length g.0) + length a.1;
-        reads = λ goes. ap (spelled_sample_at Digits maxval k goes at) g.1
-            ∙ rw (blanks_again goes at g.0 tail g.2 stop ∙ seen_begun goes is_digit tail (done nothing (at + length g.0) tail) (number_begins a.1 (a.2 ++ more) a.5), number_again goes (Short k) (at + length g.0) a.1 (a.2 ++ more) a.5 last)
-            (seen_then goes (a.2 ++ more) (done (capped_number a.1) ((at + length g.0) + length a.1) (a.2 ++ more)) (λ v. and_behind (judged maxval k v))
-            ∙ ap (λ (x : ℕ). seen goes (a.2 ++ more) (and_behind (judged maxval k x) ((at + length g.0) + length a.1) (a.2 ++ more))) (sym a.6));
-        are = a.7;
-        place = omega (arith, ap length g.1, length-append g.0 tail, length-append a.1 (a.2 ++ more));
-        ends = last;
-      }
+-- one less of what is left
+fewer : (a n : ℕ) → a < n → (m : ℕ) × (n ≡ a + suc m)
+fewer a zero lt = absurd (omega arith)
+fewer zero (suc n) lt = (n, omega arith)
+fewer (suc a) (suc n) lt = let f = fewer a n (omega arith) in (f.0, omega (arith, f.1))
 
-pub sample_step : (form : SampleForm) (maxval k at : ℕ) (lead bytes samples : List ℕ) (v : ℕ) (vs more : List ℕ) → Rastered form samples (v ∷ vs) → lead ++ bytes ≡ samples ++ more → LeadFits form lead bytes → EndsSample form more → SampleStep form maxval k at bytes v vs more
-sample_step Narrow maxval k at lead bytes samples v vs more r e fits s = narrow_step maxval k at bytes v vs more samples r (ap (λ (t : List ℕ). t ++ bytes) (sym fits) ∙ e)
-sample_step Wide maxval k at lead bytes samples v vs more r e fits s = wide_step maxval k at bytes v vs more samples r (ap (λ (t : List ℕ). t ++ bytes) (sym fits) ∙ e)
-sample_step Digits maxval k at lead bytes samples v vs more r e fits s = digits_step maxval k at bytes v vs more lead samples r e fits s
+bad_begins : (blank : List ℕ) (byte : ℕ) (behind : List ℕ) → list_all is_space blank ≡ true → is_digit byte ≡ false → begins is_digit (blank ++ byte ∷ behind) ≡ false
+bad_begins [] byte behind a n = n
+bad_begins (b ∷ blank) byte behind a n = spaced (b ∷ blank) (and_parts (is_space b) (list_all is_space blank) a).0
 
--- less than a sample is cut
-no_more : (goes : Bool) (cut : PlaneFault) (at : ℕ) → numeral_at cut goes at [] ≡ unless_more goes (breaks cut)
-unfolding numeral_at
-no_more goes cut at = refl
+cut_ended : (form : SampleForm) (part : List ℕ) → CutSample form part → EndsSample form part
+cut_ended Narrow part c = tt
+cut_ended Wide part c = tt
+cut_ended Digits [] c = refl
+cut_ended Digits (b ∷ part) c = spaced (b ∷ part) (and_parts (is_space b) (list_all is_space part) c).0
 
-pub sample_cut : (goes : Bool) (form : SampleForm) (maxval k at : ℕ) (lead bytes : List ℕ) → LeadFits form lead bytes → CutSample form (lead ++ bytes) → spelled_sample_at form maxval k goes at bytes ≡ unless_more goes (breaks (Short k))
-unfolding spelled_sample_at
-sample_cut goes Narrow maxval k at lead [] fits c = refl
-sample_cut goes Narrow maxval k at lead (b ∷ bytes) fits c = absurd (let x = ap length fits in omega (arith, c, x, length-append lead (b ∷ bytes)))
-sample_cut goes Wide maxval k at lead [] fits c = refl
-sample_cut goes Wide maxval k at lead (b ∷ []) fits c = refl
-sample_cut goes Wide maxval k at lead (b ∷ d ∷ bytes) fits c = absurd (let x = ap length fits in omega (arith, c, x, length-append lead (b ∷ d ∷ bytes)))
-sample_cut goes Digits maxval k at lead bytes fits c =
-    let one : blanks_at goes at bytes ≡ seen goes [] (done nothing (at + length bytes) []) = ap (blanks_at goes at) (sym (append-nil bytes)) ∙ blanks_again goes at bytes [] (all_tail is_space lead bytes c) refl in
-    rw one (seen_behind goes [] [] (done nothing (at + length bytes) []) (λ _ place digits. numeral_at (Short k) goes place digits ⟫ λ v. and_behind (judged maxval k v)) (breaks (Short k)) (rw (no_more goes (Short k) (at + length bytes)) (seen_then goes [] (breaks (Short k)) (λ v. and_behind (judged maxval k v)))))
+module _ (form : SampleForm) (maxval : ℕ) (goes : Bool) where
+  -- one sample that is read and not above maxval
+  one_over : (front : List ℕ) (n m k at v end : ℕ) (bytes rest : List ℕ) → n ≡ suc m → spelled_sample_at form maxval k goes at bytes ≡ heard form goes rest (judged_at maxval k v goes end rest) → v ≤ maxval → and_others front form maxval n k goes at bytes ≡ heard form goes rest (and_others (front ++ v ∷ []) form maxval m (k + 1) goes end rest)
+  one_over front n m k at v end bytes rest is e le =
+      let good : judged_at maxval k v goes end rest ≡ done v end rest = rw (le-ltb maxval v le) refl in
+      rw is (others_are form maxval front m k goes at bytes ∙ rw (e, good) (heard_then form goes rest (done v end rest) (λ v. and_others (front ++ v ∷ []) form maxval m (k + 1) goes)))
 
-refused : (goes : Bool) (cut : PlaneFault) (at b : ℕ) (rest : List ℕ) → is_digit b ≡ false → numeral_at cut goes at (b ∷ rest) ≡ breaks (Form at)
-unfolding numeral_at
-refused goes cut at b rest n = rw n refl
+  pub samples_over : (samples vs rest : List ℕ) → Rastered form samples vs → AllBelow maxval vs → EndsSample form rest → (front : List ℕ) (n m k at : ℕ) → n ≡ length vs + m → and_others front form maxval n k goes at (samples ++ rest) ≡ heard_after form vs goes rest (and_others (front ++ vs) form maxval m (k + length vs) goes (at + length samples) rest)
+  samples_over samples [] rest r below e front n m k at is =
+      let none = none_rastered form samples r in
+      ap (λ (t : List ℕ). and_others front form maxval n k goes at (t ++ rest)) none ∙ same_others form maxval goes rest front (front ++ []) n m k (k + 0) at (at + length samples) (sym (append-nil front)) (omega arith) (omega arith) (omega (arith, ap length none))
+  samples_over samples (v ∷ vs) rest r below e front n m k at is =
+      let s = first_sample form samples v vs r in
+      let whole : samples ++ rest ≡ s.0 ++ (s.1 ++ rest) = ap (λ (t : List ℕ). t ++ rest) s.2 ∙ append_assoc s.0 s.1 rest in
+      let end : ℕ = at + length s.0 in
+      let one = sample_again maxval k at goes form s.0 v (s.1 ++ rest) s.3 (samples_end form s.1 vs rest s.4 e) in
+      ap (and_others front form maxval n k goes at) whole
+      ∙ one_over front n (length vs + m) k at v end (s.0 ++ (s.1 ++ rest)) (s.1 ++ rest) (omega arith) one below.0
+      ∙ ap (heard form goes (s.1 ++ rest)) (samples_over s.1 vs rest s.4 below.1 e (front ++ v ∷ []) (length vs + m) m (k + 1) end refl)
+      ∙ heard_once form s.1 vs goes rest (and_others ((front ++ v ∷ []) ++ vs) form maxval m ((k + 1) + length vs) goes (end + length s.1) rest) s.4
+      ∙ ap (heard form goes rest) (same_others form maxval goes rest ((front ++ v ∷ []) ++ vs) (front ++ v ∷ vs) m m ((k + 1) + length vs) (k + length (v ∷ vs)) (end + length s.1) (at + length samples) (append_assoc front (v ∷ []) vs) refl (omega arith) (omega (arith, ap length s.2, length-append s.0 s.1)))
 
--- a byte that begins no number breaks the form
-pub sample_bad : (goes : Bool) (maxval k at : ℕ) (lead bytes : List ℕ) (place : ℕ) → LeadFits Digits lead bytes → BadByte at bytes (lead ++ bytes) place → spelled_sample_at Digits maxval k goes at bytes ≡ breaks (Form place)
-unfolding spelled_sample_at
-sample_bad goes maxval k at lead bytes place fits b =
-    let g = behind_lead lead bytes b.blank (b.byte ∷ b.behind) b.parts fits.0 b.blanks b.no_space in
-    let one : blanks_at goes at bytes ≡ done nothing (at + length g.0) (b.byte ∷ b.behind) = ap (blanks_at goes at) g.1 ∙ blanks_again goes at g.0 (b.byte ∷ b.behind) g.2 b.no_space in
-    let two = refused goes (Short k) (at + length g.0) b.byte b.behind b.no_digit in
-    let same : at + length g.0 ≡ place = omega (arith, ap length g.1, length-append g.0 (b.byte ∷ b.behind), b.place_is) in
-    rw (one, two, same) refl
+  -- all samples are read
+  pub samples_again : (k at : ℕ) (samples vs rest : List ℕ) → Rastered form samples vs → AllBelow maxval vs → EndsSample form rest → 1 ≤ length vs → samples_at form maxval (length vs) k goes at (samples ++ rest) ≡ heard form goes rest (done vs (at + length samples) rest)
+  samples_again k at samples [] rest r below e one = absurd (omega arith)
+  samples_again k at samples (v ∷ vs) rest r below e one =
+      others_begin form maxval (length (v ∷ vs)) k goes at (samples ++ rest)
+      ∙ samples_over samples (v ∷ vs) rest r below e [] (length (v ∷ vs)) 0 k at (omega arith)
+      ∙ ap (heard form goes rest) (others_end form maxval (v ∷ vs) (k + length (v ∷ vs)) goes (at + length samples) rest)
+
+  -- the sample after good ones breaks, or is asked for
+  samples_stop : (n k at : ℕ) (samples vs rest : List ℕ) → Rastered form samples vs → AllBelow maxval vs → EndsSample form rest → length vs < n → (r : Reading ℕ) (q : Reading (List ℕ)) → spelled_sample_at form maxval (k + length vs) goes (at + length samples) rest ≡ r → ((g : ℕ → ℕ → List ℕ → Reading (List ℕ)) → (r ⟫ g) ≡ q) → samples_at form maxval n k goes at (samples ++ rest) ≡ q
+  samples_stop n k at samples vs rest a below e some r q b f =
+      let m = fewer (length vs) n some in
+      others_begin form maxval n k goes at (samples ++ rest)
+      ∙ samples_over samples vs rest a below e [] n (suc m.0) k at m.1
+      ∙ heard_others form vs vs maxval m.0 (k + length vs) goes (at + length samples) rest
+      ∙ others_are form maxval vs m.0 (k + length vs) goes (at + length samples) rest
+      ∙ rw b (f (λ v. and_others (vs ++ v ∷ []) form maxval m.0 ((k + length vs) + 1) goes))
+
+  pub above_again : (n k at : ℕ) (samples vs : List ℕ) (value : ℕ) (rest : List ℕ) → Rastered form samples (vs ++ value ∷ []) → AllBelow maxval vs → EndsSample form rest → length vs < n → maxval < value → samples_at form maxval n k goes at (samples ++ rest) ≡ heard form goes rest (breaks (SampleAbove (k + length vs) value))
+  above_again n k at samples vs value rest a below e some lt =
+      let l = parted form samples vs (value ∷ []) a in
+      let whole : samples ++ rest ≡ l.0 ++ (l.1 ++ rest) = ap (λ (t : List ℕ). t ++ rest) l.2 ∙ append_assoc l.0 l.1 rest in
+      let fault : PlaneFault = SampleAbove (k + length vs) value in
+      ap (samples_at form maxval n k goes at) whole
+      ∙ samples_stop n k at l.0 vs (l.1 ++ rest) l.3 below (samples_end form l.1 (value ∷ []) rest l.4 e) some (heard form goes rest (breaks fault)) (heard form goes rest (breaks fault))
+      (sample_again maxval (k + length vs) (at + length l.0) goes form l.1 value rest l.4 e ∙ ap (heard form goes rest) (rw (lt-ltb maxval value lt) refl))
+      (heard_then form goes rest (breaks fault))
+
+  pub short_again : (n k at : ℕ) (samples vs part : List ℕ) → Rastered form samples vs → AllBelow maxval vs → CutSample form part → length vs < n → samples_at form maxval n k goes at (samples ++ part) ≡ unless_more goes (breaks (Short (k + length vs)))
+  short_again n k at samples vs part a below c some =
+      let fault : PlaneFault = Short (k + length vs) in
+      samples_stop n k at samples vs part a below (cut_ended form part c) some (unless_more goes (breaks fault)) (unless_more goes (breaks fault)) (sample_cut maxval (k + length vs) (at + length samples) goes form part c) (seen_then goes [] (breaks fault))
+
+-- a byte that begins no number, behind good samples
+pub bad_again : (maxval : ℕ) (goes : Bool) (n k at : ℕ) (samples vs blank : List ℕ) (byte : ℕ) (behind : List ℕ) → AreNumbers is_blank samples vs → AllBelow maxval vs → list_all is_space blank ≡ true → is_space byte ≡ false → is_digit byte ≡ false → length vs < n → samples_at Digits maxval n k goes at (samples ++ (blank ++ byte ∷ behind)) ≡ breaks (Form ((at + length samples) + length blank))
+bad_again maxval goes n k at samples vs blank byte behind a below b s d some =
+    let fault : PlaneFault = Form ((at + length samples) + length blank) in
+    samples_stop Digits maxval goes n k at samples vs (blank ++ byte ∷ behind) a below (bad_begins blank byte behind b d) some (breaks fault) (breaks fault) (sample_bad maxval (k + length vs) (at + length samples) goes blank byte behind b s d) (λ g. refl)

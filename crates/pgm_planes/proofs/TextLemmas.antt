@@ -1,5 +1,5 @@
 -- What is written of a plane spells it.
-use Rattle.std.proofs.Common.{◌≡◌, ℕ, ◌+◌, ◌*◌, ◌/◌, ◌%◌, ◌-◌, ◌≤◌, ◌<◌, Bool, true, false, List, [], ◌∷◌, ◌++◌, decimal, refl, sym, ap, ◌∙◌, append_assoc, arith}
+use Rattle.std.proofs.Common.{◌≡◌, ℕ, ◌+◌, ◌*◌, ◌/◌, ◌%◌, ◌-◌, ◌≤◌, ◌<◌, Bool, true, false, List, [], ◌∷◌, ◌++◌, decimal, refl, ◌∙◌, append_assoc, arith}
 use Rattle.pgm_planes.proofs.Words.{list_all, and_parts, lt-ltb, decimal_by_steps, Role, Phase, Weight, Mask, Raw, is_digit, is_gap, is_number, goes_on_to, capped_number, PlaneOf, HasMaxval, IsPlane, AreNumbers, IsRaster, is_wide, IsPlaneText, raster_text, plane_header_text, plane_text}
 use Rattle.std.proofs.lemmas.List.{append-nil}
 use Rattle.pgm_planes.proofs.SampleLemmas.{all_append}
@@ -75,18 +75,9 @@ are_numbers w h m a b c = (
   ),
 )
 
-pieces : (a b c d r : List ℕ) → (a ++ (32 ∷ (b ++ (10 ∷ (c ++ d))))) ++ r ≡ a ++ (32 ∷ (b ++ (10 ∷ (c ++ (d ++ r)))))
-pieces a b c d r =
-    append_assoc a (32 ∷ (b ++ (10 ∷ (c ++ d)))) r
-    ∙ ap (λ (t : List ℕ). a ++ (32 ∷ t)) (append_assoc b (10 ∷ (c ++ d)) r ∙ ap (λ (t : List ℕ). b ++ (10 ∷ t)) (append_assoc c d r))
-
 parted : (p : PlaneOf) → plane_text p ≡ 80 ∷ 53 ∷ (numbers p.width p.height p.maxval ++ ((10 ∷ raster_text (is_wide p.maxval) p.samples) ++ []))
 unfolding plane_text plane_header_text numbers
-parted p =
-    let raster : List ℕ = raster_text (is_wide p.maxval) p.samples in
-    let one = pieces (decimal p.width) (decimal p.height) (decimal p.maxval) (10 ∷ []) raster in
-    let two = pieces (decimal p.width) (decimal p.height) (decimal p.maxval) [] (10 ∷ (raster ++ [])) in
-    ap (λ (t : List ℕ). 80 ∷ 53 ∷ 10 ∷ t) (one ∙ ap (λ (t : List ℕ). decimal p.width ++ (32 ∷ (decimal p.height ++ (10 ∷ (decimal p.maxval ++ (10 ∷ t)))))) (sym (append-nil raster)) ∙ sym two)
+parted p = simp (append_assoc, append-nil) refl
 
 pub written_is_read : (role : Role) (p : PlaneOf) (rest : List ℕ) → IsPlane role p → IsPlaneText Raw role (plane_text p) p rest
 written_is_read role p rest i = record {

@@ -11,8 +11,8 @@ pub use Rattle.pgm_planes.specs.Faults.{plane_fault_of_feed}
 pub use Rattle.pgm_planes.specs.Gaps.{is_space, is_line_end, is_digit, is_gap, begins, is_number, capped_number, is_blank, is_filling, goes_on_to}
 pub use Rattle.pgm_planes.specs.Pieces.{AreTogether, TakesPiece}
 pub use Rattle.pgm_planes.specs.Planes.{PlaneOf, plane_of, SpellsPlane, IsPlaneIn, AreNumbers, HasMaxval, IsSize, digit_of, HasHeader, AreSamples, IsPlaneEnd, IsPlaneText, IsRaster, IsPlane, is_wide}
-pub use Rattle.pgm_planes.specs.Reading.{Reading, Reader, ◌⟫◌, ◌▸◌, here, breaks, asks, unless_more, nothing, goes_beyond, Reads, or_breaks, spelling_of, inside_after, with_digit, HeaderOf, unless_broken, header_break, header_of, as_refusal, judged, and_behind, form_of, end_of, is_too_large, maxval_break, Told, pure}
-unfoldable pub use Rattle.pgm_planes.specs.Reading.{byte_at, sight_at, magic_at, space_at, filling_at, blanks_at, digits_at, numeral_at, field_at, header_at, spelled_sample_at, samples_at, end_at, raster_at, plane_at}
+pub use Rattle.pgm_planes.specs.Reading.{Reading, Reader, ◌⟫◌, ◌▸◌, here, breaks, asks, unless_more, nothing, goes_beyond, fails, or_fails, judged_at, on_step, filling_end, filling_at, blanks_at, digits_at, end_or, space_or, number_or, AnswersReader, Reads, spelling_of, inside_after, with_digit, HeaderOf, unless_broken, header_break, header_of, as_refusal, judged, form_of, end_of, is_too_large, maxval_break, Told, pure}
+unfoldable pub use Rattle.pgm_planes.specs.Reading.{byte_at, sight_at, octet_at, magic_at, space_at, scan_at, numeral_at, field_at, header_at, spelled_sample_at, samples_at, end_at, raster_at, plane_at}
 pub use Rattle.pgm_planes.specs.Text.{raster_text, sample_text}
 unfoldable pub use Rattle.pgm_planes.specs.Text.{plane_header_text, plane_text}
 pub use Rattle.pgm_planes.specs.declared.fault.PlaneFault.{PlaneFault}
@@ -27,7 +27,7 @@ pub use Rattle.pgm_planes.specs.declared.spelling.Spelling.{Spelling}
 pub use Rattle.pgm_planes.specs.declared.spelling.Spelling.TheVariants.{Raw, Plain}
 pub use Rattle.raster_model.specs.declared.plane.Plane.{Plane}
 pub use Rattle.std.proofs.Math.Seq.{take-append-add, take-add}
-pub use Rattle.std.proofs.lemmas.Bool.{cases_Bool, ltb-false, lt-ltb, both_ways, eqb-true, eqb-false, le-ltb, ne_eqb, or_parts, and_parts, ltb-true, or_cases, cases_lt}
+pub use Rattle.std.proofs.lemmas.Bool.{cases_Bool, not-true, ltb-false, lt-ltb, both_ways, eqb-true, eqb-false, le-ltb, ne_eqb, or_parts, and_parts, ltb-true, or_cases, cases_lt}
 pub use Rattle.std.proofs.lemmas.Fmt.{decimal_by_steps}
 pub use Rattle.std.proofs.lemmas.Grind.{flat_map-append}
 pub use Rattle.std.proofs.lemmas.List.{length-append, take-append-drop, take_all, append_cancel_right, length-take, length-take-le, take-take}
@@ -36,4 +36,4 @@ pub use Rattle.std.proofs.lemmas.Nat.{mul-le}
 pub use Rattle.std.proofs.lemmas.Result.{err_from_is_err_and}
 pub use Rattle.std.specs.Global.{Vec}
 pub use Rattle.std.specs.List.{list_all, AllByRecursion}
-pub use Rattle.std.specs.Prelude.{IfSome, IfOk, IfErr, ◌≢◌, ⊤, OnErr, All, flat_map}
+pub use Rattle.std.specs.Prelude.{IfSome, IsErrAnd, IfOk, IfErr, ◌≢◌, ⊤, OnErr, All, flat_map}

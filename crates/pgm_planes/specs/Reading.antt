@@ -68,54 +68,73 @@ unfoldable pub sight_at : Reader (Option ℕ)
 sight_at more at [] = unless_more more (Ok (None, at, []))
 sight_at more at (b ∷ rest) = Ok (Some b, at, b ∷ rest)
 
+abbrev pub fails : {A : Type 0} → PlaneFault → Reader A
+fails fault more at rest = breaks fault
+
 -- what a value or a break is, or none
-abbrev pub or_breaks : {A : Type 0} → PlaneFault → Option A → ℕ → List ℕ → Reading A
-or_breaks fault None at rest = breaks fault
-or_breaks fault (Some x) at rest = Ok (x, at, rest)
+abbrev pub or_fails : {A : Type 0} → PlaneFault → Option A → Reader A
+or_fails fault None = fails fault
+or_fails fault (Some x) = pure x
+
+-- the next byte, which is taken, or `cut` at the end
+unfoldable pub octet_at : PlaneFault → Reader ℕ
+octet_at cut = byte_at ▸ or_fails cut
 
 -- what P and the byte after it stand for: P5 is raw and P2 plain
-abbrev pub spelling_of : ℕ → Option ℕ → Option Spelling
-spelling_of a None = None
-spelling_of a (Some b) = if (a == 80) && (b == 53) then Some Raw else (if (a == 80) && (b == 50) then Some Plain else None)
+abbrev pub spelling_of : ℕ → ℕ → Option Spelling
+spelling_of a b = if (a == 80) && (b == 53) then Some Raw else (if (a == 80) && (b == 50) then Some Plain else None)
 
 unfoldable pub magic_at : Reader Spelling
-magic_at more at [] = unless_more more (breaks Magic)
-magic_at more at (a ∷ []) = unless_more more (breaks Magic)
-magic_at more at (a ∷ b ∷ rest) = or_breaks Magic (spelling_of a (Some b)) (at + 2) rest
+magic_at = octet_at Magic ▸ λ a. octet_at Magic ▸ λ b. or_fails Magic (spelling_of a b)
+
+-- white space, where the byte was taken from the place
+abbrev pub space_or : ℕ → ℕ → Reader (Unit {0})
+space_or place b = if is_space b then pure nothing else fails (Form place)
 
 unfoldable pub space_at : Reader (Unit {0})
-space_at more at [] = unless_more more (breaks (Form at))
-space_at more at (b ∷ rest) = if is_space b then Ok (nothing, at + 1, rest) else breaks (Form at)
+space_at = here ▸ λ place. octet_at (Form place) ▸ space_or place
 
 -- whether a comment is open after a byte of white space or of a comment; none after any other byte
 abbrev pub inside_after : Bool → ℕ → Option Bool
 inside_after true b = Some (not (is_line_end b))
 inside_after false b = if is_space b then Some false else (if b == 35 then Some true else None)
 
--- white space and comments, from outside a comment or from inside one
-unfoldable pub filling_at : Bool → Reader (Unit {0})
-filling_at false more at [] = unless_more more (Ok (nothing, at, []))
-filling_at true more at [] = unless_more more (breaks (Form at))
-filling_at false more at (b ∷ rest) = if is_space b then filling_at false more (at + 1) rest else (if b == 35 then filling_at true more (at + 1) rest else Ok (nothing, at, b ∷ rest))
-filling_at true more at (b ∷ rest) = if is_line_end b then filling_at false more (at + 1) rest else filling_at true more (at + 1) rest
+-- what stays where a step goes on to no state, and else what its state stands for
+abbrev pub on_step : {S R : Type 0} → Option S → R → (S → R) → R
+on_step None stays goes = stays
+on_step (Some t) stays goes = goes t
+
+-- bytes are taken as long as a step goes on with them from one state to another; what is read then is that of the last state
+unfoldable pub scan_at : {S A : Type 0} → (S → ℕ → Option S) → (S → Reader A) → S → Reader A
+scan_at step ends s more at [] = unless_more more (ends s more at [])
+scan_at step ends s more at (b ∷ rest) = on_step (step s b) (ends s more at (b ∷ rest)) (λ t. scan_at step ends t more (at + 1) rest)
+
+-- white space and comments, from outside a comment or from inside one, which may not stay open
+abbrev pub filling_end : Bool → Reader (Unit {0})
+filling_end true more at rest = breaks (Form at)
+filling_end false more at rest = Ok (nothing, at, rest)
+
+abbrev pub filling_at : Bool → Reader (Unit {0})
+filling_at = scan_at inside_after filling_end
 
 -- white space
-unfoldable pub blanks_at : Reader (Unit {0})
-blanks_at more at [] = unless_more more (Ok (nothing, at, []))
-blanks_at more at (b ∷ rest) = if is_space b then blanks_at more (at + 1) rest else Ok (nothing, at, b ∷ rest)
+abbrev pub blanks_at : Reader (Unit {0})
+blanks_at = scan_at (λ s b. if is_space b then Some s else None) pure nothing
 
 -- one more digit; numbers stop growing at 4,294,967,295
 abbrev pub with_digit : ℕ → ℕ → ℕ
 with_digit n b = min (10 * n + (b - 48)) 4294967295
 
-unfoldable pub digits_at : ℕ → Reader ℕ
-digits_at n more at [] = unless_more more (Ok (n, at, []))
-digits_at n more at (b ∷ rest) = if is_digit b then digits_at (with_digit n b) more (at + 1) rest else Ok (n, at, b ∷ rest)
+abbrev pub digits_at : ℕ → Reader ℕ
+digits_at = scan_at (λ n b. if is_digit b then Some (with_digit n b) else None) pure
+
+-- a number, whose first byte was taken from the place
+abbrev pub number_or : ℕ → ℕ → Reader ℕ
+number_or place b = if is_digit b then digits_at (b - 48) else fails (Form place)
 
 -- a number, or `cut` where the input ends before it
 unfoldable pub numeral_at : PlaneFault → Reader ℕ
-numeral_at cut more at [] = unless_more more (breaks cut)
-numeral_at cut more at (b ∷ rest) = if is_digit b then digits_at (b - 48) more (at + 1) rest else breaks (Form at)
+numeral_at cut = here ▸ λ place. octet_at cut ▸ number_or place
 
 -- a gap and a number, with the place of its first digit
 unfoldable pub field_at : Reader (ℕ × ℕ)
@@ -151,9 +170,8 @@ header_at role = field_at ▸ λ w. field_at ▸ λ h. field_at ▸ λ m. space_
 abbrev pub judged : ℕ → ℕ → ℕ → Result ℕ PlaneFault
 judged maxval index v = if nat_lt maxval v then Err (SampleAbove index v) else Ok v
 
-abbrev pub and_behind : Result ℕ PlaneFault → ℕ → List ℕ → Reading ℕ
-and_behind (Ok v) at rest = Ok (v, at, rest)
-and_behind (Err e) at rest = breaks e
+abbrev pub judged_at : ℕ → ℕ → ℕ → Reader ℕ
+judged_at maxval index v = if nat_lt maxval v then fails (SampleAbove index v) else pure v
 
 -- how the samples of a plane are spelled
 abbrev pub form_of : Spelling → ℕ → SampleForm
@@ -162,12 +180,9 @@ form_of Plain maxval = Digits
 
 -- one sample, that with the given index
 unfoldable pub spelled_sample_at : SampleForm → ℕ → ℕ → Reader ℕ
-spelled_sample_at Narrow maxval index more at [] = unless_more more (breaks (Short index))
-spelled_sample_at Narrow maxval index more at (b ∷ rest) = and_behind (judged maxval index b) (at + 1) rest
-spelled_sample_at Wide maxval index more at [] = unless_more more (breaks (Short index))
-spelled_sample_at Wide maxval index more at (high ∷ []) = unless_more more (breaks (Short index))
-spelled_sample_at Wide maxval index more at (high ∷ low ∷ rest) = and_behind (judged maxval index (256 * high + low)) (at + 2) rest
-spelled_sample_at Digits maxval index more at bytes = (blanks_at ▸ λ _. numeral_at (Short index) ▸ λ v _. and_behind (judged maxval index v)) more at bytes
+spelled_sample_at Narrow maxval index = octet_at (Short index) ▸ judged_at maxval index
+spelled_sample_at Wide maxval index = octet_at (Short index) ▸ λ high. octet_at (Short index) ▸ λ low. judged_at maxval index (256 * high + low)
+spelled_sample_at Digits maxval index = blanks_at ▸ λ _. numeral_at (Short index) ▸ judged_at maxval index
 
 -- so many samples, the first with the given index
 unfoldable pub samples_at : SampleForm → ℕ → ℕ → ℕ → Reader (List ℕ)
@@ -175,9 +190,12 @@ samples_at form maxval zero index more at bytes = Ok ([], at, bytes)
 samples_at form maxval (suc n) index more at bytes = spelled_sample_at form maxval index more at bytes ⟫ λ v after rest. samples_at form maxval n (index + 1) more after rest ⟫ λ vs end others. Ok (v ∷ vs, end, others)
 
 -- the white space after the last sample of a plain raster
+abbrev pub end_or : ℕ → Option ℕ → Reader (Unit {0})
+end_or place None = pure nothing
+end_or place (Some b) = if is_space b then blanks_at else fails (Form place)
+
 unfoldable pub end_at : Reader (Unit {0})
-end_at more at [] = blanks_at more at []
-end_at more at (b ∷ rest) = if is_space b then blanks_at more at (b ∷ rest) else breaks (Form at)
+end_at = here ▸ λ place. sight_at ▸ end_or place
 
 abbrev pub end_of : Spelling → List ℕ → Reader (List ℕ)
 end_of Raw vs = pure vs

@@ -3,7 +3,7 @@ ghost use Rattle.insar_ports.specs.Feeding.{source_name, limit_of, handed_of, wa
 ghost use Rattle.pgm_planes.specs.Gaps.{is_space as is_space_byte, is_line_end as is_line_end_byte, is_digit as is_digit_byte};
 ghost use Rattle.pgm_planes.specs.Planes.{HasMaxval, IsSize};
 ghost use Rattle.insar_ports.specs.Calls.{call_of};
-ghost use Rattle.pgm_planes.specs.Reading.{Reads, nothing, byte_at, sight_at, spelling_of as spelling_of_magic, magic_at, space_at, filling_at, blanks_at, inside_after as inside_after_byte, digits_at, numeral_at, field_at, with_digit as with_digit_byte, header_break as break_of_header, header_at, header_of};
+ghost use Rattle.pgm_planes.specs.Reading.{Reads, nothing, byte_at, sight_at, octet_at, spelling_of as spelling_of_magic, magic_at, space_at, filling_at, blanks_at, inside_after as inside_after_byte, digits_at, numeral_at, field_at, with_digit as with_digit_byte, header_break as break_of_header, header_at, header_of};
 
 use crate::fault::{PlaneFault, ReadPlaneFault, Role};
 use crate::spelling::Spelling;
@@ -60,13 +60,25 @@ fn is_digit(byte: u8) -> bool
     byte.is_ascii_digit()
 }
 
+/// Takes the next byte; `cut` is reported if the input ends before it.
+pub fn read_octet<S: Source>(feed: &mut Feed<S>, cut: PlaneFault) -> Result<u8, ReadPlaneFault>
+    ensures same_source { source_name feed.new ≡ source_name feed.old }
+    ensures limit { limit_of feed.new ≡ limit_of feed.old }
+    ensures reads { Reads (λ n. n) result (call_of S.left S.faults feed.old feed.new) (octet_at cut) }
+{
+    match take_byte(feed)? {
+        Some(byte) => Ok(byte),
+        None => Err(ReadPlaneFault::Plane(cut)),
+    }
+}
+
 /// What the magic's letter and the byte after it mean.
-fn spelling_of(letter: u8, digit: Option<u8>) -> Option<Spelling>
+fn spelling_of(letter: u8, digit: u8) -> Option<Spelling>
     ensures { result ≡ spelling_of_magic letter digit }
 {
     match digit {
-        Some(b'5') if letter == b'P' => Some(Spelling::Raw),
-        Some(b'2') if letter == b'P' => Some(Spelling::Plain),
+        b'5' if letter == b'P' => Some(Spelling::Raw),
+        b'2' if letter == b'P' => Some(Spelling::Plain),
         _ => None,
     }
 }
@@ -77,10 +89,8 @@ pub fn read_magic<S: Source>(feed: &mut Feed<S>) -> Result<Spelling, ReadPlaneFa
     ensures limit { limit_of feed.new ≡ limit_of feed.old }
     ensures reads { Reads (λ s. s) result (call_of S.left S.faults feed.old feed.new) magic_at }
 {
-    let Some(letter) = take_byte(feed)? else {
-        return Err(ReadPlaneFault::Plane(PlaneFault::Magic));
-    };
-    let digit = take_byte(feed)?;
+    let letter = read_octet(feed, PlaneFault::Magic)?;
+    let digit = read_octet(feed, PlaneFault::Magic)?;
     match spelling_of(letter, digit) {
         Some(spelling) => Ok(spelling),
         None => Err(ReadPlaneFault::Plane(PlaneFault::Magic)),
@@ -93,10 +103,12 @@ fn read_space<S: Source>(feed: &mut Feed<S>) -> Result<(), ReadPlaneFault>
     ensures limit { limit_of feed.new ≡ limit_of feed.old }
     ensures reads { Reads (λ _. nothing) result (call_of S.left S.faults feed.old feed.new) space_at }
 {
-    let place = feed.handed();
-    match take_byte(feed)? {
-        Some(byte) if is_space(byte) => Ok(()),
-        _ => Err(ReadPlaneFault::Plane(PlaneFault::Form(place))),
+    let fault = PlaneFault::Form(feed.handed());
+    let byte = read_octet(feed, fault)?;
+    if is_space(byte) {
+        Ok(())
+    } else {
+        Err(ReadPlaneFault::Plane(fault))
     }
 }
 
@@ -189,11 +201,12 @@ pub fn read_number<S: Source>(feed: &mut Feed<S>, cut: PlaneFault) -> Result<u32
     ensures limit { limit_of feed.new ≡ limit_of feed.old }
     ensures reads { Reads (λ n. n) result (call_of S.left S.faults feed.old feed.new) (numeral_at cut) }
 {
-    let place = feed.handed();
-    match take_byte(feed)? {
-        Some(byte) if is_digit(byte) => read_digits(feed, u32::from(byte - b'0')),
-        Some(_) => Err(ReadPlaneFault::Plane(PlaneFault::Form(place))),
-        None => Err(ReadPlaneFault::Plane(cut)),
+    let fault = PlaneFault::Form(feed.handed());
+    let byte = read_octet(feed, cut)?;
+    if is_digit(byte) {
+        read_digits(feed, u32::from(byte - b'0'))
+    } else {
+        Err(ReadPlaneFault::Plane(fault))
     }
 }
 

@@ -5,7 +5,7 @@ ghost use Rattle.insar_ports.specs.Calls.{call_of};
 ghost use Rattle.pgm_planes.specs.Reading.{Reads, nothing, as_refusal, form_of as form_of_spelling, spelled_sample_at, samples_at, end_at, raster_at, judged as judged_sample};
 
 use crate::fault::{PlaneFault, ReadPlaneFault};
-use crate::header::{is_space, read_number, see_byte, skip_blanks, take_byte};
+use crate::header::{is_space, read_number, read_octet, see_byte, skip_blanks};
 use crate::pieces::take_waiting;
 use crate::spelling::Spelling;
 use byteorder::{BigEndian, ByteOrder};
@@ -59,10 +59,8 @@ fn read_narrow<S: Source>(
     ensures below { IfOk result (λ sample. sample ≤ maxval) }
     ensures reads { Reads (λ n. n) result (call_of S.left S.faults feed.old feed.new) (spelled_sample_at forms.Narrow maxval index) }
 {
-    match take_byte(feed)? {
-        Some(byte) => judged(u32::from(byte), maxval, index),
-        None => Err(ReadPlaneFault::Plane(PlaneFault::Short(index))),
-    }
+    let byte = read_octet(feed, PlaneFault::Short(index))?;
+    judged(u32::from(byte), maxval, index)
 }
 
 /// Takes a sample of two bytes, the most significant first.
@@ -72,16 +70,10 @@ fn read_wide<S: Source>(feed: &mut Feed<S>, maxval: u16, index: u32) -> Result<u
     ensures below { IfOk result (λ sample. sample ≤ maxval) }
     ensures reads { Reads (λ n. n) result (call_of S.left S.faults feed.old feed.new) (spelled_sample_at forms.Wide maxval index) }
 {
-    let Some(high) = take_byte(feed)? else {
-        return Err(ReadPlaneFault::Plane(PlaneFault::Short(index)));
-    };
-    match take_byte(feed)? {
-        Some(low) => {
-            let sample = BigEndian::read_u16(&[high, low]);
-            judged(u32::from(sample), maxval, index)
-        }
-        None => Err(ReadPlaneFault::Plane(PlaneFault::Short(index))),
-    }
+    let high = read_octet(feed, PlaneFault::Short(index))?;
+    let low = read_octet(feed, PlaneFault::Short(index))?;
+    let sample = BigEndian::read_u16(&[high, low]);
+    judged(u32::from(sample), maxval, index)
 }
 
 /// Takes white space and a sample of digits.

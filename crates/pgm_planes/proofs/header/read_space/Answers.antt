@@ -1,18 +1,18 @@
-use Rattle.std.proofs.Common.{sym, ◌∙◌}
-use Rattle.std.proofs.lemmas.Result.{err_from_is_err_and}
-use Rattle.pgm_planes.proofs.CallLemmas.{reads_space, refuses_space, misses_space, space_passes_on}
+use Rattle.std.proofs.Common.{refl, sym, ◌∙◌}
+use Rattle.pgm_planes.proofs.Words.{Form, ◌▸◌, octet_at, space_or, space_at}
+use Rattle.pgm_planes.proofs.CallLemmas.{passed, as_number, as_nothing}
+use Rattle.pgm_planes.proofs.StepLemmas.{here_reads, then_passes, then_finds, then_breaks}
 use Rattle.pgm_planes.proofs.header.read_space.Goals as goal
 
 pub returns-in_err-byte-clause-reads : goal.returns-in_err-byte-clause-reads
-returns-in_err-byte-clause-reads g c =
-    let p = err_from_is_err_and c.from_residual.result c.from_residual.ensures.1 in
-    rw (p.1, p.2) (space_passes_on _ c.in_err-byte.field-0.0 c.in_err-byte.ensures.reads)
+unfolding space_at
+returns-in_err-byte-clause-reads g c = passed _ c.from_residual.ensures.1 (here_reads as_nothing _ _ (λ place. octet_at (Form place) ▸ space_or place) (then_passes as_number as_nothing _ _ (octet_at (Form _)) (space_or _) (rw c.handed.ensures at c.in_err-byte.ensures.reads)))
 
-pub returns-in-Some-clause-reads : goal.returns-in-Some-clause-reads
-returns-in-Some-clause-reads g c = reads_space _ c.in_ok-byte.field-0 c.in_ok-byte.ensures.reads c.in-Some.byte c.in-Some.is (sym c.is_space.ensures ∙ c.if-is_space.true)
+pub returns-then-is_space-clause-reads : goal.returns-then-is_space-clause-reads
+unfolding space_at
+returns-then-is_space-clause-reads g c = here_reads as_nothing _ _ (λ place. octet_at (Form place) ▸ space_or place) (then_finds as_number as_nothing _ _ _ (octet_at (Form _)) (space_or _) (rw c.handed.ensures at c.in_ok-byte.ensures.reads) (λ more rest. rw (sym c.is_space.ensures ∙ c.if-is_space.true) refl))
 
-pub returns-in_default-clause-reads : goal.returns-in_default-clause-reads
-returns-in_default-clause-reads g c = rw c.handed-place.ensures (refuses_space _ c.in_ok-byte.field-0 c.in_ok-byte.ensures.reads c.in-Some.byte c.in-Some.is (sym c.is_space.ensures ∙ c.if-is_space.false))
-
-pub returns-in_default-2-clause-reads : goal.returns-in_default-2-clause-reads
-returns-in_default-2-clause-reads g c = rw c.handed-place.ensures (misses_space _ c.in_ok-byte.field-0 c.in_ok-byte.ensures.reads c.in_default.is)
+pub returns-else-is_space-clause-reads : goal.returns-else-is_space-clause-reads
+unfolding space_at
+returns-else-is_space-clause-reads g c =
+    rw c.handed.ensures (here_reads as_nothing _ _ (λ place. octet_at (Form place) ▸ space_or place) (then_breaks as_number as_nothing _ _ _ (octet_at (Form _)) (space_or _) (rw c.handed.ensures at c.in_ok-byte.ensures.reads) (λ more rest. rw (sym c.is_space.ensures ∙ c.if-is_space.false) refl)))

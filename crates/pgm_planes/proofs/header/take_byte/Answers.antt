@@ -1,6 +1,6 @@
 use Rattle.std.proofs.Common.{ap, Ok, Err, arith}
-use Rattle.pgm_planes.proofs.Words.{err_from_is_err_and, byte_at}
-use Rattle.pgm_planes.proofs.CallLemmas.{takes_a_byte, byte_fails, byte_asks}
+use Rattle.pgm_planes.proofs.Words.{byte_at}
+use Rattle.pgm_planes.proofs.CallLemmas.{passed, takes_a_byte, byte_fails, byte_asks}
 use Rattle.pgm_planes.proofs.header.take_byte.Goals as goal
 
 pub returns-clause-reads : goal.returns-clause-reads
@@ -11,6 +11,5 @@ returns-clause-reads g c =
 
 pub returns-in_err-next-clause-reads : goal.returns-in_err-next-clause-reads
 returns-in_err-next-clause-reads g c =
-    let p = err_from_is_err_and c.from_residual.result c.from_residual.ensures.1 in
     let e = c.in_err-next.ensures in
-    rw (p.1, p.2) (byte_fails c.in_err-next.field-0.0 _ _ _ _ _ _ _ byte_at e.left_at_fault e.handed_at_fault e.grows (λ n. e.read_fault (ap Err n)) (λ n. e.too_long (ap Err n)) (λ n. e.more (ap Err n)) (byte_asks _))
+    passed _ c.from_residual.ensures.1 (byte_fails c.in_err-next.field-0.0 _ _ _ _ _ _ _ byte_at e.left_at_fault e.handed_at_fault e.grows (λ n. e.read_fault (ap Err n)) (λ n. e.too_long (ap Err n)) (λ n. e.more (ap Err n)) (byte_asks _))

@@ -1,14 +1,13 @@
 use Rattle.std.proofs.Common.{refl}
 use Rattle.pgm_planes.proofs.Words.{err_from_is_err_and, samples_at, end_at, end_of, raster_at, form_of, Raw, Plain}
-use Rattle.pgm_planes.proofs.CallLemmas.{as_nothing}
+use Rattle.pgm_planes.proofs.CallLemmas.{passed, as_nothing}
 use Rattle.pgm_planes.proofs.StepLemmas.{as_samples, then_passes, then_finds, then_reads}
 use Rattle.pgm_planes.proofs.samples.read_raster.Goals as goal
 
 pub returns-in_err-samples-clause-reads : goal.returns-in_err-samples-clause-reads
 unfolding raster_at
 returns-in_err-samples-clause-reads g c =
-    let p = err_from_is_err_and c.from_residual.result c.from_residual.ensures.1 in
-    rw (p.1, p.2) (then_passes as_samples as_samples _ c.in_err-samples.field-0.0 (samples_at (form_of c.args.spelling c.args.maxval) c.args.maxval c.args.count 0) _ (rw c.form_of.ensures at c.in_err-samples.ensures.reads))
+    passed _ c.from_residual.ensures.1 (then_passes as_samples as_samples _ c.in_err-samples.field-0.0 (samples_at (form_of c.args.spelling c.args.maxval) c.args.maxval c.args.count 0) _ (rw c.form_of.ensures at c.in_err-samples.ensures.reads))
 
 pub returns-in_err-read_end-in-Plain-clause-reads : goal.returns-in_err-read_end-in-Plain-clause-reads
 unfolding raster_at

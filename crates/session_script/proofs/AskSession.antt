@@ -1,27 +1,44 @@
--- At which bytes a session asks for more; whether bytes are too many, and that they have one fault.
-use Rattle.std.proofs.Common.{◌≡◌, ◌≢◌, ◌⊎◌, ℕ, ◌+◌, ◌≤◌, ◌<◌, Bool, true, false, inl, inr, List, [], ◌∷◌, ◌++◌, length, take, drop, refl, sym, ap, subst, ◌∙◌, arith}
+-- At which bytes a session asks for more, that bytes have one fault, and what a call that reads a session promises.
+use Rattle.std.proofs.Common.{◌≡◌, ◌≢◌, ◌⊎◌, ℕ, ◌+◌, ◌≤◌, ◌<◌, Bool, true, false, inl, inr, List, [], ◌++◌, length, take, drop, Ok, Err, refl, sym, ap, ◌∙◌, arith, zero, suc, ◌-◌, ◌∷◌, sum_by, count_by, Some, Result, subst}
 use Rattle.std.proofs.lemmas.Bool.{cases_lt, lt-ltb, le-ltb}
 use Rattle.std.proofs.lemmas.List.{append-nil, length-append, length-drop, take-append-drop, take_all}
 use Rattle.pgm_planes.specs.declared.fault.InputFault.{InputFault}
 use Rattle.pgm_planes.specs.declared.fault.InputFault.TheVariants as faults
-use Rattle.pgm_planes.specs.declared.fault.Role.TheVariants.{Phase, Weight, Mask}
-use Rattle.pgm_planes.specs.Planes.{PlaneOf}
 use Rattle.pgm_planes.specs.Reading.{goes_beyond}
 use Rattle.session_script.specs.declared.session_use.SessionUse.{SessionUse}
 use Rattle.session_script.specs.declared.session_use.SessionUse.TheVariants.{Alone, BeforeReport}
-use Rattle.session_script.specs.Parsing.{Parse, parsed, and_then, plane_parser, later_parser, peek_parser, ThreePlanes, three, planes_parser, script_parser, session_parser}
-use Rattle.session_script.specs.Sections.{Sections}
-use Rattle.session_script.specs.Sessions.{SessionOf, ones_of, frame_in, IsSessionIn, PlaneAsks, SessionAsks, AreTooMany, HasFault}
-use Rattle.session_script.proofs.ParseLemmas.{done, broken, wants, fault_is, not_both, and_then_ok, and_then_err, further, needed_or_same, not_needed, value_or_fault, Regular, parsed_regular, chain_regular}
-use Rattle.session_script.proofs.PlanesAgain.{plane_in_told, later_told, plane_found, later_found, plane_needed, plane_needs_more, later_needed, later_needs_more, plane_regular, later_regular, behind_weights, behind_phase, planes_regular}
-use Rattle.session_script.proofs.ScriptAgain.{alone_ends, alone_never, script_regular, script_needed, needs_at_end, report_regular}
+use Rattle.session_script.specs.Parsing.{Parse, parsed, ThreePlanes, planes_parser, script_parser, session_parser, IsOutcome}
+use Rattle.session_script.specs.Sections.{Sections, sections_of, frame_of}
+use Rattle.session_script.specs.Sessions.{SessionOf, frame_in, IsSessionIn, SessionAsks, AreTooMany, HasFault, session_of, mask_open_in}
+use Rattle.session_script.proofs.ParseLemmas.{done, broken, wants, fault_is, not_both, further, Regular, parsed_regular, chain_regular, found, broke, asked}
+use Rattle.session_script.proofs.PlanesAgain.{planes_regular}
+use Rattle.session_script.proofs.ScriptAgain.{alone_ends, script_regular, report_regular}
 use Rattle.sums_and_lists.proofs.Lists.{no_length}
-use Rattle.session_script.proofs.SessionAgain.{behind_planes, told_by, is_session, session_told, break_told, session_found, session_broken, one_break, no_break_of_session}
-
-abbrev Value : Type 0
-Value = ThreePlanes × Sections
-
--- ---- with more bytes after
+use Rattle.session_script.proofs.SessionAgain.{Value, behind_planes, value_of, told_by, is_session, session_means, one_break, no_break_of_session, Stands, one_session}
+use Rattle.std.specs.Prelude.{IfSome, IfOk, IfErr, slice_get}
+use Rattle.std.specs.List.{AllByRecursion}
+use Rattle.std.proofs.Math.Seq.{drop-append-add}
+use Rattle.std.proofs.lemmas.List.Sums.{sum_by-cons}
+use Rattle.raster_model.specs.declared.script.Command.{Command}
+use Rattle.raster_model.specs.declared.script.Script.{Script}
+use Rattle.raster_model.specs.declared.session.Session.{Session}
+use Rattle.raster_model.specs.declared.tiling.Tiling.{Tiling}
+use Rattle.raster_model.specs.declared.plane.Plane.{Plane}
+use Rattle.raster_model.specs.MaskView.{MaskView}
+use Rattle.raster_model.specs.Masks.{IsMaskOf, open_by}
+use Rattle.insar_ports.specs.Bytes.{with_front}
+use Rattle.insar_ports.specs.Calls.{Call, Moves}
+use Rattle.insar_ports.proofs.CallLemmas.{if_told, at_told, some_is, some_of}
+use Rattle.pgm_planes.specs.declared.fault.InputFault.TheVariants.{TooLong}
+use Rattle.pgm_planes.specs.Planes.{PlaneOf, plane_of}
+use Rattle.pgm_planes.proofs.CallLemmas.{told_on}
+use Rattle.session_script.specs.declared.fault.SessionFault.{SessionFault}
+use Rattle.session_script.specs.declared.fault.SessionFault.TheVariants.{Input, ReadFault, Memory}
+use Rattle.session_script.specs.Causes.{HasSessionCause, IsReadAsSession, IsRefusedFor, IsAtLimit}
+use Rattle.session_script.specs.Making.{IsMadeOf, IsSessionOutcome}
+use Rattle.session_script.specs.Building.{parts_in, planes_in, scripts_in}
+use Rattle.session_script.specs.declared.parts.Parts.{Parts}
+use Rattle.session_script.specs.Reaching.{Reaches}
 
 pub session_regular : (usage : SessionUse) (side : ℕ) → Regular 0 0 (session_parser usage side)
 session_regular usage side =
@@ -33,118 +50,17 @@ report_session side =
     chain_regular 0 0 1 1 planes_parser (behind_planes BeforeReport side) (omega arith) planes_regular
     (λ p. chain_regular 1 1 0 1 (script_parser (frame_in side p.phase) BeforeReport) (λ ss. parsed (p, ss)) (omega arith) (report_regular (frame_in side p.phase)) (λ ss. parsed_regular 1 (p, ss)))
 
-session_never : (side at : ℕ) (bytes : List ℕ) (x : Value) (end : ℕ) (rest : List ℕ) → session_parser Alone side true at bytes ≡ done x end rest → ⊥
-session_never side at bytes x end rest e =
-    let p = and_then_ok (planes_parser true at bytes) (λ p. behind_planes Alone side p true) x end rest e in
-    let s = and_then_ok (script_parser (frame_in side p.0.0.phase) Alone true p.0.1 p.0.2) (λ ss. parsed (p.0.0, ss) true) x end rest p.2 in
-    alone_never (frame_in side p.0.0.phase) p.0.1 p.0.2 s.0.0 s.0.1 s.0.2 s.1
-
--- ---- where the planes need a byte, one of them asks, or the bytes end where a later one may begin
-
-phase_ends : (p : PlaneOf) (end : ℕ) (rest : List ℕ) → rest ≡ [] → behind_phase p false end rest ≡ done (three p (ones_of p) (ones_of p)) end []
-unfolding peek_parser
-phase_ends p end [] e = refl
-phase_ends p end (b ∷ rest) e = absurd cc
-
-weights_end : (p w : PlaneOf) (end : ℕ) (rest : List ℕ) → rest ≡ [] → behind_weights p w false end rest ≡ done (three p w (ones_of p)) end []
-unfolding peek_parser
-weights_end p w end [] e = refl
-weights_end p w end (b ∷ rest) e = absurd cc
-
-abbrev on_phase : Bool → Parse PlaneOf → Parse ThreePlanes
-on_phase more r = and_then r (λ p. behind_phase p more)
-
-abbrev on_weights : PlaneOf → Bool → Parse PlaneOf → Parse ThreePlanes
-on_weights p more r = and_then r (λ w. behind_weights p w more)
-
-abbrev AskOrEnd : ℕ → List ℕ → Type 0
-AskOrEnd at bytes = PlaneAsks bytes ⊎ ((p : ThreePlanes) × (end : ℕ) × (planes_parser false at bytes ≡ done p end []))
-
-module _ (at : ℕ) (bytes : List ℕ) where
-  weights_needed : (p : PlaneOf) (end : ℕ) (rest : List ℕ) → plane_parser Phase false at bytes ≡ done p end rest → behind_phase p true end rest ≡ wants → AskOrEnd at bytes
-  weights_needed p end rest here v = elim (and_then_err (later_parser Weight p true end rest) (λ w. behind_weights p w true) faults.TooLong v) [
-    | inl u ↦ elim (later_needed Weight p end rest u) [
-      | inl none ↦ inr (three p (ones_of p) (ones_of p), end, ap (on_phase false) here ∙ phase_ends p end rest none)
-      | inr a ↦ inl (inr (Weight, p, rest, plane_found Phase at bytes p end rest here, a.0, a.1))
-    ]
-    | inr (r, there, u) ↦
-        let back = not_needed (later_parser Weight p) (later_regular Weight p).far end rest r there in
-        elim (and_then_err (later_parser Mask p true r.1 r.2) (λ m. parsed (three p r.0 m) true) faults.TooLong u) [
-          | inl t ↦ elim (later_needed Mask p r.1 r.2 t) [
-            | inl none ↦ inr (three p r.0 (ones_of p), r.1, ap (on_phase false) here ∙ ap (on_weights p false) back ∙ weights_end p r.0 r.1 r.2 none)
-            | inr a ↦ inl (inr (Mask, p, r.2, (r.0, rest, plane_found Phase at bytes p end rest here, later_found Weight p end rest r.0 r.1 r.2 back), a.0, a.1))
-          ]
-          | inr z ↦ absurd (not_both {A = ThreePlanes} (three p r.0 z.0.0, z.0.1, z.0.2) faults.TooLong z.2)
-        ]
-  ]
-
-  planes_needed : planes_parser true at bytes ≡ wants → AskOrEnd at bytes
-  planes_needed v = elim (and_then_err (plane_parser Phase true at bytes) (λ p. behind_phase p true) faults.TooLong v) [
-    | inl u ↦ inl (inl (plane_needed Phase at bytes u))
-    | inr q ↦ weights_needed q.0.0 q.0.1 q.0.2 (not_needed (plane_parser Phase) (plane_regular Phase).far at bytes q.0 q.1) q.2
-  ]
-
-  planes_ask : PlaneAsks bytes → planes_parser true at bytes ≡ wants
-  planes_ask (inl a) = ap (on_phase true) (plane_needs_more Phase at bytes a)
-  planes_ask (inr (Phase, phase, rest, s, b, a)) = absurd s
-  planes_ask (inr (Weight, phase, rest, s, b, a)) = elim (needed_or_same (plane_parser Phase) (plane_regular Phase).far at bytes) [
-    | inl w ↦ ap (on_phase true) w
-    | inr same ↦
-        let t = plane_in_told Phase at bytes phase rest s in
-        ap (on_phase true) (sym same ∙ t.2) ∙ ap (on_weights phase true) (later_needs_more Weight phase t.0 rest b a)
-  ]
-  planes_ask (inr (Mask, phase, rest, (weights, between, i, j), b, a)) = elim (needed_or_same (plane_parser Phase) (plane_regular Phase).far at bytes) [
-    | inl w ↦ ap (on_phase true) w
-    | inr same ↦
-        let t = plane_in_told Phase at bytes phase between i in
-        ap (on_phase true) (sym same ∙ t.2) ∙ elim (needed_or_same (later_parser Weight phase) (later_regular Weight phase).far t.0 between) [
-          | inl w ↦ ap (on_weights phase true) w
-          | inr even ↦
-              let u = later_told Weight phase t.0 between weights rest j in
-              ap (on_weights phase true) (sym even ∙ u.2) ∙ ap (λ (r : Parse PlaneOf). and_then r (λ m. parsed (three phase weights m) true)) (later_needs_more Mask phase u.0 rest b a)
-        ]
-  ]
-
--- ---- a session asks exactly where its parser needs a byte
-
+-- a session asks exactly where its parser needs a byte
 module _ (usage : SessionUse) (side : ℕ) (bytes : List ℕ) where
-  abbrev on_planes : Bool → Parse ThreePlanes → Parse Value
-  on_planes more r = and_then r (λ p. behind_planes usage side p more)
-
-  script_asks : length bytes ≤ 268435456 → (p : ThreePlanes) (end : ℕ) (rest : List ℕ) → planes_parser false 0 bytes ≡ done p end rest → script_parser (frame_in side p.phase) usage true end rest ≡ wants → SessionAsks usage side bytes
-  script_asks le p end rest here u = elim (script_needed (frame_in side p.phase) usage end rest u) [
-    | inl cut ↦ inr (inl (session_broken usage side bytes faults.NoEnd (ap (on_planes false) here ∙ ap (λ (r : Parse Sections). and_then r (λ ss. parsed (p, ss) false)) cut)))
-    | inr (alone, scripts, last, e) ↦
-        let w = session_found usage side bytes p scripts last [] (ap (on_planes false) here ∙ ap (λ (r : Parse Sections). and_then r (λ ss. parsed (p, ss) false)) e) in
-        let s = told_by usage side bytes w.0 in
-        inl (alone, s, subst (λ (u : SessionUse). IsSessionIn u side bytes s []) alone (subst (IsSessionIn usage side bytes s) w.3 (is_session usage side bytes w.0 (omega (arith, le)))))
-  ]
-
   pub asks_forth : length bytes ≤ 268435456 → session_parser usage side true 0 bytes ≡ wants → SessionAsks usage side bytes
-  asks_forth le v = elim (and_then_err (planes_parser true 0 bytes) (λ p. behind_planes usage side p true) faults.TooLong v) [
-    | inl u ↦ elim (planes_needed 0 bytes u) [
-      | inl a ↦ inr (inr a)
-      | inr (p, end, here) ↦ script_asks le p end [] here (needs_at_end (frame_in side p.phase) usage end)
-    ]
-    | inr (q, here, u) ↦ elim (and_then_err (script_parser (frame_in side q.0.phase) usage true q.1 q.2) (λ ss. parsed (q.0, ss) true) faults.TooLong u) [
-      | inl t ↦ script_asks le q.0 q.1 q.2 (not_needed planes_parser planes_regular.far 0 bytes q here) t
-      | inr z ↦ absurd (not_both {A = Value} ((q.0, z.0.0), z.0.1, z.0.2) faults.TooLong z.2)
-    ]
+  asks_forth le v = elim (asked (session_means usage side) 0 bytes v) [
+    | inl (alone, x, s) ↦ inl (alone, told_by Alone side bytes x, is_session Alone side bytes x [] s (omega (arith, le)))
+    | inr o ↦ inr o
   ]
 
   pub asks_back : SessionAsks usage side bytes → session_parser usage side true 0 bytes ≡ wants
-  asks_back a = elim (needed_or_same (session_parser usage side) (session_regular usage side).far 0 bytes) [
-    | inl w ↦ w
-    | inr same ↦ elim a [
-      | inl (alone, s, i) ↦
-          let t = session_told Alone side 0 bytes s [] i in
-          absurd (session_never side 0 bytes _ t.0 [] (subst (λ (u : SessionUse). session_parser u side true 0 bytes ≡ session_parser u side false 0 bytes) alone (sym same) ∙ t.2))
-      | inr o ↦ elim o [
-        | inl b ↦ absurd ((session_regular usage side).uncut 0 bytes (sym same ∙ break_told 0 bytes usage side faults.NoEnd b))
-        | inr p ↦ ap (on_planes true) (planes_ask 0 bytes p)
-      ]
-    ]
-  ]
+  asks_back (inl (alone, s, i)) = (session_means usage side).asks 0 bytes (inl (alone, value_of s i.mask_plane, (i.between, i.planes, i.script)))
+  asks_back (inr o) = (session_means usage side).asks 0 bytes (inr o)
 
 -- ---- bytes have one fault
 
@@ -162,7 +78,7 @@ session_not_long Alone side bytes s rest i t =
     let ends = alone_ends (frame_in side s.phase) i.between s.scripts rest i.script in
     omega (arith, t.0, i.short, ap length ends)
 session_not_long BeforeReport side bytes s rest i t =
-    let told = session_told BeforeReport side 0 bytes s rest i in
+    let told = (session_means BeforeReport side).told 0 bytes (value_of s i.mask_plane) rest (i.between, i.planes, i.script) in
     let less = (report_session side).needs 0 (take 268435456 bytes) (drop 268435456 bytes) _ told.0 rest (asks_back BeforeReport side (take 268435456 bytes) t.1) (ap (session_parser BeforeReport side false 0) (sym (whole bytes)) ∙ told.2) in
     omega (arith, less, i.short, t.0, length-drop 268435456 bytes)
 
@@ -192,14 +108,14 @@ module _ (usage : SessionUse) (side : ℕ) (bytes : List ℕ) where
 
   pub fault_seen : (fault : InputFault) → seen ≡ broken fault → HasFault usage side bytes fault
   fault_seen fault e = elim seen_is [
-    | inl (le, all) ↦ inr ((λ t. omega (arith, t.0, le)), session_broken usage side bytes fault (sym all ∙ e))
+    | inl (le, all) ↦ inr ((λ t. omega (arith, t.0, le)), broke (session_means usage side) 0 bytes fault (sym all ∙ e))
     | inr (lt, cut) ↦ elim (long_or_not fault) [
       | inl long ↦ inl ((lt, asks_forth usage side (take 268435456 bytes) short_seen (sym cut ∙ e ∙ ap broken long)), long)
       | inr other ↦ elim ((session_regular usage side).far 0 (take 268435456 bytes) (drop 268435456 bytes)) [
         | inl w ↦ absurd (other (fault_is {A = Value} fault faults.TooLong (sym e ∙ cut ∙ w)))
         | inr h ↦ inr (
           (λ t. other (fault_is {A = Value} fault faults.TooLong (sym e ∙ cut ∙ asks_back usage side (take 268435456 bytes) t.1))),
-          session_broken usage side bytes fault (ap (session_parser usage side false 0) (whole bytes) ∙ h ∙ ap (λ (r : Parse Value). further r (drop 268435456 bytes)) (sym cut ∙ e)),
+          broke (session_means usage side) 0 bytes fault (ap (session_parser usage side false 0) (whole bytes) ∙ h ∙ ap (λ (r : Parse Value). further r (drop 268435456 bytes)) (sym cut ∙ e)),
         )
       ]
     ]
@@ -217,10 +133,113 @@ module _ (usage : SessionUse) (side : ℕ) (bytes : List ℕ) where
     ]
   ]
 
+  either : (r : Parse Value) → seen ≡ r → ((s : SessionOf) × (rest : List ℕ) × IsSessionIn usage side bytes s rest) ⊎ ((fault : InputFault) × HasFault usage side bytes fault)
+  either (Err fault) e = inr (fault, fault_seen fault e)
+  either (Ok x) e =
+      let all = x.2 ++ drop 268435456 bytes in
+      let s = found (session_means usage side) 0 bytes x.0 x.1 all (value_seen x.0 x.1 x.2 e) in
+      inl (told_by usage side bytes x.0, all, is_session usage side bytes x.0 all s.1 (omega (arith, length-append x.2 (drop 268435456 bytes), length-drop 268435456 bytes)))
+
   pub session_or_fault : ((s : SessionOf) × (rest : List ℕ) × IsSessionIn usage side bytes s rest) ⊎ ((fault : InputFault) × HasFault usage side bytes fault)
-  session_or_fault = elim (value_or_fault seen) [
-    | inr (fault, e) ↦ inr (fault, fault_seen fault e)
-    | inl (x, e) ↦
-        let w = session_found usage side bytes x.0.0 x.0.1 x.1 (x.2 ++ drop 268435456 bytes) (value_seen x.0 x.1 x.2 e) in
-        inl (told_by usage side bytes w.0, w.0.rest, is_session usage side bytes w.0 (omega (arith, ap length w.3, length-append x.2 (drop 268435456 bytes), length-drop 268435456 bytes)))
-  ]
+  session_or_fault = either seen refl
+
+-- ---- a session, from its planes and its scripts
+
+-- a mask of a plane, as of what the plane tells
+pub mask_of : (m : MaskView) (p : Plane) (w h : ℕ) → p.width ≡ w → p.height ≡ h → IsMaskOf m p.width p.height (open_by p) → IsMaskOf m w h (mask_open_in (plane_of p))
+mask_of m p w h e f i = record {
+  width = i.width ∙ e;
+  height = i.height ∙ f;
+  clear_at = λ x y in_width in_height. i.clear_at x y (omega (arith, in_width, e)) (omega (arith, in_height, f));
+}
+
+-- ---- scripts as sections
+
+pub each_script : (P : List Command → Type 0) (scripts : List Script) → AllByRecursion P (sections_of scripts) → (k : ℕ) (s : Script) → slice_get scripts k ≡ Some s → P s.commands.items
+each_script P [] a k s e = absurd cc
+each_script P (x ∷ scripts) a zero s e = let same : x ≡ s = cc in subst (λ (y : Script). P y.commands.items) same a.0
+each_script P (x ∷ scripts) a (suc k) s e = each_script P scripts a.1 k s e
+
+pub all_scripts : (P : List Command → Type 0) (scripts : List Script) → ((k : ℕ) (s : Script) → slice_get scripts k ≡ Some s → P s.commands.items) → AllByRecursion P (sections_of scripts)
+all_scripts P [] f = tt
+all_scripts P (x ∷ scripts) f = (f 0 x refl, all_scripts P scripts (λ k s e. f (suc k) s e))
+
+pub same_counts : (test : Command → Bool) (scripts : List Script) → sum_by (λ script. count_by test script.commands.items) scripts ≡ sum_by (count_by test) (sections_of scripts)
+same_counts test [] = refl
+same_counts test (x ∷ scripts) =
+    sum_by-cons (λ script. count_by test script.commands.items) x scripts
+    ∙ ap (λ n. count_by test x.commands.items + n) (same_counts test scripts)
+    ∙ sym (sum_by-cons (count_by test) x.commands.items (sections_of scripts))
+
+-- ---- the frame
+
+pub frame_is : (t : Tiling) (p : PlaneOf) (side : ℕ) → t.width ≡ p.width → t.height ≡ p.height → t.side ≡ side → frame_of t ≡ frame_in side p
+frame_is t p side a b c = rw (← a, ← b, ← c) refl
+
+-- ---- what the call's outcome says
+
+pub makes_session : (usage : SessionUse) (side : ℕ) (c : Call) (x : Parts) (r : Result Session SessionFault) → IfOk r (λ s. IsMadeOf (planes_in x.planes) (scripts_in x.scripts) (session_of s)) → IfErr r (λ fault. fault ≡ Memory) → IsOutcome parts_in (Ok x) c (session_parser usage side) → IsSessionOutcome usage side c r
+makes_session usage side c x (Ok s) made starved h = (x, made, h)
+makes_session usage side c x (Err e) made starved h = rw starved tt
+
+made_by : (usage : SessionUse) (side : ℕ) (bytes : List ℕ) (x : ThreePlanes × Sections) (rest : List ℕ) (s : SessionOf) → Stands usage side bytes x rest → IsMadeOf x.0 x.1 s → length bytes ≤ 268435456 + length rest → IsSessionIn usage side bytes s rest
+made_by usage side bytes x rest s (between, planes, script) made short = record {
+  mask_plane = x.0.mask;
+  between = between;
+  planes = rw (made.phase_is, made.weights_are) planes;
+  mask = rw made.phase_is made.mask_is;
+  script = rw (made.phase_is, made.scripts_are) script;
+  short = short;
+}
+
+module _ (usage : SessionUse) (side : ℕ) (c : Call) (m : Moves c) (start : c.at ≡ 0) (limit : c.limit ≡ 268435456) (within : c.end ≤ c.limit) where
+  -- what is left after what was handed out, of the bytes that the limit lets out and those beyond it
+  all_left : (bytes rest : List ℕ) → bytes ≡ m.front ++ rest → take (c.limit - c.end) rest ++ drop 268435456 bytes ≡ rest
+  all_left bytes rest e =
+      let k : 268435456 ≡ length m.front + (c.limit - c.end) = omega (arith, m.place, start, limit, within) in
+      ap (λ (t : List ℕ). take (c.limit - c.end) rest ++ t) (ap (λ (n : ℕ). drop n bytes) k ∙ ap (drop (length m.front + (c.limit - c.end))) e ∙ drop-append-add m.front rest (c.limit - c.end)) ∙ take-append-drop (c.limit - c.end) rest
+
+  at_start : (bytes : List ℕ) → session_parser usage side (goes_beyond c.limit c.at bytes) c.at (take (c.limit - c.at) bytes) ≡ seen usage side bytes
+  at_start bytes = rw (start, limit) refl
+
+  reads_session : (session : Session) → IsSessionOutcome usage side c (Ok session) → Reaches c (λ bytes rest. IsSessionIn usage side bytes (session_of session) rest)
+  reads_session session (x, made, outcome) = if_told c.told _ (λ bytes t.
+      let l = told_on m.front c.told c.left bytes m.parts t in
+      let parts : bytes ≡ m.front ++ l.0 = some_is bytes (m.front ++ l.0) (sym t ∙ m.parts ∙ ap (with_front m.front) l.1) in
+      let all = value_seen usage side bytes (parts_in x) c.end (take (c.limit - c.end) l.0) (sym (at_start bytes) ∙ outcome bytes l.0 t l.1) in
+      let s = found (session_means usage side) 0 bytes (parts_in x) c.end l.0 (all ∙ ap (done (parts_in x) c.end) (all_left bytes l.0 parts)) in
+      let size : length bytes ≡ length m.front + length l.0 = omega (arith, ap length parts, length-append m.front l.0) in
+      (l.0, (l.1, (omega (arith, size, m.place), made_by usage side bytes (parts_in x) l.0 (session_of session) s.1 made (omega (arith, size, m.place, start, limit, within))))))
+
+  -- all that the reader of a session promises
+  pub record Keeps (r : Result Session SessionFault) : Type 0 where
+    pub read : IfOk r (λ s. Reaches c (λ bytes rest. IsSessionIn usage side bytes (session_of s) rest))
+    pub accepted : IfSome c.told (λ bytes. (s : SessionOf) (rest : List ℕ) → IsSessionIn usage side bytes s rest → IsReadAsSession c s rest r)
+    pub refused : IfErr r (HasSessionCause usage side c)
+    pub too_long : r ≡ Err (Input TooLong) → IsAtLimit c
+    pub exact : IfSome c.told (λ bytes. (fault : InputFault) → HasFault usage side bytes fault → IsRefusedFor c fault r)
+
+  pub keeps : (r : Result Session SessionFault) → IsSessionOutcome usage side c r → Keeps r
+  keeps (Ok session) h =
+      let read = reads_session session h in
+      record {
+        read = read;
+        accepted = if_told c.told _ (λ bytes t s rest i.
+            let k = at_told c.told _ bytes t read in
+            let one = one_session usage side bytes (session_of session) s k.0 rest k.1.1.1 i in
+            (one.0, k.1.0 ∙ ap some_of one.1));
+        refused = tt;
+        too_long = λ e. absurd cc;
+        exact = if_told c.told _ (λ bytes t fault b. let k = at_told c.told _ bytes t read in no_fault_of_session usage side bytes (session_of session) k.0 fault k.1.1.1 b);
+      }
+  keeps (Err (Input fault)) h =
+      let has = λ (bytes : List ℕ) (t : c.told ≡ Some bytes). let l = told_on m.front c.told c.left bytes m.parts t in fault_seen usage side bytes fault (sym (at_start bytes) ∙ h.0 bytes l.0 t l.1) in
+      record {
+        read = tt;
+        accepted = if_told c.told _ (λ bytes t s rest i. no_fault_of_session usage side bytes s rest fault i (has bytes t));
+        refused = if_told c.told _ has;
+        too_long = λ e. (let same : fault ≡ TooLong = cc in let full = h.1 same in if_told c.told _ (λ bytes t. (full.0 ∙ limit, full.1)));
+        exact = if_told c.told _ (λ bytes t other b. one_fault usage side bytes fault other (has bytes t) b);
+      }
+  keeps (Err ReadFault) h = record { read = tt; accepted = if_told c.told _ (λ _ _ _ _ _. h); refused = h; too_long = λ e. absurd cc; exact = if_told c.told _ (λ _ _ _ _. h) }
+  keeps (Err Memory) h = record { read = tt; accepted = if_told c.told _ (λ _ _ _ _ _. tt); refused = tt; too_long = λ e. absurd cc; exact = if_told c.told _ (λ _ _ _ _. tt) }

@@ -1,5 +1,5 @@
 -- The parser of a session's planes gives what the relations say: the planes stand in one way or have one first break.
-use Rattle.std.proofs.Common.{◌≡◌, ℕ, zero, suc, ◌+◌, ◌-◌, ◌<◌, ◌⊎◌, Bool, true, false, cond, eqb, inl, inr, List, [], ◌∷◌, ◌++◌, length, take, Some, None, Ok, Err, refl, sym, ap, subst, ◌∙◌, arith}
+use Rattle.std.proofs.Common.{◌≡◌, ℕ, zero, suc, ◌+◌, ◌-◌, ◌<◌, ◌⊎◌, Bool, true, false, eqb, inl, inr, List, [], ◌∷◌, ◌++◌, length, take, Some, None, Ok, Err, refl, sym, ap, subst, ◌∙◌, arith}
 use Rattle.std.specs.Prelude.{IsTrue}
 use Rattle.std.proofs.Math.Seq.{take-append-add, take-append_seam}
 use Rattle.std.proofs.lemmas.Bool.{and_parts, eqb-true, eq-eqb, cases_Bool, cases_lt}
@@ -18,107 +18,17 @@ use Rattle.pgm_planes.proofs.AskLemmas.{told_asks, asks_told, no_ask_behind}
 use Rattle.pgm_planes.proofs.FarLemmas.{plane_far}
 use Rattle.pgm_planes.proofs.FarLemmas.{further as plane_further}
 use Rattle.pgm_planes.proofs.PlaneAgain.{break_told, plane_told, plane_or_break}
-use Rattle.session_script.specs.Parsing.{Parser, parsed, chain, peek_parser, as_parse, plane_parser, has_size, if_sized, is_begun, later_plane, later_parser, ThreePlanes, three, planes_parser}
-use Rattle.session_script.specs.Sessions.{ones_of, HasPlaneSize, is_p, IsLaterPlane, PlaneBreak, LaterBreak}
-use Rattle.session_script.proofs.ParseLemmas.{done, broken, wants, ok_is, fault_is, not_both, and_then_err, further, Far, Steps, Needs, Regular, parsed_regular, chain_regular, peek_regular}
+use Rattle.session_script.specs.Parsing.{Parse, Parser, parsed, and_then, chain, peek_parser, as_parse, plane_parser, has_size, where_sized, if_sized, is_begun, later_plane, later_parser, ThreePlanes, three, planes_parser}
+use Rattle.session_script.specs.Sessions.{ones_of, HasPlaneSize, is_p, IsLaterPlane, ArePlanes, PlaneBreak, LaterBreak, StandsBefore, PlanesBreak}
+use Rattle.session_script.proofs.ParseLemmas.{broken, wants, fault_is, further, Far, Regular, needed_or_same, parsed_regular, refusing_regular, chain_regular, peek_regular, Told, Says, Means, parsed_means, chain_means, Then, BreaksThen, AsksThen, restated, found}
 
--- ---- a plane that stands is read, and a break is told
+-- ---- a plane
 
--- a value was parsed, and what follows begins at this place
-abbrev pub Told : {A : Type 0} → Parser A → ℕ → List ℕ → A → List ℕ → Type 0
-Told p at bytes x rest = (end : ℕ) × (end + length rest ≡ at + length bytes) × (p false at bytes ≡ done x end rest)
-
-pub plane_in_told : (role : Role) (at : ℕ) (bytes : List ℕ) (p : PlaneOf) (rest : List ℕ) → IsPlaneIn role bytes p rest → Told (plane_parser role) at bytes p rest
-plane_in_told role at bytes p rest i = (at + length i.0, omega (arith, ap length i.1, length-append i.0 rest), ap (λ (t : List ℕ). as_parse role (plane_at role false at t)) i.1 ∙ ap (as_parse role) (plane_told role at i.0 p rest i.2))
-
-pub plane_break_told : (role : Role) (at : ℕ) (bytes : List ℕ) (fault : InputFault) → PlaneBreak role at bytes fault → plane_parser role false at bytes ≡ broken fault
-plane_break_told role at bytes fault b = ap (as_parse role) (break_told role at bytes b.0 b.2) ∙ ap broken (sym b.1)
-
-begins_more : (text rest behind : List ℕ) → text ≡ 80 ∷ behind → begins is_p (text ++ rest) ≡ true
-begins_more text rest behind e = rw e refl
-
-pub plane_begins : (role : Role) (bytes : List ℕ) (p : PlaneOf) (rest : List ℕ) → IsPlaneIn role bytes p rest → begins is_p bytes ≡ true
-plane_begins role bytes p rest i = ap (begins is_p) i.1 ∙ begins_more i.0 rest _ i.2.1.header.whole
-
-pub size_told : (p q : PlaneOf) → HasPlaneSize p q → has_size p q ≡ true
-size_told p q h = rw (eq-eqb q.width p.width h.0, eq-eqb q.height p.height h.1) refl
-
-size_is : (p q : PlaneOf) → has_size p q ≡ true → HasPlaneSize p q
-size_is p q e = let b = and_parts (eqb q.width p.width) (eqb q.height p.height) e in (eqb-true q.width p.width b.0, eqb-true q.height p.height b.1)
-
-pub other_size : (p q : PlaneOf) → (HasPlaneSize p q → ⊥) → has_size p q ≡ false
-other_size p q n = elim (cases_Bool (has_size p q)) [ inl t ↦ absurd (n (size_is p q t)) | inr f ↦ f ]
-
--- whether a later plane begins
-later_is : (role : Role) (phase : PlaneOf) (more : Bool) (at b : ℕ) (bytes : List ℕ) → later_parser role phase more at (b ∷ bytes) ≡ later_plane role phase (is_p b) more at (b ∷ bytes)
-unfolding peek_parser
-later_is role phase more at b bytes = refl
-
-later_begins : (role : Role) (phase : PlaneOf) (at : ℕ) (bytes : List ℕ) → later_parser role phase false at bytes ≡ later_plane role phase (begins is_p bytes) false at bytes
-unfolding peek_parser
-later_begins role phase at [] = refl
-later_begins role phase at (b ∷ bytes) = refl
-
-pub later_told : (role : Role) (phase : PlaneOf) (at : ℕ) (bytes : List ℕ) (p : PlaneOf) (rest : List ℕ) → IsLaterPlane role phase bytes p rest → Told (later_parser role phase) at bytes p rest
-later_told role phase at bytes p rest (inl i) =
-    let t = plane_in_told role at bytes p rest i.0 in
-    (t.0, t.1, later_begins role phase at bytes ∙ rw (plane_begins role bytes p rest i.0, t.2, size_told phase p i.1) refl)
-later_told role phase at bytes p rest (inr n) = (at, omega (arith, ap length n.2), later_begins role phase at bytes ∙ rw (n.0, n.1, n.2) refl)
-
-pub later_break_told : (role : Role) (phase : PlaneOf) (at : ℕ) (bytes : List ℕ) (fault : InputFault) → LaterBreak role phase at bytes fault → later_parser role phase false at bytes ≡ broken fault
-later_break_told role phase at bytes fault b = later_begins role phase at bytes ∙ elim b.1 [
-  | inl k ↦ rw (b.0, plane_break_told role at bytes fault k) refl
-  | inr k ↦ let t = plane_in_told role at bytes k.1.0 k.1.1 k.1.2 in rw (b.0, t.2, other_size phase k.1.0 k.1.3, k.0) refl
-]
-
--- ---- it stands, or breaks
-
-abbrev pub FirstOrBreak : ℕ → List ℕ → Type 0
-FirstOrBreak at bytes = ((p : PlaneOf) × (rest : List ℕ) × IsPlaneIn Phase bytes p rest) ⊎ ((fault : InputFault) × PlaneBreak Phase at bytes fault)
-
-pub first_or_break : (at : ℕ) (bytes : List ℕ) → FirstOrBreak at bytes
-first_or_break at bytes = elim (plane_or_break Phase at bytes) [
-  | inl p ↦ inl p
-  | inr f ↦ inr (faults.Plane Phase f.0, (f.0, refl, f.1))
-]
-
-abbrev pub LaterOrBreak : Role → PlaneOf → ℕ → List ℕ → Type 0
-LaterOrBreak role phase at bytes = ((p : PlaneOf) × (rest : List ℕ) × IsLaterPlane role phase bytes p rest) ⊎ ((fault : InputFault) × LaterBreak role phase at bytes fault)
-
-begun_or_break : (role : Role) (phase : PlaneOf) (at : ℕ) (bytes : List ℕ) → begins is_p bytes ≡ true → LaterOrBreak role phase at bytes
-begun_or_break role phase at bytes begun = elim (plane_or_break role at bytes) [
-  | inl p ↦ elim (cases_Bool (has_size phase p.0)) [
-    | inl t ↦ inl (p.0, p.1, inl (p.2, size_is phase p.0 t))
-    | inr f ↦ inr (faults.SizesDiffer role, (begun, inr (refl, (p.0, p.1, p.2, λ h. let q = sym f ∙ size_told phase p.0 h in cc))))
-  ]
-  | inr f ↦ inr (faults.Plane role f.0, (begun, inl (f.0, refl, f.1)))
-]
-
-pub later_or_break : (role : Role) (phase : PlaneOf) (at : ℕ) (bytes : List ℕ) → LaterOrBreak role phase at bytes
-later_or_break role phase at bytes = elim (cases_Bool (begins is_p bytes)) [
-  | inl t ↦ begun_or_break role phase at bytes t
-  | inr f ↦ inl (ones_of phase, bytes, inr (f, refl, refl))
-]
-
--- ---- what is parsed stands
-
-pub plane_found : (role : Role) (at : ℕ) (bytes : List ℕ) (p : PlaneOf) (end : ℕ) (rest : List ℕ) → plane_parser role false at bytes ≡ done p end rest → IsPlaneIn role bytes p rest
-plane_found role at bytes p end rest e = elim (plane_or_break role at bytes) [
-  | inl q ↦
-      let t = plane_in_told role at bytes q.0 q.1 q.2 in
-      subst (λ (x : PlaneOf × ℕ × List ℕ). IsPlaneIn role bytes x.0 x.2) {x = (q.0, t.0, q.1)} {y = (p, end, rest)} (ok_is {A = PlaneOf} (q.0, t.0, q.1) (p, end, rest) (sym t.2 ∙ e)) q.2
-  | inr f ↦ absurd (not_both {A = PlaneOf} (p, end, rest) (faults.Plane role f.0) (sym e ∙ ap (as_parse role) (break_told role at bytes f.0 f.1)))
-]
-
-pub later_found : (role : Role) (phase : PlaneOf) (at : ℕ) (bytes : List ℕ) (p : PlaneOf) (end : ℕ) (rest : List ℕ) → later_parser role phase false at bytes ≡ done p end rest → IsLaterPlane role phase bytes p rest
-later_found role phase at bytes p end rest e = elim (later_or_break role phase at bytes) [
-  | inl q ↦
-      let t = later_told role phase at bytes q.0 q.1 q.2 in
-      subst (λ (x : PlaneOf × ℕ × List ℕ). IsLaterPlane role phase bytes x.0 x.2) {x = (q.0, t.0, q.1)} {y = (p, end, rest)} (ok_is {A = PlaneOf} (q.0, t.0, q.1) (p, end, rest) (sym t.2 ∙ e)) q.2
-  | inr f ↦ absurd (not_both {A = PlaneOf} (p, end, rest) f.0 (sym e ∙ later_break_told role phase at bytes f.0 f.1))
-]
-
--- ---- with more bytes after
+-- the reader of a plane asks where its parser needs a byte
+plane_asks : (role : Role) (r : Reading PlaneOf) → as_parse role r ≡ wants → r ≡ asks
+plane_asks role (Ok x) e = absurd cc
+plane_asks role (Err (Some fault)) e = absurd (let q = fault_is {A = PlaneOf} (faults.Plane role fault) faults.TooLong e in cc)
+plane_asks role (Err None) e = refl
 
 as_further : (role : Role) (r : Reading PlaneOf) (more : List ℕ) → as_parse role (plane_further r more) ≡ further (as_parse role r) more
 as_further role (Ok x) more = refl
@@ -131,24 +41,38 @@ plane_parser_far role at bytes more = elim (plane_far more role at bytes) [
   | inr h ↦ inr (ap (as_parse role) h ∙ as_further role (plane_at role true at bytes) more)
 ]
 
-plane_steps : (role : Role) → Steps 0 (plane_parser role)
-plane_steps role at bytes p end rest e =
-    let i = plane_found role at bytes p end rest e in
-    let t = plane_in_told role at bytes p rest i in
-    let same : t.0 ≡ end = ap (λ (x : PlaneOf × ℕ × List ℕ). x.1) (ok_is {A = PlaneOf} (p, t.0, rest) (p, end, rest) (sym t.2 ∙ e)) in
-    (omega (arith, t.1, same), omega (arith, ap length i.1, length-append i.0 rest))
+module _ (role : Role) where
+  in_told : (at : ℕ) (bytes : List ℕ) (p : PlaneOf) (rest : List ℕ) → IsPlaneIn role bytes p rest → Told (plane_parser role) at bytes p rest
+  in_told at bytes p rest i = (at + length i.0, omega (arith, ap length i.1, length-append i.0 rest), ap (λ (t : List ℕ). as_parse role (plane_at role false at t)) i.1 ∙ ap (as_parse role) (plane_told role at i.0 p rest i.2))
 
--- the reader of a plane asks where its parser needs a byte
-plane_asks : (role : Role) (r : Reading PlaneOf) → as_parse role r ≡ wants → r ≡ asks
-plane_asks role (Ok x) e = absurd cc
-plane_asks role (Err (Some fault)) e = absurd (let q = fault_is {A = PlaneOf} (faults.Plane role fault) faults.TooLong e in cc)
-plane_asks role (Err None) e = refl
+  breaks_told : (at : ℕ) (bytes : List ℕ) (fault : InputFault) → PlaneBreak role at bytes fault → plane_parser role false at bytes ≡ broken fault
+  breaks_told at bytes fault b = ap (as_parse role) (break_told role at bytes b.0 b.2) ∙ ap broken (sym b.1)
 
-pub plane_needed : (role : Role) (at : ℕ) (bytes : List ℕ) → plane_parser role true at bytes ≡ wants → AsksForMore role bytes
-plane_needed role at bytes w = asks_told role at bytes (plane_asks role (plane_at role true at bytes) w)
+  asks_so : (at : ℕ) (bytes : List ℕ) → plane_parser role true at bytes ≡ wants → AsksForMore role bytes
+  asks_so at bytes w = asks_told role at bytes (plane_asks role (plane_at role true at bytes) w)
 
-pub plane_needs_more : (role : Role) (at : ℕ) (bytes : List ℕ) → AsksForMore role bytes → plane_parser role true at bytes ≡ wants
-plane_needs_more role at bytes a = ap (as_parse role) (told_asks role at bytes a)
+  abbrev SaysPlane : Bool → ℕ → List ℕ → Parse PlaneOf → Type 0
+  SaysPlane = Says (IsPlaneIn role) (PlaneBreak role) (AsksForMore role)
+
+  judged_says : (at : ℕ) (bytes : List ℕ) → SaysPlane false at bytes (plane_parser role false at bytes)
+  judged_says at bytes = elim (plane_or_break role at bytes) [
+    | inl q ↦ let t = in_told at bytes q.0 q.1 q.2 in subst (SaysPlane false at bytes) (sym t.2) (t.1, q.2)
+    | inr f ↦ let b : PlaneBreak role at bytes (faults.Plane role f.0) = (f.0, refl, f.1) in subst (SaysPlane false at bytes) (sym (breaks_told at bytes (faults.Plane role f.0) b)) (λ _. b, λ m. absurd cc)
+  ]
+
+  true_says : (at : ℕ) (bytes : List ℕ) (r : Parse PlaneOf) → (r ≡ wants → AsksForMore role bytes) → SaysPlane false at bytes r → SaysPlane true at bytes r
+  true_says at bytes (Ok x) w s = s
+  true_says at bytes (Err e) w s = (λ m. absurd cc, λ _ t. w (ap broken t))
+
+  plane_says : (more : Bool) (at : ℕ) (bytes : List ℕ) → SaysPlane more at bytes (plane_parser role more at bytes)
+  plane_says false at bytes = judged_says at bytes
+  plane_says true at bytes = elim (needed_or_same (plane_parser role) (plane_parser_far role) at bytes) [
+    | inl w ↦ subst (SaysPlane true at bytes) (sym w) (λ m. absurd cc, λ _ _. asks_so at bytes w)
+    | inr same ↦ true_says at bytes (plane_parser role true at bytes) (asks_so at bytes) (subst (SaysPlane false at bytes) same (judged_says at bytes))
+  ]
+
+  plane_means : Means (IsPlaneIn role) (PlaneBreak role) (AsksForMore role) (plane_parser role)
+  plane_means = record { told = in_told; breaks = breaks_told; asks = λ at bytes a. ap (as_parse role) (told_asks role at bytes a); says = plane_says }
 
 none_less : (rest : List ℕ) (k : ℕ) → rest ≡ [] → take k rest ≡ []
 none_less rest zero e = refl
@@ -179,59 +103,94 @@ module _ (role : Role) (p : PlaneOf) (bytes : List ℕ) (a : AsksForMore role by
       let none = none_behind (take k rest) (i.0, parts, (i.2.0, record { samples = t.samples; end = t.end; header = t.header; raster = t.raster; ended = end_less i.2.0 t.end rest k t.ended; plane = t.plane })) in
       omega (arith, lt, none, length-take k rest)
 
-plane_needs : (role : Role) → Needs 0 (plane_parser role)
-plane_needs role at bytes more p end rest w e = elim (cases_lt (length more) (length rest)) [
-  | inl lt ↦ absurd (needed_behind role p bytes (plane_needed role at bytes w) more rest (plane_found role at (bytes ++ more) p end rest e) lt)
-  | inr le ↦ omega (arith, le)
-]
-
--- ---- no plane is refused as cut off
-
-uncut : (role : Role) (r : Reading PlaneOf) → as_parse role r ≡ broken faults.NoEnd → ⊥
-uncut role (Ok x) e = cc
-uncut role (Err (Some fault)) e = let q = fault_is {A = PlaneOf} (faults.Plane role fault) faults.NoEnd e in cc
-uncut role (Err None) e = let q = fault_is {A = PlaneOf} faults.TooLong faults.NoEnd e in cc
-
 pub plane_regular : (role : Role) → Regular 0 0 (plane_parser role)
-plane_regular role = record { far = plane_parser_far role; steps = plane_steps role; needs = plane_needs role; uncut = λ at bytes e. uncut role (plane_at role true at bytes) e }
-
-abbrev if_so : Role → Bool → PlaneOf → Parser PlaneOf
-if_so role b p more at bytes = cond b (Ok (p, at, bytes)) (Err (faults.SizesDiffer role))
-
-if_sized_regular : (role : Role) (p : PlaneOf) (b : Bool) → Regular 0 0 (if_so role b p)
-if_sized_regular role p true = parsed_regular 0 p
-if_sized_regular role p false = record {
-  far = λ at bytes more. inr refl;
-  steps = λ at bytes x end rest e. absurd cc;
-  needs = λ at bytes more x end rest w e. absurd (let k = fault_is {A = PlaneOf} (faults.SizesDiffer role) faults.TooLong w in cc);
-  uncut = λ at bytes e. (let k = fault_is {A = PlaneOf} (faults.SizesDiffer role) faults.NoEnd e in cc);
+plane_regular role = record {
+  far = plane_parser_far role;
+  steps = λ at bytes p end rest e. let i = (found (plane_means role) at bytes p end rest e).1 in omega (arith, ap length i.1, length-append i.0 rest);
+  needs = λ at bytes more p end rest w e. elim (cases_lt (length more) (length rest)) [
+    | inl lt ↦ absurd (needed_behind role p bytes (asks_so role at bytes w) more rest (found (plane_means role) at (bytes ++ more) p end rest e).1 lt)
+    | inr le ↦ omega (arith, le)
+  ];
 }
 
+-- ---- a later plane
+
+begins_more : (text rest behind : List ℕ) → text ≡ 80 ∷ behind → begins is_p (text ++ rest) ≡ true
+begins_more text rest behind e = rw e refl
+
+plane_begins : (role : Role) (bytes : List ℕ) (p : PlaneOf) (rest : List ℕ) → IsPlaneIn role bytes p rest → begins is_p bytes ≡ true
+plane_begins role bytes p rest i = ap (begins is_p) i.1 ∙ begins_more i.0 rest _ i.2.1.header.whole
+
+pub size_told : (p q : PlaneOf) → HasPlaneSize p q → has_size p q ≡ true
+size_told p q h = rw (eq-eqb q.width p.width h.0, eq-eqb q.height p.height h.1) refl
+
+size_is : (p q : PlaneOf) → has_size p q ≡ true → HasPlaneSize p q
+size_is p q e = let b = and_parts (eqb q.width p.width) (eqb q.height p.height) e in (eqb-true q.width p.width b.0, eqb-true q.height p.height b.1)
+
+pub other_size : (p q : PlaneOf) → (HasPlaneSize p q → ⊥) → has_size p q ≡ false
+other_size p q n = elim (cases_Bool (has_size p q)) [ inl t ↦ absurd (n (size_is p q t)) | inr f ↦ f ]
+
+later_begins : (role : Role) (phase : PlaneOf) (at : ℕ) (bytes : List ℕ) → later_parser role phase false at bytes ≡ later_plane role phase (begins is_p bytes) false at bytes
+unfolding chain
+later_begins role phase at [] = refl
+later_begins role phase at (b ∷ bytes) = refl
+
 module _ (role : Role) (phase : PlaneOf) where
+  later_told : (at : ℕ) (bytes : List ℕ) (p : PlaneOf) (rest : List ℕ) → IsLaterPlane role phase bytes p rest → Told (later_parser role phase) at bytes p rest
+  unfolding chain
+  later_told at bytes p rest (inl i) = let t = in_told role at bytes p rest i.0 in (t.0, t.1, later_begins role phase at bytes ∙ rw (plane_begins role bytes p rest i.0, t.2, size_told phase p i.1) refl)
+  later_told at bytes p rest (inr n) = (at, omega (arith, ap length n.2), later_begins role phase at bytes ∙ rw (n.0, n.1, n.2) refl)
+
+  later_breaks : (at : ℕ) (bytes : List ℕ) (fault : InputFault) → LaterBreak role phase at bytes fault → later_parser role phase false at bytes ≡ broken fault
+  unfolding chain
+  later_breaks at bytes fault b = later_begins role phase at bytes ∙ elim b.1 [
+    | inl k ↦ rw (b.0, breaks_told role at bytes fault k) refl
+    | inr k ↦ let t = in_told role at bytes k.1.0 k.1.1 k.1.2 in rw (b.0, t.2, other_size phase k.1.0 k.1.3, k.0) refl
+  ]
+
+  -- the bytes end before it, or it begins and asks
+  abbrev pub LaterAsks : List ℕ → Type 0
+  LaterAsks bytes = (bytes ≡ []) ⊎ (IsTrue (begins is_p bytes) × AsksForMore role bytes)
+
+  later_asks : (at : ℕ) (bytes : List ℕ) → LaterAsks bytes → later_parser role phase true at bytes ≡ wants
+  unfolding chain
+  later_asks at [] a = refl
+  later_asks at (b ∷ bytes) (inl n) = absurd cc
+  later_asks at (b ∷ bytes) (inr a) = rw (a.0, (plane_means role).asks at (b ∷ bytes) a.1) refl
+
+  abbrev SaysLater : Bool → ℕ → List ℕ → Parse PlaneOf → Type 0
+  SaysLater = Says (IsLaterPlane role phase) (LaterBreak role phase) LaterAsks
+
+  sized_says : (more : Bool) (at : ℕ) (bytes : List ℕ) (p : PlaneOf) (end : ℕ) (rest : List ℕ) → begins is_p bytes ≡ true → end + length rest ≡ at + length bytes → IsPlaneIn role bytes p rest → (b : Bool) → has_size phase p ≡ b → SaysLater more at bytes (where_sized role p b more end rest)
+  sized_says more at bytes p end rest t e i true h = (e, inl (i, size_is phase p h))
+  sized_says more at bytes p end rest t e i false h = (λ _. (t, inr (refl, (p, rest, i, λ k. let q = sym h ∙ size_told phase p k in cc))), λ _ l. absurd cc)
+
+  begun_says : (more : Bool) (at : ℕ) (bytes : List ℕ) → begins is_p bytes ≡ true → (r : Parse PlaneOf) → SaysPlane role more at bytes r → SaysLater more at bytes (and_then r (λ p. if_sized role phase p more))
+  begun_says more at bytes t (Ok x) s = sized_says more at bytes x.0 x.1 x.2 t s.0 s.1 (has_size phase x.0) refl
+  begun_says more at bytes t (Err e) s = (λ m. (t, inl (s.0 m)), λ m l. inr (t, s.1 m l))
+
+  later_says : (more : Bool) (at : ℕ) (bytes : List ℕ) → SaysLater more at bytes (later_parser role phase more at bytes)
+  unfolding chain
+  later_says true at [] = (λ m. absurd cc, λ _ _. inl refl)
+  later_says false at [] = (refl, inr (refl, refl, refl))
+  later_says more at (b ∷ bytes) = elim (cases_Bool (is_p b)) [
+    | inl t ↦ rw t (begun_says more at (b ∷ bytes) t (plane_parser role more at (b ∷ bytes)) (plane_says role more at (b ∷ bytes)))
+    | inr f ↦ rw f (refl, inr (f, refl, refl))
+  ]
+
+  later_means : Means (IsLaterPlane role phase) (LaterBreak role phase) LaterAsks (later_parser role phase)
+  later_means = record { told = later_told; breaks = later_breaks; asks = later_asks; says = later_says }
+
+  sized_regular : (p : PlaneOf) (b : Bool) → Regular 0 0 (where_sized role p b)
+  sized_regular p true = parsed_regular 0 p
+  sized_regular p false = refusing_regular 0 0 (λ _. faults.SizesDiffer role) (λ at e. cc)
+
   behind_regular : (b : Bool) → Regular 0 0 (later_plane role phase b)
-  behind_regular true = chain_regular 0 0 0 0 (plane_parser role) (if_sized role phase) (omega arith) (plane_regular role) (λ p. if_sized_regular role p (has_size phase p))
+  behind_regular true = chain_regular 0 0 0 0 (plane_parser role) (if_sized role phase) (omega arith) (plane_regular role) (λ p. sized_regular p (has_size phase p))
   behind_regular false = parsed_regular 0 (ones_of phase)
 
-  pub later_regular : Regular 0 0 (later_parser role phase)
+  later_regular : Regular 0 0 (later_parser role phase)
   later_regular = chain_regular 0 0 0 0 peek_parser (λ got. later_plane role phase (is_begun got)) (omega arith) peek_regular (λ got. behind_regular (is_begun got))
-
-  -- where a later plane needs a byte, the bytes end before it, or it begins and asks
-  pub later_needed : (at : ℕ) (bytes : List ℕ) → later_parser role phase true at bytes ≡ wants → (bytes ≡ []) ⊎ (IsTrue (begins is_p bytes) × AsksForMore role bytes)
-  later_needed at [] w = inl refl
-  later_needed at (b ∷ bytes) w = inr (elim (cases_Bool (is_p b)) [
-    | inr f ↦ absurd (let q = rw f at (sym (later_is role phase true at b bytes) ∙ w) in cc)
-    | inl t ↦ elim (and_then_err (plane_parser role true at (b ∷ bytes)) (λ x. if_sized role phase x true) faults.TooLong (rw t at (sym (later_is role phase true at b bytes) ∙ w))) [
-      | inl v ↦ (t, plane_needed role at (b ∷ bytes) v)
-      | inr q ↦ absurd (elim (cases_Bool (has_size phase q.0.0)) [
-        | inl s ↦ (let z = rw s at q.2 in cc)
-        | inr s ↦ (let z = fault_is {A = PlaneOf} (faults.SizesDiffer role) faults.TooLong (rw s at q.2) in cc)
-      ])
-    ]
-  ])
-
-  pub later_needs_more : (at : ℕ) (bytes : List ℕ) → IsTrue (begins is_p bytes) → AsksForMore role bytes → later_parser role phase true at bytes ≡ wants
-  later_needs_more at [] t a = absurd cc
-  later_needs_more at (b ∷ bytes) t a = later_is role phase true at b bytes ∙ rw (t, plane_needs_more role at (b ∷ bytes) a) refl
 
 -- ---- all planes
 
@@ -241,11 +200,64 @@ behind_weights p w = chain (later_parser Mask p) (λ m. parsed (three p w m))
 abbrev pub behind_phase : PlaneOf → Parser ThreePlanes
 behind_phase p = chain (later_parser Weight p) (behind_weights p)
 
-weights_regular : (p w : PlaneOf) → Regular 0 0 (behind_weights p w)
-weights_regular p w = chain_regular 0 0 0 0 (later_parser Mask p) (λ m. parsed (three p w m)) (omega arith) (later_regular Mask p) (λ m. parsed_regular 0 (three p w m))
-
-phase_regular : (p : PlaneOf) → Regular 0 0 (behind_phase p)
-phase_regular p = chain_regular 0 0 0 0 (later_parser Weight p) (behind_weights p) (omega arith) (later_regular Weight p) (weights_regular p)
-
 pub planes_regular : Regular 0 0 planes_parser
-planes_regular = chain_regular 0 0 0 0 (plane_parser Phase) behind_phase (omega arith) (plane_regular Phase) phase_regular
+planes_regular =
+    chain_regular 0 0 0 0 (plane_parser Phase) behind_phase (omega arith) (plane_regular Phase)
+    (λ p. chain_regular 0 0 0 0 (later_parser Weight p) (behind_weights p) (omega arith) (later_regular Weight p)
+    (λ w. chain_regular 0 0 0 0 (later_parser Mask p) (λ m. parsed (three p w m)) (omega arith) (later_regular Mask p) (λ m. parsed_regular 0 (three p w m))))
+
+abbrev pub ThreeStand : List ℕ → ThreePlanes → List ℕ → Type 0
+ThreeStand bytes x rest = ArePlanes bytes x.phase x.weights x.mask rest
+
+-- a plane needs a byte: the phase plane, or a later one
+abbrev pub ThreeAsk : List ℕ → Type 0
+ThreeAsk bytes = AsksForMore Phase bytes ⊎ ((role : Role) × (phase : PlaneOf) × (rest : List ℕ) × StandsBefore role bytes phase rest × LaterAsks role phase rest)
+
+-- the same, one plane after the other
+abbrev ThreeBreak : ℕ → List ℕ → InputFault → Type 0
+ThreeBreak = BreaksThen (IsPlaneIn Phase) (PlaneBreak Phase) (λ p. BreaksThen (IsLaterPlane Weight p) (LaterBreak Weight p) (λ w. BreaksThen (IsLaterPlane Mask p) (LaterBreak Mask p) (λ m at bytes e. ⊥)))
+
+abbrev ThreeWant : List ℕ → Type 0
+ThreeWant = AsksThen (IsPlaneIn Phase) (AsksForMore Phase) (λ p. AsksThen (IsLaterPlane Weight p) (LaterAsks Weight p) (λ w. AsksThen (IsLaterPlane Mask p) (LaterAsks Mask p) (λ m bytes. ⊥)))
+
+stand_so : (bytes : List ℕ) (x : ThreePlanes) (rest : List ℕ) → Then (IsPlaneIn Phase) (λ p. Then (IsLaterPlane Weight p) (λ w. Then (IsLaterPlane Mask p) (λ m others y end. (y ≡ three p w m) × (end ≡ others)))) bytes x rest → ThreeStand bytes x rest
+stand_so bytes x rest (p, first, i, (w, second, j, (m, third, k, (e, r)))) = rw (e, r) (record { behind_phase = first; behind_weights = second; first = i; second = j; third = k })
+
+break_so : (at : ℕ) (bytes : List ℕ) (e : InputFault) → ThreeBreak at bytes e → PlanesBreak at bytes e
+break_so at bytes e (inl k) = inl k
+break_so at bytes e (inr (p, first, place, is, i, inl k)) = inr (record { role = Weight; phase = p; rest = first; place = place; before = i; place_is = is; broken = k })
+break_so at bytes e (inr (p, first, place, is, i, inr (w, second, later, was, j, inl k))) = inr (record { role = Mask; phase = p; rest = second; place = later; before = (w, first, i, j); place_is = omega (arith, is, was); broken = k })
+break_so at bytes e (inr (p, first, place, is, i, inr (w, second, later, was, j, inr k))) = absurd k.5
+
+break_at : (at : ℕ) (bytes : List ℕ) (e : InputFault) (role : Role) (phase : PlaneOf) (place : ℕ) (rest : List ℕ) → StandsBefore role bytes phase rest → place + length rest ≡ at + length bytes → LaterBreak role phase place rest e → ThreeBreak at bytes e
+break_at at bytes e Phase phase place rest s is k = absurd s
+break_at at bytes e Weight phase place rest s is k = inr (phase, rest, place, is, s, inl k)
+break_at at bytes e Mask phase place rest (w, between, i, j) is k = let t = in_told Phase at bytes phase between i in inr (phase, between, t.0, t.1, i, inr (w, rest, place, omega (arith, is, t.1), j, inl k))
+
+break_back : (at : ℕ) (bytes : List ℕ) (e : InputFault) → PlanesBreak at bytes e → ThreeBreak at bytes e
+break_back at bytes e (inl k) = inl k
+break_back at bytes e (inr l) = break_at at bytes e l.role l.phase l.place l.rest l.before l.place_is l.broken
+
+ask_so : (bytes : List ℕ) → ThreeWant bytes → ThreeAsk bytes
+ask_so bytes (inl a) = inl a
+ask_so bytes (inr (p, first, i, inl k)) = inr (Weight, p, first, i, k)
+ask_so bytes (inr (p, first, i, inr (w, second, j, inl k))) = inr (Mask, p, second, (w, first, i, j), k)
+ask_so bytes (inr (p, first, i, inr (w, second, j, inr k))) = absurd k.3
+
+ask_back : (bytes : List ℕ) → ThreeAsk bytes → ThreeWant bytes
+ask_back bytes (inl a) = inl a
+ask_back bytes (inr (Phase, p, rest, s, k)) = absurd s
+ask_back bytes (inr (Weight, p, rest, s, k)) = inr (p, rest, s, inl k)
+ask_back bytes (inr (Mask, p, rest, (w, between, i, j), k)) = inr (p, between, i, inr (w, rest, j, inl k))
+
+pub planes_means : Means ThreeStand PlanesBreak ThreeAsk planes_parser
+planes_means = restated planes_parser
+    (chain_means (plane_parser Phase) behind_phase (plane_parser_far Phase) (plane_means Phase)
+    (λ p. chain_means (later_parser Weight p) (behind_weights p) (later_regular Weight p).far (later_means Weight p)
+    (λ w. chain_means (later_parser Mask p) (λ m. parsed (three p w m)) (later_regular Mask p).far (later_means Mask p) (λ m. parsed_means (three p w m)))))
+    stand_so
+    break_so
+    ask_so
+    (λ bytes x rest a. (x.phase, a.behind_phase, a.first, (x.weights, a.behind_weights, a.second, (x.mask, rest, a.third, (refl, refl)))))
+    break_back
+    ask_back

@@ -1,313 +1,319 @@
--- Lines of sections stand in one way: the parser of them, line by line, gives what the relations say.
-use Rattle.std.proofs.Common.{◌≡◌, ℕ, zero, suc, ◌+◌, ◌-◌, ◌*◌, ◌≤◌, ◌<◌, ◌≢◌, sum_by, count_by, eqb, nat_lt, Bool, true, false, cond, ◌⊎◌, inl, inr, List, [], ◌∷◌, ◌++◌, length, get_or, set, Option, Some, None, refl, sym, ap, subst, ◌∙◌, append_assoc, arith, le_refl}
-use Rattle.std.specs.Prelude.{slice_get}
+-- Lines, and sections of them, stand in one way: their parser gives what the relations say.
+use Rattle.std.proofs.Common.{◌≡◌, ℕ, ◌+◌, ◌≤◌, ◌⊎◌, Bool, true, false, not, eqb, nat_lt, inl, inr, List, [], ◌∷◌, ◌++◌, length, get_or, All, Option, Some, None, refl, sym, ap, ◌∙◌, append_assoc, arith, ◌≢◌, zero, suc, ◌-◌, Ok, Err, subst}
+use Rattle.std.specs.Prelude.{codes}
 use Rattle.std.specs.List.{list_all, AllByRecursion}
-use Rattle.std.proofs.Math.Seq.{get_or-append_seam, set-append_seam}
-use Rattle.std.proofs.lemmas.Bool.{lt-ltb, le-ltb, ltb-true, ltb-false, ne_eqb, eqb-true, cases_Bool}
-use Rattle.std.proofs.lemmas.List.{length-append, length-set, append-nil}
-use Rattle.std.proofs.lemmas.List.Sums.{sum_by-append}
-use Rattle.std.proofs.lemmas.Nat.{mul-le}
-use Rattle.raster_model.specs.declared.script.Command.{Command}
-use Rattle.raster_model.specs.declared.script.Command.TheVariants.{Change, Settle, Show}
-use Rattle.raster_model.specs.declared.script.Edit.{Edit}
-use Rattle.raster_model.specs.declared.script.Rect.{Rect}
-use Rattle.raster_model.specs.Scripts.{is_settle, is_change, rect_of, IsRectIn, CommandsFit}
+use Rattle.std.proofs.Math.Seq.{get_or-append_seam}
+use Rattle.std.proofs.lemmas.Bool.{and_parts, eqb-false, eqb-true, ne_eqb, ltb-true, ltb-false, lt-ltb, le-ltb, not-true, cases_Bool, cases_lt}
+use Rattle.std.proofs.lemmas.List.{length-append, append-nil, get_or_append_left}
+use Rattle.std.proofs.lemmas.List.Elements.{recursion_from_All, All-push, All-nil}
+use Rattle.insar_ports.specs.Lines.{IsInLine}
 use Rattle.pgm_planes.specs.declared.fault.InputFault.{InputFault}
 use Rattle.pgm_planes.specs.declared.fault.InputFault.TheVariants.{ScriptLine, NoEnd}
-use Rattle.pgm_planes.proofs.SampleLemmas.{all_append}
+use Rattle.pgm_planes.specs.Gaps.{is_digit}
+use Rattle.text_lines.proofs.FieldLemmas.{all_both}
+use Rattle.raster_model.specs.declared.script.Command.TheVariants.{Change, Settle, Show}
+use Rattle.raster_model.specs.declared.script.Edit.TheVariants.{Mask, Unmask}
+use Rattle.raster_model.specs.declared.script.Rect.{Rect}
 use Rattle.session_script.specs.declared.word.Word.{Word}
 use Rattle.session_script.specs.declared.word.Word.TheVariants as words
 use Rattle.session_script.specs.Fields.{word_in}
-use Rattle.session_script.specs.Parsing.{Parse, Parser, if_no_more, and_then, word_or_fault, line_parser, on_word, on_line, sections_parser}
-use Rattle.session_script.specs.Scripts.{BeginsLine, AreLines, StandBefore, AreSections, SectionsBreak, IsNoLine, IsCutLine}
-use Rattle.session_script.specs.Sections.{Sections, Frame, settles_of, changes_of, command_words, words_of, line_count, AreWithinLimits, lies_in, last_of, limit_broken, command_broken, word_broken, with_command, with_word}
-use Rattle.session_script.proofs.FieldLemmas.{found_or_none}
-use Rattle.session_script.proofs.LineAgain.{is_in_line, in_line_all, line_begins, line_refused, line_missing}
-use Rattle.session_script.proofs.ParseLemmas.{done, broken}
-use Rattle.session_script.proofs.SectionLemmas.{counted_added, count_by_pushed}
-use Rattle.session_script.proofs.WithinLemmas.{more_lines, words_with, stays_within, has_begun}
-use Rattle.session_script.proofs.WordAgain.{word_found, word_again}
+use Rattle.session_script.specs.Lines.{is_plain, SpellsRect, Spells, SpellsNone}
+use Rattle.session_script.specs.Parsing.{Parse, if_no_more, word_or_fault, line_parser, Parser, and_then, chain, on_word, sections_parser, most_lines, lines_parser}
+use Rattle.session_script.specs.Scripts.{BeginsLine, IsNoLine, IsCutLine, AreLines, StandBefore, AreSections, SectionsBreak}
+use Rattle.session_script.proofs.WordAgain.{found_or_none, all_digits, word_found, word_again}
+use Rattle.session_script.proofs.ParseLemmas.{done, broken, further, Far, Regular, Says, Means, found, asked, wants, parsed_regular, refusing_regular, relaxed, chain_regular, Told}
+use Rattle.session_script.specs.Sections.{Sections, Frame, words_of, line_count, AreWithinLimits, word_broken, with_word}
+use Rattle.session_script.proofs.WithinLemmas.{is_at_end, word_never, IsNext, words_with, word_by_word, adds_word, takes_word, few_lines, none_within}
 
--- ---- a word that stands after sections
+-- ---- a line
 
-abbrev IsNext : Word → Sections → Type 0
-IsNext words.Analyst ss = Unit {0}
-IsNext words.End ss = ⊥
-IsNext (words.Command c) ss = 1 ≤ length ss
+-- ---- no line feed is in what spells a word
 
--- the sections with more words, one after the other, and that each may be next
-abbrev built : Sections → List Word → Sections
-built ss [] = ss
-built ss (w ∷ ws) = built (with_word w ss) ws
+digits_in_line : (ds : List ℕ) → list_all is_digit ds ≡ true → AllByRecursion IsInLine ds
+digits_in_line [] a = tt
+digits_in_line (d ∷ ds) a =
+    let p = and_parts (is_digit d) (list_all is_digit ds) a in
+    let low = ltb-true 47 d (and_parts (nat_lt 47 d) (nat_lt d 58) p.0).0 in
+    ((λ e. omega (arith, e, low)), digits_in_line ds p.1)
 
-abbrev Goes : Sections → List Word → Type 0
-Goes ss [] = Unit {0}
-Goes ss (w ∷ ws) = IsNext w ss × Goes (with_word w ss) ws
+number_in_line : (digits rest : List ℕ) → is_plain digits ≡ true → AllByRecursion IsInLine rest → AllByRecursion IsInLine (32 ∷ (digits ++ rest))
+number_in_line digits rest p a = ((λ e. cc), all_both IsInLine digits rest (digits_in_line digits (all_digits digits p)) a)
 
-last_is : (ss : Sections) (s : List Command) → last_of (ss ++ s ∷ []) ≡ s
-last_is ss s = let k : length (ss ++ s ∷ []) - 1 ≡ length ss = omega (arith, length-append ss (s ∷ [])) in rw k (get_or-append_seam ss s [] [])
+rect_in_line : (fields : List ℕ) (r : Rect) → SpellsRect fields r → AllByRecursion IsInLine fields
+rect_in_line fields r s =
+    let last : AllByRecursion IsInLine (32 ∷ s.bottom) = ((λ e. cc), digits_in_line s.bottom (all_digits s.bottom s.plain.3)) in
+    rw s.parts (number_in_line s.left _ s.plain.0 (number_in_line s.top _ s.plain.1 (number_in_line s.right _ s.plain.2 last)))
 
-with_last : (ss : Sections) (s : List Command) (c : Command) → with_command c (ss ++ s ∷ []) ≡ ss ++ (s ++ c ∷ []) ∷ []
-with_last ss s c =
-    let k : length (ss ++ s ∷ []) - 1 ≡ length ss = omega (arith, length-append ss (s ∷ [])) in
-    let here : last_of (ss ++ s ∷ []) ≡ s = last_is ss s in
-    rw (here, k) (set-append_seam ss s [] (s ++ c ∷ []))
+tested : (bytes : List ℕ) → list_all (λ b. not (eqb b 10)) bytes ≡ true → AllByRecursion IsInLine bytes
+tested [] a = tt
+tested (b ∷ bytes) a = let p = and_parts (not (eqb b 10)) (list_all (λ b. not (eqb b 10)) bytes) a in (eqb-false b 10 (not-true (eqb b 10) p.0), tested bytes p.1)
 
-some_last : (ss : Sections) (s : List Command) → 1 ≤ length (ss ++ s ∷ [])
-some_last ss s = omega (arith, length-append ss (s ∷ []))
+spells_in_line : (line : List ℕ) (w : Word) → Spells line w → AllByRecursion IsInLine line
+spells_in_line line words.Analyst s = rw s (tested (codes "analyst") refl)
+spells_in_line line words.End s = rw s (tested (codes "end") refl)
+spells_in_line line (words.Command Settle) s = rw s (tested (codes "settle") refl)
+spells_in_line line (words.Command Show) s = rw s (tested (codes "show") refl)
+spells_in_line line (words.Command (Change (Mask r))) s = rw s.1 (all_both IsInLine (codes "mask") s.0 (tested (codes "mask") refl) (rect_in_line s.0 r s.2))
+spells_in_line line (words.Command (Change (Unmask r))) s = rw s.1 (all_both IsInLine (codes "unmask") s.0 (tested (codes "unmask") refl) (rect_in_line s.0 r s.2))
 
-built_commands : (ss : Sections) (s cs : List Command) (ws : List Word) → built (ss ++ s ∷ []) (command_words cs ++ ws) ≡ built (ss ++ (s ++ cs) ∷ []) ws
-built_commands ss s [] ws = ap (λ (t : List Command). built (ss ++ t ∷ []) ws) (sym (append-nil s))
-built_commands ss s (c ∷ cs) ws =
-    ap (λ (t : Sections). built t (command_words cs ++ ws)) (with_last ss s c)
-    ∙ built_commands ss (s ++ c ∷ []) cs ws
-    ∙ ap (λ (t : List Command). built (ss ++ t ∷ []) ws) (append_assoc s (c ∷ []) cs)
+-- ---- the parser of a line, byte by byte
 
-commands_go : (ss : Sections) (s cs : List Command) (ws : List Word) → Goes (ss ++ (s ++ cs) ∷ []) ws → Goes (ss ++ s ∷ []) (command_words cs ++ ws)
-commands_go ss s [] ws g = subst (λ (t : List Command). Goes (ss ++ t ∷ []) ws) (append-nil s) g
-commands_go ss s (c ∷ cs) ws g =
-    let more : Goes (ss ++ ((s ++ c ∷ []) ++ cs) ∷ []) ws = subst (λ (t : List Command). Goes (ss ++ t ∷ []) ws) (sym (append_assoc s (c ∷ []) cs)) g in
-    (some_last ss s, subst (λ (t : Sections). Goes t (command_words cs ++ ws)) (sym (with_last ss s c)) (commands_go ss (s ++ c ∷ []) cs ws more))
+module _ (n : ℕ) (more : Bool) where
+  next_byte : (line : List ℕ) (at b : ℕ) (rest : List ℕ) → IsInLine b → length line ≤ 63 → line_parser n line more at (b ∷ rest) ≡ line_parser n (line ++ b ∷ []) more (at + 1) rest
+  next_byte line at b rest e le = rw (ne_eqb b 10 e, le-ltb 63 (length line) le) refl
 
--- the words of sections build them
-pub built_all : (ss more : Sections) → built ss (words_of more) ≡ ss ++ more
-built_all ss [] = sym (append-nil ss)
-built_all ss (s ∷ more) = built_commands ss [] s (words_of more) ∙ built_all (ss ++ s ∷ []) more ∙ append_assoc ss (s ∷ []) more
+  through : (line ds : List ℕ) (at : ℕ) (rest : List ℕ) → AllByRecursion IsInLine ds → length line + length ds ≤ 64 → line_parser n line more at (ds ++ rest) ≡ line_parser n (line ++ ds) more (at + length ds) rest
+  through line [] at rest a le = let k : at + 0 ≡ at = omega arith in rw (append-nil line, k) refl
+  through line (d ∷ ds) at rest a le =
+      let k : (at + 1) + length ds ≡ at + length (d ∷ ds) = omega arith in
+      next_byte line at d (ds ++ rest) a.0 (omega (arith, le)) ∙ through (line ++ d ∷ []) ds (at + 1) rest a.1 (omega (arith, le, length-append line (d ∷ []))) ∙ rw (append_assoc line (d ∷ []) ds, k) refl
 
-pub all_go : (ss more : Sections) → Goes ss (words_of more)
-all_go ss [] = tt
-all_go ss (s ∷ more) = (tt, commands_go ss [] s (words_of more) (all_go (ss ++ s ∷ []) more))
-
--- ---- sections with a word less are within the limits, and the word may stand
-
-all_init : {A : Type 0} (P : A → Type 0) (xs : List A) (y : A) → AllByRecursion P (xs ++ y ∷ []) → AllByRecursion P xs
-all_init P [] y a = tt
-all_init P (x ∷ xs) y a = (a.0, all_init P xs y a.1)
-
-all_unset : {A : Type 0} (P : A → Type 0) (xs : List A) (k : ℕ) (y d : A) → k < length xs → AllByRecursion P (set xs k y) → (P y → P (get_or xs k d)) → P y × AllByRecursion P xs
-all_unset P [] k y d lt a f = absurd (omega (arith, lt))
-all_unset P (x ∷ xs) zero y d lt a f = (a.0, (f a.0, a.1))
-all_unset P (x ∷ xs) (suc k) y d lt a f = let r = all_unset P xs k y d (omega (arith, lt)) a.1 f in (r.0, (a.0, r.1))
-
-get_front : (cs : List Command) (c d : Command) (k : ℕ) → slice_get cs k ≡ Some d → slice_get (cs ++ c ∷ []) k ≡ Some d
-get_front [] c d k e = absurd cc
-get_front (x ∷ cs) c d zero e = e
-get_front (x ∷ cs) c d (suc k) e = get_front cs c d k e
-
-get_last : (cs : List Command) (c : Command) → slice_get (cs ++ c ∷ []) (length cs) ≡ Some c
-get_last [] c = refl
-get_last (x ∷ cs) c = get_last cs c
-
-fewer_fit : (w h : ℕ) (cs : List Command) (c : Command) → CommandsFit w h (cs ++ c ∷ []) → CommandsFit w h cs
-fewer_fit w h cs c f k edit e = f k edit (get_front cs c (Change edit) k e)
-
-last_fits : (w h : ℕ) (cs : List Command) (edit : Edit) → CommandsFit w h (cs ++ Change edit ∷ []) → IsRectIn w h (rect_of edit)
-last_fits w h cs edit f = f (length cs) edit (get_last cs (Change edit))
-
-lies_again : (f : Frame) (r : Rect) → IsRectIn f.width f.height r → lies_in f r ≡ true
-lies_again f r i = rw (le-ltb r.x1 r.x0 i.0, lt-ltb r.x1 f.width i.1, le-ltb r.y1 r.y0 i.2, lt-ltb r.y1 f.height i.3) refl
-
-module _ (f : Frame) (n : ℕ) (ss : Sections) where
-  module _ (within : AreWithinLimits f (ss ++ [] ∷ [])) where
-    same_sum : (test : Command → Bool) → sum_by (count_by test) (ss ++ [] ∷ []) ≡ sum_by (count_by test) ss
-    same_sum test = let e = sum_by-append (count_by test) ss ([] ∷ []) in omega (arith, e)
-
-    less_analyst : AreWithinLimits f ss
-    less_analyst = record {
-      analysts = omega (arith, within.analysts, length-append ss ([] ∷ []));
-      short = all_init (λ commands. length commands ≤ 4096) ss [] within.short;
-      inside = all_init (CommandsFit f.width f.height) ss [] within.inside;
-      settles = rw (← same_sum is_settle) within.settles;
-      changes = rw (← same_sum is_change) within.changes;
-    }
-
-    analyst_may : word_broken f n ss words.Analyst ≡ None
-    analyst_may = rw (le-ltb 7 (length ss) (omega (arith, within.analysts, length-append ss ([] ∷ [])))) refl
-
-  module _ (c : Command) (some : 1 ≤ length ss) (within : AreWithinLimits f (with_command c ss)) where
-    here : length ss - 1 < length ss
-    here = omega (arith, some)
-
-    short_parts : (length (last_of ss ++ c ∷ []) ≤ 4096) × AllByRecursion (λ (commands : List Command). length commands ≤ 4096) ss
-    short_parts = all_unset (λ (commands : List Command). length commands ≤ 4096) ss (length ss - 1) (last_of ss ++ c ∷ []) [] here within.short (λ le. omega (arith, le, length-append (last_of ss) (c ∷ [])))
-
-    inside_parts : CommandsFit f.width f.height (last_of ss ++ c ∷ []) × AllByRecursion (CommandsFit f.width f.height) ss
-    inside_parts = all_unset (CommandsFit f.width f.height) ss (length ss - 1) (last_of ss ++ c ∷ []) [] here within.inside (fewer_fit f.width f.height (last_of ss) c)
-
-    sum_is : (test : Command → Bool) → sum_by (count_by test) (with_command c ss) ≡ sum_by (count_by test) ss + cond (test c) 1 0
-    sum_is test = counted_added (count_by test) ss c (cond (test c) 1 0) some (count_by_pushed test (last_of ss) c)
-
-    less : (test : Command → Bool) (m limit : ℕ) → sum_by (count_by test) (with_command c ss) * m ≤ limit → sum_by (count_by test) ss * m ≤ limit
-    less test m limit le =
-        let more : sum_by (count_by test) ss ≤ sum_by (count_by test) (with_command c ss) = rw (sum_is test) (omega arith) in
-        omega (arith, le, mul-le (sum_by (count_by test) ss) m (sum_by (count_by test) (with_command c ss)) m more (le_refl m))
-
-    less_command : AreWithinLimits f ss
-    less_command = record {
-      analysts = omega (arith, within.analysts, length-set ss (length ss - 1) (last_of ss ++ c ∷ []));
-      short = short_parts.1;
-      inside = inside_parts.1;
-      settles = less is_settle (f.width * f.height) 67108864 within.settles;
-      changes = less is_change f.tiles 16777216 within.changes;
-    }
-
-  settle_may : settles_of ss + 1 ≡ settles_of (with_command Settle ss) → AreWithinLimits f (with_command Settle ss) → limit_broken f n ss Settle ≡ None
-  settle_may e within = rw (e, le-ltb 67108864 (settles_of (with_command Settle ss) * (f.width * f.height)) within.settles) refl
-
-  change_may : (edit : Edit) → IsRectIn f.width f.height (rect_of edit) → changes_of ss + 1 ≡ changes_of (with_command (Change edit) ss) → AreWithinLimits f (with_command (Change edit) ss) → limit_broken f n ss (Change edit) ≡ None
-  change_may edit i e within = rw (lies_again f (rect_of edit) i, e, le-ltb 16777216 (changes_of (with_command (Change edit) ss) * f.tiles) within.changes) refl
-
-  limit_may : (c : Command) (some : 1 ≤ length ss) → AreWithinLimits f (with_command c ss) → limit_broken f n ss c ≡ None
-  limit_may (Change edit) some within = change_may edit (last_fits f.width f.height (last_of ss) edit (inside_parts (Change edit) some within).0) (sym (sum_is (Change edit) some within is_change)) within
-  limit_may Settle some within = settle_may (sym (sum_is Settle some within is_settle)) within
-  limit_may Show some within = refl
-
-  command_may : (c : Command) (some : 1 ≤ length ss) → AreWithinLimits f (with_command c ss) → command_broken f n ss c ≡ None
-  command_may c some within =
-      let room : length (last_of ss) ≤ 4095 = omega (arith, (short_parts c some within).0, length-append (last_of ss) (c ∷ [])) in
-      rw (ne_eqb (length ss) 0 (λ e. omega (arith, e, some)), le-ltb 4095 (length (last_of ss)) room) (limit_may c some within)
-
-  pub word_may : (w : Word) → IsNext w ss → AreWithinLimits f (with_word w ss) → word_broken f n ss w ≡ None
-  word_may words.Analyst next within = analyst_may within
-  word_may words.End next within = absurd next
-  word_may (words.Command c) next within = command_may c next within
-
-  less_word : (w : Word) → IsNext w ss → AreWithinLimits f (with_word w ss) → AreWithinLimits f ss
-  less_word words.Analyst next within = less_analyst within
-  less_word words.End next within = absurd next
-  less_word (words.Command c) next within = less_command c next within
-
-pub within_before : (f : Frame) (ws : List Word) (ss : Sections) → Goes ss ws → AreWithinLimits f (built ss ws) → AreWithinLimits f ss
-within_before f [] ss go within = within
-within_before f (w ∷ ws) ss go within = less_word f 0 ss w go.0 (within_before f ws (with_word w ss) go.1 within)
-
--- ---- the parser of lines, line by line
-
-abbrev pub after : Frame → Sections → Word → Parser Sections
-after f ss w = on_word (λ later. sections_parser f later []) ss w (word_broken f (line_count ss + 1) ss w)
-
-module _ (f : Frame) (ss : Sections) (more : Bool) where
-  same_word : (at : ℕ) (bytes : List ℕ) (w : Word) (o : Option InputFault) → on_word (λ later beyond place rest. sections_parser f later [] more at bytes) ss w o more at bytes ≡ on_word (λ later. sections_parser f later []) ss w o more at bytes
-  same_word at bytes w (Some fault) = refl
-  same_word at bytes words.Analyst None = refl
-  same_word at bytes words.End None = refl
-  same_word at bytes (words.Command c) None = refl
-
-  same_line : (at : ℕ) (bytes : List ℕ) (o : Option Word) → on_line (λ later beyond place rest. sections_parser f later [] more at bytes) f ss o more at bytes ≡ and_then (word_or_fault (line_count ss + 1) o more at bytes) (λ w. after f ss w more)
-  same_line at bytes None = refl
-  same_line at bytes (Some w) = same_word at bytes w (word_broken f (line_count ss + 1) ss w)
-
-  ended : (b : Bool) → if_no_more b (broken NoEnd) ≡ and_then (if_no_more b (broken NoEnd)) (λ w. after f ss w b)
-  ended true = refl
-  ended false = refl
-
-  pub by_line : (line : List ℕ) (at : ℕ) (bytes : List ℕ) → sections_parser f ss line more at bytes ≡ and_then (line_parser (line_count ss + 1) line more at bytes) (λ w. after f ss w more)
-  unfolding line_parser sections_parser
-  by_line line at [] = ended more
-  by_line line at (b ∷ bytes) = elim (cases_Bool (eqb b 10)) [
-    | inl t ↦ rw t (same_line (at + 1) bytes (word_in line))
-    | inr t ↦ elim (cases_Bool (nat_lt 63 (length line))) [
-      | inl l ↦ rw (t, l) refl
-      | inr l ↦ rw (t, l) (by_line (line ++ b ∷ []) (at + 1) bytes)
-    ]
+  beyond : (line ds : List ℕ) (at : ℕ) (rest : List ℕ) → AllByRecursion IsInLine ds → length line ≤ 64 → length line + length ds ≡ 65 → line_parser n line more at (ds ++ rest) ≡ broken (ScriptLine n)
+  beyond line [] at rest a le e = absurd (omega (arith, le, e))
+  beyond line (d ∷ ds) at rest a le e = elim (cases_lt 63 (length line)) [
+    | inl lt ↦ rw (ne_eqb d 10 a.0, lt-ltb 63 (length line) lt) refl
+    | inr ge ↦ next_byte line at d (ds ++ rest) a.0 ge ∙ beyond (line ++ d ∷ []) ds (at + 1) rest a.1 (omega (arith, ge, length-append line (d ∷ []))) (omega (arith, e, length-append line (d ∷ [])))
   ]
 
-goes : (f : Frame) (ss : Sections) (at : ℕ) (rest : List ℕ) (w : Word) → IsNext w ss → word_broken f (line_count ss + 1) ss w ≡ None → after f ss w false at rest ≡ sections_parser f (with_word w ss) [] false at rest
-goes f ss at rest words.Analyst n o = rw o refl
-goes f ss at rest words.End n o = absurd n
-goes f ss at rest (words.Command c) n o = rw o refl
+  pub line_begins : (at : ℕ) (bytes : List ℕ) (w : Word) (rest : List ℕ) (b : BeginsLine bytes w rest) → line_parser n [] more at bytes ≡ done w ((at + length b.line) + 1) rest
+  line_begins at bytes w rest b =
+      ap (line_parser n [] more at) b.parts ∙ through [] b.line at (10 ∷ rest) (spells_in_line b.line w b.spells) (omega (arith, b.short)) ∙ ap (λ (o : Option Word). word_or_fault n o more ((at + length b.line) + 1) rest) (word_again b.line w b.spells)
 
-goes_on : (f : Frame) (ss : Sections) (at : ℕ) (bytes : List ℕ) (w : Word) (rest : List ℕ) (b : BeginsLine bytes w rest) → IsNext w ss → word_broken f (line_count ss + 1) ss w ≡ None → sections_parser f ss [] false at bytes ≡ sections_parser f (with_word w ss) [] false ((at + length b.line) + 1) rest
-goes_on f ss at bytes w rest b next e = by_line f ss false [] at bytes ∙ ap (λ (r : Parse Word). and_then r (λ w. after f ss w false)) (line_begins (line_count ss + 1) false at bytes w rest b) ∙ goes f ss ((at + length b.line) + 1) rest w next e
+  none_spelled : (line : List ℕ) → SpellsNone line → word_in line ≡ None
+  none_spelled line s = elim (found_or_none (word_in line)) [ inl w ↦ absurd (s w.0 (word_found line w.0 w.1)) | inr o ↦ o ]
 
--- what follows begins at this place, and is parsed on after these sections
-abbrev GoesTo : Frame → Sections → ℕ → List ℕ → Sections → List ℕ → Type 0
-GoesTo f ss at bytes later mid = (end : ℕ) × (end + length mid ≡ at + length bytes) × (sections_parser f ss [] false at bytes ≡ sections_parser f later [] false end mid)
+  pub line_refused : (at : ℕ) (bytes : List ℕ) → IsNoLine bytes → line_parser n [] more at bytes ≡ broken (ScriptLine n)
+  line_refused at bytes (inl l) = ap (line_parser n [] more at) l.2 ∙ beyond [] l.0 at l.1 (recursion_from_All IsInLine l.0 l.4) (omega arith) (omega (arith, l.3))
+  line_refused at bytes (inr o) =
+      ap (line_parser n [] more at) o.parts ∙ through [] o.line at (10 ∷ o.others) (recursion_from_All IsInLine o.line o.whole) (omega (arith, o.short)) ∙ ap (λ (w : Option Word). word_or_fault n w more ((at + length o.line) + 1) o.others) (none_spelled o.line o.spells)
 
-line_place : (at : ℕ) (bytes : List ℕ) (w : Word) (rest : List ℕ) (b : BeginsLine bytes w rest) → ((at + length b.line) + 1) + length rest ≡ at + length bytes
-line_place at bytes w rest b = omega (arith, ap length b.parts, length-append b.line (10 ∷ rest))
+  pub line_missing : (at : ℕ) (bytes : List ℕ) → IsCutLine bytes → line_parser n [] more at bytes ≡ if_no_more more (broken NoEnd)
+  line_missing at bytes c = ap (line_parser n [] more at) (sym (append-nil bytes)) ∙ through [] bytes at [] (recursion_from_All IsInLine bytes c.1) (omega (arith, c.0))
 
-along : (f : Frame) (ws : List Word) (ss : Sections) (at : ℕ) (bytes mid : List ℕ) → AreLines bytes ws mid → Goes ss ws → AreWithinLimits f (built ss ws) → GoesTo f ss at bytes (built ss ws) mid
-along f [] ss at bytes mid a go within = (at, omega (arith, ap length a), ap (sections_parser f ss [] false at) a)
-along f (w ∷ ws) ss at bytes mid a go within =
-    let here = within_before f ws (with_word w ss) go.1 within in
-    let t = along f ws (with_word w ss) ((at + length a.1.line) + 1) a.0 mid a.2 go.1 within in
-    (t.0, omega (arith, t.1, line_place at bytes w a.0 a.1), goes_on f ss at bytes w a.0 a.1 go.0 (word_may f (line_count ss + 1) ss w go.0 here) ∙ t.2)
+-- ---- what it gives
+
+abbrev pub LineBreak : ℕ → ℕ → List ℕ → InputFault → Type 0
+LineBreak n at bytes e = (IsNoLine bytes × (e ≡ ScriptLine n)) ⊎ (IsCutLine bytes × (e ≡ NoEnd))
+
+module _ (n : ℕ) (more : Bool) (at : ℕ) (bytes : List ℕ) where
+  abbrev SaysLine : Parse Word → Type 0
+  SaysLine = Says BeginsLine (LineBreak n) IsCutLine more at bytes
+
+  cut_says : (b : Bool) → more ≡ b → IsCutLine bytes → SaysLine (if_no_more b (broken NoEnd))
+  cut_says true e c = (λ m. absurd cc, λ _ _. c)
+  cut_says false e c = (λ _. inr (c, refl), λ m. absurd cc)
+
+  -- after a part of the line
+  walk : (line rest : List ℕ) (place : ℕ) → bytes ≡ line ++ rest → place ≡ at + length line → All IsInLine line → length line ≤ 64 → SaysLine (line_parser n line more place rest)
+  walk line [] place e p all le = let same = e ∙ append-nil line in cut_says more refl (omega (arith, le, ap length same), rw same all)
+  walk line (b ∷ rest) place e p all le = elim (cases_Bool (eqb b 10)) [
+    | inl t ↦
+        let parts : bytes ≡ line ++ 10 ∷ rest = e ∙ ap (λ (x : ℕ). line ++ x ∷ rest) (eqb-true b 10 t) in
+        elim (found_or_none (word_in line)) [
+          | inr o ↦ rw (t, o) (λ _. inl (inr (record { line = line; others = rest; parts = parts; whole = all; short = le; spells = λ w s. let q = sym o ∙ word_again line w s in cc }), refl), λ _ k. absurd cc)
+          | inl w ↦ rw (t, w.1) (omega (arith, p, ap length parts, length-append line (10 ∷ rest)), record { line = line; parts = parts; short = le; spells = word_found line w.0 w.1 })
+        ]
+    | inr t ↦
+        let in_line = All-push IsInLine line b all (eqb-false b 10 t) in
+        let parts : bytes ≡ (line ++ b ∷ []) ++ rest = e ∙ sym (append_assoc line (b ∷ []) rest) in
+        elim (cases_Bool (nat_lt 63 (length line))) [
+          | inl l ↦ rw (t, l) (λ _. inl (inl (line ++ b ∷ [], rest, parts, omega (arith, le, ltb-true 63 (length line) l, length-append line (b ∷ [])), in_line), refl), λ _ k. absurd cc)
+          | inr l ↦ rw (t, l) (walk (line ++ b ∷ []) rest (place + 1) parts (omega (arith, p, length-append line (b ∷ []))) in_line (omega (arith, ltb-false 63 (length line) l, length-append line (b ∷ []))))
+        ]
+  ]
+
+module _ (n : ℕ) where
+  line_breaks : (at : ℕ) (bytes : List ℕ) (e : InputFault) → LineBreak n at bytes e → line_parser n [] false at bytes ≡ broken e
+  line_breaks at bytes e (inl b) = line_refused n false at bytes b.0 ∙ ap broken (sym b.1)
+  line_breaks at bytes e (inr b) = line_missing n false at bytes b.0 ∙ ap broken (sym b.1)
+
+  pub line_means : Means BeginsLine (LineBreak n) IsCutLine (line_parser n [])
+  line_means = record {
+    told = λ at bytes w rest b. ((at + length b.line) + 1, omega (arith, ap length b.parts, length-append b.line (10 ∷ rest)), line_begins n false at bytes w rest b);
+    breaks = line_breaks;
+    asks = λ at bytes c. line_missing n true at bytes c;
+    says = λ more at bytes. walk n more at bytes [] bytes at refl (omega arith) (All-nil IsInLine) (omega arith);
+  }
+
+  word_far : (o : Option Word) (at : ℕ) (bytes more : List ℕ) → word_or_fault n o false at (bytes ++ more) ≡ further (word_or_fault n o true at bytes) more
+  word_far None at bytes more = refl
+  word_far (Some w) at bytes more = refl
+
+  line_far : (line : List ℕ) → Far (line_parser n line)
+  line_far line at [] more = inl refl
+  line_far line at (b ∷ bytes) more = elim (cases_Bool (eqb b 10)) [
+    | inl t ↦ rw t (inr (word_far (word_in line) (at + 1) bytes more))
+    | inr t ↦ elim (cases_Bool (nat_lt 63 (length line))) [ inl l ↦ rw (t, l) (inr refl) | inr l ↦ rw (t, l) (line_far (line ++ b ∷ []) (at + 1) bytes more) ]
+  ]
+
+  no_feed : (bytes more : List ℕ) (w : Word) (rest : List ℕ) (b : BeginsLine (bytes ++ more) w rest) → All IsInLine bytes → length bytes ≤ length b.line
+  no_feed bytes more w rest b all = elim (cases_lt (length b.line) (length bytes)) [
+    | inl lt ↦ absurd (all (length b.line) 0 lt (sym (get_or_append_left bytes more 0 (length b.line) lt) ∙ ap (λ (l : List ℕ). get_or l (length b.line) 0) b.parts ∙ get_or-append_seam b.line 10 rest 0))
+    | inr le ↦ le
+  ]
+
+  pub line_regular : Regular 1 1 (line_parser n [])
+  line_regular = record {
+    far = line_far [];
+    steps = λ at bytes w end rest e. let b = (found line_means at bytes w end rest e).1 in omega (arith, ap length b.parts, length-append b.line (10 ∷ rest));
+    needs = λ at bytes more w end rest v e.
+        let b = (found line_means at (bytes ++ more) w end rest e).1 in
+        let c = asked line_means at bytes v in
+        omega (arith, no_feed bytes more w rest b c.1, ap length b.parts, length-append b.line (10 ∷ rest), length-append bytes more);
+  }
+
+-- ---- sections
+
+-- what follows a word after sections, and the lines after them
+abbrev pub after : Frame → Sections → Word → Parser Sections
+after f ss w = on_word (sections_parser f (32776 - line_count ss)) ss w (word_broken f (line_count ss + 1) ss w)
+
+abbrev pub lines_after : Frame → Sections → Parser Sections
+lines_after f ss = sections_parser f (most_lines - line_count ss) ss
+
+more_room : (f : Frame) (ss : Sections) → AreWithinLimits f ss → most_lines - line_count ss ≡ suc (32776 - line_count ss)
+more_room f ss within = omega (arith, few_lines f ss within)
+
+one_line : (f : Frame) (k : ℕ) (ss : Sections) (more : Bool) (at : ℕ) (bytes : List ℕ) → sections_parser f (suc k) ss more at bytes ≡ chain (line_parser (line_count ss + 1) []) (λ w. on_word (sections_parser f k) ss w (word_broken f (line_count ss + 1) ss w)) more at bytes
+unfolding sections_parser
+one_line f k ss more at bytes = refl
+
+pub by_line : (f : Frame) (ss : Sections) → AreWithinLimits f ss → (more : Bool) (at : ℕ) (bytes : List ℕ) → lines_after f ss more at bytes ≡ chain (line_parser (line_count ss + 1) []) (after f ss) more at bytes
+by_line f ss within more at bytes = ap (λ (k : ℕ). sections_parser f k ss more at bytes) (more_room f ss within) ∙ one_line f (32776 - line_count ss) ss more at bytes
+
+next_word : (next : Sections → Parser Sections) (ss : Sections) (w : Word) → IsNext w ss → (more : Bool) (at : ℕ) (bytes : List ℕ) → on_word next ss w None more at bytes ≡ next (with_word w ss) more at bytes
+next_word next ss words.Analyst n more at bytes = refl
+next_word next ss words.End n more at bytes = absurd n
+next_word next ss (words.Command c) n more at bytes = refl
+
+line_more : (ss : Sections) (w : Word) → IsNext w ss → line_count (with_word w ss) ≡ line_count ss + 1
+line_more ss w n = ap length (words_with w ss n) ∙ length-append (words_of ss) (w ∷ [])
+
+pub goes_on : (f : Frame) (ss : Sections) (w : Word) → IsNext w ss → word_broken f (line_count ss + 1) ss w ≡ None → (more : Bool) (at : ℕ) (bytes : List ℕ) → after f ss w more at bytes ≡ lines_after f (with_word w ss) more at bytes
+goes_on f ss w n may more at bytes =
+    let room : 32776 - line_count ss ≡ most_lines - line_count (with_word w ss) = omega (arith, line_more ss w n) in
+    rw may (next_word (sections_parser f (32776 - line_count ss)) ss w n more at bytes) ∙ ap (λ (k : ℕ). sections_parser f k (with_word w ss) more at bytes) room
+
+-- ---- sections that stand are parsed
+
+last_line : (bytes : List ℕ) (ws : List Word) (w : Word) (rest : List ℕ) → AreLines bytes (ws ++ w ∷ []) rest → (mid : List ℕ) × AreLines bytes ws mid × BeginsLine mid w rest
+last_line bytes [] w rest a = (bytes, refl, subst (BeginsLine bytes w) a.2 a.1)
+last_line bytes (v ∷ ws) w rest a = let l = last_line a.0 ws w rest a.2 in (l.0, (a.0, a.1, l.1), l.2)
+
+more_lines : (bytes : List ℕ) (ws : List Word) (mid : List ℕ) (w : Word) (rest : List ℕ) → AreLines bytes ws mid → BeginsLine mid w rest → AreLines bytes (ws ++ w ∷ []) rest
+more_lines bytes [] mid w rest a b = (rest, subst (λ (t : List ℕ). BeginsLine t w rest) (sym a) b, refl)
+more_lines bytes (v ∷ ws) mid w rest a b = (a.0, a.1, more_lines a.0 ws mid w rest a.2 b)
+
+module _ (f : Frame) (more : Bool) (at : ℕ) (bytes : List ℕ) where
+  -- the parser goes on after sections
+  abbrev GoesTo : Sections → List ℕ → Type 0
+  GoesTo ss mid = (end : ℕ) × (end + length mid ≡ at + length bytes) × (lines_parser f more at bytes ≡ lines_after f ss more end mid)
+
+  abbrev Reaches : Sections → Type 0
+  Reaches ss = (mid : List ℕ) → AreLines bytes (words_of ss) mid → AreWithinLimits f ss → GoesTo ss mid
+
+  abbrev on : Sections → Parse Word → Parse Sections
+  on ss r = and_then r (λ w. after f ss w more)
+
+  reaches_more : (w : Word) (ss : Sections) → IsNext w ss → Reaches ss → Reaches (with_word w ss)
+  unfolding chain
+  reaches_more w ss next reach mid a within =
+      let l = last_line bytes (words_of ss) w mid (subst (λ (ws : List Word). AreLines bytes ws mid) (words_with w ss next) a) in
+      let t = takes_word f (line_count ss + 1) w ss next within in
+      let g = reach l.0 l.1 t.0 in
+      let line = line_begins (line_count ss + 1) more g.0 l.0 w mid l.2 in
+      let end : ℕ = (g.0 + length l.2.line) + 1 in
+      (end, omega (arith, g.1, ap length l.2.parts, length-append l.2.line (10 ∷ mid)), g.2 ∙ by_line f ss t.0 more g.0 l.0 ∙ ap (on ss) line ∙ goes_on f ss w next t.1 more end mid)
+
+  stands_parsed : (ss : Sections) (mid : List ℕ) → StandBefore f bytes ss mid → GoesTo ss mid
+  stands_parsed ss mid b = word_by_word Reaches reaches_more [] ss (λ rest a within. (at, omega (arith, ap length a), ap (lines_parser f more at) a)) mid b.lines b.within
+
+  then_line : (ss : Sections) (mid : List ℕ) → StandBefore f bytes ss mid → (r : Parse Word) → ((place : ℕ) → line_parser (line_count ss + 1) [] more place mid ≡ r) → lines_parser f more at bytes ≡ on ss r
+  unfolding chain
+  then_line ss mid b r e = let t = stands_parsed ss mid b in t.2 ∙ by_line f ss b.within more t.0 mid ∙ ap (on ss) (e t.0)
 
 module _ (f : Frame) (at : ℕ) (bytes : List ℕ) where
-  -- after sections that stand
-  stands_parsed : (ss : Sections) (mid : List ℕ) → StandBefore f bytes ss mid → GoesTo f [] at bytes ss mid
-  stands_parsed ss mid b =
-      let all : built [] (words_of ss) ≡ ss = built_all [] ss in
-      let t = along f (words_of ss) [] at bytes mid b.lines (all_go [] ss) (rw all b.within) in
-      subst (λ (s : Sections). GoesTo f [] at bytes s mid) all t
-
-  then_line : (ss : Sections) (mid : List ℕ) → StandBefore f bytes ss mid → (r : Parse Word) → ((place : ℕ) → line_parser (line_count ss + 1) [] false place mid ≡ r) → (place : ℕ) × (sections_parser f [] [] false at bytes ≡ and_then r (λ w. after f ss w false))
-  then_line ss mid b r e = let t = stands_parsed ss mid b in (t.0, t.2 ∙ by_line f ss false [] t.0 mid ∙ ap (λ (x : Parse Word). and_then x (λ w. after f ss w false)) (e t.0))
-
-  pub sections_told : (ss : Sections) (rest : List ℕ) → AreSections f bytes ss rest → (end : ℕ) × (end + length rest ≡ at + length bytes) × (sections_parser f [] [] false at bytes ≡ done ss end rest)
+  sections_told : (ss : Sections) (rest : List ℕ) → AreSections f bytes ss rest → Told (lines_parser f) at bytes ss rest
+  unfolding chain
   sections_told ss rest a =
-      let t = stands_parsed ss a.0 a.1 in (
-        (t.0 + length a.2.line) + 1,
-        omega (arith, t.1, line_place t.0 a.0 words.End rest a.2),
-        t.2 ∙ by_line f ss false [] t.0 a.0 ∙ ap (λ (x : Parse Word). and_then x (λ w. after f ss w false)) (line_begins (line_count ss + 1) false t.0 a.0 words.End rest a.2),
-      )
+      let t = stands_parsed f false at bytes ss a.0 a.1 in
+      let line = line_begins (line_count ss + 1) false t.0 a.0 words.End rest a.2 in
+      ((t.0 + length a.2.line) + 1, omega (arith, t.1, ap length a.2.parts, length-append a.2.line (10 ∷ rest)), t.2 ∙ by_line f ss a.1.within false t.0 a.0 ∙ ap (on f false at bytes ss) line)
 
-  pub sections_break_told : (fault : InputFault) → SectionsBreak f bytes fault → sections_parser f [] [] false at bytes ≡ broken fault
-  sections_break_told fault (inl b) = elim b.why [
-    | inl n ↦ (then_line b.sections b.rest b.before (broken (ScriptLine (line_count b.sections + 1))) (λ place. line_refused _ false place b.rest n.0)).1 ∙ ap broken (sym n.1)
-    | inr n ↦ (then_line b.sections b.rest b.before (broken NoEnd) (λ place. line_missing _ false place b.rest n.0)).1 ∙ ap broken (sym n.1)
+  sections_breaks : (fault : InputFault) → SectionsBreak f bytes fault → lines_parser f false at bytes ≡ broken fault
+  unfolding chain
+  sections_breaks fault (inl b) = elim b.why [
+    | inl n ↦ then_line f false at bytes b.sections b.rest b.before (broken (ScriptLine (line_count b.sections + 1))) (λ place. line_refused _ false place b.rest n.0) ∙ ap broken (sym n.1)
+    | inr n ↦ then_line f false at bytes b.sections b.rest b.before (broken NoEnd) (λ place. line_missing _ false place b.rest n.0) ∙ ap broken (sym n.1)
   ]
-  sections_break_told fault (inr b) =
-      let t = stands_parsed b.sections b.rest b.before in
-      t.2 ∙ by_line f b.sections false [] t.0 b.rest ∙ ap (λ (x : Parse Word). and_then x (λ w. after f b.sections w false)) (line_begins (line_count b.sections + 1) false t.0 b.rest b.word b.others b.next)
-      ∙ ap (λ (o : Option InputFault). on_word (λ later. sections_parser f later []) b.sections b.word o false ((t.0 + length b.next.line) + 1) b.others) b.broken
+  sections_breaks fault (inr b) =
+      let t = stands_parsed f false at bytes b.sections b.rest b.before in
+      t.2 ∙ by_line f b.sections b.before.within false t.0 b.rest ∙ ap (on f false at bytes b.sections) (line_begins (line_count b.sections + 1) false t.0 b.rest b.word b.others b.next) ∙ rw b.broken refl
 
--- ---- sections stand, or break
+  sections_ask : SectionsBreak f bytes NoEnd → lines_parser f true at bytes ≡ wants
+  sections_ask (inl b) = elim b.why [
+    | inl n ↦ absurd (let q = n.1 in cc)
+    | inr n ↦ then_line f true at bytes b.sections b.rest b.before wants (λ place. line_missing _ true place b.rest n.0)
+  ]
+  sections_ask (inr b) = absurd (let q = word_never f (line_count b.sections + 1) b.sections b.word NoEnd b.broken in cc)
 
-abbrev pub SectionsOrBreak : Frame → List ℕ → Type 0
-SectionsOrBreak f bytes = ((ss : Sections) × (rest : List ℕ) × AreSections f bytes ss rest) ⊎ ((fault : InputFault) × SectionsBreak f bytes fault)
+-- ---- and what is parsed stands
 
 pub is_end : (w : Word) → (w ≡ words.End) ⊎ (w ≢ words.End)
 is_end words.Analyst = inr (λ e. cc)
 is_end words.End = inl refl
 is_end (words.Command c) = inr (λ e. cc)
 
-module _ (f : Frame) (whole : List ℕ) where
-  at_line : (ss : Sections) (bytes : List ℕ) → AreLines whole (words_of ss) bytes → AreWithinLimits f ss → IsNoLine bytes ⊎ IsCutLine bytes → SectionsOrBreak f whole
-  at_line ss bytes a within (inl n) = inr (ScriptLine (line_count ss + 1), inl (record { sections = ss; rest = bytes; before = record { lines = a; within = within }; why = inl (n, refl) }))
-  at_line ss bytes a within (inr n) = inr (NoEnd, inl (record { sections = ss; rest = bytes; before = record { lines = a; within = within }; why = inr (n, refl) }))
+module _ (f : Frame) (more : Bool) (at : ℕ) (whole : List ℕ) where
+  abbrev SaysLines : Parse Sections → Type 0
+  SaysLines = Says (AreSections f) (λ _ bytes. SectionsBreak f bytes) (λ bytes. SectionsBreak f bytes NoEnd) more at whole
 
-  walk : (ss : Sections) (line bytes : List ℕ) → AreLines whole (words_of ss) (line ++ bytes) → AreWithinLimits f ss → list_all is_in_line line ≡ true → length line ≤ 64 → SectionsOrBreak f whole
-  walk ss line [] a within all le = at_line ss (line ++ []) a within (inr (omega (arith, le, length-append line []), in_line_all (line ++ []) (rw (append-nil line) all)))
-  walk ss line (b ∷ bytes) a within all le = elim (cases_Bool (eqb b 10)) [
-    | inl t ↦
-        let parts : line ++ b ∷ bytes ≡ line ++ 10 ∷ bytes = ap (λ (x : ℕ). line ++ x ∷ bytes) (eqb-true b 10 t) in
-        elim (found_or_none (word_in line)) [
-          | inr n ↦ at_line ss (line ++ b ∷ bytes) a within (inl (inr (record { line = line; others = bytes; parts = parts; whole = in_line_all line all; short = le; spells = λ w s. let q = sym n ∙ word_again line w s in cc })))
-          | inl w ↦
-              let begins : BeginsLine (line ++ b ∷ bytes) w.0 bytes = record { line = line; parts = parts; short = le; spells = word_found line w.0 w.1 } in
-              elim (found_or_none (word_broken f (line_count ss + 1) ss w.0)) [
-                | inl fault ↦ inr (fault.0, inr (record { sections = ss; rest = line ++ b ∷ bytes; word = w.0; others = bytes; before = record { lines = a; within = within }; next = begins; broken = fault.1 }))
-                | inr may ↦ elim (is_end w.0) [
-                  | inl e ↦ inl (ss, bytes, (line ++ b ∷ bytes, record { lines = a; within = within }, subst (λ (x : Word). BeginsLine (line ++ b ∷ bytes) x bytes) e begins))
-                  | inr other ↦
-                      let now = words_with w.0 ss other (has_begun f (line_count ss + 1) ss within w.0 may) in
-                      walk (with_word w.0 ss) [] bytes (rw now (more_lines whole (words_of ss) (line ++ b ∷ bytes) w.0 bytes a begins)) (stays_within f (line_count ss + 1) ss within w.0 may) refl (omega arith)
-                ]
-              ]
-        ]
-    | inr t ↦
-        let in_line : list_all is_in_line (line ++ b ∷ []) ≡ true = all_append is_in_line line (b ∷ []) all (rw t refl) in
-        let parts : line ++ b ∷ bytes ≡ (line ++ b ∷ []) ++ bytes = sym (append_assoc line (b ∷ []) bytes) in
-        elim (cases_Bool (nat_lt 63 (length line))) [
-          | inl l ↦ at_line ss (line ++ b ∷ bytes) a within (inl (inl (line ++ b ∷ [], bytes, parts, omega (arith, le, ltb-true 63 (length line) l, length-append line (b ∷ [])), in_line_all (line ++ b ∷ []) in_line)))
-          | inr l ↦ walk ss (line ++ b ∷ []) bytes (subst (AreLines whole (words_of ss)) parts a) within in_line (omega (arith, ltb-false 63 (length line) l, length-append line (b ∷ [])))
-        ]
-  ]
+  -- the lines of some sections stand before these bytes
+  module _ (ss : Sections) (bytes : List ℕ) (place : ℕ) (is : place + length bytes ≡ at + length whole) (before : StandBefore f whole ss bytes) where
+    after_line : (next : Sections → Parser Sections) → ((w : Word) (rest : List ℕ) (end : ℕ) → IsNext w ss → end + length rest ≡ at + length whole → StandBefore f whole (with_word w ss) rest → SaysLines (next (with_word w ss) more end rest))
+        → (r : Parse Word) → Says BeginsLine (LineBreak (line_count ss + 1)) IsCutLine more place bytes r → SaysLines (and_then r (λ w. on_word next ss w (word_broken f (line_count ss + 1) ss w) more))
+    after_line next go (Err e) s = (λ m. inl (record { sections = ss; rest = bytes; before = before; why = s.0 m }), λ m t. inl (record { sections = ss; rest = bytes; before = before; why = inr (s.1 m t, refl) }))
+    after_line next go (Ok (w, end, rest)) s = elim (found_or_none (word_broken f (line_count ss + 1) ss w)) [
+      | inl (fault, b) ↦ rw b (λ _. inr (record { sections = ss; rest = bytes; word = w; others = rest; before = before; next = s.1; broken = b }), λ _ t. absurd (let q = word_never f (line_count ss + 1) ss w fault b in let k : is_at_end fault ≡ true = ap is_at_end t in cc))
+      | inr may ↦ elim (is_end w) [
+        | inl e ↦ rw (may, e) (omega (arith, is, s.0), (bytes, before, subst (λ (v : Word). BeginsLine bytes v rest) e s.1))
+        | inr other ↦
+            let a = adds_word f (line_count ss + 1) w ss before.within other may in
+            let now : StandBefore f whole (with_word w ss) rest = record { lines = rw (words_with w ss a.0) (more_lines whole (words_of ss) bytes w rest before.lines s.1); within = a.1 } in
+            rw (may, next_word next ss w a.0 more end rest) (go w rest end a.0 (omega (arith, is, s.0)) now)
+      ]
+    ]
 
-pub none_within : (f : Frame) → AreWithinLimits f []
-none_within f = record { analysts = omega arith; short = tt; inside = tt; settles = omega arith; changes = omega arith }
+  lines_walk : (k : ℕ) (ss : Sections) (bytes : List ℕ) (place : ℕ) → k + line_count ss ≡ most_lines → place + length bytes ≡ at + length whole → StandBefore f whole ss bytes → SaysLines (sections_parser f k ss more place bytes)
+  unfolding chain
+  lines_walk zero ss bytes place room is before = absurd (omega (arith, room, few_lines f ss before.within))
+  lines_walk (suc k) ss bytes place room is before = rw (one_line f k ss more place bytes) (after_line ss bytes place is before (sections_parser f k)
+      (λ w rest end n e now. lines_walk k (with_word w ss) rest end (omega (arith, room, line_more ss w n)) e now)
+      (line_parser (line_count ss + 1) [] more place bytes) ((line_means (line_count ss + 1)).says more place bytes))
 
-pub sections_or_break : (f : Frame) (bytes : List ℕ) → SectionsOrBreak f bytes
-sections_or_break f bytes = walk f bytes [] [] bytes refl (none_within f) refl (omega arith)
+pub lines_means : (f : Frame) → Means (AreSections f) (λ _ bytes. SectionsBreak f bytes) (λ bytes. SectionsBreak f bytes NoEnd) (lines_parser f)
+lines_means f = record {
+  told = sections_told f;
+  breaks = sections_breaks f;
+  asks = sections_ask f;
+  says = λ more at bytes. lines_walk f more at bytes most_lines [] bytes at (omega arith) refl (record { lines = refl; within = none_within f });
+}
+
+-- ---- how many bytes they take
+
+module _ (f : Frame) where
+  after_regular : (next : Sections → Parser Sections) → ((ss : Sections) → Regular 0 1 (next ss)) → (ss : Sections) (w : Word) (o : Option InputFault) → ((e : InputFault) → o ≡ Some e → is_at_end e ≡ false) → Regular 0 1 (on_word next ss w o)
+  after_regular next r ss w (Some fault) never = refusing_regular 0 1 (λ _. fault) (λ at e. let q = never fault refl in let k : is_at_end fault ≡ true = ap is_at_end e in cc)
+  after_regular next r ss words.Analyst None never = r (with_word words.Analyst ss)
+  after_regular next r ss words.End None never = parsed_regular 1 ss
+  after_regular next r ss (words.Command c) None never = r (with_word (words.Command c) ss)
+
+  fuelled : (k : ℕ) (ss : Sections) → Regular 1 1 (sections_parser f k ss)
+  unfolding sections_parser
+  fuelled zero ss = refusing_regular 1 1 (λ _. NoEnd) (λ at e. cc)
+  fuelled (suc k) ss =
+      chain_regular 1 1 0 1 (line_parser (line_count ss + 1) []) (λ w. on_word (sections_parser f k) ss w (word_broken f (line_count ss + 1) ss w)) (omega arith) (line_regular (line_count ss + 1))
+      (λ w. after_regular (sections_parser f k) (λ later. relaxed 1 1 0 1 (sections_parser f k later) (omega arith) (omega arith) (fuelled k later)) ss w (word_broken f (line_count ss + 1) ss w) (word_never f (line_count ss + 1) ss w))
+
+  pub lines_regular : Regular 1 1 (lines_parser f)
+  lines_regular = fuelled most_lines []

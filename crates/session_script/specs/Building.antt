@@ -1,5 +1,12 @@
 -- Planes, sections and scripts as they are being read: words of helpers, which no clause of a public function cites.
-use Rattle.std.specs.Prelude.{◌≡◌}
+use Rattle.std.specs.Prelude.{◌≡◌, ℕ, ◌≤◌, List, length, take, Result, Ok, Err, ⊤}
+use Rattle.insar_ports.specs.declared.feed.Line.{Line}
+use Rattle.insar_ports.specs.declared.feed.Line.TheVariants.{Whole, Cut, Over}
+use Rattle.pgm_planes.specs.declared.fault.InputFault.TheVariants.{ScriptLine, NoEnd}
+use Rattle.session_script.specs.declared.fault.SessionFault.{SessionFault}
+use Rattle.session_script.specs.declared.fault.SessionFault.TheVariants.{Input}
+use Rattle.session_script.specs.declared.word.Word.{Word}
+use Rattle.session_script.specs.Lines.{Spells, SpellsNone}
 use Rattle.std.specs.Global.{Vec}
 use Rattle.raster_model.specs.declared.script.Script.{Script}
 use Rattle.pgm_planes.specs.Planes.{plane_of}
@@ -24,3 +31,16 @@ parts_in parts = (planes_in parts.planes, scripts_in parts.scripts)
 -- the tiling is of the phase plane's size
 abbrev pub IsSized : Parts → Type 0
 IsSized parts = (parts.tiling.width ≡ parts.planes.phase.width) × (parts.tiling.height ≡ parts.planes.phase.height)
+
+-- a read of a line put no more bytes than these
+abbrev pub FitsIn : Line → List ℕ → Type 0
+FitsIn (Whole n) into = n ≤ length into
+FitsIn (Cut n) into = n ≤ length into
+FitsIn Over into = ⊤
+
+-- what the line with this number is, of which these bytes were read
+abbrev pub IsJudged : ℕ → Line → List ℕ → Result Word SessionFault → Type 0
+IsJudged number (Whole n) into (Ok word) = Spells (take n into) word
+IsJudged number (Whole n) into (Err fault) = SpellsNone (take n into) × (fault ≡ Input (ScriptLine number))
+IsJudged number (Cut n) into result = result ≡ Err (Input NoEnd)
+IsJudged number Over into result = result ≡ Err (Input (ScriptLine number))

@@ -1,7 +1,7 @@
 -- Parsing a session from left to right: words of helpers, which no clause of a public function cites. A parser is told whether
 -- more bytes come after those that it is given, the place of the first of them, and them. Where it needs a byte that comes, its
 -- outcome is the fault that bytes are too many: it is used where the limit lets no more out.
-use Rattle.std.specs.Prelude.{◌≡◌, ℕ, ◌+◌, ◌==◌, ◌&&◌, nat_lt, Bool, true, false, if◌then◌else◌, List, [], ◌∷◌, ◌++◌, length, Option, Some, None, Result, Ok, Err, ⊤}
+use Rattle.std.specs.Prelude.{◌≡◌, ℕ, zero, suc, ◌+◌, ◌==◌, ◌&&◌, nat_lt, Bool, true, false, if◌then◌else◌, List, [], ◌∷◌, ◌++◌, length, Option, Some, None, Result, Ok, Err, ⊤}
 use Rattle.insar_ports.specs.Bytes.{HasMore, HasRisen}
 use Rattle.insar_ports.specs.Calls.{Call, Moves}
 use Rattle.pgm_planes.specs.declared.fault.InputFault.{InputFault}
@@ -44,11 +44,11 @@ abbrev pub and_then : {A B : Type 0} → Parse A → (A → ℕ → List ℕ →
 and_then (Ok x) f = f x.0 x.1 x.2
 and_then (Err fault) f = Err fault
 
-abbrev pub chain : {A B : Type 0} → Parser A → (A → Parser B) → Parser B
+unfoldable pub chain : {A B : Type 0} → Parser A → (A → Parser B) → Parser B
 chain p f more at bytes = and_then (p more at bytes) (λ x. f x more)
 
 -- the next byte, which stays
-unfoldable pub peek_parser : Parser (Option ℕ)
+abbrev pub peek_parser : Parser (Option ℕ)
 peek_parser more at [] = if_no_more more (Ok (None, at, []))
 peek_parser more at (b ∷ bytes) = Ok (Some b, at, b ∷ bytes)
 
@@ -59,7 +59,7 @@ word_or_fault n None = fails (ScriptLine n)
 word_or_fault n (Some w) = parsed w
 
 -- the line with the number n, of which `line` was read: it is judged at its line feed or at its 65th byte
-unfoldable pub line_parser : ℕ → List ℕ → Parser Word
+abbrev pub line_parser : ℕ → List ℕ → Parser Word
 line_parser n line more at [] = if_no_more more (Err NoEnd)
 line_parser n line more at (b ∷ bytes) = if b == 10 then word_or_fault n (word_in line) more (at + 1) bytes else (if nat_lt 63 (length line) then Err (ScriptLine n) else line_parser n (line ++ b ∷ []) more (at + 1) bytes)
 
@@ -70,14 +70,17 @@ on_word next ss words.Analyst None = next (with_word words.Analyst ss)
 on_word next ss words.End None = parsed ss
 on_word next ss (words.Command c) None = next (with_command c ss)
 
-abbrev pub on_line : (Sections → Parser Sections) → Frame → Sections → Option Word → Parser Sections
-on_line next f ss None = fails (ScriptLine (line_count ss + 1))
-on_line next f ss (Some w) = on_word next ss w (word_broken f (line_count ss + 1) ss w)
+-- the lines after some sections, of which so many at most may come
+unfoldable pub sections_parser : Frame → ℕ → Sections → Parser Sections
+sections_parser f zero ss = fails NoEnd
+sections_parser f (suc k) ss = chain (line_parser (line_count ss + 1) []) (λ w. on_word (sections_parser f k) ss w (word_broken f (line_count ss + 1) ss w))
 
--- the lines after some sections and a part of the next line
-unfoldable pub sections_parser : Frame → Sections → List ℕ → Parser Sections
-sections_parser f ss line more at [] = if_no_more more (Err NoEnd)
-sections_parser f ss line more at (b ∷ bytes) = if b == 10 then on_line (λ later beyond place rest. sections_parser f later [] more (at + 1) bytes) f ss (word_in line) more (at + 1) bytes else (if nat_lt 63 (length line) then Err (ScriptLine (line_count ss + 1)) else sections_parser f ss (line ++ b ∷ []) more (at + 1) bytes)
+-- sections within the limits have 32,776 lines at most, and the line `end` follows
+abbrev pub most_lines : ℕ
+most_lines = 32777
+
+abbrev pub lines_parser : Frame → Parser Sections
+lines_parser f = sections_parser f most_lines []
 
 -- ---- the script part
 
@@ -88,11 +91,11 @@ alone_end ss (Some b) = λ more at bytes. Err (AfterEnd at)
 
 abbrev pub alone_script : Frame → Option ℕ → Parser Sections
 alone_script f None = parsed usual
-alone_script f (Some b) = chain (sections_parser f [] []) (λ ss. chain peek_parser (alone_end ss))
+alone_script f (Some b) = chain (lines_parser f) (λ ss. chain peek_parser (alone_end ss))
 
 abbrev pub script_parser : Frame → SessionUse → Parser Sections
 script_parser f Alone = chain peek_parser (alone_script f)
-script_parser f BeforeReport = chain (sections_parser f [] []) (λ ss. parsed (meant ss))
+script_parser f BeforeReport = chain (lines_parser f) (λ ss. parsed (meant ss))
 
 -- ---- the planes
 
@@ -107,8 +110,12 @@ plane_parser role more at bytes = as_parse role (plane_at role more at bytes)
 abbrev pub has_size : PlaneOf → PlaneOf → Bool
 has_size p q = (q.width == p.width) && (q.height == p.height)
 
+abbrev pub where_sized : Role → PlaneOf → Bool → Parser PlaneOf
+where_sized role p true = parsed p
+where_sized role p false = fails (SizesDiffer role)
+
 abbrev pub if_sized : Role → PlaneOf → PlaneOf → Parser PlaneOf
-if_sized role phase p more at bytes = if has_size phase p then Ok (p, at, bytes) else Err (SizesDiffer role)
+if_sized role phase p = where_sized role p (has_size phase p)
 
 abbrev pub is_begun : Option ℕ → Bool
 is_begun None = false

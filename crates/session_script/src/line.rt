@@ -29,7 +29,7 @@ pub const MASK: &[u8] = b"mask";
 pub const UNMASK: &[u8] = b"unmask";
 
 /// What separates the fields of a line.
-pub const SPACE: &[u8] = b" ";
+const SPACE: u8 = b' ';
 
 /// What a line means, without its line feed.
 pub fn word_of(line: &[u8]) -> Option<Word>
@@ -54,6 +54,7 @@ pub fn word_of(line: &[u8]) -> Option<Word>
 }
 
 /// The edit of a line.
+#[tactic(auto, using(crate::proofs::WordAgain::stripped, crate::proofs::WordAgain::not_stripped, crate::proofs::WordAgain::edit_spelled, crate::proofs::WordAgain::no_mask_rect, crate::proofs::WordAgain::no_unmask_rect))]
 fn edit_of(line: &[u8]) -> Option<Edit>
     ensures { MatchOption result ((edit : AnyEdit) → Spells line.now (words.Command (Change edit)) → ⊥) (λ edit. Spells line.now (words.Command (Change edit))) }
 {
@@ -65,6 +66,7 @@ fn edit_of(line: &[u8]) -> Option<Edit>
 }
 
 /// The rectangle of an edit: four numbers, each after one SP.
+#[tactic(auto, unfolding(crate::specs::Fields::rect_in))]
 fn rect_of(bytes: &[u8]) -> Option<Rect>
     ensures { result ≡ rect_in bytes.now }
 {
@@ -80,13 +82,18 @@ fn rect_of(bytes: &[u8]) -> Option<Rect>
 }
 
 /// The number after an SP at the front, and what follows it.
+#[tactic(auto, unfolding(crate::specs::Fields::field_in))]
 fn take_field(bytes: &[u8]) -> Option<(u32, &[u8])>
     ensures { given_field result ≡ field_in bytes.now }
 {
-    take_number(bytes.strip_prefix(SPACE)?)
+    match bytes {
+        [SPACE, rest @ ..] => take_number(rest),
+        _ => None,
+    }
 }
 
 /// The plain number at the front, and what follows it.
+#[tactic(auto, using(crate::proofs::WordAgain::front_digits), unfolding(crate::specs::Fields::plain_number_in))]
 fn take_number(bytes: &[u8]) -> Option<(u32, &[u8])>
     ensures { given_field result ≡ plain_number_in bytes.now }
 {
@@ -99,6 +106,7 @@ fn take_number(bytes: &[u8]) -> Option<(u32, &[u8])>
 }
 
 /// How many digits are at the front.
+#[tactic(auto, using(std::proofs::lemmas::List::Sums::prefix_len_is), unfolding(crate::specs::Fields::digits_in))]
 fn count_digits(bytes: &[u8]) -> usize
     ensures count { result ≡ digits_in bytes.now }
     ensures within { result ≤ length bytes.now }
@@ -130,6 +138,7 @@ fn is_plain(digits: &[u8]) -> bool
 }
 
 /// The number that digits spell; it stops growing at the greatest `u32`.
+#[tactic(auto, using(crate::proofs::WordAgain::counted_is))]
 fn number_of(digits: &[u8]) -> u32
     requires { IsTrue (list_all is_digit_byte digits.now) }
     ensures { result ≡ number_by digits.now }

@@ -1,5 +1,5 @@
 ghost use Rattle.insar_ports.specs.Calls.{call_of};
-ghost use Rattle.insar_ports.specs.Feeding.{limit_of, source_name};
+ghost use Rattle.insar_ports.specs.Feeding.{handed_of, limit_of, source_name};
 ghost use Rattle.pgm_planes.specs.Planes.{HasMaxval, plane_of};
 ghost use Rattle.session_script.specs.Building.{planes_in};
 ghost use Rattle.session_script.specs.Parsing.{Parses, is_begun, later_parser, peek_parser, plane_parser, planes_parser};
@@ -53,9 +53,11 @@ fn read_later<S: Source>(
 }
 
 /// The next byte, which stays.
+#[tactic(auto, using(crate::proofs::CallLemmas::sees, crate::proofs::CallLemmas::sees_not))]
 pub fn see_byte<S: Source>(feed: &mut Feed<S>) -> Result<Option<u8>, SessionFault>
     ensures same_source { source_name feed.new ≡ source_name feed.old }
     ensures limit { limit_of feed.new ≡ limit_of feed.old }
+    ensures stays { handed_of feed.new ≡ handed_of feed.old }
     ensures parses { Parses (λ got. got) result (call_of S.left S.faults feed.old feed.new) peek_parser }
 {
     Ok(feed.peek()?)

@@ -1,13 +1,12 @@
 ghost use Rattle.insar_ports.specs.Calls.{call_of};
 ghost use Rattle.insar_ports.specs.Feeding.{handed_of, limit_of, source_name};
-ghost use Rattle.raster_model.specs.Limits.{max_session_bytes};
-ghost use Rattle.session_script.specs.Building.{scripts_in, sections_in};
-ghost use Rattle.session_script.specs.Parsing.{Parses, line_parser, script_parser, sections_parser};
+ghost use Rattle.session_script.specs.Building.{FitsIn, IsJudged, scripts_in, sections_in};
+ghost use Rattle.session_script.specs.Parsing.{Parses, line_parser, lines_parser, script_parser};
 ghost use Rattle.session_script.specs.Scripts.{meant, usual};
 ghost use Rattle.session_script.specs.Sections.{AreWithinLimits, AreComplete, frame_of};
 ghost use Rattle.session_script.specs.declared.fault.SessionFault.TheVariants as session_faults;
 ghost use Rattle.session_script.specs.declared.session_use.SessionUse.TheVariants.{Alone};
-ghost use Rattle.std.specs.Prelude.{◌≡◌, ◌<◌, ◌≤◌, [], IfErr, IfOk, OnOk};
+ghost use Rattle.std.specs.Prelude.{◌≡◌, ◌<◌, [], IfErr, IfOk, OnOk};
 
 use crate::fault::SessionFault;
 use crate::line::word_of;
@@ -24,6 +23,7 @@ use std::alloc::Global;
 const LONGEST_LINE: usize = 64;
 
 /// Takes the next line, which has this number.
+#[tactic(auto, using(crate::proofs::CallLemmas::next_fits))]
 fn read_word<S: Source>(feed: &mut Feed<S>, number: u32) -> Result<Word, SessionFault>
     ensures same_source { source_name feed.new ≡ source_name feed.old }
     ensures limit { limit_of feed.new ≡ limit_of feed.old }
@@ -31,7 +31,16 @@ fn read_word<S: Source>(feed: &mut Feed<S>, number: u32) -> Result<Word, Session
     ensures parses { Parses (λ word. word) result (call_of S.left S.faults feed.old feed.new) (line_parser number []) }
 {
     let mut line = [0; LONGEST_LINE];
-    match feed.next_line(&mut line)? {
+    let found = feed.next_line(&mut line)?;
+    judged(found, &line, number)
+}
+
+/// What the line is that was put into `line`.
+fn judged(found: Line, line: &[u8], number: u32) -> Result<Word, SessionFault>
+    requires { FitsIn found line.now }
+    ensures { IsJudged number found line.now result }
+{
+    match found {
         Line::Whole(count) => match word_of(&line[..count]) {
             Some(word) => Ok(word),
             None => Err(SessionFault::Input(InputFault::ScriptLine(number))),
@@ -47,11 +56,10 @@ fn read_sections<S: Source>(
     feed: &mut Feed<S>,
     tiling: &Tiling,
 ) -> Result<Sections, SessionFault>
-    requires { limit_of feed.old ≤ max_session_bytes }
     ensures same_source { source_name feed.new ≡ source_name feed.old }
     ensures limit { limit_of feed.new ≡ limit_of feed.old }
     ensures within { IfOk result (λ sections. AreWithinLimits (frame_of tiling.now) (sections_in sections)) }
-    ensures parses { Parses sections_in result (call_of S.left S.faults feed.old feed.new) (sections_parser (frame_of tiling.now) [] []) }
+    ensures parses { Parses sections_in result (call_of S.left S.faults feed.old feed.new) (lines_parser (frame_of tiling.now)) }
 {
     let mut sections = Sections::new(alloc);
     loop {
@@ -67,13 +75,13 @@ fn read_sections<S: Source>(
 }
 
 /// Takes the script part of a session.
+#[tactic(auto, using(crate::proofs::ScriptAgain::meant_complete))]
 pub fn read_scripts<S: Source>(
     alloc: Global,
     feed: &mut Feed<S>,
     usage: SessionUse,
     tiling: &Tiling,
 ) -> Result<Vec<Script>, SessionFault>
-    requires { limit_of feed.old ≤ max_session_bytes }
     ensures same_source { source_name feed.new ≡ source_name feed.old }
     ensures limit { limit_of feed.new ≡ limit_of feed.old }
     ensures within { IfOk result (λ scripts. AreComplete (frame_of tiling.now) (scripts_in scripts)) }
@@ -89,12 +97,12 @@ pub fn read_scripts<S: Source>(
 }
 
 /// Takes the script part of a session that stands alone, and the end of the input.
+#[tactic(auto, using(crate::proofs::ScriptAgain::meant_complete, crate::proofs::ScriptAgain::usual_complete))]
 fn read_alone<S: Source>(
     alloc: Global,
     feed: &mut Feed<S>,
     tiling: &Tiling,
 ) -> Result<Vec<Script>, SessionFault>
-    requires { limit_of feed.old ≤ max_session_bytes }
     ensures same_source { source_name feed.new ≡ source_name feed.old }
     ensures limit { limit_of feed.new ≡ limit_of feed.old }
     ensures within { IfOk result (λ scripts. AreComplete (frame_of tiling.now) (scripts_in scripts)) }

@@ -1,7 +1,7 @@
 ghost use Rattle.session_script.specs.Sections.{changes_of, line_count, sections_of, settles_of};
-ghost use Rattle.session_script.specs.Sections.{frame_of, lies_in as lies_in_frame};
+ghost use Rattle.session_script.specs.Sections.{frame_of, lies_in as lies_in_frame, with_command};
 ghost use Rattle.raster_model.specs.Scripts.{is_change as changes_by, is_settle as settles_by};
-ghost use Rattle.std.specs.Prelude.{◌≡◌, ◌+◌, ◌*◌, nat_lt};
+ghost use Rattle.std.specs.Prelude.{◌≡◌, ◌+◌, ◌*◌, ◌≤◌, nat_lt, length, OnErr, OnOk};
 
 use crate::word::Word;
 use pgm_planes::InputFault;
@@ -73,6 +73,7 @@ impl Sections {
     }
 
     /// What is wrong with a command in this line.
+    #[tactic(auto, using(crate::proofs::WithinLemmas::last_read, crate::proofs::WithinLemmas::length_is))]
     fn command_refusal(&self, tiling: &Tiling, line: u32, command: Command) -> Option<InputFault>
         ensures { result ≡ command_broken (frame_of tiling.now) line (sections_in self.now) command }
     {
@@ -136,18 +137,30 @@ impl Sections {
     }
 
     /// Adds a command to the last section.
+    #[tactic(auto, using(crate::proofs::WithinLemmas::fewer, crate::proofs::WithinLemmas::lines_added, crate::proofs::WithinLemmas::counts_added, crate::proofs::WithinLemmas::byte_is))]
     fn add(&mut self, command: Command) -> Result<(), AllocError>
         requires lines { line_count (sections_in self.old) < 4294967295 }
         requires begun { 1 ≤ length (sections_in self.old) }
         ensures { OnOk result (sections_in self.new ≡ with_command command (sections_in self.old)) }
     {
-        let last = self.scripts.len() - 1;
-        self.scripts[last].commands.push(command)?;
+        push_command(&mut self.scripts, command)?;
         self.lines += 1;
         self.settles += u32::from(is_settle(command));
         self.changes += u32::from(is_change(command));
         Ok(())
     }
+}
+
+/// Adds a command to the last script.
+#[tactic(auto, using(crate::proofs::WithinLemmas::sections_kept, crate::proofs::WithinLemmas::sections_added))]
+fn push_command(scripts: &mut Vec<Script>, command: Command) -> Result<(), AllocError>
+    requires { 1 ≤ length scripts.old.items }
+    ensures added { OnOk result (sections_of scripts.new.items ≡ with_command command (sections_of scripts.old.items)) }
+    ensures kept { OnErr result (sections_of scripts.new.items ≡ sections_of scripts.old.items) }
+{
+    let last = scripts.len() - 1;
+    scripts[last].commands.push(command)?;
+    Ok(())
 }
 
 /// Whether a rectangle lies in the raster of a tiling.

@@ -1,4 +1,5 @@
 ghost use Rattle.raster_model.specs.Limits.{IsTileSide, max_session_bytes};
+ghost use Rattle.raster_model.specs.Terms.{ArePlainTerms};
 ghost use Rattle.insar_ports.specs.Feeding.{handed_of, left_of, limit_of, source_name};
 ghost use Rattle.insar_ports.specs.Calls.{Moves, call_of};
 ghost use Rattle.pgm_planes.specs.declared.fault.InputFault.{InputFault as AnyFault};
@@ -20,12 +21,12 @@ use crate::script::read_scripts;
 use crate::session_use::SessionUse;
 use edge_weights::weigh;
 use insar_ports::{Feed, Source};
-use raster_model::{Mask, RuleKind, Scene, Script, Session, Tiling};
+use raster_model::{Mask, RuleKind, Scene, Script, Session, Terms, Tiling};
 use std::alloc::Global;
 
 /// Reads a session from the start of a source: a phase plane, weights and a mask if they are there, and the analysts'
-/// scripts. The weights of the edges are those of the rule `kind`, and tiles have the side `side`. Places and lines of a
-/// fault count from the start of the source and of the script part.
+/// scripts. The weights of the edges are those of the rule `kind`, tiles have the side `side`, and the terms are the plain
+/// ones. Places and lines of a fault count from the start of the source and of the script part.
 ///
 /// After a refusal the feed is where it was met, and the caller ends.
 pub fn read_session<S: Source>(
@@ -45,6 +46,7 @@ pub fn read_session<S: Source>(
     // What is read is spelled so, and what follows is left.
     ensures read { IfOk result (λ session. Reaches (call_of S.left S.faults feed.old feed.new) (λ bytes rest. IsSessionIn use_as side bytes (session_of session) rest)) }
     ensures scene { IfOk result (λ session. (session.scene.rule ≡ kind) × (session.scene.tiling.side ≡ side)) }
+    ensures terms { IfOk result (λ session. ArePlainTerms session.scene.terms) }
     // What is spelled so is read, and what follows is left.
     ensures accepted { IfSome (left_of S.left feed.old) (λ bytes. (s : SessionOf) (rest : List ℕ) → IsSessionIn use_as side bytes s rest → IsReadAsSession (call_of S.left S.faults feed.old feed.new) s rest result) }
     // The first break, or why else a session is not read.
@@ -71,6 +73,7 @@ fn read_whole<S: Source>(
     ensures same_limit { limit_of feed.new ≡ limit_of feed.old }
     ensures moves { Moves (call_of S.left S.faults feed.old feed.new) }
     ensures scene { IfOk result (λ session. (session.scene.rule ≡ kind) × (session.scene.tiling.side ≡ side)) }
+    ensures terms { IfOk result (λ session. ArePlainTerms session.scene.terms) }
     ensures outcome { IsSessionOutcome use_as side (call_of S.left S.faults feed.old feed.new) result }
 {
     let parts = read_parts(alloc, feed, use_as, side)?;
@@ -104,11 +107,13 @@ fn read_parts<S: Source>(
 }
 
 /// The session of its parts.
+#[tactic(auto, using(crate::proofs::AskSession::mask_of))]
 fn made_of(alloc: Global, kind: RuleKind, parts: Parts) -> Result<Session, SessionFault>
     requires sized { IsSized parts }
     requires complete { AreComplete (frame_of parts.tiling) (scripts_in parts.scripts) }
     ensures made { IfOk result (λ session. IsMadeOf (planes_in parts.planes) (scripts_in parts.scripts) (session_of session)) }
     ensures scene { IfOk result (λ session. (session.scene.rule ≡ kind) × (session.scene.tiling.side ≡ parts.tiling.side)) }
+    ensures terms { IfOk result (λ session. ArePlainTerms session.scene.terms) }
     ensures starved { IfErr result (λ fault. fault ≡ session_faults.Memory) }
 {
     let Parts {
@@ -129,6 +134,7 @@ fn made_of(alloc: Global, kind: RuleKind, parts: Parts) -> Result<Session, Sessi
         rule: kind,
         edges,
         tiling,
+        terms: Terms::plain(),
     };
     Ok(Session {
         scene,

@@ -1,3 +1,5 @@
+#![tactic(auto, using(text_lines::proofs::AddLemmas::adds_then, text_lines::proofs::ChainLemmas::adds_two))]
+
 ghost use Rattle.insar_ports.specs.Bytes.{GainsProperPrefix, HasRisen, with_end};
 ghost use Rattle.session_script.specs.Sections.{sections_of};
 ghost use Rattle.session_script.specs.Sessions.{session_of};
@@ -30,6 +32,7 @@ pub fn write_session<K: Sink>(session: &Session, sink: &mut K) -> Result<(), Wri
     text.finish()
 }
 
+#[tactic(auto, using(text_lines::proofs::ChainLemmas::adds_four), unfolding(crate::specs::Text::session_text))]
 fn add_session<K: Sink>(text: &mut TextWriter<K>, session: &Session)
     ensures { Adds (view_of K.held K.faults text.old) (view_of K.held K.faults text.new) (session_text (session_of session.now)) }
 {
@@ -48,6 +51,7 @@ fn add_mask<K: Sink>(text: &mut TextWriter<K>, mask: &Mask)
 }
 
 /// Adds the samples of a mask, row by row.
+#[tactic(auto, using(text_lines::proofs::AddLemmas::adds_nothing), unfolding(text_lines::specs::Text::texts_below))]
 fn add_rows<K: Sink>(text: &mut TextWriter<K>, mask: &Mask)
     ensures { Adds (view_of K.held K.faults text.old) (view_of K.held K.faults text.new) (texts_below mask.now.height (mask_row_text mask.now)) }
 {
@@ -59,6 +63,7 @@ fn add_rows<K: Sink>(text: &mut TextWriter<K>, mask: &Mask)
 }
 
 /// Puts 0 for a masked pixel and 1 for an open one into the front of `row`.
+#[tactic(auto, unfolding(text_lines::specs::Text::texts_below))]
 fn fill_row(mask: &Mask, y: u32, row: &mut [u8])
     requires along { y < mask.now.height }
     requires room { mask.now.width ≤ length row.old }

@@ -1,12 +1,8 @@
-use Rattle.std.proofs.Common.{◌∙◌, sym, arith, length}
+use Rattle.std.proofs.Common.{sym, arith, length}
 use Rattle.std.proofs.lemmas.List.Sums.{prefix_len_is}
 use Rattle.pgm_planes.specs.Gaps.{is_digit}
 use Rattle.session_script.specs.Fields.{digits_in}
 use Rattle.session_script.proofs.line.count_digits.Goals as goal
-
-pub returns-then-not-is_digit-clause-count : goal.returns-then-not-is_digit-clause-count
-unfolding digits_in
-returns-then-not-is_digit-clause-count c = sym (prefix_len_is is_digit c.args.bytes.now c.loop-count.count 0 (omega arith) c.loop-count.invariant (λ lt. sym c.is_digit.ensures ∙ c.if-not-is_digit.true))
 
 pub returns-clause-count : goal.returns-clause-count
 unfolding digits_in

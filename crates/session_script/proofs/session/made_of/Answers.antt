@@ -1,6 +1,7 @@
-use Rattle.std.proofs.Common.{◌∙◌, arith, refl}
-use Rattle.session_script.proofs.SectionLemmas.{length_is}
-use Rattle.session_script.proofs.SessionLemmas.{scripts_are_short, scripts_fit_in, settles_kept, changes_kept, mask_of}
+use Rattle.std.proofs.Common.{◌∙◌, ◌≤◌, length, arith}
+use Rattle.raster_model.specs.Scripts.{is_settle, is_change, CommandsFit}
+use Rattle.session_script.proofs.WithinLemmas.{length_is}
+use Rattle.session_script.proofs.AskSession.{each_script, same_counts}
 use Rattle.session_script.proofs.session.made_of.Goals as goal
 
 pub invariant_of-result : goal.invariant_of-result
@@ -11,31 +12,9 @@ invariant_of-result c =
     record {
       same_size = (c.in_ok-first_mask.ensures.width ∙ p.same_width.1, c.in_ok-first_mask.ensures.height ∙ p.same_height.1);
       analysts = (omega (arith, c.requires.complete.0, length_is scripts.items, scripts.ok.0), omega (arith, within.analysts, length_is scripts.items, scripts.ok.0));
-      short = scripts_are_short scripts.items within.short;
-      settles = settles_kept scripts.items _ _ _ _ c.requires.sized.0 c.requires.sized.1 within.settles;
-      changes = changes_kept scripts.items _ within.changes;
-      inside = scripts_fit_in _ _ _ _ scripts.items c.requires.sized.0 c.requires.sized.1 within.inside;
+      short = λ k s e. (let short = each_script (λ commands. length commands ≤ 4096) scripts.items within.short k s e in omega (arith, short, s.commands.ok.0));
+      settles = rw (same_counts is_settle scripts.items, ← c.requires.sized.0, ← c.requires.sized.1) within.settles;
+      changes = rw (same_counts is_change scripts.items) within.changes;
+      inside = each_script (CommandsFit p.phase.width p.phase.height) scripts.items (rw (← c.requires.sized.0, ← c.requires.sized.1) within.inside);
+      unsteep = c.plain.ensures.steepness;
     }
-
-pub invariant_of-scene : goal.invariant_of-scene
-invariant_of-scene c =
-    let p = c.args.parts.planes in
-    record {
-      cycle = p.cycle;
-      same_width = (p.same_width.0, c.requires.sized.0);
-      same_height = (p.same_height.0, c.requires.sized.1);
-      weighed = c.in_ok-edges.ensures;
-    }
-
-pub returns-clause-made : goal.returns-clause-made
-returns-clause-made c =
-    let p = c.args.parts.planes in
-    record {
-      phase_is = refl;
-      weights_are = refl;
-      mask_is = mask_of _ p.mask p.phase.width p.phase.height p.same_width.1 p.same_height.1 c.in_ok-first_mask.ensures;
-      scripts_are = refl;
-    }
-
-pub returns-clause-scene : goal.returns-clause-scene
-returns-clause-scene c = (refl, refl)

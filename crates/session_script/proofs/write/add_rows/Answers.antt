@@ -1,7 +1,6 @@
-use Rattle.std.proofs.Common.{◌≡◌, take, ◌∙◌, rules}
-use Rattle.text_lines.specs.Text.{texts_below}
+use Rattle.std.proofs.Common.{◌≡◌, take, ◌∙◌}
 use Rattle.session_script.specs.Text.{mask_row_text}
-use Rattle.text_lines.proofs.AddLemmas.{adds_below, adds_nothing}
+use Rattle.text_lines.proofs.AddLemmas.{adds_below}
 use Rattle.session_script.proofs.write.add_rows.Goals as goal
 
 pub loop-y-preserved : goal.loop-y-preserved
@@ -9,7 +8,3 @@ loop-y-preserved g c =
     let m = c.args.mask.now in
     let row : take c.width.result c.fill_row.new.row ≡ mask_row_text m c.loop-y.y = rw c.width.ensures.value c.fill_row.ensures.front in
     record { added = adds_below (mask_row_text m) c.loop-y.y c.loop-y.invariant.added (rw row at c.bytes.ensures); size = c.fill_row.ensures.same ∙ c.loop-y.invariant.size }
-
-pub loop-y-init : goal.loop-y-init
-unfolding texts_below
-loop-y-init g c = record { added = adds_nothing _; size = search rules }

@@ -1,6 +1,6 @@
 use Rattle.std.proofs.lemmas.List.{take_all}
 use Rattle.text_lines.proofs.AddLemmas.{adds_next}
-use Rattle.session_script.proofs.WrittenLines.{script_text, scripts_as_sections}
+use Rattle.session_script.proofs.WrittenSession.{script_text, scripts_as_sections}
 use Rattle.session_script.proofs.write.add_sections.Goals as goal
 
 pub returns : goal.returns

@@ -4,12 +4,8 @@ use Rattle.raster_model.specs.Masks.{open_at}
 use Rattle.session_script.specs.Text.{sample_of}
 use Rattle.text_lines.specs.Text.{texts_below}
 use Rattle.text_lines.proofs.TextLemmas.{texts_more}
-use Rattle.session_script.proofs.SectionLemmas.{byte_is}
+use Rattle.session_script.proofs.WithinLemmas.{byte_is}
 use Rattle.session_script.proofs.write.fill_row.Goals as goal
-
-pub loop-x-init : goal.loop-x-init
-unfolding texts_below
-loop-x-init c = search rules
 
 pub loop-x-preserved : goal.loop-x-preserved
 loop-x-preserved c =

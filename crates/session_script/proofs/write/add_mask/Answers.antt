@@ -1,5 +1,0 @@
-use Rattle.text_lines.proofs.AddLemmas.{adds_then}
-use Rattle.session_script.proofs.write.add_mask.Goals as goal
-
-pub returns : goal.returns
-returns g c = adds_then (rw (c.width.ensures.value, c.height.ensures.value) at c.add_header.ensures) c.add_rows.ensures

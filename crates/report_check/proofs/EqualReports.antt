@@ -1,24 +1,21 @@
 -- Reports that are equal: they have one history, and what stands after its entries is certified alike, also for another session with the same raster and the same masks on it.
-use Rattle.std.proofs.Common.{◌≡◌, ◌∙◌, ℕ, zero, suc, ◌*◌, ◌<◌, refl, sym, ap, ap₂, subst, arith, Bool, List, [], ◌∷◌, length, map}
-use Rattle.std.specs.Prelude.{ℤ, pos, IsTrue, if◌then◌else◌, Option, Some, None, slice_get}
+use Rattle.std.proofs.Common.{◌≡◌, ◌∙◌, ℕ, zero, suc, ◌<◌, refl, sym, ap₂, subst, arith, List, [], ◌∷◌, map}
+use Rattle.std.specs.Prelude.{Option, Some, None, slice_get}
 use Rattle.raster_model.specs.declared.session.Session.{Session}
-use Rattle.raster_model.specs.Cells.{IsCertifiedTile}
-use Rattle.raster_model.specs.Flows.{AreCertifiedSeams}
 use Rattle.raster_model.specs.Raster.{Raster}
 use Rattle.raster_model.specs.Scene.{raster_of}
-use Rattle.raster_model.specs.Sums.{Field}
 use Rattle.raster_model.specs.Tiles.{tiles_of}
-use Rattle.surface_snapshots.proofs.SameLemmas.{anchored_too, same_seam_cost, same_tile_costs, seams_too, tile_too}
 use Rattle.tile_board.specs.declared.entry.Entry.{Entry}
-use Rattle.tile_board.specs.declared.entry.Entry.TheVariants.{Revised, Kept, Published, Settled, Shown}
+use Rattle.tile_board.specs.declared.entry.Entry.TheVariants.{Published}
 use Rattle.tile_board.specs.Histories.{IsComplete, IsLegal, mask_in}
 use Rattle.tile_board.proofs.ListLemmas.{get_below}
-use Rattle.report_text.specs.Certified.{IsCertifiedAt, IsCertifiedAfter, IsCertifiedReport, IsCertifiedSurface, ShowsSurface, history_of, no_data}
+use Rattle.report_text.specs.Certified.{IsCertifiedAt, IsCertifiedAfter, IsCertifiedReport, IsCertifiedSurface, history_of}
 use Rattle.report_text.specs.Reports.{ItemOf, ReportOf, SurfaceOf}
-use Rattle.report_text.specs.Same.{AreSameItems, IsSameItem, IsSameReport, IsSameSurface, MayBeSame}
-use Rattle.report_text.specs.Text.{tiles_by, tiles_in}
+use Rattle.report_text.specs.Same.{AreSameItems, IsSameItem, IsSameReport, MayBeSame}
+use Rattle.report_text.specs.Text.{tiles_in}
 use Rattle.report_check.specs.Same.{EqualReportsAreCertifiedAlike}
-use Rattle.report_check.specs.Verdicts.{HasHeadOf}
+use Rattle.report_check.specs.Verdicts.{HasHeadOf, surface_shown}
+use Rattle.report_check.proofs.SurfaceLemmas.{certified_is_good, good_is_certified, good_too, has_phases}
 use Rattle.sums_and_lists.proofs.Lists.{some_at}
 
 -- ---- one history
@@ -38,28 +35,6 @@ same_item v w equal k j at =
     let there = some_at v.items k (omega (arith, get_below w.items k j at, equal.items.0)) in
     (there.0, there.1, equal.items.1 k there.0 j there.1 at)
 
--- ---- a surface
-module _ (r : Raster) (m n : Field Bool) (same : (x y : ℕ) → x < r.width → y < r.height → m x y ≡ n x y) (k l : SurfaceOf) (equal : IsSameSurface r.width r.height r.tile_count k l) (S : Field ℤ) where
-  agree : (x y : ℕ) → x < r.width → y < r.height → IsTrue (m x y) → S x y ≡ S x y
-  agree x y a b o = refl
-
-  shows_too : ShowsSurface r m k.values S → ShowsSurface r n l.values S
-  shows_too shows = record {
-    shown = λ x y a b. sym (equal.values x y a b) ∙ shows.shown x y a b ∙ ap (λ (o : Bool). if o then S x y else no_data) (same x y a b);
-    told = λ x y a b o e. shows.told x y a b (same x y a b ∙ o) (equal.values x y a b ∙ e);
-  }
-
-  certified_too : IsCertifiedSurface r m k S → IsCertifiedSurface r n l S
-  certified_too is = record {
-    shows = shows_too is.shows;
-    congruent = λ x y a b o. is.congruent x y a b (same x y a b ∙ o);
-    anchored = anchored_too r m n same S S agree is.anchored;
-    tiles = λ t below. subst (λ (faces : List ℤ). IsCertifiedTile r n t S faces) (equal.faces t below) (tile_too r m n same S S agree t (k.faces t) (is.tiles t below));
-    seams = subst (λ (flows : List ℤ). AreCertifiedSeams r n S flows) equal.flows (seams_too r m n same S S agree k.flows is.seams);
-    tile_cost = ap pos (sym equal.tile_cost) ∙ is.tile_cost ∙ same_tile_costs r m n same S S agree;
-    seam_cost_is = ap pos (sym equal.seam_cost) ∙ is.seam_cost_is ∙ same_seam_cost r m n same S S agree;
-  }
-
 -- ---- what stands after an entry, by a name of its raster
 abbrev pub MayBeSameOn : Raster → Option SurfaceOf → Option SurfaceOf → Type 0
 MayBeSameOn r a b = MayBeSame r.width r.height r.tile_count a b
@@ -78,30 +53,22 @@ module _ (s t : Session) (H : List Entry) (alike : AreAlike s t H) where
   at_too : (revision : ℕ) (a b : Option SurfaceOf) → MayBeSameOn (raster_of s.scene) a b → IsCertifiedAt s H revision a → IsCertifiedAt t H revision b
   at_too revision None b same is = absurd is
   at_too revision (Some k) None same is = absurd same
-  at_too revision (Some k) (Some l) same is = (
-    is.0,
-    subst (λ (r : Raster). IsCertifiedSurface r (mask_in t H revision) l is.0) alike.raster (certified_too (raster_of s.scene) (mask_in s H revision) (mask_in t H revision) (alike.masks revision) k l same is.0 is.1),
-  )
+  at_too revision (Some k) (Some l) same is =
+      let r = raster_of s.scene in
+      let good = good_too r (mask_in s H revision) (mask_in t H revision) (alike.masks revision) k l same (certified_is_good r (mask_in s H revision) k (has_phases s.scene) is.0 is.1) in
+      (surface_shown r l, subst (λ (q : Raster). IsCertifiedSurface q (mask_in t H revision) l (surface_shown r l)) alike.raster (good_is_certified r (mask_in t H revision) l (has_phases s.scene) good))
 
   behind_too : (e : Entry) (a b : Option SurfaceOf) → MayBeSameOn (raster_of s.scene) a b → IsCertifiedAfter s H e a → IsCertifiedAfter t H e b
-  behind_too (Revised analyst edit) a b same is = none_too (raster_of s.scene) a b same is
-  behind_too (Kept tile stamp) a b same is = none_too (raster_of s.scene) a b same is
   behind_too (Published analyst revision) a b same is = at_too revision a b same is
-  behind_too (Settled analyst revision) a b same is = none_too (raster_of s.scene) a b same is
-  behind_too (Shown analyst revision) a b same is = none_too (raster_of s.scene) a b same is
+  behind_too e a b same is = none_too (raster_of s.scene) a b same is
 
 -- ---- the items of a report that has a session's head, and those of an equal one
 module _ (s t : Session) (v w : ReportOf) (equal : IsSameReport v w) (head : HasHeadOf s v) where
   tiles_there : tiles_in v ≡ tiles_of s.scene.tiling
-  tiles_there =
-      ap (λ (n : ℕ). tiles_by v.width v.height n) head.side
-      ∙ ap₂ (λ (x y : ℕ). tiles_by x y s.scene.tiling.side) (head.size.0 ∙ sym s.scene.same_width.1) (head.size.1 ∙ sym s.scene.same_height.1)
+  tiles_there = rw (head.side, head.size.0 ∙ sym s.scene.same_width.1, head.size.1 ∙ sym s.scene.same_height.1) refl
 
   pub same_there : (a b : Option SurfaceOf) → MayBeSame v.width v.height (tiles_in v) a b → MayBeSameOn (raster_of s.scene) a b
-  same_there a b same =
-      let one = subst (λ (n : ℕ). MayBeSame n v.height (tiles_in v) a b) head.size.0 same in
-      let two = subst (λ (n : ℕ). MayBeSame s.scene.phase.width n (tiles_in v) a b) head.size.1 one in
-      subst (λ (n : ℕ). MayBeSame s.scene.phase.width s.scene.phase.height n a b) tiles_there two
+  same_there a b same = rw (tiles_there, head.size.0, head.size.1) at same
 
   pub item_too : AreAlike s t (history_of v) → (i j : ItemOf) → IsSameItem v.width v.height (tiles_in v) i j → IsCertifiedAfter s (history_of v) i.entry i.surface → IsCertifiedAfter t (history_of w) j.entry j.surface
   item_too alike i j same is =

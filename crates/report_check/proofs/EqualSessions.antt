@@ -1,6 +1,6 @@
 -- Sessions that tell the same: they have one raster, the same masks on it at each revision, and one set of legal and complete histories.
-use Rattle.std.proofs.Common.{◌≡◌, ◌∙◌, ℕ, zero, suc, ◌+◌, ◌-◌, ◌*◌, ◌/◌, ◌<◌, refl, sym, ap, ap₂, subst, Bool, List, [], ◌∷◌, length, take}
-use Rattle.std.specs.Prelude.{◌&&◌, ◌==◌, if◌then◌else◌, Option, Some, None, slice_get, slice_index}
+use Rattle.std.proofs.Common.{◌≡◌, ◌∙◌, ℕ, zero, suc, ◌+◌, ◌-◌, ◌*◌, ◌/◌, ◌<◌, refl, sym, ap, ap₂, subst, arith, Bool, List, [], ◌∷◌, length, take}
+use Rattle.std.specs.Prelude.{ℤ, ◌↔◌, if◌then◌else◌, Option, Some, None, slice_get, slice_index}
 use Rattle.std.specs.List.{list_any}
 use Rattle.raster_model.specs.declared.edge.Edge.{Edge}
 use Rattle.raster_model.specs.declared.plane.Plane.{Plane}
@@ -8,40 +8,36 @@ use Rattle.raster_model.specs.declared.script.Command.{Command}
 use Rattle.raster_model.specs.declared.script.Edit.{Edit}
 use Rattle.raster_model.specs.declared.script.Script.{Script}
 use Rattle.raster_model.specs.declared.session.Session.{Session}
+use Rattle.raster_model.specs.declared.terms.Terms.{Terms}
 use Rattle.raster_model.specs.declared.tiling.Tiling.{Tiling}
 use Rattle.raster_model.specs.declared.weights.RuleKind.{RuleKind}
 use Rattle.raster_model.specs.Masks.{open_at}
 use Rattle.raster_model.specs.Planes.{plane_sample}
-use Rattle.raster_model.specs.Raster.{Raster}
 use Rattle.raster_model.specs.Scene.{raster_of}
 use Rattle.raster_model.specs.Scripts.{rect_of}
 use Rattle.raster_model.specs.Sums.{Field, at_edge_end, at_edge_start}
+use Rattle.raster_model.specs.Terms.{ArePlainTerms, slope_of}
 use Rattle.raster_model.specs.Tiles.{tile_at, tiles_of}
 use Rattle.raster_model.specs.Weights.{edge_weight, rule_number}
-use Rattle.mask_revisions.specs.Edits.{any_below, changes_at, differ_in, differs, edited, has_pixel, last_up_to, mask_after, mask_at, opens, stamp_of}
+use Rattle.mask_revisions.specs.Edits.{changes_at, differ_in, edited, has_pixel, last_up_to, mask_after, mask_at, opens, stamp_of}
 use Rattle.mask_revisions.proofs.Differences.{differ_same}
 use Rattle.tile_board.specs.declared.entry.Entry.{Entry}
 use Rattle.tile_board.specs.declared.entry.Entry.TheVariants.{Revised, Kept, Published, Settled, Shown}
 use Rattle.tile_board.specs.Histories.{IsComplete, IsLegal, IsStep, commands_of, done_by, edits_of, is_kept, keeps, mask_in, next_command, script_in, stamp_in}
 use Rattle.report_text.specs.Certified.{history_of}
-use Rattle.report_check.specs.Same.{AcceptanceIsOfTexts, IsSameInput, IsSamePlane, commands_in}
+use Rattle.report_check.specs.Same.{AcceptanceIsOfTexts, IsSameInput, IsSamePlane, IsSameTerms, commands_in}
 use Rattle.report_check.proofs.EqualReports.{AreAlike, items_too, same_history}
 
 -- ---- planes, as the numbers that are read of them
-abbrev samples_by : ℕ → List ℕ → Field ℕ
-samples_by width samples x y = slice_index samples (y * width + x)
-
 abbrev weights_by : RuleKind → ℕ → Field ℕ → Edge → ℕ
 weights_by rule maxval samples e = rule_number rule maxval (at_edge_start samples e) (at_edge_end samples e)
 
 module _ (p q : Plane) (same : IsSamePlane p q) where
   same_samples : plane_sample p ≡ plane_sample q
-  same_samples = ap₂ samples_by same.width same.samples
+  same_samples = ap₂ {C = Field ℕ} (λ (width : ℕ) (samples : List ℕ) (x y : ℕ). slice_index samples (y * width + x)) same.width same.samples
 
-  same_weights : (rule other : RuleKind) → rule ≡ other → edge_weight rule p ≡ edge_weight other q
-  same_weights rule other e =
-      ap (λ (k : RuleKind). weights_by k p.maxval (plane_sample p)) e
-      ∙ ap₂ (weights_by other) same.maxval same_samples
+  same_weights : {rule other : RuleKind} → rule ≡ other → edge_weight rule p ≡ edge_weight other q
+  same_weights {rule} {other} e = rw e (ap₂ (weights_by other) same.maxval same_samples)
 
 -- ---- tiles
 record IsSameTiling (g h : Tiling) : Type 0 where
@@ -49,25 +45,16 @@ record IsSameTiling (g h : Tiling) : Type 0 where
   height : g.height ≡ h.height
   side : g.side ≡ h.side
 
-abbrev tile_by : ℕ → ℕ → Field ℕ
-tile_by width side x y = (y / side) * ((width + side - 1) / side) + x / side
-
-abbrev count_by_sides : ℕ → ℕ → ℕ → ℕ
-count_by_sides width height side = ((height + side - 1) / side) * ((width + side - 1) / side)
-
-abbrev differ_by : ℕ → ℕ → Field ℕ → Field Bool → Field Bool → ℕ → Bool
-differ_by width height tile old new t = any_below height (λ y. any_below width (λ x. (tile x y == t) && differs (old x y) (new x y)))
-
 module _ (g h : Tiling) (same : IsSameTiling g h) where
   same_tile : tile_at g ≡ tile_at h
-  same_tile = ap₂ tile_by same.width same.side
+  same_tile = ap₂ {C = Field ℕ} (λ (width side : ℕ) (x y : ℕ). (y / side) * ((width + side - 1) / side) + x / side) same.width same.side
 
   same_tiles : tiles_of g ≡ tiles_of h
-  same_tiles = ap (λ (n : ℕ). count_by_sides n g.height g.side) same.width ∙ ap₂ (count_by_sides h.width) same.height same.side
+  same_tiles = rw (same.width, same.height, same.side) refl
 
   same_differ : (old new : Field Bool) (t : ℕ) → differ_in g old new t ≡ differ_in h old new t
   unfolding differ_in
-  same_differ old new t = ap (λ (f : Field ℕ). differ_by g.width g.height f old new t) same_tile ∙ ap₂ (λ (width height : ℕ). differ_by width height (tile_at h) old new t) same.width same.height
+  same_differ old new t = rw (same.width, same.height, same.side) refl
 
 -- ---- masks that agree on a raster, through the same edits
 masks_after : (width height : ℕ) (edits : List Edit) (m n : Field Bool) → ((x y : ℕ) → x < width → y < height → m x y ≡ n x y) → (x y : ℕ) → x < width → y < height → mask_after m edits x y ≡ mask_after n edits x y
@@ -108,8 +95,11 @@ same_script scripts others same zero = refl
 same_script scripts others same (suc k) = commands_listed scripts k ∙ ap (λ (all : List (List Command)). listed (slice_get all k)) same ∙ sym (commands_listed others k)
 
 -- ---- the raster
-abbrev raster_by : ℕ → ℕ → Field ℕ → (Edge → ℕ) → Field ℕ → ℕ → Raster
-raster_by width height phase weight tile count = record { width = width; height = height; phase = phase; weight = weight; tile = tile; tile_count = count }
+pub plain_alike : (a b : Terms) → ArePlainTerms a → ArePlainTerms b → IsSameTerms a b
+plain_alike a b p q = record { ramp_x = p.across ∙ sym q.across; ramp_y = p.along ∙ sym q.along; steep = p.steepness ∙ sym q.steepness }
+
+abbrev slope_by : ℤ → ℤ → Bool → ℤ
+slope_by x y down = if down then y else x
 
 module _ (s t : Session) (same : IsSameInput s t) where
   tilings : IsSameTiling s.scene.tiling t.scene.tiling
@@ -119,19 +109,11 @@ module _ (s t : Session) (same : IsSameInput s t) where
     side = same.side;
   }
 
-  phases : plane_sample s.scene.phase ≡ plane_sample t.scene.phase
-  phases = same_samples s.scene.phase t.scene.phase same.phase
-
-  edges : edge_weight s.scene.rule s.scene.weights ≡ edge_weight t.scene.rule t.scene.weights
-  edges = same_weights s.scene.weights t.scene.weights same.weights s.scene.rule t.scene.rule same.rule
+  slopes : slope_of s.scene.terms ≡ slope_of t.scene.terms
+  slopes = ap₂ slope_by same.terms.ramp_x same.terms.ramp_y
 
   same_raster : raster_of s.scene ≡ raster_of t.scene
-  same_raster =
-      let r = raster_of s.scene in
-      let q = raster_of t.scene in
-      ap₂ (λ (width height : ℕ). raster_by width height r.phase r.weight r.tile r.tile_count) same.phase.width same.phase.height
-      ∙ ap₂ (λ (phase : Field ℕ) (weight : Edge → ℕ). raster_by q.width q.height phase weight r.tile r.tile_count) phases edges
-      ∙ ap₂ (raster_by q.width q.height q.phase q.weight) (same_tile s.scene.tiling t.scene.tiling tilings) (same_tiles s.scene.tiling t.scene.tiling tilings)
+  same_raster = simp (slopes, same.phase.width, same.phase.height, same_samples s.scene.phase t.scene.phase same.phase, same_weights s.scene.weights t.scene.weights same.weights same.rule, same_tile s.scene.tiling t.scene.tiling tilings, same_tiles s.scene.tiling t.scene.tiling tilings)
 
   -- ---- histories
   module _ (H : List Entry) where
@@ -153,25 +135,22 @@ module _ (s t : Session) (same : IsSameInput s t) where
     next : (a : ℕ) → next_command s H a ≡ next_command t H a
     next a = ap (λ (commands : List Command). slice_get commands (done_by a H)) (same_script s.scripts.items t.scripts.items same.commands a)
 
-    exists : (tile : ℕ) → tile < tiles_of t.scene.tiling → tile < tiles_of s.scene.tiling
-    exists tile below = subst (λ (n : ℕ). tile < n) (sym (same_tiles s.scene.tiling t.scene.tiling tilings)) below
+    pub same_step : (e : Entry) → IsStep s H e ↔ IsStep t H e
+    same_step (Revised a edit) = rw (next a) (λ x. x, λ x. x)
+    same_step (Kept tile stamp) = rw (same_tiles s.scene.tiling t.scene.tiling tilings, stamps tile) (λ x. x, λ x. x)
+    same_step (Published a revision) =
+        let count = same_tiles s.scene.tiling t.scene.tiling tilings in (
+          λ step. (sym (next a) ∙ step.0, step.1, step.2, λ tile below. sym (kept tile) ∙ step.3 tile (omega (arith, below, count))),
+          λ step. (next a ∙ step.0, step.1, step.2, λ tile below. kept tile ∙ step.3 tile (omega (arith, below, count))),
+        )
+    same_step (Settled a revision) = rw (next a) (λ x. x, λ x. x)
+    same_step (Shown a revision) = rw (next a) (λ x. x, λ x. x)
 
-    pub step_too : (e : Entry) → IsStep s H e → IsStep t H e
-    step_too (Revised a edit) step = sym (next a) ∙ step
-    step_too (Kept tile stamp) step = (
-      subst (λ (n : ℕ). tile < n) (same_tiles s.scene.tiling t.scene.tiling tilings) step.0,
-      step.1 ∙ stamps tile,
-      sym (kept tile) ∙ step.2,
-    )
-    step_too (Published a revision) step = (sym (next a) ∙ step.0, step.1, step.2, λ tile below. sym (kept tile) ∙ step.3 tile (exists tile below))
-    step_too (Settled a revision) step = (sym (next a) ∙ step.0, step.1, step.2)
-    step_too (Shown a revision) step = (sym (next a) ∙ step.0, step.1)
-
-    pub complete_too : IsComplete s H → IsComplete t H
-    complete_too complete a = sym (next a) ∙ complete a
+    pub same_complete : IsComplete s H ↔ IsComplete t H
+    same_complete = (λ complete a. sym (next a) ∙ complete a, λ complete a. next a ∙ complete a)
 
   pub legal_too : (H : List Entry) → IsLegal s H → IsLegal t H
-  legal_too H legal n e at = step_too (take n H) e (legal n e at)
+  legal_too H legal n e at = (same_step (take n H) e).0 (legal n e at)
 
 pub acceptance_is_of_texts : AcceptanceIsOfTexts
 acceptance_is_of_texts s t v w same equal c = record {
@@ -180,6 +159,6 @@ acceptance_is_of_texts s t v w same equal c = record {
   side = sym equal.side ∙ c.side ∙ same.side;
   rule = sym equal.rule ∙ c.rule ∙ same.rule;
   legal = subst (λ (H : List Entry). IsLegal t H) (same_history v w equal) (legal_too s t same (history_of v) c.legal);
-  complete = subst (λ (H : List Entry). IsComplete t H) (same_history v w equal) (complete_too s t same (history_of v) c.complete);
+  complete = subst (λ (H : List Entry). IsComplete t H) (same_history v w equal) ((same_complete s t same (history_of v)).0 c.complete);
   surfaces = items_too s t v w equal c (are_alike s t same (history_of v));
 }

@@ -1,59 +1,45 @@
 -- What a replay holds tells which entries may come next, and after each kind of entry it holds what the longer history says.
-use Rattle.std.proofs.Common.{◌≡◌, ◌∙◌, ℕ, zero, suc, ◌+◌, ◌-◌, ◌^◌, ◌<◌, ◌≤◌, inl, inr, refl, sym, ap, subst, arith, Bool, true, false, List, [], ◌∷◌, ◌++◌, length}
-use Rattle.std.specs.Prelude.{Option, Some, None, unwrap_or, IsTrue, ◌↔◌, replicate, set, slice_get, slice_index, slice_index_or}
+use Rattle.std.proofs.Common.{◌≡◌, ◌∙◌, ℕ, ◌<◌, inl, inr, refl, sym, ap, subst, arith, Bool, true, false, List, [], ◌∷◌, ◌++◌, length}
+use Rattle.std.specs.Prelude.{Option, Some, None, IfSome, unwrap_or, IsTrue, ◌==◌, ◌↔◌, set, slice_get, slice_index_or}
 use Rattle.std.proofs.lemmas.Bool.{cases_eq}
-use Rattle.std.proofs.lemmas.List.{get_or-replicate, get_or-set_other, get_or-set_same, length-replicate, length-set}
+use Rattle.std.proofs.lemmas.List.{get_or-set_other, get_or-set_same, length-set}
 use Rattle.std.proofs.lemmas.Option.{get_or_from_slice_get, unwrap_or-slice_get}
 use Rattle.raster_model.specs.declared.script.Command.{Command}
 use Rattle.raster_model.specs.declared.script.Command.TheVariants.{Change, Settle, Show}
 use Rattle.raster_model.specs.declared.script.Edit.{Edit}
-use Rattle.raster_model.specs.declared.script.Script.{Script}
 use Rattle.raster_model.specs.declared.session.Session.{Session}
 use Rattle.raster_model.specs.declared.tiling.Tiling.{Tiling}
 use Rattle.raster_model.specs.Masks.{open_at}
-use Rattle.raster_model.specs.Scripts.{IsRectIn, rect_of}
 use Rattle.raster_model.specs.Tiles.{tiles_of}
 use Rattle.mask_revisions.specs.Edits.{differ_in}
 use Rattle.mask_revisions.specs.Revisions.{AreChanged, AreRevisionsOf}
 use Rattle.mask_revisions.specs.RevisionsView.{RevisionsView}
 use Rattle.tile_board.specs.declared.entry.Entry.{Entry}
 use Rattle.tile_board.specs.declared.entry.Entry.TheVariants.{Revised, Kept, Published, Settled, Shown}
-use Rattle.tile_board.specs.Histories.{AreAllKept, IsComplete, IsStep, commands_of, done_by, edit_of, edits_of, is_kept, keeps, next_command, present_mask, script_in, script_of, stamp_in}
+use Rattle.tile_board.specs.Histories.{AreAllKept, IsStep, edit_of, edits_of, is_kept, keeps, names, next_command, present_mask, published_of, script_in, script_of, stamp_in}
 use Rattle.tile_board.specs.Places.{AreSet, cursor_at}
-use Rattle.tile_board.proofs.HeldLemmas.{cursor_room, cursor_there as has_cursor, differ_told, mask_told, revision_room, tells_done, tells_on, tells_published, tells_revised}
-use Rattle.tile_board.proofs.HistoryLemmas.{kept_same, legal_none, legal_push}
+use Rattle.tile_board.proofs.HeldLemmas.{cursor_room, cursor_there, differ_told, tells_done, tells_on, tells_published, tells_revised}
+use Rattle.tile_board.proofs.HistoryLemmas.{kept_same, legal_push}
 use Rattle.tile_board.proofs.KeptLemmas.{kept_elsewhere, kept_gone, kept_here, kept_stays}
-use Rattle.tile_board.proofs.StateLemmas.{complete_is, cursor_is, tells_none}
-use Rattle.report_check.specs.Replays.{IsReplay}
+use Rattle.tile_board.proofs.StateLemmas.{cursor_is}
+use Rattle.report_check.specs.Replays.{HasRoom, IsReplay, counted, doer}
 use Rattle.sums_and_lists.proofs.Tests.{true_and_false}
-
--- ---- before the first entry
-pub replay_none : (s : Session) (held : RevisionsView) (kept : List Bool) (marks : List ℕ) → held.tiling ≡ s.scene.tiling → AreRevisionsOf (open_at s.first_mask) [] held → kept ≡ replicate (tiles_of s.scene.tiling) false → marks ≡ replicate (length s.scripts.items) 0 → IsReplay s [] held kept marks None
-replay_none s held kept marks tiling revisions k m = rw (k, m) (record {
-  legal = legal_none s;
-  past = tells_none s held tiling revisions;
-  count = length-replicate {A = Bool} (tiles_of s.scene.tiling) false;
-  kept = λ t l. get_or-replicate (tiles_of s.scene.tiling) t false false l;
-})
 
 -- what is read at one place of two lists
 same_read : (old new : List Bool) (t : ℕ) → slice_get new t ≡ slice_get old t → slice_index_or new t false ≡ slice_index_or old t false
 same_read old new t e = sym (unwrap_or-slice_get new t false) ∙ ap (λ (o : Option Bool). unwrap_or o false) e ∙ unwrap_or-slice_get old t false
 
-module _ (s : Session) (H : List Entry) (held : RevisionsView) (kept : List Bool) (marks : List ℕ) (last : Option ℕ) (is : IsReplay s H held kept marks last) where
+module _ {s : Session} {H : List Entry} {held : RevisionsView} {kept : List Bool} {marks : List ℕ} {last : Option ℕ} (is : IsReplay s H held kept marks last) where
   -- ---- what is held tells
   at_cursor : (a : ℕ) → slice_get (script_in s.scripts.items a) (cursor_at marks a) ≡ next_command s H a
   at_cursor a = ap (slice_get (script_of s a)) (cursor_is s H marks is.legal is.past.cursors a)
 
-  module _ (b : Bool) (a : ℕ) (c : Command) (told : IsTrue b ↔ (slice_get (script_in s.scripts.items a) (cursor_at marks a) ≡ Some c)) where
+  module _ {b : Bool} (a : ℕ) (c : Command) (told : IsTrue b ↔ (slice_get (script_in s.scripts.items a) (cursor_at marks a) ≡ Some c)) where
     pub next_told : b ≡ true → next_command s H a ≡ Some c
     next_told e = sym (at_cursor a) ∙ told.0 e
 
     pub next_is : next_command s H a ≡ Some c → IsTrue b
     next_is n = told.1 (at_cursor a ∙ n)
-
-    pub next_is_not : b ≡ false → next_command s H a ≡ Some c → ⊥
-    next_is_not e n = true_and_false b (next_is n) e
 
   pub all_kept : ((k : ℕ) → k < length kept → IsTrue (slice_index_or kept k false)) → AreAllKept s H
   all_kept all t l = sym (is.kept t l) ∙ all t (omega (arith, l, is.count))
@@ -61,30 +47,16 @@ module _ (s : Session) (H : List Entry) (held : RevisionsView) (kept : List Bool
   pub all_told : AreAllKept s H → (k : ℕ) → k < length kept → IsTrue (slice_index_or kept k false)
   all_told all k l = (let m : k < tiles_of s.scene.tiling = omega (arith, l, is.count) in is.kept k m ∙ all k m)
 
-  pub complete_told : (b : Bool) → (IsTrue b ↔ ((k : ℕ) (script : Script) → slice_get s.scripts.items k ≡ Some script → slice_index marks k ≡ length script.commands.items)) → IsTrue b ↔ IsComplete s H
-  complete_told b told = complete_is s H marks is.legal is.past.cursors b told
+  -- ---- an analyst with a next command has a cursor, and it can be counted
+  room : (a : ℕ) (c : Command) → next_command s H a ≡ Some c → HasRoom marks a
+  room a c n = (let b = cursor_there is.past a c n in (b.0, b.1, cursor_room is.past is.legal a c n))
 
-  pub mask_size : (held.mask.width ≡ s.scene.phase.width) × (held.mask.height ≡ s.scene.phase.height)
-  mask_size = ((mask_told is.past).width, (mask_told is.past).height)
-
-  -- ---- the cursor of an analyst with a next command
-  pub cursor_there : (a : ℕ) (c : Command) → next_command s H a ≡ Some c → (1 ≤ a) × (a - 1 < length marks)
-  cursor_there a c n = has_cursor is.past a c n
-
-  pub cursor_small : (a : ℕ) (c : Command) → next_command s H a ≡ Some c → slice_index marks (a - 1) + 1 < 2 ^ 32
-  cursor_small a c n = cursor_room is.past is.legal a c n
-
-  -- the rectangle of a next edit lies in the raster
-  rect_there : (a : ℕ) (edit : Edit) (o : Option Script) (k : ℕ) → slice_get s.scripts.items k ≡ o → slice_get (commands_of o) (done_by a H) ≡ Some (Change edit) → IsRectIn s.scene.phase.width s.scene.phase.height (rect_of edit)
-  rect_there a edit None k g n = absurd (cc)
-  rect_there a edit (Some script) k g n = s.inside k script g (done_by a H) edit n
-
-  rect_at : (a : ℕ) (edit : Edit) → next_command s H a ≡ Some (Change edit) → IsRectIn s.scene.phase.width s.scene.phase.height (rect_of edit)
-  rect_at zero edit n = absurd (cc)
-  rect_at (suc k) edit n = rect_there (suc k) edit (slice_get s.scripts.items k) k refl n
-
-  pub rect_fits : (a : ℕ) (edit : Edit) → next_command s H a ≡ Some (Change edit) → IsRectIn held.tiling.width held.tiling.height (rect_of edit)
-  rect_fits a edit n = (let r = rect_at a edit n in rw (is.past.tiling, s.scene.same_width.1, s.scene.same_height.1) r)
+  pub may_count : (e : Entry) → IsStep s H e → IfSome (doer e) (HasRoom marks)
+  may_count (Revised a edit) step = room a (Change edit) step
+  may_count (Kept t r) step = tt
+  may_count (Published a r) step = room a Settle step.0
+  may_count (Settled a r) step = room a Settle step.0
+  may_count (Shown a r) step = room a Show step.0
 
   -- ---- after one more entry
   kept_on : (e : Entry) → edit_of e ≡ None → ((t r : ℕ) → keeps t r e ≡ false) → (t : ℕ) → t < tiles_of s.scene.tiling → slice_index_or kept t false ≡ is_kept s (H ++ (e ∷ [])) t
@@ -103,7 +75,7 @@ module _ (s : Session) (H : List Entry) (held : RevisionsView) (kept : List Bool
     ];
   }
 
-  pub replay_published : (a r : ℕ) → IsStep s H (Published a r) → IsReplay s (H ++ (Published a r ∷ [])) held kept (set marks (a - 1) (slice_index marks (a - 1) + 1)) (Some r)
+  pub replay_published : (a r : ℕ) → IsStep s H (Published a r) → IsReplay s (H ++ (Published a r ∷ [])) held kept (counted marks (Some a)) (Some r)
   replay_published a r step = record {
     legal = legal_push s H (Published a r) is.legal step;
     past = tells_published is.past a r step.0;
@@ -111,24 +83,17 @@ module _ (s : Session) (H : List Entry) (held : RevisionsView) (kept : List Bool
     kept = kept_on (Published a r) refl (λ t stamp. refl);
   }
 
-  pub replay_settled : (a r : ℕ) → IsStep s H (Settled a r) → IsReplay s (H ++ (Settled a r ∷ [])) held kept (set marks (a - 1) (slice_index marks (a - 1) + 1)) last
-  replay_settled a r step = record {
-    legal = legal_push s H (Settled a r) is.legal step;
-    past = tells_done is.past (Settled a r) a Settle step.0 refl refl (λ b. refl);
+  -- of a command that changes nothing
+  pub replay_done : (e : Entry) (a : ℕ) (c : Command) → IsStep s H e → next_command s H a ≡ Some c → edit_of e ≡ None → published_of e ≡ None → ((b : ℕ) → names b e ≡ (a == b)) → ((t r : ℕ) → keeps t r e ≡ false) → IsReplay s (H ++ (e ∷ [])) held kept (counted marks (Some a)) last
+  replay_done e a c step next n p named away = record {
+    legal = legal_push s H e is.legal step;
+    past = tells_done is.past e a c next n p named;
     count = is.count;
-    kept = kept_on (Settled a r) refl (λ t stamp. refl);
-  }
-
-  pub replay_shown : (a : ℕ) (r : Option ℕ) → IsStep s H (Shown a r) → IsReplay s (H ++ (Shown a r ∷ [])) held kept (set marks (a - 1) (slice_index marks (a - 1) + 1)) last
-  replay_shown a r step = record {
-    legal = legal_push s H (Shown a r) is.legal step;
-    past = tells_done is.past (Shown a r) a Show step.0 refl refl (λ b. refl);
-    count = is.count;
-    kept = kept_on (Shown a r) refl (λ t stamp. refl);
+    kept = kept_on e n away;
   }
 
   -- ---- a revision
-  module _ (a : ℕ) (edit : Edit) (held' : RevisionsView) (tiling : held'.tiling ≡ held.tiling) (revisions : AreRevisionsOf (open_at s.first_mask) (edits_of H ++ (edit ∷ [])) held') where
+  module _ (a : ℕ) (edit : Edit) {held' : RevisionsView} (tiling : held'.tiling ≡ held.tiling) (revisions : AreRevisionsOf (open_at s.first_mask) (edits_of H ++ (edit ∷ [])) held') where
     abbrev K : List Entry
     K = H ++ (Revised a edit ∷ [])
 
@@ -141,7 +106,7 @@ module _ (s : Session) (H : List Entry) (held : RevisionsView) (kept : List Bool
     differ_there : (t : ℕ) → held_differ t ≡ differs t
     differ_there = differ_told is.past a edit held' tiling revisions
 
-    module _ (tiles : List ℕ) (kept' : List Bool) (changed : AreChanged held.tiling (open_at held.mask) (open_at held'.mask) tiles) (cleared : AreSet kept kept' tiles (length tiles) false) where
+    module _ {tiles : List ℕ} {kept' : List Bool} (changed : AreChanged held.tiling (open_at held.mask) (open_at held'.mask) tiles) (cleared : AreSet kept kept' tiles (length tiles) false) where
       in_tiles : AreChanged s.scene.tiling (open_at held.mask) (open_at held'.mask) tiles
       in_tiles = subst (λ (g : Tiling). AreChanged g (open_at held.mask) (open_at held'.mask) tiles) is.past.tiling changed
 
@@ -154,13 +119,10 @@ module _ (s : Session) (H : List Entry) (held : RevisionsView) (kept : List Bool
           let other = cleared.others t (λ i m e. true_and_false (held_differ t) (subst (λ (x : ℕ). IsTrue (held_differ x)) e (in_tiles.changed i m)) (differ_there t ∙ d)) in
           same_read kept kept' t other ∙ is.kept t l ∙ sym (kept_stays s H a edit t d)
 
-      pub replay_revised : IsStep s H (Revised a edit) → IsReplay s K held' kept' (set marks (a - 1) (slice_index marks (a - 1) + 1)) last
+      pub replay_revised : IsStep s H (Revised a edit) → IsReplay s K held' kept' (counted marks (Some a)) last
       replay_revised step = record {
         legal = legal_push s H (Revised a edit) is.legal step;
         past = tells_revised is.past a edit held' tiling revisions step;
         count = cleared.count ∙ is.count;
         kept = λ t l. at t l (differs t) refl;
       }
-
-pub same_replay : (s : Session) (H K : List Entry) (held held' : RevisionsView) (kept kept' : List Bool) (marks marks' : List ℕ) (last last' : Option ℕ) → K ≡ H → held' ≡ held → kept' ≡ kept → marks' ≡ marks → last' ≡ last → IsReplay s H held kept marks last → IsReplay s K held' kept' marks' last'
-same_replay s H K held held' kept kept' marks marks' last last' h v k m l is = rw (h, v, k, m, l) is

@@ -1,7 +1,8 @@
 -- What is read of a surface that a report shows.
-use Rattle.std.proofs.Common.{◌≡◌, ◌≢◌, ◌∙◌, ℕ, zero, suc, ◌*◌, ◌<◌, refl, sym, ap, subst, arith, Bool, List, [], ◌∷◌, get_or, length}
+use Rattle.std.proofs.Common.{◌≡◌, ◌≢◌, ◌∙◌, ℕ, ◌<◌, sym, arith, Bool, List, get_or, length}
 use Rattle.std.specs.Global.{Vec}
-use Rattle.std.specs.Prelude.{ℤ, pos, ◌+ℤ◌, ◌*ℤ◌, ◌↔◌, IsTrue, IsFalse}
+use Rattle.std.proofs.lemmas.Grind.{common_steps}
+use Rattle.std.specs.Prelude.{ℤ, pos, ◌+ℤ◌, ◌*ℤ◌, ◌↔◌, IsTrue}
 use Rattle.raster_model.specs.Raster.{Raster}
 use Rattle.raster_model.specs.Sums.{Field}
 use Rattle.report_text.specs.Certified.{no_data}
@@ -21,6 +22,4 @@ fits_open r mask values x y z b e o told test = (
 
 -- the faces of a tile
 pub faces_read : (lists : List (Vec ℤ)) (t : ℕ) (v : Vec ℤ) → t < length lists → v ≡ get_or lists t v → lists_of lists t ≡ v.items
-faces_read [] t v l e = absurd (omega arith)
-faces_read (x ∷ xs) zero v l e = sym (ap (λ (w : Vec ℤ). w.items) e)
-faces_read (x ∷ xs) (suc t) v l e = faces_read xs t v (omega arith) e
+faces_read lists t v l e = grind (arith, common_steps)

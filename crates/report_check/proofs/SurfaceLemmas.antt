@@ -1,5 +1,5 @@
 -- Surfaces that a report shows: one with which nothing is wrong is certified, and a certified one is so; what is said under one mask is true under another with the same open pixels.
-use Rattle.std.proofs.Common.{◌≡◌, ◌∙◌, ℕ, ◌+◌, ◌*◌, ◌<◌, refl, sym, ap, subst, arith, Bool, true, false}
+use Rattle.std.proofs.Common.{◌≡◌, ◌∙◌, ℕ, ◌+◌, ◌*◌, ◌<◌, ◌≤◌, List, refl, sym, ap, subst, arith, Bool, true, false}
 use Rattle.std.specs.Prelude.{ℤ, pos, ◌+ℤ◌, ◌*ℤ◌, IsTrue, IsFalse, if◌then◌else◌}
 use Rattle.raster_model.specs.declared.scene.Scene.{Scene}
 use Rattle.raster_model.specs.Raster.{Raster, seam_cost}
@@ -10,12 +10,20 @@ use Rattle.raster_model.proofs.MaskAgrees.{regions_too}
 use Rattle.surface_snapshots.specs.Parts.{tile_costs}
 use Rattle.surface_snapshots.proofs.SameLemmas.{anchored_too, same_seam_cost, same_tile_costs, seams_too, tile_too}
 use Rattle.report_text.specs.Certified.{IsCertifiedSurface, no_data}
+use Rattle.std.specs.Int.{int_div_euclid}
+use Rattle.certificates.specs.declared.verdicts.SeamVerdict.{SeamVerdict}
+use Rattle.certificates.specs.declared.verdicts.SeamVerdict.TheVariants as seam_verdicts
+use Rattle.certificates.specs.declared.verdicts.TileVerdict.{TileVerdict}
+use Rattle.certificates.specs.declared.verdicts.TileVerdict.TheVariants as tile_verdicts
+use Rattle.certificates.specs.SeamVerdicts.{IsSeamVerdict}
+use Rattle.certificates.specs.Verdicts.{IsFacesVerdict}
 use Rattle.report_text.specs.Reports.{SurfaceOf}
+use Rattle.report_text.specs.Same.{IsSameSurface}
 use Rattle.report_check.specs.declared.verdict.CheckVerdict.{CheckVerdict}
 use Rattle.report_check.specs.declared.verdict.CheckVerdict.TheVariants.{Accepted, Header, History, Value, Tile, Seams, TileCost, SeamCost}
 use Rattle.report_check.specs.Shown.{IsGoodSurface}
-use Rattle.report_check.specs.Verdicts.{AllValuesFit, IsFirstUnfitValue, IsSurfaceVerdict, PassesSeams, PassesTiles, TilesAreCertified, ValueFits, cycles_shown, surface_shown}
-use Rattle.report_check.proofs.MaskLemmas.{faces_verdict_too, seam_verdict_too}
+use Rattle.report_check.specs.Verdicts.{AllValuesFit, FitsPhase, IsFirstUnfitValue, IsSurfaceVerdict, PassesSeams, PassesTiles, TilesAreCertified, ValueFits, cycles_shown, surface_shown}
+use Rattle.report_check.proofs.MaskLemmas.{faces_verdict_too, same_region, seam_verdict_too}
 use Rattle.report_check.proofs.ValueLemmas.{whole_cycles}
 
 -- phases are less than a cycle
@@ -82,78 +90,66 @@ module _ (r : Raster) (mask : Field Bool) (k : SurfaceOf) (phases : HasPhases r)
       seam_cost_is = is.seam_cost_is ∙ same_seam_cost r mask mask same S (surface_shown r k) agree;
     }
 
--- ---- under another mask
-module _ (r : Raster) (m n : Field Bool) (same : (x y : ℕ) → x < r.width → y < r.height → m x y ≡ n x y) (k : SurfaceOf) where
-  value_too : (x y : ℕ) → x < r.width → y < r.height → ValueFits r m k.values x y → ValueFits r n k.values x y
-  value_too x y l h f = record { masked = λ o. f.masked (same x y l h ∙ o); unmasked = λ o. f.unmasked (same x y l h ∙ o) }
+-- ---- under another mask, an equal surface
+pub itself_same : (width height tiles : ℕ) (k : SurfaceOf) → IsSameSurface width height tiles k k
+itself_same width height tiles k = record { tile_cost = refl; seam_cost = refl; values = λ x y l h. refl; faces = λ t l. refl; flows = refl }
 
-  value_back : (x y : ℕ) → x < r.width → y < r.height → ValueFits r n k.values x y → ValueFits r m k.values x y
-  value_back x y l h f = record { masked = λ o. f.masked (sym (same x y l h) ∙ o); unmasked = λ o. f.unmasked (sym (same x y l h) ∙ o) }
+-- a value that fits, under a mask that agrees at the pixel
+value_too : (r : Raster) (m n : Field Bool) (values others : Field ℤ) (x y : ℕ) → m x y ≡ n x y → values x y ≡ others x y → ValueFits r m values x y → ValueFits r n others x y
+value_too r m n values others x y same e f = record { masked = λ o. sym e ∙ f.masked (same ∙ o); unmasked = λ o. subst (FitsPhase (r.phase x y)) e (f.unmasked (same ∙ o)) }
 
-  values_too : AllValuesFit r m k.values → AllValuesFit r n k.values
-  values_too all x y l h = value_too x y l h (all x y l h)
+module _ (r : Raster) (m n : Field Bool) (same : (x y : ℕ) → x < r.width → y < r.height → m x y ≡ n x y) (k l : SurfaceOf) (equal : IsSameSurface r.width r.height r.tile_count k l) where
+  same_cycles : (x y : ℕ) → x < r.width → y < r.height → cycles_shown k.values x y ≡ cycles_shown l.values x y
+  same_cycles x y a b = ap (λ (z : ℤ). int_div_euclid z (pos 65536)) (equal.values x y a b)
 
-  tiles_too : (count : ℕ) → TilesAreCertified r m k count → TilesAreCertified r n k count
-  tiles_too count all t l = tile_too r m n same (surface_shown r k) (surface_shown r k) (λ x y a b o. refl) t (k.faces t) (all t l)
+  alike : (x y : ℕ) → x < r.width → y < r.height → IsTrue (m x y) → surface_shown r k x y ≡ surface_shown r l x y
+  alike x y a b o = ap (λ (z : ℤ). pos (r.phase x y) +ℤ pos 65536 *ℤ z) (same_cycles x y a b)
 
-  passes_tiles_too : PassesTiles r m k → PassesTiles r n k
-  passes_tiles_too p = record { values = values_too p.values; tiles = tiles_too r.tile_count p.tiles }
+  values_too : AllValuesFit r m k.values → AllValuesFit r n l.values
+  values_too all x y a b = value_too r m n k.values l.values x y (same x y a b) (equal.values x y a b) (all x y a b)
 
-  passes_too : PassesSeams r m k → PassesSeams r n k
-  passes_too p = record {
-    tiles = passes_tiles_too p.tiles;
-    seams = (
-      anchored_too r m n same (surface_shown r k) (surface_shown r k) (λ x y a b o. refl) p.seams.0,
-      seams_too r m n same (surface_shown r k) (surface_shown r k) (λ x y a b o. refl) k.flows p.seams.1,
-    );
-  }
+  faces_too : (t : ℕ) → t < r.tile_count → (v : TileVerdict) → IsFacesVerdict r m t (surface_shown r k) (k.faces t) v → IsFacesVerdict r n t (surface_shown r l) (l.faces t) v
+  faces_too t below v h = subst (λ (faces : List ℤ). IsFacesVerdict r n t (surface_shown r l) faces v) (equal.faces t below) (faces_verdict_too r m n same t (surface_shown r k) (surface_shown r l) alike (k.faces t) v h)
 
-  tile_costs_too : tile_costs r m (surface_shown r k) ≡ tile_costs r n (surface_shown r k)
-  tile_costs_too = same_tile_costs r m n same (surface_shown r k) (surface_shown r k) (λ x y a b o. refl)
+  tiles_too : (count : ℕ) → count ≤ r.tile_count → TilesAreCertified r m k count → TilesAreCertified r n l count
+  tiles_too count within all t below = faces_too t (omega (arith, within, below)) tile_verdicts.Good (all t below)
 
-  seam_cost_too : seam_cost r m (surface_shown r k) ≡ seam_cost r n (surface_shown r k)
-  seam_cost_too = same_seam_cost r m n same (surface_shown r k) (surface_shown r k) (λ x y a b o. refl)
+  flows_too : (labels : Field ℕ) (count : ℕ) (v : SeamVerdict) → IsSeamVerdict r m labels count (cycles_shown k.values) k.flows v → IsSeamVerdict r n labels count (cycles_shown l.values) l.flows v
+  flows_too labels count v h = subst (λ (flows : List ℤ). IsSeamVerdict r n labels count (cycles_shown l.values) flows v) equal.flows (seam_verdict_too r m n same labels labels count count refl (same_region r m n same labels) (cycles_shown k.values) (cycles_shown l.values) same_cycles k.flows v h)
 
-  pub good_too : IsGoodSurface r m k → IsGoodSurface r n k
-  good_too g = record { passes = passes_too g.passes; tile_cost = g.tile_cost ∙ tile_costs_too; seam_cost_is = g.seam_cost_is ∙ seam_cost_too }
+  passes_tiles_too : PassesTiles r m k → PassesTiles r n l
+  passes_tiles_too p = record { values = values_too p.values; tiles = tiles_too r.tile_count (omega arith) p.tiles }
 
-  unfit_value_too : (x y : ℕ) → IsFirstUnfitValue r m k.values x y → IsFirstUnfitValue r n k.values x y
+  passes_too : PassesSeams r m k → PassesSeams r n l
+  passes_too p = record { tiles = passes_tiles_too p.tiles; seams = flows_too (λ x y. 0) 0 seam_verdicts.Good p.seams }
+
+  tile_cost_too : pos k.tile_cost ≡ tile_costs r m (surface_shown r k) → pos l.tile_cost ≡ tile_costs r n (surface_shown r l)
+  tile_cost_too e = ap pos (sym equal.tile_cost) ∙ e ∙ same_tile_costs r m n same (surface_shown r k) (surface_shown r l) alike
+
+  seam_cost_too : pos k.seam_cost ≡ seam_cost r m (surface_shown r k) → pos l.seam_cost ≡ seam_cost r n (surface_shown r l)
+  seam_cost_too e = ap pos (sym equal.seam_cost) ∙ e ∙ same_seam_cost r m n same (surface_shown r k) (surface_shown r l) alike
+
+  pub good_too : IsGoodSurface r m k → IsGoodSurface r n l
+  good_too g = record { passes = passes_too g.passes; tile_cost = tile_cost_too g.tile_cost; seam_cost_is = seam_cost_too g.seam_cost_is }
+
+  unfit_value_too : (x y : ℕ) → IsFirstUnfitValue r m k.values x y → IsFirstUnfitValue r n l.values x y
   unfit_value_too x y u = record {
     across = u.across;
     along = u.along;
-    unfit = λ f. u.unfit (value_back x y u.across u.along f);
-    first = λ a b l h e. value_too a b l h (u.first a b l h e);
+    unfit = λ f. u.unfit (value_too r n m l.values k.values x y (sym (same x y u.across u.along)) (sym (equal.values x y u.across u.along)) f);
+    first = λ a b c d e. value_too r m n k.values l.values a b (same a b c d) (equal.values a b c d) (u.first a b c d e);
   }
 
-  pub surface_verdict_too : (revision : ℕ) (v : CheckVerdict) → IsSurfaceVerdict r m revision k v → IsSurfaceVerdict r n revision k v
+  pub surface_verdict_too : (revision : ℕ) (v : CheckVerdict) → IsSurfaceVerdict r m revision k v → IsSurfaceVerdict r n revision l v
   surface_verdict_too revision Accepted h = h
   surface_verdict_too revision (Header x) h = h
   surface_verdict_too revision (History x) h = h
   surface_verdict_too revision (Value told x y) h = (h.0, unfit_value_too x y h.1)
-  surface_verdict_too revision (Tile told t verdict) h = (
-    h.0,
-    (
-      values_too h.1.0,
-      record {
-        exists = h.1.1.exists;
-        before = tiles_too t h.1.1.before;
-        verdict_is = faces_verdict_too r m n same t (surface_shown r k) (k.faces t) verdict h.1.1.verdict_is;
-        not_good = h.1.1.not_good;
-      },
-    ),
-  )
-  surface_verdict_too revision (Seams told verdict) h = (
-    h.0,
-    (
-      passes_tiles_too h.1.0,
-      record {
-        labels = h.1.1.labels;
-        count = h.1.1.count;
-        regions = regions_too r m n same h.1.1.labels h.1.1.count h.1.1.regions;
-        verdict_is = seam_verdict_too r m n same h.1.1.labels h.1.1.count (cycles_shown k.values) k.flows verdict h.1.1.verdict_is;
-        not_good = h.1.1.not_good;
-      },
-    ),
-  )
-  surface_verdict_too revision (TileCost told written counted) h = (h.0, (passes_too h.1.0, (h.1.1.0, (h.1.1.1.0 ∙ tile_costs_too, h.1.1.1.1))))
-  surface_verdict_too revision (SeamCost told written counted) h = (h.0, (passes_too h.1.0, (h.1.1.0 ∙ tile_costs_too, (h.1.1.1.0, (h.1.1.1.1.0 ∙ seam_cost_too, h.1.1.1.1.1)))))
+  surface_verdict_too revision (Tile told t verdict) h =
+      let u = h.1.1 in
+      (h.0, (values_too h.1.0, record { exists = u.exists; before = tiles_too t (omega (arith, u.exists)) u.before; verdict_is = faces_too t u.exists verdict u.verdict_is; not_good = u.not_good }))
+  surface_verdict_too revision (Seams told verdict) h =
+      let u = h.1.1 in
+      (h.0, (passes_tiles_too h.1.0, record { labels = u.labels; count = u.count; regions = regions_too r m n same u.labels u.count u.regions; verdict_is = flows_too u.labels u.count verdict u.verdict_is; not_good = u.not_good }))
+  surface_verdict_too revision (TileCost told written counted) h = (h.0, (passes_too h.1.0, (h.1.1.0 ∙ equal.tile_cost, (h.1.1.1.0 ∙ same_tile_costs r m n same (surface_shown r k) (surface_shown r l) alike, h.1.1.1.1))))
+  surface_verdict_too revision (SeamCost told written counted) h = (h.0, (passes_too h.1.0, (tile_cost_too h.1.1.0, (h.1.1.1.0 ∙ equal.seam_cost, (h.1.1.1.1.0 ∙ same_seam_cost r m n same (surface_shown r k) (surface_shown r l) alike, h.1.1.1.1.1)))))

@@ -1,6 +1,6 @@
 -- Values in units of 1/65536 cycle: the phase that they show, and the cycles above it.
-use Rattle.std.proofs.Common.{◌≡◌, ◌∙◌, ℕ, ◌-◌, ◌/◌, ◌%◌, ◌^◌, ◌<◌, ◌≤◌, refl, sym, ap, arith, eq-eqb, nat_eq, of_z, w64, IsTrue}
-use Rattle.std.specs.Prelude.{ℤ, pos, negsuc, ◌+ℤ◌, ◌*ℤ◌, ◌↔◌, FitsSigned, unsigned_abs}
+use Rattle.std.proofs.Common.{◌≡◌, ◌∙◌, ℕ, ◌-◌, ◌/◌, ◌%◌, ◌<◌, refl, sym, ap, arith, eq-eqb, nat_eq, of_z, w64, IsTrue}
+use Rattle.std.specs.Prelude.{ℤ, pos, negsuc, ◌+ℤ◌, ◌*ℤ◌, ◌↔◌}
 use Rattle.std.specs.Int.{int_div_euclid, int_rem_euclid}
 use Rattle.std.proofs.lemmas.Bool.{eqb-true}
 use Rattle.std.proofs.lemmas.Int.{ints}
@@ -34,23 +34,11 @@ whole_cycles z p c l e =
     let d = divided z in
     same_whole d.rest p (int_div_euclid z (pos 65536)) c d.below l (sym d.whole ∙ e)
 
--- and its rest is the phase
-pub rest_is_phase : (z : ℤ) (p : ℕ) (c : ℤ) → p < 65536 → z ≡ pos p +ℤ pos 65536 *ℤ c → int_rem_euclid z (pos 65536) ≡ pos p
-rest_is_phase z p c l e =
-    let d = divided z in
-    d.rest_is ∙ ap pos (same_rest d.rest p (int_div_euclid z (pos 65536)) c d.below l (sym d.whole ∙ e))
-
-pub phase_of_rest : (z : ℤ) (p : ℕ) → int_rem_euclid z (pos 65536) ≡ pos p → z ≡ pos p +ℤ pos 65536 *ℤ int_div_euclid z (pos 65536)
+-- a rest that is a phase tells it
+phase_of_rest : (z : ℤ) (p : ℕ) → int_rem_euclid z (pos 65536) ≡ pos p → z ≡ pos p +ℤ pos 65536 *ℤ int_div_euclid z (pos 65536)
 phase_of_rest z p e =
     let d = divided z in
     d.whole ∙ ap (λ (x : ℤ). x +ℤ pos 65536 *ℤ int_div_euclid z (pos 65536)) (sym d.rest_is ∙ e)
-
--- the cycles of a number of 64 bits are small
-pub cycles_small : (z : ℤ) → FitsSigned w64 z → unsigned_abs (int_div_euclid z (pos 65536)) ≤ 2 ^ 48
-cycles_small z fits = (let d = divided z in bound z (int_div_euclid z (pos 65536)) d.rest d.below d.whole fits)
-  where
-    bound : (z c : ℤ) (q : ℕ) → q < 65536 → z ≡ pos q +ℤ pos 65536 *ℤ c → FitsSigned w64 z → unsigned_abs c ≤ 2 ^ 48
-    bound z c q l e fits = omega (arith, ints, l, e, fits)
 
 -- so a test of the rest tells whether a value lies whole cycles above a phase
 pub fits_by_test : (z rem from : ℤ) (p : ℕ) → p < 65536 → rem ≡ int_rem_euclid z (pos 65536) → from ≡ pos p → IsTrue (nat_eq (of_z w64 rem) (of_z w64 from)) ↔ ((c : ℤ) × (z ≡ pos p +ℤ pos 65536 *ℤ c))

@@ -1,5 +1,5 @@
 -- What a replay of a history holds, and what its calls do. No clause of a public function cites this file.
-use Rattle.std.specs.Prelude.{◌≡◌, ◌↔◌, ℕ, ◌<◌, Bool, IsTrue, Option, List, [], ◌∷◌, ◌++◌, length, map, slice_index_or}
+use Rattle.std.specs.Prelude.{◌≡◌, ◌↔◌, ℕ, ◌+◌, ◌-◌, ◌<◌, ◌≤◌, ◌^◌, Bool, IsTrue, Option, Some, None, List, [], ◌∷◌, ◌++◌, length, map, slice_index, slice_index_or, slice_set}
 use Rattle.raster_model.specs.declared.script.Edit.{Edit}
 use Rattle.raster_model.specs.declared.session.Session.{Session}
 use Rattle.raster_model.specs.Masks.{open_at}
@@ -8,15 +8,17 @@ use Rattle.raster_model.specs.Tiles.{tiles_of}
 use Rattle.mask_revisions.specs.Revisions.{AreChanged, AreRevisionsOf}
 use Rattle.mask_revisions.specs.RevisionsView.{RevisionsView}
 use Rattle.tile_board.specs.declared.entry.Entry.{Entry}
+use Rattle.tile_board.specs.declared.entry.Entry.TheVariants.{Revised, Kept, Published, Settled, Shown}
 use Rattle.tile_board.specs.Histories.{IsComplete, IsLegal, IsStep, is_kept}
 use Rattle.tile_board.specs.Places.{AreSet}
 use Rattle.tile_board.specs.States.{TellsHistory}
 use Rattle.report_text.specs.declared.items.Item.{Item}
+use Rattle.report_text.specs.Contents.{told_item}
 use Rattle.report_check.specs.declared.replay.Replay.{Replay}
 
--- the entries of items
+-- the entries of items, as these are told
 abbrev pub entries_in : List Item → List Entry
-entries_in items = map (λ i. i.entry) items
+entries_in items = map (λ i. i.entry) (map told_item items)
 
 -- what is held is what the history says: its mask with the stamps, whether each tile is kept, how many commands each analyst has done, the newest publication
 pub record IsReplay (s : Session) (H : List Entry) (held : RevisionsView) (tiles : List Bool) (marks : List ℕ) (last : Option ℕ) : Type 0 where
@@ -44,6 +46,22 @@ TellsComplete s p test = (H : List Entry) → IsReplayOf s H p → IsTrue test �
 
 abbrev pub TakesEntry : Replay → Replay → Entry → Type 0
 TakesEntry old new e = (s : Session) (H : List Entry) → IsReplayOf s H old → IsStep s H e → IsReplayOf s (H ++ e ∷ []) new
+
+-- who does a command with an entry
+abbrev pub doer : Entry → Option ℕ
+doer (Revised a edit) = Some a
+doer (Kept tile stamp) = None
+doer (Published a revision) = Some a
+doer (Settled a revision) = Some a
+doer (Shown a revision) = Some a
+
+-- a command of an analyst can be counted, and is
+abbrev pub HasRoom : List ℕ → ℕ → Type 0
+HasRoom marks a = (1 ≤ a) × (a - 1 < length marks) × (slice_index marks (a - 1) + 1 < 2 ^ 32)
+
+abbrev pub counted : List ℕ → Option ℕ → List ℕ
+counted marks None = marks
+counted marks (Some a) = slice_set marks (a - 1) (slice_index marks (a - 1) + 1)
 
 -- an edit was applied, and the tiles with a pixel that changed are kept no longer
 pub record IsRevised (old new : Replay) (edit : Edit) : Type 0 where

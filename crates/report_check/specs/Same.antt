@@ -4,6 +4,7 @@ use Rattle.raster_model.specs.declared.plane.Plane.{Plane}
 use Rattle.raster_model.specs.declared.script.Command.{Command}
 use Rattle.raster_model.specs.declared.script.Script.{Script}
 use Rattle.raster_model.specs.declared.session.Session.{Session}
+use Rattle.raster_model.specs.declared.terms.Terms.{Terms}
 use Rattle.raster_model.specs.Masks.{open_at}
 use Rattle.report_text.specs.Certified.{IsCertifiedReport}
 use Rattle.report_text.specs.Reports.{ReportOf}
@@ -18,16 +19,23 @@ pub record IsSamePlane (p q : Plane) : Type 0 where
   pub maxval : p.maxval ≡ q.maxval
   pub samples : p.samples.items ≡ q.samples.items
 
+-- equal ramps and steepness
+pub record IsSameTerms (a b : Terms) : Type 0 where
+  pub ramp_x : a.ramp_x ≡ b.ramp_x
+  pub ramp_y : a.ramp_y ≡ b.ramp_y
+  pub steep : a.steep ≡ b.steep
+
 -- the commands of each analyst
 abbrev pub commands_in : List Script → List (List Command)
 commands_in scripts = map (λ script. script.commands.items) scripts
 
--- two sessions tell the same: equal planes, rule, side and commands, and the same pixels open at first
+-- two sessions tell the same: equal planes, rule, side, terms and commands, and the same pixels open at first
 pub record IsSameInput (s t : Session) : Type 0 where
   pub phase : IsSamePlane s.scene.phase t.scene.phase
   pub weights : IsSamePlane s.scene.weights t.scene.weights
   pub rule : s.scene.rule ≡ t.scene.rule
   pub side : s.scene.tiling.side ≡ t.scene.tiling.side
+  pub terms : IsSameTerms s.scene.terms t.scene.terms
   pub commands : commands_in s.scripts.items ≡ commands_in t.scripts.items
   pub unmasked : (x y : ℕ) → x < s.scene.phase.width → y < s.scene.phase.height → open_at s.first_mask x y ≡ open_at t.first_mask x y
 

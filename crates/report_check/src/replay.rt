@@ -1,7 +1,7 @@
 ghost use Rattle.raster_model.specs.Scripts.{IsRectIn, rect_of};
 ghost use Rattle.raster_model.specs.Tiles.{tiles_of};
-ghost use Rattle.report_check.specs.Replays.{IsReplayOf, IsReplaying, IsRevised, MayTake, TakesEntry, TellsComplete, TellsStep};
-ghost use Rattle.std.specs.Prelude.{◌≡◌, ◌↔◌, ℕ, ◌+◌, ◌-◌, ◌<◌, ◌≤◌, ◌^◌, [], Bool, IfOk, IsTrue, OnOk, Some, length, slice_get, slice_index, slice_index_or, slice_set, vec_len};
+ghost use Rattle.report_check.specs.Replays.{HasRoom, IsReplayOf, IsReplaying, IsRevised, MayTake, TakesEntry, TellsComplete, TellsStep, counted, doer};
+ghost use Rattle.std.specs.Prelude.{◌≡◌, ◌↔◌, ℕ, ◌+◌, ◌<◌, ◌^◌, [], Bool, IfOk, IfSome, IsTrue, OnOk, Some, length, slice_get, slice_index_or, vec_len};
 ghost use Rattle.tile_board.specs.Histories.{script_in};
 ghost use Rattle.tile_board.specs.Places.{cursor_at};
 ghost use Rattle.tile_board.specs.declared.entry.Entry.TheVariants.{Kept, Published, Settled, Shown};
@@ -74,40 +74,27 @@ impl Replay {
         all_ended(&session.scripts, &self.cursors)
     }
 
-    /// TakesEntry an entry that may come next.
+    /// Takes an entry that may come next.
     pub(crate) fn take(&mut self, alloc: Global, entry: Entry) -> Result<(), AllocError>
         requires { MayTake self.old entry }
         ensures { OnOk result (TakesEntry self.old self.new entry) }
     {
+        count(&mut self.cursors, analyst_of(entry));
         match entry {
-            Entry::Revised { analyst, edit } => {
+            Entry::Revised { edit, .. } => {
                 self.revise(alloc, edit)?;
-                self.count(analyst);
                 Ok(())
             }
-            Entry::Kept { tile, stamp: _ } => {
+            Entry::Kept { tile, .. } => {
                 self.kept[tile as usize] = true;
                 Ok(())
             }
-            Entry::Published { analyst, revision } => {
+            Entry::Published { revision, .. } => {
                 self.newest = Some(revision);
-                self.count(analyst);
                 Ok(())
             }
-            Entry::Settled {
-                analyst,
-                revision: _,
-            } => {
-                self.count(analyst);
-                Ok(())
-            }
-            Entry::Shown {
-                analyst,
-                revision: _,
-            } => {
-                self.count(analyst);
-                Ok(())
-            }
+            Entry::Settled { .. } => Ok(()),
+            Entry::Shown { .. } => Ok(()),
         }
     }
 
@@ -175,16 +162,6 @@ impl Replay {
         self.is_next(session, analyst, Command::Show) && self.is_newest(revision)
     }
 
-    /// Counts a command of an analyst as done.
-    fn count(&mut self, analyst: u32)
-        requires there { (1 ≤ analyst) × (analyst - 1 < vec_len self.old.cursors) }
-        requires room { slice_index self.old.cursors.items (analyst - 1) + 1 < 2 ^ 32 }
-        ensures cursors { self.new.cursors.items ≡ slice_set self.old.cursors.items (analyst - 1) (slice_index self.old.cursors.items (analyst - 1) + 1) }
-        ensures others { (self.new.revisions ≡ self.old.revisions) × (self.new.kept ≡ self.old.kept) × (self.new.newest ≡ self.old.newest) }
-    {
-        self.cursors[analyst as usize - 1] += 1;
-    }
-
     /// Applies an edit of the mask. The tiles with a pixel that changes are kept no longer.
     fn revise(&mut self, alloc: Global, edit: Edit) -> Result<(), AllocError>
         requires rect { IsRectIn self.old.revisions.tiling.width self.old.revisions.tiling.height (rect_of edit) }
@@ -195,6 +172,29 @@ impl Replay {
         let tiles = self.revisions.push(alloc, edit)?;
         set_all(&mut self.kept, &tiles, false);
         Ok(())
+    }
+}
+
+/// The analyst who does a command with an entry.
+fn analyst_of(entry: Entry) -> Option<u32>
+    ensures { result ≡ doer entry }
+{
+    match entry {
+        Entry::Revised { analyst, .. } => Some(analyst),
+        Entry::Kept { .. } => None,
+        Entry::Published { analyst, .. } => Some(analyst),
+        Entry::Settled { analyst, .. } => Some(analyst),
+        Entry::Shown { analyst, .. } => Some(analyst),
+    }
+}
+
+/// Counts a command of an analyst, if any, as done.
+fn count(cursors: &mut Vec<u32>, analyst: Option<u32>)
+    requires { IfSome analyst (HasRoom cursors.old.items) }
+    ensures { cursors.new.items ≡ counted cursors.old.items analyst }
+{
+    if let Some(analyst) = analyst {
+        cursors[analyst as usize - 1] += 1;
     }
 }
 

@@ -24,6 +24,13 @@ pub fn check_report(
     ensures accepted { IfOk result (λ verdict. (verdict ≡ Accepted) ↔ IsCertifiedReport session.now (report_told report.now)) }
     ensures best { IfOk result (λ verdict. verdict ≡ Accepted → SurfacesAreBest session.now (report_told report.now)) }
 {
+    verdict_on(alloc, session, report)
+}
+
+/// The verdict.
+fn verdict_on(alloc: Global, session: &Session, report: &Report) -> Result<CheckVerdict, AllocError>
+    ensures { IfOk result (IsCheckVerdict session.now (report_told report.now)) }
+{
     if let Some(line) = first_difference(session, report) {
         return Ok(CheckVerdict::Header(line));
     }

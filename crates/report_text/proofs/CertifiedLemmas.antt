@@ -1,5 +1,5 @@
 -- The report of a board whose history is complete is certified, and each surface of a certified report is the best.
-use Rattle.std.proofs.Common.{◌≡◌, ℕ, zero, suc, ◌<◌, ◌∙◌, List, [], ◌∷◌, Bool, true, false, Option, Some, None, map, refl, sym, ap, subst, arith}
+use Rattle.std.proofs.Common.{◌≡◌, ℕ, zero, suc, ◌<◌, ◌∙◌, List, [], ◌∷◌, Bool, Option, Some, None, map, refl, sym, ap, subst, arith}
 use Rattle.std.proofs.lemmas.Int.{ints}
 use Rattle.std.specs.Prelude.{ℤ, pos, negsuc, ◌≤ℤ◌, IsTrue, if◌then◌else◌, filter_map, slice_get, unsigned_abs}
 use Rattle.raster_model.specs.declared.session.Session.{Session}
@@ -14,12 +14,14 @@ use Rattle.surface_snapshots.proofs.CallerLemmas.{value_is_told}
 use Rattle.surface_snapshots.proofs.SameLemmas.{anchored_too, same_seam_cost, same_tile_costs, seams_too, tile_too}
 use Rattle.grid_writer.specs.Shown.{shown_value}
 use Rattle.tile_board.specs.declared.entry.Entry.{Entry}
-use Rattle.tile_board.specs.declared.entry.Entry.TheVariants.{Revised, Kept, Published, Settled, Shown}
+use Rattle.tile_board.specs.declared.entry.Entry.TheVariants.{Published}
 use Rattle.tile_board.specs.BoardView.{BoardView}
 use Rattle.tile_board.specs.Boards.{IsBoard, IsSurfaceOf}
 use Rattle.tile_board.specs.Histories.{IsComplete, mask_in, published_of}
 use Rattle.report_text.specs.Certified.{CertifiedReportsAreBest, IsBestAt, IsCertifiedAt, IsCertifiedAfter, IsCertifiedReport, IsCertifiedSurface, history_of, no_data}
 use Rattle.report_text.specs.Reports.{ItemOf, SurfaceOf, items_of, report_of, surface_of}
+use Rattle.report_text.proofs.ItemsLemmas.{all_get}
+use Rattle.std.specs.List.{AllByRecursion}
 use Rattle.sums_and_lists.specs.Sums.{sum_below}
 
 -- the items' entries are the history
@@ -42,10 +44,7 @@ unfolding tile_costs
 tile_costs-not_below r mask S = costs_not_below r.tile_count (λ t. tile_cost r mask t S) (λ t. tile_cost-not_below r mask t S)
 
 shown_either : (b c : Bool) (z : ℤ) → b ≡ c → shown_value (if b then Some z else None) ≡ (if c then z else no_data)
-shown_either true true z e = refl
-shown_either false false z e = refl
-shown_either true false z e = cc
-shown_either false true z e = cc
+shown_either b c z e = grind arith
 
 -- a surface of a revision is certified there
 module _ (s : Session) (H : List Entry) (p : Parts) (is : IsSurfaceOf s H p) where
@@ -77,31 +76,16 @@ module _ (s : Session) (H : List Entry) (p : Parts) (is : IsSurfaceOf s H p) whe
   pub surface_is_certified : IsCertifiedSurface (raster_of s.scene) mask (surface_of p) (surface_in p)
   surface_is_certified = subst (λ (t : Session). IsCertifiedSurface (raster_of t.scene) mask (surface_of p) (surface_in p)) is.session in_its_raster
 
--- an item is certified
-abbrev pub IsFine : Session → List Entry → ItemOf → Type 0
-IsFine s H i = IsCertifiedAfter s H i.entry i.surface
-
-abbrev pub AreFine : Session → List Entry → List ItemOf → Type 0
-AreFine s H items = (k : ℕ) (i : ItemOf) → slice_get items k ≡ Some i → IsFine s H i
-
-fine_first : (s : Session) (H : List Entry) (first : ItemOf) (items : List ItemOf) → IsFine s H first → AreFine s H items → AreFine s H (first ∷ items)
-fine_first s H first items f fs zero i at = (let e : first ≡ i = cc in subst (IsFine s H) e f)
-fine_first s H first items f fs (suc k) i at = fs k i at
-
-none_fine : (s : Session) (H : List Entry) → AreFine s H []
-none_fine s H k i at = absurd (cc)
-
-pub items_certified : (s : Session) (H es : List Entry) (ps : List Parts) → map (λ (p : Parts). p.seams.revision) ps ≡ filter_map published_of es → ((j : ℕ) (p : Parts) → slice_get ps j ≡ Some p → IsSurfaceOf s H p) → AreFine s H (items_of es ps)
+-- the items are certified
+items_certified : (s : Session) (H es : List Entry) (ps : List Parts) → map (λ (p : Parts). p.seams.revision) ps ≡ filter_map published_of es → ((j : ℕ) (p : Parts) → slice_get ps j ≡ Some p → IsSurfaceOf s H p) → AllByRecursion (λ (i : ItemOf). IsCertifiedAfter s H i.entry i.surface) (items_of es ps)
 unfolding items_of
-items_certified s H [] ps told each = none_fine s H
-items_certified s H (Revised a d ∷ es) ps told each = fine_first s H _ _ refl (items_certified s H es ps told each)
-items_certified s H (Kept t r ∷ es) ps told each = fine_first s H _ _ refl (items_certified s H es ps told each)
-items_certified s H (Settled a r ∷ es) ps told each = fine_first s H _ _ refl (items_certified s H es ps told each)
-items_certified s H (Shown a r ∷ es) ps told each = fine_first s H _ _ refl (items_certified s H es ps told each)
+items_certified s H [] ps told each = tt
 items_certified s H (Published a r ∷ es) [] told each = absurd (cc)
-items_certified s H (Published a r ∷ es) (p ∷ ps) told each =
-    fine_first s H _ _ (surface_in p, subst (λ (n : ℕ). IsCertifiedSurface (raster_of s.scene) (mask_in s H n) (surface_of p) (surface_in p)) (let e : p.seams.revision ≡ r = cc in e) (surface_is_certified s H p (each 0 p refl)))
-    (items_certified s H es ps (let e : map (λ (q : Parts). q.seams.revision) ps ≡ filter_map published_of es = cc in e) (λ j q at. each (suc j) q at))
+items_certified s H (Published a r ∷ es) (p ∷ ps) told each = (
+  (surface_in p, subst (λ (n : ℕ). IsCertifiedSurface (raster_of s.scene) (mask_in s H n) (surface_of p) (surface_in p)) (let e : p.seams.revision ≡ r = cc in e) (surface_is_certified s H p (each 0 p refl))),
+  items_certified s H es ps (let e : map (λ (q : Parts). q.seams.revision) ps ≡ filter_map published_of es = cc in e) (λ j q at. each (suc j) q at),
+)
+items_certified s H (e ∷ es) ps told each = (refl, items_certified s H es ps told each)
 
 -- the report of a board whose history is complete is certified
 pub board_is_certified : (v : BoardView) → IsBoard v → IsComplete v.session v.entries → IsCertifiedReport v.session (report_of v.session v.entries v.surfaces)
@@ -112,7 +96,7 @@ board_is_certified v is complete = record {
   rule = refl;
   legal = rw (entries_again v.entries v.surfaces) is.legal;
   complete = rw (entries_again v.entries v.surfaces) complete;
-  surfaces = rw (entries_again v.entries v.surfaces) (items_certified v.session v.entries v.entries v.surfaces is.surfaces.revisions is.surfaces.each);
+  surfaces = rw (entries_again v.entries v.surfaces) (all_get (λ (i : ItemOf). IsCertifiedAfter v.session v.entries i.entry i.surface) (items_of v.entries v.surfaces) (items_certified v.session v.entries v.entries v.surfaces is.surfaces.revisions is.surfaces.each));
 }
 
 -- each published surface of a certified report is the best at the mask of its revision

@@ -3,7 +3,7 @@ use Rattle.std.specs.Borrow.{Bor}
 use Rattle.std.specs.Slice.{IsItemAt}
 use Rattle.std.specs.Prelude.{option_map}
 use Rattle.std.specs.List.{AllByRecursion}
-use Rattle.std.proofs.Common.{◌≡◌, ℕ, zero, suc, ◌+◌, ◌<◌, ◌≤◌, List, [], ◌∷◌, ◌++◌, Option, Some, None, drop, flat_map, get_or, length, map, slice_get, true, false, refl, sym, ap, ap₂, subst, ◌∙◌, append_assoc, arith, Bool, if◌then◌else◌}
+use Rattle.std.proofs.Common.{◌≡◌, ℕ, zero, suc, ◌+◌, ◌<◌, ◌≤◌, List, [], ◌∷◌, ◌++◌, Option, Some, None, drop, flat_map, get_or, length, map, slice_get, refl, sym, ap, ap₂, subst, ◌∙◌, append_assoc, arith, Bool, if◌then◌else◌}
 use Rattle.std.proofs.lemmas.List.{append-nil, drop_all, drop-map, drop_more, drop-drop}
 use Rattle.raster_model.specs.declared.session.Session.{Session}
 use Rattle.raster_model.specs.Tiles.{tiles_of}
@@ -78,8 +78,7 @@ pub range_over : (s : Session) (tiles : ℕ) (p : Parts) → p.session ≡ s →
 range_over s tiles p is r = subst (λ (x : Session). IsSurfaceInRange x.scene.phase.width x.scene.phase.height tiles (surface_of p)) is r
 
 pub none_either : (b : Bool) → (if b then none_surface else none_surface) ≡ None
-none_either true = refl
-none_either false = refl
+none_either b = grind arith
 
 -- the tiles of a report are those of its session
 pub tiles_are : (s : Session) (es : List Entry) (ps : List Parts) → tiles_of s.scene.tiling ≡ tiles_in (report_of s es ps)
@@ -93,7 +92,3 @@ over_board v snapshots same board k n at = (board.surfaces.each k (parts_of n) (
     mapped k [] n at = absurd (cc)
     mapped zero (x ∷ l) n at = ap (λ (o : Option Snapshot). option_map parts_of o) at
     mapped (suc k) (x ∷ l) n at = mapped k l n at
-
--- what holds of a session, a history and surfaces holds of equal ones
-pub of_same : (P : Session → List Entry → List Parts → Type 0) (s t : Session) (es fs : List Entry) (ps qs : List Parts) → s ≡ t → es ≡ fs → ps ≡ qs → P s es ps → P t fs qs
-of_same P s t es fs ps qs a b c h = subst (λ (x : Session). P x fs qs) a (subst (λ (l : List Entry). P s l qs) b (subst (λ (l : List Parts). P s es l) c h))

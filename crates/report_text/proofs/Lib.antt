@@ -1,12 +1,10 @@
 mod ItemLemmas
-pub mod FieldLemmas
 pub mod EntryLemmas
 pub mod LineLemmas
 pub mod LineEnds
 pub mod ReadsLemmas
 pub mod ReadLemmas
 pub mod NumberLemmas
-pub mod LineFacts
 pub mod ListsLemmas
 pub mod EndLemmas
 pub mod PartForms

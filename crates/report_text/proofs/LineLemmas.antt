@@ -1,153 +1,126 @@
 -- The lines of a report have no line feed in them, and the short ones are short.
-use Rattle.std.proofs.Common.{◌≡◌, ℕ, ◌≤◌, Bool, true, not, eqb, List, [], ◌∷◌, ◌++◌, length, decimal, Option, Some, None, refl, arith}
+use Rattle.std.proofs.Common.{◌≡◌, ℕ, ◌+◌, ◌-◌, ◌/◌, ◌≤◌, Bool, true, not, eqb, IsTrue, List, [], ◌∷◌, ◌++◌, length, decimal, mul-le-mul, Option, Some, None, refl, arith}
 use Rattle.std.specs.Prelude.{ℤ, codes}
-use Rattle.std.specs.List.{AllByRecursion, list_all}
+use Rattle.std.specs.List.{list_all}
+use Rattle.std.proofs.Math.Nat.{div-le_self}
 use Rattle.std.proofs.lemmas.Bool.{and_parts, eqb-false, not-true}
+use Rattle.std.proofs.lemmas.Bool.Decides.{nat_tests}
 use Rattle.std.proofs.lemmas.Fmt.{length-decimal-le_wide}
 use Rattle.std.proofs.lemmas.List.{length-append}
 use Rattle.insar_ports.specs.Lines.{IsInLine}
-use Rattle.text_lines.specs.Numbers.{AreLongs, numbers_text}
+use Rattle.raster_model.specs.Limits.{is_raster_size, IsTileSide}
 use Rattle.raster_model.specs.declared.script.Edit.TheVariants.{Mask, Unmask}
 use Rattle.raster_model.specs.declared.script.Rect.{Rect}
 use Rattle.raster_model.specs.declared.weights.RuleKind.{RuleKind}
-use Rattle.raster_model.specs.declared.weights.RuleKind.TheVariants.{Least, Mean, Product}
+use Rattle.raster_model.specs.declared.weights.RuleKind.TheVariants.{Least}
 use Rattle.tile_board.specs.declared.entry.Entry.{Entry}
 use Rattle.tile_board.specs.declared.entry.Entry.TheVariants.{Revised, Kept, Published, Settled, Shown}
-use Rattle.report_text.specs.Contents.{IsEntryOfWords, MayBeWord}
-use Rattle.text_lines.specs.Parsing.{IsWide, IsRectOfWords, IsWord}
-use Rattle.report_text.specs.Text.{costs_line, entry_text, faces_front, faces_line, flows_line, revision_text, rule_line, size_line, tile_line}
+use Rattle.text_lines.specs.Numbers.{AreLongs, numbers_text}
+use Rattle.text_lines.specs.Parsing.{AreWords, IsRectOfWords, IsWide, IsWord}
 use Rattle.text_lines.specs.Text.{rect_text, field_text}
 use Rattle.text_lines.proofs.FieldLemmas.{IsDigit, all_both, all_weaker, decimal_digits, is_printed, word_wide}
+use Rattle.text_lines.proofs.FormLemmas.{InLine}
 use Rattle.text_lines.proofs.NumberLines.{text_in_line}
+use Rattle.report_text.specs.Contents.{IsEntryOfWords, MayBeWord}
+use Rattle.report_text.specs.Parsing.{AreCosts}
+use Rattle.report_text.specs.Parts.{AreFacesOf, IsRasterSize, MayStand}
+use Rattle.report_text.specs.Text.{costs_line, entry_text, faces_front, faces_line, flows_line, history_line, revision_text, rule_line, size_line, tile_line, tiles_by}
 
--- ---- no line feed
+-- bytes without a line feed, at most so many
+pub record Fits (most : ℕ) (text : List ℕ) : Type 0 where
+  pub inside : InLine text
+  pub short : length text ≤ most
+
+fits_both : {m n : ℕ} {x y : List ℕ} → Fits m x → Fits n y → Fits (m + n) (x ++ y)
+fits_both {m} {n} {x} {y} a b = record { inside = all_both IsInLine x y a.inside b.inside; short = omega (arith, length-append x y, a.short, b.short) }
+
+fits_more : {m n : ℕ} {x : List ℕ} → Fits m x → m ≤ n → Fits n x
+fits_more a le = record { inside = a.inside; short = omega (arith, a.short, le) }
+
+-- ---- words and fields
 
 abbrev is_in_line : ℕ → Bool
 is_in_line byte = not (eqb byte 10)
 
-pub word_in_line : (bytes : List ℕ) → list_all is_in_line bytes ≡ true → AllByRecursion IsInLine bytes
+pub word_in_line : (bytes : List ℕ) → list_all is_in_line bytes ≡ true → InLine bytes
 word_in_line [] a = tt
 word_in_line (b ∷ bytes) a =
     let p = and_parts (is_in_line b) (list_all is_in_line bytes) a in
     (eqb-false b 10 (not-true (eqb b 10) p.0), word_in_line bytes p.1)
 
-pub both_in_line : (xs ys : List ℕ) → AllByRecursion IsInLine xs → AllByRecursion IsInLine ys → AllByRecursion IsInLine (xs ++ ys)
-both_in_line xs ys a b = all_both IsInLine xs ys a b
+word_fits : (word : List ℕ) → list_all is_in_line word ≡ true → Fits (length word) word
+word_fits word a = record { inside = word_in_line word a; short = omega arith }
 
 digit_in_line : (byte : ℕ) → IsDigit byte → IsInLine byte
 digit_in_line byte d e = omega (arith, d.0, e)
 
-pub field_in_line : (n : ℕ) → IsWide n → AllByRecursion IsInLine (field_text n)
+field_in_line : (n : ℕ) → IsWide n → InLine (field_text n)
 unfolding field_text
 field_in_line n lt = ((λ e. omega (arith, e)), all_weaker IsDigit IsInLine digit_in_line (decimal n) (decimal_digits n lt))
 
-pair_in_line : (m n : ℕ) → IsWide m → IsWide n → AllByRecursion IsInLine (field_text m ++ field_text n)
-pair_in_line m n a b = both_in_line (field_text m) (field_text n) (field_in_line m a) (field_in_line n b)
-
-pub size_in_line : (w h : ℕ) → IsWide w → IsWide h → AllByRecursion IsInLine (size_line (w, h))
-size_in_line w h a b = both_in_line (codes "size") (field_text w ++ field_text h) (word_in_line (codes "size") refl) (pair_in_line w h a b)
-
-pub side_in_line : (n : ℕ) → IsWide n → AllByRecursion IsInLine (tile_line n)
-side_in_line n a = both_in_line (codes "tile") (field_text n) (word_in_line (codes "tile") refl) (field_in_line n a)
-
-pub rule_in_line : (r : RuleKind) → AllByRecursion IsInLine (rule_line r)
-rule_in_line Least = word_in_line (codes "rule least") refl
-rule_in_line Mean = word_in_line (codes "rule mean") refl
-rule_in_line Product = word_in_line (codes "rule product") refl
-
-pub costs_in_line : (m n : ℕ) → IsWide m → IsWide n → AllByRecursion IsInLine (costs_line (m, n))
-costs_in_line m n a b = both_in_line (codes "costs") (field_text m ++ field_text n) (word_in_line (codes "costs") refl) (pair_in_line m n a b)
-
-pub faces_front_in_line : (n : ℕ) → IsWide n → AllByRecursion IsInLine (faces_front n)
-faces_front_in_line n a = both_in_line (codes "faces") (field_text n) (word_in_line (codes "faces") refl) (field_in_line n a)
-
-pub faces_in_line : (n : ℕ) (a : List ℤ) → IsWide n → AreLongs a → AllByRecursion IsInLine (faces_line n a)
-faces_in_line n a c f = both_in_line (faces_front n) (numbers_text a) (faces_front_in_line n c) (text_in_line a f)
-
-pub flows_in_line : (a : List ℤ) → AreLongs a → AllByRecursion IsInLine (flows_line a)
-flows_in_line a f = both_in_line (codes "flows") (numbers_text a) (word_in_line (codes "flows") refl) (text_in_line a f)
-
-rect_in_line : (r : Rect) → IsRectOfWords r → AllByRecursion IsInLine (rect_text r)
-unfolding rect_text
-rect_in_line r w =
-    both_in_line (field_text r.x0) (field_text r.y0 ++ (field_text r.x1 ++ field_text r.y1)) (field_in_line r.x0 (word_wide r.x0 w.x0))
-    (both_in_line (field_text r.y0) (field_text r.x1 ++ field_text r.y1) (field_in_line r.y0 (word_wide r.y0 w.y0)) (pair_in_line r.x1 r.y1 (word_wide r.x1 w.x1) (word_wide r.y1 w.y1)))
-
-revision_in_line : (o : Option ℕ) → MayBeWord o → AllByRecursion IsInLine (revision_text o)
-revision_in_line (Some n) w = field_in_line n (word_wide n w)
-revision_in_line None w = word_in_line (codes " none") refl
-
-words_in_line : (word : List ℕ) (m n : ℕ) → AllByRecursion IsInLine word → IsWord m → IsWord n → AllByRecursion IsInLine (word ++ (field_text m ++ field_text n))
-words_in_line word m n w a b = both_in_line word (field_text m ++ field_text n) w (pair_in_line m n (word_wide m a) (word_wide n b))
-
-edit_in_line : (n : ℕ) (word : List ℕ) (r : Rect) → IsWord n → AllByRecursion IsInLine word → IsRectOfWords r → AllByRecursion IsInLine (codes "revised" ++ (field_text n ++ (word ++ rect_text r)))
-edit_in_line n word r a w b =
-    both_in_line (codes "revised") (field_text n ++ (word ++ rect_text r)) (word_in_line (codes "revised") refl)
-    (both_in_line (field_text n) (word ++ rect_text r) (field_in_line n (word_wide n a)) (both_in_line word (rect_text r) w (rect_in_line r b)))
-
-pub entry_in_line : (e : Entry) → IsEntryOfWords e → AllByRecursion IsInLine (entry_text e)
-entry_in_line (Revised n (Mask r)) w = edit_in_line n (codes " mask") r w.0 (word_in_line (codes " mask") refl) w.1
-entry_in_line (Revised n (Unmask r)) w = edit_in_line n (codes " unmask") r w.0 (word_in_line (codes " unmask") refl) w.1
-entry_in_line (Kept m n) w = words_in_line (codes "kept") m n (word_in_line (codes "kept") refl) w.0 w.1
-entry_in_line (Published m n) w = words_in_line (codes "published") m n (word_in_line (codes "published") refl) w.0 w.1
-entry_in_line (Settled m n) w = words_in_line (codes "settled") m n (word_in_line (codes "settled") refl) w.0 w.1
-entry_in_line (Shown n o) w =
-    both_in_line (codes "shown") (field_text n ++ revision_text o) (word_in_line (codes "shown") refl)
-    (both_in_line (field_text n) (revision_text o) (field_in_line n (word_wide n w.0)) (revision_in_line o w.1))
-
--- ---- lengths
-
-cost_length : (n : ℕ) → IsWide n → length (field_text n) ≤ 40
+wide_fits : (n : ℕ) → IsWide n → Fits 40 (field_text n)
 unfolding field_text
-cost_length n lt = omega (arith, length-decimal-le_wide 39 n (omega arith) (omega (arith, lt)) (is_printed n lt))
+wide_fits n lt = record { inside = field_in_line n lt; short = omega (arith, length-decimal-le_wide 39 n (omega arith) (omega (arith, lt)) (is_printed n lt)) }
 
-word_length : (n : ℕ) → IsWord n → length (field_text n) ≤ 11
+field_fits : (n : ℕ) → IsWord n → Fits 11 (field_text n)
 unfolding field_text
-word_length n lt = omega (arith, length-decimal-le_wide 10 n (omega arith) (omega (arith, lt)) (is_printed n (word_wide n lt)))
+field_fits n lt = record { inside = field_in_line n (word_wide n lt); short = omega (arith, length-decimal-le_wide 10 n (omega arith) (omega (arith, lt)) (is_printed n (word_wide n lt))) }
 
-costs_length : (m n : ℕ) → IsWide m → IsWide n → length (field_text m ++ field_text n) ≤ 80
-costs_length m n a b = omega (arith, length-append (field_text m) (field_text n), cost_length m a, cost_length n b)
+pair_fits : (m n : ℕ) → IsWord m → IsWord n → Fits 22 (field_text m ++ field_text n)
+pair_fits m n a b = fits_both (field_fits m a) (field_fits n b)
 
-words_length : (m n : ℕ) → IsWord m → IsWord n → length (field_text m ++ field_text n) ≤ 22
-words_length m n a b = omega (arith, length-append (field_text m) (field_text n), word_length m a, word_length n b)
-
-rect_length : (r : Rect) → IsRectOfWords r → length (rect_text r) ≤ 44
+rect_fits : (r : Rect) → IsRectOfWords r → Fits 44 (rect_text r)
 unfolding rect_text
-rect_length r w =
-    omega (arith, length-append (field_text r.x0) (field_text r.y0 ++ (field_text r.x1 ++ field_text r.y1)), length-append (field_text r.y0) (field_text r.x1 ++ field_text r.y1), word_length r.x0 w.x0, word_length r.y0 w.y0, words_length r.x1 r.y1 w.x1 w.y1)
+rect_fits r w = fits_both (field_fits r.x0 w.x0) (fits_both (field_fits r.y0 w.y0) (pair_fits r.x1 r.y1 w.x1 w.y1))
 
-revision_length : (o : Option ℕ) → MayBeWord o → length (revision_text o) ≤ 11
-revision_length (Some n) w = word_length n w
-revision_length None w = omega arith
+revision_fits : (o : Option ℕ) → MayBeWord o → Fits 11 (revision_text o)
+revision_fits (Some n) w = field_fits n w
+revision_fits None w = fits_more (word_fits (codes " none") refl) (omega arith)
 
--- a word of at most 9 bytes before a text
-after_word : (word text : List ℕ) (most : ℕ) → length word ≤ 9 → length text ≤ most → most ≤ 119 → length (word ++ text) ≤ 128
-after_word word text most a b c = omega (arith, length-append word text, a, b, c)
+-- ---- lines
 
-pub size_length : (w h : ℕ) → IsWide w → IsWide h → length (size_line (w, h)) ≤ 128
-size_length w h a b = after_word (codes "size") (field_text w ++ field_text h) 80 (omega arith) (costs_length w h a b) (omega arith)
+entry_fits : (e : Entry) → IsEntryOfWords e → Fits 128 (entry_text e)
+entry_fits (Revised n (Mask r)) w = fits_more (fits_both (word_fits (codes "revised") refl) (fits_both (field_fits n w.0) (fits_both (word_fits (codes " mask") refl) (rect_fits r w.1)))) (omega arith)
+entry_fits (Revised n (Unmask r)) w = fits_more (fits_both (word_fits (codes "revised") refl) (fits_both (field_fits n w.0) (fits_both (word_fits (codes " unmask") refl) (rect_fits r w.1)))) (omega arith)
+entry_fits (Kept m n) w = fits_more (fits_both (word_fits (codes "kept") refl) (pair_fits m n w.0 w.1)) (omega arith)
+entry_fits (Published m n) w = fits_more (fits_both (word_fits (codes "published") refl) (pair_fits m n w.0 w.1)) (omega arith)
+entry_fits (Settled m n) w = fits_more (fits_both (word_fits (codes "settled") refl) (pair_fits m n w.0 w.1)) (omega arith)
+entry_fits (Shown n o) w = fits_more (fits_both (word_fits (codes "shown") refl) (fits_both (field_fits n w.0) (revision_fits o w.1))) (omega arith)
 
-pub side_length : (n : ℕ) → IsWide n → length (tile_line n) ≤ 128
-side_length n a = after_word (codes "tile") (field_text n) 40 (omega arith) (cost_length n a) (omega arith)
+pub history_fits : (o : Option Entry) → MayStand o → Fits 128 (history_line o)
+history_fits (Some e) a = entry_fits e a
+history_fits None a = fits_more (word_fits (codes "end") refl) (omega arith)
 
-pub rule_length : (r : RuleKind) → length (rule_line r) ≤ 128
-rule_length Least = omega arith
-rule_length Mean = omega arith
-rule_length Product = omega arith
+pub costs_fit : (p : ℕ × ℕ) → AreCosts p → Fits 128 (costs_line p)
+costs_fit p a = fits_more (fits_both (word_fits (codes "costs") refl) (fits_both (wide_fits p.0 a.0) (wide_fits p.1 a.1))) (omega arith)
 
-pub costs_line_length : (m n : ℕ) → IsWide m → IsWide n → length (costs_line (m, n)) ≤ 128
-costs_line_length m n a b = after_word (codes "costs") (field_text m ++ field_text n) 80 (omega arith) (costs_length m n a b) (omega arith)
+pub rule_fits : (r : RuleKind) → Fits 128 (rule_line r)
+rule_fits Least = record { inside = word_in_line (rule_line Least) refl; short = omega arith }
+rule_fits r = record { inside = word_in_line (rule_line r) refl; short = omega arith }
 
-edit_length : (n : ℕ) (word : List ℕ) (r : Rect) → IsWord n → length word ≤ 9 → IsRectOfWords r → length (field_text n ++ (word ++ rect_text r)) ≤ 64
-edit_length n word r a w b = omega (arith, length-append (field_text n) (word ++ rect_text r), length-append word (rect_text r), word_length n a, w, rect_length r b)
+-- a size within the limits is of small numbers
+pub size_parts : (w h : ℕ) → IsTrue (is_raster_size w h) → (w ≤ 4096) × (h ≤ 4096)
+size_parts w h z = (grind (arith, nat_tests), grind (arith, nat_tests))
 
-shown_length : (n : ℕ) (o : Option ℕ) → IsWord n → MayBeWord o → length (field_text n ++ revision_text o) ≤ 22
-shown_length n o a b = omega (arith, length-append (field_text n) (revision_text o), word_length n a, revision_length o b)
+pub size_words : (s : ℕ × ℕ) → IsRasterSize s → AreWords s
+size_words s z = let p = size_parts s.0 s.1 z in let a = p.0 in let b = p.1 in (omega (arith, a), omega (arith, b))
 
-pub entry_length : (e : Entry) → IsEntryOfWords e → length (entry_text e) ≤ 128
-entry_length (Revised n (Mask r)) w = after_word (codes "revised") (field_text n ++ (codes " mask" ++ rect_text r)) 64 (omega arith) (edit_length n (codes " mask") r w.0 (omega arith) w.1) (omega arith)
-entry_length (Revised n (Unmask r)) w = after_word (codes "revised") (field_text n ++ (codes " unmask" ++ rect_text r)) 64 (omega arith) (edit_length n (codes " unmask") r w.0 (omega arith) w.1) (omega arith)
-entry_length (Kept m n) w = after_word (codes "kept") (field_text m ++ field_text n) 22 (omega arith) (words_length m n w.0 w.1) (omega arith)
-entry_length (Published m n) w = after_word (codes "published") (field_text m ++ field_text n) 22 (omega arith) (words_length m n w.0 w.1) (omega arith)
-entry_length (Settled m n) w = after_word (codes "settled") (field_text m ++ field_text n) 22 (omega arith) (words_length m n w.0 w.1) (omega arith)
-entry_length (Shown n o) w = after_word (codes "shown") (field_text n ++ revision_text o) 22 (omega arith) (shown_length n o w.0 w.1) (omega arith)
+pub size_fits : (s : ℕ × ℕ) → IsRasterSize s → Fits 128 (size_line s)
+size_fits s z = let w = size_words s z in fits_more (fits_both (word_fits (codes "size") refl) (pair_fits s.0 s.1 w.0 w.1)) (omega arith)
+
+pub side_fits : (side : ℕ) → IsTileSide side → Fits 128 (tile_line side)
+side_fits side s = fits_more (fits_both (word_fits (codes "tile") refl) (field_fits side (omega (arith, s.1)))) (omega arith)
+
+-- so is a number of tiles
+along_small : (pixels side : ℕ) → pixels ≤ 4096 → IsTileSide side → (pixels + side - 1) / side ≤ 4223
+along_small pixels side p s = let q = div-le_self (pixels + side - 1) side in let t = s.1 in omega (arith, p, q, t)
+
+pub tiles_small : (w h side : ℕ) → IsTrue (is_raster_size w h) → IsTileSide side → IsWide (tiles_by w h side)
+tiles_small w h side z s = let p = size_parts w h z in let c = mul-le-mul (along_small h side p.1 s) (along_small w side p.0 s) in omega (arith, c)
+
+-- lines of numbers, which may be long
+pub faces_in_line : (tile : ℕ) (faces : List ℤ) → AreFacesOf tile faces → InLine (faces_line tile faces)
+faces_in_line tile faces a = all_both IsInLine (faces_front tile) (numbers_text faces) (all_both IsInLine (codes "faces") (field_text tile) (word_in_line (codes "faces") refl) (field_in_line tile a.0)) (text_in_line faces a.1)
+
+pub flows_in_line : (flows : List ℤ) → AreLongs flows → InLine (flows_line flows)
+flows_in_line flows f = all_both IsInLine (codes "flows") (numbers_text flows) (word_in_line (codes "flows") refl) (text_in_line flows f)

@@ -1,7 +1,7 @@
 -- Lists of faces, read one after another.
-use Rattle.std.proofs.Common.{◌≡◌, ℕ, ◌+◌, ◌-◌, ◌<◌, ℤ, List, [], ◌∷◌, ◌++◌, length, get_or, map, sym, ap, subst, ◌∙◌, arith, below_more}
+use Rattle.std.proofs.Common.{◌≡◌, ℕ, ◌+◌, ◌<◌, ℤ, List, [], ◌∷◌, ◌++◌, length, sym, ap, subst, ◌∙◌, arith, below_more}
 use Rattle.std.specs.Global.{Vec}
-use Rattle.std.proofs.lemmas.List.{length-map, map-append, get_or_append_left, get_or-append_right}
+use Rattle.std.proofs.lemmas.Grind.{common_steps}
 use Rattle.text_lines.specs.Numbers.{AreLongs}
 use Rattle.report_text.specs.Contents.{lists_of}
 use Rattle.report_text.specs.Parts.{AreFacesBelow}
@@ -9,20 +9,11 @@ use Rattle.report_text.specs.Text.{all_faces_text, ended_line, faces_line, faces
 use Rattle.text_lines.proofs.TextLemmas.{texts_more, texts_same}
 
 module _ (lists : List (Vec ℤ)) (v : Vec ℤ) (k : ℕ) (count : length lists ≡ k) where
-  abbrev items : Vec ℤ → List ℤ
-  items list = list.items
+  list_before : (t : ℕ) → t < k → lists_of (lists ++ v ∷ []) t ≡ lists_of lists t
+  list_before t lt = grind (arith, common_steps)
 
-  mapped : map items (lists ++ v ∷ []) ≡ map items lists ++ v.items ∷ []
-  mapped = map-append items lists (v ∷ [])
-
-  counted : length (map items lists) ≡ k
-  counted = length-map lists items ∙ count
-
-  pub list_before : (t : ℕ) → t < k → lists_of (lists ++ v ∷ []) t ≡ lists_of lists t
-  list_before t lt = ap (λ (l : List (List ℤ)). get_or l t []) mapped ∙ get_or_append_left (map items lists) (v.items ∷ []) [] t (let e = counted in omega (arith, e, lt))
-
-  pub list_new : lists_of (lists ++ v ∷ []) k ≡ v.items
-  list_new = ap (λ (l : List (List ℤ)). get_or l k []) mapped ∙ get_or-append_right (map items lists) (v.items ∷ []) k k [] counted (omega arith) ∙ ap (λ (n : ℕ). get_or (v.items ∷ []) n []) (let e : k - k ≡ 0 = omega arith in e)
+  list_new : lists_of (lists ++ v ∷ []) k ≡ v.items
+  list_new = grind (arith, common_steps)
 
   pub longs_push : AreFacesBelow k (lists_of lists) → AreLongs v.items → AreFacesBelow (k + 1) (lists_of (lists ++ v ∷ []))
   longs_push a b = below_more (λ t. AreLongs (lists_of (lists ++ v ∷ []) t)) k (λ t lt. subst AreLongs (sym (list_before t lt)) (a t lt)) (subst AreLongs (sym list_new) b)

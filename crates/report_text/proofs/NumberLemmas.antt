@@ -1,5 +1,5 @@
 -- Numbers of a line after its front.
-use Rattle.std.proofs.Common.{◌≡◌, ℕ, ℤ, Bool, true, false, List, [], ◌++◌, Option, Some, None, Result, Ok, Err, refl, sym, ap, subst, ◌∙◌}
+use Rattle.std.proofs.Common.{◌≡◌, ℕ, ℤ, Bool, true, false, List, [], ◌++◌, Option, Some, None, Result, Ok, Err, refl, sym, ap, subst, ◌∙◌, arith}
 use Rattle.std.specs.Prelude.{codes, decimal, IfOk, MatchBool, is_some, not}
 use Rattle.std.specs.Global.{Vec}
 use Rattle.std.proofs.lemmas.List.{append_cancel_left}
@@ -24,5 +24,4 @@ faces_found tile line fields digits (Ok None) small l d h = λ faces a e. h face
 faces_found tile line fields digits (Err e) small l d h = tt
 
 pub not_none : {A : Type 0} (o : Option A) (b : Bool) → is_some o ≡ not b → b ≡ false → o ≡ None → ⊥
-not_none None b e f g = let q : false ≡ true = e ∙ ap not f in absurd cc
-not_none (Some x) b e f g = absurd cc
+not_none o b e f g = grind arith

@@ -8,7 +8,7 @@ use Rattle.raster_model.specs.Limits.{is_raster_size}
 use Rattle.raster_model.specs.Tiles.{tiles_of}
 use Rattle.surface_snapshots.specs.Parts.{Parts}
 use Rattle.tile_board.specs.declared.entry.Entry.{Entry}
-use Rattle.tile_board.specs.declared.entry.Entry.TheVariants.{Revised, Kept, Published, Settled, Shown}
+use Rattle.tile_board.specs.declared.entry.Entry.TheVariants.{Published}
 use Rattle.tile_board.specs.BoardView.{BoardView}
 use Rattle.tile_board.specs.Boards.{IsBoard}
 use Rattle.tile_board.specs.Histories.{published_of}
@@ -21,16 +21,13 @@ module _ (width height tiles : ℕ) where
   items_in_range : (es : List Entry) (ps : List Parts) → map (λ (p : Parts). p.seams.revision) ps ≡ filter_map published_of es → AreSmallItems width height tiles (items_of es ps) → AllByRecursion (IsItemInRange width height tiles) (items_of es ps)
   unfolding items_of
   items_in_range [] ps told small = tt
-  items_in_range (Revised a d ∷ es) ps told small = let first = small.0 in (record { entry = first.entry; published = refl; surface = tt }, items_in_range es ps told small.1)
-  items_in_range (Kept t r ∷ es) ps told small = let first = small.0 in (record { entry = first.entry; published = refl; surface = tt }, items_in_range es ps told small.1)
-  items_in_range (Settled a r ∷ es) ps told small = let first = small.0 in (record { entry = first.entry; published = refl; surface = tt }, items_in_range es ps told small.1)
-  items_in_range (Shown a r ∷ es) ps told small = let first = small.0 in (record { entry = first.entry; published = refl; surface = tt }, items_in_range es ps told small.1)
   items_in_range (Published a r ∷ es) [] told small = absurd (cc)
   items_in_range (Published a r ∷ es) (p ∷ ps) told small =
       let first = small.0 in (
         record { entry = first.entry; published = refl; surface = first.surface },
         items_in_range es ps (let e : map (λ (q : Parts). q.seams.revision) ps ≡ filter_map published_of es = cc in e) small.1,
       )
+  items_in_range (e ∷ es) ps told small = let first = small.0 in (record { entry = first.entry; published = refl; surface = tt }, items_in_range es ps told small.1)
 
 -- the report of a board
 sized : (s : Session) → IsTrue (is_raster_size s.scene.phase.width s.scene.phase.height)

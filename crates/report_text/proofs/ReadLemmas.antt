@@ -1,5 +1,5 @@
 -- What readers of a line say of its parts they say of the line.
-use Rattle.std.proofs.Common.{◌≡◌, ℕ, true, false, List, ◌++◌, Option, Some, None, inr, refl, sym, ◌∙◌, arith}
+use Rattle.std.proofs.Common.{◌≡◌, ℕ, false, List, ◌++◌, Option, Some, None, inr, refl, sym, ap, ◌∙◌}
 use Rattle.std.specs.Prelude.{◌≢◌, codes}
 use Rattle.std.proofs.lemmas.Bool.{false≢true}
 use Rattle.raster_model.specs.Limits.{is_raster_size}
@@ -8,15 +8,14 @@ use Rattle.raster_model.specs.declared.script.Edit.TheVariants.{Mask, Unmask}
 use Rattle.text_lines.specs.Numbers.{BeginsField}
 use Rattle.text_lines.specs.Parsing.{AreWords, IsWord, pair_text}
 use Rattle.text_lines.specs.Text.{field_text, rect_text}
-use Rattle.text_lines.proofs.FieldLemmas.{word_wide}
 use Rattle.tile_board.specs.declared.entry.Entry.{Entry}
 use Rattle.tile_board.specs.declared.entry.Entry.TheVariants.{Revised, Kept, Published, Settled, Shown}
 use Rattle.report_text.specs.Contents.{IsEntryOfWords, MayBeWord}
 use Rattle.report_text.specs.Parsing.{IsEditOfWords, IsRevisedOfWords, IsShownOfWords, edit_text, revised_text, shown_text}
 use Rattle.report_text.specs.Parts.{IsRasterSize, MayStand}
 use Rattle.report_text.specs.Text.{entry_text, history_line, revision_text, size_line}
-use Rattle.report_text.proofs.EntryLemmas.{size_unique}
-use Rattle.report_text.proofs.LineFacts.{size_parts}
+use Rattle.report_text.proofs.EntryLemmas.{words_unique}
+use Rattle.report_text.proofs.LineLemmas.{size_words}
 
 pub edit_begins : (e : Edit) → IsEditOfWords e → BeginsField (edit_text e)
 edit_begins (Mask r) w = inr (codes "mask" ++ rect_text r, refl)
@@ -46,12 +45,5 @@ no_history line f g (Some e) w t = g e w t
 
 -- ---- the lines of the head
 
-pub size_words : (s : ℕ × ℕ) → IsRasterSize s → AreWords s
-size_words s z = let p = size_parts s.0 s.1 z in let a = p.0 in let b = p.1 in (omega (arith, a), omega (arith, b))
-
 pub other_size : (line : List ℕ) (s t : ℕ × ℕ) → AreWords s × (line ≡ size_line s) → is_raster_size s.0 s.1 ≡ false → IsRasterSize t → line ≡ size_line t → ⊥
-other_size line s t f other z e =
-    let v = size_words t z in
-    let p = size_unique s.0 s.1 t.0 t.1 (word_wide s.0 f.0.0) (word_wide s.1 f.0.1) (word_wide t.0 v.0) (word_wide t.1 v.1) (sym f.1 ∙ e) in
-    let same : is_raster_size s.0 s.1 ≡ true = rw (p.0, p.1) z in
-    false≢true (sym other ∙ same)
+other_size line s t f other z e = let p = words_unique (codes "size") s t f.0 (size_words t z) (sym f.1 ∙ e) in false≢true (sym other ∙ ap (λ (q : ℕ × ℕ). is_raster_size q.0 q.1) p ∙ z)

@@ -7,7 +7,7 @@ use Rattle.insar_ports.specs.Calls.{Call, Takes}
 use Rattle.insar_ports.proofs.CallLemmas.{Takes-then, call}
 use Rattle.text_lines.specs.LineWords.{TakesLines}
 use Rattle.text_lines.proofs.StepLemmas.{joined, second}
-use Rattle.text_lines.specs.Forms.{Form, Begins, EndsIn, lines_in}
+use Rattle.text_lines.specs.Forms.{Form, Begins, lines_in}
 use Rattle.text_lines.specs.Reading.{room_of}
 use Rattle.text_lines.proofs.FormLemmas.{fronts}
 use Rattle.text_lines.proofs.FirstLemmas.{one_break, not_both, one_end}
@@ -15,7 +15,7 @@ use Rattle.text_lines.specs.declared.fault.LineFault.{LineFault}
 use Rattle.text_lines.specs.declared.fault.LineFault.TheVariants as faults
 use Rattle.report_text.specs.declared.contents.Report.{Report}
 use Rattle.report_text.specs.Contents.{IsReport, IsReportText, report_told}
-use Rattle.report_text.specs.Reading.{BreaksReportAt, BrokenReportLineIsOne, EndsReportIn, HasBrokenReportLine, HasReportCause, IsReader, IsReportRead, IsReportRefusedAt}
+use Rattle.report_text.specs.Reading.{BrokenReportLineIsOne, EndsReportIn, HasBrokenReportLine, HasReportCause, IsReader, IsReportRead, IsReportRefusedAt}
 use Rattle.report_text.specs.Text.{report_text}
 
 abbrev F : Form
@@ -59,19 +59,7 @@ module _ (bytes : List ℕ) (at : ℕ) (left : Option (List ℕ)) (end limit bef
   whole_text : (text rest : List ℕ) → bytes ≡ text ++ rest → rest ≡ [] → text ≡ bytes
   whole_text text rest e f = sym (e ∙ ap (λ (l : List ℕ). text ++ l) f ∙ append-nil text)
 
-  pub accepted : (result : Result Report LineFault) → IsReader c result → F bytes → length bytes ≤ room_of c → IsReportRead c bytes result
-  accepted (Ok report) h f le =
-      let t = h.0 in
-      (sym t.2.1.1.1.0 ∙ whole_text t.0 t.1 t.2.0 t.2.1.1.1.1, t.2.1.0 ∙ ap Some t.2.1.1.1.1)
-  accepted (Err (faults.Line n)) h f le = elim h.1.1.2.1.1.1 [
-    | inl b ↦ b.2.1.1 (h.1.1.1, subst F h.1.1.2.0 f)
-    | inr b ↦ b.0.1 (subst F (sym (whole_text h.1.1.0 h.1.1.1 h.1.1.2.0 b.1)) f)
-  ]
-  accepted (Err faults.TooLong) h f le = let t = h.1.1.1.1 in too_long t.0 t.1 t.2.0 t.2.1.0 t.2.1.1.0 h.1.1.0 h.1.1.1.0 le
-  accepted (Err faults.ReadFault) h f le = h.1.1
-  accepted (Err faults.Memory) h f le = tt
-
-  -- a broken line within the room, and a text that ends in a line and fills the room
+  -- a shorter front is one of a longer
   front_of : (front rest text left_over : List ℕ) → front ++ rest ≡ text ++ left_over → length front ≤ length text → (s : List ℕ) × (front ++ s ≡ text)
   front_of front rest text left_over e le = elim (fronts front text rest left_over e) [
     | inl f ↦ (f.0, sym f.1.0)
@@ -81,34 +69,31 @@ module _ (bytes : List ℕ) (at : ℕ) (left : Option (List ℕ)) (end limit bef
         ([], append-nil front ∙ f.1.0 ∙ ap (λ (l : List ℕ). text ++ l) (empty f.0 short) ∙ append-nil text)
   ]
 
-  exact_front : (n : ℕ) (front rest : List ℕ) (result : Result Report LineFault) → IsReader c result → bytes ≡ front ++ rest → length front ≤ room_of c → BreaksReportAt n front → IsReportRefusedAt c n result
-  exact_front n front rest (Ok report) h e le b = let t = h.0 in b.2.1.1 (rest, subst F e (is_report t.0 t.1 report h.1.0 t.2.0 t.2.1.1.1.0 t.2.1.1.1.1))
-  exact_front n front rest (Err (faults.Line m)) h e le b = let t = h.1.1 in elim t.2.1.1.1 [
-    | inl d ↦ one_break F (Begins F) weak m n t.0 front t.1 rest (sym t.2.0 ∙ e) d b
-    | inr d ↦ absurd (not_both F (Begins F) weak n m front rest bytes (sym e) b (subst (EndsIn (Begins F) m) (whole_text t.0 t.1 t.2.0 d.1) d.0.0))
-  ]
-  exact_front n front rest (Err faults.TooLong) h e le b =
-      let t = h.1.1.1.1 in
-      let place = t.2.1.1.0 in
-      let full = h.1.1.0 in
-      let s = front_of front rest t.0 t.1 (sym e ∙ t.2.0) (omega (arith, le, place, full)) in
-      not_both F (Begins F) weak n t.2.1.1.1.0 front s.0 t.0 s.1 b t.2.1.1.1.1
-  exact_front n front rest (Err faults.ReadFault) h e le b = h.1.1
-  exact_front n front rest (Err faults.Memory) h e le b = tt
+  -- a line that is told is a first broken one
+  broken : (n : ℕ) → HasReportCause c (faults.Line n) → (room : ℕ) × HasBrokenReportLine room n bytes
+  broken n (t, r, (e, (l, (p, inl b)))) = (length t, inl (t, r, (e, (omega arith, b))))
+  broken n (t, r, (e, (l, (p, inr b)))) = (length bytes, inr (omega arith, subst (EndsReportIn n) (whole_text t r e b.1) b.0))
 
-  exact_end : (n : ℕ) (result : Result Report LineFault) → IsReader c result → length bytes ≤ room_of c → EndsReportIn n bytes → IsReportRefusedAt c n result
-  exact_end n (Ok report) h le b = let t = h.0 in b.1 (is_report t.0 t.1 report h.1.0 t.2.0 t.2.1.1.1.0 t.2.1.1.1.1)
-  exact_end n (Err (faults.Line m)) h le b = let t = h.1.1 in elim t.2.1.1.1 [
-    | inl d ↦ absurd (not_both F (Begins F) weak m n t.0 t.1 bytes (sym t.2.0) d b.0)
-    | inr d ↦ one_end F (Begins F) weak m n bytes (subst (EndsIn (Begins F) m) (whole_text t.0 t.1 t.2.0 d.1) d.0.0) b.0
-  ]
-  exact_end n (Err faults.TooLong) h le b = let t = h.1.1.1.1 in too_long t.0 t.1 t.2.0 t.2.1.0 t.2.1.1.0 h.1.1.0 h.1.1.1.0 le
-  exact_end n (Err faults.ReadFault) h le b = h.1.1
-  exact_end n (Err faults.Memory) h le b = tt
+  -- bytes that the limit cuts have none
+  not_cut : (n : ℕ) → HasReportCause c faults.TooLong → HasBrokenReportLine (room_of c) n bytes → ⊥
+  not_cut n (full, (more, (t, r, (e, (l, (p, d)))))) (inl (f, s, (g, (le, b)))) = let m = front_of f s t r (sym g ∙ e) (omega (arith, le, p, full)) in not_both F (Begins F) weak n d.0 f m.0 t m.1 b d.1
+  not_cut n (full, (more, (t, r, (e, (l, (p, d)))))) (inr (le, b)) = too_long t r e l p full more le
+
+  pub accepted : (result : Result Report LineFault) → IsReader c result → F bytes → length bytes ≤ room_of c → IsReportRead c bytes result
+  accepted (Ok report) h f le =
+      let t = h.0 in
+      (sym t.2.1.1.1.0 ∙ whole_text t.0 t.1 t.2.0 t.2.1.1.1.1, t.2.1.0 ∙ ap Some t.2.1.1.1.1)
+  accepted (Err (faults.Line n)) h f le = let b = broken n h.1.1 in no_line bytes b.0 n b.1 f
+  accepted (Err faults.TooLong) h f le = let t = h.1.1.1.1 in too_long t.0 t.1 t.2.0 t.2.1.0 t.2.1.1.0 h.1.1.0 h.1.1.1.0 le
+  accepted (Err faults.ReadFault) h f le = h.1.1
+  accepted (Err faults.Memory) h f le = tt
 
   pub exact : (result : Result Report LineFault) → IsReader c result → (n : ℕ) → HasBrokenReportLine (room_of c) n bytes → IsReportRefusedAt c n result
-  exact result h n (inl (front, rest, (e, (le, b)))) = exact_front n front rest result h e le b
-  exact result h n (inr (le, b)) = exact_end n result h le b
+  exact (Ok report) h n b = let t = h.0 in no_line bytes (room_of c) n b (is_report t.0 t.1 report h.1.0 t.2.0 t.2.1.1.1.0 t.2.1.1.1.1)
+  exact (Err (faults.Line m)) h n b = let d = broken m h.1.1 in one_line bytes d.0 (room_of c) m n d.1 b
+  exact (Err faults.TooLong) h n b = not_cut n h.1.1 b
+  exact (Err faults.ReadFault) h n b = h.1.1
+  exact (Err faults.Memory) h n b = tt
 
 -- the same, whether the bytes are told or not
 accepts_by : (told : Option (List ℕ)) (at : ℕ) (left : Option (List ℕ)) (end limit before after : ℕ) (result : Result Report LineFault) → IsReader (call told at left end limit before after) result → IfSome told (λ bytes. F bytes → length bytes ≤ room_of (call told at left end limit before after) → IsReportRead (call told at left end limit before after) bytes result)

@@ -82,12 +82,6 @@ lists_in lists = lists_of lists.items
 abbrev pub values_in : Grid → Field ℤ
 values_in grid = value_at grid.width grid.values.items
 
-abbrev pub certificates_in : Vec (Vec ℤ) × Vec ℤ → (ℕ → List ℤ) × List ℤ
-certificates_in p = (lists_in p.0, list_in p.1)
-
-abbrev pub solved_in : Grid × (Vec (Vec ℤ) × Vec ℤ) → Field ℤ × ((ℕ → List ℤ) × List ℤ)
-solved_in p = (values_in p.0, certificates_in p.1)
-
 abbrev pub items_in : Vec Item → List ItemOf
 items_in items = map told_item items.items
 

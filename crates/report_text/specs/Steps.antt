@@ -1,5 +1,5 @@
 -- What a reader of some lines did, and what it read: words of helpers, which no clause of a public function cites.
-use Rattle.std.specs.Prelude.{◌≡◌, ◌⊎◌, ℕ, ◌+◌, ◌≤◌, ◌<◌, List, [], ◌∷◌, ◌++◌, All, Option, Some, None, Result, Ok, Err, OnOk, IfOk, IfErr}
+use Rattle.std.specs.Prelude.{◌≡◌, ◌≢◌, ◌⊎◌, ℕ, ◌+◌, ◌≤◌, ◌<◌, List, [], ◌∷◌, ◌++◌, All, Option, Some, None, Result, Ok, Err, OnOk, IfOk, IfErr}
 use Rattle.std.specs.Borrow.{GName}
 use Rattle.std.specs.Global.{Vec}
 use Rattle.insar_ports.specs.Calls.{Call, Moves, Takes}
@@ -10,7 +10,8 @@ use Rattle.insar_ports.specs.declared.feed.Buffer.{Ghosts}
 use Rattle.text_lines.specs.declared.fault.LineFault.{LineFault}
 use Rattle.text_lines.specs.declared.fault.LineFault.TheVariants as faults
 use Rattle.text_lines.specs.declared.lines.Lines.{Lines}
-use Rattle.text_lines.specs.declared.lines.LineEnd.TheVariants.{Long, Cut}
+use Rattle.text_lines.specs.declared.lines.LineEnd.{LineEnd}
+use Rattle.text_lines.specs.declared.lines.LineEnd.TheVariants.{Whole}
 use Rattle.text_lines.specs.Forms.{Form}
 use Rattle.text_lines.specs.LineWords.{HasNextCause, IsLineRead, TakesLines, lines_read}
 use Rattle.text_lines.specs.Reading.{HasLineCause}
@@ -63,12 +64,9 @@ both P Q p = P p.0 × Q p.1
 abbrev pub in_turn : {A B : Type 0} → (A → List ℕ) → (B → List ℕ) → A × B → List ℕ
 in_turn f g p = f p.0 ++ g p.1
 
--- why a line was not read whole: it has more bytes than `most`, or the input cuts it, or as the reader of lines says
+-- why a line was not read whole: as the reader of lines says, or it has more bytes than `most`, or the input cuts it
 abbrev pub HasNoLineCause : ℕ → ℕ → Call → LineFault → Type 0
-HasNoLineCause most done c (faults.Line n) = (n ≡ done + 1) × (IsLineRead most [] c Long ⊎ IsLineRead most [] c Cut)
-HasNoLineCause most done c faults.TooLong = HasNextCause c faults.TooLong
-HasNoLineCause most done c faults.ReadFault = HasNextCause c faults.ReadFault
-HasNoLineCause most done c faults.Memory = HasNextCause c faults.Memory
+HasNoLineCause most done c fault = HasNextCause c fault ⊎ ((kept : List ℕ) × (line_end : LineEnd) × ((line_end ≢ Whole) × ((fault ≡ faults.Line (done + 1)) × IsLineRead most kept c line_end)))
 
 -- the next line was read whole, and it is `kept`
 pub record ReadsLine (most : ℕ) (kept : List ℕ) (v w : LinePlace) (result : Result (Unit {0}) LineFault) : Type 0 where

@@ -1,6 +1,7 @@
 ghost use Rattle.raster_model.specs.Limits.{is_raster_size, IsTileSide};
 ghost use Rattle.report_text.specs.Text.{tiles_by};
 ghost use Rattle.std.specs.Prelude.{◌≡◌, IsTrue};
+ghost use Rattle.text_lines.specs.Parsing.{IsWide};
 
 use raster_model::RuleKind;
 
@@ -16,4 +17,5 @@ pub(crate) struct Head {
     pub ghost sized: { IsTrue (is_raster_size width height) },
     pub ghost sides: { IsTileSide side },
     pub ghost counted: { tiles ≡ tiles_by width height side },
+    pub ghost few: { IsWide tiles },
 }

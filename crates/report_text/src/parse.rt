@@ -3,7 +3,7 @@ ghost use Rattle.report_text.specs.Parsing.{AreCosts, IsEditOfWords, IsRevisedOf
 ghost use Rattle.report_text.specs.Contents.{IsEntryOfWords};
 ghost use Rattle.report_text.specs.Parts.{IsRasterSize, MayStand};
 ghost use Rattle.report_text.specs.Text.{costs_line, entry_text, history_line, rule_line, size_line, tile_line};
-ghost use Rattle.std.specs.Prelude.{codes};
+ghost use Rattle.std.specs.Prelude.{◌↔◌, IsTrue, codes};
 ghost use Rattle.text_lines.specs.Parsing.{IsAnyRule, IsParsedAs, behind};
 
 use raster_model::{Edit, MAX_TILE_SIDE, MIN_TILE_SIDE, RuleKind};
@@ -54,11 +54,14 @@ pub(crate) fn side_of(line: &[u8]) -> Option<u32>
     ensures { IsParsedAs IsTileSide tile_line line.now result }
 {
     let side = last_field(line.strip_prefix(TILE)?)?;
-    if MIN_TILE_SIDE <= side && side <= MAX_TILE_SIDE {
-        Some(side)
-    } else {
-        None
-    }
+    if is_tile_side(side) { Some(side) } else { None }
+}
+
+/// Whether a side is from 2 to 128.
+fn is_tile_side(side: u32) -> bool
+    ensures { IsTrue result ↔ IsTileSide side }
+{
+    MIN_TILE_SIDE <= side && side <= MAX_TILE_SIDE
 }
 
 /// The rule of a line `rule RULE`.

@@ -6,7 +6,7 @@ ghost use Rattle.raster_model.specs.Limits.{IsTileSide};
 ghost use Rattle.report_text.specs.Contents.{IsEntryOfWords, IsItemInRange, IsReport, IsReportText, IsSurfaceInRange, report_told, told_after, told_item, told_surface};
 ghost use Rattle.report_text.specs.Fitting.{ItemsFit, MayFit, SurfaceFits};
 ghost use Rattle.report_text.specs.Parsing.{AreCosts, IsListParsedAs};
-ghost use Rattle.report_text.specs.Parts.{AreCertificates, AreFacesBelow, AreFacesOf, AreItems, AreSolved, HasAfterCause, HasMoreCause, IsFrame, IsRasterSize, IsTiling, MayStand, certificates_in, certificates_text, head_frame, frame_text, head_by, items_in, items_text, list_in, lists_in, solved_in, solved_text, tiling_text, values_in};
+ghost use Rattle.report_text.specs.Parts.{AreFacesBelow, AreFacesOf, AreItems, HasAfterCause, HasMoreCause, IsFrame, IsRasterSize, MayStand, head_frame, head_by, items_in, items_text, list_in, lists_in, values_in};
 ghost use Rattle.report_text.specs.Reading.{HasBrokenReportLine, HasReportCause, IsReader, IsReportRead, IsReportRefusedAt};
 ghost use Rattle.report_text.specs.Steps.{Advances, ReadsPart, ReadsLine, Took, between, itself, parsed_at, place_of};
 ghost use Rattle.report_text.specs.Text.{after_text, all_faces_text, costs_line, ended_line, faces_line, flows_line, history_line, report_text, rule_line, size_line, surface_block_text, tile_line};
@@ -31,9 +31,6 @@ use tile_board::Entry;
 
 /// No line but those of numbers has more bytes.
 const LONGEST_LINE: usize = 128;
-
-/// What certifies a surface: the faces of its tiles, and its flows.
-type Certificates = (Vec<Vec<i64>>, Vec<i64>);
 
 /// Reads the next line to its end. One that has more than `most` bytes, or that the input cuts, is refused.
 fn read_line<S: Source>(feed: &mut Feed<S>, lines: &mut Lines, most: usize) -> Result<(), LineFault>
@@ -79,24 +76,14 @@ fn read_rule<S: Source>(feed: &mut Feed<S>, lines: &mut Lines) -> Result<RuleKin
     parsed(lines, rule_of(lines.line()))
 }
 
-/// Reads the lines of the side of tiles and of the rule.
-fn read_tiling<S: Source>(
-    feed: &mut Feed<S>,
-    lines: &mut Lines,
-) -> Result<(u32, RuleKind), LineFault>
-    ensures { ReadsPart itself IsTiling tiling_text (place_of S.left S.faults feed.old lines.old) (place_of S.left S.faults feed.new lines.new) result }
+/// Reads the four lines of the head.
+fn read_head<S: Source>(feed: &mut Feed<S>, lines: &mut Lines) -> Result<Head, LineFault>
+    ensures { ReadsPart head_frame IsFrame head_by (place_of S.left S.faults feed.old lines.old) (place_of S.left S.faults feed.new lines.new) result }
 {
+    expect_line(feed, lines, b"insar-report 1")?;
+    let (width, height) = read_size(feed, lines)?;
     let side = read_side(feed, lines)?;
     let rule = read_rule(feed, lines)?;
-    Ok((side, rule))
-}
-
-/// Reads the lines of the size, the side and the rule.
-fn read_frame<S: Source>(feed: &mut Feed<S>, lines: &mut Lines) -> Result<Head, LineFault>
-    ensures { ReadsPart head_frame IsFrame frame_text (place_of S.left S.faults feed.old lines.old) (place_of S.left S.faults feed.new lines.new) result }
-{
-    let (width, height) = read_size(feed, lines)?;
-    let (side, rule) = read_tiling(feed, lines)?;
     Ok(Head {
         width,
         height,
@@ -104,14 +91,6 @@ fn read_frame<S: Source>(feed: &mut Feed<S>, lines: &mut Lines) -> Result<Head, 
         rule,
         tiles: Tiling::new(width, height, side).tile_count(),
     })
-}
-
-/// Reads the four lines of the head.
-fn read_head<S: Source>(feed: &mut Feed<S>, lines: &mut Lines) -> Result<Head, LineFault>
-    ensures { ReadsPart head_frame IsFrame head_by (place_of S.left S.faults feed.old lines.old) (place_of S.left S.faults feed.new lines.new) result }
-{
-    expect_line(feed, lines, b"insar-report 1")?;
-    read_frame(feed, lines)
 }
 
 /// Reads the line of the costs of a surface: of all tiles, and at the seams.
@@ -199,21 +178,6 @@ fn read_flows<S: Source>(
     parsed(lines, numbers_after(alloc, lines.line(), b"flows")?)
 }
 
-/// Reads the faces of the tiles, and the flows.
-fn read_certificates<S: Source>(
-    alloc: Global,
-    feed: &mut Feed<S>,
-    lines: &mut Lines,
-    head: Head,
-) -> Result<Certificates, LineFault>
-    ensures read { ReadsPart certificates_in (AreCertificates head.tiles) (certificates_text head.tiles) (place_of S.left S.faults feed.old lines.old) (place_of S.left S.faults feed.new lines.new) result }
-    ensures count { IfOk result (λ certificates. vec_len certificates.0 ≡ head.tiles) }
-{
-    let faces = read_faces(alloc, feed, lines, head.tiles)?;
-    let flows = read_flows(alloc, feed, lines)?;
-    Ok((faces, flows))
-}
-
 /// Reads the grid of a surface.
 fn read_grid<S: Source>(
     alloc: Global,
@@ -227,22 +191,6 @@ fn read_grid<S: Source>(
     read_sized_grid(alloc, feed, lines, head.width, head.height)
 }
 
-/// Reads the lines of a surface after those of its costs.
-fn read_solved<S: Source>(
-    alloc: Global,
-    feed: &mut Feed<S>,
-    lines: &mut Lines,
-    head: Head,
-) -> Result<(Grid, Certificates), LineFault>
-    ensures read { ReadsPart solved_in (AreSolved head.width head.height head.tiles) (solved_text head.width head.height head.tiles) (place_of S.left S.faults feed.old lines.old) (place_of S.left S.faults feed.new lines.new) result }
-    ensures size { IfOk result (λ solved. (solved.0.width ≡ head.width) × (solved.0.height ≡ head.height)) }
-    ensures count { IfOk result (λ solved. vec_len solved.1.0 ≡ head.tiles) }
-{
-    let grid = read_grid(alloc, feed, lines, head)?;
-    let certificates = read_certificates(alloc, feed, lines, head)?;
-    Ok((grid, certificates))
-}
-
 /// Reads the lines of a surface.
 fn read_surface<S: Source>(
     alloc: Global,
@@ -254,7 +202,9 @@ fn read_surface<S: Source>(
     ensures fits { IfOk result (SurfaceFits head.width head.height head.tiles) }
 {
     let (tile_cost, seam_cost) = read_costs(feed, lines)?;
-    let (grid, (faces, flows)) = read_solved(alloc, feed, lines, head)?;
+    let grid = read_grid(alloc, feed, lines, head)?;
+    let faces = read_faces(alloc, feed, lines, head.tiles)?;
+    let flows = read_flows(alloc, feed, lines)?;
     Ok(ReportSurface {
         tile_cost,
         seam_cost,

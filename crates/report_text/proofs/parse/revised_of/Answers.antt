@@ -8,12 +8,10 @@ use Rattle.report_text.proofs.parse.revised_of.Goals as goal
 
 pub returns-in_err-analyst : goal.returns-in_err-analyst
 returns-in_err-analyst c =
-    let rest = c.in_ok-strip_prefix.field-0.now in
     let line = stripped c.args.line.now (codes "revised") c.in_ok-strip_prefix.field-0 c.in_ok-strip_prefix.ensures.cases in
-    rw c.from_residual-in_err-analyst.ensures (none_behind IsRevisedOfWords revised_text (codes "revised") c.args.line.now rest line (λ p w e. none_taken IsWord word_wide IsEditOfWords edit_text edit_begins rest c.in_err-analyst.ensures p.0 p.1 w.0 w.1 e))
+    rw c.from_residual-in_err-analyst.ensures (none_behind IsRevisedOfWords revised_text (codes "revised") c.args.line.now _ line (λ p w e. none_taken IsWord word_wide IsEditOfWords edit_text edit_begins _ c.in_err-analyst.ensures p.0 p.1 w.0 w.1 e))
 
 pub returns-in_err-edit_of : goal.returns-in_err-edit_of
 returns-in_err-edit_of c =
-    let rest = c.in_ok-strip_prefix.field-0.now in
     let line = stripped c.args.line.now (codes "revised") c.in_ok-strip_prefix.field-0 c.in_ok-strip_prefix.ensures.cases in
-    rw c.from_residual-in_err-edit_of.ensures (none_behind IsRevisedOfWords revised_text (codes "revised") c.args.line.now rest line (λ p w e. none_after IsWord word_wide IsEditOfWords edit_text edit_begins rest c.in_ok-analyst.analyst c.in_ok-analyst.edit.now c.in_ok-analyst.ensures c.in_err-edit_of.ensures p.0 p.1 w.0 w.1 e))
+    rw c.from_residual-in_err-edit_of.ensures (none_behind IsRevisedOfWords revised_text (codes "revised") c.args.line.now _ line (λ p w e. none_after IsWord word_wide IsEditOfWords edit_text edit_begins _ c.in_ok-analyst.analyst c.in_ok-analyst.edit.now c.in_ok-analyst.ensures c.in_err-edit_of.ensures p.0 p.1 w.0 w.1 e))

@@ -11,14 +11,12 @@ use Rattle.report_text.proofs.parse.shown_of.Goals as goal
 
 pub returns-in_err-analyst : goal.returns-in_err-analyst
 returns-in_err-analyst c =
-    let rest = c.in_ok-strip_prefix.field-0.now in
     let line = stripped c.args.line.now (codes "shown") c.in_ok-strip_prefix.field-0 c.in_ok-strip_prefix.ensures.cases in
-    rw c.from_residual-in_err-analyst.ensures (none_behind IsShownOfWords shown_text (codes "shown") c.args.line.now rest line (λ p w e. none_taken IsWord word_wide MayBeWord revision_text (λ o _. revision_begins o) rest c.in_err-analyst.ensures p.0 p.1 w.0 w.1 e))
+    rw c.from_residual-in_err-analyst.ensures (none_behind IsShownOfWords shown_text (codes "shown") c.args.line.now _ line (λ p w e. none_taken IsWord word_wide MayBeWord revision_text (λ o _. revision_begins o) _ c.in_err-analyst.ensures p.0 p.1 w.0 w.1 e))
 
 pub returns-in_err-last_field : goal.returns-in_err-last_field
 returns-in_err-last_field c =
-    let rest = c.in_ok-strip_prefix.field-0.now in
     let revision = c.in_ok-analyst.revision.now in
     let line = stripped c.args.line.now (codes "shown") c.in_ok-strip_prefix.field-0 c.in_ok-strip_prefix.ensures.cases in
     let none = no_revision revision (is_other revision (codes " none") c.eq.result c.eq.ensures c.if-eq.false) c.in_err-last_field.ensures in
-    rw c.from_residual-in_err-last_field.ensures (none_behind IsShownOfWords shown_text (codes "shown") c.args.line.now rest line (λ p w e. none_after IsWord word_wide MayBeWord revision_text (λ o _. revision_begins o) rest c.in_ok-analyst.analyst revision c.in_ok-analyst.ensures none p.0 p.1 w.0 w.1 e))
+    rw c.from_residual-in_err-last_field.ensures (none_behind IsShownOfWords shown_text (codes "shown") c.args.line.now _ line (λ p w e. none_after IsWord word_wide MayBeWord revision_text (λ o _. revision_begins o) _ c.in_ok-analyst.analyst revision c.in_ok-analyst.ensures none p.0 p.1 w.0 w.1 e))

@@ -1,5 +1,6 @@
 use Rattle.std.proofs.Common.{sym, ◌∙◌}
-use Rattle.report_text.proofs.ReadLemmas.{other_size, size_words}
+use Rattle.report_text.proofs.LineLemmas.{size_words}
+use Rattle.report_text.proofs.ReadLemmas.{other_size}
 use Rattle.report_text.proofs.parse.size_of.Goals as goal
 
 pub returns-in_err-width : goal.returns-in_err-width

@@ -1,15 +1,13 @@
 use Rattle.std.proofs.Common.{◌≡◌, ℕ, ◌++◌, [], ◌∷◌, Option, map, sym, ap, subst, ◌∙◌}
 use Rattle.std.specs.List.{AllByRecursion}
-use Rattle.text_lines.specs.Parsing.{IsWide}
+use Rattle.std.proofs.lemmas.List.{map-append}
 use Rattle.tile_board.specs.declared.entry.Entry.{Entry}
-use Rattle.report_text.specs.Contents.{IsEntryOfWords, IsItemInRange, told_item}
+use Rattle.report_text.specs.Contents.{IsItemInRange, told_item}
 use Rattle.report_text.specs.Fitting.{MayFit}
 use Rattle.report_text.specs.Parts.{AreItems, items_in}
-use Rattle.report_text.specs.Steps.{Took}
-use Rattle.report_text.specs.Text.{ended_line, entry_text, history_line}
-use Rattle.report_text.proofs.ItemForms.{entry_first, items_after, surface_first, texts}
-use Rattle.report_text.proofs.ItemsLemmas.{all_get, item_read, publication_after, texts_push, told_push}
-use Rattle.report_text.proofs.LineFacts.{tiles_small}
+use Rattle.report_text.specs.Text.{ended_line, history_line, item_text}
+use Rattle.report_text.proofs.ItemForms.{entry_first, items_after, publication_after, surface_first, texts}
+use Rattle.report_text.proofs.ItemsLemmas.{all_get, flat_map-push, item_read}
 use Rattle.report_text.proofs.ReadsLemmas.{advances_then, reads_ok, reads_part, reads_starved, reads_within, took, took_is, took_none, took_then}
 use Rattle.report_text.proofs.read.read_items.Goals as goal
 use Rattle.sums_and_lists.proofs.Lists.{all_push}
@@ -26,11 +24,8 @@ loop-items-init g c =
 pub returns-in_err-entry-clause-read : goal.returns-in_err-entry-clause-read
 returns-in_err-entry-clause-read g c =
     let i = c.loop-items.invariant in
-    let w = c.args.head.width in
-    let h = c.args.head.height in
-    let tiles = c.args.head.tiles in
-    let small : IsWide tiles = rw c.args.head.counted (tiles_small w h c.args.head.side c.args.head.sized c.args.head.sides) in
-    reads_within c.from_residual.result c.from_residual.ensures.1 (items_after w h tiles c.args.head.sized small (items_in c.loop-items.items) i.ranges) (entry_first w h tiles c.args.head.sized small) i.took c.in_err-entry.ensures.read
+    let h = c.args.head in
+    reads_within c.from_residual.result c.from_residual.ensures.1 (items_after h.width h.height h.tiles h.sized h.few (items_in c.loop-items.items) i.ranges) (entry_first h.width h.height h.tiles h.sized h.few) i.took c.in_err-entry.ensures.read
 
 pub returns-in_default-clause-fits : goal.returns-in_default-clause-fits
 returns-in_default-clause-fits g c = λ n i e. all_get (λ i. MayFit c.args.head.width c.args.head.height _ i.surface) c.loop-items.items.items (subst (λ (t : ℕ). AllByRecursion (λ i. MayFit c.args.head.width c.args.head.height t i.surface) c.loop-items.items.items) c.args.head.counted c.loop-items.invariant.fits) n i e
@@ -43,17 +38,10 @@ returns-in_default-clause-read g c =
 pub returns-in_err-read_item-clause-read : goal.returns-in_err-read_item-clause-read
 returns-in_err-read_item-clause-read g c =
     let i = c.loop-items.invariant in
-    let w = c.args.head.width in
-    let h = c.args.head.height in
-    let tiles = c.args.head.tiles in
-    let z = c.args.head.sized in
-    let small : IsWide tiles = rw c.args.head.counted (tiles_small w h c.args.head.side z c.args.head.sides) in
-    let e = c.in-Some.entry in
-    let a = c.in_ok-entry.ensures.read in
-    let words : IsEntryOfWords e = rw c.in-Some.is at a.read.0 in
-    let line : Took (texts w h tiles (items_in c.loop-items.items) ++ (entry_text e ++ 10 ∷ [])) _ _ = took_is (took_then i.took (took a)) (ap (λ (o : Option Entry). texts w h tiles (items_in c.loop-items.items) ++ ended_line history_line o) c.in-Some.is) in
+    let h = c.args.head in
+    let a = rw c.in-Some.is at c.in_ok-entry.ensures.read in
     let cause = c.in_err-read_item.ensures.refused in
-    reads_part c.from_residual-in_err-read_item.result c.in_err-read_item.field-0.0 c.from_residual-in_err-read_item.ensures.1 (publication_after w h tiles z small (items_in c.loop-items.items) e i.ranges words cause.0) (surface_first w h tiles z small) line c.in_err-read_item.ensures.advances cause.1
+    reads_part c.from_residual-in_err-read_item.result c.in_err-read_item.field-0.0 c.from_residual-in_err-read_item.ensures.1 (publication_after h.width h.height h.tiles h.sized h.few (items_in c.loop-items.items) c.in-Some.entry i.ranges a.read.0 cause.0) (surface_first h.width h.height h.tiles h.sized h.few) (took_then i.took (took a)) c.in_err-read_item.ensures.advances cause.1
 
 pub returns-in_err-push-clause-read : goal.returns-in_err-push-clause-read
 returns-in_err-push-clause-read g c =
@@ -66,14 +54,13 @@ loop-items-preserved g c =
     let h = c.args.head.height in
     let tiles = c.args.head.tiles in
     let items = items_in c.loop-items.items in
-    let e = c.in-Some.entry in
     let item = c.in_ok-read_item.field-0 in
+    let a = rw c.in-Some.is at c.in_ok-entry.ensures.read in
     let b = c.in_ok-read_item.ensures in
     let pushed = c.in_ok-push.ensures.items in
-    let told : items_in c.push.new.self ≡ items ++ told_item item ∷ [] = ap (λ l. map told_item l) pushed ∙ told_push c.loop-items.items.items item in
-    let line : Took (texts w h tiles items ++ (entry_text e ++ 10 ∷ [])) _ _ = took_is (took_then i.took (took c.in_ok-entry.ensures.read)) (ap (λ (o : Option Entry). texts w h tiles items ++ ended_line history_line o) c.in-Some.is) in
+    let told : items_in c.push.new.self ≡ items ++ told_item item ∷ [] = ap (λ l. map told_item l) pushed ∙ map-append told_item c.loop-items.items.items (item ∷ []) in
     record {
-      took = took_is (took_then line b.read) (item_read w h tiles (texts w h tiles items) e (told_item item) b.entry ∙ sym (texts_push w h tiles items (told_item item)) ∙ ap (texts w h tiles) (sym told));
+      took = took_is (took_then (took_then i.took (took a)) b.read) (item_read w h tiles (texts w h tiles items) c.in-Some.entry (told_item item) b.entry ∙ sym (flat_map-push (item_text w h tiles) items (told_item item)) ∙ ap (texts w h tiles) (sym told));
       fits = subst (AllByRecursion (λ i. MayFit w h tiles i.surface)) (sym pushed) (all_push (λ i. MayFit w h tiles i.surface) c.loop-items.items.items item i.fits b.fits);
       ranges = subst (AreItems w h tiles) (sym told) (all_push (IsItemInRange w h tiles) items (told_item item) i.ranges b.ranges);
     }

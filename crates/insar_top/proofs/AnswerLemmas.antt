@@ -1,8 +1,10 @@
 -- From what a command wrote, or why it was refused, to what its request promises.
-use Rattle.std.proofs.Common.{◌≡◌, ◌≤◌, ℕ, List, refl, arith}
+use Rattle.std.proofs.Common.{◌≡◌, ◌≤◌, ℕ, List, Result, Ok, Err, refl, arith}
 use Rattle.std.specs.Prelude.{IfSome}
 use Rattle.insar_ports.specs.Bytes.{GainsProperPrefix, with_end}
+use Rattle.insar_ports.specs.declared.sink.WriteFault.{WriteFault}
 use Rattle.insar_ports.proofs.CallLemmas.{at_told, if_told}
+use Rattle.text_lines.specs.Adding.{Puts}
 use Rattle.session_script.specs.Sessions.{session_of}
 use Rattle.report_text.specs.Text.{report_text}
 use Rattle.insar_words.specs.declared.request.Request.{Request}
@@ -11,15 +13,20 @@ use Rattle.insar_top.specs.declared.refusal.Refusal.{Refusal}
 use Rattle.insar_top.specs.declared.refusal.Refusal.TheVariants as refusals
 use Rattle.insar_top.specs.Answers.{HasAnswered, HasCutShort, IsAnswerTo, IsDoneStatus, IsInputTo, IsUsedUp, IsWithinInput, input_of}
 use Rattle.insar_top.specs.Causes.{BreaksInput, HasReadCause, HasRefusalCause}
+use Rattle.insar_top.specs.Ends.{EndsBy, end_of_put}
 use Rattle.insar_top.specs.Run.{HasKept, IsUnread, Run}
 
 -- the text answers the request, and nothing is left
 module _ (asked : Request) (r : Run) (status : ℕ) (text : List ℕ) (ready : IfSome (input_of asked r) (λ bytes. IsAnswerTo asked bytes status text × IsUsedUp asked r)) where
-  pub answered : IsDoneStatus asked status → r.held_now ≡ with_end r.held text → HasAnswered asked r status
+  answered : IsDoneStatus asked status → r.held_now ≡ with_end r.held text → HasAnswered asked r status
   answered may e = (may, if_told (input_of asked r) _ (λ bytes t. let k = at_told (input_of asked r) _ bytes t ready in (text, (k.0, (k.1, e)))))
 
-  pub cut_short : GainsProperPrefix r.held text r.held_now → HasCutShort asked r
+  cut_short : GainsProperPrefix r.held text r.held_now → HasCutShort asked r
   cut_short e = if_told (input_of asked r) _ (λ bytes t. let k = at_told (input_of asked r) _ bytes t ready in (status, text, (k.0, e)))
+
+  pub put_ends : (put : Result (Unit {0}) WriteFault) → IsDoneStatus asked status → Puts r.held r.sink_before r.held_now r.sink_after text put → EndsBy (HasAnswered asked r) (HasRefusalCause asked r) (end_of_put put status)
+  put_ends (Ok done) may puts = answered may puts.written
+  put_ends (Err fault) may puts = (puts.fault, cut_short puts.cut)
 
 -- why the input was not read is why the request is refused
 pub read_cause : (asked : Request) (r : Run) (refusal : Refusal) → HasKept r → HasReadCause (BreaksInput asked) (input_of asked r) r.source_before r.source_after refusal → HasRefusalCause asked r refusal

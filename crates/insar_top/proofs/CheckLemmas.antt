@@ -1,10 +1,11 @@
--- A session and then a report: what was read of them, and why they were not.
-use Rattle.std.proofs.Common.{◌≡◌, ℕ, ◌+◌, ◌≤◌, ◌<◌, List, [], ◌∷◌, ◌++◌, length, take, Option, Some, None, inl, inr, ◌⊎◌, refl, sym, ap, subst, ◌∙◌, arith}
+-- A session and then a report: what was read of them, why they were not, and that bytes have one verdict, which is told.
+use Rattle.std.proofs.Common.{◌≡◌, ℕ, ◌+◌, ◌≤◌, ◌<◌, List, [], ◌++◌, length, take, Option, Some, None, inl, inr, ◌⊎◌, refl, sym, ap, subst, ◌∙◌, arith, ◌≢◌}
 use Rattle.std.specs.Prelude.{IfSome}
 use Rattle.std.proofs.lemmas.List.{append-nil, length-append, take_all, take-append-le}
-use Rattle.insar_ports.specs.Bytes.{HasMore, with_front}
+use Rattle.insar_ports.specs.Bytes.{HasMore, with_front, with_end}
 use Rattle.insar_ports.specs.Calls.{Takes}
 use Rattle.insar_ports.proofs.CallLemmas.{at_told, call, if_told, risen_before}
+use Rattle.raster_model.specs.Terms.{ArePlainTerms}
 use Rattle.raster_model.specs.declared.session.Session.{Session}
 use Rattle.raster_model.specs.declared.weights.RuleKind.{RuleKind}
 use Rattle.session_script.specs.declared.session_use.SessionUse.TheVariants.{BeforeReport}
@@ -12,7 +13,7 @@ use Rattle.session_script.specs.declared.fault.SessionFault.{SessionFault}
 use Rattle.session_script.specs.declared.fault.SessionFault.TheVariants as session_faults
 use Rattle.session_script.specs.Causes.{HasSessionCause}
 use Rattle.session_script.specs.Reaching.{Reaches}
-use Rattle.session_script.specs.Sessions.{IsSessionIn, session_of}
+use Rattle.session_script.specs.Sessions.{IsSessionIn, session_of, IsSameSession}
 use Rattle.text_lines.specs.Forms.{Begins, EndsIn}
 use Rattle.report_text.specs.declared.contents.Report.{Report}
 use Rattle.text_lines.specs.declared.fault.LineFault.{LineFault as ReportFault}
@@ -22,15 +23,24 @@ use Rattle.report_text.specs.Reading.{BreaksReportAt, EndsReportIn, HasBrokenRep
 use Rattle.report_text.specs.Text.{report_text}
 use Rattle.report_check.specs.declared.verdict.CheckVerdict.{CheckVerdict}
 use Rattle.report_check.specs.Verdicts.{IsCheckVerdict}
-use Rattle.report_check.specs.declared.verdict.CheckVerdict.TheVariants.{Accepted}
 use Rattle.insar_words.specs.declared.request.Request.TheVariants.{Check}
 use Rattle.insar_words.specs.declared.settings.Settings.{Settings}
-use Rattle.insar_top.specs.Answers.{IsAnswerTo, IsUsedUp}
+use Rattle.insar_top.specs.Answers.{IsAnswerTo, IsUsedUp, HasAnswered}
 use Rattle.insar_top.specs.Causes.{HasReadCause}
-use Rattle.insar_top.specs.Check.{AnswersAreAccepted, AreRead, BreaksBoth, IsJudged, IsReportTooLong, IsStatusOf, most_of_report}
+use Rattle.insar_top.specs.Check.{AnswersAreAccepted, AreRead, BreaksBoth, IsJudged, IsReportTooLong, IsStatusOf, most_of_report, BytesHaveOneVerdict, IsVerdictTold}
 use Rattle.insar_top.specs.Run.{Run}
 use Rattle.insar_top.specs.Refusals.{report_refusal, session_refusal}
 use Rattle.insar_top.specs.VerdictLines.{verdict_line}
+use Rattle.insar_top.proofs.SessionLemmas.{nothing_left}
+use Rattle.pgm_planes.specs.Planes.{PlaneOf, plane_of}
+use Rattle.raster_model.specs.declared.plane.Plane.{Plane}
+use Rattle.session_script.proofs.SessionAgain.{one_session}
+use Rattle.report_text.proofs.SameReports.{reports_unique}
+use Rattle.report_check.specs.declared.verdict.CheckVerdict.TheVariants.{Accepted}
+use Rattle.report_check.specs.Same.{IsSameInput, IsSamePlane}
+use Rattle.report_check.proofs.EqualSessions.{plain_alike}
+use Rattle.report_check.proofs.EqualVerdicts.{verdict_is_of_texts}
+use Rattle.report_check.proofs.UniqueLemmas.{reports_have_one_verdict}
 
 -- ---- the session was not read
 
@@ -41,16 +51,11 @@ session_cause side told at left end limit before after session_faults.Memory h =
 
 -- ---- the session was read, and then the report
 
-nothing_left : (pending : List ℕ) (left : Option (List ℕ)) → with_front pending left ≡ Some [] → left ≡ Some []
-nothing_left pending None e = absurd cc
-nothing_left [] (Some rest) e = e
-nothing_left (b ∷ pending) (Some rest) e = absurd cc
-
 -- what the first call left is what the second was told
 at_mid : (mid : Option (List ℕ)) (rest : List ℕ) (P : List ℕ → Type 0) → mid ≡ Some rest → IfSome mid P → P rest
 at_mid mid rest P e h = subst (λ (o : Option (List ℕ)). IfSome o P) e h
 
-module _ (rule : RuleKind) (side : ℕ) (s : Session) (scene : (s.scene.rule ≡ rule) × (s.scene.tiling.side ≡ side)) where
+module _ (rule : RuleKind) (side : ℕ) (s : Session) (scene : (s.scene.rule ≡ rule) × (s.scene.tiling.side ≡ side)) (terms : ArePlainTerms s.scene.terms) where
   abbrev Spelled : List ℕ → List ℕ → Type 0
   Spelled bytes rest = IsSessionIn BeforeReport side bytes (session_of s) rest
 
@@ -59,7 +64,7 @@ module _ (rule : RuleKind) (side : ℕ) (s : Session) (scene : (s.scene.rule ≡
   both_read (Some bytes) mid again left at passed from end limit limit_2 before middle middle_2 after pending source report l i m r w h t =
       let u = at_mid again h.0 (λ bytes. (text : List ℕ) × (rest : List ℕ) × ((bytes ≡ text ++ rest) × ((left ≡ Some rest) × ((end ≡ from + length text) × ((text ≡ report_text (report_told report)) × (rest ≡ [])))))) (m ∙ h.1.0) t in
       let text : h.0 ≡ report_text (report_told report) = u.2.0 ∙ ap (λ (l : List ℕ). u.0 ++ l) u.2.1.1.1.1 ∙ append-nil u.0 ∙ u.2.1.1.1.0 in (
-        record { spelled = subst (λ (r : List ℕ). Spelled bytes r) text h.1.1.1; rule_is = scene.0; side_is = scene.1; in_range = i; within = subst (λ (t : List ℕ). length t ≤ most_of_report) u.2.1.1.1.0 (omega (arith, r, w, u.2.1.1.0)) },
+        record { spelled = subst (λ (r : List ℕ). Spelled bytes r) text h.1.1.1; rule_is = scene.0; side_is = scene.1; terms_are = terms; in_range = i; within = subst (λ (t : List ℕ). length t ≤ most_of_report) u.2.1.1.1.0 (omega (arith, r, w, u.2.1.1.0)) },
         nothing_left pending source (sym l ∙ u.2.1.0 ∙ ap Some u.2.1.1.1.1),
       )
 
@@ -105,17 +110,12 @@ pub verdict_ready : (settings : Settings) (r : Run) (s : Session) (report : Repo
 verdict_ready settings r s report verdict status read is status_is = if_told r.told _ (λ bytes t.
     let k = at_told r.told _ bytes t read in
     let b = k.0 in
-    let judged : IsJudged settings.rule settings.side bytes verdict = record { session = s; report = report_told report; spelled = b.spelled; rule_is = b.rule_is; side_is = b.side_is; in_range = b.in_range; within = b.within; verdict_is = is } in
+    let judged : IsJudged settings.rule settings.side bytes verdict = record { session = s; report = report_told report; spelled = b.spelled; rule_is = b.rule_is; side_is = b.side_is; terms_are = b.terms_are; in_range = b.in_range; within = b.within; verdict_is = is } in
     (record { verdict = verdict; judged = judged; status_is = status_is; line = refl }, k.1))
 
 pub small_verdict : (verdict : CheckVerdict) (status : ℕ) → IsStatusOf verdict status → status ≤ 1
 small_verdict verdict status (inl e) = omega (arith, e.1)
 small_verdict verdict status (inr e) = omega (arith, e.1)
-
--- some status tells a verdict
-pub some_status : (verdict : CheckVerdict) → (status : ℕ) × IsStatusOf verdict status
-some_status Accepted = (0, inl (refl, refl))
-some_status verdict = (1, inr ((λ e. cc), refl))
 
 pub answers_are_accepted : AnswersAreAccepted
 answers_are_accepted rule side bytes text both answer short spelled =
@@ -125,7 +125,64 @@ answers_are_accepted rule side bytes text both answer short spelled =
       spelled = subst (λ (t : List ℕ). IsSessionIn BeforeReport side both (session_of answer.session) t) answer.written spelled;
       rule_is = answer.given.rule_is;
       side_is = answer.given.side_is;
+      terms_are = answer.given.terms_are;
       in_range = answer.in_range;
       within = subst (λ (t : List ℕ). length t ≤ most_of_report) answer.written short;
       verdict_is = answer.reported.certified;
     }
+
+-- ---- one verdict
+
+same_plane : (p q : Plane) → plane_of p ≡ plane_of q → IsSamePlane p q
+same_plane p q e = record {
+  width = ap (λ (o : PlaneOf). o.width) e;
+  height = ap (λ (o : PlaneOf). o.height) e;
+  maxval = ap (λ (o : PlaneOf). o.maxval) e;
+  samples = ap (λ (o : PlaneOf). o.samples) e;
+}
+
+same_input : (s t : Session) → IsSameSession (session_of s) (session_of t) → s.scene.rule ≡ t.scene.rule → s.scene.tiling.side ≡ t.scene.tiling.side → ArePlainTerms s.scene.terms → ArePlainTerms t.scene.terms → IsSameInput s t
+same_input s t same rule side plain other =
+    let phase = same_plane s.scene.phase t.scene.phase same.phase in
+    record {
+      phase = phase;
+      weights = same_plane s.scene.weights t.scene.weights same.weights;
+      rule = rule;
+      side = side;
+      terms = plain_alike s.scene.terms t.scene.terms plain other;
+      commands = same.scripts;
+      unmasked = λ x y across along. same.mask.clear_at x y (rw (← phase.width) across) (rw (← phase.height) along);
+    }
+
+pub bytes_have_one_verdict : BytesHaveOneVerdict
+bytes_have_one_verdict rule side bytes one other a j =
+    let same = one_session BeforeReport side bytes (session_of a.session) (session_of j.session) (report_text a.report) (report_text j.report) a.spelled j.spelled in
+    let input = same_input a.session j.session same.0 (a.rule_is ∙ sym j.rule_is) (a.side_is ∙ sym j.side_is) a.terms_are j.terms_are in
+    let reports = reports_unique a.report j.report a.in_range j.in_range same.1 in
+    reports_have_one_verdict j.session j.report one other (verdict_is_of_texts a.session j.session a.report j.report one input reports a.verdict_is) j.verdict_is
+
+module _ (settings : Settings) (r : Run) (status : ℕ) (done : status ≤ 1 → HasAnswered (Check settings) r status) where
+  module _ (bytes : List ℕ) (told : r.told ≡ Some bytes) (verdict : CheckVerdict) (judged : IsJudged settings.rule settings.side bytes verdict) where
+    -- the verdict is the one that was answered, and the sink gained its line
+    its : status ≤ 1 → IsStatusOf verdict status × (r.held_now ≡ with_end r.held (verdict_line verdict))
+    its small =
+        let k = at_told r.told _ bytes told (done small).1 in
+        let answer = k.1.0 in
+        let same : answer.verdict ≡ verdict = bytes_have_one_verdict settings.rule settings.side bytes answer.verdict verdict answer.judged judged in (
+          subst (λ (v : CheckVerdict). IsStatusOf v status) same answer.status_is,
+          k.1.1.1 ∙ ap (with_end r.held) (answer.line ∙ ap verdict_line same),
+        )
+
+    at_zero : status ≡ 0 → IsStatusOf verdict status → verdict ≡ Accepted
+    at_zero zero (inl e) = e.0
+    at_zero zero (inr e) = let one = e.1 in absurd (omega (arith, zero, one))
+
+    at_one : status ≡ 1 → IsStatusOf verdict status → verdict ≢ Accepted
+    at_one one (inl e) = let zero = e.1 in absurd (omega (arith, zero, one))
+    at_one one (inr e) = e.0
+
+  pub verdict_told : IfSome r.told (λ bytes. (verdict : CheckVerdict) → IsJudged settings.rule settings.side bytes verdict → IsVerdictTold status r verdict)
+  verdict_told = if_told r.told _ (λ bytes told verdict judged. (
+    (λ zero. at_zero bytes told verdict judged zero (its bytes told verdict judged (omega (arith, zero))).0),
+    ((λ one. at_one bytes told verdict judged one (its bytes told verdict judged (omega (arith, one))).0), (λ small. (its bytes told verdict judged small).1)),
+  ))

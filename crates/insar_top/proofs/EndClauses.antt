@@ -24,17 +24,13 @@ use Rattle.insar_top.specs.Run.{HasKept, IsUnread, Run, SinkFailed, SourceFailed
 use Rattle.insar_top.specs.Unwrap.{IsDone}
 use Rattle.insar_top.proofs.AnswerLemmas.{answer_input, small_status, unread_within}
 use Rattle.insar_top.proofs.BrokenLemmas.{broken_bytes_are_no_input}
-use Rattle.insar_top.proofs.OneVerdict.{verdict_told}
+use Rattle.insar_top.proofs.CheckLemmas.{verdict_told}
 use Rattle.insar_words.proofs.RequestLemmas.{asking_is_request, check_is_request, one_request, refused_or_asking, unwrap_is_request}
 
 -- ---- refusals by their statuses
 
 refused_status : (x : Refusal) → (2 ≤ status_of x) × (status_of x ≤ 6)
-refused_status refusals.Words = (omega arith, omega arith)
-refused_status refusals.Memory = (omega arith, omega arith)
-refused_status refusals.ReadFault = (omega arith, omega arith)
-refused_status refusals.WriteFault = (omega arith, omega arith)
-refused_status x = (omega arith, omega arith)
+refused_status x = grind arith
 
 -- what the status of a refusal says
 record IsTold (asked : Request) (r : Run) (status : ℕ) : Type 0 where
@@ -92,12 +88,10 @@ refused_words words words_faults.Refused cause two = cause
 refused_words words words_faults.Memory cause two = absurd (omega (arith, two))
 
 two_or_four : (fault : WordsFault) → (status_of (words_refusal fault) ≡ 2) ⊎ (status_of (words_refusal fault) ≡ 4)
-two_or_four words_faults.Refused = inl refl
-two_or_four words_faults.Memory = inr refl
+two_or_four fault = grind arith
 
 not_above : (fault : WordsFault) → 5 ≤ status_of (words_refusal fault) → ⊥
-not_above words_faults.Refused five = omega (arith, five)
-not_above words_faults.Memory five = omega (arith, five)
+not_above fault five = grind arith
 
 asks_something : (words : List (Bor Text)) (q : Request) → IsRequest words q → AskSomething words
 asks_something words q is = (asking_is_request words).1 q is

@@ -10,7 +10,7 @@ use Rattle.grid_writer.specs.Grid.{grid_text}
 use Rattle.grid_writer.specs.Grids.{IsGrid}
 use Rattle.grid_writer.specs.Shown.{shown_grid, shown_in, text_of}
 use Rattle.tile_board.specs.declared.entry.Entry.{Entry}
-use Rattle.tile_board.specs.declared.entry.Entry.TheVariants.{Revised, Kept, Published, Settled, Shown}
+use Rattle.tile_board.specs.declared.entry.Entry.TheVariants.{Published}
 use Rattle.tile_board.specs.BoardView.{BoardView}
 use Rattle.tile_board.specs.Boards.{IsBoard}
 use Rattle.tile_board.specs.Histories.{published_in, published_of}
@@ -25,13 +25,10 @@ surfaces_are : (es : List Entry) (ps : List Parts) → map (λ (p : Parts). p.se
 unfolding items_of
 surfaces_are [] [] told = refl
 surfaces_are [] (p ∷ ps) told = absurd (cc)
-surfaces_are (Revised a d ∷ es) ps told = surfaces_are es ps told
-surfaces_are (Kept t r ∷ es) ps told = surfaces_are es ps told
-surfaces_are (Settled a r ∷ es) ps told = surfaces_are es ps told
-surfaces_are (Shown a r ∷ es) ps told = surfaces_are es ps told
 surfaces_are (Published a r ∷ es) [] told = absurd (cc)
 surfaces_are (Published a r ∷ es) (p ∷ ps) told =
     ap (λ (ks : List SurfaceOf). surface_of p ∷ ks) (surfaces_are es ps (let e : map (λ (q : Parts). q.seams.revision) ps ≡ filter_map published_of es = cc in e))
+surfaces_are (e ∷ es) ps told = surfaces_are es ps told
 
 module _ (v : BoardView) (snapshots : List Snapshot) (same : map parts_of snapshots ≡ v.surfaces) (board : IsBoard v) where
   abbrev report : ReportOf
@@ -81,11 +78,8 @@ one_behind s H r None rs ks here best = absurd here
 one_behind s H r (Some k) rs ks here best = (here, best)
 
 behind : (s : Session) (H : List Entry) (e : Entry) (o : Option SurfaceOf) (rs : List ℕ) (ks : List SurfaceOf) → IsCertifiedAfter s H e o → ((a r : ℕ) → e ≡ Published a r → IsBestAt s H r o) → AreBest s H rs ks → AreBest s H (cons_option (published_of e) rs) (cons_option o ks)
-behind s H (Revised a d) o rs ks c here best = none_behind s H o rs ks c best
-behind s H (Kept t r) o rs ks c here best = none_behind s H o rs ks c best
-behind s H (Settled a r) o rs ks c here best = none_behind s H o rs ks c best
-behind s H (Shown a r) o rs ks c here best = none_behind s H o rs ks c best
 behind s H (Published a r) o rs ks c here best = one_behind s H r o rs ks (here a r refl) best
+behind s H e o rs ks c here best = none_behind s H o rs ks c best
 
 -- what a report says of its items
 abbrev AreFine : Session → List Entry → List ItemOf → Type 0

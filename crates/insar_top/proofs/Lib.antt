@@ -3,9 +3,7 @@ pub mod AnswerLemmas
 pub mod UnwrapLemmas
 pub mod CheckLemmas
 pub mod BrokenLemmas
-pub mod OneVerdict
 pub mod BoardLemmas
 pub mod LastSurface
-pub mod SummaryLemmas
 pub mod TrialLemmas
 pub mod EndClauses

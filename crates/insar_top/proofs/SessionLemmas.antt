@@ -4,6 +4,7 @@ use Rattle.std.specs.Prelude.{IfSome}
 use Rattle.insar_ports.specs.Bytes.{with_front}
 use Rattle.raster_model.specs.declared.session.Session.{Session}
 use Rattle.raster_model.specs.declared.weights.RuleKind.{RuleKind}
+use Rattle.raster_model.specs.Terms.{ArePlainTerms}
 use Rattle.insar_ports.specs.Calls.{Call}
 use Rattle.session_script.specs.declared.session_use.SessionUse.TheVariants.{Alone}
 use Rattle.session_script.specs.Reaching.{Reaches}
@@ -12,16 +13,16 @@ use Rattle.insar_top.specs.Run.{ReadsAll}
 use Rattle.insar_top.specs.Unwrap.{IsGiven}
 use Rattle.session_script.proofs.ScriptAgain.{alone_ends}
 
-nothing_left : (pending : List ℕ) (left : Option (List ℕ)) → with_front pending left ≡ Some [] → left ≡ Some []
+pub nothing_left : (pending : List ℕ) (left : Option (List ℕ)) → with_front pending left ≡ Some [] → left ≡ Some []
 nothing_left pending None e = absurd (cc)
 nothing_left [] (Some rest) e = e
 nothing_left (b ∷ pending) (Some rest) e = absurd (cc)
 
-module _ (c : Call) (pending : List ℕ) (left : Option (List ℕ)) (rule : RuleKind) (side : ℕ) (s : Session) (is : c.left ≡ with_front pending left) (scene : (s.scene.rule ≡ rule) × (s.scene.tiling.side ≡ side)) where
+module _ (c : Call) (pending : List ℕ) (left : Option (List ℕ)) (rule : RuleKind) (side : ℕ) (s : Session) (is : c.left ≡ with_front pending left) (scene : (s.scene.rule ≡ rule) × (s.scene.tiling.side ≡ side)) (terms : ArePlainTerms s.scene.terms) where
   given : (bytes rest : List ℕ) → c.left ≡ Some rest → IsSessionIn Alone side bytes (session_of s) rest → IsGiven rule side bytes s × (left ≡ Some [])
   given bytes rest there spelled =
       let end : rest ≡ [] = alone_ends _ _ _ rest spelled.script in (
-        record { spelled = subst (λ (r : List ℕ). IsSessionIn Alone side bytes (session_of s) r) end spelled; rule_is = scene.0; side_is = scene.1 },
+        record { spelled = subst (λ (r : List ℕ). IsSessionIn Alone side bytes (session_of s) r) end spelled; rule_is = scene.0; side_is = scene.1; terms_are = terms },
         nothing_left pending left (sym is ∙ there ∙ ap Some end),
       )
 

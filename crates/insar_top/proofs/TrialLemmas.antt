@@ -1,7 +1,7 @@
--- A trial's session, what is written of it, and that its words determine the text.
-use Rattle.std.proofs.Common.{◌≡◌, ◌∙◌, ℕ, zero, suc, ◌+◌, ◌*◌, ◌/◌, ◌%◌, ◌<◌, Bool, false, true, List, [], ◌∷◌, Some, length, refl, sym, ap, ap₂, subst, arith, true≢false}
-use Rattle.std.specs.Prelude.{ℤ, pos, ◌≤ℤ◌, slice_index}
-use Rattle.std.proofs.lemmas.Bool.Decides.{nat_tests}
+-- A trial's session, what is written of it, that its words determine the text, and the numbers of its summary.
+use Rattle.std.proofs.Common.{◌≡◌, ◌∙◌, ℕ, zero, suc, ◌+◌, ◌*◌, ◌/◌, ◌%◌, ◌<◌, Bool, false, true, List, [], ◌∷◌, Some, length, refl, sym, ap, ap₂, subst, arith, true≢false, ◌==◌, ◌≤◌, of_z, w32}
+use Rattle.std.specs.Prelude.{ℤ, pos, ◌≤ℤ◌, slice_index, not, unsigned_abs}
+use Rattle.std.proofs.lemmas.Bool.Decides.{nat_tests, Decides-eqb, Decides-int_eq, same_from_decides}
 use Rattle.std.proofs.lemmas.Grind.{same_number_lists}
 use Rattle.std.proofs.lemmas.Nat.{div-add-mod', div_below, mod_below}
 use Rattle.pgm_planes.specs.Planes.{PlaneOf}
@@ -20,10 +20,10 @@ use Rattle.raster_model.specs.Sums.{Field}
 use Rattle.tile_board.specs.declared.entry.Entry.{Entry}
 use Rattle.tile_board.specs.LastSettled.{last_settled, settled_revisions}
 use Rattle.tile_board.proofs.OneScript.{newest_settled}
-use Rattle.tile_board.specs.Histories.{IsComplete, IsLegal, newest_of}
+use Rattle.tile_board.specs.Histories.{IsComplete, IsLegal, newest_of, mask_in}
 use Rattle.trial_maker.specs.Trials.{AreTrialScripts, IsTrial}
 use Rattle.report_check.specs.Same.{IsSameInput, IsSamePlane}
-use Rattle.report_check.proofs.EqualSessions.{are_alike}
+use Rattle.report_check.proofs.EqualSessions.{are_alike, plain_alike}
 use Rattle.surface_snapshots.proofs.SameLemmas.{same_tile_cost}
 use Rattle.trial_maker.specs.declared.fault.TrialFault.{TrialFault}
 use Rattle.trial_maker.specs.declared.fault.TrialFault.TheVariants as trial_faults
@@ -35,6 +35,17 @@ use Rattle.insar_top.specs.Run.{HasKept, Run}
 use Rattle.insar_top.specs.Trial.{IsLeastCost, IsLeastInTiles, IsTrialText, TrialsHaveOneText, count_grid, count_row, four_lines, open_pixels_of, residues_of}
 use Rattle.sums_and_lists.specs.Sums.{count_below, one_if}
 use Rattle.sums_and_lists.proofs.SumLemmas.{sum_below-same}
+use Rattle.std.specs.Int.{from_bool}
+use Rattle.std.specs.Ordering.{int_eq}
+use Rattle.std.proofs.lemmas.Int.{ints}
+use Rattle.raster_model.specs.Cells.{face_at}
+use Rattle.raster_model.proofs.TileLeast.{least_in_tile}
+use Rattle.mask_revisions.specs.Edits.{mask_after}
+use Rattle.surface_snapshots.specs.Parts.{Parts, faces_in, open_in, raster_in, surface_in, tile_costs}
+use Rattle.tile_board.specs.Boards.{IsSurfaceOf}
+use Rattle.report_text.proofs.CertifiedLemmas.{surface_is_certified}
+use Rattle.sums_and_lists.proofs.CountLemmas.{count_below-more, count_below-none}
+use Rattle.trial_maker.proofs.DrawLemmas.{is_size}
 
 -- ---- the session
 
@@ -121,6 +132,7 @@ module _ (seed w h side : ℕ) (rule : RuleKind) (s t : Session) (one : IsTrial 
         one.weights other.weights (one.greatest_weight ∙ sym other.greatest_weight);
     rule = one.rule ∙ sym other.rule;
     side = one.tiles ∙ sym other.tiles;
+    terms = plain_alike s.scene.terms t.scene.terms one.terms other.terms;
     commands = one.scripts ∙ sym other.scripts;
     unmasked = λ x y l m. unmasked x y (rw one.size.0 at l) (rw one.size.1 at m);
   }
@@ -175,3 +187,67 @@ trials_have_one_text seed w h side rule text another a b =
     let unmasked : open_pixels_of s ≡ open_pixels_of t = grid_same s.scene.phase.width s.scene.phase.height (open_at s.first_mask) (open_at t.first_mask) clear ∙ ap₂ (λ (width height : ℕ). count_grid width height (open_at t.first_mask)) sizes.0 sizes.1 in
     let cost : a.lines.cost ≡ b.lines.cost = one_cost (raster_of s.scene) (open_at s.first_mask) (open_at t.first_mask) clear a.lines.cost b.lines.cost a.lines.least (subst (λ (r : Raster). IsLeastCost r (open_at t.first_mask) b.lines.cost) (sym raster) b.lines.least) in
     a.lines.spelled ∙ ap₂ (λ (p q : ℕ). four_lines p q (open_pixels_of s) a.lines.cost) pixels residues ∙ ap₂ (four_lines (t.scene.phase.width * t.scene.phase.height) (residues_of (raster_of t.scene))) unmasked cost ∙ sym b.lines.spelled
+
+-- ---- counts
+
+pub byte_is : (b : Bool) → from_bool b ≡ one_if b
+byte_is true = refl
+byte_is false = refl
+
+pub at_most_one : (b : Bool) → one_if b ≤ 1
+at_most_one true = omega arith
+at_most_one false = omega arith
+
+-- a small residue is 0 where its 32 bits are
+pub residue_test : (z : ℤ) → unsigned_abs z ≤ 1 → not (of_z w32 z == 0) ≡ not (int_eq z (pos 0))
+residue_test z small =
+    let bits = Decides-eqb (of_z w32 z) 0 in
+    ap not (same_from_decides (of_z w32 z == 0) (int_eq z (pos 0)) ((λ e. (let none = bits.0 e in omega (arith, ints, none, small))), (λ e. bits.1 (ap (of_z w32) e))) (Decides-int_eq z (pos 0)))
+
+-- by these loops that count are proved
+pub ruleset counting = (count_below-none, count_below-more, byte_is, at_most_one, residue_test, is_size)
+
+-- ---- the least cost
+
+same_between : (a b : ℤ) → a ≤ℤ b → b ≤ℤ a → a ≡ b
+same_between a b l g = omega (arith, ints, l, g)
+
+one_least : (r : Raster) (mask : Field Bool) (S other : Field ℤ) → IsLeastInTiles r mask S → IsLeastInTiles r mask other → tiles_cost r mask other ≡ tiles_cost r mask S
+one_least r mask S other here there =
+    sum_below-same r.tile_count (λ t. tile_cost r mask t other) (λ t. tile_cost r mask t S)
+    (λ t l. same_between (tile_cost r mask t other) (tile_cost r mask t S) (there.least t l S here.congruent) (here.least t l other there.congruent))
+
+costs_are : (r : Raster) (mask : Field Bool) (S : Field ℤ) → tile_costs r mask S ≡ tiles_cost r mask S
+unfolding tile_costs
+costs_are r mask S = refl
+
+first_is : (s : Session) (H : List Entry) → mask_in s H 0 ≡ open_at s.first_mask
+unfolding mask_after
+first_is s H = refl
+
+module _ (s : Session) (H : List Entry) (p : Parts) (is : IsSurfaceOf s H p) (first : p.seams.revision ≡ 0) where
+  abbrev r : Raster
+  r = raster_of s.scene
+
+  abbrev mask : Field Bool
+  mask = mask_in s H p.seams.revision
+
+  is_least : IsLeastInTiles r mask (surface_in p)
+  is_least =
+      let certified = surface_is_certified s H p is in
+      record {
+        congruent = certified.congruent;
+        least = λ t l. least_in_tile r mask (surface_in p) t (face_at r t (faces_in p t)) (certified.tiles t l).1;
+      }
+
+  cost_there : (cost : ℕ) → pos cost ≡ tile_costs (raster_in p) (open_in p) (surface_in p) → pos cost ≡ tiles_cost r mask (surface_in p)
+  cost_there cost e = ap (λ (z : ℤ). pos (unsigned_abs z)) e ∙ (surface_is_certified s H p is).tile_cost ∙ costs_are r mask (surface_in p)
+
+  pub least_cost : (cost : ℕ) → pos cost ≡ tile_costs (raster_in p) (open_in p) (surface_in p) → IsLeastCost r (open_at s.first_mask) cost
+  least_cost cost e =
+      let there : mask ≡ open_at s.first_mask = ap (mask_in s H) first ∙ first_is s H in
+      subst (λ (m : Field Bool). IsLeastCost r m cost) there (record {
+        surface = surface_in p;
+        is_least = is_least;
+        of_each = λ S least. one_least r mask (surface_in p) S is_least least ∙ sym (cost_there cost e);
+      })

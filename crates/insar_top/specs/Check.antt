@@ -1,6 +1,7 @@
 -- What `check` reads, which is a session and then a report, and what it answers.
 use Rattle.std.specs.Prelude.{◌≡◌, ◌≢◌, ◌⊎◌, ℕ, ◌<◌, ◌≤◌, List, length, take, Option}
 use Rattle.insar_ports.specs.Bytes.{with_end}
+use Rattle.raster_model.specs.Terms.{ArePlainTerms}
 use Rattle.raster_model.specs.declared.session.Session.{Session}
 use Rattle.raster_model.specs.declared.weights.RuleKind.{RuleKind}
 use Rattle.raster_model.specs.Limits.{max_report_bytes}
@@ -51,6 +52,7 @@ pub record IsJudged (rule : RuleKind) (side : ℕ) (bytes : List ℕ) (verdict :
   pub spelled : IsSessionIn BeforeReport side bytes (session_of session) (report_text report)
   pub rule_is : session.scene.rule ≡ rule
   pub side_is : session.scene.tiling.side ≡ side
+  pub terms_are : ArePlainTerms session.scene.terms
   pub in_range : IsReport report
   pub within : length (report_text report) ≤ most_of_report
   pub verdict_is : IsCheckVerdict session report verdict
@@ -83,6 +85,7 @@ pub record IsBoth (rule : RuleKind) (side : ℕ) (bytes : List ℕ) (session : S
   pub spelled : IsSessionIn BeforeReport side bytes (session_of session) (report_text (report_told report))
   pub rule_is : session.scene.rule ≡ rule
   pub side_is : session.scene.tiling.side ≡ side
+  pub terms_are : ArePlainTerms session.scene.terms
   pub in_range : IsReport (report_told report)
   pub within : length (report_text (report_told report)) ≤ most_of_report
 

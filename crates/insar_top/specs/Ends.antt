@@ -2,7 +2,9 @@
 use Rattle.std.specs.Prelude.{◌≡◌, ◌≤◌, ◌⊎◌, ℕ, List, [], Result, Ok, Err}
 use Rattle.std.specs.Borrow.{Bor}
 use Rattle.clap.specs.Words.{Text}
+use Rattle.insar_ports.specs.declared.sink.WriteFault.{WriteFault}
 use Rattle.insar_top.specs.declared.refusal.Refusal.{Refusal}
+use Rattle.insar_top.specs.declared.refusal.Refusal.TheVariants as refusals
 use Rattle.insar_words.specs.declared.request.Request.{Request}
 use Rattle.insar_words.specs.declared.fault.WordsFault.{WordsFault}
 use Rattle.insar_top.specs.Answers.{HasAnswered, IsWithinInput}
@@ -20,6 +22,11 @@ EndsBy Done HasCause (Err refusal) = HasCause refusal
 -- how a request ends
 abbrev pub IsRequestEnd : Request → Run → Result ℕ Refusal → Type 0
 IsRequestEnd asked r end = IsWithinInput asked r × EndsBy (HasAnswered asked r) (HasRefusalCause asked r) end
+
+-- how a request ends whose text was put
+abbrev pub end_of_put : Result (Unit {0}) WriteFault → ℕ → Result ℕ Refusal
+end_of_put (Ok put) status = Ok status
+end_of_put (Err fault) status = Err refusals.WriteFault
 
 -- how the program ends: the words are not read, and nothing was taken or put; or what they ask for ends
 pub data IsProgramEnd (words : List (Bor Text)) (r : Run) (end : Result ℕ Refusal) : Type 0 where

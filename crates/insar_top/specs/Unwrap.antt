@@ -7,6 +7,7 @@ use Rattle.raster_model.specs.declared.weights.RuleKind.{RuleKind}
 use Rattle.session_script.specs.declared.session_use.SessionUse.TheVariants.{Alone}
 use Rattle.session_script.specs.Sessions.{HasFault, IsSessionIn, SessionOf, session_of}
 use Rattle.report_text.specs.Certified.{IsCertifiedReport, SurfacesAreBest, history_of}
+use Rattle.raster_model.specs.Terms.{ArePlainTerms}
 use Rattle.report_text.specs.Contents.{IsReport}
 use Rattle.report_text.specs.Reports.{ReportOf}
 use Rattle.report_text.specs.Text.{report_text}
@@ -22,11 +23,12 @@ IsInput side bytes s = IsSessionIn Alone side bytes s []
 abbrev pub IsSomeInput : ℕ → List ℕ → Type 0
 IsSomeInput side bytes = (s : SessionOf) × IsInput side bytes s
 
--- they are the text of this session, by a rule of weights and a side of tiles
+-- they are the text of this session, by a rule of weights, a side of tiles and the plain terms
 pub record IsGiven (rule : RuleKind) (side : ℕ) (bytes : List ℕ) (s : Session) : Type 0 where
   pub spelled : IsInput side bytes (session_of s)
   pub rule_is : s.scene.rule ≡ rule
   pub side_is : s.scene.tiling.side ≡ side
+  pub terms_are : ArePlainTerms s.scene.terms
 
 -- the bytes have this fault as a session that stands alone, in tiles of this side
 abbrev pub HasInputFault : ℕ → List ℕ → InputFault → Type 0

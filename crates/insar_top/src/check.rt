@@ -10,7 +10,7 @@ ghost use Rattle.std.specs.Prelude.{◌≡◌, IfErr, IfOk};
 mod verdict;
 
 use crate::check::verdict::put_verdict;
-use crate::refusal::Refusal;
+use crate::refusal::{Refusal, end_of};
 use insar_ports::{Feed, Sink, Source};
 use insar_words::Settings;
 use raster_model::{MAX_REPORT_BYTES, MAX_SESSION_BYTES, Session};
@@ -31,8 +31,7 @@ pub fn run_check<S: Source, K: Sink>(
 {
     let (session, report) = read_both(alloc, source, settings)?;
     let verdict = check_report(alloc, &session, &report)?;
-    put_verdict(sink, verdict)?;
-    Ok(status_of(verdict))
+    end_of(put_verdict(sink, verdict), status_of(verdict))
 }
 
 /// The exit status of a verdict.

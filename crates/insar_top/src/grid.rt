@@ -7,7 +7,7 @@ ghost use Rattle.report_text.specs.Reports.{report_of};
 ghost use Rattle.text_lines.specs.Adding.{Puts};
 ghost use Rattle.tile_board.specs.Histories.{IsComplete};
 
-use crate::refusal::Refusal;
+use crate::refusal::{Refusal, end_of};
 use crate::session::solved;
 use grid_writer::write_grid;
 use insar_ports::{Sink, Source, WriteFault};
@@ -31,11 +31,11 @@ pub fn run_grid<R: Threads + Wait + Sync, S: Source, K: Sink, G: Gate>(
     ensures { IsRequestEnd (requests.Grid settings) (run_of S.left S.faults source.old source.new K.held K.faults sink.old sink.new) result }
 {
     let board = solved(rt, alloc, settings, source, gate)?;
-    write_last_grid(&board, sink)?;
-    Ok(0)
+    end_of(write_last_grid(&board, sink), 0)
 }
 
 /// Writes the grid of the newest published surface, if there is one.
+#[tactic(auto, using(report_text::proofs::CertifiedLemmas::board_is_certified))]
 fn write_last_grid<K: Sink>(board: &Board, sink: &mut K) -> Result<(), WriteFault>
     ensures put { Puts (K.held sink.old) (K.faults sink.old) (K.held sink.new) (K.faults sink.new) (last_grid (report_of board.now.session board.now.entries board.now.surfaces)) result }
     ensures ranges { IsSurfaceGrid board.now.session.scene.phase.width board.now.session.scene.phase.height (last_surface (report_of board.now.session board.now.entries board.now.surfaces)) }

@@ -1,5 +1,6 @@
 ghost use Rattle.std.specs.Prelude.{◌≡◌};
 ghost use Rattle.insar_top.specs.declared.refusal.Refusal.TheVariants as refusals;
+ghost use Rattle.insar_top.specs.Ends.{end_of_put};
 ghost use Rattle.insar_top.specs.Refusals.{report_refusal, session_refusal, status_of, trial_refusal, words_refusal};
 
 use insar_ports::WriteFault;
@@ -41,6 +42,16 @@ impl Refusal {
             Refusal::ReadFault => 5,
             Refusal::WriteFault => 6,
         }
+    }
+}
+
+/// How a request ends whose text was put: with this status, unless there was a fault.
+pub fn end_of(put: Result<(), WriteFault>, status: u8) -> Result<u8, Refusal>
+    ensures { result ≡ end_of_put put status }
+{
+    match put {
+        Ok(()) => Ok(status),
+        Err(_) => Err(Refusal::WriteFault),
     }
 }
 

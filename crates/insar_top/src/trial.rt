@@ -6,7 +6,7 @@ ghost use Rattle.std.specs.Prelude.{ℕ, List, Option};
 mod summary;
 
 use crate::board::finished;
-use crate::refusal::Refusal;
+use crate::refusal::{Refusal, end_of};
 use crate::trial::summary::{put_summary, summary_of};
 use insar_ports::Sink;
 use insar_words::Trial;
@@ -38,6 +38,5 @@ pub fn run_trial<R: Threads + Wait + Sync, K: Sink, G: Gate>(
         settings.rule,
     )?;
     let board = finished(rt, alloc, session, settings.workers, gate)?;
-    put_summary(sink, summary_of(&board))?;
-    Ok(0)
+    end_of(put_summary(sink, summary_of(&board)), 0)
 }

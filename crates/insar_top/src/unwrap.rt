@@ -2,7 +2,7 @@ ghost use Rattle.insar_top.specs.Ends.{IsRequestEnd};
 ghost use Rattle.insar_top.specs.Run.{run_of};
 ghost use Rattle.insar_words.specs.declared.request.Request.TheVariants as requests;
 
-use crate::refusal::Refusal;
+use crate::refusal::{Refusal, end_of};
 use crate::session::solved;
 use insar_ports::{Sink, Source};
 use insar_words::Settings;
@@ -24,6 +24,5 @@ pub fn run_unwrap<R: Threads + Wait + Sync, S: Source, K: Sink, G: Gate>(
     ensures { IsRequestEnd (requests.Unwrap settings) (run_of S.left S.faults source.old source.new K.held K.faults sink.old sink.new) result }
 {
     let board = solved(rt, alloc, settings, source, gate)?;
-    write_report(&board, sink)?;
-    Ok(0)
+    end_of(write_report(&board, sink), 0)
 }

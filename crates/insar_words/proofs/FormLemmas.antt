@@ -1,250 +1,365 @@
--- What clap makes of a command of the table, and what its arguments have where the words are taken.
-use Rattle.std.proofs.Common.{◌≡◌, ◌∙◌, ◌&&◌, ◌||◌, ◌+◌, ℕ, Bool, cond, true, false, not, suc, refl, sym, ap, subst, inl, inr, true≢false, List, [], ◌∷◌, ◌++◌, map, Option, Some, None, pos, is_some, min}
-use Rattle.std.specs.Prelude.{⊤}
-use Rattle.std.specs.List.{fold, list_all, list_any}
+-- What the table promises of each command as clap builds it, what its arguments have where the words are taken, and which words are its own.
+use Rattle.std.proofs.Common.{◌≡◌, ◌∙◌, ◌&&◌, ◌+◌, ℕ, Bool, cond, true, false, not, suc, refl, sym, ap, ap₂, subst, inl, inr, List, [], ◌∷◌, ◌++◌, Option, Some, None, is_some, min, codes, ◌||◌, ◌⊎◌, zero, arith, map}
+use Rattle.std.specs.Prelude.{⊤, decimal, option_and_then, option_map, slice_get, unwrap_or}
+use Rattle.std.specs.Fmt.{digits}
+use Rattle.std.specs.List.{list_any, find, fold}
 use Rattle.std.specs.Option.{option_map_or}
 use Rattle.std.specs.Str.{bytes_eq}
+use Rattle.std.proofs.lemmas.Bool.{or_parts}
 use Rattle.std.proofs.lemmas.Slice.Eq.{bytes_eq-Decides}
-use Rattle.clap.specs.Facts.{parser_of_value}
-use Rattle.clap.specs.Faults.{level_fault}
+use Rattle.clap.specs.Facts.{explicit_source, parser_of_value, unwrap_or_range}
+use Rattle.clap.specs.Faults.{given_default_fault, check_fault, defaults_fault, entered_fault, fault_of, flags_fault, level_fault, long_fault, other_fault, settle_fault, short_fault, step_fault, turn_fault, walk_fault}
 use Rattle.clap.specs.Lexer.{long_of, usize_max}
-use Rattle.clap.specs.Simple.{Shape, filled, filled_from, help_rule, index_after, new_shape, with_index}
+use Rattle.clap.specs.Simple.{help_rule, App, built, entered, filled, names_of, subcommand_of, with_index}
 use Rattle.clap.specs.Takes.{is_given}
 use Rattle.clap.specs.Values.{read_as, reading_of}
 use Rattle.clap.specs.ValueTests.{accepts}
-use Rattle.clap.specs.Walk.{Row, Rule, Text, arg_by_id, arg_by_index, nothing_held, one_of, rows_after}
-use Rattle.clap.specs.declared.builder.value_parser.ValueParser.{ValueParser}
-use Rattle.clap.specs.declared.builder.value_parser.ValueParser.TheVariants as vp
+use Rattle.clap.specs.Walk.{Row, Rule, Text, action_of, arg_by_id, arg_by_index, arg_by_long, first_of, is_empty, is_multiple, most_values, nothing_held, one_of, row_text, settled, walk, Held, Names, Step, Walk, after_flag, answers_to, arg_by_short, bundle_met, finished, idle, plain, subcommand_met, subcommand_or_other, value, walk_from, walked}
+use Rattle.clap.specs.declared.builder.ArgAction.TheVariants.{Set}
+use Rattle.clap.specs.declared.builder.value_parser.Reading.{Reading}
 use Rattle.clap.specs.declared.error.kind.ErrorKind.TheVariants as kind
-use Rattle.clap.specs.declared.parser.matches.ValueSource.TheVariants.{DefaultValue}
 use Rattle.clap.proofs.ValueTestLemmas.{accepts-Accepts}
-use Rattle.clap.proofs.WalkLemmas.{both}
-use Rattle.insar_words.specs.Forms.{Argument, CommandForm, OfOne, Taking, Value, any_number, arguments_of, check_form, fits, forms, grid_form, names, numbers, trial_form, unwrap_form, word_of}
+use Rattle.insar_words.specs.Asked.{asks_by_names, has_names}
+use Rattle.insar_words.specs.Forms.{Argument, CommandForm, Each, OfOne, Taking, Value, any_number, arguments_of, fits, forms, names, numbers, word_of}
 use Rattle.insar_words.specs.PlainForms.{option_named}
-use Rattle.insar_words.specs.Stated.{argument_rule, option_rule, positional_rule}
+use Rattle.insar_words.specs.Stated.{default_texts, stated}
 use Rattle.insar_words.specs.Values.{HasValue, HasValues}
-use Rattle.insar_words.proofs.TakenLemmas.{AreFit, HasGoodDefault, ReadsOnce, Value as Held_value, default_row, default_there, given_there, level_checked, level_good, not_nil, row_after, row_at, row_with, some_same, some≢none, value_there}
-use Rattle.insar_words.proofs.ValueLemmas.{is_readable, not_true, number_in, parser_in, value_accepted}
-
--- ---- a command as it is built
-
--- its arguments, and the call for help
-abbrev pub rules_with_help : List Argument → List Argument → List Rule
-rules_with_help positionals options = (map positional_rule positionals ++ map option_rule options) ++ help_rule ∷ []
-
-abbrev pub whole : CommandForm → List Rule
-whole form = filled_from 1 (rules_with_help form.positionals form.options)
-
-abbrev pub leaf : CommandForm → Shape
-leaf form = record (new_shape form.command) { rules = whole form; no_binary_name = true; disable_help_subcommand = true; is_built = true }
-
-abbrev pub leaf_rows : CommandForm → List Text → List Row
-leaf_rows form words = rows_after (whole form) [] words
-
-abbrev pub IsLeafTaken : CommandForm → List Text → Type 0
-IsLeafTaken form words = level_fault (leaf form) [] nothing_held words false [] ≡ []
+use Rattle.insar_words.proofs.TakenLemmas.{IsFit, IsGood, IsLeafTaken, default_from, found_each, leaf_rows, level_checked, level_good, row_at, stays, whole, leaf, neither, not_nil}
+use Rattle.insar_words.proofs.ValueLemmas.{IsReadable, number_in, parser_in}
+use Rattle.clap.specs.Kinds.{Kinds, or_else}
+use Rattle.clap.proofs.OnLiterals.{clap_on_literals}
+use Rattle.clap.proofs.FaultLemmas.{stopped_fault}
+use Rattle.clap.proofs.WalkLemmas.{walk_stopped}
 
 -- ---- what the table promises
 
--- no two arguments have one name
-abbrev pub are_apart : List Rule → Bool
-are_apart [] = true
-are_apart (a ∷ rest) = list_all (λ b. not (bytes_eq a.id b.id)) rest && are_apart rest
+-- the rule that clap has for an argument
+abbrev pub rule_for : List Rule → Argument → Rule
+rule_for c a = unwrap_or (arg_by_id c a.id) help_rule
 
--- an argument's default is what it takes
-abbrev pub is_sound_argument : Argument → Bool
-is_sound_argument a = is_readable a.takes && option_map_or (fits a.takes) a.default true
+-- it takes one value, by the argument's parser and with its default
+pub record Owns (c : List Rule) (a : Argument) : Type 0 where
+  pub found : arg_by_id c a.id ≡ Some (rule_for c a)
+  pub named : (rule_for c a).id ≡ a.id
+  pub parser : parser_of_value (rule_for c a).parser ≡ parser_in a.takes
+  pub exact : (rule_for c a).ignore_case ≡ false
+  pub defaults : (rule_for c a).defaults ≡ default_texts a.default
+  pub sets : action_of (rule_for c a) ≡ Set
+  pub least : (unwrap_or_range (rule_for c a).range).start_inclusive ≡ 1
+  pub most : most_values (rule_for c a) ≡ 1
+  pub single : is_multiple (rule_for c a) ≡ false
+  pub closed : (rule_for c a).trailing_var_arg ≡ false
+  pub readable : IsReadable a.takes
+  pub default_fits : option_map_or (fits a.takes) a.default true ≡ true
 
--- clap reads `--name` as this name
-abbrev pub is_long_name : Text → Bool
-is_long_name id = not (bytes_eq (45 ∷ 45 ∷ id) (45 ∷ 45 ∷ [])) && option_map_or (λ p. not (is_some p.1) && bytes_eq p.0 id) (long_of (45 ∷ 45 ∷ id)) false
+-- it is an option, of which clap reads `--name`
+pub record IsOption (form : CommandForm) (a : Argument) : Type 0 where
+  pub owned : Owns (whole form) a
+  pub first : option_named form.options a.id ≡ Some a
+  pub no_dashes : bytes_eq (45 ∷ 45 ∷ a.id) (45 ∷ 45 ∷ []) ≡ false
+  pub long : long_of (45 ∷ 45 ∷ a.id) ≡ Some (a.id, None)
+  pub found : arg_by_long (whole form) a.id ≡ Some (rule_for (whole form) a)
 
 -- the positionals stand at their places
 abbrev pub ArePlaced : List Rule → ℕ → List Argument → Type 0
 ArePlaced c i [] = ⊤
-ArePlaced c i (p ∷ rest) = ((arg_by_index c i ≡ Some (with_index i (filled (positional_rule p)))) × (min (i + 1) usize_max ≡ suc i)) × ArePlaced c (suc i) rest
+ArePlaced c i (p ∷ rest) = ((arg_by_index c i ≡ Some (rule_for c p)) × (min (i + 1) usize_max ≡ suc i)) × ArePlaced c (suc i) rest
+
+-- and have names of their own
+abbrev pub AreApart : List Argument → List Argument → Type 0
+AreApart [] options = ⊤
+AreApart (p ∷ rest) options = Each (λ a. bytes_eq p.id a.id ≡ false) (rest ++ options) × AreApart rest options
+
+-- an argument without a default has to be given
+abbrev pub lacks : (Text → Bool) → Argument → Bool
+lacks given a = not (is_some a.default) && not (given a.id)
 
 pub record IsSound (form : CommandForm) : Type 0 where
-  pub apart : are_apart (rules_with_help form.positionals form.options) ≡ true
-  pub takes : list_all is_sound_argument form.positionals ≡ true
-  pub sets : list_all is_sound_argument form.options ≡ true
-  pub longs : list_all (λ a. is_long_name a.id) form.options ≡ true
+  pub fit : Each (IsFit (whole form)) (whole form)
+  pub owns : Each (Owns (whole form)) (arguments_of form)
+  pub options : Each (IsOption form) form.options
   pub placed : ArePlaced (whole form) 1 form.positionals
+  pub apart : AreApart form.positionals form.options
+  pub fine : Each (λ r. cond (is_empty r.defaults) [] (given_default_fault r r.defaults) ≡ []) (whole form)
+  pub asks : (given : Text → Bool) → list_any (λ r. r.required && not (given r.id)) (whole form) ≡ list_any (lacks given) (arguments_of form)
+  pub names : (rows : List Row) → asks_by_names (Some (form.command, rows)) ≡ (has_names rows form && true)
 
 -- what holds of each form holds of one of them
-pub each_form : (P : CommandForm → Type 0) → P unwrap_form → P grid_form → P check_form → P trial_form → (form : CommandForm) → OfOne (λ each. form ≡ each) forms → P form
-each_form P u g k t form (inl e) = subst P (sym e) u
-each_form P u g k t form (inr (inl e)) = subst P (sym e) g
-each_form P u g k t form (inr (inr (inl e))) = subst P (sym e) k
-each_form P u g k t form (inr (inr (inr (inl e)))) = subst P (sym e) t
-each_form P u g k t form (inr (inr (inr (inr e)))) = absurd e
+pub each_form : (P : CommandForm → Type 0) (fs : List CommandForm) → Each P fs → (form : CommandForm) → OfOne (λ each. form ≡ each) fs → P form
+each_form P [] each form among = absurd among
+each_form P (f ∷ fs) each form (inl e) = subst P (sym e) each.0
+each_form P (f ∷ fs) each form (inr among) = each_form P fs each.1 form among
+
+all_sound : Each IsSound forms
+unfolding digits
+all_sound = assumption
 
 pub sound : (form : CommandForm) → OfOne (λ each. form ≡ each) forms → IsSound form
-sound = each_form IsSound
-    (record { apart = refl; takes = refl; sets = refl; longs = refl; placed = tt })
-    (record { apart = refl; takes = refl; sets = refl; longs = refl; placed = tt })
-    (record { apart = refl; takes = refl; sets = refl; longs = refl; placed = tt })
-    (record { apart = refl; takes = refl; sets = refl; longs = refl; placed = ((refl, refl), ((refl, refl), ((refl, refl), tt))) })
+sound = each_form IsSound forms all_sound
 
--- ---- arguments by their names
+-- the texts of default numbers
+pub default_side : decimal 64 ≡ codes "64"
+unfolding digits
+default_side = refl
 
-pub same_bytes : (t : Text) → bytes_eq t t ≡ true
-same_bytes t = (bytes_eq-Decides t t).1 refl
+pub default_crew : decimal 2 ≡ codes "2"
+unfolding digits
+default_crew = refl
 
--- each is the first of its name in c
-abbrev pub Own : List Rule → List Rule → Type 0
-Own c [] = ⊤
-Own c (a ∷ rest) = (arg_by_id c a.id ≡ Some a) × Own c rest
-
-own_more : (x : Rule) (c : List Rule) (i : ℕ) (xs : List Rule) → list_all (λ b. not (bytes_eq x.id b.id)) xs ≡ true → Own c (filled_from i xs) → Own (x ∷ c) (filled_from i xs)
-own_more x c i [] h own = tt
-own_more x c i (b ∷ xs) h own = (
-  ap (λ (t : Bool). cond t (Some x) (arg_by_id c b.id)) (not_true (bytes_eq x.id b.id) (both _ _ h).0) ∙ own.0,
-  own_more x c (index_after i b) xs (both _ _ h).1 own.1,
-)
-
-own_all : (i : ℕ) (xs : List Rule) → are_apart xs ≡ true → Own (filled_from i xs) (filled_from i xs)
-own_all i [] h = tt
-own_all i (x ∷ xs) h = (
-  ap (λ (t : Bool). cond t (Some (with_index i (filled x))) (arg_by_id (filled_from (index_after i x) xs) x.id)) (same_bytes x.id),
-  own_more (with_index i (filled x)) (filled_from (index_after i x) xs) (index_after i x) xs (both _ _ h).0 (own_all (index_after i x) xs (both _ _ h).1),
-)
-
--- an argument of a list by its name
-pub found_id : (all : List Argument) (id : Text) (a : Argument) → option_named all id ≡ Some a → a.id ≡ id
-found_id [] id a e = absurd (some≢none a (sym e))
-found_id (x ∷ all) id a e = go (bytes_eq x.id id) refl e (found_id all id a)
-  where
-    go : (b : Bool) → bytes_eq x.id id ≡ b → cond b (Some x) (option_named all id) ≡ Some a → (option_named all id ≡ Some a → a.id ≡ id) → a.id ≡ id
-    go true same h rest = ap (λ (y : Argument). y.id) (sym (some_same x a h)) ∙ (bytes_eq-Decides x.id id).0 same
-    go false same h rest = rest h
-
--- what each passes, one that is found passes
-pub found_passes : (p : Argument → Bool) (all : List Argument) (id : Text) (a : Argument) → list_all p all ≡ true → option_named all id ≡ Some a → p a ≡ true
-found_passes p [] id a every e = absurd (some≢none a (sym e))
-found_passes p (x ∷ all) id a every e = go (bytes_eq x.id id) e (found_passes p all id a (both _ _ every).1)
-  where
-    go : (b : Bool) → cond b (Some x) (option_named all id) ≡ Some a → (option_named all id ≡ Some a → p a ≡ true) → p a ≡ true
-    go true h rest = subst (λ (y : Argument). p y ≡ true) (some_same x a h) (both _ _ every).0
-    go false h rest = rest h
-
--- ---- what the arguments need of clap
-
-good_default : (long : Option Text) (i : ℕ) (id : Text) (taking : Taking) (d : Option Value) → (is_readable taking && option_map_or (fits taking) d true) ≡ true
-    → HasGoodDefault (with_index i (filled (argument_rule long (record { id = id; takes = taking; default = d })))) (with_index i (filled (argument_rule long (record { id = id; takes = taking; default = d })))).defaults
-good_default None i id taking None h = tt
-good_default (Some name) i id taking None h = tt
-good_default None i id taking (Some v) h = value_accepted taking v (both _ _ h).0 (both _ _ h).1
-good_default (Some name) i id taking (Some v) h = value_accepted taking v (both _ _ h).0 (both _ _ h).1
-
-pub reads_once : (long : Option Text) (i : ℕ) (a : Argument) → ReadsOnce (with_index i (filled (argument_rule long a)))
-reads_once None i a = (refl, refl, refl)
-reads_once (Some name) i a = (refl, refl, refl)
-
-fit_options : (c : List Rule) (i : ℕ) (options : List Argument) → list_all is_sound_argument options ≡ true → Own c (filled_from i (rules_with_help [] options)) → AreFit c (filled_from i (rules_with_help [] options))
-fit_options c i [] h own = (record { own = own.0; acts = inr refl; default = tt }, tt)
-fit_options c i (a ∷ rest) h own = (
-  record { own = own.0; acts = inl (reads_once (Some a.id) i a); default = good_default (Some a.id) i a.id a.takes a.default (both _ _ h).0 },
-  fit_options c (index_after i (option_rule a)) rest (both _ _ h).1 own.1,
-)
-
-fit_all : (c : List Rule) (i : ℕ) (positionals options : List Argument) → list_all is_sound_argument positionals ≡ true → list_all is_sound_argument options ≡ true
-    → Own c (filled_from i (rules_with_help positionals options)) → AreFit c (filled_from i (rules_with_help positionals options))
-fit_all c i [] options h k own = fit_options c i options k own
-fit_all c i (a ∷ rest) options h k own = (
-  record { own = own.0; acts = inl (reads_once None i a); default = good_default None i a.id a.takes a.default (both _ _ h).0 },
-  fit_all c (index_after i (positional_rule a)) rest options (both _ _ h).1 k own.1,
-)
-
-module _ (form : CommandForm) (is : IsSound form) where
-  pub own : Own (whole form) (whole form)
-  own = own_all 1 (rules_with_help form.positionals form.options) is.apart
-
-  pub fit : AreFit (whole form) (whole form)
-  fit = fit_all (whole form) 1 form.positionals form.options is.takes is.sets own
+pub ruleset defaults = (default_side, default_crew)
 
 -- ---- values
 
--- a default there is
-pub stays : (id : Text) (c : List Rule) (r : Row) → fold (row_after id) (Some r) c ≡ Some r
-stays id [] r = refl
-stays id (a ∷ c) r = stays id c r
+-- a value that passed the parser, as it is read
+value_by : (rows : List Row) (taking : Taking) (id text : Text) → accepts false (parser_in taking) text ≡ true → first_of id rows ≡ Some text → one_of id rows ≡ Some (read_as (reading_of (parser_in taking)) text) → HasValue taking id rows
+value_by rows (numbers least most) id text passes first one = number_in id least most rows text one (accepts-Accepts false (parser_in (numbers least most)) text passes)
+value_by rows any_number id text passes first one =
+    let w = accepts-Accepts false (parser_in any_number) text passes in
+    record { text = text; told = one; numeral = w.0; at_least = w.2; at_most = w.3 }
+value_by rows (names all) id text passes first one = (text, first)
 
-pub default_from : (c : List Rule) (id : Text) (a : Rule) (v : Text) → arg_by_id c id ≡ Some a → a.defaults ≡ v ∷ [] → fold (row_after id) None c ≡ Some (row_with a DefaultValue (v ∷ []))
-default_from [] id a v e defaults = absurd (some≢none a (sym e))
-default_from (x ∷ c) id a v e defaults = go (bytes_eq x.id id) e (λ h. default_from c id a v h defaults)
-  where
-    go : (b : Bool) → cond b (Some x) (arg_by_id c id) ≡ Some a → (arg_by_id c id ≡ Some a → fold (row_after id) None c ≡ Some (row_with a DefaultValue (v ∷ [])))
-        → fold (row_after id) (cond b (default_row x x.defaults) None) c ≡ Some (row_with a DefaultValue (v ∷ []))
-    go true h rest =
-        ap (λ (y : Rule). fold (row_after id) (default_row y y.defaults) c) (some_same x a h)
-        ∙ ap (λ (vs : List Text). fold (row_after id) (default_row a vs) c) defaults ∙ stays id c (row_with a DefaultValue (v ∷ []))
-    go false h rest = rest h
+-- where none passes, each does not
+each_false : {X : Type 0} (p : X → Bool) (xs : List X) → list_any p xs ≡ false → Each (λ x. p x ≡ false) xs
+each_false p [] e = tt
+each_false p (x ∷ xs) e = let parts = or_parts (p x) (list_any p xs) e in (parts.0, each_false p xs parts.1)
 
-default_some : (c : List Rule) (id : Text) (a : Rule) (v : Text) → arg_by_id c id ≡ Some a → a.defaults ≡ v ∷ [] → (o : Option Row) → (r : Row) × (fold (row_after id) o c ≡ Some r)
-default_some c id a v first defaults None = (_, default_from c id a v first defaults)
-default_some c id a v first defaults (Some r) = (r, stays id c r)
-
--- what is required was given
-neither_true : (b d : Bool) → (b || d) ≡ false → (b ≡ false) × (d ≡ false)
-neither_true true d e = absurd (true≢false e)
-neither_true false d e = (refl, e)
-
-is_given_in : (c : List Rule) (id : Text) (a : Rule) (rows : List Row) → list_any (λ x. x.required && not (is_given x.id rows)) c ≡ false → arg_by_id c id ≡ Some a → a.required ≡ true → is_given a.id rows ≡ true
-is_given_in [] id a rows none e required = absurd (some≢none a (sym e))
-is_given_in (x ∷ c) id a rows none e required = go (bytes_eq x.id id) e (λ h. is_given_in c id a rows (neither_true _ _ none).1 h required)
-  where
-    given : (b : Bool) → (true && not b) ≡ false → b ≡ true
-    given true h = refl
-    given false h = absurd (true≢false h)
-
-    go : (b : Bool) → cond b (Some x) (arg_by_id c id) ≡ Some a → (arg_by_id c id ≡ Some a → is_given a.id rows ≡ true) → is_given a.id rows ≡ true
-    go true h rest =
-        let same : x ≡ a = some_same x a h in
-        let here : (a.required && not (is_given a.id rows)) ≡ false = subst (λ (y : Rule). (y.required && not (is_given y.id rows)) ≡ false) same (neither_true _ _ none).0 in
-        given (is_given a.id rows) (ap (λ (b : Bool). b && not (is_given a.id rows)) (sym required) ∙ here)
-    go false h rest = rest h
+-- no argument is missing
+given_of : (b : Bool) → not b ≡ false → b ≡ true
+given_of true h = refl
+given_of false h = absurd cc
 
 none_missing : (b : Bool) → cond b (kind.MissingRequiredArgument ∷ []) [] ≡ [] → b ≡ false
-none_missing true e = absurd (not_nil _ _ e)
+none_missing true e = absurd cc
 none_missing false e = refl
 
-module _ (rows : List Row) where
-  value_by : (taking : Taking) (id : Text) (a : Rule) → parser_of_value a.parser ≡ parser_in taking → Held_value a id rows → HasValue taking id rows
-  value_by (numbers least most) id a parser v =
-      number_in id least most rows v.text (subst (λ (p : ValueParser). one_of id rows ≡ Some (read_as (reading_of p) v.text)) parser v.one)
-      (accepts-Accepts a.ignore_case (vp.Signed (pos least) (pos most)) v.text (subst (λ (p : ValueParser). accepts a.ignore_case p v.text ≡ true) parser v.passes))
-  value_by any_number id a parser v =
-      let w = accepts-Accepts a.ignore_case (vp.Unsigned 0 18446744073709551615) v.text (subst (λ (p : ValueParser). accepts a.ignore_case p v.text ≡ true) parser v.passes) in
-      record { text = v.text; told = subst (λ (p : ValueParser). one_of id rows ≡ Some (read_as (reading_of p) v.text)) parser v.one; numeral = w.0; at_least = w.2; at_most = w.3 }
-  value_by (names all) id a parser v = (v.text, v.first)
-
-parser_is : (long : Option Text) (i : ℕ) (a : Argument) → parser_of_value (with_index i (filled (argument_rule long a))).parser ≡ parser_in a.takes
-parser_is None i a = refl
-parser_is (Some name) i a = refl
+some_row : (o : Option Row) → option_map_or (λ r. explicit_source r.source) o false ≡ true → (r : Row) × (o ≡ Some r)
+some_row None given = absurd cc
+some_row (Some r) given = (r, refl)
 
 module _ (form : CommandForm) (is : IsSound form) (words : List Text) (taken : IsLeafTaken form words) where
+  abbrev c : List Rule
+  c = whole form
+
   abbrev rows : List Row
   rows = leaf_rows form words
 
-  there : (long : Option Text) (i : ℕ) (id : Text) (taking : Taking) (d : Option Value) → arg_by_id (whole form) id ≡ Some (with_index i (filled (argument_rule long (record { id = id; takes = taking; default = d }))))
-      → (r : Row) × (row_at id rows ≡ Some r)
-  there long i id taking None e = given_there id rows (is_given_in (whole form) id _ rows (none_missing _ (level_checked (leaf form) refl (fit form is) words taken)) e refl)
-  there long i id taking (Some v) e = default_there (whole form) id (default_some (whole form) id _ (word_of v) e refl) words
+  none_lacks : Each (λ a. lacks (λ id. is_given id rows) a ≡ false) (arguments_of form)
+  none_lacks = each_false (lacks (λ id. is_given id rows)) (arguments_of form) (sym (is.asks (λ id. is_given id rows)) ∙ none_missing _ (level_checked form is.fit words taken))
 
-  has_value : (long : Option Text) (i : ℕ) (a : Argument) → arg_by_id (whole form) a.id ≡ Some (with_index i (filled (argument_rule long a))) → HasValue a.takes a.id rows
-  has_value long i a e =
-      let r = there long i a.id a.takes a.default e in
-      let good = level_good (leaf form) refl (fit form is) words taken in
-      value_by rows a.takes a.id (with_index i (filled (argument_rule long a))) (parser_is long i a) (value_there (whole form) _ a.id rows r.0 e r.1 (good a.id r.0 r.1))
+  there : (a : Argument) → Owns c a → lacks (λ id. is_given id rows) a ≡ false → (r : Row) × (row_at a.id rows ≡ Some r)
+  there a o given = go a.default o.defaults given
+    where
+      start : List Row
+      start = (settled c (walk c [] nothing_held words).held).rows
 
-  has_options : (i : ℕ) (options : List Argument) → Own (whole form) (filled_from i (rules_with_help [] options)) → HasValues options rows
-  has_options i [] o = tt
-  has_options i (a ∷ rest) o = (has_value (Some a.id) i a o.0, has_options (index_after i (option_rule a)) rest o.1)
+      from : (v : Value) → (rule_for c a).defaults ≡ word_of v ∷ [] → (r : Option Row) → row_at a.id start ≡ r → (r : Row) × (row_at a.id rows ≡ Some r)
+      from v defaults None at = (_, default_from a.id (rule_for c a) (word_of v) defaults c start o.found at)
+      from v defaults (Some r) at = (r, stays a.id c start r at)
 
-  has_all : (i : ℕ) (positionals options : List Argument) → Own (whole form) (filled_from i (rules_with_help positionals options)) → HasValues (positionals ++ options) rows
-  has_all i [] options o = has_options i options o
-  has_all i (a ∷ rest) options o = (has_value None i a o.0, has_all (index_after i (positional_rule a)) rest options o.1)
+      go : (d : Option Value) → (rule_for c a).defaults ≡ default_texts d → (not (is_some d) && not (is_given a.id rows)) ≡ false → (r : Row) × (row_at a.id rows ≡ Some r)
+      go None defaults none = some_row (row_at a.id rows) (given_of (is_given a.id rows) none)
+      go (Some v) defaults none = from v defaults (row_at a.id start) refl
+
+  has_value : (a : Argument) → Owns c a → lacks (λ id. is_given id rows) a ≡ false → HasValue a.takes a.id rows
+  has_value a o given =
+      let r = there a o given in
+      let good = found_each (IsGood c) (λ r. bytes_eq r.id a.id) rows r.0 (level_good form is.fit words taken) r.1 in
+      let g = good.0 in
+      let named : r.0.id ≡ a.id = (bytes_eq-Decides r.0.id a.id).0 good.1 in
+      let owner : arg_by_id c a.id ≡ Some g.rule = ap (arg_by_id c) (sym named) ∙ g.named in
+      let same : rule_for c a ≡ g.rule = let found = o.found in cc in
+      let parser = ap (λ (x : Rule). parser_of_value x.parser) (sym same) ∙ o.parser in
+      value_by rows a.takes a.id g.text
+      (ap₂ (λ (b : Bool) p. accepts b p g.text) (sym (ap (λ (x : Rule). x.ignore_case) (sym same) ∙ o.exact)) (sym parser) ∙ g.passes)
+      (ap (option_and_then (λ (x : Row). slice_get x.values 0)) r.1 ∙ ap (λ (vs : List Text). slice_get vs 0) g.values)
+      (ap (option_and_then row_text) r.1 ∙ ap₂ (λ (how : Reading) (vs : List Text). option_map (read_as how) (slice_get vs 0)) (g.reading ∙ ap reading_of parser) g.values)
+
+  has_each : (arguments : List Argument) → Each (Owns c) arguments → Each (λ a. lacks (λ id. is_given id rows) a ≡ false) arguments → HasValues arguments rows
+  has_each [] o given = tt
+  has_each (a ∷ rest) o given = (has_value a o.0 given.0, has_each rest o.1 given.1)
 
   pub has_values : HasValues (arguments_of form) rows
-  has_values = has_all 1 form.positionals form.options (own form is)
+  has_values = has_each (arguments_of form) is.owns none_lacks
+
+-- ---- the stated command as it is built
+
+abbrev made : App
+made = built stated
+
+abbrev labels : Names
+labels = names_of made
+
+abbrev start : Walk
+start = walk_from nothing_held
+
+-- the walk after the name of a command
+abbrev entering : Text → Walk
+entering name = record start { stopped = Some (name, []) }
+
+-- ---- the command that a word names
+
+abbrev Meets : Text → List CommandForm → Option Text → Type 0
+Meets word fs o = ((form : CommandForm) × OfOne (λ each. form ≡ each) fs × (word ≡ form.command) × (o ≡ Some form.command)) ⊎ ((word ≡ codes "help") ⊎ (o ≡ None))
+
+abbrev labels_of : List CommandForm → Names
+labels_of fs = map (λ form. (form.command, [])) fs ++ (codes "help", []) ∷ []
+
+abbrev met_in : List CommandForm → Text → Option Text
+met_in fs word = option_map (λ s. s.0) (find (answers_to word) (labels_of fs))
+
+meets : (fs : List CommandForm) (word : Text) → Meets word fs (met_in fs word)
+meets [] word = go (bytes_eq (codes "help") word) refl
+  where
+    go : (b : Bool) → bytes_eq (codes "help") word ≡ b → Meets word [] (option_map (λ (s : Text × List Text). s.0) (cond (b || false) (Some (codes "help", [])) None))
+    go true same = inr (inl (sym ((bytes_eq-Decides (codes "help") word).0 same)))
+    go false same = inr (inr refl)
+meets (form ∷ fs) word = go (bytes_eq form.command word) refl (meets fs word)
+  where
+    go : (b : Bool) → bytes_eq form.command word ≡ b → Meets word fs (met_in fs word)
+        → Meets word (form ∷ fs) (option_map (λ (s : Text × List Text). s.0) (cond (b || false) (Some (form.command, [])) (find (answers_to word) (labels_of fs))))
+    go true same rest = inl (form, inl refl, sym ((bytes_eq-Decides form.command word).0 same), refl)
+    go false same (inl m) = inl (m.0, inr m.1, m.2, m.3)
+    go false same (inr m) = inr m
+
+-- what clap makes of the name of a command, and of the words after it
+record Enters (form : CommandForm) : Type 0 where
+  walks : walked made.top.rules labels start form.command ≡ entering form.command
+  turns : turn_fault made.top labels start form.command ≡ []
+  reads : (rest : List Text) → entered made (Some (form.command, rest)) ≡ Some (form.command, leaf_rows form rest)
+  asks : (rest : List Text) → entered_fault made (Some (form.command, rest)) ≡ level_fault (leaf form) [] nothing_held rest false []
+
+all_enter : Each Enters forms
+unfolding clap_on_literals
+all_enter = assumption
+
+enters : (form : CommandForm) → OfOne (λ each. form ≡ each) forms → Enters form
+enters = each_form Enters forms all_enter
+
+no_words : fault_of stated [] ≡ kind.MissingSubcommand ∷ []
+unfolding clap_on_literals
+no_words = refl
+
+-- ---- a first word that names none
+
+-- the one argument of the command itself
+abbrev help : Rule
+help = with_index 1 (filled help_rule)
+
+-- a word that no positional takes
+stray : (h : Held) → step_fault made.top 1 h value ≡ [] → ⊥
+stray h e = not_nil _ _ e
+
+no_long : (p : Text × Option Text) → long_fault made.top.rules false (arg_by_long made.top.rules p.0) p.1 nothing_held ≡ [] → ⊥
+no_long p e = grind arith
+
+no_short : (x : ℕ) (rest : Text) (fault : Held → Kinds) → short_fault made.top.rules false (arg_by_short made.top.rules x) rest nothing_held fault ≡ [] → ⊥
+no_short x rest fault e = grind arith
+
+module _ (word : Text) where
+  -- what the first turn asks of a flag word, and of the step that it takes
+  abbrev turned : Kinds → Held × Step → Kinds
+  turned fault m = or_else fault (step_fault made.top 1 m.0 m.1)
+
+  no_bundle : (k : ℕ) (flags : Text)
+      → turned (flags_fault made.top.rules false k flags 0 nothing_held)
+      (after_flag made.top.rules idle word (bundle_met made.top.rules k flags 0 plain nothing_held).0 (bundle_met made.top.rules k flags 0 plain nothing_held).1) ≡ [] → ⊥
+  unfolding bundle_met flags_fault
+  no_bundle zero flags e = stray nothing_held e
+  no_bundle (suc k) flags e = grind (arith, no_short, neither)
+
+  is_dashes : turned (other_fault made.top None word nothing_held) (subcommand_or_other made.top.rules None idle 1 word nothing_held) ≡ [] → bytes_eq word (45 ∷ 45 ∷ []) ≡ true
+  is_dashes e = grind (arith, no_long, no_bundle, neither)
+
+-- the first turn, and the second
+first_turn : (word : Text) (rest : List Text) → fault_of stated (word ∷ rest) ≡ [] → turn_fault made.top labels start word ≡ []
+unfolding walk_fault
+first_turn word rest e = (neither (turn_fault made.top labels start word) _ (neither (walk_fault made.top labels start (word ∷ rest)) _ e).0).0
+
+second_turn : (word other : Text) (rest : List Text) → fault_of stated (word ∷ other ∷ rest) ≡ [] → turn_fault made.top labels (walked made.top.rules labels start word) other ≡ []
+unfolding walk_fault
+second_turn word other rest e =
+    (neither (turn_fault made.top labels (walked made.top.rules labels start word) other) _ (neither (turn_fault made.top labels start word) _ (neither (walk_fault made.top labels start (word ∷ other ∷ rest)) _ e).0).1).0
+
+-- `--` names no subcommand either, nor do the words after it
+dashes_alone : fault_of stated ((45 ∷ 45 ∷ []) ∷ []) ≡ kind.MissingSubcommand ∷ []
+unfolding clap_on_literals
+dashes_alone = refl
+
+behind_dashes : (word : Text) → turn_fault made.top labels (walked made.top.rules labels start (45 ∷ 45 ∷ [])) word ≡ kind.UnknownArgument ∷ kind.InvalidSubcommand ∷ []
+unfolding clap_on_literals
+behind_dashes word = refl
+
+no_dashes : (rest : List Text) → fault_of stated ((45 ∷ 45 ∷ []) ∷ rest) ≡ [] → ⊥
+no_dashes [] e = not_nil _ _ (sym dashes_alone ∙ e)
+no_dashes (word ∷ rest) e = not_nil _ _ (sym (behind_dashes word) ∙ second_turn (45 ∷ 45 ∷ []) word rest e)
+
+-- `help` is a call for help
+help_turn : turn_fault made.top labels start (codes "help") ≡ kind.DisplayHelp ∷ kind.InvalidSubcommand ∷ []
+unfolding clap_on_literals
+help_turn = refl
+
+no_help : (rest : List Text) → fault_of stated (codes "help" ∷ rest) ≡ [] → ⊥
+no_help rest e = not_nil _ _ (sym help_turn ∙ first_turn (codes "help") rest e)
+
+-- a word that names no command
+no_other : (word : Text) (rest : List Text) → subcommand_met labels idle word ≡ None → fault_of stated (word ∷ rest) ≡ [] → ⊥
+no_other word rest none e =
+    let turn = subst (λ (o : Option Text). turned word (other_fault made.top o word nothing_held) (subcommand_or_other made.top.rules o idle 1 word nothing_held) ≡ []) none (first_turn word rest e) in
+    let dashes : word ≡ 45 ∷ 45 ∷ [] = (bytes_eq-Decides word (45 ∷ 45 ∷ [])).0 (is_dashes word turn) in
+    no_dashes rest (subst (λ (t : Text). fault_of stated (t ∷ rest) ≡ []) dashes e)
+
+-- ---- words that are taken
+
+-- after the name of a command the words are its own
+stops : (name : Text) (rest : List Text) → walked made.top.rules labels start name ≡ entering name → (walk made.top.rules labels nothing_held (name ∷ rest)).stopped ≡ Some (name, rest)
+stops name rest first =
+    ap (λ (w : Walk). (fold (walked made.top.rules labels) w rest).stopped) first
+    ∙ ap (λ (w : Walk). w.stopped) (sym (walk_stopped made.top.rules labels start name [] rest))
+
+-- they name a command, which takes the words after it
+pub record Named (words : List Text) : Type 0 where
+  pub form : CommandForm
+  pub among : OfOne (λ each. form ≡ each) forms
+  pub rest : List Text
+  pub words_are : words ≡ form.command ∷ rest
+  pub taken : IsLeafTaken form rest
+
+named_by : (form : CommandForm) → OfOne (λ each. form ≡ each) forms → (rest : List Text) → fault_of stated (form.command ∷ rest) ≡ [] → IsLeafTaken form rest
+named_by form among rest e =
+    let name = form.command in
+    let parts = neither (walk_fault made.top labels start (name ∷ rest)) _ e in
+    sym ((enters form among).asks rest)
+    ∙ subst (λ (stop : Option (Text × List Text)). entered_fault made stop ≡ []) (stops name rest (enters form among).walks) (neither (entered_fault made (walk made.top.rules labels nothing_held (name ∷ rest)).stopped) _ parts.1).0
+
+pub named : (words : List Text) → fault_of stated words ≡ [] → Named words
+named [] e = absurd (not_nil _ _ (sym no_words ∙ e))
+named (word ∷ rest) e = go (meets forms word)
+  where
+    go : Meets word forms (subcommand_met labels idle word) → Named (word ∷ rest)
+    go (inl m) = record {
+      form = m.0;
+      among = m.1;
+      rest = rest;
+      words_are = ap (λ (t : Text). t ∷ rest) m.2;
+      taken = named_by m.0 m.1 rest (subst (λ (t : Text). fault_of stated (t ∷ rest) ≡ []) m.2 e);
+    }
+    go (inr (inl help)) = absurd (no_help rest (subst (λ (t : Text). fault_of stated (t ∷ rest) ≡ []) help e))
+    go (inr (inr none)) = absurd (no_other word rest none e)
+
+-- and a command that takes the words after its name is what the words ask for
+pub asks_form : (form : CommandForm) → OfOne (λ each. form ≡ each) forms → (rest : List Text) → subcommand_of stated (form.command ∷ rest) ≡ Some (form.command, leaf_rows form rest)
+asks_form form among rest = ap (entered made) (stops form.command rest (enters form among).walks) ∙ (enters form among).reads rest
+
+pub takes_form : (form : CommandForm) → OfOne (λ each. form ≡ each) forms → (rest : List Text) → IsLeafTaken form rest → fault_of stated (form.command ∷ rest) ≡ []
+unfolding walk_fault defaults_fault
+takes_form form among rest taken =
+    let name = form.command in
+    let first = (enters form among).walks in
+    let stop = stops name rest first in
+    let ended : (walk made.top.rules labels nothing_held (name ∷ rest)).held ≡ nothing_held =
+    ap (λ (w : Walk). (fold (walked made.top.rules labels) w rest).held) first ∙ ap (λ (w : Walk). w.held) (sym (walk_stopped made.top.rules labels start name [] rest)) in
+    let walk_passes : walk_fault made.top labels start (name ∷ rest) ≡ [] =
+    ap₂ or_else ((enters form among).turns) (ap (λ (w : Walk). walk_fault made.top labels w rest) first ∙ stopped_fault made.top labels start (name, []) rest) in
+    let here : is_some (entered made (Some (name, rest))) ≡ true = ap (λ (o : Option (Text × List Row)). is_some o) ((enters form among).reads rest) in
+    ap₂ or_else walk_passes (ap₂ or_else (ap (entered_fault made) stop ∙ (enters form among).asks rest ∙ taken)
+    (ap₂ (λ (h : Held) (b : Bool). or_else (settle_fault made.top.rules false h) (or_else (defaults_fault (settled made.top.rules h).rows made.top.rules) (check_fault made.top (finished made.top.rules h) b))) ended (ap (λ (o : Option (Text × List Text)). is_some (entered made o)) stop ∙ here)))

@@ -1,10 +1,6 @@
 pub mod TakenLemmas
-pub mod PlainLemmas
 pub mod ValueLemmas
 pub mod FormLemmas
-pub mod NamedLemmas
-pub mod ReadLemmas
-pub mod RequestLemmas
-pub mod PairLemmas
+pub mod PlainLemmas
 pub mod PlainReads
-pub mod PlainLaws
+pub mod RequestLemmas

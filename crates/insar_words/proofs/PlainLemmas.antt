@@ -1,170 +1,229 @@
 -- The walk of clap over words in plain form: each word is taken, and each value becomes a row.
-use Rattle.std.proofs.Common.{◌≡◌, ◌∙◌, ◌&&◌, ℕ, Bool, cond, true, false, suc, refl, ap, ap₂, arith, List, [], ◌∷◌, ◌++◌, Option, Some, None}
+use Rattle.std.proofs.Common.{◌≡◌, ◌∙◌, ◌&&◌, ◌||◌, ℕ, Bool, cond, true, false, not, suc, refl, sym, ap, ap₂, subst, List, [], ◌∷◌, ◌++◌, append_assoc, append-nil, map, Option, Some, None, codes}
 use Rattle.std.specs.Prelude.{◌==◌}
 use Rattle.std.specs.List.{fold}
 use Rattle.std.specs.Option.{option_map_or}
 use Rattle.std.specs.Str.{bytes_eq}
-use Rattle.std.specs.Str.Parse.{IsNumeral}
-use Rattle.std.proofs.lemmas.Bool.{ne_eqb}
+use Rattle.std.proofs.lemmas.Bool.{and_parts, or_parts}
+use Rattle.std.proofs.lemmas.List.Folds.{list_any-append}
 use Rattle.std.proofs.lemmas.Slice.Eq.{bytes_eq-Decides}
-use Rattle.std.proofs.lemmas.Str.Parse.{digit_from_value}
 use Rattle.clap.specs.Facts.{parser_of_value, unwrap_or_range}
 use Rattle.clap.specs.Faults.{action_fault, positional_fault, repeat_fault, settle_fault, turn_fault, use_fault, walk_fault}
 use Rattle.clap.specs.Kinds.{Kinds, or_else, range_kinds, value_kinds}
-use Rattle.clap.specs.Lexer.{long_of, short_of}
-use Rattle.clap.specs.Simple.{Shape}
+use Rattle.clap.specs.Values.{reading_of}
 use Rattle.clap.specs.ValueTests.{accepts}
-use Rattle.clap.specs.Walk.{Held, Row, Rule, Step, Text, Walk, action_of, after_step, arg_by_id, arg_by_index, arg_by_long, has_row, idle, is_multiple, is_pending, most_values, next_position, option, positional, positional_held, pushed, settled, takes_several, takes_values, to_positional, used_by_id, value as to_place, walked, word_met}
+use Rattle.clap.specs.Walk.{Held, Row, Rule, Step, Text, Walk, after_step, arg_by_id, has_row, idle, is_pending, most_values, next_position, nothing_held, option, positional, positional_held, pushed, settled, takes_several, takes_values, to_positional, used_as, used_by_id, value as to_place, walked, word_met}
 use Rattle.clap.specs.declared.builder.ArgAction.{ArgAction}
+use Rattle.clap.specs.declared.builder.value_parser.ValueParser.{ValueParser}
+use Rattle.clap.specs.declared.parser.matches.ValueSource.{ValueSource}
 use Rattle.clap.specs.declared.parser.matches.ValueSource.TheVariants.{CommandLine}
-use Rattle.insar_words.proofs.TakenLemmas.{ReadsOnce, row_with, used_once}
+use Rattle.insar_words.specs.Forms.{Argument, CommandForm, Each, Value, word_of}
+use Rattle.insar_words.specs.PlainForms.{EachOnce, IsUnset, Setting, are_values, pairs}
+use Rattle.insar_words.proofs.FormLemmas.{ArePlaced, IsOption, Owns, rule_for}
+use Rattle.insar_words.proofs.TakenLemmas.{leaf, row_with, used_once, whole}
+use Rattle.insar_words.proofs.ValueLemmas.{IsRead, other_bytes, value_row}
 
--- ---- words that are no flags
+-- ---- arguments with their values
 
-pub record IsValueWord (word : Text) : Type 0 where
-  pub no_dashes : bytes_eq word (45 ∷ 45 ∷ []) ≡ false
-  pub no_long : long_of word ≡ None
-  pub no_short : short_of word ≡ None
+abbrev pub Choice : Type 0
+Choice = Argument × Value
 
-pub value_word : (x : ℕ) (xs : List ℕ) → (x == 45) ≡ false → IsValueWord (x ∷ xs)
-value_word x xs e = record { no_dashes = rw e refl; no_long = rw e refl; no_short = rw e refl }
+abbrev pub setting_of : Choice → Setting
+setting_of x = (x.0.id, x.1)
 
--- a numeral begins with a digit
-pub numeral_word : (ds : Text) → IsNumeral 10 ds → IsValueWord ds
-numeral_word [] h = absurd (omega (arith, h.0))
-numeral_word (d ∷ ds) h = value_word d ds (ne_eqb _ _ (λ e. omega (arith, e, digit_from_value d h.1.0)))
+abbrev pub given : Choice → Row
+given x = value_row x.0 CommandLine x.1
 
--- ---- what is held while words are given
+-- the values of positionals
+abbrev pub zipped : List Argument → List Value → List Choice
+zipped (a ∷ rest) (v ∷ values) = (a, v) ∷ zipped rest values
+zipped positionals values = []
 
--- the walk between two arguments
-abbrev pub standing : ℕ → Held → Walk
-standing position h = record { held = h; waiting = idle; position = position; is_trailing = false; stopped = None }
+-- choices whose names have no rows yet
+abbrev AreNew : List Row → List Choice → Type 0
+AreNew rows xs = Each (λ x. has_row x.0.id rows ≡ false) xs
 
--- one value more waits to be used
-abbrev pub holding : List Rule → Rule → Text → Held → Held
-holding c a value h = record { rows = (settled c h).rows; pending = Some (a.id, value ∷ []); skip = h.skip }
+new_after : (x : Choice) (rows : List Row) (xs : List Choice) → AreNew rows xs → IsUnset x.0.id (map setting_of xs) → AreNew (rows ++ given x ∷ []) xs
+new_after x rows [] new unset = tt
+new_after x rows (y ∷ ys) new unset = (
+  list_any-append (λ (r : Row). bytes_eq r.id y.0.id) rows (given x ∷ []) ∙ ap₂ (λ (a b : Bool). a || (b || false)) new.0 (other_bytes x.0.id y.0.id (λ e. unset.0 (sym e))),
+  new_after x rows ys new.1 unset.1,
+)
 
--- what is held makes these rows, and passes
-pub record Stands (c : List Rule) (h : Held) (rows : List Row) : Type 0 where
-  pub rows_are : (settled c h).rows ≡ rows
-  pub passes : settle_fault c false h ≡ []
+all_new : (xs : List Choice) → AreNew [] xs
+all_new [] = tt
+all_new (x ∷ xs) = (refl, all_new xs)
 
--- the value may be given for the argument
-pub record MayGive (c : List Rule) (a : Rule) (value : Text) : Type 0 where
-  pub own : arg_by_id c a.id ≡ Some a
-  pub once : ReadsOnce a
-  pub word : IsValueWord value
-  pub passes : accepts a.ignore_case (parser_of_value a.parser) value ≡ true
+-- a row that clap makes of an argument's rule is the argument's
+pub row_is : (c : List Rule) (a : Argument) (source : ValueSource) (v : Value) → Owns c a → row_with (rule_for c a) source (word_of v ∷ []) ≡ value_row a source v
+row_is c a source v o = ap₂ (λ (id : Text) (p : ValueParser). let r : Row = record { id = id; values = word_of v ∷ []; count = None; source = Some source; reading = reading_of p } in r) o.named o.parser
 
-use_passes : (a : Rule) (value : Text) (rows : List Row) → ReadsOnce a → accepts a.ignore_case (parser_of_value a.parser) value ≡ true → has_row a.id rows ≡ false → use_fault false a (value ∷ []) rows ≡ []
-use_passes a value rows once passes new =
-    let count : range_kinds (unwrap_or_range a.range).start_inclusive (most_values a) 1 ≡ [] = rw (once.1, once.2) refl in
-    let unused : repeat_fault false a.id rows ≡ [] = rw new refl in
-    let valued : value_kinds a.ignore_case (parser_of_value a.parser) value ≡ [] = rw passes refl in
-    let acted : action_fault (action_of a) false a (value ∷ []) rows ≡ [] =
-    ap (λ (x : ArgAction). action_fault x false a (value ∷ []) rows) once.0 ∙ ap₂ (λ (x y : Kinds). or_else x (or_else y [])) unused valued in
-    ap₂ or_else count acted
+module _ (form : CommandForm) where
+  abbrev c : List Rule
+  c = whole form
 
--- a value that was given
-pub given_stands : (c : List Rule) (a : Rule) (value : Text) (h : Held) (rows : List Row) → MayGive c a value → Stands c h rows → has_row a.id rows ≡ false
-    → Stands c (holding c a value h) (rows ++ row_with a CommandLine (value ∷ []) ∷ [])
-given_stands c a value h rows may stands new =
-    let found : has_row a.id (settled c h).rows ≡ false = ap (has_row a.id) stands.rows_are ∙ new in
-    record {
-      rows_are =
-          ap (λ (o : Option Rule). used_by_id o (value ∷ []) (settled c h).rows) may.own
-          ∙ used_once a value (settled c h).rows may.once.0 found
-          ∙ ap (λ (rs : List Row). rs ++ row_with a CommandLine (value ∷ []) ∷ []) stands.rows_are;
-      passes =
-          ap (λ (o : Option Rule). option_map_or (λ x. use_fault false x (value ∷ []) (settled c h).rows) o []) may.own
-          ∙ use_passes a value (settled c h).rows may.once may.passes found;
+  -- ---- what is held while words are given
+
+  -- the value may be given for the argument
+  abbrev pub MayGive : Choice → Type 0
+  MayGive x = Owns c x.0 × IsRead x.0.takes x.1
+
+  -- the walk between two arguments
+  abbrev standing : ℕ → Held → Walk
+  standing position h = record { held = h; waiting = idle; position = position; is_trailing = false; stopped = None }
+
+  -- one value more waits to be used
+  abbrev holding : Choice → Held → Held
+  holding x h = record { rows = (settled c h).rows; pending = Some ((rule_for c x.0).id, word_of x.1 ∷ []); skip = h.skip }
+
+  -- what is held makes these rows, and passes
+  pub record Stands (h : Held) (rows : List Row) : Type 0 where
+    pub rows_are : (settled c h).rows ≡ rows
+    pub passes : settle_fault c false h ≡ []
+
+  -- a rule by its own name
+  own : (a : Argument) → Owns c a → arg_by_id c (rule_for c a).id ≡ Some (rule_for c a)
+  own a o = ap (arg_by_id c) o.named ∙ o.found
+
+  use_passes : (x : Choice) (rows : List Row) → MayGive x → has_row (rule_for c x.0).id rows ≡ false → use_fault false (rule_for c x.0) (word_of x.1 ∷ []) rows ≡ []
+  use_passes x rows may new =
+      let a = rule_for c x.0 in
+      let accepted : accepts a.ignore_case (parser_of_value a.parser) (word_of x.1) ≡ true = ap₂ (λ (b : Bool) (p : ValueParser). accepts b p (word_of x.1)) may.0.exact may.0.parser ∙ may.1.passes in
+      let count : range_kinds (unwrap_or_range a.range).start_inclusive (most_values a) 1 ≡ [] = rw (may.0.least, may.0.most) refl in
+      let unused : repeat_fault false a.id rows ≡ [] = rw new refl in
+      let valued : value_kinds a.ignore_case (parser_of_value a.parser) (word_of x.1) ≡ [] = rw accepted refl in
+      ap₂ or_else count (ap (λ (act : ArgAction). action_fault act false a (word_of x.1 ∷ []) rows) may.0.sets ∙ ap₂ (λ (k l : Kinds). or_else k (or_else l [])) unused valued)
+
+  given_stands : (x : Choice) (h : Held) (rows : List Row) → MayGive x → Stands h rows → has_row x.0.id rows ≡ false → Stands (holding x h) (rows ++ given x ∷ [])
+  given_stands x h rows may stands new =
+      let a = rule_for c x.0 in
+      let found : has_row a.id (settled c h).rows ≡ false = ap₂ has_row may.0.named stands.rows_are ∙ new in
+      record {
+        rows_are =
+            ap (λ (o : Option Rule). used_by_id o (word_of x.1 ∷ []) (settled c h).rows) (own x.0 may.0)
+            ∙ ap (λ (act : ArgAction). used_as act a.id (reading_of (parser_of_value a.parser)) (word_of x.1 ∷ []) (settled c h).rows) may.0.sets
+            ∙ used_once a (word_of x.1) (settled c h).rows found
+            ∙ ap₂ (λ (rs : List Row) (r : Row). rs ++ r ∷ []) stands.rows_are (row_is c x.0 CommandLine x.1 may.0);
+        passes = ap (λ (o : Option Rule). option_map_or (λ b. use_fault false b (word_of x.1 ∷ []) (settled c h).rows) o []) (own x.0 may.0) ∙ use_passes x (settled c h).rows may found;
+      }
+
+  -- ---- one value more
+
+  -- by these words, from a place to a place
+  record Gives (i : ℕ) (words : List Text) (x : Choice) (j : ℕ) : Type 0 where
+    walk_is : (h : Held) (rest : List Text) → fold (walked c []) (standing i h) (words ++ rest) ≡ fold (walked c []) (standing j (holding x h)) rest
+    passes : (h : Held) (rest : List Text) → settle_fault c false h ≡ [] → walk_fault (leaf form) [] (standing i h) (words ++ rest) ≡ walk_fault (leaf form) [] (standing j (holding x h)) rest
+
+  -- after the name of an option
+  abbrev awaiting : Argument → ℕ → Held → Walk
+  awaiting a position h =
+      record { held = (let k : Held = record (settled c h) { pending = Some ((rule_for c a).id, []) } in k); waiting = option (rule_for c a).id; position = position; is_trailing = false; stopped = None }
+
+  module _ (position : ℕ) (x : Choice) (may : MayGive x) where
+    abbrev a : Rule
+    a = rule_for c x.0
+
+    same_bytes : bytes_eq a.id a.id ≡ true
+    same_bytes = (bytes_eq-Decides a.id a.id).1 refl
+
+    takes : takes_values a ≡ true
+    takes = ap (λ (n : ℕ). not (n == 0)) may.0.most
+
+    name_walked : (h : Held) → IsOption form x.0 → walked c [] (standing position h) (45 ∷ 45 ∷ x.0.id) ≡ awaiting x.0 position h
+    unfolding walked
+    name_walked h long = rw (long.no_dashes, long.long, long.found, takes) refl
+
+    name_passes : (h : Held) → IsOption form x.0 → settle_fault c false h ≡ [] → turn_fault (leaf form) [] (standing position h) (45 ∷ 45 ∷ x.0.id) ≡ []
+    name_passes h long settles = rw (long.no_dashes, long.long, long.found, takes, settles) refl
+
+    value_walked : (h : Held) → walked c [] (awaiting x.0 position h) (word_of x.1) ≡ standing position (holding x h)
+    unfolding walked
+    value_walked h = rw (may.1.word.no_dashes, may.1.word.no_long, may.1.word.no_short, own x.0 may.0, same_bytes, may.0.most) refl
+
+    value_passes : (h : Held) → turn_fault (leaf form) [] (awaiting x.0 position h) (word_of x.1) ≡ []
+    value_passes h = rw (may.1.word.no_dashes, may.1.word.no_long, may.1.word.no_short) refl
+
+    pair_gives : IsOption form x.0 → Gives position ((codes "--" ++ x.0.id) ∷ word_of x.1 ∷ []) x position
+    unfolding walk_fault
+    pair_gives long = record {
+      walk_is = λ h rest.
+          ap (λ (w : Walk). fold (walked c []) (walked c [] w (word_of x.1)) rest) (name_walked h long) ∙ ap (λ (w : Walk). fold (walked c []) w rest) (value_walked h);
+      passes = λ h rest settles.
+          ap₂ or_else (name_passes h long settles)
+          (ap (λ (w : Walk). or_else (turn_fault (leaf form) [] w (word_of x.1)) (walk_fault (leaf form) [] (walked c [] w (word_of x.1)) rest)) (name_walked h long)
+          ∙ ap₂ or_else (value_passes h) (ap (λ (w : Walk). walk_fault (leaf form) [] w rest) (value_walked h)));
     }
 
--- ---- a pair
+    -- what is held before a word that goes to its place
+    unsure : {X : Type 0} (y z : X) (h : Held) → cond (is_pending a h.pending && takes_several a) y z ≡ z
+    unsure y z h = go (is_pending a h.pending) (or_parts (takes_several a) _ may.0.single).0
+      where
+        go : (b : Bool) → takes_several a ≡ false → cond (b && takes_several a) y z ≡ z
+        go true e = ap (λ (t : Bool). cond t y z) e
+        go false e = refl
 
--- `--name` names the argument
-pub record Names (c : List Rule) (a : Rule) (word : Text) : Type 0 where
-  pub name : Text
-  pub no_dashes : bytes_eq word (45 ∷ 45 ∷ []) ≡ false
-  pub long : long_of word ≡ Some (name, None)
-  pub found : arg_by_long c name ≡ Some a
-  pub takes : takes_values a ≡ true
+    value_met : (h : Held) → word_met c [] false idle position (word_of x.1) h ≡ (h, to_place)
+    value_met h = rw (may.1.word.no_dashes, may.1.word.no_long, may.1.word.no_short) refl
 
-module _ (s : Shape) (once : s.args_override_self ≡ false) where
-  -- after the name of an option
-  abbrev awaiting : Rule → ℕ → Held → Walk
-  awaiting a position h = record { held = (let k : Held = record (settled s.rules h) { pending = Some (a.id, []) } in k); waiting = option a.id; position = position; is_trailing = false; stopped = None }
+    module _ (rest : List Argument) (placed : ArePlaced c position (x.0 ∷ rest)) where
+      next : next_position a position ≡ suc position
+      next = rw may.0.single placed.0.1
 
-  name_walked : (a : Rule) (word : Text) (position : ℕ) (h : Held) → Names s.rules a word → walked s.rules [] (standing position h) word ≡ awaiting a position h
-  unfolding walked
-  name_walked a word position h names = rw (names.no_dashes, names.long, names.found, names.takes) refl
+      positional_walked : (h : Held) → walked c [] (standing position h) (word_of x.1) ≡ standing (suc position) (holding x h)
+      unfolding walked
+      positional_walked h =
+          let held : positional_held c a (word_of x.1) h ≡ holding x h = ap (λ (k : Held). pushed a.id (word_of x.1) k) (unsure h (settled c h) h) in
+          let w = standing position h in
+          ap (λ (m : Held × Step). after_step c (word_of x.1) w m.0 m.1) (value_met h)
+          ∙ ap (λ (o : Option Rule). to_positional c o (word_of x.1) w h) placed.0.0
+          ∙ (λ i. record { held = held i; waiting = cond (may.0.single i) positional idle; position = next i; is_trailing = may.0.closed i; stopped = None })
 
-  name_passes : (a : Rule) (word : Text) (position : ℕ) (h : Held) → Names s.rules a word → settle_fault s.rules false h ≡ [] → turn_fault s [] (standing position h) word ≡ []
-  name_passes a word position h names settles = rw (names.no_dashes, names.long, names.found, names.takes, once, settles) refl
+      positional_passes : (h : Held) → settle_fault c false h ≡ [] → turn_fault (leaf form) [] (standing position h) (word_of x.1) ≡ []
+      positional_passes h settles =
+          let kept : positional_fault c false a h ≡ [] = unsure [] (settle_fault c false h) h ∙ settles in
+          rw (may.1.word.no_dashes, may.1.word.no_long, may.1.word.no_short, placed.0.0, kept) refl
 
-  same_bytes : (t : Text) → bytes_eq t t ≡ true
-  same_bytes t = (bytes_eq-Decides t t).1 refl
+      word_gives : Gives position (word_of x.1 ∷ []) x (suc position)
+      unfolding walk_fault
+      word_gives = record {
+        walk_is = λ h more. ap (λ (w : Walk). fold (walked c []) w more) (positional_walked h);
+        passes = λ h more settles. ap₂ or_else (positional_passes h settles) (ap (λ (w : Walk). walk_fault (leaf form) [] w more) (positional_walked h));
+      }
 
-  value_walked : (a : Rule) (value : Text) (position : ℕ) (h : Held) → MayGive s.rules a value → walked s.rules [] (awaiting a position h) value ≡ standing position (holding s.rules a value h)
-  unfolding walked
-  value_walked a value position h may = rw (may.word.no_dashes, may.word.no_long, may.word.no_short, may.own, same_bytes a.id, may.once.2) refl
+  -- ---- the walk
 
-  value_passes : (a : Rule) (value : Text) (position : ℕ) (h : Held) → MayGive s.rules a value → turn_fault s [] (awaiting a position h) value ≡ []
-  value_passes a value position h may = rw (may.word.no_dashes, may.word.no_long, may.word.no_short) refl
+  -- words are taken, and leave rows
+  pub record Walks (i : ℕ) (h : Held) (rows : List Row) (words : List Text) (xs : List Choice) : Type 0 where
+    pub place : ℕ
+    pub end : Held
+    pub walk_is : fold (walked c []) (standing i h) words ≡ standing place end
+    pub passes : walk_fault (leaf form) [] (standing i h) words ≡ []
+    pub stands : Stands end (rows ++ map given xs)
 
-  -- a pair and what follows
-  pub pair_walked : (a : Rule) (word value : Text) (position : ℕ) (h : Held) (rest : List Text) → Names s.rules a word → MayGive s.rules a value
-      → fold (walked s.rules []) (standing position h) (word ∷ value ∷ rest) ≡ fold (walked s.rules []) (standing position (holding s.rules a value h)) rest
-  pair_walked a word value position h rest names may =
-      ap (λ (w : Walk). fold (walked s.rules []) (walked s.rules [] w value) rest) (name_walked a word position h names)
-      ∙ ap (λ (w : Walk). fold (walked s.rules []) w rest) (value_walked a value position h may)
+  walks_on : (i j : ℕ) (h : Held) (rows : List Row) (words rest : List Text) (x : Choice) (xs : List Choice) → Gives i words x j → settle_fault c false h ≡ [] → Walks j (holding x h) (rows ++ given x ∷ []) rest xs → Walks i h rows (words ++ rest) (x ∷ xs)
+  walks_on i j h rows words rest x xs gives settles w = record {
+    place = w.place;
+    end = w.end;
+    walk_is = gives.walk_is h rest ∙ w.walk_is;
+    passes = gives.passes h rest settles ∙ w.passes;
+    stands = subst (Stands w.end) (append_assoc rows (given x ∷ []) (map given xs)) w.stands;
+  }
 
-  pub pair_passes : (a : Rule) (word value : Text) (position : ℕ) (h : Held) (rest : List Text) → Names s.rules a word → MayGive s.rules a value → settle_fault s.rules false h ≡ []
-      → walk_fault s [] (standing position h) (word ∷ value ∷ rest) ≡ walk_fault s [] (standing position (holding s.rules a value h)) rest
+  walks_pairs : (i : ℕ) (xs : List Choice) (h : Held) (rows : List Row) → Stands h rows → AreNew rows xs → EachOnce (map setting_of xs) → Each MayGive xs → Each (λ x. IsOption form x.0) xs → Walks i h rows (pairs (map setting_of xs)) xs
   unfolding walk_fault
-  pair_passes a word value position h rest names may settles =
-      ap₂ or_else (name_passes a word position h names settles)
-      (ap (λ (w : Walk). or_else (turn_fault s [] w value) (walk_fault s [] (walked s.rules [] w value) rest)) (name_walked a word position h names)
-      ∙ ap₂ or_else (value_passes a value position h may) (ap (λ (w : Walk). walk_fault s [] w rest) (value_walked a value position h may)))
+  walks_pairs i [] h rows stands new each may are = record { place = i; end = h; walk_is = refl; passes = refl; stands = subst (Stands h) (sym (append-nil rows)) stands }
+  walks_pairs i (x ∷ xs) h rows stands new each may are =
+      walks_on i i h rows _ (pairs (map setting_of xs)) x xs (pair_gives i x may.0 are.0) stands.passes
+      (walks_pairs i xs (holding x h) (rows ++ given x ∷ []) (given_stands x h rows may.0 stands new.0) (new_after x rows xs new.1 each.0) each.1 may.1 are.1)
 
-  -- ---- a positional
+  walks_from : (i : ℕ) (ps : List Argument) (values : List Value) (xs : List Choice) (h : Held) (rows : List Row) → ArePlaced c i ps → are_values ps values ≡ true → Stands h rows → AreNew rows (zipped ps values ++ xs)
+      → EachOnce (map setting_of (zipped ps values ++ xs)) → Each MayGive (zipped ps values ++ xs) → Each (λ x. IsOption form x.0) xs → Walks i h rows (map word_of values ++ pairs (map setting_of xs)) (zipped ps values ++ xs)
+  walks_from i [] [] xs h rows placed fit stands new each may are = walks_pairs i xs h rows stands new each may are
+  walks_from i (p ∷ ps) (v ∷ values) xs h rows placed fit stands new each may are =
+      walks_on i (suc i) h rows (word_of v ∷ []) (map word_of values ++ pairs (map setting_of xs)) (p, v) (zipped ps values ++ xs) (word_gives i (p, v) may.0 ps placed) stands.passes
+      (walks_from (suc i) ps values xs (holding (p, v) h) (rows ++ given (p, v) ∷ []) placed.1 (and_parts _ _ fit).1 (given_stands (p, v) h rows may.0 stands new.0) (new_after (p, v) rows (zipped ps values ++ xs) new.1 each.0) each.1 may.1 are)
+  walks_from i ps values xs h rows placed fit stands new each may are = absurd cc
 
-  -- the argument stands at a place
-  pub record StandsAt (a : Rule) (position : ℕ) : Type 0 where
-    pub found : arg_by_index s.rules position ≡ Some a
-    pub single : takes_several a ≡ false
-    pub no_append : is_multiple a ≡ false
-    pub no_trailing : a.trailing_var_arg ≡ false
-    pub next : next_position a position ≡ suc position
-
-  unsure : {X : Type 0} (b d : Bool) (x y : X) → d ≡ false → cond (b && d) x y ≡ y
-  unsure true d x y e = ap (λ (t : Bool). cond t x y) e
-  unsure false d x y e = refl
-
-  -- a word that is no flag goes to a place
-  value_met : (value : Text) (position : ℕ) (h : Held) → IsValueWord value → word_met s.rules [] false idle position value h ≡ (h, to_place)
-  value_met value position h word = rw (word.no_dashes, word.no_long, word.no_short) refl
-
-  pub positional_walked : (a : Rule) (value : Text) (position : ℕ) (h : Held) → StandsAt a position → MayGive s.rules a value
-      → walked s.rules [] (standing position h) value ≡ standing (suc position) (holding s.rules a value h)
-  unfolding walked
-  positional_walked a value position h at may =
-      let kept : cond (is_pending a h.pending && takes_several a) h (settled s.rules h) ≡ settled s.rules h = unsure (is_pending a h.pending) (takes_several a) h (settled s.rules h) at.single in
-      let held : positional_held s.rules a value h ≡ holding s.rules a value h = ap (λ (k : Held). pushed a.id value k) kept in
-      let w = standing position h in
-      ap (λ (m : Held × Step). after_step s.rules value w m.0 m.1) (value_met value position h may.word)
-      ∙ ap (λ (o : Option Rule). to_positional s.rules o value w h) at.found
-      ∙ (λ i. record { held = held i; waiting = cond (at.no_append i) positional idle; position = at.next i; is_trailing = at.no_trailing i; stopped = None })
-
-  pub positional_passes : (a : Rule) (value : Text) (position : ℕ) (h : Held) → StandsAt a position → MayGive s.rules a value → settle_fault s.rules false h ≡ []
-      → turn_fault s [] (standing position h) value ≡ []
-  positional_passes a value position h at may settles =
-      let kept : positional_fault s.rules s.args_override_self a h ≡ [] =
-      unsure (is_pending a h.pending) (takes_several a) [] _ at.single ∙ ap (λ (again : Bool). settle_fault s.rules again h) once ∙ settles in
-      rw (may.word.no_dashes, may.word.no_long, may.word.no_short, at.found, kept) refl
-
-  pub positional_then : (a : Rule) (value : Text) (position : ℕ) (h : Held) (rest : List Text) → StandsAt a position → MayGive s.rules a value → settle_fault s.rules false h ≡ []
-      → walk_fault s [] (standing position h) (value ∷ rest) ≡ walk_fault s [] (standing (suc position) (holding s.rules a value h)) rest
-  unfolding walk_fault
-  positional_then a value position h rest at may settles =
-      ap₂ or_else (positional_passes a value position h at may settles) (ap (λ (w : Walk). walk_fault s [] w rest) (positional_walked a value position h at may))
+  pub walks_all : (values : List Value) (xs : List Choice) → ArePlaced c 1 form.positionals → are_values form.positionals values ≡ true → EachOnce (map setting_of (zipped form.positionals values ++ xs)) → Each MayGive (zipped form.positionals values ++ xs)
+      → Each (λ x. IsOption form x.0) xs → Walks 1 nothing_held [] (map word_of values ++ pairs (map setting_of xs)) (zipped form.positionals values ++ xs)
+  walks_all values xs placed fit each may are = walks_from 1 form.positionals values xs nothing_held [] placed fit (record { rows_are = refl; passes = refl }) (all_new (zipped form.positionals values ++ xs)) each may are

@@ -1,5 +1,5 @@
 -- The commands, each with its arguments, as a table: the stated command, what words ask for and plain forms are made from it.
-use Rattle.std.specs.Prelude.{◌⊎◌, ◌&&◌, ◌^◌, ℕ, Bool, false, List, [], ◌∷◌, ◌++◌, Option, Some, None, codes, decimal, map, nat_le, nat_lt}
+use Rattle.std.specs.Prelude.{◌⊎◌, ◌&&◌, ◌^◌, ℕ, Bool, false, List, [], ◌∷◌, ◌++◌, Option, Some, None, codes, decimal, map, nat_le, nat_lt, ⊤}
 use Rattle.std.specs.List.{list_any}
 use Rattle.std.specs.Str.{bytes_eq}
 use Rattle.clap.specs.Words.{Text}
@@ -101,6 +101,11 @@ trial_form = record { command = codes "trial"; positionals = drawing; options = 
 
 abbrev pub forms : List CommandForm
 forms = unwrap_form ∷ grid_form ∷ check_form ∷ trial_form ∷ []
+
+-- P holds of each
+abbrev pub Each : {X : Type 0} → (X → Type 0) → List X → Type 0
+Each P [] = ⊤
+Each P (x ∷ rest) = P x × Each P rest
 
 -- P holds of one of the forms
 abbrev pub OfOne : (CommandForm → Type 0) → List CommandForm → Type 0

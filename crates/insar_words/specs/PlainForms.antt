@@ -10,7 +10,7 @@ use Rattle.raster_model.specs.declared.weights.RuleKind.{RuleKind}
 use Rattle.raster_model.specs.declared.weights.RuleKind.TheVariants.{Least, Mean, Product}
 use Rattle.raster_model.specs.Limits.{max_pixels}
 use Rattle.insar_words.specs.Asked.{AreTaken, AsksWorkers, IsCheck, IsTrialCommand, asked, number_asked}
-use Rattle.insar_words.specs.Forms.{Argument, CommandForm, OfOne, Value, checking, fits, forms, name, number, rule_entry, solving, tile_entry, word_of, workers_entry}
+use Rattle.insar_words.specs.Forms.{Argument, CommandForm, Each, OfOne, Value, checking, fits, forms, name, number, rule_entry, solving, tile_entry, word_of, workers_entry}
 use Rattle.insar_words.specs.Limits.{IsTrialSide}
 
 -- what one pair sets: an option by its name, to a value
@@ -67,8 +67,7 @@ HasGiven rows (a ∷ rest) (v ∷ values) = Has rows a.id (Some v) × HasGiven r
 HasGiven rows positionals values = ⊤
 
 abbrev pub HasSet : List Row → List Argument → List Setting → Type 0
-HasSet rows [] settings = ⊤
-HasSet rows (a ∷ rest) settings = Has rows a.id (set_to a settings) × HasSet rows rest settings
+HasSet rows options settings = Each (λ a. Has rows a.id (set_to a settings)) options
 
 -- the words are read as this command, with these values and settings
 pub record IsPlainlyRead (form : CommandForm) (words : List (Bor Text)) (values : List Value) (settings : List Setting) : Type 0 where

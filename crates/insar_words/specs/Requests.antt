@@ -4,7 +4,7 @@ use Rattle.std.specs.Borrow.{Bor}
 use Rattle.clap.specs.Words.{Row, Text, first_of}
 use Rattle.raster_model.specs.declared.weights.RuleKind.{RuleKind}
 use Rattle.raster_model.specs.Limits.{max_pixels}
-use Rattle.insar_words.specs.Asked.{AskSomething, AsksWorkers, IsCheck, IsCommand, IsGridCommand, IsRefused, IsTrialCommand, asks_by_names, is_named, number_asked}
+use Rattle.insar_words.specs.Asked.{AreTaken, AskSomething, IsCheck, IsCommand, IsGridCommand, IsRefused, IsTrialCommand, asked, asks_by_names, is_named, number_asked}
 use Rattle.insar_words.specs.Forms.{rule_entry, rule_name}
 use Rattle.insar_words.specs.declared.fault.WordsFault.{WordsFault}
 use Rattle.insar_words.specs.declared.fault.WordsFault.TheVariants as faults
@@ -51,11 +51,13 @@ TellsRefusal command rows fault = (fault ≡ faults.Refused) × TellsNothing com
 
 -- ---- what words ask for
 
-abbrev pub IsRequest : List (Bor Text) → Request → Type 0
-IsRequest words (Unwrap settings) = AsksWorkers (codes "unwrap") words settings.rule settings.side settings.workers
-IsRequest words (Grid settings) = AsksWorkers (codes "grid") words settings.rule settings.side settings.workers
-IsRequest words (Check settings) = IsCheck words settings.rule settings.side × (settings.workers ≡ 2)
-IsRequest words (Trial trial) = IsTrialCommand words trial.seed trial.width trial.height trial.settings.rule trial.settings.side × AsksWorkers (codes "trial") words trial.settings.rule trial.settings.side trial.settings.workers
+-- the words are taken, and what clap finds of them tells it
+pub record IsRequest (words : List (Bor Text)) (request : Request) : Type 0 where
+  pub taken : AreTaken words
+  pub command : Text
+  pub rows : List Row
+  pub named : asked words ≡ Some (command, rows)
+  pub tells : TellsRequest command rows request
 
 -- words are not read because they are refused, or for lack of memory
 abbrev pub HasWordsCause : List (Bor Text) → WordsFault → Type 0

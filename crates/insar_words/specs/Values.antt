@@ -1,8 +1,8 @@
 -- What clap's matches have for the arguments of a command that it takes.
-use Rattle.std.specs.Prelude.{◌≡◌, ◌≤◌, ℕ, List, [], ◌∷◌, Some, ⊤}
+use Rattle.std.specs.Prelude.{◌≡◌, ◌≤◌, ℕ, List, Some}
 use Rattle.std.specs.Str.Parse.{IsNumeral, digits_value, without_leading_plus}
 use Rattle.clap.specs.Words.{Row, Text, first_of, one_of}
-use Rattle.insar_words.specs.Forms.{Argument, OfOne, Taking, any_number, arguments_of, checking, drawing, forms, names, numbers, solving}
+use Rattle.insar_words.specs.Forms.{Argument, Each, OfOne, Taking, any_number, arguments_of, checking, drawing, forms, names, numbers, solving}
 
 -- a number from `least` to `most`
 pub record HasNumber (id : Text) (least most : ℕ) (rows : List Row) : Type 0 where
@@ -23,8 +23,7 @@ HasValue any_number id rows = HasNumber id 0 18446744073709551615 rows
 HasValue (names all) id rows = HasText id rows
 
 abbrev pub HasValues : List Argument → List Row → Type 0
-HasValues [] rows = ⊤
-HasValues (a ∷ rest) rows = HasValue a.takes a.id rows × HasValues rest rows
+HasValues arguments rows = Each (λ a. HasValue a.takes a.id rows) arguments
 
 -- what `check` needs, what `unwrap`, `grid` and `trial` need, and the raster of a trial
 abbrev pub HasChecking : List Row → Type 0

@@ -102,6 +102,7 @@ fn settings_with(found: &ArgMatches<'_>, workers: u32) -> Option<Settings>
 }
 
 /// The rule that matches name.
+#[tactic(auto, using(crate::proofs::RequestLemmas::texts_read))]
 fn rule_told(found: &ArgMatches<'_>) -> Option<RuleKind>
     requires { HasText (codes "rule") (rows_of (found_of found.now)) }
     ensures told { IfSome result (λ rule. first_of (codes "rule") (rows_of (found_of found.now)) ≡ Some (rule_name rule)) }

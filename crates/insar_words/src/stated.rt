@@ -48,6 +48,7 @@ fn with_raster<'a>(alloc: Global, command: Command<'a>) -> Result<Command<'a>, A
 }
 
 /// `--tile N`
+#[tactic(auto, using(crate::proofs::FormLemmas::defaults))]
 fn tile_option<'a>(alloc: Global) -> Arg<'a>
     ensures rule { rule_of result ≡ option_rule tile_entry }
     ensures local { result.global ≡ false }
@@ -73,6 +74,7 @@ fn rule_option<'a>(alloc: Global) -> Arg<'a>
 }
 
 /// `--workers N`
+#[tactic(auto, using(crate::proofs::FormLemmas::defaults))]
 fn workers_option<'a>(alloc: Global) -> Arg<'a>
     ensures rule { rule_of result ≡ option_rule workers_entry }
     ensures local { result.global ≡ false }

@@ -66,6 +66,7 @@ fn newest_cost(board: &Board) -> u128
 }
 
 /// How many cells of the whole raster have a residue other than 0, whichever tiles their corners lie in.
+#[tactic(auto, using(crate::proofs::TrialLemmas::counting))]
 fn count_residues(scene: &Scene) -> u32
     ensures { result ≡ residues_of (raster_of scene.now) }
 {
@@ -77,6 +78,7 @@ fn count_residues(scene: &Scene) -> u32
 }
 
 /// How many of the cells have one whose upper corners lie in row `y`.
+#[tactic(auto, using(crate::proofs::TrialLemmas::counting))]
 fn residues_in_row(scene: &Scene, y: u32) -> u32
     requires { y + 1 < scene.now.phase.height }
     ensures value { result ≡ count_row (scene.now.phase.width - 1) (has_residue (raster_of scene.now)) y }
@@ -90,6 +92,7 @@ fn residues_in_row(scene: &Scene, y: u32) -> u32
 }
 
 /// How many pixels of a mask are open.
+#[tactic(auto, using(crate::proofs::TrialLemmas::counting))]
 fn count_open(mask: &Mask) -> u32
     ensures { result ≡ count_grid mask.now.width mask.now.height (open_at mask.now) }
 {
@@ -101,6 +104,7 @@ fn count_open(mask: &Mask) -> u32
 }
 
 /// How many of them lie in row `y`.
+#[tactic(auto, using(crate::proofs::TrialLemmas::counting))]
 fn open_in_row(mask: &Mask, y: u32) -> u32
     requires { y < mask.now.height }
     ensures value { result ≡ count_row mask.now.width (open_at mask.now) y }

@@ -3,8 +3,8 @@ use Rattle.std.proofs.lemmas.Result.{err_from_is_err_and}
 use Rattle.insar_words.specs.declared.request.Request.TheVariants.{Check}
 use Rattle.insar_top.specs.Run.{Run, run_of}
 use Rattle.insar_top.specs.VerdictLines.{verdict_line}
-use Rattle.insar_top.proofs.AnswerLemmas.{answered, cut_short, read_cause}
-use Rattle.insar_top.proofs.CheckLemmas.{small_verdict, some_status, verdict_ready}
+use Rattle.insar_top.proofs.AnswerLemmas.{put_ends, read_cause}
+use Rattle.insar_top.proofs.CheckLemmas.{small_verdict, verdict_ready}
 use Rattle.insar_top.proofs.check.run_check.Goals as goal
 
 pub returns-in_err-session : goal.returns-in_err-session
@@ -13,18 +13,9 @@ returns-in_err-session g c =
     let run : Run = run_of g.S.Source.left g.S.Source.faults c.args.source.now c.read_both.new.source g.K.Sink.held g.K.Sink.faults c.args.sink.now c.args.sink.now in
     rw (p.1, p.2) (tt, read_cause (Check c.args.settings) run c.in_err-session.field-0.0 refl c.in_err-session.ensures.refused)
 
-pub returns-in_err-put_verdict : goal.returns-in_err-put_verdict
-returns-in_err-put_verdict g c =
-    let p = err_from_is_err_and c.from_residual-in_err-put_verdict.result c.from_residual-in_err-put_verdict.ensures.1 in
-    let verdict = c.in_ok-verdict.verdict in
-    let status = some_status verdict in
-    let run : Run = run_of g.S.Source.left g.S.Source.faults c.args.source.now c.read_both.new.source g.K.Sink.held g.K.Sink.faults c.args.sink.now c.put_verdict.new.sink in
-    let ready = verdict_ready c.args.settings run c.in_ok-session.session c.in_ok-session.report verdict status.0 c.in_ok-session.ensures.read c.in_ok-verdict.ensures.verdict status.1 in
-    rw (p.1, p.2) (tt, (c.in_err-put_verdict.ensures.fault, cut_short (Check c.args.settings) run status.0 (verdict_line verdict) ready c.in_err-put_verdict.ensures.cut))
-
 pub returns : goal.returns
 returns g c =
     let verdict = c.in_ok-verdict.verdict in
     let run : Run = run_of g.S.Source.left g.S.Source.faults c.args.source.now c.read_both.new.source g.K.Sink.held g.K.Sink.faults c.args.sink.now c.put_verdict.new.sink in
     let ready = verdict_ready c.args.settings run c.in_ok-session.session c.in_ok-session.report verdict c.status_of.result c.in_ok-session.ensures.read c.in_ok-verdict.ensures.verdict c.status_of.ensures in
-    (tt, answered (Check c.args.settings) run c.status_of.result (verdict_line verdict) ready (small_verdict verdict c.status_of.result c.status_of.ensures) c.in_ok-put_verdict.ensures.written)
+    rw c.end_of.ensures (tt, put_ends (Check c.args.settings) run c.status_of.result (verdict_line verdict) ready c.put_verdict.result (small_verdict verdict c.status_of.result c.status_of.ensures) c.put_verdict.ensures)

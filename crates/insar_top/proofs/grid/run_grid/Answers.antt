@@ -4,7 +4,7 @@ use Rattle.report_text.specs.Reports.{report_of}
 use Rattle.insar_words.specs.declared.request.Request.TheVariants.{Grid}
 use Rattle.insar_top.specs.Grid.{last_grid}
 use Rattle.insar_top.specs.Run.{Run, run_of}
-use Rattle.insar_top.proofs.AnswerLemmas.{answered, cut_short, read_cause}
+use Rattle.insar_top.proofs.AnswerLemmas.{put_ends, read_cause}
 use Rattle.insar_top.proofs.UnwrapLemmas.{grid_ready, is_report}
 use Rattle.insar_top.proofs.grid.run_grid.Goals as goal
 
@@ -14,17 +14,9 @@ returns-in_err-board g c =
     let run : Run = run_of g.S.Source.left g.S.Source.faults c.args.source.now c.solved.new.source g.K.Sink.held g.K.Sink.faults c.args.sink.now c.args.sink.now in
     rw (p.1, p.2) (tt, read_cause (Grid c.args.settings) run c.in_err-board.field-0.0 refl c.in_err-board.ensures.refused)
 
-pub returns-in_err-write_last_grid : goal.returns-in_err-write_last_grid
-returns-in_err-write_last_grid g c =
-    let p = err_from_is_err_and c.from_residual-in_err-write_last_grid.result c.from_residual-in_err-write_last_grid.ensures.1 in
-    let b = c.in_ok-board.board in
-    let run : Run = run_of g.S.Source.left g.S.Source.faults c.args.source.now c.solved.new.source g.K.Sink.held g.K.Sink.faults c.args.sink.now c.write_last_grid.new.sink in
-    let ready = grid_ready c.args.settings run b.session (report_of b.session b.entries b.surfaces) c.in_ok-board.ensures.given (is_report b (c.write_last_grid.ensures.certified c.in_ok-board.ensures.complete)) c.write_last_grid.ensures.ranges in
-    rw (p.1, p.2) (tt, (c.in_err-write_last_grid.ensures.put.fault, cut_short (Grid c.args.settings) run 0 (last_grid (report_of b.session b.entries b.surfaces)) ready c.in_err-write_last_grid.ensures.put.cut))
-
 pub returns : goal.returns
 returns g c =
     let b = c.in_ok-board.board in
     let run : Run = run_of g.S.Source.left g.S.Source.faults c.args.source.now c.solved.new.source g.K.Sink.held g.K.Sink.faults c.args.sink.now c.write_last_grid.new.sink in
     let ready = grid_ready c.args.settings run b.session (report_of b.session b.entries b.surfaces) c.in_ok-board.ensures.given (is_report b (c.write_last_grid.ensures.certified c.in_ok-board.ensures.complete)) c.write_last_grid.ensures.ranges in
-    (tt, answered (Grid c.args.settings) run 0 (last_grid (report_of b.session b.entries b.surfaces)) ready refl c.in_ok-write_last_grid.ensures.put.written)
+    rw c.end_of.ensures (tt, put_ends (Grid c.args.settings) run 0 (last_grid (report_of b.session b.entries b.surfaces)) ready c.write_last_grid.result refl c.write_last_grid.ensures.put)

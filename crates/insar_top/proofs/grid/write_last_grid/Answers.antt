@@ -2,7 +2,6 @@ use Rattle.std.proofs.Common.{◌≡◌, ◌∙◌, ◌-◌, Some, length, sym, 
 use Rattle.std.specs.Prelude.{option_copied, slice_get}
 use Rattle.insar_ports.specs.Bytes.{with_end}
 use Rattle.insar_ports.proofs.CallerLemmas.{with_end-nil}
-use Rattle.report_text.proofs.CertifiedLemmas.{board_is_certified}
 use Rattle.insar_top.proofs.LastSurface.{last_in_range, last_text, no_text, none_in_range}
 use Rattle.insar_top.proofs.grid.write_last_grid.Goals as goal
 
@@ -16,9 +15,6 @@ pub returns-in-Some-clause-ranges : goal.returns-in-Some-clause-ranges
 returns-in-Some-clause-ranges g c =
     last_in_range c.args.board.now c.snapshots.result.now c.snapshots.ensures.value c.snapshots.ensures.board c.in-Some.snapshot.now (sym c.last.ensures.value ∙ ap option_copied c.in-Some.is) c.write_grid.ensures.ranges
 
-pub returns-in-Some-clause-certified : goal.returns-in-Some-clause-certified
-returns-in-Some-clause-certified g c = board_is_certified c.args.board.now c.snapshots.ensures.board
-
 pub returns-in-None-clause-put : goal.returns-in-None-clause-put
 returns-in-None-clause-put g c =
     let none = no_text c.args.board.now c.snapshots.result.now c.snapshots.ensures.value c.snapshots.ensures.board (sym c.last.ensures.value ∙ ap option_copied c.in-None.is) in
@@ -27,6 +23,3 @@ returns-in-None-clause-put g c =
 pub returns-in-None-clause-ranges : goal.returns-in-None-clause-ranges
 returns-in-None-clause-ranges g c =
     none_in_range c.args.board.now c.snapshots.result.now c.snapshots.ensures.value c.snapshots.ensures.board (sym c.last.ensures.value ∙ ap option_copied c.in-None.is)
-
-pub returns-in-None-clause-certified : goal.returns-in-None-clause-certified
-returns-in-None-clause-certified g c = board_is_certified c.args.board.now c.snapshots.ensures.board

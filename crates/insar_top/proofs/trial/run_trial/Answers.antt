@@ -5,7 +5,7 @@ use Rattle.trial_maker.specs.Trials.{AreTrialScripts}
 use Rattle.insar_words.specs.declared.request.Request.TheVariants.{Trial}
 use Rattle.insar_top.specs.Run.{Run, run_beside}
 use Rattle.insar_top.specs.Trial.{four_lines}
-use Rattle.insar_top.proofs.AnswerLemmas.{answered, cut_short}
+use Rattle.insar_top.proofs.AnswerLemmas.{put_ends}
 use Rattle.insar_top.proofs.TrialLemmas.{trial_again, trial_text, unmade_cause}
 use Rattle.insar_top.proofs.trial.run_trial.Goals as goal
 
@@ -18,17 +18,6 @@ returns-in_err-session g c = λ told faults.
     let run : Run = run_beside told faults g.K.Sink.held g.K.Sink.faults c.args.sink.now c.args.sink.now in
     rw (p.1, p.2) ((refl, refl), unmade_cause c.args.trial run c.in_err-session.field-0.0 refl (λ e. c.make_session.ensures.size (c.in_err-session.was ∙ ap Err e)))
 
-pub returns-in_err-put_summary : goal.returns-in_err-put_summary
-returns-in_err-put_summary g c = λ told faults.
-    let p = err_from_is_err_and c.from_residual-in_err-put_summary.result c.from_residual-in_err-put_summary.ensures.1 in
-    let t = c.args.trial in
-    let b = c.in_ok-board.board in
-    let s = c.summary_of.result in
-    let made = trial_again t b.session c.in_ok-session.session c.in_ok-board.ensures.session c.in_ok-session.ensures.made in
-    let text = trial_text t b.session s.pixels s.residues s.unmasked s.tile_cost made c.summary_of.ensures.pixels c.summary_of.ensures.residues c.summary_of.ensures.unmasked c.summary_of.ensures.cost in
-    let run : Run = run_beside told faults g.K.Sink.held g.K.Sink.faults c.args.sink.now c.put_summary.new.sink in
-    rw (p.1, p.2) ((refl, refl), (c.in_err-put_summary.ensures.fault, cut_short (Trial t) run 0 (four_lines s.pixels s.residues s.unmasked s.tile_cost) ((refl, text), (refl, refl)) c.in_err-put_summary.ensures.cut))
-
 pub returns : goal.returns
 returns g c = λ told faults.
     let t = c.args.trial in
@@ -37,4 +26,4 @@ returns g c = λ told faults.
     let made = trial_again t b.session c.in_ok-session.session c.in_ok-board.ensures.session c.in_ok-session.ensures.made in
     let text = trial_text t b.session s.pixels s.residues s.unmasked s.tile_cost made c.summary_of.ensures.pixels c.summary_of.ensures.residues c.summary_of.ensures.unmasked c.summary_of.ensures.cost in
     let run : Run = run_beside told faults g.K.Sink.held g.K.Sink.faults c.args.sink.now c.put_summary.new.sink in
-    ((refl, refl), answered (Trial t) run 0 (four_lines s.pixels s.residues s.unmasked s.tile_cost) ((refl, text), (refl, refl)) refl c.in_ok-put_summary.ensures.written)
+    rw c.end_of.ensures ((refl, refl), put_ends (Trial t) run 0 (four_lines s.pixels s.residues s.unmasked s.tile_cost) ((refl, text), (refl, refl)) c.put_summary.result refl c.put_summary.ensures)

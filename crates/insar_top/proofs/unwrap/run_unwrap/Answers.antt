@@ -4,7 +4,7 @@ use Rattle.report_text.specs.Reports.{report_of}
 use Rattle.report_text.specs.Text.{report_text}
 use Rattle.insar_words.specs.declared.request.Request.TheVariants.{Unwrap}
 use Rattle.insar_top.specs.Run.{Run, run_of}
-use Rattle.insar_top.proofs.AnswerLemmas.{answered, cut_short, read_cause}
+use Rattle.insar_top.proofs.AnswerLemmas.{put_ends, read_cause}
 use Rattle.insar_top.proofs.UnwrapLemmas.{is_report, report_ready}
 use Rattle.insar_top.proofs.unwrap.run_unwrap.Goals as goal
 
@@ -14,17 +14,9 @@ returns-in_err-board g c =
     let run : Run = run_of g.S.Source.left g.S.Source.faults c.args.source.now c.solved.new.source g.K.Sink.held g.K.Sink.faults c.args.sink.now c.args.sink.now in
     rw (p.1, p.2) (tt, read_cause (Unwrap c.args.settings) run c.in_err-board.field-0.0 refl c.in_err-board.ensures.refused)
 
-pub returns-in_err-write_report : goal.returns-in_err-write_report
-returns-in_err-write_report g c =
-    let p = err_from_is_err_and c.from_residual-in_err-write_report.result c.from_residual-in_err-write_report.ensures.1 in
-    let b = c.in_ok-board.board in
-    let run : Run = run_of g.S.Source.left g.S.Source.faults c.args.source.now c.solved.new.source g.K.Sink.held g.K.Sink.faults c.args.sink.now c.write_report.new.sink in
-    let ready = report_ready c.args.settings run b.session (report_of b.session b.entries b.surfaces) c.in_ok-board.ensures.given (is_report b (c.write_report.ensures.certified c.in_ok-board.ensures.complete)) c.write_report.ensures.ranges in
-    rw (p.1, p.2) (tt, (c.in_err-write_report.ensures.text.fault, cut_short (Unwrap c.args.settings) run 0 (report_text (report_of b.session b.entries b.surfaces)) ready c.in_err-write_report.ensures.text.cut))
-
 pub returns : goal.returns
 returns g c =
     let b = c.in_ok-board.board in
     let run : Run = run_of g.S.Source.left g.S.Source.faults c.args.source.now c.solved.new.source g.K.Sink.held g.K.Sink.faults c.args.sink.now c.write_report.new.sink in
     let ready = report_ready c.args.settings run b.session (report_of b.session b.entries b.surfaces) c.in_ok-board.ensures.given (is_report b (c.write_report.ensures.certified c.in_ok-board.ensures.complete)) c.write_report.ensures.ranges in
-    (tt, answered (Unwrap c.args.settings) run 0 (report_text (report_of b.session b.entries b.surfaces)) ready refl c.in_ok-write_report.ensures.text.written)
+    rw c.end_of.ensures (tt, put_ends (Unwrap c.args.settings) run 0 (report_text (report_of b.session b.entries b.surfaces)) ready c.write_report.result refl c.write_report.ensures.text)

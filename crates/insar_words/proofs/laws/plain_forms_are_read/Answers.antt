@@ -1,5 +1,4 @@
-use Rattle.insar_words.proofs.PlainLaws.{plain_check, plain_grid, plain_trial, plain_unwrap}
-use Rattle.insar_words.proofs.PlainReads.{plain_forms}
+use Rattle.insar_words.proofs.PlainReads.{plain_check, plain_forms, plain_grid, plain_trial, plain_unwrap}
 use Rattle.insar_words.proofs.laws.plain_forms_are_read.Goals as goal
 
 pub returns : goal.returns

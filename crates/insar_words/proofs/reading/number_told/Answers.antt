@@ -1,7 +1,7 @@
 use Rattle.std.proofs.Common.{◌∙◌, arith, refl, sym, subst}
 use Rattle.std.specs.Option.{IsSome}
 use Rattle.std.specs.Str.Parse.{ExplainsUnsignedError, HasUnsignedDigitsIfOk, ParsesUnsigned}
-use Rattle.insar_words.proofs.ReadLemmas.{number_got}
+use Rattle.insar_words.proofs.RequestLemmas.{number_got}
 use Rattle.insar_words.proofs.reading.number_told.Goals as goal
 
 pub unwrap-requires : goal.unwrap-requires

@@ -2,8 +2,7 @@ use Rattle.std.proofs.Common.{◌≡◌, ◌∙◌, ◌-◌, Some, None, length,
 use Rattle.std.specs.Prelude.{option_copied, slice_get}
 use Rattle.surface_snapshots.specs.Views.{parts_of}
 use Rattle.tile_board.proofs.NewestSurface.{newest_is, some_newest}
-use Rattle.insar_top.proofs.SummaryLemmas.{least_cost}
-use Rattle.insar_top.proofs.TrialLemmas.{first_published}
+use Rattle.insar_top.proofs.TrialLemmas.{first_published, least_cost}
 use Rattle.insar_top.proofs.trial.summary.newest_cost.Goals as goal
 
 pub unreachable-requires : goal.unreachable-requires

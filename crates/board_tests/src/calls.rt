@@ -32,7 +32,7 @@ fn claims(alloc: Global, board: &mut Board, count: u32) -> Result<String, AllocE
 }
 
 /// The result of a tile at a stamp, with these numbers of cycles and faces, all of them 0.
-fn zeros(
+pub fn zeros(
     alloc: Global,
     tile: u32,
     stamp: u32,
@@ -78,7 +78,7 @@ fn hand(alloc: Global, board: &mut Board, words: &mut Split<'_, char>) -> Result
 }
 
 /// An offset for one region, if there are no seam edges.
-fn seams(alloc: Global, revision: u32, offset: i64) -> Result<SeamResult, AllocError> {
+pub fn seams(alloc: Global, revision: u32, offset: i64) -> Result<SeamResult, AllocError> {
     Ok(SeamResult {
         revision,
         offsets: vec![in alloc; offset]?,

@@ -8,4 +8,6 @@ mod calls;
 #[cfg(test)]
 mod collector_rows;
 #[cfg(test)]
+mod desk_rows;
+#[cfg(test)]
 mod sessions;

@@ -1,4 +1,4 @@
-ghost use Rattle.std.specs.Prelude.{◌≤◌};
+ghost use Rattle.std.specs.Prelude.{◌≡◌, ◌≤◌, [], IfOk};
 
 use insar_ports::{Feed, MemorySource};
 use raster_model::{RuleKind, Session};
@@ -18,7 +18,9 @@ fn session(alloc: Global, text: &str, side: u32) -> Result<Session, SessionFault
 }
 
 /// The board of a session.
-fn begun(alloc: Global, session: Session) -> Result<Board, AllocError> {
+fn begun(alloc: Global, session: Session) -> Result<Board, AllocError>
+    ensures { IfOk result (λ board. board.entries ≡ []) }
+{
     let session = Arc::new(alloc, session)?;
     Board::new(alloc, session)
 }
@@ -26,6 +28,7 @@ fn begun(alloc: Global, session: Session) -> Result<Board, AllocError> {
 /// The board of a session's text, with tiles of a side.
 pub fn board(alloc: Global, text: &str, side: u32) -> Result<Board, SessionFault>
     requires { (2 ≤ side) × (side ≤ 128) }
+    ensures { IfOk result (λ board. board.entries ≡ []) }
 {
     let session = session(alloc, text, side)?;
     Ok(begun(alloc, session)?)

@@ -16,8 +16,10 @@ from pathlib import Path
 import numpy as np
 from osgeo import gdal, osr
 
-sys.path.insert(0, str(Path(__file__).resolve().parent.parent))
-from rasters import CYCLE, TOP, read_session, run_main
+TOP = Path(__file__).resolve().parent.parent.parent
+sys.path.insert(0, str(TOP / "python"))
+from wundjeska.planes import CYCLE, read_session
+from wundjeska.trouble import run_main
 
 LEFT, UPPER, SCENE = 430000.0, 4520000.0, 19200.0  # metres; the scene's width
 

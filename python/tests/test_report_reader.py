@@ -1,11 +1,10 @@
-#!/usr/bin/python3
 """Tests report_reader.py on reports written by hand: what is read, and for each broken line its number."""
 import io
 import unittest
 
 import numpy as np
 
-from report_reader import NODATA, BrokenLine, read_grid_from, read_report_from
+from wundjeska.report_reader import NODATA, BrokenLine, Report, read_grid_from, read_report_from
 
 # A turn around the one cell, whose first pixel is masked before anything is published.
 TURN = b"""insar-report 1
@@ -109,11 +108,11 @@ BREAKS = [
 ]
 
 
-def read(text):
+def read(text: bytes) -> Report:
     return read_report_from(io.BytesIO(text))
 
 
-def broken_line(text):
+def broken_line(text: bytes) -> int:
     """The number of the first broken line, 0 if none is."""
     try:
         read(text)
@@ -123,7 +122,7 @@ def broken_line(text):
 
 
 class Reads(unittest.TestCase):
-    def test_the_head_and_the_history(self):
+    def test_the_head_and_the_history(self) -> None:
         report = read(TURN)
         self.assertEqual((report.width, report.height, report.side, report.rule), (2, 2, 64, "least"))
         kinds = [(entry.kind, entry.line) for entry in report.entries]
@@ -132,13 +131,13 @@ class Reads(unittest.TestCase):
         self.assertEqual((report.entries[1].tile, report.entries[1].stamp), (0, 1))
         self.assertEqual((report.entries[3].analyst, report.entries[3].revision), (1, 1))
 
-    def test_a_surface(self):
+    def test_a_surface(self) -> None:
         (surface,) = read(TURN).surfaces
         np.testing.assert_array_equal(surface.values, [[NODATA, 16384], [49152, 32768]])
         np.testing.assert_array_equal(surface.cycles(), [[np.nan, 0.25], [0.75, 0.5]])
         self.assertEqual((surface.values.dtype, surface.flows.shape), (np.int64, (0,)))
 
-    def test_faces_flows_and_large_numbers(self):
+    def test_faces_flows_and_large_numbers(self) -> None:
         report = read(TILES)
         (surface,) = report.surfaces
         self.assertEqual((surface.tile_cost, surface.seam_cost), (2**128 - 1, 8))
@@ -148,16 +147,16 @@ class Reads(unittest.TestCase):
         np.testing.assert_array_equal(surface.flows, [-4, -4, 8])
         self.assertIsNone(report.entries[0].revision)
 
-    def test_masks_of_the_revisions(self):
+    def test_masks_of_the_revisions(self) -> None:
         first = np.array([[1, 0, 1, 1], [1, 0, 0, 1], [0, 1, 1, 1]])
         before, after = read(TILES).masks(first)
         np.testing.assert_array_equal(before, first)
         np.testing.assert_array_equal(after, [[1, 1, 1, 1], [1, 1, 1, 1], [0, 1, 1, 1]])
 
-    def test_an_empty_history(self):
+    def test_an_empty_history(self) -> None:
         self.assertEqual(read(b"insar-report 1\nsize 1 1\ntile 2\nrule mean\nend\n").entries, [])
 
-    def test_a_grid_alone(self):
+    def test_a_grid_alone(self) -> None:
         grid = b"".join(TURN.splitlines(keepends=True)[8:16])
         np.testing.assert_array_equal(read_grid_from(io.BytesIO(grid)), [[NODATA, 16384], [49152, 32768]])
         self.assertRaises(BrokenLine, read_grid_from, io.BytesIO(grid + b"\n"))
@@ -165,19 +164,19 @@ class Reads(unittest.TestCase):
 
 
 class Refuses(unittest.TestCase):
-    def test_each_break_with_its_line(self):
+    def test_each_break_with_its_line(self) -> None:
         for number, text, wanted in BREAKS:
             lines = TURN.split(b"\n")
             lines[number - 1] = text
             with self.subTest(number=number, text=text):
                 self.assertEqual(broken_line(b"\n".join(lines)), wanted)
 
-    def test_a_report_that_is_cut_anywhere(self):
+    def test_a_report_that_is_cut_anywhere(self) -> None:
         for end in range(len(TURN)):
             with self.subTest(end=end):
                 self.assertEqual(broken_line(TURN[:end]), TURN[:end].count(b"\n") + 1)
 
-    def test_a_line_that_is_missing(self):
+    def test_a_line_that_is_missing(self) -> None:
         # a revision, a kept result or a look may be left out, and of two rows the second takes the place of the first
         wanted = {5: 0, 6: 0, 15: 16, 19: 0}
         for number in range(1, 21):

@@ -1,4 +1,3 @@
-#!/usr/bin/python3
 """Tests the recipes with the program: the way there and back, broken lines told alike, and frames."""
 import io
 import os
@@ -6,35 +5,38 @@ import random
 import re
 import subprocess
 import unittest
+from pathlib import Path
+from typing import Optional, Tuple
 
 import numpy as np
 from osgeo import gdal
 
-from rasters import CYCLE, TOP, check_report, program, run_program
-from report_reader import NODATA, BrokenLine, read_grid_from, read_report_from
-from test_rasters import HERE, InFolder, command
+from wundjeska.planes import CYCLE
+from wundjeska.program import check_report, program, run_program
+from wundjeska.report_reader import NODATA, BrokenLine, read_grid_from, read_report_from
+from helpers import HERE, TOP, InFolder, argv, command
 
 KIT = HERE / "kit"
 COHERENCE = ("--coherence", KIT / "coherence.tif")
 
 
-def wrapped(radians):
+def wrapped(radians: np.ndarray) -> np.ndarray:
     """From -pi to pi."""
     return np.angle(np.exp(1j * radians))
 
 
 class ThereAndBack(InFolder):
-    def there_and_back(self, phase):
+    def there_and_back(self, phase: Path) -> gdal.Dataset:
         """The GeoTIFF in radians of a raster of phases of the kit, by the report."""
         session, report, made = (self.folder / name for name in ("session", "report", "made.tif"))
         self.assertEqual(command("to_session.py", phase, *COHERENCE, session)[0], 0)
         report.write_bytes(run_program(["unwrap", "--tile", "128"], session.read_bytes(), "kit"))
         self.assertEqual(check_report(session.read_bytes(), report.read_bytes(), "least", 128), (True, "accepted"))
-        words = ("--like", phase, "--unit", "radians", "--float64", made)
+        words = ("--session", session, "--like", phase, "--unit", "radians", "--float64", made)
         self.assertEqual(command("to_geotiff.py", report, *words), (0, ""))
         return gdal.Open(str(made))
 
-    def test_the_surface_is_the_phase_up_to_cycles_in_its_place(self):
+    def test_the_surface_is_the_phase_up_to_cycles_in_its_place(self) -> None:
         phase = gdal.Open(str(KIT / "phase.tif"))
         radians, lake = phase.ReadAsArray(), phase.ReadAsArray() == -9999
         for name in ("phase.tif", "complex.tif"):
@@ -47,18 +49,18 @@ class ThereAndBack(InFolder):
                 self.assertEqual(made.GetGeoTransform(), phase.GetGeoTransform())
                 self.assertTrue(made.GetSpatialRef().IsSame(phase.GetSpatialRef()))
 
-    def test_the_command_grid_on_standard_input(self):
+    def test_the_command_grid_on_standard_input(self) -> None:
         session, made = self.folder / "session", self.folder / "made.tif"
         self.assertEqual(command("to_session.py", KIT / "phase.tif", *COHERENCE, session)[0], 0)
         grid = run_program(["grid"], session.read_bytes(), "kit")
-        words = [HERE / "to_geotiff.py", "-", "--like", KIT / "phase.tif", "--float64", made]
+        words = argv("to_geotiff.py", "-", "--like", KIT / "phase.tif", "--float64", made)
         self.assertEqual(subprocess.run(words, input=grid).returncode, 0)
         values = read_grid_from(io.BytesIO(grid))
         np.testing.assert_array_equal(
             gdal.Open(str(made)).ReadAsArray(), np.where(values == NODATA, -9999, values / CYCLE)
         )
 
-    def test_a_session_of_a_script_that_publishes_nothing(self):
+    def test_a_session_of_a_script_that_publishes_nothing(self) -> None:
         session, script = self.folder / "session", self.folder / "script"
         script.write_text("analyst\nshow\nend\n")
         self.assertEqual(command("to_session.py", KIT / "phase.tif", "--script", script, session)[0], 0)
@@ -68,7 +70,7 @@ class ThereAndBack(InFolder):
         )
         self.assertEqual((status, "no surface was published" in line), (3, True))
 
-    def test_the_program_says_what_is_wrong(self):
+    def test_the_program_says_what_is_wrong(self) -> None:
         cut = (TOP / "examples/volcano.pgm").read_bytes()[:1000]
         ran = subprocess.run([program(), "unwrap"], input=cut, capture_output=True)
         with self.assertRaisesRegex(
@@ -77,7 +79,7 @@ class ThereAndBack(InFolder):
             run_program(["unwrap"], cut, "cut")
 
 
-def changed(text, chance):
+def changed(text: bytes, chance: random.Random) -> bytes:
     """A report with one change: a line that is gone, twice there or changed in one place, or an end that comes too early."""
     lines = text.split(b"\n")
     number, kind = chance.randrange(len(lines) - 1), chance.randrange(4)
@@ -92,14 +94,14 @@ def changed(text, chance):
     return b"\n".join(lines)
 
 
-def told_by_check(session, report):
+def told_by_check(session: bytes, report: bytes) -> int:
     """The number of the broken line that `check` tells, 0 if the form is right."""
     _, line = check_report(session, report, "least", 2)
     found = re.fullmatch(r"report fault line ([0-9]+)", line)
     return int(found.group(1)) if found else 0
 
 
-def told_by_reader(report):
+def told_by_reader(report: bytes) -> int:
     try:
         read_report_from(io.BytesIO(report))
     except BrokenLine as broken:
@@ -108,7 +110,7 @@ def told_by_reader(report):
 
 
 class BrokenLines(unittest.TestCase):
-    def test_the_reader_and_check_tell_the_same_line(self):
+    def test_the_reader_and_check_tell_the_same_line(self) -> None:
         session = b"".join((TOP / "examples" / name).read_bytes() for name in ("turn.pgm", "analyst"))
         report = run_program(["unwrap", "--tile", "2"], session, "turn")
         self.assertEqual(told_by_check(session, report), 0)
@@ -123,15 +125,15 @@ class BrokenLines(unittest.TestCase):
 
 
 class Frames(InFolder):
-    def frames(self, *words, unwrap=None):
+    def frames(self, *words: str, unwrap: Optional[Path] = None) -> Tuple[int, str]:
         """Runs frames.py on the kit in frames of 64 pixels; its status and what it wrote."""
         environment = {**os.environ, "UNWRAP": str(unwrap or program())}
         cut = ("--folder", self.folder / "frames", "--side", "64", "--overlap", "24", "--tile", "64")
-        words = [HERE / "frames.py", KIT / "phase.tif", *COHERENCE, *cut, *words, self.folder / "joined.tif"]
-        ran = subprocess.run(list(map(str, words)), capture_output=True, text=True, env=environment)
+        called = argv("frames.py", KIT / "phase.tif", *COHERENCE, *cut, *words, self.folder / "joined.tif")
+        ran = subprocess.run(called, capture_output=True, text=True, env=environment)
         return ran.returncode, ran.stdout + ran.stderr
 
-    def test_the_joint_is_congruent_and_nearly_that_of_the_whole(self):
+    def test_the_joint_is_congruent_and_nearly_that_of_the_whole(self) -> None:
         status, told = self.frames("--float64", "--agree", "0.5")
         self.assertEqual(status, 0, told)
         self.assertIn("not covered by any certificate", told)
@@ -147,7 +149,16 @@ class Frames(InFolder):
         _, counts = np.unique(off[opened], return_counts=True)
         self.assertGreater(counts.max() / opened.sum(), 0.95)
 
-    def test_frames_that_are_kept_are_not_done_again(self):
+    def test_a_reference_over_frames(self) -> None:
+        box = ("50", "40", "80", "60")  # in four frames
+        status, told = self.frames("--float64", "--agree", "0.5", "--reference-window", *box)
+        self.assertEqual(status, 0, told)
+        values = gdal.Open(str(self.folder / "joined.tif")).ReadAsArray()[40:61, 50:81]
+        self.assertAlmostEqual(float(values[values != -9999].mean()), 0, 9)
+        status, told = self.frames("--reference-window", "50", "40", "128", "60")
+        self.assertEqual((status, "not within the raster" in told), (3, True), told)
+
+    def test_frames_that_are_kept_are_not_done_again(self) -> None:
         self.frames()
         for file in (self.folder / "frames").glob("frame-0-*.session"):
             file.unlink()
@@ -159,7 +170,7 @@ class Frames(InFolder):
         _, told = self.frames("--rule", "mean")
         self.assertNotIn("in an earlier run", told)
 
-    def test_a_frame_that_check_refuses_is_told(self):
+    def test_a_frame_that_check_refuses_is_told(self) -> None:
         liar = self.folder / "liar"
         real, spoil = program(), "sed 's/^costs ./costs 7/'"
         liar.write_text(f'#!/bin/sh\nif [ $1 = unwrap ]; then {real} "$@" | {spoil}; else exec {real} "$@"; fi\n')
@@ -169,18 +180,18 @@ class Frames(InFolder):
         self.assertRegex(told, "frame-0-0: refused surface 0 tilecost")
         self.assertFalse((self.folder / "joined.tif").exists())
 
-    def test_a_program_without_memory_is_told(self):
+    def test_a_program_without_memory_is_told(self) -> None:
         poor = self.folder / "poor"
         poor.write_text("#!/bin/sh\ncat >/dev/null\necho no memory >&2\nexit 4\n")
         poor.chmod(0o755)
         status, told = self.frames(unwrap=poor)
         self.assertEqual((status, told), (4, "frame-0-0: unwrap ended with status 4: no memory\n"))
 
-    def test_an_overlap_that_does_not_agree_is_told_with_its_place(self):
+    def test_an_overlap_that_does_not_agree_is_told_with_its_place(self) -> None:
         status, told = self.frames("--agree", "1")
         self.assertEqual(status, 1, told)
         self.assertRegex(
-            told, r"overlaps of pieces do not agree at 100 % of their pixels:\n  frame-.*columns [0-9]+ to"
+            told, r"pieces of overlaps do not agree at 100 % of their pixels:\n  frame-.*columns [0-9]+ to"
         )
         self.assertTrue((self.folder / "joined.tif").exists())
 

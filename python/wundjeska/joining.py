@@ -4,52 +4,13 @@ A surface is int64, (rows, columns), in units of 1/65536 cycle. A piece is a lar
 touch each other to the right, left, above and below.
 """
 from dataclasses import dataclass
-from typing import Dict, Iterable, Iterator, List, Tuple
+from typing import Dict, Iterable, Iterator, List, Sequence, Tuple
 
 import numpy as np
 
-CYCLE = 65536
+from .planes import CYCLE
+
 Piece = Tuple[int, int]  # the number of a frame, and that of one of its pieces
-
-
-def pieces_of(opened: np.ndarray) -> np.ndarray:
-    """The number of each open pixel's piece, int32, (rows, columns), -1 at masked pixels.
-
-    Pieces are numbered from 0 in row order of their first pixels.
-    """
-    left = np.zeros_like(opened)
-    left[:, 1:] = opened[:, :-1]
-    runs = np.cumsum(opened & ~left).reshape(opened.shape) - 1  # pixels of a row that touch have one number
-    both = opened[:-1] & opened[1:]
-    above, below = runs[:-1][both], runs[1:][both]
-    new = (np.diff(above, prepend=-1) != 0) | (np.diff(below, prepend=-1) != 0)
-    least = connect(int(runs.max(initial=-1)) + 1, above[new], below[new])
-    _, numbers = np.unique(least, return_inverse=True)
-    if not len(numbers):
-        return np.full(opened.shape, -1, dtype=np.int32)
-    return np.where(opened, numbers[runs], -1).astype(np.int32)
-
-
-def connect(count: int, one: np.ndarray, other: np.ndarray) -> np.ndarray:
-    """For each of `count` nodes the least node that links (one[i], other[i]) lead to; int64, (count)."""
-    least = np.arange(count)
-    while len(one):
-        low = np.minimum(least[one], least[other])
-        np.minimum.at(least, least[one], low)
-        np.minimum.at(least, least[other], low)
-        least = settled(least)
-        apart = least[one] != least[other]
-        one, other = one[apart], other[apart]
-    return least
-
-
-def settled(parents: np.ndarray) -> np.ndarray:
-    """The last of the parents of each node; a parent is not greater than its node."""
-    while True:
-        further = parents[parents]
-        if np.array_equal(further, parents):
-            return parents
-        parents = further
 
 
 @dataclass
@@ -70,7 +31,9 @@ class Link:
         return self.counts.get(cycles, 0) / self.pixels()
 
 
-def links_of(frames: Tuple[int, int], values, pieces, corner: Tuple[int, int]) -> Iterator[Link]:
+def links_of(
+    frames: Tuple[int, int], values: Sequence[np.ndarray], pieces: Sequence[np.ndarray], corner: Tuple[int, int]
+) -> Iterator[Link]:
     """The links of two frames by what both say of their overlap, whose first pixel is the corner (column, row).
 
     `values` and `pieces` are two arrays each, (rows, columns) of the overlap. The same pixels are open in both.

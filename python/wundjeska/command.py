@@ -1,0 +1,79 @@
+"""The command `wundjeska`: a verb and its words. Without a verb it unwraps."""
+import json
+import sys
+from argparse import ArgumentParser
+from importlib import import_module
+from pathlib import Path
+from typing import Dict, List, NoReturn, Optional
+
+from . import __version__
+from .trouble import REFUSED_WORDS, Trouble, run_main
+
+VERBS: Dict[str, str] = {
+    "unwrap": "unwraps an interferogram in a file, has the result checked and writes it",
+    "session": "makes a session, the input of the proved program, of rasters",
+    "surface": "makes a GeoTIFF of the surface in a report or a grid",
+    "check": "has the proved checker judge a report",
+    "frames": "unwraps a raster above the limit in frames that overlap",
+    "scenes": "unwraps a folder of scenes by Snakemake",
+    "page": "makes a page of a session and its report",
+    "report": "tells what is in a report",
+}
+INFO = Path(__file__).resolve().parent / "build.json"  # of what a package was built from
+USE = "usage: wundjeska [VERB] WORDS..; `wundjeska VERB --help` tells a verb's words\n\n"
+
+
+def parser_of(verb: str) -> ArgumentParser:
+    """The parser of a verb's words."""
+    parser: ArgumentParser = import_module(f".commands.{verb}", __package__).words()
+    parser.prog = f"wundjeska {verb}"
+    setattr(parser, "error", refuse)
+    return parser
+
+
+def refuse(why: str) -> NoReturn:
+    """What becomes of words that a parser refuses: one line."""
+    raise Trouble(f"{why}; --help tells more", REFUSED_WORDS)
+
+
+def version() -> str:
+    """The version, and for a package the commit, kit and logic of the program inside."""
+    told = json.loads(INFO.read_text()) if INFO.exists() else {}
+    return "\n".join([f"wundjeska {__version__}", *(f"{name} {value}" for name, value in told.items())])
+
+
+def help_text() -> str:
+    lines = [f"  {verb:<9} {what}" for verb, what in VERBS.items()]
+    return USE + "\n".join([*lines, "", "Without a verb it is `unwrap`:", "", parser_of("unwrap").format_help()])
+
+
+def run(verb: str, words: List[str]) -> int:
+    """The status of a verb."""
+    if verb == "scenes":  # words after the folder are Snakemake's
+        status: int = import_module(".commands.scenes", __package__).main(words)
+        return status
+    parser = parser_of(verb)
+    asked = parser.parse_args(words)
+    status = import_module(f".commands.{verb}", __package__).main(asked)
+    return status
+
+
+def command(words: List[str]) -> int:
+    """The status of the words."""
+    if not words:
+        raise Trouble("wanted a raster to unwrap, or a verb; --help tells more", REFUSED_WORDS)
+    if words[0] in ("--help", "-h"):
+        print(help_text())
+        return 0
+    if words[0] == "--version":
+        print(version())
+        return 0
+    if words[0] in VERBS:
+        return run(words[0], words[1:])
+    return run("unwrap", words)
+
+
+def main(verb: Optional[str] = None) -> None:
+    """Runs the words of the command line, of one verb if it is named, and ends the process."""
+    words = sys.argv[1:]
+    run_main(lambda: command(words) if verb is None else run(verb, words))

@@ -1,0 +1,31 @@
+"""Has the proved checker judge a report, by the report's own side and rule. It solves nothing.
+
+What it says is written: `accepted`, or the first thing that is wrong.
+"""
+from argparse import ArgumentParser, Namespace, RawDescriptionHelpFormatter
+from pathlib import Path
+
+from ..program import check_report
+from ..trouble import DISAGREES
+from ..unwrapping import read_report
+
+
+def words() -> ArgumentParser:
+    found = ArgumentParser(
+        description=__doc__,
+        formatter_class=RawDescriptionHelpFormatter,
+        epilog="example: wundjeska check session report\n"
+        "The status is 0 if the report is accepted, 1 if it is refused, 3 if the session or the report breaks its form, 5 if a "
+        "file cannot be read.",
+    )
+    found.add_argument("session", help="the session that the report is of")
+    found.add_argument("report", help="what was written of it")
+    return found
+
+
+def main(asked: Namespace) -> int:
+    session, text = Path(asked.session).read_bytes(), Path(asked.report).read_bytes()
+    report = read_report(text, asked.report)
+    accepted, verdict = check_report(session, text, report.rule, report.side)
+    print(verdict)
+    return 0 if accepted else DISAGREES

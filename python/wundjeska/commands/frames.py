@@ -1,0 +1,371 @@
+"""Unwraps a raster of whatever size: in frames that overlap, each unwrapped and checked, joined by whole cycles.
+
+A session has at most 4,194,304 pixels. A larger raster is cut into frames of at most --side pixels a side, which overlap by
+at least --overlap pixels. Each frame is unwrapped, and `check` has to accept its report. In an overlap both surfaces differ
+from the same phases by whole cycles, so they differ from each other by whole cycles; the median of the differences is what
+joins them. If open pixels fall into pieces that do not touch, each piece of each frame is joined for itself. The overlaps
+at which most pixels agree are taken first; the others are compared with what these say. Each frame fills the raster up to
+the middle of the overlaps.
+
+Each frame's surface is certified. The joint is not: no certificate says that other whole cycles at the overlaps would not
+cost less. So each overlap is told, with how many pixels agree. An overlap agrees if the part --agree of all its pixels does;
+pieces in it that do not are told too. If an overlap does not agree, the raster is written all the same, and the status is 1.
+
+Rasters are read and written by windows. --folder keeps the session, the report and the surface of each frame. What is
+there is not done again, so a run that was cut off goes on where it stopped.
+"""
+import io
+import threading
+from argparse import ArgumentParser, Namespace, RawDescriptionHelpFormatter
+from concurrent.futures import ThreadPoolExecutor
+from dataclasses import dataclass
+from pathlib import Path
+from typing import Any, Dict, Iterator, List, Tuple
+
+import numpy as np
+
+from .. import program
+from ..components import pieces_of
+from ..joining import Link, Offsets, links_of, offsets_of
+from ..outputs import Outputs, keep
+from ..planes import MAX_PIXELS, session_of
+from ..product import (
+    add_reference_words,
+    add_unit_words,
+    box_name,
+    box_of,
+    check_box,
+    check_unit_words,
+    cycles_of,
+    factor_of,
+    kind_of,
+    reference_note,
+    unit_notes,
+)
+from ..rasters import Scene, Window, add_scene_words, close, create_like, name_of, put_values, scene_of, size_of
+from ..trouble import DISAGREES, REFUSED_WORDS, Trouble
+from ..unwrapping import Settings, Solved, solve
+from ..weights import highest_of
+from .unwrap import add_solver_words, settings_of
+
+NOT_PROVED = (
+    "Each frame is certified: `check` accepted its report. The joint of the frames is not covered by any certificate or "
+    "proof. The whole cycles between frames rest on the medians above."
+)
+MAX_LINES, MAX_COUNTS, MAX_JOBS = 20, 4, 64  # on pieces that do not agree, and of differences in such a line
+
+
+@dataclass
+class Frame:
+    """A frame: its window, the part of the raster that it fills, both (column, row, width, height), and its files."""
+
+    name: str
+    window: Window
+    core: Window
+    folder: Path
+
+    def file(self, kind: str) -> Path:
+        return self.folder / f"{self.name}.{kind}"
+
+    def load(self, kind: str, window: Window) -> np.ndarray:
+        """Of the kept 'values' (int64) or 'pieces' (int32) those of a window of the raster, (rows, columns)."""
+        x, y, width, height = window
+        x, y = x - self.window[0], y - self.window[1]
+        kept: np.ndarray = np.load(self.file(f"{kind}.npy"), mmap_mode="r")
+        return kept[y : y + height, x : x + width]
+
+
+# Frames
+
+
+def spans_of(length: int, side: int, overlap: int) -> List[Tuple[int, int]]:
+    """The first pixel and the length of each frame along a side; at most `side` long, they overlap by `overlap` or more."""
+    count = max(1, -(-(length - overlap) // (side - overlap)))
+    size = -(-(length + (count - 1) * overlap) // count)
+    return [(number * (length - size) // max(1, count - 1), size) for number in range(count)]
+
+
+def cores_of(spans: List[Tuple[int, int]]) -> List[Tuple[int, int]]:
+    """The first pixel and the length of what each frame fills: up to the middle of the overlaps."""
+    ends = [start + size for start, size in spans]
+    cuts = [(end + start) // 2 for end, (start, _) in zip(ends, spans[1:])]
+    return [(first, last - first) for first, last in zip([0, *cuts], [*cuts, ends[-1]])]
+
+
+def frames_of(size: Tuple[int, int], side: int, overlap: int, folder: Path) -> List[Frame]:
+    """The frames of a raster of (width, height) pixels, row by row."""
+    columns, rows = (spans_of(length, side, overlap) for length in size)
+    across, down = list(zip(columns, cores_of(columns))), list(zip(rows, cores_of(rows)))
+    return [
+        Frame(f"frame-{row}-{column}", (x, y, w, h), (left, upper, wide, high), folder)
+        for row, ((y, h), (upper, high)) in enumerate(down)
+        for column, ((x, w), (left, wide)) in enumerate(across)
+    ]
+
+
+def overlap_of(one: Window, other: Window) -> Window:
+    """The window that both have; its width or height is 0 or less if there is none."""
+    x, y = max(one[0], other[0]), max(one[1], other[1])
+    right, lower = min(one[0] + one[2], other[0] + other[2]), min(one[1] + one[3], other[1] + other[3])
+    return x, y, right - x, lower - y
+
+
+# Each frame
+
+
+def text_of(array: np.ndarray) -> bytes:
+    """An array as the bytes of a .npy file."""
+    file = io.BytesIO()
+    np.save(file, array)
+    return file.getvalue()
+
+
+def head_of(frame: Frame, settings: Settings) -> bytes:
+    """What a report on the frame begins with."""
+    _, _, width, height = frame.window
+    return f"insar-report 1\nsize {width} {height}\ntile {settings.side}\nrule {settings.rule}\n".encode()
+
+
+def is_kept(frame: Frame, session: bytes, head: bytes) -> bool:
+    """Whether an earlier run ended with this frame, of the same session by the same options."""
+    files = [frame.file(kind) for kind in ("session", "report", "pieces.npy", "values.npy")]
+    if not all(file.exists() for file in files) or files[0].read_bytes() != session:
+        return False
+    with open(files[1], "rb") as report:
+        return report.read(len(head)) == head
+
+
+def keep_solved(frame: Frame, session: bytes, solved: Solved) -> None:
+    """Keeps what was found of a frame."""
+    frame.file("session").unlink(missing_ok=True)  # where it is, all else belongs to it
+    keep(frame.file("report"), solved.report)
+    keep(frame.file("pieces.npy"), text_of(pieces_of(solved.surface.opened())))
+    keep(frame.file("values.npy"), text_of(solved.surface.values))
+    keep(frame.file("session"), session)
+
+
+@dataclass
+class Job:
+    """What all frames have in common."""
+
+    scene: Scene
+    settings: Settings
+    reading: threading.Lock  # GDAL reads a raster for one thread at a time
+
+
+def do_frame(frame: Frame, job: Job) -> str:
+    """Sees that a frame's surface is kept; a line on it."""
+    x, y, width, height = frame.window
+    with job.reading:
+        session = session_of(*job.scene.read(frame.window), highest=highest_of(job.scene.looks))
+    if is_kept(frame, session, head_of(frame, job.settings)):
+        words = "accepted in an earlier run"
+    else:
+        solved = solve(session, job.settings, name=frame.name)
+        keep_solved(frame, session, solved)
+        words = f"{solved.verdict}, tiles cost {solved.surface.tile_cost}, seams {solved.surface.seam_cost}"
+    return f"{frame.name}: columns {x} to {x + width - 1}, rows {y} to {y + height - 1}: {words}"
+
+
+def do_frames(frames: List[Frame], job: Job, jobs: int) -> None:
+    """Does all frames, some at once, and tells each when it is done."""
+    pool = ThreadPoolExecutor(jobs)
+    try:
+        for line in pool.map(lambda frame: do_frame(frame, job), frames):
+            print(line, flush=True)
+    except KeyboardInterrupt:
+        program.stop()
+        raise
+    finally:
+        pool.shutdown(cancel_futures=True)  # after a frame that failed none is begun
+
+
+# Their joint
+
+
+def links_between(one: int, other: int, frames: List[Frame]) -> List[Link]:
+    """The links of two frames, by their numbers."""
+    window = overlap_of(frames[one].window, frames[other].window)
+    if min(window[2:]) <= 0:
+        return []
+    values = [frames[number].load("values", window) for number in (one, other)]
+    pieces = [frames[number].load("pieces", window) for number in (one, other)]
+    return list(links_of((one, other), values, pieces, window[:2]))
+
+
+def all_links(frames: List[Frame]) -> Iterator[List[Link]]:
+    """The links of each two frames that overlap in open pixels."""
+    for one in range(len(frames)):
+        found = (links_between(one, other, frames) for other in range(one + 1, len(frames)))
+        yield from filter(None, found)
+
+
+def pieces_in(frames: List[Frame]) -> List[Tuple[int, int]]:
+    """All pieces of all frames."""
+    counts = [int(frame.load("pieces", frame.window).max(initial=-1)) + 1 for frame in frames]
+    return [(number, piece) for number, count in enumerate(counts) for piece in range(count)]
+
+
+def line_on(links: List[Link], frames: List[Frame], offsets: Offsets) -> str:
+    """A line on the overlap of two frames."""
+    pixels = sum(link.pixels() for link in links)
+    agreeing = sum(link.counts.get(offsets.cycles(link), 0) for link in links)
+    cycles = sorted({offsets.cycles(link) for link in links})
+    span = f"{cycles[0]}" if len(cycles) == 1 else f"{cycles[0]} to {cycles[-1]}"
+    names = f"{frames[links[0].first[0]].name} and {frames[links[0].second[0]].name}"
+    where = f" in {len(links)} pieces" if len(links) > 1 else ""
+    return (
+        f"{names}: {agreeing} of {pixels} pixels{where} agree ({100 * agreeing / pixels:.2f} %), apart by {span} cycles"
+    )
+
+
+def line_on_disagreement(link: Link, frames: List[Frame], offsets: Offsets) -> str:
+    """A line on two pieces that do not agree."""
+    names = (
+        f"{frames[link.first[0]].name} piece {link.first[1]} and {frames[link.second[0]].name} piece {link.second[1]}"
+    )
+    most = sorted(link.counts.items(), key=lambda item: -item[1])
+    found = ", ".join(f"{cycles} at {pixels}" for cycles, pixels in most[:MAX_COUNTS])
+    found += f", {len(most) - MAX_COUNTS} more at others" if len(most) > MAX_COUNTS else ""
+    taken = offsets.cycles(link)
+    if taken != link.cycles:
+        return f"  {names}: apart by {taken} cycles as other overlaps say, and here by {found} pixels"
+    x0, y0, x1, y1 = link.box
+    return f"  {names}: apart by {found} pixels; those that are off lie in columns {x0} to {x1}, rows {y0} to {y1}"
+
+
+def share_of(links: List[Link], offsets: Offsets) -> float:
+    """The part of all pixels of an overlap at which both frames say the same."""
+    return sum(link.counts.get(offsets.cycles(link), 0) for link in links) / sum(link.pixels() for link in links)
+
+
+def tell(overlaps: List[List[Link]], frames: List[Frame], offsets: Offsets, agree: float) -> bool:
+    """Tells how the overlaps agree; whether all do. What is judged are the pixels of an overlap, not each of its pieces."""
+    apart = [links for links in overlaps if share_of(links, offsets) < agree]
+    off = [link for links in overlaps for link in links if link.share(offsets.cycles(link)) < agree]
+    off.sort(key=lambda link: -link.pixels())
+    lines = [line_on(links, frames, offsets) for links in overlaps]
+    if apart:
+        lines.append(f"{len(apart)} overlaps do not agree at {100 * agree:g} % of their pixels")
+    if off:
+        lines.append(f"{len(off)} pieces of overlaps do not agree at {100 * agree:g} % of their pixels:")
+    lines += [line_on_disagreement(link, frames, offsets) for link in off[:MAX_LINES]]
+    if len(off) > MAX_LINES:
+        lines.append(f"  and {len(off) - MAX_LINES} more")
+    if offsets.sets() > 1:
+        lines.append(f"{offsets.sets()} parts of the raster do not touch; whole cycles between them are arbitrary")
+    print("\n".join([*lines, NOT_PROVED]))
+    return not apart
+
+
+def notes_of(asked: Namespace, frames: List[Frame], agreed: bool) -> Dict[str, Any]:
+    """What the product tells of how it came about."""
+    return {
+        **unit_notes(asked),
+        "VERDICT": "each frame accepted, their joint not proved",
+        "JOINT": NOT_PROVED,
+        "OVERLAPS": f"all agree at {100 * asked.agree:g} %" if agreed else f"not all agree at {100 * asked.agree:g} %",
+        "FRAMES": len(frames),
+        "TILE_SIDE": asked.tile,
+        "RULE": asked.rule,
+        "REFERENCE": reference_note(asked),
+    }
+
+
+def parts_of(frames: List[Frame], offsets: Offsets) -> Iterator[Tuple[Window, np.ndarray]]:
+    """The joint surface in cycles, part by part, each with its window."""
+    for number, frame in enumerate(frames):
+        pieces = frame.load("pieces", frame.core)
+        added = np.array([offsets.of((number, piece)) for piece in range(pieces.max(initial=-1) + 1)] or [0])
+        yield frame.core, cycles_of(frame.load("values", frame.core)) + added[np.maximum(pieces, 0)]
+
+
+def level_in(frames: List[Frame], offsets: Offsets, asked: Namespace) -> float:
+    """The mean of the reference, 0 if there is none."""
+    box = box_of(asked)
+    if box is None:
+        return 0.0
+    window = (box[0], box[1], box[2] - box[0] + 1, box[3] - box[1] + 1)
+    found = [np.zeros(0)]
+    for core, cycles in parts_of(frames, offsets):
+        x, y, width, height = overlap_of(core, window)
+        if min(width, height) > 0:
+            inside = cycles[y - core[1] : y - core[1] + height, x - core[0] : x - core[0] + width]
+            found.append(inside[~np.isnan(inside)])
+    if not len(known := np.concatenate(found)):
+        raise Trouble(f"the reference {box_name(box)} is masked")
+    return float(known.mean())
+
+
+def write(
+    path: Path, frames: List[Frame], offsets: Offsets, scene: Scene, asked: Namespace, notes: Dict[str, Any]
+) -> None:
+    """Writes the raster, frame by frame."""
+    factor, level = factor_of(asked), level_in(frames, offsets, asked)
+    made = create_like(path, scene.phase.raster, kind_of(asked), asked.output_nodata, asked.unit, notes)
+    for core, cycles in parts_of(frames, offsets):
+        put_values(made, factor * (cycles - level), *core[:2])
+    close(made, path)
+
+
+def words() -> ArgumentParser:
+    found = ArgumentParser(
+        description=__doc__,
+        formatter_class=RawDescriptionHelpFormatter,
+        epilog="example: frames phase.tif --coherence coherence.tif --folder frames cycles.tif\n"
+        "The status is 0 if the raster was written and all overlaps agree, 1 if one does not or `check` refused a frame, 2 "
+        "for words that are refused, else that of the program or of `session`.",
+    )
+    add_scene_words(found)
+    found.add_argument(
+        "--folder", metavar="FOLDER", type=Path, required=True, help="what is kept of frames; about 25 bytes a pixel"
+    )
+    found.add_argument(
+        "--side", type=int, default=2048, metavar="N", help="pixels along a side of a frame, at most 2048"
+    )
+    found.add_argument(
+        "--overlap", type=int, default=128, metavar="N", help="pixels that frames overlap by (default: 128)"
+    )
+    found.add_argument(
+        "--agree", type=float, default=0.95, metavar="PART", help="of an overlap's pixels (default: 0.95)"
+    )
+    found.add_argument(
+        "--jobs", type=int, default=2, metavar="N", help="frames at once, less than 1 GB each (default: 2)"
+    )
+    add_solver_words(found)
+    add_reference_words(found)
+    add_unit_words(found)
+    found.add_argument("geotiff", help="the file to write")
+    return found
+
+
+def check_words(asked: Namespace) -> None:
+    """Trouble if arguments do not fit each other."""
+    check_unit_words(asked)
+    if not 0 < asked.overlap < asked.side or asked.side**2 > MAX_PIXELS:
+        raise Trouble("wanted 0 < OVERLAP < SIDE <= 2048", REFUSED_WORDS)
+    if not 1 <= asked.jobs <= MAX_JOBS:
+        raise Trouble(f"--jobs is from 1 to {MAX_JOBS}", REFUSED_WORDS)
+    if not 0 <= asked.agree <= 1:
+        raise Trouble("--agree is from 0 to 1", REFUSED_WORDS)
+
+
+def main(asked: Namespace) -> int:
+    check_words(asked)
+    settings = settings_of(asked)
+    scene = scene_of(asked)
+    raster = scene.phase.raster
+    check_box(box_of(asked), *size_of(raster))
+    frames = frames_of(size_of(raster), asked.side, asked.overlap, asked.folder)
+    with Outputs(scene.files()) as outputs:
+        made = outputs.beside(asked.geotiff)
+        asked.folder.mkdir(parents=True, exist_ok=True)
+        do_frames(frames, Job(scene, settings, threading.Lock()), asked.jobs)
+        pieces = pieces_in(frames)
+        if not pieces:
+            raise Trouble(f"{name_of(raster)} has no pixel that is open")
+        overlaps = list(all_links(frames))
+        offsets = offsets_of(pieces, [link for links in overlaps for link in links])
+        agreed = tell(overlaps, frames, offsets, asked.agree)
+        write(made, frames, offsets, scene, asked, notes_of(asked, frames, agreed))
+    return 0 if agreed else DISAGREES

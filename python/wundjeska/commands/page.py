@@ -1,0 +1,415 @@
+"""Makes a page of a session and its report: one HTML file that asks for nothing else, to be opened in any browser.
+
+It shows the verdict of `check`, the wrapped phase beside the surface, where the surface jumps, the components and the weights,
+the mask of each revision, each published surface with its costs, and the history as a time line. Masked pixels are white. With
+--like the axes are in map units. A cycle is half a wavelength of range.
+"""
+from argparse import ArgumentParser, Namespace, RawDescriptionHelpFormatter
+from dataclasses import dataclass
+from html import escape
+from pathlib import Path
+from typing import Iterator, List, Optional, Tuple
+
+import numpy as np
+
+from .. import report_reader
+from ..components import components_of
+from ..outputs import Outputs
+from ..pictures import (
+    BRIGHTER,
+    JUMP,
+    MASKED,
+    NUMBERED,
+    PLAIN,
+    ROUND,
+    SEAM,
+    WARMER,
+    Axes,
+    Bar,
+    any_thinned,
+    coloured,
+    map_of,
+    pixel_axes,
+    thinned,
+)
+from ..planes import CYCLE, Session, read_session
+from ..program import check_report
+from ..trouble import DISAGREES, REFUSED_WORDS, Trouble
+from ..unwrapping import ACCEPTED, read_report
+
+MAX_MASKS, MAX_SURFACES = 12, 12
+COMMON = (1, 99)  # the range of colours, in per cent of the pixels
+STYLE = """
+body { font: 15px/1.45 sans-serif; color: #222; background: #fff; margin: 1.5em auto; max-width: 1120px; padding: 0 1em }
+h1 { font-size: 1.5em; overflow-wrap: anywhere } h2 { font-size: 1.2em; margin-top: 2em; border-bottom: 1px solid #ccc }
+h3 { font-size: 1em; margin: 0 0 .2em }
+.verdict { display: inline-block; padding: .3em .8em; color: #fff; font-weight: bold }
+.accepted { background: #1a7a3a } .refused { background: #b02a1c }
+.row { display: flex; flex-wrap: wrap; gap: 1.5em; align-items: flex-start }
+figure { margin: 0; flex: 1 1 340px; max-width: 540px; min-width: 0 } figcaption { font-size: .9em; padding-top: .2em }
+.small figure { flex: 1 1 240px; max-width: 340px }
+svg { width: 100%; display: block } svg image { image-rendering: pixelated } svg text { font: 12px sans-serif; fill: #222 }
+.wide { overflow-x: auto } svg.history { min-width: 1000px }
+table { border-collapse: collapse } td, th { border: 1px solid #bbb; padding: .25em .7em; text-align: right }
+th { background: #eee }
+"""
+
+
+@dataclass(frozen=True)
+class Picture:
+    """What the page is of: the session's planes, the report, where it lies, and the radar's wavelength in metres, or 0."""
+
+    session: Session
+    report: report_reader.Report
+    axes: Axes
+    wavelength: float
+
+
+# Sections
+
+
+def scaled(values: np.ndarray, low: float, high: float) -> np.ndarray:
+    """Parts from 0 to 1 of a range; what lies beyond it is at its ends."""
+    return np.clip((values - low) / ((high - low) or 1), 0, 1)
+
+
+def phase_map(picture: Picture) -> str:
+    session = picture.session
+    cycles = np.where(session.opened, session.phase / CYCLE, np.nan)
+    words = "Wrapped phase at the open pixels of revision 0"
+    return map_of(
+        coloured(thinned(cycles), ROUND), picture.axes, Bar("phases", ROUND, 0, 1, "cycles"), "Wrapped phase", words
+    )
+
+
+def unit_of(wavelength: float) -> Tuple[str, float]:
+    """The unit of surfaces, and what a cycle is in it."""
+    return ("cm", 50 * wavelength) if wavelength else ("cycles", 1.0)
+
+
+def surface_map(picture: Picture, number: int) -> str:
+    """A surface with its colour bar; outliers do not stretch it."""
+    surface = picture.report.surfaces[number - 1]
+    unit, factor = unit_of(picture.wavelength)
+    values = factor * surface.cycles()
+    known = values[surface.opened()]
+    low, high = (float(part) for part in np.percentile(known, COMMON)) if len(known) else (0.0, 0.0)
+    words = (
+        f"Revision {surface.revision}, published by analyst {surface.analyst}; tiles cost {surface.tile_cost}, seams "
+        f"{surface.seam_cost}; {len(known)} pixels have a value"
+    )
+    if len(known):
+        words += f", from {known.min():.3f} to {known.max():.3f} {unit}; the colours range over those"
+        words += f" from {COMMON[0]} to {COMMON[1]} %"
+    bar = Bar(f"surface{number}", BRIGHTER, low, high, unit)
+    return map_of(coloured(scaled(thinned(values), low, high), BRIGHTER), picture.axes, bar, f"Surface {number}", words)
+
+
+def first_section(picture: Picture) -> str:
+    """The wrapped phase beside the last surface."""
+    surfaces = picture.report.surfaces
+    last = surface_map(picture, len(surfaces)) if surfaces else "<p>No surface was published.</p>"
+    words = "Cycles are counted such that the first open pixel is within the first one. Masked pixels are white."
+    if picture.wavelength:
+        words += " Centimetres are of range, along the line of sight, half a wavelength a cycle."
+    return f'<h2>Phase and surface</h2><p>{words}</p><div class="row">{phase_map(picture)}{last}</div>'
+
+
+def wrapped_differences(phase: np.ndarray, axis: int) -> np.ndarray:
+    """From -32768 to 32767, of neighbours along an axis."""
+    half = CYCLE // 2
+    return (np.diff(phase.astype(np.int64), axis=axis) + half) % CYCLE - half
+
+
+def departures(surface: report_reader.Surface, phase: np.ndarray, axis: int) -> np.ndarray:
+    """By how many cycles the surface departs from the wrapped differences along an axis; 0 at masked ends."""
+    values = np.where(surface.opened(), surface.values, 0)
+    opened = surface.opened()
+    both = (opened[:, 1:] & opened[:, :-1]) if axis else (opened[1:] & opened[:-1])
+    return np.where(both, (np.diff(values, axis=axis) - wrapped_differences(phase, axis)) // CYCLE, 0)
+
+
+def at_ends(flags: np.ndarray, axis: int) -> np.ndarray:
+    """The pixels at both ends of the edges along an axis."""
+    before, after = [(0, 0), (0, 0)], [(0, 0), (0, 0)]
+    before[axis], after[axis] = (0, 1), (1, 0)
+    return np.pad(flags, before) | np.pad(flags, after)
+
+
+@dataclass(frozen=True)
+class Jumps:
+    """The pixels at which a surface departs from the wrapped differences, inside tiles and across seams, and how many edges."""
+
+    inside: np.ndarray
+    across: np.ndarray
+    inner_edges: int
+    seam_edges: int
+
+
+def jumps_of(surface: report_reader.Surface, phase: np.ndarray, side: int) -> Jumps:
+    inside, across = np.zeros(phase.shape, dtype=bool), np.zeros(phase.shape, dtype=bool)
+    counts = [0, 0]
+    for axis in (0, 1):
+        jump = departures(surface, phase, axis) != 0
+        seam = np.zeros(jump.shape, dtype=bool)
+        np.moveaxis(seam, axis, 0)[side - 1 :: side] = True
+        inside |= at_ends(jump & ~seam, axis)
+        across |= at_ends(jump & seam, axis)
+        counts = [counts[0] + int((jump & ~seam).sum()), counts[1] + int((jump & seam).sum())]
+    return Jumps(inside, across, *counts)
+
+
+def jump_map(picture: Picture) -> str:
+    """Where the last surface jumps."""
+    surface = picture.report.surfaces[-1]
+    jumps = jumps_of(surface, picture.session.phase, picture.report.side)
+    colours = np.where(thinned(surface.opened())[..., None], PLAIN, MASKED).astype(np.uint8)
+    colours[any_thinned(jumps.inside)] = JUMP
+    colours[any_thinned(jumps.across)] = SEAM
+    words = (
+        f"The surface departs from the wrapped differences at {jumps.inner_edges} edges inside tiles and {jumps.seam_edges} "
+        "across seams. Inside a tile no surface departs at less cost; long lines are where to look"
+    )
+    keys = [(JUMP, "in a tile"), (SEAM, "at a seam"), (PLAIN, "none"), (MASKED, "masked")]
+    return map_of(colours, picture.axes, keys, "Where the surface jumps", words)
+
+
+def component_map(picture: Picture) -> str:
+    """The components of the last surface."""
+    opened = picture.report.surfaces[-1].opened()
+    numbers = components_of(opened)
+    count = int(numbers.max(initial=0))
+    table = np.array([MASKED, *NUMBERED], dtype=np.uint8)
+    colours = table[np.minimum(thinned(numbers), len(NUMBERED))]
+    sizes = np.bincount(numbers.ravel(), minlength=2)[1:]
+    keys = [(colour, str(number)) for number, colour in enumerate(NUMBERED[: min(count, len(NUMBERED))], 1)]
+    if count > len(NUMBERED):
+        keys[-1] = (NUMBERED[-1], "smaller")
+    words = "One component" if count == 1 else f"{count} components; whole cycles between them are arbitrary"
+    words += f". The largest has {int(sizes.max(initial=0))} pixels"
+    return map_of(colours, picture.axes, [*keys, (MASKED, "masked")], "Connected components", words)
+
+
+def weight_map(picture: Picture) -> str:
+    session = picture.session
+    weights = np.where(session.opened, session.weights.astype(float), np.nan)
+    known = weights[session.opened]
+    low, high = (float(part) for part in np.percentile(known, COMMON)) if len(known) else (0.0, 1.0)
+    words = "The weights of the session, which are made of coherence"
+    colours = coloured(scaled(thinned(weights), low, high), WARMER)
+    return map_of(colours, picture.axes, Bar("weights", WARMER, low, high, "weight"), "Weights", words)
+
+
+def detail_section(picture: Picture) -> str:
+    """Jumps, components and weights."""
+    maps = [jump_map(picture), component_map(picture)] if picture.report.surfaces else []
+    return f'<h2>Where to look</h2><div class="row">{"".join([*maps, weight_map(picture)])}</div>'
+
+
+def changes_of(report: report_reader.Report) -> Iterator[str]:
+    """What made each revision, from 0."""
+    yield "as the session has it"
+    for entry in report.entries:
+        if entry.box is not None:
+            x0, y0, x1, y1 = entry.box
+            verb = "masked" if entry.change == "mask" else "opened"
+            yield f"analyst {entry.analyst} {verb} columns {x0} to {x1}, rows {y0} to {y1}"
+
+
+def mask_map(picture: Picture, revision: int, opened: np.ndarray, change: str) -> str:
+    colours = np.where(thinned(opened)[..., None], PLAIN, MASKED).astype(np.uint8)
+    words = f"{change}; {(~opened).sum()} of {opened.size} pixels masked"
+    return map_of(colours, picture.axes, [(PLAIN, "open"), (MASKED, "masked")], f"Revision {revision}", words)
+
+
+def mask_section(picture: Picture) -> str:
+    """The mask of each revision, if there is more than one."""
+    masks = list(zip(picture.report.masks(picture.session.opened), changes_of(picture.report)))
+    if len(masks) < 2:
+        return ""
+    figures = [mask_map(picture, revision, *what) for revision, what in enumerate(masks[:MAX_MASKS])]
+    more = f"<p>{len(masks) - MAX_MASKS} more revisions are not shown.</p>" if len(masks) > MAX_MASKS else ""
+    return f'<h2>Masks</h2><div class="row small">{"".join(figures)}</div>{more}'
+
+
+def earlier_section(picture: Picture) -> str:
+    """The surfaces before the last one."""
+    count = len(picture.report.surfaces) - 1
+    if count < 1:
+        return ""
+    figures = [surface_map(picture, number) for number in range(1, count + 1)[:MAX_SURFACES]]
+    more = f"<p>{count - MAX_SURFACES} more surfaces are not shown.</p>" if count > MAX_SURFACES else ""
+    return f'<h2>Earlier surfaces</h2><div class="row small">{"".join(figures)}</div>{more}'
+
+
+def cost_section(report: report_reader.Report, accepted: bool) -> str:
+    rows = "".join(
+        f"<tr><td>{number}</td><td>{surface.revision}</td><td>{surface.analyst}</td><td>{surface.opened().sum()}</td>"
+        f"<td>{surface.tile_cost}</td><td>{surface.seam_cost}</td><td>{surface.tile_cost + surface.seam_cost}</td></tr>"
+        for number, surface in enumerate(report.surfaces, 1)
+    )
+    head = "".join(
+        f"<th>{name}</th>" for name in ("surface", "revision", "analyst", "open pixels", "tiles", "seams", "in all")
+    )
+    words = (
+        "A cost is weight times whole cycles, added over the edges at which the surface departs from the wrapped differences. "
+        "No congruent surface costs less than the tiles of a certified one do, so each is within its seam cost of the least."
+        if accepted
+        else "The report was not accepted, so these costs are what it says, and nothing is certified."
+    )
+    return f'<h2>Costs</h2><div class="wide"><table><tr>{head}</tr>{rows}</table></div><p>{words}</p>'
+
+
+# The time line
+
+MARKS = {
+    "revised": '<rect x="{x0}" y="{y0}" width="10" height="10" fill="#b02a1c">{title}</rect>',
+    "published": '<circle cx="{x}" cy="{y}" r="6" fill="#1a7a3a">{title}</circle>',
+    "settled": '<circle cx="{x}" cy="{y}" r="5" fill="#fff" stroke="#1a7a3a" stroke-width="2">{title}</circle>',
+    "shown": '<path d="M{x} {y0} l5 10 l-10 0 z" fill="#31688e">{title}</path>',
+}
+LEFT, RIGHT, LANE = 90, 1040, 34
+
+
+def words_of(entry: report_reader.Entry) -> str:
+    """An entry in words."""
+    if entry.box is not None:
+        return f"{entry.change} {' '.join(map(str, entry.box))}"
+    if entry.kind == "shown":
+        return "shown " + ("none" if entry.revision is None else f"revision {entry.revision}")
+    return f"{entry.kind} revision {entry.revision}"
+
+
+def mark(entry: report_reader.Entry, place: int, count: int, lanes: List[int]) -> str:
+    """The mark of an analyst's entry."""
+    x = LEFT + (RIGHT - LEFT) * place / max(1, count)
+    y = LANE * (lanes.index(entry.analyst or 0) + 1)
+    title = f"<title>entry {place}, analyst {entry.analyst}: {words_of(entry)}</title>"
+    return MARKS[entry.kind].format(x=f"{x:.1f}", y=y, x0=f"{x - 5:.1f}", y0=y - 5, title=title)
+
+
+def kept_bars(report: report_reader.Report, y: int) -> str:
+    """How many results were kept along the time line, in 190 parts."""
+    places = [place for place, entry in enumerate(report.entries, 1) if entry.kind == "kept"]
+    counts, edges = np.histogram(places, bins=190, range=(0, max(1, len(report.entries))))
+    heights = 22 * counts / max(1, counts.max())
+    return "".join(
+        f'<rect x="{LEFT + 5 * number}" y="{y - high:.1f}" width="4" height="{high:.1f}" fill="#777">'
+        f"<title>{count} results kept, entries {int(edges[number]) + 1} to {int(edges[number + 1])}</title></rect>"
+        for number, (count, high) in enumerate(zip(counts, heights))
+        if count
+    )
+
+
+def history_section(report: report_reader.Report) -> str:
+    """The history from left to right, a lane for each analyst and one for kept results."""
+    told = [(place, entry) for place, entry in enumerate(report.entries, 1) if entry.kind != "kept"]
+    lanes = sorted({entry.analyst or 0 for _, entry in told})
+    count, bottom = len(report.entries), LANE * (len(lanes) + 1)
+    names = [f'<text x="0" y="{LANE * n + 4}">analyst {lane}</text>' for n, lane in enumerate(lanes, 1)]
+    lines = [
+        f'<line x1="{LEFT}" x2="{RIGHT}" y1="{LANE * n}" y2="{LANE * n}" stroke="#ccc"/>'
+        for n in range(1, len(lanes) + 1)
+    ]
+    marks = [mark(entry, place, count, lanes) for place, entry in told]
+    kept = f'<text x="0" y="{bottom + 4}">results kept</text>{kept_bars(report, bottom + 6)}'
+    axis = f'<text x="{LEFT}" y="{bottom + 26}">entry 1</text>'
+    axis += f'<text x="{RIGHT}" y="{bottom + 26}" text-anchor="end">entry {count}</text>'
+    listed = "".join(
+        f"<li value='{place}'>analyst {entry.analyst}: {escape(words_of(entry))}</li>" for place, entry in told[:200]
+    )
+    return (
+        f'<h2>History</h2><div class="wide"><svg class="history" viewBox="0 0 1060 {bottom + 36}" role="img" '
+        f'aria-label="history">{"".join([*names, *lines, *marks, kept, axis])}</svg></div>'
+        "<p>A red square revised the mask, a green disc published a surface, a green ring found it published, a blue triangle "
+        "looked at the newest. Bars count results of tiles.</p>"
+        f"<details><summary>As a list</summary><ol>{listed}</ol></details>"
+    )
+
+
+# The page
+
+
+def page_of(name: str, picture: Picture, verdict: str, accepted: bool) -> str:
+    report = picture.report
+    head = f"{report.width} by {report.height} pixels, tiles of side {report.side}, rule {report.rule}"
+    if picture.wavelength:
+        head += f", wavelength {100 * picture.wavelength:g} cm"
+    badge = f'<span class="verdict {"accepted" if accepted else "refused"}">check: {escape(verdict)}</span>'
+    policy = "default-src 'none'; img-src data:; style-src 'unsafe-inline'"
+    return "\n".join(
+        [
+            '<!DOCTYPE html><html lang="en"><head><meta charset="utf-8">',
+            '<meta name="viewport" content="width=device-width, initial-scale=1">',
+            f'<meta http-equiv="Content-Security-Policy" content="{policy}">',
+            f"<title>{escape(name)}</title><style>{STYLE}</style></head><body>",
+            f"<h1>{escape(name)}</h1><p>{head}</p><p>{badge}</p>",
+            first_section(picture),
+            detail_section(picture),
+            cost_section(report, accepted),
+            mask_section(picture),
+            earlier_section(picture),
+            history_section(report),
+            "</body></html>",
+        ]
+    )
+
+
+def page_text(
+    name: str, session: bytes, report: bytes, verdict: str, wavelength: Optional[float], axes: Optional[Axes] = None
+) -> str:
+    """The page of a session and its report as they stand."""
+    planes, found = read_session(session), read_report(report, name)
+    if planes.phase.shape != (found.height, found.width):
+        raise Trouble(f"{name} is of {found.width} by {found.height} pixels, and its session has another size")
+    picture = Picture(planes, found, axes or pixel_axes(planes.phase.shape), wavelength or 0.0)
+    return page_of(name, picture, verdict, verdict == ACCEPTED)
+
+
+def axes_of(like: Optional[str], report: report_reader.Report) -> Optional[Axes]:
+    """The axes of a raster that GDAL reads, which is of the report's size."""
+    if like is None:
+        return None
+    from ..rasters import axes_of as axes_of_raster
+    from ..rasters import open_raster, size_of
+
+    raster = open_raster(like)
+    if size_of(raster) != (report.width, report.height):
+        raise Trouble(f"{like} has not the {report.width} by {report.height} pixels of the report")
+    return axes_of_raster(raster)
+
+
+def words() -> ArgumentParser:
+    found = ArgumentParser(
+        description=__doc__,
+        formatter_class=RawDescriptionHelpFormatter,
+        epilog="example: page session report --wavelength 0.0555 page.html\n"
+        "The status is 0 if the page was written and `check` accepted, 1 if it was written and `check` refused, 2 for words "
+        "that are refused, 3 if the session or the report breaks its form, 5 if a file cannot be read or written.",
+    )
+    found.add_argument("session", help="the session that the report is of")
+    found.add_argument("report", help="what `insar_unwrap unwrap` wrote")
+    found.add_argument(
+        "--wavelength",
+        type=float,
+        metavar="METRES",
+        help="of the radar, as 0.0555 for C band; adds centimetres of range",
+    )
+    found.add_argument("--like", metavar="FILE", help="the raster of phases, for axes in map units")
+    found.add_argument("--title", help="of the page (default: the report's name)")
+    found.add_argument("page", help="the HTML file to write")
+    return found
+
+
+def main(asked: Namespace) -> int:
+    if asked.wavelength is not None and not asked.wavelength > 0:
+        raise Trouble("--wavelength is above 0, in metres", REFUSED_WORDS)
+    with Outputs([asked.session, asked.report]) as outputs:
+        made = outputs.beside(asked.page)
+        session, report = Path(asked.session).read_bytes(), Path(asked.report).read_bytes()
+        found = read_report(report, asked.report)
+        accepted, verdict = check_report(session, report, found.rule, found.side)
+        name = asked.title or Path(asked.report).name
+        made.write_text(page_text(name, session, report, verdict, asked.wavelength, axes_of(asked.like, found)))
+    print(f"{asked.page}: {verdict}")
+    return 0 if accepted else DISAGREES

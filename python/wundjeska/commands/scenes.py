@@ -1,0 +1,34 @@
+"""Unwraps each folder of FOLDER that has a phase.tif, by the Snakefile of this package, which says what comes of it."""
+import os
+import shutil
+import sys
+from pathlib import Path
+from typing import List
+
+from ..program import program
+from ..trouble import FILE_FAULT, REFUSED_WORDS, Trouble
+
+SNAKEFILE = Path(__file__).resolve().parent.parent / "Snakefile"
+USE = """usage: wundjeska scenes FOLDER [WORDS..]
+
+Unwraps each folder of FOLDER that has a phase.tif and a coherence.tif. WORDS are of snakemake, as `--cores 8` or `--unlock`.
+After `--config` come tile=N (128), rule=least, mean or product (least), coherence=C (pixels below it are masked; 0), looks=L
+and without_coherence=yes (scenes without a coherence.tif are unwrapped with equal weights)."""
+
+
+def main(words: List[str]) -> int:
+    if words[:1] in (["--help"], ["-h"]):
+        print(USE)
+        return 0
+    if not words:
+        raise Trouble("wanted the folder of scenes; --help tells more", REFUSED_WORDS)
+    if not Path(words[0]).is_dir():
+        raise Trouble(f"there is no folder {words[0]}", FILE_FAULT)
+    if not any(Path(words[0]).glob("*/phase.tif")):
+        raise Trouble(f"{words[0]} has no folder with a phase.tif")
+    snakemake = shutil.which("snakemake")
+    if snakemake is None:
+        raise Trouble("scenes want Debian's package snakemake", FILE_FAULT)
+    environment = {**os.environ, "UNWRAP": program(), "WUNDJESKA_PYTHON": sys.executable}
+    options = ["--cores", "4", "--keep-going", "--rerun-incomplete"]
+    os.execve(snakemake, [snakemake, "-s", str(SNAKEFILE), "--directory", words[0], *options, *words[1:]], environment)

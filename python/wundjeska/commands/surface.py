@@ -1,0 +1,125 @@
+"""Makes a GeoTIFF of a surface: of what `insar_unwrap grid` wrote, or of a report, whose last surface is taken.
+
+With --session the report is checked first, and a report that `check` refuses gives no GeoTIFF. Without it the GeoTIFF says
+that nothing certifies the surface. It has the pixels, the place and the system of --like, NODATA at masked pixels, and one of
+these units:
+
+  cycles        one cycle is half a wavelength of range
+  radians       2 pi a cycle
+  centimetres   of range: 50 times the wavelength in metres for each cycle
+  metres        of range: half the wavelength for each cycle
+
+Range is along the line of sight. Whether it grows or shrinks with the phase is the convention of whatever made the
+interferogram; --turn changes the sign. A surface is known up to one whole number of cycles, the same everywhere;
+--reference makes a pixel of known displacement 0, --reference-window the mean of a box.
+"""
+import io
+import sys
+from argparse import ArgumentParser, Namespace, RawDescriptionHelpFormatter
+from dataclasses import dataclass
+from pathlib import Path
+from typing import Any, Dict, Optional, Tuple
+
+import numpy as np
+
+from .. import report_reader
+from ..outputs import Outputs
+from ..product import NOTHING_CERTIFIES, add_reference_words, add_unit_words, check_unit_words, write_product
+from ..program import check_report
+from ..rasters import files_of, name_of, open_raster, size_of
+from ..trouble import DISAGREES, REFUSED_WORDS, Trouble, warn
+from ..unwrapping import read_report
+
+
+def words() -> ArgumentParser:
+    found = ArgumentParser(
+        description=__doc__,
+        formatter_class=RawDescriptionHelpFormatter,
+        epilog="examples: insar_unwrap grid <session | surface - --like phase.tif cycles.tif\n"
+        "  surface report --session session --like phase.tif --unit metres --wavelength 0.0555 range.tif\n"
+        "The status is 0 if the GeoTIFF was written, 1 if `check` refused the report, 2 for words that are refused, 3 if the "
+        "input does not fit, 5 if a file cannot be read or written.",
+    )
+    found.add_argument("surface", help="a grid or a report; - is standard input")
+    found.add_argument("--session", metavar="FILE", help="the session that the report is of, to check it")
+    found.add_argument(
+        "--like", metavar="FILE", required=True, help="the raster of phases that the session was made of"
+    )
+    add_reference_words(found)
+    add_unit_words(found)
+    found.add_argument("geotiff", help="the file to write")
+    return found
+
+
+@dataclass
+class Found:
+    """The values of a surface, int64, (rows, columns), and what is known of them."""
+
+    values: np.ndarray
+    notes: Dict[str, Any]
+
+
+def read_text(path: str) -> bytes:
+    text = sys.stdin.buffer.read() if path == "-" else Path(path).read_bytes()
+    if not text:
+        raise Trouble(f"{path} is empty: no surface was published, or the program refused its input")
+    return text
+
+
+def verdict_of(report: report_reader.Report, text: bytes, session: Optional[str]) -> str:
+    """What `check` says of a report, by its own side and rule. Trouble if it refuses."""
+    if session is None:
+        return NOTHING_CERTIFIES
+    accepted, verdict = check_report(Path(session).read_bytes(), text, report.rule, report.side)
+    if not accepted:
+        raise Trouble(f"check: {verdict}", DISAGREES)
+    return verdict
+
+
+def read_grid(text: bytes, path: str) -> np.ndarray:
+    try:
+        return report_reader.read_grid_from(io.BytesIO(text))
+    except report_reader.BrokenLine as broken:
+        raise Trouble(f"{path}: {broken}") from broken
+
+
+def found_in(text: bytes, path: str, session: Optional[str]) -> Found:
+    """The values of a grid, or of a report's last surface."""
+    if not text.startswith(b"insar-report"):
+        if session is not None:
+            raise Trouble(f"{path} is a grid, which has no certificates to check by --session", REFUSED_WORDS)
+        return Found(read_grid(text, path), {"VERDICT": NOTHING_CERTIFIES})
+    report = read_report(text, path)
+    if not report.surfaces:
+        raise Trouble(f"{path}: no surface was published")
+    return Found(report.surfaces[-1].values, {"VERDICT": verdict_of(report, text, session), **notes_of(report)})
+
+
+def notes_of(report: report_reader.Report) -> Dict[str, Any]:
+    """What a product tells of the report that it is of."""
+    last = report.surfaces[-1]
+    costs = {"TILE_COST": last.tile_cost, "SEAM_COST": last.seam_cost}
+    return {"TILE_SIDE": report.side, "RULE": report.rule, "REVISION": last.revision, **costs}
+
+
+def shape_of(raster: Any) -> Tuple[int, int]:
+    width, height = size_of(raster)
+    return height, width
+
+
+def main(asked: Namespace) -> int:
+    check_unit_words(asked)
+    like = open_raster(asked.like)
+    inputs = [None if asked.surface == "-" else asked.surface, asked.session, *files_of(like)]
+    with Outputs(inputs) as outputs:
+        made = outputs.beside(asked.geotiff)
+        found = found_in(read_text(asked.surface), asked.surface, asked.session)
+        if found.values.shape != shape_of(like):
+            height, width = found.values.shape
+            raise Trouble(
+                f"the surface has {width} by {height} pixels, {name_of(like)} {like.RasterXSize} by {like.RasterYSize}"
+            )
+        write_product(made, like, found.values, asked, found.notes)
+    if found.notes["VERDICT"] == NOTHING_CERTIFIES:
+        warn(f"{asked.geotiff}: {NOTHING_CERTIFIES}; a report is checked by --session")
+    return 0

@@ -1,0 +1,144 @@
+"""Phases, weights and masks as whole numbers, and sessions of them. NumPy alone.
+
+Arrays have the shape (rows, columns), and row 0 is the top one, in GDAL as in the program. Phases are whole numbers of
+1/65536 cycle, from 0 to 65535.
+"""
+import math
+import re
+from dataclasses import dataclass
+from typing import List, Tuple
+
+import numpy as np
+
+from .trouble import Trouble, warn
+
+CYCLE = 65536  # units in a cycle
+MAX_SIDE, MAX_PIXELS = 4096, 4194304  # of one session
+MAX_WEIGHT = 255  # of linear coherence
+TURN = 2 * math.pi
+FARTHEST, SLACK, MANY = (
+    1e5,
+    0.01,
+    10000,
+)  # radians beyond which 32 bits hold no phase; of rounding; pixels that tell a unit
+
+
+# Phases, weights and masks
+
+
+def phases_of(values: np.ndarray) -> np.ndarray:
+    """Phases of radians of whatever interval, or of complex numbers; uint16, to the nearest unit. Not finite: 0."""
+    values = np.where(np.isfinite(values), values, 0)
+    radians = np.angle(values) if np.iscomplexobj(values) else values.astype(np.float64)
+    return (np.rint(radians * (CYCLE / TURN)).astype(np.int64) % CYCLE).astype(np.uint16)
+
+
+def has_phase(values: np.ndarray) -> np.ndarray:
+    """True where a phase is: at finite numbers, and of complex ones at those that are not 0."""
+    return np.isfinite(values) & (values != 0) if np.iscomplexobj(values) else np.isfinite(values)
+
+
+def check_radians(values: np.ndarray, opened: np.ndarray, name: str, scaled: bool, wrap: bool) -> None:
+    """Trouble if these cannot be wrapped phases in radians, of any interval. `scaled` says that whole numbers had a scale.
+
+    With `wrap` they may span more than a cycle. Complex numbers are phases whatever they are.
+    """
+    if np.iscomplexobj(values) or not opened.any():
+        return
+    if values.dtype.kind != "f" and not scaled:
+        raise Trouble(
+            f"{name} has whole numbers without a scale ({values.dtype}); phases are radians, or complex numbers"
+        )
+    low, high = float(np.min(values[opened])), float(np.max(values[opened]))
+    if max(-low, high) > FARTHEST:
+        raise Trouble(f"{name} has values from {low:g} to {high:g}, which are no phases in radians")
+    if high - low > TURN + SLACK and not wrap:
+        raise Trouble(
+            f"{name} has values from {low:g} to {high:g}, more than a cycle of 6.28319 radians. Are they degrees? If they are "
+            "radians of an unwrapped phase, --wrap wraps them"
+        )
+    if 0.99 <= high - low <= 1.0 and opened.sum() >= MANY:
+        warn(f"{name} has values from {low:g} to {high:g}: taken as radians, though they look like cycles")
+
+
+def check_coherence(coherence: np.ndarray, name: str, highest: float) -> None:
+    """Trouble if a coherence, in parts of `highest`, is not from 0 to 1."""
+    low, high = float(coherence.min(initial=0)), float(coherence.max(initial=0))
+    if not (low >= -0.001 and high <= 1.001):
+        raise Trouble(
+            f"{name} has values from {low * highest:g} to {high * highest:g}, wanted 0 to {highest:g}; if a greater number "
+            "stands for a coherence of 1, name it by --coherence-max"
+        )
+
+
+def check_size(width: int, height: int, name: str) -> None:
+    """Trouble if a raster does not fit into one session."""
+    if max(width, height) > MAX_SIDE or width * height > MAX_PIXELS:
+        raise Trouble(
+            f"{name} has {width} by {height} pixels; a session has at most {MAX_SIDE} a side and {MAX_PIXELS} in all. "
+            "`wundjeska frames` (recipes/frames.py) cuts larger rasters into frames"
+        )
+
+
+# Planes and sessions
+
+HEADER = re.compile(rb"P([25])" + rb"(?:\s+(?:#[^\n\r]*[\n\r]\s*)*)([0-9]+)" * 3 + rb"\s")
+PLAIN_RASTER = re.compile(rb"[\s0-9]*")
+
+
+def plane_of(samples: np.ndarray, maxval: int) -> bytes:
+    """A raw PGM plane of samples up to maxval."""
+    height, width = samples.shape
+    wide = ">u2" if maxval > 255 else "u1"
+    return b"P5\n%d %d\n%d\n" % (width, height, maxval) + samples.astype(wide).tobytes()
+
+
+def session_of(
+    phase: np.ndarray, weights: np.ndarray, opened: np.ndarray, script: bytes = b"end\n", highest: int = MAX_WEIGHT
+) -> bytes:
+    """A session: uint16 phases, weights up to `highest`, and a mask that is True at open pixels."""
+    return plane_of(phase, CYCLE - 1) + plane_of(weights, highest) + plane_of(opened, 1) + script
+
+
+@dataclass
+class Session:
+    """The planes of a session, each (height, width), and its script part as it stands."""
+
+    phase: np.ndarray  # uint16
+    weights: np.ndarray  # uint16
+    opened: np.ndarray  # bool
+    script: bytes
+
+
+def take_plane(text: bytes, start: int) -> Tuple[np.ndarray, int]:
+    """The plane at this place of a session that the program has taken, and the place after it."""
+    header = HEADER.match(text, start)
+    if header is None:
+        raise Trouble(f"byte {start}: no PGM plane begins here")
+    kind, width, height, maxval = (int(word) for word in header.groups())
+    if kind == 5:
+        samples = np.dtype(">u2" if maxval > 255 else "u1")
+        end = header.end() + width * height * samples.itemsize
+        found = np.frombuffer(text[header.end() : end], dtype=samples) if end <= len(text) else np.zeros(0)
+    else:
+        raster = PLAIN_RASTER.match(text, header.end())
+        end = raster.end() if raster else header.end()
+        found = np.array(text[header.end() : end].split(), dtype=np.int64)
+    if len(found) != width * height:
+        raise Trouble(f"byte {start}: the plane has not {width} by {height} samples")
+    return found.astype(np.uint16).reshape(height, width), end
+
+
+def read_session(text: bytes) -> Session:
+    """Reads a session whose form is right; the program is the judge of that."""
+    planes: List[np.ndarray] = []
+    place = 0
+    while not planes or (len(planes) < 3 and text[place : place + 1] == b"P"):
+        try:
+            plane, place = take_plane(text, place)
+        except (ValueError, OverflowError) as error:  # a number is too large
+            raise Trouble(f"byte {place}: no PGM plane begins here") from error
+        planes.append(plane)
+    ones = np.ones(planes[0].shape, dtype=np.uint16)
+    phase, weights, mask = planes + [ones] * (3 - len(planes))
+    return Session(phase, weights, mask > 0, text[place:])

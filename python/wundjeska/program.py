@@ -1,0 +1,75 @@
+"""The proved program `insar_unwrap`: where it is, and how it is called."""
+import os
+import shutil
+import subprocess
+import threading
+from pathlib import Path
+from typing import List, Optional, Set, Tuple
+
+from .planes import read_session
+from .trouble import FILE_FAULT, Trouble
+
+HERE = Path(__file__).resolve().parent
+INSIDE = HERE / "bin/insar_unwrap"  # where the wheel and the Debian package have it
+BUILT = HERE.parent.parent / "crates/insar_unwrap/out/insar_unwrap"  # where the repository builds it
+MAX_WORKERS = 8
+
+running: Set["subprocess.Popen[bytes]"] = set()
+lock = threading.Lock()
+
+
+def program() -> str:
+    """The path of the program: that of the environment variable UNWRAP, that inside the package, where the repository
+    builds it, or that on the PATH."""
+    named = os.environ.get("UNWRAP")
+    places = [Path(named)] if named else [INSIDE, BUILT]
+    found = next((str(place) for place in places if os.access(place, os.X_OK) and place.is_file()), None)
+    found = found or (None if named else shutil.which("insar_unwrap"))
+    if not found:
+        raise Trouble(f"there is no program at {places[-1]}; build it by ./demo, or set UNWRAP to its path", FILE_FAULT)
+    return os.path.realpath(found)
+
+
+def workers_or_default(workers: Optional[int]) -> int:
+    """How many threads solve tiles: as asked, or one for each processor."""
+    return workers if workers is not None else min(MAX_WORKERS, os.cpu_count() or 1)
+
+
+def call(words: List[str], text: bytes) -> Tuple[int, bytes, bytes]:
+    """The status of the program, and what it wrote to both streams."""
+    process = subprocess.Popen(
+        [program(), *words], stdin=subprocess.PIPE, stdout=subprocess.PIPE, stderr=subprocess.PIPE
+    )
+    with lock:
+        running.add(process)
+    try:
+        out, told = process.communicate(text)
+    finally:
+        with lock:
+            running.discard(process)
+        process.kill()
+        process.wait()
+    return process.returncode, out, told
+
+
+def stop() -> None:
+    """Ends all calls that run in other threads."""
+    with lock:
+        for process in running:
+            process.kill()
+
+
+def run_program(words: List[str], text: bytes, what: str) -> bytes:
+    """What the program writes. If its status is not 0: Trouble with its line and its status."""
+    status, out, told = call(words, text)
+    if status == 0:
+        return out
+    line = (told or out).decode(errors="replace").strip()
+    raise Trouble(f"{what}: {words[0]} ended with status {status}: {line}", status % 256)
+
+
+def check_report(session: bytes, report: bytes, rule: str, side: int) -> Tuple[bool, str]:
+    """Whether `check` accepts the report, and its verdict, or its line on standard error."""
+    text = session if read_session(session).script else session + b"end\n"
+    status, out, told = call(["check", "--rule", rule, "--tile", str(side)], text + report)
+    return status == 0, (out or told).decode(errors="replace").strip()

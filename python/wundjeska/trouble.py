@@ -1,0 +1,63 @@
+"""How a mistake ends: in one line on standard error, and with a status."""
+import os
+import signal
+import sys
+from typing import Callable, NoReturn
+
+# Statuses. Those of the program are passed on; 2 is for words that are refused.
+DISAGREES, REFUSED_WORDS, BROKEN_INPUT, NO_MEMORY, FILE_FAULT, INTERRUPTED = 1, 2, 3, 4, 5, 130
+
+
+class Trouble(Exception):
+    """What the user is told in one line, and the status that the command ends with."""
+
+    def __init__(self, line: str, status: int = BROKEN_INPUT):
+        super().__init__(line)
+        self.status = status
+
+
+def warn(line: str) -> None:
+    print(f"warning: {line}", file=sys.stderr, flush=True)
+
+
+def tell(line: object) -> None:
+    """Writes a line on standard error."""
+    print(" ".join(str(line).split()), file=sys.stderr, flush=True)
+
+
+def status_of(main: Callable[[], int]) -> int:
+    """The status of `main`, or that of its trouble, which is told in one line."""
+    try:
+        status = main()
+        sys.stdout.flush()
+        return status
+    except Trouble as trouble:
+        tell(trouble)
+        return trouble.status
+    except KeyboardInterrupt:
+        tell("interrupted")
+        return INTERRUPTED
+    except MemoryError:
+        tell("no memory")
+        return NO_MEMORY
+    except ImportError as error:
+        tell(f"{error}: Debian's packages are python3-numpy and, for rasters in files, python3-gdal")
+        return FILE_FAULT
+    except (OSError, RuntimeError) as error:  # GDAL's errors are of the second kind
+        tell(error)
+        return FILE_FAULT
+
+
+def interrupt(*_: object) -> NoReturn:
+    raise KeyboardInterrupt
+
+
+def run_main(main: Callable[[], int]) -> NoReturn:
+    """Ends the process by the status of `main`. SIGTERM ends it as SIGINT does, so that nothing is left half written."""
+    signal.signal(signal.SIGTERM, interrupt)
+    status = status_of(main)
+    try:
+        sys.stdout.flush()
+    except OSError:  # it was told; what is left must not be tried again when the interpreter ends
+        os.dup2(os.open(os.devnull, os.O_WRONLY), sys.stdout.fileno())
+    sys.exit(status)

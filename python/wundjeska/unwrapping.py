@@ -1,0 +1,207 @@
+"""Unwrapping of arrays: `unwrap` runs the proved program, has its report checked, and reads the surface back. NumPy alone."""
+import io
+import math
+from dataclasses import dataclass
+from pathlib import Path
+from typing import Iterator, Optional, Tuple, Union
+
+import numpy as np
+import numpy.typing as npt
+
+from . import report_reader
+from .components import components_of, warning_of
+from .outputs import Outputs
+from .planes import CYCLE, MAX_WEIGHT, check_coherence, check_radians, check_size, has_phase, phases_of, session_of
+from .program import MAX_WORKERS, check_report, run_program, workers_or_default
+from .trouble import DISAGREES, REFUSED_WORDS, Trouble, warn
+from .weights import highest_of, weights_of
+
+ACCEPTED, NOT_CHECKED = "accepted", "not checked"
+RULES = ("least", "mean", "product")
+SIDE = 128  # of tiles
+
+Path_ = Union[str, Path]
+
+
+@dataclass(frozen=True)
+class Settings:
+    """How a session is unwrapped: the side of tiles in pixels, the rule of weights, and how many threads solve tiles."""
+
+    side: int = SIDE
+    rule: str = RULES[0]
+    workers: Optional[int] = None
+
+    def check(self) -> None:
+        if not 2 <= self.side <= 128:
+            raise Trouble("the side of tiles is from 2 to 128", REFUSED_WORDS)
+        if self.rule not in RULES:
+            raise Trouble(f"the rule is {', '.join(RULES[:-1])} or {RULES[-1]}", REFUSED_WORDS)
+        if self.workers is not None and not 1 <= self.workers <= MAX_WORKERS:
+            raise Trouble(f"there are from 1 to {MAX_WORKERS} workers", REFUSED_WORDS)
+
+
+@dataclass(frozen=True)
+class Solved:
+    """What the program wrote of a session: the report as it stands, its last surface, and the verdict."""
+
+    report: bytes
+    surface: report_reader.Surface
+    verdict: str
+
+
+@dataclass(frozen=True)
+class Unwrapped:
+    """An unwrapped interferogram. As a pair it is (phase, components).
+
+    phase       radians, float32, (rows, columns), NaN at masked pixels
+    values      the same exactly, int64, in 1/65536 cycle; report_reader.NODATA at masked pixels
+    components  uint32: the connected component of each pixel, from 1 by falling size; 0 at masked pixels and in small ones
+    tile_cost   no surface that differs from the input by whole cycles costs less: the bound
+    seam_cost   what the surface costs more than the bound
+    verdict     'accepted' if `check` accepted the report, else 'not checked'
+    """
+
+    phase: npt.NDArray[np.float32]
+    values: npt.NDArray[np.int64]
+    components: npt.NDArray[np.uint32]
+    tile_cost: int
+    seam_cost: int
+    verdict: str
+    settings: Settings
+
+    @property
+    def cost(self) -> int:
+        """Weight times whole cycles, over the edges at which the surface departs from the wrapped differences."""
+        return self.tile_cost + self.seam_cost
+
+    @property
+    def bound(self) -> int:
+        """No surface that differs from the input by whole cycles costs less."""
+        return self.tile_cost
+
+    def __iter__(self) -> Iterator[np.ndarray]:
+        return iter((self.phase, self.components))
+
+
+def read_report(text: bytes, name: str) -> report_reader.Report:
+    """A report. Trouble with the first broken line."""
+    try:
+        return report_reader.read_report_from(io.BytesIO(text))
+    except report_reader.BrokenLine as broken:
+        raise Trouble(f"{name}: {broken}") from broken
+
+
+def last_surface(report: bytes, name: str) -> report_reader.Surface:
+    """The last surface of a report."""
+    surfaces = read_report(report, name).surfaces
+    if not surfaces:
+        raise Trouble(f"{name}: no surface was published")
+    return surfaces[-1]
+
+
+def solve(session: bytes, settings: Settings, check: bool = True, name: str = "the session") -> Solved:
+    """Unwraps a session and has `check` judge the report. Trouble if it is refused."""
+    settings.check()
+    options = ["--rule", settings.rule, "--tile", str(settings.side)]
+    workers = str(workers_or_default(settings.workers))
+    report = run_program(["unwrap", *options, "--workers", workers], session, name)
+    verdict = NOT_CHECKED
+    if check:
+        accepted, verdict = check_report(session, report, settings.rule, settings.side)
+        if not accepted:
+            raise Trouble(f"{name}: {verdict}", DISAGREES)
+    return Solved(report, last_surface(report, name), verdict)
+
+
+def radians_of(values: np.ndarray) -> npt.NDArray[np.float32]:
+    """The values of a surface in radians, NaN at masked pixels."""
+    known = values != report_reader.NODATA
+    return np.where(known, values * (2 * math.pi / CYCLE), np.nan).astype(np.float32)
+
+
+def plane_like(given: Optional[npt.ArrayLike], shape: Tuple[int, ...], name: str) -> Optional[np.ndarray]:
+    """An array that goes with the interferogram, of its shape."""
+    if given is None:
+        return None
+    values = np.asarray(given)
+    if values.shape != shape:
+        raise Trouble(f"{name} has the shape {values.shape}, the interferogram {shape}")
+    return values
+
+
+def planes_of(
+    igram: npt.ArrayLike, coherence: Optional[npt.ArrayLike], mask: Optional[npt.ArrayLike], looks: Optional[float]
+) -> Tuple[np.ndarray, np.ndarray, np.ndarray]:
+    """Phases, weights and open pixels of arrays."""
+    values = np.asarray(igram)
+    if values.ndim != 2 or values.dtype.kind not in "fciu" or not values.size:
+        raise Trouble(f"an interferogram has two dimensions and numbers; this one has {values.ndim} and {values.dtype}")
+    check_size(values.shape[1], values.shape[0], "the interferogram")
+    opened = has_phase(values)
+    weights = np.full(values.shape, MAX_WEIGHT, dtype=np.uint16)
+    quality = plane_like(coherence, values.shape, "coherence")
+    if quality is not None:
+        there = np.isfinite(quality)
+        quality = np.where(there, quality, 0).astype(np.float64)
+        check_coherence(quality, "coherence", 1)
+        opened, weights = opened & there, weights_of(quality, looks)
+    kept = plane_like(mask, values.shape, "mask")
+    if kept is not None:
+        opened = opened & (np.nan_to_num(kept) != 0)
+    check_radians(values, opened, "the interferogram", False, False)
+    if not opened.any():
+        raise Trouble("the interferogram has no pixel that is open")
+    return np.where(opened, phases_of(values), 0), weights, opened
+
+
+def unwrap(
+    igram: npt.ArrayLike,
+    coherence: Optional[npt.ArrayLike] = None,
+    *,
+    mask: Optional[npt.ArrayLike] = None,
+    looks: Optional[float] = None,
+    tile: int = SIDE,
+    rule: str = RULES[0],
+    workers: Optional[int] = None,
+    report: Optional[Path_] = None,
+    check: bool = True,
+    least_component: int = 1,
+) -> Unwrapped:
+    """Unwraps an interferogram, (rows, columns), and has the result checked.
+
+    igram            complex numbers, or wrapped phases in radians of any interval. NaN, infinite and complex 0 are masked
+    coherence        from 0 to 1: it makes the weights; NaN is masked
+    mask             0 or False at pixels to leave out, as water
+    looks            how many independent looks the coherence has: weights go by the variance of the phase
+    tile, rule       the side of tiles, 2 to 128, and how two weights give that of an edge: 'least', 'mean' or 'product'
+    workers          threads, 1 to 8; by default one for each processor
+    report           a file to keep the report in, which can be checked again with its session (`wundjeska session`)
+    check            have the proved checker judge the report; if it refuses, nothing is returned
+    least_component  pixels of smaller components get the number 0, and keep their phase
+
+    Raises Trouble, whose text is one line.
+    """
+    if looks is not None and (coherence is None or not 1 <= looks < math.inf):
+        raise Trouble("looks is 1 or more, and wants coherence", REFUSED_WORDS)
+    settings = Settings(tile, rule, workers)
+    settings.check()
+    phase, weights, opened = planes_of(igram, coherence, mask, looks)
+    with Outputs([]) as outputs:
+        kept = outputs.beside(report) if report is not None else None
+        session = session_of(phase, weights, opened, highest=highest_of(looks))
+        solved = solve(session, settings, check, "the interferogram")
+        if kept is not None:
+            kept.write_bytes(solved.report)
+    line = warning_of(opened, False)
+    if line:
+        warn(line)
+    surface = solved.surface
+    return Unwrapped(
+        radians_of(surface.values),
+        surface.values,
+        components_of(opened, least_component),
+        surface.tile_cost,
+        surface.seam_cost,
+        solved.verdict,
+        settings,
+    )

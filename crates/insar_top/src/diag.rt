@@ -33,7 +33,6 @@ fn add_refusal<D: Sink>(text: &mut TextWriter<D>, refusal: Refusal)
     }
 }
 
-#[tactic(auto, using(text_lines::proofs::ChainLemmas::adds_three))]
 fn add_input_line<D: Sink>(text: &mut TextWriter<D>, fault: InputFault)
     ensures { Adds (view_of D.held D.faults text.old) (view_of D.held D.faults text.new) (refusal_line (refusals.Input fault)) }
 {
@@ -42,7 +41,6 @@ fn add_input_line<D: Sink>(text: &mut TextWriter<D>, fault: InputFault)
     text.end_line();
 }
 
-#[tactic(auto, using(text_lines::proofs::ChainLemmas::adds_three))]
 fn add_report_line<D: Sink>(text: &mut TextWriter<D>, number: u64)
     ensures { Adds (view_of D.held D.faults text.old) (view_of D.held D.faults text.new) (refusal_line (refusals.ReportLine number)) }
 {
@@ -99,7 +97,6 @@ fn add_plane_fault<D: Sink>(text: &mut TextWriter<D>, role: Role, fault: PlaneFa
 }
 
 /// Adds a number after a label.
-#[tactic(auto, using(text_lines::proofs::ChainLemmas::adds_two))]
 fn add_numbered<D: Sink, I: Integer>(text: &mut TextWriter<D>, label: &[u8], number: I)
     ensures { Adds (view_of D.held D.faults text.old) (view_of D.held D.faults text.new) (label.now ++ I.text number) }
 {
@@ -108,7 +105,6 @@ fn add_numbered<D: Sink, I: Integer>(text: &mut TextWriter<D>, label: &[u8], num
 }
 
 /// Adds the name of a role after a label.
-#[tactic(auto, using(text_lines::proofs::ChainLemmas::adds_two))]
 fn add_named<D: Sink>(text: &mut TextWriter<D>, label: &[u8], role: Role)
     ensures { Adds (view_of D.held D.faults text.old) (view_of D.held D.faults text.new) (label.now ++ role_text role) }
 {

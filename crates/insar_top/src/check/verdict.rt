@@ -22,7 +22,6 @@ pub fn put_verdict<K: Sink>(sink: &mut K, verdict: CheckVerdict) -> Result<(), W
     text.finish()
 }
 
-#[tactic(auto, using(text_lines::proofs::ChainLemmas::adds_two))]
 fn add_line<K: Sink>(text: &mut TextWriter<K>, verdict: CheckVerdict)
     ensures { Adds (view_of K.held K.faults text.old) (view_of K.held K.faults text.new) (verdict_line verdict) }
 {
@@ -58,7 +57,6 @@ fn add_verdict<K: Sink>(text: &mut TextWriter<K>, verdict: CheckVerdict)
     }
 }
 
-#[tactic(auto, using(text_lines::proofs::ChainLemmas::adds_two))]
 fn add_header<K: Sink>(text: &mut TextWriter<K>, line: u32)
     ensures { Adds (view_of K.held K.faults text.old) (view_of K.held K.faults text.new) (codes "refused header" ++ field_text line) }
 {
@@ -66,7 +64,6 @@ fn add_header<K: Sink>(text: &mut TextWriter<K>, line: u32)
     add_field(text, line);
 }
 
-#[tactic(auto, using(text_lines::proofs::ChainLemmas::adds_two))]
 fn add_history<K: Sink>(text: &mut TextWriter<K>, entry: u64)
     ensures { Adds (view_of K.held K.faults text.old) (view_of K.held K.faults text.new) (codes "refused history" ++ field_text entry) }
 {
@@ -75,7 +72,6 @@ fn add_history<K: Sink>(text: &mut TextWriter<K>, entry: u64)
 }
 
 /// Adds that the surface of a revision is refused.
-#[tactic(auto, unfolding(crate::specs::VerdictLines::surface_start), using(text_lines::proofs::ChainLemmas::adds_two))]
 fn add_start<K: Sink>(text: &mut TextWriter<K>, revision: u32)
     ensures { Adds (view_of K.held K.faults text.old) (view_of K.held K.faults text.new) (surface_start revision) }
 {
@@ -83,7 +79,6 @@ fn add_start<K: Sink>(text: &mut TextWriter<K>, revision: u32)
     add_field(text, revision);
 }
 
-#[tactic(auto, using(text_lines::proofs::ChainLemmas::adds_four))]
 fn add_value<K: Sink>(text: &mut TextWriter<K>, revision: u32, x: u32, y: u32)
     ensures { Adds (view_of K.held K.faults text.old) (view_of K.held K.faults text.new) (surface_refused revision (codes " value" ++ (field_text x ++ field_text y))) }
 {
@@ -93,7 +88,6 @@ fn add_value<K: Sink>(text: &mut TextWriter<K>, revision: u32, x: u32, y: u32)
     add_field(text, y);
 }
 
-#[tactic(auto, using(text_lines::proofs::ChainLemmas::adds_four))]
 fn add_tile<K: Sink>(text: &mut TextWriter<K>, revision: u32, tile: u32, verdict: TileVerdict)
     ensures { Adds (view_of K.held K.faults text.old) (view_of K.held K.faults text.new) (surface_refused revision (codes " tile" ++ (field_text tile ++ tile_words verdict))) }
 {
@@ -103,7 +97,6 @@ fn add_tile<K: Sink>(text: &mut TextWriter<K>, revision: u32, tile: u32, verdict
     add_tile_words(text, verdict);
 }
 
-#[tactic(auto, using(text_lines::proofs::ChainLemmas::adds_three))]
 fn add_seams<K: Sink>(text: &mut TextWriter<K>, revision: u32, verdict: SeamVerdict)
     ensures { Adds (view_of K.held K.faults text.old) (view_of K.held K.faults text.new) (surface_refused revision (codes " seams" ++ seam_words verdict)) }
 {
@@ -113,7 +106,6 @@ fn add_seams<K: Sink>(text: &mut TextWriter<K>, revision: u32, verdict: SeamVerd
 }
 
 /// Adds that the written cost, which the word names, is not the counted one.
-#[tactic(auto, using(text_lines::proofs::ChainLemmas::adds_four))]
 fn add_costs<K: Sink>(
     text: &mut TextWriter<K>,
     revision: u32,
@@ -164,7 +156,6 @@ fn add_anchor<K: Sink>(text: &mut TextWriter<K>, cycles: i64)
     add_signed_field(text, cycles);
 }
 
-#[tactic(auto, using(text_lines::proofs::ChainLemmas::adds_two))]
 fn add_unbalanced<K: Sink>(text: &mut TextWriter<K>, region: u32)
     ensures { Adds (view_of K.held K.faults text.old) (view_of K.held K.faults text.new) (codes " unbalanced" ++ field_text region) }
 {
@@ -182,7 +173,6 @@ fn add_difference<K: Sink>(text: &mut TextWriter<K>, cost: u128, bound: i128)
     add_wide_signed_field(text, bound);
 }
 
-#[tactic(auto, using(text_lines::proofs::ChainLemmas::adds_two))]
 fn add_at_edge<K: Sink>(text: &mut TextWriter<K>, word: &[u8], edge: Edge)
     ensures { Adds (view_of K.held K.faults text.old) (view_of K.held K.faults text.new) (word.now ++ edge_text edge) }
 {
@@ -191,7 +181,6 @@ fn add_at_edge<K: Sink>(text: &mut TextWriter<K>, word: &[u8], edge: Edge)
 }
 
 /// Adds an edge: its direction and its first pixel.
-#[tactic(auto, unfolding(crate::specs::VerdictLines::edge_text), using(text_lines::proofs::ChainLemmas::adds_three))]
 fn add_edge<K: Sink>(text: &mut TextWriter<K>, edge: Edge)
     ensures { Adds (view_of K.held K.faults text.old) (view_of K.held K.faults text.new) (edge_text edge) }
 {

@@ -126,7 +126,6 @@ pub fn put_summary<K: Sink>(sink: &mut K, summary: Summary) -> Result<(), WriteF
     text.finish()
 }
 
-#[tactic(auto, unfolding(crate::specs::Trial::four_lines), using(text_lines::proofs::ChainLemmas::adds_four))]
 fn add_lines<K: Sink>(text: &mut TextWriter<K>, summary: Summary)
     ensures { Adds (view_of K.held K.faults text.old) (view_of K.held K.faults text.new) (four_lines summary.pixels summary.residues summary.unmasked summary.tile_cost) }
 {
@@ -137,7 +136,6 @@ fn add_lines<K: Sink>(text: &mut TextWriter<K>, summary: Summary)
 }
 
 /// Adds a line of a word and a number.
-#[tactic(auto, using(text_lines::proofs::ChainLemmas::adds_three))]
 fn add_count<K: Sink>(text: &mut TextWriter<K>, word: &[u8], count: u32)
     ensures { Adds (view_of K.held K.faults text.old) (view_of K.held K.faults text.new) (number_line word.now count) }
 {
@@ -146,7 +144,6 @@ fn add_count<K: Sink>(text: &mut TextWriter<K>, word: &[u8], count: u32)
     text.end_line();
 }
 
-#[tactic(auto, using(text_lines::proofs::ChainLemmas::adds_three))]
 fn add_cost<K: Sink>(text: &mut TextWriter<K>, cost: u128)
     ensures { Adds (view_of K.held K.faults text.old) (view_of K.held K.faults text.new) (number_line (codes "cost ") cost) }
 {

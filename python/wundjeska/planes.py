@@ -6,11 +6,11 @@ Arrays have the shape (rows, columns), and row 0 is the top one, in GDAL as in t
 import math
 import re
 from dataclasses import dataclass
-from typing import List, Tuple
+from typing import List, Optional, Tuple
 
 import numpy as np
 
-from .trouble import Trouble, warn
+from .trouble import REFUSED_WORDS, Trouble, warn
 
 CYCLE = 65536  # units in a cycle
 MAX_SIDE, MAX_PIXELS = 4096, 4194304  # of one session
@@ -59,6 +59,12 @@ def check_radians(values: np.ndarray, opened: np.ndarray, name: str, scaled: boo
         )
     if 0.99 <= high - low <= 1.0 and opened.sum() >= MANY:
         warn(f"{name} has values from {low:g} to {high:g}: taken as radians, though they look like cycles")
+
+
+def check_wavelength(metres: Optional[float]) -> None:
+    """Trouble if a wavelength is named that is none."""
+    if metres is not None and not 0 < metres < math.inf:
+        raise Trouble("--wavelength is above 0, in metres", REFUSED_WORDS)
 
 
 def check_coherence(coherence: np.ndarray, name: str, highest: float) -> None:

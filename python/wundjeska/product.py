@@ -9,7 +9,7 @@ from osgeo import gdal
 
 from . import __version__
 from .components import components_of
-from .planes import CYCLE
+from .planes import CYCLE, check_wavelength
 from .rasters import NODATA, close, create_like, put_values
 from .report_reader import NODATA as MASKED
 from .trouble import REFUSED_WORDS, Trouble, warn
@@ -46,8 +46,7 @@ def add_reference_words(words: ArgumentParser) -> None:
 
 def check_unit_words(asked: Namespace) -> None:
     """Trouble if arguments do not fit each other."""
-    if asked.wavelength is not None and not 0 < asked.wavelength < math.inf:
-        raise Trouble("--wavelength is above 0, in metres", REFUSED_WORDS)
+    check_wavelength(asked.wavelength)
     if asked.unit in ("centimetres", "metres") and asked.wavelength is None:
         raise Trouble(f"{asked.unit} want the --wavelength", REFUSED_WORDS)
     if getattr(asked, "reference", None) and getattr(asked, "reference_window", None):

@@ -32,9 +32,9 @@ from ..pictures import (
     pixel_axes,
     thinned,
 )
-from ..planes import CYCLE, Session, read_session
+from ..planes import CYCLE, Session, check_wavelength, read_session
 from ..program import check_report
-from ..trouble import DISAGREES, REFUSED_WORDS, Trouble
+from ..trouble import DISAGREES, Trouble
 from ..unwrapping import ACCEPTED, read_report
 
 MAX_MASKS, MAX_SURFACES = 12, 12
@@ -402,8 +402,7 @@ def words() -> ArgumentParser:
 
 
 def main(asked: Namespace) -> int:
-    if asked.wavelength is not None and not asked.wavelength > 0:
-        raise Trouble("--wavelength is above 0, in metres", REFUSED_WORDS)
+    check_wavelength(asked.wavelength)
     with Outputs([asked.session, asked.report]) as outputs:
         made = outputs.beside(asked.page)
         session, report = Path(asked.session).read_bytes(), Path(asked.report).read_bytes()

@@ -15,6 +15,7 @@ use Rattle.report_text.specs.Same.{AreSameItems, IsSameItem, IsSameReport, MayBe
 use Rattle.report_text.specs.Text.{tiles_in}
 use Rattle.report_check.specs.Same.{EqualReportsAreCertifiedAlike}
 use Rattle.report_check.specs.Verdicts.{HasHeadOf, surface_shown}
+use Rattle.report_check.proofs.HeadLemmas.{head_of}
 use Rattle.report_check.proofs.SurfaceLemmas.{certified_is_good, good_is_certified, good_too, has_phases}
 use Rattle.sums_and_lists.proofs.Lists.{some_at}
 
@@ -80,8 +81,7 @@ module _ (s t : Session) (v w : ReportOf) (equal : IsSameReport v w) (head : Has
 pub items_too : (s t : Session) (v w : ReportOf) → IsSameReport v w → IsCertifiedReport s v → AreAlike s t (history_of v) → (k : ℕ) (j : ItemOf) → slice_get w.items k ≡ Some j → IsCertifiedAfter t (history_of w) j.entry j.surface
 items_too s t v w equal c alike k j at =
     let there = same_item v w equal k j at in
-    let head : HasHeadOf s v = record { size = (c.width, c.height); side = c.side; rule = c.rule } in
-    item_too s t v w equal head alike there.0 j there.2 (c.surfaces k there.0 there.1)
+    item_too s t v w equal (head_of s v c) alike there.0 j there.2 (c.surfaces k there.0 there.1)
 
 pub equal_reports_are_certified_alike : EqualReportsAreCertifiedAlike
 equal_reports_are_certified_alike s v w equal c = record {
@@ -89,6 +89,7 @@ equal_reports_are_certified_alike s v w equal c = record {
   height = sym equal.height ∙ c.height;
   side = sym equal.side ∙ c.side;
   rule = sym equal.rule ∙ c.rule;
+  terms = sym equal.terms ∙ c.terms;
   legal = subst (λ (H : List Entry). IsLegal s H) (same_history v w equal) c.legal;
   complete = subst (λ (H : List Entry). IsComplete s H) (same_history v w equal) c.complete;
   surfaces = items_too s s v w equal c (record { raster = refl; masks = λ revision x y a b. refl });

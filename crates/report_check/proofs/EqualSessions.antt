@@ -25,7 +25,9 @@ use Rattle.tile_board.specs.declared.entry.Entry.{Entry}
 use Rattle.tile_board.specs.declared.entry.Entry.TheVariants.{Revised, Kept, Published, Settled, Shown}
 use Rattle.tile_board.specs.Histories.{IsComplete, IsLegal, IsStep, commands_of, done_by, edits_of, is_kept, keeps, mask_in, next_command, script_in, stamp_in}
 use Rattle.report_text.specs.Certified.{history_of}
-use Rattle.report_check.specs.Same.{AcceptanceIsOfTexts, IsSameInput, IsSamePlane, IsSameTerms, commands_in}
+use Rattle.report_text.specs.Terms.{terms_of}
+use Rattle.report_check.specs.Same.{AcceptanceIsOfTexts, IsSameInput, IsSamePlane, commands_in}
+use Rattle.report_check.proofs.HeadLemmas.{numbers_alike, terms_alike}
 use Rattle.report_check.proofs.EqualReports.{AreAlike, items_too, same_history}
 
 -- ---- planes, as the numbers that are read of them
@@ -95,8 +97,8 @@ same_script scripts others same zero = refl
 same_script scripts others same (suc k) = commands_listed scripts k ∙ ap (λ (all : List (List Command)). listed (slice_get all k)) same ∙ sym (commands_listed others k)
 
 -- ---- the raster
-pub plain_alike : (a b : Terms) → ArePlainTerms a → ArePlainTerms b → IsSameTerms a b
-plain_alike a b p q = record { ramp_x = p.across ∙ sym q.across; ramp_y = p.along ∙ sym q.along; steep = p.steepness ∙ sym q.steepness }
+pub plain_alike : (a b : Terms) → ArePlainTerms a → ArePlainTerms b → terms_of a ≡ terms_of b
+plain_alike a b p q = terms_alike (p.across ∙ sym q.across) (p.along ∙ sym q.along) (p.steepness ∙ sym q.steepness)
 
 abbrev slope_by : ℤ → ℤ → Bool → ℤ
 slope_by x y down = if down then y else x
@@ -110,7 +112,7 @@ module _ (s t : Session) (same : IsSameInput s t) where
   }
 
   slopes : slope_of s.scene.terms ≡ slope_of t.scene.terms
-  slopes = ap₂ slope_by same.terms.ramp_x same.terms.ramp_y
+  slopes = (let numbers = numbers_alike same.terms in ap₂ slope_by numbers.0 numbers.1)
 
   same_raster : raster_of s.scene ≡ raster_of t.scene
   same_raster = simp (slopes, same.phase.width, same.phase.height, same_samples s.scene.phase t.scene.phase same.phase, same_weights s.scene.weights t.scene.weights same.weights same.rule, same_tile s.scene.tiling t.scene.tiling tilings, same_tiles s.scene.tiling t.scene.tiling tilings)
@@ -158,6 +160,7 @@ acceptance_is_of_texts s t v w same equal c = record {
   height = sym equal.height ∙ c.height ∙ same.phase.height;
   side = sym equal.side ∙ c.side ∙ same.side;
   rule = sym equal.rule ∙ c.rule ∙ same.rule;
+  terms = sym equal.terms ∙ c.terms ∙ same.terms;
   legal = subst (λ (H : List Entry). IsLegal t H) (same_history v w equal) (legal_too s t same (history_of v) c.legal);
   complete = subst (λ (H : List Entry). IsComplete t H) (same_history v w equal) ((same_complete s t same (history_of v)).0 c.complete);
   surfaces = items_too s t v w equal c (are_alike s t same (history_of v));

@@ -16,20 +16,26 @@ use Rattle.report_check.specs.Same.{IsSameInput, VerdictIsOfTexts}
 use Rattle.report_check.specs.Verdicts.{BreaksHistoryAt, BreaksInSurfaces, DiffersAt, HasHeadOf, IsFirstUnfitSurface, IsSurfaceVerdict, MayNotCome}
 use Rattle.report_check.proofs.EqualReports.{MayBeSameOn, item_too, same_history, same_item, same_there}
 use Rattle.report_check.proofs.EqualSessions.{acceptance_is_of_texts, are_alike, legal_too, same_complete, same_step}
+use Rattle.report_check.proofs.HeadLemmas.{numbers_alike}
 use Rattle.report_check.proofs.SurfaceLemmas.{surface_verdict_too}
 use Rattle.sums_and_lists.proofs.Lists.{some_at}
 
 -- ---- the head
 module _ (s t : Session) (v w : ReportOf) (same : IsSameInput s t) (equal : IsSameReport v w) where
   head_too : HasHeadOf s v → HasHeadOf t w
-  head_too h = record {
-    size = (sym equal.width ∙ h.size.0 ∙ same.phase.width, sym equal.height ∙ h.size.1 ∙ same.phase.height);
-    side = sym equal.side ∙ h.side ∙ same.side;
-    rule = sym equal.rule ∙ h.rule ∙ same.rule;
-  }
+  head_too h =
+      let one = numbers_alike equal.terms in
+      let other = numbers_alike same.terms in
+      record {
+        size = (sym equal.width ∙ h.size.0 ∙ same.phase.width, sym equal.height ∙ h.size.1 ∙ same.phase.height);
+        side = sym equal.side ∙ h.side ∙ same.side;
+        rule = sym equal.rule ∙ h.rule ∙ same.rule;
+        ramp = (sym one.0 ∙ h.ramp.0 ∙ other.0, sym one.1 ∙ h.ramp.1 ∙ other.1);
+        steepness = sym one.2 ∙ h.steepness ∙ other.2;
+      }
 
   differs_too : (n : ℕ) → DiffersAt s v n → DiffersAt t w n
-  differs_too n d = rw (equal.width, equal.height, equal.side, equal.rule, same.phase.width, same.phase.height, same.side, same.rule) at d
+  differs_too n d = (let terms = numbers_alike same.terms in rw (equal.width, equal.height, equal.side, equal.rule, equal.terms, same.phase.width, same.phase.height, same.side, same.rule, terms.0, terms.1, terms.2) at d)
 
 -- ---- the history
 module _ (s t : Session) (same : IsSameInput s t) where

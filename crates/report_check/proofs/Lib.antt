@@ -1,3 +1,4 @@
+pub mod HeadLemmas
 mod MaskLemmas
 mod ValueLemmas
 mod SurfaceLemmas

@@ -29,6 +29,7 @@ use Rattle.report_check.specs.Replays.{IsReplay}
 use Rattle.report_check.specs.Shown.{AreCertifiedAfter, IsGoodAfter, IsUnfitAfter}
 use Rattle.report_check.specs.Verdicts.{HasHeadOf, IsFirstUnfitSurface, IsCheckVerdict, surface_shown}
 use Rattle.tile_board.proofs.HeldLemmas.{mask_told}
+use Rattle.report_check.proofs.HeadLemmas.{terms_of_head}
 use Rattle.report_check.proofs.SurfaceLemmas.{good_is_certified, good_too, has_phases, itself_same, surface_verdict_too}
 use Rattle.report_check.proofs.UniqueLemmas.{certified_not_unfit}
 use Rattle.sums_and_lists.proofs.Orders.{below_or_last}
@@ -117,6 +118,7 @@ module _ {s : Session} (v : Report) (head : HasHeadOf s (report_told v)) where
       height = head.size.1;
       side = head.side;
       rule = head.rule;
+      terms = terms_of_head s (report_told v) head;
       legal = order.0;
       complete = order.1;
       surfaces = all;

@@ -25,7 +25,8 @@ use Rattle.report_text.specs.Reports.{ItemOf, ReportOf, SurfaceOf}
 use Rattle.report_check.specs.declared.verdict.CheckVerdict.{CheckVerdict}
 use Rattle.report_check.specs.declared.verdict.CheckVerdict.TheVariants.{Accepted, Header, History, Value, Tile, Seams, TileCost, SeamCost}
 use Rattle.report_check.specs.Shown.{IsGoodSurface}
-use Rattle.report_check.specs.Verdicts.{AreUnfitSeams, BreaksHistoryAt, DiffersAt, HasHeadOf, IsFirstUnfitSurface, IsFirstUnfitTile, IsMiscounted, IsSurfaceVerdict, IsCheckVerdict, MayNotCome, PassesTiles, ReportsHaveOneVerdict, cycles_shown, surface_shown}
+use Rattle.report_check.specs.Verdicts.{AreUnfitSeams, BreaksHistoryAt, IsFirstUnfitSurface, IsFirstUnfitTile, IsMiscounted, IsSurfaceVerdict, IsCheckVerdict, MayNotCome, PassesTiles, ReportsHaveOneVerdict, cycles_shown, surface_shown}
+use Rattle.report_check.proofs.HeadLemmas.{head_of, no_difference, one_difference}
 use Rattle.report_check.proofs.MaskLemmas.{seam_verdict_too}
 use Rattle.report_check.proofs.SurfaceLemmas.{certified_is_good, has_phases}
 use Rattle.std.proofs.lemmas.Bool.{cases_order}
@@ -141,13 +142,6 @@ module _ (s : Session) (H : List Entry) where
 
 -- ---- reports
 
--- the first of the three lines that differs
-no_difference : (s : Session) (v : ReportOf) (n : ℕ) → HasHeadOf s v → DiffersAt s v n → ⊥
-no_difference s v n h d = grind arith
-
-one_difference : (s : Session) (v : ReportOf) (m n : ℕ) → DiffersAt s v m → DiffersAt s v n → m ≡ n
-one_difference s v m n d e = grind arith
-
 module _ (s : Session) (v : ReportOf) where
   abbrev H : List Entry
   H = history_of v
@@ -172,14 +166,11 @@ module _ (s : Session) (v : ReportOf) where
       let other = subst (λ (k : SurfaceOf). IsSurfaceVerdict (raster_of s.scene) (mask_in s H p.revision) p.revision k b) (sym surface) (subst (λ (r : ℕ). IsSurfaceVerdict (raster_of s.scene) (mask_in s H r) r q.surface b) (sym revision) q.unfit) in
       one_surface_verdict (raster_of s.scene) (mask_in s H p.revision) p.revision p.surface a b p.unfit other
 
-  head_of : IsCertifiedReport s v → HasHeadOf s v
-  head_of c = record { size = (c.width, c.height); side = c.side; rule = c.rule }
-
   one_verdict : (a b : CheckVerdict) → IsCheckVerdict s v a → IsCheckVerdict s v b → a ≡ b
   one_verdict Accepted Accepted p q = refl
   one_verdict (Header m) (Header n) p q = ap Header (one_difference s v m n p q)
-  one_verdict (Header n) Accepted p q = absurd (no_difference s v n (head_of q) p)
-  one_verdict Accepted (Header n) p q = absurd (no_difference s v n (head_of p) q)
+  one_verdict (Header n) Accepted p q = absurd (no_difference s v n (head_of s v q) p)
+  one_verdict Accepted (Header n) p q = absurd (no_difference s v n (head_of s v p) q)
   one_verdict (Header n) b p q = absurd (no_difference s v n q.0 p)
   one_verdict a (Header n) p q = absurd (no_difference s v n p.0 q)
   one_verdict (History m) (History n) p q = ap History (one_break s H m n p.1 q.1)

@@ -4,11 +4,11 @@ use Rattle.raster_model.specs.declared.plane.Plane.{Plane}
 use Rattle.raster_model.specs.declared.script.Command.{Command}
 use Rattle.raster_model.specs.declared.script.Script.{Script}
 use Rattle.raster_model.specs.declared.session.Session.{Session}
-use Rattle.raster_model.specs.declared.terms.Terms.{Terms}
 use Rattle.raster_model.specs.Masks.{open_at}
 use Rattle.report_text.specs.Certified.{IsCertifiedReport}
 use Rattle.report_text.specs.Reports.{ReportOf}
 use Rattle.report_text.specs.Same.{IsSameReport}
+use Rattle.report_text.specs.Terms.{terms_of}
 use Rattle.report_check.specs.declared.verdict.CheckVerdict.{CheckVerdict}
 use Rattle.report_check.specs.Verdicts.{IsCheckVerdict}
 
@@ -18,12 +18,6 @@ pub record IsSamePlane (p q : Plane) : Type 0 where
   pub height : p.height ≡ q.height
   pub maxval : p.maxval ≡ q.maxval
   pub samples : p.samples.items ≡ q.samples.items
-
--- equal ramps and steepness
-pub record IsSameTerms (a b : Terms) : Type 0 where
-  pub ramp_x : a.ramp_x ≡ b.ramp_x
-  pub ramp_y : a.ramp_y ≡ b.ramp_y
-  pub steep : a.steep ≡ b.steep
 
 -- the commands of each analyst
 abbrev pub commands_in : List Script → List (List Command)
@@ -35,7 +29,7 @@ pub record IsSameInput (s t : Session) : Type 0 where
   pub weights : IsSamePlane s.scene.weights t.scene.weights
   pub rule : s.scene.rule ≡ t.scene.rule
   pub side : s.scene.tiling.side ≡ t.scene.tiling.side
-  pub terms : IsSameTerms s.scene.terms t.scene.terms
+  pub terms : terms_of s.scene.terms ≡ terms_of t.scene.terms
   pub commands : commands_in s.scripts.items ≡ commands_in t.scripts.items
   pub unmasked : (x y : ℕ) → x < s.scene.phase.width → y < s.scene.phase.height → open_at s.first_mask x y ≡ open_at t.first_mask x y
 

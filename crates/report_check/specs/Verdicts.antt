@@ -22,7 +22,7 @@ use Rattle.report_text.specs.Reports.{ItemOf, ReportOf, SurfaceOf}
 use Rattle.report_check.specs.declared.verdict.CheckVerdict.{CheckVerdict}
 use Rattle.report_check.specs.declared.verdict.CheckVerdict.TheVariants.{Accepted, Header, History, Value, Tile, Seams, TileCost, SeamCost}
 
--- ---- the head: lines 2, 3 and 4 give the session's size, side and rule
+-- ---- the head: lines 2 to 6 give the session's size, side, rule, ramp and steepness; for a report of version 1 the plain terms stand for lines 5 and 6
 
 abbrev pub HasReportSize : Session → ReportOf → Type 0
 HasReportSize s v = (v.width ≡ s.scene.phase.width) × (v.height ≡ s.scene.phase.height)
@@ -33,17 +33,27 @@ HasSideOf s v = v.side ≡ s.scene.tiling.side
 abbrev pub HasRuleOf : Session → ReportOf → Type 0
 HasRuleOf s v = v.rule ≡ s.scene.rule
 
+abbrev pub HasRampOf : Session → ReportOf → Type 0
+HasRampOf s v = (v.terms.ramp_x ≡ s.scene.terms.ramp_x) × (v.terms.ramp_y ≡ s.scene.terms.ramp_y)
+
+abbrev pub HasSteepnessOf : Session → ReportOf → Type 0
+HasSteepnessOf s v = v.terms.steep ≡ s.scene.terms.steep
+
 pub record HasHeadOf (s : Session) (v : ReportOf) : Type 0 where
   pub size : HasReportSize s v
   pub side : HasSideOf s v
   pub rule : HasRuleOf s v
+  pub ramp : HasRampOf s v
+  pub steepness : HasSteepnessOf s v
 
 -- the first of them that does not has this number
 abbrev pub DiffersAt : Session → ReportOf → ℕ → Type 0
 DiffersAt s v n =
     ((n ≡ 2) × (HasReportSize s v → ⊥))
     ⊎ (((n ≡ 3) × (HasReportSize s v × (HasSideOf s v → ⊥)))
-    ⊎ ((n ≡ 4) × (HasReportSize s v × (HasSideOf s v × (HasRuleOf s v → ⊥)))))
+    ⊎ (((n ≡ 4) × (HasReportSize s v × (HasSideOf s v × (HasRuleOf s v → ⊥))))
+    ⊎ (((n ≡ 5) × (HasReportSize s v × (HasSideOf s v × (HasRuleOf s v × (HasRampOf s v → ⊥)))))
+    ⊎ ((n ≡ 6) × (HasReportSize s v × (HasSideOf s v × (HasRuleOf s v × (HasRampOf s v × (HasSteepnessOf s v → ⊥)))))))))
 
 -- ---- the history: entry n, from 1, may not come after those before it; or all may and the scripts are not at their ends, and n is one more than their number
 

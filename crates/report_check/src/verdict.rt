@@ -5,7 +5,8 @@ use certificates::{SeamVerdict, TileVerdict};
 pub enum CheckVerdict {
     /// The report is certified.
     Accepted,
-    /// The line of the report with this number, from 2 to 4, is not the session's size, tile side or rule.
+    /// The line of the report with this number, from 2 to 6, is not the session's size, tile side, rule, ramp or steepness;
+    /// for a report of version 1 the plain terms stand for lines 5 and 6.
     Header(u32),
     /// The entry with this number, from 1, may not come after those before it; or all may, the history is not complete,
     /// and the number is one more than theirs.

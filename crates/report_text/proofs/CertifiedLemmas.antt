@@ -94,6 +94,7 @@ board_is_certified v is complete = record {
   height = refl;
   side = refl;
   rule = refl;
+  terms = refl;
   legal = rw (entries_again v.entries v.surfaces) is.legal;
   complete = rw (entries_again v.entries v.surfaces) complete;
   surfaces = rw (entries_again v.entries v.surfaces) (all_get (λ (i : ItemOf). IsCertifiedAfter v.session v.entries i.entry i.surface) (items_of v.entries v.surfaces) (items_certified v.session v.entries v.entries v.surfaces is.surfaces.revisions is.surfaces.each));

@@ -13,5 +13,6 @@ pub mod ItemsLemmas
 pub mod ReportForms
 pub mod ReportAnswers
 pub mod SameReports
+pub mod TermsLemmas
 pub mod RangeLemmas
 pub mod CertifiedLemmas

@@ -1,30 +1,34 @@
 -- The lines of a report have no line feed in them, and the short ones are short.
-use Rattle.std.proofs.Common.{◌≡◌, ℕ, ◌+◌, ◌-◌, ◌/◌, ◌≤◌, Bool, true, not, eqb, IsTrue, List, [], ◌∷◌, ◌++◌, length, decimal, mul-le-mul, Option, Some, None, refl, arith}
-use Rattle.std.specs.Prelude.{ℤ, codes}
+use Rattle.std.proofs.Common.{◌≡◌, ℕ, ◌+◌, ◌-◌, ◌/◌, ◌≤◌, Bool, true, not, eqb, IsTrue, List, [], ◌∷◌, ◌++◌, length, decimal, mul-le-mul, Option, Some, None, inl, inr, refl, arith, of_z, to_z}
+use Rattle.std.specs.Prelude.{ℤ, pos, negsuc, FitsSigned, codes}
 use Rattle.std.specs.List.{list_all}
 use Rattle.std.proofs.Math.Nat.{div-le_self}
-use Rattle.std.proofs.lemmas.Bool.{and_parts, eqb-false, not-true}
+use Rattle.std.proofs.lemmas.Bool.{and_parts, cases_lt, eqb-false, not-true}
 use Rattle.std.proofs.lemmas.Bool.Decides.{nat_tests}
-use Rattle.std.proofs.lemmas.Fmt.{length-decimal-le_wide}
+use Rattle.std.proofs.lemmas.Fmt.{length-decimal-le_wide, length_signed_le}
+use Rattle.std.proofs.lemmas.Int.{fits_signed_from_abs, ints, to_z-of_z}
 use Rattle.std.proofs.lemmas.List.{length-append}
 use Rattle.insar_ports.specs.Lines.{IsInLine}
-use Rattle.raster_model.specs.Limits.{is_raster_size, IsTileSide}
+use mir.Syntax.{w16, w32, w64}
+use Rattle.raster_model.specs.Limits.{is_raster_size, IsSlope, IsSteepness, IsTileSide}
 use Rattle.raster_model.specs.declared.script.Edit.TheVariants.{Mask, Unmask}
 use Rattle.raster_model.specs.declared.script.Rect.{Rect}
 use Rattle.raster_model.specs.declared.weights.RuleKind.{RuleKind}
 use Rattle.raster_model.specs.declared.weights.RuleKind.TheVariants.{Least}
 use Rattle.tile_board.specs.declared.entry.Entry.{Entry}
 use Rattle.tile_board.specs.declared.entry.Entry.TheVariants.{Revised, Kept, Published, Settled, Shown}
-use Rattle.text_lines.specs.Numbers.{AreLongs, numbers_text}
+use Rattle.text_lines.specs.Numbers.{AreLongs, FitsLong, number_text, numbers_text}
 use Rattle.text_lines.specs.Parsing.{AreWords, IsRectOfWords, IsWide, IsWord}
 use Rattle.text_lines.specs.Text.{rect_text, field_text}
 use Rattle.text_lines.proofs.FieldLemmas.{IsDigit, all_both, all_weaker, decimal_digits, is_printed, word_wide}
 use Rattle.text_lines.proofs.FormLemmas.{InLine}
+use Rattle.text_lines.proofs.NumberLemmas.{magnitude, number_in_line}
 use Rattle.text_lines.proofs.NumberLines.{text_in_line}
 use Rattle.report_text.specs.Contents.{IsEntryOfWords, MayBeWord}
 use Rattle.report_text.specs.Parsing.{AreCosts}
-use Rattle.report_text.specs.Parts.{AreFacesOf, IsRasterSize, MayStand}
-use Rattle.report_text.specs.Text.{costs_line, entry_text, faces_front, faces_line, flows_line, history_line, revision_text, rule_line, size_line, tile_line, tiles_by}
+use Rattle.report_text.specs.Parts.{AreFacesOf, IsRamp, IsRasterSize, MayStand}
+use Rattle.report_text.specs.Terms.{IsVersion}
+use Rattle.report_text.specs.Text.{costs_line, entry_text, faces_front, faces_line, flows_line, history_line, ramp_line, revision_text, rule_line, size_line, steep_line, tile_line, tiles_by, version_line}
 
 -- bytes without a line feed, at most so many
 pub record Fits (most : ℕ) (text : List ℕ) : Type 0 where
@@ -79,6 +83,24 @@ revision_fits None w = fits_more (word_fits (codes " none") refl) (omega arith)
 
 -- ---- lines
 
+pub version_small : (version : ℕ) → IsVersion version → (1 ≤ version) × (version ≤ 2)
+version_small version (inl e) = (omega (arith, e), omega (arith, e))
+version_small version (inr e) = (omega (arith, e), omega (arith, e))
+
+pub version_in : (version : ℕ) → 1 ≤ version → version ≤ 2 → IsVersion version
+version_in version a b = elim (cases_lt version 2) [ inl l ↦ inl (omega (arith, a, l)) | inr l ↦ inr (omega (arith, b, l)) ]
+
+-- a slope fits 64 bits with its sign, and 16, and so 32
+pub slope_long : (n : ℤ) → IsSlope n → FitsLong n
+slope_long n s = fits_signed_from_abs w64 n (omega (arith, ints, s.0, s.1))
+
+pub slope_short : (n : ℤ) → IsSlope n → FitsSigned w16 n
+slope_short (pos n) s = record { sfits = omega (arith, ints, s.1) }
+slope_short (negsuc n) s = record { sfits = omega (arith, ints, s.0) }
+
+pub slope_is : (n : ℤ) → IsSlope n → to_z w32 (of_z w32 n) ≡ n
+slope_is n s = to_z-of_z w32 n (fits_signed_from_abs w32 n (omega (arith, ints, s.0, s.1)))
+
 entry_fits : (e : Entry) → IsEntryOfWords e → Fits 128 (entry_text e)
 entry_fits (Revised n (Mask r)) w = fits_more (fits_both (word_fits (codes "revised") refl) (fits_both (field_fits n w.0) (fits_both (word_fits (codes " mask") refl) (rect_fits r w.1)))) (omega arith)
 entry_fits (Revised n (Unmask r)) w = fits_more (fits_both (word_fits (codes "revised") refl) (fits_both (field_fits n w.0) (fits_both (word_fits (codes " unmask") refl) (rect_fits r w.1)))) (omega arith)
@@ -107,6 +129,21 @@ size_words s z = let p = size_parts s.0 s.1 z in let a = p.0 in let b = p.1 in (
 
 pub size_fits : (s : ℕ × ℕ) → IsRasterSize s → Fits 128 (size_line s)
 size_fits s z = let w = size_words s z in fits_more (fits_both (word_fits (codes "size") refl) (pair_fits s.0 s.1 w.0 w.1)) (omega arith)
+
+pub version_fits : (version : ℕ) → IsVersion version → Fits 128 (version_line version)
+version_fits version v = fits_more (fits_both (word_fits (codes "insar-report") refl) (field_fits version (let s = version_small version v in omega (arith, s)))) (omega arith)
+
+slope_fits : (n : ℤ) → IsSlope n → Fits 21 (number_text n)
+unfolding number_text
+slope_fits n s =
+    let small = magnitude n (slope_long n s) in
+    record { inside = ((λ e. omega (arith, e)), number_in_line n (slope_long n s)); short = omega (arith, length_signed_le 19 n (omega (arith, small)) small) }
+
+pub ramp_fits : (ramp : ℤ × ℤ) → IsRamp ramp → Fits 128 (ramp_line ramp)
+ramp_fits ramp r = fits_more (fits_both (word_fits (codes "ramp") refl) (fits_both (slope_fits ramp.0 r.0) (slope_fits ramp.1 r.1))) (omega arith)
+
+pub steep_fits : (steep : ℕ) → IsSteepness steep → Fits 128 (steep_line steep)
+steep_fits steep s = fits_more (fits_both (word_fits (codes "steep") refl) (field_fits steep (omega (arith, s.1)))) (omega arith)
 
 pub side_fits : (side : ℕ) → IsTileSide side → Fits 128 (tile_line side)
 side_fits side s = fits_more (fits_both (word_fits (codes "tile") refl) (field_fits side (omega (arith, s.1)))) (omega arith)

@@ -1,21 +1,23 @@
 -- The parts of a report's text as forms: lines, the head, the faces, a surface.
-use Rattle.std.proofs.Common.{◌≡◌, ℕ, zero, suc, ◌≤◌, ◌<◌, ℤ, pos, IsTrue, List, [], ◌∷◌, ◌++◌, Result, Ok, Err, None, inl, inr, refl, sym, ap, ap₂, subst, ◌∙◌, append_assoc, arith, rules}
-use Rattle.std.specs.Prelude.{IfErr, IfOk, if◌then◌else◌, nat_lt}
-use Rattle.std.proofs.lemmas.Bool.{cases_lt}
-use Rattle.std.proofs.lemmas.List.{append_cancel_left, append-nil}
+use Rattle.std.proofs.Common.{◌≡◌, ℕ, zero, suc, ◌≤◌, ◌<◌, ℤ, pos, IsTrue, List, [], ◌++◌, Result, Ok, Err, None, inl, inr, ◌⊎◌, refl, sym, ap, ap₂, subst, ◌∙◌, append_assoc, arith, rules}
+use Rattle.std.specs.Prelude.{◌==◌, false, IfErr, IfOk, if◌then◌else◌, nat_lt}
+use Rattle.std.proofs.lemmas.Bool.{cases_Bool, cases_lt, eqb-true, false_from_ne_true}
+use Rattle.std.proofs.lemmas.Int.{ints}
+use Rattle.std.proofs.lemmas.List.{append-nil}
 use Rattle.std.proofs.lemmas.List.Elements.{All-from_recursion}
 use Rattle.sums_and_lists.proofs.Orders.{lt_is, not_lt_is}
-use Rattle.raster_model.specs.Limits.{is_raster_size, IsTileSide}
+use Rattle.sums_and_lists.proofs.Tests.{true_and_false}
+use Rattle.raster_model.specs.Limits.{is_raster_size, IsSlope, IsSteepness, IsTileSide}
 use Rattle.raster_model.specs.declared.weights.RuleKind.TheVariants.{Least}
-use Rattle.text_lines.specs.Forms.{AreWholeLines, Form, IsLine}
+use Rattle.text_lines.specs.Forms.{AreWholeLines, Form}
 use Rattle.text_lines.specs.Text.{texts_below}
 use Rattle.text_lines.specs.declared.fault.LineFault.{LineFault}
 use Rattle.text_lines.specs.LineWords.{TakesLines}
 use Rattle.text_lines.specs.Reading.{HasLineCause}
 use Rattle.text_lines.specs.Numbers.{AreLongs, FitsLong}
 use Rattle.text_lines.specs.Parsing.{IsAnyRule, IsWide}
-use Rattle.text_lines.proofs.FormLemmas.{ComesFirst, ComesAfter, whole_append, whole_line}
-use Rattle.text_lines.proofs.SeqLemmas.{IsCode, SameForms, Seq, first_same, seq_after, seq_code, seq_first, same_code}
+use Rattle.text_lines.proofs.FormLemmas.{ComesFirst, ComesAfter, no_more, whole_append, whole_line}
+use Rattle.text_lines.proofs.SeqLemmas.{IsCode, SameForms, first_same, same_code}
 use Rattle.text_lines.proofs.TextLemmas.{IsOneLine, texts_cancel, texts_same, texts_tail}
 use Rattle.grid_writer.specs.Grid.{grid_text}
 use Rattle.grid_writer.specs.declared.values.Grid.{Grid}
@@ -23,18 +25,32 @@ use Rattle.grid_writer.specs.Grids.{AreLong, IsGrid, IsGridText, IsGridTextOf, g
 use Rattle.grid_writer.proofs.GridReads.{grid_whole, grid_free}
 use Rattle.report_text.specs.Contents.{IsSurfaceInRange}
 use Rattle.report_text.specs.Parsing.{AreCosts}
-use Rattle.report_text.specs.Parts.{AreCertificates, AreFacesBelow, AreFacesOf, AreSolved, IsFrame, IsRasterSize, IsSurfaceText, IsTiling, MayStand, certificates_text, frame_text, head_by, solved_text, tiling_text, values_in}
+use Rattle.report_text.specs.Parts.{AreCertificates, AreFacesBelow, AreFacesOf, AreSolved, AreTold, IsFrame, IsFront, IsRamp, IsRasterSize, IsSurfaceText, IsTermsText, IsTiling, MayStand, certificates_text, frame_text, front_text, solved_text, tiling_text, told_text, values_in}
 use Rattle.report_text.specs.Reports.{SurfaceOf}
 use Rattle.report_text.specs.Steps.{Advances, LinePlace, ReadsPart, TextOf, between, both, in_turn}
-use Rattle.report_text.specs.Text.{all_faces_text, costs_line, ended_line, faces_line, faces_text, flows_line, history_line, rule_line, size_line, surface_block_text, tile_line, title_line, title_text}
-use Rattle.report_text.proofs.EntryLemmas.{rule_unique, side_unique, size_unique}
-use Rattle.report_text.proofs.LineLemmas.{costs_fit, faces_in_line, flows_in_line, history_fits, rule_fits, side_fits, size_fits}
+use Rattle.report_text.specs.Terms.{AreTermsIn, IsVersion, TermsOf, plain_terms}
+use Rattle.report_text.specs.Text.{all_faces_text, costs_line, ended_line, faces_line, faces_text, flows_line, history_line, ramp_line, rule_line, size_line, steep_line, surface_block_text, terms_text, tile_line, version_line}
+use Rattle.report_text.proofs.EntryLemmas.{ramp_unique, rule_unique, side_unique, size_unique, steep_unique, version_unique}
+use Rattle.report_text.proofs.LineLemmas.{costs_fit, faces_in_line, flows_in_line, history_fits, ramp_fits, rule_fits, side_fits, size_fits, steep_fits, version_fits}
 use Rattle.report_text.proofs.ReadsLemmas.{IsLineKind, IsPart, One, after_same, line_one, line_part, long_kind, reads_ok, short_kind, turn_after, turn_first, turn_one, turn_part}
+use Rattle.report_text.proofs.TermsLemmas.{same_terms}
 
 -- ---- kinds of lines
 
 pub none_long : AreLongs []
 none_long = All-from_recursion FitsLong [] tt
+
+pub version_kind : IsLineKind IsVersion version_line 128
+version_kind = short_kind (1, inl refl) version_fits
+
+pub level : IsSlope (pos 0)
+level = (omega (arith, ints), omega (arith, ints))
+
+pub ramp_kind : IsLineKind IsRamp ramp_line 128
+ramp_kind = short_kind ((pos 0, pos 0), (level, level)) ramp_fits
+
+pub steep_kind : IsLineKind IsSteepness steep_line 128
+steep_kind = short_kind (1, (omega arith, omega arith)) steep_fits
 
 pub size_kind : IsLineKind IsRasterSize size_line 128
 size_kind = short_kind ((1, 1), refl) size_fits
@@ -57,41 +73,82 @@ faces_kind tile small = long_kind ([], (small, none_long)) (faces_in_line tile)
 pub flows_kind : IsLineKind AreLongs flows_line 18446744073709551615
 flows_kind = long_kind ([], none_long) flows_in_line
 
--- ---- the head
+-- ---- the version and the frame
 
 pub tiling_part : IsPart IsTiling tiling_text
 tiling_part = turn_part (line_part side_kind) (line_part rule_kind)
 
-frame_part : IsPart IsFrame frame_text
+pub frame_part : IsPart IsFrame frame_text
 frame_part = turn_part (line_part size_kind) tiling_part
+
+pub front_part : IsPart IsFront front_text
+front_part = turn_part (line_part version_kind) frame_part
 
 frame_one : One IsFrame frame_text
 frame_one = turn_one (line_part size_kind) tiling_part (line_one size_unique) (turn_one (line_part side_kind) (line_part rule_kind) (line_one side_unique) (line_one (λ p q _ _. rule_unique p q)))
 
-pub title_is : title_text ≡ title_line ++ 10 ∷ []
-unfolding title_text
-title_is = refl
+pub front_one : One IsFront front_text
+front_one = turn_one (line_part version_kind) frame_part (line_one version_unique) frame_one
 
-title_code : IsCode (IsLine title_line)
-title_code = record { whole = λ p e. subst AreWholeLines (sym e) (whole_line title_line); free = λ p m e f. append_cancel_left p m [] (f ∙ sym e ∙ sym (append-nil p)) }
+-- ---- the terms
 
-head_same : SameForms (Seq (IsLine title_line) (TextOf IsFrame frame_text)) (TextOf IsFrame head_by)
-head_same = record {
-  to = λ t s. (s.2.1.0.0, (s.2.1.0.1.0, s.2.1.1 ∙ ap₂ (λ (l m : List ℕ). l ++ m) (s.2.0 ∙ sym title_is) s.2.1.0.1.1));
-  «from» = λ t a. (title_text, frame_text a.0, (title_is, ((a.0, (a.1.0, refl)), a.1.1)));
+-- version 1 has no lines of terms
+pub none_told : (version : ℕ) → version ≡ 1 → (t : TermsOf) → terms_text version t ≡ []
+none_told version first t = rw first refl
+
+pub plain_in : (version : ℕ) → AreTermsIn version plain_terms
+plain_in version = record { across = level; along = level; steepness = (omega arith, omega arith); plain = λ _. refl }
+
+plain_code : (version : ℕ) → version ≡ 1 → IsCode (IsTermsText version)
+plain_code version first = record {
+  whole = λ p a. inl (a.1.1 ∙ none_told version first a.0);
+  free = λ p m a b. no_more p m (b.1.1 ∙ none_told version first b.0);
 }
 
-pub title_first : ComesFirst (IsLine title_line) (TextOf IsFrame head_by)
-title_first = first_same _ _ _ head_same (seq_first (IsLine title_line) (TextOf IsFrame frame_text) title_code (frame_text frame_part.some.0) (frame_part.some.0, (frame_part.some.1, refl)))
+-- another tells them
+module _ (version : ℕ) (other : version ≡ 1 → ⊥) where
+  pub all_told : (t : TermsOf) → terms_text version t ≡ told_text ((t.ramp_x, t.ramp_y), t.steep)
+  all_told t = let no : (version == 1) ≡ false = false_from_ne_true (version == 1) (λ e. other (eqb-true version 1 e)) in rw no refl
 
-pub title_after : ComesAfter (title_line ++ 10 ∷ []) (TextOf IsFrame frame_text) (TextOf IsFrame head_by)
-title_after = after_same head_same (seq_after (IsLine title_line) (TextOf IsFrame frame_text) title_code (title_line ++ 10 ∷ []) refl)
+  pub told_terms : (ramp : ℤ × ℤ) (steep : ℕ) → IsRamp ramp → IsSteepness steep → (t : TermsOf) → t.ramp_x ≡ ramp.0 → t.ramp_y ≡ ramp.1 → t.steep ≡ steep → AreTermsIn version t × (told_text (ramp, steep) ≡ terms_text version t)
+  told_terms ramp steep r q t e f g =
+      let u : TermsOf = record { ramp_x = ramp.0; ramp_y = ramp.1; steep = steep } in
+      let same : u ≡ t = sym (same_terms t u e f g) in
+      (subst (AreTermsIn version) same (record { across = r.0; along = r.1; steepness = q; plain = λ h. absurd (other h) }), sym (all_told u) ∙ ap (terms_text version) same)
 
-pub head_part : IsPart IsFrame head_by
-head_part = record { some = frame_part.some; code = same_code _ _ head_same (seq_code (IsLine title_line) (TextOf IsFrame frame_text) title_code frame_part.code) }
+  told_same : SameForms (TextOf AreTold told_text) (IsTermsText version)
+  told_same = record {
+    to = λ t a.
+        let u : TermsOf = record { ramp_x = a.0.0.0; ramp_y = a.0.0.1; steep = a.0.1 } in
+        (u, (record { across = a.1.0.0.0; along = a.1.0.0.1; steepness = a.1.0.1; plain = λ e. absurd (other e) }, a.1.1 ∙ sym (all_told u)));
+    «from» = λ t a. let u = a.0 in let r = a.1.0 in (((u.ramp_x, u.ramp_y), u.steep), (((r.across, r.along), r.steepness), a.1.1 ∙ all_told u));
+  }
 
-pub head_one : One IsFrame head_by
-head_one p q a b e = frame_one p q a b (append_cancel_left title_text (frame_text p) (frame_text q) e)
+  pub ramp_first : ComesFirst (TextOf IsRamp (ended_line ramp_line)) (IsTermsText version)
+  ramp_first = first_same _ _ _ told_same (turn_first (line_part ramp_kind) (line_part steep_kind))
+
+  pub ramp_after : (ramp : ℤ × ℤ) → IsRamp ramp → ComesAfter (ended_line ramp_line ramp) (TextOf IsSteepness (ended_line steep_line)) (IsTermsText version)
+  ramp_after ramp r = after_same told_same (turn_after (line_part ramp_kind) (line_part steep_kind) ramp r)
+
+  told_code : IsCode (IsTermsText version)
+  told_code = let told = turn_part (line_part ramp_kind) (line_part steep_kind) in same_code _ _ told_same told.code
+
+  told_one : One (AreTermsIn version) (terms_text version)
+  told_one t u a b e =
+      let s = turn_one (line_part ramp_kind) (line_part steep_kind) (line_one ramp_unique) (line_one steep_unique) ((t.ramp_x, t.ramp_y), t.steep) ((u.ramp_x, u.ramp_y), u.steep) ((a.across, a.along), a.steepness) ((b.across, b.along), b.steepness) (sym (all_told t) ∙ e ∙ all_told u) in
+      same_terms t u (ap (λ (p : (ℤ × ℤ) × ℕ). p.0.0) s) (ap (λ (p : (ℤ × ℤ) × ℕ). p.0.1) s) (ap (λ (p : (ℤ × ℤ) × ℕ). p.1) s)
+
+either : (version : ℕ) → (version ≡ 1) ⊎ (version ≡ 1 → ⊥)
+either version = elim (cases_Bool (version == 1)) [ inl first ↦ inl (eqb-true version 1 first) | inr other ↦ inr (λ e. true_and_false (version == 1) (ap (λ (n : ℕ). n == 1) e) other) ]
+
+pub terms_code : (version : ℕ) → IsCode (IsTermsText version)
+terms_code version = elim (either version) [ inl first ↦ plain_code version first | inr other ↦ told_code version other ]
+
+pub terms_one : (version : ℕ) → One (AreTermsIn version) (terms_text version)
+terms_one version t u a b e = elim (either version) [
+  | inl first ↦ a.plain first ∙ sym (b.plain first)
+  | inr other ↦ told_one version other t u a b e
+]
 
 -- ---- the faces of the tiles
 

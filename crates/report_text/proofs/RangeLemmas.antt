@@ -15,7 +15,9 @@ use Rattle.tile_board.specs.Histories.{published_of}
 use Rattle.report_text.specs.Appending.{AreSmallItems}
 use Rattle.report_text.specs.Contents.{IsItemInRange, IsReport}
 use Rattle.report_text.specs.Reports.{items_of, report_of}
+use Rattle.report_text.specs.Terms.{terms_of}
 use Rattle.report_text.proofs.ItemLemmas.{tiles_are}
+use Rattle.report_text.proofs.TermsLemmas.{version_either, version_is}
 
 module _ (width height tiles : ℕ) where
   items_in_range : (es : List Entry) (ps : List Parts) → map (λ (p : Parts). p.seams.revision) ps ≡ filter_map published_of es → AreSmallItems width height tiles (items_of es ps) → AllByRecursion (IsItemInRange width height tiles) (items_of es ps)
@@ -35,7 +37,9 @@ sized s = let w = s.scene.phase.wide in let h = s.scene.phase.high in let n = s.
 
 pub board_in_range : (v : BoardView) → IsBoard v → AreSmallItems v.session.scene.phase.width v.session.scene.phase.height (tiles_of v.session.scene.tiling) (items_of v.entries v.surfaces) → IsReport (report_of v.session v.entries v.surfaces)
 board_in_range v is small = record {
+  versioned = version_either (terms_of v.session.scene.terms);
   sized = sized v.session;
   sides = v.session.scene.tiling.sides;
+  terms = let t = v.session.scene.terms in record { across = t.across; along = t.along; steepness = t.steepness; plain = (version_is (terms_of t)).0 };
   items = subst (λ (n : ℕ). AllByRecursion (IsItemInRange v.session.scene.phase.width v.session.scene.phase.height n) (items_of v.entries v.surfaces)) (tiles_are v.session v.entries v.surfaces) (items_in_range v.session.scene.phase.width v.session.scene.phase.height (tiles_of v.session.scene.tiling) v.entries v.surfaces is.surfaces.revisions small);
 }

@@ -3,7 +3,6 @@ use Rattle.std.proofs.Common.{◌≡◌, ℕ, zero, suc, ℤ, IsTrue, List, [], 
 use Rattle.std.specs.Prelude.{codes, is_some}
 use Rattle.std.proofs.lemmas.List.{append_cancel_left, append_cancel_right}
 use Rattle.raster_model.specs.Limits.{is_raster_size}
-use Rattle.raster_model.specs.declared.weights.RuleKind.{RuleKind}
 use Rattle.grid_writer.specs.Grid.{grid_text}
 use Rattle.grid_writer.specs.Grids.{GridOf}
 use Rattle.grid_writer.proofs.GridReads.{grids_cancel}
@@ -12,16 +11,17 @@ use Rattle.text_lines.specs.Parsing.{IsWide}
 use Rattle.text_lines.proofs.NumberLemmas.{numbers_unique}
 use Rattle.text_lines.proofs.SeqLemmas.{code_unique}
 use Rattle.report_text.specs.Contents.{IsSurfaceInRange, MayBeInRange}
-use Rattle.report_text.specs.Parts.{AreItems, IsSurfaceText, items_text}
+use Rattle.report_text.specs.Parts.{AreItems, FrontOf, IsSurfaceText, IsTermsText, items_text}
 use Rattle.report_text.specs.Reports.{ItemOf, SurfaceOf, is_published}
 use Rattle.report_text.specs.Same.{AreSameItems, IsSameItem, IsSameSurface, MayBeSame, ReportTextsAreUnique}
-use Rattle.report_text.specs.Text.{after_text, all_faces_text, ended_line, faces_front, flows_line, line_end, surface_block_text, tiles_in}
+use Rattle.report_text.specs.Terms.{AreTermsIn, TermsOf}
+use Rattle.report_text.specs.Text.{after_text, all_faces_text, ended_line, faces_front, flows_line, line_end, surface_block_text, terms_text, tiles_in}
 use Rattle.report_text.proofs.EntryLemmas.{costs_unique}
 use Rattle.report_text.proofs.ItemForms.{ended_entry, history_one, history_part, surface_code}
 use Rattle.report_text.proofs.LineLemmas.{tiles_small}
-use Rattle.report_text.proofs.PartForms.{costs_kind, faces_apart, head_one, head_part, surface_is}
+use Rattle.report_text.proofs.PartForms.{costs_kind, faces_apart, front_one, front_part, surface_is, terms_code, terms_one}
 use Rattle.report_text.proofs.ReadsLemmas.{line_one, line_part, then_apart}
-use Rattle.report_text.proofs.ReportForms.{frame_of, report_is, tiles_for}
+use Rattle.report_text.proofs.ReportForms.{front_of, report_is, tiles_for}
 
 -- lists after a front
 after_front : (front : List ℕ) (a b : List ℤ) → AreLongs a → AreLongs b → (front ++ numbers_text a) ++ line_end ≡ (front ++ numbers_text b) ++ line_end → a ≡ b
@@ -80,19 +80,23 @@ module _ (width height tiles : ℕ) (z : IsTrue (is_raster_size width height)) (
 
 -- ---- reports
 
--- items behind a head
-abbrev AreItemsBy : List ℕ → List ItemOf → (ℕ × ℕ) × (ℕ × RuleKind) → Type 0
-AreItemsBy text items p = AreItems p.0.0 p.0.1 (tiles_for p) items × (text ≡ items_text p.0.0 p.0.1 (tiles_for p) items)
+-- terms and items behind a version and a frame
+abbrev AreBehind : List ℕ → TermsOf → List ItemOf → FrontOf → Type 0
+AreBehind rest terms items p = AreTermsIn p.0 terms × (AreItems p.1.0.0 p.1.0.1 (tiles_for p) items × (rest ≡ terms_text p.0 terms ++ items_text p.1.0.0 p.1.0.1 (tiles_for p) items))
 
 pub reports_unique : ReportTextsAreUnique
 reports_unique v w a b e =
-    let text : List ℕ = items_text v.width v.height (tiles_in v) v.items in
-    let t = then_apart head_part head_one (frame_of v) (frame_of w) text (items_text w.width w.height (tiles_in w) w.items) (a.sized, (a.sides, tt)) (b.sized, (b.sides, tt)) (sym (report_is v) ∙ e ∙ report_is w) in
-    let here = subst (AreItemsBy text w.items) (sym t.0) (b.items, t.1) in
+    let items = items_text v.width v.height (tiles_in v) v.items in
+    let rest = terms_text v.version v.terms ++ items in
+    let t = then_apart front_part front_one (front_of v) (front_of w) rest (terms_text w.version w.terms ++ items_text w.width w.height (tiles_in w) w.items) (a.versioned, (a.sized, (a.sides, tt))) (b.versioned, (b.sized, (b.sides, tt))) (sym (report_is v) ∙ e ∙ report_is w) in
+    let here = subst (AreBehind rest w.terms w.items) (sym t.0) (b.terms, (b.items, t.1)) in
+    let s = code_unique (IsTermsText v.version) (terms_code v.version) (terms_text v.version v.terms) items (terms_text v.version w.terms) (items_text v.width v.height (tiles_in v) w.items) (v.terms, (a.terms, refl)) (w.terms, (here.0, refl)) here.1.1 in
     record {
-      width = ap (λ (p : (ℕ × ℕ) × (ℕ × RuleKind)). p.0.0) t.0;
-      height = ap (λ (p : (ℕ × ℕ) × (ℕ × RuleKind)). p.0.1) t.0;
-      side = ap (λ (p : (ℕ × ℕ) × (ℕ × RuleKind)). p.1.0) t.0;
-      rule = ap (λ (p : (ℕ × ℕ) × (ℕ × RuleKind)). p.1.1) t.0;
-      items = items_same v.width v.height (tiles_in v) a.sized (tiles_small v.width v.height v.side a.sized a.sides) v.items w.items a.items here.0 here.1;
+      version = ap (λ (p : FrontOf). p.0) t.0;
+      width = ap (λ (p : FrontOf). p.1.0.0) t.0;
+      height = ap (λ (p : FrontOf). p.1.0.1) t.0;
+      side = ap (λ (p : FrontOf). p.1.1.0) t.0;
+      rule = ap (λ (p : FrontOf). p.1.1.1) t.0;
+      terms = terms_one v.version v.terms w.terms a.terms here.0 s.0;
+      items = items_same v.width v.height (tiles_in v) a.sized (tiles_small v.width v.height v.side a.sized a.sides) v.items w.items a.items here.1.0 s.1;
     }

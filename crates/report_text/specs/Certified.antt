@@ -13,6 +13,7 @@ use Rattle.tile_board.specs.declared.entry.Entry.{Entry}
 use Rattle.tile_board.specs.declared.entry.Entry.TheVariants.{Revised, Kept, Published, Settled, Shown}
 use Rattle.tile_board.specs.Histories.{IsComplete, IsLegal, mask_in}
 use Rattle.report_text.specs.Reports.{ItemOf, ReportOf, SurfaceOf}
+use Rattle.report_text.specs.Terms.{terms_of}
 
 -- the value that stands at masked pixels
 abbrev pub no_data : ℤ
@@ -54,6 +55,7 @@ pub record IsCertifiedReport (s : Session) (v : ReportOf) : Type 0 where
   pub height : v.height ≡ s.scene.phase.height
   pub side : v.side ≡ s.scene.tiling.side
   pub rule : v.rule ≡ s.scene.rule
+  pub terms : v.terms ≡ terms_of s.scene.terms
   pub legal : IsLegal s (history_of v)
   pub complete : IsComplete s (history_of v)
   pub surfaces : (k : ℕ) (i : ItemOf) → slice_get v.items k ≡ Some i → IsCertifiedAfter s (history_of v) i.entry i.surface

@@ -14,6 +14,7 @@ use Rattle.report_text.specs.declared.items.Item.{Item}
 use Rattle.report_text.specs.declared.contents.Report.{Report}
 use Rattle.report_text.specs.declared.items.ReportSurface.{ReportSurface}
 use Rattle.report_text.specs.Reports.{HasSurface, ItemOf, ReportOf, SurfaceOf}
+use Rattle.report_text.specs.Terms.{AreTermsIn, IsVersion, terms_of}
 use Rattle.report_text.specs.Text.{report_text, tiles_in}
 
 -- what the items tell
@@ -31,7 +32,7 @@ abbrev pub told_item : Item → ItemOf
 told_item i = record { entry = i.entry; surface = told_after i.surface }
 
 abbrev pub report_told : Report → ReportOf
-report_told v = record { width = v.width; height = v.height; side = v.side; rule = v.rule; items = map told_item v.items.items }
+report_told v = record { version = v.version; width = v.width; height = v.height; side = v.side; rule = v.rule; terms = terms_of v.terms; items = map told_item v.items.items }
 
 -- ---- the numbers of a report are in their ranges
 
@@ -64,8 +65,10 @@ pub record IsItemInRange (width height tiles : ℕ) (i : ItemOf) : Type 0 where
   pub surface : MayBeInRange width height tiles i.surface
 
 pub record IsReport (v : ReportOf) : Type 0 where
+  pub versioned : IsVersion v.version
   pub sized : IsTrue (is_raster_size v.width v.height)
   pub sides : IsTileSide v.side
+  pub terms : AreTermsIn v.version v.terms
   pub items : AllByRecursion (IsItemInRange v.width v.height (tiles_in v)) v.items
 
 -- the text of a report

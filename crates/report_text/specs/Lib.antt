@@ -1,3 +1,4 @@
+pub mod Terms
 pub mod Reports
 pub mod Text
 pub mod Steps

@@ -8,7 +8,7 @@ use Rattle.insar_ports.specs.Lines.{IsInLine}
 use Rattle.text_lines.specs.declared.fault.LineFault.{LineFault}
 use Rattle.text_lines.specs.declared.fault.LineFault.TheVariants as faults
 use Rattle.text_lines.specs.Reading.{HasLineCause}
-use Rattle.raster_model.specs.Limits.{is_raster_size, IsTileSide}
+use Rattle.raster_model.specs.Limits.{is_raster_size, IsSlope, IsSteepness, IsTileSide}
 use Rattle.raster_model.specs.declared.weights.RuleKind.{RuleKind}
 use Rattle.raster_model.specs.Sums.{Field}
 use Rattle.grid_writer.specs.declared.values.Grid.{Grid}
@@ -23,7 +23,8 @@ use Rattle.report_text.specs.Contents.{IsEntryOfWords, IsItemInRange, IsSurfaceI
 use Rattle.text_lines.specs.Parsing.{IsAnyRule, IsWide}
 use Rattle.report_text.specs.Reports.{ItemOf, is_published}
 use Rattle.report_text.specs.Steps.{TextOf, both, in_turn}
-use Rattle.report_text.specs.Text.{all_faces_text, ended_line, flows_line, item_text, rule_line, size_line, surface_block_text, tile_line, title_text}
+use Rattle.report_text.specs.Terms.{AreTermsIn, IsVersion}
+use Rattle.report_text.specs.Text.{all_faces_text, ended_line, flows_line, item_text, ramp_line, rule_line, size_line, steep_line, surface_block_text, terms_text, tile_line, version_line}
 
 -- which values lines may have: a size within the limits, an entry of words or none
 abbrev pub IsRasterSize : ℕ × ℕ → Type 0
@@ -33,7 +34,7 @@ abbrev pub MayStand : Option Entry → Type 0
 MayStand None = ⊤
 MayStand (Some entry) = IsEntryOfWords entry
 
--- the side and the rule; the size before them; the head
+-- the side and the rule; the size before them; the version before these
 abbrev pub IsTiling : ℕ × RuleKind → Type 0
 IsTiling = both IsTileSide IsAnyRule
 
@@ -46,11 +47,30 @@ IsFrame = both IsRasterSize IsTiling
 abbrev pub frame_text : (ℕ × ℕ) × (ℕ × RuleKind) → List ℕ
 frame_text = in_turn (ended_line size_line) tiling_text
 
-abbrev pub head_frame : Head → (ℕ × ℕ) × (ℕ × RuleKind)
-head_frame head = ((head.width, head.height), (head.side, head.rule))
+abbrev pub FrontOf : Type 0
+FrontOf = ℕ × ((ℕ × ℕ) × (ℕ × RuleKind))
 
-abbrev pub head_by : (ℕ × ℕ) × (ℕ × RuleKind) → List ℕ
-head_by frame = title_text ++ frame_text frame
+abbrev pub IsFront : FrontOf → Type 0
+IsFront = both IsVersion IsFrame
+
+abbrev pub front_text : FrontOf → List ℕ
+front_text = in_turn (ended_line version_line) frame_text
+
+abbrev pub front_in : Head → FrontOf
+front_in head = (head.version, ((head.width, head.height), (head.side, head.rule)))
+
+-- a ramp and a steepness, as version 2 tells them; the lines of the terms in a version
+abbrev pub IsRamp : ℤ × ℤ → Type 0
+IsRamp ramp = IsSlope ramp.0 × IsSlope ramp.1
+
+abbrev pub AreTold : (ℤ × ℤ) × ℕ → Type 0
+AreTold = both IsRamp IsSteepness
+
+abbrev pub told_text : (ℤ × ℤ) × ℕ → List ℕ
+told_text = in_turn (ended_line ramp_line) (ended_line steep_line)
+
+abbrev pub IsTermsText : ℕ → Form
+IsTermsText version = TextOf (AreTermsIn version) (terms_text version)
 
 -- the faces of the tiles below a number
 abbrev pub AreFacesBelow : ℕ → (ℕ → List ℤ) → Type 0

@@ -1,5 +1,5 @@
 -- A report: the whole history of a session, and each published surface with its costs and certificates.
-use Rattle.std.specs.Prelude.{◌≡◌, ℕ, ℤ, Bool, true, false, if◌then◌else◌, List, [], ◌∷◌, drop, Option, Some, None, is_some, unsigned_abs}
+use Rattle.std.specs.Prelude.{◌≡◌, ◌↔◌, ℕ, ℤ, Bool, true, false, if◌then◌else◌, List, [], ◌∷◌, drop, Option, Some, None, is_some, unsigned_abs}
 use Rattle.raster_model.specs.declared.session.Session.{Session}
 use Rattle.raster_model.specs.declared.weights.RuleKind.{RuleKind}
 use Rattle.raster_model.specs.Raster.{seam_cost}
@@ -9,6 +9,7 @@ use Rattle.grid_writer.specs.Shown.{shown_in}
 use Rattle.tile_board.specs.declared.entry.Entry.{Entry}
 use Rattle.tile_board.specs.declared.entry.Entry.TheVariants.{Revised, Kept, Published, Settled, Shown}
 use Rattle.sums_and_lists.specs.Sums.{one_if}
+use Rattle.report_text.specs.Terms.{TermsOf, plain_terms, terms_of, version_on}
 
 -- a surface as a report gives it: its two costs, the values of its grid, the faces of each tile, and the flows
 pub record SurfaceOf : Type 0 where
@@ -24,11 +25,17 @@ pub record ItemOf : Type 0 where
   pub surface : Option SurfaceOf
 
 pub record ReportOf : Type 0 where
+  pub version : ℕ
   pub width : ℕ
   pub height : ℕ
   pub side : ℕ
   pub rule : RuleKind
+  pub terms : TermsOf
   pub items : List ItemOf
+
+-- a report has version 1 exactly where its terms are the plain ones
+abbrev pub HasItsVersion : ReportOf → Type 0
+HasItsVersion v = (v.version ≡ 1) ↔ (v.terms ≡ plain_terms)
 
 -- the surface of a snapshot's parts
 abbrev pub surface_of : Parts → SurfaceOf
@@ -62,4 +69,4 @@ items_of (e ∷ es) ps = item_of e (first_of ps) ∷ items_of es (drop (one_if (
 
 -- the report of a session with this history and these published surfaces
 abbrev pub report_of : Session → List Entry → List Parts → ReportOf
-report_of s entries surfaces = record { width = s.scene.phase.width; height = s.scene.phase.height; side = s.scene.tiling.side; rule = s.scene.rule; items = items_of entries surfaces }
+report_of s entries surfaces = record { version = version_on (terms_of s.scene.terms); width = s.scene.phase.width; height = s.scene.phase.height; side = s.scene.tiling.side; rule = s.scene.rule; terms = terms_of s.scene.terms; items = items_of entries surfaces }

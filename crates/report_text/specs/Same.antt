@@ -28,10 +28,12 @@ AreSameItems width height tiles items others = (length items ≡ length others) 
 
 -- two reports are equal
 pub record IsSameReport (v w : ReportOf) : Type 0 where
+  pub version : v.version ≡ w.version
   pub width : v.width ≡ w.width
   pub height : v.height ≡ w.height
   pub side : v.side ≡ w.side
   pub rule : v.rule ≡ w.rule
+  pub terms : v.terms ≡ w.terms
   pub items : AreSameItems v.width v.height (tiles_in v) v.items w.items
 
 abbrev pub ReportTextsAreUnique : Type 0

@@ -1,13 +1,14 @@
 -- The text of a report, in the one spelling of this project.
-use Rattle.std.specs.Prelude.{ℕ, ◌+◌, ◌-◌, ◌*◌, ◌/◌, ℤ, List, [], ◌∷◌, ◌++◌, Option, Some, None, codes, flat_map}
+use Rattle.std.specs.Prelude.{ℕ, ◌+◌, ◌-◌, ◌*◌, ◌/◌, ◌==◌, ℤ, if◌then◌else◌, List, [], ◌∷◌, ◌++◌, Option, Some, None, codes, flat_map}
 use Rattle.raster_model.specs.declared.script.Edit.TheVariants.{Mask, Unmask}
 use Rattle.raster_model.specs.declared.weights.RuleKind.{RuleKind}
 use Rattle.grid_writer.specs.Grid.{grid_text}
-use Rattle.text_lines.specs.Numbers.{numbers_text}
+use Rattle.text_lines.specs.Numbers.{number_text, numbers_text}
 use Rattle.tile_board.specs.declared.entry.Entry.{Entry}
 use Rattle.tile_board.specs.declared.entry.Entry.TheVariants.{Revised, Kept, Published, Settled, Shown}
 use Rattle.text_lines.specs.Text.{field_text, rect_text, rule_word, texts_below}
 use Rattle.report_text.specs.Reports.{ItemOf, ReportOf, SurfaceOf}
+use Rattle.report_text.specs.Terms.{TermsOf}
 
 -- the end of a line
 abbrev pub line_end : List ℕ
@@ -15,9 +16,9 @@ line_end = 10 ∷ []
 
 -- ---- lines, each without its end
 
--- the four lines of the head
-abbrev pub title_line : List ℕ
-title_line = codes "insar-report 1"
+-- the lines of the head
+abbrev pub version_line : ℕ → List ℕ
+version_line version = codes "insar-report" ++ field_text version
 
 abbrev pub size_line : ℕ × ℕ → List ℕ
 size_line size = codes "size" ++ (field_text size.0 ++ field_text size.1)
@@ -27,6 +28,12 @@ tile_line side = codes "tile" ++ field_text side
 
 abbrev pub rule_line : RuleKind → List ℕ
 rule_line rule = codes "rule " ++ rule_word rule
+
+abbrev pub ramp_line : ℤ × ℤ → List ℕ
+ramp_line ramp = codes "ramp" ++ (number_text ramp.0 ++ number_text ramp.1)
+
+abbrev pub steep_line : ℕ → List ℕ
+steep_line steep = codes "steep" ++ field_text steep
 
 -- an entry's words
 abbrev pub revision_text : Option ℕ → List ℕ
@@ -65,9 +72,6 @@ flows_line flows = codes "flows" ++ numbers_text flows
 abbrev pub ended_line : {A : Type 0} → (A → List ℕ) → A → List ℕ
 ended_line line a = line a ++ line_end
 
-unfoldable pub title_text : List ℕ
-title_text = title_line ++ line_end
-
 -- the lines of faces of the tiles below a number
 abbrev pub faces_text : (ℕ → List ℤ) → ℕ → List ℕ
 faces_text faces tile = faces_line tile (faces tile) ++ line_end
@@ -93,9 +97,13 @@ after_text width height tiles None = []
 unfoldable pub item_text : ℕ → ℕ → ℕ → ItemOf → List ℕ
 item_text width height tiles i = entry_text i.entry ++ (line_end ++ after_text width height tiles i.surface)
 
+-- the lines of the terms, which version 1 does not have
+abbrev pub terms_text : ℕ → TermsOf → List ℕ
+terms_text version t = if version == 1 then [] else (ended_line ramp_line (t.ramp_x, t.ramp_y) ++ ended_line steep_line t.steep)
+
 -- the head, the items, and the line `end`
 abbrev pub head_text : ReportOf → List ℕ
-head_text v = title_text ++ (ended_line size_line (v.width, v.height) ++ (ended_line tile_line v.side ++ ended_line rule_line v.rule))
+head_text v = ended_line version_line v.version ++ (ended_line size_line (v.width, v.height) ++ (ended_line tile_line v.side ++ (ended_line rule_line v.rule ++ terms_text v.version v.terms)))
 
 unfoldable pub report_text : ReportOf → List ℕ
 report_text v = head_text v ++ (flat_map (item_text v.width v.height (tiles_in v)) v.items ++ codes "end\n")

@@ -3,11 +3,13 @@ ghost use Rattle.report_text.specs.Fitting.{ItemsFit};
 ghost use Rattle.std.specs.Prelude.{◌≤◌, IsTrue};
 
 use crate::items::Item;
-use raster_model::RuleKind;
+use raster_model::{RuleKind, Terms};
 
 /// A report that was read.
 #[derive(Drop)]
 pub struct Report {
+    /// 1, or 2 if the text tells the terms.
+    pub version: u32,
     /// Pixels in a row.
     pub width: u32,
     /// Rows.
@@ -16,6 +18,8 @@ pub struct Report {
     pub side: u32,
     /// How the weights of two pixels give that of their edge.
     pub rule: RuleKind,
+    /// On which terms the phase was unwrapped; the plain ones in version 1.
+    pub terms: Terms,
     /// The history in order, and the surfaces after its publications.
     pub items: Vec<Item>,
     pub ghost sized: { IsTrue (is_raster_size width height) },

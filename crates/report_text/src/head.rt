@@ -8,6 +8,7 @@ use raster_model::RuleKind;
 /// What the first four lines say.
 #[derive(Clone, Copy)]
 pub(crate) struct Head {
+    pub version: u32,
     pub width: u32,
     pub height: u32,
     pub side: u32,

@@ -1,21 +1,33 @@
-ghost use Rattle.raster_model.specs.Limits.{IsTileSide};
+ghost use Rattle.raster_model.specs.Limits.{IsSlope, IsSteepness, IsTileSide};
 ghost use Rattle.report_text.specs.Parsing.{AreCosts, IsEditOfWords, IsRevisedOfWords, IsShownOfWords, edit_text, revised_text, shown_text};
 ghost use Rattle.report_text.specs.Contents.{IsEntryOfWords};
-ghost use Rattle.report_text.specs.Parts.{IsRasterSize, MayStand};
-ghost use Rattle.report_text.specs.Text.{costs_line, entry_text, history_line, rule_line, size_line, tile_line};
-ghost use Rattle.std.specs.Prelude.{◌↔◌, IsTrue, codes};
+ghost use Rattle.report_text.specs.Parts.{IsRamp, IsRasterSize, MayStand};
+ghost use Rattle.report_text.specs.Terms.{IsVersion};
+ghost use Rattle.report_text.specs.Text.{costs_line, entry_text, history_line, ramp_line, rule_line, size_line, steep_line, tile_line, version_line};
+ghost use Rattle.std.specs.Fmt.{signed_decimal};
+ghost use Rattle.std.specs.Prelude.{codes};
+ghost use Rattle.text_lines.specs.Numbers.{number_text};
 ghost use Rattle.text_lines.specs.Parsing.{IsAnyRule, IsParsedAs, behind};
 
 use raster_model::{Edit, MAX_TILE_SIDE, MIN_TILE_SIDE, RuleKind};
-use text_lines::{last_field, last_wide, pair_behind, rect_behind, take_field, take_wide};
+use text_lines::{
+    labelled_count, last_field, last_wide, number_of, pair_behind, rect_behind, split_field,
+    take_field, take_wide,
+};
 use tile_board::Entry;
 
 // The words of the lines.
+const VERSION: &[u8] = b"insar-report ";
+
 const SIZE: &[u8] = b"size";
 
-const TILE: &[u8] = b"tile";
+const TILE: &[u8] = b"tile ";
 
 const RULE: &[u8] = b"rule ";
+
+const RAMP: &[u8] = b"ramp";
+
+const STEEP: &[u8] = b"steep ";
 
 const COSTS: &[u8] = b"costs";
 
@@ -37,6 +49,22 @@ const NONE: &[u8] = b" none";
 
 const END: &[u8] = b"end";
 
+/// What is before each number of a line.
+const SPACE: &[u8] = b" ";
+
+/// The newest version.
+const LAST_VERSION: u32 = 2;
+
+/// The greatest steepness of costs.
+const MAX_STEEPNESS: u32 = 16;
+
+/// The version of a line `insar-report VERSION`, if there is such a version.
+pub(crate) fn version_of(line: &[u8]) -> Option<u32>
+    ensures { IsParsedAs IsVersion version_line line.now result }
+{
+    labelled_count(line, VERSION, 1, LAST_VERSION)
+}
+
 /// The width and the height of a line `size W H`, if they are within the limits of a raster.
 pub(crate) fn size_of(line: &[u8]) -> Option<(u32, u32)>
     ensures { IsParsedAs IsRasterSize size_line line.now result }
@@ -53,15 +81,7 @@ pub(crate) fn size_of(line: &[u8]) -> Option<(u32, u32)>
 pub(crate) fn side_of(line: &[u8]) -> Option<u32>
     ensures { IsParsedAs IsTileSide tile_line line.now result }
 {
-    let side = last_field(line.strip_prefix(TILE)?)?;
-    if is_tile_side(side) { Some(side) } else { None }
-}
-
-/// Whether a side is from 2 to 128.
-fn is_tile_side(side: u32) -> bool
-    ensures { IsTrue result ↔ IsTileSide side }
-{
-    MIN_TILE_SIDE <= side && side <= MAX_TILE_SIDE
+    labelled_count(line, TILE, MIN_TILE_SIDE, MAX_TILE_SIDE)
 }
 
 /// The rule of a line `rule RULE`.
@@ -69,6 +89,36 @@ pub(crate) fn rule_of(line: &[u8]) -> Option<RuleKind>
     ensures { IsParsedAs IsAnyRule rule_line line.now result }
 {
     text_lines::rule_of(line.strip_prefix(RULE)?)
+}
+
+/// The slopes of a line `ramp GX GY`, along right and down edges.
+pub(crate) fn ramp_of(line: &[u8]) -> Option<(i32, i32)>
+    ensures { IsParsedAs IsRamp ramp_line line.now result }
+{
+    let (across, along) = split_field(line.strip_prefix(RAMP)?)?;
+    Some((slope_of(across)?, last_slope(along)?))
+}
+
+/// The slope after a space, if nothing follows it.
+fn last_slope(bytes: &[u8]) -> Option<i32>
+    ensures { IsParsedAs IsSlope number_text bytes.now result }
+{
+    slope_of(bytes.strip_prefix(SPACE)?)
+}
+
+/// The slope that a token is the one spelling of: it fits 16 bits with its sign.
+fn slope_of(token: &[u8]) -> Option<i32>
+    ensures { IsParsedAs IsSlope signed_decimal token.now result }
+{
+    let slope = i16::try_from(number_of(token)?).ok()?;
+    Some(i32::from(slope))
+}
+
+/// The steepness of a line `steep Q`, if it is from 1 to 16.
+pub(crate) fn steepness_of(line: &[u8]) -> Option<u32>
+    ensures { IsParsedAs IsSteepness steep_line line.now result }
+{
+    labelled_count(line, STEEP, 1, MAX_STEEPNESS)
 }
 
 /// The entry of a line of the history; None of the line `end`.

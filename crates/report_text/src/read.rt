@@ -2,14 +2,15 @@ ghost use Rattle.grid_writer.specs.Grids.{AreLong};
 ghost use Rattle.grid_writer.specs.Grid.{grid_text};
 ghost use Rattle.insar_ports.specs.Calls.{Moves, Takes, call_of};
 ghost use Rattle.insar_ports.specs.Feeding.{handed_of, left_of, limit_of, source_name};
-ghost use Rattle.raster_model.specs.Limits.{IsTileSide};
+ghost use Rattle.raster_model.specs.Limits.{IsSteepness, IsTileSide};
 ghost use Rattle.report_text.specs.Contents.{IsEntryOfWords, IsItemInRange, IsReport, IsReportText, IsSurfaceInRange, report_told, told_after, told_item, told_surface};
 ghost use Rattle.report_text.specs.Fitting.{ItemsFit, MayFit, SurfaceFits};
 ghost use Rattle.report_text.specs.Parsing.{AreCosts, IsListParsedAs};
-ghost use Rattle.report_text.specs.Parts.{AreFacesBelow, AreFacesOf, AreItems, HasAfterCause, HasMoreCause, IsFrame, IsRasterSize, MayStand, head_frame, head_by, items_in, items_text, list_in, lists_in, values_in};
+ghost use Rattle.report_text.specs.Parts.{AreFacesBelow, AreFacesOf, AreItems, HasAfterCause, HasMoreCause, IsFront, IsRamp, IsRasterSize, MayStand, front_in, front_text, items_in, items_text, list_in, lists_in, values_in};
 ghost use Rattle.report_text.specs.Reading.{HasBrokenReportLine, HasReportCause, IsReader, IsReportRead, IsReportRefusedAt};
 ghost use Rattle.report_text.specs.Steps.{Advances, ReadsPart, ReadsLine, Took, between, itself, parsed_at, place_of};
-ghost use Rattle.report_text.specs.Text.{after_text, all_faces_text, costs_line, ended_line, faces_line, flows_line, history_line, report_text, rule_line, size_line, surface_block_text, tile_line};
+ghost use Rattle.report_text.specs.Terms.{AreTermsIn, IsVersion, terms_of};
+ghost use Rattle.report_text.specs.Text.{after_text, all_faces_text, costs_line, ended_line, faces_line, flows_line, history_line, ramp_line, report_text, rule_line, size_line, steep_line, surface_block_text, terms_text, tile_line, version_line};
 ghost use Rattle.std.specs.Prelude.{◌≡◌, ◌≤◌, ◌<◌, ◌++◌, [], ℕ, ℤ, List, IfErr, IfOk, IfSome, OnOk, MatchOption, length, vec_len};
 ghost use Rattle.text_lines.specs.LineWords.{kept_line, lines_read};
 ghost use Rattle.text_lines.specs.Numbers.{AreLongs, numbers_text};
@@ -19,14 +20,16 @@ ghost use Rattle.text_lines.specs.Reading.{room_of};
 use crate::contents::Report;
 use crate::head::Head;
 use crate::items::{Item, ReportSurface};
-use crate::parse::{costs_of, history_of, rule_of, side_of, size_of};
+use crate::parse::{
+    costs_of, history_of, ramp_of, rule_of, side_of, size_of, steepness_of, version_of,
+};
 use crate::report::is_publication;
 use grid_writer::{Grid, read_sized_grid};
 use insar_ports::{Feed, Source};
 use itoa::Buffer;
-use raster_model::{RuleKind, Tiling};
+use raster_model::{RuleKind, Terms, Tiling};
 use std::alloc::{AllocError, Global};
-use text_lines::{LineEnd, LineFault, Lines, expect_line, push_numbers};
+use text_lines::{LineEnd, LineFault, Lines, push_numbers};
 use tile_board::Entry;
 
 /// No line but those of numbers has more bytes.
@@ -50,6 +53,14 @@ fn parsed<T: Drop>(lines: &Lines, found: Option<T>) -> Result<T, LineFault>
         Some(value) => Ok(value),
         None => Err(LineFault::Line(lines.number())),
     }
+}
+
+/// Reads the line of the version.
+fn read_version<S: Source>(feed: &mut Feed<S>, lines: &mut Lines) -> Result<u32, LineFault>
+    ensures { ReadsPart itself IsVersion (ended_line version_line) (place_of S.left S.faults feed.old lines.old) (place_of S.left S.faults feed.new lines.new) result }
+{
+    read_line(feed, lines, LONGEST_LINE)?;
+    parsed(lines, version_of(lines.line()))
 }
 
 /// Reads the line of the size.
@@ -76,20 +87,57 @@ fn read_rule<S: Source>(feed: &mut Feed<S>, lines: &mut Lines) -> Result<RuleKin
     parsed(lines, rule_of(lines.line()))
 }
 
-/// Reads the four lines of the head.
+/// Reads the first four lines.
 fn read_head<S: Source>(feed: &mut Feed<S>, lines: &mut Lines) -> Result<Head, LineFault>
-    ensures { ReadsPart head_frame IsFrame head_by (place_of S.left S.faults feed.old lines.old) (place_of S.left S.faults feed.new lines.new) result }
+    ensures { ReadsPart front_in IsFront front_text (place_of S.left S.faults feed.old lines.old) (place_of S.left S.faults feed.new lines.new) result }
 {
-    expect_line(feed, lines, b"insar-report 1")?;
+    let version = read_version(feed, lines)?;
     let (width, height) = read_size(feed, lines)?;
     let side = read_side(feed, lines)?;
     let rule = read_rule(feed, lines)?;
     Ok(Head {
+        version,
         width,
         height,
         side,
         rule,
         tiles: Tiling::new(width, height, side).tile_count(),
+    })
+}
+
+/// Reads the line of the ramp: its slopes along right and down edges.
+fn read_ramp<S: Source>(feed: &mut Feed<S>, lines: &mut Lines) -> Result<(i32, i32), LineFault>
+    ensures { ReadsPart itself IsRamp (ended_line ramp_line) (place_of S.left S.faults feed.old lines.old) (place_of S.left S.faults feed.new lines.new) result }
+{
+    read_line(feed, lines, LONGEST_LINE)?;
+    parsed(lines, ramp_of(lines.line()))
+}
+
+/// Reads the line of the steepness.
+fn read_steepness<S: Source>(feed: &mut Feed<S>, lines: &mut Lines) -> Result<u32, LineFault>
+    ensures { ReadsPart itself IsSteepness (ended_line steep_line) (place_of S.left S.faults feed.old lines.old) (place_of S.left S.faults feed.new lines.new) result }
+{
+    read_line(feed, lines, LONGEST_LINE)?;
+    parsed(lines, steepness_of(lines.line()))
+}
+
+/// Reads the lines of the terms; version 1 has none, and the plain terms.
+fn read_terms<S: Source>(
+    feed: &mut Feed<S>,
+    lines: &mut Lines,
+    version: u32,
+) -> Result<Terms, LineFault>
+    ensures { ReadsPart terms_of (AreTermsIn version) (terms_text version) (place_of S.left S.faults feed.old lines.old) (place_of S.left S.faults feed.new lines.new) result }
+{
+    if version == 1 {
+        return Ok(Terms::plain());
+    }
+    let (ramp_x, ramp_y) = read_ramp(feed, lines)?;
+    let steep = read_steepness(feed, lines)?;
+    Ok(Terms {
+        ramp_x,
+        ramp_y,
+        steep,
     })
 }
 
@@ -271,12 +319,15 @@ fn read_lines<S: Source>(
     ensures { ReadsPart report_told IsReport report_text (place_of S.left S.faults feed.old lines.old) (place_of S.left S.faults feed.new lines.new) result }
 {
     let head = read_head(feed, lines)?;
+    let terms = read_terms(feed, lines, head.version)?;
     let items = read_items(alloc, feed, lines, head)?;
     Ok(Report {
+        version: head.version,
         width: head.width,
         height: head.height,
         side: head.side,
         rule: head.rule,
+        terms,
         items,
     })
 }

@@ -5,11 +5,13 @@ ghost use Rattle.raster_model.specs.Tiles.{tiles_of};
 ghost use Rattle.report_text.specs.Appending.{AreOver, AreSmallItems, IsSmallItem, next_surface};
 ghost use Rattle.report_text.specs.Certified.{IsCertifiedReport};
 ghost use Rattle.report_text.specs.Contents.{IsReport, MayBeInRange};
-ghost use Rattle.report_text.specs.Reports.{is_published, item_of, items_of, report_of};
-ghost use Rattle.report_text.specs.Text.{after_text, ended_line, head_text, item_text, report_text, rule_line, size_line, tile_line};
+ghost use Rattle.report_text.specs.Reports.{HasItsVersion, is_published, item_of, items_of, report_of};
+ghost use Rattle.report_text.specs.Terms.{terms_of, version_on};
+ghost use Rattle.report_text.specs.Text.{after_text, ended_line, head_text, item_text, ramp_line, report_text, rule_line, size_line, steep_line, terms_text, tile_line, version_line};
 ghost use Rattle.std.specs.Prelude.{◌≡◌, [], IfSome, flat_map, map};
 ghost use Rattle.surface_snapshots.specs.Views.{parts_of};
 ghost use Rattle.text_lines.specs.Adding.{Adds, Puts};
+ghost use Rattle.text_lines.specs.Numbers.{number_text};
 ghost use Rattle.text_lines.specs.Views.{view_of};
 ghost use Rattle.tile_board.specs.Boards.{IsBoard};
 ghost use Rattle.tile_board.specs.Histories.{IsComplete};
@@ -17,9 +19,9 @@ ghost use Rattle.tile_board.specs.Histories.{IsComplete};
 use crate::entry::add_entry;
 use crate::surface::add_surface;
 use insar_ports::{Sink, WriteFault};
-use raster_model::{RuleKind, Session};
+use raster_model::{RuleKind, Session, Terms};
 use surface_snapshots::Snapshot;
-use text_lines::{TextWriter, add_field, rule_name};
+use text_lines::{TextWriter, add_field, add_signed_field, rule_name};
 use tile_board::{Board, Entry};
 
 /// Writes the report of a board: the head, then the whole history in order, after each publication the published
@@ -28,6 +30,8 @@ use tile_board::{Board, Entry};
 pub fn write_report<K: Sink>(board: &Board, sink: &mut K) -> Result<(), WriteFault>
     ensures text { Puts (K.held sink.old) (K.faults sink.old) (K.held sink.new) (K.faults sink.new) (report_text (report_of board.now.session board.now.entries board.now.surfaces)) result }
     ensures ranges { IsReport (report_of board.now.session board.now.entries board.now.surfaces) }
+    // Version 1 exactly if the terms are the plain ones.
+    ensures versioned { HasItsVersion (report_of board.now.session board.now.entries board.now.surfaces) }
     ensures certified { IsComplete board.now.session board.now.entries → IsCertifiedReport board.now.session (report_of board.now.session board.now.entries board.now.surfaces) }
 {
     let mut text = TextWriter::new(sink);
@@ -63,10 +67,28 @@ fn add_report<K: Sink>(
 fn add_head<K: Sink>(text: &mut TextWriter<K>, session: &Session)
     ensures { Adds (view_of K.held K.faults text.old) (view_of K.held K.faults text.new) (head_text (report_of session.now [] [])) }
 {
-    text.bytes(b"insar-report 1\n");
+    let terms = session.scene.terms;
+    let version = version_for(terms);
+    add_version(text, version);
     add_size(text, session.scene.phase.width, session.scene.phase.height);
     add_side(text, session.scene.tiling.side);
     add_rule(text, session.scene.rule);
+    add_terms(text, version, terms);
+}
+
+/// The version in which a report on these terms is written: 1 if they are the plain ones.
+fn version_for(terms: Terms) -> u32
+    ensures { result ≡ version_on (terms_of terms) }
+{
+    if terms == Terms::plain() { 1 } else { 2 }
+}
+
+fn add_version<K: Sink>(text: &mut TextWriter<K>, version: u32)
+    ensures { Adds (view_of K.held K.faults text.old) (view_of K.held K.faults text.new) (ended_line version_line version) }
+{
+    text.bytes(b"insar-report");
+    add_field(text, version);
+    text.end_line();
 }
 
 fn add_size<K: Sink>(text: &mut TextWriter<K>, width: u32, height: u32)
@@ -91,6 +113,40 @@ fn add_rule<K: Sink>(text: &mut TextWriter<K>, rule: RuleKind)
 {
     text.bytes(b"rule ");
     text.bytes(rule_name(rule));
+    text.end_line();
+}
+
+/// Adds the lines of the terms, which version 1 does not have.
+fn add_terms<K: Sink>(text: &mut TextWriter<K>, version: u32, terms: Terms)
+    ensures { Adds (view_of K.held K.faults text.old) (view_of K.held K.faults text.new) (terms_text version (terms_of terms)) }
+{
+    if version == 1 {
+        return;
+    }
+    add_ramp(text, terms.ramp_x, terms.ramp_y);
+    add_steepness(text, terms.steep);
+}
+
+fn add_ramp<K: Sink>(text: &mut TextWriter<K>, across: i32, along: i32)
+    ensures { Adds (view_of K.held K.faults text.old) (view_of K.held K.faults text.new) (ended_line ramp_line (across, along)) }
+{
+    text.bytes(b"ramp");
+    add_slope(text, across);
+    add_slope(text, along);
+    text.end_line();
+}
+
+fn add_slope<K: Sink>(text: &mut TextWriter<K>, slope: i32)
+    ensures { Adds (view_of K.held K.faults text.old) (view_of K.held K.faults text.new) (number_text slope) }
+{
+    add_signed_field(text, i64::from(slope));
+}
+
+fn add_steepness<K: Sink>(text: &mut TextWriter<K>, steep: u32)
+    ensures { Adds (view_of K.held K.faults text.old) (view_of K.held K.faults text.new) (ended_line steep_line steep) }
+{
+    text.bytes(b"steep");
+    add_field(text, steep);
     text.end_line();
 }
 

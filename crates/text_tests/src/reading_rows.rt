@@ -83,10 +83,16 @@ shown 1 1
 end
 ";
 
-/// A piece of the report, what is in its place, and how many items are read then or which line is broken.
+/// A piece of the report, what is in its place, and the terms and how many items are read then or which line is broken.
 const REPORTS: &str = "\
-    end|end|4;\
-    end\n||Line(20);";
+    end|end|0 0 1 4;\
+    end\n||Line(20);\
+    1\nsize 2 2\ntile 64\nrule least|2\nsize 2 2\ntile 64\nrule least\nramp 30000 0\nsteep 1|30000 0 1 4;\
+    1\nsize 2 2\ntile 64\nrule least|2\nsize 2 2\ntile 64\nrule least\nramp 0 0\nsteep 1|0 0 1 4;\
+    1\nsize 2 2\ntile 64\nrule least|2\nsize 2 2\ntile 64\nrule least\nramp 0 0\nsteep 17|Line(6);\
+    1\nsize 2 2\ntile 64\nrule least|2\nsize 2 2\ntile 64\nrule least\nramp 0 32768\nsteep 1|Line(5);\
+    1\nsize 2 2\ntile 64\nrule least|2\nsize 2 2\ntile 64\nrule least\nramp 00 0\nsteep 1|Line(5);\
+    insar-report 1|insar-report 3|Line(1);";
 
 fn read_as_report(alloc: Global, text: String) -> Result<Report, ReportFault> {
     let mut source = MemorySource::new(text.into_bytes(), 7, Vec::new(alloc));
@@ -96,10 +102,19 @@ fn read_as_report(alloc: Global, text: String) -> Result<Report, ReportFault> {
     read_report(alloc, &mut feed)
 }
 
-/// How many items are read of a text, or the fault, in words.
+/// The terms and how many items are read of a text, or the fault, in words.
 fn report_told(alloc: Global, text: String) -> Result<String, AllocError> {
     match read_as_report(alloc, text) {
-        Ok(report) => format!(in alloc; "{}", report.items.len()),
+        Ok(report) => {
+            let terms = report.terms;
+            format!(in alloc;
+                "{} {} {} {}",
+                terms.ramp_x,
+                terms.ramp_y,
+                terms.steep,
+                report.items.len()
+            )
+        }
         Err(fault) => format!(in alloc; "{fault:?}"),
     }
 }
@@ -127,13 +142,17 @@ show
 end
 ";
 
-/// A piece of the report, what is in its place, and the verdict then. The weights are 1, and 0 at the masked pixel.
+/// A piece of the report, what is in its place, and the verdict then. The weights are 1, and 0 at the masked pixel, and
+/// no ramp is expected.
 const VERDICTS: &str = "\
     end|end|Accepted;\
     faces 0 0|faces 0 1|Tile { revision: 1, tile: 0, verdict: FaceAtEdge(Edge { x: 0, y: 0, down: false }) };\
     kept 0 1\n||History(2);\
     16384|16385|Value { revision: 1, x: 1, y: 0 };\
-    costs 0 0|costs 1 0|TileCost { revision: 1, written: 1, counted: 0 };";
+    costs 0 0|costs 1 0|TileCost { revision: 1, written: 1, counted: 0 };\
+    insar-report 1\nsize 2 2\ntile 64\nrule least|insar-report 2\nsize 2 2\ntile 64\nrule least\nramp 0 0\nsteep 1|Accepted;\
+    insar-report 1\nsize 2 2\ntile 64\nrule least|insar-report 2\nsize 2 2\ntile 64\nrule least\nramp 0 1\nsteep 1|Header(5);\
+    insar-report 1\nsize 2 2\ntile 64\nrule least|insar-report 2\nsize 2 2\ntile 64\nrule least\nramp 0 0\nsteep 2|Header(6);";
 
 /// The verdict on the report of a text, or the fault of the text, in words.
 fn verdict_told(alloc: Global, session: &Session, text: String) -> Result<String, AllocError> {

@@ -1,7 +1,6 @@
-use Rattle.report_text.specs.Text.{title_text}
 use Rattle.text_lines.proofs.AddLemmas.{adds_then}
 use Rattle.report_text.proofs.report.add_head.Goals as goal
 
 pub returns : goal.returns
-unfolding title_text
-returns g c = adds_then c.bytes.ensures (adds_then c.add_size.ensures (adds_then c.add_side.ensures c.add_rule.ensures))
+returns g c =
+    rw c.version_for-version.ensures at (adds_then c.add_version.ensures (adds_then c.add_size.ensures (adds_then c.add_side.ensures (adds_then c.add_rule.ensures c.add_terms.ensures))))

@@ -1,7 +1,9 @@
 use Rattle.std.proofs.Common.{rules}
+use Rattle.report_text.specs.Terms.{terms_of}
 use Rattle.text_lines.proofs.AddLemmas.{puts_made}
 use Rattle.report_text.proofs.CertifiedLemmas.{board_is_certified}
 use Rattle.report_text.proofs.RangeLemmas.{board_in_range}
+use Rattle.report_text.proofs.TermsLemmas.{version_is}
 use Rattle.report_text.proofs.report.write_report.Goals as goal
 
 pub returns-clause-text : goal.returns-clause-text
@@ -10,6 +12,9 @@ returns-clause-text g c =
 
 pub returns-clause-ranges : goal.returns-clause-ranges
 returns-clause-ranges g c = board_in_range c.args.board.now c.add_board.ensures.board c.add_board.ensures.small
+
+pub returns-clause-versioned : goal.returns-clause-versioned
+returns-clause-versioned g c = version_is (terms_of c.args.board.now.session.scene.terms)
 
 pub returns-clause-certified : goal.returns-clause-certified
 returns-clause-certified g c = board_is_certified c.args.board.now c.add_board.ensures.board

@@ -1,0 +1,10 @@
+use Rattle.std.proofs.Common.{refl}
+use Rattle.report_text.proofs.PartForms.{version_kind}
+use Rattle.report_text.proofs.ReadsLemmas.{reads_parsed, reads_unread}
+use Rattle.report_text.proofs.read.read_version.Goals as goal
+
+pub returns-in_err-read_line : goal.returns-in_err-read_line
+returns-in_err-read_line g c = reads_unread version_kind c.from_residual.result c.from_residual.ensures.1 c.in_err-read_line.ensures
+
+pub returns : goal.returns
+returns g c = reads_parsed version_kind c.version_of.result c.parsed.result c.in_ok-read_line.ensures c.line.ensures c.version_of.ensures refl c.parsed.ensures

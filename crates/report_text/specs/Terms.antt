@@ -1,0 +1,36 @@
+-- The terms of a report, and its version, which says whether its text tells them.
+use Rattle.std.specs.Prelude.{◌≡◌, ◌⊎◌, ◌&&◌, ◌==◌, ℕ, ℤ, pos, Bool, if◌then◌else◌}
+use Rattle.std.specs.Ordering.{int_eq}
+use Rattle.raster_model.specs.Limits.{IsSlope, IsSteepness}
+use Rattle.raster_model.specs.declared.terms.Terms.{Terms}
+
+-- what an expected ramp rises along a right and along a down edge, and the steepness of costs
+pub record TermsOf : Type 0 where
+  pub ramp_x : ℤ
+  pub ramp_y : ℤ
+  pub steep : ℕ
+
+abbrev pub terms_of : Terms → TermsOf
+terms_of t = record { ramp_x = t.ramp_x; ramp_y = t.ramp_y; steep = t.steep }
+
+-- no ramp, and each cycle of a departure costs the same
+abbrev pub plain_terms : TermsOf
+plain_terms = record { ramp_x = pos 0; ramp_y = pos 0; steep = 1 }
+
+-- there are two versions of a report
+abbrev pub IsVersion : ℕ → Type 0
+IsVersion version = (version ≡ 1) ⊎ (version ≡ 2)
+
+-- the terms may be those of a report of this version: their numbers are in range, and version 1 has the plain ones
+pub record AreTermsIn (version : ℕ) (t : TermsOf) : Type 0 where
+  pub across : IsSlope t.ramp_x
+  pub along : IsSlope t.ramp_y
+  pub steepness : IsSteepness t.steep
+  pub plain : version ≡ 1 → t ≡ plain_terms
+
+-- whether terms are the plain ones, and the version in which a report on these terms is written
+abbrev pub are_plain : TermsOf → Bool
+are_plain t = int_eq t.ramp_x (pos 0) && int_eq t.ramp_y (pos 0) && t.steep == 1
+
+abbrev pub version_on : TermsOf → ℕ
+version_on t = if are_plain t then 1 else 2

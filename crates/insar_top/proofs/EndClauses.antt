@@ -4,13 +4,12 @@ use Rattle.std.specs.Prelude.{◌⊎◌, IfSome}
 use Rattle.std.specs.Borrow.{Bor}
 use Rattle.clap.specs.Walk.{Text}
 use Rattle.insar_ports.proofs.CallLemmas.{at_told, if_told}
-use Rattle.insar_words.specs.Asked.{AskSomething, IsCheck, IsCommand, IsRefused}
+use Rattle.insar_words.specs.Asked.{AskSomething, IsCheck, IsCommand, IsRefused, Options}
 use Rattle.insar_words.specs.Requests.{HasWordsCause, IsRequest}
 use Rattle.insar_words.specs.declared.fault.WordsFault.{WordsFault}
 use Rattle.insar_words.specs.declared.fault.WordsFault.TheVariants as words_faults
 use Rattle.insar_words.specs.declared.request.Request.{Request}
 use Rattle.insar_words.specs.declared.request.Request.TheVariants.{Unwrap, Check}
-use Rattle.raster_model.specs.declared.weights.RuleKind.{RuleKind}
 use Rattle.report_check.specs.declared.verdict.CheckVerdict.{CheckVerdict}
 use Rattle.insar_top.specs.declared.refusal.Refusal.{Refusal}
 use Rattle.insar_top.specs.declared.refusal.Refusal.TheVariants as refusals
@@ -140,19 +139,16 @@ module _ {words : List (Bor Text)} {r : Run} {d : Result ℕ Refusal} (ended : I
     pub alone_clause : IsWithinInput asked r
     alone_clause = end_of.0
 
-  pub headline_clause : (rule : RuleKind) (side : ℕ) → IsCommand words rule side → end_status d ≡ 0 → IsDone rule side r
-  headline_clause rule side c zero =
-      let q = (unwrap_is_request words).0 rule side c in
+  pub headline_clause : (options : Options) → IsCommand words options → end_status d ≡ 0 → IsDone options r
+  headline_clause options c zero =
+      let q = (unwrap_is_request words).0 options c in
       let answer = done_clause (Unwrap q.0) q.2 (omega (arith, zero)) in
-      let its : IsDone q.0.rule q.0.side r = if_told r.told _ (λ bytes t. let k = at_told r.told _ bytes t answer.1 in (k.0, (k.1.0.1, k.1.1))) in
-      subst (λ (k : RuleKind). IsDone k side r) q.1.0 (subst (λ (n : ℕ). IsDone q.0.rule n r) q.1.1 its)
+      subst (λ (o : Options). IsDone o r) q.1 (if_told r.told _ (λ bytes t. let k = at_told r.told _ bytes t answer.1 in (k.0, (k.1.0.1, k.1.1))))
 
-  pub judged_clause : (rule : RuleKind) (side : ℕ) → IsCheck words rule side → IfSome r.told (λ bytes. (verdict : CheckVerdict) → IsJudged rule side bytes verdict → IsVerdictTold (end_status d) r verdict)
-  judged_clause rule side c =
-      let q = (check_is_request words).0 rule side c in
-      let its = verdict_told q.0 r (end_status d) (done_clause (Check q.0) q.2) in
-      subst (λ (k : RuleKind). IfSome r.told (λ bytes. (verdict : CheckVerdict) → IsJudged k side bytes verdict → IsVerdictTold (end_status d) r verdict)) q.1.0
-      (subst (λ (n : ℕ). IfSome r.told (λ bytes. (verdict : CheckVerdict) → IsJudged q.0.rule n bytes verdict → IsVerdictTold (end_status d) r verdict)) q.1.1 its)
+  pub judged_clause : (options : Options) → IsCheck words options → IfSome r.told (λ bytes. (verdict : CheckVerdict) → IsJudged options bytes verdict → IsVerdictTold (end_status d) r verdict)
+  judged_clause options c =
+      let q = (check_is_request words).0 options c in
+      subst (λ (o : Options). IfSome r.told (λ bytes. (verdict : CheckVerdict) → IsJudged o bytes verdict → IsVerdictTold (end_status d) r verdict)) q.1 (verdict_told q.0 r (end_status d) (done_clause (Check q.0) q.2))
 
   pub status : end_status d ≤ 6
   status = by_end (λ d. end_status d ≤ 6) (λ fault c u k. (refused_status (words_refusal fault)).1) (λ q is n small. omega (arith, small)) (λ q is x h. (refused_status x).1)

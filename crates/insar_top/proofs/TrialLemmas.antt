@@ -1,5 +1,6 @@
 -- A trial's session, what is written of it, that its words determine the text, and the numbers of its summary.
 use Rattle.std.proofs.Common.{◌≡◌, ◌∙◌, ℕ, zero, suc, ◌+◌, ◌*◌, ◌/◌, ◌%◌, ◌<◌, Bool, false, true, List, [], ◌∷◌, Some, length, refl, sym, ap, ap₂, subst, arith, true≢false, ◌==◌, ◌≤◌, of_z, w32}
+use Rattle.std.specs.Global.{Vec}
 use Rattle.std.specs.Prelude.{ℤ, pos, ◌≤ℤ◌, slice_index, not, unsigned_abs}
 use Rattle.std.proofs.lemmas.Bool.Decides.{nat_tests, Decides-eqb, Decides-int_eq, same_from_decides}
 use Rattle.std.proofs.lemmas.Grind.{same_number_lists}
@@ -12,7 +13,8 @@ use Rattle.raster_model.specs.declared.session.Session.{Session}
 use Rattle.raster_model.specs.declared.weights.RuleKind.{RuleKind}
 use Rattle.raster_model.specs.Best.{tiles_cost}
 use Rattle.raster_model.specs.Limits.{is_raster_size}
-use Rattle.raster_model.specs.Masks.{open_at}
+use Rattle.raster_model.specs.MaskView.{MaskView}
+use Rattle.raster_model.specs.Masks.{IsMaskOf, open_at}
 use Rattle.raster_model.specs.Planes.{plane_sample}
 use Rattle.raster_model.specs.Raster.{Raster, IsCongruent, tile_cost}
 use Rattle.raster_model.specs.Scene.{raster_of}
@@ -21,9 +23,15 @@ use Rattle.tile_board.specs.declared.entry.Entry.{Entry}
 use Rattle.tile_board.specs.LastSettled.{last_settled, settled_revisions}
 use Rattle.tile_board.proofs.OneScript.{newest_settled}
 use Rattle.tile_board.specs.Histories.{IsComplete, IsLegal, newest_of, mask_in}
-use Rattle.trial_maker.specs.Trials.{AreTrialScripts, IsTrial}
+use Rattle.trial_maker.specs.Trials.{AreTrialScripts, IsTrial, is_open, phase_of, state_at, weight_of}
+use Rattle.raster_model.specs.Sessions.{HasNewTerms}
+use Rattle.insar_words.specs.Asked.{Options}
+use Rattle.insar_words.specs.Requests.{options_of}
+use Rattle.insar_words.specs.declared.settings.Settings.{Settings}
+use Rattle.insar_top.specs.Options.{HasOptions}
+use Rattle.insar_top.proofs.SessionLemmas.{on_options, same_terms}
 use Rattle.report_check.specs.Same.{IsSameInput, IsSamePlane}
-use Rattle.report_check.proofs.EqualSessions.{are_alike, plain_alike}
+use Rattle.report_check.proofs.EqualSessions.{are_alike}
 use Rattle.surface_snapshots.proofs.SameLemmas.{same_tile_cost}
 use Rattle.trial_maker.specs.declared.fault.TrialFault.{TrialFault}
 use Rattle.trial_maker.specs.declared.fault.TrialFault.TheVariants as trial_faults
@@ -32,7 +40,7 @@ use Rattle.insar_words.specs.declared.trial.Trial.{Trial as TrialSession}
 use Rattle.insar_top.specs.Causes.{HasRefusalCause}
 use Rattle.insar_top.specs.Refusals.{trial_refusal}
 use Rattle.insar_top.specs.Run.{HasKept, Run}
-use Rattle.insar_top.specs.Trial.{IsLeastCost, IsLeastInTiles, IsTrialText, TrialsHaveOneText, count_grid, count_row, four_lines, open_pixels_of, residues_of}
+use Rattle.insar_top.specs.Trial.{IsLeastCost, IsLeastInTiles, IsTrialSession, IsTrialText, TrialsHaveOneText, count_grid, count_row, four_lines, open_pixels_of, residues_of}
 use Rattle.sums_and_lists.specs.Sums.{count_below, one_if}
 use Rattle.sums_and_lists.proofs.SumLemmas.{sum_below-same}
 use Rattle.std.specs.Int.{from_bool}
@@ -52,9 +60,13 @@ use Rattle.trial_maker.proofs.DrawLemmas.{is_size}
 abbrev sample_in : PlaneOf → Field ℕ
 sample_in p x y = slice_index p.samples (y * p.width + x)
 
--- the board's session is the trial's
-pub trial_again : (t : TrialSession) (s made : Session) → s ≡ made → IsTrial t.seed t.width t.height t.settings.side t.settings.rule made → IsTrial t.seed t.width t.height t.settings.side t.settings.rule s
-trial_again t s made same is = subst (IsTrial t.seed t.width t.height t.settings.side t.settings.rule) (sym same) is
+-- a session that is asked for
+abbrev pub IsAsked : TrialSession → Session → Type 0
+IsAsked t s = IsTrialSession t.seed t.width t.height (options_of t.settings) s
+
+-- the board's session is the trial's, on the terms of the words
+pub trial_again : (t : TrialSession) (s on_terms made : Session) → s ≡ on_terms → HasNewTerms made t.settings.terms on_terms → IsTrial t.seed t.width t.height t.settings.side t.settings.rule made → IsAsked t s
+trial_again t s on_terms made same new is = subst (IsAsked t) (sym same) (record { plain = made; terms = t.settings.terms; made = is; changed = new; options_are = on_options t.settings new is.rule is.tiles })
 
 one_script : (scripts : List Script) → AreTrialScripts scripts → (script : Script) × ((scripts ≡ script ∷ []) × (script.commands.items ≡ Settle ∷ Show ∷ []))
 one_script [] e = absurd (cc)
@@ -73,8 +85,8 @@ first_published s H scripts legal complete =
 
 -- ---- what is written
 
-pub trial_text : (t : TrialSession) (s : Session) (pixels residues unmasked cost : ℕ) → IsTrial t.seed t.width t.height t.settings.side t.settings.rule s → pixels ≡ s.scene.phase.width * s.scene.phase.height → residues ≡ residues_of (raster_of s.scene) → unmasked ≡ open_pixels_of s
-    → IsLeastCost (raster_of s.scene) (open_at s.first_mask) cost → IsTrialText t.seed t.width t.height t.settings.side t.settings.rule (four_lines pixels residues unmasked cost)
+pub trial_text : (t : TrialSession) (s : Session) (pixels residues unmasked cost : ℕ) → IsAsked t s → pixels ≡ s.scene.phase.width * s.scene.phase.height → residues ≡ residues_of (raster_of s.scene) → unmasked ≡ open_pixels_of s
+    → IsLeastCost (raster_of s.scene) (open_at s.first_mask) cost → IsTrialText t.seed t.width t.height (options_of t.settings) (four_lines pixels residues unmasked cost)
 trial_text t s pixels residues unmasked cost made p r u least = record {
   session = s;
   made = made;
@@ -120,7 +132,31 @@ module _ (p q : Plane) (w h : ℕ) (f : Field ℕ) (sizes : (p.width ≡ w) × (
   same_plane : p.maxval ≡ q.maxval → IsSamePlane p q
   same_plane e = record { width = sizes.0 ∙ sym sizes.1.1.0; height = sizes.1.0 ∙ sym sizes.1.1.1; maxval = e; samples = same_samples }
 
-module _ (seed w h side : ℕ) (rule : RuleKind) (s t : Session) (one : IsTrial seed w h side rule s) (other : IsTrial seed w h side rule t) where
+-- the session is the trial's but for its terms
+record IsTrialIn (seed w h : ℕ) (options : Options) (s : Session) : Type 0 where
+  size : (s.scene.phase.width ≡ w) × (s.scene.phase.height ≡ h)
+  phases : (x y : ℕ) → x < w → y < h → plane_sample s.scene.phase x y ≡ phase_of (state_at seed w x y) x y
+  greatest_weight : s.scene.weights.maxval ≡ 256
+  weights : (x y : ℕ) → x < w → y < h → plane_sample s.scene.weights x y ≡ weight_of (state_at seed w x y)
+  mask : IsMaskOf s.first_mask w h (λ x y. is_open (state_at seed w x y))
+  scripts : AreTrialScripts s.scripts.items
+  options_are : HasOptions options s
+
+trial_in : (seed w h : ℕ) (options : Options) (s : Session) → IsTrialSession seed w h options s → IsTrialIn seed w h options s
+trial_in seed w h options s is =
+    let m = is.made in
+    let new = is.changed in
+    record {
+      size = subst (λ (p : Plane). (p.width ≡ w) × (p.height ≡ h)) (sym new.phase) m.size;
+      phases = subst (λ (p : Plane). (x y : ℕ) → x < w → y < h → plane_sample p x y ≡ phase_of (state_at seed w x y) x y) (sym new.phase) m.phases;
+      greatest_weight = ap (λ (p : Plane). p.maxval) new.weights ∙ m.greatest_weight;
+      weights = subst (λ (p : Plane). (x y : ℕ) → x < w → y < h → plane_sample p x y ≡ weight_of (state_at seed w x y)) (sym new.weights) m.weights;
+      mask = subst (λ (v : MaskView). IsMaskOf v w h (λ x y. is_open (state_at seed w x y))) (sym new.first_mask) m.mask;
+      scripts = subst (λ (v : Vec Script). AreTrialScripts v.items) (sym new.scripts) m.scripts;
+      options_are = is.options_are;
+    }
+
+module _ (seed w h : ℕ) (options : Options) (s t : Session) (one : IsTrialIn seed w h options s) (other : IsTrialIn seed w h options t) where
   unmasked : (x y : ℕ) → x < w → y < h → open_at s.first_mask x y ≡ open_at t.first_mask x y
   unmasked x y l m = one.mask.clear_at x y l m ∙ sym (other.mask.clear_at x y l m)
 
@@ -130,9 +166,9 @@ module _ (seed w h side : ℕ) (rule : RuleKind) (s t : Session) (one : IsTrial 
     weights = same_plane s.scene.weights t.scene.weights w h _
         (s.scene.same_width.0 ∙ one.size.0, (s.scene.same_height.0 ∙ one.size.1, (t.scene.same_width.0 ∙ other.size.0, t.scene.same_height.0 ∙ other.size.1)))
         one.weights other.weights (one.greatest_weight ∙ sym other.greatest_weight);
-    rule = one.rule ∙ sym other.rule;
-    side = one.tiles ∙ sym other.tiles;
-    terms = plain_alike s.scene.terms t.scene.terms one.terms other.terms;
+    rule = one.options_are.rule ∙ sym other.options_are.rule;
+    side = one.options_are.side ∙ sym other.options_are.side;
+    terms = same_terms options s t one.options_are other.options_are;
     commands = one.scripts ∙ sym other.scripts;
     unmasked = λ x y l m. unmasked x y (rw one.size.0 at l) (rw one.size.1 at m);
   }
@@ -176,12 +212,14 @@ module _ (r : Raster) (m n : Field Bool) (same : (x y : ℕ) → x < r.width →
       number e = cc
 
 pub trials_have_one_text : TrialsHaveOneText
-trials_have_one_text seed w h side rule text another a b =
+trials_have_one_text seed w h options text another a b =
     let s = a.session in
     let t = b.session in
-    let raster = same_raster seed w h side rule s t a.made b.made in
-    let sizes : (s.scene.phase.width ≡ t.scene.phase.width) × (s.scene.phase.height ≡ t.scene.phase.height) = (a.made.size.0 ∙ sym b.made.size.0, a.made.size.1 ∙ sym b.made.size.1) in
-    let clear : (x y : ℕ) → x < s.scene.phase.width → y < s.scene.phase.height → open_at s.first_mask x y ≡ open_at t.first_mask x y = λ x y l m. unmasked seed w h side rule s t a.made b.made x y (rw a.made.size.0 at l) (rw a.made.size.1 at m) in
+    let one = trial_in seed w h options s a.made in
+    let other = trial_in seed w h options t b.made in
+    let raster = same_raster seed w h options s t one other in
+    let sizes : (s.scene.phase.width ≡ t.scene.phase.width) × (s.scene.phase.height ≡ t.scene.phase.height) = (one.size.0 ∙ sym other.size.0, one.size.1 ∙ sym other.size.1) in
+    let clear : (x y : ℕ) → x < s.scene.phase.width → y < s.scene.phase.height → open_at s.first_mask x y ≡ open_at t.first_mask x y = λ x y l m. unmasked seed w h options s t one other x y (rw one.size.0 at l) (rw one.size.1 at m) in
     let pixels : s.scene.phase.width * s.scene.phase.height ≡ t.scene.phase.width * t.scene.phase.height = ap₂ ◌*◌ sizes.0 sizes.1 in
     let residues : residues_of (raster_of s.scene) ≡ residues_of (raster_of t.scene) = ap residues_of raster in
     let unmasked : open_pixels_of s ≡ open_pixels_of t = grid_same s.scene.phase.width s.scene.phase.height (open_at s.first_mask) (open_at t.first_mask) clear ∙ ap₂ (λ (width height : ℕ). count_grid width height (open_at t.first_mask)) sizes.0 sizes.1 in

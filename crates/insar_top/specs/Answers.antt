@@ -3,6 +3,7 @@ use Rattle.std.specs.Prelude.{◌≡◌, ◌≤◌, ℕ, List, [], Option, Some,
 use Rattle.insar_ports.specs.Bytes.{GainsProperPrefix, with_end}
 use Rattle.insar_words.specs.declared.request.Request.{Request}
 use Rattle.insar_words.specs.declared.request.Request.TheVariants.{Unwrap, Grid, Check, Trial}
+use Rattle.insar_words.specs.Requests.{options_of}
 use Rattle.insar_top.specs.Check.{IsCheckable, IsVerdictAnswer}
 use Rattle.insar_top.specs.Grid.{IsGridAnswer}
 use Rattle.insar_top.specs.Run.{IsUnread, Run}
@@ -33,10 +34,10 @@ IsInputTo (Trial trial) bytes = ⊤
 
 -- with this status, the text answers a request that is about these bytes
 abbrev pub IsAnswerTo : Request → List ℕ → ℕ → List ℕ → Type 0
-IsAnswerTo (Unwrap settings) bytes status text = (status ≡ 0) × IsReportAnswer settings.rule settings.side bytes text
-IsAnswerTo (Grid settings) bytes status text = (status ≡ 0) × IsGridAnswer settings.rule settings.side bytes text
-IsAnswerTo (Check settings) bytes status text = IsVerdictAnswer settings.rule settings.side bytes status text
-IsAnswerTo (Trial trial) bytes status text = (status ≡ 0) × IsTrialText trial.seed trial.width trial.height trial.settings.side trial.settings.rule text
+IsAnswerTo (Unwrap settings) bytes status text = (status ≡ 0) × IsReportAnswer (options_of settings) bytes text
+IsAnswerTo (Grid settings) bytes status text = (status ≡ 0) × IsGridAnswer (options_of settings) bytes text
+IsAnswerTo (Check settings) bytes status text = IsVerdictAnswer (options_of settings) bytes status text
+IsAnswerTo (Trial trial) bytes status text = (status ≡ 0) × IsTrialText trial.seed trial.width trial.height (options_of trial.settings) text
 
 -- a request that was done may end with this status: 1 is of `check` alone
 abbrev pub IsDoneStatus : Request → ℕ → Type 0

@@ -1,9 +1,8 @@
 -- What `check` reads, which is a session and then a report, and what it answers.
 use Rattle.std.specs.Prelude.{◌≡◌, ◌≢◌, ◌⊎◌, ℕ, ◌<◌, ◌≤◌, List, length, take, Option}
 use Rattle.insar_ports.specs.Bytes.{with_end}
-use Rattle.raster_model.specs.Terms.{ArePlainTerms}
 use Rattle.raster_model.specs.declared.session.Session.{Session}
-use Rattle.raster_model.specs.declared.weights.RuleKind.{RuleKind}
+use Rattle.insar_words.specs.Asked.{Options}
 use Rattle.raster_model.specs.Limits.{max_report_bytes}
 use Rattle.session_script.specs.declared.session_use.SessionUse.TheVariants.{BeforeReport}
 use Rattle.session_script.specs.Sessions.{SessionOf, HasFault, IsSessionIn, session_of}
@@ -16,6 +15,7 @@ use Rattle.report_text.specs.Text.{report_text}
 use Rattle.report_check.specs.declared.verdict.CheckVerdict.{CheckVerdict}
 use Rattle.report_check.specs.declared.verdict.CheckVerdict.TheVariants.{Accepted}
 use Rattle.report_check.specs.Verdicts.{IsCheckVerdict}
+use Rattle.insar_top.specs.Options.{HasOptions}
 use Rattle.insar_top.specs.Run.{ReadsAll, Run}
 use Rattle.insar_top.specs.Unwrap.{IsReportAnswer}
 use Rattle.insar_top.specs.VerdictLines.{verdict_line}
@@ -45,14 +45,12 @@ BreaksBoth side bytes (refusals.ReportLine n) = AfterSession side bytes (HasBrok
 BreaksBoth side bytes refusals.ReportLong = AfterSession side bytes IsReportTooLong
 BreaksBoth side bytes refusal = ⊥
 
--- the bytes are the text of a session and then of a report that is not too long, for which this is the verdict
-pub record IsJudged (rule : RuleKind) (side : ℕ) (bytes : List ℕ) (verdict : CheckVerdict) : Type 0 where
+-- the bytes are the text of a session and then of a report that is not too long, for which, on these options, this is the verdict
+pub record IsJudged (options : Options) (bytes : List ℕ) (verdict : CheckVerdict) : Type 0 where
   pub session : Session
   pub report : ReportOf
-  pub spelled : IsSessionIn BeforeReport side bytes (session_of session) (report_text report)
-  pub rule_is : session.scene.rule ≡ rule
-  pub side_is : session.scene.tiling.side ≡ side
-  pub terms_are : ArePlainTerms session.scene.terms
+  pub spelled : IsSessionIn BeforeReport options.side bytes (session_of session) (report_text report)
+  pub options_are : HasOptions options session
   pub in_range : IsReport report
   pub within : length (report_text report) ≤ most_of_report
   pub verdict_is : IsCheckVerdict session report verdict
@@ -62,9 +60,9 @@ abbrev pub IsStatusOf : CheckVerdict → ℕ → Type 0
 IsStatusOf verdict status = ((verdict ≡ Accepted) × (status ≡ 0)) ⊎ ((verdict ≢ Accepted) × (status ≡ 1))
 
 -- this is the verdict on the bytes, with its status and its line
-pub record IsVerdictAnswer (rule : RuleKind) (side : ℕ) (bytes : List ℕ) (status : ℕ) (text : List ℕ) : Type 0 where
+pub record IsVerdictAnswer (options : Options) (bytes : List ℕ) (status : ℕ) (text : List ℕ) : Type 0 where
   pub verdict : CheckVerdict
-  pub judged : IsJudged rule side bytes verdict
+  pub judged : IsJudged options bytes verdict
   pub status_is : IsStatusOf verdict status
   pub line : text ≡ verdict_line verdict
 
@@ -74,21 +72,19 @@ IsVerdictTold status r verdict = (status ≡ 0 → verdict ≡ Accepted) × ((st
 
 -- what is written for a session is accepted, where the text of the session stands before it and it is not too long
 abbrev pub AnswersAreAccepted : Type 0
-AnswersAreAccepted = (rule : RuleKind) (side : ℕ) (bytes text both : List ℕ) (answer : IsReportAnswer rule side bytes text) → length text ≤ most_of_report → IsSessionIn BeforeReport side both (session_of answer.session) text → IsJudged rule side both Accepted
+AnswersAreAccepted = (options : Options) (bytes text both : List ℕ) (answer : IsReportAnswer options bytes text) → length text ≤ most_of_report → IsSessionIn BeforeReport options.side both (session_of answer.session) text → IsJudged options both Accepted
 
 -- bytes have one verdict, whatever session and report they are the text of
 abbrev pub BytesHaveOneVerdict : Type 0
-BytesHaveOneVerdict = (rule : RuleKind) (side : ℕ) (bytes : List ℕ) (one other : CheckVerdict) → IsJudged rule side bytes one → IsJudged rule side bytes other → one ≡ other
+BytesHaveOneVerdict = (options : Options) (bytes : List ℕ) (one other : CheckVerdict) → IsJudged options bytes one → IsJudged options bytes other → one ≡ other
 
--- the bytes are the text of this session, by a rule of weights and a side of tiles, and then that of this report
-pub record IsBoth (rule : RuleKind) (side : ℕ) (bytes : List ℕ) (session : Session) (report : Report) : Type 0 where
-  pub spelled : IsSessionIn BeforeReport side bytes (session_of session) (report_text (report_told report))
-  pub rule_is : session.scene.rule ≡ rule
-  pub side_is : session.scene.tiling.side ≡ side
-  pub terms_are : ArePlainTerms session.scene.terms
+-- the bytes are the text of this session, which is on these options, and then that of this report
+pub record IsBoth (options : Options) (bytes : List ℕ) (session : Session) (report : Report) : Type 0 where
+  pub spelled : IsSessionIn BeforeReport options.side bytes (session_of session) (report_text (report_told report))
+  pub options_are : HasOptions options session
   pub in_range : IsReport (report_told report)
   pub within : length (report_text (report_told report)) ≤ most_of_report
 
 -- where the bytes are told, they are both, and nothing is left
-abbrev pub AreRead : RuleKind → ℕ → Option (List ℕ) → Option (List ℕ) → Session → Report → Type 0
-AreRead rule side told left session report = ReadsAll told left (λ bytes. IsBoth rule side bytes session report)
+abbrev pub AreRead : Options → Option (List ℕ) → Option (List ℕ) → Session → Report → Type 0
+AreRead options told left session report = ReadsAll told left (λ bytes. IsBoth options bytes session report)

@@ -2,7 +2,7 @@
 use Rattle.std.specs.Prelude.{◌≡◌, ℕ, List, [], Option, Some, None, filter_map, ⊤}
 use Rattle.std.specs.List.{last_or}
 use Rattle.raster_model.specs.declared.session.Session.{Session}
-use Rattle.raster_model.specs.declared.weights.RuleKind.{RuleKind}
+use Rattle.insar_words.specs.Asked.{Options}
 use Rattle.grid_writer.specs.Grid.{grid_text}
 use Rattle.grid_writer.specs.Grids.{IsGrid}
 use Rattle.tile_board.specs.declared.entry.Entry.{Entry}
@@ -32,10 +32,10 @@ IsSurfaceGrid width height (Some k) = IsGrid (record { width = width; height = h
 IsSurfaceGrid width height None = ⊤
 
 -- the text is the last grid of a report of the session that the bytes spell, and its numbers are in range
-pub record IsGridAnswer (rule : RuleKind) (side : ℕ) (bytes text : List ℕ) : Type 0 where
+pub record IsGridAnswer (options : Options) (bytes text : List ℕ) : Type 0 where
   pub session : Session
   pub report : ReportOf
-  pub given : IsGiven rule side bytes session
+  pub given : IsGiven options bytes session
   pub reported : IsReportOf session report
   pub in_range : IsSurfaceGrid report.width report.height (last_surface report)
   pub written : text ≡ last_grid report

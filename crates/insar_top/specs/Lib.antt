@@ -1,4 +1,5 @@
 pub mod Run
+pub mod Options
 pub mod Desks
 pub mod Refusals
 pub mod Lines

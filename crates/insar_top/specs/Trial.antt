@@ -2,7 +2,9 @@
 use Rattle.std.specs.Prelude.{◌≡◌, ℕ, ◌-◌, ◌*◌, ◌<◌, ℤ, pos, Bool, not, List, [], ◌∷◌, ◌++◌, codes, decimal}
 use Rattle.std.specs.Ordering.{int_eq}
 use Rattle.raster_model.specs.declared.session.Session.{Session}
-use Rattle.raster_model.specs.declared.weights.RuleKind.{RuleKind}
+use Rattle.insar_words.specs.Asked.{Options}
+use Rattle.raster_model.specs.declared.terms.Terms.{Terms}
+use Rattle.raster_model.specs.Sessions.{HasNewTerms}
 use Rattle.raster_model.specs.Best.{tiles_cost}
 use Rattle.raster_model.specs.Certificates.{IsLeastInTile}
 use Rattle.raster_model.specs.Masks.{open_at}
@@ -10,6 +12,7 @@ use Rattle.raster_model.specs.Raster.{Raster, IsCongruent, residue}
 use Rattle.raster_model.specs.Scene.{raster_of}
 use Rattle.raster_model.specs.Sums.{Field}
 use Rattle.trial_maker.specs.Trials.{IsTrial}
+use Rattle.insar_top.specs.Options.{HasOptions}
 use Rattle.sums_and_lists.specs.Sums.{count_below, one_if}
 
 -- how many of the first w places of row y pass a test, and how many of the first h rows' places
@@ -53,12 +56,20 @@ pub record AreLinesOf (s : Session) (text : List ℕ) : Type 0 where
   pub least : IsLeastCost (raster_of s.scene) (open_at s.first_mask) cost
   pub spelled : text ≡ four_lines (s.scene.phase.width * s.scene.phase.height) (residues_of (raster_of s.scene)) (open_pixels_of s) cost
 
--- and the session is the one that a seed gives to a width, a height, a side of tiles and a rule
-pub record IsTrialText (seed width height side : ℕ) (rule : RuleKind) (text : List ℕ) : Type 0 where
+-- the session is the one that a seed gives to a width, a height and options: the test session of their side and rule, on their terms
+pub record IsTrialSession (seed width height : ℕ) (options : Options) (s : Session) : Type 0 where
+  pub plain : Session
+  pub terms : Terms
+  pub made : IsTrial seed width height options.side options.rule plain
+  pub changed : HasNewTerms plain terms s
+  pub options_are : HasOptions options s
+
+-- and the text is its four lines
+pub record IsTrialText (seed width height : ℕ) (options : Options) (text : List ℕ) : Type 0 where
   pub session : Session
-  pub made : IsTrial seed width height side rule session
+  pub made : IsTrialSession seed width height options session
   pub lines : AreLinesOf session text
 
 -- the words determine the four lines
 abbrev pub TrialsHaveOneText : Type 0
-TrialsHaveOneText = (seed width height side : ℕ) (rule : RuleKind) (one other : List ℕ) → IsTrialText seed width height side rule one → IsTrialText seed width height side rule other → one ≡ other
+TrialsHaveOneText = (seed width height : ℕ) (options : Options) (one other : List ℕ) → IsTrialText seed width height options one → IsTrialText seed width height options other → one ≡ other

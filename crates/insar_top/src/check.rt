@@ -3,6 +3,7 @@ ghost use Rattle.insar_top.specs.Causes.{HasReadCause};
 ghost use Rattle.insar_top.specs.Check.{AreRead, BreaksBoth, IsStatusOf};
 ghost use Rattle.insar_top.specs.Ends.{IsRequestEnd};
 ghost use Rattle.insar_top.specs.Run.{run_of};
+ghost use Rattle.insar_words.specs.Requests.{options_of};
 ghost use Rattle.insar_words.specs.declared.request.Request.TheVariants as requests;
 ghost use Rattle.raster_model.specs.Limits.{max_session_bytes};
 ghost use Rattle.std.specs.Prelude.{◌≡◌, IfErr, IfOk};
@@ -50,7 +51,7 @@ fn read_both<S: Source>(
     source: &mut S,
     settings: Settings,
 ) -> Result<(Session, Report), Refusal>
-    ensures read { IfOk result (λ both. AreRead settings.rule settings.side (S.left source.old) (S.left source.new) both.0 both.1) }
+    ensures read { IfOk result (λ both. AreRead (options_of settings) (S.left source.old) (S.left source.new) both.0 both.1) }
     ensures refused { IfErr result (HasReadCause (BreaksBoth settings.side) (S.left source.old) (S.faults source.old) (S.faults source.new)) }
 {
     let mut feed = Feed::new(alloc, source, MAX_SESSION_BYTES)?;
@@ -66,7 +67,7 @@ fn read_fed<S: Source>(
     requires start { handed_of feed.old ≡ 0 }
     requires limit { limit_of feed.old ≡ max_session_bytes }
     ensures same_source { source_name feed.new ≡ source_name feed.old }
-    ensures read { IfOk result (λ both. AreRead settings.rule settings.side (left_of S.left feed.old) (S.left (source_of feed.new)) both.0 both.1) }
+    ensures read { IfOk result (λ both. AreRead (options_of settings) (left_of S.left feed.old) (S.left (source_of feed.new)) both.0 both.1) }
     ensures refused { IfErr result (HasReadCause (BreaksBoth settings.side) (left_of S.left feed.old) (faults_of S.faults feed.old) (faults_of S.faults feed.new)) }
 {
     let session = read_session(
@@ -78,5 +79,5 @@ fn read_fed<S: Source>(
     )?;
     feed.set_limit(feed.handed() + MAX_REPORT_BYTES);
     let report = read_report(alloc, feed)?;
-    Ok((session, report))
+    Ok((session.with_terms(settings.terms), report))
 }

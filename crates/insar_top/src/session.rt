@@ -2,6 +2,7 @@ ghost use Rattle.insar_ports.specs.Feeding.{faults_of, handed_of, left_of, limit
 ghost use Rattle.insar_top.specs.Causes.{HasReadCause};
 ghost use Rattle.insar_top.specs.Run.{ReadsAll};
 ghost use Rattle.insar_top.specs.Unwrap.{BreaksAlone, IsGiven};
+ghost use Rattle.insar_words.specs.Requests.{options_of};
 ghost use Rattle.raster_model.specs.Limits.{max_session_bytes};
 ghost use Rattle.std.specs.Prelude.{◌≡◌, IfErr, IfOk};
 ghost use Rattle.tile_board.specs.Histories.{IsComplete};
@@ -26,7 +27,7 @@ pub fn solved<R: Threads + Wait + Sync, S: Source, G: Gate>(
     source: &mut S,
     gate: &G,
 ) -> Result<Board, Refusal>
-    ensures given { IfOk result (λ board. ReadsAll (S.left source.old) (S.left source.new) (λ bytes. IsGiven settings.rule settings.side bytes board.session)) }
+    ensures given { IfOk result (λ board. ReadsAll (S.left source.old) (S.left source.new) (λ bytes. IsGiven (options_of settings) bytes board.session)) }
     ensures complete { IfOk result (λ board. IsComplete board.session board.entries) }
     ensures refused { IfErr result (HasReadCause (BreaksAlone settings.side) (S.left source.old) (S.faults source.old) (S.faults source.new)) }
 {
@@ -41,7 +42,7 @@ pub fn read_alone<S: Source>(
     source: &mut S,
     settings: Settings,
 ) -> Result<Session, Refusal>
-    ensures given { IfOk result (λ session. ReadsAll (S.left source.old) (S.left source.new) (λ bytes. IsGiven settings.rule settings.side bytes session)) }
+    ensures given { IfOk result (λ session. ReadsAll (S.left source.old) (S.left source.new) (λ bytes. IsGiven (options_of settings) bytes session)) }
     ensures refused { IfErr result (HasReadCause (BreaksAlone settings.side) (S.left source.old) (S.faults source.old) (S.faults source.new)) }
 {
     let mut feed = Feed::new(alloc, source, MAX_SESSION_BYTES)?;
@@ -57,9 +58,9 @@ fn read_fed<S: Source>(
     requires start { handed_of feed.old ≡ 0 }
     requires limit { limit_of feed.old ≡ max_session_bytes }
     ensures same_source { source_name feed.new ≡ source_name feed.old }
-    ensures given { IfOk result (λ session. ReadsAll (left_of S.left feed.old) (S.left (source_of feed.new)) (λ bytes. IsGiven settings.rule settings.side bytes session)) }
+    ensures given { IfOk result (λ session. ReadsAll (left_of S.left feed.old) (S.left (source_of feed.new)) (λ bytes. IsGiven (options_of settings) bytes session)) }
     ensures refused { IfErr result (HasReadCause (BreaksAlone settings.side) (left_of S.left feed.old) (faults_of S.faults feed.old) (faults_of S.faults feed.new)) }
 {
     let session = read_session(alloc, feed, SessionUse::Alone, settings.side, settings.rule)?;
-    Ok(session)
+    Ok(session.with_terms(settings.terms))
 }

@@ -1,4 +1,4 @@
-ghost use Rattle.std.specs.Prelude.{◌≡◌, ◌≤◌, ◌⊎◌, List, Err, IfSome};
+ghost use Rattle.std.specs.Prelude.{◌≡◌, ◌≤◌, ◌⊎◌, ℕ, List, Err, IfSome};
 ghost use Rattle.insar_ports.specs.Bytes.{HasRisen, with_end};
 ghost use Rattle.insar_top.specs.Answers.{HasAnswered, HasCutShort, IsDoneStatus, IsInputTo, IsWithinInput, input_of};
 ghost use Rattle.insar_top.specs.Causes.{HasRefusalCause};
@@ -10,12 +10,10 @@ ghost use Rattle.insar_top.specs.Run.{IsUnread, run_of};
 ghost use Rattle.insar_top.specs.Unwrap.{IsDone};
 ghost use Rattle.insar_top.specs.declared.refusal.Refusal.{Refusal as AnyRefusal};
 ghost use Rattle.insar_top.specs.declared.refusal.Refusal.TheVariants as refusals;
-ghost use Rattle.insar_words.specs.Asked.{AskSomething, IsCheck, IsCommand, IsRefused};
+ghost use Rattle.insar_words.specs.Asked.{AskSomething, IsCheck, IsCommand, IsRefused, Options};
 ghost use Rattle.insar_words.specs.Requests.{IsRequest};
 ghost use Rattle.insar_words.specs.declared.request.Request.{Request as Asked};
-ghost use Rattle.raster_model.specs.declared.weights.RuleKind.{RuleKind as Kind};
 ghost use Rattle.report_check.specs.declared.verdict.CheckVerdict.{CheckVerdict as AnyVerdict};
-ghost use Rattle.std.specs.Prelude.{ℕ};
 
 use crate::check::run_check;
 use crate::diag::put_line;
@@ -49,7 +47,9 @@ use tile_workers::Gate;
 /// `--tile N` is the side of the square tiles in pixels, from 2 to 128, and 64 if the words do not give it. `--rule R`
 /// names how the weights of two pixels give that of their edge: `least`, which is the default, `mean` or `product`.
 /// `--workers N` is how many workers solve the tiles of an analyst at once, from 1 to 8, and 2 by default, each of which
-/// passes the gate before it solves; `check` has no workers.
+/// passes the gate before it solves; `check` has no workers. `--ramp-x N` and `--ramp-y N` are what the phase is expected to
+/// rise from a pixel to its right and to its lower neighbour, in units of 1/65536 cycle: N from 0 to 65535, of which those
+/// from 32768 on stand for N - 65536, and 0 by default. Differences are wrapped around it.
 ///
 /// Words are checked before the source is read, as `clap` reads them, and a call for help is refused like others. A fault of
 /// `diag` changes nothing.
@@ -65,7 +65,7 @@ pub fn insar<R: Threads + Wait + Sync, S: Source, K: Sink, D: Sink, G: Gate>(
     ensures status { result ≤ 6 }
     // 0 of `unwrap`: the bytes were the text of one session, nothing is left, and the sink gained exactly the text of its
     // report: each surface in it is certified and the best at its revision's mask.
-    ensures headline { (rule : Kind) (side : ℕ) → IsCommand words.now rule side → result ≡ 0 → IsDone rule side (run_of S.left S.faults source.old source.new K.held K.faults sink.old sink.new) }
+    ensures headline { (options : Options) → IsCommand words.now options → result ≡ 0 → IsDone options (run_of S.left S.faults source.old source.new K.held K.faults sink.old sink.new) }
     // 0, and 1 of `check`: the bytes were what the request reads, nothing is left, and the sink gained exactly the text that
     // answers it.
     ensures done { (asked : Asked) → IsRequest words.now asked → result ≤ 1 → HasAnswered asked (run_of S.left S.faults source.old source.new K.held K.faults sink.old sink.new) result }
@@ -82,7 +82,7 @@ pub fn insar<R: Threads + Wait + Sync, S: Source, K: Sink, D: Sink, G: Gate>(
     ensures alone { (asked : Asked) → IsRequest words.now asked → IsWithinInput asked (run_of S.left S.faults source.old source.new K.held K.faults sink.old sink.new) }
     // Whatever session and report the bytes of a check are the text of: at 0 the verdict on them is Accepted and at 1 it is
     // not, and the line is its own.
-    ensures judged { (rule : Kind) (side : ℕ) → IsCheck words.now rule side → IfSome (S.left source.old) (λ bytes. (verdict : AnyVerdict) → IsJudged rule side bytes verdict → IsVerdictTold result (run_of S.left S.faults source.old source.new K.held K.faults sink.old sink.new) verdict) }
+    ensures judged { (options : Options) → IsCheck words.now options → IfSome (S.left source.old) (λ bytes. (verdict : AnyVerdict) → IsJudged options bytes verdict → IsVerdictTold result (run_of S.left S.faults source.old source.new K.held K.faults sink.old sink.new) verdict) }
     // 2: the words are refused; the source is not read. Reading them may want memory.
     ensures words_refused { result ≡ 2 → IsRefused words.now }
     ensures unread { result ≡ 2 → IsUnread (run_of S.left S.faults source.old source.new K.held K.faults sink.old sink.new) }

@@ -29,7 +29,7 @@ pub fn run_trial<R: Threads + Wait + Sync, K: Sink, G: Gate>(
     ensures { (told : Option (List ℕ)) (faults : ℕ) → IsRequestEnd (requests.Trial trial) (run_beside told faults K.held K.faults sink.old sink.new) result }
 {
     let settings = trial.settings;
-    let session = make_session(
+    let plain = make_session(
         alloc,
         trial.seed,
         trial.width,
@@ -37,6 +37,7 @@ pub fn run_trial<R: Threads + Wait + Sync, K: Sink, G: Gate>(
         settings.side,
         settings.rule,
     )?;
+    let session = plain.with_terms(settings.terms);
     let board = finished(rt, alloc, session, settings.workers, gate)?;
     end_of(put_summary(sink, summary_of(&board)), 0)
 }

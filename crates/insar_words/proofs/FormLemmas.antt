@@ -102,11 +102,15 @@ pub default_side : decimal 64 ≡ codes "64"
 unfolding digits
 default_side = refl
 
+pub default_slope : decimal 0 ≡ codes "0"
+unfolding digits
+default_slope = refl
+
 pub default_crew : decimal 2 ≡ codes "2"
 unfolding digits
 default_crew = refl
 
-pub ruleset defaults = (default_side, default_crew)
+pub ruleset defaults = (default_side, default_slope, default_crew)
 
 -- ---- values
 

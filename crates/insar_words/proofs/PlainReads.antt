@@ -19,10 +19,10 @@ use Rattle.clap.specs.declared.parser.matches.ValueSource.TheVariants.{CommandLi
 use Rattle.clap.proofs.WalkLemmas.{find-map}
 use Rattle.raster_model.specs.declared.weights.RuleKind.{RuleKind}
 use Rattle.raster_model.specs.declared.weights.RuleKind.TheVariants.{Least, Mean, Product}
-use Rattle.insar_words.specs.Asked.{AreTaken, Asks, AsksWorkers, asked, asks_by_names, is_named, number_asked}
-use Rattle.insar_words.specs.Forms.{Argument, CommandForm, Each, OfOne, Taking, Value, any_number, arguments_of, check_form, checking, drawing, fits, forms, grid_form, is_among, name, names, number, numbers, rule_entry, rule_name, rule_names, solving, tile_entry, trial_form, unwrap_form, word_of, workers_entry}
+use Rattle.insar_words.specs.Asked.{AreTaken, Asks, AsksWorkers, asked, asks_by_names, is_named, number_asked, slope_for}
+use Rattle.insar_words.specs.Forms.{Argument, CommandForm, Each, OfOne, Taking, Value, any_number, arguments_of, check_form, checking, drawing, fits, forms, grid_form, is_among, name, names, number, numbers, ramp_x_entry, ramp_y_entry, rule_entry, rule_name, rule_names, solving, tile_entry, trial_form, unwrap_form, word_of, workers_entry}
 use Rattle.insar_words.specs.Limits.{IsTrialSide}
-use Rattle.insar_words.specs.PlainForms.{ArePlain, EachOnce, Has, HasGiven, HasSet, IsPlainlyRead, IsUnset, PlainCheckIsRead, PlainFormsAreRead, PlainSolvingIsRead, PlainTrialIsRead, Setting, are_values, is_setting, number_in_value, option_named, pairs, rule_called, rule_set, set_to, side_set, workers_set}
+use Rattle.insar_words.specs.PlainForms.{ArePlain, EachOnce, Has, HasGiven, HasSet, IsPlainlyRead, IsUnset, PlainCheckIsRead, PlainFormsAreRead, PlainSolvingIsRead, PlainTrialIsRead, Setting, are_values, is_setting, number_in_value, option_named, options_set, pairs, rule_called, set_to, workers_set}
 use Rattle.insar_words.specs.Stated.{default_texts, stated}
 use Rattle.insar_words.proofs.FormLemmas.{AreApart, IsOption, IsSound, Owns, asks_form, lacks, rule_for, sound, takes_form}
 use Rattle.insar_words.proofs.PlainLemmas.{Choice, MayGive, Walks, given, row_is, setting_of, walks_all, zipped}
@@ -267,7 +267,7 @@ plain_forms words form values settings among fit plain texts_are =
     subst (λ (ss : List Setting). ArePlain form.options ss → texts words ≡ form.command ∷ (map word_of values ++ pairs ss) → IsPlainlyRead form words values ss) picked.settings_are
     (λ by spelled. read_plain form is values picked.all picked.may picked.are fit by words among spelled) plain texts_are
 
--- ---- the commands of today, by rule, side and workers
+-- ---- the commands of today, by options and workers
 
 number_has : (rows : List Row) (id : Text) (least most : ℕ) (o : Option Value) → option_map_or (fits (numbers least most)) o false ≡ true → Has rows id o → number_asked id rows ≡ Some (number_in_value o)
 number_has rows id least most o well has = grind arith
@@ -298,21 +298,22 @@ module _ (command : Text) (words : List (Bor Text)) (options : List Argument) (s
   well : (a : Argument) → option_named options a.id ≡ Some a → option_map_or (fits a.takes) a.default true ≡ true → Has rows a.id (set_to a settings) → option_map_or (fits a.takes) (set_to a settings) false ≡ true
   well a first default has = set_well options a first default settings plain.taken (has_some a.id (set_to a settings) has)
 
-  abbrev asks_as : option_named options (codes "tile") ≡ Some tile_entry → option_named options (codes "rule") ≡ Some rule_entry → Has rows (codes "tile") (set_to tile_entry settings) → Has rows (codes "rule") (set_to rule_entry settings)
-      → Asks command words (rule_set settings) (side_set settings)
-  asks_as tile rule side kind = record {
+  abbrev asks_as : Each (λ a. option_named options a.id ≡ Some a) checking → HasSet rows checking settings → Asks command words (options_set settings)
+  asks_as found has = record {
     taken = taken;
     rows = rows;
     named = named;
-    rule_is = rule_has rows (set_to rule_entry settings) (well rule_entry rule refl kind) kind;
-    side_is = number_has rows (codes "tile") 2 128 (set_to tile_entry settings) (well tile_entry tile refl side) side;
+    rule_is = rule_has rows (set_to rule_entry settings) (well rule_entry found.1.0 refl has.1.0) has.1.0;
+    side_is = number_has rows (codes "tile") 2 128 (set_to tile_entry settings) (well tile_entry found.0 refl has.0) has.0;
+    ramp_x_is = ap (option_map slope_for) (number_has rows (codes "ramp-x") 0 65535 (set_to ramp_x_entry settings) (well ramp_x_entry found.1.1.0 refl has.1.1.0) has.1.1.0);
+    ramp_y_is = ap (option_map slope_for) (number_has rows (codes "ramp-y") 0 65535 (set_to ramp_y_entry settings) (well ramp_y_entry found.1.1.1.0 refl has.1.1.1.0) has.1.1.1.0);
   }
 
 abbrev solving_as : (command : Text) (words : List (Bor Text)) (settings : List Setting) (rows : List Row) → ArePlain solving settings → AreTaken words → asked words ≡ Some (command, rows) → HasSet rows solving settings
-    → AsksWorkers command words (rule_set settings) (side_set settings) (workers_set settings)
+    → AsksWorkers command words (options_set settings) (workers_set settings)
 solving_as command words settings rows plain taken named has = record {
-  asks = asks_as command words solving settings plain rows taken named refl refl has.0 has.1.0;
-  workers_are = number_has rows (codes "workers") 1 8 (set_to workers_entry settings) (well command words solving settings plain rows taken named workers_entry refl refl has.1.1.0) has.1.1.0;
+  asks = asks_as command words solving settings plain rows taken named (refl, (refl, (refl, (refl, tt)))) (has.0, (has.1.0, (has.1.1.0, (has.1.1.1.0, tt))));
+  workers_are = number_has rows (codes "workers") 1 8 (set_to workers_entry settings) (well command words solving settings plain rows taken named workers_entry refl refl has.1.1.1.1.0) has.1.1.1.1.0;
 }
 
 pub plain_unwrap : PlainSolvingIsRead (codes "unwrap")
@@ -328,7 +329,7 @@ plain_grid words settings plain spelled =
 pub plain_check : PlainCheckIsRead
 plain_check words settings plain spelled =
     let r = plain_forms words check_form [] settings (inr (inr (inl refl))) refl plain spelled in
-    asks_as (codes "check") words checking settings plain r.rows r.taken r.named refl refl r.options.0 r.options.1.0
+    asks_as (codes "check") words checking settings plain r.rows r.taken r.named (refl, (refl, (refl, (refl, tt)))) r.options
 
 le_true : (m n : ℕ) → m ≤ n → nat_le m n ≡ true
 le_true m n h = grind (arith, nat_tests)

@@ -1,12 +1,17 @@
 -- From what clap finds to what words ask: they ask for one thing at most, and are refused or ask for something.
-use Rattle.std.proofs.Common.{◌≡◌, ◌≢◌, ◌∙◌, ◌*◌, ◌<◌, ◌≤◌, ◌⊎◌, ◌||◌, ◌&&◌, ◌^◌, ℕ, Bool, true, false, List, [], ◌∷◌, get_or, Option, Some, None, Result, Ok, Err, IfErr, IsErrAnd, refl, sym, ap, ap₂, inl, inr, subst, arith, codes}
+use Rattle.std.proofs.Common.{◌≡◌, ◌≢◌, ◌∙◌, ◌*◌, ◌<◌, ◌≤◌, ◌⊎◌, ◌||◌, ◌&&◌, ◌^◌, ℕ, Bool, cond, true, false, List, [], ◌∷◌, get_or, Option, Some, None, Result, Ok, Err, IfErr, IsErrAnd, refl, sym, ap, ap₂, inl, inr, subst, arith, codes}
 use native.Mathlib.Bridge.{le_prop}
 use mathlib.Core.HLevel.{is_prop→PathP, ×_prop}
-use Rattle.std.specs.Prelude.{Box, option_map}
+use Rattle.std.specs.Prelude.{Box, ◌≤ℤ◌, ◌-ℤ◌, ℤ, nat_lt, option_map, pos}
+use Rattle.std.proofs.Math.Dec.{T_prop}
+use Rattle.std.proofs.Math.Nat.{ℕ_set}
 use Rattle.std.specs.Borrow.{Bor}
 use Rattle.std.specs.Box.{box_value}
+use Rattle.std.specs.Str.{bytes_eq}
 use Rattle.std.specs.Str.Parse.{ParsesUnsigned, digits_value, without_leading_plus}
-use Rattle.std.proofs.lemmas.Bool.{and_parts, cases_lt}
+use Rattle.std.proofs.lemmas.Bool.{and_parts, cases_lt, ltb-false, ltb-true}
+use Rattle.std.proofs.lemmas.Int.{ints}
+use Rattle.std.proofs.lemmas.Slice.Eq.{bytes_eq-Decides}
 use Rattle.clap.specs.Walk.{texts}
 use Rattle.clap.specs.Words.{App, HasKind, HasMatchesOf, IsAmong, Kinds, ReadsOne, Row, Text, fault_of, first_of, found_of, is_simple, is_simple_and_free, kind_of, one_text, rows_of, subcommand_name_of, subcommand_of, subcommand_rows, subcommand_rows_of}
 use Rattle.clap.specs.declared.error.Error.{Error}
@@ -16,14 +21,15 @@ use Rattle.clap.specs.declared.parser.matches.ArgMatches.{ArgMatches}
 use Rattle.clap.specs.declared.parser.matches.ArgMatches.TheViews.{out-ArgMatches, out-SubCommand}
 use Rattle.clap.specs.declared.parser.matches.SubCommand.{SubCommand}
 use Rattle.clap.proofs.WalkLemmas.{first_value-rows, one_text-rows}
+use Rattle.raster_model.specs.declared.terms.Terms.{Terms}
 use Rattle.raster_model.specs.declared.weights.RuleKind.{RuleKind}
 use Rattle.raster_model.specs.declared.weights.RuleKind.TheVariants.{Least, Mean, Product}
-use Rattle.raster_model.specs.Limits.{IsTileSide, max_pixels}
-use Rattle.insar_words.specs.Asked.{AreTaken, AskSomething, Asks, IsCheck, IsCommand, IsGridCommand, IsRefused, IsTooLarge, IsTrialCommand, RefusedOrAsking, asked, asks_by_names, has_names, is_named, number_asked}
+use Rattle.raster_model.specs.Limits.{IsSlope, IsSteepness, IsTileSide, max_pixels}
+use Rattle.insar_words.specs.Asked.{AreTaken, AskSomething, Asks, IsCheck, IsCommand, IsGridCommand, IsRefused, IsTooLarge, IsTrialCommand, OneCommand, Options, RefusedOrAsking, asked, asks_by_names, has_names, is_named, number_asked, slope_asked, slope_for}
 use Rattle.insar_words.specs.Faults.{fault_of_kind}
-use Rattle.insar_words.specs.Forms.{CommandForm, OfOne, arguments_of, check_form, forms, grid_form, is_among, rule_entry, rule_name, rule_names, trial_form, unwrap_form}
+use Rattle.insar_words.specs.Forms.{CommandForm, Each, OfOne, arguments_of, check_form, forms, grid_form, is_among, rule_entry, rule_name, rule_names, trial_form, unwrap_form}
 use Rattle.insar_words.specs.Limits.{IsTrialSide, IsWorkers}
-use Rattle.insar_words.specs.Requests.{AreSettings, AskingIsRequest, CheckIsRequest, GridIsRequest, HasWordsCause, IsRequest, IsSession, OneRequest, TellsAll, TellsNothing, TellsRefusal, TellsRequest, TellsSettings, TellsTooMany, TrialIsRequest, UnwrapIsRequest}
+use Rattle.insar_words.specs.Requests.{AskingIsRequest, CheckIsRequest, GridIsRequest, HasWordsCause, IsRequest, IsSession, OneRequest, TellsAll, TellsNothing, TellsRefusal, TellsRequest, TellsSettings, TellsTooMany, TrialIsRequest, UnwrapIsRequest, options_of}
 use Rattle.insar_words.specs.Stated.{stated}
 use Rattle.insar_words.specs.Values.{HasChecking, HasNumber, HasSolving, HasValues, ReadsAs}
 use Rattle.insar_words.specs.declared.fault.WordsFault.{WordsFault}
@@ -60,7 +66,7 @@ settings_of (Grid settings) = settings
 settings_of (Check settings) = settings
 settings_of (Trial trial) = trial.settings
 
--- the command, the rule and the side that are told
+-- the command and the settings that are told
 told_by : (command : Text) (rows : List Row) (r : Request) → TellsRequest command rows r → (command ≡ command_of r) × TellsSettings rows (settings_of r)
 told_by command rows (Trial trial) tells = (tells.0, tells.1.0.0)
 told_by command rows r tells = (tells.0, tells.1.0)
@@ -77,20 +83,56 @@ tells_by words r is command rows named =
     let same = same_asked words is.command command is.rows rows is.named named in
     subst (λ (t : Text). TellsRequest t rows r) same.0 (subst (λ (rs : List Row). TellsRequest is.command rs r) same.1 is.tells)
 
-pub one_command : (words : List (Bor Text)) (command other : Text) (rule rule_too : RuleKind) (side side_too : ℕ) → Asks command words rule side → Asks other words rule_too side_too
-    → (command ≡ other) × ((rule ≡ rule_too) × (side ≡ side_too))
-one_command words command other rule rule_too side side_too a b =
-    let same = same_asked words command other a.rows b.rows a.named b.named in
-    let names : rule_name rule ≡ rule_name rule_too = cc in
-    (same.0, (one_rule rule rule_too names, cc))
+-- the options that rows tell
+abbrev AreTold : List Row → Options → Type 0
+AreTold rows options = (first_of (codes "rule") rows ≡ Some (rule_name options.rule)) × ((number_asked (codes "tile") rows ≡ Some options.side)
+    × ((slope_asked (codes "ramp-x") rows ≡ Some options.ramp_x) × (slope_asked (codes "ramp-y") rows ≡ Some options.ramp_y)))
 
-same_settings : (s t : Settings) → s.rule ≡ t.rule → s.side ≡ t.side → s.workers ≡ t.workers → s ≡ t
-same_settings s t rules sides crews = λ i.
+some_one : {X : Type 0} (o : Option X) (x y : X) → o ≡ Some x → o ≡ Some y → x ≡ y
+some_one o x y a b = cc
+
+one_choice : (rows : List Row) (options others : Options) → AreTold rows options → AreTold rows others → options ≡ others
+one_choice rows options others a b =
+    let rules = one_rule options.rule others.rule (some_one _ _ _ a.0 b.0) in
+    let sides = some_one _ options.side others.side a.1.0 b.1.0 in
+    let across = some_one _ options.ramp_x others.ramp_x a.1.1.0 b.1.1.0 in
+    let along = some_one _ options.ramp_y others.ramp_y a.1.1.1 b.1.1.1 in
+    λ i. record { rule = rules i; side = sides i; ramp_x = across i; ramp_y = along i }
+
+asks_told : (command : Text) (words : List (Bor Text)) (options : Options) (a : Asks command words options) → AreTold a.rows options
+asks_told command words options a = (a.rule_is, (a.side_is, (a.ramp_x_is, a.ramp_y_is)))
+
+pub one_command : OneCommand
+one_command words command other options others a b =
+    let same = same_asked words command other a.rows b.rows a.named b.named in
+    (same.0, one_choice b.rows options others (subst (λ (rows : List Row). AreTold rows options) same.1 (asks_told command words options a)) (asks_told other words others b))
+
+-- two bounds of an integer are one
+bound_prop : {a b : ℤ} (p q : a ≤ℤ b) → p ≡ q
+bound_prop p q = λ i. record { le = T_prop _ p.le q.le i }
+
+same_terms : (s t : Terms) → s.ramp_x ≡ t.ramp_x → s.ramp_y ≡ t.ramp_y → s.steep ≡ t.steep → s ≡ t
+same_terms s t xs ys steeps = λ i.
     record {
-      rule = rules i;
-      side = sides i;
+      ramp_x = xs i;
+      ramp_y = ys i;
+      steep = steeps i;
+      across = is_prop→PathP (λ j. IsSlope (xs j)) (λ j. ×_prop bound_prop bound_prop) s.across t.across i;
+      along = is_prop→PathP (λ j. IsSlope (ys j)) (λ j. ×_prop bound_prop bound_prop) s.along t.along i;
+      steepness = is_prop→PathP (λ j. IsSteepness (steeps j)) (λ j. ×_prop le_prop le_prop) s.steepness t.steepness i;
+    }
+
+same_settings : (s t : Settings) → options_of s ≡ options_of t → s.workers ≡ t.workers → s ≡ t
+same_settings s t options crews =
+    let terms : s.terms ≡ t.terms = same_terms s.terms t.terms (ap (λ (o : Options). o.ramp_x) options) (ap (λ (o : Options). o.ramp_y) options) (s.unsteep ∙ sym t.unsteep) in
+    λ i.
+    record {
+      rule = (options i).rule;
+      side = (options i).side;
+      terms = terms i;
       workers = crews i;
-      sides = is_prop→PathP (λ j. IsTileSide (sides j)) (λ j. ×_prop le_prop le_prop) s.sides t.sides i;
+      sides = is_prop→PathP (λ j. IsTileSide (options j).side) (λ j. ×_prop le_prop le_prop) s.sides t.sides i;
+      unsteep = is_prop→PathP (λ j. (terms j).steep ≡ 1) (λ j. ℕ_set (terms j).steep 1) s.unsteep t.unsteep i;
       crew = is_prop→PathP (λ j. IsWorkers (crews j)) (λ j. ×_prop le_prop le_prop) s.crew t.crew i;
     }
 
@@ -107,7 +149,7 @@ same_trial s t seeds widths heights settings = λ i.
     }
 
 same_told : (rows : List Row) (s t : Settings) → TellsSettings rows s → TellsSettings rows t → s.workers ≡ t.workers → s ≡ t
-same_told rows s t a b crew = let names : rule_name s.rule ≡ rule_name t.rule = cc in same_settings s t (one_rule s.rule t.rule names) (cc) crew
+same_told rows s t a b crew = same_settings s t (one_choice rows (options_of s) (options_of t) a b) crew
 
 one_told : (command : Text) (rows : List Row) (r q : Request) → TellsRequest command rows r → TellsRequest command rows q → r ≡ q
 one_told command rows (Unwrap s) (Unwrap t) a b = ap Unwrap (same_told rows s t a.1.0 b.1.0 (cc))
@@ -126,17 +168,35 @@ number_there : (id : Text) (least most : ℕ) (rows : List Row) → HasNumber id
 number_there id least most rows h =
     (digits_value 10 (without_leading_plus h.text), ap (option_map (λ (t : Text). digits_value 10 (without_leading_plus t))) h.told, (h.at_least, h.at_most))
 
+-- a slope that they have
+pub slope_fits : (n : ℕ) → n ≤ 65535 → IsSlope (slope_for n)
+slope_fits n high = go (nat_lt n 32768) refl
+  where
+    go : (b : Bool) → nat_lt n 32768 ≡ b → IsSlope (cond b (pos n) (pos n -ℤ pos 65536))
+    go true small = (omega (arith, ints), omega (arith, ints, ltb-true n 32768 small))
+    go false large = (omega (arith, ints, ltb-false n 32768 large), omega (arith, ints, high))
+
+slope_there : (id : Text) (rows : List Row) → HasNumber id 0 65535 rows → (slope : ℤ) × (slope_asked id rows ≡ Some slope) × IsSlope slope
+slope_there id rows h = let n = number_there id 0 65535 rows h in (slope_for n.0, ap (option_map slope_for) n.1, slope_fits n.0 n.2.1)
+
+-- the number of a slope is small
+pub slope_number : (id : Text) (rows : List Row) (n : ℕ) → HasNumber id 0 65535 rows → number_asked id rows ≡ Some n → n ≤ 65535
+slope_number id rows n h e = let there = number_there id 0 65535 rows h in subst (λ (m : ℕ). m ≤ 65535) (some_one _ there.0 n there.1 e) there.2.1
+
 -- the settings of a command, but for its workers
 settings_there : (rows : List Row) → HasChecking rows → is_named rule_entry.takes (first_of (codes "rule") rows) ≡ true → (workers : ℕ) → IsWorkers workers → (settings : Settings) × (TellsSettings rows settings × (settings.workers ≡ workers))
 settings_there rows has names workers crew =
     let side = number_there (codes "tile") 2 128 rows has.0 in
     let rule = rule_of_text has.1.0.0 (ap (is_named rule_entry.takes) (sym has.1.0.1) ∙ names) in
-    (record { rule = rule.0; side = side.0; workers = workers; sides = side.2; crew = crew }, ((has.1.0.1 ∙ ap Some rule.1, side.1), refl))
+    let x = slope_there (codes "ramp-x") rows has.1.1.0 in
+    let y = slope_there (codes "ramp-y") rows has.1.1.1.0 in
+    let terms : Terms = record { ramp_x = x.0; ramp_y = y.0; steep = 1; across = x.2; along = y.2; steepness = (omega arith, omega arith) } in
+    (record { rule = rule.0; side = side.0; terms = terms; workers = workers; sides = side.2; unsteep = refl; crew = crew }, ((has.1.0.1 ∙ ap Some rule.1, (side.1, (x.1, y.1))), refl))
 
 all_there : (rows : List Row) → HasSolving rows → is_named rule_entry.takes (first_of (codes "rule") rows) ≡ true → (settings : Settings) × TellsAll rows settings
 all_there rows has names =
-    let workers = number_there (codes "workers") 1 8 rows has.1.1.0 in
-    let s = settings_there rows (has.0, (has.1.0, tt)) names workers.0 workers.2 in
+    let workers = number_there (codes "workers") 1 8 rows has.1.1.1.1.0 in
+    let s = settings_there rows (has.0, (has.1.0, (has.1.1.0, (has.1.1.1.0, tt)))) names workers.0 workers.2 in
     (s.0, (s.1.0, workers.1 ∙ ap Some (sym s.1.1)))
 
 abbrev SomeAsked : List (Bor Text) → Type 0
@@ -167,9 +227,9 @@ asks_trial words rows taken named has names =
     let seed = number_there (codes "seed") 0 18446744073709551615 rows has.0 in
     let width = number_there (codes "width") 1 4096 rows has.1.0 in
     let height = number_there (codes "height") 1 4096 rows has.1.1.0 in
-    let asks : Asks (codes "trial") words s.0.rule s.0.side = record { taken = taken; rows = rows; named = named; rule_is = s.1.0.0; side_is = s.1.0.1 } in
+    let asks : Asks (codes "trial") words (options_of s.0) = record { taken = taken; rows = rows; named = named; rule_is = s.1.0.0; side_is = s.1.0.1.0; ramp_x_is = s.1.0.1.1.0; ramp_y_is = s.1.0.1.1.1 } in
     elim (cases_lt max_pixels (width.0 * height.0)) [
-      | inl large ↦ inl (seed.0, width.0, height.0, s.0.rule, s.0.side, (record { asks = asks; seed_is = seed.1; width_is = width.1; height_is = height.1 }, large))
+      | inl large ↦ inl (seed.0, width.0, height.0, options_of s.0, (record { asks = asks; seed_is = seed.1; width_is = width.1; height_is = height.1 }, large))
       | inr few ↦
           let trial : TrialSession = record { seed = seed.0; width = width.0; height = height.0; settings = s.0; across = width.2; along = height.2; few = few } in
           inr (Trial trial, record { taken = taken; command = codes "trial"; rows = rows; named = named; tells = (refl, (s.1, (seed.1, (width.1, height.1)))) })
@@ -225,23 +285,23 @@ refusal_is words command rows parsed named nothing = go (asks_by_names (asked wo
       | inr r ↦ absurd (not_few command rows r.0 large.0 large.1 (tells_by words r.0 r.1 command rows named))
     ]
 
--- a request by its command, its rule and its side
-asks_of : (words : List (Bor Text)) (r : Request) → IsRequest words r → Asks (command_of r) words (settings_of r).rule (settings_of r).side
+-- a request by its command and its options
+asks_of : (words : List (Bor Text)) (r : Request) → IsRequest words r → Asks (command_of r) words (options_of (settings_of r))
 asks_of words r is =
     let told = told_by is.command is.rows r is.tells in
-    record { taken = is.taken; rows = is.rows; named = is.named ∙ ap (λ (t : Text). Some (t, is.rows)) told.0; rule_is = told.1.0; side_is = told.1.1 }
+    record { taken = is.taken; rows = is.rows; named = is.named ∙ ap (λ (t : Text). Some (t, is.rows)) told.0; rule_is = told.1.0; side_is = told.1.1.0; ramp_x_is = told.1.1.1.0; ramp_y_is = told.1.1.1.1 }
 
-trial_of : (words : List (Bor Text)) (t : TrialSession) → IsRequest words (Trial t) → IsTrialCommand words t.seed t.width t.height t.settings.rule t.settings.side
+trial_of : (words : List (Bor Text)) (t : TrialSession) → IsRequest words (Trial t) → IsTrialCommand words t.seed t.width t.height (options_of t.settings)
 unfolding asks_of
 trial_of words t is =
     let told = is.tells.1.1 in
     record { asks = record { asks = asks_of words (Trial t) is; seed_is = told.0; width_is = told.1.0; height_is = told.1.1 }; pixels = t.few }
 
 as_something : (words : List (Bor Text)) (r : Request) → IsRequest words r → AskSomething words
-as_something words (Unwrap s) is = inl (s.rule, s.side, asks_of words (Unwrap s) is)
-as_something words (Grid s) is = inr (inl (s.rule, s.side, asks_of words (Grid s) is))
-as_something words (Check s) is = inr (inr (inl (s.rule, s.side, asks_of words (Check s) is)))
-as_something words (Trial t) is = inr (inr (inr (t.seed, t.width, t.height, t.settings.rule, t.settings.side, trial_of words t is)))
+as_something words (Unwrap s) is = inl (options_of s, asks_of words (Unwrap s) is)
+as_something words (Grid s) is = inr (inl (options_of s, asks_of words (Grid s) is))
+as_something words (Check s) is = inr (inr (inl (options_of s, asks_of words (Check s) is)))
+as_something words (Trial t) is = inr (inr (inr (t.seed, t.width, t.height, options_of t.settings, trial_of words t is)))
 
 refused_or_asks : (words : List (Bor Text)) → IsRefused words ⊎ AskSomething words
 refused_or_asks words = go (fault_of stated (texts words)) refl (asks_by_names (asked words)) refl
@@ -263,17 +323,17 @@ record IsAsked (words : List (Bor Text)) : Type 0 where
   few : command ≡ codes "trial" → TellsTooMany rows → ⊥
 
 something : (words : List (Bor Text)) → AskSomething words → IsAsked words
-something words (inl a) = record { command = codes "unwrap"; rows = a.2.rows; taken = a.2.taken; named = a.2.named; few = λ e. absurd (letters (codes "unwrap") (codes "trial") e (λ x. omega (arith, x))) }
-something words (inr (inl a)) = record { command = codes "grid"; rows = a.2.rows; taken = a.2.taken; named = a.2.named; few = λ e. absurd (letters (codes "grid") (codes "trial") e (λ x. omega (arith, x))) }
-something words (inr (inr (inl a))) = record { command = codes "check"; rows = a.2.rows; taken = a.2.taken; named = a.2.named; few = λ e. absurd (letters (codes "check") (codes "trial") e (λ x. omega (arith, x))) }
-something words (inr (inr (inr a))) = record { command = codes "trial"; rows = a.5.asks.asks.rows; taken = a.5.asks.asks.taken; named = a.5.asks.asks.named; few = λ e. few_told a.1 a.2 a.5.asks.asks.rows a.5.asks.width_is a.5.asks.height_is a.5.pixels }
+something words (inl a) = record { command = codes "unwrap"; rows = a.1.rows; taken = a.1.taken; named = a.1.named; few = λ e. absurd (letters (codes "unwrap") (codes "trial") e (λ x. omega (arith, x))) }
+something words (inr (inl a)) = record { command = codes "grid"; rows = a.1.rows; taken = a.1.taken; named = a.1.named; few = λ e. absurd (letters (codes "grid") (codes "trial") e (λ x. omega (arith, x))) }
+something words (inr (inr (inl a))) = record { command = codes "check"; rows = a.1.rows; taken = a.1.taken; named = a.1.named; few = λ e. absurd (letters (codes "check") (codes "trial") e (λ x. omega (arith, x))) }
+something words (inr (inr (inr a))) = record { command = codes "trial"; rows = a.4.asks.asks.rows; taken = a.4.asks.asks.taken; named = a.4.asks.asks.named; few = λ e. few_told a.1 a.2 a.4.asks.asks.rows a.4.asks.width_is a.4.asks.height_is a.4.pixels }
 
 never_large : (words : List (Bor Text)) → IsTooLarge words → AskSomething words → ⊥
 never_large words large a =
     let is = something words a in
-    let x = large.5.0 in
+    let x = large.4.0 in
     let same = same_asked words is.command (codes "trial") is.rows x.asks.rows is.named x.asks.named in
-    is.few same.0 (subst TellsTooMany (sym same.1) (large.1, large.2, (x.width_is, (x.height_is, large.5.1))))
+    is.few same.0 (subst TellsTooMany (sym same.1) (large.1, large.2, (x.width_is, (x.height_is, large.4.1))))
 
 never_both : (words : List (Bor Text)) → IsRefused words → AskSomething words → ⊥
 never_both words (inl not_taken) a = not_taken (something words a).taken
@@ -290,41 +350,41 @@ some_request words a = elim (asked_some words (something words a).taken) [
   | inr r ↦ r
 ]
 
--- a request that words ask for by a command, a rule and a side has them
-has_asked : (words : List (Bor Text)) (command : Text) (rule : RuleKind) (side : ℕ) (q : Request) → Asks command words rule side → IsRequest words q → (command_of q ≡ command) × AreSettings rule side (settings_of q)
-has_asked words command rule side q a is = one_command words (command_of q) command (settings_of q).rule rule (settings_of q).side side (asks_of words q is) a
+-- a request that words ask for by a command and options has them
+has_asked : (words : List (Bor Text)) (command : Text) (options : Options) (q : Request) → Asks command words options → IsRequest words q → (command_of q ≡ command) × (options_of (settings_of q) ≡ options)
+has_asked words command options q a is = one_command words (command_of q) command (options_of (settings_of q)) options (asks_of words q is) a
 
-by_unwrap : (words : List (Bor Text)) (rule : RuleKind) (side : ℕ) (q : Request) → IsCommand words rule side → IsRequest words q → (settings : Settings) × AreSettings rule side settings × IsRequest words (Unwrap settings)
-by_unwrap words rule side (Unwrap s) a is = (s, (has_asked words (codes "unwrap") rule side (Unwrap s) a is).1, is)
-by_unwrap words rule side q a is = absurd (letters (command_of q) (codes "unwrap") (has_asked words (codes "unwrap") rule side q a is).0 (λ x. omega (arith, x)))
+by_unwrap : (words : List (Bor Text)) (options : Options) (q : Request) → IsCommand words options → IsRequest words q → (settings : Settings) × (options_of settings ≡ options) × IsRequest words (Unwrap settings)
+by_unwrap words options (Unwrap s) a is = (s, (has_asked words (codes "unwrap") options (Unwrap s) a is).1, is)
+by_unwrap words options q a is = absurd (letters (command_of q) (codes "unwrap") (has_asked words (codes "unwrap") options q a is).0 (λ x. omega (arith, x)))
 
-by_grid : (words : List (Bor Text)) (rule : RuleKind) (side : ℕ) (q : Request) → IsGridCommand words rule side → IsRequest words q → (settings : Settings) × AreSettings rule side settings × IsRequest words (Grid settings)
-by_grid words rule side (Grid s) a is = (s, (has_asked words (codes "grid") rule side (Grid s) a is).1, is)
-by_grid words rule side q a is = absurd (letters (command_of q) (codes "grid") (has_asked words (codes "grid") rule side q a is).0 (λ x. omega (arith, x)))
+by_grid : (words : List (Bor Text)) (options : Options) (q : Request) → IsGridCommand words options → IsRequest words q → (settings : Settings) × (options_of settings ≡ options) × IsRequest words (Grid settings)
+by_grid words options (Grid s) a is = (s, (has_asked words (codes "grid") options (Grid s) a is).1, is)
+by_grid words options q a is = absurd (letters (command_of q) (codes "grid") (has_asked words (codes "grid") options q a is).0 (λ x. omega (arith, x)))
 
-by_check : (words : List (Bor Text)) (rule : RuleKind) (side : ℕ) (q : Request) → IsCheck words rule side → IsRequest words q → (settings : Settings) × AreSettings rule side settings × IsRequest words (Check settings)
-by_check words rule side (Check s) a is = (s, (has_asked words (codes "check") rule side (Check s) a is).1, is)
-by_check words rule side q a is = absurd (letters (command_of q) (codes "check") (has_asked words (codes "check") rule side q a is).0 (λ x. omega (arith, x)))
+by_check : (words : List (Bor Text)) (options : Options) (q : Request) → IsCheck words options → IsRequest words q → (settings : Settings) × (options_of settings ≡ options) × IsRequest words (Check settings)
+by_check words options (Check s) a is = (s, (has_asked words (codes "check") options (Check s) a is).1, is)
+by_check words options q a is = absurd (letters (command_of q) (codes "check") (has_asked words (codes "check") options q a is).0 (λ x. omega (arith, x)))
 
-by_trial : (words : List (Bor Text)) (seed width height : ℕ) (rule : RuleKind) (side : ℕ) (q : Request) → IsTrialCommand words seed width height rule side → IsRequest words q
-    → (trial : TrialSession) × IsSession seed width height rule side trial × IsRequest words (Trial trial)
-by_trial words seed width height rule side (Trial t) a is =
+by_trial : (words : List (Bor Text)) (seed width height : ℕ) (options : Options) (q : Request) → IsTrialCommand words seed width height options → IsRequest words q
+    → (trial : TrialSession) × IsSession seed width height options trial × IsRequest words (Trial trial)
+by_trial words seed width height options (Trial t) a is =
     let asks = a.asks in
     let told = (tells_by words (Trial t) is (codes "trial") asks.asks.rows asks.asks.named).1.1 in
-    (t, record { seed_is = cc; width_is = cc; height_is = cc; settings_are = (has_asked words (codes "trial") rule side (Trial t) asks.asks is).1 }, is)
-by_trial words seed width height rule side q a is = absurd (letters (command_of q) (codes "trial") (has_asked words (codes "trial") rule side q a.asks.asks is).0 (λ x. omega (arith, x)))
+    (t, record { seed_is = cc; width_is = cc; height_is = cc; options_are = (has_asked words (codes "trial") options (Trial t) asks.asks is).1 }, is)
+by_trial words seed width height options q a is = absurd (letters (command_of q) (codes "trial") (has_asked words (codes "trial") options q a.asks.asks is).0 (λ x. omega (arith, x)))
 
 pub unwrap_is_request : UnwrapIsRequest
-unwrap_is_request words = (λ rule side a. (let q = some_request words (inl (rule, side, a)) in by_unwrap words rule side q.0 a q.1), λ s is. asks_of words (Unwrap s) is)
+unwrap_is_request words = (λ options a. (let q = some_request words (inl (options, a)) in by_unwrap words options q.0 a q.1), λ s is. asks_of words (Unwrap s) is)
 
 pub grid_is_request : GridIsRequest
-grid_is_request words = (λ rule side a. (let q = some_request words (inr (inl (rule, side, a))) in by_grid words rule side q.0 a q.1), λ s is. asks_of words (Grid s) is)
+grid_is_request words = (λ options a. (let q = some_request words (inr (inl (options, a))) in by_grid words options q.0 a q.1), λ s is. asks_of words (Grid s) is)
 
 pub check_is_request : CheckIsRequest
-check_is_request words = (λ rule side a. (let q = some_request words (inr (inr (inl (rule, side, a)))) in by_check words rule side q.0 a q.1), λ s is. asks_of words (Check s) is)
+check_is_request words = (λ options a. (let q = some_request words (inr (inr (inl (options, a)))) in by_check words options q.0 a q.1), λ s is. asks_of words (Check s) is)
 
 pub trial_is_request : TrialIsRequest
-trial_is_request words = (λ seed width height rule side a. (let q = some_request words (inr (inr (inr (seed, width, height, rule, side, a)))) in by_trial words seed width height rule side q.0 a q.1), λ t is. trial_of words t is)
+trial_is_request words = (λ seed width height options a. (let q = some_request words (inr (inr (inr (seed, width, height, options, a)))) in by_trial words seed width height options q.0 a q.1), λ t is. trial_of words t is)
 
 pub asking_is_request : AskingIsRequest
 asking_is_request words = (some_request words, as_something words)
@@ -366,6 +426,17 @@ reads_as words command rows e is =
     let same : (some.form.command, some.rows) ≡ (command, rows) = let named = some.named in cc in
     subst (λ (p : Text × List Row). ReadsAs p.0 p.1) same
     (as_one (λ form. (some.form.command ≡ form.command) × HasValues (arguments_of form) some.rows) some.form (refl, some.values) forms some.among)
+
+-- what the matches of a command have, by its name
+pub has_own : (form : CommandForm) (command : Text) (rows : List Row) → command ≡ form.command → (fs : List CommandForm) → Each (λ f. (f ≡ form) ⊎ (bytes_eq form.command f.command ≡ false)) fs
+    → OfOne (λ f. (command ≡ f.command) × HasValues (arguments_of f) rows) fs → HasValues (arguments_of form) rows
+has_own form command rows is [] apart among = absurd among
+has_own form command rows is (f ∷ fs) apart (inr more) = has_own form command rows is fs apart.1 more
+has_own form command rows is (f ∷ fs) apart (inl has) = go apart.0
+  where
+    go : (f ≡ form) ⊎ (bytes_eq form.command f.command ≡ false) → HasValues (arguments_of form) rows
+    go (inl same) = subst (λ (g : CommandForm). HasValues (arguments_of g) rows) same has.1
+    go (inr other) = let equal : bytes_eq form.command f.command ≡ true = (bytes_eq-Decides form.command f.command).1 (sym is ∙ has.0) in absurd cc
 
 module _ {Z : Type 0} where
   joined : (o : Option (Box SubCommand Z)) (name : Text) (rows : List Row) → Some name ≡ option_map (λ b. (out-SubCommand (box_value b)).name.now) o → Some rows ≡ option_map (λ p. p.1) (subcommand_rows o)

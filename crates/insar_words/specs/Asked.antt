@@ -1,5 +1,5 @@
 -- What words ask, by what clap reads of them as the stated command.
-use Rattle.std.specs.Prelude.{◌≡◌, ◌⊎◌, ◌||◌, ◌*◌, ◌<◌, ◌≤◌, ℕ, Bool, true, not, List, [], Option, Some, None, codes, option_map}
+use Rattle.std.specs.Prelude.{◌≡◌, ◌⊎◌, ◌||◌, ◌*◌, ◌-ℤ◌, ◌<◌, ◌≤◌, ℕ, ℤ, pos, nat_lt, Bool, true, if◌then◌else◌, not, List, [], Option, Some, None, codes, option_map}
 use Rattle.std.specs.Borrow.{Bor}
 use Rattle.std.specs.List.{list_all}
 use Rattle.std.specs.Str.{bytes_eq}
@@ -36,60 +36,76 @@ pub record AreTaken (words : List (Bor Text)) : Type 0 where
   pub parsed : fault_of stated (texts words) ≡ []
   pub in_names : asks_by_names (asked words) ≡ true
 
--- the words ask for this subcommand, by a rule of weights and with tiles of a side
-pub record Asks (command : Text) (words : List (Bor Text)) (rule : RuleKind) (side : ℕ) : Type 0 where
+-- ---- what options say of a session: the rule of weights, the side of tiles, and what an expected ramp rises along a right and along a down edge
+pub record Options : Type 0 where
+  pub rule : RuleKind
+  pub side : ℕ
+  pub ramp_x : ℤ
+  pub ramp_y : ℤ
+
+-- the slope for which a number from 0 to 65535 stands: itself, or from 32768 on itself less 65536
+abbrev pub slope_for : ℕ → ℤ
+slope_for n = if nat_lt n 32768 then pos n else (pos n -ℤ pos 65536)
+
+abbrev pub slope_asked : Text → List Row → Option ℤ
+slope_asked id rows = option_map slope_for (number_asked id rows)
+
+-- the words ask for this subcommand with these options
+pub record Asks (command : Text) (words : List (Bor Text)) (options : Options) : Type 0 where
   pub taken : AreTaken words
   pub rows : List Row
   pub named : asked words ≡ Some (command, rows)
-  pub rule_is : first_of (codes "rule") rows ≡ Some (rule_name rule)
-  pub side_is : number_asked (codes "tile") rows ≡ Some side
+  pub rule_is : first_of (codes "rule") rows ≡ Some (rule_name options.rule)
+  pub side_is : number_asked (codes "tile") rows ≡ Some options.side
+  pub ramp_x_is : slope_asked (codes "ramp-x") rows ≡ Some options.ramp_x
+  pub ramp_y_is : slope_asked (codes "ramp-y") rows ≡ Some options.ramp_y
 
 -- and with this number of workers
-pub record AsksWorkers (command : Text) (words : List (Bor Text)) (rule : RuleKind) (side workers : ℕ) : Type 0 where
-  pub asks : Asks command words rule side
+pub record AsksWorkers (command : Text) (words : List (Bor Text)) (options : Options) (workers : ℕ) : Type 0 where
+  pub asks : Asks command words options
   pub workers_are : number_asked (codes "workers") asks.rows ≡ Some workers
 
 -- the words ask for `unwrap`, for `grid`, or for `check`
-abbrev pub IsCommand : List (Bor Text) → RuleKind → ℕ → Type 0
-IsCommand words rule side = Asks (codes "unwrap") words rule side
+abbrev pub IsCommand : List (Bor Text) → Options → Type 0
+IsCommand words options = Asks (codes "unwrap") words options
 
-abbrev pub IsGridCommand : List (Bor Text) → RuleKind → ℕ → Type 0
-IsGridCommand words rule side = Asks (codes "grid") words rule side
+abbrev pub IsGridCommand : List (Bor Text) → Options → Type 0
+IsGridCommand words options = Asks (codes "grid") words options
 
-abbrev pub IsCheck : List (Bor Text) → RuleKind → ℕ → Type 0
-IsCheck words rule side = Asks (codes "check") words rule side
+abbrev pub IsCheck : List (Bor Text) → Options → Type 0
+IsCheck words options = Asks (codes "check") words options
 
 -- the words ask for a test session of any size
-pub record AsksTrial (words : List (Bor Text)) (seed width height : ℕ) (rule : RuleKind) (side : ℕ) : Type 0 where
-  pub asks : Asks (codes "trial") words rule side
+pub record AsksTrial (words : List (Bor Text)) (seed width height : ℕ) (options : Options) : Type 0 where
+  pub asks : Asks (codes "trial") words options
   pub seed_is : number_asked (codes "seed") asks.rows ≡ Some seed
   pub width_is : number_asked (codes "width") asks.rows ≡ Some width
   pub height_is : number_asked (codes "height") asks.rows ≡ Some height
 
 -- the words ask for `trial`, with no more pixels than a session may have
-pub record IsTrialCommand (words : List (Bor Text)) (seed width height : ℕ) (rule : RuleKind) (side : ℕ) : Type 0 where
-  pub asks : AsksTrial words seed width height rule side
+pub record IsTrialCommand (words : List (Bor Text)) (seed width height : ℕ) (options : Options) : Type 0 where
+  pub asks : AsksTrial words seed width height options
   pub pixels : width * height ≤ max_pixels
 
 -- the words ask for a test session with more pixels
 abbrev pub IsTooLarge : List (Bor Text) → Type 0
-IsTooLarge words = (seed : ℕ) × (width : ℕ) × (height : ℕ) × (rule : RuleKind) × (side : ℕ) × (AsksTrial words seed width height rule side × (max_pixels < width * height))
+IsTooLarge words = (seed : ℕ) × (width : ℕ) × (height : ℕ) × (options : Options) × (AsksTrial words seed width height options × (max_pixels < width * height))
 
 -- the words are refused: they are not taken, or they ask for too many pixels
 abbrev pub IsRefused : List (Bor Text) → Type 0
 IsRefused words = (AreTaken words → ⊥) ⊎ IsTooLarge words
 
--- words ask for one subcommand at most, with one rule and one side
+-- words ask for one subcommand at most, with one choice of options
 abbrev pub OneCommand : Type 0
-OneCommand = (words : List (Bor Text)) (command other : Text) (rule rule_too : RuleKind) (side side_too : ℕ) → Asks command words rule side → Asks other words rule_too side_too → (command ≡ other) × ((rule ≡ rule_too) × (side ≡ side_too))
+OneCommand = (words : List (Bor Text)) (command other : Text) (options others : Options) → Asks command words options → Asks other words others → (command ≡ other) × (options ≡ others)
 
 -- the words ask for one of the four
 abbrev pub AskSomething : List (Bor Text) → Type 0
 AskSomething words =
-    ((rule : RuleKind) × (side : ℕ) × IsCommand words rule side)
-    ⊎ (((rule : RuleKind) × (side : ℕ) × IsGridCommand words rule side)
-    ⊎ (((rule : RuleKind) × (side : ℕ) × IsCheck words rule side)
-    ⊎ ((seed : ℕ) × (width : ℕ) × (height : ℕ) × (rule : RuleKind) × (side : ℕ) × IsTrialCommand words seed width height rule side)))
+    ((options : Options) × IsCommand words options)
+    ⊎ (((options : Options) × IsGridCommand words options)
+    ⊎ (((options : Options) × IsCheck words options)
+    ⊎ ((seed : ℕ) × (width : ℕ) × (height : ℕ) × (options : Options) × IsTrialCommand words seed width height options)))
 
 -- words are refused or ask for something, and never both
 abbrev pub RefusedOrAsking : Type 0

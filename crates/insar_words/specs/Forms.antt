@@ -63,6 +63,12 @@ tile_entry = record { id = codes "tile"; takes = numbers 2 128; default = Some (
 abbrev pub rule_entry : Argument
 rule_entry = record { id = codes "rule"; takes = names rule_names; default = Some (name (rule_name Least)) }
 
+abbrev pub ramp_x_entry : Argument
+ramp_x_entry = record { id = codes "ramp-x"; takes = numbers 0 65535; default = Some (number 0) }
+
+abbrev pub ramp_y_entry : Argument
+ramp_y_entry = record { id = codes "ramp-y"; takes = numbers 0 65535; default = Some (number 0) }
+
 abbrev pub workers_entry : Argument
 workers_entry = record { id = codes "workers"; takes = numbers 1 8; default = Some (number 2) }
 
@@ -77,10 +83,10 @@ height_entry = record { id = codes "height"; takes = numbers 1 4096; default = N
 
 -- what is asked of a check, of a run, and of a test session besides
 abbrev pub checking : List Argument
-checking = tile_entry ∷ rule_entry ∷ []
+checking = tile_entry ∷ rule_entry ∷ ramp_x_entry ∷ ramp_y_entry ∷ []
 
 abbrev pub solving : List Argument
-solving = tile_entry ∷ rule_entry ∷ workers_entry ∷ []
+solving = tile_entry ∷ rule_entry ∷ ramp_x_entry ∷ ramp_y_entry ∷ workers_entry ∷ []
 
 abbrev pub drawing : List Argument
 drawing = seed_entry ∷ width_entry ∷ height_entry ∷ []

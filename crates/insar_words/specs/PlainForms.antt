@@ -9,8 +9,8 @@ use Rattle.clap.specs.Walk.{texts}
 use Rattle.raster_model.specs.declared.weights.RuleKind.{RuleKind}
 use Rattle.raster_model.specs.declared.weights.RuleKind.TheVariants.{Least, Mean, Product}
 use Rattle.raster_model.specs.Limits.{max_pixels}
-use Rattle.insar_words.specs.Asked.{AreTaken, AsksWorkers, IsCheck, IsTrialCommand, asked, number_asked}
-use Rattle.insar_words.specs.Forms.{Argument, CommandForm, Each, OfOne, Value, checking, fits, forms, name, number, rule_entry, solving, tile_entry, word_of, workers_entry}
+use Rattle.insar_words.specs.Asked.{AreTaken, AsksWorkers, IsCheck, IsTrialCommand, Options, asked, number_asked, slope_for}
+use Rattle.insar_words.specs.Forms.{Argument, CommandForm, Each, OfOne, Value, checking, fits, forms, name, number, ramp_x_entry, ramp_y_entry, rule_entry, solving, tile_entry, word_of, workers_entry}
 use Rattle.insar_words.specs.Limits.{IsTrialSide}
 
 -- what one pair sets: an option by its name, to a value
@@ -89,9 +89,6 @@ abbrev pub number_in_value : Option Value → ℕ
 number_in_value (Some (number n)) = n
 number_in_value other = 0
 
-abbrev pub side_set : List Setting → ℕ
-side_set settings = number_in_value (set_to tile_entry settings)
-
 abbrev pub workers_set : List Setting → ℕ
 workers_set settings = number_in_value (set_to workers_entry settings)
 
@@ -100,21 +97,22 @@ abbrev pub rule_called : Option Value → RuleKind
 rule_called (Some (name text)) = if bytes_eq (codes "mean") text then Mean else (if bytes_eq (codes "product") text then Product else Least)
 rule_called other = Least
 
-abbrev pub rule_set : List Setting → RuleKind
-rule_set settings = rule_called (set_to rule_entry settings)
+-- the options that pairs set
+abbrev pub options_set : List Setting → Options
+options_set settings = record { rule = rule_called (set_to rule_entry settings); side = number_in_value (set_to tile_entry settings); ramp_x = slope_for (number_in_value (set_to ramp_x_entry settings)); ramp_y = slope_for (number_in_value (set_to ramp_y_entry settings)) }
 
 -- so are `unwrap` and `grid`
 abbrev pub PlainSolvingIsRead : Text → Type 0
 PlainSolvingIsRead command = (words : List (Bor Text)) (settings : List Setting) → ArePlain solving settings → texts words ≡ command ∷ pairs settings
-    → AsksWorkers command words (rule_set settings) (side_set settings) (workers_set settings)
+    → AsksWorkers command words (options_set settings) (workers_set settings)
 
 -- `check`, which has no `--workers`
 abbrev pub PlainCheckIsRead : Type 0
 PlainCheckIsRead = (words : List (Bor Text)) (settings : List Setting) → ArePlain checking settings → texts words ≡ codes "check" ∷ pairs settings
-    → IsCheck words (rule_set settings) (side_set settings)
+    → IsCheck words (options_set settings)
 
 -- and `trial` with its positionals
 abbrev pub PlainTrialIsRead : Type 0
 PlainTrialIsRead = (words : List (Bor Text)) (seed width height : ℕ) (settings : List Setting) → seed < 2 ^ 64 → IsTrialSide width → IsTrialSide height → width * height ≤ max_pixels → ArePlain solving settings
     → texts words ≡ codes "trial" ∷ decimal seed ∷ decimal width ∷ decimal height ∷ pairs settings
-    → IsTrialCommand words seed width height (rule_set settings) (side_set settings) × AsksWorkers (codes "trial") words (rule_set settings) (side_set settings) (workers_set settings)
+    → IsTrialCommand words seed width height (options_set settings) × AsksWorkers (codes "trial") words (options_set settings) (workers_set settings)

@@ -2,9 +2,8 @@
 use Rattle.std.specs.Prelude.{◌≡◌, ◌⊎◌, ◌*◌, ◌<◌, ℕ, false, List, Some, codes, ⊤}
 use Rattle.std.specs.Borrow.{Bor}
 use Rattle.clap.specs.Words.{Row, Text, first_of}
-use Rattle.raster_model.specs.declared.weights.RuleKind.{RuleKind}
 use Rattle.raster_model.specs.Limits.{max_pixels}
-use Rattle.insar_words.specs.Asked.{AreTaken, AskSomething, IsCheck, IsCommand, IsGridCommand, IsRefused, IsTrialCommand, asked, asks_by_names, is_named, number_asked}
+use Rattle.insar_words.specs.Asked.{AreTaken, AskSomething, IsCheck, IsCommand, IsGridCommand, IsRefused, IsTrialCommand, Options, asked, asks_by_names, is_named, number_asked, slope_asked}
 use Rattle.insar_words.specs.Forms.{rule_entry, rule_name}
 use Rattle.insar_words.specs.declared.fault.WordsFault.{WordsFault}
 use Rattle.insar_words.specs.declared.fault.WordsFault.TheVariants as faults
@@ -17,7 +16,8 @@ use Rattle.insar_words.specs.declared.trial.Trial.{Trial as TrialSession}
 
 -- these settings, but for the workers; and with them
 abbrev pub TellsSettings : List Row → Settings → Type 0
-TellsSettings rows settings = (first_of (codes "rule") rows ≡ Some (rule_name settings.rule)) × (number_asked (codes "tile") rows ≡ Some settings.side)
+TellsSettings rows settings = (first_of (codes "rule") rows ≡ Some (rule_name settings.rule)) × ((number_asked (codes "tile") rows ≡ Some settings.side)
+    × ((slope_asked (codes "ramp-x") rows ≡ Some settings.terms.ramp_x) × (slope_asked (codes "ramp-y") rows ≡ Some settings.terms.ramp_y)))
 
 abbrev pub TellsAll : List Row → Settings → Type 0
 TellsAll rows settings = TellsSettings rows settings × (number_asked (codes "workers") rows ≡ Some settings.workers)
@@ -70,34 +70,34 @@ HasWordsCause words faults.Memory = ⊤
 abbrev pub OneRequest : Type 0
 OneRequest = (words : List (Bor Text)) (request other : Request) → IsRequest words request → IsRequest words other → request ≡ other
 
--- settings with this rule and this side
-abbrev pub AreSettings : RuleKind → ℕ → Settings → Type 0
-AreSettings rule side settings = (settings.rule ≡ rule) × (settings.side ≡ side)
+-- what settings say of a session
+abbrev pub options_of : Settings → Options
+options_of settings = record { rule = settings.rule; side = settings.side; ramp_x = settings.terms.ramp_x; ramp_y = settings.terms.ramp_y }
 
--- what is asked by rule and side is one request; and a request is asked by its rule and its side
+-- what is asked with some options is one request; and a request is asked with its options
 abbrev pub UnwrapIsRequest : Type 0
-UnwrapIsRequest = (words : List (Bor Text)) → ((rule : RuleKind) (side : ℕ) → IsCommand words rule side → (settings : Settings) × AreSettings rule side settings × IsRequest words (Unwrap settings))
-    × ((settings : Settings) → IsRequest words (Unwrap settings) → IsCommand words settings.rule settings.side)
+UnwrapIsRequest = (words : List (Bor Text)) → ((options : Options) → IsCommand words options → (settings : Settings) × (options_of settings ≡ options) × IsRequest words (Unwrap settings))
+    × ((settings : Settings) → IsRequest words (Unwrap settings) → IsCommand words (options_of settings))
 
 abbrev pub GridIsRequest : Type 0
-GridIsRequest = (words : List (Bor Text)) → ((rule : RuleKind) (side : ℕ) → IsGridCommand words rule side → (settings : Settings) × AreSettings rule side settings × IsRequest words (Grid settings))
-    × ((settings : Settings) → IsRequest words (Grid settings) → IsGridCommand words settings.rule settings.side)
+GridIsRequest = (words : List (Bor Text)) → ((options : Options) → IsGridCommand words options → (settings : Settings) × (options_of settings ≡ options) × IsRequest words (Grid settings))
+    × ((settings : Settings) → IsRequest words (Grid settings) → IsGridCommand words (options_of settings))
 
 abbrev pub CheckIsRequest : Type 0
-CheckIsRequest = (words : List (Bor Text)) → ((rule : RuleKind) (side : ℕ) → IsCheck words rule side → (settings : Settings) × AreSettings rule side settings × IsRequest words (Check settings))
-    × ((settings : Settings) → IsRequest words (Check settings) → IsCheck words settings.rule settings.side)
+CheckIsRequest = (words : List (Bor Text)) → ((options : Options) → IsCheck words options → (settings : Settings) × (options_of settings ≡ options) × IsRequest words (Check settings))
+    × ((settings : Settings) → IsRequest words (Check settings) → IsCheck words (options_of settings))
 
 -- this test session
-pub record IsSession (seed width height : ℕ) (rule : RuleKind) (side : ℕ) (trial : TrialSession) : Type 0 where
+pub record IsSession (seed width height : ℕ) (options : Options) (trial : TrialSession) : Type 0 where
   pub seed_is : trial.seed ≡ seed
   pub width_is : trial.width ≡ width
   pub height_is : trial.height ≡ height
-  pub settings_are : AreSettings rule side trial.settings
+  pub options_are : options_of trial.settings ≡ options
 
 abbrev pub TrialIsRequest : Type 0
 TrialIsRequest = (words : List (Bor Text))
-    → ((seed width height : ℕ) (rule : RuleKind) (side : ℕ) → IsTrialCommand words seed width height rule side → (trial : TrialSession) × IsSession seed width height rule side trial × IsRequest words (Trial trial))
-    × ((trial : TrialSession) → IsRequest words (Trial trial) → IsTrialCommand words trial.seed trial.width trial.height trial.settings.rule trial.settings.side)
+    → ((seed width height : ℕ) (options : Options) → IsTrialCommand words seed width height options → (trial : TrialSession) × IsSession seed width height options trial × IsRequest words (Trial trial))
+    × ((trial : TrialSession) → IsRequest words (Trial trial) → IsTrialCommand words trial.seed trial.width trial.height (options_of trial.settings))
 
 -- words that ask for something are a request, and the other way round
 abbrev pub AskingIsRequest : Type 0

@@ -5,13 +5,13 @@ ghost use Rattle.insar_words.specs.PlainForms.{PlainCheckIsRead, PlainFormsAreRe
 ghost use Rattle.insar_words.specs.Requests.{AskingIsRequest, CheckIsRequest, GridIsRequest, OneRequest, TrialIsRequest, UnwrapIsRequest};
 ghost use Rattle.std.specs.Prelude.{codes};
 
-/// Words ask for at most one thing: one subcommand, one rule and one side; and they are one request at most.
+/// Words ask for at most one thing: one subcommand with one choice of options; and they are one request at most.
 pub fn one_request()
     ensures command { OneCommand }
     ensures request { OneRequest }
 {}
 
-/// What words ask for by a command, a rule and a side is one request, and the other way round.
+/// What words ask for by a command and its options is one request, and the other way round.
 pub fn commands_are_requests()
     ensures unwrap { UnwrapIsRequest }
     ensures grid { GridIsRequest }
@@ -25,8 +25,8 @@ pub fn words_are_refused_or_ask()
     ensures { RefusedOrAsking }
 {}
 
-/// Words in plain form are read, and ask exactly what they say: of any command; and by rule, side and workers of each
-/// of the four.
+/// Words in plain form are read, and ask exactly what they say: of any command; and by options and workers of each of
+/// the four.
 pub fn plain_forms_are_read()
     ensures any { PlainFormsAreRead }
     ensures unwrap { PlainSolvingIsRead (codes "unwrap") }

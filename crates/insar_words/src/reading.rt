@@ -1,10 +1,11 @@
 ghost use Rattle.clap.specs.Words.{first_of, found_of, rows_of};
-ghost use Rattle.insar_words.specs.Asked.{number_asked};
+ghost use Rattle.insar_words.specs.Asked.{number_asked, slope_asked, slope_for as slope_by};
 ghost use Rattle.insar_words.specs.Forms.{rule_name};
 ghost use Rattle.insar_words.specs.Limits.{IsWorkers};
+ghost use Rattle.raster_model.specs.Limits.{IsSlope};
 ghost use Rattle.insar_words.specs.Requests.{HasWordsCause, IsRequest, NamesNoRule, TellsNothing, TellsRefusal, TellsRequest, TellsSettings, TellsTooMany, TellsTrial};
 ghost use Rattle.insar_words.specs.Values.{HasChecking, HasNumber, HasRaster, HasSolving, HasText, ReadsAs};
-ghost use Rattle.std.specs.Prelude.{◌≡◌, ◌⊎◌, IfErr, IfNone, IfOk, IfSome, Some, codes};
+ghost use Rattle.std.specs.Prelude.{◌≡◌, ◌≤◌, ◌⊎◌, IfErr, IfNone, IfOk, IfSome, Some, codes};
 
 use crate::fault::WordsFault;
 use crate::request::Request;
@@ -12,7 +13,7 @@ use crate::settings::Settings;
 use crate::stated::stated_command;
 use crate::trial::Trial;
 use clap::ArgMatches;
-use raster_model::{DEFAULT_WORKERS, MAX_PIXELS, RuleKind};
+use raster_model::{DEFAULT_WORKERS, MAX_PIXELS, RuleKind, Terms};
 use std::alloc::Global;
 
 /// What words ask for, as the stated command reads them. Words are refused if that command refuses them, a call for
@@ -97,8 +98,42 @@ fn settings_with(found: &ArgMatches<'_>, workers: u32) -> Option<Settings>
     Some(Settings {
         rule: rule_told(found)?,
         side: number_told(found, "tile"),
+        terms: terms_told(found),
         workers,
     })
+}
+
+/// The terms that matches give: a ramp, and the steepness 1.
+fn terms_told(found: &ArgMatches<'_>) -> Terms
+    requires { HasChecking (rows_of (found_of found.now)) }
+    ensures across { slope_asked (codes "ramp-x") (rows_of (found_of found.now)) ≡ Some result.ramp_x }
+    ensures along { slope_asked (codes "ramp-y") (rows_of (found_of found.now)) ≡ Some result.ramp_y }
+    ensures unsteep { result.steep ≡ 1 }
+{
+    Terms {
+        ramp_x: slope_told(found, "ramp-x"),
+        ramp_y: slope_told(found, "ramp-y"),
+        steep: 1,
+    }
+}
+
+/// The slope that matches give for a name.
+fn slope_told(found: &ArgMatches<'_>, name: &str) -> i32
+    requires { HasNumber name.now 0 65535 (rows_of (found_of found.now)) }
+    ensures told { slope_asked name.now (rows_of (found_of found.now)) ≡ Some result }
+    ensures slope { IsSlope result }
+{
+    slope_for(number_told(found, name))
+}
+
+/// The slope for which a number from 0 to 65535 stands: itself, or from 32768 on itself less 65536.
+fn slope_for(number: u32) -> i32
+    requires { number ≤ 65535 }
+    ensures told { result ≡ slope_by number }
+    ensures slope { IsSlope result }
+{
+    let slope = number as i32;
+    if number < 32768 { slope } else { slope - 65536 }
 }
 
 /// The rule that matches name.

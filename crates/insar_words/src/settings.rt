@@ -1,8 +1,8 @@
 ghost use Rattle.insar_words.specs.Limits.{IsWorkers};
 ghost use Rattle.raster_model.specs.Limits.{IsTileSide};
-ghost use Rattle.std.specs.Prelude.{◌*◌, ◌≤◌};
+ghost use Rattle.std.specs.Prelude.{◌≡◌, ◌*◌, ◌≤◌};
 
-use raster_model::RuleKind;
+use raster_model::{RuleKind, Terms};
 
 /// What the options of a run set.
 #[derive(Clone, Copy)]
@@ -11,8 +11,11 @@ pub struct Settings {
     pub rule: RuleKind,
     /// Pixels along a side of a tile.
     pub side: u32,
+    /// On which terms the phase is unwrapped: the ramp that is expected, and the steepness 1.
+    pub terms: Terms,
     /// How many workers there are.
     pub workers: u32,
     pub ghost sides: { IsTileSide side },
+    pub ghost unsteep: { terms.steep ≡ 1 },
     pub ghost crew: { IsWorkers workers },
 }

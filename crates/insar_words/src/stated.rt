@@ -1,5 +1,5 @@
 ghost use Rattle.clap.specs.Words.{app_of, rule_of};
-ghost use Rattle.insar_words.specs.Forms.{checking, drawing, height_entry, rule_entry, seed_entry, solving, tile_entry, width_entry, workers_entry};
+ghost use Rattle.insar_words.specs.Forms.{checking, drawing, height_entry, ramp_x_entry, ramp_y_entry, rule_entry, seed_entry, solving, tile_entry, width_entry, workers_entry};
 ghost use Rattle.insar_words.specs.Stated.{option_rule, positional_rule, stated, with_rules};
 ghost use Rattle.std.specs.Prelude.{◌≡◌, IfOk, false, map};
 
@@ -23,18 +23,22 @@ pub fn stated_command<'a>(alloc: Global) -> Result<Command<'a>, AllocError>
         .subcommand(trial)
 }
 
-/// The command with `--tile`, `--rule` and `--workers`.
+/// The command with `--tile`, `--rule`, `--ramp-x`, `--ramp-y` and `--workers`.
 fn with_solving<'a>(alloc: Global, command: Command<'a>) -> Result<Command<'a>, AllocError>
     ensures { IfOk result (λ more. app_of more ≡ with_rules (app_of command.entry) (map option_rule solving)) }
 {
     with_checking(alloc, command)?.arg(workers_option(alloc))
 }
 
-/// The command with `--tile` and `--rule`.
+/// The command with `--tile`, `--rule`, `--ramp-x` and `--ramp-y`.
 fn with_checking<'a>(alloc: Global, command: Command<'a>) -> Result<Command<'a>, AllocError>
     ensures { IfOk result (λ more. app_of more ≡ with_rules (app_of command.entry) (map option_rule checking)) }
 {
-    command.arg(tile_option(alloc))?.arg(rule_option(alloc))
+    command
+        .arg(tile_option(alloc))?
+        .arg(rule_option(alloc))?
+        .arg(ramp_x_option(alloc))?
+        .arg(ramp_y_option(alloc))
 }
 
 /// The command with `SEED`, `WIDTH` and `HEIGHT`.
@@ -71,6 +75,36 @@ fn rule_option<'a>(alloc: Global) -> Arg<'a>
             "How two pixels weigh their edge: least, mean or product, else least, as in --rule mean",
         )
         .default_value("least")
+}
+
+/// `--ramp-x N`
+#[tactic(auto, using(crate::proofs::FormLemmas::defaults))]
+fn ramp_x_option<'a>(alloc: Global) -> Arg<'a>
+    ensures rule { rule_of result ≡ option_rule ramp_x_entry }
+    ensures local { result.global ≡ false }
+{
+    Arg::new(alloc, "ramp-x")
+        .long("ramp-x")
+        .help(
+            "What the phase is expected to rise from a pixel to its right neighbour, in 1/65536 cycle, from 0 to 65535; from 32768 on it falls, by 65536 less the number. Else 0, as in --ramp-x 52429",
+        )
+        .value_parser(value_parser!(u32).range(0..=65535))
+        .default_value("0")
+}
+
+/// `--ramp-y N`
+#[tactic(auto, using(crate::proofs::FormLemmas::defaults))]
+fn ramp_y_option<'a>(alloc: Global) -> Arg<'a>
+    ensures rule { rule_of result ≡ option_rule ramp_y_entry }
+    ensures local { result.global ≡ false }
+{
+    Arg::new(alloc, "ramp-y")
+        .long("ramp-y")
+        .help(
+            "What the phase is expected to rise from a pixel to its lower neighbour, in 1/65536 cycle, as --ramp-x says. Else 0, as in --ramp-y 52429",
+        )
+        .value_parser(value_parser!(u32).range(0..=65535))
+        .default_value("0")
 }
 
 /// `--workers N`

@@ -33,6 +33,9 @@ unwrap --tile 128 --rule product --workers 1|P2 2 2 65535 0 16384 49152 32768 P2
 unwrap --tile 2|P2 4 1 65535 0 40000 14464 54464|0|!4 1;tile 2;rule least;kept * 0;kept * 0;published 1 0;costs 0 0;ncols 4;nrows 1;%0 -25536 -51072 -76608;faces 0;faces 1;flows 0;shown 1 0;end;
 unwrap --tile 3|P2 4 3 65535 0 0 0 0 0 0 0 20000 0 0 0 40000 P2 4 3 9 4 4 4 4 4 4 4 4 9 9 9 9|0|!4 3;tile 3;rule least;kept * 0;kept * 0;published 1 0;costs 0 8;ncols 4;nrows 3;%0 0 0 -65536;0 0 0 -45536;0 0 0 -25536;faces 0 *;faces 1;flows -4 -4 8;shown 1 0;end;
 unwrap --tile 3|P2 3 4 65535 0 20000 40000 10000 30000 50000 20000 40000 60000 30000 50000 4464 P2 3 4 1 1 1 1 1 1 1 1 1 1 1 1 1 P2 3 4 1 1 0 1 1 0 1 1 0 1 1 1 1|0|!3 4;tile 3;rule least;kept * 0;kept * 0;published 1 0;costs 0 0;ncols 3;nrows 4;%0 ~ 40000;10000 ~ 50000;20000 ~ 60000;30000 50000 70000;faces 0 *;faces 1;flows *;shown 1 0;end;
+-- Around a ramp, which version 2 of a report tells: a turn has no residue by it.
+unwrap --ramp-x 30000|P2 2 2 65535 0 16384 49152 32768|0|insar-report 2;size 2 2;tile 64;rule least;ramp 30000 0;steep 1;kept 0 0;published 1 0;costs 0 0;ncols 2;nrows 2;%0 16384;-16384 32768;faces 0 *;flows;shown 1 0;end;
+unwrap --ramp-y 65535 --ramp-x 0|P2 1 1 65535 7|0|insar-report 2;size 1 1;tile 64;rule least;ramp 0 -1;steep 1;kept 0 0;published 1 0;costs 0 0;ncols 1;nrows 1;%7;faces 0;flows;shown 1 0;end;
 -- Scripts: a look, two settle commands and a look; an edit that changes no pixel; an edit of a turn; a look alone,
 -- where nothing is solved.
 unwrap|P2 4 1 65535 0 20000 40000 60000;analyst;show;settle;settle;show;end;|0|!4 1;tile 64;rule least;shown 1 none;kept 0 0;published 1 0;costs 0 0;ncols 4;nrows 1;%0 20000 40000 60000;faces 0;flows;settled 1 0;shown 1 0;end;
@@ -85,6 +88,15 @@ check --tile 3|P2 4 3 65535 0 0 0 0 0 0 0 20000 0 0 0 40000 P2 4 3 9 4 4 4 4 4 4
 check --rule mean --tile 3|P2 4 3 65535 0 0 0 0 0 0 0 20000 0 0 0 40000 P2 4 3 9 4 4 4 4 4 4 4 4 9 9 9 9;end;!4 3;tile 3;rule least;kept 0 0;kept 1 0;published 1 0;costs 0 8;ncols 4;nrows 3;%0 0 0 -65536;0 0 0 -45536;0 0 0 -25536;faces 0 0 0 0 0;faces 1;flows -4 -4 8;shown 1 0;end;|1|refused header 4;
 check --tile 2|P2 4 3 65535 0 0 0 0 0 0 0 20000 0 0 0 40000 P2 4 3 9 4 4 4 4 4 4 4 4 9 9 9 9;end;!4 3;tile 3;rule least;kept 0 0;kept 1 0;published 1 0;costs 0 8;ncols 4;nrows 3;%0 0 0 -65536;0 0 0 -45536;0 0 0 -25536;faces 0 0 0 0 0;faces 1;flows -4 -4 8;shown 1 0;end;|1|refused header 3;
 check|P2 4 1 65535 0 20000 40000 60000;analyst;settle;|3|input fault 14 no end;
+-- The terms of a report are compared with those of the words; version 1 has the plain ones.
+check|P2 4 1 65535 0 20000 40000 60000;end;insar-report 2;size 4 1;tile 64;rule least;ramp 0 0;steep 1;kept 0 0;published 1 0;costs 0 0;ncols 4;nrows 1;%0 20000 40000 60000;faces 0;flows;shown 1 0;end;|0|accepted;
+check --ramp-x 30000|P2 4 1 65535 0 40000 14464 54464;end;insar-report 2;size 4 1;tile 64;rule least;ramp 30000 0;steep 1;kept 0 0;published 1 0;costs 0 0;ncols 4;nrows 1;%0 40000 80000 120000;faces 0;flows;shown 1 0;end;|0|accepted;
+check --ramp-x 30000|P2 4 1 65535 0 40000 14464 54464;end;!4 1;tile 64;rule least;kept 0 0;published 1 0;costs 0 0;ncols 4;nrows 1;%0 40000 80000 120000;faces 0;flows;shown 1 0;end;|1|refused header 5;
+check --ramp-x 30000 --ramp-y 1|P2 4 1 65535 0 40000 14464 54464;end;insar-report 2;size 4 1;tile 64;rule least;ramp 30000 0;steep 1;kept 0 0;published 1 0;costs 0 0;ncols 4;nrows 1;%0 40000 80000 120000;faces 0;flows;shown 1 0;end;|1|refused header 5;
+check --ramp-x 30000|P2 4 1 65535 0 40000 14464 54464;end;insar-report 2;size 4 1;tile 64;rule least;ramp 30000 0;steep 2;kept 0 0;published 1 0;costs 0 0;ncols 4;nrows 1;%0 40000 80000 120000;faces 0;flows;shown 1 0;end;|1|refused header 6;
+check --ramp-x 30000|P2 4 1 65535 0 40000 14464 54464;end;insar-report 2;size 4 1;tile 64;rule least;ramp 30000 0;steep 17;kept 0 0;published 1 0;costs 0 0;ncols 4;nrows 1;%0 40000 80000 120000;faces 0;flows;shown 1 0;end;|3|report fault line 6;
+check|P2 4 1 65535 0 20000 40000 60000;end;insar-report 2;size 4 1;tile 64;rule least;ramp 32768 0;steep 1;end;|3|report fault line 5;
+check|P2 4 1 65535 0 20000 40000 60000;end;insar-report 3;|3|report fault line 1;
 -- The last surface alone, as a grid, and nothing where none was published.
 grid --tile 2|P2 4 1 65535 0 40000 14464 54464|0|ncols 4;nrows 1;%0 -25536 -51072 -76608;
 grid --tile 3|P2 4 3 65535 0 0 0 0 0 0 0 20000 0 0 0 40000 P2 4 3 9 4 4 4 4 4 4 4 4 9 9 9 9|0|ncols 4;nrows 3;%0 0 0 -65536;0 0 0 -45536;0 0 0 -25536;
@@ -92,11 +104,18 @@ grid --tile 3|P2 3 4 65535 0 20000 40000 10000 30000 50000 20000 40000 60000 300
 grid|P2 2 2 65535 0 16384 49152 32768;analyst;settle;mask 0 0 0 0;settle;end;|0|ncols 2;nrows 2;%~ 16384;49152 32768;
 grid|P2 4 1 65535 0 20000 40000 60000;analyst;show;end;|0|
 grid||3|input fault 1 magic phase;
+-- Around a ramp, in one tile and in two, downwards, and at both ends of the range of slopes.
+grid --ramp-x 30000|P2 4 1 65535 0 40000 14464 54464|0|ncols 4;nrows 1;%0 40000 80000 120000;
+grid --tile 2 --ramp-x 30000|P2 4 1 65535 0 40000 14464 54464|0|ncols 4;nrows 1;%0 40000 80000 120000;
+grid --ramp-y 30000 --tile 2|P2 1 4 65535 0 40000 14464 54464|0|ncols 1;nrows 4;%0;40000;80000;120000;
+grid --ramp-x 32768|P2 2 1 65535 0 0|0|ncols 2;nrows 1;%0 -65536;
+grid --ramp-x 32767|P2 2 1 65535 0 0|0|ncols 2;nrows 1;%0 0;
 -- The four lines of a session that is made; how many workers there are changes none.
 trial 0 1 1||0|pixels 1;residues 0;unmasked 1;cost 0;
 trial 7 64 64 --tile 32||0|pixels 4096;residues 450;unmasked 3834;cost 16469;
 trial 7 64 64 --tile 32 --workers 1||0|pixels 4096;residues 450;unmasked 3834;cost 16469;
 trial 7 64 64 --workers 4 --tile 32||0|pixels 4096;residues 450;unmasked 3834;cost 16469;
+trial 7 64 64 --tile 32 --ramp-x 32768||0|pixels 4096;residues 1807;unmasked 3834;cost 61500;
 -- Words that are read in other spellings, so that the missing source is what is refused.
 unwrap --tile=64||3|input fault 1 magic phase;
 unwrap --tile 02||3|input fault 1 magic phase;
@@ -119,6 +138,9 @@ unwrap --tile 64 --tile 64||2|words refused;
 unwrap --tile 1||2|words refused;
 unwrap --tile 129||2|words refused;
 unwrap --tile --workers 2||2|words refused;
+unwrap --ramp-x 65536||2|words refused;
+check --ramp-y 65536||2|words refused;
+grid --ramp-x -1||2|words refused;
 unwrap --workers 0||2|words refused;
 unwrap --workers 9||2|words refused;
 grid --workers 2 --tile||2|words refused;
@@ -201,6 +223,6 @@ fn rows_are_answered(rt: HostRuntime) -> Result<(), Fail> {
     for row in ROWS.lines() {
         count = count.saturating_add(judge(&rt, row)?);
     }
-    assert!(rt; count == 99);
+    assert!(rt; count == 118);
     Ok(())
 }

@@ -23,5 +23,5 @@ returns-clause-read g c =
     let a : Call = call_of g.S.Source.left g.S.Source.faults c.args.feed.now c.read_session.new.feed in
     let b : Call = call_of g.S.Source.left g.S.Source.faults c.set_limit.new.self c.read_report.new.feed in
     let feed = c.read_report.new.feed in
-    both_read c.args.settings.rule c.args.settings.side c.in_ok-session.session c.in_ok-session.ensures.scene c.in_ok-session.ensures.terms a.told a.left b.told b.left a.at a.end b.at b.end a.limit b.limit a.before a.after b.before b.after (pending_of c.read_report.new.feed)
+    both_read c.args.settings c.in_ok-session.session c.with_terms.result c.in_ok-session.ensures.scene c.with_terms.ensures a.told a.left b.told b.left a.at a.end b.at b.end a.limit b.limit a.before a.after b.before b.after (pending_of c.read_report.new.feed)
     (g.S.Source.left c.read_report.new.feed.source.now) c.in_ok-report.report refl c.in_ok-report.ensures.fits c.set_limit.ensures.left (omega (arith, c.set_limit.ensures.limit, c.set_limit.ensures.handed, c.handed.ensures)) (omega (arith, feed.ordered, feed.limited, feed.counted, c.in_ok-report.ensures.same_limit)) c.in_ok-session.ensures.read c.in_ok-report.ensures.read

@@ -1,6 +1,8 @@
 use Rattle.std.proofs.Common.{refl}
 use Rattle.std.proofs.lemmas.Result.{err_from_is_err_and}
 use Rattle.report_text.specs.Reports.{report_of}
+use Rattle.report_text.specs.Terms.{terms_of}
+use Rattle.report_text.proofs.TermsLemmas.{version_is}
 use Rattle.insar_words.specs.declared.request.Request.TheVariants.{Grid}
 use Rattle.insar_top.specs.Grid.{last_grid}
 use Rattle.insar_top.specs.Run.{Run, run_of}
@@ -18,5 +20,5 @@ pub returns : goal.returns
 returns g c =
     let b = c.in_ok-board.board in
     let run : Run = run_of g.S.Source.left g.S.Source.faults c.args.source.now c.solved.new.source g.K.Sink.held g.K.Sink.faults c.args.sink.now c.write_last_grid.new.sink in
-    let ready = grid_ready c.args.settings run b.session (report_of b.session b.entries b.surfaces) c.in_ok-board.ensures.given (is_report b (c.write_last_grid.ensures.certified c.in_ok-board.ensures.complete)) c.write_last_grid.ensures.ranges in
+    let ready = grid_ready c.args.settings run b.session (report_of b.session b.entries b.surfaces) c.in_ok-board.ensures.given (is_report b (c.write_last_grid.ensures.certified c.in_ok-board.ensures.complete) (version_is (terms_of b.session.scene.terms))) c.write_last_grid.ensures.ranges in
     rw c.end_of.ensures (tt, put_ends (Grid c.args.settings) run 0 (last_grid (report_of b.session b.entries b.surfaces)) ready c.write_last_grid.result refl c.write_last_grid.ensures.put)

@@ -6,5 +6,5 @@ use Rattle.insar_top.proofs.session.read_fed.Goals as goal
 
 pub returns-clause-given : goal.returns-clause-given
 returns-clause-given g c =
-    given_alone (call_of g.S.Source.left g.S.Source.faults c.args.feed.now c.read_session.new.feed) (pending_of c.read_session.new.feed) (g.S.Source.left c.read_session.new.feed.source.now) c.args.settings.rule c.args.settings.side c.in_ok-session.session refl
-    c.in_ok-session.ensures.scene c.in_ok-session.ensures.terms c.in_ok-session.ensures.read
+    given_alone (call_of g.S.Source.left g.S.Source.faults c.args.feed.now c.read_session.new.feed) (pending_of c.read_session.new.feed) (g.S.Source.left c.read_session.new.feed.source.now) c.args.settings c.in_ok-session.session c.with_terms.result refl
+    c.in_ok-session.ensures.scene c.with_terms.ensures c.in_ok-session.ensures.read

@@ -1,0 +1,11 @@
+-- A session on the options of words: their rule of weights, their side of tiles, and the terms of their ramp.
+use Rattle.std.specs.Prelude.{◌≡◌}
+use Rattle.insar_words.specs.Asked.{Options}
+use Rattle.raster_model.specs.declared.session.Session.{Session}
+
+pub record HasOptions (options : Options) (s : Session) : Type 0 where
+  pub rule : s.scene.rule ≡ options.rule
+  pub side : s.scene.tiling.side ≡ options.side
+  pub ramp_x : s.scene.terms.ramp_x ≡ options.ramp_x
+  pub ramp_y : s.scene.terms.ramp_y ≡ options.ramp_y
+  pub steepness : s.scene.terms.steep ≡ 1

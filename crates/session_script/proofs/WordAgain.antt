@@ -237,3 +237,7 @@ no_mask_rect line fields e f (Unmask r) s = (let q : 109 ≡ 117 = ap (λ (t : L
 pub no_unmask_rect : (line fields : List ℕ) → HasNoFront (codes "mask") line → line ≡ codes "unmask" ++ fields → rect_in fields ≡ None → (edit : Edit) → Spells line (words.Command (Change edit)) → ⊥
 no_unmask_rect line fields n e f (Mask r) s = n s.0 s.1
 no_unmask_rect line fields n e f (Unmask r) s = other_rect (codes "unmask") line fields r e f s
+
+pub no_edit : (line : List ℕ) → HasNoFront (codes "mask") line → HasNoFront (codes "unmask") line → (edit : Edit) → Spells line (words.Command (Change edit)) → ⊥
+no_edit line n o (Mask r) s = n s.0 s.1
+no_edit line n o (Unmask r) s = o s.0 s.1

@@ -54,7 +54,6 @@ pub fn word_of(line: &[u8]) -> Option<Word>
 }
 
 /// The edit of a line.
-#[tactic(auto, using(crate::proofs::WordAgain::stripped, crate::proofs::WordAgain::not_stripped, crate::proofs::WordAgain::edit_spelled, crate::proofs::WordAgain::no_mask_rect, crate::proofs::WordAgain::no_unmask_rect))]
 fn edit_of(line: &[u8]) -> Option<Edit>
     ensures { MatchOption result ((edit : AnyEdit) → Spells line.now (words.Command (Change edit)) → ⊥) (λ edit. Spells line.now (words.Command (Change edit))) }
 {

@@ -53,7 +53,6 @@ fn read_later<S: Source>(
 }
 
 /// The next byte, which stays.
-#[tactic(auto, using(crate::proofs::CallLemmas::sees, crate::proofs::CallLemmas::sees_not))]
 pub fn see_byte<S: Source>(feed: &mut Feed<S>) -> Result<Option<u8>, SessionFault>
     ensures same_source { source_name feed.new ≡ source_name feed.old }
     ensures limit { limit_of feed.new ≡ limit_of feed.old }

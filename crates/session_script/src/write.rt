@@ -1,5 +1,3 @@
-#![tactic(auto, using(text_lines::proofs::AddLemmas::adds_then, text_lines::proofs::ChainLemmas::adds_two))]
-
 ghost use Rattle.insar_ports.specs.Bytes.{GainsProperPrefix, HasRisen, with_end};
 ghost use Rattle.session_script.specs.Sections.{sections_of};
 ghost use Rattle.session_script.specs.Sessions.{session_of};
@@ -32,7 +30,6 @@ pub fn write_session<K: Sink>(session: &Session, sink: &mut K) -> Result<(), Wri
     text.finish()
 }
 
-#[tactic(auto, using(text_lines::proofs::ChainLemmas::adds_four), unfolding(crate::specs::Text::session_text))]
 fn add_session<K: Sink>(text: &mut TextWriter<K>, session: &Session)
     ensures { Adds (view_of K.held K.faults text.old) (view_of K.held K.faults text.new) (session_text (session_of session.now)) }
 {

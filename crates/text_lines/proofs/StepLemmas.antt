@@ -1,5 +1,5 @@
 -- Parts of a text that are read one after another: what they took together, and why the second was not read.
-use Rattle.std.proofs.Common.{◌≡◌, ℕ, ◌+◌, List, Option, [], ◌∷◌, ◌++◌, length, inl, inr, ◌⊎◌, refl, ap, subst, ◌∙◌, arith}
+use Rattle.std.proofs.Common.{◌≡◌, ℕ, ◌+◌, List, Option, [], ◌∷◌, ◌++◌, ◌≤◌, length, inl, inr, ◌⊎◌, refl, ap, subst, ◌∙◌, arith}
 use Rattle.insar_ports.specs.Calls.{Call, Moves, Takes}
 use Rattle.insar_ports.proofs.CallLemmas.{call, Moves-then, Takes-sized, Takes-then, risen_before, stays}
 use Rattle.text_lines.specs.declared.fault.LineFault.{LineFault}
@@ -25,6 +25,10 @@ moves_join a b p q = Moves-then a.told a.at a.left a.end b.left b.end a.limit b.
 -- the same, found by what is known of the two
 pub moves_on : {told mid left : Option (List ℕ)} {at at_mid end limit limit_2 before middle after : ℕ} → Moves (call told at mid at_mid limit before middle) → Moves (call mid at_mid left end limit_2 middle after) → Moves (call told at left end limit before after)
 moves_on {told} {mid} {left} {at} {at_mid} {end} {limit} {limit_2} {before} {middle} {after} p q = Moves-then told at mid at_mid left end limit limit_2 before middle after p q
+
+-- a call that took nothing, the same way
+pub moves_not : {told left : Option (List ℕ)} {at end limit before after : ℕ} → left ≡ told → end ≡ at → before ≤ after → Moves (call told at left end limit before after)
+moves_not {told} {left} {at} {end} {limit} {before} {after} l e g = stays told left at end limit before after l e g
 
 -- what the bytes that were taken are, of two calls and otherwise
 pub takes_join : (a b : Call) (P Q R : List ℕ → List ℕ → Type 0) → ((p m q r : List ℕ) → P p m → m ≡ q ++ r → Q q r → R (p ++ q) r) → Takes a P → Takes (second a b) Q → Takes (joined a b) R

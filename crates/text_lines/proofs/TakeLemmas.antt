@@ -1,18 +1,21 @@
 -- The bytes of a line, taken part by part.
-use Rattle.std.proofs.Common.{◌≡◌, ℕ, zero, suc, ◌+◌, ◌≤◌, ◌<◌, List, [], ◌∷◌, ◌++◌, ◌⊎◌, length, take, drop, get_or, All, Bool, true, false, inl, inr, refl, sym, ap, ◌∙◌, append_assoc, arith}
+use Rattle.std.proofs.Common.{◌≡◌, ℕ, zero, suc, ◌+◌, ◌≤◌, ◌<◌, List, Some, [], ◌∷◌, ◌++◌, ◌⊎◌, length, take, drop, get_or, All, Bool, true, false, inl, inr, refl, sym, ap, subst, ◌∙◌, append_assoc, arith}
 use Rattle.std.specs.Prelude.{◌==◌, MatchBool}
 use Rattle.std.proofs.lemmas.Bool.{eq-eqb, eqb-true}
-use Rattle.std.proofs.lemmas.List.{append-nil, drop_more, length-append, take-append-drop, take_all, take_at}
+use Rattle.std.proofs.lemmas.List.{append-nil, drop_more, get_or-take, length-append, length-take-le, take-append-drop, take_all, take_at}
 use Rattle.std.proofs.lemmas.List.Elements.{All-append, All-from_get_or, All-nil, All-same}
 use mir.Val.{bool_byte}
-use Rattle.insar_ports.specs.Bytes.{with_front}
+use Rattle.insar_ports.specs.Bytes.{HasMore, HasRisen, IsAtEnd, with_front}
+use Rattle.insar_ports.specs.declared.feed.FeedFault.{FeedFault}
+use Rattle.insar_ports.specs.declared.feed.FeedFault.TheVariants as feed_faults
 use Rattle.insar_ports.specs.Calls.{Call, Moves, Takes}
 use Rattle.insar_ports.specs.Lines.{IsInLine}
-use Rattle.insar_ports.proofs.CallLemmas.{risen_before, takes_part}
+use Rattle.insar_ports.proofs.CallLemmas.{at_told, if_told, risen_before, takes_part}
 use Rattle.text_lines.specs.declared.fault.LineFault.{LineFault}
 use Rattle.text_lines.specs.declared.fault.LineFault.TheVariants as faults
 use Rattle.text_lines.specs.declared.lines.LineEnd.{LineEnd}
 use Rattle.text_lines.specs.declared.lines.LineEnd.TheVariants.{Whole, Long, Cut}
+use Rattle.text_lines.specs.Faults.{line_fault_of}
 use Rattle.text_lines.specs.LineWords.{HasNextCause, IsLineRead, KeepsPart, feed_if}
 use Rattle.text_lines.proofs.CauseLemmas.{takes_as}
 use Rattle.text_lines.proofs.StepLemmas.{joined, second, takes_join, takes_sized}
@@ -31,6 +34,11 @@ line_feed_at bytes count lt is =
 -- and where it does not
 pub no_line_feed : (bytes : List ℕ) → ((k : ℕ) → 0 ≤ k → k < length bytes → (get_or bytes k 0 == 10) ≡ true → ⊥) → All IsInLine bytes
 no_line_feed bytes none = All-from_get_or IsInLine bytes 0 (λ k lt e. none k (omega arith) lt (eq-eqb (get_or bytes k 0) 10 e))
+
+pub none_before : (bytes : List ℕ) (count : ℕ) → count < length bytes → ((k : ℕ) → 0 ≤ k → k < count → (get_or bytes k 0 == 10) ≡ true → ⊥) → All IsInLine (take count bytes)
+none_before bytes count lt none = All-from_get_or IsInLine (take count bytes) 0 (λ k l e.
+    let below : k < count = omega (arith, l, lt, length-take-le count bytes (omega (arith, lt))) in
+    none k (omega arith) below (eq-eqb (get_or bytes k 0) 10 (sym (get_or-take count bytes k 0 below) ∙ e)))
 
 -- a part, and LF if it ended
 taken_front : (ready part : List ℕ) (ended : Bool) (one : ℕ) → MatchBool ended ((rest : List ℕ) × (ready ≡ part ++ 10 ∷ rest)) (ready ≡ part) → one ≡ bool_byte ended → take (length part + one) ready ≡ part ++ feed_if ended
@@ -84,3 +92,15 @@ line_ends c most size now end n (inl (few, is)) h = rw is (takes_sized c (KeepsP
 line_ends c most size now end n (inr (many, is)) h = rw is (takes_sized c (KeepsPart most [] now true) (λ text rest. (line : List ℕ) × ((text ≡ line ++ 10 ∷ []) × (All IsInLine line × (most < length line))))
     (λ text rest s (line, (t, (inside, f))). let q = ap length t in (line, (t, (inside, omega (arith, q, s, n, many, length-append line (10 ∷ []))))))
     h)
+
+-- a byte was looked at, and none was taken
+module _ (c : Call) (l : c.left ≡ c.told) (e : c.end ≡ c.at) where
+  nothing_taken : (P : List ℕ → List ℕ → Type 0) → ((bytes : List ℕ) → c.told ≡ Some bytes → P [] bytes) → Takes c P
+  nothing_taken P p = if_told c.told _ (λ bytes t. ([], bytes, (refl, (l ∙ t, (omega (arith, e), p bytes t)))))
+
+  pub none_left : IsAtEnd c.told → Takes c (λ text rest. (text ≡ []) × (rest ≡ []))
+  none_left h = nothing_taken _ (λ bytes t. (refl, at_told c.told _ bytes t h))
+
+  pub peek_fails : (fault : FeedFault) → (fault ≡ feed_faults.ReadFault → HasRisen c.before c.after) → (fault ≡ feed_faults.TooLong → c.at ≡ c.limit) → (fault ≡ feed_faults.TooLong → HasMore c.told) → HasNextCause c (line_fault_of fault)
+  peek_fails feed_faults.ReadFault risen full more = risen refl
+  peek_fails feed_faults.TooLong risen full more = (e ∙ full refl, (subst HasMore (sym l) (more refl), nothing_taken _ (λ bytes t. All-nil IsInLine)))

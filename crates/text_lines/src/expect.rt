@@ -31,7 +31,6 @@ pub fn expect_line<S: Source>(
 }
 
 /// Reads the lines of a text that is known.
-#[tactic(auto, using(crate::proofs::StepLemmas::moves_on))]
 pub fn expect_text<S: Source>(
     feed: &mut Feed<S>,
     lines: &mut Lines,

@@ -9,7 +9,6 @@ use insar_ports::Sink;
 use raster_model::Rect;
 
 /// Adds a number after a space.
-#[tactic(auto, using(crate::proofs::ChainLemmas::adds_two), unfolding(crate::specs::Text::field_text))]
 pub fn add_field<K: Sink>(text: &mut TextWriter<K>, number: u32)
     ensures { Adds (view_of K.held K.faults text.old) (view_of K.held K.faults text.new) (field_text number) }
 {
@@ -18,7 +17,6 @@ pub fn add_field<K: Sink>(text: &mut TextWriter<K>, number: u32)
 }
 
 /// Adds a number of 64 bits after a space.
-#[tactic(auto, using(crate::proofs::ChainLemmas::adds_two), unfolding(crate::specs::Text::field_text))]
 pub fn add_long_field<K: Sink>(text: &mut TextWriter<K>, number: u64)
     ensures { Adds (view_of K.held K.faults text.old) (view_of K.held K.faults text.new) (field_text number) }
 {
@@ -27,7 +25,6 @@ pub fn add_long_field<K: Sink>(text: &mut TextWriter<K>, number: u64)
 }
 
 /// Adds a number of 128 bits after a space.
-#[tactic(auto, using(crate::proofs::ChainLemmas::adds_two), unfolding(crate::specs::Text::field_text))]
 pub fn add_wide_field<K: Sink>(text: &mut TextWriter<K>, number: u128)
     ensures { Adds (view_of K.held K.faults text.old) (view_of K.held K.faults text.new) (field_text number) }
 {
@@ -36,7 +33,6 @@ pub fn add_wide_field<K: Sink>(text: &mut TextWriter<K>, number: u128)
 }
 
 /// Adds a number of 64 bits with its sign after a space.
-#[tactic(auto, using(crate::proofs::AddLemmas::adds_number))]
 pub fn add_signed_field<K: Sink>(text: &mut TextWriter<K>, number: i64)
     ensures { Adds (view_of K.held K.faults text.old) (view_of K.held K.faults text.new) (number_text number) }
 {
@@ -45,7 +41,6 @@ pub fn add_signed_field<K: Sink>(text: &mut TextWriter<K>, number: i64)
 }
 
 /// Adds a number of 128 bits with its sign after a space.
-#[tactic(auto, using(crate::proofs::AddLemmas::adds_number))]
 pub fn add_wide_signed_field<K: Sink>(text: &mut TextWriter<K>, number: i128)
     ensures { Adds (view_of K.held K.faults text.old) (view_of K.held K.faults text.new) (number_text number) }
 {
@@ -84,7 +79,6 @@ pub fn add_row<K: Sink>(text: &mut TextWriter<K>, numbers: &[i64])
 }
 
 /// Adds a word and the four numbers of a box.
-#[tactic(auto, using(crate::proofs::ChainLemmas::adds_five), unfolding(crate::specs::Text::rect_text))]
 pub fn add_rect<K: Sink>(text: &mut TextWriter<K>, word: &[u8], rect: Rect)
     ensures { Adds (view_of K.held K.faults text.old) (view_of K.held K.faults text.new) (word.now ++ rect_text rect) }
 {

@@ -77,7 +77,6 @@ impl Lines {
     }
 
     /// Takes the bytes up to the next LF, and keeps the first `most` of them.
-    #[tactic(auto, using(crate::proofs::StepLemmas::moves_on))]
     fn take_line<S: Source>(
         &mut self,
         feed: &mut Feed<S>,

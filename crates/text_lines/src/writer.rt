@@ -56,7 +56,6 @@ impl<'a, K: Sink> TextWriter<'a, K> {
     }
 
     /// Adds a number of 64 bits in decimal, with a minus sign if it is below 0.
-    #[tactic(auto, using(crate::proofs::AddLemmas::adds_signed))]
     pub fn signed(&mut self, number: i64)
         ensures { Adds (view_of K.held K.faults self.old) (view_of K.held K.faults self.new) (signed_decimal number) }
     {

@@ -1,7 +1,10 @@
 use Rattle.std.proofs.lemmas.List.{take_all}
-use Rattle.text_lines.proofs.AddLemmas.{adds_next}
+use Rattle.text_lines.proofs.AddLemmas.{adds_next, adds_nothing}
 use Rattle.session_script.proofs.WrittenSession.{script_text, scripts_as_sections}
 use Rattle.session_script.proofs.write.add_sections.Goals as goal
+
+pub loop-script-init : goal.loop-script-init
+loop-script-init g c = adds_nothing _
 
 pub returns : goal.returns
 returns g c = rw (← scripts_as_sections c.args.scripts.now) (rw (take_all c.loop-script.script-index c.args.scripts.now c.loop-script-test.false) at c.loop-script.invariant)

@@ -5,8 +5,8 @@ use Rattle.insar_ports.specs.Calls.{call_of}
 use Rattle.text_lines.specs.LineWords.{lines_read}
 use Rattle.text_lines.proofs.FirstLemmas.{line_then, no_end_within}
 use Rattle.text_lines.proofs.FormLemmas.{in_line, whole_append, whole_line}
-use Rattle.text_lines.proofs.StepLemmas.{line_fails, moves_join, texts_are, texts_join}
-use Rattle.text_lines.proofs.TakeLemmas.{line_feed_at, no_line_feed}
+use Rattle.text_lines.proofs.StepLemmas.{line_fails, moves_join, moves_on, texts_are, texts_join}
+use Rattle.text_lines.proofs.TakeLemmas.{line_feed_at, no_line_feed, none_before}
 use Rattle.text_lines.proofs.expect.expect_text.Goals as goal
 
 pub returns-in_err-expect_line-clause-refused : goal.returns-in_err-expect_line-clause-refused
@@ -53,3 +53,9 @@ returns-clause-read g c =
     let rest = c.loop-count.rest.now in
     let none = no_end_within c.args.text.now f.0 rest rest [] c.requires f.1.0 (in_line rest (no_line_feed rest c.in_default.ensures)) (sym (append-nil rest)) in
     texts_are (call_of g.S.Source.left g.S.Source.faults c.args.feed.now c.loop-count.feed) f.0 c.args.text.now (lines_read c.args.lines.now) (lines_read c.loop-count.lines) (sym (f.1.0 ∙ ap (λ (l : List ℕ). f.0 ++ l) none ∙ append-nil f.0)) f.1.1.1
+
+pub returns-in_err-expect_line-clause-moves : goal.returns-in_err-expect_line-clause-moves
+returns-in_err-expect_line-clause-moves g c = moves_on c.loop-count.invariant.moves c.expect_line.ensures.moves
+
+pub expect_line-requires : goal.expect_line-requires
+expect_line-requires g c = none_before c.loop-count.rest.now c.in-Some.count c.in-Some.ensures.0.high c.in-Some.ensures.0.before

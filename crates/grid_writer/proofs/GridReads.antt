@@ -78,7 +78,7 @@ grid_whole t (g, (p, e)) =
 pub grid_free : (t m : List ℕ) → IsGridText t → IsGridText (t ++ m) → m ≡ []
 grid_free t m (g, (p, e)) (h, (q, f)) = (grids_cancel g h m [] p q (ap (λ (l : List ℕ). l ++ m) (sym e) ∙ f ∙ sym (append-nil (text_of_grid h)))).1
 
-grid_code : IsCode IsGridText
+pub grid_code : IsCode IsGridText
 grid_code = record { whole = grid_whole; free = grid_free }
 
 -- ---- the answer of a reader

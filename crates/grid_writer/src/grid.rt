@@ -1,5 +1,5 @@
 ghost use Rattle.grid_writer.specs.Grid.{grid_rows};
-ghost use Rattle.grid_writer.specs.Grids.{IsGrid, text_of_grid};
+ghost use Rattle.grid_writer.specs.Grids.{IsGrid, grid_of, text_of_grid};
 ghost use Rattle.grid_writer.specs.Shown.{shown_grid, text_of};
 ghost use Rattle.std.specs.Prelude.{◌≡◌, ◌++◌, ◌∷◌, [], decimal};
 ghost use Rattle.surface_snapshots.specs.Views.{parts_of};
@@ -8,6 +8,7 @@ ghost use Rattle.text_lines.specs.Numbers.{AreLongs, numbers_line};
 ghost use Rattle.text_lines.specs.Views.{view_of};
 
 use crate::rows::Rows;
+use crate::values::Grid;
 use insar_ports::{Sink, WriteFault};
 use raster_model::MAX_SIDE;
 use surface_snapshots::Snapshot;
@@ -77,5 +78,16 @@ pub fn write_grid<K: Sink>(snapshot: &Snapshot, sink: &mut K) -> Result<(), Writ
 {
     let mut text = TextWriter::new(sink);
     add_grid(&mut text, snapshot);
+    text.finish()
+}
+
+/// Writes a grid that is held, as [`write_grid`] writes a surface. It takes no memory. After a fault the sink has a part of
+/// the text.
+pub fn write_values<K: Sink>(grid: &Grid, sink: &mut K) -> Result<(), WriteFault>
+    ensures put { Puts (K.held sink.old) (K.faults sink.old) (K.held sink.new) (K.faults sink.new) (text_of_grid (grid_of grid.now)) result }
+    ensures ranges { IsGrid (grid_of grid.now) }
+{
+    let mut text = TextWriter::new(sink);
+    add_grid(&mut text, grid);
     text.finish()
 }

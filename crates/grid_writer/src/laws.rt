@@ -2,6 +2,7 @@
 
 ghost use Rattle.grid_writer.specs.Grids.{GridTextsAreUnique, IsGridText};
 ghost use Rattle.grid_writer.specs.Laws.{WrittenGridsAreGrids};
+ghost use Rattle.grid_writer.specs.ManyGrids.{GridTextsDoNotBreak, OneGridsBreak};
 ghost use Rattle.text_lines.specs.Reading.{OneBrokenLine, TextOrBreak};
 
 /// No two grids have one text: grids with one text have one size and the same value at each pixel.
@@ -19,4 +20,11 @@ pub fn written_grids_are_grids()
 pub fn grid_or_broken_line()
     ensures either { TextOrBreak IsGridText }
     ensures one { OneBrokenLine IsGridText }
+{}
+
+/// Bytes that should be several grids of one size have one first break. The texts of such grids, if the limit lets them all
+/// out, have none.
+pub fn one_grids_break()
+    ensures one { OneGridsBreak }
+    ensures none { GridTextsDoNotBreak }
 {}

@@ -1,13 +1,17 @@
 //! Surfaces as Esri ASCII rasters, in one spelling: written, and read again.
 #![tactic(auto)]
 
+mod fault;
 mod grid;
 pub mod laws;
+mod many;
 mod read;
 mod rows;
 mod values;
 
-pub use crate::grid::{add_grid, write_grid};
+pub use crate::fault::GridsFault;
+pub use crate::grid::{add_grid, write_grid, write_values};
+pub use crate::many::read_grids;
 pub use crate::read::{read_grid, read_sized_grid};
 pub use crate::rows::Rows;
 pub use crate::values::Grid;

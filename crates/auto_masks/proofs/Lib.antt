@@ -1,0 +1,13 @@
+pub mod ForestLemmas
+pub mod EdgeLemmas
+pub mod FloodLemmas
+pub mod PixelLemmas
+pub mod KeyLemmas
+pub mod NumberLemmas
+pub mod RegionLemmas
+pub mod MeasureLemmas
+pub mod PatchLemmas
+pub mod SumLemmas
+pub mod KeepLemmas
+pub mod SameKeys
+pub mod ScreenLemmas

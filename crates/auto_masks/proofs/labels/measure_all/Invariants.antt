@@ -1,0 +1,5 @@
+use Rattle.auto_masks.proofs.MeasureLemmas.{AreMeasured}
+use Rattle.auto_masks.proofs.labels.measure_all.Given as goal
+
+abbrev pub invariant-loop-place : goal.invariant-loop-place
+invariant-loop-place l = AreMeasured l.labels l.place l.sizes l.firsts

@@ -1,0 +1,9 @@
+pub mod PatchesView
+pub mod Patches
+pub mod Screened
+pub mod Forest
+pub mod Flood
+pub mod Measures
+pub mod Sums
+pub mod Keys
+pub mod Keeping

@@ -1,0 +1,4 @@
+pub mod Closure
+pub mod Laws
+pub mod LoopText
+pub mod Parts

@@ -1,6 +1,6 @@
 // The same job without proofs, over LEMON: reads planes of phase, weights and mask from standard input, solves the network of
-// each tile and then that of the seams by LEMON's network simplex on the same costs, and writes the grid. The word is the tile
-// side. Times go to standard error.
+// each tile and then that of the seams by LEMON's network simplex on the same costs, and writes the grid. The words are the
+// tile side, and the slopes to the right and downwards that are expected, if there are. Times go to standard error.
 #include <algorithm>
 #include <charconv>
 #include <chrono>
@@ -20,6 +20,7 @@ static int wrapped(int from, int to) { return static_cast<std::int16_t>(static_c
 // What is known of the raster, and of its surface so far: cycles within the tile, and the region of each open pixel.
 struct Raster {
   int width, height, side;
+  int across = 0, down = 0;  // the expected slopes
   Plane phase, weights, mask;
   std::vector<std::int32_t> cycles;
   std::vector<std::int32_t> regions;
@@ -27,7 +28,11 @@ struct Raster {
 
   std::size_t at(int x, int y) const { return std::size_t(y) * width + x; }
   bool is_open(std::size_t p) const { return mask.samples[p] != 0; }
-  int difference(std::size_t p, std::size_t q) const { return wrapped(phase.samples[p], phase.samples[q]); }
+  // Wrapped to the half cycles about the expected slope, from a pixel to its right or lower neighbour.
+  int difference(std::size_t p, std::size_t q) const {
+    int slope = q == p + std::size_t(width) ? down : across;
+    return slope + wrapped(phase.samples[p], phase.samples[q] - slope);
+  }
   // Whole cycles from one pixel to the next where nothing is corrected.
   int turns(std::size_t p, std::size_t q) const {
     return (difference(p, q) - (phase.samples[q] - phase.samples[p])) / 65536;
@@ -237,6 +242,7 @@ int main(int count, char **words) {
   };
   Raster raster;
   raster.side = count > 1 ? std::atoi(words[1]) : 64;
+  if (count > 3) raster.across = std::atoi(words[2]), raster.down = std::atoi(words[3]);
   if (!read_plane(raster.phase)) return 3;
   raster.width = raster.phase.width;
   raster.height = raster.phase.height;

@@ -1,5 +1,5 @@
 #!/usr/bin/python3
-"""Writes a session for benchmarks to standard output: rasters.py NAME.
+"""Writes a session for benchmarks to standard output: rasters.py NAME [GX GY].
 
 NAME is KIND-SIZE, KIND-SEED-SIZE or KIND-SEED-SIZE-LEVEL. SIZE is SIDE or WIDTHxHEIGHT in pixels, as in trial-7-512x256.
 
@@ -14,6 +14,9 @@ hills-SEED-SIZE-LEVEL, mogi-SEED-SIZE-LEVEL, fractal-SEED-SIZE-LEVEL
     Smooth hills, a point source that swells (Mogi 1958) on a ramp, or a fractal field, with noise by coherence
     (Cramer-Rao bound, one look). LEVEL is low, medium or high: 0.5, 5 or 20 % of the cells have a residue. The weights are
     the square of an estimate of the coherence, 1 to 255; the least coherent 6 % of the pixels are masked.
+
+With GX and GY, whole numbers, the phases rise by these units a pixel more to the right and downwards. By --ramp-x and --ramp-y of
+these slopes that is the same problem as the raster of NAME alone is without.
 
 A NAME that is none of these ends with status 2 and one line. It needs NumPy (python3-numpy).
 """
@@ -163,6 +166,19 @@ def raster(name: str) -> tuple[Raster, bool]:
     raise Mistake(f"{name}: no name of a raster, as slope-1024, trial-7-512 and hills-1-512-low are")
 
 
+def leaned(made: Raster, across: int, down: int) -> Raster:
+    """The raster with a ramp added to its surface, units a pixel to the right and downwards."""
+    height, width = made.surface.shape
+    return made._replace(surface=made.surface + across * np.arange(width)[None, :] + down * np.arange(height)[:, None])
+
+
+def slopes(words: list[str]) -> list[int]:
+    """Two slopes, from -65536 to 65536."""
+    if not all(re.fullmatch(r"-?[0-9]{1,5}", word) and abs(int(word)) <= CYCLE for word in words):
+        raise Mistake(f"{' '.join(words)}: no two slopes from {-CYCLE} to {CYCLE}")
+    return [int(word) for word in words]
+
+
 def plane(samples: np.ndarray, maxval: int, is_plain: bool = False) -> bytes:
     """A PGM plane."""
     height, width = samples.shape
@@ -181,11 +197,12 @@ def session(made: Raster, is_plain: bool = False) -> bytes:
 
 
 def main(words: list[str]) -> int:
-    if len(words) != 1 or words[0] in ("-h", "--help"):
+    if len(words) not in (1, 3) or words[0] in ("-h", "--help"):
         print(__doc__, file=sys.stdout if words[:1] in (["-h"], ["--help"]) else sys.stderr)
         return 0 if len(words) == 1 else 2
     try:
-        sys.stdout.buffer.write(session(*raster(words[0])))
+        made, is_plain = raster(words[0])
+        sys.stdout.buffer.write(session(leaned(made, *slopes(words[1:])) if words[1:] else made, is_plain))
     except Mistake as mistake:
         print(mistake, file=sys.stderr)
         return 2

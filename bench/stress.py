@@ -1,14 +1,14 @@
 #!/usr/bin/env python3
 """Runs random sessions by 1, 2 and 8 workers and judges each report: stress.py PROGRAM [COUNT [SEED]].
 
-A session has up to eight analysts and a small raster with weights, a mask, tiles of some side and one of the rules. How
-threads take turns decides which history is reported, so a report is not compared with another: it is judged by itself. Its
-entries have to be a legal and complete history of the session, and each surface that is published has to be certified at
+A session has up to eight analysts and a small raster with weights, a mask, tiles of some side and one of the rules. Two of
+three have an expected ramp, about which differences are wrapped. How threads take turns decides which history is reported, so
+a report is not compared with another: it is judged by itself. It has version 2 exactly if there is a ramp. Its entries have to be a legal and complete history of the session, and each surface that is published has to be certified at
 the mask of its revision: congruent with the phase at open pixels and NODATA at masked ones, equal to the phase at the first
 open pixel, with faces and flows that prove that no other surface, and no other offsets, cost less, and with its true costs.
 The judge is written from docs/DEFINITIONS.md and docs/FORMATS.md, and shares no code with the program.
 
-First the judge is tried on two reports by hand and on spoiled copies of them; without PROGRAM nothing else is done. The last
+First the judge is tried on four reports by hand and on spoiled copies of them; without PROGRAM nothing else is done. The last
 line is 'N passed, M failed', for sessions; the status is 1 where one failed.
 """
 import random
@@ -32,12 +32,26 @@ def demand(holds, why):
 
 
 class Session:
-    """Planes as lists in row order, and for each analyst a list of commands: ('mask', x0, y0, x1, y1), 'settle', .."""
+    """Planes as lists in row order, and for each analyst a list of commands: ('mask', x0, y0, x1, y1), 'settle', ..
 
-    def __init__(self, width, height, phase, weights, maxval, opened, side, rule, scripts):
+    `ramp` has the slopes to the right and downwards that are expected, from -32768 to 32767, in units a pixel.
+    """
+
+    def __init__(self, width, height, phase, weights, maxval, opened, side, rule, scripts, ramp=(0, 0)):
         self.width, self.height, self.phase = width, height, phase
         self.weights, self.maxval, self.opened = weights, maxval, opened
-        self.side, self.rule, self.scripts = side, rule, scripts
+        self.side, self.rule, self.scripts, self.ramp = side, rule, scripts, ramp
+
+    def options(self):
+        """The words of the side, the rule and the ramp. A slope below 0 is told by 65536 more."""
+        found = ["--tile", str(self.side), "--rule", self.rule]
+        for name, slope in zip(("--ramp-x", "--ramp-y"), self.ramp):
+            found += [name, str(slope % CYCLE)] if slope else []
+        return found
+
+    def is_plain(self):
+        """Whether no ramp is expected, so that a report of version 1 can be of this session."""
+        return self.ramp == (0, 0)
 
     def tile(self, x, y):
         return y // self.side * (-(-self.width // self.side)) + x // self.side
@@ -63,9 +77,10 @@ class Session:
         return plane[y * self.width + x]
 
     def difference(self, x, y, u, v):
-        """The wrapped difference of the phase, from -32768 to 32767."""
+        """The difference of the phase, wrapped to the half cycles about the slope: from slope - 32768 to slope + 32767."""
+        slope = self.ramp[0] if u > x else self.ramp[1]
         turned = self.at(self.phase, u, v) - self.at(self.phase, x, y)
-        return (turned + CYCLE // 2) % CYCLE - CYCLE // 2
+        return slope + (turned - slope + CYCLE // 2) % CYCLE - CYCLE // 2
 
     def residue(self, x, y):
         around = (
@@ -274,13 +289,20 @@ class History:
         return self.cursors == [len(script) for script in self.session.scripts]
 
 
+def head_of(session, version):
+    """The first lines of a report of a session. Version 1 is of no ramp, and does not tell it."""
+    found = [b"insar-report %d" % version, b"size %d %d" % (session.width, session.height)]
+    found += [b"tile %d" % session.side, b"rule %s" % session.rule.encode()]
+    return found if version == 1 else found + [b"ramp %d %d" % session.ramp, b"steep 1"]
+
+
 def judge(session, text):
     """Raises Refused where a text is no certified report of a session."""
     lines = Lines(text)
-    lines.expect(b"insar-report 1")
-    lines.expect(b"size %d %d" % (session.width, session.height))
-    lines.expect(b"tile %d" % session.side)
-    lines.expect(b"rule %s" % session.rule.encode())
+    version = 2 if text.startswith(b"insar-report 2\n") else 1
+    for line in head_of(session, version):
+        lines.expect(line)
+    demand(version == 2 or session.is_plain(), "a report of version 1 has no ramp")
     history = History(session)
     while (line := lines.next()) != b"end":
         word, *fields = line.split(b" ")
@@ -306,9 +328,24 @@ def judge(session, text):
     demand(lines.place == len(lines.lines), "a line stands after the end")
 
 
-def random_phase(dice, width, height):
-    """A slope with noise, now and then so much that it is random altogether."""
+def random_slope(dice):
+    """An expected slope: mostly any, and now and then the least, the greatest, none, or one beside them."""
+    if dice.random() < 0.7:
+        return dice.randrange(-CYCLE // 2, CYCLE // 2)
+    return dice.choice((-CYCLE // 2, -CYCLE // 2 + 1, -1, 0, 0, 1, CYCLE // 2 - 1))
+
+
+def random_ramp(dice):
+    """None in a third of the sessions, otherwise along one side or both."""
+    ramp = random_slope(dice), random_slope(dice)
+    return dice.choice(((0, 0), (0, 0), (ramp[0], 0), (0, ramp[1]), ramp, ramp))
+
+
+def random_phase(dice, width, height, ramp):
+    """A slope with noise, now and then so much that it is random altogether. Half of the slopes are near to the ramp."""
     across, down = dice.randrange(-30000, 30000), dice.randrange(-30000, 30000)
+    if dice.random() < 0.5:
+        across, down = ramp[0] + across // 4, ramp[1] + down // 4
     noise = dice.choice((0, 3000, 12000, 40000))
     return [
         (across * x + down * y + dice.randint(-noise, noise)) % CYCLE for y in range(height) for x in range(width)
@@ -333,27 +370,31 @@ def random_session(dice):
     pixels = width * height
     maxval = dice.choice((1, 9, 255, 300, 65535))
     masked = dice.choice((0, 0.1, 0.3, 0.6))
+    ramp = random_ramp(dice)
     return Session(
         width,
         height,
-        random_phase(dice, width, height),
+        random_phase(dice, width, height, ramp),
         [dice.randint(0, maxval) for _ in range(pixels)],
         maxval,
         [int(dice.random() >= masked) for _ in range(pixels)],
         dice.choice((2, 2, 3, 3, 4, 5, 7, 128)),
         dice.choice(("least", "mean", "product")),
         random_scripts(dice, width, height),
+        ramp,
     )
 
 
 def run(program, session, text, workers):
     """The report of a session by so many workers."""
-    words = ["unwrap", "--tile", str(session.side), "--rule", session.rule, "--workers", str(workers)]
+    words = ["unwrap", *session.options(), "--workers", str(workers)]
     try:
         done = subprocess.run([program, *words], input=text, capture_output=True, timeout=60)
     except subprocess.TimeoutExpired:
         raise Refused("it did not end within a minute") from None
     demand(done.returncode == 0 and not done.stderr, f"status {done.returncode}: {done.stderr!r}")
+    version = 1 if session.is_plain() else 2
+    demand(done.stdout.startswith(b"insar-report %d\n" % version), f"the report's version is not {version}")
     return done.stdout
 
 
@@ -405,6 +446,63 @@ shown 1 1
 end
 """
 
+# A line that rises by 40000 a pixel, as only the expected slope tells, in two tiles; and its report.
+STEEP = Session(4, 1, [0, 40000, 14464, 54464], [1] * 4, 1, [1] * 4, 2, "least", [["settle", "show"]], (30000, 0))
+STEEP_REPORT = b"""insar-report 2
+size 4 1
+tile 2
+rule least
+ramp 30000 0
+steep 1
+kept 1 0
+kept 0 0
+published 1 0
+costs 0 0
+ncols 4
+nrows 1
+xllcorner 0
+yllcorner 0
+cellsize 1
+NODATA_value -9223372036854775808
+0 40000 80000 120000
+faces 0
+faces 1
+flows 0
+shown 1 0
+end
+"""
+
+# The turn with nothing masked. About a slope of 30000 to the right its lower edge rises by 49152, so the cell has no residue.
+OPEN = Session(2, 2, TURN.phase, [5, 5, 3, 9], 9, [1] * 4, 64, "least", [["settle", "show"]], (30000, 0))
+OPEN_REPORT = b"""insar-report 2
+size 2 2
+tile 64
+rule least
+ramp 30000 0
+steep 1
+kept 0 0
+published 1 0
+costs 0 0
+ncols 2
+nrows 2
+xllcorner 0
+yllcorner 0
+cellsize 1
+NODATA_value -9223372036854775808
+0 16384
+-16384 32768
+faces 0 0
+flows
+shown 1 0
+end
+"""
+
+
+def second_version(report):
+    """A report of version 1 as one of version 2, which is not written, and right."""
+    return report.replace(b"report 1\n", b"report 2\n", 1).replace(b"least\n", b"least\nramp 0 0\nsteep 1\n", 1)
+
+
 # What a spoiled copy of a report has in place of a part, and the judge's word for it.
 SPOILED = [
     (LINE, LINE_REPORT, b"0 20000 40000 60000", b"0 20000 40000 -5536", "costs 1 and 0 is proved"),
@@ -425,12 +523,25 @@ SPOILED = [
     (TURN, TURN_REPORT, b"costs 0 0", b"costs 1 0", "tile cost 1 is written, 0 counted"),
     (TURN, TURN_REPORT, b"costs 0 0", b"costs 0 1", "seam cost 1 is written, 0 counted"),
     (TURN, TURN_REPORT, b"end\n", b"", "line 20 is missing"),
+    (STEEP, STEEP_REPORT, b"0 40000 80000 120000", b"0 40000 80000 54464", "costs 1 and 0 is proved"),
+    (STEEP, STEEP_REPORT, b"0 40000 80000 120000", b"0 40000 14464 54464", "the seams cost 1 and 0 is proved"),
+    (STEEP, STEEP_REPORT, b"ramp 30000 0", b"ramp 0 30000", "line 5 is"),
+    (STEEP, STEEP_REPORT, b"ramp 30000 0", b"ramp 29999 0", "line 5 is"),
+    (STEEP, STEEP_REPORT, b"steep 1", b"steep 2", "line 6 is"),
+    (STEEP, STEEP_REPORT, b"steep 1\n", b"", "line 6 is"),
+    (STEEP, STEEP_REPORT, b"report 2", b"report 1", "version 1 has no ramp"),
+    (OPEN, OPEN_REPORT, b"-16384 32768", b"49152 32768", "costs 6 and 0 is proved"),
+    (LINE, second_version(LINE_REPORT), b"ramp 0 0", b"ramp 0 1", "line 5 is"),
+    (LINE, second_version(LINE_REPORT), b"ramp 0 0\nsteep 1\n", b"", "line 5 is"),
 ]
 
 
 def try_the_judge():
-    judge(LINE, LINE_REPORT)
-    judge(TURN, TURN_REPORT)
+    for session, report in ((LINE, LINE_REPORT), (TURN, TURN_REPORT), (STEEP, STEEP_REPORT), (OPEN, OPEN_REPORT)):
+        judge(session, report)
+        assert session.is_plain() or session.options()[4:] == ["--ramp-x", "30000"]
+    judge(LINE, second_version(LINE_REPORT))
+    judge(TURN, second_version(TURN_REPORT))
     for session, report, old, new, word in SPOILED:
         assert report.count(old) == 1, old
         try:

@@ -21,6 +21,13 @@ class Rasters(unittest.TestCase):
         self.assertEqual(run("gentle-2").stdout, b"P5\n2 2\n65535\n" + bytes([0, 0, 0, 30, 0, 20, 0, 50]))
         self.assertEqual(rasters.session(rasters.slope("slope", 300, 1))[-2:], (299 * 300 % 65536).to_bytes(2, "big"))
 
+    def test_a_ramp_is_added(self) -> None:
+        self.assertEqual(run("slope-2x3-plain", "-400", "65536").stdout, b"P2\n2 3\n65535\n0 65436\n700 600\n1400 1300\n")
+        plain, ramped = run("trial-7-64").stdout, run("trial-7-64", "100", "0").stdout
+        self.assertEqual(plain[-2 * 64 * 64 :], ramped[-2 * 64 * 64 :])
+        for words in (("1",), ("1", "x"), ("1", "65537"), ("1.5", "0"), ("1", "2", "3")):
+            self.assertEqual(run("flat-2", *words).returncode, 2)
+
     def test_a_trial_is_that_of_the_command(self) -> None:
         made, _ = rasters.raster("trial-7-64")
         self.assertEqual(np.count_nonzero(rasters.residues(made.surface % 65536)), 450)

@@ -23,6 +23,20 @@ best() {
   echo "$least"
 }
 
+# alternately ONE OTHER: the least time of each of two commands, run in turn as often as by `best`, so that what else the machine does
+# comes over both. ONE and OTHER name arrays of an input, an output and a command.
+alternately() {
+  local -n one=$1 other=$2
+  local runs=${RUNS:-5} RUNS=1 run took least= least_other=
+  for ((run = 1; run <= runs; ++run)); do
+    took=$(best "${one[@]}") || return 1
+    if [ -z "$least" ] || [ "$took" -lt "$least" ]; then least=$took; fi
+    took=$(best "${other[@]}") || return 1
+    if [ -z "$least_other" ] || [ "$took" -lt "$least_other" ]; then least_other=$took; fi
+  done
+  echo "$least $least_other"
+}
+
 # held OUTPUT: the most memory that its run held at once, in KiB.
 held() { tail -n 1 "$1.peak"; }
 

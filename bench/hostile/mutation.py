@@ -4,7 +4,8 @@ import random
 import re
 from typing import NamedTuple
 
-from reading import changed, stress
+import changed
+from reading import stress
 from running import run
 
 TOKEN = re.compile(rb"-?[0-9]+|[A-Za-z_-]+|[ \t\n\v\f\r]|.", re.S)
@@ -14,7 +15,7 @@ BOUNDS += tuple(2**power + step for power in (22, 26, 31, 32, 48, 63, 64, 127, 1
 NUMBERS = [b"%d" % bound for bound in BOUNDS] + [b"-%d" % bound for bound in BOUNDS]
 NUMBERS += [b"00", b"007", b"+1", b"1.5", b"0x10", b"1e3", b"", b"-", b"1" * 60, b"9" * 5000, b"0" * 300 + b"1"]
 WORDS = b"P5 P2 P P1 P6 analyst mask unmask settle show end insar-report size tile rule least mean product".split()
-WORDS += b"revised kept published settled shown none costs ncols nrows xllcorner yllcorner cellsize NODATA_value".split()
+WORDS += b"ramp steep revised kept published settled shown none costs ncols nrows xllcorner yllcorner cellsize NODATA_value".split()
 WORDS += [b"faces", b"flows", b"#", b"#\n", b"x", b"", b"\xff", b"\0", b"end\n", b"analyst\n"]
 WORDS += [b"P5 1 1 1 \1", b"P2 1 1 1 1\n"]
 SPACES = (b" ", b"\t", b"\n", b"\v", b"\f", b"\r", b"\r\n", b"  ", b"#\n", b" # by hand\n", b"\n#\r#\n", b"")
@@ -138,22 +139,23 @@ def altered(dice, data, others):
     return data
 
 
-def options(dice, side, rule, workers):
+def options(dice, side, rule, workers, ramp=(0, 0)):
     """Words of the options, of which those of defaults may be left out."""
     pairs = [("--tile", str(side)), ("--rule", rule)] + [("--workers", str(workers))] * (workers > 0)
-    defaults = {"64", "least", "2"}
+    pairs += [(name, str(slope % stress.CYCLE)) for name, slope in zip(("--ramp-x", "--ramp-y"), ramp)]
+    defaults = {("--tile", "64"), ("--rule", "least"), ("--workers", "2"), ("--ramp-x", "0"), ("--ramp-y", "0")}
     dice.shuffle(pairs)
-    return [part for pair in pairs if pair[1] not in defaults or dice.random() < 0.5 for part in pair]
+    return [part for pair in pairs if pair not in defaults or dice.random() < 0.5 for part in pair]
 
 
 def solving(dice, texts, command):
     """An input of `unwrap` or `grid`."""
     side, rule = dice.choice((2, 3, 5, 64, 128)), dice.choice(("least", "mean", "product"))
-    data = dice.choice(texts.sessions)
+    data, ramp = dice.choice(texts.sessions), stress.random_ramp(dice)
     if dice.random() < 0.75:
         session = stress.random_session(dice)
-        side, rule, data = session.side, session.rule, session.bytes_of(dice)
-    words = options(dice, side, rule, dice.choice((1, 1, 2, 2, 3, 8)))
+        side, rule, data, ramp = session.side, session.rule, session.bytes_of(dice), session.ramp
+    words = options(dice, side, rule, dice.choice((1, 1, 2, 2, 3, 8)), ramp)
     return Case((command, *words), altered(dice, data, texts.sessions))
 
 
@@ -163,7 +165,7 @@ def reported(program, seed, place):
     dice = random.Random(f"{seed} report {place}")
     session = stress.random_session(dice)
     data = session.bytes_of(dice)
-    words = ("unwrap", "--tile", str(session.side), "--rule", session.rule, "--workers", str(dice.choice((1, 2))))
+    words = ("unwrap", *session.options(), "--workers", str(dice.choice((1, 2))))
     return session, data, run(program, words, data).out
 
 
@@ -171,7 +173,7 @@ def report_altered(dice, report):
     """A report changed in one place as changed.py does, in one to three of its numbers, or as any text is."""
     kind = dice.random()
     if kind < 0.35 and report:
-        return dice.choice(changed.CHANGES)(dice, report)
+        return dice.choice(changed.CHANGES + changed.HEAD_CHANGES)(dice, report)
     if kind > 0.75:
         return altered(dice, report, ())
     for _ in range(dice.randint(1, 3)):
@@ -192,7 +194,7 @@ def checking(dice, texts, program, seed, place):
         data = altered(dice, data, ())
     else:
         report = report_altered(dice, report)
-    return Case(("check", *options(dice, session.side, session.rule, 0)), data + report)
+    return Case(("check", *options(dice, session.side, session.rule, 0, session.ramp)), data + report)
 
 
 def case(program, texts, command, seed, place):

@@ -1,8 +1,9 @@
 """What a run has to answer to its input, told without the program, and what is wrong with what it answered."""
 import re
 
+import changed
 import reading
-from reading import changed, stress
+from reading import stress
 from running import run
 
 DIGITS = re.compile(rb"(?<!input fault )(?<![0-9])-?[0-9]+")
@@ -23,12 +24,18 @@ def option(words, name, default):
     return words[words.index(name) + 1] if name in words else default
 
 
+def ramp_of(words):
+    """The expected slopes of the words."""
+    numbers = (int(option(words, name, "0")) for name in ("--ramp-x", "--ramp-y"))
+    return tuple(number if number < 32768 else number - 65536 for number in numbers)
+
+
 def wanted(case):
     """The session and the report of an input, and the line that refuses it, which is empty if nothing does."""
     side, rule = int(option(case.words, "--tile", "64")), option(case.words, "--rule", "least")
     alone = case.words[0] != "check"
     try:
-        session, rest = reading.read_session(case.data, side, rule, alone)
+        session, rest = reading.read_session(case.data, side, rule, alone, ramp_of(case.words))
     except reading.Refused as refused:
         return None, b"", str(refused).encode() + b"\n"
     broken = None if alone else reading.broken_line(rest)
@@ -73,7 +80,8 @@ def judge_grid(session, text):
 
 
 def judge_report(session, text):
-    """A text is a certified report of the session."""
+    """A text is a certified report of the session, of the version that is written."""
+    demand(text.startswith(b"insar-report 1\n") == session.is_plain(), "another version")
     broken = reading.broken_line(text)
     demand(broken is None, f"line {broken} is none of a report")
     stress.judge(session, text)
@@ -81,10 +89,7 @@ def judge_report(session, text):
 
 def judge_verdict(session, report, done):
     """`check` accepts what the judge accepts, and else tells a verdict."""
-    if changed.is_accepted(session, report):
-        demand(done.status == 0 and done.out == b"accepted\n", f"an accepted report: {done.out[:80]!r}")
-    else:
-        demand(done.status == 1 and changed.VERDICT.fullmatch(done.out), f"a refused report: {done.out[:80]!r}")
+    changed.judge_answer(session, report, (done.status, done.out))
 
 
 def judge_done(case, session, report, done):
@@ -96,7 +101,7 @@ def judge_done(case, session, report, done):
     if case.words[0] == "grid":
         judge_grid(session, done.out)
     elif len(session.phase) > LARGE:
-        demand(done.out.startswith(b"insar-report 1\n") and done.out.endswith(b"\nend\n"), "no report")
+        demand(done.out.startswith(b"insar-report %d\n" % (1 if session.is_plain() else 2)) and done.out.endswith(b"\nend\n"), "no report")
     else:
         judge_report(session, done.out)
 

@@ -6,7 +6,6 @@ import re
 import sys
 
 sys.path.insert(0, str(pathlib.Path(__file__).resolve().parent.parent))
-import changed  # noqa: E402,F401
 import stress  # noqa: E402
 
 WHITE = re.compile(rb"[ \t\n\v\f\r]*")
@@ -222,8 +221,11 @@ def read_planes(source):
     return planes
 
 
-def read_session(data, side, rule, alone):
-    """The session of bytes, and the bytes after it, if it need not stand alone. `side` is in pixels. Raises Refused."""
+def read_session(data, side, rule, alone, ramp=(0, 0)):
+    """The session of bytes, and the bytes after it, if it need not stand alone. Raises Refused.
+
+    `side` is in pixels, and `ramp` the expected slopes to the right and downwards.
+    """
     source = Source(data)
     (width, height, _, phase), (_, _, maxval, weights), (_, _, _, mask) = read_planes(source)
     if alone and not source.peek():
@@ -233,7 +235,7 @@ def read_session(data, side, rule, alone):
     if alone and source.peek():
         raise Refused(f"input fault 15 after end byte {source.place}")
     opened = [int(sample > 0) for sample in mask]
-    found = stress.Session(width, height, phase, weights, maxval, opened, side, rule, scripts)
+    found = stress.Session(width, height, phase, weights, maxval, opened, side, rule, scripts, ramp)
     return found, data[source.place :]
 
 
@@ -291,9 +293,15 @@ class ReportReader:
             self.demand(line.startswith(label + b" "))
             self.signed(line[len(label) + 1 :])
 
+    def terms(self):
+        """The two lines that version 2 has besides: the ramp, and how much more a departure of several cycles costs."""
+        slopes = self.match(rb"ramp (S) (S)".replace(b"S", stress.SIGNED.pattern))
+        self.demand(all(fits(slope, -32768, 32767) for slope in slopes))
+        self.demand(all(fits(steepness, 1, 16) for steepness in self.match(rb"steep N")))
+
     def head(self):
         """The width and height in pixels and the number of tiles."""
-        self.expect(b"insar-report 1")
+        (version,) = self.match(rb"insar-report (1|2)")
         sides = self.match(rb"size N N")
         self.demand(all(fits(side, 1, 4096) for side in sides))
         width, height = map(int, sides)
@@ -301,6 +309,8 @@ class ReportReader:
         (side,) = self.match(rb"tile N")
         self.demand(fits(side, 2, 128))
         self.match(rb"rule (?:least|mean|product)")
+        if version == b"2":
+            self.terms()
         return width, height, -(-width // int(side)) * -(-height // int(side))
 
     def surface(self, width, height, tiles):

@@ -15,6 +15,11 @@ GRID_HEAD = b"xllcorner 0\nyllcorner 0\ncellsize 1\nNODATA_value -92233720368547
 LINE_GRID = b"ncols 4\nnrows 1\n" + GRID_HEAD + b"0 20000 40000 60000\n"
 TURN = b"P2\n2 2\n65535\n0 16384\n49152 32768\nanalyst\nmask 0 0 0 0\nsettle\nshow\nend\n"
 TURN_GRID = b"ncols 2\nnrows 2\n" + GRID_HEAD + b"-9223372036854775808 16384\n49152 32768\n"
+STEEP = b"P5\n4 1\n65535\n\x00\x00\x9c\x40\x38\x80\xd4\xc0"
+STEEP_GRID = b"ncols 4\nnrows 1\n" + GRID_HEAD + b"0 40000 80000 120000\n"
+OPEN = b"P2\n2 2\n65535\n0 16384\n49152 32768\nP2 2 2 9 5 5 3 9\n"
+OPEN_GRID = b"ncols 2\nnrows 2\n" + GRID_HEAD + b"0 16384\n-16384 32768\n"
+FLAT = b"P2 2 1 65535 0 0\n"
 TRIAL = b"pixels 4096\nresidues 450\nunmasked 3834\ncost 16469\n"
 LARGE_SIDE = 256
 MAGIC, READ, WRITE = b"input fault 1 magic phase\n", b"read fault\n", b"write fault\n"
@@ -118,6 +123,13 @@ def files():
         "broken": LINE + b"x\n",
         "empty": b"",
         "turn-report": stress.TURN_REPORT,
+        "steep": STEEP,
+        "steep-end": STEEP + b"end\n",
+        "steep-report": stress.STEEP_REPORT,
+        "line-end": LINE + b"end\n",
+        "line-report": stress.second_version(stress.LINE_REPORT),
+        "open": OPEN,
+        "flat": FLAT,
         "head": b"".join(stress.LINE_REPORT.splitlines(True)[:4]),
         "large": slope(LARGE_SIDE),
         "noisy": noisy(160),

@@ -1,7 +1,7 @@
 """Cases of what is read: input that is cut at each byte or never ends, and words that are odd, long or many."""
 import wanted
 from reading import read_session, stress
-from rows import ENDLESS, MAGIC, MEMORY, TURN, TURN_GRID, USES, WORDS, refused, row
+from rows import ENDLESS, GRID_HEAD, MAGIC, MEMORY, OPEN_GRID, STEEP_GRID, TURN, TURN_GRID, USES, WORDS, refused, row
 from wanted import NOTHING, exactly
 
 
@@ -55,6 +55,97 @@ def cut_report_rows():
         command = f"{{ cat turn-70; head -c {length} turn-report; }} | $P check"
         yield refused(f"check: the first {length} bytes of the report", command, 3, line)
     yield row("check: the whole report", "cat turn-70 turn-report | $P check", 0, b"accepted\n", NOTHING)
+
+
+def ramp_rows():
+    """Rasters with an expected ramp, and reports of both versions with their first lines changed."""
+    for words in ("--ramp-x 30000", "--ramp-x 30000 --tile 2", "--tile=2 --ramp-y 0 --ramp-x=0030000"):
+        yield row("grid: a ramp", f"exec $P grid {words} <steep", 0, STEEP_GRID, NOTHING)
+    report = wanted.report_of(stress.STEEP)
+    yield row("unwrap: a ramp", "exec $P unwrap --tile 2 --ramp-x 30000 <steep", 0, report, NOTHING)
+    yield row("grid: a ramp without which a residue is there", "exec $P grid --ramp-x 30000 <open", 0, OPEN_GRID, NOTHING)
+    for slope, value in ((32767, 0), (32768, -65536), (65535, 0), (0, 0)):
+        grid = b"ncols 2\nnrows 1\n" + GRID_HEAD + b"0 %d\n" % value
+        yield row("grid: two equal phases", f"exec $P grid --ramp-x {slope} <flat", 0, grid, NOTHING)
+        yield row("grid: the other ramp", f"exec $P grid --ramp-y {slope} <flat", 0, grid.replace(b"-65536", b"0"), NOTHING)
+    for words, residues, cost in (("700 --ramp-y 300", 457, 16321), ("45536 --ramp-y 30000", 1357, 51969)):
+        told = b"pixels 4096\nresidues %d\nunmasked 3834\ncost %d\n" % (residues, cost)  # the cost is LEMON's (joined.cpp)
+        yield row("trial: a ramp", f"exec $P trial 7 64 64 --tile 32 --ramp-x {words}", 0, told, NOTHING)
+    plain = exactly(stress.LINE_REPORT)
+    yield row("unwrap: a ramp of 0", "exec $P unwrap --ramp-x 0 --ramp-y 0 <line", 0, plain, NOTHING)
+    yield from terms_rows()
+    for use in USES:
+        for word in ("65536", "-1", "=-1", "1.5", "''", "0x10", "4294967296", "18446744073709551616", "none", "", "'１'"):
+            for name in ("--ramp-x", "--ramp-y"):
+                words = f"{use.words} {name}{word if word.startswith('=') else f' {word}'}"
+                yield refused(f"{use.name}: a ramp that is none", f"exec $P {words} <{use.file}", 2, WORDS)
+        for words in ("--ramp 1", "--ramp-x 1 --ramp-x 1", "--ramp-z 1", "--Ramp-x 1", "--ramp-x 1 2", "-ramp-x 1"):
+            yield refused(f"{use.name}: odd words of a ramp", f"exec $P {use.words} {words} <{use.file}", 2, WORDS)
+
+
+TERMS = (
+    ("line", "", "", "accepted"),
+    ("line", "--ramp-x 0 --ramp-y 0", "", "accepted"),
+    ("line", "--ramp-x 1", "", "refused header 5"),
+    ("line", "--ramp-y 65535", "", "refused header 5"),
+    ("line", "--ramp-y 65535", "s/^ramp .*/ramp 0 -1/", "accepted"),
+    ("line", "", "s/^ramp .*/ramp 0 -1/", "refused header 5"),
+    ("line", "", "s/^ramp .*/ramp -32768 32767/", "refused header 5"),
+    ("line", "", "s/^ramp .*/ramp -32769 0/", "report fault line 5"),
+    ("line", "", "s/^ramp .*/ramp 0 32768/", "report fault line 5"),
+    ("line", "", "s/^ramp .*/ramp 0 65535/", "report fault line 5"),
+    ("line", "", "s/^ramp .*/ramp 18446744073709551616 0/", "report fault line 5"),
+    ("line", "", "s/^ramp .*/ramp -0 0/", "report fault line 5"),
+    ("line", "", "s/^ramp .*/ramp 00 0/", "report fault line 5"),
+    ("line", "", "s/^ramp .*/ramp +0 0/", "report fault line 5"),
+    ("line", "", "s/^ramp .*/ramp 0/", "report fault line 5"),
+    ("line", "", "s/^ramp .*/ramp 0 0 0/", "report fault line 5"),
+    ("line", "", "s/^ramp .*/ramp 0  0/", "report fault line 5"),
+    ("line", "", "s/^ramp .*/ramp 0 0 /", "report fault line 5"),
+    ("line", "", "5d", "report fault line 5"),
+    ("line", "", "5{h;d};6G", "report fault line 5"),
+    ("line", "", "s/^steep .*/steep 16/", "refused header 6"),
+    ("line", "", "s/^steep .*/steep 2/", "refused header 6"),
+    ("line", "--ramp-x 1", "s/^steep .*/steep 2/", "refused header 5"),
+    ("line", "--tile 63 --ramp-x 1", "s/^steep .*/steep 2/", "refused header 3"),
+    ("line", "--rule mean --ramp-x 1", "", "refused header 4"),
+    ("line", "", "s/^steep .*/steep 17/", "report fault line 6"),
+    ("line", "", "s/^steep .*/steep 0/", "report fault line 6"),
+    ("line", "", "s/^steep .*/steep -1/", "report fault line 6"),
+    ("line", "", "s/^steep .*/steep 01/", "report fault line 6"),
+    ("line", "", "s/^steep .*/steep/", "report fault line 6"),
+    ("line", "", "6d", "report fault line 6"),
+    ("line", "", "6p", "report fault line 7"),
+    ("line", "", "1s/2/1/", "report fault line 5"),
+    ("line", "", "1s/2/3/", "report fault line 1"),
+    ("line", "", "1s/2/02/", "report fault line 1"),
+    ("line", "", "1s/2/1/;5,6d", "accepted"),
+    ("line", "--ramp-x 1", "1s/2/1/;5,6d", "refused header 5"),
+    ("line", "--ramp-y 32768", "1s/2/1/;5,6d", "refused header 5"),
+    ("steep", "--tile 2 --ramp-x 30000", "", "accepted"),
+    ("steep", "--tile 2", "", "refused header 5"),
+    ("steep", "--tile 2 --ramp-x 30001", "", "refused header 5"),
+    ("steep", "--tile 2 --ramp-y 30000", "", "refused header 5"),
+    ("steep", "--tile 2 --ramp-x 30000", "1s/2/1/;5,6d", "refused header 5"),
+    ("steep", "--tile 2", "1s/2/1/;5,6d", "refused surface 0 tile 0 cost 1 bound 0"),
+    ("steep", "--tile 2 --ramp-x 30000", "s/120000/54464/", "refused surface 0 tile 1 cost 1 bound 0"),
+    ("steep", "--tile 2 --ramp-x 30000", "s/80000 120000/14464 54464/", "refused surface 0 seams cost 1 bound 0"),
+)
+
+
+def terms_rows():
+    """A session, the words of check, a change of its report of version 2 by sed, and the line that is wanted."""
+    for file, words, change, line in TERMS:
+        command = f"sed '{change}' {file}-report | cat {file}-end - | $P check {words}; exit ${{PIPESTATUS[2]}}"
+        told, text = f"check of a ramp: {words or 'no words'}, {change or 'nothing'} changed", line.encode() + b"\n"
+        if line.startswith("report"):
+            yield refused(told, command, 3, text)
+        else:
+            yield row(told, command, int(line != "accepted"), text, NOTHING)
+    for length in range(len(stress.STEEP_REPORT)):
+        line = b"report fault line %d\n" % (stress.STEEP_REPORT.count(b"\n", 0, length) + 1)
+        command = f"{{ cat steep-end; head -c {length} steep-report; }} | $P check --tile 2 --ramp-x 30000"
+        yield refused(f"check: the first {length} bytes of a report with a ramp", command, 3, line)
 
 
 def bad_words():
@@ -142,6 +233,7 @@ def rows(slow):
     """All of them; with `slow` those too that take a minute."""
     yield from cut_rows()
     yield from cut_report_rows()
+    yield from ramp_rows()
     yield from word_rows()
     yield from long_rows()
     yield from many_rows()

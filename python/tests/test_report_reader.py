@@ -4,7 +4,15 @@ import unittest
 
 import numpy as np
 
-from wundjeska.report_reader import NODATA, BrokenLine, Report, read_grid_from, read_report_from
+from wundjeska.report_reader import (
+    NODATA,
+    BrokenLine,
+    Report,
+    arrays_of,
+    read_grid_from,
+    read_report_from,
+    summary_of,
+)
 
 # A turn around the one cell, whose first pixel is masked before anything is published.
 TURN = b"""insar-report 1
@@ -56,9 +64,67 @@ revised 2 unmask 1 0 2 1
 end
 """
 
+# A line of two tiles that rises by 40000 a pixel, as the expected slope tells.
+STEEP = b"""insar-report 2
+size 4 1
+tile 2
+rule mean
+ramp 30000 -32768
+steep 16
+kept 1 0
+kept 0 0
+published 1 0
+costs 0 0
+ncols 4
+nrows 1
+xllcorner 0
+yllcorner 0
+cellsize 1
+NODATA_value -9223372036854775808
+0 40000 80000 120000
+faces 0
+faces 1
+flows 0
+end
+"""
+
+# The same for this report.
+STEEP_BREAKS = [
+    (1, b"insar-report 1", 5),
+    (1, b"insar-report 3", 1),
+    (1, b"insar-report 02", 1),
+    (5, b"ramp 32767 -32768", 0),
+    (5, b"ramp 32768 0", 5),
+    (5, b"ramp 0 -32769", 5),
+    (5, b"ramp 0 65535", 5),
+    (5, b"ramp 99999999999999999999 0", 5),
+    (5, b"ramp -0 0", 5),
+    (5, b"ramp 00 0", 5),
+    (5, b"ramp +1 0", 5),
+    (5, b"ramp 0.5 0", 5),
+    (5, b"ramp 0", 5),
+    (5, b"ramp 0 0 0", 5),
+    (5, b"ramp  0 0", 5),
+    (5, b"ramp 0 0 ", 5),
+    (5, b"ramp 0 none", 5),
+    (5, b"steep 1", 5),
+    (6, b"steep 1", 0),
+    (6, b"steep 0", 6),
+    (6, b"steep 17", 6),
+    (6, b"steep -1", 6),
+    (6, b"steep 01", 6),
+    (6, b"steep", 6),
+    (6, b"steep 1 1", 6),
+    (6, b"ramp 0 0", 6),
+    (7, b"steep 1", 7),
+    (16, b"NODATA_value -9999", 16),
+]
+
 # The line that is replaced, what stands there, and the number of the first broken line.
 BREAKS = [
-    (1, b"insar-report 2", 1),
+    (1, b"insar-report 2", 5),  # whose fifth line tells a ramp
+    (1, b"insar-report 3", 1),
+    (1, b"insar-report 0", 1),
     (1, b"insar-report 1 ", 1),
     (2, b"size 2  2", 2),
     (2, b"size 02 2", 2),
@@ -131,6 +197,21 @@ class Reads(unittest.TestCase):
         self.assertEqual((report.entries[1].tile, report.entries[1].stamp), (0, 1))
         self.assertEqual((report.entries[3].analyst, report.entries[3].revision), (1, 1))
 
+    def test_the_terms(self) -> None:
+        report = read(STEEP)
+        self.assertEqual((report.version, report.ramp, report.steepness), (2, (30000, -32768), 16))
+        self.assertEqual([entry.line for entry in report.entries], [7, 8, 9])
+        np.testing.assert_array_equal(report.surfaces[0].values, [[0, 40000, 80000, 120000]])
+        self.assertIn("rule mean, ramp 30000 -32768, steepness 16; history", next(summary_of(report)))
+        np.testing.assert_array_equal(arrays_of(report)["ramp"], [30000, -32768])
+        plain = read(TURN)
+        self.assertEqual((plain.version, plain.ramp, plain.steepness), (1, (0, 0), 1))
+        self.assertIn("rule least; history", next(summary_of(plain)))
+
+    def test_no_ramp_in_version_2(self) -> None:
+        report = read(TURN.replace(b"report 1", b"report 2").replace(b"least\n", b"least\nramp 0 0\nsteep 1\n"))
+        self.assertEqual((report.version, report.ramp, report.steepness, len(report.surfaces)), (2, (0, 0), 1, 1))
+
     def test_a_surface(self) -> None:
         (surface,) = read(TURN).surfaces
         np.testing.assert_array_equal(surface.values, [[NODATA, 16384], [49152, 32768]])
@@ -171,10 +252,18 @@ class Refuses(unittest.TestCase):
             with self.subTest(number=number, text=text):
                 self.assertEqual(broken_line(b"\n".join(lines)), wanted)
 
+    def test_each_break_of_the_terms(self) -> None:
+        for number, text, wanted in STEEP_BREAKS:
+            lines = STEEP.split(b"\n")
+            lines[number - 1] = text
+            with self.subTest(number=number, text=text):
+                self.assertEqual(broken_line(b"\n".join(lines)), wanted)
+
     def test_a_report_that_is_cut_anywhere(self) -> None:
-        for end in range(len(TURN)):
-            with self.subTest(end=end):
-                self.assertEqual(broken_line(TURN[:end]), TURN[:end].count(b"\n") + 1)
+        for text in (TURN, STEEP):
+            for end in range(len(text)):
+                with self.subTest(end=end):
+                    self.assertEqual(broken_line(text[:end]), text[:end].count(b"\n") + 1)
 
     def test_a_line_that_is_missing(self) -> None:
         # a revision, a kept result or a look may be left out, and of two rows the second takes the place of the first

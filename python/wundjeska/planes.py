@@ -16,6 +16,8 @@ CYCLE = 65536  # units in a cycle
 MAX_SIDE, MAX_PIXELS = 4096, 4194304  # of one session
 MAX_WEIGHT = 255  # of linear coherence
 TURN = 2 * math.pi
+STEEPEST = 32767  # slope that can be expected
+Ramp = Tuple[int, int]  # the expected slopes to the right and downwards, in units a pixel
 FARTHEST, SLACK, MANY = (
     1e5,
     0.01,
@@ -88,32 +90,62 @@ def check_size(width: int, height: int, name: str) -> None:
 
 # Planes and sessions
 
+RAMP_COMMENT = re.compile(rb"# wundjeska ramp([^\n\r]*)")
+RAMP_SLOPES = re.compile(rb" (0|-?[1-9][0-9]{0,4}) (0|-?[1-9][0-9]{0,4})")
 HEADER = re.compile(rb"P([25])" + rb"(?:\s+(?:#[^\n\r]*[\n\r]\s*)*)([0-9]+)" * 3 + rb"\s")
 PLAIN_RASTER = re.compile(rb"[\s0-9]*")
 
 
-def plane_of(samples: np.ndarray, maxval: int) -> bytes:
-    """A raw PGM plane of samples up to maxval."""
+def plane_of(samples: np.ndarray, maxval: int, comment: bytes = b"") -> bytes:
+    """A raw PGM plane of samples up to maxval. A comment is a line."""
     height, width = samples.shape
     wide = ">u2" if maxval > 255 else "u1"
-    return b"P5\n%d %d\n%d\n" % (width, height, maxval) + samples.astype(wide).tobytes()
+    return b"P5\n%b%d %d\n%d\n" % (comment, width, height, maxval) + samples.astype(wide).tobytes()
 
 
 def session_of(
-    phase: np.ndarray, weights: np.ndarray, opened: np.ndarray, script: bytes = b"end\n", highest: int = MAX_WEIGHT
+    phase: np.ndarray,
+    weights: np.ndarray,
+    opened: np.ndarray,
+    script: bytes = b"end\n",
+    highest: int = MAX_WEIGHT,
+    ramp: Optional[Ramp] = None,
 ) -> bytes:
-    """A session: uint16 phases, weights up to `highest`, and a mask that is True at open pixels."""
-    return plane_of(phase, CYCLE - 1) + plane_of(weights, highest) + plane_of(opened, 1) + script
+    """A session: uint16 phases, weights up to `highest`, and a mask that is True at open pixels.
+
+    The program skips the comment that tells the ramp; it is for `ramp_in`.
+    """
+    comment = b"# wundjeska ramp %d %d\n" % ramp if ramp is not None else b""
+    return plane_of(phase, CYCLE - 1, comment) + plane_of(weights, highest) + plane_of(opened, 1) + script
+
+
+def is_ramp(ramp: Ramp) -> bool:
+    """Whether these are slopes that can be expected."""
+    return all(-STEEPEST - 1 <= slope <= STEEPEST for slope in ramp)
+
+
+def ramp_in(text: bytes) -> Optional[Ramp]:
+    """The ramp that a comment in the head of a session's phase tells, or None. Trouble if it cannot be read."""
+    header = HEADER.match(text)
+    comments = set(RAMP_COMMENT.findall(header.group())) if header else set()
+    if not comments:
+        return None
+    slopes = RAMP_SLOPES.fullmatch(comments.pop())
+    ramp = tuple(map(int, slopes.groups())) if slopes and not comments else (CYCLE, CYCLE)
+    if not is_ramp((ramp[0], ramp[1])):
+        raise Trouble("the session's comment `# wundjeska ramp` has not two slopes from -32768 to 32767")
+    return ramp[0], ramp[1]
 
 
 @dataclass
 class Session:
-    """The planes of a session, each (height, width), and its script part as it stands."""
+    """The planes of a session, each (height, width), its script part as it stands, and the ramp that a comment tells."""
 
     phase: np.ndarray  # uint16
     weights: np.ndarray  # uint16
     opened: np.ndarray  # bool
     script: bytes
+    ramp: Optional[Ramp] = None
 
 
 def take_plane(text: bytes, start: int) -> Tuple[np.ndarray, int]:
@@ -147,4 +179,4 @@ def read_session(text: bytes) -> Session:
         planes.append(plane)
     ones = np.ones(planes[0].shape, dtype=np.uint16)
     phase, weights, mask = planes + [ones] * (3 - len(planes))
-    return Session(phase, weights, mask > 0, text[place:])
+    return Session(phase, weights, mask > 0, text[place:], ramp_in(text))

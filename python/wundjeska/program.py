@@ -6,7 +6,7 @@ import threading
 from pathlib import Path
 from typing import List, Optional, Set, Tuple
 
-from .planes import read_session
+from .planes import CYCLE, Ramp, read_session
 from .trouble import FILE_FAULT, Trouble
 
 HERE = Path(__file__).resolve().parent
@@ -68,8 +68,27 @@ def run_program(words: List[str], text: bytes, what: str) -> bytes:
     raise Trouble(f"{what}: {words[0]} ended with status {status}: {line}", status % 256)
 
 
-def check_report(session: bytes, report: bytes, rule: str, side: int) -> Tuple[bool, str]:
-    """Whether `check` accepts the report, and its verdict, or its line on standard error."""
-    text = session if read_session(session).script else session + b"end\n"
-    status, out, told = call(["check", "--rule", rule, "--tile", str(side)], text + report)
+def show(ramp: Optional[Ramp]) -> str:
+    return ",".join(map(str, ramp or (0, 0)))
+
+
+def ramp_words(ramp: Optional[Ramp]) -> List[str]:
+    """The words of an expected ramp. A slope below 0 is told by 65536 more, and one of 0 by none."""
+    slopes = zip(("--ramp-x", "--ramp-y"), ramp or (0, 0))
+    return [word for name, slope in slopes if slope for word in (name, str(slope % CYCLE))]
+
+
+def check_report(session: bytes, report: bytes, rule: str, side: int, ramp: Ramp = (0, 0)) -> Tuple[bool, str]:
+    """Whether `check` accepts the report, and its verdict, or its line on standard error.
+
+    `rule`, `side` and `ramp` are the report's. Trouble if the session tells another ramp.
+    """
+    planes = read_session(session)
+    if planes.ramp not in (None, ramp):
+        raise Trouble(
+            f"the session expects the ramp {show(planes.ramp)} and the report is of {show(ramp)}; unwrap it by the words "
+            f"{' '.join(ramp_words(planes.ramp)) or 'without --ramp-x and --ramp-y'}"
+        )
+    text = session if planes.script else session + b"end\n"
+    status, out, told = call(["check", "--rule", rule, "--tile", str(side), *ramp_words(ramp)], text + report)
     return status == 0, (out or told).decode(errors="replace").strip()

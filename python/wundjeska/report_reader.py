@@ -5,8 +5,9 @@
     report = read_report("report")
     report.surfaces[-1].cycles()        # the last surface, float64, (rows, columns), NaN at masked pixels
 
-The reader is strict: it reads the one spelling that docs/FORMATS.md gives, to the end of the input, and raises BrokenLine
-with the number of the first line with which no report begins. It reads and does not judge: whether the numbers of a report
+Reports have version 1, or version 2, which tells an expected ramp and a steepness besides. The reader is strict: it reads the
+one spelling that docs/FORMATS.md gives, to the end of the input, and raises BrokenLine with the number of the first line with
+which no report begins. It reads and does not judge: whether the numbers of a report
 certify its surfaces, and whether there is a face for each cell, is what the program's `check` tells.
 
 Arrays have the shape (rows, columns), and row 0 is the top one. Values are in units of 1/65536 cycle.
@@ -30,7 +31,10 @@ SMALL, COST = NUMBER % 9, NUMBER % 38  # with as many digits as 2^32 and 2^128
 SIGNED = rb"(?:0|-?[1-9][0-9]{0,18})"
 NUMBERS = re.compile(SIGNED + rb"(?: " + SIGNED + rb")*")
 LONG = re.compile(rb"-?[0-9]{19}")
-HEAD = (b"insar-report 1", rb"size %b %b" % (SMALL, SMALL), rb"tile %b" % SMALL, rb"rule (least|mean|product)")
+HEAD = (rb"insar-report (1|2)", rb"size %b %b" % (SMALL, SMALL), rb"tile %b" % SMALL, rb"rule (least|mean|product)")
+SLOPE = rb"(0|-?[1-9][0-9]{0,4})"
+RAMP, STEEP = rb"ramp %b %b" % (SLOPE, SLOPE), rb"steep %b" % SMALL
+MAX_STEEPNESS = 16
 COSTS = re.compile(rb"costs %b %b" % (COST, COST))
 REVISED = re.compile(rb"revised %b (mask|unmask) %b %b %b %b" % ((SMALL,) * 5))
 PLAIN_ENTRY = re.compile(rb"(kept|published|settled|shown) %b %b" % (SMALL, SMALL))
@@ -92,13 +96,21 @@ class Entry:
 
 @dataclass
 class Report:
-    """A report: its head, and the history in order. width, height and side (of a tile) are in pixels."""
+    """A report: its head, and the history in order. width, height and side (of a tile) are in pixels.
+
+    version    1, which is of no ramp and the steepness 1; or 2
+    ramp       the slopes to the right and downwards about which differences are wrapped, in 1/65536 cycle a pixel
+    steepness  how much each cycle of a departure after the first costs; the first costs 1
+    """
 
     width: int
     height: int
     side: int
     rule: str
     entries: List[Entry] = field(default_factory=list)
+    version: int = 1
+    ramp: Tuple[int, int] = (0, 0)
+    steepness: int = 1
 
     @property
     def surfaces(self) -> List[Surface]:
@@ -192,16 +204,35 @@ class Lines:
         return self.numbers(line[len(words) + 1 :])
 
 
+def read_ramp(lines: Lines) -> Tuple[int, int]:
+    """The line on the ramp of a report of version 2."""
+    across, down = map(int, lines.take_words(RAMP, "'ramp X Y'"))
+    if not all(-CYCLE // 2 <= slope < CYCLE // 2 for slope in (across, down)):
+        lines.refuse(f"a slope is from {-CYCLE // 2} to {CYCLE // 2 - 1}")
+    return across, down
+
+
+def read_steepness(lines: Lines) -> int:
+    """The line on the steepness of a report of version 2."""
+    (steepness,) = lines.at_most(MAX_STEEPNESS, *lines.take_words(STEEP, "'steep Q'"))
+    if steepness < 1:
+        lines.refuse(f"the steepness is from 1 to {MAX_STEEPNESS}")
+    return steepness
+
+
 def read_head(lines: Lines) -> Report:
-    """The first four lines."""
-    lines.take_words(HEAD[0], "'insar-report 1'")
+    """The first four lines, or six if the report has version 2."""
+    (version,) = lines.take_words(HEAD[0], "'insar-report 1' or 'insar-report 2'")
     width, height = lines.at_most(MAX_SIDE, *lines.take_words(HEAD[1], "'size WIDTH HEIGHT'"))
     lines.check_size(width, height)
     (side,) = lines.at_most(128, *lines.take_words(HEAD[2], "'tile SIDE'"))
     if side < 2:
         lines.refuse("a tile has a side of 2 to 128")
     (rule,) = lines.take_words(HEAD[3], "'rule least', 'rule mean' or 'rule product'")
-    return Report(width, height, side, rule.decode())
+    report = Report(width, height, side, rule.decode(), version=int(version))
+    if version == b"2":
+        report.ramp, report.steepness = read_ramp(lines), read_steepness(lines)
+    return report
 
 
 def read_grid(lines: Lines, width: int, height: int) -> np.ndarray:
@@ -285,6 +316,7 @@ def read_report(path: str) -> Report:
 def arrays_of(report: Report) -> Dict[str, np.ndarray]:
     """The arrays of a report by name, as --save writes them."""
     arrays = {"size": np.array([report.height, report.width]), "side": np.array(report.side)}
+    arrays["ramp"] = np.array(report.ramp)
     for number, surface in enumerate(report.surfaces):
         arrays[f"values_{number}"] = surface.values
         arrays[f"faces_{number}"] = np.concatenate(surface.faces)
@@ -297,7 +329,12 @@ def summary_of(report: Report) -> Iterator[str]:
     """A line on the report, and one on each surface."""
     kinds = [entry.kind for entry in report.entries]
     counts = ", ".join(f"{kinds.count(kind)} {kind}" for kind in dict.fromkeys(kinds))
-    yield f"{report.width} by {report.height} pixels, tiles of {report.side}, rule {report.rule}; history: {counts or 'none'}"
+    terms = f", ramp {report.ramp[0]} {report.ramp[1]}" if report.ramp != (0, 0) else ""
+    terms += f", steepness {report.steepness}" if report.steepness > 1 else ""
+    yield (
+        f"{report.width} by {report.height} pixels, tiles of {report.side}, rule {report.rule}{terms}; "
+        f"history: {counts or 'none'}"
+    )
     for surface in report.surfaces:
         opened = surface.values[surface.opened()]
         span = f"{opened.min() / CYCLE:.4f} to {opened.max() / CYCLE:.4f} cycles" if len(opened) else "no value"
@@ -317,7 +354,7 @@ def words() -> argparse.ArgumentParser:
         "--save",
         metavar="FILE.npz",
         help="write the arrays of each surface, numbered from 0: values_0 (rows, columns) in 1/65536 cycle, faces_0 of all "
-        "tiles one after the other, faces_of_tiles_0 (how many each tile has), flows_0",
+        "tiles one after the other, faces_of_tiles_0 (how many each tile has), flows_0; besides size, side and ramp",
     )
     return found
 

@@ -11,8 +11,20 @@ import numpy.typing as npt
 from . import report_reader
 from .components import components_of, warning_of
 from .outputs import Outputs
-from .planes import CYCLE, MAX_WEIGHT, check_coherence, check_radians, check_size, has_phase, phases_of, session_of
-from .program import MAX_WORKERS, check_report, run_program, workers_or_default
+from .planes import (
+    CYCLE,
+    MAX_WEIGHT,
+    Ramp,
+    check_coherence,
+    check_radians,
+    check_size,
+    has_phase,
+    phases_of,
+    ramp_in,
+    session_of,
+)
+from .program import MAX_WORKERS, check_report, ramp_words, run_program, workers_or_default
+from .ramps import Given, checked, ramp_for
 from .trouble import DISAGREES, REFUSED_WORDS, Trouble, warn
 from .weights import highest_of, weights_of
 
@@ -59,6 +71,7 @@ class Unwrapped:
     tile_cost   no surface that differs from the input by whole cycles costs less: the bound
     seam_cost   what the surface costs more than the bound
     verdict     'accepted' if `check` accepted the report, else 'not checked'
+    ramp        the expected slopes to the right and downwards, in 1/65536 cycle a pixel; None if none was asked for
     """
 
     phase: npt.NDArray[np.float32]
@@ -68,6 +81,7 @@ class Unwrapped:
     seam_cost: int
     verdict: str
     settings: Settings
+    ramp: Optional[Ramp] = None
 
     @property
     def cost(self) -> int:
@@ -100,14 +114,15 @@ def last_surface(report: bytes, name: str) -> report_reader.Surface:
 
 
 def solve(session: bytes, settings: Settings, check: bool = True, name: str = "the session") -> Solved:
-    """Unwraps a session and has `check` judge the report. Trouble if it is refused."""
+    """Unwraps a session by the ramp that it tells and has `check` judge the report. Trouble if it is refused."""
     settings.check()
-    options = ["--rule", settings.rule, "--tile", str(settings.side)]
+    ramp = ramp_in(session)
+    options = ["--rule", settings.rule, "--tile", str(settings.side), *ramp_words(ramp)]
     workers = str(workers_or_default(settings.workers))
     report = run_program(["unwrap", *options, "--workers", workers], session, name)
     verdict = NOT_CHECKED
     if check:
-        accepted, verdict = check_report(session, report, settings.rule, settings.side)
+        accepted, verdict = check_report(session, report, settings.rule, settings.side, ramp or (0, 0))
         if not accepted:
             raise Trouble(f"{name}: {verdict}", DISAGREES)
     return Solved(report, last_surface(report, name), verdict)
@@ -166,6 +181,7 @@ def unwrap(
     report: Optional[Path_] = None,
     check: bool = True,
     least_component: int = 1,
+    ramp: Given = None,
 ) -> Unwrapped:
     """Unwraps an interferogram, (rows, columns), and has the result checked.
 
@@ -178,17 +194,20 @@ def unwrap(
     report           a file to keep the report in, which can be checked again with its session (`wundjeska session`)
     check            have the proved checker judge the report; if it refuses, nothing is returned
     least_component  pixels of smaller components get the number 0, and keep their phase
+    ramp             the expected slopes to the right and downwards, whole numbers of 1/65536 cycle a pixel, or 'auto': the
+                     commonest fringe rate. Differences of neighbours are taken to lie within half a cycle of it
 
     Raises Trouble, whose text is one line.
     """
     if looks is not None and (coherence is None or not 1 <= looks < math.inf):
         raise Trouble("looks is 1 or more, and wants coherence", REFUSED_WORDS)
-    settings = Settings(tile, rule, workers)
+    settings, asked_ramp = Settings(tile, rule, workers), checked(ramp)
     settings.check()
     phase, weights, opened = planes_of(igram, coherence, mask, looks)
+    expected = ramp_for(asked_ramp, phase, weights, opened, "the interferogram")
     with Outputs([]) as outputs:
         kept = outputs.beside(report) if report is not None else None
-        session = session_of(phase, weights, opened, highest=highest_of(looks))
+        session = session_of(phase, weights, opened, highest=highest_of(looks), ramp=expected)
         solved = solve(session, settings, check, "the interferogram")
         if kept is not None:
             kept.write_bytes(solved.report)
@@ -204,4 +223,5 @@ def unwrap(
         surface.seam_cost,
         solved.verdict,
         settings,
+        expected,
     )

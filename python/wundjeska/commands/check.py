@@ -1,4 +1,4 @@
-"""Has the proved checker judge a report, by the report's own side and rule. It solves nothing.
+"""Has the proved checker judge a report, by the report's own side, rule and ramp. It solves nothing.
 
 What it says is written: `accepted`, or the first thing that is wrong.
 """
@@ -26,6 +26,6 @@ def words() -> ArgumentParser:
 def main(asked: Namespace) -> int:
     session, text = Path(asked.session).read_bytes(), Path(asked.report).read_bytes()
     report = read_report(text, asked.report)
-    accepted, verdict = check_report(session, text, report.rule, report.side)
+    accepted, verdict = check_report(session, text, report.rule, report.side, report.ramp)
     print(verdict)
     return 0 if accepted else DISAGREES

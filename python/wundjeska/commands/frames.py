@@ -20,7 +20,7 @@ from argparse import ArgumentParser, Namespace, RawDescriptionHelpFormatter
 from concurrent.futures import ThreadPoolExecutor
 from dataclasses import dataclass
 from pathlib import Path
-from typing import Any, Dict, Iterator, List, Tuple
+from typing import Any, Dict, Iterator, List, Optional, Tuple
 
 import numpy as np
 
@@ -28,7 +28,7 @@ from .. import program
 from ..components import pieces_of
 from ..joining import Link, Offsets, links_of, offsets_of
 from ..outputs import Outputs, keep
-from ..planes import MAX_PIXELS, session_of
+from ..planes import MAX_PIXELS, Ramp, session_of
 from ..product import (
     add_reference_words,
     add_unit_words,
@@ -42,16 +42,18 @@ from ..product import (
     reference_note,
     unit_notes,
 )
+from ..ramps import AUTO, RampWord, Spectrum, add_ramp_words, found_in, told
 from ..rasters import Scene, Window, add_scene_words, close, create_like, name_of, put_values, scene_of, size_of
 from ..trouble import DISAGREES, REFUSED_WORDS, Trouble
 from ..unwrapping import Settings, Solved, solve
 from ..weights import highest_of
-from .unwrap import add_solver_words, settings_of
+from .unwrap import add_solver_words, ramp_note, settings_of
 
 NOT_PROVED = (
     "Each frame is certified: `check` accepted its report. The joint of the frames is not covered by any certificate or "
     "proof. The whole cycles between frames rest on the medians above."
 )
+BLOCK, BLOCKS = 256, 16  # pixels along a block that tells of the ramp, and how many there are at most along a side
 MAX_LINES, MAX_COUNTS, MAX_JOBS = 20, 4, 64  # on pieces that do not agree, and of differences in such a line
 
 
@@ -120,10 +122,12 @@ def text_of(array: np.ndarray) -> bytes:
     return file.getvalue()
 
 
-def head_of(frame: Frame, settings: Settings) -> bytes:
+def head_of(frame: Frame, settings: Settings, ramp: Optional[Ramp]) -> bytes:
     """What a report on the frame begins with."""
     _, _, width, height = frame.window
-    return f"insar-report 1\nsize {width} {height}\ntile {settings.side}\nrule {settings.rule}\n".encode()
+    across, down = ramp or (0, 0)
+    version, terms = (2, f"ramp {across} {down}\nsteep 1\n") if across or down else (1, "")
+    return f"insar-report {version}\nsize {width} {height}\ntile {settings.side}\nrule {settings.rule}\n{terms}".encode()
 
 
 def is_kept(frame: Frame, session: bytes, head: bytes) -> bool:
@@ -151,14 +155,34 @@ class Job:
     scene: Scene
     settings: Settings
     reading: threading.Lock  # GDAL reads a raster for one thread at a time
+    ramp: Optional[Ramp] = None
+
+
+def ramp_of(scene: Scene, word: RampWord) -> Optional[Ramp]:
+    """The ramp of all frames. `auto` looks at up to BLOCKS a side of the raster's blocks, at equal steps."""
+    if word != AUTO:
+        assert not isinstance(word, str)
+        return word
+    width, height = size_of(scene.phase.raster)
+    spectrum = Spectrum()
+    for y in starts_of(height):
+        for x in starts_of(width):
+            spectrum.add(*scene.read((x, y, min(BLOCK, width - x), min(BLOCK, height - y))))
+    return found_in(spectrum, name_of(scene.phase.raster))
+
+
+def starts_of(length: int) -> List[int]:
+    """The first pixels of the blocks along a side."""
+    count = -(-length // BLOCK)
+    return [number * BLOCK for number in range(0, count, -(-count // BLOCKS))]
 
 
 def do_frame(frame: Frame, job: Job) -> str:
     """Sees that a frame's surface is kept; a line on it."""
     x, y, width, height = frame.window
     with job.reading:
-        session = session_of(*job.scene.read(frame.window), highest=highest_of(job.scene.looks))
-    if is_kept(frame, session, head_of(frame, job.settings)):
+        session = session_of(*job.scene.read(frame.window), highest=highest_of(job.scene.looks), ramp=job.ramp)
+    if is_kept(frame, session, head_of(frame, job.settings, job.ramp)):
         words = "accepted in an earlier run"
     else:
         solved = solve(session, job.settings, name=frame.name)
@@ -332,6 +356,7 @@ def words() -> ArgumentParser:
     found.add_argument(
         "--jobs", type=int, default=2, metavar="N", help="frames at once, less than 1 GB each (default: 2)"
     )
+    add_ramp_words(found)
     add_solver_words(found)
     add_reference_words(found)
     add_unit_words(found)
@@ -360,12 +385,15 @@ def main(asked: Namespace) -> int:
     with Outputs(scene.files()) as outputs:
         made = outputs.beside(asked.geotiff)
         asked.folder.mkdir(parents=True, exist_ok=True)
-        do_frames(frames, Job(scene, settings, threading.Lock()), asked.jobs)
+        ramp = ramp_of(scene, asked.ramp)
+        if ramp is not None:
+            print(told(ramp), flush=True)
+        do_frames(frames, Job(scene, settings, threading.Lock(), ramp), asked.jobs)
         pieces = pieces_in(frames)
         if not pieces:
             raise Trouble(f"{name_of(raster)} has no pixel that is open")
         overlaps = list(all_links(frames))
         offsets = offsets_of(pieces, [link for links in overlaps for link in links])
         agreed = tell(overlaps, frames, offsets, asked.agree)
-        write(made, frames, offsets, scene, asked, notes_of(asked, frames, agreed))
+        write(made, frames, offsets, scene, asked, {**notes_of(asked, frames, agreed), **ramp_note(ramp)})
     return 0 if agreed else DISAGREES

@@ -32,8 +32,9 @@ from ..pictures import (
     pixel_axes,
     thinned,
 )
-from ..planes import CYCLE, Session, check_wavelength, read_session
+from ..planes import CYCLE, Ramp, Session, check_wavelength, read_session
 from ..program import check_report
+from ..ramps import told
 from ..trouble import DISAGREES, Trouble
 from ..unwrapping import ACCEPTED, read_report
 
@@ -112,21 +113,23 @@ def first_section(picture: Picture) -> str:
     words = "Cycles are counted such that the first open pixel is within the first one. Masked pixels are white."
     if picture.wavelength:
         words += " Centimetres are of range, along the line of sight, half a wavelength a cycle."
+    if picture.report.ramp != (0, 0):
+        words += f" Differences of neighbours are taken to lie within half a cycle of the expected {told(picture.report.ramp)}."
     return f'<h2>Phase and surface</h2><p>{words}</p><div class="row">{phase_map(picture)}{last}</div>'
 
 
-def wrapped_differences(phase: np.ndarray, axis: int) -> np.ndarray:
-    """From -32768 to 32767, of neighbours along an axis."""
+def wrapped_differences(phase: np.ndarray, axis: int, slope: int = 0) -> np.ndarray:
+    """From slope - 32768 to slope + 32767, of neighbours along an axis."""
     half = CYCLE // 2
-    return (np.diff(phase.astype(np.int64), axis=axis) + half) % CYCLE - half
+    return slope + (np.diff(phase.astype(np.int64), axis=axis) - slope + half) % CYCLE - half
 
 
-def departures(surface: report_reader.Surface, phase: np.ndarray, axis: int) -> np.ndarray:
+def departures(surface: report_reader.Surface, phase: np.ndarray, axis: int, slope: int = 0) -> np.ndarray:
     """By how many cycles the surface departs from the wrapped differences along an axis; 0 at masked ends."""
     values = np.where(surface.opened(), surface.values, 0)
     opened = surface.opened()
     both = (opened[:, 1:] & opened[:, :-1]) if axis else (opened[1:] & opened[:-1])
-    return np.where(both, (np.diff(values, axis=axis) - wrapped_differences(phase, axis)) // CYCLE, 0)
+    return np.where(both, (np.diff(values, axis=axis) - wrapped_differences(phase, axis, slope)) // CYCLE, 0)
 
 
 def at_ends(flags: np.ndarray, axis: int) -> np.ndarray:
@@ -146,11 +149,11 @@ class Jumps:
     seam_edges: int
 
 
-def jumps_of(surface: report_reader.Surface, phase: np.ndarray, side: int) -> Jumps:
+def jumps_of(surface: report_reader.Surface, phase: np.ndarray, side: int, ramp: Ramp = (0, 0)) -> Jumps:
     inside, across = np.zeros(phase.shape, dtype=bool), np.zeros(phase.shape, dtype=bool)
     counts = [0, 0]
     for axis in (0, 1):
-        jump = departures(surface, phase, axis) != 0
+        jump = departures(surface, phase, axis, ramp[1 - axis]) != 0
         seam = np.zeros(jump.shape, dtype=bool)
         np.moveaxis(seam, axis, 0)[side - 1 :: side] = True
         inside |= at_ends(jump & ~seam, axis)
@@ -162,7 +165,7 @@ def jumps_of(surface: report_reader.Surface, phase: np.ndarray, side: int) -> Ju
 def jump_map(picture: Picture) -> str:
     """Where the last surface jumps."""
     surface = picture.report.surfaces[-1]
-    jumps = jumps_of(surface, picture.session.phase, picture.report.side)
+    jumps = jumps_of(surface, picture.session.phase, picture.report.side, picture.report.ramp)
     colours = np.where(thinned(surface.opened())[..., None], PLAIN, MASKED).astype(np.uint8)
     colours[any_thinned(jumps.inside)] = JUMP
     colours[any_thinned(jumps.across)] = SEAM
@@ -407,7 +410,7 @@ def main(asked: Namespace) -> int:
         made = outputs.beside(asked.page)
         session, report = Path(asked.session).read_bytes(), Path(asked.report).read_bytes()
         found = read_report(report, asked.report)
-        accepted, verdict = check_report(session, report, found.rule, found.side)
+        accepted, verdict = check_report(session, report, found.rule, found.side, found.ramp)
         name = asked.title or Path(asked.report).name
         made.write_text(page_text(name, session, report, verdict, asked.wavelength, axes_of(asked.like, found)))
     print(f"{asked.page}: {verdict}")

@@ -12,8 +12,9 @@ SNAKEFILE = Path(__file__).resolve().parent.parent / "Snakefile"
 USE = """usage: wundjeska scenes FOLDER [WORDS..]
 
 Unwraps each folder of FOLDER that has a phase.tif and a coherence.tif. WORDS are of snakemake, as `--cores 8` or `--unlock`.
-After `--config` come tile=N (128), rule=least, mean or product (least), coherence=C (pixels below it are masked; 0), looks=L
-and without_coherence=yes (scenes without a coherence.tif are unwrapped with equal weights)."""
+After `--config` come tile=N (128), rule=least, mean or product (least), coherence=C (pixels below it are masked; 0), looks=L,
+ramp=auto or GX,GY (the expected ramp of all scenes; auto is of each) and without_coherence=yes (scenes without a coherence.tif are
+unwrapped with equal weights)."""
 
 
 def main(words: List[str]) -> int:

@@ -29,6 +29,7 @@ from ..program import check_report
 from ..rasters import files_of, name_of, open_raster, size_of
 from ..trouble import DISAGREES, REFUSED_WORDS, Trouble, warn
 from ..unwrapping import read_report
+from .unwrap import ramp_note
 
 
 def words() -> ArgumentParser:
@@ -67,10 +68,10 @@ def read_text(path: str) -> bytes:
 
 
 def verdict_of(report: report_reader.Report, text: bytes, session: Optional[str]) -> str:
-    """What `check` says of a report, by its own side and rule. Trouble if it refuses."""
+    """What `check` says of a report, by its own side, rule and ramp. Trouble if it refuses."""
     if session is None:
         return NOTHING_CERTIFIES
-    accepted, verdict = check_report(Path(session).read_bytes(), text, report.rule, report.side)
+    accepted, verdict = check_report(Path(session).read_bytes(), text, report.rule, report.side, report.ramp)
     if not accepted:
         raise Trouble(f"check: {verdict}", DISAGREES)
     return verdict
@@ -99,7 +100,8 @@ def notes_of(report: report_reader.Report) -> Dict[str, Any]:
     """What a product tells of the report that it is of."""
     last = report.surfaces[-1]
     costs = {"TILE_COST": last.tile_cost, "SEAM_COST": last.seam_cost}
-    return {"TILE_SIDE": report.side, "RULE": report.rule, "REVISION": last.revision, **costs}
+    ramp = ramp_note(report.ramp if report.version > 1 else None)
+    return {"TILE_SIDE": report.side, "RULE": report.rule, "REVISION": last.revision, **costs, **ramp}
 
 
 def shape_of(raster: Any) -> Tuple[int, int]:

@@ -12,7 +12,7 @@ import numpy as np
 
 from ..components import components_of
 from ..outputs import Outputs
-from ..planes import session_of
+from ..planes import Ramp, session_of
 from ..product import (
     NOTHING_CERTIFIES,
     add_reference_words,
@@ -21,6 +21,8 @@ from ..product import (
     write_components,
     write_product,
 )
+from ..program import show
+from ..ramps import add_ramp_words, ramp_for, told
 from ..rasters import Scene, add_scene_words, axes_of, scene_of
 from ..trouble import REFUSED_WORDS, Trouble, warn
 from ..unwrapping import ACCEPTED, RULES, SIDE, Settings, Solved, solve
@@ -54,6 +56,7 @@ def words() -> ArgumentParser:
         "not fit, 5 if a file cannot be read or written, else that of the program.",
     )
     add_scene_words(found)
+    add_ramp_words(found)
     add_solver_words(found)
     add_reference_words(found)
     add_unit_words(found)
@@ -90,6 +93,11 @@ def notes_of(solved: Solved, asked: Namespace, scene: Scene, components: np.ndar
     }
 
 
+def ramp_note(ramp: Optional[Ramp]) -> Dict[str, Any]:
+    """What is told of an expected ramp."""
+    return {} if ramp is None else {"RAMP": f"{show(ramp)} in 1/65536 cycle a pixel"}
+
+
 def weights_note(scene: Scene) -> str:
     if scene.coherence is None:
         return "equal"
@@ -121,10 +129,12 @@ def main(asked: Namespace) -> int:
         names = (asked.components, asked.page, asked.session, asked.report)
         numbered, page, kept_session, kept_report = (beside(outputs, name) for name in names)
         phase, weights, opened = read_scene(scene)
-        session = session_of(phase, weights, opened, highest=highest_of(scene.looks))
+        ramp = ramp_for(asked.ramp, phase, weights, opened, asked.phase)
+        session = session_of(phase, weights, opened, highest=highest_of(scene.looks), ramp=ramp)
         solved = solve(session, settings, not asked.no_check, asked.phase)
         components = components_of(opened, asked.least_component)
-        write_product(made, like, solved.surface.values, asked, notes_of(solved, asked, scene, components))
+        notes = {**notes_of(solved, asked, scene, components), **ramp_note(ramp)}
+        write_product(made, like, solved.surface.values, asked, notes)
         if numbered:
             write_components(numbered, like, components, asked.least_component)
         if page:
@@ -134,6 +144,8 @@ def main(asked: Namespace) -> int:
         if kept_report:
             kept_report.write_bytes(solved.report)
     tell(asked, solved, opened, components)
+    if ramp is not None:
+        print(f"{asked.geotiff}: {told(ramp)}")
     return 0
 
 

@@ -1,11 +1,12 @@
 #!/usr/bin/env python3
-"""Checks a grid against its input, and prints what it costs: costs.py INPUT GRID TILE_SIDE [TILE_COST].
+"""Checks a grid against its input, and prints what it costs: costs.py INPUT GRID TILE_SIDE [TILE_COST [GX GY]].
 
 INPUT has a phase plane, and then weights and mask if they are there. The grid must have the input's size, NODATA exactly
 at masked pixels, the phase up to whole cycles at open ones, and the phase itself at the first of them. The weight of an
 edge is the lesser of its pixels' weights. It prints how many cells have a residue, what all tiles cost, and what the
-seams cost. It ends with 1 where the grid is wrong, or where its tiles do not cost TILE_COST. It shares nothing with the
-program; that no other surface costs less it cannot tell.
+seams cost. It ends with 1 where the grid is wrong, or where its tiles do not cost TILE_COST (any number if that is -). GX and
+GY are the slopes to the right and downwards that are expected, in 1/65536 cycle a pixel: differences are wrapped about them. It
+shares nothing with the program; that no other surface costs less it cannot tell.
 """
 import re
 import sys
@@ -35,28 +36,28 @@ def planes(data):
     return width, height, *(found + [[1] * (width * height)] * (3 - len(found)))
 
 
-def wrapped(a, b):
-    return (b - a + 32768) % 65536 - 32768
+def wrapped(a, b, slope):
+    return slope + (b - a - slope + 32768) % 65536 - 32768
 
 
-def residues(width, height, phase):
+def residues(width, height, phase, across, down):
     """How many cells have one."""
     total = 0
     for p in range((height - 1) * width):
         if p % width + 1 < width:
             a, b, c, d = phase[p], phase[p + 1], phase[p + width], phase[p + width + 1]
-            total += wrapped(a, b) + wrapped(b, d) != wrapped(c, d) + wrapped(a, c)
+            total += wrapped(a, b, across) + wrapped(b, d, down) != wrapped(c, d, across) + wrapped(a, c, down)
     return total
 
 
-def costs(width, height, side, phase, weights, mask, surface):
+def costs(width, height, side, phase, weights, mask, surface, across, down):
     """Of the tiles, and of the seams."""
     tiles = seams = 0
     for p in range(width * height):
         x, y = p % width, p // width
-        for q, place, size in ((p + 1, x + 1, width), (p + width, y + 1, height)):
+        for q, place, size, slope in ((p + 1, x + 1, width, across), (p + width, y + 1, height, down)):
             if place < size and mask[p] and mask[q]:
-                departure = (surface[q] - surface[p] - wrapped(phase[p], phase[q])) // 65536
+                departure = (surface[q] - surface[p] - wrapped(phase[p], phase[q], slope)) // 65536
                 cost = min(weights[p], weights[q]) * abs(departure)
                 if place % side == 0:
                     seams += cost
@@ -68,7 +69,7 @@ def costs(width, height, side, phase, weights, mask, surface):
 def main():
     width, height, phase, weights, mask = planes(open(sys.argv[1], "rb").read())
     words = open(sys.argv[2]).read().split()
-    side = int(sys.argv[3])
+    side, ramp = int(sys.argv[3]), [int(word) for word in sys.argv[5:7]] or [0, 0]
     header = f"ncols {width} nrows {height} xllcorner 0 yllcorner 0 cellsize 1 NODATA_value {NODATA}".split()
     if words[:12] != header or len(words) != 12 + width * height:
         sys.exit("the grid has not the input's size")
@@ -81,10 +82,10 @@ def main():
     first = next((p for p in range(width * height) if mask[p]), None)
     if first is not None and surface[first] != phase[first]:
         sys.exit("the first open pixel has not its phase")
-    tiles, seams = costs(width, height, side, phase, weights, mask, surface)
+    tiles, seams = costs(width, height, side, phase, weights, mask, surface, *ramp)
     cells = (width - 1) * (height - 1)
-    print(f"residues {residues(width, height, phase)} of {cells} cells, tile cost {tiles}, seam cost {seams}")
-    if sys.argv[4:] and int(sys.argv[4]) != tiles:
+    print(f"residues {residues(width, height, phase, *ramp)} of {cells} cells, tile cost {tiles}, seam cost {seams}")
+    if sys.argv[4:5] not in ([], ["-"]) and int(sys.argv[4]) != tiles:
         sys.exit(f"the tiles do not cost {sys.argv[4]}")
 
 

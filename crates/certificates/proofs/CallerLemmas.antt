@@ -1,11 +1,11 @@
 -- For the crates above: what a certificate and a good result rest on.
-use Rattle.std.proofs.Common.{◌≡◌, ◌∙◌, ℕ, ◌<◌, ◌*◌, ◌≤◌, ap₂, refl, subst, Bool, true, false, List}
-use Rattle.std.specs.Prelude.{ℤ, pos, IsTrue, ◌&&◌, if◌then◌else◌, unsigned_abs}
+use Rattle.std.proofs.Common.{◌≡◌, ◌∙◌, ℕ, ◌<◌, ◌*◌, ◌≤◌, ap, ap₂, refl, subst, sym, Bool, true, false, List}
+use Rattle.std.specs.Prelude.{ℤ, pos, ◌-ℤ◌, IsTrue, ◌&&◌, if◌then◌else◌, unsigned_abs}
 use Rattle.raster_model.specs.declared.edge.Edge.{Edge}
 use Rattle.raster_model.specs.declared.scene.Scene.{Scene}
 use Rattle.raster_model.specs.Sums.{Field, is_edge, end_x, end_y}
-use Rattle.raster_model.specs.Raster.{Raster, departure, has_open_ends, is_inner, edge_cost, inner_cost, tile_cost}
-use Rattle.raster_model.specs.Certificates.{IsTileEdge, face_difference, faces_of_tile}
+use Rattle.raster_model.specs.Raster.{Raster, departure, has_open_ends, is_inner, edge_cost, inner_cost, masked_weight, over, steps, tile_cost}
+use Rattle.raster_model.specs.Certificates.{IsTileEdge, face_bound, face_difference, face_over, face_over_total, face_total, faces_of_tile}
 use Rattle.raster_model.specs.Cells.{face_at, IsCertifiedTile}
 use Rattle.raster_model.specs.Tiles.{tiles_of, IsWithin}
 use Rattle.raster_model.specs.Scene.{raster_of}
@@ -23,14 +23,14 @@ pub record IsSameAt (r : Raster) (mask mask' : Field Bool) (S S' : Field ℤ) (e
   pub ends : has_open_ends mask e ≡ has_open_ends mask' e
   pub departs : IsTrue (has_open_ends mask e) → departure r S e ≡ departure r S' e
 
-same_cost : (b b' : Bool) (w : ℕ) (d d' : ℤ) → b ≡ b' → (IsTrue b → d ≡ d') → where_true b (pos ((if b then w else 0) * unsigned_abs d)) ≡ where_true b' (pos ((if b' then w else 0) * unsigned_abs d'))
-same_cost true true w d d' e h = rw (h refl) refl
-same_cost false false w d d' e h = refl
-same_cost true false w d d' e h = cc
-same_cost false true w d d' e h = cc
+same_cost : (b b' : Bool) (w q : ℕ) (d d' : ℤ) → b ≡ b' → (IsTrue b → d ≡ d') → where_true b (pos ((if b then w else 0) * steps q d)) ≡ where_true b' (pos ((if b' then w else 0) * steps q d'))
+same_cost true true w q d d' e h = rw (h refl) refl
+same_cost false false w q d d' e h = refl
+same_cost true false w q d d' e h = cc
+same_cost false true w q d d' e h = cc
 
 pub edge_cost-same : (r : Raster) (mask mask' : Field Bool) (S S' : Field ℤ) (e : Edge) → IsSameAt r mask mask' S S' e → edge_cost r mask S e ≡ edge_cost r mask' S' e
-edge_cost-same r mask mask' S S' e q = same_cost (has_open_ends mask e) (has_open_ends mask' e) (r.weight e) (departure r S e) (departure r S' e) q.ends q.departs
+edge_cost-same r mask mask' S S' e q = same_cost (has_open_ends mask e) (has_open_ends mask' e) (r.weight e) r.steep (departure r S e) (departure r S' e) q.ends q.departs
 
 -- what certifies a surface in a tile under one mask certifies another there under another, where all inner edges of the tile are the same
 module _ (r : Raster) (mask mask' : Field Bool) (S S' : Field ℤ) (t : ℕ) (same : (e : Edge) → IsTileEdge r t e → IsSameAt r mask mask' S S' e) where
@@ -41,12 +41,23 @@ module _ (r : Raster) (mask mask' : Field Bool) (S S' : Field ℤ) (t : ℕ) (sa
       (λ e i. where_true-same (is_inner r t e) (edge_cost r mask S e) (edge_cost r mask' S' e)
       (λ n. edge_cost-same r mask mask' S S' e (same e (and_from (is_edge r.width r.height e) (is_inner r t e) i n))))
 
+  weight-same : (e : Edge) → IsTileEdge r t e → masked_weight r mask e ≡ masked_weight r mask' e
+  weight-same e i = ap (λ (b : Bool). if b then r.weight e else 0) (same e i).ends
+
+  pub face_bound-same : (f : Field ℤ) → face_bound r mask t f ≡ face_bound r mask' t f
+  unfolding face_over_total
+  face_bound-same f =
+      ap (λ (z : ℤ). face_total r t f -ℤ z)
+      (sum_edges-same r.width r.height (face_over r mask t f) (face_over r mask' t f)
+      (λ e i. where_true-same (is_inner r t e) (pos (over (masked_weight r mask e) (face_difference (faces_of_tile r t f) e))) (pos (over (masked_weight r mask' e) (face_difference (faces_of_tile r t f) e)))
+      (λ n. ap (λ (w : ℕ). pos (over w (face_difference (faces_of_tile r t f) e))) (weight-same e (and_from (is_edge r.width r.height e) (is_inner r t e) i n)))))
+
   pub certified_same : (faces : List ℤ) → IsCertifiedTile r mask t S faces → IsCertifiedTile r mask' t S' faces
   certified_same faces c = (
     c.0,
     record {
-      fits = λ e i. subst (λ (b : Bool). unsigned_abs (face_difference (faces_of_tile r t (face_at r t faces)) e) ≤ (if b then r.weight e else 0)) (same e i).ends (c.1.fits e i);
-      equal = c.1.equal ∙ tile_cost-same;
+      fits = λ e i. subst (λ (w : ℕ). unsigned_abs (face_difference (faces_of_tile r t (face_at r t faces)) e) ≤ r.steep * w) (weight-same e i) (c.1.fits e i);
+      equal = sym (face_bound-same (face_at r t faces)) ∙ c.1.equal ∙ tile_cost-same;
     },
   )
 

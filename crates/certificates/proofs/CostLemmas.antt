@@ -58,13 +58,13 @@ module _ (k : Tile) (x y : ℕ) (clear : AreRowsOpen k y) (w : IsWithin k.window
       both_true (held_mask k x y) (held_mask k x (y + 1)) (clear x y w (omega arith) (omega arith)) (clear x (y + 1) (w.0, w.1, omega (arith, w), omega (arith, l)) (omega arith) (omega arith))
 
 -- a cost that is worked out, or 0
-pub cost_or_none : (a b : ℕ) → a ≡ b → b ≤ 65535 * (2 ^ 49 + 1) → a ≤ 65535 * (2 ^ 49 + 1)
+pub cost_or_none : (a b : ℕ) → a ≡ b → b ≤ 1048560 * (2 ^ 49 + 1) → a ≤ 1048560 * (2 ^ 49 + 1)
 cost_or_none a b e l = omega (arith, e, l)
 
-pub no_cost : (a : ℕ) → a ≡ 0 → a ≤ 65535 * (2 ^ 49 + 1)
+pub no_cost : (a : ℕ) → a ≡ 0 → a ≤ 1048560 * (2 ^ 49 + 1)
 no_cost a e = omega (arith, e)
 
-pub costs_fit : (a b : ℕ) → a ≤ 65535 * (2 ^ 49 + 1) → b ≤ 65535 * (2 ^ 49 + 1) → Fits w128 (a + b) × (a + b ≤ 2 * 65535 * (2 ^ 49 + 1))
+pub costs_fit : (a b : ℕ) → a ≤ 1048560 * (2 ^ 49 + 1) → b ≤ 1048560 * (2 ^ 49 + 1) → Fits w128 (a + b) × (a + b ≤ 2 * 1048560 * (2 ^ 49 + 1))
 costs_fit a b k l = (record { fits = omega (arith, k, l) }, omega (arith, k, l))
 
 pub both_costs : (s : Scene) (mask : Field Bool) (S : Field ℤ) (tile : ℕ) (v : Window) → IsWindowOf s.tiling tile v → (x y a b : ℕ) → IsWithin v x y

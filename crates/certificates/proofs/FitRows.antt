@@ -1,5 +1,5 @@
 -- Rows of a tile at whose inner edges the faces fit.
-use Rattle.std.proofs.Common.{◌≡◌, ◌∙◌, ℕ, ◌+◌, ◌-◌, ◌<◌, ◌≤◌, ap, ap₂, refl, arith, Bool, true, false, inl, inr, List, to_z, of_z, w64, FitsSigned}
+use Rattle.std.proofs.Common.{◌≡◌, ◌∙◌, ℕ, ◌+◌, ◌-◌, ◌*◌, ◌<◌, ◌≤◌, ap, ap₂, refl, arith, Bool, true, false, inl, inr, List, to_z, of_z, w64, FitsSigned}
 use Rattle.std.specs.Prelude.{ℤ, ◌-ℤ◌, ◌||◌, IsTrue, if◌then◌else◌, nat_lt, unsigned_abs}
 use Rattle.std.proofs.lemmas.Bool.{cases_lt}
 use Rattle.std.proofs.lemmas.Int.{to_z-of_z}
@@ -29,18 +29,18 @@ open_weight false w t = absurd cc
 
 module _ (k : Tile) (faces : List ℤ) where
   -- the code's test at an edge with open ends
-  fits_between : (e : Edge) (w d : ℕ) (a b : ℤ) → FitsSigned w64 a → FitsSigned w64 b → d ≡ unsigned_abs (to_z w64 (of_z w64 a) -ℤ to_z w64 (of_z w64 b)) → w ≡ (held_raster k).weight e → IsTrue (has_open_ends (held_mask k) e) → a -ℤ b ≡ difference_at k faces e → nat_lt w d ≡ false → FitAt k faces e
+  fits_between : (e : Edge) (w d : ℕ) (a b : ℤ) → FitsSigned w64 a → FitsSigned w64 b → d ≡ unsigned_abs (to_z w64 (of_z w64 a) -ℤ to_z w64 (of_z w64 b)) → w ≡ (held_raster k).steep * (held_raster k).weight e → IsTrue (has_open_ends (held_mask k) e) → a -ℤ b ≡ difference_at k faces e → nat_lt w d ≡ false → FitAt k faces e
   fits_between e w d a b f g is weighs clear differ t =
       at_most d w _ _
       (is ∙ ap₂ (λ (u v : ℤ). unsigned_abs (u -ℤ v)) (to_z-of_z w64 a f) (to_z-of_z w64 b g) ∙ ap unsigned_abs differ)
-      (weighs ∙ open_weight (has_open_ends (held_mask k) e) ((held_raster k).weight e) clear)
+      (weighs ∙ ap (λ (n : ℕ). (held_raster k).steep * n) (open_weight (has_open_ends (held_mask k) e) ((held_raster k).weight e) clear))
       (not_lt w d t)
 
-  pub fits_right : (x y w d : ℕ) (a b : ℤ) → FitsSigned w64 a → FitsSigned w64 b → d ≡ unsigned_abs (to_z w64 (of_z w64 a) -ℤ to_z w64 (of_z w64 b)) → w ≡ (held_raster k).weight (right_edge x y) → IsTrue (has_open_ends (held_mask k) (right_edge x y)) → 0 < y → a ≡ faces_at k faces x (y - 1) → b ≡ faces_at k faces x y → nat_lt w d ≡ false → FitAt k faces (right_edge x y)
+  pub fits_right : (x y w d : ℕ) (a b : ℤ) → FitsSigned w64 a → FitsSigned w64 b → d ≡ unsigned_abs (to_z w64 (of_z w64 a) -ℤ to_z w64 (of_z w64 b)) → w ≡ (held_raster k).steep * (held_raster k).weight (right_edge x y) → IsTrue (has_open_ends (held_mask k) (right_edge x y)) → 0 < y → a ≡ faces_at k faces x (y - 1) → b ≡ faces_at k faces x y → nat_lt w d ≡ false → FitAt k faces (right_edge x y)
   fits_right x y w d a b f g is weighs clear l p q t =
       fits_between (right_edge x y) w d a b f g is weighs clear (difference_right (faces_at k faces) (right_edge x y) a b refl (before-pred (faces_at k faces x) y a l p) q) t
 
-  pub fits_down : (x y w d : ℕ) (a b : ℤ) → FitsSigned w64 a → FitsSigned w64 b → d ≡ unsigned_abs (to_z w64 (of_z w64 a) -ℤ to_z w64 (of_z w64 b)) → w ≡ (held_raster k).weight (down_edge x y) → IsTrue (has_open_ends (held_mask k) (down_edge x y)) → 0 < x → a ≡ faces_at k faces x y → b ≡ faces_at k faces (x - 1) y → nat_lt w d ≡ false → FitAt k faces (down_edge x y)
+  pub fits_down : (x y w d : ℕ) (a b : ℤ) → FitsSigned w64 a → FitsSigned w64 b → d ≡ unsigned_abs (to_z w64 (of_z w64 a) -ℤ to_z w64 (of_z w64 b)) → w ≡ (held_raster k).steep * (held_raster k).weight (down_edge x y) → IsTrue (has_open_ends (held_mask k) (down_edge x y)) → 0 < x → a ≡ faces_at k faces x y → b ≡ faces_at k faces (x - 1) y → nat_lt w d ≡ false → FitAt k faces (down_edge x y)
   fits_down x y w d a b f g is weighs clear l p q t =
       fits_between (down_edge x y) w d a b f g is weighs clear (difference_down (faces_at k faces) (down_edge x y) a b refl p (before-pred (λ (n : ℕ). faces_at k faces n y) x b l q)) t
 

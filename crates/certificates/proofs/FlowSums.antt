@@ -1,16 +1,16 @@
 -- Sums of flows at regions and of their products with departures, as double loops add them up.
 use Rattle.std.proofs.Common.{◌≡◌, ℕ, ◌+◌, ◌*◌, ◌^◌, ◌<◌, ◌≤◌, to_z, of_z, w64, FitsSigned, sym, ◌∙◌, ap, refl, arith, Bool, true, false, List, length, get_or, set, replicate, inl, inr}
-use Rattle.std.specs.Prelude.{ℤ, pos, ◌+ℤ◌, ◌-ℤ◌, ◌&&◌, ◌==◌, nat_lt, unsigned_abs}
+use Rattle.std.specs.Prelude.{ℤ, pos, ◌+ℤ◌, ◌-ℤ◌, ◌*ℤ◌, ◌&&◌, ◌==◌, nat_lt, unsigned_abs}
 use Rattle.std.proofs.lemmas.Int.{ints, fits_signed_from_abs}
 use Rattle.std.proofs.lemmas.Bool.Decides.{nat_tests, eqb_tells}
 use Rattle.std.proofs.lemmas.List.{length-set, get_or-set_same, get_or-set_other, get_or-replicate, get_or_past, length-replicate}
 use Rattle.raster_model.specs.declared.edge.Edge.{Edge}
 use Rattle.raster_model.specs.Sums.{Field, is_edge, right_edge, down_edge, edges_from, sum_edges, sum_grid, sum_row, at_edge_start, at_edge_end}
-use Rattle.raster_model.specs.Raster.{Raster, is_seam, lifted}
-use Rattle.raster_model.specs.Seams.{flow_in, flow_out, flow_total}
-use Rattle.raster_model.proofs.SumLemmas.{sum_edges-add, sum_edges-same}
+use Rattle.raster_model.specs.Raster.{Raster, departure, has_open_ends, is_seam, lifted}
+use Rattle.raster_model.specs.Seams.{flow_in, flow_out, flow_over, flow_over_total, flow_total}
+use Rattle.raster_model.proofs.SumLemmas.{sum_edges-add, sum_edges-less, sum_edges-same}
 use Rattle.certificates.specs.declared.seam_flows.SeamFlows.{SeamFlows}
-use Rattle.certificates.specs.FlowWords.{held_raster, held_mask, flow_of, region_in, net_flow, moved_on, moved_from, seam_product, product_on, product_from, total_of}
+use Rattle.certificates.specs.FlowWords.{held_raster, held_mask, flow_of, region_in, net_flow, moved_on, moved_from, seam_part, part_on, parts_from, bound_of}
 use Rattle.certificates.specs.Growth.{AreWithinWeights, HasGrown}
 use Rattle.std.proofs.lemmas.Bool.{cases_lt}
 use Rattle.sums_and_lists.proofs.Tests.{same_number}
@@ -30,26 +30,26 @@ set_grown xs place a z l e = record {
     none : (x m : ℤ) → m ≡ pos 0 → x ≡ x +ℤ m
     none x m p = omega (arith, ints)
 
-pub set_within : (xs : List ℤ) (place : ℕ) (a z : ℤ) → place < length xs → z ≡ get_or xs place (pos 0) +ℤ a → unsigned_abs a ≤ 65535 → (n : ℕ) → AreWithinWeights n xs → AreWithinWeights (n + 1) (set xs place z)
+pub set_within : (xs : List ℤ) (place : ℕ) (a z : ℤ) → place < length xs → z ≡ get_or xs place (pos 0) +ℤ a → unsigned_abs a ≤ 1048560 → (n : ℕ) → AreWithinWeights n xs → AreWithinWeights (n + 1) (set xs place z)
 set_within xs place a z l e small n h v = elim (eqb_tells place v) [
   | inl t ↦ rw (← t.1, get_or-set_same xs place z (pos 0) l, e) (grows (get_or xs place (pos 0)) a n (h place) small)
   | inr t ↦ rw (get_or-set_other xs place v z (pos 0) (λ p. t.1 (sym p))) (stays (get_or xs v (pos 0)) n (h v))
 ]
   where
-    grows : (x a : ℤ) (n : ℕ) → unsigned_abs x ≤ 65535 * n → unsigned_abs a ≤ 65535 → unsigned_abs (x +ℤ a) ≤ 65535 * (n + 1)
+    grows : (x a : ℤ) (n : ℕ) → unsigned_abs x ≤ 1048560 * n → unsigned_abs a ≤ 1048560 → unsigned_abs (x +ℤ a) ≤ 1048560 * (n + 1)
     grows x a n k l = omega (arith, ints)
 
-    stays : (x : ℤ) (n : ℕ) → unsigned_abs x ≤ 65535 * n → unsigned_abs x ≤ 65535 * (n + 1)
+    stays : (x : ℤ) (n : ℕ) → unsigned_abs x ≤ 1048560 * n → unsigned_abs x ≤ 1048560 * (n + 1)
     stays x n k = omega (arith, k)
 
 -- the code's sum, at 64 bits
-pub number_fits : (x a : ℤ) → unsigned_abs x ≤ 65535 * 2 ^ 31 → unsigned_abs a ≤ 65535 → (to_z w64 (of_z w64 (to_z w64 (of_z w64 x) +ℤ to_z w64 (of_z w64 a))) ≡ x +ℤ a) × FitsSigned w64 (to_z w64 (of_z w64 x) +ℤ to_z w64 (of_z w64 a))
+pub number_fits : (x a : ℤ) → unsigned_abs x ≤ 1048560 * 2 ^ 31 → unsigned_abs a ≤ 1048560 → (to_z w64 (of_z w64 (to_z w64 (of_z w64 x) +ℤ to_z w64 (of_z w64 a))) ≡ x +ℤ a) × FitsSigned w64 (to_z w64 (of_z w64 x) +ℤ to_z w64 (of_z w64 a))
 number_fits x a k l =
     let p : to_z w64 (of_z w64 x) ≡ x = omega (arith, ints, k) in
     let q : to_z w64 (of_z w64 a) ≡ a = omega (arith, ints, l) in
     rw (p, q) (back (x +ℤ a) (sum x a k l), fits_signed_from_abs w64 (x +ℤ a) (sum x a k l))
   where
-    sum : (x a : ℤ) → unsigned_abs x ≤ 65535 * 2 ^ 31 → unsigned_abs a ≤ 65535 → unsigned_abs (x +ℤ a) < 2 ^ 63
+    sum : (x a : ℤ) → unsigned_abs x ≤ 1048560 * 2 ^ 31 → unsigned_abs a ≤ 1048560 → unsigned_abs (x +ℤ a) < 2 ^ 63
     sum x a k l = omega (arith, ints)
 
     back : (z : ℤ) → unsigned_abs z < 2 ^ 63 → to_z w64 (of_z w64 z) ≡ z
@@ -76,13 +76,15 @@ moved_both k labels x y l m a b c g h = record {
     added : (a b c t u m : ℤ) → b ≡ a +ℤ t → c ≡ b +ℤ u → t +ℤ u ≡ m → c ≡ a +ℤ m
     added a b c t u m p q r = omega (arith, ints)
 
-pub product_both : (k : SeamFlows) (cycles : Field ℤ) (x y : ℕ) → x < k.scene.now.phase.width → y < k.scene.now.phase.height → (p q : ℤ) → p ≡ product_on k cycles (right_edge x y) → q ≡ product_on k cycles (down_edge x y) → p +ℤ q ≡ product_from k cycles x y
-product_both k cycles x y l m p q e f =
-    rw (e, f) (both_terms k.scene.now.phase.width k.scene.now.phase.height x y (seam_product (held_raster k) (held_mask k) (lifted (held_raster k) cycles) (flow_of k)) l m)
+pub parts_both : (k : SeamFlows) (cycles : Field ℤ) (x y : ℕ) → x < k.scene.now.phase.width → y < k.scene.now.phase.height → (p q : ℤ) → p ≡ part_on k cycles (right_edge x y) → q ≡ part_on k cycles (down_edge x y) → p +ℤ q ≡ parts_from k cycles x y
+parts_both k cycles x y l m p q e f =
+    rw (e, f) (both_terms k.scene.now.phase.width k.scene.now.phase.height x y (seam_part (held_raster k) (held_mask k) (lifted (held_raster k) cycles) (flow_of k)) l m)
 
-pub total_is : (k : SeamFlows) (cycles : Field ℤ) → sum_grid k.scene.now.phase.width k.scene.now.phase.height (product_from k cycles) ≡ total_of k cycles
-unfolding flow_total seam_product
-total_is k cycles = refl
+pub bound_is : (k : SeamFlows) (cycles : Field ℤ) → sum_grid k.scene.now.phase.width k.scene.now.phase.height (parts_from k cycles) ≡ bound_of k cycles
+unfolding flow_total flow_over_total seam_part
+bound_is k cycles =
+    let r = held_raster k in
+    sum_edges-less r.width r.height (λ e. where_true (is_seam r e && has_open_ends (held_mask k) e) (flow_of k e *ℤ departure r (lifted r cycles) e)) (flow_over r (held_mask k) (flow_of k))
 
 -- ---- what all the edges add to a region
 net_is : (s t u : Bool) (z : ℤ) → where_true s (where_true t z -ℤ where_true u z) +ℤ where_true (s && u) z ≡ where_true (s && t) z

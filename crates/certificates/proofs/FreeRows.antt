@@ -1,11 +1,12 @@
 -- Rows whose edges add nothing to a tile's cost, since the surface departs at none of them.
 use Rattle.std.proofs.Common.{◌≡◌, ◌∙◌, ℕ, ◌+◌, ◌*◌, ◌<◌, ◌≤◌, ap, ap₂, sym, arith, Bool, false, inl, inr, of_z, w64, FitsSigned}
-use Rattle.std.specs.Prelude.{ℤ, pos, ◌+ℤ◌, ◌==◌, ◌||◌, not, nat_lt, unsigned_abs}
+use Rattle.std.specs.Prelude.{ℤ, pos, ◌+ℤ◌, ◌==◌, ◌||◌, not, nat_lt}
 use Rattle.std.proofs.lemmas.Bool.{cases_lt}
 use Rattle.std.proofs.lemmas.Bool.Decides.{nat_tests}
-use Rattle.raster_model.specs.Raster.{departure, edge_cost, has_open_ends, masked_weight}
+use Rattle.raster_model.specs.Raster.{departure, edge_cost, has_open_ends, masked_weight, steps}
 use Rattle.raster_model.specs.Sums.{Field, right_edge, down_edge, sum_row}
 use Rattle.raster_model.specs.declared.edge.Edge.{Edge}
+use Rattle.raster_model.proofs.Steps.{no_steps}
 use Rattle.raster_model.proofs.WindowCosts.{cost_from_is, cost_from-outside}
 use Rattle.certificates.specs.declared.tile.Tile.{Tile}
 use Rattle.certificates.proofs.RangeLemmas.{neither}
@@ -15,10 +16,10 @@ use Rattle.sums_and_lists.specs.Sums.{where_true}
 use Rattle.sums_and_lists.proofs.Orders.{below_or_last, lt_is, not_lt_is}
 use Rattle.sums_and_lists.proofs.SumLemmas.{no_number, picked, sum_below-zeros, where_true-zero}
 
-no_product : (t : Bool) (w : ℕ) (d : ℤ) → d ≡ pos 0 → where_true t (pos (w * unsigned_abs d)) ≡ pos 0
-no_product t w d e =
+no_product : (t : Bool) (w q : ℕ) (d : ℤ) → d ≡ pos 0 → where_true t (pos (w * steps q d)) ≡ pos 0
+no_product t w q d e =
     let z : w * 0 ≡ 0 = omega arith in
-    rw e (ap (λ (n : ℕ). where_true t (pos n)) z ∙ where_true-zero t)
+    rw (no_steps q d e) (ap (λ (n : ℕ). where_true t (pos n)) z ∙ where_true-zero t)
 
 none_before : (a b : ℕ) (z : ℤ) → (a < b → z ≡ pos 0) → where_true (nat_lt a b) z ≡ pos 0
 none_before a b z f =
@@ -26,7 +27,7 @@ none_before a b z f =
 
 module _ (k : Tile) (cycles : Field ℤ) (y : ℕ) (row : (k.window.y0 ≤ y) × (y ≤ k.window.y1)) (right : TileFollowsRight k cycles y k.window.x1) (down : y < k.window.y1 → TileFollowsDown k cycles y (k.window.x1 + 1)) where
   free_edge : (e : Edge) → departure (held_raster k) (surface_of_cycles k cycles) e ≡ pos 0 → edge_cost (held_raster k) (held_mask k) (surface_of_cycles k cycles) e ≡ pos 0
-  free_edge e d = no_product (has_open_ends (held_mask k) e) (masked_weight (held_raster k) (held_mask k) e) (departure (held_raster k) (surface_of_cycles k cycles) e) d
+  free_edge e d = no_product (has_open_ends (held_mask k) e) (masked_weight (held_raster k) (held_mask k) e) (held_raster k).steep (departure (held_raster k) (surface_of_cycles k cycles) e) d
 
   free_within : (x : ℕ) → k.window.x0 ≤ x → x ≤ k.window.x1 → cost_at k cycles x y ≡ pos 0
   free_within x l m =

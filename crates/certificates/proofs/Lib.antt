@@ -4,6 +4,7 @@ mod ZeroLemmas
 mod ZeroFlows
 pub mod TileParts
 pub mod CostLemmas
+mod OverLemmas
 pub mod EdgeCosts
 mod FreeRows
 mod FitRows

@@ -13,7 +13,7 @@ use Rattle.raster_model.specs.Flows.{is_seam_edge, seams_before, seams_from}
 use Rattle.certificates.specs.Ends.{PassNoEnd, passes_end}
 use Rattle.certificates.specs.declared.seam_flows.SeamFlows.{SeamFlows}
 use Rattle.certificates.specs.EdgeWords.{HoldsBefore}
-use Rattle.certificates.specs.FlowWords.{flow_of, held_mask, moved_from, net_flow, product_from, held_raster, region_in, seam_product}
+use Rattle.certificates.specs.FlowWords.{flow_of, held_mask, moved_from, net_flow, parts_from, held_raster, region_in, seam_part}
 use Rattle.certificates.specs.SeamVerdicts.{IsSeamEdge}
 use Rattle.certificates.specs.Starts.{HasNoSeams}
 use Rattle.certificates.proofs.EdgeBlocks.{passes_leads}
@@ -87,12 +87,12 @@ cost_past r mask S a b y z none l m n e = e ∙ sym (row_past r a b y none l (se
 
 -- the sum of products, and the sums at the regions
 module _ (k : SeamFlows) (a b y : ℕ) (none : HasNoSeams (held_raster k) a b y) (l : a ≤ b) (m : b ≤ k.scene.now.phase.width) (n : y < k.scene.now.phase.height) where
-  product_row : (cycles : Field ℤ) → sum_row b (product_from k cycles) y ≡ sum_row a (product_from k cycles) y
-  unfolding seam_product
-  product_row cycles = row_past (held_raster k) a b y none l (seam_product (held_raster k) (held_mask k) (lifted (held_raster k) cycles) (flow_of k)) (λ e s. rw s refl) m n
+  product_row : (cycles : Field ℤ) → sum_row b (parts_from k cycles) y ≡ sum_row a (parts_from k cycles) y
+  unfolding seam_part
+  product_row cycles = row_past (held_raster k) a b y none l (seam_part (held_raster k) (held_mask k) (lifted (held_raster k) cycles) (flow_of k)) (λ e s. rw s refl) m n
 
-  pub product_past : (cycles : Field ℤ) (z R : ℤ) → z ≡ R +ℤ sum_row a (product_from k cycles) y → z ≡ R +ℤ sum_row b (product_from k cycles) y
-  product_past cycles z R e = e ∙ sym (ap (λ (s : ℤ). R +ℤ s) (product_row cycles))
+  pub part_past : (cycles : Field ℤ) (z R : ℤ) → z ≡ R +ℤ sum_row a (parts_from k cycles) y → z ≡ R +ℤ sum_row b (parts_from k cycles) y
+  part_past cycles z R e = e ∙ sym (ap (λ (s : ℤ). R +ℤ s) (product_row cycles))
 
   moved_row : (labels : List ℕ) (v : ℕ) → sum_row b (moved_from k labels v) y ≡ sum_row a (moved_from k labels v) y
   unfolding net_flow

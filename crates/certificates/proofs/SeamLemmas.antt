@@ -1,5 +1,5 @@
 -- Seam edges, the places of their flows, and what a flow other than 0 tells of its edge.
-use Rattle.std.proofs.Common.{◌≡◌, ◌∙◌, ℕ, ◌+◌, ◌*◌, ◌<◌, ◌≤◌, ◌^◌, sym, ap, refl, arith, Bool, true, false, List, length, get_or, to_z, of_z, w64, Fits, FitsSigned}
+use Rattle.std.proofs.Common.{◌≡◌, ◌∙◌, ℕ, ◌+◌, ◌-◌, ◌*◌, ◌<◌, ◌≤◌, ◌^◌, sym, ap, ap₂, refl, arith, Bool, true, false, List, length, get_or, to_z, of_z, w64, Fits, FitsSigned}
 use Rattle.std.specs.Prelude.{ℤ, pos, neg_ℤ, ◌+ℤ◌, ◌-ℤ◌, ◌*ℤ◌, ◌&&◌, ◌==◌, nat_lt, IsTrue, MatchBool, unsigned_abs, if◌then◌else◌}
 use Rattle.std.specs.Int.{w128}
 use Rattle.std.proofs.lemmas.Int.{ints, unsigned_abs-mul, to_z-of_z, fits_signed_from_abs}
@@ -9,14 +9,14 @@ use Rattle.raster_model.specs.declared.edge.Edge.{Edge}
 use Rattle.raster_model.specs.declared.scene.Scene.{Scene}
 use Rattle.raster_model.specs.Sums.{Field, is_edge, end_x, end_y, at_edge_start, at_edge_end}
 use Rattle.raster_model.specs.Heights.{KnowsOpen, KnowsEnds}
-use Rattle.raster_model.specs.Raster.{Raster, is_seam, has_open_ends, masked_weight, departure, lifted}
+use Rattle.raster_model.specs.Raster.{Raster, is_seam, has_open_ends, masked_weight, departure, lifted, over}
 use Rattle.raster_model.specs.Flows.{is_seam_edge, flow_at}
 use Rattle.raster_model.specs.Seams.{IsOpenPixel}
 use Rattle.raster_model.proofs.FlowLemmas.{place_below}
 use Rattle.certificates.specs.declared.seam_flows.SeamFlows.{SeamFlows}
 use Rattle.certificates.specs.EdgeWords.{HoldsIfPart, IsBreak}
 use Rattle.certificates.specs.SeamVerdicts.{label_at}
-use Rattle.certificates.specs.FlowWords.{held_raster, held_mask, flow_of, flow_or_none, PlacedAt, IsSeamOf, IsSmallAt, FlowFitsAt, FlowsFit, HasLabels, net_flow, moved_on, seam_product, product_on}
+use Rattle.certificates.specs.FlowWords.{held_raster, held_mask, flow_of, flow_or_none, PlacedAt, IsSeamOf, IsSmallAt, FlowFitsAt, FlowsFit, HasLabels, net_flow, moved_on, seam_part, part_on}
 use Rattle.certificates.specs.Growth.{AreWithinWeights, HasGrown}
 use Rattle.sums_and_lists.proofs.Orders.{ends_in, not_lt}
 use Rattle.sums_and_lists.specs.Sums.{where_true, one_if}
@@ -36,9 +36,9 @@ chosen : (t : Bool) (f z : ℤ) → z ≡ where_true t f → (z ≡ pos 0 → �
 chosen true f z e n = (refl, e)
 chosen false f z e n = absurd (n e)
 
-open_if : (b : Bool) (w : ℕ) (z : ℤ) → unsigned_abs z ≤ (if b then w else 0) → (z ≡ pos 0 → ⊥) → b ≡ true
-open_if true w z l n = refl
-open_if false w z l n = absurd (n (omega (arith, ints, l)))
+open_if : (b : Bool) (w q : ℕ) (z : ℤ) → unsigned_abs z ≤ q * (if b then w else 0) → (z ≡ pos 0 → ⊥) → b ≡ true
+open_if true w q z l n = refl
+open_if false w q z l n = absurd (n (omega (arith, ints, l)))
 
 both_hold : (a b : Bool) → (a && b) ≡ true → (a ≡ true) × (b ≡ true)
 both_hold true true e = (refl, refl)
@@ -56,7 +56,7 @@ pub edge_of_seam : (k : SeamFlows) (e : Edge) → is_seam_edge (held_raster k) e
 edge_of_seam k e s = (both_hold (is_edge k.scene.now.phase.width k.scene.now.phase.height e) (is_seam (held_raster k) e) s).0
 
 -- what a test of a flow against its weight says
-module _ (k : SeamFlows) (e : Edge) (z : ℤ) (u w : ℕ) (is : z ≡ flow_or_none k e) (a : u ≡ unsigned_abs z) (b : w ≡ masked_weight (held_raster k) (held_mask k) e) (s : is_seam_edge (held_raster k) e ≡ true) where
+module _ (k : SeamFlows) (e : Edge) (z : ℤ) (u w : ℕ) (is : z ≡ flow_or_none k e) (a : u ≡ unsigned_abs z) (b : w ≡ (held_raster k).steep * masked_weight (held_raster k) (held_mask k) e) (s : is_seam_edge (held_raster k) e ≡ true) where
   size_there : u ≡ unsigned_abs (flow_of k e)
   size_there =
       let here : flow_or_none k e ≡ flow_of k e = rw s refl in
@@ -72,10 +72,10 @@ module _ (k : SeamFlows) (e : Edge) (z : ℤ) (u w : ℕ) (is : z ≡ flow_or_no
       go true t = (s, λ f. breaks w u t (rw (size_there, b) f))
       go false t = λ i. rw (← size_there, ← b) (not_lt w u t)
 
-  pub small_there : w ≤ 65535 → nat_lt w u ≡ false → HoldsIfPart (IsSeamOf k) (IsSmallAt k) e
+  pub small_there : w ≤ 1048560 → nat_lt w u ≡ false → HoldsIfPart (IsSeamOf k) (IsSmallAt k) e
   small_there l t i = rw (← size_there) (low w u l t)
     where
-      low : (w u : ℕ) → w ≤ 65535 → nat_lt w u ≡ false → u ≤ 65535
+      low : (w u : ℕ) → w ≤ 1048560 → nat_lt w u ≡ false → u ≤ 1048560
       low w u l t = grind (arith, nat_tests)
 
 -- no seam edge is heavy where there is none
@@ -103,7 +103,7 @@ module _ (k : SeamFlows) (e : Edge) (fit : FlowsFit k) (z : ℤ) (is : z ≡ flo
   pub is_flow : z ≡ flow_of k e
   is_flow = (chosen (is_seam_edge (held_raster k) e) (flow_of k e) z is n).1
 
-  pub is_small : unsigned_abs z ≤ 65535
+  pub is_small : unsigned_abs z ≤ 1048560
   is_small = rw is_flow (fit.1 e seam)
 
   pub on_edge : is_edge k.scene.now.phase.width k.scene.now.phase.height e ≡ true
@@ -113,7 +113,7 @@ module _ (k : SeamFlows) (e : Edge) (fit : FlowsFit k) (z : ℤ) (is : z ≡ flo
   on_seam = (both_hold (is_edge k.scene.now.phase.width k.scene.now.phase.height e) (is_seam (held_raster k) e) seam).1
 
   pub ends_open : has_open_ends (held_mask k) e ≡ true
-  ends_open = open_if (has_open_ends (held_mask k) e) ((held_raster k).weight e) (flow_of k e) (fit.0 e seam) (λ q. n (is_flow ∙ q))
+  ends_open = open_if (has_open_ends (held_mask k) e) ((held_raster k).weight e) (held_raster k).steep (flow_of k e) (fit.0 e seam) (λ q. n (is_flow ∙ q))
 
   pub start_open : IsOpenPixel (held_raster k) (held_mask k) e.x e.y
   start_open =
@@ -148,10 +148,10 @@ within_more m n xs l h v = let k = h v in omega (arith, k, l)
 pub few_moves : (s : Scene) (x y : ℕ) → x < s.phase.width → y < s.phase.height → 4 * (4096 * y + x) ≤ 536870912
 few_moves s x y l m = omega (arith, s.same_width, s.same_height, s.tiling.wide, s.tiling.high)
 
-pub amounts : (z : ℤ) → unsigned_abs z ≤ 65535 → (to_z w64 (of_z w64 z) ≡ z) × (unsigned_abs (to_z w64 (of_z w64 z)) ≤ 65535)
+pub amounts : (z : ℤ) → unsigned_abs z ≤ 1048560 → (to_z w64 (of_z w64 z) ≡ z) × (unsigned_abs (to_z w64 (of_z w64 z)) ≤ 1048560)
 amounts z l = (omega (arith, ints), omega (arith, ints))
 
-pub negated : (z : ℤ) → unsigned_abs z ≤ 65535 → (to_z w64 (of_z w64 (pos 0 -ℤ to_z w64 (of_z w64 z))) ≡ neg_ℤ z) × (unsigned_abs (to_z w64 (of_z w64 (pos 0 -ℤ to_z w64 (of_z w64 z)))) ≤ 65535) × FitsSigned w64 (pos 0 -ℤ to_z w64 (of_z w64 z))
+pub negated : (z : ℤ) → unsigned_abs z ≤ 1048560 → (to_z w64 (of_z w64 (pos 0 -ℤ to_z w64 (of_z w64 z))) ≡ neg_ℤ z) × (unsigned_abs (to_z w64 (of_z w64 (pos 0 -ℤ to_z w64 (of_z w64 z)))) ≤ 1048560) × FitsSigned w64 (pos 0 -ℤ to_z w64 (of_z w64 z))
 negated z l = (omega (arith, ints), omega (arith, ints), fits_signed_from_abs w64 (pos 0 -ℤ to_z w64 (of_z w64 z)) (omega (arith, ints)))
 
 moved_value : (ie is me ms te ts : Bool) (f z : ℤ) → ie ≡ true → is ≡ true → me ≡ true → ms ≡ true → z ≡ f → where_true ie (where_true is (where_true (me && te) f -ℤ where_true (ms && ts) f)) ≡ where_true te z +ℤ where_true ts (neg_ℤ z)
@@ -198,52 +198,69 @@ none_grown k labels e z is n a = record {
       omega (arith, ints, m));
 }
 
--- ---- a flow times a departure
-product_value : (ie is oe : Bool) (f z d : ℤ) → ie ≡ true → is ≡ true → oe ≡ true → z ≡ f → z *ℤ d ≡ where_true ie (where_true (is && oe) (f *ℤ d))
-product_value ie is oe f z d a b c e = rw (a, b, c, e) refl
+-- ---- a flow times a departure, less that by which the flow is above the weight
+part_value : (ie is oe : Bool) (f z d : ℤ) (w : ℕ) → ie ≡ true → is ≡ true → oe ≡ true → z ≡ f → z *ℤ d -ℤ pos (over w z) ≡ where_true ie (where_true (is && oe) (f *ℤ d) -ℤ where_true is (pos (over w f)))
+part_value ie is oe f z d w a b c e = rw (a, b, c, e) refl
 
-pub product_there : (k : SeamFlows) (cycles : Field ℤ) (e : Edge) (fit : FlowsFit k) (z d : ℤ) → z ≡ flow_or_none k e → (z ≡ pos 0 → ⊥) → d ≡ departure (held_raster k) (lifted (held_raster k) cycles) e → z *ℤ d ≡ product_on k cycles e
-unfolding seam_product
-product_there k cycles e fit z d is n m =
-    ap (λ (d : ℤ). z *ℤ d) m
-    ∙ product_value (is_edge k.scene.now.phase.width k.scene.now.phase.height e) (is_seam (held_raster k) e) (has_open_ends (held_mask k) e) (flow_of k e) z (departure (held_raster k) (lifted (held_raster k) cycles) e) (on_edge k e fit z is n) (on_seam k e fit z is n) (ends_open k e fit z is n) (is_flow k e fit z is n)
+pub part_there : (k : SeamFlows) (cycles : Field ℤ) (e : Edge) (fit : FlowsFit k) (z d : ℤ) (n : ℕ) → z ≡ flow_or_none k e → (z ≡ pos 0 → ⊥) → d ≡ departure (held_raster k) (lifted (held_raster k) cycles) e → n ≡ over (masked_weight (held_raster k) (held_mask k) e) z → z *ℤ d -ℤ pos n ≡ part_on k cycles e
+unfolding seam_part
+part_there k cycles e fit z d a is n m o =
+    ap₂ (λ (d : ℤ) (a : ℕ). z *ℤ d -ℤ pos a) m o
+    ∙ part_value (is_edge k.scene.now.phase.width k.scene.now.phase.height e) (is_seam (held_raster k) e) (has_open_ends (held_mask k) e) (flow_of k e) z (departure (held_raster k) (lifted (held_raster k) cycles) e) (masked_weight (held_raster k) (held_mask k) e) (on_edge k e fit z is n) (on_seam k e fit z is n) (ends_open k e fit z is n) (is_flow k e fit z is n)
 
-no_product_value : (ie is oe : Bool) (f d : ℤ) → where_true (ie && is) f ≡ pos 0 → pos 0 ≡ where_true ie (where_true (is && oe) (f *ℤ d))
-no_product_value true true true f d e = rw e (omega (arith, ints))
-no_product_value true true false f d e = refl
-no_product_value true false oe f d e = refl
-no_product_value false is oe f d e = refl
+no_part_value : (ie is oe : Bool) (f d : ℤ) (w : ℕ) → where_true (ie && is) f ≡ pos 0 → pos 0 ≡ where_true ie (where_true (is && oe) (f *ℤ d) -ℤ where_true is (pos (over w f)))
+no_part_value true true true f d w e = rw e (omega (arith, ints))
+no_part_value true true false f d w e = rw e (omega (arith, ints))
+no_part_value true false oe f d w e = refl
+no_part_value false is oe f d w e = refl
 
-pub no_product : (k : SeamFlows) (cycles : Field ℤ) (e : Edge) (z : ℤ) → z ≡ flow_or_none k e → z ≡ pos 0 → pos 0 ≡ product_on k cycles e
-unfolding seam_product
-no_product k cycles e z is n =
-    no_product_value (is_edge k.scene.now.phase.width k.scene.now.phase.height e) (is_seam (held_raster k) e) (has_open_ends (held_mask k) e) (flow_of k e) (departure (held_raster k) (lifted (held_raster k) cycles) e) (sym is ∙ n)
+pub no_part : (k : SeamFlows) (cycles : Field ℤ) (e : Edge) (z : ℤ) → z ≡ flow_or_none k e → z ≡ pos 0 → pos 0 ≡ part_on k cycles e
+unfolding seam_part
+no_part k cycles e z is n =
+    no_part_value (is_edge k.scene.now.phase.width k.scene.now.phase.height e) (is_seam (held_raster k) e) (has_open_ends (held_mask k) e) (flow_of k e) (departure (held_raster k) (lifted (held_raster k) cycles) e) (masked_weight (held_raster k) (held_mask k) e) (sym is ∙ n)
+
+-- a flow that fits, and that by which it is above the weight
+pub limit_small : (q w d : ℕ) → q ≤ 16 → w ≤ 65535 → d ≤ q * w → d ≤ 1048560
+limit_small q w d k l m = omega (arith, m, mul-le q w 16 65535 k l)
+
+pub not_over : (q w d : ℕ) → q ≡ 1 → d ≤ q * w → 0 ≡ d - w
+not_over q w d e l = let m = rw e at l in omega (arith, m)
 
 -- the code's product and sums, at 128 bits
-pub flow_product_fits : (a b : ℤ) → unsigned_abs a ≤ 65535 → unsigned_abs b ≤ 2 ^ 49 + 1 → (to_z w128 (of_z w128 (to_z w128 (of_z w128 a) *ℤ to_z w128 (of_z w128 b))) ≡ a *ℤ b) × (unsigned_abs (a *ℤ b) ≤ 65535 * (2 ^ 49 + 1)) × FitsSigned w128 (to_z w128 (of_z w128 a) *ℤ to_z w128 (of_z w128 b))
+pub flow_product_fits : (a b : ℤ) → unsigned_abs a ≤ 1048560 → unsigned_abs b ≤ 2 ^ 49 + 1 → (to_z w128 (of_z w128 (to_z w128 (of_z w128 a) *ℤ to_z w128 (of_z w128 b))) ≡ a *ℤ b) × (unsigned_abs (a *ℤ b) ≤ 1048560 * (2 ^ 49 + 1)) × FitsSigned w128 (to_z w128 (of_z w128 a) *ℤ to_z w128 (of_z w128 b))
 flow_product_fits a b k l =
     let p : to_z w128 (of_z w128 a) ≡ a = omega (arith, ints) in
     let q : to_z w128 (of_z w128 b) ≡ b = omega (arith, ints) in
-    let m : unsigned_abs (a *ℤ b) ≤ 65535 * (2 ^ 49 + 1) = rw unsigned_abs-mul (mul-le (unsigned_abs a) (unsigned_abs b) 65535 (2 ^ 49 + 1) k l) in
+    let m : unsigned_abs (a *ℤ b) ≤ 1048560 * (2 ^ 49 + 1) = rw unsigned_abs-mul (mul-le (unsigned_abs a) (unsigned_abs b) 1048560 (2 ^ 49 + 1) k l) in
     (rw (p, q) (back (a *ℤ b) m), m, rw (p, q) (fits (a *ℤ b) m))
   where
-    back : (z : ℤ) → unsigned_abs z ≤ 65535 * (2 ^ 49 + 1) → to_z w128 (of_z w128 z) ≡ z
+    back : (z : ℤ) → unsigned_abs z ≤ 1048560 * (2 ^ 49 + 1) → to_z w128 (of_z w128 z) ≡ z
     back z h = omega (arith, ints)
 
-    fits : (z : ℤ) → unsigned_abs z ≤ 65535 * (2 ^ 49 + 1) → FitsSigned w128 z
+    fits : (z : ℤ) → unsigned_abs z ≤ 1048560 * (2 ^ 49 + 1) → FitsSigned w128 z
     fits z h = fits_signed_from_abs w128 z (omega (arith, h))
 
 -- a flow and a departure as 64 bits hold them
-pub of_flow : (z p : ℤ) → unsigned_abs z ≤ 65535 → p ≡ to_z w64 (of_z w64 z) → p ≡ z
+pub of_flow : (z p : ℤ) → unsigned_abs z ≤ 1048560 → p ≡ to_z w64 (of_z w64 z) → p ≡ z
 of_flow z p h e = omega (arith, ints)
 
 pub of_departure : (z p : ℤ) → unsigned_abs z ≤ 2 ^ 49 + 1 → p ≡ to_z w64 (of_z w64 z) → p ≡ z
 of_departure z p h e = omega (arith, ints)
 
-pub products_fit : (a b : ℤ) → unsigned_abs a ≤ 65535 * (2 ^ 49 + 1) → unsigned_abs b ≤ 65535 * (2 ^ 49 + 1) → (to_z w128 (of_z w128 (to_z w128 (of_z w128 a) +ℤ to_z w128 (of_z w128 b))) ≡ a +ℤ b) × (unsigned_abs (a +ℤ b) ≤ 2 * 65535 * (2 ^ 49 + 1)) × FitsSigned w128 (to_z w128 (of_z w128 a) +ℤ to_z w128 (of_z w128 b))
+-- a product less that by which the flow is above
+pub less_fits : (a : ℤ) (n : ℕ) (p : ℤ) → unsigned_abs a ≤ 1048560 * (2 ^ 49 + 1) → n ≤ 1048560 → p ≡ pos n → (to_z w128 (of_z w128 (a -ℤ to_z w128 (of_z w128 p))) ≡ a -ℤ pos n) × (unsigned_abs (a -ℤ pos n) ≤ 1048560 * (2 ^ 49 + 2)) × FitsSigned w128 (a -ℤ to_z w128 (of_z w128 p))
+less_fits a n p k l e = rw e (omega (arith, ints), omega (arith, ints), fits_signed_from_abs w128 (a -ℤ to_z w128 (of_z w128 (pos n))) (omega (arith, ints)))
+
+pub part_fits : (f d p q t : ℤ) (n : ℕ) → unsigned_abs f ≤ 1048560 → unsigned_abs d ≤ 2 ^ 49 + 1 → p ≡ f → q ≡ d → n ≤ 1048560 → t ≡ pos n
+    → (to_z w128 (of_z w128 (to_z w128 (of_z w128 (to_z w128 (of_z w128 p) *ℤ to_z w128 (of_z w128 q))) -ℤ to_z w128 (of_z w128 t))) ≡ f *ℤ d -ℤ pos n) × (unsigned_abs (f *ℤ d -ℤ pos n) ≤ 1048560 * (2 ^ 49 + 2)) × FitsSigned w128 (to_z w128 (of_z w128 (to_z w128 (of_z w128 p) *ℤ to_z w128 (of_z w128 q))) -ℤ to_z w128 (of_z w128 t))
+part_fits f d p q t n k l a b m e =
+    let times = flow_product_fits f d k l in
+    rw (a, b, times.0) (less_fits (f *ℤ d) n t times.1 m e)
+
+pub products_fit : (a b : ℤ) → unsigned_abs a ≤ 1048560 * (2 ^ 49 + 2) → unsigned_abs b ≤ 1048560 * (2 ^ 49 + 2) → (to_z w128 (of_z w128 (to_z w128 (of_z w128 a) +ℤ to_z w128 (of_z w128 b))) ≡ a +ℤ b) × (unsigned_abs (a +ℤ b) ≤ 2 * 1048560 * (2 ^ 49 + 2)) × FitsSigned w128 (to_z w128 (of_z w128 a) +ℤ to_z w128 (of_z w128 b))
 products_fit a b k l = (omega (arith, ints), omega (arith, ints), fits_signed_from_abs w128 (to_z w128 (of_z w128 a) +ℤ to_z w128 (of_z w128 b)) (omega (arith, ints)))
 
-pub flow_sum_fits : (a t : ℤ) (x y : ℕ) → unsigned_abs a ≤ 2 * 65535 * (2 ^ 49 + 1) * (4096 * y + x) → unsigned_abs t ≤ 2 * 65535 * (2 ^ 49 + 1) → 4096 * y + x < 2 ^ 26 → (to_z w128 (of_z w128 (a +ℤ to_z w128 (of_z w128 t))) ≡ a +ℤ t) × (unsigned_abs (a +ℤ t) ≤ 2 * 65535 * (2 ^ 49 + 1) * (4096 * y + (x + 1))) × FitsSigned w128 (a +ℤ to_z w128 (of_z w128 t))
+pub flow_sum_fits : (a t : ℤ) (x y : ℕ) → unsigned_abs a ≤ 2 * 1048560 * (2 ^ 49 + 2) * (4096 * y + x) → unsigned_abs t ≤ 2 * 1048560 * (2 ^ 49 + 2) → 4096 * y + x < 2 ^ 26 → (to_z w128 (of_z w128 (a +ℤ to_z w128 (of_z w128 t))) ≡ a +ℤ t) × (unsigned_abs (a +ℤ t) ≤ 2 * 1048560 * (2 ^ 49 + 2) * (4096 * y + (x + 1))) × FitsSigned w128 (a +ℤ to_z w128 (of_z w128 t))
 flow_sum_fits a t x y k l m = (omega (arith, ints), omega (arith, ints), fits_signed_from_abs w128 (a +ℤ to_z w128 (of_z w128 t)) (omega (arith, ints)))
 
 -- how many pixels stand before one

@@ -5,7 +5,7 @@ use Rattle.std.proofs.lemmas.Int.{ints}
 use Rattle.raster_model.specs.declared.edge.Edge.{Edge}
 use Rattle.raster_model.specs.Raster.{Raster, lifted, seam_cost, is_seam}
 use Rattle.raster_model.specs.Sums.{Field, is_edge}
-use Rattle.raster_model.specs.Seams.{IsAnchored, IsOpenPixel, AreRegions, IsLeastAtSeams, flow_total, IsFirstOpen}
+use Rattle.raster_model.specs.Seams.{IsAnchored, IsOpenPixel, AreRegions, IsLeastAtSeams, flow_bound, IsFirstOpen}
 use Rattle.raster_model.specs.Flows.{seam_count, flow_at}
 use Rattle.raster_model.proofs.Balance.{balanced_by_labels, balanced_at_label}
 use Rattle.raster_model.proofs.Exact.{lifted_is_congruent}
@@ -42,7 +42,7 @@ off_anchor r mask cycles a b z first is off = record { x = a; y = b; first = fir
 
 module _ (r : Raster) (mask : Field Bool) (labels : Field ℕ) (count : ℕ) (cycles : Field ℤ) (flows : List ℤ) (regions : AreRegions r mask labels count) where
   -- the parts of a certificate, and what it says of them
-  pub good_of_parts : length flows ≡ seam_count r → IsAnchored r mask (lifted r cycles) → AllFlowsFit r mask (flow_at r flows) → AreBalanced r mask labels (flow_at r flows) count → flow_total r mask (lifted r cycles) (flow_at r flows) ≡ seam_cost r mask (lifted r cycles) → IsGoodAtSeams r mask cycles flows
+  pub good_of_parts : length flows ≡ seam_count r → IsAnchored r mask (lifted r cycles) → AllFlowsFit r mask (flow_at r flows) → AreBalanced r mask labels (flow_at r flows) count → flow_bound r mask (lifted r cycles) (flow_at r flows) ≡ seam_cost r mask (lifted r cycles) → IsGoodAtSeams r mask cycles flows
   good_of_parts n a fit balanced equal = (
     a,
     (

@@ -1,6 +1,6 @@
 -- Flows that are all 0 fit any weight, and add up to 0 at each region and with any departures.
-use Rattle.std.proofs.Common.{◌≡◌, ◌∙◌, sym, ℕ, arith, Bool, List}
-use Rattle.std.specs.Prelude.{◌&&◌, ℤ, pos, ◌*ℤ◌, slice_index_or}
+use Rattle.std.proofs.Common.{◌≡◌, ◌∙◌, ℕ, arith, Bool, List}
+use Rattle.std.specs.Prelude.{◌&&◌, ℤ, pos, ◌-ℤ◌, ◌*ℤ◌, slice_index_or}
 use Rattle.std.proofs.lemmas.Int.{ints}
 use Rattle.raster_model.specs.declared.edge.Edge.{Edge}
 use Rattle.raster_model.specs.Sums.{Field, at_edge_start, at_edge_end, sum_edges}
@@ -8,8 +8,9 @@ use Rattle.raster_model.specs.Raster.{departure, has_open_ends, is_seam, lifted}
 use Rattle.raster_model.specs.Flows.{flow_at, seam_place}
 use Rattle.raster_model.specs.Seams.{flow_in, flow_out, flow_total, region_of}
 use Rattle.raster_model.proofs.SumLemmas.{sum_edges-same, sum_edges-zeros}
+use Rattle.raster_model.proofs.Unsteep.{no_flow_over}
 use Rattle.certificates.specs.declared.seam_flows.SeamFlows.{SeamFlows}
-use Rattle.certificates.specs.FlowWords.{AreExcesses, FlowsFit, flow_of, held_mask, held_raster, total_of}
+use Rattle.certificates.specs.FlowWords.{AreExcesses, FlowsFit, flow_of, held_mask, held_raster, bound_of}
 use Rattle.certificates.specs.Growth.{AreZeros}
 use Rattle.certificates.specs.SeamVerdicts.{label_at}
 use Rattle.certificates.proofs.ZeroLemmas.{read_zero}
@@ -39,11 +40,15 @@ module _ (k : SeamFlows) (zeros : AreZeros k.flows.now) where
       let go : flow_out (held_raster k) (flow_of k) region ≡ pos 0 = no_sum (λ e. is_seam (held_raster k) e && at_edge_start region e) in
       omega (arith, ints, z v, come, go)
 
-  pub zero_flows_total : (cycles : Field ℤ) → pos 0 ≡ total_of k cycles
+  pub zero_flows_bound : (cycles : Field ℤ) → pos 0 ≡ bound_of k cycles
   unfolding flow_total
-  zero_flows_total cycles =
+  zero_flows_bound cycles =
       let r = held_raster k in
       let term : Edge → ℤ = λ e. where_true (is_seam r e && has_open_ends (held_mask k) e) (flow_of k e *ℤ departure r (lifted r cycles) e) in
-      sym (
+      less _ _ (no_flow_over r (held_mask k) (flow_of k) (λ e i s. rw (none e) (omega arith)))
+      (
       sum_edges-same r.width r.height term (λ e. pos 0) (λ e i. where_zero (is_seam r e && has_open_ends (held_mask k) e) (flow_of k e *ℤ departure r (lifted r cycles) e) (rw (none e) (no_times (departure r (lifted r cycles) e))))
       ∙ sum_edges-zeros r.width r.height)
+    where
+      less : (a b : ℤ) → b ≡ pos 0 → a ≡ pos 0 → pos 0 ≡ a -ℤ b
+      less a b p q = omega (arith, ints, p, q)

@@ -1,13 +1,14 @@
 -- Faces that are all 0 fit at every edge, and add up to 0.
-use Rattle.std.proofs.Common.{◌≡◌, sym, refl, ℕ, zero, suc, ◌<◌, ◌≤◌, arith, Bool, true, false, inl, inr, List, length}
+use Rattle.std.proofs.Common.{◌≡◌, refl, ℕ, zero, suc, ◌<◌, ◌≤◌, arith, Bool, true, false, inl, inr, List, length}
 use Rattle.std.specs.Prelude.{◌⊎◌, if◌then◌else◌, ℤ, pos, ◌-ℤ◌, ◌*ℤ◌, slice_index_or}
 use Rattle.std.proofs.lemmas.Int.{ints}
 use Rattle.std.proofs.lemmas.List.{get_or_past}
 use Rattle.raster_model.specs.declared.edge.Edge.{Edge}
 use Rattle.raster_model.specs.Sums.{Field, sum_row}
 use Rattle.raster_model.specs.Raster.{Raster, residue}
-use Rattle.raster_model.specs.Certificates.{before, above, left, is_cell, face_difference, faces_of_tile, face_product, face_total, FacesFit}
+use Rattle.raster_model.specs.Certificates.{before, above, left, is_cell, face_difference, faces_of_tile, face_bound, face_product, face_total, FacesFit}
 use Rattle.raster_model.specs.Cells.{cells_before, face_at}
+use Rattle.raster_model.proofs.Unsteep.{no_face_over}
 use Rattle.certificates.specs.Growth.{AreZeros}
 use Rattle.sums_and_lists.specs.Sums.{where_true}
 use Rattle.sums_and_lists.proofs.SumLemmas.{sum_below-zeros}
@@ -51,6 +52,12 @@ module _ (r : Raster) (t : ℕ) (faces : List ℤ) (zeros : AreZeros faces) wher
       no_times : (z : ℤ) → pos 0 *ℤ z ≡ pos 0
       no_times z = omega (arith, ints)
 
-  pub zeros_total : pos 0 ≡ face_total r t (face_at r t faces)
+  zeros_total : face_total r t (face_at r t faces) ≡ pos 0
   unfolding face_total
-  zeros_total = sym (sum_below-zeros r.height (sum_row r.width (face_product r t (face_at r t faces))) (λ y m. sum_below-zeros r.width (λ x. face_product r t (face_at r t faces) x y) (λ x l. product x y)))
+  zeros_total = sum_below-zeros r.height (sum_row r.width (face_product r t (face_at r t faces))) (λ y m. sum_below-zeros r.width (λ x. face_product r t (face_at r t faces) x y) (λ x l. product x y))
+
+  pub zeros_bound : (mask : Field Bool) → pos 0 ≡ face_bound r mask t (face_at r t faces)
+  zeros_bound mask = less _ _ zeros_total (no_face_over r mask t (face_at r t faces) (λ e i. rw (difference e) (omega arith)))
+    where
+      less : (a b : ℤ) → a ≡ pos 0 → b ≡ pos 0 → pos 0 ≡ a -ℤ b
+      less a b p q = omega (arith, ints, p, q)

@@ -6,7 +6,7 @@ use Rattle.raster_model.specs.Raster.{Raster, lifted, departure, has_open_ends, 
 use Rattle.raster_model.specs.Flows.{is_seam_edge, seams_before, seam_place, flow_at}
 use Rattle.raster_model.specs.Heights.{KnowsOpen}
 use Rattle.raster_model.specs.Masks.{open_at}
-use Rattle.raster_model.specs.Seams.{IsOpenPixel, flow_in, flow_out, flow_total, region_of}
+use Rattle.raster_model.specs.Seams.{IsOpenPixel, flow_bound, flow_in, flow_out, flow_over, region_of}
 use Rattle.raster_model.specs.Scene.{raster_of}
 use Rattle.certificates.specs.declared.seam_flows.SeamFlows.{SeamFlows}
 use Rattle.certificates.specs.EdgeOrder.{HoldsAtAll}
@@ -36,7 +36,7 @@ StartsAt k x y before = (x < k.scene.now.phase.width) × (y < k.scene.now.phase.
 abbrev pub PlacedAt : SeamFlows → Edge → ℕ → Type 0
 PlacedAt k e place = (e.x < k.scene.now.phase.width) × (e.y < k.scene.now.phase.height) × (place ≡ seam_place (held_raster k) e)
 
--- a seam edge; its flow is no greater than its weight; its flow is no greater than any weight; and both over the edges that start at a pixel, and over all
+-- a seam edge; its flow is no greater than the steepness times its weight; its flow is no greater than that may be at any edge; and both over the edges that start at a pixel, and over all
 abbrev pub IsSeamOf : SeamFlows → Edge → Type 0
 IsSeamOf k = IsSeamEdge (held_raster k)
 
@@ -44,7 +44,7 @@ abbrev pub FlowFitsAt : SeamFlows → Edge → Type 0
 FlowFitsAt k = FlowFits (held_raster k) (held_mask k) (flow_of k)
 
 abbrev pub IsSmallAt : SeamFlows → Edge → Type 0
-IsSmallAt k e = unsigned_abs (flow_of k e) ≤ 65535
+IsSmallAt k e = unsigned_abs (flow_of k e) ≤ 1048560
 
 abbrev pub FitFrom : SeamFlows → ℕ → ℕ → Type 0
 FitFrom k x y = HoldsFrom (IsSeamOf k) (FlowFitsAt k) x y × HoldsFrom (IsSeamOf k) (IsSmallAt k) x y
@@ -76,18 +76,18 @@ AreExcessesOf r mask labels F sums = (v : ℕ) → v < length sums → slice_ind
 abbrev pub AreExcesses : SeamFlows → List ℕ → List ℤ → Type 0
 AreExcesses k labels = AreExcessesOf (held_raster k) (held_mask k) (label_at k.scene.now.phase.width labels) (flow_of k)
 
--- flow times departure on a seam edge with open ends, for the edges that start at a pixel, and in all
-unfoldable pub seam_product : Raster → Field Bool → Field ℤ → (Edge → ℤ) → Edge → ℤ
-seam_product r mask S F e = where_true (is_seam r e && has_open_ends mask e) (F e *ℤ departure r S e)
+-- what a seam edge adds to the bound: flow times departure, where its ends are open, less that by which the flow is above the weight; for the edges that start at a pixel, and in all
+unfoldable pub seam_part : Raster → Field Bool → Field ℤ → (Edge → ℤ) → Edge → ℤ
+seam_part r mask S F e = where_true (is_seam r e && has_open_ends mask e) (F e *ℤ departure r S e) -ℤ flow_over r mask F e
 
-abbrev pub product_on : SeamFlows → Field ℤ → Edge → ℤ
-product_on k cycles e = where_true (is_edge k.scene.now.phase.width k.scene.now.phase.height e) (seam_product (held_raster k) (held_mask k) (lifted (held_raster k) cycles) (flow_of k) e)
+abbrev pub part_on : SeamFlows → Field ℤ → Edge → ℤ
+part_on k cycles e = where_true (is_edge k.scene.now.phase.width k.scene.now.phase.height e) (seam_part (held_raster k) (held_mask k) (lifted (held_raster k) cycles) (flow_of k) e)
 
-abbrev pub product_from : SeamFlows → Field ℤ → Field ℤ
-product_from k cycles = edges_from k.scene.now.phase.width k.scene.now.phase.height (seam_product (held_raster k) (held_mask k) (lifted (held_raster k) cycles) (flow_of k))
+abbrev pub parts_from : SeamFlows → Field ℤ → Field ℤ
+parts_from k cycles = edges_from k.scene.now.phase.width k.scene.now.phase.height (seam_part (held_raster k) (held_mask k) (lifted (held_raster k) cycles) (flow_of k))
 
-abbrev pub total_of : SeamFlows → Field ℤ → ℤ
-total_of k cycles = flow_total (held_raster k) (held_mask k) (lifted (held_raster k) cycles) (flow_of k)
+abbrev pub bound_of : SeamFlows → Field ℤ → ℤ
+bound_of k cycles = flow_bound (held_raster k) (held_mask k) (lifted (held_raster k) cycles) (flow_of k)
 
 abbrev pub KnowsSeams : SeamFlows → Field Bool → Type 0
 KnowsSeams k = KnowsOpen (held_raster k) (held_mask k)

@@ -3,7 +3,7 @@ use Rattle.std.specs.Prelude.{◌≡◌, ◌≢◌, ℕ, ◌+◌, ◌*◌, ◌<�
 use Rattle.raster_model.specs.declared.edge.Edge.{Edge}
 use Rattle.raster_model.specs.Sums.{Field}
 use Rattle.raster_model.specs.Raster.{Raster, lifted, masked_weight, seam_cost}
-use Rattle.raster_model.specs.Seams.{IsFirstOpen, AreRegions, region_of, IsAnchored, flow_in, flow_out, flow_total}
+use Rattle.raster_model.specs.Seams.{IsFirstOpen, AreRegions, region_of, IsAnchored, flow_bound, flow_in, flow_out}
 use Rattle.raster_model.specs.Flows.{is_seam_edge, seam_count, flow_at, AreCertifiedSeams}
 use Rattle.certificates.specs.declared.verdicts.SeamVerdict.{SeamVerdict}
 use Rattle.certificates.specs.declared.verdicts.SeamVerdict.TheVariants.{Good, Shape, Range, Anchor, FlowAtEdge, Unbalanced, CostDiffers}
@@ -25,12 +25,12 @@ pub record IsOffAnchor (r : Raster) (mask : Field Bool) (cycles : Field ℤ) (z 
   pub cycles_there : z ≡ cycles x y
   pub off : z ≢ pos 0
 
--- a seam edge; its flow is no greater than its weight; this holds at all seam edges; the first at which it does not
+-- a seam edge; its flow is no greater than the steepness times its weight; this holds at all seam edges; the first at which it does not
 abbrev pub IsSeamEdge : Raster → Edge → Type 0
 IsSeamEdge r e = IsTrue (is_seam_edge r e)
 
 abbrev pub FlowFits : Raster → Field Bool → (Edge → ℤ) → Edge → Type 0
-FlowFits r mask flow e = unsigned_abs (flow e) ≤ masked_weight r mask e
+FlowFits r mask flow e = unsigned_abs (flow e) ≤ r.steep * masked_weight r mask e
 
 abbrev pub AllFlowsFit : Raster → Field Bool → (Edge → ℤ) → Type 0
 AllFlowsFit r mask flow = HoldsAtAll (IsSeamEdge r) (FlowFits r mask flow)
@@ -61,7 +61,7 @@ IsSeamVerdict r mask labels count cycles flows (Range v) = ⊥
 IsSeamVerdict r mask labels count cycles flows (Anchor z) = (length flows ≡ seam_count r) × IsOffAnchor r mask cycles z
 IsSeamVerdict r mask labels count cycles flows (FlowAtEdge e) = (length flows ≡ seam_count r) × IsAnchored r mask (lifted r cycles) × IsFirstHeavy r mask (flow_at r flows) e
 IsSeamVerdict r mask labels count cycles flows (Unbalanced v) = (length flows ≡ seam_count r) × IsAnchored r mask (lifted r cycles) × AllFlowsFit r mask (flow_at r flows) × IsLeastUnbalanced r mask labels (flow_at r flows) count v
-IsSeamVerdict r mask labels count cycles flows (CostDiffers cost bound) = (length flows ≡ seam_count r) × IsAnchored r mask (lifted r cycles) × AllFlowsFit r mask (flow_at r flows) × AreBalanced r mask labels (flow_at r flows) count × (pos cost ≡ seam_cost r mask (lifted r cycles)) × (bound ≡ flow_total r mask (lifted r cycles) (flow_at r flows)) × (bound ≢ pos cost)
+IsSeamVerdict r mask labels count cycles flows (CostDiffers cost bound) = (length flows ≡ seam_count r) × IsAnchored r mask (lifted r cycles) × AllFlowsFit r mask (flow_at r flows) × AreBalanced r mask labels (flow_at r flows) count × (pos cost ≡ seam_cost r mask (lifted r cycles)) × (bound ≡ flow_bound r mask (lifted r cycles) (flow_at r flows)) × (bound ≢ pos cost)
 
 -- no input has two verdicts, if the labels are the numbers of the regions
 abbrev pub SeamsHaveOneVerdict : Type 0

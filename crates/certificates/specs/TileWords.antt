@@ -3,7 +3,7 @@ use Rattle.std.specs.Prelude.{◌≡◌, ℕ, ◌+◌, ◌<◌, ◌≤◌, ℤ, 
 use Rattle.raster_model.specs.declared.edge.Edge.{Edge}
 use Rattle.raster_model.specs.Sums.{Field, right_edge, down_edge}
 use Rattle.raster_model.specs.Raster.{Raster, departure, lifted, cost_from, tile_cost}
-use Rattle.raster_model.specs.Certificates.{faces_of_tile, face_difference, face_product, face_total, IsTileEdge, FacesFit}
+use Rattle.raster_model.specs.Certificates.{faces_of_tile, face_bound, face_difference, face_over_from, face_over_total, face_product, face_total, IsTileEdge, FacesFit}
 use Rattle.raster_model.specs.Cells.{cell_count, face_at}
 use Rattle.raster_model.specs.Heights.{KnowsOpenOf}
 use Rattle.raster_model.specs.Masks.{open_at}
@@ -33,12 +33,25 @@ product_at k faces = face_product (held_raster k) k.number (face_at (held_raster
 abbrev pub total_at : Tile → List ℤ → ℤ
 total_at k faces = face_total (held_raster k) k.number (face_at (held_raster k) k.number faces)
 
--- an inner edge of the tile; the faces fit at an edge
+-- by how much the faces at the inner edges differ by more than the weights: for the edges that start at a pixel, and in all; and the bound
+abbrev pub over_at : Tile → List ℤ → Field ℤ
+over_at k faces = face_over_from (held_raster k) (held_mask k) k.number (face_at (held_raster k) k.number faces)
+
+abbrev pub over_in : Tile → List ℤ → ℤ
+over_in k faces = face_over_total (held_raster k) (held_mask k) k.number (face_at (held_raster k) k.number faces)
+
+abbrev pub bound_in : Tile → List ℤ → ℤ
+bound_in k faces = face_bound (held_raster k) (held_mask k) k.number (face_at (held_raster k) k.number faces)
+
+-- an inner edge of the tile; the faces fit at an edge; at all inner edges
 abbrev pub IsInner : Tile → Edge → Type 0
 IsInner k = IsTileEdge (held_raster k) k.number
 
 abbrev pub FitAt : Tile → List ℤ → Edge → Type 0
 FitAt k faces = FacesFit (held_raster k) (held_mask k) k.number (face_at (held_raster k) k.number faces)
+
+abbrev pub AllFit : Tile → List ℤ → Type 0
+AllFit k faces = (e : Edge) → IsInner k e → FitAt k faces e
 
 -- the faces fit at each right edge that starts in row y, from the tile's first column to before column n; and at each such down edge, from the tile's second column
 abbrev pub FitRight : Tile → List ℤ → ℕ → ℕ → Type 0

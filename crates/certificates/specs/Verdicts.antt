@@ -4,7 +4,7 @@ use Rattle.raster_model.specs.declared.edge.Edge.{Edge}
 use Rattle.raster_model.specs.declared.scene.Scene.{Scene}
 use Rattle.raster_model.specs.Sums.{Field}
 use Rattle.raster_model.specs.Raster.{Raster, tile_cost}
-use Rattle.raster_model.specs.Certificates.{IsTileEdge, FacesFit, face_total}
+use Rattle.raster_model.specs.Certificates.{IsTileEdge, FacesFit, face_bound}
 use Rattle.raster_model.specs.Cells.{cell_count, face_at, IsCertifiedTile}
 use Rattle.raster_model.specs.Scene.{raster_of}
 use Rattle.certificates.specs.declared.results.TileResult.{TileResult}
@@ -26,7 +26,7 @@ IsFacesVerdict r mask t S faces Good = IsCertifiedTile r mask t S faces
 IsFacesVerdict r mask t S faces Shape = length faces ≢ cell_count r t
 IsFacesVerdict r mask t S faces (Range x y) = ⊥
 IsFacesVerdict r mask t S faces (FaceAtEdge e) = (length faces ≡ cell_count r t) × IsFirstUnfit r mask t (face_at r t faces) e
-IsFacesVerdict r mask t S faces (CostDiffers cost bound) = (length faces ≡ cell_count r t) × AllFacesFit r mask t (face_at r t faces) × (pos cost ≡ tile_cost r mask t S) × (bound ≡ face_total r t (face_at r t faces)) × (bound ≢ pos cost)
+IsFacesVerdict r mask t S faces (CostDiffers cost bound) = (length faces ≡ cell_count r t) × AllFacesFit r mask t (face_at r t faces) × (pos cost ≡ tile_cost r mask t S) × (bound ≡ face_bound r mask t (face_at r t faces)) × (bound ≢ pos cost)
 
 -- the verdict on the faces of a result's tile, for the result's surface
 abbrev pub IsVerdictOnFaces : Scene → Field Bool → TileResult → TileVerdict → Type 0

@@ -1,16 +1,23 @@
 ghost use Rattle.raster_model.specs.Heights.{KnowsEnds};
 ghost use Rattle.raster_model.specs.Limits.{max_side};
 ghost use Rattle.raster_model.specs.Masks.{open_at};
-ghost use Rattle.raster_model.specs.Raster.{departure as departure_of, edge_cost as edge_cost_of, has_open_ends, lifted};
+ghost use Rattle.raster_model.specs.Raster.{
+  departure as departure_of,
+  edge_cost as edge_cost_of,
+  has_open_ends,
+  lifted,
+  steps as steps_of_departure,
+};
 ghost use Rattle.raster_model.specs.Scene.{raster_of};
 ghost use Rattle.raster_model.specs.Sums.{at_edge_end, at_edge_start, is_edge};
 ghost use Rattle.raster_model.specs.Weights.{edge_weight};
-ghost use Rattle.std.specs.Prelude.{◌≡◌, ◌+◌, ◌*◌, ◌≤◌, ◌^◌, IsTrue, pos, unsigned_abs};
+ghost use Rattle.std.specs.Prelude.{◌≡◌, ◌+◌, ◌*◌, ◌≤◌, ◌^◌, IsTrue, pos};
 
 use raster_model::{Edge, Heights, Mask, Scene, departure, stored_weight};
 
-/// What an edge adds to a cost: its weight times its absolute departure in whole cycles, or 0 if an end is masked. If
-/// `unmasked` is true, both ends are known to be open. (Costantini 1998.)
+/// What an edge adds to a cost: its weight times the steps of its departure, or 0 if an end is masked. At the steepness 1
+/// the steps are the absolute departure in whole cycles. If `unmasked` is true, both ends are known to be open.
+/// (Costantini 1998.)
 pub fn edge_cost<H: Heights>(
     scene: &Scene,
     mask: &Mask,
@@ -23,7 +30,7 @@ pub fn edge_cost<H: Heights>(
     requires unmasked { IsTrue unmasked → IsTrue (has_open_ends (open_at mask.now) edge) }
     requires known { KnowsEnds (open_at mask.now) (H.knows heights.now) edge }
     ensures value { pos result ≡ edge_cost_of (raster_of scene.now) (open_at mask.now) (lifted (raster_of scene.now) (H.cycles_at heights.now)) edge }
-    ensures small { result ≤ 65535 * (2 ^ 49 + 1) }
+    ensures small { result ≤ 1048560 * (2 ^ 49 + 1) }
 {
     if are_ends_open(mask, edge, unmasked) {
         open_cost(scene, heights, edge)
@@ -42,18 +49,18 @@ fn are_ends_open(mask: &Mask, edge: Edge, unmasked: bool) -> bool
     unmasked || mask.is_open(edge.x, edge.y) && mask.is_open(edge.end_x(), edge.end_y())
 }
 
-/// The weight of an edge with open ends times its absolute departure. Most surfaces depart at few edges, and no weight
+/// The weight of an edge with open ends times the steps of its departure. Most surfaces depart at few edges, and no weight
 /// is looked up at the others.
 fn open_cost<H: Heights>(scene: &Scene, heights: &H, edge: Edge) -> u128
     requires is_edge { IsTrue (is_edge scene.now.phase.width scene.now.phase.height edge) }
     requires start { IsTrue (at_edge_start (H.knows heights.now) edge) }
     requires end { IsTrue (at_edge_end (H.knows heights.now) edge) }
-    ensures value { result ≡ edge_weight scene.now.rule scene.now.weights edge * unsigned_abs (departure_of (raster_of scene.now) (lifted (raster_of scene.now) (H.cycles_at heights.now)) edge) }
-    ensures small { result ≤ 65535 * (2 ^ 49 + 1) }
+    ensures value { result ≡ edge_weight scene.now.rule scene.now.weights edge * steps_of_departure scene.now.terms.steep (departure_of (raster_of scene.now) (lifted (raster_of scene.now) (H.cycles_at heights.now)) edge) }
+    ensures small { result ≤ 1048560 * (2 ^ 49 + 1) }
 {
     let departure = departure(scene, heights, edge);
     if departure == 0 {
         return 0;
     }
-    u128::from(stored_weight(scene, edge)) * u128::from(departure.unsigned_abs())
+    u128::from(stored_weight(scene, edge)) * u128::from(scene.terms.steps(departure))
 }

@@ -39,11 +39,13 @@ impl SeamFlows<'_> {
       flow_or_none,
       moved_from,
       moved_on,
-      product_from,
-      product_on,
-      total_of,
+      bound_of,
+      part_on,
+      parts_from,
     };
-    ghost use Rattle.raster_model.specs.Sums.{down_edge};
+    ghost use Rattle.raster_model.specs.Masks.{open_at};
+    ghost use Rattle.raster_model.specs.Raster.{masked_weight, over as over_weight};
+    ghost use Rattle.raster_model.specs.Sums.{down_edge, is_edge};
     ghost use Rattle.std.specs.Prelude.{
       ℕ,
       ◌+◌,
@@ -53,6 +55,7 @@ impl SeamFlows<'_> {
       ◌^◌,
       IfNone,
       IfSome,
+      IsTrue,
       MatchBool,
       false,
       pos,
@@ -80,7 +83,8 @@ impl SeamFlows<'_> {
         }
     }
 
-    /// Whether an edge that starts at a pixel is a seam edge whose flow is greater than its weight.
+    /// Whether an edge that starts at a pixel is a seam edge whose flow is greater than the steepness times its
+    /// weight.
     fn is_heavy(&self, edge: Edge, place: usize) -> bool
         requires placed { PlacedAt self.now edge place }
         ensures cases { MatchBool result (IsBreak (IsSeamOf self.now) (FlowFitsAt self.now) edge) (HoldsIfPart (IsSeamOf self.now) (FlowFitsAt self.now) edge) }
@@ -88,10 +92,11 @@ impl SeamFlows<'_> {
     {
         is_seam_edge(self.scene, self.ends, edge)
             && self.flow(edge, place).unsigned_abs()
-                > u64::from(weight(self.scene, self.mask, edge))
+                > u64::from(self.scene.terms.limit(weight(self.scene, self.mask, edge)))
     }
 
-    /// The first edge that starts at a pixel and is a seam edge whose flow is greater than its weight.
+    /// The first edge that starts at a pixel and is a seam edge whose flow is greater than the steepness times its
+    /// weight.
     fn first_heavy_from(&self, x: u32, y: u32, place: usize) -> Option<Edge>
         requires start { StartsAt self.now x y place }
         ensures found { IfSome result (IsFirstBreakFrom (IsSeamOf self.now) (FlowFitsAt self.now) x y) }
@@ -108,7 +113,8 @@ impl SeamFlows<'_> {
         }
     }
 
-    /// The first seam edge whose flow is greater than its weight.
+    /// The first seam edge whose flow is greater than the steepness times its
+    /// weight.
     pub(crate) fn first_heavy(&self) -> Option<Edge>
         ensures found { IfSome result (IsFirstBreak (IsSeamOf self.now) (FlowFitsAt self.now)) }
         ensures none { IfNone result (FlowsFit self.now) }
@@ -164,7 +170,7 @@ impl SeamFlows<'_> {
         self.move_flow(labels, Edge { x, y, down: true }, next, sums);
     }
 
-    /// For each region, the sum of the flows that end in it minus those that start in it. The flows fit the weights, so
+    /// For each region, the sum of the flows that end in it minus those that start in it. The flows fit, so
     /// no sum leaves 64 bits.
     pub(crate) fn add_up(&self, labels: &[u32], sums: &mut [i64])
         requires fit { FlowsFit self.now }
@@ -186,56 +192,71 @@ impl SeamFlows<'_> {
         }
     }
 
-    /// The flow of an edge times the departure of a surface there, or 0 if it is not a seam edge. If an end is masked,
-    /// the weight is 0, and so is the flow.
-    fn product<H: Heights>(&self, heights: &H, edge: Edge, place: usize) -> i128
+    /// By how much a flow other than 0 is above the weight of its edge. At the steepness 1 it is not above.
+    fn over(&self, edge: Edge, flow: i64) -> u64
+        requires is_edge { IsTrue (is_edge self.now.scene.now.phase.width self.now.scene.now.phase.height edge) }
+        requires fit { unsigned_abs flow ≤ self.now.scene.now.terms.steep * masked_weight (raster_of self.now.scene.now) (open_at self.now.mask.now) edge }
+        ensures value { result ≡ over_weight (masked_weight (raster_of self.now.scene.now) (open_at self.now.mask.now) edge) flow }
+        ensures small { result ≤ 1048560 }
+    {
+        if self.scene.terms.steep == 1 {
+            return 0;
+        }
+        flow.unsigned_abs()
+            .saturating_sub(u64::from(weight(self.scene, self.mask, edge)))
+    }
+
+    /// What an edge adds to the bound: its flow times the departure of a surface there, minus that by which the flow is
+    /// above the weight, or 0 if it is not a seam edge. If an end is masked, the weight is 0, and so is the flow.
+    fn part<H: Heights>(&self, heights: &H, edge: Edge, place: usize) -> i128
         requires placed { PlacedAt self.now edge place }
         requires fit { FlowsFit self.now }
         requires known { KnowsSeams self.now (H.knows heights.now) }
-        ensures value { result ≡ product_on self.now (H.cycles_at heights.now) edge }
-        ensures small { unsigned_abs result ≤ 65535 * (2 ^ 49 + 1) }
+        ensures value { result ≡ part_on self.now (H.cycles_at heights.now) edge }
+        ensures small { unsigned_abs result ≤ 1048560 * (2 ^ 49 + 2) }
     {
         let flow = self.flow(edge, place);
         if flow == 0 {
-            0
-        } else {
-            i128::from(flow) * i128::from(departure(self.scene, heights, edge))
+            return 0;
         }
+        let product = i128::from(flow) * i128::from(departure(self.scene, heights, edge));
+        product - i128::from(self.over(edge, flow))
     }
 
-    /// The sum of flow times departure over the edges that start at a pixel.
-    fn products_from<H: Heights>(&self, heights: &H, x: u32, y: u32, place: usize) -> i128
+    /// What the edges that start at a pixel add to the bound.
+    fn parts_from<H: Heights>(&self, heights: &H, x: u32, y: u32, place: usize) -> i128
         requires start { StartsAt self.now x y place }
         requires fit { FlowsFit self.now }
         requires known { KnowsSeams self.now (H.knows heights.now) }
-        ensures value { result ≡ product_from self.now (H.cycles_at heights.now) x y }
-        ensures small { unsigned_abs result ≤ 2 * 65535 * (2 ^ 49 + 1) }
+        ensures value { result ≡ parts_from self.now (H.cycles_at heights.now) x y }
+        ensures small { unsigned_abs result ≤ 2 * 1048560 * (2 ^ 49 + 2) }
     {
         let next = self.down_place(x, y, place);
-        self.product(heights, Edge { x, y, down: false }, place)
-            + self.product(heights, Edge { x, y, down: true }, next)
+        self.part(heights, Edge { x, y, down: false }, place)
+            + self.part(heights, Edge { x, y, down: true }, next)
     }
 
-    /// The sum of flow times departure over the seam edges with open ends.
-    pub(crate) fn total<H: Heights>(&self, heights: &H) -> i128
+    /// The sum of flow times departure over the seam edges with open ends, minus that by which flows are above the
+    /// weights.
+    pub(crate) fn bound<H: Heights>(&self, heights: &H) -> i128
         requires fit { FlowsFit self.now }
         requires known { KnowsSeams self.now (H.knows heights.now) }
-        ensures { result ≡ total_of self.now (H.cycles_at heights.now) }
+        ensures { result ≡ bound_of self.now (H.cycles_at heights.now) }
     {
         if are_zeros(self.flows) {
             return 0;
         }
-        let mut total: i128 = 0;
+        let mut bound: i128 = 0;
         let mut place = 0;
         for y in 0..self.scene.phase.height {
             let mut x = next_start(self.scene, self.ends, 0, y);
             while x < self.scene.phase.width {
-                total += self.products_from(heights, x, y, place);
+                bound += self.parts_from(heights, x, y, place);
                 place += seams_from(self.scene, self.ends, x, y);
                 x = next_start(self.scene, self.ends, x + 1, y);
             }
         }
-        total
+        bound
     }
 }
 
@@ -243,7 +264,7 @@ impl SeamFlows<'_> {
 fn add_to(numbers: &mut [i64], place: usize, amount: i64)
     requires place { place < length numbers.old }
     requires small { AreWithinWeights (2 ^ 31) numbers.old }
-    requires amount { unsigned_abs amount ≤ 65535 }
+    requires amount { unsigned_abs amount ≤ 1048560 }
     ensures grown { HasGrown numbers.old numbers.new (λ v. where_true (place == v) amount) }
     ensures within { (n : ℕ) → AreWithinWeights n numbers.old → AreWithinWeights (n + 1) numbers.new }
 {

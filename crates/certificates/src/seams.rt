@@ -56,7 +56,7 @@ pub fn check_flows<H: Heights>(
     if let Some(region) = first_other(scratch) {
         return SeamVerdict::Unbalanced(region as u32);
     }
-    let bound = seams.total(heights);
+    let bound = seams.bound(heights);
     let cost = seam_cost(scene, &ends, mask, heights);
     if is_same(bound, cost) {
         SeamVerdict::Good

@@ -20,6 +20,7 @@ impl Tile<'_> {
     ghost use Rattle.certificates.specs.EdgeOrder.{HoldsAtAll, IsFirstBreak};
     ghost use Rattle.certificates.specs.EdgeWords.{HoldsBefore, HoldsFrom, HoldsIfPart, IsBreak, IsFirstBreakFrom};
     ghost use Rattle.certificates.specs.TileWords.{
+      AllFit,
       AreRowsOpen,
       FitAt,
       FitDown,
@@ -30,18 +31,21 @@ impl Tile<'_> {
       HasFaces,
       IsInner,
       KnowsTile,
+      bound_in,
       cost_at,
       cost_in,
       difference_at,
       faces_at,
       held_mask,
-      product_at,
       held_raster,
+      over_at,
+      over_in,
+      product_at,
       total_at,
     };
     ghost use Rattle.raster_model.specs.Certificates.{above, left};
     ghost use Rattle.raster_model.specs.Order.{IsCellAt};
-    ghost use Rattle.raster_model.specs.Raster.{has_open_ends, masked_weight};
+    ghost use Rattle.raster_model.specs.Raster.{has_open_ends, masked_weight, over as over_weight};
     ghost use Rattle.raster_model.specs.Sums.{down_edge, is_edge, sum_row};
     ghost use Rattle.raster_model.specs.Tiles.{IsWithin};
     ghost use Rattle.std.specs.Prelude.{
@@ -137,8 +141,8 @@ impl Tile<'_> {
         }
     }
 
-    /// Whether the faces on the two sides of an edge differ by no more than its weight. If `unmasked` is true, both
-    /// ends are known to be open.
+    /// Whether the faces on the two sides of an edge differ by no more than the steepness times its weight. If `unmasked`
+    /// is true, both ends are known to be open.
     fn faces_fit(&self, faces: &[i64], edge: Edge, unmasked: bool) -> bool
         requires count { HasFaces self.now faces.now }
         requires is_edge { IsTrue (is_edge self.now.scene.now.phase.width self.now.scene.now.phase.height edge) }
@@ -146,7 +150,9 @@ impl Tile<'_> {
         ensures { IsTrue result ↔ FitAt self.now faces.now edge }
     {
         let difference = self.face_difference(faces, edge);
-        difference == 0 || difference.unsigned_abs() <= u128::from(self.edge_weight(edge, unmasked))
+        difference == 0
+            || difference.unsigned_abs()
+                <= u128::from(self.scene.terms.limit(self.edge_weight(edge, unmasked)))
     }
 
     /// Whether an edge that starts in the tile is an inner edge whose faces do not fit. If `unmasked` is true, the
@@ -196,7 +202,8 @@ impl Tile<'_> {
             let above = self.cell_face(faces, x, y - 1);
             let below = self.cell_face(faces, x, y);
             let edge = Edge { x, y, down: false };
-            unfit |= above.abs_diff(below) > u64::from(stored_weight(self.scene, edge));
+            let limit = self.scene.terms.limit(stored_weight(self.scene, edge));
+            unfit |= above.abs_diff(below) > u64::from(limit);
         }
         !unfit
     }
@@ -214,7 +221,8 @@ impl Tile<'_> {
             let left = self.cell_face(faces, x - 1, y);
             let right = self.cell_face(faces, x, y);
             let edge = Edge { x, y, down: true };
-            unfit |= right.abs_diff(left) > u64::from(stored_weight(self.scene, edge));
+            let limit = self.scene.terms.limit(stored_weight(self.scene, edge));
+            unfit |= right.abs_diff(left) > u64::from(limit);
         }
         !unfit
     }
@@ -312,7 +320,8 @@ impl Tile<'_> {
     /// The sum of face times residue over the tile's cells.
     fn face_total(&self, faces: &[i64]) -> i128
         requires count { HasFaces self.now faces.now }
-        ensures { result ≡ total_at self.now faces.now }
+        ensures value { result ≡ total_at self.now faces.now }
+        ensures small { unsigned_abs result ≤ 2 ^ 63 * 2 ^ 24 }
     {
         let window = self.window;
         let mut total: i128 = 0;
@@ -324,11 +333,90 @@ impl Tile<'_> {
         total
     }
 
-    /// The sum of face times residue over the tile's cells if the faces fit at each inner edge, and otherwise the first
-    /// edge at which they do not. Faces that are all 0 fit everywhere, and the sum is 0.
+    /// By how much the faces on the two sides of an edge differ by more than its weight.
+    fn over(&self, faces: &[i64], edge: Edge) -> u64
+        requires count { HasFaces self.now faces.now }
+        requires is_edge { IsTrue (is_edge self.now.scene.now.phase.width self.now.scene.now.phase.height edge) }
+        requires fit { FitAt self.now faces.now edge }
+        ensures value { result ≡ over_weight (masked_weight (held_raster self.now) (held_mask self.now) edge) (difference_at self.now faces.now edge) }
+        ensures small { result ≤ 1048560 }
+    {
+        let weight = weight(self.scene, self.mask, edge);
+        let difference = self.face_difference(faces, edge).unsigned_abs() as u64;
+        difference.saturating_sub(u64::from(weight))
+    }
+
+    /// By how much faces differ by more than the weights at the inner edges that start at a pixel.
+    fn over_from(&self, faces: &[i64], x: u32, y: u32) -> u64
+        requires count { HasFaces self.now faces.now }
+        requires within { IsWithin self.now.window x y }
+        requires fit { AllFit self.now faces.now }
+        ensures value { pos result ≡ over_at self.now faces.now x y }
+        ensures small { result ≤ 2 * 1048560 }
+    {
+        let to_right = if x < self.window.x1 {
+            self.over(faces, Edge { x, y, down: false })
+        } else {
+            0
+        };
+        let to_lower = if y < self.window.y1 {
+            self.over(faces, Edge { x, y, down: true })
+        } else {
+            0
+        };
+        to_right + to_lower
+    }
+
+    /// By how much faces differ by more than the weights at the inner edges that start in row `y`.
+    fn row_over(&self, faces: &[i64], y: u32) -> u64
+        requires count { HasFaces self.now faces.now }
+        requires row { (self.now.window.y0 ≤ y) × (y ≤ self.now.window.y1) }
+        requires fit { AllFit self.now faces.now }
+        ensures value { pos result ≡ sum_row self.now.scene.now.phase.width (over_at self.now faces.now) y }
+        ensures small { result ≤ 2 * 1048560 * 4096 }
+    {
+        let window = self.window;
+        let mut over: u64 = 0;
+        for x in window.x0..window.x1 + 1 {
+            over += self.over_from(faces, x, y);
+        }
+        over
+    }
+
+    /// By how much faces that fit differ by more than the weights, over the tile's inner edges. At the steepness 1 no edge
+    /// is looked at.
+    fn total_over(&self, faces: &[i64]) -> u64
+        requires count { HasFaces self.now faces.now }
+        requires fit { AllFit self.now faces.now }
+        ensures value { pos result ≡ over_in self.now faces.now }
+        ensures small { result ≤ 2 * 1048560 * 2 ^ 24 }
+    {
+        if self.scene.terms.steep == 1 {
+            return 0;
+        }
+        let window = self.window;
+        let mut over: u64 = 0;
+        for y in window.y0..window.y1 + 1 {
+            over += self.row_over(faces, y);
+        }
+        over
+    }
+
+    /// The bound of faces that fit: the sum of face times residue over the tile's cells, minus that by which faces differ by
+    /// more than the weights.
+    fn face_bound(&self, faces: &[i64]) -> i128
+        requires count { HasFaces self.now faces.now }
+        requires fit { AllFit self.now faces.now }
+        ensures { result ≡ bound_in self.now faces.now }
+    {
+        self.face_total(faces) - i128::from(self.total_over(faces))
+    }
+
+    /// The bound of the faces if they fit at each inner edge, and otherwise the first edge at which they do not. Faces that
+    /// are all 0 fit everywhere, and their bound is 0.
     pub(crate) fn bound(&self, faces: &[i64]) -> Result<i128, Edge>
         requires count { HasFaces self.now faces.now }
-        ensures total { IfOk result (λ bound. bound ≡ total_at self.now faces.now) }
+        ensures total { IfOk result (λ bound. bound ≡ bound_in self.now faces.now) }
         ensures fit { OnOk result (HoldsAtAll (IsInner self.now) (FitAt self.now faces.now)) }
         ensures unfit { IfErr result (IsFirstBreak (IsInner self.now) (FitAt self.now faces.now)) }
     {
@@ -337,7 +425,7 @@ impl Tile<'_> {
         }
         match self.first_unfit(faces) {
             Some(edge) => Err(edge),
-            None => Ok(self.face_total(faces)),
+            None => Ok(self.face_bound(faces)),
         }
     }
 
@@ -358,7 +446,7 @@ impl Tile<'_> {
         requires known { KnowsTile self.now (H.knows heights.now) }
         requires unmasked { IsTrue unmasked → AreRowsOpen self.now y }
         ensures value { pos result ≡ cost_at self.now (H.cycles_at heights.now) x y }
-        ensures small { result ≤ 2 * 65535 * (2 ^ 49 + 1) }
+        ensures small { result ≤ 2 * 1048560 * (2 ^ 49 + 1) }
     {
         let to_right = if x < self.window.x1 {
             let edge = Edge { x, y, down: false };
@@ -426,7 +514,7 @@ impl Tile<'_> {
         requires row { (self.now.window.y0 ≤ y) × (y ≤ self.now.window.y1) }
         requires known { KnowsTile self.now (H.knows heights.now) }
         ensures value { pos result ≡ sum_row self.now.scene.now.phase.width (cost_at self.now (H.cycles_at heights.now)) y }
-        ensures small { result ≤ 2 * 65535 * (2 ^ 49 + 1) * 4096 }
+        ensures small { result ≤ 2 * 1048560 * (2 ^ 49 + 1) * 4096 }
     {
         let unmasked = self.are_open_from(y);
         if self.is_free(heights, y, unmasked) {

@@ -9,10 +9,11 @@ pub enum TileVerdict {
     Shape,
     /// The first open pixel, in row order, whose cycles are below -8,388,608 or above 8,388,608.
     Range { x: u32, y: u32 },
-    /// The first inner edge, in edge order and masked ends included, whose faces differ by more than its
-    /// weight.
+    /// The first inner edge, in edge order and masked ends included, whose faces differ by more than the steepness times
+    /// its weight.
     FaceAtEdge(Edge),
-    /// The tile's cost, which is `cost`, is not the sum of face times residue, which is `bound`.
+    /// The tile's cost, which is `cost`, is not `bound`: the sum of face times residue, minus the amounts by which faces
+    /// differ by more than the weights.
     CostDiffers { cost: u128, bound: i128 },
 }
 
@@ -30,10 +31,12 @@ pub enum SeamVerdict {
     Range(u32),
     /// The cycles above the phase at the first open pixel, which are not 0.
     Anchor(i64),
-    /// The first seam edge, in edge order and masked ends included, whose flow is greater than its weight.
+    /// The first seam edge, in edge order and masked ends included, whose flow is greater than the steepness times its
+    /// weight.
     FlowAtEdge(Edge),
     /// The lowest-numbered region that is out of balance: what flows into it is not what flows out of it.
     Unbalanced(u32),
-    /// The cost of the seams, which is `cost`, is not the sum of flow times departure, which is `bound`.
+    /// The cost of the seams, which is `cost`, is not `bound`: the sum of flow times departure, minus the amounts by which
+    /// flows are greater than the weights.
     CostDiffers { cost: u128, bound: i128 },
 }

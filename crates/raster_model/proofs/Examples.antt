@@ -1,11 +1,11 @@
 -- Worked examples.
-use Rattle.std.proofs.Common.{◌≡◌, ◌+◌, ◌*◌, refl, Bool, true, false, List, [], ◌∷◌, pos, negsuc}
+use Rattle.std.proofs.Common.{◌≡◌, ℕ, ◌+◌, ◌*◌, refl, Bool, true, false, List, [], ◌∷◌, pos, negsuc}
 use Rattle.std.specs.Prelude.{ℤ, slice_index, slice_index_or, if◌then◌else◌}
 use Rattle.raster_model.specs.Sums.{Field, right_edge, down_edge}
 use Rattle.raster_model.specs.Phase.{wrapped, wrapped_by}
 use Rattle.raster_model.specs.Raster.{Raster, residue, departure, tile_cost, seam_cost}
-use Rattle.raster_model.specs.Certificates.{face_total, face_product, face_difference, faces_of_tile}
-use Rattle.raster_model.specs.Seams.{shifted, flow_in, flow_out, flow_total}
+use Rattle.raster_model.specs.Certificates.{face_bound, face_over_total, face_total, face_product, face_difference, faces_of_tile}
+use Rattle.raster_model.specs.Seams.{shifted, flow_bound, flow_in, flow_out, flow_over_total, flow_total}
 use Rattle.raster_model.specs.Cells.{cell_count, face_at}
 use Rattle.raster_model.specs.Flows.{flow_at, seam_count, seam_place}
 use Rattle.raster_model.specs.Weights.{rule_number}
@@ -71,6 +71,7 @@ vortex = record {
   weight = λ e. slice_index (if e.down then 3 ∷ 5 ∷ [] else 5 ∷ 3 ∷ []) (if e.down then e.x else e.y);
   tile = λ x y. 0;
   tile_count = 1;
+  steep = 1;
 }
 
 abbrev all_open : Field Bool
@@ -89,7 +90,7 @@ residue-vortex = refl
 
 -- where the phase is expected to rise by 30000 along a row, it has no residue, and the first surface costs nothing
 abbrev ramped : Raster
-ramped = record { width = 2; height = 2; phase = vortex.phase; slope = λ down. if down then pos 0 else pos 30000; weight = vortex.weight; tile = vortex.tile; tile_count = 1 }
+ramped = record { width = 2; height = 2; phase = vortex.phase; slope = λ down. if down then pos 0 else pos 30000; weight = vortex.weight; tile = vortex.tile; tile_count = 1; steep = 1 }
 
 residue-ramped : residue ramped 0 0 ≡ pos 0
 unfolding wrapped_by
@@ -132,6 +133,22 @@ face_difference-left = refl
 face_difference-right : face_difference (faces_of_tile vortex 0 (λ x y. pos 3)) (down_edge 1 0) ≡ negsuc 2
 face_difference-right = refl
 
+-- at the steepness 3 the face 3 certifies as before, since it is above no weight; the face 4 is above two weights by 1, and its bound is 2
+abbrev steeply : ℕ → Raster → Raster
+steeply q r = record { width = r.width; height = r.height; phase = r.phase; slope = r.slope; weight = r.weight; tile = r.tile; tile_count = r.tile_count; steep = q }
+
+tile_cost-steep : tile_cost (steeply 3 vortex) all_open 0 lowered ≡ pos 3
+unfolding wrapped_by tile_cost sum_below
+tile_cost-steep = refl
+
+face_bound-three : face_bound (steeply 3 vortex) all_open 0 (face_at vortex 0 (pos 3 ∷ [])) ≡ pos 3
+unfolding wrapped_by face_total face_product face_over_total face_at count_below sum_below
+face_bound-three = refl
+
+face_bound-four : face_bound (steeply 3 vortex) all_open 0 (face_at vortex 0 (pos 4 ∷ [])) ≡ pos 2
+unfolding wrapped_by face_total face_product face_over_total face_at count_below sum_below
+face_bound-four = refl
+
 -- ---- two tiles: 4 by 3 pixels, the tile on the right is one column
 abbrev seam : Raster
 seam = record {
@@ -142,6 +159,7 @@ seam = record {
   weight = λ e. if e.down then 4 else slice_index (4 ∷ 4 ∷ 9 ∷ []) e.y;
   tile = λ x y. slice_index (0 ∷ 0 ∷ 0 ∷ 1 ∷ []) x;
   tile_count = 2;
+  steep = 1;
 }
 
 abbrev unmoved : Field ℤ
@@ -193,3 +211,46 @@ flow_out-balanced = refl
 flow_total-equal : flow_total seam all_open (shifted unmoved one_down) (flow_at seam flows) ≡ pos 8
 unfolding wrapped_by flow_total flow_at seam_place count_below sum_below
 flow_total-equal = refl
+
+-- ---- a tile on the right that falls where its neighbour rises: two cycles on one edge cost more than one on each of two
+abbrev parting : Raster
+parting = record {
+  width = 4;
+  height = 3;
+  phase = λ x y. slice_index (0 ∷ 0 ∷ 0 ∷ 0 ∷ 33536 ∷ 33536 ∷ 33536 ∷ 32000 ∷ 1536 ∷ 1536 ∷ 1536 ∷ 64000 ∷ []) (y * 4 + x);
+  slope = λ down. pos 0;
+  weight = λ e. slice_index (if e.down then 1 ∷ 1 ∷ [] else 9 ∷ 1 ∷ 4 ∷ []) e.y;
+  tile = seam.tile;
+  tile_count = 2;
+  steep = 1;
+}
+
+abbrev falling : ℤ → ℤ → ℤ → Field ℤ
+falling a b c x y = slice_index_or (pos 0 ∷ pos 0 ∷ pos 0 ∷ a ∷ negsuc 31999 ∷ negsuc 31999 ∷ negsuc 31999 ∷ b ∷ negsuc 63999 ∷ negsuc 63999 ∷ negsuc 63999 ∷ c ∷ []) (y * 4 + x) (pos 0)
+
+abbrev at_top : Field ℤ
+at_top = falling (pos 0) (pos 32000) (pos 64000)
+
+abbrev in_the_middle : Field ℤ
+in_the_middle = falling (negsuc 65535) (negsuc 33535) (negsuc 1535)
+
+seam_cost-at_top : seam_cost parting all_open at_top ≡ pos 9
+unfolding wrapped_by seam_cost sum_below
+seam_cost-at_top = refl
+
+flow_bound-at_top : flow_bound parting all_open at_top (flow_at parting (negsuc 4 ∷ pos 1 ∷ pos 4 ∷ [])) ≡ pos 9
+unfolding wrapped_by flow_total flow_over_total flow_at seam_place count_below sum_below
+flow_bound-at_top = refl
+
+-- at the steepness 3
+steep_cost-at_top : seam_cost (steeply 3 parting) all_open at_top ≡ pos 17
+unfolding wrapped_by seam_cost sum_below
+steep_cost-at_top = refl
+
+steep_cost-in_the_middle : seam_cost (steeply 3 parting) all_open in_the_middle ≡ pos 13
+unfolding wrapped_by seam_cost sum_below
+steep_cost-in_the_middle = refl
+
+flow_bound-in_the_middle : flow_bound (steeply 3 parting) all_open in_the_middle (flow_at parting (negsuc 8 ∷ pos 0 ∷ pos 9 ∷ [])) ≡ pos 13
+unfolding wrapped_by flow_total flow_over_total flow_at seam_place count_below sum_below
+flow_bound-in_the_middle = refl

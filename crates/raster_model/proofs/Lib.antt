@@ -1,6 +1,7 @@
 pub mod PhaseLemmas
 pub mod SumLemmas
 pub mod Planar
+pub mod Steps
 pub mod TileLeast
 pub mod Regions
 pub mod SeamLeast
@@ -21,7 +22,9 @@ pub mod WeighLemmas
 pub mod TileEdges
 pub mod TileCells
 pub mod BoxSums
+mod WindowSums
 pub mod WindowCosts
+pub mod Unsteep
 pub mod Examples
 pub mod SeamLists
 pub mod RegionNumbers

@@ -6,18 +6,19 @@ use Rattle.std.proofs.lemmas.Bool.Decides.{nat_tests}
 use Rattle.raster_model.specs.declared.edge.Edge.{Edge}
 use Rattle.raster_model.specs.Sums.{Field, at_edge_start, at_edge_end, is_edge, sum_edges, right_edge, down_edge}
 use Rattle.raster_model.specs.Phase.{wrapped_by, turns_by}
-use Rattle.raster_model.specs.Raster.{Raster, IsCongruent, departure, has_open_ends, is_seam, edge_cost, seam_cost}
-use Rattle.raster_model.specs.Seams.{AreJoined, IsOpenPixel, AreOffsets, IsRegion, shifted, flow_in, flow_out, flow_total, IsSeamCertificate, IsLabelling, IsLeastAtSeams}
+use Rattle.raster_model.specs.Raster.{Raster, IsCongruent, departure, has_open_ends, is_seam, over, steps, edge_cost, seam_cost}
+use Rattle.raster_model.specs.Seams.{AreJoined, IsOpenPixel, AreOffsets, IsRegion, shifted, flow_in, flow_out, flow_over, flow_over_total, flow_total, IsSeamCertificate, IsLabelling, IsLeastAtSeams}
 use Rattle.raster_model.specs.Seams.AreJoined.{here, rightward, leftward, downward, upward}
 use Rattle.raster_model.proofs.Regions.{labelling, sure_le}
 use Rattle.raster_model.specs.Best.{CertifiedIsBest}
 use Rattle.raster_model.specs.Cells.{face_at}
 use Rattle.raster_model.specs.Flows.{flow_at}
 use Rattle.raster_model.proofs.PhaseLemmas.{div_exact, turns_exact}
+use Rattle.raster_model.proofs.Steps.{product_at_most_steps}
 use Rattle.raster_model.proofs.SumLemmas.{sum_edges-same, sum_edges-le, sum_edges-add, sum_edges-below, sum_edges-scale, on_each_edge, right_is_edge, down_is_edge}
 use Rattle.raster_model.proofs.TileLeast.{least_in_tile, cycles_of, cycles_exact}
 use Rattle.sums_and_lists.specs.Sums.{sum_below, where_true}
-use Rattle.sums_and_lists.proofs.Products.{products, mul_comm, product_at_most}
+use Rattle.sums_and_lists.proofs.Products.{products, mul_comm}
 use Rattle.sums_and_lists.proofs.SumLemmas.{sum_below-same, sum_below-zeros, sum_below-pick, no_number, where_true-scale, where_true-zero}
 use Rattle.sums_and_lists.proofs.Orders.{is_lt}
 use Rattle.sums_and_lists.proofs.Tests.{and_first, and_second}
@@ -53,8 +54,8 @@ second_off : (a b : Bool) → b ≡ false → (a && b) ≡ false
 second_off true b h = h
 second_off false b h = refl
 
-finish : (a b x y p q : ℤ) → p ≤ℤ q → p ≡ a +ℤ x → q ≡ b +ℤ y → x ≡ y → a ≤ℤ b
-finish a b x y p q h i j k = omega (arith, ints)
+finish : (a b c n x y p q m : ℤ) → p ≤ℤ q → p ≡ a +ℤ x → q ≡ m +ℤ y → m ≡ b +ℤ n → x ≡ y → a -ℤ n ≡ c → c ≤ℤ b
+finish a b c n x y p q m h i j k l e = omega (arith, ints)
 
 -- offsets add their difference to a departure
 departure_moved : (slope : ℤ) (p q : ℕ) (sp sq cp cq op oq : ℤ) → sp ≡ pos p +ℤ pos 65536 *ℤ cp → sq ≡ pos q +ℤ pos 65536 *ℤ cq → int_div ((sq +ℤ pos 65536 *ℤ oq) -ℤ (sp +ℤ pos 65536 *ℤ op) -ℤ wrapped_by slope p q) (pos 65536) ≡ int_div (sq -ℤ sp -ℤ wrapped_by slope p q) (pos 65536) +ℤ oq -ℤ op
@@ -64,16 +65,17 @@ departure_moved slope p q sp sq cp cq op oq hp hq =
     let m : (sq +ℤ pos 65536 *ℤ oq) -ℤ (sp +ℤ pos 65536 *ℤ op) -ℤ wrapped_by slope p q ≡ pos 65536 *ℤ ((cq -ℤ cp +ℤ turns_by slope p q) +ℤ oq -ℤ op) = omega (arith, ints, d) in
     rw (d, m, div_exact (cq -ℤ cp +ℤ turns_by slope p q), div_exact ((cq -ℤ cp +ℤ turns_by slope p q) +ℤ oq -ℤ op)) refl
 
--- one edge: its flow times its departure, and what the offsets add, at most its cost when shifted
-edge_step : (s k : Bool) (f d e u v : ℤ) (w : ℕ) → (s ≡ true → unsigned_abs f ≤ (if k then w else 0)) → (k ≡ true → e ≡ d +ℤ v -ℤ u) → (where_true (s && k) (f *ℤ d) +ℤ where_true s (f *ℤ v)) ≤ℤ (where_true s (where_true k (pos ((if k then w else 0) * unsigned_abs e))) +ℤ where_true s (f *ℤ u))
-edge_step true true f d e u v w h g =
-    let p : (e *ℤ f) ≤ℤ pos (w * unsigned_abs e) = product_at_most e f w (h refl) in
-    let q : e *ℤ f ≡ f *ℤ d +ℤ f *ℤ v -ℤ f *ℤ u = rw (g refl) (simp products (omega (arith, ints))) in
-    omega (arith, ints, p, q)
-edge_step true false f d e u v w h g =
+-- one edge: its flow times its departure, and what the offsets add, at most its cost when shifted and that by which the flow is above the weight
+edge_step : (s k : Bool) (f d e u v : ℤ) (w q : ℕ) → (s ≡ true → unsigned_abs f ≤ q * (if k then w else 0)) → (k ≡ true → e ≡ d +ℤ v -ℤ u)
+    → (where_true (s && k) (f *ℤ d) +ℤ where_true s (f *ℤ v)) ≤ℤ ((where_true s (where_true k (pos ((if k then w else 0) * steps q e))) +ℤ where_true s (pos (over (if k then w else 0) f))) +ℤ where_true s (f *ℤ u))
+edge_step true true f d e u v w q h g =
+    let p : (e *ℤ f) ≤ℤ (pos (w * steps q e) +ℤ pos (over w f)) = product_at_most_steps e f w q (h refl) in
+    let m : e *ℤ f ≡ f *ℤ d +ℤ f *ℤ v -ℤ f *ℤ u = rw (g refl) (simp products (omega (arith, ints))) in
+    omega (arith, ints, p, m)
+edge_step true false f d e u v w q h g =
     let z : f ≡ pos 0 = omega (arith, ints, h refl) in
     rw z (omega (arith, ints))
-edge_step false k f d e u v w h g = omega (arith, ints)
+edge_step false k f d e u v w q h g = omega (arith, ints)
 
 term_open : (s p q k e : Bool) (n f : ℤ) → s ≡ true → p ≡ true → q ≡ true → k ≡ true → n *ℤ where_true (s && (p && q && k && e)) f ≡ where_true e (n *ℤ f)
 term_open s p q k e n f h₀ h₁ h₂ h₃ = rw (h₀, h₁, h₂, h₃) (sym (where_true-scale e n f))
@@ -143,11 +145,11 @@ module _ (r : Raster) (mask : Field Bool) (labels : Field ℕ) (count : ℕ) (la
   module _ (S : Field ℤ) (good : IsCongruent r mask S) (F : Edge → ℤ) (cert : IsSeamCertificate r mask S F) where
     -- a flow under a masked end is 0
     none_masked : (e : Edge) → IsTrue (is_edge r.width r.height e) → is_seam r e ≡ true → has_open_ends mask e ≡ false → F e ≡ pos 0
-    none_masked e i s k = zero_by (F e) (has_open_ends mask e) (r.weight e) k (cert.bounded e i s)
+    none_masked e i s k = zero_by (F e) (has_open_ends mask e) (r.weight e) r.steep k (cert.bounded e i s)
       where
-        zero_by : (f : ℤ) (t : Bool) (w : ℕ) → t ≡ false → unsigned_abs f ≤ (if t then w else 0) → f ≡ pos 0
-        zero_by f true w h l = cc
-        zero_by f false w h l = omega (arith, ints)
+        zero_by : (f : ℤ) (t : Bool) (w q : ℕ) → t ≡ false → unsigned_abs f ≤ q * (if t then w else 0) → f ≡ pos 0
+        zero_by f true w q h l = cc
+        zero_by f false w q h l = omega (arith, ints)
 
     ends : sum_edges r.width r.height (λ e. where_true (is_seam r e) (F e *ℤ at_edge_end o e)) ≡ sum_below count (λ v. number v *ℤ flow_in r F (region v))
     ends =
@@ -174,27 +176,34 @@ module _ (r : Raster) (mask : Field Bool) (labels : Field ℕ) (count : ℕ) (la
         ∙ sum_below-same count (λ v. number v *ℤ flow_in r F (region v)) (λ v. number v *ℤ flow_out r F (region v)) (λ v n. ap (λ (z : ℤ). number v *ℤ z) (cert.balanced (region v) (region_is v n)))
         ∙ sym starts
 
-    step_right : (x y : ℕ) → x < r.width → y < r.height → x + 1 < r.width → (where_true (is_seam r (right_edge x y) && has_open_ends mask (right_edge x y)) (F (right_edge x y) *ℤ departure r S (right_edge x y)) +ℤ where_true (is_seam r (right_edge x y)) (F (right_edge x y) *ℤ at_edge_end o (right_edge x y))) ≤ℤ (where_true (is_seam r (right_edge x y)) (edge_cost r mask (shifted S o) (right_edge x y)) +ℤ where_true (is_seam r (right_edge x y)) (F (right_edge x y) *ℤ at_edge_start o (right_edge x y)))
+    at_edge : Edge → Type 0
+    at_edge e = (where_true (is_seam r e && has_open_ends mask e) (F e *ℤ departure r S e) +ℤ where_true (is_seam r e) (F e *ℤ at_edge_end o e)) ≤ℤ ((where_true (is_seam r e) (edge_cost r mask (shifted S o) e) +ℤ flow_over r mask F e) +ℤ where_true (is_seam r e) (F e *ℤ at_edge_start o e))
+
+    step_right : (x y : ℕ) → x < r.width → y < r.height → x + 1 < r.width → at_edge (right_edge x y)
+    unfolding at_edge
     step_right x y l m n =
-        edge_step (is_seam r (right_edge x y)) (has_open_ends mask (right_edge x y)) (F (right_edge x y)) (departure r S (right_edge x y)) (departure r (shifted S o) (right_edge x y)) (o x y) (o (x + 1) y) (r.weight (right_edge x y))
+        edge_step (is_seam r (right_edge x y)) (has_open_ends mask (right_edge x y)) (F (right_edge x y)) (departure r S (right_edge x y)) (departure r (shifted S o) (right_edge x y)) (o x y) (o (x + 1) y) (r.weight (right_edge x y)) r.steep
         (cert.bounded (right_edge x y) (right_is_edge r.width r.height x y l m n))
         (λ k. departure_moved (r.slope false) (r.phase x y) (r.phase (x + 1) y) (S x y) (S (x + 1) y) (cycles_of r S x y) (cycles_of r S (x + 1) y) (o x y) (o (x + 1) y) (cycles_exact r mask S good x y l m (and_first (mask x y) (mask (x + 1) y) k)) (cycles_exact r mask S good (x + 1) y n m (and_second (mask x y) (mask (x + 1) y) k)))
 
-    step_down : (x y : ℕ) → x < r.width → y < r.height → y + 1 < r.height → (where_true (is_seam r (down_edge x y) && has_open_ends mask (down_edge x y)) (F (down_edge x y) *ℤ departure r S (down_edge x y)) +ℤ where_true (is_seam r (down_edge x y)) (F (down_edge x y) *ℤ at_edge_end o (down_edge x y))) ≤ℤ (where_true (is_seam r (down_edge x y)) (edge_cost r mask (shifted S o) (down_edge x y)) +ℤ where_true (is_seam r (down_edge x y)) (F (down_edge x y) *ℤ at_edge_start o (down_edge x y)))
+    step_down : (x y : ℕ) → x < r.width → y < r.height → y + 1 < r.height → at_edge (down_edge x y)
+    unfolding at_edge
     step_down x y l m n =
-        edge_step (is_seam r (down_edge x y)) (has_open_ends mask (down_edge x y)) (F (down_edge x y)) (departure r S (down_edge x y)) (departure r (shifted S o) (down_edge x y)) (o x y) (o x (y + 1)) (r.weight (down_edge x y))
+        edge_step (is_seam r (down_edge x y)) (has_open_ends mask (down_edge x y)) (F (down_edge x y)) (departure r S (down_edge x y)) (departure r (shifted S o) (down_edge x y)) (o x y) (o x (y + 1)) (r.weight (down_edge x y)) r.steep
         (cert.bounded (down_edge x y) (down_is_edge r.width r.height x y l m n))
         (λ k. departure_moved (r.slope true) (r.phase x y) (r.phase x (y + 1)) (S x y) (S x (y + 1)) (cycles_of r S x y) (cycles_of r S x (y + 1)) (o x y) (o x (y + 1)) (cycles_exact r mask S good x y l m (and_first (mask x y) (mask x (y + 1)) k)) (cycles_exact r mask S good x (y + 1) l n (and_second (mask x y) (mask x (y + 1)) k)))
 
     least : seam_cost r mask S ≤ℤ seam_cost r mask (shifted S o)
-    unfolding seam_cost flow_total
+    unfolding seam_cost flow_total flow_over_total at_edge
     least =
-        finish _ _ _ _ _ _
-        (sum_edges-le r.width r.height (λ e. where_true (is_seam r e && has_open_ends mask e) (F e *ℤ departure r S e) +ℤ where_true (is_seam r e) (F e *ℤ at_edge_end o e)) (λ e. where_true (is_seam r e) (edge_cost r mask (shifted S o) e) +ℤ where_true (is_seam r e) (F e *ℤ at_edge_start o e))
-        (on_each_edge r.width r.height (λ e. (where_true (is_seam r e && has_open_ends mask e) (F e *ℤ departure r S e) +ℤ where_true (is_seam r e) (F e *ℤ at_edge_end o e)) ≤ℤ (where_true (is_seam r e) (edge_cost r mask (shifted S o) e) +ℤ where_true (is_seam r e) (F e *ℤ at_edge_start o e))) step_right step_down))
-        (sum_edges-add r.width r.height (λ e. where_true (is_seam r e && has_open_ends mask e) (F e *ℤ departure r S e)) (λ e. where_true (is_seam r e) (F e *ℤ at_edge_end o e)) ∙ ap (λ (z : ℤ). z +ℤ sum_edges r.width r.height (λ e. where_true (is_seam r e) (F e *ℤ at_edge_end o e))) cert.equal)
-        (sum_edges-add r.width r.height (λ e. where_true (is_seam r e) (edge_cost r mask (shifted S o) e)) (λ e. where_true (is_seam r e) (F e *ℤ at_edge_start o e)))
+        finish _ _ _ _ _ _ _ _ _
+        (sum_edges-le r.width r.height (λ e. where_true (is_seam r e && has_open_ends mask e) (F e *ℤ departure r S e) +ℤ where_true (is_seam r e) (F e *ℤ at_edge_end o e)) (λ e. (where_true (is_seam r e) (edge_cost r mask (shifted S o) e) +ℤ flow_over r mask F e) +ℤ where_true (is_seam r e) (F e *ℤ at_edge_start o e))
+        (on_each_edge r.width r.height at_edge step_right step_down))
+        (sum_edges-add r.width r.height (λ e. where_true (is_seam r e && has_open_ends mask e) (F e *ℤ departure r S e)) (λ e. where_true (is_seam r e) (F e *ℤ at_edge_end o e)))
+        (sum_edges-add r.width r.height (λ e. where_true (is_seam r e) (edge_cost r mask (shifted S o) e) +ℤ flow_over r mask F e) (λ e. where_true (is_seam r e) (F e *ℤ at_edge_start o e)))
+        (sum_edges-add r.width r.height (λ e. where_true (is_seam r e) (edge_cost r mask (shifted S o) e)) (flow_over r mask F))
         level
+        cert.equal
 
 pub least_by_labels : (r : Raster) (mask : Field Bool) (labels : Field ℕ) (count : ℕ) → IsLabelling r mask labels count → (S : Field ℤ) → IsCongruent r mask S → (F : Edge → ℤ) → IsSeamCertificate r mask S F → IsLeastAtSeams r mask S
 least_by_labels r mask labels count lab S good F cert o off = least r mask labels count lab o off S good F cert

@@ -1,8 +1,8 @@
-use Rattle.std.proofs.Common.{◌≡◌, ℕ, zero, suc, ◌+◌, ◌-◌, ◌<◌, ◌≤◌, sym, ◌∙◌, ap, refl, arith, Bool, true, false, inl, inr}
-use Rattle.std.specs.Prelude.{◌==◌, ℤ, pos, ◌+ℤ◌, ◌*ℤ◌, ◌≤ℤ◌, nat_lt, IsTrue, ◌&&◌}
+use Rattle.std.proofs.Common.{◌≡◌, ℕ, zero, suc, ◌+◌, ◌<◌, sym, ◌∙◌, ap, arith, Bool, true, false}
+use Rattle.std.specs.Prelude.{ℤ, pos, ◌+ℤ◌, ◌-ℤ◌, ◌*ℤ◌, ◌≤ℤ◌, nat_lt, IsTrue, ◌&&◌}
 use Rattle.std.proofs.lemmas.Int.{ints}
-use Rattle.std.proofs.lemmas.Bool.Decides.{nat_tests, eqb_tells}
-use Rattle.std.proofs.lemmas.Bool.{and_parts, ne_eqb}
+use Rattle.std.proofs.lemmas.Bool.Decides.{nat_tests}
+use Rattle.std.proofs.lemmas.Bool.{and_parts}
 use Rattle.raster_model.specs.declared.edge.Edge.{Edge}
 use Rattle.raster_model.specs.Sums.{sum_grid, sum_edges, is_edge, right_edge, down_edge}
 use Rattle.sums_and_lists.proofs.Products.{mul-add}
@@ -60,6 +60,16 @@ sum_edges-add w h F G =
     sum_grid-same w h (λ x y. where_true (nat_lt (x + 1) w) (F (right_edge x y) +ℤ G (right_edge x y)) +ℤ where_true (nat_lt (y + 1) h) (F (down_edge x y) +ℤ G (down_edge x y))) (λ x y. (where_true (nat_lt (x + 1) w) (F (right_edge x y)) +ℤ where_true (nat_lt (y + 1) h) (F (down_edge x y))) +ℤ (where_true (nat_lt (x + 1) w) (G (right_edge x y)) +ℤ where_true (nat_lt (y + 1) h) (G (down_edge x y))))
     (λ x y l m. omega (arith, ints, where_true-add (nat_lt (x + 1) w) (F (right_edge x y)) (G (right_edge x y)), where_true-add (nat_lt (y + 1) h) (F (down_edge x y)) (G (down_edge x y))))
     ∙ sum_grid-add w h (λ x y. where_true (nat_lt (x + 1) w) (F (right_edge x y)) +ℤ where_true (nat_lt (y + 1) h) (F (down_edge x y))) (λ x y. where_true (nat_lt (x + 1) w) (G (right_edge x y)) +ℤ where_true (nat_lt (y + 1) h) (G (down_edge x y)))
+
+pub sum_edges-less : (w h : ℕ) (F G : Edge → ℤ) → sum_edges w h (λ e. F e -ℤ G e) ≡ sum_edges w h F -ℤ sum_edges w h G
+sum_edges-less w h F G =
+    less _ _ _ (sym (sum_edges-add w h (λ e. F e -ℤ G e) G) ∙ sum_edges-same w h (λ e. (F e -ℤ G e) +ℤ G e) F (λ e i. back (F e) (G e)))
+  where
+    back : (a b : ℤ) → (a -ℤ b) +ℤ b ≡ a
+    back a b = omega (arith, ints)
+
+    less : (a b c : ℤ) → a +ℤ b ≡ c → a ≡ c -ℤ b
+    less a b c e = omega (arith, ints, e)
 
 pub sum_edges-zeros : (w h : ℕ) → sum_edges w h (λ e. pos 0) ≡ pos 0
 sum_edges-zeros w h =

@@ -4,17 +4,17 @@ use Rattle.std.specs.Prelude.{ℤ, pos, ◌+ℤ◌, ◌-ℤ◌, ◌*ℤ◌, ◌�
 use Rattle.std.proofs.lemmas.Int.{ints}
 use Rattle.std.proofs.lemmas.Bool.Decides.{nat_tests}
 use Rattle.raster_model.specs.declared.edge.Edge.{Edge}
-use Rattle.raster_model.specs.Sums.{Field, at_edge_start, at_edge_end, is_edge, right_edge, down_edge}
-use Rattle.raster_model.specs.Raster.{Raster, IsCongruent, gradient, round_cell, residue, departure, cycle_departure, has_open_ends, is_inner, edge_cost, tile_cost}
-use Rattle.raster_model.specs.Certificates.{above, left, face_difference, is_cell, faces_of_tile, face_product, face_total, IsTileCertificate, IsLeastInTile}
+use Rattle.raster_model.specs.Sums.{Field, at_edge_start, at_edge_end, is_edge, sum_edges, right_edge, down_edge}
+use Rattle.raster_model.specs.Raster.{Raster, IsCongruent, gradient, round_cell, residue, departure, cycle_departure, has_open_ends, is_inner, over, steps, edge_cost, tile_cost}
+use Rattle.raster_model.specs.Certificates.{above, left, face_difference, is_cell, faces_of_tile, face_over, face_over_total, face_bound, face_product, face_total, IsTileCertificate, IsLeastInTile}
 use Rattle.raster_model.specs.Best.{CertifiedTilesAreLeast}
 use Rattle.raster_model.proofs.PhaseLemmas.{div_exact, edge_exact}
-use Rattle.raster_model.proofs.SumLemmas.{sum_grid-same, sum_edges-le, right_is_edge, down_is_edge, on_each_edge}
+use Rattle.raster_model.proofs.SumLemmas.{sum_grid-same, sum_edges-add, sum_edges-le, right_is_edge, down_is_edge, on_each_edge}
 use Rattle.raster_model.proofs.Planar.{planar}
 use Rattle.std.proofs.lemmas.Bool.{and_from}
 use Rattle.sums_and_lists.proofs.Tests.{and_first, and_second}
 use Rattle.sums_and_lists.specs.Sums.{where_true}
-use Rattle.sums_and_lists.proofs.Products.{product_at_most}
+use Rattle.raster_model.proofs.Steps.{product_at_most_steps}
 use Rattle.sums_and_lists.proofs.SumLemmas.{no_number}
 
 -- whole cycles of a surface above the phase, rounded where it is not congruent
@@ -46,12 +46,13 @@ departure_is r S e p q =
     ap (λ (z : ℤ). int_div z (pos 65536)) d ∙ div_exact (cycle_departure r (cycles_of r S) e)
 
 -- ---- one edge
-bound : (inner clear : Bool) (k k' d : ℤ) (w : ℕ) → (inner ≡ true → unsigned_abs d ≤ (if clear then w else 0)) → (inner ≡ false → d ≡ pos 0) → (clear ≡ true → k' ≡ k) → (k *ℤ d) ≤ℤ where_true inner (where_true clear (pos ((if clear then w else 0) * unsigned_abs k')))
-bound true true k k' d w p q e = rw (e refl) (product_at_most k d w (p refl))
-bound true false k k' d w p q e =
-    let z : d ≡ pos 0 = omega (arith, ints, p refl) in
-    rw z (omega (arith, ints))
-bound false clear k k' d w p q e = rw (q refl) (omega (arith, ints))
+bound : (inner clear : Bool) (k k' d : ℤ) (w q : ℕ) → (inner ≡ true → unsigned_abs d ≤ q * (if clear then w else 0)) → (inner ≡ false → d ≡ pos 0) → (clear ≡ true → k' ≡ k)
+    → (k *ℤ d) ≤ℤ (where_true inner (where_true clear (pos ((if clear then w else 0) * steps q k'))) +ℤ where_true inner (pos (over (if clear then w else 0) d)))
+bound true true k k' d w q p z e = rw (e refl) (product_at_most_steps k d w q (p refl))
+bound true false k k' d w q p z e =
+    let none : d ≡ pos 0 = omega (arith, ints, p refl) in
+    rw none (omega (arith, ints))
+bound false clear k k' d w q p z e = rw (z refl) (omega (arith, ints))
 
 -- ---- an edge that is not inner has no face beside it
 off_top : (p q u v a b : Bool) → (u && v) ≡ false → (p && q && u && v && a && b) ≡ false
@@ -102,28 +103,40 @@ module _ (r : Raster) (t : ℕ) (f : Field ℤ) where
 
   -- the edge's part of the sum, at most its part of the cost
   module _ (mask : Field Bool) (S : Field ℤ) (good : IsCongruent r mask S) (S₀ : Field ℤ) (cert : IsTileCertificate r mask t S₀ f) where
-    right_part : (x y : ℕ) → x < r.width → y < r.height → x + 1 < r.width → (cycle_departure r (cycles_of r S) (right_edge x y) *ℤ face_difference (faces_of_tile r t f) (right_edge x y)) ≤ℤ where_true (is_inner r t (right_edge x y)) (edge_cost r mask S (right_edge x y))
+    at_edge : Edge → Type 0
+    at_edge e = (cycle_departure r (cycles_of r S) e *ℤ face_difference (faces_of_tile r t f) e) ≤ℤ (where_true (is_inner r t e) (edge_cost r mask S e) +ℤ face_over r mask t f e)
+
+    right_part : (x y : ℕ) → x < r.width → y < r.height → x + 1 < r.width → at_edge (right_edge x y)
+    unfolding at_edge
     right_part x y l m n =
-        bound (is_inner r t (right_edge x y)) (has_open_ends mask (right_edge x y)) (cycle_departure r (cycles_of r S) (right_edge x y)) (departure r S (right_edge x y)) (face_difference (faces_of_tile r t f) (right_edge x y)) (r.weight (right_edge x y))
+        bound (is_inner r t (right_edge x y)) (has_open_ends mask (right_edge x y)) (cycle_departure r (cycles_of r S) (right_edge x y)) (departure r S (right_edge x y)) (face_difference (faces_of_tile r t f) (right_edge x y)) (r.weight (right_edge x y)) r.steep
         (λ i. cert.fits (right_edge x y) (and_from (is_edge r.width r.height (right_edge x y)) (is_inner r t (right_edge x y)) (right_is_edge r.width r.height x y l m n) i))
         (λ h. rw (above_right x y h, below_right x y h))
         (λ o. departure_is r S (right_edge x y) (cycles_exact r mask S good x y l m (and_first (mask x y) (mask (x + 1) y) o)) (cycles_exact r mask S good (x + 1) y n m (and_second (mask x y) (mask (x + 1) y) o)))
 
-    down_part : (x y : ℕ) → x < r.width → y < r.height → y + 1 < r.height → (cycle_departure r (cycles_of r S) (down_edge x y) *ℤ face_difference (faces_of_tile r t f) (down_edge x y)) ≤ℤ where_true (is_inner r t (down_edge x y)) (edge_cost r mask S (down_edge x y))
+    down_part : (x y : ℕ) → x < r.width → y < r.height → y + 1 < r.height → at_edge (down_edge x y)
+    unfolding at_edge
     down_part x y l m n =
-        bound (is_inner r t (down_edge x y)) (has_open_ends mask (down_edge x y)) (cycle_departure r (cycles_of r S) (down_edge x y)) (departure r S (down_edge x y)) (face_difference (faces_of_tile r t f) (down_edge x y)) (r.weight (down_edge x y))
+        bound (is_inner r t (down_edge x y)) (has_open_ends mask (down_edge x y)) (cycle_departure r (cycles_of r S) (down_edge x y)) (departure r S (down_edge x y)) (face_difference (faces_of_tile r t f) (down_edge x y)) (r.weight (down_edge x y)) r.steep
         (λ i. cert.fits (down_edge x y) (and_from (is_edge r.width r.height (down_edge x y)) (is_inner r t (down_edge x y)) (down_is_edge r.width r.height x y l m n) i))
         (λ h. rw (right_of_down x y h, left_of_down x y h))
         (λ o. departure_is r S (down_edge x y) (cycles_exact r mask S good x y l m (and_first (mask x y) (mask x (y + 1)) o)) (cycles_exact r mask S good x (y + 1) l n (and_second (mask x y) (mask x (y + 1)) o)))
 
-    bounded : face_total r t f ≤ℤ tile_cost r mask t S
-    unfolding tile_cost face_total face_product
+    total_is : face_total r t f ≡ sum_edges r.width r.height (λ e. cycle_departure r (cycles_of r S) e *ℤ face_difference (faces_of_tile r t f) e)
+    unfolding face_total face_product
+    total_is =
+        sum_grid-same r.width r.height (λ x y. faces_of_tile r t f x y *ℤ residue r x y) (λ x y. faces_of_tile r t f x y *ℤ (cycle_departure r (cycles_of r S) (right_edge x (y + 1)) +ℤ cycle_departure r (cycles_of r S) (down_edge x y) -ℤ cycle_departure r (cycles_of r S) (right_edge x y) -ℤ cycle_departure r (cycles_of r S) (down_edge (x + 1) y))) (λ x y l m. ap (λ (z : ℤ). faces_of_tile r t f x y *ℤ z) (residue_is r (cycles_of r S) x y))
+        ∙ planar r.width r.height (faces_of_tile r t f) (cycle_departure r (cycles_of r S)) no_column no_row
+
+    bounded : face_bound r mask t f ≤ℤ tile_cost r mask t S
+    unfolding tile_cost face_over_total at_edge
     bounded =
-        rw (
-          sum_grid-same r.width r.height (λ x y. faces_of_tile r t f x y *ℤ residue r x y) (λ x y. faces_of_tile r t f x y *ℤ (cycle_departure r (cycles_of r S) (right_edge x (y + 1)) +ℤ cycle_departure r (cycles_of r S) (down_edge x y) -ℤ cycle_departure r (cycles_of r S) (right_edge x y) -ℤ cycle_departure r (cycles_of r S) (down_edge (x + 1) y))) (λ x y l m. ap (λ (z : ℤ). faces_of_tile r t f x y *ℤ z) (residue_is r (cycles_of r S) x y)),
-          planar r.width r.height (faces_of_tile r t f) (cycle_departure r (cycles_of r S)) no_column no_row,
-        )
-        (sum_edges-le r.width r.height (λ e. cycle_departure r (cycles_of r S) e *ℤ face_difference (faces_of_tile r t f) e) (λ e. where_true (is_inner r t e) (edge_cost r mask S e)) (on_each_edge r.width r.height (λ e. (cycle_departure r (cycles_of r S) e *ℤ face_difference (faces_of_tile r t f) e) ≤ℤ where_true (is_inner r t e) (edge_cost r mask S e)) right_part down_part))
+        less _ _ _ _ _ total_is
+        (sum_edges-le r.width r.height (λ e. cycle_departure r (cycles_of r S) e *ℤ face_difference (faces_of_tile r t f) e) (λ e. where_true (is_inner r t e) (edge_cost r mask S e) +ℤ face_over r mask t f e) (on_each_edge r.width r.height at_edge right_part down_part))
+        (sum_edges-add r.width r.height (λ e. where_true (is_inner r t e) (edge_cost r mask S e)) (face_over r mask t f))
+      where
+        less : (total sum both cost above : ℤ) → total ≡ sum → sum ≤ℤ both → both ≡ cost +ℤ above → (total -ℤ above) ≤ℤ cost
+        less total sum both cost above p q e = omega (arith, ints, p, q, e)
 
 pub least_in_tile : (r : Raster) (mask : Field Bool) (S : Field ℤ) (t : ℕ) (f : Field ℤ) → IsTileCertificate r mask t S f → IsLeastInTile r mask t S
 least_in_tile r mask S t f cert S' good = rw cert.equal at (bounded r t f mask S' good S cert)

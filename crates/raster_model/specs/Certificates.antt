@@ -1,8 +1,8 @@
 -- What certifies a tile: faces that are dual feasible in Costantini's linear program, with equality.
-use Rattle.std.specs.Prelude.{◌≡◌, ℕ, zero, suc, ◌+◌, ◌≤◌, ℤ, pos, ◌-ℤ◌, ◌*ℤ◌, ◌≤ℤ◌, Bool, ◌&&◌, ◌==◌, IsTrue, if◌then◌else◌, nat_lt, unsigned_abs}
+use Rattle.std.specs.Prelude.{◌≡◌, ℕ, zero, suc, ◌+◌, ◌*◌, ◌≤◌, ℤ, pos, ◌-ℤ◌, ◌*ℤ◌, ◌≤ℤ◌, Bool, ◌&&◌, ◌==◌, IsTrue, if◌then◌else◌, nat_lt, unsigned_abs}
 use Rattle.raster_model.specs.declared.edge.Edge.{Edge}
-use Rattle.raster_model.specs.Sums.{Field, is_edge, sum_grid}
-use Rattle.raster_model.specs.Raster.{Raster, IsCongruent, residue, masked_weight, is_inner, tile_cost}
+use Rattle.raster_model.specs.Sums.{Field, edges_from, is_edge, sum_edges, sum_grid}
+use Rattle.raster_model.specs.Raster.{Raster, IsCongruent, residue, masked_weight, is_inner, over, tile_cost}
 use Rattle.sums_and_lists.specs.Sums.{where_true}
 
 -- what stands before a place, and 0 before the first
@@ -41,14 +41,28 @@ face_total r t f = sum_grid r.width r.height (face_product r t f)
 abbrev pub IsTileEdge : Raster → ℕ → Edge → Type 0
 IsTileEdge r t e = IsTrue (is_edge r.width r.height e && is_inner r t e)
 
--- the faces on the two sides of an edge differ by no more than its weight
+-- the faces on the two sides of an edge differ by no more than the steepness times its weight
 abbrev pub FacesFit : Raster → Field Bool → ℕ → Field ℤ → Edge → Type 0
-FacesFit r mask t f e = unsigned_abs (face_difference (faces_of_tile r t f) e) ≤ masked_weight r mask e
+FacesFit r mask t f e = unsigned_abs (face_difference (faces_of_tile r t f) e) ≤ r.steep * masked_weight r mask e
 
--- faces certify a surface in a tile: they fit at each inner edge, masked ends included, and their sum with the residues is the cost
+-- by how much the faces on the two sides of an inner edge of the tile differ by more than its weight, for the edges that start at a pixel, and the sum over the inner edges
+abbrev pub face_over : Raster → Field Bool → ℕ → Field ℤ → Edge → ℤ
+face_over r mask t f e = where_true (is_inner r t e) (pos (over (masked_weight r mask e) (face_difference (faces_of_tile r t f) e)))
+
+unfoldable pub face_over_from : Raster → Field Bool → ℕ → Field ℤ → Field ℤ
+face_over_from r mask t f = edges_from r.width r.height (face_over r mask t f)
+
+unfoldable pub face_over_total : Raster → Field Bool → ℕ → Field ℤ → ℤ
+face_over_total r mask t f = sum_edges r.width r.height (face_over r mask t f)
+
+-- the sum of face times residue, less those amounts: no congruent surface costs less in the tile
+abbrev pub face_bound : Raster → Field Bool → ℕ → Field ℤ → ℤ
+face_bound r mask t f = face_total r t f -ℤ face_over_total r mask t f
+
+-- faces certify a surface in a tile: they fit at each inner edge, masked ends included, and their bound is the cost
 pub record IsTileCertificate (r : Raster) (mask : Field Bool) (t : ℕ) (S : Field ℤ) (f : Field ℤ) : Type 0 where
   pub fits : (e : Edge) → IsTileEdge r t e → FacesFit r mask t f e
-  pub equal : face_total r t f ≡ tile_cost r mask t S
+  pub equal : face_bound r mask t f ≡ tile_cost r mask t S
 
 -- no congruent surface costs less in the tile
 abbrev pub IsLeastInTile : Raster → Field Bool → ℕ → Field ℤ → Type 0

@@ -10,6 +10,7 @@ pub mod Cells
 pub mod Flows
 pub mod Best
 pub mod Exact
+pub mod Unsteep
 pub mod Tiles
 pub mod Weights
 pub mod Bits

@@ -1,12 +1,12 @@
 -- Pixels, edges, surfaces and costs: what a raster is to the theory.
 -- A surface, a mask, a phase and tile numbers are functions of x and y; an edge is named by its first pixel and its direction.
-use Rattle.std.specs.Prelude.{◌≡◌, ℕ, ◌+◌, ◌*◌, ◌<◌, ℤ, pos, ◌+ℤ◌, ◌-ℤ◌, ◌*ℤ◌, Bool, ◌&&◌, ◌==◌, not, IsTrue, if◌then◌else◌, unsigned_abs, int_div}
+use Rattle.std.specs.Prelude.{◌≡◌, ℕ, zero, suc, ◌+◌, ◌-◌, ◌*◌, ◌<◌, ℤ, pos, ◌+ℤ◌, ◌-ℤ◌, ◌*ℤ◌, Bool, ◌&&◌, ◌==◌, not, IsTrue, if◌then◌else◌, unsigned_abs, int_div}
 use Rattle.raster_model.specs.declared.edge.Edge.{Edge}
 use Rattle.raster_model.specs.Sums.{Field, at_edge_start, at_edge_end, edges_from, sum_edges, right_edge, down_edge}
 use Rattle.raster_model.specs.Phase.{wrapped_by, turns_by}
 use Rattle.sums_and_lists.specs.Sums.{where_true}
 
--- what the definitions read of a scene; the slope is what the phase is expected to rise along a down edge, or along a right one, and the weight of an edge is that before any mask
+-- what the definitions read of a scene; the slope is what the phase is expected to rise along a down edge, or along a right one, the weight of an edge is that before any mask, and the steepness says how costs rise
 pub record Raster : Type 0 where
   pub width : ℕ
   pub height : ℕ
@@ -15,6 +15,7 @@ pub record Raster : Type 0 where
   pub weight : Edge → ℕ
   pub tile : Field ℕ
   pub tile_count : ℕ
+  pub steep : ℕ
 
 -- the wrapped difference of an edge around its slope, from its first end to the other
 abbrev pub gradient : Raster → Edge → ℤ
@@ -61,9 +62,21 @@ is_inner r t e = (at_edge_start r.tile e == t) && (at_edge_end r.tile e == t)
 abbrev pub is_seam : Raster → Edge → Bool
 is_seam r e = not (at_edge_start r.tile e == at_edge_end r.tile e)
 
--- what an edge with open ends adds to a cost: its weight times its absolute departure (Costantini 1998)
+-- what so many cycles count for at a steepness q: none counts for nothing, the first for 1 and each further one for q
+abbrev pub steps_of : ℕ → ℕ → ℕ
+steps_of q zero = 0
+steps_of q (suc further) = 1 + q * further
+
+abbrev pub steps : ℕ → ℤ → ℕ
+steps q k = steps_of q (unsigned_abs k)
+
+-- by how much the size of a number is above a weight, where it is above
+abbrev pub over : ℕ → ℤ → ℕ
+over weight d = unsigned_abs d - weight
+
+-- what an edge with open ends adds to a cost: its weight times the steps of its departure (at steepness 1 its absolute departure: Costantini 1998)
 abbrev pub edge_cost : Raster → Field Bool → Field ℤ → Edge → ℤ
-edge_cost r mask S e = where_true (has_open_ends mask e) (pos (masked_weight r mask e * unsigned_abs (departure r S e)))
+edge_cost r mask S e = where_true (has_open_ends mask e) (pos (masked_weight r mask e * steps r.steep (departure r S e)))
 
 -- what an edge adds to the cost of a tile, and to that of the seams
 abbrev pub inner_cost : Raster → Field Bool → ℕ → Field ℤ → Edge → ℤ

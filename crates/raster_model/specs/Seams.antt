@@ -1,8 +1,8 @@
 -- Regions, their offsets and what certifies the seams (Chen and Zebker 2002, tiles that do not overlap).
-use Rattle.std.specs.Prelude.{◌≡◌, ℕ, ◌+◌, ◌<◌, ◌≤◌, ℤ, pos, ◌+ℤ◌, ◌*ℤ◌, ◌≤ℤ◌, Bool, ◌&&◌, ◌==◌, not, ◌↔◌, IsTrue, unsigned_abs, ◌⊎◌}
+use Rattle.std.specs.Prelude.{◌≡◌, ℕ, ◌+◌, ◌*◌, ◌<◌, ◌≤◌, ℤ, pos, ◌+ℤ◌, ◌-ℤ◌, ◌*ℤ◌, ◌≤ℤ◌, Bool, ◌&&◌, ◌==◌, not, ◌↔◌, IsTrue, unsigned_abs, ◌⊎◌}
 use Rattle.raster_model.specs.declared.edge.Edge.{Edge}
 use Rattle.raster_model.specs.Sums.{Field, at_edge_start, at_edge_end, is_edge, sum_edges, right_edge, down_edge}
-use Rattle.raster_model.specs.Raster.{Raster, departure, has_open_ends, masked_weight, is_seam, seam_cost}
+use Rattle.raster_model.specs.Raster.{Raster, departure, has_open_ends, masked_weight, is_seam, over, seam_cost}
 use Rattle.sums_and_lists.specs.Sums.{where_true}
 
 abbrev pub IsOpenPixel : Raster → Field Bool → ℕ → ℕ → Type 0
@@ -77,11 +77,22 @@ flow_out r F region = sum_edges r.width r.height (λ e. where_true (is_seam r e 
 unfoldable pub flow_total : Raster → Field Bool → Field ℤ → (Edge → ℤ) → ℤ
 flow_total r mask S F = sum_edges r.width r.height (λ e. where_true (is_seam r e && has_open_ends mask e) (F e *ℤ departure r S e))
 
--- flows certify the seams of a surface: they are bounded by the weights, masked ends included, balanced at each region, and their sum with the departures is the cost
+-- by how much the size of the flow at a seam edge is above its weight, where it is above, and the sum over the seam edges
+abbrev pub flow_over : Raster → Field Bool → (Edge → ℤ) → Edge → ℤ
+flow_over r mask F e = where_true (is_seam r e) (pos (over (masked_weight r mask e) (F e)))
+
+unfoldable pub flow_over_total : Raster → Field Bool → (Edge → ℤ) → ℤ
+flow_over_total r mask F = sum_edges r.width r.height (flow_over r mask F)
+
+-- the sum of flow times departure, less those amounts: no offsets of the regions make the seams cost less
+abbrev pub flow_bound : Raster → Field Bool → Field ℤ → (Edge → ℤ) → ℤ
+flow_bound r mask S F = flow_total r mask S F -ℤ flow_over_total r mask F
+
+-- flows certify the seams of a surface: they are bounded by the steepness times the weights, masked ends included, balanced at each region, and their bound is the cost
 pub record IsSeamCertificate (r : Raster) (mask : Field Bool) (S : Field ℤ) (F : Edge → ℤ) : Type 0 where
-  pub bounded : (e : Edge) → IsTrue (is_edge r.width r.height e) → IsTrue (is_seam r e) → unsigned_abs (F e) ≤ masked_weight r mask e
+  pub bounded : (e : Edge) → IsTrue (is_edge r.width r.height e) → IsTrue (is_seam r e) → unsigned_abs (F e) ≤ r.steep * masked_weight r mask e
   pub balanced : (region : Field Bool) → IsRegion r mask region → flow_in r F region ≡ flow_out r F region
-  pub equal : flow_total r mask S F ≡ seam_cost r mask S
+  pub equal : flow_bound r mask S F ≡ seam_cost r mask S
 
 -- the surface has the phase at the first open pixel in row order, where there is one
 abbrev pub IsAnchored : Raster → Field Bool → Field ℤ → Type 0

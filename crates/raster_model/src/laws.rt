@@ -20,6 +20,7 @@ ghost use Rattle.raster_model.specs.Exact.{
 ghost use Rattle.raster_model.specs.Order.{CellsFollowTheWindow, FlowsFollowEdgeOrder};
 ghost use Rattle.raster_model.specs.Phase.{TurnsAreExact, WrappedHasNoSlope, WrappedIsIt, WrappedIsOnly};
 ghost use Rattle.raster_model.specs.Seams.{RegionNumbersAreUnique};
+ghost use Rattle.raster_model.specs.Unsteep.{UnsteepCostIsTheDeparture, UnsteepFacesCertify, UnsteepFlowsCertify};
 ghost use Rattle.raster_model.specs.Tiles.{PixelsHaveOneWindow, TilesAreNumbered, TilesAreSquares};
 
 /// Two phases have one wrapped difference around each slope, and it leaves out whole cycles. Around the slope 0 it is the
@@ -75,6 +76,14 @@ pub fn pixels_have_one_tile()
 /// The regions have one numbering in the row order of their first pixels.
 pub fn region_numbers_are_unique()
     ensures { RegionNumbersAreUnique }
+{}
+
+/// At the steepness 1 an edge adds its weight times its absolute departure, and the sums of face times residue and of
+/// flow times departure certify costs if no face difference and no flow is greater than the weight.
+pub fn unsteep_costs_are_departures()
+    ensures cost { UnsteepCostIsTheDeparture }
+    ensures faces { UnsteepFacesCertify }
+    ensures flows { UnsteepFlowsCertify }
 {}
 
 /// A certified surface costs no more in the tile than any congruent one.

@@ -160,17 +160,18 @@ pub fn is_seam(scene: &Scene, edge: Edge) -> bool
     scene.tiling.tile_of(edge.x, edge.y) != scene.tiling.tile_of(edge.end_x(), edge.end_y())
 }
 
-/// What an edge adds to a cost: its weight times its absolute departure, and 0 if an end is masked.
+/// What an edge adds to a cost: its weight times the steps of its departure, and 0 if an end is masked. At the steepness 1
+/// the steps are the absolute departure.
 pub fn edge_cost<H: Heights>(scene: &Scene, mask: &Mask, heights: &H, edge: Edge) -> u128
     requires same_size { (mask.now.width ≡ scene.now.phase.width) × (mask.now.height ≡ scene.now.phase.height) }
     requires is_edge { IsTrue (is_edge scene.now.phase.width scene.now.phase.height edge) }
     requires known { KnowsEnds (open_at mask.now) (H.knows heights.now) edge }
     ensures value { pos result ≡ edge_cost_of (raster_of scene.now) (open_at mask.now) (lifted (raster_of scene.now) (H.cycles_at heights.now)) edge }
-    ensures small { result ≤ 65535 * (2 ^ 49 + 1) }
+    ensures small { result ≤ 1048560 * (2 ^ 49 + 1) }
 {
     if mask.is_open(edge.x, edge.y) && mask.is_open(edge.end_x(), edge.end_y()) {
-        u128::from(weight(scene, mask, edge))
-            * u128::from(departure(scene, heights, edge).unsigned_abs())
+        let steps = scene.terms.steps(departure(scene, heights, edge));
+        u128::from(weight(scene, mask, edge)) * u128::from(steps)
     } else {
         0
     }
@@ -218,7 +219,7 @@ fn edge_cost_in<H: Heights>(scene: &Scene, mask: &Mask, heights: &H, part: Part,
     requires is_edge { IsTrue (is_edge scene.now.phase.width scene.now.phase.height edge) }
     requires known { KnowsPart (raster_of scene.now) (open_at mask.now) part (H.knows heights.now) }
     ensures value { pos result ≡ part_edge_cost (raster_of scene.now) (open_at mask.now) part (lifted (raster_of scene.now) (H.cycles_at heights.now)) edge }
-    ensures small { result ≤ 65535 * (2 ^ 49 + 1) }
+    ensures small { result ≤ 1048560 * (2 ^ 49 + 1) }
 {
     if is_in_part(scene, part, edge) {
         edge_cost(scene, mask, heights, edge)
@@ -239,7 +240,7 @@ fn cost_from<H: Heights>(
     requires pixel { (x < scene.now.phase.width) × (y < scene.now.phase.height) }
     requires known { KnowsPart (raster_of scene.now) (open_at mask.now) part (H.knows heights.now) }
     ensures value { pos result ≡ part_cost_from (raster_of scene.now) (open_at mask.now) part (lifted (raster_of scene.now) (H.cycles_at heights.now)) x y }
-    ensures small { result ≤ 2 * 65535 * (2 ^ 49 + 1) }
+    ensures small { result ≤ 2 * 1048560 * (2 ^ 49 + 1) }
 {
     let to_right = if x + 1 < scene.phase.width {
         edge_cost_in(scene, mask, heights, part, Edge { x, y, down: false })

@@ -21,7 +21,6 @@ pub struct Session {
     pub ghost settles: { settles_in scripts.items * (scene.phase.width * scene.phase.height) ≤ max_settled_pixels },
     pub ghost changes: { changes_in scripts.items * tiles_of scene.tiling ≤ max_changed_tiles },
     pub ghost inside: { ScriptsFit scene.phase.width scene.phase.height scripts.items },
-    pub ghost unsteep: { scene.terms.steep ≡ 1 },
 }
 
 impl Session {
@@ -30,7 +29,6 @@ impl Session {
 
     /// The same session on other terms.
     pub fn with_terms(self, terms: Terms) -> Session
-        requires { terms.steep ≡ 1 }
         ensures { HasNewTerms self terms result }
     {
         let Session {

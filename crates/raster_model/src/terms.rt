@@ -7,7 +7,8 @@ pub struct Terms {
     pub ramp_x: i32,
     /// What it is expected to rise from a pixel to its lower neighbour.
     pub ramp_y: i32,
-    /// The steepness of costs. At 1 each cycle of a departure costs the same.
+    /// The steepness of costs: how many times as much as the first cycle of a departure each further one costs. At 1 all
+    /// cost the same.
     pub steep: u32,
     pub ghost across: { IsSlope ramp_x },
     pub ghost along: { IsSlope ramp_y },
@@ -16,7 +17,8 @@ pub struct Terms {
 
 impl Terms {
     ghost use Rattle.raster_model.specs.Terms.{ArePlainTerms, slope_of};
-    ghost use Rattle.std.specs.Prelude.{◌≡◌};
+    ghost use Rattle.raster_model.specs.Raster.{steps as steps_of_departure};
+    ghost use Rattle.std.specs.Prelude.{◌≡◌, ◌*◌, ◌≤◌, ◌^◌, unsigned_abs};
 
     /// No ramp, and the steepness 1.
     pub fn plain() -> Terms
@@ -35,5 +37,29 @@ impl Terms {
         ensures slope { IsSlope result }
     {
         if down { self.ramp_y } else { self.ramp_x }
+    }
+
+    /// The most by which faces may differ at an edge of a weight, and the most that a flow on it may be: the steepness times
+    /// the weight.
+    pub fn limit(self, weight: u16) -> u32
+        ensures value { result ≡ self.steep * weight }
+        ensures small { result ≤ 1048560 }
+    {
+        self.steep * u32::from(weight)
+    }
+
+    /// What a departure of so many whole cycles counts for: 0 counts for nothing, the first cycle for 1, and each further
+    /// one for the steepness.
+    pub fn steps(self, departure: i64) -> u64
+        requires { unsigned_abs departure ≤ 2 ^ 59 }
+        ensures value { result ≡ steps_of_departure self.steep departure }
+        ensures small { result ≤ 16 * unsigned_abs departure }
+    {
+        let cycles = departure.unsigned_abs();
+        if cycles == 0 {
+            0
+        } else {
+            1 + u64::from(self.steep) * (cycles - 1)
+        }
     }
 }

@@ -16,4 +16,6 @@ mod region_rows;
 #[cfg(test)]
 mod snapshot_rows;
 #[cfg(test)]
+mod steep_rows;
+#[cfg(test)]
 mod weight_rows;

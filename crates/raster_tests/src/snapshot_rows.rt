@@ -63,7 +63,6 @@ fn pair(
 /// A session with no command.
 fn session(alloc: Global, scene: Scene, first_mask: Mask) -> Result<Arc<Session>, AllocError>
     requires same_size { (first_mask.width ≡ scene.phase.width) × (first_mask.height ≡ scene.phase.height) }
-    requires unsteep { scene.terms.steep ≡ 1 }
     ensures { IfOk result (λ made. (arc_value made).scene ≡ scene) }
 {
     let commands = Vec::new(alloc);

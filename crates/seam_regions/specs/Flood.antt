@@ -15,7 +15,7 @@ use Rattle.sums_and_lists.specs.Sums.{count_below, one_if}
 
 -- a raster with a tiling's size and tiles
 abbrev pub tiled : Tiling → Raster
-tiled g = record { width = g.width; height = g.height; phase = λ x y. 0; slope = λ down. pos 0; weight = λ e. 0; tile = tile_at g; tile_count = tiles_of g }
+tiled g = record { width = g.width; height = g.height; phase = λ x y. 0; slope = λ down. pos 0; weight = λ e. 0; tile = tile_at g; tile_count = tiles_of g; steep = 1 }
 
 -- the number of an edge: edges go in the row order of their other ends, and each pixel has two numbers, for its left edge and its upper edge
 abbrev pub edge_rank : ℕ → Edge → ℕ

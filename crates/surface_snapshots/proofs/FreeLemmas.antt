@@ -1,6 +1,6 @@
 -- Pieces of a row: what their edges add up to, and edges that add nothing, since the surface does not depart there.
 use Rattle.std.proofs.Common.{◌≡◌, ◌∙◌, ℕ, ◌+◌, ◌-◌, ◌*◌, ◌/◌, ◌%◌, ◌<◌, ◌≤◌, sym, ap, ap₂, refl, arith, Bool, true, false, inl, inr, of_z, w64, FitsSigned}
-use Rattle.std.specs.Prelude.{ℤ, pos, ◌+ℤ◌, ◌==◌, ◌||◌, not, nat_lt, IsTrue, unsigned_abs}
+use Rattle.std.specs.Prelude.{ℤ, pos, ◌+ℤ◌, ◌==◌, ◌||◌, not, nat_lt, IsTrue}
 use Rattle.std.proofs.lemmas.Bool.{cases_lt}
 use Rattle.std.proofs.lemmas.Bool.Decides.{nat_tests}
 use Rattle.std.proofs.lemmas.Int.{ints}
@@ -9,8 +9,9 @@ use Rattle.raster_model.specs.declared.edge.Edge.{Edge}
 use Rattle.raster_model.specs.Heights.{KnowsOpen}
 use Rattle.raster_model.specs.MaskView.{MaskView}
 use Rattle.raster_model.specs.Masks.{open_at}
-use Rattle.raster_model.specs.Raster.{Raster, departure, edge_cost, has_open_ends, is_seam, masked_weight, seam_cost_from, seam_edge_cost}
+use Rattle.raster_model.specs.Raster.{Raster, departure, edge_cost, has_open_ends, is_seam, masked_weight, seam_cost_from, seam_edge_cost, steps}
 use Rattle.raster_model.specs.Sums.{Field, right_edge, down_edge, sum_row}
+use Rattle.raster_model.proofs.Steps.{no_steps}
 use Rattle.certificates.proofs.SeamLemmas.{is_zero}
 use Rattle.surface_snapshots.specs.Loops.{AddUpTo, AreOpenFrom, FollowsDown, FollowsRight, KnowsFrom, inner_cost_from, inner_edge_cost}
 use Rattle.sums_and_lists.specs.Sums.{where_true}
@@ -37,10 +38,10 @@ left_from x side p =
 zero_too : (t : Bool) (z : ℤ) → z ≡ pos 0 → where_true t z ≡ pos 0
 zero_too t z e = rw e (where_true-zero t)
 
-no_product : (t : Bool) (w : ℕ) (d : ℤ) → d ≡ pos 0 → where_true t (pos (w * unsigned_abs d)) ≡ pos 0
-no_product t w d e =
+no_product : (t : Bool) (w q : ℕ) (d : ℤ) → d ≡ pos 0 → where_true t (pos (w * steps q d)) ≡ pos 0
+no_product t w q d e =
     let z : w * 0 ≡ 0 = omega arith in
-    rw e (ap (λ (n : ℕ). where_true t (pos n)) z ∙ where_true-zero t)
+    rw (no_steps q d e) (ap (λ (n : ℕ). where_true t (pos n)) z ∙ where_true-zero t)
 
 none_before : (a b : ℕ) (z : ℤ) → (a < b → z ≡ pos 0) → where_true (nat_lt a b) z ≡ pos 0
 none_before a b z f =
@@ -48,7 +49,7 @@ none_before a b z f =
 
 module _ (r : Raster) (mask : Field Bool) (S : Field ℤ) (y a b : ℕ) (right : FollowsRight r S y a b) (down : y + 1 < r.height → FollowsDown r S y a b) where
   free_edge : (t : Bool) (e : Edge) → departure r S e ≡ pos 0 → where_true t (edge_cost r mask S e) ≡ pos 0
-  free_edge t e d = zero_too t (edge_cost r mask S e) (no_product (has_open_ends mask e) (masked_weight r mask e) (departure r S e) d)
+  free_edge t e d = zero_too t (edge_cost r mask S e) (no_product (has_open_ends mask e) (masked_weight r mask e) r.steep (departure r S e) d)
 
   no_inner : (x : ℕ) → a ≤ x → x < b → inner_cost_from r mask S x y ≡ pos 0
   unfolding inner_cost_from inner_edge_cost

@@ -22,7 +22,7 @@ inner_cost_from r mask S = edges_from r.width r.height (inner_edge_cost r mask S
 
 -- neither cost is more than n edges can add
 abbrev pub AreOfEdges : ℕ → Costs → Type 0
-AreOfEdges n costs = (costs.tiles ≤ 65535 * (2 ^ 49 + 1) * n) × (costs.seams ≤ 65535 * (2 ^ 49 + 1) * n)
+AreOfEdges n costs = (costs.tiles ≤ 1048560 * (2 ^ 49 + 1) * n) × (costs.seams ≤ 1048560 * (2 ^ 49 + 1) * n)
 
 -- the pixels of row y and of the next one from column x to column z are open, as far as the raster goes
 abbrev pub AreOpenFrom : MaskView → ℕ → ℕ → ℕ → Type 0

@@ -9,7 +9,7 @@ abbrev pub invariant-loop-x : goal.invariant-loop-x
 invariant-loop-x g l = record {
   within : l.x ≤ l.scene.phase.width;
   sum : pos l.cost ≡ sum_row l.x (seam_cost_from (raster_of l.scene) (open_at l.mask) (lifted (raster_of l.scene) (g.H.Heights.cycles_at l.heights))) l.y;
-  small : l.cost ≤ 2 * 65535 * (2 ^ 49 + 1) * l.x;
+  small : l.cost ≤ 2 * 1048560 * (2 ^ 49 + 1) * l.x;
 }
 
 abbrev pub decreases-loop-x : goal.decreases-loop-x

@@ -33,8 +33,8 @@ pub overflow_cast-result : goal.overflow_cast-result
 overflow_cast-result g c =
     region_fits (raster_of c.args.scene.now) (open_at c.args.mask.now) c.args.labels.now (length c.args.scratch.now) c.in-Some-first_other.region c.requires.regions c.type_inv.labels (rw (← c.add_up.auto.sums) c.in-Some-first_other.ensures.found.exists)
 
-pub total-bound-requires : goal.total-bound-requires
-total-bound-requires g c = record { fit = c.in_default-first_heavy.ensures.none; known = c.requires.known }
+pub bound-bound-requires : goal.bound-bound-requires
+bound-bound-requires g c = record { fit = c.in_default-first_heavy.ensures.none; known = c.requires.known }
 
 pub seam_cost-cost-requires : goal.seam_cost-cost-requires
 seam_cost-cost-requires g c = record {
@@ -75,25 +75,25 @@ returns-in-Some-first_other g c =
 pub returns-then-is_same : goal.returns-then-is_same
 returns-then-is_same g c =
     let r = raster_of c.args.scene.now in
-    let back : to_z w128 (of_z w128 c.total-bound.result) ≡ c.total-bound.result = omega (arith, ints) in
+    let back : to_z w128 (of_z w128 c.bound-bound.result) ≡ c.bound-bound.result = omega (arith, ints) in
     let balanced = balanced_of_zeros r (open_at c.args.mask.now) (label_at r.width c.args.labels.now) (flow_at r c.args.flows.now) c.add_up.new.sums c.add_up.ensures (length c.args.scratch.now) (sym c.add_up.auto.sums) c.in_default-first_other.ensures.none in
     seams_say r (open_at c.args.mask.now) (label_at r.width c.args.labels.now) (length c.args.scratch.now) (g.H.Heights.cycles_at c.args.heights.now) c.args.flows.now c.requires.regions.1 Good
     (
     good_of_parts r (open_at c.args.mask.now) (label_at r.width c.args.labels.now) (length c.args.scratch.now) (g.H.Heights.cycles_at c.args.heights.now) c.args.flows.now c.requires.regions.1
     (c.if-flows-seam_count.false ∙ c.seam_count.ensures) c.in_default.ensures.none c.in_default-first_heavy.ensures.none.0 balanced
-    (sym c.total-bound.ensures ∙ sym back ∙ c.is_same.ensures.0 c.if-is_same.true ∙ c.seam_cost-cost.ensures)
+    (sym c.bound-bound.ensures ∙ sym back ∙ c.is_same.ensures.0 c.if-is_same.true ∙ c.seam_cost-cost.ensures)
     )
 
 pub returns-else-is_same : goal.returns-else-is_same
 returns-else-is_same g c =
     let r = raster_of c.args.scene.now in
-    let back : to_z w128 (of_z w128 c.total-bound.result) ≡ c.total-bound.result = omega (arith, ints) in
-    seams_say r (open_at c.args.mask.now) (label_at r.width c.args.labels.now) (length c.args.scratch.now) (g.H.Heights.cycles_at c.args.heights.now) c.args.flows.now c.requires.regions.1 (CostDiffers c.seam_cost-cost.result (to_z w128 (of_z w128 c.total-bound.result))) (
+    let back : to_z w128 (of_z w128 c.bound-bound.result) ≡ c.bound-bound.result = omega (arith, ints) in
+    seams_say r (open_at c.args.mask.now) (label_at r.width c.args.labels.now) (length c.args.scratch.now) (g.H.Heights.cycles_at c.args.heights.now) c.args.flows.now c.requires.regions.1 (CostDiffers c.seam_cost-cost.result (to_z w128 (of_z w128 c.bound-bound.result))) (
       c.if-flows-seam_count.false ∙ c.seam_count.ensures,
       c.in_default.ensures.none,
       c.in_default-first_heavy.ensures.none.0,
       balanced_of_zeros r (open_at c.args.mask.now) (label_at r.width c.args.labels.now) (flow_at r c.args.flows.now) c.add_up.new.sums c.add_up.ensures (length c.args.scratch.now) (sym c.add_up.auto.sums) c.in_default-first_other.ensures.none,
       c.seam_cost-cost.ensures,
-      back ∙ c.total-bound.ensures,
+      back ∙ c.bound-bound.ensures,
       λ e. false≢true (sym c.if-is_same.false ∙ c.is_same.ensures.1 e),
     )

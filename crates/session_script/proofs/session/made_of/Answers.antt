@@ -16,5 +16,4 @@ invariant_of-result c =
       settles = rw (same_counts is_settle scripts.items, ← c.requires.sized.0, ← c.requires.sized.1) within.settles;
       changes = rw (same_counts is_change scripts.items) within.changes;
       inside = each_script (CommandsFit p.phase.width p.phase.height) scripts.items (rw (← c.requires.sized.0, ← c.requires.sized.1) within.inside);
-      unsteep = c.plain.ensures.steepness;
     }

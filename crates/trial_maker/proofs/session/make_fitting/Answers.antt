@@ -29,7 +29,6 @@ invariant_of-result c =
       settles = trial_settles scripts.items _ _ _ _ are p.0 p.1 c.args.tiling.few;
       changes = trial_changes scripts.items _ are;
       inside = trial_fits _ _ scripts.items are;
-      unsteep = c.plain.ensures.steepness;
     }
 
 pub returns-clause-made : goal.returns-clause-made

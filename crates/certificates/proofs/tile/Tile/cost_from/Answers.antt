@@ -23,12 +23,12 @@ edge_cost-to_lower-requires g c =
 
 pub overflow_add-result : goal.overflow_add-result
 overflow_add-result g c =
-    let p : c.if-x-self.to_right ≤ 65535 * (2 ^ 49 + 1) =
+    let p : c.if-x-self.to_right ≤ 1048560 * (2 ^ 49 + 1) =
     elim c.if-x-self.branch [
       | then-x-self b ↦ cost_or_none _ _ b.to_right-is b.edge_cost-to_right.ensures.small
       | else-x-self b ↦ no_cost _ b.to_right-is
     ] in
-    let q : c.if-y-self.to_lower ≤ 65535 * (2 ^ 49 + 1) =
+    let q : c.if-y-self.to_lower ≤ 1048560 * (2 ^ 49 + 1) =
     elim c.if-y-self.branch [
       | then-y-self b ↦ cost_or_none _ _ b.to_lower-is b.edge_cost-to_lower.ensures.small
       | else-y-self b ↦ no_cost _ b.to_lower-is
@@ -37,12 +37,12 @@ overflow_add-result g c =
 
 pub returns-clause-small : goal.returns-clause-small
 returns-clause-small g c =
-    let p : c.if-x-self.to_right ≤ 65535 * (2 ^ 49 + 1) =
+    let p : c.if-x-self.to_right ≤ 1048560 * (2 ^ 49 + 1) =
     elim c.if-x-self.branch [
       | then-x-self b ↦ cost_or_none _ _ b.to_right-is b.edge_cost-to_right.ensures.small
       | else-x-self b ↦ no_cost _ b.to_right-is
     ] in
-    let q : c.if-y-self.to_lower ≤ 65535 * (2 ^ 49 + 1) =
+    let q : c.if-y-self.to_lower ≤ 1048560 * (2 ^ 49 + 1) =
     elim c.if-y-self.branch [
       | then-y-self b ↦ cost_or_none _ _ b.to_lower-is b.edge_cost-to_lower.ensures.small
       | else-y-self b ↦ no_cost _ b.to_lower-is

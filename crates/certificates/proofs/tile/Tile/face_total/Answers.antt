@@ -56,9 +56,14 @@ loop-y-preserved c =
       small = omega (arith, c.loop-x.invariant.small, k.pixels.across, k.scene.now.tiling.wide);
     }
 
-pub returns : goal.returns
+pub returns-clause-small : goal.returns-clause-small
+returns-clause-small c =
+    let k = c.args.self.now in
+    omega (arith, c.loop-y.invariant.small, k.pixels.along, k.scene.now.tiling.high)
+
+pub returns-clause-value : goal.returns-clause-value
 unfolding face_total
-returns c =
+returns-clause-value c =
     let k = c.args.self.now in
     let s = k.scene.now in
     let v = k.window in

@@ -6,5 +6,5 @@ use Rattle.certificates.proofs.tile.Tile.row_cost.Given as goal
 abbrev pub invariant-loop-x : goal.invariant-loop-x
 invariant-loop-x g l = record {
   sum : pos l.cost ≡ sum_row l.x (cost_at l.self (g.H.Heights.cycles_at l.heights)) l.y;
-  small : l.cost ≤ 2 * 65535 * (2 ^ 49 + 1) * l.x;
+  small : l.cost ≤ 2 * 1048560 * (2 ^ 49 + 1) * l.x;
 }

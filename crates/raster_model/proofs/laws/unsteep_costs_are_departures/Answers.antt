@@ -1,0 +1,11 @@
+use Rattle.raster_model.proofs.Unsteep.{unsteep_cost, unsteep_faces, unsteep_flows}
+use Rattle.raster_model.proofs.laws.unsteep_costs_are_departures.Goals as goal
+
+pub returns-clause-cost : goal.returns-clause-cost
+returns-clause-cost c = unsteep_cost
+
+pub returns-clause-faces : goal.returns-clause-faces
+returns-clause-faces c = unsteep_faces
+
+pub returns-clause-flows : goal.returns-clause-flows
+returns-clause-flows c = unsteep_flows

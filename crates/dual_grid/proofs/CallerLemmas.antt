@@ -1,5 +1,5 @@
 -- Lemmas for crates above, which balance a grid: what a grid of one origin keeps, and that no nodes block.
-use Rattle.std.proofs.Common.{◌≡◌, ℕ, ◌<◌, ◌∙◌, sym, subst, arith, List, Bool, true, false}
+use Rattle.std.proofs.Common.{◌≡◌, ℕ, ◌<◌, ◌∙◌, sym, ap₂, subst, arith, List, Bool, true, false}
 use Rattle.std.specs.Prelude.{ℤ, pos, negsuc, ◌+ℤ◌, ◌≤ℤ◌}
 use Rattle.std.proofs.lemmas.Int.{ints}
 use Rattle.raster_model.specs.declared.scene.Scene.{Scene}
@@ -12,28 +12,35 @@ use Rattle.flow_network.specs.Moves.{IsConserved}
 use Rattle.flow_network.proofs.CallerLemmas.{conserved-trans}
 use Rattle.dual_grid.specs.declared.grid.DualGrid.{DualGrid}
 use Rattle.dual_grid.specs.Answers.{IsNearStart}
-use Rattle.dual_grid.specs.Grids.{AreWeighed, IsConnected}
+use Rattle.dual_grid.specs.Grids.{AreWeighed, IsConnected, start_residual}
+use Rattle.dual_grid.specs.Layout.{weight_in}
 use Rattle.dual_grid.specs.Starts.{IsAtStart, open_in_window, start_state}
-use Rattle.dual_grid.specs.Views.{HaveOneOrigin, IsGridOf, grid_shape, grid_state}
+use Rattle.dual_grid.specs.Views.{HaveOneOrigin, IsGridOf, grid_shape, grid_start, grid_state}
 use Rattle.sums_and_lists.specs.Sums.{sum_below}
 use Rattle.sums_and_lists.proofs.SumLemmas.{sum_below-same}
+
+-- grids of one origin start alike
+pub start_stays : (g h : DualGrid) → HaveOneOrigin g h → grid_start h ≡ grid_start g
+start_stays g h origin = ap₂ (λ (q : ℕ) (zs : List ℤ). start_residual q (weight_in zs)) origin.steep origin.weights
 
 -- pushes and raises leave a grid what it was made from
 pub grid_stays : (s : Scene) (t : ℕ) (unmasked : List Bool) (g h : DualGrid) → HaveOneOrigin g h → IsGridOf s t unmasked g → IsGridOf s t unmasked h
 grid_stays s t unmasked g h origin grid =
     let r = raster_of s in
-    let weighed = subst (λ (v : Window). AreWeighed r (open_in_window v unmasked) v (grid_shape g)) (sym origin.window) grid.weighed in
-    let conserved = conserved-trans (grid_shape g) (start_state (residue r) g.window) (grid_state g) (grid_state h) grid.conserved origin.conserved in
-    let placed = subst (λ (v : Window). IsConserved (grid_shape g) (start_state (residue r) v) (grid_state h)) (sym origin.window) conserved in
+    let start = start_stays g h origin in
+    let conserved = conserved-trans (grid_shape g) (start_state (grid_start g) (residue r) g.window) (grid_state g) (grid_state h) grid.conserved origin.conserved in
+    let begun = subst (λ (b : ℕ → ℕ). IsConserved (grid_shape g) (start_state b (residue r) g.window) (grid_state h)) (sym start) conserved in
+    let placed = subst (λ (v : Window). IsConserved (grid_shape g) (start_state (grid_start h) (residue r) v) (grid_state h)) (sym origin.window) begun in
     record {
       window = origin.window ∙ grid.window;
-      weighed = subst (λ (z : Shape). AreWeighed r (open_in_window h.window unmasked) h.window z) (sym origin.shape) weighed;
-      conserved = subst (λ (z : Shape). IsConserved z (start_state (residue r) h.window) (grid_state h)) (sym origin.shape) placed;
+      steep = origin.steep ∙ grid.steep;
+      weighed = subst (λ (v : Window). AreWeighed r (open_in_window v unmasked) v (weight_in h.weights.items)) (sym origin.window) (subst (λ (zs : List ℤ). AreWeighed r (open_in_window g.window unmasked) g.window (weight_in zs)) (sym origin.weights) grid.weighed);
+      conserved = subst (λ (z : Shape). IsConserved z (start_state (grid_start h) (residue r) h.window) (grid_state h)) (sym origin.shape) placed;
     }
 
 -- residuals that differ from those of the start by at most the positive excesses are near them
-pub near_start : (f : Field ℤ) (v : Window) (s : Shape) (g h : State) (m : ℤ) → IsAtStart f v s g → m ≤ℤ pos 16129 → ((a : ℕ) → IsArc s a → (pos (h.residual a) ≤ℤ (pos (g.residual a) +ℤ m)) × (pos (g.residual a) ≤ℤ (pos (h.residual a) +ℤ m))) → IsNearStart s h
-near_start f v s g h m start few moves a arc =
+pub near_start : (begin : ℕ → ℕ) (f : Field ℤ) (v : Window) (s : Shape) (g h : State) (m : ℤ) → IsAtStart begin f v s g → m ≤ℤ pos 16129 → ((a : ℕ) → IsArc s a → (pos (h.residual a) ≤ℤ (pos (g.residual a) +ℤ m)) × (pos (g.residual a) ≤ℤ (pos (h.residual a) +ℤ m))) → IsNearStart begin s h
+near_start begin f v s g h m start few moves a arc =
     let k = moves a arc in
     let e = start.residual a arc in
     (omega (arith, ints, k.0, e, few), omega (arith, ints, k.1, e, few))
@@ -47,8 +54,8 @@ positive_excess-same part s g at least = sum_below-same s.nodes (λ u. part (g.e
     same (negsuc n) = least n
 
 -- near the start an arc with capacity left leads out of each set of nodes but the empty one and the whole, so no nodes block
-pub leads_out : (s : Shape) (g : State) → IsConnected s → IsNearStart s g → (inside : ℕ → Bool) (u w : ℕ) → u < s.nodes → w < s.nodes → inside u ≡ true → inside w ≡ false → (a : ℕ) × (IsArc s a × (0 < g.residual a) × (inside (tail_of s a) ≡ true) × (inside (s.head a) ≡ false))
-leads_out s g joined near inside u w l m p q =
+pub leads_out : (begin : ℕ → ℕ) (s : Shape) (g : State) → IsConnected begin s → IsNearStart begin s g → (inside : ℕ → Bool) (u w : ℕ) → u < s.nodes → w < s.nodes → inside u ≡ true → inside w ≡ false → (a : ℕ) × (IsArc s a × (0 < g.residual a) × (inside (tail_of s a) ≡ true) × (inside (s.head a) ≡ false))
+leads_out begin s g joined near inside u w l m p q =
     let k = joined inside u w l m p q in
     let a = k.0 in
     let h = (near a k.1.0).1 in

@@ -1,9 +1,11 @@
 -- What a check of corrections and faces finds, step by step.
-use Rattle.std.proofs.Common.{◌≡◌, ℕ, ◌+◌, ◌<◌, ◌≤◌, ◌∙◌, ap, sym, refl, arith, inl, inr, nat_eq, to_z, of_z, w64, SFits}
-use Rattle.std.specs.Prelude.{ℤ, pos, neg_ℤ, ◌+ℤ◌, ◌-ℤ◌, ◌*ℤ◌, ◌<ℤ◌, IsTrue, unsigned_abs}
+use Rattle.std.proofs.Common.{◌≡◌, ℕ, zero, suc, ◌+◌, ◌-◌, ◌*◌, ◌<◌, ◌≤◌, ◌∙◌, ap, sym, refl, arith, inl, inr, nat_eq, to_z, of_z, w64, SFits}
+use Rattle.std.specs.Prelude.{neg_ℤ, ℤ, pos, ◌+ℤ◌, ◌-ℤ◌, ◌*ℤ◌, IsTrue, unsigned_abs, ◌≤ℤ◌}
 use Rattle.std.proofs.lemmas.Bool.{eqb-true}
 use Rattle.std.proofs.lemmas.Int.{ints, to_z-of_z}
+use Rattle.raster_model.specs.Raster.{over, steps, steps_of}
 use Rattle.sums_and_lists.proofs.Products.{products}
+use Rattle.dual_grid.specs.Problems.{IsTight}
 use Rattle.sums_and_lists.proofs.Orders.{below_or_last}
 
 -- one number more of those from a on
@@ -28,22 +30,44 @@ around_is a b c d p q r t =
     let second : to_z w64 (of_z w64 (a +ℤ b -ℤ c)) ≡ a +ℤ b -ℤ c = omega (arith, ints, p, q, r) in
     rw (i, j, k, l, first, second) refl
 
--- a product with a difference that is the whole weight, one way or the other
-pub whole_none : (d w k : ℤ) → k ≡ pos 0 → k *ℤ d ≡ w *ℤ pos (unsigned_abs k)
-whole_none d w k e = rw e (omega (arith, ints))
-
-pub whole_forth : (d w k : ℤ) → pos 0 <ℤ k → d ≡ w → k *ℤ d ≡ w *ℤ pos (unsigned_abs k)
-whole_forth d w k l e =
-    let size : k ≡ pos (unsigned_abs k) = omega (arith, ints, l) in
-    commute d w k (pos (unsigned_abs k)) size e
+-- a product of numbers of one direction
+pub forth_product : (k d : ℤ) → pos 0 ≤ℤ k → pos 0 ≤ℤ d → k *ℤ d ≡ pos (unsigned_abs k * unsigned_abs d)
+forth_product k d p q = signs k d (unsigned_abs k) (unsigned_abs d) (omega (arith, ints, p)) (omega (arith, ints, q))
   where
-    commute : (d w k n : ℤ) → k ≡ n → d ≡ w → k *ℤ d ≡ w *ℤ n
-    commute d w k n p q = rw (p, q) (omega (arith, ints))
+    signs : (k d : ℤ) (m n : ℕ) → k ≡ pos m → d ≡ pos n → k *ℤ d ≡ pos (m * n)
+    signs k d m n e f = rw (e, f) refl
 
-pub whole_back : (d w k : ℤ) → k <ℤ pos 0 → d ≡ neg_ℤ w → k *ℤ d ≡ w *ℤ pos (unsigned_abs k)
-whole_back d w k l e =
-    let size : k ≡ neg_ℤ (pos (unsigned_abs k)) = omega (arith, ints, l) in
-    turn d w k (pos (unsigned_abs k)) size e
+pub back_product : (k d : ℤ) → k ≤ℤ pos 0 → d ≤ℤ pos 0 → k *ℤ d ≡ pos (unsigned_abs k * unsigned_abs d)
+back_product k d p q = signs k d (unsigned_abs k) (unsigned_abs d) (omega (arith, ints, p)) (omega (arith, ints, q))
   where
-    turn : (d w k n : ℤ) → k ≡ neg_ℤ n → d ≡ neg_ℤ w → k *ℤ d ≡ w *ℤ n
-    turn d w k n p q = rw (p, q) (simp products (omega (arith, ints)))
+    both_turned : (a b k d : ℤ) → k ≡ neg_ℤ a → d ≡ neg_ℤ b → k *ℤ d ≡ a *ℤ b
+    both_turned a b k d p q = rw (p, q) (simp products (omega (arith, ints)))
+
+    signs : (k d : ℤ) (m n : ℕ) → k ≡ neg_ℤ (pos m) → d ≡ neg_ℤ (pos n) → k *ℤ d ≡ pos (m * n)
+    signs k d m n e f = both_turned (pos m) (pos n) k d e f
+
+-- where nothing is corrected, and where one cycle is
+pub none_tight : (steep w : ℕ) (d k : ℤ) → k ≡ pos 0 → unsigned_abs d ≤ steep * w → unsigned_abs d ≤ w → IsTight steep w d k
+none_tight steep w d k e m l = record { within = m; whole = whole }
+  where
+    whole : k *ℤ d ≡ pos (w * steps steep k + over w d)
+    whole = rw e (omega (arith, ints, l))
+
+pub one_tight : (steep w : ℕ) (d k : ℤ) → unsigned_abs k ≡ 1 → unsigned_abs d ≤ steep * w → w ≤ unsigned_abs d → k *ℤ d ≡ pos (unsigned_abs k * unsigned_abs d) → IsTight steep w d k
+one_tight steep w d k e m l p = record { within = m; whole = p ∙ ap pos (sized (unsigned_abs k) (unsigned_abs d) e l) }
+  where
+    sized : (n d : ℕ) → n ≡ 1 → w ≤ d → n * d ≡ w * steps_of steep n + (d - w)
+    sized n d e l = rw e (omega (arith, l))
+
+-- where there are more cycles than one, the whole of the steepness times the weight is the most that it can be
+pub more_tight : (steep w : ℕ) (d k : ℤ) → (k ≡ pos 0 → ⊥) → w ≤ unsigned_abs d → unsigned_abs d ≡ steep * w → k *ℤ d ≡ pos (unsigned_abs k * unsigned_abs d) → IsTight steep w d k
+more_tight steep w d k some l m p = record { within = omega (arith, m); whole = p ∙ ap pos (sized (unsigned_abs k) (unsigned_abs d) (λ e. some (omega (arith, ints, e))) l m) }
+  where
+    spread : (n d a : ℕ) → w ≤ d → d ≡ a → a ≡ steep * w → suc n * d ≡ w * (1 + steep * n) + (d - w)
+    spread n d a l m e =
+        let product : n * d ≡ w * (steep * n) = rw (m, e) (omega arith) in
+        omega (arith, l, product)
+
+    sized : (n d : ℕ) → (n ≡ 0 → ⊥) → w ≤ d → d ≡ steep * w → n * d ≡ w * steps_of steep n + (d - w)
+    sized zero d some l m = absurd (some refl)
+    sized (suc n) d some l m = spread n d (steep * w) l m refl

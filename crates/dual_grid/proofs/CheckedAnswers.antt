@@ -1,6 +1,6 @@
 -- Corrections and faces that pass the check are an answer.
-use Rattle.std.proofs.Common.{◌≡◌, ℕ, ◌*◌, ◌<◌, ◌≤◌, ◌∙◌, sym, subst, ap, refl, arith, List, Bool, true, false, length}
-use Rattle.std.specs.Prelude.{ℤ, pos, neg_ℤ, ◌-ℤ◌, ◌*ℤ◌, unsigned_abs}
+use Rattle.std.proofs.Common.{◌≡◌, ℕ, ◌<◌, ◌∙◌, sym, subst, ap, arith, List, Bool, true, false, length}
+use Rattle.std.specs.Prelude.{ℤ, pos, neg_ℤ, ◌-ℤ◌, unsigned_abs}
 use Rattle.std.proofs.lemmas.Int.{ints}
 use Rattle.std.proofs.lemmas.List.{get_or_past}
 use Rattle.raster_model.specs.declared.edge.Edge.{Edge}
@@ -20,7 +20,7 @@ use Rattle.dual_grid.specs.declared.problem.Problem.{Problem}
 use Rattle.dual_grid.specs.Answers.{AreCertifiedCorrections}
 use Rattle.dual_grid.specs.Building.{AreFaces}
 use Rattle.dual_grid.specs.Nodes.{cells_of, first_side, other_side}
-use Rattle.dual_grid.specs.Problems.{AreSmallNumbers, HaveShape, IsCancelled, IsProblemOf, IsTightAt, face_of, weight_at}
+use Rattle.dual_grid.specs.Problems.{AreSmallNumbers, HaveShape, IsCancelled, IsProblemOf, IsTight, IsTightAt, face_of, weight_at}
 use Rattle.dual_grid.specs.Starts.{TellsMask, open_in_window}
 use Rattle.dual_grid.proofs.TightLemmas.{tight_answer}
 
@@ -48,11 +48,9 @@ module _ (p : Problem) (k : Corrections) (faces : List ℤ) (shape : HaveShape p
   turned : (a b : ℤ) → neg_ℤ b -ℤ neg_ℤ a ≡ a -ℤ b
   turned a b = omega (arith, ints)
 
-  within : (a b w : ℤ) (n : ℕ) → unsigned_abs (a -ℤ b) ≤ unsigned_abs w → w ≡ pos n → unsigned_abs (neg_ℤ b -ℤ neg_ℤ a) ≤ n
-  within a b w n l e = omega (arith, ints, l, e)
-
-  whole : (a b w k : ℤ) (n : ℕ) → k *ℤ (a -ℤ b) ≡ w *ℤ pos (unsigned_abs k) → w ≡ pos n → k *ℤ (neg_ℤ b -ℤ neg_ℤ a) ≡ pos (n * unsigned_abs k)
-  whole a b w k n e i = ap (λ (z : ℤ). k *ℤ z) (turned a b) ∙ e ∙ rw i refl
+  -- by the scene's steepness and the weight under its mask
+  told : (a b z k : ℤ) (m n q : ℕ) → IsTight q (unsigned_abs z) (a -ℤ b) k → q ≡ m → z ≡ pos n → IsTight m n (neg_ℤ b -ℤ neg_ℤ a) k
+  told a b z k m n q i e j = rw (turned a b) (rw (e, j) at i)
 
   pub checked_answer : (s : Scene) (t : ℕ) (unmasked : List Bool) (mask : Field Bool) → IsProblemOf s t unmasked p → t < tiles_of s.tiling → TellsMask (window_of s.tiling t) unmasked mask → AreCertifiedCorrections (raster_of s) mask t (window_of s.tiling t) k faces
   checked_answer s t unmasked mask problem exists tells =
@@ -60,7 +58,9 @@ module _ (p : Problem) (k : Corrections) (faces : List ℤ) (shape : HaveShape p
       let f = turned_state faces in
       let window = subst (λ (w : Window). IsWindowOf s.tiling t w) (sym problem.window) (window_of-pixels s.tiling t exists) in
       subst (λ (w : Window). AreCertifiedCorrections (raster_of s) mask t w k faces) problem.window
-      (tight_answer s t v window unmasked mask (subst (λ (w : Window). TellsMask w unmasked mask) (sym problem.window) tells) f k faces (turned_faces faces (cells_of v) shape.1) shape.0 (greatest_of_least k 16129 rights_small downs_small)
+      (tight_answer s t v window unmasked mask (subst (λ (w : Window). TellsMask w unmasked mask) (sym problem.window) tells) f k faces (turned_faces faces (cells_of v) shape.1) shape.0 (greatest_of_least k 16130 rights_small downs_small)
       (λ x y i. cancelled x y i ∙ ap neg_ℤ (problem.residues x y i))
-      (λ e i. within (face_of faces (first_side v e)) (face_of faces (other_side v e)) (weight_at p e) (masked_weight (raster_of s) (open_in_window v unmasked) e) (tight e i).within (problem.weights e i))
-      (λ e i. whole (face_of faces (first_side v e)) (face_of faces (other_side v e)) (weight_at p e) (correction_at v k e) (masked_weight (raster_of s) (open_in_window v unmasked) e) (tight e i).whole (problem.weights e i)))
+      (λ e i. (here e i).within) (λ e i. (here e i).whole))
+    where
+      here : (e : Edge) → IsEdgeOf p.window e → IsTight (raster_of s).steep (masked_weight (raster_of s) (open_in_window p.window unmasked) e) (neg_ℤ (face_of faces (other_side p.window e)) -ℤ neg_ℤ (face_of faces (first_side p.window e))) (correction_at p.window k e)
+      here e i = told (face_of faces (first_side p.window e)) (face_of faces (other_side p.window e)) (weight_at p e) (correction_at p.window k e) (raster_of s).steep (masked_weight (raster_of s) (open_in_window p.window unmasked) e) p.steep (tight e i) problem.steep (problem.weights e i)

@@ -1,8 +1,7 @@
 -- Faces are differences of potentials, and what flows does so where they differ by the whole weight.
-use Rattle.std.proofs.Common.{◌≡◌, ℕ, zero, suc, ◌+◌, ◌-◌, ◌*◌, ◌/◌, ◌%◌, ◌<◌, ◌≤◌, ◌∙◌, sym, ap, ap₂, refl, arith, List, inl, inr, Bool, true, false}
+use Rattle.std.proofs.Common.{◌≡◌, ◌⊎◌, ℕ, zero, suc, ◌+◌, ◌-◌, ◌*◌, ◌<◌, ◌≤◌, ◌∙◌, sym, ap, refl, arith, List, inl, inr, Bool, true, false}
 use Rattle.std.specs.Prelude.{ℤ, pos, neg_ℤ, ◌+ℤ◌, ◌-ℤ◌, ◌*ℤ◌, ◌≤ℤ◌, unsigned_abs, slice_index_or}
 use Rattle.std.proofs.lemmas.Int.{ints}
-use Rattle.std.proofs.lemmas.Nat.{div-mul-add, mod-mul-add}
 use Rattle.raster_model.specs.declared.edge.Edge.{Edge}
 use Rattle.raster_model.specs.declared.scene.Scene.{Scene}
 use Rattle.raster_model.specs.declared.tiling.Window.{Window}
@@ -11,20 +10,18 @@ use Rattle.raster_model.specs.Certificates.{above, left, face_difference, faces_
 use Rattle.raster_model.specs.Scene.{raster_of}
 use Rattle.raster_model.specs.Tiles.{IsWindowOf}
 use Rattle.raster_model.proofs.TileCells.{face_inside, face_outside, cells_before-is}
-use Rattle.flow_network.specs.Nets.{State, IsArc, HasReducedCosts, reduced_cost}
+use Rattle.flow_network.specs.Nets.{State, HasReducedCosts}
 use Rattle.wrapped_gradient.specs.Windows.{IsCellOf, IsEdgeOf}
 use Rattle.dual_grid.specs.Answers.{IsNearStart}
 use Rattle.dual_grid.specs.Building.{AreFaces}
-use Rattle.dual_grid.specs.Grids.{CostsAcross, amount_of, cost_in_place, head_at, residual_at, window_shape, window_state}
-use Rattle.dual_grid.specs.Nodes.{cells_of, node_at, node_above, node_left, first_side, other_side, edge_number, arc_across}
-use Rattle.dual_grid.proofs.ArcLemmas.{IsCharged, free_or_charged, place_is_arc, place_tail}
-use Rattle.dual_grid.proofs.EdgeLemmas.{number_below}
-use Rattle.dual_grid.proofs.FlowLemmas.{amount_is, amount_parts, twice_turned}
-use Rattle.dual_grid.proofs.GridLemmas.{back_head, back_is_arc, back_tail, forth_cost, forth_head, forth_is_arc, forth_tail}
-use Rattle.dual_grid.proofs.NumberLemmas.{edge_of_number}
-use Rattle.dual_grid.proofs.StartLemmas.{start_even}
+use Rattle.dual_grid.specs.Grids.{amount_of, capacity_of, cost_in_place, is_taken, leads_forth, residual_at, start_residual, window_shape, window_state}
+use Rattle.dual_grid.specs.Nodes.{cells_of, node_at, node_above, node_left, first_side, other_side, edge_number}
+use Rattle.dual_grid.specs.Problems.{IsTight}
+use Rattle.dual_grid.proofs.ArcLemmas.{IsFree, IsPlain, IsSplit, free_unsplit, kinds, plain_unsplit, steep_taken}
+use Rattle.dual_grid.proofs.CheckLemmas.{back_product, forth_product, more_tight, none_tight, one_tight}
+use Rattle.dual_grid.proofs.FlowLemmas.{amount_parts}
+use Rattle.dual_grid.proofs.GridLemmas.{across_cost, across_head, across_is_arc, across_residual, across_tail}
 use Rattle.dual_grid.proofs.NodeLemmas.{cell_or_not, cell_below, node_inside, node_outside, above_inside, above_outside, left_inside, left_outside, first_down, first_right, other_down, other_right}
-use Rattle.sums_and_lists.proofs.Products.{products}
 use Rattle.std.proofs.lemmas.Bool.{cases_lt}
 
 module _ (s : Scene) (t : ℕ) (v : Window) (is : IsWindowOf s.tiling t v) (f : State) (faces : List ℤ) (are : AreFaces f.potential (cells_of v) (cells_of v) faces) where
@@ -83,151 +80,163 @@ module _ (s : Scene) (t : ℕ) (v : Window) (is : IsWindowOf s.tiling t v) (f : 
           rw (first_right v (record { x = x; y = y; down = false }) refl, other_right v (record { x = x; y = y; down = false }) refl)
           (subtract (f.potential (cells_of v)) (f.potential (node_above v x y)) (f.potential (node_at v x y)) _ _ (above_of_node x y) (face_of_node x y))
 
-both_turned : (a b k d : ℤ) → k ≡ neg_ℤ a → d ≡ neg_ℤ b → k *ℤ d ≡ a *ℤ b
-both_turned a b k d p q = rw (p, q) (simp products (omega (arith, ints)))
+-- what holds a difference of faces: nothing flows above the weight, what flows forth and back does not flow below it, and more than one unit not below the steepness times the weight
+pub record IsHeld (steep w a b : ℕ) (d : ℤ) : Type 0 where
+  pub within : unsigned_abs d ≤ steep * w
+  pub none : a ≡ 0 → b ≡ 0 → unsigned_abs d ≤ w
+  pub forth : 0 < a → pos w ≤ℤ d
+  pub forth_more : 1 < a → pos (steep * w) ≤ℤ d
+  pub back : 0 < b → pos w ≤ℤ neg_ℤ d
+  pub back_more : 1 < b → pos (steep * w) ≤ℤ neg_ℤ d
 
--- a flow times a difference that is the whole weight wherever something flows
-slack_of : (b c w : ℕ) (k d : ℤ) → k ≡ pos b -ℤ pos c → (0 < b → d ≡ pos w) → (0 < c → d ≡ neg_ℤ (pos w)) → k *ℤ d ≡ pos (w * unsigned_abs k)
-slack_of zero zero w k d e p q =
+-- then a flow times a difference is the most that it can be
+pub held_tight : (steep w a b : ℕ) (d k : ℤ) → k ≡ pos a -ℤ pos b → (a ≡ 0) ⊎ (b ≡ 0) → IsHeld steep w a b d → IsTight steep w d k
+held_tight steep w zero zero d k e o h =
     let none : k ≡ pos 0 = omega (arith, ints, e) in
-    rw none (omega (arith, ints))
-slack_of (suc b) zero w k d e p q =
-    let forth : k ≡ pos (suc b) = omega (arith, ints, e) in
-    rw (forth, p (omega arith)) (omega (arith, ints))
-slack_of zero (suc c) w k d e p q =
-    let back : k ≡ neg_ℤ (pos (suc c)) = omega (arith, ints, e) in
-    let size : unsigned_abs k ≡ suc c = omega (arith, ints, back) in
-    both_turned (pos (suc c)) (pos w) k d back (q (omega arith)) ∙ rw size (omega (arith, ints))
-slack_of (suc b) (suc c) w k d e p q =
-    let m = p (omega arith) in
-    let n = q (omega arith) in
-    let none : w ≡ 0 = omega (arith, ints, m, n) in
-    let level : d ≡ pos 0 = omega (arith, ints, m, none) in
-    rw (none, level) (omega (arith, ints))
+    none_tight steep w d k none h.within (h.none refl refl)
+held_tight steep w (suc zero) zero d k e o h =
+    let size : k ≡ pos 1 = omega (arith, ints, e) in
+    let least = h.forth (omega arith) in
+    one_tight steep w d k (omega (arith, ints, size)) h.within (omega (arith, ints, least)) (along d k size (omega (arith, ints, least)))
+  where
+    along : (d k : ℤ) → k ≡ pos 1 → pos 0 ≤ℤ d → k *ℤ d ≡ pos (unsigned_abs k * unsigned_abs d)
+    along d k e l = rw e (omega (arith, ints, l))
+held_tight steep w (suc (suc a)) zero d k e o h =
+    let size : k ≡ pos (suc (suc a)) = omega (arith, ints, e) in
+    let least = h.forth (omega arith) in
+    let most = h.forth_more (omega arith) in
+    let within = h.within in
+    more_tight steep w d k (λ z. omega (arith, ints, size, z)) (omega (arith, ints, least)) (omega (arith, ints, most, within)) (forth_product k d (omega (arith, ints, size)) (omega (arith, ints, least)))
+held_tight steep w zero (suc zero) d k e o h =
+    let size : k ≡ neg_ℤ (pos 1) = omega (arith, ints, e) in
+    let least = h.back (omega arith) in
+    one_tight steep w d k (omega (arith, ints, size)) h.within (omega (arith, ints, least)) (back_product k d (omega (arith, ints, size)) (omega (arith, ints, least)))
+held_tight steep w zero (suc (suc b)) d k e o h =
+    let size : k ≡ neg_ℤ (pos (suc (suc b))) = omega (arith, ints, e) in
+    let least = h.back (omega arith) in
+    let most = h.back_more (omega arith) in
+    let within = h.within in
+    more_tight steep w d k (λ z. omega (arith, ints, size, z)) (omega (arith, ints, least)) (omega (arith, ints, most, within)) (back_product k d (omega (arith, ints, size)) (omega (arith, ints, least)))
+held_tight steep w (suc a) (suc b) d k e (inl z) h = absurd (omega (arith, z))
+held_tight steep w (suc a) (suc b) d k e (inr z) h = absurd (omega (arith, z))
 
-module _ (v : Window) (weight : ℕ → ℕ) (flow excess potential : ℕ → ℤ) (kept : HasReducedCosts (window_shape v weight) (window_state weight flow excess potential)) (near : IsNearStart (window_shape v weight) (window_state weight flow excess potential)) (e : Edge) (is : IsEdgeOf v e) (w : ℕ) (costs : CostsAcross (window_shape v weight) (arc_across v e) w) where
-  weight_is : weight (edge_number v e) ≡ w
-  weight_is =
-      let a = costs.0 in
-      let b = forth_cost v weight e is in
-      omega (arith, ints, a, b)
+module _ (v : Window) (steep : ℕ) (some : 1 ≤ steep) (weight : ℕ → ℕ) (flow excess potential : ℕ → ℤ) (kept : HasReducedCosts (window_shape v steep weight) (window_state steep weight flow excess potential)) (near : IsNearStart (start_residual steep weight) (window_shape v steep weight) (window_state steep weight flow excess potential)) (e : Edge) (is : IsEdgeOf v e) (bounded : unsigned_abs (flow (edge_number v e)) ≤ capacity_of steep (weight (edge_number v e))) where
+  -- the arc in a place with capacity left costs no less than the difference in its direction
+  forth_holds : (k : ℕ) → k < 8 → is_taken steep (weight (edge_number v e)) k ≡ true → leads_forth k ≡ true → 0 < residual_at steep (weight (edge_number v e)) (flow (edge_number v e)) k → (potential (other_side v e) -ℤ potential (first_side v e)) ≤ℤ cost_in_place steep (weight (edge_number v e)) k
+  forth_holds k below taken forth l =
+      let arc = across_is_arc v steep weight e is k below taken in
+      let low = kept.at_least (edge_number v e * 8 + k) arc (rw (across_residual v steep weight e is k below taken flow) l) in
+      held _ _ _ _ _ _ (ap potential (rw forth at (across_tail v steep weight e is k below taken))) (ap potential (rw forth at (across_head v steep weight e is k below taken))) (across_cost v steep weight e is k below taken) low
+    where
+      held : (t h x y c d : ℤ) → x ≡ t → y ≡ h → c ≡ d → pos 0 ≤ℤ (c +ℤ x -ℤ y) → (h -ℤ t) ≤ℤ d
+      held t h x y c d i j m n = omega (arith, ints, i, j, m, n)
 
-  forth_reduced : reduced_cost (window_shape v weight) (window_state weight flow excess potential) (arc_across v e) ≡ pos w +ℤ potential (first_side v e) -ℤ potential (other_side v e)
-  forth_reduced =
-      let t = ap potential (forth_tail v weight e is) in
-      let h = ap potential (forth_head v weight e is) in
-      omega (arith, ints, costs.0, t, h)
+  back_holds : (k : ℕ) → k < 8 → is_taken steep (weight (edge_number v e)) k ≡ true → leads_forth k ≡ false → 0 < residual_at steep (weight (edge_number v e)) (flow (edge_number v e)) k → neg_ℤ (potential (other_side v e) -ℤ potential (first_side v e)) ≤ℤ cost_in_place steep (weight (edge_number v e)) k
+  back_holds k below taken back l =
+      let arc = across_is_arc v steep weight e is k below taken in
+      let low = kept.at_least (edge_number v e * 8 + k) arc (rw (across_residual v steep weight e is k below taken flow) l) in
+      held _ _ _ _ _ _ (ap potential (rw back at (across_tail v steep weight e is k below taken))) (ap potential (rw back at (across_head v steep weight e is k below taken))) (across_cost v steep weight e is k below taken) low
+    where
+      held : (t h x y c d : ℤ) → x ≡ t → y ≡ h → c ≡ d → pos 0 ≤ℤ (c +ℤ x -ℤ y) → neg_ℤ (t -ℤ h) ≤ℤ d
+      held t h x y c d i j m n = omega (arith, ints, i, j, m, n)
 
-  back_reduced : reduced_cost (window_shape v weight) (window_state weight flow excess potential) (arc_across v e + 2) ≡ pos w +ℤ potential (other_side v e) -ℤ potential (first_side v e)
-  back_reduced =
-      let t = ap potential (back_tail v weight e is) in
-      let h = ap potential (back_head v weight e is) in
-      omega (arith, ints, costs.1, t, h)
+  -- the arc in a place that has the whole capacity at the start keeps some
+  keeps : (k : ℕ) → k < 8 → is_taken steep (weight (edge_number v e)) k ≡ true → residual_at steep (weight (edge_number v e)) (pos 0) k ≡ 16130 → 0 < residual_at steep (weight (edge_number v e)) (flow (edge_number v e)) k
+  keeps k below taken full =
+      let h = (near (edge_number v e * 8 + k) (across_is_arc v steep weight e is k below taken)).1 in
+      let s = across_residual v steep weight e is k below taken (λ n. pos 0) ∙ full in
+      let r = across_residual v steep weight e is k below taken flow in
+      omega (arith, h, s, r)
 
-  -- the arcs from side to side keep capacity
-  forth_least : pos 0 ≤ℤ reduced_cost (window_shape v weight) (window_state weight flow excess potential) (arc_across v e)
-  forth_least =
-      let arc = forth_is_arc v weight e is in
-      let h = (near (arc_across v e) arc).1 in
-      kept.at_least (arc_across v e) arc (omega (arith, h, start_even (arc_across v e) (edge_number v e * 2) (omega arith)))
+  -- ---- at a weight of 0
+  free_held : IsFree (weight (edge_number v e)) → IsHeld steep (weight (edge_number v e)) (amount_of (flow (edge_number v e))) (amount_of (neg_ℤ (flow (edge_number v e)))) (potential (other_side v e) -ℤ potential (first_side v e))
+  free_held f =
+      let z = f.0 in
+      let none = f.2 in
+      let up : (potential (other_side v e) -ℤ potential (first_side v e)) ≤ℤ pos (weight (edge_number v e)) = forth_holds 0 (omega arith) refl refl (keeps 0 (omega arith) refl (rw z refl)) in
+      let down : neg_ℤ (potential (other_side v e) -ℤ potential (first_side v e)) ≤ℤ pos (weight (edge_number v e)) = back_holds 2 (omega arith) refl refl (keeps 2 (omega arith) refl (rw z refl)) in
+      let level : (potential (other_side v e) -ℤ potential (first_side v e)) ≡ pos 0 = omega (arith, ints, up, down, none) in
+      level_held (weight (edge_number v e)) _ _ (potential (other_side v e) -ℤ potential (first_side v e)) none level
+    where
+      level_held : (w a b : ℕ) (d : ℤ) → w ≡ 0 → d ≡ pos 0 → IsHeld steep w a b d
+      level_held w a b d none level = rw (none, level) (record {
+        within = omega arith;
+        none = λ x y. omega arith;
+        forth = λ x. omega (arith, ints);
+        forth_more = λ x. omega (arith, ints);
+        back = λ x. omega (arith, ints);
+        back_more = λ x. omega (arith, ints);
+      })
 
-  back_least : pos 0 ≤ℤ reduced_cost (window_shape v weight) (window_state weight flow excess potential) (arc_across v e + 2)
-  back_least =
-      let arc = back_is_arc v weight e is in
-      let h = (near (arc_across v e + 2) arc).1 in
-      kept.at_least (arc_across v e + 2) arc (omega (arith, h, start_even (arc_across v e + 2) (edge_number v e * 2 + 1) (omega arith)))
+  -- ---- without steep arcs
+  plain_held : IsPlain steep (weight (edge_number v e)) → IsHeld steep (weight (edge_number v e)) (amount_of (flow (edge_number v e))) (amount_of (neg_ℤ (flow (edge_number v e)))) (potential (other_side v e) -ℤ potential (first_side v e))
+  plain_held f =
+      let z = f.0.0 in
+      let n = f.1 in
+      let once : steep ≡ 1 = omega (arith, some, f.2) in
+      let up : (potential (other_side v e) -ℤ potential (first_side v e)) ≤ℤ pos (weight (edge_number v e)) = forth_holds 0 (omega arith) refl refl (keeps 0 (omega arith) refl (rw (z, n) refl)) in
+      let down : neg_ℤ (potential (other_side v e) -ℤ potential (first_side v e)) ≤ℤ pos (weight (edge_number v e)) = back_holds 2 (omega arith) refl refl (keeps 2 (omega arith) refl (rw (z, n) refl)) in
+      let forth : 0 < amount_of (flow (edge_number v e)) → neg_ℤ (potential (other_side v e) -ℤ potential (first_side v e)) ≤ℤ neg_ℤ (pos (weight (edge_number v e))) = λ l. back_holds 1 (omega arith) f.0.1 refl (rw (z, n) l) in
+      let back : 0 < amount_of (neg_ℤ (flow (edge_number v e))) → (potential (other_side v e) -ℤ potential (first_side v e)) ≤ℤ neg_ℤ (pos (weight (edge_number v e))) = λ l. forth_holds 3 (omega arith) f.0.1 refl (rw (z, n) l) in
+      once_held (weight (edge_number v e)) _ _ (potential (other_side v e) -ℤ potential (first_side v e)) once up down forth back
+    where
+      once_held : (w a b : ℕ) (d : ℤ) → steep ≡ 1 → d ≤ℤ pos w → neg_ℤ d ≤ℤ pos w → (0 < a → neg_ℤ d ≤ℤ neg_ℤ (pos w)) → (0 < b → d ≤ℤ neg_ℤ (pos w)) → IsHeld steep w a b d
+      once_held w a b d once up down forth back =
+          let same : steep * w ≡ w = rw once (omega arith) in
+          record {
+            within = omega (arith, ints, up, down, same);
+            none = λ x y. omega (arith, ints, up, down);
+            forth = λ l. (let h = forth l in omega (arith, ints, h));
+            forth_more = λ l. (let h = forth (omega (arith, l)) in omega (arith, ints, h, same));
+            back = λ l. (let h = back l in omega (arith, ints, h));
+            back_more = λ l. (let h = back (omega (arith, l)) in omega (arith, ints, h, same));
+          }
 
-  pub difference_fits : unsigned_abs (potential (other_side v e) -ℤ potential (first_side v e)) ≤ w
-  difference_fits = omega (arith, ints, forth_reduced, back_reduced, forth_least, back_least)
+  -- ---- with steep arcs
+  split_held : IsSplit steep (weight (edge_number v e)) → IsHeld steep (weight (edge_number v e)) (amount_of (flow (edge_number v e))) (amount_of (neg_ℤ (flow (edge_number v e)))) (potential (other_side v e) -ℤ potential (first_side v e))
+  split_held f =
+      let z = f.0.0 in
+      let n = f.1 in
+      let taken = steep_taken steep (weight (edge_number v e)) f in
+      let up : (potential (other_side v e) -ℤ potential (first_side v e)) ≤ℤ pos (steep * weight (edge_number v e)) = forth_holds 4 (omega arith) taken refl (keeps 4 (omega arith) taken (rw (z, n) refl)) in
+      let down : neg_ℤ (potential (other_side v e) -ℤ potential (first_side v e)) ≤ℤ pos (steep * weight (edge_number v e)) = back_holds 6 (omega arith) taken refl (keeps 6 (omega arith) taken (rw (z, n) refl)) in
+      let none_up : amount_of (flow (edge_number v e)) ≡ 0 → (potential (other_side v e) -ℤ potential (first_side v e)) ≤ℤ pos (weight (edge_number v e)) = λ i. forth_holds 0 (omega arith) refl refl (rw (z, n) (omega (arith, i))) in
+      let none_down : amount_of (neg_ℤ (flow (edge_number v e))) ≡ 0 → neg_ℤ (potential (other_side v e) -ℤ potential (first_side v e)) ≤ℤ pos (weight (edge_number v e)) = λ i. back_holds 2 (omega arith) refl refl (rw (z, n) (omega (arith, i))) in
+      let forth : 0 < amount_of (flow (edge_number v e)) → neg_ℤ (potential (other_side v e) -ℤ potential (first_side v e)) ≤ℤ neg_ℤ (pos (weight (edge_number v e))) = λ l. back_holds 1 (omega arith) f.0.1 refl (rw (z, n) (omega (arith, l))) in
+      let back : 0 < amount_of (neg_ℤ (flow (edge_number v e))) → (potential (other_side v e) -ℤ potential (first_side v e)) ≤ℤ neg_ℤ (pos (weight (edge_number v e))) = λ l. forth_holds 3 (omega arith) f.0.1 refl (rw (z, n) (omega (arith, l))) in
+      let forth_more : 1 < amount_of (flow (edge_number v e)) → neg_ℤ (potential (other_side v e) -ℤ potential (first_side v e)) ≤ℤ neg_ℤ (pos (steep * weight (edge_number v e))) = λ l. back_holds 5 (omega arith) taken refl (rw (z, n) (omega (arith, l))) in
+      let back_more : 1 < amount_of (neg_ℤ (flow (edge_number v e))) → (potential (other_side v e) -ℤ potential (first_side v e)) ≤ℤ neg_ℤ (pos (steep * weight (edge_number v e))) = λ l. forth_holds 7 (omega arith) taken refl (rw (z, n) (omega (arith, l))) in
+      record {
+        within = omega (arith, ints, up, down);
+        none = λ x y. (let a = none_up x in let b = none_down y in omega (arith, ints, a, b));
+        forth = λ l. (let h = forth l in omega (arith, ints, h));
+        forth_more = λ l. (let h = forth_more l in omega (arith, ints, h));
+        back = λ l. (let h = back l in omega (arith, ints, h));
+        back_more = λ l. (let h = back_more l in omega (arith, ints, h));
+      }
 
-  -- what the arcs from side to side have left
-  forth_residual : (window_state weight flow excess potential).residual (arc_across v e) ≡ residual_at (weight (edge_number v e)) (flow (edge_number v e)) 0
-  forth_residual =
-      let n : arc_across v e / 4 ≡ edge_number v e = omega arith in
-      let k : arc_across v e % 4 ≡ 0 = omega arith in
-      ap₂ (λ (n k : ℕ). residual_at (weight n) (flow n) k) n k
-
-  back_residual : (window_state weight flow excess potential).residual (arc_across v e + 2) ≡ residual_at (weight (edge_number v e)) (flow (edge_number v e)) 2
-  back_residual = ap₂ (λ (n k : ℕ). residual_at (weight n) (flow n) k) (div-mul-add (edge_number v e) 4 2 (omega arith)) (mod-mul-add (edge_number v e) 4 2 (omega arith))
-
-  forth_near : (1 ≤ residual_at (weight (edge_number v e)) (flow (edge_number v e)) 0) × (residual_at (weight (edge_number v e)) (flow (edge_number v e)) 0 ≤ 32259)
-  forth_near =
-      let h = near (arc_across v e) (forth_is_arc v weight e is) in
-      let s = start_even (arc_across v e) (edge_number v e * 2) (omega arith) in
-      let r = forth_residual in
-      (omega (arith, h.1, s, r), omega (arith, h.0, s, r))
-
-  back_near : (1 ≤ residual_at (weight (edge_number v e)) (flow (edge_number v e)) 2) × (residual_at (weight (edge_number v e)) (flow (edge_number v e)) 2 ≤ 32259)
-  back_near =
-      let h = near (arc_across v e + 2) (back_is_arc v weight e is) in
-      let s = start_even (arc_across v e + 2) (edge_number v e * 2 + 1) (omega arith) in
-      let r = back_residual in
-      (omega (arith, h.1, s, r), omega (arith, h.0, s, r))
-
-  -- a twin that has something to give back holds the difference at the whole weight
-  module _ (charged : IsCharged (weight (edge_number v e))) where
-    forth_twin : IsArc (window_shape v weight) (arc_across v e + 1)
-    forth_twin = place_is_arc v weight (edge_number v e) 1 (number_below v e is) (omega arith) charged.1
-
-    back_twin : IsArc (window_shape v weight) (arc_across v e + 3)
-    back_twin = place_is_arc v weight (edge_number v e) 3 (number_below v e is) (omega arith) charged.1
-
-    -- the twin's tail and head are those of the arc, exchanged
-    forth_tight : 0 < amount_of (flow (edge_number v e)) → potential (other_side v e) -ℤ potential (first_side v e) ≡ pos w
-    forth_tight l =
-        let z = charged.0 in
-        let n = edge_number v e in
-        let r : residual_at (weight ((arc_across v e + 1) / 4)) (flow ((arc_across v e + 1) / 4)) ((arc_across v e + 1) % 4) ≡ residual_at (weight n) (flow n) 1 = ap₂ (λ (n k : ℕ). residual_at (weight n) (flow n) k) (div-mul-add n 4 1 (omega arith)) (mod-mul-add n 4 1 (omega arith)) in
-        let held : residual_at (weight n) (flow n) 1 ≡ amount_of (flow n) = rw z (twice_turned (flow n)) in
-        let h = kept.at_least (arc_across v e + 1) forth_twin (omega (arith, r, held, l)) in
-        let t = ap potential (place_tail v weight n 1 (omega arith) forth_twin ∙ ap (λ (i : Edge). other_side v i) (edge_of_number v e is)) in
-        let b = ap potential (ap₂ (λ (i k : ℕ). head_at v i k) (div-mul-add n 4 1 (omega arith)) (mod-mul-add n 4 1 (omega arith)) ∙ ap (λ (i : Edge). first_side v i) (edge_of_number v e is)) in
-        let c : (window_shape v weight).cost (arc_across v e + 1) ≡ neg_ℤ (pos (weight n)) = ap₂ (λ (i k : ℕ). cost_in_place (weight i) k) (div-mul-add n 4 1 (omega arith)) (mod-mul-add n 4 1 (omega arith)) in
-        omega (arith, ints, h, t, b, c, weight_is, forth_least, forth_reduced)
-
-    back_tight : 0 < amount_of (neg_ℤ (flow (edge_number v e))) → potential (other_side v e) -ℤ potential (first_side v e) ≡ neg_ℤ (pos w)
-    back_tight l =
-        let z = charged.0 in
-        let n = edge_number v e in
-        let r : residual_at (weight ((arc_across v e + 3) / 4)) (flow ((arc_across v e + 3) / 4)) ((arc_across v e + 3) % 4) ≡ residual_at (weight n) (flow n) 3 = ap₂ (λ (n k : ℕ). residual_at (weight n) (flow n) k) (div-mul-add n 4 3 (omega arith)) (mod-mul-add n 4 3 (omega arith)) in
-        let held : residual_at (weight n) (flow n) 3 ≡ amount_of (neg_ℤ (flow n)) = rw z refl in
-        let h = kept.at_least (arc_across v e + 3) back_twin (omega (arith, r, held, l)) in
-        let t = ap potential (place_tail v weight n 3 (omega arith) back_twin ∙ ap (λ (i : Edge). first_side v i) (edge_of_number v e is)) in
-        let b = ap potential (ap₂ (λ (i k : ℕ). head_at v i k) (div-mul-add n 4 3 (omega arith)) (mod-mul-add n 4 3 (omega arith)) ∙ ap (λ (i : Edge). other_side v i) (edge_of_number v e is)) in
-        let c : (window_shape v weight).cost (arc_across v e + 3) ≡ neg_ℤ (pos (weight n)) = ap₂ (λ (i k : ℕ). cost_in_place (weight i) k) (div-mul-add n 4 3 (omega arith)) (mod-mul-add n 4 3 (omega arith)) in
-        omega (arith, ints, h, t, b, c, weight_is, back_least, back_reduced)
-
-  level : weight (edge_number v e) ≡ 0 → potential (other_side v e) -ℤ potential (first_side v e) ≡ pos w
-  level z = let d = difference_fits in omega (arith, ints, d, z, weight_is)
-
-  level_back : weight (edge_number v e) ≡ 0 → potential (other_side v e) -ℤ potential (first_side v e) ≡ neg_ℤ (pos w)
-  level_back z = let d = difference_fits in omega (arith, ints, d, z, weight_is)
-
-  pub flow_is_tight : flow (edge_number v e) *ℤ (potential (other_side v e) -ℤ potential (first_side v e)) ≡ pos (w * unsigned_abs (flow (edge_number v e)))
+  pub flow_is_tight : IsTight steep (weight (edge_number v e)) (potential (other_side v e) -ℤ potential (first_side v e)) (flow (edge_number v e))
   flow_is_tight =
-      let q = flow (edge_number v e) in
-      let parts = (amount_parts q).0 in
-      elim (free_or_charged (weight (edge_number v e))) [
-        | inl f ↦ slack_of (amount_of q) (amount_of (neg_ℤ q)) w q (potential (other_side v e) -ℤ potential (first_side v e)) parts (λ l. level f.2) (λ l. level_back f.2)
-        | inr f ↦ slack_of (amount_of q) (amount_of (neg_ℤ q)) w q (potential (other_side v e) -ℤ potential (first_side v e)) parts (forth_tight f) (back_tight f)
-      ]
+      let parts = amount_parts (flow (edge_number v e)) in
+      held_tight steep (weight (edge_number v e)) (amount_of (flow (edge_number v e))) (amount_of (neg_ℤ (flow (edge_number v e)))) (potential (other_side v e) -ℤ potential (first_side v e)) (flow (edge_number v e)) parts.0 parts.1
+      (elim (kinds steep (weight (edge_number v e))) [
+        | inl f ↦ free_held f
+        | inr (inl f) ↦ plain_held f
+        | inr (inr f) ↦ split_held f
+      ])
 
-  -- near the start no flow is above 16129
-  pub flow_is_small : unsigned_abs (flow (edge_number v e)) ≤ 16130 → unsigned_abs (flow (edge_number v e)) ≤ 16129
-  flow_is_small l =
-      let q = flow (edge_number v e) in
-      elim (free_or_charged (weight (edge_number v e))) [
-        | inl f ↦ (
-            let z = f.0 in
-            let forth : 1 ≤ amount_of (pos 16130 -ℤ q) = rw z at forth_near.0 in
-            let back : 1 ≤ amount_of (pos 16130 -ℤ neg_ℤ q) = rw z at back_near.0 in
-            let forth_is = amount_is (pos 16130 -ℤ q) (omega (arith, ints, l)) in
-            let back_is = amount_is (pos 16130 -ℤ neg_ℤ q) (omega (arith, ints, l)) in
-            omega (arith, ints, forth, back, forth_is, back_is))
-        | inr f ↦ (
-            let z = f.0 in
-            let forth : 1 ≤ 16130 - amount_of q = rw z at forth_near.0 in
-            let back : 1 ≤ 16130 - amount_of (neg_ℤ q) = rw z at back_near.0 in
-            let parts = (amount_parts q).0 in
+  -- near the start no flow is above 16130
+  pub flow_is_small : unsigned_abs (flow (edge_number v e)) ≤ 16130
+  flow_is_small =
+      elim (kinds steep (weight (edge_number v e))) [
+        | inl f ↦ (let u = free_unsplit steep (weight (edge_number v e)) f in rw u at bounded)
+        | inr (inl f) ↦ (let u = plain_unsplit steep (weight (edge_number v e)) f in rw u at bounded)
+        | inr (inr f) ↦ (
+            let z = f.0.0 in
+            let n = f.1 in
+            let taken = steep_taken steep (weight (edge_number v e)) f in
+            let forth : 0 < 16130 - (amount_of (flow (edge_number v e)) - 1) = rw (z, n) at (keeps 4 (omega arith) taken (rw (z, n) refl)) in
+            let back : 0 < 16130 - (amount_of (neg_ℤ (flow (edge_number v e))) - 1) = rw (z, n) at (keeps 6 (omega arith) taken (rw (z, n) refl)) in
+            let parts = (amount_parts (flow (edge_number v e))).0 in
             omega (arith, ints, forth, back, parts))
       ]

@@ -1,10 +1,11 @@
 -- What a flow across an edge leaves of its arcs' capacity, and how a push changes it.
-use Rattle.std.proofs.Common.{◌≡◌, ℕ, zero, suc, ◌+◌, ◌-◌, ◌%◌, ◌<◌, ◌≤◌, ap, refl, arith, inl, inr, ◌⊎◌, true, false}
-use Rattle.std.specs.Prelude.{ℤ, pos, negsuc, neg_ℤ, ◌+ℤ◌, ◌-ℤ◌, ◌≤ℤ◌, ◌==◌, if◌then◌else◌, unsigned_abs}
+use Rattle.std.proofs.Common.{◌≡◌, ℕ, zero, suc, ◌+◌, ◌-◌, ◌*◌, ◌%◌, ◌<◌, ◌≤◌, ◌∙◌, sym, subst, refl, arith, inl, inr, ◌⊎◌, Bool, true, false}
+use Rattle.std.specs.Prelude.{ℤ, pos, negsuc, neg_ℤ, ◌+ℤ◌, ◌-ℤ◌, ◌≤ℤ◌, ◌<ℤ◌, ◌==◌, if◌then◌else◌, nat_lt, unsigned_abs}
 use Rattle.std.proofs.lemmas.Bool.{cases_Bool}
 use Rattle.std.proofs.lemmas.Int.{ints}
-use Rattle.dual_grid.specs.Grids.{amount_of, is_taken, leads_forth, residual_at, twin_place}
-use Rattle.dual_grid.proofs.ArcLemmas.{IsCharged, IsFree, four_places, free_or_charged, free_place}
+use Rattle.std.proofs.lemmas.Nat.{mul-le}
+use Rattle.dual_grid.specs.Grids.{amount_of, capacity_of, carried, cost_in_place, is_split, is_taken, leads_forth, residual_at, split_residual, twin_place}
+use Rattle.dual_grid.proofs.ArcLemmas.{IsFree, IsPlain, IsSplit, eight_places, free_place, free_unsplit, kinds, plain_place, plain_unsplit, steep_taken}
 
 -- ---- a number in two parts, of which one is 0
 pub amount_parts : (q : ℤ) → (q ≡ pos (amount_of q) -ℤ pos (amount_of (neg_ℤ q))) × ((amount_of q ≡ 0) ⊎ (amount_of (neg_ℤ q) ≡ 0))
@@ -16,19 +17,16 @@ pub amount_is : (q : ℤ) → pos 0 ≤ℤ q → pos (amount_of q) ≡ q
 amount_is (pos n) h = refl
 amount_is (negsuc n) h = absurd (omega (arith, ints, h))
 
-pub twice_turned : (q : ℤ) → amount_of (neg_ℤ (neg_ℤ q)) ≡ amount_of q
-twice_turned q = let e : neg_ℤ (neg_ℤ q) ≡ q = omega (arith, ints) in ap amount_of e
-
-pub amounts_small : (q : ℤ) → unsigned_abs q ≤ 16130 → (amount_of q ≤ 16130) × (amount_of (neg_ℤ q) ≤ 16130)
-amounts_small q l =
+pub amounts_small : (c : ℕ) (q : ℤ) → unsigned_abs q ≤ c → (amount_of q ≤ c) × (amount_of (neg_ℤ q) ≤ c)
+amounts_small c q l =
     let p = amount_parts q in
     elim p.1 [
       | inl e ↦ (omega (arith, e), omega (arith, ints, p.0, e, l))
       | inr e ↦ (omega (arith, ints, p.0, e, l), omega (arith, e))
     ]
 
-pub amounts_within : (q : ℤ) → amount_of q ≤ 16130 → amount_of (neg_ℤ q) ≤ 16130 → unsigned_abs q ≤ 16130
-amounts_within q l m = let p = (amount_parts q).0 in omega (arith, ints, p, l, m)
+pub amounts_within : (c : ℕ) (q : ℤ) → amount_of q ≤ c → amount_of (neg_ℤ q) ≤ c → unsigned_abs q ≤ c
+amounts_within c q l m = let p = (amount_parts q).0 in omega (arith, ints, p, l, m)
 
 -- parts of numbers that differ by m
 more_of : (p b r c m : ℕ) (q s : ℤ) → q ≡ pos p -ℤ pos b → s ≡ pos r -ℤ pos c → (r ≡ 0) ⊎ (c ≡ 0) → s ≡ q +ℤ pos m → b ≡ 0 → (r ≡ p + m) × (c ≡ 0)
@@ -53,10 +51,15 @@ abbrev pub flow_after : ℤ → ℕ → ℕ → ℤ
 flow_after q k m = if leads_forth k then q +ℤ pos m else q -ℤ pos m
 
 -- the amount leaves the arc's residual and comes to its twin's
-abbrev IsMoved : ℕ → ℤ → ℕ → ℕ → ℕ → Type 0
-IsMoved w q k m j = residual_at w (flow_after q k m) j + (if j == k then m else 0) ≡ residual_at w q j + (if j == twin_place w k then m else 0)
+abbrev IsMoved : ℕ → ℕ → ℤ → ℕ → ℕ → ℕ → Type 0
+IsMoved steep w q k m j = residual_at steep w (flow_after q k m) j + (if j == k then m else 0) ≡ residual_at steep w q j + (if j == twin_place w k then m else 0)
 
-module _ (w : ℕ) (f : IsFree w) (q : ℤ) (l : unsigned_abs q ≤ 16130) (m : ℕ) where
+-- an arc that leads the same way and costs less has no capacity left
+abbrev pub AreIdle : ℕ → ℕ → ℤ → ℕ → Type 0
+AreIdle steep w q k = (j : ℕ) → j < 8 → is_taken steep w j ≡ true → leads_forth j ≡ leads_forth k → cost_in_place steep w j <ℤ cost_in_place steep w k → residual_at steep w q j ≡ 0
+
+-- ---- at a weight of 0
+module _ (steep w : ℕ) (f : IsFree w) (q : ℤ) (l : unsigned_abs q ≤ 16130) (m : ℕ) where
   z : (w == 0) ≡ true
   z = f.0
 
@@ -66,11 +69,11 @@ module _ (w : ℕ) (f : IsFree w) (q : ℤ) (l : unsigned_abs q ≤ 16130) (m : 
   back_left : pos (amount_of (pos 16130 -ℤ neg_ℤ q)) ≡ pos 16130 -ℤ neg_ℤ q
   back_left = amount_is (pos 16130 -ℤ neg_ℤ q) (omega (arith, ints, l))
 
-  free_within : (k : ℕ) → (k ≡ 0) ⊎ (k ≡ 2) → m ≤ residual_at w q k → unsigned_abs (flow_after q k m) ≤ 16130
+  free_within : (k : ℕ) → (k ≡ 0) ⊎ (k ≡ 2) → m ≤ residual_at steep w q k → unsigned_abs (flow_after q k m) ≤ 16130
   free_within k (inl e) r = rw e (let h : m ≤ amount_of (pos 16130 -ℤ q) = rw (e, z) at r in omega (arith, ints, h, forth_left, l))
   free_within k (inr e) r = rw e (let h : m ≤ amount_of (pos 16130 -ℤ neg_ℤ q) = rw (e, z) at r in omega (arith, ints, h, back_left, l))
 
-  free_forth : (j : ℕ) → (j ≡ 0) ⊎ (j ≡ 2) → m ≤ amount_of (pos 16130 -ℤ q) → IsMoved w q 0 m j
+  free_forth : (j : ℕ) → (j ≡ 0) ⊎ (j ≡ 2) → m ≤ amount_of (pos 16130 -ℤ q) → IsMoved steep w q 0 m j
   free_forth j (inl e) r =
       let after = amount_is (pos 16130 -ℤ (q +ℤ pos m)) (omega (arith, ints, r, forth_left)) in
       rw (e, z) (omega (arith, ints, after, forth_left))
@@ -78,7 +81,7 @@ module _ (w : ℕ) (f : IsFree w) (q : ℤ) (l : unsigned_abs q ≤ 16130) (m : 
       let after = amount_is (pos 16130 -ℤ neg_ℤ (q +ℤ pos m)) (omega (arith, ints, l)) in
       rw (e, z) (omega (arith, ints, after, back_left))
 
-  free_back : (j : ℕ) → (j ≡ 0) ⊎ (j ≡ 2) → m ≤ amount_of (pos 16130 -ℤ neg_ℤ q) → IsMoved w q 2 m j
+  free_back : (j : ℕ) → (j ≡ 0) ⊎ (j ≡ 2) → m ≤ amount_of (pos 16130 -ℤ neg_ℤ q) → IsMoved steep w q 2 m j
   free_back j (inl e) r =
       let after = amount_is (pos 16130 -ℤ (q -ℤ pos m)) (omega (arith, ints, l)) in
       rw (e, z) (omega (arith, ints, after, forth_left))
@@ -86,24 +89,12 @@ module _ (w : ℕ) (f : IsFree w) (q : ℤ) (l : unsigned_abs q ≤ 16130) (m : 
       let after = amount_is (pos 16130 -ℤ neg_ℤ (q -ℤ pos m)) (omega (arith, ints, r, back_left)) in
       rw (e, z) (omega (arith, ints, after, back_left))
 
-  free_moved : (k j : ℕ) → (k ≡ 0) ⊎ (k ≡ 2) → (j ≡ 0) ⊎ (j ≡ 2) → m ≤ residual_at w q k → IsMoved w q k m j
+  free_moved : (k j : ℕ) → (k ≡ 0) ⊎ (k ≡ 2) → (j ≡ 0) ⊎ (j ≡ 2) → m ≤ residual_at steep w q k → IsMoved steep w q k m j
   free_moved k j (inl e) o r = rw e (free_forth j o (rw (e, z) at r))
   free_moved k j (inr e) o r = rw e (free_back j o (rw (e, z) at r))
 
-module _ (w : ℕ) (f : IsCharged w) (q : ℤ) (l : unsigned_abs q ≤ 16130) (m : ℕ) where
-  y : (w == 0) ≡ false
-  y = f.0
-
-  small : (amount_of q ≤ 16130) × (amount_of (neg_ℤ q) ≤ 16130)
-  small = amounts_small q l
-
-  -- the parts after m more went forth, or back
-  forth : ℤ
-  forth = q +ℤ pos m
-
-  back : ℤ
-  back = q -ℤ pos m
-
+-- ---- the parts of a flow after m more went forth, or back
+module _ (q : ℤ) (m : ℕ) where
   grown_forth : amount_of (neg_ℤ q) ≡ 0 → (amount_of (q +ℤ pos m) ≡ amount_of q + m) × (amount_of (neg_ℤ (q +ℤ pos m)) ≡ 0)
   grown_forth e =
       let p = amount_parts q in
@@ -128,105 +119,281 @@ module _ (w : ℕ) (f : IsCharged w) (q : ℤ) (l : unsigned_abs q ≤ 16130) (m
       let r = amount_parts (q -ℤ pos m) in
       less_of (amount_of (neg_ℤ q)) (amount_of q) (amount_of (neg_ℤ (q -ℤ pos m))) (amount_of (q -ℤ pos m)) m (neg_ℤ q) (neg_ℤ (q -ℤ pos m)) (other_way q (amount_of q) (amount_of (neg_ℤ q)) p.0) (other_way (q -ℤ pos m) (amount_of (q -ℤ pos m)) (amount_of (neg_ℤ (q -ℤ pos m))) r.0) (swapped p.1) (swapped r.1) (omega (arith, ints)) e
 
-  moved_0 : (j : ℕ) → j < 4 → m ≤ 16130 - amount_of q → amount_of (neg_ℤ q) ≡ 0 → IsMoved w q 0 m j
-  moved_0 j b r i =
-      let h = grown_forth i in
-      let t = twice_turned q in
-      let u = twice_turned (q +ℤ pos m) in
-      elim (four_places j b) [
-        | inl e ↦ rw (e, y) (omega (arith, h, r, i, small))
-        | inr (inl e) ↦ rw (e, y) (omega (arith, h, r, i, t, u))
-        | inr (inr (inl e)) ↦ rw (e, y) (omega (arith, h, r, i))
-        | inr (inr (inr e)) ↦ rw (e, y) (omega (arith, h, r, i))
+-- a twin's cost is below 0, and a steep arc costs more
+pub turned_below : (c : ℕ) → 0 < c → neg_ℤ (pos c) <ℤ pos c
+turned_below c l = omega (arith, ints, l)
+
+pub steeper : (steep w : ℕ) → 1 < steep → 0 < w → pos w <ℤ pos (steep * w)
+steeper steep w l m = let more = mul-le 2 w steep w l (omega arith) in omega (arith, ints, more, m)
+
+pub turned_steeper : (steep w : ℕ) → 1 < steep → 0 < w → neg_ℤ (pos (steep * w)) <ℤ neg_ℤ (pos w)
+turned_steeper steep w l m = let more = mul-le 2 w steep w l (omega arith) in omega (arith, ints, more, m)
+
+-- one of the four places
+abbrev IsFirst : ℕ → Type 0
+IsFirst k = (k ≡ 0) ⊎ ((k ≡ 1) ⊎ ((k ≡ 2) ⊎ (k ≡ 3)))
+
+-- ---- at a weight above 0, without steep arcs
+module _ (steep w : ℕ) (f : IsPlain steep w) (q : ℤ) (l : unsigned_abs q ≤ 16130) (m : ℕ) where
+  y : (w == 0) ≡ false
+  y = f.0.0
+
+  n : nat_lt 1 steep ≡ false
+  n = f.1
+
+  small : (amount_of q ≤ 16130) × (amount_of (neg_ℤ q) ≤ 16130)
+  small = amounts_small 16130 q l
+
+  plain_0 : (j : ℕ) → IsFirst j → m ≤ 16130 - amount_of q → amount_of (neg_ℤ q) ≡ 0 → IsMoved steep w q 0 m j
+  plain_0 j o r i =
+      let h = grown_forth q m i in
+      elim o [
+        | inl e ↦ rw (e, y, n) (omega (arith, h, r, i, small))
+        | inr (inl e) ↦ rw (e, y, n) (omega (arith, h, r, i))
+        | inr (inr (inl e)) ↦ rw (e, y, n) (omega (arith, h, r, i))
+        | inr (inr (inr e)) ↦ rw (e, y, n) (omega (arith, h, r, i))
       ]
 
-  moved_1 : (j : ℕ) → j < 4 → m ≤ amount_of q → IsMoved w q 1 m j
-  moved_1 j b r =
-      let h = shrunk_forth r in
-      let t = twice_turned q in
-      let u = twice_turned (q -ℤ pos m) in
-      elim (four_places j b) [
-        | inl e ↦ rw (e, y) (omega (arith, h, r, small))
-        | inr (inl e) ↦ rw (e, y) (omega (arith, h, r, t, u))
-        | inr (inr (inl e)) ↦ rw (e, y) (omega (arith, h, r))
-        | inr (inr (inr e)) ↦ rw (e, y) (omega (arith, h, r))
+  plain_1 : (j : ℕ) → IsFirst j → m ≤ amount_of q → IsMoved steep w q 1 m j
+  plain_1 j o r =
+      let h = shrunk_forth q m r in
+      elim o [
+        | inl e ↦ rw (e, y, n) (omega (arith, h, r, small))
+        | inr (inl e) ↦ rw (e, y, n) (omega (arith, h, r))
+        | inr (inr (inl e)) ↦ rw (e, y, n) (omega (arith, h, r))
+        | inr (inr (inr e)) ↦ rw (e, y, n) (omega (arith, h, r))
       ]
 
-  moved_2 : (j : ℕ) → j < 4 → m ≤ 16130 - amount_of (neg_ℤ q) → amount_of q ≡ 0 → IsMoved w q 2 m j
-  moved_2 j b r i =
-      let h = grown_back i in
-      let t = twice_turned q in
-      let u = twice_turned (q -ℤ pos m) in
-      elim (four_places j b) [
-        | inl e ↦ rw (e, y) (omega (arith, h, r, i))
-        | inr (inl e) ↦ rw (e, y) (omega (arith, h, r, i, t, u))
-        | inr (inr (inl e)) ↦ rw (e, y) (omega (arith, h, r, i, small))
-        | inr (inr (inr e)) ↦ rw (e, y) (omega (arith, h, r, i))
+  plain_2 : (j : ℕ) → IsFirst j → m ≤ 16130 - amount_of (neg_ℤ q) → amount_of q ≡ 0 → IsMoved steep w q 2 m j
+  plain_2 j o r i =
+      let h = grown_back q m i in
+      elim o [
+        | inl e ↦ rw (e, y, n) (omega (arith, h, r, i))
+        | inr (inl e) ↦ rw (e, y, n) (omega (arith, h, r, i))
+        | inr (inr (inl e)) ↦ rw (e, y, n) (omega (arith, h, r, i, small))
+        | inr (inr (inr e)) ↦ rw (e, y, n) (omega (arith, h, r, i))
       ]
 
-  moved_3 : (j : ℕ) → j < 4 → m ≤ amount_of (neg_ℤ q) → IsMoved w q 3 m j
-  moved_3 j b r =
-      let h = shrunk_back r in
-      let t = twice_turned q in
-      let u = twice_turned (q +ℤ pos m) in
-      elim (four_places j b) [
-        | inl e ↦ rw (e, y) (omega (arith, h, r))
-        | inr (inl e) ↦ rw (e, y) (omega (arith, h, r, t, u))
-        | inr (inr (inl e)) ↦ rw (e, y) (omega (arith, h, r, small))
-        | inr (inr (inr e)) ↦ rw (e, y) (omega (arith, h, r))
+  plain_3 : (j : ℕ) → IsFirst j → m ≤ amount_of (neg_ℤ q) → IsMoved steep w q 3 m j
+  plain_3 j o r =
+      let h = shrunk_back q m r in
+      elim o [
+        | inl e ↦ rw (e, y, n) (omega (arith, h, r))
+        | inr (inl e) ↦ rw (e, y, n) (omega (arith, h, r))
+        | inr (inr (inl e)) ↦ rw (e, y, n) (omega (arith, h, r, small))
+        | inr (inr (inr e)) ↦ rw (e, y, n) (omega (arith, h, r))
       ]
 
-  -- the arc that leads the same way, as the twin of the one that leads back, has nothing to give back
-  abbrev IsIdle : ℕ → Type 0
-  IsIdle k = (k % 2 == 0) ≡ true → residual_at w q (3 - k) ≡ 0
+  -- nothing flows the other way
+  none_back : AreIdle steep w q 0 → amount_of (neg_ℤ q) ≡ 0
+  none_back idle = rw (y, n) at (idle 3 (omega arith) f.0.1 refl (turned_below w f.0.2))
 
-  charged_moved : (k j : ℕ) → k < 4 → j < 4 → m ≤ residual_at w q k → IsIdle k → IsMoved w q k m j
-  charged_moved k j a b r idle =
-      elim (four_places k a) [
-        | inl e ↦ rw e (moved_0 j b (rw (e, y) at r) (rw y at ((rw e at idle) refl)))
-        | inr (inl e) ↦ rw e (moved_1 j b (rw (twice_turned q) at (rw (e, y) at r)))
-        | inr (inr (inl e)) ↦ rw e (moved_2 j b (rw (e, y) at r) (rw (twice_turned q) at (rw y at ((rw e at idle) refl))))
-        | inr (inr (inr e)) ↦ rw e (moved_3 j b (rw (e, y) at r))
-      ]
+  none_forth : AreIdle steep w q 2 → amount_of q ≡ 0
+  none_forth idle = rw (y, n) at (idle 1 (omega arith) f.0.1 refl (turned_below w f.0.2))
 
-  charged_within : (k : ℕ) → k < 4 → m ≤ residual_at w q k → IsIdle k → unsigned_abs (flow_after q k m) ≤ 16130
-  charged_within k a r idle =
-      elim (four_places k a) [
-        | inl e ↦ rw e (let h : m ≤ 16130 - amount_of q = rw (e, y) at r in let i : amount_of (neg_ℤ q) ≡ 0 = rw y at ((rw e at idle) refl) in let g = grown_forth i in amounts_within (q +ℤ pos m) (omega (arith, g, h, small)) (omega (arith, g)))
-        | inr (inl e) ↦ rw e (let h : m ≤ amount_of q = rw (twice_turned q) at (rw (e, y) at r) in let g = shrunk_forth h in amounts_within (q -ℤ pos m) (omega (arith, g, small)) (omega (arith, g, small)))
-        | inr (inr (inl e)) ↦ rw e (let h : m ≤ 16130 - amount_of (neg_ℤ q) = rw (e, y) at r in let i : amount_of q ≡ 0 = rw (twice_turned q) at (rw y at ((rw e at idle) refl)) in let g = grown_back i in amounts_within (q -ℤ pos m) (omega (arith, g)) (omega (arith, g, h, small)))
-        | inr (inr (inr e)) ↦ rw e (let h : m ≤ amount_of (neg_ℤ q) = rw (e, y) at r in let g = shrunk_back h in amounts_within (q +ℤ pos m) (omega (arith, g, small)) (omega (arith, g, small)))
-      ]
+  plain_moved : (k j : ℕ) → IsFirst k → IsFirst j → m ≤ residual_at steep w q k → AreIdle steep w q k → IsMoved steep w q k m j
+  plain_moved k j (inl e) o r idle = rw e (plain_0 j o (rw (e, y, n) at r) (none_back (rw e at idle)))
+  plain_moved k j (inr (inl e)) o r idle = rw e (plain_1 j o (rw (e, y, n) at r))
+  plain_moved k j (inr (inr (inl e))) o r idle = rw e (plain_2 j o (rw (e, y, n) at r) (none_forth (rw e at idle)))
+  plain_moved k j (inr (inr (inr e))) o r idle = rw e (plain_3 j o (rw (e, y, n) at r))
+
+  plain_within : (k : ℕ) → IsFirst k → m ≤ residual_at steep w q k → AreIdle steep w q k → unsigned_abs (flow_after q k m) ≤ 16130
+  plain_within k (inl e) r idle = rw e (let h : m ≤ 16130 - amount_of q = rw (e, y, n) at r in let g = grown_forth q m (none_back (rw e at idle)) in amounts_within 16130 (q +ℤ pos m) (omega (arith, g, h, small)) (omega (arith, g)))
+  plain_within k (inr (inl e)) r idle = rw e (let h : m ≤ amount_of q = rw (e, y, n) at r in let g = shrunk_forth q m h in amounts_within 16130 (q -ℤ pos m) (omega (arith, g, small)) (omega (arith, g, small)))
+  plain_within k (inr (inr (inl e))) r idle = rw e (let h : m ≤ 16130 - amount_of (neg_ℤ q) = rw (e, y, n) at r in let g = grown_back q m (none_forth (rw e at idle)) in amounts_within 16130 (q -ℤ pos m) (omega (arith, g)) (omega (arith, g, h, small)))
+  plain_within k (inr (inr (inr e))) r idle = rw e (let h : m ≤ amount_of (neg_ℤ q) = rw (e, y, n) at r in let g = shrunk_back q m h in amounts_within 16130 (q +ℤ pos m) (omega (arith, g, small)) (omega (arith, g, small)))
+
+-- one of all places
+abbrev IsAny : ℕ → Type 0
+IsAny k = IsFirst k ⊎ ((k ≡ 4) ⊎ ((k ≡ 5) ⊎ ((k ≡ 6) ⊎ (k ≡ 7))))
+
+-- what is true of each of the eight places
+each_place : (P : ℕ → Type 0) → P 0 → P 1 → P 2 → P 3 → P 4 → P 5 → P 6 → P 7 → (k : ℕ) → IsAny k → P k
+each_place P a b c d i j x z k (inl (inl e)) = subst P (sym e) a
+each_place P a b c d i j x z k (inl (inr (inl e))) = subst P (sym e) b
+each_place P a b c d i j x z k (inl (inr (inr (inl e)))) = subst P (sym e) c
+each_place P a b c d i j x z k (inl (inr (inr (inr e)))) = subst P (sym e) d
+each_place P a b c d i j x z k (inr (inl e)) = subst P (sym e) i
+each_place P a b c d i j x z k (inr (inr (inl e))) = subst P (sym e) j
+each_place P a b c d i j x z k (inr (inr (inr (inl e)))) = subst P (sym e) x
+each_place P a b c d i j x z k (inr (inr (inr (inr e)))) = subst P (sym e) z
+
+-- ---- at a weight above 0, with steep arcs
+module _ (steep w : ℕ) (f : IsSplit steep w) (q : ℤ) (l : unsigned_abs q ≤ 16131) (m : ℕ) where
+  c : (w == 0) ≡ false
+  c = f.0.0
+
+  p : nat_lt 1 steep ≡ true
+  p = f.1
+
+  tiny : (amount_of q ≤ 16131) × (amount_of (neg_ℤ q) ≤ 16131)
+  tiny = amounts_small 16131 q l
+
+  -- the amount m moves from the place k to its twin, where the parts of the flow change from a and b to r and s
+  abbrev Moves : ℕ → ℕ → ℕ → ℕ → ℕ → ℕ → Type 0
+  Moves a b r s k j = split_residual (if nat_lt (j % 4) 2 then r else s) j + (if j == k then m else 0) ≡ split_residual (if nat_lt (j % 4) 2 then a else b) j + (if j == (if k % 2 == 0 then k + 1 else k - 1) then m else 0)
+
+  moves_0 : (a b r s : ℕ) → m ≤ 1 - a → r ≡ a + m → s ≡ b → (j : ℕ) → IsAny j → Moves a b r s 0 j
+  moves_0 a b r s h d e = each_place (Moves a b r s 0) (omega (arith, h, d)) (omega (arith, h, d)) (omega (arith, e)) (omega (arith, e)) (omega (arith, h, d)) (omega (arith, h, d)) (omega (arith, e)) (omega (arith, e))
+
+  moves_1 : (a b r s : ℕ) → m ≤ 1 - (1 - a) → a - 1 ≡ 0 → r + m ≡ a → s ≡ b → (j : ℕ) → IsAny j → Moves a b r s 1 j
+  moves_1 a b r s h i d e = each_place (Moves a b r s 1) (omega (arith, h, i, d)) (omega (arith, h, i, d)) (omega (arith, e)) (omega (arith, e)) (omega (arith, h, i, d)) (omega (arith, h, i, d)) (omega (arith, e)) (omega (arith, e))
+
+  moves_2 : (a b r s : ℕ) → m ≤ 1 - b → s ≡ b + m → r ≡ a → (j : ℕ) → IsAny j → Moves a b r s 2 j
+  moves_2 a b r s h d e = each_place (Moves a b r s 2) (omega (arith, e)) (omega (arith, e)) (omega (arith, h, d)) (omega (arith, h, d)) (omega (arith, e)) (omega (arith, e)) (omega (arith, h, d)) (omega (arith, h, d))
+
+  moves_3 : (a b r s : ℕ) → m ≤ 1 - (1 - b) → b - 1 ≡ 0 → s + m ≡ b → r ≡ a → (j : ℕ) → IsAny j → Moves a b r s 3 j
+  moves_3 a b r s h i d e = each_place (Moves a b r s 3) (omega (arith, e)) (omega (arith, e)) (omega (arith, h, i, d)) (omega (arith, h, i, d)) (omega (arith, e)) (omega (arith, e)) (omega (arith, h, i, d)) (omega (arith, h, i, d))
+
+  moves_4 : (a b r s : ℕ) → m ≤ 16130 - (a - 1) → 1 - a ≡ 0 → a ≤ 16131 → r ≡ a + m → s ≡ b → (j : ℕ) → IsAny j → Moves a b r s 4 j
+  moves_4 a b r s h i t d e = each_place (Moves a b r s 4) (omega (arith, h, i, d)) (omega (arith, h, i, d)) (omega (arith, e)) (omega (arith, e)) (omega (arith, h, i, t, d)) (omega (arith, h, i, d)) (omega (arith, e)) (omega (arith, e))
+
+  moves_5 : (a b r s : ℕ) → m ≤ a - 1 → a ≤ 16131 → r + m ≡ a → s ≡ b → (j : ℕ) → IsAny j → Moves a b r s 5 j
+  moves_5 a b r s h t d e = each_place (Moves a b r s 5) (omega (arith, h, d)) (omega (arith, h, d)) (omega (arith, e)) (omega (arith, e)) (omega (arith, h, t, d)) (omega (arith, h, d)) (omega (arith, e)) (omega (arith, e))
+
+  moves_6 : (a b r s : ℕ) → m ≤ 16130 - (b - 1) → 1 - b ≡ 0 → b ≤ 16131 → s ≡ b + m → r ≡ a → (j : ℕ) → IsAny j → Moves a b r s 6 j
+  moves_6 a b r s h i t d e = each_place (Moves a b r s 6) (omega (arith, e)) (omega (arith, e)) (omega (arith, h, i, d)) (omega (arith, h, i, d)) (omega (arith, e)) (omega (arith, e)) (omega (arith, h, i, t, d)) (omega (arith, h, i, d))
+
+  moves_7 : (a b r s : ℕ) → m ≤ b - 1 → b ≤ 16131 → s + m ≡ b → r ≡ a → (j : ℕ) → IsAny j → Moves a b r s 7 j
+  moves_7 a b r s h t d e = each_place (Moves a b r s 7) (omega (arith, e)) (omega (arith, e)) (omega (arith, h, d)) (omega (arith, h, d)) (omega (arith, e)) (omega (arith, e)) (omega (arith, h, t, d)) (omega (arith, h, d))
+
+  -- ---- what is idle
+  unit_back_idle : AreIdle steep w q 0 → amount_of (neg_ℤ q) ≡ 0
+  unit_back_idle idle = let h : 1 - (1 - amount_of (neg_ℤ q)) ≡ 0 = rw (c, p) at (idle 3 (omega arith) f.0.1 refl (turned_below w f.0.2)) in omega (arith, h)
+
+  unit_forth_idle : AreIdle steep w q 2 → amount_of q ≡ 0
+  unit_forth_idle idle = let h : 1 - (1 - amount_of q) ≡ 0 = rw (c, p) at (idle 1 (omega arith) f.0.1 refl (turned_below w f.0.2)) in omega (arith, h)
+
+  steep_forth_idle : AreIdle steep w q 1 → amount_of q - 1 ≡ 0
+  steep_forth_idle idle = rw (c, p) at (idle 5 (omega arith) (steep_taken steep w f) refl (turned_steeper steep w f.2 f.0.2))
+
+  steep_back_idle : AreIdle steep w q 3 → amount_of (neg_ℤ q) - 1 ≡ 0
+  steep_back_idle idle = rw (c, p) at (idle 7 (omega arith) (steep_taken steep w f) refl (turned_steeper steep w f.2 f.0.2))
+
+  unit_forth_full : AreIdle steep w q 4 → 1 - amount_of q ≡ 0
+  unit_forth_full idle = rw (c, p) at (idle 0 (omega arith) refl refl (steeper steep w f.2 f.0.2))
+
+  unit_back_full : AreIdle steep w q 6 → 1 - amount_of (neg_ℤ q) ≡ 0
+  unit_back_full idle = rw (c, p) at (idle 2 (omega arith) refl refl (steeper steep w f.2 f.0.2))
+
+  -- where something flows one way, nothing flows the other
+  only_forth : 1 - amount_of q ≡ 0 → amount_of (neg_ℤ q) ≡ 0
+  only_forth e = elim (amount_parts q).1 [ inl i ↦ absurd (omega (arith, e, i)) | inr i ↦ i ]
+
+  only_back : 1 - amount_of (neg_ℤ q) ≡ 0 → amount_of q ≡ 0
+  only_back e = elim (amount_parts q).1 [ inl i ↦ i | inr i ↦ absurd (omega (arith, e, i)) ]
+
+  -- ---- by place: the flow afterwards is small, and the amount has moved
+  abbrev IsPushed : ℕ → Type 0
+  IsPushed k = (unsigned_abs (flow_after q k m) ≤ 16131) × ((j : ℕ) → IsAny j → IsMoved steep w q k m j)
+
+  split_0 : m ≤ residual_at steep w q 0 → AreIdle steep w q 0 → IsPushed 0
+  split_0 r idle =
+      let h : m ≤ 1 - amount_of q = rw (c, p) at r in
+      let i = unit_back_idle idle in
+      let g = grown_forth q m i in
+      (amounts_within 16131 (q +ℤ pos m) (omega (arith, g, h, tiny)) (omega (arith, g)), λ j o. rw (c, p) (moves_0 (amount_of q) (amount_of (neg_ℤ q)) (amount_of (q +ℤ pos m)) (amount_of (neg_ℤ (q +ℤ pos m))) h g.0 (g.1 ∙ sym i) j o))
+
+  split_1 : m ≤ residual_at steep w q 1 → AreIdle steep w q 1 → IsPushed 1
+  split_1 r idle =
+      let h : m ≤ 1 - (1 - amount_of q) = rw (c, p) at r in
+      let g = shrunk_forth q m (omega (arith, h)) in
+      (amounts_within 16131 (q -ℤ pos m) (omega (arith, g, tiny)) (omega (arith, g, tiny)), λ j o. rw (c, p) (moves_1 (amount_of q) (amount_of (neg_ℤ q)) (amount_of (q -ℤ pos m)) (amount_of (neg_ℤ (q -ℤ pos m))) h (steep_forth_idle idle) g.1 g.0 j o))
+
+  split_2 : m ≤ residual_at steep w q 2 → AreIdle steep w q 2 → IsPushed 2
+  split_2 r idle =
+      let h : m ≤ 1 - amount_of (neg_ℤ q) = rw (c, p) at r in
+      let i = unit_forth_idle idle in
+      let g = grown_back q m i in
+      (amounts_within 16131 (q -ℤ pos m) (omega (arith, g)) (omega (arith, g, h, tiny)), λ j o. rw (c, p) (moves_2 (amount_of q) (amount_of (neg_ℤ q)) (amount_of (q -ℤ pos m)) (amount_of (neg_ℤ (q -ℤ pos m))) h g.0 (g.1 ∙ sym i) j o))
+
+  split_3 : m ≤ residual_at steep w q 3 → AreIdle steep w q 3 → IsPushed 3
+  split_3 r idle =
+      let h : m ≤ 1 - (1 - amount_of (neg_ℤ q)) = rw (c, p) at r in
+      let g = shrunk_back q m (omega (arith, h)) in
+      (amounts_within 16131 (q +ℤ pos m) (omega (arith, g, tiny)) (omega (arith, g, tiny)), λ j o. rw (c, p) (moves_3 (amount_of q) (amount_of (neg_ℤ q)) (amount_of (q +ℤ pos m)) (amount_of (neg_ℤ (q +ℤ pos m))) h (steep_back_idle idle) g.1 g.0 j o))
+
+  split_4 : m ≤ residual_at steep w q 4 → AreIdle steep w q 4 → IsPushed 4
+  split_4 r idle =
+      let h : m ≤ 16130 - (amount_of q - 1) = rw (c, p) at r in
+      let full = unit_forth_full idle in
+      let i = only_forth full in
+      let g = grown_forth q m i in
+      (amounts_within 16131 (q +ℤ pos m) (omega (arith, g, h, full, tiny)) (omega (arith, g)), λ j o. rw (c, p) (moves_4 (amount_of q) (amount_of (neg_ℤ q)) (amount_of (q +ℤ pos m)) (amount_of (neg_ℤ (q +ℤ pos m))) h full tiny.0 g.0 (g.1 ∙ sym i) j o))
+
+  split_5 : m ≤ residual_at steep w q 5 → IsPushed 5
+  split_5 r =
+      let h : m ≤ amount_of q - 1 = rw (c, p) at r in
+      let g = shrunk_forth q m (omega (arith, h)) in
+      (amounts_within 16131 (q -ℤ pos m) (omega (arith, g, tiny)) (omega (arith, g, tiny)), λ j o. rw (c, p) (moves_5 (amount_of q) (amount_of (neg_ℤ q)) (amount_of (q -ℤ pos m)) (amount_of (neg_ℤ (q -ℤ pos m))) h tiny.0 g.1 g.0 j o))
+
+  split_6 : m ≤ residual_at steep w q 6 → AreIdle steep w q 6 → IsPushed 6
+  split_6 r idle =
+      let h : m ≤ 16130 - (amount_of (neg_ℤ q) - 1) = rw (c, p) at r in
+      let full = unit_back_full idle in
+      let i = only_back full in
+      let g = grown_back q m i in
+      (amounts_within 16131 (q -ℤ pos m) (omega (arith, g)) (omega (arith, g, h, full, tiny)), λ j o. rw (c, p) (moves_6 (amount_of q) (amount_of (neg_ℤ q)) (amount_of (q -ℤ pos m)) (amount_of (neg_ℤ (q -ℤ pos m))) h full tiny.1 g.0 (g.1 ∙ sym i) j o))
+
+  split_7 : m ≤ residual_at steep w q 7 → IsPushed 7
+  split_7 r =
+      let h : m ≤ amount_of (neg_ℤ q) - 1 = rw (c, p) at r in
+      let g = shrunk_back q m (omega (arith, h)) in
+      (amounts_within 16131 (q +ℤ pos m) (omega (arith, g, tiny)) (omega (arith, g, tiny)), λ j o. rw (c, p) (moves_7 (amount_of q) (amount_of (neg_ℤ q)) (amount_of (q +ℤ pos m)) (amount_of (neg_ℤ (q +ℤ pos m))) h tiny.1 g.1 g.0 j o))
+
+  split_pushed : (k : ℕ) → IsAny k → m ≤ residual_at steep w q k → AreIdle steep w q k → IsPushed k
+  split_pushed = each_place (λ k. m ≤ residual_at steep w q k → AreIdle steep w q k → IsPushed k) split_0 split_1 split_2 split_3 split_4 (λ r idle. split_5 r) split_6 (λ r idle. split_7 r)
 
 -- ---- a push along an arc
-module _ (w k m : ℕ) (q : ℤ) (below : k < 4) (taken : is_taken w k ≡ true) (l : unsigned_abs q ≤ 16130) (room : m ≤ residual_at w q k) (idle : IsCharged w → (k % 2 == 0) ≡ true → residual_at w q (3 - k) ≡ 0) where
-  pub place_moved : (j : ℕ) → j < 4 → is_taken w j ≡ true → residual_at w (flow_after q k m) j + (if j == k then m else 0) ≡ residual_at w q j + (if j == twin_place w k then m else 0)
+module _ (steep w k m : ℕ) (q : ℤ) (below : k < 8) (taken : is_taken steep w k ≡ true) (l : unsigned_abs q ≤ capacity_of steep w) (room : m ≤ residual_at steep w q k) (idle : AreIdle steep w q k) where
+  pub place_moved : (j : ℕ) → j < 8 → is_taken steep w j ≡ true → residual_at steep w (flow_after q k m) j + (if j == k then m else 0) ≡ residual_at steep w q j + (if j == twin_place w k then m else 0)
   place_moved j b t =
-      elim (free_or_charged w) [
-        | inl f ↦ free_moved w f q l m k j (free_place w f k below taken) (free_place w f j b t) room
-        | inr f ↦ charged_moved w f q l m k j below b room (idle f)
+      elim (kinds steep w) [
+        | inl f ↦ free_moved steep w f q (let u = free_unsplit steep w f in rw u at l) m k j (free_place steep w f k taken) (free_place steep w f j t) room
+        | inr (inl f) ↦ plain_moved steep w f q (let u = plain_unsplit steep w f in rw u at l) m k j (plain_place steep w f k taken) (plain_place steep w f j t) room idle
+        | inr (inr f) ↦ (split_pushed steep w f q (let u = steep_taken steep w f in rw u at l) m k (eight_places k below) room idle).1 j (eight_places j b)
       ]
 
-  pub flow_within : unsigned_abs (flow_after q k m) ≤ 16130
+  pub flow_within : unsigned_abs (flow_after q k m) ≤ capacity_of steep w
   flow_within =
-      elim (free_or_charged w) [
-        | inl f ↦ free_within w f q l m k (free_place w f k below taken) room
-        | inr f ↦ charged_within w f q l m k below room (idle f)
+      elim (kinds steep w) [
+        | inl f ↦ (let u = free_unsplit steep w f in rw u (free_within steep w f q (rw u at l) m k (free_place steep w f k taken) room))
+        | inr (inl f) ↦ (let u = plain_unsplit steep w f in rw u (plain_within steep w f q (rw u at l) m k (plain_place steep w f k taken) room idle))
+        | inr (inr f) ↦ (let u = steep_taken steep w f in rw u (split_pushed steep w f q (rw u at l) m k (eight_places k below) room idle).0)
       ]
+
+-- no capacity is above 16131
+pub capacity_small : (steep w : ℕ) → capacity_of steep w ≤ 16131
+capacity_small steep w = elim (cases_Bool (is_split steep w)) [ inl t ↦ rw t (omega arith) | inr t ↦ rw t (omega arith) ]
 
 -- no residual is above twice the capacity
-pub residual_small : (w : ℕ) (q : ℤ) (k : ℕ) → unsigned_abs q ≤ 16130 → residual_at w q k ≤ 32260
-residual_small w q k l =
-    elim (free_or_charged w) [
-      | inl f ↦ (let y = f.0 in elim (cases_Bool (leads_forth k)) [
-        | inl t ↦ rw (y, t) (let e = amount_is (pos 16130 -ℤ q) (omega (arith, ints, l)) in omega (arith, ints, e, l))
-        | inr t ↦ rw (y, t) (let e = amount_is (pos 16130 -ℤ neg_ℤ q) (omega (arith, ints, l)) in omega (arith, ints, e, l))
-      ])
-      | inr f ↦ (let y = f.0 in let s = amounts_small q l in let n = twice_turned q in elim (cases_Bool (k % 2 == 0)) [
-        | inl t ↦ rw (y, t) (omega arith)
-        | inr t ↦ (elim (cases_Bool (leads_forth k)) [
-          | inl u ↦ rw (y, t, u) (omega (arith, s))
-          | inr u ↦ rw (y, t, u) (omega (arith, s, n))
-        ])
-      ])
+pub residual_small : (steep w : ℕ) (q : ℤ) (k : ℕ) → unsigned_abs q ≤ 16131 → residual_at steep w q k ≤ 32261
+residual_small steep w q k l =
+    elim (cases_Bool (w == 0)) [
+      | inl y ↦ rw y (free_small (leads_forth k))
+      | inr y ↦ elim (cases_Bool (nat_lt 1 steep)) [
+        | inl t ↦ rw (y, t) (split_small (nat_lt k 4) (k % 2 == 0) (carried q k) (carried_small (nat_lt (k % 4) 2)))
+        | inr t ↦ rw (y, t) (plain_small (k % 2 == 0) (carried q k) (carried_small (nat_lt (k % 4) 2)))
+      ]
     ]
+  where
+    most : (z : ℤ) → z ≤ℤ pos 32261 → amount_of z ≤ 32261
+    most z h = elim (amount_parts z).1 [ inl e ↦ omega (arith, e) | inr e ↦ (let p = (amount_parts z).0 in omega (arith, ints, p, e, h)) ]
+
+    free_small : (b : Bool) → amount_of (pos 16130 -ℤ (if b then q else neg_ℤ q)) ≤ 32261
+    free_small true = most (pos 16130 -ℤ q) (omega (arith, ints, l))
+    free_small false = most (pos 16130 -ℤ neg_ℤ q) (omega (arith, ints, l))
+
+    carried_small : (b : Bool) → (if b then amount_of q else amount_of (neg_ℤ q)) ≤ 16131
+    carried_small true = (amounts_small 16131 q l).0
+    carried_small false = (amounts_small 16131 q l).1
+
+    split_small : (b e : Bool) (n : ℕ) → n ≤ 16131 → (if b then (if e then 1 - n else 1 - (1 - n)) else if e then 16130 - (n - 1) else n - 1) ≤ 32261
+    split_small true true n h = omega (arith, h)
+    split_small true false n h = omega (arith, h)
+    split_small false true n h = omega (arith, h)
+    split_small false false n h = omega (arith, h)
+
+    plain_small : (e : Bool) (n : ℕ) → n ≤ 16131 → (if e then 16130 - n else n) ≤ 32261
+    plain_small true n h = omega (arith, h)
+    plain_small false n h = omega (arith, h)

@@ -1,6 +1,6 @@
 -- The arcs of a grid, and that they join all nodes.
 use Rattle.std.proofs.Common.{◌≡◌, ℕ, zero, suc, ◌+◌, ◌-◌, ◌*◌, ◌/◌, ◌%◌, ◌<◌, ◌≤◌, ◌∙◌, sym, ap, ap₂, refl, arith, inl, inr, Bool, true, false}
-use Rattle.std.specs.Prelude.{pos, if◌then◌else◌}
+use Rattle.std.specs.Prelude.{ℤ, pos, if◌then◌else◌}
 use Rattle.std.proofs.lemmas.Bool.{cases_Bool, false≢true}
 use Rattle.std.proofs.lemmas.Nat.{div-add-mod', div-mul-add, mod-mul-add, mod_below}
 use Rattle.raster_model.specs.declared.edge.Edge.{Edge}
@@ -9,57 +9,37 @@ use Rattle.raster_model.specs.Sums.{down_edge}
 use Rattle.flow_network.specs.Nets.{Shape, IsArc, tail_of}
 use Rattle.wrapped_gradient.specs.Windows.{IsEdgeOf}
 use Rattle.wrapped_gradient.proofs.GradientLemmas.{down_edge_of}
-use Rattle.dual_grid.specs.Nodes.{cells_of, node_at, first_side, other_side, edge_number, edge_of, arc_across}
-use Rattle.dual_grid.specs.Starts.{start_residual}
-use Rattle.dual_grid.specs.Grids.{IsConnected, cost_in_place, head_at, is_taken, leads_forth, window_shape}
-use Rattle.dual_grid.proofs.ArcLemmas.{is_arc_at, tail_is}
+use Rattle.dual_grid.specs.Nodes.{cells_of, node_at, first_side, other_side, edge_number}
+use Rattle.dual_grid.specs.Grids.{IsConnected, cost_in_place, head_at, is_taken, leads_forth, residual_at, start_residual, window_shape}
+use Rattle.dual_grid.proofs.ArcLemmas.{kinds, place_is_arc, place_tail, steep_taken}
 use Rattle.dual_grid.proofs.NodeLemmas.{node_inside, left_inside, left_outside, first_down, other_down}
 use Rattle.dual_grid.proofs.NumberLemmas.{edge_of_number}
 use Rattle.dual_grid.proofs.EdgeLemmas.{has_columns, number_below}
-use Rattle.dual_grid.proofs.StartLemmas.{cell_of_number, start_even}
+use Rattle.dual_grid.proofs.StartLemmas.{cell_of_number}
 use Rattle.sums_and_lists.proofs.Orders.{below_or_last}
 
--- the arcs from side to side of an edge: where they start and end, and what they cost
-module _ (v : Window) (weight : ℕ → ℕ) (e : Edge) (is : IsEdgeOf v e) where
-  forth_edge : arc_across v e / 4 ≡ edge_number v e
-  forth_edge = omega arith
+-- the arc in a place across an edge: where it starts and ends, what it costs, and what it has left
+module _ (v : Window) (steep : ℕ) (weight : ℕ → ℕ) (e : Edge) (is : IsEdgeOf v e) (k : ℕ) (below : k < 8) (taken : is_taken steep (weight (edge_number v e)) k ≡ true) where
+  its_edge : (edge_number v e * 8 + k) / 8 ≡ edge_number v e
+  its_edge = div-mul-add (edge_number v e) 8 k below
 
-  forth_place : arc_across v e % 4 ≡ 0
-  forth_place = omega arith
+  its_place : (edge_number v e * 8 + k) % 8 ≡ k
+  its_place = mod-mul-add (edge_number v e) 8 k below
 
-  back_edge : (arc_across v e + 2) / 4 ≡ edge_number v e
-  back_edge = div-mul-add (edge_number v e) 4 2 (omega arith)
+  pub across_is_arc : IsArc (window_shape v steep weight) (edge_number v e * 8 + k)
+  across_is_arc = place_is_arc v steep weight (edge_number v e) k (number_below v e is) below taken
 
-  back_place : (arc_across v e + 2) % 4 ≡ 2
-  back_place = mod-mul-add (edge_number v e) 4 2 (omega arith)
+  pub across_head : (window_shape v steep weight).head (edge_number v e * 8 + k) ≡ (if leads_forth k then other_side v e else first_side v e)
+  across_head = ap₂ (λ (n k : ℕ). head_at v n k) its_edge its_place ∙ ap (λ (i : Edge). if leads_forth k then other_side v i else first_side v i) (edge_of_number v e is)
 
-  pub forth_is_arc : IsArc (window_shape v weight) (arc_across v e)
-  forth_is_arc = is_arc_at v weight (arc_across v e) (omega (arith, number_below v e is)) (ap₂ (λ (n k : ℕ). is_taken (weight n) k) forth_edge forth_place)
+  pub across_tail : tail_of (window_shape v steep weight) (edge_number v e * 8 + k) ≡ (if leads_forth k then first_side v e else other_side v e)
+  across_tail = place_tail v steep weight (edge_number v e) k below across_is_arc ∙ ap (λ (i : Edge). if leads_forth k then first_side v i else other_side v i) (edge_of_number v e is)
 
-  pub back_is_arc : IsArc (window_shape v weight) (arc_across v e + 2)
-  back_is_arc = is_arc_at v weight (arc_across v e + 2) (omega (arith, number_below v e is)) (ap₂ (λ (n k : ℕ). is_taken (weight n) k) back_edge back_place)
+  pub across_cost : (window_shape v steep weight).cost (edge_number v e * 8 + k) ≡ cost_in_place steep (weight (edge_number v e)) k
+  across_cost = ap₂ (λ (n k : ℕ). cost_in_place steep (weight n) k) its_edge its_place
 
-  pub forth_head : (window_shape v weight).head (arc_across v e) ≡ other_side v e
-  forth_head = ap₂ (λ (n k : ℕ). head_at v n k) forth_edge forth_place ∙ ap (λ (i : Edge). other_side v i) (edge_of_number v e is)
-
-  pub back_head : (window_shape v weight).head (arc_across v e + 2) ≡ first_side v e
-  back_head = ap₂ (λ (n k : ℕ). head_at v n k) back_edge back_place ∙ ap (λ (i : Edge). first_side v i) (edge_of_number v e is)
-
-  pub forth_tail : tail_of (window_shape v weight) (arc_across v e) ≡ first_side v e
-  forth_tail =
-      tail_is v weight (arc_across v e) forth_is_arc
-      ∙ ap₂ (λ (n k : ℕ). if leads_forth k then first_side v (edge_of v n) else other_side v (edge_of v n)) forth_edge forth_place ∙ ap (λ (i : Edge). first_side v i) (edge_of_number v e is)
-
-  pub back_tail : tail_of (window_shape v weight) (arc_across v e + 2) ≡ other_side v e
-  back_tail =
-      tail_is v weight (arc_across v e + 2) back_is_arc
-      ∙ ap₂ (λ (n k : ℕ). if leads_forth k then first_side v (edge_of v n) else other_side v (edge_of v n)) back_edge back_place ∙ ap (λ (i : Edge). other_side v i) (edge_of_number v e is)
-
-  pub forth_cost : (window_shape v weight).cost (arc_across v e) ≡ pos (weight (edge_number v e))
-  forth_cost = ap₂ (λ (n k : ℕ). cost_in_place (weight n) k) forth_edge forth_place
-
-  pub back_cost : (window_shape v weight).cost (arc_across v e + 2) ≡ pos (weight (edge_number v e))
-  back_cost = ap₂ (λ (n k : ℕ). cost_in_place (weight n) k) back_edge back_place
+  pub across_residual : (flow : ℕ → ℤ) → residual_at steep (weight ((edge_number v e * 8 + k) / 8)) (flow ((edge_number v e * 8 + k) / 8)) ((edge_number v e * 8 + k) % 8) ≡ residual_at steep (weight (edge_number v e)) (flow (edge_number v e)) k
+  across_residual flow = ap₂ (λ (n k : ℕ). residual_at steep (weight n) (flow n) k) its_edge its_place
 
 pub node_of_number : (v : Window) (u : ℕ) → u < cells_of v → node_at v (v.x0 + u % (v.x1 - v.x0)) (v.y0 + u / (v.x1 - v.x0)) ≡ u
 node_of_number v u l =
@@ -69,32 +49,38 @@ node_of_number v u l =
     ∙ ap₂ (λ (j i : ℕ). j * (v.x1 - v.x0) + i) row column ∙ div-add-mod' u (v.x1 - v.x0)
 
 -- an arc with capacity at the start leads out of a set of nodes
-abbrev Leads : Shape → (ℕ → Bool) → Type 0
-Leads s inside = (a : ℕ) × (IsArc s a × (start_residual a ≡ 16130) × (inside (tail_of s a) ≡ true) × (inside (s.head a) ≡ false))
+abbrev Leads : (ℕ → ℕ) → Shape → (ℕ → Bool) → Type 0
+Leads start s inside = (a : ℕ) × (IsArc s a × (start a ≡ 16130) × (inside (tail_of s a) ≡ true) × (inside (s.head a) ≡ false))
 
-module _ (v : Window) (weight : ℕ → ℕ) (inside : ℕ → Bool) where
+module _ (v : Window) (steep : ℕ) (weight : ℕ → ℕ) (inside : ℕ → Bool) where
+  -- the arc in a place that has the capacity at the start
+  through : (e : Edge) → IsEdgeOf v e → (k : ℕ) → k < 8 → is_taken steep (weight (edge_number v e)) k ≡ true → residual_at steep (weight (edge_number v e)) (pos 0) k ≡ 16130 → inside (if leads_forth k then first_side v e else other_side v e) ≡ true → inside (if leads_forth k then other_side v e else first_side v e) ≡ false → Leads (start_residual steep weight) (window_shape v steep weight) inside
+  through e is k below taken full p q = (
+    edge_number v e * 8 + k,
+    (
+      across_is_arc v steep weight e is k below taken,
+      across_residual v steep weight e is k below taken (λ n. pos 0) ∙ full,
+      ap inside (across_tail v steep weight e is k below taken) ∙ p,
+      ap inside (across_head v steep weight e is k below taken) ∙ q,
+    ),
+  )
+
   -- across an edge whose sides lie one inside and one outside
-  out_forth : (e : Edge) → IsEdgeOf v e → inside (first_side v e) ≡ true → inside (other_side v e) ≡ false → Leads (window_shape v weight) inside
-  out_forth e is p q = (
-    arc_across v e,
-    (
-      forth_is_arc v weight e is,
-      start_even (arc_across v e) (edge_number v e * 2) (omega arith),
-      ap inside (forth_tail v weight e is) ∙ p,
-      ap inside (forth_head v weight e is) ∙ q,
-    ),
-  )
+  out_forth : (e : Edge) → IsEdgeOf v e → inside (first_side v e) ≡ true → inside (other_side v e) ≡ false → Leads (start_residual steep weight) (window_shape v steep weight) inside
+  out_forth e is p q =
+      elim (kinds steep (weight (edge_number v e))) [
+        | inl f ↦ through e is 0 (omega arith) refl (let z = f.0 in rw z refl) p q
+        | inr (inl f) ↦ through e is 0 (omega arith) refl (let z = f.0.0 in let n = f.1 in rw (z, n) refl) p q
+        | inr (inr f) ↦ through e is 4 (omega arith) (steep_taken steep (weight (edge_number v e)) f) (let z = f.0.0 in let n = f.1 in rw (z, n) refl) p q
+      ]
 
-  out_back : (e : Edge) → IsEdgeOf v e → inside (other_side v e) ≡ true → inside (first_side v e) ≡ false → Leads (window_shape v weight) inside
-  out_back e is p q = (
-    arc_across v e + 2,
-    (
-      back_is_arc v weight e is,
-      start_even (arc_across v e + 2) (edge_number v e * 2 + 1) (omega arith),
-      ap inside (back_tail v weight e is) ∙ p,
-      ap inside (back_head v weight e is) ∙ q,
-    ),
-  )
+  out_back : (e : Edge) → IsEdgeOf v e → inside (other_side v e) ≡ true → inside (first_side v e) ≡ false → Leads (start_residual steep weight) (window_shape v steep weight) inside
+  out_back e is p q =
+      elim (kinds steep (weight (edge_number v e))) [
+        | inl f ↦ through e is 2 (omega arith) refl (let z = f.0 in rw z refl) p q
+        | inr (inl f) ↦ through e is 2 (omega arith) refl (let z = f.0.0 in let n = f.1 in rw (z, n) refl) p q
+        | inr (inr f) ↦ through e is 6 (omega arith) (steep_taken steep (weight (edge_number v e)) f) (let z = f.0.0 in let n = f.1 in rw (z, n) refl) p q
+      ]
 
   module _ (y : ℕ) (row : (v.y0 ≤ y) × (y < v.y1)) where
     edge : (i : ℕ) → i < v.x1 - v.x0 → IsEdgeOf v (down_edge (v.x0 + i) y)
@@ -112,7 +98,7 @@ module _ (v : Window) (weight : ℕ → ℕ) (inside : ℕ → Bool) where
         other_down v (down_edge (v.x0 + (i + 1)) y) refl ∙ left_inside v (v.x0 + (i + 1)) y (omega arith) ∙ ap (λ (x : ℕ). node_at v x y) e
 
     -- leftwards along a row, from a cell to the outside
-    leaves : (i : ℕ) → i < v.x1 - v.x0 → inside (node_at v (v.x0 + i) y) ≡ true → inside (cells_of v) ≡ false → Leads (window_shape v weight) inside
+    leaves : (i : ℕ) → i < v.x1 - v.x0 → inside (node_at v (v.x0 + i) y) ≡ true → inside (cells_of v) ≡ false → Leads (start_residual steep weight) (window_shape v steep weight) inside
     leaves zero l p q = out_forth (down_edge (v.x0 + 0) y) (edge 0 l) (ap inside (first 0) ∙ p) (ap inside other_first ∙ q)
     leaves (suc i) l p q =
         let e : suc i ≡ i + 1 = omega arith in
@@ -122,7 +108,7 @@ module _ (v : Window) (weight : ℕ → ℕ) (inside : ℕ → Bool) where
           | inr t ↦ out_forth (down_edge (v.x0 + (i + 1)) y) (edge (i + 1) (omega (arith, l))) (ap inside (first (i + 1)) ∙ at) (ap inside (other_next i) ∙ t)
         ]
 
-    enters : (i : ℕ) → i < v.x1 - v.x0 → inside (node_at v (v.x0 + i) y) ≡ false → inside (cells_of v) ≡ true → Leads (window_shape v weight) inside
+    enters : (i : ℕ) → i < v.x1 - v.x0 → inside (node_at v (v.x0 + i) y) ≡ false → inside (cells_of v) ≡ true → Leads (start_residual steep weight) (window_shape v steep weight) inside
     enters zero l p q = out_back (down_edge (v.x0 + 0) y) (edge 0 l) (ap inside other_first ∙ q) (ap inside (first 0) ∙ p)
     enters (suc i) l p q =
         let e : suc i ≡ i + 1 = omega arith in
@@ -133,7 +119,7 @@ module _ (v : Window) (weight : ℕ → ℕ) (inside : ℕ → Bool) where
         ]
 
   -- a node that is not on the outside's side is a cell
-  is_cell : (u : ℕ) (t : Bool) → u < (window_shape v weight).nodes → inside u ≡ t → (inside (cells_of v) ≡ t → ⊥) → u < cells_of v
+  is_cell : (u : ℕ) (t : Bool) → u < (window_shape v steep weight).nodes → inside u ≡ t → (inside (cells_of v) ≡ t → ⊥) → u < cells_of v
   is_cell u t l e n =
       elim (below_or_last u (cells_of v) (omega (arith, l))) [
         | inl m ↦ m
@@ -143,7 +129,7 @@ module _ (v : Window) (weight : ℕ → ℕ) (inside : ℕ → Bool) where
   column : (u : ℕ) → u < cells_of v → u % (v.x1 - v.x0) < v.x1 - v.x0
   column u l = mod_below u (v.x1 - v.x0) (has_columns u (v.x1 - v.x0) (v.y1 - v.y0) l)
 
-  joins : (u w : ℕ) → u < (window_shape v weight).nodes → w < (window_shape v weight).nodes → inside u ≡ true → inside w ≡ false → Leads (window_shape v weight) inside
+  joins : (u w : ℕ) → u < (window_shape v steep weight).nodes → w < (window_shape v steep weight).nodes → inside u ≡ true → inside w ≡ false → Leads (start_residual steep weight) (window_shape v steep weight) inside
   joins u w l m p q =
       elim (cases_Bool (inside (cells_of v))) [
         | inl t ↦ (
@@ -156,5 +142,5 @@ module _ (v : Window) (weight : ℕ → ℕ) (inside : ℕ → Bool) where
             leaves (v.y0 + u / (v.x1 - v.x0)) (c.2, c.3) (u % (v.x1 - v.x0)) (column u k) (ap inside (node_of_number v u k) ∙ p) t)
       ]
 
-pub grid_is_joined : (v : Window) (weight : ℕ → ℕ) → IsConnected (window_shape v weight)
-grid_is_joined v weight inside u w l m p q = joins v weight inside u w l m p q
+pub grid_is_joined : (v : Window) (steep : ℕ) (weight : ℕ → ℕ) → IsConnected (start_residual steep weight) (window_shape v steep weight)
+grid_is_joined v steep weight inside u w l m p q = joins v steep weight inside u w l m p q

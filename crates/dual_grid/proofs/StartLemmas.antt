@@ -1,9 +1,8 @@
 -- How a grid starts.
-use Rattle.std.proofs.Common.{◌≡◌, ℕ, zero, suc, ◌+◌, ◌-◌, ◌*◌, ◌/◌, ◌%◌, ◌<◌, ◌≤◌, ◌∙◌, sym, ap, refl, arith, List, get_or, inl, inr}
+use Rattle.std.proofs.Common.{◌≡◌, ℕ, zero, suc, ◌+◌, ◌-◌, ◌*◌, ◌/◌, ◌%◌, ◌<◌, ◌≤◌, ◌∙◌, sym, ap, arith, List, get_or, inl, inr}
 use Rattle.std.specs.Prelude.{ℤ, pos, negsuc, neg_ℤ, ◌+ℤ◌, ◌-ℤ◌, ◌≤ℤ◌, unsigned_abs}
-use Rattle.std.proofs.lemmas.Bool.{eq-eqb, ne_eqb}
 use Rattle.std.proofs.lemmas.Int.{ints}
-use Rattle.std.proofs.lemmas.Nat.{div-add-mod', div_below, mod_below}
+use Rattle.std.proofs.lemmas.Nat.{div_below, mod_below}
 use Rattle.raster_model.specs.declared.scene.Scene.{Scene}
 use Rattle.raster_model.specs.declared.tiling.Window.{Window}
 use Rattle.raster_model.specs.Sums.{Field}
@@ -12,17 +11,15 @@ use Rattle.raster_model.specs.Scene.{raster_of}
 use Rattle.raster_model.specs.Tiles.{IsWindowOf}
 use Rattle.raster_model.specs.declared.tiling.Tiling.{Tiling}
 use Rattle.raster_model.proofs.Exact.{residue_is_small}
-use Rattle.flow_network.specs.Nets.{Shape, State, IsArc, positive_part, total_excess}
+use Rattle.flow_network.specs.Nets.{Shape, State, positive_part, total_excess}
 use Rattle.flow_network.specs.Growing.{supply_sum, supply_sizes}
 use Rattle.wrapped_gradient.specs.Gradients.{AreGradientsOf, residue_at}
 use Rattle.wrapped_gradient.specs.GradientsView.{GradientsView}
 use Rattle.wrapped_gradient.specs.Windows.{IsCellOf}
 use Rattle.wrapped_gradient.proofs.GradientLemmas.{residues_are}
-use Rattle.dual_grid.specs.Grids.{residual_at, window_shape}
 use Rattle.dual_grid.specs.Nodes.{cells_of}
-use Rattle.dual_grid.specs.Starts.{cell_value, supply_at, start_residual, IsAtStart}
+use Rattle.dual_grid.specs.Starts.{cell_value, supply_at, IsAtStart}
 use Rattle.dual_grid.specs.Building.{AreCellSupplies, IsSmallWindow}
-use Rattle.dual_grid.proofs.ArcLemmas.{arc_taken, four_places, free_or_charged, free_place}
 use Rattle.dual_grid.proofs.EdgeLemmas.{few_cells, has_columns}
 use Rattle.dual_grid.proofs.SupplyLemmas.{supply_inside, supply_outside, sum_within}
 use Rattle.sums_and_lists.specs.Sums.{sum_below}
@@ -112,8 +109,8 @@ module _ (f : Field ℤ) (v : Window) (small : (x y : ℕ) → unsigned_abs (f x
         rw e all_sizes
 
   -- at the start the positive excesses are at most the cells
-  pub few_positive : (s : Shape) (g : State) → s.nodes ≡ cells_of v + 1 → IsAtStart f v s g → total_excess s g ≤ℤ pos (cells_of v)
-  few_positive s g nodes start =
+  pub few_positive : (begin : ℕ → ℕ) (s : Shape) (g : State) → s.nodes ≡ cells_of v + 1 → IsAtStart begin f v s g → total_excess s g ≤ℤ pos (cells_of v)
+  few_positive begin s g nodes start =
       let part = λ (u : ℕ). positive_part (g.excess u) in
       let e : total_excess s g ≡ sum_below (cells_of v + 1) (λ u. positive_part (supply_at f v u)) = ap (λ (n : ℕ). sum_below n part) nodes ∙ sum_below-same (cells_of v + 1) part (λ u. positive_part (supply_at f v u)) (λ u l. ap positive_part (start.excess u (omega (arith, nodes, l)))) in
       rw e all_parts
@@ -136,35 +133,8 @@ tile_is_small g tile v is small =
     let sides = g.sides in
     record { across = (a.0, omega (arith, small, sides)); along = (b.0, omega (arith, small, sides)) }
 
--- the residuals at the start: on arcs of even numbers, and on their twins
-pub start_even : (a k : ℕ) → a ≡ k * 2 → start_residual a ≡ 16130
-start_even a k e = let t = eq-eqb (a % 2) 0 (omega (arith, e)) in rw t refl
-
-pub start_odd : (a k : ℕ) → a ≡ k * 2 + 1 → start_residual a ≡ 0
-start_odd a k e = let t = ne_eqb (a % 2) 0 (λ z. omega (arith, e, z)) in rw t refl
-
--- ---- a grid that starts: nothing flows
-module _ (v : Window) (weight : ℕ → ℕ) where
-  -- at a weight of 0 no place of an odd number is taken, and at others nothing went along the arcs whose twins are there
-  pub idle_residual : (a : ℕ) → IsArc (window_shape v weight) a → residual_at (weight (a / 4)) (pos 0) (a % 4) ≡ start_residual a
-  idle_residual a arc =
-      let split = div-add-mod' a 4 in
-      let taken = arc_taken v weight a arc in
-      elim (free_or_charged (weight (a / 4))) [
-        | inl f ↦ (let z = f.0 in elim (free_place (weight (a / 4)) f (a % 4) (mod_below a 4 (omega arith)) taken) [
-          | inl e ↦ rw (e, z) (sym (start_even a (a / 4 * 2) (omega (arith, split, e))))
-          | inr e ↦ rw (e, z) (sym (start_even a (a / 4 * 2 + 1) (omega (arith, split, e))))
-        ])
-        | inr f ↦ (let z = f.0 in elim (four_places (a % 4) (mod_below a 4 (omega arith))) [
-          | inl e ↦ rw (e, z) (sym (start_even a (a / 4 * 2) (omega (arith, split, e))))
-          | inr (inl e) ↦ rw (e, z) (sym (start_odd a (a / 4 * 2) (omega (arith, split, e))))
-          | inr (inr (inl e)) ↦ rw (e, z) (sym (start_even a (a / 4 * 2 + 1) (omega (arith, split, e))))
-          | inr (inr (inr e)) ↦ rw (e, z) (sym (start_odd a (a / 4 * 2 + 1) (omega (arith, split, e))))
-        ])
-      ]
-
 -- at the start few of a scene's residues are to flow
-pub few_of_scene : (s : Scene) (v : Window) (z : Shape) (g : State) → IsSmallWindow v → z.nodes ≡ cells_of v + 1 → IsAtStart (residue (raster_of s)) v z g → total_excess z g ≤ℤ pos 16129
-few_of_scene s v z g little nodes start =
-    let few = few_positive (residue (raster_of s)) v (λ x y. (residue_is_small (raster_of s) x y).1) z g nodes start in
+pub few_of_scene : (begin : ℕ → ℕ) (s : Scene) (v : Window) (z : Shape) (g : State) → IsSmallWindow v → z.nodes ≡ cells_of v + 1 → IsAtStart begin (residue (raster_of s)) v z g → total_excess z g ≤ℤ pos 16129
+few_of_scene begin s v z g little nodes start =
+    let few = few_positive (residue (raster_of s)) v (λ x y. (residue_is_small (raster_of s) x y).1) begin z g nodes start in
     omega (arith, ints, few, few_cells v little)

@@ -23,15 +23,16 @@ sum_below-rows w (suc h) f =
     let k : suc h ≡ h + 1 = omega arith in
     rw e (rw k (sum_below-parts (h * w) w f ∙ ap (λ (z : ℤ). z +ℤ sum_below w (λ i. f (h * w + i))) (sum_below-rows w h f) ∙ sym (sum_below-more h (λ y. sum_below w (λ x. f (y * w + x))))))
 
--- four at a time
-pub sum_below-fours : (n : ℕ) (f : ℕ → ℤ) → sum_below (n * 4) f ≡ sum_below n (λ k. f (k * 4) +ℤ f (k * 4 + 1) +ℤ f (k * 4 + 2) +ℤ f (k * 4 + 3))
-sum_below-fours zero f = sum_below-none f ∙ sym (sum_below-none (λ k. f (k * 4) +ℤ f (k * 4 + 1) +ℤ f (k * 4 + 2) +ℤ f (k * 4 + 3)))
-sum_below-fours (suc n) f =
-    let e : suc n * 4 ≡ n * 4 + 1 + 1 + 1 + 1 = omega arith in
-    let k : suc n ≡ n + 1 = omega arith in
-    let two : n * 4 + 1 + 1 ≡ n * 4 + 2 = omega arith in
-    let three : n * 4 + 1 + 1 + 1 ≡ n * 4 + 3 = omega arith in
-    rw e (rw k (omega (arith, ints, sum_below-more (n * 4 + 1 + 1 + 1) f, sum_below-more (n * 4 + 1 + 1) f, sum_below-more (n * 4 + 1) f, sum_below-more (n * 4) f, ap f two, ap f three, sum_below-fours n f, sum_below-more n (λ k. f (k * 4) +ℤ f (k * 4 + 1) +ℤ f (k * 4 + 2) +ℤ f (k * 4 + 3)))))
+-- eight at a time
+pub sum_below-eights : (n : ℕ) (f : ℕ → ℤ) → sum_below (n * 8) f ≡ sum_below n (λ k. f (k * 8) +ℤ f (k * 8 + 1) +ℤ f (k * 8 + 2) +ℤ f (k * 8 + 3) +ℤ f (k * 8 + 4) +ℤ f (k * 8 + 5) +ℤ f (k * 8 + 6) +ℤ f (k * 8 + 7))
+sum_below-eights n f =
+    sum_below-rows 8 n f
+    ∙ sum_below-same n (λ y. sum_below 8 (λ x. f (y * 8 + x))) (λ k. f (k * 8) +ℤ f (k * 8 + 1) +ℤ f (k * 8 + 2) +ℤ f (k * 8 + 3) +ℤ f (k * 8 + 4) +ℤ f (k * 8 + 5) +ℤ f (k * 8 + 6) +ℤ f (k * 8 + 7)) (λ k l. one_row k)
+  where
+    one_row : (k : ℕ) → sum_below 8 (λ x. f (k * 8 + x)) ≡ f (k * 8) +ℤ f (k * 8 + 1) +ℤ f (k * 8 + 2) +ℤ f (k * 8 + 3) +ℤ f (k * 8 + 4) +ℤ f (k * 8 + 5) +ℤ f (k * 8 + 6) +ℤ f (k * 8 + 7)
+    one_row k =
+        let zero_more : k * 8 + 0 ≡ k * 8 = omega arith in
+        omega (arith, ints, sum_below-more 7 (λ x. f (k * 8 + x)), sum_below-more 6 (λ x. f (k * 8 + x)), sum_below-more 5 (λ x. f (k * 8 + x)), sum_below-more 4 (λ x. f (k * 8 + x)), sum_below-more 3 (λ x. f (k * 8 + x)), sum_below-more 2 (λ x. f (k * 8 + x)), sum_below-more 1 (λ x. f (k * 8 + x)), sum_below-more 0 (λ x. f (k * 8 + x)), sum_below-none (λ x. f (k * 8 + x)), ap f zero_more)
 
 sum_where : (n : ℕ) (t : Bool) (f : ℕ → ℤ) → sum_below n (λ i. where_true t (f i)) ≡ where_true t (sum_below n f)
 sum_where n true f = refl

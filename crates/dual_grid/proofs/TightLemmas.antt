@@ -1,4 +1,4 @@
--- Corrections that cancel the residues, and faces that differ by the whole weight wherever something is corrected.
+-- Corrections that cancel the residues, and faces whose differences make the most of each correction.
 use Rattle.std.proofs.Common.{◌≡◌, ℕ, ◌+◌, ◌*◌, ◌≤◌, ◌∙◌, sym, ap, ap₂, arith, List, inl, inr, Bool}
 use Rattle.std.specs.Prelude.{ℤ, pos, neg_ℤ, ◌+ℤ◌, ◌-ℤ◌, ◌*ℤ◌, unsigned_abs, IsTrue, ◌&&◌, if◌then◌else◌}
 use Rattle.std.proofs.lemmas.Int.{ints}
@@ -7,13 +7,13 @@ use Rattle.raster_model.specs.declared.edge.Edge.{Edge}
 use Rattle.raster_model.specs.declared.scene.Scene.{Scene}
 use Rattle.raster_model.specs.declared.tiling.Window.{Window}
 use Rattle.raster_model.specs.Sums.{Field, is_edge, right_edge, down_edge, end_x, end_y}
-use Rattle.raster_model.specs.Raster.{Raster, residue, is_inner, masked_weight}
+use Rattle.raster_model.specs.Raster.{Raster, residue, is_inner, masked_weight, over, steps}
 use Rattle.raster_model.specs.Cells.{face_at}
-use Rattle.raster_model.specs.Certificates.{IsTileEdge, FacesFit, face_difference, face_total, face_product, faces_of_tile}
+use Rattle.raster_model.specs.Certificates.{IsTileEdge, FacesFit, face_bound, face_difference, face_over, face_over_total, face_total, face_product, faces_of_tile}
 use Rattle.raster_model.specs.Scene.{raster_of}
 use Rattle.raster_model.specs.Tiles.{IsWindowOf}
 use Rattle.raster_model.proofs.Planar.{planar}
-use Rattle.raster_model.proofs.SumLemmas.{sum_grid-same, sum_edges-same}
+use Rattle.raster_model.proofs.SumLemmas.{sum_grid-same, sum_edges-add, sum_edges-same}
 use Rattle.raster_model.proofs.TileCells.{cell_count-is, face_outside}
 use Rattle.raster_model.proofs.TileEdges.{ends_within, from_ends}
 use Rattle.raster_model.proofs.TileLeast.{no_column, no_row}
@@ -35,7 +35,7 @@ weight_told : (r : Raster) (v : Window) (unmasked : List Bool) (mask : Field Boo
 weight_told r v unmasked mask e tells i =
     ap₂ (λ (a b : Bool). if a && b then r.weight e else 0) (tells e.x e.y i.start) (tells (end_x e) (end_y e) i.end)
 
-module _ (scene : Scene) (t : ℕ) (v : Window) (window : IsWindowOf scene.tiling t v) (unmasked : List Bool) (mask : Field Bool) (tells : TellsMask v unmasked mask) (f : State) (k : Corrections) (faces : List ℤ) (are : AreFaces f.potential (cells_of v) (cells_of v) faces) (shape : HasShapeOf v k) (small : greatest_of k ≤ 16129) (cancels : CancelResidues (raster_of scene) v k) (fits : (e : Edge) → IsEdgeOf v e → unsigned_abs (f.potential (other_side v e) -ℤ f.potential (first_side v e)) ≤ masked_weight (raster_of scene) (open_in_window v unmasked) e) (tight : (e : Edge) → IsEdgeOf v e → correction_at v k e *ℤ (f.potential (other_side v e) -ℤ f.potential (first_side v e)) ≡ pos (masked_weight (raster_of scene) (open_in_window v unmasked) e * unsigned_abs (correction_at v k e))) where
+module _ (scene : Scene) (t : ℕ) (v : Window) (window : IsWindowOf scene.tiling t v) (unmasked : List Bool) (mask : Field Bool) (tells : TellsMask v unmasked mask) (f : State) (k : Corrections) (faces : List ℤ) (are : AreFaces f.potential (cells_of v) (cells_of v) faces) (shape : HasShapeOf v k) (small : greatest_of k ≤ 16130) (cancels : CancelResidues (raster_of scene) v k) (fits : (e : Edge) → IsEdgeOf v e → unsigned_abs (f.potential (other_side v e) -ℤ f.potential (first_side v e)) ≤ (raster_of scene).steep * masked_weight (raster_of scene) (open_in_window v unmasked) e) (tight : (e : Edge) → IsEdgeOf v e → correction_at v k e *ℤ (f.potential (other_side v e) -ℤ f.potential (first_side v e)) ≡ pos (masked_weight (raster_of scene) (open_in_window v unmasked) e * steps (raster_of scene).steep (correction_at v k e) + over (masked_weight (raster_of scene) (open_in_window v unmasked) e) (f.potential (other_side v e) -ℤ f.potential (first_side v e)))) where
   weight_is : (e : Edge) → IsEdgeOf v e → masked_weight (raster_of scene) (open_in_window v unmasked) e ≡ masked_weight (raster_of scene) mask e
   weight_is e i = weight_told (raster_of scene) v unmasked mask e tells i
 
@@ -48,12 +48,12 @@ module _ (scene : Scene) (t : ℕ) (v : Window) (window : IsWindowOf scene.tilin
       rw (difference_of_nodes scene t v window f faces are e, sym (weight_is e j)) (fits e j)
 
   -- each edge's part of the two sums
-  edge_part : (e : Edge) → IsTrue (is_edge (raster_of scene).width (raster_of scene).height e) → correction_at v k e *ℤ face_difference (faces_of_tile (raster_of scene) t (face_at (raster_of scene) t faces)) e ≡ where_true (is_inner (raster_of scene) t e) (pos (masked_weight (raster_of scene) mask e * unsigned_abs (correction_at v k e)))
+  edge_part : (e : Edge) → IsTrue (is_edge (raster_of scene).width (raster_of scene).height e) → correction_at v k e *ℤ face_difference (faces_of_tile (raster_of scene) t (face_at (raster_of scene) t faces)) e ≡ where_true (is_inner (raster_of scene) t e) (pos (masked_weight (raster_of scene) mask e * steps (raster_of scene).steep (correction_at v k e))) +ℤ face_over (raster_of scene) mask t (face_at (raster_of scene) t faces) e
   edge_part e i =
       elim (cases_Bool (is_inner (raster_of scene) t e)) [
         | inl inner ↦ (
             let j = tile_edge e (and_from (is_edge (raster_of scene).width (raster_of scene).height e) (is_inner (raster_of scene) t e) i inner) in
-            rw (inner, difference_of_nodes scene t v window f faces are e, sym (weight_is e j)) (tight e j))
+            rw (inner, difference_of_nodes scene t v window f faces are e, sym (weight_is e j)) (in_two _ _ _ (tight e j)))
         | inr outer ↦ (
             let n = λ (j : IsEdgeOf v e). false≢true (sym outer ∙ (and_parts (is_edge (raster_of scene).width (raster_of scene).height e) (is_inner (raster_of scene) t e) (from_ends scene t v window e j.start j.end)).1) in
             let sides = sides_outside v e n in
@@ -61,6 +61,9 @@ module _ (scene : Scene) (t : ℕ) (v : Window) (window : IsWindowOf scene.tilin
             rw (outer, none) (omega (arith, ints)))
       ]
     where
+      in_two : (z : ℤ) (a b : ℕ) → z ≡ pos (a + b) → z ≡ pos a +ℤ pos b
+      in_two z a b e = omega (arith, ints, e)
+
       level : (a b c : ℤ) → a ≡ c → b ≡ c → a -ℤ b ≡ pos 0
       level a b c p q = omega (arith, ints, p, q)
 
@@ -75,15 +78,25 @@ module _ (scene : Scene) (t : ℕ) (v : Window) (window : IsWindowOf scene.tilin
       turned : (p q b l z : ℤ) → p +ℤ q -ℤ b -ℤ l ≡ neg_ℤ z → z ≡ b +ℤ l -ℤ p -ℤ q
       turned p q b l z e = omega (arith, ints, e)
 
-  totals_meet : face_total (raster_of scene) t (face_at (raster_of scene) t faces) ≡ correction_cost (raster_of scene) mask t v k
-  unfolding face_total face_product correction_cost
+  -- what each inner edge adds to the cost
+  cost_part : Edge → ℤ
+  cost_part e = where_true (is_inner (raster_of scene) t e) (pos (masked_weight (raster_of scene) mask e * steps (raster_of scene).steep (correction_at v k e)))
+
+  totals_meet : face_bound (raster_of scene) mask t (face_at (raster_of scene) t faces) ≡ correction_cost (raster_of scene) mask t v k
+  unfolding face_total face_product face_over_total correction_cost cost_part
   totals_meet =
-      let w = (raster_of scene).width in
-      let h = (raster_of scene).height in
-      let face = faces_of_tile (raster_of scene) t (face_at (raster_of scene) t faces) in
-      sum_grid-same w h (λ x y. face x y *ℤ residue (raster_of scene) x y) (λ x y. face x y *ℤ (correction_at v k (right_edge x (y + 1)) +ℤ correction_at v k (down_edge x y) -ℤ correction_at v k (right_edge x y) -ℤ correction_at v k (down_edge (x + 1) y))) (λ x y l m. cell_part x y)
-      ∙ planar w h face (correction_at v k) (no_column (raster_of scene) t (face_at (raster_of scene) t faces)) (no_row (raster_of scene) t (face_at (raster_of scene) t faces))
-      ∙ sum_edges-same w h (λ e. correction_at v k e *ℤ face_difference face e) (λ e. where_true (is_inner (raster_of scene) t e) (pos (masked_weight (raster_of scene) mask e * unsigned_abs (correction_at v k e)))) edge_part
+      let r = raster_of scene in
+      let w = r.width in
+      let h = r.height in
+      let face = faces_of_tile r t (face_at r t faces) in
+      less _ _ _
+      (sum_grid-same w h (λ x y. face x y *ℤ residue r x y) (λ x y. face x y *ℤ (correction_at v k (right_edge x (y + 1)) +ℤ correction_at v k (down_edge x y) -ℤ correction_at v k (right_edge x y) -ℤ correction_at v k (down_edge (x + 1) y))) (λ x y l m. cell_part x y)
+      ∙ planar w h face (correction_at v k) (no_column r t (face_at r t faces)) (no_row r t (face_at r t faces))
+      ∙ sum_edges-same w h (λ e. correction_at v k e *ℤ face_difference face e) (λ e. cost_part e +ℤ face_over r mask t (face_at r t faces) e) edge_part
+      ∙ sum_edges-add w h cost_part (face_over r mask t (face_at r t faces)))
+    where
+      less : (total cost above : ℤ) → total ≡ cost +ℤ above → total -ℤ above ≡ cost
+      less total cost above e = omega (arith, ints, e)
 
   pub tight_answer : AreCertifiedCorrections (raster_of scene) mask t v k faces
   tight_answer = record {

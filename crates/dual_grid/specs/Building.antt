@@ -45,18 +45,18 @@ pub record IsEdgeBelow (v : Window) (u high : ℕ) (o : Option ℕ) : Type 0 whe
   pub ended : o ≡ None → LiesAtNone v u 0 high
 
 -- across an edge of the weight w, an arc in the place k starts at a node, which may lie on the first side, on the other, on both or on neither
-abbrev pub starts_at : ℕ → Bool → Bool → ℕ → Bool
-starts_at w at_first at_other k = is_taken w k && (if leads_forth k then at_first else at_other)
+abbrev pub starts_at : ℕ → ℕ → Bool → Bool → ℕ → Bool
+starts_at steep w at_first at_other k = is_taken steep w k && (if leads_forth k then at_first else at_other)
 
 -- o is the greatest place below `high` of an arc that starts at such a node, or None if there is none
-pub record IsPlaceBelow (w : ℕ) (at_first at_other : Bool) (high : ℕ) (o : Option ℕ) : Type 0 where
-  pub found : (k : ℕ) → o ≡ Some k → (k < high) × IsTrue (starts_at w at_first at_other k) × ((j : ℕ) → k < j → j < high → starts_at w at_first at_other j ≡ false)
-  pub ended : o ≡ None → (j : ℕ) → j < high → starts_at w at_first at_other j ≡ false
+pub record IsPlaceBelow (steep w : ℕ) (at_first at_other : Bool) (high : ℕ) (o : Option ℕ) : Type 0 where
+  pub found : (k : ℕ) → o ≡ Some k → (k < high) × IsTrue (starts_at steep w at_first at_other k) × ((j : ℕ) → k < j → j < high → starts_at steep w at_first at_other j ≡ false)
+  pub ended : o ≡ None → (j : ℕ) → j < high → starts_at steep w at_first at_other j ≡ false
 
 -- o is the greatest arc that starts at u, of those across the edge with the number n in places below `high`, or None if there is none
 pub record IsOutAcross (s : Shape) (u n high : ℕ) (o : Option ℕ) : Type 0 where
-  pub found : (a : ℕ) → o ≡ Some a → (n * 4 ≤ a) × IsGreatest s u (n * 4 + high) a
-  pub ended : o ≡ None → NoneBetween s u (n * 4) (n * 4 + high)
+  pub found : (a : ℕ) → o ≡ Some a → (n * 8 ≤ a) × IsGreatest s u (n * 8 + high) a
+  pub ended : o ≡ None → NoneBetween s u (n * 8) (n * 8 + high)
 
 -- the corrections are the flows across the edges, in the order of the edges' numbers
 pub record AreEdgeFlows (v : Window) (flow : ℕ → ℤ) (k : Corrections) : Type 0 where

@@ -49,7 +49,3 @@ edge_number v e = if e.down then rights_of v + place_in v e.x e.y else (e.y - v.
 -- the edge with a number
 unfoldable pub edge_of : Window → ℕ → Edge
 edge_of v n = if nat_lt n (rights_of v) then right_edge (v.x0 + n % (width_of v - 1)) (v.y0 + n / (width_of v - 1)) else down_edge (v.x0 + (n - rights_of v) % width_of v) (v.y0 + (n - rights_of v) / width_of v)
-
--- the first of the arcs across an edge
-abbrev pub arc_across : Window → Edge → ℕ
-arc_across v e = edge_number v e * 4

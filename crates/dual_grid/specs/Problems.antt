@@ -1,10 +1,10 @@
 -- What a tile asks of its corrections and faces: weights and residues as lists hold them, and lists that answer.
-use Rattle.std.specs.Prelude.{◌≡◌, ℕ, ◌<◌, ◌≤◌, ℤ, pos, neg_ℤ, ◌-ℤ◌, ◌*ℤ◌, Bool, List, length, slice_index_or, unsigned_abs}
+use Rattle.std.specs.Prelude.{◌≡◌, ℕ, ◌+◌, ◌*◌, ◌<◌, ◌≤◌, ℤ, pos, neg_ℤ, ◌-ℤ◌, ◌*ℤ◌, Bool, List, length, slice_index_or, unsigned_abs}
 use Rattle.raster_model.specs.declared.edge.Edge.{Edge}
 use Rattle.raster_model.specs.declared.scene.Scene.{Scene}
 use Rattle.raster_model.specs.declared.tiling.Window.{Window}
 use Rattle.raster_model.specs.Sums.{Field, down_edge, right_edge}
-use Rattle.raster_model.specs.Raster.{masked_weight, residue}
+use Rattle.raster_model.specs.Raster.{masked_weight, over, residue, steps}
 use Rattle.raster_model.specs.Scene.{raster_of}
 use Rattle.raster_model.specs.Tiles.{tiles_of, window_of}
 use Rattle.wrapped_gradient.specs.declared.corrections.Corrections.{Corrections}
@@ -25,6 +25,7 @@ problem_residue p x y = slice_index_or p.residues.items (node_at p.window x y) (
 -- the problem of a tile of a scene; the list tells of each pixel of the tile's window whether it is open
 pub record IsProblemOf (s : Scene) (t : ℕ) (unmasked : List Bool) (p : Problem) : Type 0 where
   pub window : p.window ≡ window_of s.tiling t
+  pub steep : p.steep ≡ s.terms.steep
   pub weights : (e : Edge) → IsEdgeOf p.window e → weight_at p e ≡ pos (masked_weight (raster_of s) (open_in_window p.window unmasked) e)
   pub residues : (x y : ℕ) → IsCellOf p.window x y → problem_residue p x y ≡ residue (raster_of s) x y
 
@@ -39,14 +40,14 @@ down_edge_weights s v unmasked x y = pos (masked_weight (raster_of s) (open_in_w
 abbrev pub face_of : List ℤ → ℕ → ℤ
 face_of faces u = slice_index_or faces u (pos 0)
 
--- a difference of faces is within a weight and, if there is a correction, is the whole weight in its direction
-pub record IsTight (difference weight correction : ℤ) : Type 0 where
-  pub within : unsigned_abs difference ≤ unsigned_abs weight
-  pub whole : correction *ℤ difference ≡ weight *ℤ pos (unsigned_abs correction)
+-- a difference of faces is at most the steepness times the weight, and correction times difference is the most that it can be: what the correction costs, and that by which the difference is above the weight
+pub record IsTight (steep weight : ℕ) (difference correction : ℤ) : Type 0 where
+  pub within : unsigned_abs difference ≤ steep * weight
+  pub whole : correction *ℤ difference ≡ pos (weight * steps steep correction + over weight difference)
 
 -- this holds across an edge
 abbrev pub IsTightAt : Problem → Corrections → List ℤ → Edge → Type 0
-IsTightAt p k faces e = IsTight (face_of faces (first_side p.window e) -ℤ face_of faces (other_side p.window e)) (weight_at p e) (correction_at p.window k e)
+IsTightAt p k faces e = IsTight p.steep (unsigned_abs (weight_at p e)) (face_of faces (first_side p.window e) -ℤ face_of faces (other_side p.window e)) (correction_at p.window k e)
 
 -- the corrections around a cell cancel its residue
 abbrev pub IsCancelled : Problem → Corrections → ℕ → ℕ → Type 0
@@ -56,9 +57,9 @@ IsCancelled p k x y = round (correction_at p.window k) x y ≡ neg_ℤ (problem_
 abbrev pub HaveShape : Problem → Corrections → List ℤ → Type 0
 HaveShape p k faces = HasShapeOf p.window k × (length faces ≡ cells_of p.window)
 
--- no number of the list is above 16129 on either side of 0
+-- no number of the list is above 16130 on either side of 0
 abbrev pub AreSmallNumbers : List ℤ → Type 0
-AreSmallNumbers zs = (i : ℕ) → unsigned_abs (slice_index_or zs i (pos 0)) ≤ 16129
+AreSmallNumbers zs = (i : ℕ) → unsigned_abs (slice_index_or zs i (pos 0)) ≤ 16130
 
 -- corrections and a list of faces that are an answer for each tile of which this is the problem
 abbrev pub IsAnsweredBy : Problem → Corrections → List ℤ → Type 0

@@ -1,5 +1,5 @@
 -- How a grid starts: what flows, what excess each node has, and which pixels are open.
-use Rattle.std.specs.Prelude.{◌≡◌, ℕ, ◌+◌, ◌-◌, ◌/◌, ◌%◌, ◌<◌, ℤ, pos, negsuc, neg_ℤ, Bool, ◌==◌, if◌then◌else◌, nat_lt, List, slice_index_or}
+use Rattle.std.specs.Prelude.{◌≡◌, ℕ, ◌+◌, ◌-◌, ◌/◌, ◌%◌, ◌<◌, ℤ, pos, neg_ℤ, Bool, if◌then◌else◌, nat_lt, List, slice_index_or}
 use Rattle.raster_model.specs.declared.tiling.Window.{Window}
 use Rattle.raster_model.specs.Sums.{Field}
 use Rattle.raster_model.specs.Tiles.{IsWithin, place_in}
@@ -15,16 +15,13 @@ cell_value f v u = f (v.x0 + u % (v.x1 - v.x0)) (v.y0 + u / (v.x1 - v.x0))
 unfoldable pub supply_at : Field ℤ → Window → ℕ → ℤ
 supply_at f v u = if nat_lt u (cells_of v) then cell_value f v u else neg_ℤ (sum_below (cells_of v) (cell_value f v))
 
--- an arc's residual capacity at the start: 16130 if its number is even, which is more than ever flows, and 0 if it is odd
-abbrev pub start_residual : ℕ → ℕ
-start_residual a = if a % 2 == 0 then 16130 else 0
-
-abbrev pub start_state : Field ℤ → Window → State
-start_state f v = record { residual = start_residual; excess = supply_at f v; potential = λ u. pos 0 }
+-- the state at the start, where each arc has the residual capacity `start`
+abbrev pub start_state : (ℕ → ℕ) → Field ℤ → Window → State
+start_state start f v = record { residual = start; excess = supply_at f v; potential = λ u. pos 0 }
 
 -- the network is as at the start
-pub record IsAtStart (f : Field ℤ) (v : Window) (s : Shape) (g : State) : Type 0 where
-  pub residual : (a : ℕ) → IsArc s a → g.residual a ≡ start_residual a
+pub record IsAtStart (start : ℕ → ℕ) (f : Field ℤ) (v : Window) (s : Shape) (g : State) : Type 0 where
+  pub residual : (a : ℕ) → IsArc s a → g.residual a ≡ start a
   pub excess : (u : ℕ) → u < s.nodes → g.excess u ≡ supply_at f v u
   pub potential : (u : ℕ) → u < s.nodes → g.potential u ≡ pos 0
 

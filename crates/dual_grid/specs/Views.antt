@@ -10,33 +10,42 @@ use Rattle.flow_network.specs.Moves.{IsConserved}
 use Rattle.flow_network.proofs.CallerLemmas.{conserved-refl, conserved-trans}
 use Rattle.dual_grid.specs.declared.grid.DualGrid.{DualGrid}
 use Rattle.dual_grid.specs.Starts.{start_state, open_in_window}
-use Rattle.dual_grid.specs.Grids.{AreWeighed}
-use Rattle.dual_grid.specs.Layout.{shape_by, state_by}
+use Rattle.dual_grid.specs.Grids.{AreWeighed, start_residual}
+use Rattle.dual_grid.specs.Layout.{shape_by, state_by, weight_in}
 
 abbrev pub grid_shape : DualGrid → Shape
-grid_shape g = shape_by g.window g.weights.items
+grid_shape g = shape_by g.window g.steep g.weights.items
 
 abbrev pub grid_state : DualGrid → State
-grid_state g = state_by g.weights.items g.flows.items g.excesses.items g.potentials.items
+grid_state g = state_by g.steep g.weights.items g.flows.items g.excesses.items g.potentials.items
+
+-- what residual capacity the arcs of a grid have at the start
+abbrev pub grid_start : DualGrid → ℕ → ℕ
+grid_start g = start_residual g.steep (weight_in g.weights.items)
 
 -- the grid of a tile of a scene; the list tells of each pixel of the tile's window whether it is open; flow may have moved
 pub record IsGridOf (s : Scene) (t : ℕ) (unmasked : List Bool) (g : DualGrid) : Type 0 where
   pub window : g.window ≡ window_of s.tiling t
-  pub weighed : AreWeighed (raster_of s) (open_in_window g.window unmasked) g.window (grid_shape g)
-  pub conserved : IsConserved (grid_shape g) (start_state (residue (raster_of s)) g.window) (grid_state g)
+  pub steep : g.steep ≡ s.terms.steep
+  pub weighed : AreWeighed (raster_of s) (open_in_window g.window unmasked) g.window (weight_in g.weights.items)
+  pub conserved : IsConserved (grid_shape g) (start_state (grid_start g) (residue (raster_of s)) g.window) (grid_state g)
 
 -- grids that were made from the same things
 pub record HaveOneOrigin (g h : DualGrid) : Type 0 where
   pub window : h.window ≡ g.window
+  pub steep : h.steep ≡ g.steep
+  pub weights : h.weights.items ≡ g.weights.items
   pub shape : grid_shape h ≡ grid_shape g
   pub conserved : IsConserved (grid_shape g) (grid_state g) (grid_state h)
 
 pub stays_of_one_origin : (g : DualGrid) → HaveOneOrigin g g
-stays_of_one_origin g = record { window = refl; shape = refl; conserved = conserved-refl (grid_shape g) (grid_state g) }
+stays_of_one_origin g = record { window = refl; steep = refl; weights = refl; shape = refl; conserved = conserved-refl (grid_shape g) (grid_state g) }
 
 pub follows_of_one_origin : (g h k : DualGrid) → HaveOneOrigin g h → HaveOneOrigin h k → HaveOneOrigin g k
 follows_of_one_origin g h k p q = record {
   window = q.window ∙ p.window;
+  steep = q.steep ∙ p.steep;
+  weights = q.weights ∙ p.weights;
   shape = q.shape ∙ p.shape;
   conserved = conserved-trans (grid_shape g) (grid_state g) (grid_state h) (grid_state k) p.conserved (subst (λ (s : Shape). IsConserved s (grid_state h) (grid_state k)) p.shape q.conserved);
 }

@@ -1,6 +1,6 @@
 ghost use Rattle.dual_grid.specs.Problems.{AreSmallNumbers, HaveShape, IsCancelled, IsTight, IsTightAt, face_of, problem_residue};
 ghost use Rattle.raster_model.specs.Sums.{down_edge, right_edge};
-ghost use Rattle.std.specs.Prelude.{◌≡◌, ◌<◌, ◌≤◌, ℕ, IsTrue, pos, slice_index_or, unsigned_abs};
+ghost use Rattle.std.specs.Prelude.{◌≡◌, ◌*◌, ◌*ℤ◌, ◌<◌, ◌≤◌, ℕ, IsTrue, pos, slice_index_or, unsigned_abs};
 ghost use Rattle.wrapped_gradient.specs.Corrections.{correction_at};
 ghost use Rattle.wrapped_gradient.specs.Windows.{IsCellOf, IsEdgeOf, edge_value};
 
@@ -21,13 +21,13 @@ pub(crate) fn has_shape(problem: &Problem, corrections: &Corrections, faces: &[i
         && faces.len() == across * along
 }
 
-/// Whether no correction is above 16,129 on either side of 0, which is all that the cells of the largest tile could
-/// send.
+/// Whether no correction is above 16,130 on either side of 0, which is one more than all that the cells of the largest
+/// tile could send.
 pub(crate) fn are_small(corrections: &[i32]) -> bool
     ensures { IsTrue result → AreSmallNumbers corrections.now }
 {
     for correction in corrections {
-        if correction.unsigned_abs() > 16_129 {
+        if correction.unsigned_abs() > 16_130 {
             return false;
         }
     }
@@ -123,20 +123,35 @@ fn face(faces: &[i64], node: u32) -> i64
     faces.get(node as usize).copied().unwrap_or(0)
 }
 
-/// Whether a difference of faces is within a weight and, if there is a correction, is the whole weight in its
-/// direction.
-fn is_tight(difference: i64, weight: i32, correction: i32) -> bool
-    ensures { IsTrue result → IsTight difference weight correction }
+/// Whether a difference of faces goes with a correction: it is within the weight if nothing is corrected, at least the
+/// weight in the direction of a correction by one cycle, and the steepness times the weight, which it never is above, if
+/// there are more.
+fn is_tight(steep: u32, weight: u32, difference: i64, correction: i32) -> bool
+    ensures { IsTrue result → IsTight steep weight difference correction }
 {
-    let weight = i64::from(weight);
-    if difference.unsigned_abs() > weight.unsigned_abs() {
-        false
-    } else if correction == 0 {
-        true
-    } else if correction > 0 {
-        difference == weight
+    let size = difference.unsigned_abs();
+    let weight = u64::from(weight);
+    let most = u64::from(steep) * weight;
+    if size > most {
+        return false;
+    }
+    if correction == 0 {
+        return size <= weight;
+    }
+    if size < weight || !goes_along(difference, correction) {
+        return false;
+    }
+    correction.unsigned_abs() == 1 || size == most
+}
+
+/// Whether a difference has the direction of a correction, or none.
+fn goes_along(difference: i64, correction: i32) -> bool
+    ensures { IsTrue result → correction *ℤ difference ≡ pos (unsigned_abs correction * unsigned_abs difference) }
+{
+    if correction > 0 {
+        difference >= 0
     } else {
-        difference == -weight
+        difference <= 0
     }
 }
 
@@ -152,7 +167,7 @@ fn is_tight_at(problem: &Problem, corrections: &Corrections, faces: &[i64], edge
     };
     let weight = number(window, &problem.right, &problem.down, edge);
     let correction = number(window, &corrections.right, &corrections.down, edge);
-    is_tight(difference, weight, correction)
+    is_tight(problem.steep, weight.unsigned_abs(), difference, correction)
 }
 
 /// Whether the faces differ so across each right edge of row `y`.

@@ -1,10 +1,11 @@
 ghost use Rattle.dual_grid.specs.Building.{IsSmallWindow};
 ghost use Rattle.dual_grid.specs.Layout.{AreWithinCapacity, FitGrid, shape_by, state_by};
 ghost use Rattle.flow_network.specs.Lists.{HasRoom};
+ghost use Rattle.raster_model.specs.Limits.{IsSteepness};
 ghost use Rattle.flow_network.specs.Nets.{HasReducedCosts, IsNetwork, HasNoExcess, total_excess};
 
 use crate::answering::faces;
-use crate::arcs::{flow_after, leads_forth, place_below, residual_at, twin_place};
+use crate::arcs::{flow_after, leads_forth, place_below, residual_at, size_of_cost, twin_place};
 use crate::beside::{edge_below, first_at, other_at, right_count};
 use crate::listing::{down_weights, right_weights};
 use crate::sides::outside;
@@ -17,16 +18,19 @@ use wrapped_gradient::{Corrections, Gradients};
 /// The network of a tile. Conforms to `FlowNet`.
 ///
 /// Nodes are the cells of the tile's window in row order, and one more for the outside. Across each edge of the window
-/// an arc leads each way, and costs the edge's weight under the mask. What flows from the first side of an edge to the
+/// an arc leads each way, and costs the edge's weight under the mask. If the steepness is above 1, one unit may flow along
+/// it, and all others along a steep arc, which costs the steepness times that. What flows from the first side of an edge to the
 /// other is the edge's correction, and the potential of the outside minus that of a cell is the cell's face.
 /// (Costantini 1998.) A tile one pixel wide or high has no cell: each arc leads from the outside to the outside.
 ///
-/// Arcs are numbers, from which edge and direction follow. At a weight above 0 the two arcs across an edge are never
-/// both in use, because of their reduced costs. At the weight 0 there is one arc and its twin. So one signed flow for
-/// each edge gives all residual capacities.
+/// Arcs are numbers, from which edge and direction follow. At a weight above 0 nothing flows both ways, and along a steep
+/// arc only if the other is full, because of their reduced costs. At the weight 0 there is one arc and its twin. So one
+/// signed flow for each edge gives all residual capacities.
 #[derive(Drop)]
 pub struct DualGrid {
     pub(crate) window: Window,
+    /// The steepness: how many times as much as the first unit across an edge each further one costs.
+    steep: u32,
     /// For each edge, the right edges first, its weight under the mask.
     weights: Vec<i32>,
     /// For each edge, in the same order, what flows from its first side to the other.
@@ -36,11 +40,12 @@ pub struct DualGrid {
     /// For each node, its potential.
     potentials: Vec<i64>,
     ghost small: { IsSmallWindow window },
+    ghost steepness: { IsSteepness steep },
     ghost fit: { FitGrid window weights.items flows.items excesses.items potentials.items },
-    ghost within: { AreWithinCapacity flows.items },
-    ghost is_network: { IsNetwork (shape_by window weights.items) },
-    ghost room: { HasRoom (shape_by window weights.items) (state_by weights.items flows.items excesses.items potentials.items) },
-    ghost has_reduced_costs: { HasReducedCosts (shape_by window weights.items) (state_by weights.items flows.items excesses.items potentials.items) },
+    ghost within: { AreWithinCapacity steep weights.items flows.items },
+    ghost is_network: { IsNetwork (shape_by window steep weights.items) },
+    ghost room: { HasRoom (shape_by window steep weights.items) (state_by steep weights.items flows.items excesses.items potentials.items) },
+    ghost has_reduced_costs: { HasReducedCosts (shape_by window steep weights.items) (state_by steep weights.items flows.items excesses.items potentials.items) },
 }
 
 impl FlowNet for DualGrid {
@@ -65,7 +70,7 @@ impl FlowNet for DualGrid {
     }
 
     fn first_out(&self, node: u32) -> Option<u32> {
-        self.out_below(node, self.flows.len() as u32 * 4)
+        self.out_below(node, self.flows.len() as u32 * 8)
     }
 
     fn next_out(&self, arc: u32) -> Option<u32> {
@@ -73,8 +78,8 @@ impl FlowNet for DualGrid {
     }
 
     fn tail(&self, arc: u32) -> u32 {
-        let edge = arc / 4;
-        if leads_forth(arc % 4) {
+        let edge = arc / 8;
+        if leads_forth(arc % 8) {
             first_at(self.window, edge)
         } else {
             other_at(self.window, edge)
@@ -82,8 +87,8 @@ impl FlowNet for DualGrid {
     }
 
     fn head(&self, arc: u32) -> u32 {
-        let edge = arc / 4;
-        if leads_forth(arc % 4) {
+        let edge = arc / 8;
+        if leads_forth(arc % 8) {
             other_at(self.window, edge)
         } else {
             first_at(self.window, edge)
@@ -91,17 +96,22 @@ impl FlowNet for DualGrid {
     }
 
     fn twin(&self, arc: u32) -> u32 {
-        arc / 4 * 4 + twin_place(self.weight(arc / 4), arc % 4)
+        arc / 8 * 8 + twin_place(self.steep, self.weight(arc / 8), arc % 8)
     }
 
     fn cost(&self, arc: u32) -> i64 {
-        let weight = i64::from(self.weight(arc / 4));
-        if arc % 4 % 2 == 0 { weight } else { -weight }
+        let size = size_of_cost(self.steep, self.weight(arc / 8), arc % 8) as i64;
+        if arc % 8 % 2 == 0 { size } else { -size }
     }
 
     fn residual(&self, arc: u32) -> u64 {
-        let edge = arc / 4;
-        residual_at(self.weight(edge), self.flows[edge as usize], arc % 4)
+        let edge = arc / 8;
+        residual_at(
+            self.steep,
+            self.weight(edge),
+            self.flows[edge as usize],
+            arc % 8,
+        )
     }
 
     fn excess(&self, node: u32) -> i64 {
@@ -115,9 +125,9 @@ impl FlowNet for DualGrid {
     fn push(&mut self, arc: u32, amount: u64) {
         let head = self.head(arc) as usize;
         let tail = self.tail(arc) as usize;
-        let edge = arc as usize / 4;
+        let edge = arc as usize / 8;
         let flow = self.flows[edge];
-        self.flows[edge] = flow_after(flow, arc % 4, amount);
+        self.flows[edge] = flow_after(flow, arc % 8, amount);
         carry(&mut self.excesses, tail, head, amount);
     }
 
@@ -134,7 +144,7 @@ impl DualGrid {
     ghost use Rattle.flow_network.specs.Nets.{IsNextBelow};
     ghost use Rattle.dual_grid.specs.Grids.{HasSmallCosts, IsConnected};
     ghost use Rattle.dual_grid.specs.Starts.{IsAtStart, TellsMask};
-    ghost use Rattle.dual_grid.specs.Views.{IsGridOf, grid_shape, grid_state};
+    ghost use Rattle.dual_grid.specs.Views.{IsGridOf, grid_shape, grid_start, grid_state};
     ghost use Rattle.raster_model.specs.Raster.{residue};
     ghost use Rattle.raster_model.specs.Scene.{raster_of};
     ghost use Rattle.raster_model.specs.Sums.{Field};
@@ -158,10 +168,10 @@ impl DualGrid {
         requires window { gradients.now.window ≡ window_of scene.now.tiling tile }
         requires count { length unmasked.now ≡ width_of gradients.now.window * height_of gradients.now.window }
         ensures grid { IfOk result (λ grid. IsGridOf scene.now tile unmasked.now grid) }
-        ensures start { IfOk result (λ grid. IsAtStart (residue (raster_of scene.now)) (window_of scene.now.tiling tile) (grid_shape grid) (grid_state grid)) }
+        ensures start { IfOk result (λ grid. IsAtStart (grid_start grid) (residue (raster_of scene.now)) (window_of scene.now.tiling tile) (grid_shape grid) (grid_state grid)) }
         ensures small { IfOk result (λ grid. HasSmallCosts (grid_shape grid)) }
         ensures few { IfOk result (λ grid. total_excess (grid_shape grid) (grid_state grid) ≤ℤ pos 16129) }
-        ensures joined { IfOk result (λ grid. IsConnected (grid_shape grid)) }
+        ensures joined { IfOk result (λ grid. IsConnected (grid_start grid) (grid_shape grid)) }
     {
         let window = scene.tiling.window(tile);
         let mut weights = right_weights(alloc, scene, window, unmasked)?;
@@ -172,6 +182,7 @@ impl DualGrid {
         let potentials = vec![in alloc; 0; excesses.len()]?;
         Ok(DualGrid {
             window,
+            steep: scene.terms.steep,
             weights,
             flows,
             excesses,
@@ -184,7 +195,7 @@ impl DualGrid {
     /// each arc from side to side keeps capacity. It fails only for lack of memory.
     pub fn answer(self, alloc: Global) -> Result<(Corrections, Vec<i64>), AllocError>
         requires balanced { HasNoExcess (grid_shape self) (grid_state self) }
-        requires near { IsNearStart (grid_shape self) (grid_state self) }
+        requires near { IsNearStart (grid_start self) (grid_shape self) (grid_state self) }
         ensures { IfOk result (λ made. (s : SceneOf) (t : ℕ) (unmasked : List Bool) (mask : Field Bool) → IsGridOf s t unmasked self → t < tiles_of s.tiling → TellsMask (window_of s.tiling t) unmasked mask → AreCertifiedCorrections (raster_of s) mask t (window_of s.tiling t) made.0 made.1.items) }
     {
         let faces = faces(alloc, &self.potentials, outside(self.window))?;
@@ -204,13 +215,13 @@ impl DualGrid {
     /// The greatest arc that starts at a node, among those across an edge in places below `high`.
     fn out_across(&self, edge: u32, node: u32, high: u32) -> Option<u32>
         requires edge { edge < edges_of self.now.window }
-        requires high { high ≤ 4 }
+        requires high { high ≤ 8 }
         ensures { IsOutAcross (grid_shape self.now) node edge high result }
     {
         let at_first = first_at(self.window, edge) == node;
         let at_other = other_at(self.window, edge) == node;
-        match place_below(self.weight(edge), at_first, at_other, high) {
-            Some(place) => Some(edge * 4 + place),
+        match place_below(self.steep, self.weight(edge), at_first, at_other, high) {
+            Some(place) => Some(edge * 8 + place),
             None => None,
         }
     }
@@ -219,10 +230,10 @@ impl DualGrid {
     fn out_before(&self, edge: u32, node: u32) -> Option<u32>
         requires node { node < (grid_shape self.now).nodes }
         requires edge { edge ≤ edges_of self.now.window }
-        ensures { IsNextBelow (grid_shape self.now) node (edge * 4) result }
+        ensures { IsNextBelow (grid_shape self.now) node (edge * 8) result }
     {
         match edge_below(self.window, node, edge) {
-            Some(before) => self.out_across(before, node, 4),
+            Some(before) => self.out_across(before, node, 8),
             None => None,
         }
     }
@@ -233,11 +244,11 @@ impl DualGrid {
         requires high { high ≤ (grid_shape self.now).arcs }
         ensures { IsNextBelow (grid_shape self.now) node high result }
     {
-        let edge = high / 4;
-        if high % 4 == 0 {
+        let edge = high / 8;
+        if high % 8 == 0 {
             return self.out_before(edge, node);
         }
-        let here = self.out_across(edge, node, high % 4);
+        let here = self.out_across(edge, node, high % 8);
         if here.is_some() {
             here
         } else {

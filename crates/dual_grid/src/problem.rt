@@ -20,6 +20,8 @@ pub struct Problem {
     pub down: Vec<i32>,
     /// The residues of the cells, in cycles.
     pub residues: Vec<i8>,
+    /// The steepness: how many times as much as the first cycle of a correction each further one costs.
+    pub steep: u32,
     pub(crate) ghost small: { IsSmallWindow window },
     pub(crate) ghost within: { (window.x1 < max_side) × (window.y1 < max_side) },
 }
@@ -51,12 +53,14 @@ impl Problem {
             right: right_weights(alloc, scene, window, unmasked)?,
             down: down_weights(alloc, scene, window, unmasked)?,
             residues: residues(alloc, gradients)?,
+            steep: scene.terms.steep,
         })
     }
 
-    /// Whether corrections and faces are an answer. The corrections cancel the residues, and the faces differ across
-    /// each edge by no more than its weight; if the edge is corrected, they differ by the whole weight. Then no
-    /// corrections cost less. (Ahuja, Magnanti and Orlin 1993, section 9.4.)
+    /// Whether corrections and faces are an answer. The corrections cancel the residues. The faces differ across each
+    /// edge by at most its weight if it is not corrected, by no less and at most the steepness times that if it is
+    /// corrected by one cycle, and by the steepness times the weight if by more. Then no corrections cost less. (Ahuja,
+    /// Magnanti and Orlin 1993, section 9.4; section 14.4 for costs that rise.)
     pub fn is_answered_by(&self, corrections: &Corrections, faces: &[i64]) -> bool
         ensures { IsTrue result → IsAnsweredBy self.now corrections.now faces.now }
     {

@@ -23,6 +23,8 @@ pub(crate) struct Forest {
     offsets: [u32; 4],
     /// Whether all signs are turned, so that the outside has no flow to send.
     pub(crate) turned: bool,
+    /// How many times as much as the first unit across an edge each further one costs.
+    steep: i32,
     pub(crate) nodes: Vec<Node>,
     /// The frame without its corners.
     pub(crate) frame: Vec<Inlet>,
@@ -47,11 +49,12 @@ impl Forest {
             stride,
             offsets: [1, u32::MAX, stride, stride.wrapping_neg()],
             turned: sum < 0,
+            steep: grid.steep.cast_signed(),
             nodes: vec![in alloc; BLANK; count as usize]?,
             frame: frame(alloc, across, along)?,
             outside_lacks: sum.wrapping_abs(),
             gate: NONE,
-            waiting: Waiting::new(alloc, count)?,
+            waiting: Waiting::new(alloc, count, reach(grid))?,
         };
         forest.load(grid);
         Ok(forest)
@@ -108,17 +111,21 @@ impl Forest {
     /// Lets a unit flow along an arc.
     pub(crate) fn push_unit(&mut self, tail: u32, direction: u8) {
         let head = self.head(tail, direction);
-        let weight = node_at(&self.nodes, tail).cost(direction).wrapping_abs();
+        let cost = node_at(&self.nodes, tail).cost(direction);
         let unit: i16 = if direction % 2 == 0 { 1 } else { -1 };
         let mut flow = 0;
         if let Some(first) = self.nodes.get_mut(tail.min(head) as usize) {
             flow = first.add_flow(direction, unit).wrapping_mul(unit);
         }
+        let weight = weight_of(flow.wrapping_sub(1), cost, self.steep);
         if let Some(node) = self.nodes.get_mut(tail as usize) {
-            node.set_cost(direction, cost_of(flow, weight));
+            node.set_cost(direction, cost_of(flow, weight, self.steep));
         }
         if let Some(node) = self.nodes.get_mut(head as usize) {
-            node.set_cost(direction ^ 1, cost_of(flow.wrapping_neg(), weight));
+            node.set_cost(
+                direction ^ 1,
+                cost_of(flow.wrapping_neg(), weight, self.steep),
+            );
         }
     }
 }
@@ -213,13 +220,41 @@ fn inlet_at(place: u32, cell: u32, direction: u8) -> Inlet {
     }
 }
 
-/// What one unit more costs across an edge of this weight, along which this much flows.
-fn cost_of(flow: i16, weight: i32) -> i32 {
-    if flow >= 0 {
-        weight
-    } else {
-        weight.wrapping_neg()
+/// What one unit more costs across an edge of this weight, along which this much flows. The first unit each way costs
+/// the weight, and each further one the steepness times that.
+fn cost_of(flow: i16, weight: i32, steep: i32) -> i32 {
+    match flow {
+        0 => weight,
+        -1 => weight.wrapping_neg(),
+        1.. => weight.wrapping_mul(steep),
+        _ => weight.wrapping_mul(steep).wrapping_neg(),
     }
+}
+
+/// The weight of an edge along which this much flows, by what one unit more costs there.
+fn weight_of(flow: i16, cost: i32, steep: i32) -> i32 {
+    let size = cost.wrapping_abs();
+    if flow == 0 || flow == -1 || steep <= 1 {
+        size
+    } else {
+        size / steep
+    }
+}
+
+/// How far ahead of the present a node may wait, at most. Along an edge and back the next units cost twice its weight
+/// together, or less than the steepness times that, and no reduced cost is below 0.
+fn reach(grid: Grid<'_>) -> u32 {
+    let greatest = digits(grid.right) | digits(grid.down);
+    greatest.wrapping_mul(grid.steep.max(2))
+}
+
+/// A number that is no less than any of the weights.
+fn digits(weights: &[i32]) -> u32 {
+    let mut digits = 0;
+    for weight in weights {
+        digits |= weight.cast_unsigned();
+    }
+    digits
 }
 
 /// The sum of residues.

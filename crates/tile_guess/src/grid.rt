@@ -15,6 +15,8 @@ pub struct Grid<'a> {
     pub down: &'a [i32],
     /// The residues of the cells in row order, in cycles.
     pub residues: &'a [i8],
+    /// The steepness, from 1 to 16: how many times as much as the first cycle across an edge each further one costs.
+    pub steep: u32,
 }
 
 /// Corrections of the edges, in whole cycles, and faces of the cells, in the order of the grid's lists.
@@ -25,9 +27,8 @@ pub struct Guess {
     pub faces: Vec<i64>,
 }
 
-/// Guesses corrections that cancel the residues with the least weighted sum, and the faces that certify them. Nothing
-/// is promised of them. If the grid's lists have their lengths and its residues lie from -1 to 1, they are right in
-/// every test, and take two to ten steps for each cell. It never takes more than 4096 steps for each node. It fails
+/// Guesses corrections that cancel the residues at the least cost, and the faces that certify them. Nothing is promised
+/// of them. If the grid's lists have their lengths and its residues lie from -1 to 1, they are right in every test, and take two to ten steps for each cell. It never takes more than 4096 steps for each node. It fails
 /// only for lack of memory.
 ///
 /// The flow leaves cells of positive residue and ends at those of negative residue or outside. Trees grow from all

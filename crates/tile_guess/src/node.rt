@@ -19,8 +19,8 @@ pub(crate) const NEVER: i32 = i32::MAX;
 /// A cell, or a place of the frame around the grid. The places of the frame are the outside together.
 #[derive(Clone, Copy)]
 pub(crate) struct Node {
-    /// What one unit more costs along each arc, by direction: the edge's weight, or minus the weight if flow comes the
-    /// other way.
+    /// What one unit more costs along each arc, by direction: the edge's weight, the steepness times that if a unit
+    /// flows there already, or minus what a unit that comes the other way has cost.
     pub(crate) costs: [i32; 4],
     /// The potential. In a tree the time is added to it.
     pub(crate) height: i32,

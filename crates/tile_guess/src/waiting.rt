@@ -4,11 +4,8 @@ use std::alloc::{AllocError, Global};
 /// How many slots there are for the times of the present block, one for each. A block has this many times.
 const NEAR: u32 = 1024;
 
-/// How many slots there are for later blocks. No time lies further ahead than twice the largest weight, which is 128
-/// blocks.
-const FAR: u32 = 256;
-
-const SLOTS: u32 = 1280;
+/// How many slots there are at most.
+const SLOTS: u32 = 2048;
 
 /// The neighbours of a node in the list where it waits. A slot is a node of its own list, which is a ring. The list of a
 /// tree's nodes goes by `next` alone, since a node waits or is in a tree.
@@ -26,7 +23,9 @@ pub(crate) struct Waiting {
     /// The links of the nodes, then those of the near slots, then those of the far slots.
     links: Vec<Link>,
     /// A binary digit for each slot: 0 only if the slot is empty.
-    marks: [u64; 20],
+    marks: [u64; 32],
+    /// How many slots there are for later blocks, which is a power of 2.
+    far: u32,
     /// How many nodes there are.
     nodes: u32,
     /// The present time, and the first time of its block.
@@ -35,14 +34,16 @@ pub(crate) struct Waiting {
 }
 
 impl Waiting {
-    /// A list of so many nodes, none of which waits.
-    pub(crate) fn new(alloc: Global, nodes: u32) -> Result<Waiting, AllocError> {
+    /// A list of so many nodes, none of which waits. No time will lie further ahead than `reach`.
+    pub(crate) fn new(alloc: Global, nodes: u32, reach: u32) -> Result<Waiting, AllocError> {
+        let far = far_slots(reach);
+        let slots = NEAR.wrapping_add(far);
         let single = Link {
             next: NONE,
             before: NONE,
         };
-        let mut links = vec![in alloc; single; nodes as usize + SLOTS as usize]?;
-        for slot in nodes..nodes.wrapping_add(SLOTS) {
+        let mut links = vec![in alloc; single; nodes as usize + slots as usize]?;
+        for slot in nodes..nodes.wrapping_add(slots) {
             if let Some(link) = links.get_mut(slot as usize) {
                 *link = Link {
                     next: slot,
@@ -52,7 +53,8 @@ impl Waiting {
         }
         Ok(Waiting {
             links,
-            marks: [0; 20],
+            marks: [0; 32],
+            far,
             nodes,
             time: 0,
             start: 0,
@@ -89,7 +91,11 @@ impl Waiting {
     #[inline(always)]
     pub(crate) fn add(&mut self, node: u32, time: i32) {
         let ahead = time.wrapping_sub(self.start).cast_unsigned();
-        let place = if ahead < NEAR { ahead } else { far_place(time) };
+        let place = if ahead < NEAR {
+            ahead
+        } else {
+            self.far_place(time)
+        };
         if let Some(word) = self.marks.get_mut(place as usize / 64) {
             *word |= 1u64.wrapping_shl(place);
         }
@@ -168,6 +174,12 @@ impl Waiting {
         }
     }
 
+    /// The place of the slot of a later block.
+    #[cold]
+    fn far_place(&self, time: i32) -> u32 {
+        NEAR.wrapping_add(time.cast_unsigned() / NEAR & self.far.wrapping_sub(1))
+    }
+
     fn unmark(&mut self, place: u32) {
         if let Some(word) = self.marks.get_mut(place as usize / 64) {
             *word &= !1u64.wrapping_shl(place);
@@ -189,13 +201,14 @@ impl Waiting {
 
     /// Goes on to the next block with a mark, and puts the nodes that wait there in the slots of their times.
     fn open_block(&mut self, nodes: &[Node]) {
-        let here = far_place(self.start);
-        let found = match self.marked(here, SLOTS) {
+        let here = self.far_place(self.start);
+        let end = NEAR.wrapping_add(self.far);
+        let found = match self.marked(here, end) {
             Some(found) => found,
-            None => self.marked(NEAR, SLOTS).unwrap_or(here),
+            None => self.marked(NEAR, end).unwrap_or(here),
         };
         self.unmark(found);
-        let blocks = found.wrapping_sub(here) % FAR;
+        let blocks = found.wrapping_sub(here) & self.far.wrapping_sub(1);
         self.start = self
             .start
             .wrapping_add(blocks.wrapping_mul(NEAR).cast_signed());
@@ -212,8 +225,14 @@ impl Waiting {
     }
 }
 
-/// The place of the slot of a later block.
-#[cold]
-fn far_place(time: i32) -> u32 {
-    NEAR + time.cast_unsigned() / NEAR % FAR
+/// How many slots there are for later blocks, so that those up to `reach` ahead have one each.
+fn far_slots(reach: u32) -> u32 {
+    let blocks = reach / NEAR + 2;
+    if blocks <= 64 {
+        64
+    } else if blocks <= 256 {
+        256
+    } else {
+        1024
+    }
 }

@@ -24,9 +24,9 @@ some_or_none test (suc n) =
       ]
     ]
 
-module _ (s : Shape) (f g : State) (fresh : CanBeBalanced s f) (moved : MovesAtMost s (total_excess s f) f g) where
+module _ (begin : ℕ → ℕ) (s : Shape) (f g : State) (fresh : CanBeBalanced begin s f) (moved : MovesAtMost s (total_excess s f) f g) where
   -- no residual is far from that at the start
-  pub near_start : IsNearStart s g
+  pub near_start : IsNearStart begin s g
   near_start a i =
       let m = moved a i in
       let r = fresh.residual a i in
@@ -44,7 +44,7 @@ module _ (s : Shape) (f g : State) (fresh : CanBeBalanced s f) (moved : MovesAtM
         | inl u ↦ elim (some_or_none (λ v. not (is_in names v)) s.nodes) [
           | inr none ↦ blocked_outside s g names kept b (λ v l. not-false (is_in names v) (none v l))
           | inl w ↦ (
-              let a = leads_out s g fresh.joined near_start (is_in names) u.0 w.0 u.1.0 w.1.0 u.1.1 (not-true (is_in names w.0) w.1.1) in
+              let a = leads_out begin s g fresh.joined near_start (is_in names) u.0 w.0 u.1.0 w.1.0 u.1.1 (not-true (is_in names w.0) w.1.1) in
               let head = b.closed a.0 a.1.0 a.1.1 (is_in-contains names (tail_of s a.0) a.1.2) in
               false≢true (sym a.1.3 ∙ contains-is_in names (s.head a.0) head))
         ]

@@ -1,6 +1,6 @@
 -- From an answer of a tile's grid to a good result.
 use Rattle.std.proofs.Common.{◌≡◌, ◌∙◌, ℕ, ◌+◌, ◌-◌, ◌*◌, ◌<◌, ◌≤◌, ap, sym, subst, refl, arith, Bool, true, false, List, length}
-use Rattle.std.specs.Prelude.{ℤ, pos, ◌&&◌, ◌==◌, IsTrue, if◌then◌else◌, nat_lt, unsigned_abs}
+use Rattle.std.specs.Prelude.{ℤ, pos, ◌&&◌, ◌==◌, IsTrue, if◌then◌else◌, nat_lt}
 use Rattle.std.proofs.lemmas.Nat.{mul-le}
 use Rattle.std.proofs.lemmas.Bool.Decides.{nat_tests}
 use Rattle.raster_model.specs.declared.edge.Edge.{Edge}
@@ -8,7 +8,7 @@ use Rattle.raster_model.specs.declared.scene.Scene.{Scene}
 use Rattle.raster_model.specs.declared.tiling.Tiling.{Tiling}
 use Rattle.raster_model.specs.declared.tiling.Window.{Window}
 use Rattle.raster_model.specs.Sums.{Field, end_x, end_y, is_edge}
-use Rattle.raster_model.specs.Raster.{departure, has_open_ends, is_inner, lifted, tile_cost}
+use Rattle.raster_model.specs.Raster.{departure, has_open_ends, is_inner, lifted, steps, tile_cost}
 use Rattle.raster_model.specs.Scene.{raster_of}
 use Rattle.raster_model.specs.Tiles.{IsWindowOf, IsWithin, window_of, width_of, height_of}
 use Rattle.raster_model.proofs.SumLemmas.{sum_edges-same}
@@ -31,10 +31,10 @@ small_side g w v e small =
     let side : g.side ≤ 128 = g.sides.1 in
     subst (λ (u : Window). IsNarrow u) e (omega (arith, small.0, side), omega (arith, small.1, side))
 
--- corrections up to 16129 are small enough to be added up
-pub corrections_small : (v : Window) (k : Corrections) → IsNarrow v → greatest_of k ≤ 16129 → AreSmall v k
+-- corrections up to 16130 are small enough to be added up
+pub corrections_small : (v : Window) (k : Corrections) → IsNarrow v → greatest_of k ≤ 16130 → AreSmall v k
 corrections_small v k n g =
-    let m = mul-le (width_of v + height_of v) (greatest_of k + 1) 256 16130 (omega (arith, n.0, n.1)) (omega (arith, g)) in
+    let m = mul-le (width_of v + height_of v) (greatest_of k + 1) 256 16131 (omega (arith, n.0, n.1)) (omega (arith, g)) in
     omega (arith, m)
 
 -- an edge costs the same by its departure and by its correction
@@ -67,14 +67,14 @@ module _ (s : Scene) (t : ℕ) (v : Window) (pixels : IsWindowOf s.tiling t v) w
   unfolding tile_cost correction_cost
   costs_are mask k cycles departs =
       sum_edges-same s.phase.width s.phase.height _ _
-      (λ e i. edge_same (is_inner (raster_of s) t e) (has_open_ends mask e) ((raster_of s).weight e) (unsigned_abs (departure (raster_of s) (lifted (raster_of s) cycles) e)) (unsigned_abs (correction_at v k e))
-      (λ n. ap unsigned_abs (departs e (inner_edge e i n))))
+      (λ e i. edge_same (is_inner (raster_of s) t e) (has_open_ends mask e) ((raster_of s).weight e) (steps (raster_of s).steep (departure (raster_of s) (lifted (raster_of s) cycles) e)) (steps (raster_of s).steep (correction_at v k e))
+      (λ n. ap (λ (z : ℤ). steps (raster_of s).steep z) (departs e (inner_edge e i n))))
 
 -- cycles that stay small are in range
-in_range : (v : Window) (cycles : List ℤ) (b : ℕ) → IsNarrow v → b ≤ 16129 → StaySmall v (cycles_at v cycles) b → (x y : ℕ) → IsWithin v x y → IsInRange v cycles x y
+in_range : (v : Window) (cycles : List ℤ) (b : ℕ) → IsNarrow v → b ≤ 16130 → StaySmall v (cycles_at v cycles) b → (x y : ℕ) → IsWithin v x y → IsInRange v cycles x y
 in_range v cycles b n l small x y w =
     let m = small x y w in
-    let p = mul-le (x - v.x0 + (y - v.y0)) (b + 1) 254 16130 (omega (arith, n.0, n.1, w.1, w.3)) (omega (arith, l)) in
+    let p = mul-le (x - v.x0 + (y - v.y0)) (b + 1) 254 16131 (omega (arith, n.0, n.1, w.1, w.3)) (omega (arith, l)) in
     omega (arith, m, p)
 
 -- cycles that depart by the corrections of an answer, and the faces that certify these, over the tile's window

@@ -1,6 +1,6 @@
 -- Corrections and faces that are all 0 answer a tile without a residue.
 use Rattle.std.proofs.Common.{◌≡◌, ℕ, zero, suc, ◌+◌, ◌-◌, ◌*◌, ◌∙◌, sym, subst, ap, refl, arith, Bool, true, false, List, length, replicate}
-use Rattle.std.specs.Prelude.{ℤ, pos, unsigned_abs, slice_index_or}
+use Rattle.std.specs.Prelude.{ℤ, pos, ◌-ℤ◌, slice_index_or}
 use Rattle.std.proofs.lemmas.Int.{ints}
 use Rattle.std.proofs.lemmas.List.{length-replicate}
 use Rattle.std.proofs.Math.Nat.{mul_comm}
@@ -8,12 +8,13 @@ use Rattle.raster_model.specs.declared.edge.Edge.{Edge}
 use Rattle.raster_model.specs.declared.scene.Scene.{Scene}
 use Rattle.raster_model.specs.declared.tiling.Window.{Window}
 use Rattle.raster_model.specs.Cells.{cells_before, face_at}
-use Rattle.raster_model.specs.Certificates.{FacesFit, above, face_difference, face_product, face_total, faces_of_tile, is_cell, left}
-use Rattle.raster_model.specs.Raster.{is_inner, masked_weight}
+use Rattle.raster_model.specs.Certificates.{FacesFit, above, face_difference, face_over, face_over_total, face_product, face_total, faces_of_tile, is_cell, left}
+use Rattle.raster_model.specs.Raster.{is_inner, masked_weight, steps}
 use Rattle.raster_model.specs.Scene.{raster_of}
 use Rattle.raster_model.specs.Sums.{Field, sum_row}
 use Rattle.raster_model.specs.Tiles.{IsWindowOf}
 use Rattle.raster_model.proofs.SumLemmas.{sum_edges-same, sum_edges-zeros}
+use Rattle.raster_model.proofs.Steps.{no_steps}
 use Rattle.raster_model.proofs.TileCells.{cell_count-is}
 use Rattle.raster_model.proofs.TileLemmas.{window_of-pixels}
 use Rattle.wrapped_gradient.specs.declared.corrections.Corrections.{Corrections}
@@ -64,11 +65,13 @@ level f z e = go e.x e.y e.down
     go x y true = rw (z x y, left_zero x y) refl
     go x y false = rw (above_zero x y, z x y) refl
 
+-- an edge adds nothing
+nothing_there : (inner : Bool) (n : ℕ) → n ≡ 0 → where_true inner (pos n) ≡ pos 0
+nothing_there inner n e = ap (λ (n : ℕ). where_true inner (pos n)) e ∙ where_true-zero inner
+
 -- an edge without a correction costs nothing
 edge_free : (inner : Bool) (w d : ℕ) → d ≡ 0 → where_true inner (pos (w * d)) ≡ pos 0
-edge_free inner w d e =
-    let nothing : w * d ≡ 0 = rw e (omega arith) in
-    ap (λ (n : ℕ). where_true inner (pos n)) nothing ∙ where_true-zero inner
+edge_free inner w d e = nothing_there inner (w * d) (rw e (omega arith))
 
 module _ (s : Scene) (t : ℕ) (mask : Field Bool) (g : GradientsView) (without : IsWithoutResidue s t g) (k : Corrections) (faces : List ℤ) (zeros : AreZeros g.window k faces) where
   window : IsWindowOf s.tiling t g.window
@@ -90,15 +93,23 @@ module _ (s : Scene) (t : ℕ) (mask : Field Bool) (g : GradientsView) (without 
       let f = face_product r t (face_at r t faces) in
       sum_below-zeros r.height (sum_row r.width f) (λ y m. sum_below-zeros r.width (λ x. f x y) (λ x l. rw (face_zero x y) (omega (arith, ints))))
 
-  uncorrected : (e : Edge) → unsigned_abs (correction_at g.window k e) ≡ 0
-  uncorrected e = omega (arith, correction_within g.window k e, zeros_greatest k zeros.corrections)
+  uncorrected : (e : Edge) → steps (raster_of s).steep (correction_at g.window k e) ≡ 0
+  uncorrected e = no_steps (raster_of s).steep (correction_at g.window k e) (omega (arith, ints, correction_within g.window k e, zeros_greatest k zeros.corrections))
+
+  nothing_over : face_over_total (raster_of s) mask t (face_at (raster_of s) t faces) ≡ pos 0
+  unfolding face_over_total
+  nothing_over =
+      let r = raster_of s in
+      sum_edges-same r.width r.height (face_over r mask t (face_at r t faces)) (λ e. pos 0)
+      (λ e i. rw (level (faces_of_tile r t (face_at r t faces)) face_zero e) (nothing_there (is_inner r t e) (0 - masked_weight r mask e) (omega arith)))
+      ∙ sum_edges-zeros r.width r.height
 
   no_cost : correction_cost (raster_of s) mask t g.window k ≡ pos 0
   unfolding correction_cost
   no_cost =
       let r = raster_of s in
-      sum_edges-same r.width r.height (λ e. where_true (is_inner r t e) (pos (masked_weight r mask e * unsigned_abs (correction_at g.window k e)))) (λ e. pos 0)
-      (λ e i. edge_free (is_inner r t e) (masked_weight r mask e) (unsigned_abs (correction_at g.window k e)) (uncorrected e))
+      sum_edges-same r.width r.height (λ e. where_true (is_inner r t e) (pos (masked_weight r mask e * steps r.steep (correction_at g.window k e)))) (λ e. pos 0)
+      (λ e i. edge_free (is_inner r t e) (masked_weight r mask e) (steps r.steep (correction_at g.window k e)) (uncorrected e))
       ∙ sum_edges-zeros r.width r.height
 
   pub zeros_answer : AreCertifiedCorrections (raster_of s) mask t g.window k faces
@@ -108,5 +119,8 @@ module _ (s : Scene) (t : ℕ) (mask : Field Bool) (g : GradientsView) (without 
     small = omega (arith, zeros_greatest k zeros.corrections);
     count = zeros.count ∙ sym (cell_count-is s t g.window window);
     fits = λ e i. faces_fit e;
-    equal = no_total ∙ sym no_cost;
+    equal = none (face_total (raster_of s) t (face_at (raster_of s) t faces)) (face_over_total (raster_of s) mask t (face_at (raster_of s) t faces)) (correction_cost (raster_of s) mask t g.window k) no_total nothing_over no_cost;
   }
+    where
+      none : (total above cost : ℤ) → total ≡ pos 0 → above ≡ pos 0 → cost ≡ pos 0 → total -ℤ above ≡ cost
+      none total above cost p q e = omega (arith, ints, p, q, e)

@@ -2,12 +2,11 @@
 use Rattle.std.specs.Prelude.{◌≡◌, ℕ, ◌<◌, pos, ◌≤ℤ◌}
 use Rattle.flow_network.specs.Nets.{Shape, State, IsArc, total_excess}
 use Rattle.dual_grid.specs.Grids.{HasSmallCosts, IsConnected}
-use Rattle.dual_grid.specs.Starts.{start_residual}
 
 -- nothing has flowed, costs are small, at most 16129 units are to flow, and an arc with more capacity than that leads out of any set of nodes
-pub record CanBeBalanced (s : Shape) (f : State) : Type 0 where
-  pub residual : (a : ℕ) → IsArc s a → f.residual a ≡ start_residual a
+pub record CanBeBalanced (start : ℕ → ℕ) (s : Shape) (f : State) : Type 0 where
+  pub residual : (a : ℕ) → IsArc s a → f.residual a ≡ start a
   pub flat : (u : ℕ) → u < s.nodes → f.potential u ≡ pos 0
   pub small : HasSmallCosts s
   pub few : total_excess s f ≤ℤ pos 16129
-  pub joined : IsConnected s
+  pub joined : IsConnected start s

@@ -2,7 +2,7 @@ ghost use Rattle.flow_network.specs.Nets.{HasNoExcess};
 ghost use Rattle.certificates.specs.Results.{IsGoodTile, pixels_in};
 ghost use Rattle.dual_grid.specs.Answers.{AreCertifiedCorrections, IsNearStart};
 ghost use Rattle.dual_grid.specs.Starts.{TellsMask};
-ghost use Rattle.dual_grid.specs.Views.{HaveOneOrigin, grid_shape, grid_state};
+ghost use Rattle.dual_grid.specs.Views.{HaveOneOrigin, grid_shape, grid_start, grid_state};
 ghost use Rattle.raster_model.specs.Scene.{raster_of};
 ghost use Rattle.raster_model.specs.Sums.{Field};
 ghost use Rattle.raster_model.specs.Tiles.{tiles_of, window_of};
@@ -135,6 +135,7 @@ fn guess_or_solver(
             right: &problem.right,
             down: &problem.down,
             residues: &problem.residues,
+            steep: problem.steep,
         },
     )
 }
@@ -161,10 +162,10 @@ fn no_corrections(
 /// Balances a grid, so that no node has excess. No nodes block it: an arc leads out of them whose capacity is more than
 /// all that flows.
 fn empty(alloc: Global, grid: &mut DualGrid) -> Result<(), AllocError>
-    requires { CanBeBalanced (grid_shape grid.old) (grid_state grid.old) }
+    requires { CanBeBalanced (grid_start grid.old) (grid_shape grid.old) (grid_state grid.old) }
     ensures origin { HaveOneOrigin grid.old grid.new }
     ensures balanced { OnOk result (HasNoExcess (grid_shape grid.new) (grid_state grid.new)) }
-    ensures near { IsNearStart (grid_shape grid.new) (grid_state grid.new) }
+    ensures near { IsNearStart (grid_start grid.new) (grid_shape grid.new) (grid_state grid.new) }
 {
     match balance(alloc, grid) {
         Ok(()) => Ok(()),

@@ -32,5 +32,5 @@ returns c = λ s t unmasked mask grid exists tells. (
     let parts = split v g.flows.items c.split_off.new.self.items c.in_ok-down.down.items c.right_count.result c.right_count.ensures g.fit.by_edge c.in_ok-down.ensures.items c.in_ok-down.ensures.tail in
     let flows : AreEdgeFlows v (number_or_zero g.flows.items) (record { right = c.split_off.new.self; down = c.in_ok-down.down }) = record { right_count = parts.0; right = parts.1; down_count = parts.2; down = parts.3 } in
     subst (λ (w : Window). AreCertifiedCorrections (raster_of s) mask t w (record { right = c.split_off.new.self; down = c.in_ok-down.down }) c.in_ok-faces.faces.items) grid.window
-    (is_answer s t v window g.small unmasked mask (subst (λ (w : Window). TellsMask w unmasked mask) (sym grid.window) tells) (weight_in g.weights.items) grid.weighed (number_or_zero g.flows.items) (number_or_zero g.excesses.items) (number_or_zero g.potentials.items) g.within g.has_reduced_costs grid.conserved c.requires.balanced c.requires.near
+    (is_answer s t v window g.small unmasked mask (subst (λ (w : Window). TellsMask w unmasked mask) (sym grid.window) tells) g.steep grid.steep g.steepness.0 (weight_in g.weights.items) grid.weighed (number_or_zero g.flows.items) (number_or_zero g.excesses.items) (number_or_zero g.potentials.items) g.within g.has_reduced_costs grid.conserved c.requires.balanced c.requires.near
     (record { right = c.split_off.new.self; down = c.in_ok-down.down }) flows c.in_ok-faces.faces.items faces))

@@ -7,7 +7,7 @@ use Rattle.raster_model.specs.Scene.{raster_of}
 use Rattle.flow_network.specs.Growing.{supply_sizes}
 use Rattle.dual_grid.specs.Building.{AreCellSupplies, IsSmallWindow}
 use Rattle.dual_grid.specs.Nodes.{cells_of}
-use Rattle.dual_grid.specs.Grids.{AreWeighed}
+use Rattle.dual_grid.specs.Grids.{AreWeighed, start_residual}
 use Rattle.dual_grid.specs.Starts.{IsAtStart, open_in_window}
 use Rattle.dual_grid.specs.Layout.{FitGrid, number_or_zero, shape_by, state_by, weight_in}
 use Rattle.dual_grid.proofs.ArcLemmas.{grid_is_network}
@@ -67,24 +67,27 @@ sizes c =
     subst (λ (v : Window). supply_sizes c.in_ok-excesses.excesses.items ≤ℤ pos (2 * cells_of v)) (sym (same c))
     (scene_sizes c.args.scene.now c.args.gradients.now c.in_ok-excesses.excesses.items c.requires.gradients c.in_ok-excesses.ensures)
 
-start : (c : In_ok-potentials) → IsAtStart (residue (raster_of c.args.scene.now)) c.window-window.result (shape_by c.window-window.result c.append.new.self.items) (state_by c.append.new.self.items c.in_ok-flows.flows.items c.in_ok-excesses.excesses.items c.in_ok-potentials.potentials.items)
+start : (c : In_ok-potentials) → IsAtStart (start_residual c.args.scene.now.terms.steep (weight_in c.append.new.self.items)) (residue (raster_of c.args.scene.now)) c.window-window.result (shape_by c.window-window.result c.args.scene.now.terms.steep c.append.new.self.items) (state_by c.args.scene.now.terms.steep c.append.new.self.items c.in_ok-flows.flows.items c.in_ok-excesses.excesses.items c.in_ok-potentials.potentials.items)
 start c =
-    start_at c.window-window.result (small c) c.append.new.self.items c.in_ok-flows.flows.items c.in_ok-excesses.excesses.items c.in_ok-potentials.potentials.items (fit c) (light c) (none c) (flat c) (residue (raster_of c.args.scene.now)) (supplies_are c)
+    start_at c.window-window.result (small c) c.args.scene.now.terms.steep c.args.scene.now.terms.steepness.1 c.append.new.self.items c.in_ok-flows.flows.items c.in_ok-excesses.excesses.items c.in_ok-potentials.potentials.items (fit c) (light c) (none c) (flat c) (residue (raster_of c.args.scene.now)) (supplies_are c)
 
 pub invariant_of-result : goal.invariant_of-result
 invariant_of-result c =
     let v = c.window-window.result in
     let weights = c.append.new.self.items in
+    let q = c.args.scene.now.terms.steep in
+    let gentle = c.args.scene.now.terms.steepness.1 in
     let flows = c.in_ok-flows.flows.items in
     let excesses = c.in_ok-excesses.excesses.items in
     let potentials = c.in_ok-potentials.potentials.items in
     record {
       small = small c;
+      steepness = c.args.scene.now.terms.steepness;
       fit = fit c;
-      within = start_within v (small c) weights flows excesses potentials (fit c) (light c) (none c) (flat c);
-      is_network = grid_is_network v (weight_in weights);
-      room = start_room v (small c) weights flows excesses potentials (fit c) (light c) (none c) (flat c) (sizes c);
-      has_reduced_costs = start_kept v (small c) weights flows excesses potentials (fit c) (light c) (none c) (flat c) (scene_even c.args.scene.now c.args.gradients.now excesses c.requires.gradients c.in_ok-excesses.ensures);
+      within = start_within v (small c) q gentle weights flows excesses potentials (fit c) (light c) (none c) (flat c);
+      is_network = grid_is_network v q (weight_in weights);
+      room = start_room v (small c) q gentle weights flows excesses potentials (fit c) (light c) (none c) (flat c) (sizes c);
+      has_reduced_costs = start_kept v (small c) q gentle weights flows excesses potentials (fit c) (light c) (none c) (flat c) (scene_even c.args.scene.now c.args.gradients.now excesses c.requires.gradients c.in_ok-excesses.ensures);
     }
 
 pub returns-clause-grid : goal.returns-clause-grid
@@ -95,25 +98,26 @@ returns-clause-grid c =
     let unmasked = c.args.unmasked.now in
     record {
       window = c.window-window.ensures.value;
-      weighed = subst (λ (zs : List ℤ). AreWeighed (raster_of s) (open_in_window v unmasked) v (shape_by v zs)) (sym (joined p))
+      steep = refl;
+      weighed = subst (λ (zs : List ℤ). AreWeighed (raster_of s) (open_in_window v unmasked) v (weight_in zs)) (sym (joined p))
           (joined_weighed s v unmasked c.in_ok-weights.weights.items c.in_ok-down.down.items c.in_ok-weights.ensures.rows c.in_ok-down.ensures.rows);
-      conserved = start_conserved v (small p) c.append.new.self.items c.in_ok-flows.flows.items c.in_ok-excesses.excesses.items c.in_ok-potentials.potentials.items (fit p) (light p) (none p) (flat p) (residue (raster_of s)) (supplies_are p);
+      conserved = start_conserved v (small p) s.terms.steep s.terms.steepness.1 c.append.new.self.items c.in_ok-flows.flows.items c.in_ok-excesses.excesses.items c.in_ok-potentials.potentials.items (fit p) (light p) (none p) (flat p) (residue (raster_of s)) (supplies_are p);
     }
 
 pub returns-clause-start : goal.returns-clause-start
 returns-clause-start c =
     let p = (goal.at.returns-clause-start c).In_ok-potentials in
-    subst (λ (v : Window). IsAtStart (residue (raster_of c.args.scene.now)) v (shape_by c.window-window.result c.append.new.self.items) (state_by c.append.new.self.items c.in_ok-flows.flows.items c.in_ok-excesses.excesses.items c.in_ok-potentials.potentials.items)) c.window-window.ensures.value (start p)
+    subst (λ (v : Window). IsAtStart (start_residual c.args.scene.now.terms.steep (weight_in c.append.new.self.items)) (residue (raster_of c.args.scene.now)) v (shape_by c.window-window.result c.args.scene.now.terms.steep c.append.new.self.items) (state_by c.args.scene.now.terms.steep c.append.new.self.items c.in_ok-flows.flows.items c.in_ok-excesses.excesses.items c.in_ok-potentials.potentials.items)) c.window-window.ensures.value (start p)
 
 pub returns-clause-small : goal.returns-clause-small
 returns-clause-small c =
     let p = (goal.at.returns-clause-small c).In_ok-potentials in
-    start_cheap c.window-window.result (small p) c.append.new.self.items c.in_ok-flows.flows.items c.in_ok-excesses.excesses.items c.in_ok-potentials.potentials.items (fit p) (light p) (none p) (flat p)
+    start_cheap c.window-window.result (small p) c.args.scene.now.terms.steep c.args.scene.now.terms.steepness.1 c.append.new.self.items c.in_ok-flows.flows.items c.in_ok-excesses.excesses.items c.in_ok-potentials.potentials.items (fit p) (light p) (none p) (flat p)
 
 pub returns-clause-few : goal.returns-clause-few
 returns-clause-few c =
     let p = (goal.at.returns-clause-few c).In_ok-potentials in
-    few_of_scene c.args.scene.now c.window-window.result (shape_by c.window-window.result c.append.new.self.items) (state_by c.append.new.self.items c.in_ok-flows.flows.items c.in_ok-excesses.excesses.items c.in_ok-potentials.potentials.items) (small p) refl (start p)
+    few_of_scene (start_residual c.args.scene.now.terms.steep (weight_in c.append.new.self.items)) c.args.scene.now c.window-window.result (shape_by c.window-window.result c.args.scene.now.terms.steep c.append.new.self.items) (state_by c.args.scene.now.terms.steep c.append.new.self.items c.in_ok-flows.flows.items c.in_ok-excesses.excesses.items c.in_ok-potentials.potentials.items) (small p) refl (start p)
 
 pub returns-clause-joined : goal.returns-clause-joined
-returns-clause-joined c = grid_is_joined c.window-window.result (weight_in c.append.new.self.items)
+returns-clause-joined c = grid_is_joined c.window-window.result c.args.scene.now.terms.steep (weight_in c.append.new.self.items)

@@ -16,12 +16,12 @@ pub returns-in-Some : goal.returns-in-Some
 returns-in-Some c =
     let g = c.args.self.now in
     let below = rw c.in-Some.is at c.place_below.ensures in
-    place_found g.window (weight_in g.weights.items) c.args.node c.args.edge c.requires.edge c.first_at.result c.other_at.result c.first_at.ensures c.other_at.ensures c.args.high c.in-Some.place c.requires.high
-    (subst (λ (w : ℕ). IsPlaceBelow w (c.first_at.result == c.args.node) (c.other_at.result == c.args.node) c.args.high (Some c.in-Some.place)) c.weight.ensures below)
+    place_found g.window g.steep (weight_in g.weights.items) c.args.node c.args.edge c.requires.edge c.first_at.result c.other_at.result c.first_at.ensures c.other_at.ensures c.args.high c.in-Some.place c.requires.high
+    (subst (λ (w : ℕ). IsPlaceBelow g.steep w (c.first_at.result == c.args.node) (c.other_at.result == c.args.node) c.args.high (Some c.in-Some.place)) c.weight.ensures below)
 
 pub returns-in-None : goal.returns-in-None
 returns-in-None c =
     let g = c.args.self.now in
     let below = rw c.in-None.is at c.place_below.ensures in
-    place_missing g.window (weight_in g.weights.items) c.args.node c.args.edge c.requires.edge c.first_at.result c.other_at.result c.first_at.ensures c.other_at.ensures c.args.high c.requires.high
-    (subst (λ (w : ℕ). IsPlaceBelow w (c.first_at.result == c.args.node) (c.other_at.result == c.args.node) c.args.high None) c.weight.ensures below)
+    place_missing g.window g.steep (weight_in g.weights.items) c.args.node c.args.edge c.requires.edge c.first_at.result c.other_at.result c.first_at.ensures c.other_at.ensures c.args.high c.requires.high
+    (subst (λ (w : ℕ). IsPlaceBelow g.steep w (c.first_at.result == c.args.node) (c.other_at.result == c.args.node) c.args.high None) c.weight.ensures below)

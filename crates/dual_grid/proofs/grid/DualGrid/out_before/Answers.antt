@@ -15,10 +15,10 @@ returns-in-Some c =
     let g = c.args.self.now in
     let below = rw c.in-Some.is at c.edge_below.ensures in
     let before = below.found c.in-Some.before refl in
-    next_edge g.window (weight_in g.weights.items) c.args.node c.in-Some.before c.args.edge c.out_across.result c.requires.edge before.0 before.1 before.2 c.out_across.ensures
+    next_edge g.window g.steep (weight_in g.weights.items) c.args.node c.in-Some.before c.args.edge c.out_across.result c.requires.edge before.0 before.1 before.2 c.out_across.ensures
 
 pub returns-in-None : goal.returns-in-None
 returns-in-None c =
     let g = c.args.self.now in
     let below = rw c.in-None.is at c.edge_below.ensures in
-    no_arc (grid_shape g) c.args.node (c.args.edge * 4) (none_across g.window (weight_in g.weights.items) c.args.node 0 c.args.edge (below.ended refl))
+    no_arc (grid_shape g) c.args.node (c.args.edge * 8) (none_across g.window g.steep (weight_in g.weights.items) c.args.node 0 c.args.edge (below.ended refl))

@@ -17,19 +17,19 @@ none_is None t = refl
 
 pub returns-then-high-eq0 : goal.returns-then-high-eq0
 returns-then-high-eq0 c =
-    let e : c.args.high / 4 * 4 ≡ c.args.high = omega arith in
+    let e : c.args.high / 8 * 8 ≡ c.args.high = omega arith in
     subst (λ (k : ℕ). IsNextBelow (grid_shape c.args.self.now) c.args.node k c.out_before.result) e c.out_before.ensures
 
 pub returns-then-is_some : goal.returns-then-is_some
 returns-then-is_some c =
-    subst (λ (k : ℕ). IsNextBelow (grid_shape c.args.self.now) c.args.node k c.out_across-here.result) (div-add-mod' c.args.high 4)
-    (next_here (grid_shape c.args.self.now) c.args.node (c.args.high / 4) (c.args.high % 4) c.out_across-here.result c.out_across-here.ensures
+    subst (λ (k : ℕ). IsNextBelow (grid_shape c.args.self.now) c.args.node k c.out_across-here.result) (div-add-mod' c.args.high 8)
+    (next_here (grid_shape c.args.self.now) c.args.node (c.args.high / 8) (c.args.high % 8) c.out_across-here.result c.out_across-here.ensures
     (λ e. is_none c.out_across-here.result (sym c.is_some.ensures ∙ c.if-is_some.true) e))
 
 pub returns-else-is_some : goal.returns-else-is_some
 returns-else-is_some c =
     let s = grid_shape c.args.self.now in
-    let split = div-add-mod' c.args.high 4 in
-    next_over s c.args.node (c.args.high / 4 * 4) c.args.high c.out_before-else-is_some.result (omega arith)
-    (subst (λ (k : ℕ). NoneBetween s c.args.node (c.args.high / 4 * 4) k) split (c.out_across-here.ensures.ended (none_is c.out_across-here.result (sym c.is_some.ensures ∙ c.if-is_some.false))))
+    let split = div-add-mod' c.args.high 8 in
+    next_over s c.args.node (c.args.high / 8 * 8) c.args.high c.out_before-else-is_some.result (omega arith)
+    (subst (λ (k : ℕ). NoneBetween s c.args.node (c.args.high / 8 * 8) k) split (c.out_across-here.ensures.ended (none_is c.out_across-here.result (sym c.is_some.ensures ∙ c.if-is_some.false))))
     c.out_before-else-is_some.ensures

@@ -2,19 +2,20 @@ use Rattle.std.proofs.Common.{◌/◌, ◌%◌, ◌∙◌, ap₂, arith, rules, 
 use Rattle.dual_grid.specs.Grids.{residual_at}
 use Rattle.dual_grid.specs.Layout.{weight_in}
 use Rattle.dual_grid.proofs.ArcLemmas.{arc_below}
+use Rattle.dual_grid.proofs.PushLemmas.{within_all}
 use Rattle.dual_grid.proofs.ReadLemmas.{read_32}
 use Rattle.dual_grid.proofs.grid.DualGridFlowNet.residual.Goals as goal
 
 pub residual_at-requires : goal.residual_at-requires
 residual_at-requires c =
     let g = c.args.self.now in
-    let l = arc_below g.window (weight_in g.weights.items) c.args.arc c.requires in
+    let l = arc_below g.window g.steep (weight_in g.weights.items) c.args.arc c.requires in
     let fits : FitsSigned w32 c.index.result.now = search rules in
-    rw (read_32 g.flows.items (c.args.arc / 4) c.index.result.now fits (omega (arith, l, g.fit.by_edge)) c.index.ensures) (g.within (c.args.arc / 4))
+    rw (read_32 g.flows.items (c.args.arc / 8) c.index.result.now fits (omega (arith, l, g.fit.by_edge)) c.index.ensures) (within_all g.steep g.weights.items g.flows.items g.within (c.args.arc / 8))
 
 pub returns : goal.returns
 returns c =
     let g = c.args.self.now in
-    let l = arc_below g.window (weight_in g.weights.items) c.args.arc c.requires in
+    let l = arc_below g.window g.steep (weight_in g.weights.items) c.args.arc c.requires in
     let fits : FitsSigned w32 c.index.result.now = search rules in
-    c.residual_at.ensures ∙ ap₂ (λ (w : ℕ) (q : ℤ). residual_at w q (c.args.arc % 4)) c.weight.ensures (read_32 g.flows.items (c.args.arc / 4) c.index.result.now fits (omega (arith, l, g.fit.by_edge)) c.index.ensures)
+    c.residual_at.ensures ∙ ap₂ (λ (w : ℕ) (q : ℤ). residual_at g.steep w q (c.args.arc % 8)) c.weight.ensures (read_32 g.flows.items (c.args.arc / 8) c.index.result.now fits (omega (arith, l, g.fit.by_edge)) c.index.ensures)

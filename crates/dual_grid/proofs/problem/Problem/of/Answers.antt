@@ -1,4 +1,4 @@
-use Rattle.std.proofs.Common.{◌≡◌, ◌∙◌, ◌-◌, subst, sym}
+use Rattle.std.proofs.Common.{◌≡◌, ◌∙◌, ◌-◌, refl, subst, sym}
 use Rattle.raster_model.specs.declared.tiling.Window.{Window}
 use Rattle.wrapped_gradient.specs.Gradients.{residue_at}
 use Rattle.wrapped_gradient.specs.Rows.{AreInRows}
@@ -17,6 +17,7 @@ returns c =
     let rows = subst (λ (w : Window). AreInRows (residue_at g) w.x0 w.y0 (w.x1 - w.x0) (cells_of w) c.in_ok-residues.field-0.items) same c.in_ok-residues.ensures in
     record {
       window = c.window-window.ensures.value;
+      steep = refl;
       weights = weights_listed s v c.args.unmasked.now c.in_ok-right_weights.field-0.items c.in_ok-down_weights.field-0.items c.in_ok-right_weights.ensures.rows c.in_ok-down_weights.ensures.rows;
       residues = λ x y i. residues_listed (residue_at g) v c.in_ok-residues.field-0.items x y rows i ∙ residues_are s g c.requires.gradients x y (subst (λ (w : Window). IsCellOf w x y) (sym same) i);
     }

@@ -62,11 +62,11 @@ impl Network {
             joint.present = present;
             joint.up = Way {
                 rise: filled.rise,
-                capacity: filled.weight.wrapping_sub(filled.flow),
+                capacity: filled.high.wrapping_sub(filled.flow),
             };
             joint.down = Way {
                 rise: emptied.rise,
-                capacity: emptied.weight.wrapping_add(emptied.flow),
+                capacity: emptied.low.wrapping_add(emptied.flow),
             };
         }
     }
@@ -75,7 +75,7 @@ impl Network {
     #[inline(always)]
     fn filled_next(&self, present: u32) -> u32 {
         let bundle = self.bundle(present);
-        if bundle.flow < bundle.weight || bundle.above == NONE {
+        if bundle.flow < bundle.high || bundle.above == NONE {
             present
         } else {
             bundle.above
@@ -86,7 +86,7 @@ impl Network {
     #[inline(always)]
     fn emptied_next(&self, present: u32) -> u32 {
         let bundle = self.bundle(present);
-        if bundle.flow > bundle.weight.wrapping_neg() || bundle.below == NONE {
+        if bundle.flow > bundle.low.wrapping_neg() || bundle.below == NONE {
             present
         } else {
             bundle.below

@@ -2,9 +2,15 @@ use crate::link::Link;
 use crate::network::{Bundle, CLOSED, Joint, NONE, Network, number};
 use std::alloc::AllocError;
 
+/// How much more than its weight a link can carry at a steepness.
+pub(crate) fn beyond(link: Link, steep: u32) -> i64 {
+    i64::from(link.weight).wrapping_mul(i64::from(steep).wrapping_sub(1))
+}
+
 impl Network {
-    /// Adds a link to the bundle of its rise, and answers that. A link of weight 0 is in no bundle.
-    pub(crate) fn join(&mut self, link: Link) -> Result<u32, AllocError> {
+    /// Adds a link to the bundle of its rise, and answers that. At a steepness above 1 it is added to those of the next
+    /// higher and the next lower rise too. A link of weight 0 is in no bundle.
+    pub(crate) fn join(&mut self, link: Link, steep: u32) -> Result<u32, AllocError> {
         if link.weight == 0 || link.from == link.to {
             return Ok(NONE);
         }
@@ -17,10 +23,23 @@ impl Network {
         };
         let joint = self.joint_of(link.from.min(link.to), link.from.max(link.to))?;
         let bundle = self.bundle_of(joint, rise)?;
-        if let Some(bundle) = self.bundles.get_mut(bundle as usize) {
-            bundle.weight = bundle.weight.wrapping_add(weight);
+        self.widen(bundle, weight, weight);
+        if steep > 1 {
+            let more = beyond(link, steep);
+            let above = self.bundle_of(joint, rise.wrapping_add(1))?;
+            self.widen(above, 0, more);
+            let below = self.bundle_of(joint, rise.wrapping_sub(1))?;
+            self.widen(below, more, 0);
         }
         Ok(bundle)
+    }
+
+    /// Lets a bundle carry more, to the region of the lower number and to that of the higher.
+    fn widen(&mut self, bundle: u32, low: i64, high: i64) {
+        if let Some(bundle) = self.bundles.get_mut(bundle as usize) {
+            bundle.low = bundle.low.wrapping_add(low);
+            bundle.high = bundle.high.wrapping_add(high);
+        }
     }
 
     /// The joint of two regions, which is added if there is none.
@@ -81,7 +100,8 @@ impl Network {
         let bundle = number(self.bundles.len());
         self.bundles.push(Bundle {
             rise,
-            weight: 0,
+            low: 0,
+            high: 0,
             flow: 0,
             below,
             above,

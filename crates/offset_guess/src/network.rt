@@ -3,14 +3,17 @@ use std::alloc::{AllocError, Global};
 /// No region, joint, bundle or arc.
 pub(crate) const NONE: u32 = u32::MAX;
 
-/// The links of two regions that depart nowhere at one difference of their offsets.
+/// What the links of two regions can carry that changes at one difference of their offsets. A link that departs nowhere
+/// at a difference carries up to its weight there, either way. If costs are steep, it can carry more: to the region of the
+/// higher number above the next higher difference, and back below the next lower one.
 #[derive(Clone, Copy)]
 pub(crate) struct Bundle {
     /// That difference: the offset of the region of the higher number, less that of the other.
     pub(crate) rise: i64,
-    /// The sum of the links' weights. The flow lies between it and its negative.
-    pub(crate) weight: i64,
-    /// What flows to the region of the higher number.
+    /// How much can flow to the region of the lower number, and to that of the higher.
+    pub(crate) low: i64,
+    pub(crate) high: i64,
+    /// What flows to the region of the higher number, from `-low` to `high`.
     pub(crate) flow: i64,
     /// The bundles of the same two regions with the next lower and the next higher rise.
     pub(crate) below: u32,
@@ -62,7 +65,8 @@ pub(crate) fn number(place: usize) -> u32 {
 
 const NO_BUNDLE: Bundle = Bundle {
     rise: 0,
-    weight: 0,
+    low: 0,
+    high: 0,
     flow: 0,
     below: NONE,
     above: NONE,

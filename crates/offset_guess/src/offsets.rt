@@ -72,18 +72,18 @@ impl Network {
     fn median(&self, joint: Joint) -> i64 {
         let half = self.total(joint) / 2;
         let mut bundle = self.bundle(joint.present);
-        let mut weight = bundle.weight;
+        let mut range = bundle.low.wrapping_add(bundle.high);
         for _ in 0..self.bundles.len() {
-            if weight >= half || bundle.above == NONE {
+            if range / 2 >= half || bundle.above == NONE {
                 break;
             }
             bundle = self.bundle(bundle.above);
-            weight = weight.wrapping_add(bundle.weight);
+            range = range.wrapping_add(bundle.low.wrapping_add(bundle.high));
         }
         bundle.rise
     }
 
-    /// The sum of the weights of a joint's links.
+    /// How much a joint's links can carry to the region of the lower number.
     fn total(&self, joint: Joint) -> i64 {
         let mut total: i64 = 0;
         let mut next = joint.present;
@@ -92,7 +92,7 @@ impl Network {
                 break;
             }
             let bundle = self.bundle(next);
-            total = total.wrapping_add(bundle.weight);
+            total = total.wrapping_add(bundle.low);
             next = bundle.above;
         }
         total
@@ -171,10 +171,16 @@ impl Network {
                 break;
             }
             let bundle = self.bundle(next);
-            let weight = bundle.weight;
-            let less = weight.wrapping_neg();
-            higher = higher.wrapping_add(if bundle.rise > rise { less } else { weight });
-            lower = lower.wrapping_add(if bundle.rise < rise { less } else { weight });
+            higher = higher.wrapping_add(if bundle.rise > rise {
+                bundle.low.wrapping_neg()
+            } else {
+                bundle.high
+            });
+            lower = lower.wrapping_add(if bundle.rise < rise {
+                bundle.high.wrapping_neg()
+            } else {
+                bundle.low
+            });
             next = bundle.above;
         }
         (higher, lower)

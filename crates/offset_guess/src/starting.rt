@@ -38,9 +38,9 @@ impl Network {
         match self.bundles.get_mut(bundle as usize) {
             Some(bundle) => {
                 bundle.flow = if bundle.rise < rise {
-                    bundle.weight
+                    bundle.high
                 } else if bundle.rise > rise {
-                    bundle.weight.wrapping_neg()
+                    bundle.low.wrapping_neg()
                 } else {
                     0
                 };

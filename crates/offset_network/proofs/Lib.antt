@@ -1,11 +1,13 @@
 pub mod SurfaceLemmas
-pub mod LinkLemmas
+pub mod LaneLemmas
+pub mod LaneListLemmas
 pub mod SupplyLemmas
 pub mod StartLemmas
 pub mod FlowLemmas
 pub mod BlockLemmas
 pub mod PlaceLemmas
 pub mod AnswerLemmas
+pub mod CostLemmas
 pub mod PlaceSums
 pub mod CertificateLemmas
 pub mod SolvedLemmas

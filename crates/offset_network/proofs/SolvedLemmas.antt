@@ -15,22 +15,24 @@ use Rattle.seam_regions.specs.Regions.{AreRegionsOf, region_label, offset_at, sh
 use Rattle.seam_regions.specs.RegionsView.{RegionsView}
 use Rattle.seam_regions.proofs.CallerLemmas.{regions_of_scene}
 use Rattle.offset_guess.specs.declared.link.Link.{Link}
-use Rattle.offset_network.specs.Networks.{AreFlows, AreLowered, IsSolved}
+use Rattle.offset_network.specs.declared.lane.Lane.{Lane}
+use Rattle.offset_network.specs.Lanes.{AreLanesOf}
+use Rattle.offset_network.specs.Networks.{AreFlows, AreLowered, AreSums, IsSolved}
 use Rattle.offset_network.specs.Seams.{AreSeamLinks}
 use Rattle.offset_network.specs.Surfaces.{IsGoodSeams}
 use Rattle.offset_network.proofs.CertificateLemmas.{certified}
 
 -- an offset lies within 2^46
-offset_small : (n : ℕ) (o p by : ℤ) → n ≤ 3145728 → o ≡ p -ℤ by → (pos 0 ≤ℤ p) × (p ≤ℤ pos (n * 16777217)) → neg_ℤ (pos 8388608) ≤ℤ by → by ≤ℤ pos (n * 16777217 + 8388608) → unsigned_abs o ≤ 2 ^ 46
+offset_small : (n : ℕ) (o p by : ℤ) → n ≤ 3145728 → o ≡ p -ℤ by → (pos 0 ≤ℤ p) × (p ≤ℤ pos (n * 16777218)) → neg_ℤ (pos 8388608) ≤ℤ by → by ≤ℤ pos (n * 16777218 + 8388608) → unsigned_abs o ≤ 2 ^ 46
 offset_small n o p by few e within low high = omega (arith, ints, few, e, within, low, high)
 
 -- cycles that are not moved up leave the phase
 at_anchor : (f : ℕ) (b o p by : ℤ) → o ≡ p -ℤ by → by ≡ p +ℤ b → pos f +ℤ pos 65536 *ℤ (b +ℤ o) ≡ pos f
 at_anchor f b o p by e h = omega (arith, ints, e, h)
 
-module _ (s : Scene) (m : MaskView) (v : RegionsView) (tiles : TileSetView) (k : SeamResult) (links : List (Option Link)) (z : Shape) (g : State) (by : ℤ)
-    (regions : AreRegionsOf s.tiling m v) (seams : AreSeamLinks (raster_of s) (open_at m) (region_label v) (solved_cycles s tiles.results) links) (net : IsNetwork z) (solved : IsSolved v.count links z g) (flows : AreFlows links g (length links) k.flows.items)
-    (lowered : AreLowered g by z.nodes k.offsets.items) (anchor : (x y : ℕ) → IsFirstOpen (raster_of s) (open_at m) x y → by ≡ g.potential (region_label v x y) +ℤ solved_cycles s tiles.results x y) (low : neg_ℤ (pos 8388608) ≤ℤ by) (high : by ≤ℤ pos (v.count * 16777217 + 8388608)) where
+module _ (s : Scene) (m : MaskView) (v : RegionsView) (tiles : TileSetView) (k : SeamResult) (links : List (Option Link)) (lanes : List (Option Lane)) (parts : List ℤ) (z : Shape) (g : State) (by : ℤ)
+    (regions : AreRegionsOf s.tiling m v) (seams : AreSeamLinks (raster_of s) (open_at m) (region_label v) (solved_cycles s tiles.results) links) (parted : AreLanesOf s.terms.steep links (length links) lanes) (net : IsNetwork z) (solved : IsSolved v.count lanes z g) (flows : AreFlows lanes g (length lanes) parts) (sums : AreSums parts (length links) k.flows.items)
+    (lowered : AreLowered g by z.nodes k.offsets.items) (anchor : (x y : ℕ) → IsFirstOpen (raster_of s) (open_at m) x y → by ≡ g.potential (region_label v x y) +ℤ solved_cycles s tiles.results x y) (low : neg_ℤ (pos 8388608) ≤ℤ by) (high : by ≤ℤ pos (v.count * 16777218 + 8388608)) where
   offset_of : (u : ℕ) → u < v.count → slice_index_or k.offsets.items u (pos 0) ≡ g.potential u -ℤ by
   offset_of u l = lowered.values u (omega (arith, l, solved.built.nodes))
 
@@ -50,7 +52,7 @@ module _ (s : Scene) (m : MaskView) (v : RegionsView) (tiles : TileSetView) (k :
         (let h = solved.heights u (omega (arith, l, solved.built.nodes)) in let n = solved.built.nodes in rw n at h) low high;
     certified = (
       anchored,
-      certified (raster_of s) (open_at m) (region_label v) v.count (solved_cycles s tiles.results) links z g k.flows.items (regions_of_scene s m v regions) seams net solved flows (shifted_by v k.offsets.items (solved_cycles s tiles.results)) by
+      certified (raster_of s) (open_at m) (region_label v) v.count (solved_cycles s tiles.results) links lanes z g parts k.flows.items (regions_of_scene s m v regions) s.terms.steepness.0 seams parted net solved flows sums (shifted_by v k.offsets.items (solved_cycles s tiles.results)) by
           (λ x y l h o. ap (λ (c : ℤ). solved_cycles s tiles.results x y +ℤ c) (offset_of (region_label v x y) (label_below x y l h o))),
     );
   }

@@ -1,4 +1,5 @@
 pub mod Links
+pub mod Lanes
 pub mod Networks
 pub mod Surfaces
 pub mod Seams

@@ -1,73 +1,73 @@
--- The network of some links: while it is made, while flow moves in it, and solved. No public clause cites this file.
+-- The network of some lanes: while it is made, while flow moves in it, and solved. No public clause cites this file.
 use Rattle.std.specs.Prelude.{◌≡◌, ℕ, ◌+◌, ◌*◌, ◌<◌, ◌≤◌, ◌==◌, ℤ, pos, neg_ℤ, ◌+ℤ◌, ◌-ℤ◌, ◌≤ℤ◌, Option, Some, None, List, length, slice_index_or, unsigned_abs}
 use Rattle.flow_network.specs.Nets.{Shape, State, IsArc, HasReducedCosts, HasNoExcess}
 use Rattle.flow_network.specs.Growing.{AddsArc, supply_sum, supply_sizes, total_amount}
 use Rattle.shortest_augment.specs.Balance.{LiesWithin}
-use Rattle.offset_guess.specs.declared.link.Link.{Link}
-use Rattle.offset_network.specs.Links.{arcs_before, brings, link_at, link_start, start_flow}
+use Rattle.offset_network.specs.declared.lane.Lane.{Lane}
+use Rattle.offset_network.specs.Lanes.{arcs_before, brings, lane_at, lane_start, start_flow}
 use Rattle.sums_and_lists.specs.Sums.{sum_below, where_true}
 
--- what the flows of the first i links bring to a region at the start
-unfoldable pub supply_of : List (Option Link) → ℕ → ℕ → ℤ
-supply_of links i v = sum_below i (λ j. brings (link_at links j) v (start_flow (link_at links j)))
+-- what the flows of the first i lanes bring to a region at the start
+unfoldable pub supply_of : List (Option Lane) → ℕ → ℕ → ℤ
+supply_of lanes i v = sum_below i (λ j. brings (lane_at lanes j) v (start_flow (lane_at lanes j)))
 
 -- the list has this number for each of n regions
-pub record AreSupplies (n : ℕ) (links : List (Option Link)) (i : ℕ) (supplies : List ℤ) : Type 0 where
+pub record AreSupplies (n : ℕ) (lanes : List (Option Lane)) (i : ℕ) (supplies : List ℤ) : Type 0 where
   pub count : length supplies ≡ n
-  pub values : (v : ℕ) → v < n → slice_index_or supplies v (pos 0) ≡ supply_of links i v
+  pub values : (v : ℕ) → v < n → slice_index_or supplies v (pos 0) ≡ supply_of lanes i v
   pub even : supply_sum supplies ≡ pos 0
-  pub sizes : supply_sizes supplies ≤ℤ pos (131070 * i)
-  pub small : (v : ℕ) → unsigned_abs (slice_index_or supplies v (pos 0)) ≤ 131070 * i
+  pub sizes : supply_sizes supplies ≤ℤ pos (1966050 * i)
+  pub small : (v : ℕ) → unsigned_abs (slice_index_or supplies v (pos 0)) ≤ 1966050 * i
 
--- arc a is the link's, from its first region to the other, and its twin comes next; their residual capacities sum to twice the weight
-pub record IsArcOf (s : Shape) (f : State) (a : ℕ) (k : Link) : Type 0 where
+-- arc a is the lane's, from its first region to the other, and its twin comes next; their residual capacities sum to what it can take both ways
+pub record IsArcOf (s : Shape) (f : State) (a : ℕ) (k : Lane) : Type 0 where
   pub below : a + 1 < s.arcs
   pub head : s.head a ≡ k.to
   pub tail : s.head (a + 1) ≡ k.from
   pub twin : s.twin a ≡ a + 1
   pub cost : s.cost a ≡ neg_ℤ k.departure
-  pub capacity : f.residual a + f.residual (a + 1) ≡ 2 * k.weight
+  pub capacity : f.residual a + f.residual (a + 1) ≡ k.low + k.high
 
--- the network has a node for each region and the arcs of the first i links
-pub record HasArcs (n : ℕ) (links : List (Option Link)) (i : ℕ) (s : Shape) (f : State) : Type 0 where
+-- the network has a node for each region and the arcs of the first i lanes
+pub record HasArcs (n : ℕ) (lanes : List (Option Lane)) (i : ℕ) (s : Shape) (f : State) : Type 0 where
   pub nodes : s.nodes ≡ n
-  pub arcs : s.arcs ≡ arcs_before links i
+  pub arcs : s.arcs ≡ arcs_before lanes i
   pub are_arcs : (a : ℕ) → a < s.arcs → IsArc s a
-  pub each : (j : ℕ) (k : Link) → j < i → link_at links j ≡ Some k → IsArcOf s f (arcs_before links j) k
+  pub each : (j : ℕ) (k : Lane) → j < i → lane_at lanes j ≡ Some k → IsArcOf s f (arcs_before lanes j) k
 
--- the flow on a link: its weight minus the residual capacity of its arc
-abbrev pub flow_left : Option Link → ℕ → ℤ
+-- the flow on a lane: the most that it can be, minus the residual capacity of its arc
+abbrev pub flow_left : Option Lane → ℕ → ℤ
 flow_left None left = pos 0
-flow_left (Some k) left = pos k.weight -ℤ pos left
+flow_left (Some k) left = pos k.high -ℤ pos left
 
-abbrev pub link_flow : List (Option Link) → State → ℕ → ℤ
-link_flow links f j = flow_left (link_at links j) (f.residual (arcs_before links j))
+abbrev pub lane_flow : List (Option Lane) → State → ℕ → ℤ
+lane_flow lanes f j = flow_left (lane_at lanes j) (f.residual (arcs_before lanes j))
 
--- nothing has flowed yet in the network of the first i links, and the flows at the start are counted as supplies
-pub record IsStarted (n : ℕ) (links : List (Option Link)) (i : ℕ) (s : Shape) (f : State) : Type 0 where
-  pub built : HasArcs n links i s f
-  pub flows : (j : ℕ) → j < i → link_flow links f j ≡ start_flow (link_at links j)
-  pub excess : (v : ℕ) → v < n → f.excess v ≡ supply_of links (length links) v
+-- nothing has flowed yet in the network of the first i lanes, and the flows at the start are counted as supplies
+pub record IsStarted (n : ℕ) (lanes : List (Option Lane)) (i : ℕ) (s : Shape) (f : State) : Type 0 where
+  pub built : HasArcs n lanes i s f
+  pub flows : (j : ℕ) → j < i → lane_flow lanes f j ≡ start_flow (lane_at lanes j)
+  pub excess : (v : ℕ) → v < n → f.excess v ≡ supply_of lanes (length lanes) v
   pub flat : (v : ℕ) → v < n → f.potential v ≡ pos 0
-  pub costs : (a : ℕ) → a < s.arcs → unsigned_abs (s.cost a) ≤ 16777217
-  pub amount : total_amount s f ≤ℤ pos (131070 * (length links + i))
+  pub costs : (a : ℕ) → a < s.arcs → unsigned_abs (s.cost a) ≤ 16777218
+  pub amount : total_amount s f ≤ℤ pos (1966050 * (length lanes + i))
 
 -- each region's excess is what the flows bring to it
-abbrev pub HasFlows : ℕ → List (Option Link) → State → Type 0
-HasFlows n links f = (v : ℕ) → v < n → f.excess v ≡ sum_below (length links) (λ j. brings (link_at links j) v (link_flow links f j))
+abbrev pub HasFlows : ℕ → List (Option Lane) → State → Type 0
+HasFlows n lanes f = (v : ℕ) → v < n → f.excess v ≡ sum_below (length lanes) (λ j. brings (lane_at lanes j) v (lane_flow lanes f j))
 
--- a network of all links without excess
-pub record IsSolved (n : ℕ) (links : List (Option Link)) (s : Shape) (f : State) : Type 0 where
-  pub built : HasArcs n links (length links) s f
-  pub flows : HasFlows n links f
+-- a network of all lanes without excess
+pub record IsSolved (n : ℕ) (lanes : List (Option Lane)) (s : Shape) (f : State) : Type 0 where
+  pub built : HasArcs n lanes (length lanes) s f
+  pub flows : HasFlows n lanes f
   pub balanced : HasNoExcess s f
-  pub heights : LiesWithin s f 16777217
+  pub heights : LiesWithin s f 16777218
   pub reduced : HasReducedCosts s f
 
--- the flows of the first i links
-pub record AreFlows (links : List (Option Link)) (f : State) (i : ℕ) (flows : List ℤ) : Type 0 where
+-- the flows of the first i lanes
+pub record AreFlows (lanes : List (Option Lane)) (f : State) (i : ℕ) (flows : List ℤ) : Type 0 where
   pub count : length flows ≡ i
-  pub values : (j : ℕ) → j < i → slice_index_or flows j (pos 0) ≡ link_flow links f j
+  pub values : (j : ℕ) → j < i → slice_index_or flows j (pos 0) ≡ lane_flow lanes f j
 
 -- the potentials of the first n nodes, lowered by a number
 pub record AreLowered (f : State) (by : ℤ) (n : ℕ) (offsets : List ℤ) : Type 0 where
@@ -79,22 +79,30 @@ pub record AddsAt (old new : List ℤ) (place : ℕ) (amount : ℤ) : Type 0 whe
   pub same_length : length new ≡ length old
   pub added : (v : ℕ) → v < length old → slice_index_or new v (pos 0) ≡ slice_index_or old v (pos 0) +ℤ where_true (place == v) amount
 
--- a link's flow at the start was counted
-pub record IsSupplied (old new : List ℤ) (link : Option Link) : Type 0 where
+-- a lane's flow at the start was counted
+pub record IsSupplied (old new : List ℤ) (lane : Option Lane) : Type 0 where
   pub same_length : length new ≡ length old
-  pub values : (v : ℕ) → v < length old → slice_index_or new v (pos 0) ≡ slice_index_or old v (pos 0) +ℤ brings link v (start_flow link)
+  pub values : (v : ℕ) → v < length old → slice_index_or new v (pos 0) ≡ slice_index_or old v (pos 0) +ℤ brings lane v (start_flow lane)
   pub even : supply_sum new ≡ supply_sum old
-  pub sizes : supply_sizes new ≤ℤ (supply_sizes old +ℤ pos 131070)
-  pub small : (m : ℕ) → ((v : ℕ) → unsigned_abs (slice_index_or old v (pos 0)) ≤ m) → (v : ℕ) → unsigned_abs (slice_index_or new v (pos 0)) ≤ m + 131070
+  pub sizes : supply_sizes new ≤ℤ (supply_sizes old +ℤ pos 1966050)
+  pub small : (m : ℕ) → ((v : ℕ) → unsigned_abs (slice_index_or old v (pos 0)) ≤ m) → (v : ℕ) → unsigned_abs (slice_index_or new v (pos 0)) ≤ m + 1966050
 
--- the network got the arc of a link and its twin, whose residual capacities count the flow at the start
-pub record AddsLinkArc (s z : Shape) (f g : State) (k : Link) : Type 0 where
+-- the network got the arc of a lane and its twin, whose residual capacities count the flow at the start
+pub record AddsLaneArc (s z : Shape) (f g : State) (k : Lane) : Type 0 where
   pub forward : ℕ
   pub back : ℕ
-  pub left : pos forward ≡ pos k.weight -ℤ link_start k
-  pub pushed : pos back ≡ pos k.weight +ℤ link_start k
+  pub left : pos forward ≡ pos k.high -ℤ lane_start k
+  pub pushed : pos back ≡ pos k.low +ℤ lane_start k
   pub arc : AddsArc s z f g k.from k.to (neg_ℤ k.departure) forward back
 
-abbrev pub IsJoined : Shape → Shape → State → State → Option Link → Type 0
+abbrev pub IsJoined : Shape → Shape → State → State → Option Lane → Type 0
 IsJoined s z f g None = (z ≡ s) × (g ≡ f)
-IsJoined s z f g (Some k) = AddsLinkArc s z f g k
+IsJoined s z f g (Some k) = AddsLaneArc s z f g k
+
+-- what three numbers of a list that follow one another are in sum, and the first i of those sums
+abbrev pub three_from : List ℤ → ℕ → ℤ
+three_from parts j = slice_index_or parts (3 * j) (pos 0) +ℤ slice_index_or parts (3 * j + 1) (pos 0) +ℤ slice_index_or parts (3 * j + 2) (pos 0)
+
+pub record AreSums (parts : List ℤ) (i : ℕ) (sums : List ℤ) : Type 0 where
+  pub count : length sums ≡ i
+  pub values : (j : ℕ) → j < i → slice_index_or sums j (pos 0) ≡ three_from parts j

@@ -1,51 +1,70 @@
 ghost use Rattle.flow_network.specs.Views.{shape_of, state_of};
-ghost use Rattle.offset_network.specs.Links.{AreLinks, arcs_before, arcs_of as arcs_of_link, link_at};
-ghost use Rattle.offset_network.specs.Networks.{AreFlows, AreLowered, HasArcs, IsArcOf, flow_left};
+ghost use Rattle.offset_network.specs.Lanes.{AreLanes, arcs_before, arcs_of as arcs_of_lane, lane_at};
+ghost use Rattle.offset_network.specs.Networks.{AreFlows, AreLowered, AreSums, HasArcs, IsArcOf, flow_left};
 ghost use Rattle.certificates.specs.TileSets.{solved_cycles};
 ghost use Rattle.raster_model.specs.Masks.{open_at};
 ghost use Rattle.raster_model.specs.Scene.{raster_of};
 ghost use Rattle.raster_model.specs.Seams.{IsOpenPixel, IsFirstOpen};
 ghost use Rattle.seam_regions.specs.Regions.{AreRegionsOf, region_label};
 ghost use Rattle.shortest_augment.specs.Balance.{LiesWithin};
-ghost use Rattle.std.specs.Prelude.{◌≡◌, ℕ, ◌+◌, ◌*◌, ◌<◌, ◌≤◌, ◌+ℤ◌, ◌≤ℤ◌, IfNone, IfOk, IfSome, Some, length, neg_ℤ, pos, unsigned_abs, ◌^◌};
+ghost use Rattle.std.specs.Prelude.{◌≡◌, ℕ, ◌+◌, ◌*◌, ◌<◌, ◌≤◌, ◌+ℤ◌, ◌≤ℤ◌, IfNone, IfOk, IfSome, Some, length, neg_ℤ, pos, slice_index_or, unsigned_abs, ◌^◌};
 
-use crate::link::arcs_of;
+use crate::lane::{Lane, arcs_of};
 use crate::surface::TileSurface;
 use flow_network::{FlowNet, Network};
-use offset_guess::Link;
 use raster_model::first_open;
 use seam_regions::Regions;
 use std::alloc::{AllocError, Global};
 
-/// The flow on a link, from its first region to the other. `arc` is the number of the link's arc.
-fn flow(net: &Network, link: Option<Link>, arc: u32) -> i64
-    requires arc { (k : Link) → link ≡ Some k → IsArcOf (shape_of net.now) (state_of net.now) arc k }
-    requires weight { (k : Link) → link ≡ Some k → k.weight ≤ 65535 }
-    ensures { result ≡ flow_left link ((state_of net.now).residual arc) }
+/// The flow on a lane, from its first region to the other. `arc` is the number of the lane's arc.
+fn flow(net: &Network, lane: Option<Lane>, arc: u32) -> i64
+    requires arc { (k : Lane) → lane ≡ Some k → IsArcOf (shape_of net.now) (state_of net.now) arc k }
+    requires range { (k : Lane) → lane ≡ Some k → (k.low ≤ 983025) × (k.high ≤ 983025) }
+    ensures value { result ≡ flow_left lane ((state_of net.now).residual arc) }
+    ensures small { unsigned_abs result ≤ 983025 }
 {
-    match link {
+    match lane {
         None => 0,
-        Some(link) => i64::from(link.weight) - net.residual(arc) as i64,
+        Some(lane) => i64::from(lane.high) - net.residual(arc) as i64,
     }
 }
 
-/// The flows of the links, in their order.
+/// The flows of the lanes, in their order.
 pub(crate) fn flows(
     alloc: Global,
     net: &Network,
-    links: &[Option<Link>],
+    lanes: &[Option<Lane>],
 ) -> Result<Vec<i64>, AllocError>
-    requires links { AreLinks (shape_of net.now).nodes links.now }
-    requires arcs { HasArcs (shape_of net.now).nodes links.now (length links.now) (shape_of net.now) (state_of net.now) }
-    ensures { IfOk result (λ flows. AreFlows links.now (state_of net.now) (length links.now) flows.items) }
+    requires lanes { AreLanes (shape_of net.now).nodes lanes.now }
+    requires arcs { HasArcs (shape_of net.now).nodes lanes.now (length lanes.now) (shape_of net.now) (state_of net.now) }
+    ensures flows { IfOk result (λ flows. AreFlows lanes.now (state_of net.now) (length lanes.now) flows.items) }
+    ensures small { IfOk result (λ flows. (j : ℕ) → unsigned_abs (slice_index_or flows.items j (pos 0)) ≤ 983025) }
 {
-    let mut flows = Vec::with_capacity(alloc, links.len())?;
+    let mut flows = Vec::with_capacity(alloc, lanes.len())?;
     let mut arc = 0;
-    for link in links {
-        flows.push(flow(net, *link, arc))?;
-        arc += arcs_of(*link);
+    for lane in lanes {
+        flows.push(flow(net, *lane, arc))?;
+        arc += arcs_of(*lane);
     }
     Ok(flows)
+}
+
+/// The sums of three numbers each: from those of the lanes those of the links, of which there are so many.
+pub(crate) fn sums_of_three(
+    alloc: Global,
+    parts: &[i64],
+    links: usize,
+) -> Result<Vec<i64>, AllocError>
+    requires count { length parts.now ≡ 3 * links }
+    requires small { (j : ℕ) → unsigned_abs (slice_index_or parts.now j (pos 0)) ≤ 983025 }
+    ensures { IfOk result (λ sums. AreSums parts.now links sums.items) }
+{
+    let mut sums = Vec::with_capacity(alloc, links)?;
+    for place in 0..links {
+        let first = 3 * place;
+        sums.push(parts[first] + parts[first + 1] + parts[first + 2])?;
+    }
+    Ok(sums)
 }
 
 /// How high the first open pixel lies, in whole cycles above the phase: the potential of its region plus its cycles. It
@@ -53,10 +72,10 @@ pub(crate) fn flows(
 pub(crate) fn anchor(surface: &TileSurface, regions: &Regions, net: &Network) -> i64
     requires regions { AreRegionsOf surface.now.scene.now.tiling surface.now.mask.now regions.now }
     requires nodes { (shape_of net.now).nodes ≡ regions.now.count }
-    requires heights { LiesWithin (shape_of net.now) (state_of net.now) 16777217 }
+    requires heights { LiesWithin (shape_of net.now) (state_of net.now) 16777218 }
     ensures value { (x y : ℕ) → IsFirstOpen (raster_of surface.now.scene.now) (open_at surface.now.mask.now) x y → result ≡ ((state_of net.now).potential (region_label regions.now x y) +ℤ solved_cycles surface.now.scene.now surface.now.tiles.now.results x y) }
     ensures low { neg_ℤ (pos 8388608) ≤ℤ result }
-    ensures high { result ≤ℤ pos (regions.now.count * 16777217 + 8388608) }
+    ensures high { result ≤ℤ pos (regions.now.count * 16777218 + 8388608) }
 {
     let Some((x, y)) = first_open(surface.scene, surface.mask) else {
         return 0;
@@ -69,7 +88,7 @@ pub(crate) fn anchor(surface: &TileSurface, regions: &Regions, net: &Network) ->
 
 /// The potentials of all nodes, each lowered by a number.
 pub(crate) fn lowered(alloc: Global, net: &Network, by: i64) -> Result<Vec<i64>, AllocError>
-    requires heights { LiesWithin (shape_of net.now) (state_of net.now) 16777217 }
+    requires heights { LiesWithin (shape_of net.now) (state_of net.now) 16777218 }
     requires few { (shape_of net.now).nodes ≤ 3145728 }
     requires small { unsigned_abs by ≤ 2 ^ 47 }
     ensures { IfOk result (λ offsets. AreLowered (state_of net.now) by (shape_of net.now).nodes offsets.items) }

@@ -18,12 +18,13 @@ use std::alloc::{AllocError, Global};
 pub(crate) fn guess_or_solver(
     alloc: Global,
     regions: &Regions,
+    steep: u32,
     links: &[Option<Link>],
     guess: Option<Guess>,
 ) -> Result<Guess, AllocError> {
     match guess {
         Some(guess) => Ok(guess),
-        None => guess_offsets(alloc, regions.count(), links),
+        None => guess_offsets(alloc, regions.count(), steep, links),
     }
 }
 

@@ -4,7 +4,8 @@
 
 mod answer;
 mod guessing;
-mod link;
+mod lane;
+mod lanes;
 mod links;
 mod network;
 mod shifted;

@@ -8,8 +8,9 @@ ghost use Rattle.raster_model.specs.Masks.{open_at};
 ghost use Rattle.seam_regions.specs.Regions.{AreRegionsOf, region_label};
 ghost use Rattle.std.specs.Prelude.{◌≡◌, IfOk};
 
-use crate::answer::{anchor, flows, lowered};
+use crate::answer::{anchor, flows, lowered, sums_of_three};
 use crate::guessing::{certified, guess_or_solver};
+use crate::lanes::lanes;
 use crate::links::links;
 use crate::network::solved;
 use crate::surface::TileSurface;
@@ -61,7 +62,7 @@ pub fn solve_offsets_from(
 {
     let surface = TileSurface { scene, mask, tiles };
     let links = links(alloc, &surface, regions)?;
-    let guess = guess_or_solver(alloc, regions, &links, guess)?;
+    let guess = guess_or_solver(alloc, regions, scene.terms.steep, &links, guess)?;
     if let Some(solved) = certified(alloc, &surface, regions, guess, revision)? {
         return Ok(solved);
     }
@@ -82,8 +83,11 @@ fn by_network(
     ensures revision { IfOk result (λ solved. solved.revision ≡ revision) }
     ensures good { IfOk result (IsGoodSeams surface.now.scene.now surface.now.mask.now regions.now surface.now.tiles.now) }
 {
-    let net = solved(alloc, regions.count(), links)?;
-    let flows = flows(alloc, &net, links)?;
+    let count = regions.count();
+    let lanes = lanes(alloc, links, surface.scene.terms.steep, count)?;
+    let net = solved(alloc, count, &lanes)?;
+    let parts = flows(alloc, &net, &lanes)?;
+    let flows = sums_of_three(alloc, &parts, links.len())?;
     let offsets = lowered(alloc, &net, anchor(surface, regions, &net))?;
     Ok(SeamResult {
         revision,

@@ -1,8 +1,8 @@
 ghost use Rattle.raster_model.specs.Tiles.{tiles_of};
 ghost use Rattle.std.specs.Prelude.{◌<◌, IfOk};
 
-use crate::reading::{cycles, field, numbers, read_raster};
-use crate::tile_rows::ROWS;
+use crate::reading::{Raster, cycles, field, numbers, read_raster, read_steep};
+use crate::tile_rows::{ROWS, STEEP_ROWS};
 use certificates::{TileVerdict, check_tile};
 use dual_grid::Problem;
 use raster_model::{Mask, Scene};
@@ -121,9 +121,10 @@ fn any_guess_ends_in_a_certified_tile(rt: HostRuntime) -> Result<(), Fail> {
     Ok(())
 }
 
-/// What the check says of a row's raster, solved by the network alone.
-fn network_verdict(rt: &impl Abort, alloc: Global, row: &str) -> Result<TileVerdict, Fail> {
-    let raster = read_raster(rt, alloc, row)?;
+/// What the check says of a raster, solved by the network alone.
+fn network_verdict(rt: &impl Abort, alloc: Global, raster: &Raster) -> Result<TileVerdict, Fail>
+    requires { 0 < tiles_of raster.now.scene.tiling }
+{
     let nothing = Guess {
         right: Vec::new(alloc),
         down: Vec::new(alloc),
@@ -136,7 +137,18 @@ fn network_verdict(rt: &impl Abort, alloc: Global, row: &str) -> Result<TileVerd
 #[test]
 fn the_network_certifies_too(rt: HostRuntime) -> Result<(), Fail> {
     for row in ROWS.lines() {
-        assert!(rt; network_verdict(&rt, rt.alloc(), row)? == TileVerdict::Good);
+        let raster = read_raster(&rt, rt.alloc(), row)?;
+        assert!(rt; network_verdict(&rt, rt.alloc(), &raster)? == TileVerdict::Good);
+    }
+    Ok(())
+}
+
+/// So it does at other steepnesses.
+#[test]
+fn the_network_certifies_steep_tiles(rt: HostRuntime) -> Result<(), Fail> {
+    for (steep, row) in STEEP_ROWS {
+        let raster = read_steep(&rt, rt.alloc(), steep, row)?;
+        assert!(rt; network_verdict(&rt, rt.alloc(), &raster)? == TileVerdict::Good);
     }
     Ok(())
 }

@@ -8,4 +8,6 @@ mod offset_rows;
 #[cfg(test)]
 mod reading;
 #[cfg(test)]
+mod steep_rows;
+#[cfg(test)]
 mod tile_rows;

@@ -2,12 +2,12 @@
 ghost use Rattle.raster_model.specs.Tiles.{tiles_of};
 ghost use Rattle.std.specs.Prelude.{◌<◌, IfOk};
 
-use raster_model::{Scene, Tiling};
+use raster_model::{Scene, Terms, Tiling};
 use std::alloc::{AllocError, Global};
 use std::process::Abort;
 use std::str::Split;
 use std::test::Fail;
-use worked_scenes::scene;
+use worked_scenes::scene_on;
 
 /// A raster in one tile, and the samples of its mask.
 #[derive(Drop)]
@@ -52,13 +52,39 @@ fn samples(alloc: Global, field: &str) -> Result<Vec<u16>, AllocError> {
 pub(crate) fn read_raster(rt: &impl Abort, alloc: Global, row: &str) -> Result<Raster, Fail>
     ensures { IfOk result (λ made. 0 < tiles_of made.scene.tiling) }
 {
+    read_raster_on(rt, alloc, Terms::plain(), row)
+}
+
+/// The same at a steepness.
+pub(crate) fn read_steep(
+    rt: &impl Abort,
+    alloc: Global,
+    steep: u32,
+    row: &str,
+) -> Result<Raster, Fail>
+    ensures { IfOk result (λ made. 0 < tiles_of made.scene.tiling) }
+{
+    assert!(rt; 1 <= steep && steep <= 16);
+    let terms = Terms {
+        ramp_x: 0,
+        ramp_y: 0,
+        steep,
+    };
+    read_raster_on(rt, alloc, terms, row)
+}
+
+/// The same on these terms.
+fn read_raster_on(rt: &impl Abort, alloc: Global, terms: Terms, row: &str) -> Result<Raster, Fail>
+    ensures { IfOk result (λ made. 0 < tiles_of made.scene.tiling) }
+{
     let mut fields = row.split('|');
     let width = field(&mut fields).parse().unwrap_or(0u32);
     let height = field(&mut fields).parse().unwrap_or(0u32);
     assert!(rt; 0 < width && width <= 9 && 0 < height && height <= 9);
     let phases = samples(alloc, field(&mut fields))?;
     let weights = samples(alloc, field(&mut fields))?;
-    let scene = scene(alloc, Tiling::new(width, height, 128), 9, &phases, &weights)?;
+    let tiling = Tiling::new(width, height, 128);
+    let scene = scene_on(alloc, terms, tiling, 9, &phases, &weights)?;
     assert!(rt; 0 < scene.tiling.tile_count());
     let opened = samples(alloc, field(&mut fields))?;
     Ok(Raster { scene, opened })

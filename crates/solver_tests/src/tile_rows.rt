@@ -1,7 +1,7 @@
 ghost use Rattle.raster_model.specs.Tiles.{tiles_of};
 ghost use Rattle.std.specs.Prelude.{◌≡◌, ◌<◌, IfOk};
 
-use crate::reading::read_raster;
+use crate::reading::{Raster, read_raster, read_steep};
 use certificates::{TileResult, TileVerdict, check_tile};
 use raster_model::{Scene, Terms, Tiling};
 use std::alloc::{AllocError, Global};
@@ -59,8 +59,9 @@ fn solved(
 
 /// What the check says of a row's raster with the solver's faces, and what with every face 0: then it counts what the
 /// surface costs.
-fn verdicts(rt: &impl Abort, alloc: Global, row: &str) -> Result<[TileVerdict; 2], Fail> {
-    let raster = read_raster(rt, alloc, row)?;
+fn verdicts(rt: &impl Abort, alloc: Global, raster: &Raster) -> Result<[TileVerdict; 2], Fail>
+    requires { 0 < tiles_of raster.now.scene.tiling }
+{
     let mask = masked(alloc, &raster.scene.tiling, &raster.opened)?;
     let solved = solved(rt, alloc, &raster.scene, &raster.opened)?;
     let none = vec![in alloc; 0; solved.faces.len()]?;
@@ -79,13 +80,48 @@ fn cost_of(row: &str) -> u128 {
 #[test]
 fn tiles_cost_what_another_solver_finds(rt: HostRuntime) -> Result<(), Fail> {
     for row in ROWS.lines() {
-        let [solved, bare] = verdicts(&rt, rt.alloc(), row)?;
+        let raster = read_raster(&rt, rt.alloc(), row)?;
+        let [solved, bare] = verdicts(&rt, rt.alloc(), &raster)?;
         assert_eq!(rt; solved, TileVerdict::Good);
         let counted = match cost_of(row) {
             0 => TileVerdict::Good,
             cost => TileVerdict::CostDiffers { cost, bound: 0 },
         };
         assert_eq!(rt; bare, counted);
+    }
+    Ok(())
+}
+
+/// Steepnesses and rows of `read_raster` with the least cost at the end. The full turn's one correction costs as much at
+/// each. The cost of the other raster was found by a search through all cycles from -4 to 4 at each pixel, row by row: at
+/// steepness 1 an edge of weight 1 is corrected by more than one cycle.
+pub(crate) const STEEP_ROWS: [(u32, &str); 4] = [
+    (3, "2|2|0 16384 49152 32768|5 5 3 9|1 1 1 1|3"),
+    (
+        1,
+        "3|5|2981 8702 56626 27674 26720 31186 12442 42913 3973 41967 5006 40351 4786 25141 \
+         12322|9 9 9 9 1 9 9 8 5 7 9 9 5 1 9|1 1 1 1 1 1 1 1 1 1 1 1 1 1 1|12",
+    ),
+    (
+        4,
+        "3|5|2981 8702 56626 27674 26720 31186 12442 42913 3973 41967 5006 40351 4786 25141 \
+         12322|9 9 9 9 1 9 9 8 5 7 9 9 5 1 9|1 1 1 1 1 1 1 1 1 1 1 1 1 1 1|15",
+    ),
+    (
+        16,
+        "3|5|2981 8702 56626 27674 26720 31186 12442 42913 3973 41967 5006 40351 4786 25141 \
+         12322|9 9 9 9 1 9 9 8 5 7 9 9 5 1 9|1 1 1 1 1 1 1 1 1 1 1 1 1 1 1|15",
+    ),
+];
+
+#[test]
+fn steep_tiles_cost_what_a_search_finds(rt: HostRuntime) -> Result<(), Fail> {
+    for (steep, row) in STEEP_ROWS {
+        let raster = read_steep(&rt, rt.alloc(), steep, row)?;
+        let [solved, bare] = verdicts(&rt, rt.alloc(), &raster)?;
+        assert_eq!(rt; solved, TileVerdict::Good);
+        let cost = cost_of(row);
+        assert_eq!(rt; bare, TileVerdict::CostDiffers { cost, bound: 0 });
     }
     Ok(())
 }

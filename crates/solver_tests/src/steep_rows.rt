@@ -1,0 +1,143 @@
+ghost use Rattle.certificates.specs.Results.{IsGoodTile};
+ghost use Rattle.offset_network.specs.Surfaces.{IsGoodTileSet};
+ghost use Rattle.raster_model.specs.Limits.{IsSteepness};
+ghost use Rattle.raster_model.specs.Masks.{open_at};
+ghost use Rattle.raster_model.specs.Tiles.{tiles_of};
+ghost use Rattle.std.specs.Prelude.{◌≡◌, ◌<◌, IfOk, IfSome};
+
+use crate::reading::{field, numbers};
+use certificates::{SeamResult, TileResult, TileSet, TileVerdict, check_tile};
+use offset_guess::Guess;
+use offset_network::solve_offsets_from;
+use raster_model::{Mask, Scene, Terms, Tiling};
+use seam_regions::Regions;
+use std::alloc::{AllocError, Global};
+use std::process::Abort;
+use std::sync::Arc;
+use std::test::Fail;
+use worked_scenes::{masked, scene_on, tile_result};
+
+/// A raster of four columns in two tiles, of which the second is the last column alone. The first falls by 32,000 from row
+/// to row, the other rises as much, so across the seam, where the edges weigh 9, 1 and 4, the surface departs by 0, 1 and 2
+/// cycles.
+const PHASES: [u16; 12] = [
+    0, 0, 0, 0, 33536, 33536, 33536, 32000, 1536, 1536, 1536, 64000,
+];
+
+const WEIGHTS: [u16; 12] = [9, 9, 9, 9, 1, 1, 1, 1, 4, 4, 4, 4];
+
+/// A tile's result, if it is good.
+fn solved(
+    alloc: Global,
+    scene: &Scene,
+    mask: &Mask,
+    tile: u32,
+    cycles: &[i32],
+    faces: &[i64],
+) -> Option<TileResult>
+    requires same_size { (mask.now.width ≡ scene.now.phase.width) × (mask.now.height ≡ scene.now.phase.height) }
+    requires exists { tile < tiles_of scene.now.tiling }
+    ensures tile { IfSome result (λ made. made.tile ≡ tile) }
+    ensures good { IfSome result (IsGoodTile scene.now (open_at mask.now)) }
+{
+    let made = tile_result(alloc, tile, 0, cycles, faces).ok()?;
+    match check_tile(scene, mask, &made) {
+        TileVerdict::Good => Some(made),
+        _ => None,
+    }
+}
+
+/// The set of two results.
+fn pair(
+    alloc: Global,
+    scene: &Scene,
+    mask: &Mask,
+    first: TileResult,
+    second: TileResult,
+) -> Result<TileSet, AllocError>
+    requires two { tiles_of scene.now.tiling ≡ 2 }
+    requires first { (first.tile ≡ 0) × IsGoodTile scene.now (open_at mask.now) first }
+    requires second { (second.tile ≡ 1) × IsGoodTile scene.now (open_at mask.now) second }
+    ensures { IfOk result (IsGoodTileSet scene.now (open_at mask.now)) }
+{
+    let results = vec![in alloc; Arc::new(alloc, first)?, Arc::new(alloc, second)?]?;
+    Ok(TileSet::of_shared(&scene.tiling, results))
+}
+
+/// The tiles' results, by hand, if they are good at the scene's steepness.
+fn tiles(alloc: Global, scene: &Scene, mask: &Mask) -> Option<TileSet>
+    requires same_size { (mask.now.width ≡ scene.now.phase.width) × (mask.now.height ≡ scene.now.phase.height) }
+    ensures { IfSome result (IsGoodTileSet scene.now (open_at mask.now)) }
+{
+    if scene.tiling.tile_count() != 2 {
+        return None;
+    }
+    let cycles = [0, 0, 0, -1, -1, -1, -1, -1, -1];
+    let first = solved(alloc, scene, mask, 0, &cycles, &[0, 0, 0, 0])?;
+    let second = solved(alloc, scene, mask, 1, &[0, 0, 0], &[])?;
+    pair(alloc, scene, mask, first, second).ok()
+}
+
+/// The raster's offsets and flows at a steepness, from a guess if one is given.
+fn seams(alloc: Global, steep: u32, guess: Option<Guess>) -> Option<SeamResult>
+    requires { IsSteepness steep }
+{
+    let terms = Terms {
+        ramp_x: 0,
+        ramp_y: 0,
+        steep,
+    };
+    let tiling = Tiling::new(4, 3, 3);
+    let scene = scene_on(alloc, terms, tiling, 9, &PHASES, &WEIGHTS).ok()?;
+    let mask = masked(alloc, &tiling, &[1; 12]).ok()?;
+    let tiles = tiles(alloc, &scene, &mask)?;
+    let Ok(regions) = Regions::of(alloc, &scene.tiling, &mask) else {
+        return None;
+    };
+    solve_offsets_from(alloc, &scene, &mask, &regions, &tiles, 7, guess).ok()
+}
+
+/// Rows of a steepness, a guess at offsets and flows, or neither, and how the answer begins. By hand: with offsets 0 0 the
+/// seam costs 1 + 2 * 4 at steepness 1 and 1 + 4 * 4 at steepness 3; a cycle lower it departs by -1, 0 and 1 and costs 9 + 4
+/// at both. The flows -5 1 4 certify 9 at steepness 1, and no others do; -9 0 9 certify 9 + 9 - 5 at steepness 3.
+const ROWS: &str = "\
+1|||[0, 0] [-5, 1, 4]
+1|0|0|[0, 0] [-5, 1, 4]
+1|0 -1|-9 0 9|[0, 0] [-5, 1, 4]
+3|||[0, -1] [
+3|0|0|[0, -1] [
+3|0 0|-5 1 4|[0, -1] [
+3|0 -1|-9 0 9|[0, -1] [-9, 0, 9]";
+
+/// The guess of a row.
+fn guess(alloc: Global, offsets: &str, flows: &str) -> Result<Option<Guess>, AllocError> {
+    if offsets.is_empty() {
+        return Ok(None);
+    }
+    Ok(Some(Guess {
+        offsets: numbers(alloc, offsets)?,
+        flows: numbers(alloc, flows)?,
+    }))
+}
+
+/// Whether a row's answer begins as it says.
+fn is_as_told(rt: &impl Abort, alloc: Global, row: &str) -> Result<bool, Fail> {
+    let mut fields = row.split('|');
+    let steep = field(&mut fields).parse().unwrap_or(0u32);
+    assert!(rt; 1 <= steep && steep <= 16);
+    let offsets = field(&mut fields);
+    let guess = guess(alloc, offsets, field(&mut fields))?;
+    let seams = seams(alloc, steep, guess).expect(rt, "good tiles and memory");
+    let found = format!(in alloc; "{:?} {:?}", seams.offsets, seams.flows)?;
+    Ok(found.starts_with(field(&mut fields)))
+}
+
+/// At a higher steepness a cycle on each of two edges costs less than two on one of them.
+#[test]
+fn steep_costs_move_a_region(rt: HostRuntime) -> Result<(), Fail> {
+    let alloc = rt.alloc();
+    for row in ROWS.lines() {
+        assert!(rt; is_as_told(&rt, alloc, row)?);
+    }
+    Ok(())
+}

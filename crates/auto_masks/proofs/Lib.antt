@@ -11,3 +11,4 @@ pub mod SumLemmas
 pub mod KeepLemmas
 pub mod SameKeys
 pub mod ScreenLemmas
+pub mod LawLemmas

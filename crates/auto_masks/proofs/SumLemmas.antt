@@ -54,7 +54,7 @@ far_below r x a l = grind (arith, nat_tests)
 far_above : (r x a : ℕ) → x + r < a → is_close r x a ≡ false
 far_above r x a l = grind (arith, nat_tests)
 
-near_by : (r x a : ℕ) → x ≤ a + r → a ≤ x + r → is_close r x a ≡ true
+pub near_by : (r x a : ℕ) → x ≤ a + r → a ≤ x + r → is_close r x a ≡ true
 near_by r x a l m = grind (arith, nat_tests)
 
 module _ (r x : ℕ) (f : ℕ → ℕ) where

@@ -21,7 +21,7 @@ is_keyed keys x y = not (key_number (keys x y) == 0)
 
 -- a raster in which the keys are the tiles, and nothing else is told
 abbrev pub keyed : ℕ → ℕ → Field ℤ → Raster
-keyed w h keys = record { width = w; height = h; phase = λ x y. 0; slope = λ down. pos 0; weight = λ e. 0; tile = λ x y. key_number (keys x y); tile_count = 0 }
+keyed w h keys = record { width = w; height = h; phase = λ x y. 0; slope = λ down. pos 0; weight = λ e. 0; tile = λ x y. key_number (keys x y); tile_count = 0; steep = 1 }
 
 -- a walk over right, left, upper and lower neighbours joins two pixels through pixels of one key other than 0
 abbrev pub AreInOnePatch : ℕ → ℕ → Field ℤ → ℕ → ℕ → ℕ → ℕ → Type 0

@@ -7,6 +7,7 @@ mod flood;
 mod forest;
 mod keeping;
 mod labels;
+pub mod laws;
 mod patches;
 mod screen;
 mod sums;

@@ -10,7 +10,8 @@ use Rattle.sums_and_lists.proofs.CountLemmas.{count_below-more, count_below-none
 use Rattle.sums_and_lists.proofs.SumLemmas.{sum_below-more, sum_below-none, sum_below-same, sum_below-upto, no_number}
 use Rattle.sums_and_lists.proofs.Orders.{lt_is, not_lt_is}
 use Rattle.grid_writer.specs.Grids.{GridOf, value_at}
-use Rattle.displacement.specs.Blocks.{block_count, block_sum, blocks_of, has_value, is_value}
+use Rattle.grid_writer.specs.Values.{is_value}
+use Rattle.displacement.specs.Blocks.{block_count, block_sum, blocks_of, has_value}
 use Rattle.displacement.specs.Steps.{IsListTotal, IsWithin}
 use Rattle.displacement.proofs.TotalLemmas.{within_join, within_none}
 

@@ -4,8 +4,9 @@ use Rattle.std.specs.Prelude.{FitsSigned}
 use Rattle.std.specs.Int.{w128}
 use Rattle.std.proofs.lemmas.Int.{ints, to_z-of_z}
 use Rattle.std.proofs.lemmas.Nat.{mul-le}
-use Rattle.displacement.specs.Blocks.{no_data}
-use Rattle.displacement.specs.Displacements.{CanStand, IsMean, IsTooWide}
+use Rattle.grid_writer.specs.Values.{CanStand}
+use Rattle.grid_writer.proofs.NoData.{is_no_data, no_bits}
+use Rattle.displacement.specs.Displacements.{IsMean, IsTooWide}
 use Rattle.displacement.specs.Steps.{IsFloor, IsWithin}
 use Rattle.displacement.proofs.TotalLemmas.{fits_wide, join_fits, plus_fits, rise_fits, rise_is, scaled_fits, times_fits}
 
@@ -19,12 +20,6 @@ held_is z y e fits = ap held e ∙ to_z-of_z w128 y fits
 -- a number of 64 bits
 pub long_is : (z y : ℤ) → FitsSigned w64 y → z ≡ to_z w64 (of_z w64 y) → z ≡ y
 long_is z y fits e = e ∙ to_z-of_z w64 y fits
-
-pub is_no_data : (z : ℤ) → FitsSigned w64 z → of_z w64 z ≡ 9223372036854775808 → z ≡ no_data
-is_no_data z fits e = sym (to_z-of_z w64 z fits) ∙ ap (to_z w64) e
-
-pub no_bits : (z : ℤ) → (of_z w64 z ≡ 9223372036854775808 → ⊥) → z ≡ no_data → ⊥
-no_bits z ne e = ne (ap (of_z w64) e)
 
 within_fits : (n : ℕ) (s : ℤ) → n ≤ 4096 → IsWithin n s → FitsSigned w128 s
 within_fits n s few h = let a = h.above in let b = h.below in fits_wide s (omega (arith, ints)) (omega (arith, ints))

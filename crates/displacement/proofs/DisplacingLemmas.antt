@@ -10,12 +10,13 @@ use Rattle.sums_and_lists.proofs.Orders.{below_at_above, below_or_last}
 use Rattle.raster_model.specs.Limits.{is_raster_size}
 use Rattle.raster_model.specs.Seams.{IsEarlier}
 use Rattle.grid_writer.specs.Grids.{GridOf, value_at}
+use Rattle.grid_writer.specs.Values.{CanStand, no_data}
 use Rattle.grid_writer.proofs.SizeLemmas.{sized_by, sized_parts}
 use Rattle.displacement.specs.declared.sight.Sight.{Sight}
-use Rattle.displacement.specs.Blocks.{block_count, block_sum, blocks_of, has_value, no_data}
+use Rattle.displacement.specs.Blocks.{block_count, block_sum, blocks_of, has_value}
 use Rattle.displacement.specs.declared.fault.SightFault.{SightFault}
 use Rattle.displacement.specs.declared.fault.SightFault.TheVariants.{Reference, Wide, Memory}
-use Rattle.displacement.specs.Displacements.{CanStand, HasCause, IsBlockValue, IsDisplacement, IsFirstWide, IsMean, IsTooWide, IsWide}
+use Rattle.displacement.specs.Displacements.{HasCause, IsBlockValue, IsDisplacement, IsFirstWide, IsMean, IsTooWide, IsWide}
 use Rattle.displacement.specs.Steps.{AreBlockValues, HasBlockCause}
 use Rattle.displacement.proofs.MeanLemmas.{mean_unique}
 

@@ -9,10 +9,11 @@ use Rattle.sums_and_lists.proofs.SumLemmas.{picked, sum_below-more, sum_below-no
 use Rattle.sums_and_lists.proofs.Orders.{is_lt}
 use Rattle.sums_and_lists.proofs.Tests.{and_first, and_second, true_and_false}
 use Rattle.grid_writer.specs.Grids.{GridOf}
+use Rattle.grid_writer.specs.Values.{is_value}
 use Rattle.displacement.specs.declared.fault.SightFault.{SightFault}
 use Rattle.displacement.specs.declared.fault.SightFault.TheVariants.{Reference, Wide, Memory}
 use Rattle.displacement.specs.declared.sight.Sight.{Sight}
-use Rattle.displacement.specs.Blocks.{block_count, block_sum, blocks_of, has_value, is_value}
+use Rattle.displacement.specs.Blocks.{block_count, block_sum, blocks_of, has_value}
 use Rattle.displacement.specs.Displacements.{HasCause, IsBlockValue, IsDisplacement, IsMean}
 use Rattle.displacement.specs.Laws.{CyclesAreHalfWavelengths, DisplacementsAreUnique, OneAnswer}
 use Rattle.displacement.proofs.MeanLemmas.{mean_unique}

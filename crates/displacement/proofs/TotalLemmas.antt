@@ -1,29 +1,18 @@
 -- Totals of values: steps of a sum, and that all sums fit 128 bits.
 use Rattle.std.proofs.Common.{◌≡◌, ℕ, ◌+◌, ◌*◌, ◌≤◌, ℤ, pos, negsuc, neg_ℤ, ◌+ℤ◌, ◌-ℤ◌, ◌*ℤ◌, ◌≤ℤ◌, List, arith, refl, sym, ap, subst, ◌∙◌}
-use Rattle.std.specs.Prelude.{Bool, true, false, not, FitsSigned, slice_index_or}
+use Rattle.std.specs.Prelude.{Bool, true, false, FitsSigned, slice_index_or}
 use Rattle.std.specs.Int.{w64, w128}
-use Rattle.std.specs.Ordering.{int_eq}
-use Rattle.std.proofs.lemmas.Bool.Decides.{Decides-int_eq}
 use Rattle.std.proofs.lemmas.Int.{ints}
 use Rattle.sums_and_lists.specs.Sums.{count_below, sum_below, one_if, where_true}
 use Rattle.sums_and_lists.proofs.CountLemmas.{count_below-more, count_below-none}
 use Rattle.sums_and_lists.proofs.SumLemmas.{sum_below-more, sum_below-none}
 use Rattle.sums_and_lists.proofs.Tests.{one_at_most}
-use Rattle.displacement.specs.Blocks.{is_value, no_data}
+use Rattle.grid_writer.specs.Values.{is_value, no_data}
+use Rattle.grid_writer.proofs.NoData.{a_value, no_value}
 use Rattle.displacement.specs.Steps.{IsListTotal, IsWithin}
 use Rattle.displacement.proofs.MeanLemmas.{grows}
 
 -- ---- one value
-
-pub false_from : (b : Bool) → (b ≡ true → ⊥) → b ≡ false
-false_from true h = absurd (h refl)
-false_from false h = refl
-
-pub no_value : (z : ℤ) → z ≡ no_data → is_value z ≡ false
-no_value z e = ap not ((Decides-int_eq z no_data).1 e)
-
-pub a_value : (z : ℤ) → (z ≡ no_data → ⊥) → is_value z ≡ true
-a_value z ne = ap not (false_from (int_eq z no_data) (λ e. ne ((Decides-int_eq z no_data).0 e)))
 
 pub counts_none : (n : ℕ) (z : ℤ) → z ≡ no_data → n ≡ n + one_if (is_value z)
 counts_none n z e = subst (λ (b : Bool). n ≡ n + one_if b) (sym (no_value z e)) (omega arith)

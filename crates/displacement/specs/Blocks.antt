@@ -1,17 +1,10 @@
 -- Blocks of pixels of a grid: how many of their pixels have a value, and the sum of these values.
-use Rattle.std.specs.Prelude.{ℕ, ◌+◌, ◌*◌, ℤ, pos, neg_ℤ, Bool, ◌&&◌, not}
+use Rattle.std.specs.Prelude.{ℕ, ◌+◌, ◌*◌, ℤ, Bool, ◌&&◌}
 use Rattle.std.specs.Int.{div_ceil}
-use Rattle.std.specs.Ordering.{int_eq}
 use Rattle.sums_and_lists.specs.Sums.{count_below, one_if, where_true}
 use Rattle.raster_model.specs.Sums.{Field, is_pixel, sum_grid}
 use Rattle.grid_writer.specs.Grids.{GridOf}
-
--- what stands for a pixel without a value, and a number that is a value
-abbrev pub no_data : ℤ
-no_data = neg_ℤ (pos 9223372036854775808)
-
-abbrev pub is_value : ℤ → Bool
-is_value z = not (int_eq z no_data)
+use Rattle.grid_writer.specs.Values.{is_value}
 
 -- the pixel is on the grid and has a value
 abbrev pub has_value : GridOf → Field Bool

@@ -1,13 +1,13 @@
 -- Displacement along the line of sight. A cycle of phase is half a wavelength of range, since the signal goes there and back (Massonnet and Feigl 1998).
-use Rattle.std.specs.Prelude.{◌≡◌, ◌≢◌, ℕ, ◌*◌, ◌<◌, ◌≤◌, ℤ, pos, ◌+ℤ◌, ◌-ℤ◌, ◌*ℤ◌, ◌≤ℤ◌, ◌<ℤ◌, IsTrue, false}
+use Rattle.std.specs.Prelude.{◌≡◌, ℕ, ◌*◌, ◌<◌, ◌≤◌, ℤ, pos, ◌+ℤ◌, ◌-ℤ◌, ◌*ℤ◌, ◌≤ℤ◌, ◌<ℤ◌, IsTrue, false}
 use Rattle.raster_model.specs.Seams.{IsEarlier}
 use Rattle.raster_model.specs.Sums.{Field}
-use Rattle.text_lines.specs.Numbers.{FitsLong}
 use Rattle.grid_writer.specs.Grids.{GridOf}
+use Rattle.grid_writer.specs.Values.{CanStand, no_data}
 use Rattle.displacement.specs.declared.fault.SightFault.{SightFault}
 use Rattle.displacement.specs.declared.fault.SightFault.TheVariants.{Reference, Wide, Memory}
 use Rattle.displacement.specs.declared.sight.Sight.{Sight}
-use Rattle.displacement.specs.Blocks.{block_count, block_sum, blocks_of, has_value, no_data}
+use Rattle.displacement.specs.Blocks.{block_count, block_sum, blocks_of, has_value}
 
 -- wavelengths, in nanometres, and sides of blocks, in pixels, that may be asked for
 abbrev pub IsWavelength : ℕ → Type 0
@@ -21,11 +21,7 @@ pub record IsMean (wavelength n : ℕ) (z d : ℤ) : Type 0 where
   pub least : (pos (131072 * n) *ℤ d) ≤ℤ (pos wavelength *ℤ z)
   pub most : (pos wavelength *ℤ z) <ℤ (pos (131072 * n) *ℤ (d +ℤ pos 1))
 
--- a number can stand in a grid as a value
-abbrev pub CanStand : ℤ → Type 0
-CanStand d = FitsLong d × (d ≢ no_data)
-
--- the mean of n numbers with the sum z cannot stand there
+-- the mean of n numbers with the sum z cannot stand in a grid
 pub record IsTooWide (wavelength n : ℕ) (z : ℤ) : Type 0 where
   pub displacement : ℤ
   pub mean : IsMean wavelength n z displacement

@@ -5,7 +5,7 @@ use Rattle.grid_writer.specs.Grids.{GridOf}
 use Rattle.displacement.specs.declared.fault.SightFault.{SightFault}
 use Rattle.displacement.specs.declared.fault.SightFault.TheVariants.{Reference, Wide, Memory}
 use Rattle.displacement.specs.declared.sight.Sight.{Sight}
-use Rattle.displacement.specs.Blocks.{is_value}
+use Rattle.grid_writer.specs.Values.{is_value}
 use Rattle.displacement.specs.Displacements.{IsBlockValue, IsFirstWide}
 
 -- the sum of n numbers of 64 bits may be z

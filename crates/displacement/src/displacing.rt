@@ -9,8 +9,7 @@ ghost use Rattle.raster_model.specs.Limits.{max_side};
 use crate::blocks::block_total;
 use crate::fault::SightFault;
 use crate::sight::Sight;
-use crate::total::NO_DATA;
-use grid_writer::Grid;
+use grid_writer::{Grid, NO_DATA};
 use std::alloc::Global;
 
 /// The displacements of a surface along the line of sight, in nanometres: one for each block of pixels, the mean of its

@@ -1,11 +1,10 @@
-ghost use Rattle.displacement.specs.Blocks.{is_value};
-ghost use Rattle.displacement.specs.Displacements.{CanStand, IsMean, IsTooWide, IsWavelength};
+ghost use Rattle.displacement.specs.Displacements.{IsMean, IsTooWide, IsWavelength};
 ghost use Rattle.displacement.specs.Steps.{IsFloor, IsWithin};
+ghost use Rattle.grid_writer.specs.Values.{CanStand, is_value};
 ghost use Rattle.std.specs.Prelude.{◌≡◌, ◌+◌, ◌<◌, ◌≤◌, pos, ◌+ℤ◌, ◌-ℤ◌, ◌*ℤ◌, ◌<ℤ◌, MatchOption};
 ghost use Rattle.sums_and_lists.specs.Sums.{one_if, where_true};
 
-/// What stands in a grid for a pixel without a value.
-pub(crate) const NO_DATA: i64 = i64::MIN;
+use grid_writer::NO_DATA;
 
 /// Units of phase in a wavelength: 65536 are a cycle, and a cycle is half a wavelength of range.
 const UNITS: i128 = 131_072;

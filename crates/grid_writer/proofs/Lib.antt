@@ -2,6 +2,7 @@ pub mod GridReads
 pub mod HeadLemmas
 pub mod ManyLemmas
 pub mod ManyReads
+pub mod NoData
 pub mod RowsLemmas
 pub mod SizeLemmas
 pub mod TellLemmas

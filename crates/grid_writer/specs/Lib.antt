@@ -6,3 +6,4 @@ pub mod ManyGrids
 pub mod ManyParts
 pub mod Reading
 pub mod Shown
+pub mod Values

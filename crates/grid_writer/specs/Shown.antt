@@ -1,13 +1,14 @@
 -- The grid of a surface.
-use Rattle.std.specs.Prelude.{ℕ, ℤ, pos, neg_ℤ, List, Option, Some, None}
+use Rattle.std.specs.Prelude.{ℕ, ℤ, List, Option, Some, None}
 use Rattle.raster_model.specs.Sums.{Field}
 use Rattle.surface_snapshots.specs.Parts.{Parts, value_in}
 use Rattle.grid_writer.specs.Grids.{GridOf, text_of_grid}
+use Rattle.grid_writer.specs.Values.{no_data}
 
 -- what stands for the value at a pixel: the NODATA value where it has none
 abbrev pub shown_value : Option ℤ → ℤ
 shown_value (Some value) = value
-shown_value None = neg_ℤ (pos 9223372036854775808)
+shown_value None = no_data
 
 -- the values of a surface as its grid shows them, and its grid
 abbrev pub shown_in : Parts → Field ℤ

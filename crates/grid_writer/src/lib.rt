@@ -14,5 +14,5 @@ pub use crate::grid::{add_grid, write_grid, write_values};
 pub use crate::many::read_grids;
 pub use crate::read::{read_grid, read_sized_grid};
 pub use crate::rows::Rows;
-pub use crate::values::Grid;
+pub use crate::values::{Grid, NO_DATA};
 pub use text_lines::LineFault as GridFault;

@@ -5,11 +5,8 @@ ghost use Rattle.std.specs.Prelude.{◌≡◌, ◌<◌, ◌≤◌, IsTrue, lengt
 ghost use Rattle.surface_snapshots.specs.Parts.{BeginsWithRow};
 ghost use Rattle.surface_snapshots.specs.Views.{parts_of};
 
-use crate::values::Grid;
+use crate::values::{Grid, NO_DATA};
 use surface_snapshots::Snapshot;
-
-/// What a masked pixel has in place of a value.
-const NO_DATA: i64 = i64::MIN;
 
 /// Rows of values, from the top, that can be written as a grid.
 pub trait Rows {

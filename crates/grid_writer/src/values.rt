@@ -1,6 +1,9 @@
 ghost use Rattle.raster_model.specs.Limits.{is_raster_size};
 ghost use Rattle.std.specs.Prelude.{◌≡◌, ◌*◌, IsTrue, vec_len};
 
+/// The NODATA value of each grid: what stands at a pixel that has no value, as a masked one.
+pub const NO_DATA: i64 = i64::MIN;
+
 /// A grid that was read: its size, and a value for each pixel, in units of 1/65536 cycle.
 #[derive(Drop)]
 pub struct Grid {
@@ -8,7 +11,7 @@ pub struct Grid {
     pub width: u32,
     /// Rows.
     pub height: u32,
-    /// One for each pixel, in row order; a masked pixel has the NODATA value, the least `i64`.
+    /// One for each pixel, in row order; [`NO_DATA`] at a pixel that has no value.
     pub values: Vec<i64>,
     pub ghost sized: { IsTrue (is_raster_size width height) },
     pub ghost full: { vec_len values ≡ width * height },

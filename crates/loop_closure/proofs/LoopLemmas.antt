@@ -1,23 +1,21 @@
 -- Closures by places and by pixels, and what the cycles say of the third grid.
-use Rattle.std.proofs.Common.{◌≡◌, ◌≢◌, ℕ, ◌+◌, ◌*◌, ◌/◌, ◌%◌, ◌<◌, ◌≤◌, ℤ, pos, neg_ℤ, ◌+ℤ◌, ◌-ℤ◌, ◌*ℤ◌, ◌≤ℤ◌, Bool, true, false, not, ◌&&◌, List, [], ◌∷◌, ◌++◌, length, take, set, get_or, inl, inr, ◌⊎◌, refl, sym, ap, subst, ◌∙◌, arith}
-use Rattle.std.specs.Prelude.{IfErr, IfOk, IsTrue, Option, Some, None, Result, Ok, Err}
+use Rattle.std.proofs.Common.{◌≡◌, ℕ, ◌+◌, ◌*◌, ◌/◌, ◌%◌, ◌<◌, ℤ, pos, neg_ℤ, ◌-ℤ◌, ◌*ℤ◌, ◌≤ℤ◌, Bool, true, false, not, List, [], ◌∷◌, ◌++◌, length, take, set, get_or, inl, inr, ◌⊎◌, refl, sym, ap, subst, ◌∙◌, arith}
+use Rattle.std.specs.Prelude.{IsTrue, Err}
 use Rattle.std.specs.Ordering.{int_eq}
-use Rattle.std.proofs.lemmas.Bool.Decides.{Decides-int_eq, not_from_Decides}
+use Rattle.std.proofs.lemmas.Bool.Decides.{Decides-int_eq}
 use Rattle.std.proofs.lemmas.Int.{ints}
 use Rattle.std.proofs.lemmas.Bool.{cases_lt}
 use Rattle.std.proofs.lemmas.Nat.{mul-add-lt, mul-le}
 use Rattle.std.proofs.lemmas.List.{get_or-set_other, get_or-set_same, map-append, take_more}
 use Rattle.sums_and_lists.proofs.Orders.{below_or_last}
-use Rattle.raster_model.specs.Seams.{IsEarlier}
-use Rattle.raster_model.specs.Sums.{Field}
 use Rattle.raster_model.proofs.RegionNumbers.{earlier_place}
 use Rattle.certificates.proofs.Unique.{same_pixel}
 use Rattle.grid_writer.specs.Grids.{GridOf, value_at}
+use Rattle.grid_writer.specs.Values.{is_value, no_data}
 use Rattle.loop_closure.specs.declared.fault.LoopFault.{LoopFault}
 use Rattle.loop_closure.specs.declared.fault.LoopFault.TheVariants.{Wide, Memory}
-use Rattle.loop_closure.specs.declared.loops.Loops.{Loops}
-use Rattle.loop_closure.specs.Closure.{AreClosures, AreCycles, AreCyclesIn, IsClosure, IsFirstWide, IsHalfCycle, IsWide, IsWideAt, are_there, closure_of, has_value, key_of, keys_of, loop_sum, no_data}
-use Rattle.loop_closure.specs.Laws.{Closes, CyclesClose, OnlyCyclesClose}
+use Rattle.loop_closure.specs.Closure.{AreClosures, AreCycles, AreCyclesIn, IsFirstWide, IsHalfCycle, IsWide, are_there, closure_of, key_of, keys_of, loop_sum}
+use Rattle.loop_closure.specs.Laws.{CyclesClose, OnlyCyclesClose}
 use Rattle.loop_closure.specs.Parts.{AreClosed, HasLoopCause, HaveCycles, IsFirstWidePlace, IsWideIn, IsWideTold, at_place}
 
 -- ---- values
@@ -26,7 +24,7 @@ cases_Bool : (b : Bool) → (b ≡ true) ⊎ (b ≡ false)
 cases_Bool true = inl refl
 cases_Bool false = inr refl
 
-missing : (n : ℤ) → has_value n ≡ false → n ≡ no_data
+missing : (n : ℤ) → is_value n ≡ false → n ≡ no_data
 missing n e = (Decides-int_eq n no_data).0 (off (int_eq n no_data) e)
   where
     off : (b : Bool) → not b ≡ false → b ≡ true
@@ -37,8 +35,8 @@ closure_there : (a b c : ℤ) → IsTrue (are_there a b c) → closure_of a b c 
 closure_there a b c t = rw t refl
 
 -- a sum that is not too wide has a value
-sum_there : (a b c : ℤ) → IsTrue (are_there a b c) → (IsWide a b c → ⊥) → IsTrue (has_value (loop_sum a b c))
-sum_there a b c t narrow = elim (cases_Bool (has_value (loop_sum a b c))) [
+sum_there : (a b c : ℤ) → IsTrue (are_there a b c) → (IsWide a b c → ⊥) → IsTrue (is_value (loop_sum a b c))
+sum_there a b c t narrow = elim (cases_Bool (is_value (loop_sum a b c))) [
   | inl e ↦ e
   | inr e ↦ absurd (narrow (t, λ is. is.1 (missing (loop_sum a b c) e)))
 ]
@@ -52,7 +50,7 @@ cycles_close a b c closures cycles are whole x y lx ly t =
     let w = c.values x y in
     let n = cycles.values x y in
     let e = are.values x y lx ly ∙ closure_there u v w t in
-    let there = subst (λ (s : ℤ). IsTrue (has_value s)) (sym e) (sum_there u v w t (λ wide. are.narrow x y (lx, ly, wide))) in
+    let there = subst (λ (s : ℤ). IsTrue (is_value s)) (sym e) (sum_there u v w t (λ wide. are.narrow x y (lx, ly, wide))) in
     let half = (whole.values x y (omega (arith, lx, are.width)) (omega (arith, ly, are.height))).0 there in
     let low : neg_ℤ (pos 32768) ≤ℤ (loop_sum u v w -ℤ pos 65536 *ℤ n) = subst (λ (s : ℤ). neg_ℤ (pos 32768) ≤ℤ (s -ℤ pos 65536 *ℤ n)) e half.0 in
     let high : (loop_sum u v w -ℤ pos 65536 *ℤ n) ≤ℤ pos 32767 = subst (λ (s : ℤ). (s -ℤ pos 65536 *ℤ n) ≤ℤ pos 32767) e half.1 in

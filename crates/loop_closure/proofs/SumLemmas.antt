@@ -1,31 +1,12 @@
 -- The sum of three values as the code computes it, in 128 bits.
-use Rattle.std.proofs.Common.{◌≡◌, ℕ, ◌+◌, ◌<◌, ◌≤◌, ℤ, pos, negsuc, neg_ℤ, ◌+ℤ◌, ◌-ℤ◌, ◌≤ℤ◌, Bool, true, false, not, arith, refl, sym, ap, subst, ◌∙◌, to_z, of_z, w64}
-use Rattle.std.specs.Prelude.{FitsSigned, IsTrue}
+use Rattle.std.proofs.Common.{◌≡◌, ◌≤◌, ℤ, pos, negsuc, neg_ℤ, ◌+ℤ◌, ◌-ℤ◌, ◌≤ℤ◌, true, arith, refl, sym, ap, subst, ◌∙◌, to_z, of_z, w64}
+use Rattle.std.specs.Prelude.{FitsSigned}
 use Rattle.std.specs.Int.{w128}
-use Rattle.std.specs.Ordering.{int_eq}
-use Rattle.std.proofs.lemmas.Bool.Decides.{Decides-int_eq}
 use Rattle.std.proofs.lemmas.Int.{ints, to_z-of_z}
-use Rattle.loop_closure.specs.Closure.{IsClosure, IsWide, are_there, closure_of, has_value, loop_sum, no_data}
+use Rattle.grid_writer.proofs.NoData.{a_value, is_no_data, no_bits}
+use Rattle.loop_closure.specs.Closure.{IsWide, are_there, closure_of, loop_sum}
 
--- ---- one value
-
-false_from : (b : Bool) → (b ≡ true → ⊥) → b ≡ false
-false_from true h = absurd (h refl)
-false_from false h = refl
-
-pub no_value : (n : ℤ) → n ≡ no_data → has_value n ≡ false
-no_value n e = ap not ((Decides-int_eq n no_data).1 e)
-
-pub a_value : (n : ℤ) → (n ≡ no_data → ⊥) → has_value n ≡ true
-a_value n ne = ap not (false_from (int_eq n no_data) (λ e. ne ((Decides-int_eq n no_data).0 e)))
-
--- a number of 64 bits, and one of 128 bits, as the code holds it
-pub is_no_data : (n : ℤ) → FitsSigned w64 n → of_z w64 n ≡ 9223372036854775808 → n ≡ no_data
-is_no_data n fits e = sym (to_z-of_z w64 n fits) ∙ ap (to_z w64) e
-
-pub no_bits : (n : ℤ) → (of_z w64 n ≡ 9223372036854775808 → ⊥) → n ≡ no_data → ⊥
-no_bits n ne e = ne (ap (of_z w64) e)
-
+-- ---- a number of 128 bits, as the code holds it
 abbrev pub held : ℤ → ℤ
 held n = to_z w128 (of_z w128 n)
 

@@ -1,25 +1,17 @@
 -- Loop closure: phase 12 plus phase 23 minus phase 13 of three acquisitions, in units of 1/65536 cycle. Where all three are
 -- unwrapped without a fault it is less than half a cycle away from 0, or whole cycles are left over.
-use Rattle.std.specs.Prelude.{◌≡◌, ◌≢◌, ℕ, ◌<◌, ℤ, pos, neg_ℤ, ◌+ℤ◌, ◌-ℤ◌, ◌*ℤ◌, ◌≤ℤ◌, Bool, ◌&&◌, not, IsTrue, List, false, map, if◌then◌else◌}
+use Rattle.std.specs.Prelude.{◌≡◌, ℕ, ◌<◌, ℤ, pos, neg_ℤ, ◌+ℤ◌, ◌-ℤ◌, ◌*ℤ◌, ◌≤ℤ◌, Bool, ◌&&◌, not, IsTrue, List, false, map, if◌then◌else◌}
 use Rattle.std.specs.Ordering.{int_eq}
 use Rattle.auto_masks.specs.Patches.{ArePatchesOf, key_at}
 use Rattle.auto_masks.specs.PatchesView.{PatchesView}
 use Rattle.grid_writer.specs.declared.values.Grid.{Grid}
 use Rattle.grid_writer.specs.Grids.{GridOf}
+use Rattle.grid_writer.specs.Values.{CanStand, is_value, no_data}
 use Rattle.raster_model.specs.Seams.{IsEarlier}
-use Rattle.raster_model.specs.Sums.{Field}
-use Rattle.text_lines.specs.Numbers.{FitsLong}
-
--- what stands at a pixel that has no value
-abbrev pub no_data : ℤ
-no_data = neg_ℤ (pos 9223372036854775808)
-
-abbrev pub has_value : ℤ → Bool
-has_value n = not (int_eq n no_data)
 
 -- three values are there; the first plus the second minus the third; and their closure, NODATA where one of them is missing
 abbrev pub are_there : ℤ → ℤ → ℤ → Bool
-are_there a b c = has_value a && has_value b && has_value c
+are_there a b c = is_value a && is_value b && is_value c
 
 abbrev pub loop_sum : ℤ → ℤ → ℤ → ℤ
 loop_sum a b c = a +ℤ b -ℤ c
@@ -27,12 +19,9 @@ loop_sum a b c = a +ℤ b -ℤ c
 abbrev pub closure_of : ℤ → ℤ → ℤ → ℤ
 closure_of a b c = if are_there a b c then loop_sum a b c else no_data
 
--- a sum that can be written as a closure: it fits 64 bits and is not the NODATA value; three values whose sum cannot
-abbrev pub IsClosure : ℤ → Type 0
-IsClosure n = FitsLong n × (n ≢ no_data)
-
+-- three values whose closure cannot stand in a grid
 abbrev pub IsWide : ℤ → ℤ → ℤ → Type 0
-IsWide a b c = IsTrue (are_there a b c) × (IsClosure (loop_sum a b c) → ⊥)
+IsWide a b c = IsTrue (are_there a b c) × (CanStand (loop_sum a b c) → ⊥)
 
 -- at most half a cycle away from 0
 abbrev pub IsHalfCycle : ℤ → Type 0
@@ -40,11 +29,11 @@ IsHalfCycle n = (neg_ℤ (pos 32768) ≤ℤ n) × (n ≤ℤ pos 32767)
 
 -- n cycles are in a closure: without them it is at most half a cycle away from 0; where there is no closure n is NODATA too
 abbrev pub AreCyclesIn : ℤ → ℤ → Type 0
-AreCyclesIn closure n = (IsTrue (has_value closure) → IsHalfCycle (closure -ℤ pos 65536 *ℤ n)) × (has_value closure ≡ false → n ≡ no_data)
+AreCyclesIn closure n = (IsTrue (is_value closure) → IsHalfCycle (closure -ℤ pos 65536 *ℤ n)) × (is_value closure ≡ false → n ≡ no_data)
 
 -- a key for each number of cycles, by which patches are told: 0 for NODATA
 abbrev pub key_of : ℤ → ℤ
-key_of n = if has_value n then n else pos 0
+key_of n = if is_value n then n else pos 0
 
 -- a pixel is misclosed if its number of cycles is there and is not 0
 abbrev pub is_misclosed : ℤ → Bool

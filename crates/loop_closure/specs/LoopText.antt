@@ -6,11 +6,12 @@ use Rattle.grid_writer.specs.Grids.{grid_of, text_of_grid, value_at}
 use Rattle.text_lines.specs.Numbers.{number_text}
 use Rattle.text_lines.specs.Text.{field_text, texts_below}
 use Rattle.loop_closure.specs.declared.loops.Loops.{Loops}
-use Rattle.loop_closure.specs.Closure.{has_value, is_misclosed}
+use Rattle.grid_writer.specs.Values.{is_value}
+use Rattle.loop_closure.specs.Closure.{is_misclosed}
 
 -- how many pixels have a closure, and how many are misclosed
 abbrev pub closed_count : Loops → ℕ
-closed_count loops = count_by has_value loops.closures.values.items
+closed_count loops = count_by is_value loops.closures.values.items
 
 abbrev pub misclosed_count : Loops → ℕ
 misclosed_count loops = count_by is_misclosed loops.cycles.values.items

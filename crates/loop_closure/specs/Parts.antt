@@ -1,5 +1,5 @@
 -- Words of the parts of `close_loop`, value by value in row order.
-use Rattle.std.specs.Prelude.{◌≡◌, ℕ, ◌<◌, ℤ, pos, List, Option, Some, None, Result, Ok, Err, length, map, slice_index_or, ⊤}
+use Rattle.std.specs.Prelude.{◌≡◌, ℕ, ◌<◌, ℤ, pos, List, Result, Ok, Err, length, slice_index_or, ⊤}
 use Rattle.grid_writer.specs.Grids.{GridOf}
 use Rattle.loop_closure.specs.declared.fault.LoopFault.{LoopFault}
 use Rattle.loop_closure.specs.declared.fault.LoopFault.TheVariants.{Wide, Memory}

@@ -3,12 +3,12 @@ ghost use Rattle.loop_closure.specs.Closure.{AreClosures, AreCycles, AreMisclose
 ghost use Rattle.loop_closure.specs.Parts.{HasLoopCause, IsWideTold};
 ghost use Rattle.std.specs.Prelude.{◌≡◌, ℕ, IfErr, IfOk};
 
-use crate::closures::{NO_DATA, put_closures};
+use crate::closures::put_closures;
 use crate::cycles::{keys, put_cycles};
 use crate::fault::LoopFault;
 use crate::loops::Loops;
 use auto_masks::Patches;
-use grid_writer::Grid;
+use grid_writer::{Grid, NO_DATA};
 use std::alloc::{AllocError, Global};
 
 /// Closes the loop of three grids of one size: `a` plus `b` minus `c` at each pixel where all three have a value, as phase 12

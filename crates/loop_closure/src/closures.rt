@@ -2,8 +2,7 @@ ghost use Rattle.loop_closure.specs.Closure.{IsWide, closure_of};
 ghost use Rattle.loop_closure.specs.Parts.{AreClosed, IsFirstWidePlace};
 ghost use Rattle.std.specs.Prelude.{◌≡◌, IfNone, IfSome, MatchOption, length};
 
-/// What a pixel has that has no value.
-pub(crate) const NO_DATA: i64 = i64::MIN;
+use grid_writer::NO_DATA;
 
 /// The closure of three values, in units of 1/65536 cycle: NODATA where one of them is missing, and None if it does not fit 64
 /// bits or is the NODATA value.

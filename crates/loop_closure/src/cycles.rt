@@ -1,8 +1,8 @@
-ghost use Rattle.loop_closure.specs.Closure.{AreCyclesIn, IsHalfCycle, has_value, key_of, keys_of};
+ghost use Rattle.loop_closure.specs.Closure.{AreCyclesIn, IsHalfCycle, key_of, keys_of};
 ghost use Rattle.loop_closure.specs.Parts.{HaveCycles};
 ghost use Rattle.std.specs.Prelude.{◌≡◌, ◌-ℤ◌, ◌*ℤ◌, pos, IfOk, length};
 
-use crate::closures::NO_DATA;
+use grid_writer::NO_DATA;
 use std::alloc::{AllocError, Global};
 
 /// A cycle, in the units of a closure.

@@ -1,5 +1,6 @@
 ghost use Rattle.auto_masks.specs.Patches.{patch_size};
-ghost use Rattle.loop_closure.specs.Closure.{has_value, is_misclosed};
+ghost use Rattle.grid_writer.specs.Values.{is_value};
+ghost use Rattle.loop_closure.specs.Closure.{is_misclosed};
 ghost use Rattle.loop_closure.specs.LoopText.{closed_count, counts_line, loops_text, misclosed_count, patch_line};
 ghost use Rattle.std.specs.List.{count_by};
 ghost use Rattle.std.specs.Prelude.{◌≡◌, ◌<◌, ◌≤◌, length};
@@ -7,10 +8,9 @@ ghost use Rattle.text_lines.specs.Adding.{Adds, Puts};
 ghost use Rattle.text_lines.specs.Text.{texts_below};
 ghost use Rattle.text_lines.specs.Views.{view_of};
 
-use crate::closures::NO_DATA;
 use crate::cycles::key;
 use crate::loops::Loops;
-use grid_writer::add_grid;
+use grid_writer::{NO_DATA, add_grid};
 use insar_ports::{Sink, WriteFault};
 use text_lines::{TextWriter, add_field, add_long_field, add_signed_field};
 
@@ -65,7 +65,7 @@ fn add_patch<K: Sink>(text: &mut TextWriter<K>, loops: &Loops, patch: u32)
 
 /// How many values are there.
 fn closed(closures: &[i64]) -> usize
-    ensures { result ≡ count_by has_value closures.now }
+    ensures { result ≡ count_by is_value closures.now }
 {
     let mut count = 0;
     for closure in closures {

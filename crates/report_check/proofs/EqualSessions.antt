@@ -115,7 +115,7 @@ module _ (s t : Session) (same : IsSameInput s t) where
   slopes = (let numbers = numbers_alike same.terms in ap₂ slope_by numbers.0 numbers.1)
 
   same_raster : raster_of s.scene ≡ raster_of t.scene
-  same_raster = simp (slopes, same.phase.width, same.phase.height, same_samples s.scene.phase t.scene.phase same.phase, same_weights s.scene.weights t.scene.weights same.weights same.rule, same_tile s.scene.tiling t.scene.tiling tilings, same_tiles s.scene.tiling t.scene.tiling tilings)
+  same_raster = simp (slopes, (numbers_alike same.terms).2, same.phase.width, same.phase.height, same_samples s.scene.phase t.scene.phase same.phase, same_weights s.scene.weights t.scene.weights same.weights same.rule, same_tile s.scene.tiling t.scene.tiling tilings, same_tiles s.scene.tiling t.scene.tiling tilings)
 
   -- ---- histories
   module _ (H : List Entry) where

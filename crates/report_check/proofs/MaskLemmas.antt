@@ -1,5 +1,5 @@
 -- Two masks that agree on the raster's pixels, and surfaces that agree there: verdicts on the one are verdicts on the other.
-use Rattle.std.proofs.Common.{◌≡◌, ◌∙◌, ℕ, ◌<◌, ◌≤◌, sym, ap, subst, arith, Bool, List}
+use Rattle.std.proofs.Common.{◌≡◌, ◌∙◌, ℕ, ◌*◌, ◌<◌, ◌≤◌, sym, ap, subst, arith, Bool, List}
 use Rattle.std.specs.Prelude.{ℤ, pos, ◌+ℤ◌, ◌*ℤ◌, IsTrue, ◌&&◌, ◌==◌, if◌then◌else◌, unsigned_abs}
 use Rattle.std.proofs.lemmas.Bool.{and_parts}
 use Rattle.raster_model.specs.declared.edge.Edge.{Edge}
@@ -16,14 +16,14 @@ use Rattle.certificates.specs.declared.verdicts.TileVerdict.{TileVerdict}
 use Rattle.certificates.specs.declared.verdicts.TileVerdict.TheVariants as tile_verdicts
 use Rattle.certificates.specs.SeamVerdicts.{FlowFits, IsBalanced, IsSeamEdge, IsSeamVerdict}
 use Rattle.certificates.specs.Verdicts.{IsFacesVerdict}
-use Rattle.surface_snapshots.proofs.SameLemmas.{anchored_too, same_flow_total, same_seam_cost, same_tile_cost, seams_too, tile_too}
+use Rattle.surface_snapshots.proofs.SameLemmas.{anchored_too, same_face_bound, same_flow_bound, same_seam_cost, same_tile_cost, seams_too, tile_too}
 
 module _ (r : Raster) where
   fits_too : (m n : Field Bool) (t : ℕ) (faces : List ℤ) (e : Edge) → has_open_ends m e ≡ has_open_ends n e → FacesFit r m t (face_at r t faces) e → FacesFit r n t (face_at r t faces) e
-  fits_too m n t faces e same h = subst (λ (b : Bool). unsigned_abs (face_difference (faces_of_tile r t (face_at r t faces)) e) ≤ (if b then r.weight e else 0)) same h
+  fits_too m n t faces e same h = subst (λ (b : Bool). unsigned_abs (face_difference (faces_of_tile r t (face_at r t faces)) e) ≤ r.steep * (if b then r.weight e else 0)) same h
 
   flow_too : (m n : Field Bool) (F : Edge → ℤ) (e : Edge) → has_open_ends m e ≡ has_open_ends n e → FlowFits r m F e → FlowFits r n F e
-  flow_too m n F e same h = subst (λ (b : Bool). unsigned_abs (F e) ≤ (if b then r.weight e else 0)) same h
+  flow_too m n F e same h = subst (λ (b : Bool). unsigned_abs (F e) ≤ r.steep * (if b then r.weight e else 0)) same h
 
 module _ (r : Raster) (m n : Field Bool) (same : (x y : ℕ) → x < r.width → y < r.height → m x y ≡ n x y) where
   -- ---- faces
@@ -43,7 +43,7 @@ module _ (r : Raster) (m n : Field Bool) (same : (x y : ℕ) → x < r.width →
         first = λ d i b. fits_too r m n t faces d (tile_ends d i) (h.1.first d i b);
       },
     )
-    faces_verdict_too (tile_verdicts.CostDiffers cost bound) h = (h.0, λ e i. fits_too r m n t faces e (tile_ends e i) (h.1 e i), h.2 ∙ same_tile_cost r m n same S T agree t, h.3, h.4)
+    faces_verdict_too (tile_verdicts.CostDiffers cost bound) h = (h.0, λ e i. fits_too r m n t faces e (tile_ends e i) (h.1 e i), h.2 ∙ same_tile_cost r m n same S T agree t, h.3 ∙ same_face_bound r m n same S T agree t (face_at r t faces), h.4)
 
   -- ---- flows
   seam_ends : (e : Edge) → IsSeamEdge r e → has_open_ends m e ≡ has_open_ends n e
@@ -98,6 +98,6 @@ module _ (r : Raster) (m n : Field Bool) (same : (x y : ℕ) → x < r.width →
       λ e i. flows_fit e i (h.2 e i),
       λ v l. balanced_too v (h.3 v (omega (arith, l, counted))),
       h.4 ∙ same_seam_cost r m n same (lifted r cycles) (lifted r others) agree,
-      h.5 ∙ same_flow_total r m n same (lifted r cycles) (lifted r others) agree (flow_at r flows),
+      h.5 ∙ same_flow_bound r m n same (lifted r cycles) (lifted r others) agree (flow_at r flows),
       h.6,
     )

@@ -5,7 +5,7 @@ use Rattle.std.proofs.lemmas.Grind.{common_steps}
 use Rattle.std.specs.Prelude.{ℤ, pos, ◌+ℤ◌, ◌*ℤ◌, ◌↔◌, IsTrue}
 use Rattle.raster_model.specs.Raster.{Raster}
 use Rattle.raster_model.specs.Sums.{Field}
-use Rattle.report_text.specs.Certified.{no_data}
+use Rattle.grid_writer.specs.Values.{no_data}
 use Rattle.report_text.specs.Contents.{lists_of}
 use Rattle.report_check.specs.Verdicts.{ValueFits}
 use Rattle.sums_and_lists.proofs.Tests.{true_and_false}

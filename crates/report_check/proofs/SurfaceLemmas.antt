@@ -9,7 +9,8 @@ use Rattle.raster_model.proofs.Exact.{lifted_is_congruent}
 use Rattle.raster_model.proofs.MaskAgrees.{regions_too}
 use Rattle.surface_snapshots.specs.Parts.{tile_costs}
 use Rattle.surface_snapshots.proofs.SameLemmas.{anchored_too, same_seam_cost, same_tile_costs, seams_too, tile_too}
-use Rattle.report_text.specs.Certified.{IsCertifiedSurface, no_data}
+use Rattle.grid_writer.specs.Values.{no_data}
+use Rattle.report_text.specs.Certified.{IsCertifiedSurface}
 use Rattle.std.specs.Int.{int_div_euclid}
 use Rattle.certificates.specs.declared.verdicts.SeamVerdict.{SeamVerdict}
 use Rattle.certificates.specs.declared.verdicts.SeamVerdict.TheVariants as seam_verdicts

@@ -17,7 +17,8 @@ use Rattle.certificates.specs.Verdicts.{IsFacesVerdict}
 use Rattle.tile_board.specs.declared.entry.Entry.{Entry}
 use Rattle.tile_board.specs.declared.entry.Entry.TheVariants.{Published}
 use Rattle.tile_board.specs.Histories.{IsComplete, IsLegal, IsStep, mask_in}
-use Rattle.report_text.specs.Certified.{IsCertifiedAfter, IsCertifiedReport, history_of, no_data}
+use Rattle.grid_writer.specs.Values.{no_data}
+use Rattle.report_text.specs.Certified.{IsCertifiedAfter, IsCertifiedReport, history_of}
 use Rattle.report_text.specs.Reports.{ItemOf, ReportOf, SurfaceOf}
 use Rattle.report_check.specs.declared.verdict.CheckVerdict.{CheckVerdict}
 use Rattle.report_check.specs.declared.verdict.CheckVerdict.TheVariants.{Accepted, Header, History, Value, Tile, Seams, TileCost, SeamCost}

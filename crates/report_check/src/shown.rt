@@ -5,13 +5,11 @@ ghost use Rattle.raster_model.specs.Sums.{is_pixel};
 ghost use Rattle.report_check.specs.Verdicts.{cycles_shown};
 
 use certificates::{SeamVerdict, TileVerdict, check_faces, check_flows};
+use grid_writer::NO_DATA;
 use raster_model::{Heights, Mask, Scene};
 use report_text::ReportSurface;
 use seam_regions::Regions;
 use std::alloc::{AllocError, Global};
-
-/// The value at masked pixels.
-const NO_DATA: i64 = i64::MIN;
 
 /// How many units make a cycle.
 const CYCLE: i64 = 65_536;

@@ -13,12 +13,13 @@ use Rattle.surface_snapshots.specs.Parts.{AreGoodTiles, Parts, cycles_in_parts, 
 use Rattle.surface_snapshots.proofs.CallerLemmas.{value_is_told}
 use Rattle.surface_snapshots.proofs.SameLemmas.{anchored_too, same_seam_cost, same_tile_costs, seams_too, tile_too}
 use Rattle.grid_writer.specs.Shown.{shown_value}
+use Rattle.grid_writer.specs.Values.{no_data}
 use Rattle.tile_board.specs.declared.entry.Entry.{Entry}
 use Rattle.tile_board.specs.declared.entry.Entry.TheVariants.{Published}
 use Rattle.tile_board.specs.BoardView.{BoardView}
 use Rattle.tile_board.specs.Boards.{IsBoard, IsSurfaceOf}
 use Rattle.tile_board.specs.Histories.{IsComplete, mask_in, published_of}
-use Rattle.report_text.specs.Certified.{CertifiedReportsAreBest, IsBestAt, IsCertifiedAt, IsCertifiedAfter, IsCertifiedReport, IsCertifiedSurface, history_of, no_data}
+use Rattle.report_text.specs.Certified.{CertifiedReportsAreBest, IsBestAt, IsCertifiedAt, IsCertifiedAfter, IsCertifiedReport, IsCertifiedSurface, history_of}
 use Rattle.report_text.specs.Reports.{ItemOf, SurfaceOf, items_of, report_of, surface_of}
 use Rattle.report_text.proofs.ItemsLemmas.{all_get}
 use Rattle.std.specs.List.{AllByRecursion}

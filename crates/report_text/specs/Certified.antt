@@ -1,5 +1,5 @@
 -- A report that is certified for a session: its history is legal and complete, and each published surface is certified at the mask of its revision, with its true costs.
-use Rattle.std.specs.Prelude.{◌≡◌, ◌≢◌, ℕ, ◌<◌, ℤ, pos, neg_ℤ, Bool, IsTrue, if◌then◌else◌, List, map, Option, Some, None, slice_get}
+use Rattle.std.specs.Prelude.{◌≡◌, ◌≢◌, ℕ, ◌<◌, ℤ, pos, Bool, IsTrue, if◌then◌else◌, List, map, Option, Some, None, slice_get}
 use Rattle.raster_model.specs.declared.session.Session.{Session}
 use Rattle.raster_model.specs.Best.{IsBest}
 use Rattle.raster_model.specs.Cells.{IsCertifiedTile}
@@ -12,12 +12,9 @@ use Rattle.surface_snapshots.specs.Parts.{tile_costs}
 use Rattle.tile_board.specs.declared.entry.Entry.{Entry}
 use Rattle.tile_board.specs.declared.entry.Entry.TheVariants.{Revised, Kept, Published, Settled, Shown}
 use Rattle.tile_board.specs.Histories.{IsComplete, IsLegal, mask_in}
+use Rattle.grid_writer.specs.Values.{no_data}
 use Rattle.report_text.specs.Reports.{ItemOf, ReportOf, SurfaceOf}
 use Rattle.report_text.specs.Terms.{terms_of}
-
--- the value that stands at masked pixels
-abbrev pub no_data : ℤ
-no_data = neg_ℤ (pos 9223372036854775808)
 
 -- the grid shows a surface at open pixels, none of which has the NODATA value, and that value at masked ones
 pub record ShowsSurface (r : Raster) (mask : Field Bool) (values surface : Field ℤ) : Type 0 where

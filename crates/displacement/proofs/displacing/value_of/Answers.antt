@@ -3,9 +3,8 @@ use Rattle.displacement.proofs.displacing.value_of.Goals as goal
 use Rattle.displacement.proofs.displacing.value_of.Goals.{then-x-grid-via-then-x-grid, then-x-grid-via-else-x-grid+then-y-grid}
 use Rattle.grid_writer.specs.Grids.{grid_of}
 use Rattle.grid_writer.proofs.SizeLemmas.{sized_parts}
-use Rattle.displacement.specs.Blocks.{is_value}
-use Rattle.displacement.proofs.ComputedLemmas.{is_no_data, no_bits}
-use Rattle.displacement.proofs.TotalLemmas.{a_value, no_value}
+use Rattle.grid_writer.specs.Values.{is_value}
+use Rattle.grid_writer.proofs.NoData.{a_value, is_no_data, no_bits, no_value}
 use Rattle.std.proofs.Common.{FitsSigned, ap, arith, pos, rules, sym, vec_len, w64, ◌*◌, ◌+◌, ◌∙◌}
 use Rattle.std.proofs.lemmas.Int.{to_z-of_z}
 use Rattle.std.proofs.lemmas.List.{get_or_read_under}

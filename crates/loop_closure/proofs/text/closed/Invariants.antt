@@ -1,7 +1,7 @@
-use Rattle.std.proofs.Common.{◌≡◌, ◌≤◌, ℕ, take}
+use Rattle.std.proofs.Common.{◌≡◌, ◌≤◌, take}
 use Rattle.std.specs.List.{count_by}
-use Rattle.loop_closure.specs.Closure.{has_value}
+use Rattle.grid_writer.specs.Values.{is_value}
 use Rattle.loop_closure.proofs.text.closed.Given as goal
 
 abbrev pub invariant-loop-closure : goal.invariant-loop-closure
-invariant-loop-closure l = record { counted : l.count ≡ count_by has_value (take l.closure-index l.closures); within : l.count ≤ l.closure-index }
+invariant-loop-closure l = record { counted : l.count ≡ count_by is_value (take l.closure-index l.closures); within : l.count ≤ l.closure-index }

@@ -1,4 +1,4 @@
-use Rattle.std.proofs.Common.{◌≡◌, ◌≤◌, ℕ, take}
+use Rattle.std.proofs.Common.{◌≡◌, ◌≤◌, take}
 use Rattle.std.specs.List.{count_by}
 use Rattle.loop_closure.specs.Closure.{is_misclosed}
 use Rattle.loop_closure.proofs.text.misclosed.Given as goal

@@ -1,5 +1,6 @@
-use Rattle.displacement.proofs.ComputedLemmas.{is_no_data, no_bits, plus_held, plus_held_fits}
+use Rattle.displacement.proofs.ComputedLemmas.{plus_held, plus_held_fits}
 use Rattle.displacement.proofs.TotalLemmas.{adds_none, adds_one, counts_none, counts_one}
+use Rattle.grid_writer.proofs.NoData.{is_no_data, no_bits}
 use Rattle.displacement.proofs.total.Total.plus.Goals as goal
 use Rattle.std.proofs.Common.{◌∙◌, arith, rules}
 

@@ -1,6 +1,6 @@
 -- What the table promises of each command as clap builds it, what its arguments have where the words are taken, and which words are its own.
 use Rattle.std.proofs.Common.{◌≡◌, ◌∙◌, ◌&&◌, ◌+◌, ℕ, Bool, cond, true, false, not, suc, refl, sym, ap, ap₂, subst, inl, inr, List, [], ◌∷◌, ◌++◌, Option, Some, None, is_some, min, codes, ◌||◌, ◌⊎◌, zero, arith, map}
-use Rattle.std.specs.Prelude.{⊤, decimal, option_and_then, option_map, slice_get, unwrap_or}
+use Rattle.std.specs.Prelude.{⊤, option_and_then, option_map, slice_get, unwrap_or}
 use Rattle.std.specs.Fmt.{digits}
 use Rattle.std.specs.List.{list_any, find, fold}
 use Rattle.std.specs.Option.{option_map_or}
@@ -22,10 +22,10 @@ use Rattle.clap.proofs.ValueTestLemmas.{accepts-Accepts}
 use Rattle.insar_words.specs.Asked.{asks_by_names, has_names}
 use Rattle.insar_words.specs.Forms.{Argument, CommandForm, Each, OfOne, Taking, Value, any_number, arguments_of, fits, forms, names, numbers, word_of}
 use Rattle.insar_words.specs.PlainForms.{option_named}
-use Rattle.insar_words.specs.Stated.{default_texts, stated}
+use Rattle.insar_words.specs.Stated.{default_texts, parser_taking, stated}
 use Rattle.insar_words.specs.Values.{HasValue, HasValues}
 use Rattle.insar_words.proofs.TakenLemmas.{IsFit, IsGood, IsLeafTaken, default_from, found_each, leaf_rows, level_checked, level_good, row_at, stays, whole, leaf, neither, not_nil}
-use Rattle.insar_words.proofs.ValueLemmas.{IsReadable, number_in, parser_in}
+use Rattle.insar_words.proofs.ValueLemmas.{IsReadable, number_in}
 use Rattle.clap.specs.Kinds.{Kinds, or_else}
 use Rattle.clap.proofs.OnLiterals.{clap_on_literals}
 use Rattle.clap.proofs.FaultLemmas.{stopped_fault}
@@ -41,7 +41,7 @@ rule_for c a = unwrap_or (arg_by_id c a.id) help_rule
 pub record Owns (c : List Rule) (a : Argument) : Type 0 where
   pub found : arg_by_id c a.id ≡ Some (rule_for c a)
   pub named : (rule_for c a).id ≡ a.id
-  pub parser : parser_of_value (rule_for c a).parser ≡ parser_in a.takes
+  pub parser : parser_of_value (rule_for c a).parser ≡ parser_taking a.takes
   pub exact : (rule_for c a).ignore_case ≡ false
   pub defaults : (rule_for c a).defaults ≡ default_texts a.default
   pub sets : action_of (rule_for c a) ≡ Set
@@ -97,28 +97,13 @@ all_sound = assumption
 pub sound : (form : CommandForm) → OfOne (λ each. form ≡ each) forms → IsSound form
 sound = each_form IsSound forms all_sound
 
--- the texts of default numbers
-pub default_side : decimal 64 ≡ codes "64"
-unfolding digits
-default_side = refl
-
-pub default_slope : decimal 0 ≡ codes "0"
-unfolding digits
-default_slope = refl
-
-pub default_crew : decimal 2 ≡ codes "2"
-unfolding digits
-default_crew = refl
-
-pub ruleset defaults = (default_side, default_slope, default_crew)
-
 -- ---- values
 
 -- a value that passed the parser, as it is read
-value_by : (rows : List Row) (taking : Taking) (id text : Text) → accepts false (parser_in taking) text ≡ true → first_of id rows ≡ Some text → one_of id rows ≡ Some (read_as (reading_of (parser_in taking)) text) → HasValue taking id rows
-value_by rows (numbers least most) id text passes first one = number_in id least most rows text one (accepts-Accepts false (parser_in (numbers least most)) text passes)
+value_by : (rows : List Row) (taking : Taking) (id text : Text) → accepts false (parser_taking taking) text ≡ true → first_of id rows ≡ Some text → one_of id rows ≡ Some (read_as (reading_of (parser_taking taking)) text) → HasValue taking id rows
+value_by rows (numbers least most) id text passes first one = number_in id least most rows text one (accepts-Accepts false (parser_taking (numbers least most)) text passes)
 value_by rows any_number id text passes first one =
-    let w = accepts-Accepts false (parser_in any_number) text passes in
+    let w = accepts-Accepts false (parser_taking any_number) text passes in
     record { text = text; told = one; numeral = w.0; at_least = w.2; at_most = w.3 }
 value_by rows (names all) id text passes first one = (text, first)
 

@@ -20,9 +20,9 @@ use Rattle.clap.proofs.WalkLemmas.{find-map}
 use Rattle.raster_model.specs.declared.weights.RuleKind.{RuleKind}
 use Rattle.raster_model.specs.declared.weights.RuleKind.TheVariants.{Least, Mean, Product}
 use Rattle.insar_words.specs.Asked.{AreTaken, Asks, AsksWorkers, asked, asks_by_names, is_named, number_asked, slope_for}
-use Rattle.insar_words.specs.Forms.{Argument, CommandForm, Each, OfOne, Taking, Value, any_number, arguments_of, check_form, checking, drawing, fits, forms, grid_form, is_among, name, names, number, numbers, ramp_x_entry, ramp_y_entry, rule_entry, rule_name, rule_names, solving, tile_entry, trial_form, unwrap_form, word_of, workers_entry}
+use Rattle.insar_words.specs.Forms.{Argument, CommandForm, Each, OfOne, Taking, Value, any_number, arguments_of, check_form, checking, drawing, fits, forms, grid_form, is_among, name, names, number, numbers, ramp_x_entry, ramp_y_entry, rule_entry, rule_name, rule_names, solving, steep_entry, tile_entry, trial_form, unwrap_form, word_of, workers_entry}
 use Rattle.insar_words.specs.Limits.{IsTrialSide}
-use Rattle.insar_words.specs.PlainForms.{ArePlain, EachOnce, Has, HasGiven, HasSet, IsPlainlyRead, IsUnset, PlainCheckIsRead, PlainFormsAreRead, PlainSolvingIsRead, PlainTrialIsRead, Setting, are_values, is_setting, number_in_value, option_named, options_set, pairs, rule_called, set_to, workers_set}
+use Rattle.insar_words.specs.PlainForms.{ArePlain, EachOnce, Has, HasGiven, HasSet, IsPlainlyRead, IsUnset, PlainCheckIsRead, PlainFormsAreRead, PlainSolvingIsRead, PlainTrialIsRead, Setting, are_values, is_setting, number_in_value, number_set, option_named, options_set, pairs, rule_called, set_to, workers_set}
 use Rattle.insar_words.specs.Stated.{default_texts, stated}
 use Rattle.insar_words.proofs.FormLemmas.{AreApart, IsOption, IsSound, Owns, asks_form, lacks, rule_for, sound, takes_form}
 use Rattle.insar_words.proofs.PlainLemmas.{Choice, MayGive, Walks, given, row_is, setting_of, walks_all, zipped}
@@ -289,31 +289,38 @@ rule_has rows None well has = absurd has
 rule_has rows (Some (number n)) well has = absurd cc
 rule_has rows (Some (name text)) well has = has ∙ ap Some (called text well)
 
-module _ (command : Text) (words : List (Bor Text)) (options : List Argument) (settings : List Setting) (plain : ArePlain options settings) (rows : List Row) (taken : AreTaken words) (named : asked words ≡ Some (command, rows)) where
-  has_some : (id : Text) (o : Option Value) → Has rows id o → is_some o ≡ true
-  has_some id None has = absurd has
-  has_some id (Some v) has = refl
+has_some : (rows : List Row) (id : Text) (o : Option Value) → Has rows id o → is_some o ≡ true
+has_some rs id None has = absurd has
+has_some rs id (Some v) has = refl
 
+module _ (options : List Argument) (settings : List Setting) (plain : ArePlain options settings) (rows : List Row) where
   -- what pairs set fits
   well : (a : Argument) → option_named options a.id ≡ Some a → option_map_or (fits a.takes) a.default true ≡ true → Has rows a.id (set_to a settings) → option_map_or (fits a.takes) (set_to a settings) false ≡ true
-  well a first default has = set_well options a first default settings plain.taken (has_some a.id (set_to a settings) has)
+  well a first default has = set_well options a first default settings plain.taken (has_some rows a.id (set_to a settings) has)
 
-  abbrev asks_as : Each (λ a. option_named options a.id ≡ Some a) checking → HasSet rows checking settings → Asks command words (options_set settings)
-  asks_as found has = record {
+  -- the number that pairs set is the one that is asked for
+  pub number_told : (a : Argument) (least most : ℕ) → a.takes ≡ numbers least most → option_named options a.id ≡ Some a → option_map_or (fits a.takes) a.default true ≡ true → Has rows a.id (set_to a settings)
+      → number_asked a.id rows ≡ Some (number_set a settings)
+  number_told a least most takes first default has =
+      number_has rows a.id least most (set_to a settings) (subst (λ (t : Taking). option_map_or (fits t) (set_to a settings) false ≡ true) takes (well a first default has)) has
+
+  abbrev asks_as : (command : Text) (words : List (Bor Text)) → AreTaken words → asked words ≡ Some (command, rows) → Each (λ a. option_named options a.id ≡ Some a) checking → HasSet rows checking settings → Asks command words (options_set settings)
+  asks_as command words taken named found has = record {
     taken = taken;
     rows = rows;
     named = named;
     rule_is = rule_has rows (set_to rule_entry settings) (well rule_entry found.1.0 refl has.1.0) has.1.0;
-    side_is = number_has rows (codes "tile") 2 128 (set_to tile_entry settings) (well tile_entry found.0 refl has.0) has.0;
-    ramp_x_is = ap (option_map slope_for) (number_has rows (codes "ramp-x") 0 65535 (set_to ramp_x_entry settings) (well ramp_x_entry found.1.1.0 refl has.1.1.0) has.1.1.0);
-    ramp_y_is = ap (option_map slope_for) (number_has rows (codes "ramp-y") 0 65535 (set_to ramp_y_entry settings) (well ramp_y_entry found.1.1.1.0 refl has.1.1.1.0) has.1.1.1.0);
+    side_is = number_told tile_entry 2 128 refl found.0 refl has.0;
+    ramp_x_is = ap (option_map slope_for) (number_told ramp_x_entry 0 65535 refl found.1.1.0 refl has.1.1.0);
+    ramp_y_is = ap (option_map slope_for) (number_told ramp_y_entry 0 65535 refl found.1.1.1.0 refl has.1.1.1.0);
+    steep_is = number_told steep_entry 1 16 refl found.1.1.1.1.0 refl has.1.1.1.1.0;
   }
 
 abbrev solving_as : (command : Text) (words : List (Bor Text)) (settings : List Setting) (rows : List Row) → ArePlain solving settings → AreTaken words → asked words ≡ Some (command, rows) → HasSet rows solving settings
     → AsksWorkers command words (options_set settings) (workers_set settings)
 solving_as command words settings rows plain taken named has = record {
-  asks = asks_as command words solving settings plain rows taken named (refl, (refl, (refl, (refl, tt)))) (has.0, (has.1.0, (has.1.1.0, (has.1.1.1.0, tt))));
-  workers_are = number_has rows (codes "workers") 1 8 (set_to workers_entry settings) (well command words solving settings plain rows taken named workers_entry refl refl has.1.1.1.1.0) has.1.1.1.1.0;
+  asks = asks_as solving settings plain rows command words taken named (refl, (refl, (refl, (refl, (refl, tt))))) (has.0, (has.1.0, (has.1.1.0, (has.1.1.1.0, (has.1.1.1.1.0, tt)))));
+  workers_are = number_told solving settings plain rows workers_entry 1 8 refl refl refl has.1.1.1.1.1.0;
 }
 
 pub plain_unwrap : PlainSolvingIsRead (codes "unwrap")
@@ -329,7 +336,7 @@ plain_grid words settings plain spelled =
 pub plain_check : PlainCheckIsRead
 plain_check words settings plain spelled =
     let r = plain_forms words check_form [] settings (inr (inr (inl refl))) refl plain spelled in
-    asks_as (codes "check") words checking settings plain r.rows r.taken r.named (refl, (refl, (refl, (refl, tt)))) r.options
+    asks_as checking settings plain r.rows (codes "check") words r.taken r.named (refl, (refl, (refl, (refl, (refl, tt))))) r.options
 
 le_true : (m n : ℕ) → m ≤ n → nat_le m n ≡ true
 le_true m n h = grind (arith, nat_tests)

@@ -1,10 +1,9 @@
 -- From what clap finds to what words ask: they ask for one thing at most, and are refused or ask for something.
-use Rattle.std.proofs.Common.{◌≡◌, ◌≢◌, ◌∙◌, ◌*◌, ◌<◌, ◌≤◌, ◌⊎◌, ◌||◌, ◌&&◌, ◌^◌, ℕ, Bool, cond, true, false, List, [], ◌∷◌, get_or, Option, Some, None, Result, Ok, Err, IfErr, IsErrAnd, refl, sym, ap, ap₂, inl, inr, subst, arith, codes}
+use Rattle.std.proofs.Common.{◌≡◌, ◌≢◌, ◌∙◌, ◌*◌, ◌<◌, ◌≤◌, ◌⊎◌, ◌||◌, ◌&&◌, ◌^◌, ℕ, Bool, cond, true, false, List, [], ◌∷◌, Option, Some, None, Result, Ok, Err, IfErr, IsErrAnd, refl, sym, ap, ap₂, inl, inr, subst, arith, codes}
 use native.Mathlib.Bridge.{le_prop}
 use mathlib.Core.HLevel.{is_prop→PathP, ×_prop}
-use Rattle.std.specs.Prelude.{Box, ◌≤ℤ◌, ◌-ℤ◌, ℤ, nat_lt, option_map, pos}
+use Rattle.std.specs.Prelude.{Box, ◌≤ℤ◌, ◌-ℤ◌, ℤ, nat_lt, option_map, pos, ⊤}
 use Rattle.std.proofs.Math.Dec.{T_prop}
-use Rattle.std.proofs.Math.Nat.{ℕ_set}
 use Rattle.std.specs.Borrow.{Bor}
 use Rattle.std.specs.Box.{box_value}
 use Rattle.std.specs.Str.{bytes_eq}
@@ -25,16 +24,18 @@ use Rattle.raster_model.specs.declared.terms.Terms.{Terms}
 use Rattle.raster_model.specs.declared.weights.RuleKind.{RuleKind}
 use Rattle.raster_model.specs.declared.weights.RuleKind.TheVariants.{Least, Mean, Product}
 use Rattle.raster_model.specs.Limits.{IsSlope, IsSteepness, IsTileSide, max_pixels}
-use Rattle.insar_words.specs.Asked.{AreTaken, AskSomething, Asks, IsCheck, IsCommand, IsGridCommand, IsRefused, IsTooLarge, IsTrialCommand, OneCommand, Options, RefusedOrAsking, asked, asks_by_names, has_names, is_named, number_asked, slope_asked, slope_for}
+use Rattle.insar_words.specs.Asked.{AreTaken, Asks, IsCheck, IsCommand, IsGridCommand, IsRefused, IsTooLarge, IsTrialCommand, OneCommand, Options, asked, asks_by_names, has_names, is_named, number_asked, slope_asked, slope_for}
 use Rattle.insar_words.specs.Faults.{fault_of_kind}
-use Rattle.insar_words.specs.Forms.{CommandForm, Each, OfOne, arguments_of, check_form, forms, grid_form, is_among, rule_entry, rule_name, rule_names, trial_form, unwrap_form}
-use Rattle.insar_words.specs.Limits.{IsTrialSide, IsWorkers}
-use Rattle.insar_words.specs.Requests.{AskingIsRequest, CheckIsRequest, GridIsRequest, HasWordsCause, IsRequest, IsSession, OneRequest, TellsAll, TellsNothing, TellsRefusal, TellsRequest, TellsSettings, TellsTooMany, TrialIsRequest, UnwrapIsRequest, options_of}
+use Rattle.insar_words.specs.Forms.{CommandForm, Each, OfOne, arguments_of, check_form, closure_form, displacement_form, forms, grid_form, is_among, rule_entry, rule_name, rule_names, screen_form, trial_form, unwrap_form}
+use Rattle.insar_words.specs.Limits.{IsBlockAsked, IsNearCount, IsPatchSize, IsReferencePlace, IsScreenRadius, IsTrialSide, IsWavelengthAsked, IsWorkers}
+use Rattle.insar_words.specs.Requests.{AskSomething, CheckIsRequest, GridIsRequest, HasWordsCause, IsRequest, IsSession, OneRequest, RefusedOrAsking, TellsAll, TellsNothing, TellsRefusal, TellsRequest, TellsSettings, TellsTooMany, TrialIsRequest, UnwrapIsRequest, options_of}
 use Rattle.insar_words.specs.Stated.{stated}
 use Rattle.insar_words.specs.Values.{HasChecking, HasNumber, HasSolving, HasValues, ReadsAs}
 use Rattle.insar_words.specs.declared.fault.WordsFault.{WordsFault}
 use Rattle.insar_words.specs.declared.request.Request.{Request}
-use Rattle.insar_words.specs.declared.request.Request.TheVariants.{Unwrap, Grid, Check, Trial}
+use Rattle.insar_words.specs.declared.request.Request.TheVariants.{Unwrap, Grid, Check, Trial, Screen, Closure, Displacement}
+use Rattle.insar_words.specs.declared.screening.Screening.{Screening}
+use Rattle.insar_words.specs.declared.displacing.Displacing.{Displacing}
 use Rattle.insar_words.specs.declared.settings.Settings.{Settings}
 use Rattle.insar_words.specs.declared.trial.Trial.{Trial as TrialSession}
 use Rattle.insar_words.proofs.FormLemmas.{asks_form, each_form, has_values, named, sound}
@@ -44,32 +45,29 @@ use Rattle.insar_words.proofs.ValueLemmas.{other_bytes}
 
 -- ---- one request
 
--- the first letters differ
-letters : (a b : Text) → a ≡ b → get_or a 0 0 ≢ get_or b 0 0 → ⊥
-letters a b e n = n (ap (λ (t : Text). get_or t 0 0) e)
+-- their bytes differ
+pub apart : (a b : Text) → bytes_eq a b ≡ false → a ≡ b → ⊥
+apart a b other e = let same : bytes_eq a b ≡ true = (bytes_eq-Decides a b).1 e in cc
 
 one_rule : (r q : RuleKind) → rule_name r ≡ rule_name q → r ≡ q
 one_rule Least Least e = refl
 one_rule Mean Mean e = refl
 one_rule Product Product e = refl
-one_rule r q e = absurd (letters (rule_name r) (rule_name q) e (λ x. omega (arith, x)))
+one_rule r q e = absurd (apart (rule_name r) (rule_name q) refl e)
 
-abbrev command_of : Request → Text
+abbrev pub command_of : Request → Text
 command_of (Unwrap settings) = codes "unwrap"
 command_of (Grid settings) = codes "grid"
 command_of (Check settings) = codes "check"
 command_of (Trial trial) = codes "trial"
+command_of (Screen screening) = codes "screen"
+command_of Closure = codes "closure"
+command_of (Displacement displacing) = codes "displacement"
 
-abbrev settings_of : Request → Settings
-settings_of (Unwrap settings) = settings
-settings_of (Grid settings) = settings
-settings_of (Check settings) = settings
-settings_of (Trial trial) = trial.settings
-
--- the command and the settings that are told
-told_by : (command : Text) (rows : List Row) (r : Request) → TellsRequest command rows r → (command ≡ command_of r) × TellsSettings rows (settings_of r)
-told_by command rows (Trial trial) tells = (tells.0, tells.1.0.0)
-told_by command rows r tells = (tells.0, tells.1.0)
+-- the command that is told
+pub told_by : (command : Text) (rows : List Row) (r : Request) → TellsRequest command rows r → command ≡ command_of r
+told_by command rows Closure tells = tells.0
+told_by command rows r tells = tells.0
 
 -- the rows that words ask for by one command are those that they ask for by another
 same_asked : (words : List (Bor Text)) (command other : Text) (rows rows_too : List Row) → asked words ≡ Some (command, rows) → asked words ≡ Some (other, rows_too) → (command ≡ other) × (rows ≡ rows_too)
@@ -78,7 +76,7 @@ same_asked words command other rows rows_too a b =
     (ap (λ (p : Text × List Row). p.0) same, ap (λ (p : Text × List Row). p.1) same)
 
 -- the rows of words tell what the words ask for
-tells_by : (words : List (Bor Text)) (r : Request) → IsRequest words r → (command : Text) (rows : List Row) → asked words ≡ Some (command, rows) → TellsRequest command rows r
+pub tells_by : (words : List (Bor Text)) (r : Request) → IsRequest words r → (command : Text) (rows : List Row) → asked words ≡ Some (command, rows) → TellsRequest command rows r
 tells_by words r is command rows named =
     let same = same_asked words is.command command is.rows rows is.named named in
     subst (λ (t : Text). TellsRequest t rows r) same.0 (subst (λ (rs : List Row). TellsRequest is.command rs r) same.1 is.tells)
@@ -86,9 +84,9 @@ tells_by words r is command rows named =
 -- the options that rows tell
 abbrev AreTold : List Row → Options → Type 0
 AreTold rows options = (first_of (codes "rule") rows ≡ Some (rule_name options.rule)) × ((number_asked (codes "tile") rows ≡ Some options.side)
-    × ((slope_asked (codes "ramp-x") rows ≡ Some options.ramp_x) × (slope_asked (codes "ramp-y") rows ≡ Some options.ramp_y)))
+    × ((slope_asked (codes "ramp-x") rows ≡ Some options.ramp_x) × ((slope_asked (codes "ramp-y") rows ≡ Some options.ramp_y) × (number_asked (codes "steep") rows ≡ Some options.steep))))
 
-some_one : {X : Type 0} (o : Option X) (x y : X) → o ≡ Some x → o ≡ Some y → x ≡ y
+pub some_one : {X : Type 0} (o : Option X) (x y : X) → o ≡ Some x → o ≡ Some y → x ≡ y
 some_one o x y a b = cc
 
 one_choice : (rows : List Row) (options others : Options) → AreTold rows options → AreTold rows others → options ≡ others
@@ -96,11 +94,12 @@ one_choice rows options others a b =
     let rules = one_rule options.rule others.rule (some_one _ _ _ a.0 b.0) in
     let sides = some_one _ options.side others.side a.1.0 b.1.0 in
     let across = some_one _ options.ramp_x others.ramp_x a.1.1.0 b.1.1.0 in
-    let along = some_one _ options.ramp_y others.ramp_y a.1.1.1 b.1.1.1 in
-    λ i. record { rule = rules i; side = sides i; ramp_x = across i; ramp_y = along i }
+    let along = some_one _ options.ramp_y others.ramp_y a.1.1.1.0 b.1.1.1.0 in
+    let steeps = some_one _ options.steep others.steep a.1.1.1.1 b.1.1.1.1 in
+    λ i. record { rule = rules i; side = sides i; ramp_x = across i; ramp_y = along i; steep = steeps i }
 
 asks_told : (command : Text) (words : List (Bor Text)) (options : Options) (a : Asks command words options) → AreTold a.rows options
-asks_told command words options a = (a.rule_is, (a.side_is, (a.ramp_x_is, a.ramp_y_is)))
+asks_told command words options a = (a.rule_is, (a.side_is, (a.ramp_x_is, (a.ramp_y_is, a.steep_is))))
 
 pub one_command : OneCommand
 one_command words command other options others a b =
@@ -124,7 +123,7 @@ same_terms s t xs ys steeps = λ i.
 
 same_settings : (s t : Settings) → options_of s ≡ options_of t → s.workers ≡ t.workers → s ≡ t
 same_settings s t options crews =
-    let terms : s.terms ≡ t.terms = same_terms s.terms t.terms (ap (λ (o : Options). o.ramp_x) options) (ap (λ (o : Options). o.ramp_y) options) (s.unsteep ∙ sym t.unsteep) in
+    let terms : s.terms ≡ t.terms = same_terms s.terms t.terms (ap (λ (o : Options). o.ramp_x) options) (ap (λ (o : Options). o.ramp_y) options) (ap (λ (o : Options). o.steep) options) in
     λ i.
     record {
       rule = (options i).rule;
@@ -132,7 +131,6 @@ same_settings s t options crews =
       terms = terms i;
       workers = crews i;
       sides = is_prop→PathP (λ j. IsTileSide (options j).side) (λ j. ×_prop le_prop le_prop) s.sides t.sides i;
-      unsteep = is_prop→PathP (λ j. (terms j).steep ≡ 1) (λ j. ℕ_set (terms j).steep 1) s.unsteep t.unsteep i;
       crew = is_prop→PathP (λ j. IsWorkers (crews j)) (λ j. ×_prop le_prop le_prop) s.crew t.crew i;
     }
 
@@ -148,6 +146,33 @@ same_trial s t seeds widths heights settings = λ i.
       few = is_prop→PathP (λ j. widths j * heights j ≤ max_pixels) (λ j. le_prop) s.few t.few i;
     }
 
+same_screening : (s t : Screening) → s.weight ≡ t.weight → s.radius ≡ t.radius → s.count ≡ t.count → s.patch ≡ t.patch → s.side ≡ t.side → s ≡ t
+same_screening s t weights radii counts patches sides = λ i.
+    record {
+      weight = weights i;
+      radius = radii i;
+      count = counts i;
+      patch = patches i;
+      side = sides i;
+      radii = is_prop→PathP (λ j. IsScreenRadius (radii j)) (λ j. le_prop) s.radii t.radii i;
+      counts = is_prop→PathP (λ j. IsNearCount (counts j)) (λ j. le_prop) s.counts t.counts i;
+      patches = is_prop→PathP (λ j. IsPatchSize (patches j)) (λ j. le_prop) s.patches t.patches i;
+      sides = is_prop→PathP (λ j. IsTileSide (sides j)) (λ j. ×_prop le_prop le_prop) s.sides t.sides i;
+    }
+
+same_displacing : (s t : Displacing) → s.wavelength ≡ t.wavelength → s.x ≡ t.x → s.y ≡ t.y → s.block ≡ t.block → s ≡ t
+same_displacing s t waves columns rows blocks = λ i.
+    record {
+      wavelength = waves i;
+      x = columns i;
+      y = rows i;
+      block = blocks i;
+      wave = is_prop→PathP (λ j. IsWavelengthAsked (waves j)) (λ j. ×_prop le_prop le_prop) s.wave t.wave i;
+      column = is_prop→PathP (λ j. IsReferencePlace (columns j)) (λ j. le_prop) s.column t.column i;
+      row = is_prop→PathP (λ j. IsReferencePlace (rows j)) (λ j. le_prop) s.row t.row i;
+      blocks = is_prop→PathP (λ j. IsBlockAsked (blocks j)) (λ j. ×_prop le_prop le_prop) s.blocks t.blocks i;
+    }
+
 same_told : (rows : List Row) (s t : Settings) → TellsSettings rows s → TellsSettings rows t → s.workers ≡ t.workers → s ≡ t
 same_told rows s t a b crew = same_settings s t (one_choice rows (options_of s) (options_of t) a b) crew
 
@@ -156,7 +181,10 @@ one_told command rows (Unwrap s) (Unwrap t) a b = ap Unwrap (same_told rows s t 
 one_told command rows (Grid s) (Grid t) a b = ap Grid (same_told rows s t a.1.0 b.1.0 (cc))
 one_told command rows (Check s) (Check t) a b = ap Check (same_told rows s t a.1.0 b.1.0 (cc))
 one_told command rows (Trial s) (Trial t) a b = ap Trial (same_trial s t (cc) (cc) (cc) (same_told rows s.settings t.settings a.1.0.0 b.1.0.0 (cc)))
-one_told command rows r q a b = absurd (letters (command_of r) (command_of q) (sym (told_by command rows r a).0 ∙ (told_by command rows q b).0) (λ x. omega (arith, x)))
+one_told command rows (Screen s) (Screen t) a b = ap Screen (same_screening s t (some_one _ _ _ a.1.0 b.1.0) (some_one _ _ _ a.1.1.0 b.1.1.0) (some_one _ _ _ a.1.1.1.0 b.1.1.1.0) (some_one _ _ _ a.1.1.1.1.0 b.1.1.1.1.0) (some_one _ _ _ a.1.1.1.1.1 b.1.1.1.1.1))
+one_told command rows Closure Closure a b = refl
+one_told command rows (Displacement s) (Displacement t) a b = ap Displacement (same_displacing s t (some_one _ _ _ a.1.0 b.1.0) (some_one _ _ _ a.1.1.0 b.1.1.0) (some_one _ _ _ a.1.1.1.0 b.1.1.1.0) (some_one _ _ _ a.1.1.1.1 b.1.1.1.1))
+one_told command rows r q a b = absurd (apart (command_of r) (command_of q) refl (sym (told_by command rows r a) ∙ told_by command rows q b))
 
 pub one_request : OneRequest
 one_request words r q a b = one_told b.command b.rows r q (tells_by words r a b.command b.rows b.named) b.tells
@@ -179,9 +207,9 @@ slope_fits n high = go (nat_lt n 32768) refl
 slope_there : (id : Text) (rows : List Row) → HasNumber id 0 65535 rows → (slope : ℤ) × (slope_asked id rows ≡ Some slope) × IsSlope slope
 slope_there id rows h = let n = number_there id 0 65535 rows h in (slope_for n.0, ap (option_map slope_for) n.1, slope_fits n.0 n.2.1)
 
--- the number of a slope is small
-pub slope_number : (id : Text) (rows : List Row) (n : ℕ) → HasNumber id 0 65535 rows → number_asked id rows ≡ Some n → n ≤ 65535
-slope_number id rows n h e = let there = number_there id 0 65535 rows h in subst (λ (m : ℕ). m ≤ 65535) (some_one _ there.0 n there.1 e) there.2.1
+-- the number that is asked for is within its limits
+pub number_within : (id : Text) (least most : ℕ) (rows : List Row) (n : ℕ) → HasNumber id least most rows → number_asked id rows ≡ Some n → (least ≤ n) × (n ≤ most)
+number_within id least most rows n h e = let there = number_there id least most rows h in subst (λ (m : ℕ). (least ≤ m) × (m ≤ most)) (some_one _ there.0 n there.1 e) there.2
 
 -- the settings of a command, but for its workers
 settings_there : (rows : List Row) → HasChecking rows → is_named rule_entry.takes (first_of (codes "rule") rows) ≡ true → (workers : ℕ) → IsWorkers workers → (settings : Settings) × (TellsSettings rows settings × (settings.workers ≡ workers))
@@ -190,13 +218,14 @@ settings_there rows has names workers crew =
     let rule = rule_of_text has.1.0.0 (ap (is_named rule_entry.takes) (sym has.1.0.1) ∙ names) in
     let x = slope_there (codes "ramp-x") rows has.1.1.0 in
     let y = slope_there (codes "ramp-y") rows has.1.1.1.0 in
-    let terms : Terms = record { ramp_x = x.0; ramp_y = y.0; steep = 1; across = x.2; along = y.2; steepness = (omega arith, omega arith) } in
-    (record { rule = rule.0; side = side.0; terms = terms; workers = workers; sides = side.2; unsteep = refl; crew = crew }, ((has.1.0.1 ∙ ap Some rule.1, (side.1, (x.1, y.1))), refl))
+    let steep = number_there (codes "steep") 1 16 rows has.1.1.1.1.0 in
+    let terms : Terms = record { ramp_x = x.0; ramp_y = y.0; steep = steep.0; across = x.2; along = y.2; steepness = steep.2 } in
+    (record { rule = rule.0; side = side.0; terms = terms; workers = workers; sides = side.2; crew = crew }, ((has.1.0.1 ∙ ap Some rule.1, (side.1, (x.1, (y.1, steep.1)))), refl))
 
 all_there : (rows : List Row) → HasSolving rows → is_named rule_entry.takes (first_of (codes "rule") rows) ≡ true → (settings : Settings) × TellsAll rows settings
 all_there rows has names =
-    let workers = number_there (codes "workers") 1 8 rows has.1.1.1.1.0 in
-    let s = settings_there rows (has.0, (has.1.0, (has.1.1.0, (has.1.1.1.0, tt)))) names workers.0 workers.2 in
+    let workers = number_there (codes "workers") 1 8 rows has.1.1.1.1.1.0 in
+    let s = settings_there rows (has.0, (has.1.0, (has.1.1.0, (has.1.1.1.0, (has.1.1.1.1.0, tt))))) names workers.0 workers.2 in
     (s.0, (s.1.0, workers.1 ∙ ap Some (sym s.1.1)))
 
 abbrev SomeAsked : List (Bor Text) → Type 0
@@ -227,13 +256,35 @@ asks_trial words rows taken named has names =
     let seed = number_there (codes "seed") 0 18446744073709551615 rows has.0 in
     let width = number_there (codes "width") 1 4096 rows has.1.0 in
     let height = number_there (codes "height") 1 4096 rows has.1.1.0 in
-    let asks : Asks (codes "trial") words (options_of s.0) = record { taken = taken; rows = rows; named = named; rule_is = s.1.0.0; side_is = s.1.0.1.0; ramp_x_is = s.1.0.1.1.0; ramp_y_is = s.1.0.1.1.1 } in
+    let asks : Asks (codes "trial") words (options_of s.0) = record { taken = taken; rows = rows; named = named; rule_is = s.1.0.0; side_is = s.1.0.1.0; ramp_x_is = s.1.0.1.1.0; ramp_y_is = s.1.0.1.1.1.0; steep_is = s.1.0.1.1.1.1 } in
     elim (cases_lt max_pixels (width.0 * height.0)) [
       | inl large ↦ inl (seed.0, width.0, height.0, options_of s.0, (record { asks = asks; seed_is = seed.1; width_is = width.1; height_is = height.1 }, large))
       | inr few ↦
           let trial : TrialSession = record { seed = seed.0; width = width.0; height = height.0; settings = s.0; across = width.2; along = height.2; few = few } in
           inr (Trial trial, record { taken = taken; command = codes "trial"; rows = rows; named = named; tells = (refl, (s.1, (seed.1, (width.1, height.1)))) })
     ]
+
+asks_screen : Asking screen_form
+asks_screen words rows taken named has names =
+    let weight = number_there (codes "weight") 0 65535 rows has.0 in
+    let radius = number_there (codes "radius") 0 64 rows has.1.0 in
+    let count = number_there (codes "count") 0 16641 rows has.1.1.0 in
+    let patch = number_there (codes "patch") 0 4194304 rows has.1.1.1.0 in
+    let side = number_there (codes "tile") 2 128 rows has.1.1.1.1.0 in
+    let screening : Screening = record { weight = weight.0; radius = radius.0; count = count.0; patch = patch.0; side = side.0; radii = radius.2.1; counts = count.2.1; patches = patch.2.1; sides = side.2 } in
+    inr (Screen screening, record { taken = taken; command = codes "screen"; rows = rows; named = named; tells = (refl, (weight.1, (radius.1, (count.1, (patch.1, side.1))))) })
+
+asks_closure : Asking closure_form
+asks_closure words rows taken named has names = inr (Closure, record { taken = taken; command = codes "closure"; rows = rows; named = named; tells = (refl, tt) })
+
+asks_displacement : Asking displacement_form
+asks_displacement words rows taken named has names =
+    let wave = number_there (codes "wavelength") 1 1000000000 rows has.0 in
+    let x = number_there (codes "x") 0 4095 rows has.1.0 in
+    let y = number_there (codes "y") 0 4095 rows has.1.1.0 in
+    let block = number_there (codes "block") 1 64 rows has.1.1.1.0 in
+    let displacing : Displacing = record { wavelength = wave.0; x = x.0; y = y.0; block = block.0; wave = wave.2; column = x.2.1; row = y.2.1; blocks = block.2 } in
+    inr (Displacement displacing, record { taken = taken; command = codes "displacement"; rows = rows; named = named; tells = (refl, (wave.1, (x.1, (y.1, block.1)))) })
 
 -- what words that clap takes ask for
 record Reads (words : List Text) : Type 0 where
@@ -259,7 +310,7 @@ asked_some : (words : List (Bor Text)) → AreTaken words → SomeAsked words
 asked_some words taken =
     let r = reads_some (texts words) taken.parsed in
     let names = and_parts (has_names r.rows r.form) true (sym ((sound r.form r.among).names r.rows) ∙ ap asks_by_names (sym r.named) ∙ taken.in_names) in
-    each_form Asking forms (asks_unwrap, (asks_grid, (asks_check, (asks_trial, tt)))) r.form r.among words r.rows taken r.named r.values names.0
+    each_form Asking forms (asks_unwrap, (asks_grid, (asks_check, (asks_trial, (asks_screen, (asks_closure, (asks_displacement, tt))))))) r.form r.among words r.rows taken r.named r.values names.0
 
 -- ---- refused, or asking
 
@@ -272,7 +323,7 @@ few_told width height rows across along few large =
 
 not_few : (command : Text) (rows : List Row) (request : Request) → command ≡ codes "trial" → TellsTooMany rows → TellsRequest command rows request → ⊥
 not_few command rows (Trial t) trial large tells = few_told t.width t.height rows tells.1.1.1.0 tells.1.1.1.1 t.few large
-not_few command rows request trial large tells = letters (codes "trial") (command_of request) (sym trial ∙ (told_by command rows request tells).0) (λ x. omega (arith, x))
+not_few command rows request trial large tells = apart (codes "trial") (command_of request) refl (sym trial ∙ told_by command rows request tells)
 
 refusal_is : (words : List (Bor Text)) (command : Text) (rows : List Row) → fault_of stated (texts words) ≡ [] → asked words ≡ Some (command, rows) → TellsNothing command rows → IsRefused words
 refusal_is words command rows parsed named nothing = go (asks_by_names (asked words)) refl nothing
@@ -285,24 +336,6 @@ refusal_is words command rows parsed named nothing = go (asks_by_names (asked wo
       | inr r ↦ absurd (not_few command rows r.0 large.0 large.1 (tells_by words r.0 r.1 command rows named))
     ]
 
--- a request by its command and its options
-asks_of : (words : List (Bor Text)) (r : Request) → IsRequest words r → Asks (command_of r) words (options_of (settings_of r))
-asks_of words r is =
-    let told = told_by is.command is.rows r is.tells in
-    record { taken = is.taken; rows = is.rows; named = is.named ∙ ap (λ (t : Text). Some (t, is.rows)) told.0; rule_is = told.1.0; side_is = told.1.1.0; ramp_x_is = told.1.1.1.0; ramp_y_is = told.1.1.1.1 }
-
-trial_of : (words : List (Bor Text)) (t : TrialSession) → IsRequest words (Trial t) → IsTrialCommand words t.seed t.width t.height (options_of t.settings)
-unfolding asks_of
-trial_of words t is =
-    let told = is.tells.1.1 in
-    record { asks = record { asks = asks_of words (Trial t) is; seed_is = told.0; width_is = told.1.0; height_is = told.1.1 }; pixels = t.few }
-
-as_something : (words : List (Bor Text)) (r : Request) → IsRequest words r → AskSomething words
-as_something words (Unwrap s) is = inl (options_of s, asks_of words (Unwrap s) is)
-as_something words (Grid s) is = inr (inl (options_of s, asks_of words (Grid s) is))
-as_something words (Check s) is = inr (inr (inl (options_of s, asks_of words (Check s) is)))
-as_something words (Trial t) is = inr (inr (inr (t.seed, t.width, t.height, options_of t.settings, trial_of words t is)))
-
 refused_or_asks : (words : List (Bor Text)) → IsRefused words ⊎ AskSomething words
 refused_or_asks words = go (fault_of stated (texts words)) refl (asks_by_names (asked words)) refl
   where
@@ -311,99 +344,119 @@ refused_or_asks words = go (fault_of stated (texts words)) refl (asks_by_names (
     go [] is false e = inl (inl (λ taken. let in_names = taken.in_names in absurd cc))
     go [] is true e = elim (asked_some words (record { parsed = is; in_names = e })) [
       | inl large ↦ inl (inr large)
-      | inr r ↦ inr (as_something words r.0 r.1)
+      | inr r ↦ inr r
     ]
 
--- what words ask for is a command that is taken, and a trial that they ask for has few pixels
-record IsAsked (words : List (Bor Text)) : Type 0 where
-  command : Text
-  rows : List Row
-  taken : AreTaken words
-  named : asked words ≡ Some (command, rows)
-  few : command ≡ codes "trial" → TellsTooMany rows → ⊥
-
-something : (words : List (Bor Text)) → AskSomething words → IsAsked words
-something words (inl a) = record { command = codes "unwrap"; rows = a.1.rows; taken = a.1.taken; named = a.1.named; few = λ e. absurd (letters (codes "unwrap") (codes "trial") e (λ x. omega (arith, x))) }
-something words (inr (inl a)) = record { command = codes "grid"; rows = a.1.rows; taken = a.1.taken; named = a.1.named; few = λ e. absurd (letters (codes "grid") (codes "trial") e (λ x. omega (arith, x))) }
-something words (inr (inr (inl a))) = record { command = codes "check"; rows = a.1.rows; taken = a.1.taken; named = a.1.named; few = λ e. absurd (letters (codes "check") (codes "trial") e (λ x. omega (arith, x))) }
-something words (inr (inr (inr a))) = record { command = codes "trial"; rows = a.4.asks.asks.rows; taken = a.4.asks.asks.taken; named = a.4.asks.asks.named; few = λ e. few_told a.1 a.2 a.4.asks.asks.rows a.4.asks.width_is a.4.asks.height_is a.4.pixels }
-
-never_large : (words : List (Bor Text)) → IsTooLarge words → AskSomething words → ⊥
-never_large words large a =
-    let is = something words a in
+not_large : (words : List (Bor Text)) (command : Text) (rows : List Row) → asked words ≡ Some (command, rows) → (command ≡ codes "trial" → TellsTooMany rows → ⊥) → IsTooLarge words → ⊥
+not_large words command rows named few large =
     let x = large.4.0 in
-    let same = same_asked words is.command (codes "trial") is.rows x.asks.rows is.named x.asks.named in
-    is.few same.0 (subst TellsTooMany (sym same.1) (large.1, large.2, (x.width_is, (x.height_is, large.4.1))))
+    let same = same_asked words command (codes "trial") rows x.asks.rows named x.asks.named in
+    few same.0 (subst TellsTooMany (sym same.1) (large.1, large.2, (x.width_is, (x.height_is, large.4.1))))
 
 never_both : (words : List (Bor Text)) → IsRefused words → AskSomething words → ⊥
-never_both words (inl not_taken) a = not_taken (something words a).taken
-never_both words (inr large) a = never_large words large a
+never_both words (inl not_taken) a = not_taken a.1.taken
+never_both words (inr large) a = not_large words a.1.command a.1.rows a.1.named (λ e many. not_few a.1.command a.1.rows a.0 e many a.1.tells) large
 
 pub refused_or_asking : RefusedOrAsking
 refused_or_asking words = (refused_or_asks words, never_both words)
 
 -- ---- commands are requests
 
-some_request : (words : List (Bor Text)) → AskSomething words → (request : Request) × IsRequest words request
-some_request words a = elim (asked_some words (something words a).taken) [
-  | inl large ↦ absurd (never_large words large a)
+-- words that are taken, and do not ask for too many pixels, are a request
+pub some_request : (words : List (Bor Text)) (command : Text) (rows : List Row) → AreTaken words → asked words ≡ Some (command, rows) → (command ≡ codes "trial" → TellsTooMany rows → ⊥) → AskSomething words
+some_request words command rows taken named few = elim (asked_some words taken) [
+  | inl large ↦ absurd (not_large words command rows named few large)
   | inr r ↦ r
 ]
 
--- a request that words ask for by a command and options has them
-has_asked : (words : List (Bor Text)) (command : Text) (options : Options) (q : Request) → Asks command words options → IsRequest words q → (command_of q ≡ command) × (options_of (settings_of q) ≡ options)
-has_asked words command options q a is = one_command words (command_of q) command (options_of (settings_of q)) options (asks_of words q is) a
+-- so are those that ask for another command
+pub other_request : (words : List (Bor Text)) (command : Text) (rows : List Row) → AreTaken words → asked words ≡ Some (command, rows) → bytes_eq command (codes "trial") ≡ false → AskSomething words
+other_request words command rows taken named other = some_request words command rows taken named (λ e many. apart command (codes "trial") other e)
 
-by_unwrap : (words : List (Bor Text)) (options : Options) (q : Request) → IsCommand words options → IsRequest words q → (settings : Settings) × (options_of settings ≡ options) × IsRequest words (Unwrap settings)
-by_unwrap words options (Unwrap s) a is = (s, (has_asked words (codes "unwrap") options (Unwrap s) a is).1, is)
-by_unwrap words options q a is = absurd (letters (command_of q) (codes "unwrap") (has_asked words (codes "unwrap") options q a is).0 (λ x. omega (arith, x)))
+-- the options of a command are those that the rows tell
+has_asked : (words : List (Bor Text)) (command : Text) (options : Options) (a : Asks command words options) (s : Settings) → TellsSettings a.rows s → options_of s ≡ options
+has_asked words command options a s tells = one_choice a.rows (options_of s) options tells (asks_told command words options a)
 
-by_grid : (words : List (Bor Text)) (options : Options) (q : Request) → IsGridCommand words options → IsRequest words q → (settings : Settings) × (options_of settings ≡ options) × IsRequest words (Grid settings)
-by_grid words options (Grid s) a is = (s, (has_asked words (codes "grid") options (Grid s) a is).1, is)
-by_grid words options q a is = absurd (letters (command_of q) (codes "grid") (has_asked words (codes "grid") options q a is).0 (λ x. omega (arith, x)))
+-- a request that tells settings is asked for with their options
+asks_of : (words : List (Bor Text)) (r : Request) (s : Settings) (is : IsRequest words r) → TellsSettings is.rows s → Asks (command_of r) words (options_of s)
+asks_of words r s is tells =
+    record { taken = is.taken; rows = is.rows; named = is.named ∙ ap (λ (t : Text). Some (t, is.rows)) (told_by is.command is.rows r is.tells); rule_is = tells.0; side_is = tells.1.0; ramp_x_is = tells.1.1.0; ramp_y_is = tells.1.1.1.0; steep_is = tells.1.1.1.1 }
 
-by_check : (words : List (Bor Text)) (options : Options) (q : Request) → IsCheck words options → IsRequest words q → (settings : Settings) × (options_of settings ≡ options) × IsRequest words (Check settings)
-by_check words options (Check s) a is = (s, (has_asked words (codes "check") options (Check s) a is).1, is)
-by_check words options q a is = absurd (letters (command_of q) (codes "check") (has_asked words (codes "check") options q a is).0 (λ x. omega (arith, x)))
+by_unwrap : (words : List (Bor Text)) (options : Options) (a : IsCommand words options) (q : Request) → IsRequest words q → TellsRequest (codes "unwrap") a.rows q → (settings : Settings) × (options_of settings ≡ options) × IsRequest words (Unwrap settings)
+by_unwrap words options a (Unwrap s) is tells = (s, has_asked words (codes "unwrap") options a s tells.1.0, is)
+by_unwrap words options a q is tells = absurd (apart (codes "unwrap") (command_of q) refl (told_by (codes "unwrap") a.rows q tells))
 
-by_trial : (words : List (Bor Text)) (seed width height : ℕ) (options : Options) (q : Request) → IsTrialCommand words seed width height options → IsRequest words q
+by_grid : (words : List (Bor Text)) (options : Options) (a : IsGridCommand words options) (q : Request) → IsRequest words q → TellsRequest (codes "grid") a.rows q → (settings : Settings) × (options_of settings ≡ options) × IsRequest words (Grid settings)
+by_grid words options a (Grid s) is tells = (s, has_asked words (codes "grid") options a s tells.1.0, is)
+by_grid words options a q is tells = absurd (apart (codes "grid") (command_of q) refl (told_by (codes "grid") a.rows q tells))
+
+by_check : (words : List (Bor Text)) (options : Options) (a : IsCheck words options) (q : Request) → IsRequest words q → TellsRequest (codes "check") a.rows q → (settings : Settings) × (options_of settings ≡ options) × IsRequest words (Check settings)
+by_check words options a (Check s) is tells = (s, has_asked words (codes "check") options a s tells.1.0, is)
+by_check words options a q is tells = absurd (apart (codes "check") (command_of q) refl (told_by (codes "check") a.rows q tells))
+
+by_trial : (words : List (Bor Text)) (seed width height : ℕ) (options : Options) (a : IsTrialCommand words seed width height options) (q : Request) → IsRequest words q → TellsRequest (codes "trial") a.asks.asks.rows q
     → (trial : TrialSession) × IsSession seed width height options trial × IsRequest words (Trial trial)
-by_trial words seed width height options (Trial t) a is =
+by_trial words seed width height options a (Trial t) is tells =
     let asks = a.asks in
-    let told = (tells_by words (Trial t) is (codes "trial") asks.asks.rows asks.asks.named).1.1 in
-    (t, record { seed_is = cc; width_is = cc; height_is = cc; options_are = (has_asked words (codes "trial") options (Trial t) asks.asks is).1 }, is)
-by_trial words seed width height options q a is = absurd (letters (command_of q) (codes "trial") (has_asked words (codes "trial") options q a.asks.asks is).0 (λ x. omega (arith, x)))
+    (t, record { seed_is = some_one _ _ _ tells.1.1.0 asks.seed_is; width_is = some_one _ _ _ tells.1.1.1.0 asks.width_is; height_is = some_one _ _ _ tells.1.1.1.1 asks.height_is; options_are = has_asked words (codes "trial") options asks.asks t.settings tells.1.0.0 }, is)
+by_trial words seed width height options a q is tells = absurd (apart (codes "trial") (command_of q) refl (told_by (codes "trial") a.asks.asks.rows q tells))
 
 pub unwrap_is_request : UnwrapIsRequest
-unwrap_is_request words = (λ options a. (let q = some_request words (inl (options, a)) in by_unwrap words options q.0 a q.1), λ s is. asks_of words (Unwrap s) is)
+unwrap_is_request words = (
+  λ options a. (let q = other_request words (codes "unwrap") a.rows a.taken a.named refl in by_unwrap words options a q.0 q.1 (tells_by words q.0 q.1 (codes "unwrap") a.rows a.named)),
+  λ s is. asks_of words (Unwrap s) s is is.tells.1.0,
+)
 
 pub grid_is_request : GridIsRequest
-grid_is_request words = (λ options a. (let q = some_request words (inr (inl (options, a))) in by_grid words options q.0 a q.1), λ s is. asks_of words (Grid s) is)
+grid_is_request words = (
+  λ options a. (let q = other_request words (codes "grid") a.rows a.taken a.named refl in by_grid words options a q.0 q.1 (tells_by words q.0 q.1 (codes "grid") a.rows a.named)),
+  λ s is. asks_of words (Grid s) s is is.tells.1.0,
+)
 
 pub check_is_request : CheckIsRequest
-check_is_request words = (λ options a. (let q = some_request words (inr (inr (inl (options, a)))) in by_check words options q.0 a q.1), λ s is. asks_of words (Check s) is)
+check_is_request words = (
+  λ options a. (let q = other_request words (codes "check") a.rows a.taken a.named refl in by_check words options a q.0 q.1 (tells_by words q.0 q.1 (codes "check") a.rows a.named)),
+  λ s is. asks_of words (Check s) s is is.tells.1.0,
+)
+
+trial_of : (words : List (Bor Text)) (t : TrialSession) → IsRequest words (Trial t) → IsTrialCommand words t.seed t.width t.height (options_of t.settings)
+unfolding asks_of
+trial_of words t is =
+    let told = is.tells.1.1 in
+    record { asks = record { asks = asks_of words (Trial t) t.settings is is.tells.1.0.0; seed_is = told.0; width_is = told.1.0; height_is = told.1.1 }; pixels = t.few }
 
 pub trial_is_request : TrialIsRequest
-trial_is_request words = (λ seed width height options a. (let q = some_request words (inr (inr (inr (seed, width, height, options, a)))) in by_trial words seed width height options q.0 a q.1), λ t is. trial_of words t is)
-
-pub asking_is_request : AskingIsRequest
-asking_is_request words = (some_request words, as_something words)
+trial_is_request words = (
+  λ seed width height options a. (
+      let asks = a.asks.asks in
+      let q = some_request words (codes "trial") asks.rows asks.taken asks.named (λ e. few_told width height asks.rows a.asks.width_is a.asks.height_is a.pixels) in
+      by_trial words seed width height options a q.0 q.1 (tells_by words q.0 q.1 (codes "trial") asks.rows asks.named)
+      ),
+  λ t is. trial_of words t is,
+)
 
 -- ---- what the matches tell
 
--- a request's rule is a name, so its command has its names
-names_told : (command : Text) (rows : List Row) (request : Request) → TellsRequest command rows request → asks_by_names (Some (command, rows)) ≡ true
-names_told command rows request tells =
-    let told = told_by command rows request tells in
-    ap (λ (t : Text). asks_by_names (Some (t, rows))) told.0 ∙ by request ∙ ap (λ (o : Option Text). (is_named rule_entry.takes o && true) && true) told.1.0 ∙ each (settings_of request).rule
+-- a rule that settings have is a name
+names_hold : (rows : List Row) (s : Settings) → TellsSettings rows s → ((is_named rule_entry.takes (first_of (codes "rule") rows) && true) && true) ≡ true
+names_hold rows s tells = ap (λ (o : Option Text). (is_named rule_entry.takes o && true) && true) tells.0 ∙ each s.rule
   where
-    by : (r : Request) → asks_by_names (Some (command_of r, rows)) ≡ ((is_named rule_entry.takes (first_of (codes "rule") rows) && true) && true)
-    by (Trial trial) = refl
-    by r = refl
-
     each : (r : RuleKind) → ((is_named rule_entry.takes (Some (rule_name r)) && true) && true) ≡ true
     each Least = refl
     each r = refl
+
+-- so the command of a request has its names
+names_of : (rows : List Row) (r : Request) → TellsRequest (command_of r) rows r → asks_by_names (Some (command_of r, rows)) ≡ true
+names_of rows (Unwrap s) tells = names_hold rows s tells.1.0
+names_of rows (Grid s) tells = names_hold rows s tells.1.0
+names_of rows (Check s) tells = names_hold rows s tells.1.0
+names_of rows (Trial t) tells = names_hold rows t.settings tells.1.0.0
+names_of rows r tells = refl
+
+names_told : (command : Text) (rows : List Row) (request : Request) → TellsRequest command rows request → asks_by_names (Some (command, rows)) ≡ true
+names_told command rows request tells =
+    let told = told_by command rows request tells in
+    ap (λ (t : Text). asks_by_names (Some (t, rows))) told ∙ names_of rows request (subst (λ (t : Text). TellsRequest t rows request) told tells)
 
 pub request_told : (words : List (Bor Text)) (command : Text) (rows : List Row) (request : Request) → fault_of stated (texts words) ≡ [] → asked words ≡ Some (command, rows) → TellsRequest command rows request → IsRequest words request
 request_told words command rows request parsed named tells =
@@ -427,16 +480,40 @@ reads_as words command rows e is =
     subst (λ (p : Text × List Row). ReadsAs p.0 p.1) same
     (as_one (λ form. (some.form.command ≡ form.command) × HasValues (arguments_of form) some.rows) some.form (refl, some.values) forms some.among)
 
--- what the matches of a command have, by its name
-pub has_own : (form : CommandForm) (command : Text) (rows : List Row) → command ≡ form.command → (fs : List CommandForm) → Each (λ f. (f ≡ form) ⊎ (bytes_eq form.command f.command ≡ false)) fs
-    → OfOne (λ f. (command ≡ f.command) × HasValues (arguments_of f) rows) fs → HasValues (arguments_of form) rows
-has_own form command rows is [] apart among = absurd among
-has_own form command rows is (f ∷ fs) apart (inr more) = has_own form command rows is fs apart.1 more
-has_own form command rows is (f ∷ fs) apart (inl has) = go apart.0
-  where
-    go : (f ≡ form) ⊎ (bytes_eq form.command f.command ≡ false) → HasValues (arguments_of form) rows
-    go (inl same) = subst (λ (g : CommandForm). HasValues (arguments_of g) rows) same has.1
-    go (inr other) = let equal : bytes_eq form.command f.command ≡ true = (bytes_eq-Decides form.command f.command).1 (sym is ∙ has.0) in absurd cc
+-- the names of the commands differ
+abbrev Differ : List CommandForm → Type 0
+Differ [] = ⊤
+Differ (f ∷ fs) = Each (λ g. bytes_eq f.command g.command ≡ false) fs × Differ fs
+
+all_differ : Differ forms
+all_differ = assumption
+
+-- what matches have by the name of a command
+abbrev HasOf : Text → List Row → CommandForm → Type 0
+HasOf command rows f = (command ≡ f.command) × HasValues (arguments_of f) rows
+
+abbrev Either : Bool → Type 0 → Type 0 → Type 0
+Either true X Y = X
+Either false X Y = Y
+
+abbrev HasNamed : Text → List Row → List CommandForm → Type 0
+HasNamed command rows [] = ⊥
+HasNamed command rows (f ∷ fs) = Either (bytes_eq f.command command) (HasValues (arguments_of f) rows) (HasNamed command rows fs)
+
+later : (f : CommandForm) (command : Text) (rows : List Row) (fs : List CommandForm) → Each (λ g. bytes_eq f.command g.command ≡ false) fs → OfOne (HasOf command rows) fs → bytes_eq f.command command ≡ false
+later f command rows [] differ among = absurd among
+later f command rows (g ∷ fs) differ (inl has) = ap (bytes_eq f.command) has.0 ∙ differ.0
+later f command rows (g ∷ fs) differ (inr among) = later f command rows fs differ.1 among
+
+has_named : (command : Text) (rows : List Row) (fs : List CommandForm) → Differ fs → OfOne (HasOf command rows) fs → HasNamed command rows fs
+has_named command rows [] differ among = absurd among
+has_named command rows (f ∷ fs) differ (inl has) =
+    subst (λ (b : Bool). Either b (HasValues (arguments_of f) rows) (HasNamed command rows fs)) (sym ((bytes_eq-Decides f.command command).1 (sym has.0))) has.1
+has_named command rows (f ∷ fs) differ (inr among) =
+    subst (λ (b : Bool). Either b (HasValues (arguments_of f) rows) (HasNamed command rows fs)) (sym (later f command rows fs differ.0 among)) (has_named command rows fs differ.1 among)
+
+pub has_own : (command name : Text) (rows : List Row) → name ≡ command → ReadsAs name rows → HasNamed command rows forms
+has_own command name rows is reads = has_named command rows forms all_differ (subst (λ (t : Text). ReadsAs t rows) is reads)
 
 module _ {Z : Type 0} where
   joined : (o : Option (Box SubCommand Z)) (name : Text) (rows : List Row) → Some name ≡ option_map (λ b. (out-SubCommand (box_value b)).name.now) o → Some rows ≡ option_map (λ p. p.1) (subcommand_rows o)

@@ -1,6 +1,6 @@
 -- Values and their texts: which texts clap accepts, and what it reads of them.
 use Rattle.std.proofs.Common.{◌≡◌, ◌≢◌, ◌∙◌, ◌<◌, ◌≤◌, ◌^◌, ◌&&◌, ◌||◌, ℕ, Bool, cond, true, false, refl, sym, ap, ap₂, subst, arith, List, [], ◌∷◌, drop, Option, Some, None, pos}
-use Rattle.std.specs.Prelude.{◌==◌, ◌≤ℤ◌, ℤ, ⊤, neg_ℤ, FitsSigned, decimal, nat_le, nat_lt, option_and_then, option_map, slice_get, unwrap_or}
+use Rattle.std.specs.Prelude.{◌==◌, ◌≤ℤ◌, ℤ, ⊤, neg_ℤ, FitsSigned, decimal, nat_le, nat_lt, option_and_then, option_map, slice_get}
 use mir.Syntax.{w64}
 use Rattle.std.specs.Str.{bytes_eq}
 use Rattle.std.specs.Str.Parse.{IsNumeral, digits_value, signed_digits_value, starts_with_minus, without_leading_plus, without_leading_sign}
@@ -14,7 +14,6 @@ use Rattle.clap.specs.Values.{IsSignedIn, read_as, reading_of}
 use Rattle.clap.specs.ValueTests.{accepts}
 use Rattle.clap.specs.Walk.{Row, Text, one_of, row_text}
 use Rattle.clap.specs.declared.builder.value_parser.Reading.{Reading}
-use Rattle.clap.specs.declared.builder.value_parser.ValueParser.{ValueParser}
 use Rattle.clap.specs.declared.builder.value_parser.ValueParser.TheVariants as vp
 use Rattle.clap.specs.declared.parser.matches.ValueSource.{ValueSource}
 use Rattle.clap.proofs.ValueTestLemmas.{Accepts-accepts}
@@ -104,10 +103,6 @@ unsigned_accepted n small =
 
 -- ---- what is taken
 
--- clap's parser
-abbrev pub parser_in : Taking → ValueParser
-parser_in taking = unwrap_or (parser_taking taking) vp.String
-
 -- clap can read what is taken: numbers fit an i64, and names are no flags
 abbrev pub IsReadable : Taking → Type 0
 IsReadable (numbers least most) = nat_lt most (2 ^ 63) ≡ true
@@ -142,8 +137,8 @@ IsToldBy how (name text) = ⊤
 -- a value that is taken is a word of its own, passes the parser, and is read
 pub record IsRead (taking : Taking) (v : Value) : Type 0 where
   pub word : IsValueWord (word_of v)
-  pub passes : accepts false (parser_in taking) (word_of v) ≡ true
-  pub told : IsToldBy (reading_of (parser_in taking)) v
+  pub passes : accepts false (parser_taking taking) (word_of v) ≡ true
+  pub told : IsToldBy (reading_of (parser_taking taking)) v
 
 pub value_read : (taking : Taking) (v : Value) → IsReadable taking → fits taking v ≡ true → IsRead taking v
 value_read (numbers least most) (number n) reads h =
@@ -158,7 +153,7 @@ value_read taking v reads h = absurd cc
 
 -- the row of an argument with a value, and what the matches with it have
 abbrev pub value_row : Argument → ValueSource → Value → Row
-value_row a source v = record { id = a.id; values = word_of v ∷ []; count = None; source = Some source; reading = reading_of (parser_in a.takes) }
+value_row a source v = record { id = a.id; values = word_of v ∷ []; count = None; source = Some source; reading = reading_of (parser_taking a.takes) }
 
 pub has_row_of : (rows : List Row) (id : Text) (a : Argument) (source : ValueSource) (v : Value) → IsRead a.takes v → row_at id rows ≡ Some (value_row a source v) → Has rows id (Some v)
 has_row_of rows id a source (number n) read at =

@@ -36,12 +36,13 @@ pub record AreTaken (words : List (Bor Text)) : Type 0 where
   pub parsed : fault_of stated (texts words) ≡ []
   pub in_names : asks_by_names (asked words) ≡ true
 
--- ---- what options say of a session: the rule of weights, the side of tiles, and what an expected ramp rises along a right and along a down edge
+-- ---- what options say of a session: the rule of weights, the side of tiles, what an expected ramp rises along a right and along a down edge, and the steepness of costs
 pub record Options : Type 0 where
   pub rule : RuleKind
   pub side : ℕ
   pub ramp_x : ℤ
   pub ramp_y : ℤ
+  pub steep : ℕ
 
 -- the slope for which a number from 0 to 65535 stands: itself, or from 32768 on itself less 65536
 abbrev pub slope_for : ℕ → ℤ
@@ -59,6 +60,7 @@ pub record Asks (command : Text) (words : List (Bor Text)) (options : Options) :
   pub side_is : number_asked (codes "tile") rows ≡ Some options.side
   pub ramp_x_is : slope_asked (codes "ramp-x") rows ≡ Some options.ramp_x
   pub ramp_y_is : slope_asked (codes "ramp-y") rows ≡ Some options.ramp_y
+  pub steep_is : number_asked (codes "steep") rows ≡ Some options.steep
 
 -- and with this number of workers
 pub record AsksWorkers (command : Text) (words : List (Bor Text)) (options : Options) (workers : ℕ) : Type 0 where
@@ -98,15 +100,3 @@ IsRefused words = (AreTaken words → ⊥) ⊎ IsTooLarge words
 -- words ask for one subcommand at most, with one choice of options
 abbrev pub OneCommand : Type 0
 OneCommand = (words : List (Bor Text)) (command other : Text) (options others : Options) → Asks command words options → Asks other words others → (command ≡ other) × (options ≡ others)
-
--- the words ask for one of the four
-abbrev pub AskSomething : List (Bor Text) → Type 0
-AskSomething words =
-    ((options : Options) × IsCommand words options)
-    ⊎ (((options : Options) × IsGridCommand words options)
-    ⊎ (((options : Options) × IsCheck words options)
-    ⊎ ((seed : ℕ) × (width : ℕ) × (height : ℕ) × (options : Options) × IsTrialCommand words seed width height options)))
-
--- words are refused or ask for something, and never both
-abbrev pub RefusedOrAsking : Type 0
-RefusedOrAsking = (words : List (Bor Text)) → (IsRefused words ⊎ AskSomething words) × (IsRefused words → AskSomething words → ⊥)

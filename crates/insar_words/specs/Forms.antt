@@ -69,6 +69,9 @@ ramp_x_entry = record { id = codes "ramp-x"; takes = numbers 0 65535; default = 
 abbrev pub ramp_y_entry : Argument
 ramp_y_entry = record { id = codes "ramp-y"; takes = numbers 0 65535; default = Some (number 0) }
 
+abbrev pub steep_entry : Argument
+steep_entry = record { id = codes "steep"; takes = numbers 1 16; default = Some (number 1) }
+
 abbrev pub workers_entry : Argument
 workers_entry = record { id = codes "workers"; takes = numbers 1 8; default = Some (number 2) }
 
@@ -81,15 +84,46 @@ width_entry = record { id = codes "width"; takes = numbers 1 4096; default = Non
 abbrev pub height_entry : Argument
 height_entry = record { id = codes "height"; takes = numbers 1 4096; default = None }
 
+abbrev pub weight_entry : Argument
+weight_entry = record { id = codes "weight"; takes = numbers 0 65535; default = Some (number 0) }
+
+abbrev pub radius_entry : Argument
+radius_entry = record { id = codes "radius"; takes = numbers 0 64; default = Some (number 0) }
+
+abbrev pub count_entry : Argument
+count_entry = record { id = codes "count"; takes = numbers 0 16641; default = Some (number 0) }
+
+abbrev pub patch_entry : Argument
+patch_entry = record { id = codes "patch"; takes = numbers 0 4194304; default = Some (number 0) }
+
+abbrev pub wavelength_entry : Argument
+wavelength_entry = record { id = codes "wavelength"; takes = numbers 1 1000000000; default = None }
+
+abbrev pub x_entry : Argument
+x_entry = record { id = codes "x"; takes = numbers 0 4095; default = Some (number 0) }
+
+abbrev pub y_entry : Argument
+y_entry = record { id = codes "y"; takes = numbers 0 4095; default = Some (number 0) }
+
+abbrev pub block_entry : Argument
+block_entry = record { id = codes "block"; takes = numbers 1 64; default = Some (number 1) }
+
 -- what is asked of a check, of a run, and of a test session besides
 abbrev pub checking : List Argument
-checking = tile_entry ∷ rule_entry ∷ ramp_x_entry ∷ ramp_y_entry ∷ []
+checking = tile_entry ∷ rule_entry ∷ ramp_x_entry ∷ ramp_y_entry ∷ steep_entry ∷ []
 
 abbrev pub solving : List Argument
-solving = tile_entry ∷ rule_entry ∷ ramp_x_entry ∷ ramp_y_entry ∷ workers_entry ∷ []
+solving = tile_entry ∷ rule_entry ∷ ramp_x_entry ∷ ramp_y_entry ∷ steep_entry ∷ workers_entry ∷ []
 
 abbrev pub drawing : List Argument
 drawing = seed_entry ∷ width_entry ∷ height_entry ∷ []
+
+-- what is asked of a screen, and of displacements
+abbrev pub screening : List Argument
+screening = weight_entry ∷ radius_entry ∷ count_entry ∷ patch_entry ∷ tile_entry ∷ []
+
+abbrev pub displacing : List Argument
+displacing = wavelength_entry ∷ x_entry ∷ y_entry ∷ block_entry ∷ []
 
 -- ---- commands
 
@@ -105,8 +139,17 @@ check_form = record { command = codes "check"; positionals = []; options = check
 abbrev pub trial_form : CommandForm
 trial_form = record { command = codes "trial"; positionals = drawing; options = solving }
 
+abbrev pub screen_form : CommandForm
+screen_form = record { command = codes "screen"; positionals = []; options = screening }
+
+abbrev pub closure_form : CommandForm
+closure_form = record { command = codes "closure"; positionals = []; options = [] }
+
+abbrev pub displacement_form : CommandForm
+displacement_form = record { command = codes "displacement"; positionals = []; options = displacing }
+
 abbrev pub forms : List CommandForm
-forms = unwrap_form ∷ grid_form ∷ check_form ∷ trial_form ∷ []
+forms = unwrap_form ∷ grid_form ∷ check_form ∷ trial_form ∷ screen_form ∷ closure_form ∷ displacement_form ∷ []
 
 -- P holds of each
 abbrev pub Each : {X : Type 0} → (X → Type 0) → List X → Type 0

@@ -10,7 +10,11 @@ use Rattle.raster_model.specs.declared.weights.RuleKind.{RuleKind}
 use Rattle.raster_model.specs.declared.weights.RuleKind.TheVariants.{Least, Mean, Product}
 use Rattle.raster_model.specs.Limits.{max_pixels}
 use Rattle.insar_words.specs.Asked.{AreTaken, AsksWorkers, IsCheck, IsTrialCommand, Options, asked, number_asked, slope_for}
-use Rattle.insar_words.specs.Forms.{Argument, CommandForm, Each, OfOne, Value, checking, fits, forms, name, number, ramp_x_entry, ramp_y_entry, rule_entry, solving, tile_entry, word_of, workers_entry}
+use Rattle.insar_words.specs.Forms.{Argument, CommandForm, Each, OfOne, Value, block_entry, checking, count_entry, displacing, fits, forms, name, number, patch_entry, radius_entry, ramp_x_entry, ramp_y_entry, rule_entry, screening, solving, steep_entry, tile_entry, wavelength_entry, weight_entry, word_of, workers_entry, x_entry, y_entry}
+use Rattle.insar_words.specs.Requests.{IsRequest}
+use Rattle.insar_words.specs.declared.request.Request.TheVariants.{Screen, Closure, Displacement}
+use Rattle.insar_words.specs.declared.screening.Screening.{Screening}
+use Rattle.insar_words.specs.declared.displacing.Displacing.{Displacing}
 use Rattle.insar_words.specs.Limits.{IsTrialSide}
 
 -- what one pair sets: an option by its name, to a value
@@ -99,7 +103,7 @@ rule_called other = Least
 
 -- the options that pairs set
 abbrev pub options_set : List Setting → Options
-options_set settings = record { rule = rule_called (set_to rule_entry settings); side = number_in_value (set_to tile_entry settings); ramp_x = slope_for (number_in_value (set_to ramp_x_entry settings)); ramp_y = slope_for (number_in_value (set_to ramp_y_entry settings)) }
+options_set settings = record { rule = rule_called (set_to rule_entry settings); side = number_in_value (set_to tile_entry settings); ramp_x = slope_for (number_in_value (set_to ramp_x_entry settings)); ramp_y = slope_for (number_in_value (set_to ramp_y_entry settings)); steep = number_in_value (set_to steep_entry settings) }
 
 -- so are `unwrap` and `grid`
 abbrev pub PlainSolvingIsRead : Text → Type 0
@@ -116,3 +120,34 @@ abbrev pub PlainTrialIsRead : Type 0
 PlainTrialIsRead = (words : List (Bor Text)) (seed width height : ℕ) (settings : List Setting) → seed < 2 ^ 64 → IsTrialSide width → IsTrialSide height → width * height ≤ max_pixels → ArePlain solving settings
     → texts words ≡ codes "trial" ∷ decimal seed ∷ decimal width ∷ decimal height ∷ pairs settings
     → IsTrialCommand words seed width height (options_set settings) × AsksWorkers (codes "trial") words (options_set settings) (workers_set settings)
+
+-- the number that pairs set for an option
+abbrev pub number_set : Argument → List Setting → ℕ
+number_set a settings = number_in_value (set_to a settings)
+
+-- `screen`, with the numbers that are set
+pub record IsScreeningSet (settings : List Setting) (s : Screening) : Type 0 where
+  pub weight : s.weight ≡ number_set weight_entry settings
+  pub radius : s.radius ≡ number_set radius_entry settings
+  pub count : s.count ≡ number_set count_entry settings
+  pub patch : s.patch ≡ number_set patch_entry settings
+  pub side : s.side ≡ number_set tile_entry settings
+
+abbrev pub PlainScreenIsRead : Type 0
+PlainScreenIsRead = (words : List (Bor Text)) (settings : List Setting) → ArePlain screening settings → texts words ≡ codes "screen" ∷ pairs settings
+    → (s : Screening) × (IsScreeningSet settings s × IsRequest words (Screen s))
+
+-- `closure`, which has no options
+abbrev pub PlainClosureIsRead : Type 0
+PlainClosureIsRead = (words : List (Bor Text)) → texts words ≡ codes "closure" ∷ [] → IsRequest words Closure
+
+-- and `displacement`, whose wavelength must be set
+pub record IsDisplacingSet (settings : List Setting) (d : Displacing) : Type 0 where
+  pub wavelength : d.wavelength ≡ number_set wavelength_entry settings
+  pub x : d.x ≡ number_set x_entry settings
+  pub y : d.y ≡ number_set y_entry settings
+  pub block : d.block ≡ number_set block_entry settings
+
+abbrev pub PlainDisplacementIsRead : Type 0
+PlainDisplacementIsRead = (words : List (Bor Text)) (settings : List Setting) → ArePlain displacing settings → texts words ≡ codes "displacement" ∷ pairs settings
+    → (d : Displacing) × (IsDisplacingSet settings d × IsRequest words (Displacement d))

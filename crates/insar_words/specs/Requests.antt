@@ -3,12 +3,14 @@ use Rattle.std.specs.Prelude.{◌≡◌, ◌⊎◌, ◌*◌, ◌<◌, ℕ, false
 use Rattle.std.specs.Borrow.{Bor}
 use Rattle.clap.specs.Words.{Row, Text, first_of}
 use Rattle.raster_model.specs.Limits.{max_pixels}
-use Rattle.insar_words.specs.Asked.{AreTaken, AskSomething, IsCheck, IsCommand, IsGridCommand, IsRefused, IsTrialCommand, Options, asked, asks_by_names, is_named, number_asked, slope_asked}
+use Rattle.insar_words.specs.Asked.{AreTaken, IsCheck, IsCommand, IsGridCommand, IsRefused, IsTrialCommand, Options, asked, asks_by_names, is_named, number_asked, slope_asked}
 use Rattle.insar_words.specs.Forms.{rule_entry, rule_name}
 use Rattle.insar_words.specs.declared.fault.WordsFault.{WordsFault}
 use Rattle.insar_words.specs.declared.fault.WordsFault.TheVariants as faults
 use Rattle.insar_words.specs.declared.request.Request.{Request}
-use Rattle.insar_words.specs.declared.request.Request.TheVariants.{Unwrap, Grid, Check, Trial}
+use Rattle.insar_words.specs.declared.request.Request.TheVariants.{Unwrap, Grid, Check, Trial, Screen, Closure, Displacement}
+use Rattle.insar_words.specs.declared.screening.Screening.{Screening}
+use Rattle.insar_words.specs.declared.displacing.Displacing.{Displacing}
 use Rattle.insar_words.specs.declared.settings.Settings.{Settings}
 use Rattle.insar_words.specs.declared.trial.Trial.{Trial as TrialSession}
 
@@ -17,7 +19,7 @@ use Rattle.insar_words.specs.declared.trial.Trial.{Trial as TrialSession}
 -- these settings, but for the workers; and with them
 abbrev pub TellsSettings : List Row → Settings → Type 0
 TellsSettings rows settings = (first_of (codes "rule") rows ≡ Some (rule_name settings.rule)) × ((number_asked (codes "tile") rows ≡ Some settings.side)
-    × ((slope_asked (codes "ramp-x") rows ≡ Some settings.terms.ramp_x) × (slope_asked (codes "ramp-y") rows ≡ Some settings.terms.ramp_y)))
+    × ((slope_asked (codes "ramp-x") rows ≡ Some settings.terms.ramp_x) × ((slope_asked (codes "ramp-y") rows ≡ Some settings.terms.ramp_y) × (number_asked (codes "steep") rows ≡ Some settings.terms.steep))))
 
 abbrev pub TellsAll : List Row → Settings → Type 0
 TellsAll rows settings = TellsSettings rows settings × (number_asked (codes "workers") rows ≡ Some settings.workers)
@@ -26,6 +28,16 @@ TellsAll rows settings = TellsSettings rows settings × (number_asked (codes "wo
 abbrev pub TellsTrial : List Row → TrialSession → Type 0
 TellsTrial rows trial = TellsAll rows trial.settings × ((number_asked (codes "seed") rows ≡ Some trial.seed)
     × ((number_asked (codes "width") rows ≡ Some trial.width) × (number_asked (codes "height") rows ≡ Some trial.height)))
+
+-- this screen
+abbrev pub TellsScreening : List Row → Screening → Type 0
+TellsScreening rows s = (number_asked (codes "weight") rows ≡ Some s.weight) × ((number_asked (codes "radius") rows ≡ Some s.radius)
+    × ((number_asked (codes "count") rows ≡ Some s.count) × ((number_asked (codes "patch") rows ≡ Some s.patch) × (number_asked (codes "tile") rows ≡ Some s.side))))
+
+-- these displacements
+abbrev pub TellsDisplacing : List Row → Displacing → Type 0
+TellsDisplacing rows d = (number_asked (codes "wavelength") rows ≡ Some d.wavelength)
+    × ((number_asked (codes "x") rows ≡ Some d.x) × ((number_asked (codes "y") rows ≡ Some d.y) × (number_asked (codes "block") rows ≡ Some d.block)))
 
 -- a raster with too many pixels
 abbrev pub TellsTooMany : List Row → Type 0
@@ -41,6 +53,9 @@ TellsRequest command rows (Unwrap settings) = (command ≡ codes "unwrap") × Te
 TellsRequest command rows (Grid settings) = (command ≡ codes "grid") × TellsAll rows settings
 TellsRequest command rows (Check settings) = (command ≡ codes "check") × (TellsSettings rows settings × (settings.workers ≡ 2))
 TellsRequest command rows (Trial trial) = (command ≡ codes "trial") × TellsTrial rows trial
+TellsRequest command rows (Screen screening) = (command ≡ codes "screen") × TellsScreening rows screening
+TellsRequest command rows Closure = (command ≡ codes "closure") × ⊤
+TellsRequest command rows (Displacement displacing) = (command ≡ codes "displacement") × TellsDisplacing rows displacing
 
 -- it is refused, for a name or for too many pixels
 abbrev pub TellsNothing : Text → List Row → Type 0
@@ -59,6 +74,10 @@ pub record IsRequest (words : List (Bor Text)) (request : Request) : Type 0 wher
   pub named : asked words ≡ Some (command, rows)
   pub tells : TellsRequest command rows request
 
+-- the words ask for something
+abbrev pub AskSomething : List (Bor Text) → Type 0
+AskSomething words = (request : Request) × IsRequest words request
+
 -- words are not read because they are refused, or for lack of memory
 abbrev pub HasWordsCause : List (Bor Text) → WordsFault → Type 0
 HasWordsCause words faults.Refused = IsRefused words
@@ -72,7 +91,7 @@ OneRequest = (words : List (Bor Text)) (request other : Request) → IsRequest w
 
 -- what settings say of a session
 abbrev pub options_of : Settings → Options
-options_of settings = record { rule = settings.rule; side = settings.side; ramp_x = settings.terms.ramp_x; ramp_y = settings.terms.ramp_y }
+options_of settings = record { rule = settings.rule; side = settings.side; ramp_x = settings.terms.ramp_x; ramp_y = settings.terms.ramp_y; steep = settings.terms.steep }
 
 -- what is asked with some options is one request; and a request is asked with its options
 abbrev pub UnwrapIsRequest : Type 0
@@ -99,6 +118,6 @@ TrialIsRequest = (words : List (Bor Text))
     → ((seed width height : ℕ) (options : Options) → IsTrialCommand words seed width height options → (trial : TrialSession) × IsSession seed width height options trial × IsRequest words (Trial trial))
     × ((trial : TrialSession) → IsRequest words (Trial trial) → IsTrialCommand words trial.seed trial.width trial.height (options_of trial.settings))
 
--- words that ask for something are a request, and the other way round
-abbrev pub AskingIsRequest : Type 0
-AskingIsRequest = (words : List (Bor Text)) → (AskSomething words → (request : Request) × IsRequest words request) × ((request : Request) → IsRequest words request → AskSomething words)
+-- words are refused or ask for something, and never both
+abbrev pub RefusedOrAsking : Type 0
+RefusedOrAsking = (words : List (Bor Text)) → (IsRefused words ⊎ AskSomething words) × (IsRefused words → AskSomething words → ⊥)

@@ -2,7 +2,7 @@
 use Rattle.std.specs.Prelude.{◌≡◌, ◌≤◌, ℕ, List, Some}
 use Rattle.std.specs.Str.Parse.{IsNumeral, digits_value, without_leading_plus}
 use Rattle.clap.specs.Words.{Row, Text, first_of, one_of}
-use Rattle.insar_words.specs.Forms.{Argument, Each, OfOne, Taking, any_number, arguments_of, checking, drawing, forms, names, numbers, solving}
+use Rattle.insar_words.specs.Forms.{Argument, Each, OfOne, Taking, any_number, arguments_of, checking, displacing, drawing, forms, names, numbers, screening, solving}
 
 -- a number from `least` to `most`
 pub record HasNumber (id : Text) (least most : ℕ) (rows : List Row) : Type 0 where
@@ -34,6 +34,13 @@ HasSolving rows = HasValues solving rows
 
 abbrev pub HasRaster : List Row → Type 0
 HasRaster rows = HasValues drawing rows
+
+-- what `screen` needs, and what `displacement` needs
+abbrev pub HasScreening : List Row → Type 0
+HasScreening rows = HasValues screening rows
+
+abbrev pub HasDisplacing : List Row → Type 0
+HasDisplacing rows = HasValues displacing rows
 
 -- a command of the table, with what its arguments have
 abbrev pub ReadsAs : Text → List Row → Type 0

@@ -1,8 +1,8 @@
 //! Laws of the definitions. The functions do nothing; each contract is the law.
 
-ghost use Rattle.insar_words.specs.Asked.{OneCommand, RefusedOrAsking};
-ghost use Rattle.insar_words.specs.PlainForms.{PlainCheckIsRead, PlainFormsAreRead, PlainSolvingIsRead, PlainTrialIsRead};
-ghost use Rattle.insar_words.specs.Requests.{AskingIsRequest, CheckIsRequest, GridIsRequest, OneRequest, TrialIsRequest, UnwrapIsRequest};
+ghost use Rattle.insar_words.specs.Asked.{OneCommand};
+ghost use Rattle.insar_words.specs.PlainForms.{PlainCheckIsRead, PlainClosureIsRead, PlainDisplacementIsRead, PlainFormsAreRead, PlainScreenIsRead, PlainSolvingIsRead, PlainTrialIsRead};
+ghost use Rattle.insar_words.specs.Requests.{CheckIsRequest, GridIsRequest, OneRequest, RefusedOrAsking, TrialIsRequest, UnwrapIsRequest};
 ghost use Rattle.std.specs.Prelude.{codes};
 
 /// Words ask for at most one thing: one subcommand with one choice of options; and they are one request at most.
@@ -17,20 +17,22 @@ pub fn commands_are_requests()
     ensures grid { GridIsRequest }
     ensures check { CheckIsRequest }
     ensures trial { TrialIsRequest }
-    ensures some { AskingIsRequest }
 {}
 
-/// Words are refused or ask for one of the four commands, and never both.
+/// Words are refused or ask for something, and never both.
 pub fn words_are_refused_or_ask()
     ensures { RefusedOrAsking }
 {}
 
-/// Words in plain form are read, and ask exactly what they say: of any command; and by options and workers of each of
-/// the four.
+/// Words in plain form are read, and ask exactly what they say: of any command, and by what the pairs set of each of the
+/// seven.
 pub fn plain_forms_are_read()
     ensures any { PlainFormsAreRead }
     ensures unwrap { PlainSolvingIsRead (codes "unwrap") }
     ensures grid { PlainSolvingIsRead (codes "grid") }
     ensures check { PlainCheckIsRead }
     ensures trial { PlainTrialIsRead }
+    ensures screen { PlainScreenIsRead }
+    ensures closure { PlainClosureIsRead }
+    ensures displacement { PlainDisplacementIsRead }
 {}

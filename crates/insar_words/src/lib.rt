@@ -1,16 +1,21 @@
 //! Words: the stated command line, what words ask for by it, and their reader.
 #![tactic(auto)]
 
+mod displacing;
 mod fault;
 pub mod laws;
 mod reading;
 mod request;
+mod screening;
 mod settings;
 mod stated;
+mod table;
 mod trial;
 
+pub use displacing::Displacing;
 pub use fault::WordsFault;
 pub use reading::read_words;
 pub use request::Request;
+pub use screening::Screening;
 pub use settings::Settings;
 pub use trial::Trial;

@@ -3,12 +3,14 @@ ghost use Rattle.insar_words.specs.Asked.{number_asked, slope_asked, slope_for a
 ghost use Rattle.insar_words.specs.Forms.{rule_name};
 ghost use Rattle.insar_words.specs.Limits.{IsWorkers};
 ghost use Rattle.raster_model.specs.Limits.{IsSlope};
-ghost use Rattle.insar_words.specs.Requests.{HasWordsCause, IsRequest, NamesNoRule, TellsNothing, TellsRefusal, TellsRequest, TellsSettings, TellsTooMany, TellsTrial};
-ghost use Rattle.insar_words.specs.Values.{HasChecking, HasNumber, HasRaster, HasSolving, HasText, ReadsAs};
+ghost use Rattle.insar_words.specs.Requests.{HasWordsCause, IsRequest, NamesNoRule, TellsDisplacing, TellsNothing, TellsRefusal, TellsRequest, TellsScreening, TellsSettings, TellsTooMany, TellsTrial};
+ghost use Rattle.insar_words.specs.Values.{HasChecking, HasDisplacing, HasNumber, HasRaster, HasScreening, HasSolving, HasText, ReadsAs};
 ghost use Rattle.std.specs.Prelude.{◌≡◌, ◌≤◌, ◌⊎◌, IfErr, IfNone, IfOk, IfSome, Some, codes};
 
+use crate::displacing::Displacing;
 use crate::fault::WordsFault;
 use crate::request::Request;
+use crate::screening::Screening;
 use crate::settings::Settings;
 use crate::stated::stated_command;
 use crate::trial::Trial;
@@ -52,6 +54,9 @@ fn request_of(name: &str, found: &ArgMatches<'_>) -> Option<Request>
         "grid" => Some(Request::Grid(solving_settings(found)?)),
         "check" => Some(Request::Check(settings_with(found, DEFAULT_WORKERS)?)),
         "trial" => Some(Request::Trial(trial_of(found)?)),
+        "screen" => Some(Request::Screen(screening_of(found))),
+        "closure" => Some(Request::Closure),
+        "displacement" => Some(Request::Displacement(displacing_of(found))),
         _ => unreachable!(),
     }
 }
@@ -75,6 +80,33 @@ fn trial_of(found: &ArgMatches<'_>) -> Option<Trial>
         height,
         settings,
     })
+}
+
+/// The screen that matches ask for.
+fn screening_of(found: &ArgMatches<'_>) -> Screening
+    requires { HasScreening (rows_of (found_of found.now)) }
+    ensures { TellsScreening (rows_of (found_of found.now)) result }
+{
+    Screening {
+        weight: number_told(found, "weight") as u16,
+        radius: number_told(found, "radius"),
+        count: number_told(found, "count"),
+        patch: number_told(found, "patch"),
+        side: number_told(found, "tile"),
+    }
+}
+
+/// The displacements that matches ask for.
+fn displacing_of(found: &ArgMatches<'_>) -> Displacing
+    requires { HasDisplacing (rows_of (found_of found.now)) }
+    ensures { TellsDisplacing (rows_of (found_of found.now)) result }
+{
+    Displacing {
+        wavelength: number_told(found, "wavelength"),
+        x: number_told(found, "x"),
+        y: number_told(found, "y"),
+        block: number_told(found, "block"),
+    }
 }
 
 /// The settings that matches give, with the workers.
@@ -103,17 +135,17 @@ fn settings_with(found: &ArgMatches<'_>, workers: u32) -> Option<Settings>
     })
 }
 
-/// The terms that matches give: a ramp, and the steepness 1.
+/// The terms that matches give: a ramp, and the steepness of costs.
 fn terms_told(found: &ArgMatches<'_>) -> Terms
     requires { HasChecking (rows_of (found_of found.now)) }
     ensures across { slope_asked (codes "ramp-x") (rows_of (found_of found.now)) ≡ Some result.ramp_x }
     ensures along { slope_asked (codes "ramp-y") (rows_of (found_of found.now)) ≡ Some result.ramp_y }
-    ensures unsteep { result.steep ≡ 1 }
+    ensures steep { number_asked (codes "steep") (rows_of (found_of found.now)) ≡ Some result.steep }
 {
     Terms {
         ramp_x: slope_told(found, "ramp-x"),
         ramp_y: slope_told(found, "ramp-y"),
-        steep: 1,
+        steep: number_told(found, "steep"),
     }
 }
 

@@ -1,3 +1,5 @@
+use crate::displacing::Displacing;
+use crate::screening::Screening;
 use crate::settings::Settings;
 use crate::trial::Trial;
 
@@ -12,4 +14,10 @@ pub enum Request {
     Check(Settings),
     /// `trial`: a test session, made and run.
     Trial(Trial),
+    /// `screen`: a session with another first mask.
+    Screen(Screening),
+    /// `closure`: what three grids leave around a loop.
+    Closure,
+    /// `displacement`: a grid's displacements along the line of sight.
+    Displacement(Displacing),
 }

@@ -11,11 +11,10 @@ pub struct Settings {
     pub rule: RuleKind,
     /// Pixels along a side of a tile.
     pub side: u32,
-    /// On which terms the phase is unwrapped: the ramp that is expected, and the steepness 1.
+    /// On which terms the phase is unwrapped: the ramp that is expected, and the steepness of costs.
     pub terms: Terms,
     /// How many workers there are.
     pub workers: u32,
     pub ghost sides: { IsTileSide side },
-    pub ghost unsteep: { terms.steep ≡ 1 },
     pub ghost crew: { IsWorkers workers },
 }

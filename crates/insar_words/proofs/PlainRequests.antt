@@ -1,0 +1,65 @@
+-- A screen, a closure and displacements in plain form are read, with the numbers that are set.
+use Rattle.std.proofs.Common.{refl, inl, inr, List, [], codes}
+use Rattle.std.specs.Borrow.{Bor}
+use Rattle.clap.specs.Walk.{Row, Text}
+use Rattle.insar_words.specs.Forms.{block_entry, closure_form, count_entry, displacement_form, displacing, patch_entry, radius_entry, screen_form, screening, tile_entry, wavelength_entry, weight_entry, x_entry, y_entry}
+use Rattle.insar_words.specs.PlainForms.{HasSet, IsDisplacingSet, IsScreeningSet, PlainClosureIsRead, PlainDisplacementIsRead, PlainScreenIsRead, Setting, ArePlain}
+use Rattle.insar_words.specs.Requests.{IsRequest, TellsRequest}
+use Rattle.insar_words.specs.declared.displacing.Displacing.{Displacing}
+use Rattle.insar_words.specs.declared.request.Request.{Request}
+use Rattle.insar_words.specs.declared.request.Request.TheVariants.{Screen, Displacement}
+use Rattle.insar_words.specs.declared.screening.Screening.{Screening}
+use Rattle.insar_words.proofs.PlainReads.{number_told, plain_forms}
+use Rattle.insar_words.proofs.RequestLemmas.{apart, command_of, other_request, some_one, tells_by, told_by}
+
+screen_as : (words : List (Bor Text)) (settings : List Setting) (plain : ArePlain screening settings) (rows : List Row) → HasSet rows screening settings → (q : Request) → IsRequest words q → TellsRequest (codes "screen") rows q
+    → (s : Screening) × (IsScreeningSet settings s × IsRequest words (Screen s))
+screen_as words settings plain rows has (Screen s) is tells =
+    let set = number_told screening settings plain rows in (
+      s,
+      (
+        record {
+          weight = some_one _ _ _ tells.1.0 (set weight_entry 0 65535 refl refl refl has.0);
+          radius = some_one _ _ _ tells.1.1.0 (set radius_entry 0 64 refl refl refl has.1.0);
+          count = some_one _ _ _ tells.1.1.1.0 (set count_entry 0 16641 refl refl refl has.1.1.0);
+          patch = some_one _ _ _ tells.1.1.1.1.0 (set patch_entry 0 4194304 refl refl refl has.1.1.1.0);
+          side = some_one _ _ _ tells.1.1.1.1.1 (set tile_entry 2 128 refl refl refl has.1.1.1.1.0);
+        },
+        is,
+      ),
+    )
+screen_as words settings plain rows has q is tells = absurd (apart (codes "screen") (command_of q) refl (told_by (codes "screen") rows q tells))
+
+pub plain_screen : PlainScreenIsRead
+plain_screen words settings plain spelled =
+    let r = plain_forms words screen_form [] settings (inr (inr (inr (inr (inl refl))))) refl plain spelled in
+    let q = other_request words (codes "screen") r.rows r.taken r.named refl in
+    screen_as words settings plain r.rows r.options q.0 q.1 (tells_by words q.0 q.1 (codes "screen") r.rows r.named)
+
+pub plain_closure : PlainClosureIsRead
+plain_closure words spelled =
+    let r = plain_forms words closure_form [] [] (inr (inr (inr (inr (inr (inl refl)))))) refl (record { once = tt; taken = refl; given = refl }) spelled in
+    record { taken = r.taken; command = codes "closure"; rows = r.rows; named = r.named; tells = (refl, tt) }
+
+displacement_as : (words : List (Bor Text)) (settings : List Setting) (plain : ArePlain displacing settings) (rows : List Row) → HasSet rows displacing settings → (q : Request) → IsRequest words q → TellsRequest (codes "displacement") rows q
+    → (d : Displacing) × (IsDisplacingSet settings d × IsRequest words (Displacement d))
+displacement_as words settings plain rows has (Displacement d) is tells =
+    let set = number_told displacing settings plain rows in (
+      d,
+      (
+        record {
+          wavelength = some_one _ _ _ tells.1.0 (set wavelength_entry 1 1000000000 refl refl refl has.0);
+          x = some_one _ _ _ tells.1.1.0 (set x_entry 0 4095 refl refl refl has.1.0);
+          y = some_one _ _ _ tells.1.1.1.0 (set y_entry 0 4095 refl refl refl has.1.1.0);
+          block = some_one _ _ _ tells.1.1.1.1 (set block_entry 1 64 refl refl refl has.1.1.1.0);
+        },
+        is,
+      ),
+    )
+displacement_as words settings plain rows has q is tells = absurd (apart (codes "displacement") (command_of q) refl (told_by (codes "displacement") rows q tells))
+
+pub plain_displacement : PlainDisplacementIsRead
+plain_displacement words settings plain spelled =
+    let r = plain_forms words displacement_form [] settings (inr (inr (inr (inr (inr (inr (inl refl))))))) refl plain spelled in
+    let q = other_request words (codes "displacement") r.rows r.taken r.named refl in
+    displacement_as words settings plain r.rows r.options q.0 q.1 (tells_by words q.0 q.1 (codes "displacement") r.rows r.named)

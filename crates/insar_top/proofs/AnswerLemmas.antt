@@ -8,13 +8,16 @@ use Rattle.text_lines.specs.Adding.{Puts}
 use Rattle.session_script.specs.Sessions.{session_of}
 use Rattle.report_text.specs.Text.{report_text}
 use Rattle.insar_words.specs.declared.request.Request.{Request}
-use Rattle.insar_words.specs.declared.request.Request.TheVariants.{Unwrap, Grid, Check, Trial}
+use Rattle.insar_words.specs.declared.request.Request.TheVariants.{Unwrap, Grid, Check, Trial, Screen, Closure, Displacement}
 use Rattle.insar_top.specs.declared.refusal.Refusal.{Refusal}
 use Rattle.insar_top.specs.declared.refusal.Refusal.TheVariants as refusals
 use Rattle.insar_top.specs.Answers.{HasAnswered, HasCutShort, IsAnswerTo, IsDoneStatus, IsInputTo, IsUsedUp, IsWithinInput, input_of}
 use Rattle.insar_top.specs.Causes.{BreaksInput, HasReadCause, HasRefusalCause}
+use Rattle.insar_top.specs.Displacement.{sight_of}
 use Rattle.insar_top.specs.Ends.{EndsBy, end_of_put}
 use Rattle.insar_top.specs.Run.{HasKept, IsUnread, Run}
+use Rattle.insar_top.proofs.LoopLemmas.{loop_input}
+use Rattle.insar_top.proofs.SightLemmas.{sight_input}
 
 -- the text answers the request, and nothing is left
 module _ (asked : Request) (r : Run) (status : ℕ) (text : List ℕ) (ready : IfSome (input_of asked r) (λ bytes. IsAnswerTo asked bytes status text × IsUsedUp asked r)) where
@@ -39,6 +42,9 @@ answer_input (Unwrap settings) bytes status text a = (session_of a.1.session, a.
 answer_input (Grid settings) bytes status text a = (session_of a.1.session, a.1.given.spelled)
 answer_input (Check settings) bytes status text a = (session_of a.judged.session, report_text a.judged.report, (a.judged.spelled, ((a.judged.report, (a.judged.in_range, refl)), a.judged.within)))
 answer_input (Trial trial) bytes status text a = tt
+answer_input (Screen screening) bytes status text a = (session_of a.1.session, a.1.spelled)
+answer_input Closure bytes status text a = loop_input bytes a.1.0 a.1.1.0
+answer_input (Displacement displacing) bytes status text a = sight_input (sight_of displacing) bytes a.1.output a.1.displaced
 
 pub unread_within : (asked : Request) (r : Run) → IsUnread r → IsWithinInput asked r
 unread_within (Trial trial) r unread = unread

@@ -5,10 +5,13 @@ use Rattle.session_script.proofs.AskSession.{no_fault_of_session}
 use Rattle.session_script.proofs.SessionAgain.{one_session}
 use Rattle.report_text.specs.Contents.{IsReportText}
 use Rattle.report_text.specs.Reading.{HasBrokenReportLine}
-use Rattle.insar_words.specs.declared.request.Request.TheVariants.{Unwrap, Grid, Check}
+use Rattle.insar_words.specs.declared.request.Request.TheVariants.{Unwrap, Grid, Check, Screen, Closure, Displacement}
 use Rattle.insar_top.specs.declared.refusal.Refusal.TheVariants as refusals
 use Rattle.insar_top.specs.Causes.{BrokenBytesAreNoInput}
 use Rattle.insar_top.specs.Check.{AfterSession, IsCheckable, IsReportTooLong, most_of_report}
+use Rattle.insar_top.specs.Displacement.{sight_of}
+use Rattle.insar_top.proofs.LoopLemmas.{no_loop}
+use Rattle.insar_top.proofs.SightLemmas.{no_sight}
 
 -- a session with a report
 module _ (side : ℕ) (bytes : List ℕ) (checkable : IsCheckable side bytes) where
@@ -28,4 +31,7 @@ broken_bytes_are_no_input (Grid settings) bytes (refusals.Input fault) h input =
 broken_bytes_are_no_input (Check settings) bytes (refusals.Input fault) h input = no_fault_of_session BeforeReport settings.side bytes input.0 input.1 fault input.2.0 h
 broken_bytes_are_no_input (Check settings) bytes (refusals.ReportLine n) h input = unbroken settings.side bytes input n (same_rest settings.side bytes input (HasBrokenReportLine most_of_report n) h)
 broken_bytes_are_no_input (Check settings) bytes refusals.ReportLong h input = not_long settings.side bytes input (same_rest settings.side bytes input IsReportTooLong h)
+broken_bytes_are_no_input (Screen screening) bytes (refusals.Input fault) h input = no_fault_of_session Alone screening.side bytes input.0 [] fault input.1 h
+broken_bytes_are_no_input Closure bytes refusal h input = no_loop bytes refusal h input
+broken_bytes_are_no_input (Displacement displacing) bytes refusal h input = no_sight (sight_of displacing) bytes input refusal h
 broken_bytes_are_no_input asked bytes refusal h input = h

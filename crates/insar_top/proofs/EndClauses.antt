@@ -4,8 +4,8 @@ use Rattle.std.specs.Prelude.{◌⊎◌, IfSome}
 use Rattle.std.specs.Borrow.{Bor}
 use Rattle.clap.specs.Walk.{Text}
 use Rattle.insar_ports.proofs.CallLemmas.{at_told, if_told}
-use Rattle.insar_words.specs.Asked.{AskSomething, IsCheck, IsCommand, IsRefused, Options}
-use Rattle.insar_words.specs.Requests.{HasWordsCause, IsRequest}
+use Rattle.insar_words.specs.Asked.{IsCheck, IsCommand, IsRefused, Options}
+use Rattle.insar_words.specs.Requests.{AskSomething, HasWordsCause, IsRequest}
 use Rattle.insar_words.specs.declared.fault.WordsFault.{WordsFault}
 use Rattle.insar_words.specs.declared.fault.WordsFault.TheVariants as words_faults
 use Rattle.insar_words.specs.declared.request.Request.{Request}
@@ -24,7 +24,7 @@ use Rattle.insar_top.specs.Unwrap.{IsDone}
 use Rattle.insar_top.proofs.AnswerLemmas.{answer_input, small_status, unread_within}
 use Rattle.insar_top.proofs.BrokenLemmas.{broken_bytes_are_no_input}
 use Rattle.insar_top.proofs.CheckLemmas.{verdict_told}
-use Rattle.insar_words.proofs.RequestLemmas.{asking_is_request, check_is_request, one_request, refused_or_asking, unwrap_is_request}
+use Rattle.insar_words.proofs.RequestLemmas.{check_is_request, one_request, refused_or_asking, unwrap_is_request}
 
 -- ---- refusals by their statuses
 
@@ -93,7 +93,7 @@ not_above : (fault : WordsFault) → 5 ≤ status_of (words_refusal fault) → �
 not_above fault five = grind arith
 
 asks_something : (words : List (Bor Text)) (q : Request) → IsRequest words q → AskSomething words
-asks_something words q is = (asking_is_request words).1 q is
+asks_something words q is = (q, is)
 
 module _ {words : List (Bor Text)} {r : Run} {d : Result ℕ Refusal} (ended : IsProgramEnd words r d) where
   -- by cases of the end

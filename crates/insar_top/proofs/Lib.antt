@@ -1,4 +1,8 @@
 pub mod SessionLemmas
+pub mod GridsLemmas
+pub mod LoopLemmas
+pub mod SightLemmas
+pub mod ScreenLemmas
 pub mod AnswerLemmas
 pub mod UnwrapLemmas
 pub mod CheckLemmas

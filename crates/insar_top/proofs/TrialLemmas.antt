@@ -10,7 +10,6 @@ use Rattle.raster_model.specs.declared.plane.Plane.{Plane}
 use Rattle.raster_model.specs.declared.script.Command.TheVariants.{Settle, Show}
 use Rattle.raster_model.specs.declared.script.Script.{Script}
 use Rattle.raster_model.specs.declared.session.Session.{Session}
-use Rattle.raster_model.specs.declared.weights.RuleKind.{RuleKind}
 use Rattle.raster_model.specs.Best.{tiles_cost}
 use Rattle.raster_model.specs.Limits.{is_raster_size}
 use Rattle.raster_model.specs.MaskView.{MaskView}
@@ -27,7 +26,6 @@ use Rattle.trial_maker.specs.Trials.{AreTrialScripts, IsTrial, is_open, phase_of
 use Rattle.raster_model.specs.Sessions.{HasNewTerms}
 use Rattle.insar_words.specs.Asked.{Options}
 use Rattle.insar_words.specs.Requests.{options_of}
-use Rattle.insar_words.specs.declared.settings.Settings.{Settings}
 use Rattle.insar_top.specs.Options.{HasOptions}
 use Rattle.insar_top.proofs.SessionLemmas.{on_options, same_terms}
 use Rattle.report_check.specs.Same.{IsSameInput, IsSamePlane}

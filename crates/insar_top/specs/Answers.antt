@@ -2,11 +2,14 @@
 use Rattle.std.specs.Prelude.{◌≡◌, ◌≤◌, ℕ, List, [], Option, Some, IfSome, ⊤}
 use Rattle.insar_ports.specs.Bytes.{GainsProperPrefix, with_end}
 use Rattle.insar_words.specs.declared.request.Request.{Request}
-use Rattle.insar_words.specs.declared.request.Request.TheVariants.{Unwrap, Grid, Check, Trial}
+use Rattle.insar_words.specs.declared.request.Request.TheVariants.{Unwrap, Grid, Check, Trial, Screen, Closure, Displacement}
 use Rattle.insar_words.specs.Requests.{options_of}
 use Rattle.insar_top.specs.Check.{IsCheckable, IsVerdictAnswer}
+use Rattle.insar_top.specs.Closure.{IsClosureAnswer, IsLoopInput}
+use Rattle.insar_top.specs.Displacement.{IsDisplacementAnswer, IsSightInput, sight_of}
 use Rattle.insar_top.specs.Grid.{IsGridAnswer}
 use Rattle.insar_top.specs.Run.{IsUnread, Run}
+use Rattle.insar_top.specs.Screen.{IsScreenAnswer}
 use Rattle.insar_top.specs.Trial.{IsTrialText}
 use Rattle.insar_top.specs.Unwrap.{IsReportAnswer, IsSomeInput}
 
@@ -31,6 +34,9 @@ IsInputTo (Unwrap settings) bytes = IsSomeInput settings.side bytes
 IsInputTo (Grid settings) bytes = IsSomeInput settings.side bytes
 IsInputTo (Check settings) bytes = IsCheckable settings.side bytes
 IsInputTo (Trial trial) bytes = ⊤
+IsInputTo (Screen screening) bytes = IsSomeInput screening.side bytes
+IsInputTo Closure bytes = IsLoopInput bytes
+IsInputTo (Displacement displacing) bytes = IsSightInput (sight_of displacing) bytes
 
 -- with this status, the text answers a request that is about these bytes
 abbrev pub IsAnswerTo : Request → List ℕ → ℕ → List ℕ → Type 0
@@ -38,6 +44,9 @@ IsAnswerTo (Unwrap settings) bytes status text = (status ≡ 0) × IsReportAnswe
 IsAnswerTo (Grid settings) bytes status text = (status ≡ 0) × IsGridAnswer (options_of settings) bytes text
 IsAnswerTo (Check settings) bytes status text = IsVerdictAnswer (options_of settings) bytes status text
 IsAnswerTo (Trial trial) bytes status text = (status ≡ 0) × IsTrialText trial.seed trial.width trial.height (options_of trial.settings) text
+IsAnswerTo (Screen screening) bytes status text = (status ≡ 0) × IsScreenAnswer screening bytes text
+IsAnswerTo Closure bytes status text = (status ≡ 0) × IsClosureAnswer bytes text
+IsAnswerTo (Displacement displacing) bytes status text = (status ≡ 0) × IsDisplacementAnswer (sight_of displacing) bytes text
 
 -- a request that was done may end with this status: 1 is of `check` alone
 abbrev pub IsDoneStatus : Request → ℕ → Type 0

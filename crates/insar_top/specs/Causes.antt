@@ -4,9 +4,11 @@ use Rattle.insar_ports.specs.Bytes.{HasRisen}
 use Rattle.insar_top.specs.declared.refusal.Refusal.{Refusal}
 use Rattle.insar_top.specs.declared.refusal.Refusal.TheVariants as refusals
 use Rattle.insar_words.specs.declared.request.Request.{Request}
-use Rattle.insar_words.specs.declared.request.Request.TheVariants.{Unwrap, Grid, Check, Trial}
+use Rattle.insar_words.specs.declared.request.Request.TheVariants.{Unwrap, Grid, Check, Trial, Screen, Closure, Displacement}
 use Rattle.insar_top.specs.Answers.{HasCutShort, IsInputTo, input_of}
 use Rattle.insar_top.specs.Check.{BreaksBoth}
+use Rattle.insar_top.specs.Closure.{BreaksLoop}
+use Rattle.insar_top.specs.Displacement.{BreaksSight, sight_of}
 use Rattle.insar_top.specs.Run.{HasKept, Run, SinkFailed}
 use Rattle.insar_top.specs.Unwrap.{BreaksAlone}
 
@@ -16,6 +18,9 @@ BreaksInput (Unwrap settings) = BreaksAlone settings.side
 BreaksInput (Grid settings) = BreaksAlone settings.side
 BreaksInput (Check settings) = BreaksBoth settings.side
 BreaksInput (Trial trial) = λ bytes refusal. ⊥
+BreaksInput (Screen screening) = BreaksAlone screening.side
+BreaksInput Closure = BreaksLoop
+BreaksInput (Displacement displacing) = BreaksSight (sight_of displacing)
 
 -- why bytes are not read: lack of memory, a counted fault of the source, or a break of the bytes where they are told
 abbrev pub HasReadCause : (List ℕ → Refusal → Type 0) → Option (List ℕ) → ℕ → ℕ → Refusal → Type 0

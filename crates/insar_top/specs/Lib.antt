@@ -8,6 +8,10 @@ pub mod Grid
 pub mod VerdictLines
 pub mod Check
 pub mod Trial
+pub mod Screen
+pub mod Grids
+pub mod Closure
+pub mod Displacement
 pub mod Answers
 pub mod Causes
 pub mod Ends

@@ -1,4 +1,4 @@
--- A session on the options of words: their rule of weights, their side of tiles, and the terms of their ramp.
+-- A session on the options of words: their rule of weights, their side of tiles, and their terms: a ramp and the steepness of costs.
 use Rattle.std.specs.Prelude.{◌≡◌}
 use Rattle.insar_words.specs.Asked.{Options}
 use Rattle.raster_model.specs.declared.session.Session.{Session}
@@ -8,4 +8,4 @@ pub record HasOptions (options : Options) (s : Session) : Type 0 where
   pub side : s.scene.tiling.side ≡ options.side
   pub ramp_x : s.scene.terms.ramp_x ≡ options.ramp_x
   pub ramp_y : s.scene.terms.ramp_y ≡ options.ramp_y
-  pub steepness : s.scene.terms.steep ≡ 1
+  pub steepness : s.scene.terms.steep ≡ options.steep

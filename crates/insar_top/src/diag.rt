@@ -1,6 +1,6 @@
 ghost use Rattle.insar_top.specs.Lines.{fault_text, plane_fault_text, refusal_line, role_text};
 ghost use Rattle.insar_top.specs.declared.refusal.Refusal.TheVariants as refusals;
-ghost use Rattle.std.specs.Prelude.{◌≡◌, ◌++◌};
+ghost use Rattle.std.specs.Prelude.{◌≡◌, ◌++◌, ◌∷◌, []};
 ghost use Rattle.text_lines.specs.Adding.{Adds, Puts};
 ghost use Rattle.text_lines.specs.Views.{view_of};
 
@@ -25,8 +25,18 @@ fn add_refusal<D: Sink>(text: &mut TextWriter<D>, refusal: Refusal)
     match refusal {
         Refusal::Words => text.bytes(b"words refused\n"),
         Refusal::Input(fault) => add_input_line(text, fault),
-        Refusal::ReportLine(number) => add_report_line(text, number),
+        Refusal::ReportLine(line) => add_around(text, b"report fault line ", line, b"\n"),
         Refusal::ReportLong => text.bytes(b"report fault long\n"),
+        Refusal::GridLine { grid, line } => {
+            add_pair(text, b"input fault 19 grid ", grid, b" line ", line)
+        }
+        Refusal::GridLong(grid) => add_around(text, b"input fault 20 grid ", grid, b" long\n"),
+        Refusal::GridSizes(grid) => add_around(text, b"input fault 21 grid ", grid, b" sizes\n"),
+        Refusal::AfterGrids(byte) => {
+            add_around(text, b"input fault 22 after grids byte ", byte, b"\n")
+        }
+        Refusal::Wide { x, y } => add_pair(text, b"input fault 23 wide ", x, b" ", y),
+        Refusal::Reference => text.bytes(b"input fault 24 reference\n"),
         Refusal::Memory => text.bytes(b"no memory\n"),
         Refusal::ReadFault => text.bytes(b"read fault\n"),
         Refusal::WriteFault => text.bytes(b"write fault\n"),
@@ -41,12 +51,28 @@ fn add_input_line<D: Sink>(text: &mut TextWriter<D>, fault: InputFault)
     text.end_line();
 }
 
-fn add_report_line<D: Sink>(text: &mut TextWriter<D>, number: u64)
-    ensures { Adds (view_of D.held D.faults text.old) (view_of D.held D.faults text.new) (refusal_line (refusals.ReportLine number)) }
+/// Adds a line of two numbers, each after its label.
+fn add_pair<D: Sink, I: Integer, J: Integer>(
+    text: &mut TextWriter<D>,
+    label: &[u8],
+    number: I,
+    between: &[u8],
+    other: J,
+)
+    ensures { Adds (view_of D.held D.faults text.old) (view_of D.held D.faults text.new) (label.now ++ (I.text number ++ (between.now ++ (J.text other ++ 10 ∷ [])))) }
 {
-    text.bytes(b"report fault line ");
+    text.bytes(label);
     text.number(number);
-    text.end_line();
+    add_around(text, between, other, b"\n");
+}
+
+/// Adds a number between two labels.
+fn add_around<D: Sink, I: Integer>(text: &mut TextWriter<D>, before: &[u8], number: I, after: &[u8])
+    ensures { Adds (view_of D.held D.faults text.old) (view_of D.held D.faults text.new) (before.now ++ (I.text number ++ after.now)) }
+{
+    text.bytes(before);
+    text.number(number);
+    text.bytes(after);
 }
 
 fn add_fault<D: Sink>(text: &mut TextWriter<D>, fault: InputFault)

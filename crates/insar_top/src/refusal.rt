@@ -1,15 +1,11 @@
 ghost use Rattle.std.specs.Prelude.{◌≡◌};
-ghost use Rattle.insar_top.specs.declared.refusal.Refusal.TheVariants as refusals;
 ghost use Rattle.insar_top.specs.Ends.{end_of_put};
-ghost use Rattle.insar_top.specs.Refusals.{report_refusal, session_refusal, status_of, trial_refusal, words_refusal};
+ghost use Rattle.insar_top.specs.Refusals.{status_of};
+
+mod causes;
 
 use insar_ports::WriteFault;
-use insar_words::WordsFault;
 use pgm_planes::InputFault;
-use report_text::ReportFault;
-use session_script::SessionFault;
-use std::alloc::AllocError;
-use trial_maker::TrialFault;
 
 /// Why a command was not done.
 #[derive(Clone, Copy, Debug, PartialEq, Eq)]
@@ -22,6 +18,18 @@ pub enum Refusal {
     ReportLine(u64),
     /// A report has more bytes than one may have.
     ReportLong,
+    /// This line of this grid, both counted from 1, breaks the form of grids, is cut or is missing.
+    GridLine { grid: u32, line: u64 },
+    /// There are more bytes than grids may have: within this grid, or after it if it is the last.
+    GridLong(u32),
+    /// This grid has another size than the first.
+    GridSizes(u32),
+    /// A byte stands at this place, counted from 0, after the last grid.
+    AfterGrids(u64),
+    /// What would stand in this column and row of the answer does not fit 64 bits, or is the NODATA value: the first such.
+    Wide { x: u32, y: u32 },
+    /// The reference pixel is not on the grid, or it has no value.
+    Reference,
     /// There was no memory.
     Memory,
     /// The source failed and counted a fault.
@@ -37,7 +45,15 @@ impl Refusal {
     {
         match self {
             Refusal::Words => 2,
-            Refusal::Input(_) | Refusal::ReportLine(_) | Refusal::ReportLong => 3,
+            Refusal::Input(_)
+            | Refusal::ReportLine(_)
+            | Refusal::ReportLong
+            | Refusal::GridLine { .. }
+            | Refusal::GridLong(_)
+            | Refusal::GridSizes(_)
+            | Refusal::AfterGrids(_)
+            | Refusal::Wide { .. }
+            | Refusal::Reference => 3,
             Refusal::Memory => 4,
             Refusal::ReadFault => 5,
             Refusal::WriteFault => 6,
@@ -52,68 +68,5 @@ pub fn end_of(put: Result<(), WriteFault>, status: u8) -> Result<u8, Refusal>
     match put {
         Ok(()) => Ok(status),
         Err(_) => Err(Refusal::WriteFault),
-    }
-}
-
-impl From<AllocError> for Refusal {
-    ghost from_gives = { λ _ e. e ≡ refusals.Memory };
-
-    fn from(_none: AllocError) -> Refusal {
-        Refusal::Memory
-    }
-}
-
-impl From<WriteFault> for Refusal {
-    ghost from_gives = { λ _ e. e ≡ refusals.WriteFault };
-
-    fn from(_fault: WriteFault) -> Refusal {
-        Refusal::WriteFault
-    }
-}
-
-impl From<SessionFault> for Refusal {
-    ghost from_gives = { λ fault e. e ≡ session_refusal fault };
-
-    fn from(fault: SessionFault) -> Refusal {
-        match fault {
-            SessionFault::Input(fault) => Refusal::Input(fault),
-            SessionFault::ReadFault => Refusal::ReadFault,
-            SessionFault::Memory => Refusal::Memory,
-        }
-    }
-}
-
-impl From<ReportFault> for Refusal {
-    ghost from_gives = { λ fault e. e ≡ report_refusal fault };
-
-    fn from(fault: ReportFault) -> Refusal {
-        match fault {
-            ReportFault::Line(number) => Refusal::ReportLine(number),
-            ReportFault::TooLong => Refusal::ReportLong,
-            ReportFault::ReadFault => Refusal::ReadFault,
-            ReportFault::Memory => Refusal::Memory,
-        }
-    }
-}
-
-impl From<TrialFault> for Refusal {
-    ghost from_gives = { λ fault e. e ≡ trial_refusal fault };
-
-    fn from(fault: TrialFault) -> Refusal {
-        match fault {
-            TrialFault::Size => Refusal::Words,
-            TrialFault::Memory => Refusal::Memory,
-        }
-    }
-}
-
-impl From<WordsFault> for Refusal {
-    ghost from_gives = { λ fault e. e ≡ words_refusal fault };
-
-    fn from(fault: WordsFault) -> Refusal {
-        match fault {
-            WordsFault::Refused => Refusal::Words,
-            WordsFault::Memory => Refusal::Memory,
-        }
     }
 }

@@ -1,9 +1,10 @@
 ghost use Rattle.insar_ports.specs.Feeding.{faults_of, handed_of, left_of, limit_of, source_name, source_of};
 ghost use Rattle.insar_top.specs.Causes.{HasReadCause};
 ghost use Rattle.insar_top.specs.Run.{ReadsAll};
-ghost use Rattle.insar_top.specs.Unwrap.{BreaksAlone, IsGiven};
+ghost use Rattle.insar_top.specs.Unwrap.{BreaksAlone, IsGiven, IsInput};
 ghost use Rattle.insar_words.specs.Requests.{options_of};
-ghost use Rattle.raster_model.specs.Limits.{max_session_bytes};
+ghost use Rattle.raster_model.specs.Limits.{IsTileSide, max_session_bytes};
+ghost use Rattle.session_script.specs.Sessions.{session_of};
 ghost use Rattle.std.specs.Prelude.{◌≡◌, IfErr, IfOk};
 ghost use Rattle.tile_board.specs.Histories.{IsComplete};
 
@@ -11,7 +12,7 @@ use crate::board::finished;
 use crate::refusal::Refusal;
 use insar_ports::{Feed, Source};
 use insar_words::Settings;
-use raster_model::{MAX_SESSION_BYTES, Session};
+use raster_model::{MAX_SESSION_BYTES, RuleKind, Session};
 use session_script::{SessionUse, read_session};
 use std::alloc::Global;
 use std::sync::Wait;
@@ -31,36 +32,43 @@ pub fn solved<R: Threads + Wait + Sync, S: Source, G: Gate>(
     ensures complete { IfOk result (λ board. IsComplete board.session board.entries) }
     ensures refused { IfErr result (HasReadCause (BreaksAlone settings.side) (S.left source.old) (S.faults source.old) (S.faults source.new)) }
 {
-    let session = read_alone(alloc, source, settings)?;
+    let plain = read_alone(alloc, source, settings.side, settings.rule)?;
+    let session = plain.with_terms(settings.terms);
     let board = finished(rt, alloc, session, settings.workers, gate)?;
     Ok(board)
 }
 
-/// Reads the session that a source gives, after which it ends.
+/// Reads the session that a source gives, after which it ends: in tiles of this side, by this rule and on the plain terms.
 pub fn read_alone<S: Source>(
     alloc: Global,
     source: &mut S,
-    settings: Settings,
+    side: u32,
+    rule: RuleKind,
 ) -> Result<Session, Refusal>
-    ensures given { IfOk result (λ session. ReadsAll (S.left source.old) (S.left source.new) (λ bytes. IsGiven (options_of settings) bytes session)) }
-    ensures refused { IfErr result (HasReadCause (BreaksAlone settings.side) (S.left source.old) (S.faults source.old) (S.faults source.new)) }
+    requires { IsTileSide side }
+    ensures scene { IfOk result (λ session. (session.scene.rule ≡ rule) × (session.scene.tiling.side ≡ side)) }
+    ensures spelled { IfOk result (λ session. ReadsAll (S.left source.old) (S.left source.new) (λ bytes. IsInput side bytes (session_of session))) }
+    ensures refused { IfErr result (HasReadCause (BreaksAlone side) (S.left source.old) (S.faults source.old) (S.faults source.new)) }
 {
     let mut feed = Feed::new(alloc, source, MAX_SESSION_BYTES)?;
-    read_fed(alloc, &mut feed, settings)
+    read_fed(alloc, &mut feed, side, rule)
 }
 
 /// Reads the session that a feed gives from its start.
 fn read_fed<S: Source>(
     alloc: Global,
     feed: &mut Feed<S>,
-    settings: Settings,
+    side: u32,
+    rule: RuleKind,
 ) -> Result<Session, Refusal>
     requires start { handed_of feed.old ≡ 0 }
     requires limit { limit_of feed.old ≡ max_session_bytes }
+    requires sides { IsTileSide side }
     ensures same_source { source_name feed.new ≡ source_name feed.old }
-    ensures given { IfOk result (λ session. ReadsAll (left_of S.left feed.old) (S.left (source_of feed.new)) (λ bytes. IsGiven (options_of settings) bytes session)) }
-    ensures refused { IfErr result (HasReadCause (BreaksAlone settings.side) (left_of S.left feed.old) (faults_of S.faults feed.old) (faults_of S.faults feed.new)) }
+    ensures scene { IfOk result (λ session. (session.scene.rule ≡ rule) × (session.scene.tiling.side ≡ side)) }
+    ensures spelled { IfOk result (λ session. ReadsAll (left_of S.left feed.old) (S.left (source_of feed.new)) (λ bytes. IsInput side bytes (session_of session))) }
+    ensures refused { IfErr result (HasReadCause (BreaksAlone side) (left_of S.left feed.old) (faults_of S.faults feed.old) (faults_of S.faults feed.new)) }
 {
-    let session = read_session(alloc, feed, SessionUse::Alone, settings.side, settings.rule)?;
-    Ok(session.with_terms(settings.terms))
+    let session = read_session(alloc, feed, SessionUse::Alone, side, rule)?;
+    Ok(session)
 }

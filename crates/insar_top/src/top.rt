@@ -10,15 +10,18 @@ ghost use Rattle.insar_top.specs.Run.{IsUnread, run_of};
 ghost use Rattle.insar_top.specs.Unwrap.{IsDone};
 ghost use Rattle.insar_top.specs.declared.refusal.Refusal.{Refusal as AnyRefusal};
 ghost use Rattle.insar_top.specs.declared.refusal.Refusal.TheVariants as refusals;
-ghost use Rattle.insar_words.specs.Asked.{AskSomething, IsCheck, IsCommand, IsRefused, Options};
-ghost use Rattle.insar_words.specs.Requests.{IsRequest};
+ghost use Rattle.insar_words.specs.Asked.{IsCheck, IsCommand, IsRefused, Options};
+ghost use Rattle.insar_words.specs.Requests.{AskSomething, IsRequest};
 ghost use Rattle.insar_words.specs.declared.request.Request.{Request as Asked};
 ghost use Rattle.report_check.specs.declared.verdict.CheckVerdict.{CheckVerdict as AnyVerdict};
 
 use crate::check::run_check;
+use crate::closure::run_closure;
 use crate::diag::put_line;
+use crate::displacements::run_displacement;
 use crate::grid::run_grid;
 use crate::refusal::Refusal;
+use crate::screen::run_screen;
 use crate::trial::run_trial;
 use crate::unwrap::run_unwrap;
 use insar_ports::{Sink, Source};
@@ -44,12 +47,29 @@ use tile_workers::Gate;
 /// four lines: how many pixels it has, how many cells of the whole raster have a residue, how many pixels are open, and what
 /// the tiles cost.
 ///
-/// `--tile N` is the side of the square tiles in pixels, from 2 to 128, and 64 if the words do not give it. `--rule R`
-/// names how the weights of two pixels give that of their edge: `least`, which is the default, `mean` or `product`.
-/// `--workers N` is how many workers solve the tiles of an analyst at once, from 1 to 8, and 2 by default, each of which
-/// passes the gate before it solves; `check` has no workers. `--ramp-x N` and `--ramp-y N` are what the phase is expected to
-/// rise from a pixel to its right and to its lower neighbour, in units of 1/65536 cycle: N from 0 to 65535, of which those
-/// from 32768 on stand for N - 65536, and 0 by default. Differences are wrapped around it.
+/// `screen` reads a session that stands alone and writes it again with a first mask that keeps fewer pixels open. A pixel is
+/// strong if it is open and its weight is at least `--weight`. A strong pixel passes if at least `--count` strong pixels,
+/// itself included, are no more than `--radius` columns and rows away. It stays open if its patch, which are the passing
+/// pixels that a walk over right, left, upper and lower neighbours joins it to, has at least `--patch` pixels. The weight is
+/// from 0 to 65535, the radius from 0 to 64, the count from 0 to 16641, the patch from 0 to 4194304, and each 0 by default.
+///
+/// `closure` has no options. It reads three grids of one size, one after the other: phase 12, 23 and 13 of three acquisitions.
+/// It writes how many pixels have a closure, how many are misclosed and in how many patches, a line for each patch, the grid
+/// of closures and the grid of the whole cycles in them.
+///
+/// `displacement` reads one grid and writes another: how far the pixels moved along the line of sight in nanometres, averaged
+/// over blocks, relative to a pixel that did not move. `--wavelength`, from 1 to 1000000000 nanometres, has to be given. `--x`
+/// and `--y` are the column and the row of that pixel, from 0 to 4095, and 0 by default. `--block` is the side of the blocks
+/// in pixels, from 1 to 64, and 1 by default.
+///
+/// `--tile N` is the side of the square tiles in pixels, from 2 to 128, and 64 if the words do not give it; `screen` has it
+/// for the limit of a session's edits alone. `--rule R` names how the weights of two pixels give that of their edge: `least`,
+/// which is the default, `mean` or `product`. `--workers N` is how many workers solve the tiles of an analyst at once, from 1
+/// to 8, and 2 by default, each of which passes the gate before it solves; `check` has no workers. `--ramp-x N` and
+/// `--ramp-y N` are what the phase is expected to rise from a pixel to its right and to its lower neighbour, in units of
+/// 1/65536 cycle: N from 0 to 65535, of which those from 32768 on stand for N - 65536, and 0 by default. Differences are
+/// wrapped around it. `--steep N`, from 1 to 16, is how many times as much as the first cycle of a departure each further one
+/// costs, and 1 by default.
 ///
 /// Words are checked before the source is read, as `clap` reads them, and a call for help is refused like others. A fault of
 /// `diag` changes nothing.
@@ -139,6 +159,9 @@ fn do_request<R: Threads + Wait + Sync, S: Source, K: Sink, G: Gate>(
         Request::Grid(settings) => run_grid(rt, alloc, settings, source, sink, gate),
         Request::Check(settings) => run_check(alloc, settings, source, sink),
         Request::Trial(trial) => run_trial(rt, alloc, trial, sink, gate),
+        Request::Screen(screening) => run_screen(alloc, screening, source, sink),
+        Request::Closure => run_closure(alloc, source, sink),
+        Request::Displacement(displacing) => run_displacement(alloc, displacing, source, sink),
     }
 }
 

@@ -32,6 +32,11 @@ take|71|71|check|$&|5|read fault;
 take|324|324|check|$&|5|read fault;
 take|1|1|grid|$|5|read fault;
 take|71|71|grid|$|5|read fault;
+take|1|1|screen|$|5|read fault;
+take|71|71|screen|$|5|read fault;
+take|1|1|closure|ncols 1;nrows 1;%0;ncols 1;nrows 1;%0;ncols 1;nrows 1;%0;|5|read fault;
+take|262|262|closure|ncols 1;nrows 1;%0;ncols 1;nrows 1;%0;ncols 1;nrows 1;%0;|5|read fault;
+take|80|88|displacement --wavelength 1|ncols 1;nrows 1;%0;|5|read fault;
 take|1|1|trial 0 1 1||0|pixels 1;residues 0;unmasked 1;cost 0;";
 
 /// The same for the sink. One call after the last the run is undisturbed.
@@ -47,7 +52,14 @@ put|10|10|check|$&|0|accepted;
 put|1|18|check|P5;4 1;65535;@end;!4 1;tile 64;rule least;end;|6|refused history 1;
 put|1|4|trial 0 1 1||6|pixels 1;residues 0;unmasked 1;cost 0;
 put|38|38|trial 0 1 1||6|pixels 1;residues 0;unmasked 1;cost 0;
-put|39|39|trial 0 1 1||0|pixels 1;residues 0;unmasked 1;cost 0;";
+put|39|39|trial 0 1 1||0|pixels 1;residues 0;unmasked 1;cost 0;
+put|1|67|screen --patch 4|P2 3 1 65535 0 0 0 P2 3 1 9 5 1 5|6|P5;3 1;65535;......P5;3 1;9;\x05\x01\x05P5;3 1;1;...analyst;settle;show;end;
+put|68|68|screen --patch 4|P2 3 1 65535 0 0 0 P2 3 1 9 5 1 5|0|P5;3 1;65535;......P5;3 1;9;\x05\x01\x05P5;3 1;1;...analyst;settle;show;end;
+put|14|16|closure|ncols 1;nrows 1;%0;ncols 1;nrows 1;%0;ncols 1;nrows 1;%0;|6|closure 1 0 0;ncols 1;nrows 1;%0;ncols 1;nrows 1;%0;
+put|188|188|closure|ncols 1;nrows 1;%0;ncols 1;nrows 1;%0;ncols 1;nrows 1;%0;|6|closure 1 0 0;ncols 1;nrows 1;%0;ncols 1;nrows 1;%0;
+put|189|189|closure|ncols 1;nrows 1;%0;ncols 1;nrows 1;%0;ncols 1;nrows 1;%0;|0|closure 1 0 0;ncols 1;nrows 1;%0;ncols 1;nrows 1;%0;
+put|87|87|displacement --wavelength 1|ncols 1;nrows 1;%0;|6|ncols 1;nrows 1;%0;
+put|88|88|displacement --wavelength 1|ncols 1;nrows 1;%0;|0|ncols 1;nrows 1;%0;";
 
 /// The same for a line in raw bytes, whose report is shown whole.
 const LINES: &str = "\

@@ -116,6 +116,67 @@ trial 7 64 64 --tile 32||0|pixels 4096;residues 450;unmasked 3834;cost 16469;
 trial 7 64 64 --tile 32 --workers 1||0|pixels 4096;residues 450;unmasked 3834;cost 16469;
 trial 7 64 64 --workers 4 --tile 32||0|pixels 4096;residues 450;unmasked 3834;cost 16469;
 trial 7 64 64 --tile 32 --ramp-x 32768||0|pixels 4096;residues 1807;unmasked 3834;cost 61500;
+-- Departures of several cycles that cost more: a turn costs 3 as before, and its face 4 is above two weights by 1 in sum. Across
+-- the seam of two tiles the last column departs by 0, 1 and 2 where edges weigh 9, 1 and 4, which costs 9; with the steepness 3
+-- it is a cycle lower, which costs 13 in place of 17. A test session whose least costs a solver of linear programs found.
+unwrap --steep 3|P2 2 2 65535 0 16384 49152 32768 P2 2 2 9 5 5 3 9|0|insar-report 2;size 2 2;tile 64;rule least;ramp 0 0;steep 3;kept 0 0;published 1 0;costs 3 0;ncols 2;nrows 2;%0 16384;-16384 32768;faces 0 3;flows;shown 1 0;end;/insar-report 2;size 2 2;tile 64;rule least;ramp 0 0;steep 3;kept 0 0;published 1 0;costs 3 0;ncols 2;nrows 2;%0 16384;49152 32768;faces 0 3;flows;shown 1 0;end;
+check --steep 3|P2 2 2 65535 0 16384 49152 32768 P2 2 2 9 5 5 3 9;end;insar-report 2;size 2 2;tile 64;rule least;ramp 0 0;steep 3;kept 0 0;published 1 0;costs 3 0;ncols 2;nrows 2;%0 16384;-16384 32768;faces 0 3;flows;shown 1 0;end;|0|accepted;
+check --steep 3|P2 2 2 65535 0 16384 49152 32768 P2 2 2 9 5 5 3 9;end;insar-report 2;size 2 2;tile 64;rule least;ramp 0 0;steep 3;kept 0 0;published 1 0;costs 3 0;ncols 2;nrows 2;%0 16384;-16384 32768;faces 0 4;flows;shown 1 0;end;|1|refused surface 0 tile 0 cost 3 bound 2;
+check|P2 2 2 65535 0 16384 49152 32768 P2 2 2 9 5 5 3 9;end;insar-report 2;size 2 2;tile 64;rule least;ramp 0 0;steep 3;kept 0 0;published 1 0;costs 3 0;ncols 2;nrows 2;%0 16384;-16384 32768;faces 0 3;flows;shown 1 0;end;|1|refused header 6;
+check --steep 3|P2 2 2 65535 0 16384 49152 32768 P2 2 2 9 5 5 3 9;end;insar-report 2;size 2 2;tile 64;rule least;ramp 0 0;steep 2;kept 0 0;published 1 0;costs 3 0;ncols 2;nrows 2;%0 16384;-16384 32768;faces 0 3;flows;shown 1 0;end;|1|refused header 6;
+grid --tile 3|P2 4 3 65535 0 0 0 0 33536 33536 33536 32000 1536 1536 1536 64000 P2 4 3 9 9 9 9 9 1 1 1 1 4 4 4 4|0|ncols 4;nrows 3;%0 0 0 0;-32000 -32000 -32000 32000;-64000 -64000 -64000 64000;
+grid --tile 3 --steep 3|P2 4 3 65535 0 0 0 0 33536 33536 33536 32000 1536 1536 1536 64000 P2 4 3 9 9 9 9 9 1 1 1 1 4 4 4 4|0|ncols 4;nrows 3;%0 0 0 -65536;-32000 -32000 -32000 -33536;-64000 -64000 -64000 -1536;
+unwrap --tile 3 --steep 3|P2 4 3 65535 0 0 0 0 33536 33536 33536 32000 1536 1536 1536 64000 P2 4 3 9 9 9 9 9 1 1 1 1 4 4 4 4|0|insar-report 2;size 4 3;tile 3;rule least;ramp 0 0;steep 3;*costs 0 13;*
+check --tile 3 --steep 3|P2 4 3 65535 0 0 0 0 33536 33536 33536 32000 1536 1536 1536 64000 P2 4 3 9 9 9 9 9 1 1 1 1 4 4 4 4;end;insar-report 2;size 4 3;tile 3;rule least;ramp 0 0;steep 3;kept 0 0;kept 1 0;published 1 0;costs 0 13;ncols 4;nrows 3;%0 0 0 -65536;-32000 -32000 -32000 -33536;-64000 -64000 -64000 -1536;faces 0 0 0 0 0;faces 1;flows -9 0 9;shown 1 0;end;|0|accepted;
+trial 7 64 64 --tile 32 --ramp-x 32768 --steep 4||0|pixels 4096;residues 1807;unmasked 3834;cost 61525;
+grid --steep 16|P2 1 1 65535 7|0|ncols 1;nrows 1;%7;
+grid --steep 0|P2 1 1 65535 7|2|words refused;
+grid --steep 17|P2 1 1 65535 7|2|words refused;
+screen --steep 1|P2 1 1 65535 7|2|words refused;
+-- A first mask screened: the middle pixel of three is weak, and each of the others is a patch of one pixel, with one strong
+-- pixel within a column of it and two within two; nothing is dropped by default, and all by the greatest numbers.
+screen --weight 2|P2 3 1 65535 0 0 0 P2 3 1 9 5 1 5|0|P5;3 1;65535;......P5;3 1;9;\x05\x01\x05P5;3 1;1;\x01.\x01analyst;settle;show;end;
+screen --weight 2 --patch 2|P2 3 1 65535 0 0 0 P2 3 1 9 5 1 5|0|P5;3 1;65535;......P5;3 1;9;\x05\x01\x05P5;3 1;1;...analyst;settle;show;end;
+screen --weight 2 --radius 1 --count 2|P2 3 1 65535 0 0 0 P2 3 1 9 5 1 5|0|P5;3 1;65535;......P5;3 1;9;\x05\x01\x05P5;3 1;1;...analyst;settle;show;end;
+screen --weight 2 --radius 1 --count 1|P2 3 1 65535 0 0 0 P2 3 1 9 5 1 5|0|P5;3 1;65535;......P5;3 1;9;\x05\x01\x05P5;3 1;1;\x01.\x01analyst;settle;show;end;
+screen --count 2 --weight 2 --radius 2|P2 3 1 65535 0 0 0 P2 3 1 9 5 1 5|0|P5;3 1;65535;......P5;3 1;9;\x05\x01\x05P5;3 1;1;\x01.\x01analyst;settle;show;end;
+screen|P2 3 1 65535 0 0 0 P2 3 1 9 5 1 5|0|P5;3 1;65535;......P5;3 1;9;\x05\x01\x05P5;3 1;1;\x01\x01\x01analyst;settle;show;end;
+screen|P2 3 1 65535 0 0 0 P2 3 1 9 5 1 5 P2 3 1 9 4 0 9|0|P5;3 1;65535;......P5;3 1;9;\x05\x01\x05P5;3 1;1;\x01.\x01analyst;settle;show;end;
+screen --weight 65535 --radius 64 --count 16641 --patch 4194304 --tile 128|P2 3 1 65535 0 0 0 P2 3 1 9 5 1 5|0|P5;3 1;65535;......P5;3 1;9;\x05\x01\x05P5;3 1;1;...analyst;settle;show;end;
+-- Of 3 by 3 pixels the corners have four near, the others six or nine: five in one patch. The script stays.
+screen --radius 1 --count 6 --patch 5|P2 3 3 65535 0 0 0 0 0 0 0 0 0;analyst;mask 0 0 1 2;show;end;|0|P5;3 3;65535;..................P5;3 3;1;\x01\x01\x01\x01\x01\x01\x01\x01\x01P5;3 3;1;.\x01.\x01\x01\x01.\x01.analyst;mask 0 0 1 2;show;end;
+screen --radius 1 --count 6 --patch 6|P2 3 3 65535 0 0 0 0 0 0 0 0 0;analyst;mask 0 0 1 2;show;end;|0|P5;3 3;65535;..................P5;3 3;1;\x01\x01\x01\x01\x01\x01\x01\x01\x01P5;3 3;1;.........analyst;mask 0 0 1 2;show;end;
+screen|P2 1 1 65535 0;analyst;settle;|3|input fault 14 no end;
+screen --tile 2|P5;2 1;65534;|3|input fault 4 maxval 65534;
+-- Three grids around a loop: a whole cycle over half of a row; an exact half cycle; no value; three patches in a row; a
+-- patch in the second row, beside a pixel without a value.
+closure|ncols 4;nrows 1;%0 10 20 30;ncols 4;nrows 1;%0 0 0 0;ncols 4;nrows 1;%0 10 -65516 -65506;|0|closure 4 2 1;patch 2 0 2 1;ncols 4;nrows 1;%0 0 65536 65536;ncols 4;nrows 1;%0 0 1 1;
+closure|ncols 2;nrows 1;%32768 -32768;ncols 2;nrows 1;%0 0;ncols 2;nrows 1;%0 0;|0|closure 2 1 1;patch 0 0 1 1;ncols 2;nrows 1;%32768 -32768;ncols 2;nrows 1;%1 0;
+closure|ncols 2;nrows 1;%32768 -32768;ncols 2;nrows 1;%0 0;ncols 2;nrows 1;%~ ~;|0|closure 0 0 0;ncols 2;nrows 1;%~ ~;ncols 2;nrows 1;%~ ~;
+closure|ncols 4;nrows 1;%65536 131072 32767 -65536;ncols 4;nrows 1;%0 0 0 0;ncols 4;nrows 1;%0 0 0 0;|0|closure 4 3 3;patch 0 0 1 1;patch 1 0 1 2;patch 3 0 1 -1;ncols 4;nrows 1;%65536 131072 32767 -65536;ncols 4;nrows 1;%1 2 0 -1;
+closure|ncols 2;nrows 2;%0 ~;65536 65540;ncols 2;nrows 2;%0 0;0 0;ncols 2;nrows 2;%0 5;0 0;|0|closure 3 2 1;patch 0 1 2 1;ncols 2;nrows 2;%0 ~;65536 65540;ncols 2;nrows 2;%0 ~;1 1;
+-- The first break of three grids, and a closure that does not fit.
+closure||3|input fault 19 grid 1 line 1;
+closure|ncols 1;nrows 1;%5;|3|input fault 19 grid 2 line 1;
+closure|ncols 1;nrows 1;%5;ncols 1;nrows 1;%0;ncols 1;nrows 1;%9223372036854775808;|3|input fault 19 grid 3 line 7;
+closure|ncols 2;nrows 1;%32768 -32768;ncols 2;nrows 1;%0 0;ncols 1;nrows 1;%0;|3|input fault 21 grid 3 sizes;
+closure|ncols 1;nrows 1;%0;ncols 1;nrows 1;%0;ncols 1;nrows 1;%0;x|3|input fault 22 after grids byte 261;
+closure|ncols 2;nrows 1;%9223372036854775807 0;ncols 2;nrows 1;%1 0;ncols 2;nrows 1;%0 0;|3|input fault 23 wide 0 0;
+closure|ncols 1;nrows 2;%0;-9223372036854775807;ncols 1;nrows 2;%0;0;ncols 1;nrows 2;%0;1;|3|input fault 23 wide 0 1;
+-- Displacements: four pixels, their blocks, thirds rounded down, a block without a value, and a reference below.
+displacement --wavelength 56000000|ncols 4;nrows 1;%0 -25536 -51072 -76608;|0|ncols 4;nrows 1;%0 -10910157 -21820313 -32730469;
+displacement --wavelength 56000000 --block 2|ncols 4;nrows 1;%0 -25536 -51072 -76608;|0|ncols 2;nrows 1;%-5455079 -27275391;
+displacement --wavelength 131072 --block 64|ncols 3;nrows 1;%0 1 4;|0|ncols 1;nrows 1;%1;
+displacement --wavelength 131072 --block 3|ncols 3;nrows 1;%0 -1 -4;|0|ncols 1;nrows 1;%-2;
+displacement --block 2 --wavelength 131072|ncols 4;nrows 1;%7 ~ ~ ~;|0|ncols 2;nrows 1;%0 ~;
+displacement --wavelength 1 --y 1|ncols 1;nrows 2;%5;131077;|0|ncols 1;nrows 2;%-1;0;
+-- No reference pixel, which is told before a block that does not fit; such a block, by its column and row; broken grids.
+displacement --wavelength 56000000 --x 4|ncols 4;nrows 1;%0 -25536 -51072 -76608;|3|input fault 24 reference;
+displacement --wavelength 1000000000 --x 4095 --y 4095 --block 64|ncols 4;nrows 1;%0 -25536 -51072 -76608;|3|input fault 24 reference;
+displacement --wavelength 1000000000 --x 1|ncols 2;nrows 1;%9223372036854775807 ~;|3|input fault 24 reference;
+displacement --wavelength 1000000000 --block 2|ncols 2;nrows 3;%0 0;0 0;0 9223372036854775807;|3|input fault 23 wide 0 1;
+displacement --wavelength 1||3|input fault 19 grid 1 line 1;
+displacement --wavelength 1|ncols 1;nrows 1;%0;x|3|input fault 22 after grids byte 87;
 -- Words that are read in other spellings, so that the missing source is what is refused.
 unwrap --tile=64||3|input fault 1 magic phase;
 unwrap --tile 02||3|input fault 1 magic phase;
@@ -148,6 +209,23 @@ trial 0 1||2|words refused;
 trial 0 4097 1||2|words refused;
 trial 18446744073709551616 1 1||2|words refused;
 trial 0 4096 4096||2|words refused;
+screen --weight 65536||2|words refused;
+screen --radius 65||2|words refused;
+screen --count 16642||2|words refused;
+screen --patch 4194305||2|words refused;
+screen --tile 1||2|words refused;
+screen --rule least||2|words refused;
+screen --workers 1||2|words refused;
+closure x||2|words refused;
+closure --tile 2||2|words refused;
+displacement||2|words refused;
+displacement --x 1||2|words refused;
+displacement --wavelength 0||2|words refused;
+displacement --wavelength 1000000001||2|words refused;
+displacement --wavelength 1 --x 4096||2|words refused;
+displacement --wavelength 1 --y 4096||2|words refused;
+displacement --wavelength 1 --block 0||2|words refused;
+displacement --wavelength 1 --block 65||2|words refused;
 ";
 
 /// What a text of the table stands for.
@@ -223,6 +301,6 @@ fn rows_are_answered(rt: HostRuntime) -> Result<(), Fail> {
     for row in ROWS.lines() {
         count = count.saturating_add(judge(&rt, row)?);
     }
-    assert!(rt; count == 118);
+    assert!(rt; count == 185);
     Ok(())
 }

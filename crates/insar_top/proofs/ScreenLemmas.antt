@@ -1,0 +1,18 @@
+-- A session that was read, and the same with a screened first mask.
+use Rattle.std.proofs.Common.{refl}
+use Rattle.std.specs.Prelude.{IfSome}
+use Rattle.insar_ports.proofs.CallLemmas.{at_told, if_told}
+use Rattle.raster_model.specs.declared.session.Session.{Session}
+use Rattle.session_script.specs.Sessions.{session_of}
+use Rattle.session_script.specs.Text.{session_text}
+use Rattle.insar_words.specs.declared.screening.Screening.{Screening}
+use Rattle.insar_words.specs.declared.request.Request.TheVariants.{Screen}
+use Rattle.insar_top.specs.Answers.{IsAnswerTo, IsUsedUp}
+use Rattle.insar_top.specs.Run.{ReadsAll, Run}
+use Rattle.insar_top.specs.Screen.{HasScreenedMask, screen_terms}
+use Rattle.insar_top.specs.Unwrap.{IsInput}
+
+-- it answers
+pub screen_ready : (s : Screening) (r : Run) (session screened : Session) → ReadsAll r.told r.left (λ bytes. IsInput s.side bytes (session_of session)) → HasScreenedMask (screen_terms s) session screened
+    → IfSome r.told (λ bytes. IsAnswerTo (Screen s) bytes 0 (session_text (session_of screened)) × IsUsedUp (Screen s) r)
+screen_ready s r session screened read changed = if_told r.told _ (λ bytes t. let h = at_told r.told _ bytes t read in ((refl, record { session = session; screened = screened; spelled = h.0; changed = changed; written = refl }), h.1))

@@ -2,25 +2,29 @@
 """Compares `displacement` with exact integers on random grids: displacement.py [COUNT [SEED]].
 
 A grid has NODATA and values up to the ends of 64 bits; wavelengths, reference pixels and blocks are random, too. What the
-program writes is compared byte for byte with what is computed here from docs/FORMATS.md, and so are its refusals: a broken
-line, a reference pixel without a value, and a block whose displacement cannot be written.
+program writes is compared byte for byte with what is computed here from docs/FORMATS.md, and so are its refusals: words beyond
+their ranges, a broken line, bytes after the grid, a reference pixel without a value, and a block whose displacement cannot be
+written.
 
 First the rows that were worked out by hand are computed. COUNT is 1000 and SEED 7 if they are not given; with COUNT 0 only the
 rows are computed, and no program is needed. UNWRAP names another program than the built one. The last line is 'N passed, M
 failed'; the status is 1 if one failed.
 """
-import pathlib
 import random
 import sys
-from typing import NamedTuple
+from typing import NamedTuple, Sequence
 
-sys.path.insert(0, str(pathlib.Path(__file__).resolve().parent / "hostile"))
-from running import Ended, run, tried_program  # noqa: E402
+import trying
+from mutation import Case, altered
+from reading import Refused, read_grids
+from running import Ended
+from trying import Option
 
 NODATA = -(2**63)
 GREATEST = 2**63 - 1
 # A wavelength is two cycles of 65536 units each.
 UNITS = 2 * 65536
+OPTIONS = {"wavelength": Option(1, 10**9, None), "x": Option(0, 4095), "y": Option(0, 4095), "block": Option(1, 64, 1)}
 
 Grid = list[list[int]]
 
@@ -34,10 +38,6 @@ class Sight(NamedTuple):
     block: int = 1
 
 
-class Refused(Exception):
-    """The line that refuses an input."""
-
-
 def displacement(rows: Grid, sight: Sight, reference: int, x: int, y: int) -> int:
     """What is written for the block in column x and row y."""
     side = sight.block
@@ -48,30 +48,34 @@ def displacement(rows: Grid, sight: Sight, reference: int, x: int, y: int) -> in
     # Python's // rounds towards minus infinity.
     mean = sight.wavelength * (sum(values) - len(values) * reference) // (UNITS * len(values))
     if not NODATA < mean <= GREATEST:
-        raise Refused(f"input fault 23 wide {x} {y}\n")
+        raise Refused(f"input fault 23 wide {x} {y}")
     return mean
 
 
 def displacements(rows: Grid, sight: Sight) -> Grid:
     """The displacements of all blocks."""
     if sight.y >= len(rows) or sight.x >= len(rows[0]) or rows[sight.y][sight.x] == NODATA:
-        raise Refused("input fault 24 reference\n")
+        raise Refused("input fault 24 reference")
     reference = rows[sight.y][sight.x]
     columns, lines = range(0, len(rows[0]), sight.block), range(0, len(rows), sight.block)
     return [[displacement(rows, sight, reference, x, y) for x in range(len(columns))] for y in range(len(lines))]
 
 
 def text_of(rows: Grid) -> bytes:
+    """The text of a grid."""
     head = f"ncols {len(rows[0])}\nnrows {len(rows)}\nxllcorner 0\nyllcorner 0\ncellsize 1\nNODATA_value {NODATA}\n"
     return (head + "".join(" ".join(map(str, row)) + "\n" for row in rows)).encode()
 
 
-def wanted(rows: Grid, sight: Sight) -> Ended:
-    """How the program has to end on a grid."""
+def wanted(words: Sequence[str], data: bytes) -> Ended:
+    """How a run has to end."""
+    numbers = trying.numbers_of(words[1:], OPTIONS)
+    if numbers is None:
+        return trying.WORDS_REFUSED
     try:
-        return Ended(0, text_of(displacements(rows, sight)), b"")
+        return Ended(0, text_of(displacements(read_grids(data, 1)[0], Sight(**numbers))), b"")
     except Refused as why:
-        return Ended(3, b"", str(why).encode())
+        return Ended(3, b"", f"{why}\n".encode())
 
 
 def random_value(dice: random.Random, width: int) -> int:
@@ -100,16 +104,15 @@ def random_sight(dice: random.Random, rows: Grid) -> Sight:
     return Sight(wavelength, x, y, dice.choice((1, 1, 2, 3, 8, 63, 64, dice.randint(1, 64))))
 
 
-def spoiled(dice: random.Random, text: bytes) -> tuple[bytes, Ended]:
-    """A text with a broken line, and how the program has to end on it."""
-    lines = text.splitlines()
-    place = dice.randrange(len(lines))
-    lines[place] = dice.choice((lines[place] + b" ", b" " + lines[place], lines[place] + b"x", b""))
-    return b"\n".join(lines) + b"\n", Ended(3, b"", b"input fault 19 grid 1 line %d\n" % (place + 1))
-
-
-def words_of(sight: Sight) -> list[str]:
-    return ["displacement", *(word for name, value in sight._asdict().items() for word in ("--" + name, str(value)))]
+def random_case(dice: random.Random) -> Case:
+    """Now and then with a broken text, or without a wavelength."""
+    rows = random_grid(dice)
+    numbers = random_sight(dice, rows)._asdict()
+    if dice.random() < 0.02:
+        del numbers["wavelength"]
+    data = text_of(rows)
+    words = trying.words_of(dice, "displacement", numbers, OPTIONS)
+    return Case(words, altered(dice, data, ()) if dice.random() < 0.1 else data)
 
 
 def try_the_rows() -> None:
@@ -117,33 +120,15 @@ def try_the_rows() -> None:
     row = [[0, -25536, -51072, -76608]]
     assert displacements(row, Sight(56_000_000)) == [[0, -10910157, -21820313, -32730469]]
     assert displacements(row, Sight(56_000_000, block=2)) == [[-5455079, -27275391]]
-    assert wanted(row, Sight(56_000_000, x=4)) == (3, b"", b"input fault 24 reference\n")
-    assert wanted([[1, NODATA + 1]], Sight(UNITS)) == (3, b"", b"input fault 23 wide 1 0\n")
+    waves = ["displacement", "--wavelength", "56000000"]
+    assert wanted([*waves, "--x", "4"], text_of(row)) == (3, b"", b"input fault 24 reference\n")
+    assert wanted(["displacement"], text_of(row)) == (2, b"", b"words refused\n")
+    assert wanted([*waves, "--block", "65"], text_of(row)) == wanted([*waves, "--x", "4096"], b"") == wanted(["displacement"], b"")
+    assert wanted(["displacement", "--wavelength", str(UNITS)], text_of([[1, NODATA + 1]])) == (3, b"", b"input fault 23 wide 1 0\n")
+    assert wanted(waves, text_of(row) * 2) == (3, b"", b"input fault 22 after grids byte 108\n")
+    assert wanted(waves, text_of(row)[:-1]) == (3, b"", b"input fault 19 grid 1 line 7\n")
     assert text_of([[NODATA, 200]]).endswith(b"cellsize 1\nNODATA_value -9223372036854775808\n-9223372036854775808 200\n")
 
 
-def main() -> int:
-    if len(sys.argv) > 3 or not all(word.isdigit() for word in sys.argv[1:]):
-        print("displacement.py: the words are [COUNT [SEED]], as in displacement.py 1000 7", file=sys.stderr)
-        return 2
-    count, seed = (int(number) for number in sys.argv[1:] + ["1000", "7"][len(sys.argv) - 1 :])
-    try_the_rows()
-    program = tried_program() if count else ""
-    failed = 0
-    for number in range(count):
-        dice = random.Random(f"displacement {seed} {number}")
-        rows = random_grid(dice)
-        sight = random_sight(dice, rows)
-        text, end = text_of(rows), wanted(rows, sight)
-        if dice.random() < 0.05:
-            text, end = spoiled(dice, text)
-        done = run(program, words_of(sight), text)
-        if done != end:
-            failed += 1
-            print(f"grid {number} of the seed {seed}, {sight}: {done.status} {done.out[:80]!r} {done.err!r}", flush=True)
-    print(f"{count - failed} passed, {failed} failed")
-    return int(failed > 0)
-
-
 if __name__ == "__main__":
-    sys.exit(main())
+    sys.exit(trying.main("displacement", wanted, random_case, try_the_rows))

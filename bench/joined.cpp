@@ -1,6 +1,7 @@
 // The same job without proofs, over LEMON: reads planes of phase, weights and mask from standard input, solves the network of
 // each tile and then that of the seams by LEMON's network simplex on the same costs, and writes the grid. The words are the
-// tile side, and the slopes to the right and downwards that are expected, if there are. Times go to standard error.
+// tile side, the slopes to the right and downwards that are expected, if there are, and then how many times as much as the first
+// cycle of a departure each further one costs. Times go to standard error.
 #include <algorithm>
 #include <charconv>
 #include <chrono>
@@ -21,6 +22,7 @@ static int wrapped(int from, int to) { return static_cast<std::int16_t>(static_c
 struct Raster {
   int width, height, side;
   int across = 0, down = 0;  // the expected slopes
+  int steep = 1;
   Plane phase, weights, mask;
   std::vector<std::int32_t> cycles;
   std::vector<std::int32_t> regions;
@@ -57,7 +59,8 @@ struct Corrections {
   std::vector<std::int32_t> right, down;
 };
 
-// One arc each way across each inner edge, between the cells on its two sides; beyond the window lies one node.
+// One arc each way across each inner edge, between the cells on its two sides, or two if further units cost more than the first;
+// beyond the window lies one node.
 static void correct(const Raster &raster, const Window &w, Corrections &corrections) {
   int columns = w.columns(), rows = w.rows(), width = w.right - w.left;
   corrections.right.assign(std::size_t(width) * (w.bottom - w.top), 0);
@@ -81,12 +84,20 @@ static void correct(const Raster &raster, const Window &w, Corrections &correcti
     return graph.nodeFromId(is_inside ? y * columns + x : int(outside));
   };
   std::vector<int> costs;
+  std::vector<std::int64_t> capacities;
   std::vector<std::int32_t *> places;
-  auto cross = [&](Graph::Node from, Graph::Node to, int cost, std::int32_t &place) {
+  auto pair = [&](Graph::Node from, Graph::Node to, int cost, std::int64_t capacity, std::int32_t &place) {
     graph.addArc(from, to);
     graph.addArc(to, from);
     costs.push_back(cost);
+    capacities.push_back(capacity);
     places.push_back(&place);
+  };
+  std::int64_t many = std::int64_t(supply.size());
+  auto cross = [&](Graph::Node from, Graph::Node to, int weight, std::int32_t &place) {
+    bool is_steep = raster.steep > 1 && weight > 0;
+    pair(from, to, weight, is_steep ? 1 : many, place);
+    if (is_steep) pair(from, to, raster.steep * weight, many, place);
   };
   for (int y = 0; y <= rows; ++y)
     for (int x = 0; x <= columns; ++x) {
@@ -96,13 +107,16 @@ static void correct(const Raster &raster, const Window &w, Corrections &correcti
     }
   Graph::NodeMap<std::int64_t> supplies(graph);
   for (std::size_t k = 0; k < supply.size(); ++k) supplies[graph.nodeFromId(k)] = supply[k];
-  Graph::ArcMap<std::int64_t> arc_costs(graph);
-  for (std::size_t k = 0; k < costs.size(); ++k)
+  Graph::ArcMap<std::int64_t> arc_costs(graph), arc_capacities(graph);
+  for (std::size_t k = 0; k < costs.size(); ++k) {
     arc_costs[graph.arcFromId(2 * k)] = arc_costs[graph.arcFromId(2 * k + 1)] = costs[k];
+    arc_capacities[graph.arcFromId(2 * k)] = arc_capacities[graph.arcFromId(2 * k + 1)] = capacities[k];
+  }
   Simplex simplex(graph);
+  if (raster.steep > 1) simplex.upperMap(arc_capacities);
   if (simplex.costMap(arc_costs).supplyMap(supplies).run() != Simplex::OPTIMAL) std::exit(1);
   for (std::size_t k = 0; k < costs.size(); ++k)
-    *places[k] = std::int32_t(simplex.flow(graph.arcFromId(2 * k)) - simplex.flow(graph.arcFromId(2 * k + 1)));
+    *places[k] += std::int32_t(simplex.flow(graph.arcFromId(2 * k)) - simplex.flow(graph.arcFromId(2 * k + 1)));
 }
 
 // Whole cycles of a tile whose departures are the corrections, 0 at its first pixel.
@@ -176,8 +190,9 @@ static std::vector<Seam> seams_of(const Raster &raster) {
   return joined;
 }
 
-// The flow of a seam lies from minus its weight to its weight. It starts at the end at which it costs least, counted as supply,
-// so that no arc costs less than 0; where the surface does not depart it starts at 0. The offsets are the potentials.
+// The flow of a seam lies from minus its weight to its weight, and each unit costs the departure; up to Q times the weight, for the
+// steepness Q, a unit costs one less or one more. It starts at the end at which it costs least, counted as supply, so that no arc
+// costs less than 0; where the surface does not depart it starts at 0. The offsets are the potentials.
 static std::vector<std::int64_t> offsets_of(const Raster &raster) {
   std::vector<Seam> seams = seams_of(raster);
   std::vector<std::int64_t> offsets(raster.region_count, 0), supply(raster.region_count, 0);
@@ -189,13 +204,18 @@ static std::vector<std::int64_t> offsets_of(const Raster &raster) {
   std::vector<Arc> arcs;
   for (const Seam &seam : seams) {
     int from = seam.departure > 0 ? seam.to : seam.from, to = seam.departure > 0 ? seam.from : seam.to;
-    if (seam.departure == 0) {
-      arcs.push_back({from, to, 0, seam.weight});
-      arcs.push_back({to, from, 0, seam.weight});
+    std::int64_t cycles = std::abs(seam.departure), further = (raster.steep - 1) * seam.weight;
+    auto lane = [&](int tail, int head, std::int64_t cost, std::int64_t capacity) {
+      if (capacity > 0) arcs.push_back({tail, head, cost, capacity});
+    };
+    if (cycles == 0) {
+      lane(from, to, 0, seam.weight), lane(to, from, 0, seam.weight);
+      lane(from, to, 1, further), lane(to, from, 1, further);
     } else {
-      arcs.push_back({from, to, std::abs(seam.departure), 2 * seam.weight});
-      supply[from] += seam.weight;
-      supply[to] -= seam.weight;
+      lane(from, to, cycles, 2 * seam.weight);
+      lane(from, to, cycles - 1, further), lane(from, to, cycles + 1, further);
+      supply[from] += seam.weight + further;
+      supply[to] -= seam.weight + further;
     }
   }
   std::sort(arcs.begin(), arcs.end(), [](const Arc &a, const Arc &b) { return std::tie(a.from, a.to) < std::tie(b.from, b.to); });
@@ -243,6 +263,7 @@ int main(int count, char **words) {
   Raster raster;
   raster.side = count > 1 ? std::atoi(words[1]) : 64;
   if (count > 3) raster.across = std::atoi(words[2]), raster.down = std::atoi(words[3]);
+  if (count > 4) raster.steep = std::atoi(words[4]);
   if (!read_plane(raster.phase)) return 3;
   raster.width = raster.phase.width;
   raster.height = raster.phase.height;

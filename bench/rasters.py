@@ -10,9 +10,10 @@ trial-SEED-SIZE
     The planes of the command `trial SEED WIDTH HEIGHT`: random phases on a slope, random weights from 1 to 256, and one
     pixel in sixteen masked, all from a linear congruential generator (Knuth's multiplier of 64 bits). 12 % of the cells
     have a residue.
-hills-SEED-SIZE-LEVEL, mogi-SEED-SIZE-LEVEL, fractal-SEED-SIZE-LEVEL
-    Smooth hills, a point source that swells (Mogi 1958) on a ramp, or a fractal field, with noise by coherence
-    (Cramer-Rao bound, one look). LEVEL is low, medium or high: 0.5, 5 or 20 % of the cells have a residue. The weights are
+hills-SEED-SIZE-LEVEL, mogi-SEED-SIZE-LEVEL, fractal-SEED-SIZE-LEVEL, fault-SEED-SIZE-LEVEL, fold-SEED-SIZE-LEVEL
+    Smooth hills, a point source that swells (Mogi 1958) on a ramp, a fractal field, hills that a fault breaks by up to 3.4
+    cycles from one pixel to the next, or hills with ridges whose near side lies over (4 cycles within 5 pixels), with noise
+    by coherence (Cramer-Rao bound, one look), which is lost along the fault and low on the near sides. LEVEL is low, medium or high: 0.5, 5 or 20 % of the cells have a residue. The weights are
     the square of an estimate of the coherence, 1 to 255; the least coherent 6 % of the pixels are masked.
 
 With GX and GY, whole numbers, the phases rise by these units a pixel more to the right and downwards. By --ramp-x and --ramp-y of
@@ -29,7 +30,7 @@ import numpy as np
 CYCLE = 65536  # units in a cycle
 MAX_SIDE, MAX_PIXELS = 4096, 4194304
 SLOPES = {"slope": (300, 700), "gentle": (30, 20), "flat": (0, 0)}  # units a pixel to the right, and downwards
-FIELDS = ("hills", "mogi", "fractal")
+FIELDS = ("hills", "mogi", "fractal", "fault", "fold")
 LEVELS = {"low": 0.005, "medium": 0.05, "high": 0.20}  # of the cells
 MULTIPLIER, INCREMENT, WORD = 6364136223846793005, 1442695040888963407, 2**64
 NAME = re.compile(
@@ -100,10 +101,25 @@ def random_field(random: np.random.Generator, width: int, height: int, scale: fl
     return field / field.std()
 
 
+def torn(kind: str, width: int, height: int) -> tuple[np.ndarray, np.ndarray]:
+    """What a fault or ridges add to hills, in cycles, and the share of the coherence that is left there."""
+    y, x = np.mgrid[0:height, 0:width].astype(np.float64)
+    size = max(width, height)
+    if kind == "fault":
+        away = y - (0.5 * height + 0.12 * (x - 0.5 * width))
+        slip = 3.4 * np.clip(np.minimum(x / width - 0.15, 0.85 - x / width) / 0.2, 0, 1)
+        return slip / 2 * np.where(away > 0, 1, -1) * np.exp(-np.abs(away) / (0.15 * size)), 1 - 0.9 * np.exp(-((away / 2) ** 2))
+    behind = np.stack([x - width * place - 0.03 * size * np.sin(5 * y / height) for place in (0.25, 0.5, 0.75)])
+    rise = np.clip(behind / 5, 0, 1) * np.exp(-np.maximum(behind, 0) / (0.08 * size))
+    return 4 * rise.sum(axis=0), np.where(((behind > 0) & (behind < 6)).any(axis=0), 0.4, 1.0)
+
+
 def field(kind: str, random: np.random.Generator, width: int, height: int) -> np.ndarray:
     """The surface without noise, in cycles."""
     y, x = np.mgrid[0:height, 0:width].astype(np.float64)
     size = max(width, height)
+    if kind in ("fault", "fold"):
+        return field("hills", random, width, height) + torn(kind, width, height)[0]
     if kind == "hills":
         heights = np.zeros((height, width))
         for _ in range(14):
@@ -127,6 +143,8 @@ def noisy(kind: str, seed: int, width: int, height: int, level: str) -> Raster:
     cycles = field(kind, random, width, height)
     rough = random_field(random, width, height, 12) * 0.5 + random_field(random, width, height, 90)
     coherence = np.clip(1 / (1 + np.exp(-(0.9 + 1.1 * rough))), 0.05, 0.99)  # mean about 0.67
+    if kind in ("fault", "fold"):
+        coherence = np.clip(coherence * torn(kind, width, height)[1], 0.05, 0.99)
     deviation = np.minimum(np.sqrt((1 - coherence**2) / (2 * coherence**2)), 8) / (2 * np.pi)  # Cramer-Rao, one look
     noise = random.standard_normal((height, width)) * deviation
 

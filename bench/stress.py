@@ -2,13 +2,14 @@
 """Runs random sessions by 1, 2 and 8 workers and judges each report: stress.py PROGRAM [COUNT [SEED]].
 
 A session has up to eight analysts and a small raster with weights, a mask, tiles of some side and one of the rules. Two of
-three have an expected ramp, about which differences are wrapped. How threads take turns decides which history is reported, so
-a report is not compared with another: it is judged by itself. It has version 2 exactly if there is a ramp. Its entries have to be a legal and complete history of the session, and each surface that is published has to be certified at
+three have an expected ramp, about which differences are wrapped, and half a steepness above 1, by which each further cycle of
+a departure costs more than its first. How threads take turns decides which history is reported, so
+a report is not compared with another: it is judged by itself. It has version 2 exactly if there is a ramp or a steepness. Its entries have to be a legal and complete history of the session, and each surface that is published has to be certified at
 the mask of its revision: congruent with the phase at open pixels and NODATA at masked ones, equal to the phase at the first
 open pixel, with faces and flows that prove that no other surface, and no other offsets, cost less, and with its true costs.
 The judge is written from docs/DEFINITIONS.md and docs/FORMATS.md, and shares no code with the program.
 
-First the judge is tried on four reports by hand and on spoiled copies of them; without PROGRAM nothing else is done. The last
+First the judge is tried on five reports by hand and on spoiled copies of them; without PROGRAM nothing else is done. The last
 line is 'N passed, M failed', for sessions; the status is 1 where one failed.
 """
 import random
@@ -34,24 +35,29 @@ def demand(holds, why):
 class Session:
     """Planes as lists in row order, and for each analyst a list of commands: ('mask', x0, y0, x1, y1), 'settle', ..
 
-    `ramp` has the slopes to the right and downwards that are expected, from -32768 to 32767, in units a pixel.
+    `ramp` has the slopes to the right and downwards that are expected, from -32768 to 32767, in units a pixel; `steep`, from 1
+    to 16, is how many times as much as the first cycle of a departure each further one costs.
     """
 
-    def __init__(self, width, height, phase, weights, maxval, opened, side, rule, scripts, ramp=(0, 0)):
+    def __init__(self, width, height, phase, weights, maxval, opened, side, rule, scripts, ramp=(0, 0), steep=1):
         self.width, self.height, self.phase = width, height, phase
         self.weights, self.maxval, self.opened = weights, maxval, opened
-        self.side, self.rule, self.scripts, self.ramp = side, rule, scripts, ramp
+        self.side, self.rule, self.scripts, self.ramp, self.steep = side, rule, scripts, ramp, steep
 
     def options(self):
-        """The words of the side, the rule and the ramp. A slope below 0 is told by 65536 more."""
+        """The words of the side, the rule, the ramp and the steepness. A slope below 0 is told by 65536 more."""
         found = ["--tile", str(self.side), "--rule", self.rule]
         for name, slope in zip(("--ramp-x", "--ramp-y"), self.ramp):
             found += [name, str(slope % CYCLE)] if slope else []
-        return found
+        return found + (["--steep", str(self.steep)] if self.steep > 1 else [])
 
     def is_plain(self):
-        """Whether no ramp is expected, so that a report of version 1 can be of this session."""
-        return self.ramp == (0, 0)
+        """Whether no ramp is expected and all cycles cost the same, so that a report of version 1 can be of this session."""
+        return self.ramp == (0, 0) and self.steep == 1
+
+    def steps(self, cycles):
+        """What a departure of so many cycles counts for."""
+        return abs(cycles) and 1 + self.steep * (abs(cycles) - 1)
 
     def tile(self, x, y):
         return y // self.side * (-(-self.width // self.side)) + x // self.side
@@ -200,7 +206,7 @@ def judge_surface(session, opened, surface):
         demand(rest % CYCLE == 0, "a departure is no whole cycle")
         return rest // CYCLE
 
-    costs = [0] * session.tiles()
+    costs, above = [0] * session.tiles(), [0] * session.tiles()
     seams, seam_cost, bound = [], 0, 0
     labels, count = session.regions(opened)
     balance = [0] * count
@@ -212,22 +218,25 @@ def judge_surface(session, opened, surface):
     for edge in session.edges():
         x, y, u, v = edge
         weight = session.weight(opened, *edge)
-        turned = abs(departure(*edge)) if is_open(x, y) and is_open(u, v) else 0
+        counted = weight * session.steps(departure(*edge)) if is_open(x, y) and is_open(u, v) else 0
         tile = session.tile(x, y)
         if tile == session.tile(u, v):
-            costs[tile] += weight * turned
+            costs[tile] += counted
             here = faces[tile].get((x, y), 0)
             there = faces[tile].get((x, y - 1) if u > x else (x - 1, y), 0)
-            demand(abs(here - there) <= weight, f"tile {tile} face {edge}")
+            demand(abs(here - there) <= session.steep * weight, f"tile {tile} face {edge}")
+            above[tile] += max(abs(here - there) - weight, 0)
         else:
-            seam_cost += weight * turned
+            seam_cost += counted
             seams.append(edge)
     for tile, cells in enumerate(faces):
-        proved = sum(face * session.residue(x, y) for (x, y), face in cells.items())
+        proved = sum(face * session.residue(x, y) for (x, y), face in cells.items()) - above[tile]
         demand(proved == costs[tile], f"tile {tile} costs {costs[tile]} and {proved} is proved")
     demand(len(surface.flows) == len(seams), "seams shape")
     for (x, y, u, v), flow in zip(seams, surface.flows):
-        demand(abs(flow) <= session.weight(opened, x, y, u, v), f"flow {x, y, u, v}")
+        weight = session.weight(opened, x, y, u, v)
+        demand(abs(flow) <= session.steep * weight, f"flow {x, y, u, v}")
+        bound -= max(abs(flow) - weight, 0)
         if is_open(x, y) and is_open(u, v):
             balance[session.at(labels, x, y)] -= flow
             balance[session.at(labels, u, v)] += flow
@@ -290,10 +299,10 @@ class History:
 
 
 def head_of(session, version):
-    """The first lines of a report of a session. Version 1 is of no ramp, and does not tell it."""
+    """The first lines of a report of a session. Version 1 is of no ramp and no steepness, and does not tell them."""
     found = [b"insar-report %d" % version, b"size %d %d" % (session.width, session.height)]
     found += [b"tile %d" % session.side, b"rule %s" % session.rule.encode()]
-    return found if version == 1 else found + [b"ramp %d %d" % session.ramp, b"steep 1"]
+    return found if version == 1 else found + [b"ramp %d %d" % session.ramp, b"steep %d" % session.steep]
 
 
 def judge(session, text):
@@ -302,7 +311,7 @@ def judge(session, text):
     version = 2 if text.startswith(b"insar-report 2\n") else 1
     for line in head_of(session, version):
         lines.expect(line)
-    demand(version == 2 or session.is_plain(), "a report of version 1 has no ramp")
+    demand(version == 2 or session.is_plain(), "a report of version 1 has no ramp and no steepness")
     history = History(session)
     while (line := lines.next()) != b"end":
         word, *fields = line.split(b" ")
@@ -382,6 +391,7 @@ def random_session(dice):
         dice.choice(("least", "mean", "product")),
         random_scripts(dice, width, height),
         ramp,
+        dice.choice((1, 1, 1, 1, 2, 3, 4, dice.randint(1, 16))),
     )
 
 
@@ -497,6 +507,45 @@ shown 1 0
 end
 """
 
+# Two tiles beside each other whose seam has edges of weight 9, 1 and 4. Departures of 0, 1 and 2 cost 1 + 4 * 2 without steepness,
+# which is the least, and 1 + 4 * (1 + 3) with the steepness 3, where -1, 0 and 1 cost 9 + 4.
+TORN = Session(
+    4,
+    3,
+    [0, 0, 0, 0, 33536, 33536, 33536, 32000, 1536, 1536, 1536, 64000],
+    [9] * 4 + [1] * 4 + [4] * 4,
+    9,
+    [1] * 12,
+    3,
+    "least",
+    [["settle"]],
+    steep=3,
+)
+TORN_REPORT = b"""insar-report 2
+size 4 3
+tile 3
+rule least
+ramp 0 0
+steep 3
+kept 0 0
+kept 1 0
+published 1 0
+costs 0 13
+ncols 4
+nrows 3
+xllcorner 0
+yllcorner 0
+cellsize 1
+NODATA_value -9223372036854775808
+0 0 0 -65536
+-32000 -32000 -32000 -33536
+-64000 -64000 -64000 -1536
+faces 0 0 0 0 0
+faces 1
+flows -9 0 9
+end
+"""
+
 
 def second_version(report):
     """A report of version 1 as one of version 2, which is not written, and right."""
@@ -529,17 +578,20 @@ SPOILED = [
     (STEEP, STEEP_REPORT, b"ramp 30000 0", b"ramp 29999 0", "line 5 is"),
     (STEEP, STEEP_REPORT, b"steep 1", b"steep 2", "line 6 is"),
     (STEEP, STEEP_REPORT, b"steep 1\n", b"", "line 6 is"),
-    (STEEP, STEEP_REPORT, b"report 2", b"report 1", "version 1 has no ramp"),
+    (STEEP, STEEP_REPORT, b"report 2", b"report 1", "version 1 has no ramp and"),
     (OPEN, OPEN_REPORT, b"-16384 32768", b"49152 32768", "costs 6 and 0 is proved"),
+    (TORN, TORN_REPORT, b"flows -9 0 9", b"flows -5 1 4", "the seams cost 13 and 9 is proved"),
+    (TORN, TORN_REPORT, b"flows -9 0 9", b"flows -13 0 13", "flow (2, 2, 3, 2)"),
+    (TORN, TORN_REPORT, b"steep 3", b"steep 1", "line 6 is"),
     (LINE, second_version(LINE_REPORT), b"ramp 0 0", b"ramp 0 1", "line 5 is"),
     (LINE, second_version(LINE_REPORT), b"ramp 0 0\nsteep 1\n", b"", "line 5 is"),
 ]
 
 
 def try_the_judge():
-    for session, report in ((LINE, LINE_REPORT), (TURN, TURN_REPORT), (STEEP, STEEP_REPORT), (OPEN, OPEN_REPORT)):
+    for session, report in ((LINE, LINE_REPORT), (TURN, TURN_REPORT), (STEEP, STEEP_REPORT), (OPEN, OPEN_REPORT), (TORN, TORN_REPORT)):
         judge(session, report)
-        assert session.is_plain() or session.options()[4:] == ["--ramp-x", "30000"]
+        assert session.is_plain() or session.options()[4:] in (["--ramp-x", "30000"], ["--steep", "3"])
     judge(LINE, second_version(LINE_REPORT))
     judge(TURN, second_version(TURN_REPORT))
     for session, report, old, new, word in SPOILED:

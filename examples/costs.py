@@ -1,12 +1,13 @@
 #!/usr/bin/env python3
-"""Checks a grid against its input, and prints what it costs: costs.py INPUT GRID TILE_SIDE [TILE_COST [GX GY]].
+"""Checks a grid against its input, and prints what it costs: costs.py INPUT GRID TILE_SIDE [TILE_COST [GX GY [STEEP]]].
 
 INPUT has a phase plane, and then weights and mask if they are there. The grid must have the input's size, NODATA exactly
 at masked pixels, the phase up to whole cycles at open ones, and the phase itself at the first of them. The weight of an
 edge is the lesser of its pixels' weights. It prints how many cells have a residue, what all tiles cost, and what the
 seams cost. It ends with 1 where the grid is wrong, or where its tiles do not cost TILE_COST (any number if that is -). GX and
-GY are the slopes to the right and downwards that are expected, in 1/65536 cycle a pixel: differences are wrapped about them. It
-shares nothing with the program; that no other surface costs less it cannot tell.
+GY are the slopes to the right and downwards that are expected, in 1/65536 cycle a pixel: differences are wrapped about them.
+STEEP is how many times as much as the first cycle of a departure each further one costs, 1 if it is not given. It shares
+nothing with the program; that no other surface costs less it cannot tell.
 """
 import re
 import sys
@@ -50,7 +51,7 @@ def residues(width, height, phase, across, down):
     return total
 
 
-def costs(width, height, side, phase, weights, mask, surface, across, down):
+def costs(width, height, side, phase, weights, mask, surface, across, down, steep):
     """Of the tiles, and of the seams."""
     tiles = seams = 0
     for p in range(width * height):
@@ -58,7 +59,7 @@ def costs(width, height, side, phase, weights, mask, surface, across, down):
         for q, place, size, slope in ((p + 1, x + 1, width, across), (p + width, y + 1, height, down)):
             if place < size and mask[p] and mask[q]:
                 departure = (surface[q] - surface[p] - wrapped(phase[p], phase[q], slope)) // 65536
-                cost = min(weights[p], weights[q]) * abs(departure)
+                cost = min(weights[p], weights[q]) * (abs(departure) and 1 + steep * (abs(departure) - 1))
                 if place % side == 0:
                     seams += cost
                 else:
@@ -82,7 +83,8 @@ def main():
     first = next((p for p in range(width * height) if mask[p]), None)
     if first is not None and surface[first] != phase[first]:
         sys.exit("the first open pixel has not its phase")
-    tiles, seams = costs(width, height, side, phase, weights, mask, surface, *ramp)
+    steep = int((sys.argv[7:8] or [1])[0])
+    tiles, seams = costs(width, height, side, phase, weights, mask, surface, *ramp, steep)
     cells = (width - 1) * (height - 1)
     print(f"residues {residues(width, height, phase, *ramp)} of {cells} cells, tile cost {tiles}, seam cost {seams}")
     if sys.argv[4:5] not in ([], ["-"]) and int(sys.argv[4]) != tiles:

@@ -6,7 +6,7 @@ import subprocess
 import time
 
 import wanted
-from rows import MEMORY, READ, SIGNAL, USES, WORDS, WRITE, End, Row, row
+from rows import MEMORY, READ, READERS, SIGNAL, USES, WORDS, WRITE, End, Row, board, files, row
 from running import Ended
 from wanted import NOTHING, exactly
 
@@ -54,11 +54,11 @@ def ended(done, begun=b""):
     return Ended(status_of(done), begun + out, err)
 
 
-def signalled(words, number, then=None):
-    """Runs the program on the file large, and sends a signal while a slow reader reads; now and then another after it."""
+def signalled(use, number, then=None):
+    """Runs a command on its large input, and sends a signal while a slow reader reads; now and then another after it."""
 
     def run(program, folder):
-        with open(os.path.join(folder, "large"), "rb") as source, start(program, words, source) as done:
+        with open(os.path.join(folder, use.file), "rb") as source, start(program, use.words.split(), source) as done:
             begun = read_slowly(done.stdout, 20)
             done.send_signal(number)
             time.sleep(0.1)
@@ -69,12 +69,14 @@ def signalled(words, number, then=None):
     return run
 
 
-def signalled_early(words, number):
-    """Sends a signal while the program waits for input that stays away."""
+def signalled_early(use, number):
+    """Sends a signal while the program waits for input that stays away but for a part."""
 
     def run(program, folder):
-        with start(program, words, subprocess.PIPE) as done:
-            done.stdin.write(b"P5\n4 1\n65535\n\0\0")
+        with open(os.path.join(folder, use.file), "rb") as source:
+            begun = source.read(14)
+        with start(program, use.words.split(), subprocess.PIPE) as done:
+            done.stdin.write(begun)
             time.sleep(0.2)
             done.send_signal(number)
             return ended(done)
@@ -84,17 +86,19 @@ def signalled_early(words, number):
 
 def signal_rows(large):
     """A signal ends the program, and what was written is the start of the answer; a stop in between changes nothing."""
-    for name, data in large.items():
-        words, command = (name, "--workers", "1"), f"$P {name} --workers 1 <large | a slow reader"
+    for use in large:
+        command = f"$P {use.words} <{use.file} | a slow reader"
         for number in ENDING:
-            made = row(f"{name}: {number.name} amid writing", command, SIGNAL + number, wanted.some_prefix(data, 1), NOTHING)
-            yield made._replace(run=signalled(words, number))
-        made = row(f"{name}: stopped amid writing and continued", command, 0, data, NOTHING)
-        yield made._replace(run=signalled(words, signal.SIGSTOP, signal.SIGCONT))
-    for name in ("unwrap", "grid", "check"):
+            first = wanted.some_prefix(use.out, 1)
+            made = row(f"{use.name}: {number.name} amid writing", command, SIGNAL + number, first, NOTHING)
+            yield made._replace(run=signalled(use, number))
+        made = use.answered("stopped amid writing and continued", command)
+        yield made._replace(run=signalled(use, signal.SIGSTOP, signal.SIGCONT))
+    for use in READERS:
         for number in ENDING:
-            made = row(f"{name}: {number.name} amid reading", f"$P {name}", SIGNAL + number, NOTHING, NOTHING)
-            yield made._replace(run=signalled_early((name,), number))
+            what, command = f"{use.name}: {number.name} amid reading", f"$P {use.words} <the first 14 bytes of {use.file}"
+            made = row(what, command, SIGNAL + number, NOTHING, NOTHING)
+            yield made._replace(run=signalled_early(use, number))
     command = "timeout --preserve-status -s TERM 0.3 $P trial 7 2048 2048; exit $?"
     yield row("trial: SIGTERM amid its work", command, SIGNAL + signal.SIGTERM, NOTHING, NOTHING)
 
@@ -114,15 +118,15 @@ def unready(words):
     return run
 
 
-def overfull(words):
+def overfull(use):
     """Standard output is a pipe that does not wait and is read only after the program's end."""
 
     def run(program, folder):
         reading, writing = os.pipe()
         os.set_blocking(writing, False)
-        with open(os.path.join(folder, "large"), "rb") as source:
+        with open(os.path.join(folder, use.file), "rb") as source:
             streams = {"stdin": source, "stdout": writing, "stderr": subprocess.PIPE}
-            done = subprocess.run([program, *words], **streams, timeout=60, check=False)
+            done = subprocess.run([program, *use.words.split()], **streams, timeout=60, check=False)
         os.close(writing)
         with open(reading, "rb") as stream:
             return Ended(status_of(done), stream.read(), done.stderr)
@@ -162,16 +166,15 @@ def without_words(program, folder):
 
 def odd_stream_rows(large):
     """Streams that do not wait, input byte by byte, and no words at all, not even the program's name."""
-    for use in USES[:4]:
+    for use in READERS:
         made = use.refused("input that does not wait", f"$P {use.words} <a pipe with nothing in it", 5, READ)
         yield made._replace(run=unready(use.words.split()))
         made = use.answered("input byte by byte", f"$P {use.words} <{use.file}, slowly")
         yield made._replace(run=byte_by_byte(use.words.split(), use.file))
-    for name, data in large.items():
-        words = (name, "--workers", "1")
-        command = f"$P {name} --workers 1 <large >a full pipe"
-        made = row(f"{name}: output that does not wait", command, 6, wanted.some_prefix(data, 1), WRITE)
-        yield made._replace(run=overfull(words))
+    for use in large:
+        command = f"$P {use.words} <{use.file} >a full pipe"
+        made = row(f"{use.name}: output that does not wait", command, 6, wanted.some_prefix(use.out, 1), WRITE)
+        yield made._replace(run=overfull(use))
     made = row("no words, not even the program's name", "execv($P, {NULL})", 2, NOTHING, WORDS)
     yield made._replace(run=without_words)
 
@@ -215,6 +218,14 @@ def memory_row(limit, name, words, file, end):
     return Row(f"{name}: {limit // 1024} KiB of addresses", within(limit, words, file), ends)
 
 
+def further_memory_uses():
+    """The three commands that make no surface. The screen keeps the session as it is, which the file spells as it is written."""
+    all_files = files()
+    yield "screen", "screen --radius 8 --count 1 --patch 1", "noisy", all_files["noisy"]
+    yield "closure", "closure", "noisy-loop", board(96)[1]
+    yield "displacement", "displacement --wavelength 131072", "noisy-grid", all_files["noisy-grid"]
+
+
 def memory_uses(noisy):
     """What is run within limits: a name, words, the file, and how it ends undisturbed."""
     report, refusal = wanted.same_but_kept(noisy["unwrap"]), b"refused history 2\n"
@@ -224,6 +235,8 @@ def memory_uses(noisy):
     yield "grid", "grid --tile 32", "noisy", End(0, exactly(noisy["grid"]), NOTHING)
     yield "check", "check --tile 32", "noisy-accepted", End(0, exactly(b"accepted\n"), NOTHING)
     yield "check that refuses", "check --tile 32", "noisy-refused", End(1, exactly(refusal), NOTHING)
+    for name, words, file, out in further_memory_uses():
+        yield name, words, file, End(0, exactly(out), NOTHING)
     for use in USES:
         yield f"{use.name}, little input", use.words, use.file, End(use.status, exactly(use.out), NOTHING)
 

@@ -1,8 +1,9 @@
 """Makes inputs by changing texts: by the tokens of the formats, by lines, and by bytes."""
 import functools
+import importlib
 import random
 import re
-from typing import NamedTuple
+from typing import NamedTuple, Sequence
 
 import changed
 from reading import stress
@@ -20,12 +21,14 @@ WORDS += [b"faces", b"flows", b"#", b"#\n", b"x", b"", b"\xff", b"\0", b"end\n",
 WORDS += [b"P5 1 1 1 \1", b"P2 1 1 1 1\n"]
 SPACES = (b" ", b"\t", b"\n", b"\v", b"\f", b"\r", b"\r\n", b"  ", b"#\n", b" # by hand\n", b"\n#\r#\n", b"")
 LONGEST = 65_536
+# The commands that have a judge of their own, of the same name, in bench/.
+JUDGED = ("screen", "closure", "displacement")
 
 
 class Case(NamedTuple):
     """The words of a run and the bytes on its standard input."""
 
-    words: tuple
+    words: Sequence[str]
     data: bytes
 
 
@@ -128,7 +131,7 @@ HARSH = (6, 4, 4, 3, 4, 2, 4, 2, 1, 2, 2, 2, 2)
 MILD = (0, 6, 0, 3, 0, 0, 4, 3, 0, 3, 0, 0, 0)
 
 
-def altered(dice, data, others):
+def altered(dice: random.Random, data: bytes, others: Sequence[bytes]) -> bytes:
     """Some bytes after none to eight changes; now and then with the end of another text after a part of them."""
     if others and dice.random() < 0.05:
         other = dice.choice(others)
@@ -197,9 +200,17 @@ def checking(dice, texts, program, seed, place):
     return Case(("check", *options(dice, session.side, session.rule, 0, session.ramp)), data + report)
 
 
+def of_judge(dice, command):
+    """An input of a command that has a judge of its own (bench/screen.py and so on), mostly changed."""
+    made = importlib.import_module(command).random_case(dice)
+    return made._replace(data=altered(dice, made.data, ())) if dice.random() < 0.7 else made
+
+
 def case(program, texts, command, seed, place):
     """The input of a command with a number."""
     dice = random.Random(f"{seed} {command} {place}")
+    if command in JUDGED:
+        return of_judge(dice, command)
     if command == "check":
         return checking(dice, texts, program, seed, place)
     return solving(dice, texts, command)

@@ -1,8 +1,10 @@
 """What a run has to answer to its input, told without the program, and what is wrong with what it answered."""
+import importlib
 import re
 
 import changed
 import reading
+from mutation import JUDGED
 from reading import stress
 from running import run
 
@@ -111,6 +113,10 @@ def judge(case, done):
     demand(done.status is not None, "no end within its time")
     demand(done.status >= 0, f"signal {-done.status}")
     demand(done.err.count(b"\n") <= 1, "more than one line on standard error")
+    if case.words[0] in JUDGED:
+        end = importlib.import_module(case.words[0]).wanted(case.words, case.data)
+        demand(done == end, f"{done.err[:80]!r} and {len(done.out)} bytes in place of {end.err!r} and {len(end.out)} bytes")
+        return
     session, report, line = wanted(case)
     demand(done.err == line, f"{done.err[:80]!r} in place of {line!r}")
     if line:

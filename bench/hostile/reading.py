@@ -1,5 +1,5 @@
-"""What bytes are, by docs/FORMATS.md: the session that they spell or the line that refuses them, and the first line that no
-report has. It shares no code with the program, and is made for inputs far below the limit of bytes.
+"""What bytes are, by docs/FORMATS.md: the session or the grids that they spell or the line that refuses them, and the first line
+that no report has. It shares no code with the program, and is made for inputs far below the limit of bytes.
 """
 import pathlib
 import re
@@ -18,7 +18,7 @@ SETTLED_PIXELS, CHANGED_TILES = 67_108_864, 16_777_216
 
 
 class Refused(Exception):
-    """Bytes are no session. It carries the line of standard error, without its LF."""
+    """Bytes are no session, or no grids. It carries the line of standard error, without its LF."""
 
 
 def capped(digits):
@@ -239,6 +239,58 @@ def read_session(data, side, rule, alone, ramp=(0, 0)):
     return found, data[source.place :]
 
 
+class GridsReader:
+    """Reads grids, one after another. Grids and their lines count from 1."""
+
+    def __init__(self, data: bytes) -> None:
+        self.data, self.place, self.number, self.line = data, 0, 0, 0
+
+    def demand(self, holds: bool) -> None:
+        if not holds:
+            raise Refused(f"input fault 19 grid {self.number} line {self.line}")
+
+    def next_line(self) -> bytes:
+        """The next line, without its LF. One that the end of the input cuts is no line."""
+        self.line += 1
+        start, end = self.place, self.data.find(b"\n", self.place)
+        self.demand(end >= 0)
+        self.place = end + 1
+        return self.data[start:end]
+
+    def side(self, label: bytes) -> int:
+        match = re.fullmatch(label + b" " + PLAIN, self.next_line())
+        self.demand(match is not None and fits(match[1], 1, 4096))
+        assert match
+        return int(match[1])
+
+    def row(self, width: int) -> list[int]:
+        parts = self.next_line().split(b" ")
+        self.demand(len(parts) == width)
+        self.demand(all(stress.SIGNED.fullmatch(part) and fits(part, -(2**63), 2**63 - 1) for part in parts))
+        return [int(part) for part in parts]
+
+    def grid(self) -> list[list[int]]:
+        """The rows of the next grid."""
+        self.number, self.line = self.number + 1, 0
+        width, height = self.side(b"ncols"), self.side(b"nrows")
+        self.demand(width * height <= 4_194_304)
+        for line in (b"xllcorner 0", b"yllcorner 0", b"cellsize 1", b"NODATA_value %d" % stress.NODATA):
+            self.demand(self.next_line() == line)
+        return [self.row(width) for _ in range(height)]
+
+
+def read_grids(data: bytes, count: int) -> list[list[list[int]]]:
+    """The rows of so many grids, after which the bytes end. Raises Refused."""
+    reader, grids = GridsReader(data), []
+    for number in range(1, count + 1):
+        grids.append(reader.grid())
+        if (len(grids[-1][0]), len(grids[-1])) != (len(grids[0][0]), len(grids[0])):
+            raise Refused(f"input fault 21 grid {number} sizes")
+    if reader.place < len(data):
+        raise Refused(f"input fault 22 after grids byte {reader.place}")
+    return grids
+
+
 class Broken(Exception):
     """A text is no report. It carries the number of its first broken line, from 1."""
 
@@ -248,7 +300,7 @@ ENTRY = re.compile(
 )
 
 
-def fits(text, low, high):
+def fits(text: bytes, low: int, high: int) -> bool:
     """Whether the number of a text in plain spelling lies between two bounds."""
     return len(text) <= 40 and low <= int(text) <= high
 

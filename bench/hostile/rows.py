@@ -20,9 +20,14 @@ STEEP_GRID = b"ncols 4\nnrows 1\n" + GRID_HEAD + b"0 40000 80000 120000\n"
 OPEN = b"P2\n2 2\n65535\n0 16384\n49152 32768\nP2 2 2 9 5 5 3 9\n"
 OPEN_GRID = b"ncols 2\nnrows 2\n" + GRID_HEAD + b"0 16384\n-16384 32768\n"
 FLAT = b"P2 2 1 65535 0 0\n"
+SCRIPT = b"analyst\nsettle\nshow\nend\n"
+# The pixel in the middle weighs less than 2, and stands alone among those that do not.
+ISLAND = b"P5\n3 1\n65535\n" + bytes(6) + b"P5\n3 1\n9\n\5\1\5"
+ISLAND_SCREENED = ISLAND + b"P5\n3 1\n1\n\1\0\1" + SCRIPT
 TRIAL = b"pixels 4096\nresidues 450\nunmasked 3834\ncost 16469\n"
 LARGE_SIDE = 256
 MAGIC, READ, WRITE = b"input fault 1 magic phase\n", b"read fault\n", b"write fault\n"
+NO_GRID = b"input fault 19 grid 1 line 1\n"
 WORDS, MEMORY, ENDLESS = b"words refused\n", b"no memory\n", b"input fault 7 long\n"
 SIGNAL = 128
 
@@ -56,14 +61,30 @@ def refused(what, command, status, line):
     return row(what, command, status, NOTHING, line)
 
 
+def grid_text(rows):
+    """The text of a grid of some rows of values."""
+    rows = [list(row) for row in rows]
+    lines = (" ".join(map(str, row)) + "\n" for row in rows)
+    return b"ncols %d\nnrows %d\n" % (len(rows[0]), len(rows)) + GRID_HEAD + "".join(lines).encode()
+
+
+# Three surfaces that do not close by a cycle in the last two pixels, and what is left around the loop.
+LOOP = grid_text([[0, 10, 20, 30]]) + grid_text([[0, 0, 0, 0]]) + grid_text([[0, 10, -65516, -65506]])
+LOOP_CLOSED = b"closure 4 2 1\npatch 2 0 2 1\n" + grid_text([[0, 0, 65536, 65536]]) + grid_text([[0, 0, 1, 1]])
+# A surface that falls by 25536 a pixel, and this in nanometres by a wavelength of 56 mm.
+FALL = grid_text([[0, -25536, -51072, -76608]])
+FALL_DISPLACED = grid_text([[0, -10910157, -21820313, -32730469]])
+
+
 class Use(NamedTuple):
-    """A command of the program with words and an input, and its undisturbed answer."""
+    """A command of the program with words and an input, its undisturbed answer, and the line that refuses an empty input."""
 
     name: str
     words: str
     file: str
     status: int
     out: bytes
+    empty: bytes = MAGIC
 
     def reads(self):
         return self.name != "trial"
@@ -86,8 +107,12 @@ USES = (
     Use("grid", "grid", "line", 0, LINE_GRID),
     Use("check", "check", "accepted", 0, b"accepted\n"),
     Use("check that refuses", "check", "refused", 1, b"refused history 2\n"),
+    Use("screen", "screen --weight 2 --radius 1 --count 1 --tile 32", "island", 0, ISLAND_SCREENED),
+    Use("closure", "closure", "loop", 0, LOOP_CLOSED, NO_GRID),
+    Use("displacement", "displacement --wavelength 56000000", "fall", 0, FALL_DISPLACED, NO_GRID),
     Use("trial", "trial 7 64 64 --tile 32", "empty", 0, TRIAL),
 )
+FURTHER_USES = _, CLOSURE, DISPLACEMENT = USES[4:7]
 READERS = tuple(use for use in USES if use.reads())
 TRIAL_USE = USES[-1]
 
@@ -112,6 +137,35 @@ def noisy(side):
     return planes + b"analyst\nsettle\nmask 0 0 9 9\nsettle\nshow\nend\n"
 
 
+def opened(side):
+    """A plane of ones."""
+    return raw_plane(side, 1, [1] * side**2)
+
+
+def board(side):
+    """Three surfaces that do not close at every other pixel, as the black squares of a board, and what is left around the loop."""
+    squares = [[(x + y) % 2 for x in range(side)] for y in range(side)]
+    left, zeros = ([[cycle * square for square in row] for row in squares] for cycle in (65536, 0))
+    lines = "".join(f"patch {x} {y} 1 1\n" for y in range(side) for x in range(side) if squares[y][x]).encode()
+    black = sum(map(sum, squares))
+    counts = b"closure %d %d %d\n" % (side**2, black, black)
+    return grid_text(left) + grid_text(zeros) * 2, counts + lines + grid_text(left) + grid_text(squares)
+
+
+def steps(side):
+    """A surface, which is its own displacement if a wavelength has as many nanometres as it has units."""
+    return grid_text([[300 * x + 700 * y for x in range(side)] for y in range(side)])
+
+
+def large_uses(answers):
+    """The commands on large inputs, with the undisturbed answers of `unwrap` and `grid` to the file large."""
+    yield from (Use(name, f"{name} --workers 1", "large", 0, data) for name, data in answers.items())
+    screened = slope(LARGE_SIDE) + opened(LARGE_SIDE) * 2 + SCRIPT
+    yield Use("screen", "screen --radius 9 --count 1", "large", 0, screened)
+    yield Use("closure", "closure", "large-loop", 0, board(LARGE_SIDE)[1])
+    yield Use("displacement", "displacement --wavelength 131072", "large-grid", 0, steps(LARGE_SIDE))
+
+
 def files():
     """The files that the commands read, by their names."""
     judged = LINE + b"end\n" + stress.LINE_REPORT
@@ -131,7 +185,14 @@ def files():
         "open": OPEN,
         "flat": FLAT,
         "head": b"".join(stress.LINE_REPORT.splitlines(True)[:4]),
+        "island": ISLAND,
+        "loop": LOOP,
+        "fall": FALL,
         "large": slope(LARGE_SIDE),
+        "large-loop": board(LARGE_SIDE)[0],
+        "large-grid": steps(LARGE_SIDE),
+        "noisy-loop": board(96)[0],
+        "noisy-grid": steps(96),
         "noisy": noisy(160),
         **{f"turn-{length}": TURN[:length] for length in range(len(TURN) + 1)},
     }

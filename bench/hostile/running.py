@@ -4,7 +4,7 @@ import pathlib
 import select
 import signal
 import sys
-from typing import NamedTuple
+from typing import NamedTuple, Sequence
 
 BUILT = pathlib.Path(__file__).resolve().parent.parent.parent / "crates/insar_unwrap/out/insar_unwrap"
 
@@ -26,7 +26,7 @@ class Ended(NamedTuple):
     err: bytes
 
 
-def filled(data):
+def filled(data: bytes) -> int:
     """A file in memory with some bytes, at its start."""
     file = os.memfd_create("stream")
     while data:
@@ -35,7 +35,7 @@ def filled(data):
     return file
 
 
-def drained(file):
+def drained(file: int) -> bytes:
     """The bytes of a file in memory, which is closed."""
     size = os.lseek(file, 0, os.SEEK_END)
     data = os.pread(file, size, 0)
@@ -43,7 +43,7 @@ def drained(file):
     return data
 
 
-def ended(number, seconds):
+def ended(number: int, seconds: float) -> int | None:
     """The status of a process of ours, which is killed after so many seconds; then None."""
     handle = os.pidfd_open(number)
     late = not select.select([handle], [], [], seconds)[0]
@@ -54,7 +54,7 @@ def ended(number, seconds):
     return None if late else status
 
 
-def run(program, words, data, seconds=60.0):
+def run(program: str, words: Sequence[str], data: bytes, seconds: float = 60.0) -> Ended:
     """Runs a program with words on bytes, for at most so many seconds. Its streams are files in memory."""
     files = [filled(data), filled(b""), filled(b"")]
     actions = [(os.POSIX_SPAWN_DUP2, file, stream) for stream, file in enumerate(files)]

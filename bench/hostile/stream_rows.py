@@ -2,7 +2,7 @@
 import os
 
 import wanted
-from rows import MAGIC, READ, READERS, SIGNAL, TRIAL_USE, USES, WORDS, WRITE, refused, row
+from rows import READ, READERS, SIGNAL, TRIAL_USE, USES, WORDS, WRITE, refused, row
 from wanted import NOTHING
 
 SIGXFSZ = SIGNAL + 25
@@ -16,7 +16,7 @@ def input_rows():
             yield use.refused(f"input {what}", f"exec $P {use.words} {how}", 5, READ)
         yield TRIAL_USE.answered(f"input {what}, which is not read", f"exec $P {TRIAL_USE.words} {how}")
     for use in READERS:
-        yield use.refused("input empty", f"exec $P {use.words} </dev/null", 3, MAGIC)
+        yield use.refused("input empty", f"exec $P {use.words} </dev/null", 3, use.empty)
 
 
 def output_rows():
@@ -60,10 +60,10 @@ def pipe_rows(large):
         for use in USES:
             gone = f"{how}{{ sleep 0.2; {use.text()}; }} | true; exit ${{PIPESTATUS[0]}}"
             yield use.refused(f"the reader has gone, SIGPIPE {what}", gone, 6, WRITE)
-        for name, data in large.items():
-            midst = f"{how}{{ exec $P {name} --workers 1 <large; }} | head -c 9000 >written; exit ${{PIPESTATUS[0]}}"
-            first = wanted.some_prefix(data, 9000)
-            made = row(f"{name}: the reader goes after 9000 bytes, SIGPIPE {what}", midst, 6, first, WRITE)
+        for use in large:
+            midst = f"{how}{{ {use.text()}; }} | head -c 9000 >written; exit ${{PIPESTATUS[0]}}"
+            first = wanted.some_prefix(use.out, 9000)
+            made = row(f"{use.name}: the reader goes after 9000 bytes, SIGPIPE {what}", midst, 6, first, WRITE)
             yield made._replace(into="written")
 
 
@@ -82,9 +82,9 @@ def file_rows(large):
             limited = f"{how}ulimit -f 0; {use.text()} >written"
             made = use.refused(f"a file that may not grow, SIGXFSZ {what}", limited, status, err)
             yield made._replace(into="written")
-        for name, data in large.items():
-            limited = f"{how}ulimit -f 9; exec $P {name} --workers 1 <large >written"
-            made = row(f"{name}: a file of at most 9216 bytes, SIGXFSZ {what}", limited, status, data[:9216], err)
+        for use in large:
+            limited = f"{how}ulimit -f 9; {use.text()} >written"
+            made = row(f"{use.name}: a file of at most 9216 bytes, SIGXFSZ {what}", limited, status, use.out[:9216], err)
             yield made._replace(into="written")
 
 
@@ -93,14 +93,14 @@ def plain_rows(large):
     for use in USES:
         yield use.answered("no environment", f"exec env -i $P {use.words} <{use.file}")
         yield use.answered("a locale of no such name", f"exec env LC_ALL=xx_YY.bad $P {use.words} <{use.file}")
-    for name, data in large.items():
-        held = f"$P {name} --workers 1 <large | {{ sleep 0.5; cat; }}; exit ${{PIPESTATUS[0]}}"
-        yield row(f"{name}: a reader that waits", held, 0, data, NOTHING)
+    for use in large:
+        held = f"$P {use.words} <{use.file} | {{ sleep 0.5; cat; }}; exit ${{PIPESTATUS[0]}}"
+        yield use.answered("a reader that waits", held)
 
 
 def lean_rows():
     """A header that promises more than there is, and no thread to be had."""
-    for name in ("unwrap", "grid", "check"):
+    for name in ("unwrap", "grid", "check", "screen"):
         short = f"printf 'P5 4096 1024 65535 ' | $P {name}"
         yield refused(f"{name}: a header of 4,194,304 pixels alone", short, 3, b"input fault 6 short phase samples 0\n")
     other_user = "setpriv --reuid=65534 --clear-groups " if os.geteuid() == 0 else ""
@@ -109,7 +109,7 @@ def lean_rows():
 
 
 def rows(large):
-    """All of them. `large` has the undisturbed answers of `unwrap` and `grid` to the file large, by one worker."""
+    """All of them. `large` has the commands on large inputs."""
     yield from input_rows()
     yield from output_rows()
     yield from error_rows()

@@ -1,8 +1,13 @@
 """Cases of what is read: input that is cut at each byte or never ends, and words that are odd, long or many."""
 import wanted
 from reading import read_session, stress
-from rows import ENDLESS, GRID_HEAD, MAGIC, MEMORY, OPEN_GRID, STEEP_GRID, TURN, TURN_GRID, USES, WORDS, refused, row
+from rows import CLOSURE, DISPLACEMENT, ENDLESS, FALL, FALL_DISPLACED, FURTHER_USES, GRID_HEAD, ISLAND, LOOP, MAGIC, MEMORY
+from rows import NO_GRID, OPEN_GRID, SCRIPT, STEEP_GRID, TURN, TURN_GRID, USES, WORDS, grid_text, opened, raw_plane, refused, row
 from wanted import NOTHING, exactly
+
+
+WAVES = "displacement --wavelength 56000000"
+FALL_BLOCKS = grid_text([[-5455079, -27275391]])
 
 
 def cut_line(length):
@@ -28,20 +33,27 @@ def cut_session(length):
     return session
 
 
+def cut_screened(length):
+    """What `screen` writes of the first bytes, if they are a session: the session in its raw spelling."""
+    script = b"analyst\nmask 0 0 0 0\nsettle\nshow\nend\n" if length == len(TURN) else SCRIPT
+    return raw_plane(2, 65535, (0, 16384, 49152, 32768 if length == len(TURN) else last_sample(length))) + opened(2) * 2 + script
+
+
 def cut_answers(length):
-    """What `unwrap` and `grid` write of the first bytes, if they are a session."""
+    """What `unwrap`, `grid` and `screen` write of the first bytes, if they are a session."""
+    screened = exactly(cut_screened(length))
     if length == len(TURN):
-        return exactly(stress.TURN_REPORT), exactly(TURN_GRID)
+        return exactly(stress.TURN_REPORT), exactly(TURN_GRID), screened
     session = cut_session(length)
-    return wanted.report_of(session), wanted.grid_of(session)
+    return wanted.report_of(session), wanted.grid_of(session), screened
 
 
 def cut_rows():
     """A session that ends at each of its bytes. Before a report the line `end` is wanted."""
     for length in range(len(TURN) + 1):
         what, line = f"the first {length} bytes of the session", cut_line(length)
-        outs = (NOTHING, NOTHING) if line else cut_answers(length)
-        for name, out in zip(("unwrap", "grid"), outs):
+        outs = (NOTHING, NOTHING, NOTHING) if line else cut_answers(length)
+        for name, out in zip(("unwrap", "grid", "screen"), outs):
             yield row(f"{name}: {what}", f"exec $P {name} <turn-{length}", 3 if line else 0, out, line)
         line = b"report fault line 1\n" if length == len(TURN) else line or b"input fault 14 no end\n"
         yield refused(f"check: {what}", f"exec $P check <turn-{length}", 3, line)
@@ -55,6 +67,90 @@ def cut_report_rows():
         command = f"{{ cat turn-70; head -c {length} turn-report; }} | $P check"
         yield refused(f"check: the first {length} bytes of the report", command, 3, line)
     yield row("check: the whole report", "cat turn-70 turn-report | $P check", 0, b"accepted\n", NOTHING)
+
+
+def cut_grid_rows():
+    """Grids that end at each of their bytes, and what comes after them. Each grid has seven lines."""
+    for use, text in ((CLOSURE, LOOP), (DISPLACEMENT, FALL)):
+        for length in range(len(text)):
+            grid, line = divmod(text.count(b"\n", 0, length), 7)
+            told = b"input fault 19 grid %d line %d\n" % (grid + 1, line + 1)
+            yield use.refused(f"the first {length} bytes", f"head -c {length} {use.file} | $P {use.words}", 3, told)
+        yield use.answered("all of the bytes", f"cat {use.file} | $P {use.words}")
+        after = b"input fault 22 after grids byte %d\n" % len(text)
+        for rest in (r"\n", "' '", r"\0", "x", "ncols"):
+            yield use.refused("more bytes", f"{{ cat {use.file}; printf {rest}; }} | $P {use.words}", 3, after)
+
+
+# For a file, a change of it by sed, and the line with which the commands that read grids refuse it.
+GRID_CHANGES = (
+    ("loop", "9s/1/2/", "input fault 19 grid 2 line 8"),
+    ("loop", "8s/4/3/", "input fault 19 grid 2 line 7"),
+    ("loop", "8s/4/3/;14s/ 0//", "input fault 21 grid 2 sizes"),
+    ("loop", "15s/4/3/;21s/^0 //", "input fault 21 grid 3 sizes"),
+    ("loop", "8s/4/3/;14s/ 0//;21s/$/ /", "input fault 21 grid 2 sizes"),
+    ("loop", "1s/4/0/", "input fault 19 grid 1 line 1"),
+    ("loop", "1s/4/4097/", "input fault 19 grid 1 line 1"),
+    ("loop", "1s/4/4096/;2s/1/1025/", "input fault 19 grid 1 line 2"),
+    ("loop", "1s/4/04/", "input fault 19 grid 1 line 1"),
+    ("loop", "3s/$/.0/", "input fault 19 grid 1 line 3"),
+    ("loop", "13s/-//", "input fault 19 grid 2 line 6"),
+    ("loop", "21s/0/-0/", "input fault 19 grid 3 line 7"),
+    ("loop", "21s/10/+10/", "input fault 19 grid 3 line 7"),
+    ("loop", "21s/10/9223372036854775808/", "input fault 19 grid 3 line 7"),
+    ("loop", "21s/10/-9223372036854775809/", "input fault 19 grid 3 line 7"),
+    ("loop", "7s/30/9223372036854775807/", "input fault 23 wide 3 0"),
+    ("loop", "7s/10/9223372036854775807/;14s/0 0/0 1/;21s/10/0/", "input fault 23 wide 1 0"),
+    ("loop", "7s/10/-9223372036854775807/;14s/0 0/0 -1/;21s/10/0/", "input fault 23 wide 1 0"),
+    ("fall", "7s/^0/-9223372036854775808/", "input fault 24 reference"),
+    ("fall", "7s/-51072/9223372036854775807/", "input fault 23 wide 2 0"),
+    ("fall", "7s/ -76608//", "input fault 19 grid 1 line 7"),
+    ("fall", "7s/$/\\r/", "input fault 19 grid 1 line 7"),
+)
+
+
+def grid_rows():
+    """Grids changed in one line or two, and a command that wants another number of them."""
+    for file, change, line in GRID_CHANGES:
+        use = CLOSURE if file == "loop" else DISPLACEMENT
+        command = f"sed '{change}' {file} | $P {use.words}"
+        yield use.refused(f"{change} changed", command, 3, line.encode() + b"\n")
+    after = b"input fault 22 after grids byte %d\n" % (LOOP.index(b"ncols", 1))
+    yield DISPLACEMENT.refused("three grids", f"exec $P {DISPLACEMENT.words} <loop", 3, after)
+    yield CLOSURE.refused("one grid", f"exec $P {CLOSURE.words} <fall", 3, b"input fault 19 grid 2 line 1\n")
+    yield row("displacement: blocks", f"exec $P {DISPLACEMENT.words} --block 2 <fall", 0, FALL_BLOCKS, NOTHING)
+    for words in ("--x 4", "--y 1", "--x 4095 --y 4095"):
+        outside = b"input fault 24 reference\n"
+        yield DISPLACEMENT.refused("a reference pixel outside", f"exec $P {DISPLACEMENT.words} {words} <fall", 3, outside)
+
+
+# Words of a command at the ends of their ranges, which are read, and others, which are refused.
+RANGES = (
+    ("screen --weight 0 --radius 0 --count 0 --patch 0 --tile", "island", ("2", "128", "=2", "0128"), ("1", "129", "", "-1", "x")),
+    ("screen --weight", "island", ("0", "=0"), ("65536", "-1", "=-1", "4294967296", "none", "1.5")),
+    ("screen --radius", "island", ("0", "64", "+64"), ("65", "=-1", "18446744073709551616")),
+    ("screen --count", "island", ("0", "=1"), ("16642", "-1", "''")),
+    ("screen --patch", "island", ("0", "3", "=+3"), ("4194305", "=-1", "'１'")),
+    ("displacement --wavelength", "fall", (), ("0", "1000000001", "", "=-56000000", "56e6")),
+    (f"{WAVES} --block", "fall", ("1", "=1"), ("0", "65", "-1", "")),
+    (f"{WAVES} --x", "fall", ("0", "=0"), ("4096", "-1", "''")),
+    (f"{WAVES} --y", "fall", ("0", "+0"), ("4096", "=-1", "0x0")),
+)
+
+
+def range_rows():
+    """Words of the commands that make no surface. Without terms a screen keeps the mask."""
+    answers = {"island": ISLAND + b"P5\n3 1\n1\n\1\1\1" + SCRIPT, "fall": FALL_DISPLACED}
+    for words, file, good, bad in RANGES:
+        for value, is_read in [(value, True) for value in good] + [(value, False) for value in bad]:
+            command = f"exec $P {words}{value if value.startswith('=') else f' {value}'} <{file}"
+            status, out, err = (0, answers[file], NOTHING) if is_read else (2, NOTHING, WORDS)
+            yield row(f"words at the ends of their range: {value or 'none'}", command, status, out, err)
+    for use in FURTHER_USES:
+        for words in ("--workers 2", "--rule least", "--ramp-x 0", "--tile 64 --tile 64", "--wavelength 1", "-x 1", "--Block 1", "0"):
+            yield use.refused("words of another command", f"exec $P {use.words} {words} <{use.file}", 2, WORDS)
+    for words in ("", "--x 0", "--block 1 --y 0"):
+        yield refused("displacement: no wavelength", f"exec $P displacement {words} <fall", 2, WORDS)
 
 
 def ramp_rows():
@@ -209,6 +305,18 @@ ENDLESS_TEXTS = (
 )
 
 
+ENDLESS_GRIDS = (
+    *((use, "yes", NO_GRID) for use in (CLOSURE, DISPLACEMENT)),
+    *((use, FOREVER, b"input fault 20 grid 1 long\n") for use in (CLOSURE, DISPLACEMENT)),
+    (CLOSURE, f"head -n 14 loop; printf 'ncols '; {FOREVER}", b"input fault 20 grid 3 long\n"),
+    (CLOSURE, "head -n 13 loop; yes '0 ' | tr -d '\\n'", b"input fault 20 grid 2 long\n"),
+    (CLOSURE, "head -n 6 loop; tr '\\0' 9 </dev/zero", b"input fault 20 grid 1 long\n"),
+    (CLOSURE, "yes \"$(cat loop)\"", b"input fault 22 after grids byte %d\n" % len(LOOP)),
+    (DISPLACEMENT, "head -n 6 fall; yes 0", b"input fault 19 grid 1 line 7\n"),
+    (DISPLACEMENT, "head -n 6 fall | sed '1s/4/1/; 2s/1/1000/'; yes 0", b"input fault 22 after grids byte 2088\n"),
+)
+
+
 def endless(text, words):
     """A command that reads a text without an end."""
     before = SPACES if FOREVER in text else ""
@@ -218,10 +326,13 @@ def endless(text, words):
 def endless_rows(slow):
     """Input without an end is refused at the byte that refuses it, or at the limit of bytes or of memory."""
     for text, line in ENDLESS_TEXTS:
-        for name in ("unwrap", "grid"):
+        for name in ("unwrap", "grid", "screen"):
             yield refused(f"{name}: endless input", endless(text, name), 3, line)
         after = b"report fault line 1\n" if b"after end" in line else line
         yield refused("check: endless input", endless(text, "check"), 3, after)
+    for use, text, line in ENDLESS_GRIDS:
+        yield use.refused("endless input", endless(text, use.words), 3, line)
+        yield use.refused("endless input, memory limited", "ulimit -v 100000; " + endless(text, use.words), 3, line)
     entries = "ulimit -v 300000; " + endless("cat line; echo end; cat head; yes kept 0 0", "check")
     yield refused("check: a report of endless entries, memory limited", entries, 4, MEMORY)
     if slow:
@@ -233,6 +344,9 @@ def rows(slow):
     """All of them; with `slow` those too that take a minute."""
     yield from cut_rows()
     yield from cut_report_rows()
+    yield from cut_grid_rows()
+    yield from grid_rows()
+    yield from range_rows()
     yield from ramp_rows()
     yield from word_rows()
     yield from long_rows()

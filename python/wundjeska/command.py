@@ -16,6 +16,7 @@ VERBS: Dict[str, str] = {
     "check": "has the proved checker judge a report",
     "frames": "unwraps a raster above the limit in frames that overlap",
     "scenes": "unwraps a folder of scenes by Snakemake",
+    "closure": "closes the loop of three interferograms, and tells where it is misclosed",
     "page": "makes a page of a session and its report",
     "report": "tells what is in a report",
 }
@@ -47,13 +48,23 @@ def help_text() -> str:
     return USE + "\n".join([*lines, "", "Without a verb it is `unwrap`:", "", parser_of("unwrap").format_help()])
 
 
+def with_auto(words: List[str]) -> List[str]:
+    """The words in which `--reference auto` stands as one, since a pixel is two."""
+    found = list(words)
+    for place in range(len(found) - 1, -1, -1):
+        if found[place : place + 2] == ["--reference", "auto"]:
+            found[place : place + 2] = ["--reference-auto"]
+    return ["--reference-auto" if word == "--reference=auto" else word for word in found]
+
+
 def run(verb: str, words: List[str]) -> int:
     """The status of a verb."""
     if verb == "scenes":  # words after the folder are Snakemake's
         status: int = import_module(".commands.scenes", __package__).main(words)
         return status
     parser = parser_of(verb)
-    asked = parser.parse_args(words)
+    has_auto = any("--reference-auto" in action.option_strings for action in parser._actions)
+    asked = parser.parse_args(with_auto(words) if has_auto else words)
     status = import_module(f".commands.{verb}", __package__).main(asked)
     return status
 

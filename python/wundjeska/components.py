@@ -70,8 +70,15 @@ def scattered(opened: np.ndarray) -> Tuple[int, float]:
     return len(sizes), 1 - float(sizes.max() / sizes.sum()) if len(sizes) else 0.0
 
 
-def warning_of(opened: np.ndarray, masked_by_coherence: bool) -> Optional[str]:
-    """What is to be said of a mask that leaves components which do not touch, or None."""
+# What helps where a mask by coherence breaks a scene into components.
+OTHERWISE = {
+    "--least-coherence": "Mask water alone, and let a low coherence weigh little, instead of --least-coherence",
+    "--screen": "A greater patch of --screen drops the small ones",
+}
+
+
+def warning_of(opened: np.ndarray, masked_by: Optional[str] = None) -> Optional[str]:
+    """What is to be said of a mask that leaves components which do not touch, or None. `masked_by` is a key of OTHERWISE."""
     count, outside = scattered(opened)
     if count < 2:
         return None
@@ -79,6 +86,4 @@ def warning_of(opened: np.ndarray, masked_by_coherence: bool) -> Optional[str]:
         f"the mask leaves {count} components that do not touch, with {100 * outside:.2f} % of the open pixels outside the "
         "largest; whole cycles between them are arbitrary"
     )
-    if masked_by_coherence:
-        line += ". Mask water alone, and let a low coherence weigh little, instead of --least-coherence"
-    return line
+    return f"{line}. {OTHERWISE[masked_by]}" if masked_by else line

@@ -68,6 +68,11 @@ class Outputs:
             left.unlink(missing_ok=True)
 
 
+def beside(outputs: Outputs, name: Optional[Name]) -> Optional[Path]:
+    """The path to write a file to, if one is named."""
+    return outputs.beside(name) if name else None
+
+
 def put(part: Path, place: Path) -> None:
     """Renames a file that was written, and drops what belonged to the raster that stood there."""
     os.replace(part, place)

@@ -216,10 +216,46 @@ def keys_of(keys: Sequence[Tuple[Colour, str]], wide: float) -> str:
     )
 
 
+@dataclass(frozen=True)
+class Mark:
+    """What is marked on a map: a box in parts of its sides, from 0 to 1, and what it is."""
+
+    left: float
+    upper: float
+    right: float
+    lower: float
+    name: str
+
+
+def mark_of(box: Sequence[int], shape: Tuple[int, ...], name: str) -> Mark:
+    """A mark of a box of pixels, both corners included, in a raster of this shape."""
+    return Mark(box[0] / shape[1], box[1] / shape[0], (box[2] + 1) / shape[1], (box[3] + 1) / shape[0], name)
+
+
+def mark_lines(mark: Mark, wide: float, high: float) -> str:
+    """The frame of a box and a cross about it, black on white, so that it is seen on any colour."""
+    x, y = LEFT + wide * mark.left, TOP + high * mark.upper
+    w, h = wide * (mark.right - mark.left), high * (mark.lower - mark.upper)
+    middle, level = x + w / 2, y + h / 2
+    path = f"M{x:.1f} {y:.1f} h{w:.1f} v{h:.1f} h{-w:.1f} z"
+    path += f" M{x - 8:.1f} {level:.1f} h6 M{x + w + 2:.1f} {level:.1f} h6"
+    path += f" M{middle:.1f} {y - 8:.1f} v6 M{middle:.1f} {y + h + 2:.1f} v6"
+    lines = (
+        f'<path d="{path}" fill="none" stroke="{colour}" stroke-width="{broad}"/>'
+        for colour, broad in (("#fff", 4), ("#000", 1.5))
+    )
+    return f'<g class="mark"><title>{escape(mark.name)}</title>{"".join(lines)}</g>'
+
+
 def map_of(
-    colours: np.ndarray, axes: Axes, beside: Union[Bar, Sequence[Tuple[Colour, str]]], title: str, caption: str
+    colours: np.ndarray,
+    axes: Axes,
+    beside: Union[Bar, Sequence[Tuple[Colour, str]]],
+    title: str,
+    caption: str,
+    mark: Optional[Mark] = None,
 ) -> str:
-    """A <figure> of a map: its title, the picture with its axes, a colour bar or keys beside it, and words below."""
+    """A <figure> of a map: its title, the picture with its axes, a colour bar or keys beside it, words below, and a mark."""
     wide, high = size_on_page(colours.shape)
     tall = max(high, 60.0 if isinstance(beside, Bar) else 18.0 * len(beside))
     marks = bar_marks(beside, wide, high) if isinstance(beside, Bar) else keys_of(beside, wide)
@@ -228,6 +264,6 @@ def map_of(
         f'aria-label="{escape(title)}"><image x="{LEFT}" y="{TOP}" width="{wide:.1f}" height="{high:.1f}" '
         f'preserveAspectRatio="none" href="{uri(colours)}"/>'
         f'<rect x="{LEFT}" y="{TOP}" width="{wide:.1f}" height="{high:.1f}" fill="none" stroke="#888"/>'
-        f"{axis_marks(axes, wide, high)}{scale_bar(axes, wide, high)}{marks}</svg>"
+        f"{axis_marks(axes, wide, high)}{scale_bar(axes, wide, high)}{marks}{mark_lines(mark, wide, high) if mark else ''}</svg>"
         f"<figcaption>{escape(caption)}</figcaption></figure>"
     )

@@ -6,11 +6,11 @@ Arrays have the shape (rows, columns), and row 0 is the top one, in GDAL as in t
 import math
 import re
 from dataclasses import dataclass
-from typing import List, Optional, Tuple
+from typing import List, Optional, Set, Tuple
 
 import numpy as np
 
-from .trouble import REFUSED_WORDS, Trouble, warn
+from .trouble import Trouble, warn
 
 CYCLE = 65536  # units in a cycle
 MAX_SIDE, MAX_PIXELS = 4096, 4194304  # of one session
@@ -63,12 +63,6 @@ def check_radians(values: np.ndarray, opened: np.ndarray, name: str, scaled: boo
         warn(f"{name} has values from {low:g} to {high:g}: taken as radians, though they look like cycles")
 
 
-def check_wavelength(metres: Optional[float]) -> None:
-    """Trouble if a wavelength is named that is none."""
-    if metres is not None and not 0 < metres < math.inf:
-        raise Trouble("--wavelength is above 0, in metres", REFUSED_WORDS)
-
-
 def check_coherence(coherence: np.ndarray, name: str, highest: float) -> None:
     """Trouble if a coherence, in parts of `highest`, is not from 0 to 1."""
     low, high = float(coherence.min(initial=0)), float(coherence.max(initial=0))
@@ -115,8 +109,25 @@ def session_of(
 
     The program skips the comment that tells the ramp; it is for `ramp_in`.
     """
-    comment = b"# wundjeska ramp %d %d\n" % ramp if ramp is not None else b""
-    return plane_of(phase, CYCLE - 1, comment) + plane_of(weights, highest) + plane_of(opened, 1) + script
+    return plane_of(phase, CYCLE - 1, ramp_comment(ramp)) + plane_of(weights, highest) + plane_of(opened, 1) + script
+
+
+def ramp_comment(ramp: Optional[Ramp]) -> bytes:
+    """The line in a session that keeps a ramp, if one is expected."""
+    return b"# wundjeska ramp %d %d\n" % ramp if ramp is not None else b""
+
+
+def with_comments(text: bytes, comments: bytes) -> bytes:
+    """A session that the program wrote, with comments, each a line, in the head of its first plane."""
+    if not text.startswith(b"P5\n"):
+        raise Trouble("what the program wrote is no session")
+    return text[:3] + comments + text[3:]
+
+
+def comments_in(text: bytes, form: "re.Pattern[bytes]") -> Set[bytes]:
+    """What follows the form in the comments of a session's head."""
+    header = HEADER.match(text)
+    return set(form.findall(header.group())) if header else set()
 
 
 def is_ramp(ramp: Ramp) -> bool:
@@ -126,8 +137,7 @@ def is_ramp(ramp: Ramp) -> bool:
 
 def ramp_in(text: bytes) -> Optional[Ramp]:
     """The ramp that a comment in the head of a session's phase tells, or None. Trouble if it cannot be read."""
-    header = HEADER.match(text)
-    comments = set(RAMP_COMMENT.findall(header.group())) if header else set()
+    comments = comments_in(text, RAMP_COMMENT)
     if not comments:
         return None
     slopes = RAMP_SLOPES.fullmatch(comments.pop())

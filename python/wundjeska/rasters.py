@@ -370,15 +370,20 @@ def create_like(
     nodata: float,
     unit: str = "",
     notes: Optional[Dict[str, Any]] = None,
+    block: int = 1,
 ) -> gdal.Dataset:
-    """A new GeoTIFF of one band with the size, the place and the system of another raster, and with notes as its metadata."""
+    """A new GeoTIFF of one band with the size, the place and the system of another raster, and with notes as its metadata.
+
+    Its pixels are blocks of so many of the other's a side; the last ones may reach beyond it.
+    """
+    size = [-(-length // block) for length in size_of(like)]
     predictor = "PREDICTOR=3" if kind in (gdal.GDT_Float32, gdal.GDT_Float64) else "PREDICTOR=2"
     options = ["TILED=YES", "COMPRESS=DEFLATE", predictor, "BIGTIFF=IF_SAFER"]
     try:
-        made = gdal.GetDriverByName("GTiff").Create(str(path), *size_of(like), 1, kind, options)
+        made = gdal.GetDriverByName("GTiff").Create(str(path), *size, 1, kind, options)
     except RuntimeError as error:
         raise gdal_trouble(str(path), error) from error
-    put_in_place(made, like)
+    put_in_place(made, like, block)
     for name, value in (notes or {}).items():
         made.SetMetadataItem(f"WUNDJESKA_{name}", str(value))
     band = made.GetRasterBand(1)
@@ -387,8 +392,9 @@ def create_like(
     return made
 
 
-def put_in_place(made: gdal.Dataset, like: gdal.Dataset) -> None:
-    """Copies what says where the pixels lie: an affine transform, or ground control points."""
+def put_in_place(made: gdal.Dataset, like: gdal.Dataset, block: int = 1) -> None:
+    """Copies what says where the pixels lie: an affine transform, or ground control points. Both start at the upper left corner
+    of the first pixel, which is that of the first block too."""
     point = like.GetMetadataItem("AREA_OR_POINT")
     if point:
         made.SetMetadataItem("AREA_OR_POINT", point)
@@ -396,9 +402,11 @@ def put_in_place(made: gdal.Dataset, like: gdal.Dataset) -> None:
         made.SetSpatialRef(like.GetSpatialRef())
     transform = like.GetGeoTransform(can_return_null=True)
     if transform:
-        made.SetGeoTransform(transform)
+        x, right, turned_right, y, turned_down, down = transform
+        made.SetGeoTransform((x, block * right, block * turned_right, y, block * turned_down, block * down))
     if like.GetGCPCount():
-        made.SetGCPs(like.GetGCPs(), like.GetGCPSpatialRef())
+        points = [gdal.GCP(p.GCPX, p.GCPY, p.GCPZ, p.GCPPixel / block, p.GCPLine / block) for p in like.GetGCPs()]
+        made.SetGCPs(points, like.GetGCPSpatialRef())
 
 
 def put_values(made: gdal.Dataset, values: np.ndarray, column: int = 0, row: int = 0) -> None:

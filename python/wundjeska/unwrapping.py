@@ -8,7 +8,7 @@ from typing import Iterator, Optional, Tuple, Union
 import numpy as np
 import numpy.typing as npt
 
-from . import report_reader
+from . import report_reader, screening
 from .components import components_of, warning_of
 from .outputs import Outputs
 from .planes import (
@@ -24,7 +24,8 @@ from .planes import (
     session_of,
 )
 from .program import MAX_WORKERS, check_report, ramp_words, run_program, workers_or_default
-from .ramps import Given, checked, ramp_for
+from .ramps import Given, RampWord, checked, ramp_for
+from .screening import Screen, Screened, screened, screened_by
 from .trouble import DISAGREES, REFUSED_WORDS, Trouble, warn
 from .weights import highest_of, weights_of
 
@@ -52,6 +53,52 @@ class Settings:
             raise Trouble(f"there are from 1 to {MAX_WORKERS} workers", REFUSED_WORDS)
 
 
+Planes = Tuple[np.ndarray, np.ndarray, np.ndarray]  # phases, weights and open pixels
+
+
+@dataclass(frozen=True)
+class Making:
+    """What a session is made of besides its planes. `masked_by` says which option masked by coherence, if one did."""
+
+    name: str
+    looks: Optional[float] = None
+    ramp: RampWord = None
+    screen: Optional[Screen] = None
+    script: bytes = b"end\n"
+    masked_by: Optional[str] = None
+
+
+@dataclass(frozen=True)
+class Input:
+    """A session, its weights, open pixels and ramp; if it was screened, the session before, and what that did."""
+
+    session: bytes
+    weights: np.ndarray
+    opened: np.ndarray
+    ramp: Optional[Ramp]
+    before: bytes
+    screening: Optional[Screened] = None
+
+
+def input_of(planes: Planes, making: Making) -> Input:
+    """The session of planes, screened if that is asked for. What is to be said of its mask is told."""
+    phase, weights, opened = planes
+    ramp = ramp_for(making.ramp, phase, weights, opened, making.name)
+    before = session_of(phase, weights, opened, making.script, highest_of(making.looks), ramp)
+    found = Input(before, weights, opened, ramp, before)
+    if making.screen is not None:
+        terms = making.screen.of(making.looks)
+        session = screened(before, terms, making.name)
+        screening = screened_by(before, session, terms, making.name)
+        found = Input(session, weights, screening.stays(), ramp, before, screening)
+        if not found.opened.any():
+            raise Trouble(f"{making.name}: no pixel stays open of the screen by {terms.told()}: {screening.told()}")
+    line = warning_of(found.opened, "--screen" if making.screen is not None else making.masked_by)
+    if line:
+        warn(line)
+    return found
+
+
 @dataclass(frozen=True)
 class Solved:
     """What the program wrote of a session: the report as it stands, its last surface, and the verdict."""
@@ -72,6 +119,7 @@ class Unwrapped:
     seam_cost   what the surface costs more than the bound
     verdict     'accepted' if `check` accepted the report, else 'not checked'
     ramp        the expected slopes to the right and downwards, in 1/65536 cycle a pixel; None if none was asked for
+    dropped     what a screen dropped: uint8, 1 at weak pixels, 2 at lonely ones, 3 in islands, else 0; None without a screen
     """
 
     phase: npt.NDArray[np.float32]
@@ -82,6 +130,7 @@ class Unwrapped:
     verdict: str
     settings: Settings
     ramp: Optional[Ramp] = None
+    dropped: Optional[npt.NDArray[np.uint8]] = None
 
     @property
     def cost(self) -> int:
@@ -146,7 +195,7 @@ def plane_like(given: Optional[npt.ArrayLike], shape: Tuple[int, ...], name: str
 
 def planes_of(
     igram: npt.ArrayLike, coherence: Optional[npt.ArrayLike], mask: Optional[npt.ArrayLike], looks: Optional[float]
-) -> Tuple[np.ndarray, np.ndarray, np.ndarray]:
+) -> Planes:
     """Phases, weights and open pixels of arrays."""
     values = np.asarray(igram)
     if values.ndim != 2 or values.dtype.kind not in "fciu" or not values.size:
@@ -182,6 +231,7 @@ def unwrap(
     check: bool = True,
     least_component: int = 1,
     ramp: Given = None,
+    screen: screening.Given = None,
 ) -> Unwrapped:
     """Unwraps an interferogram, (rows, columns), and has the result checked.
 
@@ -196,32 +246,34 @@ def unwrap(
     least_component  pixels of smaller components get the number 0, and keep their phase
     ramp             the expected slopes to the right and downwards, whole numbers of 1/65536 cycle a pixel, or 'auto': the
                      commonest fringe rate. Differences of neighbours are taken to lie within half a cycle of it
+    screen           what a pixel needs to stay open, as {'coherence': 0.3, 'radius': 3, 'count': 20, 'patch': 50}: a coherence
+                     (or a 'weight'), so many such pixels within a radius, and so many in its patch
 
     Raises Trouble, whose text is one line.
     """
     if looks is not None and (coherence is None or not 1 <= looks < math.inf):
         raise Trouble("looks is 1 or more, and wants coherence", REFUSED_WORDS)
-    settings, asked_ramp = Settings(tile, rule, workers), checked(ramp)
+    settings, asked = Settings(tile, rule, workers), screening.checked(screen)
     settings.check()
-    phase, weights, opened = planes_of(igram, coherence, mask, looks)
-    expected = ramp_for(asked_ramp, phase, weights, opened, "the interferogram")
+    making = Making("the interferogram", looks, checked(ramp), asked)
+    if asked is not None and asked.coherence is not None and coherence is None:
+        raise Trouble("a coherence of the screen wants coherence", REFUSED_WORDS)
+    planes = planes_of(igram, coherence, mask, looks)
     with Outputs([]) as outputs:
         kept = outputs.beside(report) if report is not None else None
-        session = session_of(phase, weights, opened, highest=highest_of(looks), ramp=expected)
-        solved = solve(session, settings, check, "the interferogram")
+        made = input_of(planes, making)
+        solved = solve(made.session, settings, check, making.name)
         if kept is not None:
             kept.write_bytes(solved.report)
-    line = warning_of(opened, False)
-    if line:
-        warn(line)
     surface = solved.surface
     return Unwrapped(
         radians_of(surface.values),
         surface.values,
-        components_of(opened, least_component),
+        components_of(made.opened, least_component),
         surface.tile_cost,
         surface.seam_cost,
         solved.verdict,
         settings,
-        expected,
+        made.ramp,
+        made.screening.dropped_at() if made.screening else None,
     )

@@ -19,8 +19,9 @@ import threading
 from argparse import ArgumentParser, Namespace, RawDescriptionHelpFormatter
 from concurrent.futures import ThreadPoolExecutor
 from dataclasses import dataclass
+from fractions import Fraction
 from pathlib import Path
-from typing import Any, Dict, Iterator, List, Optional, Tuple
+from typing import Any, Dict, Iterator, List, Optional, Sequence, Tuple
 
 import numpy as np
 
@@ -28,22 +29,12 @@ from .. import program
 from ..components import pieces_of
 from ..joining import Link, Offsets, links_of, offsets_of
 from ..outputs import Outputs, keep
-from ..planes import MAX_PIXELS, Ramp, session_of
-from ..product import (
-    add_reference_words,
-    add_unit_words,
-    box_name,
-    box_of,
-    check_box,
-    check_unit_words,
-    cycles_of,
-    factor_of,
-    kind_of,
-    reference_note,
-    unit_notes,
-)
+from ..planes import CYCLE, MAX_PIXELS, Ramp, session_of
+from ..product import add_unit_words, check_unit_words, in_unit, kind_of, nodata_of, unit_notes
 from ..ramps import AUTO, RampWord, Spectrum, add_ramp_words, found_in, told
 from ..rasters import Scene, Window, add_scene_words, close, create_like, name_of, put_values, scene_of, size_of
+from ..references import add_reference_words, check_box, mean_of, reference_of
+from ..report_reader import NODATA
 from ..trouble import DISAGREES, REFUSED_WORDS, Trouble
 from ..unwrapping import Settings, Solved, solve
 from ..weights import highest_of
@@ -292,43 +283,41 @@ def notes_of(asked: Namespace, frames: List[Frame], agreed: bool) -> Dict[str, A
         "FRAMES": len(frames),
         "TILE_SIDE": asked.tile,
         "RULE": asked.rule,
-        "REFERENCE": reference_note(asked),
+        "REFERENCE": reference_of(asked).note,
     }
 
 
 def parts_of(frames: List[Frame], offsets: Offsets) -> Iterator[Tuple[Window, np.ndarray]]:
-    """The joint surface in cycles, part by part, each with its window."""
+    """The joint surface in 1/65536 cycle, part by part, each with its window."""
     for number, frame in enumerate(frames):
         pieces = frame.load("pieces", frame.core)
         added = np.array([offsets.of((number, piece)) for piece in range(pieces.max(initial=-1) + 1)] or [0])
-        yield frame.core, cycles_of(frame.load("values", frame.core)) + added[np.maximum(pieces, 0)]
+        values = frame.load("values", frame.core)
+        yield frame.core, np.where(pieces >= 0, values + CYCLE * added[np.maximum(pieces, 0)], NODATA)
 
 
-def level_in(frames: List[Frame], offsets: Offsets, asked: Namespace) -> float:
+def level_in(frames: List[Frame], offsets: Offsets, box: Optional[Sequence[int]]) -> Fraction:
     """The mean of the reference, 0 if there is none."""
-    box = box_of(asked)
     if box is None:
-        return 0.0
+        return Fraction(0)
     window = (box[0], box[1], box[2] - box[0] + 1, box[3] - box[1] + 1)
-    found = [np.zeros(0)]
-    for core, cycles in parts_of(frames, offsets):
+    found = []
+    for core, values in parts_of(frames, offsets):
         x, y, width, height = overlap_of(core, window)
         if min(width, height) > 0:
-            inside = cycles[y - core[1] : y - core[1] + height, x - core[0] : x - core[0] + width]
-            found.append(inside[~np.isnan(inside)])
-    if not len(known := np.concatenate(found)):
-        raise Trouble(f"the reference {box_name(box)} is masked")
-    return float(known.mean())
+            inside = values[y - core[1] : y - core[1] + height, x - core[0] : x - core[0] + width]
+            found.append(inside[inside != NODATA])
+    return mean_of(found, box)
 
 
 def write(
     path: Path, frames: List[Frame], offsets: Offsets, scene: Scene, asked: Namespace, notes: Dict[str, Any]
 ) -> None:
     """Writes the raster, frame by frame."""
-    factor, level = factor_of(asked), level_in(frames, offsets, asked)
-    made = create_like(path, scene.phase.raster, kind_of(asked), asked.output_nodata, asked.unit, notes)
-    for core, cycles in parts_of(frames, offsets):
-        put_values(made, factor * (cycles - level), *core[:2])
+    level = level_in(frames, offsets, reference_of(asked).box)
+    made = create_like(path, scene.phase.raster, kind_of(asked), nodata_of(asked), asked.unit, notes)
+    for core, values in parts_of(frames, offsets):
+        put_values(made, in_unit(values, level, asked), *core[:2])
     close(made, path)
 
 
@@ -358,8 +347,8 @@ def words() -> ArgumentParser:
     )
     add_ramp_words(found)
     add_solver_words(found)
-    add_reference_words(found)
-    add_unit_words(found)
+    add_reference_words(found, auto=False)
+    add_unit_words(found, blocks=False)
     found.add_argument("geotiff", help="the file to write")
     return found
 
@@ -380,7 +369,7 @@ def main(asked: Namespace) -> int:
     settings = settings_of(asked)
     scene = scene_of(asked)
     raster = scene.phase.raster
-    check_box(box_of(asked), *size_of(raster))
+    check_box(reference_of(asked).box, *size_of(raster))
     frames = frames_of(size_of(raster), asked.side, asked.overlap, asked.folder)
     with Outputs(scene.files()) as outputs:
         made = outputs.beside(asked.geotiff)

@@ -1,20 +1,24 @@
 """Makes a page of a session and its report: one HTML file that asks for nothing else, to be opened in any browser.
 
-It shows the verdict of `check`, the wrapped phase beside the surface, where the surface jumps, the components and the weights,
-the mask of each revision, each published surface with its costs, and the history as a time line. Masked pixels are white. With
---like the axes are in map units. A cycle is half a wavelength of range.
+It shows the verdict of `check`, the wrapped phase beside the surface, where the surface jumps, the components and the
+weights, the mask of each revision, each published surface with its costs, and the history as a time line. Masked pixels are
+white. With --like the axes are in map units. Of a session that was screened, --unscreened shows which pixels were dropped,
+and why. With --wavelength surfaces are shown as displacements along the line of sight, by the program's command
+`displacement`; the reference that is named is marked.
 """
 from argparse import ArgumentParser, Namespace, RawDescriptionHelpFormatter
 from dataclasses import dataclass
 from html import escape
 from pathlib import Path
-from typing import Iterator, List, Optional, Tuple
+from typing import Dict, Iterator, List, Optional, Tuple
 
 import numpy as np
 
 from .. import report_reader
 from ..components import components_of
+from ..displacements import LENGTHS, Sight, displaced, wavelength_of
 from ..outputs import Outputs
+from ..pages import COMMON, head_of, scaled
 from ..pictures import (
     BRIGHTER,
     JUMP,
@@ -26,52 +30,53 @@ from ..pictures import (
     WARMER,
     Axes,
     Bar,
+    Colour,
     any_thinned,
     coloured,
     map_of,
+    mark_of,
     pixel_axes,
     thinned,
 )
-from ..planes import CYCLE, Ramp, Session, check_wavelength, read_session
+from ..planes import CYCLE, Ramp, Session, read_session
 from ..program import check_report
 from ..ramps import told
+from ..references import Reference, add_reference_words, check_reference_words, level_of, reference_of
+from ..screening import ISLAND, LONELY, WEAK, Screened, Terms, screened_by, terms_in
 from ..trouble import DISAGREES, Trouble
 from ..unwrapping import ACCEPTED, read_report
 
 MAX_MASKS, MAX_SURFACES = 12, 12
-COMMON = (1, 99)  # the range of colours, in per cent of the pixels
-STYLE = """
-body { font: 15px/1.45 sans-serif; color: #222; background: #fff; margin: 1.5em auto; max-width: 1120px; padding: 0 1em }
-h1 { font-size: 1.5em; overflow-wrap: anywhere } h2 { font-size: 1.2em; margin-top: 2em; border-bottom: 1px solid #ccc }
-h3 { font-size: 1em; margin: 0 0 .2em }
-.verdict { display: inline-block; padding: .3em .8em; color: #fff; font-weight: bold }
-.accepted { background: #1a7a3a } .refused { background: #b02a1c }
-.row { display: flex; flex-wrap: wrap; gap: 1.5em; align-items: flex-start }
-figure { margin: 0; flex: 1 1 340px; max-width: 540px; min-width: 0 } figcaption { font-size: .9em; padding-top: .2em }
-.small figure { flex: 1 1 240px; max-width: 340px }
-svg { width: 100%; display: block } svg image { image-rendering: pixelated } svg text { font: 12px sans-serif; fill: #222 }
-.wide { overflow-x: auto } svg.history { min-width: 1000px }
-table { border-collapse: collapse } td, th { border: 1px solid #bbb; padding: .25em .7em; text-align: right }
-th { background: #eee }
-"""
+DROPPED: Dict[int, Colour] = {WEAK: (214, 96, 77), ISLAND: (146, 100, 190), LONELY: (20, 90, 160)}
+
+
+@dataclass(frozen=True)
+class Shown:
+    """What a page is asked for: the radar's wavelength in metres, axes, the session before it was screened, and what is 0."""
+
+    wavelength: Optional[float] = None
+    axes: Optional[Axes] = None
+    unscreened: Optional[bytes] = None
+    reference: Reference = Reference()
 
 
 @dataclass(frozen=True)
 class Picture:
-    """What the page is of: the session's planes, the report, where it lies, and the radar's wavelength in metres, or 0."""
+    """What the page is of: the session's planes, the report, its place, the radar's wavelength in nanometres, or 0, and what is 0.
+
+    `terms` are those that the session was screened by, and `screening` is what that did, if it is known.
+    """
 
     session: Session
     report: report_reader.Report
     axes: Axes
-    wavelength: float
+    wavelength: int
+    reference: Reference
+    terms: Optional[Terms] = None
+    screening: Optional[Screened] = None
 
 
 # Sections
-
-
-def scaled(values: np.ndarray, low: float, high: float) -> np.ndarray:
-    """Parts from 0 to 1 of a range; what lies beyond it is at its ends."""
-    return np.clip((values - low) / ((high - low) or 1), 0, 1)
 
 
 def phase_map(picture: Picture) -> str:
@@ -83,16 +88,25 @@ def phase_map(picture: Picture) -> str:
     )
 
 
-def unit_of(wavelength: float) -> Tuple[str, float]:
-    """The unit of surfaces, and what a cycle is in it."""
-    return ("cm", 50 * wavelength) if wavelength else ("cycles", 1.0)
+def is_known(picture: Picture, surface: report_reader.Surface) -> bool:
+    """Whether the reference has a value."""
+    x0, y0, x1, y1 = picture.reference.box or (0, 0, 0, 0)
+    return picture.reference.box is not None and bool(surface.opened()[y0 : y1 + 1, x0 : x1 + 1].any())
+
+
+def shown_values(picture: Picture, surface: report_reader.Surface) -> Tuple[np.ndarray, str]:
+    """A surface in the page's unit, relative to the reference if that has a value, NaN where masked; and the unit."""
+    level = level_of(surface.values, picture.reference.box if is_known(picture, surface) else None)
+    if picture.wavelength:
+        found = displaced(surface.values, Sight(picture.wavelength, level))
+        return np.where(surface.opened(), found / LENGTHS["centimetres"], np.nan), "cm"
+    return surface.cycles() - float(level) / CYCLE, "cycles"
 
 
 def surface_map(picture: Picture, number: int) -> str:
     """A surface with its colour bar; outliers do not stretch it."""
     surface = picture.report.surfaces[number - 1]
-    unit, factor = unit_of(picture.wavelength)
-    values = factor * surface.cycles()
+    values, unit = shown_values(picture, surface)
     known = values[surface.opened()]
     low, high = (float(part) for part in np.percentile(known, COMMON)) if len(known) else (0.0, 0.0)
     words = (
@@ -102,8 +116,15 @@ def surface_map(picture: Picture, number: int) -> str:
     if len(known):
         words += f", from {known.min():.3f} to {known.max():.3f} {unit}; the colours range over those"
         words += f" from {COMMON[0]} to {COMMON[1]} %"
+    mark, box = None, picture.reference.box
+    if box is not None and is_known(picture, surface):
+        words += f". The reference, which is 0, is marked: {picture.reference.note}"
+        mark = mark_of(box, values.shape, f"reference: {picture.reference.note}")
+    elif box is not None:
+        words += ". The reference is masked here"
     bar = Bar(f"surface{number}", BRIGHTER, low, high, unit)
-    return map_of(coloured(scaled(thinned(values), low, high), BRIGHTER), picture.axes, bar, f"Surface {number}", words)
+    title = f"{'Displacement of surface' if picture.wavelength else 'Surface'} {number}"
+    return map_of(coloured(scaled(thinned(values), low, high), BRIGHTER), picture.axes, bar, title, words, mark)
 
 
 def first_section(picture: Picture) -> str:
@@ -111,8 +132,10 @@ def first_section(picture: Picture) -> str:
     surfaces = picture.report.surfaces
     last = surface_map(picture, len(surfaces)) if surfaces else "<p>No surface was published.</p>"
     words = "Cycles are counted such that the first open pixel is within the first one. Masked pixels are white."
+    if picture.reference.box is not None:
+        words = "Surfaces are relative to the reference that is marked. Masked pixels are white."
     if picture.wavelength:
-        words += " Centimetres are of range, along the line of sight, half a wavelength a cycle."
+        words += " Displacements are along the line of sight, half a wavelength a cycle, by the program's command displacement."
     if picture.report.ramp != (0, 0):
         words += f" Differences of neighbours are taken to lie within half a cycle of the expected {told(picture.report.ramp)}."
     return f'<h2>Phase and surface</h2><p>{words}</p><div class="row">{phase_map(picture)}{last}</div>'
@@ -207,6 +230,37 @@ def detail_section(picture: Picture) -> str:
     """Jumps, components and weights."""
     maps = [jump_map(picture), component_map(picture)] if picture.report.surfaces else []
     return f'<h2>Where to look</h2><div class="row">{"".join([*maps, weight_map(picture)])}</div>'
+
+
+def dropped_words(screening: Screened) -> str:
+    """How many pixels were dropped, and why."""
+    terms, stays = screening.terms, int(screening.stays().sum())
+    weak, lonely, island = (screening.dropped(why) for why in (WEAK, LONELY, ISLAND))
+    return (
+        f"Of {stays + weak + lonely + island} open pixels {weak} were dropped as weak (a weight below {terms.weight}), "
+        f"{lonely} as lonely (fewer than {terms.count} strong pixels within a radius of {terms.radius}) and {island} in "
+        f"{screening.islands()} islands (patches below {terms.patch} pixels). {stays} stay open"
+    )
+
+
+def screen_map(picture: Picture, screening: Screened) -> str:
+    """What became of each pixel."""
+    colours = np.where(thinned(screening.stays())[..., None], PLAIN, MASKED).astype(np.uint8)
+    for why, colour in DROPPED.items():
+        colours[any_thinned(screening.fates == why)] = colour
+    keys = [(DROPPED[WEAK], "weak"), (DROPPED[LONELY], "lonely"), (DROPPED[ISLAND], "island")]
+    keys += [(PLAIN, "open"), (MASKED, "masked")]
+    return map_of(colours, picture.axes, keys, "What the screen dropped", dropped_words(screening))
+
+
+def screen_section(picture: Picture) -> str:
+    """What was dropped before the first revision, if it was screened."""
+    if picture.screening is not None:
+        return f'<h2>Screening</h2><div class="row">{screen_map(picture, picture.screening)}</div>'
+    if picture.terms is not None:
+        words = f"The first mask was screened by {picture.terms.told()}. The session before tells what that dropped"
+        return f"<h2>Screening</h2><p>{words} (--unscreened).</p>"
+    return ""
 
 
 def changes_of(report: report_reader.Report) -> Iterator[str]:
@@ -337,18 +391,15 @@ def page_of(name: str, picture: Picture, verdict: str, accepted: bool) -> str:
     report = picture.report
     head = f"{report.width} by {report.height} pixels, tiles of side {report.side}, rule {report.rule}"
     if picture.wavelength:
-        head += f", wavelength {100 * picture.wavelength:g} cm"
+        head += f", wavelength {picture.wavelength / LENGTHS['centimetres']:.9g} cm"
     badge = f'<span class="verdict {"accepted" if accepted else "refused"}">check: {escape(verdict)}</span>'
-    policy = "default-src 'none'; img-src data:; style-src 'unsafe-inline'"
     return "\n".join(
         [
-            '<!DOCTYPE html><html lang="en"><head><meta charset="utf-8">',
-            '<meta name="viewport" content="width=device-width, initial-scale=1">',
-            f'<meta http-equiv="Content-Security-Policy" content="{policy}">',
-            f"<title>{escape(name)}</title><style>{STYLE}</style></head><body>",
+            head_of(name),
             f"<h1>{escape(name)}</h1><p>{head}</p><p>{badge}</p>",
             first_section(picture),
             detail_section(picture),
+            screen_section(picture),
             cost_section(report, accepted),
             mask_section(picture),
             earlier_section(picture),
@@ -358,14 +409,22 @@ def page_of(name: str, picture: Picture, verdict: str, accepted: bool) -> str:
     )
 
 
-def page_text(
-    name: str, session: bytes, report: bytes, verdict: str, wavelength: Optional[float], axes: Optional[Axes] = None
-) -> str:
+def page_text(name: str, session: bytes, report: bytes, verdict: str, shown: Shown = Shown()) -> str:
     """The page of a session and its report as they stand."""
     planes, found = read_session(session), read_report(report, name)
     if planes.phase.shape != (found.height, found.width):
         raise Trouble(f"{name} is of {found.width} by {found.height} pixels, and its session has another size")
-    picture = Picture(planes, found, axes or pixel_axes(planes.phase.shape), wavelength or 0.0)
+    terms = terms_in(session)
+    screening = None
+    if shown.unscreened is not None:
+        if terms is None:
+            raise Trouble("the session does not tell by which terms it was screened")
+        screening = screened_by(shown.unscreened, session, terms, "the session before")
+    axes = shown.axes or pixel_axes(planes.phase.shape)
+    wavelength = wavelength_of(shown.wavelength) if shown.wavelength is not None else 0
+    if found.surfaces:
+        level_of(found.surfaces[-1].values, shown.reference.box)  # Trouble if the last surface has no value there
+    picture = Picture(planes, found, axes, wavelength, shown.reference, terms, screening)
     return page_of(name, picture, verdict, verdict == ACCEPTED)
 
 
@@ -396,22 +455,34 @@ def words() -> ArgumentParser:
         "--wavelength",
         type=float,
         metavar="METRES",
-        help="of the radar, as 0.0555 for C band; adds centimetres of range",
+        help="of the radar, as 0.0555 for C band, from 1e-9 to 1, rounded to whole nanometres; shows centimetres of range",
     )
+    add_reference_words(found)
     found.add_argument("--like", metavar="FILE", help="the raster of phases, for axes in map units")
+    found.add_argument(
+        "--unscreened", metavar="FILE", help="the session before it was screened, to show what that dropped, and why"
+    )
     found.add_argument("--title", help="of the page (default: the report's name)")
     found.add_argument("page", help="the HTML file to write")
     return found
 
 
 def main(asked: Namespace) -> int:
-    check_wavelength(asked.wavelength)
-    with Outputs([asked.session, asked.report]) as outputs:
+    check_reference_words(asked)
+    if asked.wavelength is not None:
+        wavelength_of(asked.wavelength)
+    with Outputs([asked.session, asked.report, asked.unscreened, asked.like]) as outputs:
         made = outputs.beside(asked.page)
         session, report = Path(asked.session).read_bytes(), Path(asked.report).read_bytes()
         found = read_report(report, asked.report)
         accepted, verdict = check_report(session, report, found.rule, found.side, found.ramp)
         name = asked.title or Path(asked.report).name
-        made.write_text(page_text(name, session, report, verdict, asked.wavelength, axes_of(asked.like, found)))
+        unscreened = Path(asked.unscreened).read_bytes() if asked.unscreened else None
+        last = found.surfaces[-1].values if found.surfaces else None
+        reference = reference_of(asked, last, read_session(session).weights)
+        shown = Shown(asked.wavelength, axes_of(asked.like, found), unscreened, reference)
+        made.write_text(page_text(name, session, report, verdict, shown))
     print(f"{asked.page}: {verdict}")
+    if asked.reference_auto:
+        print(f"{asked.page}: reference: {reference.note}")
     return 0 if accepted else DISAGREES

@@ -5,24 +5,24 @@ at most, 0.00005 radians. A coherence becomes a weight. A pixel is masked where 
 infinite, a complex number is 0, --mask is 0, or the coherence is below --least-coherence. The first row of the raster is the
 first row of the planes, whichever way it points. Scales and offsets of bands are applied.
 
+--screen has the program's command `screen` mask what is noise. The session keeps the terms in a comment, and the mask is compared
+with one that is made here by the same rule. Edits of --script come after it, so `unmask` opens what it dropped.
+
 An expected --ramp is told, as the words that the program wants, and kept in a comment of the session, where the other verbs find
 it. `auto` is the peak of the spectrum of fringe rates. It is known up to whole cycles a pixel alone, so what rises by 0.8 cycle
 a pixel looks as if it fell by 0.2.
 """
 from argparse import ArgumentParser, Namespace, RawDescriptionHelpFormatter
 from pathlib import Path
-from typing import Tuple
 
-import numpy as np
-
-from ..components import warning_of
-from ..outputs import Outputs
-from ..planes import check_size, session_of
+from ..outputs import Outputs, beside
+from ..planes import check_size
 from ..program import ramp_words
-from ..ramps import add_ramp_words, ramp_for, told
+from ..ramps import add_ramp_words, told
 from ..rasters import Scene, add_scene_words, name_of, scene_of, size_of, whole
-from ..trouble import Trouble, warn
-from ..weights import highest_of
+from ..screening import Screened, add_screen_words, check_screen_words
+from ..trouble import Trouble
+from ..unwrapping import Input, Making, Planes, input_of
 
 
 def words() -> ArgumentParser:
@@ -35,6 +35,7 @@ def words() -> ArgumentParser:
     )
     add_scene_words(found)
     add_ramp_words(found)
+    add_screen_words(found)
     found.add_argument(
         "--script",
         metavar="FILE",
@@ -44,30 +45,42 @@ def words() -> ArgumentParser:
     return found
 
 
-def read_scene(scene: Scene) -> Tuple[np.ndarray, np.ndarray, np.ndarray]:
-    """Phases, weights and open pixels of a scene that fits into one session, with what is to be said of its mask."""
+def read_scene(scene: Scene) -> Planes:
+    """Phases, weights and open pixels of a scene that fits into one session."""
     raster = scene.phase.raster
     check_size(*size_of(raster), name_of(raster))
-    phase, weights, opened = scene.read(whole(raster))
-    if not opened.any():
+    planes = scene.read(whole(raster))
+    if not planes[2].any():
         raise Trouble(f"{name_of(raster)} has no pixel that is open")
-    line = warning_of(opened, scene.least > 0)
-    if line:
-        warn(line)
-    return phase, weights, opened
+    return planes
+
+
+def input_for(scene: Scene, asked: Namespace, script: bytes = b"end\n") -> Input:
+    """The session that the words ask for."""
+    masked_by = "--least-coherence" if scene.least > 0 else None
+    return input_of(read_scene(scene), Making(asked.phase, scene.looks, asked.ramp, asked.screen, script, masked_by))
+
+
+def screen_line(screening: Screened) -> str:
+    """What was dropped, and by which terms."""
+    return f"screened by {screening.terms.told()}, which dropped {screening.told()}"
 
 
 def main(asked: Namespace) -> int:
     scene = scene_of(asked)
+    check_screen_words(asked.screen, asked.unscreened, scene.coherence)
     with Outputs([*scene.files(), asked.script]) as outputs:
-        made = outputs.beside(asked.session)
+        made, unscreened = outputs.beside(asked.session), beside(outputs, asked.unscreened)
         script = Path(asked.script).read_bytes() if asked.script else b"end\n"
-        phase, weights, opened = read_scene(scene)
-        ramp = ramp_for(asked.ramp, phase, weights, opened, asked.phase)
-        made.write_bytes(session_of(phase, weights, opened, script, highest_of(scene.looks), ramp))
-    height, width = phase.shape
-    print(f"{asked.session}: {width} by {height} pixels, {opened.sum()} open, {(~opened).sum()} masked")
-    if ramp is not None:
-        words = " ".join(ramp_words(ramp)) or "no words for it"
-        print(f"{asked.session}: {told(ramp)}; the program wants {words}")
+        found = input_for(scene, asked, script)
+        made.write_bytes(found.session)
+        if unscreened:
+            unscreened.write_bytes(found.before)
+    height, width = found.opened.shape
+    print(f"{asked.session}: {width} by {height} pixels, {found.opened.sum()} open, {(~found.opened).sum()} masked")
+    if found.screening is not None:
+        print(f"{asked.session}: {screen_line(found.screening)}")
+    if found.ramp is not None:
+        words = " ".join(ramp_words(found.ramp)) or "no words for it"
+        print(f"{asked.session}: {told(found.ramp)}; the program wants {words}")
     return 0

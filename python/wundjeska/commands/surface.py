@@ -6,14 +6,18 @@ these units:
 
   cycles        one cycle is half a wavelength of range
   radians       2 pi a cycle
-  centimetres   of range: 50 times the wavelength in metres for each cycle
-  metres        of range: half the wavelength for each cycle
+  nanometres, millimetres, centimetres, metres
+                of range, which the program's command `displacement` computes in whole nanometres, rounded down; --turn comes after
 
 Range is along the line of sight. Whether it grows or shrinks with the phase is the convention of whatever made the
 interferogram; --turn changes the sign. A surface is known up to one whole number of cycles, the same everywhere;
---reference makes a pixel of known displacement 0, --reference-window the mean of a box.
+--reference makes a pixel of known displacement 0, --reference-window the mean of a box, --reference auto that of the most
+coherent block that is open everywhere, by the weights of --session. A mean is subtracted to the nearest nanometre.
+
+With --block the GeoTIFF has a pixel for each block of B by B of a length: the mean of those that have a value. Its first
+pixel has the upper left corner of the raster, and blocks that the raster's right or lower edge cuts are as large as the
+others on the map.
 """
-import io
 import sys
 from argparse import ArgumentParser, Namespace, RawDescriptionHelpFormatter
 from dataclasses import dataclass
@@ -23,10 +27,13 @@ from typing import Any, Dict, Optional, Tuple
 import numpy as np
 
 from .. import report_reader
+from ..displacements import read_grid
 from ..outputs import Outputs
-from ..product import NOTHING_CERTIFIES, add_reference_words, add_unit_words, check_unit_words, write_product
+from ..planes import read_session
+from ..product import NOTHING_CERTIFIES, add_unit_words, check_unit_words, write_product
 from ..program import check_report
 from ..rasters import files_of, name_of, open_raster, size_of
+from ..references import add_reference_words, reference_of
 from ..trouble import DISAGREES, REFUSED_WORDS, Trouble, warn
 from ..unwrapping import read_report
 from .unwrap import ramp_note
@@ -37,7 +44,7 @@ def words() -> ArgumentParser:
         description=__doc__,
         formatter_class=RawDescriptionHelpFormatter,
         epilog="examples: insar_unwrap grid <session | surface - --like phase.tif cycles.tif\n"
-        "  surface report --session session --like phase.tif --unit metres --wavelength 0.0555 range.tif\n"
+        "  surface report --session session --like phase.tif --unit metres --wavelength 0.0555 --block 4 range.tif\n"
         "The status is 0 if the GeoTIFF was written, 1 if `check` refused the report, 2 for words that are refused, 3 if the "
         "input does not fit, 5 if a file cannot be read or written.",
     )
@@ -77,13 +84,6 @@ def verdict_of(report: report_reader.Report, text: bytes, session: Optional[str]
     return verdict
 
 
-def read_grid(text: bytes, path: str) -> np.ndarray:
-    try:
-        return report_reader.read_grid_from(io.BytesIO(text))
-    except report_reader.BrokenLine as broken:
-        raise Trouble(f"{path}: {broken}") from broken
-
-
 def found_in(text: bytes, path: str, session: Optional[str]) -> Found:
     """The values of a grid, or of a report's last surface."""
     if not text.startswith(b"insar-report"):
@@ -111,6 +111,8 @@ def shape_of(raster: Any) -> Tuple[int, int]:
 
 def main(asked: Namespace) -> int:
     check_unit_words(asked)
+    if asked.reference_auto and not asked.session:
+        raise Trouble("--reference auto wants --session, whose weights are made of coherence", REFUSED_WORDS)
     like = open_raster(asked.like)
     inputs = [None if asked.surface == "-" else asked.surface, asked.session, *files_of(like)]
     with Outputs(inputs) as outputs:
@@ -121,7 +123,11 @@ def main(asked: Namespace) -> int:
             raise Trouble(
                 f"the surface has {width} by {height} pixels, {name_of(like)} {like.RasterXSize} by {like.RasterYSize}"
             )
-        write_product(made, like, found.values, asked, found.notes)
+        weights = read_session(Path(asked.session).read_bytes()).weights if asked.session else None
+        reference = reference_of(asked, found.values, weights)
+        write_product(made, like, found.values, asked, reference, found.notes)
+    if asked.reference_auto:
+        print(f"{asked.geotiff}: reference: {reference.note}")
     if found.notes["VERDICT"] == NOTHING_CERTIFIES:
         warn(f"{asked.geotiff}: {NOTHING_CERTIFIES}; a report is checked by --session")
     return 0

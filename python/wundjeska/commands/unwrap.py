@@ -11,23 +11,17 @@ from typing import Any, Dict, Optional
 import numpy as np
 
 from ..components import components_of
-from ..outputs import Outputs
-from ..planes import Ramp, session_of
-from ..product import (
-    NOTHING_CERTIFIES,
-    add_reference_words,
-    add_unit_words,
-    check_unit_words,
-    write_components,
-    write_product,
-)
+from ..outputs import Outputs, beside
+from ..planes import Ramp
+from ..product import NOTHING_CERTIFIES, add_unit_words, check_unit_words, write_components, write_product
 from ..program import show
-from ..ramps import add_ramp_words, ramp_for, told
+from ..ramps import add_ramp_words, told
 from ..rasters import Scene, add_scene_words, axes_of, scene_of
+from ..references import Reference, add_reference_words, reference_of
+from ..screening import add_screen_words, check_screen_words
 from ..trouble import REFUSED_WORDS, Trouble, warn
-from ..unwrapping import ACCEPTED, RULES, SIDE, Settings, Solved, solve
-from ..weights import highest_of
-from .session import read_scene
+from ..unwrapping import ACCEPTED, RULES, SIDE, Input, Settings, Solved, solve
+from .session import input_for, screen_line
 
 
 def add_solver_words(words: ArgumentParser) -> None:
@@ -57,6 +51,7 @@ def words() -> ArgumentParser:
     )
     add_scene_words(found)
     add_ramp_words(found)
+    add_screen_words(found)
     add_solver_words(found)
     add_reference_words(found)
     add_unit_words(found)
@@ -98,63 +93,70 @@ def ramp_note(ramp: Optional[Ramp]) -> Dict[str, Any]:
     return {} if ramp is None else {"RAMP": f"{show(ramp)} in 1/65536 cycle a pixel"}
 
 
+def screen_note(made: Input) -> Dict[str, Any]:
+    """What is told of a screen."""
+    if made.screening is None:
+        return {}
+    return {"SCREEN": made.screening.terms.told(), "DROPPED": made.screening.told()}
+
+
 def weights_note(scene: Scene) -> str:
     if scene.coherence is None:
         return "equal"
     return "linear in coherence" if scene.looks is None else f"by the variance of {scene.looks:g} looks"
 
 
-def write_page(path: Path, asked: Namespace, session: bytes, solved: Solved, scene: Scene) -> None:
-    from .page import page_text
+def write_page(path: Path, asked: Namespace, made: Input, solved: Solved, scene: Scene, reference: Reference) -> None:
+    from .page import Shown, page_text
 
-    title = Path(asked.geotiff).name
-    path.write_text(
-        page_text(title, session, solved.report, solved.verdict, asked.wavelength, axes_of(scene.phase.raster))
-    )
-
-
-def beside(outputs: Outputs, name: Optional[str]) -> Optional[Path]:
-    return outputs.beside(name) if name else None
+    unscreened = made.before if made.screening else None
+    shown = Shown(asked.wavelength, axes_of(scene.phase.raster), unscreened, reference)
+    path.write_text(page_text(Path(asked.geotiff).name, made.session, solved.report, solved.verdict, shown))
 
 
 def main(asked: Namespace) -> int:
     check_unit_words(asked)
     settings = settings_of(asked)
+    if asked.reference_auto and not asked.coherence:
+        raise Trouble("--reference auto wants --coherence", REFUSED_WORDS)
     if asked.least_component < 1:
         raise Trouble("--least-component is 1 or more", REFUSED_WORDS)
     scene = scene_of(asked)
+    check_screen_words(asked.screen, asked.unscreened, scene.coherence)
     like = scene.phase.raster
     with Outputs(scene.files()) as outputs:
-        made = outputs.beside(asked.geotiff)
-        names = (asked.components, asked.page, asked.session, asked.report)
-        numbered, page, kept_session, kept_report = (beside(outputs, name) for name in names)
-        phase, weights, opened = read_scene(scene)
-        ramp = ramp_for(asked.ramp, phase, weights, opened, asked.phase)
-        session = session_of(phase, weights, opened, highest=highest_of(scene.looks), ramp=ramp)
-        solved = solve(session, settings, not asked.no_check, asked.phase)
-        components = components_of(opened, asked.least_component)
-        notes = {**notes_of(solved, asked, scene, components), **ramp_note(ramp)}
-        write_product(made, like, solved.surface.values, asked, notes)
+        place = outputs.beside(asked.geotiff)
+        names = (asked.components, asked.page, asked.session, asked.report, asked.unscreened)
+        numbered, page, kept_session, kept_report, unscreened = (beside(outputs, name) for name in names)
+        made = input_for(scene, asked)
+        solved = solve(made.session, settings, not asked.no_check, asked.phase)
+        components = components_of(made.opened, asked.least_component)
+        notes = {**notes_of(solved, asked, scene, components), **ramp_note(made.ramp), **screen_note(made)}
+        reference = reference_of(asked, solved.surface.values, made.weights)
+        write_product(place, like, solved.surface.values, asked, reference, notes)
         if numbered:
             write_components(numbered, like, components, asked.least_component)
         if page:
-            write_page(page, asked, session, solved, scene)
-        if kept_session:
-            kept_session.write_bytes(session)
-        if kept_report:
-            kept_report.write_bytes(solved.report)
-    tell(asked, solved, opened, components)
-    if ramp is not None:
-        print(f"{asked.geotiff}: {told(ramp)}")
+            write_page(page, asked, made, solved, scene, reference)
+        for kept, text in ((kept_session, made.session), (kept_report, solved.report), (unscreened, made.before)):
+            if kept:
+                kept.write_bytes(text)
+    tell(asked, solved, made, components)
+    if asked.reference_auto:
+        print(f"{asked.geotiff}: reference: {reference.note}")
     return 0
 
 
-def tell(asked: Namespace, solved: Solved, opened: np.ndarray, components: np.ndarray) -> None:
+def tell(asked: Namespace, solved: Solved, made: Input, components: np.ndarray) -> None:
     if solved.verdict != ACCEPTED:
         warn(f"{asked.geotiff}: {NOTHING_CERTIFIES}")
     surface, count = solved.surface, int(components.max(initial=0))
-    height, width = opened.shape
+    height, width = made.opened.shape
     print(
-        f"{asked.geotiff}: {solved.verdict}, {width} by {height} pixels, {opened.sum()} open in {count} component{'' if count == 1 else 's'}, "
-        f"tiles cost {surface.tile_cost}, seams {surface.seam_cost}"
+        f"{asked.geotiff}: {solved.verdict}, {width} by {height} pixels, {made.opened.sum()} open in {count} "
+        f"component{'' if count == 1 else 's'}, tiles cost {surface.tile_cost}, seams {surface.seam_cost}"
     )
+    if made.screening is not None:
+        print(f"{asked.geotiff}: {screen_line(made.screening)}")
+    if made.ramp is not None:
+        print(f"{asked.geotiff}: {told(made.ramp)}")

@@ -28,6 +28,18 @@ class Rasters(unittest.TestCase):
         for words in (("1",), ("1", "x"), ("1", "65537"), ("1.5", "0"), ("1", "2", "3")):
             self.assertEqual(run("flat-2", *words).returncode, 2)
 
+    def test_tears_are_as_large_as_told(self) -> None:
+        broken, left = rasters.torn("fault", 400, 200)
+        jumps = np.abs(np.diff(broken, axis=0)).max(axis=0)
+        self.assertAlmostEqual(jumps[200], 3.4, delta=0.06)
+        self.assertEqual((jumps[0], jumps[399]), (0, 0))
+        self.assertLess(left.min(), 0.2)
+        folded, left = rasters.torn("fold", 400, 200)
+        self.assertAlmostEqual(folded[0, 105] - folded[0, 100], 4 * np.exp(-5 / 32), delta=1e-9)
+        self.assertEqual((left[0, 99], left[0, 103]), (1, 0.4))
+        for name in ("fault-1-64-low", "fold-1-64-medium"):
+            self.assertEqual(run(name).returncode, 0)
+
     def test_a_trial_is_that_of_the_command(self) -> None:
         made, _ = rasters.raster("trial-7-64")
         self.assertEqual(np.count_nonzero(rasters.residues(made.surface % 65536)), 450)

@@ -1,0 +1,2 @@
+pub mod Tilings
+pub mod Whole

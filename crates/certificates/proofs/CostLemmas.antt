@@ -4,16 +4,13 @@ use Rattle.std.specs.Int.{w128}
 use Rattle.std.specs.Prelude.{ℤ, pos, Bool, IsTrue, ◌&&◌, nat_lt}
 use Rattle.std.proofs.lemmas.Bool.Decides.{nat_tests}
 use Rattle.std.proofs.lemmas.Int.{ints}
-use Rattle.raster_model.specs.declared.scene.Scene.{Scene}
-use Rattle.raster_model.specs.declared.tiling.Window.{Window}
 use Rattle.raster_model.specs.Sums.{Field, is_edge, right_edge, down_edge}
-use Rattle.raster_model.specs.Raster.{edge_cost, cost_from, has_open_ends}
-use Rattle.raster_model.specs.Tiles.{IsWithin, IsWindowOf}
-use Rattle.raster_model.specs.Heights.{KnowsEnds, KnowsOpenOf}
-use Rattle.raster_model.specs.Scene.{raster_of}
+use Rattle.raster_model.specs.Raster.{edge_cost, has_open_ends}
+use Rattle.raster_model.specs.Tiles.{IsWithin}
+use Rattle.raster_model.specs.Heights.{KnowsEnds}
 use Rattle.certificates.specs.declared.tile.Tile.{Tile}
-use Rattle.certificates.specs.TileWords.{AreRowsOpen, held_mask}
-use Rattle.raster_model.proofs.WindowCosts.{cost_from_is}
+use Rattle.certificates.specs.TileWords.{AreRowsOpen, KnowsTile, cost_at, held_mask, held_raster, surface_of_cycles}
+use Rattle.whole_raster.proofs.WindowCosts.{cost_from_is}
 use Rattle.std.proofs.lemmas.Bool.{and_parts}
 use Rattle.sums_and_lists.specs.Sums.{where_true}
 
@@ -24,24 +21,24 @@ is_right w h x y l m = grind (arith, nat_tests)
 is_lower : (w h x y : ℕ) → x < w → y + 1 < h → IsTrue (is_edge w h (down_edge x y))
 is_lower w h x y l m = grind (arith, nat_tests)
 
-module _ (s : Scene) (mask knows : Field Bool) (tile : ℕ) (v : Window) (is : IsWindowOf s.tiling tile v) (known : KnowsOpenOf (raster_of s) mask tile knows) where
+module _ (k : Tile) (knows : Field Bool) (known : KnowsTile k knows) where
   -- an open pixel of the window is known
-  at_pixel : (x y : ℕ) → IsWithin v x y → IsTrue (mask x y) → IsTrue (knows x y)
+  at_pixel : (x y : ℕ) → IsWithin k.window x y → IsTrue (held_mask k x y) → IsTrue (knows x y)
   at_pixel x y w o =
-      known x y (omega (arith, w, is.across, s.same_width)) (omega (arith, w, is.along, s.same_height))
-      ((is.pixels x y (omega (arith, w, is.across)) (omega (arith, w, is.along))).1 w) o
+      known x y (omega (arith, w, k.pixels.across)) (omega (arith, w, k.pixels.along))
+      ((k.pixels.pixels x y (omega (arith, w, k.pixels.across)) (omega (arith, w, k.pixels.along))).1 w) o
 
   -- what the costs of those edges ask for
-  pub right_asks : (x y : ℕ) → IsWithin v x y → x < v.x1 → IsTrue (is_edge s.phase.width s.phase.height (right_edge x y)) × KnowsEnds mask knows (right_edge x y)
+  pub right_asks : (x y : ℕ) → IsWithin k.window x y → x < k.window.x1 → IsTrue (is_edge k.scene.now.phase.width k.scene.now.phase.height (right_edge x y)) × KnowsEnds (held_mask k) knows (right_edge x y)
   right_asks x y w l = (
-    is_right s.phase.width s.phase.height x y (omega (arith, l, is.across, s.same_width)) (omega (arith, w, is.along, s.same_height)),
-    λ o. (let b = and_parts (mask x y) (mask (x + 1) y) o in (at_pixel x y w b.0, at_pixel (x + 1) y (omega (arith, w), omega (arith, l), w.2, w.3) b.1)),
+    is_right k.scene.now.phase.width k.scene.now.phase.height x y (omega (arith, l, k.pixels.across)) (omega (arith, w, k.pixels.along)),
+    λ o. (let b = and_parts (held_mask k x y) (held_mask k (x + 1) y) o in (at_pixel x y w b.0, at_pixel (x + 1) y (omega (arith, w), omega (arith, l), w.2, w.3) b.1)),
   )
 
-  pub lower_asks : (x y : ℕ) → IsWithin v x y → y < v.y1 → IsTrue (is_edge s.phase.width s.phase.height (down_edge x y)) × KnowsEnds mask knows (down_edge x y)
+  pub lower_asks : (x y : ℕ) → IsWithin k.window x y → y < k.window.y1 → IsTrue (is_edge k.scene.now.phase.width k.scene.now.phase.height (down_edge x y)) × KnowsEnds (held_mask k) knows (down_edge x y)
   lower_asks x y w l = (
-    is_lower s.phase.width s.phase.height x y (omega (arith, w, is.across, s.same_width)) (omega (arith, l, is.along, s.same_height)),
-    λ o. (let b = and_parts (mask x y) (mask x (y + 1)) o in (at_pixel x y w b.0, at_pixel x (y + 1) (w.0, w.1, omega (arith, w), omega (arith, l)) b.1)),
+    is_lower k.scene.now.phase.width k.scene.now.phase.height x y (omega (arith, w, k.pixels.across)) (omega (arith, l, k.pixels.along)),
+    λ o. (let b = and_parts (held_mask k x y) (held_mask k x (y + 1)) o in (at_pixel x y w b.0, at_pixel x (y + 1) (w.0, w.1, omega (arith, w), omega (arith, l)) b.1)),
   )
 
 -- where the tile's pixels in a row and in the next one are open, so are the ends of the edges that start in the row
@@ -67,7 +64,7 @@ no_cost a e = omega (arith, e)
 pub costs_fit : (a b : ℕ) → a ≤ 1048560 * (2 ^ 49 + 1) → b ≤ 1048560 * (2 ^ 49 + 1) → Fits w128 (a + b) × (a + b ≤ 2 * 1048560 * (2 ^ 49 + 1))
 costs_fit a b k l = (record { fits = omega (arith, k, l) }, omega (arith, k, l))
 
-pub both_costs : (s : Scene) (mask : Field Bool) (S : Field ℤ) (tile : ℕ) (v : Window) → IsWindowOf s.tiling tile v → (x y a b : ℕ) → IsWithin v x y
-    → pos a ≡ where_true (nat_lt x v.x1) (edge_cost (raster_of s) mask S (right_edge x y)) → pos b ≡ where_true (nat_lt y v.y1) (edge_cost (raster_of s) mask S (down_edge x y))
-    → pos (a + b) ≡ cost_from (raster_of s) mask tile S x y
-both_costs s mask S tile v is x y a b w p q = omega (arith, ints, cost_from_is s mask S tile v is x y w, p, q)
+pub both_costs : (k : Tile) (cycles : Field ℤ) (x y a b : ℕ) → IsWithin k.window x y
+    → pos a ≡ where_true (nat_lt x k.window.x1) (edge_cost (held_raster k) (held_mask k) (surface_of_cycles k cycles) (right_edge x y)) → pos b ≡ where_true (nat_lt y k.window.y1) (edge_cost (held_raster k) (held_mask k) (surface_of_cycles k cycles) (down_edge x y))
+    → pos (a + b) ≡ cost_at k cycles x y
+both_costs k cycles x y a b w p q = omega (arith, ints, cost_from_is (held_raster k) (held_mask k) (surface_of_cycles k cycles) k.number k.window k.pixels x y w, p, q)

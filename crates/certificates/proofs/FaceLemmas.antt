@@ -5,40 +5,38 @@ use Rattle.std.specs.Int.{w128}
 use Rattle.std.proofs.lemmas.Int.{ints, unsigned_abs-mul, to_z-of_z, fits_signed_from_abs}
 use Rattle.std.proofs.lemmas.Nat.{mul-add-lt, mul-le}
 use Rattle.raster_model.specs.declared.edge.Edge.{Edge}
-use Rattle.raster_model.specs.declared.scene.Scene.{Scene}
-use Rattle.raster_model.specs.declared.tiling.Window.{Window}
 use Rattle.raster_model.specs.Sums.{Field}
 use Rattle.raster_model.specs.Raster.{residue}
-use Rattle.raster_model.specs.Certificates.{before, above, left, face_difference, faces_of_tile, face_product}
-use Rattle.raster_model.specs.Cells.{cell_count, face_at}
+use Rattle.raster_model.specs.Certificates.{before, above, left, face_difference, face_product}
+use Rattle.raster_model.specs.Cells.{face_at}
 use Rattle.raster_model.specs.Order.{IsCellAt}
-use Rattle.raster_model.specs.Tiles.{IsWindowOf}
-use Rattle.raster_model.specs.Scene.{raster_of}
-use Rattle.raster_model.proofs.TileCells.{cell_count-is, cells_before-is, face_inside, face_outside}
+use Rattle.certificates.specs.declared.tile.Tile.{Tile}
+use Rattle.certificates.specs.TileWords.{HasFaces, faces_at, held_raster}
+use Rattle.whole_raster.proofs.TileCells.{cell_count-is, cells_before-is, face_inside, face_outside}
 
 -- where a cell's face stands in a list in the window's row order
-module _ (s : Scene) (tile : ℕ) (v : Window) (is : IsWindowOf s.tiling tile v) (faces : List ℤ) where
-  pub face_place : (x y : ℕ) → IsCellAt v x y → length faces ≡ cell_count (raster_of s) tile → (y - v.y0) * (v.x1 - v.x0) + (x - v.x0) < length faces
+module _ (k : Tile) (faces : List ℤ) where
+  pub face_place : (x y : ℕ) → IsCellAt k.window x y → HasFaces k faces → (y - k.window.y0) * (k.window.x1 - k.window.x0) + (x - k.window.x0) < length faces
   face_place x y c e =
-      omega (arith, e, cell_count-is s tile v is, mul-add-lt (y - v.y0) (v.x1 - v.x0) (x - v.x0) (v.y1 - v.y0) (omega (arith, c)) (omega (arith, c)))
+      omega (arith, e, cell_count-is (held_raster k) k.number k.window k.pixels, mul-add-lt (y - k.window.y0) (k.window.x1 - k.window.x0) (x - k.window.x0) (k.window.y1 - k.window.y0) (omega (arith, c)) (omega (arith, c)))
 
-  pub face_read : (x y : ℕ) → IsCellAt v x y → slice_index_or faces ((y - v.y0) * (v.x1 - v.x0) + (x - v.x0)) (pos 0) ≡ faces_of_tile (raster_of s) tile (face_at (raster_of s) tile faces) x y
+  pub face_read : (x y : ℕ) → IsCellAt k.window x y → slice_index_or faces ((y - k.window.y0) * (k.window.x1 - k.window.x0) + (x - k.window.x0)) (pos 0) ≡ faces_at k faces x y
   unfolding face_at
   face_read x y c =
-      ap (λ (k : ℕ). slice_index_or faces k (pos 0)) (sym (cells_before-is s tile v is x y c))
-      ∙ sym (face_inside s tile v is (face_at (raster_of s) tile faces) x y c)
+      ap (λ (n : ℕ). slice_index_or faces n (pos 0)) (sym (cells_before-is (held_raster k) k.number k.window k.pixels x y c))
+      ∙ sym (face_inside (held_raster k) k.number k.window k.pixels (face_at (held_raster k) k.number faces) x y c)
 
   -- the numbers by which code finds it fit, and no cell outside the window has one
-  pub face_fits : (x y : ℕ) → IsCellAt v x y → Fits w64 (v.x1 - v.x0) × Fits w64 (y - v.y0) × Fits w64 ((y - v.y0) * (v.x1 - v.x0)) × Fits w64 (x - v.x0) × Fits w64 ((y - v.y0) * (v.x1 - v.x0) + (x - v.x0)) × Fits w64 (((y - v.y0) * (v.x1 - v.x0) + (x - v.x0)) * 8)
+  pub face_fits : (x y : ℕ) → IsCellAt k.window x y → Fits w64 (k.window.x1 - k.window.x0) × Fits w64 (y - k.window.y0) × Fits w64 ((y - k.window.y0) * (k.window.x1 - k.window.x0)) × Fits w64 (x - k.window.x0) × Fits w64 ((y - k.window.y0) * (k.window.x1 - k.window.x0) + (x - k.window.x0)) × Fits w64 (((y - k.window.y0) * (k.window.x1 - k.window.x0) + (x - k.window.x0)) * 8)
   face_fits x y c =
-      let m = mul-le (y - v.y0) (v.x1 - v.x0) 4096 4096 (omega (arith, c, is.along, s.tiling.high)) (omega (arith, is.across, s.tiling.wide)) in
-      let l : x - v.x0 ≤ 4096 = omega (arith, c, is.across, s.tiling.wide) in
-      let w : v.x1 - v.x0 ≤ 4096 = omega (arith, is.across, s.tiling.wide) in
-      let h : y - v.y0 ≤ 4096 = omega (arith, c, is.along, s.tiling.high) in
+      let m = mul-le (y - k.window.y0) (k.window.x1 - k.window.x0) 4096 4096 (omega (arith, c, k.pixels.along, k.scene.now.same_height, k.scene.now.tiling.high)) (omega (arith, k.pixels.across, k.scene.now.same_width, k.scene.now.tiling.wide)) in
+      let l : x - k.window.x0 ≤ 4096 = omega (arith, c, k.pixels.across, k.scene.now.same_width, k.scene.now.tiling.wide) in
+      let w : k.window.x1 - k.window.x0 ≤ 4096 = omega (arith, k.pixels.across, k.scene.now.same_width, k.scene.now.tiling.wide) in
+      let h : y - k.window.y0 ≤ 4096 = omega (arith, c, k.pixels.along, k.scene.now.same_height, k.scene.now.tiling.high) in
       (record { fits = omega (arith, w) }, record { fits = omega (arith, h) }, record { fits = omega (arith, m) }, record { fits = omega (arith, l) }, record { fits = omega (arith, m, l) }, record { fits = omega (arith, m, l) })
 
-  pub no_face : (x y : ℕ) → (IsCellAt v x y → ⊥) → pos 0 ≡ faces_of_tile (raster_of s) tile (face_at (raster_of s) tile faces) x y
-  no_face x y n = sym (face_outside s tile v is (face_at (raster_of s) tile faces) x y n)
+  pub no_face : (x y : ℕ) → (IsCellAt k.window x y → ⊥) → pos 0 ≡ faces_at k faces x y
+  no_face x y n = sym (face_outside (held_raster k) k.number k.window k.pixels (face_at (held_raster k) k.number faces) x y n)
 
 pub not_both : (a b : ℕ) → a < b → b ≤ a → ⊥
 not_both a b l m = omega (arith, l, m)
@@ -102,25 +100,25 @@ pub sum_fits : (a t : ℤ) (x y : ℕ) → unsigned_abs a ≤ 2 ^ 63 * (4096 * y
 sum_fits a t x y k l m = (omega (arith, ints), omega (arith, ints), fits_signed_from_abs w128 (a +ℤ to_z w128 (of_z w128 t)) (omega (arith, ints)))
 
 -- the products, which are 0 where the tile has no cell
-module _ (s : Scene) (tile : ℕ) (v : Window) (is : IsWindowOf s.tiling tile v) (f : Field ℤ) where
-  pub product_outside : (x y : ℕ) → x < s.phase.width → y < s.phase.height → (IsCellAt v x y → ⊥) → face_product (raster_of s) tile f x y ≡ pos 0
+module _ (k : Tile) (f : Field ℤ) where
+  pub product_outside : (x y : ℕ) → x < k.scene.now.phase.width → y < k.scene.now.phase.height → (IsCellAt k.window x y → ⊥) → face_product (held_raster k) k.number f x y ≡ pos 0
   unfolding face_product
-  product_outside x y l m n = rw (face_outside s tile v is f x y n) (zero_times (residue (raster_of s) x y))
+  product_outside x y l m n = rw (face_outside (held_raster k) k.number k.window k.pixels f x y n) (zero_times (residue (held_raster k) x y))
     where
       zero_times : (z : ℤ) → pos 0 *ℤ z ≡ pos 0
       zero_times z = omega (arith, ints)
 
-  pub cells_before_fit : (x y : ℕ) → x < v.x1 → y < v.y1 → 4096 * y + x < 2 ^ 26
-  cells_before_fit x y l m = omega (arith, l, m, is.across, is.along, s.tiling.wide, s.tiling.high)
+  pub cells_before_fit : (x y : ℕ) → x < k.window.x1 → y < k.window.y1 → 4096 * y + x < 2 ^ 26
+  cells_before_fit x y l m = omega (arith, l, m, k.pixels.across, k.pixels.along, k.scene.now.same_width, k.scene.now.tiling.wide, k.scene.now.same_height, k.scene.now.tiling.high)
 
-  pub ends_in_raster : (x y : ℕ) → IsCellAt v x y → (x + 1 < s.phase.width) × (y + 1 < s.phase.height)
-  ends_in_raster x y c = (omega (arith, c, is.across, s.same_width), omega (arith, c, is.along, s.same_height))
+  pub ends_in_raster : (x y : ℕ) → IsCellAt k.window x y → (x + 1 < k.scene.now.phase.width) × (y + 1 < k.scene.now.phase.height)
+  ends_in_raster x y c = (omega (arith, c, k.pixels.across), omega (arith, c, k.pixels.along))
 
-  pub cells_across_fit : (v.x0 ≤ v.x1) × (v.x1 ≤ s.phase.width)
-  cells_across_fit = (omega (arith, is.across), omega (arith, is.across, s.same_width))
+  pub cells_across_fit : (k.window.x0 ≤ k.window.x1) × (k.window.x1 ≤ k.scene.now.phase.width)
+  cells_across_fit = (omega (arith, k.pixels.across), omega (arith, k.pixels.across))
 
-  pub cells_along_fit : (v.y0 ≤ v.y1) × (v.y1 ≤ s.phase.height)
-  cells_along_fit = (omega (arith, is.along), omega (arith, is.along, s.same_height))
+  pub cells_along_fit : (k.window.y0 ≤ k.window.y1) × (k.window.y1 ≤ k.scene.now.phase.height)
+  cells_along_fit = (omega (arith, k.pixels.along), omega (arith, k.pixels.along))
 
 -- a face of 0 adds nothing
 pub no_product : (a b : ℤ) → a ≡ pos 0 → pos 0 ≡ a *ℤ b

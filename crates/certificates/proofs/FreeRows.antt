@@ -7,7 +7,7 @@ use Rattle.raster_model.specs.Raster.{departure, edge_cost, has_open_ends, maske
 use Rattle.raster_model.specs.Sums.{Field, right_edge, down_edge, sum_row}
 use Rattle.raster_model.specs.declared.edge.Edge.{Edge}
 use Rattle.raster_model.proofs.Steps.{no_steps}
-use Rattle.raster_model.proofs.WindowCosts.{cost_from_is, cost_from-outside}
+use Rattle.whole_raster.proofs.WindowCosts.{cost_from_is, cost_from-outside}
 use Rattle.certificates.specs.declared.tile.Tile.{Tile}
 use Rattle.certificates.proofs.RangeLemmas.{neither}
 use Rattle.certificates.proofs.SeamLemmas.{is_zero}
@@ -31,18 +31,18 @@ module _ (k : Tile) (cycles : Field ℤ) (y : ℕ) (row : (k.window.y0 ≤ y) ×
 
   free_within : (x : ℕ) → k.window.x0 ≤ x → x ≤ k.window.x1 → cost_at k cycles x y ≡ pos 0
   free_within x l m =
-      cost_from_is k.scene.now (held_mask k) (surface_of_cycles k cycles) k.number k.window k.pixels x y (l, m, row.0, row.1)
+      cost_from_is (held_raster k) (held_mask k) (surface_of_cycles k cycles) k.number k.window k.pixels x y (l, m, row.0, row.1)
       ∙ ap₂ (λ (a b : ℤ). a +ℤ b)
       (none_before x k.window.x1 (edge_cost (held_raster k) (held_mask k) (surface_of_cycles k cycles) (right_edge x y)) (λ n. free_edge (right_edge x y) (right x l n)))
       (none_before y k.window.y1 (edge_cost (held_raster k) (held_mask k) (surface_of_cycles k cycles) (down_edge x y)) (λ n. free_edge (down_edge x y) (down n x l (omega (arith, m)))))
 
   free_at : (x : ℕ) → x < k.scene.now.phase.width → cost_at k cycles x y ≡ pos 0
   free_at x l =
-      let high : y < k.scene.now.phase.height = omega (arith, row, k.pixels.along, k.scene.now.same_height) in
+      let high : y < k.scene.now.phase.height = omega (arith, row, k.pixels.along) in
       elim (cases_lt x k.window.x0) [
-        | inl m ↦ cost_from-outside k.scene.now (held_mask k) (surface_of_cycles k cycles) k.number k.window k.pixels x y l high (λ w. omega (arith, w, m))
+        | inl m ↦ cost_from-outside (held_raster k) (held_mask k) (surface_of_cycles k cycles) k.number k.window k.pixels x y l high (λ w. omega (arith, w, m))
         | inr m ↦ (elim (cases_lt k.window.x1 x) [
-          | inl n ↦ cost_from-outside k.scene.now (held_mask k) (surface_of_cycles k cycles) k.number k.window k.pixels x y l high (λ w. omega (arith, w, n))
+          | inl n ↦ cost_from-outside (held_raster k) (held_mask k) (surface_of_cycles k cycles) k.number k.window k.pixels x y l high (λ w. omega (arith, w, n))
           | inr n ↦ free_within x m n
         ])
       ]

@@ -10,6 +10,7 @@ mod FreeRows
 mod FitRows
 mod RangeLemmas
 pub mod VerdictLemmas
+mod WholeLemmas
 pub mod Unique
 pub mod CallerLemmas
 pub mod SeamLemmas

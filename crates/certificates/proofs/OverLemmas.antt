@@ -7,7 +7,7 @@ use Rattle.raster_model.specs.Sums.{right_edge, down_edge}
 use Rattle.raster_model.specs.Raster.{masked_weight, over}
 use Rattle.raster_model.specs.Tiles.{IsWithin}
 use Rattle.raster_model.specs.Cells.{face_at}
-use Rattle.raster_model.proofs.WindowCosts.{over_from_is}
+use Rattle.whole_raster.proofs.WindowCosts.{over_from_is}
 use Rattle.certificates.specs.declared.tile.Tile.{Tile}
 use Rattle.certificates.specs.TileWords.{AllFit, FitAt, difference_at, held_mask, held_raster, over_at}
 use Rattle.certificates.proofs.SeamLemmas.{limit_small}
@@ -33,4 +33,4 @@ module _ (k : Tile) (faces : List ℤ) (x y : ℕ) (w : IsWithin k.window x y) w
 
   pub both_over : (a b : ℕ) → pos a ≡ where_true (nat_lt x k.window.x1) (pos (over (masked_weight (held_raster k) (held_mask k) (right_edge x y)) (difference_at k faces (right_edge x y))))
       → pos b ≡ where_true (nat_lt y k.window.y1) (pos (over (masked_weight (held_raster k) (held_mask k) (down_edge x y)) (difference_at k faces (down_edge x y)))) → pos (a + b) ≡ over_at k faces x y
-  both_over a b p q = omega (arith, ints, over_from_is k.scene.now (held_mask k) (face_at (held_raster k) k.number faces) k.number k.window k.pixels x y w, p, q)
+  both_over a b p q = omega (arith, ints, over_from_is (held_raster k) (held_mask k) (face_at (held_raster k) k.number faces) k.number k.window k.pixels x y w, p, q)

@@ -7,10 +7,10 @@ use Rattle.raster_model.specs.declared.edge.Edge.{Edge}
 use Rattle.raster_model.specs.Raster.{has_open_ends}
 use Rattle.raster_model.specs.Sums.{end_x, end_y, is_edge}
 use Rattle.raster_model.specs.Tiles.{IsWithin}
-use Rattle.raster_model.proofs.TileEdges.{ends_within, from_ends}
+use Rattle.whole_raster.proofs.TileEdges.{ends_within, from_ends}
 use Rattle.certificates.specs.declared.tile.Tile.{Tile}
 use Rattle.certificates.specs.EdgeWords.{HoldsIfPart, IsBreak}
-use Rattle.certificates.specs.TileWords.{AreRowsOpen, IsInner, held_mask}
+use Rattle.certificates.specs.TileWords.{AreRowsOpen, IsInner, held_mask, held_raster}
 use Rattle.certificates.proofs.CostLemmas.{both_true}
 
 -- an edge does not lead back, and no further than to the next row
@@ -34,18 +34,18 @@ module _ (k : Tile) where
   pub is_inner : (e : Edge) → IsWithin k.window e.x e.y → end_x e ≤ k.window.x1 → end_y e ≤ k.window.y1 → IsInner k e
   is_inner e w l m =
       let a = end_after e in
-      from_ends k.scene.now k.number k.window k.pixels e w (omega (arith, w, a, l, m))
+      from_ends (held_raster k) k.number k.window k.pixels e w (omega (arith, w, a, l, m))
 
   pub in_raster : (e : Edge) → IsWithin k.window e.x e.y → end_x e ≤ k.window.x1 → end_y e ≤ k.window.y1 → IsTrue (is_edge k.scene.now.phase.width k.scene.now.phase.height e)
   in_raster e w l m =
       both_pixels k.scene.now.phase.width k.scene.now.phase.height e.x e.y (end_x e) (end_y e)
-      (omega (arith, w, k.pixels.across, k.scene.now.same_width)) (omega (arith, w, k.pixels.along, k.scene.now.same_height)) (omega (arith, l, k.pixels.across, k.scene.now.same_width)) (omega (arith, m, k.pixels.along, k.scene.now.same_height))
+      (omega (arith, w, k.pixels.across)) (omega (arith, w, k.pixels.along)) (omega (arith, l, k.pixels.across)) (omega (arith, m, k.pixels.along))
 
   pub no_further : (e : Edge) → IsInner k e → (end_x e ≤ k.window.x1) × (end_y e ≤ k.window.y1)
-  no_further e i = let w = ends_within k.scene.now k.number k.window k.pixels e i in omega (arith, w)
+  no_further e i = let w = ends_within (held_raster k) k.number k.window k.pixels e i in omega (arith, w)
 
   pub in_window : (e : Edge) → IsInner k e → (k.window.x0 ≤ e.x) × (e.x < k.window.x1 + 1) × (k.window.y0 ≤ e.y) × (e.y < k.window.y1 + 1)
-  in_window e i = let w = ends_within k.scene.now k.number k.window k.pixels e i in omega (arith, w)
+  in_window e i = let w = ends_within (held_raster k) k.number k.window k.pixels e i in omega (arith, w)
 
   -- where the tile's pixels in a row and in the next one are open, so are the ends of an edge that starts in the row and ends in the window
   pub ends_open : (e : Edge) → AreRowsOpen k e.y → IsWithin k.window e.x e.y → end_x e ≤ k.window.x1 → end_y e ≤ k.window.y1 → IsTrue (has_open_ends (held_mask k) e)

@@ -11,9 +11,12 @@ use Rattle.raster_model.specs.Cells.{cell_count, IsCertifiedTile}
 use Rattle.raster_model.specs.Certificates.{IsLeastInTile}
 use Rattle.raster_model.specs.Tiles.{IsWindowOf, tile_at}
 use Rattle.raster_model.specs.Scene.{raster_of}
-use Rattle.raster_model.proofs.TileCells.{cell_count-is}
+use Rattle.whole_raster.specs.Tilings.{IsTileWindow}
+use Rattle.whole_raster.proofs.TileCells.{cell_count-is}
+use Rattle.whole_raster.proofs.Windows.{scene_window}
 use Rattle.raster_model.proofs.TileLeast.{certified_tiles_are_least}
 use Rattle.certificates.specs.declared.results.TileResult.{TileResult}
+use Rattle.certificates.specs.declared.tile.Tile.{Tile}
 use Rattle.certificates.specs.declared.verdicts.TileVerdict.{TileVerdict}
 use Rattle.certificates.specs.declared.verdicts.TileVerdict.TheVariants.{Good, Shape, Range, FaceAtEdge, CostDiffers}
 use Rattle.certificates.specs.Results.{HasShape, AreInRange, IsGoodTile, listed_cycles, pixels_in, window_in, result_surface}
@@ -63,18 +66,18 @@ pub tile_says : (s : Scene) (mask : Field Bool) (k : TileResult) (v : TileVerdic
 tile_says s mask k v h = record { verdict = h; good = tile_good s mask k v h; least = tile_least s mask k v h }
 
 -- cells counted by the sides of a window
-module _ (s : Scene) (t : ℕ) (v : Window) (is : IsWindowOf s.tiling t v) (n : ℕ) where
-  pub counted : n ≡ (v.x1 - v.x0) * (v.y1 - v.y0) → n ≡ cell_count (raster_of s) t
-  counted e = omega (arith, e, cell_count-is s t v is)
+module _ (r : Raster) (t : ℕ) (v : Window) (is : IsTileWindow r t v) (n : ℕ) where
+  pub counted : n ≡ (v.x1 - v.x0) * (v.y1 - v.y0) → n ≡ cell_count r t
+  counted e = omega (arith, e, cell_count-is r t v is)
 
-  pub sides_fit : Fits w64 (v.x1 - v.x0) × Fits w64 (v.y1 - v.y0) × Fits w64 ((v.x1 - v.x0) * (v.y1 - v.y0))
-  sides_fit =
-      let a : v.x1 - v.x0 ≤ 4096 = omega (arith, is.across, s.tiling.wide) in
-      let b : v.y1 - v.y0 ≤ 4096 = omega (arith, is.along, s.tiling.high) in
-      (record { fits = omega (arith, a) }, record { fits = omega (arith, b) }, record { fits = omega (arith, mul-le (v.x1 - v.x0) (v.y1 - v.y0) 4096 4096 a b) })
+  pub not_counted : (n ≡ (v.x1 - v.x0) * (v.y1 - v.y0) → ⊥) → n ≡ cell_count r t → ⊥
+  not_counted d e = d (omega (arith, e, cell_count-is r t v is))
 
-  pub not_counted : (n ≡ (v.x1 - v.x0) * (v.y1 - v.y0) → ⊥) → n ≡ cell_count (raster_of s) t → ⊥
-  not_counted d e = d (omega (arith, e, cell_count-is s t v is))
+pub sides_fit : (k : Tile) → Fits w64 (k.window.x1 - k.window.x0) × Fits w64 (k.window.y1 - k.window.y0) × Fits w64 ((k.window.x1 - k.window.x0) * (k.window.y1 - k.window.y0))
+sides_fit k =
+    let a : k.window.x1 - k.window.x0 ≤ 4096 = omega (arith, k.pixels.across, k.scene.now.same_width, k.scene.now.tiling.wide) in
+    let b : k.window.y1 - k.window.y0 ≤ 4096 = omega (arith, k.pixels.along, k.scene.now.same_height, k.scene.now.tiling.high) in
+    (record { fits = omega (arith, a) }, record { fits = omega (arith, b) }, record { fits = omega (arith, mul-le (k.window.x1 - k.window.x0) (k.window.y1 - k.window.y0) 4096 4096 a b) })
 
 -- what the check of a result hands on: cycles for each pixel of its window, which lies in the raster, and knows its open pixels
 pub cycles_held : (s : Scene) (k : TileResult) (v : Window) (cycles : List ℤ) → IsWindowOf s.tiling k.tile v → v ≡ window_in s k → cycles ≡ k.cycles.items → HasShape s k → record { across : (v.x0 ≤ v.x1) × (v.x1 < 4096); along : (v.y0 ≤ v.y1) × (v.y1 < 4096); count : length cycles ≡ pixels_in v }
@@ -105,8 +108,8 @@ test a b t = grind (arith, nat_tests)
 module _ (s : Scene) (k : TileResult) (v : Window) (w : v ≡ window_in s k) (is : IsWindowOf s.tiling k.tile v) (n : ℕ) (a : n ≡ length k.cycles.items) where
   pub shape_tested : (m : ℕ) → n ≡ (v.x1 - v.x0 + 1) * (v.y1 - v.y0 + 1) → m ≡ length k.faces.items → (IsTrue (m == (v.x1 - v.x0) * (v.y1 - v.y0))) ↔ HasShape s k
   shape_tested m b e = (
-    λ t. (sym a ∙ b ∙ ap pixels_in w, sym e ∙ counted s k.tile v is m (equal m ((v.x1 - v.x0) * (v.y1 - v.y0)) t)),
-    λ h. test m ((v.x1 - v.x0) * (v.y1 - v.y0)) (e ∙ h.1 ∙ cell_count-is s k.tile v is ∙ turned (v.y1 - v.y0) (v.x1 - v.x0)),
+    λ t. (sym a ∙ b ∙ ap pixels_in w, sym e ∙ counted (raster_of s) k.tile v (scene_window s k.tile v is) m (equal m ((v.x1 - v.x0) * (v.y1 - v.y0)) t)),
+    λ h. test m ((v.x1 - v.x0) * (v.y1 - v.y0)) (e ∙ h.1 ∙ cell_count-is (raster_of s) k.tile v (scene_window s k.tile v is) ∙ turned (v.y1 - v.y0) (v.x1 - v.x0)),
   )
     where
       turned : (a b : ℕ) → a * b ≡ b * a

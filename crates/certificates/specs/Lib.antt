@@ -5,6 +5,7 @@ pub mod Results
 pub mod TileSets
 pub mod Verdicts
 pub mod EdgeWords
+pub mod Cuts
 pub mod TileWords
 pub mod SeamVerdicts
 pub mod Growth

@@ -4,15 +4,17 @@ use Rattle.raster_model.specs.declared.edge.Edge.{Edge}
 use Rattle.raster_model.specs.Sums.{Field, right_edge, down_edge}
 use Rattle.raster_model.specs.Raster.{Raster, departure, lifted, cost_from, tile_cost}
 use Rattle.raster_model.specs.Certificates.{faces_of_tile, face_bound, face_difference, face_over_from, face_over_total, face_product, face_total, IsTileEdge, FacesFit}
-use Rattle.raster_model.specs.Cells.{cell_count, face_at}
+use Rattle.raster_model.specs.Cells.{IsCertifiedTile, cell_count, face_at}
 use Rattle.raster_model.specs.Heights.{KnowsOpenOf}
 use Rattle.raster_model.specs.Masks.{open_at}
-use Rattle.raster_model.specs.Scene.{raster_of}
 use Rattle.raster_model.specs.Tiles.{IsWithin}
 use Rattle.certificates.specs.declared.tile.Tile.{Tile}
+use Rattle.certificates.specs.declared.verdicts.TileVerdict.{TileVerdict}
+use Rattle.certificates.specs.Cuts.{raster_cut}
+use Rattle.certificates.specs.Verdicts.{IsFacesVerdict}
 
 abbrev pub held_raster : Tile → Raster
-held_raster k = raster_of k.scene.now
+held_raster k = raster_cut k.scene.now k.cut
 
 abbrev pub held_mask : Tile → Field Bool
 held_mask k = open_at k.mask.now
@@ -73,6 +75,13 @@ cost_at k cycles = cost_from (held_raster k) (held_mask k) k.number (surface_of_
 
 abbrev pub cost_in : Tile → Field ℤ → ℤ
 cost_in k cycles = tile_cost (held_raster k) (held_mask k) k.number (surface_of_cycles k cycles)
+
+-- the faces certify that surface in the tile; the verdict on them
+abbrev pub AreCertified : Tile → Field ℤ → List ℤ → Type 0
+AreCertified k cycles faces = IsCertifiedTile (held_raster k) (held_mask k) k.number (surface_of_cycles k cycles) faces
+
+abbrev pub IsVerdictOn : Tile → Field ℤ → List ℤ → TileVerdict → Type 0
+IsVerdictOn k cycles faces verdict = IsFacesVerdict (held_raster k) (held_mask k) k.number (surface_of_cycles k cycles) faces verdict
 
 abbrev pub KnowsTile : Tile → Field Bool → Type 0
 KnowsTile k = KnowsOpenOf (held_raster k) (held_mask k) k.number

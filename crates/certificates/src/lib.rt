@@ -3,6 +3,7 @@
 #![tactic(auto)]
 
 mod anchor;
+mod cut;
 mod cycles;
 mod edge_costs;
 pub mod laws;
@@ -24,5 +25,5 @@ pub use crate::seam_edges::{is_seam_edge, next_start, seam_count};
 pub use crate::seams::check_flows;
 pub use crate::tile_ends::TileEnds;
 pub use crate::tile_set::TileSet;
-pub use crate::tiles::{check_faces, check_tile};
+pub use crate::tiles::{check_faces, check_tile, check_whole};
 pub use crate::verdicts::{SeamVerdict, TileVerdict};

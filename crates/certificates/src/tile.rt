@@ -1,19 +1,23 @@
-ghost use Rattle.raster_model.specs.Tiles.{IsWindowOf};
+ghost use Rattle.certificates.specs.Cuts.{raster_cut};
 ghost use Rattle.std.specs.Prelude.{◌≡◌};
+ghost use Rattle.whole_raster.specs.Tilings.{IsTileWindow};
 
+use crate::cut::Cut;
 use crate::edge_costs::edge_cost;
-use crate::numbers::are_zeros;
+use crate::numbers::{are_zeros, is_same};
+use crate::verdicts::TileVerdict;
 use raster_model::{Edge, Heights, Mask, Scene, Window, departure, plain, stored_weight, weight};
 
-/// A tile of a scene under a mask.
+/// A tile of a scene's raster under a mask. Only contracts read its cut and its number.
 #[derive(Clone, Copy)]
 pub(crate) struct Tile<'a> {
     pub(crate) scene: &'a Scene,
     pub(crate) mask: &'a Mask,
+    pub(crate) cut: Cut,
     pub(crate) number: u32,
     pub(crate) window: Window,
     pub(crate) ghost same_size: { (mask.now.width ≡ scene.now.phase.width) × (mask.now.height ≡ scene.now.phase.height) },
-    pub(crate) ghost pixels: { IsWindowOf scene.now.tiling number window },
+    pub(crate) ghost pixels: { IsTileWindow (raster_cut scene.now cut) number window },
 }
 
 impl Tile<'_> {
@@ -21,6 +25,7 @@ impl Tile<'_> {
     ghost use Rattle.certificates.specs.EdgeWords.{HoldsBefore, HoldsFrom, HoldsIfPart, IsBreak, IsFirstBreakFrom};
     ghost use Rattle.certificates.specs.TileWords.{
       AllFit,
+      AreCertified,
       AreRowsOpen,
       FitAt,
       FitDown,
@@ -30,6 +35,7 @@ impl Tile<'_> {
       TileFollowsRight,
       HasFaces,
       IsInner,
+      IsVerdictOn,
       KnowsTile,
       bound_in,
       cost_at,
@@ -43,6 +49,7 @@ impl Tile<'_> {
       product_at,
       total_at,
     };
+    ghost use Rattle.certificates.specs.declared.verdicts.TileVerdict.TheVariants.{Good};
     ghost use Rattle.raster_model.specs.Certificates.{above, left};
     ghost use Rattle.raster_model.specs.Order.{IsCellAt};
     ghost use Rattle.raster_model.specs.Raster.{has_open_ends, masked_weight, over as over_weight};
@@ -53,6 +60,7 @@ impl Tile<'_> {
       ◌*◌,
       ◌<◌,
       ◌≤◌,
+      ◌≢◌,
       ◌^◌,
       ◌↔◌,
       IfErr,
@@ -539,5 +547,29 @@ impl Tile<'_> {
             cost += self.row_cost(heights, y);
         }
         cost
+    }
+
+    /// What the surface costs in the tile if the faces certify it there, and otherwise the first break: the number of faces,
+    /// then their differences at the inner edges in edge order, then the cost.
+    pub(crate) fn check<H: Heights>(&self, heights: &H, faces: &[i64]) -> Result<u128, TileVerdict>
+        requires known { KnowsTile self.now (H.knows heights.now) }
+        ensures certified { IfOk result (λ cost. AreCertified self.now (H.cycles_at heights.now) faces.now × (pos cost ≡ cost_in self.now (H.cycles_at heights.now))) }
+        ensures refused { IfErr result (λ verdict. IsVerdictOn self.now (H.cycles_at heights.now) faces.now verdict × (verdict ≢ Good)) }
+    {
+        let window = self.window;
+        let cells = (window.x1 - window.x0) as usize * (window.y1 - window.y0) as usize;
+        if faces.len() != cells {
+            return Err(TileVerdict::Shape);
+        }
+        let bound = match self.bound(faces) {
+            Ok(bound) => bound,
+            Err(edge) => return Err(TileVerdict::FaceAtEdge(edge)),
+        };
+        let cost = self.cost(heights);
+        if is_same(bound, cost) {
+            Ok(cost)
+        } else {
+            Err(TileVerdict::CostDiffers { cost, bound })
+        }
     }
 }

@@ -3,19 +3,20 @@ ghost use Rattle.certificates.specs.Verdicts.{IsFacesVerdict, IsTileVerdict};
 ghost use Rattle.certificates.specs.declared.verdicts.TileVerdict.TheVariants.{Good};
 ghost use Rattle.raster_model.specs.Cells.{IsCertifiedTile};
 ghost use Rattle.raster_model.specs.Certificates.{IsLeastInTile};
-ghost use Rattle.raster_model.specs.Heights.{KnowsOpenOf};
+ghost use Rattle.raster_model.specs.Heights.{KnowsOpen, KnowsOpenOf};
 ghost use Rattle.raster_model.specs.Masks.{open_at};
 ghost use Rattle.raster_model.specs.Raster.{lifted};
 ghost use Rattle.raster_model.specs.Scene.{raster_of};
 ghost use Rattle.raster_model.specs.Tiles.{tiles_of};
-ghost use Rattle.std.specs.Prelude.{◌≡◌, ◌<◌, ◌↔◌, IsTrue};
+ghost use Rattle.std.specs.Prelude.{◌≡◌, ◌≢◌, ◌<◌, ◌↔◌, IfErr, IfOk, IsOk, IsTrue, pos};
+ghost use Rattle.whole_raster.specs.Whole.{IsCertifiedWhole, IsLeastOfAll, whole_cost, whole_of};
 
+use crate::cut::Cut;
 use crate::cycles::TileCycles;
-use crate::numbers::is_same;
 use crate::results::TileResult;
 use crate::tile::Tile;
 use crate::verdicts::TileVerdict;
-use raster_model::{Heights, Mask, Scene};
+use raster_model::{Heights, Mask, Scene, Window};
 
 /// Checks the faces that certify a surface in a tile: one for each of its cells, in row order. It judges first their
 /// number, then their differences at the inner edges in edge order, then the cost. It takes no memory and visits each
@@ -35,26 +36,50 @@ pub fn check_faces<H: Heights>(
     ensures least { result ≡ Good → IsLeastInTile (raster_of scene.now) (open_at mask.now) tile (lifted (raster_of scene.now) (H.cycles_at heights.now)) }
 {
     let window = scene.tiling.window(tile);
-    let cells = (window.x1 - window.x0) as usize * (window.y1 - window.y0) as usize;
-    if faces.len() != cells {
-        return TileVerdict::Shape;
-    }
     let tile = Tile {
         scene,
         mask,
+        cut: Cut::Tiles,
         number: tile,
         window,
     };
-    let bound = match tile.bound(faces) {
-        Ok(bound) => bound,
-        Err(edge) => return TileVerdict::FaceAtEdge(edge),
-    };
-    let cost = tile.cost(heights);
-    if is_same(bound, cost) {
-        TileVerdict::Good
-    } else {
-        TileVerdict::CostDiffers { cost, bound }
+    match tile.check(heights, faces) {
+        Ok(_) => TileVerdict::Good,
+        Err(verdict) => verdict,
     }
+}
+
+/// Checks the faces that certify a surface over the whole raster, as one tile: one for each cell of the raster, in row
+/// order. It judges first their number, then their differences at the edges in edge order, then the cost. If they certify
+/// it, the answer is what the surface costs over all edges, and no congruent surface costs less; otherwise it is the first
+/// break. It takes no memory and visits each pixel a few times. (Costantini 1998.)
+pub fn check_whole<H: Heights>(
+    scene: &Scene,
+    mask: &Mask,
+    heights: &H,
+    faces: &[i64],
+) -> Result<u128, TileVerdict>
+    requires same_size { (mask.now.width ≡ scene.now.phase.width) × (mask.now.height ≡ scene.now.phase.height) }
+    requires known { KnowsOpen (raster_of scene.now) (open_at mask.now) (H.knows heights.now) }
+    ensures certified { IfOk result (λ cost. IsCertifiedWhole (raster_of scene.now) (open_at mask.now) (lifted (raster_of scene.now) (H.cycles_at heights.now)) faces.now × (pos cost ≡ whole_cost (raster_of scene.now) (open_at mask.now) (lifted (raster_of scene.now) (H.cycles_at heights.now)))) }
+    ensures least { IfOk result (λ cost. IsLeastOfAll (raster_of scene.now) (open_at mask.now) (lifted (raster_of scene.now) (H.cycles_at heights.now))) }
+    ensures refused { IfErr result (λ verdict. IsFacesVerdict (whole_of (raster_of scene.now)) (open_at mask.now) 0 (lifted (raster_of scene.now) (H.cycles_at heights.now)) faces.now verdict × (verdict ≢ Good)) }
+    ensures good { IsOk result ↔ IsCertifiedTile (whole_of (raster_of scene.now)) (open_at mask.now) 0 (lifted (raster_of scene.now) (H.cycles_at heights.now)) faces.now }
+{
+    let window = Window {
+        x0: 0,
+        y0: 0,
+        x1: scene.phase.width - 1,
+        y1: scene.phase.height - 1,
+    };
+    let tile = Tile {
+        scene,
+        mask,
+        cut: Cut::Whole,
+        number: 0,
+        window,
+    };
+    tile.check(heights, faces)
 }
 
 /// Checks a result for a tile that exists. It judges first the shape, then the range of the cycles at the open pixels

@@ -1,7 +1,7 @@
 use Rattle.std.proofs.Common.{sym, arith}
 use Rattle.raster_model.specs.Sums.{sum_row}
-use Rattle.raster_model.proofs.WindowCosts.{rows_start, total}
-use Rattle.certificates.specs.TileWords.{held_mask, surface_of_cycles, cost_at}
+use Rattle.whole_raster.proofs.WindowCosts.{rows_start, total}
+use Rattle.certificates.specs.TileWords.{held_mask, held_raster, surface_of_cycles, cost_at}
 use Rattle.certificates.proofs.SeamCosts.{adds}
 use Rattle.certificates.proofs.tile.Tile.cost.Goals as goal
 
@@ -9,7 +9,7 @@ pub loop-y-init : goal.loop-y-init
 loop-y-init g c =
     let k = c.args.self.now in
     let S = surface_of_cycles k (g.H.Heights.cycles_at c.args.heights.now) in
-    record { sum = sym (rows_start k.scene.now (held_mask k) S k.number k.window k.pixels); small = omega arith }
+    record { sum = sym (rows_start (held_raster k) (held_mask k) S k.number k.window k.pixels); small = omega arith }
 
 pub loop-y-preserved : goal.loop-y-preserved
 loop-y-preserved g c =
@@ -24,4 +24,4 @@ pub returns : goal.returns
 returns g c =
     let k = c.args.self.now in
     let S = surface_of_cycles k (g.H.Heights.cycles_at c.args.heights.now) in
-    total k.scene.now (held_mask k) S k.number k.window k.pixels c.loop-y.y _ (omega arith) c.loop-y.invariant.sum
+    total (held_raster k) (held_mask k) S k.number k.window k.pixels c.loop-y.y _ (omega arith) c.loop-y.invariant.sum

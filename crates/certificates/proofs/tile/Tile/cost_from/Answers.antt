@@ -12,13 +12,13 @@ use Rattle.sums_and_lists.specs.Sums.{where_true}
 pub edge_cost-to_right-requires : goal.edge_cost-to_right-requires
 edge_cost-to_right-requires g c =
     let k = c.args.self.now in
-    let a = right_asks k.scene.now (held_mask k) (g.H.Heights.knows c.args.heights.now) k.number k.window k.pixels c.requires.known c.args.x c.args.y c.requires.within c.if-x-self.true in
+    let a = right_asks k (g.H.Heights.knows c.args.heights.now) c.requires.known c.args.x c.args.y c.requires.within c.if-x-self.true in
     record { same_size = k.same_size; is_edge = a.0; unmasked = λ t. right_open k c.args.x c.args.y (c.requires.unmasked t) c.requires.within c.if-x-self.true; known = a.1 }
 
 pub edge_cost-to_lower-requires : goal.edge_cost-to_lower-requires
 edge_cost-to_lower-requires g c =
     let k = c.args.self.now in
-    let a = lower_asks k.scene.now (held_mask k) (g.H.Heights.knows c.args.heights.now) k.number k.window k.pixels c.requires.known c.args.x c.args.y c.requires.within c.if-y-self.true in
+    let a = lower_asks k (g.H.Heights.knows c.args.heights.now) c.requires.known c.args.x c.args.y c.requires.within c.if-y-self.true in
     record { same_size = k.same_size; is_edge = a.0; unmasked = λ t. lower_open k c.args.x c.args.y (c.requires.unmasked t) c.requires.within c.if-y-self.true; known = a.1 }
 
 pub overflow_add-result : goal.overflow_add-result
@@ -63,4 +63,4 @@ returns-clause-value g c =
       | then-y-self b ↦ taken _ _ _ _ _ b.to_lower-is b.edge_cost-to_lower.ensures.value b.if-y-self.true
       | else-y-self b ↦ left_out _ _ _ _ b.to_lower-is b.if-y-self.false
     ] in
-    both_costs k.scene.now (held_mask k) S k.number k.window k.pixels c.args.x c.args.y c.if-x-self.to_right c.if-y-self.to_lower c.requires.within p q
+    both_costs k (g.H.Heights.cycles_at c.args.heights.now) c.args.x c.args.y c.if-x-self.to_right c.if-y-self.to_lower c.requires.within p q

@@ -5,7 +5,7 @@ use Rattle.certificates.proofs.tile.Tile.face.Goals.{else-window-x-via-then-wind
 pub returns-else-window-x : goal.returns-else-window-x
 returns-else-window-x c =
     let k = c.args.self.now in
-    no_face k.scene.now k.number k.window k.pixels c.args.faces.now c.args.x c.args.y
+    no_face k c.args.faces.now c.args.x c.args.y
     (λ i. elim c.else-window-x.branch [
       | else-window-x-via-then-window-x+then-x-window+then-window-y+else-y-window w ↦ not_both _ _ i.3 w.if-y-window.false
       | else-window-x-via-then-window-x+then-x-window+else-window-y w ↦ not_both _ _ w.if-window-y.false i.2

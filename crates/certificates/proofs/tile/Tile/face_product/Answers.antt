@@ -10,7 +10,7 @@ use Rattle.certificates.proofs.tile.Tile.face_product.Goals as goal
 pub residue-requires : goal.residue-requires
 residue-requires c =
     let k = c.args.self.now in
-    let e = ends_in_raster k.scene.now k.number k.window k.pixels (face_at (held_raster k) k.number c.args.faces.now) c.args.x c.args.y c.requires.cell in
+    let e = ends_in_raster k (face_at (held_raster k) k.number c.args.faces.now) c.args.x c.args.y c.requires.cell in
     record { across = e.0; along = e.1 }
 
 pub overflow_mul-result : goal.overflow_mul-result

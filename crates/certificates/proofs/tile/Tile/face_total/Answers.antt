@@ -14,7 +14,7 @@ loop-y-init c =
     let v = k.window in
     let f = face_at (held_raster k) k.number c.args.faces.now in
     record {
-      sum = part_starts s.phase.width s.phase.height v.x0 v.x1 v.y0 v.y1 (product_at k c.args.faces.now) (cells_across_fit s k.number v k.pixels f) (cells_along_fit s k.number v k.pixels f) (product_outside s k.number v k.pixels f);
+      sum = part_starts s.phase.width s.phase.height v.x0 v.x1 v.y0 v.y1 (product_at k c.args.faces.now) (cells_across_fit k f) (cells_along_fit k f) (product_outside k f);
       small = omega arith;
     }
 
@@ -25,7 +25,7 @@ loop-x-init c =
     let v = k.window in
     let f = face_at (held_raster k) k.number c.args.faces.now in
     record {
-      sum = row_starts s.phase.width s.phase.height v.x0 v.x1 v.y0 v.y1 (product_at k c.args.faces.now) (cells_across_fit s k.number v k.pixels f) (cells_along_fit s k.number v k.pixels f) (product_outside s k.number v k.pixels f) c.loop-y.y _ (omega arith) c.loop-y.invariant.sum;
+      sum = row_starts s.phase.width s.phase.height v.x0 v.x1 v.y0 v.y1 (product_at k c.args.faces.now) (cells_across_fit k f) (cells_along_fit k f) (product_outside k f) c.loop-y.y _ (omega arith) c.loop-y.invariant.sum;
       small = omega (arith, c.loop-y.invariant.small);
     }
 
@@ -33,13 +33,13 @@ pub overflow_add-total : goal.overflow_add-total
 overflow_add-total c =
     let k = c.args.self.now in
     let f = face_at (held_raster k) k.number c.args.faces.now in
-    (sum_fits (to_z w128 c.loop-x.total-bits) c.face_product-total.result c.loop-x.x c.loop-y.y c.loop-x.invariant.small c.face_product-total.ensures.small (cells_before_fit k.scene.now k.number k.window k.pixels f c.loop-x.x c.loop-y.y c.loop-x-test.true c.loop-y-test.true)).2
+    (sum_fits (to_z w128 c.loop-x.total-bits) c.face_product-total.result c.loop-x.x c.loop-y.y c.loop-x.invariant.small c.face_product-total.ensures.small (cells_before_fit k f c.loop-x.x c.loop-y.y c.loop-x-test.true c.loop-y-test.true)).2
 
 pub loop-x-preserved : goal.loop-x-preserved
 loop-x-preserved c =
     let k = c.args.self.now in
     let f = face_at (held_raster k) k.number c.args.faces.now in
-    let fit = sum_fits (to_z w128 c.loop-x.total-bits) c.face_product-total.result c.loop-x.x c.loop-y.y c.loop-x.invariant.small c.face_product-total.ensures.small (cells_before_fit k.scene.now k.number k.window k.pixels f c.loop-x.x c.loop-y.y c.loop-x-test.true c.loop-y-test.true) in
+    let fit = sum_fits (to_z w128 c.loop-x.total-bits) c.face_product-total.result c.loop-x.x c.loop-y.y c.loop-x.invariant.small c.face_product-total.ensures.small (cells_before_fit k f c.loop-x.x c.loop-y.y c.loop-x-test.true c.loop-y-test.true) in
     record {
       sum = fit.0 ∙ column_more (product_at k c.args.faces.now) c.loop-x.x c.loop-y.y _ _ _ c.loop-x.invariant.sum c.face_product-total.ensures.value;
       small = rw fit.0 fit.1;
@@ -52,14 +52,14 @@ loop-y-preserved c =
     let v = k.window in
     let f = face_at (held_raster k) k.number c.args.faces.now in
     record {
-      sum = row_more s.phase.width s.phase.height v.x0 v.x1 v.y0 v.y1 (product_at k c.args.faces.now) (cells_across_fit s k.number v k.pixels f) (cells_along_fit s k.number v k.pixels f) (product_outside s k.number v k.pixels f) c.loop-x.x c.loop-y.y _ (omega arith) (omega arith) c.loop-x.invariant.sum;
-      small = omega (arith, c.loop-x.invariant.small, k.pixels.across, k.scene.now.tiling.wide);
+      sum = row_more s.phase.width s.phase.height v.x0 v.x1 v.y0 v.y1 (product_at k c.args.faces.now) (cells_across_fit k f) (cells_along_fit k f) (product_outside k f) c.loop-x.x c.loop-y.y _ (omega arith) (omega arith) c.loop-x.invariant.sum;
+      small = omega (arith, c.loop-x.invariant.small, k.pixels.across, k.scene.now.same_width, k.scene.now.tiling.wide);
     }
 
 pub returns-clause-small : goal.returns-clause-small
 returns-clause-small c =
     let k = c.args.self.now in
-    omega (arith, c.loop-y.invariant.small, k.pixels.along, k.scene.now.tiling.high)
+    omega (arith, c.loop-y.invariant.small, k.pixels.along, k.scene.now.same_height, k.scene.now.tiling.high)
 
 pub returns-clause-value : goal.returns-clause-value
 unfolding face_total
@@ -68,4 +68,4 @@ returns-clause-value c =
     let s = k.scene.now in
     let v = k.window in
     let f = face_at (held_raster k) k.number c.args.faces.now in
-    part_ends s.phase.width s.phase.height v.x0 v.x1 v.y0 v.y1 (product_at k c.args.faces.now) (cells_across_fit s k.number v k.pixels f) (cells_along_fit s k.number v k.pixels f) (product_outside s k.number v k.pixels f) c.loop-y.y _ (omega arith) c.loop-y.invariant.sum
+    part_ends s.phase.width s.phase.height v.x0 v.x1 v.y0 v.y1 (product_at k c.args.faces.now) (cells_across_fit k f) (cells_along_fit k f) (product_outside k f) c.loop-y.y _ (omega arith) c.loop-y.invariant.sum

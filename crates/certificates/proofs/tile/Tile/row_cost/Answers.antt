@@ -1,7 +1,7 @@
 use Rattle.std.proofs.Common.{◌≡◌, ◌+◌, ◌≤◌, ◌∙◌, ℕ, ap, sym, arith}
 use Rattle.raster_model.specs.Sums.{sum_row}
-use Rattle.raster_model.proofs.WindowCosts.{row_starts, row_ends}
-use Rattle.certificates.specs.TileWords.{held_mask, surface_of_cycles, cost_at}
+use Rattle.whole_raster.proofs.WindowCosts.{row_starts, row_ends}
+use Rattle.certificates.specs.TileWords.{held_mask, held_raster, surface_of_cycles, cost_at}
 use Rattle.certificates.proofs.SeamCosts.{adds}
 use Rattle.certificates.proofs.tile.Tile.row_cost.Goals as goal
 
@@ -10,7 +10,7 @@ loop-x-init g c =
     let k = c.args.self.now in
     let S = surface_of_cycles k (g.H.Heights.cycles_at c.args.heights.now) in
     record {
-      sum = sym (row_starts k.scene.now (held_mask k) S k.number k.window k.pixels c.args.y (omega (arith, c.requires.row, k.pixels.along, k.scene.now.same_height)));
+      sum = sym (row_starts (held_raster k) (held_mask k) S k.number k.window k.pixels c.args.y (omega (arith, c.requires.row, k.pixels.along)));
       small = omega arith;
     }
 
@@ -31,10 +31,10 @@ returns-clause-value g c =
     let e : c.loop-x.x ≡ k.window.x1 + 1 = omega arith in
     c.loop-x.invariant.sum
     ∙ ap (λ (n : ℕ). sum_row n f c.args.y) e
-    ∙ sym (row_ends k.scene.now (held_mask k) S k.number k.window k.pixels c.args.y (omega (arith, c.requires.row, k.pixels.along, k.scene.now.same_height)))
+    ∙ sym (row_ends (held_raster k) (held_mask k) S k.number k.window k.pixels c.args.y (omega (arith, c.requires.row, k.pixels.along)))
 
 pub returns-clause-small : goal.returns-clause-small
 returns-clause-small g c =
     let k = c.args.self.now in
-    let e : c.loop-x.x ≤ 4096 = omega (arith, k.pixels.across, k.scene.now.tiling.wide) in
+    let e : c.loop-x.x ≤ 4096 = omega (arith, k.pixels.across, k.scene.now.same_width, k.scene.now.tiling.wide) in
     omega (arith, e, c.loop-x.invariant.small)

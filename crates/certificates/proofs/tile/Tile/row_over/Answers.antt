@@ -1,7 +1,7 @@
 use Rattle.std.proofs.Common.{◌≡◌, ◌+◌, ◌≤◌, ◌∙◌, ℕ, ap, sym, arith}
 use Rattle.raster_model.specs.Cells.{face_at}
 use Rattle.raster_model.specs.Sums.{sum_row}
-use Rattle.raster_model.proofs.WindowCosts.{over_row_starts, over_row_ends}
+use Rattle.whole_raster.proofs.WindowCosts.{over_row_starts, over_row_ends}
 use Rattle.certificates.specs.TileWords.{held_mask, held_raster, over_at}
 use Rattle.certificates.proofs.SeamCosts.{adds}
 use Rattle.certificates.proofs.tile.Tile.row_over.Goals as goal
@@ -10,14 +10,14 @@ pub loop-x-init : goal.loop-x-init
 loop-x-init c =
     let k = c.args.self.now in
     record {
-      sum = sym (over_row_starts k.scene.now (held_mask k) (face_at (held_raster k) k.number c.args.faces.now) k.number k.window k.pixels c.args.y (omega (arith, c.requires.row, k.pixels.along, k.scene.now.same_height)));
+      sum = sym (over_row_starts (held_raster k) (held_mask k) (face_at (held_raster k) k.number c.args.faces.now) k.number k.window k.pixels c.args.y (omega (arith, c.requires.row, k.pixels.along)));
       small = omega arith;
     }
 
 pub overflow_add-over : goal.overflow_add-over
 overflow_add-over c =
     let k = c.args.self.now in
-    let e : c.loop-x.x ≤ 4096 = omega (arith, c.loop-x-test.true, k.pixels.across, k.scene.now.tiling.wide) in
+    let e : c.loop-x.x ≤ 4096 = omega (arith, c.loop-x-test.true, k.pixels.across, k.scene.now.same_width, k.scene.now.tiling.wide) in
     record { fits = omega (arith, e, c.loop-x.invariant.small, c.over_from-over.ensures.small) }
 
 pub loop-x-preserved : goal.loop-x-preserved
@@ -36,10 +36,10 @@ returns-clause-value c =
     let e : c.loop-x.x ≡ k.window.x1 + 1 = omega arith in
     c.loop-x.invariant.sum
     ∙ ap (λ (n : ℕ). sum_row n f c.args.y) e
-    ∙ sym (over_row_ends k.scene.now (held_mask k) (face_at (held_raster k) k.number c.args.faces.now) k.number k.window k.pixels c.args.y (omega (arith, c.requires.row, k.pixels.along, k.scene.now.same_height)))
+    ∙ sym (over_row_ends (held_raster k) (held_mask k) (face_at (held_raster k) k.number c.args.faces.now) k.number k.window k.pixels c.args.y (omega (arith, c.requires.row, k.pixels.along)))
 
 pub returns-clause-small : goal.returns-clause-small
 returns-clause-small c =
     let k = c.args.self.now in
-    let e : c.loop-x.x ≤ 4096 = omega (arith, k.pixels.across, k.scene.now.tiling.wide) in
+    let e : c.loop-x.x ≤ 4096 = omega (arith, k.pixels.across, k.scene.now.same_width, k.scene.now.tiling.wide) in
     omega (arith, e, c.loop-x.invariant.small)

@@ -2,7 +2,7 @@ use Rattle.std.proofs.Common.{◌≤◌, sym, arith}
 use Rattle.raster_model.specs.Cells.{face_at}
 use Rattle.raster_model.specs.Sums.{sum_row}
 use Rattle.raster_model.proofs.Unsteep.{faces_fit_weights, no_face_over}
-use Rattle.raster_model.proofs.WindowCosts.{over_rows_start, over_total}
+use Rattle.whole_raster.proofs.WindowCosts.{over_rows_start, over_total}
 use Rattle.certificates.specs.TileWords.{held_mask, held_raster, over_at}
 use Rattle.certificates.proofs.SeamCosts.{adds}
 use Rattle.certificates.proofs.tile.Tile.total_over.Goals as goal
@@ -16,12 +16,12 @@ returns-then-self-eq1-clause-value c =
 pub loop-y-init : goal.loop-y-init
 loop-y-init c =
     let k = c.args.self.now in
-    record { sum = sym (over_rows_start k.scene.now (held_mask k) (face_at (held_raster k) k.number c.args.faces.now) k.number k.window k.pixels); small = omega arith }
+    record { sum = sym (over_rows_start (held_raster k) (held_mask k) (face_at (held_raster k) k.number c.args.faces.now) k.number k.window k.pixels); small = omega arith }
 
 pub overflow_add-over : goal.overflow_add-over
 overflow_add-over c =
     let k = c.args.self.now in
-    let e : c.loop-y.y ≤ 4096 = omega (arith, c.loop-y-test.true, k.pixels.along, k.scene.now.tiling.high) in
+    let e : c.loop-y.y ≤ 4096 = omega (arith, c.loop-y-test.true, k.pixels.along, k.scene.now.same_height, k.scene.now.tiling.high) in
     record { fits = omega (arith, e, c.loop-y.invariant.small, c.row_over-over.ensures.small) }
 
 pub loop-y-preserved : goal.loop-y-preserved
@@ -36,10 +36,10 @@ loop-y-preserved c =
 pub returns-clause-value : goal.returns-clause-value
 returns-clause-value c =
     let k = c.args.self.now in
-    over_total k.scene.now (held_mask k) (face_at (held_raster k) k.number c.args.faces.now) k.number k.window k.pixels c.loop-y.y _ (omega arith) c.loop-y.invariant.sum
+    over_total (held_raster k) (held_mask k) (face_at (held_raster k) k.number c.args.faces.now) k.number k.window k.pixels c.loop-y.y _ (omega arith) c.loop-y.invariant.sum
 
 pub returns-clause-small : goal.returns-clause-small
 returns-clause-small c =
     let k = c.args.self.now in
-    let e : c.loop-y.y ≤ 4096 = omega (arith, k.pixels.along, k.scene.now.tiling.high) in
+    let e : c.loop-y.y ≤ 4096 = omega (arith, k.pixels.along, k.scene.now.same_height, k.scene.now.tiling.high) in
     omega (arith, e, c.loop-y.invariant.small)

@@ -1,17 +1,21 @@
--- Lemmas for crates above, which balance a grid: what a grid of one origin keeps, and that no nodes block.
-use Rattle.std.proofs.Common.{◌≡◌, ℕ, ◌<◌, ◌∙◌, sym, ap₂, subst, arith, List, Bool, true, false}
-use Rattle.std.specs.Prelude.{ℤ, pos, negsuc, ◌+ℤ◌, ◌≤ℤ◌}
+-- Lemmas for crates above, which balance a grid: what a grid of one origin keeps, that no nodes block, and what an answer is for a tile of the scene.
+use Rattle.std.proofs.Common.{◌≡◌, ℕ, ◌<◌, ◌∙◌, sym, ap, ap₂, subst, arith, List, Bool, true, false}
+use Rattle.std.specs.Prelude.{ℤ, pos, negsuc, ◌+ℤ◌, ◌≤ℤ◌, ◌<ℤ◌}
 use Rattle.std.proofs.lemmas.Int.{ints}
 use Rattle.raster_model.specs.declared.scene.Scene.{Scene}
 use Rattle.raster_model.specs.declared.tiling.Window.{Window}
 use Rattle.raster_model.specs.Raster.{residue}
 use Rattle.raster_model.specs.Scene.{raster_of}
 use Rattle.raster_model.specs.Sums.{Field}
+use Rattle.raster_model.specs.Tiles.{tile_at, tiles_of, window_of}
+use Rattle.wrapped_gradient.specs.declared.corrections.Corrections.{Corrections}
+use Rattle.raster_model.proofs.TileLemmas.{window_of-pixels}
+use Rattle.whole_raster.proofs.Windows.{scene_window}
 use Rattle.flow_network.specs.Nets.{Shape, State, IsArc, tail_of, positive_part, total_excess}
 use Rattle.flow_network.specs.Moves.{IsConserved}
 use Rattle.flow_network.proofs.CallerLemmas.{conserved-trans}
 use Rattle.dual_grid.specs.declared.grid.DualGrid.{DualGrid}
-use Rattle.dual_grid.specs.Answers.{IsNearStart}
+use Rattle.dual_grid.specs.Answers.{AreCertifiedCorrections, AreCertifiedOver, IsNearStart}
 use Rattle.dual_grid.specs.Grids.{AreWeighed, IsConnected, start_residual}
 use Rattle.dual_grid.specs.Layout.{weight_in}
 use Rattle.dual_grid.specs.Starts.{IsAtStart, open_in_window, start_state}
@@ -21,11 +25,11 @@ use Rattle.sums_and_lists.proofs.SumLemmas.{sum_below-same}
 
 -- grids of one origin start alike
 pub start_stays : (g h : DualGrid) → HaveOneOrigin g h → grid_start h ≡ grid_start g
-start_stays g h origin = ap₂ (λ (q : ℕ) (zs : List ℤ). start_residual q (weight_in zs)) origin.steep origin.weights
+start_stays g h origin = ap₂ (λ (q : ℕ) (zs : List ℤ). start_residual h.window q (weight_in zs)) origin.steep origin.weights ∙ ap (λ (v : Window). start_residual v g.steep (weight_in g.weights.items)) origin.window
 
 -- pushes and raises leave a grid what it was made from
-pub grid_stays : (s : Scene) (t : ℕ) (unmasked : List Bool) (g h : DualGrid) → HaveOneOrigin g h → IsGridOf s t unmasked g → IsGridOf s t unmasked h
-grid_stays s t unmasked g h origin grid =
+pub grid_stays : (s : Scene) (v : Window) (unmasked : List Bool) (g h : DualGrid) → HaveOneOrigin g h → IsGridOf s v unmasked g → IsGridOf s v unmasked h
+grid_stays s v unmasked g h origin grid =
     let r = raster_of s in
     let start = start_stays g h origin in
     let conserved = conserved-trans (grid_shape g) (start_state (grid_start g) (residue r) g.window) (grid_state g) (grid_state h) grid.conserved origin.conserved in
@@ -38,8 +42,12 @@ grid_stays s t unmasked g h origin grid =
       conserved = subst (λ (z : Shape). IsConserved z (start_state (grid_start h) (residue r) h.window) (grid_state h)) (sym origin.shape) placed;
     }
 
+-- an answer over the window of a tile of the scene is one for that tile
+pub scene_answer : (s : Scene) (mask : Field Bool) (t : ℕ) (k : Corrections) (faces : List ℤ) → t < tiles_of s.tiling → AreCertifiedOver s mask (window_of s.tiling t) k faces → AreCertifiedCorrections (raster_of s) mask t (window_of s.tiling t) k faces
+scene_answer s mask t k faces exists answer = answer (tile_at s.tiling) (tiles_of s.tiling) t (scene_window s t (window_of s.tiling t) (window_of-pixels s.tiling t exists))
+
 -- residuals that differ from those of the start by at most the positive excesses are near them
-pub near_start : (begin : ℕ → ℕ) (f : Field ℤ) (v : Window) (s : Shape) (g h : State) (m : ℤ) → IsAtStart begin f v s g → m ≤ℤ pos 16129 → ((a : ℕ) → IsArc s a → (pos (h.residual a) ≤ℤ (pos (g.residual a) +ℤ m)) × (pos (g.residual a) ≤ℤ (pos (h.residual a) +ℤ m))) → IsNearStart begin s h
+pub near_start : (begin : ℕ → ℕ) (f : Field ℤ) (v : Window) (s : Shape) (g h : State) (m : ℤ) → IsAtStart begin f v s g → m <ℤ pos s.nodes → ((a : ℕ) → IsArc s a → (pos (h.residual a) ≤ℤ (pos (g.residual a) +ℤ m)) × (pos (g.residual a) ≤ℤ (pos (h.residual a) +ℤ m))) → IsNearStart begin s h
 near_start begin f v s g h m start few moves a arc =
     let k = moves a arc in
     let e = start.residual a arc in

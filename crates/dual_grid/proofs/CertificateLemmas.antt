@@ -5,12 +5,11 @@ use Rattle.std.proofs.lemmas.Bool.{cases_lt}
 use Rattle.std.proofs.lemmas.Int.{ints}
 use Rattle.std.proofs.lemmas.List.{get_or_past}
 use Rattle.raster_model.specs.declared.edge.Edge.{Edge}
-use Rattle.raster_model.specs.declared.scene.Scene.{Scene}
 use Rattle.raster_model.specs.declared.tiling.Window.{Window}
 use Rattle.raster_model.specs.Sums.{Field, right_edge, down_edge}
-use Rattle.raster_model.specs.Raster.{residue, masked_weight}
-use Rattle.raster_model.specs.Scene.{raster_of}
-use Rattle.raster_model.specs.Tiles.{IsWindowOf, width_of}
+use Rattle.raster_model.specs.Raster.{Raster, residue, masked_weight}
+use Rattle.raster_model.specs.Tiles.{width_of}
+use Rattle.whole_raster.specs.Tilings.{IsTileWindow}
 use Rattle.flow_network.specs.Nets.{HasReducedCosts, HasNoExcess}
 use Rattle.flow_network.specs.Moves.{IsConserved}
 use Rattle.wrapped_gradient.specs.declared.corrections.Corrections.{Corrections}
@@ -20,8 +19,8 @@ use Rattle.wrapped_gradient.proofs.CorrectionLemmas.{greatest_of_least}
 use Rattle.wrapped_gradient.proofs.GradientLemmas.{right_edge_of, down_edge_of}
 use Rattle.wrapped_gradient.proofs.Places.{field_at}
 use Rattle.dual_grid.specs.Answers.{AreCertifiedCorrections, IsNearStart}
-use Rattle.dual_grid.specs.Building.{IsSmallWindow, AreFaces, AreEdgeFlows}
-use Rattle.dual_grid.specs.Grids.{AreWeighed, capacity_of, start_residual, window_shape, window_state}
+use Rattle.dual_grid.specs.Building.{IsRasterWindow, AreFaces, AreEdgeFlows}
+use Rattle.dual_grid.specs.Grids.{AreWeighed, arc_capacity, capacity_of, start_residual, window_shape, window_state}
 use Rattle.dual_grid.specs.Nodes.{cells_of, node_at, rights_of, downs_of, edges_of, edge_number, edge_of, first_side, other_side}
 use Rattle.dual_grid.specs.Starts.{supply_at, start_state, open_in_window, TellsMask}
 use Rattle.dual_grid.specs.Problems.{IsTight}
@@ -55,7 +54,7 @@ round_of f g v x y c same =
     sums : (a b c d i j k l : ℤ) → a ≡ i → b ≡ j → c ≡ k → d ≡ l → a +ℤ b -ℤ c -ℤ d ≡ i +ℤ j -ℤ k -ℤ l
     sums a b c d i j k l p q t u = rw (p, q, t, u) refl
 
-module _ (scene : Scene) (t : ℕ) (v : Window) (window : IsWindowOf scene.tiling t v) (little : IsSmallWindow v) (unmasked : List Bool) (mask : Field Bool) (tells : TellsMask v unmasked mask) (steep : ℕ) (told : steep ≡ scene.terms.steep) (some : 1 ≤ steep) (weight : ℕ → ℕ) (weighed : AreWeighed (raster_of scene) (open_in_window v unmasked) v weight) (flow excess potential : ℕ → ℤ) (within : (n : ℕ) → unsigned_abs (flow n) ≤ capacity_of steep (weight n)) (kept : HasReducedCosts (window_shape v steep weight) (window_state steep weight flow excess potential)) (conserved : IsConserved (window_shape v steep weight) (start_state (start_residual steep weight) (residue (raster_of scene)) v) (window_state steep weight flow excess potential)) (balanced : HasNoExcess (window_shape v steep weight) (window_state steep weight flow excess potential)) (near : IsNearStart (start_residual steep weight) (window_shape v steep weight) (window_state steep weight flow excess potential)) (k : Corrections) (are_flows : AreEdgeFlows v flow k) (faces : List ℤ) (are : AreFaces potential (cells_of v) (cells_of v) faces) where
+module _ (r : Raster) (t : ℕ) (v : Window) (window : IsTileWindow r t v) (little : IsRasterWindow v) (unmasked : List Bool) (mask : Field Bool) (tells : TellsMask v unmasked mask) (steep : ℕ) (told : steep ≡ r.steep) (some : 1 ≤ steep) (weight : ℕ → ℕ) (weighed : AreWeighed r (open_in_window v unmasked) v weight) (flow excess potential : ℕ → ℤ) (within : (n : ℕ) → unsigned_abs (flow n) ≤ capacity_of (arc_capacity v) steep (weight n)) (kept : HasReducedCosts (window_shape v steep weight) (window_state v steep weight flow excess potential)) (conserved : IsConserved (window_shape v steep weight) (start_state (start_residual v steep weight) (residue r) v) (window_state v steep weight flow excess potential)) (balanced : HasNoExcess (window_shape v steep weight) (window_state v steep weight flow excess potential)) (near : IsNearStart (start_residual v steep weight) (window_shape v steep weight) (window_state v steep weight flow excess potential)) (k : Corrections) (are_flows : AreEdgeFlows v flow k) (faces : List ℤ) (are : AreFaces potential (cells_of v) (cells_of v) faces) where
   -- a correction is what flows across the edge
   correction_is : (e : Edge) → IsEdgeOf v e → correction_at v k e ≡ flow (edge_number v e)
   correction_is e i = go e.x e.y e.down i
@@ -64,41 +63,41 @@ module _ (scene : Scene) (t : ℕ) (v : Window) (window : IsWindowOf scene.tilin
       go x y true i = are_flows.down ((y - v.y0) * width_of v + (x - v.x0)) (down_number_below v x y i)
       go x y false i = are_flows.right ((y - v.y0) * (width_of v - 1) + (x - v.x0)) (right_number_below v x y i)
 
-  cancels : CancelResidues (raster_of scene) v k
+  cancels : CancelResidues r v k
   cancels x y c =
       round_of (correction_at v k) (λ e. flow (edge_number v e)) v x y c correction_is
-      ∙ cell_balance v little steep weight (residue (raster_of scene)) flow excess potential within conserved x y c (balanced (node_at v x y) (let b = node_below v x y in omega (arith, b)))
-      ∙ ap neg_ℤ (cell_supply (residue (raster_of scene)) v x y c)
+      ∙ cell_balance v little steep weight (residue r) flow excess potential within conserved x y c (balanced (node_at v x y) (let b = node_below v x y in omega (arith, b)))
+      ∙ ap neg_ℤ (cell_supply (residue r) v x y c)
 
-  small_at : (n : ℕ) → n < edges_of v → unsigned_abs (flow n) ≤ 16130
+  small_at : (n : ℕ) → n < edges_of v → unsigned_abs (flow n) ≤ arc_capacity v
   small_at n l =
       let e = edge_of v n in
       let is = edge_in v little n l in
       let number = number_of_edge v little n l in
       rw number at (flow_is_small v steep some weight flow excess potential kept near e is (within (edge_number v e)))
 
-  rights_small : (i : ℕ) → unsigned_abs (slice_index_or k.right.items i (pos 0)) ≤ 16130
+  rights_small : (i : ℕ) → unsigned_abs (slice_index_or k.right.items i (pos 0)) ≤ arc_capacity v
   rights_small i =
       elim (cases_lt i (rights_of v)) [
         | inl l ↦ rw (are_flows.right i l) (small_at i (omega (arith, l)))
         | inr l ↦ rw (get_or_past k.right.items i (pos 0) (omega (arith, are_flows.right_count, l))) (omega (arith, ints))
       ]
 
-  downs_small : (i : ℕ) → unsigned_abs (slice_index_or k.down.items i (pos 0)) ≤ 16130
+  downs_small : (i : ℕ) → unsigned_abs (slice_index_or k.down.items i (pos 0)) ≤ arc_capacity v
   downs_small i =
       elim (cases_lt i (downs_of v)) [
         | inl l ↦ rw (are_flows.down i l) (small_at (rights_of v + i) (omega (arith, l)))
         | inr l ↦ rw (get_or_past k.down.items i (pos 0) (omega (arith, are_flows.down_count, l))) (omega (arith, ints))
       ]
 
-  pub is_answer : AreCertifiedCorrections (raster_of scene) mask t v k faces
+  pub is_answer : AreCertifiedCorrections r mask t v k faces
   is_answer =
-      tight_answer scene t v window unmasked mask tells (window_state steep weight flow excess potential) k faces are (are_flows.right_count, are_flows.down_count) (greatest_of_least k 16130 rights_small downs_small) cancels
+      tight_answer r t v window unmasked mask tells (window_state v steep weight flow excess potential) k faces are (are_flows.right_count, are_flows.down_count) (greatest_of_least k (arc_capacity v) rights_small downs_small) cancels
       (λ e i. (tight e i).within) (λ e i. (tight e i).whole)
     where
       by_scene : (q p w u : ℕ) (d k z : ℤ) → q ≡ p → w ≡ u → z ≡ k → IsTight q w d k → IsTight p u d z
       by_scene q p w u d k z i j l t = rw (l, sym i, sym j) t
 
-      tight : (e : Edge) → IsEdgeOf v e → IsTight (raster_of scene).steep (masked_weight (raster_of scene) (open_in_window v unmasked) e) (potential (other_side v e) -ℤ potential (first_side v e)) (correction_at v k e)
-      tight e i = by_scene steep (raster_of scene).steep (weight (edge_number v e)) (masked_weight (raster_of scene) (open_in_window v unmasked) e) (potential (other_side v e) -ℤ potential (first_side v e)) (flow (edge_number v e)) (correction_at v k e) told (weighed e i) (correction_is e i)
+      tight : (e : Edge) → IsEdgeOf v e → IsTight r.steep (masked_weight r (open_in_window v unmasked) e) (potential (other_side v e) -ℤ potential (first_side v e)) (correction_at v k e)
+      tight e i = by_scene steep r.steep (weight (edge_number v e)) (masked_weight r (open_in_window v unmasked) e) (potential (other_side v e) -ℤ potential (first_side v e)) (flow (edge_number v e)) (correction_at v k e) told (weighed e i) (correction_is e i)
           (flow_is_tight v steep some weight flow excess potential kept near e i (within (edge_number v e)))

@@ -1,16 +1,14 @@
 -- Corrections and faces that pass the check are an answer.
-use Rattle.std.proofs.Common.{◌≡◌, ℕ, ◌<◌, ◌∙◌, sym, subst, ap, arith, List, Bool, true, false, length}
+use Rattle.std.proofs.Common.{◌≡◌, ℕ, ◌+◌, ◌∙◌, sym, subst, ap, arith, List, Bool, true, false, length}
 use Rattle.std.specs.Prelude.{ℤ, pos, neg_ℤ, ◌-ℤ◌, unsigned_abs}
 use Rattle.std.proofs.lemmas.Int.{ints}
 use Rattle.std.proofs.lemmas.List.{get_or_past}
 use Rattle.raster_model.specs.declared.edge.Edge.{Edge}
-use Rattle.raster_model.specs.declared.scene.Scene.{Scene}
 use Rattle.raster_model.specs.declared.tiling.Window.{Window}
-use Rattle.raster_model.specs.Sums.{Field, down_edge, right_edge}
+use Rattle.raster_model.specs.Sums.{down_edge, right_edge}
 use Rattle.raster_model.specs.Raster.{masked_weight}
 use Rattle.raster_model.specs.Scene.{raster_of}
-use Rattle.raster_model.specs.Tiles.{IsWindowOf, tiles_of, window_of}
-use Rattle.raster_model.proofs.TileLemmas.{window_of-pixels}
+use Rattle.whole_raster.specs.Tilings.{IsTileWindow, tiled_by}
 use Rattle.flow_network.specs.Nets.{State}
 use Rattle.wrapped_gradient.specs.declared.corrections.Corrections.{Corrections}
 use Rattle.wrapped_gradient.specs.Corrections.{correction_at}
@@ -20,7 +18,7 @@ use Rattle.dual_grid.specs.declared.problem.Problem.{Problem}
 use Rattle.dual_grid.specs.Answers.{AreCertifiedCorrections}
 use Rattle.dual_grid.specs.Building.{AreFaces}
 use Rattle.dual_grid.specs.Nodes.{cells_of, first_side, other_side}
-use Rattle.dual_grid.specs.Problems.{AreSmallNumbers, HaveShape, IsCancelled, IsProblemOf, IsTight, IsTightAt, face_of, weight_at}
+use Rattle.dual_grid.specs.Problems.{AreSmallNumbers, HaveShape, IsAnsweredBy, IsCancelled, IsTight, IsTightAt, face_of, weight_at}
 use Rattle.dual_grid.specs.Starts.{TellsMask, open_in_window}
 use Rattle.dual_grid.proofs.TightLemmas.{tight_answer}
 
@@ -37,7 +35,7 @@ turned_faces faces n e = record {
     less_none : (a b : ℤ) → b ≡ pos 0 → a ≡ neg_ℤ b -ℤ neg_ℤ a
     less_none a b e = omega (arith, ints, e)
 
-module _ (p : Problem) (k : Corrections) (faces : List ℤ) (shape : HaveShape p k faces) (rights_small : AreSmallNumbers k.right.items) (downs_small : AreSmallNumbers k.down.items) (cancelled : (x y : ℕ) → IsCellOf p.window x y → IsCancelled p k x y) (rights : (x y : ℕ) → IsEdgeOf p.window (right_edge x y) → IsTightAt p k faces (right_edge x y)) (downs : (x y : ℕ) → IsEdgeOf p.window (down_edge x y) → IsTightAt p k faces (down_edge x y)) where
+module _ (p : Problem) (k : Corrections) (faces : List ℤ) (shape : HaveShape p k faces) (rights_small : AreSmallNumbers (cells_of p.window + 1) k.right.items) (downs_small : AreSmallNumbers (cells_of p.window + 1) k.down.items) (cancelled : (x y : ℕ) → IsCellOf p.window x y → IsCancelled p k x y) (rights : (x y : ℕ) → IsEdgeOf p.window (right_edge x y) → IsTightAt p k faces (right_edge x y)) (downs : (x y : ℕ) → IsEdgeOf p.window (down_edge x y) → IsTightAt p k faces (down_edge x y)) where
   tight : (e : Edge) → IsEdgeOf p.window e → IsTightAt p k faces e
   tight e i = go e.x e.y e.down i
     where
@@ -52,13 +50,13 @@ module _ (p : Problem) (k : Corrections) (faces : List ℤ) (shape : HaveShape p
   told : (a b z k : ℤ) (m n q : ℕ) → IsTight q (unsigned_abs z) (a -ℤ b) k → q ≡ m → z ≡ pos n → IsTight m n (neg_ℤ b -ℤ neg_ℤ a) k
   told a b z k m n q i e j = rw (turned a b) (rw (e, j) at i)
 
-  pub checked_answer : (s : Scene) (t : ℕ) (unmasked : List Bool) (mask : Field Bool) → IsProblemOf s t unmasked p → t < tiles_of s.tiling → TellsMask (window_of s.tiling t) unmasked mask → AreCertifiedCorrections (raster_of s) mask t (window_of s.tiling t) k faces
-  checked_answer s t unmasked mask problem exists tells =
+  pub checked_answer : IsAnsweredBy p k faces
+  checked_answer s w unmasked mask problem tells tiles count t window =
       let v = p.window in
+      let r = tiled_by (raster_of s) tiles count in
       let f = turned_state faces in
-      let window = subst (λ (w : Window). IsWindowOf s.tiling t w) (sym problem.window) (window_of-pixels s.tiling t exists) in
-      subst (λ (w : Window). AreCertifiedCorrections (raster_of s) mask t w k faces) problem.window
-      (tight_answer s t v window unmasked mask (subst (λ (w : Window). TellsMask w unmasked mask) (sym problem.window) tells) f k faces (turned_faces faces (cells_of v) shape.1) shape.0 (greatest_of_least k 16130 rights_small downs_small)
+      subst (λ (w : Window). AreCertifiedCorrections r mask t w k faces) problem.window
+      (tight_answer r t v (subst (λ (w : Window). IsTileWindow r t w) (sym problem.window) window) unmasked mask (subst (λ (w : Window). TellsMask w unmasked mask) (sym problem.window) tells) f k faces (turned_faces faces (cells_of v) shape.1) shape.0 (greatest_of_least k (cells_of v + 1) rights_small downs_small)
       (λ x y i. cancelled x y i ∙ ap neg_ℤ (problem.residues x y i))
       (λ e i. (here e i).within) (λ e i. (here e i).whole))
     where

@@ -7,7 +7,8 @@ use Rattle.raster_model.specs.Sums.{right_edge, down_edge}
 use Rattle.raster_model.specs.Tiles.{width_of, height_of}
 use Rattle.wrapped_gradient.specs.Windows.{IsEdgeOf}
 use Rattle.wrapped_gradient.proofs.Places.{place_within}
-use Rattle.dual_grid.specs.Building.{IsSmallWindow}
+use Rattle.dual_grid.specs.Building.{IsRasterWindow}
+use Rattle.dual_grid.specs.Grids.{arc_capacity}
 use Rattle.dual_grid.specs.Nodes.{cells_of, rights_of, downs_of, edges_of, edge_number}
 
 -- rows in which a number lies have columns
@@ -79,16 +80,19 @@ same_number v e f i j h = go e.x e.y e.down f.x f.y f.down i j h
     go x y false u w true i j h = let p = right_number_below v x y i in absurd (omega (arith, p, h))
 
 -- the number of edges and of cells of the greatest window
-pub few_edges : (v : Window) → IsSmallWindow v → edges_of v ≤ 32512
+pub few_edges : (v : Window) → IsRasterWindow v → edges_of v ≤ 33546240
 few_edges v s =
     let a = s.across in
     let b = s.along in
-    let p = mul-le (width_of v - 1) (height_of v) 127 128 (omega (arith, a)) (omega (arith, b)) in
-    let q = mul-le (width_of v) (height_of v - 1) 128 127 (omega (arith, a)) (omega (arith, b)) in
+    let p = mul-le (width_of v - 1) (height_of v) 4095 4096 (omega (arith, a)) (omega (arith, b)) in
+    let q = mul-le (width_of v) (height_of v - 1) 4096 4095 (omega (arith, a)) (omega (arith, b)) in
     omega (arith, p, q)
 
-pub few_cells : (v : Window) → IsSmallWindow v → cells_of v ≤ 16129
+pub few_cells : (v : Window) → IsRasterWindow v → cells_of v ≤ 16769025
 few_cells v s =
     let a = s.across in
     let b = s.along in
-    mul-le (v.y1 - v.y0) (v.x1 - v.x0) 127 127 (omega (arith, b)) (omega (arith, a))
+    mul-le (v.y1 - v.y0) (v.x1 - v.x0) 4095 4095 (omega (arith, b)) (omega (arith, a))
+
+pub capacity_few : (v : Window) → IsRasterWindow v → arc_capacity v ≤ 16777216
+capacity_few v s = omega (arith, few_cells v s)

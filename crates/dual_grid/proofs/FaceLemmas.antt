@@ -3,32 +3,31 @@ use Rattle.std.proofs.Common.{◌≡◌, ◌⊎◌, ℕ, zero, suc, ◌+◌, ◌
 use Rattle.std.specs.Prelude.{ℤ, pos, neg_ℤ, ◌+ℤ◌, ◌-ℤ◌, ◌*ℤ◌, ◌≤ℤ◌, unsigned_abs, slice_index_or}
 use Rattle.std.proofs.lemmas.Int.{ints}
 use Rattle.raster_model.specs.declared.edge.Edge.{Edge}
-use Rattle.raster_model.specs.declared.scene.Scene.{Scene}
 use Rattle.raster_model.specs.declared.tiling.Window.{Window}
 use Rattle.raster_model.specs.Cells.{face_at}
 use Rattle.raster_model.specs.Certificates.{above, left, face_difference, faces_of_tile}
-use Rattle.raster_model.specs.Scene.{raster_of}
-use Rattle.raster_model.specs.Tiles.{IsWindowOf}
-use Rattle.raster_model.proofs.TileCells.{face_inside, face_outside, cells_before-is}
+use Rattle.raster_model.specs.Raster.{Raster}
+use Rattle.whole_raster.specs.Tilings.{IsTileWindow}
+use Rattle.whole_raster.proofs.TileCells.{face_inside, face_outside, cells_before-is}
 use Rattle.flow_network.specs.Nets.{State, HasReducedCosts}
 use Rattle.wrapped_gradient.specs.Windows.{IsCellOf, IsEdgeOf}
 use Rattle.dual_grid.specs.Answers.{IsNearStart}
 use Rattle.dual_grid.specs.Building.{AreFaces}
-use Rattle.dual_grid.specs.Grids.{amount_of, capacity_of, cost_in_place, is_taken, leads_forth, residual_at, start_residual, window_shape, window_state}
+use Rattle.dual_grid.specs.Grids.{amount_of, arc_capacity, capacity_of, cost_in_place, is_taken, leads_forth, residual_at, start_residual, window_shape, window_state}
 use Rattle.dual_grid.specs.Nodes.{cells_of, node_at, node_above, node_left, first_side, other_side, edge_number}
 use Rattle.dual_grid.specs.Problems.{IsTight}
 use Rattle.dual_grid.proofs.ArcLemmas.{IsFree, IsPlain, IsSplit, free_unsplit, kinds, plain_unsplit, steep_taken}
 use Rattle.dual_grid.proofs.CheckLemmas.{back_product, forth_product, more_tight, none_tight, one_tight}
-use Rattle.dual_grid.proofs.FlowLemmas.{amount_parts}
+use Rattle.dual_grid.proofs.FlowLemmas.{amount_parts, nothing_less, nothing_more}
 use Rattle.dual_grid.proofs.GridLemmas.{across_cost, across_head, across_is_arc, across_residual, across_tail}
 use Rattle.dual_grid.proofs.NodeLemmas.{cell_or_not, cell_below, node_inside, node_outside, above_inside, above_outside, left_inside, left_outside, first_down, first_right, other_down, other_right}
 use Rattle.std.proofs.lemmas.Bool.{cases_lt}
 
-module _ (s : Scene) (t : ℕ) (v : Window) (is : IsWindowOf s.tiling t v) (f : State) (faces : List ℤ) (are : AreFaces f.potential (cells_of v) (cells_of v) faces) where
-  listed : (x y : ℕ) → IsCellOf v x y → face_at (raster_of s) t faces x y ≡ f.potential (cells_of v) -ℤ f.potential (node_at v x y)
+module _ (r : Raster) (t : ℕ) (v : Window) (is : IsTileWindow r t v) (f : State) (faces : List ℤ) (are : AreFaces f.potential (cells_of v) (cells_of v) faces) where
+  listed : (x y : ℕ) → IsCellOf v x y → face_at r t faces x y ≡ f.potential (cells_of v) -ℤ f.potential (node_at v x y)
   unfolding face_at
   listed x y c =
-      let place = cells_before-is s t v is x y c ∙ sym (node_inside v x y c) in
+      let place = cells_before-is r t v is x y c ∙ sym (node_inside v x y c) in
       let below : node_at v x y < cells_of v = rw (node_inside v x y c) (cell_below v x y c) in
       ap (λ (k : ℕ). slice_index_or faces k (pos 0)) place ∙ are.values (node_at v x y) below
 
@@ -36,14 +35,14 @@ module _ (s : Scene) (t : ℕ) (v : Window) (is : IsWindowOf s.tiling t v) (f : 
   nothing u e = rw e (omega (arith, ints))
 
   -- a face is how much higher the outside lies than the node, beyond the tile too
-  pub face_of_node : (x y : ℕ) → faces_of_tile (raster_of s) t (face_at (raster_of s) t faces) x y ≡ f.potential (cells_of v) -ℤ f.potential (node_at v x y)
+  pub face_of_node : (x y : ℕ) → faces_of_tile r t (face_at r t faces) x y ≡ f.potential (cells_of v) -ℤ f.potential (node_at v x y)
   face_of_node x y =
       elim (cell_or_not v x y) [
-        | inl c ↦ face_inside s t v is (face_at (raster_of s) t faces) x y c ∙ listed x y c
-        | inr n ↦ face_outside s t v is (face_at (raster_of s) t faces) x y n ∙ nothing (node_at v x y) (node_outside v x y n)
+        | inl c ↦ face_inside r t v is (face_at r t faces) x y c ∙ listed x y c
+        | inr n ↦ face_outside r t v is (face_at r t faces) x y n ∙ nothing (node_at v x y) (node_outside v x y n)
       ]
 
-  above_of_node : (x y : ℕ) → above (faces_of_tile (raster_of s) t (face_at (raster_of s) t faces)) x y ≡ f.potential (cells_of v) -ℤ f.potential (node_above v x y)
+  above_of_node : (x y : ℕ) → above (faces_of_tile r t (face_at r t faces)) x y ≡ f.potential (cells_of v) -ℤ f.potential (node_above v x y)
   above_of_node x zero = nothing (node_above v x zero) (above_outside v x zero (omega arith))
   above_of_node x (suc y) =
       elim (cases_lt v.y0 (suc y)) [
@@ -51,10 +50,10 @@ module _ (s : Scene) (t : ℕ) (v : Window) (is : IsWindowOf s.tiling t v) (f : 
             let e : suc y - 1 ≡ y = omega arith in
             face_of_node x y ∙ ap (λ (k : ℕ). f.potential (cells_of v) -ℤ f.potential k) (ap (λ (i : ℕ). node_at v x i) (sym e) ∙ sym (above_inside v x (suc y) l)))
         | inr l ↦ (
-            face_outside s t v is (face_at (raster_of s) t faces) x y (λ c. omega (arith, c, l)) ∙ nothing (node_above v x (suc y)) (above_outside v x (suc y) l))
+            face_outside r t v is (face_at r t faces) x y (λ c. omega (arith, c, l)) ∙ nothing (node_above v x (suc y)) (above_outside v x (suc y) l))
       ]
 
-  left_of_node : (x y : ℕ) → left (faces_of_tile (raster_of s) t (face_at (raster_of s) t faces)) x y ≡ f.potential (cells_of v) -ℤ f.potential (node_left v x y)
+  left_of_node : (x y : ℕ) → left (faces_of_tile r t (face_at r t faces)) x y ≡ f.potential (cells_of v) -ℤ f.potential (node_left v x y)
   left_of_node zero y = nothing (node_left v zero y) (left_outside v zero y (omega arith))
   left_of_node (suc x) y =
       elim (cases_lt v.x0 (suc x)) [
@@ -62,17 +61,17 @@ module _ (s : Scene) (t : ℕ) (v : Window) (is : IsWindowOf s.tiling t v) (f : 
             let e : suc x - 1 ≡ x = omega arith in
             face_of_node x y ∙ ap (λ (k : ℕ). f.potential (cells_of v) -ℤ f.potential k) (ap (λ (i : ℕ). node_at v i y) (sym e) ∙ sym (left_inside v (suc x) y l)))
         | inr l ↦ (
-            face_outside s t v is (face_at (raster_of s) t faces) x y (λ c. omega (arith, c, l)) ∙ nothing (node_left v (suc x) y) (left_outside v (suc x) y l))
+            face_outside r t v is (face_at r t faces) x y (λ c. omega (arith, c, l)) ∙ nothing (node_left v (suc x) y) (left_outside v (suc x) y l))
       ]
 
   -- a face difference is one of potentials
-  pub difference_of_nodes : (e : Edge) → face_difference (faces_of_tile (raster_of s) t (face_at (raster_of s) t faces)) e ≡ f.potential (other_side v e) -ℤ f.potential (first_side v e)
+  pub difference_of_nodes : (e : Edge) → face_difference (faces_of_tile r t (face_at r t faces)) e ≡ f.potential (other_side v e) -ℤ f.potential (first_side v e)
   difference_of_nodes e = go e.x e.y e.down
     where
       subtract : (o p q a b : ℤ) → a ≡ o -ℤ p → b ≡ o -ℤ q → a -ℤ b ≡ q -ℤ p
       subtract o p q a b d e = omega (arith, ints, d, e)
 
-      go : (x y : ℕ) (d : Bool) → face_difference (faces_of_tile (raster_of s) t (face_at (raster_of s) t faces)) (record { x = x; y = y; down = d }) ≡ f.potential (other_side v (record { x = x; y = y; down = d })) -ℤ f.potential (first_side v (record { x = x; y = y; down = d }))
+      go : (x y : ℕ) (d : Bool) → face_difference (faces_of_tile r t (face_at r t faces)) (record { x = x; y = y; down = d }) ≡ f.potential (other_side v (record { x = x; y = y; down = d })) -ℤ f.potential (first_side v (record { x = x; y = y; down = d }))
       go x y true =
           rw (first_down v (record { x = x; y = y; down = true }) refl, other_down v (record { x = x; y = y; down = true }) refl)
           (subtract (f.potential (cells_of v)) (f.potential (node_at v x y)) (f.potential (node_left v x y)) _ _ (face_of_node x y) (left_of_node x y))
@@ -120,9 +119,9 @@ held_tight steep w zero (suc (suc b)) d k e o h =
 held_tight steep w (suc a) (suc b) d k e (inl z) h = absurd (omega (arith, z))
 held_tight steep w (suc a) (suc b) d k e (inr z) h = absurd (omega (arith, z))
 
-module _ (v : Window) (steep : ℕ) (some : 1 ≤ steep) (weight : ℕ → ℕ) (flow excess potential : ℕ → ℤ) (kept : HasReducedCosts (window_shape v steep weight) (window_state steep weight flow excess potential)) (near : IsNearStart (start_residual steep weight) (window_shape v steep weight) (window_state steep weight flow excess potential)) (e : Edge) (is : IsEdgeOf v e) (bounded : unsigned_abs (flow (edge_number v e)) ≤ capacity_of steep (weight (edge_number v e))) where
+module _ (v : Window) (steep : ℕ) (some : 1 ≤ steep) (weight : ℕ → ℕ) (flow excess potential : ℕ → ℤ) (kept : HasReducedCosts (window_shape v steep weight) (window_state v steep weight flow excess potential)) (near : IsNearStart (start_residual v steep weight) (window_shape v steep weight) (window_state v steep weight flow excess potential)) (e : Edge) (is : IsEdgeOf v e) (bounded : unsigned_abs (flow (edge_number v e)) ≤ capacity_of (arc_capacity v) steep (weight (edge_number v e))) where
   -- the arc in a place with capacity left costs no less than the difference in its direction
-  forth_holds : (k : ℕ) → k < 8 → is_taken steep (weight (edge_number v e)) k ≡ true → leads_forth k ≡ true → 0 < residual_at steep (weight (edge_number v e)) (flow (edge_number v e)) k → (potential (other_side v e) -ℤ potential (first_side v e)) ≤ℤ cost_in_place steep (weight (edge_number v e)) k
+  forth_holds : (k : ℕ) → k < 8 → is_taken steep (weight (edge_number v e)) k ≡ true → leads_forth k ≡ true → 0 < residual_at (arc_capacity v) steep (weight (edge_number v e)) (flow (edge_number v e)) k → (potential (other_side v e) -ℤ potential (first_side v e)) ≤ℤ cost_in_place steep (weight (edge_number v e)) k
   forth_holds k below taken forth l =
       let arc = across_is_arc v steep weight e is k below taken in
       let low = kept.at_least (edge_number v e * 8 + k) arc (rw (across_residual v steep weight e is k below taken flow) l) in
@@ -131,7 +130,7 @@ module _ (v : Window) (steep : ℕ) (some : 1 ≤ steep) (weight : ℕ → ℕ) 
       held : (t h x y c d : ℤ) → x ≡ t → y ≡ h → c ≡ d → pos 0 ≤ℤ (c +ℤ x -ℤ y) → (h -ℤ t) ≤ℤ d
       held t h x y c d i j m n = omega (arith, ints, i, j, m, n)
 
-  back_holds : (k : ℕ) → k < 8 → is_taken steep (weight (edge_number v e)) k ≡ true → leads_forth k ≡ false → 0 < residual_at steep (weight (edge_number v e)) (flow (edge_number v e)) k → neg_ℤ (potential (other_side v e) -ℤ potential (first_side v e)) ≤ℤ cost_in_place steep (weight (edge_number v e)) k
+  back_holds : (k : ℕ) → k < 8 → is_taken steep (weight (edge_number v e)) k ≡ true → leads_forth k ≡ false → 0 < residual_at (arc_capacity v) steep (weight (edge_number v e)) (flow (edge_number v e)) k → neg_ℤ (potential (other_side v e) -ℤ potential (first_side v e)) ≤ℤ cost_in_place steep (weight (edge_number v e)) k
   back_holds k below taken back l =
       let arc = across_is_arc v steep weight e is k below taken in
       let low = kept.at_least (edge_number v e * 8 + k) arc (rw (across_residual v steep weight e is k below taken flow) l) in
@@ -141,7 +140,7 @@ module _ (v : Window) (steep : ℕ) (some : 1 ≤ steep) (weight : ℕ → ℕ) 
       held t h x y c d i j m n = omega (arith, ints, i, j, m, n)
 
   -- the arc in a place that has the whole capacity at the start keeps some
-  keeps : (k : ℕ) → k < 8 → is_taken steep (weight (edge_number v e)) k ≡ true → residual_at steep (weight (edge_number v e)) (pos 0) k ≡ 16130 → 0 < residual_at steep (weight (edge_number v e)) (flow (edge_number v e)) k
+  keeps : (k : ℕ) → k < 8 → is_taken steep (weight (edge_number v e)) k ≡ true → residual_at (arc_capacity v) steep (weight (edge_number v e)) (pos 0) k ≡ arc_capacity v → 0 < residual_at (arc_capacity v) steep (weight (edge_number v e)) (flow (edge_number v e)) k
   keeps k below taken full =
       let h = (near (edge_number v e * 8 + k) (across_is_arc v steep weight e is k below taken)).1 in
       let s = across_residual v steep weight e is k below taken (λ n. pos 0) ∙ full in
@@ -153,8 +152,8 @@ module _ (v : Window) (steep : ℕ) (some : 1 ≤ steep) (weight : ℕ → ℕ) 
   free_held f =
       let z = f.0 in
       let none = f.2 in
-      let up : (potential (other_side v e) -ℤ potential (first_side v e)) ≤ℤ pos (weight (edge_number v e)) = forth_holds 0 (omega arith) refl refl (keeps 0 (omega arith) refl (rw z refl)) in
-      let down : neg_ℤ (potential (other_side v e) -ℤ potential (first_side v e)) ≤ℤ pos (weight (edge_number v e)) = back_holds 2 (omega arith) refl refl (keeps 2 (omega arith) refl (rw z refl)) in
+      let up : (potential (other_side v e) -ℤ potential (first_side v e)) ≤ℤ pos (weight (edge_number v e)) = forth_holds 0 (omega arith) refl refl (keeps 0 (omega arith) refl (rw z (nothing_more (arc_capacity v)))) in
+      let down : neg_ℤ (potential (other_side v e) -ℤ potential (first_side v e)) ≤ℤ pos (weight (edge_number v e)) = back_holds 2 (omega arith) refl refl (keeps 2 (omega arith) refl (rw z (nothing_more (arc_capacity v)))) in
       let level : (potential (other_side v e) -ℤ potential (first_side v e)) ≡ pos 0 = omega (arith, ints, up, down, none) in
       level_held (weight (edge_number v e)) _ _ (potential (other_side v e) -ℤ potential (first_side v e)) none level
     where
@@ -174,8 +173,8 @@ module _ (v : Window) (steep : ℕ) (some : 1 ≤ steep) (weight : ℕ → ℕ) 
       let z = f.0.0 in
       let n = f.1 in
       let once : steep ≡ 1 = omega (arith, some, f.2) in
-      let up : (potential (other_side v e) -ℤ potential (first_side v e)) ≤ℤ pos (weight (edge_number v e)) = forth_holds 0 (omega arith) refl refl (keeps 0 (omega arith) refl (rw (z, n) refl)) in
-      let down : neg_ℤ (potential (other_side v e) -ℤ potential (first_side v e)) ≤ℤ pos (weight (edge_number v e)) = back_holds 2 (omega arith) refl refl (keeps 2 (omega arith) refl (rw (z, n) refl)) in
+      let up : (potential (other_side v e) -ℤ potential (first_side v e)) ≤ℤ pos (weight (edge_number v e)) = forth_holds 0 (omega arith) refl refl (keeps 0 (omega arith) refl (rw (z, n) (nothing_less (arc_capacity v)))) in
+      let down : neg_ℤ (potential (other_side v e) -ℤ potential (first_side v e)) ≤ℤ pos (weight (edge_number v e)) = back_holds 2 (omega arith) refl refl (keeps 2 (omega arith) refl (rw (z, n) (nothing_less (arc_capacity v)))) in
       let forth : 0 < amount_of (flow (edge_number v e)) → neg_ℤ (potential (other_side v e) -ℤ potential (first_side v e)) ≤ℤ neg_ℤ (pos (weight (edge_number v e))) = λ l. back_holds 1 (omega arith) f.0.1 refl (rw (z, n) l) in
       let back : 0 < amount_of (neg_ℤ (flow (edge_number v e))) → (potential (other_side v e) -ℤ potential (first_side v e)) ≤ℤ neg_ℤ (pos (weight (edge_number v e))) = λ l. forth_holds 3 (omega arith) f.0.1 refl (rw (z, n) l) in
       once_held (weight (edge_number v e)) _ _ (potential (other_side v e) -ℤ potential (first_side v e)) once up down forth back
@@ -198,8 +197,8 @@ module _ (v : Window) (steep : ℕ) (some : 1 ≤ steep) (weight : ℕ → ℕ) 
       let z = f.0.0 in
       let n = f.1 in
       let taken = steep_taken steep (weight (edge_number v e)) f in
-      let up : (potential (other_side v e) -ℤ potential (first_side v e)) ≤ℤ pos (steep * weight (edge_number v e)) = forth_holds 4 (omega arith) taken refl (keeps 4 (omega arith) taken (rw (z, n) refl)) in
-      let down : neg_ℤ (potential (other_side v e) -ℤ potential (first_side v e)) ≤ℤ pos (steep * weight (edge_number v e)) = back_holds 6 (omega arith) taken refl (keeps 6 (omega arith) taken (rw (z, n) refl)) in
+      let up : (potential (other_side v e) -ℤ potential (first_side v e)) ≤ℤ pos (steep * weight (edge_number v e)) = forth_holds 4 (omega arith) taken refl (keeps 4 (omega arith) taken (rw (z, n) (nothing_less (arc_capacity v)))) in
+      let down : neg_ℤ (potential (other_side v e) -ℤ potential (first_side v e)) ≤ℤ pos (steep * weight (edge_number v e)) = back_holds 6 (omega arith) taken refl (keeps 6 (omega arith) taken (rw (z, n) (nothing_less (arc_capacity v)))) in
       let none_up : amount_of (flow (edge_number v e)) ≡ 0 → (potential (other_side v e) -ℤ potential (first_side v e)) ≤ℤ pos (weight (edge_number v e)) = λ i. forth_holds 0 (omega arith) refl refl (rw (z, n) (omega (arith, i))) in
       let none_down : amount_of (neg_ℤ (flow (edge_number v e))) ≡ 0 → neg_ℤ (potential (other_side v e) -ℤ potential (first_side v e)) ≤ℤ pos (weight (edge_number v e)) = λ i. back_holds 2 (omega arith) refl refl (rw (z, n) (omega (arith, i))) in
       let forth : 0 < amount_of (flow (edge_number v e)) → neg_ℤ (potential (other_side v e) -ℤ potential (first_side v e)) ≤ℤ neg_ℤ (pos (weight (edge_number v e))) = λ l. back_holds 1 (omega arith) f.0.1 refl (rw (z, n) (omega (arith, l))) in
@@ -225,8 +224,8 @@ module _ (v : Window) (steep : ℕ) (some : 1 ≤ steep) (weight : ℕ → ℕ) 
         | inr (inr f) ↦ split_held f
       ])
 
-  -- near the start no flow is above 16130
-  pub flow_is_small : unsigned_abs (flow (edge_number v e)) ≤ 16130
+  -- near the start no flow is above the capacity of an arc
+  pub flow_is_small : unsigned_abs (flow (edge_number v e)) ≤ arc_capacity v
   flow_is_small =
       elim (kinds steep (weight (edge_number v e))) [
         | inl f ↦ (let u = free_unsplit steep (weight (edge_number v e)) f in rw u at bounded)
@@ -235,8 +234,8 @@ module _ (v : Window) (steep : ℕ) (some : 1 ≤ steep) (weight : ℕ → ℕ) 
             let z = f.0.0 in
             let n = f.1 in
             let taken = steep_taken steep (weight (edge_number v e)) f in
-            let forth : 0 < 16130 - (amount_of (flow (edge_number v e)) - 1) = rw (z, n) at (keeps 4 (omega arith) taken (rw (z, n) refl)) in
-            let back : 0 < 16130 - (amount_of (neg_ℤ (flow (edge_number v e))) - 1) = rw (z, n) at (keeps 6 (omega arith) taken (rw (z, n) refl)) in
+            let forth : 0 < arc_capacity v - (amount_of (flow (edge_number v e)) - 1) = rw (z, n) at (keeps 4 (omega arith) taken (rw (z, n) (nothing_less (arc_capacity v)))) in
+            let back : 0 < arc_capacity v - (amount_of (neg_ℤ (flow (edge_number v e))) - 1) = rw (z, n) at (keeps 6 (omega arith) taken (rw (z, n) (nothing_less (arc_capacity v)))) in
             let parts = (amount_parts (flow (edge_number v e))).0 in
             omega (arith, ints, forth, back, parts))
       ]

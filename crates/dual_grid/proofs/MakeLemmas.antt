@@ -19,14 +19,14 @@ use Rattle.flow_network.proofs.CallerLemmas.{conserved-still, sum-not_below, ter
 use Rattle.flow_network.proofs.RoomLemmas.{term-not_below}
 use Rattle.wrapped_gradient.specs.Rows.{AreInRows}
 use Rattle.wrapped_gradient.specs.Windows.{IsEdgeOf, edge_value}
-use Rattle.dual_grid.specs.Building.{AreCellSupplies, IsSmallWindow}
-use Rattle.dual_grid.specs.Grids.{AreWeighed, HasSmallCosts, amount_of, carried, cost_in_place, cost_of_place, residual_at, start_residual}
+use Rattle.dual_grid.specs.Building.{AreCellSupplies, IsRasterWindow}
+use Rattle.dual_grid.specs.Grids.{AreWeighed, HasSmallCosts, amount_of, arc_capacity, carried, cost_in_place, cost_of_place, residual_at, start_residual}
 use Rattle.dual_grid.specs.Layout.{AreWithinCapacity, FitGrid, number_or_zero, shape_by, state_by, weight_in}
 use Rattle.dual_grid.specs.Nodes.{cells_of, edges_of, edge_number}
 use Rattle.dual_grid.specs.Problems.{down_edge_weights, right_edge_weights}
 use Rattle.dual_grid.specs.Starts.{IsAtStart, open_in_window, start_state}
 use Rattle.dual_grid.proofs.ArcLemmas.{grid_is_network, kinds}
-use Rattle.dual_grid.proofs.EdgeLemmas.{few_cells, few_edges, right_number_below}
+use Rattle.dual_grid.proofs.EdgeLemmas.{capacity_few, few_cells, few_edges, right_number_below}
 use Rattle.dual_grid.proofs.FlowLemmas.{residual_small}
 use Rattle.dual_grid.proofs.ListingLemmas.{weights_listed}
 use Rattle.sums_and_lists.specs.Sums.{sum_below, where_true}
@@ -69,21 +69,21 @@ sum_bounded (suc n) c f h =
     rw e (omega (arith, ints, sum_below-more n f, sum_bounded n c f (λ k l. h k (omega arith)), h n (omega arith), d))
 
 -- ---- nothing flows, and all potentials are 0
-module _ (v : Window) (little : IsSmallWindow v) (steep : ℕ) (gentle : steep ≤ 16) (weights flows excesses potentials : List ℤ) (fit : FitGrid v weights flows excesses potentials) (light : (n : ℕ) → unsigned_abs (number_or_zero weights n) ≤ 65535) (none : (n : ℕ) → number_or_zero flows n ≡ pos 0) (flat : (n : ℕ) → number_or_zero potentials n ≡ pos 0) where
-  pub start_within : AreWithinCapacity steep weights flows
+module _ (v : Window) (little : IsRasterWindow v) (steep : ℕ) (gentle : steep ≤ 16) (weights flows excesses potentials : List ℤ) (fit : FitGrid v weights flows excesses potentials) (light : (n : ℕ) → unsigned_abs (number_or_zero weights n) ≤ 65535) (none : (n : ℕ) → number_or_zero flows n ≡ pos 0) (flat : (n : ℕ) → number_or_zero potentials n ≡ pos 0) where
+  pub start_within : AreWithinCapacity v steep weights flows
   start_within n = rw (none n) (omega (arith, ints))
 
-  residual_is : (a : ℕ) → IsArc (shape_by v steep weights) a → (state_by steep weights flows excesses potentials).residual a ≡ start_residual steep (weight_in weights) a
-  residual_is a arc = ap (λ (q : ℤ). residual_at steep (weight_in weights (a / 8)) q (a % 8)) (none (a / 8))
+  residual_is : (a : ℕ) → IsArc (shape_by v steep weights) a → (state_by v steep weights flows excesses potentials).residual a ≡ start_residual v steep (weight_in weights) a
+  residual_is a arc = ap (λ (q : ℤ). residual_at (arc_capacity v) steep (weight_in weights (a / 8)) q (a % 8)) (none (a / 8))
 
-  start_small : (a : ℕ) → start_residual steep (weight_in weights) a ≤ 32261
-  start_small a = residual_small steep (weight_in weights (a / 8)) (pos 0) (a % 8) (omega (arith, ints))
+  start_small : (a : ℕ) → start_residual v steep (weight_in weights) a ≤ 33554433
+  start_small a = residual_small (arc_capacity v) steep (weight_in weights (a / 8)) (pos 0) (a % 8) (capacity_few v little) (omega (arith, ints))
 
-  pub start_at : (r : Field ℤ) → AreCellSupplies r v excesses → IsAtStart (start_residual steep (weight_in weights)) r v (shape_by v steep weights) (state_by steep weights flows excesses potentials)
+  pub start_at : (r : Field ℤ) → AreCellSupplies r v excesses → IsAtStart (start_residual v steep (weight_in weights)) r v (shape_by v steep weights) (state_by v steep weights flows excesses potentials)
   start_at r are = record { residual = residual_is; excess = are.values; potential = λ u l. flat u }
 
-  pub start_conserved : (r : Field ℤ) → AreCellSupplies r v excesses → IsConserved (shape_by v steep weights) (start_state (start_residual steep (weight_in weights)) r v) (state_by steep weights flows excesses potentials)
-  start_conserved r are = conserved-still (shape_by v steep weights) (start_state (start_residual steep (weight_in weights)) r v) (state_by steep weights flows excesses potentials) (grid_is_network v steep (weight_in weights)) residual_is are.values
+  pub start_conserved : (r : Field ℤ) → AreCellSupplies r v excesses → IsConserved (shape_by v steep weights) (start_state (start_residual v steep (weight_in weights)) r v) (state_by v steep weights flows excesses potentials)
+  start_conserved r are = conserved-still (shape_by v steep weights) (start_state (start_residual v steep (weight_in weights)) r v) (state_by v steep weights flows excesses potentials) (grid_is_network v steep (weight_in weights)) residual_is are.values
 
   size_small : (w k : ℕ) → w ≤ 65535 → cost_of_place steep w k ≤ 1048560
   size_small w k l =
@@ -116,7 +116,7 @@ module _ (v : Window) (little : IsSmallWindow v) (steep : ℕ) (gentle : steep �
   free_twin true = omega (arith, ints)
   free_twin false = omega (arith, ints)
 
-  cost_from : (w k : ℕ) → 0 < residual_at steep w (pos 0) k → pos 0 ≤ℤ cost_in_place steep w k
+  cost_from : (w k : ℕ) → 0 < residual_at (arc_capacity v) steep w (pos 0) k → pos 0 ≤ℤ cost_in_place steep w k
   cost_from w k l =
       elim (cases_Bool (k % 2 == 0)) [
         | inl t ↦ rw t (omega (arith, ints))
@@ -128,20 +128,20 @@ module _ (v : Window) (little : IsSmallWindow v) (steep : ℕ) (gentle : steep �
       ]
 
   -- an arc with capacity at the start costs something, or nothing
-  start_cost : (a : ℕ) → 0 < start_residual steep (weight_in weights) a → pos 0 ≤ℤ (shape_by v steep weights).cost a
+  start_cost : (a : ℕ) → 0 < start_residual v steep (weight_in weights) a → pos 0 ≤ℤ (shape_by v steep weights).cost a
   start_cost a l = cost_from (weight_in weights (a / 8)) (a % 8) l
 
   level : (c x y : ℤ) → pos 0 ≤ℤ c → x ≡ pos 0 → y ≡ pos 0 → pos 0 ≤ℤ (c +ℤ x -ℤ y)
   level c x y l p q = omega (arith, ints, l, p, q)
 
-  pub start_kept : supply_sum excesses ≡ pos 0 → HasReducedCosts (shape_by v steep weights) (state_by steep weights flows excesses potentials)
+  pub start_kept : supply_sum excesses ≡ pos 0 → HasReducedCosts (shape_by v steep weights) (state_by v steep weights flows excesses potentials)
   start_kept even = record {
     at_least = λ a arc l. level ((shape_by v steep weights).cost a) _ _ (start_cost a (rw (residual_is a arc) at l)) (flat (tail_of (shape_by v steep weights) a)) (flat ((shape_by v steep weights).head a));
     even = ap (λ (n : ℕ). sum_below n (number_or_zero excesses)) (sym fit.by_node) ∙ even;
   }
 
   -- ---- the room for pushes
-  residual_term : (a : ℕ) → where_true ((shape_by v steep weights).is_arc a) (pos ((state_by steep weights flows excesses potentials).residual a)) ≤ℤ pos 32261
+  residual_term : (a : ℕ) → where_true ((shape_by v steep weights).is_arc a) (pos ((state_by v steep weights flows excesses potentials).residual a)) ≤ℤ pos 33554433
   residual_term a =
       elim (cases_Bool ((shape_by v steep weights).is_arc a)) [
         | inl t ↦ (
@@ -151,33 +151,33 @@ module _ (v : Window) (little : IsSmallWindow v) (steep : ℕ) (gentle : steep �
         | inr t ↦ rw t (omega (arith, ints))
       ]
 
-  both-le : (t u : Bool) (n : ℕ) → where_true t (pos n) ≤ℤ pos 32261 → where_true (t && u) (pos n) ≤ℤ pos 32261
+  both-le : (t u : Bool) (n : ℕ) → where_true t (pos n) ≤ℤ pos 33554433 → where_true (t && u) (pos n) ≤ℤ pos 33554433
   both-le true true n l = l
   both-le true false n l = omega (arith, ints)
   both-le false u n l = l
 
-  few_arcs : edges_of v * 8 * 32261 ≤ 8390957056
+  few_arcs : edges_of v * 8 * 33554433 ≤ 9005000499855360
   few_arcs = let l = few_edges v little in omega (arith, l)
 
-  total_small : total_residual (shape_by v steep weights) (state_by steep weights flows excesses potentials) ≤ℤ pos (edges_of v * 8 * 32261)
-  total_small = sum_bounded (edges_of v * 8) 32261 (λ a. where_true ((shape_by v steep weights).is_arc a) (pos ((state_by steep weights flows excesses potentials).residual a))) (λ a l. residual_term a)
+  total_small : total_residual (shape_by v steep weights) (state_by v steep weights flows excesses potentials) ≤ℤ pos (edges_of v * 8 * 33554433)
+  total_small = sum_bounded (edges_of v * 8) 33554433 (λ a. where_true ((shape_by v steep weights).is_arc a) (pos ((state_by v steep weights flows excesses potentials).residual a))) (λ a l. residual_term a)
 
-  total_low : pos 0 ≤ℤ total_residual (shape_by v steep weights) (state_by steep weights flows excesses potentials)
-  total_low = sum-not_below (edges_of v * 8) (λ a. where_true ((shape_by v steep weights).is_arc a) (pos ((state_by steep weights flows excesses potentials).residual a))) (λ a l. term-not_below ((shape_by v steep weights).is_arc a) ((state_by steep weights flows excesses potentials).residual a))
+  total_low : pos 0 ≤ℤ total_residual (shape_by v steep weights) (state_by v steep weights flows excesses potentials)
+  total_low = sum-not_below (edges_of v * 8) (λ a. where_true ((shape_by v steep weights).is_arc a) (pos ((state_by v steep weights flows excesses potentials).residual a))) (λ a l. term-not_below ((shape_by v steep weights).is_arc a) ((state_by v steep weights flows excesses potentials).residual a))
 
-  out_small : (u : ℕ) → residual_out (shape_by v steep weights) (state_by steep weights flows excesses potentials) u ≤ℤ pos (edges_of v * 8 * 32261)
-  out_small u = sum_bounded (edges_of v * 8) 32261 (out_term (shape_by v steep weights) (state_by steep weights flows excesses potentials) u) (λ a l. both-le ((shape_by v steep weights).is_arc a) (tail_of (shape_by v steep weights) a == u) ((state_by steep weights flows excesses potentials).residual a) (residual_term a))
+  out_small : (u : ℕ) → residual_out (shape_by v steep weights) (state_by v steep weights flows excesses potentials) u ≤ℤ pos (edges_of v * 8 * 33554433)
+  out_small u = sum_bounded (edges_of v * 8) 33554433 (out_term (shape_by v steep weights) (state_by v steep weights flows excesses potentials) u) (λ a l. both-le ((shape_by v steep weights).is_arc a) (tail_of (shape_by v steep weights) a == u) ((state_by v steep weights flows excesses potentials).residual a) (residual_term a))
 
-  out_low : (u : ℕ) → pos 0 ≤ℤ residual_out (shape_by v steep weights) (state_by steep weights flows excesses potentials) u
-  out_low u = sum-not_below (edges_of v * 8) (out_term (shape_by v steep weights) (state_by steep weights flows excesses potentials) u) (λ a l. term-not_below ((shape_by v steep weights).is_arc a && (tail_of (shape_by v steep weights) a == u)) ((state_by steep weights flows excesses potentials).residual a))
+  out_low : (u : ℕ) → pos 0 ≤ℤ residual_out (shape_by v steep weights) (state_by v steep weights flows excesses potentials) u
+  out_low u = sum-not_below (edges_of v * 8) (out_term (shape_by v steep weights) (state_by v steep weights flows excesses potentials) u) (λ a l. term-not_below ((shape_by v steep weights).is_arc a && (tail_of (shape_by v steep weights) a == u)) ((state_by v steep weights flows excesses potentials).residual a))
 
-  excess_small : supply_sizes excesses ≤ℤ pos (2 * cells_of v) → (u : ℕ) → u < cells_of v + 1 → unsigned_abs (number_or_zero excesses u) ≤ 32258
+  excess_small : supply_sizes excesses ≤ℤ pos (2 * cells_of v) → (u : ℕ) → u < cells_of v + 1 → unsigned_abs (number_or_zero excesses u) ≤ 33538050
   excess_small sizes u l =
       let one = term-le (length excesses) u (λ k. pos (unsigned_abs (get_or excesses k (pos 0)))) (omega (arith, fit.by_node, l)) (λ k m. omega (arith, ints)) in
       let few = few_cells v little in
       omega (arith, ints, one, sizes, few)
 
-  pub start_room : supply_sizes excesses ≤ℤ pos (2 * cells_of v) → HasRoom (shape_by v steep weights) (state_by steep weights flows excesses potentials)
+  pub start_room : supply_sizes excesses ≤ℤ pos (2 * cells_of v) → HasRoom (shape_by v steep weights) (state_by v steep weights flows excesses potentials)
   start_room sizes = record {
     total = (let t = total_small in let f = few_arcs in omega (arith, ints, t, f));
     above = λ u l. (let t = total_small in let f = few_arcs in let o = out_low u in let e = excess_small sizes u l in omega (arith, ints, t, f, o, e));

@@ -10,7 +10,7 @@ use Rattle.raster_model.specs.Tiles.{width_of, height_of}
 use Rattle.wrapped_gradient.specs.Windows.{IsEdgeOf}
 use Rattle.wrapped_gradient.proofs.GradientLemmas.{down_edge_of, right_edge_of}
 use Rattle.wrapped_gradient.proofs.Places.{place_within}
-use Rattle.dual_grid.specs.Building.{IsSmallWindow}
+use Rattle.dual_grid.specs.Building.{IsRasterWindow}
 use Rattle.dual_grid.specs.Nodes.{cells_of, rights_of, downs_of, edges_of, edge_number, edge_of, first_side, other_side}
 use Rattle.dual_grid.proofs.EdgeLemmas.{has_columns, right_number_below}
 use Rattle.dual_grid.proofs.NodeLemmas.{node_inside, node_outside, above_inside, above_outside, left_inside, left_outside, first_right, first_down, other_right, other_down}
@@ -169,7 +169,7 @@ module _ (v : Window) (m : ℕ) (l : rights_of v + m < edges_of v) where
   down_cell i p = let q = place_within (v.x1 - v.x0) (v.y1 - v.y0) (m / width_of v) i down_row p in omega (arith, q)
 
 -- ---- the edge of a number is one of the window, and has that number
-module _ (v : Window) (small : IsSmallWindow v) where
+module _ (v : Window) (small : IsRasterWindow v) where
   right_in : (n : ℕ) → n < rights_of v → IsEdgeOf v (right_edge (v.x0 + n % (v.x1 - v.x0)) (v.y0 + n / (v.x1 - v.x0)))
   right_in n l =
       let w = has_columns n (v.x1 - v.x0) (v.y1 - v.y0 + 1) (omega (arith, l, rights_are v)) in

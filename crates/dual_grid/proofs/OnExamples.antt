@@ -36,14 +36,14 @@ left_of_the_second_down = refl
 number_of_the_second_down : edge_number box (down_edge 6 7) ≡ 5
 number_of_the_second_down = refl
 
--- ---- across an edge of weight 4, over which 3 units flow forth, at the steepness 1
-forth_has_less : residual_at 1 4 (pos 3) 0 ≡ 16127
+-- ---- across an edge of weight 4, over which 3 units flow forth, at the steepness 1, in a window with 3969 cells
+forth_has_less : residual_at 3970 1 4 (pos 3) 0 ≡ 3967
 forth_has_less = refl
 
-its_twin_has_three : residual_at 1 4 (pos 3) 1 ≡ 3
+its_twin_has_three : residual_at 3970 1 4 (pos 3) 1 ≡ 3
 its_twin_has_three = refl
 
-back_has_all : residual_at 1 4 (pos 3) 2 ≡ 16130
+back_has_all : residual_at 3970 1 4 (pos 3) 2 ≡ 3970
 back_has_all = refl
 
 twins_at_a_weight : twin_place 4 0 ≡ 1
@@ -53,19 +53,19 @@ a_twin_costs_less_than_nothing : cost_in_place 1 4 1 ≡ negsuc 3
 a_twin_costs_less_than_nothing = refl
 
 -- ---- the same at the steepness 5: one unit went along the arc, and two along the steep arc
-the_arc_is_full : residual_at 5 4 (pos 3) 0 ≡ 0
+the_arc_is_full : residual_at 3970 5 4 (pos 3) 0 ≡ 0
 the_arc_is_full = refl
 
-its_twin_has_one : residual_at 5 4 (pos 3) 1 ≡ 1
+its_twin_has_one : residual_at 3970 5 4 (pos 3) 1 ≡ 1
 its_twin_has_one = refl
 
-the_steep_arc_has_less : residual_at 5 4 (pos 3) 4 ≡ 16128
+the_steep_arc_has_less : residual_at 3970 5 4 (pos 3) 4 ≡ 3968
 the_steep_arc_has_less = refl
 
-its_twin_has_two : residual_at 5 4 (pos 3) 5 ≡ 2
+its_twin_has_two : residual_at 3970 5 4 (pos 3) 5 ≡ 2
 its_twin_has_two = refl
 
-the_arc_back_has_one : residual_at 5 4 (pos 3) 2 ≡ 1
+the_arc_back_has_one : residual_at 3970 5 4 (pos 3) 2 ≡ 1
 the_arc_back_has_one = refl
 
 a_steep_arc_costs_more : cost_in_place 5 4 4 ≡ pos 20
@@ -75,10 +75,10 @@ no_steep_arc_without_need : is_taken 1 4 4 ≡ false
 no_steep_arc_without_need = refl
 
 -- ---- across an edge of weight 0
-forth_has_less_at_no_weight : residual_at 1 0 (pos 3) 0 ≡ 16127
+forth_has_less_at_no_weight : residual_at 3970 1 0 (pos 3) 0 ≡ 3967
 forth_has_less_at_no_weight = refl
 
-back_has_more_at_no_weight : residual_at 1 0 (pos 3) 2 ≡ 16133
+back_has_more_at_no_weight : residual_at 3970 1 0 (pos 3) 2 ≡ 3973
 back_has_more_at_no_weight = refl
 
 twins_at_no_weight : twin_place 0 0 ≡ 2

@@ -1,6 +1,6 @@
 -- How a grid starts.
 use Rattle.std.proofs.Common.{◌≡◌, ℕ, zero, suc, ◌+◌, ◌-◌, ◌*◌, ◌/◌, ◌%◌, ◌<◌, ◌≤◌, ◌∙◌, sym, ap, arith, List, get_or, inl, inr}
-use Rattle.std.specs.Prelude.{ℤ, pos, negsuc, neg_ℤ, ◌+ℤ◌, ◌-ℤ◌, ◌≤ℤ◌, unsigned_abs}
+use Rattle.std.specs.Prelude.{ℤ, pos, negsuc, neg_ℤ, ◌+ℤ◌, ◌-ℤ◌, ◌≤ℤ◌, ◌<ℤ◌, unsigned_abs}
 use Rattle.std.proofs.lemmas.Int.{ints}
 use Rattle.std.proofs.lemmas.Nat.{div_below, mod_below}
 use Rattle.raster_model.specs.declared.scene.Scene.{Scene}
@@ -8,8 +8,6 @@ use Rattle.raster_model.specs.declared.tiling.Window.{Window}
 use Rattle.raster_model.specs.Sums.{Field}
 use Rattle.raster_model.specs.Raster.{residue}
 use Rattle.raster_model.specs.Scene.{raster_of}
-use Rattle.raster_model.specs.Tiles.{IsWindowOf}
-use Rattle.raster_model.specs.declared.tiling.Tiling.{Tiling}
 use Rattle.raster_model.proofs.Exact.{residue_is_small}
 use Rattle.flow_network.specs.Nets.{Shape, State, positive_part, total_excess}
 use Rattle.flow_network.specs.Growing.{supply_sum, supply_sizes}
@@ -19,8 +17,8 @@ use Rattle.wrapped_gradient.specs.Windows.{IsCellOf}
 use Rattle.wrapped_gradient.proofs.GradientLemmas.{residues_are}
 use Rattle.dual_grid.specs.Nodes.{cells_of}
 use Rattle.dual_grid.specs.Starts.{cell_value, supply_at, IsAtStart}
-use Rattle.dual_grid.specs.Building.{AreCellSupplies, IsSmallWindow}
-use Rattle.dual_grid.proofs.EdgeLemmas.{few_cells, has_columns}
+use Rattle.dual_grid.specs.Building.{AreCellSupplies}
+use Rattle.dual_grid.proofs.EdgeLemmas.{has_columns}
 use Rattle.dual_grid.proofs.SupplyLemmas.{supply_inside, supply_outside, sum_within}
 use Rattle.sums_and_lists.specs.Sums.{sum_below}
 use Rattle.sums_and_lists.proofs.Orders.{below_or_last}
@@ -125,16 +123,8 @@ scene_even s g zs h are = supplies_even (residue (raster_of s)) g.window (λ x y
 pub scene_sizes : (s : Scene) (g : GradientsView) (zs : List ℤ) → AreGradientsOf s g → AreCellSupplies (residue_at g) g.window zs → supply_sizes zs ≤ℤ pos (2 * cells_of g.window)
 scene_sizes s g zs h are = supplies_sizes (residue (raster_of s)) g.window (λ x y. (residue_is_small (raster_of s) x y).1) zs (scene_supplies s g zs h are)
 
--- a tile's window is small
-pub tile_is_small : (g : Tiling) (tile : ℕ) (v : Window) → IsWindowOf g tile v → (v.x1 < v.x0 + g.side) × (v.y1 < v.y0 + g.side) → IsSmallWindow v
-tile_is_small g tile v is small =
-    let a = is.across in
-    let b = is.along in
-    let sides = g.sides in
-    record { across = (a.0, omega (arith, small, sides)); along = (b.0, omega (arith, small, sides)) }
-
--- at the start few of a scene's residues are to flow
-pub few_of_scene : (begin : ℕ → ℕ) (s : Scene) (v : Window) (z : Shape) (g : State) → IsSmallWindow v → z.nodes ≡ cells_of v + 1 → IsAtStart begin (residue (raster_of s)) v z g → total_excess z g ≤ℤ pos 16129
-few_of_scene begin s v z g little nodes start =
+-- at the start fewer units of a scene's residues are to flow than there are nodes
+pub few_of_scene : (begin : ℕ → ℕ) (s : Scene) (v : Window) (z : Shape) (g : State) → z.nodes ≡ cells_of v + 1 → IsAtStart begin (residue (raster_of s)) v z g → total_excess z g <ℤ pos z.nodes
+few_of_scene begin s v z g nodes start =
     let few = few_positive (residue (raster_of s)) v (λ x y. (residue_is_small (raster_of s) x y).1) begin z g nodes start in
-    omega (arith, ints, few, few_cells v little)
+    omega (arith, ints, few, nodes)

@@ -4,19 +4,17 @@ use Rattle.std.specs.Prelude.{ℤ, pos, neg_ℤ, ◌+ℤ◌, ◌-ℤ◌, ◌*ℤ
 use Rattle.std.proofs.lemmas.Int.{ints}
 use Rattle.std.proofs.lemmas.Bool.{cases_Bool, and_parts, false≢true, and_from}
 use Rattle.raster_model.specs.declared.edge.Edge.{Edge}
-use Rattle.raster_model.specs.declared.scene.Scene.{Scene}
 use Rattle.raster_model.specs.declared.tiling.Window.{Window}
 use Rattle.raster_model.specs.Sums.{Field, is_edge, right_edge, down_edge, end_x, end_y}
 use Rattle.raster_model.specs.Raster.{Raster, residue, is_inner, masked_weight, over, steps}
 use Rattle.raster_model.specs.Cells.{face_at}
 use Rattle.raster_model.specs.Certificates.{IsTileEdge, FacesFit, face_bound, face_difference, face_over, face_over_total, face_total, face_product, faces_of_tile}
-use Rattle.raster_model.specs.Scene.{raster_of}
-use Rattle.raster_model.specs.Tiles.{IsWindowOf}
 use Rattle.raster_model.proofs.Planar.{planar}
 use Rattle.raster_model.proofs.SumLemmas.{sum_grid-same, sum_edges-add, sum_edges-same}
-use Rattle.raster_model.proofs.TileCells.{cell_count-is, face_outside}
-use Rattle.raster_model.proofs.TileEdges.{ends_within, from_ends}
 use Rattle.raster_model.proofs.TileLeast.{no_column, no_row}
+use Rattle.whole_raster.specs.Tilings.{IsTileWindow}
+use Rattle.whole_raster.proofs.TileCells.{cell_count-is, face_outside}
+use Rattle.whole_raster.proofs.TileEdges.{ends_within, from_ends}
 use Rattle.flow_network.specs.Nets.{State}
 use Rattle.wrapped_gradient.specs.declared.corrections.Corrections.{Corrections}
 use Rattle.wrapped_gradient.specs.Corrections.{CancelResidues, HasShapeOf, correction_at, greatest_of}
@@ -35,29 +33,29 @@ weight_told : (r : Raster) (v : Window) (unmasked : List Bool) (mask : Field Boo
 weight_told r v unmasked mask e tells i =
     ap₂ (λ (a b : Bool). if a && b then r.weight e else 0) (tells e.x e.y i.start) (tells (end_x e) (end_y e) i.end)
 
-module _ (scene : Scene) (t : ℕ) (v : Window) (window : IsWindowOf scene.tiling t v) (unmasked : List Bool) (mask : Field Bool) (tells : TellsMask v unmasked mask) (f : State) (k : Corrections) (faces : List ℤ) (are : AreFaces f.potential (cells_of v) (cells_of v) faces) (shape : HasShapeOf v k) (small : greatest_of k ≤ 16130) (cancels : CancelResidues (raster_of scene) v k) (fits : (e : Edge) → IsEdgeOf v e → unsigned_abs (f.potential (other_side v e) -ℤ f.potential (first_side v e)) ≤ (raster_of scene).steep * masked_weight (raster_of scene) (open_in_window v unmasked) e) (tight : (e : Edge) → IsEdgeOf v e → correction_at v k e *ℤ (f.potential (other_side v e) -ℤ f.potential (first_side v e)) ≡ pos (masked_weight (raster_of scene) (open_in_window v unmasked) e * steps (raster_of scene).steep (correction_at v k e) + over (masked_weight (raster_of scene) (open_in_window v unmasked) e) (f.potential (other_side v e) -ℤ f.potential (first_side v e)))) where
-  weight_is : (e : Edge) → IsEdgeOf v e → masked_weight (raster_of scene) (open_in_window v unmasked) e ≡ masked_weight (raster_of scene) mask e
-  weight_is e i = weight_told (raster_of scene) v unmasked mask e tells i
+module _ (r : Raster) (t : ℕ) (v : Window) (window : IsTileWindow r t v) (unmasked : List Bool) (mask : Field Bool) (tells : TellsMask v unmasked mask) (f : State) (k : Corrections) (faces : List ℤ) (are : AreFaces f.potential (cells_of v) (cells_of v) faces) (shape : HasShapeOf v k) (small : greatest_of k ≤ cells_of v + 1) (cancels : CancelResidues r v k) (fits : (e : Edge) → IsEdgeOf v e → unsigned_abs (f.potential (other_side v e) -ℤ f.potential (first_side v e)) ≤ r.steep * masked_weight r (open_in_window v unmasked) e) (tight : (e : Edge) → IsEdgeOf v e → correction_at v k e *ℤ (f.potential (other_side v e) -ℤ f.potential (first_side v e)) ≡ pos (masked_weight r (open_in_window v unmasked) e * steps r.steep (correction_at v k e) + over (masked_weight r (open_in_window v unmasked) e) (f.potential (other_side v e) -ℤ f.potential (first_side v e)))) where
+  weight_is : (e : Edge) → IsEdgeOf v e → masked_weight r (open_in_window v unmasked) e ≡ masked_weight r mask e
+  weight_is e i = weight_told r v unmasked mask e tells i
 
-  tile_edge : (e : Edge) → IsTileEdge (raster_of scene) t e → IsEdgeOf v e
-  tile_edge e i = let w = ends_within scene t v window e i in record { start = w.0; end = w.1 }
+  tile_edge : (e : Edge) → IsTileEdge r t e → IsEdgeOf v e
+  tile_edge e i = let w = ends_within r t v window e i in record { start = w.0; end = w.1 }
 
-  faces_fit : (e : Edge) → IsTileEdge (raster_of scene) t e → FacesFit (raster_of scene) mask t (face_at (raster_of scene) t faces) e
+  faces_fit : (e : Edge) → IsTileEdge r t e → FacesFit r mask t (face_at r t faces) e
   faces_fit e i =
       let j = tile_edge e i in
-      rw (difference_of_nodes scene t v window f faces are e, sym (weight_is e j)) (fits e j)
+      rw (difference_of_nodes r t v window f faces are e, sym (weight_is e j)) (fits e j)
 
   -- each edge's part of the two sums
-  edge_part : (e : Edge) → IsTrue (is_edge (raster_of scene).width (raster_of scene).height e) → correction_at v k e *ℤ face_difference (faces_of_tile (raster_of scene) t (face_at (raster_of scene) t faces)) e ≡ where_true (is_inner (raster_of scene) t e) (pos (masked_weight (raster_of scene) mask e * steps (raster_of scene).steep (correction_at v k e))) +ℤ face_over (raster_of scene) mask t (face_at (raster_of scene) t faces) e
+  edge_part : (e : Edge) → IsTrue (is_edge r.width r.height e) → correction_at v k e *ℤ face_difference (faces_of_tile r t (face_at r t faces)) e ≡ where_true (is_inner r t e) (pos (masked_weight r mask e * steps r.steep (correction_at v k e))) +ℤ face_over r mask t (face_at r t faces) e
   edge_part e i =
-      elim (cases_Bool (is_inner (raster_of scene) t e)) [
+      elim (cases_Bool (is_inner r t e)) [
         | inl inner ↦ (
-            let j = tile_edge e (and_from (is_edge (raster_of scene).width (raster_of scene).height e) (is_inner (raster_of scene) t e) i inner) in
-            rw (inner, difference_of_nodes scene t v window f faces are e, sym (weight_is e j)) (in_two _ _ _ (tight e j)))
+            let j = tile_edge e (and_from (is_edge r.width r.height e) (is_inner r t e) i inner) in
+            rw (inner, difference_of_nodes r t v window f faces are e, sym (weight_is e j)) (in_two _ _ _ (tight e j)))
         | inr outer ↦ (
-            let n = λ (j : IsEdgeOf v e). false≢true (sym outer ∙ (and_parts (is_edge (raster_of scene).width (raster_of scene).height e) (is_inner (raster_of scene) t e) (from_ends scene t v window e j.start j.end)).1) in
+            let n = λ (j : IsEdgeOf v e). false≢true (sym outer ∙ (and_parts (is_edge r.width r.height e) (is_inner r t e) (from_ends r t v window e j.start j.end)).1) in
             let sides = sides_outside v e n in
-            let none : face_difference (faces_of_tile (raster_of scene) t (face_at (raster_of scene) t faces)) e ≡ pos 0 = difference_of_nodes scene t v window f faces are e ∙ level (f.potential (other_side v e)) (f.potential (first_side v e)) (f.potential (cells_of v)) (ap f.potential sides.1) (ap f.potential sides.0) in
+            let none : face_difference (faces_of_tile r t (face_at r t faces)) e ≡ pos 0 = difference_of_nodes r t v window f faces are e ∙ level (f.potential (other_side v e)) (f.potential (first_side v e)) (f.potential (cells_of v)) (ap f.potential sides.1) (ap f.potential sides.0) in
             rw (outer, none) (omega (arith, ints)))
       ]
     where
@@ -68,11 +66,11 @@ module _ (scene : Scene) (t : ℕ) (v : Window) (window : IsWindowOf scene.tilin
       level a b c p q = omega (arith, ints, p, q)
 
   -- a cell's face times its residue, by the corrections round it
-  cell_part : (x y : ℕ) → faces_of_tile (raster_of scene) t (face_at (raster_of scene) t faces) x y *ℤ residue (raster_of scene) x y ≡ faces_of_tile (raster_of scene) t (face_at (raster_of scene) t faces) x y *ℤ (correction_at v k (right_edge x (y + 1)) +ℤ correction_at v k (down_edge x y) -ℤ correction_at v k (right_edge x y) -ℤ correction_at v k (down_edge (x + 1) y))
+  cell_part : (x y : ℕ) → faces_of_tile r t (face_at r t faces) x y *ℤ residue r x y ≡ faces_of_tile r t (face_at r t faces) x y *ℤ (correction_at v k (right_edge x (y + 1)) +ℤ correction_at v k (down_edge x y) -ℤ correction_at v k (right_edge x y) -ℤ correction_at v k (down_edge (x + 1) y))
   cell_part x y =
       elim (cell_or_not v x y) [
-        | inl c ↦ ap (λ (z : ℤ). faces_of_tile (raster_of scene) t (face_at (raster_of scene) t faces) x y *ℤ z) (turned (correction_at v k (right_edge x y)) (correction_at v k (down_edge (x + 1) y)) (correction_at v k (right_edge x (y + 1))) (correction_at v k (down_edge x y)) (residue (raster_of scene) x y) (cancels x y c))
-        | inr n ↦ rw (face_outside scene t v window (face_at (raster_of scene) t faces) x y n) (omega (arith, ints))
+        | inl c ↦ ap (λ (z : ℤ). faces_of_tile r t (face_at r t faces) x y *ℤ z) (turned (correction_at v k (right_edge x y)) (correction_at v k (down_edge (x + 1) y)) (correction_at v k (right_edge x (y + 1))) (correction_at v k (down_edge x y)) (residue r x y) (cancels x y c))
+        | inr n ↦ rw (face_outside r t v window (face_at r t faces) x y n) (omega (arith, ints))
       ]
     where
       turned : (p q b l z : ℤ) → p +ℤ q -ℤ b -ℤ l ≡ neg_ℤ z → z ≡ b +ℤ l -ℤ p -ℤ q
@@ -80,12 +78,11 @@ module _ (scene : Scene) (t : ℕ) (v : Window) (window : IsWindowOf scene.tilin
 
   -- what each inner edge adds to the cost
   cost_part : Edge → ℤ
-  cost_part e = where_true (is_inner (raster_of scene) t e) (pos (masked_weight (raster_of scene) mask e * steps (raster_of scene).steep (correction_at v k e)))
+  cost_part e = where_true (is_inner r t e) (pos (masked_weight r mask e * steps r.steep (correction_at v k e)))
 
-  totals_meet : face_bound (raster_of scene) mask t (face_at (raster_of scene) t faces) ≡ correction_cost (raster_of scene) mask t v k
+  totals_meet : face_bound r mask t (face_at r t faces) ≡ correction_cost r mask t v k
   unfolding face_total face_product face_over_total correction_cost cost_part
   totals_meet =
-      let r = raster_of scene in
       let w = r.width in
       let h = r.height in
       let face = faces_of_tile r t (face_at r t faces) in
@@ -98,12 +95,12 @@ module _ (scene : Scene) (t : ℕ) (v : Window) (window : IsWindowOf scene.tilin
       less : (total cost above : ℤ) → total ≡ cost +ℤ above → total -ℤ above ≡ cost
       less total cost above e = omega (arith, ints, e)
 
-  pub tight_answer : AreCertifiedCorrections (raster_of scene) mask t v k faces
+  pub tight_answer : AreCertifiedCorrections r mask t v k faces
   tight_answer = record {
     shape = shape;
     cancel = cancels;
     small = small;
-    count = are.count ∙ sym (cell_count-is scene t v window);
+    count = are.count ∙ sym (cell_count-is r t v window);
     fits = faces_fit;
     equal = totals_meet;
   }

@@ -2,6 +2,7 @@
 use Rattle.std.specs.Prelude.{◌≡◌, ℕ, ◌+◌, ◌*◌, ◌<◌, ◌≤◌, ◌⊎◌, ℤ, pos, ◌-ℤ◌, Bool, false, IsTrue, ◌&&◌, if◌then◌else◌, List, length, get_or, slice_index_or, Option, Some, None}
 use Rattle.raster_model.specs.declared.scene.Scene.{Scene}
 use Rattle.raster_model.specs.declared.tiling.Window.{Window}
+use Rattle.raster_model.specs.Limits.{max_side}
 use Rattle.raster_model.specs.Sums.{Field}
 use Rattle.raster_model.specs.Tiles.{IsWindowIn, width_of, height_of}
 use Rattle.wrapped_gradient.specs.declared.corrections.Corrections.{Corrections}
@@ -11,15 +12,15 @@ use Rattle.dual_grid.specs.Starts.{supply_at}
 use Rattle.dual_grid.specs.Grids.{is_taken, leads_forth}
 use Rattle.sums_and_lists.specs.Sums.{sum_below}
 
--- no side of the window is above 128 pixels
-pub record IsSmallWindow (v : Window) : Type 0 where
-  pub across : (v.x0 ≤ v.x1) × (v.x1 < v.x0 + 128)
-  pub along : (v.y0 ≤ v.y1) × (v.y1 < v.y0 + 128)
+-- the window has a pixel, and lies in a raster whose sides are within the limits
+pub record IsRasterWindow (v : Window) : Type 0 where
+  pub across : (v.x0 ≤ v.x1) × (v.x1 < max_side)
+  pub along : (v.y0 ≤ v.y1) × (v.y1 < max_side)
 
--- the window lies in the scene, no side of it is above 128 pixels, and the list tells of each of its pixels whether it is open
+-- the window lies in the scene and in the limits, and the list tells of each of its pixels whether it is open
 pub record IsMadeFor (s : Scene) (v : Window) (unmasked : List Bool) : Type 0 where
   pub inside : IsWindowIn s.phase.width s.phase.height v
-  pub small : IsSmallWindow v
+  pub limited : IsRasterWindow v
   pub count : length unmasked ≡ width_of v * height_of v
 
 -- the sum of the first n numbers of a list

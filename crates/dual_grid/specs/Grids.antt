@@ -64,38 +64,42 @@ along q k = if leads_forth k then q else neg_ℤ q
 abbrev pub carried : ℤ → ℕ → ℕ
 carried q k = if nat_lt (k % 4) 2 then amount_of q else amount_of (neg_ℤ q)
 
--- the residual capacity that n units leave an arc, or its twin: if there are no steep arcs, and if there are, of which each carries what is more than 1
-abbrev pub plain_residual : ℕ → ℕ → ℕ
-plain_residual n k = if k % 2 == 0 then 16130 - n else n
+-- what an arc can carry that has no other beside it, or that is steep: one more than all cells can have to send, which is as much as there are nodes
+abbrev pub arc_capacity : Window → ℕ
+arc_capacity v = cells_of v + 1
 
-abbrev pub split_residual : ℕ → ℕ → ℕ
-split_residual n k = if nat_lt k 4 then (if k % 2 == 0 then 1 - n else 1 - (1 - n)) else if k % 2 == 0 then 16130 - (n - 1) else n - 1
+-- the residual capacity that n units leave an arc, or its twin: if there are no steep arcs, and if there are, of which each carries what is more than 1
+abbrev pub plain_residual : ℕ → ℕ → ℕ → ℕ
+plain_residual most n k = if k % 2 == 0 then most - n else n
+
+abbrev pub split_residual : ℕ → ℕ → ℕ → ℕ
+split_residual most n k = if nat_lt k 4 then (if k % 2 == 0 then 1 - n else 1 - (1 - n)) else if k % 2 == 0 then most - (n - 1) else n - 1
 
 -- the residual capacity that the flow q leaves in the place k
-abbrev pub residual_at : ℕ → ℕ → ℤ → ℕ → ℕ
-residual_at steep w q k = if w == 0 then amount_of (pos 16130 -ℤ along q k) else if nat_lt 1 steep then split_residual (carried q k) k else plain_residual (carried q k) k
+abbrev pub residual_at : ℕ → ℕ → ℕ → ℤ → ℕ → ℕ
+residual_at most steep w q k = if w == 0 then amount_of (pos most -ℤ along q k) else if nat_lt 1 steep then split_residual most (carried q k) k else plain_residual most (carried q k) k
 
 -- how much can flow each way across an edge
-abbrev pub capacity_of : ℕ → ℕ → ℕ
-capacity_of steep w = if is_split steep w then 16131 else 16130
+abbrev pub capacity_of : ℕ → ℕ → ℕ → ℕ
+capacity_of most steep w = if is_split steep w then most + 1 else most
 
 -- the state of the network, from the flows by the edges' numbers and what the nodes have
-abbrev pub window_state : ℕ → (ℕ → ℕ) → (ℕ → ℤ) → (ℕ → ℤ) → (ℕ → ℤ) → State
-window_state steep weight flow excess potential = record { residual = λ a. residual_at steep (weight (a / 8)) (flow (a / 8)) (a % 8); excess = excess; potential = potential }
+abbrev pub window_state : Window → ℕ → (ℕ → ℕ) → (ℕ → ℤ) → (ℕ → ℤ) → (ℕ → ℤ) → State
+window_state v steep weight flow excess potential = record { residual = λ a. residual_at (arc_capacity v) steep (weight (a / 8)) (flow (a / 8)) (a % 8); excess = excess; potential = potential }
 
 -- an arc's residual capacity at the start, where nothing flows
-abbrev pub start_residual : ℕ → (ℕ → ℕ) → ℕ → ℕ
-start_residual steep weight a = residual_at steep (weight (a / 8)) (pos 0) (a % 8)
+abbrev pub start_residual : Window → ℕ → (ℕ → ℕ) → ℕ → ℕ
+start_residual v steep weight a = residual_at (arc_capacity v) steep (weight (a / 8)) (pos 0) (a % 8)
 
 -- the weights by the numbers of the window's edges are those under the mask
 abbrev pub AreWeighed : Raster → Field Bool → Window → (ℕ → ℕ) → Type 0
 AreWeighed r mask v weight = (e : Edge) → IsEdgeOf v e → weight (edge_number v e) ≡ masked_weight r mask e
 
--- no cost is above 1048560 on either side of 0, which is 16 times the greatest weight, and there are at most 16130 nodes
+-- no cost is above 1048560 on either side of 0, which is 16 times the greatest weight, and there are at most 16777216 nodes
 pub record HasSmallCosts (s : Shape) : Type 0 where
   pub costs : (a : ℕ) → IsArc s a → unsigned_abs (s.cost a) ≤ 1048560
-  pub few : s.nodes ≤ 16130
+  pub few : s.nodes ≤ 16777216
 
--- from any set of nodes, except the empty one and the whole, an arc leads out that has capacity at the start
+-- from any set of nodes, except the empty one and the whole, an arc leads out that has at the start the capacity of as many units as there are nodes
 abbrev pub IsConnected : (ℕ → ℕ) → Shape → Type 0
-IsConnected start s = (inside : ℕ → Bool) (u w : ℕ) → u < s.nodes → w < s.nodes → inside u ≡ true → inside w ≡ false → (a : ℕ) × (IsArc s a × (start a ≡ 16130) × (inside (tail_of s a) ≡ true) × (inside (s.head a) ≡ false))
+IsConnected start s = (inside : ℕ → Bool) (u w : ℕ) → u < s.nodes → w < s.nodes → inside u ≡ true → inside w ≡ false → (a : ℕ) × (IsArc s a × (start a ≡ s.nodes) × (inside (tail_of s a) ≡ true) × (inside (s.head a) ≡ false))

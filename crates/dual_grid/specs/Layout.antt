@@ -3,7 +3,7 @@ use Rattle.std.specs.Prelude.{◌≡◌, ◌+◌, ◌≤◌, ℕ, ℤ, pos, List
 use Rattle.raster_model.specs.declared.tiling.Window.{Window}
 use Rattle.flow_network.specs.Nets.{Shape, State}
 use Rattle.dual_grid.specs.Nodes.{cells_of, edges_of}
-use Rattle.dual_grid.specs.Grids.{capacity_of, window_shape, window_state}
+use Rattle.dual_grid.specs.Grids.{arc_capacity, capacity_of, window_shape, window_state}
 
 abbrev pub weight_in : List ℤ → ℕ → ℕ
 weight_in weights n = unsigned_abs (get_or weights n (pos 0))
@@ -14,8 +14,8 @@ number_or_zero zs n = get_or zs n (pos 0)
 abbrev pub shape_by : Window → ℕ → List ℤ → Shape
 shape_by v steep weights = window_shape v steep (weight_in weights)
 
-abbrev pub state_by : ℕ → List ℤ → List ℤ → List ℤ → List ℤ → State
-state_by steep weights flows excesses potentials = window_state steep (weight_in weights) (number_or_zero flows) (number_or_zero excesses) (number_or_zero potentials)
+abbrev pub state_by : Window → ℕ → List ℤ → List ℤ → List ℤ → List ℤ → State
+state_by v steep weights flows excesses potentials = window_state v steep (weight_in weights) (number_or_zero flows) (number_or_zero excesses) (number_or_zero potentials)
 
 -- the lists have one place for each edge or for each node
 pub record FitGrid (v : Window) (weights flows excesses potentials : List ℤ) : Type 0 where
@@ -25,5 +25,5 @@ pub record FitGrid (v : Window) (weights flows excesses potentials : List ℤ) :
   pub by_height : length potentials ≡ cells_of v + 1
 
 -- no flow is above the capacity
-abbrev pub AreWithinCapacity : ℕ → List ℤ → List ℤ → Type 0
-AreWithinCapacity steep weights flows = (n : ℕ) → unsigned_abs (number_or_zero flows n) ≤ capacity_of steep (weight_in weights n)
+abbrev pub AreWithinCapacity : Window → ℕ → List ℤ → List ℤ → Type 0
+AreWithinCapacity v steep weights flows = (n : ℕ) → unsigned_abs (number_or_zero flows n) ≤ capacity_of (arc_capacity v) steep (weight_in weights n)

@@ -1,17 +1,16 @@
 -- What a tile asks of its corrections and faces: weights and residues as lists hold them, and lists that answer.
-use Rattle.std.specs.Prelude.{◌≡◌, ℕ, ◌+◌, ◌*◌, ◌<◌, ◌≤◌, ℤ, pos, neg_ℤ, ◌-ℤ◌, ◌*ℤ◌, Bool, List, length, slice_index_or, unsigned_abs}
+use Rattle.std.specs.Prelude.{◌≡◌, ℕ, ◌+◌, ◌*◌, ◌≤◌, ℤ, pos, neg_ℤ, ◌-ℤ◌, ◌*ℤ◌, Bool, List, length, slice_index_or, unsigned_abs}
 use Rattle.raster_model.specs.declared.edge.Edge.{Edge}
 use Rattle.raster_model.specs.declared.scene.Scene.{Scene}
 use Rattle.raster_model.specs.declared.tiling.Window.{Window}
 use Rattle.raster_model.specs.Sums.{Field, down_edge, right_edge}
 use Rattle.raster_model.specs.Raster.{masked_weight, over, residue, steps}
 use Rattle.raster_model.specs.Scene.{raster_of}
-use Rattle.raster_model.specs.Tiles.{tiles_of, window_of}
 use Rattle.wrapped_gradient.specs.declared.corrections.Corrections.{Corrections}
 use Rattle.wrapped_gradient.specs.Corrections.{HasShapeOf, correction_at}
 use Rattle.wrapped_gradient.specs.Windows.{IsCellOf, IsEdgeOf, edge_value, round}
 use Rattle.dual_grid.specs.declared.problem.Problem.{Problem}
-use Rattle.dual_grid.specs.Answers.{AreCertifiedCorrections}
+use Rattle.dual_grid.specs.Answers.{AreCertifiedOver}
 use Rattle.dual_grid.specs.Nodes.{cells_of, first_side, node_at, other_side}
 use Rattle.dual_grid.specs.Starts.{TellsMask, open_in_window}
 
@@ -22,9 +21,9 @@ weight_at p = edge_value p.window p.right.items p.down.items
 abbrev pub problem_residue : Problem → Field ℤ
 problem_residue p x y = slice_index_or p.residues.items (node_at p.window x y) (pos 0)
 
--- the problem of a tile of a scene; the list tells of each pixel of the tile's window whether it is open
-pub record IsProblemOf (s : Scene) (t : ℕ) (unmasked : List Bool) (p : Problem) : Type 0 where
-  pub window : p.window ≡ window_of s.tiling t
+-- the problem of a window of a scene; the list tells of each pixel of the window whether it is open
+pub record IsProblemOf (s : Scene) (v : Window) (unmasked : List Bool) (p : Problem) : Type 0 where
+  pub window : p.window ≡ v
   pub steep : p.steep ≡ s.terms.steep
   pub weights : (e : Edge) → IsEdgeOf p.window e → weight_at p e ≡ pos (masked_weight (raster_of s) (open_in_window p.window unmasked) e)
   pub residues : (x y : ℕ) → IsCellOf p.window x y → problem_residue p x y ≡ residue (raster_of s) x y
@@ -57,10 +56,10 @@ IsCancelled p k x y = round (correction_at p.window k) x y ≡ neg_ℤ (problem_
 abbrev pub HaveShape : Problem → Corrections → List ℤ → Type 0
 HaveShape p k faces = HasShapeOf p.window k × (length faces ≡ cells_of p.window)
 
--- no number of the list is above 16130 on either side of 0
-abbrev pub AreSmallNumbers : List ℤ → Type 0
-AreSmallNumbers zs = (i : ℕ) → unsigned_abs (slice_index_or zs i (pos 0)) ≤ 16130
+-- no number of the list is above the bound on either side of 0
+abbrev pub AreSmallNumbers : ℕ → List ℤ → Type 0
+AreSmallNumbers bound zs = (i : ℕ) → unsigned_abs (slice_index_or zs i (pos 0)) ≤ bound
 
--- corrections and a list of faces that are an answer for each tile of which this is the problem
+-- corrections and a list of faces that are an answer for each window of which this is the problem
 abbrev pub IsAnsweredBy : Problem → Corrections → List ℤ → Type 0
-IsAnsweredBy p k faces = (s : Scene) (t : ℕ) (unmasked : List Bool) (mask : Field Bool) → IsProblemOf s t unmasked p → t < tiles_of s.tiling → TellsMask (window_of s.tiling t) unmasked mask → AreCertifiedCorrections (raster_of s) mask t (window_of s.tiling t) k faces
+IsAnsweredBy p k faces = (s : Scene) (v : Window) (unmasked : List Bool) (mask : Field Bool) → IsProblemOf s v unmasked p → TellsMask v unmasked mask → AreCertifiedOver s mask v k faces

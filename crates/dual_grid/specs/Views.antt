@@ -4,7 +4,7 @@ use Rattle.std.proofs.Common.{◌∙◌, refl, subst}
 use Rattle.raster_model.specs.declared.scene.Scene.{Scene}
 use Rattle.raster_model.specs.Raster.{residue}
 use Rattle.raster_model.specs.Scene.{raster_of}
-use Rattle.raster_model.specs.Tiles.{window_of}
+use Rattle.raster_model.specs.declared.tiling.Window.{Window}
 use Rattle.flow_network.specs.Nets.{Shape, State}
 use Rattle.flow_network.specs.Moves.{IsConserved}
 use Rattle.flow_network.proofs.CallerLemmas.{conserved-refl, conserved-trans}
@@ -17,15 +17,15 @@ abbrev pub grid_shape : DualGrid → Shape
 grid_shape g = shape_by g.window g.steep g.weights.items
 
 abbrev pub grid_state : DualGrid → State
-grid_state g = state_by g.steep g.weights.items g.flows.items g.excesses.items g.potentials.items
+grid_state g = state_by g.window g.steep g.weights.items g.flows.items g.excesses.items g.potentials.items
 
 -- what residual capacity the arcs of a grid have at the start
 abbrev pub grid_start : DualGrid → ℕ → ℕ
-grid_start g = start_residual g.steep (weight_in g.weights.items)
+grid_start g = start_residual g.window g.steep (weight_in g.weights.items)
 
--- the grid of a tile of a scene; the list tells of each pixel of the tile's window whether it is open; flow may have moved
-pub record IsGridOf (s : Scene) (t : ℕ) (unmasked : List Bool) (g : DualGrid) : Type 0 where
-  pub window : g.window ≡ window_of s.tiling t
+-- the grid of a window of a scene; the list tells of each pixel of the window whether it is open; flow may have moved
+pub record IsGridOf (s : Scene) (v : Window) (unmasked : List Bool) (g : DualGrid) : Type 0 where
+  pub window : g.window ≡ v
   pub steep : g.steep ≡ s.terms.steep
   pub weighed : AreWeighed (raster_of s) (open_in_window g.window unmasked) g.window (weight_in g.weights.items)
   pub conserved : IsConserved (grid_shape g) (start_state (grid_start g) (residue (raster_of s)) g.window) (grid_state g)

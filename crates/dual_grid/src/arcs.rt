@@ -1,10 +1,6 @@
 ghost use Rattle.dual_grid.specs.Building.{IsPlaceBelow};
-ghost use Rattle.dual_grid.specs.Grids.{along as along_of, carried as carried_by, cost_of_place, is_split as is_split_at, is_taken, leads_forth as leads_forth_of, plain_residual, residual_at as residual_of, split_residual, twin_place as twin_of};
+ghost use Rattle.dual_grid.specs.Grids.{along as along_of, amount_of, carried as carried_by, cost_of_place, is_split as is_split_at, is_taken, leads_forth as leads_forth_of, plain_residual, residual_at as residual_of, split_residual, twin_place as twin_of};
 ghost use Rattle.std.specs.Prelude.{◌≡◌, ◌<◌, ◌≤◌, ◌+ℤ◌, ◌-ℤ◌, if◌then◌else◌, IsTrue, pos, unsigned_abs};
-
-/// What may flow along an arc that has no other beside it, or along a steep arc: more than all cells of the largest tile
-/// have to send.
-const CAPACITY: u32 = 16_130;
 
 /// Whether there are steep arcs across an edge of this weight: then the other arcs there have the capacity 1.
 pub(crate) fn is_split(steep: u32, weight: u32) -> bool
@@ -49,38 +45,44 @@ pub(crate) fn size_of_cost(steep: u32, weight: u32, place: u32) -> u64
 
 /// A flow from the first side of an edge to the other, seen in the direction of the arc in a place.
 fn along(flow: i32, place: u32) -> i32
-    requires { unsigned_abs flow ≤ 16131 }
+    requires { unsigned_abs flow ≤ 16777217 }
     ensures value { result ≡ along_of flow place }
-    ensures within { unsigned_abs result ≤ 16131 }
+    ensures within { unsigned_abs result ≤ 16777217 }
 {
     if leads_forth(place) { flow } else { -flow }
 }
 
+/// The number, or 0 if it is below 0.
+fn amount(number: i32) -> u32
+    ensures { result ≡ amount_of number }
+{
+    number.max(0) as u32
+}
+
 /// What of a flow an arc from side to side has carried, of which the place is that or its twin's.
 fn carried(flow: i32, place: u32) -> u32
-    requires { unsigned_abs flow ≤ 16131 }
+    requires { unsigned_abs flow ≤ 16777217 }
     ensures { result ≡ carried_by flow place }
 {
     let forth = place % 4 < 2;
-    let carried = if forth { flow } else { -flow };
-    carried.max(0) as u32
+    amount(if forth { flow } else { -flow })
 }
 
-/// The residual capacity that so many units leave in a place where there are no steep arcs.
-fn plain_left(units: u32, place: u32) -> u32
-    ensures { result ≡ plain_residual units place }
+/// The residual capacity that so many units leave in a place where there are no steep arcs. `most` is what an arc can carry.
+fn plain_left(most: u32, units: u32, place: u32) -> u32
+    ensures { result ≡ plain_residual most units place }
 {
     if place % 2 == 0 {
-        CAPACITY.saturating_sub(units)
+        most.saturating_sub(units)
     } else {
         units
     }
 }
 
 /// The residual capacity that so many units leave in a place where there are steep arcs, which carry what is more than
-/// 1 unit.
-fn split_left(units: u32, place: u32) -> u32
-    ensures { result ≡ split_residual units place }
+/// 1 unit. `most` is what a steep arc can carry.
+fn split_left(most: u32, units: u32, place: u32) -> u32
+    ensures { result ≡ split_residual most units place }
 {
     let steep = units.saturating_sub(1);
     if place < 4 {
@@ -90,32 +92,34 @@ fn split_left(units: u32, place: u32) -> u32
             units.min(1)
         }
     } else if place % 2 == 0 {
-        CAPACITY.saturating_sub(steep)
+        most.saturating_sub(steep)
     } else {
         steep
     }
 }
 
-/// The residual capacity of the arc in a place across an edge of this weight, with this flow across the edge.
-pub(crate) fn residual_at(steep: u32, weight: u32, flow: i32, place: u32) -> u64
-    requires { unsigned_abs flow ≤ 16131 }
-    ensures { result ≡ residual_of steep weight flow place }
+/// The residual capacity of the arc in a place across an edge of this weight, with this flow across the edge. `most` is
+/// what an arc can carry that has no other beside it, or that is steep.
+pub(crate) fn residual_at(most: u32, steep: u32, weight: u32, flow: i32, place: u32) -> u64
+    requires most { most ≤ 16777216 }
+    requires flow { unsigned_abs flow ≤ 16777217 }
+    ensures { result ≡ residual_of most steep weight flow place }
 {
     if weight == 0 {
-        return (16_130 - along(flow, place)).max(0) as u64;
+        return u64::from(amount(most as i32 - along(flow, place)));
     }
     let units = carried(flow, place);
     if 1 < steep {
-        u64::from(split_left(units, place))
+        u64::from(split_left(most, units, place))
     } else {
-        u64::from(plain_left(units, place))
+        u64::from(plain_left(most, units, place))
     }
 }
 
 /// The flow from the first side of an edge to the other, after an amount went along the arc in a place.
 pub(crate) fn flow_after(flow: i32, place: u32, amount: u64) -> i32
-    requires flow { unsigned_abs flow ≤ 16131 }
-    requires amount { amount ≤ 32261 }
+    requires flow { unsigned_abs flow ≤ 16777217 }
+    requires amount { amount ≤ 33554433 }
     ensures { result ≡ (if leads_forth_of place then flow +ℤ pos amount else flow -ℤ pos amount) }
 {
     if leads_forth(place) {

@@ -1,4 +1,4 @@
-ghost use Rattle.dual_grid.specs.Building.{IsEdgeBelow, IsSmallWindow, LiesAt, LiesAtNone};
+ghost use Rattle.dual_grid.specs.Building.{IsEdgeBelow, IsRasterWindow, LiesAt, LiesAtNone};
 ghost use Rattle.dual_grid.specs.Nodes.{cells_of, edge_of, edges_of, first_side, other_side, rights_of};
 ghost use Rattle.std.specs.Prelude.{◌≡◌, ◌+◌, ◌<◌, ◌≤◌};
 
@@ -7,7 +7,7 @@ use raster_model::Window;
 
 /// How many right edges a window has. The numbers of down edges begin with this number.
 pub(crate) fn right_count(window: Window) -> u32
-    requires { IsSmallWindow window }
+    requires { IsRasterWindow window }
     ensures { result ≡ rights_of window }
 {
     (window.x1 - window.x0) * (window.y1 - window.y0 + 1)
@@ -15,7 +15,7 @@ pub(crate) fn right_count(window: Window) -> u32
 
 /// The node on the first side of the edge with a number.
 pub(crate) fn first_at(window: Window, edge: u32) -> u32
-    requires small { IsSmallWindow window }
+    requires small { IsRasterWindow window }
     requires edge { edge < edges_of window }
     ensures { result ≡ first_side window (edge_of window edge) }
 {
@@ -32,7 +32,7 @@ pub(crate) fn first_at(window: Window, edge: u32) -> u32
 
 /// The node on the first side of a down edge. `place` is the edge's place among the down edges.
 fn down_first(window: Window, place: u32) -> u32
-    requires small { IsSmallWindow window }
+    requires small { IsRasterWindow window }
     requires place { rights_of window + place < edges_of window }
     ensures { result ≡ first_side window (edge_of window (rights_of window + place)) }
 {
@@ -46,7 +46,7 @@ fn down_first(window: Window, place: u32) -> u32
 
 /// The node on the other side of the edge with a number.
 pub(crate) fn other_at(window: Window, edge: u32) -> u32
-    requires small { IsSmallWindow window }
+    requires small { IsRasterWindow window }
     requires edge { edge < edges_of window }
     ensures { result ≡ other_side window (edge_of window edge) }
 {
@@ -63,7 +63,7 @@ pub(crate) fn other_at(window: Window, edge: u32) -> u32
 
 /// The node on the other side of a down edge. `place` is the edge's place among the down edges.
 fn down_other(window: Window, place: u32) -> u32
-    requires small { IsSmallWindow window }
+    requires small { IsRasterWindow window }
     requires place { rights_of window + place < edges_of window }
     ensures { result ≡ other_side window (edge_of window (rights_of window + place)) }
 {
@@ -77,7 +77,7 @@ fn down_other(window: Window, place: u32) -> u32
 
 /// The greatest number below `high` of an edge of a cell: the edge on its right, on its left, below it or above it.
 fn cell_edge_below(window: Window, cell: u32, high: u32) -> Option<u32>
-    requires small { IsSmallWindow window }
+    requires small { IsRasterWindow window }
     requires cell { cell < cells_of window }
     requires high { high ≤ edges_of window }
     ensures { IsEdgeBelow window cell high result }
@@ -99,7 +99,7 @@ fn cell_edge_below(window: Window, cell: u32, high: u32) -> Option<u32>
 
 /// The greatest place up to `place`, among the down edges, of a down edge on the border of a window.
 fn down_border(window: Window, place: u32) -> u32
-    requires small { IsSmallWindow window }
+    requires small { IsRasterWindow window }
     requires place { rights_of window + place < edges_of window }
     ensures place { result ≤ place }
     ensures border { LiesAt window (cells_of window) (rights_of window + result) }
@@ -116,7 +116,7 @@ fn down_border(window: Window, place: u32) -> u32
 
 /// The greatest number below `high` of an edge on the border of a window. These are the edges of the outside.
 fn border_below(window: Window, high: u32) -> Option<u32>
-    requires small { IsSmallWindow window }
+    requires small { IsRasterWindow window }
     requires high { high ≤ edges_of window }
     ensures { IsEdgeBelow window (cells_of window) high result }
 {
@@ -137,7 +137,7 @@ fn border_below(window: Window, high: u32) -> Option<u32>
 
 /// The greatest number below `high` of an edge with a node on one of its sides.
 pub(crate) fn edge_below(window: Window, node: u32, high: u32) -> Option<u32>
-    requires small { IsSmallWindow window }
+    requires small { IsRasterWindow window }
     requires node { node ≤ cells_of window }
     requires high { high ≤ edges_of window }
     ensures { IsEdgeBelow window node high result }

@@ -21,13 +21,12 @@ pub(crate) fn has_shape(problem: &Problem, corrections: &Corrections, faces: &[i
         && faces.len() == across * along
 }
 
-/// Whether no correction is above 16,130 on either side of 0, which is one more than all that the cells of the largest
-/// tile could send.
-pub(crate) fn are_small(corrections: &[i32]) -> bool
-    ensures { IsTrue result → AreSmallNumbers corrections.now }
+/// Whether no correction is above `most` on either side of 0.
+pub(crate) fn are_small(corrections: &[i32], most: u32) -> bool
+    ensures { IsTrue result → AreSmallNumbers most corrections.now }
 {
     for correction in corrections {
-        if correction.unsigned_abs() > 16_130 {
+        if correction.unsigned_abs() > most {
             return false;
         }
     }

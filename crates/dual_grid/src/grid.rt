@@ -1,4 +1,4 @@
-ghost use Rattle.dual_grid.specs.Building.{IsSmallWindow};
+ghost use Rattle.dual_grid.specs.Building.{IsRasterWindow};
 ghost use Rattle.dual_grid.specs.Layout.{AreWithinCapacity, FitGrid, shape_by, state_by};
 ghost use Rattle.flow_network.specs.Lists.{HasRoom};
 ghost use Rattle.raster_model.specs.Limits.{IsSteepness};
@@ -15,13 +15,13 @@ use raster_model::{Scene, Window};
 use std::alloc::{AllocError, Global};
 use wrapped_gradient::{Corrections, Gradients};
 
-/// The network of a tile. Conforms to `FlowNet`.
+/// The network of a window. Conforms to `FlowNet`.
 ///
-/// Nodes are the cells of the tile's window in row order, and one more for the outside. Across each edge of the window
+/// Nodes are the window's cells in row order, and one more for the outside. Across each edge of the window
 /// an arc leads each way, and costs the edge's weight under the mask. If the steepness is above 1, one unit may flow along
 /// it, and all others along a steep arc, which costs the steepness times that. What flows from the first side of an edge to the
 /// other is the edge's correction, and the potential of the outside minus that of a cell is the cell's face.
-/// (Costantini 1998.) A tile one pixel wide or high has no cell: each arc leads from the outside to the outside.
+/// (Costantini 1998.) A window one pixel wide or high has no cell: each arc leads from the outside to the outside.
 ///
 /// Arcs are numbers, from which edge and direction follow. At a weight above 0 nothing flows both ways, and along a steep
 /// arc only if the other is full, because of their reduced costs. At the weight 0 there is one arc and its twin. So one
@@ -39,13 +39,13 @@ pub struct DualGrid {
     excesses: Vec<i64>,
     /// For each node, its potential.
     potentials: Vec<i64>,
-    ghost small: { IsSmallWindow window },
+    ghost limited: { IsRasterWindow window },
     ghost steepness: { IsSteepness steep },
     ghost fit: { FitGrid window weights.items flows.items excesses.items potentials.items },
-    ghost within: { AreWithinCapacity steep weights.items flows.items },
+    ghost within: { AreWithinCapacity window steep weights.items flows.items },
     ghost is_network: { IsNetwork (shape_by window steep weights.items) },
-    ghost room: { HasRoom (shape_by window steep weights.items) (state_by steep weights.items flows.items excesses.items potentials.items) },
-    ghost has_reduced_costs: { HasReducedCosts (shape_by window steep weights.items) (state_by steep weights.items flows.items excesses.items potentials.items) },
+    ghost room: { HasRoom (shape_by window steep weights.items) (state_by window steep weights.items flows.items excesses.items potentials.items) },
+    ghost has_reduced_costs: { HasReducedCosts (shape_by window steep weights.items) (state_by window steep weights.items flows.items excesses.items potentials.items) },
 }
 
 impl FlowNet for DualGrid {
@@ -107,6 +107,7 @@ impl FlowNet for DualGrid {
     fn residual(&self, arc: u32) -> u64 {
         let edge = arc / 8;
         residual_at(
+            self.capacity(),
             self.steep,
             self.weight(edge),
             self.flows[edge as usize],
@@ -137,43 +138,41 @@ impl FlowNet for DualGrid {
 }
 
 impl DualGrid {
-    ghost use Rattle.dual_grid.specs.Answers.{AreCertifiedCorrections, IsNearStart};
+    ghost use Rattle.dual_grid.specs.Answers.{AreCertifiedOver, IsNearStart};
     ghost use Rattle.dual_grid.specs.Building.{IsOutAcross};
     ghost use Rattle.dual_grid.specs.Layout.{weight_in};
     ghost use Rattle.dual_grid.specs.Nodes.{edges_of};
     ghost use Rattle.flow_network.specs.Nets.{IsNextBelow};
-    ghost use Rattle.dual_grid.specs.Grids.{HasSmallCosts, IsConnected};
+    ghost use Rattle.dual_grid.specs.Grids.{HasSmallCosts, IsConnected, arc_capacity};
     ghost use Rattle.dual_grid.specs.Starts.{IsAtStart, TellsMask};
     ghost use Rattle.dual_grid.specs.Views.{IsGridOf, grid_shape, grid_start, grid_state};
     ghost use Rattle.raster_model.specs.Raster.{residue};
     ghost use Rattle.raster_model.specs.Scene.{raster_of};
     ghost use Rattle.raster_model.specs.Sums.{Field};
-    ghost use Rattle.raster_model.specs.Tiles.{tiles_of, window_of, width_of, height_of};
+    ghost use Rattle.raster_model.specs.Tiles.{width_of, height_of};
     ghost use Rattle.raster_model.specs.declared.scene.Scene.{Scene as SceneOf};
-    ghost use Rattle.std.specs.Prelude.{◌≡◌, ◌*◌, ◌<◌, ◌≤◌, ◌≤ℤ◌, ℕ, Bool, IfOk, List, length, pos};
+    ghost use Rattle.raster_model.specs.declared.tiling.Window.{Window as WindowOf};
+    ghost use Rattle.std.specs.Prelude.{◌≡◌, ◌*◌, ◌<◌, ◌≤◌, ◌<ℤ◌, Bool, IfOk, List, length, pos};
     ghost use Rattle.wrapped_gradient.specs.Gradients.{AreGradientsOf};
 
-    /// The grid of a tile. `unmasked` tells the mask: for each pixel of the tile's window, in row order, whether it is
-    /// open. The gradients are the scene's over that window. Nothing has flowed yet, and each cell has its residue as
-    /// excess. It fails only for lack of memory.
-    pub fn of(
+    /// The grid over a window of a scene, which is that of the gradients. `unmasked` tells the mask: for each pixel of the
+    /// window, in row order, whether it is open. Nothing has flowed yet, and each cell has its residue as excess. Fewer
+    /// units are to flow than there are nodes. It fails only for lack of memory.
+    pub fn over(
         alloc: Global,
         scene: &Scene,
         gradients: &Gradients,
-        tile: u32,
         unmasked: &[bool],
     ) -> Result<DualGrid, AllocError>
-        requires tile { tile < tiles_of scene.now.tiling }
         requires gradients { AreGradientsOf scene.now gradients.now }
-        requires window { gradients.now.window ≡ window_of scene.now.tiling tile }
         requires count { length unmasked.now ≡ width_of gradients.now.window * height_of gradients.now.window }
-        ensures grid { IfOk result (λ grid. IsGridOf scene.now tile unmasked.now grid) }
-        ensures start { IfOk result (λ grid. IsAtStart (grid_start grid) (residue (raster_of scene.now)) (window_of scene.now.tiling tile) (grid_shape grid) (grid_state grid)) }
+        ensures grid { IfOk result (λ grid. IsGridOf scene.now gradients.now.window unmasked.now grid) }
+        ensures start { IfOk result (λ grid. IsAtStart (grid_start grid) (residue (raster_of scene.now)) gradients.now.window (grid_shape grid) (grid_state grid)) }
         ensures small { IfOk result (λ grid. HasSmallCosts (grid_shape grid)) }
-        ensures few { IfOk result (λ grid. total_excess (grid_shape grid) (grid_state grid) ≤ℤ pos 16129) }
+        ensures few { IfOk result (λ grid. total_excess (grid_shape grid) (grid_state grid) <ℤ pos (grid_shape grid).nodes) }
         ensures joined { IfOk result (λ grid. IsConnected (grid_start grid) (grid_shape grid)) }
     {
-        let window = scene.tiling.window(tile);
+        let window = gradients.window();
         let mut weights = right_weights(alloc, scene, window, unmasked)?;
         let mut down = down_weights(alloc, scene, window, unmasked)?;
         weights.append(&mut down)?;
@@ -191,17 +190,26 @@ impl DualGrid {
     }
 
     /// The corrections of the window's edges, in whole cycles, and the faces of its cells in row order, which certify
-    /// them. The grid has no excess left. No residual capacity differs by more than 16,129 from that at the start, so
-    /// each arc from side to side keeps capacity. It fails only for lack of memory.
+    /// them. The grid has no excess left. Each residual capacity differs from that at the start by less than there are
+    /// nodes, so each arc from side to side keeps capacity. The answer is one for each tile that has exactly the window's
+    /// pixels, whatever the other tiles are. It fails only for lack of memory.
     pub fn answer(self, alloc: Global) -> Result<(Corrections, Vec<i64>), AllocError>
         requires balanced { HasNoExcess (grid_shape self) (grid_state self) }
         requires near { IsNearStart (grid_start self) (grid_shape self) (grid_state self) }
-        ensures { IfOk result (λ made. (s : SceneOf) (t : ℕ) (unmasked : List Bool) (mask : Field Bool) → IsGridOf s t unmasked self → t < tiles_of s.tiling → TellsMask (window_of s.tiling t) unmasked mask → AreCertifiedCorrections (raster_of s) mask t (window_of s.tiling t) made.0 made.1.items) }
+        ensures { IfOk result (λ made. (s : SceneOf) (v : WindowOf) (unmasked : List Bool) (mask : Field Bool) → IsGridOf s v unmasked self → TellsMask v unmasked mask → AreCertifiedOver s mask v made.0 made.1.items) }
     {
         let faces = faces(alloc, &self.potentials, outside(self.window))?;
         let mut right = self.flows;
         let down = right.split_off(right_count(self.window) as usize)?;
         Ok((Corrections { right, down }, faces))
+    }
+
+    /// What an arc can carry that has no other beside it, or that is steep: as much as there are nodes, which is more than
+    /// all of them have to send.
+    fn capacity(&self) -> u32
+        ensures { result ≡ arc_capacity self.now.window }
+    {
+        self.excesses.len() as u32
     }
 
     /// The weight of the edge with a number. No weight is below 0.

@@ -1,4 +1,4 @@
-//! The network of a tile: its cells and the outside are the nodes, and arcs lead across its edges. Once it is balanced,
+//! The network of a window: its cells and the outside are the nodes, and arcs lead across its edges. Once it is balanced,
 //! it tells the corrections of the edges and the faces that certify them.
 #![tactic(auto)]
 

@@ -1,4 +1,4 @@
-ghost use Rattle.dual_grid.specs.Building.{IsMadeFor, IsSmallWindow};
+ghost use Rattle.dual_grid.specs.Building.{IsMadeFor, IsRasterWindow};
 ghost use Rattle.dual_grid.specs.Nodes.{cells_of};
 ghost use Rattle.dual_grid.specs.Problems.{down_edge_weights, right_edge_weights};
 ghost use Rattle.std.specs.Prelude.{◌*◌, ◌-◌, ◌≤◌, ℕ, IfOk, get_or, pos, unsigned_abs};
@@ -59,7 +59,7 @@ pub(crate) fn down_weights(
 
 /// The residues of the cells.
 pub(crate) fn residues(alloc: Global, gradients: &Gradients) -> Result<Vec<i8>, AllocError>
-    requires { IsSmallWindow gradients.now.window }
+    requires { IsRasterWindow gradients.now.window }
     ensures { IfOk result (λ list. AreInRows (residue_at gradients.now) gradients.now.window.x0 gradients.now.window.y0 (gradients.now.window.x1 - gradients.now.window.x0) (cells_of gradients.now.window) list.items) }
 {
     let window = gradients.window();

@@ -1,18 +1,17 @@
-ghost use Rattle.raster_model.specs.Limits.{max_side};
-ghost use Rattle.dual_grid.specs.Building.{IsSmallWindow};
-ghost use Rattle.std.specs.Prelude.{◌<◌};
+ghost use Rattle.dual_grid.specs.Building.{IsRasterWindow};
 
 use crate::checking::{all_cancelled, are_small, down_edges_tight, has_shape, right_edges_tight};
 use crate::listing::{down_weights, residues, right_weights};
+use crate::sides::outside;
 use raster_model::{Scene, Window};
 use std::alloc::{AllocError, Global};
 use wrapped_gradient::{Corrections, Gradients};
 
-/// What a tile asks of its corrections and faces: the weights of its edges under the mask and the residues of its
+/// What a window asks of its corrections and faces: the weights of its edges under the mask and the residues of its
 /// cells. Each list is in row order. (Costantini 1998.)
 #[derive(Drop)]
 pub struct Problem {
-    /// The tile's window.
+    /// The window.
     pub window: Window,
     /// The weights of the right edges. Each row has one fewer than the window has pixels across.
     pub right: Vec<i32>,
@@ -22,8 +21,7 @@ pub struct Problem {
     pub residues: Vec<i8>,
     /// The steepness: how many times as much as the first cycle of a correction each further one costs.
     pub steep: u32,
-    pub(crate) ghost small: { IsSmallWindow window },
-    pub(crate) ghost within: { (window.x1 < max_side) × (window.y1 < max_side) },
+    pub(crate) ghost limited: { IsRasterWindow window },
 }
 
 impl Problem {
@@ -45,7 +43,7 @@ impl Problem {
         requires gradients { AreGradientsOf scene.now gradients.now }
         requires window { gradients.now.window ≡ window_of scene.now.tiling tile }
         requires count { length unmasked.now ≡ width_of gradients.now.window * height_of gradients.now.window }
-        ensures { IfOk result (λ made. IsProblemOf scene.now tile unmasked.now made) }
+        ensures { IfOk result (λ made. IsProblemOf scene.now (window_of scene.now.tiling tile) unmasked.now made) }
     {
         let window = scene.tiling.window(tile);
         Ok(Problem {
@@ -59,7 +57,8 @@ impl Problem {
 
     /// Whether corrections and faces are an answer. The corrections cancel the residues. The faces differ across each
     /// edge by at most its weight if it is not corrected, by no less and at most the steepness times that if it is
-    /// corrected by one cycle, and by the steepness times the weight if by more. Then no corrections cost less. (Ahuja,
+    /// corrected by one cycle, and by the steepness times the weight if by more. No correction is above the number of cells by
+    /// more than 1, which is more than all of them have to send. Then no corrections cost less. (Ahuja,
     /// Magnanti and Orlin 1993, section 9.4; section 14.4 for costs that rise.)
     pub fn is_answered_by(&self, corrections: &Corrections, faces: &[i64]) -> bool
         ensures { IsTrue result → IsAnsweredBy self.now corrections.now faces.now }
@@ -67,10 +66,11 @@ impl Problem {
         if !has_shape(self, corrections, faces) {
             return false;
         }
-        if !are_small(&corrections.right) {
+        let most = outside(self.window) + 1;
+        if !are_small(&corrections.right, most) {
             return false;
         }
-        if !are_small(&corrections.down) {
+        if !are_small(&corrections.down, most) {
             return false;
         }
         if !all_cancelled(self, corrections) {

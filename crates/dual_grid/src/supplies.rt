@@ -1,4 +1,4 @@
-ghost use Rattle.dual_grid.specs.Building.{AreCellSupplies, IsSmallWindow, sum_of_first};
+ghost use Rattle.dual_grid.specs.Building.{AreCellSupplies, IsRasterWindow, sum_of_first};
 ghost use Rattle.dual_grid.specs.Nodes.{cells_of};
 ghost use Rattle.std.specs.Prelude.{◌≡◌, ◌-◌, ◌<◌, ◌≤◌, ℕ, IfOk, get_or, length, neg_ℤ, pos, unsigned_abs};
 ghost use Rattle.wrapped_gradient.specs.Gradients.{residue_at};
@@ -10,7 +10,7 @@ use wrapped_gradient::Gradients;
 
 /// What each node has to send: a cell its residue, and the outside minus the sum of all residues.
 pub(crate) fn supplies(alloc: Global, gradients: &Gradients) -> Result<Vec<i64>, AllocError>
-    requires { IsSmallWindow gradients.now.window }
+    requires { IsRasterWindow gradients.now.window }
     ensures { IfOk result (λ supplies. AreCellSupplies (residue_at gradients.now) gradients.now.window supplies.items) }
 {
     let mut supplies = residues(alloc, gradients)?;
@@ -21,7 +21,7 @@ pub(crate) fn supplies(alloc: Global, gradients: &Gradients) -> Result<Vec<i64>,
 
 /// The residues of the cells in row order.
 fn residues(alloc: Global, gradients: &Gradients) -> Result<Vec<i64>, AllocError>
-    requires { IsSmallWindow gradients.now.window }
+    requires { IsRasterWindow gradients.now.window }
     ensures rows { IfOk result (λ list. AreInRows (residue_at gradients.now) gradients.now.window.x0 gradients.now.window.y0 (gradients.now.window.x1 - gradients.now.window.x0) (cells_of gradients.now.window) list.items) }
     ensures small { IfOk result (λ list. (k : ℕ) → unsigned_abs (get_or list.items k (pos 0)) ≤ 1) }
 {
@@ -37,7 +37,7 @@ fn residues(alloc: Global, gradients: &Gradients) -> Result<Vec<i64>, AllocError
 
 /// Minus the sum of numbers from -1 to 1.
 fn minus_sum(numbers: &[i64]) -> i64
-    requires few { length numbers.now ≤ 16129 }
+    requires few { length numbers.now ≤ 16777216 }
     requires small { (k : ℕ) → unsigned_abs (get_or numbers.now k (pos 0)) ≤ 1 }
     ensures { result ≡ neg_ℤ (sum_of_first numbers.now (length numbers.now)) }
 {

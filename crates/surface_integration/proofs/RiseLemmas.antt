@@ -56,6 +56,10 @@ greatest_small v k h = two_sides (v.x1 - v.x0) (v.y1 - v.y0) (greatest_of k) h
     two_sides : (w h b : ℕ) → (w + 1 + (h + 1)) * (b + 1) ≤ 2147483647 → b < 2147483646
     two_sides w h b l = grind arith
 
+-- a rise in code at more bits is the same
+pub rise_widened : (k : Corrections) (d u : ℤ) → greatest_of k < 2147483647 → unsigned_abs d ≤ greatest_of k + 1 → u ≡ to_z w32 (of_z w32 d) → (u ≡ d) × (unsigned_abs u ≤ greatest_of k + 1)
+rise_widened k d u small l e = (omega (arith, ints, small, l, e), omega (arith, ints, small, l, e))
+
 -- the phases of a scene have 16 bits, so the wrapped difference of an edge leaves out at most one cycle
 phase_small : (s : Scene) (x y : ℕ) → plane_sample s.phase x y < 65536
 phase_small s x y = let h = s.phase.below (y * s.phase.width + x) in omega (arith, h, s.cycle)
@@ -108,11 +112,10 @@ module _ (s : Scene) (g : GradientsView) (k : Corrections) where
   down_gradient x y z h across along e = e ∙ h.differences (down_edge x y) (down_edge_of g.window x y across.0 across.1 along.0 along.1)
 
 -- a correction is small, and so is a rise
-pub correction_small : (v : Window) (k : Corrections) (e : Edge) (z : ℤ) → AreSmall v k → z ≡ correction_at v k e → unsigned_abs z < 2147483647
+pub correction_small : (v : Window) (k : Corrections) (e : Edge) (z : ℤ) → greatest_of k < 2147483647 → z ≡ correction_at v k e → unsigned_abs z < 2147483647
 correction_small v k e z h q =
     let p = subst (λ (u : ℤ). unsigned_abs u ≤ greatest_of k) (sym q) (correction_within v k e) in
-    let m = greatest_small v k h in
-    omega (arith, p, m)
+    omega (arith, p, h)
 
 pub below_greatest : (v : Window) (k : Corrections) (e : Edge) (z : ℤ) (n : ℕ) → z ≡ correction_at v k e → n ≤ unsigned_abs z + 1 → n ≤ greatest_of k + 1
 below_greatest v k e z n q l =

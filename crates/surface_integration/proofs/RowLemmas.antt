@@ -1,14 +1,22 @@
 -- A row of cycles, pixel by pixel.
-use Rattle.std.proofs.Common.{◌≡◌, ◌∙◌, ℕ, ◌+◌, ◌-◌, ◌*◌, ◌≤◌, sym, ap, subst, refl, arith, to_z, of_z, w32, List, [], ◌∷◌, ◌++◌, length, below_more}
+use Rattle.std.proofs.Common.{◌≡◌, ◌∙◌, ℕ, ◌+◌, ◌-◌, ◌*◌, ◌^◌, ◌<◌, ◌≤◌, sym, ap, subst, refl, arith, to_z, of_z, w32, w64, List, [], ◌∷◌, ◌++◌, length, below_more}
+use mir.Syntax.{Width}
 use Rattle.std.specs.Prelude.{ℤ, pos, ◌+ℤ◌, unsigned_abs, slice_index_or, FitsSigned}
-use Rattle.std.proofs.lemmas.Int.{ints}
+use Rattle.std.proofs.lemmas.Int.{ints, to_z-of_z}
+use Rattle.std.proofs.lemmas.Nat.{mul-le}
 use Rattle.std.proofs.Math.Nat.{mul-le-mul_left}
 use Rattle.std.proofs.Math.Seq.{get_or-append_seam}
 use Rattle.std.proofs.lemmas.List.{get_or_append_left, length-append}
+use Rattle.raster_model.specs.declared.scene.Scene.{Scene}
 use Rattle.raster_model.specs.declared.tiling.Window.{Window}
 use Rattle.raster_model.specs.Raster.{Raster}
-use Rattle.raster_model.specs.Sums.{right_edge}
+use Rattle.raster_model.specs.Sums.{Field, right_edge}
+use Rattle.raster_model.specs.Tiles.{width_of, height_of}
 use Rattle.wrapped_gradient.specs.declared.corrections.Corrections.{Corrections}
+use Rattle.wrapped_gradient.specs.Corrections.{greatest_of}
+use Rattle.wrapped_gradient.specs.Gradients.{AreGradientsOf}
+use Rattle.wrapped_gradient.specs.GradientsView.{GradientsView}
+use Rattle.surface_integration.specs.Cycles.{LieWithin, StaySmall}
 use Rattle.surface_integration.specs.Rows.{IsRowAdded, rise_of}
 
 -- the number that was added last, and those before it
@@ -45,29 +53,50 @@ bound_next z d n m p q =
     let s : unsigned_abs (z +ℤ d) ≤ unsigned_abs z + unsigned_abs d = omega (arith, ints) in
     omega (arith, s, p, q)
 
--- so many steps stay within 31 bits
-pub steps_fit : (z : ℤ) (n w h m : ℕ) → unsigned_abs z ≤ n * m → n ≤ w + h → (w + h) * m ≤ 2147483647 → unsigned_abs z ≤ 2147483647
-steps_fit z n w h m p l q = omega (arith, p, q, mul-le-mul_left m l)
+-- so many steps stay within a limit
+steps_fit : (z : ℤ) (n w h m limit : ℕ) → unsigned_abs z ≤ n * m → n ≤ w + h → (w + h) * m ≤ limit → unsigned_abs z ≤ limit
+steps_fit z n w h m limit p l q = omega (arith, p, q, mul-le-mul_left m l)
 
--- as code adds them up, at 32 bits
-module _ (z d : ℤ) (n w h m : ℕ) (near : unsigned_abs z ≤ n * m) (step : unsigned_abs d ≤ m) (room : n + 1 ≤ w + h) (small : (w + h) * m ≤ 2147483647) where
-  step_small : unsigned_abs d ≤ 2147483647
-  step_small = steps_fit d 1 w h m (omega (arith, step)) (omega (arith, room)) small
+-- numbers up to a limit fit so many bits
+abbrev pub AreFitting : Width → ℕ → Type 0
+AreFitting bits limit = (z : ℤ) → unsigned_abs z ≤ limit → FitsSigned bits z
 
-  total_small : unsigned_abs (z +ℤ d) ≤ 2147483647
-  total_small = steps_fit (z +ℤ d) (n + 1) w h m (bound_next z d n m near step) room small
+pub fit_32 : AreFitting w32 2147483647
+fit_32 z l = omega (arith, ints, l)
 
-  step_plain : to_z w32 (of_z w32 d) ≡ d
-  step_plain = let l = step_small in omega (arith, ints, l)
+pub fit_64 : AreFitting w64 17592186044416
+fit_64 z l = omega (arith, ints, l)
 
-  pub sum_fits : FitsSigned w32 (z +ℤ to_z w32 (of_z w32 d))
-  sum_fits = let l = total_small in rw step_plain (omega (arith, ints, l))
+-- as code adds them up, at so many bits
+module _ (bits : Width) (limit : ℕ) (fit : AreFitting bits limit) (z d : ℤ) (n w h m : ℕ) (near : unsigned_abs z ≤ n * m) (step : unsigned_abs d ≤ m) (room : n + 1 ≤ w + h) (small : (w + h) * m ≤ limit) where
+  step_plain : to_z bits (of_z bits d) ≡ d
+  step_plain = to_z-of_z bits d (fit d (steps_fit d 1 w h m limit (omega (arith, step)) (omega (arith, room)) small))
 
-  pub sum_plain : to_z w32 (of_z w32 (z +ℤ to_z w32 (of_z w32 d))) ≡ z +ℤ d
-  sum_plain = let l = total_small in rw step_plain (omega (arith, ints, l))
+  total_fits : FitsSigned bits (z +ℤ d)
+  total_fits = fit (z +ℤ d) (steps_fit (z +ℤ d) (n + 1) w h m limit (bound_next z d n m near step) room small)
 
-  pub sum_near : unsigned_abs (to_z w32 (of_z w32 (z +ℤ to_z w32 (of_z w32 d)))) ≤ (n + 1) * m
+  pub sum_fits : FitsSigned bits (z +ℤ to_z bits (of_z bits d))
+  sum_fits = rw step_plain total_fits
+
+  pub sum_plain : to_z bits (of_z bits (z +ℤ to_z bits (of_z bits d))) ≡ z +ℤ d
+  sum_plain = rw step_plain (to_z-of_z bits (z +ℤ d) total_fits)
+
+  pub sum_near : unsigned_abs (to_z bits (of_z bits (z +ℤ to_z bits (of_z bits d)))) ≤ (n + 1) * m
   sum_near = rw sum_plain (bound_next z d n m near step)
+
+-- the cycles of a window of a scene stay within 44 bits, for corrections of 31
+pub wide_room : (s : Scene) (g : GradientsView) (k : Corrections) → AreGradientsOf s g → greatest_of k < 2147483647 → (width_of g.window + height_of g.window) * (greatest_of k + 1) ≤ 17592186044416
+wide_room s g k h small =
+    let a = h.inside.across in
+    let b = h.inside.along in
+    let wide = s.phase.wide in
+    let high = s.phase.high in
+    mul-le (width_of g.window + height_of g.window) (greatest_of k + 1) 8192 2147483648 (omega (arith, a, b, wide, high)) (omega (arith, small))
+
+pub wide_within : (s : Scene) (g : GradientsView) (k : Corrections) (cycles : Field ℤ) → AreGradientsOf s g → greatest_of k < 2147483647 → StaySmall g.window cycles (greatest_of k) → LieWithin g.window cycles (2 ^ 44)
+wide_within s g k cycles h small stay x y i =
+    let v = g.window in
+    steps_fit (cycles x y) (x - v.x0 + (y - v.y0)) (width_of v) (height_of v) (greatest_of k + 1) 17592186044416 (stay x y i) (omega (arith, i)) (wide_room s g k h small)
 
 -- the same rows, as a loop writes them
 module _ (r : Raster) (v : Window) (k : Corrections) (y : ℕ) where

@@ -21,6 +21,10 @@ DepartBy r v cycles k = (e : Edge) → IsEdgeOf v e → departure r (lifted r cy
 abbrev pub AreSmall : Window → Corrections → Type 0
 AreSmall v k = (width_of v + height_of v) * (greatest_of k + 1) ≤ 2147483647
 
+-- no pixel has more absolute cycles than the limit
+abbrev pub LieWithin : Window → Field ℤ → ℕ → Type 0
+LieWithin v cycles limit = (x y : ℕ) → IsWithin v x y → unsigned_abs (cycles x y) ≤ limit
+
 -- at a pixel some steps to the right of the window's first and some below, the absolute cycles are at most those steps times b + 1
 abbrev pub StaySmall : Window → Field ℤ → ℕ → Type 0
 StaySmall v cycles b = (x y : ℕ) → IsWithin v x y → unsigned_abs (cycles x y) ≤ (x - v.x0 + (y - v.y0)) * (b + 1)

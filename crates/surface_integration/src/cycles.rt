@@ -1,26 +1,23 @@
 ghost use Rattle.raster_model.specs.Scene.{raster_of};
-ghost use Rattle.raster_model.specs.Sums.{down_edge, right_edge};
 ghost use Rattle.std.specs.Prelude.{
   ◌≡◌,
   ◌+◌,
   ◌-◌,
   ◌*◌,
-  ◌<◌,
   ◌≤◌,
-  ◌-ℤ◌,
   IfOk,
   OnOk,
-  int_div,
   pos,
   unsigned_abs,
   vec_len,
 };
 ghost use Rattle.surface_integration.specs.Cycles.{AreSmall, DepartBy, StaySmall, cycles_at};
-ghost use Rattle.surface_integration.specs.Rows.{IsRowAdded, rise_of};
+ghost use Rattle.surface_integration.specs.Rows.{IsRowAdded};
 ghost use Rattle.wrapped_gradient.specs.Corrections.{CancelResidues, HasShapeOf, greatest_of};
 ghost use Rattle.wrapped_gradient.specs.Gradients.{AreGradientsOf};
 ghost use Rattle.raster_model.specs.Tiles.{width_of, height_of};
 
+use crate::rises::{rise_down, rise_right};
 use raster_model::Scene;
 use std::alloc::{AllocError, Global};
 use wrapped_gradient::{Corrections, Gradients};
@@ -80,55 +77,4 @@ fn push_row(
         cycles.push(here)?;
     }
     Ok(())
-}
-
-/// The cycles by which the right neighbour of a pixel is higher.
-fn rise_right(
-    scene: &Scene,
-    gradients: &Gradients,
-    corrections: &Corrections,
-    x: u32,
-    y: u32,
-) -> i32
-    requires gradients { AreGradientsOf scene.now gradients.now }
-    requires shape { HasShapeOf gradients.now.window corrections.now }
-    requires small { AreSmall gradients.now.window corrections.now }
-    requires across { (gradients.now.window.x0 ≤ x) × (x < gradients.now.window.x1) }
-    requires along { (gradients.now.window.y0 ≤ y) × (y ≤ gradients.now.window.y1) }
-    ensures value { result ≡ rise_of (raster_of scene.now) gradients.now.window corrections.now (right_edge x y) }
-    ensures small { unsigned_abs result ≤ greatest_of corrections.now + 1 }
-{
-    let window = gradients.window();
-    let across = (window.x1 - window.x0) as usize;
-    let place = (y - window.y0) as usize * across + (x - window.x0) as usize;
-    let from = scene.phase.sample(x, y);
-    let to = scene.phase.sample(x + 1, y);
-    rise(from, to, gradients.right(x, y), corrections.right[place])
-}
-
-/// The cycles by which the lower neighbour of a pixel is higher.
-fn rise_down(scene: &Scene, gradients: &Gradients, corrections: &Corrections, x: u32, y: u32) -> i32
-    requires gradients { AreGradientsOf scene.now gradients.now }
-    requires shape { HasShapeOf gradients.now.window corrections.now }
-    requires small { AreSmall gradients.now.window corrections.now }
-    requires across { (gradients.now.window.x0 ≤ x) × (x ≤ gradients.now.window.x1) }
-    requires along { (gradients.now.window.y0 ≤ y) × (y < gradients.now.window.y1) }
-    ensures value { result ≡ rise_of (raster_of scene.now) gradients.now.window corrections.now (down_edge x y) }
-    ensures small { unsigned_abs result ≤ greatest_of corrections.now + 1 }
-{
-    let place = gradients.window().place(x, y);
-    let from = scene.phase.sample(x, y);
-    let to = scene.phase.sample(x, y + 1);
-    rise(from, to, gradients.down(x, y), corrections.down[place])
-}
-
-/// The cycles by which a pixel is above its neighbour, for their phases, the wrapped difference and the
-/// correction.
-fn rise(from: u16, to: u16, gradient: i32, correction: i32) -> i32
-    requires near { unsigned_abs (pos to -ℤ pos from -ℤ gradient) ≤ 131071 }
-    requires small { unsigned_abs correction < 2147483647 }
-    ensures value { result ≡ correction -ℤ int_div (pos to -ℤ pos from -ℤ gradient) (pos 65536) }
-    ensures small { unsigned_abs result ≤ unsigned_abs correction + 1 }
-{
-    correction - (i32::from(to) - i32::from(from) - gradient) / 65536
 }

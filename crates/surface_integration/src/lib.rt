@@ -3,5 +3,8 @@
 #![tactic(auto)]
 
 mod cycles;
+mod rises;
+mod wide_cycles;
 
 pub use crate::cycles::integrate;
+pub use crate::wide_cycles::integrate_wide;

@@ -1,3 +1,2 @@
-pub mod BlockLemmas
 pub mod ResultLemmas
 pub mod ZeroLemmas

@@ -1,21 +1,18 @@
-ghost use Rattle.flow_network.specs.Nets.{HasNoExcess};
 ghost use Rattle.certificates.specs.Results.{IsGoodTile, pixels_in};
-ghost use Rattle.dual_grid.specs.Answers.{AreCertifiedCorrections, IsNearStart};
+ghost use Rattle.dual_grid.specs.Answers.{AreCertifiedCorrections};
 ghost use Rattle.dual_grid.specs.Starts.{TellsMask};
-ghost use Rattle.dual_grid.specs.Views.{HaveOneOrigin, grid_shape, grid_start, grid_state};
 ghost use Rattle.raster_model.specs.Scene.{raster_of};
 ghost use Rattle.raster_model.specs.Sums.{Field};
 ghost use Rattle.raster_model.specs.Tiles.{tiles_of, window_of};
-ghost use Rattle.std.specs.Prelude.{◌≡◌, ◌<◌, Bool, IfOk, IfSome, OnOk, length};
-ghost use Rattle.tile_solver.specs.Fresh.{CanBeBalanced};
+ghost use Rattle.std.specs.Prelude.{◌≡◌, ◌<◌, Bool, IfOk, IfSome, length};
 ghost use Rattle.dual_grid.specs.Problems.{IsAnsweredBy};
 ghost use Rattle.tile_solver.specs.Zeros.{AnswersWithoutResidue};
 ghost use Rattle.wrapped_gradient.specs.Gradients.{AreGradientsOf};
 
 use certificates::TileResult;
-use dual_grid::{DualGrid, Problem};
+use dual_grid::Problem;
+use network_solver::network_corrections;
 use raster_model::Scene;
-use shortest_augment::{BalanceFault, balance};
 use std::alloc::{AllocError, Global};
 use surface_integration::integrate;
 use tile_guess::{Grid, Guess, guess_flow};
@@ -91,9 +88,7 @@ fn least_corrections(
     if let Some(answer) = guessed_corrections(alloc, &problem, guess)? {
         return Ok(answer);
     }
-    let mut grid = DualGrid::of(alloc, scene, gradients, tile, unmasked)?;
-    empty(alloc, &mut grid)?;
-    grid.answer(alloc)
+    network_corrections(alloc, scene, gradients, unmasked)
 }
 
 /// The given guess, or that of the fast solver, if it is found to be an answer, and otherwise None. Neither promises
@@ -157,19 +152,4 @@ fn no_corrections(
     };
     let faces = vec![in alloc; 0; across * along]?;
     Ok((corrections, faces))
-}
-
-/// Balances a grid, so that no node has excess. No nodes block it: an arc leads out of them whose capacity is more than
-/// all that flows.
-fn empty(alloc: Global, grid: &mut DualGrid) -> Result<(), AllocError>
-    requires { CanBeBalanced (grid_start grid.old) (grid_shape grid.old) (grid_state grid.old) }
-    ensures origin { HaveOneOrigin grid.old grid.new }
-    ensures balanced { OnOk result (HasNoExcess (grid_shape grid.new) (grid_state grid.new)) }
-    ensures near { IsNearStart (grid_start grid.new) (grid_shape grid.new) (grid_state grid.new) }
-{
-    match balance(alloc, grid) {
-        Ok(()) => Ok(()),
-        Err(BalanceFault::Memory) => Err(AllocError),
-        Err(BalanceFault::Blocked(_)) => unreachable!(),
-    }
 }

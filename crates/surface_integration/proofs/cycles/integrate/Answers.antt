@@ -8,14 +8,15 @@ use Rattle.raster_model.specs.Tiles.{width_of, height_of}
 use Rattle.surface_integration.specs.Rows.{rise_of}
 use Rattle.surface_integration.proofs.CycleLemmas.{they_depart, they_stay_small}
 use Rattle.surface_integration.proofs.Filled.{new_first, filled_first, filled_next, filled_whole, none_before}
-use Rattle.surface_integration.proofs.RowLemmas.{sum_fits, sum_plain, sum_near}
+use Rattle.surface_integration.proofs.RiseLemmas.{greatest_small}
+use Rattle.surface_integration.proofs.RowLemmas.{fit_32, sum_fits, sum_plain, sum_near}
 use Rattle.surface_integration.proofs.cycles.integrate.Goals as goal
 
 pub overflow_add-first : goal.overflow_add-first
 overflow_add-first c =
     let v = c.args.gradients.now.window in
     let end = ap (λ (w : Window). w.y1) c.window-window.ensures.value in
-    sum_fits (to_z w32 c.loop-y.first-bits) c.rise_down-first.result (c.loop-y.y - v.y0) (width_of v) (height_of v) (greatest_of c.args.corrections.now + 1) c.loop-y.invariant.near c.rise_down-first.ensures.small (omega (arith, end)) c.requires.small
+    sum_fits w32 2147483647 fit_32 (to_z w32 c.loop-y.first-bits) c.rise_down-first.result (c.loop-y.y - v.y0) (width_of v) (height_of v) (greatest_of c.args.corrections.now + 1) c.loop-y.invariant.near c.rise_down-first.ensures.small (omega (arith, end)) c.requires.small
 
 pub push_row-requires-in-loop-y-clause-near : goal.push_row-requires-in-loop-y-clause-near
 push_row-requires-in-loop-y-clause-near c =
@@ -25,7 +26,7 @@ push_row-requires-in-loop-y-clause-near c =
     let m = greatest_of c.args.corrections.now + 1 in
     let more : c.loop-y.y - v.y0 + 1 ≡ c.loop-y.y + 1 - v.y0 = omega (arith, begin) in
     subst (λ (i : ℕ). unsigned_abs (to_z w32 (of_z w32 (to_z w32 c.loop-y.first-bits +ℤ to_z w32 (of_z w32 c.rise_down-first.result)))) ≤ i * m) more
-    (sum_near (to_z w32 c.loop-y.first-bits) c.rise_down-first.result (c.loop-y.y - v.y0) (width_of v) (height_of v) m c.loop-y.invariant.near c.rise_down-first.ensures.small (omega (arith, end)) c.requires.small)
+    (sum_near w32 2147483647 fit_32 (to_z w32 c.loop-y.first-bits) c.rise_down-first.result (c.loop-y.y - v.y0) (width_of v) (height_of v) m c.loop-y.invariant.near c.rise_down-first.ensures.small (omega (arith, end)) c.requires.small)
 
 pub loop-y-init : goal.loop-y-init
 loop-y-init c =
@@ -53,7 +54,7 @@ loop-y-preserved c =
     let m = greatest_of c.args.corrections.now + 1 in
     let below : v.y0 ≤ y = omega (arith, begin) in
     let under : v.y0 ≤ y + 1 = omega (arith, below) in
-    let plain = sum_plain first d (y - v.y0) (width_of v) (height_of v) m c.loop-y.invariant.near c.rise_down-first.ensures.small (omega (arith, end)) c.requires.small in
+    let plain = sum_plain w32 2147483647 fit_32 first d (y - v.y0) (width_of v) (height_of v) m c.loop-y.invariant.near c.rise_down-first.ensures.small (omega (arith, end)) c.requires.small in
     let full : length c.loop-y.cycles.items ≡ (y + 1 - v.y0) * width_of v = c.loop-y.invariant.filled.count ∙ ap (λ (i : ℕ). i * width_of v) (omega (arith, below)) in
     let rise : d ≡ rise_of (raster_of c.args.scene.now) v c.args.corrections.now (down_edge v.x0 y) = c.rise_down-first.ensures.value ∙ ap (λ (x : ℕ). rise_of (raster_of c.args.scene.now) v c.args.corrections.now (down_edge x y)) start in
     let follows = plain ∙ sum_same c.loop-y.invariant.begins rise in
@@ -61,7 +62,7 @@ loop-y-preserved c =
       filled = filled_next (raster_of c.args.scene.now) v c.args.corrections.now (y + 1) _ c.loop-y.cycles.items c.push_row-in-loop-y.new.cycles.items under c.requires.gradients.inside.across.0 full c.in_ok-push_row-2.ensures y refl below follows c.loop-y.invariant.filled;
       begins = sym (new_first (raster_of c.args.scene.now) v c.args.corrections.now (y + 1) _ c.loop-y.cycles.items c.push_row-in-loop-y.new.cycles.items under c.requires.gradients.inside.across.0 full c.in_ok-push_row-2.ensures);
       near = subst (λ (i : ℕ). unsigned_abs (to_z w32 (of_z w32 (first +ℤ to_z w32 (of_z w32 d)))) ≤ i * m) (row_after y v.y0 below)
-          (sum_near first d (y - v.y0) (width_of v) (height_of v) m c.loop-y.invariant.near c.rise_down-first.ensures.small (omega (arith, end)) c.requires.small);
+          (sum_near w32 2147483647 fit_32 first d (y - v.y0) (width_of v) (height_of v) m c.loop-y.invariant.near c.rise_down-first.ensures.small (omega (arith, end)) c.requires.small);
     }
   where
     row_after : (y y0 : ℕ) → y0 ≤ y → y - y0 + 1 ≡ y + 1 - y0
@@ -96,3 +97,6 @@ returns-clause-bounded c =
     let begin = ap (λ (w : Window). w.y0) c.window-window.ensures.value in
     they_stay_small c.args.scene.now v c.args.corrections.now c.loop-y.cycles.items c.requires.gradients.inside.across.0
     (filled_whole (raster_of c.args.scene.now) v c.args.corrections.now (c.loop-y.y - v.y0 + 1) (height_of v) c.loop-y.cycles.items (omega (arith, end, begin)) c.loop-y.invariant.filled)
+
+pub rise_down-first-requires-clause-small : goal.rise_down-first-requires-clause-small
+rise_down-first-requires-clause-small c = let m = greatest_small c.args.gradients.now.window c.args.corrections.now c.requires.small in omega (arith, m)

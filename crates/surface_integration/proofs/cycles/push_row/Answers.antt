@@ -5,14 +5,15 @@ use Rattle.raster_model.specs.declared.tiling.Window.{Window}
 use Rattle.raster_model.specs.Scene.{raster_of}
 use Rattle.wrapped_gradient.specs.Corrections.{greatest_of}
 use Rattle.raster_model.specs.Tiles.{width_of, height_of}
-use Rattle.surface_integration.proofs.RowLemmas.{sum_fits, sum_plain, sum_near, row_begins, begun_last, row_more, more_last, row_whole}
+use Rattle.surface_integration.proofs.RiseLemmas.{greatest_small}
+use Rattle.surface_integration.proofs.RowLemmas.{fit_32, sum_fits, sum_plain, sum_near, row_begins, begun_last, row_more, more_last, row_whole}
 use Rattle.surface_integration.proofs.cycles.push_row.Goals as goal
 
 pub overflow_add-here : goal.overflow_add-here
 overflow_add-here c =
     let v = c.args.gradients.now.window in
     let end = ap (λ (w : Window). w.x1) c.window-window.ensures.value in
-    sum_fits (to_z w32 c.loop-x.here-bits) c.rise_right-here.result (c.loop-x.x - v.x0 + (c.args.y - v.y0)) (width_of v) (height_of v) (greatest_of c.args.corrections.now + 1) c.loop-x.invariant.near c.rise_right-here.ensures.small (omega (arith, end, c.requires.row)) c.requires.small
+    sum_fits w32 2147483647 fit_32 (to_z w32 c.loop-x.here-bits) c.rise_right-here.result (c.loop-x.x - v.x0 + (c.args.y - v.y0)) (width_of v) (height_of v) (greatest_of c.args.corrections.now + 1) c.loop-x.invariant.near c.rise_right-here.ensures.small (omega (arith, end, c.requires.row)) c.requires.small
 
 pub loop-x-init : goal.loop-x-init
 loop-x-init c =
@@ -37,8 +38,8 @@ loop-x-preserved c =
     let n = c.loop-x.x - v.x0 + (c.args.y - v.y0) in
     let m = greatest_of c.args.corrections.now + 1 in
     let room : n + 1 ≤ width_of v + height_of v = omega (arith, end, c.requires.row) in
-    let plain = sum_plain here d n (width_of v) (height_of v) m c.loop-x.invariant.near c.rise_right-here.ensures.small room c.requires.small in
-    let near = sum_near here d n (width_of v) (height_of v) m c.loop-x.invariant.near c.rise_right-here.ensures.small room c.requires.small in
+    let plain = sum_plain w32 2147483647 fit_32 here d n (width_of v) (height_of v) m c.loop-x.invariant.near c.rise_right-here.ensures.small room c.requires.small in
+    let near = sum_near w32 2147483647 fit_32 here d n (width_of v) (height_of v) m c.loop-x.invariant.near c.rise_right-here.ensures.small room c.requires.small in
     let more : n + 1 ≡ c.loop-x.x + 1 - v.x0 + (c.args.y - v.y0) = omega arith in
     record {
       added = row_more (raster_of c.args.scene.now) v c.args.corrections.now c.args.y _ c.args.cycles.now.items c.loop-x.x c.loop-x.cycles.items c.push-in-loop-x.new.self.items here (to_z w32 (of_z w32 (here +ℤ to_z w32 (of_z w32 d)))) d from c.loop-x.invariant.added c.in_ok-push-2.ensures.items c.loop-x.invariant.last plain c.rise_right-here.ensures.value;
@@ -51,3 +52,6 @@ returns c =
     let v = c.args.gradients.now.window in
     let end = ap (λ (w : Window). w.x1) c.window-window.ensures.value in
     row_whole (raster_of c.args.scene.now) v c.args.corrections.now c.args.y (c.loop-x.x - v.x0) (v.x1 - v.x0) _ c.args.first c.args.cycles.now.items c.loop-x.cycles.items (omega (arith, end)) (to_z-of_z w32 c.args.first c.ranges.first) c.loop-x.invariant.added
+
+pub rise_right-here-requires-clause-small : goal.rise_right-here-requires-clause-small
+rise_right-here-requires-clause-small c = let m = greatest_small c.args.gradients.now.window c.args.corrections.now c.requires.small in omega (arith, m)

@@ -1,12 +1,14 @@
-use Rattle.std.proofs.Common.{◌≡◌, subst, false}
+use Rattle.std.proofs.Common.{◌≡◌, subst, sym, false}
 use Rattle.std.specs.Prelude.{Option, Some, None, IfNone}
 use Rattle.std.specs.Option.{is_some}
 use Rattle.std.proofs.lemmas.Result.{IfOk-weaker}
 use Rattle.raster_model.specs.declared.tiling.Window.{Window}
 use Rattle.raster_model.specs.Scene.{raster_of}
-use Rattle.dual_grid.specs.Answers.{AreCertifiedCorrections}
+use Rattle.raster_model.specs.Tiles.{window_of}
+use Rattle.dual_grid.specs.Answers.{AreCertifiedCorrections, AreCertifiedOver}
+use Rattle.dual_grid.specs.Starts.{TellsMask}
 use Rattle.wrapped_gradient.specs.Gradients.{HasNoResidue}
-use Rattle.dual_grid.proofs.CallerLemmas.{grid_stays}
+use Rattle.dual_grid.proofs.CallerLemmas.{scene_answer}
 use Rattle.tile_solver.specs.Zeros.{IsWithoutResidue}
 use Rattle.tile_solver.proofs.solving.least_corrections.Goals as goal
 
@@ -29,18 +31,17 @@ returns-then-is_none c =
     (λ made answers mask told. subst (λ (v : Window). AreCertifiedCorrections (raster_of s) mask c.args.tile v made.0 made.1.items) c.requires.window (answers s c.args.tile mask without))
     c.no_corrections.ensures
 
-pub empty-requires : goal.empty-requires
-empty-requires c =
-    let made = c.in_ok-grid.ensures in
-    record { residual = made.start.residual; flat = made.start.potential; small = made.small; few = made.few; joined = made.joined }
-
 pub returns : goal.returns
 returns c =
     let s = c.args.scene.now in
     let t = c.args.tile in
-    let u = c.args.unmasked.now in
-    let grid = grid_stays s t u c.in_ok-grid.grid c.empty.new.grid c.empty.ensures.origin c.in_ok-grid.ensures.grid in
-    IfOk-weaker c.answer.result _ _ (λ made answers mask told. answers s t u mask grid c.requires.tile told) c.answer.ensures
+    IfOk-weaker c.network_corrections.result _ _
+    (λ made answers mask told. scene_answer s mask t made.0 made.1.items c.requires.tile
+    (subst (λ (v : Window). AreCertifiedOver s mask v made.0 made.1.items) c.requires.window (answers mask (subst (λ (v : Window). TellsMask v c.args.unmasked.now mask) (sym c.requires.window) told))))
+    c.network_corrections.ensures
 
 pub returns-in-Some : goal.returns-in-Some
-returns-in-Some c = λ mask told. (rw c.in-Some.is at c.in_ok-answer.ensures) c.args.scene.now c.args.tile c.args.unmasked.now mask c.in_ok-problem.ensures c.requires.tile told
+returns-in-Some c = λ mask told. (
+    let s = c.args.scene.now in
+    let t = c.args.tile in
+    scene_answer s mask t _ _ c.requires.tile ((rw c.in-Some.is at c.in_ok-answer.ensures) s (window_of s.tiling t) c.args.unmasked.now mask c.in_ok-problem.ensures told))

@@ -2,8 +2,7 @@ use Rattle.std.proofs.Common.{◌≡◌, ℕ, ◌+◌, ◌<◌, ◌∙◌, ap, s
 use Rattle.std.specs.Prelude.{pos}
 use Rattle.std.proofs.lemmas.List.{get_or-drop, get_or-take, length-take-le}
 use Rattle.raster_model.specs.declared.tiling.Window.{Window}
-use Rattle.raster_model.specs.Tiles.{IsWindowOf}
-use Rattle.raster_model.proofs.TileLemmas.{window_of-pixels}
+use Rattle.whole_raster.specs.Tilings.{IsTileWindow, tiled_by}
 use Rattle.raster_model.specs.Scene.{raster_of}
 use Rattle.dual_grid.specs.Answers.{AreCertifiedCorrections}
 use Rattle.dual_grid.specs.Starts.{TellsMask}
@@ -23,14 +22,14 @@ split v flows right down r e count f g = (
 )
 
 pub returns : goal.returns
-returns c = λ s t unmasked mask grid exists tells. (
+returns c = λ s w unmasked mask grid tells tiles count t window. (
     let g = c.args.self in
     let v = g.window in
-    let window = subst (λ (v : Window). IsWindowOf s.tiling t v) (sym grid.window) (window_of-pixels s.tiling t exists) in
+    let r = tiled_by (raster_of s) tiles count in
     let told = subst (λ (zs : List ℤ). AreFaces (number_or_zero zs) c.outside.result c.outside.result c.in_ok-faces.faces.items) c.deref.ensures.value c.in_ok-faces.ensures in
     let faces = subst (λ (n : ℕ). AreFaces (number_or_zero g.potentials.items) n n c.in_ok-faces.faces.items) c.outside.ensures told in
     let parts = split v g.flows.items c.split_off.new.self.items c.in_ok-down.down.items c.right_count.result c.right_count.ensures g.fit.by_edge c.in_ok-down.ensures.items c.in_ok-down.ensures.tail in
     let flows : AreEdgeFlows v (number_or_zero g.flows.items) (record { right = c.split_off.new.self; down = c.in_ok-down.down }) = record { right_count = parts.0; right = parts.1; down_count = parts.2; down = parts.3 } in
-    subst (λ (w : Window). AreCertifiedCorrections (raster_of s) mask t w (record { right = c.split_off.new.self; down = c.in_ok-down.down }) c.in_ok-faces.faces.items) grid.window
-    (is_answer s t v window g.small unmasked mask (subst (λ (w : Window). TellsMask w unmasked mask) (sym grid.window) tells) g.steep grid.steep g.steepness.0 (weight_in g.weights.items) grid.weighed (number_or_zero g.flows.items) (number_or_zero g.excesses.items) (number_or_zero g.potentials.items) g.within g.has_reduced_costs grid.conserved c.requires.balanced c.requires.near
+    subst (λ (w : Window). AreCertifiedCorrections r mask t w (record { right = c.split_off.new.self; down = c.in_ok-down.down }) c.in_ok-faces.faces.items) grid.window
+    (is_answer r t v (subst (λ (w : Window). IsTileWindow r t w) (sym grid.window) window) g.limited unmasked mask (subst (λ (w : Window). TellsMask w unmasked mask) (sym grid.window) tells) g.steep grid.steep g.steepness.0 (weight_in g.weights.items) grid.weighed (number_or_zero g.flows.items) (number_or_zero g.excesses.items) (number_or_zero g.potentials.items) g.within g.has_reduced_costs grid.conserved c.requires.balanced c.requires.near
     (record { right = c.split_off.new.self; down = c.in_ok-down.down }) flows c.in_ok-faces.faces.items faces))

@@ -10,7 +10,7 @@ pub overflow_add-result : goal.overflow_add-result
 overflow_add-result c =
     let below = rw c.in-Some.is at c.place_below.ensures in
     let place = (below.found c.in-Some.place refl).0 in
-    omega (arith, place, few_edges c.args.self.now.window c.args.self.now.small)
+    omega (arith, place, few_edges c.args.self.now.window c.args.self.now.limited)
 
 pub returns-in-Some : goal.returns-in-Some
 returns-in-Some c =

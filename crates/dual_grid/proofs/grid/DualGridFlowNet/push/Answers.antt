@@ -6,7 +6,9 @@ use Rattle.flow_network.proofs.CallerLemmas.{conserved-pushed, kept-pushed}
 use Rattle.flow_network.proofs.RoomLemmas.{high-fits, low-fits, room-pushed}
 use Rattle.dual_grid.specs.Layout.{number_or_zero, state_by, weight_in}
 use Rattle.dual_grid.specs.Views.{grid_shape, grid_state}
+use Rattle.dual_grid.specs.Grids.{arc_capacity}
 use Rattle.dual_grid.proofs.ArcLemmas.{arc_below}
+use Rattle.dual_grid.proofs.EdgeLemmas.{capacity_few}
 use Rattle.dual_grid.proofs.FlowLemmas.{flow_after, residual_small}
 use Rattle.dual_grid.proofs.PushLemmas.{pushed_lists, within_after, within_all}
 use Rattle.dual_grid.proofs.ReadLemmas.{read_32}
@@ -18,19 +20,19 @@ flow_after-requires-clause-flow c =
     let g = c.args.self.now in
     let l = arc_below g.window g.steep (weight_in g.weights.items) c.args.arc c.requires.arc in
     let fits : FitsSigned w32 c.index-flow.result.now = search rules in
-    rw (read_32 g.flows.items (c.args.arc / 8) c.index-flow.result.now fits (omega (arith, l, g.fit.by_edge)) c.index-flow.ensures) (within_all g.steep g.weights.items g.flows.items g.within (c.args.arc / 8))
+    rw (read_32 g.flows.items (c.args.arc / 8) c.index-flow.result.now fits (omega (arith, l, g.fit.by_edge)) c.index-flow.ensures) (within_all g.window g.limited g.steep g.weights.items g.flows.items g.within (c.args.arc / 8))
 
 pub flow_after-requires-clause-amount : goal.flow_after-requires-clause-amount
 flow_after-requires-clause-amount c =
     let g = c.args.self.now in
-    let small = residual_small g.steep (weight_in g.weights.items (c.args.arc / 8)) (number_or_zero g.flows.items (c.args.arc / 8)) (c.args.arc % 8) (within_all g.steep g.weights.items g.flows.items g.within (c.args.arc / 8)) in
+    let small = residual_small (arc_capacity g.window) g.steep (weight_in g.weights.items (c.args.arc / 8)) (number_or_zero g.flows.items (c.args.arc / 8)) (c.args.arc % 8) (capacity_few g.window g.limited) (within_all g.window g.limited g.steep g.weights.items g.flows.items g.within (c.args.arc / 8)) in
     let room = c.requires.room in
     omega (arith, small, room)
 
 pub carry-requires-clause-amount : goal.carry-requires-clause-amount
 carry-requires-clause-amount c =
     let g = c.args.self.now in
-    let small = residual_small g.steep (weight_in g.weights.items (c.args.arc / 8)) (number_or_zero g.flows.items (c.args.arc / 8)) (c.args.arc % 8) (within_all g.steep g.weights.items g.flows.items g.within (c.args.arc / 8)) in
+    let small = residual_small (arc_capacity g.window) g.steep (weight_in g.weights.items (c.args.arc / 8)) (number_or_zero g.flows.items (c.args.arc / 8)) (c.args.arc % 8) (capacity_few g.window g.limited) (within_all g.window g.limited g.steep g.weights.items g.flows.items g.within (c.args.arc / 8)) in
     let room = c.requires.room in
     omega (arith, small, room)
 
@@ -61,7 +63,7 @@ flow_written c =
     to_z-of_z w32 c.flow_after.result fits ∙ c.flow_after.ensures
     ∙ ap (λ (q : ℤ). flow_after q (c.args.arc % 8) c.args.amount) (read_32 g.flows.items (c.args.arc / 8) c.index-flow.result.now read (omega (arith, l, g.fit.by_edge)) c.index-flow.ensures)
 
-pushed : (c : goal.After-carry) → IsPushed (grid_shape c.args.self.now) c.args.arc c.args.amount (grid_state c.args.self.now) (state_by c.args.self.now.steep c.args.self.now.weights.items (set c.args.self.now.flows.items (c.args.arc / 8) (to_z w32 (of_z w32 c.flow_after.result))) c.carry.new.values.items c.args.self.now.potentials.items)
+pushed : (c : goal.After-carry) → IsPushed (grid_shape c.args.self.now) c.args.arc c.args.amount (grid_state c.args.self.now) (state_by c.args.self.now.window c.args.self.now.steep c.args.self.now.weights.items (set c.args.self.now.flows.items (c.args.arc / 8) (to_z w32 (of_z w32 c.flow_after.result))) c.carry.new.values.items c.args.self.now.potentials.items)
 pushed c =
     let g = c.args.self.now in
     pushed_lists g.window g.steep g.weights.items g.flows.items g.excesses.items g.potentials.items c.args.arc c.args.amount g.fit g.within g.has_reduced_costs c.requires.arc c.requires.tight c.requires.room
@@ -72,7 +74,7 @@ invariant_of-self c =
     let g = c.args.self.now in
     let moved = pushed c in
     record {
-      small = g.small;
+      limited = g.limited;
       steepness = g.steepness;
       fit = record {
         by_weight = g.fit.by_weight;

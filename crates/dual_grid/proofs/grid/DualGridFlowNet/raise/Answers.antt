@@ -14,7 +14,7 @@ use Rattle.dual_grid.proofs.grid.DualGridFlowNet.raise.Goals.{After-add_each}
 held : (c : After-add_each) → (with_items c.args.self.now.potentials c.add_each.new.values).items ≡ c.add_each.new.values
 held c = with_items_is c.args.self.now.potentials c.add_each.new.values (c.add_each.ensures.length ∙ c.deref_mut.ensures.len)
 
-raised : (c : After-add_each) → IsRaised (grid_shape c.args.self.now) c.args.amounts.now (grid_state c.args.self.now) (state_by c.args.self.now.steep c.args.self.now.weights.items c.args.self.now.flows.items c.args.self.now.excesses.items (with_items c.args.self.now.potentials c.add_each.new.values).items)
+raised : (c : After-add_each) → IsRaised (grid_shape c.args.self.now) c.args.amounts.now (grid_state c.args.self.now) (state_by c.args.self.now.window c.args.self.now.steep c.args.self.now.weights.items c.args.self.now.flows.items c.args.self.now.excesses.items (with_items c.args.self.now.potentials c.add_each.new.values).items)
 raised c =
     let g = c.args.self.now in
     let values = c.add_each.new.values in
@@ -31,7 +31,7 @@ invariant_of-self c =
     let p = (goal.at.invariant_of-self c).After-add_each in
     let moved = raised p in
     record {
-      small = g.small;
+      limited = g.limited;
       steepness = g.steepness;
       fit = record {
         by_weight = g.fit.by_weight;

@@ -2,7 +2,7 @@ use Rattle.std.proofs.Common.{◌∙◌, to_z, of_z, w32, SFits, rules}
 use Rattle.std.proofs.lemmas.Int.{to_z-of_z}
 use Rattle.raster_model.specs.Sums.{right_edge}
 use Rattle.surface_integration.proofs.RiseLemmas.{correction_right, left_near, rise_told, right_gradient, correction_small, below_greatest}
-use Rattle.surface_integration.proofs.cycles.rise_right.Goals as goal
+use Rattle.surface_integration.proofs.rises.rise_right.Goals as goal
 
 pub rise-requires-clause-near : goal.rise-requires-clause-near
 rise-requires-clause-near c =

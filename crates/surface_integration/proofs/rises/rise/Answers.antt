@@ -2,7 +2,7 @@ use Rattle.std.proofs.Common.{arith}
 use Rattle.std.specs.Prelude.{pos, ◌-ℤ◌, int_div}
 use Rattle.std.proofs.lemmas.Int.{ints}
 use Rattle.surface_integration.proofs.RiseLemmas.{difference_fits, quotient_at, quotient_small, rise_fits, rise_is, rise_bounded}
-use Rattle.surface_integration.proofs.cycles.rise.Goals as goal
+use Rattle.surface_integration.proofs.rises.rise.Goals as goal
 
 pub overflow_sub-result-2 : goal.overflow_sub-result-2
 overflow_sub-result-2 c = difference_fits c.args.from c.args.to c.from-2.result c.from.result c.args.gradient (omega (arith, ints)) (omega (arith, ints)) c.requires.near (omega arith) (omega arith)

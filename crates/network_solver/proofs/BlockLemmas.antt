@@ -1,6 +1,6 @@
--- A tile's network is never blocked.
+-- A window's network is never blocked.
 use Rattle.std.proofs.Common.{◌≡◌, ℕ, zero, suc, ◌<◌, sym, refl, ◌∙◌, arith, inl, inr, Bool, true, false, ◌⊎◌, List}
-use Rattle.std.specs.Prelude.{pos, ◌≤ℤ◌, not}
+use Rattle.std.specs.Prelude.{pos, ◌<ℤ◌, not}
 use Rattle.std.proofs.lemmas.Int.{ints}
 use Rattle.std.proofs.lemmas.Bool.{cases_Bool, false≢true, not-true, not-false}
 use Rattle.flow_network.specs.Nets.{Shape, State, HasReducedCosts, tail_of, total_excess}
@@ -8,7 +8,7 @@ use Rattle.shortest_augment.specs.Balance.{IsBlocked, MovesAtMost}
 use Rattle.shortest_augment.proofs.CallerLemmas.{is_in, is_in-contains, contains-is_in, blocked_excess, blocked_outside}
 use Rattle.dual_grid.specs.Answers.{IsNearStart}
 use Rattle.dual_grid.proofs.CallerLemmas.{leads_out}
-use Rattle.tile_solver.specs.Fresh.{CanBeBalanced}
+use Rattle.network_solver.specs.Fresh.{CanBeBalanced}
 use Rattle.sums_and_lists.proofs.Orders.{below_or_at}
 use Rattle.sums_and_lists.specs.Sums.{sum_below, where_true}
 use Rattle.sums_and_lists.proofs.SumLemmas.{sum_below-zeros}
@@ -30,7 +30,7 @@ module _ (begin : ℕ → ℕ) (s : Shape) (f g : State) (fresh : CanBeBalanced 
   near_start a i =
       let m = moved a i in
       let r = fresh.residual a i in
-      let few : total_excess s f ≤ℤ pos 16129 = fresh.few in
+      let few : total_excess s f <ℤ pos s.nodes = fresh.few in
       (omega (arith, ints, m.0, r, few), omega (arith, ints, m.1, r, few))
 
   -- an arc with capacity left leads out of any nodes that hold excess in sum

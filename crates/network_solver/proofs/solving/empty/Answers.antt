@@ -4,14 +4,14 @@ use Rattle.dual_grid.specs.Answers.{IsNearStart}
 use Rattle.dual_grid.specs.Views.{grid_shape, grid_start, grid_state}
 use Rattle.dual_grid.proofs.CallerLemmas.{start_stays}
 use Rattle.flow_network.specs.Nets.{Shape, HasReducedCosts, HasNoExcess}
-use Rattle.tile_solver.proofs.BlockLemmas.{near_start, never_blocked}
-use Rattle.tile_solver.proofs.solving.empty.Goals as goal
-use Rattle.tile_solver.proofs.solving.empty.Goals.{in-Ok, in-Err-Memory}
+use Rattle.network_solver.proofs.BlockLemmas.{near_start, never_blocked}
+use Rattle.network_solver.proofs.solving.empty.Goals as goal
+use Rattle.network_solver.proofs.solving.empty.Goals.{in-Ok, in-Err-Memory}
 
 pub balance-requires-clause-bounded : goal.balance-requires-clause-bounded
 balance-requires-clause-bounded c =
     let small = c.requires.small in
-    let m = mul-le (grid_shape c.args.grid.now).nodes 1048560 16130 1048560 small.few (omega arith) in
+    let m = mul-le (grid_shape c.args.grid.now).nodes 1048560 16777216 1048560 small.few (omega arith) in
     (1048560, record { costs = small.costs; small = omega (arith, m) })
 
 pub unreachable-requires : goal.unreachable-requires

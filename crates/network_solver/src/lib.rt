@@ -1,0 +1,6 @@
+//! Least corrections over any window of a scene's raster, by its network.
+#![tactic(auto)]
+
+mod solving;
+
+pub use crate::solving::network_corrections;

@@ -1,0 +1,222 @@
+use crate::cell::{Cell, FREE, LAKE, OUTSIDE, SEA};
+use crate::waters::{Ground, Waters};
+use raster_model::{Mask, Scene, Terms, wrapped_ramp};
+use std::alloc::{AllocError, Global};
+use std::mem;
+
+/// A pixel of a scene under a mask.
+#[derive(Clone, Copy)]
+struct Pixel {
+    phase: u16,
+    /// The wrapped difference from the pixel on the left.
+    rise: i32,
+    open: bool,
+    ground: Ground,
+}
+
+/// A masked pixel, in place of one that is not there.
+const NOWHERE: Pixel = Pixel {
+    phase: 0,
+    rise: 0,
+    open: false,
+    ground: Ground::Land,
+};
+
+/// The pixels at the right corners of a cell, and the wrapped difference from the upper one to the lower one. At its left
+/// corners they are those of the cell on its left.
+#[derive(Clone, Copy)]
+struct Side {
+    upper: Pixel,
+    lower: Pixel,
+    rise: i32,
+}
+
+/// A block, and two rows of pixels with which it is made.
+#[derive(Drop)]
+pub(crate) struct Block {
+    pub(crate) cells: Vec<Cell>,
+    above: Vec<Pixel>,
+    here: Vec<Pixel>,
+}
+
+impl Block {
+    /// A block without cells.
+    pub(crate) fn new(alloc: Global) -> Block {
+        Block {
+            cells: Vec::new(alloc),
+            above: Vec::new(alloc),
+            here: Vec::new(alloc),
+        }
+    }
+
+    /// Makes the block from the pixel (`x`, `y`) on, with nothing solved, and lists its cells with something to send or to
+    /// be sent. The cell at a pixel is the one whose lower right corner the pixel is, so in the first row and in the first
+    /// column of the raster there are places that are no cells. The first row and the first column of the block are outside.
+    pub(crate) fn build(
+        &mut self,
+        scene: &Scene,
+        mask: &Mask,
+        waters: &Waters,
+        (x, y): (u32, u32),
+        (across, along): (u32, u32),
+        listed: &mut Vec<u32>,
+    ) -> Result<(), AllocError> {
+        self.cells.clear();
+        listed.clear();
+        let before = y.wrapping_sub(1);
+        load(scene, mask, waters, (x, before), across, &mut self.above)?;
+        for row in 0..along {
+            let y = y.wrapping_add(row);
+            load(scene, mask, waters, (x, y), across, &mut self.here)?;
+            self.build_row(scene, (x, y), row == 0)?;
+            if row > 0 {
+                self.list_row(row.wrapping_mul(across), across, listed)?;
+            }
+            mem::swap(&mut self.above, &mut self.here);
+        }
+        Ok(())
+    }
+
+    /// Adds the cells of a row, from the pixel (`x`, `y`) on. All of them are outside, or the first.
+    fn build_row(
+        &mut self,
+        scene: &Scene,
+        (x, y): (u32, u32),
+        outside: bool,
+    ) -> Result<(), AllocError> {
+        let width = scene.phase.width;
+        let from_above = row(&scene.edges.down, y.wrapping_sub(1), width);
+        let from_left = row(&scene.edges.right, y, width.wrapping_sub(1));
+        let mut x = x;
+        let mut left = self.side(0, scene.terms);
+        for column in 1..self.here.len() {
+            let right = self.side(column, scene.terms);
+            let weights = [
+                number_at(from_above, x),
+                number_at(from_left, x.wrapping_sub(1)),
+            ];
+            let inner = x > 0 && y > 0;
+            let mut cell = cell_of(left, right, weights, inner);
+            if cell.step == FREE && (outside || column == 1) {
+                cell.step = OUTSIDE;
+            }
+            self.cells.push(cell)?;
+            left = right;
+            x = x.wrapping_add(1);
+        }
+        Ok(())
+    }
+
+    /// The pixels in a column of the two rows.
+    #[inline(always)]
+    fn side(&self, column: usize, terms: Terms) -> Side {
+        let upper = self.above.get(column).copied().unwrap_or(NOWHERE);
+        let lower = self.here.get(column).copied().unwrap_or(NOWHERE);
+        Side {
+            upper,
+            lower,
+            rise: wrapped_ramp(upper.phase, lower.phase, terms.slope(true)),
+        }
+    }
+
+    /// Lists the cells of a row with something to send or to be sent. `first` is the place of its first cell.
+    fn list_row(&self, first: u32, across: u32, listed: &mut Vec<u32>) -> Result<(), AllocError> {
+        for column in 0..across {
+            let place = first.wrapping_add(column);
+            if let Some(cell) = self.cells.get(place as usize) {
+                if cell.excess != 0 && cell.step == FREE {
+                    listed.push(place)?;
+                }
+            }
+        }
+        Ok(())
+    }
+}
+
+/// Loads a row of pixels: the one on the left of the pixel (`x`, `y`), and as many as `across` tells from that on.
+fn load(
+    scene: &Scene,
+    mask: &Mask,
+    waters: &Waters,
+    (x, y): (u32, u32),
+    across: u32,
+    pixels: &mut Vec<Pixel>,
+) -> Result<(), AllocError> {
+    let phases = row(&scene.phase.samples, y, scene.phase.width);
+    let slope = scene.terms.slope(false);
+    let mut x = x.wrapping_sub(1);
+    let mut left: u16 = 0;
+    pixels.clear();
+    for _ in 0..across.wrapping_add(1) {
+        let phase = number_at(phases, x);
+        pixels.push(Pixel {
+            phase,
+            rise: wrapped_ramp(left, phase, slope),
+            open: x < mask.width() && y < mask.height() && mask.is_open(x, y),
+            ground: waters.ground(x, y),
+        })?;
+        left = phase;
+        x = x.wrapping_add(1);
+    }
+    Ok(())
+}
+
+/// A row of a list in row order, or nothing if the list is too short.
+fn row(list: &[u16], y: u32, width: u32) -> &[u16] {
+    let first = y.wrapping_mul(width) as usize;
+    list.get(first..first + width as usize).unwrap_or(&[])
+}
+
+/// A number of a list, or 0 if there is none.
+#[inline(always)]
+fn number_at(list: &[u16], place: u32) -> u16 {
+    list.get(place as usize).copied().unwrap_or(0)
+}
+
+/// The cell between two sides. `weights` are those of the edges at its lower right corner, from above and from the left,
+/// before the mask. It has no residue if it is no inner cell of the raster.
+#[inline(always)]
+fn cell_of(left: Side, right: Side, weights: [u16; 2], inner: bool) -> Cell {
+    let [right_weight, down_weight] = weights;
+    let residue = right
+        .upper
+        .rise
+        .wrapping_add(right.rise)
+        .wrapping_sub(right.lower.rise)
+        .wrapping_sub(left.rise)
+        / 65536;
+    Cell {
+        height: 0,
+        excess: if inner { residue } else { 0 },
+        flows: [0; 2],
+        weights: [
+            open_weight(right.upper, right.lower, right_weight),
+            open_weight(left.lower, right.lower, down_weight),
+        ],
+        step: if inner {
+            step_of([left.upper, left.lower, right.upper, right.lower])
+        } else {
+            FREE
+        },
+    }
+}
+
+/// The weight of an edge between two pixels: 0 if one is masked.
+#[inline(always)]
+fn open_weight(from: Pixel, to: Pixel, weight: u16) -> u16 {
+    if from.open && to.open { weight } else { 0 }
+}
+
+/// What is held in place of a step of an inner cell with these corners.
+#[inline(always)]
+fn step_of(corners: [Pixel; 4]) -> u8 {
+    let mut step = FREE;
+    for corner in corners {
+        match corner.ground {
+            Ground::Sea => step = SEA,
+            Ground::Lake => step = LAKE,
+            Ground::Land | Ground::Pond => {}
+        }
+    }
+    step
+}

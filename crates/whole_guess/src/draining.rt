@@ -1,0 +1,156 @@
+use crate::cell::{
+    Cell, DOWN, FREE, LAKE, LEFT, OUTSIDE, RIGHT, ROOT, SEA, UP, cell_at, crossing_of, push,
+};
+use crate::forest::Forest;
+use crate::stop::Stop;
+use crate::waters::Waters;
+use raster_model::Scene;
+use std::alloc::{AllocError, Global};
+
+/// Balances the lakes and the sea, where all other cells are balanced. What a lake has to send is gathered in one of its
+/// cells, at no cost, and then balanced over the whole. What has reached the sea flows on to the border, at no cost.
+pub(crate) fn drain(
+    alloc: Global,
+    scene: &Scene,
+    waters: &Waters,
+    cells: &mut [Cell],
+) -> Result<(), Stop> {
+    let greatest = u32::from(scene.weights.maxval);
+    let mut forest = Forest::new(alloc, scene.terms.steep, greatest)?;
+    forest.set_stride(scene.phase.width);
+    if waters.has_lakes {
+        forest.fill_lakes(cells)?;
+        forest.balance(cells)?;
+    }
+    if waters.has_sea {
+        forest.members.clear();
+        forest.find_mouths(cells, scene.phase.height)?;
+        forest.follow_waters(cells, SEA)?;
+        forest.pour_all(cells, OUTSIDE);
+    }
+    Ok(())
+}
+
+impl Forest {
+    /// Takes all lakes from the outside, and lists the cells in which what they have to send is gathered.
+    fn fill_lakes(&mut self, cells: &mut [Cell]) -> Result<(), AllocError> {
+        self.listed.clear();
+        let mut place: u32 = 0;
+        for _ in 0..cells.len() {
+            if cell_at(cells, place).step == LAKE {
+                self.fill_lake(cells, place)?;
+            }
+            place = place.wrapping_add(1);
+        }
+        Ok(())
+    }
+
+    /// Takes the lake of a cell from the outside, gathers in the cell what the lake has to send, and lists it.
+    fn fill_lake(&mut self, cells: &mut [Cell], root: u32) -> Result<(), AllocError> {
+        self.members.clear();
+        self.members.push(root)?;
+        if let Some(cell) = cells.get_mut(root as usize) {
+            cell.step = ROOT;
+        }
+        self.follow_waters(cells, LAKE)?;
+        self.pour_all(cells, FREE);
+        self.listed.push(root)?;
+        Ok(())
+    }
+
+    /// Lists the cells of the sea at the border from which flow goes outside.
+    fn find_mouths(&mut self, cells: &mut [Cell], height: u32) -> Result<(), AllocError> {
+        let last = height.wrapping_sub(1).wrapping_mul(self.stride);
+        for x in 1..self.stride {
+            self.open_mouth(cells, self.stride.wrapping_add(x), UP)?;
+            self.open_mouth(cells, last.wrapping_add(x), DOWN)?;
+        }
+        for y in 1..height {
+            let first = y.wrapping_mul(self.stride);
+            self.open_mouth(cells, first.wrapping_add(1), LEFT)?;
+            self.open_mouth(
+                cells,
+                first.wrapping_add(self.stride).wrapping_sub(1),
+                RIGHT,
+            )?;
+        }
+        Ok(())
+    }
+
+    /// Lists a cell, if it belongs to the sea and flow goes outside from it in a direction at no cost.
+    fn open_mouth(
+        &mut self,
+        cells: &mut [Cell],
+        place: u32,
+        direction: u8,
+    ) -> Result<(), AllocError> {
+        let outside = cell_at(cells, self.head(place, direction));
+        let Some(cell) = cells.get_mut(place as usize) else {
+            return Ok(());
+        };
+        if cell.step == SEA && crossing_of::<1>(cell, &outside, direction).weight == 0 {
+            cell.step = direction;
+            self.members.push(place)?;
+        }
+        Ok(())
+    }
+
+    /// Lists all cells of a kind from which flow comes to the listed ones at no cost, each after the one to which it flows.
+    fn follow_waters(&mut self, cells: &mut [Cell], kind: u8) -> Result<(), AllocError> {
+        for index in 0..cells.len() {
+            let Some(place) = self.members.get(index).copied() else {
+                break;
+            };
+            self.follow_water(cells, place, RIGHT, kind)?;
+            self.follow_water(cells, place, LEFT, kind)?;
+            self.follow_water(cells, place, DOWN, kind)?;
+            self.follow_water(cells, place, UP, kind)?;
+        }
+        Ok(())
+    }
+
+    /// Lists the cell to which an arc leads, if it is of a kind and flow comes from it at no cost.
+    fn follow_water(
+        &mut self,
+        cells: &mut [Cell],
+        place: u32,
+        direction: u8,
+        kind: u8,
+    ) -> Result<(), AllocError> {
+        let tail = cell_at(cells, place);
+        let next = self.head(place, direction);
+        let Some(head) = cells.get_mut(next as usize) else {
+            return Ok(());
+        };
+        if head.step == kind && crossing_of::<1>(&tail, head, direction).weight == 0 {
+            head.step = direction ^ 1;
+            self.members.push(next)?;
+        }
+        Ok(())
+    }
+
+    /// Lets what the listed cells have to send flow on by their steps, from the last on. Then each step is `after`.
+    fn pour_all(&mut self, cells: &mut [Cell], after: u8) {
+        for _ in 0..cells.len() {
+            let Some(place) = self.members.pop() else {
+                return;
+            };
+            self.pour(cells, place, after);
+        }
+    }
+
+    /// Lets what a cell has to send flow on by its step, unless it is a root.
+    fn pour(&self, cells: &mut [Cell], place: u32, after: u8) {
+        let gained = self.gain(cells, place);
+        let Some(cell) = cells.get_mut(place as usize) else {
+            return;
+        };
+        let step = cell.step;
+        let amount = cell.excess.wrapping_add(gained);
+        cell.step = after;
+        cell.excess = if step == ROOT { amount } else { 0 };
+        if step < ROOT {
+            push::<1>(cells, place, self.head(place, step), step, amount);
+        }
+    }
+}

@@ -1,0 +1,188 @@
+use crate::cell::{Cell, DOWN, FREE, LEFT, RIGHT, UP, cell_at, crossing_of};
+use crate::queue::Queue;
+use crate::stop::Stop;
+use std::alloc::{AllocError, Global};
+
+/// No potential and no time may pass this.
+const LIMIT: u32 = 1 << 30;
+
+/// How trees grow in a list of cells: rows of `stride` cells, of which the first row and the first cell of each row are
+/// outside, as is what lies beyond the list.
+#[derive(Drop)]
+pub(crate) struct Forest {
+    /// How many cells a row has.
+    pub(crate) stride: u32,
+    /// For each direction, how far a cell's number is from that of the cell to which its arc leads.
+    offsets: [u32; 4],
+    /// How many times as much as the first unit across an edge each further one costs.
+    pub(crate) steep: i32,
+    /// The arcs that may join cells to trees.
+    pub(crate) queue: Queue,
+    /// Cells of a tree that is taken apart.
+    pub(crate) members: Vec<u32>,
+    /// Cells with something to send or to be sent.
+    pub(crate) listed: Vec<u32>,
+}
+
+impl Forest {
+    /// A forest with no tree. No edge has a weight above `greatest`.
+    pub(crate) fn new(alloc: Global, steep: u32, greatest: u32) -> Result<Forest, AllocError> {
+        Ok(Forest {
+            stride: 1,
+            offsets: [0; 4],
+            steep: steep.cast_signed(),
+            queue: Queue::new(alloc, steep.wrapping_mul(greatest).wrapping_mul(2))?,
+            members: Vec::new(alloc),
+            listed: Vec::new(alloc),
+        })
+    }
+
+    /// Sets how many cells a row has.
+    pub(crate) fn set_stride(&mut self, stride: u32) {
+        self.stride = stride;
+        self.offsets = [1, u32::MAX, stride, stride.wrapping_neg()];
+    }
+
+    /// The cell to which an arc leads.
+    #[inline(always)]
+    pub(crate) fn head(&self, tail: u32, direction: u8) -> u32 {
+        tail.wrapping_add(self.offsets.get(direction as usize).copied().unwrap_or(0))
+    }
+
+    /// The time at which an arc joins its head to its tail's tree. Potentials and flows are taken times `SIGN`.
+    #[inline(always)]
+    pub(crate) fn due<const SIGN: i32>(&self, tail: &Cell, head: &Cell, direction: u8) -> i32 {
+        let fall = tail.height.wrapping_sub(head.height).wrapping_mul(SIGN);
+        crossing_of::<SIGN>(tail, head, direction)
+            .cost(self.steep)
+            .wrapping_add(fall)
+    }
+
+    /// Joins a cell to a tree by the step to its parent, and queues the arcs out of it.
+    #[inline(always)]
+    pub(crate) fn attach<const SIGN: i32>(
+        &mut self,
+        cells: &mut [Cell],
+        place: u32,
+        step: u8,
+        time: i32,
+    ) -> Result<(), Stop> {
+        let Some(cell) = cells.get_mut(place as usize) else {
+            return Ok(());
+        };
+        cell.height = cell.height.wrapping_add(time.wrapping_mul(SIGN));
+        cell.step = step;
+        let joined = *cell;
+        if joined.height.unsigned_abs() >= LIMIT {
+            return Err(Stop::GivenUp);
+        }
+        self.offer::<SIGN>(cells, &joined, place, RIGHT)?;
+        self.offer::<SIGN>(cells, &joined, place, LEFT)?;
+        self.offer::<SIGN>(cells, &joined, place, DOWN)?;
+        self.offer::<SIGN>(cells, &joined, place, UP)?;
+        Ok(())
+    }
+
+    /// Queues an arc out of a tree, unless its head is in a tree.
+    #[inline(always)]
+    pub(crate) fn offer<const SIGN: i32>(
+        &mut self,
+        cells: &[Cell],
+        tail: &Cell,
+        place: u32,
+        direction: u8,
+    ) -> Result<(), AllocError> {
+        let head = cell_at(cells, self.head(place, direction));
+        if head.is_in_tree() {
+            return Ok(());
+        }
+        let time = self.due::<SIGN>(tail, &head, direction);
+        self.queue.put(time, arc_of(place, direction))
+    }
+
+    /// Takes a cell and all that hangs below it out of its tree, and queues the arcs from trees into what left.
+    pub(crate) fn dissolve<const SIGN: i32>(
+        &mut self,
+        cells: &mut [Cell],
+        top: u32,
+        time: i32,
+    ) -> Result<(), AllocError> {
+        self.members.clear();
+        self.members.push(top)?;
+        for index in 0..cells.len() {
+            let Some(place) = self.members.get(index).copied() else {
+                break;
+            };
+            self.leave::<SIGN>(cells, place, time)?;
+        }
+        for index in 0..self.members.len() {
+            let place = self.members.get(index).copied().unwrap_or(0);
+            self.invite::<SIGN>(cells, place)?;
+        }
+        Ok(())
+    }
+
+    /// Takes a cell out of its tree, and lists those that hang on it.
+    fn leave<const SIGN: i32>(
+        &mut self,
+        cells: &mut [Cell],
+        place: u32,
+        time: i32,
+    ) -> Result<(), AllocError> {
+        if let Some(cell) = cells.get_mut(place as usize) {
+            cell.height = cell.height.wrapping_sub(time.wrapping_mul(SIGN));
+            cell.step = FREE;
+        }
+        self.list_child(cells, place, RIGHT)?;
+        self.list_child(cells, place, LEFT)?;
+        self.list_child(cells, place, DOWN)?;
+        self.list_child(cells, place, UP)
+    }
+
+    /// Lists the cell to which an arc leads, if it hangs on the arc's tail.
+    #[inline(always)]
+    fn list_child(&mut self, cells: &[Cell], place: u32, direction: u8) -> Result<(), AllocError> {
+        let child = self.head(place, direction);
+        if cell_at(cells, child).step == direction ^ 1 {
+            self.members.push(child)?;
+        }
+        Ok(())
+    }
+
+    /// Queues the arcs from trees into a cell that is in none.
+    pub(crate) fn invite<const SIGN: i32>(
+        &mut self,
+        cells: &[Cell],
+        place: u32,
+    ) -> Result<(), AllocError> {
+        let head = cell_at(cells, place);
+        self.accept::<SIGN>(cells, &head, place, RIGHT)?;
+        self.accept::<SIGN>(cells, &head, place, LEFT)?;
+        self.accept::<SIGN>(cells, &head, place, DOWN)?;
+        self.accept::<SIGN>(cells, &head, place, UP)
+    }
+
+    /// Queues the reverse of an arc out of a cell that is in no tree, if it leads out of one.
+    #[inline(always)]
+    fn accept<const SIGN: i32>(
+        &mut self,
+        cells: &[Cell],
+        head: &Cell,
+        place: u32,
+        direction: u8,
+    ) -> Result<(), AllocError> {
+        let from = self.head(place, direction);
+        let tail = cell_at(cells, from);
+        if tail.is_in_tree() {
+            let time = self.due::<SIGN>(&tail, head, direction ^ 1);
+            self.queue.put(time, arc_of(from, direction ^ 1))?;
+        }
+        Ok(())
+    }
+}
+
+/// The number of an arc.
+#[inline(always)]
+pub(crate) fn arc_of(tail: u32, direction: u8) -> u32 {
+    tail.wrapping_mul(4).wrapping_add(u32::from(direction))
+}

@@ -1,0 +1,169 @@
+use crate::cell::{Cell, FREE, ROOT, cell_at, crossing_of, push};
+use crate::forest::Forest;
+use crate::queue::Event;
+use crate::stop::Stop;
+
+/// A way that flow takes: from a root along its tree to `tail`, and then along an arc.
+#[derive(Clone, Copy)]
+struct Way {
+    tail: u32,
+    head: u32,
+    direction: u8,
+}
+
+impl Forest {
+    /// Sends what the listed cells have to send, times `SIGN`, to those that lack it and outside.
+    pub(crate) fn grow<const SIGN: i32>(&mut self, cells: &mut [Cell]) -> Result<(), Stop> {
+        self.queue.clear();
+        let mut left = self.plant::<SIGN>(cells)?;
+        for _ in 0..u64::MAX {
+            if left == 0 {
+                return Ok(());
+            }
+            let Some(event) = self.queue.take()? else {
+                return Err(Stop::GivenUp);
+            };
+            if self.follow::<SIGN>(cells, event)? {
+                left = left.wrapping_sub(1);
+            }
+        }
+        Err(Stop::GivenUp)
+    }
+
+    /// Makes each listed cell with something to send a tree of its own. The result is how many there are.
+    fn plant<const SIGN: i32>(&mut self, cells: &mut [Cell]) -> Result<u32, Stop> {
+        let mut planted: u32 = 0;
+        for index in 0..self.listed.len() {
+            let place = self.listed.get(index).copied().unwrap_or(0);
+            let cell = cell_at(cells, place);
+            if cell.step == FREE && cell.excess.wrapping_mul(SIGN) > 0 {
+                planted = planted.wrapping_add(1);
+                self.attach::<SIGN>(cells, place, ROOT, 0)?;
+            }
+        }
+        Ok(planted)
+    }
+
+    /// Follows an arc whose time has come, unless it leads from no tree, into a tree, or at another time. The result is
+    /// whether a root has nothing left to send.
+    #[inline(always)]
+    fn follow<const SIGN: i32>(&mut self, cells: &mut [Cell], event: Event) -> Result<bool, Stop> {
+        let place = event.arc / 4;
+        let direction = (event.arc % 4) as u8;
+        let next = self.head(place, direction);
+        let head = cell_at(cells, next);
+        let tail = cell_at(cells, place);
+        if head.is_in_tree() || !tail.is_in_tree() {
+            return Ok(false);
+        }
+        if self.due::<SIGN>(&tail, &head, direction) != event.time {
+            return Ok(false);
+        }
+        if head.step == FREE && head.excess.wrapping_mul(SIGN) >= 0 {
+            self.attach::<SIGN>(cells, next, direction ^ 1, event.time)?;
+            return Ok(false);
+        }
+        let way = Way {
+            tail: place,
+            head: next,
+            direction,
+        };
+        self.send::<SIGN>(cells, way, event.time)
+    }
+
+    /// Sends as much as can be sent along a way. The result is whether its root has nothing left to send.
+    fn send<const SIGN: i32>(
+        &mut self,
+        cells: &mut [Cell],
+        way: Way,
+        time: i32,
+    ) -> Result<bool, Stop> {
+        let (root, most) = self.measure::<SIGN>(cells, way);
+        self.push_along::<SIGN>(cells, way, most);
+        if let Some(cell) = cells.get_mut(way.head as usize) {
+            if cell.step == FREE {
+                cell.excess = cell.excess.wrapping_add(most.wrapping_mul(SIGN));
+            }
+        }
+        let Some(cell) = cells.get_mut(root as usize) else {
+            return Err(Stop::GivenUp);
+        };
+        cell.excess = cell.excess.wrapping_sub(most.wrapping_mul(SIGN));
+        if cell.excess == 0 {
+            self.dissolve::<SIGN>(cells, root, time)?;
+            return Ok(true);
+        }
+        if let Some(top) = self.filled::<SIGN>(cells, way.tail) {
+            self.dissolve::<SIGN>(cells, top, time)?;
+        }
+        let tail = cell_at(cells, way.tail);
+        if tail.is_in_tree() {
+            self.offer::<SIGN>(cells, &tail, way.tail, way.direction)?;
+        }
+        Ok(false)
+    }
+
+    /// The root of a way, and how much can be sent along it.
+    fn measure<const SIGN: i32>(&self, cells: &[Cell], way: Way) -> (u32, i32) {
+        let head = cell_at(cells, way.head);
+        let mut tail = cell_at(cells, way.tail);
+        let mut most = if head.step == FREE {
+            head.excess.wrapping_mul(SIGN).wrapping_neg()
+        } else {
+            i32::MAX
+        };
+        most = most.min(self.room::<SIGN>(&tail, &head, way.direction));
+        let mut place = way.tail;
+        for _ in 0..cells.len() {
+            if tail.step >= ROOT {
+                break;
+            }
+            let parent = self.head(place, tail.step);
+            let above = cell_at(cells, parent);
+            most = most.min(self.room::<SIGN>(&above, &tail, tail.step ^ 1));
+            place = parent;
+            tail = above;
+        }
+        (place, most.min(tail.excess.wrapping_mul(SIGN)))
+    }
+
+    /// How much can be sent along an arc at the cost of the first unit.
+    fn room<const SIGN: i32>(&self, tail: &Cell, head: &Cell, direction: u8) -> i32 {
+        crossing_of::<SIGN>(tail, head, direction).room(self.steep)
+    }
+
+    /// Adds to what flows along each arc of a way.
+    fn push_along<const SIGN: i32>(&self, cells: &mut [Cell], way: Way, amount: i32) {
+        push::<SIGN>(cells, way.tail, way.head, way.direction, amount);
+        let mut place = way.tail;
+        for _ in 0..cells.len() {
+            let step = cell_at(cells, place).step;
+            if step >= ROOT {
+                break;
+            }
+            let parent = self.head(place, step);
+            push::<SIGN>(cells, parent, place, step ^ 1, amount);
+            place = parent;
+        }
+    }
+
+    /// The cell below the arc nearest to the root, on the branch that ends with `place`, along which no more can be sent.
+    fn filled<const SIGN: i32>(&self, cells: &[Cell], place: u32) -> Option<u32> {
+        let mut found = None;
+        let mut place = place;
+        let mut cell = cell_at(cells, place);
+        for _ in 0..cells.len() {
+            if cell.step >= ROOT {
+                break;
+            }
+            let parent = self.head(place, cell.step);
+            let above = cell_at(cells, parent);
+            if self.due::<SIGN>(&above, &cell, cell.step ^ 1) != 0 {
+                found = Some(place);
+            }
+            place = parent;
+            cell = above;
+        }
+        found
+    }
+}

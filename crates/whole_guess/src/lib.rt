@@ -1,0 +1,17 @@
+//! A fast guess at the surface of the whole raster that costs least, and at the faces that certify it. It promises only
+//! that it returns, so its caller checks what it answers.
+#![tactic(auto)]
+
+mod building;
+mod cell;
+mod draining;
+mod forest;
+mod growing;
+mod guess;
+mod integrating;
+mod levels;
+mod queue;
+mod stop;
+mod waters;
+
+pub use crate::guess::{Guess, guess_whole};

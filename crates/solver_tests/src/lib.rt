@@ -11,3 +11,5 @@ mod reading;
 mod steep_rows;
 #[cfg(test)]
 mod tile_rows;
+#[cfg(test)]
+mod whole_rows;

@@ -1,0 +1,5 @@
+pub mod Anchors
+pub mod Places
+pub mod RightLemmas
+pub mod Shifts
+pub mod WholeLemmas

@@ -1,0 +1,96 @@
+ghost use Rattle.raster_model.specs.Masks.{open_at};
+ghost use Rattle.raster_model.specs.Raster.{lifted};
+ghost use Rattle.raster_model.specs.Scene.{raster_of};
+ghost use Rattle.raster_model.specs.Seams.{IsAnchored};
+ghost use Rattle.std.specs.Prelude.{◌≡◌, ◌*◌, IfNone, IfSome, IsTrue, length};
+ghost use Rattle.whole_solver.specs.Cycles.{AreSmallCycles, whole_cycles};
+ghost use Rattle.whole_solver.specs.Results.{AreRight, IsGoodWhole};
+
+use crate::result::WholeResult;
+use certificates::check_whole;
+use raster_model::{Heights, Mask, Scene, first_open};
+
+/// The greatest absolute number of cycles that a result may have at a pixel.
+const MAX_CYCLES: u64 = 70_368_744_177_664;
+
+/// The result with these cycles and faces, if they are right: a number of cycles for each pixel, none of them too great and
+/// 0 at the first open pixel, and faces that certify their surface.
+pub(crate) fn certified(
+    scene: &Scene,
+    mask: &Mask,
+    cycles: Vec<i64>,
+    faces: Vec<i64>,
+) -> Option<WholeResult>
+    requires same_size { (mask.now.width ≡ scene.now.phase.width) × (mask.now.height ≡ scene.now.phase.height) }
+    ensures found { IfSome result (IsGoodWhole scene.now (open_at mask.now)) }
+    ensures none { IfNone result (AreRight scene.now (open_at mask.now) cycles.items faces.items → ⊥) }
+{
+    let pixels = scene.phase.width as usize * scene.phase.height as usize;
+    if cycles.len() != pixels {
+        return None;
+    }
+    if !are_small(&cycles) {
+        return None;
+    }
+    let solved = WholeResult {
+        width: scene.phase.width,
+        cost: 0,
+        cycles,
+        faces,
+    };
+    judged(scene, mask, solved)
+}
+
+/// A result with its cost, if it is anchored and its faces certify it.
+fn judged(scene: &Scene, mask: &Mask, solved: WholeResult) -> Option<WholeResult>
+    requires same_size { (mask.now.width ≡ scene.now.phase.width) × (mask.now.height ≡ scene.now.phase.height) }
+    requires width { solved.width ≡ scene.now.phase.width }
+    requires count { length solved.cycles.items ≡ scene.now.phase.width * scene.now.phase.height }
+    ensures found { IfSome result (IsGoodWhole scene.now (open_at mask.now)) }
+    ensures none { IfNone result (AreRight scene.now (open_at mask.now) solved.cycles.items solved.faces.items → ⊥) }
+{
+    if !is_anchored(scene, mask, &solved) {
+        return None;
+    }
+    let Ok(cost) = check_whole(scene, mask, &solved, &solved.faces) else {
+        return None;
+    };
+    let WholeResult {
+        width,
+        cycles,
+        faces,
+        ..
+    } = solved;
+    Some(WholeResult {
+        width,
+        cost,
+        cycles,
+        faces,
+    })
+}
+
+/// Whether no cycles are too great. The loop does not stop at the first that are, so that several can be judged at once.
+pub(crate) fn are_small(cycles: &[i64]) -> bool
+    ensures known { IsTrue result → AreSmallCycles cycles.now }
+    ensures all { AreSmallCycles cycles.now → IsTrue result }
+{
+    let mut outside = false;
+    for place in 0..cycles.len() {
+        outside |= cycles[place].unsigned_abs() > MAX_CYCLES;
+    }
+    !outside
+}
+
+/// Whether the cycles at the first open pixel, if there is one, are 0.
+pub(crate) fn is_anchored(scene: &Scene, mask: &Mask, solved: &WholeResult) -> bool
+    requires same_size { (mask.now.width ≡ scene.now.phase.width) × (mask.now.height ≡ scene.now.phase.height) }
+    requires width { solved.now.width ≡ scene.now.phase.width }
+    requires count { length solved.now.cycles.items ≡ scene.now.phase.width * scene.now.phase.height }
+    ensures known { IsTrue result → IsAnchored (raster_of scene.now) (open_at mask.now) (lifted (raster_of scene.now) (whole_cycles scene.now.phase.width solved.now.cycles.items)) }
+    ensures all { IsAnchored (raster_of scene.now) (open_at mask.now) (lifted (raster_of scene.now) (whole_cycles scene.now.phase.width solved.now.cycles.items)) → IsTrue result }
+{
+    match first_open(scene, mask) {
+        Some((x, y)) => solved.cycles(x, y) == 0,
+        None => true,
+    }
+}

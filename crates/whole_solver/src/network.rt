@@ -1,0 +1,72 @@
+ghost use Rattle.dual_grid.specs.Starts.{TellsMask};
+ghost use Rattle.raster_model.specs.Masks.{open_at};
+ghost use Rattle.raster_model.specs.Scene.{raster_of};
+ghost use Rattle.std.specs.Prelude.{◌≡◌, ◌*◌, ◌^◌, IfOk, length, pos, vec_len};
+ghost use Rattle.surface_integration.specs.Cycles.{LieWithin, cycles_at};
+ghost use Rattle.whole_raster.specs.Whole.{IsCertifiedWhole};
+ghost use Rattle.whole_solver.specs.Solved.{listed_surface, raster_window as window_of_raster};
+
+use network_solver::network_corrections;
+use raster_model::{Mask, Scene, Window};
+use std::alloc::{AllocError, Global};
+use surface_integration::integrate_wide;
+use wrapped_gradient::Gradients;
+
+/// A surface over the whole raster, with the faces that certify it.
+#[derive(Drop)]
+pub(crate) struct WholeSurface {
+    /// Whole cycles above the phase, one number for each pixel in row order.
+    pub(crate) cycles: Vec<i64>,
+    /// The faces of the raster's cells in row order. A raster one pixel wide or high has none.
+    pub(crate) faces: Vec<i64>,
+}
+
+/// Solves the whole raster of a scene as one tile, by its network. The mask has the scene's size. The faces certify the
+/// surface, so no congruent surface costs less. The first pixel has 0 cycles, and none has more than 2^44. It fails only
+/// for lack of memory. (Costantini 1998.)
+pub(crate) fn solve_by_network(
+    alloc: Global,
+    scene: &Scene,
+    mask: &Mask,
+) -> Result<WholeSurface, AllocError>
+    requires across { mask.now.width ≡ scene.now.phase.width }
+    requires along { mask.now.height ≡ scene.now.phase.height }
+    ensures count { IfOk result (λ solved. vec_len solved.cycles ≡ scene.now.phase.width * scene.now.phase.height) }
+    ensures first { IfOk result (λ solved. cycles_at (window_of_raster scene.now) solved.cycles.items 0 0 ≡ pos 0) }
+    ensures certified { IfOk result (λ solved. IsCertifiedWhole (raster_of scene.now) (open_at mask.now) (listed_surface scene.now solved.cycles.items) solved.faces.items) }
+    ensures within { IfOk result (λ solved. LieWithin (window_of_raster scene.now) (cycles_at (window_of_raster scene.now) solved.cycles.items) (2 ^ 44)) }
+{
+    let gradients = Gradients::of(alloc, scene, raster_window(scene))?;
+    let unmasked = open_pixels(alloc, scene, mask)?;
+    let (corrections, faces) = network_corrections(alloc, scene, &gradients, &unmasked)?;
+    let cycles = integrate_wide(alloc, scene, &gradients, &corrections)?;
+    Ok(WholeSurface { cycles, faces })
+}
+
+/// The window of the whole raster.
+fn raster_window(scene: &Scene) -> Window
+    ensures { result ≡ window_of_raster scene.now }
+{
+    Window {
+        x0: 0,
+        y0: 0,
+        x1: scene.phase.width - 1,
+        y1: scene.phase.height - 1,
+    }
+}
+
+/// For each pixel in row order, whether it is open.
+fn open_pixels(alloc: Global, scene: &Scene, mask: &Mask) -> Result<Vec<bool>, AllocError>
+    requires across { mask.now.width ≡ scene.now.phase.width }
+    requires along { mask.now.height ≡ scene.now.phase.height }
+    ensures count { IfOk result (λ list. length list.items ≡ scene.now.phase.width * scene.now.phase.height) }
+    ensures told { IfOk result (λ list. TellsMask (window_of_raster scene.now) list.items (open_at mask.now)) }
+{
+    let width = scene.phase.width;
+    let pixels = width * scene.phase.height;
+    let mut list = Vec::with_capacity(alloc, pixels as usize)?;
+    for place in 0..pixels {
+        list.push(mask.is_open(place % width, place / width))?;
+    }
+    Ok(list)
+}

@@ -1,0 +1,62 @@
+ghost use Rattle.raster_model.specs.Masks.{open_at};
+ghost use Rattle.std.specs.Prelude.{◌≡◌, IfOk};
+ghost use Rattle.whole_solver.specs.Results.{IsGoodWhole};
+
+use crate::anchoring::anchored;
+use crate::judging::certified;
+use crate::network::{WholeSurface, solve_by_network};
+use crate::result::WholeResult;
+use raster_model::{Mask, Scene};
+use std::alloc::{AllocError, Global};
+use std::thread::Threads;
+use whole_guess::{Guess, guess_whole};
+
+/// Solves the whole raster of a scene as one tile. The surface is congruent under the mask, has the phase at the first open
+/// pixel in row order, and no congruent surface costs less over all edges; its faces prove that. It fails only for lack of
+/// memory. At most `workers` threads work at once, but at least one does. (Costantini 1998.)
+pub fn solve_whole<R: Threads + Sync>(
+    rt: &R,
+    alloc: Global,
+    scene: &Scene,
+    mask: &Mask,
+    workers: u32,
+) -> Result<WholeResult, AllocError>
+    requires same_size { (mask.now.width ≡ scene.now.phase.width) × (mask.now.height ≡ scene.now.phase.height) }
+    ensures good { IfOk result (IsGoodWhole scene.now (open_at mask.now)) }
+{
+    let guess = guess_whole(rt, alloc, scene, mask, workers)?;
+    solve_whole_from(alloc, scene, mask, guess)
+}
+
+/// Solves the whole raster as `solve_whole` does, from a guess. A guess that is certified is taken, and any other is dropped
+/// for the network of the whole raster, so a guess can cost time and nothing else. (McConnell, Mehlhorn, Naeher and
+/// Schweitzer 2011.)
+pub fn solve_whole_from(
+    alloc: Global,
+    scene: &Scene,
+    mask: &Mask,
+    guess: Option<Guess>,
+) -> Result<WholeResult, AllocError>
+    requires same_size { (mask.now.width ≡ scene.now.phase.width) × (mask.now.height ≡ scene.now.phase.height) }
+    ensures good { IfOk result (IsGoodWhole scene.now (open_at mask.now)) }
+{
+    if let Some(guess) = guess {
+        if let Some(solved) = certified(scene, mask, guess.cycles, guess.faces) {
+            return Ok(solved);
+        }
+    }
+    solved_by_network(alloc, scene, mask)
+}
+
+/// Solves the whole raster by its network.
+fn solved_by_network(alloc: Global, scene: &Scene, mask: &Mask) -> Result<WholeResult, AllocError>
+    requires same_size { (mask.now.width ≡ scene.now.phase.width) × (mask.now.height ≡ scene.now.phase.height) }
+    ensures good { IfOk result (IsGoodWhole scene.now (open_at mask.now)) }
+{
+    let WholeSurface { cycles, faces } = solve_by_network(alloc, scene, mask)?;
+    let cycles = anchored(scene, mask, cycles);
+    match certified(scene, mask, cycles, faces) {
+        Some(solved) => Ok(solved),
+        None => unreachable!(),
+    }
+}

@@ -158,16 +158,10 @@ fn told(alloc: Global, made: Option<Built>) -> Option<String> {
     }
 }
 
-/// A surface in words that shares what it can with another.
-fn shared(alloc: Global, made: Option<Built>, earlier: Option<Built>) -> Option<String> {
-    let made = made?.ok()?;
-    let earlier = earlier?.ok()?;
-    surface(alloc, &made.sharing(&earlier)).ok()
-}
-
-/// What is built of results, offsets and flows, or why nothing is.
+/// What is built of results, offsets and flows beside an earlier surface, or why nothing is.
 fn built(
     alloc: Global,
+    earlier: Option<&Snapshot>,
     session: Arc<Session>,
     tiles: TileSet,
     offsets: &[i64],
@@ -179,12 +173,13 @@ fn built(
     let seams = seams(alloc, offsets, flows)?;
     let mask = session.first_mask.try_copy(alloc)?;
     let regions = Regions::of(alloc, &session.scene.tiling, &mask)?;
-    Snapshot::build(alloc, session, mask, regions, tiles, seams)
+    Snapshot::build_beside(alloc, earlier, session, mask, regions, tiles, seams)
 }
 
 /// The same for samples of phases, weights and mask, and for two tiles' numbers.
 fn sampled_surface(
     alloc: Global,
+    earlier: Option<&Snapshot>,
     tiling: Tiling,
     samples: [&[u16]; 3],
     tiles: [Solved; 2],
@@ -197,17 +192,30 @@ fn sampled_surface(
         return None;
     };
     let tiles = results(alloc, &session, tiles)?;
-    Some(built(alloc, session, tiles, offsets, flows))
+    Some(built(alloc, earlier, session, tiles, offsets, flows))
 }
 
 /// The same for the two tiles of `0 0 0 0 / 0 0 0 20000 / 0 0 0 40000`. Across the seam, whose edges weigh 4, 4 and
 /// 9, the phase rises by 0, 20000 and 40000, of which the last is more than half a cycle.
-fn columns(alloc: Global, offsets: &[i64], flows: &[i64]) -> Option<Built> {
+fn columns(
+    alloc: Global,
+    earlier: Option<&Snapshot>,
+    offsets: &[i64],
+    flows: &[i64],
+) -> Option<Built> {
     let phases = [0, 0, 0, 0, 0, 0, 0, 20000, 0, 0, 0, 40000];
     let weights = [4, 4, 4, 4, 4, 4, 4, 4, 9, 9, 9, 9];
     let samples: [&[u16]; 3] = [&phases, &weights, &[1; 12]];
     let tiles: [Solved; 2] = [(&[0; 9], &[0; 4]), (&[0; 3], &[])];
-    sampled_surface(alloc, Tiling::new(4, 3, 3), samples, tiles, offsets, flows)
+    sampled_surface(
+        alloc,
+        earlier,
+        Tiling::new(4, 3, 3),
+        samples,
+        tiles,
+        offsets,
+        flows,
+    )
 }
 
 /// Flows that certify the second tile a cycle lower.
@@ -248,7 +256,7 @@ const ROWS: [(&[i64], &[i64], &str); 10] = [
 fn a_snapshot_is_built_or_its_first_break_is_told(rt: HostRuntime) {
     for (offsets, flows, wanted) in ROWS {
         assert_eq!(rt;
-            told(rt.alloc(), columns(rt.alloc(), offsets, flows)).as_deref(),
+            told(rt.alloc(), columns(rt.alloc(), None, offsets, flows)).as_deref(),
             Some(wanted)
         );
     }
@@ -258,7 +266,15 @@ fn a_snapshot_is_built_or_its_first_break_is_told(rt: HostRuntime) {
 fn line(alloc: Global) -> Option<Built> {
     let samples: [&[u16]; 3] = [&[100, 200, 300], &[9, 5, 7], &[0, 1, 1]];
     let tiles: [Solved; 2] = [(&[9_000_000, 3], &[]), (&[-2], &[])];
-    sampled_surface(alloc, Tiling::new(3, 1, 2), samples, tiles, &[-3, 2], &[0])
+    sampled_surface(
+        alloc,
+        None,
+        Tiling::new(3, 1, 2),
+        samples,
+        tiles,
+        &[-3, 2],
+        &[0],
+    )
 }
 
 #[test]
@@ -268,11 +284,12 @@ fn a_masked_pixel_has_no_value(rt: HostRuntime) {
 }
 
 /// Two tiles, `100 _ 300` and `400`, of which the first has a masked pixel and so two regions.
-fn gap(alloc: Global) -> Option<Built> {
+fn gap(alloc: Global, earlier: Option<&Snapshot>) -> Option<Built> {
     let samples: [&[u16]; 3] = [&[100, 200, 300, 400], &[9, 5, 7, 4], &[1, 0, 1, 1]];
     let tiles: [Solved; 2] = [(&[0, 9_000_000, 5], &[]), (&[-2], &[])];
     sampled_surface(
         alloc,
+        earlier,
         Tiling::new(4, 1, 3),
         samples,
         tiles,
@@ -284,20 +301,28 @@ fn gap(alloc: Global) -> Option<Built> {
 #[test]
 fn each_region_of_a_tile_has_its_offset(rt: HostRuntime) {
     let wanted = "7 (0, 0) 100 by 0, N, 131372 by 2, 131472 by 2, [0] []";
-    assert_eq!(rt; told(rt.alloc(), gap(rt.alloc())).as_deref(), Some(wanted));
+    assert_eq!(rt;
+        told(rt.alloc(), gap(rt.alloc(), None)).as_deref(),
+        Some(wanted)
+    );
 }
 
-/// The surface of the two tiles that was told first in `ROWS`, which shares what it can with the same one, built
-/// again.
+/// The surface of the two tiles that was told first in `ROWS`, built beside the same one, and what shares it.
 fn shared_columns(alloc: Global) -> Option<String> {
-    let earlier = columns(alloc, &[0, -1], FLOWS);
-    shared(alloc, columns(alloc, &[0, -1], FLOWS), earlier)
+    let earlier = columns(alloc, None, &[0, -1], FLOWS)?.ok()?;
+    let made = columns(alloc, Some(&earlier), &[0, -1], FLOWS)?.ok()?;
+    surface(alloc, &made.share().ok()?).ok()
+}
+
+/// The surface with the gap, built beside the line.
+fn gap_beside_line(alloc: Global) -> Option<String> {
+    let earlier = line(alloc)?.ok()?;
+    told(alloc, gap(alloc, Some(&earlier)))
 }
 
 #[test]
 fn a_surface_that_shares_with_another_reads_the_same(rt: HostRuntime) {
-    let alone = told(rt.alloc(), gap(rt.alloc()));
-    let with_line = shared(rt.alloc(), gap(rt.alloc()), line(rt.alloc()));
-    assert_eq!(rt; with_line.as_deref(), alone.as_deref());
+    let alone = told(rt.alloc(), gap(rt.alloc(), None));
+    assert_eq!(rt; gap_beside_line(rt.alloc()).as_deref(), alone.as_deref());
     assert_eq!(rt; shared_columns(rt.alloc()).as_deref(), Some(ROWS[0].2));
 }

@@ -8,3 +8,4 @@ pub mod Runs
 pub mod Packing
 pub mod Tiled
 pub mod Kept
+pub mod Surfaces

@@ -14,6 +14,7 @@ mod packing;
 mod runs;
 mod shifted;
 mod snapshot;
+mod surface;
 mod tiled;
 mod windows;
 

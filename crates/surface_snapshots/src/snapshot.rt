@@ -1,21 +1,16 @@
 ghost use Rattle.raster_model.specs.Masks.{open_at};
-ghost use Rattle.seam_regions.specs.Offsets.{AreNear};
 ghost use Rattle.std.specs.Arc.{arc_value};
 ghost use Rattle.std.specs.Prelude.{◌≡◌, ◌<◌, ◌≤◌, ◌+◌, ◌^◌, ◌+ℤ◌, ◌*ℤ◌, length, pos, unsigned_abs};
-ghost use Rattle.surface_snapshots.specs.Loops.{GoTogether};
-ghost use Rattle.surface_snapshots.specs.Kept.{parts_kept};
 ghost use Rattle.surface_snapshots.specs.Parts.{HaveCosts, IsPublished, parts_from};
-ghost use Rattle.surface_snapshots.specs.Tiled.{mask_told, regions_in};
+ghost use Rattle.surface_snapshots.specs.Surfaces.{parts_in};
 
-use crate::costs::certified_costs;
 use crate::fault::BuildFault;
-use crate::flows::{shared_flows, to_share};
 use crate::shifted::{NO_CYCLES, ShiftedTiles};
-use crate::tiled::TiledRegions;
+use crate::surface::Surface;
 use certificates::{SeamResult, TileSet};
 use raster_model::{Heights, Mask, Session};
 use seam_regions::Regions;
-use std::alloc::Global;
+use std::alloc::{AllocError, Global};
 use std::sync::Arc;
 
 /// The value that lies this many whole cycles above a phase, in units of 1/65536 cycle.
@@ -30,21 +25,9 @@ fn level(sample: u16, cycles: i64) -> i64
 /// A published surface: the surface of a revision of the mask, with the numbers that certify it.
 #[derive(Drop)]
 pub struct Snapshot {
-    session: Arc<Session>,
-    regions: TiledRegions,
-    tiles: TileSet,
-    revision: u32,
-    offsets: Vec<i64>,
-    flows: Arc<Vec<i64>>,
-    tile_cost: u128,
-    seam_cost: u128,
-    ghost together: { GoTogether (arc_value session).scene (mask_told (regions_in regions)) (regions_in regions) tiles.results },
-    ghost tiling: { tiles.tiling ≡ (arc_value session).scene.tiling },
-    ghost places: { regions.tiling ≡ (arc_value session).scene.tiling },
-    ghost count: { length offsets.items ≡ (regions_in regions).count },
-    ghost near: { AreNear offsets.items },
-    pub ghost published: { IsPublished (parts_kept (arc_value session) (regions_in regions) tiles revision offsets.items (arc_value flows).items) },
-    pub ghost costs: { HaveCosts (parts_kept (arc_value session) (regions_in regions) tiles revision offsets.items (arc_value flows).items) tile_cost seam_cost },
+    surface: Arc<Surface>,
+    pub ghost published: { IsPublished (parts_in (arc_value surface)) },
+    pub ghost costs: { HaveCosts (parts_in (arc_value surface)) (arc_value surface).tile_cost (arc_value surface).seam_cost },
 }
 
 impl Heights for Snapshot {
@@ -106,71 +89,90 @@ impl Snapshot {
         ensures best { IfOk result (λ made. IsBest (raster_in (parts_of made)) (open_in (parts_of made)) (surface_in (parts_of made))) }
         ensures refused { IfErr result (IsFault (parts_from (arc_value session) mask regions tiles seams)) }
     {
-        let certified = certified_costs(alloc, &session, &mask, &regions, &tiles, &seams)?;
-        let costs = certified.costs;
-        let flows = to_share(alloc, seams.flows)?;
+        Snapshot::build_beside(alloc, None, session, mask, regions, tiles, seams)
+    }
+
+    /// The same beside an earlier snapshot, if there is one. What the new one keeps of a tile's regions, and its flows,
+    /// are shared with the earlier one, if that has the same.
+    pub fn build_beside(
+        alloc: Global,
+        earlier: Option<&Snapshot>,
+        session: Arc<Session>,
+        mask: Mask,
+        regions: Regions,
+        tiles: TileSet,
+        seams: SeamResult,
+    ) -> Result<Snapshot, BuildFault>
+        requires across { mask.width ≡ (arc_value session).scene.phase.width }
+        requires along { mask.height ≡ (arc_value session).scene.phase.height }
+        requires tiling { tiles.tiling ≡ (arc_value session).scene.tiling }
+        requires tiles { AreGoodTiles (arc_value session).scene (open_at mask) tiles.results }
+        requires regions { AreRegionsOf (arc_value session).scene.tiling mask regions }
+        ensures parts { IfOk result (λ made. parts_of made ≡ parts_from (arc_value session) mask regions tiles seams) }
+        ensures certified { IfOk result (λ made. IsPartsVerdict (parts_of made) Good) }
+        ensures anchored { IfOk result (λ made. IsAnchored (raster_in (parts_of made)) (open_in (parts_of made)) (surface_in (parts_of made))) }
+        ensures best { IfOk result (λ made. IsBest (raster_in (parts_of made)) (open_in (parts_of made)) (surface_in (parts_of made))) }
+        ensures refused { IfErr result (IsFault (parts_from (arc_value session) mask regions tiles seams)) }
+    {
+        let beside = match earlier {
+            Some(snapshot) => Some(&*snapshot.surface),
+            None => None,
+        };
+        let surface = Surface::build(alloc, beside, session, mask, regions, tiles, seams)?;
+        Ok(Snapshot::of(alloc, surface)?)
+    }
+
+    /// The snapshot of a surface.
+    fn of(alloc: Global, surface: Surface) -> Result<Snapshot, AllocError>
+        ensures { IfOk result (λ made. parts_of made ≡ parts_in surface) }
+    {
         Ok(Snapshot {
-            session,
-            regions: certified.regions,
-            tiles,
-            revision: seams.revision,
-            offsets: seams.offsets,
-            flows,
-            tile_cost: costs.tiles,
-            seam_cost: costs.seams,
+            surface: Arc::new(alloc, surface)?,
         })
     }
 
-    /// The same snapshot. What it keeps of a tile's regions, and its flows, are shared with an earlier one, if that has
-    /// the same.
-    pub fn sharing(self, earlier: &Snapshot) -> Snapshot
-        ensures { parts_of result ≡ parts_of self }
+    /// The same snapshot. Both share all that they have. It fails only if too many share it.
+    pub fn share(&self) -> Result<Snapshot, AllocError>
+        ensures { IfOk result (λ shared. parts_of shared ≡ parts_of self.now) }
     {
-        Snapshot {
-            session: self.session,
-            regions: self.regions.sharing(&earlier.regions),
-            tiles: self.tiles,
-            revision: self.revision,
-            offsets: self.offsets,
-            flows: shared_flows(self.flows, &earlier.flows),
-            tile_cost: self.tile_cost,
-            seam_cost: self.seam_cost,
-        }
+        Ok(Snapshot {
+            surface: self.surface.clone()?,
+        })
     }
 
     /// Pixels in a row.
     pub fn width(&self) -> u32
         ensures { result ≡ (parts_of self.now).session.scene.phase.width }
     {
-        self.session.scene.phase.width
+        self.surface.session.scene.phase.width
     }
 
     /// Rows.
     pub fn height(&self) -> u32
         ensures { result ≡ (parts_of self.now).session.scene.phase.height }
     {
-        self.session.scene.phase.height
+        self.surface.session.scene.phase.height
     }
 
     /// The revision of the mask.
     pub fn revision(&self) -> u32
         ensures { result ≡ (parts_of self.now).seams.revision }
     {
-        self.revision
+        self.surface.revision
     }
 
     /// What all tiles cost together. (Costantini 1998.)
     pub fn tile_cost(&self) -> u128
         ensures { pos result ≡ tile_costs (raster_in (parts_of self.now)) (open_in (parts_of self.now)) (surface_in (parts_of self.now)) }
     {
-        self.tile_cost
+        self.surface.tile_cost
     }
 
     /// What the seams cost. (Chen and Zebker 2002.)
     pub fn seam_cost(&self) -> u128
         ensures { pos result ≡ seam_cost_of (raster_in (parts_of self.now)) (open_in (parts_of self.now)) (surface_in (parts_of self.now)) }
     {
-        self.seam_cost
+        self.surface.seam_cost
     }
 
     /// The faces that certify the surface in a tile, one for each of its cells in row order.
@@ -178,14 +180,14 @@ impl Snapshot {
         requires { tile < tiles_of (parts_of self.now).session.scene.tiling }
         ensures { result.now ≡ faces_in (parts_of self.now) tile }
     {
-        &self.tiles.tile(tile).faces
+        &self.surface.tiles.tile(tile).faces
     }
 
     /// The flows that certify the surface at its seams, one for each seam edge in edge order.
     pub fn flows(&self) -> &[i64]
         ensures { result.now ≡ flows_in (parts_of self.now) }
     {
-        &self.flows
+        &self.surface.flows
     }
 
     /// The surface's value at a pixel, in units of 1/65536 cycle; None exactly if the pixel is masked.
@@ -195,10 +197,10 @@ impl Snapshot {
         ensures value { result ≡ value_in (parts_of self.now) x y }
         ensures small { IfSome result (λ value. unsigned_abs value < 2 ^ 63) }
     {
-        if !self.regions.is_open(x, y) {
+        if !self.surface.regions.is_open(x, y) {
             return None;
         }
-        let sample = self.session.scene.phase.sample(x, y);
+        let sample = self.surface.session.scene.phase.sample(x, y);
         Some(level(sample, self.shifted().at(x, y)))
     }
 
@@ -226,21 +228,22 @@ impl Snapshot {
         if cycles == NO_CYCLES {
             return masked;
         }
-        level(self.session.scene.phase.sample(x, y), cycles)
+        level(self.surface.session.scene.phase.sample(x, y), cycles)
     }
 
     /// The tiles' results with the offsets of the regions.
     fn shifted(&self) -> ShiftedTiles<'_>
-        ensures scene { result.scene.now ≡ (arc_value self.now.session).scene }
-        ensures regions { result.regions.now ≡ self.now.regions }
-        ensures tiles { result.tiles.now ≡ self.now.tiles }
-        ensures offsets { result.offsets.now ≡ self.now.offsets.items }
+        ensures scene { result.scene.now ≡ (arc_value (arc_value self.now.surface).session).scene }
+        ensures regions { result.regions.now ≡ (arc_value self.now.surface).regions }
+        ensures tiles { result.tiles.now ≡ (arc_value self.now.surface).tiles }
+        ensures offsets { result.offsets.now ≡ (arc_value self.now.surface).offsets.items }
     {
+        let surface = &*self.surface;
         ShiftedTiles {
-            scene: &self.session.scene,
-            regions: &self.regions,
-            tiles: &self.tiles,
-            offsets: &self.offsets,
+            scene: &surface.session.scene,
+            regions: &surface.regions,
+            tiles: &surface.tiles,
+            offsets: &surface.offsets,
         }
     }
 }

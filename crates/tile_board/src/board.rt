@@ -422,18 +422,8 @@ impl Board {
         ensures refused { IfErr result (HasSurfaceFault self.now seams) }
     {
         let session = self.session.clone()?;
-        let snapshot = Snapshot::build(alloc, session, mask, regions, tiles, seams)?;
-        Ok(self.shared(snapshot))
-    }
-
-    /// The same surface, which shares with the last published one what both keep of a tile, and equal flows.
-    fn shared(&self, snapshot: Snapshot) -> Snapshot
-        ensures { parts_of result ≡ parts_of snapshot }
-    {
-        match self.snapshots.last() {
-            Some(earlier) => snapshot.sharing(earlier),
-            None => snapshot,
-        }
+        let earlier = self.snapshots.last();
+        Ok(Snapshot::build_beside(alloc, earlier, session, mask, regions, tiles, seams)?)
     }
 
     /// Adds a surface that may be published, and its entry. It fails only for lack of memory.

@@ -1,8 +1,5 @@
 use Rattle.std.proofs.Common.{◌≡◌, ◌∙◌, ap, sym, subst}
 use Rattle.std.specs.Arc.{arc_value}
-use Rattle.certificates.specs.declared.verdicts.SeamVerdict.TheVariants.{Good}
-use Rattle.surface_snapshots.specs.Parts.{Parts}
-use Rattle.surface_snapshots.specs.Verdicts.{IsPartsVerdict}
 use Rattle.surface_snapshots.specs.Views.{parts_of}
 use Rattle.tile_board.specs.BoardView.{BoardView}
 use Rattle.tile_board.specs.Calls.{ArePublishable}
@@ -11,20 +8,20 @@ use Rattle.tile_board.proofs.ListLemmas.{err_is}
 use Rattle.tile_board.proofs.PublishLemmas.{built_cause, good_over, parts_are, surface_is}
 use Rattle.tile_board.proofs.board.Board.build.Goals as goal
 
-pub build-requires-clause-tiles : goal.build-requires-clause-tiles
-build-requires-clause-tiles c =
+pub build_beside-requires-clause-tiles : goal.build_beside-requires-clause-tiles
+build_beside-requires-clause-tiles c =
     let mask = rw (← c.self.view_is) at c.requires.mask in
     let tiles = rw (← c.self.view_is) at c.requires.tiles in
     rw c.in_ok-session.ensures.cases (good_over c.self.invariant c.args.mask c.args.tiles mask tiles)
 
-pub returns-in_err-snapshot-clause-refused : goal.returns-in_err-snapshot-clause-refused
-returns-in_err-snapshot-clause-refused c =
+pub returns-in_err-build_beside-clause-refused : goal.returns-in_err-build_beside-clause-refused
+returns-in_err-build_beside-clause-refused c =
     let v = c.args.self.now in
     let s = arc_value c.in_ok-session.session in
     let same : s ≡ v.session = c.in_ok-session.ensures.cases ∙ ap (λ (v : BoardView). v.session) c.self.view_is in
     let parts = parts_are v s c.args.mask c.args.regions c.args.tiles c.args.seams same c.requires.mask c.requires.regions c.requires.tiles in
-    let f = c.in_err-snapshot.field-0.0 in
-    err_is c.from_residual-in_err-snapshot.result (building_cause f) _ c.from_residual-in_err-snapshot.ensures.1 (built_cause v c.args.seams _ f c.requires.ready parts c.in_err-snapshot.ensures.refused)
+    let f = c.in_err-build_beside.field-0.0 in
+    err_is c.from_residual-in_err-build_beside.result (building_cause f) _ c.from_residual-in_err-build_beside.ensures.1 (built_cause v c.args.seams _ f c.requires.ready parts c.in_err-build_beside.ensures.refused)
 
 pub returns-clause-parts : goal.returns-clause-parts
 returns-clause-parts c =
@@ -32,11 +29,11 @@ returns-clause-parts c =
     let s = arc_value c.in_ok-session.session in
     let same : s ≡ v.session = c.in_ok-session.ensures.cases ∙ ap (λ (v : BoardView). v.session) c.self.view_is in
     let parts = parts_are v s c.args.mask c.args.regions c.args.tiles c.args.seams same c.requires.mask c.requires.regions c.requires.tiles in
-    subst (ArePublishable v c.args.seams) (sym (c.shared.ensures ∙ c.in_ok-snapshot.ensures.parts)) parts
+    subst (ArePublishable v c.args.seams) (sym c.in_ok-build_beside.ensures.parts) parts
 
 pub returns-clause-surface : goal.returns-clause-surface
 returns-clause-surface c =
     let parts = rw (← c.self.view_is) at (returns-clause-parts c) in
     let present = rw (← c.self.view_is) at c.requires.present in
-    let verdict : IsPartsVerdict (parts_of c.shared.result) Good = subst (λ (p : Parts). IsPartsVerdict p Good) (sym c.shared.ensures) c.in_ok-snapshot.ensures.certified in
-    rw (← c.self.view_is) (surface_is c.self.invariant c.args.seams (parts_of c.shared.result) parts present c.shared.result.published verdict)
+    let made = c.in_ok-build_beside.field-0 in
+    rw (← c.self.view_is) (surface_is c.self.invariant c.args.seams (parts_of made) parts present made.published c.in_ok-build_beside.ensures.certified)

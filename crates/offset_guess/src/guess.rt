@@ -1,6 +1,10 @@
-use crate::joining::beyond;
+use crate::answers::{Outcome, flows, offsets, outcomes};
+use crate::blocks::Order;
+use crate::joints::Joint;
+use crate::layout::Layout;
 use crate::link::Link;
-use crate::network::{Bundle, NONE, Network};
+use crate::network::Network;
+use crate::tracing::{Traced, trace};
 use std::alloc::{AllocError, Global};
 
 /// An offset for each region in whole cycles, and a flow for each link from its first region to the other.
@@ -10,107 +14,78 @@ pub struct Guess {
     pub flows: Vec<i64>,
 }
 
-/// Guesses offsets of so many regions under which their links cost least, and flows that certify them; None is a seam edge
-/// with a masked end, whose flow is 0. Nothing is promised of them; for links between different regions they are found right
-/// in every test. It is refused for lack of memory alone.
+/// Guesses offsets of the regions of a raster, of which there are so many, under which their links cost least, and flows that
+/// certify them. `links` has one for each seam edge in edge order; None is an edge with a masked end, whose flow is 0. Nothing is
+/// promised of them; they are found right in every test. It is refused for lack of memory alone.
 ///
 /// A link costs its weight for the first cycle by which it departs, and `steep` times as much for each further one.
-/// Links between two regions that ask for the same difference of offsets are one bundle, and the bundles between two
-/// regions one arc each way, whose cost rises as bundles are filled. Offsets begin as the links of a tree ask, and each
-/// region moves to where its own seams cost least. What then still flows goes from regions with excess to those with a
-/// deficit, along arcs of reduced cost 0 over as few of them as can be; if none reaches one, the offsets of the regions from
-/// which flow does are raised (Ahuja, Magnanti and Orlin 1993, "Network Flows", sections 7.5, 9.8 and 14.5).
+/// The network is that of the cells: a node is a cell where seams meet, and a stretch of a seam from one to the next is an arc
+/// each way, on which a unit is a cycle of its two regions' offsets. Nothing flows where a stretch's links cost least. What the
+/// nodes then have too much of goes to others with a deficit along trees that grow in time, first within blocks of tiles,
+/// and then within larger ones. (Costantini 1998; Ahuja, Magnanti and Orlin 1993, "Network Flows", sections 9.8 and 14.5.)
 pub fn guess_offsets(
     alloc: Global,
+    layout: Layout<'_>,
     regions: u32,
     steep: u32,
     links: &[Option<Link>],
 ) -> Result<Guess, AllocError> {
-    let mut network = Network::new(alloc, regions)?;
-    let bundles = join_all(alloc, &mut network, steep, links)?;
-    network.span(alloc)?;
-    network.sweep();
-    network.start();
-    network.balance(alloc)?;
+    let (joint_of, mut outcomes) = solve(alloc, layout, steep, links)?;
     Ok(Guess {
-        offsets: network.offsets(alloc)?,
-        flows: shared_flows(alloc, &mut network, steep, links, &bundles)?,
+        offsets: offsets(alloc, regions, links, &joint_of, &outcomes)?,
+        flows: flows(alloc, links, &joint_of, &mut outcomes, steep)?,
     })
 }
 
-/// Adds all links, and lists the bundle of each.
-fn join_all(
-    alloc: Global,
-    network: &mut Network,
-    steep: u32,
-    links: &[Option<Link>],
-) -> Result<Vec<u32>, AllocError> {
-    let mut bundles = Vec::with_capacity(alloc, links.len())?;
-    for link in links {
-        let bundle = match link {
-            Some(link) => network.join(*link, steep)?,
-            None => NONE,
-        };
-        bundles.push(bundle)?;
-    }
-    Ok(bundles)
+/// What is known of the network before it has costs.
+#[derive(Drop)]
+struct Plan {
+    nodes: u32,
+    joints: Vec<Joint>,
+    /// The joint of each link.
+    joint_of: Vec<u32>,
+    order: Order,
 }
 
-/// The flows of the links: each takes of its bundle's flow what it can carry.
-fn shared_flows(
-    alloc: Global,
-    network: &mut Network,
-    steep: u32,
-    links: &[Option<Link>],
-    bundles: &[u32],
-) -> Result<Vec<i64>, AllocError> {
-    let mut flows = Vec::with_capacity(alloc, links.len())?;
-    for (link, bundle) in links.iter().zip(bundles) {
-        let flow = match link {
-            Some(link) => network.share(*link, steep, *bundle),
-            None => 0,
-        };
-        flows.push(flow)?;
+/// The plan of a raster with so many links.
+fn planned(alloc: Global, layout: Layout<'_>, links: usize) -> Result<Plan, AllocError> {
+    let Traced {
+        mut spots,
+        mut joints,
+        joint_of,
+        ..
+    } = trace(alloc, layout, links)?;
+    for joint in &mut joints {
+        joint.settle_ends(&mut spots);
     }
-    Ok(flows)
+    let across = layout.tile(layout.width.wrapping_sub(1));
+    let along = layout.tile(layout.height.wrapping_sub(1));
+    let order = Order::of(alloc, &mut spots, across, along)?;
+    Ok(Plan {
+        nodes: spots.count(),
+        joints,
+        joint_of,
+        order,
+    })
 }
 
-impl Network {
-    /// Takes a link's flow out of those of the bundles that it is in.
-    fn share(&mut self, link: Link, steep: u32, bundle: u32) -> i64 {
-        let weight = i64::from(link.weight);
-        let mut share = self.take(bundle, weight, weight);
-        if steep > 1 {
-            let more = beyond(link, steep);
-            let Bundle { below, above, .. } = self.bundle(bundle);
-            share = share.wrapping_add(self.take(above, 0, more));
-            share = share.wrapping_add(self.take(below, more, 0));
-        }
-        if link.from < link.to {
-            share
-        } else {
-            share.wrapping_neg()
-        }
-    }
-
-    /// Takes as much out of a bundle's flow as a link can carry, to the region of the lower number and to that of the higher.
-    fn take(&mut self, bundle: u32, low: i64, high: i64) -> i64 {
-        match self.bundles.get_mut(bundle as usize) {
-            Some(bundle) => {
-                let share = bundle.flow.min(high).max(low.wrapping_neg());
-                bundle.flow = bundle.flow.wrapping_sub(share);
-                share
-            }
-            None => 0,
-        }
-    }
-
-    /// The offsets of the regions.
-    fn offsets(&self, alloc: Global) -> Result<Vec<i64>, AllocError> {
-        let mut offsets = Vec::with_capacity(alloc, self.regions.len())?;
-        for region in &self.regions {
-            offsets.push(region.offset)?;
-        }
-        Ok(offsets)
-    }
+/// The joint of each link, and what came out for each joint.
+fn solve(
+    alloc: Global,
+    layout: Layout<'_>,
+    steep: u32,
+    links: &[Option<Link>],
+) -> Result<(Vec<u32>, Vec<Outcome>), AllocError> {
+    let plan = planned(alloc, layout, links.len())?;
+    let Plan {
+        nodes,
+        joints,
+        joint_of,
+        order,
+    } = plan;
+    let mut network = Network::new(alloc, nodes, joints, &joint_of, links, steep)?;
+    network.balance(&order)?;
+    let Network { nodes, joints, .. } = network;
+    let outcomes = outcomes(alloc, &nodes, &joints)?;
+    Ok((joint_of, outcomes))
 }

@@ -2,16 +2,22 @@
 //! it returns: who asks for a guess checks it.
 #![tactic(auto)]
 
-mod arcs;
-mod balancing;
-mod draining;
+mod answers;
+mod blocks;
+mod costs;
+mod growing;
 mod guess;
-mod joining;
-mod levels;
+mod heights;
+mod joints;
+mod layout;
 mod link;
 mod network;
-mod offsets;
-mod starting;
+mod pushing;
+mod releasing;
+mod spots;
+mod tracing;
+mod waiting;
 
 pub use crate::guess::{Guess, guess_offsets};
+pub use crate::layout::Layout;
 pub use crate::link::Link;

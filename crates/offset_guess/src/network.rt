@@ -1,61 +1,63 @@
+use crate::joints::{Joint, NO_JOINT, NO_STEP, Step};
+use crate::link::Link;
+use crate::waiting::Waiting;
 use std::alloc::{AllocError, Global};
 
-/// No region, joint, bundle or arc.
+/// No node, joint or arc.
 pub(crate) const NONE: u32 = u32::MAX;
 
-/// What the links of two regions can carry that changes at one difference of their offsets. A link that departs nowhere
-/// at a difference carries up to its weight there, either way. If costs are steep, it can carry more: to the region of the
-/// higher number above the next higher difference, and back below the next lower one.
-#[derive(Clone, Copy)]
-pub(crate) struct Bundle {
-    /// That difference: the offset of the region of the higher number, less that of the other.
-    pub(crate) rise: i64,
-    /// How much can flow to the region of the lower number, and to that of the higher.
-    pub(crate) low: i64,
-    pub(crate) high: i64,
-    /// What flows to the region of the higher number, from `-low` to `high`.
-    pub(crate) flow: i64,
-    /// The bundles of the same two regions with the next lower and the next higher rise.
-    pub(crate) below: u32,
-    pub(crate) above: u32,
-}
+/// In place of the joint by which a node joined its tree: the node is held back, in no tree, or a root.
+pub(crate) const HELD: u32 = u32::MAX;
 
-/// The arc of a joint, from one of its regions to the other: what its next bundle asks for, and how much that still takes.
-#[derive(Clone, Copy)]
-pub(crate) struct Way {
-    pub(crate) rise: i64,
-    pub(crate) capacity: i64,
-}
+pub(crate) const FREE: u32 = u32::MAX - 1;
 
-/// Two regions that links join. What flows to the region of the higher number costs more the more it is: bundles below
-/// `present` are full, and those above it carry all that they can the other way.
-#[derive(Clone, Copy)]
-pub(crate) struct Joint {
-    /// The region of the lower number, and that of the higher.
-    pub(crate) low: u32,
-    pub(crate) high: u32,
-    /// The next arc out of each.
-    pub(crate) after_low: u32,
-    pub(crate) after_high: u32,
-    /// The arc to the region of the higher number, and the arc back.
-    pub(crate) up: Way,
-    pub(crate) down: Way,
-    /// The bundle where the flow stands; until flow starts, that of the least rise.
-    pub(crate) present: u32,
-}
+pub(crate) const ROOT: u32 = u32::MAX - 2;
 
-/// A region, as a node of the network.
+/// How many arcs are looked at for each joint at most.
+const LOOKS: u64 = 8192;
+
+/// A cell where seams meet or end, cells that masked pixels join, or the outside.
 #[derive(Clone, Copy)]
-pub(crate) struct Region {
-    /// Its offset in cycles, which is its potential.
-    pub(crate) offset: i64,
+pub(crate) struct Node {
+    /// The potential. In a tree the time is added to it.
+    pub(crate) height: i64,
     /// What flows to it, less what flows from it.
     pub(crate) excess: i64,
-    /// The first of the arcs out of it, and the one that is tried next.
+    /// The first of the arcs out of it.
     pub(crate) first: u32,
-    pub(crate) cursor: u32,
-    /// Over how many arcs of reduced cost 0 flow comes to it from a region with excess.
-    pub(crate) level: u32,
+    /// The joint by which it joined its tree, or what it is instead.
+    pub(crate) by: u32,
+}
+
+impl Node {
+    #[inline(always)]
+    pub(crate) fn is_in_tree(&self) -> bool {
+        self.by <= ROOT
+    }
+}
+
+pub(crate) const NO_NODE: Node = Node {
+    height: 0,
+    excess: 0,
+    first: NONE,
+    by: HELD,
+};
+
+/// Nodes, the joints between them, and the trees that grow there. Arcs 2k and 2k + 1 are those of joint k: from its tail to
+/// its head, and back.
+#[derive(Drop)]
+pub(crate) struct Network {
+    pub(crate) nodes: Vec<Node>,
+    pub(crate) joints: Vec<Joint>,
+    pub(crate) steps: Vec<Step>,
+    /// The joints that lead out of trees, by the time when they will let another node join.
+    pub(crate) waiting: Waiting,
+    /// The nodes of the tree that is dissolved.
+    pub(crate) loose: Vec<u32>,
+    /// 0 if trees grow from excess along arcs, 1 if they grow from deficits against them.
+    pub(crate) turn: u32,
+    /// How many more arcs may be looked at.
+    pub(crate) looks: u64,
 }
 
 /// A place in a list as a number, or `NONE` if it is too large.
@@ -63,75 +65,54 @@ pub(crate) fn number(place: usize) -> u32 {
     u32::try_from(place).unwrap_or(NONE)
 }
 
-const NO_BUNDLE: Bundle = Bundle {
-    rise: 0,
-    low: 0,
-    high: 0,
-    flow: 0,
-    below: NONE,
-    above: NONE,
-};
-
-/// A way that takes nothing.
-pub(crate) const CLOSED: Way = Way {
-    rise: 0,
-    capacity: 0,
-};
-
-const NO_JOINT: Joint = Joint {
-    low: NONE,
-    high: NONE,
-    after_low: NONE,
-    after_high: NONE,
-    up: CLOSED,
-    down: CLOSED,
-    present: NONE,
-};
-
-const NO_REGION: Region = Region {
-    offset: 0,
-    excess: 0,
-    first: NONE,
-    cursor: NONE,
-    level: NONE,
-};
-
-/// Regions, the joints between them, and the bundles of these. Arcs 2k and 2k + 1 are those of joint k: from the region of
-/// the lower number to the other, and back.
-#[derive(Drop)]
-pub(crate) struct Network {
-    pub(crate) regions: Vec<Region>,
-    pub(crate) joints: Vec<Joint>,
-    pub(crate) bundles: Vec<Bundle>,
-}
-
-/// The arc the other way.
-#[inline(always)]
-pub(crate) fn twin(arc: u32) -> u32 {
-    arc ^ 1
-}
-
 impl Network {
-    /// So many regions that nothing joins.
-    pub(crate) fn new(alloc: Global, regions: u32) -> Result<Network, AllocError> {
-        Ok(Network {
-            regions: vec![in alloc; NO_REGION; regions as usize]?,
-            joints: Vec::new(alloc),
-            bundles: Vec::new(alloc),
-        })
+    /// The network of so many nodes and these joints, each at the rise at which its links cost least. `joint_of` names the joint of each link.
+    pub(crate) fn new(
+        alloc: Global,
+        nodes: u32,
+        joints: Vec<Joint>,
+        joint_of: &[u32],
+        links: &[Option<Link>],
+        steep: u32,
+    ) -> Result<Network, AllocError> {
+        let count = number(joints.len());
+        let mut network = Network {
+            nodes: vec![in alloc; NO_NODE; nodes as usize]?,
+            joints,
+            steps: Vec::new(alloc),
+            waiting: Waiting::new(alloc, count)?,
+            loose: Vec::new(alloc),
+            turn: 0,
+            looks: (u64::from(count) + 1) * LOOKS,
+        };
+        network.reserve_steps(alloc, joint_of, steep)?;
+        network.add_links(links, joint_of, steep);
+        for joint in 0..count {
+            network.hang(joint);
+            network.start(joint);
+        }
+        Ok(network)
     }
 
-    /// How many regions there are.
-    pub(crate) fn count(&self) -> u32 {
-        number(self.regions.len())
+    /// Puts the arcs of a joint among those out of its nodes.
+    fn hang(&mut self, joint: u32) {
+        let Some(held) = self.joints.get_mut(joint as usize) else {
+            return;
+        };
+        let arc = joint.wrapping_mul(2);
+        if let Some(tail) = self.nodes.get_mut(held.tail as usize) {
+            held.after_tail = tail.first;
+            tail.first = arc;
+        }
+        if let Some(head) = self.nodes.get_mut(held.head as usize) {
+            held.after_head = head.first;
+            head.first = arc.wrapping_add(1);
+        }
     }
 
     #[inline(always)]
-    pub(crate) fn region(&self, region: u32) -> Region {
-        self.regions
-            .get(region as usize)
-            .copied()
-            .unwrap_or(NO_REGION)
+    pub(crate) fn node(&self, node: u32) -> Node {
+        self.nodes.get(node as usize).copied().unwrap_or(NO_NODE)
     }
 
     #[inline(always)]
@@ -140,36 +121,26 @@ impl Network {
     }
 
     #[inline(always)]
-    pub(crate) fn bundle(&self, bundle: u32) -> Bundle {
-        self.bundles
-            .get(bundle as usize)
-            .copied()
-            .unwrap_or(NO_BUNDLE)
+    pub(crate) fn step(&self, step: u32) -> Step {
+        self.steps.get(step as usize).copied().unwrap_or(NO_STEP)
     }
 
-    /// The next arc out of the region that an arc leads out of.
+    /// The next arc out of the node that an arc leads out of.
     #[inline(always)]
     pub(crate) fn next_out(&self, arc: u32) -> u32 {
         let joint = self.joint(arc / 2);
         if arc % 2 == 0 {
-            joint.after_low
+            joint.after_tail
         } else {
-            joint.after_high
+            joint.after_head
         }
     }
 
-    /// The region that an arc leads to.
+    /// The node that an arc leads to.
     #[inline(always)]
     pub(crate) fn head(&self, arc: u32) -> u32 {
         let joint = self.joint(arc / 2);
-        if arc % 2 == 0 { joint.high } else { joint.low }
-    }
-
-    /// The region that an arc leads out of.
-    #[inline(always)]
-    pub(crate) fn tail(&self, arc: u32) -> u32 {
-        let joint = self.joint(arc / 2);
-        if arc % 2 == 0 { joint.low } else { joint.high }
+        if arc % 2 == 0 { joint.head } else { joint.tail }
     }
 
     /// How many arcs there are.
@@ -177,11 +148,20 @@ impl Network {
         number(self.joints.len()).wrapping_mul(2)
     }
 
-    /// Adds to what a region has above what it needs.
+    /// Adds to what a node has above what it needs.
+    pub(crate) fn add_excess(&mut self, node: u32, amount: i64) {
+        if let Some(node) = self.nodes.get_mut(node as usize) {
+            node.excess = node.excess.wrapping_add(amount);
+        }
+    }
+
+    /// A number, with its sign turned if trees grow from deficits.
     #[inline(always)]
-    pub(crate) fn add_excess(&mut self, region: u32, amount: i64) {
-        if let Some(region) = self.regions.get_mut(region as usize) {
-            region.excess = region.excess.wrapping_add(amount);
+    pub(crate) fn turned(&self, number: i64) -> i64 {
+        if self.turn == 0 {
+            number
+        } else {
+            number.wrapping_neg()
         }
     }
 }

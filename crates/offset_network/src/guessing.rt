@@ -9,7 +9,7 @@ ghost use Rattle.std.specs.Prelude.{◌≡◌, IfOk, IfSome, IsTrue, length};
 use crate::shifted::ShiftedSurface;
 use crate::surface::TileSurface;
 use certificates::{SeamResult, SeamVerdict, check_flows};
-use offset_guess::{Guess, Link, guess_offsets};
+use offset_guess::{Guess, Layout, Link, guess_offsets};
 use raster_model::first_open;
 use seam_regions::{Regions, first_far};
 use std::alloc::{AllocError, Global};
@@ -17,15 +17,23 @@ use std::alloc::{AllocError, Global};
 /// The guess that is given, or that of the fast solver.
 pub(crate) fn guess_or_solver(
     alloc: Global,
+    surface: &TileSurface,
     regions: &Regions,
-    steep: u32,
     links: &[Option<Link>],
     guess: Option<Guess>,
 ) -> Result<Guess, AllocError> {
-    match guess {
-        Some(guess) => Ok(guess),
-        None => guess_offsets(alloc, regions.count(), steep, links),
+    if let Some(guess) = guess {
+        return Ok(guess);
     }
+    let tiling = &surface.scene.tiling;
+    let layout = Layout {
+        width: tiling.width,
+        height: tiling.height,
+        side: tiling.side,
+        labels: regions.labels(),
+    };
+    let steep = surface.scene.terms.steep;
+    guess_offsets(alloc, layout, regions.count(), steep, links)
 }
 
 /// The offsets and flows of a guess, if they are found to certify the surface at its seams. A guess promises nothing: all

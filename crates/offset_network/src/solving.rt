@@ -62,7 +62,7 @@ pub fn solve_offsets_from(
 {
     let surface = TileSurface { scene, mask, tiles };
     let links = links(alloc, &surface, regions)?;
-    let guess = guess_or_solver(alloc, regions, scene.terms.steep, &links, guess)?;
+    let guess = guess_or_solver(alloc, &surface, regions, &links, guess)?;
     if let Some(solved) = certified(alloc, &surface, regions, guess, revision)? {
         return Ok(solved);
     }

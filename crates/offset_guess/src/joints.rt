@@ -1,0 +1,71 @@
+use crate::network::NONE;
+use crate::spots::Spots;
+
+/// A stretch of a seam from one node to another, between the same two regions. A unit that flows along it from `tail` to
+/// `head` raises the second region of its links over the first by a cycle.
+#[derive(Clone, Copy)]
+pub(crate) struct Joint {
+    pub(crate) tail: u32,
+    pub(crate) head: u32,
+    /// The next arc out of each.
+    pub(crate) after_tail: u32,
+    pub(crate) after_head: u32,
+    /// The places of its steps: the first, that after the last, and the first whose rise is above the present.
+    pub(crate) first: u32,
+    pub(crate) end: u32,
+    pub(crate) at: u32,
+    /// The offset of the second region less that of the first.
+    pub(crate) rise: i32,
+    /// What the next cycle up costs, and the next one down.
+    pub(crate) up: i64,
+    pub(crate) down: i64,
+}
+
+pub(crate) const NO_JOINT: Joint = Joint {
+    tail: NONE,
+    head: NONE,
+    after_tail: NONE,
+    after_head: NONE,
+    first: 0,
+    end: 0,
+    at: 0,
+    rise: 0,
+    up: 0,
+    down: 0,
+};
+
+/// A joint that begins at a node.
+pub(crate) fn joint_from(node: u32) -> Joint {
+    Joint {
+        tail: node,
+        head: node,
+        ..NO_JOINT
+    }
+}
+
+impl Joint {
+    /// Ends a joint at a node, to which it leads downwards or, if it is level, to the right. Along a level joint what flows to the
+    /// right lowers the second region, so it runs to the left.
+    pub(crate) fn end_at(&mut self, node: u32, is_level: bool) {
+        if is_level {
+            self.tail = node;
+        } else {
+            self.head = node;
+        }
+    }
+
+    /// Names the nodes at its ends by their own numbers.
+    pub(crate) fn settle_ends(&mut self, spots: &mut Spots) {
+        self.tail = spots.find(self.tail);
+        self.head = spots.find(self.head);
+    }
+}
+
+/// A rise from which on each further cycle costs more, and by how much.
+#[derive(Clone, Copy)]
+pub(crate) struct Step {
+    pub(crate) rise: i32,
+    pub(crate) by: u32,
+}
+
+pub(crate) const NO_STEP: Step = Step { rise: 0, by: 0 };

@@ -25,7 +25,7 @@ use Rattle.tile_board.specs.declared.entry.Entry.{Entry}
 use Rattle.tile_board.specs.declared.entry.Entry.TheVariants.{Revised, Kept, Published, Settled, Shown}
 use Rattle.tile_board.specs.Histories.{IsComplete, IsLegal, IsStep, commands_of, done_by, edits_of, is_kept, keeps, mask_in, next_command, script_in, stamp_in}
 use Rattle.report_text.specs.Certified.{history_of}
-use Rattle.report_text.specs.Terms.{terms_of}
+use Rattle.text_parts.specs.Terms.{terms_of}
 use Rattle.report_check.specs.Same.{AcceptanceIsOfTexts, IsSameInput, IsSamePlane, commands_in}
 use Rattle.report_check.proofs.HeadLemmas.{numbers_alike, terms_alike}
 use Rattle.report_check.proofs.EqualReports.{AreAlike, items_too, same_history}

@@ -3,7 +3,7 @@ use Rattle.std.proofs.Common.{◌≡◌, ℕ, refl, ap, arith}
 use Rattle.raster_model.specs.declared.session.Session.{Session}
 use Rattle.report_text.specs.Certified.{IsCertifiedReport}
 use Rattle.report_text.specs.Reports.{ReportOf}
-use Rattle.report_text.specs.Terms.{TermsOf, terms_of}
+use Rattle.text_parts.specs.Terms.{TermsOf, terms_of}
 use Rattle.report_check.specs.Verdicts.{DiffersAt, HasHeadOf}
 
 -- ---- terms are equal exactly if their numbers are

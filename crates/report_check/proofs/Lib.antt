@@ -1,6 +1,5 @@
 pub mod HeadLemmas
 mod MaskLemmas
-mod ValueLemmas
 mod SurfaceLemmas
 mod ShownLemmas
 pub mod UniqueLemmas

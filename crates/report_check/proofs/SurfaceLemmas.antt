@@ -23,24 +23,14 @@ use Rattle.report_text.specs.Same.{IsSameSurface}
 use Rattle.report_check.specs.declared.verdict.CheckVerdict.{CheckVerdict}
 use Rattle.report_check.specs.declared.verdict.CheckVerdict.TheVariants.{Accepted, Header, History, Value, Tile, Seams, TileCost, SeamCost}
 use Rattle.report_check.specs.Shown.{IsGoodSurface}
-use Rattle.report_check.specs.Verdicts.{AllValuesFit, FitsPhase, IsFirstUnfitValue, IsSurfaceVerdict, PassesSeams, PassesTiles, TilesAreCertified, ValueFits, cycles_shown, surface_shown}
+use Rattle.report_check.specs.Verdicts.{IsSurfaceVerdict, PassesSeams, PassesTiles, TilesAreCertified, surface_shown}
+use Rattle.shown_values.specs.Values.{AllValuesFit, FitsPhase, IsFirstUnfitValue, ValueFits, cycles_shown}
 use Rattle.report_check.proofs.MaskLemmas.{faces_verdict_too, same_region, seam_verdict_too}
-use Rattle.report_check.proofs.ValueLemmas.{whole_cycles}
-
--- phases are less than a cycle
-abbrev pub HasPhases : Raster → Type 0
-HasPhases r = (x y : ℕ) → r.phase x y < 65536
-
-pub has_phases : (s : Scene) → HasPhases (raster_of s)
-has_phases s x y = omega (arith, s.phase.below (y * s.phase.width + x), s.cycle)
+use Rattle.shown_values.proofs.SurfaceLemmas.{HasPhases, shows_cycles}
 
 module _ (r : Raster) (mask : Field Bool) (k : SurfaceOf) (phases : HasPhases r) where
-  -- a value so many cycles above the phase is that of the surface that values show
-  shows_cycles : (x y : ℕ) (c : ℤ) → k.values x y ≡ pos (r.phase x y) +ℤ pos 65536 *ℤ c → k.values x y ≡ surface_shown r k x y
-  shows_cycles x y c e = e ∙ ap (λ (z : ℤ). pos (r.phase x y) +ℤ pos 65536 *ℤ z) (sym (whole_cycles (k.values x y) (r.phase x y) c (phases x y) e))
-
   shown_where : (x y : ℕ) → ValueFits r mask k.values x y → (b : Bool) → mask x y ≡ b → k.values x y ≡ (if b then surface_shown r k x y else no_data)
-  shown_where x y fits true e = (let f = fits.unmasked e in shows_cycles x y f.cycles f.whole)
+  shown_where x y fits true e = (let f = fits.unmasked e in shows_cycles r phases k.values x y f.cycles f.whole)
   shown_where x y fits false e = fits.masked e
 
   pub good_is_certified : IsGoodSurface r mask k → IsCertifiedSurface r mask k (surface_shown r k)
@@ -68,7 +58,7 @@ module _ (r : Raster) (mask : Field Bool) (k : SurfaceOf) (phases : HasPhases r)
     agree x y l h o =
         let c = is.congruent x y l h o in
         let e = shown_open x y l h o in
-        sym e ∙ shows_cycles x y c.0 (e ∙ c.1)
+        sym e ∙ shows_cycles r phases k.values x y c.0 (e ∙ c.1)
 
     same : (x y : ℕ) → x < r.width → y < r.height → mask x y ≡ mask x y
     same x y l h = refl

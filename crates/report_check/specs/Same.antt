@@ -8,7 +8,7 @@ use Rattle.raster_model.specs.Masks.{open_at}
 use Rattle.report_text.specs.Certified.{IsCertifiedReport}
 use Rattle.report_text.specs.Reports.{ReportOf}
 use Rattle.report_text.specs.Same.{IsSameReport}
-use Rattle.report_text.specs.Terms.{terms_of}
+use Rattle.text_parts.specs.Terms.{terms_of}
 use Rattle.report_check.specs.declared.verdict.CheckVerdict.{CheckVerdict}
 use Rattle.report_check.specs.Verdicts.{IsCheckVerdict}
 

@@ -16,7 +16,8 @@ use Rattle.report_text.specs.Certified.{IsCertifiedAfter, history_of}
 use Rattle.report_text.specs.Reports.{ItemOf, ReportOf, SurfaceOf}
 use Rattle.report_check.specs.declared.shown.ShownSurface.{ShownSurface}
 use Rattle.report_check.specs.declared.verdict.CheckVerdict.{CheckVerdict}
-use Rattle.report_check.specs.Verdicts.{IsSurfaceVerdict, PassesSeams, ValueFits, cycles_shown, surface_shown}
+use Rattle.shown_values.specs.Values.{cycles_shown}
+use Rattle.report_check.specs.Verdicts.{IsSurfaceVerdict, PassesSeams, surface_shown}
 
 -- the raster, the open pixels, what is told
 abbrev pub raster_shown : ShownSurface → Raster
@@ -27,19 +28,6 @@ open_shown s = open_at s.mask.now
 
 abbrev pub told_shown : ShownSurface → SurfaceOf
 told_shown s = told_surface s.told.now
-
--- the first n values of a row fit; the value at x is the first of the row that does not
-abbrev pub FitInRow : Raster → Field Bool → Field ℤ → ℕ → ℕ → Type 0
-FitInRow r mask values y n = (x : ℕ) → x < n → ValueFits r mask values x y
-
-pub record IsFirstUnfitInRow (r : Raster) (mask : Field Bool) (values : Field ℤ) (y x : ℕ) : Type 0 where
-  pub across : x < r.width
-  pub unfit : ValueFits r mask values x y → ⊥
-  pub first : FitInRow r mask values y x
-
--- the values of the first n rows do
-abbrev pub FitInRows : Raster → Field Bool → Field ℤ → ℕ → Type 0
-FitInRows r mask values n = (y : ℕ) → y < n → FitInRow r mask values y r.width
 
 -- the verdict on the flows, with some numbers of the regions
 pub record IsShownFlowsVerdict (r : Raster) (mask : Field Bool) (k : SurfaceOf) (verdict : SeamVerdict) : Type 0 where

@@ -1,10 +1,9 @@
 -- The verdict on a report for a session: the first thing that is wrong with it, in a fixed order.
-use Rattle.std.specs.Prelude.{◌≡◌, ◌≢◌, ◌⊎◌, ℕ, ◌+◌, ◌<◌, ◌≤◌, ℤ, pos, ◌+ℤ◌, ◌*ℤ◌, Bool, IsTrue, IsFalse, List, length, take, slice_get, Option, Some, None}
-use Rattle.std.specs.Int.{int_div_euclid}
+use Rattle.std.specs.Prelude.{◌≡◌, ◌≢◌, ◌⊎◌, ℕ, ◌+◌, ◌<◌, ◌≤◌, ℤ, pos, Bool, List, length, take, slice_get, Option, Some, None}
 use Rattle.raster_model.specs.declared.session.Session.{Session}
 use Rattle.raster_model.specs.Raster.{Raster, lifted, seam_cost}
 use Rattle.raster_model.specs.Scene.{raster_of}
-use Rattle.raster_model.specs.Seams.{AreRegions, IsEarlier}
+use Rattle.raster_model.specs.Seams.{AreRegions}
 use Rattle.raster_model.specs.Sums.{Field}
 use Rattle.raster_model.specs.Cells.{IsCertifiedTile}
 use Rattle.surface_snapshots.specs.Parts.{tile_costs}
@@ -17,7 +16,7 @@ use Rattle.certificates.specs.Verdicts.{IsFacesVerdict}
 use Rattle.tile_board.specs.declared.entry.Entry.{Entry}
 use Rattle.tile_board.specs.declared.entry.Entry.TheVariants.{Published}
 use Rattle.tile_board.specs.Histories.{IsComplete, IsLegal, IsStep, mask_in}
-use Rattle.grid_writer.specs.Values.{no_data}
+use Rattle.shown_values.specs.Values.{AllValuesFit, IsFirstUnfitValue, cycles_shown}
 use Rattle.report_text.specs.Certified.{IsCertifiedAfter, IsCertifiedReport, history_of}
 use Rattle.report_text.specs.Reports.{ItemOf, ReportOf, SurfaceOf}
 use Rattle.report_check.specs.declared.verdict.CheckVerdict.{CheckVerdict}
@@ -71,30 +70,7 @@ pub record BreaksHistoryAt (s : Session) (H : List Entry) (n : ℕ) : Type 0 whe
 
 -- ---- a surface, at the mask of its revision
 
--- a masked pixel has NODATA; an open one has another value, which is the phase up to whole cycles
-pub record FitsPhase (phase : ℕ) (value : ℤ) : Type 0 where
-  pub told : value ≢ no_data
-  pub cycles : ℤ
-  pub whole : value ≡ pos phase +ℤ pos 65536 *ℤ cycles
-
-pub record ValueFits (r : Raster) (mask : Field Bool) (values : Field ℤ) (x y : ℕ) : Type 0 where
-  pub masked : IsFalse (mask x y) → values x y ≡ no_data
-  pub unmasked : IsTrue (mask x y) → FitsPhase (r.phase x y) (values x y)
-
-abbrev pub AllValuesFit : Raster → Field Bool → Field ℤ → Type 0
-AllValuesFit r mask values = (x y : ℕ) → x < r.width → y < r.height → ValueFits r mask values x y
-
--- the first pixel in row order whose value does not
-pub record IsFirstUnfitValue (r : Raster) (mask : Field Bool) (values : Field ℤ) (x y : ℕ) : Type 0 where
-  pub across : x < r.width
-  pub along : y < r.height
-  pub unfit : ValueFits r mask values x y → ⊥
-  pub first : (a b : ℕ) → a < r.width → b < r.height → IsEarlier a b x y → ValueFits r mask values a b
-
--- the cycles above the phase that values show, and their surface, which has the values where they fit and the pixel is open
-abbrev pub cycles_shown : Field ℤ → Field ℤ
-cycles_shown values x y = int_div_euclid (values x y) (pos 65536)
-
+-- the surface that the values show
 abbrev pub surface_shown : Raster → SurfaceOf → Field ℤ
 surface_shown r k = lifted r (cycles_shown k.values)
 

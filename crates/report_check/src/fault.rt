@@ -39,7 +39,7 @@ impl ShownSurface<'_> {
         requires { PassesSeams (raster_shown self.now) (open_shown self.now) (told_shown self.now) }
         ensures { MatchOption result (IsGoodSurface (raster_shown self.now) (open_shown self.now) (told_shown self.now)) (IsSurfaceVerdict (raster_shown self.now) (open_shown self.now) revision (told_shown self.now)) }
     {
-        let costs = Costs::of(self.scene, self.mask, self);
+        let costs = Costs::of(self.scene, self.mask, &self.values());
         if self.told.tile_cost != costs.tiles {
             return Some(CheckVerdict::TileCost {
                 revision,

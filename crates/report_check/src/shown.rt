@@ -1,18 +1,12 @@
 ghost use Rattle.raster_model.specs.Tiles.{tiles_of};
-ghost use Rattle.std.specs.Prelude.{◌≡◌, ◌↔◌, ◌<◌, IfNone, IfOk, IfSome, IsTrue, vec_len};
-ghost use Rattle.report_text.specs.Contents.{told_surface};
-ghost use Rattle.raster_model.specs.Sums.{is_pixel};
-ghost use Rattle.report_check.specs.Verdicts.{cycles_shown};
+ghost use Rattle.std.specs.Prelude.{◌≡◌, IfNone, IfOk, IfSome, vec_len};
 
 use certificates::{SeamVerdict, TileVerdict, check_faces, check_flows};
-use grid_writer::NO_DATA;
-use raster_model::{Heights, Mask, Scene};
+use raster_model::{Mask, Scene};
 use report_text::ReportSurface;
 use seam_regions::Regions;
+use shown_values::ShownValues;
 use std::alloc::{AllocError, Global};
-
-/// How many units make a cycle.
-const CYCLE: i64 = 65_536;
 
 /// A surface as a report gives it, over a scene and a mask.
 #[derive(Clone, Copy)]
@@ -25,28 +19,22 @@ pub(crate) struct ShownSurface<'a> {
     pub(crate) ghost one_each: { vec_len told.now.faces ≡ tiles_of scene.now.tiling },
 }
 
-impl Heights for ShownSurface<'_> {
-    ghost knows = { λ s. is_pixel s.told.now.grid.width s.told.now.grid.height };
-
-    ghost cycles_at = { λ s. cycles_shown (told_surface s.told.now).values };
-
-    fn cycles(&self, x: u32, y: u32) -> i64 {
-        self.value(x, y).div_euclid(CYCLE)
-    }
-}
-
 impl ShownSurface<'_> {
-    ghost use Rattle.report_check.specs.Shown.{FitInRow, IsFirstUnfitInRow, IsShownFlowsVerdict, open_shown, raster_shown, told_shown};
-    ghost use Rattle.report_check.specs.Verdicts.{AllValuesFit, IsFirstUnfitTile, IsFirstUnfitValue, TilesAreCertified, ValueFits};
+    ghost use Rattle.report_check.specs.Shown.{IsShownFlowsVerdict, open_shown, raster_shown, told_shown};
+    ghost use Rattle.report_check.specs.Verdicts.{IsFirstUnfitTile, TilesAreCertified};
+    ghost use Rattle.shown_values.specs.Values.{AllValuesFit, IsFirstUnfitValue};
 
-    /// The value at a pixel.
-    pub(crate) fn value(&self, x: u32, y: u32) -> i64
-        requires across { x < self.now.told.now.grid.width }
-        requires along { y < self.now.told.now.grid.height }
-        ensures { result ≡ (told_shown self.now).values x y }
+    /// Its values.
+    pub(crate) fn values(&self) -> ShownValues<'_>
+        ensures scene { result.scene.now ≡ self.now.scene.now }
+        ensures mask { result.mask.now ≡ self.now.mask.now }
+        ensures grid { result.grid.now ≡ self.now.told.now.grid }
     {
-        let grid = &self.told.grid;
-        grid.values[y as usize * grid.width as usize + x as usize]
+        ShownValues {
+            scene: self.scene,
+            mask: self.mask,
+            grid: &self.told.grid,
+        }
     }
 
     /// The first pixel in row order whose value is not NODATA though it is masked, or is NODATA or not the phase up to
@@ -55,43 +43,7 @@ impl ShownSurface<'_> {
         ensures found { IfSome result (λ pixel. IsFirstUnfitValue (raster_shown self.now) (open_shown self.now) (told_shown self.now).values pixel.0 pixel.1) }
         ensures none { IfNone result (AllValuesFit (raster_shown self.now) (open_shown self.now) (told_shown self.now).values) }
     {
-        for y in 0..self.scene.phase.height {
-            if let Some(x) = self.first_unfit_in(y) {
-                return Some((x, y));
-            }
-        }
-        None
-    }
-
-    /// The first such pixel of a row.
-    fn first_unfit_in(&self, y: u32) -> Option<u32>
-        requires { y < self.now.scene.now.phase.height }
-        ensures found { IfSome result (IsFirstUnfitInRow (raster_shown self.now) (open_shown self.now) (told_shown self.now).values y) }
-        ensures none { IfNone result (FitInRow (raster_shown self.now) (open_shown self.now) (told_shown self.now).values y self.now.scene.now.phase.width) }
-    {
-        for x in 0..self.scene.phase.width {
-            if !self.fits(x, y) {
-                return Some(x);
-            }
-        }
-        None
-    }
-
-    /// Whether the value at a pixel is NODATA if it is masked, and otherwise another, which is the phase up to whole
-    /// cycles.
-    fn fits(&self, x: u32, y: u32) -> bool
-        requires across { x < self.now.scene.now.phase.width }
-        requires along { y < self.now.scene.now.phase.height }
-        ensures { IsTrue result ↔ ValueFits (raster_shown self.now) (open_shown self.now) (told_shown self.now).values x y }
-    {
-        let value = self.value(x, y);
-        if !self.mask.is_open(x, y) {
-            return value == NO_DATA;
-        }
-        if value == NO_DATA {
-            return false;
-        }
-        value.rem_euclid(CYCLE) == i64::from(self.scene.phase.sample(x, y))
+        self.values().first_unfit()
     }
 
     /// The first tile that its faces do not certify, and what the check says of it.
@@ -99,9 +51,10 @@ impl ShownSurface<'_> {
         ensures found { IfSome result (λ tile. IsFirstUnfitTile (raster_shown self.now) (open_shown self.now) (told_shown self.now) tile.0 tile.1) }
         ensures none { IfNone result (TilesAreCertified (raster_shown self.now) (open_shown self.now) (told_shown self.now) (tiles_of self.now.scene.now.tiling)) }
     {
+        let values = self.values();
         for tile in 0..self.scene.tiling.tile_count() {
             let faces = &self.told.faces[tile as usize];
-            match check_faces(self.scene, self.mask, tile, self, faces) {
+            match check_faces(self.scene, self.mask, tile, &values, faces) {
                 TileVerdict::Good => {}
                 verdict => return Some((tile, verdict)),
             }
@@ -119,7 +72,7 @@ impl ShownSurface<'_> {
             self.scene,
             self.mask,
             regions.labels(),
-            self,
+            &self.values(),
             &self.told.flows,
             &mut scratch,
         ))

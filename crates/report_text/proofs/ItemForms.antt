@@ -10,11 +10,12 @@ use Rattle.tile_board.specs.declared.entry.Entry.{Entry}
 use Rattle.report_text.specs.Contents.{IsEntryOfWords, IsItemInRange, MayBeInRange}
 use Rattle.report_text.specs.Parts.{AreItems, IsItemsText, IsSurfaceText, MayStand, items_text}
 use Rattle.report_text.specs.Reports.{ItemOf, SurfaceOf, is_published}
-use Rattle.report_text.specs.Steps.{TextOf}
-use Rattle.report_text.specs.Text.{after_text, ended_line, entry_text, history_line, item_text, surface_block_text}
+use Rattle.text_parts.specs.Steps.{TextOf}
+use Rattle.report_text.specs.Text.{after_text, entry_text, history_line, item_text, surface_block_text}
+use Rattle.text_parts.specs.Text.{ended_line}
 use Rattle.report_text.proofs.EntryLemmas.{history_unique}
 use Rattle.report_text.proofs.PartForms.{entry_kind, surface_part}
-use Rattle.report_text.proofs.ReadsLemmas.{IsPart, One, Then, after_same, line_one, line_part, then_after, then_first}
+use Rattle.text_parts.proofs.ReadsLemmas.{IsPart, One, Then, after_same, line_one, line_part, then_after, then_first}
 
 pub item_is : (width height tiles : ℕ) (i : ItemOf) → item_text width height tiles i ≡ ended_line history_line (Some i.entry) ++ after_text width height tiles i.surface
 unfolding item_text

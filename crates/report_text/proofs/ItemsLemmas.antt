@@ -5,7 +5,8 @@ use Rattle.std.proofs.lemmas.Grind.{flat_map-append}
 use Rattle.std.proofs.lemmas.List.{append-nil}
 use Rattle.tile_board.specs.declared.entry.Entry.{Entry}
 use Rattle.report_text.specs.Reports.{ItemOf}
-use Rattle.report_text.specs.Text.{after_text, ended_line, history_line, item_text}
+use Rattle.report_text.specs.Text.{after_text, history_line, item_text}
+use Rattle.text_parts.specs.Text.{ended_line}
 use Rattle.report_text.proofs.ItemForms.{item_is}
 
 pub all_get : {A : Type 0} (P : A → Type 0) (xs : List A) → AllByRecursion P xs → (n : ℕ) (x : A) → slice_get xs n ≡ Some x → P x

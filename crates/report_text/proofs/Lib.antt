@@ -2,16 +2,13 @@ mod ItemLemmas
 pub mod EntryLemmas
 pub mod LineLemmas
 pub mod LineEnds
-pub mod ReadsLemmas
 pub mod ReadLemmas
 pub mod NumberLemmas
 pub mod ListsLemmas
-pub mod EndLemmas
 pub mod PartForms
 pub mod ItemForms
 pub mod ItemsLemmas
 pub mod ReportForms
-pub mod ReportAnswers
 pub mod SameReports
 pub mod TermsLemmas
 pub mod RangeLemmas

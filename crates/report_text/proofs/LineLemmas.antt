@@ -26,52 +26,12 @@ use Rattle.text_lines.proofs.NumberLemmas.{magnitude, number_in_line}
 use Rattle.text_lines.proofs.NumberLines.{text_in_line}
 use Rattle.report_text.specs.Contents.{IsEntryOfWords, MayBeWord}
 use Rattle.report_text.specs.Parsing.{AreCosts}
-use Rattle.report_text.specs.Parts.{AreFacesOf, IsRamp, IsRasterSize, MayStand}
+use Rattle.report_text.specs.Parts.{AreFacesOf, MayStand}
 use Rattle.report_text.specs.Terms.{IsVersion}
-use Rattle.report_text.specs.Text.{costs_line, entry_text, faces_front, faces_line, flows_line, history_line, ramp_line, revision_text, rule_line, size_line, steep_line, tile_line, tiles_by, version_line}
-
--- bytes without a line feed, at most so many
-pub record Fits (most : ℕ) (text : List ℕ) : Type 0 where
-  pub inside : InLine text
-  pub short : length text ≤ most
-
-fits_both : {m n : ℕ} {x y : List ℕ} → Fits m x → Fits n y → Fits (m + n) (x ++ y)
-fits_both {m} {n} {x} {y} a b = record { inside = all_both IsInLine x y a.inside b.inside; short = omega (arith, length-append x y, a.short, b.short) }
-
-fits_more : {m n : ℕ} {x : List ℕ} → Fits m x → m ≤ n → Fits n x
-fits_more a le = record { inside = a.inside; short = omega (arith, a.short, le) }
+use Rattle.report_text.specs.Text.{costs_line, entry_text, faces_front, faces_line, flows_line, history_line, revision_text, tile_line, tiles_by, version_line}
+use Rattle.text_parts.proofs.LineLemmas.{Fits, fits_both, fits_more, word_in_line, word_fits, field_in_line, wide_fits, field_fits, pair_fits, size_parts}
 
 -- ---- words and fields
-
-abbrev is_in_line : ℕ → Bool
-is_in_line byte = not (eqb byte 10)
-
-pub word_in_line : (bytes : List ℕ) → list_all is_in_line bytes ≡ true → InLine bytes
-word_in_line [] a = tt
-word_in_line (b ∷ bytes) a =
-    let p = and_parts (is_in_line b) (list_all is_in_line bytes) a in
-    (eqb-false b 10 (not-true (eqb b 10) p.0), word_in_line bytes p.1)
-
-word_fits : (word : List ℕ) → list_all is_in_line word ≡ true → Fits (length word) word
-word_fits word a = record { inside = word_in_line word a; short = omega arith }
-
-digit_in_line : (byte : ℕ) → IsDigit byte → IsInLine byte
-digit_in_line byte d e = omega (arith, d.0, e)
-
-field_in_line : (n : ℕ) → IsWide n → InLine (field_text n)
-unfolding field_text
-field_in_line n lt = ((λ e. omega (arith, e)), all_weaker IsDigit IsInLine digit_in_line (decimal n) (decimal_digits n lt))
-
-wide_fits : (n : ℕ) → IsWide n → Fits 40 (field_text n)
-unfolding field_text
-wide_fits n lt = record { inside = field_in_line n lt; short = omega (arith, length-decimal-le_wide 39 n (omega arith) (omega (arith, lt)) (is_printed n lt)) }
-
-field_fits : (n : ℕ) → IsWord n → Fits 11 (field_text n)
-unfolding field_text
-field_fits n lt = record { inside = field_in_line n (word_wide n lt); short = omega (arith, length-decimal-le_wide 10 n (omega arith) (omega (arith, lt)) (is_printed n (word_wide n lt))) }
-
-pair_fits : (m n : ℕ) → IsWord m → IsWord n → Fits 22 (field_text m ++ field_text n)
-pair_fits m n a b = fits_both (field_fits m a) (field_fits n b)
 
 rect_fits : (r : Rect) → IsRectOfWords r → Fits 44 (rect_text r)
 unfolding rect_text
@@ -90,17 +50,6 @@ version_small version (inr e) = (omega (arith, e), omega (arith, e))
 pub version_in : (version : ℕ) → 1 ≤ version → version ≤ 2 → IsVersion version
 version_in version a b = elim (cases_lt version 2) [ inl l ↦ inl (omega (arith, a, l)) | inr l ↦ inr (omega (arith, b, l)) ]
 
--- a slope fits 64 bits with its sign, and 16, and so 32
-pub slope_long : (n : ℤ) → IsSlope n → FitsLong n
-slope_long n s = fits_signed_from_abs w64 n (omega (arith, ints, s.0, s.1))
-
-pub slope_short : (n : ℤ) → IsSlope n → FitsSigned w16 n
-slope_short (pos n) s = record { sfits = omega (arith, ints, s.1) }
-slope_short (negsuc n) s = record { sfits = omega (arith, ints, s.0) }
-
-pub slope_is : (n : ℤ) → IsSlope n → to_z w32 (of_z w32 n) ≡ n
-slope_is n s = to_z-of_z w32 n (fits_signed_from_abs w32 n (omega (arith, ints, s.0, s.1)))
-
 entry_fits : (e : Entry) → IsEntryOfWords e → Fits 128 (entry_text e)
 entry_fits (Revised n (Mask r)) w = fits_more (fits_both (word_fits (codes "revised") refl) (fits_both (field_fits n w.0) (fits_both (word_fits (codes " mask") refl) (rect_fits r w.1)))) (omega arith)
 entry_fits (Revised n (Unmask r)) w = fits_more (fits_both (word_fits (codes "revised") refl) (fits_both (field_fits n w.0) (fits_both (word_fits (codes " unmask") refl) (rect_fits r w.1)))) (omega arith)
@@ -116,34 +65,8 @@ history_fits None a = fits_more (word_fits (codes "end") refl) (omega arith)
 pub costs_fit : (p : ℕ × ℕ) → AreCosts p → Fits 128 (costs_line p)
 costs_fit p a = fits_more (fits_both (word_fits (codes "costs") refl) (fits_both (wide_fits p.0 a.0) (wide_fits p.1 a.1))) (omega arith)
 
-pub rule_fits : (r : RuleKind) → Fits 128 (rule_line r)
-rule_fits Least = record { inside = word_in_line (rule_line Least) refl; short = omega arith }
-rule_fits r = record { inside = word_in_line (rule_line r) refl; short = omega arith }
-
--- a size within the limits is of small numbers
-pub size_parts : (w h : ℕ) → IsTrue (is_raster_size w h) → (w ≤ 4096) × (h ≤ 4096)
-size_parts w h z = (grind (arith, nat_tests), grind (arith, nat_tests))
-
-pub size_words : (s : ℕ × ℕ) → IsRasterSize s → AreWords s
-size_words s z = let p = size_parts s.0 s.1 z in let a = p.0 in let b = p.1 in (omega (arith, a), omega (arith, b))
-
-pub size_fits : (s : ℕ × ℕ) → IsRasterSize s → Fits 128 (size_line s)
-size_fits s z = let w = size_words s z in fits_more (fits_both (word_fits (codes "size") refl) (pair_fits s.0 s.1 w.0 w.1)) (omega arith)
-
 pub version_fits : (version : ℕ) → IsVersion version → Fits 128 (version_line version)
 version_fits version v = fits_more (fits_both (word_fits (codes "insar-report") refl) (field_fits version (let s = version_small version v in omega (arith, s)))) (omega arith)
-
-slope_fits : (n : ℤ) → IsSlope n → Fits 21 (number_text n)
-unfolding number_text
-slope_fits n s =
-    let small = magnitude n (slope_long n s) in
-    record { inside = ((λ e. omega (arith, e)), number_in_line n (slope_long n s)); short = omega (arith, length_signed_le 19 n (omega (arith, small)) small) }
-
-pub ramp_fits : (ramp : ℤ × ℤ) → IsRamp ramp → Fits 128 (ramp_line ramp)
-ramp_fits ramp r = fits_more (fits_both (word_fits (codes "ramp") refl) (fits_both (slope_fits ramp.0 r.0) (slope_fits ramp.1 r.1))) (omega arith)
-
-pub steep_fits : (steep : ℕ) → IsSteepness steep → Fits 128 (steep_line steep)
-steep_fits steep s = fits_more (fits_both (word_fits (codes "steep") refl) (field_fits steep (omega (arith, s.1)))) (omega arith)
 
 pub side_fits : (side : ℕ) → IsTileSide side → Fits 128 (tile_line side)
 side_fits side s = fits_more (fits_both (word_fits (codes "tile") refl) (field_fits side (omega (arith, s.1)))) (omega arith)

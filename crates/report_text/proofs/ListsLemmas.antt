@@ -5,7 +5,8 @@ use Rattle.std.proofs.lemmas.Grind.{common_steps}
 use Rattle.text_lines.specs.Numbers.{AreLongs}
 use Rattle.report_text.specs.Contents.{lists_of}
 use Rattle.report_text.specs.Parts.{AreFacesBelow}
-use Rattle.report_text.specs.Text.{all_faces_text, ended_line, faces_line, faces_text}
+use Rattle.report_text.specs.Text.{all_faces_text, faces_line, faces_text}
+use Rattle.text_parts.specs.Text.{ended_line}
 use Rattle.text_lines.proofs.TextLemmas.{texts_more, texts_same}
 
 module _ (lists : List (Vec ℤ)) (v : Vec ℤ) (k : ℕ) (count : length lists ≡ k) where

@@ -6,13 +6,9 @@ use Rattle.std.proofs.lemmas.List.{append_cancel_left}
 use Rattle.text_lines.specs.Numbers.{AreLongs, numbers_text}
 use Rattle.text_lines.specs.Parsing.{IsWide, behind}
 use Rattle.text_lines.specs.Text.{field_text}
-use Rattle.report_text.specs.Parsing.{IsListParsedAs}
+use Rattle.text_parts.specs.Parts.{IsListParsedAs}
 use Rattle.report_text.specs.Parts.{AreFacesOf}
 use Rattle.report_text.specs.Text.{faces_line}
-
-pub numbers_found : (b : Bool) (old new : List ℤ) (bytes : List ℕ) → b ≡ true → old ≡ [] → MatchBool b ((more : List ℤ) × ((new ≡ old ++ more) × ((bytes ≡ numbers_text more) × AreLongs more))) ((more : List ℤ) → AreLongs more → bytes ≡ numbers_text more → ⊥) → AreLongs new × (bytes ≡ numbers_text new)
-numbers_found true old new bytes e f h = let same = h.1.0 ∙ ap (λ (l : List ℤ). l ++ h.0) f in (subst AreLongs (sym same) h.1.1.1, h.1.1.0 ∙ ap numbers_text (sym same))
-numbers_found false old new bytes e f h = absurd (let q : false ≡ true = e in cc)
 
 pub faces_line_is : (tile : ℕ) (faces : List ℤ) → faces_line tile faces ≡ codes "faces " ++ (decimal tile ++ numbers_text faces)
 unfolding field_text
@@ -22,6 +18,3 @@ pub faces_found : {E : Type 0} (tile : ℕ) (line fields digits : List ℕ) (res
 faces_found tile line fields digits (Ok (Some v)) small l d h = ((small, h.0), l ∙ ap (λ (x : List ℕ). codes "faces " ++ x) (h.1 ∙ ap (λ (x : List ℕ). x ++ numbers_text v.items) d) ∙ sym (faces_line_is tile v.items))
 faces_found tile line fields digits (Ok None) small l d h = λ faces a e. h faces a.1 (append_cancel_left (codes "faces ") fields (digits ++ numbers_text faces) (sym l ∙ e ∙ faces_line_is tile faces ∙ ap (λ (x : List ℕ). codes "faces " ++ (x ++ numbers_text faces)) (sym d)))
 faces_found tile line fields digits (Err e) small l d h = tt
-
-pub not_none : {A : Type 0} (o : Option A) (b : Bool) → is_some o ≡ not b → b ≡ false → o ≡ None → ⊥
-not_none o b e f g = grind arith

@@ -25,41 +25,29 @@ use Rattle.grid_writer.specs.Grids.{AreLong, IsGrid, IsGridText, IsGridTextOf, g
 use Rattle.grid_writer.proofs.GridReads.{grid_whole, grid_free}
 use Rattle.report_text.specs.Contents.{IsSurfaceInRange}
 use Rattle.report_text.specs.Parsing.{AreCosts}
-use Rattle.report_text.specs.Parts.{AreCertificates, AreFacesBelow, AreFacesOf, AreSolved, AreTold, IsFrame, IsFront, IsRamp, IsRasterSize, IsSurfaceText, IsTermsText, IsTiling, MayStand, certificates_text, frame_text, front_text, solved_text, tiling_text, told_text, values_in}
+use Rattle.report_text.specs.Parts.{AreCertificates, AreFacesBelow, AreFacesOf, AreSolved, IsFrame, IsFront, IsSurfaceText, IsTermsText, IsTiling, MayStand, certificates_text, frame_text, front_text, solved_text, tiling_text}
+use Rattle.text_parts.specs.Parts.{AreTold, IsRamp, told_text}
 use Rattle.report_text.specs.Reports.{SurfaceOf}
-use Rattle.report_text.specs.Steps.{Advances, LinePlace, ReadsPart, TextOf, between, both, in_turn}
-use Rattle.report_text.specs.Terms.{AreTermsIn, IsVersion, TermsOf, plain_terms}
-use Rattle.report_text.specs.Text.{all_faces_text, costs_line, ended_line, faces_line, faces_text, flows_line, history_line, ramp_line, rule_line, size_line, steep_line, surface_block_text, terms_text, tile_line, version_line}
-use Rattle.report_text.proofs.EntryLemmas.{ramp_unique, rule_unique, side_unique, size_unique, steep_unique, version_unique}
-use Rattle.report_text.proofs.LineLemmas.{costs_fit, faces_in_line, flows_in_line, history_fits, ramp_fits, rule_fits, side_fits, size_fits, steep_fits, version_fits}
-use Rattle.report_text.proofs.ReadsLemmas.{IsLineKind, IsPart, One, after_same, line_one, line_part, long_kind, reads_ok, short_kind, turn_after, turn_first, turn_one, turn_part}
-use Rattle.report_text.proofs.TermsLemmas.{same_terms}
+use Rattle.text_parts.specs.Steps.{TextOf, both, in_turn}
+use Rattle.report_text.specs.Terms.{AreTermsIn, IsVersion, plain_terms}
+use Rattle.text_parts.specs.Terms.{TermsOf}
+use Rattle.report_text.specs.Text.{all_faces_text, costs_line, faces_line, faces_text, flows_line, history_line, surface_block_text, terms_text, tile_line, version_line}
+use Rattle.text_parts.specs.Text.{ended_line, ramp_line, steep_line}
+use Rattle.text_parts.proofs.UniqueLemmas.{ramp_unique, rule_unique, size_unique, steep_unique, same_terms}
+use Rattle.report_text.proofs.EntryLemmas.{side_unique, version_unique}
+use Rattle.report_text.proofs.LineLemmas.{costs_fit, faces_in_line, flows_in_line, history_fits, side_fits, version_fits}
+use Rattle.text_parts.proofs.ReadsLemmas.{IsLineKind, IsPart, One, after_same, line_one, line_part, long_kind, short_kind, turn_after, turn_first, turn_one, turn_part}
+use Rattle.text_parts.proofs.LineForms.{line_first, lines_after, lines_apart, lines_part}
+use Rattle.text_lines.proofs.FormLemmas.{InLine}
+use Rattle.text_parts.proofs.PartForms.{grid_part, none_long, level, ramp_kind, steep_kind, size_kind, rule_kind}
 
 -- ---- kinds of lines
-
-pub none_long : AreLongs []
-none_long = All-from_recursion FitsLong [] tt
 
 pub version_kind : IsLineKind IsVersion version_line 128
 version_kind = short_kind (1, inl refl) version_fits
 
-pub level : IsSlope (pos 0)
-level = (omega (arith, ints), omega (arith, ints))
-
-pub ramp_kind : IsLineKind IsRamp ramp_line 128
-ramp_kind = short_kind ((pos 0, pos 0), (level, level)) ramp_fits
-
-pub steep_kind : IsLineKind IsSteepness steep_line 128
-steep_kind = short_kind (1, (omega arith, omega arith)) steep_fits
-
-pub size_kind : IsLineKind IsRasterSize size_line 128
-size_kind = short_kind ((1, 1), refl) size_fits
-
 pub side_kind : IsLineKind IsTileSide tile_line 128
 side_kind = short_kind (2, (omega arith, omega arith)) side_fits
-
-pub rule_kind : IsLineKind IsAnyRule rule_line 128
-rule_kind = short_kind (Least, tt) (λ r _. rule_fits r)
 
 pub costs_kind : IsLineKind AreCosts costs_line 128
 costs_kind = short_kind ((0, 0), (omega arith, omega arith)) costs_fit
@@ -152,25 +140,14 @@ terms_one version t u a b e = elim (either version) [
 
 -- ---- the faces of the tiles
 
-pub faces_apart : (tiles : ℕ) → IsWide tiles → (f g : ℕ → List ℤ) (r s : List ℕ) → AreFacesBelow tiles f → AreFacesBelow tiles g → all_faces_text tiles f ++ r ≡ all_faces_text tiles g ++ s → ((t : ℕ) → t < tiles → faces_text f t ≡ faces_text g t) × (r ≡ s)
-faces_apart tiles small f g r s a b e = texts_cancel tiles (faces_text f) (faces_text g) r s (line f a) (line g b) e
-  where
-    line : (f : ℕ → List ℤ) → AreFacesBelow tiles f → (t : ℕ) → t < tiles → IsOneLine (faces_text f t)
-    line f a t lt = (faces_line t (f t), (faces_in_line t (f t) (omega (arith, lt, small), a t lt), refl))
+inside : (tiles : ℕ) → IsWide tiles → (t : ℕ) → t < tiles → (faces : List ℤ) → AreLongs faces → InLine (faces_line t faces)
+inside tiles small t lt faces longs = faces_in_line t faces (omega (arith, lt, small), longs)
 
-faces_whole : (tiles : ℕ) (f : ℕ → List ℤ) → AreWholeLines (all_faces_text tiles f)
-unfolding texts_below
-faces_whole zero f = inl refl
-faces_whole (suc n) f = whole_append (all_faces_text n f) (faces_text f n) (faces_whole n f) (whole_line (faces_line n (f n)))
+pub faces_apart : (tiles : ℕ) → IsWide tiles → (f g : ℕ → List ℤ) (r s : List ℕ) → AreFacesBelow tiles f → AreFacesBelow tiles g → all_faces_text tiles f ++ r ≡ all_faces_text tiles g ++ s → ((t : ℕ) → t < tiles → faces_text f t ≡ faces_text g t) × (r ≡ s)
+faces_apart tiles small = lines_apart AreLongs faces_line tiles (inside tiles small)
 
 pub faces_part : (tiles : ℕ) → IsWide tiles → IsPart (AreFacesBelow tiles) (all_faces_text tiles)
-faces_part tiles small = record {
-  some = ((λ t. []), λ t lt. none_long);
-  code = record {
-    whole = λ p a. subst AreWholeLines (sym a.1.1) (faces_whole tiles a.0);
-    free = λ p m a b. (faces_apart tiles small a.0 b.0 m [] a.1.0 b.1.0 (ap (λ (l : List ℕ). l ++ m) (sym a.1.1) ∙ b.1.1 ∙ sym (append-nil (all_faces_text tiles b.0)))).1;
-  };
-}
+faces_part tiles small = lines_part AreLongs faces_line tiles (inside tiles small) [] none_long
 
 -- after those of the first tiles come those of the next
 module _ (tiles k : ℕ) (small : IsWide tiles) (here : k < tiles) (faces : ℕ → List ℤ) (a : AreFacesBelow k faces) where
@@ -178,43 +155,12 @@ module _ (tiles k : ℕ) (small : IsWide tiles) (here : k < tiles) (faces : ℕ 
   FacesLeft t = TextOf (AreFacesBelow tiles) (all_faces_text tiles) (all_faces_text k faces ++ t)
 
   pub tile_after : ComesAfter (all_faces_text k faces) FacesLeft (TextOf (AreFacesBelow tiles) (all_faces_text tiles))
-  tile_after = record { whole = faces_whole k faces; to = λ t h. h; «from» = λ t h. h }
-
-  module _ (list : List ℤ) where
-    abbrev with_list : ℕ → List ℤ
-    with_list t = if nat_lt t k then faces t else list
-
-    list_before : (t : ℕ) → t < k → with_list t ≡ faces t
-    list_before t lt = rw (lt_is t k lt) refl
-
-    list_later : (t : ℕ) → k ≤ t → with_list t ≡ list
-    list_later t le = rw (not_lt_is t k le) refl
-
-    all_long : AreLongs list → AreFacesBelow tiles with_list
-    all_long long t lt = elim (cases_lt t k) [
-      | inl l ↦ subst AreLongs (sym (list_before t l)) (a t l)
-      | inr l ↦ subst AreLongs (sym (list_later t l)) long
-    ]
-
-    extended : (p : List ℕ) → AreLongs list → p ≡ ended_line (faces_line k) list → (more : List ℕ) × FacesLeft (p ++ more)
-    extended p long e =
-        let tail = texts_tail tiles k (faces_text with_list) here in
-        let front = texts_same k (faces_text faces) (faces_text with_list) (λ t lt. ap (ended_line (faces_line t)) (sym (list_before t lt))) in
-        let line = e ∙ ap (ended_line (faces_line k)) (sym (list_later k (omega arith))) in
-        (tail.0, (with_list, (all_long long, sym (append_assoc (all_faces_text k faces) p tail.0) ∙ ap (λ (l : List ℕ). l ++ tail.0) (ap₂ (λ (l m : List ℕ). l ++ m) front line) ∙ sym tail.1)))
+  tile_after = lines_after AreLongs faces_line tiles (inside tiles small) k here faces a
 
   pub tile_first : ComesFirst (TextOf (AreFacesOf k) (ended_line (faces_line k))) FacesLeft
   tile_first =
-      let line = line_part (faces_kind k (omega (arith, here, small))) in
-      let code = line.code in record {
-        splits = λ t h.
-            let tail = texts_tail tiles k (faces_text h.0) here in
-            let same = faces_apart k (omega (arith, here, small)) faces h.0 t (faces_text h.0 k ++ tail.0) a (λ u lt. h.1.0 u (omega (arith, lt, here))) (h.1.1 ∙ tail.1 ∙ append_assoc (all_faces_text k h.0) (faces_text h.0 k) tail.0) in
-            (faces_text h.0 k, tail.0, ((h.0 k, ((omega (arith, here, small), h.1.0 k here), refl)), same.1));
-        extends = λ p h. extended h.0 p h.1.0.1 h.1.1;
-        whole = code.whole;
-        free = code.free;
-      }
+      let few : IsWide k = omega (arith, here, small) in
+      line_first AreLongs faces_line tiles (inside tiles small) k here faces a (AreFacesOf k) (λ l b. b.1) (λ l b. (few, b)) (line_part (faces_kind k few))
 
 -- ---- a surface
 
@@ -226,15 +172,6 @@ pub certificates_part : (tiles : ℕ) → IsWide tiles → IsPart (AreCertificat
 certificates_part tiles small = turn_part (faces_part tiles small) (line_part flows_kind)
 
 module _ (width height : ℕ) (z : IsTrue (is_raster_size width height)) where
-  grid_is : (t : List ℕ) → IsGridTextOf width height t → IsGridText t
-  grid_is t a = (record { width = width; height = height; values = a.0 }, (record { sized = z; fits = a.1.0 }, a.1.1))
-
-  pub grid_part : IsPart (AreLong width height) (grid_text width height)
-  grid_part = record {
-    some = ((λ x y. pos 0), λ x y p q. search rules);
-    code = record { whole = λ p a. grid_whole p (grid_is p a); free = λ p m a b. grid_free p m (grid_is p a) (grid_is (p ++ m) b) };
-  }
-
   module _ (tiles : ℕ) (small : IsWide tiles) where
     abbrev Block : Form
     Block = TextOf (both AreCosts (AreSolved width height tiles)) (in_turn (ended_line costs_line) (solved_text width height tiles))
@@ -248,7 +185,7 @@ module _ (width height : ℕ) (z : IsTrue (is_raster_size width height)) where
     }
 
     solved_part : IsPart (AreSolved width height tiles) (solved_text width height tiles)
-    solved_part = turn_part grid_part (certificates_part tiles small)
+    solved_part = turn_part (grid_part width height z) (certificates_part tiles small)
 
     pub surface_part : IsPart (IsSurfaceInRange width height tiles) (surface_block_text width height tiles)
     surface_part =
@@ -261,8 +198,3 @@ module _ (width height : ℕ) (z : IsTrue (is_raster_size width height)) where
 
     pub costs_after : (costs : ℕ × ℕ) → AreCosts costs → ComesAfter (ended_line costs_line costs) (TextOf (AreSolved width height tiles) (solved_text width height tiles)) (IsSurfaceText width height tiles)
     costs_after costs a = after_same surface_same (turn_after (line_part costs_kind) solved_part costs a)
-
--- a grid that was read, as the values of the raster
-pub grid_reads : {v w : LinePlace} (width height : ℕ) (r : Result Grid LineFault) → Advances v w → IfOk r (λ g. (g.width ≡ width) × (g.height ≡ height)) → IfOk r (λ g. IsGrid (grid_of g)) → IfOk r (λ g. TakesLines (λ bytes. bytes ≡ text_of_grid (grid_of g)) v.number w.number (between v w)) → IfErr r (HasLineCause (IsGridTextOf width height) v.number (between v w)) → ReadsPart values_in (AreLong width height) (grid_text width height) v w r
-grid_reads width height (Ok g) a s f t e = reads_ok (record { advance = a; taken = t }) (rw (← s.0, ← s.1) f.fits) (ap (λ (n : ℕ). grid_text n g.height (values_in g)) s.0 ∙ ap (λ (n : ℕ). grid_text width n (values_in g)) s.1)
-grid_reads width height (Err y) a s f t e = record { advance = a; read = tt; refused = e }

@@ -15,7 +15,7 @@ use Rattle.tile_board.specs.Histories.{published_of}
 use Rattle.report_text.specs.Appending.{AreSmallItems}
 use Rattle.report_text.specs.Contents.{IsItemInRange, IsReport}
 use Rattle.report_text.specs.Reports.{items_of, report_of}
-use Rattle.report_text.specs.Terms.{terms_of}
+use Rattle.text_parts.specs.Terms.{terms_of}
 use Rattle.report_text.proofs.ItemLemmas.{tiles_are}
 use Rattle.report_text.proofs.TermsLemmas.{version_either, version_is}
 

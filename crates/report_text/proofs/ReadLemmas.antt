@@ -12,10 +12,8 @@ use Rattle.tile_board.specs.declared.entry.Entry.{Entry}
 use Rattle.tile_board.specs.declared.entry.Entry.TheVariants.{Revised, Kept, Published, Settled, Shown}
 use Rattle.report_text.specs.Contents.{IsEntryOfWords, MayBeWord}
 use Rattle.report_text.specs.Parsing.{IsEditOfWords, IsRevisedOfWords, IsShownOfWords, edit_text, revised_text, shown_text}
-use Rattle.report_text.specs.Parts.{IsRasterSize, MayStand}
-use Rattle.report_text.specs.Text.{entry_text, history_line, revision_text, size_line}
-use Rattle.report_text.proofs.EntryLemmas.{words_unique}
-use Rattle.report_text.proofs.LineLemmas.{size_words}
+use Rattle.report_text.specs.Parts.{MayStand}
+use Rattle.report_text.specs.Text.{entry_text, history_line, revision_text}
 
 pub edit_begins : (e : Edit) → IsEditOfWords e → BeginsField (edit_text e)
 edit_begins (Mask r) w = inr (codes "mask" ++ rect_text r, refl)
@@ -44,12 +42,3 @@ no_history line f g None w t = f t
 no_history line f g (Some e) w t = g e w t
 
 -- ---- the lines of the head
-
--- a number of a range behind a label
-pub labelled : (MayStand : ℕ → Type 0) (text : ℕ → List ℕ) (label line : List ℕ) (least most : ℕ) → ((n : ℕ) → MayStand n → (least ≤ n) × (n ≤ most)) → ((n : ℕ) → least ≤ n → n ≤ most → MayStand n) → ((n : ℕ) → text n ≡ label ++ decimal n)
-    → (o : Option ℕ) → IfSome o (λ n. (least ≤ n) × (n ≤ most)) → IfSome o (λ n. line ≡ label ++ decimal n) → IfNone o ((n : ℕ) → least ≤ n → n ≤ most → line ≡ label ++ decimal n → ⊥) → IsParsedAs MayStand text line o
-labelled MayStand text label line least most small may spelled (Some n) w f none = (may n w.0 w.1, f ∙ sym (spelled n))
-labelled MayStand text label line least most small may spelled None w f none = λ n m e. none n (small n m).0 (small n m).1 (e ∙ spelled n)
-
-pub other_size : (line : List ℕ) (s t : ℕ × ℕ) → AreWords s × (line ≡ size_line s) → is_raster_size s.0 s.1 ≡ false → IsRasterSize t → line ≡ size_line t → ⊥
-other_size line s t f other z e = let p = words_unique (codes "size") s t f.0 (size_words t z) (sym f.1 ∙ e) in false≢true (sym other ∙ ap (λ (q : ℕ × ℕ). is_raster_size q.0 q.1) p ∙ z)

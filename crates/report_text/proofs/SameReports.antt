@@ -14,13 +14,15 @@ use Rattle.report_text.specs.Contents.{IsSurfaceInRange, MayBeInRange}
 use Rattle.report_text.specs.Parts.{AreItems, FrontOf, IsSurfaceText, IsTermsText, items_text}
 use Rattle.report_text.specs.Reports.{ItemOf, SurfaceOf, is_published}
 use Rattle.report_text.specs.Same.{AreSameItems, IsSameItem, IsSameSurface, MayBeSame, ReportTextsAreUnique}
-use Rattle.report_text.specs.Terms.{AreTermsIn, TermsOf}
-use Rattle.report_text.specs.Text.{after_text, all_faces_text, ended_line, faces_front, flows_line, line_end, surface_block_text, terms_text, tiles_in}
+use Rattle.report_text.specs.Terms.{AreTermsIn}
+use Rattle.text_parts.specs.Terms.{TermsOf}
+use Rattle.report_text.specs.Text.{after_text, all_faces_text, faces_front, flows_line, surface_block_text, terms_text, tiles_in}
+use Rattle.text_parts.specs.Text.{ended_line, line_end}
 use Rattle.report_text.proofs.EntryLemmas.{costs_unique}
 use Rattle.report_text.proofs.ItemForms.{ended_entry, history_one, history_part, surface_code}
 use Rattle.report_text.proofs.LineLemmas.{tiles_small}
 use Rattle.report_text.proofs.PartForms.{costs_kind, faces_apart, front_one, front_part, surface_is, terms_code, terms_one}
-use Rattle.report_text.proofs.ReadsLemmas.{line_one, line_part, then_apart}
+use Rattle.text_parts.proofs.ReadsLemmas.{line_one, line_part, then_apart}
 use Rattle.report_text.proofs.ReportForms.{front_of, report_is, tiles_for}
 
 -- lists after a front

@@ -5,13 +5,9 @@ use Rattle.std.specs.Ordering.{int_eq}
 use Rattle.std.proofs.lemmas.Bool.{and_parts, cases_Bool, eqb-true}
 use Rattle.std.proofs.lemmas.Bool.Decides.{Decides-int_eq}
 use Rattle.sums_and_lists.proofs.Tests.{true_and_false}
-use Rattle.report_text.specs.Terms.{IsVersion, TermsOf, are_plain, plain_terms, version_on}
-
-pub same_terms : (t u : TermsOf) → t.ramp_x ≡ u.ramp_x → t.ramp_y ≡ u.ramp_y → t.steep ≡ u.steep → t ≡ u
-same_terms t u e f g =
-    ap (λ (x : ℤ). let r : TermsOf = record { ramp_x = x; ramp_y = t.ramp_y; steep = t.steep } in r) e
-    ∙ ap (λ (y : ℤ). let r : TermsOf = record { ramp_x = u.ramp_x; ramp_y = y; steep = t.steep } in r) f
-    ∙ ap (λ (n : ℕ). let r : TermsOf = record { ramp_x = u.ramp_x; ramp_y = u.ramp_y; steep = n } in r) g
+use Rattle.report_text.specs.Terms.{IsVersion, are_plain, plain_terms, version_on}
+use Rattle.text_parts.specs.Terms.{TermsOf}
+use Rattle.text_parts.proofs.UniqueLemmas.{same_terms}
 
 told_plain : (t : TermsOf) → are_plain t ≡ true → t ≡ plain_terms
 told_plain t all =

@@ -14,7 +14,7 @@ use Rattle.tile_board.specs.declared.entry.Entry.TheVariants.{Revised, Kept, Pub
 use Rattle.tile_board.specs.Histories.{IsComplete, IsLegal, mask_in}
 use Rattle.grid_writer.specs.Values.{no_data}
 use Rattle.report_text.specs.Reports.{ItemOf, ReportOf, SurfaceOf}
-use Rattle.report_text.specs.Terms.{terms_of}
+use Rattle.text_parts.specs.Terms.{terms_of}
 
 -- the grid shows a surface at open pixels, none of which has the NODATA value, and that value at masked ones
 pub record ShowsSurface (r : Raster) (mask : Field Bool) (values surface : Field ℤ) : Type 0 where

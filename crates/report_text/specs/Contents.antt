@@ -14,7 +14,8 @@ use Rattle.report_text.specs.declared.items.Item.{Item}
 use Rattle.report_text.specs.declared.contents.Report.{Report}
 use Rattle.report_text.specs.declared.items.ReportSurface.{ReportSurface}
 use Rattle.report_text.specs.Reports.{HasSurface, ItemOf, ReportOf, SurfaceOf}
-use Rattle.report_text.specs.Terms.{AreTermsIn, IsVersion, terms_of}
+use Rattle.report_text.specs.Terms.{AreTermsIn, IsVersion}
+use Rattle.text_parts.specs.Terms.{terms_of}
 use Rattle.report_text.specs.Text.{report_text, tiles_in}
 
 -- what the items tell

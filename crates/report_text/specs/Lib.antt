@@ -1,7 +1,6 @@
 pub mod Terms
 pub mod Reports
 pub mod Text
-pub mod Steps
 pub mod Parsing
 pub mod Fitting
 pub mod Contents

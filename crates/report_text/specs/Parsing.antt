@@ -33,7 +33,3 @@ IsShownOfWords p = IsWord p.0 × MayBeWord p.1
 
 abbrev pub shown_text : ℕ × Option ℕ → List ℕ
 shown_text p = field_text p.0 ++ revision_text p.1
-
--- the bytes are the text of a list of numbers that may stand; or they are the text of none
-abbrev pub IsListParsedAs : (List ℤ → Type 0) → (List ℤ → List ℕ) → List ℕ → Option (Vec ℤ) → Type 0
-IsListParsedAs MayStand text bytes result = MatchOption result ((numbers : List ℤ) → MayStand numbers → bytes ≡ text numbers → ⊥) (λ v. MayStand v.items × (bytes ≡ text v.items))

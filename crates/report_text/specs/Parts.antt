@@ -22,13 +22,11 @@ use Rattle.report_text.specs.declared.items.Item.{Item}
 use Rattle.report_text.specs.Contents.{IsEntryOfWords, IsItemInRange, IsSurfaceInRange, lists_of, told_item}
 use Rattle.text_lines.specs.Parsing.{IsAnyRule, IsWide}
 use Rattle.report_text.specs.Reports.{ItemOf, is_published}
-use Rattle.report_text.specs.Steps.{TextOf, both, in_turn}
+use Rattle.text_parts.specs.Steps.{TextOf, both, in_turn}
 use Rattle.report_text.specs.Terms.{AreTermsIn, IsVersion}
-use Rattle.report_text.specs.Text.{all_faces_text, ended_line, flows_line, item_text, ramp_line, rule_line, size_line, steep_line, surface_block_text, terms_text, tile_line, version_line}
-
--- which values lines may have: a size within the limits, an entry of words or none
-abbrev pub IsRasterSize : ℕ × ℕ → Type 0
-IsRasterSize size = IsTrue (is_raster_size size.0 size.1)
+use Rattle.report_text.specs.Text.{all_faces_text, flows_line, item_text, surface_block_text, terms_text, tile_line, version_line}
+use Rattle.text_parts.specs.Text.{ended_line, rule_line, size_line}
+use Rattle.text_parts.specs.Parts.{IsRasterSize}
 
 abbrev pub MayStand : Option Entry → Type 0
 MayStand None = ⊤
@@ -59,16 +57,6 @@ front_text = in_turn (ended_line version_line) frame_text
 abbrev pub front_in : Head → FrontOf
 front_in head = (head.version, ((head.width, head.height), (head.side, head.rule)))
 
--- a ramp and a steepness, as version 2 tells them; the lines of the terms in a version
-abbrev pub IsRamp : ℤ × ℤ → Type 0
-IsRamp ramp = IsSlope ramp.0 × IsSlope ramp.1
-
-abbrev pub AreTold : (ℤ × ℤ) × ℕ → Type 0
-AreTold = both IsRamp IsSteepness
-
-abbrev pub told_text : (ℤ × ℤ) × ℕ → List ℕ
-told_text = in_turn (ended_line ramp_line) (ended_line steep_line)
-
 abbrev pub IsTermsText : ℕ → Form
 IsTermsText version = TextOf (AreTermsIn version) (terms_text version)
 
@@ -92,15 +80,8 @@ AreSolved width height tiles = both (AreLong width height) (AreCertificates tile
 abbrev pub solved_text : ℕ → ℕ → ℕ → Field ℤ × ((ℕ → List ℤ) × List ℤ) → List ℕ
 solved_text width height tiles = in_turn (grid_text width height) (certificates_text tiles)
 
--- what readers of parts return, as its text tells it
-abbrev pub list_in : Vec ℤ → List ℤ
-list_in list = list.items
-
 abbrev pub lists_in : Vec (Vec ℤ) → ℕ → List ℤ
 lists_in lists = lists_of lists.items
-
-abbrev pub values_in : Grid → Field ℤ
-values_in grid = value_at grid.width grid.values.items
 
 abbrev pub items_in : Vec Item → List ItemOf
 items_in items = map told_item items.items
@@ -122,13 +103,3 @@ IsItemsText width height tiles = TextOf (AreItems width height tiles) (items_tex
 -- why no lines were read after an entry: it is a publication, and a surface was not read
 abbrev pub HasAfterCause : ℕ → ℕ → ℕ → Entry → ℕ → Call → LineFault → Type 0
 HasAfterCause width height tiles entry done c fault = IsTrue (is_published entry) × HasLineCause (IsSurfaceText width height tiles) done c fault
-
--- why the input did not end: another line is there, whole or cut, or the limit cuts one
-abbrev pub IsLineMore : List ℕ → List ℕ → Type 0
-IsLineMore text rest = ((line : List ℕ) × (All IsInLine line × (text ≡ line ++ 10 ∷ []))) ⊎ (All IsInLine text × ((text ≢ []) × (rest ≡ [])))
-
-abbrev pub HasMoreCause : ℕ → Call → LineFault → Type 0
-HasMoreCause done c (faults.Line n) = (n ≡ done + 1) × Takes c IsLineMore
-HasMoreCause done c faults.TooLong = (c.end ≡ c.limit) × (HasMore c.left × Takes c (λ text rest. All IsInLine text))
-HasMoreCause done c faults.ReadFault = HasRisen c.before c.after
-HasMoreCause done c faults.Memory = ⊤

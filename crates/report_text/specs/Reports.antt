@@ -9,7 +9,8 @@ use Rattle.grid_writer.specs.Shown.{shown_in}
 use Rattle.tile_board.specs.declared.entry.Entry.{Entry}
 use Rattle.tile_board.specs.declared.entry.Entry.TheVariants.{Revised, Kept, Published, Settled, Shown}
 use Rattle.sums_and_lists.specs.Sums.{one_if}
-use Rattle.report_text.specs.Terms.{TermsOf, plain_terms, terms_of, version_on}
+use Rattle.text_parts.specs.Terms.{TermsOf, terms_of}
+use Rattle.report_text.specs.Terms.{plain_terms, version_on}
 
 -- a surface as a report gives it: its two costs, the values of its grid, the faces of each tile, and the flows
 pub record SurfaceOf : Type 0 where

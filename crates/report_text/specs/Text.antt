@@ -8,11 +8,8 @@ use Rattle.tile_board.specs.declared.entry.Entry.{Entry}
 use Rattle.tile_board.specs.declared.entry.Entry.TheVariants.{Revised, Kept, Published, Settled, Shown}
 use Rattle.text_lines.specs.Text.{field_text, rect_text, rule_word, texts_below}
 use Rattle.report_text.specs.Reports.{ItemOf, ReportOf, SurfaceOf}
-use Rattle.report_text.specs.Terms.{TermsOf}
-
--- the end of a line
-abbrev pub line_end : List ℕ
-line_end = 10 ∷ []
+use Rattle.text_parts.specs.Terms.{TermsOf}
+use Rattle.text_parts.specs.Text.{line_end, size_line, rule_line, ramp_line, steep_line, ended_line}
 
 -- ---- lines, each without its end
 
@@ -20,20 +17,8 @@ line_end = 10 ∷ []
 abbrev pub version_line : ℕ → List ℕ
 version_line version = codes "insar-report" ++ field_text version
 
-abbrev pub size_line : ℕ × ℕ → List ℕ
-size_line size = codes "size" ++ (field_text size.0 ++ field_text size.1)
-
 abbrev pub tile_line : ℕ → List ℕ
 tile_line side = codes "tile" ++ field_text side
-
-abbrev pub rule_line : RuleKind → List ℕ
-rule_line rule = codes "rule " ++ rule_word rule
-
-abbrev pub ramp_line : ℤ × ℤ → List ℕ
-ramp_line ramp = codes "ramp" ++ (number_text ramp.0 ++ number_text ramp.1)
-
-abbrev pub steep_line : ℕ → List ℕ
-steep_line steep = codes "steep" ++ field_text steep
 
 -- an entry's words
 abbrev pub revision_text : Option ℕ → List ℕ
@@ -68,9 +53,6 @@ abbrev pub flows_line : List ℤ → List ℕ
 flows_line flows = codes "flows" ++ numbers_text flows
 
 -- ---- texts of whole lines
-
-abbrev pub ended_line : {A : Type 0} → (A → List ℕ) → A → List ℕ
-ended_line line a = line a ++ line_end
 
 -- the lines of faces of the tiles below a number
 abbrev pub faces_text : (ℕ → List ℤ) → ℕ → List ℕ

@@ -1,33 +1,22 @@
-ghost use Rattle.raster_model.specs.Limits.{IsSlope, IsSteepness, IsTileSide};
+ghost use Rattle.raster_model.specs.Limits.{IsTileSide};
 ghost use Rattle.report_text.specs.Parsing.{AreCosts, IsEditOfWords, IsRevisedOfWords, IsShownOfWords, edit_text, revised_text, shown_text};
 ghost use Rattle.report_text.specs.Contents.{IsEntryOfWords};
-ghost use Rattle.report_text.specs.Parts.{IsRamp, IsRasterSize, MayStand};
+ghost use Rattle.report_text.specs.Parts.{MayStand};
 ghost use Rattle.report_text.specs.Terms.{IsVersion};
-ghost use Rattle.report_text.specs.Text.{costs_line, entry_text, history_line, ramp_line, rule_line, size_line, steep_line, tile_line, version_line};
-ghost use Rattle.std.specs.Fmt.{signed_decimal};
+ghost use Rattle.report_text.specs.Text.{costs_line, entry_text, history_line, tile_line, version_line};
 ghost use Rattle.std.specs.Prelude.{codes};
-ghost use Rattle.text_lines.specs.Numbers.{number_text};
-ghost use Rattle.text_lines.specs.Parsing.{IsAnyRule, IsParsedAs, behind};
+ghost use Rattle.text_lines.specs.Parsing.{IsParsedAs, behind};
 
-use raster_model::{Edit, MAX_TILE_SIDE, MIN_TILE_SIDE, RuleKind};
+use raster_model::{Edit, MAX_TILE_SIDE, MIN_TILE_SIDE};
 use text_lines::{
-    labelled_count, last_field, last_wide, number_of, pair_behind, rect_behind, split_field,
-    take_field, take_wide,
+    labelled_count, last_field, last_wide, pair_behind, rect_behind, take_field, take_wide,
 };
 use tile_board::Entry;
 
 // The words of the lines.
 const VERSION: &[u8] = b"insar-report ";
 
-const SIZE: &[u8] = b"size";
-
 const TILE: &[u8] = b"tile ";
-
-const RULE: &[u8] = b"rule ";
-
-const RAMP: &[u8] = b"ramp";
-
-const STEEP: &[u8] = b"steep ";
 
 const COSTS: &[u8] = b"costs";
 
@@ -49,14 +38,8 @@ const NONE: &[u8] = b" none";
 
 const END: &[u8] = b"end";
 
-/// What is before each number of a line.
-const SPACE: &[u8] = b" ";
-
 /// The newest version.
 const LAST_VERSION: u32 = 2;
-
-/// The greatest steepness of costs.
-const MAX_STEEPNESS: u32 = 16;
 
 /// The version of a line `insar-report VERSION`, if there is such a version.
 pub(crate) fn version_of(line: &[u8]) -> Option<u32>
@@ -65,60 +48,11 @@ pub(crate) fn version_of(line: &[u8]) -> Option<u32>
     labelled_count(line, VERSION, 1, LAST_VERSION)
 }
 
-/// The width and the height of a line `size W H`, if they are within the limits of a raster.
-pub(crate) fn size_of(line: &[u8]) -> Option<(u32, u32)>
-    ensures { IsParsedAs IsRasterSize size_line line.now result }
-{
-    let (width, height) = pair_behind(line, SIZE)?;
-    if raster_model::is_raster_size(width, height) {
-        Some((width, height))
-    } else {
-        None
-    }
-}
-
 /// The side of a line `tile SIDE`, if it is from 2 to 128.
 pub(crate) fn side_of(line: &[u8]) -> Option<u32>
     ensures { IsParsedAs IsTileSide tile_line line.now result }
 {
     labelled_count(line, TILE, MIN_TILE_SIDE, MAX_TILE_SIDE)
-}
-
-/// The rule of a line `rule RULE`.
-pub(crate) fn rule_of(line: &[u8]) -> Option<RuleKind>
-    ensures { IsParsedAs IsAnyRule rule_line line.now result }
-{
-    text_lines::rule_of(line.strip_prefix(RULE)?)
-}
-
-/// The slopes of a line `ramp GX GY`, along right and down edges.
-pub(crate) fn ramp_of(line: &[u8]) -> Option<(i32, i32)>
-    ensures { IsParsedAs IsRamp ramp_line line.now result }
-{
-    let (across, along) = split_field(line.strip_prefix(RAMP)?)?;
-    Some((slope_of(across)?, last_slope(along)?))
-}
-
-/// The slope after a space, if nothing follows it.
-fn last_slope(bytes: &[u8]) -> Option<i32>
-    ensures { IsParsedAs IsSlope number_text bytes.now result }
-{
-    slope_of(bytes.strip_prefix(SPACE)?)
-}
-
-/// The slope that a token is the one spelling of: it fits 16 bits with its sign.
-fn slope_of(token: &[u8]) -> Option<i32>
-    ensures { IsParsedAs IsSlope signed_decimal token.now result }
-{
-    let slope = i16::try_from(number_of(token)?).ok()?;
-    Some(i32::from(slope))
-}
-
-/// The steepness of a line `steep Q`, if it is from 1 to 16.
-pub(crate) fn steepness_of(line: &[u8]) -> Option<u32>
-    ensures { IsParsedAs IsSteepness steep_line line.now result }
-{
-    labelled_count(line, STEEP, 1, MAX_STEEPNESS)
 }
 
 /// The entry of a line of the history; None of the line `end`.

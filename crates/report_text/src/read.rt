@@ -1,59 +1,37 @@
-ghost use Rattle.grid_writer.specs.Grids.{AreLong};
-ghost use Rattle.grid_writer.specs.Grid.{grid_text};
 ghost use Rattle.insar_ports.specs.Calls.{Moves, Takes, call_of};
 ghost use Rattle.insar_ports.specs.Feeding.{handed_of, left_of, limit_of, source_name};
-ghost use Rattle.raster_model.specs.Limits.{IsSteepness, IsTileSide};
+ghost use Rattle.raster_model.specs.Limits.{IsTileSide};
 ghost use Rattle.report_text.specs.Contents.{IsEntryOfWords, IsItemInRange, IsReport, IsReportText, IsSurfaceInRange, report_told, told_after, told_item, told_surface};
 ghost use Rattle.report_text.specs.Fitting.{ItemsFit, MayFit, SurfaceFits};
-ghost use Rattle.report_text.specs.Parsing.{AreCosts, IsListParsedAs};
-ghost use Rattle.report_text.specs.Parts.{AreFacesBelow, AreFacesOf, AreItems, HasAfterCause, HasMoreCause, IsFront, IsRamp, IsRasterSize, MayStand, front_in, front_text, items_in, items_text, list_in, lists_in, values_in};
+ghost use Rattle.report_text.specs.Parsing.{AreCosts};
+ghost use Rattle.text_parts.specs.Parts.{IsListParsedAs, list_in};
+ghost use Rattle.report_text.specs.Parts.{AreFacesBelow, AreFacesOf, AreItems, HasAfterCause, IsFront, MayStand, front_in, front_text, items_in, items_text, lists_in};
 ghost use Rattle.report_text.specs.Reading.{HasBrokenReportLine, HasReportCause, IsReader, IsReportRead, IsReportRefusedAt};
-ghost use Rattle.report_text.specs.Steps.{Advances, ReadsPart, ReadsLine, Took, between, itself, parsed_at, place_of};
-ghost use Rattle.report_text.specs.Terms.{AreTermsIn, IsVersion, terms_of};
-ghost use Rattle.report_text.specs.Text.{after_text, all_faces_text, costs_line, ended_line, faces_line, flows_line, history_line, ramp_line, report_text, rule_line, size_line, steep_line, surface_block_text, terms_text, tile_line, version_line};
-ghost use Rattle.std.specs.Prelude.{◌≡◌, ◌≤◌, ◌<◌, ◌++◌, [], ℕ, ℤ, List, IfErr, IfOk, IfSome, OnOk, MatchOption, length, vec_len};
-ghost use Rattle.text_lines.specs.LineWords.{kept_line, lines_read};
-ghost use Rattle.text_lines.specs.Numbers.{AreLongs, numbers_text};
-ghost use Rattle.text_lines.specs.Parsing.{IsAnyRule, behind};
+ghost use Rattle.text_parts.specs.Steps.{Advances, ReadsPart, Took, between, itself, place_of};
+ghost use Rattle.report_text.specs.Terms.{AreTermsIn, IsVersion};
+ghost use Rattle.text_parts.specs.Terms.{terms_of};
+ghost use Rattle.report_text.specs.Text.{after_text, all_faces_text, costs_line, faces_line, flows_line, history_line, report_text, surface_block_text, terms_text, tile_line, version_line};
+ghost use Rattle.text_parts.specs.Text.{ended_line};
+ghost use Rattle.std.specs.Prelude.{◌≡◌, ◌≤◌, ◌<◌, [], ℕ, IfErr, IfOk, IfSome, OnOk, length, vec_len};
+ghost use Rattle.text_lines.specs.LineWords.{lines_read};
+ghost use Rattle.text_lines.specs.Numbers.{AreLongs};
 ghost use Rattle.text_lines.specs.Reading.{room_of};
 
 use crate::contents::Report;
 use crate::head::Head;
 use crate::items::{Item, ReportSurface};
-use crate::parse::{
-    costs_of, history_of, ramp_of, rule_of, side_of, size_of, steepness_of, version_of,
-};
+use crate::parse::{costs_of, history_of, side_of, version_of};
 use crate::report::is_publication;
-use grid_writer::{Grid, read_sized_grid};
 use insar_ports::{Feed, Source};
 use itoa::Buffer;
-use raster_model::{RuleKind, Terms, Tiling};
+use raster_model::{Terms, Tiling};
 use std::alloc::{AllocError, Global};
-use text_lines::{LineEnd, LineFault, Lines, push_numbers};
+use text_lines::{LineFault, Lines};
+use text_parts::{
+    LONGEST_LINE, expect_end, numbers_after, parsed, read_grid_part, read_line, read_ramp,
+    read_rule, read_size, read_steepness,
+};
 use tile_board::Entry;
-
-/// No line but those of numbers has more bytes.
-const LONGEST_LINE: usize = 128;
-
-/// Reads the next line to its end. One that has more than `most` bytes, or that the input cuts, is refused.
-fn read_line<S: Source>(feed: &mut Feed<S>, lines: &mut Lines, most: usize) -> Result<(), LineFault>
-    ensures { ReadsLine most (kept_line lines.new) (place_of S.left S.faults feed.old lines.old) (place_of S.left S.faults feed.new lines.new) result }
-{
-    match lines.next(feed, most)? {
-        LineEnd::Whole => Ok(()),
-        LineEnd::Long | LineEnd::Cut => Err(LineFault::Line(lines.number())),
-    }
-}
-
-/// What was parsed of the last line, or its refusal.
-fn parsed<T: Drop>(lines: &Lines, found: Option<T>) -> Result<T, LineFault>
-    ensures { result ≡ parsed_at (lines_read lines.now) found }
-{
-    match found {
-        Some(value) => Ok(value),
-        None => Err(LineFault::Line(lines.number())),
-    }
-}
 
 /// Reads the line of the version.
 fn read_version<S: Source>(feed: &mut Feed<S>, lines: &mut Lines) -> Result<u32, LineFault>
@@ -63,28 +41,12 @@ fn read_version<S: Source>(feed: &mut Feed<S>, lines: &mut Lines) -> Result<u32,
     parsed(lines, version_of(lines.line()))
 }
 
-/// Reads the line of the size.
-fn read_size<S: Source>(feed: &mut Feed<S>, lines: &mut Lines) -> Result<(u32, u32), LineFault>
-    ensures { ReadsPart itself IsRasterSize (ended_line size_line) (place_of S.left S.faults feed.old lines.old) (place_of S.left S.faults feed.new lines.new) result }
-{
-    read_line(feed, lines, LONGEST_LINE)?;
-    parsed(lines, size_of(lines.line()))
-}
-
 /// Reads the line of the side of tiles.
 fn read_side<S: Source>(feed: &mut Feed<S>, lines: &mut Lines) -> Result<u32, LineFault>
     ensures { ReadsPart itself IsTileSide (ended_line tile_line) (place_of S.left S.faults feed.old lines.old) (place_of S.left S.faults feed.new lines.new) result }
 {
     read_line(feed, lines, LONGEST_LINE)?;
     parsed(lines, side_of(lines.line()))
-}
-
-/// Reads the line of the rule.
-fn read_rule<S: Source>(feed: &mut Feed<S>, lines: &mut Lines) -> Result<RuleKind, LineFault>
-    ensures { ReadsPart itself IsAnyRule (ended_line rule_line) (place_of S.left S.faults feed.old lines.old) (place_of S.left S.faults feed.new lines.new) result }
-{
-    read_line(feed, lines, LONGEST_LINE)?;
-    parsed(lines, rule_of(lines.line()))
 }
 
 /// Reads the first four lines.
@@ -103,22 +65,6 @@ fn read_head<S: Source>(feed: &mut Feed<S>, lines: &mut Lines) -> Result<Head, L
         rule,
         tiles: Tiling::new(width, height, side).tile_count(),
     })
-}
-
-/// Reads the line of the ramp: its slopes along right and down edges.
-fn read_ramp<S: Source>(feed: &mut Feed<S>, lines: &mut Lines) -> Result<(i32, i32), LineFault>
-    ensures { ReadsPart itself IsRamp (ended_line ramp_line) (place_of S.left S.faults feed.old lines.old) (place_of S.left S.faults feed.new lines.new) result }
-{
-    read_line(feed, lines, LONGEST_LINE)?;
-    parsed(lines, ramp_of(lines.line()))
-}
-
-/// Reads the line of the steepness.
-fn read_steepness<S: Source>(feed: &mut Feed<S>, lines: &mut Lines) -> Result<u32, LineFault>
-    ensures { ReadsPart itself IsSteepness (ended_line steep_line) (place_of S.left S.faults feed.old lines.old) (place_of S.left S.faults feed.new lines.new) result }
-{
-    read_line(feed, lines, LONGEST_LINE)?;
-    parsed(lines, steepness_of(lines.line()))
 }
 
 /// Reads the lines of the terms; version 1 has none, and the plain terms.
@@ -156,21 +102,6 @@ fn read_entry<S: Source>(feed: &mut Feed<S>, lines: &mut Lines) -> Result<Option
 {
     read_line(feed, lines, LONGEST_LINE)?;
     parsed(lines, history_of(lines.line()))
-}
-
-/// The numbers of a line that begins so, each after a space.
-fn numbers_after(alloc: Global, line: &[u8], front: &[u8]) -> Result<Option<Vec<i64>>, AllocError>
-    ensures { IfOk result (IsListParsedAs AreLongs (behind front.now numbers_text) line.now) }
-{
-    let Some(fields) = line.strip_prefix(front) else {
-        return Ok(None);
-    };
-    let mut numbers = Vec::new(alloc);
-    if push_numbers(fields, &mut numbers)? {
-        Ok(Some(numbers))
-    } else {
-        Ok(None)
-    }
 }
 
 /// The faces of the line of a tile's faces.
@@ -226,19 +157,6 @@ fn read_flows<S: Source>(
     parsed(lines, numbers_after(alloc, lines.line(), b"flows")?)
 }
 
-/// Reads the grid of a surface.
-fn read_grid<S: Source>(
-    alloc: Global,
-    feed: &mut Feed<S>,
-    lines: &mut Lines,
-    head: Head,
-) -> Result<Grid, LineFault>
-    ensures read { ReadsPart values_in (AreLong head.width head.height) (grid_text head.width head.height) (place_of S.left S.faults feed.old lines.old) (place_of S.left S.faults feed.new lines.new) result }
-    ensures size { IfOk result (λ grid. (grid.width ≡ head.width) × (grid.height ≡ head.height)) }
-{
-    read_sized_grid(alloc, feed, lines, head.width, head.height)
-}
-
 /// Reads the lines of a surface.
 fn read_surface<S: Source>(
     alloc: Global,
@@ -250,7 +168,7 @@ fn read_surface<S: Source>(
     ensures fits { IfOk result (SurfaceFits head.width head.height head.tiles) }
 {
     let (tile_cost, seam_cost) = read_costs(feed, lines)?;
-    let grid = read_grid(alloc, feed, lines, head)?;
+    let grid = read_grid_part(alloc, feed, lines, head.width, head.height)?;
     let faces = read_faces(alloc, feed, lines, head.tiles)?;
     let flows = read_flows(alloc, feed, lines)?;
     Ok(ReportSurface {
@@ -330,21 +248,6 @@ fn read_lines<S: Source>(
         terms,
         items,
     })
-}
-
-/// Reads the end of the input. A line that is there instead is refused.
-fn expect_end<S: Source>(feed: &mut Feed<S>, lines: &mut Lines) -> Result<(), LineFault>
-    ensures same_source { source_name feed.new ≡ source_name feed.old }
-    ensures same_limit { limit_of feed.new ≡ limit_of feed.old }
-    ensures moves { Moves (call_of S.left S.faults feed.old feed.new) }
-    ensures ended { OnOk result (Takes (call_of S.left S.faults feed.old feed.new) (λ text rest. (text ≡ []) × (rest ≡ []))) }
-    ensures refused { IfErr result (HasMoreCause (lines_read lines.old) (call_of S.left S.faults feed.old feed.new)) }
-{
-    if feed.peek()?.is_none() {
-        return Ok(());
-    }
-    lines.next(feed, 0)?;
-    Err(LineFault::Line(lines.number()))
 }
 
 /// Reads a report and the end of the input.

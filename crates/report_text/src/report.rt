@@ -1,4 +1,4 @@
-#![tactic(auto, using(text_lines::proofs::AddLemmas::adds_then, text_lines::proofs::ChainLemmas::adds_two, text_lines::proofs::ChainLemmas::adds_three, text_lines::proofs::ChainLemmas::adds_four, crate::proofs::LineEnds::adds_line_two, crate::proofs::LineEnds::adds_line_three))]
+#![tactic(auto, using(text_lines::proofs::AddLemmas::adds_then, text_lines::proofs::ChainLemmas::adds_two, text_lines::proofs::ChainLemmas::adds_three, text_lines::proofs::ChainLemmas::adds_four, text_parts::proofs::LineEnds::adds_line_two))]
 
 ghost use Rattle.sums_and_lists.specs.Sums.{one_if};
 ghost use Rattle.raster_model.specs.Tiles.{tiles_of};
@@ -6,12 +6,13 @@ ghost use Rattle.report_text.specs.Appending.{AreOver, AreSmallItems, IsSmallIte
 ghost use Rattle.report_text.specs.Certified.{IsCertifiedReport};
 ghost use Rattle.report_text.specs.Contents.{IsReport, MayBeInRange};
 ghost use Rattle.report_text.specs.Reports.{HasItsVersion, is_published, item_of, items_of, report_of};
-ghost use Rattle.report_text.specs.Terms.{terms_of, version_on};
-ghost use Rattle.report_text.specs.Text.{after_text, ended_line, head_text, item_text, ramp_line, report_text, rule_line, size_line, steep_line, terms_text, tile_line, version_line};
+ghost use Rattle.text_parts.specs.Terms.{terms_of};
+ghost use Rattle.report_text.specs.Terms.{version_on};
+ghost use Rattle.report_text.specs.Text.{after_text, head_text, item_text, report_text, terms_text, tile_line, version_line};
+ghost use Rattle.text_parts.specs.Text.{ended_line};
 ghost use Rattle.std.specs.Prelude.{◌≡◌, [], IfSome, flat_map, map};
 ghost use Rattle.surface_snapshots.specs.Views.{parts_of};
 ghost use Rattle.text_lines.specs.Adding.{Adds, Puts};
-ghost use Rattle.text_lines.specs.Numbers.{number_text};
 ghost use Rattle.text_lines.specs.Views.{view_of};
 ghost use Rattle.tile_board.specs.Boards.{IsBoard};
 ghost use Rattle.tile_board.specs.Histories.{IsComplete};
@@ -19,9 +20,10 @@ ghost use Rattle.tile_board.specs.Histories.{IsComplete};
 use crate::entry::add_entry;
 use crate::surface::add_surface;
 use insar_ports::{Sink, WriteFault};
-use raster_model::{RuleKind, Session, Terms};
+use raster_model::{Session, Terms};
 use surface_snapshots::Snapshot;
-use text_lines::{TextWriter, add_field, add_signed_field, rule_name};
+use text_lines::{TextWriter, add_field};
+use text_parts::{add_ramp, add_rule, add_size, add_steepness};
 use tile_board::{Board, Entry};
 
 /// Writes the report of a board: the head, then the whole history in order, after each publication the published
@@ -91,28 +93,11 @@ fn add_version<K: Sink>(text: &mut TextWriter<K>, version: u32)
     text.end_line();
 }
 
-fn add_size<K: Sink>(text: &mut TextWriter<K>, width: u32, height: u32)
-    ensures { Adds (view_of K.held K.faults text.old) (view_of K.held K.faults text.new) (ended_line size_line (width, height)) }
-{
-    text.bytes(b"size");
-    add_field(text, width);
-    add_field(text, height);
-    text.end_line();
-}
-
 fn add_side<K: Sink>(text: &mut TextWriter<K>, side: u32)
     ensures { Adds (view_of K.held K.faults text.old) (view_of K.held K.faults text.new) (ended_line tile_line side) }
 {
     text.bytes(b"tile");
     add_field(text, side);
-    text.end_line();
-}
-
-fn add_rule<K: Sink>(text: &mut TextWriter<K>, rule: RuleKind)
-    ensures { Adds (view_of K.held K.faults text.old) (view_of K.held K.faults text.new) (ended_line rule_line rule) }
-{
-    text.bytes(b"rule ");
-    text.bytes(rule_name(rule));
     text.end_line();
 }
 
@@ -125,29 +110,6 @@ fn add_terms<K: Sink>(text: &mut TextWriter<K>, version: u32, terms: Terms)
     }
     add_ramp(text, terms.ramp_x, terms.ramp_y);
     add_steepness(text, terms.steep);
-}
-
-fn add_ramp<K: Sink>(text: &mut TextWriter<K>, across: i32, along: i32)
-    ensures { Adds (view_of K.held K.faults text.old) (view_of K.held K.faults text.new) (ended_line ramp_line (across, along)) }
-{
-    text.bytes(b"ramp");
-    add_slope(text, across);
-    add_slope(text, along);
-    text.end_line();
-}
-
-fn add_slope<K: Sink>(text: &mut TextWriter<K>, slope: i32)
-    ensures { Adds (view_of K.held K.faults text.old) (view_of K.held K.faults text.new) (number_text slope) }
-{
-    add_signed_field(text, i64::from(slope));
-}
-
-fn add_steepness<K: Sink>(text: &mut TextWriter<K>, steep: u32)
-    ensures { Adds (view_of K.held K.faults text.old) (view_of K.held K.faults text.new) (ended_line steep_line steep) }
-{
-    text.bytes(b"steep");
-    add_field(text, steep);
-    text.end_line();
 }
 
 /// Whether a surface comes after an entry.

@@ -1,10 +1,11 @@
-#![tactic(auto, using(text_lines::proofs::AddLemmas::adds_then, crate::proofs::LineEnds::adds_line_two, crate::proofs::LineEnds::adds_line_three))]
+#![tactic(auto, using(text_lines::proofs::AddLemmas::adds_then, text_parts::proofs::LineEnds::adds_line_two, text_parts::proofs::LineEnds::adds_line_three))]
 
 ghost use Rattle.text_lines.specs.Numbers.{AreLongs};
 ghost use Rattle.report_text.specs.Contents.{IsSurfaceInRange};
 ghost use Rattle.text_lines.specs.Parsing.{IsWide};
 ghost use Rattle.report_text.specs.Reports.{surface_of};
-ghost use Rattle.report_text.specs.Text.{all_faces_text, costs_line, ended_line, faces_line, flows_line, surface_block_text};
+ghost use Rattle.report_text.specs.Text.{all_faces_text, costs_line, faces_line, flows_line, surface_block_text};
+ghost use Rattle.text_parts.specs.Text.{ended_line};
 ghost use Rattle.raster_model.specs.Tiles.{tiles_of};
 ghost use Rattle.std.specs.Prelude.{◌≡◌, ◌<◌, ℕ};
 ghost use Rattle.surface_snapshots.specs.Parts.{faces_in};

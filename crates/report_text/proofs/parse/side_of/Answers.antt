@@ -2,7 +2,7 @@ use Rattle.std.proofs.Common.{refl}
 use Rattle.std.specs.Prelude.{codes}
 use Rattle.raster_model.specs.Limits.{IsTileSide}
 use Rattle.report_text.specs.Text.{tile_line}
-use Rattle.report_text.proofs.ReadLemmas.{labelled}
+use Rattle.text_parts.proofs.ParseLemmas.{labelled}
 use Rattle.text_lines.specs.Text.{field_text}
 use Rattle.report_text.proofs.parse.side_of.Goals as goal
 

@@ -3,7 +3,7 @@ use Rattle.std.specs.Prelude.{codes}
 use Rattle.report_text.specs.Terms.{IsVersion}
 use Rattle.report_text.proofs.LineLemmas.{version_in, version_small}
 use Rattle.report_text.specs.Text.{version_line}
-use Rattle.report_text.proofs.ReadLemmas.{labelled}
+use Rattle.text_parts.proofs.ParseLemmas.{labelled}
 use Rattle.text_lines.specs.Text.{field_text}
 use Rattle.report_text.proofs.parse.version_of.Goals as goal
 

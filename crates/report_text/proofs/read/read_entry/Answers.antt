@@ -1,6 +1,6 @@
 use Rattle.std.proofs.Common.{refl}
 use Rattle.report_text.proofs.PartForms.{entry_kind}
-use Rattle.report_text.proofs.ReadsLemmas.{on_ok_if, reads_parsed, reads_unread}
+use Rattle.text_parts.proofs.ReadsLemmas.{on_ok_if, reads_parsed, reads_unread}
 use Rattle.report_text.proofs.read.read_entry.Goals as goal
 
 pub returns-in_err-read_line-clause-read : goal.returns-in_err-read_line-clause-read

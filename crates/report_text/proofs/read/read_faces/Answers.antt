@@ -7,7 +7,7 @@ use Rattle.report_text.specs.Parts.{AreFacesBelow, lists_in}
 use Rattle.report_text.specs.Text.{all_faces_text, faces_text}
 use Rattle.report_text.proofs.ListsLemmas.{faces_pushed, longs_push}
 use Rattle.report_text.proofs.PartForms.{tile_after, tile_first}
-use Rattle.report_text.proofs.ReadsLemmas.{advances_then, reads_ok, reads_starved, reads_within, took, took_is, took_none, took_then}
+use Rattle.text_parts.proofs.ReadsLemmas.{advances_then, reads_ok, reads_starved, took, took_is, took_none, took_then, reads_within}
 use Rattle.report_text.proofs.read.read_faces.Goals as goal
 
 pub loop-tile-init : goal.loop-tile-init

@@ -1,6 +1,6 @@
 use Rattle.std.proofs.Common.{◌≡◌, vec_len}
 use Rattle.report_text.specs.Parts.{AreFacesBelow, lists_in}
-use Rattle.report_text.specs.Steps.{Took, place_of}
+use Rattle.text_parts.specs.Steps.{Took, place_of}
 use Rattle.report_text.specs.Text.{all_faces_text}
 use Rattle.report_text.proofs.read.read_faces.Given as goal
 

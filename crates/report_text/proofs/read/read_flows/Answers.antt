@@ -1,6 +1,6 @@
 use Rattle.std.proofs.Common.{refl}
 use Rattle.report_text.proofs.PartForms.{flows_kind}
-use Rattle.report_text.proofs.ReadsLemmas.{reads_parsed, reads_starved, reads_unread}
+use Rattle.text_parts.proofs.ReadsLemmas.{reads_parsed, reads_unread, reads_starved}
 use Rattle.report_text.proofs.read.read_flows.Goals as goal
 
 pub returns-in_err-read_line : goal.returns-in_err-read_line

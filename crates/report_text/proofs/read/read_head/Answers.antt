@@ -1,7 +1,8 @@
 use Rattle.std.proofs.Common.{refl}
 use Rattle.text_lines.proofs.SeqLemmas.{after_then}
-use Rattle.report_text.proofs.PartForms.{frame_part, rule_kind, side_kind, size_kind, tiling_part, version_kind}
-use Rattle.report_text.proofs.ReadsLemmas.{line_part, reads_first, reads_ok, reads_second, reads_within, took, took_then, turn_after, turn_first}
+use Rattle.report_text.proofs.PartForms.{frame_part, side_kind, tiling_part, version_kind}
+use Rattle.text_parts.proofs.PartForms.{rule_kind, size_kind}
+use Rattle.text_parts.proofs.ReadsLemmas.{line_part, reads_ok, took, took_then, turn_after, turn_first, reads_first, reads_second, reads_within}
 use Rattle.report_text.proofs.read.read_head.Goals as goal
 
 pub returns-in_err-version : goal.returns-in_err-version

@@ -1,4 +1,4 @@
-use Rattle.report_text.proofs.ReadsLemmas.{advances_stay, took_none}
+use Rattle.text_parts.proofs.ReadsLemmas.{advances_stay, took_none}
 use Rattle.report_text.proofs.read.read_item.Goals as goal
 
 pub returns-then-not-is_publication-clause-advances : goal.returns-then-not-is_publication-clause-advances

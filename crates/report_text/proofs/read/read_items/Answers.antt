@@ -5,10 +5,11 @@ use Rattle.tile_board.specs.declared.entry.Entry.{Entry}
 use Rattle.report_text.specs.Contents.{IsItemInRange, told_item}
 use Rattle.report_text.specs.Fitting.{MayFit}
 use Rattle.report_text.specs.Parts.{AreItems, items_in}
-use Rattle.report_text.specs.Text.{ended_line, history_line, item_text}
+use Rattle.text_parts.specs.Text.{ended_line}
+use Rattle.report_text.specs.Text.{history_line, item_text}
 use Rattle.report_text.proofs.ItemForms.{entry_first, items_after, publication_after, surface_first, texts}
 use Rattle.report_text.proofs.ItemsLemmas.{all_get, flat_map-push, item_read}
-use Rattle.report_text.proofs.ReadsLemmas.{advances_then, reads_ok, reads_part, reads_starved, reads_within, took, took_is, took_none, took_then}
+use Rattle.text_parts.proofs.ReadsLemmas.{advances_then, reads_ok, reads_part, reads_starved, took, took_is, took_none, took_then, reads_within}
 use Rattle.report_text.proofs.read.read_items.Goals as goal
 use Rattle.sums_and_lists.proofs.Lists.{all_push}
 

@@ -3,7 +3,7 @@ use Rattle.std.specs.List.{AllByRecursion}
 use Rattle.insar_ports.specs.Feeding.{handed_of, limit_of}
 use Rattle.report_text.specs.Fitting.{MayFit}
 use Rattle.report_text.specs.Parts.{AreItems, items_in}
-use Rattle.report_text.specs.Steps.{Took, place_of}
+use Rattle.text_parts.specs.Steps.{Took, place_of}
 use Rattle.report_text.proofs.ItemForms.{texts}
 use Rattle.report_text.proofs.read.read_items.Given as goal
 

@@ -2,9 +2,9 @@ use Rattle.std.proofs.Common.{ℕ, ◌++◌, sym, ap, subst, ◌∙◌}
 use Rattle.text_lines.proofs.FormLemmas.{ComesAfter}
 use Rattle.report_text.specs.Contents.{IsReportText}
 use Rattle.report_text.specs.Parts.{AreItems, IsItemsText, front_in, front_text, items_in, items_text}
-use Rattle.report_text.specs.Terms.{terms_of}
+use Rattle.text_parts.specs.Terms.{terms_of}
 use Rattle.report_text.specs.Text.{terms_text}
-use Rattle.report_text.proofs.ReadsLemmas.{reads_first, reads_ok, reads_second, reads_within, took, took_then}
+use Rattle.text_parts.proofs.ReadsLemmas.{reads_first, reads_second, reads_within, reads_ok, took, took_then}
 use Rattle.report_text.proofs.ReportForms.{items_after, report_first, report_is, rest_after, terms_first}
 use Rattle.report_text.proofs.read.read_lines.Goals as goal
 

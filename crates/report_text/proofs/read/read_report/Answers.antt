@@ -1,4 +1,6 @@
-use Rattle.report_text.proofs.ReportAnswers.{accepts, refuses}
+use Rattle.report_text.specs.Contents.{IsReport, report_told}
+use Rattle.report_text.specs.Text.{report_text}
+use Rattle.text_parts.proofs.TextAnswers.{accepts, refuses}
 use Rattle.report_text.proofs.read.read_report.Goals as goal
 
 pub returns : goal.returns
@@ -12,6 +14,6 @@ returns g c =
       read = r.0;
       fits = r.1.0;
       refused = r.1.1;
-      accepted = accepts _ c.read_whole.result r;
-      exact = refuses _ c.read_whole.result r;
+      accepted = accepts report_told IsReport report_text _ c.read_whole.result r;
+      exact = refuses report_told IsReport report_text _ c.read_whole.result r;
     }

@@ -1,6 +1,6 @@
 use Rattle.std.proofs.Common.{refl}
 use Rattle.report_text.proofs.PartForms.{side_kind}
-use Rattle.report_text.proofs.ReadsLemmas.{reads_parsed, reads_unread}
+use Rattle.text_parts.proofs.ReadsLemmas.{reads_parsed, reads_unread}
 use Rattle.report_text.proofs.read.read_side.Goals as goal
 
 pub returns-in_err-read_line : goal.returns-in_err-read_line

@@ -1,7 +1,8 @@
 use Rattle.std.proofs.Common.{sym}
 use Rattle.text_lines.proofs.SeqLemmas.{after_then}
-use Rattle.report_text.proofs.PartForms.{certificates_part, costs_after, costs_first, faces_part, flows_kind, grid_part, surface_is}
-use Rattle.report_text.proofs.ReadsLemmas.{line_part, reads_first, reads_ok, reads_second, reads_within, took, took_then, turn_after, turn_first}
+use Rattle.report_text.proofs.PartForms.{certificates_part, costs_after, costs_first, faces_part, flows_kind, surface_is}
+use Rattle.text_parts.proofs.PartForms.{grid_part}
+use Rattle.text_parts.proofs.ReadsLemmas.{line_part, reads_ok, took, took_then, turn_after, turn_first, reads_first, reads_second, reads_within}
 use Rattle.report_text.proofs.read.read_surface.Goals as goal
 
 pub returns-in_err-tile_cost-clause-read : goal.returns-in_err-tile_cost-clause-read

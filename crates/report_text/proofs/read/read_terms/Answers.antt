@@ -1,10 +1,11 @@
 use Rattle.std.proofs.Common.{of_z, refl, subst, sym, to_z}
 use mir.Syntax.{w32}
-use Rattle.report_text.specs.Terms.{AreTermsIn, plain_terms, terms_of}
-use Rattle.report_text.proofs.LineLemmas.{slope_is}
+use Rattle.report_text.specs.Terms.{AreTermsIn, plain_terms}
+use Rattle.text_parts.specs.Terms.{terms_of}
+use Rattle.text_parts.proofs.LineLemmas.{slope_is}
 use Rattle.report_text.proofs.PartForms.{none_told, plain_in, ramp_after, ramp_first, told_terms}
-use Rattle.report_text.proofs.ReadsLemmas.{reads_first, reads_ok, reads_second, took, took_none, took_then}
-use Rattle.report_text.proofs.TermsLemmas.{same_terms}
+use Rattle.text_parts.proofs.ReadsLemmas.{reads_first, reads_second, reads_ok, took, took_none, took_then}
+use Rattle.text_parts.proofs.UniqueLemmas.{same_terms}
 use Rattle.report_text.proofs.read.read_terms.Goals as goal
 
 pub returns-then-version-eq1 : goal.returns-then-version-eq1

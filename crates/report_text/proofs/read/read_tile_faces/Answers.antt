@@ -1,8 +1,7 @@
-use Rattle.std.proofs.Common.{refl}
+use Rattle.std.proofs.Common.{refl, arith}
 use Rattle.text_lines.specs.Parsing.{IsWide}
 use Rattle.report_text.proofs.PartForms.{faces_kind}
-use Rattle.report_text.proofs.ReadsLemmas.{reads_parsed, reads_starved, reads_unread}
-use Rattle.std.proofs.Common.{arith}
+use Rattle.text_parts.proofs.ReadsLemmas.{reads_parsed, reads_unread, reads_starved}
 use Rattle.report_text.proofs.read.read_tile_faces.Goals as goal
 
 pub returns-in_err-read_line : goal.returns-in_err-read_line

@@ -1,6 +1,6 @@
 use Rattle.std.proofs.Common.{refl}
 use Rattle.report_text.proofs.PartForms.{version_kind}
-use Rattle.report_text.proofs.ReadsLemmas.{reads_parsed, reads_unread}
+use Rattle.text_parts.proofs.ReadsLemmas.{reads_parsed, reads_unread}
 use Rattle.report_text.proofs.read.read_version.Goals as goal
 
 pub returns-in_err-read_line : goal.returns-in_err-read_line

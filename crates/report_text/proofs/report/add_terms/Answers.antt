@@ -1,6 +1,6 @@
 use Rattle.text_lines.proofs.AddLemmas.{adds_nothing, adds_then}
-use Rattle.report_text.specs.Terms.{terms_of}
-use Rattle.report_text.proofs.LineLemmas.{slope_is}
+use Rattle.text_parts.specs.Terms.{terms_of}
+use Rattle.text_parts.proofs.LineLemmas.{slope_is}
 use Rattle.report_text.proofs.PartForms.{all_told, none_told}
 use Rattle.report_text.proofs.report.add_terms.Goals as goal
 

@@ -1,5 +1,5 @@
 use Rattle.std.proofs.Common.{refl}
-use Rattle.report_text.proofs.LineEnds.{adds_line_two}
+use Rattle.text_parts.proofs.LineEnds.{adds_line_two}
 use Rattle.report_text.proofs.report.add_version.Goals as goal
 
 pub returns : goal.returns

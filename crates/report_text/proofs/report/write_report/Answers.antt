@@ -1,5 +1,5 @@
 use Rattle.std.proofs.Common.{rules}
-use Rattle.report_text.specs.Terms.{terms_of}
+use Rattle.text_parts.specs.Terms.{terms_of}
 use Rattle.text_lines.proofs.AddLemmas.{puts_made}
 use Rattle.report_text.proofs.CertifiedLemmas.{board_is_certified}
 use Rattle.report_text.proofs.RangeLemmas.{board_in_range}

@@ -15,7 +15,7 @@ loop-tile-preserved c =
     let read : c.deref.result.now ≡ lists_of lists.items t = c.deref.ensures.value ∙ sym (faces_read lists.items t c.index-faces.result.now (omega (arith, c.loop-tile-test.true, c.tile_count-tile-end.ensures.count, s.one_each, lists.ok.0)) c.index-faces.ensures) in
     let S = surface_shown (raster_shown s) (told_shown s) in
     below_more (λ (t : ℕ). IsCertifiedTile (raster_shown s) (open_shown s) t S (lists_of lists.items t)) t c.loop-tile.invariant
-    (subst (λ (faces : List ℤ). IsCertifiedTile (raster_shown s) (open_shown s) t S faces) read (c.check_faces.ensures.good.0 c.in-Good.is))
+    (subst (λ (faces : List ℤ). IsCertifiedTile (raster_shown s) (open_shown s) t S faces) read ((rw c.values-values.ensures.grid at c.check_faces.ensures.good).0 c.in-Good.is))
 
 pub returns-in_default-clause-found : goal.returns-in_default-clause-found
 returns-in_default-clause-found c =
@@ -27,6 +27,6 @@ returns-in_default-clause-found c =
     record {
       exists = omega (arith, c.loop-tile-test.true, c.tile_count-tile-end.ensures.count);
       before = c.loop-tile.invariant;
-      verdict_is = subst (λ (faces : List ℤ). IsFacesVerdict (raster_shown s) (open_shown s) t S faces c.check_faces.result) read c.check_faces.ensures.verdict;
+      verdict_is = subst (λ (faces : List ℤ). IsFacesVerdict (raster_shown s) (open_shown s) t S faces c.check_faces.result) read (rw c.values-values.ensures.grid at c.check_faces.ensures.verdict);
       not_good = c.in_default.not-Good;
     }

@@ -20,5 +20,5 @@ returns c =
       labels = label_at s.scene.now.phase.width c.labels.result.now;
       count = length c.deref_mut.result.now;
       regions = listed.1;
-      says = rw c.deref.ensures.value at c.check_flows.ensures.verdict;
+      says = rw (c.deref.ensures.value, c.values.ensures.grid) at c.check_flows.ensures.verdict;
     }

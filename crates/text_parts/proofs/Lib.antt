@@ -1,0 +1,10 @@
+pub mod LineLemmas
+pub mod LineEnds
+pub mod UniqueLemmas
+pub mod ReadsLemmas
+pub mod ParseLemmas
+pub mod EndLemmas
+pub mod PartForms
+pub mod LineForms
+pub mod TextForms
+pub mod TextAnswers

@@ -1,0 +1,51 @@
+-- Texts that are read to the end of the input: why one is not read, and what reading it promises.
+use Rattle.std.specs.Prelude.{◌≡◌, ◌⊎◌, ℕ, ◌≤◌, List, [], ◌++◌, length, Some, IfErr, IfOk, Result, Ok, Err, ⊤}
+use Rattle.insar_ports.specs.Bytes.{HasMore, HasRisen}
+use Rattle.insar_ports.specs.Calls.{Call, Takes}
+use Rattle.text_lines.specs.Forms.{Form, Begins, BreaksAt, EndsIn}
+use Rattle.text_lines.specs.declared.fault.LineFault.{LineFault}
+use Rattle.text_lines.specs.declared.fault.LineFault.TheVariants.{Line, TooLong, ReadFault, Memory}
+use Rattle.text_parts.specs.Steps.{TextOf}
+
+-- the bytes that were taken end with line n, the first with which no text of the form begins; they end in line n, and are no text of it
+abbrev pub BreaksTextAt : Form → ℕ → List ℕ → Type 0
+BreaksTextAt F n text = BreaksAt (Begins F) F n text
+
+abbrev pub EndsTextIn : Form → ℕ → List ℕ → Type 0
+EndsTextIn F n text = EndsIn (Begins F) n text × (F text → ⊥)
+
+-- Where bytes are told: those that were taken end with the first line that breaks the form, or the input ends in a line that is
+-- cut or missing; or the limit cuts a line. Otherwise a fault of the source was counted, or memory ran out.
+abbrev pub HasTextCause : Form → Call → LineFault → Type 0
+HasTextCause F c (Line n) = Takes c (λ text rest. BreaksTextAt F n text ⊎ (EndsTextIn F n text × (rest ≡ [])))
+HasTextCause F c TooLong = (c.end ≡ c.limit) × (HasMore c.left × Takes c (λ text rest. (n : ℕ) × EndsIn (Begins F) n text))
+HasTextCause F c ReadFault = HasRisen c.before c.after
+HasTextCause F c Memory = ⊤
+
+-- What was taken is the text of what was read, as `told` shows it, and nothing is left; or there is a cause.
+abbrev pub IsTextReader : {R A : Type 0} → (R → A) → (A → Type 0) → (A → List ℕ) → Call → Result R LineFault → Type 0
+IsTextReader told MayStand text c result = IfOk result (λ r. Takes c (λ taken rest. (taken ≡ text (told r)) × (rest ≡ []))) × (IfOk result (λ r. MayStand (told r)) × IfErr result (HasTextCause (TextOf MayStand text) c))
+
+-- of bytes of which so many are let out, line n is the first that breaks the form
+abbrev pub HasBrokenTextLine : Form → ℕ → ℕ → List ℕ → Type 0
+HasBrokenTextLine F room n bytes = ((front : List ℕ) × (rest : List ℕ) × ((bytes ≡ front ++ rest) × ((length front ≤ room) × BreaksTextAt F n front))) ⊎ ((length bytes ≤ room) × EndsTextIn F n bytes)
+
+-- a text is read as what has it, and nothing is left; or a fault of the source was counted, or memory ran out
+abbrev pub IsTextRead : {R A : Type 0} → (R → A) → (A → List ℕ) → Call → List ℕ → Result R LineFault → Type 0
+IsTextRead told text c bytes (Ok r) = (text (told r) ≡ bytes) × (c.left ≡ Some [])
+IsTextRead told text c bytes (Err (Line n)) = ⊥
+IsTextRead told text c bytes (Err TooLong) = ⊥
+IsTextRead told text c bytes (Err ReadFault) = HasRisen c.before c.after
+IsTextRead told text c bytes (Err Memory) = ⊤
+
+-- a first broken line is told; or one of the same happened
+abbrev pub IsTextRefusedAt : {R : Type 0} → Call → ℕ → Result R LineFault → Type 0
+IsTextRefusedAt c n (Ok r) = ⊥
+IsTextRefusedAt c n (Err (Line m)) = m ≡ n
+IsTextRefusedAt c n (Err TooLong) = ⊥
+IsTextRefusedAt c n (Err ReadFault) = HasRisen c.before c.after
+IsTextRefusedAt c n (Err Memory) = ⊤
+
+-- bytes have no two first broken lines, however many are let out, and a text of the form has none
+abbrev pub BrokenTextLineIsOne : Form → Type 0
+BrokenTextLineIsOne F = (bytes : List ℕ) (room more m n : ℕ) → HasBrokenTextLine F room m bytes → HasBrokenTextLine F more n bytes → (m ≡ n) × (F bytes → ⊥)

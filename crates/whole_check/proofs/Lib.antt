@@ -1,0 +1,5 @@
+pub mod HeadLemmas
+pub mod StandLemmas
+pub mod UniqueLemmas
+pub mod CheckLemmas
+pub mod SameLemmas

@@ -1,0 +1,12 @@
+//! The verdict on the text of a surface over the whole raster: it is certified for a session, or the first thing that is
+//! wrong with it. Contains no solver.
+#![tactic(auto)]
+
+mod check;
+mod header;
+pub mod laws;
+mod values;
+mod verdict;
+
+pub use crate::check::check_whole_text;
+pub use crate::verdict::WholeVerdict;

@@ -1,0 +1,46 @@
+ghost use Rattle.grid_writer.specs.Grids.{grid_of};
+ghost use Rattle.raster_model.specs.Masks.{open_at};
+ghost use Rattle.raster_model.specs.Scene.{raster_of};
+ghost use Rattle.raster_model.specs.Seams.{IsEarlier, IsFirstOpen};
+ghost use Rattle.std.specs.Prelude.{◌≡◌, ◌≢◌, ◌↔◌, ℕ, IfNone, IfSome, IsTrue, pos};
+ghost use Rattle.whole_check.specs.Verdicts.{AllValuesStand, IsFirstFalseValue};
+
+use raster_model::first_open;
+use shown_values::ShownValues;
+
+/// The first pixel in row order whose value does not fit its mask and its phase, or is not the phase though the pixel is the
+/// first open one.
+pub(crate) fn first_false_value(values: &ShownValues<'_>) -> Option<(u32, u32)>
+    ensures found { IfSome result (λ pixel. IsFirstFalseValue (raster_of values.now.scene.now) (open_at values.now.mask.now) (grid_of values.now.grid.now).values pixel.0 pixel.1) }
+    ensures none { IfNone result (AllValuesStand (raster_of values.now.scene.now) (open_at values.now.mask.now) (grid_of values.now.grid.now).values) }
+{
+    let unfit = values.first_unfit();
+    let Some(anchor) = off_anchor(values) else {
+        return unfit;
+    };
+    match unfit {
+        Some(pixel) if is_earlier(pixel, anchor) => Some(pixel),
+        _ => Some(anchor),
+    }
+}
+
+/// The first open pixel in row order, if its value is not the phase.
+fn off_anchor(values: &ShownValues<'_>) -> Option<(u32, u32)>
+    ensures found { IfSome result (λ pixel. IsFirstOpen (raster_of values.now.scene.now) (open_at values.now.mask.now) pixel.0 pixel.1 × ((grid_of values.now.grid.now).values pixel.0 pixel.1 ≢ pos ((raster_of values.now.scene.now).phase pixel.0 pixel.1))) }
+    ensures none { IfNone result ((x y : ℕ) → IsFirstOpen (raster_of values.now.scene.now) (open_at values.now.mask.now) x y → (grid_of values.now.grid.now).values x y ≡ pos ((raster_of values.now.scene.now).phase x y)) }
+{
+    let (x, y) = first_open(values.scene, values.mask)?;
+    let phase = i64::from(values.scene.phase.sample(x, y));
+    if values.value(x, y) == phase {
+        None
+    } else {
+        Some((x, y))
+    }
+}
+
+/// Whether a pixel comes before another in row order.
+fn is_earlier(pixel: (u32, u32), other: (u32, u32)) -> bool
+    ensures { IsTrue result ↔ IsEarlier pixel.0 pixel.1 other.0 other.1 }
+{
+    pixel.1 < other.1 || (pixel.1 == other.1 && pixel.0 < other.0)
+}

@@ -1,0 +1,5 @@
+pub mod RowLemmas
+pub mod Forms
+pub mod ReadLemmas
+pub mod SameLemmas
+pub mod ValueLemmas

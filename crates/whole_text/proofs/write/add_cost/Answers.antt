@@ -1,0 +1,6 @@
+use Rattle.std.proofs.Common.{refl}
+use Rattle.text_parts.proofs.LineEnds.{adds_line_two}
+use Rattle.whole_text.proofs.write.add_cost.Goals as goal
+
+pub returns : goal.returns
+returns g c = adds_line_two c.bytes.ensures c.add_wide_field.ensures c.end_line.ensures refl

@@ -1,0 +1,25 @@
+-- What the text of a surface that lies whole cycles above the phase tells.
+use Rattle.std.specs.Prelude.{ℕ, ◌<◌, ◌^◌, ℤ, Bool, IsTrue, if◌then◌else◌, List, unsigned_abs}
+use Rattle.raster_model.specs.declared.scene.Scene.{Scene}
+use Rattle.raster_model.specs.Raster.{Raster, lifted}
+use Rattle.raster_model.specs.Scene.{raster_of}
+use Rattle.raster_model.specs.Sums.{Field}
+use Rattle.grid_writer.specs.Grids.{GridOf}
+use Rattle.grid_writer.specs.Values.{no_data}
+use Rattle.text_parts.specs.Terms.{terms_of}
+use Rattle.whole_text.specs.Text.{WholeOf}
+
+-- an open pixel has the surface's value, a masked one the NODATA value
+abbrev pub value_above : Raster → Field Bool → Field ℤ → Field ℤ
+value_above r mask cycles x y = if mask x y then lifted r cycles x y else no_data
+
+abbrev pub grid_above : Scene → Field Bool → Field ℤ → GridOf
+grid_above s mask cycles = record { width = s.phase.width; height = s.phase.height; values = value_above (raster_of s) mask cycles }
+
+-- so few cycles at each open pixel that the value fits 64 bits and is not the NODATA value
+abbrev pub AreFewCycles : Raster → Field Bool → Field ℤ → Type 0
+AreFewCycles r mask cycles = (x y : ℕ) → x < r.width → y < r.height → IsTrue (mask x y) → unsigned_abs (cycles x y) < 2 ^ 47
+
+-- what is told of a surface with these faces and this cost
+abbrev pub told_whole : Scene → Field Bool → Field ℤ → List ℤ → ℕ → WholeOf
+told_whole s mask cycles faces cost = record { width = s.phase.width; height = s.phase.height; rule = s.rule; terms = terms_of s.terms; cost = cost; values = value_above (raster_of s) mask cycles; faces = faces }

@@ -1,0 +1,104 @@
+#![tactic(auto, using(text_lines::proofs::AddLemmas::adds_then, text_parts::proofs::LineEnds::adds_line_two))]
+
+ghost use Rattle.raster_model.specs.Heights.{KnowsOpen};
+ghost use Rattle.raster_model.specs.Masks.{open_at};
+ghost use Rattle.raster_model.specs.Scene.{raster_of};
+ghost use Rattle.std.specs.Prelude.{◌≡◌, ◌*◌, ◌-◌, ◌≤◌, length};
+ghost use Rattle.text_lines.specs.Adding.{Adds, Puts};
+ghost use Rattle.text_lines.specs.Numbers.{AreLongs};
+ghost use Rattle.text_lines.specs.Views.{view_of};
+ghost use Rattle.text_parts.specs.Terms.{terms_of};
+ghost use Rattle.text_parts.specs.Text.{ended_line};
+ghost use Rattle.whole_text.specs.Text.{IsWhole, cell_rows, cost_line, faces_line, faces_text, head_text, rows_text, whole_text};
+ghost use Rattle.whole_text.specs.Told.{AreFewCycles, told_whole};
+
+use crate::rows::SurfaceRows;
+use crate::whole::cell_rows_of;
+use grid_writer::add_grid;
+use insar_ports::{Sink, WriteFault};
+use raster_model::{Heights, Mask, Scene};
+use text_lines::{TextWriter, add_numbers, add_wide_field, see_longs};
+use text_parts::{add_ramp, add_rule, add_size, add_steepness};
+
+/// Writes the text of a surface over the whole raster: the size, the rule, the terms, the cost, the values in units of
+/// 1/65536 cycle, and the faces, one for each cell of the raster in row order. A masked pixel has the NODATA value, an open
+/// one lies whole cycles above the phase. It takes no memory. After a fault the sink has a part of the text.
+pub fn write_whole<K: Sink, H: Heights>(
+    scene: &Scene,
+    mask: &Mask,
+    heights: &H,
+    faces: &[i64],
+    cost: u128,
+    sink: &mut K,
+) -> Result<(), WriteFault>
+    requires same_size { (mask.now.width ≡ scene.now.phase.width) × (mask.now.height ≡ scene.now.phase.height) }
+    requires known { KnowsOpen (raster_of scene.now) (open_at mask.now) (H.knows heights.now) }
+    requires few { AreFewCycles (raster_of scene.now) (open_at mask.now) (H.cycles_at heights.now) }
+    requires one_each { length faces.now ≡ (scene.now.phase.width - 1) * (scene.now.phase.height - 1) }
+    ensures put { Puts (K.held sink.old) (K.faults sink.old) (K.held sink.new) (K.faults sink.new) (whole_text (told_whole scene.now (open_at mask.now) (H.cycles_at heights.now) faces.now cost)) result }
+    // The text can be read: each of its numbers is in its range.
+    ensures ranges { IsWhole (told_whole scene.now (open_at mask.now) (H.cycles_at heights.now) faces.now cost) }
+{
+    let surface = SurfaceRows {
+        scene,
+        mask,
+        heights,
+    };
+    let mut text = TextWriter::new(sink);
+    add_head(&mut text, scene, cost);
+    add_grid(&mut text, &surface);
+    add_faces(&mut text, scene.phase.width, scene.phase.height, faces);
+    text.bytes(b"end\n");
+    text.finish()
+}
+
+/// Adds the lines before the grid.
+fn add_head<K: Sink>(text: &mut TextWriter<K>, scene: &Scene, cost: u128)
+    ensures { Adds (view_of K.held K.faults text.old) (view_of K.held K.faults text.new) (head_text scene.now.phase.width scene.now.phase.height scene.now.rule (terms_of scene.now.terms) cost) }
+{
+    text.bytes(b"insar-whole 1\n");
+    add_size(text, scene.phase.width, scene.phase.height);
+    add_rule(text, scene.rule);
+    add_ramp(text, scene.terms.ramp_x, scene.terms.ramp_y);
+    add_steepness(text, scene.terms.steep);
+    add_cost(text, cost);
+}
+
+fn add_cost<K: Sink>(text: &mut TextWriter<K>, cost: u128)
+    ensures { Adds (view_of K.held K.faults text.old) (view_of K.held K.faults text.new) (ended_line cost_line cost) }
+{
+    text.bytes(b"cost");
+    add_wide_field(text, cost);
+    text.end_line();
+}
+
+/// Adds the lines of the faces of a raster of this size.
+fn add_faces<K: Sink>(text: &mut TextWriter<K>, width: u32, height: u32, faces: &[i64])
+    requires size { (1 ≤ width) × (1 ≤ height) }
+    requires one_each { length faces.now ≡ (width - 1) * (height - 1) }
+    ensures added { Adds (view_of K.held K.faults text.old) (view_of K.held K.faults text.new) (faces_text width height faces.now) }
+    ensures longs { AreLongs faces.now }
+{
+    see_longs(faces);
+    let rows = cell_rows_of(width, height);
+    add_rows(text, width as usize - 1, rows, faces);
+}
+
+/// Adds a line of faces for each of so many rows of cells.
+fn add_rows<K: Sink>(text: &mut TextWriter<K>, across: usize, rows: u32, faces: &[i64])
+    requires enough { rows * across ≤ length faces.now }
+    ensures { Adds (view_of K.held K.faults text.old) (view_of K.held K.faults text.new) (rows_text rows across faces.now) }
+{
+    for row in 0..rows {
+        let start = row as usize * across;
+        add_row(text, &faces[start..start + across]);
+    }
+}
+
+fn add_row<K: Sink>(text: &mut TextWriter<K>, faces: &[i64])
+    ensures { Adds (view_of K.held K.faults text.old) (view_of K.held K.faults text.new) (ended_line faces_line faces.now) }
+{
+    text.bytes(b"faces");
+    add_numbers(text, faces);
+    text.end_line();
+}

@@ -19,10 +19,10 @@ use Rattle.clap.specs.declared.parser.matches.ValueSource.TheVariants.{CommandLi
 use Rattle.clap.proofs.WalkLemmas.{find-map}
 use Rattle.raster_model.specs.declared.weights.RuleKind.{RuleKind}
 use Rattle.raster_model.specs.declared.weights.RuleKind.TheVariants.{Least, Mean, Product}
-use Rattle.insar_words.specs.Asked.{AreTaken, Asks, AsksWorkers, asked, asks_by_names, is_named, number_asked, slope_for}
-use Rattle.insar_words.specs.Forms.{Argument, CommandForm, Each, OfOne, Taking, Value, any_number, arguments_of, check_form, checking, drawing, fits, forms, grid_form, is_among, name, names, number, numbers, ramp_x_entry, ramp_y_entry, rule_entry, rule_name, rule_names, solving, steep_entry, tile_entry, trial_form, unwrap_form, word_of, workers_entry}
+use Rattle.insar_words.specs.Asked.{AreTaken, Asks, AsksBy, AsksWorkers, IsSideAsked, IsSideByDefault, asked, asks_by_names, is_named, number_asked, slope_for}
+use Rattle.insar_words.specs.Forms.{Argument, CommandForm, Each, OfOne, Taking, Value, any_number, arguments_of, check_form, check_whole_form, checking, drawing, fits, forms, grid_form, is_among, name, names, number, numbers, ramp_x_entry, ramp_y_entry, rule_entry, rule_name, rule_names, solving, steep_entry, tile_entry, trial_form, unwrap_form, whole_checking, whole_form, whole_solving, word_of, workers_entry}
 use Rattle.insar_words.specs.Limits.{IsTrialSide}
-use Rattle.insar_words.specs.PlainForms.{ArePlain, EachOnce, Has, HasGiven, HasSet, IsPlainlyRead, IsUnset, PlainCheckIsRead, PlainFormsAreRead, PlainSolvingIsRead, PlainTrialIsRead, Setting, are_values, is_setting, number_in_value, number_set, option_named, options_set, pairs, rule_called, set_to, workers_set}
+use Rattle.insar_words.specs.PlainForms.{ArePlain, EachOnce, Has, HasGiven, HasSet, IsPlainlyRead, IsUnset, PlainCheckIsRead, PlainCheckWholeIsRead, PlainFormsAreRead, PlainSolvingIsRead, PlainTrialIsRead, PlainWholeIsRead, Setting, are_values, is_setting, number_in_value, number_set, option_named, options_set, pairs, rule_called, set_to, workers_set}
 use Rattle.insar_words.specs.Stated.{default_texts, stated}
 use Rattle.insar_words.proofs.FormLemmas.{AreApart, IsOption, IsSound, Owns, asks_form, lacks, rule_for, sound, takes_form}
 use Rattle.insar_words.proofs.PlainLemmas.{Choice, MayGive, Walks, given, row_is, setting_of, walks_all, zipped}
@@ -304,17 +304,21 @@ module _ (options : List Argument) (settings : List Setting) (plain : ArePlain o
   number_told a least most takes first default has =
       number_has rows a.id least most (set_to a settings) (subst (λ (t : Taking). option_map_or (fits t) (set_to a settings) false ≡ true) takes (well a first default has)) has
 
-  abbrev asks_as : (command : Text) (words : List (Bor Text)) → AreTaken words → asked words ≡ Some (command, rows) → Each (λ a. option_named options a.id ≡ Some a) checking → HasSet rows checking settings → Asks command words (options_set settings)
-  asks_as command words taken named found has = record {
+  abbrev asks_by : (IsSide : List Row → ℕ → Type 0) (side : ℕ) → IsSide rows side → (command : Text) (words : List (Bor Text)) → AreTaken words → asked words ≡ Some (command, rows) → Each (λ a. option_named options a.id ≡ Some a) whole_checking → HasSet rows whole_checking settings
+      → AsksBy IsSide command words (record (options_set settings) { side = side })
+  asks_by IsSide side is command words taken named found has = record {
     taken = taken;
     rows = rows;
     named = named;
-    rule_is = rule_has rows (set_to rule_entry settings) (well rule_entry found.1.0 refl has.1.0) has.1.0;
-    side_is = number_told tile_entry 2 128 refl found.0 refl has.0;
-    ramp_x_is = ap (option_map slope_for) (number_told ramp_x_entry 0 65535 refl found.1.1.0 refl has.1.1.0);
-    ramp_y_is = ap (option_map slope_for) (number_told ramp_y_entry 0 65535 refl found.1.1.1.0 refl has.1.1.1.0);
-    steep_is = number_told steep_entry 1 16 refl found.1.1.1.1.0 refl has.1.1.1.1.0;
+    rule_is = rule_has rows (set_to rule_entry settings) (well rule_entry found.0 refl has.0) has.0;
+    side_is = is;
+    ramp_x_is = ap (option_map slope_for) (number_told ramp_x_entry 0 65535 refl found.1.0 refl has.1.0);
+    ramp_y_is = ap (option_map slope_for) (number_told ramp_y_entry 0 65535 refl found.1.1.0 refl has.1.1.0);
+    steep_is = number_told steep_entry 1 16 refl found.1.1.1.0 refl has.1.1.1.0;
   }
+
+  abbrev asks_as : (command : Text) (words : List (Bor Text)) → AreTaken words → asked words ≡ Some (command, rows) → Each (λ a. option_named options a.id ≡ Some a) checking → HasSet rows checking settings → Asks command words (options_set settings)
+  asks_as command words taken named found has = asks_by IsSideAsked (number_set tile_entry settings) (number_told tile_entry 2 128 refl found.0 refl has.0) command words taken named found.1 has.1
 
 abbrev solving_as : (command : Text) (words : List (Bor Text)) (settings : List Setting) (rows : List Row) → ArePlain solving settings → AreTaken words → asked words ≡ Some (command, rows) → HasSet rows solving settings
     → AsksWorkers command words (options_set settings) (workers_set settings)
@@ -337,6 +341,17 @@ pub plain_check : PlainCheckIsRead
 plain_check words settings plain spelled =
     let r = plain_forms words check_form [] settings (inr (inr (inl refl))) refl plain spelled in
     asks_as checking settings plain r.rows (codes "check") words r.taken r.named (refl, (refl, (refl, (refl, (refl, tt))))) r.options
+
+pub plain_whole : PlainWholeIsRead
+plain_whole words settings plain spelled =
+    let r = plain_forms words whole_form [] settings (inr (inr (inr (inr (inr (inr (inr (inl refl)))))))) refl plain spelled in
+    let has = r.options in
+    (asks_by whole_solving settings plain r.rows IsSideByDefault 64 refl (codes "whole") words r.taken r.named (refl, (refl, (refl, (refl, tt)))) (has.0, (has.1.0, (has.1.1.0, (has.1.1.1.0, tt)))), number_told whole_solving settings plain r.rows workers_entry 1 8 refl refl refl has.1.1.1.1.0)
+
+pub plain_check_whole : PlainCheckWholeIsRead
+plain_check_whole words settings plain spelled =
+    let r = plain_forms words check_whole_form [] settings (inr (inr (inr (inr (inr (inr (inr (inr (inl refl))))))))) refl plain spelled in
+    asks_by whole_checking settings plain r.rows IsSideByDefault 64 refl (codes "check-whole") words r.taken r.named (refl, (refl, (refl, (refl, tt)))) r.options
 
 le_true : (m n : ℕ) → m ≤ n → nat_le m n ≡ true
 le_true m n h = grind (arith, nat_tests)

@@ -24,16 +24,16 @@ use Rattle.raster_model.specs.declared.terms.Terms.{Terms}
 use Rattle.raster_model.specs.declared.weights.RuleKind.{RuleKind}
 use Rattle.raster_model.specs.declared.weights.RuleKind.TheVariants.{Least, Mean, Product}
 use Rattle.raster_model.specs.Limits.{IsSlope, IsSteepness, IsTileSide, max_pixels}
-use Rattle.insar_words.specs.Asked.{AreTaken, Asks, IsCheck, IsCommand, IsGridCommand, IsRefused, IsTooLarge, IsTrialCommand, OneCommand, Options, asked, asks_by_names, has_names, is_named, number_asked, slope_asked, slope_for}
+use Rattle.insar_words.specs.Asked.{AreTaken, Asks, AsksBy, IsCheck, IsCheckWhole, IsCommand, IsGridCommand, IsRefused, IsSideAsked, IsSideByDefault, IsTooLarge, IsTrialCommand, IsWhole, OneCommand, Options, asked, asks_by_names, has_names, is_named, number_asked, slope_asked, slope_for}
 use Rattle.insar_words.specs.Faults.{fault_of_kind}
-use Rattle.insar_words.specs.Forms.{CommandForm, Each, OfOne, arguments_of, check_form, closure_form, displacement_form, forms, grid_form, is_among, rule_entry, rule_name, rule_names, screen_form, trial_form, unwrap_form}
+use Rattle.insar_words.specs.Forms.{CommandForm, Each, OfOne, arguments_of, check_form, check_whole_form, closure_form, displacement_form, forms, grid_form, is_among, rule_entry, rule_name, rule_names, screen_form, trial_form, unwrap_form, whole_form}
 use Rattle.insar_words.specs.Limits.{IsBlockAsked, IsNearCount, IsPatchSize, IsReferencePlace, IsScreenRadius, IsTrialSide, IsWavelengthAsked, IsWorkers}
-use Rattle.insar_words.specs.Requests.{AskSomething, CheckIsRequest, GridIsRequest, HasWordsCause, IsRequest, IsSession, OneRequest, RefusedOrAsking, TellsAll, TellsNothing, TellsRefusal, TellsRequest, TellsSettings, TellsTooMany, TrialIsRequest, UnwrapIsRequest, options_of}
+use Rattle.insar_words.specs.Requests.{AskSomething, CheckIsRequest, CheckWholeIsRequest, GridIsRequest, HasWordsCause, IsRequest, IsSession, OneRequest, RefusedOrAsking, TellsAll, TellsNothing, TellsRefusal, TellsRequest, TellsSettings, TellsTerms, TellsTooMany, TellsWhole, TrialIsRequest, UnwrapIsRequest, WholeIsRequest, options_of}
 use Rattle.insar_words.specs.Stated.{stated}
-use Rattle.insar_words.specs.Values.{HasChecking, HasNumber, HasSolving, HasValues, ReadsAs}
+use Rattle.insar_words.specs.Values.{HasChecking, HasNumber, HasSolving, HasTerms, HasValues, ReadsAs}
 use Rattle.insar_words.specs.declared.fault.WordsFault.{WordsFault}
 use Rattle.insar_words.specs.declared.request.Request.{Request}
-use Rattle.insar_words.specs.declared.request.Request.TheVariants.{Unwrap, Grid, Check, Trial, Screen, Closure, Displacement}
+use Rattle.insar_words.specs.declared.request.Request.TheVariants.{Unwrap, Grid, Check, Trial, Screen, Closure, Displacement, Whole, CheckWhole}
 use Rattle.insar_words.specs.declared.screening.Screening.{Screening}
 use Rattle.insar_words.specs.declared.displacing.Displacing.{Displacing}
 use Rattle.insar_words.specs.declared.settings.Settings.{Settings}
@@ -63,6 +63,8 @@ command_of (Trial trial) = codes "trial"
 command_of (Screen screening) = codes "screen"
 command_of Closure = codes "closure"
 command_of (Displacement displacing) = codes "displacement"
+command_of (Whole settings) = codes "whole"
+command_of (CheckWhole settings) = codes "check-whole"
 
 -- the command that is told
 pub told_by : (command : Text) (rows : List Row) (r : Request) → TellsRequest command rows r → command ≡ command_of r
@@ -82,29 +84,40 @@ tells_by words r is command rows named =
     subst (λ (t : Text). TellsRequest t rows r) same.0 (subst (λ (rs : List Row). TellsRequest is.command rs r) same.1 is.tells)
 
 -- the options that rows tell
-abbrev AreTold : List Row → Options → Type 0
-AreTold rows options = (first_of (codes "rule") rows ≡ Some (rule_name options.rule)) × ((number_asked (codes "tile") rows ≡ Some options.side)
+abbrev AreTold : (List Row → ℕ → Type 0) → List Row → Options → Type 0
+AreTold IsSide rows options = ((first_of (codes "rule") rows ≡ Some (rule_name options.rule))
     × ((slope_asked (codes "ramp-x") rows ≡ Some options.ramp_x) × ((slope_asked (codes "ramp-y") rows ≡ Some options.ramp_y) × (number_asked (codes "steep") rows ≡ Some options.steep))))
+    × IsSide rows options.side
+
+-- they tell one side
+abbrev OneSide : (List Row → ℕ → Type 0) → Type 0
+OneSide IsSide = (rows : List Row) (side other : ℕ) → IsSide rows side → IsSide rows other → side ≡ other
 
 pub some_one : {X : Type 0} (o : Option X) (x y : X) → o ≡ Some x → o ≡ Some y → x ≡ y
 some_one o x y a b = cc
 
-one_choice : (rows : List Row) (options others : Options) → AreTold rows options → AreTold rows others → options ≡ others
-one_choice rows options others a b =
-    let rules = one_rule options.rule others.rule (some_one _ _ _ a.0 b.0) in
-    let sides = some_one _ options.side others.side a.1.0 b.1.0 in
-    let across = some_one _ options.ramp_x others.ramp_x a.1.1.0 b.1.1.0 in
-    let along = some_one _ options.ramp_y others.ramp_y a.1.1.1.0 b.1.1.1.0 in
-    let steeps = some_one _ options.steep others.steep a.1.1.1.1 b.1.1.1.1 in
+one_asked : OneSide IsSideAsked
+one_asked rows side other a b = some_one _ side other a b
+
+one_default : OneSide IsSideByDefault
+one_default rows side other a b = a ∙ sym b
+
+one_choice : (IsSide : List Row → ℕ → Type 0) → OneSide IsSide → (rows : List Row) (options others : Options) → AreTold IsSide rows options → AreTold IsSide rows others → options ≡ others
+one_choice IsSide one rows options others a b =
+    let rules = one_rule options.rule others.rule (some_one _ _ _ a.0.0 b.0.0) in
+    let sides = one rows options.side others.side a.1 b.1 in
+    let across = some_one _ options.ramp_x others.ramp_x a.0.1.0 b.0.1.0 in
+    let along = some_one _ options.ramp_y others.ramp_y a.0.1.1.0 b.0.1.1.0 in
+    let steeps = some_one _ options.steep others.steep a.0.1.1.1 b.0.1.1.1 in
     λ i. record { rule = rules i; side = sides i; ramp_x = across i; ramp_y = along i; steep = steeps i }
 
-asks_told : (command : Text) (words : List (Bor Text)) (options : Options) (a : Asks command words options) → AreTold a.rows options
-asks_told command words options a = (a.rule_is, (a.side_is, (a.ramp_x_is, (a.ramp_y_is, a.steep_is))))
+asks_told : (IsSide : List Row → ℕ → Type 0) (command : Text) (words : List (Bor Text)) (options : Options) (a : AsksBy IsSide command words options) → AreTold IsSide a.rows options
+asks_told IsSide command words options a = ((a.rule_is, (a.ramp_x_is, (a.ramp_y_is, a.steep_is))), a.side_is)
 
 pub one_command : OneCommand
 one_command words command other options others a b =
     let same = same_asked words command other a.rows b.rows a.named b.named in
-    (same.0, one_choice b.rows options others (subst (λ (rows : List Row). AreTold rows options) same.1 (asks_told command words options a)) (asks_told other words others b))
+    (same.0, one_choice IsSideAsked one_asked b.rows options others (subst (λ (rows : List Row). AreTold IsSideAsked rows options) same.1 (asks_told IsSideAsked command words options a)) (asks_told IsSideAsked other words others b))
 
 -- two bounds of an integer are one
 bound_prop : {a b : ℤ} (p q : a ≤ℤ b) → p ≡ q
@@ -174,7 +187,10 @@ same_displacing s t waves columns rows blocks = λ i.
     }
 
 same_told : (rows : List Row) (s t : Settings) → TellsSettings rows s → TellsSettings rows t → s.workers ≡ t.workers → s ≡ t
-same_told rows s t a b crew = same_settings s t (one_choice rows (options_of s) (options_of t) a b) crew
+same_told rows s t a b crew = same_settings s t (one_choice IsSideAsked one_asked rows (options_of s) (options_of t) a b) crew
+
+same_whole : (rows : List Row) (s t : Settings) → TellsWhole rows s → TellsWhole rows t → s.workers ≡ t.workers → s ≡ t
+same_whole rows s t a b crew = same_settings s t (one_choice IsSideByDefault one_default rows (options_of s) (options_of t) a b) crew
 
 one_told : (command : Text) (rows : List Row) (r q : Request) → TellsRequest command rows r → TellsRequest command rows q → r ≡ q
 one_told command rows (Unwrap s) (Unwrap t) a b = ap Unwrap (same_told rows s t a.1.0 b.1.0 (cc))
@@ -184,6 +200,8 @@ one_told command rows (Trial s) (Trial t) a b = ap Trial (same_trial s t (cc) (c
 one_told command rows (Screen s) (Screen t) a b = ap Screen (same_screening s t (some_one _ _ _ a.1.0 b.1.0) (some_one _ _ _ a.1.1.0 b.1.1.0) (some_one _ _ _ a.1.1.1.0 b.1.1.1.0) (some_one _ _ _ a.1.1.1.1.0 b.1.1.1.1.0) (some_one _ _ _ a.1.1.1.1.1 b.1.1.1.1.1))
 one_told command rows Closure Closure a b = refl
 one_told command rows (Displacement s) (Displacement t) a b = ap Displacement (same_displacing s t (some_one _ _ _ a.1.0 b.1.0) (some_one _ _ _ a.1.1.0 b.1.1.0) (some_one _ _ _ a.1.1.1.0 b.1.1.1.0) (some_one _ _ _ a.1.1.1.1 b.1.1.1.1))
+one_told command rows (Whole s) (Whole t) a b = ap Whole (same_whole rows s t a.1.0 b.1.0 (cc))
+one_told command rows (CheckWhole s) (CheckWhole t) a b = ap CheckWhole (same_whole rows s t a.1.0 b.1.0 (cc))
 one_told command rows r q a b = absurd (apart (command_of r) (command_of q) refl (sym (told_by command rows r a) ∙ told_by command rows q b))
 
 pub one_request : OneRequest
@@ -211,16 +229,21 @@ slope_there id rows h = let n = number_there id 0 65535 rows h in (slope_for n.0
 pub number_within : (id : Text) (least most : ℕ) (rows : List Row) (n : ℕ) → HasNumber id least most rows → number_asked id rows ≡ Some n → (least ≤ n) × (n ≤ most)
 number_within id least most rows n h e = let there = number_there id least most rows h in subst (λ (m : ℕ). (least ≤ m) × (m ≤ most)) (some_one _ there.0 n there.1 e) there.2
 
--- the settings of a command, but for its workers
+-- the settings of a command, with this side and so many workers
+terms_there : (rows : List Row) → HasTerms rows → is_named rule_entry.takes (first_of (codes "rule") rows) ≡ true → (side : ℕ) → IsTileSide side → (workers : ℕ) → IsWorkers workers → (settings : Settings) × (TellsTerms rows settings × ((settings.side ≡ side) × (settings.workers ≡ workers)))
+terms_there rows has names side sides workers crew =
+    let rule = rule_of_text has.0.0 (ap (is_named rule_entry.takes) (sym has.0.1) ∙ names) in
+    let x = slope_there (codes "ramp-x") rows has.1.0 in
+    let y = slope_there (codes "ramp-y") rows has.1.1.0 in
+    let steep = number_there (codes "steep") 1 16 rows has.1.1.1.0 in
+    let terms : Terms = record { ramp_x = x.0; ramp_y = y.0; steep = steep.0; across = x.2; along = y.2; steepness = steep.2 } in
+    (record { rule = rule.0; side = side; terms = terms; workers = workers; sides = sides; crew = crew }, ((has.0.1 ∙ ap Some rule.1, (x.1, (y.1, steep.1))), (refl, refl)))
+
 settings_there : (rows : List Row) → HasChecking rows → is_named rule_entry.takes (first_of (codes "rule") rows) ≡ true → (workers : ℕ) → IsWorkers workers → (settings : Settings) × (TellsSettings rows settings × (settings.workers ≡ workers))
 settings_there rows has names workers crew =
     let side = number_there (codes "tile") 2 128 rows has.0 in
-    let rule = rule_of_text has.1.0.0 (ap (is_named rule_entry.takes) (sym has.1.0.1) ∙ names) in
-    let x = slope_there (codes "ramp-x") rows has.1.1.0 in
-    let y = slope_there (codes "ramp-y") rows has.1.1.1.0 in
-    let steep = number_there (codes "steep") 1 16 rows has.1.1.1.1.0 in
-    let terms : Terms = record { ramp_x = x.0; ramp_y = y.0; steep = steep.0; across = x.2; along = y.2; steepness = steep.2 } in
-    (record { rule = rule.0; side = side.0; terms = terms; workers = workers; sides = side.2; crew = crew }, ((has.1.0.1 ∙ ap Some rule.1, (side.1, (x.1, (y.1, steep.1)))), refl))
+    let s = terms_there rows has.1 names side.0 side.2 workers crew in
+    (s.0, ((s.1.0, side.1 ∙ ap Some (sym s.1.1.0)), s.1.1.1))
 
 all_there : (rows : List Row) → HasSolving rows → is_named rule_entry.takes (first_of (codes "rule") rows) ≡ true → (settings : Settings) × TellsAll rows settings
 all_there rows has names =
@@ -256,7 +279,7 @@ asks_trial words rows taken named has names =
     let seed = number_there (codes "seed") 0 18446744073709551615 rows has.0 in
     let width = number_there (codes "width") 1 4096 rows has.1.0 in
     let height = number_there (codes "height") 1 4096 rows has.1.1.0 in
-    let asks : Asks (codes "trial") words (options_of s.0) = record { taken = taken; rows = rows; named = named; rule_is = s.1.0.0; side_is = s.1.0.1.0; ramp_x_is = s.1.0.1.1.0; ramp_y_is = s.1.0.1.1.1.0; steep_is = s.1.0.1.1.1.1 } in
+    let asks : Asks (codes "trial") words (options_of s.0) = record { taken = taken; rows = rows; named = named; rule_is = s.1.0.0.0; side_is = s.1.0.1; ramp_x_is = s.1.0.0.1.0; ramp_y_is = s.1.0.0.1.1.0; steep_is = s.1.0.0.1.1.1 } in
     elim (cases_lt max_pixels (width.0 * height.0)) [
       | inl large ↦ inl (seed.0, width.0, height.0, options_of s.0, (record { asks = asks; seed_is = seed.1; width_is = width.1; height_is = height.1 }, large))
       | inr few ↦
@@ -286,6 +309,17 @@ asks_displacement words rows taken named has names =
     let displacing : Displacing = record { wavelength = wave.0; x = x.0; y = y.0; block = block.0; wave = wave.2; column = x.2.1; row = y.2.1; blocks = block.2 } in
     inr (Displacement displacing, record { taken = taken; command = codes "displacement"; rows = rows; named = named; tells = (refl, (wave.1, (x.1, (y.1, block.1)))) })
 
+asks_whole : Asking whole_form
+asks_whole words rows taken named has names =
+    let workers = number_there (codes "workers") 1 8 rows has.1.1.1.1.0 in
+    let s = terms_there rows (has.0, (has.1.0, (has.1.1.0, (has.1.1.1.0, tt)))) (and_parts _ _ names).0 64 (omega arith, omega arith) workers.0 workers.2 in
+    inr (Whole s.0, record { taken = taken; command = codes "whole"; rows = rows; named = named; tells = (refl, ((s.1.0, s.1.1.0), workers.1 ∙ ap Some (sym s.1.1.1))) })
+
+asks_check_whole : Asking check_whole_form
+asks_check_whole words rows taken named has names =
+    let s = terms_there rows has (and_parts _ _ names).0 64 (omega arith, omega arith) 2 (omega arith, omega arith) in
+    inr (CheckWhole s.0, record { taken = taken; command = codes "check-whole"; rows = rows; named = named; tells = (refl, ((s.1.0, s.1.1.0), s.1.1.1)) })
+
 -- what words that clap takes ask for
 record Reads (words : List Text) : Type 0 where
   form : CommandForm
@@ -310,7 +344,7 @@ asked_some : (words : List (Bor Text)) → AreTaken words → SomeAsked words
 asked_some words taken =
     let r = reads_some (texts words) taken.parsed in
     let names = and_parts (has_names r.rows r.form) true (sym ((sound r.form r.among).names r.rows) ∙ ap asks_by_names (sym r.named) ∙ taken.in_names) in
-    each_form Asking forms (asks_unwrap, (asks_grid, (asks_check, (asks_trial, (asks_screen, (asks_closure, (asks_displacement, tt))))))) r.form r.among words r.rows taken r.named r.values names.0
+    each_form Asking forms (asks_unwrap, (asks_grid, (asks_check, (asks_trial, (asks_screen, (asks_closure, (asks_displacement, (asks_whole, (asks_check_whole, tt))))))))) r.form r.among words r.rows taken r.named r.values names.0
 
 -- ---- refused, or asking
 
@@ -375,12 +409,15 @@ other_request words command rows taken named other = some_request words command 
 
 -- the options of a command are those that the rows tell
 has_asked : (words : List (Bor Text)) (command : Text) (options : Options) (a : Asks command words options) (s : Settings) → TellsSettings a.rows s → options_of s ≡ options
-has_asked words command options a s tells = one_choice a.rows (options_of s) options tells (asks_told command words options a)
+has_asked words command options a s tells = one_choice IsSideAsked one_asked a.rows (options_of s) options tells (asks_told IsSideAsked command words options a)
+
+has_whole : (words : List (Bor Text)) (command : Text) (options : Options) (a : AsksBy IsSideByDefault command words options) (s : Settings) → TellsWhole a.rows s → options_of s ≡ options
+has_whole words command options a s tells = one_choice IsSideByDefault one_default a.rows (options_of s) options tells (asks_told IsSideByDefault command words options a)
 
 -- a request that tells settings is asked for with their options
-asks_of : (words : List (Bor Text)) (r : Request) (s : Settings) (is : IsRequest words r) → TellsSettings is.rows s → Asks (command_of r) words (options_of s)
-asks_of words r s is tells =
-    record { taken = is.taken; rows = is.rows; named = is.named ∙ ap (λ (t : Text). Some (t, is.rows)) (told_by is.command is.rows r is.tells); rule_is = tells.0; side_is = tells.1.0; ramp_x_is = tells.1.1.0; ramp_y_is = tells.1.1.1.0; steep_is = tells.1.1.1.1 }
+asks_of : (IsSide : List Row → ℕ → Type 0) (words : List (Bor Text)) (r : Request) (s : Settings) (is : IsRequest words r) → AreTold IsSide is.rows (options_of s) → AsksBy IsSide (command_of r) words (options_of s)
+asks_of IsSide words r s is tells =
+    record { taken = is.taken; rows = is.rows; named = is.named ∙ ap (λ (t : Text). Some (t, is.rows)) (told_by is.command is.rows r is.tells); rule_is = tells.0.0; side_is = tells.1; ramp_x_is = tells.0.1.0; ramp_y_is = tells.0.1.1.0; steep_is = tells.0.1.1.1 }
 
 by_unwrap : (words : List (Bor Text)) (options : Options) (a : IsCommand words options) (q : Request) → IsRequest words q → TellsRequest (codes "unwrap") a.rows q → (settings : Settings) × (options_of settings ≡ options) × IsRequest words (Unwrap settings)
 by_unwrap words options a (Unwrap s) is tells = (s, has_asked words (codes "unwrap") options a s tells.1.0, is)
@@ -401,29 +438,49 @@ by_trial words seed width height options a (Trial t) is tells =
     (t, record { seed_is = some_one _ _ _ tells.1.1.0 asks.seed_is; width_is = some_one _ _ _ tells.1.1.1.0 asks.width_is; height_is = some_one _ _ _ tells.1.1.1.1 asks.height_is; options_are = has_asked words (codes "trial") options asks.asks t.settings tells.1.0.0 }, is)
 by_trial words seed width height options a q is tells = absurd (apart (codes "trial") (command_of q) refl (told_by (codes "trial") a.asks.asks.rows q tells))
 
+by_whole : (words : List (Bor Text)) (options : Options) (a : IsWhole words options) (q : Request) → IsRequest words q → TellsRequest (codes "whole") a.rows q → (settings : Settings) × (options_of settings ≡ options) × IsRequest words (Whole settings)
+by_whole words options a (Whole s) is tells = (s, has_whole words (codes "whole") options a s tells.1.0, is)
+by_whole words options a q is tells = absurd (apart (codes "whole") (command_of q) refl (told_by (codes "whole") a.rows q tells))
+
+by_check_whole : (words : List (Bor Text)) (options : Options) (a : IsCheckWhole words options) (q : Request) → IsRequest words q → TellsRequest (codes "check-whole") a.rows q → (settings : Settings) × (options_of settings ≡ options) × IsRequest words (CheckWhole settings)
+by_check_whole words options a (CheckWhole s) is tells = (s, has_whole words (codes "check-whole") options a s tells.1.0, is)
+by_check_whole words options a q is tells = absurd (apart (codes "check-whole") (command_of q) refl (told_by (codes "check-whole") a.rows q tells))
+
 pub unwrap_is_request : UnwrapIsRequest
 unwrap_is_request words = (
   λ options a. (let q = other_request words (codes "unwrap") a.rows a.taken a.named refl in by_unwrap words options a q.0 q.1 (tells_by words q.0 q.1 (codes "unwrap") a.rows a.named)),
-  λ s is. asks_of words (Unwrap s) s is is.tells.1.0,
+  λ s is. asks_of IsSideAsked words (Unwrap s) s is is.tells.1.0,
 )
 
 pub grid_is_request : GridIsRequest
 grid_is_request words = (
   λ options a. (let q = other_request words (codes "grid") a.rows a.taken a.named refl in by_grid words options a q.0 q.1 (tells_by words q.0 q.1 (codes "grid") a.rows a.named)),
-  λ s is. asks_of words (Grid s) s is is.tells.1.0,
+  λ s is. asks_of IsSideAsked words (Grid s) s is is.tells.1.0,
 )
 
 pub check_is_request : CheckIsRequest
 check_is_request words = (
   λ options a. (let q = other_request words (codes "check") a.rows a.taken a.named refl in by_check words options a q.0 q.1 (tells_by words q.0 q.1 (codes "check") a.rows a.named)),
-  λ s is. asks_of words (Check s) s is is.tells.1.0,
+  λ s is. asks_of IsSideAsked words (Check s) s is is.tells.1.0,
+)
+
+pub whole_is_request : WholeIsRequest
+whole_is_request words = (
+  λ options a. (let q = other_request words (codes "whole") a.rows a.taken a.named refl in by_whole words options a q.0 q.1 (tells_by words q.0 q.1 (codes "whole") a.rows a.named)),
+  λ s is. asks_of IsSideByDefault words (Whole s) s is is.tells.1.0,
+)
+
+pub check_whole_is_request : CheckWholeIsRequest
+check_whole_is_request words = (
+  λ options a. (let q = other_request words (codes "check-whole") a.rows a.taken a.named refl in by_check_whole words options a q.0 q.1 (tells_by words q.0 q.1 (codes "check-whole") a.rows a.named)),
+  λ s is. asks_of IsSideByDefault words (CheckWhole s) s is is.tells.1.0,
 )
 
 trial_of : (words : List (Bor Text)) (t : TrialSession) → IsRequest words (Trial t) → IsTrialCommand words t.seed t.width t.height (options_of t.settings)
 unfolding asks_of
 trial_of words t is =
     let told = is.tells.1.1 in
-    record { asks = record { asks = asks_of words (Trial t) t.settings is is.tells.1.0.0; seed_is = told.0; width_is = told.1.0; height_is = told.1.1 }; pixels = t.few }
+    record { asks = record { asks = asks_of IsSideAsked words (Trial t) t.settings is is.tells.1.0.0; seed_is = told.0; width_is = told.1.0; height_is = told.1.1 }; pixels = t.few }
 
 pub trial_is_request : TrialIsRequest
 trial_is_request words = (
@@ -438,7 +495,7 @@ trial_is_request words = (
 -- ---- what the matches tell
 
 -- a rule that settings have is a name
-names_hold : (rows : List Row) (s : Settings) → TellsSettings rows s → ((is_named rule_entry.takes (first_of (codes "rule") rows) && true) && true) ≡ true
+names_hold : (rows : List Row) (s : Settings) → TellsTerms rows s → ((is_named rule_entry.takes (first_of (codes "rule") rows) && true) && true) ≡ true
 names_hold rows s tells = ap (λ (o : Option Text). (is_named rule_entry.takes o && true) && true) tells.0 ∙ each s.rule
   where
     each : (r : RuleKind) → ((is_named rule_entry.takes (Some (rule_name r)) && true) && true) ≡ true
@@ -447,10 +504,12 @@ names_hold rows s tells = ap (λ (o : Option Text). (is_named rule_entry.takes o
 
 -- so the command of a request has its names
 names_of : (rows : List Row) (r : Request) → TellsRequest (command_of r) rows r → asks_by_names (Some (command_of r, rows)) ≡ true
-names_of rows (Unwrap s) tells = names_hold rows s tells.1.0
-names_of rows (Grid s) tells = names_hold rows s tells.1.0
-names_of rows (Check s) tells = names_hold rows s tells.1.0
-names_of rows (Trial t) tells = names_hold rows t.settings tells.1.0.0
+names_of rows (Unwrap s) tells = names_hold rows s tells.1.0.0
+names_of rows (Grid s) tells = names_hold rows s tells.1.0.0
+names_of rows (Check s) tells = names_hold rows s tells.1.0.0
+names_of rows (Trial t) tells = names_hold rows t.settings tells.1.0.0.0
+names_of rows (Whole s) tells = names_hold rows s tells.1.0.0
+names_of rows (CheckWhole s) tells = names_hold rows s tells.1.0.0
 names_of rows r tells = refl
 
 names_told : (command : Text) (rows : List Row) (request : Request) → TellsRequest command rows request → asks_by_names (Some (command, rows)) ≡ true

@@ -51,16 +51,26 @@ slope_for n = if nat_lt n 32768 then pos n else (pos n -ℤ pos 65536)
 abbrev pub slope_asked : Text → List Row → Option ℤ
 slope_asked id rows = option_map slope_for (number_asked id rows)
 
--- the words ask for this subcommand with these options
-pub record Asks (command : Text) (words : List (Bor Text)) (options : Options) : Type 0 where
+-- the side of tiles is asked for; or it is the default, where a subcommand has no word for it
+abbrev pub IsSideAsked : List Row → ℕ → Type 0
+IsSideAsked rows side = number_asked (codes "tile") rows ≡ Some side
+
+abbrev pub IsSideByDefault : List Row → ℕ → Type 0
+IsSideByDefault rows side = side ≡ 64
+
+-- the words ask for this subcommand with these options, the side of tiles among them as it is said
+pub record AsksBy (IsSide : List Row → ℕ → Type 0) (command : Text) (words : List (Bor Text)) (options : Options) : Type 0 where
   pub taken : AreTaken words
   pub rows : List Row
   pub named : asked words ≡ Some (command, rows)
   pub rule_is : first_of (codes "rule") rows ≡ Some (rule_name options.rule)
-  pub side_is : number_asked (codes "tile") rows ≡ Some options.side
+  pub side_is : IsSide rows options.side
   pub ramp_x_is : slope_asked (codes "ramp-x") rows ≡ Some options.ramp_x
   pub ramp_y_is : slope_asked (codes "ramp-y") rows ≡ Some options.ramp_y
   pub steep_is : number_asked (codes "steep") rows ≡ Some options.steep
+
+abbrev pub Asks : Text → List (Bor Text) → Options → Type 0
+Asks command words options = AsksBy IsSideAsked command words options
 
 -- and with this number of workers
 pub record AsksWorkers (command : Text) (words : List (Bor Text)) (options : Options) (workers : ℕ) : Type 0 where
@@ -76,6 +86,16 @@ IsGridCommand words options = Asks (codes "grid") words options
 
 abbrev pub IsCheck : List (Bor Text) → Options → Type 0
 IsCheck words options = Asks (codes "check") words options
+
+-- the words ask for `whole`, also with a number of workers, or for `check-whole`
+abbrev pub IsWhole : List (Bor Text) → Options → Type 0
+IsWhole words options = AsksBy IsSideByDefault (codes "whole") words options
+
+abbrev pub IsWholeWith : List (Bor Text) → Options → ℕ → Type 0
+IsWholeWith words options workers = (asks : IsWhole words options) × (number_asked (codes "workers") asks.rows ≡ Some workers)
+
+abbrev pub IsCheckWhole : List (Bor Text) → Options → Type 0
+IsCheckWhole words options = AsksBy IsSideByDefault (codes "check-whole") words options
 
 -- the words ask for a test session of any size
 pub record AsksTrial (words : List (Bor Text)) (seed width height : ℕ) (options : Options) : Type 0 where

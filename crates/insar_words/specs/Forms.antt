@@ -118,6 +118,13 @@ solving = tile_entry ∷ rule_entry ∷ ramp_x_entry ∷ ramp_y_entry ∷ steep_
 abbrev pub drawing : List Argument
 drawing = seed_entry ∷ width_entry ∷ height_entry ∷ []
 
+-- what is asked of a check of a whole surface, and of its run
+abbrev pub whole_checking : List Argument
+whole_checking = rule_entry ∷ ramp_x_entry ∷ ramp_y_entry ∷ steep_entry ∷ []
+
+abbrev pub whole_solving : List Argument
+whole_solving = rule_entry ∷ ramp_x_entry ∷ ramp_y_entry ∷ steep_entry ∷ workers_entry ∷ []
+
 -- what is asked of a screen, and of displacements
 abbrev pub screening : List Argument
 screening = weight_entry ∷ radius_entry ∷ count_entry ∷ patch_entry ∷ tile_entry ∷ []
@@ -148,8 +155,14 @@ closure_form = record { command = codes "closure"; positionals = []; options = [
 abbrev pub displacement_form : CommandForm
 displacement_form = record { command = codes "displacement"; positionals = []; options = displacing }
 
+abbrev pub whole_form : CommandForm
+whole_form = record { command = codes "whole"; positionals = []; options = whole_solving }
+
+abbrev pub check_whole_form : CommandForm
+check_whole_form = record { command = codes "check-whole"; positionals = []; options = whole_checking }
+
 abbrev pub forms : List CommandForm
-forms = unwrap_form ∷ grid_form ∷ check_form ∷ trial_form ∷ screen_form ∷ closure_form ∷ displacement_form ∷ []
+forms = unwrap_form ∷ grid_form ∷ check_form ∷ trial_form ∷ screen_form ∷ closure_form ∷ displacement_form ∷ whole_form ∷ check_whole_form ∷ []
 
 -- P holds of each
 abbrev pub Each : {X : Type 0} → (X → Type 0) → List X → Type 0

@@ -9,8 +9,8 @@ use Rattle.clap.specs.Walk.{texts}
 use Rattle.raster_model.specs.declared.weights.RuleKind.{RuleKind}
 use Rattle.raster_model.specs.declared.weights.RuleKind.TheVariants.{Least, Mean, Product}
 use Rattle.raster_model.specs.Limits.{max_pixels}
-use Rattle.insar_words.specs.Asked.{AreTaken, AsksWorkers, IsCheck, IsTrialCommand, Options, asked, number_asked, slope_for}
-use Rattle.insar_words.specs.Forms.{Argument, CommandForm, Each, OfOne, Value, block_entry, checking, count_entry, displacing, fits, forms, name, number, patch_entry, radius_entry, ramp_x_entry, ramp_y_entry, rule_entry, screening, solving, steep_entry, tile_entry, wavelength_entry, weight_entry, word_of, workers_entry, x_entry, y_entry}
+use Rattle.insar_words.specs.Asked.{AreTaken, AsksWorkers, IsCheck, IsCheckWhole, IsTrialCommand, IsWholeWith, Options, asked, number_asked, slope_for}
+use Rattle.insar_words.specs.Forms.{Argument, CommandForm, Each, OfOne, Value, block_entry, checking, count_entry, displacing, fits, forms, name, number, patch_entry, radius_entry, ramp_x_entry, ramp_y_entry, rule_entry, screening, solving, steep_entry, tile_entry, wavelength_entry, weight_entry, whole_checking, whole_solving, word_of, workers_entry, x_entry, y_entry}
 use Rattle.insar_words.specs.Requests.{IsRequest}
 use Rattle.insar_words.specs.declared.request.Request.TheVariants.{Screen, Closure, Displacement}
 use Rattle.insar_words.specs.declared.screening.Screening.{Screening}
@@ -110,7 +110,19 @@ abbrev pub PlainSolvingIsRead : Text → Type 0
 PlainSolvingIsRead command = (words : List (Bor Text)) (settings : List Setting) → ArePlain solving settings → texts words ≡ command ∷ pairs settings
     → AsksWorkers command words (options_set settings) (workers_set settings)
 
--- `check`, which has no `--workers`
+-- `whole`, with the default of the side
+abbrev pub whole_options_set : List Setting → Options
+whole_options_set settings = record (options_set settings) { side = 64 }
+
+abbrev pub PlainWholeIsRead : Type 0
+PlainWholeIsRead = (words : List (Bor Text)) (settings : List Setting) → ArePlain whole_solving settings → texts words ≡ codes "whole" ∷ pairs settings
+    → IsWholeWith words (whole_options_set settings) (workers_set settings)
+
+-- `check-whole` and `check`, which have no `--workers`
+abbrev pub PlainCheckWholeIsRead : Type 0
+PlainCheckWholeIsRead = (words : List (Bor Text)) (settings : List Setting) → ArePlain whole_checking settings → texts words ≡ codes "check-whole" ∷ pairs settings
+    → IsCheckWhole words (whole_options_set settings)
+
 abbrev pub PlainCheckIsRead : Type 0
 PlainCheckIsRead = (words : List (Bor Text)) (settings : List Setting) → ArePlain checking settings → texts words ≡ codes "check" ∷ pairs settings
     → IsCheck words (options_set settings)

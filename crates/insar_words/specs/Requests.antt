@@ -3,12 +3,12 @@ use Rattle.std.specs.Prelude.{◌≡◌, ◌⊎◌, ◌*◌, ◌<◌, ℕ, false
 use Rattle.std.specs.Borrow.{Bor}
 use Rattle.clap.specs.Words.{Row, Text, first_of}
 use Rattle.raster_model.specs.Limits.{max_pixels}
-use Rattle.insar_words.specs.Asked.{AreTaken, IsCheck, IsCommand, IsGridCommand, IsRefused, IsTrialCommand, Options, asked, asks_by_names, is_named, number_asked, slope_asked}
+use Rattle.insar_words.specs.Asked.{AreTaken, IsCheck, IsCheckWhole, IsCommand, IsGridCommand, IsRefused, IsSideAsked, IsSideByDefault, IsTrialCommand, IsWhole, Options, asked, asks_by_names, is_named, number_asked, slope_asked}
 use Rattle.insar_words.specs.Forms.{rule_entry, rule_name}
 use Rattle.insar_words.specs.declared.fault.WordsFault.{WordsFault}
 use Rattle.insar_words.specs.declared.fault.WordsFault.TheVariants as faults
 use Rattle.insar_words.specs.declared.request.Request.{Request}
-use Rattle.insar_words.specs.declared.request.Request.TheVariants.{Unwrap, Grid, Check, Trial, Screen, Closure, Displacement}
+use Rattle.insar_words.specs.declared.request.Request.TheVariants.{Unwrap, Grid, Check, Trial, Screen, Closure, Displacement, Whole, CheckWhole}
 use Rattle.insar_words.specs.declared.screening.Screening.{Screening}
 use Rattle.insar_words.specs.declared.displacing.Displacing.{Displacing}
 use Rattle.insar_words.specs.declared.settings.Settings.{Settings}
@@ -16,10 +16,17 @@ use Rattle.insar_words.specs.declared.trial.Trial.{Trial as TrialSession}
 
 -- ---- what matches tell
 
--- these settings, but for the workers; and with them
+-- these settings, but for the side of tiles and the workers
+abbrev pub TellsTerms : List Row → Settings → Type 0
+TellsTerms rows settings = (first_of (codes "rule") rows ≡ Some (rule_name settings.rule))
+    × ((slope_asked (codes "ramp-x") rows ≡ Some settings.terms.ramp_x) × ((slope_asked (codes "ramp-y") rows ≡ Some settings.terms.ramp_y) × (number_asked (codes "steep") rows ≡ Some settings.terms.steep)))
+
+-- and with the side, as it is asked for or by default; and with the workers
 abbrev pub TellsSettings : List Row → Settings → Type 0
-TellsSettings rows settings = (first_of (codes "rule") rows ≡ Some (rule_name settings.rule)) × ((number_asked (codes "tile") rows ≡ Some settings.side)
-    × ((slope_asked (codes "ramp-x") rows ≡ Some settings.terms.ramp_x) × ((slope_asked (codes "ramp-y") rows ≡ Some settings.terms.ramp_y) × (number_asked (codes "steep") rows ≡ Some settings.terms.steep))))
+TellsSettings rows settings = TellsTerms rows settings × IsSideAsked rows settings.side
+
+abbrev pub TellsWhole : List Row → Settings → Type 0
+TellsWhole rows settings = TellsTerms rows settings × IsSideByDefault rows settings.side
 
 abbrev pub TellsAll : List Row → Settings → Type 0
 TellsAll rows settings = TellsSettings rows settings × (number_asked (codes "workers") rows ≡ Some settings.workers)
@@ -56,6 +63,8 @@ TellsRequest command rows (Trial trial) = (command ≡ codes "trial") × TellsTr
 TellsRequest command rows (Screen screening) = (command ≡ codes "screen") × TellsScreening rows screening
 TellsRequest command rows Closure = (command ≡ codes "closure") × ⊤
 TellsRequest command rows (Displacement displacing) = (command ≡ codes "displacement") × TellsDisplacing rows displacing
+TellsRequest command rows (Whole settings) = (command ≡ codes "whole") × (TellsWhole rows settings × (number_asked (codes "workers") rows ≡ Some settings.workers))
+TellsRequest command rows (CheckWhole settings) = (command ≡ codes "check-whole") × (TellsWhole rows settings × (settings.workers ≡ 2))
 
 -- it is refused, for a name or for too many pixels
 abbrev pub TellsNothing : Text → List Row → Type 0
@@ -105,6 +114,14 @@ GridIsRequest = (words : List (Bor Text)) → ((options : Options) → IsGridCom
 abbrev pub CheckIsRequest : Type 0
 CheckIsRequest = (words : List (Bor Text)) → ((options : Options) → IsCheck words options → (settings : Settings) × (options_of settings ≡ options) × IsRequest words (Check settings))
     × ((settings : Settings) → IsRequest words (Check settings) → IsCheck words (options_of settings))
+
+abbrev pub WholeIsRequest : Type 0
+WholeIsRequest = (words : List (Bor Text)) → ((options : Options) → IsWhole words options → (settings : Settings) × (options_of settings ≡ options) × IsRequest words (Whole settings))
+    × ((settings : Settings) → IsRequest words (Whole settings) → IsWhole words (options_of settings))
+
+abbrev pub CheckWholeIsRequest : Type 0
+CheckWholeIsRequest = (words : List (Bor Text)) → ((options : Options) → IsCheckWhole words options → (settings : Settings) × (options_of settings ≡ options) × IsRequest words (CheckWhole settings))
+    × ((settings : Settings) → IsRequest words (CheckWhole settings) → IsCheckWhole words (options_of settings))
 
 -- this test session
 pub record IsSession (seed width height : ℕ) (options : Options) (trial : TrialSession) : Type 0 where

@@ -2,9 +2,9 @@ ghost use Rattle.clap.specs.Words.{first_of, found_of, rows_of};
 ghost use Rattle.insar_words.specs.Asked.{number_asked, slope_asked, slope_for as slope_by};
 ghost use Rattle.insar_words.specs.Forms.{rule_name};
 ghost use Rattle.insar_words.specs.Limits.{IsWorkers};
-ghost use Rattle.raster_model.specs.Limits.{IsSlope};
-ghost use Rattle.insar_words.specs.Requests.{HasWordsCause, IsRequest, NamesNoRule, TellsDisplacing, TellsNothing, TellsRefusal, TellsRequest, TellsScreening, TellsSettings, TellsTooMany, TellsTrial};
-ghost use Rattle.insar_words.specs.Values.{HasChecking, HasDisplacing, HasNumber, HasRaster, HasScreening, HasSolving, HasText, ReadsAs};
+ghost use Rattle.raster_model.specs.Limits.{IsSlope, IsTileSide};
+ghost use Rattle.insar_words.specs.Requests.{HasWordsCause, IsRequest, NamesNoRule, TellsDisplacing, TellsNothing, TellsRefusal, TellsRequest, TellsScreening, TellsSettings, TellsTerms, TellsTooMany, TellsTrial, TellsWhole};
+ghost use Rattle.insar_words.specs.Values.{HasChecking, HasDisplacing, HasNumber, HasRaster, HasScreening, HasSolving, HasTerms, HasText, HasWholeSolving, ReadsAs};
 ghost use Rattle.std.specs.Prelude.{◌≡◌, ◌≤◌, ◌⊎◌, IfErr, IfNone, IfOk, IfSome, Some, codes};
 
 use crate::displacing::Displacing;
@@ -15,7 +15,7 @@ use crate::settings::Settings;
 use crate::stated::stated_command;
 use crate::trial::Trial;
 use clap::ArgMatches;
-use raster_model::{DEFAULT_WORKERS, MAX_PIXELS, RuleKind, Terms};
+use raster_model::{DEFAULT_TILE_SIDE, DEFAULT_WORKERS, MAX_PIXELS, RuleKind, Terms};
 use std::alloc::Global;
 
 /// What words ask for, as the stated command reads them. Words are refused if that command refuses them, a call for
@@ -52,11 +52,17 @@ fn request_of(name: &str, found: &ArgMatches<'_>) -> Option<Request>
     match name {
         "unwrap" => Some(Request::Unwrap(solving_settings(found)?)),
         "grid" => Some(Request::Grid(solving_settings(found)?)),
-        "check" => Some(Request::Check(settings_with(found, DEFAULT_WORKERS)?)),
+        "check" => Some(Request::Check(checking_settings(found)?)),
         "trial" => Some(Request::Trial(trial_of(found)?)),
         "screen" => Some(Request::Screen(screening_of(found))),
         "closure" => Some(Request::Closure),
         "displacement" => Some(Request::Displacement(displacing_of(found))),
+        "whole" => Some(Request::Whole(whole_settings(found)?)),
+        "check-whole" => Some(Request::CheckWhole(settings_with(
+            found,
+            DEFAULT_TILE_SIDE,
+            DEFAULT_WORKERS,
+        )?)),
         _ => unreachable!(),
     }
 }
@@ -116,20 +122,43 @@ fn solving_settings(found: &ArgMatches<'_>) -> Option<Settings>
     ensures workers { IfSome result (λ settings. number_asked (codes "workers") (rows_of (found_of found.now)) ≡ Some settings.workers) }
     ensures refused { IfNone result (NamesNoRule (rows_of (found_of found.now))) }
 {
-    settings_with(found, number_told(found, "workers"))
+    let side = number_told(found, "tile");
+    settings_with(found, side, number_told(found, "workers"))
 }
 
-/// The settings that matches give, with this number of workers.
-fn settings_with(found: &ArgMatches<'_>, workers: u32) -> Option<Settings>
+/// The settings that matches give, with the default of workers.
+fn checking_settings(found: &ArgMatches<'_>) -> Option<Settings>
     requires options { HasChecking (rows_of (found_of found.now)) }
-    requires crew { IsWorkers workers }
     ensures told { IfSome result (TellsSettings (rows_of (found_of found.now))) }
+    ensures workers { IfSome result (λ settings. settings.workers ≡ 2) }
+    ensures refused { IfNone result (NamesNoRule (rows_of (found_of found.now))) }
+{
+    settings_with(found, number_told(found, "tile"), DEFAULT_WORKERS)
+}
+
+/// The settings that matches give, with the workers and the default of the side of tiles.
+fn whole_settings(found: &ArgMatches<'_>) -> Option<Settings>
+    requires options { HasWholeSolving (rows_of (found_of found.now)) }
+    ensures told { IfSome result (TellsWhole (rows_of (found_of found.now))) }
+    ensures workers { IfSome result (λ settings. number_asked (codes "workers") (rows_of (found_of found.now)) ≡ Some settings.workers) }
+    ensures refused { IfNone result (NamesNoRule (rows_of (found_of found.now))) }
+{
+    settings_with(found, DEFAULT_TILE_SIDE, number_told(found, "workers"))
+}
+
+/// The settings that matches give, with this side of tiles and this number of workers.
+fn settings_with(found: &ArgMatches<'_>, side: u32, workers: u32) -> Option<Settings>
+    requires options { HasTerms (rows_of (found_of found.now)) }
+    requires sides { IsTileSide side }
+    requires crew { IsWorkers workers }
+    ensures told { IfSome result (TellsTerms (rows_of (found_of found.now))) }
+    ensures side { IfSome result (λ settings. settings.side ≡ side) }
     ensures workers { IfSome result (λ settings. settings.workers ≡ workers) }
     ensures refused { IfNone result (NamesNoRule (rows_of (found_of found.now))) }
 {
     Some(Settings {
         rule: rule_told(found)?,
-        side: number_told(found, "tile"),
+        side,
         terms: terms_told(found),
         workers,
     })
@@ -137,7 +166,7 @@ fn settings_with(found: &ArgMatches<'_>, workers: u32) -> Option<Settings>
 
 /// The terms that matches give: a ramp, and the steepness of costs.
 fn terms_told(found: &ArgMatches<'_>) -> Terms
-    requires { HasChecking (rows_of (found_of found.now)) }
+    requires { HasTerms (rows_of (found_of found.now)) }
     ensures across { slope_asked (codes "ramp-x") (rows_of (found_of found.now)) ≡ Some result.ramp_x }
     ensures along { slope_asked (codes "ramp-y") (rows_of (found_of found.now)) ≡ Some result.ramp_y }
     ensures steep { number_asked (codes "steep") (rows_of (found_of found.now)) ≡ Some result.steep }

@@ -20,4 +20,8 @@ pub enum Request {
     Closure,
     /// `displacement`: a grid's displacements along the line of sight.
     Displacement(Displacing),
+    /// `whole`: the surface that costs least of all. Its side of tiles is the default.
+    Whole(Settings),
+    /// `check-whole`: the verdict on such a surface. It has no workers, and its side of tiles is the default.
+    CheckWhole(Settings),
 }

@@ -24,7 +24,7 @@ pub(crate) struct ArgumentRow {
 }
 
 /// The commands.
-pub(crate) const COMMANDS: [CommandRow; 7] = [
+pub(crate) const COMMANDS: [CommandRow; 9] = [
     CommandRow {
         name: "unwrap",
         arguments: &[TILE, RULE, RAMP_X, RAMP_Y, STEEP, WORKERS],
@@ -54,6 +54,14 @@ pub(crate) const COMMANDS: [CommandRow; 7] = [
     CommandRow {
         name: "displacement",
         arguments: &[WAVELENGTH, X, Y, BLOCK],
+    },
+    CommandRow {
+        name: "whole",
+        arguments: &[RULE, RAMP_X, RAMP_Y, STEEP, WORKERS],
+    },
+    CommandRow {
+        name: "check-whole",
+        arguments: &[RULE, RAMP_X, RAMP_Y, STEEP],
     },
 ];
 
@@ -108,7 +116,7 @@ const WORKERS: ArgumentRow = ArgumentRow {
     is_option: true,
     parser: ValueParser::Signed(1, 8),
     defaults: &["2"],
-    help: "How many workers solve tiles at once, from 1 to 8, else 2, as in --workers 4",
+    help: "How many workers solve at once, from 1 to 8, else 2, as in --workers 4",
 };
 
 /// `SEED`

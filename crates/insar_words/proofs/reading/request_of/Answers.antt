@@ -9,8 +9,8 @@ solving_settings-requires c = record { options = has_own (codes "unwrap") c.args
 pub solving_settings-requires-in-grid : goal.solving_settings-requires-in-grid
 solving_settings-requires-in-grid c = record { options = has_own (codes "grid") c.args.name.now (rows_of (found_of c.args.found.now)) c.in-grid.is c.requires.named }
 
-pub settings_with-requires-clause-options : goal.settings_with-requires-clause-options
-settings_with-requires-clause-options c = has_own (codes "check") c.args.name.now (rows_of (found_of c.args.found.now)) c.in-check.is c.requires.named
+pub checking_settings-requires : goal.checking_settings-requires
+checking_settings-requires c = record { options = has_own (codes "check") c.args.name.now (rows_of (found_of c.args.found.now)) c.in-check.is c.requires.named }
 
 pub trial_of-requires-clause-raster : goal.trial_of-requires-clause-raster
 trial_of-requires-clause-raster c =
@@ -25,3 +25,9 @@ screening_of-requires c = has_own (codes "screen") c.args.name.now (rows_of (fou
 
 pub displacing_of-requires : goal.displacing_of-requires
 displacing_of-requires c = has_own (codes "displacement") c.args.name.now (rows_of (found_of c.args.found.now)) c.in-displacement.is c.requires.named
+
+pub whole_settings-requires : goal.whole_settings-requires
+whole_settings-requires c = record { options = has_own (codes "whole") c.args.name.now (rows_of (found_of c.args.found.now)) c.in-whole.is c.requires.named }
+
+pub settings_with-requires-clause-options : goal.settings_with-requires-clause-options
+settings_with-requires-clause-options c = has_own (codes "check-whole") c.args.name.now (rows_of (found_of c.args.found.now)) c.in-text.is c.requires.named

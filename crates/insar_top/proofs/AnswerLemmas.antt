@@ -7,10 +7,11 @@ use Rattle.insar_ports.proofs.CallLemmas.{at_told, if_told}
 use Rattle.text_lines.specs.Adding.{Puts}
 use Rattle.session_script.specs.Sessions.{session_of}
 use Rattle.report_text.specs.Text.{report_text}
+use Rattle.whole_text.specs.Text.{whole_text}
 use Rattle.insar_words.specs.declared.request.Request.{Request}
-use Rattle.insar_words.specs.declared.request.Request.TheVariants.{Unwrap, Grid, Check, Trial, Screen, Closure, Displacement}
-use Rattle.insar_top.specs.declared.refusal.Refusal.{Refusal}
-use Rattle.insar_top.specs.declared.refusal.Refusal.TheVariants as refusals
+use Rattle.insar_words.specs.declared.request.Request.TheVariants.{Unwrap, Grid, Check, Trial, Screen, Closure, Displacement, Whole, CheckWhole}
+use Rattle.refusal_lines.specs.declared.refusal.Refusal.{Refusal}
+use Rattle.refusal_lines.specs.declared.refusal.Refusal.TheVariants as refusals
 use Rattle.insar_top.specs.Answers.{HasAnswered, HasCutShort, IsAnswerTo, IsDoneStatus, IsInputTo, IsUsedUp, IsWithinInput, input_of}
 use Rattle.insar_top.specs.Causes.{BreaksInput, HasReadCause, HasRefusalCause}
 use Rattle.insar_top.specs.Displacement.{sight_of}
@@ -40,11 +41,13 @@ read_cause asked r refusal kept h = (h, kept)
 pub answer_input : (asked : Request) (bytes : List ℕ) (status : ℕ) (text : List ℕ) → IsAnswerTo asked bytes status text → IsInputTo asked bytes
 answer_input (Unwrap settings) bytes status text a = (session_of a.1.session, a.1.given.spelled)
 answer_input (Grid settings) bytes status text a = (session_of a.1.session, a.1.given.spelled)
-answer_input (Check settings) bytes status text a = (session_of a.judged.session, report_text a.judged.report, (a.judged.spelled, ((a.judged.report, (a.judged.in_range, refl)), a.judged.within)))
+answer_input (Check settings) bytes status text a = (session_of a.1.0.session, report_text a.1.0.report, (a.1.0.both.spelled, ((a.1.0.report, (a.1.0.in_range, refl)), a.1.0.both.within)))
 answer_input (Trial trial) bytes status text a = tt
 answer_input (Screen screening) bytes status text a = (session_of a.1.session, a.1.spelled)
 answer_input Closure bytes status text a = loop_input bytes a.1.0 a.1.1.0
 answer_input (Displacement displacing) bytes status text a = sight_input (sight_of displacing) bytes a.1.output a.1.displaced
+answer_input (Whole settings) bytes status text a = (session_of a.1.session, a.1.given.spelled)
+answer_input (CheckWhole settings) bytes status text a = (session_of a.1.0.session, whole_text a.1.0.whole, (a.1.0.both.spelled, ((a.1.0.whole, (a.1.0.in_range, refl)), a.1.0.both.within)))
 
 pub unread_within : (asked : Request) (r : Run) → IsUnread r → IsWithinInput asked r
 unread_within (Trial trial) r unread = unread
@@ -52,4 +55,5 @@ unread_within asked r unread = tt
 
 pub small_status : (asked : Request) (status : ℕ) → IsDoneStatus asked status → status ≤ 1
 small_status (Check settings) status e = e
+small_status (CheckWhole settings) status e = e
 small_status asked status e = omega (arith, e)

@@ -4,27 +4,36 @@ use Rattle.std.specs.Prelude.{◌⊎◌, IfSome}
 use Rattle.std.specs.Borrow.{Bor}
 use Rattle.clap.specs.Walk.{Text}
 use Rattle.insar_ports.proofs.CallLemmas.{at_told, if_told}
-use Rattle.insar_words.specs.Asked.{IsCheck, IsCommand, IsRefused, Options}
-use Rattle.insar_words.specs.Requests.{AskSomething, HasWordsCause, IsRequest}
+use Rattle.insar_words.specs.Asked.{IsCheck, IsCheckWhole, IsCommand, IsRefused, IsWhole, Options}
+use Rattle.insar_words.specs.Requests.{AskSomething, HasWordsCause, IsRequest, options_of}
 use Rattle.insar_words.specs.declared.fault.WordsFault.{WordsFault}
 use Rattle.insar_words.specs.declared.fault.WordsFault.TheVariants as words_faults
 use Rattle.insar_words.specs.declared.request.Request.{Request}
-use Rattle.insar_words.specs.declared.request.Request.TheVariants.{Unwrap, Check}
+use Rattle.insar_words.specs.declared.request.Request.TheVariants.{Unwrap, Check, Whole, CheckWhole}
 use Rattle.report_check.specs.declared.verdict.CheckVerdict.{CheckVerdict}
-use Rattle.insar_top.specs.declared.refusal.Refusal.{Refusal}
-use Rattle.insar_top.specs.declared.refusal.Refusal.TheVariants as refusals
+use Rattle.report_check.specs.declared.verdict.CheckVerdict.TheVariants as verdicts
+use Rattle.whole_check.specs.declared.verdict.WholeVerdict.{WholeVerdict}
+use Rattle.whole_check.specs.declared.verdict.WholeVerdict.TheVariants as whole_verdicts
+use Rattle.verdict_lines.specs.VerdictLines.{verdict_line}
+use Rattle.verdict_lines.specs.WholeLines.{whole_verdict_line}
+use Rattle.refusal_lines.specs.declared.refusal.Refusal.{Refusal}
+use Rattle.refusal_lines.specs.declared.refusal.Refusal.TheVariants as refusals
 use Rattle.insar_top.specs.Answers.{HasAnswered, HasCutShort, IsDoneStatus, IsInputTo, IsWithinInput, input_of}
 use Rattle.insar_top.specs.Causes.{BreaksInput, HasRefusalCause}
 use Rattle.insar_top.specs.Check.{IsJudged, IsVerdictTold}
+use Rattle.insar_top.specs.CheckWhole.{IsWholeJudged, IsWholeVerdictTold}
 use Rattle.insar_top.specs.Ends.{EndsBy, IsLineAt, IsProgramEnd, IsRequestEnd, end_status, line_of_end}
 use Rattle.insar_top.specs.Ends.IsProgramEnd.{not_read, done}
-use Rattle.insar_top.specs.Refusals.{status_of, words_refusal}
+use Rattle.refusal_lines.specs.Refusals.{status_of, words_refusal}
 use Rattle.insar_top.specs.Run.{HasKept, IsUnread, Run, SinkFailed, SourceFailed}
 use Rattle.insar_top.specs.Unwrap.{IsDone}
+use Rattle.insar_top.specs.Whole.{IsLeastDone}
 use Rattle.insar_top.proofs.AnswerLemmas.{answer_input, small_status, unread_within}
 use Rattle.insar_top.proofs.BrokenLemmas.{broken_bytes_are_no_input}
-use Rattle.insar_top.proofs.CheckLemmas.{verdict_told}
-use Rattle.insar_words.proofs.RequestLemmas.{check_is_request, one_request, refused_or_asking, unwrap_is_request}
+use Rattle.insar_top.proofs.BothLemmas.{verdict_told}
+use Rattle.insar_top.proofs.CheckLemmas.{bytes_have_one_verdict}
+use Rattle.insar_top.proofs.WholeLemmas.{bytes_have_one_whole_verdict}
+use Rattle.insar_words.proofs.RequestLemmas.{check_is_request, check_whole_is_request, one_request, refused_or_asking, unwrap_is_request, whole_is_request}
 
 -- ---- refusals by their statuses
 
@@ -148,7 +157,18 @@ module _ {words : List (Bor Text)} {r : Run} {d : Result ℕ Refusal} (ended : I
   pub judged_clause : (options : Options) → IsCheck words options → IfSome r.told (λ bytes. (verdict : CheckVerdict) → IsJudged options bytes verdict → IsVerdictTold (end_status d) r verdict)
   judged_clause options c =
       let q = (check_is_request words).0 options c in
-      subst (λ (o : Options). IfSome r.told (λ bytes. (verdict : CheckVerdict) → IsJudged o bytes verdict → IsVerdictTold (end_status d) r verdict)) q.1 (verdict_told q.0 r (end_status d) (done_clause (Check q.0) q.2))
+      subst (λ (o : Options). IfSome r.told (λ bytes. (verdict : CheckVerdict) → IsJudged o bytes verdict → IsVerdictTold (end_status d) r verdict)) q.1 (verdict_told verdicts.Accepted verdict_line (IsJudged (options_of q.0)) (bytes_have_one_verdict (options_of q.0)) r (end_status d) (λ small. (done_clause (Check q.0) q.2 small).1))
+
+  pub judged_whole_clause : (options : Options) → IsCheckWhole words options → IfSome r.told (λ bytes. (verdict : WholeVerdict) → IsWholeJudged options bytes verdict → IsWholeVerdictTold (end_status d) r verdict)
+  judged_whole_clause options c =
+      let q = (check_whole_is_request words).0 options c in
+      subst (λ (o : Options). IfSome r.told (λ bytes. (verdict : WholeVerdict) → IsWholeJudged o bytes verdict → IsWholeVerdictTold (end_status d) r verdict)) q.1 (verdict_told whole_verdicts.Accepted whole_verdict_line (IsWholeJudged (options_of q.0)) (bytes_have_one_whole_verdict (options_of q.0)) r (end_status d) (λ small. (done_clause (CheckWhole q.0) q.2 small).1))
+
+  pub least_clause : (options : Options) → IsWhole words options → end_status d ≡ 0 → IsLeastDone options r
+  least_clause options c zero =
+      let q = (whole_is_request words).0 options c in
+      let answer = done_clause (Whole q.0) q.2 (omega (arith, zero)) in
+      subst (λ (o : Options). IsLeastDone o r) q.1 (if_told r.told _ (λ bytes t. let k = at_told r.told _ bytes t answer.1 in (k.0, (k.1.0.1, k.1.1))))
 
   pub status : end_status d ≤ 6
   status = by_end (λ d. end_status d ≤ 6) (λ fault c u k. (refused_status (words_refusal fault)).1) (λ q is n small. omega (arith, small)) (λ q is x h. (refused_status x).1)

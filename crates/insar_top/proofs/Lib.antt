@@ -5,7 +5,11 @@ pub mod SightLemmas
 pub mod ScreenLemmas
 pub mod AnswerLemmas
 pub mod UnwrapLemmas
+pub mod BothLemmas
 pub mod CheckLemmas
+pub mod WholeAgain
+pub mod WholeLemmas
+pub mod BoundLemmas
 pub mod BrokenLemmas
 pub mod BoardLemmas
 pub mod LastSurface

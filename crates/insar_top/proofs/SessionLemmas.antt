@@ -15,7 +15,7 @@ use Rattle.session_script.specs.Reaching.{Reaches}
 use Rattle.pgm_planes.specs.Planes.{plane_of}
 use Rattle.session_script.specs.Sections.{sections_of}
 use Rattle.session_script.specs.Sessions.{IsSessionIn, SessionOf, session_of}
-use Rattle.report_text.specs.Terms.{terms_of}
+use Rattle.text_parts.specs.Terms.{terms_of}
 use Rattle.insar_top.specs.Options.{HasOptions}
 use Rattle.insar_top.specs.Run.{ReadsAll}
 use Rattle.insar_top.specs.Unwrap.{IsGiven, IsInput}

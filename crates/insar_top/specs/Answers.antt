@@ -2,9 +2,10 @@
 use Rattle.std.specs.Prelude.{◌≡◌, ◌≤◌, ℕ, List, [], Option, Some, IfSome, ⊤}
 use Rattle.insar_ports.specs.Bytes.{GainsProperPrefix, with_end}
 use Rattle.insar_words.specs.declared.request.Request.{Request}
-use Rattle.insar_words.specs.declared.request.Request.TheVariants.{Unwrap, Grid, Check, Trial, Screen, Closure, Displacement}
+use Rattle.insar_words.specs.declared.request.Request.TheVariants.{Unwrap, Grid, Check, Trial, Screen, Closure, Displacement, Whole, CheckWhole}
 use Rattle.insar_words.specs.Requests.{options_of}
 use Rattle.insar_top.specs.Check.{IsCheckable, IsVerdictAnswer}
+use Rattle.insar_top.specs.CheckWhole.{IsWholeCheckable, IsWholeVerdictAnswer}
 use Rattle.insar_top.specs.Closure.{IsClosureAnswer, IsLoopInput}
 use Rattle.insar_top.specs.Displacement.{IsDisplacementAnswer, IsSightInput, sight_of}
 use Rattle.insar_top.specs.Grid.{IsGridAnswer}
@@ -12,6 +13,7 @@ use Rattle.insar_top.specs.Run.{IsUnread, Run}
 use Rattle.insar_top.specs.Screen.{IsScreenAnswer}
 use Rattle.insar_top.specs.Trial.{IsTrialText}
 use Rattle.insar_top.specs.Unwrap.{IsReportAnswer, IsSomeInput}
+use Rattle.insar_top.specs.Whole.{IsWholeAnswer}
 
 -- the bytes that a request is about, where the source tells them; `trial` is about none
 abbrev pub input_of : Request → Run → Option (List ℕ)
@@ -37,6 +39,8 @@ IsInputTo (Trial trial) bytes = ⊤
 IsInputTo (Screen screening) bytes = IsSomeInput screening.side bytes
 IsInputTo Closure bytes = IsLoopInput bytes
 IsInputTo (Displacement displacing) bytes = IsSightInput (sight_of displacing) bytes
+IsInputTo (Whole settings) bytes = IsSomeInput settings.side bytes
+IsInputTo (CheckWhole settings) bytes = IsWholeCheckable settings.side bytes
 
 -- with this status, the text answers a request that is about these bytes
 abbrev pub IsAnswerTo : Request → List ℕ → ℕ → List ℕ → Type 0
@@ -47,10 +51,13 @@ IsAnswerTo (Trial trial) bytes status text = (status ≡ 0) × IsTrialText trial
 IsAnswerTo (Screen screening) bytes status text = (status ≡ 0) × IsScreenAnswer screening bytes text
 IsAnswerTo Closure bytes status text = (status ≡ 0) × IsClosureAnswer bytes text
 IsAnswerTo (Displacement displacing) bytes status text = (status ≡ 0) × IsDisplacementAnswer (sight_of displacing) bytes text
+IsAnswerTo (Whole settings) bytes status text = (status ≡ 0) × IsWholeAnswer (options_of settings) bytes text
+IsAnswerTo (CheckWhole settings) bytes status text = IsWholeVerdictAnswer (options_of settings) bytes status text
 
--- a request that was done may end with this status: 1 is of `check` alone
+-- a request that was done may end with this status: 1 is of `check` and `check-whole` alone
 abbrev pub IsDoneStatus : Request → ℕ → Type 0
 IsDoneStatus (Check settings) status = status ≤ 1
+IsDoneStatus (CheckWhole settings) status = status ≤ 1
 IsDoneStatus asked status = status ≡ 0
 
 -- a request was done with this status: where the bytes are told, a text answers it, nothing is left, and the sink gained exactly the text

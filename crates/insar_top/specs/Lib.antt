@@ -1,12 +1,12 @@
 pub mod Run
 pub mod Options
 pub mod Desks
-pub mod Refusals
-pub mod Lines
 pub mod Unwrap
 pub mod Grid
-pub mod VerdictLines
+pub mod Both
 pub mod Check
+pub mod Whole
+pub mod CheckWhole
 pub mod Trial
 pub mod Screen
 pub mod Grids

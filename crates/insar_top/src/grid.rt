@@ -7,11 +7,12 @@ ghost use Rattle.report_text.specs.Reports.{report_of};
 ghost use Rattle.text_lines.specs.Adding.{Puts};
 ghost use Rattle.tile_board.specs.Histories.{IsComplete};
 
-use crate::refusal::{Refusal, end_of};
+use crate::ends::end_of;
 use crate::session::solved;
 use grid_writer::write_grid;
 use insar_ports::{Sink, Source, WriteFault};
 use insar_words::Settings;
+use refusal_lines::Refusal;
 use std::alloc::Global;
 use std::sync::Wait;
 use std::thread::Threads;

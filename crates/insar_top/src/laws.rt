@@ -2,8 +2,10 @@
 
 ghost use Rattle.insar_top.specs.Causes.{BrokenBytesAreNoInput};
 ghost use Rattle.insar_top.specs.Check.{AnswersAreAccepted, BytesHaveOneVerdict};
+ghost use Rattle.insar_top.specs.CheckWhole.{AcceptedWholesAreLeast, BytesHaveOneWholeVerdict, WholesAreAccepted};
 ghost use Rattle.insar_top.specs.Grid.{LastSurfacesAreBest};
 ghost use Rattle.insar_top.specs.Trial.{TrialsHaveOneText};
+ghost use Rattle.insar_top.specs.Whole.{ReportsBoundTheLeast};
 
 /// Bytes that have a break for which a request is refused are not of the form that it reads.
 pub fn broken_bytes_are_no_input()
@@ -20,6 +22,27 @@ pub fn answers_are_accepted()
 /// answers 1.
 pub fn bytes_have_one_verdict()
     ensures { BytesHaveOneVerdict }
+{}
+
+/// `check-whole` accepts what `whole` writes for a session, in the same way.
+pub fn wholes_are_accepted()
+    ensures { WholesAreAccepted }
+{}
+
+/// A whole surface that `check-whole` accepts is least of all for the session before it, whoever wrote it.
+pub fn accepted_wholes_are_least()
+    ensures { AcceptedWholesAreLeast }
+{}
+
+/// Bytes have one verdict, whatever session and surface they are the text of.
+pub fn bytes_have_one_whole_verdict()
+    ensures { BytesHaveOneWholeVerdict }
+{}
+
+/// The surface that costs least of all costs no less than the tiles of one that a report of the same session publishes for the
+/// first mask, and no more than its tiles and its seams.
+pub fn reports_bound_the_least()
+    ensures { ReportsBoundTheLeast }
 {}
 
 /// The last surface of a session's report, whose grid `grid` writes, is the best at the mask of the newest published revision;

@@ -1,20 +1,22 @@
 //! The whole program as one call: words and bytes in; a report, a grid, a verdict, a trial's lines, a screened session,
-//! closures or displacements out, or a refusal.
+//! closures, displacements or a surface that costs least of all out, or a refusal.
 #![tactic(auto)]
 
 mod board;
+mod both;
 mod check;
+mod check_whole;
 mod closure;
-mod diag;
 mod displacements;
+mod ends;
 mod grid;
 mod grids;
 pub mod laws;
-mod refusal;
 mod screen;
 mod session;
 mod top;
 mod trial;
 mod unwrap;
+mod whole;
 
 pub use top::{insar, starved};

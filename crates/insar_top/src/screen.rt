@@ -6,12 +6,13 @@ ghost use Rattle.insar_words.specs.declared.request.Request.TheVariants as reque
 ghost use Rattle.raster_model.specs.Masks.{open_at};
 ghost use Rattle.std.specs.Prelude.{◌≡◌, IfOk};
 
-use crate::refusal::{Refusal, end_of};
+use crate::ends::end_of;
 use crate::session::read_alone;
 use auto_masks::{Screen, ScreenTerms};
 use insar_ports::{Sink, Source};
 use insar_words::Screening;
 use raster_model::{Mask, Plane, RuleKind, Session};
+use refusal_lines::Refusal;
 use session_script::write_session;
 use std::alloc::{AllocError, Global};
 

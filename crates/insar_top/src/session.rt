@@ -9,10 +9,10 @@ ghost use Rattle.std.specs.Prelude.{◌≡◌, IfErr, IfOk};
 ghost use Rattle.tile_board.specs.Histories.{IsComplete};
 
 use crate::board::finished;
-use crate::refusal::Refusal;
 use insar_ports::{Feed, Source};
 use insar_words::Settings;
 use raster_model::{MAX_SESSION_BYTES, RuleKind, Session};
+use refusal_lines::Refusal;
 use session_script::{SessionUse, read_session};
 use std::alloc::Global;
 use std::sync::Wait;
@@ -32,10 +32,22 @@ pub fn solved<R: Threads + Wait + Sync, S: Source, G: Gate>(
     ensures complete { IfOk result (λ board. IsComplete board.session board.entries) }
     ensures refused { IfErr result (HasReadCause (BreaksAlone settings.side) (S.left source.old) (S.faults source.old) (S.faults source.new)) }
 {
-    let plain = read_alone(alloc, source, settings.side, settings.rule)?;
-    let session = plain.with_terms(settings.terms);
+    let session = read_given(alloc, source, settings)?;
     let board = finished(rt, alloc, session, settings.workers, gate)?;
     Ok(board)
+}
+
+/// Reads the session that a source gives, after which it ends, on the settings.
+pub fn read_given<S: Source>(
+    alloc: Global,
+    source: &mut S,
+    settings: Settings,
+) -> Result<Session, Refusal>
+    ensures given { IfOk result (λ session. ReadsAll (S.left source.old) (S.left source.new) (λ bytes. IsGiven (options_of settings) bytes session)) }
+    ensures refused { IfErr result (HasReadCause (BreaksAlone settings.side) (S.left source.old) (S.faults source.old) (S.faults source.new)) }
+{
+    let plain = read_alone(alloc, source, settings.side, settings.rule)?;
+    Ok(plain.with_terms(settings.terms))
 }
 
 /// Reads the session that a source gives, after which it ends: in tiles of this side, by this rule and on the plain terms.

@@ -3,29 +3,33 @@ ghost use Rattle.insar_ports.specs.Bytes.{HasRisen, with_end};
 ghost use Rattle.insar_top.specs.Answers.{HasAnswered, HasCutShort, IsDoneStatus, IsInputTo, IsWithinInput, input_of};
 ghost use Rattle.insar_top.specs.Causes.{HasRefusalCause};
 ghost use Rattle.insar_top.specs.Check.{IsJudged, IsVerdictTold};
+ghost use Rattle.insar_top.specs.CheckWhole.{IsWholeJudged, IsWholeVerdictTold};
 ghost use Rattle.insar_top.specs.Ends.{IsLineAt, IsProgramEnd, IsRequestEnd, end_status, line_of_end};
-ghost use Rattle.insar_top.specs.Lines.{refusal_line};
-ghost use Rattle.insar_top.specs.Refusals.{status_of};
+ghost use Rattle.refusal_lines.specs.Lines.{refusal_line};
+ghost use Rattle.refusal_lines.specs.Refusals.{status_of};
 ghost use Rattle.insar_top.specs.Run.{IsUnread, run_of};
 ghost use Rattle.insar_top.specs.Unwrap.{IsDone};
-ghost use Rattle.insar_top.specs.declared.refusal.Refusal.{Refusal as AnyRefusal};
-ghost use Rattle.insar_top.specs.declared.refusal.Refusal.TheVariants as refusals;
-ghost use Rattle.insar_words.specs.Asked.{IsCheck, IsCommand, IsRefused, Options};
+ghost use Rattle.insar_top.specs.Whole.{IsLeastDone};
+ghost use Rattle.refusal_lines.specs.declared.refusal.Refusal.{Refusal as AnyRefusal};
+ghost use Rattle.refusal_lines.specs.declared.refusal.Refusal.TheVariants as refusals;
+ghost use Rattle.insar_words.specs.Asked.{IsCheck, IsCheckWhole, IsCommand, IsRefused, IsWhole, Options};
 ghost use Rattle.insar_words.specs.Requests.{AskSomething, IsRequest};
 ghost use Rattle.insar_words.specs.declared.request.Request.{Request as Asked};
 ghost use Rattle.report_check.specs.declared.verdict.CheckVerdict.{CheckVerdict as AnyVerdict};
+ghost use Rattle.whole_check.specs.declared.verdict.WholeVerdict.{WholeVerdict as AnyWholeVerdict};
 
 use crate::check::run_check;
+use crate::check_whole::run_check_whole;
 use crate::closure::run_closure;
-use crate::diag::put_line;
 use crate::displacements::run_displacement;
 use crate::grid::run_grid;
-use crate::refusal::Refusal;
 use crate::screen::run_screen;
 use crate::trial::run_trial;
 use crate::unwrap::run_unwrap;
+use crate::whole::run_whole;
 use insar_ports::{Sink, Source};
 use insar_words::{Request, read_words};
+use refusal_lines::{Refusal, put_line};
 use std::alloc::Global;
 use std::sync::Wait;
 use std::thread::Threads;
@@ -62,10 +66,16 @@ use tile_workers::Gate;
 /// and `--y` are the column and the row of that pixel, from 0 to 4095, and 0 by default. `--block` is the side of the blocks
 /// in pixels, from 1 to 64, and 1 by default.
 ///
+/// `whole` reads a session as `unwrap` does, does not run its scripts, and solves the whole raster under its first mask. It
+/// writes the surface that costs least of all congruent surfaces, whatever the tiles, with its cost and the faces that certify
+/// it. `check-whole` reads a session and then such a text, solves nothing, and writes one line: `accepted`, or the first reason
+/// why the surface is not certified for the session. Both have the words of `unwrap` and `check` but for `--tile`.
+///
 /// `--tile N` is the side of the square tiles in pixels, from 2 to 128, and 64 if the words do not give it; `screen` has it
 /// for the limit of a session's edits alone. `--rule R` names how the weights of two pixels give that of their edge: `least`,
 /// which is the default, `mean` or `product`. `--workers N` is how many workers solve the tiles of an analyst at once, from 1
-/// to 8, and 2 by default, each of which passes the gate before it solves; `check` has no workers. `--ramp-x N` and
+/// to 8, and 2 by default, each of which passes the gate before it solves; `whole` has as many threads at most, with no gate,
+/// and `check` and `check-whole` have none. `--ramp-x N` and
 /// `--ramp-y N` are what the phase is expected to rise from a pixel to its right and to its lower neighbour, in units of
 /// 1/65536 cycle: N from 0 to 65535, of which those from 32768 on stand for N - 65536, and 0 by default. Differences are
 /// wrapped around it. `--steep N`, from 1 to 16, is how many times as much as the first cycle of a departure each further one
@@ -86,7 +96,10 @@ pub fn insar<R: Threads + Wait + Sync, S: Source, K: Sink, D: Sink, G: Gate>(
     // 0 of `unwrap`: the bytes were the text of one session, nothing is left, and the sink gained exactly the text of its
     // report: each surface in it is certified and the best at its revision's mask.
     ensures headline { (options : Options) → IsCommand words.now options → result ≡ 0 → IsDone options (run_of S.left S.faults source.old source.new K.held K.faults sink.old sink.new) }
-    // 0, and 1 of `check`: the bytes were what the request reads, nothing is left, and the sink gained exactly the text that
+    // 0 of `whole`: the bytes were the text of one session, nothing is left, and the sink gained exactly the text of a surface
+    // that no congruent surface for the first mask costs less than, with its certificate and its cost.
+    ensures least { (options : Options) → IsWhole words.now options → result ≡ 0 → IsLeastDone options (run_of S.left S.faults source.old source.new K.held K.faults sink.old sink.new) }
+    // 0, and 1 of `check` and `check-whole`: the bytes were what the request reads, nothing is left, and the sink gained exactly the text that
     // answers it.
     ensures done { (asked : Asked) → IsRequest words.now asked → result ≤ 1 → HasAnswered asked (run_of S.left S.faults source.old source.new K.held K.faults sink.old sink.new) result }
     // 2 to 6: a refusal with its cause, and its line.
@@ -103,6 +116,8 @@ pub fn insar<R: Threads + Wait + Sync, S: Source, K: Sink, D: Sink, G: Gate>(
     // Whatever session and report the bytes of a check are the text of: at 0 the verdict on them is Accepted and at 1 it is
     // not, and the line is its own.
     ensures judged { (options : Options) → IsCheck words.now options → IfSome (S.left source.old) (λ bytes. (verdict : AnyVerdict) → IsJudged options bytes verdict → IsVerdictTold result (run_of S.left S.faults source.old source.new K.held K.faults sink.old sink.new) verdict) }
+    // So it is of a check of a whole surface.
+    ensures judged_whole { (options : Options) → IsCheckWhole words.now options → IfSome (S.left source.old) (λ bytes. (verdict : AnyWholeVerdict) → IsWholeJudged options bytes verdict → IsWholeVerdictTold result (run_of S.left S.faults source.old source.new K.held K.faults sink.old sink.new) verdict) }
     // 2: the words are refused; the source is not read. Reading them may want memory.
     ensures words_refused { result ≡ 2 → IsRefused words.now }
     ensures unread { result ≡ 2 → IsUnread (run_of S.left S.faults source.old source.new K.held K.faults sink.old sink.new) }
@@ -126,7 +141,7 @@ pub fn starved<D: Sink>(diag: &mut D) -> u8
     status_told(diag, Err(Refusal::Memory))
 }
 
-/// Reads the words and does what they ask for. The status is 1 if a report is not accepted, and otherwise 0.
+/// Reads the words and does what they ask for. The status is 1 if what is checked is not accepted, and otherwise 0.
 fn run<R: Threads + Wait + Sync, S: Source, K: Sink, G: Gate>(
     rt: &R,
     alloc: Global,
@@ -162,6 +177,8 @@ fn do_request<R: Threads + Wait + Sync, S: Source, K: Sink, G: Gate>(
         Request::Screen(screening) => run_screen(alloc, screening, source, sink),
         Request::Closure => run_closure(alloc, source, sink),
         Request::Displacement(displacing) => run_displacement(alloc, displacing, source, sink),
+        Request::Whole(settings) => run_whole(rt, alloc, settings, source, sink),
+        Request::CheckWhole(settings) => run_check_whole(alloc, settings, source, sink),
     }
 }
 

@@ -3,17 +3,16 @@ ghost use Rattle.insar_top.specs.Run.{run_beside};
 ghost use Rattle.insar_words.specs.declared.request.Request.TheVariants as requests;
 ghost use Rattle.std.specs.Prelude.{ℕ, List, Option};
 
-mod summary;
-
 use crate::board::finished;
-use crate::refusal::{Refusal, end_of};
-use crate::trial::summary::{put_summary, summary_of};
+use crate::ends::end_of;
 use insar_ports::Sink;
 use insar_words::Trial;
+use refusal_lines::Refusal;
 use std::alloc::Global;
 use std::sync::Wait;
 use std::thread::Threads;
 use tile_workers::Gate;
+use trial_lines::{put_summary, summary_of};
 use trial_maker::make_session;
 
 /// Makes the session that the words name, runs its script, writes four lines, and answers the status 0. The lines say how many

@@ -2,10 +2,11 @@ ghost use Rattle.insar_top.specs.Ends.{IsRequestEnd};
 ghost use Rattle.insar_top.specs.Run.{run_of};
 ghost use Rattle.insar_words.specs.declared.request.Request.TheVariants as requests;
 
-use crate::refusal::{Refusal, end_of};
+use crate::ends::end_of;
 use crate::session::solved;
 use insar_ports::{Sink, Source};
 use insar_words::Settings;
+use refusal_lines::Refusal;
 use report_text::write_report;
 use std::alloc::Global;
 use std::sync::Wait;

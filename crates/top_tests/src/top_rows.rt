@@ -8,8 +8,9 @@ use tile_workers::OpenGate;
 
 /// A row has four fields: words, bytes, status, and what is written, which is the sink's text at status 0 and 1 or else
 /// the line to `diag`. In a field `;` is LF, `.` is the byte 0, `~` is the NODATA value, `%` stands for the four
-/// lines of a grid between its size and its rows, and `!` for the head of a report up to its size. In what is written `*` is
-/// any text, and `/` splits two reports of which either may come. All values but those of `trial 7` were computed by hand.
+/// lines of a grid between its size and its rows, `!` for the head of a report up to its size, and `^` for that of a whole
+/// surface. In what is written `*` is any text, and `/` splits two texts of which either may come. All values but those of
+/// `trial 7` were computed by hand.
 const ROWS: &str = "\
 -- Lines, which have no cell: a commented header, a wrap, the exact half cycle, one pixel.
 unwrap|P5;# by hand;2 1;65535;....|0|!2 1;tile 64;rule least;kept 0 0;published 1 0;costs 0 0;ncols 2;nrows 1;%0 0;faces 0;flows;shown 1 0;end;
@@ -177,6 +178,46 @@ displacement --wavelength 1000000000 --x 1|ncols 2;nrows 1;%9223372036854775807 
 displacement --wavelength 1000000000 --block 2|ncols 2;nrows 3;%0 0;0 0;0 9223372036854775807;|3|input fault 23 wide 0 1;
 displacement --wavelength 1||3|input fault 19 grid 1 line 1;
 displacement --wavelength 1|ncols 1;nrows 1;%0;x|3|input fault 22 after grids byte 87;
+-- The least of all over the whole raster. No residue; a turn, with two surfaces that cost least; one of its pixels masked, and
+-- all; rasters with no cell; a raster whose edges at the bottom, at the left and between two cells weigh 3, 4 and 3.
+whole|P2 2 2 65535 0 20000 40000 60000|0|^2 2;rule least;ramp 0 0;steep 1;cost 0;ncols 2;nrows 2;%0 20000;-25536 -5536;faces *;end;
+whole|P2 2 2 65535 0 16384 49152 32768 P2 2 2 9 5 5 3 9|0|^2 2;rule least;ramp 0 0;steep 1;cost 3;ncols 2;nrows 2;%0 16384;-16384 32768;faces 3;end;/^2 2;rule least;ramp 0 0;steep 1;cost 3;ncols 2;nrows 2;%0 16384;49152 32768;faces 3;end;
+whole|P2 2 2 65535 0 16384 49152 32768 P2 2 2 9 5 5 3 9 P2 2 2 1 0 1 1 1|0|^2 2;rule least;ramp 0 0;steep 1;cost 0;ncols 2;nrows 2;%~ 16384;49152 32768;faces 0;end;
+whole|P2 2 2 65535 0 16384 49152 32768 P2 2 2 9 5 5 3 9 P5;2 2;1;....|0|^2 2;rule least;ramp 0 0;steep 1;cost 0;ncols 2;nrows 2;%~ ~;~ ~;faces 0;end;
+whole|P2 4 1 65535 0 40000 14464 54464|0|^4 1;rule least;ramp 0 0;steep 1;cost 0;ncols 4;nrows 1;%0 -25536 -51072 -76608;end;
+whole --steep 16|P2 1 2 65535 0 32768|0|^1 2;rule least;ramp 0 0;steep 16;cost 0;ncols 1;nrows 2;%0;-32768;end;
+whole --workers 8|P2 3 2 65535 0 16384 16384 49152 32768 32768 P2 3 2 9 5 5 2 4 3 9|0|^3 2;rule least;ramp 0 0;steep 1;cost 3;ncols 3;nrows 2;%0 16384 16384;-16384 32768 32768;faces 3 *;end;
+whole --rule mean --workers 1|P2 2 2 65535 0 16384 49152 32768 P2 2 2 9 2 9 8 4|0|^2 2;rule mean;*cost 5;*faces 5;end;
+whole --ramp-x 30000|P2 2 2 65535 0 16384 49152 32768|0|^2 2;rule least;ramp 30000 0;steep 1;cost 0;ncols 2;nrows 2;%0 16384;-16384 32768;faces *;end;
+-- What costs 8 in two tiles costs 4 in all: the residue is cut at the edge of weight 4 beside it. The first mask is taken, and
+-- the script that masks a pixel of a turn is not run.
+whole|P2 4 3 65535 0 0 0 0 0 0 0 20000 0 0 0 40000 P2 4 3 9 4 4 4 4 4 4 4 4 9 9 9 9|0|^4 3;rule least;ramp 0 0;steep 1;cost 4;ncols 4;nrows 3;%0 0 0 0;0 0 0 20000;0 0 0 -25536;faces *;faces *;end;
+whole|P2 2 2 65535 0 16384 49152 32768;analyst;mask 0 0 0 0;settle;show;end;|0|^2 2;*cost 1;*faces 1;end;
+whole||3|input fault 1 magic phase;
+whole|P2 4 1 65535 0 20000 40000 60000;analyst;settle;|3|input fault 14 no end;
+whole|P5;2 1;65535;....end;x|3|input fault 15 after end byte 21;
+-- A surface of the whole raster is judged; in each of the others one thing is changed. Faces that are wrong at two edges are
+-- refused at the first, and a wrong line of the head before a wrong value.
+check-whole|P2 2 2 65535 0 16384 49152 32768 P2 2 2 9 5 5 3 9;end;^2 2;rule least;ramp 0 0;steep 1;cost 3;ncols 2;nrows 2;%0 16384;-16384 32768;faces 3;end;|0|accepted;
+check-whole|P2 2 2 65535 0 16384 49152 32768 P2 2 2 9 5 5 3 9;end;^2 2;rule least;ramp 0 0;steep 1;cost 3;ncols 2;nrows 2;%0 16384;49152 32768;faces 3;end;|0|accepted;
+check-whole|P2 2 2 65535 0 16384 49152 32768 P2 2 2 9 5 5 3 9;end;^2 2;rule least;ramp 0 0;steep 1;cost 3;ncols 2;nrows 2;%0 16384;-16384 32768;faces 4;end;|1|refused face down 0 0;
+check-whole|P2 2 2 65535 0 16384 49152 32768 P2 2 2 9 5 5 3 9;end;^2 2;rule least;ramp 0 0;steep 1;cost 2;ncols 2;nrows 2;%0 16384;-16384 32768;faces 2;end;|1|refused cost;
+check-whole|P2 2 2 65535 0 16384 49152 32768 P2 2 2 9 5 5 3 9;end;^2 2;rule least;ramp 0 0;steep 1;cost 4;ncols 2;nrows 2;%0 16384;-16384 32768;faces 3;end;|1|refused told;
+check-whole|P2 2 2 65535 0 16384 49152 32768 P2 2 2 9 5 5 3 9;end;^2 2;rule least;ramp 0 0;steep 1;cost 3;ncols 2;nrows 2;%0 16385;-16384 32768;faces 3;end;|1|refused value 1 0;
+check-whole|P2 2 2 65535 0 16384 49152 32768 P2 2 2 9 5 5 3 9;end;^2 2;rule least;ramp 0 0;steep 1;cost 3;ncols 2;nrows 2;%0 16384;~ 32768;faces 3;end;|1|refused value 0 1;
+check-whole|P2 2 2 65535 0 16384 49152 32768 P2 2 2 9 5 5 3 9 P2 2 2 1 0 1 1 1;end;^2 2;rule least;ramp 0 0;steep 1;cost 0;ncols 2;nrows 2;%0 16384;49152 32768;faces 0;end;|1|refused value 0 0;
+check-whole|P2 2 2 65535 0 16384 49152 32768 P2 2 2 9 5 5 3 9;end;^2 2;rule least;ramp 0 0;steep 1;cost 3;ncols 2;nrows 2;%65536 81920;49152 98304;faces 3;end;|1|refused value 0 0;
+check-whole|P2 2 2 65535 0 16384 49152 32768 P2 2 2 9 5 5 3 9;end;^1 2;rule mean;ramp 0 0;steep 1;cost 3;ncols 1;nrows 2;%0;-16384;end;|1|refused header 2;
+check-whole|P2 2 2 65535 0 16384 49152 32768 P2 2 2 9 5 5 3 9;end;^2 2;rule mean;ramp 0 0;steep 1;cost 3;ncols 2;nrows 2;%1 16384;-16384 32768;faces 3;end;|1|refused header 3;
+check-whole|P2 2 2 65535 0 16384 49152 32768 P2 2 2 9 5 5 3 9;end;^2 2;rule least;ramp 0 1;steep 1;cost 3;ncols 2;nrows 2;%0 16384;-16384 32768;faces 3;end;|1|refused header 4;
+check-whole --steep 2|P2 2 2 65535 0 16384 49152 32768 P2 2 2 9 5 5 3 9;end;^2 2;rule least;ramp 0 0;steep 1;cost 3;ncols 2;nrows 2;%0 16384;-16384 32768;faces 3;end;|1|refused header 5;
+check-whole|P2 3 2 65535 0 16384 16384 49152 32768 32768 P2 3 2 9 5 5 2 4 3 9;end;^3 2;rule least;ramp 0 0;steep 1;cost 3;ncols 3;nrows 2;%0 16384 16384;-16384 32768 32768;faces 3 0;end;|0|accepted;
+check-whole|P2 3 2 65535 0 16384 16384 49152 32768 32768 P2 3 2 9 5 5 2 4 3 9;end;^3 2;rule least;ramp 0 0;steep 1;cost 3;ncols 3;nrows 2;%0 16384 16384;-16384 32768 32768;faces 0 3;end;|1|refused face right 1 0;
+check-whole|P2 2 2 65535 0 16384 49152 32768 P2 2 2 9 5 5 3 9;end;^2 2;rule least;ramp 0 0;steep 1;cost 3;ncols 2;nrows 2;%0 16384;-16384 32768;faces 3 0;end;|3|report fault line 15;
+check-whole|P2 2 2 65535 0 16384 49152 32768 P2 2 2 9 5 5 3 9;end;^2 2;rule least;ramp 0 0;steep 1;cost 3;ncols 2;nrows 2;%0 16384;-16384 32768;faces 3;|3|report fault line 16;
+check-whole|P2 2 2 65535 0 16384 49152 32768 P2 2 2 9 5 5 3 9;end;^2 2;rule least;ramp 0 0;steep 1;cost 3;ncols 2;nrows 2;%0 16384;-16384 32768;faces 3;end;x|3|report fault line 17;
+check-whole|P2 4 1 65535 0 20000 40000 60000;end;!4 1;tile 64;rule least;|3|report fault line 1;
+check-whole|P2 4 1 65535 0 20000 40000 60000;analyst;settle;|3|input fault 14 no end;
 -- Words that are read in other spellings, so that the missing source is what is refused.
 unwrap --tile=64||3|input fault 1 magic phase;
 unwrap --tile 02||3|input fault 1 magic phase;
@@ -226,6 +267,12 @@ displacement --wavelength 1 --x 4096||2|words refused;
 displacement --wavelength 1 --y 4096||2|words refused;
 displacement --wavelength 1 --block 0||2|words refused;
 displacement --wavelength 1 --block 65||2|words refused;
+whole --tile 64||2|words refused;
+whole --workers 9||2|words refused;
+whole --steep 17||2|words refused;
+check-whole --tile 64||2|words refused;
+check-whole --workers 2||2|words refused;
+check-whole --rule max||2|words refused;
 ";
 
 /// What a text of the table stands for.
@@ -240,6 +287,7 @@ pub fn spelled(alloc: Global, text: &str) -> Result<String, AllocError> {
                 "xllcorner 0\nyllcorner 0\ncellsize 1\nNODATA_value -9223372036854775808\n",
             )?,
             '!' => whole.push_str("insar-report 1\nsize ")?,
+            '^' => whole.push_str("insar-whole 1\nsize ")?,
             _ => whole.push(letter)?,
         }
     }
@@ -301,6 +349,6 @@ fn rows_are_answered(rt: HostRuntime) -> Result<(), Fail> {
     for row in ROWS.lines() {
         count = count.saturating_add(judge(&rt, row)?);
     }
-    assert!(rt; count == 185);
+    assert!(rt; count == 225);
     Ok(())
 }

@@ -1,7 +1,7 @@
 use Rattle.std.proofs.Common.{refl}
 use Rattle.std.proofs.lemmas.Result.{err_from_is_err_and}
 use Rattle.report_text.specs.Reports.{report_of}
-use Rattle.report_text.specs.Terms.{terms_of}
+use Rattle.text_parts.specs.Terms.{terms_of}
 use Rattle.report_text.proofs.TermsLemmas.{version_is}
 use Rattle.insar_words.specs.declared.request.Request.TheVariants.{Grid}
 use Rattle.insar_top.specs.Grid.{last_grid}

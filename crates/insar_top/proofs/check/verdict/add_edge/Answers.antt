@@ -1,8 +1,0 @@
-use Rattle.std.proofs.Common.{refl}
-use Rattle.insar_top.specs.VerdictLines.{edge_text}
-use Rattle.text_lines.proofs.ChainLemmas.{adds_three}
-use Rattle.insar_top.proofs.check.verdict.add_edge.Goals as goal
-
-pub returns : goal.returns
-unfolding edge_text
-returns g c = adds_three (rw c.direction_name.ensures at c.bytes.ensures) c.add_field.ensures c.add_field-2.ensures refl

@@ -1,0 +1,5 @@
+use Rattle.insar_top.proofs.WholeLemmas.{wholes_are_accepted}
+use Rattle.insar_top.proofs.laws.wholes_are_accepted.Goals as goal
+
+pub returns : goal.returns
+returns c = wholes_are_accepted

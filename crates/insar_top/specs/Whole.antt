@@ -1,0 +1,37 @@
+-- What `whole` writes for a session: a surface than which none costs less over the whole raster, with its certificate.
+use Rattle.std.specs.Prelude.{◌≡◌, ◌+◌, ◌≤◌, ℕ, List, [], Some, IfSome, slice_get}
+use Rattle.insar_ports.specs.Bytes.{with_end}
+use Rattle.raster_model.specs.declared.session.Session.{Session}
+use Rattle.raster_model.specs.Masks.{open_at}
+use Rattle.raster_model.specs.Scene.{raster_of}
+use Rattle.whole_raster.specs.Whole.{IsLeastOfAll}
+use Rattle.whole_text.specs.Text.{IsWhole, WholeOf, whole_text}
+use Rattle.whole_check.specs.Verdicts.{IsCertifiedText, surface_told}
+use Rattle.tile_board.specs.declared.entry.Entry.TheVariants.{Published}
+use Rattle.report_text.specs.Reports.{ItemOf, ReportOf, SurfaceOf}
+use Rattle.insar_words.specs.Asked.{Options}
+use Rattle.insar_top.specs.Run.{Run}
+use Rattle.insar_top.specs.Unwrap.{IsGiven, IsReportOf}
+
+-- the text of a session's first mask: its surface is certified, so no congruent surface costs less, whatever its tiles
+pub record IsWholeOf (s : Session) (w : WholeOf) : Type 0 where
+  pub certified : IsCertifiedText s w
+  pub least : IsLeastOfAll (raster_of s.scene) (open_at s.first_mask) (surface_told s w)
+
+-- the text is that of such a surface of the session that the bytes spell, and its numbers are in their ranges
+pub record IsWholeAnswer (options : Options) (bytes text : List ℕ) : Type 0 where
+  pub session : Session
+  pub whole : WholeOf
+  pub given : IsGiven options bytes session
+  pub told : IsWholeOf session whole
+  pub in_range : IsWhole whole
+  pub written : text ≡ whole_text whole
+
+-- where the bytes are told, they are a session, nothing of it is left, and the sink gained exactly the text of such a surface
+abbrev pub IsLeastDone : Options → Run → Type 0
+IsLeastDone options r = IfSome r.told (λ bytes. (text : List ℕ) × (IsWholeAnswer options bytes text × ((r.left ≡ Some []) × (r.held_now ≡ with_end r.held text))))
+
+-- the least of all costs no less than the tiles of a surface that a report of the same session publishes for the first mask, and no more than its tiles and its seams
+abbrev pub ReportsBoundTheLeast : Type 0
+ReportsBoundTheLeast = (s : Session) (v : ReportOf) (w : WholeOf) (at analyst : ℕ) (i : ItemOf) (k : SurfaceOf) → IsReportOf s v → slice_get v.items at ≡ Some i → i.entry ≡ Published analyst 0 → i.surface ≡ Some k → IsWholeOf s w
+    → (k.tile_cost ≤ w.cost) × (w.cost ≤ k.tile_cost + k.seam_cost)

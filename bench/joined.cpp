@@ -1,11 +1,9 @@
 // The same job without proofs, over LEMON: reads planes of phase, weights and mask from standard input, solves the network of
 // each tile and then that of the seams by LEMON's network simplex on the same costs, and writes the grid. The words are the
-// tile side, the slopes to the right and downwards that are expected, if there are, and then how many times as much as the first
-// cycle of a departure each further one costs. Times go to standard error.
-#include <algorithm>
+// tile side, the slopes to the right and downwards that are expected, if there are, then how many times as much as the first
+// cycle of a departure each further one costs, and then the rule of weights. Times go to standard error.
 #include <charconv>
 #include <chrono>
-#include <string>
 #include <tuple>
 
 #include <lemon/network_simplex.h>
@@ -16,36 +14,12 @@
 using Graph = lemon::SmartDigraph;
 using Simplex = lemon::NetworkSimplex<Graph, std::int64_t, std::int64_t>;
 
-static int wrapped(int from, int to) { return static_cast<std::int16_t>(static_cast<std::uint16_t>(to - from)); }
-
-// What is known of the raster, and of its surface so far: cycles within the tile, and the region of each open pixel.
-struct Raster {
-  int width, height, side;
-  int across = 0, down = 0;  // the expected slopes
-  int steep = 1;
-  Plane phase, weights, mask;
+// What is known of the surface so far: cycles within the tile, and the region of each open pixel.
+struct Raster : Scene {
+  int side;
   std::vector<std::int32_t> cycles;
   std::vector<std::int32_t> regions;
   int region_count = 0;
-
-  std::size_t at(int x, int y) const { return std::size_t(y) * width + x; }
-  bool is_open(std::size_t p) const { return mask.samples[p] != 0; }
-  // Wrapped to the half cycles about the expected slope, from a pixel to its right or lower neighbour.
-  int difference(std::size_t p, std::size_t q) const {
-    int slope = q == p + std::size_t(width) ? down : across;
-    return slope + wrapped(phase.samples[p], phase.samples[q] - slope);
-  }
-  // Whole cycles from one pixel to the next where nothing is corrected.
-  int turns(std::size_t p, std::size_t q) const {
-    return (difference(p, q) - (phase.samples[q] - phase.samples[p])) / 65536;
-  }
-  int weight(std::size_t p, std::size_t q) const {
-    return is_open(p) && is_open(q) ? std::min(weights.samples[p], weights.samples[q]) : 0;
-  }
-  int residue(int x, int y) const {
-    std::size_t a = at(x, y), b = a + 1, c = a + width, d = c + 1;
-    return (difference(a, b) + difference(b, d) - difference(c, d) - difference(a, c)) / 65536;
-  }
 };
 
 struct Window {
@@ -238,8 +212,7 @@ static std::vector<std::int64_t> offsets_of(const Raster &raster) {
 }
 
 static bool write_grid(const Raster &raster, const std::vector<std::int64_t> &offsets) {
-  std::string text = "ncols " + std::to_string(raster.width) + "\nnrows " + std::to_string(raster.height) +
-                     "\nxllcorner 0\nyllcorner 0\ncellsize 1\nNODATA_value -9223372036854775808\n";
+  std::string text = grid_head(raster.width, raster.height);
   std::size_t used = text.size(), first = 0;
   text.resize(used + raster.cycles.size() * 21);
   while (first < raster.cycles.size() && !raster.is_open(first)) ++first;
@@ -262,15 +235,8 @@ int main(int count, char **words) {
   };
   Raster raster;
   raster.side = count > 1 ? std::atoi(words[1]) : 64;
-  if (count > 3) raster.across = std::atoi(words[2]), raster.down = std::atoi(words[3]);
-  if (count > 4) raster.steep = std::atoi(words[4]);
-  if (!read_plane(raster.phase)) return 3;
-  raster.width = raster.phase.width;
-  raster.height = raster.phase.height;
-  std::size_t pixels = raster.phase.samples.size();
-  if (!read_plane(raster.weights)) raster.weights.samples.assign(pixels, 1);
-  if (!read_plane(raster.mask)) raster.mask.samples.assign(pixels, 1);
-  raster.cycles.resize(pixels);
+  raster.read(count - 2, words + 2);
+  raster.cycles.resize(raster.phase.samples.size());
   tell("read");
   Corrections corrections;
   for (int top = 0; top < raster.height; top += raster.side)

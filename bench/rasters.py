@@ -10,11 +10,21 @@ trial-SEED-SIZE
     The planes of the command `trial SEED WIDTH HEIGHT`: random phases on a slope, random weights from 1 to 256, and one
     pixel in sixteen masked, all from a linear congruential generator (Knuth's multiplier of 64 bits). 12 % of the cells
     have a residue.
+noise-SEED-SIZE, holes-SEED-SIZE, lake-SEED-SIZE
+    Random phases, so that a third of the cells has a residue, and random weights from 1 to 65535. Nothing is masked, or each pixel
+    at random as often as not, or what lies in one large bay or some.
 hills-SEED-SIZE-LEVEL, mogi-SEED-SIZE-LEVEL, fractal-SEED-SIZE-LEVEL, fault-SEED-SIZE-LEVEL, fold-SEED-SIZE-LEVEL
     Smooth hills, a point source that swells (Mogi 1958) on a ramp, a fractal field, hills that a fault breaks by up to 3.4
     cycles from one pixel to the next, or hills with ridges whose near side lies over (4 cycles within 5 pixels), with noise
     by coherence (Cramer-Rao bound, one look), which is lost along the fault and low on the near sides. LEVEL is low, medium or high: 0.5, 5 or 20 % of the cells have a residue. The weights are
-    the square of an estimate of the coherence, 1 to 255; the least coherent 6 % of the pixels are masked.
+    the square of an estimate of the coherence, 1 to 255; the least coherent 6 % of the pixels are masked. A number after the LEVEL
+    of a fault or a fold, as in fault-4-512-medium-40, is how many per cent of coherence are left at most within three pixels of the
+    fault, or on near sides: 100 if none is lost there.
+ring-SIZE, ringed-SEED-SIZE
+    An open ring along the raster's edge, two pixels wide, around a masked hole. Its phases rise by 0.45 cycles a pixel along it, and
+    with tiles of side 2 its two lanes differ by a cycle at each seam. Or such a ring in the first 14 rows, two masked rows,
+    and the trial of SEED in those below. The weights of the ring are random, from 101 to 256, so that
+    many seams depart by a cycle each.
 
 With GX and GY, whole numbers, the phases rise by these units a pixel more to the right and downwards. By --ramp-x and --ramp-y of
 these slopes that is the same problem as the raster of NAME alone is without.
@@ -30,12 +40,14 @@ import numpy as np
 CYCLE = 65536  # units in a cycle
 MAX_SIDE, MAX_PIXELS = 4096, 4194304
 SLOPES = {"slope": (300, 700), "gentle": (30, 20), "flat": (0, 0)}  # units a pixel to the right, and downwards
+NOISES = ("noise", "holes", "lake")
 FIELDS = ("hills", "mogi", "fractal", "fault", "fold")
 LEVELS = {"low": 0.005, "medium": 0.05, "high": 0.20}  # of the cells
+RISE, BUMP, RING_ROWS = 29491, 6554, 14  # 0.45 and 0.1 cycles; rows of the ring in a raster with a trial below
 MULTIPLIER, INCREMENT, WORD = 6364136223846793005, 1442695040888963407, 2**64
 NAME = re.compile(
     r"(?P<kind>[a-z]+)(?:-(?P<seed>[0-9]{1,18}))?-(?P<width>[0-9]{1,4})(?:x(?P<height>[0-9]{1,4}))?"
-    r"(?:-(?P<level>low|medium|high))?(?P<plain>-plain)?"
+    r"(?:-(?P<level>low|medium|high)(?:-(?P<left>[1-9][0-9]?|100))?)?(?P<plain>-plain)?"
 )
 
 
@@ -91,6 +103,35 @@ def trial(seed: int, width: int, height: int) -> Raster:
     return Raster(surface, weights, 256, (drawn >> np.uint64(20)) % np.uint64(16) != 0)
 
 
+def ring(width: int, height: int) -> Raster:
+    y, x = np.mgrid[0:height, 0:width]
+    lane = np.minimum(np.minimum(x, y), np.minimum(width - 1 - x, height - 1 - y))
+    sides = [y == lane, x == width - 1 - lane, y == height - 1 - lane, x == lane]
+    along = np.select(sides, [x, width - 1 + y, 2 * width + height - 3 - x, 2 * width + 2 * height - 4 - y])
+    enters = np.select(sides, [x % 2 == 0, y % 2 == 0, x % 2 == 1, y % 2 == 1], False)  # the first pixel of a tile of side 2
+    surface = RISE * along + BUMP * (enters & (lane == 1))
+    weights = 101 + (states(1, width * height).reshape(height, width) >> np.uint64(32)) % np.uint64(156)
+    return Raster(surface, weights, 256, lane < 2)
+
+
+def ringed(seed: int, width: int, height: int) -> Raster:
+    masked = Raster(np.zeros((2, width), np.int64), np.ones((2, width)), 256, np.zeros((2, width), bool))
+    parts = [ring(width, RING_ROWS), masked, trial(seed, width, height - RING_ROWS - 2)]
+    surface, weights, _, opened = (np.vstack(rows) for rows in zip(*parts))
+    return Raster(surface, weights, 256, opened)
+
+
+def noise(kind: str, seed: int, width: int, height: int) -> Raster:
+    random = np.random.Generator(np.random.PCG64([seed, NOISES.index(kind)]))
+    surface, weights = random.integers(0, CYCLE, (height, width)), random.integers(1, CYCLE, (height, width))
+    opened = np.ones((height, width), bool)
+    if kind == "holes":
+        opened = random.random((height, width)) < 0.5
+    elif kind == "lake":
+        opened = random_field(random, width, height, max(width, height) / 8) < 0.3
+    return Raster(surface, weights, CYCLE - 1, opened)
+
+
 def random_field(random: np.random.Generator, width: int, height: int, scale: float, power: float = 0.0) -> np.ndarray:
     """A random field, mean 0 and deviation 1: smooth with that scale in pixels or, with a power, a fractal."""
     frequency = np.hypot(np.fft.fftfreq(height)[:, None], np.fft.rfftfreq(width)[None, :])
@@ -137,14 +178,19 @@ def field(kind: str, random: np.random.Generator, width: int, height: int) -> np
     return heights * (0.09 / np.sqrt((steep * steep).mean()))
 
 
-def noisy(kind: str, seed: int, width: int, height: int, level: str) -> Raster:
+def torn_coherence(coherence: np.ndarray, share: np.ndarray, left: int | None) -> np.ndarray:
+    """The coherence of which a share is left near a tear or, if that is told, at most so many per cent."""
+    return coherence * share if left is None else np.where(share < 0.9, np.minimum(coherence, left / 100), coherence)
+
+
+def noisy(kind: str, seed: int, width: int, height: int, level: str, left: int | None = None) -> Raster:
     """A field with noise by coherence. The noise is scaled until just less than the level's share of cells has a residue."""
     random = np.random.Generator(np.random.PCG64([seed, FIELDS.index(kind)]))
     cycles = field(kind, random, width, height)
     rough = random_field(random, width, height, 12) * 0.5 + random_field(random, width, height, 90)
     coherence = np.clip(1 / (1 + np.exp(-(0.9 + 1.1 * rough))), 0.05, 0.99)  # mean about 0.67
     if kind in ("fault", "fold"):
-        coherence = np.clip(coherence * torn(kind, width, height)[1], 0.05, 0.99)
+        coherence = np.clip(torn_coherence(coherence, torn(kind, width, height)[1], left), 0.05, 0.99)
     deviation = np.minimum(np.sqrt((1 - coherence**2) / (2 * coherence**2)), 8) / (2 * np.pi)  # Cramer-Rao, one look
     noise = random.standard_normal((height, width)) * deviation
 
@@ -177,10 +223,20 @@ def raster(name: str) -> tuple[Raster, bool]:
         return slope(kind, width, height), is_plain
     if kind == "trial" and seed is not None and level is None and not is_plain:
         return trial(int(seed), width, height), False
+    if kind == "ring" and seed is None and level is None and not is_plain:
+        return ring(width, height), False
+    if kind == "ringed" and seed is not None and level is None and not is_plain:
+        if height < RING_ROWS + 3:
+            raise Mistake(f"{name}: below the ring are two masked rows and one more at least")
+        return ringed(int(seed), width, height), False
+    if kind in NOISES and seed is not None and level is None and not is_plain:
+        return noise(kind, int(seed), width, height), False
     if kind in FIELDS and seed is not None and level is not None and not is_plain:
         if min(width, height) < 2:
             raise Mistake(f"{name}: a field has at least two pixels a side")
-        return noisy(kind, int(seed), width, height, level), False
+        left = int(words["left"]) if words["left"] else None
+        if left is None or kind in ("fault", "fold"):
+            return noisy(kind, int(seed), width, height, level, left), False
     raise Mistake(f"{name}: no name of a raster, as slope-1024, trial-7-512 and hills-1-512-low are")
 
 

@@ -374,8 +374,8 @@ def random_scripts(dice, width, height):
     return [[command() for _ in range(dice.randrange(7))] for _ in range(dice.randint(1, 8))]
 
 
-def random_session(dice):
-    width, height = dice.randint(1, 11), dice.randint(1, 11)
+def random_session(dice, longest=11):
+    width, height = dice.randint(1, longest), dice.randint(1, longest)
     pixels = width * height
     maxval = dice.choice((1, 9, 255, 300, 65535))
     masked = dice.choice((0, 0.1, 0.3, 0.6))

@@ -40,10 +40,50 @@ class Rasters(unittest.TestCase):
         for name in ("fault-1-64-low", "fold-1-64-medium"):
             self.assertEqual(run(name).returncode, 0)
 
+    def test_what_is_left_of_the_coherence_at_a_tear(self) -> None:
+        coherence, (_, share) = np.full((200, 400), 0.8), rasters.torn("fault", 400, 200)
+        for left, wanted in ((12, 0.12), (70, 0.7), (100, 0.8)):
+            found = rasters.torn_coherence(coherence, share, left)
+            self.assertEqual((found[100, 200], found[97, 200], found[96, 200]), (wanted, 0.8 if left == 100 else found[97, 200], 0.8))
+            self.assertEqual(sorted({*found.ravel().tolist()}), sorted({wanted, 0.8}))
+        for name in ("hills-1-64-low-12", "fault-1-64-low-0", "fault-1-64-low-101", "fault-1-64-12", "noise-1-64-low"):
+            self.assertEqual(run(name).returncode, 2, name)
+        self.assertNotEqual(run("fault-1-64-low-12").stdout, run("fault-1-64-low-100").stdout)
+
     def test_a_trial_is_that_of_the_command(self) -> None:
         made, _ = rasters.raster("trial-7-64")
         self.assertEqual(np.count_nonzero(rasters.residues(made.surface % 65536)), 450)
         self.assertEqual(np.count_nonzero(made.opened), 3834)
+
+    def test_a_ring_winds_and_its_lanes_differ(self) -> None:
+        made, _ = rasters.raster("ring-64x14")
+        around = np.concatenate([made.surface[0, :-1], made.surface[:-1, -1], made.surface[-1, :0:-1], made.surface[:0:-1, 0]])
+        steps = rasters.wrap(np.diff(np.append(around, around[0])))
+        self.assertEqual((len(steps), steps.sum()), (152, 68 * 65536))
+        self.assertEqual(np.count_nonzero(made.opened), 64 * 14 - 60 * 10)
+        first, second = rasters.wrap(np.diff(made.surface[:2, 4:60], axis=1))
+        self.assertEqual((set(first.tolist()), second.tolist()[:4]), ({29491}, [22937, -29491, 22937, -29491]))
+        down = rasters.wrap(np.diff(made.surface[4:10, -2]))
+        self.assertEqual(down.tolist(), [22937, -29491, 22937, -29491, 22937])
+
+    def test_a_trial_lies_below_a_ring(self) -> None:
+        made, _ = rasters.raster("ringed-7-64x40")
+        above, below = rasters.ring(64, 14), rasters.trial(7, 64, 24)
+        self.assertTrue((made.surface[:14] == above.surface).all() and (made.surface[16:] == below.surface).all())
+        self.assertTrue((made.weights[16:] == below.weights).all() and (made.opened[16:] == below.opened).all())
+        self.assertFalse(made.opened[14:16].any())
+        self.assertEqual(run("ringed-7-64x16").returncode, 2)
+
+    def test_noise_has_a_residue_in_each_third_cell(self) -> None:
+        for kind, least, most in (("noise", 1, 1), ("holes", 0.49, 0.51), ("lake", 0.4, 0.8)):
+            made, _ = rasters.raster(f"{kind}-5-300x200")
+            self.assertAlmostEqual(np.count_nonzero(rasters.residues(made.surface)) / (299 * 199), 1 / 3, delta=0.01)
+            assert made.opened is not None and made.weights is not None
+            self.assertTrue(least <= made.opened.mean() <= most, kind)
+            self.assertTrue(1 <= made.weights.min() and made.weights.max() <= 65535)
+            self.assertEqual(run(f"{kind}-5-30x20").stdout, rasters.session(rasters.raster(f"{kind}-5-30x20")[0]))
+        shores = np.diff(made.opened, axis=1).mean()
+        self.assertLess(shores, 0.02)
 
     def test_states_follow_one_another(self) -> None:
         found, state = rasters.states(7, 5), 7

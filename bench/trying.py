@@ -28,14 +28,19 @@ Options = dict[str, Option]
 Wanted = Callable[[Sequence[str], bytes], Ended]
 
 
-def numbers_of(words: Sequence[str], options: Options) -> dict[str, int] | None:
-    """The number of each option by words `--name value` or `--name=value`; None if they are refused. `--` may end them."""
-    found: dict[str, int] = {}
-    rest = list(words)
+def pairs_of(words: Sequence[str]) -> list[tuple[str, str]]:
+    """The names and values of words `--name value` or `--name=value`; a value that is missing is empty. `--` may end them."""
+    found, rest = [], list(words)
     while rest and rest != ["--"]:
         name, equals, value = rest.pop(0).partition("=")
-        if not equals and rest:
-            value = rest.pop(0)
+        found.append((name, rest.pop(0) if not equals and rest else value))
+    return found
+
+
+def numbers_in(pairs: Sequence[tuple[str, str]], options: Options) -> dict[str, int] | None:
+    """The number of each option by names and values; None if they are refused."""
+    found: dict[str, int] = {}
+    for name, value in pairs:
         match, option = NUMBER.fullmatch(value), options.get(name.removeprefix("--"))
         if not (match and option and name.startswith("--")) or name[2:] in found:
             return None
@@ -47,6 +52,11 @@ def numbers_of(words: Sequence[str], options: Options) -> dict[str, int] | None:
             return None
         found.setdefault(name, option.default or 0)
     return found
+
+
+def numbers_of(words: Sequence[str], options: Options) -> dict[str, int] | None:
+    """The number of each option by words; None if they are refused."""
+    return numbers_in(pairs_of(words), options)
 
 
 def refused_words(dice: random.Random, options: Options) -> list[str]:

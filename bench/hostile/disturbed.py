@@ -6,7 +6,7 @@ import subprocess
 import time
 
 import wanted
-from rows import MEMORY, READ, READERS, SIGNAL, USES, WORDS, WRITE, End, Row, board, files, row
+from rows import MEMORY, READ, READERS, SIGNAL, USES, WORDS, WRITE, End, Row, board, files, masked_whole, row
 from running import Ended
 from wanted import NOTHING, exactly
 
@@ -219,11 +219,14 @@ def memory_row(limit, name, words, file, end):
 
 
 def further_memory_uses():
-    """The three commands that make no surface. The screen keeps the session as it is, which the file spells as it is written."""
+    """The commands of which there is one answer. The screen keeps the session as it is, which the file spells as it is written."""
     all_files = files()
     yield "screen", "screen --radius 8 --count 1 --patch 1", "noisy", all_files["noisy"]
     yield "closure", "closure", "noisy-loop", board(96)[1]
     yield "displacement", "displacement --wavelength 131072", "noisy-grid", all_files["noisy-grid"]
+    for count in (1, 2, 8):
+        yield f"whole, {count} workers", f"whole --workers {count}", "masked", masked_whole(96)
+    yield "check-whole", "check-whole", "masked-accepted", b"accepted\n"
 
 
 def memory_uses(noisy):

@@ -17,12 +17,12 @@ NUMBERS = [b"%d" % bound for bound in BOUNDS] + [b"-%d" % bound for bound in BOU
 NUMBERS += [b"00", b"007", b"+1", b"1.5", b"0x10", b"1e3", b"", b"-", b"1" * 60, b"9" * 5000, b"0" * 300 + b"1"]
 WORDS = b"P5 P2 P P1 P6 analyst mask unmask settle show end insar-report size tile rule least mean product".split()
 WORDS += b"ramp steep revised kept published settled shown none costs ncols nrows xllcorner yllcorner cellsize NODATA_value".split()
-WORDS += [b"faces", b"flows", b"#", b"#\n", b"x", b"", b"\xff", b"\0", b"end\n", b"analyst\n"]
+WORDS += [b"faces", b"flows", b"insar-whole", b"cost", b"#", b"#\n", b"x", b"", b"\xff", b"\0", b"end\n", b"analyst\n"]
 WORDS += [b"P5 1 1 1 \1", b"P2 1 1 1 1\n"]
 SPACES = (b" ", b"\t", b"\n", b"\v", b"\f", b"\r", b"\r\n", b"  ", b"#\n", b" # by hand\n", b"\n#\r#\n", b"")
 LONGEST = 65_536
-# The commands that have a judge of their own, of the same name, in bench/.
-JUDGED = ("screen", "closure", "displacement")
+# The commands that have a judge of their own in bench/, which makes their inputs, and its name.
+JUDGED = {"screen": "screen", "closure": "closure", "displacement": "displacement", "check-whole": "whole"}
 
 
 class Case(NamedTuple):
@@ -142,23 +142,24 @@ def altered(dice: random.Random, data: bytes, others: Sequence[bytes]) -> bytes:
     return data
 
 
-def options(dice, side, rule, workers, ramp=(0, 0)):
-    """Words of the options, of which those of defaults may be left out."""
-    pairs = [("--tile", str(side)), ("--rule", rule)] + [("--workers", str(workers))] * (workers > 0)
+def options(dice, side, rule, workers, ramp=(0, 0), steep=1):
+    """Words of the options, of which those of defaults may be left out. A side of 0 is that of no tiles."""
+    pairs = [("--tile", str(side))] * (side > 0) + [("--rule", rule), ("--steep", str(steep))]
+    pairs += [("--workers", str(workers))] * (workers > 0)
     pairs += [(name, str(slope % stress.CYCLE)) for name, slope in zip(("--ramp-x", "--ramp-y"), ramp)]
-    defaults = {("--tile", "64"), ("--rule", "least"), ("--workers", "2"), ("--ramp-x", "0"), ("--ramp-y", "0")}
+    defaults = {("--tile", "64"), ("--rule", "least"), ("--workers", "2"), ("--ramp-x", "0"), ("--ramp-y", "0"), ("--steep", "1")}
     dice.shuffle(pairs)
     return [part for pair in pairs if pair not in defaults or dice.random() < 0.5 for part in pair]
 
 
 def solving(dice, texts, command):
-    """An input of `unwrap` or `grid`."""
+    """An input of `unwrap`, `grid` or `whole`."""
     side, rule = dice.choice((2, 3, 5, 64, 128)), dice.choice(("least", "mean", "product"))
-    data, ramp = dice.choice(texts.sessions), stress.random_ramp(dice)
+    data, ramp, steep = dice.choice(texts.sessions), stress.random_ramp(dice), dice.choice((1, 1, 2, 16))
     if dice.random() < 0.75:
         session = stress.random_session(dice)
-        side, rule, data, ramp = session.side, session.rule, session.bytes_of(dice), session.ramp
-    words = options(dice, side, rule, dice.choice((1, 1, 2, 2, 3, 8)), ramp)
+        side, rule, data, ramp, steep = session.side, session.rule, session.bytes_of(dice), session.ramp, session.steep
+    words = options(dice, 0 if command == "whole" else side, rule, dice.choice((1, 1, 2, 2, 3, 8)), ramp, steep)
     return Case((command, *words), altered(dice, data, texts.sessions))
 
 
@@ -197,12 +198,12 @@ def checking(dice, texts, program, seed, place):
         data = altered(dice, data, ())
     else:
         report = report_altered(dice, report)
-    return Case(("check", *options(dice, session.side, session.rule, 0, session.ramp)), data + report)
+    return Case(("check", *options(dice, session.side, session.rule, 0, session.ramp, session.steep)), data + report)
 
 
 def of_judge(dice, command):
     """An input of a command that has a judge of its own (bench/screen.py and so on), mostly changed."""
-    made = importlib.import_module(command).random_case(dice)
+    made = importlib.import_module(JUDGED[command]).random_case(dice)
     return made._replace(data=altered(dice, made.data, ())) if dice.random() < 0.7 else made
 
 

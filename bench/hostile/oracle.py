@@ -37,7 +37,7 @@ def wanted(case):
     side, rule = int(option(case.words, "--tile", "64")), option(case.words, "--rule", "least")
     alone = case.words[0] != "check"
     try:
-        session, rest = reading.read_session(case.data, side, rule, alone, ramp_of(case.words))
+        session, rest = reading.read_session(case.data, side, rule, alone, ramp_of(case.words), int(option(case.words, "--steep", "1")))
     except reading.Refused as refused:
         return None, b"", str(refused).encode() + b"\n"
     broken = None if alone else reading.broken_line(rest)
@@ -100,7 +100,10 @@ def judge_done(case, session, report, done):
         judge_verdict(session, report, done)
         return
     demand(done.status == 0, "it is a session")
-    if case.words[0] == "grid":
+    if case.words[0] == "whole":
+        told = importlib.import_module("whole").line_on(session, done.out)
+        demand(told == "accepted", f"a whole text on which the judge says {told}")
+    elif case.words[0] == "grid":
         judge_grid(session, done.out)
     elif len(session.phase) > LARGE:
         demand(done.out.startswith(b"insar-report %d\n" % (1 if session.is_plain() else 2)) and done.out.endswith(b"\nend\n"), "no report")
@@ -114,7 +117,7 @@ def judge(case, done):
     demand(done.status >= 0, f"signal {-done.status}")
     demand(done.err.count(b"\n") <= 1, "more than one line on standard error")
     if case.words[0] in JUDGED:
-        end = importlib.import_module(case.words[0]).wanted(case.words, case.data)
+        end = importlib.import_module(JUDGED[case.words[0]]).wanted(case.words, case.data)
         demand(done == end, f"{done.err[:80]!r} and {len(done.out)} bytes in place of {end.err!r} and {len(end.out)} bytes")
         return
     session, report, line = wanted(case)

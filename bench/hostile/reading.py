@@ -1,9 +1,11 @@
-"""What bytes are, by docs/FORMATS.md: the session or the grids that they spell or the line that refuses them, and the first line
-that no report has. It shares no code with the program, and is made for inputs far below the limit of bytes.
+"""What bytes are, by docs/FORMATS.md: the session or the grids that they spell or the line that refuses them, the first line that
+no report has, and the whole text that they are. It shares no code with the program, and is made for inputs far below the limit of
+bytes.
 """
 import pathlib
 import re
 import sys
+from typing import NamedTuple
 
 sys.path.insert(0, str(pathlib.Path(__file__).resolve().parent.parent))
 import stress  # noqa: E402
@@ -221,10 +223,10 @@ def read_planes(source):
     return planes
 
 
-def read_session(data, side, rule, alone, ramp=(0, 0)):
+def read_session(data, side, rule, alone, ramp=(0, 0), steep=1):
     """The session of bytes, and the bytes after it, if it need not stand alone. Raises Refused.
 
-    `side` is in pixels, and `ramp` the expected slopes to the right and downwards.
+    `side` is in pixels, `ramp` the expected slopes to the right and downwards, and `steep` the steepness of costs.
     """
     source = Source(data)
     (width, height, _, phase), (_, _, maxval, weights), (_, _, _, mask) = read_planes(source)
@@ -235,7 +237,7 @@ def read_session(data, side, rule, alone, ramp=(0, 0)):
     if alone and source.peek():
         raise Refused(f"input fault 15 after end byte {source.place}")
     opened = [int(sample > 0) for sample in mask]
-    found = stress.Session(width, height, phase, weights, maxval, opened, side, rule, scripts, ramp)
+    found = stress.Session(width, height, phase, weights, maxval, opened, side, rule, scripts, ramp, steep)
     return found, data[source.place :]
 
 
@@ -305,8 +307,8 @@ def fits(text: bytes, low: int, high: int) -> bool:
     return len(text) <= 40 and low <= int(text) <= high
 
 
-class ReportReader:
-    """Reads the lines of a report and raises Broken at the first that breaks their form."""
+class LineReader:
+    """Reads the lines of a text and raises Broken at the first that breaks its form."""
 
     def __init__(self, text):
         self.lines = text.split(b"\n")
@@ -326,6 +328,11 @@ class ReportReader:
     def expect(self, line):
         self.demand(self.next() == line)
 
+    def finish(self):
+        """Nothing is left."""
+        if self.place < len(self.lines) or self.cut:
+            raise Broken(self.place + 1)
+
     def match(self, pattern):
         """The groups of a line that has this form, N being a plain number."""
         match = re.fullmatch(pattern.replace(b"N", PLAIN), self.next())
@@ -333,31 +340,64 @@ class ReportReader:
         return match.groups()
 
     def signed(self, text):
-        """How many signed numbers of 64 bits a text has, parted by single spaces."""
+        """The signed numbers of 64 bits of a text, parted by single spaces."""
         parts = text.split(b" ")
         self.demand(all(stress.SIGNED.fullmatch(part) and fits(part, -(2**63), 2**63 - 1) for part in parts))
-        return len(parts)
+        return list(map(int, parts))
 
     def labelled(self, label):
-        """A label, and so many signed numbers after it as there are."""
+        """The signed numbers after a label, as many as there are."""
         line = self.next()
-        if line != label:
-            self.demand(line.startswith(label + b" "))
-            self.signed(line[len(label) + 1 :])
+        if line == label:
+            return []
+        self.demand(line.startswith(label + b" "))
+        return self.signed(line[len(label) + 1 :])
 
-    def terms(self):
-        """The two lines that version 2 has besides: the ramp, and how much more a departure of several cycles costs."""
-        slopes = self.match(rb"ramp (S) (S)".replace(b"S", stress.SIGNED.pattern))
-        self.demand(all(fits(slope, -32768, 32767) for slope in slopes))
-        self.demand(all(fits(steepness, 1, 16) for steepness in self.match(rb"steep N")))
-
-    def head(self):
-        """The width and height in pixels and the number of tiles."""
-        (version,) = self.match(rb"insar-report (1|2)")
+    def size(self):
+        """The width and height in pixels."""
         sides = self.match(rb"size N N")
         self.demand(all(fits(side, 1, 4096) for side in sides))
         width, height = map(int, sides)
         self.demand(width * height <= 4_194_304)
+        return width, height
+
+    def terms(self):
+        """The ramp, and how much more a departure of several cycles costs."""
+        slopes = self.match(rb"ramp (S) (S)".replace(b"S", stress.SIGNED.pattern))
+        self.demand(all(fits(slope, -32768, 32767) for slope in slopes))
+        (steepness,) = self.match(rb"steep N")
+        self.demand(fits(steepness, 1, 16))
+        return tuple(map(int, slopes)), int(steepness)
+
+    def costs(self, pattern):
+        """The numbers of a line of costs, which have at most 128 bits."""
+        found = self.match(pattern)
+        self.demand(all(fits(cost, 0, 2**128 - 1) for cost in found))
+        return list(map(int, found))
+
+    def grid(self, width, height):
+        """The values of a grid of this size, in row order."""
+        for line in (b"ncols %d" % width, b"nrows %d" % height, b"xllcorner 0", b"yllcorner 0", b"cellsize 1"):
+            self.expect(line)
+        self.expect(b"NODATA_value %d" % stress.NODATA)
+        values = []
+        for _ in range(height):
+            values += self.row(self.signed(self.next()), width)
+        return values
+
+    def row(self, numbers, count):
+        """The numbers of a line, which are so many."""
+        self.demand(len(numbers) == count)
+        return numbers
+
+
+class ReportReader(LineReader):
+    """Reads the lines of a report."""
+
+    def head(self):
+        """The width and height in pixels and the number of tiles."""
+        (version,) = self.match(rb"insar-report (1|2)")
+        width, height = self.size()
         (side,) = self.match(rb"tile N")
         self.demand(fits(side, 2, 128))
         self.match(rb"rule (?:least|mean|product)")
@@ -367,12 +407,8 @@ class ReportReader:
 
     def surface(self, width, height, tiles):
         """The lines after `published`."""
-        self.demand(all(fits(cost, 0, 2**128 - 1) for cost in self.match(rb"costs N N")))
-        for line in (b"ncols %d" % width, b"nrows %d" % height, b"xllcorner 0", b"yllcorner 0", b"cellsize 1"):
-            self.expect(line)
-        self.expect(b"NODATA_value %d" % stress.NODATA)
-        for _ in range(height):
-            self.demand(self.signed(self.next()) == width)
+        self.costs(rb"costs N N")
+        self.grid(width, height)
         for label in [b"faces %d" % tile for tile in range(tiles)] + [b"flows"]:
             self.labelled(label)
 
@@ -384,8 +420,7 @@ class ReportReader:
             self.demand(match and all(fits(number, 0, TOP) for number in match.groups() if number is not None))
             if line.startswith(b"published"):
                 self.surface(width, height, tiles)
-        if self.place < len(self.lines) or self.cut:
-            raise Broken(self.place + 1)
+        self.finish()
 
 
 def broken_line(text):
@@ -395,3 +430,38 @@ def broken_line(text):
     except Broken as broken:
         return broken.args[0]
     return None
+
+
+class WholeText(NamedTuple):
+    """A whole text. `values` are those of the pixels in row order, `faces` those of the cells."""
+
+    width: int
+    height: int
+    rule: str
+    ramp: tuple[int, int]
+    steep: int
+    cost: int
+    values: list[int]
+    faces: list[int]
+
+
+class WholeReader(LineReader):
+    """Reads the lines of a whole text."""
+
+    def read(self):
+        self.expect(b"insar-whole 1")
+        width, height = self.size()
+        (rule,) = self.match(rb"rule (least|mean|product)")
+        ramp, steep = self.terms()
+        (cost,) = self.costs(rb"cost N")
+        values, faces = self.grid(width, height), []
+        for _ in range(height - 1 if width > 1 else 0):
+            faces += self.row(self.labelled(b"faces"), width - 1)
+        self.expect(b"end")
+        self.finish()
+        return WholeText(width, height, rule.decode(), ramp, steep, cost, values, faces)
+
+
+def read_whole(text: bytes) -> WholeText:
+    """The whole text that bytes are. Raises Broken with the number of the first broken line."""
+    return WholeReader(text).read()

@@ -19,6 +19,10 @@ STEEP = b"P5\n4 1\n65535\n\x00\x00\x9c\x40\x38\x80\xd4\xc0"
 STEEP_GRID = b"ncols 4\nnrows 1\n" + GRID_HEAD + b"0 40000 80000 120000\n"
 OPEN = b"P2\n2 2\n65535\n0 16384\n49152 32768\nP2 2 2 9 5 5 3 9\n"
 OPEN_GRID = b"ncols 2\nnrows 2\n" + GRID_HEAD + b"0 16384\n-16384 32768\n"
+LINE_WHOLE = b"insar-whole 1\nsize 4 1\nrule least\nramp 0 0\nsteep 1\ncost 0\n" + LINE_GRID + b"end\n"
+# Without the ramp there is a residue. The edges at the left and below weigh 3, and the others 5.
+OPEN_WHOLE = b"insar-whole 1\nsize 2 2\nrule least\nramp 0 0\nsteep 1\ncost 3\nncols 2\nnrows 2\n" + GRID_HEAD
+OPEN_WHOLE += b"0 16384\n49152 32768\nfaces 3\nend\n"
 FLAT = b"P2 2 1 65535 0 0\n"
 SCRIPT = b"analyst\nsettle\nshow\nend\n"
 # The pixel in the middle weighs less than 2, and stands alone among those that do not.
@@ -110,6 +114,9 @@ USES = (
     Use("screen", "screen --weight 2 --radius 1 --count 1 --tile 32", "island", 0, ISLAND_SCREENED),
     Use("closure", "closure", "loop", 0, LOOP_CLOSED, NO_GRID),
     Use("displacement", "displacement --wavelength 56000000", "fall", 0, FALL_DISPLACED, NO_GRID),
+    Use("whole", "whole", "line", 0, LINE_WHOLE),
+    Use("check-whole", "check-whole", "whole-accepted", 0, b"accepted\n"),
+    Use("check-whole that refuses", "check-whole", "whole-refused", 1, b"refused told\n"),
     Use("trial", "trial 7 64 64 --tile 32", "empty", 0, TRIAL),
 )
 FURTHER_USES = _, CLOSURE, DISPLACEMENT = USES[4:7]
@@ -128,13 +135,23 @@ def slope(side):
     return raw_plane(side, 65535, ((300 * x + 700 * y) % 65536 for y in range(side) for x in range(side)))
 
 
-def noisy(side):
-    """A session of one analyst on a slope with much noise, with weights and a mask, and an edit between two settles."""
+def noisy(side, share=0.95):
+    """A session of one analyst on a slope with much noise, with weights and a mask, and an edit between two settles.
+
+    About this share of the pixels is open.
+    """
     dice = random.Random(side)
     phase = [(300 * x + 700 * y + dice.randint(-20000, 20000)) % 65536 for y in range(side) for x in range(side)]
     planes = raw_plane(side, 65535, phase) + raw_plane(side, 255, (dice.randint(1, 255) for _ in phase))
-    planes += raw_plane(side, 1, (int(dice.random() < 0.95) for _ in phase))
+    planes += raw_plane(side, 1, (int(dice.random() < share) for _ in phase))
     return planes + b"analyst\nsettle\nmask 0 0 9 9\nsettle\nshow\nend\n"
+
+
+def masked_whole(side):
+    """The whole text of a square raster with each pixel masked: no surface costs anything, and no face but 0 fits."""
+    head = b"insar-whole 1\nsize %d %d\nrule least\nramp 0 0\nsteep 1\ncost 0\n" % (side, side)
+    faces = b"faces" + b" 0" * (side - 1) + b"\n"
+    return head + grid_text([[stress.NODATA] * side] * side) + faces * (side - 1) + b"end\n"
 
 
 def opened(side):
@@ -163,6 +180,7 @@ def large_uses(answers):
     screened = slope(LARGE_SIDE) + opened(LARGE_SIDE) * 2 + SCRIPT
     yield Use("screen", "screen --radius 9 --count 1", "large", 0, screened)
     yield Use("closure", "closure", "large-loop", 0, board(LARGE_SIDE)[1])
+    yield Use("whole", "whole", "large-masked", 0, masked_whole(LARGE_SIDE))
     yield Use("displacement", "displacement --wavelength 131072", "large-grid", 0, steps(LARGE_SIDE))
 
 
@@ -183,6 +201,13 @@ def files():
         "line-end": LINE + b"end\n",
         "line-report": stress.second_version(stress.LINE_REPORT),
         "open": OPEN,
+        "open-end": OPEN + b"end\n",
+        "open-whole": OPEN_WHOLE,
+        "whole-accepted": LINE + b"end\n" + LINE_WHOLE,
+        "whole-refused": LINE + b"end\n" + LINE_WHOLE.replace(b"cost 0", b"cost 1"),
+        "masked": noisy(96, 0),
+        "masked-accepted": noisy(96, 0) + masked_whole(96),
+        "large-masked": noisy(LARGE_SIDE, 0),
         "flat": FLAT,
         "head": b"".join(stress.LINE_REPORT.splitlines(True)[:4]),
         "island": ISLAND,

@@ -1,8 +1,9 @@
 """Cases of what is read: input that is cut at each byte or never ends, and words that are odd, long or many."""
 import wanted
 from reading import read_session, stress
-from rows import CLOSURE, DISPLACEMENT, ENDLESS, FALL, FALL_DISPLACED, FURTHER_USES, GRID_HEAD, ISLAND, LOOP, MAGIC, MEMORY
-from rows import NO_GRID, OPEN_GRID, SCRIPT, STEEP_GRID, TURN, TURN_GRID, USES, WORDS, grid_text, opened, raw_plane, refused, row
+from rows import CLOSURE, DISPLACEMENT, ENDLESS, FALL, FALL_DISPLACED, FURTHER_USES, GRID_HEAD, ISLAND, LINE_WHOLE, LOOP, MAGIC
+from rows import MEMORY, NO_GRID, OPEN_GRID, OPEN_WHOLE, SCRIPT, STEEP_GRID, TURN, TURN_GRID, USES, WORDS, End, Row, grid_text
+from rows import opened, raw_plane, refused, row
 from wanted import NOTHING, exactly
 
 
@@ -29,7 +30,7 @@ def last_sample(length):
 def cut_session(length):
     """The session that the first bytes are, with its last sample as it is wanted."""
     session = read_session(TURN[:length], 64, "least", True)[0]
-    assert session.phase == [0, 16384, 49152, last_sample(length)]
+    assert session.phase == [0, 16384, 49152, last_sample(min(length, 33))]
     return session
 
 
@@ -40,23 +41,24 @@ def cut_screened(length):
 
 
 def cut_answers(length):
-    """What `unwrap`, `grid` and `screen` write of the first bytes, if they are a session."""
-    screened = exactly(cut_screened(length))
+    """What `unwrap`, `grid`, `screen` and `whole` write of the first bytes, if they are a session."""
+    screened, session = exactly(cut_screened(length)), cut_session(length)
+    whole = wanted.whole_of(session)
     if length == len(TURN):
-        return exactly(stress.TURN_REPORT), exactly(TURN_GRID), screened
-    session = cut_session(length)
-    return wanted.report_of(session), wanted.grid_of(session), screened
+        return exactly(stress.TURN_REPORT), exactly(TURN_GRID), screened, whole
+    return wanted.report_of(session), wanted.grid_of(session), screened, whole
 
 
 def cut_rows():
     """A session that ends at each of its bytes. Before a report the line `end` is wanted."""
     for length in range(len(TURN) + 1):
         what, line = f"the first {length} bytes of the session", cut_line(length)
-        outs = (NOTHING, NOTHING, NOTHING) if line else cut_answers(length)
-        for name, out in zip(("unwrap", "grid", "screen"), outs):
+        outs = (NOTHING,) * 4 if line else cut_answers(length)
+        for name, out in zip(("unwrap", "grid", "screen", "whole"), outs):
             yield row(f"{name}: {what}", f"exec $P {name} <turn-{length}", 3 if line else 0, out, line)
         line = b"report fault line 1\n" if length == len(TURN) else line or b"input fault 14 no end\n"
-        yield refused(f"check: {what}", f"exec $P check <turn-{length}", 3, line)
+        for name in ("check", "check-whole"):
+            yield refused(f"{name}: {what}", f"exec $P {name} <turn-{length}", 3, line)
 
 
 def cut_report_rows():
@@ -67,6 +69,81 @@ def cut_report_rows():
         command = f"{{ cat turn-70; head -c {length} turn-report; }} | $P check"
         yield refused(f"check: the first {length} bytes of the report", command, 3, line)
     yield row("check: the whole report", "cat turn-70 turn-report | $P check", 0, b"accepted\n", NOTHING)
+
+
+# Words of check-whole, a change by sed of the whole text of the file open, and the line that is wanted.
+WHOLE_CHANGES = (
+    ("", "", "accepted"),
+    ("", "13,14s/.*//;13s/^/0 16384/;14s/^/-16384 32768/", "accepted"),
+    ("", "s/^cost 3/cost 4/", "refused told"),
+    ("", "s/^cost 3/cost 340282366920938463463374607431768211455/", "refused told"),
+    ("", "s/^cost 3/cost 340282366920938463463374607431768211456/", "report fault line 6"),
+    ("", "s/^cost 3/cost -3/", "report fault line 6"),
+    ("", "s/^faces 3/faces 2/", "refused cost"),
+    ("", "s/^faces 3/faces -3/", "refused cost"),
+    ("", "s/^faces 3/faces 4/", "refused face down 0 0"),
+    ("", "s/^faces 3/faces 6/", "refused face right 0 0"),
+    ("", "s/^faces 3/faces 9223372036854775807/", "refused face right 0 0"),
+    ("", "s/^faces 3/faces -9223372036854775808/", "refused face right 0 0"),
+    ("", "s/^faces 3/faces 9223372036854775808/", "report fault line 15"),
+    ("", "s/^faces 3/faces 3 3/", "report fault line 15"),
+    ("", "s/^faces 3/faces/", "report fault line 15"),
+    ("", "s/^faces 3/faces  3/", "report fault line 15"),
+    ("", "s/^faces 3/faces 03/", "report fault line 15"),
+    ("", "s/^faces 3/faces 3 /", "report fault line 15"),
+    ("", "s/^faces 3/faces 0 3/", "report fault line 15"),
+    ("", "15d", "report fault line 15"),
+    ("", "15p", "report fault line 16"),
+    ("", "13s/$/\\r/", "report fault line 13"),
+    ("", "s/$/\\r/", "report fault line 1"),
+    ("", "13s/ 16384//", "report fault line 13"),
+    ("", "13s/$/ 0/", "report fault line 13"),
+    ("", "13s/^0/65536/", "refused value 0 0"),
+    ("", "14s/49152/49153/", "refused value 0 1"),
+    ("", "14s/32768/-9223372036854775808/", "refused value 1 1"),
+    ("", "14s/32768/9223372036854743040/", "refused cost"),
+    ("", "s/^size 2 2/size 1 4/", "report fault line 7"),
+    ("", "s/^size 2 2/size 4097 1/", "report fault line 2"),
+    ("", "s/^size 2 2/size 4096 1025/", "report fault line 2"),
+    ("", "s/^rule least/rule mean/", "refused header 3"),
+    ("--rule mean", "", "refused header 3"),
+    ("--ramp-x 1", "", "refused header 4"),
+    ("--ramp-y 65535", "s/^ramp 0 0/ramp 0 -1/", "accepted"),
+    ("", "s/^ramp 0 0/ramp 0 32768/", "report fault line 4"),
+    ("--steep 2", "", "refused header 5"),
+    ("--steep 2", "s/^steep 1/steep 2/", "accepted"),
+    ("--steep 2", "s/^steep 1/steep 2/;s/^faces 3/faces 5/", "refused cost"),
+    ("--steep 2", "s/^steep 1/steep 2/;s/^faces 3/faces 7/", "refused face down 0 0"),
+    ("", "s/^steep 1/steep 17/", "report fault line 5"),
+    ("", "1s/1/2/", "report fault line 1"),
+    ("", "s/^end/END/", "report fault line 16"),
+    ("", "$p", "report fault line 17"),
+    ("--tile 64", "", "words refused"),
+    ("--workers 1", "", "words refused"),
+)
+
+
+def whole_rows():
+    """A whole text that is changed, or ends at each of its bytes, or has bytes after it."""
+    for words, change, line in WHOLE_CHANGES:
+        command = f"sed '{change}' open-whole | cat open-end - | $P check-whole {words}; exit ${{PIPESTATUS[2]}}"
+        told, text = f"check-whole: {words or 'no words'}, {change or 'nothing'} changed", line.encode() + b"\n"
+        if line.startswith(("report", "words")):
+            yield refused(told, command, 3 if line.startswith("report") else 2, text)
+        else:
+            yield row(told, command, int(line != "accepted"), text, NOTHING)
+    for length in range(len(OPEN_WHOLE)):
+        line = b"report fault line %d\n" % (OPEN_WHOLE.count(b"\n", 0, length) + 1)
+        command = f"{{ cat open-end; head -c {length} open-whole; }} | $P check-whole"
+        yield refused(f"check-whole: the first {length} bytes of the text", command, 3, line)
+    for rest in (r"\n", "' '", r"\0", "x", "end"):
+        command = f"{{ cat open-end open-whole; printf {rest}; }} | $P check-whole"
+        yield refused("check-whole: more bytes", command, 3, b"report fault line 17\n")
+    yield refused("check-whole: a report", "cat line-end line-report | $P check-whole", 3, b"report fault line 1\n")
+    yield refused("check: a whole text", "cat open-end open-whole | $P check", 3, b"report fault line 1\n")
+    yield row("whole: a script", "exec $P whole <shown", 0, LINE_WHOLE, NOTHING)
+    for words in ("--tile 64", "--Rule least", "--workers 9", "--workers 0", "--steep 17", "--steep 0", "--rule most", "1"):
+        yield refused(f"whole: {words}", f"exec $P whole {words} <line", 2, WORDS)
 
 
 def cut_grid_rows():
@@ -317,6 +394,16 @@ ENDLESS_GRIDS = (
 )
 
 
+# Whole texts without an end, and their first broken lines; memory may run out before.
+ENDLESS_WHOLES = (
+    ("cat open-end; head -n 5 open-whole; printf 'cost '; tr '\\0' 9 </dev/zero", 6),
+    ("cat open-end; head -n 12 open-whole; yes '0 ' | tr -d '\\n'", 13),
+    ("cat open-end; head -n 14 open-whole; printf 'faces '; yes '0 ' | tr -d '\\n'", 15),
+    ("cat open-end; head -n 14 open-whole; yes 'faces 3'", 16),
+    ("cat open-end open-whole; yes", 17),
+)
+
+
 def endless(text, words):
     """A command that reads a text without an end."""
     before = SPACES if FOREVER in text else ""
@@ -326,10 +413,14 @@ def endless(text, words):
 def endless_rows(slow):
     """Input without an end is refused at the byte that refuses it, or at the limit of bytes or of memory."""
     for text, line in ENDLESS_TEXTS:
-        for name in ("unwrap", "grid", "screen"):
+        for name in ("unwrap", "grid", "screen", "whole"):
             yield refused(f"{name}: endless input", endless(text, name), 3, line)
         after = b"report fault line 1\n" if b"after end" in line else line
-        yield refused("check: endless input", endless(text, "check"), 3, after)
+        for name in ("check", "check-whole"):
+            yield refused(f"{name}: endless input", endless(text, name), 3, after)
+    for text, line in ENDLESS_WHOLES:
+        ends = (End(3, NOTHING, exactly(b"report fault line %d\n" % line)), End(4, NOTHING, exactly(MEMORY)))
+        yield Row("check-whole: a text without an end", "ulimit -v 300000; " + endless(text, "check-whole"), ends)
     for use, text, line in ENDLESS_GRIDS:
         yield use.refused("endless input", endless(text, use.words), 3, line)
         yield use.refused("endless input, memory limited", "ulimit -v 100000; " + endless(text, use.words), 3, line)
@@ -344,6 +435,7 @@ def rows(slow):
     """All of them; with `slow` those too that take a minute."""
     yield from cut_rows()
     yield from cut_report_rows()
+    yield from whole_rows()
     yield from cut_grid_rows()
     yield from grid_rows()
     yield from range_rows()

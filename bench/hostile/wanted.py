@@ -3,7 +3,7 @@ import itertools
 from typing import Callable, NamedTuple
 
 import oracle
-from reading import stress
+from reading import Broken, read_whole, stress
 
 
 class Wanted(NamedTuple):
@@ -38,7 +38,7 @@ def holds_of(judge, *values):
     """Whether a judge refuses nothing."""
     try:
         judge(*values)
-    except (oracle.Wrong, stress.Refused):
+    except (oracle.Wrong, stress.Refused, Broken):
         return False
     return True
 
@@ -70,6 +70,21 @@ def judge_least(session, text):
     rows = text.decode().splitlines()[6:]
     values = [int(value) for row in rows for value in row.split(" ")]
     oracle.demand(cost_of(session, values) == least_cost(session), "another costs less")
+
+
+def judge_whole(session, text):
+    """A text is of a surface of four open pixels than which none costs less, with its cost, and the face proves it."""
+    found, (face,) = read_whole(text), read_whole(text).faces
+    session.scripts = [["settle"]]
+    judge_least(session, text[text.index(b"ncols") : text.index(b"faces")])
+    oracle.demand(found[:5] == (2, 2, session.rule, session.ramp, session.steep), "another head")
+    oracle.demand(all(abs(face) <= session.weight(session.opened, *edge) for edge in session.edges()), "the face does not fit")
+    oracle.demand(found.cost == cost_of(session, found.values) == face * session.residue(0, 0), "another cost")
+
+
+def whole_of(session):
+    """The whole text of a session of four open pixels, which expects no ramp."""
+    return Wanted("a whole text of a least surface", lambda found: holds_of(judge_whole, session, found))
 
 
 def grid_of(session):

@@ -12,7 +12,7 @@ import numpy as np
 from osgeo import gdal
 
 from wundjeska.planes import CYCLE
-from wundjeska.program import check_report, program, run_program
+from wundjeska.program import Problem, check_report, program, run_program
 from wundjeska.report_reader import NODATA, BrokenLine, read_grid_from, read_report_from
 from helpers import HERE, TOP, InFolder, argv, command
 
@@ -31,7 +31,9 @@ class ThereAndBack(InFolder):
         session, report, made = (self.folder / name for name in ("session", "report", "made.tif"))
         self.assertEqual(command("to_session.py", phase, *COHERENCE, session)[0], 0)
         report.write_bytes(run_program(["unwrap", "--tile", "128"], session.read_bytes(), "kit"))
-        self.assertEqual(check_report(session.read_bytes(), report.read_bytes(), "least", 128), (True, "accepted"))
+        self.assertEqual(
+            check_report(session.read_bytes(), report.read_bytes(), Problem("least", 128)), (True, "accepted")
+        )
         words = ("--session", session, "--like", phase, "--unit", "radians", "--float64", made)
         self.assertEqual(command("to_geotiff.py", report, *words), (0, ""))
         return gdal.Open(str(made))
@@ -96,7 +98,7 @@ def changed(text: bytes, chance: random.Random) -> bytes:
 
 def told_by_check(session: bytes, report: bytes) -> int:
     """The number of the broken line that `check` tells, 0 if the form is right."""
-    _, line = check_report(session, report, "least", 2)
+    _, line = check_report(session, report, Problem("least", 2))
     found = re.fullmatch(r"report fault line ([0-9]+)", line)
     return int(found.group(1)) if found else 0
 

@@ -11,7 +11,7 @@ from osgeo import gdal
 
 import wundjeska
 from wundjeska.planes import CYCLE, Ramp, ramp_in, read_session, session_of
-from wundjeska.program import check_report, ramp_words, run_program
+from wundjeska.program import Problem, check_report, ramp_words, run_program
 from wundjeska.ramps import AUTO, Spectrum, checked, ramp_for, read_word
 from wundjeska.report_reader import read_report_from
 from wundjeska.trouble import Trouble
@@ -220,8 +220,9 @@ class OfTheProgram(WithAFlank):
     def test_a_report_of_a_ramp_and_a_session_that_tells_none(self) -> None:
         self.assertEqual(command("to_session.py", self.phase, self.session)[0], 0)
         text, report = self.session.read_bytes(), self.report("--ramp-x", "40000", "--ramp-y", "9")
-        self.assertEqual(check_report(text, report.read_bytes(), "least", 32, (40000 - CYCLE, 9)), (True, "accepted"))
-        self.assertEqual(check_report(text, report.read_bytes(), "least", 32), (False, "refused header 5"))
+        sloped = Problem("least", 32, (40000 - CYCLE, 9))
+        self.assertEqual(check_report(text, report.read_bytes(), sloped), (True, "accepted"))
+        self.assertEqual(check_report(text, report.read_bytes(), Problem("least", 32)), (False, "refused header 5"))
         self.assertEqual(command("wundjeska", "check", self.session, report), (0, "accepted\n"))
 
     def test_all_in_one(self) -> None:

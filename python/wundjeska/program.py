@@ -3,6 +3,7 @@ import os
 import shutil
 import subprocess
 import threading
+from dataclasses import dataclass
 from pathlib import Path
 from typing import List, Optional, Set, Tuple
 
@@ -78,17 +79,46 @@ def ramp_words(ramp: Optional[Ramp]) -> List[str]:
     return [word for name, slope in slopes if slope for word in (name, str(slope % CYCLE))]
 
 
-def check_report(session: bytes, report: bytes, rule: str, side: int, ramp: Ramp = (0, 0)) -> Tuple[bool, str]:
-    """Whether `check` accepts the report, and its verdict, or its line on standard error.
+@dataclass(frozen=True)
+class Problem:
+    """What is least: in tiles of a side in pixels and at their seams or, if that is None, over the whole raster at once.
 
-    `rule`, `side` and `ramp` are the report's. Trouble if the session tells another ramp.
+    `rule` is that of weights, `ramp` the expected slopes, and `steep` how much each cycle of a departure after the first costs.
+    """
+
+    rule: str
+    side: Optional[int]
+    ramp: Ramp = (0, 0)
+    steep: int = 1
+
+    @property
+    def solver(self) -> str:
+        """The program's command that solves it."""
+        return "whole" if self.side is None else "unwrap"
+
+    @property
+    def checker(self) -> str:
+        """The program's command that judges what the solver wrote."""
+        return "check-whole" if self.side is None else "check"
+
+    def words(self) -> List[str]:
+        """The words that both want."""
+        tile = [] if self.side is None else ["--tile", str(self.side)]
+        steep = ["--steep", str(self.steep)] if self.steep > 1 else []
+        return ["--rule", self.rule, *tile, *ramp_words(self.ramp), *steep]
+
+
+def check_report(session: bytes, report: bytes, problem: Problem) -> Tuple[bool, str]:
+    """Whether the checker accepts a report or a whole text, and its verdict, or its line on standard error.
+
+    Trouble if the session tells another ramp than that of the problem.
     """
     planes = read_session(session)
-    if planes.ramp not in (None, ramp):
+    if planes.ramp not in (None, problem.ramp):
         raise Trouble(
-            f"the session expects the ramp {show(planes.ramp)} and the report is of {show(ramp)}; unwrap it by the words "
+            f"the session expects the ramp {show(planes.ramp)} and the report is of {show(problem.ramp)}; unwrap it by the words "
             f"{' '.join(ramp_words(planes.ramp)) or 'without --ramp-x and --ramp-y'}"
         )
     text = session if planes.script else session + b"end\n"
-    status, out, told = call(["check", "--rule", rule, "--tile", str(side), *ramp_words(ramp)], text + report)
+    status, out, told = call([problem.checker, *problem.words()], text + report)
     return status == 0, (out or told).decode(errors="replace").strip()

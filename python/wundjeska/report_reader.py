@@ -1,14 +1,15 @@
 #!/usr/bin/python3
-"""Reads a report of the program into NumPy arrays. It needs this one file and NumPy.
+"""Reads a report of the program, or a whole text, into NumPy arrays. It needs this one file and NumPy.
 
     from wundjeska.report_reader import read_report
     report = read_report("report")
     report.surfaces[-1].cycles()        # the last surface, float64, (rows, columns), NaN at masked pixels
 
-Reports have version 1, or version 2, which tells an expected ramp and a steepness besides. The reader is strict: it reads the
+Reports have version 1, or version 2, which tells an expected ramp and a steepness besides. A whole text is what the command `whole`
+writes: it is read as a report of one tile with one surface. The reader is strict: it reads the
 one spelling that docs/FORMATS.md gives, to the end of the input, and raises BrokenLine with the number of the first line with
 which no report begins. It reads and does not judge: whether the numbers of a report
-certify its surfaces, and whether there is a face for each cell, is what the program's `check` tells.
+certify its surfaces, and whether there is a face for each cell, is what the program's `check` and `check-whole` tell.
 
 Arrays have the shape (rows, columns), and row 0 is the top one. Values are in units of 1/65536 cycle.
 """
@@ -31,11 +32,17 @@ SMALL, COST = NUMBER % 9, NUMBER % 38  # with as many digits as 2^32 and 2^128
 SIGNED = rb"(?:0|-?[1-9][0-9]{0,18})"
 NUMBERS = re.compile(SIGNED + rb"(?: " + SIGNED + rb")*")
 LONG = re.compile(rb"-?[0-9]{19}")
-HEAD = (rb"insar-report (1|2)", rb"size %b %b" % (SMALL, SMALL), rb"tile %b" % SMALL, rb"rule (least|mean|product)")
+HEAD = (
+    rb"insar-(report 1|report 2|whole 1)",
+    rb"size %b %b" % (SMALL, SMALL),
+    rb"tile %b" % SMALL,
+    rb"rule (least|mean|product)",
+)
 SLOPE = rb"(0|-?[1-9][0-9]{0,4})"
 RAMP, STEEP = rb"ramp %b %b" % (SLOPE, SLOPE), rb"steep %b" % SMALL
 MAX_STEEPNESS = 16
 COSTS = re.compile(rb"costs %b %b" % (COST, COST))
+ONE_COST = re.compile(rb"cost %b" % COST)
 REVISED = re.compile(rb"revised %b (mask|unmask) %b %b %b %b" % ((SMALL,) * 5))
 PLAIN_ENTRY = re.compile(rb"(kept|published|settled|shown) %b %b" % (SMALL, SMALL))
 SHOWN_NONE = re.compile(rb"shown %b none" % SMALL)
@@ -51,7 +58,7 @@ class BrokenLine(ValueError):
 
 @dataclass
 class Surface:
-    """A published surface.
+    """A published surface, or that of a whole text, whose one tile costs what it costs in all.
 
     values  int64, (height, width), in units of 1/65536 cycle; NODATA at masked pixels
     faces   for each tile an int64 array: the faces of its cells in row order (Report.face_grid gives them their shape)
@@ -101,6 +108,7 @@ class Report:
     version    1, which is of no ramp and the steepness 1; or 2
     ramp       the slopes to the right and downwards about which differences are wrapped, in 1/65536 cycle a pixel
     steepness  how much each cycle of a departure after the first costs; the first costs 1
+    is_whole   whether it is a whole text: its one tile is the raster, and its one entry is that of its surface
     """
 
     width: int
@@ -111,6 +119,7 @@ class Report:
     version: int = 1
     ramp: Tuple[int, int] = (0, 0)
     steepness: int = 1
+    is_whole: bool = False
 
     @property
     def surfaces(self) -> List[Surface]:
@@ -220,17 +229,24 @@ def read_steepness(lines: Lines) -> int:
     return steepness
 
 
-def read_head(lines: Lines) -> Report:
-    """The first four lines, or six if the report has version 2."""
-    (version,) = lines.take_words(HEAD[0], "'insar-report 1' or 'insar-report 2'")
-    width, height = lines.at_most(MAX_SIDE, *lines.take_words(HEAD[1], "'size WIDTH HEIGHT'"))
-    lines.check_size(width, height)
+def read_side(lines: Lines) -> int:
+    """The line on the side of tiles."""
     (side,) = lines.at_most(128, *lines.take_words(HEAD[2], "'tile SIDE'"))
     if side < 2:
         lines.refuse("a tile has a side of 2 to 128")
+    return side
+
+
+def read_head(lines: Lines) -> Report:
+    """The first four lines, six if the report has version 2, or five of a whole text."""
+    (kind,) = lines.take_words(HEAD[0], "'insar-report 1', 'insar-report 2' or 'insar-whole 1'")
+    is_whole, has_terms = kind == b"whole 1", kind != b"report 1"
+    width, height = lines.at_most(MAX_SIDE, *lines.take_words(HEAD[1], "'size WIDTH HEIGHT'"))
+    lines.check_size(width, height)
+    side = max(width, height) if is_whole else read_side(lines)
     (rule,) = lines.take_words(HEAD[3], "'rule least', 'rule mean' or 'rule product'")
-    report = Report(width, height, side, rule.decode(), version=int(version))
-    if version == b"2":
+    report = Report(width, height, side, rule.decode(), version=1 + has_terms, is_whole=is_whole)
+    if has_terms:
         report.ramp, report.steepness = read_ramp(lines), read_steepness(lines)
     return report
 
@@ -265,6 +281,25 @@ def read_surface(lines: Lines, report: Report, analyst: int, revision: int) -> S
     return Surface(analyst, revision, tile_cost, seam_cost, values, faces, lines.listed("flows"))
 
 
+def read_whole_surface(lines: Lines, report: Report) -> Surface:
+    """What stands after the head of a whole text."""
+    (cost,) = lines.at_most(2**128 - 1, *lines.take_words(ONE_COST, "'cost COST'"))
+    values = read_grid(lines, report.width, report.height)
+    rows = report.height - 1 if report.width > 1 else 0
+    none = np.zeros(0, dtype=np.int64)
+    faces = np.concatenate([none, *(read_faces(lines, report.width - 1) for _ in range(rows))])
+    lines.take_exactly("end")
+    return Surface(1, 0, cost, 0, values, [faces], none)
+
+
+def read_faces(lines: Lines, count: int) -> np.ndarray:
+    """The faces of a row of cells; int64, (count)."""
+    faces = lines.listed("faces")
+    if len(faces) != count:
+        lines.refuse(f"{len(faces)} faces where {count} are wanted")
+    return faces
+
+
 def entry_of(lines: Lines, line: bytes) -> Entry:
     """The entry of a line, without its surface."""
     if found := REVISED.fullmatch(line):
@@ -284,16 +319,25 @@ def entry_of(lines: Lines, line: bytes) -> Entry:
 
 
 def read_report_from(file: BinaryIO) -> Report:
-    """Reads a report from a binary file that is open, to its end. Raises BrokenLine."""
+    """Reads a report or a whole text from a binary file that is open, to its end. Raises BrokenLine."""
     lines = Lines(file)
     report = read_head(lines)
+    if report.is_whole:
+        surface = read_whole_surface(lines, report)
+        report.entries.append(Entry("published", 6, analyst=1, revision=0, surface=surface))
+    else:
+        read_entries(lines, report)
+    lines.take_end()
+    return report
+
+
+def read_entries(lines: Lines, report: Report) -> None:
+    """Reads the entries of a report and its last line."""
     while (line := lines.take()) != b"end":
         entry = entry_of(lines, line)
         if entry.kind == "published" and entry.analyst is not None and entry.revision is not None:
             entry.surface = read_surface(lines, report, entry.analyst, entry.revision)
         report.entries.append(entry)
-    lines.take_end()
-    return report
 
 
 def read_grid_from(file: BinaryIO) -> np.ndarray:
@@ -331,17 +375,19 @@ def summary_of(report: Report) -> Iterator[str]:
     counts = ", ".join(f"{kinds.count(kind)} {kind}" for kind in dict.fromkeys(kinds))
     terms = f", ramp {report.ramp[0]} {report.ramp[1]}" if report.ramp != (0, 0) else ""
     terms += f", steepness {report.steepness}" if report.steepness > 1 else ""
-    yield (
-        f"{report.width} by {report.height} pixels, tiles of {report.side}, rule {report.rule}{terms}; "
-        f"history: {counts or 'none'}"
-    )
+    tiles = "the whole raster at once" if report.is_whole else f"tiles of {report.side}"
+    history = "" if report.is_whole else f"; history: {counts or 'none'}"
+    yield f"{report.width} by {report.height} pixels, {tiles}, rule {report.rule}{terms}{history}"
     for surface in report.surfaces:
         opened = surface.values[surface.opened()]
         span = f"{opened.min() / CYCLE:.4f} to {opened.max() / CYCLE:.4f} cycles" if len(opened) else "no value"
-        yield (
-            f"revision {surface.revision} by analyst {surface.analyst}: {len(opened)} open pixels, {span}, "
-            f"tiles cost {surface.tile_cost}, seams {surface.seam_cost}"
-        )
+        if report.is_whole:
+            yield f"{len(opened)} open pixels, {span}, cost {surface.tile_cost}"
+        else:
+            yield (
+                f"revision {surface.revision} by analyst {surface.analyst}: {len(opened)} open pixels, {span}, "
+                f"tiles cost {surface.tile_cost}, seams {surface.seam_cost}"
+            )
 
 
 def words() -> argparse.ArgumentParser:
@@ -349,7 +395,7 @@ def words() -> argparse.ArgumentParser:
         description="Reads a report, and tells what is in it.",
         epilog="example: report_reader.py report --save arrays.npz. The status is 3 if the report breaks its form.",
     )
-    found.add_argument("report", help="a file that `insar_unwrap unwrap` wrote")
+    found.add_argument("report", help="a file that `insar_unwrap unwrap` or `insar_unwrap whole` wrote")
     found.add_argument(
         "--save",
         metavar="FILE.npz",

@@ -23,7 +23,7 @@ from .planes import (
     ramp_in,
     session_of,
 )
-from .program import MAX_WORKERS, check_report, ramp_words, run_program, workers_or_default
+from .program import MAX_WORKERS, Problem, check_report, run_program, workers_or_default
 from .ramps import Given, RampWord, checked, ramp_for
 from .screening import Screen, Screened, screened, screened_by
 from .trouble import DISAGREES, REFUSED_WORDS, Trouble, warn
@@ -32,25 +32,44 @@ from .weights import highest_of, weights_of
 ACCEPTED, NOT_CHECKED = "accepted", "not checked"
 RULES = ("least", "mean", "product")
 SIDE = 128  # of tiles
+WHOLE = False  # whether the whole raster is solved at once if nothing else is said
+MAX_STEEP = 16
 
 Path_ = Union[str, Path]
 
 
 @dataclass(frozen=True)
 class Settings:
-    """How a session is unwrapped: the side of tiles in pixels, the rule of weights, and how many threads solve tiles."""
+    """How a session is unwrapped: the side of tiles in pixels, or None for the whole raster at once, the rule of weights, how many
+    threads solve, and how much each cycle of a departure after the first costs."""
 
-    side: int = SIDE
+    side: Optional[int] = SIDE
     rule: str = RULES[0]
     workers: Optional[int] = None
+    steep: int = 1
+
+    @property
+    def is_whole(self) -> bool:
+        return self.side is None
 
     def check(self) -> None:
-        if not 2 <= self.side <= 128:
+        if self.side is not None and not 2 <= self.side <= 128:
             raise Trouble("the side of tiles is from 2 to 128", REFUSED_WORDS)
+        if not 1 <= self.steep <= MAX_STEEP:
+            raise Trouble(f"the steepness is from 1 to {MAX_STEEP}", REFUSED_WORDS)
         if self.rule not in RULES:
             raise Trouble(f"the rule is {', '.join(RULES[:-1])} or {RULES[-1]}", REFUSED_WORDS)
         if self.workers is not None and not 1 <= self.workers <= MAX_WORKERS:
             raise Trouble(f"there are from 1 to {MAX_WORKERS} workers", REFUSED_WORDS)
+
+
+def side_for(tile: Optional[int], whole: Optional[bool]) -> Optional[int]:
+    """The side of tiles that is asked for, None for the whole raster. Trouble if both are."""
+    if tile is not None and whole:
+        raise Trouble("the whole raster at once has no tiles, so no side of them", REFUSED_WORDS)
+    if whole or (tile is None and whole is None and WHOLE):
+        return None
+    return SIDE if tile is None else tile
 
 
 Planes = Tuple[np.ndarray, np.ndarray, np.ndarray]  # phases, weights and open pixels
@@ -101,7 +120,7 @@ def input_of(planes: Planes, making: Making) -> Input:
 
 @dataclass(frozen=True)
 class Solved:
-    """What the program wrote of a session: the report as it stands, its last surface, and the verdict."""
+    """What the program wrote of a session: the report or the whole text as it stands, its last surface, and the verdict."""
 
     report: bytes
     surface: report_reader.Surface
@@ -116,8 +135,8 @@ class Unwrapped:
     values      the same exactly, int64, in 1/65536 cycle; report_reader.NODATA at masked pixels
     components  uint32: the connected component of each pixel, from 1 by falling size; 0 at masked pixels and in small ones
     tile_cost   no surface that differs from the input by whole cycles costs less: the bound
-    seam_cost   what the surface costs more than the bound
-    verdict     'accepted' if `check` accepted the report, else 'not checked'
+    seam_cost   what the surface costs more than the bound: 0 if the whole raster was solved at once
+    verdict     'accepted' if the program's checker accepted the report, else 'not checked'
     ramp        the expected slopes to the right and downwards, in 1/65536 cycle a pixel; None if none was asked for
     dropped     what a screen dropped: uint8, 1 at weak pixels, 2 at lonely ones, 3 in islands, else 0; None without a screen
     """
@@ -146,8 +165,14 @@ class Unwrapped:
         return iter((self.phase, self.components))
 
 
+def problem_of(report: report_reader.Report) -> Problem:
+    """What a report or a whole text says that it solves."""
+    side = None if report.is_whole else report.side
+    return Problem(report.rule, side, report.ramp, report.steepness)
+
+
 def read_report(text: bytes, name: str) -> report_reader.Report:
-    """A report. Trouble with the first broken line."""
+    """A report or a whole text. Trouble with the first broken line."""
     try:
         return report_reader.read_report_from(io.BytesIO(text))
     except report_reader.BrokenLine as broken:
@@ -163,15 +188,14 @@ def last_surface(report: bytes, name: str) -> report_reader.Surface:
 
 
 def solve(session: bytes, settings: Settings, check: bool = True, name: str = "the session") -> Solved:
-    """Unwraps a session by the ramp that it tells and has `check` judge the report. Trouble if it is refused."""
+    """Unwraps a session by the ramp that it tells and has the checker judge the report. Trouble if it is refused."""
     settings.check()
-    ramp = ramp_in(session)
-    options = ["--rule", settings.rule, "--tile", str(settings.side), *ramp_words(ramp)]
+    problem = Problem(settings.rule, settings.side, ramp_in(session) or (0, 0), settings.steep)
     workers = str(workers_or_default(settings.workers))
-    report = run_program(["unwrap", *options, "--workers", workers], session, name)
+    report = run_program([problem.solver, *problem.words(), "--workers", workers], session, name)
     verdict = NOT_CHECKED
     if check:
-        accepted, verdict = check_report(session, report, settings.rule, settings.side, ramp or (0, 0))
+        accepted, verdict = check_report(session, report, problem)
         if not accepted:
             raise Trouble(f"{name}: {verdict}", DISAGREES)
     return Solved(report, last_surface(report, name), verdict)
@@ -224,8 +248,10 @@ def unwrap(
     *,
     mask: Optional[npt.ArrayLike] = None,
     looks: Optional[float] = None,
-    tile: int = SIDE,
+    whole: Optional[bool] = None,
+    tile: Optional[int] = None,
     rule: str = RULES[0],
+    steep: int = 1,
     workers: Optional[int] = None,
     report: Optional[Path_] = None,
     check: bool = True,
@@ -239,7 +265,10 @@ def unwrap(
     coherence        from 0 to 1: it makes the weights; NaN is masked
     mask             0 or False at pixels to leave out, as water
     looks            how many independent looks the coherence has: weights go by the variance of the phase
-    tile, rule       the side of tiles, 2 to 128, and how two weights give that of an edge: 'least', 'mean' or 'product'
+    whole            solve the whole raster at once: no surface that differs by whole cycles costs less than what is returned
+    tile             solve tiles of this side, 2 to 128, one by one, and then how they join
+    rule             how two weights give that of an edge: 'least', 'mean' or 'product'
+    steep            how much each cycle of a departure after the first costs, 1 to 16
     workers          threads, 1 to 8; by default one for each processor
     report           a file to keep the report in, which can be checked again with its session (`wundjeska session`)
     check            have the proved checker judge the report; if it refuses, nothing is returned
@@ -253,7 +282,7 @@ def unwrap(
     """
     if looks is not None and (coherence is None or not 1 <= looks < math.inf):
         raise Trouble("looks is 1 or more, and wants coherence", REFUSED_WORDS)
-    settings, asked = Settings(tile, rule, workers), screening.checked(screen)
+    settings, asked = Settings(side_for(tile, whole), rule, workers, steep), screening.checked(screen)
     settings.check()
     making = Making("the interferogram", looks, checked(ramp), asked)
     if asked is not None and asked.coherence is not None and coherence is None:

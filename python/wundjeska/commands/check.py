@@ -1,4 +1,4 @@
-"""Has the proved checker judge a report, by the report's own side, rule and ramp. It solves nothing.
+"""Has the proved checker judge a report or a whole text, by its own side, rule, ramp and steepness. It solves nothing.
 
 What it says is written: `accepted`, or the first thing that is wrong.
 """
@@ -7,7 +7,7 @@ from pathlib import Path
 
 from ..program import check_report
 from ..trouble import DISAGREES
-from ..unwrapping import read_report
+from ..unwrapping import problem_of, read_report
 
 
 def words() -> ArgumentParser:
@@ -26,6 +26,6 @@ def words() -> ArgumentParser:
 def main(asked: Namespace) -> int:
     session, text = Path(asked.session).read_bytes(), Path(asked.report).read_bytes()
     report = read_report(text, asked.report)
-    accepted, verdict = check_report(session, text, report.rule, report.side, report.ramp)
+    accepted, verdict = check_report(session, text, problem_of(report))
     print(verdict)
     return 0 if accepted else DISAGREES

@@ -134,7 +134,7 @@ def source_of(path: str, session: Optional[str]) -> Source:
     """What stands at a path: a report or a grid by its first word, else what GDAL reads."""
     if Path(path).is_file():
         with open(path, "rb") as file:
-            if file.read(12).startswith((b"insar-report", b"ncols ")):
+            if file.read(12).startswith((b"insar-report", b"insar-whole ", b"ncols ")):
                 return Source(path, None, session)
     if session is not None:
         raise Trouble(f"{path} is no report, which --sessions want", REFUSED_WORDS)

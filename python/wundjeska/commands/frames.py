@@ -38,7 +38,7 @@ from ..report_reader import NODATA
 from ..trouble import DISAGREES, REFUSED_WORDS, Trouble
 from ..unwrapping import Settings, Solved, solve
 from ..weights import highest_of
-from .unwrap import add_solver_words, ramp_note, settings_of
+from .unwrap import add_solver_words, ramp_note, settings_of, steep_note
 
 NOT_PROVED = (
     "Each frame is certified: `check` accepted its report. The joint of the frames is not covered by any certificate or "
@@ -117,8 +117,11 @@ def head_of(frame: Frame, settings: Settings, ramp: Optional[Ramp]) -> bytes:
     """What a report on the frame begins with."""
     _, _, width, height = frame.window
     across, down = ramp or (0, 0)
-    version, terms = (2, f"ramp {across} {down}\nsteep 1\n") if across or down else (1, "")
-    return f"insar-report {version}\nsize {width} {height}\ntile {settings.side}\nrule {settings.rule}\n{terms}".encode()
+    is_plain = (across, down, settings.steep) == (0, 0, 1)
+    version, terms = (1, "") if is_plain else (2, f"ramp {across} {down}\nsteep {settings.steep}\n")
+    return (
+        f"insar-report {version}\nsize {width} {height}\ntile {settings.side}\nrule {settings.rule}\n{terms}".encode()
+    )
 
 
 def is_kept(frame: Frame, session: bytes, head: bytes) -> bool:
@@ -273,7 +276,7 @@ def tell(overlaps: List[List[Link]], frames: List[Frame], offsets: Offsets, agre
     return not apart
 
 
-def notes_of(asked: Namespace, frames: List[Frame], agreed: bool) -> Dict[str, Any]:
+def notes_of(asked: Namespace, settings: Settings, frames: List[Frame], agreed: bool) -> Dict[str, Any]:
     """What the product tells of how it came about."""
     return {
         **unit_notes(asked),
@@ -281,9 +284,10 @@ def notes_of(asked: Namespace, frames: List[Frame], agreed: bool) -> Dict[str, A
         "JOINT": NOT_PROVED,
         "OVERLAPS": f"all agree at {100 * asked.agree:g} %" if agreed else f"not all agree at {100 * asked.agree:g} %",
         "FRAMES": len(frames),
-        "TILE_SIDE": asked.tile,
-        "RULE": asked.rule,
+        "TILE_SIDE": settings.side,
+        "RULE": settings.rule,
         "REFERENCE": reference_of(asked).note,
+        **steep_note(settings.steep),
     }
 
 
@@ -366,7 +370,7 @@ def check_words(asked: Namespace) -> None:
 
 def main(asked: Namespace) -> int:
     check_words(asked)
-    settings = settings_of(asked)
+    settings = settings_of(asked, False)
     scene = scene_of(asked)
     raster = scene.phase.raster
     check_box(reference_of(asked).box, *size_of(raster))
@@ -384,5 +388,5 @@ def main(asked: Namespace) -> int:
         overlaps = list(all_links(frames))
         offsets = offsets_of(pieces, [link for links in overlaps for link in links])
         agreed = tell(overlaps, frames, offsets, asked.agree)
-        write(made, frames, offsets, scene, asked, {**notes_of(asked, frames, agreed), **ramp_note(ramp)})
+        write(made, frames, offsets, scene, asked, {**notes_of(asked, settings, frames, agreed), **ramp_note(ramp)})
     return 0 if agreed else DISAGREES

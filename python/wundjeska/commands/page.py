@@ -44,7 +44,7 @@ from ..ramps import told
 from ..references import Reference, add_reference_words, check_reference_words, level_of, reference_of
 from ..screening import ISLAND, LONELY, WEAK, Screened, Terms, screened_by, terms_in
 from ..trouble import DISAGREES, Trouble
-from ..unwrapping import ACCEPTED, read_report
+from ..unwrapping import ACCEPTED, problem_of, read_report
 
 MAX_MASKS, MAX_SURFACES = 12, 12
 DROPPED: Dict[int, Colour] = {WEAK: (214, 96, 77), ISLAND: (146, 100, 190), LONELY: (20, 90, 160)}
@@ -103,16 +103,23 @@ def shown_values(picture: Picture, surface: report_reader.Surface) -> Tuple[np.n
     return surface.cycles() - float(level) / CYCLE, "cycles"
 
 
+def came_of(report: report_reader.Report, surface: report_reader.Surface) -> str:
+    """Whose a surface is, and what it costs."""
+    if report.is_whole:
+        return f"The surface over the whole raster; it costs {surface.tile_cost}"
+    return (
+        f"Revision {surface.revision}, published by analyst {surface.analyst}; tiles cost {surface.tile_cost}, seams "
+        f"{surface.seam_cost}"
+    )
+
+
 def surface_map(picture: Picture, number: int) -> str:
     """A surface with its colour bar; outliers do not stretch it."""
     surface = picture.report.surfaces[number - 1]
     values, unit = shown_values(picture, surface)
     known = values[surface.opened()]
     low, high = (float(part) for part in np.percentile(known, COMMON)) if len(known) else (0.0, 0.0)
-    words = (
-        f"Revision {surface.revision}, published by analyst {surface.analyst}; tiles cost {surface.tile_cost}, seams "
-        f"{surface.seam_cost}; {len(known)} pixels have a value"
-    )
+    words = f"{came_of(picture.report, surface)}; {len(known)} pixels have a value"
     if len(known):
         words += f", from {known.min():.3f} to {known.max():.3f} {unit}; the colours range over those"
         words += f" from {COMMON[0]} to {COMMON[1]} %"
@@ -197,6 +204,12 @@ def jump_map(picture: Picture) -> str:
         "across seams. Inside a tile no surface departs at less cost; long lines are where to look"
     )
     keys = [(JUMP, "in a tile"), (SEAM, "at a seam"), (PLAIN, "none"), (MASKED, "masked")]
+    if picture.report.is_whole:
+        words = (
+            f"The surface departs from the wrapped differences at {jumps.inner_edges} edges. No surface departs at less cost; "
+            "long lines are where to look"
+        )
+        keys = [(JUMP, "departs"), *keys[2:]]
     return map_of(colours, picture.axes, keys, "Where the surface jumps", words)
 
 
@@ -299,7 +312,19 @@ def earlier_section(picture: Picture) -> str:
     return f'<h2>Earlier surfaces</h2><div class="row small">{"".join(figures)}</div>{more}'
 
 
+def whole_cost_section(surface: report_reader.Surface, accepted: bool) -> str:
+    words = (
+        "A cost is weight times whole cycles, added over the edges at which the surface departs from the wrapped differences. "
+        "No surface that differs from the phase by whole cycles costs less."
+        if accepted
+        else "The text was not accepted, so this cost is what it says, and nothing is certified."
+    )
+    return f"<h2>Cost</h2><p>The surface costs {surface.tile_cost}. {words}</p>"
+
+
 def cost_section(report: report_reader.Report, accepted: bool) -> str:
+    if report.is_whole:
+        return whole_cost_section(report.surfaces[-1], accepted)
     rows = "".join(
         f"<tr><td>{number}</td><td>{surface.revision}</td><td>{surface.analyst}</td><td>{surface.opened().sum()}</td>"
         f"<td>{surface.tile_cost}</td><td>{surface.seam_cost}</td><td>{surface.tile_cost + surface.seam_cost}</td></tr>"
@@ -359,7 +384,9 @@ def kept_bars(report: report_reader.Report, y: int) -> str:
 
 
 def history_section(report: report_reader.Report) -> str:
-    """The history from left to right, a lane for each analyst and one for kept results."""
+    """The history from left to right, a lane for each analyst and one for kept results. A whole text has none."""
+    if report.is_whole:
+        return ""
     told = [(place, entry) for place, entry in enumerate(report.entries, 1) if entry.kind != "kept"]
     lanes = sorted({entry.analyst or 0 for _, entry in told})
     count, bottom = len(report.entries), LANE * (len(lanes) + 1)
@@ -389,7 +416,10 @@ def history_section(report: report_reader.Report) -> str:
 
 def page_of(name: str, picture: Picture, verdict: str, accepted: bool) -> str:
     report = picture.report
-    head = f"{report.width} by {report.height} pixels, tiles of side {report.side}, rule {report.rule}"
+    tiles = "the whole raster at once" if report.is_whole else f"tiles of side {report.side}"
+    head = f"{report.width} by {report.height} pixels, {tiles}, rule {report.rule}"
+    if report.steepness > 1:
+        head += f", steepness {report.steepness}"
     if picture.wavelength:
         head += f", wavelength {picture.wavelength / LENGTHS['centimetres']:.9g} cm"
     badge = f'<span class="verdict {"accepted" if accepted else "refused"}">check: {escape(verdict)}</span>'
@@ -450,7 +480,7 @@ def words() -> ArgumentParser:
         "that are refused, 3 if the session or the report breaks its form, 5 if a file cannot be read or written.",
     )
     found.add_argument("session", help="the session that the report is of")
-    found.add_argument("report", help="what `insar_unwrap unwrap` wrote")
+    found.add_argument("report", help="what `insar_unwrap unwrap` or `insar_unwrap whole` wrote")
     found.add_argument(
         "--wavelength",
         type=float,
@@ -475,7 +505,7 @@ def main(asked: Namespace) -> int:
         made = outputs.beside(asked.page)
         session, report = Path(asked.session).read_bytes(), Path(asked.report).read_bytes()
         found = read_report(report, asked.report)
-        accepted, verdict = check_report(session, report, found.rule, found.side, found.ramp)
+        accepted, verdict = check_report(session, report, problem_of(found))
         name = asked.title or Path(asked.report).name
         unscreened = Path(asked.unscreened).read_bytes() if asked.unscreened else None
         last = found.surfaces[-1].values if found.surfaces else None

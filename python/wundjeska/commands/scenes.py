@@ -13,10 +13,11 @@ SNAKEFILE = Path(__file__).resolve().parent.parent / "Snakefile"
 USE = """usage: wundjeska scenes FOLDER [WORDS..]
 
 Unwraps each folder of FOLDER that has a phase.tif and a coherence.tif. WORDS are of snakemake, as `--cores 8` or `--unlock`.
-After `--config` come tile=N (128), rule=least, mean or product (least), coherence=C (pixels below it are masked; 0),
-screen=coherence=C,radius=R,count=N,patch=P (as --screen of unwrap), looks=L, ramp=auto or GX,GY (the expected ramp of all scenes;
-auto is of each), without_coherence=yes (scenes without a coherence.tif are unwrapped with equal weights, and not screened) and
-closure=yes (scenes whose names are pairs of acquisitions, as 20230101_20230113, get the closures of all loops of three)."""
+After `--config` come tile=N, whole=yes or no, steep=Q (as --tile, --whole and --steep of unwrap), rule=least, mean or product
+(least), coherence=C (pixels below it are masked; 0), screen=coherence=C,radius=R,count=N,patch=P (as --screen of unwrap), looks=L,
+ramp=auto or GX,GY (the expected ramp of all scenes; auto is of each), without_coherence=yes (scenes without a coherence.tif are
+unwrapped with equal weights, and not screened) and closure=yes (scenes whose names are pairs of acquisitions, as
+20230101_20230113, get the closures of all loops of three)."""
 
 
 def main(words: List[str]) -> int:

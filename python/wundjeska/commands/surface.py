@@ -1,4 +1,4 @@
-"""Makes a GeoTIFF of a surface: of what `insar_unwrap grid` wrote, or of a report, whose last surface is taken.
+"""Makes a GeoTIFF of a surface: of what `insar_unwrap grid` or `whole` wrote, or of a report, whose last surface is taken.
 
 With --session the report is checked first, and a report that `check` refuses gives no GeoTIFF. Without it the GeoTIFF says
 that nothing certifies the surface. It has the pixels, the place and the system of --like, NODATA at masked pixels, and one of
@@ -35,8 +35,8 @@ from ..program import check_report
 from ..rasters import files_of, name_of, open_raster, size_of
 from ..references import add_reference_words, reference_of
 from ..trouble import DISAGREES, REFUSED_WORDS, Trouble, warn
-from ..unwrapping import read_report
-from .unwrap import ramp_note
+from ..unwrapping import problem_of, read_report
+from .unwrap import cost_notes, ramp_note, steep_note
 
 
 def words() -> ArgumentParser:
@@ -48,7 +48,7 @@ def words() -> ArgumentParser:
         "The status is 0 if the GeoTIFF was written, 1 if `check` refused the report, 2 for words that are refused, 3 if the "
         "input does not fit, 5 if a file cannot be read or written.",
     )
-    found.add_argument("surface", help="a grid or a report; - is standard input")
+    found.add_argument("surface", help="a grid, a report or a whole text; - is standard input")
     found.add_argument("--session", metavar="FILE", help="the session that the report is of, to check it")
     found.add_argument(
         "--like", metavar="FILE", required=True, help="the raster of phases that the session was made of"
@@ -75,10 +75,10 @@ def read_text(path: str) -> bytes:
 
 
 def verdict_of(report: report_reader.Report, text: bytes, session: Optional[str]) -> str:
-    """What `check` says of a report, by its own side, rule and ramp. Trouble if it refuses."""
+    """What the checker says of a report, by its own side, rule, ramp and steepness. Trouble if it refuses."""
     if session is None:
         return NOTHING_CERTIFIES
-    accepted, verdict = check_report(Path(session).read_bytes(), text, report.rule, report.side, report.ramp)
+    accepted, verdict = check_report(Path(session).read_bytes(), text, problem_of(report))
     if not accepted:
         raise Trouble(f"check: {verdict}", DISAGREES)
     return verdict
@@ -86,7 +86,7 @@ def verdict_of(report: report_reader.Report, text: bytes, session: Optional[str]
 
 def found_in(text: bytes, path: str, session: Optional[str]) -> Found:
     """The values of a grid, or of a report's last surface."""
-    if not text.startswith(b"insar-report"):
+    if not text.startswith(b"insar-"):
         if session is not None:
             raise Trouble(f"{path} is a grid, which has no certificates to check by --session", REFUSED_WORDS)
         return Found(read_grid(text, path), {"VERDICT": NOTHING_CERTIFIES})
@@ -98,10 +98,10 @@ def found_in(text: bytes, path: str, session: Optional[str]) -> Found:
 
 def notes_of(report: report_reader.Report) -> Dict[str, Any]:
     """What a product tells of the report that it is of."""
-    last = report.surfaces[-1]
-    costs = {"TILE_COST": last.tile_cost, "SEAM_COST": last.seam_cost}
+    last, problem = report.surfaces[-1], problem_of(report)
     ramp = ramp_note(report.ramp if report.version > 1 else None)
-    return {"TILE_SIDE": report.side, "RULE": report.rule, "REVISION": last.revision, **costs, **ramp}
+    revision = {} if report.is_whole else {"REVISION": last.revision}
+    return {**cost_notes(problem.side, last), "RULE": report.rule, **revision, **steep_note(report.steepness), **ramp}
 
 
 def shape_of(raster: Any) -> Tuple[int, int]:

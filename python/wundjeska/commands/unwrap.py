@@ -1,15 +1,18 @@
 """Unwraps an interferogram in a file: makes the session, unwraps it, has the report checked, and writes a GeoTIFF.
 
+With --whole the whole raster is solved at once, so that no surface costs less; without it tiles are, and then how they join.
+
 The GeoTIFF has the pixels and the place of the phase, NODATA at masked pixels, and in its metadata the verdict, side, rule,
 costs, unit, wavelength, reference and sign. If the check refuses, no file is written. --components writes a second raster,
 of the connected components, numbered from 1 by falling size.
 """
-from argparse import ArgumentParser, Namespace, RawDescriptionHelpFormatter
+from argparse import ArgumentParser, BooleanOptionalAction, Namespace, RawDescriptionHelpFormatter
 from pathlib import Path
 from typing import Any, Dict, Optional
 
 import numpy as np
 
+from .. import report_reader
 from ..components import components_of
 from ..outputs import Outputs, beside
 from ..planes import Ramp
@@ -20,23 +23,28 @@ from ..rasters import Scene, add_scene_words, axes_of, scene_of
 from ..references import Reference, add_reference_words, reference_of
 from ..screening import add_screen_words, check_screen_words
 from ..trouble import REFUSED_WORDS, Trouble, warn
-from ..unwrapping import ACCEPTED, RULES, SIDE, Input, Settings, Solved, solve
+from ..unwrapping import ACCEPTED, MAX_STEEP, RULES, SIDE, WHOLE, Input, Settings, Solved, side_for, solve
 from .session import input_for, screen_line
 
 
 def add_solver_words(words: ArgumentParser) -> None:
     """The arguments that settings_of reads."""
-    words.add_argument(
-        "--tile", type=int, default=SIDE, metavar="N", help=f"pixels along a side of a tile (default: {SIDE})"
-    )
+    words.add_argument("--tile", type=int, metavar="N", help=f"pixels along a side of a tile (default: {SIDE})")
     words.add_argument("--rule", choices=RULES, default=RULES[0], help="of weights (default: least)")
     words.add_argument(
-        "--workers", type=int, metavar="N", help="threads that solve tiles, 1 to 8 (default: one for each processor)"
+        "--workers", type=int, metavar="N", help="threads that solve, 1 to 8 (default: one for each processor)"
+    )
+    words.add_argument(
+        "--steep",
+        type=int,
+        default=1,
+        metavar="Q",
+        help=f"how much each cycle of a departure after the first costs, 1 to {MAX_STEEP} (default: 1)",
     )
 
 
-def settings_of(asked: Namespace) -> Settings:
-    settings = Settings(asked.tile, asked.rule, asked.workers)
+def settings_of(asked: Namespace, whole: Optional[bool]) -> Settings:
+    settings = Settings(side_for(asked.tile, whole), asked.rule, asked.workers, asked.steep)
     settings.check()
     return settings
 
@@ -53,6 +61,11 @@ def words() -> ArgumentParser:
     add_ramp_words(found)
     add_screen_words(found)
     add_solver_words(found)
+    found.add_argument(
+        "--whole",
+        action=BooleanOptionalAction,
+        help=f"solve the whole raster at once; without it, tiles (default: {'the whole, without --tile' if WHOLE else 'tiles'})",
+    )
     add_reference_words(found)
     add_unit_words(found)
     found.add_argument(
@@ -67,7 +80,9 @@ def words() -> ArgumentParser:
     )
     found.add_argument("--page", metavar="FILE", help="write a page to look at, an HTML file")
     found.add_argument("--session", metavar="FILE", help="keep the session, the program's input")
-    found.add_argument("--report", metavar="FILE", help="keep the report, which `check` accepts after the session")
+    found.add_argument(
+        "--report", metavar="FILE", help="keep the report or the whole text, which `check` accepts after the session"
+    )
     found.add_argument(
         "--no-check", action="store_true", help="do not have the report checked, and say so in the GeoTIFF"
     )
@@ -75,17 +90,28 @@ def words() -> ArgumentParser:
     return found
 
 
-def notes_of(solved: Solved, asked: Namespace, scene: Scene, components: np.ndarray) -> Dict[str, Any]:
+def notes_of(solved: Solved, settings: Settings, scene: Scene, components: np.ndarray) -> Dict[str, Any]:
     """What the product tells of how it came about."""
     return {
         "VERDICT": solved.verdict if solved.verdict == ACCEPTED else NOTHING_CERTIFIES,
-        "TILE_SIDE": asked.tile,
-        "RULE": asked.rule,
-        "TILE_COST": solved.surface.tile_cost,
-        "SEAM_COST": solved.surface.seam_cost,
+        **cost_notes(settings.side, solved.surface),
+        "RULE": settings.rule,
         "WEIGHTS": weights_note(scene),
         "COMPONENTS": int(components.max(initial=0)),
+        **steep_note(settings.steep),
     }
+
+
+def cost_notes(side: Optional[int], surface: report_reader.Surface) -> Dict[str, Any]:
+    """What is told of the costs of a surface, solved by tiles of a side, or over the whole raster if that is None."""
+    if side is None:
+        return {"COST": surface.tile_cost, "SOLVED": "the whole raster at once"}
+    return {"TILE_SIDE": side, "TILE_COST": surface.tile_cost, "SEAM_COST": surface.seam_cost}
+
+
+def steep_note(steep: int) -> Dict[str, Any]:
+    """What is told of a steepness of costs."""
+    return {"STEEPNESS": steep} if steep > 1 else {}
 
 
 def ramp_note(ramp: Optional[Ramp]) -> Dict[str, Any]:
@@ -116,7 +142,7 @@ def write_page(path: Path, asked: Namespace, made: Input, solved: Solved, scene:
 
 def main(asked: Namespace) -> int:
     check_unit_words(asked)
-    settings = settings_of(asked)
+    settings = settings_of(asked, asked.whole)
     if asked.reference_auto and not asked.coherence:
         raise Trouble("--reference auto wants --coherence", REFUSED_WORDS)
     if asked.least_component < 1:
@@ -131,7 +157,7 @@ def main(asked: Namespace) -> int:
         made = input_for(scene, asked)
         solved = solve(made.session, settings, not asked.no_check, asked.phase)
         components = components_of(made.opened, asked.least_component)
-        notes = {**notes_of(solved, asked, scene, components), **ramp_note(made.ramp), **screen_note(made)}
+        notes = {**notes_of(solved, settings, scene, components), **ramp_note(made.ramp), **screen_note(made)}
         reference = reference_of(asked, solved.surface.values, made.weights)
         write_product(place, like, solved.surface.values, asked, reference, notes)
         if numbered:
@@ -141,20 +167,23 @@ def main(asked: Namespace) -> int:
         for kept, text in ((kept_session, made.session), (kept_report, solved.report), (unscreened, made.before)):
             if kept:
                 kept.write_bytes(text)
-    tell(asked, solved, made, components)
+    tell(asked, settings, solved, made, components)
     if asked.reference_auto:
         print(f"{asked.geotiff}: reference: {reference.note}")
     return 0
 
 
-def tell(asked: Namespace, solved: Solved, made: Input, components: np.ndarray) -> None:
+def tell(asked: Namespace, settings: Settings, solved: Solved, made: Input, components: np.ndarray) -> None:
     if solved.verdict != ACCEPTED:
         warn(f"{asked.geotiff}: {NOTHING_CERTIFIES}")
     surface, count = solved.surface, int(components.max(initial=0))
     height, width = made.opened.shape
+    costs = f"tiles cost {surface.tile_cost}, seams {surface.seam_cost}"
+    if settings.is_whole:
+        costs = f"cost {surface.tile_cost}" + (", the least of all" if solved.verdict == ACCEPTED else "")
     print(
         f"{asked.geotiff}: {solved.verdict}, {width} by {height} pixels, {made.opened.sum()} open in {count} "
-        f"component{'' if count == 1 else 's'}, tiles cost {surface.tile_cost}, seams {surface.seam_cost}"
+        f"component{'' if count == 1 else 's'}, {costs}"
     )
     if made.screening is not None:
         print(f"{asked.geotiff}: {screen_line(made.screening)}")

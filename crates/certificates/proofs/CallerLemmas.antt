@@ -11,7 +11,7 @@ use Rattle.raster_model.specs.Tiles.{tiles_of, IsWithin}
 use Rattle.raster_model.specs.Scene.{raster_of}
 use Rattle.raster_model.proofs.SumLemmas.{sum_edges-same}
 use Rattle.raster_model.proofs.TileEdges.{ends_within}
-use Rattle.raster_model.proofs.TileLemmas.{window_of-pixels}
+use Rattle.raster_model.proofs.TileLemmas.{scene_window, window_of-pixels}
 use Rattle.certificates.specs.declared.results.TileResult.{TileResult}
 use Rattle.certificates.specs.Results.{IsGoodTile, window_in, result_surface}
 use Rattle.std.proofs.lemmas.Bool.{and_from}
@@ -66,7 +66,7 @@ pub good_under : (s : Scene) (mask mask' : Field Bool) (k : TileResult) → k.ti
 good_under s mask mask' k l same g = record {
   shape = g.shape;
   in_range = λ x y o. g.in_range x y (o.0, same x y o.0 ∙ o.1);
-  certified = certified_same (raster_of s) mask mask' (result_surface s k) (result_surface s k) k.tile (λ e i. at e (ends_within s k.tile (window_in s k) (window_of-pixels s.tiling k.tile l) e i)) k.faces.items g.certified;
+  certified = certified_same (raster_of s) mask mask' (result_surface s k) (result_surface s k) k.tile (λ e i. at e (ends_within (raster_of s) k.tile (window_in s k) (scene_window s k.tile (window_in s k) (window_of-pixels s.tiling k.tile l)) e i)) k.faces.items g.certified;
 }
   where
     at : (e : Edge) → IsWithin (window_in s k) e.x e.y × IsWithin (window_in s k) (end_x e) (end_y e) → IsSameAt (raster_of s) mask mask' (result_surface s k) (result_surface s k) e

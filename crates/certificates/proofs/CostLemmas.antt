@@ -10,7 +10,7 @@ use Rattle.raster_model.specs.Tiles.{IsWithin}
 use Rattle.raster_model.specs.Heights.{KnowsEnds}
 use Rattle.certificates.specs.declared.tile.Tile.{Tile}
 use Rattle.certificates.specs.TileWords.{AreRowsOpen, KnowsTile, cost_at, held_mask, held_raster, surface_of_cycles}
-use Rattle.whole_raster.proofs.WindowCosts.{cost_from_is}
+use Rattle.raster_model.proofs.WindowCosts.{cost_from_is}
 use Rattle.std.proofs.lemmas.Bool.{and_parts}
 use Rattle.sums_and_lists.specs.Sums.{where_true}
 

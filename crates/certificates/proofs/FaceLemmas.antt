@@ -12,7 +12,7 @@ use Rattle.raster_model.specs.Cells.{face_at}
 use Rattle.raster_model.specs.Order.{IsCellAt}
 use Rattle.certificates.specs.declared.tile.Tile.{Tile}
 use Rattle.certificates.specs.TileWords.{HasFaces, faces_at, held_raster}
-use Rattle.whole_raster.proofs.TileCells.{cell_count-is, cells_before-is, face_inside, face_outside}
+use Rattle.raster_model.proofs.TileCells.{cell_count-is, cells_before-is, face_inside, face_outside}
 
 -- where a cell's face stands in a list in the window's row order
 module _ (k : Tile) (faces : List ℤ) where

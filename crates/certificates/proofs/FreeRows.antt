@@ -7,7 +7,7 @@ use Rattle.raster_model.specs.Raster.{departure, edge_cost, has_open_ends, maske
 use Rattle.raster_model.specs.Sums.{Field, right_edge, down_edge, sum_row}
 use Rattle.raster_model.specs.declared.edge.Edge.{Edge}
 use Rattle.raster_model.proofs.Steps.{no_steps}
-use Rattle.whole_raster.proofs.WindowCosts.{cost_from_is, cost_from-outside}
+use Rattle.raster_model.proofs.WindowCosts.{cost_from_is, cost_from-outside}
 use Rattle.certificates.specs.declared.tile.Tile.{Tile}
 use Rattle.certificates.proofs.RangeLemmas.{neither}
 use Rattle.certificates.proofs.SeamLemmas.{is_zero}

@@ -7,7 +7,7 @@ use Rattle.raster_model.specs.Sums.{right_edge, down_edge}
 use Rattle.raster_model.specs.Raster.{masked_weight, over}
 use Rattle.raster_model.specs.Tiles.{IsWithin}
 use Rattle.raster_model.specs.Cells.{face_at}
-use Rattle.whole_raster.proofs.WindowCosts.{over_from_is}
+use Rattle.raster_model.proofs.WindowCosts.{over_from_is}
 use Rattle.certificates.specs.declared.tile.Tile.{Tile}
 use Rattle.certificates.specs.TileWords.{AllFit, FitAt, difference_at, held_mask, held_raster, over_at}
 use Rattle.certificates.proofs.SeamLemmas.{limit_small}

@@ -7,7 +7,7 @@ use Rattle.raster_model.specs.declared.edge.Edge.{Edge}
 use Rattle.raster_model.specs.Raster.{has_open_ends}
 use Rattle.raster_model.specs.Sums.{end_x, end_y, is_edge}
 use Rattle.raster_model.specs.Tiles.{IsWithin}
-use Rattle.whole_raster.proofs.TileEdges.{ends_within, from_ends}
+use Rattle.raster_model.proofs.TileEdges.{ends_within, from_ends}
 use Rattle.certificates.specs.declared.tile.Tile.{Tile}
 use Rattle.certificates.specs.EdgeWords.{HoldsIfPart, IsBreak}
 use Rattle.certificates.specs.TileWords.{AreRowsOpen, IsInner, held_mask, held_raster}

@@ -9,12 +9,11 @@ use Rattle.raster_model.specs.Raster.{Raster, lifted}
 use Rattle.raster_model.specs.Sums.{Field}
 use Rattle.raster_model.specs.Cells.{cell_count, IsCertifiedTile}
 use Rattle.raster_model.specs.Certificates.{IsLeastInTile}
-use Rattle.raster_model.specs.Tiles.{IsWindowOf, tile_at}
+use Rattle.raster_model.specs.Tiles.{IsWindowOf, tile_at, IsTileWindow}
 use Rattle.raster_model.specs.Scene.{raster_of}
-use Rattle.whole_raster.specs.Tilings.{IsTileWindow}
-use Rattle.whole_raster.proofs.TileCells.{cell_count-is}
-use Rattle.whole_raster.proofs.Windows.{scene_window}
+use Rattle.raster_model.proofs.TileCells.{cell_count-is}
 use Rattle.raster_model.proofs.TileLeast.{certified_tiles_are_least}
+use Rattle.raster_model.proofs.TileLemmas.{scene_window}
 use Rattle.certificates.specs.declared.results.TileResult.{TileResult}
 use Rattle.certificates.specs.declared.tile.Tile.{Tile}
 use Rattle.certificates.specs.declared.verdicts.TileVerdict.{TileVerdict}

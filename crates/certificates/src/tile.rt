@@ -1,6 +1,6 @@
 ghost use Rattle.certificates.specs.Cuts.{raster_cut};
 ghost use Rattle.std.specs.Prelude.{◌≡◌};
-ghost use Rattle.whole_raster.specs.Tilings.{IsTileWindow};
+ghost use Rattle.raster_model.specs.Tiles.{IsTileWindow};
 
 use crate::cut::Cut;
 use crate::edge_costs::edge_cost;

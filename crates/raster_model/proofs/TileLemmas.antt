@@ -4,7 +4,9 @@ use Rattle.std.specs.Prelude.{◌↔◌}
 use Rattle.std.proofs.lemmas.Nat.{mul-le, mul-add-lt, div_below, div-add-mod', mod_below, div-mul-add, mod-mul-add}
 use Rattle.raster_model.specs.declared.tiling.Tiling.{Tiling}
 use Rattle.raster_model.specs.declared.tiling.Window.{Window}
-use Rattle.raster_model.specs.Tiles.{columns_of_tiles, rows_of_tiles, tiles_of, tile_at, window_of, IsWindowOf, TilesAreNumbered, TilesAreSquares, PixelsHaveOneWindow, IsWindowIn}
+use Rattle.raster_model.specs.declared.scene.Scene.{Scene}
+use Rattle.raster_model.specs.Scene.{raster_of}
+use Rattle.raster_model.specs.Tiles.{columns_of_tiles, rows_of_tiles, tiles_of, tile_at, window_of, IsWindowOf, TilesAreNumbered, TilesAreSquares, PixelsHaveOneWindow, IsTileWindow, IsWindowIn}
 
 -- the place of x in blocks of d
 pub in_block : (x d q : ℕ) → 0 < d → x / d ≡ q → (q * d ≤ x) × (x < q * d + d)
@@ -104,3 +106,11 @@ few_tiles g =
 
 pub window_in : (g : Tiling) (tile : ℕ) (v : Window) → IsWindowOf g tile v → IsWindowIn g.width g.height v
 window_in g tile v is = record { across = is.across; along = is.along }
+
+-- a tile of a scene is a tile of its raster
+pub scene_window : (s : Scene) (tile : ℕ) (v : Window) → IsWindowOf s.tiling tile v → IsTileWindow (raster_of s) tile v
+scene_window s tile v is = record {
+  across = (is.across.0, omega (arith, is.across, s.same_width));
+  along = (is.along.0, omega (arith, is.along, s.same_height));
+  pixels = λ x y l m. is.pixels x y (omega (arith, l, s.same_width)) (omega (arith, m, s.same_height));
+}

@@ -2,6 +2,7 @@
 use Rattle.std.specs.Prelude.{◌≡◌, ℕ, ◌+◌, ◌-◌, ◌*◌, ◌/◌, ◌%◌, min, ◌<◌, ◌≤◌, ◌↔◌}
 use Rattle.raster_model.specs.declared.tiling.Tiling.{Tiling}
 use Rattle.raster_model.specs.declared.tiling.Window.{Window}
+use Rattle.raster_model.specs.Raster.{Raster}
 use Rattle.raster_model.specs.Sums.{Field}
 
 -- how many tiles lie side by side, how many one below another, and how many there are
@@ -50,6 +51,12 @@ pub record IsWindowOf (g : Tiling) (tile : ℕ) (v : Window) : Type 0 where
   pub across : (v.x0 ≤ v.x1) × (v.x1 < g.width)
   pub along : (v.y0 ≤ v.y1) × (v.y1 < g.height)
   pub pixels : (x y : ℕ) → x < g.width → y < g.height → (tile_at g x y ≡ tile) ↔ IsWithin v x y
+
+-- the window has exactly the pixels that a raster counts to tile t
+pub record IsTileWindow (r : Raster) (t : ℕ) (v : Window) : Type 0 where
+  pub across : (v.x0 ≤ v.x1) × (v.x1 < r.width)
+  pub along : (v.y0 ≤ v.y1) × (v.y1 < r.height)
+  pub pixels : (x y : ℕ) → x < r.width → y < r.height → (r.tile x y ≡ t) ↔ IsWithin v x y
 
 -- the tiles of a raster's pixels are below the count, and two pixels share a tile where they lie in one tile column and one tile row
 abbrev pub TilesAreNumbered : Type 0

@@ -1,20 +1,13 @@
--- The windows of a scene's tiles, and that of the whole raster.
+-- The window of the whole raster, and the tiles of a scene's pixels.
 use Rattle.std.proofs.Common.{◌≡◌, ℕ, ◌+◌, refl, arith}
 use Rattle.raster_model.specs.declared.scene.Scene.{Scene}
 use Rattle.raster_model.specs.declared.tiling.Window.{Window}
 use Rattle.raster_model.specs.Raster.{Raster}
 use Rattle.raster_model.specs.Scene.{raster_of}
-use Rattle.raster_model.specs.Tiles.{IsWindowOf}
+use Rattle.raster_model.specs.Tiles.{IsTileWindow}
 use Rattle.raster_model.proofs.TileLemmas.{tiles_are_numbered}
-use Rattle.whole_raster.specs.Tilings.{IsTileWindow, ScenesHaveTiles}
+use Rattle.whole_raster.specs.Tilings.{ScenesHaveTiles}
 use Rattle.whole_raster.specs.Whole.{whole_of}
-
-pub scene_window : (s : Scene) (tile : ℕ) (v : Window) → IsWindowOf s.tiling tile v → IsTileWindow (raster_of s) tile v
-scene_window s tile v is = record {
-  across = (is.across.0, omega (arith, is.across, s.same_width));
-  along = (is.along.0, omega (arith, is.along, s.same_height));
-  pixels = λ x y l m. is.pixels x y (omega (arith, l, s.same_width)) (omega (arith, m, s.same_height));
-}
 
 pub whole_window : (r : Raster) (v : Window) → v.x0 ≡ 0 → v.y0 ≡ 0 → v.x1 + 1 ≡ r.width → v.y1 + 1 ≡ r.height → IsTileWindow (whole_of r) 0 v
 whole_window r v left top right bottom = record {

@@ -1,21 +1,13 @@
 -- A raster with other tiles than a scene's.
-use Rattle.std.specs.Prelude.{◌≡◌, ℕ, ◌<◌, ◌≤◌, ◌↔◌}
+use Rattle.std.specs.Prelude.{ℕ, ◌<◌}
 use Rattle.raster_model.specs.declared.scene.Scene.{Scene}
-use Rattle.raster_model.specs.declared.tiling.Window.{Window}
 use Rattle.raster_model.specs.Scene.{raster_of}
 use Rattle.raster_model.specs.Sums.{Field}
-use Rattle.raster_model.specs.Tiles.{IsWithin}
 use Rattle.raster_model.specs.Raster.{Raster}
 
 -- the raster with these numbers of tiles, so many in all
 abbrev pub tiled_by : Raster → Field ℕ → ℕ → Raster
 tiled_by r tile count = record { width = r.width; height = r.height; phase = r.phase; slope = r.slope; weight = r.weight; tile = tile; tile_count = count; steep = r.steep }
-
--- the window has exactly the raster's pixels of tile t
-pub record IsTileWindow (r : Raster) (t : ℕ) (v : Window) : Type 0 where
-  pub across : (v.x0 ≤ v.x1) × (v.x1 < r.width)
-  pub along : (v.y0 ≤ v.y1) × (v.y1 < r.height)
-  pub pixels : (x y : ℕ) → x < r.width → y < r.height → (r.tile x y ≡ t) ↔ IsWithin v x y
 
 -- each pixel lies in a tile
 abbrev pub HasTiles : Raster → Type 0

@@ -1,7 +1,7 @@
 use Rattle.raster_model.specs.Masks.{open_at}
 use Rattle.raster_model.specs.Raster.{lifted}
 use Rattle.raster_model.specs.Scene.{raster_of}
-use Rattle.whole_raster.proofs.Windows.{scene_window}
+use Rattle.raster_model.proofs.TileLemmas.{scene_window}
 use Rattle.certificates.specs.declared.verdicts.TileVerdict.TheVariants.{Good}
 use Rattle.certificates.proofs.VerdictLemmas.{faces_say}
 use Rattle.certificates.proofs.tiles.check_faces.Goals as goal

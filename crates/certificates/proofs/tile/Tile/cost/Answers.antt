@@ -1,6 +1,6 @@
 use Rattle.std.proofs.Common.{sym, arith}
 use Rattle.raster_model.specs.Sums.{sum_row}
-use Rattle.whole_raster.proofs.WindowCosts.{rows_start, total}
+use Rattle.raster_model.proofs.WindowCosts.{rows_start, total}
 use Rattle.certificates.specs.TileWords.{held_mask, held_raster, surface_of_cycles, cost_at}
 use Rattle.certificates.proofs.SeamCosts.{adds}
 use Rattle.certificates.proofs.tile.Tile.cost.Goals as goal

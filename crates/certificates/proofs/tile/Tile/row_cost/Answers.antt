@@ -1,6 +1,6 @@
 use Rattle.std.proofs.Common.{◌≡◌, ◌+◌, ◌≤◌, ◌∙◌, ℕ, ap, sym, arith}
 use Rattle.raster_model.specs.Sums.{sum_row}
-use Rattle.whole_raster.proofs.WindowCosts.{row_starts, row_ends}
+use Rattle.raster_model.proofs.WindowCosts.{row_starts, row_ends}
 use Rattle.certificates.specs.TileWords.{held_mask, held_raster, surface_of_cycles, cost_at}
 use Rattle.certificates.proofs.SeamCosts.{adds}
 use Rattle.certificates.proofs.tile.Tile.row_cost.Goals as goal

@@ -1,7 +1,7 @@
 use Rattle.std.proofs.Common.{◌≡◌, ◌+◌, ◌≤◌, ◌∙◌, ℕ, ap, sym, arith}
 use Rattle.raster_model.specs.Cells.{face_at}
 use Rattle.raster_model.specs.Sums.{sum_row}
-use Rattle.whole_raster.proofs.WindowCosts.{over_row_starts, over_row_ends}
+use Rattle.raster_model.proofs.WindowCosts.{over_row_starts, over_row_ends}
 use Rattle.certificates.specs.TileWords.{held_mask, held_raster, over_at}
 use Rattle.certificates.proofs.SeamCosts.{adds}
 use Rattle.certificates.proofs.tile.Tile.row_over.Goals as goal

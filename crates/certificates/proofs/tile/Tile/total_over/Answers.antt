@@ -2,7 +2,7 @@ use Rattle.std.proofs.Common.{◌≤◌, sym, arith}
 use Rattle.raster_model.specs.Cells.{face_at}
 use Rattle.raster_model.specs.Sums.{sum_row}
 use Rattle.raster_model.proofs.Unsteep.{faces_fit_weights, no_face_over}
-use Rattle.whole_raster.proofs.WindowCosts.{over_rows_start, over_total}
+use Rattle.raster_model.proofs.WindowCosts.{over_rows_start, over_total}
 use Rattle.certificates.specs.TileWords.{held_mask, held_raster, over_at}
 use Rattle.certificates.proofs.SeamCosts.{adds}
 use Rattle.certificates.proofs.tile.Tile.total_over.Goals as goal

@@ -9,8 +9,7 @@ use Rattle.raster_model.specs.Scene.{raster_of}
 use Rattle.raster_model.specs.Sums.{Field}
 use Rattle.raster_model.specs.Tiles.{tile_at, tiles_of, window_of}
 use Rattle.wrapped_gradient.specs.declared.corrections.Corrections.{Corrections}
-use Rattle.raster_model.proofs.TileLemmas.{window_of-pixels}
-use Rattle.whole_raster.proofs.Windows.{scene_window}
+use Rattle.raster_model.proofs.TileLemmas.{scene_window, window_of-pixels}
 use Rattle.flow_network.specs.Nets.{Shape, State, IsArc, tail_of, positive_part, total_excess}
 use Rattle.flow_network.specs.Moves.{IsConserved}
 use Rattle.flow_network.proofs.CallerLemmas.{conserved-trans}

@@ -8,8 +8,7 @@ use Rattle.raster_model.specs.declared.edge.Edge.{Edge}
 use Rattle.raster_model.specs.declared.tiling.Window.{Window}
 use Rattle.raster_model.specs.Sums.{Field, right_edge, down_edge}
 use Rattle.raster_model.specs.Raster.{Raster, residue, masked_weight}
-use Rattle.raster_model.specs.Tiles.{width_of}
-use Rattle.whole_raster.specs.Tilings.{IsTileWindow}
+use Rattle.raster_model.specs.Tiles.{width_of, IsTileWindow}
 use Rattle.flow_network.specs.Nets.{HasReducedCosts, HasNoExcess}
 use Rattle.flow_network.specs.Moves.{IsConserved}
 use Rattle.wrapped_gradient.specs.declared.corrections.Corrections.{Corrections}

@@ -7,8 +7,8 @@ use Rattle.raster_model.specs.declared.tiling.Window.{Window}
 use Rattle.raster_model.specs.Cells.{face_at}
 use Rattle.raster_model.specs.Certificates.{above, left, face_difference, faces_of_tile}
 use Rattle.raster_model.specs.Raster.{Raster}
-use Rattle.whole_raster.specs.Tilings.{IsTileWindow}
-use Rattle.whole_raster.proofs.TileCells.{face_inside, face_outside, cells_before-is}
+use Rattle.raster_model.specs.Tiles.{IsTileWindow}
+use Rattle.raster_model.proofs.TileCells.{face_inside, face_outside, cells_before-is}
 use Rattle.flow_network.specs.Nets.{State, HasReducedCosts}
 use Rattle.wrapped_gradient.specs.Windows.{IsCellOf, IsEdgeOf}
 use Rattle.dual_grid.specs.Answers.{IsNearStart}

@@ -12,9 +12,9 @@ use Rattle.raster_model.specs.Certificates.{IsTileEdge, FacesFit, face_bound, fa
 use Rattle.raster_model.proofs.Planar.{planar}
 use Rattle.raster_model.proofs.SumLemmas.{sum_grid-same, sum_edges-add, sum_edges-same}
 use Rattle.raster_model.proofs.TileLeast.{no_column, no_row}
-use Rattle.whole_raster.specs.Tilings.{IsTileWindow}
-use Rattle.whole_raster.proofs.TileCells.{cell_count-is, face_outside}
-use Rattle.whole_raster.proofs.TileEdges.{ends_within, from_ends}
+use Rattle.raster_model.specs.Tiles.{IsTileWindow}
+use Rattle.raster_model.proofs.TileCells.{cell_count-is, face_outside}
+use Rattle.raster_model.proofs.TileEdges.{ends_within, from_ends}
 use Rattle.flow_network.specs.Nets.{State}
 use Rattle.wrapped_gradient.specs.declared.corrections.Corrections.{Corrections}
 use Rattle.wrapped_gradient.specs.Corrections.{CancelResidues, HasShapeOf, correction_at, greatest_of}

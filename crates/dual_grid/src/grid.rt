@@ -149,11 +149,32 @@ impl DualGrid {
     ghost use Rattle.raster_model.specs.Raster.{residue};
     ghost use Rattle.raster_model.specs.Scene.{raster_of};
     ghost use Rattle.raster_model.specs.Sums.{Field};
-    ghost use Rattle.raster_model.specs.Tiles.{width_of, height_of};
+    ghost use Rattle.raster_model.specs.Tiles.{tiles_of, window_of, width_of, height_of};
     ghost use Rattle.raster_model.specs.declared.scene.Scene.{Scene as SceneOf};
     ghost use Rattle.raster_model.specs.declared.tiling.Window.{Window as WindowOf};
     ghost use Rattle.std.specs.Prelude.{◌≡◌, ◌*◌, ◌<◌, ◌≤◌, ◌<ℤ◌, Bool, IfOk, List, length, pos};
     ghost use Rattle.wrapped_gradient.specs.Gradients.{AreGradientsOf};
+
+    /// The grid of a tile: that over its window. It fails only for lack of memory.
+    pub fn of(
+        alloc: Global,
+        scene: &Scene,
+        gradients: &Gradients,
+        tile: u32,
+        unmasked: &[bool],
+    ) -> Result<DualGrid, AllocError>
+        requires tile { tile < tiles_of scene.now.tiling }
+        requires gradients { AreGradientsOf scene.now gradients.now }
+        requires window { gradients.now.window ≡ window_of scene.now.tiling tile }
+        requires count { length unmasked.now ≡ width_of gradients.now.window * height_of gradients.now.window }
+        ensures grid { IfOk result (λ grid. IsGridOf scene.now (window_of scene.now.tiling tile) unmasked.now grid) }
+        ensures start { IfOk result (λ grid. IsAtStart (grid_start grid) (residue (raster_of scene.now)) (window_of scene.now.tiling tile) (grid_shape grid) (grid_state grid)) }
+        ensures small { IfOk result (λ grid. HasSmallCosts (grid_shape grid)) }
+        ensures few { IfOk result (λ grid. total_excess (grid_shape grid) (grid_state grid) <ℤ pos (grid_shape grid).nodes) }
+        ensures joined { IfOk result (λ grid. IsConnected (grid_start grid) (grid_shape grid)) }
+    {
+        DualGrid::over(alloc, scene, gradients, unmasked)
+    }
 
     /// The grid over a window of a scene, which is that of the gradients. `unmasked` tells the mask: for each pixel of the
     /// window, in row order, whether it is open. Nothing has flowed yet, and each cell has its residue as excess. Fewer

@@ -8,8 +8,8 @@ use Rattle.raster_model.specs.Cells.{IsCertifiedTile}
 use Rattle.raster_model.specs.Raster.{Raster, departure, has_open_ends, is_inner, lifted, steps, tile_cost}
 use Rattle.raster_model.specs.Sums.{Field, is_edge}
 use Rattle.raster_model.proofs.SumLemmas.{sum_edges-same}
-use Rattle.whole_raster.specs.Tilings.{IsTileWindow}
-use Rattle.whole_raster.proofs.TileEdges.{ends_within}
+use Rattle.raster_model.specs.Tiles.{IsTileWindow}
+use Rattle.raster_model.proofs.TileEdges.{ends_within}
 use Rattle.wrapped_gradient.specs.declared.corrections.Corrections.{Corrections}
 use Rattle.wrapped_gradient.specs.Corrections.{correction_at}
 use Rattle.wrapped_gradient.specs.Windows.{IsEdgeOf}

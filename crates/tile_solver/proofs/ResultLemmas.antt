@@ -8,13 +8,13 @@ use Rattle.raster_model.specs.declared.tiling.Window.{Window}
 use Rattle.raster_model.specs.Sums.{Field}
 use Rattle.raster_model.specs.Scene.{raster_of}
 use Rattle.raster_model.specs.Tiles.{IsWindowOf, IsWithin, window_of, width_of, height_of}
+use Rattle.raster_model.proofs.TileLemmas.{scene_window}
 use Rattle.certificates.specs.declared.results.TileResult.{TileResult}
 use Rattle.certificates.specs.Results.{IsGoodTile, IsInRange, pixels_in}
 use Rattle.wrapped_gradient.specs.declared.corrections.Corrections.{Corrections}
 use Rattle.wrapped_gradient.specs.Corrections.{greatest_of}
 use Rattle.surface_integration.specs.Cycles.{AreSmall, DepartBy, StaySmall, cycles_at}
 use Rattle.network_solver.proofs.SurfaceLemmas.{certified_surface}
-use Rattle.whole_raster.proofs.Windows.{scene_window}
 use Rattle.dual_grid.specs.Nodes.{cells_of}
 use Rattle.dual_grid.specs.Answers.{AreCertifiedCorrections}
 

@@ -16,7 +16,7 @@ use Rattle.raster_model.specs.Tiles.{IsWindowOf}
 use Rattle.raster_model.proofs.SumLemmas.{sum_edges-same, sum_edges-zeros}
 use Rattle.raster_model.proofs.Steps.{no_steps}
 use Rattle.raster_model.proofs.TileCells.{cell_count-is}
-use Rattle.raster_model.proofs.TileLemmas.{window_of-pixels}
+use Rattle.raster_model.proofs.TileLemmas.{scene_window, window_of-pixels}
 use Rattle.wrapped_gradient.specs.declared.corrections.Corrections.{Corrections}
 use Rattle.wrapped_gradient.specs.Corrections.{HasShapeOf, correction_at}
 use Rattle.wrapped_gradient.specs.GradientsView.{GradientsView}
@@ -117,7 +117,7 @@ module _ (s : Scene) (t : ℕ) (mask : Field Bool) (g : GradientsView) (without 
     shape = zeros.shape;
     cancel = zeros_cancel s g k without.differences without.none zeros.corrections;
     small = omega (arith, zeros_greatest k zeros.corrections);
-    count = zeros.count ∙ sym (cell_count-is s t g.window window);
+    count = zeros.count ∙ sym (cell_count-is (raster_of s) t g.window (scene_window s t g.window window));
     fits = λ e i. faces_fit e;
     equal = none (face_total (raster_of s) t (face_at (raster_of s) t faces)) (face_over_total (raster_of s) mask t (face_at (raster_of s) t faces)) (correction_cost (raster_of s) mask t g.window k) no_total nothing_over no_cost;
   }

@@ -7,12 +7,11 @@ use Rattle.std.proofs.lemmas.Nat.{div-mul-add, mod-mul-add}
 use Rattle.raster_model.specs.declared.scene.Scene.{Scene}
 use Rattle.raster_model.specs.Scene.{raster_of}
 use Rattle.raster_model.specs.Sums.{Field}
-use Rattle.raster_model.specs.Tiles.{IsWindowIn, height_of, width_of}
+use Rattle.raster_model.specs.Tiles.{IsWindowIn, height_of, width_of, IsTileWindow}
 use Rattle.wrapped_gradient.proofs.Places.{place_within}
 use Rattle.dual_grid.specs.Nodes.{cells_of}
 use Rattle.dual_grid.specs.Starts.{TellsMask}
 use Rattle.dual_grid.proofs.EdgeLemmas.{few_cells}
-use Rattle.whole_raster.specs.Tilings.{IsTileWindow}
 use Rattle.whole_raster.specs.Whole.{whole_of}
 use Rattle.whole_solver.specs.Solved.{raster_window}
 use Rattle.sums_and_lists.proofs.Orders.{below_or_last}

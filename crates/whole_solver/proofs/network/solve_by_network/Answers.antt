@@ -2,14 +2,13 @@ use Rattle.std.proofs.Common.{◌≡◌, ◌*◌, ◌≤◌, ◌∙◌, ap, arit
 use Rattle.raster_model.specs.declared.tiling.Window.{Window}
 use Rattle.raster_model.specs.Masks.{open_at}
 use Rattle.raster_model.specs.Scene.{raster_of}
-use Rattle.raster_model.specs.Tiles.{height_of, width_of}
+use Rattle.raster_model.specs.Tiles.{height_of, width_of, IsTileWindow}
 use Rattle.raster_model.proofs.Exact.{lifted_is_congruent}
 use Rattle.surface_integration.specs.Cycles.{DepartBy, LieWithin, cycles_at}
 use Rattle.dual_grid.specs.Answers.{AreCertifiedCorrections}
 use Rattle.dual_grid.specs.Nodes.{cells_of}
 use Rattle.dual_grid.specs.Starts.{TellsMask}
 use Rattle.network_solver.proofs.SurfaceLemmas.{certified_surface}
-use Rattle.whole_raster.specs.Tilings.{IsTileWindow}
 use Rattle.whole_raster.specs.Whole.{whole_of}
 use Rattle.whole_solver.specs.Solved.{raster_window}
 use Rattle.whole_solver.proofs.WholeLemmas.{few_cells_whole, pixels_are, whole_tile}

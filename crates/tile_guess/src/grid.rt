@@ -1,5 +1,4 @@
-use crate::forest::Forest;
-use crate::growing::grow;
+use crate::loading::Tile;
 use std::alloc::{AllocError, Global};
 
 /// The cells of a tile and the edges between them. A right edge lies between the cell above it and the cell below, and
@@ -28,19 +27,20 @@ pub struct Guess {
 }
 
 /// Guesses corrections that cancel the residues at the least cost, and the faces that certify them. Nothing is promised
-/// of them. If the grid's lists have their lengths and its residues lie from -1 to 1, they are right in every test, and take two to ten steps for each cell. It never takes more than 4096 steps for each node. It fails
-/// only for lack of memory.
+/// of them. If the grid's lists have their lengths, its weights lie from 0 to 65,535 and its residues from -1 to 1, they are right
+/// in every test, and take a few steps for each cell. It never takes more than 4,096 steps for each place of the outside
+/// before a row or above and each cell. It fails only for lack of memory.
 ///
 /// The flow leaves cells of positive residue and ends at those of negative residue or outside. Trees grow from all
-/// cells that hold flow, at one common time, along arcs as their reduced costs fall to 0. When a tree meets a node that
-/// lacks flow, a unit flows along its branch, and the tree is dissolved. (Ahuja, Magnanti and Orlin 1993, section 9.8,
-/// in the form of Hopcroft and Karp's forests.)
+/// cells that hold flow, at one common time, along arcs as their reduced costs fall to 0. When a tree meets a cell that
+/// lacks flow, flow takes its branch. (Ahuja, Magnanti and Orlin 1993, section 9.8, in the form of Hopcroft and Karp's
+/// forests.)
 pub fn guess_flow(alloc: Global, grid: Grid<'_>) -> Result<Guess, AllocError> {
-    let mut forest = Forest::of(alloc, grid)?;
-    grow(&mut forest);
+    let mut tile = Tile::of(alloc, grid)?;
+    tile.solve(alloc, grid)?;
     Ok(Guess {
-        right: forest.right_corrections(alloc)?,
-        down: forest.down_corrections(alloc)?,
-        faces: forest.faces(alloc)?,
+        right: tile.right_corrections(alloc)?,
+        down: tile.down_corrections(alloc)?,
+        faces: tile.faces(alloc)?,
     })
 }

@@ -2,11 +2,8 @@
 #![tactic(auto)]
 
 mod answers;
-mod forest;
 mod grid;
-mod growing;
-mod node;
-mod outside;
-mod waiting;
+mod loading;
+mod solving;
 
 pub use crate::grid::{Grid, Guess, guess_flow};

@@ -1,5 +1,5 @@
-use crate::cell::{Cell, FREE, LAKE, OUTSIDE, SEA};
-use crate::waters::{Ground, Waters};
+use crate::waters::{Ground, LAKE, SEA, Waters};
+use cell_forest::{Cell, FREE, OUTSIDE};
 use raster_model::{Mask, Scene, Terms, wrapped_ramp};
 use std::alloc::{AllocError, Global};
 use std::mem;
@@ -10,16 +10,18 @@ struct Pixel {
     phase: u16,
     /// The wrapped difference from the pixel on the left.
     rise: i32,
-    open: bool,
-    ground: Ground,
+    /// All ones if it is open, and otherwise 0.
+    opened: u16,
+    /// What is held in place of a step by the cells around it.
+    step: u8,
 }
 
 /// A masked pixel, in place of one that is not there.
 const NOWHERE: Pixel = Pixel {
     phase: 0,
     rise: 0,
-    open: false,
-    ground: Ground::Land,
+    opened: 0,
+    step: FREE,
 };
 
 /// The pixels at the right corners of a cell, and the wrapped difference from the upper one to the lower one. At its left
@@ -29,6 +31,8 @@ struct Side {
     upper: Pixel,
     lower: Pixel,
     rise: i32,
+    /// What cells hold in place of a step, by these pixels.
+    step: u8,
 }
 
 /// A block, and two rows of pixels with which it is made.
@@ -95,8 +99,11 @@ impl Block {
                 number_at(from_above, x),
                 number_at(from_left, x.wrapping_sub(1)),
             ];
-            let inner = x > 0 && y > 0;
-            let mut cell = cell_of(left, right, weights, inner);
+            let mut cell = cell_of(left, right, weights);
+            if x == 0 || y == 0 {
+                cell.excess = 0;
+                cell.step = OUTSIDE;
+            }
             if cell.step == FREE && (outside || column == 1) {
                 cell.step = OUTSIDE;
             }
@@ -115,6 +122,7 @@ impl Block {
         Side {
             upper,
             lower,
+            step: upper.step.max(lower.step),
             rise: wrapped_ramp(upper.phase, lower.phase, terms.slope(true)),
         }
     }
@@ -152,8 +160,12 @@ fn load(
         pixels.push(Pixel {
             phase,
             rise: wrapped_ramp(left, phase, slope),
-            open: x < mask.width() && y < mask.height() && mask.is_open(x, y),
-            ground: waters.ground(x, y),
+            opened: if x < mask.width() && y < mask.height() && mask.is_open(x, y) {
+                u16::MAX
+            } else {
+                0
+            },
+            step: step_by(waters.ground(x, y)),
         })?;
         left = phase;
         x = x.wrapping_add(1);
@@ -174,49 +186,34 @@ fn number_at(list: &[u16], place: u32) -> u16 {
 }
 
 /// The cell between two sides. `weights` are those of the edges at its lower right corner, from above and from the left,
-/// before the mask. It has no residue if it is no inner cell of the raster.
+/// before the mask.
 #[inline(always)]
-fn cell_of(left: Side, right: Side, weights: [u16; 2], inner: bool) -> Cell {
+fn cell_of(left: Side, right: Side, weights: [u16; 2]) -> Cell {
     let [right_weight, down_weight] = weights;
-    let residue = right
-        .upper
+    let (upper, lower) = (right.upper, right.lower);
+    let round = upper
         .rise
         .wrapping_add(right.rise)
-        .wrapping_sub(right.lower.rise)
-        .wrapping_sub(left.rise)
-        / 65536;
+        .wrapping_sub(lower.rise)
+        .wrapping_sub(left.rise);
     Cell {
         height: 0,
-        excess: if inner { residue } else { 0 },
+        excess: round / 65536,
         flows: [0; 2],
         weights: [
-            open_weight(right.upper, right.lower, right_weight),
-            open_weight(left.lower, right.lower, down_weight),
+            right_weight & upper.opened & lower.opened,
+            down_weight & left.lower.opened & lower.opened,
         ],
-        step: if inner {
-            step_of([left.upper, left.lower, right.upper, right.lower])
-        } else {
-            FREE
-        },
+        step: left.step.max(right.step),
     }
 }
 
-/// The weight of an edge between two pixels: 0 if one is masked.
+/// What the cells around a pixel hold in place of a step.
 #[inline(always)]
-fn open_weight(from: Pixel, to: Pixel, weight: u16) -> u16 {
-    if from.open && to.open { weight } else { 0 }
-}
-
-/// What is held in place of a step of an inner cell with these corners.
-#[inline(always)]
-fn step_of(corners: [Pixel; 4]) -> u8 {
-    let mut step = FREE;
-    for corner in corners {
-        match corner.ground {
-            Ground::Sea => step = SEA,
-            Ground::Lake => step = LAKE,
-            Ground::Land | Ground::Pond => {}
-        }
+fn step_by(ground: Ground) -> u8 {
+    match ground {
+        Ground::Land | Ground::Pond => FREE,
+        Ground::Sea => SEA,
+        Ground::Lake => LAKE,
     }
-    step
 }

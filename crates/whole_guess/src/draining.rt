@@ -1,9 +1,7 @@
-use crate::cell::{
-    Cell, DOWN, FREE, LAKE, LEFT, OUTSIDE, RIGHT, ROOT, SEA, UP, cell_at, crossing_of, push,
+use crate::waters::{LAKE, SEA, Waters};
+use cell_forest::{
+    Cell, DOWN, FREE, Forest, LEFT, OUTSIDE, RIGHT, ROOT, Stop, UP, cell_at, crossing_of, push,
 };
-use crate::forest::Forest;
-use crate::stop::Stop;
-use crate::waters::Waters;
 use raster_model::Scene;
 use std::alloc::{AllocError, Global};
 
@@ -16,25 +14,41 @@ pub(crate) fn drain(
     cells: &mut [Cell],
 ) -> Result<(), Stop> {
     let greatest = u32::from(scene.weights.maxval);
-    let mut forest = Forest::new(alloc, scene.terms.steep, greatest)?;
-    forest.set_stride(scene.phase.width);
+    let width = scene.phase.width;
+    let mut forest = Forest::new(alloc, scene.terms.steep, greatest, cells.len())?;
+    forest.set_stride(width);
+    let mut drainage = Drainage {
+        forest,
+        width,
+        members: Vec::new(alloc),
+    };
     if waters.has_lakes {
-        forest.fill_lakes(cells)?;
-        forest.balance(cells)?;
+        drainage.fill_lakes(cells)?;
+        drainage.forest.balance(cells)?;
     }
     if waters.has_sea {
-        forest.members.clear();
-        forest.find_mouths(cells, scene.phase.height)?;
-        forest.follow_waters(cells, SEA)?;
-        forest.pour_all(cells, OUTSIDE);
+        drainage.members.clear();
+        drainage.find_mouths(cells, scene.phase.height)?;
+        drainage.follow_waters(cells, SEA)?;
+        drainage.pour_all(cells, OUTSIDE);
     }
     Ok(())
 }
 
-impl Forest {
+/// The lakes and the sea, while what they have to send flows through them.
+#[derive(Drop)]
+struct Drainage {
+    forest: Forest,
+    /// How many cells a row has.
+    width: u32,
+    /// Cells through which it flows, each after the one to which it flows.
+    members: Vec<u32>,
+}
+
+impl Drainage {
     /// Takes all lakes from the outside, and lists the cells in which what they have to send is gathered.
     fn fill_lakes(&mut self, cells: &mut [Cell]) -> Result<(), AllocError> {
-        self.listed.clear();
+        self.forest.listed.clear();
         let mut place: u32 = 0;
         for _ in 0..cells.len() {
             if cell_at(cells, place).step == LAKE {
@@ -54,25 +68,21 @@ impl Forest {
         }
         self.follow_waters(cells, LAKE)?;
         self.pour_all(cells, FREE);
-        self.listed.push(root)?;
+        self.forest.listed.push(root)?;
         Ok(())
     }
 
     /// Lists the cells of the sea at the border from which flow goes outside.
     fn find_mouths(&mut self, cells: &mut [Cell], height: u32) -> Result<(), AllocError> {
-        let last = height.wrapping_sub(1).wrapping_mul(self.stride);
-        for x in 1..self.stride {
-            self.open_mouth(cells, self.stride.wrapping_add(x), UP)?;
+        let last = height.wrapping_sub(1).wrapping_mul(self.width);
+        for x in 1..self.width {
+            self.open_mouth(cells, self.width.wrapping_add(x), UP)?;
             self.open_mouth(cells, last.wrapping_add(x), DOWN)?;
         }
         for y in 1..height {
-            let first = y.wrapping_mul(self.stride);
+            let first = y.wrapping_mul(self.width);
             self.open_mouth(cells, first.wrapping_add(1), LEFT)?;
-            self.open_mouth(
-                cells,
-                first.wrapping_add(self.stride).wrapping_sub(1),
-                RIGHT,
-            )?;
+            self.open_mouth(cells, first.wrapping_add(self.width).wrapping_sub(1), RIGHT)?;
         }
         Ok(())
     }
@@ -84,7 +94,7 @@ impl Forest {
         place: u32,
         direction: u8,
     ) -> Result<(), AllocError> {
-        let outside = cell_at(cells, self.head(place, direction));
+        let outside = *cell_at(cells, self.forest.head(place, direction));
         let Some(cell) = cells.get_mut(place as usize) else {
             return Ok(());
         };
@@ -117,8 +127,8 @@ impl Forest {
         direction: u8,
         kind: u8,
     ) -> Result<(), AllocError> {
-        let tail = cell_at(cells, place);
-        let next = self.head(place, direction);
+        let tail = *cell_at(cells, place);
+        let next = self.forest.head(place, direction);
         let Some(head) = cells.get_mut(next as usize) else {
             return Ok(());
         };
@@ -141,7 +151,7 @@ impl Forest {
 
     /// Lets what a cell has to send flow on by its step, unless it is a root.
     fn pour(&self, cells: &mut [Cell], place: u32, after: u8) {
-        let gained = self.gain(cells, place);
+        let gained = self.forest.gain(cells, place);
         let Some(cell) = cells.get_mut(place as usize) else {
             return;
         };
@@ -150,7 +160,7 @@ impl Forest {
         cell.step = after;
         cell.excess = if step == ROOT { amount } else { 0 };
         if step < ROOT {
-            push::<1>(cells, place, self.head(place, step), step, amount);
+            push::<1>(cells, place, self.forest.head(place, step), step, amount);
         }
     }
 }

@@ -1,9 +1,8 @@
-use crate::cell::BEYOND;
 use crate::draining::drain;
 use crate::integrating::{cycles, faces};
 use crate::levels::solve_levels;
-use crate::stop::Stop;
 use crate::waters::Waters;
+use cell_forest::{BEYOND, Stop};
 use raster_model::{Mask, Scene};
 use std::alloc::{AllocError, Global};
 use std::thread::Threads;

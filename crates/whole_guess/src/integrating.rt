@@ -1,4 +1,4 @@
-use crate::cell::{Cell, cell_at};
+use cell_forest::{Cell, cell_at};
 use raster_model::{Mask, Scene, first_open, turns_ramp};
 use std::alloc::{AllocError, Global};
 use std::thread;

@@ -3,15 +3,10 @@
 #![tactic(auto)]
 
 mod building;
-mod cell;
 mod draining;
-mod forest;
-mod growing;
 mod guess;
 mod integrating;
 mod levels;
-mod queue;
-mod stop;
 mod waters;
 
 pub use crate::guess::{Guess, guess_whole};

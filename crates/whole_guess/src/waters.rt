@@ -1,8 +1,15 @@
+use cell_forest::OUTSIDE;
 use raster_model::Mask;
 use std::alloc::{AllocError, Global};
 
+/// In place of a direction: the cell belongs to the sea, and is a part of the outside for good.
+pub(crate) const SEA: u8 = OUTSIDE + 1;
+
+/// In place of a direction: the cell belongs to a lake, and is a part of the outside until the whole is one block.
+pub(crate) const LAKE: u8 = OUTSIDE + 2;
+
 /// How many pixels a lake has at least.
-const LAKE: usize = 256;
+const LEAST: usize = 256;
 
 /// What a pixel is.
 #[derive(Clone, Copy, PartialEq, Eq)]
@@ -95,7 +102,7 @@ impl Waters {
         if at_border {
             self.has_sea = true;
             self.name_joined(Ground::Sea);
-        } else if self.joined.len() >= LAKE {
+        } else if self.joined.len() >= LEAST {
             self.has_lakes = true;
             self.name_joined(Ground::Lake);
         }

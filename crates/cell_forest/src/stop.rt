@@ -2,7 +2,7 @@ use std::alloc::AllocError;
 
 /// Why there is no guess.
 #[derive(Clone, Copy)]
-pub(crate) enum Stop {
+pub enum Stop {
     /// Memory ran out.
     Memory,
     /// A number did not fit, or the steps ran out.

@@ -12,12 +12,20 @@ struct Way {
 }
 
 impl Forest {
+    /// Balances the listed cells: first what is to be sent, then what is lacking. It gives up if a number does not fit or
+    /// the steps run out.
+    pub fn balance(&mut self, cells: &mut [Cell]) -> Result<(), Stop> {
+        self.grow::<1>(cells)?;
+        self.grow::<-1>(cells)
+    }
+
     /// Sends what the listed cells have to send, times `SIGN`, to those that lack it and outside.
-    pub(crate) fn grow<const SIGN: i32>(&mut self, cells: &mut [Cell]) -> Result<(), Stop> {
+    fn grow<const SIGN: i32>(&mut self, cells: &mut [Cell]) -> Result<(), Stop> {
         self.queue.clear();
         let mut left = self.plant::<SIGN>(cells)?;
-        for _ in 0..u64::MAX {
+        for taken in 0..self.steps {
             if left == 0 {
+                self.steps = self.steps.wrapping_sub(taken);
                 return Ok(());
             }
             let Some(event) = self.queue.take()? else {
@@ -53,10 +61,10 @@ impl Forest {
         let next = self.head(place, direction);
         let head = cell_at(cells, next);
         let tail = cell_at(cells, place);
-        if head.is_in_tree() || !tail.is_in_tree() {
-            return Ok(false);
-        }
-        if self.due::<SIGN>(&tail, &head, direction) != event.time {
+        // One branch for all three, since none can be predicted.
+        let late = self.due::<SIGN>(tail, head, direction) ^ event.time;
+        let astray = u32::from(head.is_in_tree()) | u32::from(!tail.is_in_tree());
+        if late.cast_unsigned() | astray != 0 {
             return Ok(false);
         }
         if head.step == FREE && head.excess.wrapping_mul(SIGN) >= 0 {
@@ -96,7 +104,7 @@ impl Forest {
         if let Some(top) = self.filled::<SIGN>(cells, way.tail) {
             self.dissolve::<SIGN>(cells, top, time)?;
         }
-        let tail = cell_at(cells, way.tail);
+        let tail = *cell_at(cells, way.tail);
         if tail.is_in_tree() {
             self.offer::<SIGN>(cells, &tail, way.tail, way.direction)?;
         }
@@ -112,7 +120,7 @@ impl Forest {
         } else {
             i32::MAX
         };
-        most = most.min(self.room::<SIGN>(&tail, &head, way.direction));
+        most = most.min(self.room::<SIGN>(tail, head, way.direction));
         let mut place = way.tail;
         for _ in 0..cells.len() {
             if tail.step >= ROOT {
@@ -120,7 +128,7 @@ impl Forest {
             }
             let parent = self.head(place, tail.step);
             let above = cell_at(cells, parent);
-            most = most.min(self.room::<SIGN>(&above, &tail, tail.step ^ 1));
+            most = most.min(self.room::<SIGN>(above, tail, tail.step ^ 1));
             place = parent;
             tail = above;
         }
@@ -158,7 +166,7 @@ impl Forest {
             }
             let parent = self.head(place, cell.step);
             let above = cell_at(cells, parent);
-            if self.due::<SIGN>(&above, &cell, cell.step ^ 1) != 0 {
+            if self.due::<SIGN>(above, cell, cell.step ^ 1) != 0 {
                 found = Some(place);
             }
             place = parent;

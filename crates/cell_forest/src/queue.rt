@@ -19,6 +19,9 @@ pub(crate) struct Event {
     pub(crate) arc: u32,
 }
 
+/// An event that says nothing.
+const BLANK: Event = Event { time: 0, arc: NONE };
+
 /// Where the events of a slot are: the place of the first, and the place after the last.
 #[derive(Clone, Copy)]
 struct Slot {
@@ -104,6 +107,15 @@ impl Queue {
     /// Puts an event at a time that is not past.
     #[inline(always)]
     pub(crate) fn put(&mut self, time: i32, arc: u32) -> Result<(), AllocError> {
+        self.put_if(true, time, arc)
+    }
+
+    /// Puts an event at a time that is not past, if a condition holds. Which way it goes is not predictable, so no branch depends
+    /// on it: the event is written behind those of the present time otherwise, and not counted.
+    #[inline(always)]
+    pub(crate) fn put_if(&mut self, holds: bool, time: i32, arc: u32) -> Result<(), AllocError> {
+        let present = self.start.wrapping_add(self.slot.cast_signed());
+        let time = if holds { time } else { present };
         let ahead = time.wrapping_sub(self.start).cast_unsigned();
         let number = if ahead < NEAR {
             ahead
@@ -114,14 +126,14 @@ impl Queue {
             Some(slot) => slot.end,
             None => return Ok(()),
         };
-        if end % CHUNK == CHUNK - 1 {
+        if end % CHUNK + u32::from(holds) == CHUNK {
             end = self.lengthen(number)?;
         }
         if let Some(event) = self.events.get_mut(end as usize) {
             *event = Event { time, arc };
         }
         if let Some(slot) = self.slots.get_mut(number as usize) {
-            slot.end = end.wrapping_add(1);
+            slot.end = end.wrapping_add(u32::from(holds));
         }
         Ok(())
     }
@@ -129,64 +141,47 @@ impl Queue {
     /// Takes the first event.
     #[inline(always)]
     pub(crate) fn take(&mut self) -> Result<Option<Event>, AllocError> {
-        let slot = match self.slots.get(self.slot as usize) {
-            Some(slot) if slot.first != NONE => *slot,
-            _ => match self.advance()? {
-                Some(slot) => slot,
-                None => return Ok(None),
-            },
-        };
-        Ok(Some(self.take_from(self.slot, slot)))
+        if self.next_is_none(self.slot) && !self.advance()? {
+            return Ok(None);
+        }
+        Ok(Some(self.take_from(self.slot)))
+    }
+
+    /// Whether no event is left in a slot.
+    #[inline(always)]
+    fn next_is_none(&self, number: u32) -> bool {
+        match self.slots.get(number as usize) {
+            Some(slot) => slot.first == slot.end,
+            None => true,
+        }
     }
 
     /// Takes the first event of a slot that has one.
     #[inline(always)]
-    fn take_from(&mut self, number: u32, slot: Slot) -> Event {
-        let event = self.event_at(slot.first);
-        let next = slot.first.wrapping_add(1);
-        if next == slot.end {
-            self.empty(number, slot.first);
-        } else if next % CHUNK == CHUNK - 1 {
-            let chunk = self.event_at(next).arc;
-            self.release(slot.first);
-            self.set_first(number, chunk);
-        } else {
-            self.set_first(number, next);
+    fn take_from(&mut self, number: u32) -> Event {
+        let Some(slot) = self.slots.get_mut(number as usize) else {
+            return BLANK;
+        };
+        let mut first = slot.first;
+        if first % CHUNK == CHUNK - 1 {
+            first = go_on(&mut self.events, &mut self.free, first);
         }
-        event
+        slot.first = first.wrapping_add(1);
+        self.events.get(first as usize).copied().unwrap_or(BLANK)
     }
 
-    #[inline(always)]
-    fn event_at(&self, place: u32) -> Event {
-        let none = Event { time: 0, arc: NONE };
-        self.events.get(place as usize).copied().unwrap_or(none)
-    }
-
-    #[inline(always)]
-    fn set_first(&mut self, number: u32, first: u32) {
-        if let Some(slot) = self.slots.get_mut(number as usize) {
-            slot.first = first;
+    /// Marks that a slot has no event, and frees its last chunk.
+    fn empty(&mut self, number: u32) {
+        let Some(slot) = self.slots.get_mut(number as usize) else {
+            return;
+        };
+        if slot.first == NONE {
+            return;
         }
-    }
-
-    /// Marks that a slot has no event, and frees its last chunk, in which `place` lies.
-    fn empty(&mut self, number: u32, place: u32) {
-        self.release(place);
-        if let Some(slot) = self.slots.get_mut(number as usize) {
-            *slot = EMPTY;
-        }
+        release(&mut self.events, &mut self.free, slot.first);
+        *slot = EMPTY;
         if let Some(word) = self.marks.get_mut(number as usize / 64) {
             *word &= !1u64.wrapping_shl(number);
-        }
-    }
-
-    /// Frees the chunk in which a place lies.
-    fn release(&mut self, place: u32) {
-        let chunk = place - place % CHUNK;
-        let free = self.free;
-        if let Some(event) = self.events.get_mut(chunk as usize) {
-            event.arc = free;
-            self.free = chunk;
         }
     }
 
@@ -210,7 +205,7 @@ impl Queue {
     fn take_chunk(&mut self) -> Result<u32, AllocError> {
         let chunk = self.free;
         if chunk != NONE {
-            self.free = self.event_at(chunk).arc;
+            self.free = link_at(&self.events, chunk);
             return Ok(chunk);
         }
         let chunk = self.unused;
@@ -219,24 +214,25 @@ impl Queue {
         }
         self.unused = chunk.wrapping_add(CHUNK);
         if chunk as usize >= self.events.len() {
-            let blank = Event { time: 0, arc: NONE };
-            self.events.extend_from_slice(&[blank; CHUNK as usize])?;
+            self.events.extend_from_slice(&[BLANK; CHUNK as usize])?;
         }
         Ok(chunk)
     }
 
-    /// Goes on to the next slot that has an event.
-    fn advance(&mut self) -> Result<Option<Slot>, AllocError> {
-        for _ in 0..2 {
+    /// Goes on to the next slot that has an event. The result is whether there is one.
+    fn advance(&mut self) -> Result<bool, AllocError> {
+        for _ in 0..u64::MAX {
+            self.empty(self.slot);
             if let Some(found) = self.marked(self.slot, NEAR) {
                 self.slot = found;
-                return Ok(self.slots.get(found as usize).copied());
+            } else if !self.open_block()? {
+                return Ok(false);
             }
-            if !self.open_block()? {
-                return Ok(None);
+            if !self.next_is_none(self.slot) {
+                return Ok(true);
             }
         }
-        Ok(None)
+        Ok(false)
     }
 
     /// The slot of a later block.
@@ -276,16 +272,38 @@ impl Queue {
             .wrapping_add(blocks.wrapping_mul(NEAR).cast_signed());
         self.slot = 0;
         for _ in 0..self.events.len() {
-            let Some(slot) = self.slots.get(found as usize).copied() else {
-                break;
-            };
-            if slot.first == NONE {
+            if self.next_is_none(found) {
                 break;
             }
-            let event = self.take_from(found, slot);
+            let event = self.take_from(found);
             self.put(event.time, event.arc)?;
         }
+        self.empty(found);
         Ok(true)
+    }
+}
+
+/// The chunk that comes after the one at whose last place `place` is, which is freed.
+fn go_on(events: &mut [Event], free: &mut u32, place: u32) -> u32 {
+    let chunk = link_at(events, place);
+    release(events, free, place);
+    chunk
+}
+
+/// Frees the chunk in which a place lies.
+fn release(events: &mut [Event], free: &mut u32, place: u32) {
+    let chunk = place - place % CHUNK;
+    if let Some(event) = events.get_mut(chunk as usize) {
+        event.arc = *free;
+        *free = chunk;
+    }
+}
+
+/// The chunk that a place names.
+fn link_at(events: &[Event], place: u32) -> u32 {
+    match events.get(place as usize) {
+        Some(event) => event.arc,
+        None => NONE,
     }
 }
 

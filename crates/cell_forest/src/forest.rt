@@ -6,10 +6,13 @@ use std::alloc::{AllocError, Global};
 /// No potential and no time may pass this.
 const LIMIT: u32 = 1 << 30;
 
+/// How many arcs are followed at most for each cell.
+const STEPS: u64 = 4096;
+
 /// How trees grow in a list of cells: rows of `stride` cells, of which the first row and the first cell of each row are
 /// outside, as is what lies beyond the list.
 #[derive(Drop)]
-pub(crate) struct Forest {
+pub struct Forest {
     /// How many cells a row has.
     pub(crate) stride: u32,
     /// For each direction, how far a cell's number is from that of the cell to which its arc leads.
@@ -19,14 +22,23 @@ pub(crate) struct Forest {
     /// The arcs that may join cells to trees.
     pub(crate) queue: Queue,
     /// Cells of a tree that is taken apart.
-    pub(crate) members: Vec<u32>,
-    /// Cells with something to send or to be sent.
-    pub(crate) listed: Vec<u32>,
+    members: Vec<u32>,
+    /// The cells with something to send or to be sent, which `balance` serves.
+    pub listed: Vec<u32>,
+    /// How many arcs may be followed yet.
+    pub(crate) steps: u64,
 }
 
 impl Forest {
-    /// A forest with no tree. No edge has a weight above `greatest`.
-    pub(crate) fn new(alloc: Global, steep: u32, greatest: u32) -> Result<Forest, AllocError> {
+    /// A forest with no tree. The first unit across an edge costs its weight, which is at most `greatest`, and each further
+    /// one `steep` times that, which is from 1 to 16. In all it follows at most 4,096 arcs for each of `count` cells. It fails only
+    /// for lack of memory.
+    pub fn new(
+        alloc: Global,
+        steep: u32,
+        greatest: u32,
+        count: usize,
+    ) -> Result<Forest, AllocError> {
         Ok(Forest {
             stride: 1,
             offsets: [0; 4],
@@ -34,18 +46,19 @@ impl Forest {
             queue: Queue::new(alloc, steep.wrapping_mul(greatest).wrapping_mul(2))?,
             members: Vec::new(alloc),
             listed: Vec::new(alloc),
+            steps: (count as u64).wrapping_mul(STEPS),
         })
     }
 
     /// Sets how many cells a row has.
-    pub(crate) fn set_stride(&mut self, stride: u32) {
+    pub fn set_stride(&mut self, stride: u32) {
         self.stride = stride;
         self.offsets = [1, u32::MAX, stride, stride.wrapping_neg()];
     }
 
     /// The cell to which an arc leads.
     #[inline(always)]
-    pub(crate) fn head(&self, tail: u32, direction: u8) -> u32 {
+    pub fn head(&self, tail: u32, direction: u8) -> u32 {
         tail.wrapping_add(self.offsets.get(direction as usize).copied().unwrap_or(0))
     }
 
@@ -93,11 +106,9 @@ impl Forest {
         direction: u8,
     ) -> Result<(), AllocError> {
         let head = cell_at(cells, self.head(place, direction));
-        if head.is_in_tree() {
-            return Ok(());
-        }
-        let time = self.due::<SIGN>(tail, &head, direction);
-        self.queue.put(time, arc_of(place, direction))
+        let time = self.due::<SIGN>(tail, head, direction);
+        self.queue
+            .put_if(!head.is_in_tree(), time, arc_of(place, direction))
     }
 
     /// Takes a cell and all that hangs below it out of its tree, and queues the arcs from trees into what left.
@@ -107,46 +118,69 @@ impl Forest {
         top: u32,
         time: i32,
     ) -> Result<(), AllocError> {
-        self.members.clear();
-        self.members.push(top)?;
+        self.make_room(0)?;
+        self.list(0, top);
+        let mut count: usize = 1;
         for index in 0..cells.len() {
-            let Some(place) = self.members.get(index).copied() else {
+            if index >= count {
                 break;
-            };
-            self.leave::<SIGN>(cells, place, time)?;
+            }
+            self.make_room(count)?;
+            let place = self.members.get(index).copied().unwrap_or(0);
+            count = self.leave::<SIGN>(cells, place, time, count);
         }
-        for index in 0..self.members.len() {
+        for index in 0..count {
             let place = self.members.get(index).copied().unwrap_or(0);
             self.invite::<SIGN>(cells, place)?;
         }
         Ok(())
     }
 
-    /// Takes a cell out of its tree, and lists those that hang on it.
+    /// Makes the list of members long enough for four more than `count`.
+    #[inline(always)]
+    fn make_room(&mut self, count: usize) -> Result<(), AllocError> {
+        if self.members.len() < count.wrapping_add(4) {
+            self.members.extend_from_slice(&[0; 64])?;
+        }
+        Ok(())
+    }
+
+    /// Writes a member at a place of the list.
+    #[inline(always)]
+    fn list(&mut self, index: usize, place: u32) {
+        if let Some(member) = self.members.get_mut(index) {
+            *member = place;
+        }
+    }
+
+    /// Takes a cell out of its tree, and lists those that hang on it behind the `count` members. The result is how many members
+    /// there are then.
+    #[inline(always)]
     fn leave<const SIGN: i32>(
         &mut self,
         cells: &mut [Cell],
         place: u32,
         time: i32,
-    ) -> Result<(), AllocError> {
+        count: usize,
+    ) -> usize {
         if let Some(cell) = cells.get_mut(place as usize) {
             cell.height = cell.height.wrapping_sub(time.wrapping_mul(SIGN));
             cell.step = FREE;
         }
-        self.list_child(cells, place, RIGHT)?;
-        self.list_child(cells, place, LEFT)?;
-        self.list_child(cells, place, DOWN)?;
-        self.list_child(cells, place, UP)
+        let count = self.list_child(cells, place, RIGHT, count);
+        let count = self.list_child(cells, place, LEFT, count);
+        let count = self.list_child(cells, place, DOWN, count);
+        self.list_child(cells, place, UP, count)
     }
 
-    /// Lists the cell to which an arc leads, if it hangs on the arc's tail.
+    /// Lists the cell to which an arc leads, if it hangs on the arc's tail. It is written in any case, and counted if so, since that
+    /// cannot be predicted.
     #[inline(always)]
-    fn list_child(&mut self, cells: &[Cell], place: u32, direction: u8) -> Result<(), AllocError> {
+    fn list_child(&mut self, cells: &[Cell], place: u32, direction: u8, count: usize) -> usize {
         let child = self.head(place, direction);
-        if cell_at(cells, child).step == direction ^ 1 {
-            self.members.push(child)?;
-        }
-        Ok(())
+        self.list(count, child);
+        let hangs = cell_at(cells, child).step == direction ^ 1;
+        count.wrapping_add(usize::from(hangs))
     }
 
     /// Queues the arcs from trees into a cell that is in none.
@@ -155,7 +189,7 @@ impl Forest {
         cells: &[Cell],
         place: u32,
     ) -> Result<(), AllocError> {
-        let head = cell_at(cells, place);
+        let head = *cell_at(cells, place);
         self.accept::<SIGN>(cells, &head, place, RIGHT)?;
         self.accept::<SIGN>(cells, &head, place, LEFT)?;
         self.accept::<SIGN>(cells, &head, place, DOWN)?;
@@ -174,7 +208,7 @@ impl Forest {
         let from = self.head(place, direction);
         let tail = cell_at(cells, from);
         if tail.is_in_tree() {
-            let time = self.due::<SIGN>(&tail, head, direction ^ 1);
+            let time = self.due::<SIGN>(tail, head, direction ^ 1);
             self.queue.put(time, arc_of(from, direction ^ 1))?;
         }
         Ok(())

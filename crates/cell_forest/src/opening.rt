@@ -1,0 +1,73 @@
+use crate::cell::{Cell, FREE, LEFT, OUTSIDE, UP, cell_at};
+use crate::forest::Forest;
+use crate::stop::Stop;
+use std::alloc::AllocError;
+
+impl Forest {
+    /// Solves the block of the columns from `start` to before `end` of a list of rows, in which blocks of the side `solved`
+    /// are solved: its other cells but those of the first row and the first column are taken from the outside, and balanced.
+    pub fn solve_block(
+        &mut self,
+        cells: &mut [Cell],
+        start: u32,
+        end: u32,
+        solved: u32,
+    ) -> Result<(), Stop> {
+        self.listed.clear();
+        let rows = cells.len() / self.stride.max(1) as usize;
+        let mut first = self.stride;
+        for row in 1..rows {
+            let step = if row % solved.max(1) as usize == 0 {
+                1
+            } else {
+                solved.max(1)
+            };
+            self.open_row(cells, first, (start, end), step)?;
+            first = first.wrapping_add(self.stride);
+        }
+        self.balance(cells)
+    }
+
+    /// Takes every `step`th cell of a row of a block from the outside. `first` is the place of the row's first cell.
+    fn open_row(
+        &mut self,
+        cells: &mut [Cell],
+        first: u32,
+        (start, end): (u32, u32),
+        step: u32,
+    ) -> Result<(), AllocError> {
+        for column in (start.wrapping_add(step)..end).step_by(step.max(1) as usize) {
+            self.open_cell(cells, first.wrapping_add(column))?;
+        }
+        Ok(())
+    }
+
+    /// Takes a cell from the outside, and lists it if it has something to send or to be sent.
+    fn open_cell(&mut self, cells: &mut [Cell], place: u32) -> Result<(), AllocError> {
+        let gained = self.gain(cells, place);
+        let Some(cell) = cells.get_mut(place as usize) else {
+            return Ok(());
+        };
+        if cell.step != OUTSIDE {
+            return Ok(());
+        }
+        cell.step = FREE;
+        cell.excess = cell.excess.wrapping_add(gained);
+        if cell.excess != 0 {
+            self.listed.push(place)?;
+        }
+        Ok(())
+    }
+
+    /// What flows into a cell, less what flows out of it.
+    #[inline(always)]
+    pub fn gain(&self, cells: &[Cell], place: u32) -> i32 {
+        let [from_left, _] = cell_at(cells, self.head(place, LEFT)).flows;
+        let [_, from_above] = cell_at(cells, self.head(place, UP)).flows;
+        let [right, down] = cell_at(cells, place).flows;
+        from_left
+            .wrapping_sub(right)
+            .wrapping_add(from_above)
+            .wrapping_sub(down)
+    }
+}

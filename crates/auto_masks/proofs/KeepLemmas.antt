@@ -6,7 +6,7 @@ use Rattle.raster_model.specs.MaskView.{MaskView}
 use Rattle.raster_model.specs.Masks.{IsMaskOf, IsSetAt, all_open, open_at}
 use Rattle.raster_model.proofs.MaskLemmas.{same_place}
 use Rattle.sums_and_lists.proofs.Orders.{below_or_last}
-use Rattle.auto_masks.specs.Keeping.{AreKept, is_large}
+use Rattle.auto_masks.specs.Keeping.{AreScreenedSoFar, is_large}
 use Rattle.auto_masks.specs.PatchesView.{PatchesView}
 
 differ : (w x y a b : ℕ) → (b * w + a ≡ y * w + x → ⊥) → (a ≢ x) ⊎ (b ≢ y)
@@ -19,7 +19,7 @@ differ w x y a b h = elim (cases_eq a x) [
 ]
 
 -- at first all are open
-pub kept_begin : (v : PatchesView) (least : ℕ) (m : MaskView) → IsMaskOf m v.width v.height all_open → AreKept v least 0 m
+pub kept_begin : (v : PatchesView) (least : ℕ) (m : MaskView) → IsMaskOf m v.width v.height all_open → AreScreenedSoFar v least 0 m
 kept_begin v least m is = record {
   width = is.width;
   height = is.height;
@@ -27,8 +27,8 @@ kept_begin v least m is = record {
   rest = λ x y l h k. is.clear_at x y l h;
 }
 
-module _ (v : PatchesView) (least x y : ℕ) (m : MaskView) (across : x < v.width) (along : y < v.height) (is : AreKept v least (y * v.width + x) m) where
-  pub kept_open : is_large v least x y ≡ true → AreKept v least (y * v.width + x + 1) m
+module _ (v : PatchesView) (least x y : ℕ) (m : MaskView) (across : x < v.width) (along : y < v.height) (is : AreScreenedSoFar v least (y * v.width + x) m) where
+  pub kept_open : is_large v least x y ≡ true → AreScreenedSoFar v least (y * v.width + x + 1) m
   kept_open large = record {
     width = is.width;
     height = is.height;
@@ -42,7 +42,7 @@ module _ (v : PatchesView) (least x y : ℕ) (m : MaskView) (across : x < v.widt
     rest = λ a b l h k. is.rest a b l h (omega (arith, k));
   }
 
-  pub kept_masked : is_large v least x y ≡ false → (new : MaskView) → IsSetAt m new x y false → AreKept v least (y * v.width + x + 1) new
+  pub kept_masked : is_large v least x y ≡ false → (new : MaskView) → IsSetAt m new x y false → AreScreenedSoFar v least (y * v.width + x + 1) new
   kept_masked small new set = record {
     width = set.width ∙ is.width;
     height = set.height ∙ is.height;
@@ -56,7 +56,7 @@ module _ (v : PatchesView) (least x y : ℕ) (m : MaskView) (across : x < v.widt
   }
 
 -- after the last pixel
-pub kept_whole : (v : PatchesView) (least : ℕ) (m : MaskView) → AreKept v least (v.height * v.width) m → IsMaskOf m v.width v.height (is_large v least)
+pub kept_whole : (v : PatchesView) (least : ℕ) (m : MaskView) → AreScreenedSoFar v least (v.height * v.width) m → IsMaskOf m v.width v.height (is_large v least)
 kept_whole v least m is = record {
   width = is.width;
   height = is.height;

@@ -11,7 +11,7 @@ abbrev pub is_large : PatchesView → ℕ → Field Bool
 is_large v least x y = not (patch_label v x y == no_label) && nat_le least (patch_size v (patch_label v x y))
 
 -- the first k pixels in row order are open where their patches are large, and the others are open
-pub record AreKept (v : PatchesView) (least k : ℕ) (m : MaskView) : Type 0 where
+pub record AreScreenedSoFar (v : PatchesView) (least k : ℕ) (m : MaskView) : Type 0 where
   pub width : m.width ≡ v.width
   pub height : m.height ≡ v.height
   pub done : (x y : ℕ) → x < v.width → y < v.height → y * v.width + x < k → open_at m x y ≡ is_large v least x y

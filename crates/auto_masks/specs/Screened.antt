@@ -19,7 +19,7 @@ abbrev pub max_near : ℕ
 max_near = 16641
 
 -- the terms are within their ranges; a weight is within its own by its type
-pub record AreInRange (t : ScreenTerms) : Type 0 where
+pub record AreScreenTerms (t : ScreenTerms) : Type 0 where
   pub radius : t.radius ≤ max_radius
   pub count : t.count ≤ max_near
   pub patch : t.patch ≤ max_pixels
@@ -57,11 +57,11 @@ abbrev pub passing_keys : ScreenTerms → Plane → Field Bool → Field ℤ
 passing_keys t weights clear x y = if passes t weights clear x y then pos 1 else pos 0
 
 -- a pixel passes and its patch among the passing pixels has enough of them
-abbrev pub is_kept : ScreenTerms → Plane → Field Bool → PatchesView → Field Bool
-is_kept t weights clear v x y = passes t weights clear x y && nat_le t.patch (patch_size v (patch_label v x y))
+abbrev pub stays_open : ScreenTerms → Plane → Field Bool → PatchesView → Field Bool
+stays_open t weights clear v x y = passes t weights clear x y && nat_le t.patch (patch_size v (patch_label v x y))
 
 -- the mask m is what screening makes of a mask whose open pixels are clear
 pub record IsScreened (t : ScreenTerms) (weights : Plane) (clear : Field Bool) (m : MaskView) : Type 0 where
   pub patches : PatchesView
   pub of_passing : ArePatchesOf weights.width weights.height (passing_keys t weights clear) patches
-  pub kept : IsMaskOf m weights.width weights.height (is_kept t weights clear patches)
+  pub kept : IsMaskOf m weights.width weights.height (stays_open t weights clear patches)

@@ -1,4 +1,4 @@
-ghost use Rattle.auto_masks.specs.Keeping.{AreKept, is_large as is_large_patch};
+ghost use Rattle.auto_masks.specs.Keeping.{AreScreenedSoFar, is_large as is_large_patch};
 ghost use Rattle.raster_model.specs.Limits.{is_raster_size};
 ghost use Rattle.raster_model.specs.Masks.{IsMaskOf};
 ghost use Rattle.std.specs.Prelude.{◌≡◌, ◌+◌, ◌*◌, ◌<◌, IfOk, IsTrue};
@@ -29,8 +29,8 @@ pub fn keep_patches(
 fn keep_rows(kept: &mut Mask, patches: &Patches, extent: Extent, least: u32)
     requires across { patches.now.width ≡ extent.width }
     requires along { patches.now.height ≡ extent.height }
-    requires kept { AreKept patches.now least 0 kept.old }
-    ensures { AreKept patches.now least (patches.now.height * patches.now.width) kept.new }
+    requires kept { AreScreenedSoFar patches.now least 0 kept.old }
+    ensures { AreScreenedSoFar patches.now least (patches.now.height * patches.now.width) kept.new }
 {
     for y in 0..extent.height {
         keep_row(kept, patches, extent, least, y);
@@ -42,8 +42,8 @@ fn keep_row(kept: &mut Mask, patches: &Patches, extent: Extent, least: u32, y: u
     requires across { patches.now.width ≡ extent.width }
     requires along { patches.now.height ≡ extent.height }
     requires row { y < extent.height }
-    requires kept { AreKept patches.now least (y * patches.now.width) kept.old }
-    ensures { AreKept patches.now least ((y + 1) * patches.now.width) kept.new }
+    requires kept { AreScreenedSoFar patches.now least (y * patches.now.width) kept.old }
+    ensures { AreScreenedSoFar patches.now least ((y + 1) * patches.now.width) kept.new }
 {
     for x in 0..extent.width {
         keep_pixel(kept, patches, least, x, y);
@@ -53,8 +53,8 @@ fn keep_row(kept: &mut Mask, patches: &Patches, extent: Extent, least: u32, y: u
 /// Masks a pixel if it is in no such patch.
 fn keep_pixel(kept: &mut Mask, patches: &Patches, least: u32, x: u32, y: u32)
     requires pixel { (x < patches.now.width) × (y < patches.now.height) }
-    requires kept { AreKept patches.now least (y * patches.now.width + x) kept.old }
-    ensures { AreKept patches.now least (y * patches.now.width + x + 1) kept.new }
+    requires kept { AreScreenedSoFar patches.now least (y * patches.now.width + x) kept.old }
+    ensures { AreScreenedSoFar patches.now least (y * patches.now.width + x + 1) kept.new }
 {
     if !is_large(patches, least, x, y) {
         kept.set(x, y, false);

@@ -1,4 +1,4 @@
-ghost use Rattle.auto_masks.specs.Screened.{AreInRange, is_enough as is_enough_by, max_near};
+ghost use Rattle.auto_masks.specs.Screened.{AreScreenTerms, is_enough as is_enough_by, max_near};
 ghost use Rattle.auto_masks.specs.declared.terms.ScreenTerms.{ScreenTerms as Terms};
 ghost use Rattle.std.specs.Prelude.{◌≡◌, ◌<◌, ◌≤◌, ℕ, Bool};
 
@@ -20,7 +20,7 @@ pub type EnoughTest = Box<dyn Fn(u16, u32) -> bool>;
 pub struct Screen {
     terms: ScreenTerms,
     is_enough: EnoughTest,
-    ghost ranged: { AreInRange terms },
+    ghost ranged: { AreScreenTerms terms },
     ghost called: { (weight count : ℕ) → weight < 65536 → count ≤ max_near → EnoughTest.pre is_enough weight count },
     ghost answered: { (weight count : ℕ) (answer : Bool) → weight < 65536 → count ≤ max_near → EnoughTest.post is_enough weight count answer → answer ≡ is_enough_by terms weight count },
 }
@@ -35,7 +35,7 @@ impl Screen {
     /// The screen with these terms, and the closure that tells which weights and numbers of near strong pixels are
     /// enough for them.
     pub fn new(terms: ScreenTerms, is_enough: EnoughTest) -> Screen
-        requires ranged { AreInRange terms }
+        requires ranged { AreScreenTerms terms }
         requires called { (weight count : ℕ) → weight < 65536 → count ≤ max_near → EnoughTest.pre is_enough weight count }
         requires answered { (weight count : ℕ) (answer : Bool) → weight < 65536 → count ≤ max_near → EnoughTest.post is_enough weight count answer → answer ≡ is_enough_by terms weight count }
         ensures { result.terms ≡ terms }

@@ -12,7 +12,7 @@ use Rattle.sums_and_lists.proofs.Orders.{lt_is, not_lt_is}
 use Rattle.grid_writer.specs.Grids.{GridOf, value_at}
 use Rattle.grid_writer.specs.Values.{is_value}
 use Rattle.displacement.specs.Blocks.{block_count, block_sum, blocks_of, has_value}
-use Rattle.displacement.specs.Steps.{IsListTotal, IsWithin}
+use Rattle.displacement.specs.Steps.{IsListTotal, MayBeSum}
 use Rattle.displacement.proofs.TotalLemmas.{within_join, within_none}
 
 -- ---- places along a side
@@ -128,7 +128,7 @@ pub record IsRowsTotal (g : GridOf) (b i j n count : ℕ) (z : ℤ) : Type 0 whe
   pub counted : count ≡ count_below n (λ v. count_below b (counts_at g b i j v))
   pub summed : z ≡ sum_below n (λ v. sum_below b (adds_at g b i j v))
   pub few : count ≤ n * 64
-  pub within : IsWithin count z
+  pub within : MayBeSum count z
 
 pub rows_none : (g : GridOf) (b i j : ℕ) → IsRowsTotal g b i j 0 0 (pos 0)
 rows_none g b i j = record {
@@ -149,7 +149,7 @@ rows_more g b i j n c d e s t r zs side h p l ce re =
       counted = ce ∙ ap (λ (k : ℕ). k + d) h.counted ∙ ap (λ (k : ℕ). count_below n counts + k) (l.counted ∙ piece_counts g b i j n zs p) ∙ sym (count_below-more n counts);
       summed = re ∙ ap (λ (k : ℤ). k +ℤ t) h.summed ∙ ap (λ (k : ℤ). sum_below n sums +ℤ k) (l.summed ∙ piece_adds g b i j n zs p) ∙ sym (sum_below-more n sums);
       few = omega (arith, ce);
-      within = subst (λ (k : ℕ). IsWithin k r) (sym ce) (subst (λ (k : ℤ). IsWithin (c + d) k) (sym re) (within_join c d s t h.within l.within));
+      within = subst (λ (k : ℕ). MayBeSum k r) (sym ce) (subst (λ (k : ℤ). MayBeSum (c + d) k) (sym re) (within_join c d s t h.within l.within));
     }
 
 -- all rows of a block that are on the grid

@@ -7,7 +7,7 @@ use Rattle.std.proofs.lemmas.Nat.{mul-le}
 use Rattle.grid_writer.specs.Values.{CanStand}
 use Rattle.grid_writer.proofs.NoData.{is_no_data, no_bits}
 use Rattle.displacement.specs.Displacements.{IsMean, IsTooWide}
-use Rattle.displacement.specs.Steps.{IsFloor, IsWithin}
+use Rattle.displacement.specs.Steps.{IsFloor, MayBeSum}
 use Rattle.displacement.proofs.TotalLemmas.{fits_wide, join_fits, plus_fits, rise_fits, rise_is, scaled_fits, times_fits}
 
 -- a number as the code holds it
@@ -21,7 +21,7 @@ held_is z y e fits = ap held e ∙ to_z-of_z w128 y fits
 pub long_is : (z y : ℤ) → FitsSigned w64 y → z ≡ to_z w64 (of_z w64 y) → z ≡ y
 long_is z y fits e = e ∙ to_z-of_z w64 y fits
 
-within_fits : (n : ℕ) (s : ℤ) → n ≤ 4096 → IsWithin n s → FitsSigned w128 s
+within_fits : (n : ℕ) (s : ℤ) → n ≤ 4096 → MayBeSum n s → FitsSigned w128 s
 within_fits n s few h = let a = h.above in let b = h.below in fits_wide s (omega (arith, ints)) (omega (arith, ints))
 
 wide_long : (z : ℤ) → FitsSigned w64 z → FitsSigned w128 z
@@ -31,7 +31,7 @@ both : (f : ℤ → ℤ → ℤ) (a b x y : ℤ) → a ≡ x → b ≡ y → f a
 both f a b x y p q = ap (λ (z : ℤ). f z b) p ∙ ap (f x) q
 
 -- one value more
-module _ (n : ℕ) (s z a : ℤ) (few : n ≤ 4096) (within : IsWithin n s) (fits : FitsSigned w64 z) (ea : a ≡ to_z w64 (of_z w64 z)) where
+module _ (n : ℕ) (s z a : ℤ) (few : n ≤ 4096) (within : MayBeSum n s) (fits : FitsSigned w64 z) (ea : a ≡ to_z w64 (of_z w64 z)) where
   plus_same : (held s +ℤ held a) ≡ s +ℤ z
   plus_same = both (λ x y. x +ℤ y) (held s) (held a) s z (held_is s s refl (within_fits n s few within)) (held_is a z (long_is a z fits ea) (wide_long z fits))
 
@@ -42,7 +42,7 @@ module _ (n : ℕ) (s z a : ℤ) (few : n ≤ 4096) (within : IsWithin n s) (fit
   plus_held = held_is (held s +ℤ held a) (s +ℤ z) plus_same (plus_fits n s z few within fits)
 
 -- two sums
-module _ (m n : ℕ) (s t : ℤ) (few : m + n ≤ 4096) (within : IsWithin m s) (beside : IsWithin n t) where
+module _ (m n : ℕ) (s t : ℤ) (few : m + n ≤ 4096) (within : MayBeSum m s) (beside : MayBeSum n t) where
   join_same : (held s +ℤ held t) ≡ s +ℤ t
   join_same = both (λ x y. x +ℤ y) (held s) (held t) s t (held_is s s refl (within_fits m s (omega arith) within)) (held_is t t refl (within_fits n t (omega arith) beside))
 
@@ -67,7 +67,7 @@ module _ (k n : ℕ) (a : ℤ) (few : n ≤ 4096) (small : k ≤ 4294967296) (ea
   units_positive l m = subst (λ (z : ℤ). pos 0 <ℤ z) (sym (held_is (pos k *ℤ held a) (pos (k * n)) units_same units_fits)) (let p : 1 * 1 ≤ k * n = mul-le 1 1 k n l m in omega (arith, ints))
 
 -- the mean: a, b and d are what stands for the count n, the reference r and the wavelength w
-module _ (n w : ℕ) (s r a b d : ℤ) (some : 0 < n) (few : n ≤ 4096) (within : IsWithin n s) (wave : w ≤ 1000000000) (fits : FitsSigned w64 r) (ea : a ≡ pos n) (eb : b ≡ to_z w64 (of_z w64 r)) (ed : d ≡ pos w) where
+module _ (n w : ℕ) (s r a b d : ℤ) (some : 0 < n) (few : n ≤ 4096) (within : MayBeSum n s) (wave : w ≤ 1000000000) (fits : FitsSigned w64 r) (ea : a ≡ pos n) (eb : b ≡ to_z w64 (of_z w64 r)) (ed : d ≡ pos w) where
   count_fits : FitsSigned w128 (pos n)
   count_fits = fits_wide (pos n) (omega (arith, ints)) (omega (arith, ints))
 

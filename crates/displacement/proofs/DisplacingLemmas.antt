@@ -16,7 +16,7 @@ use Rattle.displacement.specs.declared.sight.Sight.{Sight}
 use Rattle.displacement.specs.Blocks.{block_count, block_sum, blocks_of, has_value}
 use Rattle.displacement.specs.declared.fault.SightFault.{SightFault}
 use Rattle.displacement.specs.declared.fault.SightFault.TheVariants.{Reference, Wide, Memory}
-use Rattle.displacement.specs.Displacements.{HasCause, IsBlockValue, IsDisplacement, IsFirstWide, IsMean, IsTooWide, IsWide}
+use Rattle.displacement.specs.Displacements.{HasCause, IsBlockValue, IsDisplacement, IsFirstWideBlock, IsMean, IsTooWide, IsWideBlock}
 use Rattle.displacement.specs.Steps.{AreBlockValues, HasBlockCause}
 use Rattle.displacement.proofs.MeanLemmas.{mean_unique}
 
@@ -33,7 +33,7 @@ module _ (s : Sight) (g : GridOf) (i j c : ℕ) (t r : ℤ) (ec : c ≡ block_co
   counted : 0 < block_count g s.block i j
   counted = subst (λ (n : ℕ). 0 < n) ec some
 
-  wide_block : IsTooWide s.wavelength c (t -ℤ pos c *ℤ r) → IsWide s g i j
+  wide_block : IsTooWide s.wavelength c (t -ℤ pos c *ℤ r) → IsWideBlock s g i j
   wide_block w = record { some = counted; wide = at_block (λ n z. IsTooWide s.wavelength n z) w }
 
   mean_block : (d : ℤ) → IsMean s.wavelength c (t -ℤ pos c *ℤ r) d × CanStand d → IsBlockValue s g i j d
@@ -42,7 +42,7 @@ module _ (s : Sight) (g : GridOf) (i j c : ℕ) (t r : ℤ) (ec : c ≡ block_co
     mean = λ k. (at_block (λ n z. IsMean s.wavelength n z d) m.0, m.1);
   }
 
-  pub block_told : (o : Option ℤ) → MatchOption o (IsTooWide s.wavelength c (t -ℤ pos c *ℤ r)) (λ d. IsMean s.wavelength c (t -ℤ pos c *ℤ r) d × CanStand d) → MatchOption o (IsWide s g i j) (IsBlockValue s g i j)
+  pub block_told : (o : Option ℤ) → MatchOption o (IsTooWide s.wavelength c (t -ℤ pos c *ℤ r)) (λ d. IsMean s.wavelength c (t -ℤ pos c *ℤ r) d × CanStand d) → MatchOption o (IsWideBlock s g i j) (IsBlockValue s g i j)
   block_told None w = wide_block w
   block_told (Some d) m = mean_block d m
 
@@ -72,7 +72,7 @@ value_there s g w h zs a x y l m =
     (subst (λ (j : ℕ). IsBlockValue s g ((y * w + x) % w) j (value_at w zs x y)) (div-mul-add y w x l) (a (y * w + x) (mul-add-lt y w x h m l)))
 
 -- a block with a value that stands is not wide
-pub not_wide : (s : Sight) (g : GridOf) (i j : ℕ) (d : ℤ) → IsBlockValue s g i j d → IsWide s g i j → ⊥
+pub not_wide : (s : Sight) (g : GridOf) (i j : ℕ) (d : ℤ) → IsBlockValue s g i j d → IsWideBlock s g i j → ⊥
 not_wide s g i j d v w =
     let m = v.mean w.some in
     w.wide.wide (subst CanStand (mean_unique s.wavelength (block_count g s.block i j) (block_sum g s.block i j -ℤ pos (block_count g s.block i j) *ℤ g.values s.x s.y) d w.wide.displacement m.0 w.wide.mean) m.1)
@@ -91,7 +91,7 @@ earlier_place w p i j l e = elim e [
 ]
 
 -- the first block that is wide comes behind blocks that are not
-pub first_wide : (s : Sight) (g : GridOf) (w p : ℕ) (zs : List ℤ) → w ≡ blocks_of s.block g.width → p % w < w → p / w < blocks_of s.block g.height → AreBlockValues s g w p zs → IsWide s g (p % w) (p / w) → IsFirstWide s g (p % w) (p / w)
+pub first_wide : (s : Sight) (g : GridOf) (w p : ℕ) (zs : List ℤ) → w ≡ blocks_of s.block g.width → p % w < w → p / w < blocks_of s.block g.height → AreBlockValues s g w p zs → IsWideBlock s g (p % w) (p / w) → IsFirstWideBlock s g (p % w) (p / w)
 first_wide s g w p zs e across along a here = record {
   across = subst (λ (n : ℕ). p % w < n) e across;
   along = along;
@@ -106,7 +106,7 @@ first_wide s g w p zs e across along a here = record {
 }
 
 -- of two such blocks none is before the other
-pub first_is_one : (s : Sight) (g : GridOf) (x y a b : ℕ) → IsFirstWide s g x y → IsFirstWide s g a b → (x ≡ a) × (y ≡ b)
+pub first_is_one : (s : Sight) (g : GridOf) (x y a b : ℕ) → IsFirstWideBlock s g x y → IsFirstWideBlock s g a b → (x ≡ a) × (y ≡ b)
 first_is_one s g x y a b p q =
     let no : IsEarlier x y a b → ⊥ = λ e. q.first x y p.across e p.here in
     let none : IsEarlier a b x y → ⊥ = λ e. p.first a b q.across e q.here in
@@ -172,12 +172,12 @@ cause_is s g (Wide x y) has c = (has, c)
 cause_is s g Memory has c = tt
 
 -- and the one that a first wide block asks for
-pub fault_known : (s : Sight) (g : GridOf) (fault : SightFault) (x y : ℕ) → HasBlockCause s g fault → IsFirstWide s g x y → (fault ≡ Wide x y) ⊎ (fault ≡ Memory)
+pub fault_known : (s : Sight) (g : GridOf) (fault : SightFault) (x y : ℕ) → HasBlockCause s g fault → IsFirstWideBlock s g x y → (fault ≡ Wide x y) ⊎ (fault ≡ Memory)
 fault_known s g Reference x y c w = absurd c
 fault_known s g (Wide a b) x y c w = let e = first_is_one s g a b x y c w in inl (ap (λ (k : ℕ). Wide k b) e.0 ∙ ap (λ (k : ℕ). Wide x k) e.1)
 fault_known s g Memory x y c w = inr refl
 
-pub no_wide : (s : Sight) (g : GridOf) (w h : ℕ) (zs : List ℤ) (x y : ℕ) → w ≡ blocks_of s.block g.width → h ≡ blocks_of s.block g.height → AreBlockValues s g w (w * h) zs → IsFirstWide s g x y → ⊥
+pub no_wide : (s : Sight) (g : GridOf) (w h : ℕ) (zs : List ℤ) (x y : ℕ) → w ≡ blocks_of s.block g.width → h ≡ blocks_of s.block g.height → AreBlockValues s g w (w * h) zs → IsFirstWideBlock s g x y → ⊥
 no_wide s g w h zs x y e f a wide =
     not_wide s g x y (value_at w zs x y)
     (value_there s g w h zs a x y (subst (λ (n : ℕ). x < n) (sym e) wide.across) (subst (λ (n : ℕ). y < n) (sym f) wide.along)) wide.here

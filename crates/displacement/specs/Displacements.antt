@@ -48,18 +48,18 @@ pub record IsDisplacement (s : Sight) (g output : GridOf) : Type 0 where
   pub blocks : (i j : ℕ) → i < output.width → j < output.height → IsBlockValue s g i j (output.values i j)
 
 -- the block has a value, and its displacement cannot stand in a grid; and it is the first such block in row order
-pub record IsWide (s : Sight) (g : GridOf) (i j : ℕ) : Type 0 where
+pub record IsWideBlock (s : Sight) (g : GridOf) (i j : ℕ) : Type 0 where
   pub some : 0 < block_count g s.block i j
   pub wide : IsTooWide s.wavelength (block_count g s.block i j) (block_rise s g i j)
 
-pub record IsFirstWide (s : Sight) (g : GridOf) (x y : ℕ) : Type 0 where
+pub record IsFirstWideBlock (s : Sight) (g : GridOf) (x y : ℕ) : Type 0 where
   pub across : x < blocks_of s.block g.width
   pub along : y < blocks_of s.block g.height
-  pub here : IsWide s g x y
-  pub first : (i j : ℕ) → i < blocks_of s.block g.width → IsEarlier i j x y → IsWide s g i j → ⊥
+  pub here : IsWideBlock s g x y
+  pub first : (i j : ℕ) → i < blocks_of s.block g.width → IsEarlier i j x y → IsWideBlock s g i j → ⊥
 
 -- what a refusal says; lack of memory says nothing
 abbrev pub HasCause : Sight → GridOf → SightFault → Type 0
 HasCause s g Reference = has_value g s.x s.y ≡ false
-HasCause s g (Wide x y) = IsTrue (has_value g s.x s.y) × IsFirstWide s g x y
+HasCause s g (Wide x y) = IsTrue (has_value g s.x s.y) × IsFirstWideBlock s g x y
 HasCause s g Memory = Unit {0}

@@ -6,10 +6,10 @@ use Rattle.displacement.specs.declared.fault.SightFault.{SightFault}
 use Rattle.displacement.specs.declared.fault.SightFault.TheVariants.{Reference, Wide, Memory}
 use Rattle.displacement.specs.declared.sight.Sight.{Sight}
 use Rattle.grid_writer.specs.Values.{is_value}
-use Rattle.displacement.specs.Displacements.{IsBlockValue, IsFirstWide}
+use Rattle.displacement.specs.Displacements.{IsBlockValue, IsFirstWideBlock}
 
 -- the sum of n numbers of 64 bits may be z
-pub record IsWithin (n : ℕ) (z : ℤ) : Type 0 where
+pub record MayBeSum (n : ℕ) (z : ℤ) : Type 0 where
   pub above : neg_ℤ (pos (n * 9223372036854775808)) ≤ℤ z
   pub below : z ≤ℤ pos (n * 9223372036854775808)
 
@@ -23,7 +23,7 @@ pub record IsListTotal (zs : List ℤ) (n count : ℕ) (z : ℤ) : Type 0 where
   pub counted : count ≡ count_below n (λ k. one_if (is_value (slice_index_or zs k (pos 0))))
   pub summed : z ≡ sum_below n (λ k. where_true (is_value (slice_index_or zs k (pos 0))) (slice_index_or zs k (pos 0)))
   pub few : count ≤ n
-  pub within : IsWithin count z
+  pub within : MayBeSum count z
 
 -- a list has what stands for the first n blocks in row order, in rows of w blocks
 abbrev pub AreBlockValues : Sight → GridOf → ℕ → ℕ → List ℤ → Type 0
@@ -32,5 +32,5 @@ AreBlockValues s g w n zs = (k : ℕ) → k < n → IsBlockValue s g (k % w) (k 
 -- what a refusal says once there is a reference
 abbrev pub HasBlockCause : Sight → GridOf → SightFault → Type 0
 HasBlockCause s g Reference = ⊥
-HasBlockCause s g (Wide x y) = IsFirstWide s g x y
+HasBlockCause s g (Wide x y) = IsFirstWideBlock s g x y
 HasBlockCause s g Memory = Unit {0}

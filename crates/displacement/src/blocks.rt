@@ -1,6 +1,6 @@
 ghost use Rattle.displacement.specs.Blocks.{block_count, block_sum, blocks_of};
 ghost use Rattle.displacement.specs.Displacements.{IsBlockSide};
-ghost use Rattle.displacement.specs.Steps.{IsListTotal, IsWithin};
+ghost use Rattle.displacement.specs.Steps.{IsListTotal, MayBeSum};
 ghost use Rattle.grid_writer.specs.Grids.{grid_of};
 ghost use Rattle.raster_model.specs.Limits.{max_side};
 ghost use Rattle.std.specs.Prelude.{◌≡◌, ◌≤◌, ◌<◌, ◌+◌, ◌*◌, min, length};
@@ -41,7 +41,7 @@ pub(crate) fn block_total(grid: &Grid, block: u32, column: u32, row: u32) -> Tot
     ensures count { result.count ≡ block_count (grid_of grid.now) block column row }
     ensures sum { result.sum ≡ block_sum (grid_of grid.now) block column row }
     ensures few { result.count ≤ 4096 }
-    ensures within { IsWithin result.count result.sum }
+    ensures within { MayBeSum result.count result.sum }
 {
     let width = grid.width as usize;
     let (left, right) = block_span(column, block, grid.width);

@@ -1,5 +1,5 @@
 ghost use Rattle.displacement.specs.Blocks.{blocks_of, has_value};
-ghost use Rattle.displacement.specs.Displacements.{HasCause, IsBlockSide, IsBlockValue, IsDisplacement, IsFirstWide, IsWavelength, IsWide};
+ghost use Rattle.displacement.specs.Displacements.{HasCause, IsBlockSide, IsBlockValue, IsDisplacement, IsFirstWideBlock, IsWavelength, IsWideBlock};
 ghost use Rattle.displacement.specs.Steps.{AreBlockValues, HasBlockCause};
 ghost use Rattle.displacement.specs.declared.fault.SightFault.TheVariants as faults;
 ghost use Rattle.grid_writer.specs.Grids.{grid_of};
@@ -22,7 +22,7 @@ pub fn displace(alloc: Global, grid: &Grid, sight: Sight) -> Result<Grid, SightF
     ensures displaced { IfOk result (λ output. IsDisplacement sight (grid_of grid.now) (grid_of output)) }
     ensures refused { IfErr result (HasCause sight (grid_of grid.now)) }
     ensures reference { has_value (grid_of grid.now) sight.x sight.y ≡ false → result ≡ Err faults.Reference }
-    ensures wide { (x y : ℕ) → IsTrue (has_value (grid_of grid.now) sight.x sight.y) → IsFirstWide sight (grid_of grid.now) x y → (result ≡ Err (faults.Wide x y)) ⊎ (result ≡ Err faults.Memory) }
+    ensures wide { (x y : ℕ) → IsTrue (has_value (grid_of grid.now) sight.x sight.y) → IsFirstWideBlock sight (grid_of grid.now) x y → (result ≡ Err (faults.Wide x y)) ⊎ (result ≡ Err faults.Memory) }
 {
     let Some(reference) = value_of(grid, sight.x, sight.y) else {
         return Err(SightFault::Reference);
@@ -55,7 +55,7 @@ fn block_value(grid: &Grid, sight: Sight, reference: i64, column: u32, row: u32)
     requires reference { reference ≡ (grid_of grid.now).values sight.x sight.y }
     requires across { column < blocks_of sight.block grid.now.width }
     requires along { row < blocks_of sight.block grid.now.height }
-    ensures { MatchOption result (IsWide sight (grid_of grid.now) column row) (IsBlockValue sight (grid_of grid.now) column row) }
+    ensures { MatchOption result (IsWideBlock sight (grid_of grid.now) column row) (IsBlockValue sight (grid_of grid.now) column row) }
 {
     let total = block_total(grid, sight.block, column, row);
     if total.count == 0 {

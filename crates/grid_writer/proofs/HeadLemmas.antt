@@ -17,7 +17,7 @@ use Rattle.text_lines.proofs.TextLemmas.{IsOneLine, in_append, is_line, line_by,
 use Rattle.grid_writer.specs.declared.read.Sizes.{Sizes}
 use Rattle.grid_writer.specs.Grid.{columns_line, frame_lines, grid_rows, grid_text, rows_line}
 use Rattle.grid_writer.specs.Grids.{AreLong, IsGridText, IsGridTextOf}
-use Rattle.grid_writer.specs.GridParts.{AreSizes, IsBodyText, IsCount, IsCountLine, IsGridTextIn, IsRow, IsRowLine, IsRowsText, IsWithin}
+use Rattle.grid_writer.specs.GridParts.{AreSizes, HasSizeWithin, IsBodyText, IsCount, IsCountLine, IsGridTextIn, IsRow, IsRowLine, IsRowsText}
 use Rattle.grid_writer.proofs.SizeLemmas.{Sized, most_rows, rows_below, sized_by, sized_parts, sized_within, some_rows, small_height, small_width, within_at}
 
 -- ---- a line that tells a count
@@ -123,7 +123,7 @@ body_of w h w' h' v t e f long g = rw (e, f) (v, (long, g))
 -- ---- a grid's lines in their order
 
 module _ (s : Sizes) (ok : AreSizes s) where
-  some_grid : (w h : ℕ) → Sized w h → IsWithin s w h → IsGridTextIn s (grid_text w h zero_field)
+  some_grid : (w h : ℕ) → Sized w h → HasSizeWithin s w h → IsGridTextIn s (grid_text w h zero_field)
   some_grid w h z i = (record { width = w; height = h; values = zero_field }, (record { sized = sized_by w h z; fits = zero_fits w h }, (i, refl)))
 
   pub grid_first : ComesFirst (IsCountLine (codes "ncols ") s.least_width s.most_width) (IsGridTextIn s)

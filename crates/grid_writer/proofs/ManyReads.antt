@@ -20,9 +20,9 @@ use Rattle.grid_writer.specs.declared.fault.GridsFault.{GridsFault}
 use Rattle.grid_writer.specs.declared.fault.GridsFault.TheVariants.{Line, Long, Sizes, After, ReadFault, Memory}
 use Rattle.grid_writer.specs.declared.values.Grid.{Grid}
 use Rattle.grid_writer.specs.Grids.{GridOf, IsGrid, IsGridText, grid_of, text_of_grid}
-use Rattle.grid_writer.specs.ManyGrids.{AreGridTexts, AreGrids, AreRead, AreRefusedBy, BeginsWithGrids, BreaksGrids, HasGridsCause, HasSize, IsOtherGridText, grids_of, text_of_grids}
+use Rattle.grid_writer.specs.ManyGrids.{AreGridTexts, AreGrids, AreRefusedBy, BeginsWithGrids, BreaksGrids, GridsAreRead, HasGridsCause, HasSize, IsOtherGridText, grids_of, text_of_grids}
 use Rattle.grid_writer.proofs.ManyLemmas.{one_break, texts_do_not_break}
-use Rattle.grid_writer.specs.ManyParts.{AreAlike, HasEndCause, HasNextCause, fault_in}
+use Rattle.grid_writer.specs.ManyParts.{AreAlike, HasEndCause, HasNextGridCause, fault_in}
 
 -- a feed hands out no more than its limit
 pub handed_within : {S : Type 0} {size : Ghosts (Vec ℕ)} (feed : Feed S (Vec ℕ) size) → handed_of feed ≤ limit_of feed
@@ -76,7 +76,7 @@ grids_push k w h (g ∷ grids) grid a p alike =
 
 -- ---- why the next grid was not added
 
-pub next_cause : (number : ℕ) (grids : List Grid) (c : Call) (fault : LineFault) → HasLineCause IsGridText 0 c fault → HasNextCause number grids c (fault_in number fault)
+pub next_cause : (number : ℕ) (grids : List Grid) (c : Call) (fault : LineFault) → HasLineCause IsGridText 0 c fault → HasNextGridCause number grids c (fault_in number fault)
 next_cause number grids c (line_faults.Line n) h = (refl, h)
 next_cause number grids c line_faults.TooLong h = (refl, h)
 next_cause number grids c line_faults.ReadFault h = h
@@ -150,7 +150,7 @@ module _ (count k w h : ℕ) (grids : List Grid) (are : AreGrids k w h (grids_of
       let a = taken_at Front (AreTexts grids) bytes e taken in
       (a.1, (a.2.0 ∙ ap (λ (l : List ℕ). l ++ a.1) a.2.1.1.1, (a.2.1.0, a.2.1.1.0 ∙ ap (λ (l : List ℕ). at + length l) a.2.1.1.1)))
 
-  pub next_breaks : (number : ℕ) (fault : GridsFault) → k < count → number ≡ k + 1 → end ≤ limit → HasNextCause number grids Next fault → HasGridsCause count Whole fault
+  pub next_breaks : (number : ℕ) (fault : GridsFault) → k < count → number ≡ k + 1 → end ≤ limit → HasNextGridCause number grids Next fault → HasGridsCause count Whole fault
   next_breaks number (Line grid line) lt next le (is, cause) = if_told told (BreaksIn (Line grid line)) (λ bytes e.
       let a = front bytes e in
       let b = taken_at Next (λ text rest. (n : ℕ) × ((line ≡ 0 + n) × (BreaksFormAt IsGridText n text ⊎ (EndsFormIn IsGridText n text × (rest ≡ []))))) a.0 a.1.1.0 cause in
@@ -192,13 +192,13 @@ module _ (count : ℕ) (c : Call) (inside : c.end ≤ c.limit) where
   abbrev Breaks : GridsFault → List ℕ → Type 0
   Breaks fault bytes = BreaksGrids count c.at (room_of c) bytes fault
 
-  pub accepts_grids : (r : Result (Vec Grid) GridsFault) → IfErr r (HasGridsCause count c) → IfSome c.told (λ bytes. AreGridTexts count bytes → length bytes ≤ room_of c → AreRead c r)
+  pub accepts_grids : (r : Result (Vec Grid) GridsFault) → IfErr r (HasGridsCause count c) → IfSome c.told (λ bytes. AreGridTexts count bytes → length bytes ≤ room_of c → GridsAreRead c r)
   accepts_grids (Ok grids) h = if_told c.told (λ bytes. AreGridTexts count bytes → length bytes ≤ room_of c → ⊤) (λ bytes e t le. tt)
   accepts_grids (Err (Line grid line)) h = if_told c.told (λ bytes. AreGridTexts count bytes → length bytes ≤ room_of c → ⊥) (λ bytes e t le. texts_do_not_break count c.at (room_of c) bytes (Line grid line) t le (at_told c.told (Breaks (Line grid line)) bytes e h))
   accepts_grids (Err (Long grid)) h = if_told c.told (λ bytes. AreGridTexts count bytes → length bytes ≤ room_of c → ⊥) (λ bytes e t le. texts_do_not_break count c.at (room_of c) bytes (Long grid) t le (at_told c.told (Breaks (Long grid)) bytes e h))
   accepts_grids (Err (Sizes grid)) h = if_told c.told (λ bytes. AreGridTexts count bytes → length bytes ≤ room_of c → ⊥) (λ bytes e t le. texts_do_not_break count c.at (room_of c) bytes (Sizes grid) t le (at_told c.told (Breaks (Sizes grid)) bytes e h))
   accepts_grids (Err (After byte)) h = if_told c.told (λ bytes. AreGridTexts count bytes → length bytes ≤ room_of c → ⊥) (λ bytes e t le. texts_do_not_break count c.at (room_of c) bytes (After byte) t le (at_told c.told (Breaks (After byte)) bytes e h))
-  accepts_grids (Err ReadFault) h = if_told c.told (λ bytes. AreGridTexts count bytes → length bytes ≤ room_of c → AreRead c (Err ReadFault)) (λ bytes e t le. h)
+  accepts_grids (Err ReadFault) h = if_told c.told (λ bytes. AreGridTexts count bytes → length bytes ≤ room_of c → GridsAreRead c (Err ReadFault)) (λ bytes e t le. h)
   accepts_grids (Err Memory) h = if_told c.told (λ bytes. AreGridTexts count bytes → length bytes ≤ room_of c → ⊤) (λ bytes e t le. tt)
 
   abbrev TakesGrids : Vec Grid → Type 0

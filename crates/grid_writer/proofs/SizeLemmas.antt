@@ -6,7 +6,7 @@ use Rattle.std.proofs.lemmas.Nat.{div-add-mod', le-div, mul-le}
 use Rattle.raster_model.specs.Limits.{is_raster_size}
 use Rattle.sums_and_lists.proofs.Tests.{and_first, and_second}
 use Rattle.grid_writer.specs.declared.read.Sizes.{Sizes}
-use Rattle.grid_writer.specs.GridParts.{AreSizes, IsWithin}
+use Rattle.grid_writer.specs.GridParts.{AreSizes, HasSizeWithin}
 
 pub record Sized (w h : ℕ) : Type 0 where
   pub wide : 1 ≤ w
@@ -67,8 +67,8 @@ module _ (s : Sizes) (ok : AreSizes s) (w : ℕ) (wide : s.least_width ≤ w) (n
       let e = div-add-mod' 4194304 w in
       record { wide = omega (arith, wide, ok.wide); narrow = omega (arith, narrow, ok.narrow); high = omega (arith, high, ok.high); low = omega (arith, low, ok.low); few = omega (arith, m, e) }
 
-  pub within_at : (h : ℕ) → s.least_height ≤ h → h ≤ most_rows s w → IsWithin s w h
+  pub within_at : (h : ℕ) → s.least_height ≤ h → h ≤ most_rows s w → HasSizeWithin s w h
   within_at h high low = record { wide = wide; narrow = narrow; high = high; low = omega (arith, low) }
 
-pub within_same : (s : Sizes) (w h v g : ℕ) → (v ≡ w) × (g ≡ h) → IsWithin s w h → IsWithin s v g
+pub within_same : (s : Sizes) (w h v g : ℕ) → (v ≡ w) × (g ≡ h) → HasSizeWithin s w h → HasSizeWithin s v g
 within_same s w h v g e i = record { wide = omega (arith, e.0, i.wide); narrow = omega (arith, e.0, i.narrow); high = omega (arith, e.1, i.high); low = omega (arith, e.1, i.low) }

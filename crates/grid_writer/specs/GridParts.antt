@@ -39,7 +39,7 @@ pub record AreSizes (s : Sizes) : Type 0 where
   pub few : s.most_width * s.least_height ≤ 4194304
 
 -- a size within limits
-pub record IsWithin (s : Sizes) (width height : ℕ) : Type 0 where
+pub record HasSizeWithin (s : Sizes) (width height : ℕ) : Type 0 where
   pub wide : s.least_width ≤ width
   pub narrow : width ≤ s.most_width
   pub high : s.least_height ≤ height
@@ -47,4 +47,4 @@ pub record IsWithin (s : Sizes) (width height : ℕ) : Type 0 where
 
 -- the text of a grid whose size is within limits
 abbrev pub IsGridTextIn : Sizes → Form
-IsGridTextIn s text = (g : GridOf) × (IsGrid g × (IsWithin s g.width g.height × (text ≡ text_of_grid g)))
+IsGridTextIn s text = (g : GridOf) × (IsGrid g × (HasSizeWithin s g.width g.height × (text ≡ text_of_grid g)))

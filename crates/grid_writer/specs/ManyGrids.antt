@@ -74,14 +74,14 @@ HasGridsCause count c ReadFault = HasRisen c.before c.after
 HasGridsCause count c Memory = ⊤
 
 -- they are read; or a fault of the source was counted, or memory ran out
-abbrev pub AreRead : Call → Result (Vec Grid) GridsFault → Type 0
-AreRead c (Ok grids) = ⊤
-AreRead c (Err (Line grid line)) = ⊥
-AreRead c (Err (Long grid)) = ⊥
-AreRead c (Err (Sizes grid)) = ⊥
-AreRead c (Err (After byte)) = ⊥
-AreRead c (Err ReadFault) = HasRisen c.before c.after
-AreRead c (Err Memory) = ⊤
+abbrev pub GridsAreRead : Call → Result (Vec Grid) GridsFault → Type 0
+GridsAreRead c (Ok grids) = ⊤
+GridsAreRead c (Err (Line grid line)) = ⊥
+GridsAreRead c (Err (Long grid)) = ⊥
+GridsAreRead c (Err (Sizes grid)) = ⊥
+GridsAreRead c (Err (After byte)) = ⊥
+GridsAreRead c (Err ReadFault) = HasRisen c.before c.after
+GridsAreRead c (Err Memory) = ⊤
 
 -- this break is told; or one of the same happened
 abbrev pub AreRefusedBy : Call → GridsFault → Result (Vec Grid) GridsFault → Type 0

@@ -27,13 +27,13 @@ abbrev pub TakesOther : List Grid → Call → Type 0
 TakesOther grids c = (0 < length grids) × ((width height : ℕ) → All (λ g. HasSize width height (grid_of g)) grids → Takes c (λ text rest. IsOtherGridText width height text))
 
 -- why the grid with this number was not added to a list of grids
-abbrev pub HasNextCause : ℕ → List Grid → Call → GridsFault → Type 0
-HasNextCause number grids c (Line grid line) = (grid ≡ number) × HasLineCause IsGridText 0 c (line_faults.Line line)
-HasNextCause number grids c (Long grid) = (grid ≡ number) × HasLineCause IsGridText 0 c line_faults.TooLong
-HasNextCause number grids c (Sizes grid) = (grid ≡ number) × TakesOther grids c
-HasNextCause number grids c (After byte) = ⊥
-HasNextCause number grids c ReadFault = HasRisen c.before c.after
-HasNextCause number grids c Memory = ⊤
+abbrev pub HasNextGridCause : ℕ → List Grid → Call → GridsFault → Type 0
+HasNextGridCause number grids c (Line grid line) = (grid ≡ number) × HasLineCause IsGridText 0 c (line_faults.Line line)
+HasNextGridCause number grids c (Long grid) = (grid ≡ number) × HasLineCause IsGridText 0 c line_faults.TooLong
+HasNextGridCause number grids c (Sizes grid) = (grid ≡ number) × TakesOther grids c
+HasNextGridCause number grids c (After byte) = ⊥
+HasNextGridCause number grids c ReadFault = HasRisen c.before c.after
+HasNextGridCause number grids c Memory = ⊤
 
 -- why the input does not end after the last grid, which has this number
 abbrev pub HasEndCause : ℕ → Call → GridsFault → Type 0

@@ -1,6 +1,6 @@
 ghost use Rattle.grid_writer.specs.Grids.{IsGrid, grid_of, text_of_grid};
-ghost use Rattle.grid_writer.specs.ManyGrids.{AreGridTexts, AreGrids, AreRead, AreRefusedBy, BreaksGrids, HasGridsCause, HasSize, grids_of, text_of_grids};
-ghost use Rattle.grid_writer.specs.ManyParts.{AreAlike, HasEndCause, HasNextCause, fault_in};
+ghost use Rattle.grid_writer.specs.ManyGrids.{AreGridTexts, AreGrids, AreRefusedBy, BreaksGrids, GridsAreRead, HasGridsCause, HasSize, grids_of, text_of_grids};
+ghost use Rattle.grid_writer.specs.ManyParts.{AreAlike, HasEndCause, HasNextGridCause, fault_in};
 ghost use Rattle.insar_ports.specs.Bytes.{IsAtEnd};
 ghost use Rattle.insar_ports.specs.Calls.{Moves, Takes, call_of};
 ghost use Rattle.insar_ports.specs.Feeding.{faults_of, handed_of, left_of, limit_of, source_name};
@@ -32,7 +32,7 @@ pub fn read_grids<S: Source>(
     // The first break, or why else they are not read.
     ensures refused { IfErr result (HasGridsCause count (call_of S.left S.faults feed.old feed.new)) }
     // The texts of so many grids of one size, all let out, are read.
-    ensures accepted { IfSome (left_of S.left feed.old) (λ bytes. AreGridTexts count bytes → length bytes ≤ room_of (call_of S.left S.faults feed.old feed.new) → AreRead (call_of S.left S.faults feed.old feed.new) result) }
+    ensures accepted { IfSome (left_of S.left feed.old) (λ bytes. AreGridTexts count bytes → length bytes ≤ room_of (call_of S.left S.faults feed.old feed.new) → GridsAreRead (call_of S.left S.faults feed.old feed.new) result) }
     // A first break is told.
     ensures exact { IfSome (left_of S.left feed.old) (λ bytes. (fault : GridsFault) → BreaksGrids count (handed_of feed.old) (room_of (call_of S.left S.faults feed.old feed.new)) bytes fault → AreRefusedBy (call_of S.left S.faults feed.old feed.new) fault result) }
 {
@@ -55,7 +55,7 @@ fn read_next<S: Source>(
     ensures same_limit { limit_of feed.new ≡ limit_of feed.old }
     ensures moves { Moves (call_of S.left S.faults feed.old feed.new) }
     ensures read { OnOk result ((grid : Grid) × ((grids.new.items ≡ grids.old.items ++ grid ∷ []) × (IsGrid (grid_of grid) × (AreAlike grids.old.items grid × Takes (call_of S.left S.faults feed.old feed.new) (λ text rest. text ≡ text_of_grid (grid_of grid)))))) }
-    ensures refused { IfErr result (HasNextCause number grids.old.items (call_of S.left S.faults feed.old feed.new)) }
+    ensures refused { IfErr result (HasNextGridCause number grids.old.items (call_of S.left S.faults feed.old feed.new)) }
 {
     let grid = match read_grid(alloc, feed) {
         Ok(grid) => grid,

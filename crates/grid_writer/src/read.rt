@@ -1,5 +1,5 @@
 ghost use Rattle.grid_writer.specs.Grid.{frame_lines, grid_rows};
-ghost use Rattle.grid_writer.specs.GridParts.{AreSizes, IsBodyText, IsCountLine, IsGridTextIn, IsRowLine, IsRowsText, IsWithin};
+ghost use Rattle.grid_writer.specs.GridParts.{AreSizes, HasSizeWithin, IsBodyText, IsCountLine, IsGridTextIn, IsRowLine, IsRowsText};
 ghost use Rattle.grid_writer.specs.Grids.{IsGrid, IsGridText, IsGridTextOf, grid_of, text_of_grid, value_at};
 ghost use Rattle.grid_writer.specs.Reading.{IsGridRead, IsGridRefusedAt};
 ghost use Rattle.insar_ports.specs.Calls.{Moves, Takes, call_of};
@@ -101,7 +101,7 @@ fn read_within<S: Source>(
     ensures same_source { source_name feed.new ≡ source_name feed.old }
     ensures same_limit { limit_of feed.new ≡ limit_of feed.old }
     ensures moves { Moves (call_of S.left S.faults feed.old feed.new) }
-    ensures size { IfOk result (λ grid. IsWithin sizes grid.width grid.height) }
+    ensures size { IfOk result (λ grid. HasSizeWithin sizes grid.width grid.height) }
     ensures fits { IfOk result (λ grid. IsGrid (grid_of grid)) }
     ensures read { IfOk result (λ grid. TakesLines (IsText (text_of_grid (grid_of grid))) (lines_read lines.old) (lines_read lines.new) (call_of S.left S.faults feed.old feed.new)) }
     ensures refused { IfErr result (HasLineCause (IsGridTextIn sizes) (lines_read lines.old) (call_of S.left S.faults feed.old feed.new)) }

@@ -14,7 +14,7 @@ use Rattle.grid_writer.specs.Grids.{GridOf, value_at}
 use Rattle.grid_writer.specs.Values.{is_value, no_data}
 use Rattle.loop_closure.specs.declared.fault.LoopFault.{LoopFault}
 use Rattle.loop_closure.specs.declared.fault.LoopFault.TheVariants.{Wide, Memory}
-use Rattle.loop_closure.specs.Closure.{AreClosures, AreCycles, AreCyclesIn, IsFirstWide, IsHalfCycle, IsWide, are_there, closure_of, key_of, keys_of, loop_sum}
+use Rattle.loop_closure.specs.Closure.{AreClosures, AreCycles, AreCyclesIn, IsFirstWideLoop, IsHalfCycle, IsWideLoop, are_there, closure_of, key_of, keys_of, loop_sum}
 use Rattle.loop_closure.specs.Laws.{CyclesClose, OnlyCyclesClose}
 use Rattle.loop_closure.specs.Parts.{AreClosed, HasLoopCause, HaveCycles, IsFirstWidePlace, IsWideIn, IsWideTold, at_place}
 
@@ -35,7 +35,7 @@ closure_there : (a b c : ℤ) → IsTrue (are_there a b c) → closure_of a b c 
 closure_there a b c t = rw t refl
 
 -- a sum that is not too wide has a value
-sum_there : (a b c : ℤ) → IsTrue (are_there a b c) → (IsWide a b c → ⊥) → IsTrue (is_value (loop_sum a b c))
+sum_there : (a b c : ℤ) → IsTrue (are_there a b c) → (IsWideLoop a b c → ⊥) → IsTrue (is_value (loop_sum a b c))
 sum_there a b c t narrow = elim (cases_Bool (is_value (loop_sum a b c))) [
   | inl e ↦ e
   | inr e ↦ absurd (narrow (t, λ is. is.1 (missing (loop_sum a b c) e)))
@@ -101,7 +101,7 @@ cycled_grids w h closures cycles have = record {
 }
 
 -- the first place that is too wide, as a pixel
-pub first_pixel : (w h place : ℕ) (a b c : List ℤ) → 0 < w → length a ≡ w * h → IsFirstWidePlace a b c place → IsFirstWide (record { width = w; height = h; values = value_at w a }) (record { width = w; height = h; values = value_at w b }) (record { width = w; height = h; values = value_at w c }) (place % w) (place / w)
+pub first_pixel : (w h place : ℕ) (a b c : List ℤ) → 0 < w → length a ≡ w * h → IsFirstWidePlace a b c place → IsFirstWideLoop (record { width = w; height = h; values = value_at w a }) (record { width = w; height = h; values = value_at w b }) (record { width = w; height = h; values = value_at w c }) (place % w) (place / w)
 first_pixel w h place a b c some n (lt, (wide, first)) =
     let whole : (place / w) * w + place % w ≡ place = omega arith in
     ((omega arith, row (place / w) whole, subst (λ (k : ℕ). IsWideIn a b c k) (sym whole) wide), λ u v before at. first (v * w + u) (let e = earlier_place w u v (place % w) (place / w) at.0 before in omega (arith, e, whole)) at.2)
@@ -110,10 +110,10 @@ first_pixel w h place a b c some n (lt, (wide, first)) =
     row y e = elim (cases_lt y h) [ inl less ↦ less | inr le ↦ absurd (let m = mul-le h w y w le (omega arith) in omega (arith, m, e, lt, n)) ]
 
 -- the same where each grid has a size of its own, and the sizes are equal
-pub first_pixel_of : (w h v i u j place : ℕ) (a b c : List ℤ) → (v ≡ w) × (i ≡ h) → (u ≡ w) × (j ≡ h) → 0 < w → length a ≡ w * h → IsFirstWidePlace a b c place → IsFirstWide (record { width = w; height = h; values = value_at w a }) (record { width = v; height = i; values = value_at v b }) (record { width = u; height = j; values = value_at u c }) (place % w) (place / w)
+pub first_pixel_of : (w h v i u j place : ℕ) (a b c : List ℤ) → (v ≡ w) × (i ≡ h) → (u ≡ w) × (j ≡ h) → 0 < w → length a ≡ w * h → IsFirstWidePlace a b c place → IsFirstWideLoop (record { width = w; height = h; values = value_at w a }) (record { width = v; height = i; values = value_at v b }) (record { width = u; height = j; values = value_at u c }) (place % w) (place / w)
 first_pixel_of w h v i u j place a b c e f some n first =
-    subst (λ (k : ℕ). IsFirstWide (record { width = w; height = h; values = value_at w a }) (record { width = k; height = i; values = value_at k b }) (record { width = u; height = j; values = value_at u c }) (place % w) (place / w)) (sym e.0)
-    (subst (λ (k : ℕ). IsFirstWide (record { width = w; height = h; values = value_at w a }) (record { width = w; height = i; values = value_at w b }) (record { width = k; height = j; values = value_at k c }) (place % w) (place / w)) (sym f.0)
+    subst (λ (k : ℕ). IsFirstWideLoop (record { width = w; height = h; values = value_at w a }) (record { width = k; height = i; values = value_at k b }) (record { width = u; height = j; values = value_at u c }) (place % w) (place / w)) (sym e.0)
+    (subst (λ (k : ℕ). IsFirstWideLoop (record { width = w; height = h; values = value_at w a }) (record { width = w; height = i; values = value_at w b }) (record { width = k; height = j; values = value_at k c }) (place % w) (place / w)) (sym f.0)
     (first_pixel w h place a b c some n first))
 
 -- one place more
@@ -140,10 +140,10 @@ keys_more cycles keys i d v lt e f =
 
 -- ---- what is told
 
-one_first : (a b c : GridOf) (x y u v : ℕ) → IsFirstWide a b c x y → IsFirstWide a b c u v → (u ≡ x) × (v ≡ y)
+one_first : (a b c : GridOf) (x y u v : ℕ) → IsFirstWideLoop a b c x y → IsFirstWideLoop a b c u v → (u ≡ x) × (v ≡ y)
 one_first a b c x y u v p q = same_pixel u v x y (λ e. p.1 u v e q.0) (λ e. q.1 x y e p.0)
 
 -- a refusal tells the first wide pixel, if there is one
-pub fault_told : (a b c : GridOf) (fault : LoopFault) → HasLoopCause a b c fault → (x y : ℕ) → IsFirstWide a b c x y → IsWideTold x y (Err fault)
+pub fault_told : (a b c : GridOf) (fault : LoopFault) → HasLoopCause a b c fault → (x y : ℕ) → IsFirstWideLoop a b c x y → IsWideTold x y (Err fault)
 fault_told a b c (Wide u v) cause x y p = one_first a b c x y u v p cause
 fault_told a b c Memory cause x y p = tt

@@ -4,7 +4,7 @@ use Rattle.std.specs.Prelude.{FitsSigned}
 use Rattle.std.specs.Int.{w128}
 use Rattle.std.proofs.lemmas.Int.{ints, to_z-of_z}
 use Rattle.grid_writer.proofs.NoData.{a_value, is_no_data, no_bits}
-use Rattle.loop_closure.specs.Closure.{IsWide, are_there, closure_of, loop_sum}
+use Rattle.loop_closure.specs.Closure.{IsWideLoop, are_there, closure_of, loop_sum}
 
 -- ---- a number of 128 bits, as the code holds it
 abbrev pub held : ℤ → ℤ
@@ -37,15 +37,15 @@ module _ (a b c u v w : ℤ) (fa : FitsSigned w64 a) (fb : FitsSigned w64 b) (fc
     there = rw (a_value a (no_bits a na), a_value b (no_bits b nb), a_value c (no_bits c nc)) refl
 
     -- n is what the cast to 64 bits gives
-    pub told : (n : ℤ) → FitsSigned w64 (held (held (held u +ℤ held v) -ℤ held w)) × (n ≡ held (held (held u +ℤ held v) -ℤ held w)) → (of_z w64 n ≡ 9223372036854775808 → ⊥) → (to_z w64 (of_z w64 n) ≡ closure_of a b c) × (IsWide a b c → ⊥)
+    pub told : (n : ℤ) → FitsSigned w64 (held (held (held u +ℤ held v) -ℤ held w)) × (n ≡ held (held (held u +ℤ held v) -ℤ held w)) → (of_z w64 n ≡ 9223372036854775808 → ⊥) → (to_z w64 (of_z w64 n) ≡ closure_of a b c) × (IsWideLoop a b c → ⊥)
     told n k ne =
         let e : n ≡ loop_sum a b c = k.1 ∙ sum_held in
         let fits : FitsSigned w64 n = subst (FitsSigned w64) (sym k.1) k.0 in
         let whole : closure_of a b c ≡ loop_sum a b c = rw there refl in
         (to_z-of_z w64 n fits ∙ e ∙ sym whole, λ wide. wide.1 (subst (FitsSigned w64) e fits, λ f. no_bits n ne (e ∙ f)))
 
-    pub no_closure : (n : ℤ) → FitsSigned w64 (held (held (held u +ℤ held v) -ℤ held w)) × (n ≡ held (held (held u +ℤ held v) -ℤ held w)) → of_z w64 n ≡ 9223372036854775808 → IsWide a b c
+    pub no_closure : (n : ℤ) → FitsSigned w64 (held (held (held u +ℤ held v) -ℤ held w)) × (n ≡ held (held (held u +ℤ held v) -ℤ held w)) → of_z w64 n ≡ 9223372036854775808 → IsWideLoop a b c
     no_closure n k e = (there, λ is. is.1 (sym (k.1 ∙ sum_held) ∙ is_no_data n (subst (FitsSigned w64) (sym k.1) k.0) e))
 
-    pub too_wide : (FitsSigned w64 (held (held (held u +ℤ held v) -ℤ held w)) → ⊥) → IsWide a b c
+    pub too_wide : (FitsSigned w64 (held (held (held u +ℤ held v) -ℤ held w)) → ⊥) → IsWideLoop a b c
     too_wide k = (there, λ is. k (subst (FitsSigned w64) (sym sum_held) is.0))

@@ -20,8 +20,8 @@ abbrev pub closure_of : ℤ → ℤ → ℤ → ℤ
 closure_of a b c = if are_there a b c then loop_sum a b c else no_data
 
 -- three values whose closure cannot stand in a grid
-abbrev pub IsWide : ℤ → ℤ → ℤ → Type 0
-IsWide a b c = IsTrue (are_there a b c) × (CanStand (loop_sum a b c) → ⊥)
+abbrev pub IsWideLoop : ℤ → ℤ → ℤ → Type 0
+IsWideLoop a b c = IsTrue (are_there a b c) × (CanStand (loop_sum a b c) → ⊥)
 
 -- at most half a cycle away from 0
 abbrev pub IsHalfCycle : ℤ → Type 0
@@ -43,10 +43,10 @@ is_misclosed n = not (int_eq (key_of n) (pos 0))
 
 -- one value too wide at a pixel, and the first such pixel in row order
 abbrev pub IsWideAt : GridOf → GridOf → GridOf → ℕ → ℕ → Type 0
-IsWideAt a b c x y = (x < a.width) × (y < a.height) × IsWide (a.values x y) (b.values x y) (c.values x y)
+IsWideAt a b c x y = (x < a.width) × (y < a.height) × IsWideLoop (a.values x y) (b.values x y) (c.values x y)
 
-abbrev pub IsFirstWide : GridOf → GridOf → GridOf → ℕ → ℕ → Type 0
-IsFirstWide a b c x y = IsWideAt a b c x y × ((u v : ℕ) → IsEarlier u v x y → IsWideAt a b c u v → ⊥)
+abbrev pub IsFirstWideLoop : GridOf → GridOf → GridOf → ℕ → ℕ → Type 0
+IsFirstWideLoop a b c x y = IsWideAt a b c x y × ((u v : ℕ) → IsEarlier u v x y → IsWideAt a b c u v → ⊥)
 
 -- the closures of three grids of one size, none of which is too wide
 pub record AreClosures (a b c closures : GridOf) : Type 0 where

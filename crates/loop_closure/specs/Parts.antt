@@ -4,7 +4,7 @@ use Rattle.grid_writer.specs.Grids.{GridOf}
 use Rattle.loop_closure.specs.declared.fault.LoopFault.{LoopFault}
 use Rattle.loop_closure.specs.declared.fault.LoopFault.TheVariants.{Wide, Memory}
 use Rattle.loop_closure.specs.declared.loops.Loops.{Loops}
-use Rattle.loop_closure.specs.Closure.{AreCyclesIn, IsFirstWide, IsWide, closure_of}
+use Rattle.loop_closure.specs.Closure.{AreCyclesIn, IsFirstWideLoop, IsWideLoop, closure_of}
 
 -- the value at a place of a list
 abbrev pub at_place : List ℤ → ℕ → ℤ
@@ -12,7 +12,7 @@ at_place values i = slice_index_or values i (pos 0)
 
 -- the sum at a place is too wide
 abbrev pub IsWideIn : List ℤ → List ℤ → List ℤ → ℕ → Type 0
-IsWideIn a b c i = IsWide (at_place a i) (at_place b i) (at_place c i)
+IsWideIn a b c i = IsWideLoop (at_place a i) (at_place b i) (at_place c i)
 
 -- none of the first n sums is too wide, and the closures are there
 pub record AreClosed (a b c : List ℤ) (n : ℕ) (closures : List ℤ) : Type 0 where
@@ -29,7 +29,7 @@ HaveCycles closures n cycles = (i : ℕ) → i < n → AreCyclesIn (at_place clo
 
 -- why loops were not closed
 abbrev pub HasLoopCause : GridOf → GridOf → GridOf → LoopFault → Type 0
-HasLoopCause a b c (Wide x y) = IsFirstWide a b c x y
+HasLoopCause a b c (Wide x y) = IsFirstWideLoop a b c x y
 HasLoopCause a b c Memory = ⊤
 
 -- the first wide pixel is told, unless memory ran out

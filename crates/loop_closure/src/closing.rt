@@ -1,5 +1,5 @@
 ghost use Rattle.grid_writer.specs.Grids.{grid_of};
-ghost use Rattle.loop_closure.specs.Closure.{AreClosures, AreCycles, AreMisclosed, IsFirstWide};
+ghost use Rattle.loop_closure.specs.Closure.{AreClosures, AreCycles, AreMisclosed, IsFirstWideLoop};
 ghost use Rattle.loop_closure.specs.Parts.{HasLoopCause, IsWideTold};
 ghost use Rattle.std.specs.Prelude.{◌≡◌, ℕ, IfErr, IfOk};
 
@@ -21,7 +21,7 @@ pub fn close_loop(alloc: Global, a: &Grid, b: &Grid, c: &Grid) -> Result<Loops, 
     ensures misclosed { IfOk result (λ loops. AreMisclosed loops.cycles loops.patches) }
     // The first pixel in row order whose closure is too wide, or memory ran out.
     ensures refused { IfErr result (HasLoopCause (grid_of a.now) (grid_of b.now) (grid_of c.now)) }
-    ensures exact { (x y : ℕ) → IsFirstWide (grid_of a.now) (grid_of b.now) (grid_of c.now) x y → IsWideTold x y result }
+    ensures exact { (x y : ℕ) → IsFirstWideLoop (grid_of a.now) (grid_of b.now) (grid_of c.now) x y → IsWideTold x y result }
 {
     let closures = closures_of(alloc, a, b, c)?;
     Ok(loops_of(alloc, closures)?)

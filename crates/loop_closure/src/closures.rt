@@ -1,4 +1,4 @@
-ghost use Rattle.loop_closure.specs.Closure.{IsWide, closure_of};
+ghost use Rattle.loop_closure.specs.Closure.{IsWideLoop, closure_of};
 ghost use Rattle.loop_closure.specs.Parts.{AreClosed, IsFirstWidePlace};
 ghost use Rattle.std.specs.Prelude.{◌≡◌, IfNone, IfSome, MatchOption, length};
 
@@ -7,7 +7,7 @@ use grid_writer::NO_DATA;
 /// The closure of three values, in units of 1/65536 cycle: NODATA where one of them is missing, and None if it does not fit 64
 /// bits or is the NODATA value.
 fn closure(a: i64, b: i64, c: i64) -> Option<i64>
-    ensures { MatchOption result (IsWide a b c) (λ closure. (closure ≡ closure_of a b c) × (IsWide a b c → ⊥)) }
+    ensures { MatchOption result (IsWideLoop a b c) (λ closure. (closure ≡ closure_of a b c) × (IsWideLoop a b c → ⊥)) }
 {
     if a == NO_DATA || b == NO_DATA || c == NO_DATA {
         return Some(NO_DATA);

@@ -1,4 +1,4 @@
-ghost use Rattle.auto_masks.specs.Screened.{AreInRange};
+ghost use Rattle.auto_masks.specs.Screened.{AreScreenTerms};
 ghost use Rattle.std.specs.Prelude.{◌≡◌, IfOk};
 
 use auto_masks::{Screen, ScreenTerms};
@@ -42,7 +42,7 @@ fn screened(
     weights: &Plane,
     mask: &Mask,
 ) -> Result<Mask, AllocError>
-    requires ranged { AreInRange terms }
+    requires ranged { AreScreenTerms terms }
     requires across { mask.now.width ≡ weights.now.width }
     requires along { mask.now.height ≡ weights.now.height }
     ensures { IfOk result (λ made. (made.width ≡ weights.now.width) × (made.height ≡ weights.now.height)) }

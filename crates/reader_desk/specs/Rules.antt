@@ -14,8 +14,8 @@ abbrev pub head_of : Book → Named
 head_of shelf = record { tracked = true; key = 0; book = shelf }
 
 -- if the list was as long as was expected, the surface was added to all that had been seen
-abbrev pub Adds : Step Parts → View Parts ℕ → ℕ → View Parts ℕ → Type 0
-Adds s v found w = MatchBool (found == s.old) (w.0 ≡ v.0 ++ s.ask ∷ []) (Unit {0})
+abbrev pub AddsNext : Step Parts → View Parts ℕ → ℕ → View Parts ℕ → Type 0
+AddsNext s v found w = MatchBool (found == s.old) (w.0 ≡ v.0 ++ s.ask ∷ []) (Unit {0})
 
 -- each view that names a shelf names this one
 abbrev pub IsOfShelf : Book → Option ShelfView → Type 0

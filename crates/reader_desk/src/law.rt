@@ -38,9 +38,9 @@ impl Gain<Placed, u64> for Nothing {
 pub struct Add;
 
 impl Play<Placed, u64> for Add {
-    ghost use Rattle.reader_desk.specs.Rules.{Adds};
+    ghost use Rattle.reader_desk.specs.Rules.{AddsNext};
 
-    ghost then = { Adds };
+    ghost then = { AddsNext };
 }
 
 /// What that step asks for: the surface.

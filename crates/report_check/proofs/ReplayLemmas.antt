@@ -22,7 +22,7 @@ use Rattle.tile_board.proofs.HeldLemmas.{cursor_room, cursor_there, differ_told,
 use Rattle.tile_board.proofs.HistoryLemmas.{kept_same, legal_push}
 use Rattle.tile_board.proofs.KeptLemmas.{kept_elsewhere, kept_gone, kept_here, kept_stays}
 use Rattle.tile_board.proofs.StateLemmas.{cursor_is}
-use Rattle.report_check.specs.Replays.{HasRoom, IsReplay, counted, doer}
+use Rattle.report_check.specs.Replays.{CanCount, IsReplay, counted, doer}
 use Rattle.sums_and_lists.proofs.Tests.{true_and_false}
 
 -- what is read at one place of two lists
@@ -48,10 +48,10 @@ module _ {s : Session} {H : List Entry} {held : RevisionsView} {kept : List Bool
   all_told all k l = (let m : k < tiles_of s.scene.tiling = omega (arith, l, is.count) in is.kept k m ∙ all k m)
 
   -- ---- an analyst with a next command has a cursor, and it can be counted
-  room : (a : ℕ) (c : Command) → next_command s H a ≡ Some c → HasRoom marks a
+  room : (a : ℕ) (c : Command) → next_command s H a ≡ Some c → CanCount marks a
   room a c n = (let b = cursor_there is.past a c n in (b.0, b.1, cursor_room is.past is.legal a c n))
 
-  pub may_count : (e : Entry) → IsStep s H e → IfSome (doer e) (HasRoom marks)
+  pub may_count : (e : Entry) → IsStep s H e → IfSome (doer e) (CanCount marks)
   may_count (Revised a edit) step = room a (Change edit) step
   may_count (Kept t r) step = tt
   may_count (Published a r) step = room a Settle step.0

@@ -56,8 +56,8 @@ doer (Settled a revision) = Some a
 doer (Shown a revision) = Some a
 
 -- a command of an analyst can be counted, and is
-abbrev pub HasRoom : List ℕ → ℕ → Type 0
-HasRoom marks a = (1 ≤ a) × (a - 1 < length marks) × (slice_index marks (a - 1) + 1 < 2 ^ 32)
+abbrev pub CanCount : List ℕ → ℕ → Type 0
+CanCount marks a = (1 ≤ a) × (a - 1 < length marks) × (slice_index marks (a - 1) + 1 < 2 ^ 32)
 
 abbrev pub counted : List ℕ → Option ℕ → List ℕ
 counted marks None = marks

@@ -19,6 +19,7 @@ use Rattle.tile_board.specs.Histories.{IsComplete, IsLegal, IsStep, mask_in}
 use Rattle.shown_values.specs.Values.{AllValuesFit, IsFirstUnfitValue, cycles_shown}
 use Rattle.report_text.specs.Certified.{IsCertifiedAfter, IsCertifiedReport, history_of}
 use Rattle.report_text.specs.Reports.{ItemOf, ReportOf, SurfaceOf}
+use Rattle.text_parts.specs.Terms.{HasRampOf, HasRuleOf, HasSteepnessOf}
 use Rattle.report_check.specs.declared.verdict.CheckVerdict.{CheckVerdict}
 use Rattle.report_check.specs.declared.verdict.CheckVerdict.TheVariants.{Accepted, Header, History, Value, Tile, Seams, TileCost, SeamCost}
 
@@ -30,30 +31,21 @@ HasReportSize s v = (v.width ≡ s.scene.phase.width) × (v.height ≡ s.scene.p
 abbrev pub HasSideOf : Session → ReportOf → Type 0
 HasSideOf s v = v.side ≡ s.scene.tiling.side
 
-abbrev pub HasRuleOf : Session → ReportOf → Type 0
-HasRuleOf s v = v.rule ≡ s.scene.rule
-
-abbrev pub HasRampOf : Session → ReportOf → Type 0
-HasRampOf s v = (v.terms.ramp_x ≡ s.scene.terms.ramp_x) × (v.terms.ramp_y ≡ s.scene.terms.ramp_y)
-
-abbrev pub HasSteepnessOf : Session → ReportOf → Type 0
-HasSteepnessOf s v = v.terms.steep ≡ s.scene.terms.steep
-
 pub record HasHeadOf (s : Session) (v : ReportOf) : Type 0 where
   pub size : HasReportSize s v
   pub side : HasSideOf s v
-  pub rule : HasRuleOf s v
-  pub ramp : HasRampOf s v
-  pub steepness : HasSteepnessOf s v
+  pub rule : HasRuleOf s v.rule
+  pub ramp : HasRampOf s v.terms
+  pub steepness : HasSteepnessOf s v.terms
 
 -- the first of them that does not has this number
 abbrev pub DiffersAt : Session → ReportOf → ℕ → Type 0
 DiffersAt s v n =
     ((n ≡ 2) × (HasReportSize s v → ⊥))
     ⊎ (((n ≡ 3) × (HasReportSize s v × (HasSideOf s v → ⊥)))
-    ⊎ (((n ≡ 4) × (HasReportSize s v × (HasSideOf s v × (HasRuleOf s v → ⊥))))
-    ⊎ (((n ≡ 5) × (HasReportSize s v × (HasSideOf s v × (HasRuleOf s v × (HasRampOf s v → ⊥)))))
-    ⊎ ((n ≡ 6) × (HasReportSize s v × (HasSideOf s v × (HasRuleOf s v × (HasRampOf s v × (HasSteepnessOf s v → ⊥)))))))))
+    ⊎ (((n ≡ 4) × (HasReportSize s v × (HasSideOf s v × (HasRuleOf s v.rule → ⊥))))
+    ⊎ (((n ≡ 5) × (HasReportSize s v × (HasSideOf s v × (HasRuleOf s v.rule × (HasRampOf s v.terms → ⊥)))))
+    ⊎ ((n ≡ 6) × (HasReportSize s v × (HasSideOf s v × (HasRuleOf s v.rule × (HasRampOf s v.terms × (HasSteepnessOf s v.terms → ⊥)))))))))
 
 -- ---- the history: entry n, from 1, may not come after those before it; or all may and the scripts are not at their ends, and n is one more than their number
 

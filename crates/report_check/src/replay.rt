@@ -1,6 +1,6 @@
 ghost use Rattle.raster_model.specs.Scripts.{IsRectIn, rect_of};
 ghost use Rattle.raster_model.specs.Tiles.{tiles_of};
-ghost use Rattle.report_check.specs.Replays.{HasRoom, IsReplayOf, IsReplaying, IsRevised, MayTake, TakesEntry, TellsComplete, TellsStep, counted, doer};
+ghost use Rattle.report_check.specs.Replays.{CanCount, IsReplayOf, IsReplaying, IsRevised, MayTake, TakesEntry, TellsComplete, TellsStep, counted, doer};
 ghost use Rattle.std.specs.Prelude.{◌≡◌, ◌↔◌, ℕ, ◌+◌, ◌<◌, ◌^◌, [], Bool, IfOk, IfSome, IsTrue, OnOk, Some, length, slice_get, slice_index_or, vec_len};
 ghost use Rattle.tile_board.specs.Histories.{script_in};
 ghost use Rattle.tile_board.specs.Places.{cursor_at};
@@ -190,7 +190,7 @@ fn analyst_of(entry: Entry) -> Option<u32>
 
 /// Counts a command of an analyst, if any, as done.
 fn count(cursors: &mut Vec<u32>, analyst: Option<u32>)
-    requires { IfSome analyst (HasRoom cursors.old.items) }
+    requires { IfSome analyst (CanCount cursors.old.items) }
     ensures { cursors.new.items ≡ counted cursors.old.items analyst }
 {
     if let Some(analyst) = analyst {

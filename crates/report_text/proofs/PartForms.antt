@@ -25,7 +25,7 @@ use Rattle.grid_writer.specs.Grids.{AreLong, IsGrid, IsGridText, IsGridTextOf, g
 use Rattle.grid_writer.proofs.GridReads.{grid_whole, grid_free}
 use Rattle.report_text.specs.Contents.{IsSurfaceInRange}
 use Rattle.report_text.specs.Parsing.{AreCosts}
-use Rattle.report_text.specs.Parts.{AreCertificates, AreFacesBelow, AreFacesOf, AreSolved, IsFrame, IsFront, IsSurfaceText, IsTermsText, IsTiling, MayStand, certificates_text, frame_text, front_text, solved_text, tiling_text}
+use Rattle.report_text.specs.Parts.{AreCertificates, AreFacesBelow, AreFacesOf, AreSolved, IsFrame, IsReportFront, IsSurfaceText, IsTermsText, IsTiling, MayStand, certificates_text, frame_text, front_text, solved_text, tiling_text}
 use Rattle.text_parts.specs.Parts.{AreTold, IsRamp, told_text}
 use Rattle.report_text.specs.Reports.{SurfaceOf}
 use Rattle.text_parts.specs.Steps.{TextOf, both, in_turn}
@@ -69,13 +69,13 @@ tiling_part = turn_part (line_part side_kind) (line_part rule_kind)
 pub frame_part : IsPart IsFrame frame_text
 frame_part = turn_part (line_part size_kind) tiling_part
 
-pub front_part : IsPart IsFront front_text
+pub front_part : IsPart IsReportFront front_text
 front_part = turn_part (line_part version_kind) frame_part
 
 frame_one : One IsFrame frame_text
 frame_one = turn_one (line_part size_kind) tiling_part (line_one size_unique) (turn_one (line_part side_kind) (line_part rule_kind) (line_one side_unique) (line_one (λ p q _ _. rule_unique p q)))
 
-pub front_one : One IsFront front_text
+pub front_one : One IsReportFront front_text
 front_one = turn_one (line_part version_kind) frame_part (line_one version_unique) frame_one
 
 -- ---- the terms

@@ -15,7 +15,7 @@ use Rattle.text_lines.proofs.FirstLemmas.{text_not_cut}
 use Rattle.text_lines.proofs.SeqLemmas.{IsCode, SameForms, Seq, after_then, first_same, same_code, seq_after, seq_code, seq_first}
 use Rattle.text_lines.proofs.StepLemmas.{joined, second}
 use Rattle.report_text.specs.Contents.{IsReport, IsReportText}
-use Rattle.report_text.specs.Parts.{FrontOf, IsFront, IsItemsText, IsTermsText, front_text, items_text}
+use Rattle.report_text.specs.Parts.{FrontOf, IsItemsText, IsReportFront, IsTermsText, front_text, items_text}
 use Rattle.text_parts.specs.Parts.{HasMoreCause, IsLineMore}
 use Rattle.text_parts.specs.Steps.{TextOf}
 use Rattle.report_text.specs.Reading.{BreaksReportAt, EndsReportIn, HasReportCause}
@@ -52,7 +52,7 @@ pub report_is : (v : ReportOf) → report_text v ≡ front_text (front_of v) ++ 
 unfolding report_text
 report_is v = regroup (ended_line version_line v.version) (ended_line size_line (v.width, v.height)) (ended_line tile_line v.side) (ended_line rule_line v.rule) (terms_text v.version v.terms) (items_text v.width v.height (tiles_in v) v.items)
 
-report_same : SameForms (Then IsFront front_text RestOf) IsReportText
+report_same : SameForms (Then IsReportFront front_text RestOf) IsReportText
 report_same = record {
   to = λ t s.
       let p = s.0 in
@@ -70,16 +70,16 @@ report_same = record {
       (front_of v, ((i.versioned, (i.sized, (i.sides, tt))), (terms ++ items, ((terms, items, ((v.terms, (i.terms, refl)), ((v.items, (i.items, refl)), refl))), a.1.1 ∙ report_is v))));
 }
 
-pub report_first : ComesFirst (TextOf IsFront front_text) IsReportText
+pub report_first : ComesFirst (TextOf IsReportFront front_text) IsReportText
 report_first = first_same _ _ _ report_same (then_first front_part front_one RestOf (λ p f. (terms_text p.0 plain_terms ++ codes "end\n", (terms_text p.0 plain_terms, codes "end\n", ((plain_terms, (plain_in p.0, refl)), (([], (tt, refl)), refl))))))
 
-pub rest_after : (p : FrontOf) → IsFront p → ComesAfter (front_text p) (RestOf p) IsReportText
+pub rest_after : (p : FrontOf) → IsReportFront p → ComesAfter (front_text p) (RestOf p) IsReportText
 rest_after p f = after_same report_same (then_after front_part front_one RestOf p f)
 
 pub terms_first : (p : FrontOf) → ComesFirst (IsTermsText p.0) (RestOf p)
 terms_first p = seq_first (IsTermsText p.0) (ItemsOf p) (terms_code p.0) (codes "end\n") ([], (tt, refl))
 
-pub items_after : (p : FrontOf) → IsFront p → (t : TermsOf) → AreTermsIn p.0 t → ComesAfter (front_text p ++ terms_text p.0 t) (ItemsOf p) IsReportText
+pub items_after : (p : FrontOf) → IsReportFront p → (t : TermsOf) → AreTermsIn p.0 t → ComesAfter (front_text p ++ terms_text p.0 t) (ItemsOf p) IsReportText
 items_after p f t a = after_then _ _ _ _ _ (rest_after p f) (seq_after (IsTermsText p.0) (ItemsOf p) (terms_code p.0) (terms_text p.0 t) (t, (a, refl)))
 
 pub report_code : IsCode IsReportText

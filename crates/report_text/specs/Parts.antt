@@ -48,8 +48,8 @@ frame_text = in_turn (ended_line size_line) tiling_text
 abbrev pub FrontOf : Type 0
 FrontOf = ℕ × ((ℕ × ℕ) × (ℕ × RuleKind))
 
-abbrev pub IsFront : FrontOf → Type 0
-IsFront = both IsVersion IsFrame
+abbrev pub IsReportFront : FrontOf → Type 0
+IsReportFront = both IsVersion IsFrame
 
 abbrev pub front_text : FrontOf → List ℕ
 front_text = in_turn (ended_line version_line) frame_text

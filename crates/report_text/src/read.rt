@@ -5,7 +5,7 @@ ghost use Rattle.report_text.specs.Contents.{IsEntryOfWords, IsItemInRange, IsRe
 ghost use Rattle.report_text.specs.Fitting.{ItemsFit, MayFit, SurfaceFits};
 ghost use Rattle.report_text.specs.Parsing.{AreCosts};
 ghost use Rattle.text_parts.specs.Parts.{IsListParsedAs, list_in};
-ghost use Rattle.report_text.specs.Parts.{AreFacesBelow, AreFacesOf, AreItems, HasAfterCause, IsFront, MayStand, front_in, front_text, items_in, items_text, lists_in};
+ghost use Rattle.report_text.specs.Parts.{AreFacesBelow, AreFacesOf, AreItems, HasAfterCause, IsReportFront, MayStand, front_in, front_text, items_in, items_text, lists_in};
 ghost use Rattle.report_text.specs.Reading.{HasBrokenReportLine, HasReportCause, IsReader, IsReportRead, IsReportRefusedAt};
 ghost use Rattle.text_parts.specs.Steps.{Advances, ReadsPart, Took, between, itself, place_of};
 ghost use Rattle.report_text.specs.Terms.{AreTermsIn, IsVersion};
@@ -51,7 +51,7 @@ fn read_side<S: Source>(feed: &mut Feed<S>, lines: &mut Lines) -> Result<u32, Li
 
 /// Reads the first four lines.
 fn read_head<S: Source>(feed: &mut Feed<S>, lines: &mut Lines) -> Result<Head, LineFault>
-    ensures { ReadsPart front_in IsFront front_text (place_of S.left S.faults feed.old lines.old) (place_of S.left S.faults feed.new lines.new) result }
+    ensures { ReadsPart front_in IsReportFront front_text (place_of S.left S.faults feed.old lines.old) (place_of S.left S.faults feed.new lines.new) result }
 {
     let version = read_version(feed, lines)?;
     let (width, height) = read_size(feed, lines)?;

@@ -36,7 +36,7 @@ use Rattle.session_script.specs.declared.fault.SessionFault.{SessionFault}
 use Rattle.session_script.specs.declared.fault.SessionFault.TheVariants.{Input, ReadFault, Memory}
 use Rattle.session_script.specs.Causes.{HasSessionCause, IsReadAsSession, IsRefusedFor, IsAtLimit}
 use Rattle.session_script.specs.Making.{IsMadeOf, IsSessionOutcome}
-use Rattle.session_script.specs.Building.{parts_in, planes_in, scripts_in}
+use Rattle.session_script.specs.Building.{parts_read, planes_in, scripts_in}
 use Rattle.session_script.specs.declared.parts.Parts.{Parts}
 use Rattle.session_script.specs.Reaching.{Reaches}
 
@@ -178,7 +178,7 @@ frame_is t p side a b c = rw (← a, ← b, ← c) refl
 
 -- ---- what the call's outcome says
 
-pub makes_session : (usage : SessionUse) (side : ℕ) (c : Call) (x : Parts) (r : Result Session SessionFault) → IfOk r (λ s. IsMadeOf (planes_in x.planes) (scripts_in x.scripts) (session_of s)) → IfErr r (λ fault. fault ≡ Memory) → IsOutcome parts_in (Ok x) c (session_parser usage side) → IsSessionOutcome usage side c r
+pub makes_session : (usage : SessionUse) (side : ℕ) (c : Call) (x : Parts) (r : Result Session SessionFault) → IfOk r (λ s. IsMadeOf (planes_in x.planes) (scripts_in x.scripts) (session_of s)) → IfErr r (λ fault. fault ≡ Memory) → IsOutcome parts_read (Ok x) c (session_parser usage side) → IsSessionOutcome usage side c r
 makes_session usage side c x (Ok s) made starved h = (x, made, h)
 makes_session usage side c x (Err e) made starved h = rw starved tt
 
@@ -206,10 +206,10 @@ module _ (usage : SessionUse) (side : ℕ) (c : Call) (m : Moves c) (start : c.a
   reads_session session (x, made, outcome) = if_told c.told _ (λ bytes t.
       let l = told_on m.front c.told c.left bytes m.parts t in
       let parts : bytes ≡ m.front ++ l.0 = some_is bytes (m.front ++ l.0) (sym t ∙ m.parts ∙ ap (with_front m.front) l.1) in
-      let all = value_seen usage side bytes (parts_in x) c.end (take (c.limit - c.end) l.0) (sym (at_start bytes) ∙ outcome bytes l.0 t l.1) in
-      let s = found (session_means usage side) 0 bytes (parts_in x) c.end l.0 (all ∙ ap (done (parts_in x) c.end) (all_left bytes l.0 parts)) in
+      let all = value_seen usage side bytes (parts_read x) c.end (take (c.limit - c.end) l.0) (sym (at_start bytes) ∙ outcome bytes l.0 t l.1) in
+      let s = found (session_means usage side) 0 bytes (parts_read x) c.end l.0 (all ∙ ap (done (parts_read x) c.end) (all_left bytes l.0 parts)) in
       let size : length bytes ≡ length m.front + length l.0 = omega (arith, ap length parts, length-append m.front l.0) in
-      (l.0, (l.1, (omega (arith, size, m.place), made_by usage side bytes (parts_in x) l.0 (session_of session) s.1 made (omega (arith, size, m.place, start, limit, within))))))
+      (l.0, (l.1, (omega (arith, size, m.place), made_by usage side bytes (parts_read x) l.0 (session_of session) s.1 made (omega (arith, size, m.place, start, limit, within))))))
 
   -- all that the reader of a session promises
   pub record Keeps (r : Result Session SessionFault) : Type 0 where

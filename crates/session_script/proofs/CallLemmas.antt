@@ -30,7 +30,7 @@ use Rattle.session_script.specs.Faults.{session_fault_of_feed, fault_of_plane}
 use Rattle.session_script.specs.Sections.{Sections, Frame, AreWithinLimits, line_count, word_broken, with_word}
 use Rattle.session_script.specs.Parsing.{Parse, Parser, if_no_more, parsed, and_then, chain, peek_parser, line_parser, as_parse, Parses}
 use Rattle.session_script.proofs.SectionsAgain.{line_begins, line_refused, line_missing, after, lines_after, by_line, goes_on}
-use Rattle.session_script.specs.Building.{FitsIn, IsJudged}
+use Rattle.session_script.specs.Building.{FitsIn, IsSpelledLine}
 use Rattle.session_script.proofs.ParseLemmas.{done, broken, refusing}
 use Rattle.session_script.proofs.WithinLemmas.{IsNext}
 
@@ -173,7 +173,7 @@ module _ (number : ℕ) (into : List ℕ) (c : Call) (size : length into ≡ 64)
       let seen : take (c.limit - c.at) bytes ≡ take n into = out.0 ∙ ap (λ (x : List ℕ). m.front ++ x) end.0 ∙ append-nil m.front ∙ is in
       rw (out.1 ∙ end.1, seen) (line_missing number more c.at (take n into) (omega (arith, count n le, le, size), all))
 
-  pub reads_line : (l : Line) (r : Result Word SessionFault) → IsNextLine l into c.told c.left → c.end ≡ c.at + bytes_of l into → c.at + asked_by l into ≤ c.limit → IsJudged number l into r → Parses word_as r c (line_parser number [])
+  pub reads_line : (l : Line) (r : Result Word SessionFault) → IsNextLine l into c.told c.left → c.end ≡ c.at + bytes_of l into → c.at + asked_by l into ≤ c.limit → IsSpelledLine number l into r → Parses word_as r c (line_parser number [])
   reads_line (Whole n) (Ok w) (le, all, parts) place low s =
       let m = gone (take n into ++ 10 ∷ []) parts (omega (arith, place, count n le, length-append (take n into) (10 ∷ []))) in
       record {

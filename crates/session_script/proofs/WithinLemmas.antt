@@ -10,7 +10,7 @@ use Rattle.raster_model.specs.declared.script.Command.{Command}
 use Rattle.raster_model.specs.declared.script.Script.{Script}
 use Rattle.session_script.specs.declared.word.Word.{Word}
 use Rattle.session_script.specs.declared.word.Word.TheVariants as words
-use Rattle.session_script.specs.Sections.{Sections, sections_of, section_words, words_of, line_count, last_of, with_command, Frame, settles_of, changes_of, AreWithinLimits, lies_in, limit_broken, command_broken, word_broken, with_word}
+use Rattle.session_script.specs.Sections.{Sections, sections_of, section_words, words_of, line_count, last_commands, with_command, Frame, settles_of, changes_of, AreWithinLimits, lies_in, limit_broken, command_broken, word_broken, with_word}
 use Rattle.std.specs.Prelude.{slice_get}
 use Rattle.std.specs.List.{AllByRecursion}
 use Rattle.std.proofs.lemmas.Bool.{le-ltb, ltb-false, ne_eqb, not-false}
@@ -61,7 +61,7 @@ not_empty zero empty e f = absurd (let q = sym e ∙ f in cc)
 not_empty (suc n) empty e f = omega arith
 
 module _ (scripts : List Script) (s : Script) (k : ℕ) (place : k ≡ length scripts - 1) (some : 1 ≤ length scripts) where
-  pub last_read : s ≡ get_or scripts k s → last_of (sections_of scripts) ≡ s.commands.items
+  pub last_read : s ≡ get_or scripts k s → last_commands (sections_of scripts) ≡ s.commands.items
   last_read e =
       let here : length (sections_of scripts) - 1 ≡ k = rw length_is (sym place) in
       rw here (get_or-map (λ script. script.commands.items) scripts k s [] (omega (arith, place, some)) ∙ ap (λ (x : Script). x.commands.items) (sym e))
@@ -79,14 +79,14 @@ module _ (scripts : List Script) (old new : Script) (k : ℕ) (c : Command) (pla
   pub sections_added : new.commands.items ≡ old.commands.items ++ c ∷ [] → sections_of (set scripts k new) ≡ with_command c (sections_of scripts)
   sections_added e =
       let here : length (sections_of scripts) - 1 ≡ k = rw length_is (sym place) in
-      let last : last_of (sections_of scripts) ≡ old.commands.items = last_read scripts old k place some read in
+      let last : last_commands (sections_of scripts) ≡ old.commands.items = last_read scripts old k place some read in
       rw (last, here, ← e) (map-set (λ script. script.commands.items) scripts k new)
 
 pub lines_added : (ss : Sections) (c : Command) → 1 ≤ length ss → line_count (with_command c ss) ≡ line_count ss + 1
 lines_added ss c some = ap length (words_added ss c some) ∙ length-append (words_of ss) (words.Command c ∷ [])
 
 pub counts_added : (test : Command → Bool) (ss : Sections) (c : Command) → 1 ≤ length ss → sum_by (count_by test) (with_command c ss) ≡ sum_by (count_by test) ss + cond (test c) 1 0
-counts_added test ss c some = omega (arith, sum_by-set (count_by test) ss (length ss - 1) (last_of ss ++ c ∷ []) [] (omega (arith, some)), count_by_pushed test (last_of ss) c)
+counts_added test ss c some = omega (arith, sum_by-set (count_by test) ss (length ss - 1) (last_commands ss ++ c ∷ []) [] (omega (arith, some)), count_by_pushed test (last_commands ss) c)
 
 -- ---- a word that may stand next, and its words
 
@@ -102,7 +102,7 @@ words_with (words.Command c) ss n = words_added ss c n
 
 -- ---- the last section
 
-last_is : (front : Sections) (s : List Command) → last_of (front ++ s ∷ []) ≡ s
+last_is : (front : Sections) (s : List Command) → last_commands (front ++ s ∷ []) ≡ s
 last_is front s = let k : length (front ++ s ∷ []) - 1 ≡ length front = omega (arith, length-append front (s ∷ [])) in rw k (get_or-append_seam front s [] [])
 
 with_last : (front : Sections) (s : List Command) (c : Command) → with_command c (front ++ s ∷ []) ≡ front ++ (s ++ c ∷ []) ∷ []
@@ -219,7 +219,7 @@ module _ (f : Frame) (n : ℕ) where
     adds_last : (ss : Sections) → ss ≡ old → AreWithinLimits f ss → command_broken f n ss c ≡ None → AreWithinLimits f (with_command c ss)
     adds_last ss is within e =
         let begun : command_broken f n old c ≡ None = rw is at e in
-        let room = unless (nat_lt 4095 (length (last_of old))) (TooManyCommands n) (limit_broken f n old c) (unless _ _ _ begun).1 in
+        let room = unless (nat_lt 4095 (length (last_commands old))) (TooManyCommands n) (limit_broken f n old c) (unless _ _ _ begun).1 in
         rw (is, with_last front s c) (adds_command (rw is at within) (ltb-false 4095 (length s) (rw (last_is front s) at room.0)) (fits_so old c (rw is at within) room.1))
 
     takes_last : (ss : Sections) → ss ≡ old → AreWithinLimits f (with_command c ss) → AreWithinLimits f ss × (command_broken f n ss c ≡ None)

@@ -25,8 +25,8 @@ scripts_in scripts = sections_of scripts.items
 abbrev pub planes_in : Planes → ThreePlanes
 planes_in read = three (plane_of read.phase) (plane_of read.weights) (plane_of read.mask)
 
-abbrev pub parts_in : Parts → ThreePlanes × Sections
-parts_in parts = (planes_in parts.planes, scripts_in parts.scripts)
+abbrev pub parts_read : Parts → ThreePlanes × Sections
+parts_read parts = (planes_in parts.planes, scripts_in parts.scripts)
 
 -- the tiling is of the phase plane's size
 abbrev pub IsSized : Parts → Type 0
@@ -39,8 +39,8 @@ FitsIn (Cut n) into = n ≤ length into
 FitsIn Over into = ⊤
 
 -- what the line with this number is, of which these bytes were read
-abbrev pub IsJudged : ℕ → Line → List ℕ → Result Word SessionFault → Type 0
-IsJudged number (Whole n) into (Ok word) = Spells (take n into) word
-IsJudged number (Whole n) into (Err fault) = SpellsNone (take n into) × (fault ≡ Input (ScriptLine number))
-IsJudged number (Cut n) into result = result ≡ Err (Input NoEnd)
-IsJudged number Over into result = result ≡ Err (Input (ScriptLine number))
+abbrev pub IsSpelledLine : ℕ → Line → List ℕ → Result Word SessionFault → Type 0
+IsSpelledLine number (Whole n) into (Ok word) = Spells (take n into) word
+IsSpelledLine number (Whole n) into (Err fault) = SpellsNone (take n into) × (fault ≡ Input (ScriptLine number))
+IsSpelledLine number (Cut n) into result = result ≡ Err (Input NoEnd)
+IsSpelledLine number Over into result = result ≡ Err (Input (ScriptLine number))

@@ -6,7 +6,7 @@ use Rattle.raster_model.specs.Masks.{IsMaskOf}
 use Rattle.session_script.specs.declared.fault.SessionFault.{SessionFault}
 use Rattle.session_script.specs.declared.session_use.SessionUse.{SessionUse}
 use Rattle.session_script.specs.declared.parts.Parts.{Parts}
-use Rattle.session_script.specs.Building.{parts_in, planes_in, scripts_in}
+use Rattle.session_script.specs.Building.{parts_read, planes_in, scripts_in}
 use Rattle.session_script.specs.Parsing.{ThreePlanes, IsOutcome, session_parser}
 use Rattle.session_script.specs.Sections.{Sections}
 use Rattle.session_script.specs.Sessions.{SessionOf, session_of, mask_open_in}
@@ -19,5 +19,5 @@ pub record IsMadeOf (planes : ThreePlanes) (scripts : Sections) (s : SessionOf) 
 
 -- a session is made of what the parser gives, or the call's outcome is its fault
 abbrev pub IsSessionOutcome : SessionUse → ℕ → Call → Result Session SessionFault → Type 0
-IsSessionOutcome usage side c (Ok session) = (x : Parts) × IsMadeOf (planes_in x.planes) (scripts_in x.scripts) (session_of session) × IsOutcome parts_in (Ok x) c (session_parser usage side)
-IsSessionOutcome usage side c (Err fault) = IsOutcome parts_in (Err fault) c (session_parser usage side)
+IsSessionOutcome usage side c (Ok session) = (x : Parts) × IsMadeOf (planes_in x.planes) (scripts_in x.scripts) (session_of session) × IsOutcome parts_read (Ok x) c (session_parser usage side)
+IsSessionOutcome usage side c (Err fault) = IsOutcome parts_read (Err fault) c (session_parser usage side)

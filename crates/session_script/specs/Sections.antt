@@ -67,8 +67,8 @@ abbrev pub lies_in : Frame → Rect → Bool
 lies_in f r = not (nat_lt r.x1 r.x0) && nat_lt r.x1 f.width && not (nat_lt r.y1 r.y0) && nat_lt r.y1 f.height
 
 -- the commands of the last analyst
-abbrev pub last_of : Sections → List Command
-last_of sections = slice_index_or sections (length sections - 1) []
+abbrev pub last_commands : Sections → List Command
+last_commands sections = slice_index_or sections (length sections - 1) []
 
 -- What is wrong with a command in line n after some sections: it belongs to no analyst, its analyst has 4096 commands
 -- already, its rectangle does not lie in the raster, or it passes a limit of all analysts. The first of these is told.
@@ -78,7 +78,7 @@ limit_broken f n sections Settle = if nat_lt max_settled_pixels ((settles_of sec
 limit_broken f n sections Show = None
 
 abbrev pub command_broken : Frame → ℕ → Sections → Command → Option InputFault
-command_broken f n sections command = if length sections == 0 then Some (ScriptLine n) else (if nat_lt 4095 (length (last_of sections)) then Some (TooManyCommands n) else limit_broken f n sections command)
+command_broken f n sections command = if length sections == 0 then Some (ScriptLine n) else (if nat_lt 4095 (length (last_commands sections)) then Some (TooManyCommands n) else limit_broken f n sections command)
 
 -- what is wrong with a word in line n after some sections
 abbrev pub word_broken : Frame → ℕ → Sections → Word → Option InputFault
@@ -88,7 +88,7 @@ word_broken f n sections (words.Command command) = command_broken f n sections c
 
 -- the sections with one more word: a section begins, or the last one goes on
 abbrev pub with_command : Command → Sections → Sections
-with_command command sections = slice_set sections (length sections - 1) (last_of sections ++ command ∷ [])
+with_command command sections = slice_set sections (length sections - 1) (last_commands sections ++ command ∷ [])
 
 abbrev pub with_word : Word → Sections → Sections
 with_word words.Analyst sections = sections ++ [] ∷ []

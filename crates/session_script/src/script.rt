@@ -1,6 +1,6 @@
 ghost use Rattle.insar_ports.specs.Calls.{call_of};
 ghost use Rattle.insar_ports.specs.Feeding.{handed_of, limit_of, source_name};
-ghost use Rattle.session_script.specs.Building.{FitsIn, IsJudged, scripts_in, sections_in};
+ghost use Rattle.session_script.specs.Building.{FitsIn, IsSpelledLine, scripts_in, sections_in};
 ghost use Rattle.session_script.specs.Parsing.{Parses, line_parser, lines_parser, script_parser};
 ghost use Rattle.session_script.specs.Scripts.{meant, usual};
 ghost use Rattle.session_script.specs.Sections.{AreWithinLimits, AreComplete, frame_of};
@@ -38,7 +38,7 @@ fn read_word<S: Source>(feed: &mut Feed<S>, number: u32) -> Result<Word, Session
 /// What the line is that was put into `line`.
 fn judged(found: Line, line: &[u8], number: u32) -> Result<Word, SessionFault>
     requires { FitsIn found line.now }
-    ensures { IsJudged number found line.now result }
+    ensures { IsSpelledLine number found line.now result }
 {
     match found {
         Line::Whole(count) => match word_of(&line[..count]) {

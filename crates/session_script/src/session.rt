@@ -5,7 +5,7 @@ ghost use Rattle.insar_ports.specs.Calls.{Moves, call_of};
 ghost use Rattle.pgm_planes.specs.declared.fault.InputFault.{InputFault as AnyFault};
 ghost use Rattle.pgm_planes.specs.declared.fault.InputFault.TheVariants as faults;
 ghost use Rattle.session_script.specs.declared.fault.SessionFault.TheVariants as session_faults;
-ghost use Rattle.session_script.specs.Building.{IsSized, parts_in, planes_in, scripts_in};
+ghost use Rattle.session_script.specs.Building.{IsSized, parts_read, planes_in, scripts_in};
 ghost use Rattle.session_script.specs.Sections.{AreComplete, frame_of};
 ghost use Rattle.session_script.specs.Causes.{HasSessionCause, IsAtLimit, IsReadAsSession, IsRefusedFor};
 ghost use Rattle.session_script.specs.Making.{IsMadeOf, IsSessionOutcome};
@@ -94,7 +94,7 @@ fn read_parts<S: Source>(
     ensures side { IfOk result (λ parts. parts.tiling.side ≡ side) }
     ensures sized { IfOk result IsSized }
     ensures complete { IfOk result (λ parts. AreComplete (frame_of parts.tiling) (scripts_in parts.scripts)) }
-    ensures parses { Parses parts_in result (call_of S.left S.faults feed.old feed.new) (session_parser use_as side) }
+    ensures parses { Parses parts_read result (call_of S.left S.faults feed.old feed.new) (session_parser use_as side) }
 {
     let planes = read_planes(alloc, feed)?;
     let tiling = Tiling::new(planes.phase.width, planes.phase.height, side);

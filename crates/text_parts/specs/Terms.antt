@@ -1,6 +1,8 @@
 -- The terms as a text tells them.
 use Rattle.std.specs.Prelude.{◌≡◌, ◌⊎◌, ◌&&◌, ◌==◌, ℕ, ℤ, if◌then◌else◌}
+use Rattle.raster_model.specs.declared.session.Session.{Session}
 use Rattle.raster_model.specs.declared.terms.Terms.{Terms}
+use Rattle.raster_model.specs.declared.weights.RuleKind.{RuleKind}
 
 -- what an expected ramp rises along a right and along a down edge, and the steepness of costs
 pub record TermsOf : Type 0 where
@@ -10,3 +12,13 @@ pub record TermsOf : Type 0 where
 
 abbrev pub terms_of : Terms → TermsOf
 terms_of t = record { ramp_x = t.ramp_x; ramp_y = t.ramp_y; steep = t.steep }
+
+-- they are a session's: its rule, its ramp, its steepness
+abbrev pub HasRuleOf : Session → RuleKind → Type 0
+HasRuleOf s rule = rule ≡ s.scene.rule
+
+abbrev pub HasRampOf : Session → TermsOf → Type 0
+HasRampOf s told = (told.ramp_x ≡ s.scene.terms.ramp_x) × (told.ramp_y ≡ s.scene.terms.ramp_y)
+
+abbrev pub HasSteepnessOf : Session → TermsOf → Type 0
+HasSteepnessOf s told = told.steep ≡ s.scene.terms.steep

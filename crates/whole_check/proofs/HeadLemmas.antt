@@ -2,11 +2,11 @@
 use Rattle.std.proofs.Common.{◌≡◌, ℕ, arith}
 use Rattle.raster_model.specs.declared.session.Session.{Session}
 use Rattle.whole_text.specs.Text.{WholeOf}
-use Rattle.whole_check.specs.Verdicts.{DiffersAt, HasHeadOf}
+use Rattle.whole_check.specs.Verdicts.{HasWholeHead, WholeDiffersAt}
 
 module _ (s : Session) (v : WholeOf) where
-  pub no_difference : (n : ℕ) → HasHeadOf s v → DiffersAt s v n → ⊥
+  pub no_difference : (n : ℕ) → HasWholeHead s v → WholeDiffersAt s v n → ⊥
   no_difference n h d = grind arith
 
-  pub one_difference : (m n : ℕ) → DiffersAt s v m → DiffersAt s v n → m ≡ n
+  pub one_difference : (m n : ℕ) → WholeDiffersAt s v m → WholeDiffersAt s v n → m ≡ n
   one_difference m n d e = grind arith

@@ -20,8 +20,8 @@ use Rattle.whole_raster.proofs.Whole.{whole_tile_cost}
 use Rattle.whole_text.specs.Reading.{IsSameWhole}
 use Rattle.whole_text.specs.Text.{WholeOf}
 use Rattle.whole_text.specs.Told.{AreFewCycles, value_above}
-use Rattle.whole_check.specs.Same.{AcceptanceIsOfTexts, CertifiedWholesAreAccepted}
-use Rattle.whole_check.specs.Verdicts.{HasHeadOf, surface_told}
+use Rattle.whole_check.specs.Same.{AcceptanceIsOfWholes, CertifiedWholesAreAccepted}
+use Rattle.whole_check.specs.Verdicts.{HasWholeHead, surface_told}
 use Rattle.whole_check.proofs.StandLemmas.{shown_there}
 
 module _ (r : Raster) (mask : Field Bool) (cycles others : Field ℤ) (agree : (x y : ℕ) → x < r.width → y < r.height → IsTrue (mask x y) → lifted r cycles x y ≡ lifted r others x y) where
@@ -39,7 +39,7 @@ module _ (r : Raster) (mask : Field Bool) (cycles others : Field ℤ) (agree : (
 
 -- ---- texts that tell the same
 
-same_head : (s : Session) (v w : WholeOf) → IsSameWhole v w → HasHeadOf s v → HasHeadOf s w
+same_head : (s : Session) (v w : WholeOf) → IsSameWhole v w → HasWholeHead s v → HasWholeHead s w
 same_head s v w same h = record {
   size = (sym same.width ∙ h.size.0, sym same.height ∙ h.size.1);
   rule = sym same.rule ∙ h.rule;
@@ -50,7 +50,7 @@ same_head s v w same h = record {
 same_fit : (r : Raster) (mask : Field Bool) (values others : Field ℤ) (x y : ℕ) → values x y ≡ others x y → ValueFits r mask values x y → ValueFits r mask others x y
 same_fit r mask values others x y e f = record { masked = λ m. sym e ∙ f.masked m; unmasked = λ o. subst (FitsPhase (r.phase x y)) e (f.unmasked o) }
 
-pub acceptance_is_of_texts : AcceptanceIsOfTexts
+pub acceptance_is_of_texts : AcceptanceIsOfWholes
 acceptance_is_of_texts s v w same c =
     let r = raster_of s.scene in
     let mask = open_at s.first_mask in

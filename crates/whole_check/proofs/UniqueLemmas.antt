@@ -16,7 +16,7 @@ use Rattle.whole_raster.proofs.Whole.{certified_whole_is_least, whole_tile_cost}
 use Rattle.whole_text.specs.Text.{WholeOf}
 use Rattle.whole_check.specs.declared.verdict.WholeVerdict.{WholeVerdict}
 use Rattle.whole_check.specs.declared.verdict.WholeVerdict.TheVariants.{Accepted, Header, Value, Face, Cost, Told}
-use Rattle.whole_check.specs.Verdicts.{DiffersAt, HasHeadOf, IsCertifiedText, IsFirstFalseValue, IsWholeVerdict, PassesValues, WholesHaveOneVerdict, surface_told, whole_face}
+use Rattle.whole_check.specs.Verdicts.{HasWholeHead, IsCertifiedText, IsFirstFalseValue, IsWholeVerdict, PassesValues, WholeDiffersAt, WholesHaveOneVerdict, surface_told, whole_face}
 use Rattle.whole_check.proofs.HeadLemmas.{no_difference, one_difference}
 use Rattle.whole_check.proofs.StandLemmas.{anchored_stand}
 
@@ -43,7 +43,7 @@ module _ (s : Session) (v : WholeOf) where
   not_cost : IsCertifiedWhole r mask S v.faces → (cost : ℕ) (bound : ℤ) → pos cost ≡ whole_cost r mask S → bound ≡ face_bound (whole_of r) mask 0 (whole_face s v) → bound ≢ pos cost → ⊥
   not_cost c cost bound counted is differs = differs (is ∙ c.certified.1.equal ∙ whole_tile_cost r mask S ∙ sym counted)
 
-  header_first : (n : ℕ) (b : WholeVerdict) → DiffersAt s v n → IsWholeVerdict s v b → Header n ≡ b
+  header_first : (n : ℕ) (b : WholeVerdict) → WholeDiffersAt s v n → IsWholeVerdict s v b → Header n ≡ b
   header_first n Accepted d q = absurd (no_difference s v n q.head d)
   header_first n (Header m) d q = ap Header (one_difference s v n m d q)
   header_first n (Value x y) d q = absurd (no_difference s v n q.0 d)
@@ -51,7 +51,7 @@ module _ (s : Session) (v : WholeOf) where
   header_first n (Cost cost bound) d q = absurd (no_difference s v n q.0.0 d)
   header_first n (Told written counted) d q = absurd (no_difference s v n q.0.0 d)
 
-  value_first : (x y : ℕ) (b : WholeVerdict) → HasHeadOf s v → IsFirstFalseValue r mask v.values x y → IsWholeVerdict s v b → Value x y ≡ b
+  value_first : (x y : ℕ) (b : WholeVerdict) → HasWholeHead s v → IsFirstFalseValue r mask v.values x y → IsWholeVerdict s v b → Value x y ≡ b
   value_first x y Accepted h f q = absurd (f.wrong ((certified_passes q).1 x y f.across f.along))
   value_first x y (Header n) h f q = absurd (no_difference s v n h q)
   value_first x y (Value a b) h f q = (let g = q.1 in let same = same_pixel x y a b (λ e. f.wrong (g.first x y f.across f.along e)) (λ e. g.wrong (f.first a b g.across g.along e)) in ap₂ Value same.0 same.1)

@@ -13,8 +13,8 @@ use Rattle.whole_text.specs.Told.{AreFewCycles, told_whole}
 use Rattle.whole_check.specs.Verdicts.{IsCertifiedText}
 
 -- where a text is certified for a session, each text that tells the same is
-abbrev pub AcceptanceIsOfTexts : Type 0
-AcceptanceIsOfTexts = (s : Session) (v w : WholeOf) → IsSameWhole v w → IsCertifiedText s v → IsCertifiedText s w
+abbrev pub AcceptanceIsOfWholes : Type 0
+AcceptanceIsOfWholes = (s : Session) (v w : WholeOf) → IsSameWhole v w → IsCertifiedText s v → IsCertifiedText s w
 
 -- a surface of whole cycles above the phase that is anchored and certified, with its cost
 pub record IsSolvedWhole (s : Session) (cycles : Field ℤ) (faces : List ℤ) (cost : ℕ) : Type 0 where

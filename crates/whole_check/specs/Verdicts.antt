@@ -11,6 +11,7 @@ use Rattle.raster_model.specs.Sums.{Field}
 use Rattle.certificates.specs.Verdicts.{AllFacesFit, IsFirstUnfit}
 use Rattle.shown_values.specs.Values.{AllValuesFit, ValueFits, cycles_shown}
 use Rattle.whole_raster.specs.Whole.{IsCertifiedWhole, whole_cost, whole_of}
+use Rattle.text_parts.specs.Terms.{HasRampOf, HasRuleOf, HasSteepnessOf}
 use Rattle.whole_text.specs.Text.{WholeOf}
 use Rattle.whole_check.specs.declared.verdict.WholeVerdict.{WholeVerdict}
 use Rattle.whole_check.specs.declared.verdict.WholeVerdict.TheVariants.{Accepted, Header, Value, Face, Cost, Told}
@@ -20,28 +21,19 @@ use Rattle.whole_check.specs.declared.verdict.WholeVerdict.TheVariants.{Accepted
 abbrev pub HasSizeOf : Session → WholeOf → Type 0
 HasSizeOf s v = (v.width ≡ s.scene.phase.width) × (v.height ≡ s.scene.phase.height)
 
-abbrev pub HasRuleOf : Session → WholeOf → Type 0
-HasRuleOf s v = v.rule ≡ s.scene.rule
-
-abbrev pub HasRampOf : Session → WholeOf → Type 0
-HasRampOf s v = (v.terms.ramp_x ≡ s.scene.terms.ramp_x) × (v.terms.ramp_y ≡ s.scene.terms.ramp_y)
-
-abbrev pub HasSteepnessOf : Session → WholeOf → Type 0
-HasSteepnessOf s v = v.terms.steep ≡ s.scene.terms.steep
-
-pub record HasHeadOf (s : Session) (v : WholeOf) : Type 0 where
+pub record HasWholeHead (s : Session) (v : WholeOf) : Type 0 where
   pub size : HasSizeOf s v
-  pub rule : HasRuleOf s v
-  pub ramp : HasRampOf s v
-  pub steepness : HasSteepnessOf s v
+  pub rule : HasRuleOf s v.rule
+  pub ramp : HasRampOf s v.terms
+  pub steepness : HasSteepnessOf s v.terms
 
 -- the first of them that does not has this number
-abbrev pub DiffersAt : Session → WholeOf → ℕ → Type 0
-DiffersAt s v n =
+abbrev pub WholeDiffersAt : Session → WholeOf → ℕ → Type 0
+WholeDiffersAt s v n =
     ((n ≡ 2) × (HasSizeOf s v → ⊥))
-    ⊎ (((n ≡ 3) × (HasSizeOf s v × (HasRuleOf s v → ⊥)))
-    ⊎ (((n ≡ 4) × (HasSizeOf s v × (HasRuleOf s v × (HasRampOf s v → ⊥))))
-    ⊎ ((n ≡ 5) × (HasSizeOf s v × (HasRuleOf s v × (HasRampOf s v × (HasSteepnessOf s v → ⊥)))))))
+    ⊎ (((n ≡ 3) × (HasSizeOf s v × (HasRuleOf s v.rule → ⊥)))
+    ⊎ (((n ≡ 4) × (HasSizeOf s v × (HasRuleOf s v.rule × (HasRampOf s v.terms → ⊥))))
+    ⊎ ((n ≡ 5) × (HasSizeOf s v × (HasRuleOf s v.rule × (HasRampOf s v.terms × (HasSteepnessOf s v.terms → ⊥)))))))
 
 -- ---- the values
 
@@ -67,7 +59,7 @@ surface_told s v = lifted (raster_of s.scene) (cycles_shown v.values)
 
 -- it is certified for a session: the head is the session's, the values are a surface that is anchored and certified over the whole raster, and the cost is the surface's
 pub record IsCertifiedText (s : Session) (v : WholeOf) : Type 0 where
-  pub head : HasHeadOf s v
+  pub head : HasWholeHead s v
   pub values : AllValuesFit (raster_of s.scene) (open_at s.first_mask) v.values
   pub anchored : IsAnchored (raster_of s.scene) (open_at s.first_mask) (surface_told s v)
   pub certified : IsCertifiedWhole (raster_of s.scene) (open_at s.first_mask) (surface_told s v) v.faces
@@ -75,7 +67,7 @@ pub record IsCertifiedText (s : Session) (v : WholeOf) : Type 0 where
 
 -- head and values are in order
 abbrev pub PassesValues : Session → WholeOf → Type 0
-PassesValues s v = HasHeadOf s v × AllValuesStand (raster_of s.scene) (open_at s.first_mask) v.values
+PassesValues s v = HasWholeHead s v × AllValuesStand (raster_of s.scene) (open_at s.first_mask) v.values
 
 -- the faces as those of one tile
 abbrev pub whole_face : Session → WholeOf → Field ℤ
@@ -83,8 +75,8 @@ whole_face s v = face_at (whole_of (raster_of s.scene)) 0 v.faces
 
 abbrev pub IsWholeVerdict : Session → WholeOf → WholeVerdict → Type 0
 IsWholeVerdict s v Accepted = IsCertifiedText s v
-IsWholeVerdict s v (Header n) = DiffersAt s v n
-IsWholeVerdict s v (Value x y) = HasHeadOf s v × IsFirstFalseValue (raster_of s.scene) (open_at s.first_mask) v.values x y
+IsWholeVerdict s v (Header n) = WholeDiffersAt s v n
+IsWholeVerdict s v (Value x y) = HasWholeHead s v × IsFirstFalseValue (raster_of s.scene) (open_at s.first_mask) v.values x y
 IsWholeVerdict s v (Face e) = PassesValues s v × IsFirstUnfit (whole_of (raster_of s.scene)) (open_at s.first_mask) 0 (whole_face s v) e
 IsWholeVerdict s v (Cost cost bound) = PassesValues s v × (AllFacesFit (whole_of (raster_of s.scene)) (open_at s.first_mask) 0 (whole_face s v) × ((pos cost ≡ whole_cost (raster_of s.scene) (open_at s.first_mask) (surface_told s v)) × ((bound ≡ face_bound (whole_of (raster_of s.scene)) (open_at s.first_mask) 0 (whole_face s v)) × (bound ≢ pos cost))))
 IsWholeVerdict s v (Told written counted) = PassesValues s v × (IsCertifiedWhole (raster_of s.scene) (open_at s.first_mask) (surface_told s v) v.faces × ((written ≡ v.cost) × ((pos counted ≡ whole_cost (raster_of s.scene) (open_at s.first_mask) (surface_told s v)) × (written ≢ counted))))

@@ -3,7 +3,7 @@ ghost use Rattle.certificates.specs.declared.verdicts.TileVerdict.TheVariants.{G
 ghost use Rattle.raster_model.specs.Masks.{open_at};
 ghost use Rattle.raster_model.specs.Scene.{raster_of};
 ghost use Rattle.std.specs.Prelude.{◌≡◌, ◌≢◌, ◌↔◌, pos};
-ghost use Rattle.whole_check.specs.Verdicts.{AllValuesStand, HasHeadOf, IsCertifiedText, IsWholeVerdict, surface_told};
+ghost use Rattle.whole_check.specs.Verdicts.{AllValuesStand, HasWholeHead, IsCertifiedText, IsWholeVerdict, surface_told};
 ghost use Rattle.whole_check.specs.declared.verdict.WholeVerdict.TheVariants.{Accepted};
 ghost use Rattle.whole_raster.specs.Whole.{IsCertifiedWhole, IsLeastOfAll, whole_cost, whole_of};
 ghost use Rattle.whole_text.specs.Reading.{whole_told};
@@ -39,7 +39,7 @@ fn verdict_on(session: &Session, whole: &Whole) -> WholeVerdict
 
 /// The verdict where the head is the session's.
 fn verdict_on_surface(session: &Session, whole: &Whole) -> WholeVerdict
-    requires head { HasHeadOf session.now (whole_told whole.now) }
+    requires head { HasWholeHead session.now (whole_told whole.now) }
     ensures { IsWholeVerdict session.now (whole_told whole.now) result }
 {
     let values = ShownValues {
@@ -55,7 +55,7 @@ fn verdict_on_surface(session: &Session, whole: &Whole) -> WholeVerdict
 
 /// The verdict where the values stand too.
 fn verdict_on_faces(session: &Session, whole: &Whole) -> WholeVerdict
-    requires head { HasHeadOf session.now (whole_told whole.now) }
+    requires head { HasWholeHead session.now (whole_told whole.now) }
     requires values { AllValuesStand (raster_of session.now.scene) (open_at session.now.first_mask) (whole_told whole.now).values }
     ensures { IsWholeVerdict session.now (whole_told whole.now) result }
 {
@@ -72,7 +72,7 @@ fn verdict_on_faces(session: &Session, whole: &Whole) -> WholeVerdict
 
 /// The verdict where the faces certify the surface, which costs so much.
 fn verdict_on_cost(session: &Session, whole: &Whole, counted: u128) -> WholeVerdict
-    requires head { HasHeadOf session.now (whole_told whole.now) }
+    requires head { HasWholeHead session.now (whole_told whole.now) }
     requires values { AllValuesStand (raster_of session.now.scene) (open_at session.now.first_mask) (whole_told whole.now).values }
     requires certified { IsCertifiedWhole (raster_of session.now.scene) (open_at session.now.first_mask) (surface_told session.now (whole_told whole.now)) (whole_told whole.now).faces }
     requires counted { pos counted ≡ whole_cost (raster_of session.now.scene) (open_at session.now.first_mask) (surface_told session.now (whole_told whole.now)) }
@@ -90,7 +90,7 @@ fn verdict_on_cost(session: &Session, whole: &Whole, counted: u128) -> WholeVerd
 
 /// The verdict where the faces do not certify the surface. There are as many faces as cells.
 fn refused(session: &Session, whole: &Whole, verdict: TileVerdict) -> WholeVerdict
-    requires head { HasHeadOf session.now (whole_told whole.now) }
+    requires head { HasWholeHead session.now (whole_told whole.now) }
     requires values { AllValuesStand (raster_of session.now.scene) (open_at session.now.first_mask) (whole_told whole.now).values }
     requires says { IsFacesVerdict (whole_of (raster_of session.now.scene)) (open_at session.now.first_mask) 0 (surface_told session.now (whole_told whole.now)) (whole_told whole.now).faces verdict }
     requires not_good { verdict ≢ Good }

@@ -1,5 +1,5 @@
 ghost use Rattle.std.specs.Prelude.{MatchOption};
-ghost use Rattle.whole_check.specs.Verdicts.{DiffersAt, HasHeadOf};
+ghost use Rattle.whole_check.specs.Verdicts.{HasWholeHead, WholeDiffersAt};
 ghost use Rattle.whole_text.specs.Reading.{whole_told};
 
 use raster_model::Session;
@@ -7,7 +7,7 @@ use whole_text::Whole;
 
 /// The number of the first line, of 2 to 5, that is not the session's: size, rule, ramp, steepness.
 pub(crate) fn first_difference(session: &Session, whole: &Whole) -> Option<u32>
-    ensures { MatchOption result (HasHeadOf session.now (whole_told whole.now)) (DiffersAt session.now (whole_told whole.now)) }
+    ensures { MatchOption result (HasWholeHead session.now (whole_told whole.now)) (WholeDiffersAt session.now (whole_told whole.now)) }
 {
     let scene = &session.scene;
     if whole.grid.width != scene.phase.width || whole.grid.height != scene.phase.height {

@@ -1,6 +1,6 @@
 //! Laws of the definitions. The functions do nothing; each contract is the law.
 
-ghost use Rattle.whole_check.specs.Same.{AcceptanceIsOfTexts, CertifiedWholesAreAccepted};
+ghost use Rattle.whole_check.specs.Same.{AcceptanceIsOfWholes, CertifiedWholesAreAccepted};
 ghost use Rattle.whole_check.specs.Verdicts.{WholesHaveOneVerdict};
 
 /// What `check_whole_text` says of a text is determined by the text and the session.
@@ -10,7 +10,7 @@ pub fn wholes_have_one_verdict()
 
 /// A text that tells the same as one that is certified for a session is certified for it.
 pub fn acceptance_is_of_texts()
-    ensures { AcceptanceIsOfTexts }
+    ensures { AcceptanceIsOfWholes }
 {}
 
 /// What is told of an anchored surface that is certified over the whole raster, with its cost, is certified for the session.

@@ -28,7 +28,7 @@ use Rattle.text_parts.proofs.PartForms.{grid_part, known_kind, ramp_kind, rule_k
 use Rattle.text_parts.proofs.ReadsLemmas.{IsLineKind, IsPart, One, Then, after_same, line_one, line_part, short_kind, then_after, then_apart, then_code, then_first, turn_after, turn_first, turn_one, turn_part}
 use Rattle.text_parts.proofs.UniqueLemmas.{ramp_unique, rule_unique, size_unique, steep_unique}
 use Rattle.whole_text.specs.Parts.{AreRows, HeadOf, IsFacesRow, IsHead, head_parts, lines_of_rows}
-use Rattle.whole_text.specs.Text.{AreCellFaces, IsWhole, IsWholeText, WholeOf, cell_rows, cost_line, faces_line, faces_text, head_text, row_of, whole_text}
+use Rattle.whole_text.specs.Text.{AreCellFaces, IsWhole, IsWholeText, WholeOf, cell_rows, cost_line, face_row, face_rows, row_of, whole_head, whole_text}
 use Rattle.whole_text.proofs.RowLemmas.{cells_stand, faces_are, list_length, list_longs, list_of, rows_make, rows_told}
 
 -- ---- kinds of lines
@@ -48,7 +48,7 @@ cost_kind = short_kind (0, omega arith) cost_fits
 pub cost_unique : (m n : ℕ) → IsWide m → IsWide n → cost_line m ≡ cost_line n → m ≡ n
 cost_unique m n a b e = last_unique m n a b (append_cancel_left (codes "cost") (field_text m) (field_text n) e)
 
-faces_inside : (row : List ℤ) → AreLongs row → InLine (faces_line row)
+faces_inside : (row : List ℤ) → AreLongs row → InLine (face_row row)
 faces_inside row longs = all_both IsInLine (codes "faces") (numbers_text row) (word_in_line (codes "faces") refl) (text_in_line row longs)
 
 numbers_short : (row : List ℤ) → AreLongs row → length (numbers_text row) ≤ 1 + 21 * length row
@@ -65,7 +65,7 @@ zeros_stand across =
     let size = list_length 1 (λ t. pos 0 ∷ []) across each in
     (list_longs 1 (λ t. pos 0 ∷ []) across each, omega (arith, size))
 
-pub row_kind : (across : ℕ) → IsLineKind (IsFacesRow across) faces_line (6 + 21 * across)
+pub row_kind : (across : ℕ) → IsLineKind (IsFacesRow across) face_row (6 + 21 * across)
 row_kind across = record {
   some = (zero_row across, zeros_stand across);
   inside = λ row a. faces_inside row a.0;
@@ -107,29 +107,29 @@ head_one =
 -- ---- the faces
 
 -- lines of rows are lines of faces
-pub cells_same : (width height : ℕ) → SameForms (TextOf (AreRows (width - 1) (cell_rows width height)) (lines_of_rows (cell_rows width height))) (TextOf (AreCellFaces width height) (faces_text width height))
+pub cells_same : (width height : ℕ) → SameForms (TextOf (AreRows (width - 1) (cell_rows width height)) (lines_of_rows (cell_rows width height))) (TextOf (AreCellFaces width height) (face_rows width height))
 cells_same width height = record {
   to = λ t a. (list_of (cell_rows width height) a.0, (rows_make width height a.0 a.1.0, a.1.1 ∙ rows_told width height a.0 a.1.0));
   «from» = λ t b. (row_of (width - 1) b.0, (cells_stand width height b.0 b.1.0, b.1.1 ∙ faces_are width height b.0));
 }
 
-pub inside : (across rows : ℕ) (t : ℕ) → t < rows → (row : List ℤ) → IsFacesRow across row → InLine (faces_line row)
+pub inside : (across rows : ℕ) (t : ℕ) → t < rows → (row : List ℤ) → IsFacesRow across row → InLine (face_row row)
 inside across rows t lt row a = faces_inside row a.0
 
 pub rows_part : (across rows : ℕ) → IsPart (AreRows across rows) (lines_of_rows rows)
-rows_part across rows = let some = row_kind across in lines_part (IsFacesRow across) (λ y. faces_line) rows (inside across rows) some.some.0 some.some.1
+rows_part across rows = let some = row_kind across in lines_part (IsFacesRow across) (λ y. face_row) rows (inside across rows) some.some.0 some.some.1
 
 module _ (across rows k : ℕ) (here : k < rows) (f : ℕ → List ℤ) (a : AreRows across k f) where
   abbrev RowsLeft : Form
   RowsLeft t = TextOf (AreRows across rows) (lines_of_rows rows) (lines_of_rows k f ++ t)
 
   pub row_after : ComesAfter (lines_of_rows k f) RowsLeft (TextOf (AreRows across rows) (lines_of_rows rows))
-  row_after = lines_after (IsFacesRow across) (λ y. faces_line) rows (inside across rows) k here f a
+  row_after = lines_after (IsFacesRow across) (λ y. face_row) rows (inside across rows) k here f a
 
-  pub row_first : ComesFirst (TextOf (IsFacesRow across) (ended_line faces_line)) RowsLeft
-  row_first = line_first (IsFacesRow across) (λ y. faces_line) rows (inside across rows) k here f a (IsFacesRow across) (λ r p. p) (λ r p. p) (line_part (row_kind across))
+  pub row_first : ComesFirst (TextOf (IsFacesRow across) (ended_line face_row)) RowsLeft
+  row_first = line_first (IsFacesRow across) (λ y. face_row) rows (inside across rows) k here f a (IsFacesRow across) (λ r p. p) (λ r p. p) (line_part (row_kind across))
 
-pub cells_part : (width height : ℕ) → IsPart (AreCellFaces width height) (faces_text width height)
+pub cells_part : (width height : ℕ) → IsPart (AreCellFaces width height) (face_rows width height)
 cells_part width height =
     let rows = rows_part (width - 1) (cell_rows width height) in
     let some = rows.some in
@@ -144,9 +144,9 @@ abbrev pub IsTail : ℕ → ℕ → TailOf → Type 0
 IsTail width height = both (AreLong width height) (both (AreCellFaces width height) IsAnyRule)
 
 abbrev pub tail_text : ℕ → ℕ → TailOf → List ℕ
-tail_text width height = in_turn (grid_text width height) (in_turn (faces_text width height) (ended_line (known_line (codes "end"))))
+tail_text width height = in_turn (grid_text width height) (in_turn (face_rows width height) (ended_line (known_line (codes "end"))))
 
-pub end_part : (width height : ℕ) → IsPart (both (AreCellFaces width height) (IsAnyRule {A = Unit {0}})) (in_turn (faces_text width height) (ended_line (known_line (codes "end"))))
+pub end_part : (width height : ℕ) → IsPart (both (AreCellFaces width height) (IsAnyRule {A = Unit {0}})) (in_turn (face_rows width height) (ended_line (known_line (codes "end"))))
 end_part width height = turn_part (cells_part width height) (line_part end_kind)
 
 pub tail_part : (width height : ℕ) → IsTrue (is_raster_size width height) → IsPart (IsTail width height) (tail_text width height)

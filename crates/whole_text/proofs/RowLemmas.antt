@@ -13,7 +13,7 @@ use Rattle.text_lines.proofs.TextLemmas.{texts_same}
 use Rattle.text_parts.specs.Text.{ended_line}
 use Rattle.text_parts.proofs.PartForms.{none_long}
 use Rattle.whole_text.specs.Parts.{AreRows, IsFacesRow, lines_of_rows}
-use Rattle.whole_text.specs.Text.{AreCellFaces, cell_rows, faces_line, faces_text, row_of, rows_text}
+use Rattle.whole_text.specs.Text.{AreCellFaces, cell_rows, face_row, face_rows, row_of, rows_text}
 
 -- ---- a list and a row after it
 
@@ -104,8 +104,8 @@ cells_counted width height = elim (cases_Bool (width == 1)) [
 pub cells_stand : (width height : ℕ) (faces : List ℤ) → AreCellFaces width height faces → AreRows (width - 1) (cell_rows width height) (row_of (width - 1) faces)
 cells_stand width height faces a = row_stands (width - 1) (cell_rows width height) faces a.0 (a.1 ∙ sym (cells_counted width height))
 
-pub faces_are : (width height : ℕ) (faces : List ℤ) → faces_text width height faces ≡ lines_of_rows (cell_rows width height) (row_of (width - 1) faces)
-unfolding faces_text
+pub faces_are : (width height : ℕ) (faces : List ℤ) → face_rows width height faces ≡ lines_of_rows (cell_rows width height) (row_of (width - 1) faces)
+unfolding face_rows
 faces_are width height faces = refl
 
 -- rows make the faces of a raster, with the same lines
@@ -113,8 +113,8 @@ module _ (width height : ℕ) (f : ℕ → List ℤ) (a : AreRows (width - 1) (c
   pub rows_make : AreCellFaces width height (list_of (cell_rows width height) f)
   rows_make = (list_longs (width - 1) f (cell_rows width height) a, list_length (width - 1) f (cell_rows width height) a ∙ cells_counted width height)
 
-  pub rows_told : lines_of_rows (cell_rows width height) f ≡ faces_text width height (list_of (cell_rows width height) f)
+  pub rows_told : lines_of_rows (cell_rows width height) f ≡ face_rows width height (list_of (cell_rows width height) f)
   rows_told =
       let n = cell_rows width height in
-      texts_same n (λ y. ended_line faces_line (f y)) (λ y. ended_line faces_line (row_of (width - 1) (list_of n f) y)) (λ t lt. ap (ended_line faces_line) (sym (list_rows (width - 1) f n a t lt)))
+      texts_same n (λ y. ended_line face_row (f y)) (λ y. ended_line face_row (row_of (width - 1) (list_of n f) y)) (λ t lt. ap (ended_line face_row) (sym (list_rows (width - 1) f n a t lt)))
       ∙ sym (faces_are width height (list_of n f))

@@ -12,18 +12,18 @@ use Rattle.text_parts.proofs.LineForms.{lines_apart}
 use Rattle.text_parts.proofs.UniqueLemmas.{same_terms}
 use Rattle.whole_text.specs.Parts.{HeadOf, IsFacesRow, lines_of_rows}
 use Rattle.whole_text.specs.Reading.{IsSameWhole, WholeTextsAreUnique}
-use Rattle.whole_text.specs.Text.{AreCellFaces, IsWhole, WholeOf, cell_rows, faces_line, faces_text, row_of}
+use Rattle.whole_text.specs.Text.{AreCellFaces, IsWhole, WholeOf, cell_rows, face_row, face_rows, row_of}
 use Rattle.whole_text.proofs.Forms.{TailOf, head_of, inside, tail_of, tail_text, whole_apart}
 use Rattle.whole_text.proofs.RowLemmas.{cells_counted, cells_stand, faces_are, same_rows}
 
 -- the faces of one raster
-cells_unique : (width height : ℕ) (a b : List ℤ) (r s : List ℕ) → AreCellFaces width height a → AreCellFaces width height b → faces_text width height a ++ r ≡ faces_text width height b ++ s → a ≡ b
+cells_unique : (width height : ℕ) (a b : List ℤ) (r s : List ℕ) → AreCellFaces width height a → AreCellFaces width height b → face_rows width height a ++ r ≡ face_rows width height b ++ s → a ≡ b
 cells_unique width height a b r s f g e =
     let across = width - 1 in
     let n = cell_rows width height in
-    let lines = lines_apart (IsFacesRow across) (λ y. faces_line) n (inside across n) (row_of across a) (row_of across b) r s (cells_stand width height a f) (cells_stand width height b g) (ap (λ (l : List ℕ). l ++ r) (sym (faces_are width height a)) ∙ e ∙ ap (λ (l : List ℕ). l ++ s) (faces_are width height b)) in
+    let lines = lines_apart (IsFacesRow across) (λ y. face_row) n (inside across n) (row_of across a) (row_of across b) r s (cells_stand width height a f) (cells_stand width height b g) (ap (λ (l : List ℕ). l ++ r) (sym (faces_are width height a)) ∙ e ∙ ap (λ (l : List ℕ). l ++ s) (faces_are width height b)) in
     same_rows across n a b (f.1 ∙ sym (cells_counted width height)) (g.1 ∙ sym (cells_counted width height))
-    (λ t lt. let x = cells_stand width height a f t lt in let y = cells_stand width height b g t lt in numbers_unique (row_of across a t) (row_of across b t) x.0 y.0 (append_cancel_left (codes "faces") (numbers_text (row_of across a t)) (numbers_text (row_of across b t)) (append_cancel_right (faces_line (row_of across a t)) (faces_line (row_of across b t)) line_end (lines.0 t lt))))
+    (λ t lt. let x = cells_stand width height a f t lt in let y = cells_stand width height b g t lt in numbers_unique (row_of across a t) (row_of across b t) x.0 y.0 (append_cancel_left (codes "faces") (numbers_text (row_of across a t)) (numbers_text (row_of across b t)) (append_cancel_right (face_row (row_of across a t)) (face_row (row_of across b t)) line_end (lines.0 t lt))))
 
 abbrev grid_by : ℕ → ℕ → WholeOf → GridOf
 grid_by width height v = record { width = width; height = height; values = v.values }
@@ -39,7 +39,7 @@ pub wholes_unique : WholeTextsAreUnique
 wholes_unique v w a b e =
     let t = whole_apart v w a b e in
     let here = subst (AreBehind (tail_text v.width v.height (tail_of v)) w) (sym t.0) (b.values, (b.faces, t.1)) in
-    let grids = grids_cancel (grid_by v.width v.height v) (grid_by v.width v.height w) (faces_text v.width v.height v.faces ++ last) (faces_text v.width v.height w.faces ++ last) (record { sized = a.sized; fits = a.values }) (record { sized = a.sized; fits = here.0 }) here.1.1 in
+    let grids = grids_cancel (grid_by v.width v.height v) (grid_by v.width v.height w) (face_rows v.width v.height v.faces ++ last) (face_rows v.width v.height w.faces ++ last) (record { sized = a.sized; fits = a.values }) (record { sized = a.sized; fits = here.0 }) here.1.1 in
     let values = grids.0 in
     record {
       width = ap (λ (p : HeadOf). p.1.0.0) t.0;

@@ -10,7 +10,7 @@ use Rattle.text_parts.specs.Parts.{IsRamp, IsRasterSize}
 use Rattle.text_parts.specs.Steps.{both, in_turn}
 use Rattle.text_parts.specs.Text.{ended_line, known_line, ramp_line, rule_line, size_line, steep_line}
 use Rattle.whole_text.specs.declared.read.Head.{Head}
-use Rattle.whole_text.specs.Text.{cost_line, faces_line, row_of}
+use Rattle.whole_text.specs.Text.{cost_line, face_row, row_of}
 
 -- the lines before the grid: the known one, then size, rule, ramp, steepness and cost
 abbrev pub HeadOf : Type 0
@@ -33,7 +33,7 @@ abbrev pub AreRows : ℕ → ℕ → (ℕ → List ℤ) → Type 0
 AreRows across rows f = (y : ℕ) → y < rows → IsFacesRow across (f y)
 
 abbrev pub lines_of_rows : ℕ → (ℕ → List ℤ) → List ℕ
-lines_of_rows rows f = texts_below rows (λ y. ended_line faces_line (f y))
+lines_of_rows rows f = texts_below rows (λ y. ended_line face_row (f y))
 
 abbrev pub rows_in : ℕ → Vec ℤ → ℕ → List ℤ
 rows_in across faces = row_of across faces.items

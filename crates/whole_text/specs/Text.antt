@@ -26,29 +26,29 @@ pub record WholeOf : Type 0 where
 abbrev pub cost_line : ℕ → List ℕ
 cost_line cost = codes "cost" ++ field_text cost
 
-abbrev pub faces_line : List ℤ → List ℕ
-faces_line row = codes "faces" ++ numbers_text row
+abbrev pub face_row : List ℤ → List ℕ
+face_row row = codes "faces" ++ numbers_text row
 
 -- row y of a list in row order, with so many numbers in a row, and the lines of the first rows
 abbrev pub row_of : ℕ → List ℤ → ℕ → List ℤ
 row_of across faces y = take across (drop (y * across) faces)
 
 abbrev pub rows_text : ℕ → ℕ → List ℤ → List ℕ
-rows_text rows across faces = texts_below rows (λ y. ended_line faces_line (row_of across faces y))
+rows_text rows across faces = texts_below rows (λ y. ended_line face_row (row_of across faces y))
 
 -- so many rows of cells a raster has, and the lines of their faces
 abbrev pub cell_rows : ℕ → ℕ → ℕ
 cell_rows width height = if width == 1 then 0 else (height - 1)
 
-unfoldable pub faces_text : ℕ → ℕ → List ℤ → List ℕ
-faces_text width height faces = rows_text (cell_rows width height) (width - 1) faces
+unfoldable pub face_rows : ℕ → ℕ → List ℤ → List ℕ
+face_rows width height faces = rows_text (cell_rows width height) (width - 1) faces
 
 -- the lines before the grid, and the whole text
-abbrev pub head_text : (width height : ℕ) → RuleKind → TermsOf → (cost : ℕ) → List ℕ
-head_text width height rule terms cost = codes "insar-whole 1\n" ++ (ended_line size_line (width, height) ++ (ended_line rule_line rule ++ (ended_line ramp_line (terms.ramp_x, terms.ramp_y) ++ (ended_line steep_line terms.steep ++ ended_line cost_line cost))))
+abbrev pub whole_head : (width height : ℕ) → RuleKind → TermsOf → (cost : ℕ) → List ℕ
+whole_head width height rule terms cost = codes "insar-whole 1\n" ++ (ended_line size_line (width, height) ++ (ended_line rule_line rule ++ (ended_line ramp_line (terms.ramp_x, terms.ramp_y) ++ (ended_line steep_line terms.steep ++ ended_line cost_line cost))))
 
 unfoldable pub whole_text : WholeOf → List ℕ
-whole_text v = head_text v.width v.height v.rule v.terms v.cost ++ (grid_text v.width v.height v.values ++ (faces_text v.width v.height v.faces ++ codes "end\n"))
+whole_text v = whole_head v.width v.height v.rule v.terms v.cost ++ (grid_text v.width v.height v.values ++ (face_rows v.width v.height v.faces ++ codes "end\n"))
 
 -- numbers of 64 bits, one for each cell of a raster
 abbrev pub AreCellFaces : ℕ → ℕ → List ℤ → Type 0

@@ -2,7 +2,7 @@ ghost use Rattle.std.specs.Prelude.{IfOk};
 ghost use Rattle.text_lines.specs.Parsing.{IsParsedAs, IsWide};
 ghost use Rattle.text_parts.specs.Parts.{IsListParsedAs};
 ghost use Rattle.whole_text.specs.Parts.{IsFacesRow};
-ghost use Rattle.whole_text.specs.Text.{cost_line, faces_line};
+ghost use Rattle.whole_text.specs.Text.{cost_line, face_row};
 
 use std::alloc::{AllocError, Global};
 use text_lines::last_wide;
@@ -21,7 +21,7 @@ pub(crate) fn faces_of(
     line: &[u8],
     across: usize,
 ) -> Result<Option<Vec<i64>>, AllocError>
-    ensures { IfOk result (IsListParsedAs (IsFacesRow across) faces_line line.now) }
+    ensures { IfOk result (IsListParsedAs (IsFacesRow across) face_row line.now) }
 {
     let Some(faces) = numbers_after(alloc, line, b"faces")? else {
         return Ok(None);

@@ -11,7 +11,7 @@ ghost use Rattle.text_parts.specs.Steps.{Advances, ReadsPart, itself, place_of};
 ghost use Rattle.text_parts.specs.Text.{ended_line};
 ghost use Rattle.whole_text.specs.Parts.{AreRows, IsFacesRow, IsHead, head_in, head_parts, lines_of_rows, rows_in};
 ghost use Rattle.whole_text.specs.Reading.{HasBrokenWholeLine, HasWholeCause, IsWholeRead, IsWholeRefusedAt, whole_told};
-ghost use Rattle.whole_text.specs.Text.{AreCellFaces, IsWhole, IsWholeText, cost_line, faces_line, faces_text, whole_text};
+ghost use Rattle.whole_text.specs.Text.{AreCellFaces, IsWhole, IsWholeText, cost_line, face_row, face_rows, whole_text};
 
 use crate::parse::{cost_of, faces_of};
 use crate::whole::{Whole, cell_rows_of};
@@ -79,7 +79,7 @@ fn read_row<S: Source>(
     across: usize,
 ) -> Result<Vec<i64>, LineFault>
     requires { across ≤ 4095 }
-    ensures { ReadsPart list_in (IsFacesRow across) (ended_line faces_line) (place_of S.left S.faults feed.old lines.old) (place_of S.left S.faults feed.new lines.new) result }
+    ensures { ReadsPart list_in (IsFacesRow across) (ended_line face_row) (place_of S.left S.faults feed.old lines.old) (place_of S.left S.faults feed.new lines.new) result }
 {
     read_line(feed, lines, WORD_BYTES + FACE_BYTES * across)?;
     parsed(lines, faces_of(alloc, lines.line(), across)?)
@@ -115,7 +115,7 @@ fn read_faces<S: Source>(
     height: u32,
 ) -> Result<Vec<i64>, LineFault>
     requires { (1 ≤ width) × ((width ≤ 4096) × ((1 ≤ height) × (height ≤ 4096))) }
-    ensures { ReadsPart list_in (AreCellFaces width height) (faces_text width height) (place_of S.left S.faults feed.old lines.old) (place_of S.left S.faults feed.new lines.new) result }
+    ensures { ReadsPart list_in (AreCellFaces width height) (face_rows width height) (place_of S.left S.faults feed.old lines.old) (place_of S.left S.faults feed.new lines.new) result }
 {
     let rows = cell_rows_of(width, height);
     read_rows(alloc, feed, lines, width as usize - 1, rows)

@@ -9,7 +9,7 @@ ghost use Rattle.text_lines.specs.Numbers.{AreLongs};
 ghost use Rattle.text_lines.specs.Views.{view_of};
 ghost use Rattle.text_parts.specs.Terms.{terms_of};
 ghost use Rattle.text_parts.specs.Text.{ended_line};
-ghost use Rattle.whole_text.specs.Text.{IsWhole, cell_rows, cost_line, faces_line, faces_text, head_text, rows_text, whole_text};
+ghost use Rattle.whole_text.specs.Text.{IsWhole, cell_rows, cost_line, face_row, face_rows, rows_text, whole_head, whole_text};
 ghost use Rattle.whole_text.specs.Told.{AreFewCycles, told_whole};
 
 use crate::rows::SurfaceRows;
@@ -54,7 +54,7 @@ pub fn write_whole<K: Sink, H: Heights>(
 
 /// Adds the lines before the grid.
 fn add_head<K: Sink>(text: &mut TextWriter<K>, scene: &Scene, cost: u128)
-    ensures { Adds (view_of K.held K.faults text.old) (view_of K.held K.faults text.new) (head_text scene.now.phase.width scene.now.phase.height scene.now.rule (terms_of scene.now.terms) cost) }
+    ensures { Adds (view_of K.held K.faults text.old) (view_of K.held K.faults text.new) (whole_head scene.now.phase.width scene.now.phase.height scene.now.rule (terms_of scene.now.terms) cost) }
 {
     text.bytes(b"insar-whole 1\n");
     add_size(text, scene.phase.width, scene.phase.height);
@@ -76,7 +76,7 @@ fn add_cost<K: Sink>(text: &mut TextWriter<K>, cost: u128)
 fn add_faces<K: Sink>(text: &mut TextWriter<K>, width: u32, height: u32, faces: &[i64])
     requires size { (1 ≤ width) × (1 ≤ height) }
     requires one_each { length faces.now ≡ (width - 1) * (height - 1) }
-    ensures added { Adds (view_of K.held K.faults text.old) (view_of K.held K.faults text.new) (faces_text width height faces.now) }
+    ensures added { Adds (view_of K.held K.faults text.old) (view_of K.held K.faults text.new) (face_rows width height faces.now) }
     ensures longs { AreLongs faces.now }
 {
     see_longs(faces);
@@ -96,7 +96,7 @@ fn add_rows<K: Sink>(text: &mut TextWriter<K>, across: usize, rows: u32, faces: 
 }
 
 fn add_row<K: Sink>(text: &mut TextWriter<K>, faces: &[i64])
-    ensures { Adds (view_of K.held K.faults text.old) (view_of K.held K.faults text.new) (ended_line faces_line faces.now) }
+    ensures { Adds (view_of K.held K.faults text.old) (view_of K.held K.faults text.new) (ended_line face_row faces.now) }
 {
     text.bytes(b"faces");
     add_numbers(text, faces);

@@ -6,7 +6,7 @@ use Rattle.text_lines.specs.Reading.{HasLineCause}
 use Rattle.text_lines.proofs.StepLemmas.{cause_same}
 use Rattle.grid_writer.specs.declared.read.Sizes.{Sizes}
 use Rattle.grid_writer.specs.Grids.{IsGridTextOf}
-use Rattle.grid_writer.specs.GridParts.{IsGridTextIn, IsWithin}
+use Rattle.grid_writer.specs.GridParts.{HasSizeWithin, IsGridTextIn}
 use Rattle.grid_writer.proofs.HeadLemmas.{one_size}
 use Rattle.grid_writer.proofs.SizeLemmas.{sized_parts}
 use Rattle.grid_writer.proofs.read.read_sized_grid.Goals as goal
@@ -19,7 +19,7 @@ read_within-requires g c =
 pub returns-clause-size : goal.returns-clause-size
 returns-clause-size g c =
     let s : Sizes = record { least_width = c.args.width; most_width = c.args.width; least_height = c.args.height; most_height = c.args.height } in
-    IfOk-weaker c.read_within.result (λ grid. IsWithin s grid.width grid.height) (λ grid. (grid.width ≡ c.args.width) × (grid.height ≡ c.args.height)) (λ grid i. (omega (arith, i.wide, i.narrow), omega (arith, i.high, i.low))) c.read_within.ensures.size
+    IfOk-weaker c.read_within.result (λ grid. HasSizeWithin s grid.width grid.height) (λ grid. (grid.width ≡ c.args.width) × (grid.height ≡ c.args.height)) (λ grid i. (omega (arith, i.wide, i.narrow), omega (arith, i.high, i.low))) c.read_within.ensures.size
 
 pub returns-clause-refused : goal.returns-clause-refused
 returns-clause-refused g c =

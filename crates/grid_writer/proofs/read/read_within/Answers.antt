@@ -6,7 +6,7 @@ use Rattle.text_lines.specs.LineWords.{lines_read}
 use Rattle.text_lines.specs.Reading.{HasLineCause}
 use Rattle.text_lines.proofs.StepLemmas.{cause_begin, cause_join, fails_next, joined, moves_join, moves_on, texts_join}
 use Rattle.grid_writer.specs.Grid.{columns_line, rows_line}
-use Rattle.grid_writer.specs.GridParts.{IsBodyText, IsCountLine, IsGridTextIn, IsWithin}
+use Rattle.grid_writer.specs.GridParts.{HasSizeWithin, IsBodyText, IsCountLine, IsGridTextIn}
 use Rattle.grid_writer.proofs.GridReads.{grid_read}
 use Rattle.grid_writer.proofs.HeadLemmas.{columns_whole, grid_after, grid_first, grid_second}
 use Rattle.grid_writer.proofs.SizeLemmas.{most_rows, sized_by, sized_within, some_rows, within_at, within_same}
@@ -44,7 +44,7 @@ pub returns-clause-size : goal.returns-clause-size
 returns-clause-size g c =
     let w = c.in_ok-width in
     let h = c.in_ok-height in
-    IfOk-weaker c.read_body.result (λ grid. _) (λ grid. IsWithin c.args.sizes grid.width grid.height) (λ grid e. within_same c.args.sizes w.width h.height grid.width grid.height e (within_at c.args.sizes c.requires w.width w.ensures.within.0 w.ensures.within.1 h.height h.ensures.within.0 (rw c.min-most_height.ensures at h.ensures.within.1))) c.read_body.ensures.size
+    IfOk-weaker c.read_body.result (λ grid. _) (λ grid. HasSizeWithin c.args.sizes grid.width grid.height) (λ grid e. within_same c.args.sizes w.width h.height grid.width grid.height e (within_at c.args.sizes c.requires w.width w.ensures.within.0 w.ensures.within.1 h.height h.ensures.within.0 (rw c.min-most_height.ensures at h.ensures.within.1))) c.read_body.ensures.size
 
 pub returns-clause-read : goal.returns-clause-read
 unfolding columns_line rows_line

@@ -7,7 +7,7 @@ use Rattle.text_parts.specs.Text.{ended_line}
 use Rattle.text_parts.proofs.PartForms.{none_long}
 use Rattle.text_parts.proofs.ReadsLemmas.{advances_then, reads_ok, reads_starved, reads_within, took, took_is, took_none, took_then}
 use Rattle.whole_text.specs.Parts.{lines_of_rows, rows_in}
-use Rattle.whole_text.specs.Text.{faces_line, row_of}
+use Rattle.whole_text.specs.Text.{face_row, row_of}
 use Rattle.whole_text.proofs.Forms.{row_after, row_first}
 use Rattle.whole_text.proofs.ReadLemmas.{rows_pushed}
 use Rattle.whole_text.proofs.RowLemmas.{row_stands}
@@ -17,7 +17,7 @@ pub loop-init : goal.loop-init
 loop-init g c =
     let none = c.new-faces.ensures.items in
     record {
-      took = took_is (took_none _) (sym (texts_none (λ y. ended_line faces_line (rows_in c.args.across c.new-faces.result y))));
+      took = took_is (took_none _) (sym (texts_none (λ y. ended_line face_row (rows_in c.args.across c.new-faces.result y))));
       full = rw none (omega arith);
       longs = rw none none_long;
     }

@@ -1,12 +1,16 @@
 -- From a call of the board to what the desk's call tells.
 use Rattle.std.proofs.Common.{◌≡◌, ◌≢◌, ◌⊎◌, ℕ, ◌+◌, ◌-◌, ◌==◌, Bool, true, false, cond, List, [], ◌∷◌, ◌++◌, Option, Some, None, Result, Ok, Err, refl, ap, sym, ◌∙◌, subst, ne_eqb, length}
+use Rattle.std.specs.Prelude.{option_map}
 use Rattle.std.specs.Option.{IfSome}
 use Rattle.std.specs.Result.{IfOk, IfErr, MatchResult, OnErr, OnOk}
 use Rattle.std.proofs.lemmas.List.{append-nil}
+use Rattle.std.proofs.lemmas.Result.{IfOk-weaker}
 use Rattle.atomic_table.specs.Seated.{TableId}
 use Rattle.raster_model.specs.declared.session.Session.{Session}
 use Rattle.certificates.specs.declared.results.SeamResult.{SeamResult}
 use Rattle.certificates.specs.declared.results.TileResult.{TileResult}
+use Rattle.surface_snapshots.specs.Views.{parts_of}
+use Rattle.surface_snapshots.specs.declared.snapshot.Snapshot.{Snapshot}
 use Rattle.tile_board.specs.declared.answers.Advance.{Advance}
 use Rattle.tile_board.specs.declared.answers.Advance.TheVariants as advances
 use Rattle.tile_board.specs.declared.answers.AdvanceFault.{AdvanceFault}
@@ -21,8 +25,10 @@ use Rattle.tile_board.specs.declared.ticket.Ticket.{Ticket}
 use Rattle.tile_board.specs.BoardView.{BoardView}
 use Rattle.tile_board.specs.Boards.{IsBoard}
 use Rattle.tile_board.specs.Calls.{AddsEntry, HasAdvanceFault, HasClaimFault, HasGatherFault, HasKeepFault, HasPublishFault, IsAdvance, IsClaim, IsGathering, IsKeep, IsPublication}
+use Rattle.tile_board.specs.Surfaces.{IsNewestIn, last_surface}
+use Rattle.tile_board.proofs.NewestSurface.{newest_in}
 use Rattle.board_desk.specs.declared.law.View.{View}
-use Rattle.board_desk.specs.Answers.{AdvanceAnswers, ClaimAnswers, GatherAnswers, KeepAnswers, PublishAnswers}
+use Rattle.board_desk.specs.Answers.{AdvanceAnswers, ClaimAnswers, GatherAnswers, KeepAnswers, NewestAnswers, PublishAnswers}
 use Rattle.board_desk.specs.Mine.{mine_of}
 use Rattle.board_desk.specs.Passes.{Called, PassView}
 use Rattle.board_desk.specs.Rules.{Grown, Grows, Held, Place, given, holding_it}
@@ -151,3 +157,10 @@ publish_grows_as o a seams b c answer is ok err = subst (λ (p : Option ℕ). Gr
 
 pub advance_grows_as : (o : Option ℕ) (a : ℕ) (b c : BoardView) (answer : Result Advance AdvanceFault) → Some a ≡ o → IfOk answer (IsAdvance b c a) → OnErr answer (c ≡ b) → Grows o b c
 advance_grows_as o a b c answer is ok err = subst (λ (p : Option ℕ). Grows p b c) is (advance_grows a b c answer ok err)
+
+-- the newest surface of the board that was found, in the history that the pass has then seen
+pub newest_after : {E : Type 0} (v : View) (n k : Place) (b : BoardView) (s : Session) (answer : Result (Option Snapshot) E) → v.session ≡ Some s → Held v b n → k ≡ (given n.0 b.entries, []) → IsBoard b → NewestAnswers answer b b → IfOk answer (IsNewestIn s k.0.own.seen)
+newest_after v n k b s answer of held back board told =
+    let here : b.session ≡ s = sym (held.session_is s of) in
+    let seen : k.0.own.seen ≡ b.entries = seen_after v n k b b held back in
+    IfOk-weaker answer (λ o. option_map parts_of o ≡ last_surface b) (IsNewestIn s k.0.own.seen) (λ o e. subst (λ (x : Session × List Entry). IsNewestIn x.0 x.1 o) (λ i. (here i, sym seen i)) (newest_in b board o e)) told.0

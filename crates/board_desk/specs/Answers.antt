@@ -1,11 +1,13 @@
 -- What the desk answers: what the board that stood there answers, and the board that this leaves.
-use Rattle.std.specs.Prelude.{◌≡◌, ◌||◌, ℕ, Bool, true, false, Option, Some, Result, Ok, Err, ⊤}
+use Rattle.std.specs.Prelude.{◌≡◌, ◌||◌, ℕ, Bool, true, false, Option, Some, Result, Ok, Err, option_map, ⊤}
 use Rattle.std.specs.Option.{IfSome}
-use Rattle.std.specs.Result.{MatchResult}
+use Rattle.std.specs.Result.{IfOk, MatchResult}
 use Rattle.raster_model.specs.declared.script.Edit.{Edit}
 use Rattle.raster_model.specs.declared.session.Session.{Session}
 use Rattle.certificates.specs.declared.results.SeamResult.{SeamResult}
 use Rattle.certificates.specs.declared.results.TileResult.{TileResult}
+use Rattle.surface_snapshots.specs.declared.snapshot.Snapshot.{Snapshot}
+use Rattle.surface_snapshots.specs.Views.{parts_of}
 use Rattle.tile_board.specs.declared.answers.Advance.{Advance}
 use Rattle.tile_board.specs.declared.answers.Advance.TheVariants as advances
 use Rattle.tile_board.specs.declared.answers.AdvanceFault.{AdvanceFault}
@@ -20,6 +22,7 @@ use Rattle.tile_board.specs.BoardView.{BoardView}
 use Rattle.tile_board.specs.Calls.{HasAdvanceFault, HasClaimFault, HasGatherFault, HasKeepFault, HasPublishFault, IsAdvance, IsClaim, IsGathering, IsKeep, IsPublication}
 use Rattle.tile_board.specs.Histories.{newest_of, now_of}
 use Rattle.tile_board.specs.Runs.{IsNoLater}
+use Rattle.tile_board.specs.Surfaces.{last_surface}
 use Rattle.board_desk.specs.Passes.{PassView, AddsOwn, IsAtSettle}
 
 abbrev pub ClaimAnswers : Result Ticket ClaimFault → BoardView → BoardView → Type 0
@@ -30,6 +33,9 @@ KeepAnswers solved answer old new = MatchResult answer (λ _. IsKeep old new sol
 
 abbrev pub GatherAnswers : Result Gathered GatherFault → BoardView → BoardView → Type 0
 GatherAnswers answer old new = MatchResult answer (IsGathering old) (HasGatherFault old) × (new ≡ old)
+
+abbrev pub NewestAnswers : {E : Type 0} → Result (Option Snapshot) E → BoardView → BoardView → Type 0
+NewestAnswers answer old new = IfOk answer (λ newest. option_map parts_of newest ≡ last_surface old) × (new ≡ old)
 
 abbrev pub PublishAnswers : {U : Type 0} → Option ℕ → SeamResult → Result U PublishFault → BoardView → BoardView → Type 0
 PublishAnswers analyst seams answer old new = IfSome analyst (λ a. MatchResult answer (λ _. IsPublication old new a seams) (λ fault. HasPublishFault old a seams fault × (new ≡ old)))

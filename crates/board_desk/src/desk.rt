@@ -16,6 +16,7 @@ use std::alloc::{AllocError, Global};
 use std::marker::Model;
 use std::snapshot::Snapshot;
 use std::sync::Wait;
+use surface_snapshots::Snapshot as Surface;
 use tile_board::{
     Advance, AdvanceFault, Board, ClaimFault, GatherFault, Gathered, KeepFault, PublishFault,
     Ticket,
@@ -40,13 +41,14 @@ impl Model for Desk {
 }
 
 impl Desk {
-    ghost use Rattle.board_desk.specs.Answers.{AdvanceAnswers, AwaitsSurface, ClaimAnswers, GatherAnswers, IsCurrent, IsOfSettle, IsUpToDate, KeepAnswers, OwnAdvance, OwnPublish, PublishAnswers, tells_end};
+    ghost use Rattle.board_desk.specs.Answers.{AdvanceAnswers, AwaitsSurface, ClaimAnswers, GatherAnswers, IsCurrent, IsOfSettle, IsUpToDate, KeepAnswers, NewestAnswers, OwnAdvance, OwnPublish, PublishAnswers, tells_end};
     ghost use Rattle.board_desk.specs.Passes.{Called, HasNotMoved, HaveAnalysts, IsAtSettle, IsPassOf, Merged, Stands, first_passes as passes_to, worker_pass as new_worker};
     ghost use Rattle.seam_regions.specs.Regions.{AreRegionsOf};
     ghost use Rattle.std.specs.Prelude.{◌≡◌, ◌≢◌, ◌||◌, [], All, Err, IfOk, None, OnOk, length, vec_len};
     ghost use Rattle.tile_board.specs.declared.answers.PublishFault.TheVariants.{NotSettle};
     ghost use Rattle.tile_board.specs.Boards.{IsBoard};
     ghost use Rattle.tile_board.specs.Calls.{WasGoodAt, WasMaskAt};
+    ghost use Rattle.tile_board.specs.Surfaces.{IsNewestIn};
 
     /// The desk of a board whose history is empty, and the passes of the analysts, from analyst 1 on. It fails only for
     /// lack of memory.
@@ -187,6 +189,29 @@ impl Desk {
     {
         let board = take_board(rt, &self.table.shared, &mut pass.seat);
         let answer = board.gather(alloc);
+        pass.heard = Heard::of(&board, pass.analyst);
+        give_board(&self.table.shared, &mut pass.seat, board);
+        Stamped {
+            front: pass.heard.front,
+            answer,
+        }
+    }
+
+    /// Asks for the last published surface, as `Board::newest_surface` gives it: None exactly if nothing is published. Its
+    /// revision may be older than the present one.
+    pub fn newest<R: Wait>(
+        &self,
+        rt: &R,
+        pass: &mut Pass,
+    ) -> Stamped<Result<Option<Surface>, AllocError>>
+        requires { IsPassOf self.now pass.old }
+        ensures call { Called self.now.session pass.old pass.new (NewestAnswers result.answer) }
+        ensures newest { IfOk result.answer (IsNewestIn self.now.session pass.new.seen) }
+        ensures own { HasNotMoved pass.old pass.new }
+        ensures front { result.front ≡ length pass.new.seen }
+    {
+        let board = take_board(rt, &self.table.shared, &mut pass.seat);
+        let answer = board.newest_surface();
         pass.heard = Heard::of(&board, pass.analyst);
         give_board(&self.table.shared, &mut pass.seat, board);
         Stamped {

@@ -34,8 +34,11 @@ const BELLS: usize = 64;
 /// How many words the table has.
 pub const WORDS: usize = FIRST_BELL + BELLS;
 
+/// How often a call that waits looks at the ticket that is served before it sleeps. A call holds the board for about as long.
+const LOOKS: u32 = 64;
+
 /// Takes the board out: draws a ticket, waits until it is served, and takes the board. Calls are served in the order of
-/// their tickets. A call that waits sleeps on its bell.
+/// their tickets. A call that waits longer sleeps on its bell.
 pub fn take_board<R: Wait>(rt: &R, hall: &Hall, seat: &mut Place) -> Board
     requires shape { (hall.now.table_id.words ≡ 67) × (hall.now.table_id.slots ≡ 1) }
     requires own { seat.old.table_id ≡ hall.now.table_id }
@@ -48,7 +51,7 @@ pub fn take_board<R: Wait>(rt: &R, hall: &Hall, seat: &mut Place) -> Board
     let bell = bell_of(ticket);
     for _ in rt.forever() {
         let rung = hall.peek(bell);
-        if hall.peek(SERVED) != ticket {
+        if !is_served_soon(hall, ticket) {
             hall.park(rt, bell, (rung % (1 << 32)) as u32);
         } else if hall.compare_exchange::<Take>(seat, OUT, 0, 1) == 0 {
             let board = hall.exchange(seat, 0, None).unwrap();
@@ -58,6 +61,18 @@ pub fn take_board<R: Wait>(rt: &R, hall: &Hall, seat: &mut Place) -> Board
         }
     }
     unreachable!()
+}
+
+/// Whether a ticket is served by now, or within a few looks.
+fn is_served_soon(hall: &Hall, ticket: u64) -> bool
+    requires { hall.now.table_id.words ≡ 67 }
+{
+    for _look in 0..LOOKS {
+        if hall.peek(SERVED) == ticket {
+            return true;
+        }
+    }
+    false
 }
 
 /// Gives the board back, and serves the next ticket.

@@ -2,12 +2,15 @@
 use Rattle.std.proofs.Common.{◌≡◌, ◌∙◌, ℕ, suc, ◌-◌, List, [], ◌∷◌, Option, Some, None, length, map, refl, sym, ap, arith}
 use Rattle.std.specs.Prelude.{option_map, slice_get}
 use Rattle.std.specs.List.{last_or}
+use Rattle.std.proofs.lemmas.List.{length-map}
+use Rattle.std.proofs.lemmas.Option.{slice_get-map}
 use Rattle.surface_snapshots.specs.Parts.{Parts}
 use Rattle.surface_snapshots.specs.Views.{parts_of}
 use Rattle.surface_snapshots.specs.declared.snapshot.Snapshot.{Snapshot}
 use Rattle.tile_board.specs.BoardView.{BoardView}
 use Rattle.tile_board.specs.Boards.{IsBoard, IsSurfaceOf}
 use Rattle.tile_board.specs.Histories.{newest_of, published_in}
+use Rattle.tile_board.specs.Surfaces.{IsNewestIn, last_surface}
 use Rattle.tile_board.proofs.ListLemmas.{get_beyond, get_map}
 
 -- ---- the last element of a list
@@ -62,3 +65,15 @@ module _ (v : BoardView) (snapshots : List Snapshot) (same : map parts_of snapsh
       where
         some_same : {a b : ℕ} → Some a ≡ Some b → a ≡ b
         some_same e = cc
+
+-- the revision of the last surface is the newest published
+pub last_is_newest : (v : BoardView) → IsBoard v → option_map (λ (p : Parts). p.seams.revision) (last_surface v) ≡ newest_of v.entries
+last_is_newest v board =
+    let revision : Parts → ℕ = λ p. p.seams.revision in
+    sym (slice_get-map revision v.surfaces (length v.surfaces - 1))
+    ∙ ap (λ (n : ℕ). slice_get (map revision v.surfaces) (n - 1)) (sym (length-map v.surfaces revision))
+    ∙ ap (λ (ns : List ℕ). slice_get ns (length ns - 1)) board.surfaces.revisions
+
+pub newest_in : (v : BoardView) → IsBoard v → (o : Option Snapshot) → option_map parts_of o ≡ last_surface v → IsNewestIn v.session v.entries o
+newest_in v board None e = sym (last_is_newest v board) ∙ ap (option_map (λ (p : Parts). p.seams.revision)) (sym e)
+newest_in v board (Some n) e = (board.surfaces.each (length v.surfaces - 1) (parts_of n) (sym e), sym (last_is_newest v board) ∙ ap (option_map (λ (p : Parts). p.seams.revision)) (sym e))

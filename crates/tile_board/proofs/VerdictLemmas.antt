@@ -9,7 +9,7 @@ use Rattle.raster_model.specs.Cells.{face_at}
 use Rattle.raster_model.specs.Tiles.{tiles_of, IsWithin}
 use Rattle.raster_model.specs.Scene.{raster_of}
 use Rattle.raster_model.proofs.TileEdges.{ends_within}
-use Rattle.raster_model.proofs.TileLemmas.{window_of-pixels}
+use Rattle.raster_model.proofs.TileLemmas.{scene_window, window_of-pixels}
 use Rattle.certificates.specs.declared.results.TileResult.{TileResult}
 use Rattle.certificates.specs.declared.verdicts.TileVerdict.{TileVerdict}
 use Rattle.certificates.specs.declared.verdicts.TileVerdict.TheVariants.{Good, Shape, Range, FaceAtEdge, CostDiffers}
@@ -20,7 +20,7 @@ use Rattle.certificates.proofs.CallerLemmas.{IsSameAt, certified_same, face_boun
 module _ (s : Scene) (mask mask' : Field Bool) (k : TileResult) (l : k.tile < tiles_of s.tiling) (same : (x y : ℕ) → IsWithin (window_in s k) x y → mask x y ≡ mask' x y) where
   at_edge : (e : Edge) → IsTileEdge (raster_of s) k.tile e → IsSameAt (raster_of s) mask mask' (result_surface s k) (result_surface s k) e
   at_edge e i =
-      let w = ends_within s k.tile (window_in s k) (window_of-pixels s.tiling k.tile l) e i in
+      let w = ends_within (raster_of s) k.tile (window_in s k) (scene_window s k.tile (window_in s k) (window_of-pixels s.tiling k.tile l)) e i in
       record { ends = ap₂ ◌&&◌ (same e.x e.y w.0) (same (end_x e) (end_y e) w.1); departs = λ o. refl }
 
   fits_same : (f : Field ℤ) (e : Edge) → IsTileEdge (raster_of s) k.tile e → FacesFit (raster_of s) mask k.tile f e → FacesFit (raster_of s) mask' k.tile f e

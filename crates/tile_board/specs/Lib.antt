@@ -8,3 +8,4 @@ pub mod Causes
 pub mod States
 pub mod Places
 pub mod LastSettled
+pub mod Surfaces

@@ -49,7 +49,7 @@ impl Board {
     ghost use Rattle.raster_model.specs.declared.script.Command.TheVariants.{Change, Show};
     ghost use Rattle.seam_regions.specs.Regions.{AreRegionsOf};
     ghost use Rattle.std.specs.Arc.{arc_value};
-    ghost use Rattle.std.specs.Prelude.{◌≡◌, ◌↔◌, IfErr, IfOk, IsTrue, OnErr, OnOk, Some, map};
+    ghost use Rattle.std.specs.Prelude.{◌≡◌, ◌↔◌, IfErr, IfOk, IsTrue, OnErr, OnOk, Some, map, option_map};
     ghost use Rattle.surface_snapshots.specs.Views.{parts_of};
     ghost use Rattle.tile_board.specs.declared.answers.PublishFault.TheVariants.{Memory};
     ghost use Rattle.tile_board.specs.declared.entry.Entry.TheVariants.{Published};
@@ -87,6 +87,7 @@ impl Board {
       now_of,
     };
     ghost use Rattle.tile_board.specs.States.{AddsSurface, HasSurfaceFault, IsWithoutOthers};
+    ghost use Rattle.tile_board.specs.Surfaces.{last_surface};
 
     /// A board with an empty history. It fails only for lack of memory.
     pub fn new(alloc: Global, session: Arc<Session>) -> Result<Board, AllocError>
@@ -242,6 +243,17 @@ impl Board {
         ensures board { IsBoard self.now }
     {
         &self.snapshots
+    }
+
+    /// The last published surface, with which it shares all that it has; None exactly if nothing is published. It fails only if
+    /// too many share that surface.
+    pub fn newest_surface(&self) -> Result<Option<Snapshot>, AllocError>
+        ensures { IfOk result (λ newest. option_map parts_of newest ≡ last_surface self.now) }
+    {
+        match self.snapshots.last() {
+            Some(snapshot) => Ok(Some(snapshot.share()?)),
+            None => Ok(None),
+        }
     }
 
     /// The session that is worked on.

@@ -11,3 +11,7 @@ mod collector_rows;
 mod desk_rows;
 #[cfg(test)]
 mod sessions;
+#[cfg(test)]
+mod shelf_rows;
+#[cfg(test)]
+mod watch_rows;

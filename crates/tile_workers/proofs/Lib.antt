@@ -3,3 +3,5 @@ pub mod ClaimLemmas
 pub mod GatherLemmas
 pub mod FreshLemmas
 pub mod CallerLemmas
+pub mod RisingLemmas
+pub mod WatchLemmas

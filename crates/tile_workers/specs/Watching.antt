@@ -1,0 +1,72 @@
+-- What contracts see of a curator and of a watcher, and what becomes of them.
+use Rattle.std.specs.Prelude.{◌≡◌, ◌+◌, ◌<◌, ◌≤◌, ◌⊎◌, ℕ, List, ◌∷◌, ◌++◌, Option, Some, None, length, slice_get, slice_index_or}
+use mathlib.Core.List.{IsPrefix}
+use Rattle.board_desk.specs.Passes.{PassView}
+use Rattle.reader_desk.specs.Fronts.{HasAllOf, Learned, ShelfView, last_revision}
+use Rattle.tile_workers.specs.Scripts.{HasSeenMore}
+
+-- the pass by which a curator asks the desk, and what its writer has placed
+pub record CuratorView : Type 0 where
+  pub pass : PassView
+  pub shelf : ShelfView
+
+abbrev pub curator_view : PassView → ShelfView → CuratorView
+curator_view pass shelf = record { pass = pass; shelf = shelf }
+
+-- a curator later: its pass has seen more, nothing was added in its name, and more may be placed
+pub record HasCurated (old new : CuratorView) : Type 0 where
+  pub pass : HasSeenMore old.pass new.pass
+  pub shelf : HasAllOf old.shelf new.shelf
+
+-- what a watcher's reader knows, the revisions that it kept, how often it reads, and for how many more revisions it has room
+pub record WatcherView : Type 0 where
+  pub reader : ShelfView
+  pub revisions : List ℕ
+  pub reads : ℕ
+  pub room : ℕ
+
+abbrev pub watcher_view : ShelfView → List ℕ → ℕ → ℕ → WatcherView
+watcher_view reader revisions reads room = record { reader = reader; revisions = revisions; reads = reads; room = room }
+
+-- each number is above those before it
+abbrev pub Rises : List ℕ → Type 0
+Rises numbers = (i j a b : ℕ) → i < j → slice_get numbers i ≡ Some a → slice_get numbers j ≡ Some b → a < b
+
+-- the watcher has room for all that it may read, and for one more
+abbrev pub HasRoom : WatcherView → Type 0
+HasRoom w = w.reads + 1 ≤ w.room
+
+-- a watcher has read: it knows all that it knew, kept all that it had kept, and has room for one more
+pub record HasWatched (old new : WatcherView) : Type 0 where
+  pub reader : HasAllOf old.reader new.reader
+  pub kept : IsPrefix old.revisions new.revisions
+  pub reads : new.reads ≡ old.reads
+  pub place : 1 ≤ new.room
+
+abbrev pub HaveWatched : List WatcherView → List WatcherView → Type 0
+HaveWatched before after = (k : ℕ) (d : WatcherView) → k < length before → HasWatched (slice_index_or before k d) (slice_index_or after k d)
+
+-- the revision stands in the list
+abbrev pub Keeps : List ℕ → ℕ → Type 0
+Keeps revisions r = (i : ℕ) × (slice_get revisions i ≡ Some r)
+
+-- the list has one more revision, at its place in order
+pub record HasOneMore (old new : List ℕ) (r : ℕ) : Type 0 where
+  pub below : List ℕ
+  pub above : List ℕ
+  pub was : old ≡ below ++ above
+  pub is : new ≡ below ++ r ∷ above
+
+-- a revision of a note was added where the list lacked it
+abbrev pub KeepsToo : List ℕ → List ℕ → Option ℕ → Type 0
+KeepsToo old new None = new ≡ old
+KeepsToo old new (Some r) = (Keeps old r × (new ≡ old)) ⊎ HasOneMore old new r
+
+-- a watcher took in a last note
+pub record HasFinished (old new : WatcherView) (note : ShelfView) : Type 0 where
+  pub reader : Learned old.reader note new.reader
+  pub revisions : KeepsToo old.revisions new.revisions (last_revision note.surfaces)
+
+-- each element of a list has become what the relation says
+pub record Became {A : Type 0} (R : A → A → Type 0) (before after : List A) : Type 0 where
+  pub each : (k : ℕ) (d : A) → k < length before → R (slice_index_or before k d) (slice_index_or after k d)

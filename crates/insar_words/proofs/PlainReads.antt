@@ -284,7 +284,7 @@ called t h = go (bytes_eq (codes "least") t) (bytes_eq (codes "mean") t) (bytes_
 pub rule_of_text : (t : Text) → is_among t rule_names ≡ true → (rule : RuleKind) × (t ≡ rule_name rule)
 rule_of_text t h = (rule_called (Some (name t)), called t h)
 
-rule_has : (rows : List Row) (o : Option Value) → option_map_or (fits (names rule_names)) o false ≡ true → Has rows (codes "rule") o → first_of (codes "rule") rows ≡ Some (rule_name (rule_called o))
+pub rule_has : (rows : List Row) (o : Option Value) → option_map_or (fits (names rule_names)) o false ≡ true → Has rows (codes "rule") o → first_of (codes "rule") rows ≡ Some (rule_name (rule_called o))
 rule_has rows None well has = absurd has
 rule_has rows (Some (number n)) well has = absurd cc
 rule_has rows (Some (name text)) well has = has ∙ ap Some (called text well)
@@ -295,7 +295,7 @@ has_some rs id (Some v) has = refl
 
 module _ (options : List Argument) (settings : List Setting) (plain : ArePlain options settings) (rows : List Row) where
   -- what pairs set fits
-  well : (a : Argument) → option_named options a.id ≡ Some a → option_map_or (fits a.takes) a.default true ≡ true → Has rows a.id (set_to a settings) → option_map_or (fits a.takes) (set_to a settings) false ≡ true
+  pub well : (a : Argument) → option_named options a.id ≡ Some a → option_map_or (fits a.takes) a.default true ≡ true → Has rows a.id (set_to a settings) → option_map_or (fits a.takes) (set_to a settings) false ≡ true
   well a first default has = set_well options a first default settings plain.taken (has_some rows a.id (set_to a settings) has)
 
   -- the number that pairs set is the one that is asked for
@@ -317,7 +317,7 @@ module _ (options : List Argument) (settings : List Setting) (plain : ArePlain o
     steep_is = number_told steep_entry 1 16 refl found.1.1.1.0 refl has.1.1.1.0;
   }
 
-  abbrev asks_as : (command : Text) (words : List (Bor Text)) → AreTaken words → asked words ≡ Some (command, rows) → Each (λ a. option_named options a.id ≡ Some a) checking → HasSet rows checking settings → Asks command words (options_set settings)
+  abbrev pub asks_as : (command : Text) (words : List (Bor Text)) → AreTaken words → asked words ≡ Some (command, rows) → Each (λ a. option_named options a.id ≡ Some a) checking → HasSet rows checking settings → Asks command words (options_set settings)
   asks_as command words taken named found has = asks_by IsSideAsked (number_set tile_entry settings) (number_told tile_entry 2 128 refl found.0 refl has.0) command words taken named found.1 has.1
 
 abbrev solving_as : (command : Text) (words : List (Bor Text)) (settings : List Setting) (rows : List Row) → ArePlain solving settings → AreTaken words → asked words ≡ Some (command, rows) → HasSet rows solving settings

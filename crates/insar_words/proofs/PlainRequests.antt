@@ -1,16 +1,18 @@
--- A screen, a closure and displacements in plain form are read, with the numbers that are set.
-use Rattle.std.proofs.Common.{refl, inl, inr, List, [], codes}
+-- A screen, a closure, displacements and a watch in plain form are read, with the numbers that are set.
+use Rattle.std.proofs.Common.{◌≡◌, refl, inl, inr, List, [], Some, codes}
 use Rattle.std.specs.Borrow.{Bor}
 use Rattle.clap.specs.Walk.{Row, Text}
-use Rattle.insar_words.specs.Forms.{block_entry, closure_form, count_entry, displacement_form, displacing, patch_entry, radius_entry, screen_form, screening, tile_entry, wavelength_entry, weight_entry, x_entry, y_entry}
-use Rattle.insar_words.specs.PlainForms.{HasSet, IsDisplacingSet, IsScreeningSet, PlainClosureIsRead, PlainDisplacementIsRead, PlainScreenIsRead, Setting, ArePlain}
+use Rattle.insar_words.specs.Asked.{AreTaken, asked}
+use Rattle.insar_words.specs.Forms.{block_entry, closure_form, count_entry, displacement_form, displacing, patch_entry, radius_entry, readers_entry, reads_entry, screen_form, screening, tile_entry, watch_form, watching, wavelength_entry, weight_entry, workers_entry, x_entry, y_entry}
+use Rattle.insar_words.specs.PlainForms.{HasSet, IsDisplacingSet, IsScreeningSet, IsWatchingSet, PlainClosureIsRead, PlainDisplacementIsRead, PlainScreenIsRead, PlainWatchIsRead, Setting, ArePlain, options_set}
 use Rattle.insar_words.specs.Requests.{IsRequest, TellsRequest}
 use Rattle.insar_words.specs.declared.displacing.Displacing.{Displacing}
 use Rattle.insar_words.specs.declared.request.Request.{Request}
-use Rattle.insar_words.specs.declared.request.Request.TheVariants.{Screen, Displacement}
+use Rattle.insar_words.specs.declared.request.Request.TheVariants.{Screen, Displacement, Watch}
 use Rattle.insar_words.specs.declared.screening.Screening.{Screening}
-use Rattle.insar_words.proofs.PlainReads.{number_told, plain_forms}
-use Rattle.insar_words.proofs.RequestLemmas.{apart, command_of, other_request, some_one, tells_by, told_by}
+use Rattle.insar_words.specs.declared.watching.Watching.{Watching}
+use Rattle.insar_words.proofs.PlainReads.{asks_as, number_told, plain_forms}
+use Rattle.insar_words.proofs.RequestLemmas.{apart, command_of, has_asked, other_request, some_one, tells_by, told_by}
 
 screen_as : (words : List (Bor Text)) (settings : List Setting) (plain : ArePlain screening settings) (rows : List Row) → HasSet rows screening settings → (q : Request) → IsRequest words q → TellsRequest (codes "screen") rows q
     → (s : Screening) × (IsScreeningSet settings s × IsRequest words (Screen s))
@@ -63,3 +65,27 @@ plain_displacement words settings plain spelled =
     let r = plain_forms words displacement_form [] settings (inr (inr (inr (inr (inr (inr (inl refl))))))) refl plain spelled in
     let q = other_request words (codes "displacement") r.rows r.taken r.named refl in
     displacement_as words settings plain r.rows r.options q.0 q.1 (tells_by words q.0 q.1 (codes "displacement") r.rows r.named)
+
+watch_as : (words : List (Bor Text)) (settings : List Setting) (plain : ArePlain watching settings) (rows : List Row) → AreTaken words → asked words ≡ Some (codes "watch", rows) → HasSet rows watching settings → (q : Request) → IsRequest words q → TellsRequest (codes "watch") rows q
+    → (w : Watching) × (IsWatchingSet settings w × IsRequest words (Watch w))
+watch_as words settings plain rows taken named has (Watch w) is tells =
+    let set = number_told watching settings plain rows in
+    let asks = asks_as watching settings plain rows (codes "watch") words taken named (refl, (refl, (refl, (refl, (refl, tt))))) (has.0, (has.1.0, (has.1.1.0, (has.1.1.1.0, (has.1.1.1.1.0, tt))))) in (
+      w,
+      (
+        record {
+          options = has_asked words (codes "watch") (options_set settings) asks w.settings tells.1.0.0;
+          workers = some_one _ _ _ tells.1.0.1 (set workers_entry 1 8 refl refl refl has.1.1.1.1.1.0);
+          readers = some_one _ _ _ tells.1.1.0 (set readers_entry 1 8 refl refl refl has.1.1.1.1.1.1.0);
+          reads = some_one _ _ _ tells.1.1.1 (set reads_entry 1 4096 refl refl refl has.1.1.1.1.1.1.1.0);
+        },
+        is,
+      ),
+    )
+watch_as words settings plain rows taken named has q is tells = absurd (apart (codes "watch") (command_of q) refl (told_by (codes "watch") rows q tells))
+
+pub plain_watch : PlainWatchIsRead
+plain_watch words settings plain spelled =
+    let r = plain_forms words watch_form [] settings (inr (inr (inr (inr (inr (inr (inr (inr (inr (inl refl)))))))))) refl plain spelled in
+    let q = other_request words (codes "watch") r.rows r.taken r.named refl in
+    watch_as words settings plain r.rows r.taken r.named r.options q.0 q.1 (tells_by words q.0 q.1 (codes "watch") r.rows r.named)

@@ -24,20 +24,21 @@ use Rattle.raster_model.specs.declared.terms.Terms.{Terms}
 use Rattle.raster_model.specs.declared.weights.RuleKind.{RuleKind}
 use Rattle.raster_model.specs.declared.weights.RuleKind.TheVariants.{Least, Mean, Product}
 use Rattle.raster_model.specs.Limits.{IsSlope, IsSteepness, IsTileSide, max_pixels}
-use Rattle.insar_words.specs.Asked.{AreTaken, Asks, AsksBy, IsCheck, IsCheckWhole, IsCommand, IsGridCommand, IsRefused, IsSideAsked, IsSideByDefault, IsTooLarge, IsTrialCommand, IsWhole, OneCommand, Options, asked, asks_by_names, has_names, is_named, number_asked, slope_asked, slope_for}
+use Rattle.insar_words.specs.Asked.{AreTaken, Asks, AsksBy, IsCheck, IsCheckWhole, IsCommand, IsGridCommand, IsRefused, IsSideAsked, IsSideByDefault, IsTooLarge, IsTrialCommand, IsWatch, IsWhole, OneCommand, Options, asked, asks_by_names, has_names, is_named, number_asked, slope_asked, slope_for}
 use Rattle.insar_words.specs.Faults.{fault_of_kind}
-use Rattle.insar_words.specs.Forms.{CommandForm, Each, OfOne, arguments_of, check_form, check_whole_form, closure_form, displacement_form, forms, grid_form, is_among, rule_entry, rule_name, rule_names, screen_form, trial_form, unwrap_form, whole_form}
-use Rattle.insar_words.specs.Limits.{IsBlockAsked, IsNearCount, IsPatchSize, IsReferencePlace, IsScreenRadius, IsTrialSide, IsWavelengthAsked, IsWorkers}
-use Rattle.insar_words.specs.Requests.{AskSomething, CheckIsRequest, CheckWholeIsRequest, GridIsRequest, HasWordsCause, IsRequest, IsSession, OneRequest, RefusedOrAsking, TellsAll, TellsNothing, TellsRefusal, TellsRequest, TellsSettings, TellsTerms, TellsTooMany, TellsWhole, TrialIsRequest, UnwrapIsRequest, WholeIsRequest, options_of}
+use Rattle.insar_words.specs.Forms.{CommandForm, Each, OfOne, arguments_of, check_form, check_whole_form, closure_form, displacement_form, forms, grid_form, is_among, rule_entry, rule_name, rule_names, screen_form, trial_form, unwrap_form, watch_form, whole_form}
+use Rattle.insar_words.specs.Limits.{IsBlockAsked, IsNearCount, IsPatchSize, IsReaders, IsReads, IsReferencePlace, IsScreenRadius, IsTrialSide, IsWavelengthAsked, IsWorkers}
+use Rattle.insar_words.specs.Requests.{AskSomething, CheckIsRequest, CheckWholeIsRequest, GridIsRequest, HasWordsCause, IsRequest, IsSession, OneRequest, RefusedOrAsking, TellsAll, TellsNothing, TellsRefusal, TellsRequest, TellsSettings, TellsTerms, TellsTooMany, TellsWhole, TrialIsRequest, UnwrapIsRequest, WatchIsRequest, WholeIsRequest, options_of}
 use Rattle.insar_words.specs.Stated.{stated}
 use Rattle.insar_words.specs.Values.{HasChecking, HasNumber, HasSolving, HasTerms, HasValues, ReadsAs}
 use Rattle.insar_words.specs.declared.fault.WordsFault.{WordsFault}
 use Rattle.insar_words.specs.declared.request.Request.{Request}
-use Rattle.insar_words.specs.declared.request.Request.TheVariants.{Unwrap, Grid, Check, Trial, Screen, Closure, Displacement, Whole, CheckWhole}
+use Rattle.insar_words.specs.declared.request.Request.TheVariants.{Unwrap, Grid, Check, Trial, Screen, Closure, Displacement, Whole, CheckWhole, Watch}
 use Rattle.insar_words.specs.declared.screening.Screening.{Screening}
 use Rattle.insar_words.specs.declared.displacing.Displacing.{Displacing}
 use Rattle.insar_words.specs.declared.settings.Settings.{Settings}
 use Rattle.insar_words.specs.declared.trial.Trial.{Trial as TrialSession}
+use Rattle.insar_words.specs.declared.watching.Watching.{Watching}
 use Rattle.insar_words.proofs.FormLemmas.{asks_form, each_form, has_values, named, sound}
 use Rattle.insar_words.proofs.PlainReads.{rule_of_text}
 use Rattle.insar_words.proofs.TakenLemmas.{leaf_rows, not_nil}
@@ -65,6 +66,7 @@ command_of Closure = codes "closure"
 command_of (Displacement displacing) = codes "displacement"
 command_of (Whole settings) = codes "whole"
 command_of (CheckWhole settings) = codes "check-whole"
+command_of (Watch watching) = codes "watch"
 
 -- the command that is told
 pub told_by : (command : Text) (rows : List Row) (r : Request) → TellsRequest command rows r → command ≡ command_of r
@@ -186,6 +188,16 @@ same_displacing s t waves columns rows blocks = λ i.
       blocks = is_prop→PathP (λ j. IsBlockAsked (blocks j)) (λ j. ×_prop le_prop le_prop) s.blocks t.blocks i;
     }
 
+same_watching : (s t : Watching) → s.settings ≡ t.settings → s.readers ≡ t.readers → s.reads ≡ t.reads → s ≡ t
+same_watching s t settings readers reads = λ i.
+    record {
+      settings = settings i;
+      readers = readers i;
+      reads = reads i;
+      crowd = is_prop→PathP (λ j. IsReaders (readers j)) (λ j. ×_prop le_prop le_prop) s.crowd t.crowd i;
+      looks = is_prop→PathP (λ j. IsReads (reads j)) (λ j. ×_prop le_prop le_prop) s.looks t.looks i;
+    }
+
 same_told : (rows : List Row) (s t : Settings) → TellsSettings rows s → TellsSettings rows t → s.workers ≡ t.workers → s ≡ t
 same_told rows s t a b crew = same_settings s t (one_choice IsSideAsked one_asked rows (options_of s) (options_of t) a b) crew
 
@@ -202,6 +214,7 @@ one_told command rows Closure Closure a b = refl
 one_told command rows (Displacement s) (Displacement t) a b = ap Displacement (same_displacing s t (some_one _ _ _ a.1.0 b.1.0) (some_one _ _ _ a.1.1.0 b.1.1.0) (some_one _ _ _ a.1.1.1.0 b.1.1.1.0) (some_one _ _ _ a.1.1.1.1 b.1.1.1.1))
 one_told command rows (Whole s) (Whole t) a b = ap Whole (same_whole rows s t a.1.0 b.1.0 (cc))
 one_told command rows (CheckWhole s) (CheckWhole t) a b = ap CheckWhole (same_whole rows s t a.1.0 b.1.0 (cc))
+one_told command rows (Watch s) (Watch t) a b = ap Watch (same_watching s t (same_told rows s.settings t.settings a.1.0.0 b.1.0.0 (some_one _ _ _ a.1.0.1 b.1.0.1)) (some_one _ _ _ a.1.1.0 b.1.1.0) (some_one _ _ _ a.1.1.1 b.1.1.1))
 one_told command rows r q a b = absurd (apart (command_of r) (command_of q) refl (sym (told_by command rows r a) ∙ told_by command rows q b))
 
 pub one_request : OneRequest
@@ -320,6 +333,14 @@ asks_check_whole words rows taken named has names =
     let s = terms_there rows has (and_parts _ _ names).0 64 (omega arith, omega arith) 2 (omega arith, omega arith) in
     inr (CheckWhole s.0, record { taken = taken; command = codes "check-whole"; rows = rows; named = named; tells = (refl, ((s.1.0, s.1.1.0), s.1.1.1)) })
 
+asks_watch : Asking watch_form
+asks_watch words rows taken named has names =
+    let s = all_there rows (has.0, (has.1.0, (has.1.1.0, (has.1.1.1.0, (has.1.1.1.1.0, (has.1.1.1.1.1.0, tt)))))) (and_parts _ _ names).0 in
+    let readers = number_there (codes "readers") 1 8 rows has.1.1.1.1.1.1.0 in
+    let reads = number_there (codes "reads") 1 4096 rows has.1.1.1.1.1.1.1.0 in
+    let watching : Watching = record { settings = s.0; readers = readers.0; reads = reads.0; crowd = readers.2; looks = reads.2 } in
+    inr (Watch watching, record { taken = taken; command = codes "watch"; rows = rows; named = named; tells = (refl, (s.1, (readers.1, reads.1))) })
+
 -- what words that clap takes ask for
 record Reads (words : List Text) : Type 0 where
   form : CommandForm
@@ -344,7 +365,7 @@ asked_some : (words : List (Bor Text)) → AreTaken words → SomeAsked words
 asked_some words taken =
     let r = reads_some (texts words) taken.parsed in
     let names = and_parts (has_names r.rows r.form) true (sym ((sound r.form r.among).names r.rows) ∙ ap asks_by_names (sym r.named) ∙ taken.in_names) in
-    each_form Asking forms (asks_unwrap, (asks_grid, (asks_check, (asks_trial, (asks_screen, (asks_closure, (asks_displacement, (asks_whole, (asks_check_whole, tt))))))))) r.form r.among words r.rows taken r.named r.values names.0
+    each_form Asking forms (asks_unwrap, (asks_grid, (asks_check, (asks_trial, (asks_screen, (asks_closure, (asks_displacement, (asks_whole, (asks_check_whole, (asks_watch, tt)))))))))) r.form r.among words r.rows taken r.named r.values names.0
 
 -- ---- refused, or asking
 
@@ -408,7 +429,7 @@ pub other_request : (words : List (Bor Text)) (command : Text) (rows : List Row)
 other_request words command rows taken named other = some_request words command rows taken named (λ e many. apart command (codes "trial") other e)
 
 -- the options of a command are those that the rows tell
-has_asked : (words : List (Bor Text)) (command : Text) (options : Options) (a : Asks command words options) (s : Settings) → TellsSettings a.rows s → options_of s ≡ options
+pub has_asked : (words : List (Bor Text)) (command : Text) (options : Options) (a : Asks command words options) (s : Settings) → TellsSettings a.rows s → options_of s ≡ options
 has_asked words command options a s tells = one_choice IsSideAsked one_asked a.rows (options_of s) options tells (asks_told IsSideAsked command words options a)
 
 has_whole : (words : List (Bor Text)) (command : Text) (options : Options) (a : AsksBy IsSideByDefault command words options) (s : Settings) → TellsWhole a.rows s → options_of s ≡ options
@@ -446,6 +467,10 @@ by_check_whole : (words : List (Bor Text)) (options : Options) (a : IsCheckWhole
 by_check_whole words options a (CheckWhole s) is tells = (s, has_whole words (codes "check-whole") options a s tells.1.0, is)
 by_check_whole words options a q is tells = absurd (apart (codes "check-whole") (command_of q) refl (told_by (codes "check-whole") a.rows q tells))
 
+by_watch : (words : List (Bor Text)) (options : Options) (a : IsWatch words options) (q : Request) → IsRequest words q → TellsRequest (codes "watch") a.rows q → (watching : Watching) × (options_of watching.settings ≡ options) × IsRequest words (Watch watching)
+by_watch words options a (Watch w) is tells = (w, has_asked words (codes "watch") options a w.settings tells.1.0.0, is)
+by_watch words options a q is tells = absurd (apart (codes "watch") (command_of q) refl (told_by (codes "watch") a.rows q tells))
+
 pub unwrap_is_request : UnwrapIsRequest
 unwrap_is_request words = (
   λ options a. (let q = other_request words (codes "unwrap") a.rows a.taken a.named refl in by_unwrap words options a q.0 q.1 (tells_by words q.0 q.1 (codes "unwrap") a.rows a.named)),
@@ -474,6 +499,12 @@ pub check_whole_is_request : CheckWholeIsRequest
 check_whole_is_request words = (
   λ options a. (let q = other_request words (codes "check-whole") a.rows a.taken a.named refl in by_check_whole words options a q.0 q.1 (tells_by words q.0 q.1 (codes "check-whole") a.rows a.named)),
   λ s is. asks_of IsSideByDefault words (CheckWhole s) s is is.tells.1.0,
+)
+
+pub watch_is_request : WatchIsRequest
+watch_is_request words = (
+  λ options a. (let q = other_request words (codes "watch") a.rows a.taken a.named refl in by_watch words options a q.0 q.1 (tells_by words q.0 q.1 (codes "watch") a.rows a.named)),
+  λ w is. asks_of IsSideAsked words (Watch w) w.settings is is.tells.1.0.0,
 )
 
 trial_of : (words : List (Bor Text)) (t : TrialSession) → IsRequest words (Trial t) → IsTrialCommand words t.seed t.width t.height (options_of t.settings)
@@ -510,6 +541,7 @@ names_of rows (Check s) tells = names_hold rows s tells.1.0.0
 names_of rows (Trial t) tells = names_hold rows t.settings tells.1.0.0.0
 names_of rows (Whole s) tells = names_hold rows s tells.1.0.0
 names_of rows (CheckWhole s) tells = names_hold rows s tells.1.0.0
+names_of rows (Watch w) tells = names_hold rows w.settings tells.1.0.0.0
 names_of rows r tells = refl
 
 names_told : (command : Text) (rows : List Row) (request : Request) → TellsRequest command rows request → asks_by_names (Some (command, rows)) ≡ true

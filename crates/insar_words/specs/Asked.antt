@@ -87,6 +87,10 @@ IsGridCommand words options = Asks (codes "grid") words options
 abbrev pub IsCheck : List (Bor Text) → Options → Type 0
 IsCheck words options = Asks (codes "check") words options
 
+-- the words ask for `watch`
+abbrev pub IsWatch : List (Bor Text) → Options → Type 0
+IsWatch words options = Asks (codes "watch") words options
+
 -- the words ask for `whole`, also with a number of workers, or for `check-whole`
 abbrev pub IsWhole : List (Bor Text) → Options → Type 0
 IsWhole words options = AsksBy IsSideByDefault (codes "whole") words options

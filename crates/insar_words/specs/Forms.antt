@@ -75,6 +75,12 @@ steep_entry = record { id = codes "steep"; takes = numbers 1 16; default = Some 
 abbrev pub workers_entry : Argument
 workers_entry = record { id = codes "workers"; takes = numbers 1 8; default = Some (number 2) }
 
+abbrev pub readers_entry : Argument
+readers_entry = record { id = codes "readers"; takes = numbers 1 8; default = Some (number 1) }
+
+abbrev pub reads_entry : Argument
+reads_entry = record { id = codes "reads"; takes = numbers 1 4096; default = Some (number 16) }
+
 abbrev pub seed_entry : Argument
 seed_entry = record { id = codes "seed"; takes = any_number; default = None }
 
@@ -117,6 +123,10 @@ solving = tile_entry ∷ rule_entry ∷ ramp_x_entry ∷ ramp_y_entry ∷ steep_
 
 abbrev pub drawing : List Argument
 drawing = seed_entry ∷ width_entry ∷ height_entry ∷ []
+
+-- what is asked of a run beside readers
+abbrev pub watching : List Argument
+watching = tile_entry ∷ rule_entry ∷ ramp_x_entry ∷ ramp_y_entry ∷ steep_entry ∷ workers_entry ∷ readers_entry ∷ reads_entry ∷ []
 
 -- what is asked of a check of a whole surface, and of its run
 abbrev pub whole_checking : List Argument
@@ -161,8 +171,11 @@ whole_form = record { command = codes "whole"; positionals = []; options = whole
 abbrev pub check_whole_form : CommandForm
 check_whole_form = record { command = codes "check-whole"; positionals = []; options = whole_checking }
 
+abbrev pub watch_form : CommandForm
+watch_form = record { command = codes "watch"; positionals = []; options = watching }
+
 abbrev pub forms : List CommandForm
-forms = unwrap_form ∷ grid_form ∷ check_form ∷ trial_form ∷ screen_form ∷ closure_form ∷ displacement_form ∷ whole_form ∷ check_whole_form ∷ []
+forms = unwrap_form ∷ grid_form ∷ check_form ∷ trial_form ∷ screen_form ∷ closure_form ∷ displacement_form ∷ whole_form ∷ check_whole_form ∷ watch_form ∷ []
 
 -- P holds of each
 abbrev pub Each : {X : Type 0} → (X → Type 0) → List X → Type 0

@@ -6,6 +6,13 @@ use Rattle.raster_model.specs.Limits.{max_pixels, max_side}
 abbrev pub IsWorkers : ℕ → Type 0
 IsWorkers workers = (1 ≤ workers) × (workers ≤ 8)
 
+-- how many readers there may be, and how often each may look
+abbrev pub IsReaders : ℕ → Type 0
+IsReaders readers = (1 ≤ readers) × (readers ≤ 8)
+
+abbrev pub IsReads : ℕ → Type 0
+IsReads reads = (1 ≤ reads) × (reads ≤ 4096)
+
 -- sides that the raster of a test session may have
 abbrev pub IsTrialSide : ℕ → Type 0
 IsTrialSide pixels = (1 ≤ pixels) × (pixels ≤ max_side)

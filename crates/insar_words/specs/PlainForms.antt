@@ -10,11 +10,12 @@ use Rattle.raster_model.specs.declared.weights.RuleKind.{RuleKind}
 use Rattle.raster_model.specs.declared.weights.RuleKind.TheVariants.{Least, Mean, Product}
 use Rattle.raster_model.specs.Limits.{max_pixels}
 use Rattle.insar_words.specs.Asked.{AreTaken, AsksWorkers, IsCheck, IsCheckWhole, IsTrialCommand, IsWholeWith, Options, asked, number_asked, slope_for}
-use Rattle.insar_words.specs.Forms.{Argument, CommandForm, Each, OfOne, Value, block_entry, checking, count_entry, displacing, fits, forms, name, number, patch_entry, radius_entry, ramp_x_entry, ramp_y_entry, rule_entry, screening, solving, steep_entry, tile_entry, wavelength_entry, weight_entry, whole_checking, whole_solving, word_of, workers_entry, x_entry, y_entry}
-use Rattle.insar_words.specs.Requests.{IsRequest}
-use Rattle.insar_words.specs.declared.request.Request.TheVariants.{Screen, Closure, Displacement}
+use Rattle.insar_words.specs.Forms.{Argument, CommandForm, Each, OfOne, Value, block_entry, checking, count_entry, displacing, fits, forms, name, number, patch_entry, radius_entry, ramp_x_entry, ramp_y_entry, readers_entry, reads_entry, rule_entry, screening, solving, steep_entry, tile_entry, watching, wavelength_entry, weight_entry, whole_checking, whole_solving, word_of, workers_entry, x_entry, y_entry}
+use Rattle.insar_words.specs.Requests.{IsRequest, options_of}
+use Rattle.insar_words.specs.declared.request.Request.TheVariants.{Screen, Closure, Displacement, Watch}
 use Rattle.insar_words.specs.declared.screening.Screening.{Screening}
 use Rattle.insar_words.specs.declared.displacing.Displacing.{Displacing}
+use Rattle.insar_words.specs.declared.watching.Watching.{Watching}
 use Rattle.insar_words.specs.Limits.{IsTrialSide}
 
 -- what one pair sets: an option by its name, to a value
@@ -163,3 +164,14 @@ pub record IsDisplacingSet (settings : List Setting) (d : Displacing) : Type 0 w
 abbrev pub PlainDisplacementIsRead : Type 0
 PlainDisplacementIsRead = (words : List (Bor Text)) (settings : List Setting) → ArePlain displacing settings → texts words ≡ codes "displacement" ∷ pairs settings
     → (d : Displacing) × (IsDisplacingSet settings d × IsRequest words (Displacement d))
+
+-- `watch`, with the options, the workers and the numbers that are set
+pub record IsWatchingSet (settings : List Setting) (w : Watching) : Type 0 where
+  pub options : options_of w.settings ≡ options_set settings
+  pub workers : w.settings.workers ≡ workers_set settings
+  pub readers : w.readers ≡ number_set readers_entry settings
+  pub reads : w.reads ≡ number_set reads_entry settings
+
+abbrev pub PlainWatchIsRead : Type 0
+PlainWatchIsRead = (words : List (Bor Text)) (settings : List Setting) → ArePlain watching settings → texts words ≡ codes "watch" ∷ pairs settings
+    → (w : Watching) × (IsWatchingSet settings w × IsRequest words (Watch w))

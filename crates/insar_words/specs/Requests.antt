@@ -3,16 +3,17 @@ use Rattle.std.specs.Prelude.{◌≡◌, ◌⊎◌, ◌*◌, ◌<◌, ℕ, false
 use Rattle.std.specs.Borrow.{Bor}
 use Rattle.clap.specs.Words.{Row, Text, first_of}
 use Rattle.raster_model.specs.Limits.{max_pixels}
-use Rattle.insar_words.specs.Asked.{AreTaken, IsCheck, IsCheckWhole, IsCommand, IsGridCommand, IsRefused, IsSideAsked, IsSideByDefault, IsTrialCommand, IsWhole, Options, asked, asks_by_names, is_named, number_asked, slope_asked}
+use Rattle.insar_words.specs.Asked.{AreTaken, IsCheck, IsCheckWhole, IsCommand, IsGridCommand, IsRefused, IsSideAsked, IsSideByDefault, IsTrialCommand, IsWatch, IsWhole, Options, asked, asks_by_names, is_named, number_asked, slope_asked}
 use Rattle.insar_words.specs.Forms.{rule_entry, rule_name}
 use Rattle.insar_words.specs.declared.fault.WordsFault.{WordsFault}
 use Rattle.insar_words.specs.declared.fault.WordsFault.TheVariants as faults
 use Rattle.insar_words.specs.declared.request.Request.{Request}
-use Rattle.insar_words.specs.declared.request.Request.TheVariants.{Unwrap, Grid, Check, Trial, Screen, Closure, Displacement, Whole, CheckWhole}
+use Rattle.insar_words.specs.declared.request.Request.TheVariants.{Unwrap, Grid, Check, Trial, Screen, Closure, Displacement, Whole, CheckWhole, Watch}
 use Rattle.insar_words.specs.declared.screening.Screening.{Screening}
 use Rattle.insar_words.specs.declared.displacing.Displacing.{Displacing}
 use Rattle.insar_words.specs.declared.settings.Settings.{Settings}
 use Rattle.insar_words.specs.declared.trial.Trial.{Trial as TrialSession}
+use Rattle.insar_words.specs.declared.watching.Watching.{Watching}
 
 -- ---- what matches tell
 
@@ -35,6 +36,10 @@ TellsAll rows settings = TellsSettings rows settings × (number_asked (codes "wo
 abbrev pub TellsTrial : List Row → TrialSession → Type 0
 TellsTrial rows trial = TellsAll rows trial.settings × ((number_asked (codes "seed") rows ≡ Some trial.seed)
     × ((number_asked (codes "width") rows ≡ Some trial.width) × (number_asked (codes "height") rows ≡ Some trial.height)))
+
+-- this run beside readers
+abbrev pub TellsWatching : List Row → Watching → Type 0
+TellsWatching rows w = TellsAll rows w.settings × ((number_asked (codes "readers") rows ≡ Some w.readers) × (number_asked (codes "reads") rows ≡ Some w.reads))
 
 -- this screen
 abbrev pub TellsScreening : List Row → Screening → Type 0
@@ -65,6 +70,7 @@ TellsRequest command rows Closure = (command ≡ codes "closure") × ⊤
 TellsRequest command rows (Displacement displacing) = (command ≡ codes "displacement") × TellsDisplacing rows displacing
 TellsRequest command rows (Whole settings) = (command ≡ codes "whole") × (TellsWhole rows settings × (number_asked (codes "workers") rows ≡ Some settings.workers))
 TellsRequest command rows (CheckWhole settings) = (command ≡ codes "check-whole") × (TellsWhole rows settings × (settings.workers ≡ 2))
+TellsRequest command rows (Watch watching) = (command ≡ codes "watch") × TellsWatching rows watching
 
 -- it is refused, for a name or for too many pixels
 abbrev pub TellsNothing : Text → List Row → Type 0
@@ -122,6 +128,10 @@ WholeIsRequest = (words : List (Bor Text)) → ((options : Options) → IsWhole 
 abbrev pub CheckWholeIsRequest : Type 0
 CheckWholeIsRequest = (words : List (Bor Text)) → ((options : Options) → IsCheckWhole words options → (settings : Settings) × (options_of settings ≡ options) × IsRequest words (CheckWhole settings))
     × ((settings : Settings) → IsRequest words (CheckWhole settings) → IsCheckWhole words (options_of settings))
+
+abbrev pub WatchIsRequest : Type 0
+WatchIsRequest = (words : List (Bor Text)) → ((options : Options) → IsWatch words options → (watching : Watching) × (options_of watching.settings ≡ options) × IsRequest words (Watch watching))
+    × ((watching : Watching) → IsRequest words (Watch watching) → IsWatch words (options_of watching.settings))
 
 -- this test session
 pub record IsSession (seed width height : ℕ) (options : Options) (trial : TrialSession) : Type 0 where

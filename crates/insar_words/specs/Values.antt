@@ -2,7 +2,7 @@
 use Rattle.std.specs.Prelude.{◌≡◌, ◌≤◌, ℕ, List, Some}
 use Rattle.std.specs.Str.Parse.{IsNumeral, digits_value, without_leading_plus}
 use Rattle.clap.specs.Words.{Row, Text, first_of, one_of}
-use Rattle.insar_words.specs.Forms.{Argument, Each, OfOne, Taking, any_number, arguments_of, checking, displacing, drawing, forms, names, numbers, screening, solving, whole_checking, whole_solving}
+use Rattle.insar_words.specs.Forms.{Argument, Each, OfOne, Taking, any_number, arguments_of, checking, displacing, drawing, forms, names, numbers, screening, solving, watching, whole_checking, whole_solving}
 
 -- a number from `least` to `most`
 pub record HasNumber (id : Text) (least most : ℕ) (rows : List Row) : Type 0 where
@@ -34,6 +34,10 @@ HasSolving rows = HasValues solving rows
 
 abbrev pub HasRaster : List Row → Type 0
 HasRaster rows = HasValues drawing rows
+
+-- what `watch` needs
+abbrev pub HasWatching : List Row → Type 0
+HasWatching rows = HasValues watching rows
 
 -- what `check-whole` needs, and what `whole` needs
 abbrev pub HasTerms : List Row → Type 0

@@ -1,8 +1,8 @@
 //! Laws of the definitions. The functions do nothing; each contract is the law.
 
 ghost use Rattle.insar_words.specs.Asked.{OneCommand};
-ghost use Rattle.insar_words.specs.PlainForms.{PlainCheckIsRead, PlainCheckWholeIsRead, PlainClosureIsRead, PlainDisplacementIsRead, PlainFormsAreRead, PlainScreenIsRead, PlainSolvingIsRead, PlainTrialIsRead, PlainWholeIsRead};
-ghost use Rattle.insar_words.specs.Requests.{CheckIsRequest, CheckWholeIsRequest, GridIsRequest, OneRequest, RefusedOrAsking, TrialIsRequest, UnwrapIsRequest, WholeIsRequest};
+ghost use Rattle.insar_words.specs.PlainForms.{PlainCheckIsRead, PlainCheckWholeIsRead, PlainClosureIsRead, PlainDisplacementIsRead, PlainFormsAreRead, PlainScreenIsRead, PlainSolvingIsRead, PlainTrialIsRead, PlainWatchIsRead, PlainWholeIsRead};
+ghost use Rattle.insar_words.specs.Requests.{CheckIsRequest, CheckWholeIsRequest, GridIsRequest, OneRequest, RefusedOrAsking, TrialIsRequest, UnwrapIsRequest, WatchIsRequest, WholeIsRequest};
 ghost use Rattle.std.specs.Prelude.{codes};
 
 /// Words ask for at most one thing: one subcommand with one choice of options; and they are one request at most.
@@ -19,6 +19,7 @@ pub fn commands_are_requests()
     ensures trial { TrialIsRequest }
     ensures whole { WholeIsRequest }
     ensures check_whole { CheckWholeIsRequest }
+    ensures watch { WatchIsRequest }
 {}
 
 /// Words are refused or ask for something, and never both.
@@ -27,7 +28,7 @@ pub fn words_are_refused_or_ask()
 {}
 
 /// Words in plain form are read, and ask exactly what they say: of any command, and by what the pairs set of each of the
-/// nine.
+/// ten.
 pub fn plain_forms_are_read()
     ensures any { PlainFormsAreRead }
     ensures unwrap { PlainSolvingIsRead (codes "unwrap") }
@@ -39,4 +40,5 @@ pub fn plain_forms_are_read()
     ensures displacement { PlainDisplacementIsRead }
     ensures whole { PlainWholeIsRead }
     ensures check_whole { PlainCheckWholeIsRead }
+    ensures watch { PlainWatchIsRead }
 {}

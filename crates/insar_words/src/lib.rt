@@ -11,6 +11,7 @@ mod settings;
 mod stated;
 mod table;
 mod trial;
+mod watching;
 
 pub use displacing::Displacing;
 pub use fault::WordsFault;
@@ -19,3 +20,4 @@ pub use request::Request;
 pub use screening::Screening;
 pub use settings::Settings;
 pub use trial::Trial;
+pub use watching::Watching;

@@ -3,8 +3,8 @@ ghost use Rattle.insar_words.specs.Asked.{number_asked, slope_asked, slope_for a
 ghost use Rattle.insar_words.specs.Forms.{rule_name};
 ghost use Rattle.insar_words.specs.Limits.{IsWorkers};
 ghost use Rattle.raster_model.specs.Limits.{IsSlope, IsTileSide};
-ghost use Rattle.insar_words.specs.Requests.{HasWordsCause, IsRequest, NamesNoRule, TellsDisplacing, TellsNothing, TellsRefusal, TellsRequest, TellsScreening, TellsSettings, TellsTerms, TellsTooMany, TellsTrial, TellsWhole};
-ghost use Rattle.insar_words.specs.Values.{HasChecking, HasDisplacing, HasNumber, HasRaster, HasScreening, HasSolving, HasTerms, HasText, HasWholeSolving, ReadsAs};
+ghost use Rattle.insar_words.specs.Requests.{HasWordsCause, IsRequest, NamesNoRule, TellsDisplacing, TellsNothing, TellsRefusal, TellsRequest, TellsScreening, TellsSettings, TellsTerms, TellsTooMany, TellsTrial, TellsWatching, TellsWhole};
+ghost use Rattle.insar_words.specs.Values.{HasChecking, HasDisplacing, HasNumber, HasRaster, HasScreening, HasSolving, HasTerms, HasText, HasWatching, HasWholeSolving, ReadsAs};
 ghost use Rattle.std.specs.Prelude.{◌≡◌, ◌≤◌, ◌⊎◌, IfErr, IfNone, IfOk, IfSome, Some, codes};
 
 use crate::displacing::Displacing;
@@ -14,6 +14,7 @@ use crate::screening::Screening;
 use crate::settings::Settings;
 use crate::stated::stated_command;
 use crate::trial::Trial;
+use crate::watching::Watching;
 use clap::ArgMatches;
 use raster_model::{DEFAULT_TILE_SIDE, DEFAULT_WORKERS, MAX_PIXELS, RuleKind, Terms};
 use std::alloc::Global;
@@ -63,6 +64,7 @@ fn request_of(name: &str, found: &ArgMatches<'_>) -> Option<Request>
             DEFAULT_TILE_SIDE,
             DEFAULT_WORKERS,
         )?)),
+        "watch" => Some(Request::Watch(watching_of(found)?)),
         _ => unreachable!(),
     }
 }
@@ -85,6 +87,22 @@ fn trial_of(found: &ArgMatches<'_>) -> Option<Trial>
         width,
         height,
         settings,
+    })
+}
+
+/// The run beside readers that matches ask for.
+fn watching_of(found: &ArgMatches<'_>) -> Option<Watching>
+    requires { HasWatching (rows_of (found_of found.now)) }
+    ensures told { IfSome result (TellsWatching (rows_of (found_of found.now))) }
+    ensures refused { IfNone result (NamesNoRule (rows_of (found_of found.now))) }
+{
+    let settings = solving_settings(found)?;
+    let readers = number_told(found, "readers");
+    let reads = number_told(found, "reads");
+    Some(Watching {
+        settings,
+        readers,
+        reads,
     })
 }
 

@@ -2,6 +2,7 @@ use crate::displacing::Displacing;
 use crate::screening::Screening;
 use crate::settings::Settings;
 use crate::trial::Trial;
+use crate::watching::Watching;
 
 /// What words ask for.
 #[derive(Clone, Copy)]
@@ -24,4 +25,6 @@ pub enum Request {
     Whole(Settings),
     /// `check-whole`: the verdict on such a surface. It has no workers, and its side of tiles is the default.
     CheckWhole(Settings),
+    /// `watch`: what was published, and what readers saw of it.
+    Watch(Watching),
 }

@@ -24,7 +24,7 @@ pub(crate) struct ArgumentRow {
 }
 
 /// The commands.
-pub(crate) const COMMANDS: [CommandRow; 9] = [
+pub(crate) const COMMANDS: [CommandRow; 10] = [
     CommandRow {
         name: "unwrap",
         arguments: &[TILE, RULE, RAMP_X, RAMP_Y, STEEP, WORKERS],
@@ -62,6 +62,10 @@ pub(crate) const COMMANDS: [CommandRow; 9] = [
     CommandRow {
         name: "check-whole",
         arguments: &[RULE, RAMP_X, RAMP_Y, STEEP],
+    },
+    CommandRow {
+        name: "watch",
+        arguments: &[TILE, RULE, RAMP_X, RAMP_Y, STEEP, WORKERS, READERS, READS],
     },
 ];
 
@@ -117,6 +121,24 @@ const WORKERS: ArgumentRow = ArgumentRow {
     parser: ValueParser::Signed(1, 8),
     defaults: &["2"],
     help: "How many workers solve at once, from 1 to 8, else 2, as in --workers 4",
+};
+
+/// `--readers N`
+const READERS: ArgumentRow = ArgumentRow {
+    name: "readers",
+    is_option: true,
+    parser: ValueParser::Signed(1, 8),
+    defaults: &["1"],
+    help: "How many readers look at the newest surface at once, from 1 to 8, else 1, as in --readers 3",
+};
+
+/// `--reads N`
+const READS: ArgumentRow = ArgumentRow {
+    name: "reads",
+    is_option: true,
+    parser: ValueParser::Signed(1, 4096),
+    defaults: &["16"],
+    help: "How often each reader looks, from 1 to 4096, else 16, as in --reads 100",
 };
 
 /// `SEED`

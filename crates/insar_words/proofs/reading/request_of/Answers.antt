@@ -31,3 +31,6 @@ whole_settings-requires c = record { options = has_own (codes "whole") c.args.na
 
 pub settings_with-requires-clause-options : goal.settings_with-requires-clause-options
 settings_with-requires-clause-options c = has_own (codes "check-whole") c.args.name.now (rows_of (found_of c.args.found.now)) c.in-text.is c.requires.named
+
+pub watching_of-requires : goal.watching_of-requires
+watching_of-requires c = has_own (codes "watch") c.args.name.now (rows_of (found_of c.args.found.now)) c.in-watch.is c.requires.named

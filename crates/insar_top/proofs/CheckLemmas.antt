@@ -5,7 +5,6 @@ use Rattle.raster_model.specs.declared.session.Session.{Session}
 use Rattle.insar_words.specs.Asked.{Options}
 use Rattle.session_script.specs.declared.session_use.SessionUse.TheVariants.{BeforeReport}
 use Rattle.session_script.specs.Sessions.{IsSessionIn, session_of}
-use Rattle.text_lines.specs.declared.fault.LineFault.TheVariants as line_faults
 use Rattle.report_text.specs.Contents.{IsReport}
 use Rattle.report_text.specs.Reports.{ReportOf}
 use Rattle.report_text.specs.Text.{report_text}

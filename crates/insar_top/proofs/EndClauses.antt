@@ -4,12 +4,12 @@ use Rattle.std.specs.Prelude.{◌⊎◌, IfSome}
 use Rattle.std.specs.Borrow.{Bor}
 use Rattle.clap.specs.Walk.{Text}
 use Rattle.insar_ports.proofs.CallLemmas.{at_told, if_told}
-use Rattle.insar_words.specs.Asked.{IsCheck, IsCheckWhole, IsCommand, IsRefused, IsWhole, Options}
+use Rattle.insar_words.specs.Asked.{IsCheck, IsCheckWhole, IsCommand, IsRefused, IsWatch, IsWhole, Options}
 use Rattle.insar_words.specs.Requests.{AskSomething, HasWordsCause, IsRequest, options_of}
 use Rattle.insar_words.specs.declared.fault.WordsFault.{WordsFault}
 use Rattle.insar_words.specs.declared.fault.WordsFault.TheVariants as words_faults
 use Rattle.insar_words.specs.declared.request.Request.{Request}
-use Rattle.insar_words.specs.declared.request.Request.TheVariants.{Unwrap, Check, Whole, CheckWhole}
+use Rattle.insar_words.specs.declared.request.Request.TheVariants.{Unwrap, Check, Whole, CheckWhole, Watch}
 use Rattle.report_check.specs.declared.verdict.CheckVerdict.{CheckVerdict}
 use Rattle.report_check.specs.declared.verdict.CheckVerdict.TheVariants as verdicts
 use Rattle.whole_check.specs.declared.verdict.WholeVerdict.{WholeVerdict}
@@ -27,13 +27,14 @@ use Rattle.insar_top.specs.Ends.IsProgramEnd.{not_read, done}
 use Rattle.refusal_lines.specs.Refusals.{status_of, words_refusal}
 use Rattle.insar_top.specs.Run.{HasKept, IsUnread, Run, SinkFailed, SourceFailed}
 use Rattle.insar_top.specs.Unwrap.{IsDone}
+use Rattle.insar_top.specs.Watch.{IsWatchDone}
 use Rattle.insar_top.specs.Whole.{IsLeastDone}
 use Rattle.insar_top.proofs.AnswerLemmas.{answer_input, small_status, unread_within}
 use Rattle.insar_top.proofs.BrokenLemmas.{broken_bytes_are_no_input}
 use Rattle.insar_top.proofs.BothLemmas.{verdict_told}
 use Rattle.insar_top.proofs.CheckLemmas.{bytes_have_one_verdict}
 use Rattle.insar_top.proofs.WholeLemmas.{bytes_have_one_whole_verdict}
-use Rattle.insar_words.proofs.RequestLemmas.{check_is_request, check_whole_is_request, one_request, refused_or_asking, unwrap_is_request, whole_is_request}
+use Rattle.insar_words.proofs.RequestLemmas.{check_is_request, check_whole_is_request, one_request, refused_or_asking, unwrap_is_request, watch_is_request, whole_is_request}
 
 -- ---- refusals by their statuses
 
@@ -169,6 +170,12 @@ module _ {words : List (Bor Text)} {r : Run} {d : Result ℕ Refusal} (ended : I
       let q = (whole_is_request words).0 options c in
       let answer = done_clause (Whole q.0) q.2 (omega (arith, zero)) in
       subst (λ (o : Options). IsLeastDone o r) q.1 (if_told r.told _ (λ bytes t. let k = at_told r.told _ bytes t answer.1 in (k.0, (k.1.0.1, k.1.1))))
+
+  pub watched_clause : (options : Options) → IsWatch words options → end_status d ≡ 0 → IsWatchDone options r
+  watched_clause options c zero =
+      let q = (watch_is_request words).0 options c in
+      let answer = done_clause (Watch q.0) q.2 (omega (arith, zero)) in
+      subst (λ (o : Options). IsWatchDone o r) q.1 (if_told r.told _ (λ bytes t. let k = at_told r.told _ bytes t answer.1 in (q.0.readers, k.0, (k.1.0.1, k.1.1))))
 
   pub status : end_status d ≤ 6
   status = by_end (λ d. end_status d ≤ 6) (λ fault c u k. (refused_status (words_refusal fault)).1) (λ q is n small. omega (arith, small)) (λ q is x h. (refused_status x).1)

@@ -14,4 +14,5 @@ pub mod BrokenLemmas
 pub mod BoardLemmas
 pub mod LastSurface
 pub mod TrialLemmas
+pub mod WatchLemmas
 pub mod EndClauses

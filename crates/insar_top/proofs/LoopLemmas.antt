@@ -9,7 +9,7 @@ use Rattle.grid_writer.specs.ManyGrids.{AreGrids, HasSize, grids_of}
 use Rattle.loop_closure.specs.declared.fault.LoopFault.{LoopFault}
 use Rattle.loop_closure.specs.declared.fault.LoopFault.TheVariants.{Wide, Memory}
 use Rattle.loop_closure.specs.declared.loops.Loops.{Loops}
-use Rattle.loop_closure.specs.Closure.{IsWide, IsWideAt}
+use Rattle.loop_closure.specs.Closure.{IsWideAt, IsWideLoop}
 use Rattle.loop_closure.specs.LoopText.{loops_text}
 use Rattle.loop_closure.specs.Parts.{HasLoopCause}
 use Rattle.insar_words.specs.declared.request.Request.TheVariants.{Closure}
@@ -72,8 +72,8 @@ pub loop_input : (bytes : List ℕ) (loops : Loops) → AreLoopsOf bytes loops �
 loop_input bytes loops l = record { a = l.a; b = l.b; c = l.c; three = l.three; narrow = l.closed.closures.narrow }
 
 -- a pixel whose closure is too wide in one reading of the bytes has such a closure in any other
-wide_value : (a b c d e f : ℤ) → a ≡ d → b ≡ e → c ≡ f → IsWide a b c → IsWide d e f
-wide_value a b c d e f p q r w = subst (λ (z : ℤ). IsWide d e z) r (subst (λ (z : ℤ). IsWide d z c) q (subst (λ (z : ℤ). IsWide z b c) p w))
+wide_value : (a b c d e f : ℤ) → a ≡ d → b ≡ e → c ≡ f → IsWideLoop a b c → IsWideLoop d e f
+wide_value a b c d e f p q r w = subst (λ (z : ℤ). IsWideLoop d e z) r (subst (λ (z : ℤ). IsWideLoop d z c) q (subst (λ (z : ℤ). IsWideLoop z b c) p w))
 
 on_raster : (g h : GridOf) (x y : ℕ) → IsSameGrid g h → x < g.width → y < g.height → (x < h.width) × (y < h.height)
 on_raster g h x y same l m = (subst (λ (n : ℕ). x < n) same.width l, subst (λ (n : ℕ). y < n) same.height m)

@@ -14,7 +14,7 @@ use Rattle.displacement.specs.declared.fault.SightFault.{SightFault}
 use Rattle.displacement.specs.declared.fault.SightFault.TheVariants as faults
 use Rattle.displacement.specs.declared.sight.Sight.{Sight}
 use Rattle.displacement.specs.Blocks.{block_count, block_sum, blocks_of, has_value}
-use Rattle.displacement.specs.Displacements.{HasCause, IsDisplacement, IsTooWide, IsWide, block_rise}
+use Rattle.displacement.specs.Displacements.{HasCause, IsDisplacement, IsTooWide, IsWideBlock, block_rise}
 use Rattle.displacement.proofs.DisplacingLemmas.{not_wide}
 use Rattle.insar_words.specs.declared.displacing.Displacing.{Displacing}
 use Rattle.insar_words.specs.declared.request.Request.TheVariants.{Displacement}
@@ -105,7 +105,7 @@ module _ (g h : GridOf) (same : IsSameGrid g h) where
       let on = and_first (is_pixel g.width g.height x y) (is_value (g.values x y)) has in
       same.values x y (is_lt x g.width (and_first (nat_lt x g.width) (nat_lt y g.height) on)) (is_lt y g.height (and_second (nat_lt x g.width) (nat_lt y g.height) on))
 
-  same_wide : (s : Sight) → IsTrue (has_value g s.x s.y) → (k l : ℕ) → IsWide s h k l → IsWide s g k l
+  same_wide : (s : Sight) → IsTrue (has_value g s.x s.y) → (k l : ℕ) → IsWideBlock s h k l → IsWideBlock s g k l
   same_wide s has k l wide =
       let counts = same_count s.block k l in
       let rises : block_rise s g k l ≡ block_rise s h k l = λ i. same_sum s.block k l i -ℤ pos (counts i) *ℤ same_there s.x s.y has i in

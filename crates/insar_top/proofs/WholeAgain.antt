@@ -26,7 +26,7 @@ use Rattle.whole_text.specs.Reading.{IsSameWhole}
 use Rattle.whole_text.specs.Text.{WholeOf}
 use Rattle.whole_check.specs.declared.verdict.WholeVerdict.{WholeVerdict}
 use Rattle.whole_check.specs.declared.verdict.WholeVerdict.TheVariants.{Accepted, Header, Value, Face, Cost, Told}
-use Rattle.whole_check.specs.Verdicts.{AllValuesStand, DiffersAt, HasHeadOf, IsFirstFalseValue, IsWholeVerdict, ValueStands}
+use Rattle.whole_check.specs.Verdicts.{AllValuesStand, HasWholeHead, IsFirstFalseValue, IsWholeVerdict, ValueStands, WholeDiffersAt}
 
 -- the faces of the whole raster fit at an edge, under a mask with the same open ends
 fits_too : (r : Raster) (m n : Field Bool) (faces : List ℤ) (e : Edge) → has_open_ends m e ≡ has_open_ends n e → FacesFit r m 0 (face_at r 0 faces) e → FacesFit r n 0 (face_at r 0 faces) e
@@ -129,7 +129,7 @@ module _ (r : Raster) (m n : Field Bool) (same : (x y : ℕ) → x < r.width →
 -- ---- sessions that tell the same
 
 module _ (s t : Session) (v w : WholeOf) (input : IsSameInput s t) (equal : IsSameWhole v w) where
-  head_too : HasHeadOf s v → HasHeadOf t w
+  head_too : HasWholeHead s v → HasWholeHead t w
   head_too h =
       let one = numbers_alike equal.terms in
       let other = numbers_alike input.terms in
@@ -140,10 +140,10 @@ module _ (s t : Session) (v w : WholeOf) (input : IsSameInput s t) (equal : IsSa
         steepness = sym one.2 ∙ h.steepness ∙ other.2;
       }
 
-  differs_too : (k : ℕ) → DiffersAt s v k → DiffersAt t w k
+  differs_too : (k : ℕ) → WholeDiffersAt s v k → WholeDiffersAt t w k
   differs_too k d = (let terms = numbers_alike input.terms in rw (equal.width, equal.height, equal.rule, equal.terms, input.phase.width, input.phase.height, input.rule, terms.0, terms.1, terms.2) at d)
 
-  said_too : HasHeadOf s v → (verdict : WholeVerdict) → Says (raster_of s.scene) (open_at s.first_mask) v verdict → Says (raster_of t.scene) (open_at t.first_mask) w verdict
+  said_too : HasWholeHead s v → (verdict : WholeVerdict) → Says (raster_of s.scene) (open_at s.first_mask) v verdict → Says (raster_of t.scene) (open_at t.first_mask) w verdict
   said_too h verdict says =
       let r = raster_of s.scene in
       let values : (x y : ℕ) → x < r.width → y < r.height → v.values x y ≡ w.values x y = λ x y l k. equal.values x y (omega (arith, l, h.size.0)) (omega (arith, k, h.size.1)) in

@@ -2,7 +2,7 @@
 use Rattle.std.specs.Prelude.{◌≡◌, ◌≤◌, ℕ, List, [], Option, Some, IfSome, ⊤}
 use Rattle.insar_ports.specs.Bytes.{GainsProperPrefix, with_end}
 use Rattle.insar_words.specs.declared.request.Request.{Request}
-use Rattle.insar_words.specs.declared.request.Request.TheVariants.{Unwrap, Grid, Check, Trial, Screen, Closure, Displacement, Whole, CheckWhole}
+use Rattle.insar_words.specs.declared.request.Request.TheVariants.{Unwrap, Grid, Check, Trial, Screen, Closure, Displacement, Whole, CheckWhole, Watch}
 use Rattle.insar_words.specs.Requests.{options_of}
 use Rattle.insar_top.specs.Check.{IsCheckable, IsVerdictAnswer}
 use Rattle.insar_top.specs.CheckWhole.{IsWholeCheckable, IsWholeVerdictAnswer}
@@ -13,6 +13,7 @@ use Rattle.insar_top.specs.Run.{IsUnread, Run}
 use Rattle.insar_top.specs.Screen.{IsScreenAnswer}
 use Rattle.insar_top.specs.Trial.{IsTrialText}
 use Rattle.insar_top.specs.Unwrap.{IsReportAnswer, IsSomeInput}
+use Rattle.insar_top.specs.Watch.{IsWatchAnswer}
 use Rattle.insar_top.specs.Whole.{IsWholeAnswer}
 
 -- the bytes that a request is about, where the source tells them; `trial` is about none
@@ -41,6 +42,7 @@ IsInputTo Closure bytes = IsLoopInput bytes
 IsInputTo (Displacement displacing) bytes = IsSightInput (sight_of displacing) bytes
 IsInputTo (Whole settings) bytes = IsSomeInput settings.side bytes
 IsInputTo (CheckWhole settings) bytes = IsWholeCheckable settings.side bytes
+IsInputTo (Watch watching) bytes = IsSomeInput watching.settings.side bytes
 
 -- with this status, the text answers a request that is about these bytes
 abbrev pub IsAnswerTo : Request → List ℕ → ℕ → List ℕ → Type 0
@@ -53,6 +55,7 @@ IsAnswerTo Closure bytes status text = (status ≡ 0) × IsClosureAnswer bytes t
 IsAnswerTo (Displacement displacing) bytes status text = (status ≡ 0) × IsDisplacementAnswer (sight_of displacing) bytes text
 IsAnswerTo (Whole settings) bytes status text = (status ≡ 0) × IsWholeAnswer (options_of settings) bytes text
 IsAnswerTo (CheckWhole settings) bytes status text = IsWholeVerdictAnswer (options_of settings) bytes status text
+IsAnswerTo (Watch watching) bytes status text = (status ≡ 0) × IsWatchAnswer (options_of watching.settings) watching.readers bytes text
 
 -- a request that was done may end with this status: 1 is of `check` and `check-whole` alone
 abbrev pub IsDoneStatus : Request → ℕ → Type 0

@@ -2,7 +2,7 @@
 use Rattle.std.specs.Prelude.{◌≡◌, ℕ, List, [], ◌∷◌}
 use Rattle.grid_writer.specs.Grids.{GridOf, grid_of}
 use Rattle.loop_closure.specs.declared.loops.Loops.{Loops}
-use Rattle.loop_closure.specs.Closure.{AreClosures, AreCycles, AreMisclosed, IsFirstWide, IsWideAt}
+use Rattle.loop_closure.specs.Closure.{AreClosures, AreCycles, AreMisclosed, IsFirstWideLoop, IsWideAt}
 use Rattle.loop_closure.specs.LoopText.{loops_text}
 use Rattle.insar_top.specs.Grids.{AreGridsIn, BreaksMany}
 use Rattle.refusal_lines.specs.declared.refusal.Refusal.{Refusal}
@@ -22,7 +22,7 @@ pub record IsLoopInput (bytes : List ℕ) : Type 0 where
 
 -- the break of the bytes for which no loop is closed: the first break of three grids, or the first closure of them that is too wide
 abbrev pub BreaksLoop : List ℕ → Refusal → Type 0
-BreaksLoop bytes (refusals.Wide x y) = (a : GridOf) × (b : GridOf) × (c : GridOf) × (AreThree bytes a b c × IsFirstWide a b c x y)
+BreaksLoop bytes (refusals.Wide x y) = (a : GridOf) × (b : GridOf) × (c : GridOf) × (AreThree bytes a b c × IsFirstWideLoop a b c x y)
 BreaksLoop bytes refusal = BreaksMany 3 bytes refusal
 
 -- what three grids leave around the loop: the closures, the cycles in them, and the patches of pixels that are misclosed

@@ -1,11 +1,17 @@
 -- A desk whose analysts are done.
 use Rattle.std.specs.Prelude.{◌≡◌, List, All, length}
-use Rattle.board_desk.specs.Passes.{DeskView, IsPassOf, PassView, first_passes}
+use Rattle.board_desk.specs.Passes.{DeskView, HaveAnalysts, IsPassOf, PassView, first_passes}
 use Rattle.tile_workers.specs.Scripts.{AreEnded, AreLater}
 
 -- the first passes of a desk
 abbrev pub passes_at_start : DeskView → List PassView
 passes_at_start d = first_passes d (length d.session.scripts.items)
+
+-- they are those passes
+pub record AreFirst (d : DeskView) (passes : List PassView) : Type 0 where
+  pub first : passes ≡ passes_at_start d
+  pub own : All (IsPassOf d) passes
+  pub analysts : HaveAnalysts passes
 
 -- they are the passes of the desk's analysts, later, each at the end of its script
 pub record HaveRun (d : DeskView) (passes : List PassView) : Type 0 where

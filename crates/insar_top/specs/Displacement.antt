@@ -5,7 +5,7 @@ use Rattle.displacement.specs.declared.fault.SightFault.{SightFault}
 use Rattle.displacement.specs.declared.fault.SightFault.TheVariants as faults
 use Rattle.displacement.specs.declared.sight.Sight.{Sight}
 use Rattle.displacement.specs.Blocks.{blocks_of, has_value}
-use Rattle.displacement.specs.Displacements.{HasCause, IsDisplacement, IsWide}
+use Rattle.displacement.specs.Displacements.{HasCause, IsDisplacement, IsWideBlock}
 use Rattle.insar_words.specs.declared.displacing.Displacing.{Displacing}
 use Rattle.insar_top.specs.Grids.{AreGridsIn, BreaksMany}
 use Rattle.refusal_lines.specs.declared.refusal.Refusal.{Refusal}
@@ -24,7 +24,7 @@ pub record IsSightInput (s : Sight) (bytes : List ℕ) : Type 0 where
   pub g : GridOf
   pub one : IsOneGrid bytes g
   pub reference : IsTrue (has_value g s.x s.y)
-  pub narrow : (i j : ℕ) → i < blocks_of s.block g.width → j < blocks_of s.block g.height → IsWide s g i j → ⊥
+  pub narrow : (i j : ℕ) → i < blocks_of s.block g.width → j < blocks_of s.block g.height → IsWideBlock s g i j → ⊥
 
 -- the bytes are the text of a grid that has no displacements for this cause
 abbrev pub HasSightFault : Sight → List ℕ → SightFault → Type 0

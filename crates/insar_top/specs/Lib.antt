@@ -8,6 +8,7 @@ pub mod Check
 pub mod Whole
 pub mod CheckWhole
 pub mod Trial
+pub mod Watch
 pub mod Screen
 pub mod Grids
 pub mod Closure

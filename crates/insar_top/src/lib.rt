@@ -1,5 +1,5 @@
 //! The whole program as one call: words and bytes in; a report, a grid, a verdict, a trial's lines, a screened session,
-//! closures, displacements or a surface that costs least of all out, or a refusal.
+//! closures, displacements, a surface that costs least of all or what readers saw out, or a refusal.
 #![tactic(auto)]
 
 mod board;
@@ -17,6 +17,8 @@ mod session;
 mod top;
 mod trial;
 mod unwrap;
+mod watch;
+mod watching;
 mod whole;
 
 pub use top::{insar, starved};

@@ -1,4 +1,4 @@
-ghost use Rattle.auto_masks.specs.Screened.{AreInRange, IsScreened};
+ghost use Rattle.auto_masks.specs.Screened.{AreScreenTerms, IsScreened};
 ghost use Rattle.insar_top.specs.Ends.{IsRequestEnd};
 ghost use Rattle.insar_top.specs.Run.{run_of};
 ghost use Rattle.insar_top.specs.Screen.{HasScreenedMask, screen_terms};
@@ -34,7 +34,7 @@ pub fn run_screen<S: Source, K: Sink>(
 /// The terms of the screen that the words ask for.
 fn terms_of(screening: Screening) -> ScreenTerms
     ensures terms { result ≡ screen_terms screening }
-    ensures ranged { AreInRange result }
+    ensures ranged { AreScreenTerms result }
 {
     ScreenTerms {
         weight: screening.weight,
@@ -50,7 +50,7 @@ fn screen_session(
     terms: ScreenTerms,
     session: Session,
 ) -> Result<Session, AllocError>
-    requires { AreInRange terms }
+    requires { AreScreenTerms terms }
     ensures { IfOk result (λ screened. HasScreenedMask terms session screened) }
 {
     let Session {
@@ -73,7 +73,7 @@ fn screen_mask(
     weights: &Plane,
     mask: &Mask,
 ) -> Result<Mask, AllocError>
-    requires ranged { AreInRange terms }
+    requires ranged { AreScreenTerms terms }
     requires across { mask.now.width ≡ weights.now.width }
     requires along { mask.now.height ≡ weights.now.height }
     ensures { IfOk result (λ made. IsScreened terms weights.now (open_at mask.now) made) }

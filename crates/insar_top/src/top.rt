@@ -9,10 +9,11 @@ ghost use Rattle.refusal_lines.specs.Lines.{refusal_line};
 ghost use Rattle.refusal_lines.specs.Refusals.{status_of};
 ghost use Rattle.insar_top.specs.Run.{IsUnread, run_of};
 ghost use Rattle.insar_top.specs.Unwrap.{IsDone};
+ghost use Rattle.insar_top.specs.Watch.{IsWatchDone};
 ghost use Rattle.insar_top.specs.Whole.{IsLeastDone};
 ghost use Rattle.refusal_lines.specs.declared.refusal.Refusal.{Refusal as AnyRefusal};
 ghost use Rattle.refusal_lines.specs.declared.refusal.Refusal.TheVariants as refusals;
-ghost use Rattle.insar_words.specs.Asked.{IsCheck, IsCheckWhole, IsCommand, IsRefused, IsWhole, Options};
+ghost use Rattle.insar_words.specs.Asked.{IsCheck, IsCheckWhole, IsCommand, IsRefused, IsWatch, IsWhole, Options};
 ghost use Rattle.insar_words.specs.Requests.{AskSomething, IsRequest};
 ghost use Rattle.insar_words.specs.declared.request.Request.{Request as Asked};
 ghost use Rattle.report_check.specs.declared.verdict.CheckVerdict.{CheckVerdict as AnyVerdict};
@@ -26,6 +27,7 @@ use crate::grid::run_grid;
 use crate::screen::run_screen;
 use crate::trial::run_trial;
 use crate::unwrap::run_unwrap;
+use crate::watch::run_watch;
 use crate::whole::run_whole;
 use insar_ports::{Sink, Source};
 use insar_words::{Request, read_words};
@@ -71,6 +73,12 @@ use tile_workers::Gate;
 /// it. `check-whole` reads a session and then such a text, solves nothing, and writes one line: `accepted`, or the first reason
 /// why the surface is not certified for the session. Both have the words of `unwrap` and `check` but for `--tile`.
 ///
+/// `watch` reads a session and runs its scripts as `unwrap` does, beside readers that look at the newest published surface and
+/// wait for nobody. It writes a line `published R` for each published revision, in their order, and then for each reader a line
+/// `reader I`, from 1, followed by those of these revisions that the reader saw or was told of when the scripts had ended.
+/// `--readers N` is how many readers there are, from 1 to 8, and 1 by default; `--reads K` is how often each looks, from 1 to
+/// 4096, and 16 by default.
+///
 /// `--tile N` is the side of the square tiles in pixels, from 2 to 128, and 64 if the words do not give it; `screen` has it
 /// for the limit of a session's edits alone. `--rule R` names how the weights of two pixels give that of their edge: `least`,
 /// which is the default, `mean` or `product`. `--workers N` is how many workers solve the tiles of an analyst at once, from 1
@@ -99,6 +107,10 @@ pub fn insar<R: Threads + Wait + Sync, S: Source, K: Sink, D: Sink, G: Gate>(
     // 0 of `whole`: the bytes were the text of one session, nothing is left, and the sink gained exactly the text of a surface
     // that no congruent surface for the first mask costs less than, with its certificate and its cost.
     ensures least { (options : Options) → IsWhole words.now options → result ≡ 0 → IsLeastDone options (run_of S.left S.faults source.old source.new K.held K.faults sink.old sink.new) }
+    // 0 of `watch`: the bytes were the text of one session, nothing is left, and the sink gained exactly a line for each
+    // publication of a complete legal history of it, and then a line for each reader: of the published revisions some that
+    // rise, and the last.
+    ensures watched { (options : Options) → IsWatch words.now options → result ≡ 0 → IsWatchDone options (run_of S.left S.faults source.old source.new K.held K.faults sink.old sink.new) }
     // 0, and 1 of `check` and `check-whole`: the bytes were what the request reads, nothing is left, and the sink gained exactly the text that
     // answers it.
     ensures done { (asked : Asked) → IsRequest words.now asked → result ≤ 1 → HasAnswered asked (run_of S.left S.faults source.old source.new K.held K.faults sink.old sink.new) result }
@@ -179,6 +191,7 @@ fn do_request<R: Threads + Wait + Sync, S: Source, K: Sink, G: Gate>(
         Request::Displacement(displacing) => run_displacement(alloc, displacing, source, sink),
         Request::Whole(settings) => run_whole(rt, alloc, settings, source, sink),
         Request::CheckWhole(settings) => run_check_whole(alloc, settings, source, sink),
+        Request::Watch(watching) => run_watch(rt, alloc, watching, source, sink, gate),
     }
 }
 

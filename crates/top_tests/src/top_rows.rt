@@ -43,6 +43,11 @@ unwrap|P2 4 1 65535 0 20000 40000 60000;analyst;show;settle;settle;show;end;|0|!
 unwrap|P2 4 1 65535 0 20000 40000 60000;analyst;settle;unmask 0 0 0 0;settle;show;end;|0|!4 1;tile 64;rule least;kept 0 0;published 1 0;costs 0 0;ncols 4;nrows 1;%0 20000 40000 60000;faces 0;flows;revised 1 unmask 0 0 0 0;published 1 1;costs 0 0;ncols 4;nrows 1;%0 20000 40000 60000;faces 0;flows;shown 1 1;end;
 unwrap|P2 2 2 65535 0 16384 49152 32768;analyst;mask 0 0 0 0;settle;show;end;|0|!2 2;tile 64;rule least;revised 1 mask 0 0 0 0;kept 0 1;published 1 1;costs 0 0;ncols 2;nrows 2;%~ 16384;49152 32768;faces 0 0;flows;shown 1 1;end;
 unwrap|P2 4 1 65535 0 20000 40000 60000;analyst;show;analyst;end;|0|!4 1;tile 64;rule least;shown 1 none;end;
+-- Readers beside a script: one publication, two by an edit that changes no pixel, none, and eight readers.
+watch --reads 1|P2 4 1 65535 0 20000 40000 60000;analyst;show;settle;settle;show;end;|0|published 0;reader 1 0;
+watch --reads 1|P2 4 1 65535 0 20000 40000 60000;analyst;settle;unmask 0 0 0 0;settle;show;end;|0|published 0;published 1;reader 1 0 1;/published 0;published 1;reader 1 1;
+watch|P2 4 1 65535 0 20000 40000 60000;analyst;show;end;|0|reader 1;
+watch --readers 8 --reads 4096 --workers 1|P2 4 1 65535 0 20000 40000 60000;analyst;show;settle;settle;show;end;|0|published 0;reader 1 0;reader 2 0;reader 3 0;reader 4 0;reader 5 0;reader 6 0;reader 7 0;reader 8 0;
 -- The first break of a session, by its number and place.
 unwrap||3|input fault 1 magic phase;
 unwrap|P3;|3|input fault 1 magic phase;
@@ -267,6 +272,9 @@ displacement --wavelength 1 --x 4096||2|words refused;
 displacement --wavelength 1 --y 4096||2|words refused;
 displacement --wavelength 1 --block 0||2|words refused;
 displacement --wavelength 1 --block 65||2|words refused;
+watch --readers 9||2|words refused;
+watch --reads 0||2|words refused;
+watch --reads 4097||2|words refused;
 whole --tile 64||2|words refused;
 whole --workers 9||2|words refused;
 whole --steep 17||2|words refused;
@@ -349,6 +357,6 @@ fn rows_are_answered(rt: HostRuntime) -> Result<(), Fail> {
     for row in ROWS.lines() {
         count = count.saturating_add(judge(&rt, row)?);
     }
-    assert!(rt; count == 225);
+    assert!(rt; count == 232);
     Ok(())
 }

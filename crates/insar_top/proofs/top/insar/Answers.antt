@@ -13,6 +13,7 @@ returns g c =
       status = end.status ended;
       headline = end.headline_clause ended;
       least = end.least_clause ended;
+      watched = end.watched_clause ended;
       done = end.done_clause ended;
       refused = λ asked asks. end.refused_clause ended asked asks (λ (d : Result ℕ Refusal). (HasRisen (g.D.Sink.faults c.args.diag.now) (g.D.Sink.faults diag.new.diag) → ⊥) → g.D.Sink.held diag.new.diag ≡ with_end (g.D.Sink.held c.args.diag.now) (line_of_end d)) diag.ensures.told;
       cut = end.cut_clause ended;

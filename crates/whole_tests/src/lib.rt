@@ -1,0 +1,7 @@
+//! Guesses at the whole raster's least surface, at costs that another solver found; and the verdicts on texts of such surfaces.
+#![tactic(auto)]
+
+#[cfg(test)]
+mod text_rows;
+#[cfg(test)]
+mod whole_rows;

@@ -1,0 +1,118 @@
+ghost use Rattle.raster_model.specs.Limits.{IsSteepness};
+ghost use Rattle.raster_model.specs.Tiles.{tiles_of};
+ghost use Rattle.std.specs.Prelude.{◌≡◌, ◌<◌, IfOk};
+
+use certificates::{TileResult, TileVerdict, check_tile};
+use raster_model::{Mask, RuleKind, Scene, Session, Terms};
+use std::alloc::{AllocError, Global};
+use std::process::Abort;
+use std::test::Fail;
+use std::thread::Threads;
+use trial_maker::make_session;
+use whole_guess::guess_whole;
+use worked_scenes::tile_result;
+
+/// Seeds, widths, heights and the least costs of the trials' surfaces over the whole, which the network simplex of LEMON
+/// 1.3.1 found.
+const TRIALS: [(u64, u32, u32, u128); 2] = [(7, 96, 70, 28001), (3, 100, 77, 35731)];
+
+/// The guess at a raster of one tile, as that tile's result, with the guess's faces or with faces of 0.
+fn guessed<R: Abort + Threads + Sync>(
+    rt: &R,
+    alloc: Global,
+    scene: &Scene,
+    mask: &Mask,
+    workers: u32,
+    faced: bool,
+) -> Result<TileResult, AllocError>
+    ensures { IfOk result (λ made. made.tile ≡ 0) }
+{
+    let guess = guess_whole(rt, alloc, scene, mask, workers)?.expect(rt, "a guess");
+    let mut cycles = Vec::new(alloc);
+    for number in &guess.cycles {
+        cycles.push(i32::try_from(*number).unwrap_or(99))?;
+    }
+    let bare = vec![in alloc; 0; guess.faces.len()]?;
+    let faces = if faced { guess.faces } else { bare };
+    tile_result(alloc, 0, 0, &cycles, &faces)
+}
+
+/// What the check says of the guess at a raster of one tile.
+fn verdict<R: Abort + Threads + Sync>(
+    rt: &R,
+    alloc: Global,
+    session: &Session,
+    workers: u32,
+    faced: bool,
+) -> Result<TileVerdict, AllocError>
+    requires { 0 < tiles_of session.now.scene.tiling }
+{
+    let (scene, mask) = (&session.scene, &session.first_mask);
+    let solved = guessed(rt, alloc, scene, mask, workers, faced)?;
+    Ok(check_tile(scene, mask, &solved))
+}
+
+/// A trial of one tile.
+fn trial(
+    rt: &impl Abort,
+    alloc: Global,
+    seed: u64,
+    width: u32,
+    height: u32,
+) -> Result<Session, Fail>
+    ensures { IfOk result (λ made. 0 < tiles_of made.scene.tiling) }
+{
+    let session = make_session(alloc, seed, width, height, 128, RuleKind::Least)?;
+    assert!(rt; 0 < session.scene.tiling.tile_count());
+    Ok(session)
+}
+
+/// The guesses are certified, and cost what another solver finds, with one worker and with three.
+#[test]
+fn guesses_cost_what_another_solver_finds(rt: HostRuntime) -> Result<(), Fail> {
+    let alloc = rt.alloc();
+    for (seed, width, height, cost) in TRIALS {
+        let session = trial(&rt, alloc, seed, width, height)?;
+        for workers in [1, 3] {
+            let counted = TileVerdict::CostDiffers { cost, bound: 0 };
+            assert!(rt; verdict(&rt, alloc, &session, workers, true)? == TileVerdict::Good);
+            assert!(rt; verdict(&rt, alloc, &session, workers, false)? == counted);
+        }
+    }
+    Ok(())
+}
+
+/// A ramp with a steepness.
+fn leaned(steep: u32) -> Terms
+    requires { IsSteepness steep }
+{
+    Terms {
+        ramp_x: 700,
+        ramp_y: -300,
+        steep,
+    }
+}
+
+/// Whether the guess at a trial on other terms is certified.
+fn is_certified<R: Abort + Threads + Sync>(
+    rt: &R,
+    alloc: Global,
+    terms: Terms,
+    width: u32,
+    height: u32,
+) -> Result<bool, Fail> {
+    let session = trial(rt, alloc, 5, width, height)?.with_terms(terms);
+    assert!(rt; 0 < session.scene.tiling.tile_count());
+    Ok(verdict(rt, alloc, &session, 2, true)? == TileVerdict::Good)
+}
+
+/// So they are at other steepnesses, around ramps, and on rasters that are one pixel wide or high.
+#[test]
+fn guesses_are_certified_on_other_terms(rt: HostRuntime) -> Result<(), Fail> {
+    let alloc = rt.alloc();
+    assert!(rt; is_certified(&rt, alloc, leaned(2), 70, 40)?);
+    assert!(rt; is_certified(&rt, alloc, leaned(16), 40, 70)?);
+    assert!(rt; is_certified(&rt, alloc, leaned(3), 1, 50)?);
+    assert!(rt; is_certified(&rt, alloc, leaned(4), 50, 1)?);
+    Ok(())
+}

@@ -13,12 +13,14 @@ trial-SEED-SIZE
 noise-SEED-SIZE, holes-SEED-SIZE, lake-SEED-SIZE
     Random phases, so that a third of the cells has a residue, and random weights from 1 to 65535. Nothing is masked, or each pixel
     at random as often as not, or what lies in one large bay or some.
-hills-SEED-SIZE-LEVEL, mogi-SEED-SIZE-LEVEL, fractal-SEED-SIZE-LEVEL, fault-SEED-SIZE-LEVEL, fold-SEED-SIZE-LEVEL
+hills-SEED-SIZE-LEVEL, mogi-SEED-SIZE-LEVEL, fractal-SEED-SIZE-LEVEL, fault-SEED-SIZE-LEVEL, rupture-SEED-SIZE-LEVEL,
+fold-SEED-SIZE-LEVEL
     Smooth hills, a point source that swells (Mogi 1958) on a ramp, a fractal field, hills that a fault breaks by up to 3.4
     cycles from one pixel to the next, or hills with ridges whose near side lies over (4 cycles within 5 pixels), with noise
-    by coherence (Cramer-Rao bound, one look), which is lost along the fault and low on the near sides. LEVEL is low, medium or high: 0.5, 5 or 20 % of the cells have a residue. The weights are
+    by coherence (Cramer-Rao bound, one look), which is lost along the fault, on across the whole raster, and low on the near sides.
+    A rupture is a fault along which coherence is lost only where the ground slipped, as in an earthquake. LEVEL is low, medium or high: 0.5, 5 or 20 % of the cells have a residue. The weights are
     the square of an estimate of the coherence, 1 to 255; the least coherent 6 % of the pixels are masked. A number after the LEVEL
-    of a fault or a fold, as in fault-4-512-medium-40, is how many per cent of coherence are left at most within three pixels of the
+    of a fault, a rupture or a fold, as in fault-4-512-medium-40, is how many per cent of coherence are left at most within three pixels of the
     fault, or on near sides: 100 if none is lost there.
 ring-SIZE, ringed-SEED-SIZE
     An open ring along the raster's edge, two pixels wide, around a masked hole. Its phases rise by 0.45 cycles a pixel along it, and
@@ -41,7 +43,8 @@ CYCLE = 65536  # units in a cycle
 MAX_SIDE, MAX_PIXELS = 4096, 4194304
 SLOPES = {"slope": (300, 700), "gentle": (30, 20), "flat": (0, 0)}  # units a pixel to the right, and downwards
 NOISES = ("noise", "holes", "lake")
-FIELDS = ("hills", "mogi", "fractal", "fault", "fold")
+FIELDS = ("hills", "mogi", "fractal", "fault", "fold", "rupture")
+TORN = ("fault", "fold", "rupture")
 LEVELS = {"low": 0.005, "medium": 0.05, "high": 0.20}  # of the cells
 RISE, BUMP, RING_ROWS = 29491, 6554, 14  # 0.45 and 0.1 cycles; rows of the ring in a raster with a trial below
 MULTIPLIER, INCREMENT, WORD = 6364136223846793005, 1442695040888963407, 2**64
@@ -146,10 +149,11 @@ def torn(kind: str, width: int, height: int) -> tuple[np.ndarray, np.ndarray]:
     """What a fault or ridges add to hills, in cycles, and the share of the coherence that is left there."""
     y, x = np.mgrid[0:height, 0:width].astype(np.float64)
     size = max(width, height)
-    if kind == "fault":
+    if kind in ("fault", "rupture"):
         away = y - (0.5 * height + 0.12 * (x - 0.5 * width))
         slip = 3.4 * np.clip(np.minimum(x / width - 0.15, 0.85 - x / width) / 0.2, 0, 1)
-        return slip / 2 * np.where(away > 0, 1, -1) * np.exp(-np.abs(away) / (0.15 * size)), 1 - 0.9 * np.exp(-((away / 2) ** 2))
+        lost = 0.9 * np.exp(-((away / 2) ** 2)) * ((slip > 0) | (kind == "fault"))
+        return slip / 2 * np.where(away > 0, 1, -1) * np.exp(-np.abs(away) / (0.15 * size)), 1 - lost
     behind = np.stack([x - width * place - 0.03 * size * np.sin(5 * y / height) for place in (0.25, 0.5, 0.75)])
     rise = np.clip(behind / 5, 0, 1) * np.exp(-np.maximum(behind, 0) / (0.08 * size))
     return 4 * rise.sum(axis=0), np.where(((behind > 0) & (behind < 6)).any(axis=0), 0.4, 1.0)
@@ -159,7 +163,7 @@ def field(kind: str, random: np.random.Generator, width: int, height: int) -> np
     """The surface without noise, in cycles."""
     y, x = np.mgrid[0:height, 0:width].astype(np.float64)
     size = max(width, height)
-    if kind in ("fault", "fold"):
+    if kind in TORN:
         return field("hills", random, width, height) + torn(kind, width, height)[0]
     if kind == "hills":
         heights = np.zeros((height, width))
@@ -189,7 +193,7 @@ def noisy(kind: str, seed: int, width: int, height: int, level: str, left: int |
     cycles = field(kind, random, width, height)
     rough = random_field(random, width, height, 12) * 0.5 + random_field(random, width, height, 90)
     coherence = np.clip(1 / (1 + np.exp(-(0.9 + 1.1 * rough))), 0.05, 0.99)  # mean about 0.67
-    if kind in ("fault", "fold"):
+    if kind in TORN:
         coherence = np.clip(torn_coherence(coherence, torn(kind, width, height)[1], left), 0.05, 0.99)
     deviation = np.minimum(np.sqrt((1 - coherence**2) / (2 * coherence**2)), 8) / (2 * np.pi)  # Cramer-Rao, one look
     noise = random.standard_normal((height, width)) * deviation
@@ -235,7 +239,7 @@ def raster(name: str) -> tuple[Raster, bool]:
         if min(width, height) < 2:
             raise Mistake(f"{name}: a field has at least two pixels a side")
         left = int(words["left"]) if words["left"] else None
-        if left is None or kind in ("fault", "fold"):
+        if left is None or kind in TORN:
             return noisy(kind, int(seed), width, height, level, left), False
     raise Mistake(f"{name}: no name of a raster, as slope-1024, trial-7-512 and hills-1-512-low are")
 

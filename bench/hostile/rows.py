@@ -19,6 +19,7 @@ STEEP = b"P5\n4 1\n65535\n\x00\x00\x9c\x40\x38\x80\xd4\xc0"
 STEEP_GRID = b"ncols 4\nnrows 1\n" + GRID_HEAD + b"0 40000 80000 120000\n"
 OPEN = b"P2\n2 2\n65535\n0 16384\n49152 32768\nP2 2 2 9 5 5 3 9\n"
 OPEN_GRID = b"ncols 2\nnrows 2\n" + GRID_HEAD + b"0 16384\n-16384 32768\n"
+LINE_WATCHED = b"published 0\nreader 1 0\nreader 2 0\n"
 LINE_WHOLE = b"insar-whole 1\nsize 4 1\nrule least\nramp 0 0\nsteep 1\ncost 0\n" + LINE_GRID + b"end\n"
 # Without the ramp there is a residue. The edges at the left and below weigh 3, and the others 5.
 OPEN_WHOLE = b"insar-whole 1\nsize 2 2\nrule least\nramp 0 0\nsteep 1\ncost 3\nncols 2\nnrows 2\n" + GRID_HEAD
@@ -117,9 +118,11 @@ USES = (
     Use("whole", "whole", "line", 0, LINE_WHOLE),
     Use("check-whole", "check-whole", "whole-accepted", 0, b"accepted\n"),
     Use("check-whole that refuses", "check-whole", "whole-refused", 1, b"refused told\n"),
+    Use("watch", "watch --readers 2", "line", 0, LINE_WATCHED),
     Use("trial", "trial 7 64 64 --tile 32", "empty", 0, TRIAL),
 )
 FURTHER_USES = _, CLOSURE, DISPLACEMENT = USES[4:7]
+WHOLE_USES = tuple(use for use in USES if "whole" in use.words and use.status == 0)
 READERS = tuple(use for use in USES if use.reads())
 TRIAL_USE = USES[-1]
 

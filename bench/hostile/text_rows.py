@@ -394,11 +394,14 @@ ENDLESS_GRIDS = (
 )
 
 
+# Whole texts with a line without an end, which the limit of bytes cuts.
+ENDLESS_LINES = (
+    "cat open-end; head -n 5 open-whole; printf 'cost '; tr '\\0' 9 </dev/zero",
+    "cat open-end; head -n 12 open-whole; yes '0 ' | tr -d '\\n'",
+    "cat open-end; head -n 14 open-whole; printf 'faces '; yes '0 ' | tr -d '\\n'",
+)
 # Whole texts without an end, and their first broken lines; memory may run out before.
 ENDLESS_WHOLES = (
-    ("cat open-end; head -n 5 open-whole; printf 'cost '; tr '\\0' 9 </dev/zero", 6),
-    ("cat open-end; head -n 12 open-whole; yes '0 ' | tr -d '\\n'", 13),
-    ("cat open-end; head -n 14 open-whole; printf 'faces '; yes '0 ' | tr -d '\\n'", 15),
     ("cat open-end; head -n 14 open-whole; yes 'faces 3'", 16),
     ("cat open-end open-whole; yes", 17),
 )
@@ -429,6 +432,8 @@ def endless_rows(slow):
     if slow:
         text = f"cat line; echo end; {FOREVER}"
         yield refused("check: a report's line without an end", endless(text, "check"), 3, b"report fault long\n")
+        for text in ENDLESS_LINES:
+            yield refused("check-whole: a line without an end", endless(text, "check-whole"), 3, b"report fault long\n")
 
 
 def rows(slow):

@@ -20,7 +20,7 @@ TOP = Path(__file__).resolve().parent.parent.parent
 HERE = TOP / "recipes"
 RECIPES = Path(os.environ.get("RECIPES", HERE))
 VERBS = {"to_session.py": "session", "to_geotiff.py": "surface", "frames.py": "frames", "page.py": "page"}
-VERBS.update({"report_reader.py": "report", "scenes": "scenes", "closure.py": "closure"})
+VERBS.update({"report_reader.py": "report", "scenes": "scenes", "closure.py": "closure", "live.py": "live"})
 PLACE = (5e5, 30, 0, 4e6, 0, -30)
 Told = Tuple[int, str]
 

@@ -100,16 +100,19 @@ def test_a_report_that_check_refuses_is_not_returned(tmp_path: Path, monkeypatch
     from wundjeska.program import program
 
     liar = tmp_path / "liar"
-    spoil = "sed 's/^costs ./costs 7/'"
-    liar.write_text(f'#!/bin/sh\nif [ $1 = unwrap ]; then {program()} "$@" | {spoil}; else exec {program()} "$@"; fi\n')
+    spoil = "sed 's/^cost\\(s*\\) ./cost\\1 7/'"
+    script = f'case $1 in unwrap | whole) {program()} "$@" | {spoil} ;; *) exec {program()} "$@" ;; esac'
+    liar.write_text(f"#!/bin/sh\n{script}\n")
     liar.chmod(0o755)
     monkeypatch.setenv("UNWRAP", str(liar))
     report = tmp_path / "report"
     report.write_text("what stood there")
     with pytest.raises(Trouble, match="refused surface 0 tilecost"):
+        wundjeska.unwrap(WRAPPED, report=report, tile=128)
+    with pytest.raises(Trouble, match="refused told"):
         wundjeska.unwrap(WRAPPED, report=report)
     assert report.read_text() == "what stood there"
-    found = wundjeska.unwrap(WRAPPED, report=report, check=False)
+    found = wundjeska.unwrap(WRAPPED, report=report, check=False, tile=128)
     assert found.verdict == "not checked"
     assert read_report(str(report)).surfaces[-1].tile_cost == found.tile_cost
 

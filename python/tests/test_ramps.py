@@ -186,10 +186,10 @@ class OfTheProgram(WithAFlank):
 
     def test_the_report_in_both_versions(self) -> None:
         igram, report = np.exp(2j * np.pi * self.cycles), self.folder / "report"
-        wundjeska.unwrap(igram, ramp=ALMOST, report=report)
+        wundjeska.unwrap(igram, ramp=ALMOST, report=report, tile=128)
         found = read_report_from(io.BytesIO(report.read_bytes()))
         self.assertEqual((found.version, found.ramp, found.steepness), (2, ALMOST, 1))
-        wundjeska.unwrap(igram, ramp=(0, 0), report=report)
+        wundjeska.unwrap(igram, ramp=(0, 0), report=report, tile=128)
         self.assertEqual(read_report_from(io.BytesIO(report.read_bytes())).version, 1)
 
     def test_surface_check_and_page_find_it(self) -> None:

@@ -121,6 +121,23 @@ class Arrays(Whole):
         self.assertEqual(kept.read_bytes(), stood)
         self.assertEqual(wundjeska.unwrap(TURN, whole=True, check=False).verdict, "not checked")
 
+    def test_frames_are_solved_at_once(self) -> None:
+        phase, coherence = self.rasters()
+        cut = ("--folder", self.folder / "frames", "--side", "20", "--overlap", "8", "--agree", "0")
+        words = ("frames.py", phase, "--coherence", coherence, *cut)
+        status, told = command(*words, "--whole", self.folder / "joined.tif")
+        self.assertEqual(status, 0, told)
+        frames = sorted(path.stem for path in (self.folder / "frames").glob("*.report"))
+        self.assertEqual(re.findall(r"^(frame-.*): columns .*: accepted, costs [0-9]+$", told, re.M), frames)
+        for name in frames:
+            self.assertTrue((self.folder / f"frames/{name}.report").read_bytes().startswith(b"insar-whole 1\n"))
+        notes = gdal.Open(str(self.folder / "joined.tif")).GetMetadata()
+        self.assertEqual((notes["WUNDJESKA_SOLVED"], "WUNDJESKA_TILE_SIDE" in notes), ("each frame at once", False))
+        told = command(*words, "--whole", self.folder / "joined.tif")[1]
+        self.assertEqual(told.count("accepted in an earlier run"), len(frames), told)
+        told = command(*words, "--tile", "8", self.folder / "joined.tif")[1]
+        self.assertEqual((told.count("in an earlier run"), told.count("tiles cost")), (0, len(frames)), told)
+
     def test_words_that_do_not_fit(self) -> None:
         refused: Tuple[Dict[str, Any], ...] = ({"whole": True, "tile": 64}, {"whole": True, "steep": 17}, {"steep": 0})
         for words in refused:

@@ -18,6 +18,7 @@ VERBS: Dict[str, str] = {
     "scenes": "unwraps a folder of scenes by Snakemake",
     "closure": "closes the loop of three interferograms, and tells where it is misclosed",
     "page": "makes a page of a session and its report",
+    "live": "keeps a page of a session that is being worked on",
     "report": "tells what is in a report",
 }
 INFO = Path(__file__).resolve().parent / "build.json"  # of what a package was built from

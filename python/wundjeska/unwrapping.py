@@ -32,7 +32,7 @@ from .weights import highest_of, weights_of
 ACCEPTED, NOT_CHECKED = "accepted", "not checked"
 RULES = ("least", "mean", "product")
 SIDE = 128  # of tiles
-WHOLE = False  # whether the whole raster is solved at once if nothing else is said
+WHOLE = True  # whether the whole raster is solved at once if nothing else is said
 MAX_STEEP = 16
 
 Path_ = Union[str, Path]

@@ -1,7 +1,7 @@
 """Unwraps a raster of whatever size: in frames that overlap, each unwrapped and checked, joined by whole cycles.
 
 A session has at most 4,194,304 pixels. A larger raster is cut into frames of at most --side pixels a side, which overlap by
-at least --overlap pixels. Each frame is unwrapped, and `check` has to accept its report. In an overlap both surfaces differ
+at least --overlap pixels. Each frame is unwrapped, and the checker has to accept its report or whole text. In an overlap both surfaces differ
 from the same phases by whole cycles, so they differ from each other by whole cycles; the median of the differences is what
 joins them. If open pixels fall into pieces that do not touch, each piece of each frame is joined for itself. The overlaps
 at which most pixels agree are taken first; the others are compared with what these say. Each frame fills the raster up to
@@ -38,10 +38,10 @@ from ..report_reader import NODATA
 from ..trouble import DISAGREES, REFUSED_WORDS, Trouble
 from ..unwrapping import Settings, Solved, solve
 from ..weights import highest_of
-from .unwrap import add_solver_words, ramp_note, settings_of, steep_note
+from .unwrap import add_solver_words, add_whole_word, ramp_note, settings_of, steep_note
 
 NOT_PROVED = (
-    "Each frame is certified: `check` accepted its report. The joint of the frames is not covered by any certificate or "
+    "Each frame is certified: the checker accepted its surface. The joint of the frames is not covered by any certificate or "
     "proof. The whole cycles between frames rest on the medians above."
 )
 BLOCK, BLOCKS = 256, 16  # pixels along a block that tells of the ramp, and how many there are at most along a side
@@ -114,9 +114,12 @@ def text_of(array: np.ndarray) -> bytes:
 
 
 def head_of(frame: Frame, settings: Settings, ramp: Optional[Ramp]) -> bytes:
-    """What a report on the frame begins with."""
+    """What a report or a whole text on the frame begins with."""
     _, _, width, height = frame.window
     across, down = ramp or (0, 0)
+    if settings.is_whole:
+        terms = f"ramp {across} {down}\nsteep {settings.steep}\n"
+        return f"insar-whole 1\nsize {width} {height}\nrule {settings.rule}\n{terms}".encode()
     is_plain = (across, down, settings.steep) == (0, 0, 1)
     version, terms = (1, "") if is_plain else (2, f"ramp {across} {down}\nsteep {settings.steep}\n")
     return (
@@ -181,8 +184,15 @@ def do_frame(frame: Frame, job: Job) -> str:
     else:
         solved = solve(session, job.settings, name=frame.name)
         keep_solved(frame, session, solved)
-        words = f"{solved.verdict}, tiles cost {solved.surface.tile_cost}, seams {solved.surface.seam_cost}"
+        words = f"{solved.verdict}, {cost_words(solved, job.settings)}"
     return f"{frame.name}: columns {x} to {x + width - 1}, rows {y} to {y + height - 1}: {words}"
+
+
+def cost_words(solved: Solved, settings: Settings) -> str:
+    """What a frame's surface costs, in words."""
+    if settings.is_whole:
+        return f"costs {solved.surface.tile_cost}"
+    return f"tiles cost {solved.surface.tile_cost}, seams {solved.surface.seam_cost}"
 
 
 def do_frames(frames: List[Frame], job: Job, jobs: int) -> None:
@@ -276,6 +286,11 @@ def tell(overlaps: List[List[Link]], frames: List[Frame], offsets: Offsets, agre
     return not apart
 
 
+def solved_note(settings: Settings) -> Dict[str, Any]:
+    """What is told of how each frame was solved."""
+    return {"SOLVED": "each frame at once"} if settings.is_whole else {"TILE_SIDE": settings.side}
+
+
 def notes_of(asked: Namespace, settings: Settings, frames: List[Frame], agreed: bool) -> Dict[str, Any]:
     """What the product tells of how it came about."""
     return {
@@ -284,7 +299,7 @@ def notes_of(asked: Namespace, settings: Settings, frames: List[Frame], agreed: 
         "JOINT": NOT_PROVED,
         "OVERLAPS": f"all agree at {100 * asked.agree:g} %" if agreed else f"not all agree at {100 * asked.agree:g} %",
         "FRAMES": len(frames),
-        "TILE_SIDE": settings.side,
+        **solved_note(settings),
         "RULE": settings.rule,
         "REFERENCE": reference_of(asked).note,
         **steep_note(settings.steep),
@@ -330,7 +345,7 @@ def words() -> ArgumentParser:
         description=__doc__,
         formatter_class=RawDescriptionHelpFormatter,
         epilog="example: frames phase.tif --coherence coherence.tif --folder frames cycles.tif\n"
-        "The status is 0 if the raster was written and all overlaps agree, 1 if one does not or `check` refused a frame, 2 "
+        "The status is 0 if the raster was written and all overlaps agree, 1 if one does not or the checker refused a frame, 2 "
         "for words that are refused, else that of the program or of `session`.",
     )
     add_scene_words(found)
@@ -351,6 +366,7 @@ def words() -> ArgumentParser:
     )
     add_ramp_words(found)
     add_solver_words(found)
+    add_whole_word(found, "each frame")
     add_reference_words(found, auto=False)
     add_unit_words(found, blocks=False)
     found.add_argument("geotiff", help="the file to write")
@@ -370,7 +386,7 @@ def check_words(asked: Namespace) -> None:
 
 def main(asked: Namespace) -> int:
     check_words(asked)
-    settings = settings_of(asked, False)
+    settings = settings_of(asked, asked.whole)
     scene = scene_of(asked)
     raster = scene.phase.raster
     check_box(reference_of(asked).box, *size_of(raster))

@@ -43,6 +43,15 @@ def add_solver_words(words: ArgumentParser) -> None:
     )
 
 
+def add_whole_word(found: ArgumentParser, what: str) -> None:
+    """The word by which `what` is solved at once."""
+    found.add_argument(
+        "--whole",
+        action=BooleanOptionalAction,
+        help=f"solve {what} at once; otherwise tiles (default: {'at once, without --tile' if WHOLE else 'tiles'})",
+    )
+
+
 def settings_of(asked: Namespace, whole: Optional[bool]) -> Settings:
     settings = Settings(side_for(asked.tile, whole), asked.rule, asked.workers, asked.steep)
     settings.check()
@@ -61,11 +70,7 @@ def words() -> ArgumentParser:
     add_ramp_words(found)
     add_screen_words(found)
     add_solver_words(found)
-    found.add_argument(
-        "--whole",
-        action=BooleanOptionalAction,
-        help=f"solve the whole raster at once; without it, tiles (default: {'the whole, without --tile' if WHOLE else 'tiles'})",
-    )
+    add_whole_word(found, "the whole raster")
     add_reference_words(found)
     add_unit_words(found)
     found.add_argument(

@@ -395,17 +395,30 @@ def random_session(dice, longest=11):
     )
 
 
-def run(program, session, text, workers):
-    """The report of a session by so many workers."""
-    words = ["unwrap", *session.options(), "--workers", str(workers)]
+def answer(program, words, text):
+    """What the program writes of a text, which it has to take."""
     try:
         done = subprocess.run([program, *words], input=text, capture_output=True, timeout=60)
     except subprocess.TimeoutExpired:
         raise Refused("it did not end within a minute") from None
     demand(done.returncode == 0 and not done.stderr, f"status {done.returncode}: {done.stderr!r}")
-    version = 1 if session.is_plain() else 2
-    demand(done.stdout.startswith(b"insar-report %d\n" % version), f"the report's version is not {version}")
     return done.stdout
+
+
+def run(program, session, text, workers):
+    """The report of a session by so many workers."""
+    report = answer(program, ["unwrap", *session.options(), "--workers", str(workers)], text)
+    version = 1 if session.is_plain() else 2
+    demand(report.startswith(b"insar-report %d\n" % version), f"the report's version is not {version}")
+    return report
+
+
+def asked_of(words, count, seed):
+    """The program, how many sessions are tried, and their seed, of words PROGRAM [COUNT [SEED]]; None if they are others."""
+    if not 1 <= len(words) <= 3 or not all(word.isdigit() for word in words[1:]):
+        return None
+    numbers = [*map(int, words[1:]), *(count, seed)[len(words) - 1 :]]
+    return words[0], numbers[0], numbers[1]
 
 
 # A line of four pixels, and its report.
@@ -608,11 +621,10 @@ def main():
     try_the_judge()
     if len(sys.argv) < 2:
         return 0
-    program = sys.argv[1]
-    if len(sys.argv) > 4 or not all(word.isdigit() for word in sys.argv[2:]):
+    if (asked := asked_of(sys.argv[1:], 500, 7)) is None:
         print("stress.py: the words are PROGRAM [COUNT [SEED]], as in stress.py PROGRAM 500 7", file=sys.stderr)
         return 2
-    count, seed = (int(number) for number in sys.argv[2:] + ["500", "7"][len(sys.argv) - 2 :])
+    program, count, seed = asked
     failed = 0
     for number in range(count):
         dice = random.Random(f"{seed} {number}")

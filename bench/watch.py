@@ -12,7 +12,6 @@ saw besides the last, and 'N passed, M failed'; the status is 1 if one failed.
 """
 import random
 import re
-import subprocess
 import sys
 from typing import Sequence
 
@@ -20,7 +19,6 @@ import stress
 from stress import WORKERS, Refused, Session, demand
 
 NUMBERS = re.compile(rb"(?: (?:0|[1-9][0-9]*))*")
-SECONDS = 60
 State = tuple[tuple[int, ...], int]
 
 
@@ -111,12 +109,7 @@ def judge(session: Session, readers: int, text: bytes) -> list[list[int]]:
 def run(program: str, session: Session, text: bytes, workers: int, readers: int, reads: int) -> bytes:
     """What `watch` writes."""
     words = [*session.options(), "--workers", str(workers), "--readers", str(readers), "--reads", str(reads)]
-    try:
-        done = subprocess.run([program, "watch", *words], input=text, capture_output=True, timeout=SECONDS)
-    except subprocess.TimeoutExpired:
-        raise Refused(f"it did not end within {SECONDS} seconds") from None
-    demand(done.returncode == 0 and not done.stderr, f"status {done.returncode}: {done.stderr!r}")
-    return done.stdout
+    return stress.answer(program, ["watch", *words], text)
 
 
 def scripted(*scripts: list) -> Session:
@@ -165,11 +158,10 @@ def main() -> int:
     try_the_judge()
     if len(sys.argv) < 2:
         return 0
-    program = sys.argv[1]
-    if len(sys.argv) > 4 or not all(word.isdigit() for word in sys.argv[2:]):
+    if (asked := stress.asked_of(sys.argv[1:], 1000, 7)) is None:
         print("watch.py: the words are PROGRAM [COUNT [SEED]], as in watch.py PROGRAM 1000 7", file=sys.stderr)
         return 2
-    count, seed = (int(number) for number in sys.argv[2:] + ["1000", "7"][len(sys.argv) - 2 :])
+    program, count, seed = asked
     failed = early = 0
     for number in range(count):
         dice = random.Random(f"{seed} {number}")

@@ -1,12 +1,13 @@
 -- Bytes in front of which no grid stands have a first broken line: each line of a grid can be told.
 use Rattle.std.proofs.Common.{◌≡◌, ℕ, zero, suc, ◌+◌, ◌*◌, ◌<◌, ◌≤◌, List, [], ◌∷◌, ◌++◌, length, ℤ, inl, inr, ◌⊎◌, refl, sym, ap, subst, ◌∙◌, append_assoc, arith}
-use Rattle.std.specs.Prelude.{codes}
+use Rattle.std.specs.Prelude.{IsTrue, codes}
 use Rattle.std.specs.Fmt.{decimal}
 use Rattle.std.proofs.lemmas.Bool.{cases_eq, cases_lt}
 use Rattle.std.proofs.lemmas.List.{append-nil, length-append}
 use Rattle.std.proofs.lemmas.List.Elements.{All-append, All-nil}
+use Rattle.raster_model.specs.Limits.{is_raster_size}
 use Rattle.raster_model.specs.Sums.{Field}
-use Rattle.text_lines.specs.Forms.{IsText, NeedsMore}
+use Rattle.text_lines.specs.Forms.{Begins, IsText, NeedsMore}
 use Rattle.text_lines.specs.Numbers.{AreLongs, FitsLong, numbers_line, numbers_text}
 use Rattle.text_lines.specs.Reading.{TextOrBreak}
 use Rattle.text_lines.proofs.BreakLemmas.{IsDecided, after_line_decided, decided_after, decided_at, decided_same, needs_line, parts_decided, text_decided, text_or_break}
@@ -15,11 +16,11 @@ use Rattle.text_lines.proofs.NumberLemmas.{numbers_unique, row_numbers}
 use Rattle.text_lines.proofs.TellLemmas.{AreNumbersText, Told, bytes_told, numbers_told, told_below}
 use Rattle.grid_writer.specs.declared.read.Sizes.{Sizes}
 use Rattle.grid_writer.specs.Grid.{columns_line, frame_lines, grid_rows, rows_line}
-use Rattle.grid_writer.specs.Grids.{AreLong, IsGridText, value_at}
+use Rattle.grid_writer.specs.Grids.{AreLong, IsGridText, IsGridTextOf, value_at}
 use Rattle.grid_writer.specs.GridParts.{AreSizes, IsBodyText, IsCount, IsCountLine, IsGridTextIn, IsRow, IsRowsText}
-use Rattle.grid_writer.proofs.HeadLemmas.{any_size, body_after, body_first, columns_inside, count_inside, grid_after, grid_first, grid_second, row_inside, rows_inside, some_row, zeros}
+use Rattle.grid_writer.proofs.HeadLemmas.{any_size, body_after, body_first, columns_inside, count_inside, grid_after, grid_first, grid_second, one_size, row_inside, rows_inside, some_row, zeros}
 use Rattle.grid_writer.proofs.RowsLemmas.{row_first, rows_cancel, value_long}
-use Rattle.grid_writer.proofs.SizeLemmas.{most_rows, some_rows}
+use Rattle.grid_writer.proofs.SizeLemmas.{most_rows, sized_parts, some_rows}
 use Rattle.grid_writer.proofs.ValueLemmas.{rows_none, rows_push}
 
 -- ---- lines
@@ -69,14 +70,13 @@ rows_decided width height h (suc m) items some n longs e tail whole =
 
 -- ---- what comes after the size
 
-needs_frame : NeedsMore (IsText frame_lines) []
-unfolding frame_lines
-needs_frame = (frame_lines, (λ e. not_nil 120 (codes "llcorner 0\nyllcorner 0\ncellsize 1\nNODATA_value -9223372036854775808\n") (sym e), refl))
+begins_frame : Begins (IsText frame_lines) []
+begins_frame = (frame_lines, refl)
 
 body_decided : (w h : ℕ) → 0 < w → IsDecided (IsBodyText w h)
 body_decided w h some = parts_decided (IsText frame_lines) (IsBodyText w h) (body_first w h)
     (λ p e. decided_after p (IsRowsText w h) (IsBodyText w h) (body_after w h p e) (decided_at (IsRowsText w h) (λ t. grid_rows w 0 (value_at w []) ++ t) (λ t. t) (λ t. ap (λ (x : List ℕ). x ++ t) (rows_none w (value_at w [])))
-    (rows_decided w h 0 h [] some (omega arith) (All-nil FitsLong) (omega arith)))) (λ t _. text_decided frame_lines t) needs_frame
+    (rows_decided w h 0 h [] some (omega arith) (All-nil FitsLong) (omega arith)))) (λ t _. text_decided frame_lines t) begins_frame
 
 -- ---- the size
 
@@ -112,6 +112,15 @@ module _ (s : Sizes) (ok : AreSizes s) where
   sizes_decided : IsDecided (IsGridTextIn s)
   sizes_decided = after_line_decided (IsCount (codes "ncols ") s.least_width s.most_width) inside (count_told (codes "ncols ") s.least_width s.most_width) some_line (IsGridTextIn s) (grid_first s ok) width_then
 
+-- a grid of a size that is known
+pub sized_decided : (w h : ℕ) → IsTrue (is_raster_size w h) → IsDecided (IsGridTextOf w h)
+sized_decided w h z t whole =
+    let s : Sizes = record { least_width = w; most_width = w; least_height = h; most_height = h } in
+    let p = sized_parts w h z in
+    decided_same (IsGridTextIn s) (IsGridTextOf w h) (one_size w h z) t
+    (sizes_decided s (record { wide = p.wide; widths = omega arith; narrow = p.narrow; high = p.high; heights = omega arith; low = p.low; few = p.few }) t whole)
+
+-- one of any size
 any : Sizes
 any = record { least_width = 1; most_width = 4096; least_height = 1; most_height = 4096 }
 

@@ -1,16 +1,12 @@
 -- No two lines of a report that tell different things have one text.
-use Rattle.std.proofs.Common.{◌≡◌, ℕ, ℤ, ◌+◌, ◌≤◌, List, ◌∷◌, ◌++◌, get_or, drop, decimal, Option, Some, None, inr, refl, sym, ap, ap₂, subst, arith}
+use Rattle.std.proofs.Common.{◌≡◌, ℕ, ◌+◌, ◌≤◌, List, ◌∷◌, ◌++◌, get_or, drop, decimal, Option, Some, None, inr, refl, sym, ap, ap₂, subst, arith}
 use Rattle.std.specs.Prelude.{◌≢◌, codes}
 use Rattle.std.specs.List.{AllByRecursion}
 use Rattle.std.proofs.lemmas.List.{append_cancel_left}
-use Rattle.std.specs.Fmt.{signed_decimal}
-use Rattle.std.proofs.lemmas.Fmt.{signed_decimal_injective}
-use Rattle.text_lines.specs.Numbers.{BeginsField, number_text}
-use Rattle.raster_model.specs.Limits.{IsSlope, IsSteepness, IsTileSide}
+use Rattle.text_lines.specs.Numbers.{BeginsField}
+use Rattle.raster_model.specs.Limits.{IsTileSide}
 use Rattle.raster_model.specs.declared.script.Edit.{Edit}
 use Rattle.raster_model.specs.declared.script.Edit.TheVariants.{Mask, Unmask}
-use Rattle.raster_model.specs.declared.weights.RuleKind.{RuleKind}
-use Rattle.raster_model.specs.declared.weights.RuleKind.TheVariants.{Least, Mean, Product}
 use Rattle.tile_board.specs.declared.entry.Entry.{Entry}
 use Rattle.tile_board.specs.declared.entry.Entry.TheVariants.{Revised, Kept, Published, Settled, Shown}
 use Rattle.report_text.specs.Contents.{IsEntryOfWords, MayBeWord}
@@ -18,11 +14,9 @@ use Rattle.report_text.specs.Parsing.{AreCosts}
 use Rattle.report_text.specs.Parts.{MayStand}
 use Rattle.report_text.specs.Terms.{IsVersion}
 use Rattle.report_text.specs.Text.{costs_line, entry_text, history_line, revision_text, tile_line, version_line}
-use Rattle.text_lines.specs.Parsing.{AreWords, IsWord}
+use Rattle.text_lines.specs.Parsing.{IsWord}
 use Rattle.text_lines.specs.Text.{rect_text, field_text}
 use Rattle.text_lines.proofs.FieldLemmas.{IsDigit, decimal_digits, field_unique, last_begins, last_unique, pair_unique, rect_unique, word_wide}
-use Rattle.text_lines.proofs.FormLemmas.{Without}
-use Rattle.text_lines.proofs.NumberLemmas.{magnitude, parts_unique, signed_without}
 use Rattle.report_text.proofs.LineLemmas.{version_small}
 use Rattle.text_parts.proofs.UniqueLemmas.{words_unique}
 

@@ -46,7 +46,7 @@ module _ (width height tiles : ℕ) where
   AfterEntry true = Seq (IsSurfaceText width height tiles) F
   AfterEntry false = F
 
-  abbrev AfterLine : Option Entry → Form
+  abbrev pub AfterLine : Option Entry → Form
   AfterLine None text = text ≡ []
   AfterLine (Some e) text = AfterEntry (is_published e) text
 

@@ -13,3 +13,5 @@ pub mod SameReports
 pub mod TermsLemmas
 pub mod RangeLemmas
 pub mod CertifiedLemmas
+pub mod TellLemmas
+pub mod DecideLemmas

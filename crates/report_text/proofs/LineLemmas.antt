@@ -1,28 +1,19 @@
 -- The lines of a report have no line feed in them, and the short ones are short.
-use Rattle.std.proofs.Common.{◌≡◌, ℕ, ◌+◌, ◌-◌, ◌/◌, ◌≤◌, Bool, true, not, eqb, IsTrue, List, [], ◌∷◌, ◌++◌, length, decimal, mul-le-mul, Option, Some, None, inl, inr, refl, arith, of_z, to_z}
-use Rattle.std.specs.Prelude.{ℤ, pos, negsuc, FitsSigned, codes}
-use Rattle.std.specs.List.{list_all}
+use Rattle.std.proofs.Common.{ℕ, ◌+◌, ◌-◌, ◌/◌, ◌≤◌, IsTrue, List, mul-le-mul, Option, Some, None, inl, inr, refl, arith}
+use Rattle.std.specs.Prelude.{ℤ, codes}
 use Rattle.std.proofs.Math.Nat.{div-le_self}
-use Rattle.std.proofs.lemmas.Bool.{and_parts, cases_lt, eqb-false, not-true}
-use Rattle.std.proofs.lemmas.Bool.Decides.{nat_tests}
-use Rattle.std.proofs.lemmas.Fmt.{length-decimal-le_wide, length_signed_le}
-use Rattle.std.proofs.lemmas.Int.{fits_signed_from_abs, ints, to_z-of_z}
-use Rattle.std.proofs.lemmas.List.{length-append}
+use Rattle.std.proofs.lemmas.Bool.{cases_lt}
 use Rattle.insar_ports.specs.Lines.{IsInLine}
-use mir.Syntax.{w16, w32, w64}
-use Rattle.raster_model.specs.Limits.{is_raster_size, IsSlope, IsSteepness, IsTileSide}
+use Rattle.raster_model.specs.Limits.{is_raster_size, IsTileSide}
 use Rattle.raster_model.specs.declared.script.Edit.TheVariants.{Mask, Unmask}
 use Rattle.raster_model.specs.declared.script.Rect.{Rect}
-use Rattle.raster_model.specs.declared.weights.RuleKind.{RuleKind}
-use Rattle.raster_model.specs.declared.weights.RuleKind.TheVariants.{Least}
 use Rattle.tile_board.specs.declared.entry.Entry.{Entry}
 use Rattle.tile_board.specs.declared.entry.Entry.TheVariants.{Revised, Kept, Published, Settled, Shown}
-use Rattle.text_lines.specs.Numbers.{AreLongs, FitsLong, number_text, numbers_text}
-use Rattle.text_lines.specs.Parsing.{AreWords, IsRectOfWords, IsWide, IsWord}
+use Rattle.text_lines.specs.Numbers.{AreLongs, numbers_text}
+use Rattle.text_lines.specs.Parsing.{IsRectOfWords, IsWide}
 use Rattle.text_lines.specs.Text.{rect_text, field_text}
-use Rattle.text_lines.proofs.FieldLemmas.{IsDigit, all_both, all_weaker, decimal_digits, is_printed, word_wide}
+use Rattle.text_lines.proofs.FieldLemmas.{all_both}
 use Rattle.text_lines.proofs.FormLemmas.{InLine}
-use Rattle.text_lines.proofs.NumberLemmas.{magnitude, number_in_line}
 use Rattle.text_lines.proofs.NumberLines.{text_in_line}
 use Rattle.report_text.specs.Contents.{IsEntryOfWords, MayBeWord}
 use Rattle.report_text.specs.Parsing.{AreCosts}

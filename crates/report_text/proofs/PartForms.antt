@@ -1,28 +1,14 @@
 -- The parts of a report's text as forms: lines, the head, the faces, a surface.
-use Rattle.std.proofs.Common.{◌≡◌, ℕ, zero, suc, ◌≤◌, ◌<◌, ℤ, pos, IsTrue, List, [], ◌++◌, Result, Ok, Err, None, inl, inr, ◌⊎◌, refl, sym, ap, ap₂, subst, ◌∙◌, append_assoc, arith, rules}
-use Rattle.std.specs.Prelude.{◌==◌, false, IfErr, IfOk, if◌then◌else◌, nat_lt}
-use Rattle.std.proofs.lemmas.Bool.{cases_Bool, cases_lt, eqb-true, false_from_ne_true}
-use Rattle.std.proofs.lemmas.Int.{ints}
-use Rattle.std.proofs.lemmas.List.{append-nil}
-use Rattle.std.proofs.lemmas.List.Elements.{All-from_recursion}
-use Rattle.sums_and_lists.proofs.Orders.{lt_is, not_lt_is}
+use Rattle.std.proofs.Common.{◌≡◌, ℕ, ◌<◌, ℤ, IsTrue, List, [], ◌++◌, None, inl, inr, ◌⊎◌, refl, sym, ap, subst, ◌∙◌, arith}
+use Rattle.std.specs.Prelude.{◌==◌, false}
+use Rattle.std.proofs.lemmas.Bool.{cases_Bool, eqb-true, false_from_ne_true}
 use Rattle.sums_and_lists.proofs.Tests.{true_and_false}
-use Rattle.raster_model.specs.Limits.{is_raster_size, IsSlope, IsSteepness, IsTileSide}
-use Rattle.raster_model.specs.declared.weights.RuleKind.TheVariants.{Least}
-use Rattle.text_lines.specs.Forms.{AreWholeLines, Form}
-use Rattle.text_lines.specs.Text.{texts_below}
-use Rattle.text_lines.specs.declared.fault.LineFault.{LineFault}
-use Rattle.text_lines.specs.LineWords.{TakesLines}
-use Rattle.text_lines.specs.Reading.{HasLineCause}
-use Rattle.text_lines.specs.Numbers.{AreLongs, FitsLong}
-use Rattle.text_lines.specs.Parsing.{IsAnyRule, IsWide}
-use Rattle.text_lines.proofs.FormLemmas.{ComesFirst, ComesAfter, no_more, whole_append, whole_line}
+use Rattle.raster_model.specs.Limits.{is_raster_size, IsSteepness, IsTileSide}
+use Rattle.text_lines.specs.Forms.{Form}
+use Rattle.text_lines.specs.Numbers.{AreLongs}
+use Rattle.text_lines.specs.Parsing.{IsWide}
+use Rattle.text_lines.proofs.FormLemmas.{ComesFirst, ComesAfter, no_more}
 use Rattle.text_lines.proofs.SeqLemmas.{IsCode, SameForms, first_same, same_code}
-use Rattle.text_lines.proofs.TextLemmas.{IsOneLine, texts_cancel, texts_same, texts_tail}
-use Rattle.grid_writer.specs.Grid.{grid_text}
-use Rattle.grid_writer.specs.declared.values.Grid.{Grid}
-use Rattle.grid_writer.specs.Grids.{AreLong, IsGrid, IsGridText, IsGridTextOf, grid_of, text_of_grid}
-use Rattle.grid_writer.proofs.GridReads.{grid_whole, grid_free}
 use Rattle.report_text.specs.Contents.{IsSurfaceInRange}
 use Rattle.report_text.specs.Parsing.{AreCosts}
 use Rattle.report_text.specs.Parts.{AreCertificates, AreFacesBelow, AreFacesOf, AreSolved, IsFrame, IsReportFront, IsSurfaceText, IsTermsText, IsTiling, MayStand, certificates_text, frame_text, front_text, solved_text, tiling_text}
@@ -104,7 +90,7 @@ module _ (version : ℕ) (other : version ≡ 1 → ⊥) where
       let same : u ≡ t = sym (same_terms t u e f g) in
       (subst (AreTermsIn version) same (record { across = r.0; along = r.1; steepness = q; plain = λ h. absurd (other h) }), sym (all_told u) ∙ ap (terms_text version) same)
 
-  told_same : SameForms (TextOf AreTold told_text) (IsTermsText version)
+  pub told_same : SameForms (TextOf AreTold told_text) (IsTermsText version)
   told_same = record {
     to = λ t a.
         let u : TermsOf = record { ramp_x = a.0.0.0; ramp_y = a.0.0.1; steep = a.0.1 } in
@@ -126,7 +112,7 @@ module _ (version : ℕ) (other : version ≡ 1 → ⊥) where
       let s = turn_one (line_part ramp_kind) (line_part steep_kind) (line_one ramp_unique) (line_one steep_unique) ((t.ramp_x, t.ramp_y), t.steep) ((u.ramp_x, u.ramp_y), u.steep) ((a.across, a.along), a.steepness) ((b.across, b.along), b.steepness) (sym (all_told t) ∙ e ∙ all_told u) in
       same_terms t u (ap (λ (p : (ℤ × ℤ) × ℕ). p.0.0) s) (ap (λ (p : (ℤ × ℤ) × ℕ). p.0.1) s) (ap (λ (p : (ℤ × ℤ) × ℕ). p.1) s)
 
-either : (version : ℕ) → (version ≡ 1) ⊎ (version ≡ 1 → ⊥)
+pub either : (version : ℕ) → (version ≡ 1) ⊎ (version ≡ 1 → ⊥)
 either version = elim (cases_Bool (version == 1)) [ inl first ↦ inl (eqb-true version 1 first) | inr other ↦ inr (λ e. true_and_false (version == 1) (ap (λ (n : ℕ). n == 1) e) other) ]
 
 pub terms_code : (version : ℕ) → IsCode (IsTermsText version)
@@ -140,7 +126,7 @@ terms_one version t u a b e = elim (either version) [
 
 -- ---- the faces of the tiles
 
-inside : (tiles : ℕ) → IsWide tiles → (t : ℕ) → t < tiles → (faces : List ℤ) → AreLongs faces → InLine (faces_line t faces)
+pub inside : (tiles : ℕ) → IsWide tiles → (t : ℕ) → t < tiles → (faces : List ℤ) → AreLongs faces → InLine (faces_line t faces)
 inside tiles small t lt faces longs = faces_in_line t faces (omega (arith, lt, small), longs)
 
 pub faces_apart : (tiles : ℕ) → IsWide tiles → (f g : ℕ → List ℤ) (r s : List ℕ) → AreFacesBelow tiles f → AreFacesBelow tiles g → all_faces_text tiles f ++ r ≡ all_faces_text tiles g ++ s → ((t : ℕ) → t < tiles → faces_text f t ≡ faces_text g t) × (r ≡ s)
@@ -173,10 +159,10 @@ certificates_part tiles small = turn_part (faces_part tiles small) (line_part fl
 
 module _ (width height : ℕ) (z : IsTrue (is_raster_size width height)) where
   module _ (tiles : ℕ) (small : IsWide tiles) where
-    abbrev Block : Form
+    abbrev pub Block : Form
     Block = TextOf (both AreCosts (AreSolved width height tiles)) (in_turn (ended_line costs_line) (solved_text width height tiles))
 
-    surface_same : SameForms Block (IsSurfaceText width height tiles)
+    pub surface_same : SameForms Block (IsSurfaceText width height tiles)
     surface_same = record {
       to = λ t a.
           let k : SurfaceOf = record { tile_cost = a.0.0.0; seam_cost = a.0.0.1; values = a.0.1.0; faces = a.0.1.1.0; flows = a.0.1.1.1 } in
@@ -184,7 +170,7 @@ module _ (width height : ℕ) (z : IsTrue (is_raster_size width height)) where
       «from» = λ t b. let k = b.0 in let r = b.1.0 in (((k.tile_cost, k.seam_cost), (k.values, (k.faces, k.flows))), (((r.tile_cost, r.seam_cost), (r.values, (r.faces, r.flows))), b.1.1 ∙ surface_is width height tiles k));
     }
 
-    solved_part : IsPart (AreSolved width height tiles) (solved_text width height tiles)
+    pub solved_part : IsPart (AreSolved width height tiles) (solved_text width height tiles)
     solved_part = turn_part (grid_part width height z) (certificates_part tiles small)
 
     pub surface_part : IsPart (IsSurfaceInRange width height tiles) (surface_block_text width height tiles)

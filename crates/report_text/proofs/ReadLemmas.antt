@@ -1,12 +1,10 @@
 -- What readers of a line say of its parts they say of the line.
-use Rattle.std.proofs.Common.{◌≡◌, ℕ, false, List, ◌++◌, Option, Some, None, inr, refl, sym, ap, ◌∙◌}
-use Rattle.std.specs.Prelude.{◌≢◌, ◌≤◌, IfNone, IfSome, codes, decimal}
-use Rattle.std.proofs.lemmas.Bool.{false≢true}
-use Rattle.raster_model.specs.Limits.{is_raster_size}
+use Rattle.std.proofs.Common.{◌≡◌, ℕ, List, ◌++◌, Option, Some, None, inr, refl}
+use Rattle.std.specs.Prelude.{◌≢◌, codes}
 use Rattle.raster_model.specs.declared.script.Edit.{Edit}
 use Rattle.raster_model.specs.declared.script.Edit.TheVariants.{Mask, Unmask}
 use Rattle.text_lines.specs.Numbers.{BeginsField}
-use Rattle.text_lines.specs.Parsing.{AreWords, IsParsedAs, IsWord, pair_text}
+use Rattle.text_lines.specs.Parsing.{AreWords, IsWord, pair_text}
 use Rattle.text_lines.specs.Text.{field_text, rect_text}
 use Rattle.tile_board.specs.declared.entry.Entry.{Entry}
 use Rattle.tile_board.specs.declared.entry.Entry.TheVariants.{Revised, Kept, Published, Settled, Shown}

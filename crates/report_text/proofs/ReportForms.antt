@@ -1,24 +1,12 @@
 -- Whole reports as a form, and why one is not read.
-use Rattle.std.proofs.Common.{◌≡◌, ℕ, ◌+◌, ◌≤◌, List, [], ◌∷◌, ◌++◌, length, All, inl, inr, ◌⊎◌, refl, sym, ap, ap₂, subst, ◌∙◌, append_assoc, arith}
-use Rattle.std.specs.Prelude.{◌≢◌, codes}
-use Rattle.std.proofs.lemmas.List.{append-nil, length-append}
-use Rattle.insar_ports.specs.Calls.{Call}
-use Rattle.insar_ports.specs.Lines.{IsInLine}
-use Rattle.insar_ports.proofs.CallLemmas.{risen_before, Takes-then, Takes-weaker}
-use Rattle.text_lines.specs.declared.fault.LineFault.{LineFault}
-use Rattle.text_lines.specs.declared.fault.LineFault.TheVariants as line_faults
-use Rattle.text_lines.specs.Forms.{Form, Begins, NeedsMore, BreaksAt, EndsIn, IsInLineOf, lines_in}
-use Rattle.text_lines.specs.LineWords.{TakesLines}
-use Rattle.text_lines.specs.Reading.{HasLineCause}
+use Rattle.std.proofs.Common.{◌≡◌, ℕ, List, [], ◌++◌, refl, sym, ap, ap₂, ◌∙◌, append_assoc}
+use Rattle.std.specs.Prelude.{codes}
+use Rattle.text_lines.specs.Forms.{Form}
 use Rattle.text_lines.proofs.FormLemmas.{ComesFirst, ComesAfter}
-use Rattle.text_lines.proofs.FirstLemmas.{text_not_cut}
 use Rattle.text_lines.proofs.SeqLemmas.{IsCode, SameForms, Seq, after_then, first_same, same_code, seq_after, seq_code, seq_first}
-use Rattle.text_lines.proofs.StepLemmas.{joined, second}
-use Rattle.report_text.specs.Contents.{IsReport, IsReportText}
+use Rattle.report_text.specs.Contents.{IsReportText}
 use Rattle.report_text.specs.Parts.{FrontOf, IsItemsText, IsReportFront, IsTermsText, front_text, items_text}
-use Rattle.text_parts.specs.Parts.{HasMoreCause, IsLineMore}
 use Rattle.text_parts.specs.Steps.{TextOf}
-use Rattle.report_text.specs.Reading.{BreaksReportAt, EndsReportIn, HasReportCause}
 use Rattle.report_text.specs.Reports.{ReportOf}
 use Rattle.report_text.specs.Terms.{AreTermsIn, plain_terms}
 use Rattle.text_parts.specs.Terms.{TermsOf}

@@ -1,6 +1,6 @@
 -- The terms of a report and its version.
-use Rattle.std.proofs.Common.{◌≡◌, ℤ, pos, true, inl, inr, refl, ap, ◌∙◌, arith}
-use Rattle.std.specs.Prelude.{◌↔◌, ◌&&◌, ◌==◌, ℕ}
+use Rattle.std.proofs.Common.{◌≡◌, pos, true, inl, inr, refl, ap, arith}
+use Rattle.std.specs.Prelude.{◌↔◌, ◌&&◌, ◌==◌}
 use Rattle.std.specs.Ordering.{int_eq}
 use Rattle.std.proofs.lemmas.Bool.{and_parts, cases_Bool, eqb-true}
 use Rattle.std.proofs.lemmas.Bool.Decides.{Decides-int_eq}

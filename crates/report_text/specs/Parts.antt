@@ -1,20 +1,16 @@
 -- The parts of a report's text: words of helpers, which no clause of a public function cites.
-use Rattle.std.specs.Prelude.{◌≡◌, ◌≢◌, ◌⊎◌, ℕ, ◌+◌, ◌<◌, IsTrue, ℤ, List, [], ◌∷◌, ◌++◌, All, Option, Some, None, codes, flat_map, map, ⊤}
+use Rattle.std.specs.Prelude.{ℕ, ◌<◌, IsTrue, ℤ, List, ◌++◌, Option, Some, None, codes, flat_map, map, ⊤}
 use Rattle.std.specs.Global.{Vec}
 use Rattle.std.specs.List.{AllByRecursion}
-use Rattle.insar_ports.specs.Bytes.{HasMore, HasRisen}
-use Rattle.insar_ports.specs.Calls.{Call, Takes}
-use Rattle.insar_ports.specs.Lines.{IsInLine}
+use Rattle.insar_ports.specs.Calls.{Call}
 use Rattle.text_lines.specs.declared.fault.LineFault.{LineFault}
-use Rattle.text_lines.specs.declared.fault.LineFault.TheVariants as faults
 use Rattle.text_lines.specs.Reading.{HasLineCause}
-use Rattle.raster_model.specs.Limits.{is_raster_size, IsSlope, IsSteepness, IsTileSide}
+use Rattle.raster_model.specs.Limits.{IsTileSide}
 use Rattle.raster_model.specs.declared.weights.RuleKind.{RuleKind}
 use Rattle.raster_model.specs.Sums.{Field}
-use Rattle.grid_writer.specs.declared.values.Grid.{Grid}
 use Rattle.text_lines.specs.Forms.{Form}
 use Rattle.grid_writer.specs.Grid.{grid_text}
-use Rattle.grid_writer.specs.Grids.{AreLong, value_at}
+use Rattle.grid_writer.specs.Grids.{AreLong}
 use Rattle.text_lines.specs.Numbers.{AreLongs}
 use Rattle.tile_board.specs.declared.entry.Entry.{Entry}
 use Rattle.report_text.specs.declared.head.Head.{Head}

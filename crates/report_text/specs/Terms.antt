@@ -1,8 +1,7 @@
 -- The terms of a report, and its version, which says whether its text tells them.
-use Rattle.std.specs.Prelude.{◌≡◌, ◌⊎◌, ◌&&◌, ◌==◌, ℕ, ℤ, pos, Bool, if◌then◌else◌}
+use Rattle.std.specs.Prelude.{◌≡◌, ◌⊎◌, ◌&&◌, ◌==◌, ℕ, pos, Bool, if◌then◌else◌}
 use Rattle.std.specs.Ordering.{int_eq}
 use Rattle.raster_model.specs.Limits.{IsSlope, IsSteepness}
-use Rattle.raster_model.specs.declared.terms.Terms.{Terms}
 use Rattle.text_parts.specs.Terms.{TermsOf}
 
 -- no ramp, and each cycle of a departure costs the same

@@ -1,12 +1,11 @@
 -- The text of a report, in the one spelling of this project.
-use Rattle.std.specs.Prelude.{ℕ, ◌+◌, ◌-◌, ◌*◌, ◌/◌, ◌==◌, ℤ, if◌then◌else◌, List, [], ◌∷◌, ◌++◌, Option, Some, None, codes, flat_map}
+use Rattle.std.specs.Prelude.{ℕ, ◌+◌, ◌-◌, ◌*◌, ◌/◌, ◌==◌, ℤ, if◌then◌else◌, List, [], ◌++◌, Option, Some, None, codes, flat_map}
 use Rattle.raster_model.specs.declared.script.Edit.TheVariants.{Mask, Unmask}
-use Rattle.raster_model.specs.declared.weights.RuleKind.{RuleKind}
 use Rattle.grid_writer.specs.Grid.{grid_text}
-use Rattle.text_lines.specs.Numbers.{number_text, numbers_text}
+use Rattle.text_lines.specs.Numbers.{numbers_text}
 use Rattle.tile_board.specs.declared.entry.Entry.{Entry}
 use Rattle.tile_board.specs.declared.entry.Entry.TheVariants.{Revised, Kept, Published, Settled, Shown}
-use Rattle.text_lines.specs.Text.{field_text, rect_text, rule_word, texts_below}
+use Rattle.text_lines.specs.Text.{field_text, rect_text, texts_below}
 use Rattle.report_text.specs.Reports.{ItemOf, ReportOf, SurfaceOf}
 use Rattle.text_parts.specs.Terms.{TermsOf}
 use Rattle.text_parts.specs.Text.{line_end, size_line, rule_line, ramp_line, steep_line, ended_line}

@@ -1,8 +1,10 @@
 //! Laws of the definitions. The functions do nothing; each contract is the law.
 
 ghost use Rattle.report_text.specs.Certified.{CertifiedReportsAreBest};
+ghost use Rattle.report_text.specs.Contents.{IsReportText};
 ghost use Rattle.report_text.specs.Reading.{BrokenReportLineIsOne};
 ghost use Rattle.report_text.specs.Same.{ReportTextsAreUnique};
+ghost use Rattle.text_parts.specs.Reading.{CutTextHasNoBreak, TextOrBrokenLine};
 
 /// Each published surface of a certified report is the best at the mask of its revision: congruent, least in each
 /// tile among all congruent surfaces, and at the seams under all offsets of the regions. (Costantini 1998; Chen and
@@ -20,4 +22,11 @@ pub fn report_texts_are_unique()
 /// Bytes have at most one first line that breaks the form of a report, and the text of a report has none.
 pub fn broken_report_line_is_one()
     ensures { BrokenReportLineIsOne }
+{}
+
+/// Bytes, so many of which are let out, are the text of a report and are all let out, or they have a first line that breaks
+/// the form, or the limit cuts a line before any is broken: one of the three.
+pub fn report_or_broken_line()
+    ensures either { TextOrBrokenLine IsReportText }
+    ensures cut { CutTextHasNoBreak IsReportText }
 {}

@@ -48,6 +48,13 @@ look F d before line (b ∷ rest) w m i = elim (cases_eq b 10) [
 pub find_break : (F : Form) → IsDecided F → NeedsMore F [] → (bytes : List ℕ) → Found F bytes
 find_break F d m bytes = look F d [] [] bytes (inl refl) m tt
 
+-- the same where a text of the form may be empty
+pub find_first : (F : Form) → IsDecided F → Begins F [] → (bytes : List ℕ) → Found F bytes
+find_first F d b bytes = elim (d [] (inl refl)) [
+  | inl f ↦ inl ([], bytes, (f, refl))
+  | inr s ↦ elim s [ inl m ↦ find_break F d m bytes | inr none ↦ absurd (none b) ]
+]
+
 module _ (F : Form) (room : ℕ) (bytes : List ℕ) where
   whole_of : (p r : List ℕ) → take room bytes ≡ p ++ r → bytes ≡ p ++ (r ++ drop room bytes)
   whole_of p r e = sym (take-append-drop room bytes) ∙ ap (λ (l : List ℕ). l ++ drop room bytes) e ∙ append_assoc p r (drop room bytes)
@@ -103,24 +110,30 @@ decided_same F G s t (inr (inr none)) = inr (inr (λ b. none (b.0, s.«from» (t
 pub decided_at : (F : Form) (f g : List ℕ → List ℕ) → ((t : List ℕ) → f t ≡ g t) → IsDecided (λ (t : List ℕ). F (f t)) → IsDecided (λ (t : List ℕ). F (g t))
 decided_at F f g e d t w = decided_same (λ (t : List ℕ). F (f t)) (λ (t : List ℕ). F (g t)) (record { to = λ t a. subst F (e t) a; «from» = λ t a. subst F (sym (e t)) a }) t (d t w)
 
+pub decided_behind : (p : List ℕ) (F2 F : Form) → ComesAfter p F2 F → (t : List ℕ) → Decided F2 t → Decided (λ (x : List ℕ). F (p ++ x)) t
+decided_behind p F2 F f t d = decided_same F2 (λ (x : List ℕ). F (p ++ x)) (record { to = f.to; «from» = f.«from» }) t d
+
 pub decided_after : (p : List ℕ) (F2 F : Form) → ComesAfter p F2 F → IsDecided F2 → IsDecided (λ (t : List ℕ). F (p ++ t))
-decided_after p F2 F f d t w = decided_same F2 (λ (t : List ℕ). F (p ++ t)) (record { to = f.to; «from» = f.«from» }) t (d t w)
+decided_after p F2 F f d t w = decided_behind p F2 F f t (d t w)
 
 -- a part that comes first, and what comes after each such part
-module _ (F1 F : Form) (f : ComesFirst F1 F) (next : (p : List ℕ) → F1 p → IsDecided (λ (t : List ℕ). F (p ++ t))) where
-  first_decided : (t : List ℕ) → AreWholeLines t → Found F1 t → Decided F t
-  first_decided t w (inl (p, r, (a, e))) = subst (Decided F) (sym e) (after_part F p r (next p a r (whole_rest p r (subst AreWholeLines e w))))
-  first_decided t w (inr (inl (n, p, r, (b, e)))) = inr (inr (λ g. (breaks_first F1 F f n p b).2.1.1 (r ++ g.0, subst F (ap (λ (l : List ℕ). l ++ g.0) e ∙ append_assoc p r g.0) g.1)))
-  first_decided t w (inr (inr (n, (before, line, (h, e))))) =
+module _ (F1 F : Form) (f : ComesFirst F1 F) where
+  found_decided : (t : List ℕ) → AreWholeLines t → ((p r : List ℕ) → F1 p → t ≡ p ++ r → AreWholeLines r → Decided (λ (x : List ℕ). F (p ++ x)) r) → Found F1 t → Decided F t
+  found_decided t w next (inl (p, r, (a, e))) = subst (Decided F) (sym e) (after_part F p r (next p r a e (whole_rest p r (subst AreWholeLines e w))))
+  found_decided t w next (inr (inl (n, p, r, (b, e)))) = inr (inr (λ g. (breaks_first F1 F f n p b).2.1.1 (r ++ g.0, subst F (ap (λ (l : List ℕ). l ++ g.0) e ∙ append_assoc p r g.0) g.1)))
+  found_decided t w next (inr (inr (n, (before, line, (h, e))))) =
       let none = no_end_within t before line line [] w e (in_line line h.inside) (sym (append-nil line)) in
       let same : t ≡ before = e ∙ ap (λ (l : List ℕ). before ++ l) none ∙ append-nil before in
       inr (inl (goes_on_first F1 F f t (subst (NeedsMore F1) (sym same) h.holds)))
 
-  pub parts_decided : IsDecided F1 → NeedsMore F1 [] → IsDecided F
-  parts_decided d m t w = first_decided t w (find_break F1 d m t)
+  pub first_decided : IsDecided F1 → Begins F1 [] → (t : List ℕ) → AreWholeLines t → ((p r : List ℕ) → F1 p → t ≡ p ++ r → AreWholeLines r → Decided (λ (x : List ℕ). F (p ++ x)) r) → Decided F t
+  first_decided d b t w next = found_decided t w next (find_first F1 d b t)
+
+  pub parts_decided : ((p : List ℕ) → F1 p → IsDecided (λ (t : List ℕ). F (p ++ t))) → IsDecided F1 → Begins F1 [] → IsDecided F
+  parts_decided next d b t w = first_decided d b t w (λ p r a e v. next p a r v)
 
 -- the first line of some bytes
-first_line : (t : List ℕ) → InLine t ⊎ ((line : List ℕ) × (rest : List ℕ) × (InLine line × (t ≡ line ++ 10 ∷ rest)))
+pub first_line : (t : List ℕ) → InLine t ⊎ ((line : List ℕ) × (rest : List ℕ) × (InLine line × (t ≡ line ++ 10 ∷ rest)))
 first_line [] = inl tt
 first_line (b ∷ t) = elim (cases_eq b 10) [
   | inl e ↦ inr ([], t, (tt, ap (λ (c : ℕ). c ∷ t) e))
@@ -150,7 +163,7 @@ module _ (D : List ℕ → Type 0) (inside : (line : List ℕ) → D line → In
 
   -- such a line comes first
   pub after_line_decided : (F : Form) → ComesFirst (LineOf D) F → ((line : List ℕ) → D line → IsDecided (λ (t : List ℕ). F ((line ++ 10 ∷ []) ++ t))) → IsDecided F
-  after_line_decided F f next = parts_decided (LineOf D) F f (λ p (line, (d, e)). subst (λ (l : List ℕ). IsDecided (λ (t : List ℕ). F (l ++ t))) (sym e) (next line d)) line_decided needs_line
+  after_line_decided F f next = parts_decided (LineOf D) F f (λ p (line, (d, e)). subst (λ (l : List ℕ). IsDecided (λ (t : List ℕ). F (l ++ t))) (sym e) (next line d)) line_decided (begins_if_needs (LineOf D) [] needs_line)
 
 -- a text that is known
 pub text_decided : (x t : List ℕ) → Decided (IsText x) t

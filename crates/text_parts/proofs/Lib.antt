@@ -8,3 +8,6 @@ pub mod PartForms
 pub mod LineForms
 pub mod TextForms
 pub mod TextAnswers
+pub mod TellLemmas
+pub mod DecideLemmas
+pub mod TextBreaks

@@ -51,7 +51,7 @@ module _ {A : Type 0} (Q : A → Type 0) (line : ℕ → A → List ℕ) (n : �
   lines_after = record { whole = lines_whole line k values; to = λ t h. h; «from» = λ t h. h }
 
   module _ (a : A) where
-    abbrev with_value : ℕ → A
+    abbrev pub with_value : ℕ → A
     with_value t = if nat_lt t k then values t else a
 
     value_before : (t : ℕ) → t < k → with_value t ≡ values t
@@ -66,12 +66,22 @@ module _ {A : Type 0} (Q : A → Type 0) (line : ℕ → A → List ℕ) (n : �
       | inr l ↦ subst Q (sym (value_later t l)) q
     ]
 
-    extended : (p : List ℕ) → Q a → p ≡ line k a ++ 10 ∷ [] → (more : List ℕ) × LinesLeft (p ++ more)
-    extended p q e =
-        let tail = texts_tail n k (line_texts line with_value) here in
+    -- the next line
+    pub one_more : (p : List ℕ) → p ≡ line k a ++ 10 ∷ [] → lines_below line (suc k) with_value ≡ lines_below line k values ++ p
+    unfolding texts_below
+    one_more p e =
         let front = texts_same k (line_texts line values) (line_texts line with_value) (λ t lt. ap (λ (b : A). line t b ++ 10 ∷ []) (sym (value_before t lt))) in
         let last = e ∙ ap (λ (b : A). line k b ++ 10 ∷ []) (sym (value_later k (omega arith))) in
-        (tail.0, (with_value, (all_stand q, sym (append_assoc (lines_below line k values) p tail.0) ∙ ap (λ (l : List ℕ). l ++ tail.0) (ap₂ (λ (l m : List ℕ). l ++ m) front last) ∙ sym tail.1)))
+        sym (ap₂ (λ (l m : List ℕ). l ++ m) front last)
+
+    pub with_value_stands : Q a → AreBelow Q (suc k) with_value
+    with_value_stands q t lt = all_stand q t (omega (arith, lt, here))
+
+    extended : (p : List ℕ) → Q a → p ≡ line k a ++ 10 ∷ [] → (more : List ℕ) × LinesLeft (p ++ more)
+    unfolding texts_below
+    extended p q e =
+        let tail = texts_tail n k (line_texts line with_value) here in
+        (tail.0, (with_value, (all_stand q, sym (append_assoc (lines_below line k values) p tail.0) ∙ ap (λ (l : List ℕ). l ++ tail.0) (sym (one_more p e)) ∙ sym tail.1)))
 
   -- the line of the next number, of a value as P says, which is the same
   pub line_first : (P : A → Type 0) → ((a : A) → P a → Q a) → ((a : A) → Q a → P a) → IsPart P (λ a. line k a ++ 10 ∷ []) → ComesFirst (TextOf P (λ a. line k a ++ 10 ∷ [])) LinesLeft

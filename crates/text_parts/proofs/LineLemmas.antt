@@ -1,5 +1,5 @@
 -- Lines have no line feed in them, and the short ones are short.
-use Rattle.std.proofs.Common.{◌≡◌, ℕ, ◌+◌, ◌-◌, ◌/◌, ◌≤◌, Bool, true, not, eqb, IsTrue, List, [], ◌∷◌, ◌++◌, length, decimal, refl, arith, of_z, to_z}
+use Rattle.std.proofs.Common.{◌≡◌, ℕ, ◌+◌, ◌≤◌, Bool, true, not, eqb, IsTrue, List, [], ◌∷◌, ◌++◌, length, decimal, refl, arith, of_z, to_z}
 use Rattle.std.specs.Prelude.{ℤ, pos, negsuc, FitsSigned, codes}
 use Rattle.std.specs.List.{list_all}
 use Rattle.std.proofs.lemmas.Bool.{and_parts, eqb-false, not-true}

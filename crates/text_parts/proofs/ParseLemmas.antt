@@ -1,10 +1,10 @@
 -- What readers of a line say of its parts they say of the line.
 use Rattle.std.proofs.Common.{◌≡◌, ℕ, false, List, ◌++◌, Option, Some, None, sym, ap, ◌∙◌, ℤ, Bool, true, [], subst, arith}
-use Rattle.std.specs.Prelude.{◌≢◌, ◌≤◌, IfNone, IfSome, codes, decimal, MatchBool, is_some, not}
+use Rattle.std.specs.Prelude.{◌≤◌, IfNone, IfSome, codes, decimal, MatchBool, is_some, not}
 use Rattle.std.proofs.lemmas.Bool.{false≢true}
 use Rattle.raster_model.specs.Limits.{is_raster_size}
 use Rattle.text_lines.specs.Numbers.{AreLongs, numbers_text}
-use Rattle.text_lines.specs.Parsing.{AreWords, IsParsedAs, behind}
+use Rattle.text_lines.specs.Parsing.{AreWords, IsParsedAs}
 use Rattle.text_parts.specs.Parts.{IsRasterSize}
 use Rattle.text_parts.specs.Text.{size_line}
 use Rattle.text_parts.proofs.UniqueLemmas.{words_unique}

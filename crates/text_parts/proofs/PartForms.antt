@@ -1,6 +1,6 @@
 -- Lines and grids as parts of texts.
-use Rattle.std.proofs.Common.{List, length, IsTrue, rules, inl, ◌≡◌, ℕ, ◌≤◌, ◌<◌, ℤ, pos, [], ◌++◌, Result, Ok, Err, ◌⊎◌, refl, ap, ◌∙◌, arith}
-use Rattle.std.specs.Prelude.{◌==◌, IfErr, IfOk, if◌then◌else◌}
+use Rattle.std.proofs.Common.{List, length, IsTrue, rules, inl, ◌≡◌, ℕ, pos, [], ◌++◌, Result, Ok, Err, refl, ap, ◌∙◌, arith}
+use Rattle.std.specs.Prelude.{IfErr, IfOk}
 use Rattle.std.proofs.lemmas.Int.{ints}
 use Rattle.std.proofs.lemmas.List.Elements.{All-from_recursion}
 use Rattle.raster_model.specs.Limits.{is_raster_size, IsSlope, IsSteepness}

@@ -24,7 +24,7 @@ whole_text : (bytes text rest : List ℕ) → bytes ≡ text ++ rest → rest �
 whole_text bytes text rest e f = sym (e ∙ ap (λ (l : List ℕ). text ++ l) f ∙ append-nil text)
 
 -- a shorter front is one of a longer
-front_of : (front rest text left_over : List ℕ) → front ++ rest ≡ text ++ left_over → length front ≤ length text → (s : List ℕ) × (front ++ s ≡ text)
+pub front_of : (front rest text left_over : List ℕ) → front ++ rest ≡ text ++ left_over → length front ≤ length text → (s : List ℕ) × (front ++ s ≡ text)
 front_of front rest text left_over e le = elim (fronts front text rest left_over e) [
   | inl f ↦ (f.0, sym f.1.0)
   | inr f ↦

@@ -24,16 +24,16 @@ module _ (F : Form) (code : IsCode F) where
   in_again : (n : ℕ) (before line : List ℕ) → IsInLineOf (NeedsMore F) n before line → IsInLineOf (Begins F) n before line
   in_again n before line h = let g = h.holds in record { whole = h.whole; holds = (g.0, g.1.1); inside = h.inside; number = h.number }
 
-  abbrev Caused : ℕ → List ℕ → List ℕ → Type 0
+  abbrev pub Caused : ℕ → List ℕ → List ℕ → Type 0
   Caused n text rest = BreaksTextAt F n text ⊎ (EndsTextIn F n text × (rest ≡ []))
 
-  abbrev Broken : ℕ → List ℕ → List ℕ → Type 0
+  abbrev pub Broken : ℕ → List ℕ → List ℕ → Type 0
   Broken n text rest = (k : ℕ) × ((n ≡ 0 + k) × (BreaksAt (NeedsMore F) F k text ⊎ (EndsIn (NeedsMore F) k text × (rest ≡ []))))
 
   ends_again : (n : ℕ) (text : List ℕ) → EndsIn (NeedsMore F) n text → EndsTextIn F n text
   ends_again n text h = ((h.0, h.1, (in_again n h.0 h.1 h.2.0, h.2.1)), λ f. text_not_cut F code.whole code.free n text [] text f (append-nil text) h)
 
-  caused : (n : ℕ) (text rest : List ℕ) → Broken n text rest → Caused n text rest
+  pub caused : (n : ℕ) (text rest : List ℕ) → Broken n text rest → Caused n text rest
   caused n text rest (k, (e, inl b)) = inl (subst (λ (x : ℕ). BreaksTextAt F x text) (let q : k ≡ n = omega (arith, e) in q) (b.0, b.1, (in_again k b.0 b.1 b.2.0, b.2.1)))
   caused n text rest (k, (e, inr b)) = inr (subst (λ (x : ℕ). EndsTextIn F x text) (let q : k ≡ n = omega (arith, e) in q) (ends_again k text b.0), b.1)
 
@@ -43,14 +43,14 @@ module _ (F : Form) (code : IsCode F) where
   cause_of_lines c line_faults.ReadFault h = h
   cause_of_lines c line_faults.Memory h = tt
 
-  abbrev IsRead : ℕ → List ℕ → List ℕ → Type 0
+  abbrev pub IsRead : ℕ → List ℕ → List ℕ → Type 0
   IsRead now text rest = F text × (now ≡ 0 + lines_in text)
 
   -- a line after a text is none of it
-  in_next : (n now : ℕ) (p line rest : List ℕ) → n ≡ now + 1 → IsRead now p rest → All IsInLine line → IsInLineOf (Begins F) n p line
+  pub in_next : (n now : ℕ) (p line rest : List ℕ) → n ≡ now + 1 → IsRead now p rest → All IsInLine line → IsInLineOf (Begins F) n p line
   in_next n now p line rest e f a = record { whole = code.whole p f.0; holds = ([], subst F (sym (append-nil p)) f.0); inside = a; number = omega (arith, e, f.1) }
 
-  more_caused : (now n : ℕ) (p m q r : List ℕ) → n ≡ now + 1 → IsRead now p m → IsLineMore q r → Caused n (p ++ q) r
+  pub more_caused : (now n : ℕ) (p m q r : List ℕ) → n ≡ now + 1 → IsRead now p m → IsLineMore q r → Caused n (p ++ q) r
   more_caused now n p m q r e f (inl (line, (a, h))) = inl (p, line, (in_next n now p line m e f a, (ap (λ (l : List ℕ). p ++ l) h, λ b. longer q b.0 line h (code.free p (q ++ b.0) f.0 (subst F (append_assoc p q b.0) b.1)))))
   more_caused now n p m q r e f (inr (a, (some, none))) = inr (((p, q, (in_next n now p q m e f a, refl)), λ b. some (code.free p q f.0 b)), none)
 

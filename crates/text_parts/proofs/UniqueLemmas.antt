@@ -1,6 +1,6 @@
 -- No two lines of a kind that tell different things have one text.
-use Rattle.std.proofs.Common.{◌≡◌, ℕ, ℤ, ◌+◌, ◌≤◌, List, ◌∷◌, ◌++◌, get_or, drop, inr, refl, ap, ap₂, arith, ◌∙◌}
-use Rattle.std.specs.Prelude.{◌≢◌, codes, ◌↔◌, ◌&&◌, ◌==◌, ℕ}
+use Rattle.std.proofs.Common.{◌≡◌, ℕ, ℤ, List, ◌∷◌, ◌++◌, get_or, drop, inr, refl, ap, ap₂, arith, ◌∙◌}
+use Rattle.std.specs.Prelude.{codes, ℕ}
 use Rattle.std.proofs.lemmas.List.{append_cancel_left}
 use Rattle.std.specs.Fmt.{signed_decimal}
 use Rattle.std.proofs.lemmas.Fmt.{signed_decimal_injective}

@@ -1,5 +1,5 @@
 -- Parts of texts, and what their readers return: words of helpers.
-use Rattle.std.specs.Prelude.{◌≡◌, ℕ, ℤ, List, ◌++◌, Option, MatchOption, ◌≢◌, ◌⊎◌, ◌+◌, ◌<◌, IsTrue, [], ◌∷◌, All, ⊤}
+use Rattle.std.specs.Prelude.{◌≡◌, ℕ, ℤ, List, ◌++◌, Option, MatchOption, ◌≢◌, ◌⊎◌, ◌+◌, IsTrue, [], ◌∷◌, All, ⊤}
 use Rattle.std.specs.Global.{Vec}
 use Rattle.insar_ports.specs.Bytes.{HasMore, HasRisen}
 use Rattle.insar_ports.specs.Calls.{Call, Takes}

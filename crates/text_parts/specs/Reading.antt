@@ -1,5 +1,5 @@
 -- Texts that are read to the end of the input: why one is not read, and what reading it promises.
-use Rattle.std.specs.Prelude.{◌≡◌, ◌⊎◌, ℕ, ◌≤◌, List, [], ◌++◌, length, Some, IfErr, IfOk, Result, Ok, Err, ⊤}
+use Rattle.std.specs.Prelude.{◌≡◌, ◌⊎◌, ℕ, ◌≤◌, ◌<◌, List, [], ◌++◌, length, take, Some, IfErr, IfOk, Result, Ok, Err, ⊤}
 use Rattle.insar_ports.specs.Bytes.{HasMore, HasRisen}
 use Rattle.insar_ports.specs.Calls.{Call, Takes}
 use Rattle.text_lines.specs.Forms.{Form, Begins, BreaksAt, EndsIn}
@@ -49,3 +49,15 @@ IsTextRefusedAt c n (Err Memory) = ⊤
 -- bytes have no two first broken lines, however many are let out, and a text of the form has none
 abbrev pub BrokenTextLineIsOne : Form → Type 0
 BrokenTextLineIsOne F = (bytes : List ℕ) (room more m n : ℕ) → HasBrokenTextLine F room m bytes → HasBrokenTextLine F more n bytes → (m ≡ n) × (F bytes → ⊥)
+
+-- so many of the bytes are let out, and the limit cuts a line after lines with which a text of the form begins
+abbrev pub IsTextCutIn : Form → ℕ → List ℕ → Type 0
+IsTextCutIn F room bytes = (room < length bytes) × ((n : ℕ) × EndsIn (Begins F) n (take room bytes))
+
+-- bytes are a text of the form and all let out, or have a first broken line, or the limit cuts a line
+abbrev pub TextOrBrokenLine : Form → Type 0
+TextOrBrokenLine F = (room : ℕ) (bytes : List ℕ) → ((length bytes ≤ room) × F bytes) ⊎ (((n : ℕ) × HasBrokenTextLine F room n bytes) ⊎ IsTextCutIn F room bytes)
+
+-- no line is broken before one that the limit cuts
+abbrev pub CutTextHasNoBreak : Form → Type 0
+CutTextHasNoBreak F = (room n : ℕ) (bytes : List ℕ) → HasBrokenTextLine F room n bytes → IsTextCutIn F room bytes → ⊥

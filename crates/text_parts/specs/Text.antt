@@ -1,5 +1,5 @@
 -- The lines that several texts have: the size of a raster, a rule of weights, and the terms.
-use Rattle.std.specs.Prelude.{ℕ, ◌+◌, ◌-◌, ◌*◌, ◌/◌, ◌==◌, ℤ, if◌then◌else◌, List, [], ◌∷◌, ◌++◌, codes}
+use Rattle.std.specs.Prelude.{ℕ, ℤ, List, [], ◌∷◌, ◌++◌, codes}
 use Rattle.raster_model.specs.declared.weights.RuleKind.{RuleKind}
 use Rattle.text_lines.specs.Numbers.{number_text}
 use Rattle.text_lines.specs.Text.{field_text, rule_word}

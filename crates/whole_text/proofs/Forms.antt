@@ -1,9 +1,8 @@
 -- The text of a surface over the whole raster as a form: the lines before the grid, and then grid, faces and the line `end`.
-use Rattle.std.proofs.Common.{◌≡◌, ℕ, ◌-◌, ◌+◌, ◌*◌, ◌≤◌, ◌<◌, ℤ, pos, IsTrue, List, [], ◌∷◌, ◌++◌, length, inl, refl, sym, ap, ap₂, ◌∙◌, append_assoc, arith}
+use Rattle.std.proofs.Common.{◌≡◌, ℕ, ◌-◌, ◌+◌, ◌*◌, ◌≤◌, ◌<◌, ℤ, pos, IsTrue, List, [], ◌∷◌, ◌++◌, length, inl, refl, sym, ap, ◌∙◌, arith}
 use Rattle.std.specs.Prelude.{codes}
 use Rattle.std.proofs.lemmas.List.{append_cancel_left, length-append}
 use Rattle.std.proofs.lemmas.List.Elements.{All-from_recursion}
-use Rattle.raster_model.specs.declared.weights.RuleKind.{RuleKind}
 use Rattle.raster_model.specs.Limits.{IsSteepness, is_raster_size}
 use Rattle.raster_model.specs.Sums.{Field}
 use Rattle.insar_ports.specs.Lines.{IsInLine}
@@ -13,9 +12,9 @@ use Rattle.text_lines.specs.Parsing.{IsAnyRule, IsWide}
 use Rattle.text_lines.specs.Text.{field_text}
 use Rattle.text_lines.proofs.FieldLemmas.{all_both, last_unique}
 use Rattle.text_lines.proofs.FormLemmas.{ComesAfter, ComesFirst, InLine}
-use Rattle.text_lines.proofs.NumberLemmas.{numbers_unique, row_numbers}
+use Rattle.text_lines.proofs.NumberLemmas.{row_numbers}
 use Rattle.text_lines.proofs.NumberLines.{line_short, text_in_line, zero_long}
-use Rattle.text_lines.proofs.SeqLemmas.{IsCode, SameForms, after_then, first_same, same_code}
+use Rattle.text_lines.proofs.SeqLemmas.{IsCode, SameForms, first_same, same_code}
 use Rattle.grid_writer.specs.Grid.{grid_text}
 use Rattle.grid_writer.specs.Grids.{AreLong}
 use Rattle.text_parts.specs.Parts.{IsRamp, IsRasterSize}
@@ -24,11 +23,11 @@ use Rattle.text_parts.specs.Terms.{TermsOf}
 use Rattle.text_parts.specs.Text.{ended_line, known_line, ramp_line, rule_line, size_line, steep_line}
 use Rattle.text_parts.proofs.LineForms.{line_first, lines_after, lines_part}
 use Rattle.text_parts.proofs.LineLemmas.{Fits, fits_both, fits_more, wide_fits, word_fits, word_in_line}
-use Rattle.text_parts.proofs.PartForms.{grid_part, known_kind, ramp_kind, rule_kind, size_kind, steep_kind, level}
-use Rattle.text_parts.proofs.ReadsLemmas.{IsLineKind, IsPart, One, Then, after_same, line_one, line_part, short_kind, then_after, then_apart, then_code, then_first, turn_after, turn_first, turn_one, turn_part}
+use Rattle.text_parts.proofs.PartForms.{grid_part, known_kind, ramp_kind, rule_kind, size_kind, steep_kind}
+use Rattle.text_parts.proofs.ReadsLemmas.{IsLineKind, IsPart, One, Then, after_same, line_one, line_part, short_kind, then_after, then_apart, then_code, then_first, turn_one, turn_part}
 use Rattle.text_parts.proofs.UniqueLemmas.{ramp_unique, rule_unique, size_unique, steep_unique}
 use Rattle.whole_text.specs.Parts.{AreRows, HeadOf, IsFacesRow, IsHead, head_parts, lines_of_rows}
-use Rattle.whole_text.specs.Text.{AreCellFaces, IsWhole, IsWholeText, WholeOf, cell_rows, cost_line, face_row, face_rows, row_of, whole_head, whole_text}
+use Rattle.whole_text.specs.Text.{AreCellFaces, IsWhole, IsWholeText, WholeOf, cell_rows, cost_line, face_row, face_rows, row_of, whole_text}
 use Rattle.whole_text.proofs.RowLemmas.{cells_stand, faces_are, list_length, list_longs, list_of, rows_make, rows_told}
 
 -- ---- kinds of lines

@@ -3,3 +3,4 @@ pub mod Forms
 pub mod ReadLemmas
 pub mod SameLemmas
 pub mod ValueLemmas
+pub mod DecideLemmas

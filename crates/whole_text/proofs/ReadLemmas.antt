@@ -1,17 +1,16 @@
 -- What readers of the parts of the text did, one after the other.
-use Rattle.std.proofs.Common.{◌≡◌, ℕ, ◌+◌, ◌-◌, ◌*◌, ◌<◌, ℤ, IsTrue, List, [], ◌∷◌, ◌++◌, length, Result, Ok, Err, inl, inr, refl, sym, ap, subst, ◌∙◌, arith}
+use Rattle.std.proofs.Common.{◌≡◌, ℕ, ◌+◌, ◌-◌, ◌*◌, ℤ, List, ◌++◌, length, Result, Ok, Err, refl, sym, ap, ◌∙◌}
 use Rattle.std.specs.Global.{Vec}
 use Rattle.std.specs.Prelude.{IfOk}
 use Rattle.text_lines.specs.declared.fault.LineFault.{LineFault}
 use Rattle.text_lines.specs.Numbers.{AreLongs}
-use Rattle.text_lines.specs.Text.{texts_below}
 use Rattle.text_lines.proofs.StepLemmas.{cause_same}
 use Rattle.text_lines.proofs.TextLemmas.{texts_more, texts_same}
 use Rattle.text_parts.specs.Parts.{list_in}
 use Rattle.text_parts.specs.Steps.{LinePlace, ReadsPart, TextOf, between}
 use Rattle.text_parts.specs.Text.{ended_line}
 use Rattle.text_parts.proofs.ReadsLemmas.{reads_ok, took}
-use Rattle.whole_text.specs.Parts.{AreRows, HeadOf, IsFacesRow, IsHead, head_in, head_parts, lines_of_rows, rows_in}
+use Rattle.whole_text.specs.Parts.{AreRows, HeadOf, IsHead, head_parts, lines_of_rows, rows_in}
 use Rattle.whole_text.specs.Text.{AreCellFaces, IsWhole, WholeOf, cell_rows, face_row, face_rows, row_of, whole_text}
 use Rattle.whole_text.proofs.Forms.{cells_same}
 use Rattle.whole_text.proofs.RowLemmas.{cells_counted, faces_are, row_before, row_new}

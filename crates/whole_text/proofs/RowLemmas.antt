@@ -1,19 +1,18 @@
 -- Rows of a list of faces, and the list that rows make.
-use Rattle.std.proofs.Common.{◌≡◌, ℕ, zero, suc, ◌+◌, ◌-◌, ◌*◌, ◌≤◌, ◌<◌, ℤ, List, [], ◌∷◌, ◌++◌, All, drop, length, take, inl, inr, refl, sym, ap, subst, ◌∙◌, arith, mul-le-mul}
+use Rattle.std.proofs.Common.{◌≡◌, ℕ, zero, suc, ◌+◌, ◌-◌, ◌*◌, ◌≤◌, ◌<◌, ℤ, List, [], ◌++◌, drop, length, take, inl, inr, refl, sym, ap, ◌∙◌, arith, mul-le-mul}
 use Rattle.std.proofs.Math.Nat.{mul_comm}
-use Rattle.std.specs.Prelude.{◌==◌, if◌then◌else◌}
-use Rattle.std.proofs.lemmas.Bool.{cases_Bool, cases_lt, eqb-true}
-use Rattle.std.proofs.lemmas.List.{append-nil, drop-append-le, length-append, length-drop, length-take-le, drop-take, take-append-drop, take-append-le, take-take, take_all}
-use Rattle.std.proofs.lemmas.List.Elements.{All-append, All-drop, All-from_recursion, All-take}
+use Rattle.std.specs.Prelude.{◌==◌}
+use Rattle.std.proofs.lemmas.Bool.{cases_Bool, eqb-true}
+use Rattle.std.proofs.lemmas.List.{drop-append-le, length-append, length-drop, length-take-le, drop-take, take-append-drop, take-append-le, take-take, take_all}
+use Rattle.std.proofs.lemmas.List.Elements.{All-append, All-drop, All-take}
 use Rattle.std.proofs.Math.Seq.{drop-append_seam}
 use Rattle.sums_and_lists.proofs.Orders.{below_or_last}
 use Rattle.text_lines.specs.Numbers.{AreLongs, FitsLong}
-use Rattle.text_lines.specs.Text.{texts_below}
 use Rattle.text_lines.proofs.TextLemmas.{texts_same}
 use Rattle.text_parts.specs.Text.{ended_line}
 use Rattle.text_parts.proofs.PartForms.{none_long}
-use Rattle.whole_text.specs.Parts.{AreRows, IsFacesRow, lines_of_rows}
-use Rattle.whole_text.specs.Text.{AreCellFaces, cell_rows, face_row, face_rows, row_of, rows_text}
+use Rattle.whole_text.specs.Parts.{AreRows, lines_of_rows}
+use Rattle.whole_text.specs.Text.{AreCellFaces, cell_rows, face_row, face_rows, row_of}
 
 -- ---- a list and a row after it
 

@@ -1,8 +1,7 @@
 -- No two surfaces over the whole raster have one text.
-use Rattle.std.proofs.Common.{◌≡◌, ℕ, ◌-◌, ℤ, List, [], ◌∷◌, ◌++◌, refl, sym, ap, subst, ◌∙◌}
+use Rattle.std.proofs.Common.{◌≡◌, ℕ, ◌-◌, ℤ, List, ◌++◌, sym, ap, subst, ◌∙◌}
 use Rattle.std.specs.Prelude.{codes}
 use Rattle.std.proofs.lemmas.List.{append_cancel_left, append_cancel_right}
-use Rattle.grid_writer.specs.Grid.{grid_text}
 use Rattle.grid_writer.specs.Grids.{AreLong, GridOf}
 use Rattle.grid_writer.proofs.GridReads.{grids_cancel}
 use Rattle.text_lines.specs.Numbers.{numbers_text}
@@ -10,10 +9,10 @@ use Rattle.text_lines.proofs.NumberLemmas.{numbers_unique}
 use Rattle.text_parts.specs.Text.{ended_line, known_line, line_end}
 use Rattle.text_parts.proofs.LineForms.{lines_apart}
 use Rattle.text_parts.proofs.UniqueLemmas.{same_terms}
-use Rattle.whole_text.specs.Parts.{HeadOf, IsFacesRow, lines_of_rows}
-use Rattle.whole_text.specs.Reading.{IsSameWhole, WholeTextsAreUnique}
-use Rattle.whole_text.specs.Text.{AreCellFaces, IsWhole, WholeOf, cell_rows, face_row, face_rows, row_of}
-use Rattle.whole_text.proofs.Forms.{TailOf, head_of, inside, tail_of, tail_text, whole_apart}
+use Rattle.whole_text.specs.Parts.{HeadOf, IsFacesRow}
+use Rattle.whole_text.specs.Reading.{WholeTextsAreUnique}
+use Rattle.whole_text.specs.Text.{AreCellFaces, WholeOf, cell_rows, face_row, face_rows, row_of}
+use Rattle.whole_text.proofs.Forms.{inside, tail_of, tail_text, whole_apart}
 use Rattle.whole_text.proofs.RowLemmas.{cells_counted, cells_stand, faces_are, same_rows}
 
 -- the faces of one raster

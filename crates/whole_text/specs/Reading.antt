@@ -1,5 +1,5 @@
 -- Why the text of a surface over the whole raster is not read, and what reading it promises.
-use Rattle.std.specs.Prelude.{◌≡◌, ℕ, ◌<◌, ◌⊎◌, List, Result}
+use Rattle.std.specs.Prelude.{◌≡◌, ℕ, ◌<◌, List, Result}
 use Rattle.insar_ports.specs.Calls.{Call}
 use Rattle.text_lines.specs.declared.fault.LineFault.{LineFault}
 use Rattle.grid_writer.specs.Grids.{value_at}

@@ -1,5 +1,5 @@
 -- The text of a surface over the whole raster with what certifies it, in the one spelling of this project.
-use Rattle.std.specs.Prelude.{◌≡◌, ℕ, ◌-◌, ◌*◌, ◌==◌, ℤ, IsTrue, if◌then◌else◌, List, ◌∷◌, ◌++◌, codes, drop, length, take}
+use Rattle.std.specs.Prelude.{◌≡◌, ℕ, ◌-◌, ◌*◌, ◌==◌, ℤ, IsTrue, if◌then◌else◌, List, ◌++◌, codes, drop, length, take}
 use Rattle.raster_model.specs.declared.weights.RuleKind.{RuleKind}
 use Rattle.raster_model.specs.Limits.{IsSlope, IsSteepness, is_raster_size}
 use Rattle.raster_model.specs.Sums.{Field}

@@ -1,4 +1,4 @@
-use Rattle.std.proofs.Common.{◌∙◌, arith, of_z, refl, rules, to_z, w64, SFits}
+use Rattle.std.proofs.Common.{◌∙◌, arith, of_z, refl, to_z, w64, SFits}
 use Rattle.std.proofs.lemmas.Int.{to_z-of_z}
 use Rattle.std.proofs.lemmas.List.{length-set}
 use Rattle.raster_model.specs.Masks.{open_at}

@@ -6,8 +6,8 @@ use std::alloc::{AllocError, Global};
 /// No potential and no time may pass this.
 const LIMIT: u32 = 1 << 30;
 
-/// How many arcs are followed at most for each cell.
-const STEPS: u64 = 4096;
+/// How many arcs are followed for each cell, by which no forest that was measured gave up.
+pub const PATIENCE: u64 = 4096;
 
 /// How trees grow in a list of cells: rows of `stride` cells, of which the first row and the first cell of each row are
 /// outside, as is what lies beyond the list.
@@ -25,19 +25,22 @@ pub struct Forest {
     members: Vec<u32>,
     /// The cells with something to send or to be sent, which `balance` serves.
     pub listed: Vec<u32>,
+    /// The cells of a block that `solve_block` has opened, and which have something to send or to be sent.
+    pub(crate) opened: Vec<u32>,
     /// How many arcs may be followed yet.
     pub(crate) steps: u64,
 }
 
 impl Forest {
     /// A forest with no tree. The first unit across an edge costs its weight, which is at most `greatest`, and each further
-    /// one `steep` times that, which is from 1 to 16. In all it follows at most 4,096 arcs for each of `count` cells. It fails only
-    /// for lack of memory.
+    /// one `steep` times that, which is from 1 to 16. In all it follows at most `patience` arcs for each of `count` cells. It
+    /// fails only for lack of memory.
     pub fn new(
         alloc: Global,
         steep: u32,
         greatest: u32,
         count: usize,
+        patience: u64,
     ) -> Result<Forest, AllocError> {
         Ok(Forest {
             stride: 1,
@@ -46,7 +49,8 @@ impl Forest {
             queue: Queue::new(alloc, steep.wrapping_mul(greatest).wrapping_mul(2))?,
             members: Vec::new(alloc),
             listed: Vec::new(alloc),
-            steps: (count as u64).wrapping_mul(STEPS),
+            opened: Vec::new(alloc),
+            steps: (count as u64).wrapping_mul(patience),
         })
     }
 
@@ -134,6 +138,17 @@ impl Forest {
             self.invite::<SIGN>(cells, place)?;
         }
         Ok(())
+    }
+
+    /// Takes all cells out of their trees, at the present time.
+    pub(crate) fn fold<const SIGN: i32>(&self, cells: &mut [Cell]) {
+        let time = self.queue.present().wrapping_mul(SIGN);
+        for cell in cells {
+            if cell.is_in_tree() {
+                cell.height = cell.height.wrapping_sub(time);
+                cell.step = FREE;
+            }
+        }
     }
 
     /// Makes the list of members long enough for four more than `count`.

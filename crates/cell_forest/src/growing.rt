@@ -13,10 +13,19 @@ struct Way {
 
 impl Forest {
     /// Balances the listed cells: first what is to be sent, then what is lacking. It gives up if a number does not fit or
-    /// the steps run out.
+    /// the steps run out; then the flows and the potentials still fit each other, and no cell is in a tree.
     pub fn balance(&mut self, cells: &mut [Cell]) -> Result<(), Stop> {
-        self.grow::<1>(cells)?;
-        self.grow::<-1>(cells)
+        self.grow_or_fold::<1>(cells)?;
+        self.grow_or_fold::<-1>(cells)
+    }
+
+    /// Grows trees, and takes them apart if that is given up.
+    fn grow_or_fold<const SIGN: i32>(&mut self, cells: &mut [Cell]) -> Result<(), Stop> {
+        let outcome = self.grow::<SIGN>(cells);
+        if let Err(Stop::GivenUp) = outcome {
+            self.fold::<SIGN>(cells);
+        }
+        outcome
     }
 
     /// Sends what the listed cells have to send, times `SIGN`, to those that lack it and outside.

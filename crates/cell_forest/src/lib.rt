@@ -11,5 +11,5 @@ mod stop;
 pub use crate::cell::{
     BEYOND, Cell, Crossing, DOWN, FREE, LEFT, OUTSIDE, RIGHT, ROOT, UP, cell_at, crossing_of, push,
 };
-pub use crate::forest::Forest;
+pub use crate::forest::{Forest, PATIENCE};
 pub use crate::stop::Stop;

@@ -2,6 +2,10 @@ use crate::cell::{Cell, FREE, LEFT, OUTSIDE, UP, cell_at};
 use crate::forest::Forest;
 use crate::stop::Stop;
 use std::alloc::AllocError;
+use std::mem;
+
+/// The side of the squares from whose cells trees grow at one time. The fastest memories hold about what such trees reach.
+const SQUARE: u32 = 128;
 
 impl Forest {
     /// Solves the block of the columns from `start` to before `end` of a list of rows, in which blocks of the side `solved`
@@ -25,7 +29,43 @@ impl Forest {
             self.open_row(cells, first, (start, end), step)?;
             first = first.wrapping_add(self.stride);
         }
-        self.balance(cells)
+        let across = end.wrapping_sub(start).div_ceil(SQUARE);
+        let along = u32::try_from(rows).unwrap_or(1).div_ceil(SQUARE);
+        if across <= 1 && along <= 1 {
+            return self.balance(cells);
+        }
+        mem::swap(&mut self.listed, &mut self.opened);
+        self.balance_squares(cells, start, across, along)
+    }
+
+    /// Balances the cells that were opened, square by square. The first square begins at the column `start`.
+    fn balance_squares(
+        &mut self,
+        cells: &mut [Cell],
+        start: u32,
+        across: u32,
+        along: u32,
+    ) -> Result<(), Stop> {
+        for number in 0..across.wrapping_mul(along) {
+            self.list_square(number, start, across)?;
+            self.balance(cells)?;
+        }
+        Ok(())
+    }
+
+    /// Lists the cells of a square that were opened. A row has `across` squares.
+    fn list_square(&mut self, number: u32, start: u32, across: u32) -> Result<(), AllocError> {
+        let stride = self.stride.max(1);
+        self.listed.clear();
+        for index in 0..self.opened.len() {
+            let place = self.opened.get(index).copied().unwrap_or(0);
+            let column = (place % stride).wrapping_sub(start) / SQUARE;
+            let row = place / stride / SQUARE;
+            if row.wrapping_mul(across).wrapping_add(column) == number {
+                self.listed.push(place)?;
+            }
+        }
+        Ok(())
     }
 
     /// Takes every `step`th cell of a row of a block from the outside. `first` is the place of the row's first cell.

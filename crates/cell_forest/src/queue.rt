@@ -104,6 +104,12 @@ impl Queue {
         }
     }
 
+    /// The present time.
+    #[inline(always)]
+    pub(crate) fn present(&self) -> i32 {
+        self.start.wrapping_add(self.slot.cast_signed())
+    }
+
     /// Puts an event at a time that is not past.
     #[inline(always)]
     pub(crate) fn put(&mut self, time: i32, arc: u32) -> Result<(), AllocError> {
@@ -114,8 +120,7 @@ impl Queue {
     /// on it: the event is written behind those of the present time otherwise, and not counted.
     #[inline(always)]
     pub(crate) fn put_if(&mut self, holds: bool, time: i32, arc: u32) -> Result<(), AllocError> {
-        let present = self.start.wrapping_add(self.slot.cast_signed());
-        let time = if holds { time } else { present };
+        let time = if holds { time } else { self.present() };
         let ahead = time.wrapping_sub(self.start).cast_unsigned();
         let number = if ahead < NEAR {
             ahead

@@ -1,6 +1,6 @@
 use crate::grid::Grid;
 use crate::loading::Tile;
-use cell_forest::{Cell, Forest, Stop};
+use cell_forest::{Cell, Forest, PATIENCE, Stop};
 use std::alloc::{AllocError, Global};
 
 /// The side of the smallest blocks, in cells.
@@ -14,7 +14,7 @@ impl Tile {
     /// some are left as they are.
     pub(crate) fn solve(&mut self, alloc: Global, grid: Grid<'_>) -> Result<(), AllocError> {
         let greatest = digits(grid.right) | digits(grid.down);
-        let mut forest = Forest::new(alloc, grid.steep, greatest, self.cells.len())?;
+        let mut forest = Forest::new(alloc, grid.steep, greatest, self.cells.len(), PATIENCE)?;
         forest.set_stride(self.stride);
         match self.solve_levels(&mut forest) {
             Err(Stop::Memory) => Err(AllocError),

@@ -1,6 +1,7 @@
-use crate::waters::{Ground, LAKE, SEA, Waters};
+use crate::guess::Task;
+use crate::waters::{Ground, LAKE, SEA};
 use cell_forest::{Cell, FREE, OUTSIDE};
-use raster_model::{Mask, Scene, Terms, wrapped_ramp};
+use raster_model::{Scene, Terms, wrapped_ramp};
 use std::alloc::{AllocError, Global};
 use std::mem;
 
@@ -58,9 +59,7 @@ impl Block {
     /// column of the raster there are places that are no cells. The first row and the first column of the block are outside.
     pub(crate) fn build(
         &mut self,
-        scene: &Scene,
-        mask: &Mask,
-        waters: &Waters,
+        task: &Task<'_>,
         (x, y): (u32, u32),
         (across, along): (u32, u32),
         listed: &mut Vec<u32>,
@@ -68,11 +67,11 @@ impl Block {
         self.cells.clear();
         listed.clear();
         let before = y.wrapping_sub(1);
-        load(scene, mask, waters, (x, before), across, &mut self.above)?;
+        load(task, (x, before), across, &mut self.above)?;
         for row in 0..along {
             let y = y.wrapping_add(row);
-            load(scene, mask, waters, (x, y), across, &mut self.here)?;
-            self.build_row(scene, (x, y), row == 0)?;
+            load(task, (x, y), across, &mut self.here)?;
+            self.build_row(task.scene, (x, y), row == 0)?;
             if row > 0 {
                 self.list_row(row.wrapping_mul(across), across, listed)?;
             }
@@ -143,13 +142,12 @@ impl Block {
 
 /// Loads a row of pixels: the one on the left of the pixel (`x`, `y`), and as many as `across` tells from that on.
 fn load(
-    scene: &Scene,
-    mask: &Mask,
-    waters: &Waters,
+    task: &Task<'_>,
     (x, y): (u32, u32),
     across: u32,
     pixels: &mut Vec<Pixel>,
 ) -> Result<(), AllocError> {
+    let (scene, mask) = (task.scene, task.mask);
     let phases = row(&scene.phase.samples, y, scene.phase.width);
     let slope = scene.terms.slope(false);
     let mut x = x.wrapping_sub(1);
@@ -165,7 +163,7 @@ fn load(
             } else {
                 0
             },
-            step: step_by(waters.ground(x, y)),
+            step: step_by(task.waters.ground(x, y)),
         })?;
         left = phase;
         x = x.wrapping_add(1);

@@ -1,37 +1,34 @@
-use crate::waters::{LAKE, SEA, Waters};
+use crate::guess::Task;
+use crate::waters::{LAKE, SEA};
 use cell_forest::{
     Cell, DOWN, FREE, Forest, LEFT, OUTSIDE, RIGHT, ROOT, Stop, UP, cell_at, crossing_of, push,
 };
-use raster_model::Scene;
 use std::alloc::{AllocError, Global};
 
-/// Balances the lakes and the sea, where all other cells are balanced. What a lake has to send is gathered in one of its
-/// cells, at no cost, and then balanced over the whole. What has reached the sea flows on to the border, at no cost.
-pub(crate) fn drain(
+/// Balances the lakes, where all other cells but those of the sea are balanced. What a lake has to send is gathered in one of
+/// its cells, at no cost, and then balanced over the whole.
+pub(crate) fn fill_lakes(alloc: Global, task: &Task<'_>, cells: &mut [Cell]) -> Result<(), Stop> {
+    if !task.waters.has_lakes {
+        return Ok(());
+    }
+    let mut drainage = Drainage::of(alloc, task, cells.len())?;
+    drainage.fill_lakes(cells)?;
+    drainage.forest.balance(cells)
+}
+
+/// Lets what has reached the sea flow on to the border, at no cost.
+pub(crate) fn drain_sea(
     alloc: Global,
-    scene: &Scene,
-    waters: &Waters,
+    task: &Task<'_>,
     cells: &mut [Cell],
-) -> Result<(), Stop> {
-    let greatest = u32::from(scene.weights.maxval);
-    let width = scene.phase.width;
-    let mut forest = Forest::new(alloc, scene.terms.steep, greatest, cells.len())?;
-    forest.set_stride(width);
-    let mut drainage = Drainage {
-        forest,
-        width,
-        members: Vec::new(alloc),
-    };
-    if waters.has_lakes {
-        drainage.fill_lakes(cells)?;
-        drainage.forest.balance(cells)?;
+) -> Result<(), AllocError> {
+    if !task.waters.has_sea {
+        return Ok(());
     }
-    if waters.has_sea {
-        drainage.members.clear();
-        drainage.find_mouths(cells, scene.phase.height)?;
-        drainage.follow_waters(cells, SEA)?;
-        drainage.pour_all(cells, OUTSIDE);
-    }
+    let mut drainage = Drainage::of(alloc, task, cells.len())?;
+    drainage.find_mouths(cells, task.scene.phase.height)?;
+    drainage.follow_waters(cells, SEA)?;
+    drainage.pour_all(cells, OUTSIDE);
     Ok(())
 }
 
@@ -46,6 +43,20 @@ struct Drainage {
 }
 
 impl Drainage {
+    /// The drainage of as many cells, with nothing flowing yet.
+    fn of(alloc: Global, task: &Task<'_>, count: usize) -> Result<Drainage, AllocError> {
+        let scene = task.scene;
+        let width = scene.phase.width;
+        let greatest = u32::from(scene.weights.maxval);
+        let mut forest = Forest::new(alloc, scene.terms.steep, greatest, count, task.patience)?;
+        forest.set_stride(width);
+        Ok(Drainage {
+            forest,
+            width,
+            members: Vec::new(alloc),
+        })
+    }
+
     /// Takes all lakes from the outside, and lists the cells in which what they have to send is gathered.
     fn fill_lakes(&mut self, cells: &mut [Cell]) -> Result<(), AllocError> {
         self.forest.listed.clear();

@@ -1,51 +1,90 @@
-use crate::draining::drain;
+use crate::draining::{drain_sea, fill_lakes};
 use crate::integrating::{cycles, faces};
 use crate::levels::solve_levels;
+use crate::reaching::Reached;
 use crate::waters::Waters;
-use cell_forest::{BEYOND, Stop};
+use cell_forest::{BEYOND, Cell, PATIENCE, Stop};
 use raster_model::{Mask, Scene};
 use std::alloc::{AllocError, Global};
 use std::thread::Threads;
 
-/// Whole cycles above the phase at the pixels, and faces of the cells, both in row order.
+/// What was guessed.
 #[derive(Drop)]
-pub struct Guess {
-    pub cycles: Vec<i64>,
-    pub faces: Vec<i64>,
+pub enum Guess {
+    /// A surface, and the faces that certify it: whole cycles above the phase at the pixels, and faces of the cells, both in
+    /// row order.
+    Surface { cycles: Vec<i64>, faces: Vec<i64> },
+    /// What was reached before the guess gave up.
+    Reached(Reached),
+}
+
+/// A scene under a mask, and how it is solved.
+#[derive(Drop)]
+pub(crate) struct Task<'a> {
+    pub(crate) scene: &'a Scene,
+    pub(crate) mask: &'a Mask,
+    pub(crate) waters: &'a Waters,
+    /// How many arcs are followed at most for each cell.
+    pub(crate) patience: u64,
 }
 
 /// Guesses the surface that costs least over the whole raster, and the faces that certify it. The cycles are 0 at the
 /// first open pixel. At most `workers` threads work at once, but at least one does; the guess does not depend on how many.
-/// Nothing is promised of it, but it is right in every test. None if it gives up, since a number did not fit or the steps
-/// ran out. It fails only for lack of memory.
+/// If it gives up, since a number did not fit or the steps ran out, it tells what it has reached. Nothing is promised of
+/// it, but it is right in every test. It fails only for lack of memory.
 pub fn guess_whole<R: Threads + Sync>(
     rt: &R,
     alloc: Global,
     scene: &Scene,
     mask: &Mask,
     workers: u32,
-) -> Result<Option<Guess>, AllocError> {
-    match solve(rt, alloc, scene, mask, workers) {
-        Ok(guess) => Ok(Some(guess)),
-        Err(Stop::GivenUp) => Ok(None),
-        Err(Stop::Memory) => Err(AllocError),
-    }
+) -> Result<Guess, AllocError> {
+    guess_whole_within(rt, alloc, scene, mask, workers, PATIENCE)
 }
 
-/// Solves all blocks, level by level, and integrates.
-fn solve<R: Threads + Sync>(
+/// Guesses as `guess_whole` does, but gives up after `patience` steps for each cell of a strip of blocks.
+pub fn guess_whole_within<R: Threads + Sync>(
     rt: &R,
     alloc: Global,
     scene: &Scene,
     mask: &Mask,
     workers: u32,
-) -> Result<Guess, Stop> {
+    patience: u64,
+) -> Result<Guess, AllocError> {
     let mut cells = vec![in alloc; BEYOND; scene.phase.samples.len()]?;
     let waters = Waters::of(alloc, mask)?;
-    solve_levels(rt, alloc, scene, mask, &waters, &mut cells, workers)?;
-    drain(alloc, scene, &waters, &mut cells)?;
-    Ok(Guess {
+    let task = Task {
+        scene,
+        mask,
+        waters: &waters,
+        patience,
+    };
+    let is_solved = solve(rt, alloc, &task, &mut cells, workers)?;
+    drain_sea(alloc, &task, &mut cells)?;
+    if !is_solved {
+        return Ok(Guess::Reached(Reached::of(alloc, &cells, scene.phase.width)?));
+    }
+    Ok(Guess::Surface {
         cycles: cycles(rt, alloc, scene, mask, &cells, workers)?,
         faces: faces(rt, alloc, scene, &cells, workers)?,
     })
+}
+
+/// Solves all blocks, level by level, and the lakes. The result is whether nothing was given up.
+fn solve<R: Threads + Sync>(
+    rt: &R,
+    alloc: Global,
+    task: &Task<'_>,
+    cells: &mut [Cell],
+    workers: u32,
+) -> Result<bool, AllocError> {
+    let mut outcome = solve_levels(rt, alloc, task, cells, workers);
+    if let Ok(()) = outcome {
+        outcome = fill_lakes(alloc, task, cells);
+    }
+    match outcome {
+        Ok(()) => Ok(true),
+        Err(Stop::GivenUp) => Ok(false),
+        Err(Stop::Memory) => Err(AllocError),
+    }
 }

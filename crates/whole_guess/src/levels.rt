@@ -1,7 +1,6 @@
 use crate::building::Block;
-use crate::waters::Waters;
+use crate::guess::Task;
 use cell_forest::{Cell, Forest, Stop};
-use raster_model::{Mask, Scene};
 use std::alloc::{AllocError, Global};
 use std::thread;
 use std::thread::Threads;
@@ -26,16 +25,15 @@ struct Strip<'a> {
 pub(crate) fn solve_levels<R: Threads + Sync>(
     rt: &R,
     alloc: Global,
-    scene: &Scene,
-    mask: &Mask,
-    waters: &Waters,
+    task: &Task<'_>,
     cells: &mut [Cell],
     workers: u32,
 ) -> Result<(), Stop> {
+    let phase = &task.scene.phase;
     let mut side = SMALLEST;
     for _ in 0..16 {
-        solve_level(rt, alloc, scene, mask, waters, cells, side, workers)?;
-        if side >= scene.phase.width && side >= scene.phase.height {
+        solve_level(rt, alloc, task, cells, side, workers)?;
+        if side >= phase.width && side >= phase.height {
             return Ok(());
         }
         side = side.wrapping_mul(GROWTH);
@@ -47,20 +45,18 @@ pub(crate) fn solve_levels<R: Threads + Sync>(
 fn solve_level<R: Threads + Sync>(
     rt: &R,
     alloc: Global,
-    scene: &Scene,
-    mask: &Mask,
-    waters: &Waters,
+    task: &Task<'_>,
     cells: &mut [Cell],
     side: u32,
     workers: u32,
 ) -> Result<(), Stop> {
-    let mut strips = cut(alloc, scene, cells, side)?;
+    let mut strips = cut(alloc, task, cells, side)?;
     thread::for_each_mut(
         rt,
         &mut strips,
         workers.max(1) as usize,
         &|_, strip: &mut Strip<'_>| {
-            strip.outcome = strip.solve(alloc, scene, mask, waters, side);
+            strip.outcome = strip.solve(alloc, task, side);
         },
     );
     for strip in &strips {
@@ -72,16 +68,17 @@ fn solve_level<R: Threads + Sync>(
 /// Cuts the cells into strips as high as a block.
 fn cut<'a>(
     alloc: Global,
-    scene: &Scene,
+    task: &Task<'_>,
     cells: &'a mut [Cell],
     side: u32,
 ) -> Result<Vec<Strip<'a>>, AllocError> {
+    let scene = task.scene;
     let size = side.wrapping_mul(scene.phase.width).max(1) as usize;
     let (steep, greatest) = (scene.terms.steep, u32::from(scene.weights.maxval));
     let mut strips = Vec::new(alloc);
     let mut row: u32 = 0;
     for cells in cells.chunks_mut(size) {
-        let forest = Forest::new(alloc, steep, greatest, cells.len())?;
+        let forest = Forest::new(alloc, steep, greatest, cells.len(), task.patience)?;
         strips.push(Strip {
             cells,
             row,
@@ -94,40 +91,28 @@ fn cut<'a>(
 }
 
 impl Strip<'_> {
-    /// Solves the blocks of the strip.
-    fn solve(
-        &mut self,
-        alloc: Global,
-        scene: &Scene,
-        mask: &Mask,
-        waters: &Waters,
-        side: u32,
-    ) -> Result<(), Stop> {
+    /// Solves the blocks of the strip. If one is given up, so are those after it.
+    fn solve(&mut self, alloc: Global, task: &Task<'_>, side: u32) -> Result<(), Stop> {
         if side == SMALLEST {
-            self.solve_smallest(alloc, scene, mask, waters)
+            self.solve_smallest(alloc, task)
         } else {
-            self.join(scene.phase.width, side)
+            self.join(task.scene.phase.width, side)
         }
     }
 
     /// Solves the smallest blocks, each in a list of its own, and puts their cells in the strip.
-    fn solve_smallest(
-        &mut self,
-        alloc: Global,
-        scene: &Scene,
-        mask: &Mask,
-        waters: &Waters,
-    ) -> Result<(), Stop> {
+    fn solve_smallest(&mut self, alloc: Global, task: &Task<'_>) -> Result<(), Stop> {
         let mut block = Block::new(alloc);
-        let width = scene.phase.width;
-        let along = SMALLEST.min(scene.phase.height.wrapping_sub(self.row));
+        let width = task.scene.phase.width;
+        let along = SMALLEST.min(task.scene.phase.height.wrapping_sub(self.row));
         for x in (0..width).step_by(SMALLEST as usize) {
             let across = SMALLEST.min(width.wrapping_sub(x));
             let listed = &mut self.forest.listed;
-            block.build(scene, mask, waters, (x, self.row), (across, along), listed)?;
+            block.build(task, (x, self.row), (across, along), listed)?;
             self.forest.set_stride(across);
-            self.forest.balance(&mut block.cells)?;
+            let outcome = self.forest.balance(&mut block.cells);
             copy_block(&block.cells, across, self.cells, x, width);
+            outcome?;
         }
         Ok(())
     }

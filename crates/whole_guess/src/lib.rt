@@ -7,6 +7,8 @@ mod draining;
 mod guess;
 mod integrating;
 mod levels;
+mod reaching;
 mod waters;
 
-pub use crate::guess::{Guess, guess_whole};
+pub use crate::guess::{Guess, guess_whole, guess_whole_within};
+pub use crate::reaching::Reached;

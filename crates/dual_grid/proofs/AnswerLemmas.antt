@@ -1,5 +1,5 @@
 -- The list of faces that a grid answers.
-use Rattle.std.proofs.Common.{◌≡◌, ℕ, ◌+◌, ◌≤◌, ◌^◌, arith, List, [], ◌∷◌, ◌++◌, to_z, of_z, w64}
+use Rattle.std.proofs.Common.{◌≡◌, ℕ, ◌+◌, ◌<◌, ◌^◌, arith, List, [], ◌∷◌, ◌++◌, to_z, of_z, w64}
 use Rattle.std.specs.Prelude.{ℤ, ◌-ℤ◌, unsigned_abs, FitsSigned}
 use Rattle.std.proofs.lemmas.Int.{ints}
 use Rattle.std.proofs.lemmas.List.{length-append}
@@ -13,5 +13,5 @@ faces_more potential outside n zs z e h = record {
 }
 
 -- a face in code at 64 bits
-pub face_is : (m n : ℤ) → unsigned_abs m ≤ 2 ^ 61 → unsigned_abs n ≤ 2 ^ 61 → FitsSigned w64 (to_z w64 (of_z w64 m) -ℤ to_z w64 (of_z w64 n)) × (to_z w64 (of_z w64 (to_z w64 (of_z w64 m) -ℤ to_z w64 (of_z w64 n))) ≡ m -ℤ n)
+pub face_is : (m n : ℤ) → unsigned_abs m < 2 ^ 62 → unsigned_abs n < 2 ^ 62 → FitsSigned w64 (to_z w64 (of_z w64 m) -ℤ to_z w64 (of_z w64 n)) × (to_z w64 (of_z w64 (to_z w64 (of_z w64 m) -ℤ to_z w64 (of_z w64 n))) ≡ m -ℤ n)
 face_is m n k l = (omega (arith, ints, k, l), omega (arith, ints, k, l))

@@ -28,7 +28,7 @@ use Rattle.dual_grid.proofs.SideLemmas.{here_test, above_test, left_test}
 use Rattle.sums_and_lists.specs.Sums.{sum_below, where_true}
 
 -- what the arcs of the edge of a number add to what starts at a node
-abbrev octet : Shape → State → ℕ → ℕ → ℤ
+abbrev pub octet : Shape → State → ℕ → ℕ → ℤ
 octet s f u n = out_term s f u (n * 8) +ℤ out_term s f u (n * 8 + 1) +ℤ out_term s f u (n * 8 + 2) +ℤ out_term s f u (n * 8 + 3) +ℤ out_term s f u (n * 8 + 4) +ℤ out_term s f u (n * 8 + 5) +ℤ out_term s f u (n * 8 + 6) +ℤ out_term s f u (n * 8 + 7)
 
 -- the flow across an edge, seen from a node: out of it where the node is the first side, into it where it is the other
@@ -36,7 +36,7 @@ abbrev share : Window → (ℕ → ℤ) → ℕ → Edge → ℤ
 share v flow u e = where_true (first_side v e == u) (flow (edge_number v e)) +ℤ where_true (other_side v e == u) (neg_ℤ (flow (edge_number v e)))
 
 -- ---- what can leave each side of an edge: the capacity less the flow, and the capacity more the flow
-abbrev leaving : ℕ → Bool → Bool → ℤ → ℤ
+abbrev pub leaving : ℕ → Bool → Bool → ℤ → ℤ
 leaving c t u q = where_true t (pos c -ℤ q) +ℤ where_true u (pos c +ℤ q)
 
 -- eight terms, by the side where each starts
@@ -152,7 +152,7 @@ module _ (v : Window) (little : IsRasterWindow v) (steep : ℕ) (weight : ℕ �
         chosen false i j r = refl
 
     -- what can leave a node across an edge
-    octet_leaves : (u n : ℕ) → n < edges_of v → octet (window_shape v steep weight) (window_state v steep weight flow excess potential) u n ≡ leaving (capacity_of (arc_capacity v) steep (weight n)) (first_side v (edge_of v n) == u) (other_side v (edge_of v n) == u) (flow n)
+    pub octet_leaves : (u n : ℕ) → n < edges_of v → octet (window_shape v steep weight) (window_state v steep weight flow excess potential) u n ≡ leaving (capacity_of (arc_capacity v) steep (weight n)) (first_side v (edge_of v n) == u) (other_side v (edge_of v n) == u) (flow n)
     octet_leaves u n l =
         let zero_more : n * 8 + 0 ≡ n * 8 = omega arith in
         sums _ _ _ _ _ _ _ _ _ _ _ _ _ _ _ _ _

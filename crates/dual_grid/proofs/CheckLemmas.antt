@@ -1,11 +1,14 @@
 -- What a check of corrections and faces finds, step by step.
 use Rattle.std.proofs.Common.{◌≡◌, ℕ, zero, suc, ◌+◌, ◌-◌, ◌*◌, ◌<◌, ◌≤◌, ◌∙◌, ap, sym, refl, arith, inl, inr, nat_eq, to_z, of_z, w64, SFits}
-use Rattle.std.specs.Prelude.{neg_ℤ, ℤ, pos, ◌+ℤ◌, ◌-ℤ◌, ◌*ℤ◌, IsTrue, unsigned_abs, ◌≤ℤ◌}
+use Rattle.std.specs.Prelude.{neg_ℤ, ℤ, pos, ◌+ℤ◌, ◌-ℤ◌, ◌*ℤ◌, IsTrue, unsigned_abs, ◌≤ℤ◌, ◌<ℤ◌}
 use Rattle.std.proofs.lemmas.Bool.{eqb-true}
 use Rattle.std.proofs.lemmas.Int.{ints, to_z-of_z}
 use Rattle.raster_model.specs.Raster.{over, steps, steps_of}
 use Rattle.sums_and_lists.proofs.Products.{products}
+use Rattle.dual_grid.specs.Building.{IsHeldBy}
+use Rattle.dual_grid.specs.Grids.{amount_of}
 use Rattle.dual_grid.specs.Problems.{IsTight}
+use Rattle.dual_grid.proofs.FlowLemmas.{amount_parts}
 use Rattle.sums_and_lists.proofs.Orders.{below_or_last}
 
 -- one number more of those from a on
@@ -71,3 +74,45 @@ more_tight steep w d k some l m p = record { within = omega (arith, m); whole = 
     sized : (n d : ℕ) → (n ≡ 0 → ⊥) → w ≤ d → d ≡ steep * w → n * d ≡ w * steps_of steep n + (d - w)
     sized zero d some l m = absurd (some refl)
     sized (suc n) d some l m = spread n d (steep * w) l m refl
+
+-- ---- the same, as what holds the difference
+pub held_none : (steep w : ℕ) (d k : ℤ) → k ≡ pos 0 → unsigned_abs d ≤ steep * w → unsigned_abs d ≤ w → IsHeldBy steep w d k
+held_none steep w d k e m l =
+    rw e (record {
+      within = m;
+      none = λ x y. l;
+      forth = λ x. absurd (omega (arith, x));
+      forth_more = λ x. absurd (omega (arith, x));
+      back = λ x. absurd (omega (arith, x));
+      back_more = λ x. absurd (omega (arith, x));
+    })
+
+pub held_some : (steep w : ℕ) (d k : ℤ) → (k ≡ pos 0 → ⊥) → unsigned_abs d ≤ steep * w → w ≤ unsigned_abs d → (1 < unsigned_abs k → unsigned_abs d ≡ steep * w) → (pos 0 <ℤ k → pos 0 ≤ℤ d) → (k ≤ℤ pos 0 → d ≤ℤ pos 0) → IsHeldBy steep w d k
+held_some steep w d k some m l whole up down =
+    let p = amount_parts k in
+    elim p.1 [
+      | inl none ↦ (
+          let low = down (omega (arith, ints, p.0, none)) in
+          record {
+            within = m;
+            none = λ x y. absurd (some (omega (arith, ints, p.0, x, y)));
+            forth = λ x. absurd (omega (arith, none, x));
+            forth_more = λ x. absurd (omega (arith, none, x));
+            back = λ x. omega (arith, ints, low, l);
+            back_more = λ x. (let e = whole (omega (arith, ints, p.0, none, x)) in omega (arith, ints, low, e));
+          })
+      | inr none ↦ (
+          let high = up (positive (amount_of k) (amount_of (neg_ℤ k)) p.0 none) in
+          record {
+            within = m;
+            none = λ x y. absurd (some (omega (arith, ints, p.0, x, y)));
+            forth = λ x. omega (arith, ints, high, l);
+            forth_more = λ x. (let e = whole (omega (arith, ints, p.0, none, x)) in omega (arith, ints, high, e));
+            back = λ x. absurd (omega (arith, none, x));
+            back_more = λ x. absurd (omega (arith, none, x));
+          })
+    ]
+  where
+    positive : (a b : ℕ) → k ≡ pos a -ℤ pos b → b ≡ 0 → pos 0 <ℤ k
+    positive zero b e n = absurd (some (omega (arith, ints, e, n)))
+    positive (suc a) b e n = omega (arith, ints, e, n)

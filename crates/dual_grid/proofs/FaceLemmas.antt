@@ -12,7 +12,7 @@ use Rattle.raster_model.proofs.TileCells.{face_inside, face_outside, cells_befor
 use Rattle.flow_network.specs.Nets.{State, HasReducedCosts}
 use Rattle.wrapped_gradient.specs.Windows.{IsCellOf, IsEdgeOf}
 use Rattle.dual_grid.specs.Answers.{IsNearStart}
-use Rattle.dual_grid.specs.Building.{AreFaces}
+use Rattle.dual_grid.specs.Building.{AreFaces, IsHeld}
 use Rattle.dual_grid.specs.Grids.{amount_of, arc_capacity, capacity_of, cost_in_place, is_taken, leads_forth, residual_at, start_residual, window_shape, window_state}
 use Rattle.dual_grid.specs.Nodes.{cells_of, node_at, node_above, node_left, first_side, other_side, edge_number}
 use Rattle.dual_grid.specs.Problems.{IsTight}
@@ -79,16 +79,7 @@ module _ (r : Raster) (t : ℕ) (v : Window) (is : IsTileWindow r t v) (f : Stat
           rw (first_right v (record { x = x; y = y; down = false }) refl, other_right v (record { x = x; y = y; down = false }) refl)
           (subtract (f.potential (cells_of v)) (f.potential (node_above v x y)) (f.potential (node_at v x y)) _ _ (above_of_node x y) (face_of_node x y))
 
--- what holds a difference of faces: nothing flows above the weight, what flows forth and back does not flow below it, and more than one unit not below the steepness times the weight
-pub record IsHeld (steep w a b : ℕ) (d : ℤ) : Type 0 where
-  pub within : unsigned_abs d ≤ steep * w
-  pub none : a ≡ 0 → b ≡ 0 → unsigned_abs d ≤ w
-  pub forth : 0 < a → pos w ≤ℤ d
-  pub forth_more : 1 < a → pos (steep * w) ≤ℤ d
-  pub back : 0 < b → pos w ≤ℤ neg_ℤ d
-  pub back_more : 1 < b → pos (steep * w) ≤ℤ neg_ℤ d
-
--- then a flow times a difference is the most that it can be
+-- a flow times a difference that is held is the most that it can be
 pub held_tight : (steep w a b : ℕ) (d k : ℤ) → k ≡ pos a -ℤ pos b → (a ≡ 0) ⊎ (b ≡ 0) → IsHeld steep w a b d → IsTight steep w d k
 held_tight steep w zero zero d k e o h =
     let none : k ≡ pos 0 = omega (arith, ints, e) in

@@ -137,7 +137,7 @@ pub turned_steeper : (steep w : ℕ) → 1 < steep → 0 < w → neg_ℤ (pos (s
 turned_steeper steep w l m = let more = mul-le 2 w steep w l (omega arith) in omega (arith, ints, more, m)
 
 -- one of the four places
-abbrev IsFirst : ℕ → Type 0
+abbrev pub IsFirst : ℕ → Type 0
 IsFirst k = (k ≡ 0) ⊎ ((k ≡ 1) ⊎ ((k ≡ 2) ⊎ (k ≡ 3)))
 
 -- ---- at a weight above 0, without steep arcs
@@ -211,11 +211,11 @@ module _ (most steep w : ℕ) (f : IsPlain steep w) (q : ℤ) (l : unsigned_abs 
   plain_within k (inr (inr (inr e))) r idle = rw e (let h : m ≤ amount_of (neg_ℤ q) = rw (e, y, n) at r in let g = shrunk_back q m h in amounts_within most (q +ℤ pos m) (omega (arith, g, small)) (omega (arith, g, small)))
 
 -- one of all places
-abbrev IsAny : ℕ → Type 0
+abbrev pub IsAny : ℕ → Type 0
 IsAny k = IsFirst k ⊎ ((k ≡ 4) ⊎ ((k ≡ 5) ⊎ ((k ≡ 6) ⊎ (k ≡ 7))))
 
 -- what is true of each of the eight places
-each_place : (P : ℕ → Type 0) → P 0 → P 1 → P 2 → P 3 → P 4 → P 5 → P 6 → P 7 → (k : ℕ) → IsAny k → P k
+pub each_place : (P : ℕ → Type 0) → P 0 → P 1 → P 2 → P 3 → P 4 → P 5 → P 6 → P 7 → (k : ℕ) → IsAny k → P k
 each_place P a b c d i j x z k (inl (inl e)) = subst P (sym e) a
 each_place P a b c d i j x z k (inl (inr (inl e))) = subst P (sym e) b
 each_place P a b c d i j x z k (inl (inr (inr (inl e)))) = subst P (sym e) c

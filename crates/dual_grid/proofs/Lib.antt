@@ -16,6 +16,7 @@ pub mod SumLemmas
 pub mod SideLemmas
 pub mod BalanceLemmas
 pub mod FaceLemmas
+pub mod ReachedLemmas
 pub mod TightLemmas
 pub mod CertificateLemmas
 pub mod ListingLemmas

@@ -1,5 +1,5 @@
 -- A grid that is made: what its lists say, and that it starts as it should.
-use Rattle.std.proofs.Common.{◌≡◌, ℕ, zero, suc, ◌+◌, ◌-◌, ◌*◌, ◌/◌, ◌%◌, ◌<◌, ◌≤◌, ◌∙◌, sym, ap, refl, arith, inl, inr, List, ◌++◌, length, get_or, replicate, Bool, true, false}
+use Rattle.std.proofs.Common.{◌≡◌, ℕ, zero, suc, ◌+◌, ◌-◌, ◌*◌, ◌/◌, ◌%◌, ◌<◌, ◌≤◌, ◌^◌, ◌∙◌, sym, ap, refl, arith, inl, inr, List, ◌++◌, length, get_or, replicate, Bool, true, false}
 use Rattle.std.specs.Prelude.{ℤ, pos, neg_ℤ, ◌+ℤ◌, ◌-ℤ◌, ◌≤ℤ◌, ◌==◌, ◌&&◌, if◌then◌else◌, nat_lt, unsigned_abs}
 use Rattle.std.proofs.lemmas.Bool.{cases_Bool, cases_lt}
 use Rattle.std.proofs.lemmas.Int.{ints}
@@ -21,7 +21,7 @@ use Rattle.wrapped_gradient.specs.Rows.{AreInRows}
 use Rattle.wrapped_gradient.specs.Windows.{IsEdgeOf, edge_value}
 use Rattle.dual_grid.specs.Building.{AreCellSupplies, IsRasterWindow}
 use Rattle.dual_grid.specs.Grids.{AreWeighed, HasSmallCosts, amount_of, arc_capacity, carried, cost_in_place, cost_of_place, residual_at, start_residual}
-use Rattle.dual_grid.specs.Layout.{AreWithinCapacity, FitGrid, number_or_zero, shape_by, state_by, weight_in}
+use Rattle.dual_grid.specs.Layout.{AreWithinCapacity, AreWithinReach, FitGrid, flat_state_by, number_or_zero, shape_by, state_by, weight_in}
 use Rattle.dual_grid.specs.Nodes.{cells_of, edges_of, edge_number}
 use Rattle.dual_grid.specs.Problems.{down_edge_weights, right_edge_weights}
 use Rattle.dual_grid.specs.Starts.{IsAtStart, open_in_window, start_state}
@@ -29,6 +29,7 @@ use Rattle.dual_grid.proofs.ArcLemmas.{grid_is_network, kinds}
 use Rattle.dual_grid.proofs.EdgeLemmas.{capacity_few, few_cells, few_edges, right_number_below}
 use Rattle.dual_grid.proofs.FlowLemmas.{residual_small}
 use Rattle.dual_grid.proofs.ListingLemmas.{weights_listed}
+use Rattle.dual_grid.proofs.PushLemmas.{within_all}
 use Rattle.sums_and_lists.specs.Sums.{sum_below, where_true}
 use Rattle.sums_and_lists.proofs.SumLemmas.{sum_below-none, sum_below-more}
 
@@ -68,23 +69,8 @@ sum_bounded (suc n) c f h =
     let d : (n + 1) * c ≡ n * c + c = omega arith in
     rw e (omega (arith, ints, sum_below-more n f, sum_bounded n c f (λ k l. h k (omega arith)), h n (omega arith), d))
 
--- ---- nothing flows, and all potentials are 0
-module _ (v : Window) (little : IsRasterWindow v) (steep : ℕ) (gentle : steep ≤ 16) (weights flows excesses potentials : List ℤ) (fit : FitGrid v weights flows excesses potentials) (light : (n : ℕ) → unsigned_abs (number_or_zero weights n) ≤ 65535) (none : (n : ℕ) → number_or_zero flows n ≡ pos 0) (flat : (n : ℕ) → number_or_zero potentials n ≡ pos 0) where
-  pub start_within : AreWithinCapacity v steep weights flows
-  start_within n = rw (none n) (omega (arith, ints))
-
-  residual_is : (a : ℕ) → IsArc (shape_by v steep weights) a → (state_by v steep weights flows excesses potentials).residual a ≡ start_residual v steep (weight_in weights) a
-  residual_is a arc = ap (λ (q : ℤ). residual_at (arc_capacity v) steep (weight_in weights (a / 8)) q (a % 8)) (none (a / 8))
-
-  start_small : (a : ℕ) → start_residual v steep (weight_in weights) a ≤ 33554433
-  start_small a = residual_small (arc_capacity v) steep (weight_in weights (a / 8)) (pos 0) (a % 8) (capacity_few v little) (omega (arith, ints))
-
-  pub start_at : (r : Field ℤ) → AreCellSupplies r v excesses → IsAtStart (start_residual v steep (weight_in weights)) r v (shape_by v steep weights) (state_by v steep weights flows excesses potentials)
-  start_at r are = record { residual = residual_is; excess = are.values; potential = λ u l. flat u }
-
-  pub start_conserved : (r : Field ℤ) → AreCellSupplies r v excesses → IsConserved (shape_by v steep weights) (start_state (start_residual v steep (weight_in weights)) r v) (state_by v steep weights flows excesses potentials)
-  start_conserved r are = conserved-still (shape_by v steep weights) (start_state (start_residual v steep (weight_in weights)) r v) (state_by v steep weights flows excesses potentials) (grid_is_network v steep (weight_in weights)) residual_is are.values
-
+-- ---- what arcs cost
+module _ (v : Window) (steep : ℕ) (gentle : steep ≤ 16) (weights : List ℤ) (light : (n : ℕ) → unsigned_abs (number_or_zero weights n) ≤ 65535) where
   size_small : (w k : ℕ) → w ≤ 65535 → cost_of_place steep w k ≤ 1048560
   size_small w k l =
       let most = mul-le steep w 16 65535 gentle l in
@@ -100,8 +86,60 @@ module _ (v : Window) (little : IsRasterWindow v) (steep : ℕ) (gentle : steep 
   cost_small : (a : ℕ) → unsigned_abs ((shape_by v steep weights).cost a) ≤ 1048560
   cost_small a = signed_small (a % 8 % 2 == 0) (cost_of_place steep (weight_in weights (a / 8)) (a % 8)) (size_small (weight_in weights (a / 8)) (a % 8) (light (a / 8)))
 
+-- ---- whatever flows within the capacities
+module _ (v : Window) (little : IsRasterWindow v) (steep : ℕ) (weights flows excesses : List ℤ) (within : AreWithinCapacity v steep weights flows) where
+  residual_few : (a : ℕ) → (flat_state_by v steep weights flows excesses).residual a ≤ 33554433
+  residual_few a = residual_small (arc_capacity v) steep (weight_in weights (a / 8)) (number_or_zero flows (a / 8)) (a % 8) (capacity_few v little) (within_all v little steep weights flows within (a / 8))
+
+  residual_term : (a : ℕ) → where_true ((shape_by v steep weights).is_arc a) (pos ((flat_state_by v steep weights flows excesses).residual a)) ≤ℤ pos 33554433
+  residual_term a =
+      elim (cases_Bool ((shape_by v steep weights).is_arc a)) [
+        | inl t ↦ (let l = residual_few a in rw t (omega (arith, ints, l)))
+        | inr t ↦ rw t (omega (arith, ints))
+      ]
+
+  both-le : (t u : Bool) (n : ℕ) → where_true t (pos n) ≤ℤ pos 33554433 → where_true (t && u) (pos n) ≤ℤ pos 33554433
+  both-le true true n l = l
+  both-le true false n l = omega (arith, ints)
+  both-le false u n l = l
+
+  few_arcs : edges_of v * 8 * 33554433 ≤ 9005000499855360
+  few_arcs = let l = few_edges v little in omega (arith, l)
+
+  total_small : total_residual (shape_by v steep weights) (flat_state_by v steep weights flows excesses) ≤ℤ pos (edges_of v * 8 * 33554433)
+  total_small = sum_bounded (edges_of v * 8) 33554433 (λ a. where_true ((shape_by v steep weights).is_arc a) (pos ((flat_state_by v steep weights flows excesses).residual a))) (λ a l. residual_term a)
+
+  out_small : (u : ℕ) → residual_out (shape_by v steep weights) (flat_state_by v steep weights flows excesses) u ≤ℤ pos (edges_of v * 8 * 33554433)
+  out_small u = sum_bounded (edges_of v * 8) 33554433 (out_term (shape_by v steep weights) (flat_state_by v steep weights flows excesses) u) (λ a l. both-le ((shape_by v steep weights).is_arc a) (tail_of (shape_by v steep weights) a == u) ((flat_state_by v steep weights flows excesses).residual a) (residual_term a))
+
+  out_low : (u : ℕ) → pos 0 ≤ℤ residual_out (shape_by v steep weights) (flat_state_by v steep weights flows excesses) u
+  out_low u = sum-not_below (edges_of v * 8) (out_term (shape_by v steep weights) (flat_state_by v steep weights flows excesses) u) (λ a l. term-not_below ((shape_by v steep weights).is_arc a && (tail_of (shape_by v steep weights) a == u)) ((flat_state_by v steep weights flows excesses).residual a))
+
+  pub has_room : ((a : ℕ) → a < edges_of v * 8 → unsigned_abs ((shape_by v steep weights).cost a) ≤ 2 ^ 40) → ((u : ℕ) → u < cells_of v + 1 → unsigned_abs (number_or_zero excesses u) ≤ 2 ^ 61) → HasRoom (shape_by v steep weights) (flat_state_by v steep weights flows excesses)
+  has_room costs small = record {
+    total = (let t = total_small in let f = few_arcs in omega (arith, ints, t, f));
+    above = λ u l. (let t = total_small in let f = few_arcs in let o = out_low u in let e = small u l in omega (arith, ints, t, f, o, e));
+    beneath = λ u l. (let f = few_arcs in let o = out_small u in let e = small u l in omega (arith, ints, f, o, e));
+    costs = costs;
+    potentials = λ u l. omega (arith, ints);
+  }
+
+-- ---- nothing flows, and all potentials are 0
+module _ (v : Window) (little : IsRasterWindow v) (steep : ℕ) (gentle : steep ≤ 16) (weights flows excesses potentials : List ℤ) (fit : FitGrid v weights flows excesses potentials) (light : (n : ℕ) → unsigned_abs (number_or_zero weights n) ≤ 65535) (none : (n : ℕ) → number_or_zero flows n ≡ pos 0) (flat : (n : ℕ) → number_or_zero potentials n ≡ pos 0) where
+  pub start_within : AreWithinCapacity v steep weights flows
+  start_within n = rw (none n) (omega (arith, ints))
+
+  residual_is : (a : ℕ) → IsArc (shape_by v steep weights) a → (state_by v steep weights flows excesses potentials).residual a ≡ start_residual v steep (weight_in weights) a
+  residual_is a arc = ap (λ (q : ℤ). residual_at (arc_capacity v) steep (weight_in weights (a / 8)) q (a % 8)) (none (a / 8))
+
+  pub start_at : (r : Field ℤ) → AreCellSupplies r v excesses → IsAtStart (start_residual v steep (weight_in weights)) r v (shape_by v steep weights) (state_by v steep weights flows excesses potentials)
+  start_at r are = record { residual = residual_is; excess = are.values; potential = λ u l. flat u }
+
+  pub start_conserved : (r : Field ℤ) → AreCellSupplies r v excesses → IsConserved (shape_by v steep weights) (start_state (start_residual v steep (weight_in weights)) r v) (state_by v steep weights flows excesses potentials)
+  start_conserved r are = conserved-still (shape_by v steep weights) (start_state (start_residual v steep (weight_in weights)) r v) (state_by v steep weights flows excesses potentials) (grid_is_network v steep (weight_in weights)) residual_is are.values
+
   pub start_cheap : HasSmallCosts (shape_by v steep weights)
-  start_cheap = record { costs = λ a arc. cost_small a; few = omega (arith, few_cells v little) }
+  start_cheap = record { costs = λ a arc. cost_small v steep gentle weights light a; few = omega (arith, few_cells v little) }
 
   -- a twin has none
   none_carried : (b : Bool) → (if b then amount_of (pos 0) else amount_of (neg_ℤ (pos 0))) ≡ 0
@@ -141,47 +179,14 @@ module _ (v : Window) (little : IsRasterWindow v) (steep : ℕ) (gentle : steep 
   }
 
   -- ---- the room for pushes
-  residual_term : (a : ℕ) → where_true ((shape_by v steep weights).is_arc a) (pos ((state_by v steep weights flows excesses potentials).residual a)) ≤ℤ pos 33554433
-  residual_term a =
-      elim (cases_Bool ((shape_by v steep weights).is_arc a)) [
-        | inl t ↦ (
-            let e = residual_is a t in
-            let l = start_small a in
-            rw t (omega (arith, ints, e, l)))
-        | inr t ↦ rw t (omega (arith, ints))
-      ]
-
-  both-le : (t u : Bool) (n : ℕ) → where_true t (pos n) ≤ℤ pos 33554433 → where_true (t && u) (pos n) ≤ℤ pos 33554433
-  both-le true true n l = l
-  both-le true false n l = omega (arith, ints)
-  both-le false u n l = l
-
-  few_arcs : edges_of v * 8 * 33554433 ≤ 9005000499855360
-  few_arcs = let l = few_edges v little in omega (arith, l)
-
-  total_small : total_residual (shape_by v steep weights) (state_by v steep weights flows excesses potentials) ≤ℤ pos (edges_of v * 8 * 33554433)
-  total_small = sum_bounded (edges_of v * 8) 33554433 (λ a. where_true ((shape_by v steep weights).is_arc a) (pos ((state_by v steep weights flows excesses potentials).residual a))) (λ a l. residual_term a)
-
-  total_low : pos 0 ≤ℤ total_residual (shape_by v steep weights) (state_by v steep weights flows excesses potentials)
-  total_low = sum-not_below (edges_of v * 8) (λ a. where_true ((shape_by v steep weights).is_arc a) (pos ((state_by v steep weights flows excesses potentials).residual a))) (λ a l. term-not_below ((shape_by v steep weights).is_arc a) ((state_by v steep weights flows excesses potentials).residual a))
-
-  out_small : (u : ℕ) → residual_out (shape_by v steep weights) (state_by v steep weights flows excesses potentials) u ≤ℤ pos (edges_of v * 8 * 33554433)
-  out_small u = sum_bounded (edges_of v * 8) 33554433 (out_term (shape_by v steep weights) (state_by v steep weights flows excesses potentials) u) (λ a l. both-le ((shape_by v steep weights).is_arc a) (tail_of (shape_by v steep weights) a == u) ((state_by v steep weights flows excesses potentials).residual a) (residual_term a))
-
-  out_low : (u : ℕ) → pos 0 ≤ℤ residual_out (shape_by v steep weights) (state_by v steep weights flows excesses potentials) u
-  out_low u = sum-not_below (edges_of v * 8) (out_term (shape_by v steep weights) (state_by v steep weights flows excesses potentials) u) (λ a l. term-not_below ((shape_by v steep weights).is_arc a && (tail_of (shape_by v steep weights) a == u)) ((state_by v steep weights flows excesses potentials).residual a))
-
   excess_small : supply_sizes excesses ≤ℤ pos (2 * cells_of v) → (u : ℕ) → u < cells_of v + 1 → unsigned_abs (number_or_zero excesses u) ≤ 33538050
   excess_small sizes u l =
       let one = term-le (length excesses) u (λ k. pos (unsigned_abs (get_or excesses k (pos 0)))) (omega (arith, fit.by_node, l)) (λ k m. omega (arith, ints)) in
       let few = few_cells v little in
       omega (arith, ints, one, sizes, few)
 
-  pub start_room : supply_sizes excesses ≤ℤ pos (2 * cells_of v) → HasRoom (shape_by v steep weights) (state_by v steep weights flows excesses potentials)
-  start_room sizes = record {
-    total = (let t = total_small in let f = few_arcs in omega (arith, ints, t, f));
-    above = λ u l. (let t = total_small in let f = few_arcs in let o = out_low u in let e = excess_small sizes u l in omega (arith, ints, t, f, o, e));
-    beneath = λ u l. (let f = few_arcs in let o = out_small u in let e = excess_small sizes u l in omega (arith, ints, f, o, e));
-    costs = λ a l. (let c = cost_small a in omega (arith, c));
-    potentials = λ u l. (let z = flat u in omega (arith, ints, z));
-  }
+  pub start_room : supply_sizes excesses ≤ℤ pos (2 * cells_of v) → HasRoom (shape_by v steep weights) (flat_state_by v steep weights flows excesses)
+  start_room sizes = has_room v little steep weights flows excesses start_within (λ a l. (let c = cost_small v steep gentle weights light a in omega (arith, c))) (λ u l. (let e = excess_small sizes u l in omega (arith, e)))
+
+  pub start_reach : AreWithinReach potentials
+  start_reach u = let z = flat u in omega (arith, ints, z)

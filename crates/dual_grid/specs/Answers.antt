@@ -1,12 +1,12 @@
 -- What a balanced grid answers: corrections that cancel the residues, and the faces that certify them (Costantini 1998).
-use Rattle.std.specs.Prelude.{◌≡◌, ℕ, ◌+◌, ◌*◌, ◌<◌, ◌≤◌, ℤ, pos, Bool, List, length}
+use Rattle.std.specs.Prelude.{◌≡◌, ℕ, ◌+◌, ◌*◌, ◌<◌, ◌≤◌, ℤ, pos, ◌+ℤ◌, ◌<ℤ◌, Bool, List, length}
 use Rattle.raster_model.specs.declared.edge.Edge.{Edge}
 use Rattle.raster_model.specs.declared.tiling.Window.{Window}
 use Rattle.raster_model.specs.Sums.{Field, sum_edges}
 use Rattle.raster_model.specs.Raster.{Raster, is_inner, masked_weight, steps}
 use Rattle.raster_model.specs.Certificates.{IsTileEdge, FacesFit, face_bound}
 use Rattle.raster_model.specs.Cells.{cell_count, face_at}
-use Rattle.flow_network.specs.Nets.{Shape, State, IsArc}
+use Rattle.flow_network.specs.Nets.{Shape, State, IsArc, total_excess}
 use Rattle.wrapped_gradient.specs.declared.corrections.Corrections.{Corrections}
 use Rattle.wrapped_gradient.specs.Corrections.{HasShapeOf, CancelResidues, correction_at, greatest_of}
 use Rattle.raster_model.specs.declared.scene.Scene.{Scene}
@@ -19,6 +19,10 @@ use Rattle.sums_and_lists.specs.Sums.{where_true}
 -- each arc's residual capacity differs from that at the start by less than there are nodes
 abbrev pub IsNearStart : (ℕ → ℕ) → Shape → State → Type 0
 IsNearStart start s f = (a : ℕ) → IsArc s a → (f.residual a < start a + s.nodes) × (start a < f.residual a + s.nodes)
+
+-- the same, also after as many units have moved as all nodes have to send
+abbrev pub StaysNearStart : (ℕ → ℕ) → Shape → State → Type 0
+StaysNearStart start s f = (a : ℕ) → IsArc s a → ((pos (f.residual a) +ℤ total_excess s f) <ℤ pos (start a + s.nodes)) × ((pos (start a) +ℤ total_excess s f) <ℤ pos (f.residual a + s.nodes))
 
 -- what corrections cost in tile t, whose window is v: the sum of weight under the mask times steps of the correction over the tile's inner edges
 unfoldable pub correction_cost : Raster → Field Bool → ℕ → Window → Corrections → ℤ

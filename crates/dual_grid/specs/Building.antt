@@ -1,16 +1,16 @@
 -- What a grid is made from, how an arc is found, and the lists that a grid answers. These are words of helpers, which no clause of another module cites.
-use Rattle.std.specs.Prelude.{◌≡◌, ℕ, ◌+◌, ◌*◌, ◌<◌, ◌≤◌, ◌⊎◌, ℤ, pos, ◌-ℤ◌, Bool, false, IsTrue, ◌&&◌, if◌then◌else◌, List, length, get_or, slice_index_or, Option, Some, None}
+use Rattle.std.specs.Prelude.{◌≡◌, ℕ, ◌+◌, ◌*◌, ◌<◌, ◌≤◌, ◌⊎◌, ℤ, pos, neg_ℤ, ◌-ℤ◌, ◌≤ℤ◌, ◌==◌, unsigned_abs, Bool, false, IsTrue, ◌&&◌, if◌then◌else◌, List, length, get_or, slice_index_or, Option, Some, None}
 use Rattle.raster_model.specs.declared.scene.Scene.{Scene}
 use Rattle.raster_model.specs.declared.tiling.Window.{Window}
 use Rattle.raster_model.specs.Limits.{max_side}
 use Rattle.raster_model.specs.Sums.{Field}
 use Rattle.raster_model.specs.Tiles.{IsWindowIn, width_of, height_of}
 use Rattle.wrapped_gradient.specs.declared.corrections.Corrections.{Corrections}
-use Rattle.flow_network.specs.Nets.{Shape, IsGreatest, NoneBetween}
+use Rattle.flow_network.specs.Nets.{Shape, IsGreatest, NoneBetween, positive_part}
 use Rattle.dual_grid.specs.Nodes.{cells_of, rights_of, downs_of, edge_of, first_side, other_side}
 use Rattle.dual_grid.specs.Starts.{supply_at}
-use Rattle.dual_grid.specs.Grids.{is_taken, leads_forth}
-use Rattle.sums_and_lists.specs.Sums.{sum_below}
+use Rattle.dual_grid.specs.Grids.{amount_of, is_taken, leads_forth}
+use Rattle.sums_and_lists.specs.Sums.{sum_below, where_true}
 
 -- the window has a pixel, and lies in a raster whose sides are within the limits
 pub record IsRasterWindow (v : Window) : Type 0 where
@@ -70,3 +70,34 @@ pub record AreEdgeFlows (v : Window) (flow : ℕ → ℤ) (k : Corrections) : Ty
 pub record AreFaces (potential : ℕ → ℤ) (outside n : ℕ) (zs : List ℤ) : Type 0 where
   pub count : length zs ≡ n
   pub values : (u : ℕ) → u < n → slice_index_or zs u (pos 0) ≡ potential outside -ℤ potential u
+
+-- the list has minus the face of each cell, and then 0 for the outside
+pub record AreTurnedFaces (faces potentials : List ℤ) : Type 0 where
+  pub count : length potentials ≡ length faces + 1
+  pub values : (u : ℕ) → get_or potentials u (pos 0) ≡ neg_ℤ (get_or faces u (pos 0))
+
+-- What holds a difference of faces across an edge of the weight w, where a units flow forth and b back: nothing flows above
+-- the weight, what flows does not flow below it, and more than one unit not below the steepness times the weight.
+pub record IsHeld (steep w a b : ℕ) (d : ℤ) : Type 0 where
+  pub within : unsigned_abs d ≤ steep * w
+  pub none : a ≡ 0 → b ≡ 0 → unsigned_abs d ≤ w
+  pub forth : 0 < a → pos w ≤ℤ d
+  pub forth_more : 1 < a → pos (steep * w) ≤ℤ d
+  pub back : 0 < b → pos w ≤ℤ neg_ℤ d
+  pub back_more : 1 < b → pos (steep * w) ≤ℤ neg_ℤ d
+
+-- this holds for a flow of q from the first side to the other
+abbrev pub IsHeldBy : ℕ → ℕ → ℤ → ℤ → Type 0
+IsHeldBy steep w d q = IsHeld steep w (amount_of q) (amount_of (neg_ℤ q)) d
+
+-- this holds for the flow across the edge with the number n, between nodes of these potentials
+abbrev pub IsHeldAt : Window → ℕ → (ℕ → ℕ) → (ℕ → ℤ) → (ℕ → ℤ) → ℕ → Type 0
+IsHeldAt v steep weight flow potential n = IsHeldBy steep (weight n) (potential (other_side v (edge_of v n)) -ℤ potential (first_side v (edge_of v n))) (flow n)
+
+-- what of the flow across the edge with the number n leaves node u
+abbrev pub leaves : Window → (ℕ → ℤ) → ℕ → ℕ → ℤ
+leaves v flow u n = where_true (u == first_side v (edge_of v n)) (flow n) -ℤ where_true (u == other_side v (edge_of v n)) (flow n)
+
+-- the positive numbers among the first n of a list, in sum
+abbrev pub positive_sum : List ℤ → ℕ → ℤ
+positive_sum zs n = sum_below n (λ u. positive_part (get_or zs u (pos 0)))

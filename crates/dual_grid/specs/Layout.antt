@@ -1,5 +1,5 @@
 -- A grid as lists: weights and flows in the order of the edges' numbers, excesses and potentials in that of the nodes.
-use Rattle.std.specs.Prelude.{◌≡◌, ◌+◌, ◌≤◌, ℕ, ℤ, pos, List, length, get_or, unsigned_abs}
+use Rattle.std.specs.Prelude.{◌≡◌, ◌+◌, ◌^◌, ◌<◌, ◌≤◌, ℕ, ℤ, pos, List, [], length, get_or, unsigned_abs}
 use Rattle.raster_model.specs.declared.tiling.Window.{Window}
 use Rattle.flow_network.specs.Nets.{Shape, State}
 use Rattle.dual_grid.specs.Nodes.{cells_of, edges_of}
@@ -17,6 +17,10 @@ shape_by v steep weights = window_shape v steep (weight_in weights)
 abbrev pub state_by : Window → ℕ → List ℤ → List ℤ → List ℤ → List ℤ → State
 state_by v steep weights flows excesses potentials = window_state v steep (weight_in weights) (number_or_zero flows) (number_or_zero excesses) (number_or_zero potentials)
 
+-- the same where all potentials are 0
+abbrev pub flat_state_by : Window → ℕ → List ℤ → List ℤ → List ℤ → State
+flat_state_by v steep weights flows excesses = state_by v steep weights flows excesses []
+
 -- the lists have one place for each edge or for each node
 pub record FitGrid (v : Window) (weights flows excesses potentials : List ℤ) : Type 0 where
   pub by_weight : length weights ≡ edges_of v
@@ -27,3 +31,11 @@ pub record FitGrid (v : Window) (weights flows excesses potentials : List ℤ) :
 -- no flow is above the capacity
 abbrev pub AreWithinCapacity : Window → ℕ → List ℤ → List ℤ → Type 0
 AreWithinCapacity v steep weights flows = (n : ℕ) → unsigned_abs (number_or_zero flows n) ≤ capacity_of (arc_capacity v) steep (weight_in weights n)
+
+-- each potential lies within 2^62 on either side of 0, so that no difference of two leaves 64 bits
+abbrev pub AreWithinReach : List ℤ → Type 0
+AreWithinReach potentials = (u : ℕ) → unsigned_abs (number_or_zero potentials u) < 2 ^ 62
+
+-- each potential lies within 2^34 on either side of 0
+abbrev pub AreLow : List ℤ → Type 0
+AreLow potentials = (u : ℕ) → unsigned_abs (number_or_zero potentials u) ≤ 2 ^ 34

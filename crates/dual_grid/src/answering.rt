@@ -1,6 +1,6 @@
 ghost use Rattle.dual_grid.specs.Building.{AreFaces};
-ghost use Rattle.dual_grid.specs.Layout.{number_or_zero};
-ghost use Rattle.std.specs.Prelude.{◌<◌, ◌≤◌, ◌^◌, ℕ, IfOk, length, unsigned_abs};
+ghost use Rattle.dual_grid.specs.Layout.{AreWithinReach, number_or_zero};
+ghost use Rattle.std.specs.Prelude.{◌≡◌, ◌<◌, ◌^◌, ◌+ℤ◌, ℕ, IfOk, length, unsigned_abs};
 
 use std::alloc::{AllocError, Global};
 
@@ -8,7 +8,7 @@ use std::alloc::{AllocError, Global};
 /// the cell.
 pub(crate) fn faces(alloc: Global, potentials: &[i64], cells: u32) -> Result<Vec<i64>, AllocError>
     requires count { cells < length potentials.now }
-    requires within { (u : ℕ) → unsigned_abs (number_or_zero potentials.now u) ≤ 2 ^ 61 }
+    requires within { AreWithinReach potentials.now }
     ensures { IfOk result (λ list. AreFaces (number_or_zero potentials.now) cells cells list.items) }
 {
     let outside = potentials[cells as usize];
@@ -17,4 +17,16 @@ pub(crate) fn faces(alloc: Global, potentials: &[i64], cells: u32) -> Result<Vec
         list.push(outside - potentials[cell])?;
     }
     Ok(list)
+}
+
+/// Adds to each number that of the other slice at its place.
+pub(crate) fn add_to_each(values: &mut [i64], amounts: &[i64])
+    requires length { length amounts.now ≡ length values.old }
+    requires within { (u : ℕ) → u < length values.old → unsigned_abs (number_or_zero values.old u +ℤ number_or_zero amounts.now u) < 2 ^ 62 }
+    ensures length { length values.new ≡ length values.old }
+    ensures added { (u : ℕ) → u < length values.old → number_or_zero values.new u ≡ number_or_zero values.old u +ℤ number_or_zero amounts.now u }
+{
+    for i in 0..values.len() {
+        values[i] += amounts[i];
+    }
 }

@@ -1,6 +1,7 @@
+ghost use Rattle.dual_grid.specs.Building.{IsHeldBy};
 ghost use Rattle.dual_grid.specs.Problems.{AreSmallNumbers, HaveShape, IsCancelled, IsTight, IsTightAt, face_of, problem_residue};
 ghost use Rattle.raster_model.specs.Sums.{down_edge, right_edge};
-ghost use Rattle.std.specs.Prelude.{◌≡◌, ◌*◌, ◌*ℤ◌, ◌<◌, ◌≤◌, ℕ, IsTrue, pos, slice_index_or, unsigned_abs};
+ghost use Rattle.std.specs.Prelude.{◌≡◌, ◌*◌, ◌*ℤ◌, ◌<◌, ◌≤◌, ◌<ℤ◌, ◌≤ℤ◌, ℕ, IsTrue, pos, slice_index_or, unsigned_abs};
 ghost use Rattle.wrapped_gradient.specs.Corrections.{correction_at};
 ghost use Rattle.wrapped_gradient.specs.Windows.{IsCellOf, IsEdgeOf, edge_value};
 
@@ -125,8 +126,9 @@ fn face(faces: &[i64], node: u32) -> i64
 /// Whether a difference of faces goes with a correction: it is within the weight if nothing is corrected, at least the
 /// weight in the direction of a correction by one cycle, and the steepness times the weight, which it never is above, if
 /// there are more.
-fn is_tight(steep: u32, weight: u32, difference: i64, correction: i32) -> bool
-    ensures { IsTrue result → IsTight steep weight difference correction }
+pub(crate) fn is_tight(steep: u32, weight: u32, difference: i64, correction: i32) -> bool
+    ensures tight { IsTrue result → IsTight steep weight difference correction }
+    ensures held { 1 ≤ steep → IsTrue result → IsHeldBy steep weight difference correction }
 {
     let size = difference.unsigned_abs();
     let weight = u64::from(weight);
@@ -145,7 +147,9 @@ fn is_tight(steep: u32, weight: u32, difference: i64, correction: i32) -> bool
 
 /// Whether a difference has the direction of a correction, or none.
 fn goes_along(difference: i64, correction: i32) -> bool
-    ensures { IsTrue result → correction *ℤ difference ≡ pos (unsigned_abs correction * unsigned_abs difference) }
+    ensures product { IsTrue result → correction *ℤ difference ≡ pos (unsigned_abs correction * unsigned_abs difference) }
+    ensures forth { IsTrue result → pos 0 <ℤ correction → pos 0 ≤ℤ difference }
+    ensures back { IsTrue result → correction ≤ℤ pos 0 → difference ≤ℤ pos 0 }
 {
     if correction > 0 {
         difference >= 0

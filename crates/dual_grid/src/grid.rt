@@ -1,16 +1,18 @@
 ghost use Rattle.dual_grid.specs.Building.{IsRasterWindow};
-ghost use Rattle.dual_grid.specs.Layout.{AreWithinCapacity, FitGrid, shape_by, state_by};
+ghost use Rattle.dual_grid.specs.Layout.{AreWithinCapacity, AreWithinReach, FitGrid, flat_state_by, shape_by, state_by};
 ghost use Rattle.flow_network.specs.Lists.{HasRoom};
 ghost use Rattle.raster_model.specs.Limits.{IsSteepness};
 ghost use Rattle.flow_network.specs.Nets.{HasReducedCosts, IsNetwork, HasNoExcess, total_excess};
 
-use crate::answering::faces;
+use crate::answering::{add_to_each, faces};
 use crate::arcs::{flow_after, leads_forth, place_below, residual_at, size_of_cost, twin_place};
 use crate::beside::{edge_below, first_at, other_at, right_count};
+use crate::checking::is_tight;
 use crate::listing::{down_weights, right_weights};
+use crate::reaching::{are_low, greatest, move_flows, sums_within, turned};
 use crate::sides::outside;
 use crate::supplies::supplies;
-use flow_network::{FlowNet, add_each, carry};
+use flow_network::{FlowNet, carry};
 use raster_model::{Scene, Window};
 use std::alloc::{AllocError, Global};
 use wrapped_gradient::{Corrections, Gradients};
@@ -44,7 +46,8 @@ pub struct DualGrid {
     ghost fit: { FitGrid window weights.items flows.items excesses.items potentials.items },
     ghost within: { AreWithinCapacity window steep weights.items flows.items },
     ghost is_network: { IsNetwork (shape_by window steep weights.items) },
-    ghost room: { HasRoom (shape_by window steep weights.items) (state_by window steep weights.items flows.items excesses.items potentials.items) },
+    ghost room: { HasRoom (shape_by window steep weights.items) (flat_state_by window steep weights.items flows.items excesses.items) },
+    ghost reach: { AreWithinReach potentials.items },
     ghost has_reduced_costs: { HasReducedCosts (shape_by window steep weights.items) (state_by window steep weights.items flows.items excesses.items potentials.items) },
 }
 
@@ -133,26 +136,27 @@ impl FlowNet for DualGrid {
     }
 
     fn raise(&mut self, amounts: &[i64]) {
-        add_each(&mut self.potentials, amounts);
+        self.lift(amounts);
     }
 }
 
 impl DualGrid {
-    ghost use Rattle.dual_grid.specs.Answers.{AreCertifiedOver, IsNearStart};
-    ghost use Rattle.dual_grid.specs.Building.{IsOutAcross};
-    ghost use Rattle.dual_grid.specs.Layout.{weight_in};
-    ghost use Rattle.dual_grid.specs.Nodes.{edges_of};
-    ghost use Rattle.flow_network.specs.Nets.{IsNextBelow};
+    ghost use Rattle.dual_grid.specs.Answers.{AreCertifiedOver, IsNearStart, StaysNearStart};
+    ghost use Rattle.dual_grid.specs.Building.{IsHeldAt, IsHeldBy, IsOutAcross};
+    ghost use Rattle.dual_grid.specs.Layout.{AreLow, number_or_zero, weight_in};
+    ghost use Rattle.dual_grid.specs.Nodes.{edge_of, edges_of, first_side, other_side};
+    ghost use Rattle.flow_network.specs.Nets.{IsArc, IsNextBelow};
     ghost use Rattle.dual_grid.specs.Grids.{HasSmallCosts, IsConnected, arc_capacity};
     ghost use Rattle.dual_grid.specs.Starts.{IsAtStart, TellsMask};
-    ghost use Rattle.dual_grid.specs.Views.{IsGridOf, grid_shape, grid_start, grid_state};
+    ghost use Rattle.dual_grid.specs.Views.{HaveOneOrigin, IsGridOf, grid_shape, grid_start, grid_state};
+    ghost use Rattle.flow_network.specs.Moves.{IsRaised, MayRaise};
     ghost use Rattle.raster_model.specs.Raster.{residue};
     ghost use Rattle.raster_model.specs.Scene.{raster_of};
     ghost use Rattle.raster_model.specs.Sums.{Field};
     ghost use Rattle.raster_model.specs.Tiles.{tiles_of, window_of, width_of, height_of};
     ghost use Rattle.raster_model.specs.declared.scene.Scene.{Scene as SceneOf};
     ghost use Rattle.raster_model.specs.declared.tiling.Window.{Window as WindowOf};
-    ghost use Rattle.std.specs.Prelude.{◌≡◌, ◌*◌, ◌<◌, ◌≤◌, ◌<ℤ◌, Bool, IfOk, List, length, pos};
+    ghost use Rattle.std.specs.Prelude.{◌≡◌, ◌*◌, ◌^◌, ◌<◌, ◌≤◌, ◌+ℤ◌, ◌-ℤ◌, ◌<ℤ◌, ℕ, Bool, IfOk, IfSome, IsTrue, List, get_or, length, pos, unsigned_abs};
     ghost use Rattle.wrapped_gradient.specs.Gradients.{AreGradientsOf};
 
     /// The grid of a tile: that over its window. It fails only for lack of memory.
@@ -210,6 +214,95 @@ impl DualGrid {
         })
     }
 
+    /// The grid over a window of a scene, as `over` makes it, after the corrections have flowed across the edges, where the
+    /// nodes have minus the faces as potentials. `None` tells that corrections and faces do not have the window's shape,
+    /// that an arc with capacity left would have a reduced cost below 0 (Ahuja, Magnanti and Orlin 1993, section 9.3), or that
+    /// a face, or what has flowed and is to flow, is too great. It fails only for lack of memory.
+    pub fn reached(
+        alloc: Global,
+        scene: &Scene,
+        gradients: &Gradients,
+        unmasked: &[bool],
+        corrections: Corrections,
+        faces: &[i64],
+    ) -> Result<Option<DualGrid>, AllocError>
+        requires gradients { AreGradientsOf scene.now gradients.now }
+        requires count { length unmasked.now ≡ width_of gradients.now.window * height_of gradients.now.window }
+        ensures grid { IfOk result (λ made. IfSome made (λ grid. IsGridOf scene.now gradients.now.window unmasked.now grid)) }
+        ensures small { IfOk result (λ made. IfSome made (λ grid. HasSmallCosts (grid_shape grid))) }
+        ensures near { IfOk result (λ made. IfSome made (λ grid. StaysNearStart (grid_start grid) (grid_shape grid) (grid_state grid))) }
+        ensures joined { IfOk result (λ made. IfSome made (λ grid. IsConnected (grid_start grid) (grid_shape grid))) }
+        ensures low { IfOk result (λ made. IfSome made (λ grid. AreLow grid.potentials.items)) }
+    {
+        let start = DualGrid::over(alloc, scene, gradients, unmasked)?;
+        if faces.len() + 1 != start.potentials.len() || !are_low(faces) {
+            return Ok(None);
+        }
+        let potentials = turned(alloc, faces)?;
+        let Corrections { right, mut down } = corrections;
+        let mut flows = right;
+        flows.append(&mut down)?;
+        Ok(start.after(flows, potentials))
+    }
+
+    /// This grid, in which nothing has flowed, after these flows and with these potentials, if they go together.
+    fn after(self, flows: Vec<i32>, potentials: Vec<i64>) -> Option<DualGrid>
+        requires fresh { (a : ℕ) → IsArc (grid_shape self) a → (grid_state self).residual a ≡ grid_start self a }
+        requires few { total_excess (grid_shape self) (grid_state self) <ℤ pos (grid_shape self).nodes }
+        requires nodes { length potentials.items ≡ (grid_shape self).nodes }
+        requires low { AreLow potentials.items }
+        ensures origin { IfSome result (λ grid. HaveOneOrigin self grid) }
+        ensures near { IfSome result (λ grid. StaysNearStart (grid_start self) (grid_shape self) (grid_state grid)) }
+        ensures low { IfSome result (λ grid. AreLow grid.potentials.items) }
+    {
+        let most = greatest(&flows);
+        let cells = outside(self.window);
+        if flows.len() != self.flows.len() || most > cells || !self.is_held(&flows, &potentials) {
+            return None;
+        }
+        let mut excesses = self.excesses;
+        move_flows(self.window, &flows, &mut excesses);
+        if !sums_within(&excesses, cells - most) {
+            return None;
+        }
+        Some(DualGrid {
+            window: self.window,
+            steep: self.steep,
+            weights: self.weights,
+            flows,
+            excesses,
+            potentials,
+        })
+    }
+
+    /// Whether no arc with capacity left has a reduced cost below 0, where these flow across the edges and the nodes have
+    /// these potentials.
+    fn is_held(&self, flows: &[i32], potentials: &[i64]) -> bool
+        requires edges { length flows.now ≡ edges_of self.now.window }
+        requires nodes { length potentials.now ≡ (grid_shape self.now).nodes }
+        requires low { AreLow potentials.now }
+        ensures { IsTrue result → (n : ℕ) → n < edges_of self.now.window → IsHeldAt self.now.window self.now.steep (weight_in self.now.weights.items) (number_or_zero flows.now) (number_or_zero potentials.now) n }
+    {
+        for edge in 0..flows.len() {
+            if !self.is_held_at(edge as u32, flows[edge], potentials) {
+                return false;
+            }
+        }
+        true
+    }
+
+    /// Whether no arc with capacity left across an edge has a reduced cost below 0.
+    fn is_held_at(&self, edge: u32, flow: i32, potentials: &[i64]) -> bool
+        requires edge { edge < edges_of self.now.window }
+        requires nodes { length potentials.now ≡ (grid_shape self.now).nodes }
+        requires low { AreLow potentials.now }
+        ensures { IsTrue result → IsHeldBy self.now.steep (weight_in self.now.weights.items edge) (number_or_zero potentials.now (other_side self.now.window (edge_of self.now.window edge)) -ℤ number_or_zero potentials.now (first_side self.now.window (edge_of self.now.window edge))) flow }
+    {
+        let first = potentials[first_at(self.window, edge) as usize];
+        let other = potentials[other_at(self.window, edge) as usize];
+        is_tight(self.steep, self.weight(edge), other - first, flow)
+    }
+
     /// The corrections of the window's edges, in whole cycles, and the faces of its cells in row order, which certify
     /// them. The grid has no excess left. Each residual capacity differs from that at the start by less than there are
     /// nodes, so each arc from side to side keeps capacity. The answer is one for each tile that has exactly the window's
@@ -223,6 +316,25 @@ impl DualGrid {
         let mut right = self.flows;
         let down = right.split_off(right_count(self.window) as usize)?;
         Ok((Corrections { right, down }, faces))
+    }
+
+    /// The potentials of the nodes. It fails only for lack of memory.
+    pub fn potentials(&self) -> Result<Vec<i64>, AllocError>
+        ensures { IfOk result (λ list. list.items ≡ self.now.potentials.items) }
+    {
+        self.potentials.clone()
+    }
+
+    /// Adds to the potential of each node its amount, as `raise` does, up to 2^62 on either side of 0.
+    pub fn lift(&mut self, amounts: &[i64])
+        requires count { length amounts.now ≡ (grid_shape self.old).nodes }
+        requires kept { MayRaise (grid_shape self.old) (grid_state self.old) amounts.now }
+        requires within { (u : ℕ) → u < (grid_shape self.old).nodes → unsigned_abs ((grid_state self.old).potential u +ℤ get_or amounts.now u (pos 0)) < 2 ^ 62 }
+        ensures shape { grid_shape self.new ≡ grid_shape self.old }
+        ensures raised { IsRaised (grid_shape self.old) amounts.now (grid_state self.old) (grid_state self.new) }
+        ensures origin { HaveOneOrigin self.old self.new }
+    {
+        add_to_each(&mut self.potentials, amounts);
     }
 
     /// What an arc can carry that has no other beside it, or that is steep: as much as there are nodes, which is more than

@@ -9,6 +9,7 @@ mod checking;
 mod grid;
 mod listing;
 mod problem;
+mod reaching;
 mod sides;
 mod supplies;
 mod weighing;

@@ -2,11 +2,13 @@
 use Rattle.std.proofs.Common.{◌≡◌, ℕ, zero, suc, ◌<◌, sym, refl, ◌∙◌, arith, inl, inr, Bool, true, false, ◌⊎◌, List}
 use Rattle.std.specs.Prelude.{pos, ◌<ℤ◌, not}
 use Rattle.std.proofs.lemmas.Int.{ints}
+use Rattle.std.proofs.lemmas.Nat.{mul-le}
 use Rattle.std.proofs.lemmas.Bool.{cases_Bool, false≢true, not-true, not-false}
-use Rattle.flow_network.specs.Nets.{Shape, State, HasReducedCosts, tail_of, total_excess}
-use Rattle.shortest_augment.specs.Balance.{IsBlocked, MovesAtMost}
+use Rattle.flow_network.specs.Nets.{Shape, State, IsArc, HasReducedCosts, tail_of, total_excess}
+use Rattle.shortest_augment.specs.Balance.{BoundsCosts, IsBlocked, MovesAtMost}
 use Rattle.shortest_augment.proofs.CallerLemmas.{is_in, is_in-contains, contains-is_in, blocked_excess, blocked_outside}
-use Rattle.dual_grid.specs.Answers.{IsNearStart}
+use Rattle.dual_grid.specs.Answers.{IsNearStart, StaysNearStart}
+use Rattle.dual_grid.specs.Grids.{HasSmallCosts}
 use Rattle.dual_grid.proofs.CallerLemmas.{leads_out}
 use Rattle.network_solver.specs.Fresh.{CanBeBalanced}
 use Rattle.sums_and_lists.proofs.Orders.{below_or_at}
@@ -29,9 +31,8 @@ module _ (begin : ℕ → ℕ) (s : Shape) (f g : State) (fresh : CanBeBalanced 
   pub near_start : IsNearStart begin s g
   near_start a i =
       let m = moved a i in
-      let r = fresh.residual a i in
-      let few : total_excess s f <ℤ pos s.nodes = fresh.few in
-      (omega (arith, ints, m.0, r, few), omega (arith, ints, m.1, r, few))
+      let r = fresh.near a i in
+      (omega (arith, ints, m.0, r.0), omega (arith, ints, m.1, r.1))
 
   -- an arc with capacity left leads out of any nodes that hold excess in sum
   pub never_blocked : (names : List ℕ) → HasReducedCosts s g → IsBlocked s g names → ⊥
@@ -49,3 +50,14 @@ module _ (begin : ℕ → ℕ) (s : Shape) (f g : State) (fresh : CanBeBalanced 
               false≢true (sym a.1.3 ∙ contains-is_in names (s.head a.0) head))
         ]
       ]
+
+-- where nothing has flowed, and fewer units are to flow than there are nodes
+pub fresh_near : (begin : ℕ → ℕ) (s : Shape) (f : State) → ((a : ℕ) → IsArc s a → f.residual a ≡ begin a) → total_excess s f <ℤ pos s.nodes → StaysNearStart begin s f
+fresh_near begin s f fresh few a i = let r = fresh a i in (omega (arith, ints, r, few), omega (arith, ints, r, few))
+
+-- costs of a grid are within what a solver takes
+pub small_bounded : (s : Shape) → HasSmallCosts s → BoundsCosts s 1048560
+small_bounded s small = record {
+  costs = small.costs;
+  small = (let m = mul-le s.nodes 1048560 16777216 1048560 small.few (omega arith) in omega (arith, m));
+}

@@ -1,12 +1,13 @@
--- What makes sure that a window's network can be balanced. This is a helper's word, which no clause of a public function cites.
-use Rattle.std.specs.Prelude.{◌≡◌, ℕ, ◌<◌, pos, ◌<ℤ◌}
-use Rattle.flow_network.specs.Nets.{Shape, State, IsArc, total_excess}
-use Rattle.dual_grid.specs.Grids.{HasSmallCosts, IsConnected}
+-- What makes sure that a window's network can be balanced from where it stands. This is a helper's word, which no clause of a public function cites.
+use Rattle.std.specs.Prelude.{◌≡◌, ℕ, ◌<◌, pos}
+use Rattle.flow_network.specs.Nets.{Shape, State}
+use Rattle.dual_grid.specs.Answers.{StaysNearStart}
+use Rattle.dual_grid.specs.Grids.{IsConnected}
+use Rattle.shortest_augment.specs.Balance.{BoundsCosts}
 
--- nothing has flowed, costs are small, fewer units are to flow than there are nodes, and an arc with more capacity than that leads out of any set of nodes
+-- All potentials are 0, costs are small, less has flowed and is to flow than there are nodes, and an arc that took as much at the start leads out of any set of nodes.
 pub record CanBeBalanced (start : ℕ → ℕ) (s : Shape) (f : State) : Type 0 where
-  pub residual : (a : ℕ) → IsArc s a → f.residual a ≡ start a
   pub flat : (u : ℕ) → u < s.nodes → f.potential u ≡ pos 0
-  pub small : HasSmallCosts s
-  pub few : total_excess s f <ℤ pos s.nodes
+  pub bounded : (c : ℕ) × BoundsCosts s c
+  pub near : StaysNearStart start s f
   pub joined : IsConnected start s

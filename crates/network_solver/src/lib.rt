@@ -1,6 +1,7 @@
 //! Least corrections over any window of a scene's raster, by its network.
 #![tactic(auto)]
 
+mod leveling;
 mod solving;
 
-pub use crate::solving::network_corrections;
+pub use crate::solving::{network_corrections, network_corrections_from};

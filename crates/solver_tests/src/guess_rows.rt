@@ -4,7 +4,7 @@ ghost use Rattle.std.specs.Prelude.{◌<◌, IfOk};
 use crate::reading::{Raster, cycles, field, numbers, read_raster, read_steep};
 use crate::tile_rows::{ROWS, STEEP_ROWS};
 use certificates::{TileVerdict, check_tile};
-use dual_grid::Problem;
+use dual_grid::{DualGrid, Problem};
 use raster_model::{Mask, Scene};
 use std::alloc::{AllocError, Global};
 use std::process::Abort;
@@ -86,6 +86,53 @@ fn guesses_are_taken_where_they_answer(rt: HostRuntime) -> Result<(), Fail> {
     let problem = problem_of(alloc, &scene)?;
     for row in GUESSES.lines() {
         assert!(rt; is_as_told(alloc, &problem, row).expect(&rt, "memory"));
+    }
+    Ok(())
+}
+
+/// Rows of `guess`: corrections and faces from which the full turn may be solved, and whether its grid takes them. By hand:
+/// faces up to 3 on either side of 0 go with no flow, and a whole answer is taken. Then the face is above a weight or below
+/// that of a flow, a flow goes the other way, and so much that more is to flow than there are cells; a face is missing, or
+/// one of two; there are too few corrections; numbers lie at the ends of their types.
+const STARTS: &str = "\
+0 0|0 0|0|true
+0 0|0 0|3|true
+0 0|0 0|-3|true
+0 1|0 0|3|true
+0 0|1 0|3|true
+0 0|0 0|4|false
+0 0|0 0|-4|false
+0 1|0 0|2|false
+0 -1|0 0|3|false
+0 -1|0 0|-3|false
+0 0|0 0||false
+0 0|0 0|3 0|false
+0|0 0|0|false
+0 2147483647|-2147483648 0|3|false
+0 0|0 0|9223372036854775807|false
+0 0|0 0|-9223372036854775808|false";
+
+/// Whether the grid of a scene's one tile takes the corrections and faces of a row exactly if the row says so.
+fn starts_as_told(alloc: Global, scene: &Scene, row: &str) -> Result<bool, AllocError>
+    requires { 0 < tiles_of scene.now.tiling }
+{
+    let window = scene.tiling.window(0);
+    let gradients = Gradients::of(alloc, scene, window)?;
+    let pixels = (window.x1 - window.x0 + 1) as usize * (window.y1 - window.y0 + 1) as usize;
+    let unmasked = vec![in alloc; true; pixels]?;
+    let Guess { right, down, faces } = guess(alloc, row)?;
+    let corrections = Corrections { right, down };
+    let grid = DualGrid::reached(alloc, scene, &gradients, &unmasked, corrections, &faces)?;
+    Ok(grid.is_some() == row.ends_with("true"))
+}
+
+/// A grid takes flows and faces that go together, and nothing else.
+#[test]
+fn grids_take_what_goes_together(rt: HostRuntime) -> Result<(), Fail> {
+    let alloc = rt.alloc();
+    let scene = full_turn(&rt, alloc)?;
+    for row in STARTS.lines() {
+        assert!(rt; starts_as_told(alloc, &scene, row)?, "{row}");
     }
     Ok(())
 }

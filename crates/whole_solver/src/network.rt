@@ -1,16 +1,21 @@
+ghost use Rattle.dual_grid.specs.Answers.{AreCertifiedOver};
 ghost use Rattle.dual_grid.specs.Starts.{TellsMask};
 ghost use Rattle.raster_model.specs.Masks.{open_at};
 ghost use Rattle.raster_model.specs.Scene.{raster_of};
-ghost use Rattle.std.specs.Prelude.{◌≡◌, ◌*◌, ◌^◌, IfOk, length, pos, vec_len};
+ghost use Rattle.raster_model.specs.Sums.{Field};
+ghost use Rattle.raster_model.specs.Tiles.{height_of, width_of};
+ghost use Rattle.std.specs.Prelude.{◌≡◌, ◌*◌, ◌^◌, Bool, IfOk, length, pos, vec_len};
 ghost use Rattle.surface_integration.specs.Cycles.{LieWithin, cycles_at};
 ghost use Rattle.whole_raster.specs.Whole.{IsCertifiedWhole};
 ghost use Rattle.whole_solver.specs.Solved.{listed_surface, raster_window as window_of_raster};
+ghost use Rattle.wrapped_gradient.specs.Gradients.{AreGradientsOf};
 
-use network_solver::network_corrections;
+use network_solver::{network_corrections, network_corrections_from};
 use raster_model::{Mask, Scene, Window};
 use std::alloc::{AllocError, Global};
 use surface_integration::integrate_wide;
-use wrapped_gradient::Gradients;
+use whole_guess::Reached;
+use wrapped_gradient::{Corrections, Gradients};
 
 /// A surface over the whole raster, with the faces that certify it.
 #[derive(Drop)]
@@ -21,13 +26,14 @@ pub(crate) struct WholeSurface {
     pub(crate) faces: Vec<i64>,
 }
 
-/// Solves the whole raster of a scene as one tile, by its network. The mask has the scene's size. The faces certify the
+/// Solves the whole raster of a scene as one tile, by its network, from what was reached, if anything was. The mask has the scene's size. The faces certify the
 /// surface, so no congruent surface costs less. The first pixel has 0 cycles, and none has more than 2^44. It fails only
 /// for lack of memory. (Costantini 1998.)
 pub(crate) fn solve_by_network(
     alloc: Global,
     scene: &Scene,
     mask: &Mask,
+    reached: Option<Reached>,
 ) -> Result<WholeSurface, AllocError>
     requires across { mask.now.width ≡ scene.now.phase.width }
     requires along { mask.now.height ≡ scene.now.phase.height }
@@ -38,9 +44,31 @@ pub(crate) fn solve_by_network(
 {
     let gradients = Gradients::of(alloc, scene, raster_window(scene))?;
     let unmasked = open_pixels(alloc, scene, mask)?;
-    let (corrections, faces) = network_corrections(alloc, scene, &gradients, &unmasked)?;
+    let (corrections, faces) = least_corrections(alloc, scene, &gradients, &unmasked, reached)?;
     let cycles = integrate_wide(alloc, scene, &gradients, &corrections)?;
     Ok(WholeSurface { cycles, faces })
+}
+
+/// Corrections of a window's edges that cancel its residues at least cost, and the faces that certify them, from what was
+/// reached, if anything was.
+fn least_corrections(
+    alloc: Global,
+    scene: &Scene,
+    gradients: &Gradients,
+    unmasked: &[bool],
+    reached: Option<Reached>,
+) -> Result<(Corrections, Vec<i64>), AllocError>
+    requires gradients { AreGradientsOf scene.now gradients.now }
+    requires count { length unmasked.now ≡ width_of gradients.now.window * height_of gradients.now.window }
+    ensures { IfOk result (λ made. (mask : Field Bool) → TellsMask gradients.now.window unmasked.now mask → AreCertifiedOver scene.now mask gradients.now.window made.0 made.1.items) }
+{
+    match reached {
+        None => network_corrections(alloc, scene, gradients, unmasked),
+        Some(Reached { right, down, faces }) => {
+            let flows = Corrections { right, down };
+            network_corrections_from(alloc, scene, gradients, unmasked, flows, &faces)
+        }
+    }
 }
 
 /// The window of the whole raster.

@@ -9,7 +9,7 @@ use crate::result::WholeResult;
 use raster_model::{Mask, Scene};
 use std::alloc::{AllocError, Global};
 use std::thread::Threads;
-use whole_guess::{Guess, guess_whole};
+use whole_guess::{Guess, Reached, guess_whole};
 
 /// Solves the whole raster of a scene as one tile. The surface is congruent under the mask, has the phase at the first open
 /// pixel in row order, and no congruent surface costs less over all edges; its faces prove that. It fails only for lack of
@@ -25,12 +25,12 @@ pub fn solve_whole<R: Threads + Sync>(
     ensures good { IfOk result (IsGoodWhole scene.now (open_at mask.now)) }
 {
     let guess = guess_whole(rt, alloc, scene, mask, workers)?;
-    solve_whole_from(alloc, scene, mask, guess)
+    solve_whole_from(alloc, scene, mask, Some(guess))
 }
 
-/// Solves the whole raster as `solve_whole` does, from a guess. A guess that is certified is taken, and any other is dropped
-/// for the network of the whole raster, so a guess can cost time and nothing else. (McConnell, Mehlhorn, Naeher and
-/// Schweitzer 2011.)
+/// Solves the whole raster as `solve_whole` does, from a guess. A surface that is certified is taken. Otherwise the network of
+/// the whole raster is solved, from what the guess has reached where flows and faces go together, and else from nothing. So
+/// a guess can cost time and nothing else. (McConnell, Mehlhorn, Naeher and Schweitzer 2011.)
 pub fn solve_whole_from(
     alloc: Global,
     scene: &Scene,
@@ -40,20 +40,27 @@ pub fn solve_whole_from(
     requires same_size { (mask.now.width ≡ scene.now.phase.width) × (mask.now.height ≡ scene.now.phase.height) }
     ensures good { IfOk result (IsGoodWhole scene.now (open_at mask.now)) }
 {
-    if let Some(guess) = guess {
-        if let Some(solved) = certified(scene, mask, guess.cycles, guess.faces) {
-            return Ok(solved);
-        }
+    match guess {
+        None => solved_by_network(alloc, scene, mask, None),
+        Some(Guess::Reached(reached)) => solved_by_network(alloc, scene, mask, Some(reached)),
+        Some(Guess::Surface { cycles, faces }) => match certified(scene, mask, cycles, faces) {
+            Some(solved) => Ok(solved),
+            None => solved_by_network(alloc, scene, mask, None),
+        },
     }
-    solved_by_network(alloc, scene, mask)
 }
 
-/// Solves the whole raster by its network.
-fn solved_by_network(alloc: Global, scene: &Scene, mask: &Mask) -> Result<WholeResult, AllocError>
+/// Solves the whole raster by its network, from what was reached, if anything was.
+fn solved_by_network(
+    alloc: Global,
+    scene: &Scene,
+    mask: &Mask,
+    reached: Option<Reached>,
+) -> Result<WholeResult, AllocError>
     requires same_size { (mask.now.width ≡ scene.now.phase.width) × (mask.now.height ≡ scene.now.phase.height) }
     ensures good { IfOk result (IsGoodWhole scene.now (open_at mask.now)) }
 {
-    let WholeSurface { cycles, faces } = solve_by_network(alloc, scene, mask)?;
+    let WholeSurface { cycles, faces } = solve_by_network(alloc, scene, mask, reached)?;
     let cycles = anchored(scene, mask, cycles);
     match certified(scene, mask, cycles, faces) {
         Some(solved) => Ok(solved),

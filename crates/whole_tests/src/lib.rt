@@ -2,6 +2,10 @@
 #![tactic(auto)]
 
 #[cfg(test)]
+mod network_rows;
+#[cfg(test)]
+mod reached_rows;
+#[cfg(test)]
 mod text_rows;
 #[cfg(test)]
 mod whole_rows;

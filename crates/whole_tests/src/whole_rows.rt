@@ -9,12 +9,12 @@ use std::process::Abort;
 use std::test::Fail;
 use std::thread::Threads;
 use trial_maker::make_session;
-use whole_guess::guess_whole;
+use whole_guess::{Guess, guess_whole};
 use worked_scenes::tile_result;
 
 /// Seeds, widths, heights and the least costs of the trials' surfaces over the whole, which the network simplex of LEMON
 /// 1.3.1 found.
-const TRIALS: [(u64, u32, u32, u128); 2] = [(7, 96, 70, 28001), (3, 100, 77, 35731)];
+pub(crate) const TRIALS: [(u64, u32, u32, u128); 2] = [(7, 96, 70, 28001), (3, 100, 77, 35731)];
 
 /// The guess at a raster of one tile, as that tile's result, with the guess's faces or with faces of 0.
 fn guessed<R: Abort + Threads + Sync>(
@@ -27,14 +27,16 @@ fn guessed<R: Abort + Threads + Sync>(
 ) -> Result<TileResult, AllocError>
     ensures { IfOk result (λ made. made.tile ≡ 0) }
 {
-    let guess = guess_whole(rt, alloc, scene, mask, workers)?.expect(rt, "a guess");
-    let mut cycles = Vec::new(alloc);
-    for number in &guess.cycles {
-        cycles.push(i32::try_from(*number).unwrap_or(99))?;
+    let Guess::Surface { cycles, faces } = guess_whole(rt, alloc, scene, mask, workers)? else {
+        return Err(AllocError);
+    };
+    let mut short = Vec::new(alloc);
+    for number in &cycles {
+        short.push(i32::try_from(*number).unwrap_or(99))?;
     }
-    let bare = vec![in alloc; 0; guess.faces.len()]?;
-    let faces = if faced { guess.faces } else { bare };
-    tile_result(alloc, 0, 0, &cycles, &faces)
+    let bare = vec![in alloc; 0; faces.len()]?;
+    let faces = if faced { faces } else { bare };
+    tile_result(alloc, 0, 0, &short, &faces)
 }
 
 /// What the check says of the guess at a raster of one tile.
@@ -53,7 +55,7 @@ fn verdict<R: Abort + Threads + Sync>(
 }
 
 /// A trial of one tile.
-fn trial(
+pub(crate) fn trial(
     rt: &impl Abort,
     alloc: Global,
     seed: u64,

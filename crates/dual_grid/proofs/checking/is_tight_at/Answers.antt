@@ -20,7 +20,7 @@ returns c =
     let correction_fits : SFits w32 c.number-correction.result = search rules in
     let fits : SFits w64 c.in-Some.difference = search rules in
     same _ _ _ _ _ _ _ _ c.unsigned_abs.ensures.value (to_z-of_z w64 c.in-Some.difference fits ∙ difference ∙ ap₂ (λ (a b : ℤ). a -ℤ b) first other) (to_z-of_z w32 c.number-weight.result weight_fits ∙ c.number-weight.ensures ∙ ap₂ (λ (r d : List ℤ). edge_value p.window r d c.args.edge) c.deref.ensures.value c.deref-2.ensures.value)
-    (to_z-of_z w32 c.number-correction.result correction_fits ∙ c.number-correction.ensures ∙ ap₂ (λ (r d : List ℤ). edge_value p.window r d c.args.edge) c.deref-3.ensures.value c.deref-4.ensures.value) (c.is_tight.ensures yes)
+    (to_z-of_z w32 c.number-correction.result correction_fits ∙ c.number-correction.ensures ∙ ap₂ (λ (r d : List ℤ). edge_value p.window r d c.args.edge) c.deref-3.ensures.value c.deref-4.ensures.value) (c.is_tight.ensures.tight yes)
   where
     same : (s n : ℕ) (d w k e v i : ℤ) → n ≡ unsigned_abs w → d ≡ e → w ≡ v → k ≡ i → IsTight s n d k → IsTight s (unsigned_abs v) e i
     same s n d w k e v i m p q r t = rw (sym p, sym q, sym r, sym m) t

@@ -15,8 +15,8 @@ use Rattle.whole_solver.proofs.WholeLemmas.{few_cells_whole, pixels_are, whole_t
 use Rattle.whole_solver.proofs.network.solve_by_network.Goals as goal
 use Rattle.whole_solver.proofs.network.solve_by_network.Goals.{After-corrections-2-1}
 
-pub network_corrections-requires-clause-count : goal.network_corrections-requires-clause-count
-network_corrections-requires-clause-count c =
+pub least_corrections-requires-clause-count : goal.least_corrections-requires-clause-count
+least_corrections-requires-clause-count c =
     let same : c.in_ok-gradients.gradients.window ≡ raster_window c.args.scene.now = c.in_ok-gradients.ensures.window ∙ c.raster_window.ensures in
     ap (λ (list : List Bool). length list) c.deref.ensures.value ∙ c.in_ok-unmasked.ensures.count ∙ sym (ap (λ (v : Window). width_of v * height_of v) same ∙ pixels_are c.args.scene.now)
 

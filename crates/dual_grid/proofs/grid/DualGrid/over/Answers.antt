@@ -12,7 +12,7 @@ use Rattle.dual_grid.specs.Starts.{IsAtStart, open_in_window}
 use Rattle.dual_grid.specs.Layout.{FitGrid, number_or_zero, shape_by, state_by, weight_in}
 use Rattle.dual_grid.proofs.ArcLemmas.{grid_is_network}
 use Rattle.dual_grid.proofs.GridLemmas.{grid_is_joined}
-use Rattle.dual_grid.proofs.MakeLemmas.{all_zero, joined_light, joined_weighed, start_at, start_cheap, start_conserved, start_kept, start_room, start_within}
+use Rattle.dual_grid.proofs.MakeLemmas.{all_zero, joined_light, joined_weighed, start_at, start_cheap, start_conserved, start_kept, start_reach, start_room, start_within}
 use Rattle.dual_grid.proofs.StartLemmas.{few_of_scene, scene_even, scene_sizes, scene_supplies}
 use Rattle.dual_grid.proofs.grid.DualGrid.over.Goals as goal
 use Rattle.dual_grid.proofs.grid.DualGrid.over.Goals.{In_ok-potentials}
@@ -87,6 +87,7 @@ invariant_of-result c =
       within = start_within v (limited c) q gentle weights flows excesses potentials (fit c) (light c) (none c) (flat c);
       is_network = grid_is_network v q (weight_in weights);
       room = start_room v (limited c) q gentle weights flows excesses potentials (fit c) (light c) (none c) (flat c) (sizes c);
+      reach = start_reach v (limited c) q gentle weights flows excesses potentials (fit c) (light c) (none c) (flat c);
       has_reduced_costs = start_kept v (limited c) q gentle weights flows excesses potentials (fit c) (light c) (none c) (flat c) (scene_even c.args.scene.now c.args.gradients.now excesses c.requires.gradients c.in_ok-excesses.ensures);
     }
 

@@ -1,10 +1,12 @@
 use Rattle.std.proofs.Common.{◌≡◌, ◌/◌, ◌%◌, ◌∙◌, ap, refl, sym, arith, rules, FitsSigned, to_z, of_z, w32, ℤ}
 use Rattle.std.proofs.Math.ListN.{set, length-set}
 use Rattle.std.proofs.lemmas.Int.{to_z-of_z}
+use Rattle.flow_network.specs.Nets.{State}
 use Rattle.flow_network.specs.Moves.{IsPushed}
 use Rattle.flow_network.proofs.CallerLemmas.{conserved-pushed, kept-pushed}
 use Rattle.flow_network.proofs.RoomLemmas.{high-fits, low-fits, room-pushed}
-use Rattle.dual_grid.specs.Layout.{number_or_zero, state_by, weight_in}
+use Rattle.dual_grid.specs.declared.grid.DualGrid.{DualGrid}
+use Rattle.dual_grid.specs.Layout.{flat_state_by, number_or_zero, state_by, weight_in}
 use Rattle.dual_grid.specs.Views.{grid_shape, grid_state}
 use Rattle.dual_grid.specs.Grids.{arc_capacity}
 use Rattle.dual_grid.proofs.ArcLemmas.{arc_below}
@@ -14,6 +16,10 @@ use Rattle.dual_grid.proofs.PushLemmas.{pushed_lists, within_after, within_all}
 use Rattle.dual_grid.proofs.ReadLemmas.{read_32}
 use Rattle.dual_grid.proofs.grid.DualGridFlowNet.push.Goals as goal
 use Rattle.dual_grid.proofs.grid.DualGridFlowNet.push.Goals.{After-carry}
+
+-- the grid's state where all potentials are 0
+abbrev flat_state : DualGrid → State
+flat_state g = flat_state_by g.window g.steep g.weights.items g.flows.items g.excesses.items
 
 pub flow_after-requires-clause-flow : goal.flow_after-requires-clause-flow
 flow_after-requires-clause-flow c =
@@ -46,12 +52,12 @@ carry-requires-clause-from c =
 pub carry-requires-clause-low : goal.carry-requires-clause-low
 carry-requires-clause-low c =
     let g = c.args.self.now in
-    rw c.tail-tail.ensures (low-fits (grid_shape g) c.args.arc c.args.amount (grid_state g) g.is_network c.requires.arc g.room c.requires.room)
+    rw c.tail-tail.ensures (low-fits (grid_shape g) c.args.arc c.args.amount (flat_state g) g.is_network c.requires.arc g.room c.requires.room)
 
 pub carry-requires-clause-high : goal.carry-requires-clause-high
 carry-requires-clause-high c = λ apart. (
     let g = c.args.self.now in
-    rw c.head-head.ensures (high-fits (grid_shape g) c.args.arc c.args.amount (grid_state g) g.is_network c.requires.arc g.room c.requires.room (λ e. apart (c.tail-tail.ensures ∙ e ∙ sym c.head-head.ensures))))
+    rw c.head-head.ensures (high-fits (grid_shape g) c.args.arc c.args.amount (flat_state g) g.is_network c.requires.arc g.room c.requires.room (λ e. apart (c.tail-tail.ensures ∙ e ∙ sym c.head-head.ensures))))
 
 -- the flow that is written
 flow_written : (c : goal.After-carry) → to_z w32 (of_z w32 c.flow_after.result) ≡ flow_after (number_or_zero c.args.self.now.flows.items (c.args.arc / 8)) (c.args.arc % 8) c.args.amount
@@ -84,7 +90,8 @@ invariant_of-self c =
       };
       within = within_after g.window g.steep g.weights.items g.flows.items g.excesses.items g.potentials.items c.args.arc c.args.amount g.fit g.within g.has_reduced_costs c.requires.arc c.requires.tight c.requires.room (to_z w32 (of_z w32 c.flow_after.result)) (flow_written c);
       is_network = g.is_network;
-      room = room-pushed (grid_shape g) c.args.arc c.args.amount (grid_state g) _ g.is_network c.requires.arc moved g.room;
+      room = room-pushed (grid_shape g) c.args.arc c.args.amount (flat_state g) _ g.is_network c.requires.arc (record { residual = moved.residual; excess = moved.excess; potential = λ u l. refl }) g.room;
+      reach = g.reach;
       has_reduced_costs = kept-pushed (grid_shape g) c.args.arc c.args.amount (grid_state g) _ g.is_network g.has_reduced_costs c.requires.arc c.requires.tight moved;
     }
 

@@ -1,12 +1,10 @@
 -- For the crates above: passes only learn more.
-use Rattle.std.proofs.Common.{◌≡◌, ◌++◌, [], sym, ◌∙◌, ap, subst, refl, List, Option, ℕ}
-use mathlib.Core.List.{IsPrefix}
+use Rattle.std.proofs.Common.{[], sym, ◌∙◌, refl}
 use Rattle.std.proofs.lemmas.List.{append-nil}
 use Rattle.raster_model.specs.declared.session.Session.{Session}
-use Rattle.tile_board.specs.declared.entry.Entry.{Entry}
 use Rattle.tile_board.specs.BoardView.{BoardView}
 use Rattle.board_desk.specs.Mine.{mine_of}
-use Rattle.board_desk.specs.Passes.{Called, DeskView, HasNotMoved, IsLaterPass, IsPassOf, IsSamePass, Merged, PassView}
+use Rattle.board_desk.specs.Passes.{Called, DeskView, IsLaterPass, IsPassOf, Merged, PassView}
 use Rattle.board_desk.proofs.Histories.{prefix_self, prefix_trans}
 
 pub later_self : (p : PassView) → IsLaterPass p p

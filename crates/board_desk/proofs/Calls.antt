@@ -1,8 +1,8 @@
 -- From a call of the board to what the desk's call tells.
-use Rattle.std.proofs.Common.{◌≡◌, ◌≢◌, ◌⊎◌, ℕ, ◌+◌, ◌-◌, ◌==◌, Bool, true, false, cond, List, [], ◌∷◌, ◌++◌, Option, Some, None, Result, Ok, Err, refl, ap, sym, ◌∙◌, subst, ne_eqb, length}
+use Rattle.std.proofs.Common.{◌≡◌, ◌≢◌, ℕ, ◌==◌, Bool, cond, List, [], ◌∷◌, ◌++◌, Option, Some, Result, Ok, Err, refl, ap, sym, ◌∙◌, subst, ne_eqb}
 use Rattle.std.specs.Prelude.{option_map}
-use Rattle.std.specs.Option.{IfSome}
-use Rattle.std.specs.Result.{IfOk, IfErr, MatchResult, OnErr, OnOk}
+use Rattle.std.specs.Result.{IfOk, IfErr, OnErr, OnOk}
+use Rattle.std.specs.Global.{Vec}
 use Rattle.std.proofs.lemmas.List.{append-nil}
 use Rattle.std.proofs.lemmas.Result.{IfOk-weaker}
 use Rattle.atomic_table.specs.Seated.{TableId}
@@ -24,11 +24,11 @@ use Rattle.tile_board.specs.declared.gathered.Gathered.{Gathered}
 use Rattle.tile_board.specs.declared.ticket.Ticket.{Ticket}
 use Rattle.tile_board.specs.BoardView.{BoardView}
 use Rattle.tile_board.specs.Boards.{IsBoard}
-use Rattle.tile_board.specs.Calls.{AddsEntry, HasAdvanceFault, HasClaimFault, HasGatherFault, HasKeepFault, HasPublishFault, IsAdvance, IsClaim, IsGathering, IsKeep, IsPublication}
+use Rattle.tile_board.specs.Calls.{AddsEntry, HasAdvanceFault, HasClaimFault, HasGatherFault, HasKeepFault, HasPublishFault, IsAdvance, IsClaim, IsGathering, IsKeep, IsPublication, AreClaims}
 use Rattle.tile_board.specs.Surfaces.{IsNewestIn, last_surface}
 use Rattle.tile_board.proofs.NewestSurface.{newest_in}
 use Rattle.board_desk.specs.declared.law.View.{View}
-use Rattle.board_desk.specs.Answers.{AdvanceAnswers, ClaimAnswers, GatherAnswers, KeepAnswers, NewestAnswers, PublishAnswers}
+use Rattle.board_desk.specs.Answers.{AdvanceAnswers, ClaimAnswers, GatherAnswers, KeepAnswers, NewestAnswers, PublishAnswers, ShareAnswers}
 use Rattle.board_desk.specs.Mine.{mine_of}
 use Rattle.board_desk.specs.Passes.{Called, PassView}
 use Rattle.board_desk.specs.Rules.{Grown, Grows, Held, Place, given, holding_it}
@@ -129,6 +129,10 @@ advance_grows a b c (Err e) ok err = stays (Some a) b c err
 pub claim_answers : (b c : BoardView) (answer : Result Ticket ClaimFault) → IfOk answer (IsClaim b) → IfErr answer (HasClaimFault b) → c ≡ b → ClaimAnswers answer b c
 claim_answers b c (Ok x) ok fault same = (ok, same)
 claim_answers b c (Err e) ok fault same = (fault, same)
+
+pub share_answers : (parts most : ℕ) (b c : BoardView) (answer : Result (Vec Ticket) ClaimFault) → IfOk answer (λ tickets. AreClaims b parts most tickets.items) → IfErr answer (HasClaimFault b) → c ≡ b → ShareAnswers parts most answer b c
+share_answers parts most b c (Ok x) ok fault same = (ok, same)
+share_answers parts most b c (Err e) ok fault same = (fault, same)
 
 pub gather_answers : (b : BoardView) (answer : Result Gathered GatherFault) → IfOk answer (IsGathering b) → IfErr answer (HasGatherFault b) → GatherAnswers answer b b
 gather_answers b (Ok x) ok fault = (ok, refl)

@@ -1,5 +1,5 @@
 -- The passes that a desk begins with, and those that it takes in as it closes.
-use Rattle.std.proofs.Common.{Bool, false, ◌≡◌, ◌≢◌, ℕ, ◌+◌, ◌<◌, zero, suc, true, List, [], ◌∷◌, ◌++◌, length, get_or, Option, Some, None, refl, ap, sym, ◌∙◌, subst, arith, append_assoc}
+use Rattle.std.proofs.Common.{false, ◌≡◌, ◌≢◌, ℕ, ◌+◌, ◌<◌, zero, suc, List, [], ◌∷◌, ◌++◌, length, get_or, Option, Some, None, refl, ap, sym, ◌∙◌, subst, arith, append_assoc}
 use Rattle.std.specs.Prelude.{replicate}
 use Rattle.std.proofs.lemmas.List.{length-replicate}
 use Rattle.std.proofs.lemmas.List.Elements.{All-append, All-nil, All-pop, All-same}
@@ -12,7 +12,6 @@ use Rattle.tile_board.specs.BoardView.{BoardView}
 use Rattle.board_desk.specs.declared.law.View.{View}
 use Rattle.board_desk.specs.Passes.{DeskView, HaveAnalysts, IsPassOf, PassView, Stands, first_pass, first_passes}
 use Rattle.board_desk.specs.Rules.{Held, IsRuled, Item, Place, opener}
-use Rattle.board_desk.specs.Seats.{pass_view}
 use Rattle.board_desk.proofs.Steps.{opens_at}
 
 -- ---- the table of a new desk

@@ -1,9 +1,8 @@
 -- What a pass keeps: what was added through it is what it has seen of its analyst, and an end that was told is one.
-use Rattle.std.proofs.Common.{◌≡◌, ℕ, ◌+◌, ◌||◌, Bool, true, false, List, [], ◌∷◌, ◌++◌, length, Option, Some, None, Result, Ok, Err, refl, ap, sym, ◌∙◌, subst, slice_get}
+use Rattle.std.proofs.Common.{◌≡◌, ℕ, ◌||◌, Bool, true, false, List, [], length, Option, Some, None, Result, Ok, Err, refl, ap, sym, ◌∙◌, subst, slice_get}
 use Rattle.std.specs.Result.{IfOk, OnErr}
 use Rattle.std.proofs.lemmas.List.Sums.{length-filter}
 use Rattle.atomic_table.specs.Seated.{TableId}
-use Rattle.raster_model.specs.declared.script.Command.{Command}
 use Rattle.raster_model.specs.declared.session.Session.{Session}
 use Rattle.tile_board.specs.declared.answers.Advance.{Advance}
 use Rattle.tile_board.specs.declared.answers.Advance.TheVariants as advances
@@ -11,7 +10,7 @@ use Rattle.tile_board.specs.declared.answers.AdvanceFault.{AdvanceFault}
 use Rattle.tile_board.specs.declared.entry.Entry.{Entry}
 use Rattle.tile_board.specs.BoardView.{BoardView}
 use Rattle.tile_board.specs.Calls.{IsAdvance}
-use Rattle.tile_board.specs.Histories.{IsStep, done_by, names, next_command, script_of}
+use Rattle.tile_board.specs.Histories.{done_by, names, next_command, script_of}
 use Rattle.board_desk.specs.declared.law.View.{View}
 use Rattle.board_desk.specs.Answers.{tells_end}
 use Rattle.board_desk.specs.Mine.{mine_of}

@@ -1,5 +1,5 @@
 -- What seats know, after each kind of step.
-use Rattle.std.proofs.Common.{◌≡◌, ◌≢◌, ◌⊎◌, inl, inr, ⊎_elim, ℕ, zero, suc, ◌+◌, ◌≤◌, ◌<◌, ◌==◌, eqb, leb, Bool, true, false, cond, List, [], ◌∷◌, ◌++◌, length, set, Some, None, refl, ap, sym, ◌∙◌, subst, arith}
+use Rattle.std.proofs.Common.{◌≡◌, ◌≢◌, ◌⊎◌, inl, inr, ⊎_elim, ℕ, zero, suc, ◌+◌, ◌≤◌, ◌<◌, eqb, leb, Bool, true, false, cond, List, [], ◌∷◌, ◌++◌, length, set, Some, None, refl, ap, sym, ◌∙◌, subst, arith}
 use mathlib.Core.List.{IsPrefix}
 use mathlib.Core.Option.{some}
 use lib.ListN.{get_elem?}
@@ -9,8 +9,8 @@ use Rattle.raster_model.specs.declared.session.Session.{Session}
 use Rattle.tile_board.specs.declared.entry.Entry.{Entry}
 use Rattle.board_desk.specs.declared.law.View.{View}
 use Rattle.board_desk.specs.Mine.{mine_of}
-use Rattle.board_desk.specs.Rules.{HoldsIn, Fits, claim, no_claim, opener, spent, enrolling, enrolled, plain_copy, with_seen, longer_of, beside_of, holding_it, given}
-use Rattle.board_desk.proofs.Histories.{prefix_nil, prefix_self, prefix_more, prefix_shorter, same_mine, none_before, mine_between}
+use Rattle.board_desk.specs.Rules.{HoldsIn, Fits, claim, no_claim, opener, spent, enrolling, enrolled, plain_copy, with_seen, holding_it, given}
+use Rattle.board_desk.proofs.Histories.{prefix_nil, prefix_self, prefix_more, same_mine, none_before, mine_between}
 
 -- the view of one seat changes
 pub each_set : (P : ℕ → View → Type 0) (vs : List View) (me : ℕ) (w : View) → P me w → ((j : ℕ) (v : View) → j ≢ me → get_elem? vs j ≡ some v → P j v)

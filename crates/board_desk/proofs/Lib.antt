@@ -5,6 +5,7 @@ pub mod Holding
 pub mod Merging
 pub mod Ending
 pub mod Calls
+pub mod Keeping
 pub mod Publications
 pub mod Closing
 pub mod Telling

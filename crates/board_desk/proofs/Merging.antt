@@ -1,7 +1,7 @@
 -- From the look after a join to what is told of it.
 use Rattle.std.proofs.Common.{◌≡◌, ◌⊎◌, inl, inr, ⊎_elim, ℕ, ◌<◌, ◌≤◌, leb, Bool, true, false, cond, List, [], Option, Some, length, ap, sym, ◌∙◌, subst, arith}
 use Rattle.atomic_table.specs.Seated.{TableId}
-use Rattle.tile_board.specs.Histories.{newest_of, next_command}
+use Rattle.tile_board.specs.Histories.{newest_of}
 use Rattle.board_desk.specs.declared.pass.Heard.{Heard}
 use Rattle.board_desk.specs.Mine.{mine_of}
 use Rattle.board_desk.specs.Passes.{IsSound}

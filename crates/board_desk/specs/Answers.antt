@@ -1,5 +1,7 @@
 -- What the desk answers: what the board that stood there answers, and the board that this leaves.
-use Rattle.std.specs.Prelude.{◌≡◌, ◌||◌, ℕ, Bool, true, false, Option, Some, Result, Ok, Err, option_map, ⊤}
+use Rattle.std.specs.Prelude.{◌≡◌, ℕ, Bool, true, false, List, [], ◌∷◌, Option, Some, Result, Ok, Err, is_err, option_map, ⊤}
+use Rattle.std.specs.Global.{Vec}
+use Rattle.std.specs.List.{list_any}
 use Rattle.std.specs.Option.{IfSome}
 use Rattle.std.specs.Result.{IfOk, MatchResult}
 use Rattle.raster_model.specs.declared.script.Edit.{Edit}
@@ -14,12 +16,13 @@ use Rattle.tile_board.specs.declared.answers.AdvanceFault.{AdvanceFault}
 use Rattle.tile_board.specs.declared.answers.ClaimFault.{ClaimFault}
 use Rattle.tile_board.specs.declared.answers.GatherFault.{GatherFault}
 use Rattle.tile_board.specs.declared.answers.KeepFault.{KeepFault}
+use Rattle.tile_board.specs.declared.answers.KeepFault.TheVariants as keep_faults
 use Rattle.tile_board.specs.declared.answers.PublishFault.{PublishFault}
 use Rattle.tile_board.specs.declared.entry.Entry.TheVariants.{Published, Revised, Settled, Shown}
 use Rattle.tile_board.specs.declared.gathered.Gathered.{Gathered}
 use Rattle.tile_board.specs.declared.ticket.Ticket.{Ticket}
 use Rattle.tile_board.specs.BoardView.{BoardView}
-use Rattle.tile_board.specs.Calls.{HasAdvanceFault, HasClaimFault, HasGatherFault, HasKeepFault, HasPublishFault, IsAdvance, IsClaim, IsGathering, IsKeep, IsPublication}
+use Rattle.tile_board.specs.Calls.{AreClaims, HasAdvanceFault, HasClaimFault, HasGatherFault, HasKeepFault, HasPublishFault, IsAdvance, IsClaim, IsGathering, IsKeep, IsPublication}
 use Rattle.tile_board.specs.Histories.{newest_of, now_of}
 use Rattle.tile_board.specs.Runs.{IsNoLater}
 use Rattle.tile_board.specs.Surfaces.{last_surface}
@@ -28,8 +31,33 @@ use Rattle.board_desk.specs.Passes.{PassView, AddsOwn, IsAtSettle}
 abbrev pub ClaimAnswers : Result Ticket ClaimFault → BoardView → BoardView → Type 0
 ClaimAnswers answer old new = MatchResult answer (IsClaim old) (HasClaimFault old) × (new ≡ old)
 
+abbrev pub ShareAnswers : ℕ → ℕ → Result (Vec Ticket) ClaimFault → BoardView → BoardView → Type 0
+ShareAnswers parts most answer old new = MatchResult answer (λ tickets. AreClaims old parts most tickets.items) (HasClaimFault old) × (new ≡ old)
+
 abbrev pub KeepAnswers : {U : Type 0} → TileResult → Result U KeepFault → BoardView → BoardView → Type 0
 KeepAnswers solved answer old new = MatchResult answer (λ _. IsKeep old new solved) (λ fault. HasKeepFault old solved fault × (new ≡ old))
+
+-- memory was lacking for the result
+abbrev pub is_starved : {U : Type 0} → Result U KeepFault → Bool
+is_starved (Ok done) = false
+is_starved (Err (keep_faults.Stranger t)) = false
+is_starved (Err (keep_faults.Stale r)) = false
+is_starved (Err keep_faults.Double) = false
+is_starved (Err (keep_faults.Uncertified verdict)) = false
+is_starved (Err keep_faults.Memory) = true
+
+-- results are handed in one after another, each to the board that the one before it left; these are their answers, in order
+abbrev pub KeepsEach : {U : Type 0} → List TileResult → List (Result U KeepFault) → BoardView → BoardView → Type 0
+KeepsEach [] [] old new = new ≡ old
+KeepsEach [] (answer ∷ answers) old new = ⊥
+KeepsEach (solved ∷ rest) [] old new = ⊥
+KeepsEach (solved ∷ rest) (answer ∷ answers) old new = (next : BoardView) × KeepAnswers solved answer old next × KeepsEach rest answers next new
+
+-- all of them are handed in, and it fails exactly if memory was lacking for one
+pub record KeepAllAnswers {U E : Type 0} (solved : List TileResult) (answer : Result U E) (old new : BoardView) : Type 0 where
+  pub answers : List (Result U KeepFault)
+  pub each : KeepsEach solved answers old new
+  pub starved : is_err answer ≡ list_any is_starved answers
 
 abbrev pub GatherAnswers : Result Gathered GatherFault → BoardView → BoardView → Type 0
 GatherAnswers answer old new = MatchResult answer (IsGathering old) (HasGatherFault old) × (new ≡ old)

@@ -1,8 +1,9 @@
-ghost use Rattle.board_desk.specs.Answers.{tells_end};
+ghost use Rattle.board_desk.specs.Answers.{KeepAllAnswers, is_starved, tells_end};
 ghost use Rattle.board_desk.specs.Mine.{mine_of};
 ghost use Rattle.board_desk.specs.Passes.{HaveAnalysts, IsPassOf, PassView, Stands, desk_of, first_passes as passes_to};
 ghost use Rattle.board_desk.specs.Rules.{Merges, longer_of};
 ghost use Rattle.std.specs.Prelude.{◌≡◌, ◌≢◌, ◌+◌, ◌-◌, ◌<◌, ◌^◌, ◌||◌, [], All, IfOk, None, Some, false, true};
+ghost use Rattle.tile_board.specs.Calls.{WasGood};
 
 use crate::law::{Copied, Enroll, Law, Look, Return, Settle, Sit, View};
 use crate::lock::{Hall, Place, WORDS, give_board, take_board};
@@ -41,7 +42,7 @@ impl Model for Desk {
 }
 
 impl Desk {
-    ghost use Rattle.board_desk.specs.Answers.{AdvanceAnswers, AwaitsSurface, ClaimAnswers, GatherAnswers, IsCurrent, IsOfSettle, IsUpToDate, KeepAnswers, NewestAnswers, OwnAdvance, OwnPublish, PublishAnswers, tells_end};
+    ghost use Rattle.board_desk.specs.Answers.{AdvanceAnswers, AwaitsSurface, ClaimAnswers, GatherAnswers, IsCurrent, IsOfSettle, IsUpToDate, KeepAllAnswers, KeepAnswers, NewestAnswers, OwnAdvance, OwnPublish, PublishAnswers, ShareAnswers, tells_end};
     ghost use Rattle.board_desk.specs.Passes.{Called, HasNotMoved, HaveAnalysts, IsAtSettle, IsPassOf, Merged, Stands, first_passes as passes_to, worker_pass as new_worker};
     ghost use Rattle.seam_regions.specs.Regions.{AreRegionsOf};
     ghost use Rattle.std.specs.Prelude.{◌≡◌, ◌≢◌, ◌||◌, [], All, Err, IfOk, None, OnOk, length, vec_len};
@@ -127,6 +128,30 @@ impl Desk {
         }
     }
 
+    /// Asks for several tiles to solve, as `Board::claim_share` gives them.
+    pub fn claim_share<R: Wait>(
+        &self,
+        rt: &R,
+        alloc: Global,
+        pass: &mut Pass,
+        parts: u32,
+        most: u32,
+    ) -> Stamped<Result<Vec<Ticket>, ClaimFault>>
+        requires { IsPassOf self.now pass.old }
+        ensures call { Called self.now.session pass.old pass.new (ShareAnswers parts most result.answer) }
+        ensures own { HasNotMoved pass.old pass.new }
+        ensures front { result.front ≡ length pass.new.seen }
+    {
+        let mut board = take_board(rt, &self.table.shared, &mut pass.seat);
+        let answer = board.claim_share(alloc, parts, most);
+        pass.heard = Heard::of(&board, pass.analyst);
+        give_board(&self.table.shared, &mut pass.seat, board);
+        Stamped {
+            front: pass.heard.front,
+            answer,
+        }
+    }
+
     /// Hands in a tile's result, to be kept as by `Board::keep`.
     pub fn keep<R: Wait>(
         &self,
@@ -167,6 +192,32 @@ impl Desk {
     {
         let mut board = take_board(rt, &self.table.shared, &mut pass.seat);
         let answer = board.keep_solved(alloc, solved);
+        pass.heard = Heard::of(&board, pass.analyst);
+        give_board(&self.table.shared, &mut pass.seat, board);
+        Stamped {
+            front: pass.heard.front,
+            answer,
+        }
+    }
+
+    /// Hands in several results that were good at the end of what the pass has seen, to be kept one after another as by
+    /// `Board::keep_solved`, while nobody else has the board. A result that is refused does not stop the others. It fails
+    /// exactly if memory was lacking for one of them.
+    pub fn keep_all<R: Wait>(
+        &self,
+        rt: &R,
+        alloc: Global,
+        pass: &mut Pass,
+        solved: Vec<TileResult>,
+    ) -> Stamped<Result<(), AllocError>>
+        requires pass { IsPassOf self.now pass.old }
+        requires good { All (WasGoodAt self.now.session pass.old.seen) solved.items }
+        ensures call { Called self.now.session pass.old pass.new (KeepAllAnswers solved.items result.answer) }
+        ensures own { HasNotMoved pass.old pass.new }
+        ensures front { result.front ≡ length pass.new.seen }
+    {
+        let mut board = take_board(rt, &self.table.shared, &mut pass.seat);
+        let answer = keep_each(alloc, &mut board, solved);
         pass.heard = Heard::of(&board, pass.analyst);
         give_board(&self.table.shared, &mut pass.seat, board);
         Stamped {
@@ -336,6 +387,26 @@ fn number(pass: &Pass) -> u32
         Some(analyst) => analyst,
         None => unreachable!(),
     }
+}
+
+/// Hands results in to a board, one after another. It fails exactly if memory was lacking for one of them.
+fn keep_each(alloc: Global, board: &mut Board, solved: Vec<TileResult>) -> Result<(), AllocError>
+    requires { All (WasGood board.old) solved.items }
+    ensures { KeepAllAnswers solved.items result board.old board.new }
+{
+    let mut starved = false;
+    for tile in solved {
+        let answer = board.keep_solved(alloc, tile);
+        starved |= lacked_memory(&answer);
+    }
+    if starved { Err(AllocError) } else { Ok(()) }
+}
+
+/// Whether memory was lacking for a result.
+fn lacked_memory(answer: &Result<(), KeepFault>) -> bool
+    ensures { result ≡ is_starved answer.now }
+{
+    *answer == Err(KeepFault::Memory)
 }
 
 /// Whether a script has ended: it had before, or an answer says so.

@@ -25,6 +25,7 @@ keep 0 1 4 1 = Ok(())
 keep 0 1 4 1 = Err(Double)
 keep 1 0 4 1 = Err(Stranger(1))
 claim = Err(NoJob)
+share 8 64 = Err(NoJob)
 gather = Ok(1)";
 
 #[test]
@@ -109,6 +110,24 @@ claim = Ok((4, 0))";
 #[test]
 fn tiles_are_claimed_in_turn(rt: HostRuntime) -> Result<(), Fail> {
     answered(rt.alloc(), FLAT, 2, IN_TURN)
+}
+
+/// Of the 64 tiles an eighth, and no more than 5; at least one, though none is asked for or a part has less than one; two of
+/// all, as with no parts it is one part. Of 63 an eighth is 7, and a hundredth one.
+const SHARES: &str = "\
+share 8 64 = Ok([0, 1, 2, 3, 4, 5, 6, 7])
+share 8 5 = Ok([8, 9, 10, 11, 12])
+share 8 0 = Ok([13])
+share 65 64 = Ok([14])
+share 0 2 = Ok([15, 16])
+keep 0 0 2 0 = Ok(())
+share 8 64 = Ok([17, 18, 19, 20, 21, 22, 23])
+share 32 64 = Ok([24])
+entries = [Kept { tile: 0, stamp: 0 }]";
+
+#[test]
+fn a_share_is_one_part_of_what_is_left(rt: HostRuntime) -> Result<(), Fail> {
+    answered(rt.alloc(), FLAT, 2, SHARES)
 }
 
 /// The same turn without a script, with edges that weigh 5 (top), 5 (right), 3 (bottom) and 3 (left). If the lower left

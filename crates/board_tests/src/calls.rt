@@ -7,7 +7,7 @@ use std::alloc::{AllocError, Global};
 use std::str::Split;
 use std::test::Fail;
 use surface_snapshots::Snapshot;
-use tile_board::{Board, ClaimFault, GatherFault, KeepFault, PublishFault};
+use tile_board::{Board, ClaimFault, GatherFault, KeepFault, PublishFault, Ticket};
 
 /// The next word as a number, and 99 if there is none.
 fn number(words: &mut Split<'_, char>) -> u32 {
@@ -29,6 +29,26 @@ fn claims(alloc: Global, board: &mut Board, count: u32) -> Result<String, AllocE
         }
     }
     format!(in alloc; "{tiles:?}")
+}
+
+/// The tiles of the tickets of a share, which two words number: how many parts there are, and how many tickets at most.
+fn shared(
+    alloc: Global,
+    board: &mut Board,
+    words: &mut Split<'_, char>,
+) -> Result<Vec<u32>, ClaimFault> {
+    let (parts, most) = (number(words), number(words));
+    let tickets = board.claim_share(alloc, parts, most)?;
+    Ok(tiles_of(alloc, &tickets)?)
+}
+
+/// The tiles of tickets.
+fn tiles_of(alloc: Global, tickets: &[Ticket]) -> Result<Vec<u32>, AllocError> {
+    let mut tiles = Vec::new(alloc);
+    for ticket in tickets {
+        tiles.push(ticket.tile)?;
+    }
+    Ok(tiles)
 }
 
 /// The result of a tile at a stamp, with these numbers of cycles and faces, all of them 0.
@@ -167,6 +187,7 @@ fn answer(alloc: Global, board: &mut Board, call: &str) -> Result<String, AllocE
         "hand" => format!(in alloc; "{:?}", hand(alloc, board, &mut words)),
         "keep" => format!(in alloc; "{:?}", keep(alloc, board, &mut words)),
         "publish" => format!(in alloc; "{:?}", publish(alloc, board, &mut words)),
+        "share" => format!(in alloc; "{:?}", shared(alloc, board, &mut words)),
         word => look(alloc, board, word),
     }
 }

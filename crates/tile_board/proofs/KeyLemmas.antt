@@ -16,7 +16,7 @@ use Rattle.tile_board.specs.Lacking.{AreAddedFresh, AreLacking, AreLackingWith, 
 tied : (a b : ℕ) → is_eq (nat_cmp a b) ≡ (a == b)
 tied a b = grind (arith, nat_tests)
 
-key_at : (a b c t : ℕ) → is_at (key_order (a, b)) (c, t) ≡ is_key a b c t
+pub key_at : (a b c t : ℕ) → is_at (key_order (a, b)) (c, t) ≡ is_key a b c t
 key_at a b c t = sym (tied_then (nat_cmp a c) (nat_cmp b t)) ∙ ap₂ (λ (x y : Bool). x && y) (tied a c) (tied b t)
 
 when_true : (x y : Bool) → cond x true y ≡ (x || y)

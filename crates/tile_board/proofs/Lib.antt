@@ -1,5 +1,6 @@
 pub mod ListLemmas
 pub mod KeyLemmas
+pub mod ShareLemmas
 pub mod HistoryLemmas
 pub mod PlaceLemmas
 pub mod LackingLemmas

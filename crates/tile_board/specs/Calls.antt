@@ -1,5 +1,5 @@
 -- What the calls of a board answer, and what they add.
-use Rattle.std.specs.Prelude.{◌≡◌, ◌≢◌, ℕ, ◌<◌, ◌≤◌, Bool, IsTrue, IsFalse, Some, None, List, [], ◌∷◌, ◌++◌, length, map, replicate, set, slice_get, if◌then◌else◌}
+use Rattle.std.specs.Prelude.{◌≡◌, ◌≢◌, ℕ, ◌/◌, ◌<◌, ◌≤◌, All, Bool, IsTrue, IsFalse, Some, None, List, [], ◌∷◌, ◌++◌, count_by, is_none, length, map, max, min, replicate, set, slice_get, if◌then◌else◌}
 use Rattle.std.specs.Arc.{arc_value}
 use mathlib.Core.List.{IsPrefix}
 use Rattle.raster_model.specs.declared.script.Command.TheVariants.{Settle}
@@ -64,6 +64,18 @@ pub record IsClaim (v : BoardView) (ticket : Ticket) : Type 0 where
   pub lacking : IsFalse (is_kept v.session v.entries ticket.tile)
   pub stamp : ticket.stamp ≡ stamp_in v.session v.entries ticket.tile
   pub window : IsWindowMask (window_of v.session.scene.tiling ticket.tile) (mask_now v) ticket.unmasked.items
+
+-- how many tiles have no kept result; and how many of so many a share is: one part of them if they are divided into so many, but no more than the most, and never none
+abbrev pub lacking_count : BoardView → ℕ
+lacking_count v = count_by is_none v.kept
+
+abbrev pub share_size : ℕ → ℕ → ℕ → ℕ
+share_size lacking parts most = max 1 (min most (lacking / max 1 parts))
+
+-- as many claims as the share has tiles
+pub record AreClaims (v : BoardView) (parts most : ℕ) (tickets : List Ticket) : Type 0 where
+  pub count : length tickets ≡ share_size (lacking_count v) parts most
+  pub each : All (IsClaim v) tickets
 
 -- every tile is kept; or one is not, and there is no memory for its mask
 abbrev pub HasClaimFault : BoardView → ClaimFault → Type 0

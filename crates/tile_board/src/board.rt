@@ -1,3 +1,6 @@
+ghost use Rattle.std.specs.Prelude.{◌≡◌};
+ghost use Rattle.tile_board.specs.Calls.{share_size};
+
 use crate::answers::{Advance, AdvanceFault, ClaimFault, GatherFault, KeepFault, PublishFault};
 use crate::cursors::{all_ended, command_at, cursor_of};
 use crate::entry::Entry;
@@ -56,6 +59,7 @@ impl Board {
     ghost use Rattle.tile_board.specs.Boards.{IsBoard, IsSurfaceOf};
     ghost use Rattle.tile_board.specs.Calls.{
       AddsAlone,
+      AreClaims,
       AreKeptResults,
       ArePublishable,
       HasAdvanceFault,
@@ -75,6 +79,7 @@ impl Board {
       MaySettle,
       WasGood,
       WasMask,
+      lacking_count,
       mask_now,
     };
     ghost use Rattle.tile_board.specs.Histories.{
@@ -132,6 +137,28 @@ impl Board {
             stamp: self.revisions.stamp(tile),
             unmasked,
         })
+    }
+
+    /// Gives several tiles to solve, as `claim` gives one: one part of those that are not kept, if they are divided into
+    /// `parts`, but at most `most`, and at least one. With no parts it is as with one part. `Memory` is returned only if
+    /// there is a tile that is not kept. What contracts see of the board does not change.
+    pub fn claim_share(
+        &mut self,
+        alloc: Global,
+        parts: u32,
+        most: u32,
+    ) -> Result<Vec<Ticket>, ClaimFault>
+        ensures claimed { IfOk result (λ tickets. AreClaims self.old parts most tickets.items) }
+        ensures refused { IfErr result (HasClaimFault self.old) }
+        ensures unchanged { self.new ≡ self.old }
+    {
+        let mut tickets = Vec::new(alloc);
+        for _ticket in 0..share_of(self.lacking_tiles(), parts, most) {
+            let ticket = self.claim(alloc)?;
+            tickets.reserve(1)?;
+            push_within(&mut tickets, ticket);
+        }
+        Ok(tickets)
     }
 
     /// Keeps a result for its tile, if it is good under the present mask, and adds an entry. A refusal changes nothing.
@@ -297,6 +324,13 @@ impl Board {
         ensures { result ≡ next_command self.now.session self.now.entries analyst }
     {
         command_at(&self.session.scripts, analyst, self.done(analyst))
+    }
+
+    /// How many tiles have no kept result.
+    fn lacking_tiles(&self) -> usize
+        ensures { result ≡ lacking_count self.now }
+    {
+        self.lacking.count()
     }
 
     /// Whether a result may be kept, or the first reason why not.
@@ -523,4 +557,12 @@ impl Board {
         self.cursors[analyst as usize - 1] += 1;
         Ok(())
     }
+}
+
+/// How many tiles a share has, of so many that lack a result.
+fn share_of(lacking: usize, parts: u32, most: u32) -> usize
+    ensures { result ≡ share_size lacking parts most }
+{
+    let part = lacking / parts.max(1) as usize;
+    part.min(most as usize).max(1)
 }

@@ -39,6 +39,7 @@ impl Model for LackingTiles {
 }
 
 impl LackingTiles {
+    ghost use Rattle.std.specs.BTreeSet.{IsOrdered, btree_set_len};
     ghost use Rattle.std.specs.Prelude.{◌≡◌, ◌<◌, ◌≤◌, ℕ, Bool, IfOk, IsTrue, OnErr, OnOk, length, slice_index};
     ghost use Rattle.tile_board.specs.Lacking.{
       AreAllFresh,
@@ -48,6 +49,7 @@ impl LackingTiles {
       but_for,
       is_below,
       is_listed,
+      key_order,
       lacks_in,
       with_listed,
     };
@@ -70,6 +72,14 @@ impl LackingTiles {
             Some(key) => Some(key.1),
             None => None,
         }
+    }
+
+    /// How many tiles lack a result: as many as there are keys.
+    pub(crate) fn count(&self) -> usize
+        ensures count { result ≡ btree_set_len self.now.keys }
+        ensures ordered { IsOrdered key_order self.now.keys }
+    {
+        self.keys.len()
     }
 
     /// Counts a claim of a tile that lacks a result.

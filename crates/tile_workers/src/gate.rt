@@ -1,7 +1,7 @@
-/// What a worker passes after each claim, before it solves, holding no lock. It means nothing; a test can hold a worker by
-/// it.
+/// What a worker passes before it solves each tile that it claimed, holding no lock. It means nothing; a test can hold a
+/// worker by it.
 pub trait Gate: Sync {
-    /// The worker of this number, from 1, is about to solve.
+    /// The worker of this number, from 1, is about to solve a tile.
     fn enter(&self, worker: u32);
 }
 

@@ -119,6 +119,7 @@ fn hire<R: Wait>(
     for before in 0..count {
         workers.push(Worker {
             number: before + 1,
+            count,
             pass: desk.worker_pass(rt, pass),
             starved: false,
         })?;

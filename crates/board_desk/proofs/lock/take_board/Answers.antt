@@ -1,6 +1,4 @@
 use Rattle.std.proofs.Common.{rules, arith, ◌∙◌, ap}
-use Rattle.atomic_table.specs.Table.{step}
-use mathlib.Core.Option.{none}
 use Rattle.board_desk.specs.Rules.{Place}
 use Rattle.board_desk.proofs.Steps.{adds_one, takes_board, ticket_apart}
 use Rattle.board_desk.proofs.Holding.{took_out, has_slot}

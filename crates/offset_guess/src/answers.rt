@@ -75,7 +75,7 @@ fn take_least(links: &[Option<Link>], joint_of: &[u32], outcomes: &mut [Outcome]
     for (link, joint) in links.iter().zip(joint_of) {
         if let Some(link) = link {
             if let Some(outcome) = outcomes.get_mut(*joint as usize) {
-                let departure = link.departure.wrapping_add(i64::from(outcome.rise));
+                let departure = departure(*link, *outcome);
                 let least = least_flow(departure, link.weight, steep);
                 outcome.flow = outcome.flow.wrapping_sub(least);
             }
@@ -85,12 +85,17 @@ fn take_least(links: &[Option<Link>], joint_of: &[u32], outcomes: &mut [Outcome]
 
 /// What a link carries: the least that it can, and of what is left of its joint's flow as much as it can.
 fn share(link: Link, outcome: &mut Outcome, steep: u32) -> i64 {
-    let departure = link.departure.wrapping_add(i64::from(outcome.rise));
+    let departure = departure(link, *outcome);
     let least = least_flow(departure, link.weight, steep);
     let most = least_flow(departure.wrapping_neg(), link.weight, steep).wrapping_neg();
     let more = outcome.flow.min(most.wrapping_sub(least)).max(0);
     outcome.flow = outcome.flow.wrapping_sub(more);
     least.wrapping_add(more)
+}
+
+/// By how many whole cycles the surface departs at a link with the offsets of its regions.
+fn departure(link: Link, outcome: Outcome) -> i64 {
+    i64::from(link.departure).wrapping_add(i64::from(outcome.rise))
 }
 
 /// The least that a link with a departure can carry to its second region: what one cycle less costs less.

@@ -33,7 +33,7 @@ impl Network {
     pub(crate) fn add_links(&mut self, links: &[Option<Link>], joint_of: &[u32], steep: u32) {
         for (link, joint) in links.iter().zip(joint_of) {
             if let Some(link) = link {
-                let rise = narrow(link.departure.wrapping_neg());
+                let rise = link.departure.wrapping_neg();
                 let weight = u32::from(link.weight);
                 self.add_step(*joint, rise, weight.wrapping_mul(2));
                 if steep > 1 {

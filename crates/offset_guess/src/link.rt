@@ -5,8 +5,8 @@ pub struct Link {
     pub from: u32,
     /// The region of the other.
     pub to: u32,
+    /// By how many whole cycles the surface of the tiles' results departs there.
+    pub departure: i32,
     /// The edge's weight.
     pub weight: u16,
-    /// By how many whole cycles the surface of the tiles' results departs there.
-    pub departure: i64,
 }

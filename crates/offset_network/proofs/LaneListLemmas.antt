@@ -1,5 +1,5 @@
 -- The lanes of links, and their places in the list.
-use Rattle.std.proofs.Common.{◌≡◌, ℕ, ◌+◌, ◌-◌, ◌*◌, ◌<◌, ◌≤◌, ◌∙◌, ap, sym, subst, refl, arith, Bool, true, false, List, [], ◌∷◌, ◌++◌, length, inl, inr, to_z, of_z, w64, FitsSigned}
+use Rattle.std.proofs.Common.{◌≡◌, ℕ, ◌+◌, ◌-◌, ◌*◌, ◌<◌, ◌≤◌, ◌∙◌, ap, sym, subst, refl, arith, Bool, true, false, List, [], ◌∷◌, ◌++◌, length, inl, inr, to_z, of_z, w32, w64, FitsSigned}
 use Rattle.std.specs.Prelude.{ℤ, ◌-ℤ◌, ◌==◌, Option, Some, None, if◌then◌else◌, unsigned_abs}
 use Rattle.std.proofs.lemmas.Int.{ints}
 use Rattle.std.proofs.lemmas.Nat.{mul-le}
@@ -14,8 +14,8 @@ use Rattle.sums_and_lists.proofs.Orders.{below_at_past, below_or_last}
 
 -- ---- one lane
 -- its departure in code at 64 bits
-pub departure_less : (d x : ℤ) → unsigned_abs d ≤ 16777217 → unsigned_abs x ≤ 1 → FitsSigned w64 (to_z w64 (of_z w64 d) -ℤ to_z w64 (of_z w64 x)) × (to_z w64 (of_z w64 (to_z w64 (of_z w64 d) -ℤ to_z w64 (of_z w64 x))) ≡ d -ℤ x)
-departure_less d x l m = (omega (arith, ints, l, m), omega (arith, ints, l, m))
+pub departure_less : (k d x : ℤ) → d ≡ to_z w32 (of_z w32 k) → unsigned_abs k ≤ 16777217 → unsigned_abs x ≤ 1 → FitsSigned w64 (to_z w64 (of_z w64 d) -ℤ to_z w64 (of_z w64 x)) × (to_z w64 (of_z w64 (to_z w64 (of_z w64 d) -ℤ to_z w64 (of_z w64 x))) ≡ k -ℤ x)
+departure_less k d x e l m = (omega (arith, ints, e, l, m), omega (arith, ints, e, l, m))
 
 -- it is as its link and its range are
 pub lane_made : (o : Option Link) (k : Link) (low high : ℕ) (less d : ℤ) → o ≡ Some k → (low + high ≡ 0 → ⊥) → d ≡ k.departure -ℤ less → (let m : Lane = record { from = k.from; to = k.to; low = low; high = high; departure = d } in Some m) ≡ lane_of o low high less

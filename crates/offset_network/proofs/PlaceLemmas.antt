@@ -1,5 +1,5 @@
 -- The links of seam edges, and their places in the list.
-use Rattle.std.proofs.Common.{◌≡◌, ℕ, ◌+◌, ◌<◌, ◌≤◌, ◌∙◌, ap, sym, subst, refl, arith, Bool, true, false, List, [], ◌∷◌, ◌++◌, length, inl, inr, to_z, of_z, w64}
+use Rattle.std.proofs.Common.{◌≡◌, ℕ, ◌+◌, ◌<◌, ◌≤◌, ◌∙◌, ap, sym, subst, refl, arith, Bool, true, false, List, [], ◌∷◌, ◌++◌, length, inl, inr, to_z, of_z, w32}
 use Rattle.std.specs.Prelude.{ℤ, ◌&&◌, nat_lt, IsTrue, Option, Some, None, if◌then◌else◌, unsigned_abs}
 use Rattle.std.proofs.lemmas.Int.{ints}
 use Rattle.std.proofs.lemmas.List.{get_or_append_left, get_or_past, length-append}
@@ -81,8 +81,8 @@ link_fits r mask labels n e a b w d k lab seam reads lw ld q =
     same : (m k : Link) → Some m ≡ Some k → m ≡ k
     same m k e = cc
 
--- a departure in code at 64 bits
-pub departure_is : (d x : ℤ) → d ≡ x → unsigned_abs d ≤ 16777217 → (to_z w64 (of_z w64 d) ≡ x) × (unsigned_abs (to_z w64 (of_z w64 d)) ≤ 16777217)
+-- a departure in code at 32 bits
+pub departure_is : (d x : ℤ) → d ≡ x → unsigned_abs d ≤ 16777217 → (to_z w32 (of_z w32 d) ≡ x) × (unsigned_abs (to_z w32 (of_z w32 d)) ≤ 16777217)
 departure_is d x e l = (omega (arith, ints, e, l), omega (arith, ints, l))
 
 -- ---- the list

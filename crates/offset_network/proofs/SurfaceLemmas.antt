@@ -66,8 +66,8 @@ rise_in_code u v t = to_z w32 (of_z w32 (to_z w32 (of_z w32 v) -ℤ to_z w32 (of
 pub rise_fits : (u v t : ℤ) → unsigned_abs u ≤ 8388608 → unsigned_abs v ≤ 8388608 → unsigned_abs t ≤ 1 → FitsSigned w32 (rise_in_code u v t)
 rise_fits u v t a b k = omega (arith, ints, a, b, k)
 
-pub rise_value : (u v t f : ℤ) → unsigned_abs u ≤ 8388608 → unsigned_abs v ≤ 8388608 → unsigned_abs t ≤ 1 → f ≡ to_z w32 (of_z w32 (rise_in_code u v t)) → (to_z w64 (of_z w64 f) ≡ v -ℤ u +ℤ t) × (unsigned_abs (v -ℤ u +ℤ t) ≤ 16777217)
-rise_value u v t f a b k e = (omega (arith, ints, a, b, k, e), omega (arith, ints, a, b, k))
+pub rise_value : (u v t : ℤ) → unsigned_abs u ≤ 8388608 → unsigned_abs v ≤ 8388608 → unsigned_abs t ≤ 1 → (to_z w32 (of_z w32 (rise_in_code u v t)) ≡ v -ℤ u +ℤ t) × (unsigned_abs (v -ℤ u +ℤ t) ≤ 16777217)
+rise_value u v t a b k = (omega (arith, ints, a, b, k), omega (arith, ints, a, b, k))
 
 pub rise_is : (r : Raster) (c : Field ℤ) (e : Edge) (x y : ℕ) (u v t : ℤ) → x ≡ end_x e → y ≡ end_y e → u ≡ c e.x e.y → v ≡ c x y → t ≡ turns_of r e → v -ℤ u +ℤ t ≡ cycle_departure r c e
 rise_is r c e x y u v t ex ey eu ev et = rw (eu, ev, et, ex, ey) refl

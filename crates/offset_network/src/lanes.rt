@@ -34,7 +34,7 @@ fn lane(link: Option<Link>, low: u32, high: u32, less: i64) -> Option<Lane>
         to: link.to,
         low,
         high,
-        departure: link.departure - less,
+        departure: i64::from(link.departure) - less,
     })
 }
 

@@ -32,7 +32,7 @@ impl TileSurface<'_> {
     }
 
     /// By how many whole cycles the surface departs from the wrapped difference of an edge with open ends.
-    pub(crate) fn departure(&self, edge: Edge) -> i64
+    pub(crate) fn departure(&self, edge: Edge) -> i32
         requires is_edge { IsTrue (is_edge self.now.scene.now.phase.width self.now.scene.now.phase.height edge) }
         requires open_ends { IsTrue (has_open_ends (open_at self.now.mask.now) edge) }
         ensures value { result ≡ cycle_departure (raster_of self.now.scene.now) (solved_cycles self.now.scene.now self.now.tiles.now.results) edge }
@@ -40,6 +40,6 @@ impl TileSurface<'_> {
     {
         let to = self.at(edge.end_x(), edge.end_y());
         let from = self.at(edge.x, edge.y);
-        i64::from(to - from + turns(self.scene, edge))
+        to - from + turns(self.scene, edge)
     }
 }

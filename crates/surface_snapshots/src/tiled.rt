@@ -13,7 +13,7 @@ use seam_regions::Regions;
 use std::alloc::{AllocError, Global};
 
 /// The regions of a raster, kept tile by tile as runs of pixels. The runs of a tile number its own labels alone, so
-/// surfaces share them as long as the tile's mask stays.
+/// tiles that follow one another share them if they are equal, and surfaces do as long as the tile's mask stays.
 #[derive(Drop)]
 pub(crate) struct TiledRegions {
     pub(crate) tiling: Tiling,
@@ -59,7 +59,9 @@ impl TiledRegions {
         let all = regions.labels();
         for tile in 0..count {
             list_labels(all, tiling.width, tiling.window(tile), &mut list)?;
-            tiles.push(packing.pack(alloc, &list)?)?;
+            let packed = packing.pack(alloc, &list)?;
+            let packed = beside(packed, tiles.last());
+            tiles.push(packed)?;
         }
         Ok(TiledRegions {
             tiling: *tiling,
@@ -137,6 +139,17 @@ impl TiledRegions {
             count: self.count,
         }
     }
+}
+
+/// A tile that has the runs of another one, if there is one and they are equal. Most tiles are open all over, or masked.
+fn beside(tile: TileRuns, other: Option<&TileRuns>) -> TileRuns
+    ensures { runs_of result ≡ runs_of tile }
+{
+    let mut tile = tile;
+    if let Some(other) = other {
+        share_runs(&mut tile, other);
+    }
+    tile
 }
 
 /// Lets a tile have the runs of another, if they are equal. If the count of those who share is too high, it keeps its

@@ -1,8 +1,6 @@
-//! Worked rows of the crates that hold rasters, masks, regions, certificates and surfaces.
+//! Worked rows of the crates that hold rasters, weights, gradients, masks and regions.
 #![tactic(auto)]
 
-#[cfg(test)]
-mod certificate_rows;
 #[cfg(test)]
 mod gradient_rows;
 #[cfg(test)]
@@ -13,9 +11,5 @@ mod mask_rows;
 mod raster_rows;
 #[cfg(test)]
 mod region_rows;
-#[cfg(test)]
-mod snapshot_rows;
-#[cfg(test)]
-mod steep_rows;
 #[cfg(test)]
 mod weight_rows;

@@ -1,10 +1,8 @@
-//! Whole runs: the top call over bytes in memory, and the desk and the workers below it.
+//! Whole runs: the top call over bytes in memory.
 #![tactic(auto)]
 
 #[cfg(test)]
 mod cut_rows;
-#[cfg(test)]
-mod desk_rows;
 #[cfg(test)]
 mod failing_rows;
 #[cfg(test)]
@@ -15,7 +13,3 @@ mod large_rows;
 mod running;
 #[cfg(test)]
 mod top_rows;
-#[cfg(test)]
-mod turn_rows;
-#[cfg(test)]
-mod worker_rows;

@@ -1,19 +1,13 @@
-ghost use Rattle.board_desk.specs.Passes.{IsPassOf};
-ghost use Rattle.std.specs.Prelude.{◌≡◌, ◌≢◌, ◌≤◌, [], All, IfOk, None};
+ghost use Rattle.std.specs.Prelude.{◌≤◌};
 
-use board_desk::{Desk, Pass};
-use insar_ports::{Feed, MemorySink, MemorySource};
+use insar_ports::{MemorySink, MemorySource};
 use insar_top::insar;
-use raster_model::RuleKind;
-use session_script::{SessionUse, read_session};
-use std::alloc::{AllocError, Global};
-use std::process::Abort;
+use std::alloc::Global;
 use std::str::Split;
-use std::sync::{Arc, Wait};
+use std::sync::Wait;
 use std::test::Fail;
 use std::thread::Threads;
-use tile_board::Board;
-use tile_workers::{Gate, OpenGate, run_scripts};
+use tile_workers::Gate;
 
 /// Which calls of the source, of the sink and of `diag` fail, by their numbers from 1, and for how many pieces the sink has
 /// room.
@@ -67,67 +61,12 @@ pub fn run<R: Alloc<A = Global> + Threads + Wait + Sync, G: Gate>(
     })
 }
 
-/// The board of a session in bytes, by the rule least.
-pub fn board(alloc: Global, side: u32, bytes: &[u8]) -> Result<Board, Fail>
-    requires { (2 ≤ side) × (side ≤ 128) }
-    ensures { IfOk result (λ board. board.entries ≡ []) }
-{
-    let mut source = MemorySource::new(bytes.to_vec(alloc)?, 99, Vec::new(alloc));
-    let mut feed = Feed::new(alloc, &mut source, 268_435_456)?;
-    let session = read_session(alloc, &mut feed, SessionUse::Alone, side, RuleKind::Least)?;
-    Ok(Board::new(alloc, Arc::new(alloc, session)?)?)
-}
-
 /// How many lines begin so.
 pub fn lines_of(text: &str, start: &str) -> usize {
     text.lines().filter(|line| line.starts_with(start)).count()
 }
 
-/// The last of the passes, which is this analyst's.
-pub fn last_of(rt: &impl Abort, _desk: &Desk, passes: &mut Vec<Pass>, analyst: u32) -> Pass
-    requires { All (IsPassOf _desk.now) passes.old.items }
-    ensures own { IsPassOf _desk.now result }
-    ensures named { result.analyst ≢ None }
-    ensures rest { All (IsPassOf _desk.now) passes.new.items }
-{
-    let pass = passes.pop().expect(rt, "a pass for each analyst");
-    assert!(rt; pass.analyst() == Some(analyst));
-    pass
-}
-
 /// The next field of a row.
 pub fn field<'a>(fields: &mut Split<'a, char>) -> &'a str {
     fields.next().unwrap_or("")
-}
-
-/// The board of a desk that is closed with two passes.
-pub fn closed<R: Wait>(
-    rt: &R,
-    alloc: Global,
-    desk: Desk,
-    one: Pass,
-    two: Pass,
-) -> Result<Board, AllocError>
-    requires one { IsPassOf desk one }
-    requires two { IsPassOf desk two }
-{
-    Ok(desk.close(rt, vec![in alloc; one, two]?))
-}
-
-/// The same, after the scripts of both were run to their ends.
-pub fn run_out<R: Threads + Wait + Sync>(
-    rt: &R,
-    alloc: Global,
-    desk: Desk,
-    one: Pass,
-    two: Pass,
-) -> Result<Board, AllocError>
-    requires one { IsPassOf desk one }
-    requires two { IsPassOf desk two }
-    requires first { one.analyst ≢ None }
-    requires second { two.analyst ≢ None }
-{
-    let mut passes = vec![in alloc; one, two]?;
-    run_scripts(rt, alloc, &desk, passes.as_mut_slice(), 2, &OpenGate)?;
-    Ok(desk.close(rt, passes))
 }

@@ -1,4 +1,4 @@
-use crate::running::{board, closed, field, last_of};
+use crate::running::{board, closed, last_of};
 use board_desk::Desk;
 use certificates::TileResult;
 use std::alloc::Global;
@@ -124,6 +124,11 @@ const FORGED: [&str; 8] = [
     "0|0|3|0 0 -1 0|1 Ok(())",
     "0|0|3|0 0 -1 0|1 Err(Double)",
 ];
+
+/// The next field of a row.
+fn field<'a>(fields: &mut Split<'a, char>) -> &'a str {
+    fields.next().unwrap_or("")
+}
 
 /// The result of a row.
 fn forged(alloc: Global, fields: &mut Split<'_, char>) -> Result<TileResult, Fail> {

@@ -1,6 +1,6 @@
 use Rattle.std.proofs.Common.{◌≡◌, ◌∙◌, length}
 use Rattle.surface_snapshots.proofs.VerdictLemmas.{lists_regions}
-use Rattle.raster_tests.proofs.steep_rows.parting_verdict.Goals as goal
+use Rattle.surface_tests.proofs.steep_rows.parting_verdict.Goals as goal
 
 pub check_flows-requires-clause-regions : goal.check_flows-requires-clause-regions
 check_flows-requires-clause-regions c =

@@ -2,7 +2,7 @@ use Rattle.std.proofs.Common.{◌<◌, arith}
 use Rattle.raster_model.specs.Tiles.{tile_at, tiles_of}
 use Rattle.raster_model.proofs.TileLemmas.{tiles_are_numbered}
 use Rattle.surface_snapshots.specs.Views.{parts_of}
-use Rattle.raster_tests.proofs.snapshot_rows.surface.Goals as goal
+use Rattle.surface_tests.proofs.snapshot_rows.surface.Goals as goal
 
 pub faces-faces-requires : goal.faces-faces-requires
 faces-faces-requires c =

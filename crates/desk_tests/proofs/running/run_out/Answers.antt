@@ -2,7 +2,7 @@ use Rattle.std.proofs.Common.{◌≡◌, ◌∙◌, ℕ, zero, suc, ◌<◌, Lis
 use Rattle.std.specs.List.{All}
 use Rattle.board_desk.specs.Passes.{IsPassOf, PassView}
 use Rattle.insar_top.proofs.BoardLemmas.{all_at, all_written, later_from, later_own}
-use Rattle.top_tests.proofs.running.run_out.Goals as goal
+use Rattle.desk_tests.proofs.running.run_out.Goals as goal
 
 -- what holds of two passes holds of all of a list of them
 of_both : (P : PassView → Type 0) (p q : PassView) → P p → P q → (k : ℕ) (d : PassView) → k < length (p ∷ q ∷ []) → P (get_or (p ∷ q ∷ []) k d)

@@ -17,6 +17,7 @@ pub mod SideLemmas
 pub mod BalanceLemmas
 pub mod FaceLemmas
 pub mod ReachedLemmas
+pub mod TogetherLemmas
 pub mod TightLemmas
 pub mod CertificateLemmas
 pub mod ListingLemmas

@@ -1,4 +1,4 @@
--- What a grid is made from, how an arc is found, and the lists that a grid answers. These are words of helpers, which no clause of another module cites.
+-- What a grid is made from, how an arc is found, and the lists that a grid answers. These are words of helpers. Of them the clauses of a grid that was reached cite AreTurnedFaces, and by MayGoOn also IsHeldBy and leaves.
 use Rattle.std.specs.Prelude.{◌≡◌, ℕ, ◌+◌, ◌*◌, ◌<◌, ◌≤◌, ◌⊎◌, ℤ, pos, neg_ℤ, ◌-ℤ◌, ◌≤ℤ◌, ◌==◌, unsigned_abs, Bool, false, IsTrue, ◌&&◌, if◌then◌else◌, List, length, get_or, slice_index_or, Option, Some, None}
 use Rattle.raster_model.specs.declared.scene.Scene.{Scene}
 use Rattle.raster_model.specs.declared.tiling.Window.{Window}

@@ -6,3 +6,4 @@ pub mod Views
 pub mod Answers
 pub mod Building
 pub mod Problems
+pub mod Reaching

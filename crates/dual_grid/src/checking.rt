@@ -129,6 +129,7 @@ fn face(faces: &[i64], node: u32) -> i64
 pub(crate) fn is_tight(steep: u32, weight: u32, difference: i64, correction: i32) -> bool
     ensures tight { IsTrue result → IsTight steep weight difference correction }
     ensures held { 1 ≤ steep → IsTrue result → IsHeldBy steep weight difference correction }
+    ensures told { IsHeldBy steep weight difference correction → IsTrue result }
 {
     let size = difference.unsigned_abs();
     let weight = u64::from(weight);
@@ -150,6 +151,7 @@ fn goes_along(difference: i64, correction: i32) -> bool
     ensures product { IsTrue result → correction *ℤ difference ≡ pos (unsigned_abs correction * unsigned_abs difference) }
     ensures forth { IsTrue result → pos 0 <ℤ correction → pos 0 ≤ℤ difference }
     ensures back { IsTrue result → correction ≤ℤ pos 0 → difference ≤ℤ pos 0 }
+    ensures told { (pos 0 <ℤ correction → pos 0 ≤ℤ difference) → (correction ≤ℤ pos 0 → difference ≤ℤ pos 0) → IsTrue result }
 {
     if correction > 0 {
         difference >= 0

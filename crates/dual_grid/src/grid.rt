@@ -142,11 +142,12 @@ impl FlowNet for DualGrid {
 
 impl DualGrid {
     ghost use Rattle.dual_grid.specs.Answers.{AreCertifiedOver, IsNearStart, StaysNearStart};
-    ghost use Rattle.dual_grid.specs.Building.{IsHeldAt, IsHeldBy, IsOutAcross};
+    ghost use Rattle.dual_grid.specs.Building.{AreTurnedFaces, IsHeldAt, IsHeldBy, IsOutAcross};
     ghost use Rattle.dual_grid.specs.Layout.{AreLow, number_or_zero, weight_in};
     ghost use Rattle.dual_grid.specs.Nodes.{edge_of, edges_of, first_side, other_side};
     ghost use Rattle.flow_network.specs.Nets.{IsArc, IsNextBelow};
     ghost use Rattle.dual_grid.specs.Grids.{HasSmallCosts, IsConnected, arc_capacity};
+    ghost use Rattle.dual_grid.specs.Reaching.{GoTogether, MayGoOn};
     ghost use Rattle.dual_grid.specs.Starts.{IsAtStart, TellsMask};
     ghost use Rattle.dual_grid.specs.Views.{HaveOneOrigin, IsGridOf, grid_shape, grid_start, grid_state};
     ghost use Rattle.flow_network.specs.Moves.{IsRaised, MayRaise};
@@ -156,7 +157,7 @@ impl DualGrid {
     ghost use Rattle.raster_model.specs.Tiles.{tiles_of, window_of, width_of, height_of};
     ghost use Rattle.raster_model.specs.declared.scene.Scene.{Scene as SceneOf};
     ghost use Rattle.raster_model.specs.declared.tiling.Window.{Window as WindowOf};
-    ghost use Rattle.std.specs.Prelude.{◌≡◌, ◌*◌, ◌^◌, ◌<◌, ◌≤◌, ◌+ℤ◌, ◌-ℤ◌, ◌<ℤ◌, ℕ, Bool, IfOk, IfSome, IsTrue, List, get_or, length, pos, unsigned_abs};
+    ghost use Rattle.std.specs.Prelude.{◌≡◌, ◌*◌, ◌^◌, ◌<◌, ◌≤◌, ◌+ℤ◌, ◌-ℤ◌, ◌<ℤ◌, ◌++◌, ℕ, Bool, IfNone, IfOk, IfSome, IsTrue, List, get_or, length, pos, unsigned_abs};
     ghost use Rattle.wrapped_gradient.specs.Gradients.{AreGradientsOf};
 
     /// The grid of a tile: that over its window. It fails only for lack of memory.
@@ -217,7 +218,8 @@ impl DualGrid {
     /// The grid over a window of a scene, as `over` makes it, after the corrections have flowed across the edges, where the
     /// nodes have minus the faces as potentials. `None` tells that corrections and faces do not have the window's shape,
     /// that an arc with capacity left would have a reduced cost below 0 (Ahuja, Magnanti and Orlin 1993, section 9.3), or that
-    /// a face, or what has flowed and is to flow, is too great. It fails only for lack of memory.
+    /// a face, or what has flowed and is to flow, is too great. In all other cases there is a grid. It fails only for lack
+    /// of memory.
     pub fn reached(
         alloc: Global,
         scene: &Scene,
@@ -233,6 +235,10 @@ impl DualGrid {
         ensures near { IfOk result (λ made. IfSome made (λ grid. StaysNearStart (grid_start grid) (grid_shape grid) (grid_state grid))) }
         ensures joined { IfOk result (λ made. IfSome made (λ grid. IsConnected (grid_start grid) (grid_shape grid))) }
         ensures low { IfOk result (λ made. IfSome made (λ grid. AreLow grid.potentials.items)) }
+        ensures flows { IfOk result (λ made. IfSome made (λ grid. grid.flows.items ≡ corrections.right.items ++ corrections.down.items)) }
+        ensures heights { IfOk result (λ made. IfSome made (λ grid. AreTurnedFaces faces.now grid.potentials.items)) }
+        ensures may { IfOk result (λ made. IfSome made (λ grid. MayGoOn scene.now gradients.now.window unmasked.now corrections faces.now)) }
+        ensures none { IfOk result (λ made. IfNone made (MayGoOn scene.now gradients.now.window unmasked.now corrections faces.now → ⊥)) }
     {
         let start = DualGrid::over(alloc, scene, gradients, unmasked)?;
         if faces.len() + 1 != start.potentials.len() || !are_low(faces) {
@@ -240,12 +246,16 @@ impl DualGrid {
         }
         let potentials = turned(alloc, faces)?;
         let Corrections { right, mut down } = corrections;
+        if right.len() != right_count(start.window) as usize {
+            return Ok(None);
+        }
         let mut flows = right;
         flows.append(&mut down)?;
         Ok(start.after(flows, potentials))
     }
 
-    /// This grid, in which nothing has flowed, after these flows and with these potentials, if they go together.
+    /// This grid, in which nothing has flowed, after these flows and with these potentials, if they go together. `None`
+    /// tells that they do not.
     fn after(self, flows: Vec<i32>, potentials: Vec<i64>) -> Option<DualGrid>
         requires fresh { (a : ℕ) → IsArc (grid_shape self) a → (grid_state self).residual a ≡ grid_start self a }
         requires few { total_excess (grid_shape self) (grid_state self) <ℤ pos (grid_shape self).nodes }
@@ -254,6 +264,10 @@ impl DualGrid {
         ensures origin { IfSome result (λ grid. HaveOneOrigin self grid) }
         ensures near { IfSome result (λ grid. StaysNearStart (grid_start self) (grid_shape self) (grid_state grid)) }
         ensures low { IfSome result (λ grid. AreLow grid.potentials.items) }
+        ensures flows { IfSome result (λ grid. grid.flows.items ≡ flows.items) }
+        ensures heights { IfSome result (λ grid. grid.potentials.items ≡ potentials.items) }
+        ensures together { IfSome result (λ grid. GoTogether self.window self.steep (weight_in self.weights.items) (number_or_zero self.excesses.items) flows.items (number_or_zero potentials.items)) }
+        ensures none { IfNone result (GoTogether self.window self.steep (weight_in self.weights.items) (number_or_zero self.excesses.items) flows.items (number_or_zero potentials.items) → ⊥) }
     {
         let most = greatest(&flows);
         let cells = outside(self.window);
@@ -281,7 +295,8 @@ impl DualGrid {
         requires edges { length flows.now ≡ edges_of self.now.window }
         requires nodes { length potentials.now ≡ (grid_shape self.now).nodes }
         requires low { AreLow potentials.now }
-        ensures { IsTrue result → (n : ℕ) → n < edges_of self.now.window → IsHeldAt self.now.window self.now.steep (weight_in self.now.weights.items) (number_or_zero flows.now) (number_or_zero potentials.now) n }
+        ensures held { IsTrue result → (n : ℕ) → n < edges_of self.now.window → IsHeldAt self.now.window self.now.steep (weight_in self.now.weights.items) (number_or_zero flows.now) (number_or_zero potentials.now) n }
+        ensures told { ((n : ℕ) → n < edges_of self.now.window → IsHeldAt self.now.window self.now.steep (weight_in self.now.weights.items) (number_or_zero flows.now) (number_or_zero potentials.now) n) → IsTrue result }
     {
         for edge in 0..flows.len() {
             if !self.is_held_at(edge as u32, flows[edge], potentials) {
@@ -296,7 +311,8 @@ impl DualGrid {
         requires edge { edge < edges_of self.now.window }
         requires nodes { length potentials.now ≡ (grid_shape self.now).nodes }
         requires low { AreLow potentials.now }
-        ensures { IsTrue result → IsHeldBy self.now.steep (weight_in self.now.weights.items edge) (number_or_zero potentials.now (other_side self.now.window (edge_of self.now.window edge)) -ℤ number_or_zero potentials.now (first_side self.now.window (edge_of self.now.window edge))) flow }
+        ensures held { IsTrue result → IsHeldBy self.now.steep (weight_in self.now.weights.items edge) (number_or_zero potentials.now (other_side self.now.window (edge_of self.now.window edge)) -ℤ number_or_zero potentials.now (first_side self.now.window (edge_of self.now.window edge))) flow }
+        ensures told { IsHeldBy self.now.steep (weight_in self.now.weights.items edge) (number_or_zero potentials.now (other_side self.now.window (edge_of self.now.window edge)) -ℤ number_or_zero potentials.now (first_side self.now.window (edge_of self.now.window edge))) flow → IsTrue result }
     {
         let first = potentials[first_at(self.window, edge) as usize];
         let other = potentials[other_at(self.window, edge) as usize];

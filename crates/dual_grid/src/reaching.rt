@@ -16,7 +16,8 @@ const FACE_LIMIT: u64 = 17_179_869_184;
 
 /// Whether no face is too far from 0.
 pub(crate) fn are_low(faces: &[i64]) -> bool
-    ensures { IsTrue result → AreLow faces.now }
+    ensures low { IsTrue result → AreLow faces.now }
+    ensures told { AreLow faces.now → IsTrue result }
 {
     for face in faces {
         if face.unsigned_abs() > FACE_LIMIT {
@@ -40,9 +41,10 @@ pub(crate) fn turned(alloc: Global, faces: &[i64]) -> Result<Vec<i64>, AllocErro
     Ok(potentials)
 }
 
-/// The greatest flow on either side of 0.
+/// The greatest flow on either side of 0, or 0 if there is none.
 pub(crate) fn greatest(flows: &[i32]) -> u32
-    ensures { AreSmallNumbers result flows.now }
+    ensures small { AreSmallNumbers result flows.now }
+    ensures least { (bound : ℕ) → AreSmallNumbers bound flows.now → result ≤ bound }
 {
     let mut most = 0;
     for flow in flows {
@@ -89,7 +91,8 @@ fn amount(number: i64) -> u64
 
 /// Whether the positive numbers sum to no more than a limit.
 pub(crate) fn sums_within(excesses: &[i64], limit: u32) -> bool
-    ensures { IsTrue result → positive_sum excesses.now (length excesses.now) ≤ℤ pos limit }
+    ensures within { IsTrue result → positive_sum excesses.now (length excesses.now) ≤ℤ pos limit }
+    ensures told { positive_sum excesses.now (length excesses.now) ≤ℤ pos limit → IsTrue result }
 {
     let mut left = u64::from(limit);
     for excess in excesses {

@@ -15,5 +15,5 @@ loop-edge-preserved c =
     let e = edge_of g.window c.loop-edge.edge in
     let q : ℤ = get_or c.args.flows.now c.loop-edge.edge (pos 0) in
     let fits : FitsSigned w32 q = search rules in
-    let here = subst (λ (z : ℤ). IsHeldBy g.steep (weight_in g.weights.items c.loop-edge.edge) (number_or_zero p (other_side g.window e) -ℤ number_or_zero p (first_side g.window e)) z) (to_z-of_z w32 q fits) (c.is_held_at.ensures c.if-not-is_held_at.false) in
+    let here = subst (λ (z : ℤ). IsHeldBy g.steep (weight_in g.weights.items c.loop-edge.edge) (number_or_zero p (other_side g.window e) -ℤ number_or_zero p (first_side g.window e)) z) (to_z-of_z w32 q fits) (c.is_held_at.ensures.held c.if-not-is_held_at.false) in
     one_more (λ (n : ℕ). IsHeldAt g.window g.steep (weight_in g.weights.items) (number_or_zero c.args.flows.now) (number_or_zero p) n) 0 c.loop-edge.edge (λ k a b. c.loop-edge.invariant k b) here n (omega arith) l

@@ -1,4 +1,4 @@
-use Rattle.std.proofs.Common.{◌≡◌, ◌≤◌, ◌^◌, ◌∙◌, ℕ, ap₂, arith, w32, w64, to_z, of_z}
+use Rattle.std.proofs.Common.{◌≡◌, ◌≤◌, ◌^◌, ◌∙◌, ℕ, ap₂, sym, arith, w32, w64, to_z, of_z}
 use Rattle.std.specs.Prelude.{ℤ, ◌-ℤ◌, unsigned_abs}
 use Rattle.std.proofs.lemmas.Int.{ints, to_z-of_z}
 use Rattle.dual_grid.specs.Building.{IsHeldBy}
@@ -20,10 +20,18 @@ difference m n k l = omega (arith, ints, k, l)
 same : (s n m : ℕ) (d e k i : ℤ) → n ≡ m → d ≡ e → k ≡ i → IsHeldBy s n d k → IsHeldBy s m e i
 same s n m d e k i p q r h = rw (p, q, r) at h
 
-pub returns : goal.returns
-returns c =
+pub returns-clause-held : goal.returns-clause-held
+returns-clause-held c =
     λ yes.
     let p = c.args.potentials.now in
     let read = difference (number_or_zero p c.other_at.result) (number_or_zero p c.first_at.result) (c.requires.low c.other_at.result) (c.requires.low c.first_at.result) in
     let sides = ap₂ (λ (i j : ℕ). number_or_zero p i -ℤ number_or_zero p j) c.other_at.ensures c.first_at.ensures in
     same c.args.self.now.steep _ _ _ _ _ _ c.weight.ensures (read ∙ sides) (to_z-of_z w32 c.args.flow c.ranges.flow) (c.is_tight.ensures.held c.args.self.now.steepness.0 yes)
+
+pub returns-clause-told : goal.returns-clause-told
+returns-clause-told c =
+    λ held.
+    let p = c.args.potentials.now in
+    let read = difference (number_or_zero p c.other_at.result) (number_or_zero p c.first_at.result) (c.requires.low c.other_at.result) (c.requires.low c.first_at.result) in
+    let sides = ap₂ (λ (i j : ℕ). number_or_zero p i -ℤ number_or_zero p j) c.other_at.ensures c.first_at.ensures in
+    c.is_tight.ensures.told (same c.args.self.now.steep _ _ _ _ _ _ (sym c.weight.ensures) (sym (read ∙ sides)) (sym (to_z-of_z w32 c.args.flow c.ranges.flow)) held)

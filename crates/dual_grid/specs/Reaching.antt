@@ -1,0 +1,43 @@
+-- From which corrections and faces a grid goes on, and from which flows and potentials.
+use Rattle.std.specs.Prelude.{◌≡◌, ℕ, ◌+◌, ◌<◌, ℤ, pos, ◌+ℤ◌, ◌-ℤ◌, ◌≤ℤ◌, Bool, List, length}
+use Rattle.raster_model.specs.declared.edge.Edge.{Edge}
+use Rattle.raster_model.specs.declared.scene.Scene.{Scene}
+use Rattle.raster_model.specs.declared.tiling.Window.{Window}
+use Rattle.raster_model.specs.Raster.{masked_weight, residue}
+use Rattle.raster_model.specs.Scene.{raster_of}
+use Rattle.flow_network.specs.Nets.{positive_part}
+use Rattle.wrapped_gradient.specs.declared.corrections.Corrections.{Corrections}
+use Rattle.wrapped_gradient.specs.Corrections.{HasShapeOf, correction_at, greatest, greatest_of}
+use Rattle.wrapped_gradient.specs.Windows.{IsEdgeOf}
+use Rattle.dual_grid.specs.Building.{IsHeldAt, IsHeldBy, leaves}
+use Rattle.dual_grid.specs.Layout.{AreLow, number_or_zero}
+use Rattle.dual_grid.specs.Nodes.{cells_of, edge_of, edges_of, first_side, other_side}
+use Rattle.dual_grid.specs.Problems.{face_of}
+use Rattle.dual_grid.specs.Starts.{open_in_window, supply_at}
+use Rattle.sums_and_lists.specs.Sums.{sum_below}
+
+-- what a node has left of its excess after these have flowed across the edges, by their numbers
+abbrev pub left_after : Window → (ℕ → ℤ) → (ℕ → ℤ) → ℕ → ℤ
+left_after v flow excess u = excess u -ℤ sum_below (edges_of v) (leaves v flow u)
+
+-- what all nodes have to send, where these are their excesses
+abbrev pub to_send : Window → (ℕ → ℤ) → ℤ
+to_send v excess = sum_below (cells_of v + 1) (λ u. positive_part (excess u))
+
+-- what flows across the edges by their numbers, where these are the corrections
+abbrev pub flow_of : Window → Corrections → ℕ → ℤ
+flow_of v k n = correction_at v k (edge_of v n)
+
+-- corrections and faces from which the grid over a window goes on: they have the window's shape, no face is farther from 0 than 2^34, the faces on the sides of each edge hold its correction at its weight under the mask, and the greatest correction and what all nodes have to send after the corrections are together no more than the window has cells
+pub record MayGoOn (s : Scene) (v : Window) (unmasked : List Bool) (k : Corrections) (faces : List ℤ) : Type 0 where
+  pub shape : HasShapeOf v k
+  pub count : length faces ≡ cells_of v
+  pub low : AreLow faces
+  pub held : (e : Edge) → IsEdgeOf v e → IsHeldBy s.terms.steep (masked_weight (raster_of s) (open_in_window v unmasked) e) (face_of faces (first_side v e) -ℤ face_of faces (other_side v e)) (correction_at v k e)
+  pub within : (pos (greatest_of k) +ℤ to_send v (left_after v (flow_of v k) (supply_at (residue (raster_of s)) v))) ≤ℤ pos (cells_of v)
+
+-- the same of flows and potentials as a grid holds them, where the nodes have these excesses before
+pub record GoTogether (v : Window) (steep : ℕ) (weight : ℕ → ℕ) (excess : ℕ → ℤ) (flows : List ℤ) (potential : ℕ → ℤ) : Type 0 where
+  pub count : length flows ≡ edges_of v
+  pub held : (n : ℕ) → n < edges_of v → IsHeldAt v steep weight (number_or_zero flows) potential n
+  pub within : (pos (greatest flows) +ℤ to_send v (left_after v (number_or_zero flows) excess)) ≤ℤ pos (cells_of v)

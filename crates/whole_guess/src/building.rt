@@ -1,7 +1,7 @@
 use crate::guess::Task;
 use crate::waters::{Ground, LAKE, SEA};
 use cell_forest::{Cell, FREE, OUTSIDE};
-use raster_model::{Scene, Terms, wrapped_ramp};
+use raster_model::{Mask, Scene, Terms, wrapped_ramp};
 use std::alloc::{AllocError, Global};
 use std::mem;
 
@@ -90,27 +90,33 @@ impl Block {
         let width = scene.phase.width;
         let from_above = row(&scene.edges.down, y.wrapping_sub(1), width);
         let from_left = row(&scene.edges.right, y, width.wrapping_sub(1));
-        let mut x = x;
+        let first = self.cells.len();
+        let mut place = x;
         let mut left = self.side(0, scene.terms);
         for column in 1..self.here.len() {
             let right = self.side(column, scene.terms);
             let weights = [
-                number_at(from_above, x),
-                number_at(from_left, x.wrapping_sub(1)),
+                number_at(from_above, place),
+                number_at(from_left, place.wrapping_sub(1)),
             ];
-            let mut cell = cell_of(left, right, weights);
-            if x == 0 || y == 0 {
-                cell.excess = 0;
-                cell.step = OUTSIDE;
-            }
-            if cell.step == FREE && (outside || column == 1) {
-                cell.step = OUTSIDE;
-            }
-            self.cells.push(cell)?;
+            self.cells.push(cell_of(left, right, weights))?;
             left = right;
-            x = x.wrapping_add(1);
+            place = place.wrapping_add(1);
+        }
+        if outside {
+            self.close_from(first, y == 0);
+        }
+        if let Some(cell) = self.cells.get_mut(first) {
+            close(cell, x == 0 || y == 0);
         }
         Ok(())
+    }
+
+    /// Makes the cells from a place on a part of the outside. `beyond` tells that they are no cells of the raster.
+    fn close_from(&mut self, first: usize, beyond: bool) {
+        for cell in self.cells.iter_mut().skip(first) {
+            close(cell, beyond);
+        }
     }
 
     /// The pixels in a column of the two rows.
@@ -147,12 +153,58 @@ fn load(
     across: u32,
     pixels: &mut Vec<Pixel>,
 ) -> Result<(), AllocError> {
+    let first = x.wrapping_sub(1);
+    pixels.clear();
+    if are_open(task.mask, y, first, first.wrapping_add(across)) {
+        load_open(task.scene, (first, y), across, pixels)
+    } else {
+        load_each(task, (first, y), across, pixels)
+    }
+}
+
+/// Whether the pixels of row `y` from `first` to `last` are all open.
+fn are_open(mask: &Mask, y: u32, first: u32, last: u32) -> bool {
+    first <= last && last < mask.width() && y < mask.height() && mask.is_open_span(y, first, last)
+}
+
+/// Loads the pixels of a row from (`x`, `y`) on, up to `across` behind it, all of which are open.
+fn load_open(
+    scene: &Scene,
+    (x, y): (u32, u32),
+    across: u32,
+    pixels: &mut Vec<Pixel>,
+) -> Result<(), AllocError> {
+    let phases = row(&scene.phase.samples, y, scene.phase.width);
+    let first = x as usize;
+    let slope = scene.terms.slope(false);
+    let mut left: u16 = 0;
+    for phase in phases
+        .get(first..first + across as usize + 1)
+        .unwrap_or(&[])
+    {
+        pixels.push(Pixel {
+            phase: *phase,
+            rise: wrapped_ramp(left, *phase, slope),
+            opened: u16::MAX,
+            step: FREE,
+        })?;
+        left = *phase;
+    }
+    Ok(())
+}
+
+/// Loads the pixels of a row from (`x`, `y`) on, up to `across` behind it, one by one.
+fn load_each(
+    task: &Task<'_>,
+    (x, y): (u32, u32),
+    across: u32,
+    pixels: &mut Vec<Pixel>,
+) -> Result<(), AllocError> {
     let (scene, mask) = (task.scene, task.mask);
     let phases = row(&scene.phase.samples, y, scene.phase.width);
     let slope = scene.terms.slope(false);
-    let mut x = x.wrapping_sub(1);
+    let mut x = x;
     let mut left: u16 = 0;
-    pixels.clear();
     for _ in 0..across.wrapping_add(1) {
         let phase = number_at(phases, x);
         pixels.push(Pixel {
@@ -181,6 +233,17 @@ fn row(list: &[u16], y: u32, width: u32) -> &[u16] {
 #[inline(always)]
 fn number_at(list: &[u16], place: u32) -> u16 {
     list.get(place as usize).copied().unwrap_or(0)
+}
+
+/// Makes a cell a part of the outside. `beyond` tells that it is no cell of the raster; otherwise the sea and lakes are still
+/// told apart.
+fn close(cell: &mut Cell, beyond: bool) {
+    if beyond {
+        cell.excess = 0;
+    }
+    if beyond || cell.step == FREE {
+        cell.step = OUTSIDE;
+    }
 }
 
 /// The cell between two sides. `weights` are those of the edges at its lower right corner, from above and from the left,

@@ -2,6 +2,7 @@ use crate::draining::{drain_sea, fill_lakes};
 use crate::integrating::{cycles, faces};
 use crate::levels::solve_levels;
 use crate::reaching::Reached;
+use crate::residues::has_residue;
 use crate::waters::Waters;
 use cell_forest::{BEYOND, Cell, PATIENCE, Stop};
 use raster_model::{Mask, Scene};
@@ -51,6 +52,29 @@ pub fn guess_whole_within<R: Threads + Sync>(
     workers: u32,
     patience: u64,
 ) -> Result<Guess, AllocError> {
+    let (cells, is_solved) = solve_cells(rt, alloc, scene, mask, workers, patience)?;
+    if !is_solved {
+        return Ok(Guess::Reached(Reached::of(alloc, &cells, scene.phase.width)?));
+    }
+    Ok(Guess::Surface {
+        cycles: cycles(rt, alloc, scene, mask, &cells, workers)?,
+        faces: faces(rt, alloc, scene, &cells, workers)?,
+    })
+}
+
+/// The cells of a scene as they are solved, and whether nothing was given up. Where no cell has a residue nothing flows and all
+/// faces are 0, and the list is empty.
+fn solve_cells<R: Threads + Sync>(
+    rt: &R,
+    alloc: Global,
+    scene: &Scene,
+    mask: &Mask,
+    workers: u32,
+    patience: u64,
+) -> Result<(Vec<Cell>, bool), AllocError> {
+    if !has_residue(scene) {
+        return Ok((Vec::new(alloc), true));
+    }
     let mut cells = vec![in alloc; BEYOND; scene.phase.samples.len()]?;
     let waters = Waters::of(alloc, mask)?;
     let task = Task {
@@ -61,13 +85,7 @@ pub fn guess_whole_within<R: Threads + Sync>(
     };
     let is_solved = solve(rt, alloc, &task, &mut cells, workers)?;
     drain_sea(alloc, &task, &mut cells)?;
-    if !is_solved {
-        return Ok(Guess::Reached(Reached::of(alloc, &cells, scene.phase.width)?));
-    }
-    Ok(Guess::Surface {
-        cycles: cycles(rt, alloc, scene, mask, &cells, workers)?,
-        faces: faces(rt, alloc, scene, &cells, workers)?,
-    })
+    Ok((cells, is_solved))
 }
 
 /// Solves all blocks, level by level, and the lakes. The result is whether nothing was given up.

@@ -8,6 +8,7 @@ mod guess;
 mod integrating;
 mod levels;
 mod reaching;
+mod residues;
 mod waters;
 
 pub use crate::guess::{Guess, guess_whole, guess_whole_within};

@@ -1,84 +1,78 @@
 use raster_model::{Terms, Tiling, Window};
-use std::test::Fail;
-use worked_scenes::{same, scene, scene_on};
+use worked_scenes::{scene, scene_on};
 use wrapped_gradient::Gradients;
 
 /// The four quarter turns of `0 16384 / 49152 32768`, by hand.
 #[test]
-fn a_full_turn_is_a_residue(rt: HostRuntime) -> Result<(), Fail> {
+fn a_full_turn_is_a_residue(rt: HostRuntime) {
     let tiling = Tiling::new(2, 2, 2);
-    let scene = scene(rt.alloc(), tiling, 1, &[0, 16384, 49152, 32768], &[1; 4])?;
+    let scene = scene(rt.alloc(), tiling, 1, &[0, 16384, 49152, 32768], &[1; 4]).expect(
+        &rt, "a scene",
+    );
     let window = Window {
         x0: 0,
         y0: 0,
         x1: 1,
         y1: 1,
     };
-    let gradients = Gradients::of(rt.alloc(), &scene, window)?;
+    let gradients = Gradients::of(rt.alloc(), &scene, window).expect(&rt, "memory");
     let (top, bottom) = (gradients.right(0, 0), gradients.right(0, 1));
     let (left, right) = (gradients.down(0, 0), gradients.down(1, 0));
-    same(
-        "quarters",
-        [top, right, bottom, left],
-        [16384, 16384, -16384, -16384],
-    )?;
+    assert_eq!(rt; [top, right, bottom, left], [16384, 16384, -16384, -16384]);
     let residues = (gradients.residue(0, 0), gradients.first_residue());
-    same("residue", residues, (1, Some((0, 0))))?;
-    Ok(())
+    assert_eq!(rt; residues, (1, Some((0, 0))));
 }
 
 /// The same phases where a rise is expected along rows and along columns: the bottom edge and the left edge rise by three
 /// quarters of a cycle, and the turn goes the other way.
 #[test]
-fn a_ramp_goes_both_ways(rt: HostRuntime) -> Result<(), Fail> {
+fn a_ramp_goes_both_ways(rt: HostRuntime) {
     let terms = Terms {
         ramp_x: 30000,
         ramp_y: 20000,
         steep: 1,
     };
     let phases = [0, 16384, 49152, 32768];
-    let scene = scene_on(rt.alloc(), terms, Tiling::new(2, 2, 2), 1, &phases, &[1; 4])?;
+    let scene = scene_on(rt.alloc(), terms, Tiling::new(2, 2, 2), 1, &phases, &[1; 4]).expect(
+        &rt, "a scene",
+    );
     let window = Window {
         x0: 0,
         y0: 0,
         x1: 1,
         y1: 1,
     };
-    let gradients = Gradients::of(rt.alloc(), &scene, window)?;
+    let gradients = Gradients::of(rt.alloc(), &scene, window).expect(&rt, "memory");
     let (top, bottom) = (gradients.right(0, 0), gradients.right(0, 1));
     let (left, right) = (gradients.down(0, 0), gradients.down(1, 0));
-    same(
-        "quarters",
-        [top, right, bottom, left],
-        [16384, 16384, 49152, 49152],
-    )?;
+    assert_eq!(rt; [top, right, bottom, left], [16384, 16384, 49152, 49152]);
     let residues = (gradients.residue(0, 0), gradients.first_residue());
-    same("residue", residues, (-1, Some((0, 0))))?;
-    Ok(())
+    assert_eq!(rt; residues, (-1, Some((0, 0))));
 }
 
 /// A turn the other way around the cell at (2, 0), and no other residue.
 #[test]
-fn counts_places_in_the_raster(rt: HostRuntime) -> Result<(), Fail> {
+fn counts_places_in_the_raster(rt: HostRuntime) {
     let phases = [0, 0, 0, 49152, 0, 0, 16384, 32768, 0, 0, 0, 0];
-    let scene = scene(rt.alloc(), Tiling::new(4, 3, 2), 1, &phases, &[1; 12])?;
+    let scene = scene(rt.alloc(), Tiling::new(4, 3, 2), 1, &phases, &[1; 12]).expect(
+        &rt, "a scene",
+    );
     let right = Window {
         x0: 1,
         y0: 0,
         x1: 3,
         y1: 2,
     };
-    let gradients = Gradients::of(rt.alloc(), &scene, right)?;
+    let gradients = Gradients::of(rt.alloc(), &scene, right).expect(&rt, "memory");
     let residues = (gradients.residue(2, 0), gradients.first_residue());
-    same("right window", residues, (-1, Some((2, 0))))?;
+    assert_eq!(rt; residues, (-1, Some((2, 0))));
     let lower = Window {
         x0: 0,
         y0: 1,
         x1: 3,
         y1: 2,
     };
-    let gradients = Gradients::of(rt.alloc(), &scene, lower)?;
+    let gradients = Gradients::of(rt.alloc(), &scene, lower).expect(&rt, "memory");
     let half_cycle = (gradients.down(3, 1), gradients.first_residue());
-    same("lower window", half_cycle, (-32768, None))?;
-    Ok(())
+    assert_eq!(rt; half_cycle, (-32768, None));
 }

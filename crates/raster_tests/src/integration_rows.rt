@@ -2,9 +2,9 @@ ghost use Rattle.raster_model.specs.Tiles.{IsWindowIn};
 
 use raster_model::{Scene, Terms, Tiling, Window};
 use std::alloc::{AllocError, Global};
-use std::test::Fail;
+use std::process::Abort;
 use surface_integration::integrate;
-use worked_scenes::{same, scene, scene_on};
+use worked_scenes::scene_on;
 use wrapped_gradient::{Corrections, Gradients};
 
 /// The cycles of a window without residues, with no correction.
@@ -25,60 +25,65 @@ fn flat_cycles(alloc: Global, scene: &Scene, window: Window) -> Result<Option<Ve
     Ok(Some(cycles))
 }
 
-/// Surfaces by hand: `0 20000 / 40000 60000` is `0 20000 / -25536 -5536`; two columns of the line
-/// `0 40000 14464 54464` fall by 25536; a full turn has a residue.
-#[test]
-fn a_window_without_residues_has_one_surface(rt: HostRuntime) -> Result<(), Fail> {
-    let square = Window {
-        x0: 0,
-        y0: 0,
-        x1: 1,
-        y1: 1,
-    };
-    let tiling = Tiling::new(2, 2, 2);
-    let cases: [([u16; 4], Option<&[i32]>); 2] = [
-        ([0, 20000, 40000, 60000], Some(&[0, 0, -1, -1])),
-        ([0, 16384, 49152, 32768], None),
-    ];
-    for (phases, wanted) in cases {
-        let scene = scene(rt.alloc(), tiling, 1, &phases, &[1; 4])?;
-        let cycles = flat_cycles(rt.alloc(), &scene, square)?;
-        same("square", cycles.as_deref(), wanted)?;
-    }
-    let line = Tiling::new(4, 1, 2);
-    let scene = scene(rt.alloc(), line, 1, &[0, 40000, 14464, 54464], &[1; 4])?;
-    let right = Window {
-        x0: 2,
-        y0: 0,
-        x1: 3,
-        y1: 0,
-    };
-    let cycles = flat_cycles(rt.alloc(), &scene, right)?;
-    same("line", cycles.as_deref(), Some(&[0, -1]))?;
-    Ok(())
+/// The cycles of a window of four pixels on these terms, in words.
+fn told(
+    rt: &impl Abort,
+    alloc: Global,
+    terms: Terms,
+    tiling: Tiling,
+    window: Window,
+    phases: &[u16],
+) -> String
+    requires { IsWindowIn tiling.width tiling.height window }
+{
+    let scene = scene_on(alloc, terms, tiling, 1, phases, &[1; 4]).expect(rt, "a scene");
+    let cycles = flat_cycles(alloc, &scene, window).expect(rt, "memory");
+    format!(in alloc; "{cycles:?}").expect(rt, "memory")
 }
 
-/// The cycles of a whole raster with no residue on these terms.
-fn cycles_on(
+/// The same of a whole raster.
+fn whole_told(
+    rt: &impl Abort,
     alloc: Global,
     terms: Terms,
     tiling: Tiling,
     phases: &[u16],
-) -> Result<Option<Vec<i32>>, Fail> {
-    let scene = scene_on(alloc, terms, tiling, 1, phases, &[1; 4])?;
+) -> String {
     let window = Window {
         x0: 0,
         y0: 0,
         x1: tiling.width - 1,
         y1: tiling.height - 1,
     };
-    Ok(flat_cycles(alloc, &scene, window)?)
+    told(rt, alloc, terms, tiling, window, phases)
+}
+
+/// Surfaces by hand: `0 20000 / 40000 60000` is `0 20000 / -25536 -5536`; two columns of the line
+/// `0 40000 14464 54464` fall by 25536; a full turn has a residue.
+#[test]
+fn a_window_without_residues_has_one_surface(rt: HostRuntime) {
+    let (alloc, terms) = (rt.alloc(), Terms::plain());
+    let square = Tiling::new(2, 2, 2);
+    let rise = whole_told(&rt, alloc, terms, square, &[0, 20000, 40000, 60000]);
+    assert_eq!(rt; rise.as_str(), "Some([0, 0, -1, -1])");
+    let turn = whole_told(&rt, alloc, terms, square, &[0, 16384, 49152, 32768]);
+    assert_eq!(rt; turn.as_str(), "None");
+    let line = Tiling::new(4, 1, 2);
+    let right = Window {
+        x0: 2,
+        y0: 0,
+        x1: 3,
+        y1: 0,
+    };
+    let fall = told(&rt, alloc, terms, line, right, &[0, 40000, 14464, 54464]);
+    assert_eq!(rt; fall.as_str(), "Some([0, -1])");
 }
 
 /// Surfaces by hand: the line `0 40000 14464 54464` is `0 40000 80000 120000` where a rise of 30000 is expected, and so is
 /// the column; what is a full turn without a ramp is `0 16384 / -16384 32768`.
 #[test]
-fn a_surface_follows_its_ramp(rt: HostRuntime) -> Result<(), Fail> {
+fn a_surface_follows_its_ramp(rt: HostRuntime) {
+    let alloc = rt.alloc();
     let along_rows = Terms {
         ramp_x: 30000,
         ramp_y: 0,
@@ -90,20 +95,20 @@ fn a_surface_follows_its_ramp(rt: HostRuntime) -> Result<(), Fail> {
         steep: 1,
     };
     let steps = [0, 40000, 14464, 54464];
-    let line = cycles_on(rt.alloc(), along_rows, Tiling::new(4, 1, 2), &steps)?;
-    same("line", line.as_deref(), Some(&[0, 0, 1, 1]))?;
-    let column = cycles_on(rt.alloc(), along_columns, Tiling::new(1, 4, 2), &steps)?;
-    same("column", column.as_deref(), Some(&[0, 0, 1, 1]))?;
+    let line = whole_told(&rt, alloc, along_rows, Tiling::new(4, 1, 2), &steps);
+    assert_eq!(rt; line.as_str(), "Some([0, 0, 1, 1])");
+    let column = whole_told(&rt, alloc, along_columns, Tiling::new(1, 4, 2), &steps);
+    assert_eq!(rt; column.as_str(), "Some([0, 0, 1, 1])");
     let turn = [0, 16384, 49152, 32768];
-    let square = cycles_on(rt.alloc(), along_rows, Tiling::new(2, 2, 2), &turn)?;
-    same("square", square.as_deref(), Some(&[0, 0, -1, 0]))?;
-    Ok(())
+    let square = whole_told(&rt, alloc, along_rows, Tiling::new(2, 2, 2), &turn);
+    assert_eq!(rt; square.as_str(), "Some([0, 0, -1, 0])");
 }
 
 /// A line of level pixels: where a fall of half a cycle is expected they fall by a whole one, and where a
 /// rise of a little less than half a cycle is expected they stay level.
 #[test]
-fn level_pixels_fall_at_the_end_of_the_range(rt: HostRuntime) -> Result<(), Fail> {
+fn level_pixels_fall_at_the_end_of_the_range(rt: HostRuntime) {
+    let alloc = rt.alloc();
     let falling = Terms {
         ramp_x: -32768,
         ramp_y: 0,
@@ -115,9 +120,8 @@ fn level_pixels_fall_at_the_end_of_the_range(rt: HostRuntime) -> Result<(), Fail
         steep: 1,
     };
     let pixels = Tiling::new(4, 1, 2);
-    let down = cycles_on(rt.alloc(), falling, pixels, &[0, 0, 0, 0])?;
-    same("falling", down.as_deref(), Some(&[0, -1, -2, -3]))?;
-    let level = cycles_on(rt.alloc(), rising, pixels, &[0, 0, 0, 0])?;
-    same("rising", level.as_deref(), Some(&[0, 0, 0, 0]))?;
-    Ok(())
+    let down = whole_told(&rt, alloc, falling, pixels, &[0, 0, 0, 0]);
+    assert_eq!(rt; down.as_str(), "Some([0, -1, -2, -3])");
+    let level = whole_told(&rt, alloc, rising, pixels, &[0, 0, 0, 0]);
+    assert_eq!(rt; level.as_str(), "Some([0, 0, 0, 0])");
 }

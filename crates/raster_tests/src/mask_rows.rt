@@ -196,7 +196,7 @@ fn masked_and_opened(
 }
 
 /// The next number of a row, and 0 if there is none.
-fn number(words: &mut Split<'_, char>) -> u32 {
+pub(crate) fn number(words: &mut Split<'_, char>) -> u32 {
     words.next().unwrap_or("").parse().unwrap_or(0)
 }
 

@@ -1,7 +1,8 @@
+use crate::mask_rows::number;
 use raster_model::Tiling;
 use seam_regions::Regions;
 use std::alloc::{AllocError, Global};
-use std::test::Fail;
+use std::process::Abort;
 use worked_scenes::{SceneFault, masked};
 
 /// Width and height of a raster and the side of its tiles, its mask by rows, 1 if a pixel is open, the count of its
@@ -9,26 +10,30 @@ use worked_scenes::{SceneFault, masked};
 /// into two regions, and the row below it is a tile of its own. In `0 1 0 1 / 1 0 0 1 / 1 1 1 1` the pixel (1, 0) touches
 /// the others only at a corner, and (0, 1) is joined to (3, 0) around the bottom. A ring is one region that closes at its
 /// last pixel. One pixel is a region, and masked ones are none.
-const ROWS: [(u32, u32, u32, &[u16], &str); 6] = [
-    (
-        3,
-        4,
-        3,
-        &[1, 0, 1, 1, 0, 1, 1, 0, 1, 1, 1, 1],
-        "3 0.10.10.1222 Some(2)",
-    ),
-    (
-        4,
-        3,
-        4,
-        &[0, 1, 0, 1, 1, 0, 0, 1, 1, 1, 1, 1],
-        "2 .0.11..11111 Some(1)",
-    ),
-    (3, 3, 4, &[1, 1, 1, 1, 0, 1, 1, 1, 1], "1 0000.0000 Some(0)"),
-    (3, 2, 2, &[1, 1, 1, 1, 1, 1], "2 001001 Some(1)"),
-    (1, 1, 2, &[1], "1 0 Some(0)"),
-    (2, 1, 2, &[0, 0], "0 .. None"),
-];
+const ROWS: &str = "\
+3 4 3|1 0 1 1 0 1 1 0 1 1 1 1|3 0.10.10.1222 Some(2)
+4 3 4|0 1 0 1 1 0 0 1 1 1 1 1|2 .0.11..11111 Some(1)
+3 3 4|1 1 1 1 0 1 1 1 1|1 0000.0000 Some(0)
+3 2 2|1 1 1 1 1 1|2 001001 Some(1)
+1 1 2|1|1 0 Some(0)
+2 1 2|0 0|0 .. None";
+
+/// The tiling of a row's first field.
+fn tiling(rt: &impl Abort, field: &str) -> Tiling {
+    let mut words = field.split(' ');
+    let (width, height, side) = (number(&mut words), number(&mut words), number(&mut words));
+    assert!(rt; 0 < width && width < 9 && 0 < height && height < 9 && 1 < side && side < 9);
+    Tiling::new(width, height, side)
+}
+
+/// The samples of a row's second field.
+fn samples(alloc: Global, field: &str) -> Result<Vec<u16>, AllocError> {
+    let mut samples = Vec::new(alloc);
+    for word in field.split(' ') {
+        samples.push(word.parse().unwrap_or(99))?;
+    }
+    Ok(samples)
+}
 
 /// Labels as digits, and a point if there is none.
 fn drawn(alloc: Global, labels: &[u32]) -> Result<String, AllocError> {
@@ -49,11 +54,13 @@ fn told(alloc: Global, tiling: Tiling, open: &[u16]) -> Result<String, SceneFaul
 }
 
 #[test]
-fn regions_are_numbered_by_their_first_pixels(rt: HostRuntime) -> Result<(), Fail> {
-    for (width, height, side, open, regions) in ROWS {
-        assert!(rt; 0 < width && width < 9 && 0 < height && height < 9 && 1 < side && side < 9);
-        let tiling = Tiling::new(width, height, side);
-        assert_eq!(rt; told(rt.alloc(), tiling, open)?.as_str(), regions);
+fn regions_are_numbered_by_their_first_pixels(rt: HostRuntime) {
+    let alloc = rt.alloc();
+    for row in ROWS.lines() {
+        let mut fields = row.split('|');
+        let tiling = tiling(&rt, fields.next().unwrap_or(""));
+        let open = samples(alloc, fields.next().unwrap_or("")).expect(&rt, "memory");
+        let found = told(alloc, tiling, &open).expect(&rt, "a mask");
+        assert_eq!(rt; found.as_str(), fields.next().unwrap_or(""), "{row}");
     }
-    Ok(())
 }

@@ -1,43 +1,66 @@
-ghost use Rattle.std.specs.Prelude.{◌≤◌};
+ghost use Rattle.std.specs.Prelude.{◌≡◌, ◌≤◌};
 
 use edge_weights::WeightRule;
-use raster_model::{RuleKind, Tiling};
-use std::test::Fail;
-use worked_scenes::{plane, same};
+use raster_model::{EdgeWeights, Plane, RuleKind, Tiling};
+use std::alloc::{AllocError, Global};
+use std::process::Abort;
+use worked_scenes::plane;
 
-/// The weights `5 5 / 3 9` with the maxval 9, by hand.
-#[test]
-fn weighs_a_square_by_each_rule(rt: HostRuntime) -> Result<(), Fail> {
-    let weights = plane(rt.alloc(), &Tiling::new(2, 2, 2), 9, &[5, 5, 3, 9])?;
-    let number = Box::new(rt.alloc(), |a: u16, b: u16| a.min(b))?;
-    let least = WeightRule::new(RuleKind::Least, 9, number).weigh(rt.alloc(), &weights)?;
-    same("least: right", &least.right[..], &[5, 3])?;
-    same("least: down", &least.down[..], &[3, 5])?;
-    let number = Box::new(rt.alloc(), |a: u16, b: u16| {
+/// The weights of edges by the rule least.
+fn least(alloc: Global, maxval: u16, weights: &Plane) -> Result<EdgeWeights, AllocError>
+    requires { weights.now.maxval ≡ maxval }
+{
+    let number = Box::new(alloc, |a: u16, b: u16| a.min(b))?;
+    WeightRule::new(RuleKind::Least, maxval, number).weigh(alloc, weights)
+}
+
+/// The same by the rule mean.
+fn mean(alloc: Global, weights: &Plane) -> Result<EdgeWeights, AllocError>
+    requires { weights.now.maxval ≡ 9 }
+{
+    let number = Box::new(alloc, |a: u16, b: u16| {
         ((u32::from(a) + u32::from(b)) / 2) as u16
     })?;
-    let mean = WeightRule::new(RuleKind::Mean, 9, number).weigh(rt.alloc(), &weights)?;
-    same("mean: right", &mean.right[..], &[5, 6])?;
-    same("mean: down", &mean.down[..], &[4, 7])?;
+    WeightRule::new(RuleKind::Mean, 9, number).weigh(alloc, weights)
+}
+
+/// The same by the rule product.
+fn product(alloc: Global, weights: &Plane) -> Result<EdgeWeights, AllocError>
+    requires { weights.now.maxval ≡ 9 }
+{
     let number = Box::new(
-        rt.alloc(),
+        alloc,
         |a: u16, b: u16| -> u16
             requires { (a ≤ 9) × (b ≤ 9) }
         { (u32::from(a) * u32::from(b) / 9) as u16 },
     )?;
-    let product = WeightRule::new(RuleKind::Product, 9, number).weigh(rt.alloc(), &weights)?;
-    same("product: right", &product.right[..], &[2, 3])?;
-    same("product: down", &product.down[..], &[1, 5])?;
-    Ok(())
+    WeightRule::new(RuleKind::Product, 9, number).weigh(alloc, weights)
+}
+
+/// The weights of right edges and of down edges, in words.
+fn told(rt: &impl Abort, alloc: Global, weighed: Result<EdgeWeights, AllocError>) -> String {
+    let edges = weighed.expect(rt, "memory");
+    format!(in alloc; "{:?} {:?}", edges.right, edges.down).expect(rt, "memory")
+}
+
+/// The weights `5 5 / 3 9` with the maxval 9, by hand.
+#[test]
+fn weighs_a_square_by_each_rule(rt: HostRuntime) {
+    let alloc = rt.alloc();
+    let weights = plane(alloc, &Tiling::new(2, 2, 2), 9, &[5, 5, 3, 9]).expect(&rt, "a plane");
+    let least = told(&rt, alloc, least(alloc, 9, &weights));
+    assert_eq!(rt; least.as_str(), "[5, 3] [3, 5]", "least");
+    let mean = told(&rt, alloc, mean(alloc, &weights));
+    assert_eq!(rt; mean.as_str(), "[5, 6] [4, 7]", "mean");
+    let product = told(&rt, alloc, product(alloc, &weights));
+    assert_eq!(rt; product.as_str(), "[2, 3] [1, 5]", "product");
 }
 
 /// A line has no down edges.
 #[test]
-fn a_line_has_no_down_edges(rt: HostRuntime) -> Result<(), Fail> {
-    let line = plane(rt.alloc(), &Tiling::new(3, 1, 2), 300, &[300, 256, 299])?;
-    let number = Box::new(rt.alloc(), |a: u16, b: u16| a.min(b))?;
-    let edges = WeightRule::new(RuleKind::Least, 300, number).weigh(rt.alloc(), &line)?;
-    same("line: right", &edges.right[..], &[256, 256])?;
-    same("line: down", &edges.down[..], &[])?;
-    Ok(())
+fn a_line_has_no_down_edges(rt: HostRuntime) {
+    let alloc = rt.alloc();
+    let line = plane(alloc, &Tiling::new(3, 1, 2), 300, &[300, 256, 299]).expect(&rt, "a plane");
+    let edges = told(&rt, alloc, least(alloc, 300, &line));
+    assert_eq!(rt; edges.as_str(), "[256, 256] []");
 }

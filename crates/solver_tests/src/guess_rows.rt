@@ -1,14 +1,14 @@
-ghost use Rattle.raster_model.specs.Tiles.{tiles_of};
-ghost use Rattle.std.specs.Prelude.{◌<◌, IfOk};
+ghost use Rattle.raster_model.specs.Tiles.{tiles_of, window_of};
+ghost use Rattle.std.specs.Prelude.{◌≡◌, ◌<◌};
+ghost use Rattle.wrapped_gradient.specs.Gradients.{AreGradientsOf};
 
-use crate::reading::{Raster, cycles, field, numbers, read_raster, read_steep};
+use crate::reading::{Raster, cycles, field, numbers, read_raster, read_steep, unmasked};
 use crate::tile_rows::{ROWS, STEEP_ROWS};
 use certificates::{TileVerdict, check_tile};
 use dual_grid::{DualGrid, Problem};
-use raster_model::{Mask, Scene};
-use std::alloc::{AllocError, Global};
+use raster_model::Scene;
+use std::alloc::Global;
 use std::process::Abort;
-use std::test::Fail;
 use tile_guess::Guess;
 use tile_solver::solve_tile_from;
 use worked_scenes::masked;
@@ -41,53 +41,55 @@ const GUESSES: &str = "\
 0 1|0 0|-9223372036854775808|false";
 
 /// The guess at the beginning of a row.
-fn guess(alloc: Global, row: &str) -> Result<Guess, AllocError> {
+fn guess(rt: &impl Abort, alloc: Global, row: &str) -> Guess {
     let mut fields = row.split('|');
-    Ok(Guess {
-        right: cycles(alloc, field(&mut fields))?,
-        down: cycles(alloc, field(&mut fields))?,
-        faces: numbers(alloc, field(&mut fields))?,
-    })
+    let right = cycles(alloc, field(&mut fields)).expect(rt, "memory");
+    let down = cycles(alloc, field(&mut fields)).expect(rt, "memory");
+    let faces = numbers(alloc, field(&mut fields)).expect(rt, "memory");
+    Guess { right, down, faces }
 }
 
 /// The full turn in one tile.
-fn full_turn(rt: &impl Abort, alloc: Global) -> Result<Scene, Fail>
-    ensures { IfOk result (λ made. 0 < tiles_of made.tiling) }
+fn full_turn(rt: &impl Abort, alloc: Global) -> Scene
+    ensures { 0 < tiles_of result.tiling }
 {
-    Ok(read_raster(rt, alloc, "2|2|0 16384 49152 32768|5 5 3 9|1 1 1 1")?.scene)
+    read_raster(rt, alloc, "2|2|0 16384 49152 32768|5 5 3 9|1 1 1 1").scene
+}
+
+/// The gradients of a scene's one tile.
+fn gradients_of(rt: &impl Abort, alloc: Global, scene: &Scene) -> Gradients
+    requires { 0 < tiles_of scene.now.tiling }
+    ensures window { result.window ≡ window_of scene.now.tiling 0 }
+    ensures differences { AreGradientsOf scene.now result }
+{
+    Gradients::of(alloc, scene, scene.tiling.window(0)).expect(rt, "memory")
 }
 
 /// What a scene's one tile asks if all pixels are open.
-fn problem_of(alloc: Global, scene: &Scene) -> Result<Problem, AllocError>
+fn problem_of(rt: &impl Abort, alloc: Global, scene: &Scene) -> Problem
     requires { 0 < tiles_of scene.now.tiling }
 {
-    let window = scene.tiling.window(0);
-    let gradients = Gradients::of(alloc, scene, window)?;
-    let pixels = (window.x1 - window.x0 + 1) as usize * (window.y1 - window.y0 + 1) as usize;
-    let unmasked = vec![in alloc; true; pixels]?;
-    Problem::of(alloc, scene, &gradients, 0, &unmasked)
+    let gradients = gradients_of(rt, alloc, scene);
+    let unmasked = unmasked(rt, alloc, scene, &[1; 4]);
+    Problem::of(alloc, scene, &gradients, 0, &unmasked).expect(rt, "memory")
 }
 
 /// Whether the guess of a row is taken as an answer exactly if the row says so.
-fn is_as_told(alloc: Global, problem: &Problem, row: &str) -> Result<bool, AllocError> {
-    let guess = guess(alloc, row)?;
-    let corrections = Corrections {
-        right: guess.right,
-        down: guess.down,
-    };
-    Ok(problem.is_answered_by(&corrections, &guess.faces) == row.ends_with("true"))
+fn is_as_told(rt: &impl Abort, alloc: Global, problem: &Problem, row: &str) -> bool {
+    let Guess { right, down, faces } = guess(rt, alloc, row);
+    let corrections = Corrections { right, down };
+    problem.is_answered_by(&corrections, &faces) == row.ends_with("true")
 }
 
 /// Guesses are taken where they are answers, and nowhere else.
 #[test]
-fn guesses_are_taken_where_they_answer(rt: HostRuntime) -> Result<(), Fail> {
+fn guesses_are_taken_where_they_answer(rt: HostRuntime) {
     let alloc = rt.alloc();
-    let scene = full_turn(&rt, alloc)?;
-    let problem = problem_of(alloc, &scene)?;
+    let scene = full_turn(&rt, alloc);
+    let problem = problem_of(&rt, alloc, &scene);
     for row in GUESSES.lines() {
-        assert!(rt; is_as_told(alloc, &problem, row).expect(&rt, "memory"));
+        assert!(rt; is_as_told(&rt, alloc, &problem, row), "{row}");
     }
-    Ok(())
 }
 
 /// Rows of `guess`: corrections and faces from which the full turn may be solved, and whether its grid takes them. By hand:
@@ -113,28 +115,25 @@ const STARTS: &str = "\
 0 0|0 0|-9223372036854775808|false";
 
 /// Whether the grid of a scene's one tile takes the corrections and faces of a row exactly if the row says so.
-fn starts_as_told(alloc: Global, scene: &Scene, row: &str) -> Result<bool, AllocError>
+fn starts_as_told(rt: &impl Abort, alloc: Global, scene: &Scene, row: &str) -> bool
     requires { 0 < tiles_of scene.now.tiling }
 {
-    let window = scene.tiling.window(0);
-    let gradients = Gradients::of(alloc, scene, window)?;
-    let pixels = (window.x1 - window.x0 + 1) as usize * (window.y1 - window.y0 + 1) as usize;
-    let unmasked = vec![in alloc; true; pixels]?;
-    let Guess { right, down, faces } = guess(alloc, row)?;
+    let gradients = gradients_of(rt, alloc, scene);
+    let unmasked = unmasked(rt, alloc, scene, &[1; 4]);
+    let Guess { right, down, faces } = guess(rt, alloc, row);
     let corrections = Corrections { right, down };
-    let grid = DualGrid::reached(alloc, scene, &gradients, &unmasked, corrections, &faces)?;
-    Ok(grid.is_some() == row.ends_with("true"))
+    let grid = DualGrid::reached(alloc, scene, &gradients, &unmasked, corrections, &faces);
+    grid.expect(rt, "memory").is_some() == row.ends_with("true")
 }
 
 /// A grid takes flows and faces that go together, and nothing else.
 #[test]
-fn grids_take_what_goes_together(rt: HostRuntime) -> Result<(), Fail> {
+fn grids_take_what_goes_together(rt: HostRuntime) {
     let alloc = rt.alloc();
-    let scene = full_turn(&rt, alloc)?;
+    let scene = full_turn(&rt, alloc);
     for row in STARTS.lines() {
-        assert!(rt; starts_as_told(alloc, &scene, row)?, "{row}");
+        assert!(rt; starts_as_told(&rt, alloc, &scene, row), "{row}");
     }
-    Ok(())
 }
 
 /// What the check says of a scene's one tile, solved from a guess.
@@ -144,32 +143,29 @@ fn verdict(
     scene: &Scene,
     opened: &[u16],
     guess: Guess,
-) -> Result<TileVerdict, Fail>
+) -> TileVerdict
     requires { 0 < tiles_of scene.now.tiling }
 {
-    let mask: Mask = masked(alloc, &scene.tiling, opened)?;
-    let unmasked: Vec<bool> = opened.iter().map(|&sample| sample != 0).collect(alloc)?;
-    let window = scene.tiling.window(0);
-    let pixels = (window.x1 - window.x0 + 1) as usize * (window.y1 - window.y0 + 1) as usize;
-    assert!(rt; unmasked.len() == pixels);
-    let solved = solve_tile_from(alloc, scene, 0, 7, &unmasked, Some(guess))?;
-    Ok(check_tile(scene, &mask, &solved))
+    let mask = masked(alloc, &scene.tiling, opened).expect(rt, "a mask");
+    let unmasked = unmasked(rt, alloc, scene, opened);
+    let solved = solve_tile_from(alloc, scene, 0, 7, &unmasked, Some(guess)).expect(rt, "memory");
+    check_tile(scene, &mask, &solved)
 }
 
 /// From any guess the full turn gets a result that is certified.
 #[test]
-fn any_guess_ends_in_a_certified_tile(rt: HostRuntime) -> Result<(), Fail> {
+fn any_guess_ends_in_a_certified_tile(rt: HostRuntime) {
     let alloc = rt.alloc();
-    let scene = full_turn(&rt, alloc)?;
+    let scene = full_turn(&rt, alloc);
     for row in GUESSES.lines() {
-        let guess = guess(alloc, row).expect(&rt, "memory");
-        assert!(rt; verdict(&rt, alloc, &scene, &[1, 1, 1, 1], guess)? == TileVerdict::Good);
+        let guess = guess(&rt, alloc, row);
+        let verdict = verdict(&rt, alloc, &scene, &[1, 1, 1, 1], guess);
+        assert_eq!(rt; verdict, TileVerdict::Good, "{row}");
     }
-    Ok(())
 }
 
 /// What the check says of a raster, solved by the network alone.
-fn network_verdict(rt: &impl Abort, alloc: Global, raster: &Raster) -> Result<TileVerdict, Fail>
+fn network_verdict(rt: &impl Abort, alloc: Global, raster: &Raster) -> TileVerdict
     requires { 0 < tiles_of raster.now.scene.tiling }
 {
     let nothing = Guess {
@@ -182,20 +178,20 @@ fn network_verdict(rt: &impl Abort, alloc: Global, raster: &Raster) -> Result<Ti
 
 /// The network alone certifies each raster whose least cost is known.
 #[test]
-fn the_network_certifies_too(rt: HostRuntime) -> Result<(), Fail> {
+fn the_network_certifies_too(rt: HostRuntime) {
     for row in ROWS.lines() {
-        let raster = read_raster(&rt, rt.alloc(), row)?;
-        assert!(rt; network_verdict(&rt, rt.alloc(), &raster)? == TileVerdict::Good);
+        let raster = read_raster(&rt, rt.alloc(), row);
+        let verdict = network_verdict(&rt, rt.alloc(), &raster);
+        assert_eq!(rt; verdict, TileVerdict::Good, "{row}");
     }
-    Ok(())
 }
 
 /// So it does at other steepnesses.
 #[test]
-fn the_network_certifies_steep_tiles(rt: HostRuntime) -> Result<(), Fail> {
-    for (steep, row) in STEEP_ROWS {
-        let raster = read_steep(&rt, rt.alloc(), steep, row)?;
-        assert!(rt; network_verdict(&rt, rt.alloc(), &raster)? == TileVerdict::Good);
+fn the_network_certifies_steep_tiles(rt: HostRuntime) {
+    for row in STEEP_ROWS.lines() {
+        let raster = read_steep(&rt, rt.alloc(), row);
+        let verdict = network_verdict(&rt, rt.alloc(), &raster);
+        assert_eq!(rt; verdict, TileVerdict::Good, "{row}");
     }
-    Ok(())
 }

@@ -5,12 +5,11 @@ use certificates::TileResult;
 use collector_core::collect_from;
 use insar_ports::{Feed, MemorySource};
 use offset_guess::Guess;
-use raster_model::RuleKind;
+use raster_model::{RuleKind, Session};
 use session_script::{SessionUse, read_session};
-use std::alloc::{AllocError, Global};
+use std::alloc::Global;
 use std::process::Abort;
 use std::sync::Arc;
-use std::test::Fail;
 use tile_board::Board;
 use worked_scenes::tile_result;
 
@@ -28,75 +27,70 @@ const ROWS: &str = "\
     2 0 -3 2 0 -3 2 0 -3/0 0 0 0;5 5 6/|-2 3 -5|0 0 0
 2|P2 4 1 65535 0 40000 14464 54464 P2 4 1 1 1 1 1 1 P2 4 1 1 0 0 0 0|0 0/;0 0/||0";
 
-/// The board of a session without scripts.
-fn board(alloc: Global, side: u32, planes: &str) -> Result<Board, Fail>
+/// The session of planes, without scripts.
+fn session(rt: &impl Abort, alloc: Global, side: u32, planes: &str) -> Session
     requires { (2 ≤ side) × (side ≤ 128) }
 {
-    let mut source = MemorySource::new(
-        Vec::from_slice(alloc, planes.as_bytes())?,
-        99,
-        Vec::new(alloc),
-    );
-    let mut feed = Feed::new(alloc, &mut source, 268_435_456)?;
-    let session = read_session(alloc, &mut feed, SessionUse::Alone, side, RuleKind::Least)?;
-    Ok(Board::new(alloc, Arc::new(alloc, session)?)?)
+    let bytes = Vec::from_slice(alloc, planes.as_bytes()).expect(rt, "memory");
+    let mut source = MemorySource::new(bytes, 99, Vec::new(alloc));
+    let mut feed = Feed::new(alloc, &mut source, 268_435_456).expect(rt, "memory");
+    let session = read_session(alloc, &mut feed, SessionUse::Alone, side, RuleKind::Least);
+    session.expect(rt, "a session")
+}
+
+/// The board of such a session.
+fn board(rt: &impl Abort, alloc: Global, side: u32, planes: &str) -> Board
+    requires { (2 ≤ side) × (side ≤ 128) }
+{
+    let session = Arc::new(alloc, session(rt, alloc, side, planes)).expect(rt, "memory");
+    Board::new(alloc, session).expect(rt, "memory")
 }
 
 /// The result of a tile, whose field has the cycles and the faces.
-fn result(alloc: Global, tile: u32, field: &str) -> Result<TileResult, AllocError> {
+fn result(rt: &impl Abort, alloc: Global, tile: u32, field: &str) -> TileResult {
     let (own, faces) = field.split_once('/').unwrap_or((field, ""));
-    tile_result(
-        alloc,
-        tile,
-        0,
-        &cycles(alloc, own)?,
-        &numbers(alloc, faces)?,
-    )
+    let own = cycles(alloc, own).expect(rt, "memory");
+    let faces = numbers(alloc, faces).expect(rt, "memory");
+    tile_result(alloc, tile, 0, &own, &faces).expect(rt, "memory")
 }
 
-/// A board that keeps these results.
-fn kept(alloc: Global, side: u32, planes: &str, results: &str) -> Result<Board, Fail>
-    requires { (2 ≤ side) × (side ≤ 128) }
-{
-    let mut board = board(alloc, side, planes)?;
-    for (tile, field) in (0u32..).zip(results.split(';')) {
-        board.keep(alloc, result(alloc, tile, field)?)?;
-    }
-    Ok(board)
-}
-
-/// The board of a row, which begins with the side, the planes and the results.
-fn row_board(rt: &impl Abort, alloc: Global, row: &str) -> Result<Board, Fail> {
+/// The board of a row, which begins with the side, the planes and the results, which the board keeps.
+fn row_board(rt: &impl Abort, alloc: Global, row: &str) -> Board {
     let mut fields = row.split('|');
     let side = field(&mut fields).parse().unwrap_or(0u32);
     assert!(rt; 2 <= side && side <= 128);
-    let planes = field(&mut fields);
-    kept(alloc, side, planes, field(&mut fields))
+    let mut board = board(rt, alloc, side, field(&mut fields));
+    for (tile, field) in (0u32..).zip(field(&mut fields).split(';')) {
+        board
+            .keep(alloc, result(rt, alloc, tile, field))
+            .expect(rt, "a good result");
+    }
+    board
 }
 
 /// What is collected on a board from a guess, if one is given, in the words of a row: the offsets and the flows.
-fn collected(alloc: Global, board: &Board, guess: Option<Guess>) -> Result<String, Fail> {
-    let seams = collect_from(alloc, &board.gather(alloc)?, guess)?;
-    Ok(format!(in alloc; "{:?} {:?}", seams.offsets, seams.flows)?)
+fn collected(rt: &impl Abort, alloc: Global, board: &Board, guess: Option<Guess>) -> String {
+    let gathered = board.gather(alloc).expect(rt, "a result of each tile");
+    let seams = collect_from(alloc, &gathered, guess).expect(rt, "memory");
+    format!(in alloc; "{:?} {:?}", seams.offsets, seams.flows).expect(rt, "memory")
 }
 
 /// The answer at the end of a row, in the same words.
-fn wanted(alloc: Global, row: &str) -> Result<String, AllocError> {
+fn wanted(rt: &impl Abort, alloc: Global, row: &str) -> String {
     let mut fields = row.rsplit('|');
-    let flows = numbers(alloc, fields.next().unwrap_or(""))?;
-    let offsets = numbers(alloc, fields.next().unwrap_or(""))?;
-    format!(in alloc; "{offsets:?} {flows:?}")
+    let flows = numbers(alloc, fields.next().unwrap_or("")).expect(rt, "memory");
+    let offsets = numbers(alloc, fields.next().unwrap_or("")).expect(rt, "memory");
+    format!(in alloc; "{offsets:?} {flows:?}").expect(rt, "memory")
 }
 
 #[test]
-fn regions_are_moved_where_their_seams_cost_least(rt: HostRuntime) -> Result<(), Fail> {
+fn regions_are_moved_where_their_seams_cost_least(rt: HostRuntime) {
     let alloc = rt.alloc();
     for row in ROWS.lines() {
-        let board = row_board(&rt, alloc, row)?;
-        let found = collected(alloc, &board, None)?;
-        assert!(rt; found == wanted(alloc, row).expect(&rt, "memory"));
+        let board = row_board(&rt, alloc, row);
+        let found = collected(&rt, alloc, &board, None);
+        assert_eq!(rt; found, wanted(&rt, alloc, row), "{row}");
     }
-    Ok(())
 }
 
 /// Guesses at offsets and flows for each of the rasters: none, one of another raster, a flow missing, off by one or turned, an
@@ -115,33 +109,28 @@ const GUESSES: &str = "\
 0 -1|-9223372036854775808 9223372036854775807 8";
 
 /// The guess of a row.
-fn guess(alloc: Global, row: &str) -> Result<Guess, AllocError> {
+fn guess(rt: &impl Abort, alloc: Global, row: &str) -> Guess {
     let (offsets, flows) = row.split_once('|').unwrap_or((row, ""));
-    Ok(Guess {
-        offsets: numbers(alloc, offsets)?,
-        flows: numbers(alloc, flows)?,
-    })
+    let offsets = numbers(alloc, offsets).expect(rt, "memory");
+    let flows = numbers(alloc, flows).expect(rt, "memory");
+    Guess { offsets, flows }
 }
 
-/// Whether a board gives its answer from each of the guesses.
-fn ends_alike(alloc: Global, board: &Board, wanted: &str) -> Result<bool, Fail> {
+/// Refuses a board that does not give its one answer from each of the guesses.
+fn ends_alike(rt: &impl Abort, alloc: Global, board: &Board, wanted: &str) {
     for row in GUESSES.lines() {
-        let found = collected(alloc, board, Some(guess(alloc, row)?))?;
-        if found.as_str() != wanted {
-            return Ok(false);
-        }
+        let guess = guess(rt, alloc, row);
+        let found = collected(rt, alloc, board, Some(guess));
+        assert_eq!(rt; found.as_str(), wanted, "{row}");
     }
-    Ok(true)
 }
 
 /// From any guess each raster gets its one answer.
 #[test]
-fn any_guess_ends_in_least_offsets(rt: HostRuntime) -> Result<(), Fail> {
+fn any_guess_ends_in_least_offsets(rt: HostRuntime) {
     let alloc = rt.alloc();
     for row in ROWS.lines() {
-        let board = row_board(&rt, alloc, row)?;
-        let wanted = wanted(alloc, row).expect(&rt, "memory");
-        assert!(rt; ends_alike(alloc, &board, &wanted)?);
+        let board = row_board(&rt, alloc, row);
+        ends_alike(&rt, alloc, &board, &wanted(&rt, alloc, row));
     }
-    Ok(())
 }

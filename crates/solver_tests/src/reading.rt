@@ -1,12 +1,12 @@
 //! Rows of tests that are written as text.
-ghost use Rattle.raster_model.specs.Tiles.{tiles_of};
-ghost use Rattle.std.specs.Prelude.{◌<◌, IfOk};
+ghost use Rattle.certificates.specs.Results.{pixels_in};
+ghost use Rattle.raster_model.specs.Tiles.{tiles_of, window_of};
+ghost use Rattle.std.specs.Prelude.{◌≡◌, ◌<◌, length};
 
 use raster_model::{Scene, Terms, Tiling};
 use std::alloc::{AllocError, Global};
 use std::process::Abort;
 use std::str::Split;
-use std::test::Fail;
 use worked_scenes::scene_on;
 
 /// A raster in one tile, and the samples of its mask.
@@ -49,43 +49,64 @@ fn samples(alloc: Global, field: &str) -> Result<Vec<u16>, AllocError> {
 }
 
 /// The raster of a row, which begins with the width, the height, the phases, the weights and the mask.
-pub(crate) fn read_raster(rt: &impl Abort, alloc: Global, row: &str) -> Result<Raster, Fail>
-    ensures { IfOk result (λ made. 0 < tiles_of made.scene.tiling) }
+pub(crate) fn read_raster(rt: &impl Abort, alloc: Global, row: &str) -> Raster
+    ensures { 0 < tiles_of result.scene.tiling }
 {
-    read_raster_on(rt, alloc, Terms::plain(), row)
+    let mut fields = row.split('|');
+    read_raster_on(rt, alloc, Terms::plain(), &mut fields)
 }
 
-/// The same at a steepness.
-pub(crate) fn read_steep(
-    rt: &impl Abort,
-    alloc: Global,
-    steep: u32,
-    row: &str,
-) -> Result<Raster, Fail>
-    ensures { IfOk result (λ made. 0 < tiles_of made.scene.tiling) }
+/// The same at the steepness at the beginning of a row.
+pub(crate) fn read_steep(rt: &impl Abort, alloc: Global, row: &str) -> Raster
+    ensures { 0 < tiles_of result.scene.tiling }
 {
+    let mut fields = row.split('|');
+    let steep = field(&mut fields).parse().unwrap_or(0u32);
     assert!(rt; 1 <= steep && steep <= 16);
     let terms = Terms {
         ramp_x: 0,
         ramp_y: 0,
         steep,
     };
-    read_raster_on(rt, alloc, terms, row)
+    read_raster_on(rt, alloc, terms, &mut fields)
 }
 
-/// The same on these terms.
-fn read_raster_on(rt: &impl Abort, alloc: Global, terms: Terms, row: &str) -> Result<Raster, Fail>
-    ensures { IfOk result (λ made. 0 < tiles_of made.scene.tiling) }
+/// The raster of the next fields on these terms.
+fn read_raster_on(
+    rt: &impl Abort,
+    alloc: Global,
+    terms: Terms,
+    fields: &mut Split<'_, char>,
+) -> Raster
+    ensures { 0 < tiles_of result.scene.tiling }
 {
-    let mut fields = row.split('|');
-    let width = field(&mut fields).parse().unwrap_or(0u32);
-    let height = field(&mut fields).parse().unwrap_or(0u32);
+    let width = field(fields).parse().unwrap_or(0u32);
+    let height = field(fields).parse().unwrap_or(0u32);
     assert!(rt; 0 < width && width <= 9 && 0 < height && height <= 9);
-    let phases = samples(alloc, field(&mut fields))?;
-    let weights = samples(alloc, field(&mut fields))?;
+    let phases = samples(alloc, field(fields)).expect(rt, "memory");
+    let weights = samples(alloc, field(fields)).expect(rt, "memory");
+    let opened = samples(alloc, field(fields)).expect(rt, "memory");
     let tiling = Tiling::new(width, height, 128);
-    let scene = scene_on(alloc, terms, tiling, 9, &phases, &weights)?;
+    let scene = scene_on(alloc, terms, tiling, 9, &phases, &weights).expect(rt, "a scene");
     assert!(rt; 0 < scene.tiling.tile_count());
-    let opened = samples(alloc, field(&mut fields))?;
-    Ok(Raster { scene, opened })
+    Raster { scene, opened }
+}
+
+/// Which pixels of a scene's one tile are open by these samples, of which there has to be one for each.
+pub(crate) fn unmasked(rt: &impl Abort, alloc: Global, scene: &Scene, opened: &[u16]) -> Vec<bool>
+    requires { 0 < tiles_of scene.now.tiling }
+    ensures { length result.items ≡ pixels_in (window_of scene.now.tiling 0) }
+{
+    let collected: Result<Vec<bool>, AllocError> = opened
+        .iter()
+        .map(|&sample| sample != 0)
+        .collect(alloc);
+    let unmasked = collected.expect(rt, "memory");
+    let window = scene.tiling.window(0);
+    let across = (window.x1 - window.x0 + 1) as usize;
+    let along = (window.y1 - window.y0 + 1) as usize;
+    assert!(rt; across <= 9 && along <= 9);
+    let pixels = across * along;
+    assert!(rt; unmasked.len() == pixels);
+    unmasked
 }

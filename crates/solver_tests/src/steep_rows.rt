@@ -3,7 +3,7 @@ ghost use Rattle.offset_network.specs.Surfaces.{IsGoodTileSet};
 ghost use Rattle.raster_model.specs.Limits.{IsSteepness};
 ghost use Rattle.raster_model.specs.Masks.{open_at};
 ghost use Rattle.raster_model.specs.Tiles.{tiles_of};
-ghost use Rattle.std.specs.Prelude.{◌≡◌, ◌<◌, IfOk, IfSome};
+ghost use Rattle.std.specs.Prelude.{◌≡◌, ◌<◌};
 
 use crate::reading::{field, numbers};
 use certificates::{SeamResult, TileResult, TileSet, TileVerdict, check_tile};
@@ -11,10 +11,9 @@ use offset_guess::Guess;
 use offset_network::solve_offsets_from;
 use raster_model::{Mask, Scene, Terms, Tiling};
 use seam_regions::Regions;
-use std::alloc::{AllocError, Global};
+use std::alloc::Global;
 use std::process::Abort;
 use std::sync::Arc;
-use std::test::Fail;
 use worked_scenes::{masked, scene_on, tile_result};
 
 /// A raster of four columns in two tiles, of which the second is the last column alone. The first falls by 32,000 from row
@@ -26,60 +25,62 @@ const PHASES: [u16; 12] = [
 
 const WEIGHTS: [u16; 12] = [9, 9, 9, 9, 1, 1, 1, 1, 4, 4, 4, 4];
 
-/// A tile's result, if it is good.
+/// A tile's result, which has to be good.
 fn solved(
+    rt: &impl Abort,
     alloc: Global,
     scene: &Scene,
     mask: &Mask,
     tile: u32,
     cycles: &[i32],
     faces: &[i64],
-) -> Option<TileResult>
+) -> TileResult
     requires same_size { (mask.now.width ≡ scene.now.phase.width) × (mask.now.height ≡ scene.now.phase.height) }
     requires exists { tile < tiles_of scene.now.tiling }
-    ensures tile { IfSome result (λ made. made.tile ≡ tile) }
-    ensures good { IfSome result (IsGoodTile scene.now (open_at mask.now)) }
+    ensures tile { result.tile ≡ tile }
+    ensures good { IsGoodTile scene.now (open_at mask.now) result }
 {
-    let made = tile_result(alloc, tile, 0, cycles, faces).ok()?;
+    let made = tile_result(alloc, tile, 0, cycles, faces).expect(rt, "memory");
     match check_tile(scene, mask, &made) {
-        TileVerdict::Good => Some(made),
-        _ => None,
+        TileVerdict::Good => made,
+        verdict => panic!(rt; "tile {tile}: {verdict:?}"),
     }
 }
 
 /// The set of two results.
 fn pair(
+    rt: &impl Abort,
     alloc: Global,
     scene: &Scene,
     mask: &Mask,
     first: TileResult,
     second: TileResult,
-) -> Result<TileSet, AllocError>
+) -> TileSet
     requires two { tiles_of scene.now.tiling ≡ 2 }
     requires first { (first.tile ≡ 0) × IsGoodTile scene.now (open_at mask.now) first }
     requires second { (second.tile ≡ 1) × IsGoodTile scene.now (open_at mask.now) second }
-    ensures { IfOk result (IsGoodTileSet scene.now (open_at mask.now)) }
+    ensures { IsGoodTileSet scene.now (open_at mask.now) result }
 {
-    let results = vec![in alloc; Arc::new(alloc, first)?, Arc::new(alloc, second)?]?;
-    Ok(TileSet::of_shared(&scene.tiling, results))
+    let first = Arc::new(alloc, first).expect(rt, "memory");
+    let second = Arc::new(alloc, second).expect(rt, "memory");
+    let results = vec![in alloc; first, second].expect(rt, "memory");
+    TileSet::of_shared(&scene.tiling, results)
 }
 
-/// The tiles' results, by hand, if they are good at the scene's steepness.
-fn tiles(alloc: Global, scene: &Scene, mask: &Mask) -> Option<TileSet>
+/// The tiles' results, by hand, which have to be good at the scene's steepness.
+fn tiles(rt: &impl Abort, alloc: Global, scene: &Scene, mask: &Mask) -> TileSet
     requires same_size { (mask.now.width ≡ scene.now.phase.width) × (mask.now.height ≡ scene.now.phase.height) }
-    ensures { IfSome result (IsGoodTileSet scene.now (open_at mask.now)) }
+    ensures { IsGoodTileSet scene.now (open_at mask.now) result }
 {
-    if scene.tiling.tile_count() != 2 {
-        return None;
-    }
+    assert!(rt; scene.tiling.tile_count() == 2);
     let cycles = [0, 0, 0, -1, -1, -1, -1, -1, -1];
-    let first = solved(alloc, scene, mask, 0, &cycles, &[0, 0, 0, 0])?;
-    let second = solved(alloc, scene, mask, 1, &[0, 0, 0], &[])?;
-    pair(alloc, scene, mask, first, second).ok()
+    let first = solved(rt, alloc, scene, mask, 0, &cycles, &[0, 0, 0, 0]);
+    let second = solved(rt, alloc, scene, mask, 1, &[0, 0, 0], &[]);
+    pair(rt, alloc, scene, mask, first, second)
 }
 
 /// The raster's offsets and flows at a steepness, from a guess if one is given.
-fn seams(alloc: Global, steep: u32, guess: Option<Guess>) -> Option<SeamResult>
+fn seams(rt: &impl Abort, alloc: Global, steep: u32, guess: Option<Guess>) -> SeamResult
     requires { IsSteepness steep }
 {
     let terms = Terms {
@@ -88,13 +89,11 @@ fn seams(alloc: Global, steep: u32, guess: Option<Guess>) -> Option<SeamResult>
         steep,
     };
     let tiling = Tiling::new(4, 3, 3);
-    let scene = scene_on(alloc, terms, tiling, 9, &PHASES, &WEIGHTS).ok()?;
-    let mask = masked(alloc, &tiling, &[1; 12]).ok()?;
-    let tiles = tiles(alloc, &scene, &mask)?;
-    let Ok(regions) = Regions::of(alloc, &scene.tiling, &mask) else {
-        return None;
-    };
-    solve_offsets_from(alloc, &scene, &mask, &regions, &tiles, 7, guess).ok()
+    let scene = scene_on(alloc, terms, tiling, 9, &PHASES, &WEIGHTS).expect(rt, "a scene");
+    let mask = masked(alloc, &tiling, &[1; 12]).expect(rt, "a mask");
+    let tiles = tiles(rt, alloc, &scene, &mask);
+    let regions = Regions::of(alloc, &scene.tiling, &mask).expect(rt, "memory");
+    solve_offsets_from(alloc, &scene, &mask, &regions, &tiles, 7, guess).expect(rt, "memory")
 }
 
 /// Rows of a steepness, a guess at offsets and flows, or neither, and how the answer begins. By hand: with offsets 0 0 the
@@ -110,34 +109,32 @@ const ROWS: &str = "\
 3|0 -1|-9 0 9|[0, -1] [-9, 0, 9]";
 
 /// The guess of a row.
-fn guess(alloc: Global, offsets: &str, flows: &str) -> Result<Option<Guess>, AllocError> {
+fn guess(rt: &impl Abort, alloc: Global, offsets: &str, flows: &str) -> Option<Guess> {
     if offsets.is_empty() {
-        return Ok(None);
+        return None;
     }
-    Ok(Some(Guess {
-        offsets: numbers(alloc, offsets)?,
-        flows: numbers(alloc, flows)?,
-    }))
+    let offsets = numbers(alloc, offsets).expect(rt, "memory");
+    let flows = numbers(alloc, flows).expect(rt, "memory");
+    Some(Guess { offsets, flows })
 }
 
-/// Whether a row's answer begins as it says.
-fn is_as_told(rt: &impl Abort, alloc: Global, row: &str) -> Result<bool, Fail> {
+/// Refuses a row whose answer does not begin as it says.
+fn is_as_told(rt: &impl Abort, alloc: Global, row: &str) {
     let mut fields = row.split('|');
     let steep = field(&mut fields).parse().unwrap_or(0u32);
     assert!(rt; 1 <= steep && steep <= 16);
     let offsets = field(&mut fields);
-    let guess = guess(alloc, offsets, field(&mut fields))?;
-    let seams = seams(alloc, steep, guess).expect(rt, "good tiles and memory");
-    let found = format!(in alloc; "{:?} {:?}", seams.offsets, seams.flows)?;
-    Ok(found.starts_with(field(&mut fields)))
+    let guess = guess(rt, alloc, offsets, field(&mut fields));
+    let seams = seams(rt, alloc, steep, guess);
+    let found = format!(in alloc; "{:?} {:?}", seams.offsets, seams.flows).expect(rt, "memory");
+    assert!(rt; found.starts_with(field(&mut fields)), "{row}: {found}");
 }
 
 /// At a higher steepness a cycle on each of two edges costs less than two on one of them.
 #[test]
-fn steep_costs_move_a_region(rt: HostRuntime) -> Result<(), Fail> {
+fn steep_costs_move_a_region(rt: HostRuntime) {
     let alloc = rt.alloc();
     for row in ROWS.lines() {
-        assert!(rt; is_as_told(&rt, alloc, row)?);
+        is_as_told(&rt, alloc, row);
     }
-    Ok(())
 }

@@ -1,14 +1,13 @@
 ghost use Rattle.raster_model.specs.Tiles.{tiles_of};
-ghost use Rattle.std.specs.Prelude.{◌≡◌, ◌<◌, IfOk};
+ghost use Rattle.std.specs.Prelude.{◌≡◌, ◌<◌};
 
-use crate::reading::{Raster, read_raster, read_steep};
+use crate::reading::{Raster, read_raster, read_steep, unmasked};
 use certificates::{TileResult, TileVerdict, check_tile};
 use raster_model::{Scene, Terms, Tiling};
-use std::alloc::{AllocError, Global};
+use std::alloc::Global;
 use std::process::Abort;
-use std::test::Fail;
 use tile_solver::solve_tile;
-use worked_scenes::{masked, same, scene_on, tile_result};
+use worked_scenes::{masked, scene_on, tile_result};
 
 /// Rows of `read_raster`: width, height, phases, weights and mask of a raster in one tile, and the least cost of its surfaces. First a full turn by
 /// hand, whole, with a pixel masked and with all; a line; a ramp that turns over between its first columns, under two masks.
@@ -38,38 +37,35 @@ pub(crate) const ROWS: &str = "\
     0 1 1 1|6";
 
 /// The result of a raster in one tile.
-fn solved(
-    rt: &impl Abort,
-    alloc: Global,
-    scene: &Scene,
-    opened: &[u16],
-) -> Result<TileResult, AllocError>
+fn solved(rt: &impl Abort, alloc: Global, scene: &Scene, opened: &[u16]) -> TileResult
     requires { 0 < tiles_of scene.now.tiling }
-    ensures { IfOk result (λ solved. solved.tile ≡ 0) }
+    ensures { result.tile ≡ 0 }
 {
-    let unmasked: Vec<bool> = opened.iter().map(|&sample| sample != 0).collect(alloc)?;
-    let window = scene.tiling.window(0);
-    let across = (window.x1 - window.x0 + 1) as usize;
-    let along = (window.y1 - window.y0 + 1) as usize;
-    assert!(rt; across <= 9 && along <= 9);
-    let pixels = across * along;
-    assert!(rt; unmasked.len() == pixels);
-    solve_tile(alloc, scene, 0, 7, &unmasked)
+    let unmasked = unmasked(rt, alloc, scene, opened);
+    solve_tile(alloc, scene, 0, 7, &unmasked).expect(rt, "memory")
+}
+
+/// A result with its own cycles and every face 0.
+fn bare(rt: &impl Abort, alloc: Global, solved: &TileResult) -> TileResult
+    ensures { result.tile ≡ solved.now.tile }
+{
+    let faces = vec![in alloc; 0; solved.faces.len()].expect(rt, "memory");
+    tile_result(alloc, solved.tile, solved.stamp, &solved.cycles, &faces).expect(rt, "memory")
 }
 
 /// What the check says of a row's raster with the solver's faces, and what with every face 0: then it counts what the
 /// surface costs.
-fn verdicts(rt: &impl Abort, alloc: Global, raster: &Raster) -> Result<[TileVerdict; 2], Fail>
+fn verdicts(rt: &impl Abort, alloc: Global, raster: &Raster) -> [TileVerdict; 2]
     requires { 0 < tiles_of raster.now.scene.tiling }
 {
-    let mask = masked(alloc, &raster.scene.tiling, &raster.opened)?;
-    let solved = solved(rt, alloc, &raster.scene, &raster.opened)?;
-    let none = vec![in alloc; 0; solved.faces.len()]?;
-    let bare = tile_result(alloc, 0, 7, &solved.cycles, &none)?;
-    Ok([
-        check_tile(&raster.scene, &mask, &solved),
-        check_tile(&raster.scene, &mask, &bare),
-    ])
+    let scene = &raster.scene;
+    let mask = masked(alloc, &scene.tiling, &raster.opened).expect(rt, "a mask");
+    let solved = solved(rt, alloc, scene, &raster.opened);
+    let bare = bare(rt, alloc, &solved);
+    [
+        check_tile(scene, &mask, &solved),
+        check_tile(scene, &mask, &bare),
+    ]
 }
 
 /// The cost at the end of a row.
@@ -78,84 +74,75 @@ fn cost_of(row: &str) -> u128 {
 }
 
 #[test]
-fn tiles_cost_what_another_solver_finds(rt: HostRuntime) -> Result<(), Fail> {
+fn tiles_cost_what_another_solver_finds(rt: HostRuntime) {
     for row in ROWS.lines() {
-        let raster = read_raster(&rt, rt.alloc(), row)?;
-        let [solved, bare] = verdicts(&rt, rt.alloc(), &raster)?;
-        assert_eq!(rt; solved, TileVerdict::Good);
+        let raster = read_raster(&rt, rt.alloc(), row);
         let counted = match cost_of(row) {
             0 => TileVerdict::Good,
             cost => TileVerdict::CostDiffers { cost, bound: 0 },
         };
-        assert_eq!(rt; bare, counted);
+        let verdicts = verdicts(&rt, rt.alloc(), &raster);
+        assert_eq!(rt; verdicts, [TileVerdict::Good, counted], "{row}");
     }
-    Ok(())
 }
 
-/// Steepnesses and rows of `read_raster` with the least cost at the end. The full turn's one correction costs as much at
-/// each. The cost of the other raster was found by a search through all cycles from -4 to 4 at each pixel, row by row: at
+/// Rows of `read_steep`, with the least cost at the end. The full turn's one correction costs as much at
+/// each steepness. The cost of the other raster was found by a search through all cycles from -4 to 4 at each pixel, row by row: at
 /// steepness 1 an edge of weight 1 is corrected by more than one cycle.
-pub(crate) const STEEP_ROWS: [(u32, &str); 4] = [
-    (3, "2|2|0 16384 49152 32768|5 5 3 9|1 1 1 1|3"),
-    (
-        1,
-        "3|5|2981 8702 56626 27674 26720 31186 12442 42913 3973 41967 5006 40351 4786 25141 \
-         12322|9 9 9 9 1 9 9 8 5 7 9 9 5 1 9|1 1 1 1 1 1 1 1 1 1 1 1 1 1 1|12",
-    ),
-    (
-        4,
-        "3|5|2981 8702 56626 27674 26720 31186 12442 42913 3973 41967 5006 40351 4786 25141 \
-         12322|9 9 9 9 1 9 9 8 5 7 9 9 5 1 9|1 1 1 1 1 1 1 1 1 1 1 1 1 1 1|15",
-    ),
-    (
-        16,
-        "3|5|2981 8702 56626 27674 26720 31186 12442 42913 3973 41967 5006 40351 4786 25141 \
-         12322|9 9 9 9 1 9 9 8 5 7 9 9 5 1 9|1 1 1 1 1 1 1 1 1 1 1 1 1 1 1|15",
-    ),
-];
+pub(crate) const STEEP_ROWS: &str = "\
+3|2|2|0 16384 49152 32768|5 5 3 9|1 1 1 1|3
+1|3|5|2981 8702 56626 27674 26720 31186 12442 42913 3973 41967 5006 40351 4786 25141 12322|\
+    9 9 9 9 1 9 9 8 5 7 9 9 5 1 9|1 1 1 1 1 1 1 1 1 1 1 1 1 1 1|12
+4|3|5|2981 8702 56626 27674 26720 31186 12442 42913 3973 41967 5006 40351 4786 25141 12322|\
+    9 9 9 9 1 9 9 8 5 7 9 9 5 1 9|1 1 1 1 1 1 1 1 1 1 1 1 1 1 1|15
+16|3|5|2981 8702 56626 27674 26720 31186 12442 42913 3973 41967 5006 40351 4786 25141 12322|\
+    9 9 9 9 1 9 9 8 5 7 9 9 5 1 9|1 1 1 1 1 1 1 1 1 1 1 1 1 1 1|15";
 
 #[test]
-fn steep_tiles_cost_what_a_search_finds(rt: HostRuntime) -> Result<(), Fail> {
-    for (steep, row) in STEEP_ROWS {
-        let raster = read_steep(&rt, rt.alloc(), steep, row)?;
-        let [solved, bare] = verdicts(&rt, rt.alloc(), &raster)?;
-        assert_eq!(rt; solved, TileVerdict::Good);
+fn steep_tiles_cost_what_a_search_finds(rt: HostRuntime) {
+    for row in STEEP_ROWS.lines() {
+        let raster = read_steep(&rt, rt.alloc(), row);
         let cost = cost_of(row);
-        assert_eq!(rt; bare, TileVerdict::CostDiffers { cost, bound: 0 });
+        let counted = TileVerdict::CostDiffers { cost, bound: 0 };
+        let verdicts = verdicts(&rt, rt.alloc(), &raster);
+        assert_eq!(rt; verdicts, [TileVerdict::Good, counted], "{row}");
     }
-    Ok(())
 }
 
 /// Where a rise of 30000 is expected along a row, the line `0 40000 14464 54464` is `0 40000 80000 120000`, and what is a
 /// full turn without a ramp is `0 16384 / -16384 32768`. Neither costs anything, so faces of 0 certify it.
 #[test]
-fn a_tile_follows_its_ramp(rt: HostRuntime) -> Result<(), Fail> {
+fn a_tile_follows_its_ramp(rt: HostRuntime) {
+    let steps = [0, 40000, 14464, 54464];
+    follows(
+        &rt,
+        rt.alloc(),
+        Tiling::new(4, 1, 128),
+        &steps,
+        &[0, 0, 1, 1],
+    );
+    let turn = [0, 16384, 49152, 32768];
+    follows(
+        &rt,
+        rt.alloc(),
+        Tiling::new(2, 2, 128),
+        &turn,
+        &[0, 0, -1, 0],
+    );
+}
+
+/// Solves a raster around that ramp, whose surface has to have these cycles and to cost nothing.
+fn follows(rt: &impl Abort, alloc: Global, tiling: Tiling, phases: &[u16], cycles: &[i32]) {
     let terms = Terms {
         ramp_x: 30000,
         ramp_y: 0,
         steep: 1,
     };
-    let cases: [(Tiling, [u16; 4], [i32; 4]); 2] = [
-        (
-            Tiling::new(4, 1, 128),
-            [0, 40000, 14464, 54464],
-            [0, 0, 1, 1],
-        ),
-        (
-            Tiling::new(2, 2, 128),
-            [0, 16384, 49152, 32768],
-            [0, 0, -1, 0],
-        ),
-    ];
-    for (tiling, phases, cycles) in cases {
-        let scene = scene_on(rt.alloc(), terms, tiling, 9, &phases, &[5, 5, 3, 9])?;
-        assert!(rt; 0 < scene.tiling.tile_count());
-        let solved = solved(&rt, rt.alloc(), &scene, &[1; 4])?;
-        same("cycles", solved.cycles.as_slice(), cycles.as_slice())?;
-        let none = vec![in rt.alloc(); 0; solved.faces.len()]?;
-        let bare = tile_result(rt.alloc(), 0, 7, &solved.cycles, &none)?;
-        let mask = masked(rt.alloc(), &scene.tiling, &[1; 4])?;
-        assert_eq!(rt; check_tile(&scene, &mask, &bare), TileVerdict::Good);
-    }
-    Ok(())
+    let scene = scene_on(alloc, terms, tiling, 9, phases, &[5, 5, 3, 9]).expect(rt, "a scene");
+    assert!(rt; 0 < scene.tiling.tile_count());
+    let solved = solved(rt, alloc, &scene, &[1; 4]);
+    assert_eq!(rt; solved.cycles.as_slice(), cycles);
+    let mask = masked(alloc, &scene.tiling, &[1; 4]).expect(rt, "a mask");
+    let bare = bare(rt, alloc, &solved);
+    assert_eq!(rt; check_tile(&scene, &mask, &bare), TileVerdict::Good);
 }

@@ -1,87 +1,95 @@
-use raster_model::{Terms, Tiling};
-use std::test::Fail;
+use crate::reading::{cycles, field, numbers};
+use raster_model::{Scene, Terms, Tiling};
+use std::alloc::Global;
+use std::process::Abort;
 use whole_guess::{Guess, Reached};
 use whole_solver::{WholeResult, solve_whole, solve_whole_from};
-use worked_scenes::{Differs, masked, same, scene_on};
+use worked_scenes::{masked, scene_on};
 
-/// Refuses a surface that does not have these cycles and this cost.
-fn is_surface(solved: &WholeResult, cycles: &[i64], cost: u128) -> Result<(), Differs> {
-    same("cycles", solved.cycles.as_slice(), cycles)?;
-    same("cost", solved.cost, cost)
+/// The raster of four by two pixels in two tiles, with these phases and weights.
+fn raster(rt: &impl Abort, alloc: Global, phases: &[u16], weights: &[u16]) -> Scene {
+    let tiling = Tiling::new(4, 2, 2);
+    scene_on(alloc, Terms::plain(), tiling, 9, phases, weights).expect(rt, "a scene")
 }
 
 /// A full turn by hand, round the cell between two tiles: no cell of a tile has a residue. Only the two edges at the top that
 /// end at the light pixel, and the one below it, have the weight 7, and all others 9. So it costs least to correct the edge
-/// above the cell, which is one of them, by a cycle, and the cell's face is what that costs. Without a guess the network
-/// solves it.
-#[test]
-fn a_turn_between_tiles_is_solved_over_the_whole_raster(rt: HostRuntime) -> Result<(), Fail> {
-    let tiling = Tiling::new(4, 2, 2);
+/// above the cell, which is one of them, by a cycle, and the cell's face is what that costs.
+fn turn(rt: &impl Abort, alloc: Global) -> Scene {
     let phases = [0, 0, 16384, 16384, 49152, 49152, 32768, 32768];
     let weights = [9, 7, 9, 9, 9, 9, 9, 9];
-    let scene = scene_on(rt.alloc(), Terms::plain(), tiling, 9, &phases, &weights)?;
-    let mask = masked(rt.alloc(), &scene.tiling, &[1; 8])?;
-    let solved = solve_whole_from(rt.alloc(), &scene, &mask, None)?;
-    is_surface(&solved, &[0, 0, -1, -1, -1, -1, -1, -1], 7)?;
-    same("cells", solved.faces.len(), 3)?;
-    same("face", solved.faces.get(1).copied(), Some(7))?;
-    Ok(())
+    raster(rt, alloc, &phases, &weights)
+}
+
+/// The surface of a raster whose pixels are all open, solved from a guess, if one is given, or else by the network.
+fn solved(rt: &impl Abort, alloc: Global, scene: &Scene, guess: Option<Guess>) -> WholeResult {
+    let mask = masked(alloc, &scene.tiling, &[1; 8]).expect(rt, "a mask");
+    solve_whole_from(alloc, scene, &mask, guess).expect(rt, "memory")
+}
+
+/// The cycles of a surface and its cost, in words.
+fn told(rt: &impl Abort, alloc: Global, solved: &WholeResult) -> String {
+    format!(in alloc; "{:?} {}", solved.cycles, solved.cost).expect(rt, "memory")
+}
+
+/// Without a guess the network solves the turn.
+#[test]
+fn a_turn_between_tiles_is_solved_over_the_whole_raster(rt: HostRuntime) {
+    let alloc = rt.alloc();
+    let scene = turn(&rt, alloc);
+    let solved = solved(&rt, alloc, &scene, None);
+    let found = told(&rt, alloc, &solved);
+    assert_eq!(rt; found.as_str(), "[0, 0, -1, -1, -1, -1, -1, -1] 7");
+    assert_eq!(rt; solved.faces.len(), 3);
+    assert_eq!(rt; solved.faces.get(1).copied(), Some(7));
 }
 
 /// Corrections of right edges and of down edges, and faces, from which the turn is solved: nothing; the right face alone;
 /// the correction that cancels the residue, with and without the face; its opposite; a face that is too high, numbers that
 /// are too great, and lists that are too short or too long.
-const STARTS: [(&[i32], &[i32], &[i64]); 10] = [
-    (&[0; 6], &[0; 4], &[0; 3]),
-    (&[0; 6], &[0; 4], &[0, 7, 0]),
-    (&[0, 1, 0, 0, 0, 0], &[0; 4], &[0, 7, 0]),
-    (&[0, -1, 0, 0, 0, 0], &[0; 4], &[0, 7, 0]),
-    (&[0, -1, 0, 0, 0, 0], &[0; 4], &[0; 3]),
-    (&[0; 6], &[0; 4], &[0, 8, 0]),
-    (&[0; 6], &[0; 4], &[i64::MIN; 3]),
-    (&[i32::MIN; 6], &[i32::MAX; 4], &[0; 3]),
-    (&[0; 6], &[0; 4], &[]),
-    (&[0; 9], &[0; 2], &[0; 3]),
-];
+const STARTS: &str = "\
+0 0 0 0 0 0|0 0 0 0|0 0 0
+0 0 0 0 0 0|0 0 0 0|0 7 0
+0 1 0 0 0 0|0 0 0 0|0 7 0
+0 -1 0 0 0 0|0 0 0 0|0 7 0
+0 -1 0 0 0 0|0 0 0 0|0 0 0
+0 0 0 0 0 0|0 0 0 0|0 8 0
+0 0 0 0 0 0|0 0 0 0|-9223372036854775808 -9223372036854775808 -9223372036854775808
+-2147483648 -2147483648 -2147483648 -2147483648 -2147483648 -2147483648|\
+    2147483647 2147483647 2147483647 2147483647|0 0 0
+0 0 0 0 0 0|0 0 0 0|
+0 0 0 0 0 0 0 0 0|0 0|0 0 0";
+
+/// What was reached by a row.
+fn reached(rt: &impl Abort, alloc: Global, row: &str) -> Reached {
+    let mut fields = row.split('|');
+    let right = cycles(alloc, field(&mut fields)).expect(rt, "memory");
+    let down = cycles(alloc, field(&mut fields)).expect(rt, "memory");
+    let faces = numbers(alloc, field(&mut fields)).expect(rt, "memory");
+    Reached { right, down, faces }
+}
 
 /// The turn is solved alike from whatever was reached.
 #[test]
-fn what_was_reached_changes_no_answer(rt: HostRuntime) -> Result<(), Fail> {
+fn what_was_reached_changes_no_answer(rt: HostRuntime) {
     let alloc = rt.alloc();
-    let phases = [0, 0, 16384, 16384, 49152, 49152, 32768, 32768];
-    let weights = [9, 7, 9, 9, 9, 9, 9, 9];
-    let scene = scene_on(
-        alloc,
-        Terms::plain(),
-        Tiling::new(4, 2, 2),
-        9,
-        &phases,
-        &weights,
-    )?;
-    let mask = masked(alloc, &scene.tiling, &[1; 8])?;
-    for (right, down, faces) in STARTS {
-        let reached = Reached {
-            right: Vec::from_slice(alloc, right)?,
-            down: Vec::from_slice(alloc, down)?,
-            faces: Vec::from_slice(alloc, faces)?,
-        };
-        let guess = Guess::Reached(reached);
-        let solved = solve_whole_from(alloc, &scene, &mask, Some(guess))?;
-        is_surface(&solved, &[0, 0, -1, -1, -1, -1, -1, -1], 7)?;
+    let scene = turn(&rt, alloc);
+    for row in STARTS.lines() {
+        let guess = Guess::Reached(reached(&rt, alloc, row));
+        let found = told(&rt, alloc, &solved(&rt, alloc, &scene, Some(guess)));
+        assert_eq!(rt; found.as_str(), "[0, 0, -1, -1, -1, -1, -1, -1] 7", "{row}");
     }
-    Ok(())
 }
 
 /// All surfaces within two cycles were counted: this one alone costs 5, and those that cost least in each of the two tiles
 /// cost 7 or more.
 #[test]
-fn the_whole_costs_less_than_its_tiles(rt: HostRuntime) -> Result<(), Fail> {
-    let tiling = Tiling::new(4, 2, 2);
+fn the_whole_costs_less_than_its_tiles(rt: HostRuntime) {
+    let alloc = rt.alloc();
     let phases = [49152, 16384, 12288, 49152, 20480, 61440, 40960, 20480];
-    let weights = [2, 8, 5, 9, 9, 9, 6, 2];
-    let scene = scene_on(rt.alloc(), Terms::plain(), tiling, 9, &phases, &weights)?;
-    let mask = masked(rt.alloc(), &scene.tiling, &[1; 8])?;
-    let solved = solve_whole(&rt, rt.alloc(), &scene, &mask, 2)?;
-    is_surface(&solved, &[0, 0, 0, -1, 0, -1, -1, -1], 5)?;
-    Ok(())
+    let scene = raster(&rt, alloc, &phases, &[2, 8, 5, 9, 9, 9, 6, 2]);
+    let mask = masked(alloc, &scene.tiling, &[1; 8]).expect(&rt, "a mask");
+    let solved = solve_whole(&rt, alloc, &scene, &mask, 2).expect(&rt, "memory");
+    let found = told(&rt, alloc, &solved);
+    assert_eq!(rt; found.as_str(), "[0, 0, 0, -1, 0, -1, -1, -1] 5");
 }

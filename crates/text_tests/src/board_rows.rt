@@ -5,69 +5,79 @@ use insar_ports::MemorySink;
 use report_text::write_report;
 use session_script::SessionUse;
 use std::alloc::Global;
+use std::process::Abort;
 use std::sync::Arc;
-use std::test::Fail;
 use tile_board::Board;
 
-/// Does a command, settles a board of one tile by this solution of the tile and these offsets of its regions, and does two
-/// commands more.
-fn settle(
-    alloc: Global,
-    board: &mut Board,
-    cycles: Vec<i32>,
-    faces: Vec<i64>,
-    offsets: Vec<i64>,
-) -> Result<(), Fail> {
-    board.advance(alloc, 1)?;
-    let (tile, stamp, revision) = (0, board.revision(), board.revision());
-    board.keep(
-        alloc,
-        TileResult {
-            tile,
-            stamp,
-            cycles,
-            faces,
-        },
-    )?;
-    let flows = Vec::new(alloc);
-    board.publish(
-        alloc,
-        1,
-        SeamResult {
-            revision,
-            offsets,
-            flows,
-        },
-    )?;
-    board.advance(alloc, 1)?;
-    board.advance(alloc, 1)?;
-    Ok(())
+/// Keeps a result of a board's one tile, which has four pixels: no cycles, and the face 0 for each of its cells.
+fn keep(rt: &impl Abort, alloc: Global, board: &mut Board, cells: usize) {
+    let cycles = vec![in alloc; 0; 4].expect(rt, "memory");
+    let faces = vec![in alloc; 0; cells].expect(rt, "memory");
+    let solved = TileResult {
+        tile: 0,
+        stamp: board.revision(),
+        cycles,
+        faces,
+    };
+    board.keep(alloc, solved).expect(rt, "a good result");
+}
+
+/// Publishes these offsets of a board's regions, which no seam edges join.
+fn publish(rt: &impl Abort, alloc: Global, board: &mut Board, offsets: &[i64]) {
+    let seams = SeamResult {
+        revision: board.revision(),
+        offsets: offsets.to_vec(alloc).expect(rt, "memory"),
+        flows: Vec::new(alloc),
+    };
+    board.publish(alloc, 1, seams).expect(rt, "good offsets");
+}
+
+/// Does a board's next command.
+fn advance(rt: &impl Abort, alloc: Global, board: &mut Board) {
+    let _advance = board.advance(alloc, 1).expect(rt, "memory");
 }
 
 /// The report of a board and the grids of its surfaces.
-fn texts(alloc: Global, board: &Board) -> Result<Vec<u8>, Fail> {
-    let mut sink = MemorySink::new(alloc, 1000, 7, Vec::new(alloc))?;
-    write_report(board, &mut sink)?;
+fn texts(rt: &impl Abort, alloc: Global, board: &Board) -> String {
+    let mut sink = MemorySink::new(alloc, 1000, 7, Vec::new(alloc)).expect(rt, "memory");
+    write_report(board, &mut sink).expect(rt, "room");
     for snapshot in board.snapshots() {
-        write_grid(snapshot, &mut sink)?;
+        write_grid(snapshot, &mut sink).expect(rt, "room");
     }
-    Ok(sink.bytes().to_vec(alloc)?)
+    let bytes = sink.bytes().to_vec(alloc).expect(rt, "memory");
+    String::from_utf8(bytes).expect(rt, "text")
 }
 
-/// What is written of the session of a text, whose one tile has no cycles and, if it has a cell, the face 0.
-fn written(alloc: Global, text: &str, cells: usize, offsets: &[i64]) -> Result<Vec<u8>, Fail> {
-    let text = Vec::from_slice(alloc, text.as_bytes())?;
-    let session = read(alloc, SessionUse::Alone, 64, text, 9, Vec::new(alloc))?;
-    let mut board = Board::new(alloc, Arc::new(alloc, session)?)?;
-    let cycles = vec![in alloc; 0; 4]?;
-    let faces = vec![in alloc; 0; cells]?;
-    let offsets = Vec::from_slice(alloc, offsets)?;
-    settle(alloc, &mut board, cycles, faces, offsets)?;
-    texts(alloc, &board)
+/// The board of a session's text.
+fn board(rt: &impl Abort, alloc: Global, text: &str) -> Board {
+    let text = Vec::from_slice(alloc, text.as_bytes()).expect(rt, "memory");
+    let session = read(rt, alloc, SessionUse::Alone, 64, text, 9, Vec::new(alloc));
+    let session = Arc::new(alloc, session.expect(rt, "a session")).expect(rt, "memory");
+    Board::new(alloc, session).expect(rt, "memory")
+}
+
+/// Does a command of a session's text, settles its one tile with no cycles and these offsets, and does two commands more.
+/// Then this has to be written of it.
+fn is_written(
+    rt: &impl Abort,
+    alloc: Global,
+    text: &str,
+    cells: usize,
+    offsets: &[i64],
+    report: &str,
+) {
+    let mut board = board(rt, alloc, text);
+    advance(rt, alloc, &mut board);
+    keep(rt, alloc, &mut board, cells);
+    publish(rt, alloc, &mut board, offsets);
+    advance(rt, alloc, &mut board);
+    advance(rt, alloc, &mut board);
+    let written = texts(rt, alloc, &board);
+    assert_eq!(rt; written.as_str(), report, "{text}");
 }
 
 /// The report of an analyst that looks, settles twice and looks again.
-const TWICE: &[u8] = b"insar-report 1
+const TWICE: &str = "insar-report 1
 size 4 1
 tile 64
 rule least
@@ -97,7 +107,7 @@ NODATA_value -9223372036854775808
 ";
 
 /// The report of `0 16384 / 49152 32768`, whose first pixel is masked by a script.
-const MASKED: &[u8] = b"insar-report 1
+const MASKED: &str = "insar-report 1
 size 2 2
 tile 64
 rule least
@@ -129,7 +139,7 @@ NODATA_value -9223372036854775808
 
 /// The report of `100 200 / 300 400`, whose first and last pixel are masked from the start. The other two are regions of
 /// their own, and the lower one is moved down by a cycle.
-const APART: &[u8] = b"insar-report 1
+const APART: &str = "insar-report 1
 size 2 2
 tile 64
 rule least
@@ -166,16 +176,9 @@ const SQUARE: &str = "P2 2 2 65535 100 200 300 400 P2 2 2 1 1 1 1 1 P2 2 2 1 0 1
 
 /// After each report comes the grid of its surface once more.
 #[test]
-fn reports_and_grids_are_written(rt: HostRuntime) -> Result<(), Fail> {
-    for (text, cells, offsets, report) in [
-        (LINE, 0, [0].as_slice(), TWICE),
-        (TURN, 1, &[0], MASKED),
-        (SQUARE, 1, &[0, -1], APART),
-    ] {
-        assert_eq!(rt;
-            written(rt.alloc(), text, cells, offsets)?.as_slice(),
-            report
-        );
-    }
-    Ok(())
+fn reports_and_grids_are_written(rt: HostRuntime) {
+    let alloc = rt.alloc();
+    is_written(&rt, alloc, LINE, 0, &[0], TWICE);
+    is_written(&rt, alloc, TURN, 1, &[0], MASKED);
+    is_written(&rt, alloc, SQUARE, 1, &[0, -1], APART);
 }

@@ -1,20 +1,22 @@
 use insar_ports::{Feed, MemorySink, MemorySource};
 use pgm_planes::{ReadPlaneFault, Role, read_plane, write_plane};
 use raster_model::Plane;
-use std::alloc::Global;
-use std::test::Fail;
+use std::alloc::{AllocError, Global};
+use std::process::Abort;
+use std::str::Split;
 
 /// What is read from the front of a text of which the feed hands out a number of bytes.
 fn read(
+    rt: &impl Abort,
     alloc: Global,
     role: Role,
     limit: u64,
     text: &[u8],
-) -> Result<Result<Plane, ReadPlaneFault>, Fail> {
-    let bytes = Vec::from_slice(alloc, text)?;
+) -> Result<Plane, ReadPlaneFault> {
+    let bytes = Vec::from_slice(alloc, text).expect(rt, "memory");
     let mut source = MemorySource::new(bytes, 3, Vec::new(alloc));
-    let mut feed = Feed::new(alloc, &mut source, limit)?;
-    Ok(read_plane(alloc, &mut feed, role))
+    let mut feed = Feed::new(alloc, &mut source, limit).expect(rt, "memory");
+    read_plane(alloc, &mut feed, role)
 }
 
 /// A role, how many bytes the feed hands out, a text and what is read of it, each found by hand.
@@ -74,57 +76,64 @@ const TEXTS: &str = "\
     Weight|16|P2 1 1 255 9999 P|Plane(SampleAbove { index: 0, value: 9999 });";
 
 /// The next field of a case.
-pub fn field<'a>(fields: &mut std::str::Split<'a, char>) -> &'a str {
+pub fn field<'a>(fields: &mut Split<'a, char>) -> &'a str {
     fields.next().unwrap_or("")
 }
 
 /// The plane that is read, or the fault, in words.
-fn told(alloc: Global, role: Role, limit: u64, text: &str) -> Result<String, Fail> {
-    let told = match read(alloc, role, limit, text.as_bytes())? {
+fn told(alloc: Global, read: Result<Plane, ReadPlaneFault>) -> Result<String, AllocError> {
+    match read {
         Ok(plane) => format!(in alloc;
             "{} {} {} {:?}",
             plane.width, plane.height, plane.maxval, plane.samples
-        )?,
-        Err(fault) => format!(in alloc; "{fault:?}")?,
+        ),
+        Err(fault) => format!(in alloc; "{fault:?}"),
+    }
+}
+
+/// What is told of the text of a case, which begins with the role and the limit.
+fn case_told(rt: &impl Abort, alloc: Global, fields: &mut Split<'_, char>) -> String {
+    let role = match field(fields) {
+        "Phase" => Role::Phase,
+        "Weight" => Role::Weight,
+        _ => Role::Mask,
     };
-    Ok(told)
+    let limit = field(fields).parse::<u64>().expect(rt, "a limit");
+    let read = read(rt, alloc, role, limit, field(fields).as_bytes());
+    told(alloc, read).expect(rt, "memory")
 }
 
 #[test]
-fn a_plane_is_read_or_its_first_break_is_told(rt: HostRuntime) -> Result<(), Fail> {
+fn a_plane_is_read_or_its_first_break_is_told(rt: HostRuntime) {
     for case in TEXTS.split_terminator(';') {
         let mut fields = case.split('|');
-        let role = match field(&mut fields) {
-            "Phase" => Role::Phase,
-            "Weight" => Role::Weight,
-            _ => Role::Mask,
-        };
-        let limit = field(&mut fields).parse()?;
-        let told = told(rt.alloc(), role, limit, field(&mut fields))?;
+        let told = case_told(&rt, rt.alloc(), &mut fields);
         assert_eq!(rt; told.as_str(), field(&mut fields), "{case}");
     }
-    Ok(())
 }
 
-/// What is read of a text, as it is written.
-fn rewritten(alloc: Global, text: &[u8]) -> Result<Vec<u8>, Fail> {
-    let plane = read(alloc, Role::Weight, 100, text)??;
-    let mut sink = MemorySink::new(alloc, 100, 3, Vec::new(alloc))?;
-    write_plane(&plane, &mut sink)?;
-    Ok(sink.bytes().to_vec(alloc)?)
+/// The plane that is read of a text has to be written so.
+fn is_rewritten(rt: &impl Abort, alloc: Global, text: &[u8], written: &[u8]) {
+    let plane = read(rt, alloc, Role::Weight, 100, text).expect(rt, "a plane");
+    let mut sink = MemorySink::new(alloc, 100, 3, Vec::new(alloc)).expect(rt, "memory");
+    write_plane(&plane, &mut sink).expect(rt, "room");
+    assert_eq!(rt; sink.bytes(), written, "{text:?}");
 }
+
+/// The line 0 20000 40000 60000 in raw bytes.
+const RAW: &[u8] = b"P5\n4 1\n65535\n\x00\x00\x4e\x20\x9c\x40\xea\x60";
 
 /// A plane is written raw, with one byte a sample up to maxval 255 and two from 256 on.
 #[test]
-fn a_plane_is_written_raw(rt: HostRuntime) -> Result<(), Fail> {
-    let phases = b"P5\n4 1\n65535\n\x00\x00\x4e\x20\x9c\x40\xea\x60".as_slice();
-    for (text, written) in [
-        (phases, phases),
-        (b"P2 4 1 65535 0 20000 40000 60000", phases),
-        (b"P2 2 1 255 7 255", b"P5\n2 1\n255\n\x07\xff"),
-        (b"P2 1 2 256 1 256", b"P5\n1 2\n256\n\x00\x01\x01\x00"),
-    ] {
-        assert_eq!(rt; rewritten(rt.alloc(), text)?.as_slice(), written);
-    }
-    Ok(())
+fn a_plane_is_written_raw(rt: HostRuntime) {
+    let alloc = rt.alloc();
+    is_rewritten(&rt, alloc, RAW, RAW);
+    is_rewritten(&rt, alloc, b"P2 4 1 65535 0 20000 40000 60000", RAW);
+    is_rewritten(&rt, alloc, b"P2 2 1 255 7 255", b"P5\n2 1\n255\n\x07\xff");
+    is_rewritten(
+        &rt,
+        alloc,
+        b"P2 1 2 256 1 256",
+        b"P5\n1 2\n256\n\x00\x01\x01\x00",
+    );
 }

@@ -3,7 +3,6 @@ use insar_ports::{
 };
 use std::io;
 use std::io::{ErrorKind, Read, Write};
-use std::test::Fail;
 
 /// A reader and a writer that never work.
 #[derive(Drop)]
@@ -27,35 +26,33 @@ impl Write for Broken {
 
 /// With room for two bytes of a line.
 #[test]
-fn a_line_is_whole_cut_or_over(rt: HostRuntime) -> Result<(), Fail> {
+fn a_line_is_whole_cut_or_over(rt: HostRuntime) {
     for (bytes, lines) in [
         (b"ab\ncd", [Ok(Line::Whole(2)), Ok(Line::Cut(2))]),
         (b"abc\nd", [Ok(Line::Over), Ok(Line::Whole(1))]),
     ] {
-        let bytes = Vec::from_slice(rt.alloc(), bytes)?;
+        let bytes = Vec::from_slice(rt.alloc(), bytes).expect(&rt, "memory");
         let mut source = MemorySource::new(bytes, 1, Vec::new(rt.alloc()));
-        let mut feed = Feed::new(rt.alloc(), &mut source, 100)?;
+        let mut feed = Feed::new(rt.alloc(), &mut source, 100).expect(&rt, "memory");
         let mut line = [0; 2];
         assert_eq!(rt;
             [feed.next_line(&mut line), feed.next_line(&mut line)],
             lines
         );
     }
-    Ok(())
 }
 
 #[test]
-fn a_feed_goes_on_once_its_limit_is_raised(rt: HostRuntime) -> Result<(), Fail> {
-    let bytes = Vec::from_slice(rt.alloc(), b"ab")?;
+fn a_feed_goes_on_once_its_limit_is_raised(rt: HostRuntime) {
+    let bytes = Vec::from_slice(rt.alloc(), b"ab").expect(&rt, "memory");
     let mut source = MemorySource::new(bytes, 1, Vec::new(rt.alloc()));
-    let mut feed = Feed::new(rt.alloc(), &mut source, 1)?;
+    let mut feed = Feed::new(rt.alloc(), &mut source, 1).expect(&rt, "memory");
     let within = [feed.peek(), feed.next(), feed.next()];
     assert!(rt; feed.handed() <= 2);
     feed.set_limit(2);
     let first = Ok(Some(b'a'));
     let told = [first, first, Err(FeedFault::TooLong)];
     assert_eq!(rt; (within, feed.next()), (told, Ok(Some(b'b'))));
-    Ok(())
 }
 
 #[test]

@@ -129,7 +129,7 @@ fn a_report_is_read_or_its_first_broken_line_is_told(rt: HostRuntime) {
     }
 }
 
-const SESSION: &[u8] = b"\
+const SESSION: &str = "\
 P2
 2 2
 65535
@@ -157,16 +157,22 @@ const VERDICTS: &str = "\
 /// The verdict on the report of a text, or the fault of the text, in words.
 fn verdict_told(alloc: Global, session: &Session, text: String) -> Result<String, AllocError> {
     match read_as_report(alloc, text) {
-        Ok(report) => format!(in alloc; "{:?}", check_report(alloc, session, &report)?),
+        Ok(report) => verdict_on(alloc, session, &report),
         Err(fault) => format!(in alloc; "{fault:?}"),
     }
+}
+
+/// The verdict on a report, in words.
+fn verdict_on(alloc: Global, session: &Session, report: &Report) -> Result<String, AllocError> {
+    let verdict = check_report(alloc, session, report)?;
+    format!(in alloc; "{verdict:?}")
 }
 
 #[test]
 fn a_report_is_accepted_or_its_first_break_is_told(rt: HostRuntime) {
     let alloc = rt.alloc();
-    let text = Vec::from_slice(alloc, SESSION).expect(&rt, "memory");
-    let session = session_rows::read(alloc, SessionUse::Alone, 64, text, 9, Vec::new(alloc));
+    let text = Vec::from_slice(alloc, SESSION.as_bytes()).expect(&rt, "memory");
+    let session = session_rows::read(&rt, alloc, SessionUse::Alone, 64, text, 9, Vec::new(alloc));
     let session = session.expect(&rt, "a session");
     for case in VERDICTS.split_terminator(';') {
         let mut fields = case.split('|');

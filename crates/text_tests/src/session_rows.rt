@@ -2,14 +2,14 @@ ghost use Rattle.std.specs.Prelude.{◌≤◌};
 
 use crate::plane_rows::field;
 use insar_ports::{Feed, MemorySink, MemorySource};
-use pgm_planes::InputFault;
 use raster_model::{RuleKind, Session};
 use session_script::{SessionFault, SessionUse, read_session, write_session};
 use std::alloc::Global;
-use std::test::Fail;
+use std::process::Abort;
 
 /// The session of a text that comes in pieces, with the numbered calls failing.
 pub fn read(
+    rt: &impl Abort,
     alloc: Global,
     use_as: SessionUse,
     side: u32,
@@ -21,7 +21,7 @@ pub fn read(
     requires piece { 1 ≤ piece }
 {
     let mut source = MemorySource::new(text, piece, failing);
-    let mut feed = Feed::new(alloc, &mut source, 268_435_456)?;
+    let mut feed = Feed::new(alloc, &mut source, 268_435_456).expect(rt, "memory");
     read_session(alloc, &mut feed, use_as, side, RuleKind::Least)
 }
 
@@ -50,76 +50,97 @@ const TEXTS: &str = "\
     end|P2 4 1 65535 0 1 2 3 0123456789012345678901234567890123456789012345678901234567890123|Input(NoEnd);\
     end|P2 4 1 65535 0 1 2 3 01234567890123456789012345678901234567890123456789012345678901234|Input(ScriptLine(1));";
 
+/// What is written of a session.
+fn written(rt: &impl Abort, alloc: Global, session: &Session) -> Vec<u8> {
+    let mut sink = MemorySink::new(alloc, 1000, 5, Vec::new(alloc)).expect(rt, "memory");
+    write_session(session, &mut sink).expect(rt, "room");
+    sink.bytes().to_vec(alloc).expect(rt, "memory")
+}
+
 /// What is written of the session of a text, or its fault in words.
-fn told(alloc: Global, use_as: SessionUse, text: &str) -> Result<Vec<u8>, Fail> {
-    let text = Vec::from_slice(alloc, text.as_bytes())?;
-    let told = match read(alloc, use_as, 64, text, 7, Vec::new(alloc)) {
-        Ok(session) => {
-            let mut sink = MemorySink::new(alloc, 1000, 5, Vec::new(alloc))?;
-            write_session(&session, &mut sink)?;
-            sink.bytes().to_vec(alloc)?
-        }
-        Err(fault) => format!(in alloc; "{fault:?}")?.into_bytes(),
-    };
-    Ok(told)
+fn told(rt: &impl Abort, alloc: Global, use_as: SessionUse, text: &str) -> Vec<u8> {
+    let text = Vec::from_slice(alloc, text.as_bytes()).expect(rt, "memory");
+    match read(rt, alloc, use_as, 64, text, 7, Vec::new(alloc)) {
+        Ok(session) => written(rt, alloc, &session),
+        Err(fault) => format!(in alloc; "{fault:?}")
+            .expect(rt, "memory")
+            .into_bytes(),
+    }
 }
 
 #[test]
-fn a_session_is_read_or_its_fault_is_told(rt: HostRuntime) -> Result<(), Fail> {
+fn a_session_is_read_or_its_fault_is_told(rt: HostRuntime) {
     for case in TEXTS.split_terminator(';') {
         let mut fields = case.split('|');
         let use_as = match field(&mut fields) {
             "end" => SessionUse::Alone,
             _ => SessionUse::BeforeReport,
         };
-        let told = told(rt.alloc(), use_as, field(&mut fields))?;
+        let told = told(&rt, rt.alloc(), use_as, field(&mut fields));
         assert_eq!(rt; told.as_slice(), field(&mut fields).as_bytes(), "{case}");
     }
-    Ok(())
 }
 
 /// The 82 bytes come one by one. Call 83 is the one that finds the end.
-#[test]
-fn a_call_that_fails_is_told(rt: HostRuntime) -> Result<(), Fail> {
-    let text =
-        b"P2 2 2 65535 0 16384 49152 32768 P2 2 2 9 5 5 3 9 analyst\nmask 0 0 0 0\nsettle\nend\n";
-    for call in 1..84 {
-        let text = Vec::from_slice(rt.alloc(), text)?;
-        let failing = vec![in rt.alloc(); call]?;
-        let fault = read(rt.alloc(), SessionUse::Alone, 64, text, 1, failing).err();
-        assert_eq!(rt; fault, Some(SessionFault::ReadFault), "{call}");
-    }
-    Ok(())
+const PIECES: &str =
+    "P2 2 2 65535 0 16384 49152 32768 P2 2 2 9 5 5 3 9 analyst\nmask 0 0 0 0\nsettle\nend\n";
+
+/// The fault of that text if a call fails.
+fn fault_at(rt: &impl Abort, alloc: Global, call: u32) -> Option<SessionFault> {
+    let text = Vec::from_slice(alloc, PIECES.as_bytes()).expect(rt, "memory");
+    let failing = vec![in alloc; call].expect(rt, "memory");
+    read(rt, alloc, SessionUse::Alone, 64, text, 1, failing).err()
 }
 
-/// Why no session is read of a raster of 4096 by 1024 and a section of `count` equal lines.
-fn fault_of(alloc: Global, side: u32, line: &[u8], count: u32) -> Result<Option<SessionFault>, Fail>
+#[test]
+fn a_call_that_fails_is_told(rt: HostRuntime) {
+    for call in 1..84 {
+        let fault = fault_at(&rt, rt.alloc(), call);
+        assert_eq!(rt; fault, Some(SessionFault::ReadFault), "{call}");
+    }
+}
+
+/// A raster of 4096 by 1024 and a section of `count` equal lines.
+fn section(rt: &impl Abort, alloc: Global, line: &str, count: u32) -> Vec<u8> {
+    let mut text = Vec::from_slice(alloc, b"P5\n4096 1024\n65535\n").expect(rt, "memory");
+    text.resize(8_388_627, 0).expect(rt, "memory");
+    text.extend_from_slice(b"analyst\n").expect(rt, "memory");
+    for _ in 0..count {
+        text.extend_from_slice(line.as_bytes()).expect(rt, "memory");
+    }
+    text.extend_from_slice(b"end\n").expect(rt, "memory");
+    text
+}
+
+/// Why no session is read of them, in words.
+fn fault_of(rt: &impl Abort, alloc: Global, side: u32, line: &str, count: u32) -> String
     requires { (2 ≤ side) × (side ≤ 128) }
 {
-    let mut text = Vec::from_slice(alloc, b"P5\n4096 1024\n65535\n")?;
-    text.resize(8_388_627, 0)?;
-    text.extend_from_slice(b"analyst\n")?;
-    for _ in 0..count {
-        text.extend_from_slice(line)?;
-    }
-    text.extend_from_slice(b"end\n")?;
-    Ok(read(alloc, SessionUse::Alone, side, text, 5000, Vec::new(alloc)).err())
+    let text = section(rt, alloc, line, count);
+    let fault = read(
+        rt,
+        alloc,
+        SessionUse::Alone,
+        side,
+        text,
+        5000,
+        Vec::new(alloc),
+    )
+    .err();
+    format!(in alloc; "{fault:?}").expect(rt, "memory")
 }
 
 /// 16 times 4194304 pixels is the limit of settled pixels, and 16 times 1048576 tiles that of changed tiles; an analyst has
 /// at most 4096 commands.
 #[test]
-fn commands_reach_the_limits(rt: HostRuntime) -> Result<(), Fail> {
-    let faults = [
-        fault_of(rt.alloc(), 64, b"settle\n", 16)?,
-        fault_of(rt.alloc(), 64, b"settle\n", 17)?,
-        fault_of(rt.alloc(), 2, b"mask 0 0 0 0\n", 17)?,
-        fault_of(rt.alloc(), 64, b"show\n", 4097)?,
-    ];
-    let settles = SessionFault::Input(InputFault::SettleLimit(18));
-    let edits = SessionFault::Input(InputFault::EditLimit(18));
-    let commands = SessionFault::Input(InputFault::TooManyCommands(4098));
-    let told = [None, Some(settles), Some(edits), Some(commands)];
-    assert_eq!(rt; faults, told);
-    Ok(())
+fn commands_reach_the_limits(rt: HostRuntime) {
+    let alloc = rt.alloc();
+    let fault = fault_of(&rt, alloc, 64, "settle\n", 16);
+    assert_eq!(rt; fault.as_str(), "None");
+    let fault = fault_of(&rt, alloc, 64, "settle\n", 17);
+    assert_eq!(rt; fault.as_str(), "Some(Input(SettleLimit(18)))");
+    let fault = fault_of(&rt, alloc, 2, "mask 0 0 0 0\n", 17);
+    assert_eq!(rt; fault.as_str(), "Some(Input(EditLimit(18)))");
+    let fault = fault_of(&rt, alloc, 64, "show\n", 4097);
+    assert_eq!(rt; fault.as_str(), "Some(Input(TooManyCommands(4098)))");
 }

@@ -4,7 +4,6 @@ use crate::top_rows::spelled;
 use std::alloc::Global;
 use std::process::Abort;
 use std::sync::Wait;
-use std::test::Fail;
 use std::thread::Threads;
 
 /// The residue of the phases `0 16384 / 49152 32768` is 1.
@@ -30,37 +29,38 @@ const CUTS: &str = "\
 70|70|0|!2 2;tile 64;rule least;revised 1 mask 0 0 0 0;kept 0 1;published 1 1;costs 0 0;ncols 2;nrows 2;%~ 16384;49152 32768;faces 0 0;flows;shown 1 1;end;";
 
 /// Cuts the session as a row says, and answers how often.
-fn try_cuts<R: Alloc<A = Global> + Threads + Wait + Sync + Abort>(
-    rt: &R,
-    row: &str,
-) -> Result<usize, Fail> {
+fn try_cuts<R: Alloc<A = Global> + Threads + Wait + Sync + Abort>(rt: &R, row: &str) -> usize {
     let mut fields = row.split('|');
-    let first = field(&mut fields).parse::<usize>()?;
-    let last = field(&mut fields).parse::<usize>()?.min(SESSION.len());
-    let status = field(&mut fields).parse::<u8>()?;
-    let pattern = spelled(rt.alloc(), field(&mut fields))?;
+    let first = field(&mut fields).parse::<usize>().expect(rt, "a number");
+    let last = field(&mut fields).parse::<usize>().expect(rt, "a number");
+    let last = last.min(SESSION.len());
+    let status = field(&mut fields).parse::<u8>().expect(rt, "a status");
+    let pattern = spelled(rt.alloc(), field(&mut fields)).expect(rt, "memory");
     let mut cuts = 0usize;
     for count in first..last + 1 {
-        let number = format!(in rt.alloc(); "{count}")?;
-        let written = pattern.replace(rt.alloc(), "#", &number)?;
         let wanted = Wanted {
             status,
-            written,
+            written: numbered(rt, rt.alloc(), &pattern, count),
             gained: 0,
         };
-        try_twice(rt, "unwrap", &SESSION[..count], NOTHING, &wanted)?;
+        try_twice(rt, "unwrap", &SESSION[..count], NOTHING, &wanted);
         cuts = cuts.saturating_add(1);
     }
-    Ok(cuts)
+    cuts
+}
+
+/// A pattern with a number in the place of each `#`.
+fn numbered(rt: &impl Abort, alloc: Global, pattern: &str, number: usize) -> String {
+    let number = format!(in alloc; "{number}").expect(rt, "memory");
+    pattern.replace(alloc, "#", &number).expect(rt, "memory")
 }
 
 /// The input ends after each of its bytes.
 #[test]
-fn cut_input_is_told(rt: HostRuntime) -> Result<(), Fail> {
+fn cut_input_is_told(rt: HostRuntime) {
     let mut cuts = 0usize;
     for row in CUTS.lines() {
-        cuts = cuts.saturating_add(try_cuts(&rt, row)?);
+        cuts = cuts.saturating_add(try_cuts(&rt, row));
     }
     assert_eq!(rt; cuts, 71);
-    Ok(())
 }

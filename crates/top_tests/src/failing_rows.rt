@@ -3,7 +3,6 @@ use crate::top_rows::{is_one_of, spelled};
 use std::alloc::{AllocError, Global};
 use std::process::Abort;
 use std::sync::Wait;
-use std::test::Fail;
 use std::thread::Threads;
 use tile_workers::OpenGate;
 
@@ -111,8 +110,8 @@ fn try_once<R: Alloc<A = Global> + Threads + Wait + Sync + Abort>(
     bytes: &[u8],
     failing: &Failing,
     wanted: &Wanted,
-) -> Result<(), Fail> {
-    let done = run(rt, words, bytes, 1, failing, &OpenGate)?;
+) {
+    let done = run(rt, words, bytes, 1, failing, &OpenGate);
     let line = if failing.lines.is_empty() {
         line_of(wanted)
     } else {
@@ -120,7 +119,6 @@ fn try_once<R: Alloc<A = Global> + Threads + Wait + Sync + Abort>(
     };
     let good = has_ended(&done, wanted) && done.line.as_str() == line;
     assert!(rt; good, "{words}: {} {}{}", done.status, done.line, done.text);
-    Ok(())
 }
 
 /// Runs words, and runs them once more with the first line to `diag` failing, which changes neither the status nor the sink.
@@ -130,10 +128,10 @@ pub fn try_twice<R: Alloc<A = Global> + Threads + Wait + Sync + Abort>(
     bytes: &[u8],
     failing: Failing,
     wanted: &Wanted,
-) -> Result<(), Fail> {
-    try_once(rt, words, bytes, &failing, wanted)?;
+) {
+    try_once(rt, words, bytes, &failing, wanted);
     let lines = [1].as_slice();
-    try_once(rt, words, bytes, &Failing { lines, ..failing }, wanted)
+    try_once(rt, words, bytes, &Failing { lines, ..failing }, wanted);
 }
 
 /// The bytes of a row.
@@ -168,22 +166,23 @@ fn failing_at<'a>(what: &str, number: &'a [u32; 1]) -> Failing<'a> {
     }
 }
 
+/// A row with the session and its report in the places of `$` and `&`.
+fn filled(rt: &impl Abort, alloc: Global, row: &str) -> String {
+    let row = row.replace(alloc, "$", SESSION).expect(rt, "memory");
+    row.replace(alloc, "&", REPORT).expect(rt, "memory")
+}
+
 /// Tries a row at each of its numbers.
-fn try_row<R: Alloc<A = Global> + Threads + Wait + Sync + Abort>(
-    rt: &R,
-    row: &str,
-) -> Result<(), Fail> {
-    let row = row
-        .replace(rt.alloc(), "$", SESSION)?
-        .replace(rt.alloc(), "&", REPORT)?;
+fn try_row<R: Alloc<A = Global> + Threads + Wait + Sync + Abort>(rt: &R, row: &str) {
+    let row = filled(rt, rt.alloc(), row);
     let mut fields = row.split('|');
     let what = field(&mut fields);
-    let first = field(&mut fields).parse::<u32>()?;
-    let last = field(&mut fields).parse::<u32>()?;
+    let first = field(&mut fields).parse::<u32>().expect(rt, "a number");
+    let last = field(&mut fields).parse::<u32>().expect(rt, "a number");
     let words = field(&mut fields);
-    let bytes = bytes_of(rt.alloc(), field(&mut fields))?;
-    let status = field(&mut fields).parse::<u8>()?;
-    let written = spelled(rt.alloc(), field(&mut fields))?;
+    let bytes = bytes_of(rt.alloc(), field(&mut fields)).expect(rt, "memory");
+    let status = field(&mut fields).parse::<u8>().expect(rt, "a status");
+    let written = spelled(rt.alloc(), field(&mut fields)).expect(rt, "memory");
     let mut wanted = Wanted {
         status,
         written,
@@ -192,33 +191,29 @@ fn try_row<R: Alloc<A = Global> + Threads + Wait + Sync + Abort>(
     for number in first..last.saturating_add(1) {
         let before = if what == "put" { 1 } else { 0 };
         wanted.gained = number.saturating_sub(before) as usize;
-        try_twice(rt, words, &bytes, failing_at(what, &[number]), &wanted)?;
+        try_twice(rt, words, &bytes, failing_at(what, &[number]), &wanted);
     }
-    Ok(())
 }
 
 /// Each call of the source fails in turn. The call after the last byte is the one that finds the end of the input.
 #[test]
-fn each_failing_read_is_told(rt: HostRuntime) -> Result<(), Fail> {
+fn each_failing_read_is_told(rt: HostRuntime) {
     for row in READS.lines() {
-        try_row(&rt, row)?;
+        try_row(&rt, row);
     }
-    Ok(())
 }
 
 /// Each call of the sink fails in turn: what was written before it is there.
 #[test]
-fn each_failing_write_is_told(rt: HostRuntime) -> Result<(), Fail> {
+fn each_failing_write_is_told(rt: HostRuntime) {
     for row in WRITES.lines() {
-        try_row(&rt, row)?;
+        try_row(&rt, row);
     }
-    Ok(())
 }
 
 #[test]
-fn each_failing_write_of_a_line_is_told(rt: HostRuntime) -> Result<(), Fail> {
+fn each_failing_write_of_a_line_is_told(rt: HostRuntime) {
     for row in LINES.lines() {
-        try_row(&rt, row)?;
+        try_row(&rt, row);
     }
-    Ok(())
 }

@@ -1,6 +1,5 @@
 use crate::running::{NOTHING, lines_of, run};
 use std::sync::atomic::{AtomicBool, AtomicU64, Ordering};
-use std::test::Fail;
 use std::thread;
 use tile_workers::{Gate, OpenGate};
 
@@ -35,7 +34,7 @@ impl Gate for Meeting {
 
 /// Two workers solve a tile each at the same time, with no lock held.
 #[test]
-fn workers_solve_at_once(rt: HostRuntime) -> Result<(), Fail> {
+fn workers_solve_at_once(rt: HostRuntime) {
     let gate = Meeting {
         first: AtomicBool::new(false),
         second: AtomicBool::new(false),
@@ -49,11 +48,10 @@ fn workers_solve_at_once(rt: HostRuntime) -> Result<(), Fail> {
         9,
         &NOTHING,
         &gate,
-    )?;
+    );
     assert!(rt; done.status == 0);
     assert!(rt; gate.first.load(Ordering::SeqCst) && gate.second.load(Ordering::SeqCst));
     assert!(rt; !gate.missed.load(Ordering::SeqCst));
-    Ok(())
 }
 
 /// A gate that holds the first worker until another has come.
@@ -81,7 +79,7 @@ impl Gate for Second {
 /// While the only worker of one analyst is held, the other analyst goes on. In any order of the two the report has both
 /// edits, a publication or a find of one for each settle command, and both looks; and the check accepts it.
 #[test]
-fn analysts_run_at_once(rt: HostRuntime) -> Result<(), Fail> {
+fn analysts_run_at_once(rt: HostRuntime) {
     let gate = Second {
         entries: AtomicU64::new(0),
         missed: AtomicBool::new(false),
@@ -104,7 +102,7 @@ end
         9,
         &NOTHING,
         &gate,
-    )?;
+    );
     assert!(rt; done.status == 0);
     assert!(rt; gate.entries.load(Ordering::SeqCst) > 1);
     assert!(rt; !gate.missed.load(Ordering::SeqCst));
@@ -116,7 +114,7 @@ end
     );
     let row = "-9223372036854775808 40000 14464 -9223372036854775808";
     assert!(rt; lines_of(&done.text, row) > 0);
-    let both = format!(in rt.alloc(); "{session}{}", done.text)?;
+    let both = format!(in rt.alloc(); "{session}{}", done.text).expect(&rt, "memory");
     let checked = run(
         &rt,
         "check --tile 2",
@@ -124,7 +122,6 @@ end
         9,
         &NOTHING,
         &OpenGate,
-    )?;
+    );
     assert!(rt; checked.status == 0 && checked.text.as_str() == "accepted\n");
-    Ok(())
 }

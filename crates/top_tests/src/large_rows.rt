@@ -1,6 +1,5 @@
 use crate::running::{NOTHING, lines_of, run};
 use std::alloc::{AllocError, Global};
-use std::test::Fail;
 use tile_workers::OpenGate;
 
 /// A raw phase plane of that width and height, which rises by 300 to the right and by 700 downwards, and scripts.
@@ -35,13 +34,12 @@ fn grid(alloc: Global) -> Result<String, AllocError> {
 
 /// A slope of 1024 by 1024 pixels. Before its grid come the lines of 256 kept tiles, in any order.
 #[test]
-fn a_large_slope_is_unwrapped(rt: HostRuntime) -> Result<(), Fail> {
-    let bytes = slope(rt.alloc(), 1024, 1024, "")?;
-    let done = run(&rt, "unwrap", &bytes, 65536, &NOTHING, &OpenGate)?;
+fn a_large_slope_is_unwrapped(rt: HostRuntime) {
+    let bytes = slope(rt.alloc(), 1024, 1024, "").expect(&rt, "memory");
+    let done = run(&rt, "unwrap", &bytes, 65536, &NOTHING, &OpenGate);
     assert!(rt; done.status == 0 && lines_of(&done.text, "kept ") == 256);
-    let grid = grid(rt.alloc())?;
+    let grid = grid(rt.alloc()).expect(&rt, "memory");
     assert!(rt; done.text.split_once(grid.as_str()).is_some());
-    Ok(())
 }
 
 /// Two analysts with ten edits and five settle commands each.
@@ -85,14 +83,13 @@ end
 
 /// Their session on a raster of 256 by 256.
 #[test]
-fn two_analysts_finish_a_session(rt: HostRuntime) -> Result<(), Fail> {
-    let bytes = slope(rt.alloc(), 256, 256, SCRIPTS)?;
-    let done = run(&rt, "unwrap", &bytes, 65536, &NOTHING, &OpenGate)?;
+fn two_analysts_finish_a_session(rt: HostRuntime) {
+    let bytes = slope(rt.alloc(), 256, 256, SCRIPTS).expect(&rt, "memory");
+    let done = run(&rt, "unwrap", &bytes, 65536, &NOTHING, &OpenGate);
     assert!(rt; done.status == 0 && done.text.ends_with(" 20\nend\n"));
     assert!(rt; lines_of(&done.text, "revised ") == 20 && lines_of(&done.text, "shown ") == 2);
     let published = lines_of(&done.text, "published ");
     assert!(rt; published.saturating_add(lines_of(&done.text, "settled ")) == 10);
-    Ok(())
 }
 
 /// 17 settle commands, and 17 edits.
@@ -109,11 +106,10 @@ const LIMITS: [(&str, &str); 2] = [
 
 /// With these numbers of commands 4096 by 1024 pixels, in tiles of the side 2, are too many.
 #[test]
-fn limits_are_told_with_their_lines(rt: HostRuntime) -> Result<(), Fail> {
+fn limits_are_told_with_their_lines(rt: HostRuntime) {
     for (script, line) in LIMITS {
-        let bytes = slope(rt.alloc(), 4096, 1024, script)?;
-        let done = run(&rt, "unwrap --tile 2", &bytes, 65536, &NOTHING, &OpenGate)?;
+        let bytes = slope(rt.alloc(), 4096, 1024, script).expect(&rt, "memory");
+        let done = run(&rt, "unwrap --tile 2", &bytes, 65536, &NOTHING, &OpenGate);
         assert!(rt; done.status == 3 && done.line.as_str() == line);
     }
-    Ok(())
 }

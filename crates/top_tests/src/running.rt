@@ -2,10 +2,10 @@ ghost use Rattle.std.specs.Prelude.{◌≤◌};
 
 use insar_ports::{MemorySink, MemorySource};
 use insar_top::insar;
-use std::alloc::Global;
+use std::alloc::{AllocError, Global};
+use std::process::Abort;
 use std::str::Split;
 use std::sync::Wait;
-use std::test::Fail;
 use std::thread::Threads;
 use tile_workers::Gate;
 
@@ -35,30 +35,59 @@ pub struct Ended {
     pub line: String,
 }
 
+/// A copy of bytes as text.
+fn text_of(rt: &impl Abort, alloc: Global, bytes: &[u8]) -> String {
+    let bytes = bytes.to_vec(alloc).expect(rt, "memory");
+    String::from_utf8(bytes).expect(rt, "text")
+}
+
+/// A sink that takes `piece` bytes a call and has room for so many, with the numbered calls failing.
+fn sink(rt: &impl Abort, alloc: Global, room: usize, piece: usize, failing: &[u32]) -> MemorySink
+    requires { (1 ≤ piece) × (piece ≤ 65536) }
+{
+    let failing = failing.to_vec(alloc).expect(rt, "memory");
+    MemorySink::new(alloc, room, piece, failing).expect(rt, "memory")
+}
+
+/// A source that gives `piece` bytes a call, with the numbered calls failing.
+fn source(
+    rt: &impl Abort,
+    alloc: Global,
+    bytes: &[u8],
+    piece: usize,
+    failing: &[u32],
+) -> MemorySource
+    requires { (1 ≤ piece) × (piece ≤ 65536) }
+{
+    let failing = failing.to_vec(alloc).expect(rt, "memory");
+    let bytes = bytes.to_vec(alloc).expect(rt, "memory");
+    MemorySource::new(bytes, piece, failing)
+}
+
 /// The words, separated by spaces, over the bytes. The source and the sink take `piece` bytes a call.
-pub fn run<R: Alloc<A = Global> + Threads + Wait + Sync, G: Gate>(
+pub fn run<R: Alloc<A = Global> + Threads + Wait + Sync + Abort, G: Gate>(
     rt: &R,
     words: &str,
     bytes: &[u8],
     piece: usize,
     failing: &Failing,
     gate: &G,
-) -> Result<Ended, Fail>
+) -> Ended
     requires { (1 ≤ piece) × (piece ≤ 65536) }
 {
     let alloc = rt.alloc();
-    let words: Vec<&str> = words.split_whitespace().collect(alloc)?;
-    let takes = failing.takes.to_vec(alloc)?;
-    let mut source = MemorySource::new(bytes.to_vec(alloc)?, piece, takes);
+    let words: Result<Vec<&str>, AllocError> = words.split_whitespace().collect(alloc);
+    let words = words.expect(rt, "memory");
+    let mut source = source(rt, alloc, bytes, piece, failing.takes);
     let room = piece.saturating_mul(failing.room);
-    let mut sink = MemorySink::new(alloc, room, piece, failing.puts.to_vec(alloc)?)?;
-    let mut diag = MemorySink::new(alloc, 99, 1, failing.lines.to_vec(alloc)?)?;
+    let mut diag = sink(rt, alloc, 99, 1, failing.lines);
+    let mut sink = sink(rt, alloc, room, piece, failing.puts);
     let status = insar(rt, alloc, &words, &mut source, &mut sink, &mut diag, gate);
-    Ok(Ended {
+    Ended {
         status,
-        text: String::from_utf8(sink.bytes().to_vec(alloc)?)?,
-        line: String::from_utf8(diag.bytes().to_vec(alloc)?)?,
-    })
+        text: text_of(rt, alloc, sink.bytes()),
+        line: text_of(rt, alloc, diag.bytes()),
+    }
 }
 
 /// How many lines begin so.

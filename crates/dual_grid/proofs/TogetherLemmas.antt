@@ -21,7 +21,7 @@ use Rattle.dual_grid.specs.Grids.{AreWeighed, amount_of}
 use Rattle.dual_grid.specs.Layout.{AreLow, number_or_zero, weight_in}
 use Rattle.dual_grid.specs.Nodes.{cells_of, edge_number, edge_of, edges_of, first_side, other_side, rights_of}
 use Rattle.dual_grid.specs.Problems.{AreSmallNumbers, face_of}
-use Rattle.dual_grid.specs.Reaching.{GoTogether, MayGoOn, flow_of, left_after, to_send}
+use Rattle.dual_grid.specs.Reaching.{FlowsMayGoOn, MayGoOn, correction_flow, left_after, to_send}
 use Rattle.dual_grid.specs.Starts.{IsAtStart, open_in_window, supply_at}
 use Rattle.dual_grid.specs.Views.{IsGridOf, grid_shape, grid_start, grid_state}
 use Rattle.dual_grid.proofs.EdgeLemmas.{number_below, right_number_below}
@@ -76,17 +76,17 @@ module _ (v : Window) (steep : ℕ) (weight : ℕ → ℕ) (excess : ℕ → ℤ
   joined : (m g c : ℕ) (z : ℤ) → m ≡ g → m ≤ c → z ≤ℤ pos (c - m) → (pos g +ℤ z) ≤ℤ pos c
   joined m g c z e l h = omega (arith, ints, e, l, h)
 
-  pub few_flow : GoTogether v steep weight excess flows potential → most ≤ cells_of v
+  pub few_flow : FlowsMayGoOn v steep weight excess flows potential → most ≤ cells_of v
   few_flow t = (split most (greatest flows) (cells_of v) (to_send v (left_after v (number_or_zero flows) excess)) (greatest_is flows most small least) sent_not_below t.within).0
 
   module _ (after : List ℤ) (count : length after ≡ cells_of v + 1) (moved : (u : ℕ) → number_or_zero after u ≡ excess u -ℤ sum_below (edges_of v) (leaves v (number_or_zero flows) u)) where
     sent_is : positive_sum after (length after) ≡ to_send v (left_after v (number_or_zero flows) excess)
     sent_is = ap (λ (n : ℕ). positive_sum after n) count ∙ sum_below-same (cells_of v + 1) (λ u. positive_part (number_or_zero after u)) (λ u. positive_part (left_after v (number_or_zero flows) excess u)) (λ u l. ap positive_part (moved u))
 
-    pub few_sent : GoTogether v steep weight excess flows potential → positive_sum after (length after) ≤ℤ pos (cells_of v - most)
+    pub few_sent : FlowsMayGoOn v steep weight excess flows potential → positive_sum after (length after) ≤ℤ pos (cells_of v - most)
     few_sent t = subst (λ (z : ℤ). z ≤ℤ pos (cells_of v - most)) (sym sent_is) ((split most (greatest flows) (cells_of v) (to_send v (left_after v (number_or_zero flows) excess)) (greatest_is flows most small least) sent_not_below t.within).1)
 
-    pub go_together : length flows ≡ edges_of v → most ≤ cells_of v → ((n : ℕ) → n < edges_of v → IsHeldAt v steep weight (number_or_zero flows) potential n) → positive_sum after (length after) ≤ℤ pos (cells_of v - most) → GoTogether v steep weight excess flows potential
+    pub go_together : length flows ≡ edges_of v → most ≤ cells_of v → ((n : ℕ) → n < edges_of v → IsHeldAt v steep weight (number_or_zero flows) potential n) → positive_sum after (length after) ≤ℤ pos (cells_of v - most) → FlowsMayGoOn v steep weight excess flows potential
     go_together edges few held total = record {
       count = edges;
       held = held;
@@ -110,16 +110,16 @@ module _ (s : Scene) (v : Window) (limited : IsRasterWindow v) (unmasked : List 
           ap (λ (n : ℕ). number_or_zero (k.right.items ++ k.down.items) (n + ((y - v.y0) * width_of v + (x - v.x0)))) (sym rights)
           ∙ get_or-append-add k.right.items k.down.items ((y - v.y0) * width_of v + (x - v.x0)) (pos 0)
 
-  flow_is : (n : ℕ) → n < edges_of v → number_or_zero (k.right.items ++ k.down.items) n ≡ flow_of v k n
+  flow_is : (n : ℕ) → n < edges_of v → number_or_zero (k.right.items ++ k.down.items) n ≡ correction_flow v k n
   flow_is n l = ap (λ (m : ℕ). number_or_zero (k.right.items ++ k.down.items) m) (sym (number_of_edge v limited n l)) ∙ flow_at (edge_of v n) (edge_in v limited n l)
 
-  left_same : (u : ℕ) → u < cells_of v + 1 → left_after v (number_or_zero (k.right.items ++ k.down.items)) excess u ≡ left_after v (flow_of v k) (supply_at (residue (raster_of s)) v) u
+  left_same : (u : ℕ) → u < cells_of v + 1 → left_after v (number_or_zero (k.right.items ++ k.down.items)) excess u ≡ left_after v (correction_flow v k) (supply_at (residue (raster_of s)) v) u
   left_same u l =
       ap₂ (λ (a b : ℤ). a -ℤ b) (supplied u l)
-      (sum_below-same (edges_of v) (leaves v (number_or_zero (k.right.items ++ k.down.items)) u) (leaves v (flow_of v k) u) (λ n m. ap (λ (z : ℤ). where_true (u == first_side v (edge_of v n)) z -ℤ where_true (u == other_side v (edge_of v n)) z) (flow_is n m)))
+      (sum_below-same (edges_of v) (leaves v (number_or_zero (k.right.items ++ k.down.items)) u) (leaves v (correction_flow v k) u) (λ n m. ap (λ (z : ℤ). where_true (u == first_side v (edge_of v n)) z -ℤ where_true (u == other_side v (edge_of v n)) z) (flow_is n m)))
 
-  sent_same : to_send v (left_after v (number_or_zero (k.right.items ++ k.down.items)) excess) ≡ to_send v (left_after v (flow_of v k) (supply_at (residue (raster_of s)) v))
-  sent_same = sum_below-same (cells_of v + 1) (λ u. positive_part (left_after v (number_or_zero (k.right.items ++ k.down.items)) excess u)) (λ u. positive_part (left_after v (flow_of v k) (supply_at (residue (raster_of s)) v) u)) (λ u l. ap positive_part (left_same u l))
+  sent_same : to_send v (left_after v (number_or_zero (k.right.items ++ k.down.items)) excess) ≡ to_send v (left_after v (correction_flow v k) (supply_at (residue (raster_of s)) v))
+  sent_same = sum_below-same (cells_of v + 1) (λ u. positive_part (left_after v (number_or_zero (k.right.items ++ k.down.items)) excess u)) (λ u. positive_part (left_after v (correction_flow v k) (supply_at (residue (raster_of s)) v) u)) (λ u l. ap positive_part (left_same u l))
 
   difference : (e : Edge) → number_or_zero potentials (other_side v e) -ℤ number_or_zero potentials (first_side v e) ≡ face_of faces (first_side v e) -ℤ face_of faces (other_side v e)
   difference e = turned_difference _ _ _ _ (turned (other_side v e)) (turned (first_side v e))
@@ -127,7 +127,7 @@ module _ (s : Scene) (v : Window) (limited : IsRasterWindow v) (unmasked : List 
       turned_difference : (p q a b : ℤ) → p ≡ neg_ℤ a → q ≡ neg_ℤ b → p -ℤ q ≡ b -ℤ a
       turned_difference p q a b e f = omega (arith, ints, e, f)
 
-  lists_go_on : length faces ≡ cells_of v → AreLow faces → GoTogether v steep weight excess (k.right.items ++ k.down.items) (number_or_zero potentials) → MayGoOn s v unmasked k faces
+  lists_go_on : length faces ≡ cells_of v → AreLow faces → FlowsMayGoOn v steep weight excess (k.right.items ++ k.down.items) (number_or_zero potentials) → MayGoOn s v unmasked k faces
   lists_go_on count low t = record {
     shape = (rights, omega (arith, rights, t.count, length-append k.right.items k.down.items));
     count = count;
@@ -136,7 +136,7 @@ module _ (s : Scene) (v : Window) (limited : IsRasterWindow v) (unmasked : List 
     within = sum_within (greatest (k.right.items ++ k.down.items)) (greatest_of k) (cells_of v) _ _ (greatest_joined k.right.items k.down.items) sent_same t.within;
   }
 
-  lists_together : MayGoOn s v unmasked k faces → GoTogether v steep weight excess (k.right.items ++ k.down.items) (number_or_zero potentials)
+  lists_together : MayGoOn s v unmasked k faces → FlowsMayGoOn v steep weight excess (k.right.items ++ k.down.items) (number_or_zero potentials)
   lists_together m = record {
     count = omega (arith, m.shape, length-append k.right.items k.down.items);
     held = λ n l. (
@@ -147,7 +147,7 @@ module _ (s : Scene) (v : Window) (limited : IsRasterWindow v) (unmasked : List 
 
 -- ---- the same of a grid at the start
 abbrev pub GridGoesOn : DualGrid → List ℤ → List ℤ → Type 0
-GridGoesOn g flows potentials = GoTogether g.window g.steep (weight_in g.weights.items) (number_or_zero g.excesses.items) flows (number_or_zero potentials)
+GridGoesOn g flows potentials = FlowsMayGoOn g.window g.steep (weight_in g.weights.items) (number_or_zero g.excesses.items) flows (number_or_zero potentials)
 
 module _ (s : Scene) (v : Window) (unmasked : List Bool) (g : DualGrid) (grid : IsGridOf s v unmasked g) (start : IsAtStart (grid_start g) (residue (raster_of s)) v (grid_shape g) (grid_state g)) (k : Corrections) (faces : List ℤ) where
   supplied_here : (u : ℕ) → u < cells_of g.window + 1 → number_or_zero g.excesses.items u ≡ supply_at (residue (raster_of s)) g.window u

@@ -25,8 +25,8 @@ abbrev pub to_send : Window → (ℕ → ℤ) → ℤ
 to_send v excess = sum_below (cells_of v + 1) (λ u. positive_part (excess u))
 
 -- what flows across the edges by their numbers, where these are the corrections
-abbrev pub flow_of : Window → Corrections → ℕ → ℤ
-flow_of v k n = correction_at v k (edge_of v n)
+abbrev pub correction_flow : Window → Corrections → ℕ → ℤ
+correction_flow v k n = correction_at v k (edge_of v n)
 
 -- corrections and faces from which the grid over a window goes on: they have the window's shape, no face is farther from 0 than 2^34, the faces on the sides of each edge hold its correction at its weight under the mask, and the greatest correction and what all nodes have to send after the corrections are together no more than the window has cells
 pub record MayGoOn (s : Scene) (v : Window) (unmasked : List Bool) (k : Corrections) (faces : List ℤ) : Type 0 where
@@ -34,10 +34,10 @@ pub record MayGoOn (s : Scene) (v : Window) (unmasked : List Bool) (k : Correcti
   pub count : length faces ≡ cells_of v
   pub low : AreLow faces
   pub held : (e : Edge) → IsEdgeOf v e → IsHeldBy s.terms.steep (masked_weight (raster_of s) (open_in_window v unmasked) e) (face_of faces (first_side v e) -ℤ face_of faces (other_side v e)) (correction_at v k e)
-  pub within : (pos (greatest_of k) +ℤ to_send v (left_after v (flow_of v k) (supply_at (residue (raster_of s)) v))) ≤ℤ pos (cells_of v)
+  pub within : (pos (greatest_of k) +ℤ to_send v (left_after v (correction_flow v k) (supply_at (residue (raster_of s)) v))) ≤ℤ pos (cells_of v)
 
 -- the same of flows and potentials as a grid holds them, where the nodes have these excesses before
-pub record GoTogether (v : Window) (steep : ℕ) (weight : ℕ → ℕ) (excess : ℕ → ℤ) (flows : List ℤ) (potential : ℕ → ℤ) : Type 0 where
+pub record FlowsMayGoOn (v : Window) (steep : ℕ) (weight : ℕ → ℕ) (excess : ℕ → ℤ) (flows : List ℤ) (potential : ℕ → ℤ) : Type 0 where
   pub count : length flows ≡ edges_of v
   pub held : (n : ℕ) → n < edges_of v → IsHeldAt v steep weight (number_or_zero flows) potential n
   pub within : (pos (greatest flows) +ℤ to_send v (left_after v (number_or_zero flows) excess)) ≤ℤ pos (cells_of v)

@@ -147,7 +147,7 @@ impl DualGrid {
     ghost use Rattle.dual_grid.specs.Nodes.{edge_of, edges_of, first_side, other_side};
     ghost use Rattle.flow_network.specs.Nets.{IsArc, IsNextBelow};
     ghost use Rattle.dual_grid.specs.Grids.{HasSmallCosts, IsConnected, arc_capacity};
-    ghost use Rattle.dual_grid.specs.Reaching.{GoTogether, MayGoOn};
+    ghost use Rattle.dual_grid.specs.Reaching.{FlowsMayGoOn, MayGoOn};
     ghost use Rattle.dual_grid.specs.Starts.{IsAtStart, TellsMask};
     ghost use Rattle.dual_grid.specs.Views.{HaveOneOrigin, IsGridOf, grid_shape, grid_start, grid_state};
     ghost use Rattle.flow_network.specs.Moves.{IsRaised, MayRaise};
@@ -266,8 +266,8 @@ impl DualGrid {
         ensures low { IfSome result (λ grid. AreLow grid.potentials.items) }
         ensures flows { IfSome result (λ grid. grid.flows.items ≡ flows.items) }
         ensures heights { IfSome result (λ grid. grid.potentials.items ≡ potentials.items) }
-        ensures together { IfSome result (λ grid. GoTogether self.window self.steep (weight_in self.weights.items) (number_or_zero self.excesses.items) flows.items (number_or_zero potentials.items)) }
-        ensures none { IfNone result (GoTogether self.window self.steep (weight_in self.weights.items) (number_or_zero self.excesses.items) flows.items (number_or_zero potentials.items) → ⊥) }
+        ensures together { IfSome result (λ grid. FlowsMayGoOn self.window self.steep (weight_in self.weights.items) (number_or_zero self.excesses.items) flows.items (number_or_zero potentials.items)) }
+        ensures none { IfNone result (FlowsMayGoOn self.window self.steep (weight_in self.weights.items) (number_or_zero self.excesses.items) flows.items (number_or_zero potentials.items) → ⊥) }
     {
         let most = greatest(&flows);
         let cells = outside(self.window);

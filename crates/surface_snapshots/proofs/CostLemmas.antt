@@ -1,6 +1,7 @@
 -- The costs of tiles and of seams, as one pass over the edges adds them up; what all tiles cost together is the sum over the inner edges.
-use Rattle.std.proofs.Common.{◌≡◌, ◌∙◌, ℕ, ◌+◌, ◌<◌, sym, subst, ap, refl, arith, Bool, true, false, inl, inr}
+use Rattle.std.proofs.Common.{◌≡◌, ◌∙◌, ℕ, ◌+◌, ◌<◌, sym, subst, ap, refl, arith, length, slice_index_or, take, List, ◌++◌, Bool, true, false, inl, inr}
 use Rattle.std.specs.Prelude.{ℤ, pos, ◌&&◌, ◌==◌, not, IsTrue, nat_lt}
+use Rattle.std.proofs.Math.Seq.{take-append_seam}
 use Rattle.std.proofs.lemmas.Int.{ints}
 use Rattle.std.proofs.lemmas.Bool.{and_parts}
 use Rattle.std.proofs.lemmas.Bool.Decides.{eqb_tells}
@@ -12,6 +13,7 @@ use Rattle.raster_model.specs.Masks.{open_at}
 use Rattle.raster_model.specs.Raster.{Raster, edge_cost, has_open_ends, inner_cost, seam_cost_from, seam_edge_cost, tile_cost}
 use Rattle.raster_model.proofs.MaskAgrees.{edge_ends}
 use Rattle.raster_model.proofs.SumLemmas.{sum_edges-below, sum_edges-same}
+use Rattle.surface_snapshots.specs.declared.counting.Costs.{Costs}
 use Rattle.surface_snapshots.specs.Parts.{tile_costs}
 use Rattle.surface_snapshots.specs.Loops.{AreOpenFrom, inner_cost_from, inner_edge_cost}
 use Rattle.sums_and_lists.proofs.Tests.{one_test, apart}
@@ -80,3 +82,9 @@ tile_costs_are r mask S numbered =
     ∙ sum_edges-same r.width r.height (λ e. sum_below r.tile_count (λ t. inner_cost r mask t S e)) (inner_edge_cost r mask S)
     (λ e i. (let l = edge_ends r.width r.height e i in
     in_one_tile r.tile_count (r.tile e.x e.y) (r.tile (end_x e) (end_y e)) (edge_cost r mask S e) (numbered e.x e.y l.0 l.1))))
+
+-- what is known of the costs that were left at a place of a list holds of those that are read there
+pub row_told : (P : Costs → Type 0) (list rest : List Costs) (n y : ℕ) (read left : Costs) → length list ≡ n → read ≡ slice_index_or (take n (list ++ rest)) y read → left ≡ slice_index_or list y read → P left → P read
+row_told P list rest n y read left size is there known =
+    let kept : take n (list ++ rest) ≡ list = subst (λ (m : ℕ). take m (list ++ rest) ≡ list) size (take-append_seam list rest) in
+    subst P (there ∙ sym (is ∙ ap (λ (l : List Costs). slice_index_or l y read) kept)) known

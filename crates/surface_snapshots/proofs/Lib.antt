@@ -4,6 +4,7 @@ mod CostLemmas
 mod FreeLemmas
 mod LevelLemmas
 mod RowLemmas
+mod StripLemmas
 mod PackingLemmas
 mod RunLemmas
 mod TiledLemmas

@@ -33,7 +33,7 @@ open_cycles : (clear : Bool) (z : ℤ) → IsTrue clear → cycles_or_none clear
 open_cycles clear z t = rw t refl
 
 module _ (s : ShiftedTiles) (x y : ℕ) where
-  level_there : IsTrue (open_under s x y) → level_at s x y ≡ cycles_under s x y
+  pub level_there : IsTrue (open_under s x y) → level_at s x y ≡ cycles_under s x y
   unfolding level_at
   level_there t = open_cycles (open_under s x y) (cycles_under s x y) t
 

@@ -9,7 +9,7 @@ use Rattle.seam_regions.specs.Regions.{region_label}
 use Rattle.seam_regions.specs.RegionsView.{RegionsView}
 use Rattle.surface_snapshots.specs.declared.counting.Costs.{Costs}
 use Rattle.surface_snapshots.specs.Parts.{AreGoodTiles}
-use Rattle.raster_model.specs.Raster.{Raster, departure, edge_cost, is_seam}
+use Rattle.raster_model.specs.Raster.{Raster, departure, edge_cost, is_seam, seam_cost_from}
 use Rattle.raster_model.specs.Sums.{Field, down_edge, edges_from, right_edge, sum_row}
 use Rattle.sums_and_lists.specs.Sums.{where_true}
 
@@ -23,6 +23,13 @@ inner_cost_from r mask S = edges_from r.width r.height (inner_edge_cost r mask S
 -- neither cost is more than n edges can add
 abbrev pub AreOfEdges : ℕ → Costs → Type 0
 AreOfEdges n costs = (costs.tiles ≤ 1048560 * (2 ^ 49 + 1) * n) × (costs.seams ≤ 1048560 * (2 ^ 49 + 1) * n)
+
+-- the costs are what the edges that start in row y add
+abbrev pub AreOfRow : Raster → Field Bool → Field ℤ → ℕ → Costs → Type 0
+AreOfRow r mask S y costs =
+    (pos costs.tiles ≡ sum_row r.width (inner_cost_from r mask S) y)
+    × (pos costs.seams ≡ sum_row r.width (seam_cost_from r mask S) y)
+    × AreOfEdges 8192 costs
 
 -- the pixels of row y and of the next one from column x to column z are open, as far as the raster goes
 abbrev pub AreOpenFrom : MaskView → ℕ → ℕ → ℕ → Type 0

@@ -1,5 +1,5 @@
 -- Words of helpers: a surface of shifted tiles as the definitions read it, and lists of its cycles. No clause of a public function cites them.
-use Rattle.std.specs.Prelude.{◌≡◌, ℕ, ◌+◌, ◌*◌, ◌<◌, ◌≤◌, ℤ, pos, neg_ℤ, Bool, IsTrue, List, length, slice_get, slice_index_or, Some, if◌then◌else◌}
+use Rattle.std.specs.Prelude.{◌≡◌, ℕ, ◌+◌, ◌-◌, ◌*◌, ◌%◌, ◌<◌, ◌≤◌, ℤ, pos, neg_ℤ, Bool, IsTrue, List, length, slice_get, slice_index_or, Some, if◌then◌else◌}
 use Rattle.raster_model.specs.MaskView.{MaskView}
 use Rattle.raster_model.specs.Masks.{open_at}
 use Rattle.raster_model.specs.Raster.{Raster}
@@ -44,6 +44,16 @@ level_at s x y = cycles_or_none (open_under s x y) (cycles_under s x y)
 
 abbrev pub level_in : Parts → Field ℤ
 level_in p x y = cycles_or_none (open_in p x y) (cycles_in_parts p x y)
+
+-- the n pixels from the place start on, in row order, are whole rows of the raster
+pub record IsStrip (s : ShiftedTiles) (start n : ℕ) : Type 0 where
+  pub from : start % s.scene.now.phase.width ≡ 0
+  pub rows : n % s.scene.now.phase.width ≡ 0
+  pub within : start + n ≤ s.scene.now.phase.height * s.scene.now.phase.width
+
+-- the list begins with what stands for the cycles of those pixels
+abbrev pub AreLevelsFrom : ShiftedTiles → ℕ → ℕ → List ℤ → Type 0
+AreLevelsFrom s start n list = (x y : ℕ) → x < s.scene.now.phase.width → start ≤ y * s.scene.now.phase.width + x → y * s.scene.now.phase.width + x < start + n → slice_index_or list (y * s.scene.now.phase.width + x - start) (pos 0) ≡ level_at s x y
 
 -- the pixels of row y from column x to before column z lie in one tile, which has this window, and have one label
 pub record IsSpan (s : ShiftedTiles) (w : Window) (x z y label : ℕ) : Type 0 where

@@ -7,8 +7,8 @@ ghost use Rattle.surface_snapshots.specs.Tiled.{mask_told, regions_in};
 ghost use Rattle.surface_snapshots.specs.Verdicts.{IsFault, IsPartsVerdict};
 
 use crate::counting::Costs;
+use crate::crew::Crew;
 use crate::fault::BuildFault;
-use crate::levels::Levels;
 use crate::shifted::ShiftedTiles;
 use crate::tiled::TiledRegions;
 use certificates::{SeamResult, SeamVerdict, TileSet};
@@ -25,7 +25,8 @@ pub(crate) struct Certified {
 
 /// The regions, tile by tile, and the costs of the surface that is put together from these parts, if it is certified, and
 /// otherwise the first break or lack of memory.
-pub(crate) fn certified_costs(
+pub(crate) fn certified_costs<C: Crew>(
+    crew: &C,
     alloc: Global,
     session: &Session,
     mask: &Mask,
@@ -33,6 +34,7 @@ pub(crate) fn certified_costs(
     tiles: &TileSet,
     seams: &SeamResult,
 ) -> Result<Certified, BuildFault>
+    requires crew { C.ready crew.now }
     requires across { mask.now.width ≡ session.now.scene.phase.width }
     requires along { mask.now.height ≡ session.now.scene.phase.height }
     requires tiling { tiles.now.tiling ≡ session.now.scene.tiling }
@@ -60,9 +62,9 @@ pub(crate) fn certified_costs(
             tiles,
             offsets: &seams.offsets,
         };
-        let levels = Levels::of(alloc, surface)?;
+        let levels = crew.levels(alloc, surface)?;
         match levels.judge(alloc, mask, regions, &seams.flows)? {
-            SeamVerdict::Good => Costs::of(&session.scene, mask, &levels),
+            SeamVerdict::Good => crew.costs(alloc, mask, &levels)?,
             verdict => return Err(BuildFault::Uncertified(verdict)),
         }
     };

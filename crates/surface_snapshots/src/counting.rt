@@ -3,14 +3,17 @@ ghost use Rattle.raster_model.specs.Masks.{open_at};
 ghost use Rattle.raster_model.specs.Raster.{has_open_ends, is_seam, lifted, seam_cost as seam_cost_of, seam_cost_from, seam_edge_cost};
 ghost use Rattle.raster_model.specs.Scene.{raster_of};
 ghost use Rattle.raster_model.specs.Sums.{down_edge, is_edge, right_edge, sum_row};
-ghost use Rattle.std.specs.Prelude.{◌≡◌, ◌==◌, ◌+◌, ◌-◌, ◌*◌, ◌%◌, ◌<◌, ◌≤◌, ◌^◌, IsTrue, if◌then◌else◌, nat_lt, pos};
+ghost use Rattle.std.specs.Prelude.{◌≡◌, ◌==◌, ◌+◌, ◌-◌, ◌*◌, ◌%◌, ◌<◌, ◌≤◌, ◌^◌, IfOk, IsTrue, if◌then◌else◌, nat_lt, pos};
 ghost use Rattle.sums_and_lists.specs.Sums.{where_true};
-ghost use Rattle.surface_snapshots.specs.Loops.{AddUpTo, AreOfEdges, AreOpenFrom, FollowsDown, FollowsRight, KnowsFrom, inner_cost_from, inner_edge_cost};
+ghost use Rattle.surface_snapshots.specs.Loops.{AddUpTo, AreOfEdges, AreOfRow, AreOpenFrom, FollowsDown, FollowsRight, KnowsFrom, inner_cost_from, inner_edge_cost};
 ghost use Rattle.surface_snapshots.specs.Parts.{tile_costs};
 
 use certificates::edge_cost;
 use raster_model::{Edge, Heights, Mask, Scene, departure};
 use seam_regions::next_left;
+use std::alloc::{AllocError, Global};
+use std::thread;
+use std::thread::Threads;
 
 /// What a surface costs.
 #[derive(Clone, Copy)]
@@ -40,6 +43,42 @@ impl Costs {
             costs = costs.plus(row_costs(scene, mask, heights, y));
         }
         costs
+    }
+
+    /// The same, counted by several threads, of which each has a strip of rows. It fails only for lack of memory.
+    pub(crate) fn side_by_side<R: Threads + Sync, H: Heights + Sync>(
+        rt: &R,
+        threads: u32,
+        alloc: Global,
+        scene: &Scene,
+        mask: &Mask,
+        heights: &H,
+    ) -> Result<Costs, AllocError>
+        requires some { 0 < threads }
+        requires same_size { (mask.now.width ≡ scene.now.phase.width) × (mask.now.height ≡ scene.now.phase.height) }
+        requires known { KnowsOpen (raster_of scene.now) (open_at mask.now) (H.knows heights.now) }
+        ensures tiles { IfOk result (λ costs. pos costs.tiles ≡ tile_costs (raster_of scene.now) (open_at mask.now) (lifted (raster_of scene.now) (H.cycles_at heights.now))) }
+        ensures seams { IfOk result (λ costs. pos costs.seams ≡ seam_cost_of (raster_of scene.now) (open_at mask.now) (lifted (raster_of scene.now) (H.cycles_at heights.now))) }
+    {
+        let mut rows = vec![in alloc; NO_COSTS; scene.phase.height as usize]?;
+        thread::for_each_mut(
+            rt,
+            &mut rows,
+            threads as usize,
+            &|y: usize, costs: &mut Costs|
+                requires row { y < scene.now.phase.height }
+                requires same_size { (mask.now.width ≡ scene.now.phase.width) × (mask.now.height ≡ scene.now.phase.height) }
+                requires known { KnowsOpen (raster_of scene.now) (open_at mask.now) (H.knows heights.now) }
+                ensures { AreOfRow (raster_of scene.entry.now) (open_at mask.entry.now) (lifted (raster_of scene.entry.now) (H.cycles_at heights.entry.now)) y costs.exit.now }
+            {
+                *costs = row_costs(scene, mask, heights, y as u32);
+            },
+        );
+        let mut costs = NO_COSTS;
+        for y in 0..scene.phase.height {
+            costs = costs.plus(rows[y as usize]);
+        }
+        Ok(costs)
     }
 
     /// The costs of both.

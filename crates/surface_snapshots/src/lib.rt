@@ -5,6 +5,7 @@
 
 mod costs;
 mod counting;
+mod crew;
 mod fault;
 mod finding;
 mod flows;

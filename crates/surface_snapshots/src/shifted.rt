@@ -27,11 +27,11 @@ pub(crate) struct ShiftedTiles<'a> {
 }
 
 impl ShiftedTiles<'_> {
-    ghost use Rattle.std.specs.Prelude.{ℕ, ◌+◌, ◌-◌, ◌≤◌, ◌^◌, ◌+ℤ◌, IsTrue, pos, slice_index_or, unsigned_abs};
+    ghost use Rattle.std.specs.Prelude.{ℕ, ◌+◌, ◌-◌, ◌*◌, ◌≤◌, ◌^◌, ◌+ℤ◌, IsTrue, pos, slice_index_or, unsigned_abs};
     ghost use Rattle.certificates.specs.TileSets.{solved_cycles};
     ghost use Rattle.seam_regions.specs.Regions.{offset_at};
     ghost use Rattle.surface_snapshots.specs.Parts.{BeginsWithRow, is_open_pixel, shifted_cycles};
-    ghost use Rattle.surface_snapshots.specs.Shifted.{HasCycles, IsSpan, level_at, no_cycles, open_under};
+    ghost use Rattle.surface_snapshots.specs.Shifted.{AreLevelsFrom, HasCycles, IsSpan, IsStrip, level_at, no_cycles, open_under};
 
     /// The cycles above the phase at an open pixel.
     pub(crate) fn at(&self, x: u32, y: u32) -> i64
@@ -78,6 +78,20 @@ impl ShiftedTiles<'_> {
             let window = window_at(&self.scene.tiling, x, y);
             self.fill_piece(tile, window, x, y, row);
             x = window.x1 + 1;
+        }
+    }
+
+    /// Puts the cycles of whole rows into `part` in the same way, as many rows as it has room for. `start` is the place of
+    /// the first pixel in row order.
+    pub(crate) fn fill_strip(&self, start: usize, part: &mut [i64])
+        requires strip { IsStrip self.now start (length part.old) }
+        ensures same { length part.new ≡ length part.old }
+        ensures filled { AreLevelsFrom self.now start (length part.old) part.new }
+    {
+        let width = self.scene.phase.width as usize;
+        let first = start / width;
+        for row in 0..part.len() / width {
+            self.fill_row((first + row) as u32, &mut part[row * width..]);
         }
     }
 

@@ -4,6 +4,7 @@ ghost use Rattle.std.specs.Prelude.{◌≡◌, ◌<◌, ◌≤◌, ◌+◌, ◌^
 ghost use Rattle.surface_snapshots.specs.Parts.{HaveCosts, IsPublished, parts_from};
 ghost use Rattle.surface_snapshots.specs.Surfaces.{parts_in};
 
+use crate::crew::{OneThread, SideBySide};
 use crate::fault::BuildFault;
 use crate::shifted::{NO_CYCLES, ShiftedTiles};
 use crate::surface::Surface;
@@ -12,6 +13,7 @@ use raster_model::{Heights, Mask, Session};
 use seam_regions::Regions;
 use std::alloc::{AllocError, Global};
 use std::sync::Arc;
+use std::thread::Threads;
 
 /// The value that lies this many whole cycles above a phase, in units of 1/65536 cycle.
 fn level(sample: u16, cycles: i64) -> i64
@@ -20,6 +22,14 @@ fn level(sample: u16, cycles: i64) -> i64
     ensures small { unsigned_abs result < 2 ^ 63 }
 {
     i64::from(sample) + 65536 * cycles
+}
+
+/// What a snapshot has, if there is one.
+fn surface_of(snapshot: Option<&Snapshot>) -> Option<&Surface> {
+    match snapshot {
+        Some(snapshot) => Some(&*snapshot.surface),
+        None => None,
+    }
 }
 
 /// A published surface: the surface of a revision of the mask, with the numbers that certify it.
@@ -114,11 +124,55 @@ impl Snapshot {
         ensures best { IfOk result (λ made. IsBest (raster_in (parts_of made)) (open_in (parts_of made)) (surface_in (parts_of made))) }
         ensures refused { IfErr result (IsFault (parts_from (arc_value session) mask regions tiles seams)) }
     {
-        let beside = match earlier {
-            Some(snapshot) => Some(&*snapshot.surface),
-            None => None,
-        };
-        let surface = Surface::build(alloc, beside, session, mask, regions, tiles, seams)?;
+        let surface = Surface::build(
+            &OneThread,
+            alloc,
+            surface_of(earlier),
+            session,
+            mask,
+            regions,
+            tiles,
+            seams,
+        )?;
+        Ok(Snapshot::of(alloc, surface)?)
+    }
+
+    /// Builds as `build_beside` does: at most `threads` threads find the cycles and count the costs side by side, each of
+    /// a strip of rows.
+    pub fn build_side_by_side<R: Threads + Sync>(
+        rt: &R,
+        threads: u32,
+        alloc: Global,
+        earlier: Option<&Snapshot>,
+        session: Arc<Session>,
+        mask: Mask,
+        regions: Regions,
+        tiles: TileSet,
+        seams: SeamResult,
+    ) -> Result<Snapshot, BuildFault>
+        requires across { mask.width ≡ (arc_value session).scene.phase.width }
+        requires along { mask.height ≡ (arc_value session).scene.phase.height }
+        requires tiling { tiles.tiling ≡ (arc_value session).scene.tiling }
+        requires tiles { AreGoodTiles (arc_value session).scene (open_at mask) tiles.results }
+        requires regions { AreRegionsOf (arc_value session).scene.tiling mask regions }
+        ensures parts { IfOk result (λ made. parts_of made ≡ parts_from (arc_value session) mask regions tiles seams) }
+        ensures certified { IfOk result (λ made. IsPartsVerdict (parts_of made) Good) }
+        ensures anchored { IfOk result (λ made. IsAnchored (raster_in (parts_of made)) (open_in (parts_of made)) (surface_in (parts_of made))) }
+        ensures best { IfOk result (λ made. IsBest (raster_in (parts_of made)) (open_in (parts_of made)) (surface_in (parts_of made))) }
+        ensures refused { IfErr result (IsFault (parts_from (arc_value session) mask regions tiles seams)) }
+    {
+        let pixels = mask.width() * mask.height();
+        let crew = SideBySide::new(rt, threads, pixels);
+        let surface = Surface::build(
+            &crew,
+            alloc,
+            surface_of(earlier),
+            session,
+            mask,
+            regions,
+            tiles,
+            seams,
+        )?;
         Ok(Snapshot::of(alloc, surface)?)
     }
 

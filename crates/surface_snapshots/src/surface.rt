@@ -8,6 +8,7 @@ ghost use Rattle.surface_snapshots.specs.Parts.{HaveCosts, IsPublished};
 ghost use Rattle.surface_snapshots.specs.Tiled.{mask_told, regions_in};
 
 use crate::costs::certified_costs;
+use crate::crew::Crew;
 use crate::fault::BuildFault;
 use crate::flows::{shared_flows, to_share};
 use crate::tiled::TiledRegions;
@@ -45,8 +46,10 @@ impl Surface {
     ghost use Rattle.surface_snapshots.specs.Surfaces.{parts_in};
     ghost use Rattle.surface_snapshots.specs.Verdicts.{IsFault, IsPartsVerdict};
 
-    /// The surface that is put together from these parts, if it is certified, beside an earlier one.
-    pub(crate) fn build(
+    /// The surface that is put together from these parts, if it is certified, beside an earlier one. A crew finds its
+    /// cycles and counts its costs.
+    pub(crate) fn build<C: Crew>(
+        crew: &C,
         alloc: Global,
         earlier: Option<&Surface>,
         session: Arc<Session>,
@@ -55,6 +58,7 @@ impl Surface {
         tiles: TileSet,
         seams: SeamResult,
     ) -> Result<Surface, BuildFault>
+        requires crew { C.ready crew.now }
         requires across { mask.width ≡ (arc_value session).scene.phase.width }
         requires along { mask.height ≡ (arc_value session).scene.phase.height }
         requires tiling { tiles.tiling ≡ (arc_value session).scene.tiling }
@@ -64,7 +68,7 @@ impl Surface {
         ensures certified { IfOk result (λ made. IsPartsVerdict (parts_in made) Good) }
         ensures refused { IfErr result (IsFault (parts_from (arc_value session) mask regions tiles seams)) }
     {
-        let certified = certified_costs(alloc, &session, &mask, &regions, &tiles, &seams)?;
+        let certified = certified_costs(crew, alloc, &session, &mask, &regions, &tiles, &seams)?;
         let costs = certified.costs;
         let flows = flows_beside(alloc, earlier, seams.flows)?;
         Ok(Surface {

@@ -12,7 +12,7 @@ use Rattle.surface_snapshots.proofs.VerdictLemmas.{judged}
 use Rattle.surface_snapshots.proofs.costs.certified_costs.Goals as goal
 
 pub invariant_of-surface : goal.invariant_of-surface
-invariant_of-surface c =
+invariant_of-surface g c =
     let same = c.in_ok-tiled.ensures.regions in
     record {
       tiling = c.requires.tiling;
@@ -26,7 +26,7 @@ invariant_of-surface c =
     }
 
 pub returns-in_default-2 : goal.returns-in_default-2
-returns-in_default-2 c =
+returns-in_default-2 g c =
     let s = c.args.session.now.scene in
     let v = c.args.regions.now in
     let p = parts_from c.args.session.now c.args.mask.now v c.args.tiles.now c.args.seams.now in
@@ -47,7 +47,7 @@ returns-in_default-2 c =
     }
 
 pub returns-clause-certified : goal.returns-clause-certified
-returns-clause-certified c =
+returns-clause-certified g c =
     let s = c.args.session.now.scene in
     let v = c.args.regions.now in
     let p = parts_from c.args.session.now c.args.mask.now v c.args.tiles.now c.args.seams.now in

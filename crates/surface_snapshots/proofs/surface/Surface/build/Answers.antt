@@ -12,7 +12,7 @@ use Rattle.surface_snapshots.proofs.ShiftedLemmas.{go_together}
 use Rattle.surface_snapshots.proofs.surface.Surface.build.Goals as goal
 
 pub invariant_of-result : goal.invariant_of-result
-invariant_of-result c =
+invariant_of-result g c =
     let p = parts_from (arc_value c.args.session) c.args.mask c.args.regions c.args.tiles c.args.seams in
     let e = c.in_ok-certified.ensures in
     let regions : regions_in c.regions_beside.result ≡ c.args.regions = c.regions_beside.ensures.regions ∙ e.regions in
@@ -29,9 +29,9 @@ invariant_of-result c =
     }
 
 pub returns-clause-parts : goal.returns-clause-parts
-returns-clause-parts c =
+returns-clause-parts g c =
     parts_told (arc_value c.args.session) c.args.mask c.args.regions (regions_in c.regions_beside.result) c.args.tiles c.args.seams (arc_value c.in_ok-flows.flows).items c.in_ok-certified.ensures.mask (c.regions_beside.ensures.regions ∙ c.in_ok-certified.ensures.regions) c.in_ok-flows.ensures
 
 pub returns-clause-certified : goal.returns-clause-certified
-returns-clause-certified c =
-    subst (λ (q : Parts). IsPartsVerdict q Good) (sym (returns-clause-parts c)) (rw c.deref.ensures at c.in_ok-certified.ensures.certified)
+returns-clause-certified g c =
+    subst (λ (q : Parts). IsPartsVerdict q Good) (sym (returns-clause-parts g c)) (rw c.deref.ensures at c.in_ok-certified.ensures.certified)

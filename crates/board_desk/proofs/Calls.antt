@@ -21,14 +21,15 @@ use Rattle.tile_board.specs.declared.answers.PublishFault.{PublishFault}
 use Rattle.tile_board.specs.declared.entry.Entry.{Entry}
 use Rattle.tile_board.specs.declared.entry.Entry.TheVariants.{Kept, Published, Revised, Settled, Shown}
 use Rattle.tile_board.specs.declared.gathered.Gathered.{Gathered}
+use Rattle.tile_board.specs.declared.gathered.PresentMask.{PresentMask}
 use Rattle.tile_board.specs.declared.ticket.Ticket.{Ticket}
 use Rattle.tile_board.specs.BoardView.{BoardView}
 use Rattle.tile_board.specs.Boards.{IsBoard}
-use Rattle.tile_board.specs.Calls.{AddsEntry, HasAdvanceFault, HasClaimFault, HasGatherFault, HasKeepFault, HasPublishFault, IsAdvance, IsClaim, IsGathering, IsKeep, IsPublication, AreClaims}
+use Rattle.tile_board.specs.Calls.{AddsEntry, HasAdvanceFault, HasClaimFault, HasGatherFault, HasKeepFault, HasPublishFault, IsAdvance, IsClaim, IsGathering, IsKeep, IsPresentMask, IsPublication, AreClaims, WasMaskAt}
 use Rattle.tile_board.specs.Surfaces.{IsNewestIn, last_surface}
 use Rattle.tile_board.proofs.NewestSurface.{newest_in}
 use Rattle.board_desk.specs.declared.law.View.{View}
-use Rattle.board_desk.specs.Answers.{AdvanceAnswers, ClaimAnswers, GatherAnswers, KeepAnswers, NewestAnswers, PublishAnswers, ShareAnswers}
+use Rattle.board_desk.specs.Answers.{AdvanceAnswers, ClaimAnswers, GatherAnswers, IsMaskThere, KeepAnswers, NewestAnswers, PublishAnswers, ShareAnswers}
 use Rattle.board_desk.specs.Mine.{mine_of}
 use Rattle.board_desk.specs.Passes.{Called, PassView}
 use Rattle.board_desk.specs.Rules.{Grown, Grows, Held, Place, given, holding_it}
@@ -168,3 +169,13 @@ newest_after v n k b s answer of held back board told =
     let here : b.session ≡ s = sym (held.session_is s of) in
     let seen : k.0.own.seen ≡ b.entries = seen_after v n k b b held back in
     IfOk-weaker answer (λ o. option_map parts_of o ≡ last_surface b) (IsNewestIn s k.0.own.seen) (λ o e. subst (λ (x : Session × List Entry). IsNewestIn x.0 x.1 o) (λ i. (here i, sym seen i)) (newest_in b board o e)) told.0
+
+-- the mask of the board that was found, in the history that the pass has then seen
+pub mask_after : {E : Type 0} (v : View) (n k : Place) (b : BoardView) (s : Session) (answer : Result PresentMask E) → v.session ≡ Some s → Held v b n → k ≡ (given n.0 b.entries, []) → IfOk answer (IsPresentMask b) → IfOk answer (IsMaskThere s k.0.own.seen)
+mask_after v n k b s answer of held back told =
+    let here : b.session ≡ s = sym (held.session_is s of) in
+    let seen : k.0.own.seen ≡ b.entries = seen_after v n k b b held back in
+    IfOk-weaker answer (IsPresentMask b) (IsMaskThere s k.0.own.seen) (λ p is. record {
+      session = is.session ∙ here;
+      mask = subst (λ (x : Session × List Entry). WasMaskAt x.0 x.1 p.mask p.revision) (λ i. (here i, sym seen i)) (record { revision = sym is.revision; present = is.mask });
+    }) told

@@ -1,5 +1,6 @@
 -- What the desk answers: what the board that stood there answers, and the board that this leaves.
 use Rattle.std.specs.Prelude.{◌≡◌, ℕ, Bool, true, false, List, [], ◌∷◌, Option, Some, Result, Ok, Err, is_err, option_map, ⊤}
+use Rattle.std.specs.Arc.{arc_value}
 use Rattle.std.specs.Global.{Vec}
 use Rattle.std.specs.List.{list_any}
 use Rattle.std.specs.Option.{IfSome}
@@ -19,10 +20,12 @@ use Rattle.tile_board.specs.declared.answers.KeepFault.{KeepFault}
 use Rattle.tile_board.specs.declared.answers.KeepFault.TheVariants as keep_faults
 use Rattle.tile_board.specs.declared.answers.PublishFault.{PublishFault}
 use Rattle.tile_board.specs.declared.entry.Entry.TheVariants.{Published, Revised, Settled, Shown}
+use Rattle.tile_board.specs.declared.entry.Entry.{Entry}
 use Rattle.tile_board.specs.declared.gathered.Gathered.{Gathered}
+use Rattle.tile_board.specs.declared.gathered.PresentMask.{PresentMask}
 use Rattle.tile_board.specs.declared.ticket.Ticket.{Ticket}
 use Rattle.tile_board.specs.BoardView.{BoardView}
-use Rattle.tile_board.specs.Calls.{AreClaims, HasAdvanceFault, HasClaimFault, HasGatherFault, HasKeepFault, HasPublishFault, IsAdvance, IsClaim, IsGathering, IsKeep, IsPublication}
+use Rattle.tile_board.specs.Calls.{AreClaims, HasAdvanceFault, HasClaimFault, HasGatherFault, HasKeepFault, HasPublishFault, IsAdvance, IsClaim, IsGathering, IsKeep, IsPresentMask, IsPublication, WasMaskAt}
 use Rattle.tile_board.specs.Histories.{newest_of, now_of}
 use Rattle.tile_board.specs.Runs.{IsNoLater}
 use Rattle.tile_board.specs.Surfaces.{last_surface}
@@ -61,6 +64,14 @@ pub record KeepAllAnswers {U E : Type 0} (solved : List TileResult) (answer : Re
 
 abbrev pub GatherAnswers : Result Gathered GatherFault → BoardView → BoardView → Type 0
 GatherAnswers answer old new = MatchResult answer (IsGathering old) (HasGatherFault old) × (new ≡ old)
+
+abbrev pub MaskAnswers : {E : Type 0} → Result PresentMask E → BoardView → BoardView → Type 0
+MaskAnswers answer old new = IfOk answer (IsPresentMask old) × (new ≡ old)
+
+-- it is the mask at the end of a history
+pub record IsMaskThere (s : Session) (H : List Entry) (p : PresentMask) : Type 0 where
+  pub session : arc_value p.session ≡ s
+  pub mask : WasMaskAt s H p.mask p.revision
 
 abbrev pub NewestAnswers : {E : Type 0} → Result (Option Snapshot) E → BoardView → BoardView → Type 0
 NewestAnswers answer old new = IfOk answer (λ newest. option_map parts_of newest ≡ last_surface old) × (new ≡ old)

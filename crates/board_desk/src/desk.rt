@@ -17,10 +17,11 @@ use std::alloc::{AllocError, Global};
 use std::marker::Model;
 use std::snapshot::Snapshot;
 use std::sync::Wait;
+use std::thread::Threads;
 use surface_snapshots::Snapshot as Surface;
 use tile_board::{
-    Advance, AdvanceFault, Board, ClaimFault, GatherFault, Gathered, KeepFault, PublishFault,
-    Ticket,
+    Advance, AdvanceFault, Board, ClaimFault, GatherFault, Gathered, KeepFault, PresentMask,
+    PublishFault, Ticket,
 };
 
 /// A session's board under a lock. Only one call has the board at a time, and calls are served in the order in which
@@ -42,7 +43,7 @@ impl Model for Desk {
 }
 
 impl Desk {
-    ghost use Rattle.board_desk.specs.Answers.{AdvanceAnswers, AwaitsSurface, ClaimAnswers, GatherAnswers, IsCurrent, IsOfSettle, IsUpToDate, KeepAllAnswers, KeepAnswers, NewestAnswers, OwnAdvance, OwnPublish, PublishAnswers, ShareAnswers, tells_end};
+    ghost use Rattle.board_desk.specs.Answers.{AdvanceAnswers, AwaitsSurface, ClaimAnswers, GatherAnswers, IsCurrent, IsMaskThere, IsOfSettle, IsUpToDate, KeepAllAnswers, KeepAnswers, MaskAnswers, NewestAnswers, OwnAdvance, OwnPublish, PublishAnswers, ShareAnswers, tells_end};
     ghost use Rattle.board_desk.specs.Passes.{Called, HasNotMoved, HaveAnalysts, IsAtSettle, IsPassOf, Merged, Stands, first_passes as passes_to, worker_pass as new_worker};
     ghost use Rattle.seam_regions.specs.Regions.{AreRegionsOf};
     ghost use Rattle.std.specs.Prelude.{◌≡◌, ◌≢◌, ◌||◌, [], All, Err, IfOk, None, OnOk, length, vec_len};
@@ -248,6 +249,29 @@ impl Desk {
         }
     }
 
+    /// Asks for a copy of the present revision's mask, as `Board::present_mask` gives it.
+    pub fn present_mask<R: Wait>(
+        &self,
+        rt: &R,
+        alloc: Global,
+        pass: &mut Pass,
+    ) -> Stamped<Result<PresentMask, AllocError>>
+        requires { IsPassOf self.now pass.old }
+        ensures call { Called self.now.session pass.old pass.new (MaskAnswers result.answer) }
+        ensures there { IfOk result.answer (IsMaskThere self.now.session pass.new.seen) }
+        ensures own { HasNotMoved pass.old pass.new }
+        ensures front { result.front ≡ length pass.new.seen }
+    {
+        let board = take_board(rt, &self.table.shared, &mut pass.seat);
+        let answer = board.present_mask(alloc);
+        pass.heard = Heard::of(&board, pass.analyst);
+        give_board(&self.table.shared, &mut pass.seat, board);
+        Stamped {
+            front: pass.heard.front,
+            answer,
+        }
+    }
+
     /// Asks for the last published surface, as `Board::newest_surface` gives it: None exactly if nothing is published. Its
     /// revision may be older than the present one.
     pub fn newest<R: Wait>(
@@ -301,9 +325,10 @@ impl Desk {
 
     /// Publishes a surface for the pass's analyst, as `Board::publish_over` does: over the mask at the end of what the pass
     /// has seen, and over its regions.
-    pub fn publish_over<R: Wait>(
+    pub fn publish_over<R: Threads + Wait + Sync>(
         &self,
         rt: &R,
+        threads: u32,
         alloc: Global,
         pass: &mut Pass,
         mask: Mask,
@@ -323,7 +348,7 @@ impl Desk {
     {
         let analyst = number(pass);
         let mut board = take_board(rt, &self.table.shared, &mut pass.seat);
-        let answer = board.publish_over(alloc, analyst, mask, regions, seams);
+        let answer = board.publish_over(rt, threads, alloc, analyst, mask, regions, seams);
         pass.heard = Heard::of(&board, pass.analyst);
         give_board(&self.table.shared, &mut pass.seat, board);
         Stamped {

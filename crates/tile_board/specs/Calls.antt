@@ -36,6 +36,7 @@ use Rattle.tile_board.specs.declared.answers.PublishFault.TheVariants as publish
 use Rattle.tile_board.specs.declared.entry.Entry.{Entry}
 use Rattle.tile_board.specs.declared.entry.Entry.TheVariants.{Revised, Kept, Published, Settled, Shown}
 use Rattle.tile_board.specs.declared.gathered.Gathered.{Gathered}
+use Rattle.tile_board.specs.declared.gathered.PresentMask.{PresentMask}
 use Rattle.tile_board.specs.declared.ticket.Ticket.{Ticket}
 use Rattle.tile_board.specs.BoardView.{BoardView}
 use Rattle.tile_board.specs.Histories.{AreAllKept, IsLeastLacking, IsStep, is_kept, names, newest_of, next_command, now_of, present_mask, published_of, stamp_in}
@@ -135,6 +136,12 @@ pub record IsGathering (v : BoardView) (g : Gathered) : Type 0 where
   pub revision : g.revision ≡ now_of v.entries
   pub mask : IsMaskNow v g.mask
   pub tiles : AreKeptResults v g.tiles
+
+-- it is the present mask, of the present revision
+pub record IsPresentMask (v : BoardView) (p : PresentMask) : Type 0 where
+  pub session : arc_value p.session ≡ v.session
+  pub revision : p.revision ≡ now_of v.entries
+  pub mask : IsMaskNow v p.mask
 
 abbrev pub HasGatherFault : BoardView → GatherFault → Type 0
 HasGatherFault v (gather_faults.Unready t) = IsLeastLacking v.session v.entries t

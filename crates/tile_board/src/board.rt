@@ -4,7 +4,7 @@ ghost use Rattle.tile_board.specs.Calls.{share_size};
 use crate::answers::{Advance, AdvanceFault, ClaimFault, GatherFault, KeepFault, PublishFault};
 use crate::cursors::{all_ended, command_at, cursor_of};
 use crate::entry::Entry;
-use crate::gathered::Gathered;
+use crate::gathered::{Gathered, PresentMask};
 use crate::kept::{KeptResults, share};
 use crate::lacking::LackingTiles;
 use crate::places::push_within;
@@ -16,6 +16,7 @@ use seam_regions::Regions;
 use std::alloc::{AllocError, Global};
 use std::marker::Model;
 use std::sync::Arc;
+use std::thread::Threads;
 use surface_snapshots::Snapshot;
 
 /// The state of a session's work: its history, the present mask, the kept results and the published surfaces.
@@ -74,6 +75,7 @@ impl Board {
       IsKeep,
       IsMaskNow,
       IsNew,
+      IsPresentMask,
       IsPublication,
       MayKeep,
       MaySettle,
@@ -200,6 +202,20 @@ impl Board {
         })
     }
 
+    /// A copy of the present revision's mask. It is refused only for lack of memory.
+    pub fn present_mask(&self, alloc: Global) -> Result<PresentMask, AllocError>
+        ensures { IfOk result (IsPresentMask self.now) }
+    {
+        let session = self.session.clone()?;
+        let revisions = &self.revisions;
+        let mask = revisions.mask_copy(alloc)?;
+        Ok(PresentMask {
+            session,
+            revision: revisions.count(),
+            mask,
+        })
+    }
+
     /// Does an analyst's settle command: publishes the surface that the kept results and `seams` make under the present
     /// mask. It adds an entry and the surface. A refusal changes nothing.
     pub fn publish(
@@ -219,9 +235,12 @@ impl Board {
     }
 
     /// Publishes as `publish` does, over a mask and its regions that are given: the mask of the revision that `seams` are
-    /// for, from this or an earlier point of the history. If that is still the present revision, it is the present mask.
-    pub fn publish_over(
+    /// for, from this or an earlier point of the history. If that is still the present revision, it is the present mask. At
+    /// most `threads` threads find the surface's cycles and count its costs.
+    pub fn publish_over<R: Threads + Sync>(
         &mut self,
+        rt: &R,
+        threads: u32,
         alloc: Global,
         analyst: u32,
         mask: Mask,
@@ -236,7 +255,7 @@ impl Board {
     {
         self.may_publish(analyst, &seams)?;
         let revision = seams.revision;
-        let snapshot = self.surface_over(alloc, mask, regions, seams)?;
+        let snapshot = self.surface_over(rt, threads, alloc, mask, regions, seams)?;
         self.add_surface(analyst, revision, snapshot)
     }
 
@@ -430,8 +449,10 @@ impl Board {
     }
 
     /// The surface that the kept results and `seams` make over the present mask and its regions, if it is certified.
-    fn surface_over(
+    fn surface_over<R: Threads + Sync>(
         &self,
+        rt: &R,
+        threads: u32,
         alloc: Global,
         mask: Mask,
         regions: Regions,
@@ -446,7 +467,7 @@ impl Board {
         ensures refused { IfErr result (HasSurfaceFault self.now seams) }
     {
         let tiles = self.results(alloc)?;
-        self.build(alloc, mask, regions, tiles, seams)
+        self.build_side_by_side(rt, threads, alloc, mask, regions, tiles, seams)
     }
 
     /// The surface that all kept results and `seams` make over the present mask and its regions, if it is certified.
@@ -470,6 +491,33 @@ impl Board {
         let session = self.session.clone()?;
         let earlier = self.snapshots.last();
         Ok(Snapshot::build_beside(alloc, earlier, session, mask, regions, tiles, seams)?)
+    }
+
+    /// The same, made by several threads.
+    fn build_side_by_side<R: Threads + Sync>(
+        &self,
+        rt: &R,
+        threads: u32,
+        alloc: Global,
+        mask: Mask,
+        regions: Regions,
+        tiles: TileSet,
+        seams: SeamResult,
+    ) -> Result<Snapshot, PublishFault>
+        requires present { seams.revision ≡ now_of self.now.entries }
+        requires ready { AreAllKept self.now.session self.now.entries }
+        requires mask { IsMaskNow self.now mask }
+        requires regions { AreRegionsOf self.now.session.scene.tiling mask regions }
+        requires tiles { AreKeptResults self.now tiles }
+        ensures parts { IfOk result (λ made. ArePublishable self.now seams (parts_of made)) }
+        ensures surface { IfOk result (λ made. IsSurfaceOf self.now.session self.now.entries (parts_of made)) }
+        ensures refused { IfErr result (HasSurfaceFault self.now seams) }
+    {
+        let session = self.session.clone()?;
+        let earlier = self.snapshots.last();
+        Ok(Snapshot::build_side_by_side(
+            rt, threads, alloc, earlier, session, mask, regions, tiles, seams,
+        )?)
     }
 
     /// Adds a surface that may be published, and its entry. It fails only for lack of memory.

@@ -19,3 +19,13 @@ pub struct Gathered {
     pub ghost tiling: { tiles.tiling ≡ (arc_value session).scene.tiling },
     pub ghost good: { AreGoodTiles (arc_value session).scene (open_at mask) tiles.results },
 }
+
+/// A revision's mask.
+#[derive(Drop)]
+pub struct PresentMask {
+    pub session: Arc<Session>,
+    pub revision: u32,
+    pub mask: Mask,
+    pub ghost across: { mask.width ≡ (arc_value session).scene.phase.width },
+    pub ghost along: { mask.height ≡ (arc_value session).scene.phase.height },
+}

@@ -18,6 +18,6 @@ pub use crate::answers::{Advance, AdvanceFault, ClaimFault, GatherFault, KeepFau
 pub use crate::board::Board;
 pub use crate::cursors::{all_ended, command_at, cursor_of};
 pub use crate::entry::Entry;
-pub use crate::gathered::Gathered;
+pub use crate::gathered::{Gathered, PresentMask};
 pub use crate::places::set_all;
 pub use crate::ticket::Ticket;

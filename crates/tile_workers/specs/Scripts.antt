@@ -1,12 +1,18 @@
 -- What passes are after the work of scripts.
-use Rattle.std.specs.Prelude.{◌≡◌, ◌⊎◌, ◌<◌, ℕ, List, Option, Some, None, true, All, length, slice_index_or}
+use Rattle.std.specs.Prelude.{◌≡◌, ◌⊎◌, ◌<◌, ℕ, Bool, List, Option, Some, None, true, All, length, slice_index_or}
 use Rattle.std.specs.Arc.{arc_value}
 use Rattle.raster_model.specs.declared.session.Session.{Session}
+use mathlib.Core.List.{IsPrefix}
+use Rattle.raster_model.specs.Masks.{IsMaskOf}
+use Rattle.seam_regions.specs.Regions.{AreRegionsOf}
+use Rattle.raster_model.specs.Sums.{Field}
+use Rattle.tile_board.specs.declared.entry.Entry.{Entry}
 use Rattle.tile_board.specs.declared.entry.Entry.TheVariants.{Published, Settled}
 use Rattle.tile_board.specs.declared.gathered.Gathered.{Gathered}
 use Rattle.tile_board.specs.declared.ticket.Ticket.{Ticket}
 use Rattle.tile_board.specs.BoardView.{BoardView}
 use Rattle.tile_board.specs.Calls.{IsClaim, WasMaskAt}
+use Rattle.tile_workers.specs.declared.early.EarlyRegions.{EarlyRegions}
 use Rattle.board_desk.specs.Mine.{mine_of}
 use Rattle.board_desk.specs.Passes.{AddsOwn, HasNotMoved, HasNoCommandLeft, IsLaterPass, PassView}
 
@@ -26,6 +32,23 @@ pub record HasClaimed (s : Session) (p : PassView) (ticket : Ticket) : Type 0 wh
 pub record HasGathered (s : Session) (p : PassView) (gathered : Gathered) : Type 0 where
   pub session : arc_value gathered.session ≡ s
   pub mask : WasMaskAt s p.seen gathered.mask gathered.revision
+
+-- these are regions of the present mask at a point of what the pass has seen
+pub record HadRegions (s : Session) (p : PassView) (early : EarlyRegions) : Type 0 where
+  pub earlier : List Entry
+  pub begins : IsPrefix earlier p.seen
+  pub mask : WasMaskAt s earlier early.present.mask early.present.revision
+  pub regions : AreRegionsOf s.scene.tiling early.present.mask early.regions
+
+-- if they are of the gathered revision, they are regions of the session, and both masks are open at the same pixels
+pub record AreOfOneMask (early : EarlyRegions) (gathered : Gathered) : Type 0 where
+  pub regions : AreRegionsOf (arc_value gathered.session).scene.tiling early.present.mask early.regions
+  pub clear : Field Bool
+  pub before : IsMaskOf early.present.mask (arc_value gathered.session).scene.phase.width (arc_value gathered.session).scene.phase.height clear
+  pub now : IsMaskOf gathered.mask (arc_value gathered.session).scene.phase.width (arc_value gathered.session).scene.phase.height clear
+
+abbrev pub AgreeIfCurrent : EarlyRegions → Gathered → Type 0
+AgreeIfCurrent early gathered = early.present.revision ≡ gathered.revision → AreOfOneMask early gathered
 
 -- the analyst's settle command was done at this revision, by the one entry that was added in its name
 abbrev pub HasSettled : PassView → PassView → ℕ → Type 0

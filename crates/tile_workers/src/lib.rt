@@ -3,6 +3,7 @@
 #![tactic(auto)]
 
 mod curator;
+mod early;
 mod gate;
 mod rising;
 mod scripts;

@@ -1,9 +1,13 @@
 ghost use Rattle.board_desk.specs.Answers.{IsCurrent};
 ghost use Rattle.board_desk.specs.Passes.{HasNotMoved, IsAtSettle, IsLaterPass, IsPassOf};
+ghost use Rattle.seam_regions.specs.Regions.{AreRegionsOf};
+ghost use Rattle.std.specs.Arc.{arc_value};
 ghost use Rattle.std.specs.Prelude.{◌≡◌, ◌≢◌, All, IfOk, IfSome, None, OnErr, OnSome};
+ghost use Rattle.std.specs.Thread.{IsSync};
 ghost use Rattle.tile_board.specs.Histories.{IsLegal, now_of};
-ghost use Rattle.tile_workers.specs.Scripts.{HasGathered, HasPublished, HasSeenMore, HasSettled};
+ghost use Rattle.tile_workers.specs.Scripts.{AgreeIfCurrent, HadRegions, HasGathered, HasPublished, HasSeenMore, HasSettled};
 
+use crate::early::EarlyRegions;
 use crate::gate::Gate;
 use crate::solving::Worker;
 use board_desk::{Desk, Pass};
@@ -14,7 +18,7 @@ use std::alloc::{AllocError, Global};
 use std::sync::Wait;
 use std::thread;
 use std::thread::Threads;
-use tile_board::{Advance, AdvanceFault, GatherFault, Gathered, PublishFault};
+use tile_board::{Advance, AdvanceFault, GatherFault, Gathered, PresentMask, PublishFault};
 
 /// The most workers that run at once.
 const MOST_WORKERS: usize = MAX_WORKERS as usize;
@@ -71,8 +75,60 @@ pub(crate) fn try_settle<R: Threads + Wait + Sync, G: Gate>(
     ensures unpublished { OnErr result (HasNotMoved pass.old pass.new) }
     ensures ended { pass.new.ended ≡ pass.old.ended }
 {
-    solve_tiles(rt, alloc, desk, pass, workers, gate)?;
-    publish(rt, alloc, desk, pass)
+    let early = solve_beside(rt, alloc, desk, pass, workers, gate)?;
+    publish(rt, alloc, desk, pass, workers, early)
+}
+
+/// Has workers solve the tiles. If there are several of them, one more thread finds the regions of the present mask meanwhile.
+fn solve_beside<R: Threads + Wait + Sync, G: Gate>(
+    rt: &R,
+    alloc: Global,
+    desk: &Desk,
+    pass: &mut Pass,
+    workers: u32,
+    gate: &G,
+) -> Result<Option<EarlyRegions>, AllocError>
+    requires { IsPassOf desk.now pass.old }
+    ensures more { HasSeenMore pass.old pass.new }
+    ensures early { IfOk result (λ found. IfSome found (HadRegions desk.now.session pass.new)) }
+{
+    if workers < 2 {
+        solve_tiles(rt, alloc, desk, pass, workers, gate)?;
+        return Ok(None);
+    }
+    let present = desk.present_mask(rt, alloc, pass).answer?;
+    let (regions, solved) = solve_over(rt, alloc, desk, pass, workers, gate, &present);
+    solved?;
+    Ok(Some(EarlyRegions {
+        regions: regions?,
+        present,
+    }))
+}
+
+/// Has workers solve the tiles, and one more thread find the regions of a mask.
+fn solve_over<R: Threads + Wait + Sync, G: Gate>(
+    rt: &R,
+    alloc: Global,
+    desk: &Desk,
+    pass: &mut Pass,
+    workers: u32,
+    gate: &G,
+    present: &PresentMask,
+) -> (Result<Regions, AllocError>, Result<(), AllocError>)
+    requires { IsPassOf desk.now pass.old }
+    ensures more { HasSeenMore pass.old pass.new }
+    ensures regions { IfOk result.0 (AreRegionsOf (arc_value present.now.session).scene.tiling present.now.mask) }
+{
+    thread::join_mut(
+        rt,
+        &mut || -> Result<Regions, AllocError>
+            ensures { IfOk result (AreRegionsOf (arc_value present.entry.now.session).scene.tiling present.entry.now.mask) }
+        { Regions::of(alloc, &present.session.scene.tiling, &present.mask) },
+        &mut || -> Result<(), AllocError>
+            requires { IsSync R.row × IsPassOf desk.now pass.now }
+            ensures { HasSeenMore pass.entry.now pass.exit.now }
+        { solve_tiles(rt, alloc, desk, pass, workers, gate) },
+    )
 }
 
 /// Has workers solve the tiles.
@@ -146,16 +202,19 @@ fn dismiss<R: Wait>(
     if starved { Err(AllocError) } else { Ok(()) }
 }
 
-/// Publishes the present revision, and answers it; None if that was not to be done, as the mask has changed meanwhile, or
-/// another analyst was faster.
-fn publish<R: Wait>(
+/// Publishes the present revision, whose surface at most `threads` threads make, and answers it; None if that was not to be
+/// done, as the mask has changed meanwhile, or another analyst was faster.
+fn publish<R: Threads + Wait + Sync>(
     rt: &R,
     alloc: Global,
     desk: &Desk,
     pass: &mut Pass,
+    threads: u32,
+    early: Option<EarlyRegions>,
 ) -> Result<Option<u32>, AllocError>
     requires pass { IsPassOf desk.now pass.old }
     requires next { IsAtSettle desk.now.session pass.old }
+    requires early { IfSome early (HadRegions desk.now.session pass.old) }
     ensures later { IsLaterPass pass.old pass.new }
     ensures published { IfOk result (HasPublished pass.old pass.new) }
     ensures present { IfOk result (λ answer. IfSome answer (λ revision. revision ≡ now_of pass.new.seen)) }
@@ -166,10 +225,10 @@ fn publish<R: Wait>(
     let Some(gathered) = gather(rt, alloc, desk, pass)? else {
         return Ok(None);
     };
-    let regions = Regions::of(alloc, &gathered.session.scene.tiling, &gathered.mask)?;
+    let regions = regions_for(alloc, &gathered, early)?;
     let seams = collect_over(alloc, &gathered, &regions)?;
     match desk
-        .publish_over(rt, alloc, pass, gathered.mask, regions, seams)
+        .publish_over(rt, threads, alloc, pass, gathered.mask, regions, seams)
         .answer
     {
         Ok(()) => Ok(Some(gathered.revision)),
@@ -182,6 +241,26 @@ fn publish<R: Wait>(
             | PublishFault::Uncertified(_),
         ) => Ok(None),
     }
+}
+
+/// The regions of the gathered mask: those that were found before, if they are of the same revision.
+fn regions_for(
+    alloc: Global,
+    gathered: &Gathered,
+    early: Option<EarlyRegions>,
+) -> Result<Regions, AllocError>
+    requires { IfSome early (λ e. AgreeIfCurrent e gathered.now) }
+    ensures { IfOk result (AreRegionsOf (arc_value gathered.now.session).scene.tiling gathered.now.mask) }
+{
+    if let Some(early) = early {
+        if early.present.revision == gathered.revision {
+            // Their contracts say what every mask keeps.
+            let _width = early.present.mask.width();
+            let _width = gathered.mask.width();
+            return Ok(early.regions);
+        }
+    }
+    Regions::of(alloc, &gathered.session.scene.tiling, &gathered.mask)
 }
 
 /// The present revision's mask and results, as they are at the end of what the pass has then seen; None if a tile has no

@@ -11,12 +11,14 @@ use Rattle.board_desk.proofs.Publications.{published_now}
 use Rattle.board_desk.proofs.Telling.{not_refused, own_publish, publish_stays, was_mask}
 use Rattle.board_desk.proofs.desk.Desk.publish_over.Goals as goal
 
-pub publish_over-answer-requires : goal.publish_over-answer-requires
-publish_over-answer-requires g c = record {
-  mask = was_mask c.pass.inside.seat.table_id c.pass.inside.ended c.pass.inside.seat.me c.take_board-board.new.seat.me c.take_board-board.result c.args.pass.now c.args.self.now.session c.args.mask c.args.seams.revision c.pass.view_is c.requires.pass.session
-      c.take_board-board.ensures.held c.requires.mask;
-  regions = subst (λ (s : Session). AreRegionsOf s.scene.tiling c.args.mask c.args.regions) (c.take_board-board.ensures.held.session_is c.args.self.now.session (ap (λ (p : PassView). p.session) c.pass.view_is ∙ c.requires.pass.session)) c.requires.regions;
-}
+pub publish_over-answer-requires-clause-mask : goal.publish_over-answer-requires-clause-mask
+publish_over-answer-requires-clause-mask g c κs within =
+    was_mask c.pass.inside.seat.table_id c.pass.inside.ended c.pass.inside.seat.me c.take_board-board.new.seat.me c.take_board-board.result c.args.pass.now c.args.self.now.session c.args.mask c.args.seams.revision c.pass.view_is c.requires.pass.session
+    c.take_board-board.ensures.held c.requires.mask
+
+pub publish_over-answer-requires-clause-regions : goal.publish_over-answer-requires-clause-regions
+publish_over-answer-requires-clause-regions g c κs within =
+    subst (λ (s : Session). AreRegionsOf s.scene.tiling c.args.mask c.args.regions) (c.take_board-board.ensures.held.session_is c.args.self.now.session (ap (λ (p : PassView). p.session) c.pass.view_is ∙ c.requires.pass.session)) c.requires.regions
 
 pub give_board-requires-clause-grown : goal.give_board-requires-clause-grown
 give_board-requires-clause-grown g c =

@@ -1,12 +1,11 @@
 ghost use Rattle.board_desk.specs.Passes.{IsPassOf};
 ghost use Rattle.std.specs.Prelude.{All, IfOk};
 
-use crate::running::{board, last_of};
+use crate::running::{last_of, open_desk};
 use board_desk::{Desk, Pass};
 use std::alloc::{AllocError, Global};
 use std::sync::Wait;
 use std::sync::atomic::{AtomicU64, Ordering};
-use std::test::Fail;
 use std::thread;
 use std::thread::Threads;
 
@@ -21,15 +20,14 @@ const TIMES: u64 = 10_000;
 /// Eight workers ask for a tile 10,000 times each, in threads of their own, and each call is answered. A call waits asleep for
 /// only those before it, so that the test ends in seconds.
 #[test]
-fn each_call_has_its_turn(rt: HostRuntime) -> Result<(), Fail> {
+fn each_call_has_its_turn(rt: HostRuntime) {
     let alloc = rt.alloc();
-    let (desk, mut passes) = Desk::open(alloc, board(alloc, 64, LINE)?)?;
+    let (desk, mut passes) = open_desk(&rt, alloc, 64, LINE);
     let mut analyst = last_of(&rt, &desk, &mut passes, 1);
-    let mut workers = hired(&rt, alloc, &desk, &mut analyst)?;
+    let mut workers = hired(&rt, alloc, &desk, &mut analyst).expect(&rt, "memory");
     let given = AtomicU64::new(0);
     ask_at_once(&rt, alloc, &desk, &mut workers, &given);
     assert!(rt; given.load(Ordering::SeqCst) == 80_000);
-    Ok(())
 }
 
 /// Passes of workers.

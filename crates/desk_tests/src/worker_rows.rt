@@ -1,6 +1,4 @@
-use crate::running::{board, last_of, run_out};
-use board_desk::Desk;
-use std::test::Fail;
+use crate::running::{last_of, open_desk, run_out};
 use tile_board::Advance;
 use tile_workers::{OpenGate, settle};
 
@@ -18,9 +16,9 @@ end
 /// Both analysts learn that there is no surface yet. The settle command of the first is done by publishing, and that of
 /// the second finds the surface there. The scripts then go on to their ends.
 #[test]
-fn a_settle_command_is_answered_with_its_revision(rt: HostRuntime) -> Result<(), Fail> {
+fn a_settle_command_is_answered_with_its_revision(rt: HostRuntime) {
     let alloc = rt.alloc();
-    let (desk, mut passes) = Desk::open(alloc, board(alloc, 2, LINE)?)?;
+    let (desk, mut passes) = open_desk(&rt, alloc, 2, LINE);
     let mut two = last_of(&rt, &desk, &mut passes, 2);
     let mut one = last_of(&rt, &desk, &mut passes, 1);
     let (Ok(Advance::NotYet(0)), Ok(Advance::NotYet(0))) = (
@@ -29,10 +27,9 @@ fn a_settle_command_is_answered_with_its_revision(rt: HostRuntime) -> Result<(),
     ) else {
         panic!(rt; "no surface yet");
     };
-    let first = settle(&rt, alloc, &desk, &mut one, 1, &OpenGate)?;
-    let second = settle(&rt, alloc, &desk, &mut two, 8, &OpenGate)?;
+    let first = settle(&rt, alloc, &desk, &mut one, 1, &OpenGate).expect(&rt, "memory");
+    let second = settle(&rt, alloc, &desk, &mut two, 8, &OpenGate).expect(&rt, "memory");
     assert!(rt; first == 0 && second == 0 && one.done() == 1 && two.done() == 1);
-    let board = run_out(&rt, alloc, desk, one, two)?;
+    let board = run_out(&rt, alloc, desk, one, two).expect(&rt, "memory");
     assert!(rt; board.complete() && board.entries().len() == 6);
-    Ok(())
 }

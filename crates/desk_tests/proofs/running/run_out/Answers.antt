@@ -1,4 +1,4 @@
-use Rattle.std.proofs.Common.{◌≡◌, ◌∙◌, ℕ, zero, suc, ◌<◌, List, [], ◌∷◌, ap, arith, get_or, length, subst, sym}
+use Rattle.std.proofs.Common.{◌≡◌, ◌∙◌, ℕ, zero, suc, ◌<◌, [], ◌∷◌, ap, arith, get_or, length, subst, sym}
 use Rattle.std.specs.List.{All}
 use Rattle.board_desk.specs.Passes.{IsPassOf, PassView}
 use Rattle.insar_top.proofs.BoardLemmas.{all_at, all_written, later_from, later_own}

@@ -51,14 +51,14 @@ module _ (r : Raster) (mask : Field Bool) (S : Field ℤ) (y a b : ℕ) (right :
   free_edge : (t : Bool) (e : Edge) → departure r S e ≡ pos 0 → where_true t (edge_cost r mask S e) ≡ pos 0
   free_edge t e d = zero_too t (edge_cost r mask S e) (no_product (has_open_ends mask e) (masked_weight r mask e) r.steep (departure r S e) d)
 
-  no_inner : (x : ℕ) → a ≤ x → x < b → inner_cost_from r mask S x y ≡ pos 0
+  pub no_inner : (x : ℕ) → a ≤ x → x < b → inner_cost_from r mask S x y ≡ pos 0
   unfolding inner_cost_from inner_edge_cost
   no_inner x l m =
       ap₂ (λ (c d : ℤ). c +ℤ d)
       (none_before (x + 1) r.width (inner_edge_cost r mask S (right_edge x y)) (λ n. free_edge (not (is_seam r (right_edge x y))) (right_edge x y) (right x l m n)))
       (none_before (y + 1) r.height (inner_edge_cost r mask S (down_edge x y)) (λ n. free_edge (not (is_seam r (down_edge x y))) (down_edge x y) (down n x l m)))
 
-  no_seam : (x : ℕ) → a ≤ x → x < b → seam_cost_from r mask S x y ≡ pos 0
+  pub no_seam : (x : ℕ) → a ≤ x → x < b → seam_cost_from r mask S x y ≡ pos 0
   unfolding seam_cost_from
   no_seam x l m =
       ap₂ (λ (c d : ℤ). c +ℤ d)
@@ -86,6 +86,17 @@ pixel_more f y a x m n p q = omega (arith, ints, p, q, sum_below-more x (λ c. f
 
 pub piece_more : (f : Field ℤ) (y a b m n : ℕ) → pos m ≡ sum_row a f y → AddUpTo f y a b (pos n) → pos (m + n) ≡ sum_row b f y
 piece_more f y a b m n p q = omega (arith, ints, p, q)
+
+-- ---- one pixel: the departure at an edge is none
+pub is_nothing : (z : ℤ) → FitsSigned w64 z → IsTrue (of_z w64 z == 0) → z ≡ pos 0
+is_nothing z fits t = is_zero z fits (grind (arith, nat_tests))
+
+module _ (r : Raster) (S : Field ℤ) (x y : ℕ) where
+  pub right_there : departure r S (right_edge x y) ≡ pos 0 → FollowsRight r S y x (x + 1)
+  right_there none n l m w = let e : n ≡ x = omega (arith, l, m) in rw e none
+
+  pub down_there : departure r S (down_edge x y) ≡ pos 0 → FollowsDown r S y x (x + 1)
+  down_there none n l m = let e : n ≡ x = omega (arith, l, m) in rw e none
 
 -- ---- a departure more that is looked at
 neither : (a b : Bool) → (a || b) ≡ false → (a ≡ false) × (b ≡ false)

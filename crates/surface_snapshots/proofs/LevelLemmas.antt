@@ -1,13 +1,13 @@
 -- The window of a tile along the row of one of its pixels, and lists of cycles: what is read of them.
-use Rattle.std.proofs.Common.{◌≡◌, ℕ, ◌+◌, ◌*◌, ◌<◌, ◌≤◌, ◌^◌, sym, subst, arith, List, []}
-use Rattle.std.specs.Prelude.{ℤ, IsTrue, unsigned_abs}
+use Rattle.std.proofs.Common.{◌≡◌, ℕ, ◌+◌, ◌<◌, ◌≤◌, ◌^◌, sym, subst, arith}
+use Rattle.std.specs.Prelude.{IsTrue, unsigned_abs}
 use Rattle.std.proofs.lemmas.Int.{ints}
 use Rattle.raster_model.specs.declared.tiling.Tiling.{Tiling}
 use Rattle.raster_model.specs.Tiles.{IsWindowOf, tile_at, tiles_of, window_of}
 use Rattle.raster_model.proofs.TileLemmas.{tiles_are_numbered, window_of-pixels}
 use Rattle.surface_snapshots.specs.declared.shifted.ShiftedTiles.{ShiftedTiles}
 use Rattle.surface_snapshots.specs.Tiled.{regions_in}
-use Rattle.surface_snapshots.specs.Shifted.{AreListedCycles, cycles_under, open_under}
+use Rattle.surface_snapshots.specs.Shifted.{cycles_under, open_under}
 use Rattle.surface_snapshots.proofs.CallerLemmas.{offset_small, solved_small}
 
 -- the window of a pixel's tile, along the pixel's row
@@ -27,13 +27,3 @@ module _ (s : ShiftedTiles) (x y : ℕ) where
   pub small_there : x < s.scene.now.phase.width → y < s.scene.now.phase.height → IsTrue (open_under s x y) → unsigned_abs (cycles_under s x y) ≤ 2 ^ 46 + 8388608
   small_there l m o =
       omega (arith, ints, solved_small s.scene.now (open_under s) s.tiles.now.results s.together.tiles x y l m o, offset_small (regions_in s.regions.now) s.offsets.now s.near x y)
-
--- the same number of pixels in other words, and none
-pub resized : (s : ShiftedTiles) (n m : ℕ) (list : List ℤ) → n ≡ m → AreListedCycles s n list → AreListedCycles s m list
-resized s n m list e is = subst (λ (k : ℕ). AreListedCycles s k list) e is
-
-pub none_listed : (s : ShiftedTiles) (list : List ℤ) → list ≡ [] → AreListedCycles s (0 * s.scene.now.phase.width) list
-none_listed s list e = record {
-  count = rw e (omega arith);
-  at = λ x y p q o r. absurd (omega (arith, r));
-}

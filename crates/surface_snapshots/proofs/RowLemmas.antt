@@ -1,10 +1,9 @@
 -- Rows of a surface's cycles and values: one more pixel, and which pixels the labels tell to be open.
-use Rattle.std.proofs.Common.{◌≡◌, ◌∙◌, ℕ, ◌+◌, ◌-◌, ◌*◌, ◌<◌, ◌≤◌, ◌^◌, sym, subst, arith, inl, inr, length, refl, Bool, true, false, List, ◌++◌, ap, of_z, set, take, to_z, w64}
+use Rattle.std.proofs.Common.{◌≡◌, ◌∙◌, ℕ, ◌+◌, ◌<◌, ◌≤◌, ◌^◌, sym, arith, inl, inr, length, refl, Bool, true, false, List, ap, of_z, set, to_z, w64}
 use Rattle.std.specs.Prelude.{◌≢◌, ℤ, FitsSigned, pos, ◌+ℤ◌, ◌*ℤ◌, IsTrue, unsigned_abs, slice_index_or}
 use Rattle.std.proofs.lemmas.Bool.{cases_lt}
 use Rattle.std.proofs.lemmas.Int.{ints, to_z-of_z}
-use Rattle.std.proofs.lemmas.List.{get_or-append_right, get_or-set_other, get_or-set_same, get_or-take, get_or_append_left, length-append, length-take-le}
-use Rattle.std.proofs.lemmas.Nat.{same_from_place}
+use Rattle.std.proofs.lemmas.List.{get_or-set_other, get_or-set_same}
 use Rattle.raster_model.specs.MaskView.{MaskView}
 use Rattle.raster_model.specs.Masks.{open_at}
 use Rattle.raster_model.specs.Sums.{Field}
@@ -14,7 +13,7 @@ use Rattle.seam_regions.specs.Regions.{region_label, offset_at}
 use Rattle.surface_snapshots.specs.declared.shifted.ShiftedTiles.{ShiftedTiles}
 use Rattle.surface_snapshots.specs.Tiled.{regions_in}
 use Rattle.surface_snapshots.specs.Parts.{AreGoodTiles, BeginsWithRow, Parts, cycles_in_parts, open_in, raster_in, value_or}
-use Rattle.surface_snapshots.specs.Shifted.{AreListedCycles, cycles_or_none, cycles_under, level_at, level_in, mask_under, no_cycles, open_under}
+use Rattle.surface_snapshots.specs.Shifted.{cycles_or_none, cycles_under, level_at, level_in, mask_under, no_cycles, open_under}
 use Rattle.surface_snapshots.proofs.CallerLemmas.{offset_small, solved_small}
 
 -- a number is written behind the front of a row, and what stands behind stays
@@ -57,27 +56,6 @@ unfolding level_at
 level_same s p x y scene mask regions tiles offsets =
     let cycles : cycles_under s x y ≡ cycles_in_parts p x y = rw (scene, regions, tiles, offsets) refl in
     ap (λ (m : MaskView). cycles_or_none (open_at m x y) (cycles_under s x y)) mask ∙ ap (cycles_or_none (open_in p x y)) cycles
-
--- a row is added to a list of cycles
-pub row_listed : (s : ShiftedTiles) (y : ℕ) (list row : List ℤ) → s.scene.now.phase.width ≤ length row → AreListedCycles s (y * s.scene.now.phase.width) list → BeginsWithRow (level_at s) y s.scene.now.phase.width row → AreListedCycles s ((y + 1) * s.scene.now.phase.width) (list ++ take s.scene.now.phase.width row)
-row_listed s y list row room is front =
-    let w = s.scene.now.phase.width in
-    record {
-      count = length-append list (take w row) ∙ omega (arith, is.count, length-take-le w row room);
-      at = λ a b p q o r. elim (cases_lt (b * w + a) (y * w)) [
-        | inl before ↦ get_or_append_left list (take w row) (pos 0) (b * w + a) (omega (arith, is.count, before)) ∙ is.at a b p q o before
-        | inr after ↦
-            (let x = b * w + a - y * w in
-            let e : b * w + a ≡ y * w + x = omega (arith, after) in
-            let l : x < w = omega (arith, r, after) in
-            let same = same_from_place b a y x w p l e in
-            get_or-append_right list (take w row) (y * w) (b * w + a) (pos 0) is.count after
-            ∙ get_or-take w row x (pos 0) l
-            ∙ front x l
-            ∙ subst (λ (n : ℕ). level_at s x n ≡ cycles_under s a b) same.0
-            (subst (λ (n : ℕ). level_at s n b ≡ cycles_under s a b) same.1 (level_there s a b o)))
-      ];
-    }
 
 -- what is above the phase at a pixel of parts: cycles, which are few, where it is open, and none where it is masked
 module _ (p : Parts) (tiles : AreGoodTiles p.session.scene (open_in p) p.tiles.results) (near : AreNear p.seams.offsets) (x y : ℕ) (across : x < p.session.scene.phase.width) (along : y < p.session.scene.phase.height) where

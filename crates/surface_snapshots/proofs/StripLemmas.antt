@@ -3,7 +3,7 @@ use Rattle.std.proofs.Common.{◌≡◌, ◌∙◌, ℕ, ◌+◌, ◌-◌, ◌*�
 use Rattle.std.specs.Prelude.{ℤ, slice_index_or}
 use Rattle.std.proofs.lemmas.Bool.{cases_lt}
 use Rattle.std.proofs.lemmas.List.{get_or-append_right, get_or-take, get_or_append_left, length-take-le}
-use Rattle.std.proofs.lemmas.Nat.{div-add-mod', mod-mul-add, same_from_place}
+use Rattle.std.proofs.lemmas.Nat.{div-add-mod', mod-mul-add, mul-add-lt, same_from_place}
 use Rattle.std.proofs.Math.Nat.{le-div_iff_mul-le, mul-sub}
 use Rattle.std.specs.Fork.{IsChunk}
 use Rattle.surface_snapshots.specs.declared.shifted.ShiftedTiles.{ShiftedTiles}
@@ -58,6 +58,14 @@ multiple_of k w n wide e =
     let same : n ≡ k * w + 0 = omega (arith, e) in
     ap (λ (m : ℕ). m % w) same ∙ mod-mul-add k w 0 wide
 
+-- the whole raster is a strip
+pub whole_strip : (s : ShiftedTiles) (n : ℕ) → 0 < s.scene.now.phase.width → n ≡ s.scene.now.phase.height * s.scene.now.phase.width → IsStrip s 0 n
+whole_strip s n wide e = record {
+  from = multiple_of 0 s.scene.now.phase.width 0 wide (omega arith);
+  rows = multiple_of s.scene.now.phase.height s.scene.now.phase.width n wide e;
+  within = omega (arith, e);
+}
+
 module _ (s : ShiftedTiles) (rows start : ℕ) (list part : List ℤ) (count : length list ≡ s.scene.now.phase.height * s.scene.now.phase.width) (chunk : IsChunk list (rows * s.scene.now.phase.width) start part) where
   abbrev strip_rows : ℕ
   strip_rows = start / (rows * s.scene.now.phase.width) * rows
@@ -87,6 +95,15 @@ module _ (s : ShiftedTiles) (rows start : ℕ) (list part : List ℤ) (count : l
 -- a list of levels is one of cycles
 pub levels_listed : (s : ShiftedTiles) (list : List ℤ) → length list ≡ s.scene.now.phase.height * s.scene.now.phase.width → ((x y : ℕ) → x < s.scene.now.phase.width → y < s.scene.now.phase.height → slice_index_or list (y * s.scene.now.phase.width + x) (pos 0) ≡ level_at s x y) → AreListedCycles s (s.scene.now.phase.height * s.scene.now.phase.width) list
 levels_listed s list count levels = record { count = count; at = λ x y across along clear below. levels x y across along ∙ level_there s x y clear }
+
+-- that of the whole raster has the cycles of all pixels
+pub strip_listed : (s : ShiftedTiles) (list : List ℤ) → length list ≡ s.scene.now.phase.height * s.scene.now.phase.width → AreLevelsFrom s 0 (length list) list → AreListedCycles s (s.scene.now.phase.height * s.scene.now.phase.width) list
+strip_listed s list count filled =
+    levels_listed s list count (λ x y across along.
+    (let i = y * s.scene.now.phase.width + x in
+    let same : i ≡ i - 0 = omega arith in
+    ap (λ (n : ℕ). slice_index_or list n (pos 0)) same
+    ∙ filled x y across (omega arith) (omega (arith, count, mul-add-lt y s.scene.now.phase.width x s.scene.now.phase.height along across))))
 
 -- a level that a strip has, and so the list into which it was written
 pub level_in_strip : (s : ShiftedTiles) (x y start offset n : ℕ) (part : List ℤ) (z : ℤ) → x < s.scene.now.phase.width → start + offset ≡ y * s.scene.now.phase.width + x → offset < n → AreLevelsFrom s start n part → slice_index_or part offset (pos 0) ≡ z → z ≡ level_at s x y

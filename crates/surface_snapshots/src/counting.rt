@@ -1,4 +1,5 @@
 ghost use Rattle.raster_model.specs.Heights.{KnowsOpen};
+ghost use Rattle.raster_model.specs.Limits.{max_side};
 ghost use Rattle.raster_model.specs.Masks.{open_at};
 ghost use Rattle.raster_model.specs.Raster.{has_open_ends, is_seam, lifted, seam_cost as seam_cost_of, seam_cost_from, seam_edge_cost};
 ghost use Rattle.raster_model.specs.Scene.{raster_of};
@@ -223,14 +224,87 @@ fn costs_by_pixels<H: Heights>(
     let mut left = side - x0 % side;
     for x in x0..end {
         let last = left == 1;
-        costs = costs.plus(costs_from(scene, mask, heights, x, y, last, lowest, unmasked));
+        costs = costs.plus(costs_at(scene, mask, heights, x, y, last, lowest, unmasked));
         left = next_left(left, side);
     }
     costs
 }
 
 /// What the edges that start at a pixel add. `last` tells that its column is the last of its tile, and
-/// `lowest` that its row is. `unmasked` tells that its pixels are known to be open.
+/// `lowest` that its row is. `unmasked` tells that its pixels are known to be open. At most pixels the surface departs
+/// at neither edge.
+fn costs_at<H: Heights>(
+    scene: &Scene,
+    mask: &Mask,
+    heights: &H,
+    x: u32,
+    y: u32,
+    last: bool,
+    lowest: bool,
+    unmasked: bool,
+) -> Costs
+    requires same_size { (mask.now.width ≡ scene.now.phase.width) × (mask.now.height ≡ scene.now.phase.height) }
+    requires known { KnowsOpen (raster_of scene.now) (open_at mask.now) (H.knows heights.now) }
+    requires pixel { (x < scene.now.phase.width) × (y < scene.now.phase.height) }
+    requires last { last ≡ ((x + 1) % scene.now.tiling.side == 0) }
+    requires lowest { lowest ≡ ((y + 1) % scene.now.tiling.side == 0) }
+    requires unmasked { IsTrue unmasked → AreOpenFrom mask.now y x (x + 1) }
+    ensures tiles { pos result.tiles ≡ inner_cost_from (raster_of scene.now) (open_at mask.now) (lifted (raster_of scene.now) (H.cycles_at heights.now)) x y }
+    ensures seams { pos result.seams ≡ seam_cost_from (raster_of scene.now) (open_at mask.now) (lifted (raster_of scene.now) (H.cycles_at heights.now)) x y }
+    ensures small { AreOfEdges 2 result }
+{
+    let unmasked = are_open_at(mask, x, y, unmasked);
+    if !unmasked || !follows_at(scene, heights, x, y) {
+        return costs_from(scene, mask, heights, x, y, last, lowest, unmasked);
+    }
+    NO_COSTS
+}
+
+/// Whether a pixel and those on its right and below it are open, as far as the raster goes. If `unmasked` is true, they
+/// are known to be.
+fn are_open_at(mask: &Mask, x: u32, y: u32, unmasked: bool) -> bool
+    requires pixel { (x < mask.now.width) × (y < mask.now.height) }
+    requires wide { mask.now.width ≤ max_side }
+    requires unmasked { IsTrue unmasked → AreOpenFrom mask.now y x (x + 1) }
+    ensures { IsTrue result → AreOpenFrom mask.now y x (x + 1) }
+{
+    unmasked || are_open_from(mask, y, x, x + 1)
+}
+
+/// Whether a surface departs at neither edge that starts at a pixel.
+fn follows_at<H: Heights>(scene: &Scene, heights: &H, x: u32, y: u32) -> bool
+    requires pixel { (x < scene.now.phase.width) × (y < scene.now.phase.height) }
+    requires known { KnowsFrom (raster_of scene.now) (H.knows heights.now) y x (x + 1) }
+    ensures right { IsTrue result → FollowsRight (raster_of scene.now) (lifted (raster_of scene.now) (H.cycles_at heights.now)) y x (x + 1) }
+    ensures down { IsTrue result → y + 1 < scene.now.phase.height → FollowsDown (raster_of scene.now) (lifted (raster_of scene.now) (H.cycles_at heights.now)) y x (x + 1) }
+{
+    if !follows_right_at(scene, heights, x, y) {
+        return false;
+    }
+    follows_down_at(scene, heights, x, y)
+}
+
+/// Whether it does not depart at the right edge of a pixel, or there is none.
+fn follows_right_at<H: Heights>(scene: &Scene, heights: &H, x: u32, y: u32) -> bool
+    requires pixel { (x < scene.now.phase.width) × (y < scene.now.phase.height) }
+    requires known { KnowsFrom (raster_of scene.now) (H.knows heights.now) y x (x + 1) }
+    ensures { IsTrue result → FollowsRight (raster_of scene.now) (lifted (raster_of scene.now) (H.cycles_at heights.now)) y x (x + 1) }
+{
+    let edge = Edge { x, y, down: false };
+    x + 1 == scene.phase.width || departure(scene, heights, edge) == 0
+}
+
+/// Whether it does not depart at the down edge of a pixel, or there is none.
+fn follows_down_at<H: Heights>(scene: &Scene, heights: &H, x: u32, y: u32) -> bool
+    requires pixel { (x < scene.now.phase.width) × (y < scene.now.phase.height) }
+    requires known { KnowsFrom (raster_of scene.now) (H.knows heights.now) y x (x + 1) }
+    ensures { IsTrue result → y + 1 < scene.now.phase.height → FollowsDown (raster_of scene.now) (lifted (raster_of scene.now) (H.cycles_at heights.now)) y x (x + 1) }
+{
+    let edge = Edge { x, y, down: true };
+    y + 1 == scene.phase.height || departure(scene, heights, edge) == 0
+}
+
+/// What the edges that start at a pixel add, in the same way, edge by edge.
 fn costs_from<H: Heights>(
     scene: &Scene,
     mask: &Mask,

@@ -59,7 +59,7 @@ pub(crate) struct SideBySide<'a, R> {
 }
 
 /// How many pixels are worth a thread.
-const SHARE: u32 = 1 << 16;
+const SHARE: u32 = 1 << 14;
 
 impl<'a, R: Threads + Sync> SideBySide<'a, R> {
     /// At most so many threads, and no more than a raster of so many pixels is worth.

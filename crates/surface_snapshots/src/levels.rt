@@ -4,14 +4,11 @@ ghost use Rattle.surface_snapshots.specs.Shifted.{AreLevelsFrom, AreListedCycles
 
 use crate::shifted::ShiftedTiles;
 use certificates::{SeamVerdict, check_flows};
-use raster_model::{Heights, MAX_SIDE, Mask};
+use raster_model::{Heights, Mask};
 use seam_regions::Regions;
 use std::alloc::{AllocError, Global};
 use std::thread;
 use std::thread::Threads;
-
-/// The most pixels of a row.
-const MAX_WIDTH: usize = MAX_SIDE as usize;
 
 /// A surface whose cycles were found once, for each pixel in row order.
 #[derive(Drop)]
@@ -44,13 +41,10 @@ impl<'a> Levels<'a> {
     pub(crate) fn of(alloc: Global, surface: ShiftedTiles<'a>) -> Result<Levels<'a>, AllocError>
         ensures { IfOk result (λ made. made.surface ≡ surface.entry) }
     {
-        let pixels = surface.scene.phase.width * surface.scene.phase.height;
-        let mut cycles = Vec::with_capacity(alloc, pixels as usize)?;
-        let mut row = [0; MAX_WIDTH];
-        for y in 0..surface.scene.phase.height {
-            surface.fill_row(y, &mut row);
-            cycles.extend_from_slice(&row[..surface.scene.phase.width as usize])?;
-        }
+        let phase = &surface.scene.phase;
+        let pixels = phase.height as usize * phase.width as usize;
+        let mut cycles = vec![in alloc; 0; pixels]?;
+        surface.fill_strip(0, &mut cycles);
         Ok(Levels { surface, cycles })
     }
 

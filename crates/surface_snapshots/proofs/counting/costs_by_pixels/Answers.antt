@@ -23,20 +23,20 @@ loop-x-init g c =
       left = left_from c.args.x0 s.tiling.side (omega (arith, s.tiling.sides));
     }
 
-pub costs_from-requires-clause-last : goal.costs_from-requires-clause-last
-costs_from-requires-clause-last g c =
+pub costs_at-requires-clause-last : goal.costs_at-requires-clause-last
+costs_at-requires-clause-last g c =
     let i = c.loop-x.invariant in
     last_left c.loop-x.x c.loop-x.left c.args.scene.now.tiling.side i.within.0 i.within.1 i.left
 
-pub costs_from-requires-clause-unmasked : goal.costs_from-requires-clause-unmasked
-costs_from-requires-clause-unmasked g c = λ t.
+pub costs_at-requires-clause-unmasked : goal.costs_at-requires-clause-unmasked
+costs_at-requires-clause-unmasked g c = λ t.
     open_within c.args.mask.now c.args.y c.args.x0 c.args.end c.loop-x.x (omega arith) (omega arith) (c.requires.unmasked t)
 
 pub plus-costs-requires-clause-tiles : goal.plus-costs-requires-clause-tiles
-plus-costs-requires-clause-tiles g c = omega (arith, c.loop-x.invariant.small, c.costs_from.ensures.small, c.requires.piece, c.args.scene.now.phase.wide)
+plus-costs-requires-clause-tiles g c = omega (arith, c.loop-x.invariant.small, c.costs_at.ensures.small, c.requires.piece, c.args.scene.now.phase.wide)
 
 pub plus-costs-requires-clause-seams : goal.plus-costs-requires-clause-seams
-plus-costs-requires-clause-seams g c = omega (arith, c.loop-x.invariant.small, c.costs_from.ensures.small, c.requires.piece, c.args.scene.now.phase.wide)
+plus-costs-requires-clause-seams g c = omega (arith, c.loop-x.invariant.small, c.costs_at.ensures.small, c.requires.piece, c.args.scene.now.phase.wide)
 
 pub loop-x-preserved : goal.loop-x-preserved
 loop-x-preserved g c =
@@ -46,10 +46,10 @@ loop-x-preserved g c =
     let S = lifted r (g.H.Heights.cycles_at c.args.heights.now) in
     let k = c.plus-costs.ensures in
     let i = c.loop-x.invariant in
-    let n = c.costs_from.ensures in
+    let n = c.costs_at.ensures in
     record {
-      tiles = subst (λ (t : ℕ). AddUpTo (inner_cost_from r mask S) c.args.y c.args.x0 (c.loop-x.x + 1) (pos t)) (sym k.tiles) (pixel_more (inner_cost_from r mask S) c.args.y c.args.x0 c.loop-x.x c.loop-x.costs.tiles c.costs_from.result.tiles i.tiles n.tiles);
-      seams = subst (λ (t : ℕ). AddUpTo (seam_cost_from r mask S) c.args.y c.args.x0 (c.loop-x.x + 1) (pos t)) (sym k.seams) (pixel_more (seam_cost_from r mask S) c.args.y c.args.x0 c.loop-x.x c.loop-x.costs.seams c.costs_from.result.seams i.seams n.seams);
+      tiles = subst (λ (t : ℕ). AddUpTo (inner_cost_from r mask S) c.args.y c.args.x0 (c.loop-x.x + 1) (pos t)) (sym k.tiles) (pixel_more (inner_cost_from r mask S) c.args.y c.args.x0 c.loop-x.x c.loop-x.costs.tiles c.costs_at.result.tiles i.tiles n.tiles);
+      seams = subst (λ (t : ℕ). AddUpTo (seam_cost_from r mask S) c.args.y c.args.x0 (c.loop-x.x + 1) (pos t)) (sym k.seams) (pixel_more (seam_cost_from r mask S) c.args.y c.args.x0 c.loop-x.x c.loop-x.costs.seams c.costs_at.result.seams i.seams n.seams);
       small = (omega (arith, k.tiles, i.small, n.small), omega (arith, k.seams, i.small, n.small));
       within = c.next_left-left.ensures.within;
       left = still_left c.loop-x.x c.loop-x.left s.tiling.side c.next_left-left.result i.within.0 i.within.1 i.left c.next_left-left.ensures.next;

@@ -1,26 +1,23 @@
-use Rattle.std.proofs.Common.{◌∙◌, ◌+◌, ◌*◌, ◌≤◌, arith, ap, length, refl, subst, sym, ℕ, List}
+use Rattle.std.proofs.Common.{◌≡◌, ◌∙◌, ◌*◌, ◌++◌, arith, drop, length, subst, sym, take, ℕ, List}
 use Rattle.std.specs.Prelude.{ℤ}
+use Rattle.std.proofs.Math.Seq.{take-append_seam}
 use Rattle.surface_snapshots.specs.Shifted.{AreListedCycles}
-use Rattle.surface_snapshots.proofs.LevelLemmas.{none_listed, resized}
-use Rattle.surface_snapshots.proofs.RowLemmas.{row_listed}
+use Rattle.surface_snapshots.proofs.StripLemmas.{strip_listed, whole_strip}
 use Rattle.surface_snapshots.proofs.levels.Levels.of.Goals as goal
 
-pub loop-y-init : goal.loop-y-init
-loop-y-init c = record { listed = none_listed c.args.surface c.in_ok-cycles.cycles.items c.in_ok-cycles.ensures.items; size = refl }
-
-pub fill_row-requires-clause-room : goal.fill_row-requires-clause-room
-fill_row-requires-clause-room c = omega (arith, c.loop-y.invariant.size, c.args.surface.scene.now.phase.wide)
-
-pub loop-y-preserved : goal.loop-y-preserved
-loop-y-preserved c =
-    let s = c.args.surface in
-    let room : s.scene.now.phase.width ≤ length c.fill_row.new.row = omega (arith, c.fill_row.ensures.same, c.loop-y.invariant.size, s.scene.now.phase.wide) in
-    record {
-      listed = subst (AreListedCycles s ((c.loop-y.y + 1) * s.scene.now.phase.width)) (sym {A = List ℤ} c.in_ok-extend_from_slice.ensures.items) (row_listed s c.loop-y.y c.loop-y.cycles.items c.fill_row.new.row room c.loop-y.invariant.listed c.fill_row.ensures.front);
-      size = c.fill_row.ensures.same ∙ c.loop-y.invariant.size;
-    }
+pub fill_strip-requires : goal.fill_strip-requires
+fill_strip-requires c = record {
+  strip = whole_strip c.args.surface (length c.deref_mut.result.now) (omega (arith, c.args.surface.scene.now.phase.wide)) (c.deref_mut.ensures.len ∙ c.in_ok-cycles.ensures.len);
+}
 
 pub invariant_of-result : goal.invariant_of-result
 invariant_of-result c =
     let s = c.args.surface in
-    record { listed = resized s _ (s.scene.now.phase.height * s.scene.now.phase.width) c.loop-y.cycles.items (ap (λ (n : ℕ). n * s.scene.now.phase.width) (omega arith)) c.loop-y.invariant.listed }
+    let n = s.scene.now.phase.height * s.scene.now.phase.width in
+    let list = c.fill_strip.new.part in
+    let cycles = c.in_ok-cycles.cycles in
+    let old : length c.deref_mut.result.now ≡ n = c.deref_mut.ensures.len ∙ c.in_ok-cycles.ensures.len in
+    let new : length list ≡ n = c.fill_strip.ensures.same ∙ old in
+    let rest = drop (length list) cycles.items in
+    let kept : take cycles.len (list ++ rest) ≡ list = subst (λ (m : ℕ). take m (list ++ rest) ≡ list) (new ∙ sym c.in_ok-cycles.ensures.len) (take-append_seam list rest) in
+    record { listed = subst (AreListedCycles s n) (sym {A = List ℤ} kept) (strip_listed s list new (rw c.fill_strip.ensures.same c.fill_strip.ensures.filled)) }

@@ -11,3 +11,4 @@ pub mod CostLemmas
 pub mod PlaceSums
 pub mod CertificateLemmas
 pub mod SolvedLemmas
+pub mod TilePlaces

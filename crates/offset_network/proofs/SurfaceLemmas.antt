@@ -1,5 +1,5 @@
 -- The cycles of the result of a pixel's tile.
-use Rattle.std.proofs.Common.{◌≡◌, ℕ, ◌+◌, ◌-◌, ◌*◌, ◌<◌, ◌≤◌, ◌∙◌, ap, sym, subst, refl, arith, Bool, List, length, to_z, of_z, w32, w64, FitsSigned}
+use Rattle.std.proofs.Common.{◌≡◌, ℕ, ◌+◌, ◌-◌, ◌*◌, ◌<◌, ◌≤◌, ◌∙◌, ap, sym, subst, refl, arith, Bool, List, length, to_z, of_z, w32, FitsSigned}
 use Rattle.std.specs.Prelude.{ℤ, ◌+ℤ◌, ◌-ℤ◌, ◌&&◌, nat_lt, IsTrue, Some, slice_get, unsigned_abs}
 use Rattle.std.proofs.lemmas.Int.{ints}
 use Rattle.std.proofs.lemmas.Nat.{mul-add-lt}
@@ -9,7 +9,7 @@ use Rattle.raster_model.specs.declared.tiling.Window.{Window}
 use Rattle.raster_model.specs.declared.edge.Edge.{Edge}
 use Rattle.raster_model.specs.Raster.{Raster, cycle_departure, turns_of}
 use Rattle.raster_model.specs.Sums.{Field, end_x, end_y}
-use Rattle.raster_model.specs.Tiles.{IsWindowOf, IsWithin, tile_at, tiles_of, window_of}
+use Rattle.raster_model.specs.Tiles.{IsWithin, tile_at, window_of}
 use Rattle.certificates.specs.declared.results.TileResult.{TileResult}
 use Rattle.certificates.specs.Results.{IsGoodTile, listed_cycles, pixels_in, window_in}
 use Rattle.certificates.specs.TileSets.{TileSetView, solved_cycles}
@@ -21,39 +21,43 @@ use Rattle.raster_model.specs.Seams.{AreRegions}
 use Rattle.seam_regions.specs.Regions.{AreRegionsOf}
 use Rattle.seam_regions.specs.RegionsView.{RegionsView}
 use Rattle.seam_regions.proofs.CallerLemmas.{regions_of_scene}
+use Rattle.offset_network.specs.declared.places.Spot.{Spot}
+use Rattle.offset_network.specs.Places.{IsSpotOf}
 use Rattle.offset_network.specs.Surfaces.{IsGoodTileSet, AreLabelled}
 
 pub open_tells : (w h x y : ℕ) (b : Bool) → IsTrue ((nat_lt x w && nat_lt y h) && b) → (x < w) × (y < h) × IsTrue b
 open_tells w h x y b t = (grind (arith, nat_tests), grind (arith, nat_tests), grind (arith, nat_tests))
 
--- the result k of tile t, whose window is v
-module _ (s : Scene) (mask : Field Bool) (tiles : TileSetView) (good : IsGoodTileSet s mask tiles) (t : ℕ) (v : Window) (k : TileResult) (exists : t < tiles_of s.tiling) (window : v ≡ window_of s.tiling t) (pixels : IsWindowOf s.tiling t v) (place : slice_get tiles.results t ≡ Some k) (number : k.tile ≡ t) where
+-- a pixel, and the result k of its tile
+module _ (s : Scene) (mask : Field Bool) (tiles : TileSetView) (good : IsGoodTileSet s mask tiles) (x y : ℕ) (l : x < s.phase.width) (m : y < s.phase.height) (spot : Spot) (k : TileResult) (is : IsSpotOf s.tiling x y spot) (place : slice_get tiles.results spot.tile ≡ Some k) (number : k.tile ≡ spot.tile) where
+  abbrev v : Window
+  v = spot.window
+
   is_good : IsGoodTile s mask k
-  is_good = good.each t k exists place
+  is_good = good.each spot.tile k is.exists place
 
   same_window : window_in s k ≡ v
-  same_window = ap (window_of s.tiling) number ∙ sym window
+  same_window = ap (window_of s.tiling) number ∙ sym is.window_is
 
-  module _ (x y : ℕ) (here : t ≡ tile_at s.tiling x y) (l : x < s.phase.width) (m : y < s.phase.height) where
-    within : IsWithin v x y
-    within = (pixels.pixels x y (omega (arith, l, s.same_width)) (omega (arith, m, s.same_height))).0 (sym here)
+  within : IsWithin v x y
+  within = (is.pixels.pixels x y (omega (arith, l, s.same_width)) (omega (arith, m, s.same_height))).0 (sym is.here)
 
-    pub place_below : (y - v.y0) * (v.x1 - v.x0 + 1) + (x - v.x0) < length k.cycles.items
-    place_below =
-        let all : length k.cycles.items ≡ pixels_in v = is_good.shape.0 ∙ ap pixels_in same_window in
-        let p = mul-add-lt (y - v.y0) (v.x1 - v.x0 + 1) (x - v.x0) (v.y1 - v.y0 + 1) (omega (arith, within)) (omega (arith, within)) in
-        omega (arith, all, p)
+  pub place_below : (y - v.y0) * (v.x1 - v.x0 + 1) + (x - v.x0) < length k.cycles.items
+  place_below =
+      let all : length k.cycles.items ≡ pixels_in v = is_good.shape.0 ∙ ap pixels_in same_window in
+      let p = mul-add-lt (y - v.y0) (v.x1 - v.x0 + 1) (x - v.x0) (v.y1 - v.y0 + 1) (omega (arith, within)) (omega (arith, within)) in
+      omega (arith, all, p)
 
-    pub cycles_are : listed_cycles v k.cycles.items x y ≡ solved_cycles s tiles.results x y
-    unfolding solved_cycles
-    cycles_are =
-        let at : slice_get tiles.results (tile_at s.tiling x y) ≡ Some k = ap (slice_get tiles.results) (sym here) ∙ place in
-        rw (at, same_window) refl
+  pub cycles_are : listed_cycles v k.cycles.items x y ≡ solved_cycles s tiles.results x y
+  unfolding solved_cycles
+  cycles_are =
+      let at : slice_get tiles.results (tile_at s.tiling x y) ≡ Some k = ap (slice_get tiles.results) (sym is.here) ∙ place in
+      rw (at, same_window) refl
 
-    pub cycles_small : IsTrue (mask x y) → unsigned_abs (listed_cycles v k.cycles.items x y) ≤ 8388608
-    cycles_small o =
-        let small = subst (λ (u : Window). IsWithin u x y × IsTrue (mask x y) → unsigned_abs (listed_cycles u k.cycles.items x y) ≤ 8388608) same_window (is_good.in_range x y) in
-        small (within, o)
+  pub cycles_small : IsTrue (mask x y) → unsigned_abs (listed_cycles v k.cycles.items x y) ≤ 8388608
+  cycles_small o =
+      let small = subst (λ (u : Window). IsWithin u x y × IsTrue (mask x y) → unsigned_abs (listed_cycles u k.cycles.items x y) ≤ 8388608) same_window (is_good.in_range x y) in
+      small (within, o)
 
 -- such cycles in code at 32 bits
 pub cycles_fit : (z c : ℤ) → z ≡ c → unsigned_abs c ≤ 8388608 → to_z w32 (of_z w32 z) ≡ c

@@ -4,3 +4,4 @@ pub mod Networks
 pub mod Surfaces
 pub mod Seams
 pub mod Shifted
+pub mod Places

@@ -8,6 +8,7 @@ mod lane;
 mod lanes;
 mod links;
 mod network;
+mod places;
 mod shifted;
 mod solving;
 mod surface;

@@ -13,6 +13,7 @@ use crate::guessing::{certified, guess_or_solver};
 use crate::lanes::lanes;
 use crate::links::links;
 use crate::network::solved;
+use crate::places::TilePlaces;
 use crate::surface::TileSurface;
 use certificates::{SeamResult, TileSet};
 use offset_guess::{Guess, Link};
@@ -60,7 +61,13 @@ pub fn solve_offsets_from(
     ensures revision { IfOk result (λ solved. solved.revision ≡ revision) }
     ensures good { IfOk result (IsGoodSeams scene.now mask.now regions.now tiles.now) }
 {
-    let surface = TileSurface { scene, mask, tiles };
+    let places = TilePlaces::of(alloc, &scene.tiling)?;
+    let surface = TileSurface {
+        scene,
+        mask,
+        tiles,
+        places: &places,
+    };
     let links = links(alloc, &surface, regions)?;
     let guess = guess_or_solver(alloc, &surface, regions, &links, guess)?;
     if let Some(solved) = certified(alloc, &surface, regions, guess, revision)? {

@@ -6,6 +6,7 @@ ghost use Rattle.raster_model.specs.Scene.{raster_of};
 ghost use Rattle.raster_model.specs.Sums.{is_edge, is_pixel};
 ghost use Rattle.std.specs.Prelude.{◌≡◌, ◌≤◌, ◌&&◌, IsTrue, unsigned_abs};
 
+use crate::places::TilePlaces;
 use certificates::TileSet;
 use raster_model::{Edge, Mask, Scene, turns};
 
@@ -15,8 +16,10 @@ pub(crate) struct TileSurface<'a> {
     pub(crate) scene: &'a Scene,
     pub(crate) mask: &'a Mask,
     pub(crate) tiles: &'a TileSet,
+    pub(crate) places: &'a TilePlaces,
     pub(crate) ghost same_size: { (mask.now.width ≡ scene.now.phase.width) × (mask.now.height ≡ scene.now.phase.height) },
     pub(crate) ghost good: { IsGoodTileSet scene.now (open_at mask.now) tiles.now },
+    pub(crate) ghost same_tiling: { places.now.tiling ≡ scene.now.tiling },
 }
 
 impl TileSurface<'_> {
@@ -26,9 +29,8 @@ impl TileSurface<'_> {
         ensures value { result ≡ solved_cycles self.now.scene.now self.now.tiles.now.results x y }
         ensures small { unsigned_abs result ≤ 8388608 }
     {
-        let tile = self.scene.tiling.tile_of(x, y);
-        let window = self.scene.tiling.window(tile);
-        self.tiles.tile(tile).cycles[window.place(x, y)]
+        let spot = self.places.locate(x, y);
+        self.tiles.tile(spot.tile).cycles[spot.window.place(x, y)]
     }
 
     /// By how many whole cycles the surface departs from the wrapped difference of an edge with open ends.

@@ -1,4 +1,4 @@
-ghost use Rattle.std.specs.Prelude.{◌≡◌, ◌≤◌, ◌+◌, ◌++◌, [], length, take};
+ghost use Rattle.std.specs.Prelude.{◌≡◌, ◌≤◌, ◌<◌, ◌+◌, ◌++◌, ◌∷◌, [], length, take};
 
 /// How many bytes wait before they are put into a sink.
 const BUFFER_BYTES: usize = 8192;
@@ -45,6 +45,16 @@ impl Waiting {
         let end = self.end + piece.len();
         self.bytes[self.end..end].copy_from_slice(piece);
         self.end = end;
+    }
+
+    /// Adds a byte for which there is room.
+    #[inline(always)]
+    pub fn push_byte(&mut self, byte: u8)
+        requires { self.old.end < 8192 }
+        ensures { waiting_in self.new ≡ waiting_in self.old ++ (byte ∷ []) }
+    {
+        self.bytes[self.end] = byte;
+        self.end += 1;
     }
 
     /// Drops all that waits.

@@ -44,7 +44,11 @@ impl<'a, K: Sink> TextWriter<'a, K> {
     pub fn byte(&mut self, byte: u8)
         ensures { Adds (view_of K.held K.faults self.old) (view_of K.held K.faults self.new) (byte ∷ []) }
     {
-        self.bytes(&[byte]);
+        if self.waiting.room() > 0 {
+            self.waiting.push_byte(byte);
+        } else {
+            self.bytes(&[byte]);
+        }
     }
 
     /// Adds a number in decimal, with a minus sign if it is below 0.
@@ -66,14 +70,14 @@ impl<'a, K: Sink> TextWriter<'a, K> {
     pub fn space(&mut self)
         ensures { Adds (view_of K.held K.faults self.old) (view_of K.held K.faults self.new) (codes " ") }
     {
-        self.bytes(b" ");
+        self.byte(b' ');
     }
 
     /// Ends a line.
     pub fn end_line(&mut self)
         ensures { Adds (view_of K.held K.faults self.old) (view_of K.held K.faults self.new) (codes "\n") }
     {
-        self.bytes(b"\n");
+        self.byte(b'\n');
     }
 
     /// Puts what waits, and says whether the sink has all that was added.

@@ -129,11 +129,12 @@ impl Network {
         if let Some(joint) = self.joints.get_mut(joint as usize) {
             joint.at = at;
             joint.rise = rise;
-            joint.up = slope;
-            joint.down = slope.wrapping_neg();
+            let mut back = slope.wrapping_neg();
             if at > joint.first && last.rise == rise {
-                joint.down = joint.down.wrapping_add(i64::from(last.by));
+                back = back.wrapping_add(i64::from(last.by));
             }
+            joint.up = narrow(slope);
+            joint.down = narrow(back);
         }
     }
 
@@ -141,7 +142,7 @@ impl Network {
     #[inline(always)]
     pub(crate) fn cost(&self, arc: u32) -> i64 {
         let joint = self.joint(arc / 2);
-        if arc % 2 == 0 { joint.up } else { joint.down }
+        i64::from(if arc % 2 == 0 { joint.up } else { joint.down })
     }
 
     /// How many units flow along an arc at this cost.
@@ -182,7 +183,7 @@ impl Network {
     pub(crate) fn push(&mut self, arc: u32, amount: i64) {
         let joint = self.joint(arc / 2);
         let mut at = joint.at;
-        let mut slope = joint.up;
+        let mut slope = i64::from(joint.up);
         let mut rise = joint.rise;
         if arc % 2 == 0 {
             rise = narrow(i64::from(rise).wrapping_add(amount));
@@ -202,9 +203,10 @@ impl Network {
     }
 }
 
-/// A number of cycles in 32 digits, or 0 if it does not fit.
-fn narrow(cycles: i64) -> i32 {
-    i32::try_from(cycles).unwrap_or(0)
+/// A number of cycles, or what one costs, in 32 digits, or 0 if it does not fit.
+#[inline(always)]
+fn narrow(number: i64) -> i32 {
+    i32::try_from(number).unwrap_or(0)
 }
 
 /// How much lower one rise is than another.

@@ -16,9 +16,9 @@ pub(crate) struct Joint {
     pub(crate) at: u32,
     /// The offset of the second region less that of the first.
     pub(crate) rise: i32,
-    /// What the next cycle up costs, and the next one down.
-    pub(crate) up: i64,
-    pub(crate) down: i64,
+    /// What the next cycle up costs, and the next one down. A stretch has a link for each pixel of a tile's side at most.
+    pub(crate) up: i32,
+    pub(crate) down: i32,
 }
 
 pub(crate) const NO_JOINT: Joint = Joint {

@@ -23,6 +23,18 @@ impl Layout<'_> {
         }
     }
 
+    /// Whether all pixels of a row are open.
+    pub(crate) fn is_open_row(&self, y: u32) -> bool {
+        let width = self.width as usize;
+        let first = y as usize * width;
+        let row = self.labels.get(first..first + width).unwrap_or(&[]);
+        let mut masked = row.len() != width;
+        for label in row {
+            masked |= *label == NONE;
+        }
+        !masked
+    }
+
     /// The column of tiles of a column of pixels, or the row of tiles of a row of pixels.
     pub(crate) fn tile(&self, pixel: u32) -> u32 {
         if self.side == 0 { 0 } else { pixel / self.side }

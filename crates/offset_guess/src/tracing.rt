@@ -67,14 +67,20 @@ impl Traced {
     /// Forgets the nodes of the row of cells before the last, for those below a row of pixels.
     fn start_row(&mut self, layout: Layout<'_>, y: u32) {
         let is_last = y.wrapping_add(1) == layout.height;
-        for x in 0..layout.width {
-            let is_outside = is_last || x.wrapping_add(1) == layout.width;
-            self.set_cell(layout, x, y, if is_outside { OUTSIDE } else { NONE });
+        let first = Traced::place(layout, 0, y);
+        let end = first.wrapping_add(layout.width as usize);
+        let cells: &mut [u32] = &mut self.cells;
+        if let Some(row) = cells.get_mut(first..end) {
+            row.fill(if is_last { OUTSIDE } else { NONE });
         }
+        self.set_cell(layout, layout.width.wrapping_sub(1), y, OUTSIDE);
     }
 
     /// Joins the cells around each masked pixel of a row.
     fn join_row(&mut self, layout: Layout<'_>, y: u32) -> Result<(), AllocError> {
+        if layout.is_open_row(y) {
+            return Ok(());
+        }
         for x in 0..layout.width {
             if !layout.is_open(x, y) {
                 self.join_around(layout, x, y)?;

@@ -1,12 +1,12 @@
 -- The flows and the offsets that a solved network tells.
 use Rattle.std.proofs.Common.{◌≡◌, ℕ, ◌+◌, ◌*◌, ◌≤◌, ap, arith, List, [], ◌∷◌, ◌++◌, length, inl, inr, to_z, of_z, w32, w64, FitsSigned}
-use Rattle.std.specs.Prelude.{ℤ, pos, ◌+ℤ◌, ◌-ℤ◌, ◌≤ℤ◌, ◌^◌, Option, slice_index_or, unsigned_abs}
+use Rattle.std.specs.Prelude.{ℤ, pos, neg_ℤ, ◌+ℤ◌, ◌-ℤ◌, ◌≤ℤ◌, ◌^◌, Option, slice_index_or, unsigned_abs}
 use Rattle.std.proofs.lemmas.Int.{ints}
 use Rattle.std.proofs.lemmas.List.{get_or_append_left, get_or_past, length-append}
 use Rattle.std.proofs.Math.Seq.{get_or-append_seam}
 use Rattle.flow_network.specs.Nets.{State}
 use Rattle.offset_network.specs.declared.lane.Lane.{Lane}
-use Rattle.offset_network.specs.Networks.{AreFlows, AreLowered, AreSums, lane_flow, three_from}
+use Rattle.offset_network.specs.Networks.{AreFlows, AreLowered, AreSums, height_of, lane_flow, three_from}
 use Rattle.sums_and_lists.proofs.Lists.{longer}
 use Rattle.sums_and_lists.proofs.Orders.{below_at_past}
 
@@ -59,19 +59,37 @@ sums_more parts i zs z e h = record {
   values = longer (three_from parts) i zs z h.count h.values e;
 }
 
-pub lowered_more : (f : State) (by : ℤ) (n : ℕ) (zs : List ℤ) (z : ℤ) → z ≡ f.potential n -ℤ by → AreLowered f by n zs → AreLowered f by (n + 1) (zs ++ z ∷ [])
-lowered_more f by n zs z e h = record {
+pub lowered_more : (start : List ℤ) (f : State) (by : ℤ) (n : ℕ) (zs : List ℤ) (z : ℤ) → z ≡ height_of start f n -ℤ by → AreLowered start f by n zs → AreLowered start f by (n + 1) (zs ++ z ∷ [])
+lowered_more start f by n zs z e h = record {
   count = omega (arith, length-append zs (z ∷ []), h.count);
-  values = longer (λ v. f.potential v -ℤ by) n zs z h.count h.values e;
+  values = longer (λ v. height_of start f v -ℤ by) n zs z h.count h.values e;
 }
 
 -- an offset in code at 64 bits
 pub by_small : (b : ℤ) → unsigned_abs b ≤ 2 ^ 47 → unsigned_abs (to_z w64 (of_z w64 b)) ≤ 2 ^ 47
 by_small b l = omega (arith, ints, l)
 
-pub lowered_is : (p q b : ℤ) (n : ℕ) → p ≡ q → (pos 0 ≤ℤ q) × (q ≤ℤ pos (n * 16777218)) → n ≤ 3145728 → unsigned_abs b ≤ 2 ^ 47 → FitsSigned w64 (to_z w64 (of_z w64 p) -ℤ b) × (to_z w64 (of_z w64 (to_z w64 (of_z w64 p) -ℤ b)) ≡ q -ℤ b)
-lowered_is p q b n e within few small = (omega (arith, ints, e, within, few, small), omega (arith, ints, e, within, few, small))
+pub lowered_is : (h q b : ℤ) (n : ℕ) → h ≡ q → neg_ℤ (pos (2 ^ 42)) ≤ℤ h → h ≤ℤ pos (n * 16777218 + 2 ^ 42) → n ≤ 3145728 → unsigned_abs b ≤ 2 ^ 47 → FitsSigned w64 (to_z w64 (of_z w64 h) -ℤ b) × (to_z w64 (of_z w64 (to_z w64 (of_z w64 h) -ℤ b)) ≡ q -ℤ b)
+lowered_is h q b n e low high few small = (omega (arith, ints, e, low, high, few, small), omega (arith, ints, e, low, high, few, small))
 
--- the height of a pixel: a potential and cycles
-pub height_is : (p q c f : ℤ) (n : ℕ) → p ≡ q → (pos 0 ≤ℤ q) × (q ≤ℤ pos (n * 16777218)) → n ≤ 3145728 → unsigned_abs c ≤ 8388608 → f ≡ to_z w32 (of_z w32 c) → FitsSigned w64 (to_z w64 (of_z w64 p) +ℤ to_z w64 (of_z w64 f)) × (to_z w64 (of_z w64 (to_z w64 (of_z w64 p) +ℤ to_z w64 (of_z w64 f))) ≡ q +ℤ c)
-height_is p q c f n e within few small g = (omega (arith, ints, e, within, few, small, g), omega (arith, ints, e, within, few, small, g))
+-- the height of a region: an offset and a potential
+abbrev height_in_code : ℤ → ℤ → ℤ
+height_in_code o p = to_z w64 (of_z w64 o) +ℤ to_z w64 (of_z w64 p)
+
+pub record IsHeight (o p q : ℤ) (n : ℕ) : Type 0 where
+  pub fits : FitsSigned w64 (height_in_code o p)
+  pub value : to_z w64 (of_z w64 (height_in_code o p)) ≡ o +ℤ q
+  pub low : neg_ℤ (pos (2 ^ 42)) ≤ℤ to_z w64 (of_z w64 (height_in_code o p))
+  pub high : to_z w64 (of_z w64 (height_in_code o p)) ≤ℤ pos (n * 16777218 + 2 ^ 42)
+
+pub region_height : (o p q : ℤ) (n : ℕ) → unsigned_abs o ≤ 2 ^ 42 → p ≡ q → (pos 0 ≤ℤ q) × (q ≤ℤ pos (n * 16777218)) → n ≤ 3145728 → IsHeight o p q n
+region_height o p q n small e within few = record {
+  fits = omega (arith, ints, small, e, within, few);
+  value = omega (arith, ints, small, e, within, few);
+  low = omega (arith, ints, small, e, within, few);
+  high = omega (arith, ints, small, e, within, few);
+}
+
+-- the height of a pixel: that of its region and cycles
+pub height_is : (h q c f : ℤ) (n : ℕ) → h ≡ q → neg_ℤ (pos (2 ^ 42)) ≤ℤ h → h ≤ℤ pos (n * 16777218 + 2 ^ 42) → n ≤ 3145728 → unsigned_abs c ≤ 8388608 → f ≡ to_z w32 (of_z w32 c) → FitsSigned w64 (to_z w64 (of_z w64 h) +ℤ to_z w64 (of_z w64 f)) × (to_z w64 (of_z w64 (to_z w64 (of_z w64 h) +ℤ to_z w64 (of_z w64 f))) ≡ q +ℤ c)
+height_is h q c f n e low high few small g = (omega (arith, ints, e, low, high, few, small, g), omega (arith, ints, e, low, high, few, small, g))

@@ -5,3 +5,5 @@ pub mod Surfaces
 pub mod Seams
 pub mod Shifted
 pub mod Places
+pub mod Starts
+pub mod Guesses

@@ -1,6 +1,7 @@
 ghost use Rattle.flow_network.specs.Views.{shape_of, state_of};
 ghost use Rattle.offset_network.specs.Lanes.{AreLanes, arcs_before, arcs_of as arcs_of_lane, lane_at};
-ghost use Rattle.offset_network.specs.Networks.{AreFlows, AreLowered, AreSums, HasArcs, IsArcOf, flow_left};
+ghost use Rattle.offset_network.specs.Networks.{AreFlows, AreLowered, AreSums, HasArcs, IsArcOf, flow_left, height_of};
+ghost use Rattle.offset_network.specs.Starts.{AreStartOffsets};
 ghost use Rattle.certificates.specs.TileSets.{solved_cycles};
 ghost use Rattle.raster_model.specs.Masks.{open_at};
 ghost use Rattle.raster_model.specs.Scene.{raster_of};
@@ -67,15 +68,29 @@ pub(crate) fn sums_of_three(
     Ok(sums)
 }
 
-/// How high the first open pixel lies, in whole cycles above the phase: the potential of its region plus its cycles. It
-/// is 0 if no pixel is open.
-pub(crate) fn anchor(surface: &TileSurface, regions: &Regions, net: &Network) -> i64
+/// How high a region lies, in whole cycles: its offset at the start plus the potential of its node.
+fn height(net: &Network, start: &[i64], region: u32) -> i64
+    requires region { region < (shape_of net.now).nodes }
+    requires heights { LiesWithin (shape_of net.now) (state_of net.now) 16777218 }
+    requires few { (shape_of net.now).nodes ≤ 3145728 }
+    requires start { AreStartOffsets (shape_of net.now).nodes start.now }
+    ensures value { result ≡ height_of start.now (state_of net.now) region }
+    ensures low { neg_ℤ (pos (2 ^ 42)) ≤ℤ result }
+    ensures high { result ≤ℤ pos ((shape_of net.now).nodes * 16777218 + 2 ^ 42) }
+{
+    start[region as usize] + net.potential(region)
+}
+
+/// How high the first open pixel lies, in whole cycles above the phase: the height of its region plus its cycles. It is 0 if
+/// no pixel is open.
+pub(crate) fn anchor(surface: &TileSurface, regions: &Regions, net: &Network, start: &[i64]) -> i64
     requires regions { AreRegionsOf surface.now.scene.now.tiling surface.now.mask.now regions.now }
     requires nodes { (shape_of net.now).nodes ≡ regions.now.count }
     requires heights { LiesWithin (shape_of net.now) (state_of net.now) 16777218 }
-    ensures value { (x y : ℕ) → IsFirstOpen (raster_of surface.now.scene.now) (open_at surface.now.mask.now) x y → result ≡ ((state_of net.now).potential (region_label regions.now x y) +ℤ solved_cycles surface.now.scene.now surface.now.tiles.now.results x y) }
-    ensures low { neg_ℤ (pos 8388608) ≤ℤ result }
-    ensures high { result ≤ℤ pos (regions.now.count * 16777218 + 8388608) }
+    requires start { AreStartOffsets regions.now.count start.now }
+    ensures value { (x y : ℕ) → IsFirstOpen (raster_of surface.now.scene.now) (open_at surface.now.mask.now) x y → result ≡ (height_of start.now (state_of net.now) (region_label regions.now x y) +ℤ solved_cycles surface.now.scene.now surface.now.tiles.now.results x y) }
+    ensures low { neg_ℤ (pos (2 ^ 42 + 8388608)) ≤ℤ result }
+    ensures high { result ≤ℤ pos (regions.now.count * 16777218 + 2 ^ 42 + 8388608) }
 {
     let Some((x, y)) = first_open(surface.scene, surface.mask) else {
         return 0;
@@ -83,19 +98,25 @@ pub(crate) fn anchor(surface: &TileSurface, regions: &Regions, net: &Network) ->
     let Some(region) = regions.region(x, y) else {
         return 0;
     };
-    net.potential(region) + i64::from(surface.at(x, y))
+    height(net, start, region) + i64::from(surface.at(x, y))
 }
 
-/// The potentials of all nodes, each lowered by a number.
-pub(crate) fn lowered(alloc: Global, net: &Network, by: i64) -> Result<Vec<i64>, AllocError>
+/// The heights of all regions, each lowered by a number.
+pub(crate) fn lowered(
+    alloc: Global,
+    net: &Network,
+    start: &[i64],
+    by: i64,
+) -> Result<Vec<i64>, AllocError>
     requires heights { LiesWithin (shape_of net.now) (state_of net.now) 16777218 }
     requires few { (shape_of net.now).nodes ≤ 3145728 }
+    requires start { AreStartOffsets (shape_of net.now).nodes start.now }
     requires small { unsigned_abs by ≤ 2 ^ 47 }
-    ensures { IfOk result (λ offsets. AreLowered (state_of net.now) by (shape_of net.now).nodes offsets.items) }
+    ensures { IfOk result (λ offsets. AreLowered start.now (state_of net.now) by (shape_of net.now).nodes offsets.items) }
 {
     let mut offsets = Vec::with_capacity(alloc, net.nodes() as usize)?;
     for region in 0..net.nodes() {
-        offsets.push(net.potential(region) - by)?;
+        offsets.push(height(net, start, region) - by)?;
     }
     Ok(offsets)
 }

@@ -1,10 +1,10 @@
 ghost use Rattle.certificates.specs.SeamVerdicts.{IsGoodAtSeams};
+ghost use Rattle.offset_network.specs.Guesses.{IsJudged};
 ghost use Rattle.offset_network.specs.Shifted.{cycles_with_offsets};
-ghost use Rattle.offset_network.specs.Surfaces.{IsGoodSeams};
 ghost use Rattle.raster_model.specs.Masks.{open_at};
 ghost use Rattle.raster_model.specs.Scene.{raster_of};
 ghost use Rattle.seam_regions.specs.Regions.{AreRegionsOf};
-ghost use Rattle.std.specs.Prelude.{◌≡◌, IfOk, IfSome, IsTrue, length};
+ghost use Rattle.std.specs.Prelude.{IfOk, IsTrue};
 
 use crate::shifted::ShiftedSurface;
 use crate::surface::TileSurface;
@@ -13,6 +13,15 @@ use offset_guess::{Guess, Layout, Link, guess_offsets};
 use raster_model::first_open;
 use seam_regions::{Regions, first_far};
 use std::alloc::{AllocError, Global};
+
+/// What the check makes of a guess.
+#[derive(Drop)]
+pub(crate) enum Judged {
+    /// The offsets and flows certify the surface at its seams.
+    Certified(SeamResult),
+    /// They do not, and these are the offsets.
+    Dropped(Vec<i64>),
+}
 
 /// The guess that is given, or that of the fast solver.
 pub(crate) fn guess_or_solver(
@@ -36,23 +45,23 @@ pub(crate) fn guess_or_solver(
     guess_offsets(alloc, layout, regions.count(), steep, links)
 }
 
-/// The offsets and flows of a guess, if they are found to certify the surface at its seams. A guess promises nothing: all
+/// Judges a guess, with its offsets lowered so that the surface meets the first open pixel. A guess promises nothing: all
 /// rests on the check.
-pub(crate) fn certified(
+pub(crate) fn judge(
     alloc: Global,
     surface: &TileSurface,
     regions: &Regions,
     guess: Guess,
     revision: u32,
-) -> Result<Option<SeamResult>, AllocError>
+) -> Result<Judged, AllocError>
     requires regions { AreRegionsOf surface.now.scene.now.tiling surface.now.mask.now regions.now }
-    ensures { IfOk result (λ found. IfSome found (λ solved. (solved.revision ≡ revision) × IsGoodSeams surface.now.scene.now surface.now.mask.now regions.now surface.now.tiles.now solved)) }
+    ensures { IfOk result (IsJudged surface.now.scene.now surface.now.mask.now regions.now surface.now.tiles.now revision) }
 {
     let mut offsets = guess.offsets;
     let height = first_height(surface, regions, &offsets);
     lower(&mut offsets, height);
     if offsets.len() != regions.count() as usize || first_far(&offsets).is_some() {
-        return Ok(None);
+        return Ok(Judged::Dropped(offsets));
     }
     let shifted = ShiftedSurface {
         surface: *surface,
@@ -60,9 +69,9 @@ pub(crate) fn certified(
         offsets: &offsets,
     };
     if !certifies(alloc, &shifted, &guess.flows)? {
-        return Ok(None);
+        return Ok(Judged::Dropped(offsets));
     }
-    Ok(Some(SeamResult {
+    Ok(Judged::Certified(SeamResult {
         revision,
         offsets,
         flows: guess.flows,

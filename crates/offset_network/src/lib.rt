@@ -11,6 +11,7 @@ mod network;
 mod places;
 mod shifted;
 mod solving;
+mod start;
 mod surface;
 
 pub use crate::solving::{solve_offsets, solve_offsets_from};

@@ -2,21 +2,23 @@ ghost use Rattle.certificates.specs.SeamVerdicts.{IsGoodAtSeams};
 ghost use Rattle.certificates.specs.TileSets.{solved_cycles};
 ghost use Rattle.offset_network.specs.Links.{AreLinks};
 ghost use Rattle.offset_network.specs.Seams.{AreSeamLinks};
+ghost use Rattle.offset_network.specs.Starts.{AreStartOffsets};
 ghost use Rattle.offset_network.specs.Surfaces.{IsGoodTileSet, IsGoodSeams};
 ghost use Rattle.raster_model.specs.Scene.{raster_of};
 ghost use Rattle.raster_model.specs.Masks.{open_at};
-ghost use Rattle.seam_regions.specs.Regions.{AreRegionsOf, region_label};
+ghost use Rattle.seam_regions.specs.Regions.{AreRegionsOf, region_label, shifted_by};
 ghost use Rattle.std.specs.Prelude.{◌≡◌, IfOk};
 
 use crate::answer::{anchor, flows, lowered, sums_of_three};
-use crate::guessing::{certified, guess_or_solver};
+use crate::guessing::{Judged, guess_or_solver, judge};
 use crate::lanes::lanes;
 use crate::links::links;
 use crate::network::solved;
 use crate::places::TilePlaces;
+use crate::start::Start;
 use crate::surface::TileSurface;
 use certificates::{SeamResult, TileSet};
-use offset_guess::{Guess, Link};
+use offset_guess::Guess;
 use raster_model::{Mask, Scene};
 use seam_regions::Regions;
 use std::alloc::{AllocError, Global};
@@ -44,8 +46,9 @@ pub fn solve_offsets(
 
 /// Finds offsets as `solve_offsets` does, from a guess at them and at their flows, or from that of `offset_guess` if none is
 /// given. The offsets of a guess are lowered together so that the surface meets the first open pixel. A guess that then
-/// certifies itself is taken, and any other is dropped: so it can cost time, and nothing else. (McConnell, Mehlhorn, Naeher
-/// and Schweitzer 2011.)
+/// certifies itself is taken. From the offsets of any other the network starts, if there is one for each region and they and
+/// the departures with them are in range, and else from nothing: so a guess can cost time, and nothing else. (McConnell,
+/// Mehlhorn, Naeher and Schweitzer 2011.)
 pub fn solve_offsets_from(
     alloc: Global,
     scene: &Scene,
@@ -70,32 +73,37 @@ pub fn solve_offsets_from(
     };
     let links = links(alloc, &surface, regions)?;
     let guess = guess_or_solver(alloc, &surface, regions, &links, guess)?;
-    if let Some(solved) = certified(alloc, &surface, regions, guess, revision)? {
-        return Ok(solved);
+    match judge(alloc, &surface, regions, guess, revision)? {
+        Judged::Certified(solved) => Ok(solved),
+        Judged::Dropped(offsets) => {
+            let start = Start::from(alloc, offsets, regions.count(), links)?;
+            by_network(alloc, &surface, regions, &start, revision)
+        }
     }
-    by_network(alloc, &surface, regions, &links, revision)
 }
 
-/// Finds them by the proved network.
+/// Finds them by the proved network, from a start.
 fn by_network(
     alloc: Global,
     surface: &TileSurface,
     regions: &Regions,
-    links: &[Option<Link>],
+    start: &Start,
     revision: u32,
 ) -> Result<SeamResult, AllocError>
     requires regions { AreRegionsOf surface.now.scene.now.tiling surface.now.mask.now regions.now }
-    requires links { AreLinks regions.now.count links.now }
-    requires seams { AreSeamLinks (raster_of surface.now.scene.now) (open_at surface.now.mask.now) (region_label regions.now) (solved_cycles surface.now.scene.now surface.now.tiles.now.results) links.now }
+    requires offsets { AreStartOffsets regions.now.count start.now.offsets.items }
+    requires links { AreLinks regions.now.count start.now.links.items }
+    requires seams { AreSeamLinks (raster_of surface.now.scene.now) (open_at surface.now.mask.now) (region_label regions.now) (shifted_by regions.now start.now.offsets.items (solved_cycles surface.now.scene.now surface.now.tiles.now.results)) start.now.links.items }
     ensures revision { IfOk result (λ solved. solved.revision ≡ revision) }
     ensures good { IfOk result (IsGoodSeams surface.now.scene.now surface.now.mask.now regions.now surface.now.tiles.now) }
 {
     let count = regions.count();
-    let lanes = lanes(alloc, links, surface.scene.terms.steep, count)?;
+    let lanes = lanes(alloc, &start.links, surface.scene.terms.steep, count)?;
     let net = solved(alloc, count, &lanes)?;
     let parts = flows(alloc, &net, &lanes)?;
-    let flows = sums_of_three(alloc, &parts, links.len())?;
-    let offsets = lowered(alloc, &net, anchor(surface, regions, &net))?;
+    let flows = sums_of_three(alloc, &parts, start.links.len())?;
+    let by = anchor(surface, regions, &net, &start.offsets);
+    let offsets = lowered(alloc, &net, &start.offsets, by)?;
     Ok(SeamResult {
         revision,
         offsets,

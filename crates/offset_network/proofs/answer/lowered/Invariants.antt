@@ -3,4 +3,4 @@ use Rattle.offset_network.specs.Networks.{AreLowered}
 use Rattle.offset_network.proofs.answer.lowered.Given as goal
 
 abbrev pub invariant-loop-region : goal.invariant-loop-region
-invariant-loop-region l = AreLowered (state_of l.net) l.by l.region l.offsets.items
+invariant-loop-region l = AreLowered l.start (state_of l.net) l.by l.region l.offsets.items

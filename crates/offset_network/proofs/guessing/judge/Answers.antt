@@ -3,7 +3,7 @@ use Rattle.std.specs.Option.{is_some}
 use Rattle.std.specs.Prelude.{IfNone, ℤ, List}
 use Rattle.seam_regions.specs.Offsets.{AreNear}
 use Rattle.offset_network.proofs.SurfaceLemmas.{are_labelled}
-use Rattle.offset_network.proofs.guessing.certified.Goals as goal
+use Rattle.offset_network.proofs.guessing.judge.Goals as goal
 
 -- all offsets are in range if none was found that is not
 none_far : (offsets : List ℤ) (found : Option ℕ) → IfNone found (AreNear offsets) → is_some found ≡ false → AreNear offsets

@@ -12,6 +12,7 @@ use seam_regions::Regions;
 use std::alloc::{AllocError, Global};
 use std::sync::Arc;
 use std::test::Fail;
+use std::thread::Threads;
 use surface_snapshots::{BuildFault, Snapshot};
 use worked_scenes::{SceneFault, masked, scene, tile_result};
 
@@ -325,4 +326,70 @@ fn a_surface_that_shares_with_another_reads_the_same(rt: HostRuntime) {
     let alone = told(rt.alloc(), gap(rt.alloc(), None));
     assert_eq!(rt; gap_beside_line(rt.alloc()).as_deref(), alone.as_deref());
     assert_eq!(rt; shared_columns(rt.alloc()).as_deref(), Some(ROWS[0].2));
+}
+
+/// How many pixels a tile of side 128 has, and how many cells.
+const PIXELS: usize = 128 * 128;
+
+const CELLS: usize = 127 * 127;
+
+/// A tile with no cycles, and no face that certifies it.
+const LEVEL: Solved = (&[0; PIXELS], &[0; CELLS]);
+
+/// Phases of two tiles, one below the other: 0 in the first and 40000 in the second, more than half a cycle higher.
+fn raised(alloc: Global) -> Result<Vec<u16>, AllocError> {
+    let mut phases = Vec::new(alloc);
+    for _ in 0..PIXELS {
+        phases.push(0)?;
+    }
+    for _ in 0..PIXELS {
+        phases.push(40000)?;
+    }
+    Ok(phases)
+}
+
+/// What two threads build of results, offsets and flows, or why nothing is built.
+fn built_by_two<R: Threads + Sync>(
+    rt: &R,
+    alloc: Global,
+    session: Arc<Session>,
+    tiles: TileSet,
+    offsets: &[i64],
+    flows: &[i64],
+) -> Built
+    requires tiling { tiles.tiling ≡ (arc_value session).scene.tiling }
+    requires good { AreGoodTiles (arc_value session).scene (open_at (arc_value session).first_mask) tiles.results }
+{
+    let seams = seams(alloc, offsets, flows)?;
+    let mask = session.first_mask.try_copy(alloc)?;
+    let regions = Regions::of(alloc, &session.scene.tiling, &mask)?;
+    Snapshot::build_side_by_side(rt, 2, alloc, None, session, mask, regions, tiles, seams)
+}
+
+/// The surface of these two tiles. Each thread has one of them as its strip. The second lies one cycle lower.
+fn two_strips<R: Threads + Sync>(rt: &R, alloc: Global) -> Option<Built> {
+    let phases = raised(alloc).ok()?;
+    let samples: [&[u16]; 3] = [&phases, &[1; 2 * PIXELS], &[1; 2 * PIXELS]];
+    let Ok(session) = sampled(alloc, Tiling::new(128, 256, 128), samples) else {
+        return None;
+    };
+    let tiles = results(alloc, &session, [LEVEL, LEVEL])?;
+    Some(built_by_two(rt, alloc, session, tiles, &[0, -1], &[0; 128]))
+}
+
+/// The costs of that surface, or why there is none.
+fn costs_of_strips<R: Threads + Sync>(rt: &R, alloc: Global) -> Option<String> {
+    let costs = match two_strips(rt, alloc)? {
+        Ok(snapshot) => Ok((snapshot.tile_cost(), snapshot.seam_cost())),
+        Err(fault) => Err(fault),
+    };
+    format!(in alloc; "{costs:?}").ok()
+}
+
+#[test]
+fn threads_make_a_surface_strip_by_strip(rt: HostRuntime) {
+    assert_eq!(rt;
+        costs_of_strips(&rt, rt.alloc()).as_deref(),
+        Some("Ok((0, 0))")
+    );
 }

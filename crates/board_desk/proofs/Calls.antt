@@ -9,6 +9,7 @@ use Rattle.atomic_table.specs.Seated.{TableId}
 use Rattle.raster_model.specs.declared.session.Session.{Session}
 use Rattle.certificates.specs.declared.results.SeamResult.{SeamResult}
 use Rattle.certificates.specs.declared.results.TileResult.{TileResult}
+use Rattle.surface_snapshots.specs.Parts.{Parts}
 use Rattle.surface_snapshots.specs.Views.{parts_of}
 use Rattle.surface_snapshots.specs.declared.snapshot.Snapshot.{Snapshot}
 use Rattle.tile_board.specs.declared.answers.Advance.{Advance}
@@ -25,11 +26,11 @@ use Rattle.tile_board.specs.declared.gathered.PresentMask.{PresentMask}
 use Rattle.tile_board.specs.declared.ticket.Ticket.{Ticket}
 use Rattle.tile_board.specs.BoardView.{BoardView}
 use Rattle.tile_board.specs.Boards.{IsBoard}
-use Rattle.tile_board.specs.Calls.{AddsEntry, HasAdvanceFault, HasClaimFault, HasGatherFault, HasKeepFault, HasPublishFault, IsAdvance, IsClaim, IsGathering, IsKeep, IsPresentMask, IsPublication, AreClaims, WasMaskAt}
+use Rattle.tile_board.specs.Calls.{AddsEntry, HasAdvanceFault, HasClaimFault, HasGatherFault, HasKeepFault, HasMadeFault, HasPublishFault, IsAdvance, IsClaim, IsGathering, IsKeep, IsMadePublication, IsPresentMask, IsPublication, AreClaims, WasMaskAt}
 use Rattle.tile_board.specs.Surfaces.{IsNewestIn, last_surface}
 use Rattle.tile_board.proofs.NewestSurface.{newest_in}
 use Rattle.board_desk.specs.declared.law.View.{View}
-use Rattle.board_desk.specs.Answers.{AdvanceAnswers, ClaimAnswers, GatherAnswers, IsMaskThere, KeepAnswers, NewestAnswers, PublishAnswers, ShareAnswers}
+use Rattle.board_desk.specs.Answers.{AdvanceAnswers, ClaimAnswers, GatherAnswers, IsMaskThere, KeepAnswers, MadeAnswers, NewestAnswers, PublishAnswers, ShareAnswers}
 use Rattle.board_desk.specs.Mine.{mine_of}
 use Rattle.board_desk.specs.Passes.{Called, PassView}
 use Rattle.board_desk.specs.Rules.{Grown, Grows, Held, Place, given, holding_it}
@@ -148,6 +149,11 @@ pub publish_answers : {U : Type 0} (o : Option ℕ) (a : ℕ) (seams : SeamResul
 publish_answers {U} o a seams b c (Ok x) is ok fault err = subst (λ (p : Option ℕ). PublishAnswers {U = U} p seams (Ok x) b c) is ok
 publish_answers {U} o a seams b c (Err e) is ok fault err = subst (λ (p : Option ℕ). PublishAnswers {U = U} p seams (Err e) b c) is (fault, err)
 
+pub made_answers : {U : Type 0} (o : Option ℕ) (a : ℕ) (p : Parts) (b c : BoardView) (answer : Result U PublishFault) → Some a ≡ o → OnOk answer (IsMadePublication b c a p) → IfErr answer (HasMadeFault b a p.seams.revision) → OnErr answer (c ≡ b)
+    → MadeAnswers o p answer b c
+made_answers {U} o a p b c (Ok x) is ok fault err = subst (λ (q : Option ℕ). MadeAnswers {U = U} q p (Ok x) b c) is ok
+made_answers {U} o a p b c (Err e) is ok fault err = subst (λ (q : Option ℕ). MadeAnswers {U = U} q p (Err e) b c) is (fault, err)
+
 pub advance_answers : (o : Option ℕ) (a : ℕ) (b c : BoardView) (answer : Result Advance AdvanceFault) → Some a ≡ o → IfOk answer (IsAdvance b c a) → IfErr answer (HasAdvanceFault b a) → OnErr answer (c ≡ b)
     → AdvanceAnswers o answer b c
 advance_answers o a b c (Ok x) is ok fault err = subst (λ (p : Option ℕ). AdvanceAnswers p (Ok x) b c) is ok
@@ -159,6 +165,10 @@ who a p t m e view is = is ∙ sym (ap (λ (q : PassView). q.analyst) view)
 
 pub publish_grows_as : {U : Type 0} (o : Option ℕ) (a : ℕ) (seams : SeamResult) (b c : BoardView) (answer : Result U PublishFault) → Some a ≡ o → OnOk answer (IsPublication b c a seams) → OnErr answer (c ≡ b) → Grows o b c
 publish_grows_as o a seams b c answer is ok err = subst (λ (p : Option ℕ). Grows p b c) is (publish_grows a seams b c answer ok err)
+
+pub made_grows_as : {U : Type 0} (o : Option ℕ) (a : ℕ) (p : Parts) (b c : BoardView) (answer : Result U PublishFault) → Some a ≡ o → OnOk answer (IsMadePublication b c a p) → OnErr answer (c ≡ b) → Grows o b c
+made_grows_as o a p b c (Ok x) is ok err = subst (λ (q : Option ℕ). Grows q b c) is (adds_own a b c (Published a p.seams.revision) (λ d apart. not_named a d (Published a p.seams.revision) apart) ok.adds)
+made_grows_as o a p b c (Err e) is ok err = subst (λ (q : Option ℕ). Grows q b c) is (stays (Some a) b c err)
 
 pub advance_grows_as : (o : Option ℕ) (a : ℕ) (b c : BoardView) (answer : Result Advance AdvanceFault) → Some a ≡ o → IfOk answer (IsAdvance b c a) → OnErr answer (c ≡ b) → Grows o b c
 advance_grows_as o a b c answer is ok err = subst (λ (p : Option ℕ). Grows p b c) is (advance_grows a b c answer ok err)

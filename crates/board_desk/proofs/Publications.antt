@@ -13,7 +13,8 @@ use Rattle.tile_board.specs.declared.answers.PublishFault.{PublishFault}
 use Rattle.tile_board.specs.declared.entry.Entry.{Entry}
 use Rattle.tile_board.specs.declared.entry.Entry.TheVariants.{Kept, Published, Revised, Settled, Shown}
 use Rattle.tile_board.specs.BoardView.{BoardView}
-use Rattle.tile_board.specs.Calls.{IsAdvance, IsPublication}
+use Rattle.surface_snapshots.specs.Parts.{Parts}
+use Rattle.tile_board.specs.Calls.{IsAdvance, IsMadePublication, IsPublication}
 use Rattle.tile_board.specs.Histories.{IsLegal, IsStep, newest_of, now_of}
 use Rattle.tile_board.specs.Runs.{IsNoLater}
 use Rattle.tile_board.proofs.HistoryLemmas.{edits_same, legal_take, newest_more, newest_same, newest_within}
@@ -106,3 +107,12 @@ current_before s e p q r answers later c now = (
       (newest_later c.before.session e.seen p.seen later.seen (legal_prefix c.before.session p.seen c.before.entries c.begins c.found.legal)) now.0,
   now.1,
 )
+
+pub made_now : {U : Type 0} (p q : PassView) (a : ℕ) (made : Parts) (b c : BoardView) (answer : Result U PublishFault) → IsPrefix p.seen b.entries → IsLegal b.session b.entries → q.seen ≡ c.entries
+    → OnOk answer (IsMadePublication b c a made) → OnOk answer (IsCurrent p q made.seams.revision)
+made_now p q a made b c (Ok x) begins legal seen is = (
+  later_trans (newest_of p.seen) (newest_of b.entries) (Some made.seams.revision) (newest_later b.session p.seen b.entries begins legal)
+      (within (newest_of b.entries) made.seams.revision (λ k g. omega (arith, newest_within b.session b.entries legal k g, is.adds.step.1))),
+  is.adds.step.1 ∙ (now_same b c (Published a made.seams.revision) is.adds.entries (ap (λ (l : List Edit). length l) (edits_same b.entries (Published a made.seams.revision) refl)) ∙ ap now_of (sym seen)),
+)
+made_now p q a made b c (Err fault) begins legal seen is = tt

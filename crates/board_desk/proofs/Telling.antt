@@ -19,9 +19,10 @@ use Rattle.tile_board.specs.declared.answers.PublishFault.TheVariants as publish
 use Rattle.tile_board.specs.declared.entry.Entry.{Entry}
 use Rattle.tile_board.specs.declared.entry.Entry.TheVariants.{Published, Revised, Settled, Shown}
 use Rattle.tile_board.specs.BoardView.{BoardView}
-use Rattle.tile_board.specs.Calls.{IsPublication, WasGood, WasGoodAt, WasMask, WasMaskAt}
+use Rattle.surface_snapshots.specs.Parts.{Parts}
+use Rattle.tile_board.specs.Calls.{IsMadePublication, IsPublication, WasGood, WasGoodAt, WasMask, WasMaskAt}
 use Rattle.tile_board.specs.Histories.{names, next_command, script_of}
-use Rattle.board_desk.specs.Answers.{AdvanceAnswers, AwaitsSurface, IsOfSettle, OwnAdvance, OwnPublish, PublishAnswers}
+use Rattle.board_desk.specs.Answers.{AdvanceAnswers, AwaitsSurface, IsOfSettle, MadeAnswers, OwnAdvance, OwnPublish, PublishAnswers}
 use Rattle.board_desk.specs.Mine.{mine_of}
 use Rattle.board_desk.specs.Passes.{AddsOwn, Called, HasNotMoved, IsAtSettle, PassView}
 use Rattle.board_desk.specs.Rules.{Grows, Held, Place, given}
@@ -156,7 +157,7 @@ of_settle s p q (Ok advances.Ended) c at =
 of_settle s p q (Err fault) c at = tt
 
 -- ---- publish
-own_publish_at : {U : Type 0} (s : Session) (p q : PassView) (seams : SeamResult) (answer : Result U PublishFault) → Called s p q (PublishAnswers p.analyst seams answer) → (a : ℕ) → p.analyst ≡ Some a → OwnPublish p q seams answer
+own_publish_at : {U : Type 0} (s : Session) (p q : PassView) (seams : SeamResult) (answer : Result U PublishFault) → Called s p q (PublishAnswers p.analyst seams answer) → (a : ℕ) → p.analyst ≡ Some a → OwnPublish p q seams.revision answer
 own_publish_at {U} s p q seams (Ok x) c a is =
     let t = subst (λ (o : Option ℕ). PublishAnswers {U = U} o seams (Ok x) c.before c.after) is c.answer in
     added_own s p q (PublishAnswers {U = U} p.analyst seams (Ok x)) c a is (λ d. Published d seams.revision) (self a) t.adds.entries
@@ -164,7 +165,7 @@ own_publish_at {U} s p q seams (Err fault) c a is =
     let t = subst (λ (o : Option ℕ). PublishAnswers {U = U} o seams (Err fault) c.before c.after) is c.answer in
     still_own s p q (PublishAnswers {U = U} p.analyst seams (Err fault)) c a is t.1
 
-pub own_publish : {U : Type 0} (s : Session) (p q : PassView) (seams : SeamResult) (answer : Result U PublishFault) → p.analyst ≢ None → Called s p q (PublishAnswers p.analyst seams answer) → OwnPublish p q seams answer
+pub own_publish : {U : Type 0} (s : Session) (p q : PassView) (seams : SeamResult) (answer : Result U PublishFault) → p.analyst ≢ None → Called s p q (PublishAnswers p.analyst seams answer) → OwnPublish p q seams.revision answer
 own_publish s p q seams answer some c = (let w = some_of p.analyst some in own_publish_at s p q seams answer c w.0 w.1)
 
 pub not_refused : {U : Type 0} (s : Session) (p q : PassView) (seams : SeamResult) (answer : Result U PublishFault) → Called s p q (PublishAnswers p.analyst seams answer) → IsAtSettle s p → answer ≢ Err publish_faults.NotSettle
@@ -178,3 +179,26 @@ publish_stays b c o a e seams (Ok x) is ok err d who before on =
     let same : a ≡ d = cc (is, who) in
     absurd (not_none _ (subst (λ (n : ℕ). next_command b.session b.entries n ≡ Some Settle) same ok.adds.step.0) (before on))
 publish_stays b c o a e seams (Err fault) is ok err d who before on = ap (λ (x : BoardView). next_command b.session x.entries d) err ∙ before on
+
+-- ---- publish_made
+own_made_at : {U : Type 0} (s : Session) (p q : PassView) (made : Parts) (answer : Result U PublishFault) → Called s p q (MadeAnswers p.analyst made answer) → (a : ℕ) → p.analyst ≡ Some a → OwnPublish p q made.seams.revision answer
+own_made_at {U} s p q made (Ok x) c a is =
+    let t = subst (λ (o : Option ℕ). MadeAnswers {U = U} o made (Ok x) c.before c.after) is c.answer in
+    added_own s p q (MadeAnswers {U = U} p.analyst made (Ok x)) c a is (λ d. Published d made.seams.revision) (self a) t.adds.entries
+own_made_at {U} s p q made (Err fault) c a is =
+    let t = subst (λ (o : Option ℕ). MadeAnswers {U = U} o made (Err fault) c.before c.after) is c.answer in
+    still_own s p q (MadeAnswers {U = U} p.analyst made (Err fault)) c a is t.1
+
+pub own_made : {U : Type 0} (s : Session) (p q : PassView) (made : Parts) (answer : Result U PublishFault) → p.analyst ≢ None → Called s p q (MadeAnswers p.analyst made answer) → OwnPublish p q made.seams.revision answer
+own_made s p q made answer some c = (let w = some_of p.analyst some in own_made_at s p q made answer c w.0 w.1)
+
+pub made_not_refused : {U : Type 0} (s : Session) (p q : PassView) (made : Parts) (answer : Result U PublishFault) → Called s p q (MadeAnswers p.analyst made answer) → IsAtSettle s p → answer ≢ Err publish_faults.NotSettle
+made_not_refused {U} s p q made answer c at e =
+    let t = subst (λ (w : Option ℕ × Result U PublishFault). MadeAnswers {U = U} w.0 made w.1 c.before c.after) (λ i. (at.is i, e i)) c.answer in
+    t.0 (next_there s p q (MadeAnswers {U = U} p.analyst made answer) c at.analyst at.is ∙ at.next)
+
+pub made_stays : {U : Type 0} (b c : BoardView) (o : Option ℕ) (a : ℕ) (e : Bool) (made : Parts) (answer : Result U PublishFault) → o ≡ Some a → OnOk answer (IsMadePublication b c a made) → OnErr answer (c ≡ b) → Stays b c o e e
+made_stays b c o a e made (Ok x) is ok err d who before on =
+    let same : a ≡ d = cc (is, who) in
+    absurd (not_none _ (subst (λ (n : ℕ). next_command b.session b.entries n ≡ Some Settle) same ok.adds.step.0) (before on))
+made_stays b c o a e made (Err fault) is ok err d who before on = ap (λ (x : BoardView). next_command b.session x.entries d) err ∙ before on

@@ -10,6 +10,7 @@ use Rattle.raster_model.specs.declared.session.Session.{Session}
 use Rattle.certificates.specs.declared.results.SeamResult.{SeamResult}
 use Rattle.certificates.specs.declared.results.TileResult.{TileResult}
 use Rattle.surface_snapshots.specs.declared.snapshot.Snapshot.{Snapshot}
+use Rattle.surface_snapshots.specs.Parts.{Parts}
 use Rattle.surface_snapshots.specs.Views.{parts_of}
 use Rattle.tile_board.specs.declared.answers.Advance.{Advance}
 use Rattle.tile_board.specs.declared.answers.Advance.TheVariants as advances
@@ -25,7 +26,7 @@ use Rattle.tile_board.specs.declared.gathered.Gathered.{Gathered}
 use Rattle.tile_board.specs.declared.gathered.PresentMask.{PresentMask}
 use Rattle.tile_board.specs.declared.ticket.Ticket.{Ticket}
 use Rattle.tile_board.specs.BoardView.{BoardView}
-use Rattle.tile_board.specs.Calls.{AreClaims, HasAdvanceFault, HasClaimFault, HasGatherFault, HasKeepFault, HasPublishFault, IsAdvance, IsClaim, IsGathering, IsKeep, IsPresentMask, IsPublication, WasMaskAt}
+use Rattle.tile_board.specs.Calls.{AreClaims, HasAdvanceFault, HasClaimFault, HasGatherFault, HasKeepFault, HasMadeFault, HasPublishFault, IsAdvance, IsClaim, IsGathering, IsKeep, IsMadePublication, IsPresentMask, IsPublication, WasMaskAt}
 use Rattle.tile_board.specs.Histories.{newest_of, now_of}
 use Rattle.tile_board.specs.Runs.{IsNoLater}
 use Rattle.tile_board.specs.Surfaces.{last_surface}
@@ -79,14 +80,17 @@ NewestAnswers answer old new = IfOk answer (λ newest. option_map parts_of newes
 abbrev pub PublishAnswers : {U : Type 0} → Option ℕ → SeamResult → Result U PublishFault → BoardView → BoardView → Type 0
 PublishAnswers analyst seams answer old new = IfSome analyst (λ a. MatchResult answer (λ _. IsPublication old new a seams) (λ fault. HasPublishFault old a seams fault × (new ≡ old)))
 
+abbrev pub MadeAnswers : {U : Type 0} → Option ℕ → Parts → Result U PublishFault → BoardView → BoardView → Type 0
+MadeAnswers analyst surface answer old new = IfSome analyst (λ a. MatchResult answer (λ _. IsMadePublication old new a surface) (λ fault. HasMadeFault old a surface.seams.revision fault × (new ≡ old)))
+
 abbrev pub AdvanceAnswers : Option ℕ → Result Advance AdvanceFault → BoardView → BoardView → Type 0
 AdvanceAnswers analyst answer old new = IfSome analyst (λ a. MatchResult answer (IsAdvance old new a) (λ fault. HasAdvanceFault old a fault × (new ≡ old)))
 
 -- ---- what an answer tells of the pass
 -- what was published in the analyst's name
-abbrev pub OwnPublish : {U : Type 0} → PassView → PassView → SeamResult → Result U PublishFault → Type 0
-OwnPublish p q seams (Ok done) = AddsOwn p q (λ a. Published a seams.revision)
-OwnPublish p q seams (Err fault) = q.mine ≡ p.mine
+abbrev pub OwnPublish : {U : Type 0} → PassView → PassView → ℕ → Result U PublishFault → Type 0
+OwnPublish p q revision (Ok done) = AddsOwn p q (λ a. Published a revision)
+OwnPublish p q revision (Err fault) = q.mine ≡ p.mine
 
 -- what was done in the analyst's name
 abbrev pub OwnAdvance : PassView → PassView → Result Advance AdvanceFault → Type 0

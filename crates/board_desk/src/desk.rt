@@ -11,13 +11,11 @@ use crate::pass::{Heard, Pass};
 use crate::stamped::Stamped;
 use atomic_table::Table;
 use certificates::{SeamResult, TileResult};
-use raster_model::{Mask, Session};
-use seam_regions::Regions;
+use raster_model::Session;
 use std::alloc::{AllocError, Global};
 use std::marker::Model;
 use std::snapshot::Snapshot;
 use std::sync::Wait;
-use std::thread::Threads;
 use surface_snapshots::Snapshot as Surface;
 use tile_board::{
     Advance, AdvanceFault, Board, ClaimFault, GatherFault, Gathered, KeepFault, PresentMask,
@@ -43,13 +41,13 @@ impl Model for Desk {
 }
 
 impl Desk {
-    ghost use Rattle.board_desk.specs.Answers.{AdvanceAnswers, AwaitsSurface, ClaimAnswers, GatherAnswers, IsCurrent, IsMaskThere, IsOfSettle, IsUpToDate, KeepAllAnswers, KeepAnswers, MaskAnswers, NewestAnswers, OwnAdvance, OwnPublish, PublishAnswers, ShareAnswers, tells_end};
+    ghost use Rattle.board_desk.specs.Answers.{AdvanceAnswers, AwaitsSurface, ClaimAnswers, GatherAnswers, IsCurrent, IsMaskThere, IsOfSettle, IsUpToDate, KeepAllAnswers, KeepAnswers, MadeAnswers, MaskAnswers, NewestAnswers, OwnAdvance, OwnPublish, PublishAnswers, ShareAnswers, tells_end};
     ghost use Rattle.board_desk.specs.Passes.{Called, HasNotMoved, HaveAnalysts, IsAtSettle, IsPassOf, Merged, Stands, first_passes as passes_to, worker_pass as new_worker};
-    ghost use Rattle.seam_regions.specs.Regions.{AreRegionsOf};
     ghost use Rattle.std.specs.Prelude.{◌≡◌, ◌≢◌, ◌||◌, [], All, Err, IfOk, None, OnOk, length, vec_len};
     ghost use Rattle.tile_board.specs.declared.answers.PublishFault.TheVariants.{NotSettle};
     ghost use Rattle.tile_board.specs.Boards.{IsBoard};
-    ghost use Rattle.tile_board.specs.Calls.{WasGoodAt, WasMaskAt};
+    ghost use Rattle.surface_snapshots.specs.Views.{parts_of};
+    ghost use Rattle.tile_board.specs.Calls.{IsMadeOf, WasGoodAt, WasMaskAt};
     ghost use Rattle.tile_board.specs.Surfaces.{IsNewestIn};
 
     /// The desk of a board whose history is empty, and the passes of the analysts, from analyst 1 on. It fails only for
@@ -306,7 +304,7 @@ impl Desk {
         requires pass { IsPassOf self.now pass.old }
         requires analyst { pass.old.analyst ≢ None }
         ensures call { Called self.now.session pass.old pass.new (PublishAnswers pass.old.analyst seams result.answer) }
-        ensures own { OwnPublish pass.old pass.new seams result.answer }
+        ensures own { OwnPublish pass.old pass.new seams.revision result.answer }
         ensures fresh { OnOk result.answer (IsCurrent pass.old pass.new seams.revision) }
         ensures settles { IsAtSettle self.now.session pass.old → result.answer ≢ Err NotSettle }
         ensures ended { pass.new.ended ≡ pass.old.ended }
@@ -323,32 +321,28 @@ impl Desk {
         }
     }
 
-    /// Publishes a surface for the pass's analyst, as `Board::publish_over` does: over the mask at the end of what the pass
-    /// has seen, and over its regions.
-    pub fn publish_over<R: Threads + Wait + Sync>(
+    /// Publishes a surface for the pass's analyst, as `Board::publish_made` does: one that was made of the desk's session,
+    /// over the mask at the end of what the pass has seen. It was made before, so the lock is held for a moment only.
+    pub fn publish_made<R: Wait>(
         &self,
         rt: &R,
-        threads: u32,
-        alloc: Global,
         pass: &mut Pass,
-        mask: Mask,
-        regions: Regions,
-        seams: SeamResult,
+        surface: Surface,
     ) -> Stamped<Result<(), PublishFault>>
         requires pass { IsPassOf self.now pass.old }
         requires analyst { pass.old.analyst ≢ None }
-        requires mask { WasMaskAt self.now.session pass.old.seen mask seams.revision }
-        requires regions { AreRegionsOf self.now.session.scene.tiling mask regions }
-        ensures call { Called self.now.session pass.old pass.new (PublishAnswers pass.old.analyst seams result.answer) }
-        ensures own { OwnPublish pass.old pass.new seams result.answer }
-        ensures fresh { OnOk result.answer (IsCurrent pass.old pass.new seams.revision) }
+        requires made { IsMadeOf self.now.session (parts_of surface) }
+        requires mask { WasMaskAt self.now.session pass.old.seen (parts_of surface).mask (parts_of surface).seams.revision }
+        ensures call { Called self.now.session pass.old pass.new (MadeAnswers pass.old.analyst (parts_of surface) result.answer) }
+        ensures own { OwnPublish pass.old pass.new (parts_of surface).seams.revision result.answer }
+        ensures fresh { OnOk result.answer (IsCurrent pass.old pass.new (parts_of surface).seams.revision) }
         ensures settles { IsAtSettle self.now.session pass.old → result.answer ≢ Err NotSettle }
         ensures ended { pass.new.ended ≡ pass.old.ended }
         ensures front { result.front ≡ length pass.new.seen }
     {
         let analyst = number(pass);
         let mut board = take_board(rt, &self.table.shared, &mut pass.seat);
-        let answer = board.publish_over(rt, threads, alloc, analyst, mask, regions, seams);
+        let answer = board.publish_made(analyst, surface);
         pass.heard = Heard::of(&board, pass.analyst);
         give_board(&self.table.shared, &mut pass.seat, board);
         Stamped {

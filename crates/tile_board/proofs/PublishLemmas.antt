@@ -22,7 +22,7 @@ use Rattle.tile_board.specs.declared.entry.Entry.{Entry}
 use Rattle.tile_board.specs.declared.entry.Entry.TheVariants.{Published}
 use Rattle.tile_board.specs.Boards.{IsSurfaceOf}
 use Rattle.tile_board.specs.BoardView.{BoardView}
-use Rattle.tile_board.specs.Calls.{AreKeptResults, ArePublishable, HasPublishFault, IsFresh, IsMaskNow, IsPublication}
+use Rattle.tile_board.specs.Calls.{AddsEntry, AreKeptResults, ArePublishable, HasMadeFault, HasPublishFault, IsFresh, IsFreshAt, IsMadeOf, IsMadePublication, IsMaskNow, IsPublication}
 use Rattle.tile_board.specs.Causes.{building_cause}
 use Rattle.tile_board.specs.Histories.{AreAllKept, IsStep, mask_in, now_of}
 use Rattle.tile_board.specs.Lacking.{LackingView}
@@ -70,6 +70,42 @@ surface_cause v a seams (publish_faults.Double r) fresh is = absurd is
 surface_cause v a seams (publish_faults.Unready t) fresh is = (fresh, is)
 surface_cause v a seams (publish_faults.Uncertified verdict) fresh is = ((fresh, is.0), is.1, is.2, is.3, is.4)
 surface_cause v a seams publish_faults.Memory fresh is = (fresh, is)
+
+-- a surface that was made over the present mask is one of the history
+pub made_surface : (v : BoardView) (p : Parts) → IsMadeOf v.session p → IsMaskNow v p.mask → p.seams.revision ≡ now_of v.entries → IsSurfaceOf v.session v.entries p
+made_surface v p made now here =
+    let s = v.session in
+    record {
+      revision = omega (arith, here);
+      session = made.session;
+      mask = subst (λ (r : ℕ). IsMaskOf p.mask s.scene.phase.width s.scene.phase.height (mask_in s v.entries r)) (sym here) now;
+      regions = made.regions;
+      tiling = made.tiling;
+      tiles = made.tiles;
+      published = made.certified;
+      verdict = made.verdict;
+    }
+
+-- and if it was added it was published
+pub made_publication : (old new : BoardView) (a r : ℕ) (p : Parts) → p.seams.revision ≡ r → IsMaskNow old p.mask → AddsSurface old new a r p → IsMadePublication old new a p
+made_publication old new a r p same now added = record {
+  adds = subst (λ (n : ℕ). AddsEntry old new (Published a n)) (sym same) added.adds;
+  kept = added.kept;
+  mask = now;
+  surfaces = added.surfaces;
+}
+
+-- why a surface that was made is not published
+pub made_starved : (v : BoardView) (a r : ℕ) (fault : PublishFault) → IsFreshAt v a r → AreAllKept v.session v.entries → fault ≡ publish_faults.Memory → HasMadeFault v a r fault
+made_starved v a r fault fresh ready is = subst (HasMadeFault v a r) (sym is) (fresh, ready)
+
+pub made_cause : (v : BoardView) (a : ℕ) (seams : SeamResult) (fault : PublishFault) → HasMadeFault v a seams.revision fault → HasPublishFault v a seams fault
+made_cause v a seams publish_faults.NotSettle is = is
+made_cause v a seams (publish_faults.Stale r) is = is
+made_cause v a seams (publish_faults.Double r) is = is
+made_cause v a seams (publish_faults.Unready t) is = is
+made_cause v a seams (publish_faults.Uncertified verdict) is = absurd is
+made_cause v a seams publish_faults.Memory is = is
 
 -- a surface that was added is a publication
 pub publication : (old new : BoardView) (a : ℕ) (seams : SeamResult) (p : Parts) → ArePublishable old seams p → IsSurfaceOf old.session old.entries p → AddsSurface old new a seams.revision p → IsPublication old new a seams

@@ -1,6 +1,6 @@
 -- What is held by a board tells of its history.
 use Rattle.std.proofs.Common.{◌≡◌, ℕ, ◌<◌, sym, ◌∙◌, ap, arith, Bool, List, length}
-use Rattle.std.specs.Prelude.{Option, Some, None, IsTrue, IsFalse, map, option_map, slice_get}
+use Rattle.std.specs.Prelude.{Option, Some, None, IfNone, IfSome, MatchOption, IsTrue, IsFalse, map, option_map, slice_get}
 use Rattle.std.proofs.lemmas.Bool.{false≢true}
 use Rattle.std.proofs.lemmas.List.{length-map}
 use Rattle.std.proofs.lemmas.Option.{slice_get-map}
@@ -42,6 +42,15 @@ module _ {s : Session} {H : List Entry} {kept : List (Option TileResult)} {surfa
 
   pub least_lacking : (t : ℕ) → IsFirstGap kept t → IsLeastLacking s H t
   least_lacking t g = record { exists = gap_below t g.0; lacking = gap_tells t g.0; least = λ u l. held_tells u (g.1 u l) }
+
+  -- the first gap, if there is one, is the first tile that is lacking
+  pub first_found : (o : Option ℕ) → MatchOption o (HaveResults kept) (IsFirstGap kept) → IfSome o (IsLeastLacking s H)
+  first_found None is = tt
+  first_found (Some t) is = least_lacking t is
+
+  pub none_found : (o : Option ℕ) → MatchOption o (HaveResults kept) (IsFirstGap kept) → IfNone o (AreAllKept s H)
+  none_found None is = all_kept is
+  none_found (Some t) is = tt
 
   pub window_told : (t : ℕ) (list : List Bool) → t < tiles_of s.scene.tiling → IsWindowMask (window_of s.scene.tiling t) (open_at held.mask) list → IsWindowMask (window_of s.scene.tiling t) (present_mask s H) list
   window_told t list l is = record {

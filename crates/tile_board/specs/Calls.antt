@@ -18,7 +18,7 @@ use Rattle.certificates.specs.Verdicts.{IsTileVerdict}
 use Rattle.mask_revisions.specs.Edits.{differ_in}
 use Rattle.mask_revisions.specs.Revisions.{IsWindowMask}
 use Rattle.seam_regions.specs.Regions.{AreRegionsOf}
-use Rattle.surface_snapshots.specs.Parts.{Parts, IsPublished}
+use Rattle.surface_snapshots.specs.Parts.{AreGoodTiles, Parts, IsPublished, open_in}
 use Rattle.surface_snapshots.specs.SeamsView.{seams_of}
 use Rattle.surface_snapshots.specs.Verdicts.{IsPartsVerdict}
 use Rattle.tile_board.specs.declared.answers.Advance.{Advance}
@@ -176,18 +176,28 @@ pub record WasMask (v : BoardView) (mask : MaskView) (r : ℕ) : Type 0 where
   pub begins : IsPrefix earlier v.entries
   pub was : WasMaskAt v.session earlier mask r
 
--- the next command is to settle; also, the offsets are for the present revision; also, it is not published; also, every tile is kept
+-- the next command is to settle; also, a revision is the present one; also, it is not published; also, every tile is kept
 abbrev pub MaySettle : BoardView → ℕ → Type 0
 MaySettle v a = next_command v.session v.entries a ≡ Some Settle
 
+abbrev pub IsPresentAt : BoardView → ℕ → ℕ → Type 0
+IsPresentAt v a r = MaySettle v a × (r ≡ now_of v.entries)
+
+abbrev pub IsFreshAt : BoardView → ℕ → ℕ → Type 0
+IsFreshAt v a r = IsPresentAt v a r × (newest_of v.entries ≢ Some r)
+
+abbrev pub MayPublishAt : BoardView → ℕ → ℕ → Type 0
+MayPublishAt v a r = IsFreshAt v a r × AreAllKept v.session v.entries
+
+-- the same of the revision that offsets are for
 abbrev pub IsPresent : BoardView → ℕ → SeamResult → Type 0
-IsPresent v a seams = MaySettle v a × (seams.revision ≡ now_of v.entries)
+IsPresent v a seams = IsPresentAt v a seams.revision
 
 abbrev pub IsFresh : BoardView → ℕ → SeamResult → Type 0
-IsFresh v a seams = IsPresent v a seams × (newest_of v.entries ≢ Some seams.revision)
+IsFresh v a seams = IsFreshAt v a seams.revision
 
 abbrev pub MayPublish : BoardView → ℕ → SeamResult → Type 0
-MayPublish v a seams = IsFresh v a seams × AreAllKept v.session v.entries
+MayPublish v a seams = MayPublishAt v a seams.revision
 
 abbrev pub HasPublishFault : BoardView → ℕ → SeamResult → PublishFault → Type 0
 HasPublishFault v a seams publish_faults.NotSettle = next_command v.session v.entries a ≢ Some Settle
@@ -196,6 +206,31 @@ HasPublishFault v a seams (publish_faults.Double r) = IsPresent v a seams × (r 
 HasPublishFault v a seams (publish_faults.Unready t) = IsFresh v a seams × IsLeastLacking v.session v.entries t
 HasPublishFault v a seams (publish_faults.Uncertified verdict) = MayPublish v a seams × (verdict ≢ GoodSeams) × (p : Parts) × ArePublishable v seams p × IsPartsVerdict p verdict
 HasPublishFault v a seams publish_faults.Memory = MayPublish v a seams
+
+-- ---- publish_made
+-- a certified surface of the session, made of the regions of its mask and of a good result of each tile
+pub record IsMadeOf (s : Session) (p : Parts) : Type 0 where
+  pub session : p.session ≡ s
+  pub regions : AreRegionsOf s.scene.tiling p.mask p.regions
+  pub tiling : p.tiles.tiling ≡ s.scene.tiling
+  pub tiles : AreGoodTiles s.scene (open_in p) p.tiles.results
+  pub certified : IsPublished p
+  pub verdict : IsPartsVerdict p GoodSeams
+
+-- it is published: its mask is the present one, it and its entry were added, and nothing else changed
+pub record IsMadePublication (old new : BoardView) (a : ℕ) (p : Parts) : Type 0 where
+  pub adds : AddsEntry old new (Published a p.seams.revision)
+  pub kept : new.kept ≡ old.kept
+  pub mask : IsMaskNow old p.mask
+  pub surfaces : new.surfaces ≡ old.surfaces ++ p ∷ []
+
+abbrev pub HasMadeFault : BoardView → ℕ → ℕ → PublishFault → Type 0
+HasMadeFault v a r publish_faults.NotSettle = next_command v.session v.entries a ≢ Some Settle
+HasMadeFault v a r (publish_faults.Stale n) = MaySettle v a × (n ≡ now_of v.entries) × (r ≢ n)
+HasMadeFault v a r (publish_faults.Double n) = IsPresentAt v a r × (n ≡ r) × (newest_of v.entries ≡ Some n)
+HasMadeFault v a r (publish_faults.Unready t) = IsFreshAt v a r × IsLeastLacking v.session v.entries t
+HasMadeFault v a r (publish_faults.Uncertified verdict) = ⊥
+HasMadeFault v a r publish_faults.Memory = MayPublishAt v a r
 
 -- ---- advance
 -- the entry was added, and nothing else changed

@@ -16,7 +16,6 @@ use seam_regions::Regions;
 use std::alloc::{AllocError, Global};
 use std::marker::Model;
 use std::sync::Arc;
-use std::thread::Threads;
 use surface_snapshots::Snapshot;
 
 /// The state of a session's work: its history, the present mask, the kept results and the published surfaces.
@@ -53,7 +52,7 @@ impl Board {
     ghost use Rattle.raster_model.specs.declared.script.Command.TheVariants.{Change, Show};
     ghost use Rattle.seam_regions.specs.Regions.{AreRegionsOf};
     ghost use Rattle.std.specs.Arc.{arc_value};
-    ghost use Rattle.std.specs.Prelude.{◌≡◌, ◌↔◌, IfErr, IfOk, IsTrue, OnErr, OnOk, Some, map, option_map};
+    ghost use Rattle.std.specs.Prelude.{◌≡◌, ◌↔◌, IfErr, IfNone, IfOk, IfSome, IsTrue, OnErr, OnOk, Some, map, option_map};
     ghost use Rattle.surface_snapshots.specs.Views.{parts_of};
     ghost use Rattle.tile_board.specs.declared.answers.PublishFault.TheVariants.{Memory};
     ghost use Rattle.tile_board.specs.declared.entry.Entry.TheVariants.{Published};
@@ -67,12 +66,15 @@ impl Board {
       HasClaimFault,
       HasGatherFault,
       HasKeepFault,
+      HasMadeFault,
       HasPublishFault,
       IsAdvance,
       IsClaim,
-      IsFresh,
+      IsFreshAt,
       IsGathering,
       IsKeep,
+      IsMadeOf,
+      IsMadePublication,
       IsMaskNow,
       IsNew,
       IsPresentMask,
@@ -87,6 +89,7 @@ impl Board {
     ghost use Rattle.tile_board.specs.Histories.{
       AreAllKept,
       IsComplete,
+      IsLeastLacking,
       IsStep,
       done_by,
       newest_of,
@@ -228,35 +231,29 @@ impl Board {
         ensures refused { IfErr result (HasPublishFault self.old analyst seams) }
         ensures unchanged { OnErr result (self.new ≡ self.old) }
     {
-        self.may_publish(analyst, &seams)?;
         let revision = seams.revision;
+        self.may_publish(analyst, revision)?;
         let snapshot = self.surface(alloc, seams)?;
         self.add_surface(analyst, revision, snapshot)
     }
 
-    /// Publishes as `publish` does, over a mask and its regions that are given: the mask of the revision that `seams` are
-    /// for, from this or an earlier point of the history. If that is still the present revision, it is the present mask. At
-    /// most `threads` threads find the surface's cycles and count its costs.
-    pub fn publish_over<R: Threads + Sync>(
-        &mut self,
-        rt: &R,
-        threads: u32,
-        alloc: Global,
-        analyst: u32,
-        mask: Mask,
-        regions: Regions,
-        seams: SeamResult,
-    ) -> Result<(), PublishFault>
-        requires mask { WasMask self.old mask seams.revision }
-        requires regions { AreRegionsOf self.old.session.scene.tiling mask regions }
-        ensures published { OnOk result (IsPublication self.old self.new analyst seams) }
-        ensures refused { IfErr result (HasPublishFault self.old analyst seams) }
+    /// Publishes a certified surface that was made of a session like the board's, over a mask that was the present one at
+    /// this or an earlier point of the history, when its revision was the present one. If it still is, it is the present
+    /// mask. The results that the surface is made of are good, and need not be those that are kept. A refusal is as of
+    /// `publish`, and never `Uncertified`.
+    pub fn publish_made(&mut self, analyst: u32, surface: Snapshot) -> Result<(), PublishFault>
+        requires made { IsMadeOf self.old.session (parts_of surface) }
+        requires mask { WasMask self.old (parts_of surface).mask (parts_of surface).seams.revision }
+        ensures published { OnOk result (IsMadePublication self.old self.new analyst (parts_of surface)) }
+        ensures refused { IfErr result (HasMadeFault self.old analyst (parts_of surface).seams.revision) }
         ensures unchanged { OnErr result (self.new ≡ self.old) }
     {
-        self.may_publish(analyst, &seams)?;
-        let revision = seams.revision;
-        let snapshot = self.surface_over(rt, threads, alloc, mask, regions, seams)?;
-        self.add_surface(analyst, revision, snapshot)
+        let revision = surface.revision();
+        self.may_publish(analyst, revision)?;
+        if let Some(tile) = self.first_lacking() {
+            return Err(PublishFault::Unready(tile));
+        }
+        self.add_surface(analyst, revision, surface)
     }
 
     /// Does an analyst's next command. A settle command is done only if the present revision is published; otherwise
@@ -403,23 +400,30 @@ impl Board {
         Ok(())
     }
 
-    /// Whether an analyst's settle command may publish these offsets: they are for the present revision, which is not
-    /// published.
-    fn may_publish(&self, analyst: u32, seams: &SeamResult) -> Result<(), PublishFault>
-        ensures fresh { OnOk result (IsFresh self.now analyst seams.now) }
-        ensures refused { IfErr result (HasPublishFault self.now analyst seams.now) }
+    /// Whether an analyst's settle command may publish a revision: it is the present one, and not published.
+    fn may_publish(&self, analyst: u32, revision: u32) -> Result<(), PublishFault>
+        ensures fresh { OnOk result (IsFreshAt self.now analyst revision) }
+        ensures refused { IfErr result (HasMadeFault self.now analyst revision) }
     {
         if self.next(analyst) != Some(Command::Settle) {
             return Err(PublishFault::NotSettle);
         }
-        let revision = self.revision();
-        if seams.revision != revision {
-            return Err(PublishFault::Stale(revision));
+        let present = self.revision();
+        if revision != present {
+            return Err(PublishFault::Stale(present));
         }
         if self.newest == Some(revision) {
             return Err(PublishFault::Double(revision));
         }
         Ok(())
+    }
+
+    /// The lowest-numbered tile that is not kept.
+    fn first_lacking(&self) -> Option<u32>
+        ensures found { IfSome result (IsLeastLacking self.now.session self.now.entries) }
+        ensures none { IfNone result (AreAllKept self.now.session self.now.entries) }
+    {
+        self.kept.first_gap()
     }
 
     /// The kept results of all tiles, which are shared. It is refused if a tile has none.
@@ -448,28 +452,6 @@ impl Board {
         self.build(alloc, gathered.mask, regions, gathered.tiles, seams)
     }
 
-    /// The surface that the kept results and `seams` make over the present mask and its regions, if it is certified.
-    fn surface_over<R: Threads + Sync>(
-        &self,
-        rt: &R,
-        threads: u32,
-        alloc: Global,
-        mask: Mask,
-        regions: Regions,
-        seams: SeamResult,
-    ) -> Result<Snapshot, PublishFault>
-        requires present { seams.revision ≡ now_of self.now.entries }
-        requires mask { IsMaskNow self.now mask }
-        requires regions { AreRegionsOf self.now.session.scene.tiling mask regions }
-        ensures parts { IfOk result (λ made. ArePublishable self.now seams (parts_of made)) }
-        ensures ready { OnOk result (AreAllKept self.now.session self.now.entries) }
-        ensures surface { IfOk result (λ made. IsSurfaceOf self.now.session self.now.entries (parts_of made)) }
-        ensures refused { IfErr result (HasSurfaceFault self.now seams) }
-    {
-        let tiles = self.results(alloc)?;
-        self.build_side_by_side(rt, threads, alloc, mask, regions, tiles, seams)
-    }
-
     /// The surface that all kept results and `seams` make over the present mask and its regions, if it is certified.
     fn build(
         &self,
@@ -491,33 +473,6 @@ impl Board {
         let session = self.session.clone()?;
         let earlier = self.snapshots.last();
         Ok(Snapshot::build_beside(alloc, earlier, session, mask, regions, tiles, seams)?)
-    }
-
-    /// The same, made by several threads.
-    fn build_side_by_side<R: Threads + Sync>(
-        &self,
-        rt: &R,
-        threads: u32,
-        alloc: Global,
-        mask: Mask,
-        regions: Regions,
-        tiles: TileSet,
-        seams: SeamResult,
-    ) -> Result<Snapshot, PublishFault>
-        requires present { seams.revision ≡ now_of self.now.entries }
-        requires ready { AreAllKept self.now.session self.now.entries }
-        requires mask { IsMaskNow self.now mask }
-        requires regions { AreRegionsOf self.now.session.scene.tiling mask regions }
-        requires tiles { AreKeptResults self.now tiles }
-        ensures parts { IfOk result (λ made. ArePublishable self.now seams (parts_of made)) }
-        ensures surface { IfOk result (λ made. IsSurfaceOf self.now.session self.now.entries (parts_of made)) }
-        ensures refused { IfErr result (HasSurfaceFault self.now seams) }
-    {
-        let session = self.session.clone()?;
-        let earlier = self.snapshots.last();
-        Ok(Snapshot::build_side_by_side(
-            rt, threads, alloc, earlier, session, mask, regions, tiles, seams,
-        )?)
     }
 
     /// Adds a surface that may be published, and its entry. It fails only for lack of memory.

@@ -11,7 +11,8 @@ use Rattle.tile_board.specs.declared.entry.Entry.TheVariants.{Published, Settled
 use Rattle.tile_board.specs.declared.gathered.Gathered.{Gathered}
 use Rattle.tile_board.specs.declared.ticket.Ticket.{Ticket}
 use Rattle.tile_board.specs.BoardView.{BoardView}
-use Rattle.tile_board.specs.Calls.{IsClaim, WasMaskAt}
+use Rattle.surface_snapshots.specs.Parts.{Parts}
+use Rattle.tile_board.specs.Calls.{IsClaim, IsMadeOf, WasMaskAt}
 use Rattle.tile_workers.specs.declared.early.EarlyRegions.{EarlyRegions}
 use Rattle.board_desk.specs.Mine.{mine_of}
 use Rattle.board_desk.specs.Passes.{AddsOwn, HasNotMoved, HasNoCommandLeft, IsLaterPass, PassView}
@@ -32,6 +33,12 @@ pub record HasClaimed (s : Session) (p : PassView) (ticket : Ticket) : Type 0 wh
 pub record HasGathered (s : Session) (p : PassView) (gathered : Gathered) : Type 0 where
   pub session : arc_value gathered.session ≡ s
   pub mask : WasMaskAt s p.seen gathered.mask gathered.revision
+
+-- a certified surface over what was gathered
+pub record IsSurfaceOfGathered (gathered : Gathered) (p : Parts) : Type 0 where
+  pub made : IsMadeOf (arc_value gathered.session) p
+  pub mask : p.mask ≡ gathered.mask
+  pub revision : p.seams.revision ≡ gathered.revision
 
 -- these are regions of the present mask at a point of what the pass has seen
 pub record HadRegions (s : Session) (p : PassView) (early : EarlyRegions) : Type 0 where

@@ -75,7 +75,11 @@ impl Curator {
 }
 
 /// The newest surface of a desk.
-fn newest<R: Wait>(rt: &R, desk: &Desk, pass: &mut Pass) -> Result<Option<Snapshot>, AllocError>
+pub(crate) fn newest<R: Wait>(
+    rt: &R,
+    desk: &Desk,
+    pass: &mut Pass,
+) -> Result<Option<Snapshot>, AllocError>
     requires { IsPassOf desk.now pass.old }
     ensures { HasSeenMore pass.old pass.new }
 {

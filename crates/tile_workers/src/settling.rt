@@ -4,9 +4,11 @@ ghost use Rattle.seam_regions.specs.Regions.{AreRegionsOf};
 ghost use Rattle.std.specs.Arc.{arc_value};
 ghost use Rattle.std.specs.Prelude.{◌≡◌, ◌≢◌, All, IfOk, IfSome, None, OnErr, OnSome};
 ghost use Rattle.std.specs.Thread.{IsSync};
+ghost use Rattle.surface_snapshots.specs.Views.{parts_of};
 ghost use Rattle.tile_board.specs.Histories.{IsLegal, now_of};
-ghost use Rattle.tile_workers.specs.Scripts.{AgreeIfCurrent, HadRegions, HasGathered, HasPublished, HasSeenMore, HasSettled};
+ghost use Rattle.tile_workers.specs.Scripts.{AgreeIfCurrent, HadRegions, HasGathered, HasPublished, HasSeenMore, HasSettled, IsSurfaceOfGathered};
 
+use crate::curator::newest;
 use crate::early::EarlyRegions;
 use crate::gate::Gate;
 use crate::solving::Worker;
@@ -18,6 +20,7 @@ use std::alloc::{AllocError, Global};
 use std::sync::Wait;
 use std::thread;
 use std::thread::Threads;
+use surface_snapshots::{BuildFault, Snapshot};
 use tile_board::{Advance, AdvanceFault, GatherFault, Gathered, PresentMask, PublishFault};
 
 /// The most workers that run at once.
@@ -203,7 +206,7 @@ fn dismiss<R: Wait>(
 }
 
 /// Publishes the present revision, whose surface at most `threads` threads make, and answers it; None if that was not to be
-/// done, as the mask has changed meanwhile, or another analyst was faster.
+/// done, as the mask has changed meanwhile, or another analyst was faster. The surface is made while no lock is held.
 fn publish<R: Threads + Wait + Sync>(
     rt: &R,
     alloc: Global,
@@ -222,16 +225,14 @@ fn publish<R: Threads + Wait + Sync>(
     ensures unpublished { OnErr result (HasNotMoved pass.old pass.new) }
     ensures ended { pass.new.ended ≡ pass.old.ended }
 {
+    let earlier = newest(rt, desk, pass)?;
     let Some(gathered) = gather(rt, alloc, desk, pass)? else {
         return Ok(None);
     };
-    let regions = regions_for(alloc, &gathered, early)?;
-    let seams = collect_over(alloc, &gathered, &regions)?;
-    match desk
-        .publish_over(rt, threads, alloc, pass, gathered.mask, regions, seams)
-        .answer
-    {
-        Ok(()) => Ok(Some(gathered.revision)),
+    let revision = gathered.revision;
+    let surface = surface_of(rt, alloc, threads, earlier, gathered, early)?;
+    match desk.publish_made(rt, pass, surface).answer {
+        Ok(()) => Ok(Some(revision)),
         Err(PublishFault::Memory) => Err(AllocError),
         Err(PublishFault::NotSettle) => unreachable!(),
         Err(
@@ -240,6 +241,37 @@ fn publish<R: Threads + Wait + Sync>(
             | PublishFault::Unready(_)
             | PublishFault::Uncertified(_),
         ) => Ok(None),
+    }
+}
+
+/// The surface of what was gathered, beside an earlier one, which at most `threads` threads make.
+fn surface_of<R: Threads + Sync>(
+    rt: &R,
+    alloc: Global,
+    threads: u32,
+    earlier: Option<Snapshot>,
+    gathered: Gathered,
+    early: Option<EarlyRegions>,
+) -> Result<Snapshot, AllocError>
+    requires { IfSome early (λ e. AgreeIfCurrent e gathered) }
+    ensures { IfOk result (λ made. IsSurfaceOfGathered gathered (parts_of made)) }
+{
+    let regions = regions_for(alloc, &gathered, early)?;
+    let seams = collect_over(alloc, &gathered, &regions)?;
+    match Snapshot::build_side_by_side(
+        rt,
+        threads,
+        alloc,
+        earlier.as_ref(),
+        gathered.session,
+        gathered.mask,
+        regions,
+        gathered.tiles,
+        seams,
+    ) {
+        Ok(surface) => Ok(surface),
+        Err(BuildFault::Memory) => Err(AllocError),
+        Err(BuildFault::Uncertified(_)) => unreachable!(),
     }
 }
 

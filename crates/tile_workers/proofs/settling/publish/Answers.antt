@@ -1,31 +1,34 @@
+use Rattle.std.proofs.Common.{◌∙◌, rules, subst, sym}
+use Rattle.raster_model.specs.declared.session.Session.{Session}
+use Rattle.surface_snapshots.specs.Views.{parts_of}
+use Rattle.tile_board.specs.Calls.{IsMadeOf}
 use Rattle.tile_workers.proofs.EarlyLemmas.{agrees, still_early}
 use Rattle.tile_workers.proofs.FreshLemmas.{legal_called}
 use Rattle.tile_workers.proofs.GatherLemmas.{gathered_there}
 use Rattle.tile_workers.proofs.settling.publish.Goals as goal
 
-pub regions_for-requires : goal.regions_for-requires
-regions_for-requires g c =
+pub surface_of-requires : goal.surface_of-requires
+surface_of-requires g c =
     let s = c.args.desk.now.session in
     let there = gathered_there s c.gather.new.pass c.in_ok-gathered.field-0 c.in-Some.gathered c.in_ok-gathered.ensures.gathered c.in-Some.is in
-    agrees s c.gather.new.pass c.args.early c.in-Some.gathered there (still_early s c.args.pass.now c.gather.new.pass c.args.early c.gather.ensures.more.later c.requires.early)
+    let early = still_early s c.args.pass.now c.newest.new.pass c.args.early c.newest.ensures.later c.requires.early in
+    (search rules, agrees s c.gather.new.pass c.args.early c.in-Some.gathered there (still_early s c.newest.new.pass c.gather.new.pass c.args.early c.gather.ensures.more.later early))
 
-pub collect_over-requires : goal.collect_over-requires
-collect_over-requires g c = c.in_ok-regions.ensures
-
-pub publish_over-requires-clause-mask : goal.publish_over-requires-clause-mask
-publish_over-requires-clause-mask g c κs within =
+pub publish_made-requires-clause-made : goal.publish_made-requires-clause-made
+publish_made-requires-clause-made g c =
     let there = gathered_there c.args.desk.now.session c.gather.new.pass c.in_ok-gathered.field-0 c.in-Some.gathered c.in_ok-gathered.ensures.gathered c.in-Some.is in
-    rw c.in_ok-seams.ensures.revision there.mask
+    subst (λ (s : Session). IsMadeOf s (parts_of c.in_ok-surface.surface)) there.session c.in_ok-surface.ensures.made
 
-pub publish_over-requires-clause-regions : goal.publish_over-requires-clause-regions
-publish_over-requires-clause-regions g c κs within =
+pub publish_made-requires-clause-mask : goal.publish_made-requires-clause-mask
+publish_made-requires-clause-mask g c =
     let there = gathered_there c.args.desk.now.session c.gather.new.pass c.in_ok-gathered.field-0 c.in-Some.gathered c.in_ok-gathered.ensures.gathered c.in-Some.is in
-    rw there.session at c.in_ok-regions.ensures
+    let made = c.in_ok-surface.ensures in
+    rw (made.mask, made.revision) there.mask
 
 pub returns-in-Ok-clause-present : goal.returns-in-Ok-clause-present
 returns-in-Ok-clause-present g c =
-    let now = rw (c.in-Ok.is, c.in_ok-seams.ensures.revision) at c.publish_over.ensures.fresh in
-    now.1
+    let now = rw c.in-Ok.is at c.publish_made.ensures.fresh in
+    sym c.in_ok-surface.ensures.revision ∙ now.1
 
 pub returns-in-Ok-clause-legal : goal.returns-in-Ok-clause-legal
-returns-in-Ok-clause-legal g c = legal_called c.args.desk.now.session c.gather.new.pass c.publish_over.new.pass _ c.publish_over.ensures.call
+returns-in-Ok-clause-legal g c = legal_called c.args.desk.now.session c.gather.new.pass c.publish_made.new.pass _ c.publish_made.ensures.call

@@ -47,7 +47,7 @@ impl Desk {
     ghost use Rattle.tile_board.specs.declared.answers.PublishFault.TheVariants.{NotSettle};
     ghost use Rattle.tile_board.specs.Boards.{IsBoard};
     ghost use Rattle.surface_snapshots.specs.Views.{parts_of};
-    ghost use Rattle.tile_board.specs.Calls.{IsMadeOf, WasGoodAt, WasMaskAt};
+    ghost use Rattle.tile_board.specs.Calls.{IsMadeSurface, WasGoodAt, WasMaskAt};
     ghost use Rattle.tile_board.specs.Surfaces.{IsNewestIn};
 
     /// The desk of a board whose history is empty, and the passes of the analysts, from analyst 1 on. It fails only for
@@ -331,7 +331,7 @@ impl Desk {
     ) -> Stamped<Result<(), PublishFault>>
         requires pass { IsPassOf self.now pass.old }
         requires analyst { pass.old.analyst ≢ None }
-        requires made { IsMadeOf self.now.session (parts_of surface) }
+        requires made { IsMadeSurface self.now.session (parts_of surface) }
         requires mask { WasMaskAt self.now.session pass.old.seen (parts_of surface).mask (parts_of surface).seams.revision }
         ensures call { Called self.now.session pass.old pass.new (MadeAnswers pass.old.analyst (parts_of surface) result.answer) }
         ensures own { OwnPublish pass.old pass.new (parts_of surface).seams.revision result.answer }

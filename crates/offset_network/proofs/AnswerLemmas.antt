@@ -6,7 +6,7 @@ use Rattle.std.proofs.lemmas.List.{get_or_append_left, get_or_past, length-appen
 use Rattle.std.proofs.Math.Seq.{get_or-append_seam}
 use Rattle.flow_network.specs.Nets.{State}
 use Rattle.offset_network.specs.declared.lane.Lane.{Lane}
-use Rattle.offset_network.specs.Networks.{AreFlows, AreLowered, AreSums, height_of, lane_flow, three_from}
+use Rattle.offset_network.specs.Networks.{AreFlows, AreLowered, AreSums, raised_height, lane_flow, three_from}
 use Rattle.sums_and_lists.proofs.Lists.{longer}
 use Rattle.sums_and_lists.proofs.Orders.{below_at_past}
 
@@ -59,10 +59,10 @@ sums_more parts i zs z e h = record {
   values = longer (three_from parts) i zs z h.count h.values e;
 }
 
-pub lowered_more : (start : List ℤ) (f : State) (by : ℤ) (n : ℕ) (zs : List ℤ) (z : ℤ) → z ≡ height_of start f n -ℤ by → AreLowered start f by n zs → AreLowered start f by (n + 1) (zs ++ z ∷ [])
+pub lowered_more : (start : List ℤ) (f : State) (by : ℤ) (n : ℕ) (zs : List ℤ) (z : ℤ) → z ≡ raised_height start f n -ℤ by → AreLowered start f by n zs → AreLowered start f by (n + 1) (zs ++ z ∷ [])
 lowered_more start f by n zs z e h = record {
   count = omega (arith, length-append zs (z ∷ []), h.count);
-  values = longer (λ v. height_of start f v -ℤ by) n zs z h.count h.values e;
+  values = longer (λ v. raised_height start f v -ℤ by) n zs z h.count h.values e;
 }
 
 -- an offset in code at 64 bits

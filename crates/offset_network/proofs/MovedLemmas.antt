@@ -14,7 +14,7 @@ use Rattle.offset_guess.specs.declared.link.Link.{Link}
 use Rattle.offset_network.specs.declared.start.Start.{Start}
 use Rattle.offset_network.specs.Links.{AreLinks, IsLinkIn, link_at}
 use Rattle.offset_network.specs.Seams.{AreSeamLinks, JoinRegions, link_of}
-use Rattle.offset_network.specs.Starts.{AreMoved, IsStart, moved_departure, moved_link}
+use Rattle.offset_network.specs.Starts.{AreMovedLinks, IsStart, moved_departure, moved_link}
 use Rattle.offset_network.proofs.SupplyLemmas.{zeros}
 use Rattle.sums_and_lists.proofs.Orders.{below_at_past, below_or_last}
 
@@ -25,7 +25,7 @@ pub departure_in_code : (a b k f : ℤ) (n : ℕ) → unsigned_abs a ≤ 2 ^ 42 
 departure_in_code a b k f n la lb lk e en ln = omega (arith, ints, la, lb, lk, e, en, ln)
 
 -- ---- the list
-pub moved_none : (offsets : List ℤ) (links : List (Option Link)) → AreMoved offsets links 0 []
+pub moved_none : (offsets : List ℤ) (links : List (Option Link)) → AreMovedLinks offsets links 0 []
 moved_none offsets links = record { count = refl; each = λ j l. absurd (omega (arith, l)) }
 
 module _ (old : List (Option Link)) (o : Option Link) where
@@ -33,7 +33,7 @@ module _ (old : List (Option Link)) (o : Option Link) where
   last j e = ap (link_at (old ++ o ∷ [])) e ∙ get_or-append_seam old o [] None
 
   -- one link more
-  pub moved_more : (offsets : List ℤ) (links : List (Option Link)) (i : ℕ) → o ≡ moved_link offsets (link_at links i) → AreMoved offsets links i old → AreMoved offsets links (i + 1) (old ++ o ∷ [])
+  pub moved_more : (offsets : List ℤ) (links : List (Option Link)) (i : ℕ) → o ≡ moved_link offsets (link_at links i) → AreMovedLinks offsets links i old → AreMovedLinks offsets links (i + 1) (old ++ o ∷ [])
   moved_more offsets links i is h = record {
     count = omega (arith, length-append old (o ∷ []), h.count);
     each = λ j l. elim (below_or_last j i l) [
@@ -57,7 +57,7 @@ stays offsets (Some k) zero =
     let same : k.departure ≡ moved_departure offsets k = omega (arith, ints, zero k.from, zero k.to) in
     ap (λ (d : ℤ). let m : Link = record { from = k.from; to = k.to; weight = k.weight; departure = d } in Some m) same
 
-not_moved : (offsets : List ℤ) (links : List (Option Link)) → ((v : ℕ) → slice_index_or offsets v (pos 0) ≡ pos 0) → AreMoved offsets links (length links) links
+not_moved : (offsets : List ℤ) (links : List (Option Link)) → ((v : ℕ) → slice_index_or offsets v (pos 0) ≡ pos 0) → AreMovedLinks offsets links (length links) links
 not_moved offsets links zero = record { count = refl; each = λ j l. stays offsets (link_at links j) zero }
 
 -- so from these all links start as they are
@@ -83,7 +83,7 @@ module _ (r : Raster) (mask : Field Bool) (v : RegionsView) (cycles : Field ℤ)
           rw o (ap (λ (d : ℤ). let m : Link = record { from = at_edge_start labels e; to = at_edge_end labels e; weight = r.weight e; departure = d } in Some m) same)
       go false o = rw o refl
 
-  pub moved_seams : (links moved : List (Option Link)) → AreSeamLinks r mask (region_label v) cycles links → AreMoved offsets links (length links) moved → AreSeamLinks r mask (region_label v) (shifted_by v offsets cycles) moved
+  pub moved_seams : (links moved : List (Option Link)) → AreSeamLinks r mask (region_label v) cycles links → AreMovedLinks offsets links (length links) moved → AreSeamLinks r mask (region_label v) (shifted_by v offsets cycles) moved
   moved_seams links moved seams are = record {
     count = are.count ∙ seams.count;
     each = λ e s. (

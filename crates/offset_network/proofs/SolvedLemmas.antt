@@ -17,7 +17,7 @@ use Rattle.seam_regions.proofs.CallerLemmas.{regions_of_scene}
 use Rattle.offset_guess.specs.declared.link.Link.{Link}
 use Rattle.offset_network.specs.declared.lane.Lane.{Lane}
 use Rattle.offset_network.specs.Lanes.{AreLanesOf}
-use Rattle.offset_network.specs.Networks.{AreFlows, AreLowered, AreSums, IsSolved, height_of}
+use Rattle.offset_network.specs.Networks.{AreFlows, AreLowered, AreSums, IsSolved, raised_height}
 use Rattle.offset_network.specs.Seams.{AreSeamLinks}
 use Rattle.offset_network.specs.Starts.{AreStartOffsets}
 use Rattle.offset_network.specs.Surfaces.{IsGoodSeams}
@@ -37,8 +37,8 @@ raised b o a p by e = omega (arith, ints, e)
 
 module _ (s : Scene) (m : MaskView) (v : RegionsView) (tiles : TileSetView) (k : SeamResult) (start : List ℤ) (links : List (Option Link)) (lanes : List (Option Lane)) (parts : List ℤ) (z : Shape) (g : State) (by : ℤ)
     (regions : AreRegionsOf s.tiling m v) (small : AreStartOffsets v.count start) (seams : AreSeamLinks (raster_of s) (open_at m) (region_label v) (shifted_by v start (solved_cycles s tiles.results)) links) (parted : AreLanesOf s.terms.steep links (length links) lanes) (net : IsNetwork z) (solved : IsSolved v.count lanes z g) (flows : AreFlows lanes g (length lanes) parts) (sums : AreSums parts (length links) k.flows.items)
-    (lowered : AreLowered start g by z.nodes k.offsets.items) (anchor : (x y : ℕ) → IsFirstOpen (raster_of s) (open_at m) x y → by ≡ height_of start g (region_label v x y) +ℤ solved_cycles s tiles.results x y) (low : neg_ℤ (pos (2 ^ 42 + 8388608)) ≤ℤ by) (high : by ≤ℤ pos (v.count * 16777218 + 2 ^ 42 + 8388608)) where
-  offset_of : (u : ℕ) → u < v.count → slice_index_or k.offsets.items u (pos 0) ≡ height_of start g u -ℤ by
+    (lowered : AreLowered start g by z.nodes k.offsets.items) (anchor : (x y : ℕ) → IsFirstOpen (raster_of s) (open_at m) x y → by ≡ raised_height start g (region_label v x y) +ℤ solved_cycles s tiles.results x y) (low : neg_ℤ (pos (2 ^ 42 + 8388608)) ≤ℤ by) (high : by ≤ℤ pos (v.count * 16777218 + 2 ^ 42 + 8388608)) where
+  offset_of : (u : ℕ) → u < v.count → slice_index_or k.offsets.items u (pos 0) ≡ raised_height start g u -ℤ by
   offset_of u l = lowered.values u (omega (arith, l, solved.built.nodes))
 
   label_below : (x y : ℕ) → x < s.phase.width → y < s.phase.height → IsTrue (open_at m x y) → region_label v x y < v.count
@@ -47,7 +47,7 @@ module _ (s : Scene) (m : MaskView) (v : RegionsView) (tiles : TileSetView) (k :
   anchored : IsAnchored (raster_of s) (open_at m) (lifted (raster_of s) (shifted_by v k.offsets.items (solved_cycles s tiles.results)))
   unfolding offset_at
   anchored x y o first =
-      at_anchor ((raster_of s).phase x y) (solved_cycles s tiles.results x y) (slice_index_or k.offsets.items (region_label v x y) (pos 0)) (height_of start g (region_label v x y)) by (offset_of (region_label v x y) (label_below x y o.0 o.1 o.2)) (anchor x y (o, first))
+      at_anchor ((raster_of s).phase x y) (solved_cycles s tiles.results x y) (slice_index_or k.offsets.items (region_label v x y) (pos 0)) (raised_height start g (region_label v x y)) by (offset_of (region_label v x y) (label_below x y o.0 o.1 o.2)) (anchor x y (o, first))
 
   lies : (x y : ℕ) → x < s.phase.width → y < s.phase.height → IsTrue (open_at m x y) → shifted_by v k.offsets.items (solved_cycles s tiles.results) x y ≡ shifted_by v start (solved_cycles s tiles.results) x y +ℤ (g.potential (region_label v x y) -ℤ by)
   unfolding offset_at

@@ -11,7 +11,7 @@ use Rattle.raster_model.proofs.TileLemmas.{block_below, tiles_are_numbered, wind
 use Rattle.sums_and_lists.proofs.Lists.{last_or_before}
 use Rattle.offset_network.specs.declared.places.Place.{Place}
 use Rattle.offset_network.specs.declared.places.Spot.{Spot}
-use Rattle.offset_network.specs.Places.{ArePlaces, IsSpotOf, place_of}
+use Rattle.offset_network.specs.Places.{ArePlaces, IsSpotOf, tile_place}
 
 -- the places so far: none, and one more
 module _ (count side step : ℕ) where
@@ -21,17 +21,17 @@ module _ (count side step : ℕ) where
     each = λ i p f. absurd (let none = subst (λ (l : List Place). slice_get l i ≡ Some p) e f in cc);
   }
 
-  pub places_more : (n : ℕ) (places : List Place) (p : Place) → p ≡ place_of count side step n → ArePlaces count side step n places → ArePlaces count side step (n + 1) (places ++ p ∷ [])
+  pub places_more : (n : ℕ) (places : List Place) (p : Place) → p ≡ tile_place count side step n → ArePlaces count side step n places → ArePlaces count side step (n + 1) (places ++ p ∷ [])
   places_more n places p e are = record {
     size = omega (arith, length-append places (p ∷ []), are.size);
     each = λ i q f. elim (last_or_before places p i q f) [
       | inl before ↦ are.each i q before
-      | inr last ↦ sym last.1 ∙ e ∙ ap (place_of count side step) (sym (last.0 ∙ are.size))
+      | inr last ↦ sym last.1 ∙ e ∙ ap (tile_place count side step) (sym (last.0 ∙ are.size))
     ];
   }
 
   -- the place that is read
-  pub place_read : (n i : ℕ) (places : List Place) (p : Place) → ArePlaces count side step n places → i < n → p ≡ get_or places i p → p ≡ place_of count side step i
+  pub place_read : (n i : ℕ) (places : List Place) (p : Place) → ArePlaces count side step n places → i < n → p ≡ get_or places i p → p ≡ tile_place count side step i
   place_read n i places p are l read = are.each i p (slice_get_read places n i p (sym are.size) l read)
 
 -- the spot that the places of a column and a row make
@@ -39,7 +39,7 @@ abbrev pub spot_between : Place → Place → Spot
 spot_between column row = record { tile = row.tile + column.tile; window = record { x0 = column.first; y0 = row.first; x1 = column.last; y1 = row.last } }
 
 -- a pixel of a tiling, with the places of its column and its row
-module _ (g : Tiling) (x y : ℕ) (across : x < g.width) (along : y < g.height) (column row : Place) (is_column : column ≡ place_of g.width g.side 1 x) (is_row : row ≡ place_of g.height g.side (columns_of_tiles g) y) where
+module _ (g : Tiling) (x y : ℕ) (across : x < g.width) (along : y < g.height) (column row : Place) (is_column : column ≡ tile_place g.width g.side 1 x) (is_row : row ≡ tile_place g.height g.side (columns_of_tiles g) y) where
   here : row.tile + column.tile ≡ tile_at g x y
   here = rw (is_column, is_row) omega arith
 

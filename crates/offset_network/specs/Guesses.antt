@@ -9,6 +9,6 @@ use Rattle.offset_network.specs.declared.guessing.Judged.{Judged}
 use Rattle.offset_network.specs.declared.guessing.Judged.TheVariants.{Certified, Dropped}
 
 -- a guess that is certified is a good result with the revision, and nothing is said of any other
-abbrev pub IsJudged : Scene → MaskView → RegionsView → TileSetView → ℕ → Judged → Type 0
-IsJudged s mask regions tiles revision (Certified solved) = (solved.revision ≡ revision) × IsGoodSeams s mask regions tiles solved
-IsJudged s mask regions tiles revision (Dropped offsets) = Unit {0}
+abbrev pub IsJudgedGuess : Scene → MaskView → RegionsView → TileSetView → ℕ → Judged → Type 0
+IsJudgedGuess s mask regions tiles revision (Certified solved) = (solved.revision ≡ revision) × IsGoodSeams s mask regions tiles solved
+IsJudgedGuess s mask regions tiles revision (Dropped offsets) = Unit {0}

@@ -70,13 +70,13 @@ pub record AreFlows (lanes : List (Option Lane)) (f : State) (i : ℕ) (flows : 
   pub values : (j : ℕ) → j < i → slice_index_or flows j (pos 0) ≡ lane_flow lanes f j
 
 -- how high a region lies: its offset at the start, and its node's potential
-abbrev pub height_of : List ℤ → State → ℕ → ℤ
-height_of start f v = slice_index_or start v (pos 0) +ℤ f.potential v
+abbrev pub raised_height : List ℤ → State → ℕ → ℤ
+raised_height start f v = slice_index_or start v (pos 0) +ℤ f.potential v
 
 -- how high the first n regions lie, lowered by a number
 pub record AreLowered (start : List ℤ) (f : State) (by : ℤ) (n : ℕ) (offsets : List ℤ) : Type 0 where
   pub count : length offsets ≡ n
-  pub values : (v : ℕ) → v < n → slice_index_or offsets v (pos 0) ≡ height_of start f v -ℤ by
+  pub values : (v : ℕ) → v < n → slice_index_or offsets v (pos 0) ≡ raised_height start f v -ℤ by
 
 -- a number was added at one place
 pub record AddsAt (old new : List ℤ) (place : ℕ) (amount : ℤ) : Type 0 where

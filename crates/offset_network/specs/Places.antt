@@ -6,13 +6,13 @@ use Rattle.offset_network.specs.declared.places.Place.{Place}
 use Rattle.offset_network.specs.declared.places.Spot.{Spot}
 
 -- the place of column or row i, of so many, among tiles of a side whose numbers go up by a step
-abbrev pub place_of : ℕ → ℕ → ℕ → ℕ → Place
-place_of count side step i = record { tile = i / side * step; first = i / side * side; last = min (i / side * side + side) count - 1 }
+abbrev pub tile_place : ℕ → ℕ → ℕ → ℕ → Place
+tile_place count side step i = record { tile = i / side * step; first = i / side * side; last = min (i / side * side + side) count - 1 }
 
 -- the list has the places of the first n
 pub record ArePlaces (count side step n : ℕ) (places : List Place) : Type 0 where
   pub size : length places ≡ n
-  pub each : (i : ℕ) (p : Place) → slice_get places i ≡ Some p → p ≡ place_of count side step i
+  pub each : (i : ℕ) (p : Place) → slice_get places i ≡ Some p → p ≡ tile_place count side step i
 
 -- the pixel's tile, with its window
 pub record IsSpotOf (g : Tiling) (x y : ℕ) (spot : Spot) : Type 0 where

@@ -18,7 +18,7 @@ moved_link offsets None = None
 moved_link offsets (Some k) = Some (record { from = k.from; to = k.to; weight = k.weight; departure = moved_departure offsets k })
 
 -- the first i links, moved
-pub record AreMoved (offsets : List ℤ) (links : List (Option Link)) (i : ℕ) (moved : List (Option Link)) : Type 0 where
+pub record AreMovedLinks (offsets : List ℤ) (links : List (Option Link)) (i : ℕ) (moved : List (Option Link)) : Type 0 where
   pub count : length moved ≡ i
   pub each : (j : ℕ) → j < i → link_at moved j ≡ moved_link offsets (link_at links j)
 
@@ -26,4 +26,4 @@ pub record AreMoved (offsets : List ℤ) (links : List (Option Link)) (i : ℕ) 
 pub record IsStart (n : ℕ) (links : List (Option Link)) (start : Start) : Type 0 where
   pub small : AreStartOffsets n start.offsets.items
   pub fit : AreLinks n start.links.items
-  pub moved : AreMoved start.offsets.items links (length links) start.links.items
+  pub moved : AreMovedLinks start.offsets.items links (length links) start.links.items

@@ -1,6 +1,6 @@
 ghost use Rattle.flow_network.specs.Views.{shape_of, state_of};
 ghost use Rattle.offset_network.specs.Lanes.{AreLanes, arcs_before, arcs_of as arcs_of_lane, lane_at};
-ghost use Rattle.offset_network.specs.Networks.{AreFlows, AreLowered, AreSums, HasArcs, IsArcOf, flow_left, height_of};
+ghost use Rattle.offset_network.specs.Networks.{AreFlows, AreLowered, AreSums, HasArcs, IsArcOf, flow_left, raised_height};
 ghost use Rattle.offset_network.specs.Starts.{AreStartOffsets};
 ghost use Rattle.certificates.specs.TileSets.{solved_cycles};
 ghost use Rattle.raster_model.specs.Masks.{open_at};
@@ -74,7 +74,7 @@ fn height(net: &Network, start: &[i64], region: u32) -> i64
     requires heights { LiesWithin (shape_of net.now) (state_of net.now) 16777218 }
     requires few { (shape_of net.now).nodes ≤ 3145728 }
     requires start { AreStartOffsets (shape_of net.now).nodes start.now }
-    ensures value { result ≡ height_of start.now (state_of net.now) region }
+    ensures value { result ≡ raised_height start.now (state_of net.now) region }
     ensures low { neg_ℤ (pos (2 ^ 42)) ≤ℤ result }
     ensures high { result ≤ℤ pos ((shape_of net.now).nodes * 16777218 + 2 ^ 42) }
 {
@@ -88,7 +88,7 @@ pub(crate) fn anchor(surface: &TileSurface, regions: &Regions, net: &Network, st
     requires nodes { (shape_of net.now).nodes ≡ regions.now.count }
     requires heights { LiesWithin (shape_of net.now) (state_of net.now) 16777218 }
     requires start { AreStartOffsets regions.now.count start.now }
-    ensures value { (x y : ℕ) → IsFirstOpen (raster_of surface.now.scene.now) (open_at surface.now.mask.now) x y → result ≡ (height_of start.now (state_of net.now) (region_label regions.now x y) +ℤ solved_cycles surface.now.scene.now surface.now.tiles.now.results x y) }
+    ensures value { (x y : ℕ) → IsFirstOpen (raster_of surface.now.scene.now) (open_at surface.now.mask.now) x y → result ≡ (raised_height start.now (state_of net.now) (region_label regions.now x y) +ℤ solved_cycles surface.now.scene.now surface.now.tiles.now.results x y) }
     ensures low { neg_ℤ (pos (2 ^ 42 + 8388608)) ≤ℤ result }
     ensures high { result ≤ℤ pos (regions.now.count * 16777218 + 2 ^ 42 + 8388608) }
 {

@@ -1,5 +1,5 @@
 ghost use Rattle.certificates.specs.SeamVerdicts.{IsGoodAtSeams};
-ghost use Rattle.offset_network.specs.Guesses.{IsJudged};
+ghost use Rattle.offset_network.specs.Guesses.{IsJudgedGuess};
 ghost use Rattle.offset_network.specs.Shifted.{cycles_with_offsets};
 ghost use Rattle.raster_model.specs.Masks.{open_at};
 ghost use Rattle.raster_model.specs.Scene.{raster_of};
@@ -55,7 +55,7 @@ pub(crate) fn judge(
     revision: u32,
 ) -> Result<Judged, AllocError>
     requires regions { AreRegionsOf surface.now.scene.now.tiling surface.now.mask.now regions.now }
-    ensures { IfOk result (IsJudged surface.now.scene.now surface.now.mask.now regions.now surface.now.tiles.now revision) }
+    ensures { IfOk result (IsJudgedGuess surface.now.scene.now surface.now.mask.now regions.now surface.now.tiles.now revision) }
 {
     let mut offsets = guess.offsets;
     let height = first_height(surface, regions, &offsets);

@@ -1,4 +1,4 @@
-ghost use Rattle.offset_network.specs.Places.{ArePlaces, IsSpotOf, place_of};
+ghost use Rattle.offset_network.specs.Places.{ArePlaces, IsSpotOf, tile_place};
 ghost use Rattle.raster_model.specs.Limits.{IsTileSide, max_side};
 ghost use Rattle.raster_model.specs.Tiles.{columns_of_tiles};
 ghost use Rattle.std.specs.Prelude.{◌≡◌, ◌<◌, ◌≤◌, IfOk};
@@ -78,7 +78,7 @@ fn one_place(index: u32, count: u32, side: u32, step: u32) -> Place
     requires within { (index < count) × (count ≤ max_side) }
     requires side { IsTileSide side }
     requires step { step ≤ 8192 }
-    ensures { result ≡ place_of count side step index }
+    ensures { result ≡ tile_place count side step index }
 {
     let block = index / side;
     let first = block * side;

@@ -1,5 +1,5 @@
 ghost use Rattle.offset_network.specs.Links.{AreLinks, IsLink, IsLinkIn};
-ghost use Rattle.offset_network.specs.Starts.{AreMoved, AreStartOffsets, IsStart, moved_departure as departure_moved, moved_link as link_moved};
+ghost use Rattle.offset_network.specs.Starts.{AreMovedLinks, AreStartOffsets, IsStart, moved_departure as departure_moved, moved_link as link_moved};
 ghost use Rattle.std.specs.Prelude.{◌≡◌, ◌≤◌, IfOk, IfSome, IsTrue, length, unsigned_abs};
 
 use offset_guess::Link;
@@ -60,7 +60,7 @@ fn moved(
 ) -> Result<Option<Vec<Option<Link>>>, AllocError>
     requires links { AreLinks (length offsets.now) links.now }
     requires small { AreStartOffsets (length offsets.now) offsets.now }
-    ensures { IfOk result (λ found. IfSome found (λ moved. AreLinks (length offsets.now) moved.items × AreMoved offsets.now links.now (length links.now) moved.items)) }
+    ensures { IfOk result (λ found. IfSome found (λ moved. AreLinks (length offsets.now) moved.items × AreMovedLinks offsets.now links.now (length links.now) moved.items)) }
 {
     let mut moved = Vec::with_capacity(alloc, links.len())?;
     for link in links {

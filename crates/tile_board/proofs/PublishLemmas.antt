@@ -22,7 +22,7 @@ use Rattle.tile_board.specs.declared.entry.Entry.{Entry}
 use Rattle.tile_board.specs.declared.entry.Entry.TheVariants.{Published}
 use Rattle.tile_board.specs.Boards.{IsSurfaceOf}
 use Rattle.tile_board.specs.BoardView.{BoardView}
-use Rattle.tile_board.specs.Calls.{AddsEntry, AreKeptResults, ArePublishable, HasMadeFault, HasPublishFault, IsFresh, IsFreshAt, IsMadeOf, IsMadePublication, IsMaskNow, IsPublication}
+use Rattle.tile_board.specs.Calls.{AddsEntry, AreKeptResults, ArePublishable, HasMadeFault, HasPublishFault, IsFresh, IsFreshAt, IsMadeSurface, IsMadePublication, IsMaskNow, IsPublication}
 use Rattle.tile_board.specs.Causes.{building_cause}
 use Rattle.tile_board.specs.Histories.{AreAllKept, IsStep, mask_in, now_of}
 use Rattle.tile_board.specs.Lacking.{LackingView}
@@ -72,7 +72,7 @@ surface_cause v a seams (publish_faults.Uncertified verdict) fresh is = ((fresh,
 surface_cause v a seams publish_faults.Memory fresh is = (fresh, is)
 
 -- a surface that was made over the present mask is one of the history
-pub made_surface : (v : BoardView) (p : Parts) → IsMadeOf v.session p → IsMaskNow v p.mask → p.seams.revision ≡ now_of v.entries → IsSurfaceOf v.session v.entries p
+pub made_surface : (v : BoardView) (p : Parts) → IsMadeSurface v.session p → IsMaskNow v p.mask → p.seams.revision ≡ now_of v.entries → IsSurfaceOf v.session v.entries p
 made_surface v p made now here =
     let s = v.session in
     record {

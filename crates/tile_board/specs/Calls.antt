@@ -209,7 +209,7 @@ HasPublishFault v a seams publish_faults.Memory = MayPublish v a seams
 
 -- ---- publish_made
 -- a certified surface of the session, made of the regions of its mask and of a good result of each tile
-pub record IsMadeOf (s : Session) (p : Parts) : Type 0 where
+pub record IsMadeSurface (s : Session) (p : Parts) : Type 0 where
   pub session : p.session ≡ s
   pub regions : AreRegionsOf s.scene.tiling p.mask p.regions
   pub tiling : p.tiles.tiling ≡ s.scene.tiling

@@ -73,7 +73,7 @@ impl Board {
       IsFreshAt,
       IsGathering,
       IsKeep,
-      IsMadeOf,
+      IsMadeSurface,
       IsMadePublication,
       IsMaskNow,
       IsNew,
@@ -242,7 +242,7 @@ impl Board {
     /// mask. The results that the surface is made of are good, and need not be those that are kept. A refusal is as of
     /// `publish`, and never `Uncertified`.
     pub fn publish_made(&mut self, analyst: u32, surface: Snapshot) -> Result<(), PublishFault>
-        requires made { IsMadeOf self.old.session (parts_of surface) }
+        requires made { IsMadeSurface self.old.session (parts_of surface) }
         requires mask { WasMask self.old (parts_of surface).mask (parts_of surface).seams.revision }
         ensures published { OnOk result (IsMadePublication self.old self.new analyst (parts_of surface)) }
         ensures refused { IfErr result (HasMadeFault self.old analyst (parts_of surface).seams.revision) }

@@ -12,7 +12,7 @@ use Rattle.tile_board.specs.declared.gathered.Gathered.{Gathered}
 use Rattle.tile_board.specs.declared.ticket.Ticket.{Ticket}
 use Rattle.tile_board.specs.BoardView.{BoardView}
 use Rattle.surface_snapshots.specs.Parts.{Parts}
-use Rattle.tile_board.specs.Calls.{IsClaim, IsMadeOf, WasMaskAt}
+use Rattle.tile_board.specs.Calls.{IsClaim, IsMadeSurface, WasMaskAt}
 use Rattle.tile_workers.specs.declared.early.EarlyRegions.{EarlyRegions}
 use Rattle.board_desk.specs.Mine.{mine_of}
 use Rattle.board_desk.specs.Passes.{AddsOwn, HasNotMoved, HasNoCommandLeft, IsLaterPass, PassView}
@@ -36,7 +36,7 @@ pub record HasGathered (s : Session) (p : PassView) (gathered : Gathered) : Type
 
 -- a certified surface over what was gathered
 pub record IsSurfaceOfGathered (gathered : Gathered) (p : Parts) : Type 0 where
-  pub made : IsMadeOf (arc_value gathered.session) p
+  pub made : IsMadeSurface (arc_value gathered.session) p
   pub mask : p.mask ≡ gathered.mask
   pub revision : p.seams.revision ≡ gathered.revision
 

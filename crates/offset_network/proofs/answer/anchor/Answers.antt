@@ -6,7 +6,7 @@ use Rattle.certificates.proofs.Unique.{same_pixel}
 use Rattle.seam_regions.specs.Regions.{region_label}
 use Rattle.seam_regions.proofs.CallerLemmas.{regions_of_scene}
 use Rattle.certificates.specs.TileSets.{solved_cycles}
-use Rattle.offset_network.specs.Networks.{height_of}
+use Rattle.offset_network.specs.Networks.{raised_height}
 use Rattle.offset_network.specs.Starts.{AreStartOffsets}
 use Rattle.offset_network.proofs.AnswerLemmas.{height_is}
 use Rattle.offset_network.proofs.PlaceLemmas.{has_region}
@@ -41,7 +41,7 @@ returns-clause-value c = λ x y first. (
     let there = has_region s m v c.in-Some.x c.in-Some.y c.in-Some-region.region c.requires.regions o c.in-Some-region.ensures in
     let same = same_pixel c.in-Some.x c.in-Some.y x y (λ l. first.1 c.in-Some.x c.in-Some.y o l) (λ l. c.in-Some.ensures.found.1 x y first.0 l) in
     (height_is c.height.result _ c.at.result c.from.result (shape_of c.args.net.now).nodes c.height.ensures.value c.height.ensures.low c.height.ensures.high (omega (arith, c.requires.nodes, c.requires.regions.few)) c.at.ensures.small c.from.ensures).1
-    ∙ ap₂ ◌+ℤ◌ (ap (height_of c.args.start.now (state_of c.args.net.now)) (there ∙ ap₂ (region_label v) same.0 same.1)) (c.at.ensures.value ∙ ap₂ (solved_cycles s c.args.surface.now.tiles.now.results) same.0 same.1))
+    ∙ ap₂ ◌+ℤ◌ (ap (raised_height c.args.start.now (state_of c.args.net.now)) (there ∙ ap₂ (region_label v) same.0 same.1)) (c.at.ensures.value ∙ ap₂ (solved_cycles s c.args.surface.now.tiles.now.results) same.0 same.1))
 
 pub returns-clause-low : goal.returns-clause-low
 returns-clause-low c =

@@ -1,7 +1,7 @@
 use Rattle.std.proofs.Common.{◌∙◌, rules, subst, sym}
 use Rattle.raster_model.specs.declared.session.Session.{Session}
 use Rattle.surface_snapshots.specs.Views.{parts_of}
-use Rattle.tile_board.specs.Calls.{IsMadeOf}
+use Rattle.tile_board.specs.Calls.{IsMadeSurface}
 use Rattle.tile_workers.proofs.EarlyLemmas.{agrees, still_early}
 use Rattle.tile_workers.proofs.FreshLemmas.{legal_called}
 use Rattle.tile_workers.proofs.GatherLemmas.{gathered_there}
@@ -17,7 +17,7 @@ surface_of-requires g c =
 pub publish_made-requires-clause-made : goal.publish_made-requires-clause-made
 publish_made-requires-clause-made g c =
     let there = gathered_there c.args.desk.now.session c.gather.new.pass c.in_ok-gathered.field-0 c.in-Some.gathered c.in_ok-gathered.ensures.gathered c.in-Some.is in
-    subst (λ (s : Session). IsMadeOf s (parts_of c.in_ok-surface.surface)) there.session c.in_ok-surface.ensures.made
+    subst (λ (s : Session). IsMadeSurface s (parts_of c.in_ok-surface.surface)) there.session c.in_ok-surface.ensures.made
 
 pub publish_made-requires-clause-mask : goal.publish_made-requires-clause-mask
 publish_made-requires-clause-mask g c =

@@ -2,7 +2,7 @@ use Rattle.std.proofs.Common.{ap, ◌∙◌, rules, subst, sym}
 use mathlib.Core.List.{IsPrefix}
 use Rattle.raster_model.specs.declared.session.Session.{Session}
 use Rattle.surface_snapshots.specs.Views.{parts_of}
-use Rattle.tile_board.specs.Calls.{IsMadeOf}
+use Rattle.tile_board.specs.Calls.{IsMadeSurface}
 use Rattle.board_desk.specs.Answers.{MadeAnswers}
 use Rattle.board_desk.specs.Passes.{PassView}
 use Rattle.board_desk.proofs.Calls.{called, grown, made_answers, made_grows_as, seen_after, who}
@@ -19,7 +19,7 @@ publish_made-answer-requires-clause-mask g c =
 
 pub publish_made-answer-requires-clause-made : goal.publish_made-answer-requires-clause-made
 publish_made-answer-requires-clause-made g c =
-    subst (λ (s : Session). IsMadeOf s (parts_of c.args.surface)) (c.take_board-board.ensures.held.session_is c.args.self.now.session (ap (λ (p : PassView). p.session) c.pass.view_is ∙ c.requires.pass.session)) c.requires.made
+    subst (λ (s : Session). IsMadeSurface s (parts_of c.args.surface)) (c.take_board-board.ensures.held.session_is c.args.self.now.session (ap (λ (p : PassView). p.session) c.pass.view_is ∙ c.requires.pass.session)) c.requires.made
 
 pub give_board-requires-clause-grown : goal.give_board-requires-clause-grown
 give_board-requires-clause-grown g c =

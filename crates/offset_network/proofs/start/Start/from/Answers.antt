@@ -1,6 +1,6 @@
 use Rattle.std.proofs.Common.{ℕ, refl, subst, length}
 use Rattle.offset_network.specs.Links.{AreLinks}
-use Rattle.offset_network.specs.Starts.{AreMoved, AreStartOffsets}
+use Rattle.offset_network.specs.Starts.{AreMovedLinks, AreStartOffsets}
 use Rattle.offset_network.proofs.MovedLemmas.{from_nothing}
 use Rattle.offset_network.proofs.start.Start.from.Goals as goal
 
@@ -19,7 +19,7 @@ returns-in-Some c =
     let offsets = c.args.offsets.items in
     let links = c.args.links.items in
     let small : AreStartOffsets c.args.regions offsets = rw c.deref.ensures.value at (c.if-are_in_range.ensures refl) in
-    let found : AreLinks (length offsets) c.in-Some.links.items × AreMoved offsets links (length links) c.in-Some.links.items = rw (c.in-Some.is, c.deref-then-are_in_range-2.ensures.value, c.deref-then-are_in_range.ensures.value) at c.in_ok-links.ensures in
+    let found : AreLinks (length offsets) c.in-Some.links.items × AreMovedLinks offsets links (length links) c.in-Some.links.items = rw (c.in-Some.is, c.deref-then-are_in_range-2.ensures.value, c.deref-then-are_in_range.ensures.value) at c.in_ok-links.ensures in
     record { small = small; fit = subst (λ (n : ℕ). AreLinks n c.in-Some.links.items) small.count found.0; moved = found.1 }
 
 pub returns : goal.returns

@@ -230,6 +230,9 @@ fn publish<R: Threads + Wait + Sync>(
         return Ok(None);
     };
     let revision = gathered.revision;
+    if is_of(&earlier, revision) {
+        return Ok(None);
+    }
     let surface = surface_of(rt, alloc, threads, earlier, gathered, early)?;
     match desk.publish_made(rt, pass, surface).answer {
         Ok(()) => Ok(Some(revision)),
@@ -241,6 +244,14 @@ fn publish<R: Threads + Wait + Sync>(
             | PublishFault::Unready(_)
             | PublishFault::Uncertified(_),
         ) => Ok(None),
+    }
+}
+
+/// Whether there is a surface, and it is of this revision.
+fn is_of(surface: &Option<Snapshot>, revision: u32) -> bool {
+    match surface {
+        Some(surface) => surface.revision() == revision,
+        None => false,
     }
 }
 

@@ -2,9 +2,13 @@
 use Rattle.std.specs.Prelude.{ℤ, FitsSigned, OnOk, OnErr, codes}
 use Rattle.std.specs.Fmt.{signed_decimal}
 use Rattle.std.proofs.lemmas.Int.{to_z-of_z}
+use Rattle.std.specs.Int.Signed.{le_z, lt_z}
+use Rattle.std.proofs.Math.IntN.{nat_abs}
+use Rattle.std.proofs.lemmas.Bool.Decides.{nat_tests}
+use Rattle.std.proofs.lemmas.Fmt.{decimal_digit}
 use mir.Syntax.{Width}
 use Rattle.text_lines.specs.Numbers.{number_text}
-use Rattle.std.proofs.Common.{◌≡◌, ℕ, suc, ◌+◌, ◌<◌, ◌≤◌, List, [], ◌∷◌, ◌++◌, Option, Result, Ok, Err, Bool, true, false, refl, flat_map, get_or, length, take, drop, sym, ap, subst, ◌∙◌, append_assoc, arith, of_z, to_z}
+use Rattle.std.proofs.Common.{◌≡◌, ℕ, suc, ◌+◌, ◌<◌, ◌≤◌, List, [], ◌∷◌, ◌++◌, Option, Result, Ok, Err, Bool, true, false, refl, flat_map, get_or, length, take, drop, sym, ap, subst, ◌∙◌, append_assoc, arith, of_z, to_z, pos, negsuc}
 use Rattle.std.proofs.lemmas.List.{append-nil, get_or_default, length-append, take_more, length-drop, take-append-drop}
 use Rattle.std.proofs.lemmas.Grind.{flat_map-append}
 use Rattle.std.proofs.Math.Seq.{take-append_seam}
@@ -132,6 +136,14 @@ adds_next {X} f xs i d within p q =
 -- a number with its sign, which its width holds
 pub adds_signed : {a b : View} (w : Width) (n : ℤ) → FitsSigned w n → Adds a b (signed_decimal (to_z w (of_z w n))) → Adds a b (signed_decimal n)
 adds_signed {a} {b} w n fits p = rw (to_z-of_z w n fits) at p
+
+-- the decimal text of a number from 0 to 9 is one byte
+signed_digit : (z : ℤ) → le_z (pos 0) z ≡ true → lt_z z (pos 10) ≡ true → (48 + nat_abs z) ∷ [] ≡ signed_decimal z
+signed_digit (pos n) from low = sym (decimal_digit n (grind (arith, nat_tests, low)))
+signed_digit (negsuc n) from low = cc
+
+pub adds_digit : {a b : View} (w : Width) (n : ℤ) → FitsSigned w n → le_z (pos 0) (to_z w (of_z w n)) ≡ true → lt_z (to_z w (of_z w n)) (pos 10) ≡ true → Adds a b ((48 + nat_abs (to_z w (of_z w n))) ∷ []) → Adds a b (signed_decimal n)
+adds_digit {a} {b} w n fits from low p = adds_signed w n fits (subst (Adds a b) (signed_digit (to_z w (of_z w n)) from low) p)
 
 pub adds_number : {a b c : View} (w : Width) (n : ℤ) → FitsSigned w n → Adds a b (codes " ") → Adds b c (signed_decimal (to_z w (of_z w n))) → Adds a c (number_text n)
 unfolding number_text

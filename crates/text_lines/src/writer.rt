@@ -59,11 +59,15 @@ impl<'a, K: Sink> TextWriter<'a, K> {
         self.bytes(digits.format(number).as_bytes());
     }
 
-    /// Adds a number of 64 bits in decimal, with a minus sign if it is below 0.
+    /// Adds a number of 64 bits in decimal, with a minus sign if it is below 0. Most have one digit, so that is one byte.
     pub fn signed(&mut self, number: i64)
         ensures { Adds (view_of K.held K.faults self.old) (view_of K.held K.faults self.new) (signed_decimal number) }
     {
-        self.number(number);
+        if 0 <= number && number < 10 {
+            self.byte(b'0' + number as u8);
+        } else {
+            self.number(number);
+        }
     }
 
     /// Adds a space.

@@ -20,7 +20,7 @@ use Rattle.tile_board.specs.BoardView.{BoardView}
 use Rattle.tile_board.specs.Calls.{AreKeptResults, IsMaskNow}
 use Rattle.collector_core.specs.Collecting.{WillPublish, CertifyGathered}
 use Rattle.collector_core.proofs.JoinLemmas.{is_certified}
-use Rattle.collector_core.proofs.SurfaceLemmas.{verdict_too}
+use Rattle.surface_snapshots.proofs.PartsLemmas.{verdict_too}
 
 -- two sets of a board's results are one
 same_lists : {A : Type 0} (xs ys : List A) → map Some xs ≡ map Some ys → xs ≡ ys

@@ -1,4 +1,3 @@
-pub mod SurfaceLemmas
 pub mod JoinLemmas
 pub mod CollectLemmas
 pub mod CountLemmas

@@ -9,8 +9,8 @@ use std::alloc::{AllocError, Global};
 pub(crate) struct Outcome {
     /// The offset of the second region of its links, less that of the first.
     rise: i32,
-    /// What its links carry from the first region to the other.
-    flow: i64,
+    /// What its links carry from the first region to the other. There is a link for each pixel of a tile's side at most.
+    flow: i32,
 }
 
 /// What came out for each joint: its rise, and the difference of its nodes' potentials.
@@ -47,7 +47,7 @@ pub(crate) fn offsets(
             }
         }
     }
-    heights.offsets(alloc)
+    Ok(heights.offsets())
 }
 
 /// The flows of the links: each takes of its joint's flow as much as it can carry.
@@ -65,7 +65,7 @@ pub(crate) fn flows(
             (Some(link), Some(outcome)) => share(*link, outcome, steep),
             _ => 0,
         };
-        flows.push(flow)?;
+        flows.push(i64::from(flow))?;
     }
     Ok(flows)
 }
@@ -84,7 +84,7 @@ fn take_least(links: &[Option<Link>], joint_of: &[u32], outcomes: &mut [Outcome]
 }
 
 /// What a link carries: the least that it can, and of what is left of its joint's flow as much as it can.
-fn share(link: Link, outcome: &mut Outcome, steep: u32) -> i64 {
+fn share(link: Link, outcome: &mut Outcome, steep: u32) -> i32 {
     let departure = departure(link, *outcome);
     let least = least_flow(departure, link.weight, steep);
     let most = least_flow(departure.wrapping_neg(), link.weight, steep).wrapping_neg();
@@ -99,9 +99,9 @@ fn departure(link: Link, outcome: Outcome) -> i64 {
 }
 
 /// The least that a link with a departure can carry to its second region: what one cycle less costs less.
-fn least_flow(departure: i64, weight: u16, steep: u32) -> i64 {
-    let weight = i64::from(weight);
-    let steep = weight.wrapping_mul(i64::from(steep));
+fn least_flow(departure: i64, weight: u16, steep: u32) -> i32 {
+    let weight = i32::from(weight);
+    let steep = weight.wrapping_mul(steep.cast_signed());
     match departure {
         2.. => steep,
         1 => weight,

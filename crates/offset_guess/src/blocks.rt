@@ -2,34 +2,36 @@ use crate::network::{FREE, Network};
 use crate::spots::{Reach, Spots};
 use crate::tracing::OUTSIDE;
 use std::alloc::{AllocError, Global};
+use std::ops::Range;
 
 /// The side of the least blocks, in tiles, as a power of 2.
 const LEAST: u32 = 5;
 
-/// The nodes in the order in which they are balanced: by blocks of tiles, the least blocks first, and the one that holds all
-/// last. A node lies in the least block that holds all tiles in which its cells lie.
+/// The number of the first node that is not the outside.
+const FIRST: u32 = 1;
+
+/// The nodes at which joints begin or end, in the order in which they are balanced, and so numbered anew: the outside is 0, and
+/// the others follow by blocks of tiles, the least blocks first, and the one that holds all last. A node lies in the least block
+/// that holds all tiles in which its cells lie.
 #[derive(Drop)]
 pub(crate) struct Order {
     /// The last column and row of tiles.
     across: u32,
     along: u32,
-    nodes: Vec<u32>,
-    /// Where each block ends in the list.
+    /// The number after those of each block.
     ends: Vec<u32>,
+    /// How many nodes there are.
+    pub(crate) nodes: u32,
 }
 
 impl Network {
     /// Balances all nodes, block by block, as far as the looks allow. Those of later blocks are held back, and take what flows to
     /// them.
     pub(crate) fn balance(&mut self, order: &Order) -> Result<(), AllocError> {
-        let mut first = 0;
+        let mut first = FIRST;
         for end in &order.ends {
-            let block = order
-                .nodes
-                .get(first as usize..*end as usize)
-                .unwrap_or(&[]);
-            self.free(block);
-            if !self.grow(block, 0)? || !self.grow(block, 1)? {
+            self.free(first..*end);
+            if !self.grow(first..*end, 0)? || !self.grow(first..*end, 1)? {
                 break;
             }
             first = *end;
@@ -38,9 +40,9 @@ impl Network {
     }
 
     /// Holds nodes back no longer.
-    fn free(&mut self, nodes: &[u32]) {
-        for node in nodes {
-            if let Some(node) = self.nodes.get_mut(*node as usize) {
+    fn free(&mut self, nodes: Range<u32>) {
+        for node in nodes.start..nodes.end {
+            if let Some(node) = self.nodes.get_mut(node as usize) {
                 node.by = FREE;
             }
         }
@@ -48,7 +50,7 @@ impl Network {
 }
 
 impl Order {
-    /// The order of the nodes of a raster whose last column and row of tiles are given.
+    /// The order of the marked nodes of a raster whose last column and row of tiles are given. Their spots get their new numbers.
     pub(crate) fn of(
         alloc: Global,
         spots: &mut Spots,
@@ -58,15 +60,14 @@ impl Order {
         let mut order = Order {
             across,
             along,
-            nodes: Vec::new(alloc),
             ends: Vec::new(alloc),
+            nodes: FIRST,
         };
         let blocks = order.first_of(u32::BITS) as usize;
         order.ends = vec![in alloc; 0; blocks]?;
         order.count(spots);
-        let count = order.place_all();
-        order.nodes = vec![in alloc; OUTSIDE; count as usize]?;
-        order.fill(spots);
+        order.place_all();
+        order.number(spots);
         Ok(order)
     }
 
@@ -94,8 +95,10 @@ impl Order {
                 self.across.wrapping_shr(side),
                 self.along.wrapping_shr(side),
             );
-            let (left, top) = (reach.left.wrapping_shr(side), reach.top.wrapping_shr(side));
-            if left == reach.right.wrapping_shr(side) && top == reach.bottom.wrapping_shr(side) {
+            let (left, right) = (u32::from(reach.left), u32::from(reach.right));
+            let (top, bottom) = (u32::from(reach.top), u32::from(reach.bottom));
+            let (left, top) = (left.wrapping_shr(side), top.wrapping_shr(side));
+            if left == right.wrapping_shr(side) && top == bottom.wrapping_shr(side) {
                 let row = top.wrapping_mul(wide.wrapping_add(1));
                 return first.wrapping_add(row).wrapping_add(left);
             }
@@ -105,9 +108,9 @@ impl Order {
     }
 
     /// Counts the nodes of each block.
-    fn count(&mut self, spots: &mut Spots) {
+    fn count(&mut self, spots: &Spots) {
         for node in OUTSIDE.wrapping_add(1)..spots.count() {
-            if spots.find(node) == node {
+            if spots.is_marked(node) {
                 let block = self.block(spots.reach(node));
                 if let Some(count) = self.ends.get_mut(block as usize) {
                     *count = count.wrapping_add(1);
@@ -116,26 +119,24 @@ impl Order {
         }
     }
 
-    /// Turns counts to the places where blocks begin, and answers how many nodes there are.
-    fn place_all(&mut self) -> u32 {
-        let mut sum: u32 = 0;
+    /// Turns counts to the numbers with which blocks begin.
+    fn place_all(&mut self) {
+        let mut sum = FIRST;
         for end in &mut self.ends {
             let count = *end;
             *end = sum;
             sum = sum.wrapping_add(count);
         }
-        sum
+        self.nodes = sum;
     }
 
-    /// Lists the nodes, which moves each block's place to its end.
-    fn fill(&mut self, spots: &mut Spots) {
+    /// Numbers the nodes, which moves the number of each block to its end.
+    fn number(&mut self, spots: &mut Spots) {
         for node in OUTSIDE.wrapping_add(1)..spots.count() {
-            if spots.find(node) == node {
+            if spots.is_marked(node) {
                 let block = self.block(spots.reach(node));
                 if let Some(end) = self.ends.get_mut(block as usize) {
-                    if let Some(listed) = self.nodes.get_mut(*end as usize) {
-                        *listed = node;
-                    }
+                    spots.set_number(node, *end);
                     *end = end.wrapping_add(1);
                 }
             }

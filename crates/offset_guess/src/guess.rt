@@ -4,7 +4,7 @@ use crate::joints::Joint;
 use crate::layout::Layout;
 use crate::link::Link;
 use crate::network::Network;
-use crate::tracing::{Traced, trace};
+use crate::tracing::{Traced, trace, trace_again};
 use std::alloc::{AllocError, Global};
 
 /// An offset for each region in whole cycles, and a flow for each link from its first region to the other.
@@ -30,7 +30,9 @@ pub fn guess_offsets(
     steep: u32,
     links: &[Option<Link>],
 ) -> Result<Guess, AllocError> {
-    let (joint_of, mut outcomes) = solve(alloc, layout, steep, links)?;
+    let mut outcomes = solve(alloc, layout, steep, links)?;
+    // No list of the joints of links was kept while trees grew, since that is when most memory is taken.
+    let joint_of = trace_again(alloc, layout, links.len())?;
     Ok(Guess {
         offsets: offsets(alloc, regions, links, &joint_of, &outcomes)?,
         flows: flows(alloc, links, &joint_of, &mut outcomes, steep)?,
@@ -40,7 +42,6 @@ pub fn guess_offsets(
 /// What is known of the network before it has costs.
 #[derive(Drop)]
 struct Plan {
-    nodes: u32,
     joints: Vec<Joint>,
     /// The joint of each link.
     joint_of: Vec<u32>,
@@ -49,43 +50,43 @@ struct Plan {
 
 /// The plan of a raster with so many links.
 fn planned(alloc: Global, layout: Layout<'_>, links: usize) -> Result<Plan, AllocError> {
+    let (traced, joint_of) = trace(alloc, layout, links)?;
     let Traced {
         mut spots,
         mut joints,
-        joint_of,
         ..
-    } = trace(alloc, layout, links)?;
-    for joint in &mut joints {
-        joint.settle_ends(&mut spots);
-    }
+    } = traced;
     let across = layout.tile(layout.width.wrapping_sub(1));
     let along = layout.tile(layout.height.wrapping_sub(1));
+    for joint in &mut joints {
+        joint.mark_ends(&mut spots);
+    }
     let order = Order::of(alloc, &mut spots, across, along)?;
+    for joint in &mut joints {
+        joint.settle_ends(&spots);
+    }
     Ok(Plan {
-        nodes: spots.count(),
         joints,
         joint_of,
         order,
     })
 }
 
-/// The joint of each link, and what came out for each joint.
+/// What came out for each joint.
 fn solve(
     alloc: Global,
     layout: Layout<'_>,
     steep: u32,
     links: &[Option<Link>],
-) -> Result<(Vec<u32>, Vec<Outcome>), AllocError> {
+) -> Result<Vec<Outcome>, AllocError> {
     let plan = planned(alloc, layout, links.len())?;
     let Plan {
-        nodes,
         joints,
         joint_of,
         order,
     } = plan;
-    let mut network = Network::new(alloc, nodes, joints, &joint_of, links, steep)?;
+    let mut network = Network::new(alloc, order.nodes, joints, joint_of, links, steep)?;
     network.balance(&order)?;
-    let Network { nodes, joints, .. } = network;
-    let outcomes = outcomes(alloc, &nodes, &joints)?;
-    Ok((joint_of, outcomes))
+    let (nodes, joints) = network.parts();
+    outcomes(alloc, &nodes, &joints)
 }

@@ -1,45 +1,46 @@
 use crate::network::number;
 use std::alloc::{AllocError, Global};
 
-/// A region, as links have tied it to others.
-#[derive(Clone, Copy)]
-struct Tie {
-    /// A region of a lower number to which it is tied, or its own number.
-    to: u32,
-    /// How much higher its offset is than that region's.
-    above: i64,
-}
-
 /// How much higher regions are than others to which they are tied.
 #[derive(Drop)]
 pub(crate) struct Heights {
-    ties: Vec<Tie>,
+    /// For each region one of a lower number to which it is tied, or its own number.
+    to: Vec<u32>,
+    /// How much higher its offset is than that region's.
+    above: Vec<i64>,
 }
 
 impl Heights {
     /// So many regions, none of which is tied to another.
     pub(crate) fn new(alloc: Global, regions: u32) -> Result<Heights, AllocError> {
-        let mut ties = Vec::with_capacity(alloc, regions as usize)?;
+        let above = vec![in alloc; 0; regions as usize]?;
+        let mut to = Vec::with_capacity(alloc, regions as usize)?;
         for region in 0..regions {
-            ties.push(Tie {
-                to: region,
-                above: 0,
-            })?;
+            to.push(region)?;
         }
-        Ok(Heights { ties })
+        Ok(Heights { to, above })
     }
 
     #[inline(always)]
-    fn at(&self, region: u32) -> Tie {
-        self.ties.get(region as usize).copied().unwrap_or(Tie {
-            to: region,
-            above: 0,
-        })
+    fn to(&self, region: u32) -> u32 {
+        self.to.get(region as usize).copied().unwrap_or(region)
     }
 
-    fn set(&mut self, region: u32, tie: Tie) {
-        if let Some(held) = self.ties.get_mut(region as usize) {
-            *held = tie;
+    #[inline(always)]
+    fn above(&self, region: u32) -> i64 {
+        self.above.get(region as usize).copied().unwrap_or(0)
+    }
+
+    fn set(&mut self, region: u32, to: u32, above: i64) {
+        if let Some(held) = self.to.get_mut(region as usize) {
+            *held = to;
+        }
+        self.raise(region, above);
+    }
+
+    fn raise(&mut self, region: u32, above: i64) {
+        if let Some(held) = self.above.get_mut(region as usize) {
+            *held = above;
         }
     }
 
@@ -47,16 +48,16 @@ impl Heights {
     fn find(&mut self, region: u32) -> (u32, i64) {
         let mut found = region;
         let mut height: i64 = 0;
-        for _ in 0..self.ties.len() {
-            let tie = self.at(found);
-            if tie.to == found {
+        for _ in 0..self.to.len() {
+            let next = self.to(found);
+            if next == found {
                 break;
             }
-            let next = self.at(tie.to);
-            let above = tie.above.wrapping_add(next.above);
-            self.set(found, Tie { to: next.to, above });
+            let after = self.to(next);
+            let above = self.above(found).wrapping_add(self.above(next));
+            self.set(found, after, above);
             height = height.wrapping_add(above);
-            found = next.to;
+            found = after;
         }
         (found, height)
     }
@@ -67,20 +68,22 @@ impl Heights {
         let (other, other_height) = self.find(second);
         let above = rise.wrapping_add(height).wrapping_sub(other_height);
         if one < other {
-            self.set(other, Tie { to: one, above });
+            self.set(other, one, above);
         } else if other < one {
-            let above = above.wrapping_neg();
-            self.set(one, Tie { to: other, above });
+            self.set(one, other, above.wrapping_neg());
         }
     }
 
-    /// The offsets of all regions: the first of those that are tied together has 0.
-    pub(crate) fn offsets(&mut self, alloc: Global) -> Result<Vec<i64>, AllocError> {
-        let mut offsets = Vec::with_capacity(alloc, self.ties.len())?;
-        for region in 0..number(self.ties.len()) {
-            let (_, height) = self.find(region);
-            offsets.push(height)?;
+    /// The offsets of all regions: the first of those that are tied together has 0. A region is tied to one before it, whose
+    /// offset is known when its own is found.
+    pub(crate) fn offsets(mut self) -> Vec<i64> {
+        for region in 0..number(self.to.len()) {
+            let to = self.to(region);
+            if to != region {
+                let offset = self.above(region).wrapping_add(self.above(to));
+                self.raise(region, offset);
+            }
         }
-        Ok(offsets)
+        self.above
     }
 }

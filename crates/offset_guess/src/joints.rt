@@ -10,15 +10,8 @@ pub(crate) struct Joint {
     /// The next arc out of each.
     pub(crate) after_tail: u32,
     pub(crate) after_head: u32,
-    /// The places of its steps: the first, that after the last, and the first whose rise is above the present.
-    pub(crate) first: u32,
-    pub(crate) end: u32,
-    pub(crate) at: u32,
     /// The offset of the second region less that of the first.
     pub(crate) rise: i32,
-    /// What the next cycle up costs, and the next one down. A stretch has a link for each pixel of a tile's side at most.
-    pub(crate) up: i32,
-    pub(crate) down: i32,
 }
 
 pub(crate) const NO_JOINT: Joint = Joint {
@@ -26,12 +19,7 @@ pub(crate) const NO_JOINT: Joint = Joint {
     head: NONE,
     after_tail: NONE,
     after_head: NONE,
-    first: 0,
-    end: 0,
-    at: 0,
     rise: 0,
-    up: 0,
-    down: 0,
 };
 
 /// A joint that begins at a node.
@@ -54,18 +42,27 @@ impl Joint {
         }
     }
 
-    /// Names the nodes at its ends by their own numbers.
-    pub(crate) fn settle_ends(&mut self, spots: &mut Spots) {
-        self.tail = spots.find(self.tail);
-        self.head = spots.find(self.head);
+    /// Marks the nodes at its ends, and names each by the lowest of its numbers.
+    pub(crate) fn mark_ends(&mut self, spots: &mut Spots) {
+        self.tail = spots.mark(self.tail);
+        self.head = spots.mark(self.head);
+    }
+
+    /// Names the nodes at its ends by the numbers that they have in the end.
+    pub(crate) fn settle_ends(&mut self, spots: &Spots) {
+        self.tail = spots.number(self.tail);
+        self.head = spots.number(self.head);
     }
 }
 
-/// A rise from which on each further cycle costs more, and by how much.
+/// A rise from which on each further cycle costs more.
 #[derive(Clone, Copy)]
 pub(crate) struct Step {
     pub(crate) rise: i32,
-    pub(crate) by: u32,
+    /// What a further cycle costs from there on; while links are added, how much more it costs than below. A joint has a
+    /// link for each pixel of a tile's side at most.
+    pub(crate) cost: i32,
 }
 
-pub(crate) const NO_STEP: Step = Step { rise: 0, by: 0 };
+/// Room for a step, which costs nothing.
+pub(crate) const NO_STEP: Step = Step { rise: 0, cost: 0 };

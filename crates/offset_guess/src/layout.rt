@@ -12,10 +12,17 @@ pub struct Layout<'a> {
     pub labels: &'a [u32],
 }
 
-impl Layout<'_> {
+impl<'a> Layout<'a> {
+    /// The regions of a row of pixels.
+    pub(crate) fn row(&self, y: u32) -> &'a [u32] {
+        let width = self.width as usize;
+        let first = y as usize * width;
+        self.labels.get(first..first + width).unwrap_or(&[])
+    }
+
     /// Whether a pixel is open.
     #[inline(always)]
-    pub(crate) fn is_open(&self, x: u32, y: u32) -> bool {
+    fn is_open(&self, x: u32, y: u32) -> bool {
         let place = y as usize * self.width as usize + x as usize;
         match self.labels.get(place) {
             Some(label) => *label != NONE,
@@ -23,16 +30,16 @@ impl Layout<'_> {
         }
     }
 
-    /// Whether all pixels of a row are open.
-    pub(crate) fn is_open_row(&self, y: u32) -> bool {
-        let width = self.width as usize;
-        let first = y as usize * width;
-        let row = self.labels.get(first..first + width).unwrap_or(&[]);
-        let mut masked = row.len() != width;
-        for label in row {
-            masked |= *label == NONE;
-        }
-        !masked
+    /// Whether a pixel and the one right of it are open.
+    #[inline(always)]
+    pub(crate) fn is_open_to_right(&self, x: u32, y: u32) -> bool {
+        self.is_open(x, y) && self.is_open(x.wrapping_add(1), y)
+    }
+
+    /// Whether a pixel and the one below it are open.
+    #[inline(always)]
+    pub(crate) fn is_open_downward(&self, x: u32, y: u32) -> bool {
+        self.is_open(x, y) && self.is_open(x, y.wrapping_add(1))
     }
 
     /// The column of tiles of a column of pixels, or the row of tiles of a row of pixels.
@@ -40,22 +47,23 @@ impl Layout<'_> {
         if self.side == 0 { 0 } else { pixel / self.side }
     }
 
-    /// Whether the next column of pixels lies in other tiles, or the next row.
-    #[inline(always)]
-    pub(crate) fn ends_tile(&self, pixel: u32) -> bool {
-        self.side != 0 && pixel.wrapping_add(1) % self.side == 0
+    /// The same in 16 binary digits: a raster of 4,096 columns or rows has 2,048 of tiles at most.
+    pub(crate) fn short_tile(&self, pixel: u32) -> u16 {
+        u16::try_from(self.tile(pixel)).unwrap_or(u16::MAX)
     }
 
-    /// Whether a seam goes straight through a cell: two tiles meet in its four pixels, and all are open. The cell lies to the
-    /// right of the pixel (`x`, `y`) and below it.
-    pub(crate) fn is_passed(&self, x: u32, y: u32) -> bool {
-        let (right, below) = (x.wrapping_add(1), y.wrapping_add(1));
-        right < self.width
-            && below < self.height
-            && self.ends_tile(x) != self.ends_tile(y)
-            && self.is_open(x, y)
-            && self.is_open(right, y)
-            && self.is_open(x, below)
-            && self.is_open(right, below)
+    /// Whether the next row of pixels lies in other tiles, or outside.
+    pub(crate) fn ends_tiles(&self, y: u32) -> bool {
+        let below = y.wrapping_add(1);
+        below >= self.height || self.side != 0 && below % self.side == 0
     }
+}
+
+/// Whether all pixels with these regions are open.
+pub(crate) fn are_open(labels: &[u32]) -> bool {
+    let mut masked = false;
+    for label in labels {
+        masked |= *label == NONE;
+    }
+    !masked
 }

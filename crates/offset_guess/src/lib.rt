@@ -14,9 +14,11 @@ mod link;
 mod network;
 mod pushing;
 mod releasing;
+mod spans;
 mod spots;
 mod tracing;
 mod waiting;
+mod walking;
 
 pub use crate::guess::{Guess, guess_offsets};
 pub use crate::layout::Layout;

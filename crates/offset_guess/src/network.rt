@@ -1,5 +1,6 @@
 use crate::joints::{Joint, NO_JOINT, NO_STEP, Step};
 use crate::link::Link;
+use crate::spans::Spans;
 use crate::waiting::Waiting;
 use std::alloc::{AllocError, Global};
 
@@ -19,10 +20,11 @@ const LOOKS: u64 = 8192;
 /// A cell where seams meet or end, cells that masked pixels join, or the outside.
 #[derive(Clone, Copy)]
 pub(crate) struct Node {
-    /// The potential. In a tree the time is added to it.
-    pub(crate) height: i64,
+    /// The last 32 binary digits of the potential. In a tree the time is added to it. The potentials of two nodes with a joint
+    /// differ by what a cycle costs there at most, so the last digits tell by how much.
+    pub(crate) height: i32,
     /// What flows to it, less what flows from it.
-    pub(crate) excess: i64,
+    pub(crate) excess: i32,
     /// The first of the arcs out of it.
     pub(crate) first: u32,
     /// The joint by which it joined its tree, or what it is instead.
@@ -50,6 +52,8 @@ pub(crate) struct Network {
     pub(crate) nodes: Vec<Node>,
     pub(crate) joints: Vec<Joint>,
     pub(crate) steps: Vec<Step>,
+    /// Where the steps of each joint lie.
+    pub(crate) spans: Spans,
     /// The joints that lead out of trees, by the time when they will let another node join.
     pub(crate) waiting: Waiting,
     /// The nodes of the tree that is dissolved.
@@ -66,32 +70,41 @@ pub(crate) fn number(place: usize) -> u32 {
 }
 
 impl Network {
-    /// The network of so many nodes and these joints, each at the rise at which its links cost least. `joint_of` names the joint of each link.
+    /// The network of so many nodes and these joints, each at the rise at which its links cost least. `joint_of` names the
+    /// joint of each link, and is not kept.
     pub(crate) fn new(
         alloc: Global,
         nodes: u32,
         joints: Vec<Joint>,
-        joint_of: &[u32],
+        joint_of: Vec<u32>,
         links: &[Option<Link>],
         steep: u32,
     ) -> Result<Network, AllocError> {
         let count = number(joints.len());
         let mut network = Network {
-            nodes: vec![in alloc; NO_NODE; nodes as usize]?,
+            nodes: Vec::new(alloc),
             joints,
             steps: Vec::new(alloc),
-            waiting: Waiting::new(alloc, count)?,
+            spans: Spans::new(alloc),
+            waiting: Waiting::new(alloc)?,
             loose: Vec::new(alloc),
             turn: 0,
             looks: (u64::from(count) + 1) * LOOKS,
         };
-        network.reserve_steps(alloc, joint_of, steep)?;
-        network.add_links(links, joint_of, steep);
+        network.make_steps(alloc, &joint_of, links, steep)?;
+        drop(joint_of);
+        network.nodes = vec![in alloc; NO_NODE; nodes as usize]?;
+        network.waiting.let_wait(alloc, count)?;
         for joint in 0..count {
             network.hang(joint);
             network.start(joint);
         }
         Ok(network)
+    }
+
+    /// The nodes and joints, without what only their balance needed.
+    pub(crate) fn parts(self) -> (Vec<Node>, Vec<Joint>) {
+        (self.nodes, self.joints)
     }
 
     /// Puts the arcs of a joint among those out of its nodes.
@@ -149,7 +162,7 @@ impl Network {
     }
 
     /// Adds to what a node has above what it needs.
-    pub(crate) fn add_excess(&mut self, node: u32, amount: i64) {
+    pub(crate) fn add_excess(&mut self, node: u32, amount: i32) {
         if let Some(node) = self.nodes.get_mut(node as usize) {
             node.excess = node.excess.wrapping_add(amount);
         }
@@ -157,7 +170,7 @@ impl Network {
 
     /// A number, with its sign turned if trees grow from deficits.
     #[inline(always)]
-    pub(crate) fn turned(&self, number: i64) -> i64 {
+    pub(crate) fn turned(&self, number: i32) -> i32 {
         if self.turn == 0 {
             number
         } else {

@@ -9,7 +9,7 @@ impl Network {
         let (tail, head) = (self.head(arc ^ 1), self.head(arc));
         let met = self.node(head);
         if met.by != HELD && self.turned(met.excess) >= 0 {
-            self.attach(head, joint);
+            self.attach(head, joint)?;
             return Ok(false);
         }
         let mut amount = self.room(arc ^ self.turn);
@@ -30,7 +30,7 @@ impl Network {
         }
         let kept = self.node(tail);
         if kept.is_in_tree() {
-            self.wait(arc, kept.height);
+            self.wait(arc, kept.height)?;
         }
         Ok(false)
     }
@@ -57,7 +57,7 @@ impl Network {
     }
 
     /// The root of the branch that ends at a node, and how much of an amount the branch and the root let flow.
-    fn narrowest(&self, end: u32, amount: i64) -> (u32, i64) {
+    fn narrowest(&self, end: u32, amount: i32) -> (u32, i32) {
         let mut node = end;
         let mut least = amount;
         for _ in 0..self.nodes.len() {
@@ -73,7 +73,7 @@ impl Network {
 
     /// Lets an amount flow along the branch that ends at a node. The result is the node nearest to the root to which the next
     /// unit costs something else, or `NONE`.
-    fn send(&mut self, end: u32, amount: i64) -> u32 {
+    fn send(&mut self, end: u32, amount: i32) -> u32 {
         let mut node = end;
         let mut cut = NONE;
         for _ in 0..self.nodes.len() {

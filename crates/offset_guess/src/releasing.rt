@@ -15,14 +15,14 @@ impl Network {
         }
         for place in 0..self.loose.len() {
             let node = self.loose.get(place).copied().unwrap_or(NONE);
-            self.invite(node);
+            self.invite(node)?;
         }
         Ok(())
     }
 
     /// Takes a node out of its tree, and lists the nodes that joined by it.
     fn let_go(&mut self, node: u32) -> Result<(), AllocError> {
-        let time = self.turned(self.waiting.time);
+        let time = self.turned(self.waiting.time());
         let Some(held) = self.nodes.get_mut(node as usize) else {
             return Ok(());
         };
@@ -43,7 +43,7 @@ impl Network {
     }
 
     /// Lets the joints from trees to a free node wait, and no others of it.
-    fn invite(&mut self, node: u32) {
+    fn invite(&mut self, node: u32) -> Result<(), AllocError> {
         let mut arc = self.node(node).first;
         for _ in 0..self.arcs() {
             if arc >= self.arcs() {
@@ -52,9 +52,10 @@ impl Network {
             self.waiting.remove(arc / 2);
             let head = self.node(self.head(arc));
             if head.is_in_tree() {
-                self.wait(arc ^ 1, head.height);
+                self.wait(arc ^ 1, head.height)?;
             }
             arc = self.next_out(arc);
         }
+        Ok(())
     }
 }

@@ -1,7 +1,8 @@
 use crate::joints::{Joint, joint_from};
-use crate::layout::Layout;
-use crate::network::{NONE, number};
+use crate::layout::{Layout, are_open};
+use crate::network::NONE;
 use crate::spots::{Reach, Spots};
+use crate::walking::{Companion, Passage, joints_of};
 use std::alloc::{AllocError, Global};
 
 /// The node outside the raster.
@@ -12,36 +13,107 @@ pub(crate) const OUTSIDE: u32 = 0;
 pub(crate) struct Traced {
     pub(crate) spots: Spots,
     pub(crate) joints: Vec<Joint>,
-    /// The joint of each link, or `NONE`.
-    pub(crate) joint_of: Vec<u32>,
     /// The nodes of the cells above and below the present row of pixels, or `NONE`: first those of even rows, then those of odd ones,
     /// each with a cell left of the raster in front.
     cells: Vec<u32>,
-    /// For each column of tiles the last joint on its right side.
-    downward: Vec<u32>,
+    /// The column of tiles of each column of pixels, and of one more.
+    columns: Vec<u16>,
 }
 
-/// Finds the nodes and joints of a raster with so many links.
-pub(crate) fn trace(alloc: Global, layout: Layout<'_>, links: usize) -> Result<Traced, AllocError> {
+/// A row of pixels with masked ones.
+#[derive(Clone, Copy)]
+struct Row<'a> {
+    /// The regions of its pixels, and of those below.
+    labels: &'a [u32],
+    lower: &'a [u32],
+    /// The places of the first cell above it and of the first below.
+    above: usize,
+    below: usize,
+    /// The rows of tiles of the rows of pixels above and below.
+    top: u16,
+    bottom: u16,
+}
+
+/// Finds the nodes and joints of a raster with so many links, and the joint of each link, or `NONE`.
+pub(crate) fn trace(
+    alloc: Global,
+    layout: Layout<'_>,
+    links: usize,
+) -> Result<(Traced, Vec<u32>), AllocError> {
     let across = layout.tile(layout.width.wrapping_sub(1)) as usize + 1;
     let along = layout.tile(layout.height.wrapping_sub(1)) as usize + 1;
     let mut traced = Traced {
         spots: Spots::new(alloc)?,
         joints: Vec::with_capacity(alloc, links.min(across.wrapping_mul(along).wrapping_mul(2)))?,
-        joint_of: Vec::with_capacity(alloc, links)?,
         cells: vec![in alloc; OUTSIDE; (layout.width as usize + 1) * 2]?,
-        downward: vec![in alloc; NONE; across]?,
+        columns: columns(alloc, layout)?,
     };
-    for y in 0..layout.height {
-        traced.start_row(layout, y);
-        traced.join_row(layout, y)?;
-        if layout.ends_tile(y) && y.wrapping_add(1) < layout.height {
-            traced.trace_along(layout, y)?;
-        } else {
-            traced.trace_across(layout, y)?;
-        }
+    let joint_of = joints_of(alloc, layout, links, &mut traced)?;
+    Ok((traced, joint_of))
+}
+
+/// The column of tiles of each column of pixels, and of one more.
+fn columns(alloc: Global, layout: Layout<'_>) -> Result<Vec<u16>, AllocError> {
+    let mut columns = Vec::with_capacity(alloc, layout.width as usize + 1)?;
+    for x in 0..=layout.width {
+        columns.push(layout.short_tile(x))?;
     }
-    Ok(traced)
+    Ok(columns)
+}
+
+/// The joint of each link of a raster that has so many, or `NONE`, found once more.
+pub(crate) fn trace_again(
+    alloc: Global,
+    layout: Layout<'_>,
+    links: usize,
+) -> Result<Vec<u32>, AllocError> {
+    joints_of(alloc, layout, links, &mut Nobody)
+}
+
+/// A companion who needs to be told nothing.
+#[derive(Drop)]
+struct Nobody;
+
+impl Companion for Nobody {
+    fn start_row(&mut self, _layout: Layout<'_>, _y: u32) -> Result<(), AllocError> {
+        Ok(())
+    }
+
+    fn pass(&mut self, _layout: Layout<'_>, _passage: Passage) -> Result<(), AllocError> {
+        Ok(())
+    }
+}
+
+impl Companion for Traced {
+    /// Forgets the nodes of the row of cells before the last, for those below a row of pixels, and joins the cells around its masked
+    /// pixels.
+    fn start_row(&mut self, layout: Layout<'_>, y: u32) -> Result<(), AllocError> {
+        let is_last = y.wrapping_add(1) == layout.height;
+        let first = Traced::place(layout, 0, y);
+        let end = first.wrapping_add(layout.width as usize);
+        let cells: &mut [u32] = &mut self.cells;
+        if let Some(row) = cells.get_mut(first..end) {
+            row.fill(if is_last { OUTSIDE } else { NONE });
+        }
+        self.set_cell(layout, layout.width.wrapping_sub(1), y, OUTSIDE);
+        self.join_row(layout, y)
+    }
+
+    /// Begins or ends a joint at the nodes where an edge begins or ends it.
+    fn pass(&mut self, layout: Layout<'_>, passage: Passage) -> Result<(), AllocError> {
+        let ((from_x, from_y), (to_x, to_y)) = (passage.from, passage.to);
+        if passage.is_first {
+            let node = self.node(layout, from_x, from_y)?;
+            self.joints.push(joint_from(node))?;
+        }
+        if passage.is_last {
+            let node = self.node(layout, to_x, to_y)?;
+            if let Some(joint) = self.joints.get_mut(passage.joint as usize) {
+                joint.end_at(node, from_y == to_y);
+            }
+        }
+        Ok(())
+    }
 }
 
 impl Traced {
@@ -53,8 +125,7 @@ impl Traced {
     }
 
     fn cell(&self, layout: Layout<'_>, x: u32, y: u32) -> u32 {
-        let place = Traced::place(layout, x, y);
-        self.cells.get(place).copied().unwrap_or(OUTSIDE)
+        self.cell_at(Traced::place(layout, x, y))
     }
 
     fn set_cell(&mut self, layout: Layout<'_>, x: u32, y: u32, node: u32) {
@@ -64,127 +135,88 @@ impl Traced {
         }
     }
 
-    /// Forgets the nodes of the row of cells before the last, for those below a row of pixels.
-    fn start_row(&mut self, layout: Layout<'_>, y: u32) {
-        let is_last = y.wrapping_add(1) == layout.height;
-        let first = Traced::place(layout, 0, y);
-        let end = first.wrapping_add(layout.width as usize);
-        let cells: &mut [u32] = &mut self.cells;
-        if let Some(row) = cells.get_mut(first..end) {
-            row.fill(if is_last { OUTSIDE } else { NONE });
-        }
-        self.set_cell(layout, layout.width.wrapping_sub(1), y, OUTSIDE);
-    }
-
     /// Joins the cells around each masked pixel of a row.
     fn join_row(&mut self, layout: Layout<'_>, y: u32) -> Result<(), AllocError> {
-        if layout.is_open_row(y) {
+        let row = Row {
+            labels: layout.row(y),
+            lower: layout.row(y.wrapping_add(1)),
+            above: Traced::place(layout, u32::MAX, y.wrapping_sub(1)),
+            below: Traced::place(layout, u32::MAX, y),
+            top: layout.short_tile(y.saturating_sub(1)),
+            bottom: layout.short_tile(y.saturating_add(1)),
+        };
+        if are_open(row.labels) {
             return Ok(());
         }
-        for x in 0..layout.width {
-            if !layout.is_open(x, y) {
-                self.join_around(layout, x, y)?;
+        let mut x: usize = 0;
+        for label in row.labels {
+            if *label == NONE {
+                self.join_around(row, x)?;
+            }
+            x = x.wrapping_add(1);
+        }
+        Ok(())
+    }
+
+    /// Joins the four cells around a masked pixel to one node: edges with a masked end cost nothing. A pixel that stands alone
+    /// within a tile makes none, since no seam comes there.
+    fn join_around(&mut self, row: Row<'_>, x: usize) -> Result<(), AllocError> {
+        let next = x.wrapping_add(1);
+        let reach = Reach {
+            left: self.column(x.saturating_sub(1)),
+            right: self.column(next),
+            top: row.top,
+            bottom: row.bottom,
+        };
+        let places = [
+            row.above.wrapping_add(x),
+            row.above.wrapping_add(next),
+            row.below.wrapping_add(x),
+            row.below.wrapping_add(next),
+        ];
+        let mut node = self.united(places);
+        if node != NONE {
+            self.spots.widen(node, reach);
+        } else if reach.is_one_tile() && row.is_open_after(x) {
+            return Ok(());
+        } else {
+            node = self.spots.add(reach)?;
+        }
+        for place in places {
+            if let Some(cell) = self.cells.get_mut(place) {
+                *cell = node;
             }
         }
         Ok(())
     }
 
-    /// Joins the four cells around a masked pixel to one node: edges with a masked end cost nothing.
-    fn join_around(&mut self, layout: Layout<'_>, x: u32, y: u32) -> Result<(), AllocError> {
-        let (left, above) = (x.wrapping_sub(1), y.wrapping_sub(1));
-        let first = self.cell(layout, left, above);
-        let second = self.cell(layout, x, above);
-        let third = self.cell(layout, left, y);
-        let fourth = self.cell(layout, x, y);
+    /// The column of tiles of a column of pixels.
+    #[inline(always)]
+    fn column(&self, x: usize) -> u16 {
+        self.columns.get(x).copied().unwrap_or(u16::MAX)
+    }
+
+    #[inline(always)]
+    fn cell_at(&self, place: usize) -> u32 {
+        self.cells.get(place).copied().unwrap_or(OUTSIDE)
+    }
+
+    /// Makes the nodes of four cells one, and answers it, or `NONE` if they have none.
+    fn united(&mut self, places: [usize; 4]) -> u32 {
+        let [first, second, third, fourth] = places;
+        let (first, second) = (self.cell_at(first), self.cell_at(second));
+        let (third, fourth) = (self.cell_at(third), self.cell_at(fourth));
+        let least = first.min(second).min(third).min(fourth);
+        if is_or_none(first, least)
+            && is_or_none(second, least)
+            && is_or_none(third, least)
+            && is_or_none(fourth, least)
+        {
+            return least;
+        }
         let upper = self.spots.unite(first, second);
         let lower = self.spots.unite(third, fourth);
-        let mut node = self.spots.unite(upper, lower);
-        let reach = Reach {
-            left: layout.tile(x.saturating_sub(1)),
-            right: layout.tile(x.saturating_add(1)),
-            top: layout.tile(y.saturating_sub(1)),
-            bottom: layout.tile(y.saturating_add(1)),
-        };
-        if node == NONE {
-            node = self.spots.add(reach)?;
-        } else {
-            self.spots.widen(node, reach);
-        }
-        self.set_cell(layout, left, above, node);
-        self.set_cell(layout, x, above, node);
-        self.set_cell(layout, left, y, node);
-        self.set_cell(layout, x, y, node);
-        Ok(())
-    }
-
-    /// Follows the seams at a row of pixels below which a seam lies.
-    fn trace_along(&mut self, layout: Layout<'_>, y: u32) -> Result<(), AllocError> {
-        let mut joint = NONE;
-        for x in 0..layout.width {
-            self.trace_right(layout, x, y)?;
-            let below = y.wrapping_add(1);
-            if layout.is_open(x, y) && layout.is_open(x, below) {
-                joint = self.follow(layout, joint, (x.wrapping_sub(1), y), (x, y))?;
-            } else {
-                self.joint_of.push(NONE)?;
-            }
-        }
-        Ok(())
-    }
-
-    /// Follows the seams at any other row of pixels.
-    fn trace_across(&mut self, layout: Layout<'_>, y: u32) -> Result<(), AllocError> {
-        for column in 0..number(self.downward.len()) {
-            let next = column.wrapping_add(1).wrapping_mul(layout.side);
-            self.trace_right(layout, next.wrapping_sub(1), y)?;
-        }
-        Ok(())
-    }
-
-    /// Follows the seam between a pixel and the one on its right, if there is one.
-    fn trace_right(&mut self, layout: Layout<'_>, x: u32, y: u32) -> Result<(), AllocError> {
-        let right = x.wrapping_add(1);
-        if right >= layout.width || !layout.ends_tile(x) {
-            return Ok(());
-        }
-        if !layout.is_open(x, y) || !layout.is_open(right, y) {
-            self.joint_of.push(NONE)?;
-            return Ok(());
-        }
-        let column = layout.tile(x) as usize;
-        let last = self.downward.get(column).copied().unwrap_or(NONE);
-        let joint = self.follow(layout, last, (x, y.wrapping_sub(1)), (x, y))?;
-        if let Some(held) = self.downward.get_mut(column) {
-            *held = joint;
-        }
-        Ok(())
-    }
-
-    /// Follows a seam across an edge from one cell to the next, as a part of a joint or as the begin of a new one, and answers
-    /// the joint.
-    fn follow(
-        &mut self,
-        layout: Layout<'_>,
-        last: u32,
-        from: (u32, u32),
-        to: (u32, u32),
-    ) -> Result<u32, AllocError> {
-        let ((from_x, from_y), (to_x, to_y)) = (from, to);
-        let is_level = from_y == to_y;
-        let mut joint = last;
-        if !layout.is_passed(from_x, from_y) {
-            let node = self.node(layout, from_x, from_y)?;
-            joint = number(self.joints.len());
-            self.joints.push(joint_from(node))?;
-        }
-        if !layout.is_passed(to_x, to_y) {
-            let node = self.node(layout, to_x, to_y)?;
-            if let Some(joint) = self.joints.get_mut(joint as usize) {
-                joint.end_at(node, is_level);
-            }
-        }
-        self.joint_of.push(joint)?;
-        Ok(joint)
+        self.spots.unite(upper, lower)
     }
 
     /// The node of a cell, which is added if there is none.
@@ -194,12 +226,38 @@ impl Traced {
             return Ok(found);
         }
         let node = self.spots.add(Reach {
-            left: layout.tile(x),
-            right: layout.tile(x.saturating_add(1)),
-            top: layout.tile(y),
-            bottom: layout.tile(y.saturating_add(1)),
+            left: layout.short_tile(x),
+            right: layout.short_tile(x.saturating_add(1)),
+            top: layout.short_tile(y),
+            bottom: layout.short_tile(y.saturating_add(1)),
         })?;
         self.set_cell(layout, x, y, node);
         Ok(node)
     }
+}
+
+impl Row<'_> {
+    /// Whether the pixel after a masked one and the three below it are open.
+    fn is_open_after(&self, x: usize) -> bool {
+        let (last, next) = (x.wrapping_sub(1), x.wrapping_add(1));
+        is_open_at(self.labels, next)
+            && is_open_at(self.lower, last)
+            && is_open_at(self.lower, x)
+            && is_open_at(self.lower, next)
+    }
+}
+
+/// Whether a row has an open pixel at a place.
+#[inline(always)]
+fn is_open_at(labels: &[u32], x: usize) -> bool {
+    match labels.get(x) {
+        Some(label) => *label != NONE,
+        None => false,
+    }
+}
+
+/// Whether a cell's node is this one, or it has none.
+#[inline(always)]
+fn is_or_none(cell: u32, node: u32) -> bool {
+    cell == node || cell == NONE
 }

@@ -71,17 +71,17 @@ where_three : (t : Bool) (a b c x y z : ℤ) → a ≡ where_true t x → b ≡ 
 where_three true a b c x y z p q s = omega (arith, ints, p, q, s)
 where_three false a b c x y z p q s = omega (arith, ints, p, q, s)
 
-open_term : (a b t : Bool) (x : ℤ) → (a && b) ≡ true → where_true t x ≡ where_true (b && t) x
+pub open_term : (a b t : Bool) (x : ℤ) → (a && b) ≡ true → where_true t x ≡ where_true (b && t) x
 open_term true true t x o = refl
 open_term true false t x o = cc
 open_term false b t x o = cc
 
-open_term_first : (a b t : Bool) (x : ℤ) → (a && b) ≡ true → where_true t x ≡ where_true (a && t) x
+pub open_term_first : (a b t : Bool) (x : ℤ) → (a && b) ≡ true → where_true t x ≡ where_true (a && t) x
 open_term_first true b t x o = refl
 open_term_first false b t x o = cc
 
 -- the bound and the cost of an edge
-same_term : (s o : Bool) (p v c : ℤ) → (s ≡ true → o ≡ true → p -ℤ v ≡ c) → (s ≡ true → o ≡ false → v ≡ pos 0) → where_true (s && o) p -ℤ where_true s v ≡ where_true s (where_true o c)
+pub same_term : (s o : Bool) (p v c : ℤ) → (s ≡ true → o ≡ true → p -ℤ v ≡ c) → (s ≡ true → o ≡ false → v ≡ pos 0) → where_true (s && o) p -ℤ where_true s v ≡ where_true s (where_true o c)
 same_term true true p v c h k = h refl refl
 same_term true false p v c h k = omega (arith, ints, k refl refl)
 same_term false o p v c h k = omega (arith, ints)

@@ -11,5 +11,7 @@ pub mod AnswerLemmas
 pub mod CostLemmas
 pub mod PlaceSums
 pub mod CertificateLemmas
+pub mod FairLemmas
+pub mod FairCertificates
 pub mod SolvedLemmas
 pub mod TilePlaces

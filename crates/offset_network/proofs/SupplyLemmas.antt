@@ -40,7 +40,7 @@ module _ (old new : List ℤ) (place : ℕ) (x : ℤ) (p : AddsAt old new place 
       let b = sum_below-pick m place (λ v. pos (unsigned_abs x)) l in
       omega (arith, ints, n, s, a, b)
 
-both_added : (t u : Bool) (a b c x p q : ℤ) → b ≡ a +ℤ where_true t p → c ≡ b +ℤ where_true u q → p ≡ x → q ≡ neg_ℤ x → c ≡ a +ℤ (where_true t x -ℤ where_true u x)
+pub both_added : (t u : Bool) (a b c x p q : ℤ) → b ≡ a +ℤ where_true t p → c ≡ b +ℤ where_true u q → p ≡ x → q ≡ neg_ℤ x → c ≡ a +ℤ (where_true t x -ℤ where_true u x)
 both_added true true a b c x p q e f g h = omega (arith, ints, e, f, g, h)
 both_added true false a b c x p q e f g h = omega (arith, ints, e, f, g, h)
 both_added false true a b c x p q e f g h = omega (arith, ints, e, f, g, h)

@@ -1,5 +1,5 @@
 -- The cycles of the result of a pixel's tile.
-use Rattle.std.proofs.Common.{◌≡◌, ℕ, ◌+◌, ◌-◌, ◌*◌, ◌<◌, ◌≤◌, ◌∙◌, ap, sym, subst, refl, arith, Bool, List, length, to_z, of_z, w32, FitsSigned}
+use Rattle.std.proofs.Common.{◌≡◌, ℕ, ◌+◌, ◌-◌, ◌*◌, ◌<◌, ◌≤◌, ◌∙◌, ap, sym, subst, refl, arith, Bool, length, to_z, of_z, w32, FitsSigned}
 use Rattle.std.specs.Prelude.{ℤ, ◌+ℤ◌, ◌-ℤ◌, ◌&&◌, nat_lt, IsTrue, Some, slice_get, unsigned_abs}
 use Rattle.std.proofs.lemmas.Int.{ints}
 use Rattle.std.proofs.lemmas.Nat.{mul-add-lt}
@@ -13,17 +13,9 @@ use Rattle.raster_model.specs.Tiles.{IsWithin, tile_at, window_of}
 use Rattle.certificates.specs.declared.results.TileResult.{TileResult}
 use Rattle.certificates.specs.Results.{IsGoodTile, listed_cycles, pixels_in, window_in}
 use Rattle.certificates.specs.TileSets.{TileSetView, solved_cycles}
-use Rattle.certificates.specs.SeamVerdicts.{ListsRegions, label_at as label_in}
-use Rattle.raster_model.specs.MaskView.{MaskView}
-use Rattle.raster_model.specs.Masks.{open_at}
-use Rattle.raster_model.specs.Scene.{raster_of}
-use Rattle.raster_model.specs.Seams.{AreRegions}
-use Rattle.seam_regions.specs.Regions.{AreRegionsOf}
-use Rattle.seam_regions.specs.RegionsView.{RegionsView}
-use Rattle.seam_regions.proofs.CallerLemmas.{regions_of_scene}
 use Rattle.offset_network.specs.declared.places.Spot.{Spot}
 use Rattle.offset_network.specs.Places.{IsSpotOf}
-use Rattle.offset_network.specs.Surfaces.{IsGoodTileSet, AreLabelled}
+use Rattle.offset_network.specs.Surfaces.{IsGoodTileSet}
 
 pub open_tells : (w h x y : ℕ) (b : Bool) → IsTrue ((nat_lt x w && nat_lt y h) && b) → (x < w) × (y < h) × IsTrue b
 open_tells w h x y b t = (grind (arith, nat_tests), grind (arith, nat_tests), grind (arith, nat_tests))
@@ -75,25 +67,3 @@ rise_value u v t a b k = (omega (arith, ints, a, b, k), omega (arith, ints, a, b
 
 pub rise_is : (r : Raster) (c : Field ℤ) (e : Edge) (x y : ℕ) (u v t : ℤ) → x ≡ end_x e → y ≡ end_y e → u ≡ c e.x e.y → v ≡ c x y → t ≡ turns_of r e → v -ℤ u +ℤ t ≡ cycle_departure r c e
 rise_is r c e x y u v t ex ey eu ev et = rw (eu, ev, et, ex, ey) refl
-
--- the regions' numbers, as the check of the flows reads them
-module _ (s : Scene) (m : MaskView) (v : RegionsView) (is : AreRegionsOf s.tiling m v) where
-  wide : v.width ≡ s.phase.width
-  wide = is.width ∙ s.same_width.1
-
-  high : v.height ≡ s.phase.height
-  high = is.height ∙ s.same_height.1
-
-  pub lists_regions : (labels : List ℕ) (count : ℕ) → labels ≡ v.labels → count ≡ v.count → length labels ≡ v.width * v.height → ListsRegions (raster_of s) (open_at m) labels count
-  lists_regions labels count values counted size = (
-    size ∙ rw (wide, high) refl,
-    rw (values, counted) (subst (λ (w : ℕ). AreRegions (raster_of s) (open_at m) (label_in w v.labels) v.count) wide (regions_of_scene s m v is)),
-  )
-
-  -- and each open pixel has one
-  pub are_labelled : AreLabelled s m v
-  are_labelled = record {
-    wide = wide;
-    high = high;
-    below = λ x y l h o. (regions_of_scene s m v is).labelling.below x y (l, h, o);
-  }

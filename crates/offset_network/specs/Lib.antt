@@ -3,7 +3,7 @@ pub mod Lanes
 pub mod Networks
 pub mod Surfaces
 pub mod Seams
-pub mod Shifted
 pub mod Places
 pub mod Starts
 pub mod Guesses
+pub mod FairFlows

@@ -1,5 +1,5 @@
 -- The surface of the results of tiles and of offsets of the regions, and what makes these good (Chen and Zebker 2002).
-use Rattle.std.specs.Prelude.{◌≡◌, ℕ, ◌<◌, pos, Bool, IsTrue, Some, length, slice_get, slice_index_or}
+use Rattle.std.specs.Prelude.{◌≡◌, ℕ, ◌<◌, pos, Bool, Some, length, slice_get, slice_index_or}
 use Rattle.raster_model.specs.declared.scene.Scene.{Scene}
 use Rattle.raster_model.specs.MaskView.{MaskView}
 use Rattle.raster_model.specs.Masks.{open_at}
@@ -12,7 +12,7 @@ use Rattle.certificates.specs.Results.{IsGoodTile}
 use Rattle.certificates.specs.SeamVerdicts.{IsGoodAtSeams}
 use Rattle.certificates.specs.TileSets.{TileSetView, solved_cycles}
 use Rattle.seam_regions.specs.Offsets.{IsNear}
-use Rattle.seam_regions.specs.Regions.{region_label, shifted_by}
+use Rattle.seam_regions.specs.Regions.{shifted_by}
 use Rattle.seam_regions.specs.RegionsView.{RegionsView}
 
 -- the set has a good result for each tile of the scene
@@ -25,9 +25,3 @@ pub record IsGoodSeams (s : Scene) (mask : MaskView) (regions : RegionsView) (ti
   pub count : length k.offsets.items ≡ regions.count
   pub in_range : (v : ℕ) → v < regions.count → IsNear (slice_index_or k.offsets.items v (pos 0))
   pub certified : IsGoodAtSeams (raster_of s) (open_at mask) (shifted_by regions k.offsets.items (solved_cycles s tiles.results)) k.flows.items
-
--- each open pixel has the number of a region
-pub record AreLabelled (s : Scene) (m : MaskView) (v : RegionsView) : Type 0 where
-  pub wide : v.width ≡ s.phase.width
-  pub high : v.height ≡ s.phase.height
-  pub below : (x y : ℕ) → x < s.phase.width → y < s.phase.height → IsTrue (open_at m x y) → region_label v x y < v.count

@@ -1,14 +1,18 @@
 ghost use Rattle.certificates.specs.SeamVerdicts.{IsGoodAtSeams};
 ghost use Rattle.offset_network.specs.Guesses.{IsJudgedGuess};
-ghost use Rattle.offset_network.specs.Shifted.{cycles_with_offsets};
+ghost use Rattle.offset_network.specs.Links.{AreLinks};
+ghost use Rattle.offset_network.specs.Seams.{AreSeamLinks};
+ghost use Rattle.certificates.specs.TileSets.{solved_cycles};
 ghost use Rattle.raster_model.specs.Masks.{open_at};
 ghost use Rattle.raster_model.specs.Scene.{raster_of};
-ghost use Rattle.seam_regions.specs.Regions.{AreRegionsOf};
-ghost use Rattle.std.specs.Prelude.{IfOk, IsTrue};
+ghost use Rattle.raster_model.specs.Seams.{IsFirstOpen};
+ghost use Rattle.seam_regions.specs.Offsets.{AreNear};
+ghost use Rattle.seam_regions.specs.Regions.{AreRegionsOf, region_label, shifted_by};
+ghost use Rattle.std.specs.Prelude.{◌≡◌, ℕ, IfOk, IsTrue, length};
 
-use crate::shifted::ShiftedSurface;
+use crate::fairness::are_fair_flows;
 use crate::surface::TileSurface;
-use certificates::{SeamResult, SeamVerdict, check_flows};
+use certificates::SeamResult;
 use offset_guess::{Guess, Layout, Link, guess_offsets};
 use raster_model::first_open;
 use seam_regions::{Regions, first_far};
@@ -51,10 +55,13 @@ pub(crate) fn judge(
     alloc: Global,
     surface: &TileSurface,
     regions: &Regions,
+    links: &[Option<Link>],
     guess: Guess,
     revision: u32,
 ) -> Result<Judged, AllocError>
     requires regions { AreRegionsOf surface.now.scene.now.tiling surface.now.mask.now regions.now }
+    requires links { AreLinks regions.now.count links.now }
+    requires seams { AreSeamLinks (raster_of surface.now.scene.now) (open_at surface.now.mask.now) (region_label regions.now) (solved_cycles surface.now.scene.now surface.now.tiles.now.results) links.now }
     ensures { IfOk result (IsJudgedGuess surface.now.scene.now surface.now.mask.now regions.now surface.now.tiles.now revision) }
 {
     let mut offsets = guess.offsets;
@@ -63,12 +70,7 @@ pub(crate) fn judge(
     if offsets.len() != regions.count() as usize || first_far(&offsets).is_some() {
         return Ok(Judged::Dropped(offsets));
     }
-    let shifted = ShiftedSurface {
-        surface: *surface,
-        regions,
-        offsets: &offsets,
-    };
-    if !certifies(alloc, &shifted, &guess.flows)? {
+    if !certifies(alloc, surface, regions, &offsets, links, &guess.flows)? {
         return Ok(Judged::Dropped(offsets));
     }
     Ok(Judged::Certified(SeamResult {
@@ -78,30 +80,32 @@ pub(crate) fn judge(
     }))
 }
 
-/// Whether the check of the flows finds that they certify a surface at its seams.
-fn certifies(alloc: Global, shifted: &ShiftedSurface, flows: &[i64]) -> Result<bool, AllocError>
-    requires { AreRegionsOf shifted.now.surface.scene.now.tiling shifted.now.surface.mask.now shifted.now.regions.now }
-    ensures { IfOk result (λ good. IsTrue good → IsGoodAtSeams (raster_of shifted.now.surface.scene.now) (open_at shifted.now.surface.mask.now) (cycles_with_offsets shifted.now) flows.now) }
+/// Whether offsets and flows certify the surface at its seams, by the links of the seam edges.
+fn certifies(
+    alloc: Global,
+    surface: &TileSurface,
+    regions: &Regions,
+    offsets: &[i64],
+    links: &[Option<Link>],
+    flows: &[i64],
+) -> Result<bool, AllocError>
+    requires regions { AreRegionsOf surface.now.scene.now.tiling surface.now.mask.now regions.now }
+    requires count { length offsets.now ≡ regions.now.count }
+    requires near { AreNear offsets.now }
+    requires links { AreLinks regions.now.count links.now }
+    requires seams { AreSeamLinks (raster_of surface.now.scene.now) (open_at surface.now.mask.now) (region_label regions.now) (solved_cycles surface.now.scene.now surface.now.tiles.now.results) links.now }
+    ensures { IfOk result (λ good. IsTrue good → IsGoodAtSeams (raster_of surface.now.scene.now) (open_at surface.now.mask.now) (shifted_by regions.now offsets.now (solved_cycles surface.now.scene.now surface.now.tiles.now.results)) flows.now) }
 {
-    let surface = shifted.surface;
-    let mut scratch = vec![in alloc; 0; shifted.regions.count() as usize]?;
-    let labels = shifted.regions.labels();
-    match check_flows(
-        surface.scene,
-        surface.mask,
-        labels,
-        shifted,
-        flows,
-        &mut scratch,
-    ) {
-        SeamVerdict::Good => Ok(true),
-        _ => Ok(false),
+    if first_height(surface, regions, offsets) != 0 {
+        return Ok(false);
     }
+    are_fair_flows(alloc, surface.scene.terms, offsets, links, flows)
 }
 
 /// How high the first open pixel lies: its cycles and the offset of its region. 0 if no pixel is open.
 fn first_height(surface: &TileSurface, regions: &Regions, offsets: &[i64]) -> i64
     requires regions { AreRegionsOf surface.now.scene.now.tiling surface.now.mask.now regions.now }
+    ensures { length offsets.now ≡ regions.now.count → AreNear offsets.now → (x y : ℕ) → IsFirstOpen (raster_of surface.now.scene.now) (open_at surface.now.mask.now) x y → result ≡ shifted_by regions.now offsets.now (solved_cycles surface.now.scene.now surface.now.tiles.now.results) x y }
 {
     let Some((x, y)) = first_open(surface.scene, surface.mask) else {
         return 0;

@@ -3,13 +3,13 @@
 #![tactic(auto)]
 
 mod answer;
+mod fairness;
 mod guessing;
 mod lane;
 mod lanes;
 mod links;
 mod network;
 mod places;
-mod shifted;
 mod solving;
 mod start;
 mod surface;

@@ -73,7 +73,7 @@ pub fn solve_offsets_from(
     };
     let links = links(alloc, &surface, regions)?;
     let guess = guess_or_solver(alloc, &surface, regions, &links, guess)?;
-    match judge(alloc, &surface, regions, guess, revision)? {
+    match judge(alloc, &surface, regions, &links, guess, revision)? {
         Judged::Certified(solved) => Ok(solved),
         Judged::Dropped(offsets) => {
             let start = Start::from(alloc, offsets, regions.count(), links)?;

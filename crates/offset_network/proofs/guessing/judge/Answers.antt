@@ -2,22 +2,12 @@ use Rattle.std.proofs.Common.{◌≡◌, ◌∙◌, ℕ, Option, Some, None, fal
 use Rattle.std.specs.Option.{is_some}
 use Rattle.std.specs.Prelude.{IfNone, ℤ, List}
 use Rattle.seam_regions.specs.Offsets.{AreNear}
-use Rattle.offset_network.proofs.SurfaceLemmas.{are_labelled}
 use Rattle.offset_network.proofs.guessing.judge.Goals as goal
 
 -- all offsets are in range if none was found that is not
 none_far : (offsets : List ℤ) (found : Option ℕ) → IfNone found (AreNear offsets) → is_some found ≡ false → AreNear offsets
 none_far offsets None near none = near
 none_far offsets (Some v) near none = cc
-
-pub invariant_of-shifted : goal.invariant_of-shifted
-invariant_of-shifted c =
-    let s = c.args.surface.now in
-    record {
-      labelled = are_labelled s.scene.now s.mask.now c.args.regions.now c.requires.regions;
-      count = c.deref-2.ensures.len ∙ sym c.len.ensures ∙ c.if-len-count.false ∙ c.count.ensures.value;
-      near = rw (c.deref-2.ensures.value) (rw c.deref-else-len-count.ensures.value at (none_far c.deref-else-len-count.result.now c.first_far.result c.first_far.ensures.none (sym c.is_some.ensures ∙ c.if-is_some.false)));
-    }
 
 pub returns : goal.returns
 returns c =

@@ -1,13 +1,12 @@
 -- The costs of tiles and of seams, as one pass over the edges adds them up; what all tiles cost together is the sum over the inner edges.
-use Rattle.std.proofs.Common.{◌≡◌, ◌∙◌, ℕ, ◌+◌, ◌<◌, sym, subst, ap, refl, arith, length, slice_index_or, take, List, ◌++◌, Bool, true, false, inl, inr}
-use Rattle.std.specs.Prelude.{ℤ, pos, ◌&&◌, ◌==◌, not, IsTrue, nat_lt}
-use Rattle.std.proofs.Math.Seq.{take-append_seam}
+use Rattle.std.proofs.Common.{◌≡◌, ◌∙◌, ℕ, ◌+◌, ◌^◌, ◌<◌, ◌≤◌, sym, subst, ap, refl, arith, Bool, true, false, inl, inr}
+use Rattle.std.specs.Prelude.{ℤ, pos, ◌+ℤ◌, if◌then◌else◌, ◌&&◌, ◌==◌, not, IsTrue, nat_lt}
 use Rattle.std.proofs.lemmas.Int.{ints}
 use Rattle.std.proofs.lemmas.Bool.{and_parts}
 use Rattle.std.proofs.lemmas.Bool.Decides.{eqb_tells}
 use Rattle.raster_model.specs.declared.edge.Edge.{Edge}
-use Rattle.raster_model.specs.Heights.{KnowsEnds, KnowsOpen}
-use Rattle.raster_model.specs.Sums.{Field, right_edge, down_edge, end_x, end_y, is_edge, sum_grid}
+use Rattle.raster_model.specs.Heights.{KnowsEnds}
+use Rattle.raster_model.specs.Sums.{Field, right_edge, down_edge, end_x, end_y, is_edge, sum_grid, sum_row}
 use Rattle.raster_model.specs.MaskView.{MaskView}
 use Rattle.raster_model.specs.Masks.{open_at}
 use Rattle.raster_model.specs.Raster.{Raster, edge_cost, has_open_ends, inner_cost, seam_cost_from, seam_edge_cost, tile_cost}
@@ -15,17 +14,21 @@ use Rattle.raster_model.proofs.MaskAgrees.{edge_ends}
 use Rattle.raster_model.proofs.SumLemmas.{sum_edges-below, sum_edges-same}
 use Rattle.surface_snapshots.specs.declared.counting.Costs.{Costs}
 use Rattle.surface_snapshots.specs.Parts.{tile_costs}
-use Rattle.surface_snapshots.specs.Loops.{AreOpenFrom, inner_cost_from, inner_edge_cost}
+use Rattle.surface_snapshots.specs.Loops.{AreOfEdges, AreOfRows, AreOpenFrom, KnowsOpenRows, inner_cost_from, inner_edge_cost}
 use Rattle.sums_and_lists.proofs.Tests.{one_test, apart}
 use Rattle.sums_and_lists.specs.Sums.{sum_below, where_true}
-use Rattle.sums_and_lists.proofs.SumLemmas.{no_number, sum_below-pick, sum_below-same, sum_below-zeros}
+use Rattle.sums_and_lists.proofs.SumLemmas.{no_number, sum_below-more, sum_below-none, sum_below-pick, sum_below-same, sum_below-zeros}
 
--- where every open pixel is known, the ends of each edge are, where they are open
-pub ends_known : (r : Raster) (mask knows : Field Bool) (e : Edge) → KnowsOpen r mask knows → IsTrue (is_edge r.width r.height e) → KnowsEnds mask knows e
+end_below : (y : ℕ) (down : Bool) → (y ≤ (if down then y + 1 else y)) × ((if down then y + 1 else y) ≤ y + 1)
+end_below y true = (omega arith, omega arith)
+end_below y false = (omega arith, omega arith)
+
+-- where the open pixels of an edge's row and of the next one are known, its ends are, where they are open
+pub ends_known : (r : Raster) (mask knows : Field Bool) (e : Edge) → KnowsOpenRows r mask knows e.y (e.y + 1) → IsTrue (is_edge r.width r.height e) → KnowsEnds mask knows e
 ends_known r mask knows e known i o =
     let t = edge_ends r.width r.height e i in
     let ends = and_parts (mask e.x e.y) (mask (end_x e) (end_y e)) o in
-    (known e.x e.y t.0 t.1 ends.0, known (end_x e) (end_y e) t.2 t.3 ends.1)
+    (known e.x e.y t.0 t.1 (omega arith) (omega arith) ends.0, known (end_x e) (end_y e) t.2 t.3 (end_below e.y e.down).0 (end_below e.y e.down).1 ends.1)
 
 both_true : (a b : Bool) → IsTrue a → IsTrue b → IsTrue (a && b)
 both_true a b p q = rw (p, q) refl
@@ -83,8 +86,29 @@ tile_costs_are r mask S numbered =
     (λ e i. (let l = edge_ends r.width r.height e i in
     in_one_tile r.tile_count (r.tile e.x e.y) (r.tile (end_x e) (end_y e)) (edge_cost r mask S e) (numbered e.x e.y l.0 l.1))))
 
--- what is known of the costs that were left at a place of a list holds of those that are read there
-pub row_told : (P : Costs → Type 0) (list rest : List Costs) (n y : ℕ) (read left : Costs) → length list ≡ n → read ≡ slice_index_or (take n (list ++ rest)) y read → left ≡ slice_index_or list y read → P left → P read
-row_told P list rest n y read left size is there known =
-    let kept : take n (list ++ rest) ≡ list = subst (λ (m : ℕ). take m (list ++ rest) ≡ list) size (take-append_seam list rest) in
-    subst P (there ∙ sym (is ∙ ap (λ (l : List Costs). slice_index_or l y read) kept)) known
+-- ---- costs of rows: none, a row more, and rows more, which add up to no more than 128 bits hold
+module _ (r : Raster) (mask : Field Bool) (S : Field ℤ) where
+  pub no_rows : (a : ℕ) → AreOfRows r mask S a a (record { tiles = 0; seams = 0 })
+  no_rows a = (omega (arith, ints), omega (arith, ints), (omega arith, omega arith))
+
+  pub row_more : (a y : ℕ) (c n m : Costs) → a ≤ y → AreOfRows r mask S a y c → pos n.tiles ≡ sum_row r.width (inner_cost_from r mask S) y → pos n.seams ≡ sum_row r.width (seam_cost_from r mask S) y → AreOfEdges 8192 n → m.tiles ≡ c.tiles + n.tiles → m.seams ≡ c.seams + n.seams → AreOfRows r mask S a (y + 1) m
+  row_more a y c n m from before tiles seams small p q = (
+    omega (arith, ints, before.0, tiles, p, sum_below-more y (sum_row r.width (inner_cost_from r mask S))),
+    omega (arith, ints, before.1, seams, q, sum_below-more y (sum_row r.width (seam_cost_from r mask S))),
+    (omega (arith, from, before.2, small, p), omega (arith, from, before.2, small, q)),
+  )
+
+  module _ (a b d : ℕ) (c n : Costs) (first : a ≤ b) (second : b ≤ d) (before : AreOfRows r mask S a b c) (after : AreOfRows r mask S b d n) where
+    pub rows_more : (m : Costs) → m.tiles ≡ c.tiles + n.tiles → m.seams ≡ c.seams + n.seams → AreOfRows r mask S a d m
+    rows_more m p q = (
+      omega (arith, ints, before.0, after.0, p),
+      omega (arith, ints, before.1, after.1, q),
+      (omega (arith, first, second, before.2, after.2, p), omega (arith, first, second, before.2, after.2, q)),
+    )
+
+    pub rows_fit : d ≤ 4096 → (c.tiles + n.tiles < 2 ^ 128) × (c.seams + n.seams < 2 ^ 128)
+    rows_fit high = (omega (arith, first, second, high, before.2, after.2), omega (arith, first, second, high, before.2, after.2))
+
+-- rows from the first on add up to the whole
+pub from_first : (w h z : ℕ) (f : Field ℤ) → sum_grid w h f ≡ sum_grid w 0 f +ℤ pos z → pos z ≡ sum_grid w h f
+from_first w h z f e = omega (arith, ints, e, sum_below-none (sum_row w f))

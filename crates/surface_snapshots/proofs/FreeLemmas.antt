@@ -6,22 +6,21 @@ use Rattle.std.proofs.lemmas.Bool.Decides.{nat_tests}
 use Rattle.std.proofs.lemmas.Int.{ints}
 use Rattle.std.proofs.lemmas.Nat.{div-add-mod', mod-mul-add, mod_below}
 use Rattle.raster_model.specs.declared.edge.Edge.{Edge}
-use Rattle.raster_model.specs.Heights.{KnowsOpen}
 use Rattle.raster_model.specs.MaskView.{MaskView}
 use Rattle.raster_model.specs.Masks.{open_at}
 use Rattle.raster_model.specs.Raster.{Raster, departure, edge_cost, has_open_ends, is_seam, masked_weight, seam_cost_from, seam_edge_cost, steps}
 use Rattle.raster_model.specs.Sums.{Field, right_edge, down_edge, sum_row}
 use Rattle.raster_model.proofs.Steps.{no_steps}
 use Rattle.certificates.proofs.SeamLemmas.{is_zero}
-use Rattle.surface_snapshots.specs.Loops.{AddUpTo, AreOpenFrom, FollowsDown, FollowsRight, KnowsFrom, inner_cost_from, inner_edge_cost}
+use Rattle.surface_snapshots.specs.Loops.{AddUpTo, AreOpenFrom, FollowsDown, FollowsRight, KnowsFrom, KnowsOpenRows, inner_cost_from, inner_edge_cost}
 use Rattle.sums_and_lists.specs.Sums.{where_true}
 use Rattle.sums_and_lists.proofs.Orders.{below_or_last, lt_is, not_lt_is}
 use Rattle.sums_and_lists.proofs.SumLemmas.{no_number, picked, sum_below-more, sum_below-upto, where_true-zero}
 
 -- ---- open pixels of a piece
 -- they are known, and so are those of each of its pixels' edges
-pub knows_from : (r : Raster) (m : MaskView) (knows : Field Bool) (y a b : ℕ) → m.width ≡ r.width → m.height ≡ r.height → KnowsOpen r (open_at m) knows → AreOpenFrom m y a b → KnowsFrom r knows y a b
-knows_from r m knows y a b w h known clear x z l k i j p q = known x z l k (clear x z (omega (arith, w, l)) (omega (arith, h, k)) i j p q)
+pub knows_from : (r : Raster) (m : MaskView) (knows : Field Bool) (y a b : ℕ) → m.width ≡ r.width → m.height ≡ r.height → KnowsOpenRows r (open_at m) knows y (y + 1) → AreOpenFrom m y a b → KnowsFrom r knows y a b
+knows_from r m knows y a b w h known clear x z l k i j p q = known x z l k p q (clear x z (omega (arith, w, l)) (omega (arith, h, k)) i j p q)
 
 pub open_within : (m : MaskView) (y a b x : ℕ) → a ≤ x → x < b → AreOpenFrom m y a b → AreOpenFrom m y x (x + 1)
 open_within m y a b x l k clear c z p q i j s t = clear c z p q (omega (arith, l, i)) (omega (arith, k, j)) s t

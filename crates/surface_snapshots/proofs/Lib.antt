@@ -12,3 +12,4 @@ pub mod VerdictLemmas
 mod PublishedLemmas
 pub mod CallerLemmas
 pub mod SameLemmas
+pub mod PartsLemmas

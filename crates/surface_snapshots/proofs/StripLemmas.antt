@@ -1,14 +1,20 @@
 -- Strips of whole rows: one row more, and what lies in them.
-use Rattle.std.proofs.Common.{◌≡◌, ◌∙◌, ℕ, ◌+◌, ◌-◌, ◌*◌, ◌/◌, ◌%◌, ◌<◌, ◌≤◌, ap, subst, sym, arith, inl, inr, length, refl, List, ◌++◌, take, pos}
-use Rattle.std.specs.Prelude.{ℤ, slice_index_or}
-use Rattle.std.proofs.lemmas.Bool.{cases_lt}
+use Rattle.std.proofs.Common.{◌≡◌, ◌∙◌, ℕ, ◌+◌, ◌-◌, ◌*◌, ◌/◌, ◌%◌, ◌<◌, ◌≤◌, ap, subst, arith, inl, inr, length, refl, List, ◌++◌, take, pos}
+use Rattle.raster_model.specs.Raster.{lifted}
+use Rattle.std.specs.Prelude.{ℤ, ◌^◌, slice_index_or, Bool, true, false, ◌&&◌, ◌⊎◌, IsTrue, min, nat_le, nat_lt}
+use Rattle.std.proofs.lemmas.Bool.{and_parts, cases_lt}
+use Rattle.std.proofs.lemmas.Bool.Decides.{nat_tests}
+use Rattle.std.proofs.lemmas.Grind.{div_ceil_times}
 use Rattle.std.proofs.lemmas.List.{get_or-append_right, get_or-take, get_or_append_left, length-take-le}
 use Rattle.std.proofs.lemmas.Nat.{div-add-mod', mod-mul-add, mul-add-lt, same_from_place}
-use Rattle.std.proofs.Math.Nat.{le-div_iff_mul-le, mul-sub}
-use Rattle.std.specs.Fork.{IsChunk}
+use Rattle.std.proofs.Math.Nat.{le-div_iff_mul-le, mul-le-mul_right}
+use Rattle.surface_snapshots.specs.declared.counting.Costs.{Costs}
 use Rattle.surface_snapshots.specs.declared.shifted.ShiftedTiles.{ShiftedTiles}
 use Rattle.surface_snapshots.specs.Parts.{BeginsWithRow}
-use Rattle.surface_snapshots.specs.Shifted.{AreLevelsFrom, AreListedCycles, IsStrip, level_at}
+use Rattle.surface_snapshots.specs.Loops.{KnowsOpenRows}
+use Rattle.surface_snapshots.specs.Shifted.{AreLevelsFrom, AreListedCycles, IsStrip, cycles_under, is_open_there, level_at, open_under, raster_under}
+use Rattle.surface_snapshots.specs.Strips.{AreCounted}
+use Rattle.surface_snapshots.proofs.CostLemmas.{rows_fit, rows_more}
 use Rattle.surface_snapshots.proofs.RowLemmas.{level_there}
 
 -- a list whose front stays, and behind it another
@@ -66,31 +72,64 @@ whole_strip s n wide e = record {
   within = omega (arith, e);
 }
 
-module _ (s : ShiftedTiles) (rows start : ℕ) (list part : List ℤ) (count : length list ≡ s.scene.now.phase.height * s.scene.now.phase.width) (chunk : IsChunk list (rows * s.scene.now.phase.width) start part) where
-  abbrev strip_rows : ℕ
-  strip_rows = start / (rows * s.scene.now.phase.width) * rows
+-- an open pixel whose place is one of n
+there : (x w y h start place n : ℕ) (o : Bool) → x < w → y < h → IsTrue o → start ≤ place → place < start + n → IsTrue ((nat_lt x w && nat_lt y h && o) && (nat_le start place && nat_lt place (start + n)))
+there x w y h start place n true l k t from below = grind (arith, nat_tests)
+there x w y h start place n false l k t from below = cc
 
-  begins : start ≡ strip_rows * s.scene.now.phase.width
-  begins = omega (arith, div-add-mod' start (rows * s.scene.now.phase.width), chunk.start_is_multiple)
+pub is_there : (w h start place n : ℕ) (x y : ℕ) (o : Bool) → IsTrue ((nat_lt x w && nat_lt y h && o) && (nat_le start place && nat_lt place (start + n))) → IsTrue (nat_lt x w && nat_lt y h && o) × (start ≤ place) × (place < start + n)
+is_there w h start place n x y o t =
+    let p = and_parts (nat_lt x w && nat_lt y h && o) (nat_le start place && nat_lt place (start + n)) t in
+    let q = and_parts (nat_le start place) (nat_lt place (start + n)) p.1 in
+    (p.0, grind (arith, nat_tests, q), grind (arith, nat_tests, q))
 
-  are_rows : 0 < s.scene.now.phase.width → length part % s.scene.now.phase.width ≡ 0
-  are_rows wide =
-      let w = s.scene.now.phase.width in
-      let h = s.scene.now.phase.height in
-      elim (cases_lt (h * w - start) (rows * w)) [
-        | inl last ↦
-            (let k = h - strip_rows in
-            let apart : w * k ≡ w * h - w * strip_rows = mul-sub w h strip_rows in
-            multiple_of k w (length part) wide (omega (arith, chunk.len, count, last, begins, apart)))
-        | inr whole ↦ multiple_of rows w (length part) wide (omega (arith, chunk.len, count, whole))
-      ]
+-- so many rows from one on are a strip
+pub rows_strip : (s : ShiftedTiles) (first rows n : ℕ) → 0 < s.scene.now.phase.width → first + rows ≤ s.scene.now.phase.height → n ≡ rows * s.scene.now.phase.width → IsStrip s (first * s.scene.now.phase.width) n
+rows_strip s first rows n wide within e =
+    let w = s.scene.now.phase.width in record {
+      from = multiple_of first w (first * w) wide refl;
+      rows = multiple_of rows w n wide e;
+      within = omega (arith, e, mul-le-mul_right w within);
+    }
 
-  pub strip_there : 0 < s.scene.now.phase.width → IsStrip s start (length part)
-  strip_there wide = record {
-    from = multiple_of strip_rows s.scene.now.phase.width start wide begins;
-    rows = are_rows wide;
-    within = omega (arith, chunk.in_bounds, count);
-  }
+-- the rows before the end and the next one, as far as the raster goes
+pub rows_upto : (first end below h : ℕ) → first ≤ end → end ≤ h → below ≡ min (end + 1) h → (end < first + (below - first)) ⊎ (first + (below - first) ≡ h)
+rows_upto first end below h from within is = elim (cases_lt end h) [ inl l ↦ inl (omega (arith, from, l, is)) | inr l ↦ inr (omega (arith, from, within, l, is)) ]
+
+-- strips of so many rows begin before the end of the raster, and all of them have all of its rows
+pub strip_begins : (h rows place : ℕ) → 0 < rows → place < h / rows + min 1 (h % rows) → place * rows < h
+strip_begins h rows place some below =
+    let next : place + 1 ≤ h / rows + min 1 (h % rows) = omega (arith, below) in
+    omega (arith, (div_ceil_times h rows some).1, mul-le-mul_right rows next)
+
+pub strips_end : (h rows place : ℕ) → 0 < rows → h / rows + min 1 (h % rows) ≤ place → min (place * rows) h ≡ h
+strips_end h rows place some past = omega (arith, (div_ceil_times h rows some).0, mul-le-mul_right rows past)
+
+-- the costs of the strips so far and of one more
+module _ (s : ShiftedTiles) (rows place : ℕ) (c n : Costs) (begins : place * rows < s.scene.now.phase.height) (before : AreCounted s 0 (min (place * rows) s.scene.now.phase.height) c) (told : AreCounted s (place * rows) (min ((place + 1) * rows) s.scene.now.phase.height) n) where
+  abbrev next : ℕ
+  next = min ((place + 1) * rows) s.scene.now.phase.height
+
+  so_far : AreCounted s 0 (place * rows) c
+  so_far = let same : min (place * rows) s.scene.now.phase.height ≡ place * rows = omega (arith, begins) in subst (λ (m : ℕ). AreCounted s 0 m c) same before
+
+  onward : place * rows ≤ next
+  onward = omega (arith, begins)
+
+  pub strips_more : (m : Costs) → m.tiles ≡ c.tiles + n.tiles → m.seams ≡ c.seams + n.seams → AreCounted s 0 next m
+  strips_more = rows_more (raster_under s) (open_under s) (lifted (raster_under s) (cycles_under s)) 0 (place * rows) next c n (omega arith) onward so_far told
+
+  pub strips_fit : (c.tiles + n.tiles < 2 ^ 128) × (c.seams + n.seams < 2 ^ 128)
+  strips_fit = rows_fit (raster_under s) (open_under s) (lifted (raster_under s) (cycles_under s)) 0 (place * rows) next c n (omega arith) onward so_far told (omega (arith, s.scene.now.phase.high))
+
+-- what is known in a strip: the open pixels of its rows
+pub rows_known : (s : ShiftedTiles) (first rows z n : ℕ) → n ≡ rows * s.scene.now.phase.width → (z < first + rows) ⊎ (first + rows ≡ s.scene.now.phase.height) → KnowsOpenRows (raster_under s) (open_under s) (is_open_there s (first * s.scene.now.phase.width) n) first z
+rows_known s first rows z n e upto x y across along from to clear =
+    let w = s.scene.now.phase.width in
+    let l : y < first + rows = elim upto [ inl below ↦ omega (arith, to, below) | inr all ↦ omega (arith, along, all) ] in
+    there x w y s.scene.now.phase.height (first * w) (y * w + x) n (open_under s x y) across along clear
+    (omega (arith, mul-le-mul_right w from))
+    (omega (arith, e, mul-add-lt y w x (first + rows) l across))
 
 -- a list of levels is one of cycles
 pub levels_listed : (s : ShiftedTiles) (list : List ℤ) → length list ≡ s.scene.now.phase.height * s.scene.now.phase.width → ((x y : ℕ) → x < s.scene.now.phase.width → y < s.scene.now.phase.height → slice_index_or list (y * s.scene.now.phase.width + x) (pos 0) ≡ level_at s x y) → AreListedCycles s (s.scene.now.phase.height * s.scene.now.phase.width) list
@@ -104,9 +143,3 @@ strip_listed s list count filled =
     let same : i ≡ i - 0 = omega arith in
     ap (λ (n : ℕ). slice_index_or list n (pos 0)) same
     ∙ filled x y across (omega arith) (omega (arith, count, mul-add-lt y s.scene.now.phase.width x s.scene.now.phase.height along across))))
-
--- a level that a strip has, and so the list into which it was written
-pub level_in_strip : (s : ShiftedTiles) (x y start offset n : ℕ) (part : List ℤ) (z : ℤ) → x < s.scene.now.phase.width → start + offset ≡ y * s.scene.now.phase.width + x → offset < n → AreLevelsFrom s start n part → slice_index_or part offset (pos 0) ≡ z → z ≡ level_at s x y
-level_in_strip s x y start offset n part z across place below filled is =
-    let at : y * s.scene.now.phase.width + x - start ≡ offset = omega (arith, place) in
-    sym is ∙ ap (λ (i : ℕ). slice_index_or part i (pos 0)) (sym at) ∙ filled x y across (omega (arith, place)) (omega (arith, place, below))

@@ -4,8 +4,10 @@ pub mod Verdicts
 pub mod Views
 pub mod Loops
 pub mod Shifted
+pub mod Strips
 pub mod Runs
 pub mod Packing
 pub mod Tiled
+pub mod Packed
 pub mod Kept
 pub mod Surfaces

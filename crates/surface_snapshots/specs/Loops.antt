@@ -1,5 +1,5 @@
 -- Words of helpers and of ghost fields: no clause of a public function cites them.
-use Rattle.std.specs.Prelude.{◌≡◌, ℕ, ◌+◌, ◌*◌, ◌<◌, ◌≤◌, ◌^◌, ℤ, ◌+ℤ◌, pos, Bool, not, IsTrue, List}
+use Rattle.std.specs.Prelude.{◌≡◌, ℕ, ◌+◌, ◌-◌, ◌*◌, ◌<◌, ◌≤◌, ◌^◌, ℤ, ◌+ℤ◌, pos, Bool, not, IsTrue, List}
 use Rattle.raster_model.specs.declared.edge.Edge.{Edge}
 use Rattle.raster_model.specs.declared.scene.Scene.{Scene}
 use Rattle.raster_model.specs.MaskView.{MaskView}
@@ -10,7 +10,7 @@ use Rattle.seam_regions.specs.RegionsView.{RegionsView}
 use Rattle.surface_snapshots.specs.declared.counting.Costs.{Costs}
 use Rattle.surface_snapshots.specs.Parts.{AreGoodTiles}
 use Rattle.raster_model.specs.Raster.{Raster, departure, edge_cost, is_seam, seam_cost_from}
-use Rattle.raster_model.specs.Sums.{Field, down_edge, edges_from, right_edge, sum_row}
+use Rattle.raster_model.specs.Sums.{Field, down_edge, edges_from, right_edge, sum_grid, sum_row}
 use Rattle.sums_and_lists.specs.Sums.{where_true}
 
 -- what an edge adds to the costs of all tiles, and what the edges that start at a pixel add
@@ -24,12 +24,12 @@ inner_cost_from r mask S = edges_from r.width r.height (inner_edge_cost r mask S
 abbrev pub AreOfEdges : ℕ → Costs → Type 0
 AreOfEdges n costs = (costs.tiles ≤ 1048560 * (2 ^ 49 + 1) * n) × (costs.seams ≤ 1048560 * (2 ^ 49 + 1) * n)
 
--- the costs are what the edges that start in row y add
-abbrev pub AreOfRow : Raster → Field Bool → Field ℤ → ℕ → Costs → Type 0
-AreOfRow r mask S y costs =
-    (pos costs.tiles ≡ sum_row r.width (inner_cost_from r mask S) y)
-    × (pos costs.seams ≡ sum_row r.width (seam_cost_from r mask S) y)
-    × AreOfEdges 8192 costs
+-- the costs are what the edges that start in the rows from a to before b add
+abbrev pub AreOfRows : Raster → Field Bool → Field ℤ → ℕ → ℕ → Costs → Type 0
+AreOfRows r mask S a b costs =
+    (sum_grid r.width b (inner_cost_from r mask S) ≡ sum_grid r.width a (inner_cost_from r mask S) +ℤ pos costs.tiles)
+    × (sum_grid r.width b (seam_cost_from r mask S) ≡ sum_grid r.width a (seam_cost_from r mask S) +ℤ pos costs.seams)
+    × AreOfEdges (8192 * (b - a)) costs
 
 -- the pixels of row y and of the next one from column x to column z are open, as far as the raster goes
 abbrev pub AreOpenFrom : MaskView → ℕ → ℕ → ℕ → Type 0
@@ -38,6 +38,10 @@ AreOpenFrom m y x z = (a b : ℕ) → a < m.width → b < m.height → x ≤ a �
 -- those pixels of a raster are known
 abbrev pub KnowsFrom : Raster → Field Bool → ℕ → ℕ → ℕ → Type 0
 KnowsFrom r knows y x z = (a b : ℕ) → a < r.width → b < r.height → x ≤ a → a ≤ z → y ≤ b → b ≤ y + 1 → IsTrue (knows a b)
+
+-- the open pixels of a raster in the rows from y to z are known
+abbrev pub KnowsOpenRows : Raster → Field Bool → Field Bool → ℕ → ℕ → Type 0
+KnowsOpenRows r mask knows y z = (a b : ℕ) → a < r.width → b < r.height → y ≤ b → b ≤ z → IsTrue (mask a b) → IsTrue (knows a b)
 
 -- the surface departs at no right edge that starts in row y from column a to before column b; nor at a down edge
 abbrev pub FollowsRight : Raster → Field ℤ → ℕ → ℕ → ℕ → Type 0

@@ -1,5 +1,5 @@
 -- Words of helpers: a surface of shifted tiles as the definitions read it, and lists of its cycles. No clause of a public function cites them.
-use Rattle.std.specs.Prelude.{◌≡◌, ℕ, ◌+◌, ◌-◌, ◌*◌, ◌%◌, ◌<◌, ◌≤◌, ℤ, pos, neg_ℤ, Bool, IsTrue, List, length, slice_get, slice_index_or, Some, if◌then◌else◌}
+use Rattle.std.specs.Prelude.{◌≡◌, ℕ, ◌+◌, ◌-◌, ◌*◌, ◌%◌, ◌<◌, ◌≤◌, ℤ, pos, neg_ℤ, Bool, ◌&&◌, IsTrue, nat_le, nat_lt, List, length, slice_get, slice_index_or, Some, if◌then◌else◌}
 use Rattle.raster_model.specs.MaskView.{MaskView}
 use Rattle.raster_model.specs.Masks.{open_at}
 use Rattle.raster_model.specs.Raster.{Raster}
@@ -11,7 +11,7 @@ use Rattle.raster_model.specs.declared.tiling.Window.{Window}
 use Rattle.raster_model.specs.Tiles.{tile_at, window_of}
 use Rattle.seam_regions.specs.Regions.{region_label}
 use Rattle.surface_snapshots.specs.Tiled.{mask_told, regions_in}
-use Rattle.surface_snapshots.specs.Parts.{Parts, cycles_in_parts, open_in, shifted_cycles}
+use Rattle.surface_snapshots.specs.Parts.{Parts, cycles_in_parts, is_open_pixel, open_in, shifted_cycles}
 
 -- the raster, the mask, the open pixels and the cycles above the phase
 abbrev pub raster_under : ShiftedTiles → Raster
@@ -50,6 +50,12 @@ pub record IsStrip (s : ShiftedTiles) (start n : ℕ) : Type 0 where
   pub from : start % s.scene.now.phase.width ≡ 0
   pub rows : n % s.scene.now.phase.width ≡ 0
   pub within : start + n ≤ s.scene.now.phase.height * s.scene.now.phase.width
+
+-- an open pixel that is one of the n from the place start on, in row order
+abbrev pub is_open_there : ShiftedTiles → ℕ → ℕ → Field Bool
+is_open_there s start n x y =
+    is_open_pixel s.scene.now.phase.width s.scene.now.phase.height (open_under s) x y
+    && (nat_le start (y * s.scene.now.phase.width + x) && nat_lt (y * s.scene.now.phase.width + x) (start + n))
 
 -- the list begins with what stands for the cycles of those pixels
 abbrev pub AreLevelsFrom : ShiftedTiles → ℕ → ℕ → List ℤ → Type 0

@@ -1,20 +1,24 @@
 ghost use Rattle.certificates.specs.declared.verdicts.SeamVerdict.TheVariants.{Good};
 ghost use Rattle.raster_model.specs.Masks.{open_at};
+ghost use Rattle.seam_regions.specs.Offsets.{AreNear};
 ghost use Rattle.seam_regions.specs.Regions.{AreRegionsOf};
-ghost use Rattle.std.specs.Prelude.{◌≡◌, IfErr, IfOk};
+ghost use Rattle.std.specs.Prelude.{◌≡◌, IfErr, IfOk, length};
 ghost use Rattle.surface_snapshots.specs.Parts.{AreGoodTiles, HaveCosts, parts_from};
+ghost use Rattle.surface_snapshots.specs.Packed.{ArePackedRegionsOf};
 ghost use Rattle.surface_snapshots.specs.Tiled.{mask_told, regions_in};
 ghost use Rattle.surface_snapshots.specs.Verdicts.{IsFault, IsPartsVerdict};
 
 use crate::counting::Costs;
-use crate::crew::Crew;
 use crate::fault::BuildFault;
+use crate::levels::Levels;
+use crate::packed::PackedRegions;
 use crate::shifted::ShiftedTiles;
 use crate::tiled::TiledRegions;
 use certificates::{SeamResult, SeamVerdict, TileSet};
 use raster_model::{Mask, Scene, Session};
 use seam_regions::{Regions, first_far};
-use std::alloc::Global;
+use std::alloc::{AllocError, Global};
+use std::thread::Threads;
 
 /// What is kept of the regions and the costs of a surface that is certified.
 #[derive(Drop)]
@@ -25,8 +29,7 @@ pub(crate) struct Certified {
 
 /// The regions, tile by tile, and the costs of the surface that is put together from these parts, if it is certified, and
 /// otherwise the first break or lack of memory.
-pub(crate) fn certified_costs<C: Crew>(
-    crew: &C,
+pub(crate) fn judged_costs(
     alloc: Global,
     session: &Session,
     mask: &Mask,
@@ -34,7 +37,6 @@ pub(crate) fn certified_costs<C: Crew>(
     tiles: &TileSet,
     seams: &SeamResult,
 ) -> Result<Certified, BuildFault>
-    requires crew { C.ready crew.now }
     requires across { mask.now.width ≡ session.now.scene.phase.width }
     requires along { mask.now.height ≡ session.now.scene.phase.height }
     requires tiling { tiles.now.tiling ≡ session.now.scene.tiling }
@@ -53,18 +55,12 @@ pub(crate) fn certified_costs<C: Crew>(
     if let Some(region) = first_far(&seams.offsets) {
         return Err(BuildFault::Uncertified(SeamVerdict::Range(region as u32)));
     }
-    told_by(&session.scene, mask, regions);
     let tiled = TiledRegions::of(alloc, &session.scene.tiling, regions)?;
     let costs = {
-        let surface = ShiftedTiles {
-            scene: &session.scene,
-            regions: &tiled,
-            tiles,
-            offsets: &seams.offsets,
-        };
-        let levels = crew.levels(alloc, surface)?;
+        let surface = shifted(session, mask, regions, &tiled, tiles, &seams.offsets);
+        let levels = Levels::of(alloc, surface)?;
         match levels.judge(alloc, mask, regions, &seams.flows)? {
-            SeamVerdict::Good => crew.costs(alloc, mask, &levels)?,
+            SeamVerdict::Good => Costs::of(&session.scene, mask, &levels),
             verdict => return Err(BuildFault::Uncertified(verdict)),
         }
     };
@@ -72,6 +68,65 @@ pub(crate) fn certified_costs<C: Crew>(
         regions: tiled,
         costs,
     })
+}
+
+/// The costs of the surface that is put together from these parts, which are certified. At most `threads` threads, and at
+/// least one, count them. It fails only for lack of memory.
+pub(crate) fn certified_costs<R: Threads + Sync>(
+    rt: &R,
+    threads: u32,
+    alloc: Global,
+    session: &Session,
+    mask: &Mask,
+    packed: &PackedRegions,
+    tiles: &TileSet,
+    seams: &SeamResult,
+) -> Result<Costs, AllocError>
+    requires across { mask.now.width ≡ session.now.scene.phase.width }
+    requires along { mask.now.height ≡ session.now.scene.phase.height }
+    requires tiling { tiles.now.tiling ≡ session.now.scene.tiling }
+    requires tiles { AreGoodTiles session.now.scene (open_at mask.now) tiles.now.results }
+    requires regions { ArePackedRegionsOf session.now.scene.tiling mask.now packed.now }
+    requires certified { IsPartsVerdict (parts_from session.now mask.now packed.now.regions tiles.now seams.now) Good }
+    ensures mask { IfOk result (λ costs. mask.now ≡ mask_told packed.now.regions) }
+    ensures costs { IfOk result (λ costs. HaveCosts (parts_from session.now mask.now packed.now.regions tiles.now seams.now) costs.tiles costs.seams) }
+{
+    let PackedRegions { regions, tiled, .. } = packed;
+    let surface = shifted(session, mask, regions, tiled, tiles, &seams.offsets);
+    Costs::side_by_side(rt, threads, alloc, &surface, mask)
+}
+
+/// The results of a session's tiles with these offsets on the regions of a mask, which are also given tile by tile.
+fn shifted<'a>(
+    session: &'a Session,
+    mask: &Mask,
+    regions: &Regions,
+    tiled: &'a TiledRegions,
+    tiles: &'a TileSet,
+    offsets: &'a [i64],
+) -> ShiftedTiles<'a>
+    requires across { mask.now.width ≡ session.now.scene.phase.width }
+    requires along { mask.now.height ≡ session.now.scene.phase.height }
+    requires tiling { tiles.now.tiling ≡ session.now.scene.tiling }
+    requires tiles { AreGoodTiles session.now.scene (open_at mask.now) tiles.now.results }
+    requires regions { AreRegionsOf session.now.scene.tiling mask.now regions.now }
+    requires places { tiled.now.tiling ≡ session.now.scene.tiling }
+    requires same { regions_in tiled.now ≡ regions.now }
+    requires count { length offsets.now ≡ regions.now.count }
+    requires near { AreNear offsets.now }
+    ensures scene { result.scene.now ≡ session.now.scene }
+    ensures regions { result.regions.now ≡ tiled.now }
+    ensures tiles { result.tiles.now ≡ tiles.now }
+    ensures offsets { result.offsets.now ≡ offsets.now }
+    ensures mask { mask.now ≡ mask_told regions.now }
+{
+    told_by(&session.scene, mask, regions);
+    ShiftedTiles {
+        scene: &session.scene,
+        regions: tiled,
+        tiles,
+        offsets,
+    }
 }
 
 /// The regions determine the mask. This function does nothing; its contract is that fact.

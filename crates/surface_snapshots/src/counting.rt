@@ -6,15 +6,12 @@ ghost use Rattle.raster_model.specs.Scene.{raster_of};
 ghost use Rattle.raster_model.specs.Sums.{down_edge, is_edge, right_edge, sum_row};
 ghost use Rattle.std.specs.Prelude.{◌≡◌, ◌==◌, ◌+◌, ◌-◌, ◌*◌, ◌%◌, ◌<◌, ◌≤◌, ◌^◌, IfOk, IsTrue, if◌then◌else◌, nat_lt, pos};
 ghost use Rattle.sums_and_lists.specs.Sums.{where_true};
-ghost use Rattle.surface_snapshots.specs.Loops.{AddUpTo, AreOfEdges, AreOfRow, AreOpenFrom, FollowsDown, FollowsRight, KnowsFrom, inner_cost_from, inner_edge_cost};
+ghost use Rattle.surface_snapshots.specs.Loops.{AddUpTo, AreOfEdges, AreOfRows, AreOpenFrom, FollowsDown, FollowsRight, KnowsFrom, KnowsOpenRows, inner_cost_from, inner_edge_cost};
 ghost use Rattle.surface_snapshots.specs.Parts.{tile_costs};
 
 use certificates::edge_cost;
 use raster_model::{Edge, Heights, Mask, Scene, departure};
 use seam_regions::next_left;
-use std::alloc::{AllocError, Global};
-use std::thread;
-use std::thread::Threads;
 
 /// What a surface costs.
 #[derive(Clone, Copy)]
@@ -26,7 +23,7 @@ pub struct Costs {
 }
 
 /// No costs.
-const NO_COSTS: Costs = Costs { tiles: 0, seams: 0 };
+pub(crate) const NO_COSTS: Costs = Costs { tiles: 0, seams: 0 };
 
 /// How many pixels of a row are judged at once.
 const PIECE: u32 = 64;
@@ -39,51 +36,11 @@ impl Costs {
         ensures tiles { pos result.tiles ≡ tile_costs (raster_of scene.now) (open_at mask.now) (lifted (raster_of scene.now) (H.cycles_at heights.now)) }
         ensures seams { pos result.seams ≡ seam_cost_of (raster_of scene.now) (open_at mask.now) (lifted (raster_of scene.now) (H.cycles_at heights.now)) }
     {
-        let mut costs = NO_COSTS;
-        for y in 0..scene.phase.height {
-            costs = costs.plus(row_costs(scene, mask, heights, y));
-        }
-        costs
-    }
-
-    /// The same, counted by several threads, of which each has a strip of rows. It fails only for lack of memory.
-    pub(crate) fn side_by_side<R: Threads + Sync, H: Heights + Sync>(
-        rt: &R,
-        threads: u32,
-        alloc: Global,
-        scene: &Scene,
-        mask: &Mask,
-        heights: &H,
-    ) -> Result<Costs, AllocError>
-        requires some { 0 < threads }
-        requires same_size { (mask.now.width ≡ scene.now.phase.width) × (mask.now.height ≡ scene.now.phase.height) }
-        requires known { KnowsOpen (raster_of scene.now) (open_at mask.now) (H.knows heights.now) }
-        ensures tiles { IfOk result (λ costs. pos costs.tiles ≡ tile_costs (raster_of scene.now) (open_at mask.now) (lifted (raster_of scene.now) (H.cycles_at heights.now))) }
-        ensures seams { IfOk result (λ costs. pos costs.seams ≡ seam_cost_of (raster_of scene.now) (open_at mask.now) (lifted (raster_of scene.now) (H.cycles_at heights.now))) }
-    {
-        let mut rows = vec![in alloc; NO_COSTS; scene.phase.height as usize]?;
-        thread::for_each_mut(
-            rt,
-            &mut rows,
-            threads as usize,
-            &|y: usize, costs: &mut Costs|
-                requires row { y < scene.now.phase.height }
-                requires same_size { (mask.now.width ≡ scene.now.phase.width) × (mask.now.height ≡ scene.now.phase.height) }
-                requires known { KnowsOpen (raster_of scene.now) (open_at mask.now) (H.knows heights.now) }
-                ensures { AreOfRow (raster_of scene.entry.now) (open_at mask.entry.now) (lifted (raster_of scene.entry.now) (H.cycles_at heights.entry.now)) y costs.exit.now }
-            {
-                *costs = row_costs(scene, mask, heights, y as u32);
-            },
-        );
-        let mut costs = NO_COSTS;
-        for y in 0..scene.phase.height {
-            costs = costs.plus(rows[y as usize]);
-        }
-        Ok(costs)
+        rows_costs(scene, mask, heights, 0, scene.phase.height)
     }
 
     /// The costs of both.
-    fn plus(self, other: Costs) -> Costs
+    pub(crate) fn plus(self, other: Costs) -> Costs
         requires tiles { self.tiles + other.tiles < 2 ^ 128 }
         requires seams { self.seams + other.seams < 2 ^ 128 }
         ensures tiles { result.tiles ≡ self.tiles + other.tiles }
@@ -96,10 +53,30 @@ impl Costs {
     }
 }
 
+/// What the edges that start in the rows from `first` to before `end` add.
+pub(crate) fn rows_costs<H: Heights>(
+    scene: &Scene,
+    mask: &Mask,
+    heights: &H,
+    first: u32,
+    end: u32,
+) -> Costs
+    requires same_size { (mask.now.width ≡ scene.now.phase.width) × (mask.now.height ≡ scene.now.phase.height) }
+    requires known { KnowsOpenRows (raster_of scene.now) (open_at mask.now) (H.knows heights.now) first end }
+    requires rows { (first ≤ end) × (end ≤ scene.now.phase.height) }
+    ensures { AreOfRows (raster_of scene.now) (open_at mask.now) (lifted (raster_of scene.now) (H.cycles_at heights.now)) first end result }
+{
+    let mut costs = NO_COSTS;
+    for y in first..end {
+        costs = costs.plus(row_costs(scene, mask, heights, y));
+    }
+    costs
+}
+
 /// What the edges that start in a row add.
 fn row_costs<H: Heights>(scene: &Scene, mask: &Mask, heights: &H, y: u32) -> Costs
     requires same_size { (mask.now.width ≡ scene.now.phase.width) × (mask.now.height ≡ scene.now.phase.height) }
-    requires known { KnowsOpen (raster_of scene.now) (open_at mask.now) (H.knows heights.now) }
+    requires known { KnowsOpenRows (raster_of scene.now) (open_at mask.now) (H.knows heights.now) y (y + 1) }
     requires row { y < scene.now.phase.height }
     ensures tiles { pos result.tiles ≡ sum_row scene.now.phase.width (inner_cost_from (raster_of scene.now) (open_at mask.now) (lifted (raster_of scene.now) (H.cycles_at heights.now))) y }
     ensures seams { pos result.seams ≡ sum_row scene.now.phase.width (seam_cost_from (raster_of scene.now) (open_at mask.now) (lifted (raster_of scene.now) (H.cycles_at heights.now))) y }
@@ -127,7 +104,7 @@ fn piece_costs<H: Heights>(
     end: u32,
 ) -> Costs
     requires same_size { (mask.now.width ≡ scene.now.phase.width) × (mask.now.height ≡ scene.now.phase.height) }
-    requires known { KnowsOpen (raster_of scene.now) (open_at mask.now) (H.knows heights.now) }
+    requires known { KnowsOpenRows (raster_of scene.now) (open_at mask.now) (H.knows heights.now) y (y + 1) }
     requires row { y < scene.now.phase.height }
     requires piece { (x0 < end) × (end ≤ scene.now.phase.width) }
     ensures tiles { AddUpTo (inner_cost_from (raster_of scene.now) (open_at mask.now) (lifted (raster_of scene.now) (H.cycles_at heights.now))) y x0 end (pos result.tiles) }
@@ -209,7 +186,7 @@ fn costs_by_pixels<H: Heights>(
     unmasked: bool,
 ) -> Costs
     requires same_size { (mask.now.width ≡ scene.now.phase.width) × (mask.now.height ≡ scene.now.phase.height) }
-    requires known { KnowsOpen (raster_of scene.now) (open_at mask.now) (H.knows heights.now) }
+    requires known { KnowsOpenRows (raster_of scene.now) (open_at mask.now) (H.knows heights.now) y (y + 1) }
     requires row { y < scene.now.phase.height }
     requires piece { (x0 < end) × (end ≤ scene.now.phase.width) }
     requires unmasked { IsTrue unmasked → AreOpenFrom mask.now y x0 end }
@@ -244,7 +221,7 @@ fn costs_at<H: Heights>(
     unmasked: bool,
 ) -> Costs
     requires same_size { (mask.now.width ≡ scene.now.phase.width) × (mask.now.height ≡ scene.now.phase.height) }
-    requires known { KnowsOpen (raster_of scene.now) (open_at mask.now) (H.knows heights.now) }
+    requires known { KnowsOpenRows (raster_of scene.now) (open_at mask.now) (H.knows heights.now) y (y + 1) }
     requires pixel { (x < scene.now.phase.width) × (y < scene.now.phase.height) }
     requires last { last ≡ ((x + 1) % scene.now.tiling.side == 0) }
     requires lowest { lowest ≡ ((y + 1) % scene.now.tiling.side == 0) }
@@ -316,7 +293,7 @@ fn costs_from<H: Heights>(
     unmasked: bool,
 ) -> Costs
     requires same_size { (mask.now.width ≡ scene.now.phase.width) × (mask.now.height ≡ scene.now.phase.height) }
-    requires known { KnowsOpen (raster_of scene.now) (open_at mask.now) (H.knows heights.now) }
+    requires known { KnowsOpenRows (raster_of scene.now) (open_at mask.now) (H.knows heights.now) y (y + 1) }
     requires pixel { (x < scene.now.phase.width) × (y < scene.now.phase.height) }
     requires last { last ≡ ((x + 1) % scene.now.tiling.side == 0) }
     requires lowest { lowest ≡ ((y + 1) % scene.now.tiling.side == 0) }
@@ -340,7 +317,7 @@ fn right_costs<H: Heights>(
     unmasked: bool,
 ) -> Costs
     requires same_size { (mask.now.width ≡ scene.now.phase.width) × (mask.now.height ≡ scene.now.phase.height) }
-    requires known { KnowsOpen (raster_of scene.now) (open_at mask.now) (H.knows heights.now) }
+    requires known { KnowsOpenRows (raster_of scene.now) (open_at mask.now) (H.knows heights.now) y (y + 1) }
     requires pixel { (x < scene.now.phase.width) × (y < scene.now.phase.height) }
     requires last { last ≡ ((x + 1) % scene.now.tiling.side == 0) }
     requires unmasked { IsTrue unmasked → AreOpenFrom mask.now y x (x + 1) }
@@ -367,7 +344,7 @@ fn lower_costs<H: Heights>(
     unmasked: bool,
 ) -> Costs
     requires same_size { (mask.now.width ≡ scene.now.phase.width) × (mask.now.height ≡ scene.now.phase.height) }
-    requires known { KnowsOpen (raster_of scene.now) (open_at mask.now) (H.knows heights.now) }
+    requires known { KnowsOpenRows (raster_of scene.now) (open_at mask.now) (H.knows heights.now) y (y + 1) }
     requires pixel { (x < scene.now.phase.width) × (y < scene.now.phase.height) }
     requires lowest { lowest ≡ ((y + 1) % scene.now.tiling.side == 0) }
     requires unmasked { IsTrue unmasked → AreOpenFrom mask.now y x (x + 1) }
@@ -393,7 +370,7 @@ fn edge_costs<H: Heights>(
     unmasked: bool,
 ) -> Costs
     requires same_size { (mask.now.width ≡ scene.now.phase.width) × (mask.now.height ≡ scene.now.phase.height) }
-    requires known { KnowsOpen (raster_of scene.now) (open_at mask.now) (H.knows heights.now) }
+    requires known { KnowsOpenRows (raster_of scene.now) (open_at mask.now) (H.knows heights.now) edge.y (edge.y + 1) }
     requires is_edge { IsTrue (is_edge scene.now.phase.width scene.now.phase.height edge) }
     requires across { across ≡ is_seam (raster_of scene.now) edge }
     requires unmasked { IsTrue unmasked → IsTrue (has_open_ends (open_at mask.now) edge) }

@@ -1,14 +1,12 @@
-ghost use Rattle.std.specs.Prelude.{◌≡◌, ◌+◌, ◌*◌, ◌<◌, IfOk, length};
+ghost use Rattle.std.specs.Prelude.{◌≡◌, ◌*◌, IfOk};
 ghost use Rattle.surface_snapshots.specs.Parts.{is_open_pixel};
-ghost use Rattle.surface_snapshots.specs.Shifted.{AreLevelsFrom, AreListedCycles, IsStrip, cycles_under, open_under};
+ghost use Rattle.surface_snapshots.specs.Shifted.{AreListedCycles, cycles_under, open_under};
 
 use crate::shifted::ShiftedTiles;
 use certificates::{SeamVerdict, check_flows};
 use raster_model::{Heights, Mask};
 use seam_regions::Regions;
 use std::alloc::{AllocError, Global};
-use std::thread;
-use std::thread::Threads;
 
 /// A surface whose cycles were found once, for each pixel in row order.
 #[derive(Drop)]
@@ -45,36 +43,6 @@ impl<'a> Levels<'a> {
         let pixels = phase.height as usize * phase.width as usize;
         let mut cycles = vec![in alloc; 0; pixels]?;
         surface.fill_strip(0, &mut cycles);
-        Ok(Levels { surface, cycles })
-    }
-
-    /// The same, found by several threads, of which each has a strip of rows.
-    pub(crate) fn side_by_side<R: Threads + Sync>(
-        rt: &R,
-        threads: u32,
-        alloc: Global,
-        surface: ShiftedTiles<'a>,
-    ) -> Result<Levels<'a>, AllocError>
-        requires some { 0 < threads }
-        ensures { IfOk result (λ made. made.surface ≡ surface.entry) }
-    {
-        let phase = &surface.scene.phase;
-        let width = phase.width as usize;
-        let strip = phase.height.div_ceil(threads) as usize * width;
-        let mut cycles = vec![in alloc; 0; phase.height as usize * width]?;
-        let shown = &surface;
-        thread::for_each_chunk_mut(
-            rt,
-            &mut cycles,
-            strip,
-            &|start: usize, part: &mut [i64]|
-                requires { IsStrip shown.now start (length part.old) }
-                ensures same { length part.exit.now ≡ length part.entry.now }
-                ensures filled { AreLevelsFrom shown.entry.now start (length part.entry.now) part.exit.now }
-            {
-                shown.fill_strip(start, part);
-            },
-        );
         Ok(Levels { surface, cycles })
     }
 

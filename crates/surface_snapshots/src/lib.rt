@@ -3,22 +3,25 @@
 //! cost less.
 #![tactic(auto)]
 
+mod blocks;
 mod costs;
 mod counting;
-mod crew;
 mod fault;
 mod finding;
 mod flows;
 pub mod laws;
 mod levels;
+mod packed;
 mod packing;
 mod runs;
 mod shifted;
 mod snapshot;
+mod strips;
 mod surface;
 mod tiled;
 mod windows;
 
 pub use crate::counting::Costs;
 pub use crate::fault::BuildFault;
+pub use crate::packed::PackedRegions;
 pub use crate::snapshot::Snapshot;

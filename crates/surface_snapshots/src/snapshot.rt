@@ -4,8 +4,9 @@ ghost use Rattle.std.specs.Prelude.{◌≡◌, ◌<◌, ◌≤◌, ◌+◌, ◌^
 ghost use Rattle.surface_snapshots.specs.Parts.{HaveCosts, IsPublished, parts_from};
 ghost use Rattle.surface_snapshots.specs.Surfaces.{parts_in};
 
-use crate::crew::{OneThread, SideBySide};
+use crate::costs::{Certified, certified_costs, judged_costs};
 use crate::fault::BuildFault;
+use crate::packed::PackedRegions;
 use crate::shifted::{NO_CYCLES, ShiftedTiles};
 use crate::surface::Surface;
 use certificates::{SeamResult, TileSet};
@@ -73,6 +74,7 @@ impl Snapshot {
       value_in,
       value_or,
     };
+    ghost use Rattle.surface_snapshots.specs.Packed.{ArePackedRegionsOf};
     ghost use Rattle.surface_snapshots.specs.Shifted.{level_in};
     ghost use Rattle.surface_snapshots.specs.Verdicts.{IsFault, IsPartsVerdict};
     ghost use Rattle.surface_snapshots.specs.Views.{parts_of};
@@ -124,10 +126,11 @@ impl Snapshot {
         ensures best { IfOk result (λ made. IsBest (raster_in (parts_of made)) (open_in (parts_of made)) (surface_in (parts_of made))) }
         ensures refused { IfErr result (IsFault (parts_from (arc_value session) mask regions tiles seams)) }
     {
-        let surface = Surface::build(
-            &OneThread,
+        let certified = judged_costs(alloc, &session, &mask, &regions, &tiles, &seams)?;
+        let surface = Surface::of(
             alloc,
             surface_of(earlier),
+            certified,
             session,
             mask,
             regions,
@@ -137,43 +140,48 @@ impl Snapshot {
         Ok(Snapshot::of(alloc, surface)?)
     }
 
-    /// Builds as `build_beside` does: at most `threads` threads find the cycles and count the costs side by side, each of
-    /// a strip of rows.
-    pub fn build_side_by_side<R: Threads + Sync>(
+    /// The same of offsets and flows that are known to certify the surface, which is not checked again, and of regions that
+    /// are packed. At most `threads` threads, and at least one, find its cycles and count its costs side by side, each of a
+    /// strip of rows. It fails only for lack of memory.
+    pub fn build_certified<R: Threads + Sync>(
         rt: &R,
         threads: u32,
         alloc: Global,
         earlier: Option<&Snapshot>,
         session: Arc<Session>,
         mask: Mask,
-        regions: Regions,
+        packed: PackedRegions,
         tiles: TileSet,
         seams: SeamResult,
-    ) -> Result<Snapshot, BuildFault>
+    ) -> Result<Snapshot, AllocError>
         requires across { mask.width ≡ (arc_value session).scene.phase.width }
         requires along { mask.height ≡ (arc_value session).scene.phase.height }
         requires tiling { tiles.tiling ≡ (arc_value session).scene.tiling }
         requires tiles { AreGoodTiles (arc_value session).scene (open_at mask) tiles.results }
-        requires regions { AreRegionsOf (arc_value session).scene.tiling mask regions }
-        ensures parts { IfOk result (λ made. parts_of made ≡ parts_from (arc_value session) mask regions tiles seams) }
+        requires regions { ArePackedRegionsOf (arc_value session).scene.tiling mask packed }
+        requires certified { IsPartsVerdict (parts_from (arc_value session) mask packed.regions tiles seams) Good }
+        ensures parts { IfOk result (λ made. parts_of made ≡ parts_from (arc_value session) mask packed.regions tiles seams) }
         ensures certified { IfOk result (λ made. IsPartsVerdict (parts_of made) Good) }
         ensures anchored { IfOk result (λ made. IsAnchored (raster_in (parts_of made)) (open_in (parts_of made)) (surface_in (parts_of made))) }
         ensures best { IfOk result (λ made. IsBest (raster_in (parts_of made)) (open_in (parts_of made)) (surface_in (parts_of made))) }
-        ensures refused { IfErr result (IsFault (parts_from (arc_value session) mask regions tiles seams)) }
     {
-        let pixels = mask.width() * mask.height();
-        let crew = SideBySide::new(rt, threads, pixels);
-        let surface = Surface::build(
-            &crew,
+        let costs = certified_costs(rt, threads, alloc, &session, &mask, &packed, &tiles, &seams)?;
+        let PackedRegions { regions, tiled, .. } = packed;
+        let certified = Certified {
+            regions: tiled,
+            costs,
+        };
+        let surface = Surface::of(
             alloc,
             surface_of(earlier),
+            certified,
             session,
             mask,
             regions,
             tiles,
             seams,
         )?;
-        Ok(Snapshot::of(alloc, surface)?)
+        Snapshot::of(alloc, surface)
     }
 
     /// The snapshot of a surface.

@@ -7,9 +7,7 @@ ghost use Rattle.surface_snapshots.specs.Loops.{GoTogether};
 ghost use Rattle.surface_snapshots.specs.Parts.{HaveCosts, IsPublished};
 ghost use Rattle.surface_snapshots.specs.Tiled.{mask_told, regions_in};
 
-use crate::costs::certified_costs;
-use crate::crew::Crew;
-use crate::fault::BuildFault;
+use crate::costs::Certified;
 use crate::flows::{shared_flows, to_share};
 use crate::tiled::TiledRegions;
 use certificates::{SeamResult, TileSet};
@@ -41,34 +39,35 @@ pub(crate) struct Surface {
 impl Surface {
     ghost use Rattle.certificates.specs.declared.verdicts.SeamVerdict.TheVariants.{Good};
     ghost use Rattle.seam_regions.specs.Regions.{AreRegionsOf};
-    ghost use Rattle.std.specs.Prelude.{IfErr};
     ghost use Rattle.surface_snapshots.specs.Parts.{AreGoodTiles, parts_from};
     ghost use Rattle.surface_snapshots.specs.Surfaces.{parts_in};
-    ghost use Rattle.surface_snapshots.specs.Verdicts.{IsFault, IsPartsVerdict};
+    ghost use Rattle.surface_snapshots.specs.Verdicts.{IsPartsVerdict};
 
-    /// The surface that is put together from these parts, if it is certified, beside an earlier one. A crew finds its
-    /// cycles and counts its costs.
-    pub(crate) fn build<C: Crew>(
-        crew: &C,
+    /// The surface that is put together from these parts, which are certified, beside an earlier one. Its regions tile by
+    /// tile and its costs are given.
+    pub(crate) fn of(
         alloc: Global,
         earlier: Option<&Surface>,
+        certified: Certified,
         session: Arc<Session>,
         mask: Mask,
         regions: Regions,
         tiles: TileSet,
         seams: SeamResult,
-    ) -> Result<Surface, BuildFault>
-        requires crew { C.ready crew.now }
+    ) -> Result<Surface, AllocError>
         requires across { mask.width ≡ (arc_value session).scene.phase.width }
         requires along { mask.height ≡ (arc_value session).scene.phase.height }
         requires tiling { tiles.tiling ≡ (arc_value session).scene.tiling }
         requires tiles { AreGoodTiles (arc_value session).scene (open_at mask) tiles.results }
         requires regions { AreRegionsOf (arc_value session).scene.tiling mask regions }
+        requires places { certified.regions.tiling ≡ (arc_value session).scene.tiling }
+        requires same { regions_in certified.regions ≡ regions }
+        requires told { mask ≡ mask_told regions }
+        requires good { IsPartsVerdict (parts_from (arc_value session) mask regions tiles seams) Good }
+        requires costs { HaveCosts (parts_from (arc_value session) mask regions tiles seams) certified.costs.tiles certified.costs.seams }
         ensures parts { IfOk result (λ made. parts_in made ≡ parts_from (arc_value session) mask regions tiles seams) }
         ensures certified { IfOk result (λ made. IsPartsVerdict (parts_in made) Good) }
-        ensures refused { IfErr result (IsFault (parts_from (arc_value session) mask regions tiles seams)) }
     {
-        let certified = certified_costs(crew, alloc, &session, &mask, &regions, &tiles, &seams)?;
         let costs = certified.costs;
         let flows = flows_beside(alloc, earlier, seams.flows)?;
         Ok(Surface {

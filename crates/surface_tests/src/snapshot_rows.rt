@@ -4,7 +4,9 @@ ghost use Rattle.raster_model.specs.Tiles.{tiles_of};
 ghost use Rattle.std.specs.Arc.{arc_value};
 ghost use Rattle.std.specs.Prelude.{◌≡◌, ◌<◌, IfOk, IfSome};
 ghost use Rattle.surface_snapshots.specs.Parts.{AreGoodTiles};
+ghost use Rattle.surface_snapshots.specs.SeamsView.{seams_of};
 ghost use Rattle.surface_snapshots.specs.Views.{parts_of};
+ghost use Rattle.surface_tests.specs.Certified.{CertifyTiles};
 
 use certificates::{SeamResult, TileResult, TileSet, TileVerdict, check_tile};
 use raster_model::{Heights, Mask, Scene, Script, Session, Tiling};
@@ -13,7 +15,7 @@ use std::alloc::{AllocError, Global};
 use std::sync::Arc;
 use std::test::Fail;
 use std::thread::Threads;
-use surface_snapshots::{BuildFault, Snapshot};
+use surface_snapshots::{BuildFault, PackedRegions, Snapshot};
 use worked_scenes::{SceneFault, masked, scene, tile_result};
 
 /// The cycles and the faces of a tile.
@@ -103,7 +105,9 @@ fn results(alloc: Global, session: &Session, tiles: [Solved; 2]) -> Option<TileS
 }
 
 /// Offsets and flows of revision 7.
-fn seams(alloc: Global, offsets: &[i64], flows: &[i64]) -> Result<SeamResult, AllocError> {
+fn seams(alloc: Global, offsets: &[i64], flows: &[i64]) -> Result<SeamResult, AllocError>
+    ensures { IfOk result (λ made. seams_of made ≡ record { revision = 7; offsets = offsets.now; flows = flows.now }) }
+{
     Ok(SeamResult {
         revision: 7,
         offsets: offsets.to_vec(alloc)?,
@@ -170,6 +174,7 @@ fn built(
 ) -> Built
     requires tiling { tiles.tiling ≡ (arc_value session).scene.tiling }
     requires good { AreGoodTiles (arc_value session).scene (open_at (arc_value session).first_mask) tiles.results }
+    ensures { IfOk result (λ made. CertifyTiles (arc_value session) tiles (record { revision = 7; offsets = offsets.now; flows = flows.now })) }
 {
     let seams = seams(alloc, offsets, flows)?;
     let mask = session.first_mask.try_copy(alloc)?;
@@ -348,7 +353,8 @@ fn raised(alloc: Global) -> Result<Vec<u16>, AllocError> {
     Ok(phases)
 }
 
-/// What two threads build of results, offsets and flows, or why nothing is built.
+/// What two threads build of results, offsets and flows, after one thread has told that they are certified, or why nothing is
+/// built.
 fn built_by_two<R: Threads + Sync>(
     rt: &R,
     alloc: Global,
@@ -360,10 +366,19 @@ fn built_by_two<R: Threads + Sync>(
     requires tiling { tiles.tiling ≡ (arc_value session).scene.tiling }
     requires good { AreGoodTiles (arc_value session).scene (open_at (arc_value session).first_mask) tiles.results }
 {
+    let _alone = built(
+        alloc,
+        None,
+        session.clone()?,
+        tiles.try_copy(alloc)?,
+        offsets,
+        flows,
+    )?;
     let seams = seams(alloc, offsets, flows)?;
     let mask = session.first_mask.try_copy(alloc)?;
-    let regions = Regions::of(alloc, &session.scene.tiling, &mask)?;
-    Snapshot::build_side_by_side(rt, 2, alloc, None, session, mask, regions, tiles, seams)
+    let packed = PackedRegions::of(alloc, &session.scene.tiling, &mask)?;
+    let made = Snapshot::build_certified(rt, 2, alloc, None, session, mask, packed, tiles, seams)?;
+    Ok(made)
 }
 
 /// The surface of these two tiles. Each thread has one of them as its strip. The second lies one cycle lower.

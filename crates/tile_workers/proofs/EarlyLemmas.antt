@@ -10,7 +10,7 @@ use Rattle.raster_model.specs.declared.session.Session.{Session}
 use Rattle.raster_model.specs.Masks.{IsMaskOf}
 use Rattle.raster_model.specs.MaskView.{MaskView}
 use Rattle.raster_model.specs.Sums.{Field}
-use Rattle.seam_regions.specs.Regions.{AreRegionsOf}
+use Rattle.surface_snapshots.specs.Packed.{ArePackedRegionsOf}
 use Rattle.tile_board.specs.declared.gathered.Gathered.{Gathered}
 use Rattle.tile_board.specs.Histories.{present_mask}
 use Rattle.tile_board.proofs.EarlierLemmas.{present_still}
@@ -64,14 +64,14 @@ agrees s p (Some early) g has had = λ same. (
     let back = sym has.session in
     let clear = present_mask s p.seen in
     record {
-      regions = subst (λ (x : Session). AreRegionsOf x.scene.tiling early.present.mask early.regions) back had.regions;
+      regions = subst (λ (x : Session). ArePackedRegionsOf x.scene.tiling early.present.mask early.packed) back had.regions;
       clear = clear;
       before = subst (λ (x : Session). IsMaskOf early.present.mask x.scene.phase.width x.scene.phase.height clear) back before;
       now = subst (λ (x : Session). IsMaskOf g.mask x.scene.phase.width x.scene.phase.height clear) back has.mask.present;
     })
 
 -- it has the regions of what is gathered
-pub regions_now : (early : EarlyRegions) (g : Gathered) → AreOfOneMask early g → length early.present.mask.unmasked ≡ early.present.mask.width * early.present.mask.height → length g.mask.unmasked ≡ g.mask.width * g.mask.height → AreRegionsOf (arc_value g.session).scene.tiling g.mask early.regions
+pub regions_now : (early : EarlyRegions) (g : Gathered) → AreOfOneMask early g → length early.present.mask.unmasked ≡ early.present.mask.width * early.present.mask.height → length g.mask.unmasked ≡ g.mask.width * g.mask.height → ArePackedRegionsOf (arc_value g.session).scene.tiling g.mask early.packed
 regions_now early g is count many =
     let s = (arc_value g.session).scene in
-    subst (λ (m : MaskView). AreRegionsOf s.tiling m early.regions) (same_masks early.present.mask g.mask s.phase.width s.phase.height is.clear (omega (arith, s.phase.wide)) is.before is.now count many) is.regions
+    subst (λ (m : MaskView). ArePackedRegionsOf s.tiling m early.packed) (same_masks early.present.mask g.mask s.phase.width s.phase.height is.clear (omega (arith, s.phase.wide)) is.before is.now count many) is.regions

@@ -4,13 +4,13 @@ use Rattle.std.specs.Arc.{arc_value}
 use Rattle.raster_model.specs.declared.session.Session.{Session}
 use mathlib.Core.List.{IsPrefix}
 use Rattle.raster_model.specs.Masks.{IsMaskOf}
-use Rattle.seam_regions.specs.Regions.{AreRegionsOf}
 use Rattle.raster_model.specs.Sums.{Field}
 use Rattle.tile_board.specs.declared.entry.Entry.{Entry}
 use Rattle.tile_board.specs.declared.entry.Entry.TheVariants.{Published, Settled}
 use Rattle.tile_board.specs.declared.gathered.Gathered.{Gathered}
 use Rattle.tile_board.specs.declared.ticket.Ticket.{Ticket}
 use Rattle.tile_board.specs.BoardView.{BoardView}
+use Rattle.surface_snapshots.specs.Packed.{ArePackedRegionsOf}
 use Rattle.surface_snapshots.specs.Parts.{Parts}
 use Rattle.tile_board.specs.Calls.{IsClaim, IsMadeSurface, WasMaskAt}
 use Rattle.tile_workers.specs.declared.early.EarlyRegions.{EarlyRegions}
@@ -45,11 +45,11 @@ pub record HadRegions (s : Session) (p : PassView) (early : EarlyRegions) : Type
   pub earlier : List Entry
   pub begins : IsPrefix earlier p.seen
   pub mask : WasMaskAt s earlier early.present.mask early.present.revision
-  pub regions : AreRegionsOf s.scene.tiling early.present.mask early.regions
+  pub regions : ArePackedRegionsOf s.scene.tiling early.present.mask early.packed
 
 -- if they are of the gathered revision, they are regions of the session, and both masks are open at the same pixels
 pub record AreOfOneMask (early : EarlyRegions) (gathered : Gathered) : Type 0 where
-  pub regions : AreRegionsOf (arc_value gathered.session).scene.tiling early.present.mask early.regions
+  pub regions : ArePackedRegionsOf (arc_value gathered.session).scene.tiling early.present.mask early.packed
   pub clear : Field Bool
   pub before : IsMaskOf early.present.mask (arc_value gathered.session).scene.phase.width (arc_value gathered.session).scene.phase.height clear
   pub now : IsMaskOf gathered.mask (arc_value gathered.session).scene.phase.width (arc_value gathered.session).scene.phase.height clear

@@ -1,9 +1,9 @@
-use seam_regions::Regions;
+use surface_snapshots::PackedRegions;
 use tile_board::PresentMask;
 
 /// Regions that were found while the tiles of their mask were solved.
 #[derive(Drop)]
 pub(crate) struct EarlyRegions {
     pub(crate) present: PresentMask,
-    pub(crate) regions: Regions,
+    pub(crate) packed: PackedRegions,
 }

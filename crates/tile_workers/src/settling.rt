@@ -1,9 +1,9 @@
 ghost use Rattle.board_desk.specs.Answers.{IsCurrent};
 ghost use Rattle.board_desk.specs.Passes.{HasNotMoved, IsAtSettle, IsLaterPass, IsPassOf};
-ghost use Rattle.seam_regions.specs.Regions.{AreRegionsOf};
 ghost use Rattle.std.specs.Arc.{arc_value};
 ghost use Rattle.std.specs.Prelude.{◌≡◌, ◌≢◌, All, IfOk, IfSome, None, OnErr, OnSome};
 ghost use Rattle.std.specs.Thread.{IsSync};
+ghost use Rattle.surface_snapshots.specs.Packed.{ArePackedRegionsOf};
 ghost use Rattle.surface_snapshots.specs.Views.{parts_of};
 ghost use Rattle.tile_board.specs.Histories.{IsLegal, now_of};
 ghost use Rattle.tile_workers.specs.Scripts.{AgreeIfCurrent, HadRegions, HasGathered, HasPublished, HasSeenMore, HasSettled, IsSurfaceOfGathered};
@@ -15,12 +15,11 @@ use crate::solving::Worker;
 use board_desk::{Desk, Pass};
 use collector_core::collect_over;
 use raster_model::MAX_WORKERS;
-use seam_regions::Regions;
 use std::alloc::{AllocError, Global};
 use std::sync::Wait;
 use std::thread;
 use std::thread::Threads;
-use surface_snapshots::{BuildFault, Snapshot};
+use surface_snapshots::{PackedRegions, Snapshot};
 use tile_board::{Advance, AdvanceFault, GatherFault, Gathered, PresentMask, PublishFault};
 
 /// The most workers that run at once.
@@ -82,7 +81,8 @@ pub(crate) fn try_settle<R: Threads + Wait + Sync, G: Gate>(
     publish(rt, alloc, desk, pass, workers, early)
 }
 
-/// Has workers solve the tiles. If there are several of them, one more thread finds the regions of the present mask meanwhile.
+/// Has workers solve the tiles. If there are several of them, one more thread finds and packs the regions of the present mask
+/// meanwhile.
 fn solve_beside<R: Threads + Wait + Sync, G: Gate>(
     rt: &R,
     alloc: Global,
@@ -100,15 +100,15 @@ fn solve_beside<R: Threads + Wait + Sync, G: Gate>(
         return Ok(None);
     }
     let present = desk.present_mask(rt, alloc, pass).answer?;
-    let (regions, solved) = solve_over(rt, alloc, desk, pass, workers, gate, &present);
+    let (packed, solved) = solve_over(rt, alloc, desk, pass, workers, gate, &present);
     solved?;
     Ok(Some(EarlyRegions {
-        regions: regions?,
+        packed: packed?,
         present,
     }))
 }
 
-/// Has workers solve the tiles, and one more thread find the regions of a mask.
+/// Has workers solve the tiles, and one more thread find and pack the regions of a mask.
 fn solve_over<R: Threads + Wait + Sync, G: Gate>(
     rt: &R,
     alloc: Global,
@@ -117,16 +117,16 @@ fn solve_over<R: Threads + Wait + Sync, G: Gate>(
     workers: u32,
     gate: &G,
     present: &PresentMask,
-) -> (Result<Regions, AllocError>, Result<(), AllocError>)
+) -> (Result<PackedRegions, AllocError>, Result<(), AllocError>)
     requires { IsPassOf desk.now pass.old }
     ensures more { HasSeenMore pass.old pass.new }
-    ensures regions { IfOk result.0 (AreRegionsOf (arc_value present.now.session).scene.tiling present.now.mask) }
+    ensures regions { IfOk result.0 (ArePackedRegionsOf (arc_value present.now.session).scene.tiling present.now.mask) }
 {
     thread::join_mut(
         rt,
-        &mut || -> Result<Regions, AllocError>
-            ensures { IfOk result (AreRegionsOf (arc_value present.entry.now.session).scene.tiling present.entry.now.mask) }
-        { Regions::of(alloc, &present.session.scene.tiling, &present.mask) },
+        &mut || -> Result<PackedRegions, AllocError>
+            ensures { IfOk result (ArePackedRegionsOf (arc_value present.entry.now.session).scene.tiling present.entry.now.mask) }
+        { PackedRegions::of(alloc, &present.session.scene.tiling, &present.mask) },
         &mut || -> Result<(), AllocError>
             requires { IsSync R.row × IsPassOf desk.now pass.now }
             ensures { HasSeenMore pass.entry.now pass.exit.now }
@@ -267,23 +267,19 @@ fn surface_of<R: Threads + Sync>(
     requires { IfSome early (λ e. AgreeIfCurrent e gathered) }
     ensures { IfOk result (λ made. IsSurfaceOfGathered gathered (parts_of made)) }
 {
-    let regions = regions_for(alloc, &gathered, early)?;
-    let seams = collect_over(alloc, &gathered, &regions)?;
-    match Snapshot::build_side_by_side(
+    let packed = regions_for(alloc, &gathered, early)?;
+    let seams = collect_over(alloc, &gathered, &packed.regions)?;
+    Snapshot::build_certified(
         rt,
         threads,
         alloc,
         earlier.as_ref(),
         gathered.session,
         gathered.mask,
-        regions,
+        packed,
         gathered.tiles,
         seams,
-    ) {
-        Ok(surface) => Ok(surface),
-        Err(BuildFault::Memory) => Err(AllocError),
-        Err(BuildFault::Uncertified(_)) => unreachable!(),
-    }
+    )
 }
 
 /// The regions of the gathered mask: those that were found before, if they are of the same revision.
@@ -291,19 +287,19 @@ fn regions_for(
     alloc: Global,
     gathered: &Gathered,
     early: Option<EarlyRegions>,
-) -> Result<Regions, AllocError>
+) -> Result<PackedRegions, AllocError>
     requires { IfSome early (λ e. AgreeIfCurrent e gathered.now) }
-    ensures { IfOk result (AreRegionsOf (arc_value gathered.now.session).scene.tiling gathered.now.mask) }
+    ensures { IfOk result (ArePackedRegionsOf (arc_value gathered.now.session).scene.tiling gathered.now.mask) }
 {
     if let Some(early) = early {
         if early.present.revision == gathered.revision {
             // Their contracts say what every mask keeps.
             let _width = early.present.mask.width();
             let _width = gathered.mask.width();
-            return Ok(early.regions);
+            return Ok(early.packed);
         }
     }
-    Regions::of(alloc, &gathered.session.scene.tiling, &gathered.mask)
+    PackedRegions::of(alloc, &gathered.session.scene.tiling, &gathered.mask)
 }
 
 /// The present revision's mask and results, as they are at the end of what the pass has then seen; None if a tile has no

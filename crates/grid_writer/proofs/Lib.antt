@@ -1,3 +1,4 @@
+pub mod GridLemmas
 pub mod GridReads
 pub mod HeadLemmas
 pub mod ManyLemmas

@@ -24,6 +24,10 @@ grid_of g = record { width = g.width; height = g.height; values = value_at g.wid
 abbrev pub AreLong : ℕ → ℕ → Field ℤ → Type 0
 AreLong width height values = (x y : ℕ) → x < width → y < height → FitsLong (values x y)
 
+-- the values of a row do
+abbrev pub IsLongRow : GridOf → ℕ → Type 0
+IsLongRow g y = (x : ℕ) → x < g.width → FitsLong (g.values x y)
+
 -- a size within the limits, and values that fit
 pub record IsGrid (g : GridOf) : Type 0 where
   pub sized : IsTrue (is_raster_size g.width g.height)

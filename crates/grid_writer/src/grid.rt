@@ -1,21 +1,20 @@
-ghost use Rattle.grid_writer.specs.Grid.{grid_rows};
+ghost use Rattle.grid_writer.specs.Grid.{columns_line, frame_lines, rows_line};
 ghost use Rattle.grid_writer.specs.Grids.{IsGrid, grid_of, text_of_grid};
 ghost use Rattle.grid_writer.specs.Shown.{shown_grid, text_of};
-ghost use Rattle.std.specs.Prelude.{◌≡◌, ◌++◌, ◌∷◌, [], decimal};
+ghost use Rattle.raster_model.specs.Limits.{is_raster_size};
+ghost use Rattle.std.specs.Prelude.{◌++◌, ◌∷◌, [], IsTrue, decimal};
 ghost use Rattle.surface_snapshots.specs.Views.{parts_of};
 ghost use Rattle.text_lines.specs.Adding.{Adds, Puts};
-ghost use Rattle.text_lines.specs.Numbers.{AreLongs, numbers_line};
 ghost use Rattle.text_lines.specs.Views.{view_of};
 
+use crate::row_lines::RowLines;
 use crate::rows::Rows;
 use crate::values::Grid;
 use insar_ports::{Sink, WriteFault};
-use raster_model::MAX_SIDE;
+use std::thread::Threads;
 use surface_snapshots::Snapshot;
-use text_lines::{TextWriter, add_row, see_longs};
-
-/// The most values of a row.
-const MAX_WIDTH: usize = MAX_SIDE as usize;
+use text_lines::TextWriter;
+use text_pages::{Pages, add_all, add_side_by_side};
 
 /// The lines of the header that are the same in every grid.
 pub(crate) const FRAME: &[u8] =
@@ -30,30 +29,14 @@ fn add_size<K: Sink>(text: &mut TextWriter<K>, label: &[u8], count: u32)
     text.end_line();
 }
 
-/// Adds the line of a row. After a fault nothing is written.
-fn add_line<K: Sink>(text: &mut TextWriter<K>, values: &[i64])
-    ensures added { Adds (view_of K.held K.faults text.old) (view_of K.held K.faults text.new) (numbers_line values.now ++ 10 ∷ []) }
-    ensures longs { AreLongs values.now }
+/// Adds the header of the grid of rows.
+fn add_head<K: Sink, R: Rows>(text: &mut TextWriter<K>, rows: &R)
+    ensures sized { IsTrue (is_raster_size (R.grid rows.now).width (R.grid rows.now).height) }
+    ensures added { Adds (view_of K.held K.faults text.old) (view_of K.held K.faults text.new) (columns_line (R.grid rows.now).width ++ (rows_line (R.grid rows.now).height ++ frame_lines)) }
 {
-    see_longs(values);
-    if !text.is_sound() {
-        return;
-    }
-    add_row(text, values);
-    text.end_line();
-}
-
-/// Adds the rows from the top. After a fault they are only read.
-fn add_rows<K: Sink, R: Rows>(text: &mut TextWriter<K>, rows: &R)
-    ensures added { Adds (view_of K.held K.faults text.old) (view_of K.held K.faults text.new) (grid_rows (R.grid rows.now).width (R.grid rows.now).height (R.grid rows.now).values) }
-    ensures ranges { IsGrid (R.grid rows.now) }
-{
-    let mut row = [0; MAX_WIDTH];
-    let width = rows.width() as usize;
-    for y in 0..rows.height() {
-        rows.fill_row(y, &mut row);
-        add_line(text, &row[..width]);
-    }
+    add_size(text, b"ncols ", rows.width());
+    add_size(text, b"nrows ", rows.height());
+    text.bytes(FRAME);
 }
 
 /// Adds the grid of rows of values to a text, as [`write_grid`] writes it. After a fault the rows are read, and nothing
@@ -62,10 +45,22 @@ pub fn add_grid<K: Sink, R: Rows>(text: &mut TextWriter<K>, rows: &R)
     ensures added { Adds (view_of K.held K.faults text.old) (view_of K.held K.faults text.new) (text_of_grid (R.grid rows.now)) }
     ensures ranges { IsGrid (R.grid rows.now) }
 {
-    add_size(text, b"ncols ", rows.width());
-    add_size(text, b"nrows ", rows.height());
-    text.bytes(FRAME);
-    add_rows(text, rows);
+    add_head(text, rows);
+    add_all(text, &RowLines { rows });
+}
+
+/// Adds a grid as [`add_grid`] does. Several threads make its rows, if there are pages for them.
+pub fn add_grid_side_by_side<T: Threads + Sync, K: Sink, R: Rows + Sync>(
+    rt: &T,
+    pages: &mut Pages,
+    text: &mut TextWriter<K>,
+    rows: &R,
+)
+    ensures added { Adds (view_of K.held K.faults text.old) (view_of K.held K.faults text.new) (text_of_grid (R.grid rows.now)) }
+    ensures ranges { IsGrid (R.grid rows.now) }
+{
+    add_head(text, rows);
+    add_side_by_side(rt, pages, text, &RowLines { rows });
 }
 
 /// Writes the grid of a snapshot's surface, in units of 1/65536 cycle: six lines of header, then the rows from
@@ -78,6 +73,21 @@ pub fn write_grid<K: Sink>(snapshot: &Snapshot, sink: &mut K) -> Result<(), Writ
 {
     let mut text = TextWriter::new(sink);
     add_grid(&mut text, snapshot);
+    text.finish()
+}
+
+/// Writes the grid of a snapshot's surface as [`write_grid`] does. Several threads make its rows, if there are pages for them.
+pub fn write_grid_side_by_side<T: Threads + Sync, K: Sink>(
+    rt: &T,
+    pages: &mut Pages,
+    snapshot: &Snapshot,
+    sink: &mut K,
+) -> Result<(), WriteFault>
+    ensures put { Puts (K.held sink.old) (K.faults sink.old) (K.held sink.new) (K.faults sink.new) (text_of (parts_of snapshot.now)) result }
+    ensures ranges { IsGrid (shown_grid (parts_of snapshot.now)) }
+{
+    let mut text = TextWriter::new(sink);
+    add_grid_side_by_side(rt, pages, &mut text, snapshot);
     text.finish()
 }
 

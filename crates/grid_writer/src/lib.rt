@@ -6,11 +6,14 @@ mod grid;
 pub mod laws;
 mod many;
 mod read;
+mod row_lines;
 mod rows;
 mod values;
 
 pub use crate::fault::GridsFault;
-pub use crate::grid::{add_grid, write_grid, write_values};
+pub use crate::grid::{
+    add_grid, add_grid_side_by_side, write_grid, write_grid_side_by_side, write_values,
+};
 pub use crate::many::read_grids;
 pub use crate::read::{read_grid, read_sized_grid};
 pub use crate::rows::Rows;

@@ -12,6 +12,7 @@ mod ends;
 mod grid;
 mod grids;
 pub mod laws;
+mod pages;
 mod screen;
 mod session;
 mod top;

@@ -3,17 +3,19 @@ ghost use Rattle.insar_top.specs.Run.{run_of};
 ghost use Rattle.insar_words.specs.declared.request.Request.TheVariants as requests;
 
 use crate::ends::end_of;
+use crate::pages::pages_for;
 use crate::session::solved;
 use insar_ports::{Sink, Source};
 use insar_words::Settings;
 use refusal_lines::Refusal;
-use report_text::write_report;
+use report_text::write_report_side_by_side;
 use std::alloc::Global;
 use std::sync::Wait;
 use std::thread::Threads;
 use tile_workers::Gate;
 
-/// Reads a session, runs its scripts as the words set it, writes the report, and answers the status 0.
+/// Reads a session, runs its scripts as the words set it, writes the report, and answers the status 0. As many threads as
+/// there are workers make the lines of surfaces, on pages that are there before the first line is written.
 pub fn run_unwrap<R: Threads + Wait + Sync, S: Source, K: Sink, G: Gate>(
     rt: &R,
     alloc: Global,
@@ -25,5 +27,6 @@ pub fn run_unwrap<R: Threads + Wait + Sync, S: Source, K: Sink, G: Gate>(
     ensures { IsRequestEnd (requests.Unwrap settings) (run_of S.left S.faults source.old source.new K.held K.faults sink.old sink.new) result }
 {
     let board = solved(rt, alloc, settings, source, gate)?;
-    end_of(write_report(&board, sink), 0)
+    let pages = pages_for(alloc, board.session(), settings.workers)?;
+    end_of(write_report_side_by_side(rt, pages, &board, sink), 0)
 }

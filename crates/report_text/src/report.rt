@@ -18,11 +18,14 @@ ghost use Rattle.tile_board.specs.Boards.{IsBoard};
 ghost use Rattle.tile_board.specs.Histories.{IsComplete};
 
 use crate::entry::add_entry;
+use crate::scribe::{OneThread, Scribe, SideBySide};
 use crate::surface::add_surface;
 use insar_ports::{Sink, WriteFault};
 use raster_model::{Session, Terms};
+use std::thread::Threads;
 use surface_snapshots::Snapshot;
 use text_lines::{TextWriter, add_field};
+use text_pages::Pages;
 use text_parts::{add_ramp, add_rule, add_size, add_steepness};
 use tile_board::{Board, Entry};
 
@@ -36,33 +39,73 @@ pub fn write_report<K: Sink>(board: &Board, sink: &mut K) -> Result<(), WriteFau
     ensures versioned { HasItsVersion (report_of board.now.session board.now.entries board.now.surfaces) }
     ensures certified { IsComplete board.now.session board.now.entries → IsCertifiedReport board.now.session (report_of board.now.session board.now.entries board.now.surfaces) }
 {
+    write_by(&mut OneThread, board, sink)
+}
+
+/// Writes the report of a board as [`write_report`] does. Several threads make the lines of its surfaces, if there are pages
+/// for them. It takes no memory but these pages.
+pub fn write_report_side_by_side<R: Threads + Sync, K: Sink>(
+    rt: &R,
+    pages: Pages,
+    board: &Board,
+    sink: &mut K,
+) -> Result<(), WriteFault>
+    ensures text { Puts (K.held sink.old) (K.faults sink.old) (K.held sink.new) (K.faults sink.new) (report_text (report_of board.now.session board.now.entries board.now.surfaces)) result }
+    ensures ranges { IsReport (report_of board.now.session board.now.entries board.now.surfaces) }
+    ensures versioned { HasItsVersion (report_of board.now.session board.now.entries board.now.surfaces) }
+    ensures certified { IsComplete board.now.session board.now.entries → IsCertifiedReport board.now.session (report_of board.now.session board.now.entries board.now.surfaces) }
+{
+    write_by(&mut SideBySide { rt, pages }, board, sink)
+}
+
+/// Writes the report of a board, of which a scribe makes the lines of surfaces.
+fn write_by<K: Sink, C: Scribe>(
+    scribe: &mut C,
+    board: &Board,
+    sink: &mut K,
+) -> Result<(), WriteFault>
+    requires { C.ready scribe.old }
+    ensures text { Puts (K.held sink.old) (K.faults sink.old) (K.held sink.new) (K.faults sink.new) (report_text (report_of board.now.session board.now.entries board.now.surfaces)) result }
+    ensures ranges { IsReport (report_of board.now.session board.now.entries board.now.surfaces) }
+    ensures versioned { HasItsVersion (report_of board.now.session board.now.entries board.now.surfaces) }
+    ensures certified { IsComplete board.now.session board.now.entries → IsCertifiedReport board.now.session (report_of board.now.session board.now.entries board.now.surfaces) }
+{
     let mut text = TextWriter::new(sink);
-    add_board(&mut text, board);
+    add_board(&mut text, scribe, board);
     text.finish()
 }
 
-fn add_board<K: Sink>(text: &mut TextWriter<K>, board: &Board)
+fn add_board<K: Sink, C: Scribe>(text: &mut TextWriter<K>, scribe: &mut C, board: &Board)
+    requires { C.ready scribe.old }
     ensures text { Adds (view_of K.held K.faults text.old) (view_of K.held K.faults text.new) (report_text (report_of board.now.session board.now.entries board.now.surfaces)) }
     ensures board { IsBoard board.now }
     ensures small { AreSmallItems board.now.session.scene.phase.width board.now.session.scene.phase.height (tiles_of board.now.session.scene.tiling) (items_of board.now.entries board.now.surfaces) }
 {
-    add_report(text, board.session(), board.entries(), board.snapshots());
+    add_report(
+        text,
+        scribe,
+        board.session(),
+        board.entries(),
+        board.snapshots(),
+    );
 }
 
 /// Adds the report of a session with a history and the snapshots of its publications.
-fn add_report<K: Sink>(
+fn add_report<K: Sink, C: Scribe>(
     text: &mut TextWriter<K>,
+    scribe: &mut C,
     session: &Session,
     entries: &[Entry],
     snapshots: &[Snapshot],
 )
-    requires { AreOver session.now snapshots.now }
+    requires ready { C.ready scribe.old }
+    requires over { AreOver session.now snapshots.now }
     ensures text { Adds (view_of K.held K.faults text.old) (view_of K.held K.faults text.new) (report_text (report_of session.now entries.now (map parts_of snapshots.now))) }
     ensures small { AreSmallItems session.now.scene.phase.width session.now.scene.phase.height (tiles_of session.now.scene.tiling) (items_of entries.now (map parts_of snapshots.now)) }
 {
     add_head(text, session);
     let tiles = session.scene.tiling.tile_count();
-    add_items(text, tiles, session, entries, snapshots);
+    add_items(text, scribe, tiles, session, entries, snapshots);
     text.bytes(b"end\n");
 }
 
@@ -135,54 +178,63 @@ fn surfaces_after(entry: Entry) -> usize
 
 /// Adds the items of a session of `tiles` tiles: each entry, and after each publication the next of the snapshots.
 /// After a fault they are only read.
-fn add_items<K: Sink>(
+fn add_items<K: Sink, C: Scribe>(
     text: &mut TextWriter<K>,
+    scribe: &mut C,
     tiles: u32,
     session: &Session,
     entries: &[Entry],
     snapshots: &[Snapshot],
 )
+    requires ready { C.ready scribe.old }
     requires tiles { tiles ≡ tiles_of session.now.scene.tiling }
     requires sessions { AreOver session.now snapshots.now }
+    ensures ready { C.ready scribe.new }
     ensures text { Adds (view_of K.held K.faults text.old) (view_of K.held K.faults text.new) (flat_map (item_text session.now.scene.phase.width session.now.scene.phase.height tiles) (items_of entries.now (map parts_of snapshots.now))) }
     ensures small { AreSmallItems session.now.scene.phase.width session.now.scene.phase.height tiles (items_of entries.now (map parts_of snapshots.now)) }
 {
     let mut place = 0;
     for entry in entries {
-        add_item(text, tiles, session, *entry, snapshots.get(place));
+        add_item(text, scribe, tiles, session, *entry, snapshots.get(place));
         place += surfaces_after(*entry);
     }
 }
 
 /// Adds an entry's line, and after a publication the lines of the next snapshot, if any.
 #[tactic(auto, using(text_lines::proofs::ChainLemmas::adds_three), unfolding(crate::specs::Text::item_text))]
-fn add_item<K: Sink>(
+fn add_item<K: Sink, C: Scribe>(
     text: &mut TextWriter<K>,
+    scribe: &mut C,
     tiles: u32,
     session: &Session,
     entry: Entry,
     next: Option<&Snapshot>,
 )
+    requires ready { C.ready scribe.old }
     requires tiles { tiles ≡ tiles_of session.now.scene.tiling }
     requires over { IfSome next (λ snapshot. (parts_of snapshot.now).session ≡ session.now) }
+    ensures ready { C.ready scribe.new }
     ensures text { Adds (view_of K.held K.faults text.old) (view_of K.held K.faults text.new) (item_text session.now.scene.phase.width session.now.scene.phase.height tiles (item_of entry (next_surface next.entry))) }
     ensures small { IsSmallItem session.now.scene.phase.width session.now.scene.phase.height tiles (item_of entry (next_surface next.entry)) }
 {
     add_entry(text, entry);
     text.end_line();
-    add_after(text, tiles, session, entry, next);
+    add_after(text, scribe, tiles, session, entry, next);
 }
 
 /// Adds the lines of the next snapshot after a publication, and nothing after another entry.
-fn add_after<K: Sink>(
+fn add_after<K: Sink, C: Scribe>(
     text: &mut TextWriter<K>,
+    scribe: &mut C,
     tiles: u32,
     session: &Session,
     entry: Entry,
     next: Option<&Snapshot>,
 )
+    requires ready { C.ready scribe.old }
     requires tiles { tiles ≡ tiles_of session.now.scene.tiling }
     requires over { IfSome next (λ snapshot. (parts_of snapshot.now).session ≡ session.now) }
+    ensures ready { C.ready scribe.new }
     ensures text { Adds (view_of K.held K.faults text.old) (view_of K.held K.faults text.new) (after_text session.now.scene.phase.width session.now.scene.phase.height tiles (item_of entry (next_surface next.entry)).surface) }
     ensures small { MayBeInRange session.now.scene.phase.width session.now.scene.phase.height tiles (item_of entry (next_surface next.entry)).surface }
 {
@@ -190,6 +242,6 @@ fn add_after<K: Sink>(
         return;
     };
     if is_publication(entry) {
-        add_surface(text, tiles, snapshot);
+        add_surface(text, scribe, tiles, snapshot);
     }
 }

@@ -4,29 +4,36 @@ ghost use Rattle.text_lines.specs.Numbers.{AreLongs};
 ghost use Rattle.report_text.specs.Contents.{IsSurfaceInRange};
 ghost use Rattle.text_lines.specs.Parsing.{IsWide};
 ghost use Rattle.report_text.specs.Reports.{surface_of};
-ghost use Rattle.report_text.specs.Text.{all_faces_text, costs_line, faces_line, flows_line, surface_block_text};
+ghost use Rattle.report_text.specs.Text.{costs_line, flows_line, surface_block_text};
 ghost use Rattle.text_parts.specs.Text.{ended_line};
 ghost use Rattle.raster_model.specs.Tiles.{tiles_of};
-ghost use Rattle.std.specs.Prelude.{◌≡◌, ◌<◌, ℕ};
-ghost use Rattle.surface_snapshots.specs.Parts.{faces_in};
+ghost use Rattle.std.specs.Prelude.{◌≡◌};
 ghost use Rattle.surface_snapshots.specs.Views.{parts_of};
 ghost use Rattle.text_lines.specs.Adding.{Adds};
 ghost use Rattle.text_lines.specs.Views.{view_of};
 
-use grid_writer::add_grid;
+use crate::faces::FaceLines;
+use crate::scribe::Scribe;
 use insar_ports::Sink;
 use surface_snapshots::Snapshot;
-use text_lines::{TextWriter, add_field, add_numbers, add_wide_field};
+use text_lines::{TextWriter, add_numbers, add_wide_field};
 
 /// Adds the lines of a published surface: costs, grid, the faces of each of `tiles` tiles, flows.
-pub(crate) fn add_surface<K: Sink>(text: &mut TextWriter<K>, tiles: u32, snapshot: &Snapshot)
-    requires { tiles ≡ tiles_of (parts_of snapshot.now).session.scene.tiling }
+pub(crate) fn add_surface<K: Sink, C: Scribe>(
+    text: &mut TextWriter<K>,
+    scribe: &mut C,
+    tiles: u32,
+    snapshot: &Snapshot,
+)
+    requires ready { C.ready scribe.old }
+    requires tiles { tiles ≡ tiles_of (parts_of snapshot.now).session.scene.tiling }
+    ensures ready { C.ready scribe.new }
     ensures text { Adds (view_of K.held K.faults text.old) (view_of K.held K.faults text.new) (surface_block_text (parts_of snapshot.now).session.scene.phase.width (parts_of snapshot.now).session.scene.phase.height tiles (surface_of (parts_of snapshot.now))) }
     ensures ranges { IsSurfaceInRange (parts_of snapshot.now).session.scene.phase.width (parts_of snapshot.now).session.scene.phase.height tiles (surface_of (parts_of snapshot.now)) }
 {
     add_costs(text, snapshot.tile_cost(), snapshot.seam_cost());
-    add_grid(text, snapshot);
-    add_faces(text, tiles, snapshot);
+    scribe.add_grid(text, snapshot);
+    scribe.add_faces(text, &FaceLines { snapshot, tiles });
     add_flows(text, snapshot.flows());
 }
 
@@ -37,28 +44,6 @@ fn add_costs<K: Sink>(text: &mut TextWriter<K>, tiles: u128, seams: u128)
     text.bytes(b"costs");
     add_wide_field(text, tiles);
     add_wide_field(text, seams);
-    text.end_line();
-}
-
-/// Adds a line of faces for each tile.
-fn add_faces<K: Sink>(text: &mut TextWriter<K>, tiles: u32, snapshot: &Snapshot)
-    requires { tiles ≡ tiles_of (parts_of snapshot.now).session.scene.tiling }
-    ensures text { Adds (view_of K.held K.faults text.old) (view_of K.held K.faults text.new) (all_faces_text tiles (faces_in (parts_of snapshot.now))) }
-    ensures longs { (t : ℕ) → t < tiles → AreLongs (faces_in (parts_of snapshot.now) t) }
-{
-    for tile in 0..tiles {
-        add_tile(text, tile, snapshot.faces(tile));
-    }
-}
-
-#[tactic(auto, using(crate::proofs::LineEnds::adds_faces))]
-fn add_tile<K: Sink>(text: &mut TextWriter<K>, tile: u32, faces: &[i64])
-    ensures text { Adds (view_of K.held K.faults text.old) (view_of K.held K.faults text.new) (ended_line (faces_line tile) faces.now) }
-    ensures longs { AreLongs faces.now }
-{
-    text.bytes(b"faces");
-    add_field(text, tile);
-    add_numbers(text, faces);
     text.end_line();
 }
 

@@ -1,8 +1,8 @@
-use Rattle.text_lines.proofs.AddLemmas.{adds_then}
-use Rattle.grid_writer.specs.Grid.{columns_line, frame_lines, rows_line}
+use Rattle.grid_writer.proofs.GridLemmas.{adds_rows}
 use Rattle.grid_writer.proofs.grid.add_grid.Goals as goal
 
 pub returns-clause-added : goal.returns-clause-added
-unfolding columns_line rows_line frame_lines
-returns-clause-added g c =
-    adds_then (rw c.width.ensures.width at c.add_size.ensures) (adds_then (rw c.height.ensures at c.add_size-2.ensures) (adds_then c.bytes.ensures c.add_rows.ensures.added))
+returns-clause-added g c = adds_rows (g.R.Rows.grid c.args.rows.now) c.add_head.ensures.added c.add_all.ensures.added
+
+pub returns-clause-ranges : goal.returns-clause-ranges
+returns-clause-ranges g c = record { sized = c.add_head.ensures.sized; fits = λ x y lx ly. c.add_all.ensures.known y ly x lx }

@@ -9,11 +9,11 @@ pub returns-in-Some-clause-put : goal.returns-in-Some-clause-put
 returns-in-Some-clause-put g c =
     let n = c.in-Some.snapshot.now in
     let at : slice_get c.snapshots.result.now (length c.snapshots.result.now - 1) ≡ Some n = sym c.last.ensures.value ∙ ap option_copied c.in-Some.is in
-    rw (last_text c.args.board.now c.snapshots.result.now c.snapshots.ensures.value c.snapshots.ensures.board n at) at c.write_grid.ensures.put
+    rw (last_text c.args.board.now c.snapshots.result.now c.snapshots.ensures.value c.snapshots.ensures.board n at) at c.write_grid_side_by_side.ensures.put
 
 pub returns-in-Some-clause-ranges : goal.returns-in-Some-clause-ranges
 returns-in-Some-clause-ranges g c =
-    last_in_range c.args.board.now c.snapshots.result.now c.snapshots.ensures.value c.snapshots.ensures.board c.in-Some.snapshot.now (sym c.last.ensures.value ∙ ap option_copied c.in-Some.is) c.write_grid.ensures.ranges
+    last_in_range c.args.board.now c.snapshots.result.now c.snapshots.ensures.value c.snapshots.ensures.board c.in-Some.snapshot.now (sym c.last.ensures.value ∙ ap option_copied c.in-Some.is) c.write_grid_side_by_side.ensures.ranges
 
 pub returns-in-None-clause-put : goal.returns-in-None-clause-put
 returns-in-None-clause-put g c =

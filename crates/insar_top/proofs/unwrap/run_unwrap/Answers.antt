@@ -17,6 +17,6 @@ returns-in_err-board g c =
 pub returns : goal.returns
 returns g c =
     let b = c.in_ok-board.board in
-    let run : Run = run_of g.S.Source.left g.S.Source.faults c.args.source.now c.solved.new.source g.K.Sink.held g.K.Sink.faults c.args.sink.now c.write_report.new.sink in
-    let ready = report_ready c.args.settings run b.session (report_of b.session b.entries b.surfaces) c.in_ok-board.ensures.given (is_report b (c.write_report.ensures.certified c.in_ok-board.ensures.complete) c.write_report.ensures.versioned) c.write_report.ensures.ranges in
-    rw c.end_of.ensures (tt, put_ends (Unwrap c.args.settings) run 0 (report_text (report_of b.session b.entries b.surfaces)) ready c.write_report.result refl c.write_report.ensures.text)
+    let run : Run = run_of g.S.Source.left g.S.Source.faults c.args.source.now c.solved.new.source g.K.Sink.held g.K.Sink.faults c.args.sink.now c.write_report_side_by_side.new.sink in
+    let ready = report_ready c.args.settings run b.session (report_of b.session b.entries b.surfaces) c.in_ok-board.ensures.given (is_report b (c.write_report_side_by_side.ensures.certified c.in_ok-board.ensures.complete) c.write_report_side_by_side.ensures.versioned) c.write_report_side_by_side.ensures.ranges in
+    rw c.end_of.ensures (tt, put_ends (Unwrap c.args.settings) run 0 (report_text (report_of b.session b.entries b.surfaces)) ready c.write_report_side_by_side.result refl c.write_report_side_by_side.ensures.text)

@@ -6,7 +6,7 @@ use Rattle.report_text.proofs.surface.add_surface.Goals as goal
 pub returns-clause-text : goal.returns-clause-text
 unfolding surface_block_text
 returns-clause-text g c =
-    adds_then (rw (ap unsigned_abs c.tile_cost.ensures, ap unsigned_abs c.seam_cost.ensures) at c.add_costs.ensures.text) (adds_then c.add_grid.ensures.added (adds_then c.add_faces.ensures.text (rw c.flows.ensures at c.add_flows.ensures.text)))
+    adds_then (rw (ap unsigned_abs c.tile_cost.ensures, ap unsigned_abs c.seam_cost.ensures) at c.add_costs.ensures.text) (adds_then c.add_grid.ensures.added (adds_then c.add_faces.ensures.added (rw c.flows.ensures at c.add_flows.ensures.text)))
 
 pub returns-clause-ranges : goal.returns-clause-ranges
 returns-clause-ranges g c = record {

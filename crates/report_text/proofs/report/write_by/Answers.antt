@@ -4,7 +4,7 @@ use Rattle.text_lines.proofs.AddLemmas.{puts_made}
 use Rattle.report_text.proofs.CertifiedLemmas.{board_is_certified}
 use Rattle.report_text.proofs.RangeLemmas.{board_in_range}
 use Rattle.report_text.proofs.TermsLemmas.{version_is}
-use Rattle.report_text.proofs.report.write_report.Goals as goal
+use Rattle.report_text.proofs.report.write_by.Goals as goal
 
 pub returns-clause-text : goal.returns-clause-text
 returns-clause-text g c =

@@ -1,0 +1,2 @@
+mod DealLemmas
+pub mod TextsFrom

@@ -2,7 +2,7 @@ ghost use Rattle.std.specs.Prelude.{◌≡◌};
 ghost use Rattle.surface_snapshots.specs.Tiled.{regions_in};
 
 use crate::tiled::TiledRegions;
-use raster_model::{Mask, Tiling};
+use raster_model::Tiling;
 use seam_regions::Regions;
 use std::alloc::{AllocError, Global};
 
@@ -17,16 +17,17 @@ pub struct PackedRegions {
 }
 
 impl PackedRegions {
+    ghost use Rattle.raster_model.specs.MaskView.{MaskView};
+    ghost use Rattle.seam_regions.specs.Regions.{AreRegionsOf};
     ghost use Rattle.std.specs.Prelude.{IfOk};
     ghost use Rattle.surface_snapshots.specs.Packed.{ArePackedRegionsOf};
 
-    /// The regions of a tiling's raster under a mask of the same size. It fails only for lack of memory.
-    pub fn of(alloc: Global, tiling: &Tiling, mask: &Mask) -> Result<PackedRegions, AllocError>
-        requires across { mask.now.width ≡ tiling.now.width }
-        requires along { mask.now.height ≡ tiling.now.height }
-        ensures { IfOk result (ArePackedRegionsOf tiling.now mask.now) }
+    /// Packs the regions of a tiling's raster. It fails only for lack of memory.
+    pub fn of(alloc: Global, tiling: &Tiling, regions: Regions) -> Result<PackedRegions, AllocError>
+        requires across { regions.width ≡ tiling.now.width }
+        requires along { regions.height ≡ tiling.now.height }
+        ensures { IfOk result (λ made. (mask : MaskView) → AreRegionsOf tiling.now mask regions → ArePackedRegionsOf tiling.now mask made) }
     {
-        let regions = Regions::of(alloc, tiling, mask)?;
         let tiled = TiledRegions::of(alloc, tiling, &regions)?;
         Ok(PackedRegions {
             tiling: *tiling,

@@ -376,7 +376,8 @@ fn built_by_two<R: Threads + Sync>(
     )?;
     let seams = seams(alloc, offsets, flows)?;
     let mask = session.first_mask.try_copy(alloc)?;
-    let packed = PackedRegions::of(alloc, &session.scene.tiling, &mask)?;
+    let regions = Regions::of(alloc, &session.scene.tiling, &mask)?;
+    let packed = PackedRegions::of(alloc, &session.scene.tiling, regions)?;
     let made = Snapshot::build_certified(rt, 2, alloc, None, session, mask, packed, tiles, seams)?;
     Ok(made)
 }

@@ -1,7 +1,7 @@
--- Regions that were found early: masks at two points of a history are one if no edit was made between them.
+-- Regions that were found early: masks at two points of a history are one if no edit was made between them. And the surface that is made over regions.
 use Rattle.std.proofs.Common.{◌≡◌, ◌∙◌, ℕ, ◌+◌, ◌*◌, ◌/◌, ◌%◌, ◌<◌, ap, arith, sym, subst, refl, length, List, Bool, false}
 use Rattle.std.specs.Arc.{arc_value}
-use Rattle.std.specs.Prelude.{IfSome, Option, Some, None, slice_index_or}
+use Rattle.std.specs.Prelude.{IfOk, IfSome, Option, Some, None, Result, Ok, Err, slice_index_or}
 use Rattle.std.proofs.lemmas.List.{ext_get_or}
 use Rattle.std.proofs.lemmas.Nat.{div-add-mod'}
 use Rattle.std.proofs.Math.Nat.{div-lt_iff_lt-mul, mod-lt}
@@ -10,14 +10,25 @@ use Rattle.raster_model.specs.declared.session.Session.{Session}
 use Rattle.raster_model.specs.Masks.{IsMaskOf}
 use Rattle.raster_model.specs.MaskView.{MaskView}
 use Rattle.raster_model.specs.Sums.{Field}
-use Rattle.surface_snapshots.specs.Packed.{ArePackedRegionsOf}
+use Rattle.raster_model.specs.declared.tiling.Tiling.{Tiling}
+use Rattle.seam_regions.specs.Regions.{AreRegionsOf}
+use Rattle.seam_regions.specs.RegionsView.{RegionsView}
+use Rattle.certificates.specs.declared.results.SeamResult.{SeamResult}
+use Rattle.certificates.specs.declared.verdicts.SeamVerdict.TheVariants.{Good}
+use Rattle.surface_snapshots.specs.declared.snapshot.Snapshot.{Snapshot}
+use Rattle.surface_snapshots.specs.Parts.{IsPublished, Parts, parts_from}
+use Rattle.surface_snapshots.specs.Verdicts.{IsPartsVerdict}
+use Rattle.surface_snapshots.specs.Views.{parts_of}
+use Rattle.tile_workers.specs.Found.{AreFoundOf, regions_found}
 use Rattle.tile_board.specs.declared.gathered.Gathered.{Gathered}
 use Rattle.tile_board.specs.Histories.{present_mask}
 use Rattle.tile_board.proofs.EarlierLemmas.{present_still}
 use Rattle.board_desk.specs.Passes.{IsLaterPass, PassView}
 use Rattle.board_desk.proofs.Histories.{prefix_trans}
 use Rattle.tile_workers.specs.declared.early.EarlyRegions.{EarlyRegions}
-use Rattle.tile_workers.specs.Scripts.{AgreeIfCurrent, AreOfOneMask, HadRegions, HasGathered}
+use Rattle.tile_workers.specs.declared.early.FoundRegions.{FoundRegions}
+use Rattle.tile_workers.specs.declared.early.FoundRegions.TheVariants.{Packed, Plain}
+use Rattle.tile_workers.specs.Scripts.{AgreeIfCurrent, AreOfOneMask, HadRegions, HasGathered, IsSurfaceOfGathered}
 
 -- two masks of one size that are open at the same pixels are one
 module _ (m n : MaskView) (w h : ℕ) (clear : Field Bool) (wide : 0 < w) (a : IsMaskOf m w h clear) (b : IsMaskOf n w h clear) (count : length m.unmasked ≡ m.width * m.height) (many : length n.unmasked ≡ n.width * n.height) where
@@ -64,14 +75,37 @@ agrees s p (Some early) g has had = λ same. (
     let back = sym has.session in
     let clear = present_mask s p.seen in
     record {
-      regions = subst (λ (x : Session). ArePackedRegionsOf x.scene.tiling early.present.mask early.packed) back had.regions;
+      regions = subst (λ (x : Session). AreFoundOf x.scene.tiling early.present.mask early.found) back had.regions;
       clear = clear;
       before = subst (λ (x : Session). IsMaskOf early.present.mask x.scene.phase.width x.scene.phase.height clear) back before;
       now = subst (λ (x : Session). IsMaskOf g.mask x.scene.phase.width x.scene.phase.height clear) back has.mask.present;
     })
 
+-- what was found are regions, packed or not
+pub found_regions : (g : Tiling) (m : MaskView) (f : FoundRegions) → AreFoundOf g m f → AreRegionsOf g m (regions_found f)
+found_regions g m (Packed packed) are = are.regions
+found_regions g m (Plain regions) are = are
+
 -- it has the regions of what is gathered
-pub regions_now : (early : EarlyRegions) (g : Gathered) → AreOfOneMask early g → length early.present.mask.unmasked ≡ early.present.mask.width * early.present.mask.height → length g.mask.unmasked ≡ g.mask.width * g.mask.height → ArePackedRegionsOf (arc_value g.session).scene.tiling g.mask early.packed
+pub regions_now : (early : EarlyRegions) (g : Gathered) → AreOfOneMask early g → length early.present.mask.unmasked ≡ early.present.mask.width * early.present.mask.height → length g.mask.unmasked ≡ g.mask.width * g.mask.height → AreFoundOf (arc_value g.session).scene.tiling g.mask early.found
 regions_now early g is count many =
     let s = (arc_value g.session).scene in
-    subst (λ (m : MaskView). ArePackedRegionsOf s.tiling m early.packed) (same_masks early.present.mask g.mask s.phase.width s.phase.height is.clear (omega (arith, s.phase.wide)) is.before is.now count many) is.regions
+    subst (λ (m : MaskView). AreFoundOf s.tiling m early.found) (same_masks early.present.mask g.mask s.phase.width s.phase.height is.clear (omega (arith, s.phase.wide)) is.before is.now count many) is.regions
+
+-- what is made of what is gathered, over regions of its mask and certified, is a surface of it
+pub surface_made : {E : Type 0} (g : Gathered) (result : Result Snapshot E) (v : RegionsView) (seams : SeamResult) → AreRegionsOf (arc_value g.session).scene.tiling g.mask v → seams.revision ≡ g.revision → IfOk result (λ made. parts_of made ≡ parts_from (arc_value g.session) g.mask v g.tiles seams) → IfOk result (λ made. IsPartsVerdict (parts_of made) Good) → IfOk result (λ made. IsSurfaceOfGathered g (parts_of made))
+surface_made g (Ok made) v seams are same parts good =
+    subst (IsSurfaceOfGathered g) (sym parts)
+    (record {
+      made = record {
+        session = refl;
+        regions = are;
+        tiling = g.tiling;
+        tiles = g.good;
+        certified = subst IsPublished parts made.published;
+        verdict = subst (λ (p : Parts). IsPartsVerdict p Good) parts good;
+      };
+      mask = refl;
+      revision = same;
+    })
+surface_made g (Err fault) v seams are same parts good = tt

@@ -10,10 +10,10 @@ use Rattle.tile_board.specs.declared.entry.Entry.TheVariants.{Published, Settled
 use Rattle.tile_board.specs.declared.gathered.Gathered.{Gathered}
 use Rattle.tile_board.specs.declared.ticket.Ticket.{Ticket}
 use Rattle.tile_board.specs.BoardView.{BoardView}
-use Rattle.surface_snapshots.specs.Packed.{ArePackedRegionsOf}
 use Rattle.surface_snapshots.specs.Parts.{Parts}
 use Rattle.tile_board.specs.Calls.{IsClaim, IsMadeSurface, WasMaskAt}
 use Rattle.tile_workers.specs.declared.early.EarlyRegions.{EarlyRegions}
+use Rattle.tile_workers.specs.Found.{AreFoundOf}
 use Rattle.board_desk.specs.Mine.{mine_of}
 use Rattle.board_desk.specs.Passes.{AddsOwn, HasNotMoved, HasNoCommandLeft, IsLaterPass, PassView}
 
@@ -45,11 +45,11 @@ pub record HadRegions (s : Session) (p : PassView) (early : EarlyRegions) : Type
   pub earlier : List Entry
   pub begins : IsPrefix earlier p.seen
   pub mask : WasMaskAt s earlier early.present.mask early.present.revision
-  pub regions : ArePackedRegionsOf s.scene.tiling early.present.mask early.packed
+  pub regions : AreFoundOf s.scene.tiling early.present.mask early.found
 
 -- if they are of the gathered revision, they are regions of the session, and both masks are open at the same pixels
 pub record AreOfOneMask (early : EarlyRegions) (gathered : Gathered) : Type 0 where
-  pub regions : ArePackedRegionsOf (arc_value gathered.session).scene.tiling early.present.mask early.packed
+  pub regions : AreFoundOf (arc_value gathered.session).scene.tiling early.present.mask early.found
   pub clear : Field Bool
   pub before : IsMaskOf early.present.mask (arc_value gathered.session).scene.phase.width (arc_value gathered.session).scene.phase.height clear
   pub now : IsMaskOf gathered.mask (arc_value gathered.session).scene.phase.width (arc_value gathered.session).scene.phase.height clear

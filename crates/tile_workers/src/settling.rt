@@ -3,13 +3,13 @@ ghost use Rattle.board_desk.specs.Passes.{HasNotMoved, IsAtSettle, IsLaterPass, 
 ghost use Rattle.std.specs.Arc.{arc_value};
 ghost use Rattle.std.specs.Prelude.{◌≡◌, ◌≢◌, All, IfOk, IfSome, None, OnErr, OnSome};
 ghost use Rattle.std.specs.Thread.{IsSync};
-ghost use Rattle.surface_snapshots.specs.Packed.{ArePackedRegionsOf};
 ghost use Rattle.surface_snapshots.specs.Views.{parts_of};
 ghost use Rattle.tile_board.specs.Histories.{IsLegal, now_of};
+ghost use Rattle.tile_workers.specs.Found.{AreFoundOf};
 ghost use Rattle.tile_workers.specs.Scripts.{AgreeIfCurrent, HadRegions, HasGathered, HasPublished, HasSeenMore, HasSettled, IsSurfaceOfGathered};
 
 use crate::curator::newest;
-use crate::early::EarlyRegions;
+use crate::early::{EarlyRegions, FoundRegions};
 use crate::gate::Gate;
 use crate::solving::Worker;
 use board_desk::{Desk, Pass};
@@ -19,7 +19,7 @@ use std::alloc::{AllocError, Global};
 use std::sync::Wait;
 use std::thread;
 use std::thread::Threads;
-use surface_snapshots::{PackedRegions, Snapshot};
+use surface_snapshots::Snapshot;
 use tile_board::{Advance, AdvanceFault, GatherFault, Gathered, PresentMask, PublishFault};
 
 /// The most workers that run at once.
@@ -81,8 +81,7 @@ pub(crate) fn try_settle<R: Threads + Wait + Sync, G: Gate>(
     publish(rt, alloc, desk, pass, workers, early)
 }
 
-/// Has workers solve the tiles. If there are several of them, one more thread finds and packs the regions of the present mask
-/// meanwhile.
+/// Has workers solve the tiles. If there are several of them, one more thread finds the regions of the present mask meanwhile.
 fn solve_beside<R: Threads + Wait + Sync, G: Gate>(
     rt: &R,
     alloc: Global,
@@ -100,15 +99,15 @@ fn solve_beside<R: Threads + Wait + Sync, G: Gate>(
         return Ok(None);
     }
     let present = desk.present_mask(rt, alloc, pass).answer?;
-    let (packed, solved) = solve_over(rt, alloc, desk, pass, workers, gate, &present);
+    let (found, solved) = solve_over(rt, alloc, desk, pass, workers, gate, &present);
     solved?;
     Ok(Some(EarlyRegions {
-        packed: packed?,
+        found: found?,
         present,
     }))
 }
 
-/// Has workers solve the tiles, and one more thread find and pack the regions of a mask.
+/// Has workers solve the tiles, and one more thread find the regions of a mask.
 fn solve_over<R: Threads + Wait + Sync, G: Gate>(
     rt: &R,
     alloc: Global,
@@ -117,16 +116,16 @@ fn solve_over<R: Threads + Wait + Sync, G: Gate>(
     workers: u32,
     gate: &G,
     present: &PresentMask,
-) -> (Result<PackedRegions, AllocError>, Result<(), AllocError>)
+) -> (Result<FoundRegions, AllocError>, Result<(), AllocError>)
     requires { IsPassOf desk.now pass.old }
     ensures more { HasSeenMore pass.old pass.new }
-    ensures regions { IfOk result.0 (ArePackedRegionsOf (arc_value present.now.session).scene.tiling present.now.mask) }
+    ensures regions { IfOk result.0 (AreFoundOf (arc_value present.now.session).scene.tiling present.now.mask) }
 {
     thread::join_mut(
         rt,
-        &mut || -> Result<PackedRegions, AllocError>
-            ensures { IfOk result (ArePackedRegionsOf (arc_value present.entry.now.session).scene.tiling present.entry.now.mask) }
-        { PackedRegions::of(alloc, &present.session.scene.tiling, &present.mask) },
+        &mut || -> Result<FoundRegions, AllocError>
+            ensures { IfOk result (AreFoundOf (arc_value present.entry.now.session).scene.tiling present.entry.now.mask) }
+        { FoundRegions::of(alloc, &present.session.scene.tiling, &present.mask) },
         &mut || -> Result<(), AllocError>
             requires { IsSync R.row × IsPassOf desk.now pass.now }
             ensures { HasSeenMore pass.entry.now pass.exit.now }
@@ -267,8 +266,9 @@ fn surface_of<R: Threads + Sync>(
     requires { IfSome early (λ e. AgreeIfCurrent e gathered) }
     ensures { IfOk result (λ made. IsSurfaceOfGathered gathered (parts_of made)) }
 {
-    let packed = regions_for(alloc, &gathered, early)?;
-    let seams = collect_over(alloc, &gathered, &packed.regions)?;
+    let found = regions_for(alloc, &gathered, early)?;
+    let seams = collect_over(alloc, &gathered, found.regions())?;
+    let packed = found.packed(alloc, &gathered.session.scene.tiling)?;
     Snapshot::build_certified(
         rt,
         threads,
@@ -287,19 +287,19 @@ fn regions_for(
     alloc: Global,
     gathered: &Gathered,
     early: Option<EarlyRegions>,
-) -> Result<PackedRegions, AllocError>
+) -> Result<FoundRegions, AllocError>
     requires { IfSome early (λ e. AgreeIfCurrent e gathered.now) }
-    ensures { IfOk result (ArePackedRegionsOf (arc_value gathered.now.session).scene.tiling gathered.now.mask) }
+    ensures { IfOk result (AreFoundOf (arc_value gathered.now.session).scene.tiling gathered.now.mask) }
 {
     if let Some(early) = early {
         if early.present.revision == gathered.revision {
             // Their contracts say what every mask keeps.
             let _width = early.present.mask.width();
             let _width = gathered.mask.width();
-            return Ok(early.packed);
+            return Ok(early.found);
         }
     }
-    PackedRegions::of(alloc, &gathered.session.scene.tiling, &gathered.mask)
+    FoundRegions::of(alloc, &gathered.session.scene.tiling, &gathered.mask)
 }
 
 /// The present revision's mask and results, as they are at the end of what the pass has then seen; None if a tile has no

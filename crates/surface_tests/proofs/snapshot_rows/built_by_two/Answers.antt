@@ -22,4 +22,9 @@ certified s t m v tiles copy seams shown same again mask are told certify =
 
 pub build_certified-requires-clause-certified : goal.build_certified-requires-clause-certified
 build_certified-requires-clause-certified g c κs within =
-    certified (arc_value c.args.session) (arc_value c.in_ok-clone.field-0) c.in_ok-mask.mask c.in_ok-packed.packed.regions c.args.tiles c.in_ok-try_copy.field-0 c.in_ok-seams.seams _ c.in_ok-clone.ensures.cases c.in_ok-try_copy.ensures (rw c.deref.ensures at c.in_ok-mask.ensures) (rw c.deref-2.ensures at c.in_ok-packed.ensures.regions) c.in_ok-seams.ensures c.in_ok-_alone.ensures
+    let packed = rw c.deref-3.ensures at (c.in_ok-packed.ensures c.in_ok-mask.mask (rw c.deref-3.ensures (rw c.deref-2.ensures at c.in_ok-regions.ensures))) in
+    certified (arc_value c.args.session) (arc_value c.in_ok-clone.field-0) c.in_ok-mask.mask c.in_ok-packed.packed.regions c.args.tiles c.in_ok-try_copy.field-0 c.in_ok-seams.seams _ c.in_ok-clone.ensures.cases c.in_ok-try_copy.ensures (rw c.deref.ensures at c.in_ok-mask.ensures) packed.regions c.in_ok-seams.ensures c.in_ok-_alone.ensures
+
+pub build_certified-requires-clause-regions : goal.build_certified-requires-clause-regions
+build_certified-requires-clause-regions g c κs within =
+    rw c.deref-3.ensures at (c.in_ok-packed.ensures c.in_ok-mask.mask (rw c.deref-3.ensures (rw c.deref-2.ensures at c.in_ok-regions.ensures)))

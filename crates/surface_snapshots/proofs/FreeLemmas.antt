@@ -34,15 +34,15 @@ left_from x side p =
     ap (λ (n : ℕ). n % side) e ∙ mod-mul-add (x / side + 1) side 0 p
 
 -- ---- edges without departures add nothing
-zero_too : (t : Bool) (z : ℤ) → z ≡ pos 0 → where_true t z ≡ pos 0
+pub zero_too : (t : Bool) (z : ℤ) → z ≡ pos 0 → where_true t z ≡ pos 0
 zero_too t z e = rw e (where_true-zero t)
 
-no_product : (t : Bool) (w q : ℕ) (d : ℤ) → d ≡ pos 0 → where_true t (pos (w * steps q d)) ≡ pos 0
+pub no_product : (t : Bool) (w q : ℕ) (d : ℤ) → d ≡ pos 0 → where_true t (pos (w * steps q d)) ≡ pos 0
 no_product t w q d e =
     let z : w * 0 ≡ 0 = omega arith in
     rw (no_steps q d e) (ap (λ (n : ℕ). where_true t (pos n)) z ∙ where_true-zero t)
 
-none_before : (a b : ℕ) (z : ℤ) → (a < b → z ≡ pos 0) → where_true (nat_lt a b) z ≡ pos 0
+pub none_before : (a b : ℕ) (z : ℤ) → (a < b → z ≡ pos 0) → where_true (nat_lt a b) z ≡ pos 0
 none_before a b z f =
     elim (cases_lt a b) [ inl l ↦ picked (nat_lt a b) z (lt_is a b l) ∙ f l | inr l ↦ no_number (nat_lt a b) z (not_lt_is a b l) ]
 
@@ -98,7 +98,7 @@ module _ (r : Raster) (S : Field ℤ) (x y : ℕ) where
   down_there none n l m = let e : n ≡ x = omega (arith, l, m) in rw e none
 
 -- ---- a departure more that is looked at
-neither : (a b : Bool) → (a || b) ≡ false → (a ≡ false) × (b ≡ false)
+pub neither : (a b : Bool) → (a || b) ≡ false → (a ≡ false) × (b ≡ false)
 neither true b e = absurd cc
 neither false b e = (refl, e)
 

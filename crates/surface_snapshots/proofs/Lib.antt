@@ -5,6 +5,7 @@ mod FreeLemmas
 mod LevelLemmas
 mod RowLemmas
 mod StripLemmas
+mod MarkLemmas
 mod PackingLemmas
 mod RunLemmas
 mod TiledLemmas

@@ -1,7 +1,7 @@
 -- Strips of whole rows: one row more, and what lies in them.
 use Rattle.std.proofs.Common.{◌≡◌, ◌∙◌, ℕ, ◌+◌, ◌-◌, ◌*◌, ◌/◌, ◌%◌, ◌<◌, ◌≤◌, ap, subst, arith, inl, inr, length, refl, List, ◌++◌, take, pos}
 use Rattle.raster_model.specs.Raster.{lifted}
-use Rattle.std.specs.Prelude.{ℤ, ◌^◌, slice_index_or, Bool, true, false, ◌&&◌, ◌⊎◌, IsTrue, min, nat_le, nat_lt}
+use Rattle.std.specs.Prelude.{ℤ, ◌^◌, slice_index_or, Bool, true, false, ◌&&◌, IsTrue, min, nat_le, nat_lt}
 use Rattle.std.proofs.lemmas.Bool.{and_parts, cases_lt}
 use Rattle.std.proofs.lemmas.Bool.Decides.{nat_tests}
 use Rattle.std.proofs.lemmas.Grind.{div_ceil_times}
@@ -13,7 +13,7 @@ use Rattle.surface_snapshots.specs.declared.shifted.ShiftedTiles.{ShiftedTiles}
 use Rattle.surface_snapshots.specs.Parts.{BeginsWithRow}
 use Rattle.surface_snapshots.specs.Loops.{KnowsOpenRows}
 use Rattle.surface_snapshots.specs.Shifted.{AreLevelsFrom, AreListedCycles, IsStrip, cycles_under, is_open_there, level_at, open_under, raster_under}
-use Rattle.surface_snapshots.specs.Strips.{AreCounted}
+use Rattle.surface_snapshots.specs.Strips.{AreCounted, HaveRow}
 use Rattle.surface_snapshots.proofs.CostLemmas.{rows_fit, rows_more}
 use Rattle.surface_snapshots.proofs.RowLemmas.{level_there}
 
@@ -92,9 +92,23 @@ rows_strip s first rows n wide within e =
       within = omega (arith, e, mul-le-mul_right w within);
     }
 
--- the rows before the end and the next one, as far as the raster goes
-pub rows_upto : (first end below h : ℕ) → first ≤ end → end ≤ h → below ≡ min (end + 1) h → (end < first + (below - first)) ⊎ (first + (below - first) ≡ h)
-rows_upto first end below h from within is = elim (cases_lt end h) [ inl l ↦ inl (omega (arith, from, l, is)) | inr l ↦ inr (omega (arith, from, within, l, is)) ]
+-- each row of a block is listed, and the next one, as far as the raster goes
+pub rows_listed : (s : ShiftedTiles) (first end below n y : ℕ) → first ≤ end → end ≤ s.scene.now.phase.height → below ≡ min (end + 1) s.scene.now.phase.height → n ≡ (below - first) * s.scene.now.phase.width → first ≤ y → y < end → HaveRow s (first * s.scene.now.phase.width) n y
+rows_listed s first end below n y some within is e from upto =
+    let w = s.scene.now.phase.width in
+    let all : first * w + n ≡ below * w = rows_after first below n w (omega (arith, some, within, is)) e in
+    let row : (y + 1) * w ≤ below * w = mul-le-mul_right w (omega (arith, within, is, upto)) in (
+      mul-le-mul_right w from,
+      omega (arith, all, row),
+      λ l. (let next : (y + 2) * w ≤ below * w = mul-le-mul_right w (omega (arith, is, upto, l)) in
+          omega (arith, all, next)),
+    )
+  where
+    rows_after : (a b n w : ℕ) → a ≤ b → n ≡ (b - a) * w → a * w + n ≡ b * w
+    rows_after a b n w l e =
+        let rows : b ≡ a + (b - a) = omega (arith, l) in
+        let all : b * w ≡ (a + (b - a)) * w = ap (λ (k : ℕ). k * w) rows in
+        omega (arith, all, e)
 
 -- strips of so many rows begin before the end of the raster, and all of them have all of its rows
 pub strip_begins : (h rows place : ℕ) → 0 < rows → place < h / rows + min 1 (h % rows) → place * rows < h
@@ -122,14 +136,20 @@ module _ (s : ShiftedTiles) (rows place : ℕ) (c n : Costs) (begins : place * r
   pub strips_fit : (c.tiles + n.tiles < 2 ^ 128) × (c.seams + n.seams < 2 ^ 128)
   strips_fit = rows_fit (raster_under s) (open_under s) (lifted (raster_under s) (cycles_under s)) 0 (place * rows) next c n (omega arith) onward so_far told (omega (arith, s.scene.now.phase.high))
 
--- what is known in a strip: the open pixels of its rows
-pub rows_known : (s : ShiftedTiles) (first rows z n : ℕ) → n ≡ rows * s.scene.now.phase.width → (z < first + rows) ⊎ (first + rows ≡ s.scene.now.phase.height) → KnowsOpenRows (raster_under s) (open_under s) (is_open_there s (first * s.scene.now.phase.width) n) first z
-rows_known s first rows z n e upto x y across along from to clear =
+-- what is known of a row that is listed: its open pixels, and those of the next one
+pub row_known : (s : ShiftedTiles) (start n y : ℕ) → HaveRow s start n y → KnowsOpenRows (raster_under s) (open_under s) (is_open_there s start n) y (y + 1)
+row_known s start n y listed a b across along from upto clear =
     let w = s.scene.now.phase.width in
-    let l : y < first + rows = elim upto [ inl below ↦ omega (arith, to, below) | inr all ↦ omega (arith, along, all) ] in
-    there x w y s.scene.now.phase.height (first * w) (y * w + x) n (open_under s x y) across along clear
-    (omega (arith, mul-le-mul_right w from))
-    (omega (arith, e, mul-add-lt y w x (first + rows) l across))
+    elim (cases_lt y b) [
+      | inl l ↦
+          (let e : b ≡ y + 1 = omega (arith, l, upto) in
+          let m : b * w ≡ y * w + w = rw e (omega arith) in
+          there a w b s.scene.now.phase.height start (b * w + a) n (open_under s a b) across along clear (omega (arith, m, listed.0)) (omega (arith, m, across, listed.2 (omega (arith, along, e)))))
+      | inr l ↦
+          (let e : b ≡ y = omega (arith, l, from) in
+          let m : b * w ≡ y * w = rw e refl in
+          there a w b s.scene.now.phase.height start (b * w + a) n (open_under s a b) across along clear (omega (arith, m, listed.0)) (omega (arith, m, across, listed.1)))
+    ]
 
 -- a list of levels is one of cycles
 pub levels_listed : (s : ShiftedTiles) (list : List ℤ) → length list ≡ s.scene.now.phase.height * s.scene.now.phase.width → ((x y : ℕ) → x < s.scene.now.phase.width → y < s.scene.now.phase.height → slice_index_or list (y * s.scene.now.phase.width + x) (pos 0) ≡ level_at s x y) → AreListedCycles s (s.scene.now.phase.height * s.scene.now.phase.width) list

@@ -26,7 +26,7 @@ pub struct Costs {
 pub(crate) const NO_COSTS: Costs = Costs { tiles: 0, seams: 0 };
 
 /// How many pixels of a row are judged at once.
-const PIECE: u32 = 64;
+pub(crate) const PIECE: u32 = 64;
 
 impl Costs {
     /// The costs of the surface that lies so high at the open pixels, in one pass over the edges.
@@ -282,7 +282,7 @@ fn follows_down_at<H: Heights>(scene: &Scene, heights: &H, x: u32, y: u32) -> bo
 }
 
 /// What the edges that start at a pixel add, in the same way, edge by edge.
-fn costs_from<H: Heights>(
+pub(crate) fn costs_from<H: Heights>(
     scene: &Scene,
     mask: &Mask,
     heights: &H,

@@ -11,6 +11,7 @@ mod finding;
 mod flows;
 pub mod laws;
 mod levels;
+mod marks;
 mod packed;
 mod packing;
 mod runs;

@@ -1,4 +1,5 @@
 ghost use Rattle.std.specs.Prelude.{◌≡◌, ◌+◌, ◌-◌, ◌≤◌, ◌<◌, ℕ, length};
+ghost use Rattle.std.specs.Thread.{IsSync};
 ghost use Rattle.text_lines.specs.Adding.{Adds};
 ghost use Rattle.text_lines.specs.Text.{texts_below};
 ghost use Rattle.text_lines.specs.Views.{view_of};
@@ -14,32 +15,42 @@ use std::thread;
 use std::thread::Threads;
 use text_lines::TextWriter;
 
-/// The least and the most bytes of a page: 4 KiB and 4 MiB.
+/// The least and the most bytes of a page: 4 KiB and 1 MiB.
 const LEAST_ROOM: u32 = 1 << 12;
 
-const MOST_ROOM: u32 = 1 << 22;
+const MOST_ROOM: u32 = 1 << 20;
 
-/// Pages on which threads make the passages of a text, each on its own.
+/// Pages on which threads make the passages of a text, each on its own: while some are filled, the others leave.
 #[derive(Drop)]
 pub struct Pages {
     pages: Vec<Page>,
+    others: Vec<Page>,
     /// How many bytes each has room for.
     room: u32,
 }
 
 impl Pages {
-    /// Pages for so many threads, and none for one thread: of a quarter of `bytes` each, which is about what the text has, but
-    /// of 4 KiB at least and of 4 MiB at most. It fails only for lack of memory.
+    /// Two pages for each of so many threads, and none for one thread: of an eighth of `bytes` each, which is about what the text
+    /// has, but of 4 KiB at least and of 1 MiB at most. It fails only for lack of memory.
     pub fn new(alloc: Global, threads: u32, bytes: u32) -> Result<Pages, AllocError> {
-        let room = (bytes / 4).clamp(LEAST_ROOM, MOST_ROOM);
-        let mut pages = Vec::new(alloc);
-        if threads > 1 {
-            for _ in 0..threads {
-                pages.push(Page::new(alloc, room)?)?;
-            }
-        }
-        Ok(Pages { pages, room })
+        let room = (bytes / 8).clamp(LEAST_ROOM, MOST_ROOM);
+        Ok(Pages {
+            pages: blank(alloc, threads, room)?,
+            others: blank(alloc, threads, room)?,
+            room,
+        })
     }
+}
+
+/// A blank page for each of so many threads, and none for one thread.
+fn blank(alloc: Global, threads: u32, room: u32) -> Result<Vec<Page>, AllocError> {
+    let mut pages = Vec::new(alloc);
+    if threads > 1 {
+        for _ in 0..threads {
+            pages.push(Page::new(alloc, room)?)?;
+        }
+    }
+    Ok(pages)
 }
 
 /// Adds all passages, in their order, by the caller's thread alone. It takes no memory.
@@ -50,8 +61,8 @@ pub fn add_all<K: Sink, P: Passages>(text: &mut TextWriter<K>, passages: &P)
     passages.add(text, 0, passages.count());
 }
 
-/// Adds all passages, in their order. If there are pages, a thread for each makes a share of the passages on it, and then the
-/// pages leave in order, until all have left. It takes no memory.
+/// Adds all passages, in their order. If there are pages, a thread for each makes a share of the passages on it, while the
+/// caller's thread adds what the others have, in order, until all have left. It takes no memory.
 pub fn add_side_by_side<R: Threads + Sync, K: Sink, P: Passages + Sync>(
     rt: &R,
     pages: &mut Pages,
@@ -61,38 +72,63 @@ pub fn add_side_by_side<R: Threads + Sync, K: Sink, P: Passages + Sync>(
     ensures added { Adds (view_of K.held K.faults text.old) (view_of K.held K.faults text.new) (texts_below (P.passages passages.now) (P.words passages.now)) }
     ensures known { (i : ℕ) → i < P.passages passages.now → P.known passages.now i }
 {
-    if pages.pages.is_empty() {
+    if pages.pages.is_empty() || pages.others.is_empty() {
         add_all(text, passages);
     } else {
-        add_rounds(rt, &mut pages.pages, pages.room, text, passages);
+        let room = pages.room;
+        add_rounds(
+            rt,
+            &mut pages.pages,
+            &mut pages.others,
+            room,
+            text,
+            passages,
+        );
     }
 }
 
-/// Adds all passages over pages, of which there are some, and each has room for so many bytes.
+/// Adds all passages over two lists of pages, each of which has some, and room for so many bytes on each.
 fn add_rounds<R: Threads + Sync, K: Sink, P: Passages + Sync>(
     rt: &R,
     pages: &mut [Page],
+    others: &mut [Page],
     room: u32,
     text: &mut TextWriter<K>,
     passages: &P,
 )
-    requires { 0 < length pages.old }
+    requires some { (0 < length pages.old) × (0 < length others.old) }
     ensures added { Adds (view_of K.held K.faults text.old) (view_of K.held K.faults text.new) (texts_below (P.passages passages.now) (P.words passages.now)) }
     ensures known { (i : ℕ) → i < P.passages passages.now → P.known passages.now i }
 {
     let count = passages.count();
     let safe = (room / passages.longest().max(1)).max(1);
-    let mut start = 0;
-    let mut share = safe;
-    while start < count {
-        let deal = Deal {
-            start,
-            share: share.min(even_share(count - start, pages.len())),
-            count,
-        };
-        add_round(rt, pages, text, passages, deal);
-        start = deal.begin(pages.len());
-        share = next_share(pages, room, deal.share, safe);
+    let mut deal = Deal {
+        start: 0,
+        share: safe.min(even_share(count, pages.len())),
+        count,
+    };
+    fill_pages(rt, pages, passages, deal);
+    while deal.start < count {
+        let next = next_deal(pages, room, deal, safe);
+        add_and_fill(rt, pages, others, text, passages, deal, next);
+        deal = next_deal(others, room, next, safe);
+        add_and_fill(rt, others, pages, text, passages, next, deal);
+    }
+}
+
+/// What is dealt out after pages that are filled: as many to each as there is room for, but no more than an even share.
+fn next_deal(pages: &[Page], room: u32, deal: Deal, safe: u32) -> Deal
+    requires { 0 < deal.share }
+    ensures start { result.start ≡ begin_of deal (length pages.now) }
+    ensures count { result.count ≡ deal.count }
+    ensures share { 0 < result.share }
+{
+    let start = deal.begin(pages.len());
+    let share = next_share(pages, room, deal.share, safe);
+    Deal {
+        start,
+        share: share.min(even_share(deal.count - start, pages.len())),
+        count: deal.count,
     }
 }
 
@@ -122,19 +158,48 @@ fn next_share(pages: &[Page], room: u32, share: u32, safe: u32) -> u32
     u32::try_from(next).unwrap_or(safe).max(1)
 }
 
-/// Has the pages filled as they are dealt out, and adds what they have.
-fn add_round<R: Threads + Sync, K: Sink, P: Passages + Sync>(
+/// Adds what pages have, and has other pages filled as they are dealt out meanwhile.
+fn add_and_fill<R: Threads + Sync, K: Sink, P: Passages + Sync>(
+    rt: &R,
+    pages: &[Page],
+    others: &mut [Page],
+    text: &mut TextWriter<K>,
+    passages: &P,
+    deal: Deal,
+    next: Deal,
+)
+    requires some { 0 < length others.old }
+    requires counts { (deal.count ≡ P.passages passages.now) × (next.count ≡ P.passages passages.now) }
+    requires dealt { AreDealt (P.words passages.now) (P.known passages.now) deal pages.now }
+    ensures same { length others.new ≡ length others.old }
+    ensures filled { AreDealt (P.words passages.now) (P.known passages.now) next others.new }
+    ensures added { Adds (view_of K.held K.faults text.old) (view_of K.held K.faults text.new) (texts_from (P.words passages.now) deal.start (begin_of deal (length pages.now) - deal.start)) }
+    ensures known { (i : ℕ) → deal.start ≤ i → i < begin_of deal (length pages.now) → P.known passages.now i }
+{
+    thread::join_mut(
+        rt,
+        &mut ||
+            requires { IsSync R.row × IsSync P.row × (0 < length others.now) × (next.count ≡ P.passages passages.now) }
+            ensures { (length others.exit.now ≡ length others.entry.now) × AreDealt (P.words passages.entry.now) (P.known passages.entry.now) next others.exit.now }
+        { fill_pages(rt, others, passages, next) },
+        &mut ||
+            requires { (deal.count ≡ P.passages passages.now) × AreDealt (P.words passages.now) (P.known passages.now) deal pages.now }
+            ensures { Adds (view_of K.held K.faults text.entry.now) (view_of K.held K.faults text.exit.now) (texts_from (P.words passages.entry.now) deal.start (begin_of deal (length pages.entry.now) - deal.start)) × ((i : ℕ) → deal.start ≤ i → i < begin_of deal (length pages.entry.now) → P.known passages.entry.now i) }
+        { add_pages(pages, text, passages, deal) },
+    );
+}
+
+/// Has the pages filled as they are dealt out.
+fn fill_pages<R: Threads + Sync, P: Passages + Sync>(
     rt: &R,
     pages: &mut [Page],
-    text: &mut TextWriter<K>,
     passages: &P,
     deal: Deal,
 )
     requires some { 0 < length pages.old }
     requires count { deal.count ≡ P.passages passages.now }
     ensures same { length pages.new ≡ length pages.old }
-    ensures added { Adds (view_of K.held K.faults text.old) (view_of K.held K.faults text.new) (texts_from (P.words passages.now) deal.start (begin_of deal (length pages.old) - deal.start)) }
-    ensures known { (i : ℕ) → deal.start ≤ i → i < begin_of deal (length pages.old) → P.known passages.now i }
+    ensures filled { AreDealt (P.words passages.now) (P.known passages.now) deal pages.new }
 {
     let threads = pages.len();
     thread::for_each_mut(
@@ -148,7 +213,6 @@ fn add_round<R: Threads + Sync, K: Sink, P: Passages + Sync>(
             page.fill(passages, deal.begin(place), deal.end(place));
         },
     );
-    add_pages(pages, text, passages, deal);
 }
 
 /// Adds the passages that are dealt out to pages, in order.

@@ -1,4 +1,4 @@
-ghost use Rattle.std.specs.Prelude.{◌≡◌, ◌≤◌, All, OnOk, length, take};
+ghost use Rattle.std.specs.Prelude.{◌≡◌, ◌≤◌, All, OnOk, false, length, take};
 ghost use Rattle.insar_ports.specs.Feeding.{source_name, limit_of};
 ghost use Rattle.insar_ports.specs.Calls.{Moves, call_of};
 ghost use Rattle.pgm_planes.specs.declared.samples.SampleForm.TheVariants as forms;
@@ -92,6 +92,29 @@ fn widen(bytes: &[u8], samples: &mut [u16])
 
 /// How many samples there are before the first above `maxval`.
 fn count_within(samples: &[u16], maxval: u16) -> usize
+    ensures count { result ≤ length samples.now }
+    ensures below { All (λ v. v ≤ maxval) (take result samples.now) }
+{
+    if is_any_above(samples, maxval) {
+        count_one_by_one(samples, maxval)
+    } else {
+        samples.len()
+    }
+}
+
+/// Whether any sample is above `maxval`. It does not stop at one, so that several can be judged at once.
+fn is_any_above(samples: &[u16], maxval: u16) -> bool
+    ensures { result ≡ false → All (λ v. v ≤ maxval) samples.now }
+{
+    let mut found = false;
+    for sample in samples {
+        found |= *sample > maxval;
+    }
+    found
+}
+
+/// How many samples there are before the first above `maxval`, one by one.
+fn count_one_by_one(samples: &[u16], maxval: u16) -> usize
     ensures count { result ≤ length samples.now }
     ensures below { All (λ v. v ≤ maxval) (take result samples.now) }
 {

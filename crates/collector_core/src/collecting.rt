@@ -4,8 +4,8 @@ ghost use Rattle.std.specs.Arc.{arc_value};
 ghost use Rattle.std.specs.Prelude.{◌≡◌, IfOk};
 
 use certificates::SeamResult;
-use offset_guess::Guess;
-use offset_network::solve_offsets_from;
+use offset_guess::{Guess, Plan};
+use offset_network::{Hint, solve_offsets_from};
 use seam_regions::Regions;
 use std::alloc::{AllocError, Global};
 use tile_board::Gathered;
@@ -21,18 +21,24 @@ pub fn collect(alloc: Global, gathered: &Gathered) -> Result<SeamResult, AllocEr
     collect_from(alloc, gathered, None)
 }
 
-/// Collects as `collect` does, over the regions of the gathered mask, which are given.
+/// Collects as `collect` does, over the regions of the gathered mask, which are given, and faster with a plan of a guess over
+/// these. A wrong plan costs time, and nothing else.
 pub fn collect_over(
     alloc: Global,
     gathered: &Gathered,
     regions: &Regions,
+    plan: Option<&Plan>,
 ) -> Result<SeamResult, AllocError>
     requires { AreRegionsOf (arc_value gathered.now.session).scene.tiling gathered.now.mask regions.now }
     ensures revision { IfOk result (λ seams. seams.revision ≡ gathered.now.revision) }
     ensures good { IfOk result (CertifyGathered gathered.now) }
     ensures publishable { IfOk result (WillPublish gathered.now) }
 {
-    collect_over_from(alloc, gathered, regions, None)
+    let hint = match plan {
+        Some(plan) => Hint::Plan(plan),
+        None => Hint::Nothing,
+    };
+    collect_over_from(alloc, gathered, regions, hint)
 }
 
 /// Collects as `collect` does, from a guess at offsets and flows, or from that of `offset_guess` if none is given. A wrong
@@ -47,15 +53,19 @@ pub fn collect_from(
     ensures publishable { IfOk result (WillPublish gathered.now) }
 {
     let regions = Regions::of(alloc, &gathered.session.scene.tiling, &gathered.mask)?;
-    collect_over_from(alloc, gathered, &regions, guess)
+    let hint = match guess {
+        Some(guess) => Hint::Guess(guess),
+        None => Hint::Nothing,
+    };
+    collect_over_from(alloc, gathered, &regions, hint)
 }
 
-/// Collects over given regions and from a guess, if one is given.
+/// Collects over given regions, with what is there for a guess.
 fn collect_over_from(
     alloc: Global,
     gathered: &Gathered,
     regions: &Regions,
-    guess: Option<Guess>,
+    hint: Hint<'_>,
 ) -> Result<SeamResult, AllocError>
     requires { AreRegionsOf (arc_value gathered.now.session).scene.tiling gathered.now.mask regions.now }
     ensures revision { IfOk result (λ seams. seams.revision ≡ gathered.now.revision) }
@@ -70,6 +80,6 @@ fn collect_over_from(
         regions,
         &gathered.tiles,
         gathered.revision,
-        guess,
+        hint,
     )
 }

@@ -30,27 +30,47 @@ pub fn guess_offsets(
     steep: u32,
     links: &[Option<Link>],
 ) -> Result<Guess, AllocError> {
-    let mut outcomes = solve(alloc, layout, steep, links)?;
-    // No list of the joints of links was kept while trees grew, since that is when most memory is taken.
-    let joint_of = trace_again(alloc, layout, links.len())?;
-    Ok(Guess {
-        offsets: offsets(alloc, regions, links, &joint_of, &outcomes)?,
-        flows: flows(alloc, links, &joint_of, &mut outcomes, steep)?,
-    })
+    let Plan {
+        joints,
+        joint_of,
+        order,
+    } = plan_offsets(alloc, layout)?;
+    let network = Network::of_joints(alloc, joints, &joint_of, links, steep)?;
+    // No list of the joints of links is kept while trees grow, since that is when most memory is taken.
+    drop(joint_of);
+    let outcomes = solve(alloc, network, &order)?;
+    let joint_of = trace_again(alloc, layout)?;
+    answer(alloc, regions, steep, links, &joint_of, outcomes)
 }
 
-/// What is known of the network before it has costs.
+/// Guesses as `guess_offsets` does, over a plan that was made before.
+pub fn guess_planned(
+    alloc: Global,
+    regions: u32,
+    steep: u32,
+    links: &[Option<Link>],
+    plan: &Plan,
+) -> Result<Guess, AllocError> {
+    let mut joints = Vec::with_capacity(alloc, plan.joints.len())?;
+    joints.extend_from_slice(&plan.joints)?;
+    let joint_of: &[u32] = &plan.joint_of;
+    let network = Network::of_joints(alloc, joints, joint_of, links, steep)?;
+    let outcomes = solve(alloc, network, &plan.order)?;
+    answer(alloc, regions, steep, links, joint_of, outcomes)
+}
+
+/// What of a guess depends on nothing but where regions lie: nodes, joints, and the order in which nodes are balanced.
 #[derive(Drop)]
-struct Plan {
+pub struct Plan {
     joints: Vec<Joint>,
     /// The joint of each link.
     joint_of: Vec<u32>,
     order: Order,
 }
 
-/// The plan of a raster with so many links.
-fn planned(alloc: Global, layout: Layout<'_>, links: usize) -> Result<Plan, AllocError> {
-    let (traced, joint_of) = trace(alloc, layout, links)?;
+/// The plan of a raster. It may be made before there are links, and serves for any.
+pub fn plan_offsets(alloc: Global, layout: Layout<'_>) -> Result<Plan, AllocError> {
+    let (traced, joint_of) = trace(alloc, layout)?;
     let Traced {
         mut spots,
         mut joints,
@@ -72,21 +92,25 @@ fn planned(alloc: Global, layout: Layout<'_>, links: usize) -> Result<Plan, Allo
     })
 }
 
-/// What came out for each joint.
-fn solve(
-    alloc: Global,
-    layout: Layout<'_>,
-    steep: u32,
-    links: &[Option<Link>],
-) -> Result<Vec<Outcome>, AllocError> {
-    let plan = planned(alloc, layout, links.len())?;
-    let Plan {
-        joints,
-        joint_of,
-        order,
-    } = plan;
-    let mut network = Network::new(alloc, order.nodes, joints, joint_of, links, steep)?;
-    network.balance(&order)?;
+/// What comes out for each joint.
+fn solve(alloc: Global, mut network: Network, order: &Order) -> Result<Vec<Outcome>, AllocError> {
+    network.add_nodes(alloc, order.nodes)?;
+    network.balance(order)?;
     let (nodes, joints) = network.parts();
     outcomes(alloc, &nodes, &joints)
+}
+
+/// The guess that comes out.
+fn answer(
+    alloc: Global,
+    regions: u32,
+    steep: u32,
+    links: &[Option<Link>],
+    joint_of: &[u32],
+    mut outcomes: Vec<Outcome>,
+) -> Result<Guess, AllocError> {
+    Ok(Guess {
+        offsets: offsets(alloc, regions, links, joint_of, &outcomes)?,
+        flows: flows(alloc, links, joint_of, &mut outcomes, steep)?,
+    })
 }

@@ -52,6 +52,14 @@ impl<'a> Layout<'a> {
         u16::try_from(self.tile(pixel)).unwrap_or(u16::MAX)
     }
 
+    /// How many seam edges there are, and so links.
+    pub(crate) fn links(&self) -> usize {
+        let down = self.tile(self.width.wrapping_sub(1)) as usize;
+        let level = self.tile(self.height.wrapping_sub(1)) as usize;
+        let right = down.wrapping_mul(self.height as usize);
+        right.wrapping_add(level.wrapping_mul(self.width as usize))
+    }
+
     /// Whether the next row of pixels lies in other tiles, or outside.
     pub(crate) fn ends_tiles(&self, y: u32) -> bool {
         let below = y.wrapping_add(1);

@@ -20,6 +20,6 @@ mod tracing;
 mod waiting;
 mod walking;
 
-pub use crate::guess::{Guess, guess_offsets};
+pub use crate::guess::{Guess, Plan, guess_offsets, guess_planned, plan_offsets};
 pub use crate::layout::Layout;
 pub use crate::link::Link;

@@ -70,13 +70,12 @@ pub(crate) fn number(place: usize) -> u32 {
 }
 
 impl Network {
-    /// The network of so many nodes and these joints, each at the rise at which its links cost least. `joint_of` names the
-    /// joint of each link, and is not kept.
-    pub(crate) fn new(
+    /// The network of these joints with the steps that their links make, still without nodes. `joint_of` names the joint of
+    /// each link.
+    pub(crate) fn of_joints(
         alloc: Global,
-        nodes: u32,
         joints: Vec<Joint>,
-        joint_of: Vec<u32>,
+        joint_of: &[u32],
         links: &[Option<Link>],
         steep: u32,
     ) -> Result<Network, AllocError> {
@@ -91,15 +90,20 @@ impl Network {
             turn: 0,
             looks: (u64::from(count) + 1) * LOOKS,
         };
-        network.make_steps(alloc, &joint_of, links, steep)?;
-        drop(joint_of);
-        network.nodes = vec![in alloc; NO_NODE; nodes as usize]?;
-        network.waiting.let_wait(alloc, count)?;
-        for joint in 0..count {
-            network.hang(joint);
-            network.start(joint);
-        }
+        network.make_steps(alloc, joint_of, links, steep)?;
         Ok(network)
+    }
+
+    /// Gives it so many nodes, and puts each joint at the rise at which its links cost least.
+    pub(crate) fn add_nodes(&mut self, alloc: Global, nodes: u32) -> Result<(), AllocError> {
+        let count = number(self.joints.len());
+        self.nodes = vec![in alloc; NO_NODE; nodes as usize]?;
+        self.waiting.let_wait(alloc, count)?;
+        for joint in 0..count {
+            self.hang(joint);
+            self.start(joint);
+        }
+        Ok(())
     }
 
     /// The nodes and joints, without what only their balance needed.

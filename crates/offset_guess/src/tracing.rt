@@ -34,21 +34,22 @@ struct Row<'a> {
     bottom: u16,
 }
 
-/// Finds the nodes and joints of a raster with so many links, and the joint of each link, or `NONE`.
-pub(crate) fn trace(
-    alloc: Global,
-    layout: Layout<'_>,
-    links: usize,
-) -> Result<(Traced, Vec<u32>), AllocError> {
+/// Finds the nodes and joints of a raster, and the joint of each link, or `NONE`.
+pub(crate) fn trace(alloc: Global, layout: Layout<'_>) -> Result<(Traced, Vec<u32>), AllocError> {
     let across = layout.tile(layout.width.wrapping_sub(1)) as usize + 1;
     let along = layout.tile(layout.height.wrapping_sub(1)) as usize + 1;
     let mut traced = Traced {
         spots: Spots::new(alloc)?,
-        joints: Vec::with_capacity(alloc, links.min(across.wrapping_mul(along).wrapping_mul(2)))?,
+        joints: Vec::with_capacity(
+            alloc,
+            layout
+                .links()
+                .min(across.wrapping_mul(along).wrapping_mul(2)),
+        )?,
         cells: vec![in alloc; OUTSIDE; (layout.width as usize + 1) * 2]?,
         columns: columns(alloc, layout)?,
     };
-    let joint_of = joints_of(alloc, layout, links, &mut traced)?;
+    let joint_of = joints_of(alloc, layout, &mut traced)?;
     Ok((traced, joint_of))
 }
 
@@ -61,13 +62,9 @@ fn columns(alloc: Global, layout: Layout<'_>) -> Result<Vec<u16>, AllocError> {
     Ok(columns)
 }
 
-/// The joint of each link of a raster that has so many, or `NONE`, found once more.
-pub(crate) fn trace_again(
-    alloc: Global,
-    layout: Layout<'_>,
-    links: usize,
-) -> Result<Vec<u32>, AllocError> {
-    joints_of(alloc, layout, links, &mut Nobody)
+/// The joint of each link of a raster, or `NONE`, found once more.
+pub(crate) fn trace_again(alloc: Global, layout: Layout<'_>) -> Result<Vec<u32>, AllocError> {
+    joints_of(alloc, layout, &mut Nobody)
 }
 
 /// A companion who needs to be told nothing.

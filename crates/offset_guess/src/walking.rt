@@ -36,17 +36,16 @@ struct Walk {
     ends_tiles: bool,
 }
 
-/// The joint of each link of a raster that has so many, or `NONE`.
+/// The joint of each link of a raster, or `NONE`.
 pub(crate) fn joints_of<C: Companion>(
     alloc: Global,
     layout: Layout<'_>,
-    links: usize,
     companion: &mut C,
 ) -> Result<Vec<u32>, AllocError> {
     let across = layout.tile(layout.width.wrapping_sub(1)) as usize + 1;
     let mut walk = Walk {
         joints: 0,
-        joint_of: Vec::with_capacity(alloc, links)?,
+        joint_of: Vec::with_capacity(alloc, layout.links())?,
         downward: vec![in alloc; NONE; across]?,
         ends_tiles: false,
     };

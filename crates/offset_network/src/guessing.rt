@@ -13,10 +13,20 @@ ghost use Rattle.std.specs.Prelude.{◌≡◌, ℕ, IfOk, IsTrue, length};
 use crate::fairness::are_fair_flows;
 use crate::surface::TileSurface;
 use certificates::SeamResult;
-use offset_guess::{Guess, Layout, Link, guess_offsets};
-use raster_model::first_open;
+use offset_guess::{Guess, Layout, Link, Plan, guess_offsets, guess_planned, plan_offsets};
+use raster_model::{Tiling, first_open};
 use seam_regions::{Regions, first_far};
 use std::alloc::{AllocError, Global};
+
+/// What is there before the links are found, to guess offsets faster.
+#[derive(Drop)]
+pub enum Hint<'a> {
+    Nothing,
+    /// What `plan_seams` made over the same regions.
+    Plan(&'a Plan),
+    /// Offsets and flows.
+    Guess(Guess),
+}
 
 /// What the check makes of a guess.
 #[derive(Drop)]
@@ -27,26 +37,39 @@ pub(crate) enum Judged {
     Dropped(Vec<i64>),
 }
 
+/// What a guess at the offsets of regions needs that depends on the regions alone, so that it can be made before the tiles are
+/// solved. It promises nothing.
+pub fn plan_seams(alloc: Global, tiling: &Tiling, regions: &Regions) -> Result<Plan, AllocError> {
+    plan_offsets(alloc, layout(tiling, regions))
+}
+
+/// Where the regions of a tiling's raster lie.
+fn layout<'a>(tiling: &Tiling, regions: &'a Regions) -> Layout<'a> {
+    Layout {
+        width: tiling.width,
+        height: tiling.height,
+        side: tiling.side,
+        labels: regions.labels(),
+    }
+}
+
 /// The guess that is given, or that of the fast solver.
 pub(crate) fn guess_or_solver(
     alloc: Global,
     surface: &TileSurface,
     regions: &Regions,
     links: &[Option<Link>],
-    guess: Option<Guess>,
+    hint: Hint<'_>,
 ) -> Result<Guess, AllocError> {
-    if let Some(guess) = guess {
-        return Ok(guess);
-    }
-    let tiling = &surface.scene.tiling;
-    let layout = Layout {
-        width: tiling.width,
-        height: tiling.height,
-        side: tiling.side,
-        labels: regions.labels(),
-    };
     let steep = surface.scene.terms.steep;
-    guess_offsets(alloc, layout, regions.count(), steep, links)
+    match hint {
+        Hint::Guess(guess) => Ok(guess),
+        Hint::Plan(plan) => guess_planned(alloc, regions.count(), steep, links, plan),
+        Hint::Nothing => {
+            let layout = layout(&surface.scene.tiling, regions);
+            guess_offsets(alloc, layout, regions.count(), steep, links)
+        }
+    }
 }
 
 /// Judges a guess, with its offsets lowered so that the surface meets the first open pixel. A guess promises nothing: all

@@ -14,4 +14,5 @@ mod solving;
 mod start;
 mod surface;
 
+pub use crate::guessing::{Hint, plan_seams};
 pub use crate::solving::{solve_offsets, solve_offsets_from};

@@ -10,7 +10,7 @@ ghost use Rattle.seam_regions.specs.Regions.{AreRegionsOf, region_label, shifted
 ghost use Rattle.std.specs.Prelude.{◌≡◌, IfOk};
 
 use crate::answer::{anchor, flows, lowered, sums_of_three};
-use crate::guessing::{Judged, guess_or_solver, judge};
+use crate::guessing::{Hint, Judged, guess_or_solver, judge};
 use crate::lanes::lanes;
 use crate::links::links;
 use crate::network::solved;
@@ -18,7 +18,6 @@ use crate::places::TilePlaces;
 use crate::start::Start;
 use crate::surface::TileSurface;
 use certificates::{SeamResult, TileSet};
-use offset_guess::Guess;
 use raster_model::{Mask, Scene};
 use seam_regions::Regions;
 use std::alloc::{AllocError, Global};
@@ -41,11 +40,11 @@ pub fn solve_offsets(
     ensures revision { IfOk result (λ solved. solved.revision ≡ revision) }
     ensures good { IfOk result (IsGoodSeams scene.now mask.now regions.now tiles.now) }
 {
-    solve_offsets_from(alloc, scene, mask, regions, tiles, revision, None)
+    solve_offsets_from(alloc, scene, mask, regions, tiles, revision, Hint::Nothing)
 }
 
 /// Finds offsets as `solve_offsets` does, from a guess at them and at their flows, or from that of `offset_guess` if none is
-/// given. The offsets of a guess are lowered together so that the surface meets the first open pixel. A guess that then
+/// given; this takes less time with a plan that was made before. The offsets of a guess are lowered together so that the surface meets the first open pixel. A guess that then
 /// certifies itself is taken. From the offsets of any other the network starts, if there is one for each region and they and
 /// the departures with them are in range, and else from nothing: so a guess can cost time, and nothing else. (McConnell,
 /// Mehlhorn, Naeher and Schweitzer 2011.)
@@ -56,7 +55,7 @@ pub fn solve_offsets_from(
     regions: &Regions,
     tiles: &TileSet,
     revision: u32,
-    guess: Option<Guess>,
+    hint: Hint<'_>,
 ) -> Result<SeamResult, AllocError>
     requires same_size { (mask.now.width ≡ scene.now.phase.width) × (mask.now.height ≡ scene.now.phase.height) }
     requires regions { AreRegionsOf scene.now.tiling mask.now regions.now }
@@ -72,7 +71,7 @@ pub fn solve_offsets_from(
         places: &places,
     };
     let links = links(alloc, &surface, regions)?;
-    let guess = guess_or_solver(alloc, &surface, regions, &links, guess)?;
+    let guess = guess_or_solver(alloc, &surface, regions, &links, hint)?;
     match judge(alloc, &surface, regions, &links, guess, revision)? {
         Judged::Certified(solved) => Ok(solved),
         Judged::Dropped(offsets) => {

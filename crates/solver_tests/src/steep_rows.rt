@@ -8,7 +8,7 @@ ghost use Rattle.std.specs.Prelude.{◌≡◌, ◌<◌};
 use crate::reading::{field, numbers};
 use certificates::{SeamResult, TileResult, TileSet, TileVerdict, check_tile};
 use offset_guess::Guess;
-use offset_network::solve_offsets_from;
+use offset_network::{Hint, solve_offsets_from};
 use raster_model::{Mask, Scene, Terms, Tiling};
 use seam_regions::Regions;
 use std::alloc::Global;
@@ -93,7 +93,11 @@ fn seams(rt: &impl Abort, alloc: Global, steep: u32, guess: Option<Guess>) -> Se
     let mask = masked(alloc, &tiling, &[1; 12]).expect(rt, "a mask");
     let tiles = tiles(rt, alloc, &scene, &mask);
     let regions = Regions::of(alloc, &scene.tiling, &mask).expect(rt, "memory");
-    solve_offsets_from(alloc, &scene, &mask, &regions, &tiles, 7, guess).expect(rt, "memory")
+    let hint = match guess {
+        Some(guess) => Hint::Guess(guess),
+        None => Hint::Nothing,
+    };
+    solve_offsets_from(alloc, &scene, &mask, &regions, &tiles, 7, hint).expect(rt, "memory")
 }
 
 /// Rows of a steepness, a guess at offsets and flows, or neither, and how the answer begins. By hand: with offsets 0 0 the

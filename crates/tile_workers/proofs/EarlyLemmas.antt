@@ -83,7 +83,7 @@ agrees s p (Some early) g has had = λ same. (
 
 -- what was found are regions, packed or not
 pub found_regions : (g : Tiling) (m : MaskView) (f : FoundRegions) → AreFoundOf g m f → AreRegionsOf g m (regions_found f)
-found_regions g m (Packed packed) are = are.regions
+found_regions g m (Packed packed plan) are = are.regions
 found_regions g m (Plain regions) are = are
 
 -- it has the regions of what is gathered

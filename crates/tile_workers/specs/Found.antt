@@ -8,10 +8,10 @@ use Rattle.tile_workers.specs.declared.early.FoundRegions.{FoundRegions}
 use Rattle.tile_workers.specs.declared.early.FoundRegions.TheVariants.{Packed, Plain}
 
 abbrev pub regions_found : FoundRegions → RegionsView
-regions_found (Packed packed) = packed.regions
+regions_found (Packed packed plan) = packed.regions
 regions_found (Plain regions) = regions
 
 -- they are the regions of a mask in a tiling
 abbrev pub AreFoundOf : Tiling → MaskView → FoundRegions → Type 0
-AreFoundOf g mask (Packed packed) = ArePackedRegionsOf g mask packed
+AreFoundOf g mask (Packed packed plan) = ArePackedRegionsOf g mask packed
 AreFoundOf g mask (Plain regions) = AreRegionsOf g mask regions

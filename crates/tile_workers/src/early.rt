@@ -4,20 +4,22 @@ ghost use Rattle.seam_regions.specs.Regions.{AreRegionsOf};
 ghost use Rattle.surface_snapshots.specs.Packed.{ArePackedRegionsOf};
 ghost use Rattle.tile_workers.specs.Found.{AreFoundOf, regions_found};
 
+use offset_guess::Plan;
+use offset_network::plan_seams;
 use raster_model::{Mask, Tiling};
 use seam_regions::Regions;
 use std::alloc::{AllocError, Global};
 use surface_snapshots::PackedRegions;
 use tile_board::PresentMask;
 
-/// The least side of tiles whose regions are packed before offsets are found: the runs of smaller ones take memory that is
-/// needed then.
+/// The least side of tiles whose regions are packed, and whose offsets are planned, before the offsets are found: the runs and
+/// plans of smaller ones take memory that is needed then.
 const PACKED_SIDE: u32 = 8;
 
-/// The regions of a mask, which may be packed.
+/// The regions of a mask, which may be packed, with a plan of the guess at their offsets.
 #[derive(Drop)]
 pub(crate) enum FoundRegions {
-    Packed(PackedRegions),
+    Packed(PackedRegions, Plan),
     Plain(Regions),
 }
 
@@ -43,8 +45,9 @@ impl FoundRegions {
         if tiling.side < PACKED_SIDE {
             return Ok(FoundRegions::Plain(regions));
         }
+        let plan = plan_seams(alloc, tiling, &regions)?;
         let packed = PackedRegions::of(alloc, tiling, regions)?;
-        Ok(FoundRegions::Packed(packed))
+        Ok(FoundRegions::Packed(packed, plan))
     }
 
     /// The regions, pixel by pixel.
@@ -52,8 +55,16 @@ impl FoundRegions {
         ensures { result.now ≡ regions_found self.now }
     {
         match self {
-            FoundRegions::Packed(packed) => &packed.regions,
+            FoundRegions::Packed(packed, _) => &packed.regions,
             FoundRegions::Plain(regions) => regions,
+        }
+    }
+
+    /// The plan of the guess at their offsets, if there is one.
+    pub(crate) fn plan(&self) -> Option<&Plan> {
+        match self {
+            FoundRegions::Packed(_, plan) => Some(plan),
+            FoundRegions::Plain(_) => None,
         }
     }
 
@@ -64,7 +75,7 @@ impl FoundRegions {
         ensures { IfOk result (λ made. (mask : MaskView) → AreFoundOf tiling.now mask self → ArePackedRegionsOf tiling.now mask made) }
     {
         match self {
-            FoundRegions::Packed(packed) => Ok(packed),
+            FoundRegions::Packed(packed, _) => Ok(packed),
             FoundRegions::Plain(regions) => PackedRegions::of(alloc, tiling, regions),
         }
     }

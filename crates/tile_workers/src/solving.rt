@@ -16,7 +16,7 @@ const MOST_AT_ONCE: u32 = 64;
 
 /// Into how many parts for each worker the tiles that lack a result are divided. A worker claims one part at once, so the
 /// shares shrink towards the end, and no worker is left with many tiles while the others have none.
-const PARTS_A_WORKER: u32 = 4;
+const PARTS_A_WORKER: u32 = 2;
 
 /// A worker of a settle command.
 #[derive(Drop)]

@@ -8,8 +8,8 @@ use crate::blocks::{ROWS, strip_costs};
 use crate::counting::{Costs, NO_COSTS};
 use crate::shifted::ShiftedTiles;
 use raster_model::{Mask, Plane};
+use side_by_side::for_each;
 use std::alloc::{AllocError, Global};
-use std::thread;
 use std::thread::Threads;
 
 /// How many pixels are worth a thread.
@@ -92,10 +92,8 @@ fn count<R: Threads + Sync>(
     ensures { AreCounted surface.now 0 surface.now.scene.now.phase.height result }
 {
     let threads = strips.len();
-    thread::for_each_mut(
+    for_each(
         rt,
-        strips,
-        threads,
         &|place: usize, strip: &mut Strip|
             requires mask { mask.now ≡ mask_under surface.now }
             requires rows { rows ≤ surface.now.scene.now.phase.height }
@@ -107,6 +105,7 @@ fn count<R: Threads + Sync>(
             let end = (first + rows).min(surface.scene.phase.height);
             strip.costs = strip_costs(surface, mask, first, end, &mut strip.cycles);
         },
+        strips,
     );
     let mut costs = NO_COSTS;
     for place in 0..threads {

@@ -13,14 +13,14 @@ begin_first d = (let w = d.within in omega (arith, w))
 pub begin_more : (d : Deal) (place : ℕ) → begin_of d place ≤ begin_of d (place + 1)
 begin_more d place = omega arith
 
-pub begin_within : (d : Deal) (place : ℕ) → begin_of d place ≤ d.count
+pub begin_within : (d : Deal) (place : ℕ) → begin_of d place ≤ d.until
 begin_within d place = omega arith
 
 pub begin_after : (d : Deal) (place : ℕ) → d.start ≤ begin_of d place
 begin_after d place = (let w = d.within in omega (arith, w))
 
 -- a round goes on
-pub begin_goes : (d : Deal) (pages : ℕ) → 0 < d.share → 0 < pages → d.start < d.count → d.start < begin_of d pages
+pub begin_goes : (d : Deal) (pages : ℕ) → 0 < d.share → 0 < pages → d.start < d.until → d.start < begin_of d pages
 begin_goes d pages s p l = (let some = mul-add-lt 0 pages 0 d.share s p in omega (arith, some, l))
 
 -- what a page has that is read at its place

@@ -1,16 +1,16 @@
 -- Which passages each page has, and what is known of a page that was filled.
-use Rattle.std.specs.Prelude.{◌≡◌, ℕ, ◌+◌, ◌-◌, ◌*◌, ◌<◌, ◌≤◌, min, true, List, Some, slice_get, take}
+use Rattle.std.specs.Prelude.{◌≡◌, ℕ, ◌+◌, ◌-◌, ◌*◌, ◌<◌, ◌≤◌, min, true, List, Some, slice_get}
 use Rattle.text_pages.specs.Passages.{texts_from}
 use Rattle.text_pages.specs.declared.deal.Deal.{Deal}
 use Rattle.text_pages.specs.declared.page.Page.{Page}
 
 -- the bytes on a page
 abbrev pub written_on : Page → List ℕ
-written_on page = take page.end page.bytes.items
+written_on page = page.bytes.items
 
 -- where the passages of a page begin; those of the page before end there
 abbrev pub begin_of : Deal → ℕ → ℕ
-begin_of d place = min (d.start + d.share * place) d.count
+begin_of d place = min (d.start + d.share * place) d.until
 
 -- the passages from a to before b, if the page says that it has them whole; and what is known of each of them
 pub record HasPassages (words : ℕ → List ℕ) (known : ℕ → Type 0) (a b : ℕ) (page : Page) : Type 0 where

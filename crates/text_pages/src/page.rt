@@ -1,4 +1,4 @@
-ghost use Rattle.std.specs.Prelude.{◌≡◌, ◌≤◌, ◌<◌, ◌-◌, ℕ, vec_len};
+ghost use Rattle.std.specs.Prelude.{◌≡◌, ◌≤◌, ◌<◌, ◌-◌, ℕ};
 ghost use Rattle.text_lines.specs.Adding.{Puts};
 ghost use Rattle.text_pages.specs.Passages.{texts_from};
 
@@ -7,14 +7,12 @@ use insar_ports::{Failed, Sink, WriteFault};
 use std::alloc::{AllocError, Global};
 use text_lines::TextWriter;
 
-/// A buffer of fixed size for a part of a text. It says whether it has the whole part.
+/// A buffer for a part of a text, of a size that was taken before. It says whether it has the whole part.
 #[derive(Drop)]
 pub(crate) struct Page {
     bytes: Vec<u8>,
-    end: usize,
     faults: u64,
     pub(crate) whole: bool,
-    ghost within: { end ≤ vec_len bytes },
 }
 
 impl Sink for Page {
@@ -27,13 +25,11 @@ impl Sink for Page {
 
     /// Takes a piece for which there is room, and fails at any other.
     fn put(&mut self, piece: &[u8]) -> Result<usize, Failed> {
-        if piece.len() > self.bytes.len() - self.end {
+        let room = self.bytes.capacity() - self.bytes.len();
+        if piece.len() > room || self.bytes.extend_from_slice(piece).is_err() {
             self.faults = self.faults.saturating_add(1);
             return Err(Failed);
         }
-        let end = self.end + piece.len();
-        self.bytes[self.end..end].copy_from_slice(piece);
-        self.end = end;
         Ok(piece.len())
     }
 }
@@ -44,10 +40,8 @@ impl Page {
 
     /// An empty page for so many bytes.
     pub(crate) fn new(alloc: Global, room: u32) -> Result<Page, AllocError> {
-        let bytes = vec![in alloc; 0; room as usize]?;
         Ok(Page {
-            bytes,
-            end: 0,
+            bytes: Vec::with_capacity(alloc, room as usize)?,
             faults: 0,
             whole: false,
         })
@@ -57,7 +51,7 @@ impl Page {
     pub(crate) fn written(&self) -> &[u8]
         ensures { result.now ≡ written_on self.now }
     {
-        &self.bytes[..self.end]
+        &self.bytes
     }
 
     /// Writes the passages from `from` to before `end` on it, in place of what stood there.
@@ -66,7 +60,7 @@ impl Page {
         requires within { end ≤ P.passages passages.now }
         ensures { HasPassages (P.words passages.now) (P.known passages.now) from end self.new }
     {
-        self.end = 0;
+        self.bytes.clear();
         self.whole = write(passages, self, from, end).is_ok();
     }
 }

@@ -1,5 +1,4 @@
 ghost use Rattle.std.specs.Prelude.{◌≡◌, ◌+◌, ◌-◌, ◌≤◌, ◌<◌, ℕ, length};
-ghost use Rattle.std.specs.Thread.{IsSync};
 ghost use Rattle.text_lines.specs.Adding.{Adds};
 ghost use Rattle.text_lines.specs.Text.{texts_below};
 ghost use Rattle.text_lines.specs.Views.{view_of};
@@ -10,17 +9,17 @@ use crate::deal::Deal;
 use crate::page::Page;
 use crate::passages::Passages;
 use insar_ports::Sink;
+use side_by_side::{for_each, for_each_after};
 use std::alloc::{AllocError, Global};
-use std::thread;
 use std::thread::Threads;
 use text_lines::TextWriter;
 
-/// The least and the most bytes of a page: 4 KiB and 1 MiB.
+/// The least and the most bytes of a page: 4 KiB and 2 MiB.
 const LEAST_ROOM: u32 = 1 << 12;
 
-const MOST_ROOM: u32 = 1 << 20;
+const MOST_ROOM: u32 = 1 << 21;
 
-/// Pages on which threads make the passages of a text, each on its own: while some are filled, the others leave.
+/// Pages on which threads make the passages of a text, each on its own: while those of one list are filled, the others leave.
 #[derive(Drop)]
 pub struct Pages {
     pages: Vec<Page>,
@@ -31,7 +30,7 @@ pub struct Pages {
 
 impl Pages {
     /// Two pages for each of so many threads, and none for one thread: of an eighth of `bytes` each, which is about what the text
-    /// has, but of 4 KiB at least and of 1 MiB at most. It fails only for lack of memory.
+    /// has, but of 4 KiB at least and of 2 MiB at most. It fails only for lack of memory.
     pub fn new(alloc: Global, threads: u32, bytes: u32) -> Result<Pages, AllocError> {
         let room = (bytes / 8).clamp(LEAST_ROOM, MOST_ROOM);
         Ok(Pages {
@@ -61,8 +60,9 @@ pub fn add_all<K: Sink, P: Passages>(text: &mut TextWriter<K>, passages: &P)
     passages.add(text, 0, passages.count());
 }
 
-/// Adds all passages, in their order. If there are pages, a thread for each makes a share of the passages on it, while the
-/// caller's thread adds what the others have, in order, until all have left. It takes no memory.
+/// Adds all passages, in their order. If there are pages, a thread for each page but the last of a list makes a share of the
+/// passages on it, while the caller's thread adds what the pages of the other list have, in order, and then makes the share of
+/// the last page, until all have left. It takes no memory.
 pub fn add_side_by_side<R: Threads + Sync, K: Sink, P: Passages + Sync>(
     rt: &R,
     pages: &mut Pages,
@@ -102,42 +102,39 @@ fn add_rounds<R: Threads + Sync, K: Sink, P: Passages + Sync>(
 {
     let count = passages.count();
     let safe = (room / passages.longest().max(1)).max(1);
-    let mut deal = Deal {
-        start: 0,
-        share: safe.min(even_share(count, pages.len())),
-        count,
-    };
+    let share = safe.min(even_share(count, pages.len()));
+    let mut deal = Deal::of(0, share, pages.len(), count);
     fill_pages(rt, pages, passages, deal);
     while deal.start < count {
-        let next = next_deal(pages, room, deal, safe);
+        let next = next_deal(pages, room, deal, safe, count);
         add_and_fill(rt, pages, others, text, passages, deal, next);
-        deal = next_deal(others, room, next, safe);
+        deal = next_deal(others, room, next, safe, count);
         add_and_fill(rt, others, pages, text, passages, next, deal);
     }
 }
 
 /// What is dealt out after pages that are filled: as many to each as there is room for, but no more than an even share.
-fn next_deal(pages: &[Page], room: u32, deal: Deal, safe: u32) -> Deal
-    requires { 0 < deal.share }
+fn next_deal(pages: &[Page], room: u32, deal: Deal, safe: u32, count: u32) -> Deal
+    requires share { 0 < deal.share }
+    requires until { deal.until ≤ count }
     ensures start { result.start ≡ begin_of deal (length pages.now) }
-    ensures count { result.count ≡ deal.count }
     ensures share { 0 < result.share }
+    ensures until { result.until ≤ count }
+    ensures some { result.start < count → result.start < result.until }
 {
     let start = deal.begin(pages.len());
-    let share = next_share(pages, room, deal.share, safe);
-    Deal {
-        start,
-        share: share.min(even_share(deal.count - start, pages.len())),
-        count: deal.count,
-    }
+    let most = next_share(pages, room, deal.share, safe);
+    let share = most.min(even_share(count - start, pages.len()));
+    Deal::of(start, share, pages.len(), count)
 }
 
-/// The share of each page if all that are left are dealt out to the pages at once.
+/// The share of each page if all that are left are dealt out to the pages at once, half of it to the last page.
 fn even_share(left: u32, pages: usize) -> u32
     ensures { 0 < result }
 {
-    let pages = u32::try_from(pages).unwrap_or(u32::MAX);
-    left.div_ceil(pages.max(1)).max(1)
+    let halves = u64::from(u32::try_from(pages).unwrap_or(u32::MAX)) * 2;
+    let share = (u64::from(left) * 2).div_ceil(halves.max(2) - 1);
+    u32::try_from(share).unwrap_or(u32::MAX).max(1)
 }
 
 /// How many passages each page has in the next round: as many as fill seven eighths of it if they are as long as those of the
@@ -158,7 +155,7 @@ fn next_share(pages: &[Page], room: u32, share: u32, safe: u32) -> u32
     u32::try_from(next).unwrap_or(safe).max(1)
 }
 
-/// Adds what pages have, and has other pages filled as they are dealt out meanwhile.
+/// Adds what pages have, and has other pages filled as they are dealt out meanwhile, the last of them by the caller's thread.
 fn add_and_fill<R: Threads + Sync, K: Sink, P: Passages + Sync>(
     rt: &R,
     pages: &[Page],
@@ -168,24 +165,26 @@ fn add_and_fill<R: Threads + Sync, K: Sink, P: Passages + Sync>(
     deal: Deal,
     next: Deal,
 )
-    requires some { 0 < length others.old }
-    requires counts { (deal.count ≡ P.passages passages.now) × (next.count ≡ P.passages passages.now) }
+    requires until { (deal.until ≤ P.passages passages.now) × (next.until ≤ P.passages passages.now) }
     requires dealt { AreDealt (P.words passages.now) (P.known passages.now) deal pages.now }
     ensures same { length others.new ≡ length others.old }
     ensures filled { AreDealt (P.words passages.now) (P.known passages.now) next others.new }
     ensures added { Adds (view_of K.held K.faults text.old) (view_of K.held K.faults text.new) (texts_from (P.words passages.now) deal.start (begin_of deal (length pages.now) - deal.start)) }
     ensures known { (i : ℕ) → deal.start ≤ i → i < begin_of deal (length pages.now) → P.known passages.now i }
 {
-    thread::join_mut(
+    for_each_after(
         rt,
+        &|place: usize, page: &mut Page|
+            requires { next.until ≤ P.passages passages.now }
+            ensures { HasPassages (P.words passages.entry.now) (P.known passages.entry.now) (begin_of next place) (begin_of next (place + 1)) page.exit.now }
+        {
+            page.fill(passages, next.begin(place), next.end(place));
+        },
         &mut ||
-            requires { IsSync R.row × IsSync P.row × (0 < length others.now) × (next.count ≡ P.passages passages.now) }
-            ensures { (length others.exit.now ≡ length others.entry.now) × AreDealt (P.words passages.entry.now) (P.known passages.entry.now) next others.exit.now }
-        { fill_pages(rt, others, passages, next) },
-        &mut ||
-            requires { (deal.count ≡ P.passages passages.now) × AreDealt (P.words passages.now) (P.known passages.now) deal pages.now }
+            requires { (deal.until ≤ P.passages passages.now) × AreDealt (P.words passages.now) (P.known passages.now) deal pages.now }
             ensures { Adds (view_of K.held K.faults text.entry.now) (view_of K.held K.faults text.exit.now) (texts_from (P.words passages.entry.now) deal.start (begin_of deal (length pages.entry.now) - deal.start)) × ((i : ℕ) → deal.start ≤ i → i < begin_of deal (length pages.entry.now) → P.known passages.entry.now i) }
         { add_pages(pages, text, passages, deal) },
+        others,
     );
 }
 
@@ -196,22 +195,19 @@ fn fill_pages<R: Threads + Sync, P: Passages + Sync>(
     passages: &P,
     deal: Deal,
 )
-    requires some { 0 < length pages.old }
-    requires count { deal.count ≡ P.passages passages.now }
+    requires until { deal.until ≤ P.passages passages.now }
     ensures same { length pages.new ≡ length pages.old }
     ensures filled { AreDealt (P.words passages.now) (P.known passages.now) deal pages.new }
 {
-    let threads = pages.len();
-    thread::for_each_mut(
+    for_each(
         rt,
-        pages,
-        threads,
         &|place: usize, page: &mut Page|
-            requires { deal.count ≡ P.passages passages.now }
+            requires { deal.until ≤ P.passages passages.now }
             ensures { HasPassages (P.words passages.entry.now) (P.known passages.entry.now) (begin_of deal place) (begin_of deal (place + 1)) page.exit.now }
         {
             page.fill(passages, deal.begin(place), deal.end(place));
         },
+        pages,
     );
 }
 
@@ -222,7 +218,7 @@ fn add_pages<K: Sink, P: Passages>(
     passages: &P,
     deal: Deal,
 )
-    requires count { deal.count ≡ P.passages passages.now }
+    requires until { deal.until ≤ P.passages passages.now }
     requires dealt { AreDealt (P.words passages.now) (P.known passages.now) deal pages.now }
     ensures added { Adds (view_of K.held K.faults text.old) (view_of K.held K.faults text.new) (texts_from (P.words passages.now) deal.start (begin_of deal (length pages.now) - deal.start)) }
     ensures known { (i : ℕ) → deal.start ≤ i → i < begin_of deal (length pages.now) → P.known passages.now i }

@@ -14,16 +14,13 @@ use crate::gate::Gate;
 use crate::solving::Worker;
 use board_desk::{Desk, Pass};
 use collector_core::collect_over;
-use raster_model::MAX_WORKERS;
+use side_by_side::for_each;
 use std::alloc::{AllocError, Global};
 use std::sync::Wait;
 use std::thread;
 use std::thread::Threads;
 use surface_snapshots::Snapshot;
 use tile_board::{Advance, AdvanceFault, GatherFault, Gathered, PresentMask, PublishFault};
-
-/// The most workers that run at once.
-const MOST_WORKERS: usize = MAX_WORKERS as usize;
 
 /// Does the next command of a pass's analyst, which is to settle, and returns the revision that is published. Workers solve
 /// the tiles, each in a thread of its own; if `workers` is 0, one does. It fails only for lack of memory, and then some of
@@ -146,16 +143,15 @@ fn solve_tiles<R: Threads + Wait + Sync, G: Gate>(
     ensures { HasSeenMore pass.old pass.new }
 {
     let mut workers = hire(rt, alloc, desk, pass, workers)?;
-    thread::for_each_mut(
+    for_each(
         rt,
-        &mut workers,
-        MOST_WORKERS,
         &|_, worker: &mut Worker|
             requires { IsPassOf desk.now worker.old.pass }
             ensures { HasSeenMore worker.entry.now.pass worker.exit.now.pass }
         {
             worker.work(rt, alloc, desk, gate);
         },
+        &mut workers,
     );
     dismiss(rt, desk, pass, workers)
 }

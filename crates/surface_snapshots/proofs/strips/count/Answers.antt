@@ -8,8 +8,8 @@ use Rattle.surface_snapshots.proofs.CostLemmas.{no_rows}
 use Rattle.surface_snapshots.proofs.StripLemmas.{strip_begins, strips_end, strips_fit, strips_more}
 use Rattle.surface_snapshots.proofs.strips.count.Goals as goal
 
-pub for_each_mut-requires-clause-accepts : goal.for_each_mut-requires-clause-accepts
-for_each_mut-requires-clause-accepts g c κs within place p below is =
+pub for_each-requires-clause-accepts : goal.for_each-requires-clause-accepts
+for_each-requires-clause-accepts g c κs within place p below is =
     let s = c.args.surface.now in
     let h = s.scene.now.phase.height in
     let w = s.scene.now.phase.width in
@@ -29,7 +29,7 @@ plus-costs-requires-clause-tiles g c =
     let rows = c.args.rows in
     let place = c.loop-place.place in
     let begins = strip_begins h rows place c.requires.rows.0 (rw c.requires.strips at c.loop-place-test.true) in
-    let found = (c.for_each_mut.ensures place c.index-strips-place.result c.loop-place-test.true).1 in
+    let found = (c.for_each.ensures place c.index-strips-place.result c.loop-place-test.true).1 in
     let told : AreCounted s (place * rows) (min ((place + 1) * rows) h) found.after_call.now.costs = found.call in
     let left = subst (λ (t : Strip). AreCounted s (place * rows) (min ((place + 1) * rows) h) t.costs) found.left told in
     (strips_fit s rows place c.loop-place.costs _ begins c.loop-place.invariant left).0
@@ -41,7 +41,7 @@ plus-costs-requires-clause-seams g c =
     let rows = c.args.rows in
     let place = c.loop-place.place in
     let begins = strip_begins h rows place c.requires.rows.0 (rw c.requires.strips at c.loop-place-test.true) in
-    let found = (c.for_each_mut.ensures place c.index-strips-place.result c.loop-place-test.true).1 in
+    let found = (c.for_each.ensures place c.index-strips-place.result c.loop-place-test.true).1 in
     let told : AreCounted s (place * rows) (min ((place + 1) * rows) h) found.after_call.now.costs = found.call in
     let left = subst (λ (t : Strip). AreCounted s (place * rows) (min ((place + 1) * rows) h) t.costs) found.left told in
     (strips_fit s rows place c.loop-place.costs _ begins c.loop-place.invariant left).1
@@ -53,7 +53,7 @@ loop-place-preserved g c =
     let rows = c.args.rows in
     let place = c.loop-place.place in
     let begins = strip_begins h rows place c.requires.rows.0 (rw c.requires.strips at c.loop-place-test.true) in
-    let found = (c.for_each_mut.ensures place c.index-strips-place.result c.loop-place-test.true).1 in
+    let found = (c.for_each.ensures place c.index-strips-place.result c.loop-place-test.true).1 in
     let told : AreCounted s (place * rows) (min ((place + 1) * rows) h) found.after_call.now.costs = found.call in
     let left = subst (λ (t : Strip). AreCounted s (place * rows) (min ((place + 1) * rows) h) t.costs) found.left told in
     strips_more s rows place c.loop-place.costs _ begins c.loop-place.invariant left c.plus-costs.result c.plus-costs.ensures.tiles c.plus-costs.ensures.seams

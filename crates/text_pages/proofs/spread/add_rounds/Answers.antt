@@ -1,33 +1,33 @@
-use Rattle.std.proofs.Common.{◌∙◌, ◌≤◌, ◌<◌, length, arith, refl}
-use Rattle.text_pages.proofs.DealLemmas.{begin_after, begin_goes}
+use Rattle.std.proofs.Common.{◌≤◌, ◌<◌, length, arith}
+use Rattle.text_pages.proofs.DealLemmas.{begin_after, begin_goes, begin_within}
 use Rattle.text_pages.proofs.TextsFrom.{adds_joined, adds_none, known_joined}
 use Rattle.text_pages.proofs.spread.add_rounds.Goals as goal
 
 pub loop-deal-init : goal.loop-deal-init
 loop-deal-init g c = record {
-  count = refl;
-  share = omega (arith, c.min.ensures, c.max-safe.ensures, c.even_share.ensures);
+  until = c.of-deal.ensures.until;
+  left = λ l. omega (arith, c.of-deal.ensures.start, c.of-deal.ensures.some (omega (arith, c.of-deal.ensures.start, l)));
+  share = omega (arith, c.of-deal.ensures.share, c.min-share.ensures, c.max-safe.ensures, c.even_share.ensures);
   some = (omega (arith, c.fill_pages.ensures.same, c.requires.some), c.requires.some.1);
   dealt = c.fill_pages.ensures.filled;
-  added = adds_none _ (g.P.Passages.words c.args.passages.now) 0 0 refl;
-  known = λ i lt. absurd (omega (arith, lt));
+  added = adds_none _ (g.P.Passages.words c.args.passages.now) 0 c.of-deal.result.start c.of-deal.ensures.start;
+  known = λ i lt. absurd (omega (arith, lt, c.of-deal.ensures.start));
 }
 
-pub next_deal-next-requires : goal.next_deal-next-requires
-next_deal-next-requires g c = c.loop-deal.invariant.share
+pub next_deal-next-requires-clause-until : goal.next_deal-next-requires-clause-until
+next_deal-next-requires-clause-until g c = (let w = begin_within c.loop-deal.deal (length c.loop-deal.pages) in omega (arith, w, c.loop-deal.invariant.until))
 
-pub add_and_fill-requires-clause-counts : goal.add_and_fill-requires-clause-counts
-add_and_fill-requires-clause-counts g c κs within =
-    let counted = c.loop-deal.invariant.count ∙ c.count-count.ensures in
-    (counted, c.next_deal-next.ensures.count ∙ counted)
+pub add_and_fill-requires-clause-until : goal.add_and_fill-requires-clause-until
+add_and_fill-requires-clause-until g c κs within = (omega (arith, c.loop-deal.invariant.until, c.count-count.ensures), omega (arith, c.next_deal-next.ensures.until, c.count-count.ensures))
 
 pub add_and_fill-requires-clause-dealt : goal.add_and_fill-requires-clause-dealt
 add_and_fill-requires-clause-dealt g c κs within = c.loop-deal.invariant.dealt
 
-pub add_and_fill-requires-in-loop-deal-clause-counts : goal.add_and_fill-requires-in-loop-deal-clause-counts
-add_and_fill-requires-in-loop-deal-clause-counts g c κs within =
-    let counted = c.next_deal-next.ensures.count ∙ c.loop-deal.invariant.count ∙ c.count-count.ensures in
-    (counted, c.next_deal-deal.ensures.count ∙ counted)
+pub next_deal-deal-requires-clause-until : goal.next_deal-deal-requires-clause-until
+next_deal-deal-requires-clause-until g c = (let w = begin_within c.next_deal-next.result (length c.add_and_fill.new.others) in omega (arith, w, c.next_deal-next.ensures.until))
+
+pub add_and_fill-requires-in-loop-deal-clause-until : goal.add_and_fill-requires-in-loop-deal-clause-until
+add_and_fill-requires-in-loop-deal-clause-until g c κs within = (omega (arith, c.next_deal-next.ensures.until, c.count-count.ensures), omega (arith, c.next_deal-deal.ensures.until, c.count-count.ensures))
 
 pub loop-deal-smaller : goal.loop-deal-smaller
 loop-deal-smaller g c =
@@ -35,7 +35,7 @@ loop-deal-smaller g c =
     let inv = c.loop-deal.invariant in
     let next = c.next_deal-next in
     let last = c.next_deal-deal in
-    let before : d.start < d.count = omega (arith, inv.count, c.loop-deal-test.true) in
+    let before : d.start < d.until = inv.left c.loop-deal-test.true in
     let onward : d.start < next.result.start = omega (arith, next.ensures.start, begin_goes d (length c.loop-deal.pages) inv.share inv.some.0 before) in
     let later : next.result.start ≤ last.result.start = omega (arith, last.ensures.start, begin_after next.result (length c.add_and_fill.new.others)) in
     omega (arith, onward, later, c.loop-deal-test.true)
@@ -57,7 +57,8 @@ loop-deal-preserved g c =
     let told = rw (← next.ensures.start) at first.known in
     let told_too = rw (← last.ensures.start) at second.known in
     record {
-      count = last.ensures.count ∙ next.ensures.count ∙ inv.count;
+      until = last.ensures.until;
+      left = last.ensures.some;
       share = last.ensures.share;
       some = (omega (arith, second.same, inv.some), omega (arith, first.same, inv.some));
       dealt = second.filled;

@@ -1,4 +1,4 @@
-use Rattle.std.proofs.Common.{◌≡◌, ℕ, ◌-◌, ◌<◌, length}
+use Rattle.std.proofs.Common.{ℕ, ◌-◌, ◌<◌, ◌≤◌, length}
 use Rattle.text_lines.specs.Adding.{Adds}
 use Rattle.text_lines.specs.Views.{view_of}
 use Rattle.text_pages.specs.Dealing.{AreDealt}
@@ -7,7 +7,8 @@ use Rattle.text_pages.proofs.spread.add_rounds.Given as goal
 
 abbrev pub invariant-loop-deal : goal.invariant-loop-deal
 invariant-loop-deal g l = record {
-  count : l.deal.count ≡ l.count;
+  until : l.deal.until ≤ l.count;
+  left : l.deal.start < l.count → l.deal.start < l.deal.until;
   share : 0 < l.deal.share;
   some : (0 < length l.pages) × (0 < length l.others);
   dealt : AreDealt (g.P.Passages.words l.passages) (g.P.Passages.known l.passages) l.deal l.pages;

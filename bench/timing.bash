@@ -23,18 +23,22 @@ best() {
   echo "$least"
 }
 
-# alternately ONE OTHER: the least time of each of two commands, run in turn as often as by `best`, so that what else the machine does
-# comes over both. ONE and OTHER name arrays of an input, an output and a command.
-alternately() {
-  local -n one=$1 other=$2
-  local runs=${RUNS:-5} RUNS=1 run took least= least_other=
+# in_turn NAME..: the least time of each of some commands, run in turn as often as by `best`, so that what else the machine does comes
+# over all. Each NAME names an array of an input, an output and a command.
+in_turn() {
+  local runs=${RUNS:-5} RUNS=1 run name took longest=0
+  local -A least=()
   for ((run = 1; run <= runs; ++run)); do
-    took=$(best "${one[@]}") || return 1
-    if [ -z "$least" ] || [ "$took" -lt "$least" ]; then least=$took; fi
-    took=$(best "${other[@]}") || return 1
-    if [ -z "$least_other" ] || [ "$took" -lt "$least_other" ]; then least_other=$took; fi
+    for name in "$@"; do
+      local -n command=$name
+      took=$(best "${command[@]}") || return 1
+      if [ "$run" -eq 1 ] || [ "$took" -lt "${least[$name]}" ]; then least[$name]=$took; fi
+      if [ "$took" -gt "$longest" ]; then longest=$took; fi
+    done
+    if [ "$run" -ge 2 ] && [ "$longest" -gt 200000 ]; then break; fi
   done
-  echo "$least $least_other"
+  for name in "$@"; do printf '%s ' "${least[$name]}"; done
+  echo
 }
 
 # held OUTPUT: the most memory that its run held at once, in KiB.

@@ -34,7 +34,7 @@ pub fn run_grid<R: Threads + Wait + Sync, S: Source, K: Sink, G: Gate>(
     ensures { IsRequestEnd (requests.Grid settings) (run_of S.left S.faults source.old source.new K.held K.faults sink.old sink.new) result }
 {
     let board = solved(rt, alloc, settings, source, gate)?;
-    let mut pages = pages_for(alloc, board.session(), settings.workers)?;
+    let mut pages = pages_for(rt, alloc, board.session(), settings.workers)?;
     end_of(write_last_grid(rt, &mut pages, &board, sink), 0)
 }
 

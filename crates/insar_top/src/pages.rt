@@ -1,13 +1,30 @@
 use raster_model::Session;
 use std::alloc::{AllocError, Global};
+use std::thread;
+use std::thread::Threads;
 use text_pages::Pages;
 
 /// About how many bytes a grid has for each pixel.
 const BYTES_OF_PIXEL: u32 = 8;
 
-/// Pages for the surfaces of a session, two for each worker, or none for one alone.
-pub fn pages_for(alloc: Global, session: &Session, workers: u32) -> Result<Pages, AllocError> {
+/// Pages for the surfaces of a session, two for each worker, though not for more workers than there are processors; none for
+/// one alone.
+pub fn pages_for<R: Threads>(
+    rt: &R,
+    alloc: Global,
+    session: &Session,
+    workers: u32,
+) -> Result<Pages, AllocError> {
     let phase = &session.scene.phase;
     let pixels = phase.width.saturating_mul(phase.height);
-    Pages::new(alloc, workers, pixels.saturating_mul(BYTES_OF_PIXEL))
+    let threads = workers.min(processors(rt));
+    Pages::new(alloc, threads, pixels.saturating_mul(BYTES_OF_PIXEL))
+}
+
+/// How many processors there are for this program; more than can be counted if the system does not tell.
+fn processors<R: Threads>(rt: &R) -> u32 {
+    match thread::available_parallelism(rt) {
+        Ok(count) => u32::try_from(count.get()).unwrap_or(u32::MAX),
+        Err(_) => u32::MAX,
+    }
 }

@@ -27,6 +27,6 @@ pub fn run_unwrap<R: Threads + Wait + Sync, S: Source, K: Sink, G: Gate>(
     ensures { IsRequestEnd (requests.Unwrap settings) (run_of S.left S.faults source.old source.new K.held K.faults sink.old sink.new) result }
 {
     let board = solved(rt, alloc, settings, source, gate)?;
-    let pages = pages_for(alloc, board.session(), settings.workers)?;
+    let pages = pages_for(rt, alloc, board.session(), settings.workers)?;
     end_of(write_report_side_by_side(rt, pages, &board, sink), 0)
 }

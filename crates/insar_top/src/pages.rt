@@ -1,6 +1,6 @@
 use raster_model::Session;
+use side_by_side::processors;
 use std::alloc::{AllocError, Global};
-use std::thread;
 use std::thread::Threads;
 use text_pages::Pages;
 
@@ -19,12 +19,4 @@ pub fn pages_for<R: Threads>(
     let pixels = phase.width.saturating_mul(phase.height);
     let threads = workers.min(processors(rt));
     Pages::new(alloc, threads, pixels.saturating_mul(BYTES_OF_PIXEL))
-}
-
-/// How many processors there are for this program; more than can be counted if the system does not tell.
-fn processors<R: Threads>(rt: &R) -> u32 {
-    match thread::available_parallelism(rt) {
-        Ok(count) => u32::try_from(count.get()).unwrap_or(u32::MAX),
-        Err(_) => u32::MAX,
-    }
 }

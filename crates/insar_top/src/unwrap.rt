@@ -15,7 +15,8 @@ use std::thread::Threads;
 use tile_workers::Gate;
 
 /// Reads a session, runs its scripts as the words set it, writes the report, and answers the status 0. As many threads as
-/// there are workers make the lines of surfaces, on pages that are there before the first line is written.
+/// there are workers, though no more than there are processors, make the lines of surfaces, on pages that are there before the
+/// first line is written.
 pub fn run_unwrap<R: Threads + Wait + Sync, S: Source, K: Sink, G: Gate>(
     rt: &R,
     alloc: Global,

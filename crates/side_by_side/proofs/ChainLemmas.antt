@@ -36,9 +36,6 @@ all_done {X = X} R a all front back new_front new_back is one first rest =
     let done : AreDone R a (o.0 ∷ back) (n.0 ∷ new_back) = record { len = omega (arith, rest_len); each = both_done R a o.0 n.0 back new_back start rest } in
     rw is (rw (o.1, n.1) done)
 
-pub none_done : {X : Type 0} (R : ℕ → X → X → Type 0) (a : ℕ) (all : List X) → length all ≡ 0 → AreDone R a all all
-none_done R a all none = record { len = refl; each = λ k d l. absurd (omega (arith, l, none)) }
-
 -- what is left of the only item
 pub one_done : {X : Type 0} (R : ℕ → X → X → Type 0) (a : ℕ) (xs : List X) (y d : X) → length xs ≡ 1 → R a (get_or xs 0 d) y → AreDone R a xs (set xs 0 y)
 one_done R a [] y d one call = absurd (omega (arith, one))

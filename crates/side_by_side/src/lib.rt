@@ -6,7 +6,15 @@ ghost use Rattle.std.specs.Fork.{AcceptsAt, AcceptsEach, ChangesAt, ChangesEach}
 ghost use Rattle.std.specs.Prelude.{◌≡◌, ◌+◌, length};
 ghost use Rattle.std.specs.Thread.{IsSend, IsSync};
 
-use std::thread::{Threads, join_mut};
+use std::thread::{Threads, available_parallelism, join_mut};
+
+/// How many threads can run at once for this program; more than can be counted if the system does not tell.
+pub fn processors<R: Threads>(rt: &R) -> u32 {
+    match available_parallelism(rt) {
+        Ok(count) => u32::try_from(count.get()).unwrap_or(u32::MAX),
+        Err(_) => u32::MAX,
+    }
+}
 
 /// Calls `f(place, &mut items[place])` at each place, all side by side: the caller's thread starts a thread for each item but
 /// the last, and calls `f` at the last one itself. It starts them one after another, since systems spread threads that start

@@ -8,7 +8,7 @@ use crate::blocks::{ROWS, strip_costs};
 use crate::counting::{Costs, NO_COSTS};
 use crate::shifted::ShiftedTiles;
 use raster_model::{Mask, Plane};
-use side_by_side::for_each;
+use side_by_side::{for_each, processors};
 use std::alloc::{AllocError, Global};
 use std::thread::Threads;
 
@@ -30,8 +30,8 @@ impl Costs {
     ghost use Rattle.surface_snapshots.specs.Parts.{tile_costs};
     ghost use Rattle.surface_snapshots.specs.Shifted.{cycles_under, raster_under};
 
-    /// The costs of a surface of shifted tiles over their mask. At most `threads` threads, and at least one, count them side
-    /// by side, each those of a strip of rows. It fails only for lack of memory.
+    /// The costs of a surface of shifted tiles over their mask. At most `threads` threads, no more than there are processors,
+    /// and at least one, count them side by side, each those of a strip of rows. It fails only for lack of memory.
     pub(crate) fn side_by_side<R: Threads + Sync>(
         rt: &R,
         threads: u32,
@@ -44,7 +44,7 @@ impl Costs {
         ensures seams { IfOk result (λ costs. pos costs.seams ≡ seam_cost_of (raster_under surface.now) (open_at mask.now) (lifted (raster_under surface.now) (cycles_under surface.now))) }
     {
         let phase = &surface.scene.phase;
-        let rows = strip_rows(phase, threads);
+        let rows = strip_rows(phase, threads.min(processors(rt)));
         let mut strips = strips(alloc, phase.height.div_ceil(rows), rows, phase.width)?;
         Ok(count(rt, &mut strips, surface, mask, rows))
     }

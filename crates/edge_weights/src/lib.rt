@@ -6,5 +6,5 @@ mod kinds;
 mod numbers;
 mod rule;
 
-pub use kinds::weigh;
+pub use kinds::{weigh, weigh_side_by_side};
 pub use rule::WeightRule;

@@ -37,7 +37,11 @@ pub(crate) fn weigh_by<R: EndRule>(
 }
 
 /// The weights of the right edges, in row order of first pixels.
-fn right<R: EndRule>(alloc: Global, rule: &R, weights: &Plane) -> Result<Vec<u16>, AllocError>
+pub(crate) fn right<R: EndRule>(
+    alloc: Global,
+    rule: &R,
+    weights: &Plane,
+) -> Result<Vec<u16>, AllocError>
     requires { weights.now.maxval ≡ R.maxval rule.now }
     ensures { IfOk result (λ list. AreRightWeights (R.kind rule.now) weights.now ((weights.now.width - 1) * weights.now.height) list.items) }
 {
@@ -55,7 +59,11 @@ fn right<R: EndRule>(alloc: Global, rule: &R, weights: &Plane) -> Result<Vec<u16
 }
 
 /// The weights of the down edges, in row order of first pixels.
-fn down<R: EndRule>(alloc: Global, rule: &R, weights: &Plane) -> Result<Vec<u16>, AllocError>
+pub(crate) fn down<R: EndRule>(
+    alloc: Global,
+    rule: &R,
+    weights: &Plane,
+) -> Result<Vec<u16>, AllocError>
     requires { weights.now.maxval ≡ R.maxval rule.now }
     ensures { IfOk result (λ list. AreDownWeights (R.kind rule.now) weights.now (weights.now.width * (weights.now.height - 1)) list.items) }
 {

@@ -15,10 +15,12 @@ use raster_model::{Mask, Plane, RuleKind, Session};
 use refusal_lines::Refusal;
 use session_script::write_session;
 use std::alloc::{AllocError, Global};
+use std::thread::Threads;
 
 /// Reads a session, screens its first mask as the words set it, writes the session with the mask that this makes, and answers
 /// the status 0.
-pub fn run_screen<S: Source, K: Sink>(
+pub fn run_screen<R: Threads + Sync, S: Source, K: Sink>(
+    rt: &R,
     alloc: Global,
     screening: Screening,
     source: &mut S,
@@ -26,7 +28,7 @@ pub fn run_screen<S: Source, K: Sink>(
 ) -> Result<u8, Refusal>
     ensures { IsRequestEnd (requests.Screen screening) (run_of S.left S.faults source.old source.new K.held K.faults sink.old sink.new) result }
 {
-    let session = read_alone(alloc, source, screening.side, RuleKind::Least)?;
+    let session = read_alone(rt, 1, alloc, source, screening.side, RuleKind::Least)?;
     let screened = screen_session(alloc, terms_of(screening), session)?;
     end_of(write_session(&screened, sink), 0)
 }

@@ -13,7 +13,7 @@ use insar_ports::{Feed, Source};
 use insar_words::Settings;
 use raster_model::{MAX_SESSION_BYTES, RuleKind, Session};
 use refusal_lines::Refusal;
-use session_script::{SessionUse, read_session};
+use session_script::{SessionUse, read_session_side_by_side};
 use std::alloc::Global;
 use std::sync::Wait;
 use std::thread::Threads;
@@ -32,13 +32,14 @@ pub fn solved<R: Threads + Wait + Sync, S: Source, G: Gate>(
     ensures complete { IfOk result (λ board. IsComplete board.session board.entries) }
     ensures refused { IfErr result (HasReadCause (BreaksAlone settings.side) (S.left source.old) (S.faults source.old) (S.faults source.new)) }
 {
-    let session = read_given(alloc, source, settings)?;
+    let session = read_given(rt, alloc, source, settings)?;
     let board = finished(rt, alloc, session, settings.workers, gate)?;
     Ok(board)
 }
 
 /// Reads the session that a source gives, after which it ends, on the settings.
-pub fn read_given<S: Source>(
+pub fn read_given<R: Threads + Sync, S: Source>(
+    rt: &R,
     alloc: Global,
     source: &mut S,
     settings: Settings,
@@ -46,12 +47,16 @@ pub fn read_given<S: Source>(
     ensures given { IfOk result (λ session. ReadsAll (S.left source.old) (S.left source.new) (λ bytes. IsGiven (options_of settings) bytes session)) }
     ensures refused { IfErr result (HasReadCause (BreaksAlone settings.side) (S.left source.old) (S.faults source.old) (S.faults source.new)) }
 {
-    let plain = read_alone(alloc, source, settings.side, settings.rule)?;
+    let Settings { side, rule, .. } = settings;
+    let plain = read_alone(rt, settings.workers, alloc, source, side, rule)?;
     Ok(plain.with_terms(settings.terms))
 }
 
-/// Reads the session that a source gives, after which it ends: in tiles of this side, by this rule and on the plain terms.
-pub fn read_alone<S: Source>(
+/// Reads the session that a source gives, after which it ends: in tiles of this side, by this rule and on the plain terms. If
+/// `threads` is 2 or more, more threads help.
+pub fn read_alone<R: Threads + Sync, S: Source>(
+    rt: &R,
+    threads: u32,
     alloc: Global,
     source: &mut S,
     side: u32,
@@ -63,11 +68,13 @@ pub fn read_alone<S: Source>(
     ensures refused { IfErr result (HasReadCause (BreaksAlone side) (S.left source.old) (S.faults source.old) (S.faults source.new)) }
 {
     let mut feed = Feed::new(alloc, source, MAX_SESSION_BYTES)?;
-    read_fed(alloc, &mut feed, side, rule)
+    read_fed(rt, threads, alloc, &mut feed, side, rule)
 }
 
 /// Reads the session that a feed gives from its start.
-fn read_fed<S: Source>(
+fn read_fed<R: Threads + Sync, S: Source>(
+    rt: &R,
+    threads: u32,
     alloc: Global,
     feed: &mut Feed<S>,
     side: u32,
@@ -81,6 +88,7 @@ fn read_fed<S: Source>(
     ensures spelled { IfOk result (λ session. ReadsAll (left_of S.left feed.old) (S.left (source_of feed.new)) (λ bytes. IsInput side bytes (session_of session))) }
     ensures refused { IfErr result (HasReadCause (BreaksAlone side) (left_of S.left feed.old) (faults_of S.faults feed.old) (faults_of S.faults feed.new)) }
 {
-    let session = read_session(alloc, feed, SessionUse::Alone, side, rule)?;
+    let use_as = SessionUse::Alone;
+    let session = read_session_side_by_side(rt, threads, alloc, feed, use_as, side, rule)?;
     Ok(session)
 }

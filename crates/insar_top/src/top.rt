@@ -186,7 +186,7 @@ fn do_request<R: Threads + Wait + Sync, S: Source, K: Sink, G: Gate>(
         Request::Grid(settings) => run_grid(rt, alloc, settings, source, sink, gate),
         Request::Check(settings) => run_check(alloc, settings, source, sink),
         Request::Trial(trial) => run_trial(rt, alloc, trial, sink, gate),
-        Request::Screen(screening) => run_screen(alloc, screening, source, sink),
+        Request::Screen(screening) => run_screen(rt, alloc, screening, source, sink),
         Request::Closure => run_closure(alloc, source, sink),
         Request::Displacement(displacing) => run_displacement(alloc, displacing, source, sink),
         Request::Whole(settings) => run_whole(rt, alloc, settings, source, sink),

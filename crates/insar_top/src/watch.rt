@@ -33,7 +33,7 @@ pub fn run_watch<R: Threads + Wait + Sync, S: Source, K: Sink, G: Gate>(
 ) -> Result<u8, Refusal>
     ensures { IsRequestEnd (requests.Watch watching) (run_of S.left S.faults source.old source.new K.held K.faults sink.old sink.new) result }
 {
-    let session = read_given(alloc, source, watching.settings)?;
+    let session = read_given(rt, alloc, source, watching.settings)?;
     let (published, watchers) = watch_session(rt, alloc, session, watching, gate)?;
     end_of(put_lines(sink, &published, &watchers), 0)
 }

@@ -24,7 +24,7 @@ pub fn run_whole<R: Threads + Wait + Sync, S: Source, K: Sink>(
 ) -> Result<u8, Refusal>
     ensures { IsRequestEnd (requests.Whole settings) (run_of S.left S.faults source.old source.new K.held K.faults sink.old sink.new) result }
 {
-    let session = read_given(alloc, source, settings)?;
+    let session = read_given(rt, alloc, source, settings)?;
     let scene = &session.scene;
     let mask = &session.first_mask;
     let solved = solve_whole(rt, alloc, scene, mask, settings.workers)?;

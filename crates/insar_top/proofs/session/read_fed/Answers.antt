@@ -7,4 +7,4 @@ use Rattle.insar_top.proofs.session.read_fed.Goals as goal
 
 pub returns-clause-spelled : goal.returns-clause-spelled
 returns-clause-spelled g c =
-    read_whole (call_of g.S.Source.left g.S.Source.faults c.args.feed.now c.read_session.new.feed) (pending_of c.read_session.new.feed) (g.S.Source.left c.read_session.new.feed.source.now) c.args.side (session_of c.in_ok-session.session) refl c.in_ok-session.ensures.read
+    read_whole (call_of g.S.Source.left g.S.Source.faults c.args.feed.now c.read_session_side_by_side.new.feed) (pending_of c.read_session_side_by_side.new.feed) (g.S.Source.left c.read_session_side_by_side.new.feed.source.now) c.args.side (session_of c.in_ok-session.session) refl c.in_ok-session.ensures.read

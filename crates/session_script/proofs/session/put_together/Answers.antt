@@ -2,7 +2,7 @@ use Rattle.std.proofs.Common.{◌∙◌, ◌≤◌, length, arith}
 use Rattle.raster_model.specs.Scripts.{is_settle, is_change, CommandsFit}
 use Rattle.session_script.proofs.WithinLemmas.{length_is}
 use Rattle.session_script.proofs.AskSession.{each_script, same_counts}
-use Rattle.session_script.proofs.session.made_of.Goals as goal
+use Rattle.session_script.proofs.session.put_together.Goals as goal
 
 pub invariant_of-result : goal.invariant_of-result
 invariant_of-result c =
@@ -10,7 +10,7 @@ invariant_of-result c =
     let scripts = c.args.parts.scripts in
     let within = c.requires.complete.1 in
     record {
-      same_size = (c.in_ok-first_mask.ensures.width ∙ p.same_width.1, c.in_ok-first_mask.ensures.height ∙ p.same_height.1);
+      same_size = (c.requires.mask.width ∙ p.same_width.1, c.requires.mask.height ∙ p.same_height.1);
       analysts = (omega (arith, c.requires.complete.0, length_is scripts.items, scripts.ok.0), omega (arith, within.analysts, length_is scripts.items, scripts.ok.0));
       short = λ k s e. (let short = each_script (λ commands. length commands ≤ 4096) scripts.items within.short k s e in omega (arith, short, s.commands.ok.0));
       settles = rw (same_counts is_settle scripts.items, ← c.requires.sized.0, ← c.requires.sized.1) within.settles;

@@ -5,9 +5,10 @@ ghost use Rattle.std.specs.Prelude.{◌≡◌, IfOk};
 
 use certificates::SeamResult;
 use offset_guess::{Guess, Plan};
-use offset_network::{Hint, solve_offsets_from};
+use offset_network::{Hint, solve_offsets_from, solve_offsets_side_by_side};
 use seam_regions::Regions;
 use std::alloc::{AllocError, Global};
+use std::thread::Threads;
 use tile_board::Gathered;
 
 /// Offsets of the regions of a gathered mask and the flows that certify them, for the gathered revision. Published with
@@ -22,8 +23,11 @@ pub fn collect(alloc: Global, gathered: &Gathered) -> Result<SeamResult, AllocEr
 }
 
 /// Collects as `collect` does, over the regions of the gathered mask, which are given, and faster with a plan of a guess over
-/// these. A wrong plan costs time, and nothing else.
-pub fn collect_over(
+/// these. A wrong plan costs time, and nothing else. At most `threads` threads, no more than there are processors, list the
+/// links of the seam edges side by side.
+pub fn collect_over<R: Threads + Sync>(
+    rt: &R,
+    threads: u32,
     alloc: Global,
     gathered: &Gathered,
     regions: &Regions,
@@ -38,7 +42,18 @@ pub fn collect_over(
         Some(plan) => Hint::Plan(plan),
         None => Hint::Nothing,
     };
-    collect_over_from(alloc, gathered, regions, hint)
+    let (scene, mask) = (&gathered.session.scene, &gathered.mask);
+    solve_offsets_side_by_side(
+        rt,
+        threads,
+        alloc,
+        scene,
+        mask,
+        regions,
+        &gathered.tiles,
+        gathered.revision,
+        hint,
+    )
 }
 
 /// Collects as `collect` does, from a guess at offsets and flows, or from that of `offset_guess` if none is given. A wrong

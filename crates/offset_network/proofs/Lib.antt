@@ -6,6 +6,7 @@ pub mod StartLemmas
 pub mod FlowLemmas
 pub mod BlockLemmas
 pub mod PlaceLemmas
+pub mod StripLemmas
 pub mod MovedLemmas
 pub mod AnswerLemmas
 pub mod CostLemmas

@@ -12,7 +12,8 @@ use Rattle.raster_model.specs.MaskView.{MaskView}
 use Rattle.raster_model.specs.Masks.{open_at}
 use Rattle.raster_model.specs.Sums.{Field, at_edge_start, at_edge_end, end_x, end_y, down_edge, right_edge}
 use Rattle.raster_model.specs.Raster.{Raster, cycle_departure, is_seam, masked_weight}
-use Rattle.raster_model.specs.Flows.{is_seam_edge, seam_place, seams_from}
+use Rattle.raster_model.specs.Flows.{is_seam_edge, seams_before, seams_from}
+use Rattle.raster_model.proofs.FlowLemmas.{place-down, place-right}
 use Rattle.raster_model.specs.Seams.{IsLabelling, IsOpenPixel}
 use Rattle.certificates.specs.EdgeWords.{HoldsBefore}
 use Rattle.certificates.specs.SeamVerdicts.{IsSeamEdge}
@@ -21,7 +22,7 @@ use Rattle.seam_regions.specs.Regions.{AreRegionsOf, region_label, region_at}
 use Rattle.seam_regions.specs.RegionsView.{RegionsView}
 use Rattle.offset_guess.specs.declared.link.Link.{Link}
 use Rattle.offset_network.specs.Links.{IsLink, IsLinkIn, link_at}
-use Rattle.offset_network.specs.Seams.{AddsLink, AddsLinksFrom, IsPlaced, JoinRegions, link_of}
+use Rattle.offset_network.specs.Seams.{AddsLink, AddsLinksFrom, IsPlacedFrom, IsPlacedSince, JoinRegions, link_of}
 use Rattle.sums_and_lists.proofs.Tests.{one_at_most}
 use Rattle.std.proofs.lemmas.Bool.{and_from}
 use Rattle.sums_and_lists.proofs.Orders.{below_at_past}
@@ -94,15 +95,15 @@ join_none n i = no_link n
 
 module _ (r : Raster) (mask : Field Bool) (labels : Field ℕ) (n : ℕ) (cycles : Field ℤ) where
   -- one link more
-  pub adds_link : (e : Edge) (old : List (Option Link)) (o : Option Link) → is_seam_edge r e ≡ true → length old ≡ seam_place r e → o ≡ link_of r mask labels cycles e → IsLinkIn n o → AddsLink r mask labels n cycles e old (old ++ o ∷ [])
-  adds_link e old o seam place is fits =
+  pub adds_link : (e : Edge) (old : List (Option Link)) (o : Option Link) → is_seam_edge r e ≡ true → o ≡ link_of r mask labels cycles e → IsLinkIn n o → AddsLink r mask labels n cycles e old (old ++ o ∷ [])
+  adds_link e old o seam is fits =
       let size : length (old ++ o ∷ []) ≡ length old + 1 = length-append old (o ∷ []) in
       let last : link_at (old ++ o ∷ []) (length old) ≡ o = get_or-append_seam old o [] None in
       let kept = λ (i : ℕ) (l : i < length old). get_or_append_left old (o ∷ []) None i l in
       record {
         count = (let one : one_if (is_seam_edge r e) ≡ 1 = rw seam refl in omega (arith, size, one));
         kept = kept;
-        placed = λ s. record { below = omega (arith, size, place); link = ap (link_at (old ++ o ∷ [])) (sym place) ∙ last ∙ is };
+        placed = λ start at s. record { behind = length old; place = sym at; below = omega (arith, size); link = last ∙ is };
         join = λ j i. elim (below_at_past i (length old)) [
           | inl l ↦ subst (IsLinkIn n) (sym (kept i l)) (j i)
           | inr (inl l) ↦ subst (IsLinkIn n) (sym (ap (link_at (old ++ o ∷ [])) l ∙ last)) fits
@@ -110,25 +111,26 @@ module _ (r : Raster) (mask : Field Bool) (labels : Field ℕ) (n : ℕ) (cycles
         ];
       }
 
-  placed_kept : (e : Edge) (old new : List (Option Link)) → length old ≤ length new → ((i : ℕ) → i < length old → link_at new i ≡ link_at old i) → IsPlaced r mask labels cycles old e → IsPlaced r mask labels cycles new e
-  placed_kept e old new l kept p = record { below = omega (arith, l, p.below); link = kept (seam_place r e) p.below ∙ p.link }
+  placed_kept : (start : ℕ) (e : Edge) (old new : List (Option Link)) → length old ≤ length new → ((i : ℕ) → i < length old → link_at new i ≡ link_at old i) → IsPlacedFrom r mask labels cycles start old e → IsPlacedFrom r mask labels cycles start new e
+  placed_kept start e old new l kept p = record { behind = p.behind; place = p.place; below = omega (arith, l, p.below); link = kept p.behind p.below ∙ p.link }
 
   -- those of a pixel's right edge and of its down edge
   pub adds_both : (x y : ℕ) (old mid new : List (Option Link)) → AddsLink r mask labels n cycles (right_edge x y) old mid → AddsLink r mask labels n cycles (down_edge x y) mid new → AddsLinksFrom r mask labels n cycles x y old new
   adds_both x y old mid new p q = record {
     count = omega (arith, p.count, q.count);
     kept = λ i l. q.kept i (omega (arith, l, p.count)) ∙ p.kept i l;
-    placed = both_hold (IsSeamEdge r) (IsPlaced r mask labels cycles new) x y
-        (λ s. placed_kept (right_edge x y) mid new (omega (arith, q.count)) q.kept (p.placed s))
-        (λ s. q.placed s);
+    placed = λ start at. both_hold (IsSeamEdge r) (IsPlacedFrom r mask labels cycles start new) x y
+        (λ s. placed_kept start (right_edge x y) mid new (omega (arith, q.count)) q.kept (p.placed start (at ∙ sym (place-right r x y)) s))
+        (λ s. q.placed start (omega (arith, at, p.count, place-down r x y)) s);
     join = λ j. q.join (p.join j);
   }
 
-  -- and all those before a pixel
-  pub still_placed : (x y : ℕ) (old new : List (Option Link)) → AddsLinksFrom r mask labels n cycles x y old new → HoldsBefore (IsSeamEdge r) (IsPlaced r mask labels cycles old) x y → HoldsBefore (IsSeamEdge r) (IsPlaced r mask labels cycles new) (x + 1) y
-  still_placed x y old new p before =
-      one_more (IsSeamEdge r) (IsPlaced r mask labels cycles new) x y
-      (λ e s b. placed_kept e old new (omega (arith, p.count)) p.kept (before e s b)) p.placed
+  -- and all those of the rows from a on that come before a pixel
+  pub still_placed : (a x y : ℕ) (old new : List (Option Link)) → seams_before r 0 a + length old ≡ seams_before r x y → AddsLinksFrom r mask labels n cycles x y old new → HoldsBefore (IsSeamEdge r) (IsPlacedSince r mask labels cycles a old) x y → HoldsBefore (IsSeamEdge r) (IsPlacedSince r mask labels cycles a new) (x + 1) y
+  still_placed a x y old new at p before =
+      one_more (IsSeamEdge r) (IsPlacedSince r mask labels cycles a new) x y
+      (λ e s b from. placed_kept (seams_before r 0 a) e old new (omega (arith, p.count)) p.kept (before e s b from))
+      (λ e s ex ey from. p.placed (seams_before r 0 a) at e s ex ey)
 
 -- a seam edge starts at a pixel of the raster
 pub in_raster : (r : Raster) (e : Edge) → IsSeamEdge r e → (0 ≤ e.x) × (e.x < r.width) × (0 ≤ e.y) × (e.y < r.height)

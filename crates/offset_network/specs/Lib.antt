@@ -3,6 +3,7 @@ pub mod Lanes
 pub mod Networks
 pub mod Surfaces
 pub mod Seams
+pub mod Strips
 pub mod Places
 pub mod Starts
 pub mod Guesses

@@ -1,9 +1,9 @@
 -- The links of a raster's seam edges. No public clause cites this file.
-use Rattle.std.specs.Prelude.{◌≡◌, ℕ, ◌+◌, ◌<◌, ℤ, Bool, IsTrue, Option, Some, None, List, length, if◌then◌else◌}
+use Rattle.std.specs.Prelude.{◌≡◌, ℕ, ◌+◌, ◌<◌, ◌≤◌, ℤ, Bool, IsTrue, Option, Some, None, List, length, if◌then◌else◌}
 use Rattle.raster_model.specs.declared.edge.Edge.{Edge}
 use Rattle.raster_model.specs.Sums.{Field, at_edge_start, at_edge_end}
 use Rattle.raster_model.specs.Raster.{Raster, cycle_departure, has_open_ends}
-use Rattle.raster_model.specs.Flows.{is_seam_edge, seam_count, seam_place, seams_from}
+use Rattle.raster_model.specs.Flows.{is_seam_edge, seam_count, seam_place, seams_before, seams_from}
 use Rattle.certificates.specs.EdgeWords.{HoldsFrom}
 use Rattle.certificates.specs.SeamVerdicts.{IsSeamEdge}
 use Rattle.offset_guess.specs.declared.link.Link.{Link}
@@ -19,23 +19,39 @@ pub record IsPlaced (r : Raster) (mask : Field Bool) (labels : Field ℕ) (cycle
   pub below : seam_place r e < length links
   pub link : link_at links (seam_place r e) ≡ link_of r mask labels cycles e
 
+-- the same of a list that begins at a place
+pub record IsPlacedFrom (r : Raster) (mask : Field Bool) (labels : Field ℕ) (cycles : Field ℤ) (start : ℕ) (links : List (Option Link)) (e : Edge) : Type 0 where
+  pub behind : ℕ
+  pub place : seam_place r e ≡ start + behind
+  pub below : behind < length links
+  pub link : link_at links behind ≡ link_of r mask labels cycles e
+
+-- the list, which begins with the links of row a, has the edge's link if the edge starts in this row or after it
+abbrev pub IsPlacedSince : Raster → Field Bool → Field ℕ → Field ℤ → ℕ → List (Option Link) → Edge → Type 0
+IsPlacedSince r mask labels cycles a links e = a ≤ e.y → IsPlacedFrom r mask labels cycles (seams_before r 0 a) links e
+
 -- each link joins two of n regions
 abbrev pub JoinRegions : ℕ → List (Option Link) → Type 0
 JoinRegions n links = (i : ℕ) → IsLinkIn n (link_at links i)
 
--- the new list is the old one with the link of an edge added, if it is a seam edge
+-- the new list is the old one with the link of an edge added, if it is a seam edge; so it is placed wherever the list begins
 pub record AddsLink (r : Raster) (mask : Field Bool) (labels : Field ℕ) (n : ℕ) (cycles : Field ℤ) (e : Edge) (old new : List (Option Link)) : Type 0 where
   pub count : length new ≡ length old + one_if (is_seam_edge r e)
   pub kept : (i : ℕ) → i < length old → link_at new i ≡ link_at old i
-  pub placed : IsTrue (is_seam_edge r e) → IsPlaced r mask labels cycles new e
+  pub placed : (start : ℕ) → start + length old ≡ seam_place r e → IsTrue (is_seam_edge r e) → IsPlacedFrom r mask labels cycles start new e
   pub join : JoinRegions n old → JoinRegions n new
 
 -- the new list is the old one with the links of the edges that start at a pixel added
 pub record AddsLinksFrom (r : Raster) (mask : Field Bool) (labels : Field ℕ) (n : ℕ) (cycles : Field ℤ) (x y : ℕ) (old new : List (Option Link)) : Type 0 where
   pub count : length new ≡ length old + seams_from r x y
   pub kept : (i : ℕ) → i < length old → link_at new i ≡ link_at old i
-  pub placed : HoldsFrom (IsSeamEdge r) (IsPlaced r mask labels cycles new) x y
+  pub placed : (start : ℕ) → start + length old ≡ seams_before r x y → HoldsFrom (IsSeamEdge r) (IsPlacedFrom r mask labels cycles start new) x y
   pub join : JoinRegions n old → JoinRegions n new
+
+-- the list has a link for each seam edge that starts in the rows from a to before b, in edge order
+pub record AreStripLinks (r : Raster) (mask : Field Bool) (labels : Field ℕ) (cycles : Field ℤ) (a b : ℕ) (links : List (Option Link)) : Type 0 where
+  pub count : seams_before r 0 a + length links ≡ seams_before r 0 b
+  pub each : (e : Edge) → IsTrue (is_seam_edge r e) → a ≤ e.y → e.y < b → IsPlacedFrom r mask labels cycles (seams_before r 0 a) links e
 
 -- the list has a link for each seam edge, in edge order
 pub record AreSeamLinks (r : Raster) (mask : Field Bool) (labels : Field ℕ) (cycles : Field ℤ) (links : List (Option Link)) : Type 0 where

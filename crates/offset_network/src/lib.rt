@@ -12,7 +12,8 @@ mod network;
 mod places;
 mod solving;
 mod start;
+mod strips;
 mod surface;
 
 pub use crate::guessing::{Hint, plan_seams};
-pub use crate::solving::{solve_offsets, solve_offsets_from};
+pub use crate::solving::{solve_offsets, solve_offsets_from, solve_offsets_side_by_side};

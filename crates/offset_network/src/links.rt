@@ -1,16 +1,17 @@
 ghost use Rattle.offset_network.specs.Links.{AreLinks, IsLinkIn};
 ghost use Rattle.offset_network.specs.Seams.{AddsLink, AddsLinksFrom, AreSeamLinks, link_of};
+ghost use Rattle.offset_network.specs.Strips.{AreLinksOfRows};
 ghost use Rattle.certificates.specs.TileSets.{solved_cycles};
-ghost use Rattle.raster_model.specs.Flows.{is_seam_edge as is_seam_edge_of, seam_place, seams_before};
+ghost use Rattle.raster_model.specs.Flows.{is_seam_edge as is_seam_edge_of};
 ghost use Rattle.raster_model.specs.Masks.{open_at};
 ghost use Rattle.raster_model.specs.Scene.{raster_of};
 ghost use Rattle.seam_regions.specs.Regions.{AreRegionsOf, region_label};
-ghost use Rattle.std.specs.Prelude.{◌≡◌, ◌<◌, IfOk, IsTrue, OnOk, length};
+ghost use Rattle.std.specs.Prelude.{◌≡◌, ◌<◌, ◌≤◌, IfOk, IsTrue, OnOk};
 
 use crate::surface::TileSurface;
-use certificates::{TileEnds, is_seam_edge, next_start, seam_count};
+use certificates::{TileEnds, is_seam_edge, next_start};
 use offset_guess::Link;
-use raster_model::{Edge, weight};
+use raster_model::{Edge, Tiling, weight};
 use seam_regions::Regions;
 use std::alloc::{AllocError, Global};
 
@@ -42,7 +43,6 @@ fn push_link(
     requires side { ends.now.side ≡ surface.now.scene.now.tiling.side }
     requires start { (edge.x < surface.now.scene.now.phase.width) × (edge.y < surface.now.scene.now.phase.height) }
     requires regions { AreRegionsOf surface.now.scene.now.tiling surface.now.mask.now regions.now }
-    requires place { length links.old.items ≡ seam_place (raster_of surface.now.scene.now) edge }
     ensures { OnOk result (AddsLink (raster_of surface.now.scene.now) (open_at surface.now.mask.now) (region_label regions.now) regions.now.count (solved_cycles surface.now.scene.now surface.now.tiles.now.results) edge links.old.items links.new.items) }
 {
     if is_seam_edge(surface.scene, ends, edge) {
@@ -63,11 +63,44 @@ fn push_links_from(
     requires side { ends.now.side ≡ surface.now.scene.now.tiling.side }
     requires pixel { (x < surface.now.scene.now.phase.width) × (y < surface.now.scene.now.phase.height) }
     requires regions { AreRegionsOf surface.now.scene.now.tiling surface.now.mask.now regions.now }
-    requires counted { length links.old.items ≡ seams_before (raster_of surface.now.scene.now) x y }
     ensures { OnOk result (AddsLinksFrom (raster_of surface.now.scene.now) (open_at surface.now.mask.now) (region_label regions.now) regions.now.count (solved_cycles surface.now.scene.now surface.now.tiles.now.results) x y links.old.items links.new.items) }
 {
     push_link(surface, ends, regions, Edge { x, y, down: false }, links)?;
     push_link(surface, ends, regions, Edge { x, y, down: true }, links)
+}
+
+/// For how many links the rows from `first` to before `end` need room: in each row one at each column where a tile ends, and
+/// one at each column of a row where a tile ends, but none where the raster ends.
+pub(crate) fn seam_room(tiling: &Tiling, first: u32, end: u32) -> usize
+    requires rows { (first ≤ end) × (end ≤ tiling.now.height) }
+{
+    let right = (end - first) as usize * ((tiling.width - 1) / tiling.side) as usize;
+    let rows = (end.min(tiling.height - 1) / tiling.side).saturating_sub(first / tiling.side);
+    right + rows as usize * tiling.width as usize
+}
+
+/// The links of the seam edges that start in the rows from `first` to before `end`, in edge order.
+pub(crate) fn strip_links(
+    alloc: Global,
+    surface: &TileSurface,
+    regions: &Regions,
+    first: u32,
+    end: u32,
+) -> Result<Vec<Option<Link>>, AllocError>
+    requires regions { AreRegionsOf surface.now.scene.now.tiling surface.now.mask.now regions.now }
+    requires rows { (first ≤ end) × (end ≤ surface.now.scene.now.phase.height) }
+    ensures { IfOk result (λ links. AreLinksOfRows surface.now regions.now first end links.items) }
+{
+    let ends = TileEnds::of(&surface.scene.tiling);
+    let mut links = Vec::with_capacity(alloc, seam_room(&surface.scene.tiling, first, end))?;
+    for y in first..end {
+        let mut x = next_start(surface.scene, &ends, 0, y);
+        while x < surface.scene.phase.width {
+            push_links_from(surface, &ends, regions, x, y, &mut links)?;
+            x = next_start(surface.scene, &ends, x + 1, y);
+        }
+    }
+    Ok(links)
 }
 
 /// The links of the seam edges, in edge order.
@@ -80,14 +113,5 @@ pub(crate) fn links(
     ensures seams { IfOk result (λ links. AreSeamLinks (raster_of surface.now.scene.now) (open_at surface.now.mask.now) (region_label regions.now) (solved_cycles surface.now.scene.now surface.now.tiles.now.results) links.items) }
     ensures fit { IfOk result (λ links. AreLinks regions.now.count links.items) }
 {
-    let ends = TileEnds::of(&surface.scene.tiling);
-    let mut links = Vec::with_capacity(alloc, seam_count(surface.scene, &ends))?;
-    for y in 0..surface.scene.phase.height {
-        let mut x = next_start(surface.scene, &ends, 0, y);
-        while x < surface.scene.phase.width {
-            push_links_from(surface, &ends, regions, x, y, &mut links)?;
-            x = next_start(surface.scene, &ends, x + 1, y);
-        }
-    }
-    Ok(links)
+    strip_links(alloc, surface, regions, 0, surface.scene.phase.height)
 }

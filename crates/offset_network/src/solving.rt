@@ -16,11 +16,14 @@ use crate::links::links;
 use crate::network::solved;
 use crate::places::TilePlaces;
 use crate::start::Start;
+use crate::strips::links_side_by_side;
 use crate::surface::TileSurface;
 use certificates::{SeamResult, TileSet};
+use offset_guess::Link;
 use raster_model::{Mask, Scene};
 use seam_regions::Regions;
 use std::alloc::{AllocError, Global};
+use std::thread::Threads;
 
 /// Finds whole cycles for each region of a scene under a mask, in the order of the regions' numbers, and the flows that
 /// certify them, one for each seam edge in edge order. Added to the cycles of the tiles' results, the offsets make a
@@ -71,12 +74,60 @@ pub fn solve_offsets_from(
         places: &places,
     };
     let links = links(alloc, &surface, regions)?;
-    let guess = guess_or_solver(alloc, &surface, regions, &links, hint)?;
-    match judge(alloc, &surface, regions, &links, guess, revision)? {
+    over_links(alloc, &surface, regions, links, revision, hint)
+}
+
+/// Finds offsets as `solve_offsets_from` does, where at most `threads` threads, no more than there are processors, list the
+/// links of the seam edges side by side.
+pub fn solve_offsets_side_by_side<R: Threads + Sync>(
+    rt: &R,
+    threads: u32,
+    alloc: Global,
+    scene: &Scene,
+    mask: &Mask,
+    regions: &Regions,
+    tiles: &TileSet,
+    revision: u32,
+    hint: Hint<'_>,
+) -> Result<SeamResult, AllocError>
+    requires same_size { (mask.now.width ≡ scene.now.phase.width) × (mask.now.height ≡ scene.now.phase.height) }
+    requires regions { AreRegionsOf scene.now.tiling mask.now regions.now }
+    requires tiles { IsGoodTileSet scene.now (open_at mask.now) tiles.now }
+    ensures revision { IfOk result (λ solved. solved.revision ≡ revision) }
+    ensures good { IfOk result (IsGoodSeams scene.now mask.now regions.now tiles.now) }
+{
+    let places = TilePlaces::of(alloc, &scene.tiling)?;
+    let surface = TileSurface {
+        scene,
+        mask,
+        tiles,
+        places: &places,
+    };
+    let links = links_side_by_side(rt, threads, alloc, &surface, regions)?;
+    over_links(alloc, &surface, regions, links, revision, hint)
+}
+
+/// Finds them over the links of the seam edges, from what is there for a guess.
+fn over_links(
+    alloc: Global,
+    surface: &TileSurface,
+    regions: &Regions,
+    links: Vec<Option<Link>>,
+    revision: u32,
+    hint: Hint<'_>,
+) -> Result<SeamResult, AllocError>
+    requires regions { AreRegionsOf surface.now.scene.now.tiling surface.now.mask.now regions.now }
+    requires links { AreLinks regions.now.count links.items }
+    requires seams { AreSeamLinks (raster_of surface.now.scene.now) (open_at surface.now.mask.now) (region_label regions.now) (solved_cycles surface.now.scene.now surface.now.tiles.now.results) links.items }
+    ensures revision { IfOk result (λ solved. solved.revision ≡ revision) }
+    ensures good { IfOk result (IsGoodSeams surface.now.scene.now surface.now.mask.now regions.now surface.now.tiles.now) }
+{
+    let guess = guess_or_solver(alloc, surface, regions, &links, hint)?;
+    match judge(alloc, surface, regions, &links, guess, revision)? {
         Judged::Certified(solved) => Ok(solved),
         Judged::Dropped(offsets) => {
             let start = Start::from(alloc, offsets, regions.count(), links)?;
-            by_network(alloc, &surface, regions, &start, revision)
+            by_network(alloc, surface, regions, &start, revision)
         }
     }
 }

@@ -1,20 +1,10 @@
-use Rattle.std.proofs.Common.{◌∙◌, sym, arith}
 use Rattle.std.proofs.lemmas.Result.{on_ok_weaker}
 use Rattle.raster_model.specs.Masks.{open_at}
 use Rattle.raster_model.specs.Scene.{raster_of}
-use Rattle.raster_model.proofs.FlowLemmas.{place-down, place-right}
 use Rattle.seam_regions.specs.Regions.{region_label}
 use Rattle.certificates.specs.TileSets.{solved_cycles}
 use Rattle.offset_network.proofs.PlaceLemmas.{adds_both}
 use Rattle.offset_network.proofs.links.push_links_from.Goals as goal
-
-pub push_link-requires-clause-place : goal.push_link-requires-clause-place
-push_link-requires-clause-place c = c.requires.counted ∙ sym (place-right (raster_of c.args.surface.now.scene.now) c.args.x c.args.y)
-
-pub push_link-requires-2-clause-place : goal.push_link-requires-2-clause-place
-push_link-requires-2-clause-place c =
-    let r = raster_of c.args.surface.now.scene.now in
-    omega (arith, c.requires.counted, c.in_ok-push_link.ensures.count, place-down r c.args.x c.args.y)
 
 pub returns : goal.returns
 returns c =

@@ -263,14 +263,7 @@ fn surface_of<R: Threads + Sync>(
     ensures { IfOk result (λ made. IsSurfaceOfGathered gathered (parts_of made)) }
 {
     let found = regions_for(alloc, &gathered, early)?;
-    let seams = collect_over(
-        rt,
-        threads,
-        alloc,
-        &gathered,
-        found.regions(),
-        found.plan(),
-    )?;
+    let seams = collect_over(rt, threads, alloc, &gathered, found.regions(), found.plan())?;
     let packed = found.packed(alloc, &gathered.session.scene.tiling)?;
     Snapshot::build_certified(
         rt,

@@ -4,7 +4,7 @@ use Rattle.tile_workers.proofs.EarlyLemmas.{found_regions, surface_made}
 use Rattle.tile_workers.proofs.settling.surface_of.Goals as goal
 
 pub collect_over-requires : goal.collect_over-requires
-collect_over-requires g c κs within =
+collect_over-requires g c =
     (search rules, rw c.regions.ensures (found_regions (arc_value c.args.gathered.session).scene.tiling c.args.gathered.mask c.in_ok-found.found c.in_ok-found.ensures))
 
 pub packed-requires-clause-across : goal.packed-requires-clause-across

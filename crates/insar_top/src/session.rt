@@ -62,7 +62,7 @@ pub fn read_alone<R: Threads + Sync, S: Source>(
     side: u32,
     rule: RuleKind,
 ) -> Result<Session, Refusal>
-    requires { IsTileSide side }
+    requires sides { IsTileSide side }
     ensures scene { IfOk result (λ session. (session.scene.rule ≡ rule) × (session.scene.tiling.side ≡ side)) }
     ensures spelled { IfOk result (λ session. ReadsAll (S.left source.old) (S.left source.new) (λ bytes. IsInput side bytes (session_of session))) }
     ensures refused { IfErr result (HasReadCause (BreaksAlone side) (S.left source.old) (S.faults source.old) (S.faults source.new)) }

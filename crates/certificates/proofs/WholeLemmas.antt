@@ -10,8 +10,8 @@ use Rattle.certificates.specs.declared.verdicts.TileVerdict.{TileVerdict}
 use Rattle.certificates.specs.declared.verdicts.TileVerdict.TheVariants.{Good}
 use Rattle.certificates.specs.Verdicts.{IsFacesVerdict}
 use Rattle.certificates.proofs.VerdictLemmas.{faces_good}
-use Rattle.whole_raster.specs.Whole.{IsCertifiedWhole, IsLeastOfAll, whole_cost, whole_of}
-use Rattle.whole_raster.proofs.Whole.{certified_whole_is_least, whole_tile_cost}
+use Rattle.raster_model.specs.Whole.{IsCertifiedWhole, IsLeastOfAll, whole_cost, whole_of}
+use Rattle.raster_model.proofs.Whole.{certified_whole_is_least, whole_tile_cost}
 
 module _ (r : Raster) (mask : Field Bool) (cycles : Field ℤ) (faces : List ℤ) where
   whole_certified : IsCertifiedTile (whole_of r) mask 0 (lifted r cycles) faces → IsCertifiedWhole r mask (lifted r cycles) faces

@@ -5,7 +5,7 @@ use Rattle.raster_model.specs.Raster.{Raster}
 use Rattle.raster_model.specs.Scene.{raster_of}
 use Rattle.raster_model.specs.Sums.{Field}
 use Rattle.raster_model.specs.Tiles.{tile_at, tiles_of}
-use Rattle.whole_raster.specs.Tilings.{tiled_by}
+use Rattle.raster_model.specs.Tilings.{tiled_by}
 use Rattle.certificates.specs.declared.cut.Cut.{Cut}
 use Rattle.certificates.specs.declared.cut.Cut.TheVariants.{Tiles, Whole}
 

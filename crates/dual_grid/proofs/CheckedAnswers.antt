@@ -8,7 +8,7 @@ use Rattle.raster_model.specs.declared.tiling.Window.{Window}
 use Rattle.raster_model.specs.Sums.{down_edge, right_edge}
 use Rattle.raster_model.specs.Raster.{masked_weight}
 use Rattle.raster_model.specs.Scene.{raster_of}
-use Rattle.whole_raster.specs.Tilings.{tiled_by}
+use Rattle.raster_model.specs.Tilings.{tiled_by}
 use Rattle.raster_model.specs.Tiles.{IsTileWindow}
 use Rattle.flow_network.specs.Nets.{State}
 use Rattle.wrapped_gradient.specs.declared.corrections.Corrections.{Corrections}

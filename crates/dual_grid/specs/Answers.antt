@@ -11,7 +11,7 @@ use Rattle.wrapped_gradient.specs.declared.corrections.Corrections.{Corrections}
 use Rattle.wrapped_gradient.specs.Corrections.{HasShapeOf, CancelResidues, correction_at, greatest_of}
 use Rattle.raster_model.specs.declared.scene.Scene.{Scene}
 use Rattle.raster_model.specs.Scene.{raster_of}
-use Rattle.whole_raster.specs.Tilings.{tiled_by}
+use Rattle.raster_model.specs.Tilings.{tiled_by}
 use Rattle.raster_model.specs.Tiles.{IsTileWindow}
 use Rattle.dual_grid.specs.Nodes.{cells_of}
 use Rattle.sums_and_lists.specs.Sums.{where_true}

@@ -8,3 +8,6 @@ pub mod RowsLemmas
 pub mod SizeLemmas
 pub mod TellLemmas
 pub mod ValueLemmas
+pub mod FitValues
+pub mod FitLemmas
+pub mod FitSurfaces

@@ -7,3 +7,4 @@ pub mod ManyParts
 pub mod Reading
 pub mod Shown
 pub mod Values
+pub mod Fits

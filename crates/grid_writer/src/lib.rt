@@ -1,4 +1,4 @@
-//! Surfaces as Esri ASCII rasters, in one spelling: written, and read again.
+//! Surfaces as Esri ASCII rasters, in one spelling: written, read again, and laid over a scene.
 #![tactic(auto)]
 
 mod fault;
@@ -8,6 +8,7 @@ mod many;
 mod read;
 mod row_lines;
 mod rows;
+mod shown;
 mod values;
 
 pub use crate::fault::GridsFault;
@@ -17,5 +18,6 @@ pub use crate::grid::{
 pub use crate::many::read_grids;
 pub use crate::read::{read_grid, read_sized_grid};
 pub use crate::rows::Rows;
+pub use crate::shown::ShownValues;
 pub use crate::values::{Grid, NO_DATA};
 pub use text_lines::LineFault as GridFault;

@@ -16,12 +16,12 @@ use Rattle.raster_model.proofs.Exact.{lifted_is_congruent}
 use Rattle.raster_model.proofs.MaskAgrees.{first_open_too, same_ends}
 use Rattle.certificates.specs.Verdicts.{AllFacesFit, IsFirstUnfit}
 use Rattle.surface_snapshots.proofs.SameLemmas.{anchored_too, same_face_bound, same_tile_cost, tile_too}
-use Rattle.shown_values.specs.Values.{AllValuesFit, FitsPhase, ValueFits, cycles_shown}
+use Rattle.grid_writer.specs.Fits.{AllValuesFit, FitsPhase, ValueFits, cycles_shown}
 use Rattle.report_check.specs.Same.{IsSameInput}
 use Rattle.report_check.proofs.EqualSessions.{are_alike}
 use Rattle.report_check.proofs.HeadLemmas.{numbers_alike}
-use Rattle.whole_raster.specs.Whole.{IsCertifiedWhole, whole_cost, whole_of}
-use Rattle.whole_raster.proofs.Whole.{whole_tile_cost}
+use Rattle.raster_model.specs.Whole.{IsCertifiedWhole, whole_cost, whole_of}
+use Rattle.raster_model.proofs.Whole.{whole_tile_cost}
 use Rattle.whole_text.specs.Reading.{IsSameWhole}
 use Rattle.whole_text.specs.Text.{WholeOf}
 use Rattle.whole_check.specs.declared.verdict.WholeVerdict.{WholeVerdict}

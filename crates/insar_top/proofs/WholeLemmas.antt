@@ -12,10 +12,10 @@ use Rattle.raster_model.specs.Raster.{Raster, lifted}
 use Rattle.raster_model.specs.Scene.{raster_of}
 use Rattle.raster_model.specs.Seams.{IsAnchored}
 use Rattle.raster_model.specs.Sums.{Field}
-use Rattle.whole_raster.specs.Whole.{IsCertifiedWhole, whole_cost, whole_of}
-use Rattle.whole_raster.proofs.Whole.{certified_whole_is_least}
+use Rattle.raster_model.specs.Whole.{IsCertifiedWhole, whole_cost, whole_of}
+use Rattle.raster_model.proofs.Whole.{certified_whole_is_least}
 use Rattle.raster_model.proofs.TileCells.{cell_count-is}
-use Rattle.whole_raster.proofs.Windows.{whole_window}
+use Rattle.raster_model.proofs.Windows.{whole_window}
 use Rattle.whole_solver.specs.Cycles.{has_cycles, whole_cycles}
 use Rattle.whole_solver.specs.Results.{IsGoodWhole}
 use Rattle.whole_solver.specs.declared.result.WholeResult.{WholeResult}

@@ -10,7 +10,7 @@ use Rattle.whole_text.specs.Text.{IsWhole, IsWholeText, WholeOf, whole_text}
 use Rattle.whole_check.specs.declared.verdict.WholeVerdict.{WholeVerdict}
 use Rattle.whole_check.specs.declared.verdict.WholeVerdict.TheVariants.{Accepted}
 use Rattle.whole_check.specs.Verdicts.{IsWholeVerdict, surface_told}
-use Rattle.whole_raster.specs.Whole.{IsLeastOfAll}
+use Rattle.raster_model.specs.Whole.{IsLeastOfAll}
 use Rattle.insar_top.specs.Both.{BreaksBothBy, IsBoth, IsCheckableBy, IsStatusBy, IsToldBy, IsVerdictBy, most_of_text}
 use Rattle.insar_top.specs.Run.{Run}
 use Rattle.insar_top.specs.Whole.{IsWholeAnswer}

@@ -4,7 +4,7 @@ use Rattle.insar_ports.specs.Bytes.{with_end}
 use Rattle.raster_model.specs.declared.session.Session.{Session}
 use Rattle.raster_model.specs.Masks.{open_at}
 use Rattle.raster_model.specs.Scene.{raster_of}
-use Rattle.whole_raster.specs.Whole.{IsLeastOfAll}
+use Rattle.raster_model.specs.Whole.{IsLeastOfAll}
 use Rattle.whole_text.specs.Text.{IsWhole, WholeOf, whole_text}
 use Rattle.whole_check.specs.Verdicts.{IsCertifiedText, surface_told}
 use Rattle.tile_board.specs.declared.entry.Entry.TheVariants.{Published}

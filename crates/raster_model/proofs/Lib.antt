@@ -30,3 +30,5 @@ pub mod SeamLists
 pub mod RegionNumbers
 pub mod MaskAgrees
 pub mod ScriptLemmas
+pub mod Windows
+pub mod Whole

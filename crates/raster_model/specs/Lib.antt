@@ -24,3 +24,5 @@ pub mod Heights
 pub mod Scripts
 pub mod Plain
 pub mod Order
+pub mod Tilings
+pub mod Whole

@@ -20,8 +20,10 @@ ghost use Rattle.raster_model.specs.Exact.{
 ghost use Rattle.raster_model.specs.Order.{CellsFollowTheWindow, FlowsFollowEdgeOrder};
 ghost use Rattle.raster_model.specs.Phase.{TurnsAreExact, WrappedHasNoSlope, WrappedIsIt, WrappedIsOnly};
 ghost use Rattle.raster_model.specs.Seams.{RegionNumbersAreUnique};
-ghost use Rattle.raster_model.specs.Unsteep.{UnsteepCostIsTheDeparture, UnsteepFacesCertify, UnsteepFlowsCertify};
 ghost use Rattle.raster_model.specs.Tiles.{PixelsHaveOneWindow, TilesAreNumbered, TilesAreSquares};
+ghost use Rattle.raster_model.specs.Tilings.{ScenesHaveTiles};
+ghost use Rattle.raster_model.specs.Unsteep.{UnsteepCostIsTheDeparture, UnsteepFacesCertify, UnsteepFlowsCertify};
+ghost use Rattle.raster_model.specs.Whole.{BestBoundsTheLeastOfAll, CertifiedWholeIsLeast, WholeIsTilesAndSeams};
 
 /// Two phases have one wrapped difference around each slope, and it leaves out whole cycles. Around the slope 0 it is the
 /// number from -32768 to 32767.
@@ -111,4 +113,24 @@ pub fn no_departures_are_best()
 pub fn best_is_within_its_seam_cost()
     ensures none { NoneCostsLessThanTheTiles }
     ensures within { BestIsWithinItsSeamCost }
+{}
+
+/// No congruent surface costs less over all edges than one whose faces are certified over the whole raster.
+pub fn certified_whole_is_least()
+    ensures { CertifiedWholeIsLeast }
+{}
+
+/// Each edge lies in one tile or is a seam edge, so a surface costs whole what its tiles and its seams cost.
+pub fn whole_is_tiles_and_seams()
+    ensures { WholeIsTilesAndSeams }
+{}
+
+/// How far the surface that is least in each tile and at the seams can be from the least of all.
+pub fn best_bounds_the_least_of_all()
+    ensures { BestBoundsTheLeastOfAll }
+{}
+
+/// Each pixel of a scene lies in one of its tiles.
+pub fn every_pixel_has_a_tile()
+    ensures { ScenesHaveTiles }
 {}

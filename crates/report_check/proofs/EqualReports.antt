@@ -16,7 +16,7 @@ use Rattle.report_text.specs.Text.{tiles_in}
 use Rattle.report_check.specs.Same.{EqualReportsAreCertifiedAlike}
 use Rattle.report_check.specs.Verdicts.{HasHeadOf, surface_shown}
 use Rattle.report_check.proofs.HeadLemmas.{head_of}
-use Rattle.shown_values.proofs.SurfaceLemmas.{has_phases}
+use Rattle.grid_writer.proofs.FitSurfaces.{has_phases}
 use Rattle.report_check.proofs.SurfaceLemmas.{certified_is_good, good_is_certified, good_too}
 use Rattle.sums_and_lists.proofs.Lists.{some_at}
 

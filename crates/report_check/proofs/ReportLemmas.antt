@@ -30,7 +30,7 @@ use Rattle.report_check.specs.Shown.{AreCertifiedAfter, IsGoodAfter, IsUnfitAfte
 use Rattle.report_check.specs.Verdicts.{HasHeadOf, IsFirstUnfitSurface, IsCheckVerdict, surface_shown}
 use Rattle.tile_board.proofs.HeldLemmas.{mask_told}
 use Rattle.report_check.proofs.HeadLemmas.{terms_of_head}
-use Rattle.shown_values.proofs.SurfaceLemmas.{has_phases}
+use Rattle.grid_writer.proofs.FitSurfaces.{has_phases}
 use Rattle.report_check.proofs.SurfaceLemmas.{good_is_certified, good_too, itself_same, surface_verdict_too}
 use Rattle.report_check.proofs.UniqueLemmas.{certified_not_unfit}
 use Rattle.sums_and_lists.proofs.Orders.{below_or_last}

@@ -26,10 +26,10 @@ use Rattle.report_check.specs.declared.verdict.CheckVerdict.{CheckVerdict}
 use Rattle.report_check.specs.declared.verdict.CheckVerdict.TheVariants.{Accepted, Header, History, Value, Tile, Seams, TileCost, SeamCost}
 use Rattle.report_check.specs.Shown.{IsGoodSurface}
 use Rattle.report_check.specs.Verdicts.{AreUnfitSeams, BreaksHistoryAt, IsFirstUnfitSurface, IsFirstUnfitTile, IsMiscounted, IsSurfaceVerdict, IsCheckVerdict, MayNotCome, PassesTiles, ReportsHaveOneVerdict, surface_shown}
-use Rattle.shown_values.specs.Values.{cycles_shown}
+use Rattle.grid_writer.specs.Fits.{cycles_shown}
 use Rattle.report_check.proofs.HeadLemmas.{head_of, no_difference, one_difference}
 use Rattle.report_check.proofs.MaskLemmas.{seam_verdict_too}
-use Rattle.shown_values.proofs.SurfaceLemmas.{has_phases}
+use Rattle.grid_writer.proofs.FitSurfaces.{has_phases}
 use Rattle.report_check.proofs.SurfaceLemmas.{certified_is_good}
 use Rattle.std.proofs.lemmas.Bool.{cases_order}
 

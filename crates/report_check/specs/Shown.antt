@@ -16,7 +16,7 @@ use Rattle.report_text.specs.Certified.{IsCertifiedAfter, history_of}
 use Rattle.report_text.specs.Reports.{ItemOf, ReportOf, SurfaceOf}
 use Rattle.report_check.specs.declared.shown.ShownSurface.{ShownSurface}
 use Rattle.report_check.specs.declared.verdict.CheckVerdict.{CheckVerdict}
-use Rattle.shown_values.specs.Values.{cycles_shown}
+use Rattle.grid_writer.specs.Fits.{cycles_shown}
 use Rattle.report_check.specs.Verdicts.{IsSurfaceVerdict, PassesSeams, surface_shown}
 
 -- the raster, the open pixels, what is told

@@ -16,7 +16,7 @@ use Rattle.certificates.specs.Verdicts.{IsFacesVerdict}
 use Rattle.tile_board.specs.declared.entry.Entry.{Entry}
 use Rattle.tile_board.specs.declared.entry.Entry.TheVariants.{Published}
 use Rattle.tile_board.specs.Histories.{IsComplete, IsLegal, IsStep, mask_in}
-use Rattle.shown_values.specs.Values.{AllValuesFit, IsFirstUnfitValue, cycles_shown}
+use Rattle.grid_writer.specs.Fits.{AllValuesFit, IsFirstUnfitValue, cycles_shown}
 use Rattle.report_text.specs.Certified.{IsCertifiedAfter, IsCertifiedReport, history_of}
 use Rattle.report_text.specs.Reports.{ItemOf, ReportOf, SurfaceOf}
 use Rattle.text_parts.specs.Terms.{HasRampOf, HasRuleOf, HasSteepnessOf}

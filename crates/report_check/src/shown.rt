@@ -2,10 +2,10 @@ ghost use Rattle.raster_model.specs.Tiles.{tiles_of};
 ghost use Rattle.std.specs.Prelude.{◌≡◌, IfNone, IfOk, IfSome, vec_len};
 
 use certificates::{SeamVerdict, TileVerdict, check_faces, check_flows};
+use grid_writer::ShownValues;
 use raster_model::{Mask, Scene};
 use report_text::ReportSurface;
 use seam_regions::Regions;
-use shown_values::ShownValues;
 use std::alloc::{AllocError, Global};
 
 /// A surface as a report gives it, over a scene and a mask.
@@ -20,9 +20,9 @@ pub(crate) struct ShownSurface<'a> {
 }
 
 impl ShownSurface<'_> {
+    ghost use Rattle.grid_writer.specs.Fits.{AllValuesFit, IsFirstUnfitValue};
     ghost use Rattle.report_check.specs.Shown.{IsShownFlowsVerdict, open_shown, raster_shown, told_shown};
     ghost use Rattle.report_check.specs.Verdicts.{IsFirstUnfitTile, TilesAreCertified};
-    ghost use Rattle.shown_values.specs.Values.{AllValuesFit, IsFirstUnfitValue};
 
     /// Its values.
     pub(crate) fn values(&self) -> ShownValues<'_>

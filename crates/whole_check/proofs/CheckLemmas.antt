@@ -5,8 +5,8 @@ use Rattle.raster_model.specs.declared.tiling.Window.{Window}
 use Rattle.raster_model.specs.Cells.{cell_count}
 use Rattle.raster_model.specs.Scene.{raster_of}
 use Rattle.certificates.proofs.VerdictLemmas.{counted}
-use Rattle.whole_raster.specs.Whole.{whole_of}
-use Rattle.whole_raster.proofs.Windows.{whole_window}
+use Rattle.raster_model.specs.Whole.{whole_of}
+use Rattle.raster_model.proofs.Windows.{whole_window}
 
 -- a face for each
 pub faces_counted : (s : Scene) (n width height : ℕ) → n ≡ (width - 1) * (height - 1) → width ≡ s.phase.width → height ≡ s.phase.height → n ≡ cell_count (whole_of (raster_of s)) 0

@@ -13,10 +13,10 @@ use Rattle.raster_model.proofs.Exact.{lifted_is_congruent}
 use Rattle.grid_writer.specs.Values.{no_data}
 use Rattle.surface_snapshots.proofs.SameLemmas.{anchored_too, same_tile_cost, tile_too}
 use Rattle.text_parts.specs.Terms.{TermsOf}
-use Rattle.shown_values.specs.Values.{AllValuesFit, FitsPhase, ValueFits, cycles_shown}
-use Rattle.shown_values.proofs.SurfaceLemmas.{HasPhases, has_phases}
-use Rattle.whole_raster.specs.Whole.{IsCertifiedWhole, whole_cost, whole_of}
-use Rattle.whole_raster.proofs.Whole.{whole_tile_cost}
+use Rattle.grid_writer.specs.Fits.{AllValuesFit, FitsPhase, ValueFits, cycles_shown}
+use Rattle.grid_writer.proofs.FitSurfaces.{HasPhases, has_phases}
+use Rattle.raster_model.specs.Whole.{IsCertifiedWhole, whole_cost, whole_of}
+use Rattle.raster_model.proofs.Whole.{whole_tile_cost}
 use Rattle.whole_text.specs.Reading.{IsSameWhole}
 use Rattle.whole_text.specs.Text.{WholeOf}
 use Rattle.whole_text.specs.Told.{AreFewCycles, value_above}

@@ -10,9 +10,9 @@ use Rattle.raster_model.specs.Scene.{raster_of}
 use Rattle.raster_model.specs.Sums.{Field}
 use Rattle.certificates.specs.Verdicts.{IsFirstUnfit}
 use Rattle.certificates.proofs.Unique.{same_break, same_pixel}
-use Rattle.shown_values.proofs.SurfaceLemmas.{has_phases}
-use Rattle.whole_raster.specs.Whole.{IsCertifiedWhole, IsLeastOfAll, whole_cost, whole_of}
-use Rattle.whole_raster.proofs.Whole.{certified_whole_is_least, whole_tile_cost}
+use Rattle.grid_writer.proofs.FitSurfaces.{has_phases}
+use Rattle.raster_model.specs.Whole.{IsCertifiedWhole, IsLeastOfAll, whole_cost, whole_of}
+use Rattle.raster_model.proofs.Whole.{certified_whole_is_least, whole_tile_cost}
 use Rattle.whole_text.specs.Text.{WholeOf}
 use Rattle.whole_check.specs.declared.verdict.WholeVerdict.{WholeVerdict}
 use Rattle.whole_check.specs.declared.verdict.WholeVerdict.TheVariants.{Accepted, Header, Value, Face, Cost, Told}

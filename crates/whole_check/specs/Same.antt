@@ -6,7 +6,7 @@ use Rattle.raster_model.specs.Raster.{lifted}
 use Rattle.raster_model.specs.Scene.{raster_of}
 use Rattle.raster_model.specs.Seams.{IsAnchored}
 use Rattle.raster_model.specs.Sums.{Field}
-use Rattle.whole_raster.specs.Whole.{IsCertifiedWhole, whole_cost}
+use Rattle.raster_model.specs.Whole.{IsCertifiedWhole, whole_cost}
 use Rattle.whole_text.specs.Reading.{IsSameWhole}
 use Rattle.whole_text.specs.Text.{WholeOf}
 use Rattle.whole_text.specs.Told.{AreFewCycles, told_whole}

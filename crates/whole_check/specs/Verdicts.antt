@@ -9,8 +9,8 @@ use Rattle.raster_model.specs.Scene.{raster_of}
 use Rattle.raster_model.specs.Seams.{IsAnchored, IsEarlier, IsFirstOpen}
 use Rattle.raster_model.specs.Sums.{Field}
 use Rattle.certificates.specs.Verdicts.{AllFacesFit, IsFirstUnfit}
-use Rattle.shown_values.specs.Values.{AllValuesFit, ValueFits, cycles_shown}
-use Rattle.whole_raster.specs.Whole.{IsCertifiedWhole, whole_cost, whole_of}
+use Rattle.grid_writer.specs.Fits.{AllValuesFit, ValueFits, cycles_shown}
+use Rattle.raster_model.specs.Whole.{IsCertifiedWhole, whole_cost, whole_of}
 use Rattle.text_parts.specs.Terms.{HasRampOf, HasRuleOf, HasSteepnessOf}
 use Rattle.whole_text.specs.Text.{WholeOf}
 use Rattle.whole_check.specs.declared.verdict.WholeVerdict.{WholeVerdict}

@@ -2,18 +2,18 @@ ghost use Rattle.certificates.specs.Verdicts.{IsFacesVerdict};
 ghost use Rattle.certificates.specs.declared.verdicts.TileVerdict.TheVariants.{Good};
 ghost use Rattle.raster_model.specs.Masks.{open_at};
 ghost use Rattle.raster_model.specs.Scene.{raster_of};
+ghost use Rattle.raster_model.specs.Whole.{IsCertifiedWhole, IsLeastOfAll, whole_cost, whole_of};
 ghost use Rattle.std.specs.Prelude.{◌≡◌, ◌≢◌, ◌↔◌, pos};
 ghost use Rattle.whole_check.specs.Verdicts.{AllValuesStand, HasWholeHead, IsCertifiedText, IsWholeVerdict, surface_told};
 ghost use Rattle.whole_check.specs.declared.verdict.WholeVerdict.TheVariants.{Accepted};
-ghost use Rattle.whole_raster.specs.Whole.{IsCertifiedWhole, IsLeastOfAll, whole_cost, whole_of};
 ghost use Rattle.whole_text.specs.Reading.{whole_told};
 
 use crate::header::first_difference;
 use crate::values::first_false_value;
 use crate::verdict::WholeVerdict;
 use certificates::{TileVerdict, check_whole};
+use grid_writer::ShownValues;
 use raster_model::Session;
-use shown_values::ShownValues;
 use whole_text::Whole;
 
 /// Checks the text of a surface over the whole raster against a session's first mask: that it is certified, or the first

@@ -5,8 +5,8 @@ ghost use Rattle.raster_model.specs.Seams.{IsEarlier, IsFirstOpen};
 ghost use Rattle.std.specs.Prelude.{◌≡◌, ◌≢◌, ◌↔◌, ℕ, IfNone, IfSome, IsTrue, pos};
 ghost use Rattle.whole_check.specs.Verdicts.{AllValuesStand, IsFirstFalseValue};
 
+use grid_writer::ShownValues;
 use raster_model::first_open;
-use shown_values::ShownValues;
 
 /// The first pixel in row order whose value does not fit its mask and its phase, or is not the phase though the pixel is the
 /// first open one.

@@ -9,7 +9,7 @@ use Rattle.raster_model.specs.Raster.{lifted}
 use Rattle.raster_model.specs.Scene.{raster_of}
 use Rattle.raster_model.specs.Sums.{Field}
 use Rattle.surface_integration.specs.Cycles.{LieWithin, cycles_at}
-use Rattle.whole_raster.specs.Whole.{IsCertifiedWhole}
+use Rattle.raster_model.specs.Whole.{IsCertifiedWhole}
 use Rattle.whole_solver.specs.Cycles.{whole_cycles}
 use Rattle.whole_solver.specs.Solved.{AreMoved, listed_surface, raster_window}
 use Rattle.whole_solver.proofs.Shifts.{stays_certified}

@@ -9,8 +9,8 @@ use Rattle.raster_model.proofs.Exact.{cycles_depart, lifted_is_congruent}
 use Rattle.raster_model.proofs.SumLemmas.{sum_edges-same}
 use Rattle.sums_and_lists.specs.Sums.{where_true}
 use Rattle.sums_and_lists.proofs.Orders.{ends_in}
-use Rattle.whole_raster.specs.Whole.{IsCertifiedWhole, whole_cost}
-use Rattle.whole_raster.proofs.Whole.{whole_tile_cost}
+use Rattle.raster_model.specs.Whole.{IsCertifiedWhole, whole_cost}
+use Rattle.raster_model.proofs.Whole.{whole_tile_cost}
 use Rattle.whole_solver.specs.Solved.{AreMoved}
 
 module _ (r : Raster) (mask : Field Bool) (c d : Field ℤ) (k : ℤ) (moved : AreMoved r c d k) where

@@ -12,7 +12,7 @@ use Rattle.wrapped_gradient.proofs.Places.{place_within}
 use Rattle.dual_grid.specs.Nodes.{cells_of}
 use Rattle.dual_grid.specs.Starts.{TellsMask}
 use Rattle.dual_grid.proofs.EdgeLemmas.{few_cells}
-use Rattle.whole_raster.specs.Whole.{whole_of}
+use Rattle.raster_model.specs.Whole.{whole_of}
 use Rattle.whole_solver.specs.Solved.{raster_window}
 use Rattle.sums_and_lists.proofs.Orders.{below_or_last}
 

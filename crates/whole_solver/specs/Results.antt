@@ -5,7 +5,7 @@ use Rattle.raster_model.specs.Sums.{Field}
 use Rattle.raster_model.specs.Raster.{lifted}
 use Rattle.raster_model.specs.Scene.{raster_of}
 use Rattle.raster_model.specs.Seams.{IsAnchored}
-use Rattle.whole_raster.specs.Whole.{IsCertifiedWhole, whole_cost}
+use Rattle.raster_model.specs.Whole.{IsCertifiedWhole, whole_cost}
 use Rattle.whole_solver.specs.Cycles.{AreSmallCycles, whole_cycles}
 use Rattle.whole_solver.specs.declared.result.WholeResult.{WholeResult}
 

@@ -4,8 +4,8 @@ use Rattle.raster_model.specs.Cells.{IsCertifiedTile}
 use Rattle.raster_model.specs.Masks.{open_at}
 use Rattle.raster_model.specs.Raster.{lifted, tile_cost}
 use Rattle.raster_model.specs.Scene.{raster_of}
-use Rattle.whole_raster.specs.Whole.{IsCertifiedWhole, IsLeastOfAll, whole_cost, whole_of}
-use Rattle.whole_raster.proofs.Windows.{whole_window}
+use Rattle.raster_model.specs.Whole.{IsCertifiedWhole, IsLeastOfAll, whole_cost, whole_of}
+use Rattle.raster_model.proofs.Windows.{whole_window}
 use Rattle.certificates.proofs.WholeLemmas.{checked_good, whole_checked, whole_least}
 use Rattle.certificates.proofs.tiles.check_whole.Goals as goal
 

@@ -4,7 +4,7 @@ use Rattle.std.proofs.lemmas.Int.{to_z-of_z}
 use mir.Syntax.{w128}
 use Rattle.raster_model.specs.Masks.{open_at}
 use Rattle.raster_model.specs.Scene.{raster_of}
-use Rattle.whole_raster.proofs.Whole.{whole_tile_cost}
+use Rattle.raster_model.proofs.Whole.{whole_tile_cost}
 use Rattle.whole_text.specs.Reading.{whole_told}
 use Rattle.whole_check.specs.Verdicts.{surface_told}
 use Rattle.whole_check.proofs.CheckLemmas.{faces_counted}

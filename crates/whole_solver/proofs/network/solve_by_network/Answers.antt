@@ -9,7 +9,7 @@ use Rattle.dual_grid.specs.Answers.{AreCertifiedCorrections}
 use Rattle.dual_grid.specs.Nodes.{cells_of}
 use Rattle.dual_grid.specs.Starts.{TellsMask}
 use Rattle.network_solver.proofs.SurfaceLemmas.{certified_surface}
-use Rattle.whole_raster.specs.Whole.{whole_of}
+use Rattle.raster_model.specs.Whole.{whole_of}
 use Rattle.whole_solver.specs.Solved.{raster_window}
 use Rattle.whole_solver.proofs.WholeLemmas.{few_cells_whole, pixels_are, whole_tile}
 use Rattle.whole_solver.proofs.network.solve_by_network.Goals as goal

@@ -2,7 +2,7 @@ use Rattle.std.proofs.Common.{◌≡◌, ℕ, ◌+◌, ◌<◌, ◌∙◌, ap, s
 use Rattle.std.specs.Prelude.{pos}
 use Rattle.std.proofs.lemmas.List.{get_or-drop, get_or-take, length-take-le}
 use Rattle.raster_model.specs.declared.tiling.Window.{Window}
-use Rattle.whole_raster.specs.Tilings.{tiled_by}
+use Rattle.raster_model.specs.Tilings.{tiled_by}
 use Rattle.raster_model.specs.Tiles.{IsTileWindow}
 use Rattle.raster_model.specs.Scene.{raster_of}
 use Rattle.dual_grid.specs.Answers.{AreCertifiedCorrections}

@@ -1,3 +1,0 @@
-pub mod ValueLemmas
-pub mod FitLemmas
-pub mod SurfaceLemmas

@@ -1,5 +1,0 @@
-use Rattle.whole_raster.proofs.Whole.{best_bounds_the_least_of_all}
-use Rattle.whole_raster.proofs.laws.best_bounds_the_least_of_all.Goals as goal
-
-pub returns : goal.returns
-returns c = best_bounds_the_least_of_all

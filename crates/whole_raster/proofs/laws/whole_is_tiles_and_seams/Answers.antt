@@ -1,5 +1,0 @@
-use Rattle.whole_raster.proofs.Whole.{whole_is_tiles_and_seams}
-use Rattle.whole_raster.proofs.laws.whole_is_tiles_and_seams.Goals as goal
-
-pub returns : goal.returns
-returns c = whole_is_tiles_and_seams

@@ -1,2 +1,0 @@
-pub mod Tilings
-pub mod Whole

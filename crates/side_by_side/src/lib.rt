@@ -3,13 +3,15 @@
 
 ghost use Rattle.side_by_side.specs.Chains.{AreDone, AreReady};
 ghost use Rattle.std.specs.Fork.{AcceptsAt, AcceptsEach, ChangesAt, ChangesEach};
-ghost use Rattle.std.specs.Prelude.{◌≡◌, ◌+◌, length};
+ghost use Rattle.std.specs.Prelude.{◌≡◌, ◌+◌, ◌≤◌, length};
 ghost use Rattle.std.specs.Thread.{IsSend, IsSync};
 
 use std::thread::{Threads, available_parallelism, join_mut};
 
 /// How many threads can run at once for this program; more than can be counted if the system does not tell.
-pub fn processors<R: Threads>(rt: &R) -> u32 {
+pub fn processors<R: Threads>(rt: &R) -> u32
+    ensures { 1 ≤ result }
+{
     match available_parallelism(rt) {
         Ok(count) => u32::try_from(count.get()).unwrap_or(u32::MAX),
         Err(_) => u32::MAX,

@@ -62,6 +62,7 @@ impl Gradients {
     pub fn of(alloc: Global, scene: &Scene, window: Window) -> Result<Gradients, AllocError>
         requires { IsWindowIn scene.now.phase.width scene.now.phase.height window }
         ensures window { IfOk result (λ made. made.window ≡ window) }
+        ensures terms { IfOk result (λ made. made.terms ≡ scene.now.terms) }
         ensures differences { IfOk result (λ made. AreGradientsOf scene.now made) }
         ensures residues { IfOk result (λ made. HaveResiduesOf scene.now made) }
     {

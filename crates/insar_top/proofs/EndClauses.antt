@@ -191,6 +191,11 @@ module _ {words : List (Bor Text)} {r : Run} {d : Result ℕ Refusal} (ended : I
       by_end (λ d. (end_status d ≡ 2) ⊎ (end_status d ≡ 4)) (λ fault c u k. two_or_four fault) (λ q is n small. absurd ((refused_or_asking words).1 refused (asks_something words q is)))
       (λ q is x h. absurd ((refused_or_asking words).1 refused (asks_something words q is)))
 
+  pub refused_unread : IsRefused words → IsUnread r
+  refused_unread refused =
+      by_end (λ d. IsUnread r) (λ fault c u k. u) (λ q is n small. absurd ((refused_or_asking words).1 refused (asks_something words q is)))
+      (λ q is x h. absurd ((refused_or_asking words).1 refused (asks_something words q is)))
+
   pub named : (end_status d ≡ 2 → ⊥) → (end_status d ≡ 4 → ⊥) → AskSomething words
   named = by_end (λ d. (end_status d ≡ 2 → ⊥) → (end_status d ≡ 4 → ⊥) → AskSomething words) (λ fault c u k two four. elim (two_or_four fault) [ inl e ↦ absurd (two e) | inr e ↦ absurd (four e) ])
       (λ q is n small two four. asks_something words q is) (λ q is x h two four. asks_something words q is)

@@ -130,10 +130,11 @@ pub fn insar<R: Threads + Wait + Sync, S: Source, K: Sink, D: Sink, G: Gate>(
     ensures judged { (options : Options) → IsCheck words.now options → IfSome (S.left source.old) (λ bytes. (verdict : AnyVerdict) → IsJudged options bytes verdict → IsVerdictTold result (run_of S.left S.faults source.old source.new K.held K.faults sink.old sink.new) verdict) }
     // So it is of a check of a whole surface.
     ensures judged_whole { (options : Options) → IsCheckWhole words.now options → IfSome (S.left source.old) (λ bytes. (verdict : AnyWholeVerdict) → IsWholeJudged options bytes verdict → IsWholeVerdictTold result (run_of S.left S.faults source.old source.new K.held K.faults sink.old sink.new) verdict) }
-    // 2: the words are refused; the source is not read. Reading them may want memory.
+    // 2: the words are refused. Reading them may want memory, but the source is not read, whatever is answered.
     ensures words_refused { result ≡ 2 → IsRefused words.now }
     ensures unread { result ≡ 2 → IsUnread (run_of S.left S.faults source.old source.new K.held K.faults sink.old sink.new) }
     ensures words_taken { IsRefused words.now → (result ≡ 2) ⊎ (result ≡ 4) }
+    ensures refused_unread { IsRefused words.now → IsUnread (run_of S.left S.faults source.old source.new K.held K.faults sink.old sink.new) }
     ensures named { (result ≡ 2 → ⊥) → (result ≡ 4 → ⊥) → AskSomething words.now }
     // 5 and 6: a fault was counted.
     ensures read_fault { result ≡ 5 → HasRisen (S.faults source.old) (S.faults source.new) }

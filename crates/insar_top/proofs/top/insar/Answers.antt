@@ -25,6 +25,7 @@ returns g c =
       words_refused = end.words_refused ended;
       unread = end.unread ended;
       words_taken = end.words_taken ended;
+      refused_unread = end.refused_unread ended;
       named = end.named ended;
       read_fault = end.read_fault ended;
       write_fault = end.write_fault ended;

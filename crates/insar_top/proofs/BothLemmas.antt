@@ -22,9 +22,9 @@ use Rattle.text_parts.specs.Reading.{BreaksTextAt, EndsTextIn, HasBrokenTextLine
 use Rattle.pgm_planes.specs.Planes.{PlaneOf, plane_of}
 use Rattle.raster_model.specs.declared.plane.Plane.{Plane}
 use Rattle.report_check.specs.Same.{IsSameInput, IsSamePlane}
-use Rattle.refusal_lines.specs.Refusals.{report_refusal}
-use Rattle.refusal_lines.specs.declared.refusal.Refusal.{Refusal}
-use Rattle.refusal_lines.specs.declared.refusal.Refusal.TheVariants as refusals
+use Rattle.answer_lines.specs.Refusals.{report_refusal}
+use Rattle.answer_lines.specs.declared.refusal.Refusal.{Refusal}
+use Rattle.answer_lines.specs.declared.refusal.Refusal.TheVariants as refusals
 use Rattle.insar_top.specs.Both.{AfterSession, AreRead, BreaksBothBy, IsBoth, IsCheckableBy, IsFirstRead, IsStatusBy, IsToldBy, IsTooLong, IsVerdictBy, most_of_text}
 use Rattle.insar_top.specs.Causes.{HasReadCause}
 use Rattle.insar_top.specs.Options.{HasOptions}

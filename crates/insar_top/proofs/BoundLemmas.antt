@@ -11,7 +11,7 @@ use Rattle.raster_model.proofs.SeamLeast.{certified_is_best}
 use Rattle.tile_board.specs.declared.entry.Entry.{Entry}
 use Rattle.report_text.specs.Certified.{IsCertifiedAfter, IsCertifiedAt, IsCertifiedSurface, history_of}
 use Rattle.report_text.specs.Reports.{SurfaceOf}
-use Rattle.trial_lines.proofs.SummaryLemmas.{costs_are, first_is}
+use Rattle.answer_lines.proofs.SummaryLemmas.{costs_are, first_is}
 use Rattle.raster_model.specs.Whole.{whole_cost}
 use Rattle.raster_model.proofs.Whole.{best_bounds_the_least_of_all}
 use Rattle.raster_model.proofs.Windows.{scenes_have_tiles}

@@ -5,7 +5,7 @@ use Rattle.session_script.proofs.AskSession.{no_fault_of_session}
 use Rattle.report_text.specs.Contents.{IsReportText}
 use Rattle.whole_text.specs.Text.{IsWholeText}
 use Rattle.insar_words.specs.declared.request.Request.TheVariants.{Unwrap, Grid, Check, Screen, Closure, Displacement, Whole, CheckWhole, Watch}
-use Rattle.refusal_lines.specs.declared.refusal.Refusal.TheVariants as refusals
+use Rattle.answer_lines.specs.declared.refusal.Refusal.TheVariants as refusals
 use Rattle.insar_top.specs.Causes.{BrokenBytesAreNoInput}
 use Rattle.insar_top.specs.Displacement.{sight_of}
 use Rattle.insar_top.proofs.BothLemmas.{not_checkable}

@@ -14,17 +14,17 @@ use Rattle.report_check.specs.declared.verdict.CheckVerdict.{CheckVerdict}
 use Rattle.report_check.specs.declared.verdict.CheckVerdict.TheVariants as verdicts
 use Rattle.whole_check.specs.declared.verdict.WholeVerdict.{WholeVerdict}
 use Rattle.whole_check.specs.declared.verdict.WholeVerdict.TheVariants as whole_verdicts
-use Rattle.verdict_lines.specs.VerdictLines.{verdict_line}
-use Rattle.verdict_lines.specs.WholeLines.{whole_verdict_line}
-use Rattle.refusal_lines.specs.declared.refusal.Refusal.{Refusal}
-use Rattle.refusal_lines.specs.declared.refusal.Refusal.TheVariants as refusals
+use Rattle.answer_lines.specs.VerdictLines.{verdict_line}
+use Rattle.answer_lines.specs.WholeLines.{whole_verdict_line}
+use Rattle.answer_lines.specs.declared.refusal.Refusal.{Refusal}
+use Rattle.answer_lines.specs.declared.refusal.Refusal.TheVariants as refusals
 use Rattle.insar_top.specs.Answers.{HasAnswered, HasCutShort, IsDoneStatus, IsInputTo, IsWithinInput, input_of}
 use Rattle.insar_top.specs.Causes.{BreaksInput, HasRefusalCause}
 use Rattle.insar_top.specs.Check.{IsJudged, IsVerdictTold}
 use Rattle.insar_top.specs.CheckWhole.{IsWholeJudged, IsWholeVerdictTold}
 use Rattle.insar_top.specs.Ends.{EndsBy, IsLineAt, IsProgramEnd, IsRequestEnd, end_status, line_of_end}
 use Rattle.insar_top.specs.Ends.IsProgramEnd.{not_read, done}
-use Rattle.refusal_lines.specs.Refusals.{status_of, words_refusal}
+use Rattle.answer_lines.specs.Refusals.{status_of, words_refusal}
 use Rattle.insar_top.specs.Run.{HasKept, IsUnread, Run, SinkFailed, SourceFailed}
 use Rattle.insar_top.specs.Unwrap.{IsDone}
 use Rattle.insar_top.specs.Watch.{IsWatchDone}

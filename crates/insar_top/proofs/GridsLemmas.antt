@@ -13,11 +13,11 @@ use Rattle.grid_writer.specs.Grids.{GridOf, IsGrid, IsSameGrid}
 use Rattle.grid_writer.specs.ManyGrids.{AreGrids, BreaksGrids, HasGridsCause, text_of_grids}
 use Rattle.grid_writer.proofs.GridReads.{grids_cancel}
 use Rattle.grid_writer.proofs.ManyLemmas.{texts_do_not_break}
-use Rattle.refusal_lines.specs.declared.refusal.Refusal.{Refusal}
-use Rattle.refusal_lines.specs.declared.refusal.Refusal.TheVariants as refusals
+use Rattle.answer_lines.specs.declared.refusal.Refusal.{Refusal}
+use Rattle.answer_lines.specs.declared.refusal.Refusal.TheVariants as refusals
 use Rattle.insar_top.specs.Causes.{HasReadCause}
 use Rattle.insar_top.specs.Grids.{AreGridsIn, BreaksMany, max_grids_bytes}
-use Rattle.refusal_lines.specs.Refusals.{grids_refusal}
+use Rattle.answer_lines.specs.Refusals.{grids_refusal}
 use Rattle.insar_top.specs.Run.{ReadsAll}
 use Rattle.insar_top.proofs.SessionLemmas.{nothing_left}
 

@@ -13,13 +13,13 @@ use Rattle.loop_closure.specs.Closure.{IsWideAt, IsWideLoop}
 use Rattle.loop_closure.specs.LoopText.{loops_text}
 use Rattle.loop_closure.specs.Parts.{HasLoopCause}
 use Rattle.insar_words.specs.declared.request.Request.TheVariants.{Closure}
-use Rattle.refusal_lines.specs.declared.refusal.Refusal.{Refusal}
-use Rattle.refusal_lines.specs.declared.refusal.Refusal.TheVariants as refusals
+use Rattle.answer_lines.specs.declared.refusal.Refusal.{Refusal}
+use Rattle.answer_lines.specs.declared.refusal.Refusal.TheVariants as refusals
 use Rattle.insar_top.specs.Answers.{IsAnswerTo, IsUsedUp}
 use Rattle.insar_top.specs.Causes.{HasReadCause}
 use Rattle.insar_top.specs.Closure.{AreLoops, AreLoopsOf, AreThree, BreaksLoop, IsLoopInput}
 use Rattle.insar_top.specs.Grids.{AreGridsIn, BreaksMany}
-use Rattle.refusal_lines.specs.Refusals.{loop_refusal}
+use Rattle.answer_lines.specs.Refusals.{loop_refusal}
 use Rattle.insar_top.specs.Run.{ReadsAll, Run}
 use Rattle.insar_top.proofs.GridsLemmas.{no_grids, same_grids}
 

@@ -18,13 +18,13 @@ use Rattle.displacement.specs.Displacements.{HasCause, IsDisplacement, IsTooWide
 use Rattle.displacement.proofs.DisplacingLemmas.{not_wide}
 use Rattle.insar_words.specs.declared.displacing.Displacing.{Displacing}
 use Rattle.insar_words.specs.declared.request.Request.TheVariants.{Displacement}
-use Rattle.refusal_lines.specs.declared.refusal.Refusal.{Refusal}
-use Rattle.refusal_lines.specs.declared.refusal.Refusal.TheVariants as refusals
+use Rattle.answer_lines.specs.declared.refusal.Refusal.{Refusal}
+use Rattle.answer_lines.specs.declared.refusal.Refusal.TheVariants as refusals
 use Rattle.insar_top.specs.Answers.{IsAnswerTo, IsUsedUp}
 use Rattle.insar_top.specs.Causes.{HasReadCause}
 use Rattle.insar_top.specs.Displacement.{BreaksSight, HasDisplacements, IsOneGrid, IsSightInput, sight_of}
 use Rattle.insar_top.specs.Grids.{AreGridsIn, BreaksMany}
-use Rattle.refusal_lines.specs.Refusals.{sight_refusal}
+use Rattle.answer_lines.specs.Refusals.{sight_refusal}
 use Rattle.insar_top.specs.Run.{ReadsAll, Run}
 use Rattle.insar_top.proofs.GridsLemmas.{no_grids, same_grids}
 

@@ -29,11 +29,11 @@ use Rattle.trial_maker.specs.declared.fault.TrialFault.TheVariants as trial_faul
 use Rattle.insar_words.specs.declared.request.Request.TheVariants.{Trial}
 use Rattle.insar_words.specs.declared.trial.Trial.{Trial as TrialSession}
 use Rattle.insar_top.specs.Causes.{HasRefusalCause}
-use Rattle.refusal_lines.specs.Refusals.{trial_refusal}
+use Rattle.answer_lines.specs.Refusals.{trial_refusal}
 use Rattle.insar_top.specs.Run.{HasKept, Run}
 use Rattle.insar_top.specs.Trial.{IsTrialSession, IsTrialText, TrialsHaveOneText}
-use Rattle.trial_lines.specs.Summary.{IsLeastCost, count_grid, four_lines, open_pixels_of, residues_of}
-use Rattle.trial_lines.proofs.SummaryLemmas.{grid_same, one_cost}
+use Rattle.answer_lines.specs.TrialLines.{IsLeastCost, count_grid, four_lines, open_pixels_of, residues_of}
+use Rattle.answer_lines.proofs.SummaryLemmas.{grid_same, one_cost}
 
 -- ---- the session
 

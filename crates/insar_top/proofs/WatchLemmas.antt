@@ -35,8 +35,8 @@ use Rattle.insar_words.specs.declared.watching.Watching.{Watching}
 use Rattle.insar_top.specs.Answers.{IsAnswerTo, IsUsedUp}
 use Rattle.insar_top.specs.Run.{ReadsAll, Run}
 use Rattle.insar_top.specs.Unwrap.{IsGiven}
-use Rattle.watch_lines.specs.Watch.{IsSeen, last_in, reader_line, seen_of, watch_text}
-use Rattle.watch_lines.proofs.SeenLemmas.{seen_end_with_the_last}
+use Rattle.answer_lines.specs.WatchLines.{IsSeen, last_in, reader_line, seen_of, watch_text}
+use Rattle.answer_lines.proofs.SeenLemmas.{seen_end_with_the_last}
 
 -- ---- published revisions rise
 

@@ -10,8 +10,8 @@ use Rattle.text_lines.specs.Forms.{Begins, EndsIn, Form}
 use Rattle.text_parts.specs.Reading.{HasBrokenTextLine}
 use Rattle.insar_top.specs.Options.{HasOptions}
 use Rattle.insar_top.specs.Run.{ReadsAll, Run}
-use Rattle.refusal_lines.specs.declared.refusal.Refusal.{Refusal}
-use Rattle.refusal_lines.specs.declared.refusal.Refusal.TheVariants as refusals
+use Rattle.answer_lines.specs.declared.refusal.Refusal.{Refusal}
+use Rattle.answer_lines.specs.declared.refusal.Refusal.TheVariants as refusals
 
 -- the most bytes of the text
 abbrev pub most_of_text : ℕ

@@ -1,8 +1,8 @@
 -- Why a request is refused, for every command.
 use Rattle.std.specs.Prelude.{ℕ, List, Option, IfSome, ⊤}
 use Rattle.insar_ports.specs.Bytes.{HasRisen}
-use Rattle.refusal_lines.specs.declared.refusal.Refusal.{Refusal}
-use Rattle.refusal_lines.specs.declared.refusal.Refusal.TheVariants as refusals
+use Rattle.answer_lines.specs.declared.refusal.Refusal.{Refusal}
+use Rattle.answer_lines.specs.declared.refusal.Refusal.TheVariants as refusals
 use Rattle.insar_words.specs.declared.request.Request.{Request}
 use Rattle.insar_words.specs.declared.request.Request.TheVariants.{Unwrap, Grid, Check, Trial, Screen, Closure, Displacement, Whole, CheckWhole, Watch}
 use Rattle.insar_top.specs.Answers.{HasCutShort, IsInputTo, input_of}

@@ -13,8 +13,8 @@ use Rattle.report_check.specs.Verdicts.{IsCheckVerdict}
 use Rattle.insar_top.specs.Both.{BreaksBothBy, IsBoth, IsCheckableBy, IsStatusBy, IsToldBy, IsVerdictBy, most_of_text}
 use Rattle.insar_top.specs.Run.{Run}
 use Rattle.insar_top.specs.Unwrap.{IsReportAnswer}
-use Rattle.refusal_lines.specs.declared.refusal.Refusal.{Refusal}
-use Rattle.verdict_lines.specs.VerdictLines.{verdict_line}
+use Rattle.answer_lines.specs.declared.refusal.Refusal.{Refusal}
+use Rattle.answer_lines.specs.VerdictLines.{verdict_line}
 
 -- the bytes are the text of a session and then of a report that is not too long
 abbrev pub IsCheckable : ℕ → List ℕ → Type 0

@@ -14,8 +14,8 @@ use Rattle.raster_model.specs.Whole.{IsLeastOfAll}
 use Rattle.insar_top.specs.Both.{BreaksBothBy, IsBoth, IsCheckableBy, IsStatusBy, IsToldBy, IsVerdictBy, most_of_text}
 use Rattle.insar_top.specs.Run.{Run}
 use Rattle.insar_top.specs.Whole.{IsWholeAnswer}
-use Rattle.refusal_lines.specs.declared.refusal.Refusal.{Refusal}
-use Rattle.verdict_lines.specs.WholeLines.{whole_verdict_line}
+use Rattle.answer_lines.specs.declared.refusal.Refusal.{Refusal}
+use Rattle.answer_lines.specs.WholeLines.{whole_verdict_line}
 
 -- the bytes are the text of a session and then of a whole surface that is not too long
 abbrev pub IsWholeCheckable : ℕ → List ℕ → Type 0

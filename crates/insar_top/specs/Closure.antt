@@ -5,8 +5,8 @@ use Rattle.loop_closure.specs.declared.loops.Loops.{Loops}
 use Rattle.loop_closure.specs.Closure.{AreClosures, AreCycles, AreMisclosed, IsFirstWideLoop, IsWideAt}
 use Rattle.loop_closure.specs.LoopText.{loops_text}
 use Rattle.insar_top.specs.Grids.{AreGridsIn, BreaksMany}
-use Rattle.refusal_lines.specs.declared.refusal.Refusal.{Refusal}
-use Rattle.refusal_lines.specs.declared.refusal.Refusal.TheVariants as refusals
+use Rattle.answer_lines.specs.declared.refusal.Refusal.{Refusal}
+use Rattle.answer_lines.specs.declared.refusal.Refusal.TheVariants as refusals
 
 -- the bytes are the texts of these three grids: the phases 12, 23 and 13
 abbrev pub AreThree : List ℕ → GridOf → GridOf → GridOf → Type 0

@@ -8,8 +8,8 @@ use Rattle.displacement.specs.Blocks.{blocks_of, has_value}
 use Rattle.displacement.specs.Displacements.{HasCause, IsDisplacement, IsWideBlock}
 use Rattle.insar_words.specs.declared.displacing.Displacing.{Displacing}
 use Rattle.insar_top.specs.Grids.{AreGridsIn, BreaksMany}
-use Rattle.refusal_lines.specs.declared.refusal.Refusal.{Refusal}
-use Rattle.refusal_lines.specs.declared.refusal.Refusal.TheVariants as refusals
+use Rattle.answer_lines.specs.declared.refusal.Refusal.{Refusal}
+use Rattle.answer_lines.specs.declared.refusal.Refusal.TheVariants as refusals
 
 -- the sight that words ask for
 abbrev pub sight_of : Displacing → Sight

@@ -3,14 +3,14 @@ use Rattle.std.specs.Prelude.{◌≡◌, ◌≤◌, ◌⊎◌, ℕ, List, [], Re
 use Rattle.std.specs.Borrow.{Bor}
 use Rattle.clap.specs.Words.{Text}
 use Rattle.insar_ports.specs.declared.sink.WriteFault.{WriteFault}
-use Rattle.refusal_lines.specs.declared.refusal.Refusal.{Refusal}
-use Rattle.refusal_lines.specs.declared.refusal.Refusal.TheVariants as refusals
+use Rattle.answer_lines.specs.declared.refusal.Refusal.{Refusal}
+use Rattle.answer_lines.specs.declared.refusal.Refusal.TheVariants as refusals
 use Rattle.insar_words.specs.declared.request.Request.{Request}
 use Rattle.insar_words.specs.declared.fault.WordsFault.{WordsFault}
 use Rattle.insar_top.specs.Answers.{HasAnswered, IsWithinInput}
 use Rattle.insar_top.specs.Causes.{HasRefusalCause}
-use Rattle.refusal_lines.specs.Lines.{refusal_line}
-use Rattle.refusal_lines.specs.Refusals.{status_of, words_refusal}
+use Rattle.answer_lines.specs.RefusalLines.{refusal_line}
+use Rattle.answer_lines.specs.Refusals.{status_of, words_refusal}
 use Rattle.insar_words.specs.Requests.{HasWordsCause, IsRequest}
 use Rattle.insar_top.specs.Run.{HasKept, IsUnread, Run}
 

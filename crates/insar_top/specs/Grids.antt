@@ -3,8 +3,8 @@ use Rattle.std.specs.Prelude.{◌≡◌, ◌≤◌, ℕ, List, length}
 use Rattle.grid_writer.specs.Grids.{GridOf}
 use Rattle.grid_writer.specs.ManyGrids.{AreGrids, BreaksGrids, text_of_grids}
 use Rattle.grid_writer.specs.declared.fault.GridsFault.TheVariants as faults
-use Rattle.refusal_lines.specs.declared.refusal.Refusal.{Refusal}
-use Rattle.refusal_lines.specs.declared.refusal.Refusal.TheVariants as refusals
+use Rattle.answer_lines.specs.declared.refusal.Refusal.{Refusal}
+use Rattle.answer_lines.specs.declared.refusal.Refusal.TheVariants as refusals
 
 -- the most bytes of all of them
 abbrev pub max_grids_bytes : ℕ

@@ -4,7 +4,7 @@ use Rattle.raster_model.specs.declared.session.Session.{Session}
 use Rattle.insar_words.specs.Asked.{Options}
 use Rattle.raster_model.specs.declared.terms.Terms.{Terms}
 use Rattle.raster_model.specs.Sessions.{HasNewTerms}
-use Rattle.trial_lines.specs.Summary.{AreLinesOf}
+use Rattle.answer_lines.specs.TrialLines.{AreLinesOf}
 use Rattle.trial_maker.specs.Trials.{IsTrial}
 use Rattle.insar_top.specs.Options.{HasOptions}
 

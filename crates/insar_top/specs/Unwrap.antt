@@ -13,8 +13,8 @@ use Rattle.report_text.specs.Text.{report_text}
 use Rattle.tile_board.specs.Runs.{PublishedRise, ShownAreNewest}
 use Rattle.insar_top.specs.Options.{HasOptions}
 use Rattle.insar_top.specs.Run.{Run}
-use Rattle.refusal_lines.specs.declared.refusal.Refusal.{Refusal}
-use Rattle.refusal_lines.specs.declared.refusal.Refusal.TheVariants as refusals
+use Rattle.answer_lines.specs.declared.refusal.Refusal.{Refusal}
+use Rattle.answer_lines.specs.declared.refusal.Refusal.TheVariants as refusals
 
 -- the bytes are the text of a session that stands alone; they are that of some session
 abbrev pub IsInput : ℕ → List ℕ → SessionOf → Type 0

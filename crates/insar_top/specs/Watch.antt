@@ -6,7 +6,7 @@ use Rattle.raster_model.specs.declared.session.Session.{Session}
 use Rattle.tile_board.specs.declared.entry.Entry.{Entry}
 use Rattle.tile_board.specs.Histories.{IsComplete, IsLegal, published_in}
 use Rattle.tile_workers.specs.Watching.{HasRoom, WatcherView}
-use Rattle.watch_lines.specs.Watch.{IsSeen, last_in, seen_of, watch_text}
+use Rattle.answer_lines.specs.WatchLines.{IsSeen, last_in, seen_of, watch_text}
 use Rattle.insar_words.specs.Asked.{Options}
 use Rattle.insar_top.specs.Run.{Run}
 use Rattle.insar_top.specs.Unwrap.{IsGiven}

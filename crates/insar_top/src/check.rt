@@ -13,14 +13,13 @@ ghost use Rattle.std.specs.Prelude.{◌≡◌, IfErr, IfOk};
 
 use crate::both::read_first;
 use crate::ends::end_of;
+use answer_lines::{Refusal, put_verdict};
 use insar_ports::{Feed, Sink, Source};
 use insar_words::Settings;
 use raster_model::{MAX_SESSION_BYTES, Session};
-use refusal_lines::Refusal;
 use report_check::{CheckVerdict, check_report};
 use report_text::{Report, read_report};
 use std::alloc::Global;
-use verdict_lines::put_verdict;
 
 /// Reads a session and then a report, judges the report, puts the line of the verdict into the sink, and answers the status:
 /// 0 if the report is accepted, and 1 if it is not.

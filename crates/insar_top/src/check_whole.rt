@@ -13,12 +13,11 @@ ghost use Rattle.whole_text.specs.Text.{IsWhole, whole_text};
 
 use crate::both::read_first;
 use crate::ends::end_of;
+use answer_lines::{Refusal, put_whole_verdict};
 use insar_ports::{Feed, Sink, Source};
 use insar_words::Settings;
 use raster_model::{MAX_SESSION_BYTES, Session};
-use refusal_lines::Refusal;
 use std::alloc::Global;
-use verdict_lines::put_whole_verdict;
 use whole_check::{WholeVerdict, check_whole_text};
 use whole_text::{Whole, read_whole};
 

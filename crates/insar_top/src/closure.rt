@@ -7,9 +7,9 @@ ghost use Rattle.std.specs.Prelude.{IfErr, IfOk};
 
 use crate::ends::end_of;
 use crate::grids::read_many;
+use answer_lines::Refusal;
 use insar_ports::{Sink, Source};
 use loop_closure::{Loops, close_loop, write_loops};
-use refusal_lines::Refusal;
 use std::alloc::Global;
 
 /// Reads three grids, which are the phases 12, 23 and 13 of three acquisitions, closes their loop, writes the closures, the

@@ -8,11 +8,11 @@ ghost use Rattle.std.specs.Prelude.{◌≡◌, IfErr, IfOk};
 
 use crate::ends::end_of;
 use crate::grids::read_many;
+use answer_lines::Refusal;
 use displacement::{Sight, displace};
 use grid_writer::{Grid, write_values};
 use insar_ports::{Sink, Source};
 use insar_words::Displacing;
-use refusal_lines::Refusal;
 use std::alloc::Global;
 
 /// Reads a grid, turns it into displacements along the line of sight as the words set it, writes their grid, and answers the

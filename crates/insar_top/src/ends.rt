@@ -1,8 +1,8 @@
 ghost use Rattle.insar_top.specs.Ends.{end_of_put};
 ghost use Rattle.std.specs.Prelude.{◌≡◌};
 
+use answer_lines::Refusal;
 use insar_ports::WriteFault;
-use refusal_lines::Refusal;
 
 /// How a request ends whose text was put: with this status, unless there was a fault.
 pub fn end_of(put: Result<(), WriteFault>, status: u8) -> Result<u8, Refusal>

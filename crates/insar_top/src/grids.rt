@@ -5,9 +5,9 @@ ghost use Rattle.insar_top.specs.Grids.{AreGridsIn, BreaksMany, max_grids_bytes}
 ghost use Rattle.insar_top.specs.Run.{ReadsAll};
 ghost use Rattle.std.specs.Prelude.{◌≡◌, ◌≤◌, ℕ, IfErr, IfOk};
 
+use answer_lines::Refusal;
 use grid_writer::{Grid, read_grids};
 use insar_ports::{Feed, Source};
-use refusal_lines::Refusal;
 use std::alloc::Global;
 
 /// The greatest number of bytes of grids that are read one after the other.

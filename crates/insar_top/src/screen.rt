@@ -8,11 +8,11 @@ ghost use Rattle.std.specs.Prelude.{◌≡◌, IfOk};
 
 use crate::ends::end_of;
 use crate::session::read_alone;
+use answer_lines::Refusal;
 use auto_masks::{Screen, ScreenTerms};
 use insar_ports::{Sink, Source};
 use insar_words::Screening;
 use raster_model::{Mask, Plane, RuleKind, Session};
-use refusal_lines::Refusal;
 use session_script::write_session;
 use std::alloc::{AllocError, Global};
 use std::thread::Threads;

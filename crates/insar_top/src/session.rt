@@ -9,10 +9,10 @@ ghost use Rattle.std.specs.Prelude.{◌≡◌, IfErr, IfOk};
 ghost use Rattle.tile_board.specs.Histories.{IsComplete};
 
 use crate::board::finished;
+use answer_lines::Refusal;
 use insar_ports::{Feed, Source};
 use insar_words::Settings;
 use raster_model::{MAX_SESSION_BYTES, RuleKind, Session};
-use refusal_lines::Refusal;
 use session_script::{SessionUse, read_session_side_by_side};
 use std::alloc::Global;
 use std::sync::Wait;

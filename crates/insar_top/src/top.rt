@@ -5,14 +5,14 @@ ghost use Rattle.insar_top.specs.Causes.{HasRefusalCause};
 ghost use Rattle.insar_top.specs.Check.{IsJudged, IsVerdictTold};
 ghost use Rattle.insar_top.specs.CheckWhole.{IsWholeJudged, IsWholeVerdictTold};
 ghost use Rattle.insar_top.specs.Ends.{IsLineAt, IsProgramEnd, IsRequestEnd, end_status, line_of_end};
-ghost use Rattle.refusal_lines.specs.Lines.{refusal_line};
-ghost use Rattle.refusal_lines.specs.Refusals.{status_of};
+ghost use Rattle.answer_lines.specs.RefusalLines.{refusal_line};
+ghost use Rattle.answer_lines.specs.Refusals.{status_of};
 ghost use Rattle.insar_top.specs.Run.{IsUnread, run_of};
 ghost use Rattle.insar_top.specs.Unwrap.{IsDone};
 ghost use Rattle.insar_top.specs.Watch.{IsWatchDone};
 ghost use Rattle.insar_top.specs.Whole.{IsLeastDone};
-ghost use Rattle.refusal_lines.specs.declared.refusal.Refusal.{Refusal as AnyRefusal};
-ghost use Rattle.refusal_lines.specs.declared.refusal.Refusal.TheVariants as refusals;
+ghost use Rattle.answer_lines.specs.declared.refusal.Refusal.{Refusal as AnyRefusal};
+ghost use Rattle.answer_lines.specs.declared.refusal.Refusal.TheVariants as refusals;
 ghost use Rattle.insar_words.specs.Asked.{IsCheck, IsCheckWhole, IsCommand, IsRefused, IsWatch, IsWhole, Options};
 ghost use Rattle.insar_words.specs.Requests.{AskSomething, IsRequest};
 ghost use Rattle.insar_words.specs.declared.request.Request.{Request as Asked};
@@ -29,9 +29,9 @@ use crate::trial::run_trial;
 use crate::unwrap::run_unwrap;
 use crate::watch::run_watch;
 use crate::whole::run_whole;
+use answer_lines::{Refusal, put_refusal};
 use insar_ports::{Sink, Source};
 use insar_words::{Request, read_words};
-use refusal_lines::{Refusal, put_line};
 use std::alloc::Global;
 use std::sync::Wait;
 use std::thread::Threads;
@@ -204,7 +204,7 @@ fn status_told<D: Sink>(diag: &mut D, ended: Result<u8, Refusal>) -> u8
     match ended {
         Ok(status) => status,
         Err(refusal) => {
-            let _put = put_line(diag, refusal);
+            let _put = put_refusal(diag, refusal);
             refusal.status()
         }
     }

@@ -5,14 +5,13 @@ ghost use Rattle.std.specs.Prelude.{ℕ, List, Option};
 
 use crate::board::finished;
 use crate::ends::end_of;
+use answer_lines::{Refusal, put_summary, summary_of};
 use insar_ports::Sink;
 use insar_words::Trial;
-use refusal_lines::Refusal;
 use std::alloc::Global;
 use std::sync::Wait;
 use std::thread::Threads;
 use tile_workers::Gate;
-use trial_lines::{put_summary, summary_of};
 use trial_maker::make_session;
 
 /// Makes the session that the words name, runs its script, writes four lines, and answers the status 0. The lines say how many

@@ -5,9 +5,9 @@ ghost use Rattle.insar_words.specs.declared.request.Request.TheVariants as reque
 use crate::ends::end_of;
 use crate::pages::pages_for;
 use crate::session::solved;
+use answer_lines::Refusal;
 use insar_ports::{Sink, Source};
 use insar_words::Settings;
-use refusal_lines::Refusal;
 use report_text::write_report_side_by_side;
 use std::alloc::Global;
 use std::sync::Wait;

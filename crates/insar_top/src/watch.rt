@@ -6,20 +6,19 @@ ghost use Rattle.std.specs.Prelude.{◌+◌, ◌≤◌, [], length, slice_index_
 ghost use Rattle.text_lines.specs.Adding.{Adds, Puts};
 ghost use Rattle.text_lines.specs.Text.{texts_below};
 ghost use Rattle.text_lines.specs.Views.{view_of};
-ghost use Rattle.watch_lines.specs.Watch.{reader_line, watch_text};
+ghost use Rattle.answer_lines.specs.WatchLines.{reader_line, watch_text};
 
 use crate::ends::end_of;
 use crate::session::read_given;
 use crate::watching::watch_session;
+use answer_lines::{Refusal, add_published, add_reader};
 use insar_ports::{Sink, Source, WriteFault};
 use insar_words::Watching;
-use refusal_lines::Refusal;
 use std::alloc::Global;
 use std::sync::Wait;
 use std::thread::Threads;
 use text_lines::TextWriter;
 use tile_workers::{Gate, Watcher};
-use watch_lines::{add_published, add_reader};
 
 /// Reads a session, runs its scripts beside readers as the words set it, writes what was published and what each reader saw of
 /// it, and answers the status 0.

@@ -5,7 +5,7 @@ ghost use Rattle.reader_desk.specs.Fronts.{last_revision};
 ghost use Rattle.std.specs.Prelude.{◌≡◌, ℕ, All, Contains, IfOk, None, OnOk, Some, length};
 ghost use Rattle.surface_snapshots.specs.Views.{parts_of};
 ghost use Rattle.tile_board.specs.Histories.{IsLegal, published_in};
-ghost use Rattle.watch_lines.specs.Watch.{last_in};
+ghost use Rattle.answer_lines.specs.WatchLines.{last_in};
 
 use crate::board::{closed, opened};
 use board_desk::{Desk, Pass};

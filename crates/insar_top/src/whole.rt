@@ -4,9 +4,9 @@ ghost use Rattle.insar_words.specs.declared.request.Request.TheVariants as reque
 
 use crate::ends::end_of;
 use crate::session::read_given;
+use answer_lines::Refusal;
 use insar_ports::{Sink, Source};
 use insar_words::Settings;
-use refusal_lines::Refusal;
 use std::alloc::Global;
 use std::sync::Wait;
 use std::thread::Threads;

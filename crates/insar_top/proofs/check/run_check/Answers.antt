@@ -4,7 +4,7 @@ use Rattle.insar_words.specs.Requests.{options_of}
 use Rattle.insar_words.specs.declared.request.Request.TheVariants.{Check}
 use Rattle.report_check.specs.declared.verdict.CheckVerdict.TheVariants.{Accepted}
 use Rattle.report_text.specs.Contents.{report_told}
-use Rattle.verdict_lines.specs.VerdictLines.{verdict_line}
+use Rattle.answer_lines.specs.VerdictLines.{verdict_line}
 use Rattle.insar_top.specs.Check.{IsJudged}
 use Rattle.insar_top.specs.Run.{Run, run_of}
 use Rattle.insar_top.proofs.AnswerLemmas.{put_ends, read_cause}

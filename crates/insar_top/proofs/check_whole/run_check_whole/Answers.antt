@@ -4,7 +4,7 @@ use Rattle.insar_words.specs.Requests.{options_of}
 use Rattle.insar_words.specs.declared.request.Request.TheVariants.{CheckWhole}
 use Rattle.whole_check.specs.declared.verdict.WholeVerdict.TheVariants.{Accepted}
 use Rattle.whole_text.specs.Reading.{whole_told}
-use Rattle.verdict_lines.specs.WholeLines.{whole_verdict_line}
+use Rattle.answer_lines.specs.WholeLines.{whole_verdict_line}
 use Rattle.insar_top.specs.CheckWhole.{IsWholeJudged}
 use Rattle.insar_top.specs.Run.{Run, run_of}
 use Rattle.insar_top.proofs.AnswerLemmas.{put_ends, read_cause}

@@ -1,7 +1,7 @@
 use Rattle.std.proofs.Common.{◌≡◌, ℕ, Result}
 use Rattle.insar_ports.specs.Bytes.{HasRisen, with_end}
 use Rattle.insar_top.specs.Ends.{line_of_end}
-use Rattle.refusal_lines.specs.declared.refusal.Refusal.{Refusal}
+use Rattle.answer_lines.specs.declared.refusal.Refusal.{Refusal}
 use Rattle.insar_top.proofs.EndClauses as end
 use Rattle.insar_top.proofs.top.insar.Goals as goal
 

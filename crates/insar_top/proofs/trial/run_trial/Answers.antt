@@ -6,7 +6,7 @@ use Rattle.raster_model.specs.declared.session.Session.{Session}
 use Rattle.trial_maker.specs.Trials.{AreTrialScripts}
 use Rattle.insar_words.specs.declared.request.Request.TheVariants.{Trial}
 use Rattle.insar_top.specs.Run.{Run, run_beside}
-use Rattle.trial_lines.specs.Summary.{four_lines}
+use Rattle.answer_lines.specs.TrialLines.{four_lines}
 use Rattle.insar_top.proofs.AnswerLemmas.{put_ends}
 use Rattle.insar_top.proofs.TrialLemmas.{trial_again, trial_text, unmade_cause}
 use Rattle.insar_top.proofs.trial.run_trial.Goals as goal

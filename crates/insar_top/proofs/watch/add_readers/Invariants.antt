@@ -3,7 +3,7 @@ use Rattle.std.specs.Prelude.{slice_index_or}
 use Rattle.text_lines.specs.Adding.{Adds}
 use Rattle.text_lines.specs.Text.{texts_below}
 use Rattle.text_lines.specs.Views.{view_of}
-use Rattle.watch_lines.specs.Watch.{reader_line}
+use Rattle.answer_lines.specs.WatchLines.{reader_line}
 use Rattle.insar_top.specs.Watch.{all_seen}
 use Rattle.insar_top.proofs.watch.add_readers.Given as goal
 

@@ -1,7 +1,7 @@
 use Rattle.std.proofs.Common.{refl, rules}
 use Rattle.text_lines.proofs.AddLemmas.{puts_made}
 use Rattle.text_lines.proofs.ChainLemmas.{adds_two}
-use Rattle.watch_lines.specs.Watch.{watch_text}
+use Rattle.answer_lines.specs.WatchLines.{watch_text}
 use Rattle.insar_top.proofs.watch.put_lines.Goals as goal
 
 pub returns : goal.returns

@@ -1,6 +1,6 @@
 use Rattle.std.proofs.Common.{ℕ, List, refl}
 use Rattle.std.proofs.lemmas.Result.{err_from_is_err_and}
-use Rattle.watch_lines.specs.Watch.{watch_text}
+use Rattle.answer_lines.specs.WatchLines.{watch_text}
 use Rattle.insar_words.specs.declared.request.Request.TheVariants.{Watch}
 use Rattle.insar_top.specs.Run.{Run, run_of}
 use Rattle.insar_top.specs.Watch.{all_seen}

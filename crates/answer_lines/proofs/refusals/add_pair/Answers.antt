@@ -1,0 +1,6 @@
+use Rattle.std.proofs.Common.{refl}
+use Rattle.text_lines.proofs.ChainLemmas.{adds_three}
+use Rattle.answer_lines.proofs.refusals.add_pair.Goals as goal
+
+pub returns : goal.returns
+returns g c = adds_three c.bytes.ensures c.number.ensures c.add_around.ensures refl

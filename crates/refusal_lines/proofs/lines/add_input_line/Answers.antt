@@ -1,6 +1,0 @@
-use Rattle.std.proofs.Common.{refl}
-use Rattle.text_lines.proofs.ChainLemmas.{adds_three}
-use Rattle.refusal_lines.proofs.lines.add_input_line.Goals as goal
-
-pub returns : goal.returns
-returns g c = adds_three c.bytes.ensures c.add_fault.ensures c.end_line.ensures refl

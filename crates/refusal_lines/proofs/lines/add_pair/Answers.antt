@@ -1,6 +1,0 @@
-use Rattle.std.proofs.Common.{refl}
-use Rattle.text_lines.proofs.ChainLemmas.{adds_three}
-use Rattle.refusal_lines.proofs.lines.add_pair.Goals as goal
-
-pub returns : goal.returns
-returns g c = adds_three c.bytes.ensures c.number.ensures c.add_around.ensures refl

@@ -1,6 +1,0 @@
-use Rattle.std.proofs.Common.{refl}
-use Rattle.text_lines.proofs.ChainLemmas.{adds_three}
-use Rattle.trial_lines.proofs.summary.add_count.Goals as goal
-
-pub returns : goal.returns
-returns g c = adds_three c.bytes.ensures c.number.ensures c.end_line.ensures refl

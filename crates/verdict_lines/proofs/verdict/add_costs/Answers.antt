@@ -1,6 +1,0 @@
-use Rattle.std.proofs.Common.{refl}
-use Rattle.text_lines.proofs.ChainLemmas.{adds_four}
-use Rattle.verdict_lines.proofs.verdict.add_costs.Goals as goal
-
-pub returns : goal.returns
-returns g c = adds_four c.add_start.ensures c.bytes.ensures c.add_wide_field.ensures c.add_wide_field-2.ensures refl

@@ -1,6 +1,0 @@
-use Rattle.std.proofs.Common.{refl}
-use Rattle.text_lines.proofs.ChainLemmas.{adds_three}
-use Rattle.verdict_lines.proofs.verdict.add_pixel.Goals as goal
-
-pub returns : goal.returns
-returns g c = adds_three c.bytes.ensures c.add_field.ensures c.add_field-2.ensures refl

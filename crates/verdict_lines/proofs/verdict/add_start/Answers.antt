@@ -1,8 +1,0 @@
-use Rattle.std.proofs.Common.{refl}
-use Rattle.verdict_lines.specs.VerdictLines.{surface_start}
-use Rattle.text_lines.proofs.ChainLemmas.{adds_two}
-use Rattle.verdict_lines.proofs.verdict.add_start.Goals as goal
-
-pub returns : goal.returns
-unfolding surface_start
-returns g c = adds_two c.bytes.ensures c.add_field.ensures refl

@@ -1,6 +1,0 @@
-use Rattle.std.proofs.Common.{refl}
-use Rattle.text_lines.proofs.ChainLemmas.{adds_two}
-use Rattle.verdict_lines.proofs.verdict.add_unbalanced.Goals as goal
-
-pub returns : goal.returns
-returns g c = adds_two c.bytes.ensures c.add_field.ensures refl

@@ -1,6 +1,0 @@
-use Rattle.std.proofs.Common.{refl}
-use Rattle.text_lines.proofs.ChainLemmas.{adds_two}
-use Rattle.verdict_lines.proofs.whole.add_line.Goals as goal
-
-pub returns : goal.returns
-returns g c = adds_two c.add_verdict.ensures c.end_line.ensures refl

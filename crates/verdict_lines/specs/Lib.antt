@@ -1,2 +1,0 @@
-pub mod VerdictLines
-pub mod WholeLines

@@ -1,5 +1,0 @@
-use Rattle.watch_lines.proofs.SeenLemmas.{seen_end_with_the_last}
-use Rattle.watch_lines.proofs.laws.seen_end_with_the_last.Goals as goal
-
-pub returns : goal.returns
-returns c = seen_end_with_the_last

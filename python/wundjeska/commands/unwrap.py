@@ -140,8 +140,9 @@ def weights_note(scene: Scene) -> str:
 def write_page(path: Path, asked: Namespace, made: Input, solved: Solved, scene: Scene, reference: Reference) -> None:
     from .page import Shown, page_text
 
-    unscreened = made.before if made.screening else None
-    shown = Shown(asked.wavelength, axes_of(scene.phase.raster), unscreened, reference)
+    unscreened, axes = made.before if made.screening else None, axes_of(scene.phase.raster)
+    files = [("phase", asked.phase), ("coherence", asked.coherence or ""), ("mask", asked.mask or "")]
+    shown = Shown(asked.wavelength, axes, unscreened, reference, asked.unit, asked.turn, scene.coherence_shown(), files)
     path.write_text(page_text(Path(asked.geotiff).name, made.session, solved.report, solved.verdict, shown))
 
 

@@ -1,4 +1,4 @@
-"""What came of many scenes: which are done, why others failed, and how their loops close. Python alone.
+"""What came of many scenes: which are done, why others failed, and how their loops close.
 
 The Snakefile runs it at the end of a run, in the folder of the scenes, with what was asked for on standard input.
 """
@@ -10,6 +10,8 @@ from pathlib import Path
 from typing import Any, Dict, List, Optional
 
 from .networks import pair_of
+from .outputs import keep
+from .trouble import run_main
 
 MOST = 20  # loops and odd names that are listed
 KEPT = "; the surface of an earlier run still stands"
@@ -78,12 +80,23 @@ def lines_on_loops(names: List[str], scenes: List[Scene]) -> List[str]:
     return [head, *filter(None, failures), *more, *(f"{name}: {done[name]}" for name in worst)]
 
 
-def main() -> None:
+def main() -> int:
     config: Dict[str, Any] = json.load(sys.stdin)
     scenes = [scene_of(name) for name in config["scenes"]]
     lines = lines_on_scenes(scenes, config["odd"])
-    print("\n".join([*lines, *(lines_on_loops(list(config["triplets"]), scenes) if config["triplets"] else [])]), flush=True)
+    loops = list(config["triplets"])
+    print("\n".join([*lines, *(lines_on_loops(loops, scenes) if loops else [])]), flush=True)
+    write_page(scenes, config["page"], loops, config["said"])
+    return 0
+
+
+def write_page(scenes: List[Scene], pages: bool, loops: List[str], said: str) -> None:
+    """Writes the page of all scenes."""
+    from .stack_page import NAME, page_of
+
+    keep(Path(NAME), page_of(Path.cwd().name, scenes, pages, loops, said).encode())
+    print(f"{NAME} leads to all of them")
 
 
 if __name__ == "__main__":
-    main()
+    run_main(main)

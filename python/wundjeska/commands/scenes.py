@@ -2,6 +2,7 @@
 import hashlib
 import json
 import os
+import shlex
 import shutil
 import sys
 import textwrap
@@ -66,8 +67,8 @@ def split(words: List[str]) -> Tuple[Dict[str, str], List[str]]:
     return keys, others
 
 
-def config_of(folder: Path, asked: Wanted) -> Dict[str, object]:
-    """What the Snakefile wants: all that is asked for, the scenes, and the loops of three."""
+def config_of(folder: Path, asked: Wanted, said: str) -> Dict[str, object]:
+    """What the Snakefile wants: all that is asked for, the scenes, the loops of three, and the command line."""
     names = scenes_in(folder, asked.igram)
     if not names:
         what = "folder with a phase.tif" if asked.igram == IGRAM else asked.igram
@@ -79,7 +80,7 @@ def config_of(folder: Path, asked: Wanted) -> Dict[str, object]:
     if asked.mask and PAIR not in asked.mask and not (folder / asked.mask).exists():
         raise Trouble(f"there is no mask {folder / asked.mask}", FILE_FAULT)
     odd = [name for name in names if is_odd(name)]
-    return {**asdict(asked), "scenes": scenes, "odd": odd, "triplets": triplets}
+    return {**asdict(asked), "scenes": scenes, "odd": odd, "triplets": triplets, "said": said}
 
 
 def keep_config(folder: Path, config: Dict[str, object]) -> Path:
@@ -101,7 +102,7 @@ def main(words: List[str]) -> int:
     if not folder.is_dir():
         raise Trouble(f"there is no folder {words[0]}", FILE_FAULT)
     keys, others = split(words[1:])
-    config = config_of(folder, wanted(keys))
+    config = config_of(folder, wanted(keys), f"wundjeska scenes {shlex.join(words)}")
     snakemake = shutil.which("snakemake")
     if snakemake is None:
         raise Trouble("scenes want Debian's package snakemake", FILE_FAULT)

@@ -37,13 +37,16 @@ def phases_of(values: np.ndarray) -> np.ndarray:
 
 def has_phase(values: np.ndarray) -> np.ndarray:
     """True where a phase is: at finite numbers, and of complex ones at those that are not 0."""
-    return np.isfinite(values) & (values != 0) if np.iscomplexobj(values) else np.isfinite(values)
+    with np.errstate(invalid="ignore"):  # of bytes in the wrong order some are NaN of another kind
+        return np.isfinite(values) & (values != 0) if np.iscomplexobj(values) else np.isfinite(values)
 
 
-def check_radians(values: np.ndarray, opened: np.ndarray, name: str, scaled: bool, wrap: bool) -> None:
+def check_radians(
+    values: np.ndarray, opened: np.ndarray, name: str, scaled: bool, wrap: bool, hint: str = "--wrap"
+) -> None:
     """Trouble if these cannot be wrapped phases in radians, of any interval. `scaled` says that whole numbers had a scale.
 
-    With `wrap` they may span more than a cycle. Complex numbers are phases whatever they are.
+    With `wrap`, which `hint` names, they may span more than a cycle. Complex numbers are phases whatever they are.
     """
     if np.iscomplexobj(values) or not opened.any():
         return
@@ -57,19 +60,19 @@ def check_radians(values: np.ndarray, opened: np.ndarray, name: str, scaled: boo
     if high - low > TURN + SLACK and not wrap:
         raise Trouble(
             f"{name} has values from {low:g} to {high:g}, more than a cycle of 6.28319 radians. Are they degrees? If they are "
-            "radians of an unwrapped phase, --wrap wraps them"
+            f"radians of an unwrapped phase, {hint} wraps them"
         )
     if 0.99 <= high - low <= 1.0 and opened.sum() >= MANY:
         warn(f"{name} has values from {low:g} to {high:g}: taken as radians, though they look like cycles")
 
 
-def check_coherence(coherence: np.ndarray, name: str, highest: float) -> None:
-    """Trouble if a coherence, in parts of `highest`, is not from 0 to 1."""
+def check_coherence(coherence: np.ndarray, name: str, highest: float, hint: str = "--coherence-max") -> None:
+    """Trouble if a coherence, in parts of `highest`, which `hint` names, is not from 0 to 1."""
     low, high = float(coherence.min(initial=0)), float(coherence.max(initial=0))
     if not (low >= -0.001 and high <= 1.001):
         raise Trouble(
             f"{name} has values from {low * highest:g} to {high * highest:g}, wanted 0 to {highest:g}; if a greater number "
-            "stands for a coherence of 1, name it by --coherence-max"
+            f"stands for a coherence of 1, name it by {hint}"
         )
 
 
@@ -80,6 +83,12 @@ def check_size(width: int, height: int, name: str) -> None:
             f"{name} has {width} by {height} pixels; a session has at most {MAX_SIDE} a side and {MAX_PIXELS} in all. "
             "`wundjeska frames` (recipes/frames.py) cuts larger rasters into frames"
         )
+
+
+def as_stored(number: float, kind: np.dtype) -> np.ndarray:
+    """A number as an array of this kind has it: rounded if that is of floats, else itself, which it may not be able to hold."""
+    with np.errstate(over="ignore"):
+        return np.array(number).astype(kind) if kind.kind in "fc" else np.array(number)
 
 
 # Planes and sessions

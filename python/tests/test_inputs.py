@@ -84,6 +84,17 @@ class MaskedArrays(unittest.TestCase):
         self.closes(Labelled(filled, {"_FillValue": -0.1}), COHERENCE)
         self.closes(IGRAM, Labelled(np.where(OUT, -9999.0, COHERENCE), {"_FillValue": -9999.0}))
 
+    def test_a_labelled_array_that_tells_that_it_is_no_phase(self) -> None:
+        for attrs in (
+            {"units": "cycles"},
+            {"units": "m"},
+            {"WUNDJESKA_UNIT": "cycles"},
+            {"WUNDJESKA_VERSION": "0.1.0"},
+        ):
+            with self.assertRaisesRegex(Trouble, "and no wrapped phase|a wrapped phase is in radians"):
+                wundjeska.unwrap(Labelled(np.angle(IGRAM), attrs), COHERENCE)  # type: ignore[arg-type]
+        self.closes(Labelled(np.where(OUT, np.nan, np.angle(IGRAM)), {"units": "radians"}), COHERENCE)
+
     def test_xarray(self) -> None:
         try:
             import xarray
@@ -279,6 +290,8 @@ class OtherNames(InFolder):
     def test_names_that_are_not_of_utf_8(self) -> None:
         phase = raster(self.folder / "phase.tif", np.angle(IGRAM))
         self.assertIn("UTF-8", self.refused(self.folder / "none\udcff.tif"))
+        status, told = command("wundjeska", phase, self.folder / "made\udcff.tif", errors="surrogateescape")
+        self.assertEqual((status, told.count("\n"), "UTF-8" in told), (5, 1, True), told)
         status, told = command("to_session.py", phase, self.folder / "session\udcff", errors="surrogateescape")
         self.assertEqual((status, "session\udcff: 40 by 30" in told), (0, True), told)
 

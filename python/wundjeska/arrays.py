@@ -7,7 +7,8 @@ from typing import Any, Mapping, Optional, Tuple
 
 import numpy as np
 
-from .planes import as_stored
+from .outputs import PRODUCT
+from .planes import as_stored, check_told
 from .trouble import Trouble
 
 PHASES, REALS = "fciu", "fiub"  # kinds of numbers, as NumPy names them
@@ -34,6 +35,13 @@ def attributes_of(given: Any) -> Mapping[str, Any]:
     """What a labelled array tells of itself."""
     found = getattr(given, "attrs", None)
     return found if isinstance(found, Mapping) else {}
+
+
+def check_attributes(given: Any, name: str, wrap: bool) -> None:
+    """Trouble if a labelled array tells that it is no wrapped phase: by its unit, or as a product of this program."""
+    told = attributes_of(given)
+    own = str(told.get(f"{PRODUCT}UNIT", "")) if any(str(key).startswith(PRODUCT) for key in told) else None
+    check_told(name, str(told.get("units", "")), own, wrap)
 
 
 def missing_in(values: np.ndarray, number: Any) -> np.ndarray:

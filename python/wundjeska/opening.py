@@ -10,6 +10,7 @@ from xml.sax.saxutils import escape
 import numpy as np
 from osgeo import gdal, gdal_array
 
+from .outputs import check_utf_8
 from .trouble import FILE_FAULT, REFUSED_WORDS, Trouble
 
 gdal.UseExceptions()
@@ -30,11 +31,8 @@ def gdal_trouble(path: str, error: RuntimeError) -> Trouble:
 
 
 def open_by_gdal(path: str) -> gdal.Dataset:
-    """What GDAL reads. Its names are of UTF-8."""
-    try:
-        path.encode()
-    except UnicodeEncodeError as error:
-        raise Trouble(f"{path}: a raster's name has to be of UTF-8", FILE_FAULT) from error
+    """What GDAL reads."""
+    check_utf_8(path)
     try:
         return gdal.Open(path)
     except RuntimeError as error:

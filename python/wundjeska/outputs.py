@@ -41,6 +41,14 @@ def is_stream(name: Name) -> bool:
         return False
 
 
+def check_utf_8(name: Name) -> None:
+    """Trouble if GDAL cannot take the name of a raster."""
+    try:
+        str(name).encode()
+    except UnicodeEncodeError as error:
+        raise Trouble(f"{name}: a raster's name has to be of UTF-8", FILE_FAULT) from error
+
+
 def has_mark(path: Path) -> bool:
     """Whether a file has the metadata of a product, which no GeoTIFF compresses."""
     with open(path, "rb") as file, mmap.mmap(file.fileno(), 0, access=mmap.ACCESS_READ) as content:
@@ -83,6 +91,8 @@ class Outputs:
             raise Trouble(f"{name} is a stream; what is written needs the name of a file", REFUSED_WORDS)
         place = Path(os.path.realpath(name))
         self.check(Path(name), place)
+        if is_geotiff:
+            check_utf_8(name)
         if is_geotiff and Path(name).suffix.lower() not in SUFFIXES:
             raise Trouble(f"{name}: what is written is a GeoTIFF, whose name ends in .tif or .tiff", REFUSED_WORDS)
         self.check_kept(name, place, is_geotiff)
@@ -105,7 +115,11 @@ class Outputs:
 
     def check_kept(self, name: Name, place: Path, is_geotiff: bool) -> None:
         """Trouble if a file is there that is no product: whatever it is where a GeoTIFF is written, else a raster."""
-        if self.force or not place.exists() or not place.stat().st_size or has_mark(place):
+        if self.force or not place.exists() or not place.stat().st_size:
+            return
+        if not os.access(place, os.R_OK):
+            raise Trouble(f"{name} is there and cannot be read", FILE_FAULT)
+        if has_mark(place):
             return
         if is_geotiff or is_raster(place):
             how = "another name is needed" if self.force is None else "--force replaces it"

@@ -66,6 +66,20 @@ def check_radians(
         warn(f"{name} has values from {low:g} to {high:g}: taken as radians, though they look like cycles")
 
 
+# Units of what is no phase in radians.
+LENGTHS = r"(kilo|centi|milli|micro|nano)?met(re|er)s?|[kcm\u00b5\u03bcun]?m|inch(es)?|in|foot|feet|ft"
+NO_RADIANS = re.compile(rf"cycles?|{LENGTHS}|degrees?|deg|\u00b0", re.IGNORECASE)
+
+
+def check_told(name: str, unit: str, product: Optional[str], wrap: bool) -> None:
+    """Trouble if what is told of values says that they are no wrapped phase: their unit, or that they are a product in the unit
+    `product`, which is None if they are none. A product in radians can be wrapped again."""
+    if product is not None and not (wrap and product == "radians"):
+        raise Trouble(f"{name} is a product of this program{f' in {product}' if product else ''}, and no wrapped phase")
+    if NO_RADIANS.fullmatch(re.split(r"[\s/*^]", unit.strip())[0]):
+        raise Trouble(f"{name} is in {unit.strip()}, by what it says itself; a wrapped phase is in radians, or complex")
+
+
 def check_coherence(coherence: np.ndarray, name: str, highest: float, hint: str = "--coherence-max") -> None:
     """Trouble if a coherence, in parts of `highest`, which `hint` names, is not from 0 to 1."""
     low, high = float(coherence.min(initial=0)), float(coherence.max(initial=0))

@@ -17,7 +17,7 @@ from .opening import Raw, check_bands, gdal_trouble
 from .opening import open_raster as open_raster
 from .outputs import PRODUCT
 from .pictures import Axes
-from .planes import MAX_WEIGHT, as_stored, check_coherence, check_radians, has_phase, phases_of
+from .planes import MAX_WEIGHT, as_stored, check_coherence, check_radians, check_told, has_phase, phases_of
 from .trouble import BROKEN_INPUT, FILE_FAULT, REFUSED_WORDS, Trouble
 from .weights import add_weight_words, weights_of
 
@@ -27,10 +27,6 @@ NODATA = -9999.0  # of the rasters written
 MASK_FLAGS = gdal.GMF_PER_DATASET | gdal.GMF_ALPHA
 Window = Tuple[int, int, int, int]
 Bands = Union[int, Tuple[int, int]]  # that of a phase, or of the parts of complex numbers
-LENGTHS = r"(kilo|centi|milli|micro|nano)?met(re|er)s?|[kcm\u00b5\u03bcun]?m|inch(es)?|in|foot|feet|ft"
-NO_RADIANS = re.compile(
-    rf"cycles?|{LENGTHS}|degrees?|deg|\u00b0", re.IGNORECASE
-)  # units of what is no phase in radians
 
 
 # Opening
@@ -138,10 +134,6 @@ class Band:
 
     def name(self) -> str:
         return name_of(self.raster)
-
-    def unit(self) -> str:
-        found: str = self.raster.GetRasterBand(self.number).GetUnitType()
-        return found.strip()
 
     def has_scale(self) -> bool:
         """Whether the band says what its numbers mean: a scale or an offset."""
@@ -330,12 +322,10 @@ def is_product(raster: gdal.Dataset) -> bool:
 
 
 def check_is_phase(band: Band, wrap: bool) -> None:
-    """Trouble if a raster says that it is no wrapped phase: by its unit, or as a product. One in radians can be wrapped again."""
-    unit, own = band.unit(), band.raster.GetMetadataItem(f"{PRODUCT}UNIT")
-    if is_product(band.raster) and not (wrap and own == "radians"):
-        raise Trouble(f"{band.name()} is a product of this program{f' in {own}' if own else ''}, and no wrapped phase")
-    if NO_RADIANS.fullmatch(re.split(r"[\s/*^]", unit)[0]):
-        raise Trouble(f"{band.name()} is in {unit}, by what it says itself; a wrapped phase is in radians, or complex")
+    """Trouble if a raster says that it is no wrapped phase."""
+    unit = band.raster.GetRasterBand(band.number).GetUnitType()
+    own = (band.raster.GetMetadataItem(f"{PRODUCT}UNIT") or "") if is_product(band.raster) else None
+    check_told(band.name(), unit, own, wrap)
 
 
 def opened_by(asked: Namespace, path: str, form: str) -> gdal.Dataset:

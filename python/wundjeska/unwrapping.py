@@ -10,7 +10,7 @@ import numpy.typing as npt
 
 from . import report_reader, screening
 from .arguments import name_of_file, number, one_of, refused, whole_number, yes_or_no
-from .arrays import PHASES, REALS, taken
+from .arrays import PHASES, REALS, check_attributes, taken
 from .components import components_of, warning_of
 from .concerns import Concern, concerns_of, judgement_of
 from .outputs import Outputs, beside
@@ -239,6 +239,7 @@ class Arrays:
     def interferogram(self) -> Tuple[np.ndarray, np.ndarray]:
         """Its numbers, and where they are there."""
         values, there = taken(self.igram, "the interferogram", PHASES, self.nodata)
+        check_attributes(self.igram, "the interferogram", self.wrap)
         if values.ndim != 2 or not values.size:
             raise Trouble(f"an interferogram has two dimensions and numbers; this one has the shape {values.shape}")
         check_size(values.shape[1], values.shape[0], "the interferogram")

@@ -144,12 +144,12 @@ def weights_note(scene: Scene) -> str:
     return "linear in coherence" if scene.looks is None else f"by the variance of {scene.looks:g} looks"
 
 
-def write_page(path: Path, asked: Namespace, made: Input, solved: Solved, scene: Scene, reference: Reference) -> None:
+def page_of(asked: Namespace, made: Input, solved: Solved, scene: Scene, reference: Reference) -> bytes:
     from .page import Shown, page_text
 
     unscreened = made.before if made.screening else None
     shown = Shown(asked.wavelength, axes_of(scene.phase.raster), unscreened, reference)
-    path.write_text(page_text(Path(asked.geotiff).name, made.session, solved.report, solved.verdict, shown))
+    return page_text(Path(asked.geotiff).name, made.session, solved.report, solved.verdict, shown).encode()
 
 
 def main(asked: Namespace) -> int:
@@ -177,7 +177,7 @@ def main(asked: Namespace) -> int:
         if numbered:
             write_components(numbered, like, components, asked.least_component)
         if page:
-            write_page(page, asked, made, solved, scene, reference)
+            outputs.fill(page, page_of(asked, made, solved, scene, reference))
         for kept, text in ((kept_session, made.session), (kept_report, solved.report), (unscreened, made.before)):
             if kept:
                 outputs.fill(kept, text)

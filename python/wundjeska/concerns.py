@@ -30,6 +30,7 @@ HIGH_SEAMS = 0.1  # of what the tiles cost
 LONG_LINE = 24  # pixels from end to end: more than any cut through noise had, and less than any rupture
 STEEP_SLOPE = 0.3  # cycles a pixel
 SAMPLED = 1048576  # pixels of which the fringe rate is taken, at most, or nearly
+FEW = 100  # pixels or cells, of fewer of which a share says nothing
 
 NONE = "none"
 NOTED = re.compile(r"([a-z]+)( \(bad\))?: (.*)")
@@ -191,17 +192,22 @@ def wrapped_differences(phase: np.ndarray, axis: int, slope: int = 0) -> np.ndar
     return rises.view(np.int16).astype(np.int32) + slope
 
 
+def share_of(part: int, number: int) -> float:
+    """A part of a number, or 0 if that is few."""
+    return part / number if number >= FEW else 0.0
+
+
 def both_open(opened: np.ndarray, axis: int) -> np.ndarray:
     """Whether both ends of each edge along an axis are open."""
     return (opened[:, 1:] & opened[:, :-1]) if axis else (opened[1:] & opened[:-1])
 
 
 def residue_share(phase: np.ndarray, opened: np.ndarray, ramp: Ramp = (0, 0)) -> float:
-    """The share of cells of four open pixels that have a residue; 0 if there is no such cell."""
+    """The share of cells of four open pixels that have a residue; 0 if there are few such cells."""
     across, down = wrapped_differences(phase, 1, ramp[0]), wrapped_differences(phase, 0, ramp[1])
     around = across[:-1] + down[:, 1:] - across[1:] - down[:, :-1]
     cells = both_open(both_open(opened, 0), 1)
-    return float((around != 0)[cells].mean()) if cells.any() else 0.0
+    return share_of(int((cells & (around != 0)).sum()), int(cells.sum()))
 
 
 def departs(surface: Surface, phase: np.ndarray, axis: int, slope: int) -> np.ndarray:
@@ -255,11 +261,10 @@ def rate_of(phase: np.ndarray, weights: np.ndarray, opened: np.ndarray) -> Optio
 def signs_of(phase: np.ndarray, weights: np.ndarray, surface: Surface, problem: Problem) -> Signs:
     """What is measured of a surface of these phases and weights, which is least for this problem."""
     opened = surface.opened()
-    known = max(1, int(opened.sum()))
     parts, outside = scattered(opened)
     return Signs(
         residues=residue_share(phase, opened, problem.ramp),
-        zeros=int((opened & (phase == 0)).sum()) / known,
+        zeros=share_of(int((opened & (phase == 0)).sum()), int(opened.sum())),
         tile_cost=surface.tile_cost,
         seam_cost=surface.seam_cost,
         lines=lines_of(surface, phase, problem.ramp),

@@ -30,7 +30,7 @@ from .. import program
 from ..build_info import with_proofs
 from ..components import pieces_of
 from ..joining import Link, Offsets, links_of, offsets_of
-from ..outputs import Outputs, keep
+from ..outputs import Outputs, add_force_word, keep
 from ..planes import CYCLE, MAX_PIXELS, Ramp, session_of
 from ..product import add_unit_words, check_unit_words, in_unit, kind_of, nodata_of, unit_notes
 from ..ramps import AUTO, RampWord, Spectrum, add_ramp_words, found_in, told
@@ -388,6 +388,7 @@ def words() -> ArgumentParser:
     add_whole_word(found, "each frame")
     add_reference_words(found, auto=False)
     add_unit_words(found, blocks=False)
+    add_force_word(found)
     found.add_argument("geotiff", help="the file to write")
     return found
 
@@ -410,8 +411,8 @@ def main(asked: Namespace) -> int:
     raster = scene.phase.raster
     check_box(reference_of(asked).box, *size_of(raster))
     frames = frames_of(size_of(raster), asked.side, asked.overlap, asked.folder)
-    with Outputs(scene.files()) as outputs:
-        made = outputs.beside(asked.geotiff)
+    with Outputs(scene.files(), asked.force) as outputs:
+        made = outputs.raster(asked.geotiff)
         asked.folder.mkdir(parents=True, exist_ok=True)
         ramp = ramp_of(scene, asked.ramp)
         if ramp is not None:

@@ -20,7 +20,7 @@ from .. import report_reader
 from ..components import components_of
 from ..concerns import Signs, judgement_of, signs_of, wrapped_differences
 from ..displacements import LENGTHS, Sight, displaced, wavelength_of
-from ..outputs import Outputs
+from ..outputs import Outputs, add_force_word
 from ..pages import COMMON, HINT, end_of, footer, head_of, map_script, scaled, words_said
 from ..pictures import (
     BRIGHTER,
@@ -64,8 +64,8 @@ DROPPED: Dict[int, Colour] = {WEAK: (214, 96, 77), ISLAND: (146, 100, 190), LONE
 @dataclass(frozen=True)
 class Shown:
     """What a page is asked for: the radar's wavelength in metres, axes, the session before it was screened, what is 0, the unit, and
-    whether the sign is turned; the coherence that the weights are made of, if it is known; and the files that it is of, each with what
-    it is."""
+    whether the sign is turned; the coherence that the weights are made of, if it is known; the files that it is of, each with what it
+    is; and what was measured of the last surface, if that was done before."""
 
     wavelength: Optional[float] = None
     axes: Optional[Axes] = None
@@ -75,6 +75,7 @@ class Shown:
     turn: bool = False
     coherence: Optional[np.ndarray] = None
     files: Sequence[Tuple[str, str]] = ()
+    signs: Optional[Signs] = None
 
     def unit_or_default(self) -> str:
         """The unit: as asked, or centimetres if there is a wavelength."""
@@ -555,7 +556,7 @@ def page_text(name: str, session: bytes, report: bytes, verdict: str, shown: Sho
     signs = None
     if found.surfaces:
         level_of(found.surfaces[-1].values, shown.reference.box)  # Trouble if the last surface has no value there
-        signs = signs_of(planes.phase, planes.weights, found.surfaces[-1], problem_of(found))
+        signs = shown.signs or signs_of(planes.phase, planes.weights, found.surfaces[-1], problem_of(found))
     return page_of(name, Picture(planes, found, axes, shown, signs, terms, screening), verdict, verdict == ACCEPTED)
 
 
@@ -596,6 +597,7 @@ def words() -> ArgumentParser:
         "--unscreened", metavar="FILE", help="the session before it was screened, to show what that dropped, and why"
     )
     found.add_argument("--title", help="of the page (default: the report's name)")
+    add_force_word(found)
     found.add_argument("page", help="the HTML file to write")
     return found
 
@@ -606,7 +608,7 @@ def main(asked: Namespace) -> int:
         wavelength_of(asked.wavelength)
     if asked.unit in LENGTHS and asked.wavelength is None:
         raise Trouble(f"{asked.unit} want the --wavelength", REFUSED_WORDS)
-    with Outputs([asked.session, asked.report, asked.unscreened, asked.like]) as outputs:
+    with Outputs([asked.session, asked.report, asked.unscreened, asked.like], asked.force) as outputs:
         made = outputs.beside(asked.page)
         session, report = Path(asked.session).read_bytes(), Path(asked.report).read_bytes()
         found = read_report(report, asked.report)
@@ -618,7 +620,7 @@ def main(asked: Namespace) -> int:
         files = [("session", asked.session), ("report", asked.report), ("place", asked.like or "")]
         axes = axes_of(asked.like, found)
         shown = Shown(asked.wavelength, axes, unscreened, reference, asked.unit, asked.turn, None, files)
-        made.write_text(page_text(name, session, report, verdict, shown))
+        outputs.fill(made, page_text(name, session, report, verdict, shown).encode())
     print(f"{asked.page}: {verdict}")
     if asked.reference_auto:
         print(f"{asked.page}: reference: {reference.note}")

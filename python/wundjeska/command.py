@@ -1,7 +1,7 @@
 """The command `wundjeska`: a verb and its words. Without a verb it unwraps."""
-import json
 import sys
 from argparse import ArgumentParser
+from difflib import get_close_matches
 from importlib import import_module
 from pathlib import Path
 from typing import Dict, List, NoReturn, Optional
@@ -21,7 +21,7 @@ VERBS: Dict[str, str] = {
     "live": "keeps a page of a session that is being worked on",
     "report": "tells what is in a report",
 }
-INFO = Path(__file__).resolve().parent / "build.json"  # of what a package was built from
+ALIKE = 0.7  # of the letters of a word and of a verb, which it may have been meant to be
 USE = "usage: wundjeska [VERB] WORDS..; `wundjeska VERB --help` tells a verb's words\n\n"
 
 
@@ -39,9 +39,10 @@ def refuse(why: str) -> NoReturn:
 
 
 def version() -> str:
-    """The version, and for a package the commit, kit and logic of the program inside."""
-    told = json.loads(INFO.read_text()) if INFO.exists() else {}
-    return "\n".join([f"wundjeska {__version__}", *(f"{name} {value}" for name, value in told.items())])
+    """The version, and for a package where the program inside comes from, and what the gate said of it."""
+    from .build_info import lines
+
+    return "\n".join([f"wundjeska {__version__}", *lines()])
 
 
 def help_text() -> str:
@@ -70,6 +71,14 @@ def run(verb: str, words: List[str]) -> int:
     return status
 
 
+def check_verb(words: List[str]) -> None:
+    """Trouble if the first word is no file and looks like a verb that is misspelt."""
+    word = words[0]
+    near = get_close_matches(word, VERBS, 1, ALIKE) if word.isalpha() else []
+    if near and not Path(word).exists():
+        raise Trouble(f"there is no verb {word}, nor a raster of this name; did you mean {near[0]}?", REFUSED_WORDS)
+
+
 def command(words: List[str]) -> int:
     """The status of the words."""
     if not words:
@@ -82,6 +91,7 @@ def command(words: List[str]) -> int:
         return 0
     if words[0] in VERBS:
         return run(words[0], words[1:])
+    check_verb(words)
     return run("unwrap", words)
 
 

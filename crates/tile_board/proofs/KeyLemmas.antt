@@ -44,9 +44,13 @@ both false a b h = absurd (cc)
 itself : (x : Bool) (a : ℕ) → IsTrue x → IsTrue (x && (a == a))
 itself x a h = grind (arith, nat_tests)
 
+-- a key is of a tile that passes the test, and has its claims
+pub key_fits : (lacks : ℕ → Bool) (claims : List ℕ) (keys : Keys) (k : ℕ × ℕ) → AreLacking lacks claims keys → IsTrue (contains key_order keys k) → IsTrue (lacks k.1) × (k.0 ≡ slice_index claims k.1)
+key_fits lacks claims keys k are there = both (lacks k.1) k.0 (slice_index claims k.1) (sym (are k.0 k.1) ∙ there)
+
 pub first_is : (lacks : ℕ → Bool) (claims : List ℕ) (keys : Keys) (k : ℕ × ℕ) → AreLacking lacks claims keys → IsTrue (contains key_order keys k) → IsLowerBound key_order keys k → IsLeastClaimed lacks claims k.1
 first_is lacks claims keys k are there lower =
-    let here = both (lacks k.1) k.0 (slice_index claims k.1) (sym (are k.0 k.1) ∙ there) in
+    let here = key_fits lacks claims keys k are there in
     record {
       lacking = here.0;
       least = λ u l. (

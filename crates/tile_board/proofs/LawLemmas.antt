@@ -11,7 +11,7 @@ use Rattle.tile_board.specs.BoardView.{BoardView}
 use Rattle.tile_board.specs.Calls.{AddsEntry, IsAdvance}
 use Rattle.tile_board.specs.Histories.{IsLegal, IsStep, mask_in, newest_of, now_of, present_mask}
 use Rattle.tile_board.specs.Runs.{BoardCall, IsCall, LeadTo, IsNoLater, NamesRevision, ShownAreNewest, PublishedRise, EveryHistoryIsLegal, LegalHistoriesMoveOn, HeldAreGoodAtStamp}
-use Rattle.tile_board.specs.Runs.BoardCall.{Keeps, Publishes, Advances, Other}
+use Rattle.tile_board.specs.Runs.BoardCall.{Keeps, KeepsSolved, Publishes, PublishesMade, Advances, Other}
 use Rattle.tile_board.proofs.HistoryLemmas.{legal_none, legal_push, legal_take, newest_more, newest_same, newest_within}
 use Rattle.tile_board.proofs.KeptLemmas.{good_across}
 use Rattle.tile_board.proofs.EarlierLemmas.{same_at_stamp}
@@ -37,7 +37,9 @@ module _ (s : Session) where
 
   called : (call : BoardCall) (old new : BoardView) → IsCall call old new → IsLegalBoard old → IsLegalBoard new
   called (Keeps k) old new c is = added old new (Kept k.tile k.stamp) c.adds is
+  called (KeepsSolved k) old new c is = added old new (Kept k.tile k.stamp) c.adds is
   called (Publishes a seams) old new c is = added old new (Published a seams.revision) c.adds is
+  called (PublishesMade a surface) old new c is = added old new (Published a surface.seams.revision) c.adds is
   called (Advances a answer) old new c is = advanced old new a answer c is
   called Other old new c is = subst IsLegalBoard (sym c) is
 

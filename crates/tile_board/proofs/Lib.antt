@@ -1,4 +1,5 @@
 pub mod ListLemmas
+pub mod FirstKeys
 pub mod KeyLemmas
 pub mod ShareLemmas
 pub mod HistoryLemmas

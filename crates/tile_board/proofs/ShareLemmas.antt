@@ -1,6 +1,6 @@
 -- Shares of the tiles that have no result.
 use Rattle.std.proofs.Common.{◌≡◌, ℕ, zero, suc, ◌+◌, ◌<◌, sym, ◌∙◌, ap, refl, subst, arith, Bool, false, List, [], ◌∷◌, length}
-use Rattle.std.specs.Prelude.{Option, Some, None, ◌&&◌, ◌||◌, ◌==◌, count_by, is_none, slice_get, slice_index}
+use Rattle.std.specs.Prelude.{Option, Some, None, ◌&&◌, ◌||◌, ◌==◌, IsFalse, IsTrue, count_by, is_none, max, min, slice_get, slice_index}
 use Rattle.std.specs.BTreeMap.{is_at}
 use Rattle.std.specs.BTreeSet.{IsOrdered, btree_set_len}
 use Rattle.std.specs.Cmp.{IsTotalOrder}
@@ -12,13 +12,14 @@ use Rattle.std.proofs.lemmas.List.Sums.{length-filter}
 use Rattle.std.proofs.lemmas.Map.Keys.{IsDistinct-cons, IsDistinct-from_sorted}
 use Rattle.std.proofs.lemmas.Map.Made.{length-from_same_keys}
 use Rattle.std.proofs.lemmas.Bool.{false≢true}
+use Rattle.std.proofs.Math.Nat.{div-le_self}
 use Rattle.raster_model.specs.declared.session.Session.{Session}
 use Rattle.raster_model.specs.Tiles.{tiles_of}
 use Rattle.tile_board.specs.declared.ticket.Ticket.{Ticket}
 use Rattle.tile_board.specs.BoardView.{BoardView}
-use Rattle.tile_board.specs.Calls.{IsClaim}
+use Rattle.tile_board.specs.Calls.{IsClaim, share_size}
 use Rattle.tile_board.specs.Histories.{AreAllKept}
-use Rattle.tile_board.specs.Lacking.{AreLackingIn, LackingView, is_empty, is_key, key_order}
+use Rattle.tile_board.specs.Lacking.{AreLackingIn, LackingView, is_empty, is_key, key_order, lacks_in}
 use Rattle.tile_board.proofs.KeyLemmas.{key_at}
 
 -- where a tile was claimed, one is not kept
@@ -89,3 +90,26 @@ keys_count kept v ordered are =
     let other = keys_from v.claims kept 0 in
     length-from_same_keys (eq_by_cmp_equiv total) v.keys.keys other (IsDistinct-from_sorted key_order v.keys.keys ordered) (distinct v.claims kept 0) (λ q. are.keys q.0 q.1 ∙ sym (there v.claims kept 0 q.0 q.1 q.1 (omega arith)))
     ∙ (counted v.claims kept 0 ∙ length-filter is_none kept)
+
+-- ---- a share has as many tiles as it should: no more than there are without a result
+pub share_within : (lacking parts most : ℕ) → 0 < lacking → min (share_size lacking parts most) lacking ≡ share_size lacking parts most
+share_within lacking parts most some = let part = div-le_self lacking (max 1 parts) in grind arith
+
+module _ {A : Type 0} where
+  none_found : (kept : List (Option A)) → length (filter is_none kept) ≡ 0 → (t : ℕ) → IsFalse (lacks_in kept t)
+  none_found [] e zero = refl
+  none_found [] e (suc t) = refl
+  none_found (None ∷ kept) e t = absurd (omega (arith, e))
+  none_found (Some k ∷ kept) e zero = refl
+  none_found (Some k ∷ kept) e (suc t) = none_found kept e t
+
+  one_found : (kept : List (Option A)) → 0 < length (filter is_none kept) → (t : ℕ) × IsTrue (lacks_in kept t)
+  one_found [] l = absurd (omega (arith, l))
+  one_found (None ∷ kept) l = (0, refl)
+  one_found (Some k ∷ kept) l = (let rest = one_found kept l in (suc rest.0, rest.1))
+
+  pub none_counted : (kept : List (Option A)) → count_by is_none kept ≡ 0 → (t : ℕ) → IsFalse (lacks_in kept t)
+  none_counted kept e = none_found kept (length-filter is_none kept ∙ e)
+
+  pub one_counted : (kept : List (Option A)) → 0 < count_by is_none kept → (t : ℕ) × IsTrue (lacks_in kept t)
+  one_counted kept l = one_found kept (omega (arith, l, length-filter is_none kept))

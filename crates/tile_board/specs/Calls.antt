@@ -1,5 +1,5 @@
 -- What the calls of a board answer, and what they add.
-use Rattle.std.specs.Prelude.{◌≡◌, ◌≢◌, ℕ, ◌/◌, ◌<◌, ◌≤◌, All, Bool, IsTrue, IsFalse, Some, None, List, [], ◌∷◌, ◌++◌, count_by, is_none, length, map, max, min, replicate, set, slice_get, if◌then◌else◌}
+use Rattle.std.specs.Prelude.{◌≡◌, ◌≢◌, ℕ, ◌/◌, ◌<◌, ◌≤◌, All, AllPairs, Bool, IsTrue, IsFalse, Some, None, List, [], ◌∷◌, ◌++◌, count_by, is_none, length, map, max, min, replicate, set, slice_get, if◌then◌else◌}
 use Rattle.std.specs.Arc.{arc_value}
 use mathlib.Core.List.{IsPrefix}
 use Rattle.raster_model.specs.declared.script.Command.TheVariants.{Settle}
@@ -73,10 +73,11 @@ lacking_count v = count_by is_none v.kept
 abbrev pub share_size : ℕ → ℕ → ℕ → ℕ
 share_size lacking parts most = max 1 (min most (lacking / max 1 parts))
 
--- as many claims as the share has tiles
+-- as many claims as the share has tiles, no two of them of the same tile
 pub record AreClaims (v : BoardView) (parts most : ℕ) (tickets : List Ticket) : Type 0 where
   pub count : length tickets ≡ share_size (lacking_count v) parts most
   pub each : All (IsClaim v) tickets
+  pub apart : AllPairs (λ t u. t ≢ u) (map (λ ticket. ticket.tile) tickets)
 
 -- every tile is kept; or one is not, and there is no memory for its mask
 abbrev pub HasClaimFault : BoardView → ClaimFault → Type 0

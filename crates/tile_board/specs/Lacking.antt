@@ -1,5 +1,5 @@
 -- The tiles that lack a result, by keys in the order in which tiles are claimed. No clause of a public function cites this file.
-use Rattle.std.specs.Prelude.{◌≡◌, ℕ, ◌<◌, ◌≤◌, Bool, true, false, not, ◌&&◌, ◌||◌, ◌==◌, nat_lt, IsFalse, IsTrue, MatchOption, Option, Some, None, List, length, slice_get, slice_index}
+use Rattle.std.specs.Prelude.{◌≡◌, ◌≢◌, ℕ, ◌<◌, ◌≤◌, All, AllPairs, Bool, true, false, not, ◌&&◌, ◌||◌, ◌==◌, nat_lt, IsFalse, IsTrue, MatchOption, Option, Some, None, List, length, slice_get, slice_index}
 use Rattle.std.specs.BTreeSet.{BTreeSet, contains}
 use Rattle.std.specs.Ordering.{nat_cmp, ordering_then}
 use Rattle.std.specs.declared.cmp.Ordering.{Ordering}
@@ -76,6 +76,11 @@ pub record IsLeastClaimed (lacks : ℕ → Bool) (claims : List ℕ) (t : ℕ) :
 
 abbrev pub IsNextClaim : (ℕ → Bool) → List ℕ → Option ℕ → Type 0
 IsNextClaim lacks claims found = MatchOption found ((t : ℕ) → IsFalse (lacks t)) (IsLeastClaimed lacks claims)
+
+-- tiles that pass a test, no two of them the same
+pub record AreDifferent (lacks : ℕ → Bool) (tiles : List ℕ) : Type 0 where
+  pub lacking : All (λ t. IsTrue (lacks t)) tiles
+  pub apart : AllPairs (λ t u. t ≢ u) tiles
 
 -- the tiles that have no result
 module _ {A : Type 0} where

@@ -5,25 +5,30 @@ use Rattle.certificates.specs.declared.results.SeamResult.{SeamResult}
 use Rattle.raster_model.specs.Tiles.{tile_at, tiles_of}
 use Rattle.certificates.specs.declared.results.TileResult.{TileResult}
 use Rattle.certificates.specs.Results.{IsGoodTile}
+use Rattle.surface_snapshots.specs.Parts.{Parts}
 use Rattle.tile_board.specs.declared.answers.Advance.{Advance}
 use Rattle.tile_board.specs.declared.entry.Entry.{Entry}
 use Rattle.tile_board.specs.declared.entry.Entry.TheVariants.{Revised, Kept, Published, Settled, Shown}
 use Rattle.tile_board.specs.BoardView.{BoardView}
-use Rattle.tile_board.specs.Calls.{IsAdvance, IsKeep, IsNew, IsPublication}
+use Rattle.tile_board.specs.Calls.{IsAdvance, IsKeep, IsMadePublication, IsNew, IsPublication}
 use Rattle.tile_board.specs.Boards.{IsHeld}
 use Rattle.tile_board.specs.Histories.{IsLegal, mask_in, newest_of, present_mask}
 
--- a call: one that kept a result, published, or was an analyst's next command with its answer; or any other, a refused one too
+-- a call: `keep` or `keep_solved`, `publish` or `publish_made`, or `advance` with its answer, where none was refused; or any other call, a refused one too
 pub data BoardCall : Type 0 where
   Keeps : TileResult → BoardCall
+  KeepsSolved : TileResult → BoardCall
   Publishes : ℕ → SeamResult → BoardCall
+  PublishesMade : ℕ → Parts → BoardCall
   Advances : ℕ → Advance → BoardCall
   Other : BoardCall
 
 -- what the contracts say of the board before and after it, and through a list of calls
 abbrev pub IsCall : BoardCall → BoardView → BoardView → Type 0
 IsCall (Keeps k) old new = IsKeep old new k
+IsCall (KeepsSolved k) old new = IsKeep old new k
 IsCall (Publishes a seams) old new = IsPublication old new a seams
+IsCall (PublishesMade a surface) old new = IsMadePublication old new a surface
 IsCall (Advances a answer) old new = IsAdvance old new a answer
 IsCall Other old new = new ≡ old
 

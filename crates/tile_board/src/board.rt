@@ -52,7 +52,7 @@ impl Board {
     ghost use Rattle.raster_model.specs.declared.script.Command.TheVariants.{Change, Show};
     ghost use Rattle.seam_regions.specs.Regions.{AreRegionsOf};
     ghost use Rattle.std.specs.Arc.{arc_value};
-    ghost use Rattle.std.specs.Prelude.{◌≡◌, ◌↔◌, IfErr, IfNone, IfOk, IfSome, IsTrue, OnErr, OnOk, Some, map, option_map};
+    ghost use Rattle.std.specs.Prelude.{◌≡◌, ◌↔◌, IfErr, IfNone, IfOk, IfSome, IsTrue, OnErr, OnOk, Some, length, map, option_map};
     ghost use Rattle.surface_snapshots.specs.Views.{parts_of};
     ghost use Rattle.tile_board.specs.declared.answers.PublishFault.TheVariants.{Memory};
     ghost use Rattle.tile_board.specs.declared.entry.Entry.TheVariants.{Published};
@@ -96,6 +96,7 @@ impl Board {
       next_command,
       now_of,
     };
+    ghost use Rattle.tile_board.specs.Lacking.{AreDifferent, lacks_in};
     ghost use Rattle.tile_board.specs.States.{AddsSurface, HasSurfaceFault, IsWithoutOthers};
     ghost use Rattle.tile_board.specs.Surfaces.{last_surface};
 
@@ -133,20 +134,13 @@ impl Board {
         let Some(tile) = self.lacking.first() else {
             return Err(ClaimFault::NoJob);
         };
-        let unmasked = self.revisions.window_mask(alloc, tile)?;
-        let session = self.session.clone()?;
-        self.lacking.claim(tile)?;
-        Ok(Ticket {
-            session,
-            tile,
-            stamp: self.revisions.stamp(tile),
-            unmasked,
-        })
+        self.claim_tile(alloc, tile)
     }
 
-    /// Gives several tiles to solve, as `claim` gives one: one part of those that are not kept, if they are divided into
-    /// `parts`, but at most `most`, and at least one. With no parts it is as with one part. `Memory` is returned only if
-    /// there is a tile that is not kept. What contracts see of the board does not change.
+    /// Gives several tiles to solve, no two of them the same: one part of those that are not kept, if they are divided
+    /// into `parts`, but at most `most`, and at least one. With no parts it is as with one part. They are those that were
+    /// claimed least often. `Memory` is returned only if there is a tile that is not kept. What contracts see of the board
+    /// does not change.
     pub fn claim_share(
         &mut self,
         alloc: Global,
@@ -157,9 +151,10 @@ impl Board {
         ensures refused { IfErr result (HasClaimFault self.old) }
         ensures unchanged { self.new ≡ self.old }
     {
+        let tiles = self.share_tiles(alloc, parts, most)?;
         let mut tickets = Vec::new(alloc);
-        for _ticket in 0..share_of(self.lacking_tiles(), parts, most) {
-            let ticket = self.claim(alloc)?;
+        for &tile in &tiles {
+            let ticket = self.claim_tile(alloc, tile)?;
             tickets.reserve(1)?;
             push_within(&mut tickets, ticket);
         }
@@ -342,11 +337,37 @@ impl Board {
         command_at(&self.session.scripts, analyst, self.done(analyst))
     }
 
-    /// How many tiles have no kept result.
-    fn lacking_tiles(&self) -> usize
-        ensures { result ≡ lacking_count self.now }
+    /// The tiles of a share: those that are claimed next.
+    fn share_tiles(&self, alloc: Global, parts: u32, most: u32) -> Result<Vec<u32>, ClaimFault>
+        ensures count { IfOk result (λ tiles. length tiles.items ≡ share_size (lacking_count self.now) parts most) }
+        ensures tiles { IfOk result (λ tiles. AreDifferent (lacks_in self.now.kept) tiles.items) }
+        ensures refused { IfErr result (HasClaimFault self.now) }
     {
-        self.lacking.count()
+        let lacking = self.lacking.count();
+        if lacking == 0 {
+            return Err(ClaimFault::NoJob);
+        }
+        let count = share_of(lacking, parts, most);
+        Ok(self.lacking.next_tiles(alloc, count)?)
+    }
+
+    /// Gives a tile that is not kept to solve. It fails only for lack of memory.
+    fn claim_tile(&mut self, alloc: Global, tile: u32) -> Result<Ticket, ClaimFault>
+        requires { IsTrue (lacks_in self.old.kept tile) }
+        ensures tile { IfOk result (λ ticket. ticket.tile ≡ tile) }
+        ensures claimed { IfOk result (IsClaim self.old) }
+        ensures refused { IfErr result (HasClaimFault self.old) }
+        ensures unchanged { self.new ≡ self.old }
+    {
+        let unmasked = self.revisions.window_mask(alloc, tile)?;
+        let session = self.session.clone()?;
+        self.lacking.claim(tile)?;
+        Ok(Ticket {
+            session,
+            tile,
+            stamp: self.revisions.stamp(tile),
+            unmasked,
+        })
     }
 
     /// Whether a result may be kept, or the first reason why not.

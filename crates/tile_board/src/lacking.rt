@@ -1,7 +1,10 @@
-ghost use Rattle.std.specs.Prelude.{◌≡◌, ◌<◌, ◌≤◌, ℕ, Bool, ◌&&◌, ◌==◌, IfOk, IsTrue, OnErr, OnOk, length, slice_index};
+ghost use Rattle.std.specs.BTreeSet.{btree_set_len};
+ghost use Rattle.std.specs.Prelude.{◌≡◌, ◌<◌, ◌≤◌, ℕ, Bool, ◌&&◌, ◌==◌, IfOk, IsTrue, List, OnErr, OnOk, length, min, slice_index};
 ghost use Rattle.tile_board.specs.Lacking.{
   AreAddedFresh,
   AreAllFresh,
+  AreDifferent,
+  AreLacking,
   AreLackingWith,
   IsAdded,
   IsKeyTaken,
@@ -40,9 +43,10 @@ impl Model for LackingTiles {
 
 impl LackingTiles {
     ghost use Rattle.std.specs.BTreeSet.{IsOrdered, btree_set_len};
-    ghost use Rattle.std.specs.Prelude.{◌≡◌, ◌<◌, ◌≤◌, ℕ, Bool, IfOk, IsTrue, OnErr, OnOk, length, slice_index};
+    ghost use Rattle.std.specs.Prelude.{◌≡◌, ◌<◌, ◌≤◌, ℕ, Bool, IfOk, IsTrue, OnErr, OnOk, length, min, slice_index};
     ghost use Rattle.tile_board.specs.Lacking.{
       AreAllFresh,
+      AreDifferent,
       AreLacking,
       AreLackingWith,
       IsNextClaim,
@@ -80,6 +84,14 @@ impl LackingTiles {
         ensures ordered { IsOrdered key_order self.now.keys }
     {
         self.keys.len()
+    }
+
+    /// The tiles that are claimed next: so many of them, or all that lack a result if these are fewer.
+    pub(crate) fn next_tiles(&self, alloc: Global, count: usize) -> Result<Vec<u32>, AllocError>
+        ensures count { IfOk result (λ tiles. length tiles.items ≡ min count (btree_set_len self.now.keys)) }
+        ensures tiles { IfOk result (λ tiles. (lacks : ℕ → Bool) → AreLacking lacks self.now.claims self.now.keys → AreDifferent lacks tiles.items) }
+    {
+        tiles_of_first(alloc, &self.keys, count)
     }
 
     /// Counts a claim of a tile that lacks a result.
@@ -168,6 +180,26 @@ fn first_keys(alloc: Global, tiles: u32) -> Result<BTreeSet<(u32, u32)>, AllocEr
         add_key(&mut keys, 0, tile)?;
     }
     Ok(keys)
+}
+
+/// The tiles of the first keys: of so many, or of all if there are fewer.
+fn tiles_of_first(
+    alloc: Global,
+    keys: &BTreeSet<(u32, u32)>,
+    count: usize,
+) -> Result<Vec<u32>, AllocError>
+    ensures count { IfOk result (λ tiles. length tiles.items ≡ min count (btree_set_len keys.now)) }
+    ensures tiles { IfOk result (λ tiles. (lacks : ℕ → Bool) (claims : List ℕ) → AreLacking lacks claims keys.now → AreDifferent lacks tiles.items) }
+{
+    let mut tiles = Vec::new(alloc);
+    let mut rest = keys.iter();
+    for _place in 0..count {
+        let Some(key) = rest.next() else {
+            return Ok(tiles);
+        };
+        tiles.push(key.1)?;
+    }
+    Ok(tiles)
 }
 
 /// Adds the key with no claims for each tile of a list.

@@ -3,7 +3,7 @@
 ghost use Rattle.tile_board.specs.LastSettled.{OneScriptTellsTheRevision};
 ghost use Rattle.tile_board.specs.Runs.{EveryHistoryIsLegal, HeldAreGoodAtStamp, LegalHistoriesMoveOn};
 
-/// Whatever is called on a new board, by any analysts and with any results handed in, its history is legal.
+/// Whatever is called on a new board, by any analysts and with any results and surfaces handed in, its history is legal.
 pub fn every_history_is_legal()
     ensures { EveryHistoryIsLegal }
 {}

@@ -1,7 +1,11 @@
-use Rattle.std.proofs.Common.{◌≡◌, length}
+use Rattle.std.proofs.Common.{◌≡◌, map, take}
 use Rattle.std.specs.List.{All}
 use Rattle.tile_board.specs.Calls.{IsClaim}
 use Rattle.tile_board.proofs.board.Board.claim_share.Given as goal
 
-abbrev pub invariant-loop-ticket : goal.invariant-loop-ticket
-invariant-loop-ticket l = (l.self ≡ l.initial.self) × (length l.tickets.items ≡ l._ticket) × All (IsClaim l.initial.self) l.tickets.items
+abbrev pub invariant-loop-tile : goal.invariant-loop-tile
+invariant-loop-tile l = record {
+  same : l.self ≡ l.initial.self;
+  each : All (IsClaim l.initial.self) l.tickets.items;
+  tiles : map (λ ticket. ticket.tile) l.tickets.items ≡ take l.tile-index l.tile-items;
+}

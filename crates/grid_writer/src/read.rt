@@ -90,7 +90,6 @@ pub fn read_sized_grid<S: Source>(
 }
 
 /// Reads a grid whose size is within limits.
-#[tactic(auto, using(text_lines::proofs::StepLemmas::moves_on))]
 fn read_within<S: Source>(
     alloc: Global,
     feed: &mut Feed<S>,
@@ -140,7 +139,6 @@ fn read_count<S: Source>(
 }
 
 /// Reads what follows the size.
-#[tactic(auto, using(text_lines::proofs::StepLemmas::moves_on))]
 fn read_body<S: Source>(
     alloc: Global,
     feed: &mut Feed<S>,
@@ -180,7 +178,6 @@ fn read_frame<S: Source>(feed: &mut Feed<S>, lines: &mut Lines) -> Result<(), Li
 }
 
 /// Reads the rows into an empty list.
-#[tactic(auto, using(text_lines::proofs::StepLemmas::moves_on))]
 fn read_rows<S: Source>(
     feed: &mut Feed<S>,
     lines: &mut Lines,

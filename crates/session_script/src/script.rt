@@ -137,10 +137,6 @@ fn usual_scripts(alloc: Global) -> Result<Vec<Script>, SessionFault>
     ensures made { IfOk result (λ scripts. scripts_in scripts ≡ usual) }
     ensures starved { IfErr result (λ fault. fault ≡ session_faults.Memory) }
 {
-    let mut commands = Vec::with_capacity(alloc, 2)?;
-    commands.push(Command::Settle)?;
-    commands.push(Command::Show)?;
-    let mut scripts = Vec::with_capacity(alloc, 1)?;
-    scripts.push(Script { commands })?;
-    Ok(scripts)
+    let commands = vec![in alloc; Command::Settle, Command::Show]?;
+    Ok(vec![in alloc; Script { commands }]?)
 }

@@ -227,7 +227,6 @@ fn weighed_beside_mask<R: Threads + Sync>(
 }
 
 /// The session of its parts, of the weights of its edges and of the mask of its mask plane.
-#[tactic(auto, using(crate::proofs::AskSession::mask_of))]
 fn put_together(kind: RuleKind, parts: Parts, edges: EdgeWeights, first_mask: Mask) -> Session
     requires sized { IsSized parts }
     requires complete { AreComplete (frame_of parts.tiling) (scripts_in parts.scripts) }

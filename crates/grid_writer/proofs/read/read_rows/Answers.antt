@@ -8,7 +8,7 @@ use Rattle.insar_ports.proofs.CallLemmas.{stays}
 use Rattle.text_lines.specs.LineWords.{lines_read}
 use Rattle.text_lines.specs.Numbers.{FitsLong, numbers_line}
 use Rattle.text_lines.proofs.LineLemmas.{takes_nothing}
-use Rattle.text_lines.proofs.StepLemmas.{fails_next, joined, moves_join, texts_are, texts_join}
+use Rattle.text_lines.proofs.StepLemmas.{fails_next, joined, moves_join, moves_on, texts_are, texts_join}
 use Rattle.grid_writer.specs.Grid.{grid_rows}
 use Rattle.grid_writer.specs.Grids.{value_at}
 use Rattle.grid_writer.specs.GridParts.{IsRowLine, IsRowsText}
@@ -55,3 +55,6 @@ returns-in_err-read_row-clause-refused g c =
     let p = err_from_is_err_and c.from_residual.result c.from_residual.ensures.1 in
     rw (p.1, p.2) (fails_next (IsRowsText c.args.width c.args.height) (IsRowLine c.args.width) (grid_rows c.args.width c.loop.counter v) (rows_whole c.args.width c.loop.counter v) (row_first c.args.width c.args.height c.loop.counter c.loop.values.items i.full i.longs (omega arith))
     (call_of g.S.Source.left g.S.Source.faults c.args.feed.now c.loop.feed) (call_of g.S.Source.left g.S.Source.faults c.loop.feed c.read_row.new.feed) (lines_read c.args.lines.now) (lines_read c.loop.lines) c.in_err-read_row.field-0.0 i.limit i.moves i.taken c.in_err-read_row.ensures.refused)
+
+pub returns-in_err-read_row-clause-moves : goal.returns-in_err-read_row-clause-moves
+returns-in_err-read_row-clause-moves g c = moves_on c.loop.invariant.moves c.read_row.ensures.moves

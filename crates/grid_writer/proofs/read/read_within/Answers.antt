@@ -71,3 +71,6 @@ returns-clause-refused g c =
     (λ fault cause. cause_join (columns_line w.width ++ rows_line h.height) (IsBodyText w.width h.height) (IsGridTextIn s) (grid_after s c.requires w.width w.ensures.within.0 w.ensures.within.1 h.height h.ensures.within.0 (rw c.min-most_height.ensures at h.ensures.within.1)) (joined a b) d done here fault (c.read_count-2.ensures.same_limit ∙ c.read_count.ensures.same_limit)
     (moves_join a b c.read_count.ensures.moves c.read_count-2.ensures.moves) (texts_join a b (columns_line w.width) (rows_line h.height) done (lines_read c.read_count.new.lines) here w.ensures.read h.ensures.read) cause)
     c.read_body.ensures.refused
+
+pub returns-in_err-height-clause-moves : goal.returns-in_err-height-clause-moves
+returns-in_err-height-clause-moves g c = moves_on c.read_count.ensures.moves c.read_count-2.ensures.moves

@@ -1,7 +1,7 @@
-use Rattle.std.proofs.Common.{◌∙◌, ◌≤◌, length, arith}
+use Rattle.std.proofs.Common.{◌∙◌, ◌≤◌, length, arith, refl}
 use Rattle.raster_model.specs.Scripts.{is_settle, is_change, CommandsFit}
 use Rattle.session_script.proofs.WithinLemmas.{length_is}
-use Rattle.session_script.proofs.AskSession.{each_script, same_counts}
+use Rattle.session_script.proofs.AskSession.{each_script, mask_of, same_counts}
 use Rattle.session_script.proofs.session.put_together.Goals as goal
 
 pub invariant_of-result : goal.invariant_of-result
@@ -17,3 +17,8 @@ invariant_of-result c =
       changes = rw (same_counts is_change scripts.items) within.changes;
       inside = each_script (CommandsFit p.phase.width p.phase.height) scripts.items (rw (← c.requires.sized.0, ← c.requires.sized.1) within.inside);
     }
+
+pub returns-clause-made : goal.returns-clause-made
+returns-clause-made c =
+    let p = c.args.parts.planes in
+    record { phase_is = refl; weights_are = refl; mask_is = mask_of c.args.first_mask p.mask p.phase.width p.phase.height p.same_width.1 p.same_height.1 c.requires.mask; scripts_are = refl }

@@ -1,4 +1,4 @@
-use Rattle.std.proofs.Common.{◌≡◌, ◌∙◌, ◌+◌, ◌≤◌, ℕ, List, ap, arith, length, subst, sym}
+use Rattle.std.proofs.Common.{◌≡◌, ◌∙◌, ◌+◌, ◌≤◌, List, ap, arith, length, subst, sym}
 use mathlib.Core.List.{IsPrefix}
 use Rattle.reader_desk.specs.Fronts.{ShelfView}
 use Rattle.reader_desk.specs.Rules.{Item}

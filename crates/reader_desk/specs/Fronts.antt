@@ -1,5 +1,6 @@
 -- What contracts see of a writer, a reader or a note: which shelf it is of, and the surfaces that were placed there, as far as it knows.
 use Rattle.std.specs.Prelude.{◌≡◌, ◌⊎◌, ◌-◌, ℕ, List, Option, length, option_map, slice_get}
+use Rattle.std.specs.List.{filter_map}
 use mathlib.Core.List.{IsPrefix}
 use Rattle.logbook.specs.Pages.{Book}
 use Rattle.surface_snapshots.specs.Parts.{Parts}
@@ -10,6 +11,10 @@ pub record ShelfView : Type 0 where
 
 abbrev pub shelf_view : Book → List Parts → ShelfView
 shelf_view shelf surfaces = record { shelf = shelf; surfaces = surfaces }
+
+-- the surfaces of a list of entries, of which each is one
+abbrev pub surfaces_in : List (Option Parts) → List Parts
+surfaces_in log = filter_map (λ item. item) log
 
 -- the last of a list; None if it is empty
 abbrev pub last_of : {A : Type 0} → List A → Option A

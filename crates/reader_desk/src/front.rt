@@ -1,11 +1,11 @@
-ghost use Rattle.reader_desk.specs.Fronts.{last_of, last_revision, shelf_view};
-ghost use Rattle.reader_desk.specs.Rules.{head_of};
-ghost use Rattle.std.specs.Prelude.{◌≡◌, ◌++◌, ◌∷◌, [], IfOk, MatchOption, None, Some, false, true};
+ghost use Rattle.reader_desk.specs.Fronts.{HasAllOf, last_of, last_revision, shelf_view};
+ghost use Rattle.reader_desk.specs.Rules.{IsNextPen, head_of};
+ghost use Rattle.std.specs.Prelude.{◌≡◌, ◌++◌, ◌∷◌, [], IfOk, MatchOption, None, OnErr, Some, false, true};
 ghost use Rattle.surface_snapshots.specs.Views.{parts_of};
 ghost use mathlib.Core.List.{IsPrefix};
 
-use crate::law::{Add, Head, Law, Nothing, Page};
-use logbook::Offer;
+use crate::law::{Add, Ask, FIRST_WORDS, Head, Look, NEVER, Nothing, Page, pen_of_next};
+use logbook::Pen;
 use std::alloc::AllocError;
 use std::marker::Model;
 use surface_snapshots::Snapshot;
@@ -62,14 +62,14 @@ pub struct Front {
 }
 
 impl Model for Front {
-    ghost use Rattle.reader_desk.specs.Fronts.{ShelfView, last_of, shelf_view};
+    ghost use Rattle.reader_desk.specs.Fronts.{ShelfView, last_of, shelf_view, surfaces_in};
     ghost use Rattle.std.specs.Prelude.{◌≡◌, length};
 
     ghost Value = { ShelfView };
 
-    ghost view = { λ f. shelf_view f.page.book f.page.log };
+    ghost view = { λ f. shelf_view f.page.book (surfaces_in f.page.log) };
 
-    ghost invariant = { λ f. (f.count ≡ length f.page.log) × (f.last ≡ last_of f.page.log) };
+    ghost invariant = { λ f. (f.count ≡ length f.page.log) × (f.count ≡ length (surfaces_in f.page.log)) × (f.last ≡ last_of (surfaces_in f.page.log)) };
 }
 
 impl Front {
@@ -140,35 +140,45 @@ impl Front {
         self.count > other.count
     }
 
-    /// The list with one more surface. The word `head` is the list's. It is refused if the list is not as long as this
-    /// beginning, or has no room.
-    pub fn with(&self, head: &Head, placed: Placed) -> Result<Front, AllocError>
-        requires { head.now ≡ head_of self.now.shelf }
-        ensures { IfOk result (λ longer. longer ≡ shelf_view self.now.shelf (self.now.surfaces ++ placed ∷ [])) }
+    /// The list with one more surface. The word `head` is the list's, and `next` the pen of the next surface. It is refused
+    /// if the list has no room.
+    pub fn with(&self, head: &Head, next: &mut Pen, placed: Placed) -> Result<Front, AllocError>
+        requires head { head.now ≡ head_of self.now.shelf }
+        requires next { IsNextPen next.old self.now }
+        ensures longer { IfOk result (λ longer. longer ≡ shelf_view self.now.shelf (self.now.surfaces ++ placed ∷ [])) }
+        ensures next { IfOk result (IsNextPen next.new) }
+        ensures unchanged { OnErr result (next.new ≡ next.old) }
     {
         if self.count >= MOST {
             return Err(AllocError);
         }
+        let after = pen_of_next(head, &self.page, self.count + FIRST_WORDS + 1)?;
         let mut page = self.page.again();
-        let mut offer: Offer<Placed, u64, Law, Nothing> = page.plain::<Nothing, Placed, Add>(
-            &placed,
+        let mut offer: Ask = page.plain::<Nothing, Placed, Add>(&placed);
+        let _words = head.compare_exchange::<Add, Nothing>(
+            NEVER, NEVER, &mut page, &mut offer, next,
         );
-        let mut pen = page.no_pen();
-        let count = self.count;
-        let found = head.compare_exchange::<Add, Nothing>(
-            count,
-            count + 1,
-            &mut page,
-            &mut offer,
-            &mut pen,
-        );
-        if found != count {
-            return Err(AllocError);
-        }
+        *next = after;
         Ok(Front {
-            count: count + 1,
+            count: self.count + 1,
             last: Some(placed),
             page,
         })
+    }
+
+    /// Whoever has the pen of the next surface knows the whole list, and so all that another beginning of it has.
+    pub fn has_all_of(&self, head: &Head, next: &mut Pen, other: &Front)
+        requires head { head.now ≡ head_of self.now.shelf }
+        requires next { IsNextPen next.old self.now }
+        requires shelf { other.now.shelf ≡ self.now.shelf }
+        ensures next { (next.new.book ≡ next.old.book) × (next.new.nib ≡ next.old.nib) }
+        ensures all { HasAllOf other.now self.now }
+    {
+        let mut page = self.page.again();
+        page.learn(&other.page);
+        let mut offer: Ask = page.plain::<Nothing, (), Nothing>(&());
+        let _words = head.compare_exchange::<Look, Nothing>(
+            NEVER, NEVER, &mut page, &mut offer, next,
+        );
     }
 }

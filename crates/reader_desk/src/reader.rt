@@ -35,6 +35,9 @@ impl Model for ShelfReader {
 }
 
 impl ShelfReader {
+    ghost use Rattle.std.specs.Borrow.{sem};
+    ghost use Rattle.reader_desk.specs.Reads.{EndsRead};
+
     /// A reader that knows as much as the beginning `known`. Its seat names the same shelf.
     pub(crate) fn at(seat: Seat, known: Front) -> ShelfReader
         requires { NamesShelf known.shelf (view seat.place) }
@@ -73,6 +76,13 @@ impl ShelfReader {
         }
     }
 
+    /// What the reader knows.
+    pub(crate) fn known(&self) -> &Front
+        ensures { result.now ≡ self.now }
+    {
+        &self.known
+    }
+
     /// The last surface that the reader knows; None if it knows none.
     pub fn last_known(&self) -> Option<&Snapshot>
         ensures { MatchOption result (last_of self.now.surfaces ≡ None) (λ snapshot. last_of self.now.surfaces ≡ Some (parts_of snapshot.now)) }
@@ -80,11 +90,12 @@ impl ShelfReader {
         self.known.last()
     }
 
-    /// Looks, and gives the last surface that the reader knows then. A clause cannot say what a `&mut` is behind a result that
-    /// borrows it, so it says only that some list has all that was known, and the answer is the last of it. `look` says that
-    /// the reader then knows the list.
+    /// Looks, and gives the last surface that the reader knows then. Once nothing borrows the answer, the reader still knows
+    /// all that it knew before, and the answer is the last of what it knows (`ends`). So the answer is no older than what was
+    /// known. `answer` says the same of some list, while it is borrowed.
     pub fn read(&mut self) -> Option<&Snapshot>
-        ensures { (known : ShelfView) × HasAllOf self.old known × MatchOption result (last_of known.surfaces ≡ None) (λ snapshot. last_of known.surfaces ≡ Some (parts_of snapshot.now)) }
+        ensures* ends { sem 𝓛 (EndsRead self.entry result) }
+        ensures answer { (known : ShelfView) × HasAllOf self.old known × MatchOption result (last_of known.surfaces ≡ None) (λ snapshot. last_of known.surfaces ≡ Some (parts_of snapshot.now)) }
     {
         self.look();
         self.last_known()

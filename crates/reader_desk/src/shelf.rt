@@ -3,6 +3,7 @@ ghost use Rattle.reader_desk.specs.Seats.{NamesShelf};
 ghost use Rattle.std.specs.Prelude.{◌≡◌, ◌<◌, ◌≤◌, [], All, IfOk, drop, length};
 
 use crate::front::Front;
+use crate::law::{FIRST_WORDS, pen_of_next};
 use crate::names::Meets;
 use crate::reader::ShelfReader;
 use crate::writer::{ShelfWriter, Stand};
@@ -43,13 +44,14 @@ fn first_writer<R: Wait>(rt: &R, alloc: Global, readers: u32) -> Result<ShelfWri
     requires { (0 < readers) × (readers ≤ 8) }
     ensures { IfOk result (λ writer. writer.surfaces ≡ []) }
 {
-    let (page, mut pen, _other) = Seen::open(Start::alone(), 0, 0);
-    let head = Word::tracked(0, &mut pen);
+    let (page, mut pen, _other) = Seen::open(Start::alone(), FIRST_WORDS, 0);
+    let head = Word::tracked(FIRST_WORDS, &mut pen);
+    let next = pen_of_next(&head, &page, FIRST_WORDS)?;
     let placed = Front::first(page);
     let (first, second) = (placed.share()?, placed.share()?);
     let stand = Writer::new(alloc, first, second, readers as usize)?;
     let stand = naming(rt, stand)?;
-    Ok(ShelfWriter::at(stand, head, placed))
+    Ok(ShelfWriter::at(stand, head, next, placed))
 }
 
 /// The stand once it names the shelf of what it shows.

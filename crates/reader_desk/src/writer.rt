@@ -1,6 +1,6 @@
 ghost use Rattle.left_right.specs.Sides.{view};
-ghost use Rattle.reader_desk.specs.Fronts.{last_revision, shelf_view};
-ghost use Rattle.reader_desk.specs.Rules.{head_of};
+ghost use Rattle.reader_desk.specs.Fronts.{HasAllOf, last_revision, shelf_view};
+ghost use Rattle.reader_desk.specs.Rules.{IsNextPen, head_of};
 ghost use Rattle.reader_desk.specs.Seats.{NamesShelf};
 ghost use Rattle.std.specs.Prelude.{◌≡◌, ◌++◌, ◌∷◌, [], IfOk, MatchResult};
 ghost use Rattle.surface_snapshots.specs.Views.{parts_of};
@@ -11,6 +11,7 @@ use crate::names::{Copied, Meets, OneShelf, Replaced};
 use crate::note::Note;
 use crate::reader::{Seat, ShelfReader};
 use left_right::writer::Writer;
+use logbook::Pen;
 use std::alloc::AllocError;
 use std::marker::Model;
 use std::sync::Wait;
@@ -24,12 +25,14 @@ pub(crate) type Stand = Writer<Front, Front, Option<Front>, OneShelf>;
 pub struct ShelfWriter {
     stand: Option<Stand>,
     head: Head,
+    /// The right to add the next surface.
+    next: Pen,
     placed: Front,
 }
 
 impl Model for ShelfWriter {
     ghost use Rattle.reader_desk.specs.Fronts.{ShelfView};
-    ghost use Rattle.reader_desk.specs.Rules.{head_of};
+    ghost use Rattle.reader_desk.specs.Rules.{IsNextPen, head_of};
     ghost use Rattle.left_right.specs.Sides.{view as view_of};
     ghost use Rattle.reader_desk.specs.Seats.{NamesShelf};
     ghost use Rattle.std.specs.Prelude.{◌≡◌, IsSomeAnd};
@@ -38,20 +41,22 @@ impl Model for ShelfWriter {
 
     ghost view = { λ w. w.placed };
 
-    ghost invariant = { λ w. (w.head ≡ head_of w.placed.shelf) × IsSomeAnd w.stand (λ stand. NamesShelf w.placed.shelf (view_of stand.desk.place) × (stand.desk.shown.value.shelf ≡ w.placed.shelf)) };
+    ghost invariant = { λ w. (w.head ≡ head_of w.placed.shelf) × IsNextPen w.next w.placed × IsSomeAnd w.stand (λ stand. NamesShelf w.placed.shelf (view_of stand.desk.place) × (stand.desk.shown.value.shelf ≡ w.placed.shelf)) };
 }
 
 impl ShelfWriter {
     /// The writer of a new shelf.
-    pub(crate) fn at(stand: Stand, head: Head, placed: Front) -> ShelfWriter
+    pub(crate) fn at(stand: Stand, head: Head, next: Pen, placed: Front) -> ShelfWriter
         requires names { NamesShelf placed.shelf (view stand.desk.place) }
         requires shown { stand.desk.shown.value.shelf ≡ placed.shelf }
         requires head { head ≡ head_of placed.shelf }
+        requires next { IsNextPen next placed }
         ensures { result ≡ placed }
     {
         ShelfWriter {
             stand: Some(stand),
             head,
+            next,
             placed,
         }
     }
@@ -77,18 +82,18 @@ impl ShelfWriter {
         let shared = snapshot.share()?;
         let copy = Placed::new(shared);
         let placed = Placed::new(snapshot);
-        let longer = self.placed.with(&self.head, placed)?;
+        let longer = self.placed.with(&self.head, &mut self.next, placed)?;
         let shown = longer.copy_with(copy);
-        self.show(rt, shown, longer);
+        self.placed = longer;
+        self.show(rt, shown);
         Ok(())
     }
 
-    /// Takes `placed` as what was placed, and shows readers the same. If there is no memory for that, they go on seeing what
-    /// they saw, until more is placed.
-    fn show<R: Wait>(&mut self, rt: &R, shown: Front, placed: Front)
-        requires shown { shown ≡ placed }
-        requires shelf { placed.shelf ≡ self.old.shelf }
-        ensures { self.new ≡ placed }
+    /// Shows readers all that was placed. If there is no memory for that, they go on seeing what they saw, until more is
+    /// placed.
+    fn show<R: Wait>(&mut self, rt: &R, shown: Front)
+        requires { shown ≡ self.old }
+        ensures { self.new ≡ self.old }
     {
         let Some(stand) = self.stand.take() else {
             unreachable!();
@@ -98,7 +103,17 @@ impl ShelfWriter {
         if let Some(other) = self.stand.replace(stand) {
             drop(other.take(rt));
         }
-        self.placed = placed;
+    }
+
+    /// The writer alone places surfaces on its shelf: it has placed all that a reader of the shelf knows, in that order. It
+    /// takes one step, and changes nothing.
+    pub fn has_all_of(&mut self, reader: &ShelfReader)
+        requires { reader.now.shelf ≡ self.old.shelf }
+        ensures all { HasAllOf reader.now self.old }
+        ensures unchanged { self.new ≡ self.old }
+    {
+        self.placed
+            .has_all_of(&self.head, &mut self.next, reader.known());
     }
 
     /// Tells all that was placed, for readers of the shelf to learn. It is refused only if too many share the last surface.
@@ -123,6 +138,7 @@ impl ShelfWriter {
         let ShelfWriter {
             stand,
             head: _head,
+            next: _next,
             placed: _placed,
         } = self;
         if let Some(stand) = stand {

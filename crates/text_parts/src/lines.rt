@@ -1,5 +1,3 @@
-#![tactic(auto, using(text_lines::proofs::AddLemmas::adds_then, crate::proofs::LineEnds::adds_line_two, crate::proofs::LineEnds::adds_line_three))]
-
 ghost use Rattle.text_lines.specs.Adding.{Adds};
 ghost use Rattle.text_lines.specs.Numbers.{number_text};
 ghost use Rattle.text_lines.specs.Views.{view_of};

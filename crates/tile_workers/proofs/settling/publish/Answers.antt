@@ -1,3 +1,4 @@
+use Rattle.board_desk.proofs.CallerLemmas.{later_called, later_trans}
 use Rattle.std.proofs.Common.{◌∙◌, rules, subst, sym}
 use Rattle.raster_model.specs.declared.session.Session.{Session}
 use Rattle.surface_snapshots.specs.Views.{parts_of}
@@ -32,3 +33,7 @@ returns-in-Ok-clause-present g c =
 
 pub returns-in-Ok-clause-legal : goal.returns-in-Ok-clause-legal
 returns-in-Ok-clause-legal g c = legal_called c.args.desk.now.session c.gather.new.pass c.publish_made.new.pass _ c.publish_made.ensures.call
+
+pub returns-in-Ok-clause-later : goal.returns-in-Ok-clause-later
+returns-in-Ok-clause-later g c =
+    later_trans c.args.pass.now c.gather.new.pass c.publish_made.new.pass (later_trans c.args.pass.now c.newest.new.pass c.gather.new.pass c.newest.ensures.later c.gather.ensures.more.later) (later_called c.args.desk.now.session c.gather.new.pass c.publish_made.new.pass _ c.publish_made.ensures.call)

@@ -108,9 +108,18 @@ class NoRasterOfAUserIsReplaced(Written):
         for path in (raw, picture):
             self.kept(path, command("to_session.py", PHASE, path), path.read_bytes())
 
-    def test_a_session_is_replaced_by_another(self) -> None:
+    def test_what_a_command_wrote_is_replaced_by_another_run(self) -> None:
+        session, report, page, made = (self.at(name) for name in ("session", "report", "page.html", "made.tif"))
         for _ in range(2):
-            self.assertEqual(command("to_session.py", PHASE, self.at("session"))[0], 0)
+            words = (PHASE, "--session", session, "--report", report, "--page", page, made)
+            self.assertEqual(command("wundjeska", *words)[0], 0)
+            self.assertEqual(command("to_session.py", PHASE, session)[0], 0)
+            self.assertEqual(command("wundjeska", "report", report, "--save", self.at("arrays.npz"))[0], 0)
+
+    def test_a_plane_of_a_user_is_no_session(self) -> None:
+        plane = self.at("plane.pgm")
+        plane.write_bytes(b"P5\n2 2\n255\n\x01\x02\x03\x04")
+        self.kept(plane, command("to_session.py", PHASE, plane), plane.read_bytes())
 
     def test_from_python_no_word_is_named_that_there_is_not(self) -> None:
         mine = self.phase()

@@ -8,7 +8,7 @@ surface may be wrong by whole cycles though none costs less, or that the phase w
   seams     what the surface costs more than its tiles do. Where that is much, tiles were joined where they do not fit
   lines     where the surface departs from the wrapped differences along one line. Cuts through noise are short: of 512 by 512
             pixels of noise the longest had 9 pixels from end to end, and 17 where the noise had been smoothed over 5 by 5. At
-            ruptures in the same noise the longest had from 58 to 177
+            ruptures in speckle of 4 and 10 looks the longest had from 58 to 177
   zeros     the share of open pixels whose phase is 0, as of files that have 0 where nothing is known, and do not say so
   slope     the commonest fringe rate. Beyond half a cycle a pixel a slope looks as if it fell, and noise brings that nearer
   parts     open pixels that do not touch; whole cycles between them are arbitrary

@@ -13,7 +13,7 @@ SUFFIXES = (".tif", ".tiff")  # of the rasters that are written
 PRODUCT = "WUNDJESKA_"  # what the names of a product's metadata begin with
 STREAMS = ("/dev/stdin", "/dev/stdout", "/dev/stderr", "/dev/fd/", "/proc/")
 TIFF = (b"II*\0", b"MM\0*", b"II+\0", b"MM\0+")  # how such a file begins
-TEXTS = ("PNM", "AAIGrid")  # what GDAL calls sessions and grids, which are no rasters of a user
+PLANE, SCRIPT_END = "PNM", b"end\n"  # what GDAL takes a session for, and how that ends
 
 Name = Union[str, Path]
 
@@ -56,14 +56,17 @@ def has_mark(path: Path) -> bool:
 
 
 def is_raster(path: Path) -> bool:
-    """Whether GDAL, if it is there, takes a file as a raster; else whether it is a TIFF."""
+    """Whether GDAL, if it is there, takes a file as a raster, and it is no session; else whether it is a TIFF."""
+    with open(path, "rb") as file:
+        start = file.read(len(TIFF[0]))
+        file.seek(-min(len(SCRIPT_END), path.stat().st_size), os.SEEK_END)
+        end = file.read()
     try:
         from osgeo import gdal
     except ImportError:
-        with open(path, "rb") as file:
-            return file.read(4) in TIFF
+        return start in TIFF
     driver = gdal.IdentifyDriver(os.fsencode(path))
-    return driver is not None and driver.ShortName not in TEXTS
+    return driver is not None and not (driver.ShortName == PLANE and end == SCRIPT_END)
 
 
 class Outputs:

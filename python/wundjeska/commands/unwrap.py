@@ -2,9 +2,12 @@
 
 With --whole the whole raster is solved at once, so that no surface costs less; without it tiles are, and then how they join.
 
-The GeoTIFF has the pixels and the place of the phase, NODATA at masked pixels, and in its metadata the verdict, side, rule,
-costs, unit, wavelength, reference and sign. If the check refuses, no file is written. --components writes a second raster,
-of the connected components, numbered from 1 by falling size.
+The GeoTIFF has the pixels and the place of the phase, NODATA at masked pixels, and in its metadata the verdict, concerns, side,
+rule, costs, unit, wavelength, reference and sign. If the check refuses, no file is written. --components writes a second
+raster, of the connected components, numbered from 1 by falling size.
+
+Beside `accepted` concerns are told: signs that the surface may be wrong by whole cycles though none costs less, as many
+residues, dear seams, long lines along which it jumps, or a phase that is 0 in many places. They change no status.
 """
 from argparse import ArgumentParser, BooleanOptionalAction, Namespace, RawDescriptionHelpFormatter
 from pathlib import Path
@@ -154,13 +157,18 @@ def page_of(asked: Namespace, made: Input, solved: Solved, scene: Scene, signs: 
     return page_text(Path(asked.geotiff).name, made.session, solved.report, solved.verdict, shown).encode()
 
 
-def main(asked: Namespace) -> int:
+def check_words(asked: Namespace) -> None:
+    """Trouble if arguments do not fit each other."""
     check_unit_words(asked)
-    settings = settings_of(asked, asked.whole)
     if asked.reference_auto and not asked.coherence:
         raise Trouble("--reference auto wants --coherence", REFUSED_WORDS)
     if asked.least_component < 1:
         raise Trouble("--least-component is 1 or more", REFUSED_WORDS)
+
+
+def main(asked: Namespace) -> int:
+    check_words(asked)
+    settings = settings_of(asked, asked.whole)
     scene = scene_of(asked)
     check_screen_words(asked.screen, asked.unscreened, scene.coherence)
     like = scene.phase.raster

@@ -235,9 +235,16 @@ class Commands(InFolder):
     def refused(self, paths: Sequence[object], *words: object, status: int = 3, told: str = "") -> None:
         """That three surfaces are refused in one line, and nothing is written."""
         self.made.write_text("what stood there")
-        ended, line = command("closure.py", *paths, *words, self.made)
+        ended, line = command("closure.py", *paths, *words, "--force", self.made)
         self.assertEqual((ended, line.count("\n"), self.made.read_text()), (status, 1, "what stood there"), line)
         self.assertIn(told, line)
+
+    def test_a_raster_of_others_is_not_replaced(self) -> None:
+        foreign = raster(self.made, np.ones(SHAPE))
+        before = Path(foreign).read_bytes()
+        status, told = command("closure.py", *self.tifs(), "--reference", 0, 29, self.made)
+        self.assertEqual((status, told.count("\n"), self.made.read_bytes()), (2, 1, before), told)
+        self.assertEqual(command("closure.py", *self.tifs(), "--reference", 0, 29, "--force", self.made)[0], 0)
 
     def test_surfaces_that_do_not_fit(self) -> None:
         first, second, third = self.tifs()

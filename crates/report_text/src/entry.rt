@@ -1,5 +1,3 @@
-#![tactic(auto, using(text_lines::proofs::AddLemmas::adds_then, text_lines::proofs::ChainLemmas::adds_two, text_lines::proofs::ChainLemmas::adds_three, text_lines::proofs::ChainLemmas::adds_four))]
-
 ghost use Rattle.report_text.specs.Contents.{IsEntryOfWords};
 ghost use Rattle.report_text.specs.Text.{entry_text, revision_text};
 ghost use Rattle.text_lines.specs.Text.{rect_text, field_text};

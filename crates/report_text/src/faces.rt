@@ -54,7 +54,6 @@ impl Passages for FaceLines<'_> {
 }
 
 /// Adds the line of a tile's faces.
-#[tactic(auto, using(crate::proofs::LineEnds::adds_faces))]
 fn add_tile<K: Sink>(text: &mut TextWriter<K>, tile: u32, faces: &[i64])
     ensures text { Adds (view_of K.held K.faults text.old) (view_of K.held K.faults text.new) (ended_line (faces_line tile) faces.now) }
     ensures longs { AreLongs faces.now }

@@ -1,5 +1,3 @@
-#![tactic(auto, using(text_lines::proofs::AddLemmas::adds_then, text_lines::proofs::ChainLemmas::adds_two, text_lines::proofs::ChainLemmas::adds_three, text_lines::proofs::ChainLemmas::adds_four, text_parts::proofs::LineEnds::adds_line_two))]
-
 ghost use Rattle.sums_and_lists.specs.Sums.{one_if};
 ghost use Rattle.raster_model.specs.Tiles.{tiles_of};
 ghost use Rattle.report_text.specs.Appending.{AreOver, AreSmallItems, IsSmallItem, next_surface};
@@ -201,7 +199,6 @@ fn add_items<K: Sink, C: Scribe>(
 }
 
 /// Adds an entry's line, and after a publication the lines of the next snapshot, if any.
-#[tactic(auto, using(text_lines::proofs::ChainLemmas::adds_three), unfolding(crate::specs::Text::item_text))]
 fn add_item<K: Sink, C: Scribe>(
     text: &mut TextWriter<K>,
     scribe: &mut C,

@@ -1,5 +1,3 @@
-#![tactic(auto, using(text_lines::proofs::AddLemmas::adds_then, text_parts::proofs::LineEnds::adds_line_two, text_parts::proofs::LineEnds::adds_line_three))]
-
 ghost use Rattle.text_lines.specs.Numbers.{AreLongs};
 ghost use Rattle.report_text.specs.Contents.{IsSurfaceInRange};
 ghost use Rattle.text_lines.specs.Parsing.{IsWide};

@@ -1,18 +1,14 @@
 ghost use Rattle.std.specs.Prelude.{◌≤◌};
 
-use crate::sessions::board;
+use crate::outcomes::same;
 use certificates::{SeamResult, TileResult};
 use collector_core::{collect, finish};
 use std::alloc::{AllocError, Global};
+use std::process::Abort;
 use std::str::Split;
-use std::test::Fail;
 use surface_snapshots::Snapshot;
 use tile_board::{Board, ClaimFault, GatherFault, KeepFault, PublishFault, Ticket};
-
-/// The next word as a number, and 99 if there is none.
-fn number(words: &mut Split<'_, char>) -> u32 {
-    words.next().unwrap_or("").parse().unwrap_or(99)
-}
+use worked_scenes::{board, cycles, field, number, numbers, tile_result};
 
 /// The tile and the stamp of a claim.
 fn claimed(alloc: Global, board: &mut Board) -> Result<(u32, u32), ClaimFault> {
@@ -51,48 +47,16 @@ fn tiles_of(alloc: Global, tickets: &[Ticket]) -> Result<Vec<u32>, AllocError> {
     Ok(tiles)
 }
 
-/// The result of a tile at a stamp, with these numbers of cycles and faces, all of them 0.
-pub fn zeros(
-    alloc: Global,
-    tile: u32,
-    stamp: u32,
-    cycles: u32,
-    faces: u32,
-) -> Result<TileResult, AllocError> {
-    Ok(TileResult {
-        tile,
-        stamp,
-        cycles: vec![in alloc; 0; cycles as usize]?,
-        faces: vec![in alloc; 0; faces as usize]?,
-    })
-}
-
-/// Keeps zeros, which four words number.
-fn keep(alloc: Global, board: &mut Board, words: &mut Split<'_, char>) -> Result<(), KeepFault> {
-    let (tile, stamp) = (number(words), number(words));
-    let (cycles, faces) = (number(words), number(words));
-    let solved = zeros(alloc, tile, stamp, cycles, faces)?;
-    board.keep(alloc, solved)
-}
-
-/// A result that words number: the tile, the stamp, the face and then the cycles.
+/// A result that words number: the tile, the stamp, the face and then the cycles, with commas between them.
 fn numbered(alloc: Global, words: &mut Split<'_, char>) -> Result<TileResult, AllocError> {
     let (tile, stamp) = (number(words), number(words));
-    let faces = vec![in alloc; i64::from(number(words))]?;
-    let mut cycles = Vec::new(alloc);
-    for word in words {
-        cycles.push(word.parse().unwrap_or(99))?;
-    }
-    Ok(TileResult {
-        tile,
-        stamp,
-        cycles,
-        faces,
-    })
+    let faces = numbers(alloc, field(words))?;
+    let cycles = cycles(alloc, &field(words).replace(alloc, ",", " ")?)?;
+    tile_result(alloc, tile, stamp, &cycles, &faces)
 }
 
 /// Hands in such a result.
-fn hand(alloc: Global, board: &mut Board, words: &mut Split<'_, char>) -> Result<(), KeepFault> {
+fn keep(alloc: Global, board: &mut Board, words: &mut Split<'_, char>) -> Result<(), KeepFault> {
     let solved = numbered(alloc, words)?;
     board.keep(alloc, solved)
 }
@@ -184,7 +148,6 @@ fn answer(alloc: Global, board: &mut Board, call: &str) -> Result<String, AllocE
             claims(alloc, board, count)
         }
         "finish" => format!(in alloc; "{:?}", finish(alloc, board)),
-        "hand" => format!(in alloc; "{:?}", hand(alloc, board, &mut words)),
         "keep" => format!(in alloc; "{:?}", keep(alloc, board, &mut words)),
         "publish" => format!(in alloc; "{:?}", publish(alloc, board, &mut words)),
         "share" => format!(in alloc; "{:?}", shared(alloc, board, &mut words)),
@@ -192,30 +155,15 @@ fn answer(alloc: Global, board: &mut Board, call: &str) -> Result<String, AllocE
     }
 }
 
-/// A call, with what was found instead of the expected answer.
-#[derive(Debug, Drop)]
-struct Other(String);
-
-/// Does the calls on the left of the lines, one after another, and reports the first that is not answered with what is on
-/// its right.
-fn first_other(alloc: Global, board: &mut Board, lines: &str) -> Result<Option<Other>, AllocError> {
-    for line in lines.lines() {
-        let (call, wanted) = line.split_once(" = ").unwrap_or((line, ""));
-        let found = answer(alloc, board, call)?;
-        if found.as_str() != wanted {
-            return Ok(Some(Other(format!(in alloc; "{call} = {found}")?)));
-        }
-    }
-    Ok(None)
-}
-
-/// Does the lines on the board of a session's text, with tiles of a side, and fails at the first with another answer.
-pub fn answered(alloc: Global, text: &str, side: u32, lines: &str) -> Result<(), Fail>
+/// Does the calls on the left of the lines, one after another, on the board of a session's text, with tiles of a side. Each
+/// has to be answered with what is on its right.
+pub fn answered(rt: &impl Abort, alloc: Global, text: &str, side: u32, lines: &str)
     requires { (2 ≤ side) × (side ≤ 128) }
 {
-    let mut board = board(alloc, text, side)?;
-    match first_other(alloc, &mut board, lines)? {
-        Some(other) => Err(other)?,
-        None => Ok(()),
+    let mut board = board(alloc, text, side).expect(rt, "a session");
+    for line in lines.lines() {
+        let (call, wanted) = line.split_once(" = ").unwrap_or((line, ""));
+        let found = answer(alloc, &mut board, call).expect(rt, "memory");
+        same(rt, call, &found, wanted);
     }
 }

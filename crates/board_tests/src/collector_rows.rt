@@ -1,5 +1,4 @@
 use crate::calls::answered;
-use std::test::Fail;
 
 /// The line `0 40000 14464 54464` in two tiles, every edge with the weight 1. Its wrapped differences are all -25536.
 const SETTLED: &str = "P2\n4 1\n65535\n0 40000 14464 54464\nanalyst\nshow\nsettle\nshow\nend\n";
@@ -13,8 +12,8 @@ surfaces = [Some(0), Some(-25536), Some(-51072), Some(-76608)]
 collect = 0 [0, -1] [0]";
 
 #[test]
-fn a_settle_command_publishes_the_joined_tiles(rt: HostRuntime) -> Result<(), Fail> {
-    answered(rt.alloc(), SETTLED, 2, JOINED)
+fn a_settle_command_publishes_the_joined_tiles(rt: HostRuntime) {
+    answered(&rt, rt.alloc(), SETTLED, 2, JOINED);
 }
 
 /// The same line, and two analysts.
@@ -28,8 +27,8 @@ entries = [Revised { analyst: 1, edit: Mask(Rect { x0: 3, y0: 0, x1: 3, y1: 0 })
 surfaces = [Some(0), Some(-25536), Some(-51072), None, None, Some(40000), Some(14464), None]";
 
 #[test]
-fn scripts_are_done_one_after_another(rt: HostRuntime) -> Result<(), Fail> {
-    answered(rt.alloc(), BOTH, 2, ENTRIES)
+fn scripts_are_done_one_after_another(rt: HostRuntime) {
+    answered(&rt, rt.alloc(), BOTH, 2, ENTRIES);
 }
 
 const LOOK: &str = "P2\n4 1\n65535\n0 40000 14464 54464\nanalyst\nshow\nend\n";
@@ -40,6 +39,6 @@ entries = [Shown { analyst: 1, revision: None }]
 state = 0 None 1 0";
 
 #[test]
-fn a_script_that_only_shows_solves_nothing(rt: HostRuntime) -> Result<(), Fail> {
-    answered(rt.alloc(), LOOK, 2, NOTHING)
+fn a_script_that_only_shows_solves_nothing(rt: HostRuntime) {
+    answered(&rt, rt.alloc(), LOOK, 2, NOTHING);
 }

@@ -10,7 +10,7 @@ mod collector_rows;
 #[cfg(test)]
 mod desk_rows;
 #[cfg(test)]
-mod sessions;
+mod outcomes;
 #[cfg(test)]
 mod shelf_rows;
 #[cfg(test)]

@@ -1,7 +1,6 @@
 //! A shelf beside one writer and its readers, on one thread and on several.
 ghost use Rattle.std.specs.Prelude.{◌≡◌, All};
 
-use crate::sessions::board;
 use collector_core::finish;
 use reader_desk::{Shelf, ShelfReader, ShelfWriter};
 use std::alloc::{AllocError, Global};
@@ -12,6 +11,7 @@ use std::test::Fail;
 use std::thread::{Threads, for_each_mut, join};
 use surface_snapshots::Snapshot;
 use tile_board::Board;
+use worked_scenes::board;
 
 /// How often an edit and a settle command are done.
 const EDITS: u32 = 200;

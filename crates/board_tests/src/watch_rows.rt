@@ -3,7 +3,6 @@ ghost use Rattle.board_desk.specs.Passes.{HaveAnalysts, IsPassOf};
 ghost use Rattle.std.specs.Prelude.{◌≡◌, ◌≢◌, ◌≤◌, All, IfOk, None};
 ghost use Rattle.tile_workers.specs.Watching.{HasRoom};
 
-use crate::sessions::board;
 use board_desk::{Desk, Pass};
 use reader_desk::{Shelf, ShelfReader, ShelfWriter};
 use std::alloc::{AllocError, Global};
@@ -13,6 +12,7 @@ use std::sync::atomic::{AtomicU64, Ordering};
 use std::test::Fail;
 use std::thread::{Threads, join};
 use tile_workers::{Curator, OpenGate, Watcher, run_watched};
+use worked_scenes::board;
 
 /// How often a reader reads while a desk is asked.
 const READS: u32 = 10_000;

@@ -1,3 +1,4 @@
+//! Sessions and boards of a text, which meet every limit that a board requires.
 ghost use Rattle.std.specs.Prelude.{◌≡◌, ◌≤◌, [], IfOk};
 
 use insar_ports::{Feed, MemorySource};
@@ -7,8 +8,8 @@ use std::alloc::{AllocError, Global};
 use std::sync::Arc;
 use tile_board::Board;
 
-/// The session of a text, with tiles of a side.
-fn session(alloc: Global, text: &str, side: u32) -> Result<Session, SessionFault>
+/// The session of a text, by the rule least, with tiles of a side.
+pub fn session(alloc: Global, text: &str, side: u32) -> Result<Session, SessionFault>
     requires { (2 ≤ side) × (side ≤ 128) }
 {
     let bytes = Vec::from_slice(alloc, text.as_bytes())?;

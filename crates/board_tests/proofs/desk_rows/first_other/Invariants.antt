@@ -1,6 +1,0 @@
-use Rattle.std.proofs.Common.{◌≢◌, None}
-use Rattle.board_desk.specs.Passes.{IsPassOf}
-use Rattle.board_tests.proofs.desk_rows.first_other.Given as goal
-
-abbrev pub invariant-loop-row : goal.invariant-loop-row
-invariant-loop-row g l = IsPassOf l.desk l.analyst × (l.analyst.analyst ≢ None) × IsPassOf l.desk l.worker

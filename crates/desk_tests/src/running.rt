@@ -1,42 +1,21 @@
 ghost use Rattle.board_desk.specs.Passes.{IsPassOf};
-ghost use Rattle.std.specs.Prelude.{◌≡◌, ◌≢◌, ◌≤◌, [], All, None};
+ghost use Rattle.std.specs.Prelude.{◌≢◌, ◌≤◌, All, None};
 
 use board_desk::{Desk, Pass};
-use insar_ports::{Feed, MemorySource};
-use raster_model::{RuleKind, Session};
-use session_script::{SessionUse, read_session};
 use std::alloc::{AllocError, Global};
 use std::process::Abort;
-use std::sync::{Arc, Wait};
+use std::sync::Wait;
 use std::thread::Threads;
 use tile_board::Board;
 use tile_workers::{OpenGate, run_scripts};
+use worked_scenes::board;
 
-/// The session in bytes, by the rule least.
-fn session(rt: &impl Abort, alloc: Global, side: u32, bytes: &[u8]) -> Session
-    requires { (2 ≤ side) × (side ≤ 128) }
-{
-    let bytes = bytes.to_vec(alloc).expect(rt, "memory");
-    let mut source = MemorySource::new(bytes, 99, Vec::new(alloc));
-    let mut feed = Feed::new(alloc, &mut source, 268_435_456).expect(rt, "memory");
-    let session = read_session(alloc, &mut feed, SessionUse::Alone, side, RuleKind::Least);
-    session.expect(rt, "a session")
-}
-
-/// The board of a session.
-fn board(rt: &impl Abort, alloc: Global, session: Session) -> Board
-    ensures { result.entries ≡ [] }
-{
-    let session = Arc::new(alloc, session).expect(rt, "memory");
-    Board::new(alloc, session).expect(rt, "memory")
-}
-
-/// The desk of a session in bytes, and the passes of its analysts.
-pub fn open_desk(rt: &impl Abort, alloc: Global, side: u32, bytes: &[u8]) -> (Desk, Vec<Pass>)
+/// The desk of a session's text, and the passes of its analysts.
+pub fn open_desk(rt: &impl Abort, alloc: Global, side: u32, text: &str) -> (Desk, Vec<Pass>)
     requires { (2 ≤ side) × (side ≤ 128) }
     ensures { All (IsPassOf result.0) result.1.items }
 {
-    let board = board(rt, alloc, session(rt, alloc, side, bytes));
+    let board = board(alloc, text, side).expect(rt, "a session");
     Desk::open(alloc, board).expect(rt, "memory")
 }
 

@@ -10,7 +10,7 @@ use std::thread;
 use std::thread::Threads;
 
 /// The line in one tile.
-const LINE: &[u8] = b"P2 4 1 65535 0 40000 14464 54464";
+const LINE: &str = "P2 4 1 65535 0 40000 14464 54464";
 
 /// How many workers ask at once, and how often each.
 const WORKERS: u32 = 8;

@@ -3,7 +3,7 @@ use tile_board::Advance;
 use tile_workers::{OpenGate, settle};
 
 /// The line in two tiles, and two analysts who each settle and look.
-const LINE: &[u8] = b"P2 4 1 65535 0 40000 14464 54464
+const LINE: &str = "P2 4 1 65535 0 40000 14464 54464
 analyst
 settle
 show

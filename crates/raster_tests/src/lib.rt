@@ -4,9 +4,9 @@
 #[cfg(test)]
 mod gradient_rows;
 #[cfg(test)]
-mod integration_rows;
-#[cfg(test)]
 mod mask_rows;
+#[cfg(test)]
+mod outcomes;
 #[cfg(test)]
 mod raster_rows;
 #[cfg(test)]

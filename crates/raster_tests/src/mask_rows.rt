@@ -3,11 +3,13 @@ ghost use Rattle.raster_model.specs.Scripts.{IsRectIn, rect_of};
 ghost use Rattle.raster_model.specs.Tiles.{tiles_of};
 ghost use Rattle.std.specs.Prelude.{◌≡◌, ◌+◌, ◌<◌, ◌≤◌, IfOk, IsTrue, OnOk, true};
 
+use crate::outcomes::same;
 use mask_revisions::Revisions;
 use raster_model::{Edit, Mask, Rect, Tiling};
 use std::alloc::{AllocError, Global};
 use std::process::Abort;
 use std::str::Split;
+use worked_scenes::number;
 
 /// Revision 0 of a raster with every pixel open.
 fn all_open(alloc: Global, tiling: Tiling) -> Result<Revisions, AllocError>
@@ -113,10 +115,12 @@ fn the_tiles_with_a_changed_pixel_get_the_new_stamp(rt: HostRuntime) {
     let masked = Edit::Mask(rect(1, 1, 3, 2));
     let opened = Edit::Unmask(rect(3, 1, 4, 1));
     let told = told(rt.alloc(), Tiling::new(5, 5, 2), masked, opened).expect(&rt, "memory");
-    assert_eq!(rt;
-        told.as_str(),
+    same(
+        &rt,
+        "two edits",
+        &told,
         "[0, 1, 3, 4] [1]; 2 [true, true] [Some([true, true]), Some([true, true])]; \
-            1 1110; 2 1101; 0 11; 1 1011; 1 0011; 0 11; 0 11; 0 11; 0 1"
+            1 1110; 2 1101; 0 11; 1 1011; 1 0011; 0 11; 0 11; 0 11; 0 1",
     );
 }
 
@@ -125,9 +129,11 @@ fn an_edit_without_a_change_is_a_revision(rt: HostRuntime) {
     let none = Edit::Unmask(rect(0, 0, 3, 0));
     let one = Edit::Mask(rect(3, 0, 3, 0));
     let told = told(rt.alloc(), Tiling::new(4, 1, 2), none, one).expect(&rt, "memory");
-    assert_eq!(rt;
-        told.as_str(),
-        "[] [1]; 2 [true, false] [Some([true, true]), Some([false, false])]; 0 11; 2 10"
+    same(
+        &rt,
+        "two edits",
+        &told,
+        "[] [1]; 2 [true, false] [Some([true, true]), Some([false, false])]; 0 11; 2 10",
     );
 }
 
@@ -195,11 +201,6 @@ fn masked_and_opened(
     format!(in alloc; "{first} {second}{rows}")
 }
 
-/// The next number of a row, and 0 if there is none.
-pub(crate) fn number(words: &mut Split<'_, char>) -> u32 {
-    words.next().unwrap_or("").parse().unwrap_or(0)
-}
-
 /// The next box of a row.
 fn next_rect(words: &mut Split<'_, char>) -> Rect {
     let (x0, y0) = (number(words), number(words));
@@ -218,10 +219,15 @@ fn fits(rect: Rect, width: u32, height: u32) -> bool
 fn changed(rt: &impl Abort, alloc: Global, numbers: &str) -> Result<String, AllocError> {
     let mut words = numbers.split(' ');
     let (width, height, side) = (number(&mut words), number(&mut words), number(&mut words));
-    assert!(rt; 0 < width && width < 200 && 0 < height && height < 9 && 1 < side && side < 129);
+    let (width, height) = (width.clamp(1, 199), height.clamp(1, 8));
     let (masked, opened) = (next_rect(&mut words), next_rect(&mut words));
     assert!(rt; fits(masked, width, height) && fits(opened, width, height));
-    masked_and_opened(alloc, Tiling::new(width, height, side), masked, opened)
+    masked_and_opened(
+        alloc,
+        Tiling::new(width, height, side.clamp(2, 128)),
+        masked,
+        opened,
+    )
 }
 
 #[test]
@@ -229,6 +235,6 @@ fn boxes_change_their_pixels_over_the_ends_of_words(rt: HostRuntime) {
     for row in SPANS.lines() {
         let (numbers, wanted) = row.split_once(" = ").unwrap_or((row, ""));
         let found = changed(&rt, rt.alloc(), numbers).expect(&rt, "memory");
-        assert!(rt; found.as_str() == wanted);
+        same(&rt, numbers, &found, wanted);
     }
 }

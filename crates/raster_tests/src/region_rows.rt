@@ -1,9 +1,8 @@
-use crate::mask_rows::number;
+use crate::outcomes::same;
 use raster_model::Tiling;
 use seam_regions::Regions;
 use std::alloc::{AllocError, Global};
-use std::process::Abort;
-use worked_scenes::{SceneFault, masked};
+use worked_scenes::{SceneFault, field, masked, number, samples};
 
 /// Width and height of a raster and the side of its tiles, its mask by rows, 1 if a pixel is open, the count of its
 /// regions, each pixel's label by rows, and the region of the last pixel. By hand: a masked column splits the upper tile
@@ -19,20 +18,10 @@ const ROWS: &str = "\
 2 1 2|0 0|0 .. None";
 
 /// The tiling of a row's first field.
-fn tiling(rt: &impl Abort, field: &str) -> Tiling {
+fn tiling(field: &str) -> Tiling {
     let mut words = field.split(' ');
     let (width, height, side) = (number(&mut words), number(&mut words), number(&mut words));
-    assert!(rt; 0 < width && width < 9 && 0 < height && height < 9 && 1 < side && side < 9);
-    Tiling::new(width, height, side)
-}
-
-/// The samples of a row's second field.
-fn samples(alloc: Global, field: &str) -> Result<Vec<u16>, AllocError> {
-    let mut samples = Vec::new(alloc);
-    for word in field.split(' ') {
-        samples.push(word.parse().unwrap_or(99))?;
-    }
-    Ok(samples)
+    Tiling::new(width.clamp(1, 8), height.clamp(1, 8), side.clamp(2, 8))
 }
 
 /// Labels as digits, and a point if there is none.
@@ -58,9 +47,9 @@ fn regions_are_numbered_by_their_first_pixels(rt: HostRuntime) {
     let alloc = rt.alloc();
     for row in ROWS.lines() {
         let mut fields = row.split('|');
-        let tiling = tiling(&rt, fields.next().unwrap_or(""));
-        let open = samples(alloc, fields.next().unwrap_or("")).expect(&rt, "memory");
+        let tiling = tiling(field(&mut fields));
+        let open = samples(alloc, field(&mut fields)).expect(&rt, "memory");
         let found = told(alloc, tiling, &open).expect(&rt, "a mask");
-        assert_eq!(rt; found.as_str(), fields.next().unwrap_or(""), "{row}");
+        same(&rt, row, &found, field(&mut fields));
     }
 }

@@ -1,5 +1,6 @@
 ghost use Rattle.std.specs.Prelude.{◌≡◌, ◌≤◌};
 
+use crate::outcomes::{holds, same};
 use edge_weights::WeightRule;
 use raster_model::{EdgeWeights, Plane, RuleKind, Tiling};
 use std::alloc::{AllocError, Global};
@@ -37,23 +38,40 @@ fn product(alloc: Global, weights: &Plane) -> Result<EdgeWeights, AllocError>
     WeightRule::new(RuleKind::Product, 9, number).weigh(alloc, weights)
 }
 
+/// The same by a rule.
+fn weighed(alloc: Global, rule: RuleKind, weights: &Plane) -> Result<EdgeWeights, AllocError>
+    requires { weights.now.maxval ≡ 9 }
+{
+    match rule {
+        RuleKind::Least => least(alloc, 9, weights),
+        RuleKind::Mean => mean(alloc, weights),
+        RuleKind::Product => product(alloc, weights),
+    }
+}
+
 /// The weights of right edges and of down edges, in words.
 fn told(rt: &impl Abort, alloc: Global, weighed: Result<EdgeWeights, AllocError>) -> String {
     let edges = weighed.expect(rt, "memory");
     format!(in alloc; "{:?} {:?}", edges.right, edges.down).expect(rt, "memory")
 }
 
-/// The weights `5 5 / 3 9` with the maxval 9, by hand.
+/// The weights `5 5 / 3 9` with the maxval 9 by each rule, by hand.
+const RULES: &str = "\
+Least [5, 3] [3, 5]
+Mean [5, 6] [4, 7]
+Product [2, 3] [1, 5]";
+
 #[test]
 fn weighs_a_square_by_each_rule(rt: HostRuntime) {
     let alloc = rt.alloc();
     let weights = plane(alloc, &Tiling::new(2, 2, 2), 9, &[5, 5, 3, 9]).expect(&rt, "a plane");
-    let least = told(&rt, alloc, least(alloc, 9, &weights));
-    assert_eq!(rt; least.as_str(), "[5, 3] [3, 5]", "least");
-    let mean = told(&rt, alloc, mean(alloc, &weights));
-    assert_eq!(rt; mean.as_str(), "[5, 6] [4, 7]", "mean");
-    let product = told(&rt, alloc, product(alloc, &weights));
-    assert_eq!(rt; product.as_str(), "[2, 3] [1, 5]", "product");
+    for (rule, row) in [RuleKind::Least, RuleKind::Mean, RuleKind::Product]
+        .iter()
+        .zip(RULES.lines())
+    {
+        let found = told(&rt, alloc, weighed(alloc, *rule, &weights));
+        holds(&rt, row, row.ends_with(found.as_str()));
+    }
 }
 
 /// A line has no down edges.
@@ -62,5 +80,5 @@ fn a_line_has_no_down_edges(rt: HostRuntime) {
     let alloc = rt.alloc();
     let line = plane(alloc, &Tiling::new(3, 1, 2), 300, &[300, 256, 299]).expect(&rt, "a plane");
     let edges = told(&rt, alloc, least(alloc, 300, &line));
-    assert_eq!(rt; edges.as_str(), "[256, 256] []");
+    same(&rt, "a line", &edges, "[256, 256] []");
 }

@@ -2,7 +2,8 @@ ghost use Rattle.raster_model.specs.Tiles.{tiles_of, window_of};
 ghost use Rattle.std.specs.Prelude.{◌≡◌, ◌<◌};
 ghost use Rattle.wrapped_gradient.specs.Gradients.{AreGradientsOf};
 
-use crate::reading::{Raster, cycles, field, numbers, read_raster, read_steep, unmasked};
+use crate::outcomes::holds;
+use crate::reading::{Raster, read_raster, read_steep, unmasked};
 use crate::tile_rows::{ROWS, STEEP_ROWS};
 use certificates::{TileVerdict, check_tile};
 use dual_grid::{DualGrid, Problem};
@@ -11,7 +12,7 @@ use std::alloc::Global;
 use std::process::Abort;
 use tile_guess::Guess;
 use tile_solver::solve_tile_from;
-use worked_scenes::masked;
+use worked_scenes::{cycles, field, masked, numbers};
 use wrapped_gradient::{Corrections, Gradients};
 
 /// Rows of `guess`: corrections of the right and of the down edges, faces, and whether these answer the full turn, whose one cell has the
@@ -88,7 +89,7 @@ fn guesses_are_taken_where_they_answer(rt: HostRuntime) {
     let scene = full_turn(&rt, alloc);
     let problem = problem_of(&rt, alloc, &scene);
     for row in GUESSES.lines() {
-        assert!(rt; is_as_told(&rt, alloc, &problem, row), "{row}");
+        holds(&rt, row, is_as_told(&rt, alloc, &problem, row));
     }
 }
 
@@ -132,7 +133,7 @@ fn grids_take_what_goes_together(rt: HostRuntime) {
     let alloc = rt.alloc();
     let scene = full_turn(&rt, alloc);
     for row in STARTS.lines() {
-        assert!(rt; starts_as_told(&rt, alloc, &scene, row), "{row}");
+        holds(&rt, row, starts_as_told(&rt, alloc, &scene, row));
     }
 }
 
@@ -160,7 +161,7 @@ fn any_guess_ends_in_a_certified_tile(rt: HostRuntime) {
     for row in GUESSES.lines() {
         let guess = guess(&rt, alloc, row);
         let verdict = verdict(&rt, alloc, &scene, &[1, 1, 1, 1], guess);
-        assert_eq!(rt; verdict, TileVerdict::Good, "{row}");
+        holds(&rt, row, verdict == TileVerdict::Good);
     }
 }
 
@@ -182,7 +183,7 @@ fn the_network_certifies_too(rt: HostRuntime) {
     for row in ROWS.lines() {
         let raster = read_raster(&rt, rt.alloc(), row);
         let verdict = network_verdict(&rt, rt.alloc(), &raster);
-        assert_eq!(rt; verdict, TileVerdict::Good, "{row}");
+        holds(&rt, row, verdict == TileVerdict::Good);
     }
 }
 
@@ -192,6 +193,6 @@ fn the_network_certifies_steep_tiles(rt: HostRuntime) {
     for row in STEEP_ROWS.lines() {
         let raster = read_steep(&rt, rt.alloc(), row);
         let verdict = network_verdict(&rt, rt.alloc(), &raster);
-        assert_eq!(rt; verdict, TileVerdict::Good, "{row}");
+        holds(&rt, row, verdict == TileVerdict::Good);
     }
 }

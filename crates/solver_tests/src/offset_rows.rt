@@ -1,17 +1,11 @@
-ghost use Rattle.std.specs.Prelude.{◌≤◌};
-
-use crate::reading::{cycles, field, numbers};
+use crate::outcomes::same;
 use certificates::TileResult;
 use collector_core::collect_from;
-use insar_ports::{Feed, MemorySource};
 use offset_guess::Guess;
-use raster_model::{RuleKind, Session};
-use session_script::{SessionUse, read_session};
 use std::alloc::Global;
 use std::process::Abort;
-use std::sync::Arc;
 use tile_board::Board;
-use worked_scenes::tile_result;
+use worked_scenes::{board, cycles, field, number, numbers, tile_result};
 
 /// Rows with the side of the tiles, planes, the tiles' results with cycles and faces, and the one answer: an offset for each region and a flow for each seam edge.
 /// By hand: a line whose second half lies a cycle lower; two light edges that give way to a heavy one (with the column
@@ -27,25 +21,6 @@ const ROWS: &str = "\
     2 0 -3 2 0 -3 2 0 -3/0 0 0 0;5 5 6/|-2 3 -5|0 0 0
 2|P2 4 1 65535 0 40000 14464 54464 P2 4 1 1 1 1 1 1 P2 4 1 1 0 0 0 0|0 0/;0 0/||0";
 
-/// The session of planes, without scripts.
-fn session(rt: &impl Abort, alloc: Global, side: u32, planes: &str) -> Session
-    requires { (2 ≤ side) × (side ≤ 128) }
-{
-    let bytes = Vec::from_slice(alloc, planes.as_bytes()).expect(rt, "memory");
-    let mut source = MemorySource::new(bytes, 99, Vec::new(alloc));
-    let mut feed = Feed::new(alloc, &mut source, 268_435_456).expect(rt, "memory");
-    let session = read_session(alloc, &mut feed, SessionUse::Alone, side, RuleKind::Least);
-    session.expect(rt, "a session")
-}
-
-/// The board of such a session.
-fn board(rt: &impl Abort, alloc: Global, side: u32, planes: &str) -> Board
-    requires { (2 ≤ side) × (side ≤ 128) }
-{
-    let session = Arc::new(alloc, session(rt, alloc, side, planes)).expect(rt, "memory");
-    Board::new(alloc, session).expect(rt, "memory")
-}
-
 /// The result of a tile, whose field has the cycles and the faces.
 fn result(rt: &impl Abort, alloc: Global, tile: u32, field: &str) -> TileResult {
     let (own, faces) = field.split_once('/').unwrap_or((field, ""));
@@ -57,9 +32,8 @@ fn result(rt: &impl Abort, alloc: Global, tile: u32, field: &str) -> TileResult 
 /// The board of a row, which begins with the side, the planes and the results, which the board keeps.
 fn row_board(rt: &impl Abort, alloc: Global, row: &str) -> Board {
     let mut fields = row.split('|');
-    let side = field(&mut fields).parse().unwrap_or(0u32);
-    assert!(rt; 2 <= side && side <= 128);
-    let mut board = board(rt, alloc, side, field(&mut fields));
+    let side = number(&mut fields).clamp(2, 128);
+    let mut board = board(alloc, field(&mut fields), side).expect(rt, "a session");
     for (tile, field) in (0u32..).zip(field(&mut fields).split(';')) {
         board
             .keep(alloc, result(rt, alloc, tile, field))
@@ -89,7 +63,7 @@ fn regions_are_moved_where_their_seams_cost_least(rt: HostRuntime) {
     for row in ROWS.lines() {
         let board = row_board(&rt, alloc, row);
         let found = collected(&rt, alloc, &board, None);
-        assert_eq!(rt; found, wanted(&rt, alloc, row), "{row}");
+        same(&rt, row, &found, &wanted(&rt, alloc, row));
     }
 }
 
@@ -121,7 +95,7 @@ fn ends_alike(rt: &impl Abort, alloc: Global, board: &Board, wanted: &str) {
     for row in GUESSES.lines() {
         let guess = guess(rt, alloc, row);
         let found = collected(rt, alloc, board, Some(guess));
-        assert_eq!(rt; found.as_str(), wanted, "{row}");
+        same(rt, row, &found, wanted);
     }
 }
 

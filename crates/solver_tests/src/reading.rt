@@ -7,45 +7,13 @@ use raster_model::{Scene, Terms, Tiling};
 use std::alloc::{AllocError, Global};
 use std::process::Abort;
 use std::str::Split;
-use worked_scenes::scene_on;
+use worked_scenes::{field, number, samples, scene_on};
 
 /// A raster in one tile, and the samples of its mask.
 #[derive(Drop)]
 pub(crate) struct Raster {
     pub(crate) scene: Scene,
     pub(crate) opened: Vec<u16>,
-}
-
-/// The next field of a row, or nothing if there is none.
-pub(crate) fn field<'a>(fields: &mut Split<'a, char>) -> &'a str {
-    fields.next().unwrap_or("")
-}
-
-/// The numbers of a field, with a space between two of them.
-pub(crate) fn numbers(alloc: Global, field: &str) -> Result<Vec<i64>, AllocError> {
-    let mut numbers = Vec::new(alloc);
-    for word in field.split_whitespace() {
-        numbers.push(word.parse().unwrap_or(99))?;
-    }
-    Ok(numbers)
-}
-
-/// The same as numbers of 32 bits.
-pub(crate) fn cycles(alloc: Global, field: &str) -> Result<Vec<i32>, AllocError> {
-    let mut cycles = Vec::new(alloc);
-    for word in field.split_whitespace() {
-        cycles.push(word.parse().unwrap_or(99))?;
-    }
-    Ok(cycles)
-}
-
-/// The same as samples.
-fn samples(alloc: Global, field: &str) -> Result<Vec<u16>, AllocError> {
-    let mut samples = Vec::new(alloc);
-    for word in field.split_whitespace() {
-        samples.push(word.parse().unwrap_or(99))?;
-    }
-    Ok(samples)
 }
 
 /// The raster of a row, which begins with the width, the height, the phases, the weights and the mask.
@@ -61,12 +29,10 @@ pub(crate) fn read_steep(rt: &impl Abort, alloc: Global, row: &str) -> Raster
     ensures { 0 < tiles_of result.scene.tiling }
 {
     let mut fields = row.split('|');
-    let steep = field(&mut fields).parse().unwrap_or(0u32);
-    assert!(rt; 1 <= steep && steep <= 16);
     let terms = Terms {
         ramp_x: 0,
         ramp_y: 0,
-        steep,
+        steep: number(&mut fields).clamp(1, 16),
     };
     read_raster_on(rt, alloc, terms, &mut fields)
 }
@@ -80,9 +46,7 @@ fn read_raster_on(
 ) -> Raster
     ensures { 0 < tiles_of result.scene.tiling }
 {
-    let width = field(fields).parse().unwrap_or(0u32);
-    let height = field(fields).parse().unwrap_or(0u32);
-    assert!(rt; 0 < width && width <= 9 && 0 < height && height <= 9);
+    let (width, height) = (number(fields).clamp(1, 9), number(fields).clamp(1, 9));
     let phases = samples(alloc, field(fields)).expect(rt, "memory");
     let weights = samples(alloc, field(fields)).expect(rt, "memory");
     let opened = samples(alloc, field(fields)).expect(rt, "memory");

@@ -5,7 +5,7 @@ ghost use Rattle.raster_model.specs.Masks.{open_at};
 ghost use Rattle.raster_model.specs.Tiles.{tiles_of};
 ghost use Rattle.std.specs.Prelude.{◌≡◌, ◌<◌};
 
-use crate::reading::{field, numbers};
+use crate::outcomes::holds;
 use certificates::{SeamResult, TileResult, TileSet, TileVerdict, check_tile};
 use offset_guess::Guess;
 use offset_network::{Hint, solve_offsets_from};
@@ -14,7 +14,7 @@ use seam_regions::Regions;
 use std::alloc::Global;
 use std::process::Abort;
 use std::sync::Arc;
-use worked_scenes::{masked, scene_on, tile_result};
+use worked_scenes::{field, masked, number, numbers, scene_on, tile_result};
 
 /// A raster of four columns in two tiles, of which the second is the last column alone. The first falls by 32,000 from row
 /// to row, the other rises as much, so across the seam, where the edges weigh 9, 1 and 4, the surface departs by 0, 1 and 2
@@ -125,13 +125,12 @@ fn guess(rt: &impl Abort, alloc: Global, offsets: &str, flows: &str) -> Option<G
 /// Refuses a row whose answer does not begin as it says.
 fn is_as_told(rt: &impl Abort, alloc: Global, row: &str) {
     let mut fields = row.split('|');
-    let steep = field(&mut fields).parse().unwrap_or(0u32);
-    assert!(rt; 1 <= steep && steep <= 16);
+    let steep = number(&mut fields).clamp(1, 16);
     let offsets = field(&mut fields);
     let guess = guess(rt, alloc, offsets, field(&mut fields));
     let seams = seams(rt, alloc, steep, guess);
     let found = format!(in alloc; "{:?} {:?}", seams.offsets, seams.flows).expect(rt, "memory");
-    assert!(rt; found.starts_with(field(&mut fields)), "{row}: {found}");
+    holds(rt, row, found.starts_with(field(&mut fields)));
 }
 
 /// At a higher steepness a cycle on each of two edges costs less than two on one of them.

@@ -1,10 +1,10 @@
-use crate::reading::{cycles, field, numbers};
+use crate::outcomes::same;
 use raster_model::{Scene, Terms, Tiling};
 use std::alloc::Global;
 use std::process::Abort;
 use whole_guess::{Guess, Reached};
 use whole_solver::{WholeResult, solve_whole, solve_whole_from};
-use worked_scenes::{masked, scene_on};
+use worked_scenes::{cycles, field, masked, numbers, scene_on};
 
 /// The raster of four by two pixels in two tiles, with these phases and weights.
 fn raster(rt: &impl Abort, alloc: Global, phases: &[u16], weights: &[u16]) -> Scene {
@@ -39,9 +39,8 @@ fn a_turn_between_tiles_is_solved_over_the_whole_raster(rt: HostRuntime) {
     let scene = turn(&rt, alloc);
     let solved = solved(&rt, alloc, &scene, None);
     let found = told(&rt, alloc, &solved);
-    assert_eq!(rt; found.as_str(), "[0, 0, -1, -1, -1, -1, -1, -1] 7");
-    assert_eq!(rt; solved.faces.len(), 3);
-    assert_eq!(rt; solved.faces.get(1).copied(), Some(7));
+    same(&rt, "turn", &found, "[0, 0, -1, -1, -1, -1, -1, -1] 7");
+    assert!(rt; solved.faces.len() == 3 && solved.faces.get(1).copied() == Some(7));
 }
 
 /// Corrections of right edges and of down edges, and faces, from which the turn is solved: nothing; the right face alone;
@@ -77,7 +76,7 @@ fn what_was_reached_changes_no_answer(rt: HostRuntime) {
     for row in STARTS.lines() {
         let guess = Guess::Reached(reached(&rt, alloc, row));
         let found = told(&rt, alloc, &solved(&rt, alloc, &scene, Some(guess)));
-        assert_eq!(rt; found.as_str(), "[0, 0, -1, -1, -1, -1, -1, -1] 7", "{row}");
+        same(&rt, row, &found, "[0, 0, -1, -1, -1, -1, -1, -1] 7");
     }
 }
 
@@ -91,5 +90,5 @@ fn the_whole_costs_less_than_its_tiles(rt: HostRuntime) {
     let mask = masked(alloc, &scene.tiling, &[1; 8]).expect(&rt, "a mask");
     let solved = solve_whole(&rt, alloc, &scene, &mask, 2).expect(&rt, "memory");
     let found = told(&rt, alloc, &solved);
-    assert_eq!(rt; found.as_str(), "[0, 0, 0, -1, 0, -1, -1, -1] 5");
+    same(&rt, "whole", &found, "[0, 0, 0, -1, 0, -1, -1, -1] 5");
 }

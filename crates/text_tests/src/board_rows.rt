@@ -1,13 +1,12 @@
-use crate::session_rows::read;
+use crate::outcomes::same;
 use certificates::{SeamResult, TileResult};
 use grid_writer::write_grid;
 use insar_ports::MemorySink;
 use report_text::write_report;
-use session_script::SessionUse;
 use std::alloc::Global;
 use std::process::Abort;
-use std::sync::Arc;
 use tile_board::Board;
+use worked_scenes::board;
 
 /// Keeps a result of a board's one tile, which has four pixels: no cycles, and the face 0 for each of its cells.
 fn keep(rt: &impl Abort, alloc: Global, board: &mut Board, cells: usize) {
@@ -48,14 +47,6 @@ fn texts(rt: &impl Abort, alloc: Global, board: &Board) -> String {
     String::from_utf8(bytes).expect(rt, "text")
 }
 
-/// The board of a session's text.
-fn board(rt: &impl Abort, alloc: Global, text: &str) -> Board {
-    let text = Vec::from_slice(alloc, text.as_bytes()).expect(rt, "memory");
-    let session = read(rt, alloc, SessionUse::Alone, 64, text, 9, Vec::new(alloc));
-    let session = Arc::new(alloc, session.expect(rt, "a session")).expect(rt, "memory");
-    Board::new(alloc, session).expect(rt, "memory")
-}
-
 /// Does a command of a session's text, settles its one tile with no cycles and these offsets, and does two commands more.
 /// Then this has to be written of it.
 fn is_written(
@@ -66,14 +57,14 @@ fn is_written(
     offsets: &[i64],
     report: &str,
 ) {
-    let mut board = board(rt, alloc, text);
+    let mut board = board(alloc, text, 64).expect(rt, "a session");
     advance(rt, alloc, &mut board);
     keep(rt, alloc, &mut board, cells);
     publish(rt, alloc, &mut board, offsets);
     advance(rt, alloc, &mut board);
     advance(rt, alloc, &mut board);
     let written = texts(rt, alloc, &board);
-    assert_eq!(rt; written.as_str(), report, "{text}");
+    same(rt, text, &written, report);
 }
 
 /// The report of an analyst that looks, settles twice and looks again.

@@ -1,9 +1,11 @@
+use crate::outcomes::same;
 use insar_ports::{Feed, MemorySink, MemorySource};
 use pgm_planes::{ReadPlaneFault, Role, read_plane, write_plane};
 use raster_model::Plane;
 use std::alloc::{AllocError, Global};
 use std::process::Abort;
 use std::str::Split;
+use worked_scenes::{field, number};
 
 /// What is read from the front of a text of which the feed hands out a number of bytes.
 fn read(
@@ -75,11 +77,6 @@ const TEXTS: &str = "\
     Weight|15|P2 1 1 255 9999 P|TooLong;\
     Weight|16|P2 1 1 255 9999 P|Plane(SampleAbove { index: 0, value: 9999 });";
 
-/// The next field of a case.
-pub fn field<'a>(fields: &mut Split<'a, char>) -> &'a str {
-    fields.next().unwrap_or("")
-}
-
 /// The plane that is read, or the fault, in words.
 fn told(alloc: Global, read: Result<Plane, ReadPlaneFault>) -> Result<String, AllocError> {
     match read {
@@ -98,7 +95,7 @@ fn case_told(rt: &impl Abort, alloc: Global, fields: &mut Split<'_, char>) -> St
         "Weight" => Role::Weight,
         _ => Role::Mask,
     };
-    let limit = field(fields).parse::<u64>().expect(rt, "a limit");
+    let limit = u64::from(number(fields));
     let read = read(rt, alloc, role, limit, field(fields).as_bytes());
     told(alloc, read).expect(rt, "memory")
 }
@@ -108,7 +105,7 @@ fn a_plane_is_read_or_its_first_break_is_told(rt: HostRuntime) {
     for case in TEXTS.split_terminator(';') {
         let mut fields = case.split('|');
         let told = case_told(&rt, rt.alloc(), &mut fields);
-        assert_eq!(rt; told.as_str(), field(&mut fields), "{case}");
+        same(&rt, case, &told, field(&mut fields));
     }
 }
 
@@ -117,7 +114,7 @@ fn is_rewritten(rt: &impl Abort, alloc: Global, text: &[u8], written: &[u8]) {
     let plane = read(rt, alloc, Role::Weight, 100, text).expect(rt, "a plane");
     let mut sink = MemorySink::new(alloc, 100, 3, Vec::new(alloc)).expect(rt, "memory");
     write_plane(&plane, &mut sink).expect(rt, "room");
-    assert_eq!(rt; sink.bytes(), written, "{text:?}");
+    assert!(rt; sink.bytes() == written);
 }
 
 /// The line 0 20000 40000 60000 in raw bytes.

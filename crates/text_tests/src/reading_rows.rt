@@ -1,13 +1,11 @@
-use crate::plane_rows::field;
-use crate::session_rows;
+use crate::outcomes::same;
 use grid_writer::{Grid, GridFault, read_grid};
 use insar_ports::{Feed, MemorySource};
-use raster_model::Session;
-use report_check::check_report;
+use report_check::{CheckVerdict, check_report};
 use report_text::{Report, ReportFault, read_report};
-use session_script::SessionUse;
 use std::alloc::{AllocError, Global};
 use std::str::Split;
+use worked_scenes::{field, session};
 
 /// The text with the second field of a case in the place of the first.
 fn changed(
@@ -55,7 +53,7 @@ fn a_grid_is_read_or_its_first_broken_line_is_told(rt: HostRuntime) {
         let mut fields = case.split('|');
         let text = changed(rt.alloc(), GRID, &mut fields).expect(&rt, "memory");
         let told = grid_told(rt.alloc(), text).expect(&rt, "memory");
-        assert_eq!(rt; told.as_str(), field(&mut fields), "{case}");
+        same(&rt, case, &told, field(&mut fields));
     }
 }
 
@@ -125,7 +123,7 @@ fn a_report_is_read_or_its_first_broken_line_is_told(rt: HostRuntime) {
         let mut fields = case.split('|');
         let text = changed(rt.alloc(), REPORT, &mut fields).expect(&rt, "memory");
         let told = report_told(rt.alloc(), text).expect(&rt, "memory");
-        assert_eq!(rt; told.as_str(), field(&mut fields), "{case}");
+        same(&rt, case, &told, field(&mut fields));
     }
 }
 
@@ -142,42 +140,13 @@ show
 end
 ";
 
-/// A piece of the report, what is in its place, and the verdict then. The weights are 1, and 0 at the masked pixel, and
-/// no ramp is expected.
-const VERDICTS: &str = "\
-    end|end|Accepted;\
-    faces 0 0|faces 0 1|Tile { revision: 1, tile: 0, verdict: FaceAtEdge(Edge { x: 0, y: 0, down: false }) };\
-    kept 0 1\n||History(2);\
-    16384|16385|Value { revision: 1, x: 1, y: 0 };\
-    costs 0 0|costs 1 0|TileCost { revision: 1, written: 1, counted: 0 };\
-    insar-report 1\nsize 2 2\ntile 64\nrule least|insar-report 2\nsize 2 2\ntile 64\nrule least\nramp 0 0\nsteep 1|Accepted;\
-    insar-report 1\nsize 2 2\ntile 64\nrule least|insar-report 2\nsize 2 2\ntile 64\nrule least\nramp 0 1\nsteep 1|Header(5);\
-    insar-report 1\nsize 2 2\ntile 64\nrule least|insar-report 2\nsize 2 2\ntile 64\nrule least\nramp 0 0\nsteep 2|Header(6);";
-
-/// The verdict on the report of a text, or the fault of the text, in words.
-fn verdict_told(alloc: Global, session: &Session, text: String) -> Result<String, AllocError> {
-    match read_as_report(alloc, text) {
-        Ok(report) => verdict_on(alloc, session, &report),
-        Err(fault) => format!(in alloc; "{fault:?}"),
-    }
-}
-
-/// The verdict on a report, in words.
-fn verdict_on(alloc: Global, session: &Session, report: &Report) -> Result<String, AllocError> {
-    let verdict = check_report(alloc, session, report)?;
-    format!(in alloc; "{verdict:?}")
-}
-
+/// The verdict on a report that is certified: the weights are 1, and 0 at the masked pixel.
 #[test]
-fn a_report_is_accepted_or_its_first_break_is_told(rt: HostRuntime) {
+fn a_certified_report_is_accepted(rt: HostRuntime) {
     let alloc = rt.alloc();
-    let text = Vec::from_slice(alloc, SESSION.as_bytes()).expect(&rt, "memory");
-    let session = session_rows::read(&rt, alloc, SessionUse::Alone, 64, text, 9, Vec::new(alloc));
-    let session = session.expect(&rt, "a session");
-    for case in VERDICTS.split_terminator(';') {
-        let mut fields = case.split('|');
-        let text = changed(alloc, REPORT, &mut fields).expect(&rt, "memory");
-        let told = verdict_told(alloc, &session, text).expect(&rt, "memory");
-        assert_eq!(rt; told.as_str(), field(&mut fields), "{case}");
-    }
+    let session = session(alloc, SESSION, 64).expect(&rt, "a session");
+    let text = String::from_str(alloc, REPORT).expect(&rt, "memory");
+    let report = read_as_report(alloc, text).expect(&rt, "a report");
+    let verdict = check_report(alloc, &session, &report).expect(&rt, "memory");
+    assert!(rt; verdict == CheckVerdict::Accepted);
 }

@@ -1,28 +1,28 @@
 ghost use Rattle.std.specs.Prelude.{◌≤◌};
 
-use crate::plane_rows::field;
+use crate::outcomes::holds;
 use insar_ports::{Feed, MemorySink, MemorySource};
 use raster_model::{RuleKind, Session};
 use session_script::{SessionFault, SessionUse, read_session, write_session};
 use std::alloc::Global;
 use std::process::Abort;
+use worked_scenes::field;
 
-/// The session of a text that comes in pieces, with the numbered calls failing.
-pub fn read(
+/// The session of a text, with tiles of the side 64, that comes in pieces, with the numbered calls failing.
+fn read(
     rt: &impl Abort,
     alloc: Global,
     use_as: SessionUse,
-    side: u32,
-    text: Vec<u8>,
+    text: &str,
     piece: usize,
     failing: Vec<u32>,
 ) -> Result<Session, SessionFault>
-    requires side { (2 ≤ side) × (side ≤ 128) }
-    requires piece { 1 ≤ piece }
+    requires { 1 ≤ piece }
 {
-    let mut source = MemorySource::new(text, piece, failing);
+    let bytes = Vec::from_slice(alloc, text.as_bytes()).expect(rt, "memory");
+    let mut source = MemorySource::new(bytes, piece, failing);
     let mut feed = Feed::new(alloc, &mut source, 268_435_456).expect(rt, "memory");
-    read_session(alloc, &mut feed, use_as, side, RuleKind::Least)
+    read_session(alloc, &mut feed, use_as, 64, RuleKind::Least)
 }
 
 /// What follows a text, the text, and what is written of its session or the fault that it has, counted by hand.
@@ -59,8 +59,7 @@ fn written(rt: &impl Abort, alloc: Global, session: &Session) -> Vec<u8> {
 
 /// What is written of the session of a text, or its fault in words.
 fn told(rt: &impl Abort, alloc: Global, use_as: SessionUse, text: &str) -> Vec<u8> {
-    let text = Vec::from_slice(alloc, text.as_bytes()).expect(rt, "memory");
-    match read(rt, alloc, use_as, 64, text, 7, Vec::new(alloc)) {
+    match read(rt, alloc, use_as, text, 7, Vec::new(alloc)) {
         Ok(session) => written(rt, alloc, &session),
         Err(fault) => format!(in alloc; "{fault:?}")
             .expect(rt, "memory")
@@ -77,7 +76,7 @@ fn a_session_is_read_or_its_fault_is_told(rt: HostRuntime) {
             _ => SessionUse::BeforeReport,
         };
         let told = told(&rt, rt.alloc(), use_as, field(&mut fields));
-        assert_eq!(rt; told.as_slice(), field(&mut fields).as_bytes(), "{case}");
+        holds(&rt, case, told.as_slice() == field(&mut fields).as_bytes());
     }
 }
 
@@ -87,60 +86,14 @@ const PIECES: &str =
 
 /// The fault of that text if a call fails.
 fn fault_at(rt: &impl Abort, alloc: Global, call: u32) -> Option<SessionFault> {
-    let text = Vec::from_slice(alloc, PIECES.as_bytes()).expect(rt, "memory");
     let failing = vec![in alloc; call].expect(rt, "memory");
-    read(rt, alloc, SessionUse::Alone, 64, text, 1, failing).err()
+    read(rt, alloc, SessionUse::Alone, PIECES, 1, failing).err()
 }
 
 #[test]
 fn a_call_that_fails_is_told(rt: HostRuntime) {
     for call in 1..84 {
         let fault = fault_at(&rt, rt.alloc(), call);
-        assert_eq!(rt; fault, Some(SessionFault::ReadFault), "{call}");
+        assert!(rt; fault == Some(SessionFault::ReadFault), "{call}");
     }
-}
-
-/// A raster of 4096 by 1024 and a section of `count` equal lines.
-fn section(rt: &impl Abort, alloc: Global, line: &str, count: u32) -> Vec<u8> {
-    let mut text = Vec::from_slice(alloc, b"P5\n4096 1024\n65535\n").expect(rt, "memory");
-    text.resize(8_388_627, 0).expect(rt, "memory");
-    text.extend_from_slice(b"analyst\n").expect(rt, "memory");
-    for _ in 0..count {
-        text.extend_from_slice(line.as_bytes()).expect(rt, "memory");
-    }
-    text.extend_from_slice(b"end\n").expect(rt, "memory");
-    text
-}
-
-/// Why no session is read of them, in words.
-fn fault_of(rt: &impl Abort, alloc: Global, side: u32, line: &str, count: u32) -> String
-    requires { (2 ≤ side) × (side ≤ 128) }
-{
-    let text = section(rt, alloc, line, count);
-    let fault = read(
-        rt,
-        alloc,
-        SessionUse::Alone,
-        side,
-        text,
-        5000,
-        Vec::new(alloc),
-    )
-    .err();
-    format!(in alloc; "{fault:?}").expect(rt, "memory")
-}
-
-/// 16 times 4194304 pixels is the limit of settled pixels, and 16 times 1048576 tiles that of changed tiles; an analyst has
-/// at most 4096 commands.
-#[test]
-fn commands_reach_the_limits(rt: HostRuntime) {
-    let alloc = rt.alloc();
-    let fault = fault_of(&rt, alloc, 64, "settle\n", 16);
-    assert_eq!(rt; fault.as_str(), "None");
-    let fault = fault_of(&rt, alloc, 64, "settle\n", 17);
-    assert_eq!(rt; fault.as_str(), "Some(Input(SettleLimit(18)))");
-    let fault = fault_of(&rt, alloc, 2, "mask 0 0 0 0\n", 17);
-    assert_eq!(rt; fault.as_str(), "Some(Input(EditLimit(18)))");
-    let fault = fault_of(&rt, alloc, 64, "show\n", 4097);
-    assert_eq!(rt; fault.as_str(), "Some(Input(TooManyCommands(4098)))");
 }

@@ -1,10 +1,11 @@
 use crate::failing_rows::{Wanted, try_twice};
-use crate::running::{NOTHING, field};
+use crate::running::NOTHING;
 use crate::top_rows::spelled;
 use std::alloc::Global;
 use std::process::Abort;
 use std::sync::Wait;
 use std::thread::Threads;
+use worked_scenes::field;
 
 /// The residue of the phases `0 16384 / 49152 32768` is 1.
 const SESSION: &[u8] =

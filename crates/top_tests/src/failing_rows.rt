@@ -1,10 +1,11 @@
-use crate::running::{Ended, Failing, field, run};
+use crate::running::{Ended, Failing, run};
 use crate::top_rows::{is_one_of, spelled};
 use std::alloc::{AllocError, Global};
 use std::process::Abort;
 use std::sync::Wait;
 use std::thread::Threads;
 use tile_workers::OpenGate;
+use worked_scenes::field;
 
 /// The session for which `$` stands in a row.
 const SESSION: &str = "P2;2 2;65535;0 16384;49152 32768;analyst;mask 0 0 0 0;settle;show;end;";

@@ -1,6 +1,11 @@
 use crate::running::{NOTHING, lines_of, run};
 use std::alloc::{AllocError, Global};
+use std::process::Abort;
+use std::str::Split;
+use std::sync::Wait;
+use std::thread::Threads;
 use tile_workers::OpenGate;
+use worked_scenes::{field, number};
 
 /// A raw phase plane of that width and height, which rises by 300 to the right and by 700 downwards, and scripts.
 fn slope(alloc: Global, width: u32, height: u32, scripts: &str) -> Result<Vec<u8>, AllocError> {
@@ -92,24 +97,42 @@ fn two_analysts_finish_a_session(rt: HostRuntime) {
     assert!(rt; published.saturating_add(lines_of(&done.text, "settled ")) == 10);
 }
 
-/// 17 settle commands, and 17 edits.
-const LIMITS: [(&str, &str); 2] = [
-    (
-        "analyst\nsettle\nsettle\nsettle\nsettle\nsettle\nsettle\nsettle\nsettle\nsettle\nsettle\nsettle\nsettle\nsettle\nsettle\nsettle\nsettle\nsettle\n",
-        "input fault 13 settles line 18\n",
-    ),
-    (
-        "analyst\nmask 0 0 0 0\nmask 0 0 0 0\nmask 0 0 0 0\nmask 0 0 0 0\nmask 0 0 0 0\nmask 0 0 0 0\nmask 0 0 0 0\nmask 0 0 0 0\nmask 0 0 0 0\nmask 0 0 0 0\nmask 0 0 0 0\nmask 0 0 0 0\nmask 0 0 0 0\nmask 0 0 0 0\nmask 0 0 0 0\nmask 0 0 0 0\nmask 0 0 0 0\n",
-        "input fault 16 edits line 18\n",
-    ),
-];
+/// Words, a command, how often a script has it, what follows, and the line to `diag`; `;` is LF. A report without a head shows
+/// that the session before it was read. By hand: 16 times 4096 by 1024 pixels is the limit of settled pixels, and 16 times
+/// 1048576 tiles that of changed tiles; an analyst has at most 4096 commands.
+const LIMITS: &str = "\
+check|settle|16|end;x;|report fault line 1
+unwrap|settle|17||input fault 13 settles line 18
+unwrap --tile 2|mask 0 0 0 0|17||input fault 16 edits line 18
+unwrap|show|4097||input fault 12 commands line 4098";
 
-/// With these numbers of commands 4096 by 1024 pixels, in tiles of the side 2, are too many.
+/// The script of the next three fields of a row.
+fn script(alloc: Global, fields: &mut Split<'_, char>) -> Result<String, AllocError> {
+    let (command, count) = (field(fields), number(fields));
+    let mut script = String::from_str(alloc, "analyst\n")?;
+    for _command in 0..count {
+        script.push_str(command)?;
+        script.push('\n')?;
+    }
+    script.push_str(&field(fields).replace(alloc, ";", "\n")?)?;
+    Ok(script)
+}
+
+/// Runs a row's words over a raster of 4096 by 1024 pixels and its script.
+fn is_refused<R: Alloc<A = Global> + Threads + Wait + Sync + Abort>(rt: &R, row: &str) {
+    let mut fields = row.split('|');
+    let words = field(&mut fields);
+    let script = script(rt.alloc(), &mut fields).expect(rt, "memory");
+    let bytes = slope(rt.alloc(), 4096, 1024, &script).expect(rt, "memory");
+    let done = run(rt, words, &bytes, 65536, &NOTHING, &OpenGate);
+    let line = done.line.lines().next().unwrap_or("");
+    assert!(rt; done.status == 3 && line == field(&mut fields), "{row}");
+}
+
+/// With these numbers of commands there are just enough pixels, or too many.
 #[test]
 fn limits_are_told_with_their_lines(rt: HostRuntime) {
-    for (script, line) in LIMITS {
-        let bytes = slope(rt.alloc(), 4096, 1024, script).expect(&rt, "memory");
-        let done = run(&rt, "unwrap --tile 2", &bytes, 65536, &NOTHING, &OpenGate);
-        assert!(rt; done.status == 3 && done.line.as_str() == line);
+    for row in LIMITS.lines() {
+        is_refused(&rt, row);
     }
 }

@@ -4,7 +4,6 @@ use insar_ports::{MemorySink, MemorySource};
 use insar_top::insar;
 use std::alloc::{AllocError, Global};
 use std::process::Abort;
-use std::str::Split;
 use std::sync::Wait;
 use std::thread::Threads;
 use tile_workers::Gate;
@@ -93,9 +92,4 @@ pub fn run<R: Alloc<A = Global> + Threads + Wait + Sync + Abort, G: Gate>(
 /// How many lines begin so.
 pub fn lines_of(text: &str, start: &str) -> usize {
     text.lines().filter(|line| line.starts_with(start)).count()
-}
-
-/// The next field of a row.
-pub fn field<'a>(fields: &mut Split<'a, char>) -> &'a str {
-    fields.next().unwrap_or("")
 }

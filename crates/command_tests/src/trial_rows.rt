@@ -1,5 +1,4 @@
 use raster_model::{Mask, RuleKind, Window};
-use std::test::Fail;
 use trial_maker::{TrialFault, make_session};
 use wrapped_gradient::Gradients;
 
@@ -28,20 +27,19 @@ fn residues(gradients: &Gradients) -> u32 {
     residues
 }
 
-/// Seeds and sides, and how many residues and open pixels a program of another language counts.
+/// Seed 7 and sides of 64, and how many residues and open pixels a program of another language counts.
 #[test]
-fn sessions_are_those_of_their_seeds(rt: HostRuntime) -> Result<(), Fail> {
+fn sessions_are_those_of_their_seeds(rt: HostRuntime) {
     let alloc = rt.alloc();
-    let session = make_session(alloc, 7, 64, 64, 32, RuleKind::Least)?;
+    let session = make_session(alloc, 7, 64, 64, 32, RuleKind::Least).expect(&rt, "a session");
     let window = Window {
         x0: 0,
         y0: 0,
         x1: 63,
         y1: 63,
     };
-    let gradients = Gradients::of(alloc, &session.scene, window)?;
+    let gradients = Gradients::of(alloc, &session.scene, window).expect(&rt, "memory");
     assert!(rt; residues(&gradients) == 450 && open_pixels(&session.first_mask) == 3834);
-    let wide = make_session(alloc, 0, 4097, 1, 64, RuleKind::Least);
-    assert!(rt; wide.err() == Some(TrialFault::Size));
-    Ok(())
+    let wide = make_session(alloc, 0, 4097, 1, 64, RuleKind::Least).err();
+    assert!(rt; wide == Some(TrialFault::Size));
 }

@@ -110,10 +110,14 @@ def congruent_scene(igram: np.ndarray, coherence: np.ndarray, opened: np.ndarray
 
 def named_scene(name: str) -> Scene:
     """A raster of bench/rasters.py: of one look, by its noise."""
-    made, _ = rasters.raster(name)
+    try:
+        made, _ = rasters.raster(name)
+    except rasters.Mistake as mistake:
+        raise Trouble(str(mistake), REFUSED_WORDS) from mistake
     opened = np.ones(made.surface.shape, bool) if made.opened is None else made.opened
+    weights = np.ones(made.surface.shape) if made.weights is None else made.weights / made.max_weight
     igram = np.exp(2j * np.pi / CYCLE * (made.surface % CYCLE))
-    return congruent_scene(igram, np.sqrt(made.weights / made.maxval), opened, made.surface / CYCLE, 1)
+    return congruent_scene(igram, np.sqrt(weights), opened, made.surface / CYCLE, 1)
 
 
 def scenes_of(name: str, seeds: int) -> Iterator[Scene]:

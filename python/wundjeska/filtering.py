@@ -1,9 +1,9 @@
 """A filter before unwrapping: windows of a wrapped phase lose the frequencies that are no more than noise. NumPy alone.
 
-A window of 16 by 16 pixels stands at every fourth pixel. It is weighted by the root of a Hann window and transformed. Fringes lie in
-few frequencies, noise in all alike: of phasors whose phases are chance, each frequency has the variance of the window's squared
-weights, summed over its open pixels. Frequencies below three deviations are dropped. What is left is transformed back, weighted
-again and added up (Kemao, Applied Optics 43(13), 2004, and Optics and Lasers in Engineering 45(2), 2007; windows of
+A window of 16 by 16 pixels stands at every fourth pixel. It is weighted by the root of a Hann window and transformed. Fringes lie
+in few frequencies, noise in all alike: of phasors whose phases are chance, each frequency has the variance of the window's
+squared weights, summed over its open pixels. Frequencies below three deviations are dropped. What is left is transformed back,
+weighted again and added up (Kemao, Applied Optics 43(13), 2004, and Optics and Lasers in Engineering 45(2), 2007; windows of
 interferograms: Goldstein and Werner, Geophysical Research Letters 25(21), 1998).
 
 The weights that go with it tell how well phase and filter agree: 255 a^2 c, where a is the length of the mean phasor of their
@@ -34,7 +34,7 @@ MAX_THREADS = 4  # each has its band, of 16 MB where the raster is 2048 pixels w
 PARTS = 4  # of a transform of 16: transforms of 4 (Cooley and Tukey, Mathematics of Computation 19(90), 1965)
 TWIST = np.exp(-2j * np.pi / SIDE * np.outer(range(PARTS), range(PARTS)))[:, :, None].astype(np.complex64)
 FORTH, BACK = (np.complex64(-1j), TWIST), (np.complex64(1j), TWIST.conj())
-Way = Tuple[np.complex64, np.ndarray]  # of a transform: the root of order 4, and the roots of order 16 between its parts
+Way = Tuple[np.complex64, np.ndarray]  # the root of order 4, and the roots of order 16 between the parts
 
 
 @dataclass(frozen=True)
@@ -106,7 +106,7 @@ class Windows:
         """The spectra along rows of the windows that meet STEP rows from this one: (rows, frequencies, windows)."""
         inside = np.ix_(self.rows[first : first + STEP], self.columns)
         signal = np.where(self.opened[inside], phasors()[self.phase[inside]], 0)
-        strips = signal.reshape(STEP, -1, STEP).transpose(2, 0, 1).copy()  # pixels that lie STEP apart are beside each other
+        strips = signal.reshape(STEP, -1, STEP).transpose(2, 0, 1).copy()  # every STEP-th pixel of a row in one
         windows = np.empty((SIDE, STEP, self.wide), dtype=np.complex64)
         for place in range(SIDE):
             strip = strips[place % STEP, :, place // STEP :][:, : self.wide]

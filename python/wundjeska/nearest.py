@@ -1,7 +1,7 @@
 """The surface that differs from a phase by whole cycles and lies nearest to another surface, its guide. NumPy alone.
 
-Whole numbers throughout: at each open pixel it differs from the phase by whole cycles, and from the guide by half a cycle at most.
-Where two are half a cycle away it is the lower one.
+Whole numbers throughout: at each open pixel it differs from the phase by whole cycles, and from the guide by half a cycle at
+most. Where two are half a cycle away it is the lower one.
 """
 import numpy as np
 import numpy.typing as npt

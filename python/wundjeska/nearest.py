@@ -38,11 +38,14 @@ def rest_of(phase: np.ndarray, guide: np.ndarray) -> npt.NDArray[np.uint16]:
 
 def commonest(values: np.ndarray, pieces: np.ndarray) -> np.ndarray:
     """The commonest value of each piece, the least of two that are as common; int64, (pieces)."""
-    inside = pieces >= 0
-    pairs, counts = np.unique(np.stack((pieces[inside], values[inside])), axis=1, return_counts=True)
-    order = np.lexsort((pairs[1], -counts, pairs[0]))
-    _, first = np.unique(pairs[0][order], return_index=True)
-    return pairs[1][order][first].astype(np.int64)
+    order = np.lexsort((values[pieces >= 0], pieces[pieces >= 0]))
+    piece, value = pieces[pieces >= 0][order], values[pieces >= 0][order]
+    starts = np.flatnonzero((np.diff(piece, prepend=-1) != 0) | (np.diff(value, prepend=0) != 0))
+    counts = np.diff(starts, append=len(piece))
+    best = starts[np.lexsort((value[starts], -counts, piece[starts]))]
+    _, first = np.unique(piece[best], return_index=True)
+    found: npt.NDArray[np.int64] = value[best[first]]
+    return found
 
 
 def is_patch(inside: np.ndarray, least: int) -> np.ndarray:

@@ -105,17 +105,20 @@ class NothingIsLost(Mistakes):
         self.keeps(report, "report_reader.py", report, "--save", report)
 
     def test_a_run_that_fails_leaves_what_stood_there(self) -> None:
-        stood = self.at("made")
+        made, stood = self.at("made.tif"), self.at("made")
         stood.write_bytes(b"what stood there")
         _, report = self.session_and_report()
+        like = ("--like", PHASE, "--force")
+        self.assertEqual(command("to_geotiff.py", report, *like, made)[0], 0)
+        before = made.read_bytes()
         for told in (
             command("to_session.py", raster(self.at("nan.tif"), np.full((3, 3), math.nan)), stood),
             command("to_session.py", PHASE, stood, preexec_fn=limited),
-            command("to_geotiff.py", report, "--like", PHASE, "--float64", stood, preexec_fn=limited),
-            command("to_geotiff.py", self.at("none"), "--like", PHASE, stood),
+            command("to_geotiff.py", report, *like, "--float64", made, preexec_fn=limited),
+            command("to_geotiff.py", self.at("none"), *like, made),
         ):
             self.refused(told)
-            self.assertEqual(stood.read_bytes(), b"what stood there")
+            self.assertEqual((stood.read_bytes(), made.read_bytes()), (b"what stood there", before))
         self.assertEqual([path.name for path in self.folder.glob(".*")], [])
 
     def test_statistics_of_the_raster_before_do_not_stay(self) -> None:
@@ -214,17 +217,17 @@ class NothingIsMisread(Mistakes):
         _, report = self.session_and_report()
         like = ("to_geotiff.py", report, "--like", PHASE)
         for told in (
-            command(*like, "--unit", "metres", "--wavelength", "-1", self.at("made")),
-            command(*like, "--wavelength", "nan", self.at("made")),
+            command(*like, "--unit", "metres", "--wavelength", "-1", self.at("made.tif")),
+            command(*like, "--wavelength", "nan", self.at("made.tif")),
             command("page.py", self.at("session"), report, "--wavelength", "-1", self.at("made")),
             command("to_session.py", PHASE, "--least-coherence", "0.3", self.at("made")),
             command("to_session.py", PHASE, "--coherence", COHERENCE, "--least-coherence", "30", self.at("made")),
-            command("frames.py", PHASE, "--folder", self.at("frames"), "--jobs", "0", self.at("made")),
-            command("frames.py", PHASE, "--folder", self.at("frames"), "--agree", "2", self.at("made")),
-            command("frames.py", PHASE, "--folder", self.at("frames"), "--workers", "0", self.at("made")),
+            command("frames.py", PHASE, "--folder", self.at("frames"), "--jobs", "0", self.at("made.tif")),
+            command("frames.py", PHASE, "--folder", self.at("frames"), "--agree", "2", self.at("made.tif")),
+            command("frames.py", PHASE, "--folder", self.at("frames"), "--workers", "0", self.at("made.tif")),
         ):
             self.refused(told, status=2)
-        self.assertFalse(self.at("made").exists())
+        self.assertFalse(self.at("made").exists() or self.at("made.tif").exists())
 
     def test_values_that_are_masked_make_no_warnings(self) -> None:
         values = np.array([[math.nan, -3.4e38, math.inf, 0.5]])
@@ -318,13 +321,13 @@ class OneLine(Mistakes):
         session, report = self.session_and_report()
         for told in (
             command("to_session.py", PHASE, self.at("made"), preexec_fn=limited),
-            command("to_geotiff.py", report, "--like", PHASE, "--float64", self.at("made"), preexec_fn=limited),
+            command("to_geotiff.py", report, "--like", PHASE, "--float64", self.at("made.tif"), preexec_fn=limited),
             command("page.py", session, report, self.at("made"), preexec_fn=limited),
             command("report_reader.py", report, "--save", self.at("made"), preexec_fn=limited),
-            command("frames.py", PHASE, "--folder", self.at("frames"), self.at("made"), preexec_fn=limited),
+            command("frames.py", PHASE, "--folder", self.at("frames"), self.at("made.tif"), preexec_fn=limited),
         ):
             self.refused(told)
-            self.assertFalse(self.at("made").exists())
+            self.assertFalse(self.at("made").exists() or self.at("made.tif").exists())
         with open("/dev/full", "w") as full:
             words = argv("to_session.py", PHASE, self.at("made"))
             ran = subprocess.run(words, stdout=full, stderr=subprocess.PIPE, text=True)

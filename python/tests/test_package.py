@@ -117,13 +117,13 @@ def test_a_report_that_check_refuses_is_not_returned(tmp_path: Path, monkeypatch
     assert read_report(str(report)).surfaces[-1].tile_cost == found.tile_cost
 
 
-def test_scattered_components_are_warned_of(capsys: pytest.CaptureFixture[str]) -> None:
+def test_scattered_components_are_warned_of() -> None:
     mask = np.ones((3, 5))
     mask[:, 2] = 0
-    wundjeska.unwrap(np.zeros((3, 5)), mask=mask)
-    assert capsys.readouterr().err.startswith(
-        "warning: the mask leaves 2 components that do not touch, with 50.00 % of the open"
-    )
+    words = "^the mask leaves 2 components that do not touch, with 50.00 % of the open"
+    with pytest.warns(wundjeska.Caution, match=words) as told:
+        wundjeska.unwrap(np.zeros((3, 5)), mask=mask)
+    assert [Path(warning.filename).name for warning in told] == ["test_package.py"]
 
 
 def run(*words: object, **more: Any) -> "subprocess.CompletedProcess[str]":

@@ -131,7 +131,7 @@ class Words(unittest.TestCase):
     def test_a_coherence_is_the_weight_that_a_session_gives_it(self) -> None:
         coherence = np.linspace(0.05, 1, 20)
         for looks in (None, 1.0, 8.0):
-            _, weights, _ = wundjeska.unwrapping.planes_of(np.zeros((1, 20)), coherence[None, :], None, looks)
+            _, weights, _ = wundjeska.unwrapping.Arrays(np.zeros((1, 20)), coherence[None, :], None, looks).planes()
             for value, weight in zip(coherence.tolist(), weights[0].tolist()):
                 self.assertEqual(read_word(f"coherence={value}").of(looks).weight, weight)
 
@@ -270,7 +270,8 @@ class Commands(InFolder):
             self.assertEqual((status != 0, told.count("\n"), page.read_bytes()), (True, 1, before), told)
 
     def test_what_is_refused(self) -> None:
-        self.made.write_text("what stood there")
+        self.assertEqual(command("wundjeska", *self.kit, self.made)[0], 0)
+        stood = self.made.read_bytes()
         for words, status in (
             ((PHASE, "--screen", "coherence=0.3"), 2),
             ((*self.kit, "--screen", "coherence=3"), 2),
@@ -282,7 +283,7 @@ class Commands(InFolder):
             for name in ("wundjeska", "to_session.py"):
                 ended, told = command(name, *words, self.made)
                 self.assertEqual((ended, told.count("\n")), (status, 1), told)
-        self.assertEqual((self.made.read_text(), self.before.exists()), ("what stood there", False))
+        self.assertEqual((self.made.read_bytes(), self.before.exists()), (stood, False))
 
     def test_a_program_that_drops_something_else_is_noticed(self) -> None:
         liar = self.folder / "liar"
@@ -306,7 +307,7 @@ class Commands(InFolder):
             "to_session.py", phase, "--coherence", coherence, "--screen", "coherence=0.5", self.session
         )
         self.assertEqual(status, 0)
-        self.assertRegex(told, "warning: the mask leaves [0-9]{2,} components that do not touch, .* patch of --screen")
+        self.assertRegex(told, "warning: the mask leaves [0-9]{2,} components that do not touch, .* patch of the screen")
         status, told = command("to_session.py", phase, "--coherence", coherence, "--screen", "patch=3600", self.session)
         self.assertEqual((status, "warning" in told), (0, False))
 

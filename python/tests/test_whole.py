@@ -166,7 +166,9 @@ class Commands(Whole):
         status, told = self.unwrapped("--whole", *kept, made)
         self.assertEqual(status, 0, told)
         self.assertRegex(
-            told, r"made.tif: accepted, 30 by 24 pixels, 696 open in 2 components, cost [0-9]+, the least of all"
+            told,
+            r"made.tif: accepted with 1 concern, 30 by 24 pixels, 696 open in 2 components, [0-9.]+ % residues, cost [0-9]+, "
+            r"the least of all\n",
         )
         notes = gdal.Open(str(made)).GetMetadata()
         cost = int(re.findall(rb"^cost (.*)$", text.read_bytes(), re.M)[0])

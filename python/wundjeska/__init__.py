@@ -8,12 +8,15 @@ NumPy is its one need; GDAL (Debian's `python3-gdal`) is wanted for rasters in f
 from typing import TYPE_CHECKING, Any
 
 if TYPE_CHECKING:
+    from .concerns import Concern as Concern
+    from .trouble import Caution as Caution
     from .trouble import Trouble as Trouble
     from .unwrapping import Unwrapped as Unwrapped
     from .unwrapping import unwrap as unwrap
 
 __version__ = "0.1.0"
-__all__ = ["Trouble", "Unwrapped", "unwrap"]
+__all__ = ["Caution", "Concern", "Trouble", "Unwrapped", "unwrap"]
+WHERE = {"Caution": ".trouble", "Trouble": ".trouble", "Concern": ".concerns"}
 
 
 def __getattr__(name: str) -> Any:
@@ -21,5 +24,5 @@ def __getattr__(name: str) -> Any:
     from importlib import import_module
 
     if name in __all__:
-        return getattr(import_module(".trouble" if name == "Trouble" else ".unwrapping", __name__), name)
+        return getattr(import_module(WHERE.get(name, ".unwrapping"), __name__), name)
     raise AttributeError(f"module {__name__!r} has no attribute {name!r}")

@@ -1,6 +1,7 @@
 """The command `wundjeska`: a verb and its words. Without a verb it unwraps."""
 import json
 import sys
+from difflib import get_close_matches
 from argparse import ArgumentParser
 from importlib import import_module
 from pathlib import Path
@@ -22,6 +23,7 @@ VERBS: Dict[str, str] = {
     "report": "tells what is in a report",
 }
 INFO = Path(__file__).resolve().parent / "build.json"  # of what a package was built from
+ALIKE = 0.7  # of the letters of a word and of a verb, which it may have been meant to be
 USE = "usage: wundjeska [VERB] WORDS..; `wundjeska VERB --help` tells a verb's words\n\n"
 
 
@@ -70,6 +72,14 @@ def run(verb: str, words: List[str]) -> int:
     return status
 
 
+def check_verb(words: List[str]) -> None:
+    """Trouble if the first word is no file and looks like a verb that is misspelt."""
+    word = words[0]
+    near = get_close_matches(word, VERBS, 1, ALIKE) if word.isalpha() else []
+    if near and not Path(word).exists():
+        raise Trouble(f"there is no verb {word}, nor a raster of this name; did you mean {near[0]}?", REFUSED_WORDS)
+
+
 def command(words: List[str]) -> int:
     """The status of the words."""
     if not words:
@@ -82,6 +92,7 @@ def command(words: List[str]) -> int:
         return 0
     if words[0] in VERBS:
         return run(words[0], words[1:])
+    check_verb(words)
     return run("unwrap", words)
 
 

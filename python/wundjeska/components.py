@@ -73,7 +73,7 @@ def scattered(opened: np.ndarray) -> Tuple[int, float]:
 # What helps where a mask by coherence breaks a scene into components.
 OTHERWISE = {
     "--least-coherence": "Mask water alone, and let a low coherence weigh little, instead of --least-coherence",
-    "--screen": "A greater patch of --screen drops the small ones",
+    "--screen": "A greater patch of the screen drops the small ones",
 }
 
 

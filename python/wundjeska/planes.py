@@ -37,13 +37,16 @@ def phases_of(values: np.ndarray) -> np.ndarray:
 
 def has_phase(values: np.ndarray) -> np.ndarray:
     """True where a phase is: at finite numbers, and of complex ones at those that are not 0."""
-    return np.isfinite(values) & (values != 0) if np.iscomplexobj(values) else np.isfinite(values)
+    with np.errstate(invalid="ignore"):  # of bytes in the wrong order some are NaN of another kind
+        return np.isfinite(values) & (values != 0) if np.iscomplexobj(values) else np.isfinite(values)
 
 
-def check_radians(values: np.ndarray, opened: np.ndarray, name: str, scaled: bool, wrap: bool) -> None:
+def check_radians(
+    values: np.ndarray, opened: np.ndarray, name: str, scaled: bool, wrap: bool, hint: str = "--wrap"
+) -> None:
     """Trouble if these cannot be wrapped phases in radians, of any interval. `scaled` says that whole numbers had a scale.
 
-    With `wrap` they may span more than a cycle. Complex numbers are phases whatever they are.
+    With `wrap`, which `hint` names, they may span more than a cycle. Complex numbers are phases whatever they are.
     """
     if np.iscomplexobj(values) or not opened.any():
         return
@@ -57,19 +60,33 @@ def check_radians(values: np.ndarray, opened: np.ndarray, name: str, scaled: boo
     if high - low > TURN + SLACK and not wrap:
         raise Trouble(
             f"{name} has values from {low:g} to {high:g}, more than a cycle of 6.28319 radians. Are they degrees? If they are "
-            "radians of an unwrapped phase, --wrap wraps them"
+            f"radians of an unwrapped phase, {hint} wraps them"
         )
     if 0.99 <= high - low <= 1.0 and opened.sum() >= MANY:
         warn(f"{name} has values from {low:g} to {high:g}: taken as radians, though they look like cycles")
 
 
-def check_coherence(coherence: np.ndarray, name: str, highest: float) -> None:
-    """Trouble if a coherence, in parts of `highest`, is not from 0 to 1."""
+# Units of what is no phase in radians.
+LENGTHS = r"(kilo|centi|milli|micro|nano)?met(re|er)s?|[kcm\u00b5\u03bcun]?m|inch(es)?|in|foot|feet|ft"
+NO_RADIANS = re.compile(rf"cycles?|{LENGTHS}|degrees?|deg|\u00b0", re.IGNORECASE)
+
+
+def check_told(name: str, unit: str, product: Optional[str], wrap: bool) -> None:
+    """Trouble if what is told of values says that they are no wrapped phase: their unit, or that they are a product in the unit
+    `product`, which is None if they are none. A product in radians can be wrapped again."""
+    if product is not None and not (wrap and product == "radians"):
+        raise Trouble(f"{name} is a product of this program{f' in {product}' if product else ''}, and no wrapped phase")
+    if NO_RADIANS.fullmatch(re.split(r"[\s/*^]", unit.strip())[0]):
+        raise Trouble(f"{name} is in {unit.strip()}, by what it says itself; a wrapped phase is in radians, or complex")
+
+
+def check_coherence(coherence: np.ndarray, name: str, highest: float, hint: str = "--coherence-max") -> None:
+    """Trouble if a coherence, in parts of `highest`, which `hint` names, is not from 0 to 1."""
     low, high = float(coherence.min(initial=0)), float(coherence.max(initial=0))
     if not (low >= -0.001 and high <= 1.001):
         raise Trouble(
             f"{name} has values from {low * highest:g} to {high * highest:g}, wanted 0 to {highest:g}; if a greater number "
-            "stands for a coherence of 1, name it by --coherence-max"
+            f"stands for a coherence of 1, name it by {hint}"
         )
 
 
@@ -80,6 +97,12 @@ def check_size(width: int, height: int, name: str) -> None:
             f"{name} has {width} by {height} pixels; a session has at most {MAX_SIDE} a side and {MAX_PIXELS} in all. "
             "`wundjeska frames` (recipes/frames.py) cuts larger rasters into frames"
         )
+
+
+def as_stored(number: float, kind: np.dtype) -> np.ndarray:
+    """A number as an array of this kind has it: rounded if that is of floats, else itself, which it may not be able to hold."""
+    with np.errstate(over="ignore"):
+        return np.array(number).astype(kind) if kind.kind in "fc" else np.array(number)
 
 
 # Planes and sessions

@@ -11,7 +11,7 @@ from osgeo import gdal
 from . import __version__
 from .displacements import LENGTHS, MAX_BLOCK, ROUNDED, Sight, displaced, wavelength_of
 from .planes import CYCLE
-from .rasters import NODATA, close, create_like, put_values
+from .rasters import NODATA, close, create_like, put_array, put_values
 from .references import Reference, block_of, check_reference_words, level_of, warn_of_components
 from .report_reader import NODATA as MASKED
 from .trouble import REFUSED_WORDS, Trouble
@@ -130,5 +130,5 @@ def write_components(path: Union[str, Path], like: gdal.Dataset, components: np.
     """Writes the components as whole numbers, 0 as NODATA."""
     notes = {"VERSION": __version__, "CONTENT": "connected components by falling size", "LEAST_COMPONENT": least}
     made = create_like(path, like, gdal.GDT_UInt32, 0, "", notes)
-    made.GetRasterBand(1).WriteArray(components)
+    put_array(made, components)
     close(made, path)

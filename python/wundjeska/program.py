@@ -36,11 +36,18 @@ def workers_or_default(workers: Optional[int]) -> int:
     return workers if workers is not None else min(MAX_WORKERS, os.cpu_count() or 1)
 
 
+def started(words: List[str]) -> "subprocess.Popen[bytes]":
+    """A process with pipes. Trouble if the system cannot run it."""
+    pipe = subprocess.PIPE
+    try:
+        return subprocess.Popen(words, stdin=pipe, stdout=pipe, stderr=pipe)
+    except OSError as error:
+        raise Trouble(f"{words[0]} is no program that runs here: {error.strerror}", FILE_FAULT) from error
+
+
 def call(words: List[str], text: bytes) -> Tuple[int, bytes, bytes]:
     """The status of the program, and what it wrote to both streams."""
-    process = subprocess.Popen(
-        [program(), *words], stdin=subprocess.PIPE, stdout=subprocess.PIPE, stderr=subprocess.PIPE
-    )
+    process = started([program(), *words])
     with lock:
         running.add(process)
     try:
@@ -60,12 +67,18 @@ def stop() -> None:
             process.kill()
 
 
+def first_line(told: bytes) -> str:
+    """The first line of what a program told."""
+    lines = told.decode(errors="replace").strip().splitlines()
+    return lines[0] if lines else "it told nothing"
+
+
 def run_program(words: List[str], text: bytes, what: str) -> bytes:
     """What the program writes. If its status is not 0: Trouble with its line and its status."""
     status, out, told = call(words, text)
     if status == 0:
         return out
-    line = (told or out).decode(errors="replace").strip()
+    line = first_line(told or out)
     raise Trouble(f"{what}: {words[0]} ended with status {status}: {line}", status % 256)
 
 
@@ -121,4 +134,4 @@ def check_report(session: bytes, report: bytes, problem: Problem) -> Tuple[bool,
         )
     text = session if planes.script else session + b"end\n"
     status, out, told = call([problem.checker, *problem.words()], text + report)
-    return status == 0, (out or told).decode(errors="replace").strip()
+    return status == 0, first_line(out or told)

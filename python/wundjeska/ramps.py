@@ -90,7 +90,10 @@ def checked(ramp: Given) -> RampWord:
     """A ramp as it is given in Python. Trouble if it is none."""
     if ramp is None or isinstance(ramp, str) and ramp == AUTO:
         return ramp
-    slopes = [] if isinstance(ramp, str) else list(ramp)
+    try:
+        slopes = [] if isinstance(ramp, str) else list(ramp)
+    except TypeError:  # a single number
+        slopes = []
     if len(slopes) != 2 or not all(isinstance(slope, (int, np.integer)) for slope in slopes):
         raise Trouble("a ramp is 'auto', or two whole numbers: the slopes to the right and downwards", REFUSED_WORDS)
     found = int(slopes[0]), int(slopes[1])

@@ -4,17 +4,20 @@ A window is (column, row, width, height) in pixels, from the upper left one. Wan
 """
 import math
 import os
-from argparse import ArgumentParser, Namespace
+import re
+from argparse import ArgumentParser, ArgumentTypeError, Namespace
 from dataclasses import dataclass
 from pathlib import Path
 from typing import Any, Dict, List, Optional, Tuple, Union
-from xml.sax.saxutils import escape
 
 import numpy as np
 from osgeo import gdal
 
+from .opening import Raw, check_bands, gdal_trouble
+from .opening import open_raster as open_raster
+from .outputs import PRODUCT
 from .pictures import Axes
-from .planes import MAX_WEIGHT, check_coherence, check_radians, has_phase, phases_of
+from .planes import MAX_WEIGHT, as_stored, check_coherence, check_radians, check_told, has_phase, phases_of
 from .trouble import BROKEN_INPUT, FILE_FAULT, REFUSED_WORDS, Trouble
 from .weights import add_weight_words, weights_of
 
@@ -23,70 +26,16 @@ gdal.UseExceptions()
 NODATA = -9999.0  # of the rasters written
 MASK_FLAGS = gdal.GMF_PER_DATASET | gdal.GMF_ALPHA
 Window = Tuple[int, int, int, int]
-
-# Of raw files: GDAL's type, its bytes, and how many numbers stand for a pixel; the last one is what is read.
-RAW_FORMS = {"complex": ("CFloat32", 8, 1), "float": ("Float32", 4, 1), "byte": ("Byte", 1, 1)}
-RAW_FORMS.update({"alt-line": ("Float32", 4, 2), "alt-sample": ("Float32", 4, 2)})
-
-
-def gdal_trouble(path: str, error: RuntimeError) -> Trouble:
-    """What GDAL says of a file, which it mostly names."""
-    return Trouble(str(error) if path in str(error) else f"{path}: {error}", FILE_FAULT)
+Bands = Union[int, Tuple[int, int]]  # that of a phase, or of the parts of complex numbers
 
 
 # Opening
 
 
-def open_raster(path: str) -> gdal.Dataset:
-    """A raster that GDAL reads. A raw file of ISCE is found by the XML or VRT beside it, or by the name of that XML."""
-    beside, inside = f"{path}.vrt", path[: -len(".xml")]
-    if not os.path.exists(f"{path}.xml") and os.path.exists(beside):
-        path = beside
-    elif path.endswith(".xml") and os.path.exists(inside):
-        path = inside
-    try:
-        return gdal.Open(path)
-    except RuntimeError as error:
-        raise gdal_trouble(path, error) from error
-
-
-@dataclass
-class Raw:
-    """How raw files are read: the width in pixels, and the order of bytes."""
-
-    width: int
-    big_endian: bool = False
-
-    def open(self, path: str, form: str) -> gdal.Dataset:
-        """A raw file of one of RAW_FORMS; what stands before the value that is read is left out."""
-        kind, size, numbers = RAW_FORMS[form]
-        line = self.width * size * numbers
-        length = os.path.getsize(path)
-        if not length or length % line:
-            raise Trouble(
-                f"{path} has {length} bytes, which are no whole lines of {self.width} pixels in the form {form}"
-            )
-        first = {"alt-line": self.width * size, "alt-sample": size}.get(form, 0)
-        step = size * numbers if form == "alt-sample" else size
-        order = "MSB" if self.big_endian else "LSB"
-        text = (
-            f'<VRTDataset rasterXSize="{self.width}" rasterYSize="{length // line}">'
-            f'<VRTRasterBand dataType="{kind}" band="1" subClass="VRTRawRasterBand">'
-            f'<SourceFilename relativeToVRT="0">{escape(os.path.abspath(path))}</SourceFilename>'
-            f"<ImageOffset>{first}</ImageOffset><PixelOffset>{step}</PixelOffset><LineOffset>{line}</LineOffset>"
-            f"<ByteOrder>{order}</ByteOrder></VRTRasterBand></VRTDataset>"
-        )
-        try:
-            raster = gdal.Open(text)
-        except RuntimeError as error:
-            raise gdal_trouble(path, error) from error
-        raster.SetDescription(path)
-        return raster
-
-
 def band_of(raster: gdal.Dataset, number: Optional[int], option: str) -> int:
     """The number of the band that is read: the one named, or the only one."""
     count, path = raster.RasterCount, name_of(raster)
+    check_bands(raster, path)
     if number is None:
         plain = [
             n for n in range(1, count + 1) if raster.GetRasterBand(n).GetColorInterpretation() != gdal.GCI_AlphaBand
@@ -173,19 +122,15 @@ def check_alike(first: gdal.Dataset, other: gdal.Dataset) -> None:
 # Reading
 
 
-def as_stored(number: float, kind: np.dtype) -> np.ndarray:
-    """A number as a raster of this kind has it: rounded if that is of floats, else itself, which it may not be able to hold."""
-    with np.errstate(over="ignore"):
-        return np.array(number).astype(kind) if kind.kind in "fc" else np.array(number)
-
-
 @dataclass
 class Band:
-    """A band of a raster. Where it is `nodata` there is no value, besides where the raster says so itself."""
+    """A band of a raster. Where it is `nodata` there is no value, besides where the raster says so itself. With `imaginary` it and
+    the band of that number are the parts of complex numbers."""
 
     raster: gdal.Dataset
     number: int = 1
     nodata: Optional[float] = None
+    imaginary: Optional[int] = None
 
     def name(self) -> str:
         return name_of(self.raster)
@@ -196,13 +141,26 @@ class Band:
         return source.GetScale() not in (None, 1.0) or source.GetOffset() not in (None, 0.0)
 
     def read(self, window: Window) -> Tuple[np.ndarray, np.ndarray]:
+        """The values of a window, and where they are there. Values that are not there are 0."""
+        values, there = self.read_part(window)
+        if self.imaginary is None:
+            return values, there
+        other, is_other = Band(self.raster, self.imaginary, self.nodata).read_part(window)
+        if np.iscomplexobj(values) or np.iscomplexobj(other):
+            raise Trouble(f"{self.name()} has complex numbers in bands that are named as parts of them", REFUSED_WORDS)
+        values = values + 1j * other
+        there = there & is_other & has_phase(values)
+        return np.where(there, values, 0), there
+
+    def read_part(self, window: Window) -> Tuple[np.ndarray, np.ndarray]:
         """The values of a window by the band's scale and offset, and where they are there: neither NODATA nor masked nor NaN,
-        nor 0 if complex. Values that are not there are 0."""
+        nor 0 if complex."""
         source = self.raster.GetRasterBand(self.number)
         try:
             values = source.ReadAsArray(*window)
             masks = not np.iscomplexobj(values) or source.GetMaskFlags() & MASK_FLAGS
-            there = source.GetMaskBand().ReadAsArray(*window) > 0 if masks else values != source.GetNoDataValue()
+            with np.errstate(invalid="ignore"):
+                there = source.GetMaskBand().ReadAsArray(*window) > 0 if masks else values != source.GetNoDataValue()
         except RuntimeError as error:
             raise gdal_trouble(self.name(), error) from error
         there = there & has_phase(values)
@@ -284,7 +242,12 @@ def add_raw_words(words: ArgumentParser) -> None:
 def add_scene_words(words: ArgumentParser) -> None:
     """The arguments that scene_of reads."""
     words.add_argument("phase", help="raster of phases: in radians, wrapped to any interval, or complex, as CFloat32")
-    words.add_argument("--band", type=int, metavar="N", help="the phase's band, from 1, if there are several")
+    words.add_argument(
+        "--band",
+        type=read_bands,
+        metavar="N",
+        help="the phase's band, from 1, if there are several; I,Q are the two that are the parts of complex numbers",
+    )
     words.add_argument(
         "--coherence", metavar="FILE", help="raster of coherence from 0 to 1, of the same pixels; it makes the weights"
     )
@@ -337,6 +300,34 @@ def check_scene_words(asked: Namespace) -> None:
         raise Trouble("--big-endian and the forms of raw files want --width", REFUSED_WORDS)
 
 
+def read_bands(text: str) -> Bands:
+    """The word of --band: a number, or two of them."""
+    if not re.fullmatch("[0-9]{1,9}(,[0-9]{1,9})?", text, re.ASCII):
+        raise ArgumentTypeError(f"{text!r} is neither the number of a band nor two as 2,3")
+    numbers = [int(number) for number in text.split(",")]
+    return numbers[0] if len(numbers) == 1 else (numbers[0], numbers[1])
+
+
+def phase_band(raster: gdal.Dataset, asked: Namespace) -> Band:
+    """The band of phases, or the two of complex numbers."""
+    if not isinstance(asked.band, tuple):
+        return Band(raster, band_of(raster, asked.band, "--band"), asked.nodata)
+    real, imaginary = (band_of(raster, number, "--band") for number in asked.band)
+    return Band(raster, real, asked.nodata, imaginary)
+
+
+def is_product(raster: gdal.Dataset) -> bool:
+    """Whether a raster tells that this program made it."""
+    return any(name.startswith(PRODUCT) for name in raster.GetMetadata())
+
+
+def check_is_phase(band: Band, wrap: bool) -> None:
+    """Trouble if a raster says that it is no wrapped phase."""
+    unit = band.raster.GetRasterBand(band.number).GetUnitType()
+    own = (band.raster.GetMetadataItem(f"{PRODUCT}UNIT") or "") if is_product(band.raster) else None
+    check_told(band.name(), unit, own, wrap)
+
+
 def opened_by(asked: Namespace, path: str, form: str) -> gdal.Dataset:
     """A raster as the words say: raw, or what GDAL reads by itself."""
     return open_raster(path) if asked.width is None else Raw(asked.width, asked.big_endian).open(path, form)
@@ -346,13 +337,16 @@ def scene_of(asked: Namespace) -> Scene:
     """The scene that the words name; its rasters have the same pixels."""
     check_scene_words(asked)
     raster = opened_by(asked, asked.phase, asked.form)
-    scene = Scene(Band(raster, band_of(raster, asked.band, "--band"), asked.nodata))
+    scene = Scene(phase_band(raster, asked))
+    check_is_phase(scene.phase, asked.wrap)
     scene.highest, scene.least = asked.coherence_max or 1.0, asked.least_coherence or 0.0
     scene.looks, scene.wrap = asked.looks, asked.wrap
     if asked.coherence:
         coherence = opened_by(asked, asked.coherence, asked.coherence_form)
         check_alike(raster, coherence)
         scene.coherence = Band(coherence, band_of(coherence, asked.coherence_band, "--coherence-band"), asked.nodata)
+        if is_product(coherence):
+            raise Trouble(f"{asked.coherence} is a product of this program, and no coherence")
     if asked.mask:
         mask = opened_by(asked, asked.mask, "byte")
         check_alike(raster, mask)
@@ -411,13 +405,25 @@ def put_in_place(made: gdal.Dataset, like: gdal.Dataset, block: int = 1) -> None
 
 def put_values(made: gdal.Dataset, values: np.ndarray, column: int = 0, row: int = 0) -> None:
     """Writes an array with its first pixel there, NODATA where it is NaN."""
-    band = made.GetRasterBand(1)
-    nodata = band.GetNoDataValue()
+    nodata = made.GetRasterBand(1).GetNoDataValue()
     if np.any(values == nodata):
         raise Trouble(
             f"a value is {nodata:g}, which stands for NODATA; name another number by --output-nodata", BROKEN_INPUT
         )
-    band.WriteArray(np.where(np.isnan(values), nodata, values), column, row)
+    put_array(made, np.where(np.isnan(values), nodata, values), column, row)
+
+
+def not_written(path: Union[str, Path], why: object) -> Trouble:
+    """What is said where GDAL could not write."""
+    return Trouble(f"{path} cannot be written whole, as if the disk were full: {why}", FILE_FAULT)
+
+
+def put_array(made: gdal.Dataset, values: np.ndarray, column: int = 0, row: int = 0) -> None:
+    """Writes numbers as they are, the first pixel there."""
+    try:
+        made.GetRasterBand(1).WriteArray(values, column, row)
+    except RuntimeError as error:
+        raise not_written(name_of(made), error) from error
 
 
 def close(made: gdal.Dataset, path: Union[str, Path]) -> None:
@@ -426,6 +432,6 @@ def close(made: gdal.Dataset, path: Union[str, Path]) -> None:
     try:
         made.FlushCache()
     except RuntimeError as error:
-        raise gdal_trouble(str(path), error) from error
+        raise not_written(path, error) from error
     if gdal.GetLastErrorType() >= gdal.CE_Failure:
-        raise Trouble(f"{path}: {gdal.GetLastErrorMsg()}", FILE_FAULT)
+        raise not_written(path, gdal.GetLastErrorMsg())

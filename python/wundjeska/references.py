@@ -43,6 +43,13 @@ def check_reference_words(asked: Namespace) -> None:
     named = [bool(getattr(asked, f"reference{more}", None)) for more in ("", "_window", "_auto")]
     if sum(named) > 1:
         raise Trouble("--reference and --reference-window exclude each other", REFUSED_WORDS)
+    window = getattr(asked, "reference_window", None)
+    if window and (window[0] > window[2] or window[1] > window[3]):
+        x0, y0, x1, y1 = min(window[::2]), min(window[1::2]), max(window[::2]), max(window[1::2])
+        raise Trouble(
+            f"--reference-window {box_name(window)} is turned round: wanted the lower column and row first, {x0} {y0} {x1} {y1}",
+            REFUSED_WORDS,
+        )
 
 
 def block_of(asked: Namespace) -> int:

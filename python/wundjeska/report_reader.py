@@ -405,16 +405,21 @@ def words() -> argparse.ArgumentParser:
     return found
 
 
+def npz_of(report: Report) -> bytes:
+    """The arrays of a report as a file of NumPy."""
+    arrays = io.BytesIO()
+    np.savez_compressed(arrays, **arrays_of(report))
+    return arrays.getvalue()
+
+
 def tell(path: str, save: Optional[PathLike] = None) -> None:
     """Tells what is in a report, and saves its arrays in a file."""
     report = read_report(path)
     for line in summary_of(report):
         print(line)
     if save is not None:
-        arrays = io.BytesIO()
-        np.savez_compressed(arrays, **arrays_of(report))
         with open(save, "wb") as file:
-            file.write(arrays.getbuffer())
+            file.write(npz_of(report))
 
 
 def main() -> int:

@@ -1,8 +1,11 @@
 """How a mistake ends: in one line on standard error, and with a status."""
+import io
 import os
 import signal
 import sys
-from typing import Callable, NoReturn
+import warnings
+from types import FrameType
+from typing import Any, Callable, NoReturn, Optional, Type
 
 # Statuses. Those of the program are passed on; 2 is for words that are refused.
 DISAGREES, REFUSED_WORDS, BROKEN_INPUT, NO_MEMORY, FILE_FAULT, INTERRUPTED = 1, 2, 3, 4, 5, 130
@@ -16,8 +19,39 @@ class Trouble(Exception):
         self.status = status
 
 
+class Caution(UserWarning):
+    """What is to be said, in one line, of what is done all the same."""
+
+
+HERE = os.path.join(os.path.dirname(os.path.abspath(__file__)), "")
+
+
+def level_outside() -> int:
+    """Of the calls above that of `warn` the first that is not of this package, as warnings count them."""
+    level, frame = 2, sys._getframe(2)
+    above: Optional[FrameType] = frame
+    while above is not None and above.f_code.co_filename.startswith(HERE):
+        level, above = level + 1, above.f_back
+    return level
+
+
 def warn(line: str) -> None:
-    print(f"warning: {line}", file=sys.stderr, flush=True)
+    """Warns of something. From Python it is a warning of the kind Caution, and the command writes it as a line."""
+    warnings.warn(line, Caution, stacklevel=level_outside())
+
+
+def write_cautions() -> None:
+    """From now on each caution is a line on standard error, and other warnings stay as they are."""
+    others = warnings.showwarning
+
+    def show(message: Any, category: Type[Warning], filename: str, lineno: int, *more: Any, **others_too: Any) -> None:
+        if issubclass(category, Caution):
+            tell(f"warning: {message}")
+        else:
+            others(message, category, filename, lineno, *more, **others_too)
+
+    warnings.simplefilter("always", Caution)
+    warnings.showwarning = show
 
 
 def tell(line: object) -> None:
@@ -55,6 +89,9 @@ def interrupt(*_: object) -> NoReturn:
 def run_main(main: Callable[[], int]) -> NoReturn:
     """Ends the process by the status of `main`. SIGTERM ends it as SIGINT does, so that nothing is left half written."""
     signal.signal(signal.SIGTERM, interrupt)
+    write_cautions()
+    if isinstance(sys.stdout, io.TextIOWrapper):
+        sys.stdout.reconfigure(errors="surrogateescape")  # a file's name may be of any bytes
     status = status_of(main)
     try:
         sys.stdout.flush()

@@ -3,14 +3,17 @@ import io
 import math
 from dataclasses import dataclass
 from pathlib import Path
-from typing import Iterator, Optional, Tuple, Union
+from typing import Any, Iterator, Optional, Tuple, Union
 
 import numpy as np
 import numpy.typing as npt
 
 from . import report_reader, screening
+from .arguments import name_of_file, number, one_of, refused, whole_number, yes_or_no
+from .arrays import PHASES, REALS, check_attributes, taken
 from .components import components_of, warning_of
-from .outputs import Outputs
+from .concerns import Concern, concerns_of, judgement_of
+from .outputs import Outputs, beside
 from .planes import (
     CYCLE,
     MAX_WEIGHT,
@@ -31,9 +34,10 @@ from .weights import highest_of, weights_of
 
 ACCEPTED, NOT_CHECKED = "accepted", "not checked"
 RULES = ("least", "mean", "product")
-SIDE = 128  # of tiles
+SIDE, SIDES = 128, (2, 128)  # of tiles, and the least and the greatest
 WHOLE = True  # whether the whole raster is solved at once if nothing else is said
 MAX_STEEP = 16
+LOOKS, HIGHEST = "a number of 1 or more", "a number above 0"
 
 Path_ = Union[str, Path]
 
@@ -52,8 +56,12 @@ class Settings:
     def is_whole(self) -> bool:
         return self.side is None
 
+    def problem(self, ramp: Optional[Ramp]) -> Problem:
+        """What is solved about an expected ramp."""
+        return Problem(self.rule, self.side, ramp or (0, 0), self.steep)
+
     def check(self) -> None:
-        if self.side is not None and not 2 <= self.side <= 128:
+        if self.side is not None and not SIDES[0] <= self.side <= SIDES[1]:
             raise Trouble("the side of tiles is from 2 to 128", REFUSED_WORDS)
         if not 1 <= self.steep <= MAX_STEEP:
             raise Trouble(f"the steepness is from 1 to {MAX_STEEP}", REFUSED_WORDS)
@@ -72,6 +80,7 @@ def side_for(tile: Optional[int], whole: Optional[bool]) -> Optional[int]:
     return SIDE if tile is None else tile
 
 
+Plane = Tuple[np.ndarray, np.ndarray]  # numbers, and where they are there
 Planes = Tuple[np.ndarray, np.ndarray, np.ndarray]  # phases, weights and open pixels
 
 
@@ -139,6 +148,7 @@ class Unwrapped:
     verdict     'accepted' if the program's checker accepted the report, else 'not checked'
     ramp        the expected slopes to the right and downwards, in 1/65536 cycle a pixel; None if none was asked for
     dropped     what a screen dropped: uint8, 1 at weak pixels, 2 at lonely ones, 3 in islands, else 0; None without a screen
+    concerns    signs that the surface may be wrong though none costs less: each has a text, a kind, and is_bad
     """
 
     phase: npt.NDArray[np.float32]
@@ -150,6 +160,12 @@ class Unwrapped:
     settings: Settings
     ramp: Optional[Ramp] = None
     dropped: Optional[npt.NDArray[np.uint8]] = None
+    concerns: Tuple[Concern, ...] = ()
+
+    @property
+    def judgement(self) -> str:
+        """What was proved, and how many concerns are bad, in words."""
+        return judgement_of(self.concerns, self.verdict == ACCEPTED, self.settings.is_whole)
 
     @property
     def cost(self) -> int:
@@ -190,7 +206,7 @@ def last_surface(report: bytes, name: str) -> report_reader.Surface:
 def solve(session: bytes, settings: Settings, check: bool = True, name: str = "the session") -> Solved:
     """Unwraps a session by the ramp that it tells and has the checker judge the report. Trouble if it is refused."""
     settings.check()
-    problem = Problem(settings.rule, settings.side, ramp_in(session) or (0, 0), settings.steep)
+    problem = settings.problem(ramp_in(session))
     workers = str(workers_or_default(settings.workers))
     report = run_program([problem.solver, *problem.words(), "--workers", workers], session, name)
     verdict = NOT_CHECKED
@@ -207,47 +223,120 @@ def radians_of(values: np.ndarray) -> npt.NDArray[np.float32]:
     return np.where(known, values * (2 * math.pi / CYCLE), np.nan).astype(np.float32)
 
 
-def plane_like(given: Optional[npt.ArrayLike], shape: Tuple[int, ...], name: str) -> Optional[np.ndarray]:
-    """An array that goes with the interferogram, of its shape."""
-    if given is None:
-        return None
-    values = np.asarray(given)
-    if values.shape != shape:
-        raise Trouble(f"{name} has the shape {values.shape}, the interferogram {shape}")
-    return values
+@dataclass(frozen=True)
+class Arrays:
+    """What is given of an interferogram, each as `arrays.taken` takes it; coherence and mask may be wanting. `nodata` stands for no
+    value in the first two, and `highest` for a coherence of 1. With `wrap` phases may span more than a cycle."""
+
+    igram: Any
+    coherence: Any = None
+    mask: Any = None
+    looks: Optional[float] = None
+    nodata: Optional[float] = None
+    wrap: bool = False
+    highest: float = 1.0
+
+    def interferogram(self) -> Tuple[np.ndarray, np.ndarray]:
+        """Its numbers, and where they are there."""
+        values, there = taken(self.igram, "the interferogram", PHASES, self.nodata)
+        check_attributes(self.igram, "the interferogram", self.wrap)
+        if values.ndim != 2 or not values.size:
+            raise Trouble(f"an interferogram has two dimensions and numbers; this one has the shape {values.shape}")
+        check_size(values.shape[1], values.shape[0], "the interferogram")
+        return values, there & has_phase(values)
+
+    def like(self, given: Any, shape: Tuple[int, ...], name: str, nodata: Optional[float] = None) -> Plane:
+        """Numbers that go with the interferogram, of its shape, and where they are there."""
+        values, there = taken(given, name, REALS, nodata)
+        if values.shape != shape:
+            raise Trouble(f"{name} has the shape {values.shape}, the interferogram {shape}")
+        return values, there
+
+    def weights(self, shape: Tuple[int, ...]) -> Plane:
+        """Weights, and where a coherence is there; all are the greatest without one."""
+        if self.coherence is None:
+            return np.full(shape, MAX_WEIGHT, dtype=np.uint16), np.ones(shape, dtype=bool)
+        values, there = self.like(self.coherence, shape, "coherence", self.nodata)
+        there &= np.isfinite(values)
+        quality = np.where(there, values, 0).astype(np.float64) / self.highest
+        check_coherence(quality, "coherence", self.highest, "coherence_max")
+        return weights_of(quality, self.looks), there
+
+    def planes(self) -> Planes:
+        """Phases, weights and open pixels."""
+        values, opened = self.interferogram()
+        weights, there = self.weights(values.shape)
+        opened &= there
+        if self.mask is not None:
+            kept, there = self.like(self.mask, values.shape, "mask")
+            opened &= there & (kept != 0)
+        check_radians(values, opened, "the interferogram", False, self.wrap, "wrap=True")
+        if not opened.any():
+            raise Trouble("the interferogram has no pixel that is open")
+        return np.where(opened, phases_of(values), 0), weights, opened
 
 
-def planes_of(
-    igram: npt.ArrayLike, coherence: Optional[npt.ArrayLike], mask: Optional[npt.ArrayLike], looks: Optional[float]
-) -> Planes:
-    """Phases, weights and open pixels of arrays."""
-    values = np.asarray(igram)
-    if values.ndim != 2 or values.dtype.kind not in "fciu" or not values.size:
-        raise Trouble(f"an interferogram has two dimensions and numbers; this one has {values.ndim} and {values.dtype}")
-    check_size(values.shape[1], values.shape[0], "the interferogram")
-    opened = has_phase(values)
-    weights = np.full(values.shape, MAX_WEIGHT, dtype=np.uint16)
-    quality = plane_like(coherence, values.shape, "coherence")
-    if quality is not None:
-        there = np.isfinite(quality)
-        quality = np.where(there, quality, 0).astype(np.float64)
-        check_coherence(quality, "coherence", 1)
-        opened, weights = opened & there, weights_of(quality, looks)
-    kept = plane_like(mask, values.shape, "mask")
-    if kept is not None:
-        opened = opened & (np.nan_to_num(kept) != 0)
-    check_radians(values, opened, "the interferogram", False, False)
-    if not opened.any():
-        raise Trouble("the interferogram has no pixel that is open")
-    return np.where(opened, phases_of(values), 0), weights, opened
+def arrays_of(igram: Any, coherence: Any, mask: Any, looks: Any, nodata: Any, wrap: Any, coherence_max: Any) -> Arrays:
+    """What is given of an interferogram. Trouble if it does not fit."""
+    if looks is not None and not 1 <= number("looks", looks, LOOKS) < math.inf:
+        raise refused("looks", LOOKS, looks)
+    if coherence_max is not None and not 0 < number("coherence_max", coherence_max, HIGHEST) < math.inf:
+        raise refused("coherence_max", HIGHEST, coherence_max)
+    for name, value in (("looks", looks), ("coherence_max", coherence_max)):
+        if value is not None and coherence is None:
+            raise Trouble(f"{name} wants coherence", REFUSED_WORDS)
+    missing = None if nodata is None else number("nodata", nodata, "a number")
+    return Arrays(igram, coherence, mask, looks, missing, yes_or_no("wrap", wrap), float(coherence_max or 1.0))
+
+
+def settings_of(whole: Any, tile: Any, rule: Any, steep: Any, workers: Any) -> Settings:
+    """How it is solved. Trouble if an argument does not fit."""
+    if whole is not None:
+        yes_or_no("whole", whole)
+    if not isinstance(rule, str) or rule not in RULES:
+        raise refused("rule", f"{', '.join(map(repr, RULES[:-1]))} or {RULES[-1]!r}", rule)
+    side = None if tile is None else whole_number("tile", tile, *SIDES)
+    threads = None if workers is None else whole_number("workers", workers, 1, MAX_WORKERS)
+    return Settings(side_for(side, whole), rule, threads, whole_number("steep", steep, 1, MAX_STEEP))
+
+
+def warn_of(concerns: Tuple[Concern, ...]) -> None:
+    """Warns of the bad ones. That parts do not touch was said when the mask was made."""
+    for concern in concerns:
+        if concern.is_bad and concern.kind != "parts":
+            warn(concern.text)
+
+
+def unwrapped_of(made: Input, phase: np.ndarray, solved: Solved, settings: Settings, least: int) -> Unwrapped:
+    """What is returned."""
+    surface = solved.surface
+    concerns = concerns_of(phase, made.weights, surface, settings.problem(made.ramp))
+    warn_of(concerns)
+    return Unwrapped(
+        radians_of(surface.values),
+        surface.values,
+        components_of(made.opened, least),
+        surface.tile_cost,
+        surface.seam_cost,
+        solved.verdict,
+        settings,
+        made.ramp,
+        made.screening.dropped_at() if made.screening else None,
+        concerns,
+    )
 
 
 def unwrap(
     igram: npt.ArrayLike,
     coherence: Optional[npt.ArrayLike] = None,
-    *,
-    mask: Optional[npt.ArrayLike] = None,
     looks: Optional[float] = None,
+    *,
+    corr: Optional[npt.ArrayLike] = None,
+    nlooks: Optional[float] = None,
+    mask: Optional[npt.ArrayLike] = None,
+    nodata: Optional[float] = None,
+    wrap: bool = False,
+    coherence_max: Optional[float] = None,
     whole: Optional[bool] = None,
     tile: Optional[int] = None,
     rule: str = RULES[0],
@@ -261,10 +350,15 @@ def unwrap(
 ) -> Unwrapped:
     """Unwraps an interferogram, (rows, columns), and has the result checked.
 
+    Arrays may be masked ones or xarray's; what is masked or missing in one is masked.
+
     igram            complex numbers, or wrapped phases in radians of any interval. NaN, infinite and complex 0 are masked
-    coherence        from 0 to 1: it makes the weights; NaN is masked
+    coherence, corr  from 0 to 1: it makes the weights; NaN is masked. Both are names of it
+    looks, nlooks    how many independent looks the coherence has: weights go by the variance of the phase. Both are names of it
     mask             0 or False at pixels to leave out, as water
-    looks            how many independent looks the coherence has: weights go by the variance of the phase
+    nodata           a number that stands for no value in igram and coherence, as 0
+    wrap             take phases of more than a cycle, as an unwrapped one, and wrap them
+    coherence_max    what stands for a coherence of 1, as 255
     whole            solve the whole raster at once: no surface that differs by whole cycles costs less than what is returned
     tile             solve tiles of this side, 2 to 128, one by one, and then how they join
     rule             how two weights give that of an edge: 'least', 'mean' or 'product'
@@ -278,31 +372,21 @@ def unwrap(
     screen           what a pixel needs to stay open, as {'coherence': 0.3, 'radius': 3, 'count': 20, 'patch': 50}: a coherence
                      (or a 'weight'), so many such pixels within a radius, and so many in its patch
 
-    Raises Trouble, whose text is one line.
+    Raises Trouble, whose text is one line. What is to be said of a result warns as Caution, and stands in its concerns.
     """
-    if looks is not None and (coherence is None or not 1 <= looks < math.inf):
-        raise Trouble("looks is 1 or more, and wants coherence", REFUSED_WORDS)
-    settings, asked = Settings(side_for(tile, whole), rule, workers, steep), screening.checked(screen)
-    settings.check()
-    making = Making("the interferogram", looks, checked(ramp), asked)
-    if asked is not None and asked.coherence is not None and coherence is None:
+    quality, many = one_of("coherence", coherence, "corr", corr), one_of("looks", looks, "nlooks", nlooks)
+    arrays = arrays_of(igram, quality, mask, many, nodata, wrap, coherence_max)
+    settings, asked = settings_of(whole, tile, rule, steep, workers), screening.checked(screen)
+    least, is_checked = whole_number("least_component", least_component, 1), yes_or_no("check", check)
+    kept = None if report is None else name_of_file("report", report)
+    making = Making("the interferogram", arrays.looks, checked(ramp), asked)
+    if asked is not None and asked.coherence is not None and quality is None:
         raise Trouble("a coherence of the screen wants coherence", REFUSED_WORDS)
-    planes = planes_of(igram, coherence, mask, looks)
     with Outputs([]) as outputs:
-        kept = outputs.beside(report) if report is not None else None
+        place = beside(outputs, kept)
+        planes = arrays.planes()
         made = input_of(planes, making)
-        solved = solve(made.session, settings, check, making.name)
-        if kept is not None:
-            kept.write_bytes(solved.report)
-    surface = solved.surface
-    return Unwrapped(
-        radians_of(surface.values),
-        surface.values,
-        components_of(made.opened, least_component),
-        surface.tile_cost,
-        surface.seam_cost,
-        solved.verdict,
-        settings,
-        made.ramp,
-        made.screening.dropped_at() if made.screening else None,
-    )
+        solved = solve(made.session, settings, is_checked, making.name)
+        if place is not None:
+            outputs.fill(place, solved.report)
+    return unwrapped_of(made, planes[0], solved, settings, least)

@@ -1,20 +1,23 @@
 """Tells what is in a report."""
 from argparse import ArgumentParser, Namespace
+from pathlib import Path
 
 from .. import report_reader
-from ..outputs import Outputs
-from ..trouble import Trouble
+from ..outputs import Outputs, add_force_word, beside
+from ..unwrapping import read_report
 
 
 def words() -> ArgumentParser:
-    return report_reader.words()
+    found = report_reader.words()
+    add_force_word(found)
+    return found
 
 
 def main(asked: Namespace) -> int:
-    with Outputs([asked.report]) as outputs:
-        save = outputs.beside(asked.save) if asked.save else None
-        try:
-            report_reader.tell(asked.report, save)
-        except report_reader.BrokenLine as broken:
-            raise Trouble(f"{asked.report}: {broken}") from broken
+    with Outputs([asked.report], asked.force) as outputs:
+        save = beside(outputs, asked.save)
+        report = read_report(Path(asked.report).read_bytes(), asked.report)
+        print("\n".join(report_reader.summary_of(report)))
+        if save is not None:
+            outputs.fill(save, report_reader.npz_of(report))
     return 0

@@ -15,7 +15,7 @@ a pixel looks as if it fell by 0.2.
 from argparse import ArgumentParser, Namespace, RawDescriptionHelpFormatter
 from pathlib import Path
 
-from ..outputs import Outputs, beside
+from ..outputs import Outputs, add_force_word, beside
 from ..planes import check_size
 from ..program import ramp_words
 from ..ramps import add_ramp_words, told
@@ -41,6 +41,7 @@ def words() -> ArgumentParser:
         metavar="FILE",
         help="the analysts' scripts, with `end` as their last line (default: that line alone: the surface is published once)",
     )
+    add_force_word(found)
     found.add_argument("session", help="the file to write")
     return found
 
@@ -69,13 +70,13 @@ def screen_line(screening: Screened) -> str:
 def main(asked: Namespace) -> int:
     scene = scene_of(asked)
     check_screen_words(asked.screen, asked.unscreened, scene.coherence)
-    with Outputs([*scene.files(), asked.script]) as outputs:
+    with Outputs([*scene.files(), asked.script], asked.force) as outputs:
         made, unscreened = outputs.beside(asked.session), beside(outputs, asked.unscreened)
         script = Path(asked.script).read_bytes() if asked.script else b"end\n"
         found = input_for(scene, asked, script)
-        made.write_bytes(found.session)
+        outputs.fill(made, found.session)
         if unscreened:
-            unscreened.write_bytes(found.before)
+            outputs.fill(unscreened, found.before)
     height, width = found.opened.shape
     print(f"{asked.session}: {width} by {height} pixels, {found.opened.sum()} open, {(~found.opened).sum()} masked")
     if found.screening is not None:

@@ -28,15 +28,16 @@ import numpy as np
 
 from .. import report_reader
 from ..displacements import read_grid
-from ..outputs import Outputs
-from ..planes import read_session
+from ..concerns import signs_of
+from ..outputs import Outputs, add_force_word
+from ..planes import Session, read_session
 from ..product import NOTHING_CERTIFIES, add_unit_words, check_unit_words, write_product
 from ..program import check_report
 from ..rasters import files_of, name_of, open_raster, size_of
 from ..references import add_reference_words, reference_of
 from ..trouble import DISAGREES, REFUSED_WORDS, Trouble, warn
 from ..unwrapping import problem_of, read_report
-from .unwrap import cost_notes, ramp_note, steep_note
+from .unwrap import cost_notes, ramp_note, signs_note, steep_note
 
 
 def words() -> ArgumentParser:
@@ -55,16 +56,18 @@ def words() -> ArgumentParser:
     )
     add_reference_words(found)
     add_unit_words(found)
+    add_force_word(found)
     found.add_argument("geotiff", help="the file to write")
     return found
 
 
 @dataclass
 class Found:
-    """The values of a surface, int64, (rows, columns), and what is known of them."""
+    """The values of a surface, int64, (rows, columns), what is known of them, and the report that they are of."""
 
     values: np.ndarray
     notes: Dict[str, Any]
+    report: Optional[report_reader.Report] = None
 
 
 def read_text(path: str) -> bytes:
@@ -93,7 +96,8 @@ def found_in(text: bytes, path: str, session: Optional[str]) -> Found:
     report = read_report(text, path)
     if not report.surfaces:
         raise Trouble(f"{path}: no surface was published")
-    return Found(report.surfaces[-1].values, {"VERDICT": verdict_of(report, text, session), **notes_of(report)})
+    notes = {"VERDICT": verdict_of(report, text, session), **notes_of(report)}
+    return Found(report.surfaces[-1].values, notes, report)
 
 
 def notes_of(report: report_reader.Report) -> Dict[str, Any]:
@@ -102,6 +106,14 @@ def notes_of(report: report_reader.Report) -> Dict[str, Any]:
     ramp = ramp_note(report.ramp if report.version > 1 else None)
     revision = {} if report.is_whole else {"REVISION": last.revision}
     return {**cost_notes(problem.side, last), "RULE": report.rule, **revision, **steep_note(report.steepness), **ramp}
+
+
+def concerns_note(session: Session, found: Found) -> Dict[str, Any]:
+    """What is told of signs that a surface of this session may be wrong."""
+    if found.report is None:
+        return {}
+    surface, problem = found.report.surfaces[-1], problem_of(found.report)
+    return signs_note(signs_of(session.phase, session.weights, surface, problem))
 
 
 def shape_of(raster: Any) -> Tuple[int, int]:
@@ -115,16 +127,18 @@ def main(asked: Namespace) -> int:
         raise Trouble("--reference auto wants --session, whose weights are made of coherence", REFUSED_WORDS)
     like = open_raster(asked.like)
     inputs = [None if asked.surface == "-" else asked.surface, asked.session, *files_of(like)]
-    with Outputs(inputs) as outputs:
-        made = outputs.beside(asked.geotiff)
+    with Outputs(inputs, asked.force) as outputs:
+        made = outputs.raster(asked.geotiff)
         found = found_in(read_text(asked.surface), asked.surface, asked.session)
         if found.values.shape != shape_of(like):
             height, width = found.values.shape
             raise Trouble(
                 f"the surface has {width} by {height} pixels, {name_of(like)} {like.RasterXSize} by {like.RasterYSize}"
             )
-        weights = read_session(Path(asked.session).read_bytes()).weights if asked.session else None
-        reference = reference_of(asked, found.values, weights)
+        session = read_session(Path(asked.session).read_bytes()) if asked.session else None
+        if session is not None:
+            found.notes.update(concerns_note(session, found))
+        reference = reference_of(asked, found.values, session.weights if session is not None else None)
         write_product(made, like, found.values, asked, reference, found.notes)
     if asked.reference_auto:
         print(f"{asked.geotiff}: reference: {reference.note}")

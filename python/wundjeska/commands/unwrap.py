@@ -2,20 +2,24 @@
 
 With --whole the whole raster is solved at once, so that no surface costs less; without it tiles are, and then how they join.
 
-The GeoTIFF has the pixels and the place of the phase, NODATA at masked pixels, and in its metadata the verdict, side, rule,
-costs, unit, wavelength, reference and sign. If the check refuses, no file is written. --components writes a second raster,
-of the connected components, numbered from 1 by falling size.
+The GeoTIFF has the pixels and the place of the phase, NODATA at masked pixels, and in its metadata the verdict, concerns, side,
+rule, costs, unit, wavelength, reference and sign. If the check refuses, no file is written. --components writes a second
+raster, of the connected components, numbered from 1 by falling size.
+
+Beside `accepted` concerns are told: signs that the surface may be wrong by whole cycles though none costs less, as many
+residues, dear seams, long lines along which it jumps, or a phase that is 0 in many places. They change no status.
 """
 from argparse import ArgumentParser, BooleanOptionalAction, Namespace, RawDescriptionHelpFormatter
 from pathlib import Path
-from typing import Any, Dict, Optional
+from typing import Any, Dict, List, Optional, Sequence
 
 import numpy as np
 
 from .. import report_reader
 from ..components import components_of
-from ..outputs import Outputs, beside
-from ..planes import Ramp
+from ..concerns import Concern, Signs, judgement_of, note_of, percent, signs_of
+from ..outputs import Outputs, add_force_word, beside, raster_beside
+from ..planes import Ramp, read_session
 from ..product import NOTHING_CERTIFIES, add_unit_words, check_unit_words, write_components, write_product
 from ..program import show
 from ..ramps import add_ramp_words, told
@@ -91,6 +95,7 @@ def words() -> ArgumentParser:
     found.add_argument(
         "--no-check", action="store_true", help="do not have the report checked, and say so in the GeoTIFF"
     )
+    add_force_word(found)
     found.add_argument("geotiff", help="the file to write")
     return found
 
@@ -131,65 +136,94 @@ def screen_note(made: Input) -> Dict[str, Any]:
     return {"SCREEN": made.screening.terms.told(), "DROPPED": made.screening.told()}
 
 
+def signs_note(signs: Signs) -> Dict[str, Any]:
+    """What is told of signs that the surface may be wrong."""
+    return {"RESIDUES": f"{percent(signs.residues)} of the cells", "CONCERNS": note_of(signs.concerns())}
+
+
 def weights_note(scene: Scene) -> str:
     if scene.coherence is None:
         return "equal"
     return "linear in coherence" if scene.looks is None else f"by the variance of {scene.looks:g} looks"
 
 
-def write_page(path: Path, asked: Namespace, made: Input, solved: Solved, scene: Scene, reference: Reference) -> None:
+def page_of(asked: Namespace, made: Input, solved: Solved, scene: Scene, reference: Reference) -> bytes:
     from .page import Shown, page_text
 
     unscreened = made.before if made.screening else None
     shown = Shown(asked.wavelength, axes_of(scene.phase.raster), unscreened, reference)
-    path.write_text(page_text(Path(asked.geotiff).name, made.session, solved.report, solved.verdict, shown))
+    return page_text(Path(asked.geotiff).name, made.session, solved.report, solved.verdict, shown).encode()
 
 
-def main(asked: Namespace) -> int:
+def check_words(asked: Namespace) -> None:
+    """Trouble if arguments do not fit each other."""
     check_unit_words(asked)
-    settings = settings_of(asked, asked.whole)
     if asked.reference_auto and not asked.coherence:
         raise Trouble("--reference auto wants --coherence", REFUSED_WORDS)
     if asked.least_component < 1:
         raise Trouble("--least-component is 1 or more", REFUSED_WORDS)
+
+
+def main(asked: Namespace) -> int:
+    check_words(asked)
+    settings = settings_of(asked, asked.whole)
     scene = scene_of(asked)
     check_screen_words(asked.screen, asked.unscreened, scene.coherence)
     like = scene.phase.raster
-    with Outputs(scene.files()) as outputs:
-        place = outputs.beside(asked.geotiff)
-        names = (asked.components, asked.page, asked.session, asked.report, asked.unscreened)
-        numbered, page, kept_session, kept_report, unscreened = (beside(outputs, name) for name in names)
+    with Outputs(scene.files(), asked.force) as outputs:
+        place, numbered = outputs.raster(asked.geotiff), raster_beside(outputs, asked.components)
+        names = (asked.page, asked.session, asked.report, asked.unscreened)
+        page, kept_session, kept_report, unscreened = (beside(outputs, name) for name in names)
         made = input_for(scene, asked)
         solved = solve(made.session, settings, not asked.no_check, asked.phase)
         components = components_of(made.opened, asked.least_component)
+        signs = signs_of(read_session(made.session).phase, made.weights, solved.surface, settings.problem(made.ramp))
         notes = {**notes_of(solved, settings, scene, components), **ramp_note(made.ramp), **screen_note(made)}
+        notes.update(signs_note(signs))
         reference = reference_of(asked, solved.surface.values, made.weights)
         write_product(place, like, solved.surface.values, asked, reference, notes)
         if numbered:
             write_components(numbered, like, components, asked.least_component)
         if page:
-            write_page(page, asked, made, solved, scene, reference)
+            outputs.fill(page, page_of(asked, made, solved, scene, reference))
         for kept, text in ((kept_session, made.session), (kept_report, solved.report), (unscreened, made.before)):
             if kept:
-                kept.write_bytes(text)
-    tell(asked, settings, solved, made, components)
+                outputs.fill(kept, text)
+    tell(asked, settings, solved, made, signs, int(components.max(initial=0)))
     if asked.reference_auto:
         print(f"{asked.geotiff}: reference: {reference.note}")
     return 0
 
 
-def tell(asked: Namespace, settings: Settings, solved: Solved, made: Input, components: np.ndarray) -> None:
+def costs_line(settings: Settings, solved: Solved) -> str:
+    """What a surface costs, in words."""
+    surface = solved.surface
+    if not settings.is_whole:
+        return f"tiles cost {surface.tile_cost}, seams {surface.seam_cost}"
+    return f"cost {surface.tile_cost}" + (", the least of all" if solved.verdict == ACCEPTED else "")
+
+
+def judgement_lines(concerns: Sequence[Concern], settings: Settings, solved: Solved) -> List[str]:
+    """What was proved, and each sign that the surface may be wrong."""
+    proved = judgement_of(concerns, solved.verdict == ACCEPTED, settings.is_whole)
+    return [proved, *(f"{'concern' if concern.is_bad else 'note'}: {concern}" for concern in concerns)]
+
+
+def verdict_line(solved: Solved, made: Input, signs: Signs, count: int) -> str:
+    """The verdict, how many concerns stand beside it, and what was unwrapped."""
+    height, width = made.opened.shape
+    bad = sum(concern.is_bad for concern in signs.concerns())
+    beside_it = f" with {bad} concern{'' if bad == 1 else 's'}" if bad else ""
+    pixels = f"{width} by {height} pixels, {made.opened.sum()} open in {count} component{'' if count == 1 else 's'}"
+    return f"{solved.verdict}{beside_it}, {pixels}, {percent(signs.residues)} residues"
+
+
+def tell(asked: Namespace, settings: Settings, solved: Solved, made: Input, signs: Signs, count: int) -> None:
     if solved.verdict != ACCEPTED:
         warn(f"{asked.geotiff}: {NOTHING_CERTIFIES}")
-    surface, count = solved.surface, int(components.max(initial=0))
-    height, width = made.opened.shape
-    costs = f"tiles cost {surface.tile_cost}, seams {surface.seam_cost}"
-    if settings.is_whole:
-        costs = f"cost {surface.tile_cost}" + (", the least of all" if solved.verdict == ACCEPTED else "")
-    print(
-        f"{asked.geotiff}: {solved.verdict}, {width} by {height} pixels, {made.opened.sum()} open in {count} "
-        f"component{'' if count == 1 else 's'}, {costs}"
-    )
+    print(f"{asked.geotiff}: {verdict_line(solved, made, signs, count)}, {costs_line(settings, solved)}")
+    for line in judgement_lines(signs.concerns(), settings, solved):
+        print(f"{asked.geotiff}: {line}")
     if made.screening is not None:
         print(f"{asked.geotiff}: {screen_line(made.screening)}")
     if made.ramp is not None:

@@ -6,13 +6,15 @@ from typing import Iterator, List
 from wundjeska import __version__
 from wundjeska.command import VERBS, parser_of
 from wundjeska.commands.scenes import USE as SCENES
+from wundjeska.scene_words import key_help
 
 STATUSES = """0 if the command did what it was asked to do; 1 if the check refused, or an overlap of frames does not agree;
 2 if the words of the command line are refused; 3 if the input does not fit; 5 if a file cannot be read or written; 130 if it
 was interrupted; otherwise the status of the program. From 1 on a line on standard error says why."""
 EXAMPLE = """wundjeska phase.tif --coherence coherence.tif --components components.tif --page page.html cycles.tif"""
-TOP = """Unwraps the phase of radar interferograms. A proved program does it, and the report on each surface is checked by a
-proved checker, which solves nothing, before a file is written. Without a verb the command is unwrap."""
+TOP = """Unwraps the phase of radar interferograms. A program does it, and the report on each surface is checked by its checker,
+which solves nothing, before a file is written. `wundjeska --version` tells whether the proofs of both were run. Without a verb the
+command is unwrap."""
 
 
 def escaped(text: str) -> str:
@@ -47,8 +49,8 @@ def entries(verb: str) -> Iterator[str]:
 
 def verb_page(verb: str, what: str) -> str:
     if verb == "scenes":
-        body = "\n".join(escaped(line) + "\n.br" for line in SCENES.splitlines()[2:])
-        return f".SH wundjeska scenes\n{escaped(what)}\n.PP\n{body}"
+        keys = "\n".join(f".TP\n\\fB{escaped(key)}\\fR\n{escaped(told)}" for key, told in key_help())
+        return f".SH wundjeska scenes\n{escaped(what)}\n.PP\n{escaped(' '.join(SCENES.splitlines()[2:]))}\n{keys}"
     paragraphs = (parser_of(verb).description or "").split("\n\n")
     told = "\n.PP\n".join(escaped(paragraph) for paragraph in paragraphs)
     return f".SH wundjeska {verb}\n{told}\n" + "\n".join(entries(verb))
@@ -91,6 +93,8 @@ complete -o filenames -F _wundjeska wundjeska
 
 
 def options_of(verb: str) -> List[str]:
+    if verb == "scenes":
+        return sorted([*(key.split("=")[0] + "=" for key, _ in key_help()), "--cores", "--dry-run", "--help", "--unlock"])
     return sorted(option for action in actions_of(verb) for option in action.option_strings)
 
 

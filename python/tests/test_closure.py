@@ -16,7 +16,8 @@ from wundjeska.commands.closure import NO_CYCLES
 from wundjeska.components import components_of
 from wundjeska.displacements import grid_text
 from wundjeska.loops import Loops, close_loop, commonest, raised, read_loops
-from wundjeska.loops_page import FALLEN, RISEN
+from wundjeska.pages import map_script, sum_of
+from wundjeska.pictures import FALLING, RISING
 from wundjeska.planes import CYCLE, session_of
 from wundjeska.program import program, run_program
 from wundjeska.report_reader import NODATA
@@ -208,12 +209,15 @@ class Commands(InFolder):
         page = self.folder / "page.html"
         self.assertEqual(command("closure.py", *self.tifs(), "--reference", 0, 29, "--page", page, self.made)[0], 0)
         text = page.read_text()
-        self.assertEqual(re.findall(r"https?:|<script|<link|@import|url\((?!#)| src=", text), [])
+        self.assertEqual(re.findall(r"https?:|<link|@import|url\((?!#)| src=", text), [])
+        self.assertEqual(re.findall("<script>(.*?)</script>", text, re.S), [map_script()])
+        self.assertIn(f"default-src 'none'; img-src data:; style-src 'unsafe-inline'; script-src '{sum_of(map_script())}'\"", text)
         rows = re.findall("<tr><td>(.*?)</td></tr>", text)
         self.assertEqual(
             [row.split("</td><td>") for row in rows],
-            [["1", "40", "3.704 %", "-1", "10", "5"], ["2", "3", "0.278 %", "2", "30", "20"]],
+            [["1", "40", "3.704 %", "-1", "10", "5"]],
         )
+        self.assertIn("1 patch has fewer than 10 pixels, 3 in all.", text)
         for words in (
             "What is proved",
             "which of the three surfaces is wrong",
@@ -225,15 +229,22 @@ class Commands(InFolder):
         picture = re.findall(r'href="data:image/png;base64,([^"]*)"', text)[0]
         gdal.FileFromMemBuffer("/vsimem/loop.png", base64.b64decode(picture))
         shown = np.moveaxis(gdal.Open("/vsimem/loop.png").ReadAsArray(), 0, -1)[..., :3]
-        for cycles, colour in ((-1, FALLEN[0]), (2, RISEN[1]), (NO_CYCLES, (255, 255, 255))):
+        for cycles, colour in ((-1, FALLING[0]), (2, RISING[1]), (NO_CYCLES, (255, 255, 255))):
             np.testing.assert_array_equal(np.all(shown == colour, axis=-1), self.wanted == cycles)
 
     def refused(self, paths: Sequence[object], *words: object, status: int = 3, told: str = "") -> None:
         """That three surfaces are refused in one line, and nothing is written."""
         self.made.write_text("what stood there")
-        ended, line = command("closure.py", *paths, *words, self.made)
+        ended, line = command("closure.py", *paths, *words, "--force", self.made)
         self.assertEqual((ended, line.count("\n"), self.made.read_text()), (status, 1, "what stood there"), line)
         self.assertIn(told, line)
+
+    def test_a_raster_of_others_is_not_replaced(self) -> None:
+        foreign = raster(self.made, np.ones(SHAPE))
+        before = Path(foreign).read_bytes()
+        status, told = command("closure.py", *self.tifs(), "--reference", 0, 29, self.made)
+        self.assertEqual((status, told.count("\n"), self.made.read_bytes()), (2, 1, before), told)
+        self.assertEqual(command("closure.py", *self.tifs(), "--reference", 0, 29, "--force", self.made)[0], 0)
 
     def test_surfaces_that_do_not_fit(self) -> None:
         first, second, third = self.tifs()

@@ -100,8 +100,8 @@ class Network(InFolder):
             self.assertEqual(bool(masked[10:40, 10:50].any()), False)
             self.assertIn("weak", made.GetMetadataItem("WUNDJESKA_DROPPED"))
         status, told = self.run_all("--config", "screen=radios=1")
-        self.assertEqual(status, 1)
-        self.assertRegex(told, "ended with status 2: .*radios")
+        self.assertEqual((status, told.count("\n")), (2, 1), told)
+        self.assertRegex(told, "screen=radios=1: .*radios")
 
 
 def test_the_loops_of_names() -> None:

@@ -1,5 +1,5 @@
-"""Tests the workflow of scenes: failures are told with their status, what other options made is made anew, a run that was
-stopped goes on, and jobs are submitted as on a cluster."""
+"""Tests the workflow of scenes: failures are told with their status, what other options made is made anew, what is refused or
+fails leaves what stood there, a run that was stopped goes on, and jobs are submitted as on a cluster."""
 import os
 import shutil
 import signal
@@ -17,6 +17,10 @@ from osgeo import gdal
 from wundjeska.program import program
 
 COUNT = 6
+REFUSED: Tuple[str, ...] = ("tile=500", "tile=abc", "tile=", "tile", "coherence=5", "least_coherence=x", "rule=foo", "steep=17", "looks=0")
+REFUSED += ("whole=nope", "closure=ja", "page=1", "without_coherence=Yes", "clousre=yes", "masks=a.tif", "workers=3")
+REFUSED += ("unit=metres", "unit=feet", "wavelength=5.55", "nodata=nothing", "screen=radios=1", "ramp=1", "reference=1")
+REFUSED += ("mask={pair", "igram=phase.tif", "igram={pair}/{date}.tif", "coherence=coherence.tif", "least_component=0", "a b")
 
 
 class Scenes(InFolder):
@@ -78,6 +82,55 @@ class Scenes(InFolder):
         self.assertEqual(status, 0, told)
         self.assertIn(f"{COUNT} of {COUNT} scenes are accepted and have their surface, 0 failed", told)
         self.assertEqual((third / "report").stat().st_mtime_ns, stood)
+
+    def files(self) -> Dict[Path, bytes]:
+        """What stands in the folders of scenes."""
+        return {path: path.read_bytes() for path in self.scenes.glob("[!.]*/*")}
+
+    def test_a_refused_run_changes_nothing(self) -> None:
+        self.one_scene()
+        self.assertEqual(self.run_all()[0], 0)
+        stood = self.files()
+        self.assertIn(self.scenes / "a scene/cycles.tif", stood)
+        for words in (*(("--config", word) for word in REFUSED), ("tile=500", "--cores", "1"), ("tile=64", "whole=yes")):
+            with self.subTest(words):
+                status, told = self.run_all(*words)
+                self.assertEqual((status, told.count("\n")), (2, 1), told)
+        self.assertEqual(self.run_all("mask=none.tif"), (5, f"there is no mask {self.scenes / 'none.tif'}\n"))
+        self.assertEqual(self.files(), stood)
+
+    def test_mistakes_are_told_by_their_keys(self) -> None:
+        self.one_scene()
+        for word, line in (
+            ("clousre=yes", "there is no key clousre; did you mean closure?"),
+            ("whole=nope", "whole=nope: whole is yes or no"),
+            ("tile=abc", "tile=abc: invalid int value: 'abc'"),
+            ("coherence=5", "least_coherence is from 0 to 1"),
+        ):
+            self.assertIn(line, self.run_all(word)[1])
+
+    def test_a_scene_that_fails_keeps_its_surface(self) -> None:
+        scene = self.one_scene()
+        self.assertEqual(self.run_all()[0], 0)
+        stood = {name: (scene / name).read_bytes() for name in ("cycles.tif", "components.tif", "session", "report")}
+        shutil.copy(HERE / "kit/coherence.tif", scene)  # of another size
+        status, told = self.run_all()
+        self.assertEqual(status, 1, told)
+        self.assertIn("0 of 1 scenes are accepted and have their surface, 1 failed\n", told)
+        self.assertRegex(told, "a scene: ended with status 3: .*; the surface of an earlier run still stands\n")
+        self.assertEqual({name: (scene / name).read_bytes() for name in stood}, stood)
+
+    def test_what_is_gone_is_made_again(self) -> None:
+        first, second, *others = sorted(self.scenes.glob("scene-*"))
+        for folder in others:
+            shutil.rmtree(folder)
+        self.assertEqual(self.run_all()[0], 0)
+        stood = self.stamps()
+        (first / "components.tif").unlink()
+        status, told = self.run_all()
+        self.assertEqual(status, 0, told)
+        self.assertTrue((first / "components.tif").exists())
+        self.assertEqual([path for path, when in self.stamps().items() if stood[path] == when], [second / "cycles.tif"])
 
     def test_a_folder_without_scenes(self) -> None:
         for folder in (self.folder / "none", self.folder):

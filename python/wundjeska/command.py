@@ -1,8 +1,7 @@
 """The command `wundjeska`: a verb and its words. Without a verb it unwraps."""
-import json
 import sys
-from difflib import get_close_matches
 from argparse import ArgumentParser
+from difflib import get_close_matches
 from importlib import import_module
 from pathlib import Path
 from typing import Dict, List, NoReturn, Optional
@@ -22,7 +21,6 @@ VERBS: Dict[str, str] = {
     "live": "keeps a page of a session that is being worked on",
     "report": "tells what is in a report",
 }
-INFO = Path(__file__).resolve().parent / "build.json"  # of what a package was built from
 ALIKE = 0.7  # of the letters of a word and of a verb, which it may have been meant to be
 USE = "usage: wundjeska [VERB] WORDS..; `wundjeska VERB --help` tells a verb's words\n\n"
 
@@ -41,9 +39,10 @@ def refuse(why: str) -> NoReturn:
 
 
 def version() -> str:
-    """The version, and for a package the commit, kit and logic of the program inside."""
-    told = json.loads(INFO.read_text()) if INFO.exists() else {}
-    return "\n".join([f"wundjeska {__version__}", *(f"{name} {value}" for name, value in told.items())])
+    """The version, and for a package where the program inside comes from, and what the gate said of it."""
+    from .build_info import lines
+
+    return "\n".join([f"wundjeska {__version__}", *lines()])
 
 
 def help_text() -> str:

@@ -5,11 +5,6 @@ Triplet = Tuple[str, str, str]  # the scenes of the pairs 1 to 2, 2 to 3 and 1 t
 NO_LOOP = "no three scenes whose names are the pairs of three acquisitions, as 1_2, 2_3 and 1_3"
 
 
-def is_yes(option: object) -> bool:
-    """Whether an option of the workflow says so."""
-    return str(option).lower() in ("yes", "true", "1")
-
-
 def pair_of(name: str) -> Optional[Tuple[str, str]]:
     """The two acquisitions in the name of a scene, as 20230101_20230113, 2023-01-01_2023-01-13 or a-b; None if it tells none."""
     for sign in "_-":

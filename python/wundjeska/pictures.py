@@ -1,6 +1,7 @@
 """Maps as SVG, each with its picture inside: colours, round ticks, axes, a scale and a colour bar. NumPy alone.
 
-A map is drawn 400 units wide and grows and shrinks with the page. Masked pixels are white, and no map has that colour.
+A map is drawn 400 units wide and grows and shrinks with the page. Masked pixels are white, and no map has that colour. Beside its
+colours a map may keep its values, which the script of `pages` reads out where one points.
 """
 import base64
 import math
@@ -33,11 +34,17 @@ NUMBERED: List[Colour] = [
 ]
 NUMBERED += [(187, 107, 50), (90, 90, 90)]
 PLAIN: Colour = (205, 210, 205)  # of pixels without anything to tell
+# Of what has a sign: below 0 and above.
+FALLING: List[Colour] = [(146, 197, 222), (67, 147, 195), (5, 48, 97)]
+RISING: List[Colour] = [(244, 165, 130), (214, 96, 77), (103, 0, 31)]
+SIGNED: List[Colour] = [*FALLING[::-1], (225, 225, 225), *RISING]
 JUMP: Colour = (200, 30, 20)
 SEAM: Colour = (20, 60, 200)
 
-WIDE, LEFT, TOP, BELOW, RIGHT = 250, 58, 22, 52, 92  # of the picture, and what stands around it, in units
+WIDE, LEFT, TOP, BELOW, RIGHT = 250, 58, 22, 58, 92  # of the picture, and what stands around it, in units
 TALLEST = 330
+NARROWEST, SEEN = 210, 3  # screen pixels that a picture is shown wide, at least, and that are seen
+CODES = 65534  # steps that values are kept in; one more stands for no value
 
 
 # Pictures
@@ -114,9 +121,31 @@ def label_of(value: float, step: float) -> str:
     return f"{value + 0.0:.{places}f}".replace("-", "\N{MINUS SIGN}")
 
 
+def reach_of(shape: Tuple[int, ...]) -> int:
+    """By how many pixels on all sides a flag of a picture has to grow to be shown three screen pixels wide."""
+    shown = min(1.0, TALLEST * shape[1] / (WIDE * shape[0])) * NARROWEST
+    return max(0, math.ceil((SEEN * shape[1] / shown - 1) / 2))
+
+
+def grown(flags: np.ndarray, reach: int) -> np.ndarray:
+    """Flags that grew to the left and right."""
+    found = flags.copy()
+    for step in range(1, min(reach, flags.shape[1] - 1) + 1):
+        found[:, step:] |= flags[:, :-step]
+        found[:, :-step] |= flags[:, step:]
+    return found
+
+
+def enlarged(flags: np.ndarray) -> np.ndarray:
+    """Flags of a picture, each so large that it is seen."""
+    reach = reach_of(flags.shape)
+    return grown(grown(flags, reach).T, reach).T
+
+
 @dataclass(frozen=True)
 class Axes:
-    """Where the picture lies: the first and last number along each side, in a unit. `ground` is a unit in metres, if known."""
+    """Where the picture lies: the first and last number along each side, in a unit. `ground` is a unit in metres, if known,
+    `system` the name of the coordinate system, and `shape` that of the raster, (rows, columns), if it is not the picture's."""
 
     left: float
     right: float
@@ -124,6 +153,8 @@ class Axes:
     lower: float
     unit: str
     ground: Optional[float] = None
+    system: str = ""
+    shape: Optional[Tuple[int, int]] = None
 
 
 def pixel_axes(shape: Tuple[int, ...]) -> Axes:
@@ -149,7 +180,7 @@ def size_on_page(shape: Tuple[int, ...]) -> Tuple[float, float]:
 
 
 def axis_marks(axes: Axes, wide: float, high: float) -> str:
-    """Ticks below and to the left, and what they count."""
+    """Ticks below and to the left. What the script writes at the ends in their place, once the map is a part, is empty."""
     found = []
     across, down = axes.right - axes.left, axes.lower - axes.upper
     step = round_step(abs(across), 4)
@@ -160,8 +191,15 @@ def axis_marks(axes: Axes, wide: float, high: float) -> str:
     for value in ticks_of(min(axes.upper, axes.lower), max(axes.upper, axes.lower), 5):
         y = TOP + high * (value - axes.upper) / down
         found += [line(LEFT - 4, y, LEFT, y), text(LEFT - 6, y + 4, label_of(value, step), "end")]
-    found.append(text(LEFT, TOP - 8, axes.unit, "end"))
-    return "".join(found)
+    low = TOP + high
+    ends = [text(LEFT, low + 15, ""), text(LEFT + wide, low + 15, ""), text(LEFT - 6, TOP + 9, "", "end"), text(LEFT - 6, low, "", "end")]
+    return f'<g class="ticks">{"".join(found)}{scale_bar(axes, wide, high)}</g><g class="ends">{"".join(ends)}</g>'
+
+
+def axis_names(axes: Axes, high: float) -> str:
+    """What the axes count, and in which system."""
+    found = text(LEFT, TOP - 8, axes.unit, "end")
+    return found + (text(LEFT, TOP + high + BELOW - 4, axes.system, "start", ' class="system"') if axes.system else "")
 
 
 def scale_bar(axes: Axes, wide: float, high: float) -> str:
@@ -247,6 +285,32 @@ def mark_lines(mark: Mark, wide: float, high: float) -> str:
     return f'<g class="mark"><title>{escape(mark.name)}</title>{"".join(lines)}</g>'
 
 
+@dataclass(frozen=True)
+class Values:
+    """What a map reads out: the values of its picture, NaN where there is none, and their unit."""
+
+    values: np.ndarray
+    unit: str
+
+
+def kept_values(kept: Values) -> str:
+    """Values as attributes of a map: steps from the least value on, high bytes before low ones, deflated."""
+    known = kept.values[~np.isnan(kept.values)]
+    low, high = (float(known.min()), float(known.max())) if len(known) else (0.0, 0.0)
+    step = (high - low) / CODES or 1.0
+    codes = np.where(np.isnan(kept.values), CODES + 1, np.rint((np.nan_to_num(kept.values) - low) / step)).astype(np.uint16)
+    planes = (codes >> 8).astype(np.uint8).tobytes() + (codes & 255).astype(np.uint8).tobytes()
+    packed = base64.b64encode(zlib.compress(planes, 6)).decode()
+    return f' data-values="{packed}" data-low="{low!r}" data-step="{step!r}" data-unit="{escape(kept.unit)}"'
+
+
+def place_words(axes: Axes, shape: Tuple[int, ...]) -> str:
+    """Where a map lies, as attributes: the shape of its picture, every how manyth pixel that shows, and the axes."""
+    step = -(-max(axes.shape) // LONGEST) if axes.shape else 1
+    ends = " ".join(f"{end!r}" for end in (axes.left, axes.right, axes.upper, axes.lower))
+    return f' data-shape="{shape[0]} {shape[1]} {step}" data-ends="{ends}" data-axes="{escape(axes.unit)}"'
+
+
 def map_of(
     colours: np.ndarray,
     axes: Axes,
@@ -254,16 +318,54 @@ def map_of(
     title: str,
     caption: str,
     mark: Optional[Mark] = None,
+    values: Optional[Values] = None,
 ) -> str:
-    """A <figure> of a map: its title, the picture with its axes, a colour bar or keys beside it, words below, and a mark."""
+    """A <figure> of a map: its title, the picture with its axes, a colour bar or keys beside it, words below, a mark, and what it
+    reads out."""
     wide, high = size_on_page(colours.shape)
     tall = max(high, 60.0 if isinstance(beside, Bar) else 18.0 * len(beside))
     marks = bar_marks(beside, wide, high) if isinstance(beside, Bar) else keys_of(beside, wide)
+    place = f'x="{LEFT}" y="{TOP}" width="{wide:.1f}" height="{high:.1f}"'
     return (
-        f'<figure><h3>{escape(title)}</h3><svg viewBox="0 0 {LEFT + WIDE + RIGHT} {TOP + tall + BELOW:.0f}" role="img" '
-        f'aria-label="{escape(title)}"><image x="{LEFT}" y="{TOP}" width="{wide:.1f}" height="{high:.1f}" '
-        f'preserveAspectRatio="none" href="{uri(colours)}"/>'
-        f'<rect x="{LEFT}" y="{TOP}" width="{wide:.1f}" height="{high:.1f}" fill="none" stroke="#888"/>'
-        f"{axis_marks(axes, wide, high)}{scale_bar(axes, wide, high)}{marks}{mark_lines(mark, wide, high) if mark else ''}</svg>"
-        f"<figcaption>{escape(caption)}</figcaption></figure>"
+        f'<figure class="map"{place_words(axes, colours.shape)}{kept_values(values) if values else ""}><h3>{escape(title)}</h3>'
+        f'<svg viewBox="0 0 {LEFT + WIDE + RIGHT} {TOP + tall + BELOW:.0f}" role="img" aria-label="{escape(title)}">'
+        f'<svg class="view" {place} viewBox="0 0 1000 1000" preserveAspectRatio="none">'
+        f'<image width="1000" height="1000" preserveAspectRatio="none" href="{uri(colours)}"/></svg>'
+        f'<rect class="frame" {place} fill="#fff" fill-opacity="0" stroke="#888"/>'
+        f"{axis_marks(axes, wide, high)}{axis_names(axes, high)}{marks}{mark_lines(mark, wide, high) if mark else ''}</svg>"
+        f"<output></output><figcaption>{escape(caption)}</figcaption></figure>"
+    )
+
+
+# Profiles
+
+
+def profile_of(values: np.ndarray, places: Tuple[float, float, str], unit: str, title: str) -> str:
+    """A <figure> of the values along a line, from the first to the last place, in a unit; gaps where there is no value."""
+    known = values[~np.isnan(values)]
+    low, high = (float(known.min()), float(known.max())) if len(known) else (0.0, 0.0)
+    span, tall = (high - low) or 1.0, 120.0
+    first, last, along = places
+    x = LEFT + (WIDE + 60) * (np.arange(len(values)) + 0.5) / len(values)
+    y = TOP + tall * (1 - (np.nan_to_num(values) - low) / span)
+    gone = np.isnan(values)
+    starts = np.flatnonzero(~gone & np.append(True, gone[:-1]))
+    ends = np.flatnonzero(~gone & np.append(gone[1:], True)) + 1
+    path = "".join(
+        "M" + " ".join(f"{a:.1f},{b:.1f}" for a, b in zip(x[start:end], y[start:end])) + ("h.5" if end == start + 1 else "")
+        for start, end in zip(starts, ends)
+    )
+    step, marks = round_step(span, 4), []
+    for value in ticks_of(low, high, 4):
+        at = TOP + tall * (1 - (value - low) / span)
+        marks += [line(LEFT - 4, at, LEFT + WIDE + 60, at, "#ddd"), text(LEFT - 6, at + 4, label_of(value, step), "end")]
+    across = round_step(abs(last - first), 5)
+    for value in ticks_of(min(first, last), max(first, last), 5):
+        at = LEFT + (WIDE + 60) * (value - first) / (last - first)
+        marks += [line(at, TOP + tall, at, TOP + tall + 4), text(at, TOP + tall + 15, label_of(value, across))]
+    return (
+        f'<figure class="profile"><h3>{escape(title)}</h3><svg viewBox="0 0 {LEFT + WIDE + RIGHT} {TOP + tall + 32:.0f}" role="img" '
+        f'aria-label="{escape(title)}">{"".join(marks)}{text(LEFT, TOP - 8, unit, "end")}'
+        f'{text(LEFT + WIDE + 64, TOP + tall + 15, along, "start")}'
+        f'<path d="{path}" fill="none" stroke="#31408e" stroke-width="1.2" stroke-linejoin="round"/></svg></figure>'
     )

@@ -9,6 +9,7 @@ import numpy as np
 from osgeo import gdal
 
 from . import __version__
+from .build_info import with_proofs
 from .displacements import LENGTHS, MAX_BLOCK, ROUNDED, Sight, displaced, wavelength_of
 from .planes import CYCLE
 from .rasters import NODATA, close, create_like, put_array, put_values
@@ -108,6 +109,11 @@ def unit_notes(asked: Namespace) -> Dict[str, Any]:
     return notes
 
 
+def verdict_note(verdict: str) -> str:
+    """A verdict; if it is that of the checker, with what is known of its proofs."""
+    return verdict if verdict == NOTHING_CERTIFIES else with_proofs(verdict)
+
+
 def write_product(
     path: Union[str, Path],
     like: gdal.Dataset,
@@ -120,7 +126,7 @@ def write_product(
     found = in_unit(values, level_of(values, reference.box), asked)
     if reference.box is not None:
         warn_of_components(values, reference.box)
-    told = {**unit_notes(asked), "REFERENCE": reference.note, **notes}
+    told = {**unit_notes(asked), "REFERENCE": reference.note, **notes, "VERDICT": verdict_note(str(notes["VERDICT"]))}
     made = create_like(path, like, kind_of(asked), nodata_of(asked), asked.unit, told, block_of(asked))
     put_values(made, found)
     close(made, path)

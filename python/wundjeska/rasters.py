@@ -99,13 +99,14 @@ def axes_of(raster: gdal.Dataset) -> Optional[Axes]:
         return None
     left, upper = place[0], place[3]
     right, lower = left + width * place[1], upper + height * place[5]
+    name = (system.GetName() or "") if system is not None else ""
     if system is not None and system.IsGeographic():
         degree = 111320.0 * math.cos(math.radians((upper + lower) / 2))  # metres, of longitude
-        return Axes(left, right, upper, lower, "degrees", degree)
+        return Axes(left, right, upper, lower, "degrees", degree, name)
     metres = system.GetLinearUnits() if system is not None and system.IsProjected() else None
     if metres == 1.0:
-        return Axes(left / 1000, right / 1000, upper / 1000, lower / 1000, "km", 1000.0)
-    return Axes(left, right, upper, lower, "map units", metres)
+        return Axes(left / 1000, right / 1000, upper / 1000, lower / 1000, "km", 1000.0, name)
+    return Axes(left, right, upper, lower, "map units", metres, name)
 
 
 def check_alike(first: gdal.Dataset, other: gdal.Dataset) -> None:
@@ -205,6 +206,13 @@ class Scene:
             values, there = self.mask.read(window)
             opened &= there & (values != 0)
         return np.where(opened, phase, 0), weights, opened
+
+    def coherence_shown(self) -> Optional[np.ndarray]:
+        """The coherence from 0 to 1 of all pixels, NaN where it is not there; None if there is none."""
+        if self.coherence is None:
+            return None
+        coherence, there = self.read_coherence(self.coherence, whole(self.phase.raster))
+        return np.where(there, coherence, np.nan)
 
     def read_coherence(self, band: Band, window: Window) -> Tuple[np.ndarray, np.ndarray]:
         """Coherence from 0 to 1 (float64), and where it is there."""

@@ -28,7 +28,7 @@ from .. import __version__
 from ..displacements import LENGTHS
 from ..loops import Loops, close_loop, commonest, raised
 from ..loops_page import Shown, page_of
-from ..outputs import Outputs, beside
+from ..outputs import Outputs, add_force_word, beside
 from ..planes import CYCLE, check_size
 from ..product import CYCLES, NOTHING_CERTIFIES
 from ..rasters import (
@@ -100,6 +100,7 @@ def words() -> ArgumentParser:
         help="the value where there is none, of --closures and --correct (default: -9999)",
     )
     found.add_argument("--page", metavar="FILE", help="write a page to look at: the patches by size, and maps")
+    add_force_word(found)
     found.add_argument("geotiff", help="the file to write: the whole cycles in the closures")
     return found
 
@@ -341,8 +342,9 @@ def main(asked: Namespace) -> int:
     sources = [source_of(path, session) for path, session in zip(paths, sessions)]
     like = like_of(sources, asked.like)
     check_told(sources)
-    with Outputs([*paths, *sessions, *files_of(like, *(source.raster for source in sources))]) as outputs:
-        places = {name: outputs.beside(name) for name in (asked.geotiff, asked.closures, asked.correct) if name}
+    inputs = [*paths, *sessions, *files_of(like, *(source.raster for source in sources))]
+    with Outputs(inputs, asked.force) as outputs:
+        places = {name: outputs.raster(name) for name in (asked.geotiff, asked.closures, asked.correct) if name}
         page = beside(outputs, asked.page)
         surfaces = [read_surface(source, asked) for source in sources]
         for source, surface in zip(sources, surfaces):
@@ -358,7 +360,7 @@ def main(asked: Namespace) -> int:
         if page:
             inputs = [(path, surface.verdict) for path, surface in zip(paths, surfaces)]
             shown = Shown(Path(asked.geotiff).name, inputs, axes_of(like), found.level, found.why, asked.reference)
-            page.write_text(page_of(found.loops, shown))
+            outputs.fill(page, page_of(found.loops, shown).encode())
     tell(asked, surfaces, found)
     return 0
 

@@ -11,9 +11,10 @@ Each frame's surface is certified. The joint is not: no certificate says that ot
 cost less. So each overlap is told, with how many pixels agree. An overlap agrees if the part --agree of all its pixels does;
 pieces in it that do not are told too. If an overlap does not agree, the raster is written all the same, and the status is 1.
 
-Rasters are read and written by windows. --folder keeps the session, the report and the surface of each frame. What is
-there is not done again, so a run that was cut off goes on where it stopped.
+Rasters are read and written by windows. --folder keeps the session, the report and the surface of each frame, and their SHA-256.
+What is there is not done again, so a run that was cut off goes on where it stopped; what was changed there since is.
 """
+import hashlib
 import io
 import threading
 from argparse import ArgumentParser, Namespace, RawDescriptionHelpFormatter
@@ -26,9 +27,10 @@ from typing import Any, Dict, Iterator, List, Optional, Sequence, Tuple
 import numpy as np
 
 from .. import program
+from ..build_info import with_proofs
 from ..components import pieces_of
 from ..joining import Link, Offsets, links_of, offsets_of
-from ..outputs import Outputs, keep
+from ..outputs import Outputs, add_force_word, keep
 from ..planes import CYCLE, MAX_PIXELS, Ramp, session_of
 from ..product import add_unit_words, check_unit_words, in_unit, kind_of, nodata_of, unit_notes
 from ..ramps import AUTO, RampWord, Spectrum, add_ramp_words, found_in, told
@@ -45,6 +47,8 @@ NOT_PROVED = (
     "proof. The whole cycles between frames rest on the medians above."
 )
 BLOCK, BLOCKS = 256, 16  # pixels along a block that tells of the ramp, and how many there are at most along a side
+KEPT = ("session", "report", "pieces.npy", "values.npy")  # of a frame
+CHUNK = 1 << 20  # bytes of a file that are read at once
 MAX_LINES, MAX_COUNTS, MAX_JOBS = 20, 4, 64  # on pieces that do not agree, and of differences in such a line
 
 
@@ -127,22 +131,37 @@ def head_of(frame: Frame, settings: Settings, ramp: Optional[Ramp]) -> bytes:
     )
 
 
+def sum_of(path: Path) -> str:
+    """The SHA-256 of a file."""
+    found = hashlib.sha256()
+    with open(path, "rb") as file:
+        while chunk := file.read(CHUNK):
+            found.update(chunk)
+    return found.hexdigest()
+
+
+def sums_of(frame: Frame) -> bytes:
+    """The sums of what is kept of a frame, a line for each file, as sha256sum has them."""
+    return "".join(f"{sum_of(frame.file(kind))}  {frame.file(kind).name}\n" for kind in KEPT).encode()
+
+
 def is_kept(frame: Frame, session: bytes, head: bytes) -> bool:
-    """Whether an earlier run ended with this frame, of the same session by the same options."""
-    files = [frame.file(kind) for kind in ("session", "report", "pieces.npy", "values.npy")]
-    if not all(file.exists() for file in files) or files[0].read_bytes() != session:
+    """Whether an earlier run ended with this frame, of the same session by the same options, and nothing was changed since."""
+    if not all(frame.file(kind).exists() for kind in (*KEPT, "sums")) or frame.file("session").read_bytes() != session:
         return False
-    with open(files[1], "rb") as report:
-        return report.read(len(head)) == head
+    with open(frame.file("report"), "rb") as report:
+        is_like = report.read(len(head)) == head
+    return is_like and frame.file("sums").read_bytes() == sums_of(frame)
 
 
 def keep_solved(frame: Frame, session: bytes, solved: Solved) -> None:
     """Keeps what was found of a frame."""
-    frame.file("session").unlink(missing_ok=True)  # where it is, all else belongs to it
+    frame.file("sums").unlink(missing_ok=True)  # where it is, all else is whole
+    keep(frame.file("session"), session)
     keep(frame.file("report"), solved.report)
     keep(frame.file("pieces.npy"), text_of(pieces_of(solved.surface.opened())))
     keep(frame.file("values.npy"), text_of(solved.surface.values))
-    keep(frame.file("session"), session)
+    keep(frame.file("sums"), sums_of(frame))
 
 
 @dataclass
@@ -295,7 +314,7 @@ def notes_of(asked: Namespace, settings: Settings, frames: List[Frame], agreed: 
     """What the product tells of how it came about."""
     return {
         **unit_notes(asked),
-        "VERDICT": "each frame accepted, their joint not proved",
+        "VERDICT": with_proofs("each frame accepted, their joint not proved"),
         "JOINT": NOT_PROVED,
         "OVERLAPS": f"all agree at {100 * asked.agree:g} %" if agreed else f"not all agree at {100 * asked.agree:g} %",
         "FRAMES": len(frames),
@@ -369,6 +388,7 @@ def words() -> ArgumentParser:
     add_whole_word(found, "each frame")
     add_reference_words(found, auto=False)
     add_unit_words(found, blocks=False)
+    add_force_word(found)
     found.add_argument("geotiff", help="the file to write")
     return found
 
@@ -391,8 +411,8 @@ def main(asked: Namespace) -> int:
     raster = scene.phase.raster
     check_box(reference_of(asked).box, *size_of(raster))
     frames = frames_of(size_of(raster), asked.side, asked.overlap, asked.folder)
-    with Outputs(scene.files()) as outputs:
-        made = outputs.beside(asked.geotiff)
+    with Outputs(scene.files(), asked.force) as outputs:
+        made = outputs.raster(asked.geotiff)
         asked.folder.mkdir(parents=True, exist_ok=True)
         ramp = ramp_of(scene, asked.ramp)
         if ramp is not None:

@@ -158,7 +158,7 @@ def check(asked: Namespace) -> None:
         raise Trouble("--rounds is at least 0", REFUSED_WORDS)
     if is_same(Path(asked.session), Path(asked.page)):
         raise Trouble(f"{asked.page} is an input; the output needs a name of its own", REFUSED_WORDS)
-    Outputs([asked.session]).check(Path(asked.page), Path(asked.page).resolve())
+    Outputs([asked.session]).beside(asked.page)  # Trouble if it cannot be written
 
 
 def look(session: bytes, asked: Namespace, body: str) -> Tuple[str, str]:

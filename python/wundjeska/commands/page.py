@@ -1,41 +1,48 @@
 """Makes a page of a session and its report: one HTML file that asks for nothing else, to be opened in any browser.
 
-It shows the verdict of `check`, the wrapped phase beside the surface, where the surface jumps, the components and the
-weights, the mask of each revision, each published surface with its costs, and the history as a time line. Masked pixels are
-white. With --like the axes are in map units. Of a session that was screened, --unscreened shows which pixels were dropped,
-and why. With --wavelength surfaces are shown as displacements along the line of sight, by the program's command
-`displacement`; the reference that is named is marked.
+It shows the verdict of `check` and what is to be said of the surface besides, the wrapped phase beside the surface, where the
+surface jumps, two profiles, the components, the coherence and the weights, the mask of each revision, each published surface
+with its costs, and the history as a time line. Masked pixels are white. Maps are read out where one points, and a double click
+shows a part of them. With --like the axes are in map units. Of a session that was screened, --unscreened shows which pixels were
+dropped, and why. With --wavelength surfaces are shown as displacements along the line of sight, in centimetres if no --unit is
+named, by the program's command `displacement`; the reference that is named is marked.
 """
+import math
 from argparse import ArgumentParser, Namespace, RawDescriptionHelpFormatter
-from dataclasses import dataclass
+from dataclasses import dataclass, replace
 from html import escape
 from pathlib import Path
-from typing import Dict, Iterator, List, Optional, Tuple
+from typing import Dict, Iterator, List, Optional, Sequence, Tuple
 
 import numpy as np
 
 from .. import report_reader
 from ..components import components_of
+from ..concerns import Signs, judgement_of, signs_of, wrapped_differences
 from ..displacements import LENGTHS, Sight, displaced, wavelength_of
-from ..outputs import Outputs
-from ..pages import COMMON, head_of, scaled
+from ..outputs import Outputs, add_force_word
+from ..pages import COMMON, HINT, end_of, footer, head_of, map_script, scaled, words_said
 from ..pictures import (
     BRIGHTER,
     JUMP,
+    LONGEST,
     MASKED,
     NUMBERED,
     PLAIN,
     ROUND,
     SEAM,
+    SIGNED,
     WARMER,
     Axes,
     Bar,
     Colour,
+    Values,
     any_thinned,
     coloured,
     map_of,
     mark_of,
     pixel_axes,
+    profile_of,
     thinned,
 )
 from ..planes import CYCLE, Ramp, Session, read_session
@@ -43,37 +50,63 @@ from ..program import check_report
 from ..ramps import told
 from ..references import Reference, add_reference_words, check_reference_words, level_of, reference_of
 from ..screening import ISLAND, LONELY, WEAK, Screened, Terms, screened_by, terms_in
-from ..trouble import DISAGREES, Trouble
+from ..trouble import DISAGREES, REFUSED_WORDS, Trouble
 from ..unwrapping import ACCEPTED, problem_of, read_report
+from ..weights import weights_of
 
+UNITS = {"cycles": "cycles", "radians": "rad", "nanometres": "nm", "millimetres": "mm", "centimetres": "cm", "metres": "m"}
+TURN = {"cycles": 1.0, "radians": 2 * math.pi}  # what a cycle is in units that are no length
+AWAY, TOWARDS = "away from the radar", "towards the radar"
 MAX_MASKS, MAX_SURFACES = 12, 12
 DROPPED: Dict[int, Colour] = {WEAK: (214, 96, 77), ISLAND: (146, 100, 190), LONELY: (20, 90, 160)}
 
 
 @dataclass(frozen=True)
 class Shown:
-    """What a page is asked for: the radar's wavelength in metres, axes, the session before it was screened, and what is 0."""
+    """What a page is asked for: the radar's wavelength in metres, axes, the session before it was screened, what is 0, the unit, and
+    whether the sign is turned; the coherence that the weights are made of, if it is known; the files that it is of, each with what it
+    is; and what was measured of the last surface, if that was done before."""
 
     wavelength: Optional[float] = None
     axes: Optional[Axes] = None
     unscreened: Optional[bytes] = None
     reference: Reference = Reference()
+    unit: Optional[str] = None
+    turn: bool = False
+    coherence: Optional[np.ndarray] = None
+    files: Sequence[Tuple[str, str]] = ()
+    signs: Optional[Signs] = None
+
+    def unit_or_default(self) -> str:
+        """The unit: as asked, or centimetres if there is a wavelength."""
+        if self.unit is not None and self.unit != "cycles":
+            return self.unit
+        return "centimetres" if self.wavelength is not None else "cycles"
 
 
 @dataclass(frozen=True)
 class Picture:
-    """What the page is of: the session's planes, the report, its place, the radar's wavelength in nanometres, or 0, and what is 0.
+    """What the page is of: the session's planes, the report, its place, and what is asked for.
 
-    `terms` are those that the session was screened by, and `screening` is what that did, if it is known.
+    `signs` are what was measured of the last surface, `terms` those that the session was screened by, and `screening` is what that
+    did, if it is known.
     """
 
     session: Session
     report: report_reader.Report
     axes: Axes
-    wavelength: int
-    reference: Reference
+    shown: Shown
+    signs: Optional[Signs]
     terms: Optional[Terms] = None
     screening: Optional[Screened] = None
+
+    @property
+    def unit(self) -> str:
+        return self.shown.unit_or_default()
+
+    @property
+    def reference(self) -> Reference:
+        return self.shown.reference
 
 
 # Sections
@@ -83,9 +116,8 @@ def phase_map(picture: Picture) -> str:
     session = picture.session
     cycles = np.where(session.opened, session.phase / CYCLE, np.nan)
     words = "Wrapped phase at the open pixels of revision 0"
-    return map_of(
-        coloured(thinned(cycles), ROUND), picture.axes, Bar("phases", ROUND, 0, 1, "cycles"), "Wrapped phase", words
-    )
+    bar, values = Bar("phases", ROUND, 0, 1, "cycles"), Values(thinned(cycles), "cycles")
+    return map_of(coloured(thinned(cycles), ROUND), picture.axes, bar, "Wrapped phase", words, values=values)
 
 
 def is_known(picture: Picture, surface: report_reader.Surface) -> bool:
@@ -97,10 +129,21 @@ def is_known(picture: Picture, surface: report_reader.Surface) -> bool:
 def shown_values(picture: Picture, surface: report_reader.Surface) -> Tuple[np.ndarray, str]:
     """A surface in the page's unit, relative to the reference if that has a value, NaN where masked; and the unit."""
     level = level_of(surface.values, picture.reference.box if is_known(picture, surface) else None)
-    if picture.wavelength:
-        found = displaced(surface.values, Sight(picture.wavelength, level))
-        return np.where(surface.opened(), found / LENGTHS["centimetres"], np.nan), "cm"
-    return surface.cycles() - float(level) / CYCLE, "cycles"
+    sign = -1 if picture.shown.turn else 1
+    if picture.unit in LENGTHS:
+        found = displaced(surface.values, Sight(wavelength_of(picture.shown.wavelength or 0), level))
+        return np.where(surface.opened(), sign * (found / LENGTHS[picture.unit]), np.nan), UNITS[picture.unit]
+    return sign * TURN[picture.unit] * (surface.cycles() - float(level) / CYCLE), UNITS[picture.unit]
+
+
+def sign_words(picture: Picture) -> str:
+    """Which way a displacement points that is above 0."""
+    plain, other = (TOWARDS, AWAY) if picture.shown.turn else (AWAY, TOWARDS)
+    turned = "The sign is turned: above 0" if picture.shown.turn else "Above 0"
+    return (
+        f"{turned} the ground moved {plain}, if the phase grows with range, as ISCE 2, SNAP and GAMMA make it of a pair whose first "
+        f"image is the earlier one; of ARIA's pairs it moved {other}."
+    )
 
 
 def came_of(report: report_reader.Report, surface: report_reader.Surface) -> str:
@@ -129,9 +172,13 @@ def surface_map(picture: Picture, number: int) -> str:
         mark = mark_of(box, values.shape, f"reference: {picture.reference.note}")
     elif box is not None:
         words += ". The reference is masked here"
-    bar = Bar(f"surface{number}", BRIGHTER, low, high, unit)
-    title = f"{'Displacement of surface' if picture.wavelength else 'Surface'} {number}"
-    return map_of(coloured(scaled(thinned(values), low, high), BRIGHTER), picture.axes, bar, title, words, mark)
+    title = f"{'Displacement of surface' if picture.unit in LENGTHS else 'Surface'} {number}"
+    palette = BRIGHTER
+    if picture.unit in LENGTHS and low < 0 < high:
+        palette, high = SIGNED, max(-low, high)
+        low = -high
+    bar, colours = Bar(f"surface{number}", palette, low, high, unit), coloured(scaled(thinned(values), low, high), palette)
+    return map_of(colours, picture.axes, bar, title, words, mark, Values(thinned(values), unit))
 
 
 def first_section(picture: Picture) -> str:
@@ -141,17 +188,28 @@ def first_section(picture: Picture) -> str:
     words = "Cycles are counted such that the first open pixel is within the first one. Masked pixels are white."
     if picture.reference.box is not None:
         words = "Surfaces are relative to the reference that is marked. Masked pixels are white."
-    if picture.wavelength:
+    if picture.unit in LENGTHS:
         words += " Displacements are along the line of sight, half a wavelength a cycle, by the program's command displacement."
+        words += f" {sign_words(picture)}"
     if picture.report.ramp != (0, 0):
         words += f" Differences of neighbours are taken to lie within half a cycle of the expected {told(picture.report.ramp)}."
-    return f'<h2>Phase and surface</h2><p>{words}</p><div class="row">{phase_map(picture)}{last}</div>'
+    hint = f'<p class="hint">{HINT}</p>'
+    return f'<h2>Phase and surface</h2><p>{words}</p>{hint}<div class="row">{phase_map(picture)}{last}</div>'
 
 
-def wrapped_differences(phase: np.ndarray, axis: int, slope: int = 0) -> np.ndarray:
-    """From slope - 32768 to slope + 32767, of neighbours along an axis."""
-    half = CYCLE // 2
-    return slope + (np.diff(phase.astype(np.int64), axis=axis) - slope + half) % CYCLE - half
+def profile_section(picture: Picture) -> str:
+    """The last surface along a row and a column: through the longest line along which it jumps, or through the middle."""
+    if not picture.report.surfaces or picture.signs is None:
+        return ""
+    values, unit = shown_values(picture, picture.report.surfaces[-1])
+    lines, axes = picture.signs.lines, picture.axes
+    x0, y0, x1, y1 = lines.box if lines.count else (0, 0, values.shape[1] - 1, values.shape[0] - 1)
+    row, column = (y0 + y1) // 2, (x0 + x1) // 2
+    step = [-(-length // LONGEST) for length in values.shape]
+    across = profile_of(values[row, :: step[1]], (axes.left, axes.right, axes.unit), unit, f"Along row {row}")
+    down = profile_of(values[:: step[0], column], (axes.upper, axes.lower, axes.unit), unit, f"Along column {column}")
+    where = "the middle of the longest line along which the surface jumps" if lines.count else "the middle of the raster"
+    return f'<h2>Profiles</h2><p>Both go through {where}.</p><div class="row">{across}{down}</div>'
 
 
 def departures(surface: report_reader.Surface, phase: np.ndarray, axis: int, slope: int = 0) -> np.ndarray:
@@ -214,17 +272,19 @@ def jump_map(picture: Picture) -> str:
 
 
 def component_map(picture: Picture) -> str:
-    """The components of the last surface."""
+    """The components of the last surface, if there are several."""
     opened = picture.report.surfaces[-1].opened()
     numbers = components_of(opened)
     count = int(numbers.max(initial=0))
+    if count < 2:
+        return ""
     table = np.array([MASKED, *NUMBERED], dtype=np.uint8)
     colours = table[np.minimum(thinned(numbers), len(NUMBERED))]
     sizes = np.bincount(numbers.ravel(), minlength=2)[1:]
     keys = [(colour, str(number)) for number, colour in enumerate(NUMBERED[: min(count, len(NUMBERED))], 1)]
     if count > len(NUMBERED):
         keys[-1] = (NUMBERED[-1], "smaller")
-    words = "One component" if count == 1 else f"{count} components; whole cycles between them are arbitrary"
+    words = f"{count} components; whole cycles between them are arbitrary"
     words += f". The largest has {int(sizes.max(initial=0))} pixels"
     return map_of(colours, picture.axes, [*keys, (MASKED, "masked")], "Connected components", words)
 
@@ -234,15 +294,38 @@ def weight_map(picture: Picture) -> str:
     weights = np.where(session.opened, session.weights.astype(float), np.nan)
     known = weights[session.opened]
     low, high = (float(part) for part in np.percentile(known, COMMON)) if len(known) else (0.0, 1.0)
+    if len(known) and known.min() == known.max():
+        return f"<p>All open pixels have the weight {int(known[0])}.</p>"
     words = "The weights of the session, which are made of coherence"
-    colours = coloured(scaled(thinned(weights), low, high), WARMER)
-    return map_of(colours, picture.axes, Bar("weights", WARMER, low, high, "weight"), "Weights", words)
+    colours, bar = coloured(scaled(thinned(weights), low, high), WARMER), Bar("weights", WARMER, low, high, "weight")
+    return map_of(colours, picture.axes, bar, "Weights", words, values=Values(thinned(weights), ""))
+
+
+def coherence_map(picture: Picture, coherence: np.ndarray, is_linear: bool) -> str:
+    """The coherence from 0 to 1. Of linear weights it stands for them too."""
+    session = picture.session
+    values, known = np.where(session.opened, coherence, np.nan), session.weights[session.opened]
+    words = "The coherence that the weights are made of"
+    if is_linear and len(known):
+        words += f": they are 255 times as much, and at least 1, here from {known.min()} to {known.max()}"
+    bar = Bar("coherence", WARMER, 0, 1, "coherence")
+    colours = coloured(scaled(thinned(values), 0, 1), WARMER)
+    return map_of(colours, picture.axes, bar, "Coherence", words, values=Values(thinned(values), ""))
+
+
+def quality_maps(picture: Picture) -> List[str]:
+    """The coherence and the weights, or one of both."""
+    coherence, session = picture.shown.coherence, picture.session
+    if coherence is None:
+        return [weight_map(picture)]
+    is_linear = bool(np.array_equal(weights_of(coherence)[session.opened], session.weights[session.opened]))
+    return [coherence_map(picture, coherence, is_linear), *([] if is_linear else [weight_map(picture)])]
 
 
 def detail_section(picture: Picture) -> str:
     """Jumps, components and weights."""
     maps = [jump_map(picture), component_map(picture)] if picture.report.surfaces else []
-    return f'<h2>Where to look</h2><div class="row">{"".join([*maps, weight_map(picture)])}</div>'
+    return f'<h2>Where to look</h2><div class="row">{"".join([*maps, *quality_maps(picture)])}</div>'
 
 
 def dropped_words(screening: Screened) -> str:
@@ -414,27 +497,46 @@ def history_section(report: report_reader.Report) -> str:
 # The page
 
 
-def page_of(name: str, picture: Picture, verdict: str, accepted: bool) -> str:
+def judgement(picture: Picture, verdict: str, accepted: bool) -> str:
+    """What the checker says, and what is to be said besides: green if nothing is, amber where the surface may be wrong."""
+    concerns = picture.signs.concerns() if picture.signs else ()
+    colour = "refused" if not accepted else "amber" if any(concern.is_bad for concern in concerns) else "accepted"
+    said = judgement_of(concerns, accepted, picture.report.is_whole) if picture.signs else "no surface was published"
+    items = "".join(f'<li class="{"bad" if one.is_bad else "noted"}">{escape(one.text)}</li>' for one in concerns)
+    listed = f'<ul class="concerns">{items}</ul>' if items else ""
+    return f'<p><span class="verdict {colour}">check: {escape(verdict)}; {escape(said)}</span></p>{listed}'
+
+
+def head_words(picture: Picture) -> str:
+    """What the surface is of."""
     report = picture.report
     tiles = "the whole raster at once" if report.is_whole else f"tiles of side {report.side}"
     head = f"{report.width} by {report.height} pixels, {tiles}, rule {report.rule}"
+    if picture.signs:
+        head += f", residues at {100 * picture.signs.residues:.2f} % of the cells"
     if report.steepness > 1:
         head += f", steepness {report.steepness}"
-    if picture.wavelength:
-        head += f", wavelength {picture.wavelength / LENGTHS['centimetres']:.9g} cm"
-    badge = f'<span class="verdict {"accepted" if accepted else "refused"}">check: {escape(verdict)}</span>'
+    if picture.shown.wavelength is not None:
+        head += f", wavelength {wavelength_of(picture.shown.wavelength) / LENGTHS['centimetres']:.9g} cm"
+    return head
+
+
+def page_of(name: str, picture: Picture, verdict: str, accepted: bool) -> str:
+    report, script = picture.report, map_script()
     return "\n".join(
         [
-            head_of(name),
-            f"<h1>{escape(name)}</h1><p>{head}</p><p>{badge}</p>",
+            head_of(name, script),
+            f"<h1>{escape(name)}</h1><p>{head_words(picture)}</p>{judgement(picture, verdict, accepted)}",
             first_section(picture),
+            profile_section(picture),
             detail_section(picture),
             screen_section(picture),
             cost_section(report, accepted),
             mask_section(picture),
             earlier_section(picture),
             history_section(report),
-            "</body></html>",
+            footer(picture.shown.files, words_said()),
+            end_of(script),
         ]
     )
 
@@ -450,12 +552,12 @@ def page_text(name: str, session: bytes, report: bytes, verdict: str, shown: Sho
         if terms is None:
             raise Trouble("the session does not tell by which terms it was screened")
         screening = screened_by(shown.unscreened, session, terms, "the session before")
-    axes = shown.axes or pixel_axes(planes.phase.shape)
-    wavelength = wavelength_of(shown.wavelength) if shown.wavelength is not None else 0
+    axes = replace(shown.axes or pixel_axes(planes.phase.shape), shape=(found.height, found.width))
+    signs = None
     if found.surfaces:
         level_of(found.surfaces[-1].values, shown.reference.box)  # Trouble if the last surface has no value there
-    picture = Picture(planes, found, axes, wavelength, shown.reference, terms, screening)
-    return page_of(name, picture, verdict, verdict == ACCEPTED)
+        signs = shown.signs or signs_of(planes.phase, planes.weights, found.surfaces[-1], problem_of(found))
+    return page_of(name, Picture(planes, found, axes, shown, signs, terms, screening), verdict, verdict == ACCEPTED)
 
 
 def axes_of(like: Optional[str], report: report_reader.Report) -> Optional[Axes]:
@@ -487,12 +589,15 @@ def words() -> ArgumentParser:
         metavar="METRES",
         help="of the radar, as 0.0555 for C band, from 1e-9 to 1, rounded to whole nanometres; shows centimetres of range",
     )
+    found.add_argument("--unit", choices=tuple(UNITS), help="of surfaces (default: cycles, or centimetres with --wavelength)")
+    found.add_argument("--turn", action="store_true", help="change the sign")
     add_reference_words(found)
     found.add_argument("--like", metavar="FILE", help="the raster of phases, for axes in map units")
     found.add_argument(
         "--unscreened", metavar="FILE", help="the session before it was screened, to show what that dropped, and why"
     )
     found.add_argument("--title", help="of the page (default: the report's name)")
+    add_force_word(found)
     found.add_argument("page", help="the HTML file to write")
     return found
 
@@ -501,7 +606,9 @@ def main(asked: Namespace) -> int:
     check_reference_words(asked)
     if asked.wavelength is not None:
         wavelength_of(asked.wavelength)
-    with Outputs([asked.session, asked.report, asked.unscreened, asked.like]) as outputs:
+    if asked.unit in LENGTHS and asked.wavelength is None:
+        raise Trouble(f"{asked.unit} want the --wavelength", REFUSED_WORDS)
+    with Outputs([asked.session, asked.report, asked.unscreened, asked.like], asked.force) as outputs:
         made = outputs.beside(asked.page)
         session, report = Path(asked.session).read_bytes(), Path(asked.report).read_bytes()
         found = read_report(report, asked.report)
@@ -510,8 +617,10 @@ def main(asked: Namespace) -> int:
         unscreened = Path(asked.unscreened).read_bytes() if asked.unscreened else None
         last = found.surfaces[-1].values if found.surfaces else None
         reference = reference_of(asked, last, read_session(session).weights)
-        shown = Shown(asked.wavelength, axes_of(asked.like, found), unscreened, reference)
-        made.write_text(page_text(name, session, report, verdict, shown))
+        files = [("session", asked.session), ("report", asked.report), ("place", asked.like or "")]
+        axes = axes_of(asked.like, found)
+        shown = Shown(asked.wavelength, axes, unscreened, reference, asked.unit, asked.turn, None, files)
+        outputs.fill(made, page_text(name, session, report, verdict, shown).encode())
     print(f"{asked.page}: {verdict}")
     if asked.reference_auto:
         print(f"{asked.page}: reference: {reference.note}")

@@ -1,43 +1,111 @@
-"""Unwraps each folder of FOLDER that has a phase.tif, by the Snakefile of this package, which says what comes of it."""
+"""Unwraps each scene of FOLDER by the Snakefile of this package, which says what comes of it."""
+import hashlib
+import json
 import os
+import shlex
 import shutil
 import sys
+import textwrap
+from dataclasses import asdict
 from pathlib import Path
-from typing import List
+from typing import Dict, List, Tuple
 
-from ..networks import NO_LOOP, is_yes, triplets_of
+from ..networks import NO_LOOP, triplets_of
+from ..outputs import keep
 from ..program import program
+from ..scene_words import IGRAM, PAIR, Wanted, is_odd, key_help, scenes_in, wanted
 from ..trouble import FILE_FAULT, REFUSED_WORDS, Trouble
 
 SNAKEFILE = Path(__file__).resolve().parent.parent / "Snakefile"
-USE = """usage: wundjeska scenes FOLDER [WORDS..]
+USE = f"""usage: wundjeska scenes FOLDER [KEY=VALUE..] [WORDS..]
 
-Unwraps each folder of FOLDER that has a phase.tif and a coherence.tif. WORDS are of snakemake, as `--cores 8` or `--unlock`.
-After `--config` come tile=N, whole=yes or no, steep=Q (as --tile, --whole and --steep of unwrap), rule=least, mean or product
-(least), coherence=C (pixels below it are masked; 0), screen=coherence=C,radius=R,count=N,patch=P (as --screen of unwrap), looks=L,
-ramp=auto or GX,GY (the expected ramp of all scenes; auto is of each), without_coherence=yes (scenes without a coherence.tif are
-unwrapped with equal weights, and not screened) and closure=yes (scenes whose names are pairs of acquisitions, as
-20230101_20230113, get the closures of all loops of three)."""
+Unwraps each folder of FOLDER that has a phase.tif and a coherence.tif, or the files that names with {PAIR} find, as
+igram={PAIR}/filt_fine.int coherence={PAIR}/filt_fine.cor. What comes of a scene stands in FOLDER/{PAIR}, and scenes.html leads to all.
+What is refused or fails leaves what stood there. Keys may come after --config too. WORDS are of snakemake, as --cores 8 or --unlock.
+Names are told from FOLDER on. The keys, most of which are words of unwrap:
+"""
+WIDTH, INDENT = 118, 32  # of the lines on keys
+
+
+def key_lines() -> List[str]:
+    """Lines on all keys, in two columns."""
+    found = []
+    for key, what in key_help():
+        lines = textwrap.wrap(what, WIDTH - INDENT) or [""]
+        head = f"  {key}"
+        first = [head] if len(head) > INDENT - 2 else []
+        rest = lines if first else lines[1:]
+        found += first or [f"{head:<{INDENT}}{lines[0]}"]
+        found += [" " * INDENT + line for line in rest]
+    return found
+
+
+def use() -> str:
+    return USE + "\n".join(key_lines())
+
+
+def split(words: List[str]) -> Tuple[Dict[str, str], List[str]]:
+    """The keys, which stand first or after --config, and Snakemake's words."""
+    keys: Dict[str, str] = {}
+    others: List[str] = []
+    is_key = True
+    for word in words:
+        if word in ("--config", "-C"):
+            is_key = True
+            continue
+        if word.startswith(("--configfile", "--config=")):
+            raise Trouble(f"{word}: keys are told as KEY=VALUE after the folder, or after --config", REFUSED_WORDS)
+        is_key = is_key and not word.startswith("-")
+        if not is_key:
+            others.append(word)
+            continue
+        key, sign, value = word.partition("=")
+        if not sign or key in keys:
+            why = f"{key} is told twice" if sign else f"{word!r} is no KEY=VALUE"
+            raise Trouble(f"{why}; --help tells more", REFUSED_WORDS)
+        keys[key] = value
+    return keys, others
+
+
+def config_of(folder: Path, asked: Wanted, said: str) -> Dict[str, object]:
+    """What the Snakefile wants: all that is asked for, the scenes, the loops of three, and the command line."""
+    names = scenes_in(folder, asked.igram)
+    if not names:
+        what = "folder with a phase.tif" if asked.igram == IGRAM else asked.igram
+        raise Trouble(f"{folder} has no {what}")
+    scenes = [name for name in names if not is_odd(name)]
+    triplets = triplets_of(scenes) if asked.closure else {}
+    if asked.closure and not triplets:
+        raise Trouble(f"{folder} has {NO_LOOP}")
+    if asked.mask and PAIR not in asked.mask and not (folder / asked.mask).exists():
+        raise Trouble(f"there is no mask {folder / asked.mask}", FILE_FAULT)
+    odd = [name for name in names if is_odd(name)]
+    return {**asdict(asked), "scenes": scenes, "odd": odd, "triplets": triplets, "said": said}
+
+
+def keep_config(folder: Path, config: Dict[str, object]) -> Path:
+    """Keeps the configuration in a file of its own name, which no other run changes, for jobs on other machines."""
+    text = (json.dumps(config, indent=1) + "\n").encode()
+    place = folder.resolve() / ".snakemake" / f"wundjeska-{hashlib.sha256(text).hexdigest()[:16]}.json"
+    place.parent.mkdir(exist_ok=True)
+    keep(place, text)
+    return place
 
 
 def main(words: List[str]) -> int:
     if words[:1] in (["--help"], ["-h"]):
-        print(USE)
+        print(use())
         return 0
     if not words:
         raise Trouble("wanted the folder of scenes; --help tells more", REFUSED_WORDS)
-    if not Path(words[0]).is_dir():
+    folder = Path(words[0])
+    if not folder.is_dir():
         raise Trouble(f"there is no folder {words[0]}", FILE_FAULT)
-    if not any(Path(words[0]).glob("*/phase.tif")):
-        raise Trouble(f"{words[0]} has no folder with a phase.tif")
-    options = dict(word.partition("=")[::2] for word in words)
-    if is_yes(options.get("closure")) and not triplets_of(
-        path.parent.name for path in Path(words[0]).glob("*/phase.tif")
-    ):
-        raise Trouble(f"{words[0]} has {NO_LOOP}")
+    keys, others = split(words[1:])
+    config = config_of(folder, wanted(keys), f"wundjeska scenes {shlex.join(words)}")
     snakemake = shutil.which("snakemake")
     if snakemake is None:
         raise Trouble("scenes want Debian's package snakemake", FILE_FAULT)
     environment = {**os.environ, "UNWRAP": program(), "WUNDJESKA_PYTHON": sys.executable}
-    more = ["--cores", "4", "--keep-going", "--rerun-incomplete"]
-    os.execve(snakemake, [snakemake, "-s", str(SNAKEFILE), "--directory", words[0], *more, *words[1:]], environment)
+    more = ["--configfile", str(keep_config(folder, config)), "--cores", "4", "--keep-going", "--rerun-incomplete"]
+    os.execve(snakemake, [snakemake, "-s", str(SNAKEFILE), "--directory", str(folder), *more, *others], environment)

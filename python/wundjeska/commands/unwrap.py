@@ -147,11 +147,13 @@ def weights_note(scene: Scene) -> str:
     return "linear in coherence" if scene.looks is None else f"by the variance of {scene.looks:g} looks"
 
 
-def page_of(asked: Namespace, made: Input, solved: Solved, scene: Scene, reference: Reference) -> bytes:
+def page_of(asked: Namespace, made: Input, solved: Solved, scene: Scene, signs: Signs, reference: Reference) -> bytes:
     from .page import Shown, page_text
 
-    unscreened = made.before if made.screening else None
-    shown = Shown(asked.wavelength, axes_of(scene.phase.raster), unscreened, reference)
+    unscreened, axes = made.before if made.screening else None, axes_of(scene.phase.raster)
+    files = [("phase", asked.phase), ("coherence", asked.coherence or ""), ("mask", asked.mask or "")]
+    coherence = scene.coherence_shown()
+    shown = Shown(asked.wavelength, axes, unscreened, reference, asked.unit, asked.turn, coherence, files, signs)
     return page_text(Path(asked.geotiff).name, made.session, solved.report, solved.verdict, shown).encode()
 
 
@@ -185,7 +187,7 @@ def main(asked: Namespace) -> int:
         if numbered:
             write_components(numbered, like, components, asked.least_component)
         if page:
-            outputs.fill(page, page_of(asked, made, solved, scene, reference))
+            outputs.fill(page, page_of(asked, made, solved, scene, signs, reference))
         for kept, text in ((kept_session, made.session), (kept_report, solved.report), (unscreened, made.before)):
             if kept:
                 outputs.fill(kept, text)

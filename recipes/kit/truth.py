@@ -373,13 +373,11 @@ def by_tiles(scene: Scene) -> Field:
 
 
 def by_filter(scene: Scene) -> Field:
-    planes = scene.planes()
-    return guided(planes, planes.weights, solved).values
+    return guided(session_for(scene), True, solved).values
 
 
 def by_narrow(scene: Scene) -> Field:
-    planes = scene.planes()
-    return guided(planes, planes.weights, solved, narrow=True).values
+    return guided(session_for(scene), True, solved, narrow=True).values
 
 
 def by_skimage(scene: Scene) -> Field:

@@ -12,9 +12,10 @@ surface may be wrong by whole cycles though none costs less, or that the phase w
   zeros     the share of open pixels whose phase is 0, as of files that have 0 where nothing is known, and do not say so
   slope     the commonest fringe rate. Beyond half a cycle a pixel a slope looks as if it fell, and noise brings that nearer
   parts     open pixels that do not touch; whole cycles between them are arbitrary
-  undecided (and decided) parts that a filter gives other cycles than the surface without it has (`undecided`)
   filter    the share of cells that keep a residue when the phase is filtered, if it is. Noise has hardly any left; where more than
             0.2 % are, the filter has broken down
+  undecided parts to which the surface without the filter gives other cycles, and the filter cannot tell which are right; of the
+            kind `decided`, and not bad, if it can
 """
 import re
 from dataclasses import dataclass
@@ -74,7 +75,7 @@ class Signs:
     rate  the commonest fringe rate, to the right and downwards; None if none stands out
     ramp  the slopes that were expected
     left  the share of cells that keep a residue in the filtered phase; None without a filter
-    apart what is to be said of parts that are whole cycles apart from the surface without a filter
+    apart  what is to be said of parts that are whole cycles apart from the surface without a filter
     """
 
     residues: float

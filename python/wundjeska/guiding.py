@@ -51,9 +51,10 @@ class Chain:
         if self.filter is not None and has_looks:
             raise Trouble("a filter makes weights of its own, so it takes no looks", REFUSED_WORDS)
 
-    def told(self, is_whole: bool) -> str:
+    def told(self, is_whole: bool, is_accepted: bool = True) -> str:
         """The chain, and what is proved of it."""
-        proved = f"{LEAST[is_whole]} for the filtered session; {NEAREST}"
+        least = f"{LEAST[is_whole]} for the filtered session" if is_accepted else "nothing certifies the guide"
+        proved = f"{least}; {NEAREST}"
         return f"{self.filter}: {proved}" + (f"; {NARROW}" if self.narrow else "")
 
 

@@ -115,9 +115,9 @@ def chain_of(asked: Namespace, scene: Scene) -> Chain:
     return found
 
 
-def filter_note(chain: Chain, settings: Settings) -> Dict[str, Any]:
+def filter_note(chain: Chain, settings: Settings, solved: Solved) -> Dict[str, Any]:
     """What is told of a filter."""
-    return {"FILTER": chain.told(settings.is_whole)} if chain.filter else {}
+    return {"FILTER": chain.told(settings.is_whole, solved.verdict == ACCEPTED)} if chain.filter else {}
 
 
 def notes_of(solved: Solved, settings: Settings, scene: Scene, components: np.ndarray) -> Dict[str, Any]:
@@ -207,7 +207,8 @@ def main(asked: Namespace) -> int:
         phase, problem = read_session(made.session).phase, settings.problem(made.ramp)
         signs = signs_of(phase, made.weights, solved.surface, problem, solved.smooth, solved.apart)
         notes = {**notes_of(solved, settings, scene, components), **ramp_note(made.ramp), **screen_note(made)}
-        notes.update({**signs_note(signs), **filter_note(chain, settings)})
+        filtering = filter_note(chain, settings, solved)
+        notes.update({**signs_note(signs), **filtering})
         reference = reference_of(asked, solved.surface.values, made.weights)
         write_product(place, like, solved.surface.values, asked, reference, notes)
         if numbered:
@@ -219,8 +220,8 @@ def main(asked: Namespace) -> int:
             if kept:
                 outputs.fill(kept, text)
     tell(asked, settings, solved, made, signs, int(components.max(initial=0)))
-    if chain.filter:
-        print(f"{asked.geotiff}: filter {chain.told(settings.is_whole)}")
+    for line in filtering.values():
+        print(f"{asked.geotiff}: filter {line}")
     if asked.reference_auto:
         print(f"{asked.geotiff}: reference: {reference.note}")
     return 0

@@ -74,7 +74,7 @@ def screen_line(screening: Screened) -> str:
 def main(asked: Namespace) -> int:
     scene = scene_of(asked)
     check_screen_words(asked.screen, asked.unscreened, scene.coherence)
-    Chain(asked.filter).check(scene.looks is not None)
+    Chain(asked.filter).check(asked.looks is not None)
     with Outputs([*scene.files(), asked.script], asked.force) as outputs:
         made, unscreened = outputs.beside(asked.session), beside(outputs, asked.unscreened)
         script = Path(asked.script).read_bytes() if asked.script else b"end\n"

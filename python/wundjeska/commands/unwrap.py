@@ -106,10 +106,10 @@ def words() -> ArgumentParser:
     return found
 
 
-def chain_of(asked: Namespace, scene: Scene) -> Chain:
-    """The chain that is asked for."""
+def chain_of(asked: Namespace) -> Chain:
+    """The chain that is asked for. Trouble if its words do not fit each other."""
     found = Chain(asked.filter, asked.narrow)
-    found.check(scene.looks is not None)
+    found.check(asked.looks is not None)
     if asked.filter and asked.page:
         raise Trouble("--page draws the surface of a report, which with --filter is the guide alone", REFUSED_WORDS)
     return found
@@ -195,7 +195,7 @@ def main(asked: Namespace) -> int:
     settings = settings_of(asked, asked.whole)
     scene = scene_of(asked)
     check_screen_words(asked.screen, asked.unscreened, scene.coherence)
-    chain = chain_of(asked, scene)
+    chain = chain_of(asked)
     like = scene.phase.raster
     with Outputs(scene.files(), asked.force) as outputs:
         place, numbered = outputs.raster(asked.geotiff), raster_beside(outputs, asked.components)

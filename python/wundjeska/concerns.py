@@ -303,8 +303,3 @@ def signs_of(
         left=None if smooth is None else residue_share(smooth, opened, problem.ramp),
         apart=apart,
     )
-
-
-def concerns_of(phase: np.ndarray, weights: np.ndarray, surface: Surface, problem: Problem) -> Tuple[Concern, ...]:
-    """What is to be said of a surface, the bad ones first."""
-    return signs_of(phase, weights, surface, problem).concerns()

@@ -299,6 +299,7 @@ class Commands(InFolder):
         self.refused(paths, told="turned")
         self.tell(paths[1], SIGN="turned: the negative of the phase")
         self.tell(paths[2], SIGN="turned: the negative of the phase")
+        self.made.unlink()
         self.assertEqual(command("closure.py", *paths, self.made)[0], 0)
         self.tell(paths[1], REFERENCE="pixel 3 3")
         self.tell(paths[2], REFERENCE="none: the first open pixel is within the first cycle")

@@ -13,7 +13,7 @@ from osgeo import gdal
 
 from wundjeska import pictures
 from wundjeska.pages import map_script, sum_of
-from wundjeska.pictures import MASKED, SIGNED, Axes, enlarged, reach_of
+from wundjeska.pictures import MASKED, SIGNED, Axes, curve_of, enlarged, reach_of
 from wundjeska.program import run_program
 from wundjeska.rasters import axes_of, open_raster
 
@@ -237,6 +237,11 @@ class Page(InFolder):
         self.assertEqual((set(views), len(views)), ({"125 375 500 500"}, page.count('<figure class="map"')))
         ask += "dispatchEvent(new KeyboardEvent('keydown', { key: 'Escape' })); document.body.title = document.querySelector('.view').getAttribute('viewBox');"
         self.assertEqual(self.asked(page, self.POINT + ask), "0 0 1000 1000")
+
+    def test_a_curve_has_gaps(self) -> None:
+        y = np.array([np.nan, 1, 2, np.nan, 3, np.nan])
+        self.assertEqual(curve_of(np.arange(6), y), "M1.0,1.0 2.0,2.0M4.0,3.0h.5")
+        self.assertEqual(curve_of(np.arange(2), np.full(2, np.nan)), "")
 
     def test_what_is_small_is_seen(self) -> None:
         for shape in ((1024, 1024), (400, 1000), (1000, 50), (8, 6)):

@@ -116,6 +116,7 @@ class Scenes(InFolder):
         shutil.copy(HERE / "kit/coherence.tif", scene)  # of another size
         status, told = self.run_all()
         self.assertEqual(status, 1, told)
+        self.assertEqual(list(scene.glob("unwrapped.txt*")), [])
         self.assertIn("0 of 1 scenes are accepted and have their surface, 1 failed\n", told)
         self.assertRegex(told, "a scene: ended with status 3: .*; the surface of an earlier run still stands\n")
         self.assertEqual({name: (scene / name).read_bytes() for name in stood}, stood)

@@ -339,33 +339,41 @@ def map_of(
 
 # Profiles
 
+LONG, HIGH = WIDE + 60, 120  # of a profile, in units
+
+
+def curve_of(x: np.ndarray, y: np.ndarray) -> str:
+    """The path of a curve, with gaps where y is NaN."""
+    known = ~np.isnan(y)
+    starts = np.flatnonzero(known & ~np.append(False, known[:-1]))
+    ends = np.flatnonzero(known & ~np.append(known[1:], False)) + 1
+    parts = (" ".join(f"{a:.1f},{b:.1f}" for a, b in zip(x[start:end], y[start:end])) for start, end in zip(starts, ends))
+    return "".join(f"M{part}" if " " in part else f"M{part}h.5" for part in parts)
+
+
+def profile_marks(low: float, high: float, first: float, last: float) -> str:
+    """Lines at round values, and ticks at round places."""
+    span, found = (high - low) or 1.0, []
+    step, across = round_step(span, 4), round_step(abs(last - first), 5)
+    for value in ticks_of(low, high, 4):
+        y = TOP + HIGH * (1 - (value - low) / span)
+        found += [line(LEFT - 4, y, LEFT + LONG, y, "#ddd"), text(LEFT - 6, y + 4, label_of(value, step), "end")]
+    for value in ticks_of(min(first, last), max(first, last), 5):
+        x = LEFT + LONG * (value - first) / (last - first)
+        found += [line(x, TOP + HIGH, x, TOP + HIGH + 4), text(x, TOP + HIGH + 15, label_of(value, across))]
+    return "".join(found)
+
 
 def profile_of(values: np.ndarray, places: Tuple[float, float, str], unit: str, title: str) -> str:
     """A <figure> of the values along a line, from the first to the last place, in a unit; gaps where there is no value."""
     known = values[~np.isnan(values)]
     low, high = (float(known.min()), float(known.max())) if len(known) else (0.0, 0.0)
-    span, tall = (high - low) or 1.0, 120.0
     first, last, along = places
-    x = LEFT + (WIDE + 60) * (np.arange(len(values)) + 0.5) / len(values)
-    y = TOP + tall * (1 - (np.nan_to_num(values) - low) / span)
-    gone = np.isnan(values)
-    starts = np.flatnonzero(~gone & np.append(True, gone[:-1]))
-    ends = np.flatnonzero(~gone & np.append(gone[1:], True)) + 1
-    path = "".join(
-        "M" + " ".join(f"{a:.1f},{b:.1f}" for a, b in zip(x[start:end], y[start:end])) + ("h.5" if end == start + 1 else "")
-        for start, end in zip(starts, ends)
-    )
-    step, marks = round_step(span, 4), []
-    for value in ticks_of(low, high, 4):
-        at = TOP + tall * (1 - (value - low) / span)
-        marks += [line(LEFT - 4, at, LEFT + WIDE + 60, at, "#ddd"), text(LEFT - 6, at + 4, label_of(value, step), "end")]
-    across = round_step(abs(last - first), 5)
-    for value in ticks_of(min(first, last), max(first, last), 5):
-        at = LEFT + (WIDE + 60) * (value - first) / (last - first)
-        marks += [line(at, TOP + tall, at, TOP + tall + 4), text(at, TOP + tall + 15, label_of(value, across))]
+    x = LEFT + LONG * (np.arange(len(values)) + 0.5) / len(values)
+    y = TOP + HIGH * (1 - (values - low) / ((high - low) or 1.0))
     return (
-        f'<figure class="profile"><h3>{escape(title)}</h3><svg viewBox="0 0 {LEFT + WIDE + RIGHT} {TOP + tall + 32:.0f}" role="img" '
-        f'aria-label="{escape(title)}">{"".join(marks)}{text(LEFT, TOP - 8, unit, "end")}'
-        f'{text(LEFT + WIDE + 64, TOP + tall + 15, along, "start")}'
-        f'<path d="{path}" fill="none" stroke="#31408e" stroke-width="1.2" stroke-linejoin="round"/></svg></figure>'
+        f'<figure class="profile"><h3>{escape(title)}</h3><svg viewBox="0 0 {LEFT + WIDE + RIGHT} {TOP + HIGH + 32}" role="img" '
+        f'aria-label="{escape(title)}">{profile_marks(low, high, first, last)}{text(LEFT, TOP - 8, unit, "end")}'
+        f'{text(LEFT + LONG + 4, TOP + HIGH + 15, along, "start")}'
+        f'<path d="{curve_of(x, y)}" fill="none" stroke="#31408e" stroke-width="1.2" stroke-linejoin="round"/></svg></figure>'
     )

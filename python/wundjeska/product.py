@@ -24,7 +24,7 @@ CYCLES: Dict[str, float] = {"cycles": 1.0, "radians": 2 * math.pi}  # what a cyc
 
 def add_unit_words(words: ArgumentParser, blocks: bool = True) -> None:
     """The arguments that say what is written."""
-    words.add_argument("--unit", choices=(*CYCLES, *LENGTHS), default="cycles")
+    words.add_argument("--unit", choices=(*CYCLES, *LENGTHS), default="cycles", help="of what is written (default: cycles)")
     words.add_argument(
         "--wavelength",
         type=float,

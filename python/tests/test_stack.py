@@ -138,6 +138,12 @@ class Words(InFolder):
         self.assertEqual(asked.plain_words, ["--tile=64", "--no-whole", "--reference", "1", "2", "--wrap"])
         self.assertEqual((asked.igram, asked.page, asked.closure), ("{pair}/phase.tif", True, False))
 
+    def test_a_filter_goes_without_pages(self) -> None:
+        asked = wanted({"filter": "fourier", "narrow": "yes", "page": "no"})
+        self.assertEqual(asked.words, ["--filter=fourier", "--narrow"])
+        with self.assertRaisesRegex(Trouble, "page draws the surface of a report, which with filter is the guide alone"):
+            wanted({"filter": "fourier"})
+
     def test_keys_that_do_not_fit_each_other(self) -> None:
         for keys in (
             {"closure": "yes", "unit": "metres", "wavelength": "0.05"},
@@ -146,6 +152,9 @@ class Words(InFolder):
             {"coherence": "0.5", "least_coherence": "0.5"},
             {"block": "4"},
             {"big_endian": "yes"},
+            {"filter": "fourier"},
+            {"filter": "fourier", "page": "no", "looks": "4"},
+            {"narrow": "yes"},
         ):
             with self.subTest(keys), self.assertRaises(Trouble) as caught:
                 wanted(keys)

@@ -12,6 +12,10 @@ surface may be wrong by whole cycles though none costs less, or that the phase w
   zeros     the share of open pixels whose phase is 0, as of files that have 0 where nothing is known, and do not say so
   slope     the commonest fringe rate. Beyond half a cycle a pixel a slope looks as if it fell, and noise brings that nearer
   parts     open pixels that do not touch; whole cycles between them are arbitrary
+  filter    the share of cells that keep a residue when the phase is filtered, if it is. Noise has hardly any left; where more than
+            0.2 % are, the filter has broken down
+  undecided parts to which the surface without the filter gives other cycles, and the filter cannot tell which are right; of the
+            kind `decided`, and not bad, if it can
 """
 import re
 from dataclasses import dataclass
@@ -26,6 +30,7 @@ from .ramps import SIDE, Spectrum
 from .report_reader import Surface
 
 MANY_RESIDUES, MANY_ZEROS, MANY_OUTSIDE = 0.1, 0.01, 0.01  # shares, from which on they are bad
+MANY_LEFT = 0.002  # the share of residues left in a filtered phase, above which it is bad
 HIGH_SEAMS = 0.1  # of what the tiles cost
 LONG_LINE = 24  # pixels from end to end: more than any cut through noise had, and less than any rupture
 STEEP_SLOPE = 0.3  # cycles a pixel
@@ -35,6 +40,7 @@ FEW = 100  # pixels or cells, of fewer of which a share says nothing
 NONE = "none"
 NOTED = re.compile(r"([a-z]+)( \(bad\))?: (.*)")
 UNCHECKED = "nothing certifies this surface"
+GUIDE_ALONE = ", of the guide alone"
 LEAST = {True: "the least cost was proved", False: "the least cost was proved, in each tile and at the seams"}
 
 
@@ -42,7 +48,7 @@ LEAST = {True: "the least cost was proved", False: "the least cost was proved, i
 class Concern:
     """What is to be known of a surface, in one line. It is bad if the surface may well be wrong by whole cycles because of it.
 
-    kind  'residues', 'seams', 'lines', 'zeros', 'slope' or 'parts'
+    kind  'residues', 'filter', 'undecided', 'decided', 'seams', 'lines', 'zeros', 'slope' or 'parts'
     """
 
     kind: str
@@ -68,6 +74,8 @@ class Signs:
 
     rate  the commonest fringe rate, to the right and downwards; None if none stands out
     ramp  the slopes that were expected
+    left  the share of cells that keep a residue in the filtered phase; None without a filter
+    apart  what is to be said of parts that are whole cycles apart from the surface without a filter
     """
 
     residues: float
@@ -79,11 +87,15 @@ class Signs:
     ramp: Ramp
     parts: int
     outside: float
+    left: Optional[float] = None
+    apart: Tuple[Concern, ...] = ()
 
     def concerns(self) -> Tuple[Concern, ...]:
         """What is to be said of them, the bad ones first."""
         found = [
             *residues_concern(self),
+            *filter_concern(self),
+            *self.apart,
             *seams_concern(self),
             *lines_concern(self),
             *slope_concern(self),
@@ -106,6 +118,13 @@ def residues_concern(signs: Signs) -> List[Concern]:
         return []
     why = "much noise, or a file that was read by a wrong width, form or band"
     return [Concern("residues", f"{percent(signs.residues)} of the cells have a residue: {why}")]
+
+
+def filter_concern(signs: Signs) -> List[Concern]:
+    if signs.left is None or signs.left <= MANY_LEFT:
+        return []
+    what = f"{percent(signs.left)} of the cells keep a residue in the filtered phase"
+    return [Concern("filter", f"{what}: the filter has broken down, and the surface that guides may be wrong")]
 
 
 def seams_concern(signs: Signs) -> List[Concern]:
@@ -157,9 +176,10 @@ def parts_concern(signs: Signs) -> List[Concern]:
     return [Concern("parts", f"{what}: whole cycles between them are arbitrary", signs.outside >= MANY_OUTSIDE)]
 
 
-def judgement_of(concerns: Sequence[Concern], accepted: bool, is_whole: bool) -> str:
-    """A sentence on a surface: how many signs are bad, and what was proved."""
-    proved = f"{LEAST[is_whole]}, and not that the surface is true" if accepted else UNCHECKED
+def judgement_of(concerns: Sequence[Concern], accepted: bool, is_whole: bool, is_guided: bool = False) -> str:
+    """A sentence on a surface: how many signs are bad, and what was proved, of the surface or of its guide alone."""
+    least = LEAST[is_whole] + (GUIDE_ALONE if is_guided else "")
+    proved = f"{least}, and not that the surface is true" if accepted else UNCHECKED
     bad = sum(concern.is_bad for concern in concerns)
     if not bad:
         return proved
@@ -258,8 +278,16 @@ def rate_of(phase: np.ndarray, weights: np.ndarray, opened: np.ndarray) -> Optio
     return spectrum.peak() if spectrum.is_distinct() else None
 
 
-def signs_of(phase: np.ndarray, weights: np.ndarray, surface: Surface, problem: Problem) -> Signs:
-    """What is measured of a surface of these phases and weights, which is least for this problem."""
+def signs_of(
+    phase: np.ndarray,
+    weights: np.ndarray,
+    surface: Surface,
+    problem: Problem,
+    smooth: Optional[np.ndarray] = None,
+    apart: Tuple[Concern, ...] = (),
+) -> Signs:
+    """What is measured of a surface of these phases and weights, which is least for this problem, or was guided by one that is
+    least for the filtered phase `smooth`."""
     opened = surface.opened()
     parts, outside = scattered(opened)
     return Signs(
@@ -272,9 +300,6 @@ def signs_of(phase: np.ndarray, weights: np.ndarray, surface: Surface, problem: 
         ramp=problem.ramp,
         parts=parts,
         outside=outside,
+        left=None if smooth is None else residue_share(smooth, opened, problem.ramp),
+        apart=apart,
     )
-
-
-def concerns_of(phase: np.ndarray, weights: np.ndarray, surface: Surface, problem: Problem) -> Tuple[Concern, ...]:
-    """What is to be said of a surface, the bad ones first."""
-    return signs_of(phase, weights, surface, problem).concerns()

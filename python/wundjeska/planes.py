@@ -110,6 +110,7 @@ def as_stored(number: float, kind: np.dtype) -> np.ndarray:
 RAMP_COMMENT = re.compile(rb"# wundjeska ramp([^\n\r]*)")
 RAMP_SLOPES = re.compile(rb" (0|-?[1-9][0-9]{0,4}) (0|-?[1-9][0-9]{0,4})")
 HEADER = re.compile(rb"P([25])" + rb"(?:\s+(?:#[^\n\r]*[\n\r]\s*)*)([0-9]+)" * 3 + rb"\s")
+COMMENT = re.compile(rb"#[^\n\r]*[\n\r]")
 PLAIN_RASTER = re.compile(rb"[\s0-9]*")
 
 
@@ -145,6 +146,12 @@ def with_comments(text: bytes, comments: bytes) -> bytes:
     if not text.startswith(b"P5\n"):
         raise Trouble("what the program wrote is no session")
     return text[:3] + comments + text[3:]
+
+
+def comments_of(text: bytes) -> bytes:
+    """The comments in a session's head, each a line."""
+    header = HEADER.match(text)
+    return b"".join(COMMENT.findall(header.group())) if header else b""
 
 
 def comments_in(text: bytes, form: "re.Pattern[bytes]") -> Set[bytes]:

@@ -12,7 +12,7 @@ from pathlib import Path
 from typing import Dict, Iterable, List, Mapping, Optional
 
 from .command import parser_of, with_auto
-from .commands.unwrap import settings_of
+from .commands.unwrap import chain_of, settings_of
 from .displacements import LENGTHS
 from .product import check_unit_words
 from .rasters import check_scene_words
@@ -105,6 +105,7 @@ def check_together(asked: Namespace, closure: bool) -> None:
     """Trouble if words of unwrap do not fit each other, as unwrap says it."""
     check_unit_words(asked)
     settings_of(asked, asked.whole)
+    chain_of(asked)
     check_scene_words(asked)
     check_screen_words(asked.screen, None, asked.coherence)
     if asked.least_component < 1:
@@ -152,7 +153,8 @@ def wanted(config: Mapping[str, object]) -> Wanted:
         if key in names:
             check_name(key, names[key], many=key != "mask")
     found = [word for key in words for word in words[key]]
-    asked = parser_of("unwrap").parse_args(with_auto(["phase", "--coherence", "coherence", *found, "surface.tif"]))
+    page = ["--page", "page.html"] if flags.get("page", True) else []
+    asked = parser_of("unwrap").parse_args(with_auto(["phase", "--coherence", "coherence", *page, *found, "surface.tif"]))
     try:
         check_together(asked, flags.get("closure", False))
     except Trouble as trouble:

@@ -1,7 +1,7 @@
 """Unwrapping of arrays: `unwrap` runs the proved program, has its report checked, and reads the surface back. NumPy alone."""
 import io
 import math
-from dataclasses import dataclass
+from dataclasses import dataclass, replace
 from pathlib import Path
 from typing import Any, Iterator, Optional, Tuple, Union
 
@@ -12,7 +12,8 @@ from . import report_reader, screening
 from .arguments import name_of_file, number, one_of, refused, whole_number, yes_or_no
 from .arrays import PHASES, REALS, check_attributes, taken
 from .components import components_of, warning_of
-from .concerns import Concern, concerns_of, judgement_of
+from .concerns import Concern, judgement_of, signs_of
+from .guiding import Chain, Guided, guided
 from .outputs import Outputs, beside
 from .planes import (
     CYCLE,
@@ -30,6 +31,7 @@ from .program import MAX_WORKERS, Problem, check_report, run_program, workers_or
 from .ramps import Given, RampWord, checked, ramp_for
 from .screening import Screen, Screened, screened, screened_by
 from .trouble import DISAGREES, REFUSED_WORDS, Trouble, warn
+from .undecided import undecided_concerns
 from .weights import highest_of, weights_of
 
 ACCEPTED, NOT_CHECKED = "accepted", "not checked"
@@ -129,11 +131,25 @@ def input_of(planes: Planes, making: Making) -> Input:
 
 @dataclass(frozen=True)
 class Solved:
-    """What the program wrote of a session: the report or the whole text as it stands, its last surface, and the verdict."""
+    """What the program wrote of a session: the report or the whole text as it stands, its last surface, and the verdict.
+
+    By a guide the report and the verdict are the guide's, and so are the costs of the surface, whose values are those nearest to it.
+    """
 
     report: bytes
     surface: report_reader.Surface
     verdict: str
+    guided: Optional[Guided["Solved"]] = None
+
+    @property
+    def smooth(self) -> Optional[np.ndarray]:
+        """The filtered phase, if there is one."""
+        return self.guided.phase if self.guided else None
+
+    @property
+    def apart(self) -> Tuple[Concern, ...]:
+        """What is to be said of where a filter and none are whole cycles apart."""
+        return undecided_concerns(self.guided.parts) if self.guided else ()
 
 
 @dataclass(frozen=True)
@@ -149,6 +165,8 @@ class Unwrapped:
     ramp        the expected slopes to the right and downwards, in 1/65536 cycle a pixel; None if none was asked for
     dropped     what a screen dropped: uint8, 1 at weak pixels, 2 at lonely ones, 3 in islands, else 0; None without a screen
     concerns    signs that the surface may be wrong though none costs less: each has a text, a kind, and is_bad
+    chain       its `filter`, or None, and whether it was `narrow`. With a filter the costs and the verdict are those of the surface
+                that guides, and what is proved is proved of it: `chain.told` says what
     """
 
     phase: npt.NDArray[np.float32]
@@ -161,11 +179,13 @@ class Unwrapped:
     ramp: Optional[Ramp] = None
     dropped: Optional[npt.NDArray[np.uint8]] = None
     concerns: Tuple[Concern, ...] = ()
+    chain: Chain = Chain()
 
     @property
     def judgement(self) -> str:
         """What was proved, and how many concerns are bad, in words."""
-        return judgement_of(self.concerns, self.verdict == ACCEPTED, self.settings.is_whole)
+        is_guided = self.chain.filter is not None
+        return judgement_of(self.concerns, self.verdict == ACCEPTED, self.settings.is_whole, is_guided)
 
     @property
     def cost(self) -> int:
@@ -215,6 +235,20 @@ def solve(session: bytes, settings: Settings, check: bool = True, name: str = "t
         if not accepted:
             raise Trouble(f"{name}: {verdict}", DISAGREES)
     return Solved(report, last_surface(report, name), verdict)
+
+
+def solve_by(chain: Chain, made: Input, settings: Settings, check: bool, name: str, has_coherence: bool) -> Solved:
+    """Unwraps what was made, by a guide if the chain has a filter."""
+
+    def solved(session: bytes) -> Solved:
+        return solve(session, settings, check, name)
+
+    if chain.filter is None:
+        return solved(made.session)
+    workers = workers_or_default(settings.workers)
+    found = guided(made.session, has_coherence, solved, chain.narrow, workers)
+    guide = found.guide
+    return Solved(guide.report, replace(guide.surface, values=found.values), guide.verdict, found)
 
 
 def radians_of(values: np.ndarray) -> npt.NDArray[np.float32]:
@@ -307,11 +341,13 @@ def warn_of(concerns: Tuple[Concern, ...]) -> None:
             warn(concern.text)
 
 
-def unwrapped_of(made: Input, phase: np.ndarray, solved: Solved, settings: Settings, least: int) -> Unwrapped:
+def unwrapped_of(
+    made: Input, phase: np.ndarray, solved: Solved, settings: Settings, least: int, chain: Chain
+) -> Unwrapped:
     """What is returned."""
     surface = solved.surface
-    concerns = concerns_of(phase, made.weights, surface, settings.problem(made.ramp))
-    warn_of(concerns)
+    signs = signs_of(phase, made.weights, surface, settings.problem(made.ramp), solved.smooth, solved.apart)
+    warn_of(signs.concerns())
     return Unwrapped(
         radians_of(surface.values),
         surface.values,
@@ -322,7 +358,8 @@ def unwrapped_of(made: Input, phase: np.ndarray, solved: Solved, settings: Setti
         settings,
         made.ramp,
         made.screening.dropped_at() if made.screening else None,
-        concerns,
+        signs.concerns(),
+        chain,
     )
 
 
@@ -347,6 +384,8 @@ def unwrap(
     least_component: int = 1,
     ramp: Given = None,
     screen: screening.Given = None,
+    filter: Optional[str] = None,
+    narrow: bool = False,
 ) -> Unwrapped:
     """Unwraps an interferogram, (rows, columns), and has the result checked.
 
@@ -371,6 +410,10 @@ def unwrap(
                      commonest fringe rate. Differences of neighbours are taken to lie within half a cycle of it
     screen           what a pixel needs to stay open, as {'coherence': 0.3, 'radius': 3, 'count': 20, 'patch': 50}: a coherence
                      (or a 'weight'), so many such pixels within a radius, and so many in its patch
+    filter           'fourier': unwrap the phase after a windowed Fourier filter, by weights of how well both agree, and return the
+                     whole cycles that bring the phase as given nearest to that surface. The guide is least of all, and kept by
+                     `report`; the surface is computed and not proved
+    narrow           with a filter, look for features narrower than 16 pixels, too
 
     Raises Trouble, whose text is one line. What is to be said of a result warns as Caution, and stands in its concerns.
     """
@@ -378,6 +421,8 @@ def unwrap(
     arrays = arrays_of(igram, quality, mask, many, nodata, wrap, coherence_max)
     settings, asked = settings_of(whole, tile, rule, steep, workers), screening.checked(screen)
     least, is_checked = whole_number("least_component", least_component, 1), yes_or_no("check", check)
+    chain = Chain(filter, yes_or_no("narrow", narrow))
+    chain.check(arrays.looks is not None)
     kept = None if report is None else name_of_file("report", report)
     making = Making("the interferogram", arrays.looks, checked(ramp), asked)
     if asked is not None and asked.coherence is not None and quality is None:
@@ -386,7 +431,7 @@ def unwrap(
         place = beside(outputs, kept)
         planes = arrays.planes()
         made = input_of(planes, making)
-        solved = solve(made.session, settings, is_checked, making.name)
+        solved = solve_by(chain, made, settings, is_checked, making.name, quality is not None)
         if place is not None:
             outputs.fill(place, solved.report)
-    return unwrapped_of(made, planes[0], solved, settings, least)
+    return unwrapped_of(made, planes[0], solved, settings, least, chain)

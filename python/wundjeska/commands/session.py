@@ -8,6 +8,8 @@ first row of the planes, whichever way it points. Scales and offsets of bands ar
 --screen has the program's command `screen` mask what is noise. The session keeps the terms in a comment, and the mask is compared
 with one that is made here by the same rule. Edits of --script come after it, so `unmask` opens what it dropped.
 
+--filter makes the session of the filtered phase, whose report `unwrap --filter --report` keeps.
+
 An expected --ramp is told, as the words that the program wants, and kept in a comment of the session, where the other verbs find
 it. `auto` is the peak of the spectrum of fringe rates. It is known up to whole cycles a pixel alone, so what rises by 0.8 cycle
 a pixel looks as if it fell by 0.2.
@@ -22,6 +24,7 @@ from ..ramps import add_ramp_words, told
 from ..rasters import Scene, add_scene_words, name_of, scene_of, size_of, whole
 from ..screening import Screened, add_screen_words, check_screen_words
 from ..trouble import Trouble
+from ..guiding import GUIDE, Chain, add_filter_word, filtered_session
 from ..unwrapping import Input, Making, Planes, input_of
 
 
@@ -36,6 +39,7 @@ def words() -> ArgumentParser:
     add_scene_words(found)
     add_ramp_words(found)
     add_screen_words(found)
+    add_filter_word(found)
     found.add_argument(
         "--script",
         metavar="FILE",
@@ -70,15 +74,19 @@ def screen_line(screening: Screened) -> str:
 def main(asked: Namespace) -> int:
     scene = scene_of(asked)
     check_screen_words(asked.screen, asked.unscreened, scene.coherence)
+    Chain(asked.filter).check(asked.looks is not None)
     with Outputs([*scene.files(), asked.script], asked.force) as outputs:
         made, unscreened = outputs.beside(asked.session), beside(outputs, asked.unscreened)
         script = Path(asked.script).read_bytes() if asked.script else b"end\n"
         found = input_for(scene, asked, script)
-        outputs.fill(made, found.session)
+        has_coherence = scene.coherence is not None
+        outputs.fill(made, filtered_session(found.session, has_coherence) if asked.filter else found.session)
         if unscreened:
             outputs.fill(unscreened, found.before)
     height, width = found.opened.shape
     print(f"{asked.session}: {width} by {height} pixels, {found.opened.sum()} open, {(~found.opened).sum()} masked")
+    if asked.filter:
+        print(f"{asked.session}: filter {asked.filter}: the surface of this session is {GUIDE}")
     if found.screening is not None:
         print(f"{asked.session}: {screen_line(found.screening)}")
     if found.ramp is not None:

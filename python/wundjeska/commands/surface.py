@@ -29,6 +29,7 @@ import numpy as np
 from .. import report_reader
 from ..displacements import read_grid
 from ..concerns import signs_of
+from ..guiding import GUIDE, is_filtered
 from ..outputs import Outputs, add_force_word
 from ..planes import Session, read_session
 from ..product import NOTHING_CERTIFIES, add_unit_words, check_unit_words, write_product
@@ -135,9 +136,13 @@ def main(asked: Namespace) -> int:
             raise Trouble(
                 f"the surface has {width} by {height} pixels, {name_of(like)} {like.RasterXSize} by {like.RasterYSize}"
             )
-        session = read_session(Path(asked.session).read_bytes()) if asked.session else None
+        text = Path(asked.session).read_bytes() if asked.session else b""
+        session = read_session(text) if asked.session else None
         if session is not None:
             found.notes.update(concerns_note(session, found))
+        if is_filtered(text):
+            found.notes["FILTER"] = GUIDE
+            warn(f"{asked.geotiff}: {GUIDE}")
         reference = reference_of(asked, found.values, session.weights if session is not None else None)
         write_product(made, like, found.values, asked, reference, found.notes)
     if asked.reference_auto:

@@ -8,6 +8,9 @@ raster, of the connected components, numbered from 1 by falling size.
 
 Beside `accepted` concerns are told: signs that the surface may be wrong by whole cycles though none costs less, as many
 residues, dear seams, long lines along which it jumps, or a phase that is 0 in many places. They change no status.
+
+With --filter a surface of the filtered phase is a guide, which the checker judges; --session and --report keep what that is of.
+What is written is the surface of the phase as given that lies nearest to the guide. It is computed here, and not proved.
 """
 from argparse import ArgumentParser, BooleanOptionalAction, Namespace, RawDescriptionHelpFormatter
 from pathlib import Path
@@ -18,6 +21,7 @@ import numpy as np
 from .. import report_reader
 from ..components import components_of
 from ..concerns import Concern, Signs, judgement_of, note_of, percent, signs_of
+from ..guiding import Chain, add_filter_word, add_narrow_word
 from ..outputs import Outputs, add_force_word, beside, raster_beside
 from ..planes import Ramp, read_session
 from ..product import NOTHING_CERTIFIES, add_unit_words, check_unit_words, write_components, write_product
@@ -27,7 +31,7 @@ from ..rasters import Scene, add_scene_words, axes_of, scene_of
 from ..references import Reference, add_reference_words, reference_of
 from ..screening import add_screen_words, check_screen_words
 from ..trouble import REFUSED_WORDS, Trouble, warn
-from ..unwrapping import ACCEPTED, MAX_STEEP, RULES, SIDE, WHOLE, Input, Settings, Solved, side_for, solve
+from ..unwrapping import ACCEPTED, MAX_STEEP, RULES, SIDE, WHOLE, Input, Settings, Solved, side_for, solve_by
 from .session import input_for, screen_line
 
 
@@ -73,6 +77,8 @@ def words() -> ArgumentParser:
     add_scene_words(found)
     add_ramp_words(found)
     add_screen_words(found)
+    add_filter_word(found)
+    add_narrow_word(found)
     add_solver_words(found)
     add_whole_word(found, "the whole raster")
     add_reference_words(found)
@@ -100,13 +106,27 @@ def words() -> ArgumentParser:
     return found
 
 
+def chain_of(asked: Namespace) -> Chain:
+    """The chain that is asked for. Trouble if its words do not fit each other."""
+    found = Chain(asked.filter, asked.narrow)
+    found.check(asked.looks is not None)
+    if asked.filter and asked.page:
+        raise Trouble("--page draws the surface of a report, which with --filter is the guide alone", REFUSED_WORDS)
+    return found
+
+
+def filter_note(chain: Chain, settings: Settings, solved: Solved) -> Dict[str, Any]:
+    """What is told of a filter."""
+    return {"FILTER": chain.told(settings.is_whole, solved.verdict == ACCEPTED)} if chain.filter else {}
+
+
 def notes_of(solved: Solved, settings: Settings, scene: Scene, components: np.ndarray) -> Dict[str, Any]:
     """What the product tells of how it came about."""
     return {
         "VERDICT": solved.verdict if solved.verdict == ACCEPTED else NOTHING_CERTIFIES,
         **cost_notes(settings.side, solved.surface),
         "RULE": settings.rule,
-        "WEIGHTS": weights_note(scene),
+        "WEIGHTS": weights_note(scene, solved.guided is not None),
         "COMPONENTS": int(components.max(initial=0)),
         **steep_note(settings.steep),
     }
@@ -138,10 +158,14 @@ def screen_note(made: Input) -> Dict[str, Any]:
 
 def signs_note(signs: Signs) -> Dict[str, Any]:
     """What is told of signs that the surface may be wrong."""
-    return {"RESIDUES": f"{percent(signs.residues)} of the cells", "CONCERNS": note_of(signs.concerns())}
+    left = {} if signs.left is None else {"RESIDUES_LEFT": f"{percent(signs.left)} of the cells of the filtered phase"}
+    return {"RESIDUES": f"{percent(signs.residues)} of the cells", **left, "CONCERNS": note_of(signs.concerns())}
 
 
-def weights_note(scene: Scene) -> str:
+def weights_note(scene: Scene, is_guided: bool) -> str:
+    if is_guided:
+        agreed = "the squared agreement of phase and filter"
+        return agreed if scene.coherence is None else f"linear in coherence, times {agreed}"
     if scene.coherence is None:
         return "equal"
     return "linear in coherence" if scene.looks is None else f"by the variance of {scene.looks:g} looks"
@@ -171,27 +195,33 @@ def main(asked: Namespace) -> int:
     settings = settings_of(asked, asked.whole)
     scene = scene_of(asked)
     check_screen_words(asked.screen, asked.unscreened, scene.coherence)
+    chain = chain_of(asked)
     like = scene.phase.raster
     with Outputs(scene.files(), asked.force) as outputs:
         place, numbered = outputs.raster(asked.geotiff), raster_beside(outputs, asked.components)
         names = (asked.page, asked.session, asked.report, asked.unscreened)
         page, kept_session, kept_report, unscreened = (beside(outputs, name) for name in names)
         made = input_for(scene, asked)
-        solved = solve(made.session, settings, not asked.no_check, asked.phase)
+        solved = solve_by(chain, made, settings, not asked.no_check, asked.phase, scene.coherence is not None)
         components = components_of(made.opened, asked.least_component)
-        signs = signs_of(read_session(made.session).phase, made.weights, solved.surface, settings.problem(made.ramp))
+        phase, problem = read_session(made.session).phase, settings.problem(made.ramp)
+        signs = signs_of(phase, made.weights, solved.surface, problem, solved.smooth, solved.apart)
         notes = {**notes_of(solved, settings, scene, components), **ramp_note(made.ramp), **screen_note(made)}
-        notes.update(signs_note(signs))
+        filtering = filter_note(chain, settings, solved)
+        notes.update({**signs_note(signs), **filtering})
         reference = reference_of(asked, solved.surface.values, made.weights)
         write_product(place, like, solved.surface.values, asked, reference, notes)
         if numbered:
             write_components(numbered, like, components, asked.least_component)
         if page:
             outputs.fill(page, page_of(asked, made, solved, scene, signs, reference))
-        for kept, text in ((kept_session, made.session), (kept_report, solved.report), (unscreened, made.before)):
+        session = solved.guided.session if solved.guided else made.session
+        for kept, text in ((kept_session, session), (kept_report, solved.report), (unscreened, made.before)):
             if kept:
                 outputs.fill(kept, text)
     tell(asked, settings, solved, made, signs, int(components.max(initial=0)))
+    for line in filtering.values():
+        print(f"{asked.geotiff}: filter {line}")
     if asked.reference_auto:
         print(f"{asked.geotiff}: reference: {reference.note}")
     return 0
@@ -199,15 +229,15 @@ def main(asked: Namespace) -> int:
 
 def costs_line(settings: Settings, solved: Solved) -> str:
     """What a surface costs, in words."""
-    surface = solved.surface
+    surface, whose = solved.surface, "its guide's " if solved.guided else ""
     if not settings.is_whole:
-        return f"tiles cost {surface.tile_cost}, seams {surface.seam_cost}"
-    return f"cost {surface.tile_cost}" + (", the least of all" if solved.verdict == ACCEPTED else "")
+        return f"{whose}tiles cost {surface.tile_cost}, seams {surface.seam_cost}"
+    return f"{whose}cost {surface.tile_cost}" + (", the least of all" if solved.verdict == ACCEPTED else "")
 
 
 def judgement_lines(concerns: Sequence[Concern], settings: Settings, solved: Solved) -> List[str]:
     """What was proved, and each sign that the surface may be wrong."""
-    proved = judgement_of(concerns, solved.verdict == ACCEPTED, settings.is_whole)
+    proved = judgement_of(concerns, solved.verdict == ACCEPTED, settings.is_whole, solved.guided is not None)
     return [proved, *(f"{'concern' if concern.is_bad else 'note'}: {concern}" for concern in concerns)]
 
 

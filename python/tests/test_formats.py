@@ -149,7 +149,7 @@ class Formats(InFolder):
         self.assertEqual(found.GetRasterBand(1).GetNoDataValue(), 0)
         self.assertEqual(found.GetGeoTransform(), gdal.Open(phase).GetGeoTransform())
         told = gdal.Open(str(self.folder / "made.tif")).GetMetadata()
-        self.assertEqual((told["WUNDJESKA_VERDICT"], told["WUNDJESKA_COMPONENTS"]), ("accepted", "2"))
+        self.assertEqual((told["WUNDJESKA_VERDICT"].split(";")[0], told["WUNDJESKA_COMPONENTS"]), ("accepted", "2"))
 
     def test_a_reference_by_a_window(self) -> None:
         phase = raster(self.folder / "phase.tif", WRAPPED)

@@ -280,7 +280,7 @@ class WhatAProductTells(Mistakes):
             ("REFERENCE", "pixel 5 6"),
             ("UNIT", "metres"),
         ):
-            self.assertEqual(told[f"WUNDJESKA_{name}"], value)
+            self.assertEqual(told[f"WUNDJESKA_{name}"].split(";")[0], value)
         self.assertIn("turned", told["WUNDJESKA_SIGN"])
 
     def test_a_surface_that_was_not_checked_says_so(self) -> None:

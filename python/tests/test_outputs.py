@@ -67,7 +67,7 @@ class NoRasterOfAUserIsReplaced(Written):
     def test_force_replaces_it(self) -> None:
         mine = self.phase()
         self.assertEqual(command("wundjeska", PHASE, "--force", mine)[0], 0)
-        self.assertEqual(gdal.Open(str(mine)).GetMetadataItem("WUNDJESKA_VERDICT"), "accepted")
+        self.assertTrue(gdal.Open(str(mine)).GetMetadataItem("WUNDJESKA_VERDICT").startswith("accepted"))
 
     def test_force_replaces_no_input(self) -> None:
         mine = self.phase()

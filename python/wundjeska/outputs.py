@@ -183,7 +183,7 @@ def sidecars_of(place: Path) -> List[Path]:
     return [place.with_name(place.name + ending) for ending in SIDECARS]
 
 
-def keep(path: Path, content: bytes) -> None:
+def keep(path: Path, content: bytes, force: Optional[bool] = None) -> None:
     """Writes a file that is then there whole or as it was."""
-    with Outputs([]) as outputs:
+    with Outputs([], force) as outputs:
         outputs.write(path, content)

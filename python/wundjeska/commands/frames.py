@@ -155,13 +155,13 @@ def is_kept(frame: Frame, session: bytes, head: bytes) -> bool:
 
 
 def keep_solved(frame: Frame, session: bytes, solved: Solved) -> None:
-    """Keeps what was found of a frame."""
+    """Keeps what was found of a frame, in place of what stands under its names, which may be cut."""
     frame.file("sums").unlink(missing_ok=True)  # where it is, all else is whole
-    keep(frame.file("session"), session)
-    keep(frame.file("report"), solved.report)
-    keep(frame.file("pieces.npy"), text_of(pieces_of(solved.surface.opened())))
-    keep(frame.file("values.npy"), text_of(solved.surface.values))
-    keep(frame.file("sums"), sums_of(frame))
+    keep(frame.file("session"), session, force=True)
+    keep(frame.file("report"), solved.report, force=True)
+    keep(frame.file("pieces.npy"), text_of(pieces_of(solved.surface.opened())), force=True)
+    keep(frame.file("values.npy"), text_of(solved.surface.values), force=True)
+    keep(frame.file("sums"), sums_of(frame), force=True)
 
 
 @dataclass

@@ -10,8 +10,14 @@ mod collector_rows;
 #[cfg(test)]
 mod desk_rows;
 #[cfg(test)]
-mod outcomes;
+mod pass_rows;
+#[cfg(test)]
+mod running;
 #[cfg(test)]
 mod shelf_rows;
 #[cfg(test)]
+mod turn_rows;
+#[cfg(test)]
 mod watch_rows;
+#[cfg(test)]
+mod worker_rows;

@@ -1,11 +1,10 @@
 ghost use Rattle.raster_model.specs.Limits.{is_raster_size};
 ghost use Rattle.std.specs.Prelude.{◌≡◌, ◌*◌, ◌<◌, ◌≤◌, IsTrue, length};
 
-use crate::outcomes::same;
 use auto_masks::Patches;
 use std::alloc::{AllocError, Global};
 use std::process::Abort;
-use worked_scenes::{field, number, numbers};
+use worked_scenes::{field, number, numbers, same};
 
 /// Width and height of a raster, its keys by rows, and in words: how many patches there are, each pixel's label by rows
 /// with a point where there is none, and each patch with its first pixel and its size. By hand: keys that touch at a

@@ -1,11 +1,10 @@
 ghost use Rattle.std.specs.Prelude.{◌≡◌, ◌≤◌};
 
-use crate::outcomes::{holds, same};
 use edge_weights::WeightRule;
 use raster_model::{EdgeWeights, Plane, RuleKind, Tiling};
 use std::alloc::{AllocError, Global};
 use std::process::Abort;
-use worked_scenes::plane;
+use worked_scenes::{holds, plane, same};
 
 /// The weights of edges by the rule least.
 fn least(alloc: Global, maxval: u16, weights: &Plane) -> Result<EdgeWeights, AllocError>

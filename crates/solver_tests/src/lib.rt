@@ -2,11 +2,11 @@
 #![tactic(auto)]
 
 #[cfg(test)]
+mod balance;
+#[cfg(test)]
 mod guess_rows;
 #[cfg(test)]
 mod offset_rows;
-#[cfg(test)]
-mod outcomes;
 #[cfg(test)]
 mod reading;
 #[cfg(test)]

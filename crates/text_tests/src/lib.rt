@@ -4,8 +4,6 @@
 #[cfg(test)]
 mod board_rows;
 #[cfg(test)]
-mod outcomes;
-#[cfg(test)]
 mod plane_rows;
 #[cfg(test)]
 mod port_rows;

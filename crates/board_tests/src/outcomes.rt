@@ -1,6 +1,0 @@
-use std::process::Abort;
-
-/// Stops a test whose row gave something other than wanted.
-pub fn same(rt: &impl Abort, row: &str, found: &str, wanted: &str) {
-    assert!(rt; found == wanted, "{row}: {found}");
-}

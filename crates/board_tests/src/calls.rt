@@ -2,6 +2,7 @@ ghost use Rattle.std.specs.Prelude.{◌≤◌};
 
 use certificates::{SeamResult, TileResult};
 use collector_core::{collect, finish};
+use raster_model::{MAX_TILE_SIDE, MIN_TILE_SIDE};
 use std::alloc::{AllocError, Global};
 use std::process::Abort;
 use std::str::Split;
@@ -157,7 +158,7 @@ fn answer(alloc: Global, board: &mut Board, call: &str) -> Result<String, AllocE
 /// Does the calls on the left of the lines, one after another, on the board of a session's text, with tiles of a side. Each
 /// has to be answered with what is on its right.
 pub fn answered(rt: &impl Abort, alloc: Global, text: &str, side: u32, lines: &str)
-    requires { (2 ≤ side) × (side ≤ 128) }
+    requires { (MIN_TILE_SIDE ≤ side) × (side ≤ MAX_TILE_SIDE) }
 {
     let mut board = board(alloc, text, side).expect(rt, "a session");
     for line in lines.lines() {

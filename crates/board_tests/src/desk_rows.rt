@@ -6,6 +6,7 @@ ghost use Rattle.tile_workers.specs.Scripts.{HasClaimed};
 use crate::calls::seams;
 use board_desk::{Desk, Pass};
 use certificates::TileResult;
+use raster_model::{MAX_TILE_SIDE, MIN_TILE_SIDE};
 use std::alloc::{AllocError, Global};
 use std::process::Abort;
 use std::sync::Wait;
@@ -41,7 +42,7 @@ fn a_desk_answers_its_passes(rt: HostRuntime) {
 
 /// The desk of a session's text, the pass of its last analyst, which is the first as well, and that of a worker.
 fn opened<R: Wait + Abort>(rt: &R, alloc: Global, text: &str, side: u32) -> (Desk, Pass, Pass)
-    requires { (2 ≤ side) × (side ≤ 128) }
+    requires { (MIN_TILE_SIDE ≤ side) × (side ≤ MAX_TILE_SIDE) }
     ensures analyst { IsPassOf result.0 result.1 }
     ensures named { result.1.analyst ≢ None }
     ensures worker { IsPassOf result.0 result.2 }

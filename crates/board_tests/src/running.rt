@@ -2,6 +2,7 @@ ghost use Rattle.board_desk.specs.Passes.{IsPassOf};
 ghost use Rattle.std.specs.Prelude.{◌≢◌, ◌≤◌, All, None};
 
 use board_desk::{Desk, Pass};
+use raster_model::{MAX_TILE_SIDE, MIN_TILE_SIDE};
 use std::alloc::{AllocError, Global};
 use std::process::Abort;
 use std::sync::Wait;
@@ -12,7 +13,7 @@ use worked_scenes::board;
 
 /// The desk of a session's text, and the passes of its analysts.
 pub fn open_desk(rt: &impl Abort, alloc: Global, side: u32, text: &str) -> (Desk, Vec<Pass>)
-    requires { (2 ≤ side) × (side ≤ 128) }
+    requires { (MIN_TILE_SIDE ≤ side) × (side ≤ MAX_TILE_SIDE) }
     ensures { All (IsPassOf result.0) result.1.items }
 {
     let board = board(alloc, text, side).expect(rt, "a session");

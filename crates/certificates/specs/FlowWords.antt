@@ -1,4 +1,5 @@
 -- Words of the helpers over seam edges. No clause of a public function cites them.
+use Rattle.raster_model.specs.declared.limits.TheConstants.{MAX_CYCLE_COST}
 use Rattle.std.specs.Prelude.{◌≡◌, ℕ, ◌+◌, ◌*◌, ◌<◌, ◌≤◌, ℤ, pos, ◌-ℤ◌, ◌*ℤ◌, Bool, ◌&&◌, List, length, slice_index_or, unsigned_abs}
 use Rattle.raster_model.specs.declared.edge.Edge.{Edge}
 use Rattle.raster_model.specs.Sums.{Field, at_edge_start, at_edge_end, is_edge, edges_from}
@@ -44,7 +45,7 @@ abbrev pub FlowFitsAt : SeamFlows → Edge → Type 0
 FlowFitsAt k = FlowFits (held_raster k) (held_mask k) (flow_of k)
 
 abbrev pub IsSmallAt : SeamFlows → Edge → Type 0
-IsSmallAt k e = unsigned_abs (flow_of k e) ≤ 1048560
+IsSmallAt k e = unsigned_abs (flow_of k e) ≤ MAX_CYCLE_COST
 
 abbrev pub FitFrom : SeamFlows → ℕ → ℕ → Type 0
 FitFrom k x y = HoldsFrom (IsSeamOf k) (FlowFitsAt k) x y × HoldsFrom (IsSeamOf k) (IsSmallAt k) x y

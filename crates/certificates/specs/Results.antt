@@ -1,4 +1,5 @@
 -- What a result says of its tile.
+use Rattle.raster_model.specs.declared.limits.TheConstants.{MAX_TILE_CYCLES}
 use Rattle.std.specs.Prelude.{◌≡◌, ℕ, ◌*◌, ◌≤◌, ℤ, pos, Bool, IsTrue, List, length, slice_index_or, unsigned_abs}
 use Rattle.raster_model.specs.declared.scene.Scene.{Scene}
 use Rattle.raster_model.specs.declared.tiling.Window.{Window}
@@ -34,7 +35,7 @@ IsOpenIn v mask x y = IsWithin v x y × IsTrue (mask x y)
 
 -- the cycles at a pixel are from -8388608 to 8388608; this holds at each open pixel; it holds at each open pixel before (x, y) in row order; (x, y) is the first open pixel at which it does not
 abbrev pub IsInRange : Window → List ℤ → ℕ → ℕ → Type 0
-IsInRange v cycles x y = unsigned_abs (listed_cycles v cycles x y) ≤ 8388608
+IsInRange v cycles x y = unsigned_abs (listed_cycles v cycles x y) ≤ MAX_TILE_CYCLES
 
 abbrev pub AreInRange : Window → Field Bool → List ℤ → Type 0
 AreInRange v mask cycles = (x y : ℕ) → IsOpenIn v mask x y → IsInRange v cycles x y

@@ -3,10 +3,7 @@ ghost use Rattle.certificates.specs.Growth.{AreAllInRange};
 ghost use Rattle.certificates.specs.Results.{listed_cycles, pixels_in};
 ghost use Rattle.std.specs.Prelude.{◌≡◌, ◌≤◌, ◌<◌, ◌&&◌, IsTrue, length, nat_le};
 
-use raster_model::{Heights, Mask, Window};
-
-/// The greatest absolute number of cycles that a result may have at an open pixel.
-const MAX_CYCLES: u32 = 8_388_608;
+use raster_model::{Heights, MAX_TILE_CYCLES, Mask, Window};
 
 /// The cycles of a solved tile at the pixels of its window.
 #[derive(Clone, Copy)]
@@ -55,7 +52,7 @@ impl TileCycles<'_> {
         let window = self.window;
         for y in window.y0..window.y1 + 1 {
             for x in window.x0..window.x1 + 1 {
-                if mask.is_open(x, y) && self.at(x, y).unsigned_abs() > MAX_CYCLES {
+                if mask.is_open(x, y) && self.at(x, y).unsigned_abs() > MAX_TILE_CYCLES {
                     return Some((x, y));
                 }
             }
@@ -71,7 +68,7 @@ fn are_in_range(cycles: &[i32]) -> bool
 {
     let mut outside = false;
     for place in 0..cycles.len() {
-        outside |= cycles[place].unsigned_abs() > MAX_CYCLES;
+        outside |= cycles[place].unsigned_abs() > MAX_TILE_CYCLES;
     }
     !outside
 }

@@ -13,7 +13,9 @@ ghost use Rattle.raster_model.specs.Sums.{at_edge_end, at_edge_start, is_edge};
 ghost use Rattle.raster_model.specs.Weights.{edge_weight};
 ghost use Rattle.std.specs.Prelude.{◌≡◌, ◌+◌, ◌*◌, ◌≤◌, ◌^◌, IsTrue, pos};
 
-use raster_model::{Edge, Heights, Mask, Scene, departure, stored_weight};
+use raster_model::{
+    Edge, Heights, MAX_CYCLE_COST, MAX_DEPARTURE, Mask, Scene, departure, stored_weight,
+};
 
 /// What an edge adds to a cost: its weight times the steps of its departure, or 0 if an end is masked. At the steepness 1
 /// the steps are the absolute departure in whole cycles. If `unmasked` is true, both ends are known to be open.
@@ -30,7 +32,7 @@ pub fn edge_cost<H: Heights>(
     requires unmasked { IsTrue unmasked → IsTrue (has_open_ends (open_at mask.now) edge) }
     requires known { KnowsEnds (open_at mask.now) (H.knows heights.now) edge }
     ensures value { pos result ≡ edge_cost_of (raster_of scene.now) (open_at mask.now) (lifted (raster_of scene.now) (H.cycles_at heights.now)) edge }
-    ensures small { result ≤ 1048560 * (2 ^ 49 + 1) }
+    ensures small { result ≤ MAX_CYCLE_COST * MAX_DEPARTURE }
 {
     if are_ends_open(mask, edge, unmasked) {
         open_cost(scene, heights, edge)
@@ -56,7 +58,7 @@ fn open_cost<H: Heights>(scene: &Scene, heights: &H, edge: Edge) -> u128
     requires start { IsTrue (at_edge_start (H.knows heights.now) edge) }
     requires end { IsTrue (at_edge_end (H.knows heights.now) edge) }
     ensures value { result ≡ edge_weight scene.now.rule scene.now.weights edge * steps_of_departure scene.now.terms.steep (departure_of (raster_of scene.now) (lifted (raster_of scene.now) (H.cycles_at heights.now)) edge) }
-    ensures small { result ≤ 1048560 * (2 ^ 49 + 1) }
+    ensures small { result ≤ MAX_CYCLE_COST * MAX_DEPARTURE }
 {
     let departure = departure(scene, heights, edge);
     if departure == 0 {

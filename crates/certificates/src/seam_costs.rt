@@ -8,7 +8,7 @@ ghost use Rattle.std.specs.Prelude.{◌≡◌, ◌+◌, ◌*◌, ◌<◌, ◌≤
 
 use crate::seam_edges::{is_seam_edge, next_start};
 use crate::tile_ends::TileEnds;
-use raster_model::{Edge, Heights, Mask, Scene, plain};
+use raster_model::{Edge, Heights, MAX_CYCLE_COST, MAX_DEPARTURE, MAX_SIDE, Mask, Scene, plain};
 
 /// The cost of the seams: the sum of weight times the steps of the departure over the seam edges with open ends. (Chen and
 /// Zebker 2002.)
@@ -37,7 +37,7 @@ fn row_cost<H: Heights>(scene: &Scene, ends: &TileEnds, mask: &Mask, heights: &H
     requires row { y < scene.now.phase.height }
     requires known { KnowsOpen (raster_of scene.now) (open_at mask.now) (H.knows heights.now) }
     ensures value { pos result ≡ sum_row scene.now.phase.width (seam_cost_from (raster_of scene.now) (open_at mask.now) (lifted (raster_of scene.now) (H.cycles_at heights.now))) y }
-    ensures small { result ≤ 2 * 1048560 * (2 ^ 49 + 1) * 4096 }
+    ensures small { result ≤ 2 * MAX_CYCLE_COST * MAX_DEPARTURE * MAX_SIDE }
 {
     let mut cost: u128 = 0;
     let mut x = next_start(scene, ends, 0, y);
@@ -62,7 +62,7 @@ fn cost_from<H: Heights>(
     requires pixel { (x < scene.now.phase.width) × (y < scene.now.phase.height) }
     requires known { KnowsOpen (raster_of scene.now) (open_at mask.now) (H.knows heights.now) }
     ensures value { pos result ≡ seam_cost_from (raster_of scene.now) (open_at mask.now) (lifted (raster_of scene.now) (H.cycles_at heights.now)) x y }
-    ensures small { result ≤ 2 * 1048560 * (2 ^ 49 + 1) }
+    ensures small { result ≤ 2 * MAX_CYCLE_COST * MAX_DEPARTURE }
 {
     let to_right = edge_cost(scene, ends, mask, heights, Edge { x, y, down: false });
     to_right + edge_cost(scene, ends, mask, heights, Edge { x, y, down: true })
@@ -81,7 +81,7 @@ fn edge_cost<H: Heights>(
     requires start { (edge.x < scene.now.phase.width) × (edge.y < scene.now.phase.height) }
     requires known { KnowsOpen (raster_of scene.now) (open_at mask.now) (H.knows heights.now) }
     ensures value { pos result ≡ where_true (is_edge scene.now.phase.width scene.now.phase.height edge) (seam_edge_cost (raster_of scene.now) (open_at mask.now) (lifted (raster_of scene.now) (H.cycles_at heights.now)) edge) }
-    ensures small { result ≤ 1048560 * (2 ^ 49 + 1) }
+    ensures small { result ≤ MAX_CYCLE_COST * MAX_DEPARTURE }
 {
     if is_seam_edge(scene, ends, edge) {
         plain::edge_cost(scene, mask, heights, edge)

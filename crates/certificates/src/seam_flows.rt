@@ -7,7 +7,7 @@ ghost use Rattle.std.specs.Prelude.{◌≡◌, ℕ, ◌+◌, ◌<◌, ◌≤◌,
 use crate::numbers::are_zeros;
 use crate::seam_edges::{is_seam_edge, next_start, seams_from};
 use crate::tile_ends::TileEnds;
-use raster_model::{Edge, Heights, Mask, Scene, departure, weight};
+use raster_model::{Edge, Heights, MAX_CYCLE_COST, MAX_DEPARTURE, Mask, Scene, departure, weight};
 
 /// The seam edges of a scene under a mask, with a flow for each in edge order. If all flows are 0, they fit any weight
 /// and add up to 0 at each region, so no edge is looked at.
@@ -197,7 +197,7 @@ impl SeamFlows<'_> {
         requires is_edge { IsTrue (is_edge self.now.scene.now.phase.width self.now.scene.now.phase.height edge) }
         requires fit { unsigned_abs flow ≤ self.now.scene.now.terms.steep * masked_weight (raster_of self.now.scene.now) (open_at self.now.mask.now) edge }
         ensures value { result ≡ over_weight (masked_weight (raster_of self.now.scene.now) (open_at self.now.mask.now) edge) flow }
-        ensures small { result ≤ 1048560 }
+        ensures small { result ≤ MAX_CYCLE_COST }
     {
         if self.scene.terms.steep == 1 {
             return 0;
@@ -213,7 +213,7 @@ impl SeamFlows<'_> {
         requires fit { FlowsFit self.now }
         requires known { KnowsSeams self.now (H.knows heights.now) }
         ensures value { result ≡ part_on self.now (H.cycles_at heights.now) edge }
-        ensures small { unsigned_abs result ≤ 1048560 * (2 ^ 49 + 2) }
+        ensures small { unsigned_abs result ≤ MAX_CYCLE_COST * (MAX_DEPARTURE + 1) }
     {
         let flow = self.flow(edge, place);
         if flow == 0 {
@@ -229,7 +229,7 @@ impl SeamFlows<'_> {
         requires fit { FlowsFit self.now }
         requires known { KnowsSeams self.now (H.knows heights.now) }
         ensures value { result ≡ parts_from self.now (H.cycles_at heights.now) x y }
-        ensures small { unsigned_abs result ≤ 2 * 1048560 * (2 ^ 49 + 2) }
+        ensures small { unsigned_abs result ≤ 2 * MAX_CYCLE_COST * (MAX_DEPARTURE + 1) }
     {
         let next = self.down_place(x, y, place);
         self.part(heights, Edge { x, y, down: false }, place)
@@ -264,7 +264,7 @@ impl SeamFlows<'_> {
 fn add_to(numbers: &mut [i64], place: usize, amount: i64)
     requires place { place < length numbers.old }
     requires small { AreWithinWeights (2 ^ 31) numbers.old }
-    requires amount { unsigned_abs amount ≤ 1048560 }
+    requires amount { unsigned_abs amount ≤ MAX_CYCLE_COST }
     ensures grown { HasGrown numbers.old numbers.new (λ v. where_true (place == v) amount) }
     ensures within { (n : ℕ) → AreWithinWeights n numbers.old → AreWithinWeights (n + 1) numbers.new }
 {

@@ -6,7 +6,10 @@ use crate::cut::Cut;
 use crate::edge_costs::edge_cost;
 use crate::numbers::{are_zeros, is_same};
 use crate::verdicts::TileVerdict;
-use raster_model::{Edge, Heights, Mask, Scene, Window, departure, plain, stored_weight, weight};
+use raster_model::{
+    Edge, Heights, MAX_CYCLE_COST, MAX_DEPARTURE, MAX_SIDE, Mask, Scene, Window, departure, plain,
+    stored_weight, weight,
+};
 
 /// A tile of a scene's raster under a mask. Only contracts read its cut and its number.
 #[derive(Clone, Copy)]
@@ -347,7 +350,7 @@ impl Tile<'_> {
         requires is_edge { IsTrue (is_edge self.now.scene.now.phase.width self.now.scene.now.phase.height edge) }
         requires fit { FitAt self.now faces.now edge }
         ensures value { result ≡ over_weight (masked_weight (held_raster self.now) (held_mask self.now) edge) (difference_at self.now faces.now edge) }
-        ensures small { result ≤ 1048560 }
+        ensures small { result ≤ MAX_CYCLE_COST }
     {
         let weight = weight(self.scene, self.mask, edge);
         let difference = self.face_difference(faces, edge).unsigned_abs() as u64;
@@ -360,7 +363,7 @@ impl Tile<'_> {
         requires within { IsWithin self.now.window x y }
         requires fit { AllFit self.now faces.now }
         ensures value { pos result ≡ over_at self.now faces.now x y }
-        ensures small { result ≤ 2 * 1048560 }
+        ensures small { result ≤ 2 * MAX_CYCLE_COST }
     {
         let to_right = if x < self.window.x1 {
             self.over(faces, Edge { x, y, down: false })
@@ -381,7 +384,7 @@ impl Tile<'_> {
         requires row { (self.now.window.y0 ≤ y) × (y ≤ self.now.window.y1) }
         requires fit { AllFit self.now faces.now }
         ensures value { pos result ≡ sum_row self.now.scene.now.phase.width (over_at self.now faces.now) y }
-        ensures small { result ≤ 2 * 1048560 * 4096 }
+        ensures small { result ≤ 2 * MAX_CYCLE_COST * MAX_SIDE }
     {
         let window = self.window;
         let mut over: u64 = 0;
@@ -397,7 +400,7 @@ impl Tile<'_> {
         requires count { HasFaces self.now faces.now }
         requires fit { AllFit self.now faces.now }
         ensures value { pos result ≡ over_in self.now faces.now }
-        ensures small { result ≤ 2 * 1048560 * 2 ^ 24 }
+        ensures small { result ≤ 2 * MAX_CYCLE_COST * (MAX_SIDE * MAX_SIDE) }
     {
         if self.scene.terms.steep == 1 {
             return 0;
@@ -454,7 +457,7 @@ impl Tile<'_> {
         requires known { KnowsTile self.now (H.knows heights.now) }
         requires unmasked { IsTrue unmasked → AreRowsOpen self.now y }
         ensures value { pos result ≡ cost_at self.now (H.cycles_at heights.now) x y }
-        ensures small { result ≤ 2 * 1048560 * (2 ^ 49 + 1) }
+        ensures small { result ≤ 2 * MAX_CYCLE_COST * MAX_DEPARTURE }
     {
         let to_right = if x < self.window.x1 {
             let edge = Edge { x, y, down: false };
@@ -522,7 +525,7 @@ impl Tile<'_> {
         requires row { (self.now.window.y0 ≤ y) × (y ≤ self.now.window.y1) }
         requires known { KnowsTile self.now (H.knows heights.now) }
         ensures value { pos result ≡ sum_row self.now.scene.now.phase.width (cost_at self.now (H.cycles_at heights.now)) y }
-        ensures small { result ≤ 2 * 1048560 * (2 ^ 49 + 1) * 4096 }
+        ensures small { result ≤ 2 * MAX_CYCLE_COST * MAX_DEPARTURE * MAX_SIDE }
     {
         let unmasked = self.are_open_from(y);
         if self.is_free(heights, y, unmasked) {

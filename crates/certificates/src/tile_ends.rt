@@ -1,4 +1,5 @@
 ghost use Rattle.raster_model.specs.Limits.{IsTileSide, max_side};
+ghost use Rattle.raster_model.specs.declared.limits.TheConstants.{MAX_SIDE};
 ghost use Rattle.certificates.specs.Ends.{PassNoEnd, TellsEnds, passes_end};
 ghost use Rattle.std.specs.Prelude.{◌≡◌, ◌<◌, ◌≤◌};
 
@@ -14,7 +15,7 @@ pub struct TileEnds {
     pub side: u32,
     last: [bool; MOST],
     ghost sides: { IsTileSide side },
-    ghost told: { TellsEnds side 4096 last },
+    ghost told: { TellsEnds side MAX_SIDE last },
 }
 
 impl TileEnds {

@@ -4,6 +4,7 @@
 -- twins have the places 1 and 3. If the steepness is above 1, their capacity is 1, and a steep arc leads each way at the
 -- steepness times the weight, in the places 4 and 6, with twins in the places 5 and 7. At the weight 0 there is one arc, in
 -- the place 0, and its twin has the place 2.
+use Rattle.raster_model.specs.declared.limits.TheConstants.{MAX_CYCLE_COST, MAX_NETWORK_NODES}
 use Rattle.std.specs.Prelude.{◌≡◌, ℕ, ◌+◌, ◌-◌, ◌*◌, ◌/◌, ◌%◌, ◌<◌, ◌≤◌, ℤ, pos, negsuc, neg_ℤ, ◌-ℤ◌, Bool, true, false, ◌==◌, ◌&&◌, ◌||◌, if◌then◌else◌, nat_lt, unsigned_abs}
 use Rattle.raster_model.specs.declared.edge.Edge.{Edge}
 use Rattle.raster_model.specs.declared.tiling.Window.{Window}
@@ -97,8 +98,8 @@ AreWeighed r mask v weight = (e : Edge) → IsEdgeOf v e → weight (edge_number
 
 -- no cost is above 1048560 on either side of 0, which is 16 times the greatest weight, and there are at most 16777216 nodes
 pub record HasSmallCosts (s : Shape) : Type 0 where
-  pub costs : (a : ℕ) → IsArc s a → unsigned_abs (s.cost a) ≤ 1048560
-  pub few : s.nodes ≤ 16777216
+  pub costs : (a : ℕ) → IsArc s a → unsigned_abs (s.cost a) ≤ MAX_CYCLE_COST
+  pub few : s.nodes ≤ MAX_NETWORK_NODES
 
 -- from any set of nodes, except the empty one and the whole, an arc leads out that has at the start the capacity of as many units as there are nodes
 abbrev pub IsConnected : (ℕ → ℕ) → Shape → Type 0

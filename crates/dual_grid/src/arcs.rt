@@ -2,6 +2,8 @@ ghost use Rattle.dual_grid.specs.Building.{IsPlaceBelow};
 ghost use Rattle.dual_grid.specs.Grids.{along as along_of, amount_of, carried as carried_by, cost_of_place, is_split as is_split_at, is_taken, leads_forth as leads_forth_of, plain_residual, residual_at as residual_of, split_residual, twin_place as twin_of};
 ghost use Rattle.std.specs.Prelude.{◌≡◌, ◌<◌, ◌≤◌, ◌+ℤ◌, ◌-ℤ◌, if◌then◌else◌, IsTrue, pos, unsigned_abs};
 
+use raster_model::MAX_NETWORK_NODES;
+
 /// Whether there are steep arcs across an edge of this weight: then the other arcs there have the capacity 1.
 pub(crate) fn is_split(steep: u32, weight: u32) -> bool
     ensures { result ≡ is_split_at steep weight }
@@ -45,9 +47,9 @@ pub(crate) fn size_of_cost(steep: u32, weight: u32, place: u32) -> u64
 
 /// A flow from the first side of an edge to the other, seen in the direction of the arc in a place.
 fn along(flow: i32, place: u32) -> i32
-    requires { unsigned_abs flow ≤ 16777217 }
+    requires { unsigned_abs flow ≤ MAX_NETWORK_NODES + 1 }
     ensures value { result ≡ along_of flow place }
-    ensures within { unsigned_abs result ≤ 16777217 }
+    ensures within { unsigned_abs result ≤ MAX_NETWORK_NODES + 1 }
 {
     if leads_forth(place) { flow } else { -flow }
 }
@@ -61,7 +63,7 @@ fn amount(number: i32) -> u32
 
 /// What of a flow an arc from side to side has carried, of which the place is that or its twin's.
 fn carried(flow: i32, place: u32) -> u32
-    requires { unsigned_abs flow ≤ 16777217 }
+    requires { unsigned_abs flow ≤ MAX_NETWORK_NODES + 1 }
     ensures { result ≡ carried_by flow place }
 {
     let forth = place % 4 < 2;
@@ -101,8 +103,8 @@ fn split_left(most: u32, units: u32, place: u32) -> u32
 /// The residual capacity of the arc in a place across an edge of this weight, with this flow across the edge. `most` is
 /// what an arc can carry that has no other beside it, or that is steep.
 pub(crate) fn residual_at(most: u32, steep: u32, weight: u32, flow: i32, place: u32) -> u64
-    requires most { most ≤ 16777216 }
-    requires flow { unsigned_abs flow ≤ 16777217 }
+    requires most { most ≤ MAX_NETWORK_NODES }
+    requires flow { unsigned_abs flow ≤ MAX_NETWORK_NODES + 1 }
     ensures { result ≡ residual_of most steep weight flow place }
 {
     if weight == 0 {
@@ -118,8 +120,8 @@ pub(crate) fn residual_at(most: u32, steep: u32, weight: u32, flow: i32, place: 
 
 /// The flow from the first side of an edge to the other, after an amount went along the arc in a place.
 pub(crate) fn flow_after(flow: i32, place: u32, amount: u64) -> i32
-    requires flow { unsigned_abs flow ≤ 16777217 }
-    requires amount { amount ≤ 33554433 }
+    requires flow { unsigned_abs flow ≤ MAX_NETWORK_NODES + 1 }
+    requires amount { amount ≤ 2 * MAX_NETWORK_NODES + 1 }
     ensures { result ≡ (if leads_forth_of place then flow +ℤ pos amount else flow -ℤ pos amount) }
 {
     if leads_forth(place) {

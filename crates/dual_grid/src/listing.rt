@@ -7,7 +7,7 @@ ghost use Rattle.wrapped_gradient.specs.Rows.{AreInRows};
 ghost use Rattle.raster_model.specs.Tiles.{width_of, height_of};
 
 use crate::weighing::weight;
-use raster_model::{Edge, Scene, Window};
+use raster_model::{Edge, MAX_WEIGHT, Scene, Window};
 use std::alloc::{AllocError, Global};
 use wrapped_gradient::Gradients;
 
@@ -20,7 +20,7 @@ pub(crate) fn right_weights(
 ) -> Result<Vec<i32>, AllocError>
     requires { IsMadeFor scene.now window unmasked.now }
     ensures rows { IfOk result (λ list. AreInRows (right_edge_weights scene.now window unmasked.now) window.x0 window.y0 (width_of window - 1) ((width_of window - 1) * height_of window) list.items) }
-    ensures small { IfOk result (λ list. (k : ℕ) → unsigned_abs (get_or list.items k (pos 0)) ≤ 65535) }
+    ensures small { IfOk result (λ list. (k : ℕ) → unsigned_abs (get_or list.items k (pos 0)) ≤ MAX_WEIGHT) }
 {
     let across = (window.x1 - window.x0) as usize;
     let along = window.height() as usize;
@@ -43,7 +43,7 @@ pub(crate) fn down_weights(
 ) -> Result<Vec<i32>, AllocError>
     requires { IsMadeFor scene.now window unmasked.now }
     ensures rows { IfOk result (λ list. AreInRows (down_edge_weights scene.now window unmasked.now) window.x0 window.y0 (width_of window) (width_of window * (height_of window - 1)) list.items) }
-    ensures small { IfOk result (λ list. (k : ℕ) → unsigned_abs (get_or list.items k (pos 0)) ≤ 65535) }
+    ensures small { IfOk result (λ list. (k : ℕ) → unsigned_abs (get_or list.items k (pos 0)) ≤ MAX_WEIGHT) }
 {
     let across = (window.x1 - window.x0) as usize + 1;
     let along = (window.y1 - window.y0) as usize;

@@ -8,7 +8,7 @@ ghost use Rattle.std.specs.Prelude.{◌≡◌, ◌==◌, ◌+◌, ◌<◌, ◌�
 ghost use Rattle.sums_and_lists.specs.Sums.{sum_below, where_true};
 
 use crate::beside::{first_at, other_at};
-use raster_model::Window;
+use raster_model::{MAX_NETWORK_NODES, Window};
 use std::alloc::{AllocError, Global};
 
 /// The farthest from 0 that a face may lie.
@@ -30,7 +30,7 @@ pub(crate) fn are_low(faces: &[i64]) -> bool
 /// The potentials of the nodes where the cells have these faces: minus each face, and 0 for the outside.
 pub(crate) fn turned(alloc: Global, faces: &[i64]) -> Result<Vec<i64>, AllocError>
     requires low { AreLow faces.now }
-    requires few { length faces.now ≤ 16777216 }
+    requires few { length faces.now ≤ MAX_NETWORK_NODES }
     ensures { IfOk result (λ potentials. AreTurnedFaces faces.now potentials.items) }
 {
     let mut potentials = Vec::with_capacity(alloc, faces.len() + 1)?;
@@ -69,8 +69,8 @@ pub(crate) fn move_flows(window: Window, flows: &[i32], excesses: &mut Vec<i64>)
     requires limited { IsRasterWindow window }
     requires edges { length flows.now ≡ edges_of window }
     requires nodes { length excesses.old.items ≡ cells_of window + 1 }
-    requires flows { AreSmallNumbers 16777216 flows.now }
-    requires small { (u : ℕ) → unsigned_abs (number_or_zero excesses.old.items u) ≤ 16777216 }
+    requires flows { AreSmallNumbers MAX_NETWORK_NODES flows.now }
+    requires small { (u : ℕ) → unsigned_abs (number_or_zero excesses.old.items u) ≤ MAX_NETWORK_NODES }
     ensures length { length excesses.new.items ≡ cells_of window + 1 }
     ensures moved { (u : ℕ) → number_or_zero excesses.new.items u ≡ number_or_zero excesses.old.items u -ℤ sum_below (edges_of window) (leaves window (number_or_zero flows.now) u) }
     ensures small { (u : ℕ) → unsigned_abs (number_or_zero excesses.new.items u) ≤ 2 ^ 60 }

@@ -5,6 +5,7 @@ ghost use Rattle.wrapped_gradient.specs.Gradients.{residue_at};
 ghost use Rattle.wrapped_gradient.specs.Rows.{AreInRows};
 
 use crate::sides::outside;
+use raster_model::MAX_NETWORK_NODES;
 use std::alloc::{AllocError, Global};
 use wrapped_gradient::Gradients;
 
@@ -37,7 +38,7 @@ fn residues(alloc: Global, gradients: &Gradients) -> Result<Vec<i64>, AllocError
 
 /// Minus the sum of numbers from -1 to 1.
 fn minus_sum(numbers: &[i64]) -> i64
-    requires few { length numbers.now ≤ 16777216 }
+    requires few { length numbers.now ≤ MAX_NETWORK_NODES }
     requires small { (k : ℕ) → unsigned_abs (get_or numbers.now k (pos 0)) ≤ 1 }
     ensures { result ≡ neg_ℤ (sum_of_first numbers.now (length numbers.now)) }
 {

@@ -1,10 +1,11 @@
 -- Limits of what words may ask.
 use Rattle.std.specs.Prelude.{◌≤◌, ℕ}
 use Rattle.raster_model.specs.Limits.{max_pixels, max_side}
+use Rattle.raster_model.specs.declared.limits.TheConstants.{MAX_WORKERS}
 
 -- how many workers there may be
 abbrev pub IsWorkers : ℕ → Type 0
-IsWorkers workers = (1 ≤ workers) × (workers ≤ 8)
+IsWorkers workers = (1 ≤ workers) × (workers ≤ MAX_WORKERS)
 
 -- how many readers there may be, and how often each may look
 abbrev pub IsReaders : ℕ → Type 0

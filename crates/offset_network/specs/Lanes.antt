@@ -1,4 +1,5 @@
 -- Lanes: the parts of the flows on links. What flows on a link is the sum of what flows on its three lanes, of which each takes a part of it for one departure. No public clause cites this file.
+use Rattle.raster_model.specs.declared.limits.TheConstants.{MAX_FURTHER_COST, MAX_REGIONS, MAX_SEAM_DEPARTURE}
 use Rattle.std.specs.Prelude.{◌≡◌, ℕ, zero, suc, ◌+◌, ◌-◌, ◌*◌, ◌<◌, ◌≤◌, ◌==◌, ℤ, pos, negsuc, neg_ℤ, ◌-ℤ◌, Option, Some, None, List, [], ◌∷◌, ◌++◌, length, slice_index_or, unsigned_abs, if◌then◌else◌}
 use Rattle.offset_guess.specs.declared.link.Link.{Link}
 use Rattle.offset_network.specs.declared.lane.Lane.{Lane}
@@ -41,9 +42,9 @@ arcs_before lanes i = count_below i (λ j. arcs_of (lane_at lanes j))
 pub record IsLane (n : ℕ) (k : Lane) : Type 0 where
   pub from : k.from < n
   pub to : k.to < n
-  pub low : k.low ≤ 983025
-  pub high : k.high ≤ 983025
-  pub departure : unsigned_abs k.departure ≤ 16777218
+  pub low : k.low ≤ MAX_FURTHER_COST
+  pub high : k.high ≤ MAX_FURTHER_COST
+  pub departure : unsigned_abs k.departure ≤ (MAX_SEAM_DEPARTURE + 1)
 
 abbrev pub IsLaneIn : ℕ → Option Lane → Type 0
 IsLaneIn n o = (k : Lane) → o ≡ Some k → IsLane n k
@@ -51,7 +52,7 @@ IsLaneIn n o = (k : Lane) → o ≡ Some k → IsLane n k
 -- lanes between n regions, of which there are no more than three for each edge that a raster can have
 pub record AreLanes (n : ℕ) (lanes : List (Option Lane)) : Type 0 where
   pub few : length lanes ≤ 100663296
-  pub regions : n ≤ 3145728
+  pub regions : n ≤ MAX_REGIONS
   pub each : (i : ℕ) → IsLaneIn n (lane_at lanes i)
 
 -- a lane of a link for the departure less so much, if anything can flow on it

@@ -1,4 +1,5 @@
 -- Seam edges with open ends as links between regions, in edge order; None stands for a seam edge with a masked end. No public clause cites this file.
+use Rattle.raster_model.specs.declared.limits.TheConstants.{MAX_NETWORK_NODES, MAX_REGIONS, MAX_SEAM_DEPARTURE, MAX_WEIGHT}
 use Rattle.std.specs.Prelude.{◌≡◌, ℕ, ◌<◌, ◌≤◌, Option, Some, None, List, length, slice_index_or, unsigned_abs}
 use Rattle.offset_guess.specs.declared.link.Link.{Link}
 
@@ -10,14 +11,14 @@ link_at links i = slice_index_or links i None
 pub record IsLink (n : ℕ) (k : Link) : Type 0 where
   pub from : k.from < n
   pub to : k.to < n
-  pub weight : k.weight ≤ 65535
-  pub departure : unsigned_abs k.departure ≤ 16777217
+  pub weight : k.weight ≤ MAX_WEIGHT
+  pub departure : unsigned_abs k.departure ≤ MAX_SEAM_DEPARTURE
 
 abbrev pub IsLinkIn : ℕ → Option Link → Type 0
 IsLinkIn n o = (k : Link) → o ≡ Some k → IsLink n k
 
 -- links between n regions, of which there are no more than a raster can have edges
 pub record AreLinks (n : ℕ) (links : List (Option Link)) : Type 0 where
-  pub few : length links ≤ 33554432
-  pub regions : n ≤ 3145728
+  pub few : length links ≤ 2 * MAX_NETWORK_NODES
+  pub regions : n ≤ MAX_REGIONS
   pub each : (i : ℕ) → IsLinkIn n (link_at links i)

@@ -1,4 +1,5 @@
 -- The network of some lanes: while it is made, while flow moves in it, and solved. No public clause cites this file.
+use Rattle.raster_model.specs.declared.limits.TheConstants.{MAX_SEAM_DEPARTURE}
 use Rattle.std.specs.Prelude.{◌≡◌, ℕ, ◌+◌, ◌*◌, ◌<◌, ◌≤◌, ◌==◌, ℤ, pos, neg_ℤ, ◌+ℤ◌, ◌-ℤ◌, ◌≤ℤ◌, Option, Some, None, List, length, slice_index_or, unsigned_abs}
 use Rattle.flow_network.specs.Nets.{Shape, State, IsArc, HasReducedCosts, HasNoExcess}
 use Rattle.flow_network.specs.Growing.{AddsArc, supply_sum, supply_sizes, total_amount}
@@ -49,7 +50,7 @@ pub record IsStarted (n : ℕ) (lanes : List (Option Lane)) (i : ℕ) (s : Shape
   pub flows : (j : ℕ) → j < i → lane_flow lanes f j ≡ start_flow (lane_at lanes j)
   pub excess : (v : ℕ) → v < n → f.excess v ≡ supply_of lanes (length lanes) v
   pub flat : (v : ℕ) → v < n → f.potential v ≡ pos 0
-  pub costs : (a : ℕ) → a < s.arcs → unsigned_abs (s.cost a) ≤ 16777218
+  pub costs : (a : ℕ) → a < s.arcs → unsigned_abs (s.cost a) ≤ (MAX_SEAM_DEPARTURE + 1)
   pub amount : total_amount s f ≤ℤ pos (1966050 * (length lanes + i))
 
 -- each region's excess is what the flows bring to it
@@ -61,7 +62,7 @@ pub record IsSolved (n : ℕ) (lanes : List (Option Lane)) (s : Shape) (f : Stat
   pub built : HasArcs n lanes (length lanes) s f
   pub flows : HasFlows n lanes f
   pub balanced : HasNoExcess s f
-  pub heights : LiesWithin s f 16777218
+  pub heights : LiesWithin s f (MAX_SEAM_DEPARTURE + 1)
   pub reduced : HasReducedCosts s f
 
 -- the flows of the first i lanes

@@ -1,4 +1,5 @@
 -- Where the network starts: an offset for each region, and the links of the surface with these offsets. No public clause cites this file.
+use Rattle.offset_network.specs.declared.start.TheConstants.{MAX_START}
 use Rattle.std.specs.Prelude.{◌≡◌, ℕ, ◌<◌, ◌≤◌, ◌^◌, ℤ, pos, ◌+ℤ◌, ◌-ℤ◌, Option, Some, None, List, length, slice_index_or, unsigned_abs}
 use Rattle.offset_guess.specs.declared.link.Link.{Link}
 use Rattle.offset_network.specs.declared.start.Start.{Start}
@@ -7,7 +8,7 @@ use Rattle.offset_network.specs.Links.{AreLinks, link_at}
 -- one offset for each of n regions, each from -2 ^ 42 to 2 ^ 42
 pub record AreStartOffsets (n : ℕ) (offsets : List ℤ) : Type 0 where
   pub count : length offsets ≡ n
-  pub small : (v : ℕ) → v < n → unsigned_abs (slice_index_or offsets v (pos 0)) ≤ 2 ^ 42
+  pub small : (v : ℕ) → v < n → unsigned_abs (slice_index_or offsets v (pos 0)) ≤ MAX_START
 
 -- a link's departure once its regions have these offsets
 abbrev pub moved_departure : List ℤ → Link → ℤ

@@ -11,18 +11,21 @@ ghost use Rattle.shortest_augment.specs.Balance.{LiesWithin};
 ghost use Rattle.std.specs.Prelude.{◌≡◌, ℕ, ◌+◌, ◌*◌, ◌<◌, ◌≤◌, ◌+ℤ◌, ◌≤ℤ◌, IfNone, IfOk, IfSome, Some, length, neg_ℤ, pos, slice_index_or, unsigned_abs, ◌^◌};
 
 use crate::lane::{Lane, arcs_of};
+use crate::start::MAX_START;
 use crate::surface::TileSurface;
 use flow_network::{FlowNet, Network};
-use raster_model::first_open;
+use raster_model::{
+    MAX_FURTHER_COST, MAX_OFFSET, MAX_REGIONS, MAX_SEAM_DEPARTURE, MAX_TILE_CYCLES, first_open,
+};
 use seam_regions::Regions;
 use std::alloc::{AllocError, Global};
 
 /// The flow on a lane, from its first region to the other. `arc` is the number of the lane's arc.
 fn flow(net: &Network, lane: Option<Lane>, arc: u32) -> i64
     requires arc { (k : Lane) → lane ≡ Some k → IsArcOf (shape_of net.now) (state_of net.now) arc k }
-    requires range { (k : Lane) → lane ≡ Some k → (k.low ≤ 983025) × (k.high ≤ 983025) }
+    requires range { (k : Lane) → lane ≡ Some k → (k.low ≤ MAX_FURTHER_COST) × (k.high ≤ MAX_FURTHER_COST) }
     ensures value { result ≡ flow_left lane ((state_of net.now).residual arc) }
-    ensures small { unsigned_abs result ≤ 983025 }
+    ensures small { unsigned_abs result ≤ MAX_FURTHER_COST }
 {
     match lane {
         None => 0,
@@ -39,7 +42,7 @@ pub(crate) fn flows(
     requires lanes { AreLanes (shape_of net.now).nodes lanes.now }
     requires arcs { HasArcs (shape_of net.now).nodes lanes.now (length lanes.now) (shape_of net.now) (state_of net.now) }
     ensures flows { IfOk result (λ flows. AreFlows lanes.now (state_of net.now) (length lanes.now) flows.items) }
-    ensures small { IfOk result (λ flows. (j : ℕ) → unsigned_abs (slice_index_or flows.items j (pos 0)) ≤ 983025) }
+    ensures small { IfOk result (λ flows. (j : ℕ) → unsigned_abs (slice_index_or flows.items j (pos 0)) ≤ MAX_FURTHER_COST) }
 {
     let mut flows = Vec::with_capacity(alloc, lanes.len())?;
     let mut arc = 0;
@@ -57,7 +60,7 @@ pub(crate) fn sums_of_three(
     links: usize,
 ) -> Result<Vec<i64>, AllocError>
     requires count { length parts.now ≡ 3 * links }
-    requires small { (j : ℕ) → unsigned_abs (slice_index_or parts.now j (pos 0)) ≤ 983025 }
+    requires small { (j : ℕ) → unsigned_abs (slice_index_or parts.now j (pos 0)) ≤ MAX_FURTHER_COST }
     ensures { IfOk result (λ sums. AreSums parts.now links sums.items) }
 {
     let mut sums = Vec::with_capacity(alloc, links)?;
@@ -71,12 +74,12 @@ pub(crate) fn sums_of_three(
 /// How high a region lies, in whole cycles: its offset at the start plus the potential of its node.
 fn height(net: &Network, start: &[i64], region: u32) -> i64
     requires region { region < (shape_of net.now).nodes }
-    requires heights { LiesWithin (shape_of net.now) (state_of net.now) 16777218 }
-    requires few { (shape_of net.now).nodes ≤ 3145728 }
+    requires heights { LiesWithin (shape_of net.now) (state_of net.now) (MAX_SEAM_DEPARTURE + 1) }
+    requires few { (shape_of net.now).nodes ≤ MAX_REGIONS }
     requires start { AreStartOffsets (shape_of net.now).nodes start.now }
     ensures value { result ≡ raised_height start.now (state_of net.now) region }
-    ensures low { neg_ℤ (pos (2 ^ 42)) ≤ℤ result }
-    ensures high { result ≤ℤ pos ((shape_of net.now).nodes * 16777218 + 2 ^ 42) }
+    ensures low { neg_ℤ (pos MAX_START) ≤ℤ result }
+    ensures high { result ≤ℤ pos ((shape_of net.now).nodes * (MAX_SEAM_DEPARTURE + 1) + MAX_START) }
 {
     start[region as usize] + net.potential(region)
 }
@@ -86,11 +89,11 @@ fn height(net: &Network, start: &[i64], region: u32) -> i64
 pub(crate) fn anchor(surface: &TileSurface, regions: &Regions, net: &Network, start: &[i64]) -> i64
     requires regions { AreRegionsOf surface.now.scene.now.tiling surface.now.mask.now regions.now }
     requires nodes { (shape_of net.now).nodes ≡ regions.now.count }
-    requires heights { LiesWithin (shape_of net.now) (state_of net.now) 16777218 }
+    requires heights { LiesWithin (shape_of net.now) (state_of net.now) (MAX_SEAM_DEPARTURE + 1) }
     requires start { AreStartOffsets regions.now.count start.now }
     ensures value { (x y : ℕ) → IsFirstOpen (raster_of surface.now.scene.now) (open_at surface.now.mask.now) x y → result ≡ (raised_height start.now (state_of net.now) (region_label regions.now x y) +ℤ solved_cycles surface.now.scene.now surface.now.tiles.now.results x y) }
-    ensures low { neg_ℤ (pos (2 ^ 42 + 8388608)) ≤ℤ result }
-    ensures high { result ≤ℤ pos (regions.now.count * 16777218 + 2 ^ 42 + 8388608) }
+    ensures low { neg_ℤ (pos (MAX_START + MAX_TILE_CYCLES)) ≤ℤ result }
+    ensures high { result ≤ℤ pos (regions.now.count * (MAX_SEAM_DEPARTURE + 1) + MAX_START + MAX_TILE_CYCLES) }
 {
     let Some((x, y)) = first_open(surface.scene, surface.mask) else {
         return 0;
@@ -108,10 +111,10 @@ pub(crate) fn lowered(
     start: &[i64],
     by: i64,
 ) -> Result<Vec<i64>, AllocError>
-    requires heights { LiesWithin (shape_of net.now) (state_of net.now) 16777218 }
-    requires few { (shape_of net.now).nodes ≤ 3145728 }
+    requires heights { LiesWithin (shape_of net.now) (state_of net.now) (MAX_SEAM_DEPARTURE + 1) }
+    requires few { (shape_of net.now).nodes ≤ MAX_REGIONS }
     requires start { AreStartOffsets (shape_of net.now).nodes start.now }
-    requires small { unsigned_abs by ≤ 2 ^ 47 }
+    requires small { unsigned_abs by ≤ 2 * MAX_OFFSET }
     ensures { IfOk result (λ offsets. AreLowered start.now (state_of net.now) by (shape_of net.now).nodes offsets.items) }
 {
     let mut offsets = Vec::with_capacity(alloc, net.nodes() as usize)?;

@@ -7,7 +7,7 @@ ghost use Rattle.std.specs.Prelude.{◌≡◌, ℕ, ◌+◌, ◌*◌, ◌<◌, �
 ghost use Rattle.sums_and_lists.specs.Sums.{where_true};
 
 use offset_guess::Link;
-use raster_model::Terms;
+use raster_model::{MAX_CYCLE_COST, MAX_OFFSET, MAX_SEAM_DEPARTURE, Terms};
 use std::alloc::{AllocError, Global};
 
 /// By how many whole cycles the surface departs at a link with an offset more on each region.
@@ -15,7 +15,7 @@ fn departure(link: Link, offsets: &[i64]) -> i64
     requires fits { IsLink (length offsets.now) link }
     requires near { AreNear offsets.now }
     ensures value { result ≡ departure_moved offsets.now link }
-    ensures small { unsigned_abs result ≤ 2 ^ 47 + 16777217 }
+    ensures small { unsigned_abs result ≤ 2 * MAX_OFFSET + MAX_SEAM_DEPARTURE }
 {
     let rise = offsets[link.to as usize] - offsets[link.from as usize];
     i64::from(link.departure) + rise
@@ -60,7 +60,7 @@ fn are_fair(terms: Terms, offsets: &[i64], links: &[Option<Link>], flows: &[i64]
 fn add_to(numbers: &mut [i64], place: usize, amount: i64)
     requires place { place < length numbers.old }
     requires small { AreWithinWeights (2 ^ 31) numbers.old }
-    requires amount { unsigned_abs amount ≤ 1048560 }
+    requires amount { unsigned_abs amount ≤ MAX_CYCLE_COST }
     ensures grown { HasGrown numbers.old numbers.new (λ v. where_true (place == v) amount) }
     ensures within { (n : ℕ) → AreWithinWeights n numbers.old → AreWithinWeights (n + 1) numbers.new }
 {
@@ -70,7 +70,7 @@ fn add_to(numbers: &mut [i64], place: usize, amount: i64)
 /// Moves the flow on a link from the sum of its first region to that of the other.
 fn move_flow(sums: &mut [i64], link: Option<Link>, flow: i64)
     requires fits { IsLinkIn (length sums.old) link }
-    requires flow { unsigned_abs flow ≤ 1048560 }
+    requires flow { unsigned_abs flow ≤ MAX_CYCLE_COST }
     requires small { AreWithinWeights (2 ^ 30) sums.old }
     ensures grown { HasGrown sums.old sums.new (brought_by link flow) }
     ensures within { (n : ℕ) → AreWithinWeights n sums.old → AreWithinWeights (n + 2) sums.new }
@@ -88,7 +88,7 @@ fn move_flow(sums: &mut [i64], link: Option<Link>, flow: i64)
 fn move_flows(sums: &mut [i64], links: &[Option<Link>], flows: &[i64])
     requires links { AreLinks (length sums.old) links.now }
     requires count { length flows.now ≡ length links.now }
-    requires flows { (j : ℕ) → unsigned_abs (flow_on flows.now j) ≤ 1048560 }
+    requires flows { (j : ℕ) → unsigned_abs (flow_on flows.now j) ≤ MAX_CYCLE_COST }
     requires zeros { AreWithinWeights 0 sums.old }
     ensures { HasGrown sums.old sums.new (brought_before links.now flows.now (length links.now)) }
 {
@@ -108,7 +108,7 @@ fn are_zeros(numbers: &[i64]) -> bool
 fn are_balanced(sums: &mut [i64], links: &[Option<Link>], flows: &[i64]) -> bool
     requires links { AreLinks (length sums.old) links.now }
     requires count { length flows.now ≡ length links.now }
-    requires flows { (j : ℕ) → unsigned_abs (flow_on flows.now j) ≤ 1048560 }
+    requires flows { (j : ℕ) → unsigned_abs (flow_on flows.now j) ≤ MAX_CYCLE_COST }
     requires zeros { AreWithinWeights 0 sums.old }
     ensures { IsTrue result → (v : ℕ) → v < length sums.old → brought_before links.now flows.now (length links.now) v ≡ pos 0 }
 {

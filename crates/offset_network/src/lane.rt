@@ -1,6 +1,8 @@
 ghost use Rattle.offset_network.specs.Lanes.{arcs_of as arcs_of_lane, lane_start};
 ghost use Rattle.std.specs.Prelude.{◌≡◌, ◌≤◌, ◌+ℤ◌, ◌-ℤ◌, pos};
 
+use raster_model::MAX_FURTHER_COST;
+
 /// A part of the flow on a seam edge with open ends: it lies from `-low` to `high`, and where the surface departs, from
 /// the wrapped difference moved by the lane's cycles, it lies at an end of that range.
 #[derive(Clone, Copy)]
@@ -33,7 +35,7 @@ pub(crate) fn start_flow(lane: Lane) -> i64
 
 /// The residual capacity of a lane's arc at the start.
 pub(crate) fn forward(lane: Lane) -> u64
-    requires { (lane.low ≤ 983025) × (lane.high ≤ 983025) }
+    requires { (lane.low ≤ MAX_FURTHER_COST) × (lane.high ≤ MAX_FURTHER_COST) }
     ensures { pos result ≡ (pos lane.high -ℤ lane_start lane) }
 {
     (i64::from(lane.high) - start_flow(lane)) as u64
@@ -41,7 +43,7 @@ pub(crate) fn forward(lane: Lane) -> u64
 
 /// The residual capacity of the arc's twin at the start.
 pub(crate) fn back(lane: Lane) -> u64
-    requires { (lane.low ≤ 983025) × (lane.high ≤ 983025) }
+    requires { (lane.low ≤ MAX_FURTHER_COST) × (lane.high ≤ MAX_FURTHER_COST) }
     ensures { pos result ≡ (pos lane.low +ℤ lane_start lane) }
 {
     (i64::from(lane.low) + start_flow(lane)) as u64

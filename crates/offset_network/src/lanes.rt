@@ -5,6 +5,7 @@ ghost use Rattle.std.specs.Prelude.{◌≡◌, ◌≤◌, IfOk, OnOk, Some, leng
 
 use crate::lane::Lane;
 use offset_guess::Link;
+use raster_model::{MAX_FURTHER_COST, MAX_SEAM_DEPARTURE, MAX_WEIGHT};
 use std::alloc::{AllocError, Global};
 
 /// The weight of a link, and 0 where there is none.
@@ -20,8 +21,8 @@ fn weight_of(link: Option<Link>) -> u32
 /// The lane of a link on which `low` can flow back and `high` can flow on, for the link's departure less so many cycles.
 /// There is none if nothing can flow.
 fn lane(link: Option<Link>, low: u32, high: u32, less: i64) -> Option<Lane>
-    requires departure { (k : Link) → link ≡ Some k → unsigned_abs k.departure ≤ 16777217 }
-    requires range { (low ≤ 983025) × (high ≤ 983025) }
+    requires departure { (k : Link) → link ≡ Some k → unsigned_abs k.departure ≤ MAX_SEAM_DEPARTURE }
+    requires range { (low ≤ MAX_FURTHER_COST) × (high ≤ MAX_FURTHER_COST) }
     requires less { unsigned_abs less ≤ 1 }
     ensures { result ≡ lane_of link low high less }
 {
@@ -45,7 +46,7 @@ fn push_lanes(
     steep: u32,
     lanes: &mut Vec<Option<Lane>>,
 ) -> Result<(), AllocError>
-    requires small { (k : Link) → link ≡ Some k → (k.weight ≤ 65535) × (unsigned_abs k.departure ≤ 16777217) }
+    requires small { (k : Link) → link ≡ Some k → (k.weight ≤ MAX_WEIGHT) × (unsigned_abs k.departure ≤ MAX_SEAM_DEPARTURE) }
     requires steepness { IsSteepness steep }
     ensures { OnOk result (lanes.new.items ≡ with_lanes steep link lanes.old.items) }
 {

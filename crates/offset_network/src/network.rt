@@ -6,6 +6,7 @@ ghost use Rattle.std.specs.Prelude.{◌≡◌, ℕ, ◌+◌, ◌<◌, ◌≤◌,
 
 use crate::lane::{Lane, back, forward, start_flow};
 use flow_network::Network;
+use raster_model::MAX_FURTHER_COST;
 use shortest_augment::{BalanceFault, balance};
 use std::alloc::{AllocError, Global};
 
@@ -13,9 +14,9 @@ use std::alloc::{AllocError, Global};
 fn add_to(numbers: &mut Vec<i64>, place: usize, amount: i64)
     requires place { place < length numbers.old.items }
     requires small { (v : ℕ) → unsigned_abs (slice_index_or numbers.old.items v (pos 0)) ≤ 2 ^ 61 }
-    requires amount { unsigned_abs amount ≤ 983025 }
+    requires amount { unsigned_abs amount ≤ MAX_FURTHER_COST }
     ensures added { AddsAt numbers.old.items numbers.new.items place amount }
-    ensures small { (m : ℕ) → ((v : ℕ) → unsigned_abs (slice_index_or numbers.old.items v (pos 0)) ≤ m) → (v : ℕ) → unsigned_abs (slice_index_or numbers.new.items v (pos 0)) ≤ m + 983025 }
+    ensures small { (m : ℕ) → ((v : ℕ) → unsigned_abs (slice_index_or numbers.old.items v (pos 0)) ≤ m) → (v : ℕ) → unsigned_abs (slice_index_or numbers.new.items v (pos 0)) ≤ m + MAX_FURTHER_COST }
 {
     numbers[place] += amount;
 }

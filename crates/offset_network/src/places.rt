@@ -3,7 +3,7 @@ ghost use Rattle.raster_model.specs.Limits.{IsTileSide, max_side};
 ghost use Rattle.raster_model.specs.Tiles.{columns_of_tiles};
 ghost use Rattle.std.specs.Prelude.{◌≡◌, ◌<◌, ◌≤◌, IfOk};
 
-use raster_model::{Tiling, Window};
+use raster_model::{MAX_SIDE, Tiling, Window};
 use std::alloc::{AllocError, Global};
 
 /// Where a column or a row of a raster lies among the tiles.
@@ -77,7 +77,7 @@ impl TilePlaces {
 fn one_place(index: u32, count: u32, side: u32, step: u32) -> Place
     requires within { (index < count) × (count ≤ max_side) }
     requires side { IsTileSide side }
-    requires step { step ≤ 8192 }
+    requires step { step ≤ 2 * MAX_SIDE }
     ensures { result ≡ tile_place count side step index }
 {
     let block = index / side;
@@ -93,7 +93,7 @@ fn one_place(index: u32, count: u32, side: u32, step: u32) -> Place
 fn places(alloc: Global, count: u32, side: u32, step: u32) -> Result<Vec<Place>, AllocError>
     requires few { count ≤ max_side }
     requires side { IsTileSide side }
-    requires step { step ≤ 8192 }
+    requires step { step ≤ 2 * MAX_SIDE }
     ensures { IfOk result (λ places. ArePlaces count side step count places.items) }
 {
     let mut places = Vec::with_capacity(alloc, count as usize)?;

@@ -3,13 +3,11 @@ ghost use Rattle.offset_network.specs.Starts.{AreMovedLinks, AreStartOffsets, Is
 ghost use Rattle.std.specs.Prelude.{◌≡◌, ◌≤◌, IfOk, IfSome, IsTrue, length, unsigned_abs};
 
 use offset_guess::Link;
+use raster_model::MAX_SEAM_DEPARTURE;
 use std::alloc::{AllocError, Global};
 
-/// The greatest absolute offset at the start, in whole cycles: 2^42.
-const MAX_START: u64 = 4_398_046_511_104;
-
-/// The greatest absolute departure of a link, in whole cycles: 2^24 + 1.
-const MAX_DEPARTURE: u64 = 16_777_217;
+/// The greatest absolute offset at the start, in whole cycles.
+pub(crate) const MAX_START: u64 = 1 << 42;
 
 /// Where the network starts.
 #[derive(Drop)]
@@ -92,11 +90,11 @@ fn moved_departure(link: Link, offsets: &[i64]) -> Option<i32>
     requires fits { IsLink (length offsets.now) link }
     requires small { AreStartOffsets (length offsets.now) offsets.now }
     ensures value { IfSome result (λ departure. departure ≡ departure_moved offsets.now link) }
-    ensures small { IfSome result (λ departure. unsigned_abs departure ≤ 16777217) }
+    ensures small { IfSome result (λ departure. unsigned_abs departure ≤ MAX_SEAM_DEPARTURE) }
 {
     let rise = offsets[link.to as usize] - offsets[link.from as usize];
     let departure = i64::from(link.departure) + rise;
-    if departure.unsigned_abs() > MAX_DEPARTURE {
+    if departure.unsigned_abs() > MAX_SEAM_DEPARTURE {
         return None;
     }
     Some(departure as i32)

@@ -8,7 +8,7 @@ ghost use Rattle.std.specs.Prelude.{◌≡◌, ◌≤◌, ◌&&◌, IsTrue, unsi
 
 use crate::places::TilePlaces;
 use certificates::TileSet;
-use raster_model::{Edge, Mask, Scene, turns};
+use raster_model::{Edge, MAX_SEAM_DEPARTURE, MAX_TILE_CYCLES, Mask, Scene, turns};
 
 /// The surface of the tiles' results, each as it was solved, without offsets.
 #[derive(Clone, Copy)]
@@ -27,7 +27,7 @@ impl TileSurface<'_> {
     pub(crate) fn at(&self, x: u32, y: u32) -> i32
         requires { IsTrue (is_pixel self.now.scene.now.phase.width self.now.scene.now.phase.height x y && open_at self.now.mask.now x y) }
         ensures value { result ≡ solved_cycles self.now.scene.now self.now.tiles.now.results x y }
-        ensures small { unsigned_abs result ≤ 8388608 }
+        ensures small { unsigned_abs result ≤ MAX_TILE_CYCLES }
     {
         let spot = self.places.locate(x, y);
         self.tiles.tile(spot.tile).cycles[spot.window.place(x, y)]
@@ -38,7 +38,7 @@ impl TileSurface<'_> {
         requires is_edge { IsTrue (is_edge self.now.scene.now.phase.width self.now.scene.now.phase.height edge) }
         requires open_ends { IsTrue (has_open_ends (open_at self.now.mask.now) edge) }
         ensures value { result ≡ cycle_departure (raster_of self.now.scene.now) (solved_cycles self.now.scene.now self.now.tiles.now.results) edge }
-        ensures small { unsigned_abs result ≤ 16777217 }
+        ensures small { unsigned_abs result ≤ MAX_SEAM_DEPARTURE }
     {
         let to = self.at(edge.end_x(), edge.end_y());
         let from = self.at(edge.x, edge.y);

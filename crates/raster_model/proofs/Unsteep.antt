@@ -1,5 +1,5 @@
 -- At the steepness 1 each cycle costs the same: a cost is weight times absolute departure, and the bounds are the sums of products alone.
-use Rattle.std.proofs.Common.{◌≡◌, ℕ, zero, suc, ◌*◌, ◌≤◌, ◌∙◌, ap, refl, arith, Bool, true, false}
+use Rattle.std.proofs.Common.{◌≡◌, ℕ, zero, suc, ◌*◌, ◌≤◌, ◌∙◌, ap, refl, sym, arith, Bool, true, false}
 use Rattle.std.specs.Prelude.{ℤ, pos, ◌-ℤ◌, unsigned_abs}
 use Rattle.std.proofs.lemmas.Int.{ints}
 use Rattle.std.proofs.lemmas.Bool.{and_from}
@@ -8,7 +8,7 @@ use Rattle.raster_model.specs.Sums.{Field, is_edge}
 use Rattle.raster_model.specs.Raster.{Raster, departure, has_open_ends, masked_weight, is_inner, is_seam, steps_of, steps, over}
 use Rattle.raster_model.specs.Certificates.{FacesFit, IsTileEdge, face_difference, faces_of_tile, face_total, face_over, face_over_total}
 use Rattle.raster_model.specs.Seams.{flow_total, flow_over, flow_over_total}
-use Rattle.raster_model.specs.Unsteep.{FacesFitWeights, FlowsFitWeights, UnsteepCostIsTheDeparture, UnsteepFacesCertify, UnsteepFlowsCertify}
+use Rattle.raster_model.specs.Unsteep.{FacesFitWeights, FlowsFitWeights, UnsteepCertificatesFit, UnsteepCostIsTheDeparture, UnsteepFacesCertify, UnsteepFlowsCertify, UnsteepSeamCertificatesFit}
 use Rattle.raster_model.proofs.SumLemmas.{sum_edges-same, sum_edges-zeros}
 use Rattle.sums_and_lists.specs.Sums.{where_true}
 
@@ -62,3 +62,13 @@ unsteep_flows r mask F S plain small balanced equal = record {
 -- and what is certified there is no greater than the weights
 pub faces_fit_weights : (r : Raster) (mask : Field Bool) (t : ℕ) (f : Field ℤ) → r.steep ≡ 1 → ((e : Edge) → IsTileEdge r t e → FacesFit r mask t f e) → FacesFitWeights r mask t f
 faces_fit_weights r mask t f plain fits e i = from_plain r.steep (masked_weight r mask e) _ plain (fits e i)
+
+pub unsteep_certificate_fits : UnsteepCertificatesFit
+unsteep_certificate_fits r mask t f S plain certificate =
+    let fits : FacesFitWeights r mask t f = faces_fit_weights r mask t f plain certificate.fits in
+    (fits, sym (less_nothing (face_total r t f) (face_over_total r mask t f) (no_face_over r mask t f fits)) ∙ certificate.equal)
+
+pub unsteep_seam_certificate_fits : UnsteepSeamCertificatesFit
+unsteep_seam_certificate_fits r mask F S plain certificate =
+    let small : FlowsFitWeights r mask F = λ e i s. from_plain r.steep (masked_weight r mask e) _ plain (certificate.bounded e i s) in
+    (small, certificate.balanced, sym (less_nothing (flow_total r mask S F) (flow_over_total r mask F) (no_flow_over r mask F small)) ∙ certificate.equal)

@@ -19,6 +19,10 @@ FacesFitWeights r mask t f = (e : Edge) → IsTileEdge r t e → unsigned_abs (f
 abbrev pub UnsteepFacesCertify : Type 0
 UnsteepFacesCertify = (r : Raster) (mask : Field Bool) (t : ℕ) (f S : Field ℤ) → r.steep ≡ 1 → FacesFitWeights r mask t f → face_total r t f ≡ tile_cost r mask t S → IsTileCertificate r mask t S f
 
+-- and no others certify one
+abbrev pub UnsteepCertificatesFit : Type 0
+UnsteepCertificatesFit = (r : Raster) (mask : Field Bool) (t : ℕ) (f S : Field ℤ) → r.steep ≡ 1 → IsTileCertificate r mask t S f → FacesFitWeights r mask t f × (face_total r t f ≡ tile_cost r mask t S)
+
 -- the flow on a seam edge is no greater than its weight, masked ends included
 abbrev pub FlowsFitWeights : Raster → Field Bool → (Edge → ℤ) → Type 0
 FlowsFitWeights r mask F = (e : Edge) → IsTrue (is_edge r.width r.height e) → IsTrue (is_seam r e) → unsigned_abs (F e) ≤ masked_weight r mask e
@@ -29,3 +33,7 @@ FlowsBalance r mask F = (region : Field Bool) → IsRegion r mask region → flo
 -- balanced flows that are no greater than the weights, and whose sum with the departures is the cost, certify the seams
 abbrev pub UnsteepFlowsCertify : Type 0
 UnsteepFlowsCertify = (r : Raster) (mask : Field Bool) (F : Edge → ℤ) (S : Field ℤ) → r.steep ≡ 1 → FlowsFitWeights r mask F → FlowsBalance r mask F → flow_total r mask S F ≡ seam_cost r mask S → IsSeamCertificate r mask S F
+
+-- and no others certify them
+abbrev pub UnsteepSeamCertificatesFit : Type 0
+UnsteepSeamCertificatesFit = (r : Raster) (mask : Field Bool) (F : Edge → ℤ) (S : Field ℤ) → r.steep ≡ 1 → IsSeamCertificate r mask S F → FlowsFitWeights r mask F × FlowsBalance r mask F × (flow_total r mask S F ≡ seam_cost r mask S)

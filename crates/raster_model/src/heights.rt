@@ -1,4 +1,5 @@
-ghost use Rattle.std.specs.Prelude.{◌≡◌, Bool, IsTrue, ℕ, ℤ, ◌^◌, ◌≤◌, unsigned_abs};
+ghost use Rattle.raster_model.specs.declared.limits.TheConstants.{MAX_HEIGHT};
+ghost use Rattle.std.specs.Prelude.{◌≡◌, Bool, IsTrue, ℕ, ℤ, ◌≤◌, unsigned_abs};
 
 /// Whole cycles above the phase at pixels. A surface is the phase and 65,536 units for each cycle.
 pub trait Heights {
@@ -12,5 +13,5 @@ pub trait Heights {
     fn cycles(&self, x: u32, y: u32) -> i64
         requires { IsTrue (knows self.now x y) }
         ensures value { result ≡ cycles_at self.now x y }
-        ensures small { unsigned_abs result ≤ 2 ^ 48 };
+        ensures small { unsigned_abs result ≤ MAX_HEIGHT };
 }

@@ -22,7 +22,7 @@ ghost use Rattle.raster_model.specs.Phase.{TurnsAreExact, WrappedHasNoSlope, Wra
 ghost use Rattle.raster_model.specs.Seams.{RegionNumbersAreUnique};
 ghost use Rattle.raster_model.specs.Tiles.{PixelsHaveOneWindow, TilesAreNumbered, TilesAreSquares};
 ghost use Rattle.raster_model.specs.Tilings.{ScenesHaveTiles};
-ghost use Rattle.raster_model.specs.Unsteep.{UnsteepCostIsTheDeparture, UnsteepFacesCertify, UnsteepFlowsCertify};
+ghost use Rattle.raster_model.specs.Unsteep.{UnsteepCertificatesFit, UnsteepCostIsTheDeparture, UnsteepFacesCertify, UnsteepFlowsCertify, UnsteepSeamCertificatesFit};
 ghost use Rattle.raster_model.specs.Whole.{BestBoundsTheLeastOfAll, CertifiedWholeIsLeast, WholeIsTilesAndSeams};
 
 /// Two phases have one wrapped difference around each slope, and it leaves out whole cycles. Around the slope 0 it is the
@@ -81,11 +81,13 @@ pub fn region_numbers_are_unique()
 {}
 
 /// At the steepness 1 an edge adds its weight times its absolute departure, and the sums of face times residue and of
-/// flow times departure certify costs if no face difference and no flow is greater than the weight.
+/// flow times departure certify costs if no face difference and no flow is greater than the weight, and only then.
 pub fn unsteep_costs_are_departures()
     ensures cost { UnsteepCostIsTheDeparture }
     ensures faces { UnsteepFacesCertify }
     ensures flows { UnsteepFlowsCertify }
+    ensures faces_back { UnsteepCertificatesFit }
+    ensures flows_back { UnsteepSeamCertificatesFit }
 {}
 
 /// A certified surface costs no more in the tile than any congruent one.

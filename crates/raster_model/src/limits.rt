@@ -7,6 +7,45 @@ pub const MAX_SIDE: u32 = 4096;
 /// The greatest number of pixels of a raster.
 pub const MAX_PIXELS: u32 = 4_194_304;
 
+/// The greatest weight of an edge.
+pub const MAX_WEIGHT: u32 = 65_535;
+
+/// The greatest steepness of costs.
+pub const MAX_STEEPNESS: u32 = 16;
+
+/// The most that one cycle of an edge's departure costs: the greatest steepness times the greatest weight.
+pub const MAX_CYCLE_COST: u32 = MAX_STEEPNESS * MAX_WEIGHT;
+
+/// The most that a cycle beyond the first costs more than the first one.
+pub const MAX_FURTHER_COST: u32 = (MAX_STEEPNESS - 1) * MAX_WEIGHT;
+
+/// The greatest absolute number of cycles at an open pixel of a solved tile.
+pub const MAX_TILE_CYCLES: u32 = 8_388_608;
+
+/// The greatest absolute departure of an edge between two tiles, before their regions are moved.
+pub const MAX_SEAM_DEPARTURE: u64 = 2 * MAX_TILE_CYCLES as u64 + 1;
+
+/// The most regions of a raster.
+pub const MAX_REGIONS: u32 = 3_145_728;
+
+/// The greatest absolute offset of a region, in whole cycles.
+pub const MAX_OFFSET: u64 = 1 << 46;
+
+/// The greatest absolute number of cycles at a pixel of the whole raster's surface.
+pub const MAX_WHOLE_CYCLES: u64 = 1 << 46;
+
+/// The greatest absolute number of cycles to which corrections of a window add up.
+pub const MAX_REACHED_CYCLES: u64 = 1 << 44;
+
+/// The greatest absolute number of cycles of a surface at a pixel.
+pub const MAX_HEIGHT: u64 = 1 << 48;
+
+/// The greatest absolute departure of a surface at an edge.
+pub const MAX_DEPARTURE: u64 = 2 * MAX_HEIGHT + 1;
+
+/// The most nodes of a network over a raster.
+pub const MAX_NETWORK_NODES: u32 = 1 << 24;
+
 /// The least side of a tile, in pixels.
 pub const MIN_TILE_SIDE: u32 = 2;
 

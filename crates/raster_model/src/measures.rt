@@ -8,6 +8,7 @@ ghost use Rattle.std.specs.Prelude.{◌≡◌, ◌+◌, ◌≤◌, ◌^◌, ℕ,
 
 use crate::edge::Edge;
 use crate::heights::Heights;
+use crate::limits::MAX_DEPARTURE;
 use crate::mask::Mask;
 use crate::phase::turns_ramp;
 use crate::scene::Scene;
@@ -58,7 +59,7 @@ pub fn departure<H: Heights>(scene: &Scene, heights: &H, edge: Edge) -> i64
     requires start { IsTrue (at_edge_start (H.knows heights.now) edge) }
     requires end { IsTrue (at_edge_end (H.knows heights.now) edge) }
     ensures value { result ≡ departure_of (raster_of scene.now) (lifted (raster_of scene.now) (H.cycles_at heights.now)) edge }
-    ensures small { unsigned_abs result ≤ 2 ^ 49 + 1 }
+    ensures small { unsigned_abs result ≤ MAX_DEPARTURE }
 {
     let to = heights.cycles(edge.end_x(), edge.end_y());
     let from = heights.cycles(edge.x, edge.y);

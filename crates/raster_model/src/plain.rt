@@ -37,6 +37,7 @@ ghost use Rattle.std.specs.Prelude.{
 
 use crate::edge::Edge;
 use crate::heights::Heights;
+use crate::limits::{MAX_CYCLE_COST, MAX_DEPARTURE};
 use crate::mask::Mask;
 use crate::measures::{departure, weight};
 use crate::phase::wrapped_ramp;
@@ -167,7 +168,7 @@ pub fn edge_cost<H: Heights>(scene: &Scene, mask: &Mask, heights: &H, edge: Edge
     requires is_edge { IsTrue (is_edge scene.now.phase.width scene.now.phase.height edge) }
     requires known { KnowsEnds (open_at mask.now) (H.knows heights.now) edge }
     ensures value { pos result ≡ edge_cost_of (raster_of scene.now) (open_at mask.now) (lifted (raster_of scene.now) (H.cycles_at heights.now)) edge }
-    ensures small { result ≤ 1048560 * (2 ^ 49 + 1) }
+    ensures small { result ≤ MAX_CYCLE_COST * MAX_DEPARTURE }
 {
     if mask.is_open(edge.x, edge.y) && mask.is_open(edge.end_x(), edge.end_y()) {
         let steps = scene.terms.steps(departure(scene, heights, edge));
@@ -219,7 +220,7 @@ fn edge_cost_in<H: Heights>(scene: &Scene, mask: &Mask, heights: &H, part: Part,
     requires is_edge { IsTrue (is_edge scene.now.phase.width scene.now.phase.height edge) }
     requires known { KnowsPart (raster_of scene.now) (open_at mask.now) part (H.knows heights.now) }
     ensures value { pos result ≡ part_edge_cost (raster_of scene.now) (open_at mask.now) part (lifted (raster_of scene.now) (H.cycles_at heights.now)) edge }
-    ensures small { result ≤ 1048560 * (2 ^ 49 + 1) }
+    ensures small { result ≤ MAX_CYCLE_COST * MAX_DEPARTURE }
 {
     if is_in_part(scene, part, edge) {
         edge_cost(scene, mask, heights, edge)
@@ -240,7 +241,7 @@ fn cost_from<H: Heights>(
     requires pixel { (x < scene.now.phase.width) × (y < scene.now.phase.height) }
     requires known { KnowsPart (raster_of scene.now) (open_at mask.now) part (H.knows heights.now) }
     ensures value { pos result ≡ part_cost_from (raster_of scene.now) (open_at mask.now) part (lifted (raster_of scene.now) (H.cycles_at heights.now)) x y }
-    ensures small { result ≤ 2 * 1048560 * (2 ^ 49 + 1) }
+    ensures small { result ≤ 2 * MAX_CYCLE_COST * MAX_DEPARTURE }
 {
     let to_right = if x + 1 < scene.phase.width {
         edge_cost_in(scene, mask, heights, part, Edge { x, y, down: false })

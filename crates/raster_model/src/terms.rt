@@ -1,5 +1,7 @@
 ghost use Rattle.raster_model.specs.Limits.{IsSlope, IsSteepness};
 
+use crate::limits::{MAX_CYCLE_COST, MAX_STEEPNESS};
+
 /// On which terms a phase is unwrapped: the ramp that is expected of it, and how costs rise.
 #[derive(Clone, Copy, Debug, PartialEq, Eq)]
 pub struct Terms {
@@ -43,7 +45,7 @@ impl Terms {
     /// the weight.
     pub fn limit(self, weight: u16) -> u32
         ensures value { result ≡ self.steep * weight }
-        ensures small { result ≤ 1048560 }
+        ensures small { result ≤ MAX_CYCLE_COST }
     {
         self.steep * u32::from(weight)
     }
@@ -53,7 +55,7 @@ impl Terms {
     pub fn steps(self, departure: i64) -> u64
         requires { unsigned_abs departure ≤ 2 ^ 59 }
         ensures value { result ≡ steps_of_departure self.steep departure }
-        ensures small { result ≤ 16 * unsigned_abs departure }
+        ensures small { result ≤ MAX_STEEPNESS * unsigned_abs departure }
     {
         let cycles = departure.unsigned_abs();
         if cycles == 0 {

@@ -1,4 +1,5 @@
 -- The numbered regions of a tiled raster under a mask (Chen and Zebker 2002, tiles that do not overlap).
+use Rattle.raster_model.specs.declared.limits.TheConstants.{MAX_REGIONS}
 use Rattle.std.specs.Prelude.{◌≡◌, ℕ, ◌+◌, ◌*◌, ◌<◌, ◌≤◌, ◌==◌, ℤ, pos, ◌+ℤ◌, List, Option, Some, None, if◌then◌else◌, slice_index, slice_index_or}
 use Rattle.raster_model.specs.declared.tiling.Tiling.{Tiling}
 use Rattle.raster_model.specs.MaskView.{MaskView}
@@ -36,7 +37,7 @@ pub record IsTiledBy (r : Raster) (g : Tiling) : Type 0 where
 
 -- the most regions that there can be: 3 * 2 ^ 20
 abbrev pub most_regions : ℕ
-most_regions = 3145728
+most_regions = MAX_REGIONS
 
 -- the labels are the numbers of the regions under the mask, in each raster with those tiles, and masked pixels have no region
 pub record AreRegionsOf (g : Tiling) (mask : MaskView) (v : RegionsView) : Type 0 where

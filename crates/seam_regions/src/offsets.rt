@@ -1,8 +1,7 @@
 ghost use Rattle.seam_regions.specs.Offsets.{AreNear, IsFirstFar};
 ghost use Rattle.std.specs.Prelude.{IfNone, IfSome};
 
-/// The greatest absolute offset of a region, in whole cycles: 2^46.
-const MAX_OFFSET: u64 = 70_368_744_177_664;
+use raster_model::MAX_OFFSET;
 
 /// The place of the first offset that is out of range; None if all lie from -2^46 to 2^46.
 pub fn first_far(offsets: &[i64]) -> Option<usize>

@@ -20,7 +20,7 @@ ghost use Rattle.wrapped_gradient.specs.Gradients.{AreGradientsOf};
 ghost use Rattle.raster_model.specs.Tiles.{width_of, height_of};
 
 use crate::rises::{rise_down, rise_right};
-use raster_model::Scene;
+use raster_model::{MAX_REACHED_CYCLES, Scene};
 use std::alloc::{AllocError, Global};
 use wrapped_gradient::{Corrections, Gradients};
 
@@ -35,12 +35,12 @@ pub fn integrate_wide(
     requires gradients { AreGradientsOf scene.now gradients.now }
     requires shape { HasShapeOf gradients.now.window corrections.now }
     requires cancel { CancelResidues (raster_of scene.now) gradients.now.window corrections.now }
-    requires small { greatest_of corrections.now < 2147483647 }
+    requires small { greatest_of corrections.now < (2 ^ 31 - 1) }
     ensures count { IfOk result (λ cycles. vec_len cycles ≡ width_of gradients.now.window * height_of gradients.now.window) }
     ensures first { IfOk result (λ cycles. cycles_at gradients.now.window cycles.items gradients.now.window.x0 gradients.now.window.y0 ≡ pos 0) }
     ensures departs { IfOk result (λ cycles. DepartBy (raster_of scene.now) gradients.now.window (cycles_at gradients.now.window cycles.items) corrections.now) }
     ensures bounded { IfOk result (λ cycles. StaySmall gradients.now.window (cycles_at gradients.now.window cycles.items) (greatest_of corrections.now)) }
-    ensures within { IfOk result (λ cycles. LieWithin gradients.now.window (cycles_at gradients.now.window cycles.items) (2 ^ 44)) }
+    ensures within { IfOk result (λ cycles. LieWithin gradients.now.window (cycles_at gradients.now.window cycles.items) (MAX_REACHED_CYCLES)) }
 {
     let window = gradients.window();
     let pixels = window.width() as usize * window.height() as usize;
@@ -65,7 +65,7 @@ fn push_row(
 ) -> Result<(), AllocError>
     requires gradients { AreGradientsOf scene.now gradients.now }
     requires shape { HasShapeOf gradients.now.window corrections.now }
-    requires small { greatest_of corrections.now < 2147483647 }
+    requires small { greatest_of corrections.now < (2 ^ 31 - 1) }
     requires row { (gradients.now.window.y0 ≤ y) × (y ≤ gradients.now.window.y1) }
     requires near { unsigned_abs first ≤ (y - gradients.now.window.y0) * (greatest_of corrections.now + 1) }
     ensures { OnOk result (IsRowAdded (raster_of scene.now) gradients.now.window corrections.now y (gradients.now.window.x1 - gradients.now.window.x0) first cycles.old.items cycles.new.items) }

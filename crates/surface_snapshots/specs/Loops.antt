@@ -1,4 +1,5 @@
 -- Words of helpers and of ghost fields: no clause of a public function cites them.
+use Rattle.raster_model.specs.declared.limits.TheConstants.{MAX_CYCLE_COST, MAX_DEPARTURE, MAX_SIDE}
 use Rattle.std.specs.Prelude.{◌≡◌, ℕ, ◌+◌, ◌-◌, ◌*◌, ◌<◌, ◌≤◌, ◌^◌, ℤ, ◌+ℤ◌, pos, Bool, not, IsTrue, List}
 use Rattle.raster_model.specs.declared.edge.Edge.{Edge}
 use Rattle.raster_model.specs.declared.scene.Scene.{Scene}
@@ -22,14 +23,14 @@ inner_cost_from r mask S = edges_from r.width r.height (inner_edge_cost r mask S
 
 -- neither cost is more than n edges can add
 abbrev pub AreOfEdges : ℕ → Costs → Type 0
-AreOfEdges n costs = (costs.tiles ≤ 1048560 * (2 ^ 49 + 1) * n) × (costs.seams ≤ 1048560 * (2 ^ 49 + 1) * n)
+AreOfEdges n costs = (costs.tiles ≤ MAX_CYCLE_COST * MAX_DEPARTURE * n) × (costs.seams ≤ MAX_CYCLE_COST * MAX_DEPARTURE * n)
 
 -- the costs are what the edges that start in the rows from a to before b add
 abbrev pub AreOfRows : Raster → Field Bool → Field ℤ → ℕ → ℕ → Costs → Type 0
 AreOfRows r mask S a b costs =
     (sum_grid r.width b (inner_cost_from r mask S) ≡ sum_grid r.width a (inner_cost_from r mask S) +ℤ pos costs.tiles)
     × (sum_grid r.width b (seam_cost_from r mask S) ≡ sum_grid r.width a (seam_cost_from r mask S) +ℤ pos costs.seams)
-    × AreOfEdges (8192 * (b - a)) costs
+    × AreOfEdges (2 * MAX_SIDE * (b - a)) costs
 
 -- the pixels of row y and of the next one from column x to column z are open, as far as the raster goes
 abbrev pub AreOpenFrom : MaskView → ℕ → ℕ → ℕ → Type 0

@@ -10,7 +10,7 @@ ghost use Rattle.surface_snapshots.specs.Loops.{AddUpTo, AreOfEdges, AreOfRows, 
 ghost use Rattle.surface_snapshots.specs.Parts.{tile_costs};
 
 use certificates::edge_cost;
-use raster_model::{Edge, Heights, Mask, Scene, departure};
+use raster_model::{Edge, Heights, MAX_SIDE, Mask, Scene, departure};
 use seam_regions::next_left;
 
 /// What a surface costs.
@@ -80,7 +80,7 @@ fn row_costs<H: Heights>(scene: &Scene, mask: &Mask, heights: &H, y: u32) -> Cos
     requires row { y < scene.now.phase.height }
     ensures tiles { pos result.tiles ≡ sum_row scene.now.phase.width (inner_cost_from (raster_of scene.now) (open_at mask.now) (lifted (raster_of scene.now) (H.cycles_at heights.now))) y }
     ensures seams { pos result.seams ≡ sum_row scene.now.phase.width (seam_cost_from (raster_of scene.now) (open_at mask.now) (lifted (raster_of scene.now) (H.cycles_at heights.now))) y }
-    ensures small { AreOfEdges 8192 result }
+    ensures small { AreOfEdges 2 * MAX_SIDE result }
 {
     let width = scene.phase.width;
     let mut costs = NO_COSTS;

@@ -7,7 +7,7 @@ ghost use Rattle.surface_snapshots.specs.Tiled.{mask_told, regions_in};
 use crate::tiled::TiledRegions;
 use crate::windows::window_at;
 use certificates::TileSet;
-use raster_model::{Scene, Window};
+use raster_model::{MAX_OFFSET, MAX_TILE_CYCLES, Scene, Window};
 
 /// What stands for the cycles of a masked pixel.
 pub(crate) const NO_CYCLES: i64 = i64::MIN;
@@ -37,7 +37,7 @@ impl ShiftedTiles<'_> {
     pub(crate) fn at(&self, x: u32, y: u32) -> i64
         requires open_pixel { IsTrue (is_open_pixel self.now.scene.now.phase.width self.now.scene.now.phase.height (open_under self.now) x y) }
         ensures value { result ≡ shifted_cycles self.now.scene.now (regions_in self.now.regions.now) self.now.tiles.now.results self.now.offsets.now x y }
-        ensures small { unsigned_abs result ≤ 2 ^ 46 + 8388608 }
+        ensures small { unsigned_abs result ≤ MAX_OFFSET + MAX_TILE_CYCLES }
     {
         let tile = self.scene.tiling.tile_of(x, y);
         let window = window_at(&self.scene.tiling, x, y);
@@ -50,7 +50,7 @@ impl ShiftedTiles<'_> {
         requires tile { tile ≡ tile_at self.now.scene.now.tiling x y }
         requires window { window ≡ window_of self.now.scene.now.tiling tile }
         ensures value { result ≡ solved_cycles self.now.scene.now self.now.tiles.now.results x y }
-        ensures small { unsigned_abs result ≤ 8388608 }
+        ensures small { unsigned_abs result ≤ MAX_TILE_CYCLES }
     {
         i64::from(self.tiles.tile(tile).cycles[window.place(x, y)])
     }
@@ -59,7 +59,7 @@ impl ShiftedTiles<'_> {
     fn offset(&self, x: u32, y: u32) -> i64
         requires open_pixel { IsTrue (is_open_pixel self.now.scene.now.phase.width self.now.scene.now.phase.height (open_under self.now) x y) }
         ensures value { result ≡ offset_at (regions_in self.now.regions.now) self.now.offsets.now x y }
-        ensures small { unsigned_abs result ≤ 2 ^ 46 }
+        ensures small { unsigned_abs result ≤ MAX_OFFSET }
     {
         let region = self.regions.label(x, y);
         self.offsets[region as usize]
@@ -156,7 +156,7 @@ impl ShiftedTiles<'_> {
     )
         requires end { (x ≤ end) × (end ≤ self.now.scene.now.phase.width) }
         requires cycles { place + (end - x) ≤ length cycles.now }
-        requires offset { unsigned_abs offset ≤ 2 ^ 46 }
+        requires offset { unsigned_abs offset ≤ MAX_OFFSET }
         requires levels { (c : ℕ) → x ≤ c → c < end → slice_index_or cycles.now (place + (c - x)) (pos 0) +ℤ offset ≡ level_at self.now c y }
         requires room { self.now.scene.now.phase.width ≤ length row.old }
         requires front { BeginsWithRow (level_at self.now) y x row.old }

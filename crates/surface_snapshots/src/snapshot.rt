@@ -10,7 +10,7 @@ use crate::packed::PackedRegions;
 use crate::shifted::{NO_CYCLES, ShiftedTiles};
 use crate::surface::Surface;
 use certificates::{SeamResult, TileSet};
-use raster_model::{Heights, Mask, Session};
+use raster_model::{Heights, MAX_OFFSET, MAX_TILE_CYCLES, Mask, Session};
 use seam_regions::Regions;
 use std::alloc::{AllocError, Global};
 use std::sync::Arc;
@@ -18,7 +18,7 @@ use std::thread::Threads;
 
 /// The value that lies this many whole cycles above a phase, in units of 1/65536 cycle.
 fn level(sample: u16, cycles: i64) -> i64
-    requires { unsigned_abs cycles ≤ 2 ^ 46 + 8388608 }
+    requires { unsigned_abs cycles ≤ MAX_OFFSET + MAX_TILE_CYCLES }
     ensures value { result ≡ pos sample +ℤ pos 65536 *ℤ cycles }
     ensures small { unsigned_abs result < 2 ^ 63 }
 {

@@ -5,7 +5,7 @@ ghost use Rattle.text_lines.specs.Parsing.{IsAnyRule, IsParsedAs};
 ghost use Rattle.text_parts.specs.Parts.{IsRamp, IsRasterSize};
 ghost use Rattle.text_parts.specs.Text.{known_line, ramp_line, rule_line, size_line, steep_line};
 
-use raster_model::RuleKind;
+use raster_model::{MAX_STEEPNESS, RuleKind};
 use text_lines::{labelled_count, number_of, pair_behind, split_field};
 
 // The words of the lines.
@@ -19,9 +19,6 @@ const STEEP: &[u8] = b"steep ";
 
 /// What is before each number of a line.
 const SPACE: &[u8] = b" ";
-
-/// The greatest steepness of costs.
-const MAX_STEEPNESS: u32 = 16;
 
 /// The width and the height of a line `size W H`, if they are within the limits of a raster.
 pub(crate) fn size_of(line: &[u8]) -> Option<(u32, u32)>

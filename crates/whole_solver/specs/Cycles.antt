@@ -1,4 +1,5 @@
 -- Whole cycles above the phase at the pixels of a raster, as a list in row order.
+use Rattle.raster_model.specs.declared.limits.TheConstants.{MAX_WHOLE_CYCLES}
 use Rattle.std.specs.Prelude.{ℕ, ◌+◌, ◌*◌, ◌≤◌, ◌^◌, ℤ, pos, Bool, ◌&&◌, nat_lt, List, length, slice_index_or, unsigned_abs}
 use Rattle.raster_model.specs.Sums.{Field}
 
@@ -11,4 +12,4 @@ has_cycles width cycles x y = nat_lt x width && nat_lt (y * width + x) (length c
 
 -- no cycles are above 2^46 on either side of 0
 abbrev pub AreSmallCycles : List ℤ → Type 0
-AreSmallCycles cycles = (k : ℕ) → unsigned_abs (slice_index_or cycles k (pos 0)) ≤ 2 ^ 46
+AreSmallCycles cycles = (k : ℕ) → unsigned_abs (slice_index_or cycles k (pos 0)) ≤ MAX_WHOLE_CYCLES

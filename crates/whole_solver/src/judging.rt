@@ -8,10 +8,7 @@ ghost use Rattle.whole_solver.specs.Results.{AreRight, IsGoodWhole};
 
 use crate::result::WholeResult;
 use certificates::check_whole;
-use raster_model::{Heights, Mask, Scene, first_open};
-
-/// The greatest absolute number of cycles that a result may have at a pixel.
-const MAX_CYCLES: u64 = 70_368_744_177_664;
+use raster_model::{Heights, MAX_WHOLE_CYCLES, Mask, Scene, first_open};
 
 /// The result with these cycles and faces, if they are right: a number of cycles for each pixel, none of them too great and
 /// 0 at the first open pixel, and faces that certify their surface.
@@ -76,7 +73,7 @@ pub(crate) fn are_small(cycles: &[i64]) -> bool
 {
     let mut outside = false;
     for place in 0..cycles.len() {
-        outside |= cycles[place].unsigned_abs() > MAX_CYCLES;
+        outside |= cycles[place].unsigned_abs() > MAX_WHOLE_CYCLES;
     }
     !outside
 }

@@ -11,7 +11,7 @@ ghost use Rattle.whole_solver.specs.Solved.{listed_surface, raster_window as win
 ghost use Rattle.wrapped_gradient.specs.Gradients.{AreGradientsOf};
 
 use network_solver::{network_corrections, network_corrections_from};
-use raster_model::{Mask, Scene, Window};
+use raster_model::{MAX_REACHED_CYCLES, Mask, Scene, Window};
 use std::alloc::{AllocError, Global};
 use surface_integration::integrate_wide;
 use whole_guess::Reached;
@@ -40,7 +40,7 @@ pub(crate) fn solve_by_network(
     ensures count { IfOk result (λ solved. vec_len solved.cycles ≡ scene.now.phase.width * scene.now.phase.height) }
     ensures first { IfOk result (λ solved. cycles_at (window_of_raster scene.now) solved.cycles.items 0 0 ≡ pos 0) }
     ensures certified { IfOk result (λ solved. IsCertifiedWhole (raster_of scene.now) (open_at mask.now) (listed_surface scene.now solved.cycles.items) solved.faces.items) }
-    ensures within { IfOk result (λ solved. LieWithin (window_of_raster scene.now) (cycles_at (window_of_raster scene.now) solved.cycles.items) (2 ^ 44)) }
+    ensures within { IfOk result (λ solved. LieWithin (window_of_raster scene.now) (cycles_at (window_of_raster scene.now) solved.cycles.items) (MAX_REACHED_CYCLES)) }
 {
     let gradients = Gradients::of(alloc, scene, raster_window(scene))?;
     let unmasked = open_pixels(alloc, scene, mask)?;

@@ -1,4 +1,5 @@
 -- What the text of a surface that lies whole cycles above the phase tells.
+use Rattle.raster_model.specs.declared.limits.TheConstants.{MAX_WHOLE_CYCLES}
 use Rattle.std.specs.Prelude.{ℕ, ◌<◌, ◌^◌, ℤ, Bool, IsTrue, if◌then◌else◌, List, unsigned_abs}
 use Rattle.raster_model.specs.declared.scene.Scene.{Scene}
 use Rattle.raster_model.specs.Raster.{Raster, lifted}
@@ -18,7 +19,7 @@ grid_above s mask cycles = record { width = s.phase.width; height = s.phase.heig
 
 -- so few cycles at each open pixel that the value fits 64 bits and is not the NODATA value
 abbrev pub AreFewCycles : Raster → Field Bool → Field ℤ → Type 0
-AreFewCycles r mask cycles = (x y : ℕ) → x < r.width → y < r.height → IsTrue (mask x y) → unsigned_abs (cycles x y) < 2 ^ 47
+AreFewCycles r mask cycles = (x y : ℕ) → x < r.width → y < r.height → IsTrue (mask x y) → unsigned_abs (cycles x y) < 2 * MAX_WHOLE_CYCLES
 
 -- what is told of a surface with these faces and this cost
 abbrev pub told_whole : Scene → Field Bool → Field ℤ → List ℤ → ℕ → WholeOf

@@ -9,7 +9,7 @@ ghost use Rattle.surface_snapshots.specs.Parts.{BeginsWithRow};
 ghost use Rattle.whole_text.specs.Told.{AreFewCycles, grid_above, value_above};
 
 use grid_writer::{NO_DATA, Rows};
-use raster_model::{Heights, Mask, Scene};
+use raster_model::{Heights, MAX_WHOLE_CYCLES, Mask, Scene};
 
 /// The surface that lies whole cycles above the phase at the open pixels.
 #[derive(Drop)]
@@ -24,7 +24,7 @@ pub(crate) struct SurfaceRows<'a, H: Heights> {
 
 /// The value that lies this many whole cycles above a phase, in units of 1/65536 cycle.
 fn value_at(sample: u16, cycles: i64) -> i64
-    requires { unsigned_abs cycles < 2 ^ 47 }
+    requires { unsigned_abs cycles < 2 * MAX_WHOLE_CYCLES }
     ensures { result ≡ pos sample +ℤ pos 65536 *ℤ cycles }
 {
     i64::from(sample) + 65536 * cycles

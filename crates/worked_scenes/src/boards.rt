@@ -2,7 +2,7 @@
 ghost use Rattle.std.specs.Prelude.{◌≡◌, ◌≤◌, [], IfOk};
 
 use insar_ports::{Feed, MemorySource};
-use raster_model::{RuleKind, Session};
+use raster_model::{MAX_TILE_SIDE, MIN_TILE_SIDE, RuleKind, Session};
 use session_script::{SessionFault, SessionUse, read_session};
 use std::alloc::{AllocError, Global};
 use std::sync::Arc;
@@ -10,7 +10,7 @@ use tile_board::Board;
 
 /// The session of a text, by the rule least, with tiles of a side.
 pub fn session(alloc: Global, text: &str, side: u32) -> Result<Session, SessionFault>
-    requires { (2 ≤ side) × (side ≤ 128) }
+    requires { (MIN_TILE_SIDE ≤ side) × (side ≤ MAX_TILE_SIDE) }
 {
     let bytes = Vec::from_slice(alloc, text.as_bytes())?;
     let mut source = MemorySource::new(bytes, 4096, Vec::new(alloc));
@@ -28,7 +28,7 @@ fn begun(alloc: Global, session: Session) -> Result<Board, AllocError>
 
 /// The board of a session's text, with tiles of a side.
 pub fn board(alloc: Global, text: &str, side: u32) -> Result<Board, SessionFault>
-    requires { (2 ≤ side) × (side ≤ 128) }
+    requires { (MIN_TILE_SIDE ≤ side) × (side ≤ MAX_TILE_SIDE) }
     ensures { IfOk result (λ board. board.entries ≡ []) }
 {
     let session = session(alloc, text, side)?;

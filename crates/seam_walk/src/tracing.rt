@@ -1,12 +1,9 @@
 use crate::joints::{Joint, joint_from};
 use crate::layout::{Layout, are_open};
-use crate::network::NONE;
+use crate::places::{NONE, OUTSIDE};
 use crate::spots::{Reach, Spots};
 use crate::walking::{Companion, Passage, joints_of};
 use std::alloc::{AllocError, Global};
-
-/// The node outside the raster.
-pub(crate) const OUTSIDE: u32 = 0;
 
 /// The nodes and joints of a raster, as they are found row by row.
 #[derive(Drop)]
@@ -63,7 +60,7 @@ fn columns(alloc: Global, layout: Layout<'_>) -> Result<Vec<u16>, AllocError> {
 }
 
 /// The joint of each link of a raster, or `NONE`, found once more.
-pub(crate) fn trace_again(alloc: Global, layout: Layout<'_>) -> Result<Vec<u32>, AllocError> {
+pub fn trace_again(alloc: Global, layout: Layout<'_>) -> Result<Vec<u32>, AllocError> {
     joints_of(alloc, layout, &mut Nobody)
 }
 

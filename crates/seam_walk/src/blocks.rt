@@ -1,52 +1,22 @@
-use crate::network::{FREE, Network};
+use crate::places::FIRST_INSIDE;
 use crate::spots::{Reach, Spots};
-use crate::tracing::OUTSIDE;
 use std::alloc::{AllocError, Global};
-use std::ops::Range;
 
 /// The side of the least blocks, in tiles, as a power of 2.
 const LEAST: u32 = 5;
-
-/// The number of the first node that is not the outside.
-const FIRST: u32 = 1;
 
 /// The nodes at which joints begin or end, in the order in which they are balanced, and so numbered anew: the outside is 0, and
 /// the others follow by blocks of tiles, the least blocks first, and the one that holds all last. A node lies in the least block
 /// that holds all tiles in which its cells lie.
 #[derive(Drop)]
-pub(crate) struct Order {
+pub struct Order {
     /// The last column and row of tiles.
     across: u32,
     along: u32,
     /// The number after those of each block.
-    ends: Vec<u32>,
+    pub ends: Vec<u32>,
     /// How many nodes there are.
-    pub(crate) nodes: u32,
-}
-
-impl Network {
-    /// Balances all nodes, block by block, as far as the looks allow. Those of later blocks are held back, and take what flows to
-    /// them.
-    pub(crate) fn balance(&mut self, order: &Order) -> Result<(), AllocError> {
-        let mut first = FIRST;
-        for end in &order.ends {
-            self.free(first..*end);
-            if !self.grow(first..*end, 0)? || !self.grow(first..*end, 1)? {
-                break;
-            }
-            first = *end;
-        }
-        Ok(())
-    }
-
-    /// Holds nodes back no longer.
-    fn free(&mut self, nodes: Range<u32>) {
-        for node in nodes.start..nodes.end {
-            if let Some(node) = self.nodes.get_mut(node as usize) {
-                node.by = FREE;
-            }
-        }
-    }
+    pub nodes: u32,
 }
 
 impl Order {
@@ -61,7 +31,7 @@ impl Order {
             across,
             along,
             ends: Vec::new(alloc),
-            nodes: FIRST,
+            nodes: FIRST_INSIDE,
         };
         let blocks = order.first_of(u32::BITS) as usize;
         order.ends = vec![in alloc; 0; blocks]?;
@@ -109,7 +79,7 @@ impl Order {
 
     /// Counts the nodes of each block.
     fn count(&mut self, spots: &Spots) {
-        for node in OUTSIDE.wrapping_add(1)..spots.count() {
+        for node in FIRST_INSIDE..spots.count() {
             if spots.is_marked(node) {
                 let block = self.block(spots.reach(node));
                 if let Some(count) = self.ends.get_mut(block as usize) {
@@ -121,7 +91,7 @@ impl Order {
 
     /// Turns counts to the numbers with which blocks begin.
     fn place_all(&mut self) {
-        let mut sum = FIRST;
+        let mut sum = FIRST_INSIDE;
         for end in &mut self.ends {
             let count = *end;
             *end = sum;
@@ -132,7 +102,7 @@ impl Order {
 
     /// Numbers the nodes, which moves the number of each block to its end.
     fn number(&mut self, spots: &mut Spots) {
-        for node in OUTSIDE.wrapping_add(1)..spots.count() {
+        for node in FIRST_INSIDE..spots.count() {
             if spots.is_marked(node) {
                 let block = self.block(spots.reach(node));
                 if let Some(end) = self.ends.get_mut(block as usize) {

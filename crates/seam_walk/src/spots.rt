@@ -1,5 +1,4 @@
-use crate::network::{NONE, number};
-use crate::tracing::OUTSIDE;
+use crate::places::{NONE, OUTSIDE, number};
 use std::alloc::{AllocError, Global};
 
 /// The first and the last column and row of tiles in which the cells of a node lie.
@@ -28,8 +27,8 @@ impl Reach {
     }
 }
 
-/// The number of a node that is marked.
-const MARKED: u32 = 1;
+/// In place of the number of a node that is marked and has none yet.
+const MARKED: u32 = NONE;
 
 const EVERYWHERE: Reach = Reach {
     left: 0,
@@ -43,7 +42,7 @@ const EVERYWHERE: Reach = Reach {
 struct Spot {
     /// A number of the same node that is not higher, and its own for the node's number.
     same: u32,
-    /// The number by which the node is known in the end, 0 for the outside, and before that 1 if it is marked.
+    /// The number by which the node is known in the end, 0 for the outside, and before that `MARKED` if it is marked.
     number: u32,
     reach: Reach,
 }

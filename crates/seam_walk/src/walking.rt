@@ -1,5 +1,5 @@
 use crate::layout::Layout;
-use crate::network::{NONE, number};
+use crate::places::{NONE, number};
 use std::alloc::{AllocError, Global};
 
 /// An edge with open ends that a seam passes on its way from one cell to the next, right of it or below. A cell is named by the

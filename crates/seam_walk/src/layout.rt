@@ -1,4 +1,4 @@
-use crate::network::NONE;
+use crate::places::NONE;
 
 /// Where the regions of a tiled raster lie.
 #[derive(Clone, Copy)]

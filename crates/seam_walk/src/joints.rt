@@ -1,20 +1,20 @@
-use crate::network::NONE;
+use crate::places::NONE;
 use crate::spots::Spots;
 
 /// A stretch of a seam from one node to another, between the same two regions. A unit that flows along it from `tail` to
 /// `head` raises the second region of its links over the first by a cycle.
 #[derive(Clone, Copy)]
-pub(crate) struct Joint {
-    pub(crate) tail: u32,
-    pub(crate) head: u32,
+pub struct Joint {
+    pub tail: u32,
+    pub head: u32,
     /// The next arc out of each.
-    pub(crate) after_tail: u32,
-    pub(crate) after_head: u32,
+    pub after_tail: u32,
+    pub after_head: u32,
     /// The offset of the second region less that of the first.
-    pub(crate) rise: i32,
+    pub rise: i32,
 }
 
-pub(crate) const NO_JOINT: Joint = Joint {
+pub const NO_JOINT: Joint = Joint {
     tail: NONE,
     head: NONE,
     after_tail: NONE,
@@ -54,15 +54,3 @@ impl Joint {
         self.head = spots.number(self.head);
     }
 }
-
-/// A rise from which on each further cycle costs more.
-#[derive(Clone, Copy)]
-pub(crate) struct Step {
-    pub(crate) rise: i32,
-    /// What a further cycle costs from there on; while links are added, how much more it costs than below. A joint has a
-    /// link for each pixel of a tile's side at most.
-    pub(crate) cost: i32,
-}
-
-/// Room for a step, which costs nothing.
-pub(crate) const NO_STEP: Step = Step { rise: 0, cost: 0 };

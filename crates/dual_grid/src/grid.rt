@@ -6,8 +6,8 @@ ghost use Rattle.flow_network.specs.Nets.{HasReducedCosts, IsNetwork, HasNoExces
 
 use crate::answering::{add_to_each, faces};
 use crate::arcs::{flow_after, leads_forth, place_below, residual_at, size_of_cost, twin_place};
-use crate::beside::{edge_below, first_at, other_at, right_count};
 use crate::checking::is_tight;
+use crate::edge_numbers::{edge_below, first_at, other_at, right_count};
 use crate::listing::{down_weights, right_weights};
 use crate::reaching::{are_low, greatest, move_flows, sums_within, turned};
 use crate::sides::outside;

@@ -1,7 +1,7 @@
 use Rattle.std.proofs.Common.{◌≡◌, arith, subst, ℕ}
 use Rattle.dual_grid.specs.Building.{IsEdgeBelow}
 use Rattle.dual_grid.specs.Nodes.{cells_of}
-use Rattle.dual_grid.proofs.beside.edge_below.Goals as goal
+use Rattle.dual_grid.proofs.edge_numbers.edge_below.Goals as goal
 
 pub returns-else-node-outside : goal.returns-else-node-outside
 returns-else-node-outside c =

@@ -1,6 +1,6 @@
 use Rattle.std.proofs.Common.{◌∙◌, sym, arith}
 use Rattle.dual_grid.proofs.NumberLemmas.{down_other_in, down_other_out}
-use Rattle.dual_grid.proofs.beside.down_other.Goals as goal
+use Rattle.dual_grid.proofs.edge_numbers.down_other.Goals as goal
 
 pub returns-then-place-across-gt0 : goal.returns-then-place-across-gt0
 returns-then-place-across-gt0 c = sym (down_other_in c.args.window c.args.place c.requires.place c.if-place-across-gt0.true)

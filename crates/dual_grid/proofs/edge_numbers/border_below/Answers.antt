@@ -1,8 +1,8 @@
 use Rattle.std.proofs.Common.{◌+◌, ◌-◌, ◌*◌, ◌≤◌, ◌<◌, arith, ℕ}
 use Rattle.dual_grid.specs.Nodes.{cells_of}
-use Rattle.dual_grid.proofs.BesideLemmas.{at_first_row, at_last_row, nothing_between, one_found, outside_at_none}
+use Rattle.dual_grid.proofs.EdgeNumberLemmas.{at_first_row, at_last_row, nothing_between, one_found, outside_at_none}
 use Rattle.dual_grid.proofs.NumberLemmas.{rights_are}
-use Rattle.dual_grid.proofs.beside.border_below.Goals as goal
+use Rattle.dual_grid.proofs.edge_numbers.border_below.Goals as goal
 
 pub returns-then-outside-high : goal.returns-then-outside-high
 returns-then-outside-high c =

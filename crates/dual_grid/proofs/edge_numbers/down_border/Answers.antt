@@ -1,5 +1,5 @@
-use Rattle.dual_grid.proofs.BesideLemmas.{at_row_start, at_row_end, row_at_none}
-use Rattle.dual_grid.proofs.beside.down_border.Goals as goal
+use Rattle.dual_grid.proofs.EdgeNumberLemmas.{at_row_start, at_row_end, row_at_none}
+use Rattle.dual_grid.proofs.edge_numbers.down_border.Goals as goal
 
 pub returns-then-column-across-clause-border : goal.returns-then-column-across-clause-border
 returns-then-column-across-clause-border c = at_row_start c.args.window c.args.place c.requires.place

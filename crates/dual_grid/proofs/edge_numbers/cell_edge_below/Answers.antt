@@ -2,8 +2,8 @@ use Rattle.std.proofs.Common.{◌+◌, ◌-◌, ◌/◌, arith, subst, ℕ}
 use Rattle.std.specs.Prelude.{Some}
 use Rattle.dual_grid.specs.Building.{IsEdgeBelow}
 use Rattle.dual_grid.specs.Nodes.{rights_of}
-use Rattle.dual_grid.proofs.BesideLemmas.{at_bottom, at_left, at_right, at_top, cell_at_none, in_order, none_found, one_found}
-use Rattle.dual_grid.proofs.beside.cell_edge_below.Goals as goal
+use Rattle.dual_grid.proofs.EdgeNumberLemmas.{at_bottom, at_left, at_right, at_top, cell_at_none, in_order, none_found, one_found}
+use Rattle.dual_grid.proofs.edge_numbers.cell_edge_below.Goals as goal
 
 pub returns-then-left-high : goal.returns-then-left-high
 returns-then-left-high c =

@@ -1,7 +1,7 @@
 use Rattle.std.proofs.Common.{◌≡◌, ◌+◌, ◌-◌, ◌∙◌, ap, sym, arith}
 use Rattle.dual_grid.specs.Nodes.{edge_of, other_side, rights_of}
 use Rattle.dual_grid.proofs.NumberLemmas.{rights_are, right_other_in, right_other_out}
-use Rattle.dual_grid.proofs.beside.other_at.Goals as goal
+use Rattle.dual_grid.proofs.edge_numbers.other_at.Goals as goal
 
 pub returns-then-edge-outside : goal.returns-then-edge-outside
 returns-then-edge-outside c = sym (right_other_in c.args.window c.args.edge (omega (arith, rights_are c.args.window)) (omega arith))

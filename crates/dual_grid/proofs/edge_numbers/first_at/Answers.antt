@@ -1,7 +1,7 @@
 use Rattle.std.proofs.Common.{◌≡◌, ◌+◌, ◌-◌, ◌∙◌, ap, sym, arith}
 use Rattle.dual_grid.specs.Nodes.{edge_of, first_side, rights_of}
 use Rattle.dual_grid.proofs.NumberLemmas.{right_first_in, right_first_out}
-use Rattle.dual_grid.proofs.beside.first_at.Goals as goal
+use Rattle.dual_grid.proofs.edge_numbers.first_at.Goals as goal
 
 pub returns-then-edge-rights : goal.returns-then-edge-rights
 returns-then-edge-rights c = c.outside.ensures ∙ sym (right_first_out c.args.window c.args.edge (omega arith) (omega arith))

@@ -8,7 +8,7 @@ use Rattle.text_parts.proofs.ReadsLemmas.{advances_then}
 use Rattle.text_parts.proofs.TextAnswers.{reader_done, reader_failed}
 use Rattle.report_text.proofs.ReportForms.{report_code}
 use Rattle.text_parts.proofs.TextForms.{cause_of_lines, cause_of_more, lines_of_text}
-use Rattle.report_text.proofs.read.read_whole.Goals as goal
+use Rattle.report_text.proofs.read.read_to_end.Goals as goal
 
 pub returns-in_err-report-clause-reads : goal.returns-in_err-report-clause-reads
 returns-in_err-report-clause-reads g c =

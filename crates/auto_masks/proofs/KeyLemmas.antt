@@ -1,5 +1,5 @@
 -- Keys as numbers, and the key of a pixel by its place.
-use Rattle.std.proofs.Common.{◌≡◌, ℕ, zero, suc, ◌/◌, ◌%◌, ◌⊎◌, inl, inr, ◌∙◌, ap, refl, arith, true, false, List}
+use Rattle.std.proofs.Common.{◌≡◌, ℕ, ◌/◌, ◌%◌, ◌∙◌, ap, refl, arith, true, false, List}
 use Rattle.std.specs.Prelude.{ℤ, pos, negsuc, ◌==◌, not, slice_index_or}
 use Rattle.std.proofs.lemmas.Nat.{div-add-mod'}
 use Rattle.std.proofs.lemmas.Bool.Decides.{nat_tests}
@@ -21,11 +21,6 @@ keyed_is k h = number_told (key_number k) (λ e. h (one_key k (pos 0) (e ∙ (om
 
 pub not_keyed_is : (k : ℤ) → k ≡ pos 0 → not (key_number k == 0) ≡ false
 not_keyed_is k e = rw e refl
-
-pub cases_key : (k : ℤ) → (k ≡ pos 0) ⊎ (k ≡ pos 0 → ⊥)
-cases_key (pos zero) = inl refl
-cases_key (pos (suc n)) = inr (λ e. cc)
-cases_key (negsuc n) = inr (λ e. cc)
 
 -- the key at a place
 pub key_at_place : (w k : ℕ) (keys : List ℤ) → key_at w keys (k % w) (k / w) ≡ slice_index_or keys k (pos 0)

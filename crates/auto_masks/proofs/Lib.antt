@@ -1,10 +1,4 @@
-pub mod ForestLemmas
-pub mod EdgeLemmas
-pub mod FloodLemmas
-pub mod PixelLemmas
 pub mod KeyLemmas
-pub mod NumberLemmas
-pub mod RegionLemmas
 pub mod MeasureLemmas
 pub mod PatchLemmas
 pub mod SumLemmas

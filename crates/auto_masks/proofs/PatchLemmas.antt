@@ -4,8 +4,8 @@ use Rattle.std.specs.Prelude.{ℤ, slice_index, IsTrue, ◌&&◌, nat_le}
 use Rattle.std.proofs.lemmas.Bool.Decides.{nat_tests}
 use Rattle.raster_model.specs.Limits.{is_raster_size}
 use Rattle.raster_model.specs.Sums.{Field}
-use Rattle.auto_masks.proofs.RegionLemmas.{are_regions, label_at_place, label_fits, label_told}
-use Rattle.auto_masks.specs.Flood.{IsNumbered}
+use Rattle.joined_cells.proofs.RegionLemmas.{are_regions, label_at_place, label_fits, label_told}
+use Rattle.joined_cells.specs.Flood.{IsNumbered}
 use Rattle.auto_masks.specs.Patches.{ArePatchesOf, is_keyed, keyed}
 
 -- ---- what the limits of a raster say

@@ -5,7 +5,7 @@ use Rattle.raster_model.specs.declared.edge.Edge.{Edge}
 use Rattle.raster_model.specs.Seams.{AreJoined, IsFirst, IsOpenPixel, is_open_inner}
 use Rattle.raster_model.specs.Seams.AreJoined.{here, rightward, leftward, downward, upward}
 use Rattle.raster_model.specs.Sums.{Field, end_x, end_y, right_edge, down_edge}
-use Rattle.auto_masks.proofs.EdgeLemmas.{ends_in, ends_open, ends_same, inner_open}
+use Rattle.joined_cells.proofs.EdgeLemmas.{ends_in, ends_open, ends_same, inner_open}
 use Rattle.auto_masks.specs.Patches.{ArePatchesOf, is_keyed, key_number, keyed, patch_label}
 use Rattle.auto_masks.specs.PatchesView.{PatchesView}
 

@@ -12,7 +12,8 @@ use Rattle.sums_and_lists.proofs.Orders.{below_or_last}
 use Rattle.auto_masks.specs.declared.terms.ScreenTerms.{ScreenTerms}
 use Rattle.auto_masks.specs.Keeping.{is_large}
 use Rattle.auto_masks.specs.Keys.{AreKeyed}
-use Rattle.auto_masks.specs.Patches.{ArePatchesOf, key_at, key_number, no_label, patch_label, patch_size}
+use Rattle.joined_cells.specs.Flood.{no_label}
+use Rattle.auto_masks.specs.Patches.{ArePatchesOf, key_at, key_number, patch_label, patch_size}
 use Rattle.auto_masks.specs.PatchesView.{PatchesView}
 use Rattle.auto_masks.specs.Screened.{IsScreened, passes, passing_keys}
 use Rattle.auto_masks.proofs.SameKeys.{patches_too}

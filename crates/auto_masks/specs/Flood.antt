@@ -1,57 +1,9 @@
--- What a flood over the edges of a raster has joined, and the numbers of its trees. No public clause cites this file.
-use Rattle.std.specs.Prelude.{◌≡◌, ℕ, ◌+◌, ◌*◌, ◌/◌, ◌%◌, ◌<◌, ◌≤◌, ℤ, Bool, ◌&&◌, ◌==◌, IsTrue, if◌then◌else◌, List, length, slice_index}
-use Rattle.raster_model.specs.declared.edge.Edge.{Edge}
-use Rattle.raster_model.specs.Sums.{Field, end_x, end_y}
-use Rattle.raster_model.specs.Raster.{Raster}
-use Rattle.raster_model.specs.Seams.{AreJoined, is_open_inner}
-use Rattle.sums_and_lists.specs.Sums.{count_below, one_if}
+-- The flood and its numbers, of a list of keys. No public clause cites this file.
+use Rattle.std.specs.Prelude.{ℕ, ℤ, List}
+use Rattle.joined_cells.specs.Flood.{IsFlood, IsNumbered}
 use Rattle.auto_masks.specs.declared.extent.Extent.{Extent}
-use Rattle.auto_masks.specs.Forest.{IsForest}
-use Rattle.auto_masks.specs.Patches.{key_at, is_keyed, keyed, no_label}
+use Rattle.auto_masks.specs.Patches.{key_at, is_keyed, keyed}
 
--- the number of an edge: edges go in the row order of their other ends, and each pixel has two numbers, for its left edge and its upper edge
-abbrev pub edge_rank : ℕ → Edge → ℕ
-edge_rank w e = 2 * (end_y e * w + end_x e) + (if e.down then 1 else 0)
-
--- a walk joins each pixel to its root, which is no later pixel; both ends of an inner edge with a number below k and open ends have the same root; and a pixel whose edges have numbers from k on is its own root
-pub record IsFlooded (r : Raster) (mask : Field Bool) (k : ℕ) (root : ℕ → ℕ) : Type 0 where
-  pub least : (i : ℕ) → root i ≤ i
-  pub stays : (i : ℕ) → root (root i) ≡ root i
-  pub walks : (i : ℕ) → AreJoined r mask (i % r.width) (i / r.width) (root i % r.width) (root i / r.width)
-  pub edges : (e : Edge) → IsTrue (is_open_inner r mask e) → edge_rank r.width e < k → root (e.y * r.width + e.x) ≡ root (end_y e * r.width + end_x e)
-  pub alone : (i : ℕ) → k ≤ 2 * i → root i ≡ i
-
--- the parents of the pixels form such trees
-pub record IsFlood (r : Raster) (mask : Field Bool) (k : ℕ) (parents : List ℕ) : Type 0 where
-  pub root : ℕ → ℕ
-  pub size : length parents ≡ r.width * r.height
-  pub forest : IsForest parents root
-  pub flooded : IsFlooded r mask k root
-
--- the pixel at a place is open, and it is the root of its tree
-abbrev pub is_first : ℕ → Field Bool → (ℕ → ℕ) → ℕ → Bool
-is_first w mask root i = mask (i % w) (i / w) && (root i == i)
-
--- how many such pixels come before a place
-abbrev pub firsts_before : ℕ → Field Bool → (ℕ → ℕ) → ℕ → ℕ
-firsts_before w mask root k = count_below k (λ i. one_if (is_first w mask root i))
-
--- the number of a pixel's tree, or 2 ^ 32 - 1 if the pixel is masked
-abbrev pub region_number : ℕ → Field Bool → (ℕ → ℕ) → ℕ → ℕ
-region_number w mask root i = if mask (i % w) (i / w) then firsts_before w mask root (root i) else no_label
-
--- the first k places have their numbers, the others still have their parents, and `count` numbers are given
-pub record IsNumbered (r : Raster) (mask : Field Bool) (k count : ℕ) (labels : List ℕ) : Type 0 where
-  pub root : ℕ → ℕ
-  pub size : length labels ≡ r.width * r.height
-  pub flooded : IsFlooded r mask (2 * (r.height * r.width)) root
-  pub below : (i : ℕ) → k ≤ i → i < length labels → slice_index labels i ≤ i
-  pub leads : (i : ℕ) → k ≤ i → i < length labels → root (slice_index labels i) ≡ root i
-  pub ends : (i : ℕ) → k ≤ i → i < length labels → slice_index labels i ≡ i → root i ≡ i
-  pub numbers : (i : ℕ) → i < k → slice_index labels i ≡ region_number r.width mask root i
-  pub counted : count ≡ firsts_before r.width mask root k
-
--- the same of a list of keys
 abbrev pub HasJoined : Extent → List ℤ → ℕ → List ℕ → Type 0
 HasJoined e keys k parents = IsFlood (keyed e.width e.height (key_at e.width keys)) (is_keyed (key_at e.width keys)) k parents
 

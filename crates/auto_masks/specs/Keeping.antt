@@ -3,7 +3,8 @@ use Rattle.std.specs.Prelude.{◌≡◌, ℕ, ◌+◌, ◌*◌, ◌<◌, ◌≤�
 use Rattle.raster_model.specs.MaskView.{MaskView}
 use Rattle.raster_model.specs.Masks.{open_at}
 use Rattle.raster_model.specs.Sums.{Field}
-use Rattle.auto_masks.specs.Patches.{no_label, patch_label, patch_size}
+use Rattle.joined_cells.specs.Flood.{no_label}
+use Rattle.auto_masks.specs.Patches.{patch_label, patch_size}
 use Rattle.auto_masks.specs.PatchesView.{PatchesView}
 
 -- a pixel is in a patch of at least so many pixels

@@ -2,7 +2,6 @@ pub mod PatchesView
 pub mod Patches
 pub mod Screened
 pub mod Laws
-pub mod Forest
 pub mod Flood
 pub mod Measures
 pub mod Sums

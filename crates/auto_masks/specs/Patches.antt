@@ -4,6 +4,7 @@ use Rattle.std.specs.List.{count_by, position_or_len}
 use Rattle.raster_model.specs.Sums.{Field}
 use Rattle.raster_model.specs.Raster.{Raster}
 use Rattle.raster_model.specs.Seams.{AreJoined, AreRegions}
+use Rattle.joined_cells.specs.Flood.{no_label}
 use Rattle.auto_masks.specs.PatchesView.{PatchesView}
 
 -- the key of a pixel, where a list has one for each pixel in row order
@@ -26,10 +27,6 @@ keyed w h keys = record { width = w; height = h; phase = λ x y. 0; slope = λ d
 -- a walk over right, left, upper and lower neighbours joins two pixels through pixels of one key other than 0
 abbrev pub AreInOnePatch : ℕ → ℕ → Field ℤ → ℕ → ℕ → ℕ → ℕ → Type 0
 AreInOnePatch w h keys x y a b = AreJoined (keyed w h keys) (is_keyed keys) x y a b
-
--- what stands in place of a label at a pixel of key 0
-abbrev pub no_label : ℕ
-no_label = 4294967295
 
 -- the label of a pixel; the number of its patch, and None where its key is 0
 abbrev pub patch_label : PatchesView → Field ℕ

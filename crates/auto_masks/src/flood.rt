@@ -3,7 +3,7 @@ ghost use Rattle.auto_masks.specs.Patches.{key_at};
 ghost use Rattle.std.specs.Prelude.{◌≡◌, ◌+◌, ◌-◌, ◌*◌, ◌<◌, ◌≤◌, ◌↔◌, ℤ, pos, IsTrue, length, slice_index_or};
 
 use crate::extent::Extent;
-use crate::forest::{hang, join};
+use joined_cells::{hang, join};
 
 /// Joins the pixels of each patch into one tree.
 pub fn join_all(parents: &mut [u32], extent: Extent, keys: &[i64])

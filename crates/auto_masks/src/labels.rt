@@ -1,12 +1,12 @@
 ghost use Rattle.auto_masks.specs.Flood.{HasJoined, HasNumbered};
 ghost use Rattle.auto_masks.specs.Measures.{AreMeasures};
-ghost use Rattle.auto_masks.specs.Patches.{no_label};
 ghost use Rattle.raster_model.specs.Limits.{max_pixels};
-ghost use Rattle.std.specs.List.{count_by, position_or_len, range_with_len};
-ghost use Rattle.std.specs.Prelude.{◌≡◌, ◌+◌, ◌*◌, ◌<◌, ◌≤◌, ◌==◌, ℕ, ℤ, pos, IfOk, length, slice_index, slice_index_or, slice_set};
+ghost use Rattle.std.specs.List.{count_by, position_or_len};
+ghost use Rattle.std.specs.Prelude.{◌≡◌, ◌+◌, ◌*◌, ◌<◌, ◌≤◌, ◌==◌, ℕ, IfOk, length, slice_index, slice_set};
 
 use crate::extent::Extent;
 use crate::flood::join_all;
+use joined_cells::{number_place, own_parents};
 use std::alloc::{AllocError, Global};
 
 /// For each pixel the number of its patch, or `u32::MAX` if its key is 0, and how many numbers are given.
@@ -35,13 +35,6 @@ pub fn number_patches(alloc: Global, extent: Extent, keys: &[i64]) -> Result<Num
     Ok(Numbers { labels, count })
 }
 
-/// A list of the given length in which each number is its own parent.
-fn own_parents(alloc: Global, numbers: u32) -> Result<Vec<u32>, AllocError>
-    ensures { IfOk result (λ parents. parents.items ≡ range_with_len 0 numbers) }
-{
-    (0..numbers).collect(alloc)
-}
-
 /// The measures of `count` patches by the labels of all pixels.
 pub fn measure_patches(alloc: Global, labels: &[u32], count: u32) -> Result<Measures, AllocError>
     requires { length labels.now ≤ max_pixels }
@@ -63,31 +56,23 @@ fn number_all(labels: &mut [u32], extent: Extent, keys: &[i64]) -> u32
 {
     let mut count = 0;
     for place in 0..(extent.height * extent.width) as usize {
-        count = number_pixel(labels, keys, place, count);
+        count = number_pixel(labels, extent, keys, place, count);
     }
     count
 }
 
-/// Numbers the pixel at a place. If its parent is an earlier pixel, it gets the parent's number; a root gets the new
-/// number `count`. The result is how many numbers are given then.
-fn number_pixel(labels: &mut [u32], keys: &[i64], place: usize, count: u32) -> u32
+/// Numbers the pixel at a place. The result is how many numbers are given then.
+fn number_pixel(labels: &mut [u32], extent: Extent, keys: &[i64], place: usize, count: u32) -> u32
     requires within { (place < length labels.old) × (place < length keys.now) }
     requires room { count ≤ max_pixels }
-    ensures none { slice_index_or keys.now place (pos 0) ≡ pos 0 → (labels.new ≡ slice_set labels.old place no_label) × (result ≡ count) }
-    ensures old { ¬ (slice_index_or keys.now place (pos 0) ≡ pos 0) → slice_index labels.old place < place → (labels.new ≡ slice_set labels.old place (slice_index labels.old (slice_index labels.old place))) × (result ≡ count) }
-    ensures fresh { ¬ (slice_index_or keys.now place (pos 0) ≡ pos 0) → place ≤ slice_index labels.old place → (labels.new ≡ slice_set labels.old place count) × (result ≡ count + 1) }
+    requires numbered { HasNumbered extent keys.now place count labels.old }
+    ensures { HasNumbered extent keys.now (place + 1) result labels.new }
 {
     if keys[place] == 0 {
         labels[place] = u32::MAX;
         return count;
     }
-    let parent = labels[place] as usize;
-    if parent < place {
-        labels[place] = labels[parent];
-        return count;
-    }
-    labels[place] = count;
-    count + 1
+    number_place(labels, place, count)
 }
 
 /// Counts the pixels of each patch, and notes the place of its first pixel.

@@ -4,7 +4,6 @@
 
 mod extent;
 mod flood;
-mod forest;
 mod keeping;
 mod labels;
 pub mod laws;

@@ -19,8 +19,9 @@ pub struct Patches {
 }
 
 impl Model for Patches {
-    ghost use Rattle.auto_masks.specs.Patches.{first_place, no_label, patch_size};
+    ghost use Rattle.auto_masks.specs.Patches.{first_place, patch_size};
     ghost use Rattle.auto_masks.specs.PatchesView.{PatchesView};
+    ghost use Rattle.joined_cells.specs.Flood.{no_label};
     ghost use Rattle.raster_model.specs.Limits.{is_raster_size};
     ghost use Rattle.std.specs.Prelude.{◌≡◌, ◌*◌, ◌<◌, ◌≤◌, ℕ, IsTrue, slice_index, vec_len};
 

@@ -4,9 +4,10 @@ ghost use Rattle.std.specs.Arc.{arc_value};
 ghost use Rattle.std.specs.Prelude.{◌≡◌, IfOk};
 
 use certificates::SeamResult;
-use offset_guess::{Guess, Plan};
+use offset_guess::Guess;
 use offset_network::{Hint, solve_offsets_from, solve_offsets_side_by_side};
 use seam_regions::Regions;
+use seam_walk::Plan;
 use std::alloc::{AllocError, Global};
 use std::thread::Threads;
 use tile_board::Gathered;

@@ -1,7 +1,7 @@
 pub mod NodeLemmas
 pub mod EdgeLemmas
 pub mod NumberLemmas
-pub mod BesideLemmas
+pub mod EdgeNumberLemmas
 pub mod ArcLemmas
 pub mod ReadLemmas
 pub mod FlowLemmas

@@ -1,6 +1,6 @@
 ghost use Rattle.dual_grid.specs.Building.{AreFaces};
 ghost use Rattle.dual_grid.specs.Layout.{AreWithinReach, number_or_zero};
-ghost use Rattle.std.specs.Prelude.{◌≡◌, ◌<◌, ◌^◌, ◌+ℤ◌, ℕ, IfOk, length, unsigned_abs};
+ghost use Rattle.std.specs.Prelude.{◌<◌, IfOk, length};
 
 use std::alloc::{AllocError, Global};
 
@@ -17,16 +17,4 @@ pub(crate) fn faces(alloc: Global, potentials: &[i64], cells: u32) -> Result<Vec
         list.push(outside - potentials[cell])?;
     }
     Ok(list)
-}
-
-/// Adds to each number that of the other slice at its place.
-pub(crate) fn add_to_each(values: &mut [i64], amounts: &[i64])
-    requires length { length amounts.now ≡ length values.old }
-    requires within { (u : ℕ) → u < length values.old → unsigned_abs (number_or_zero values.old u +ℤ number_or_zero amounts.now u) < 2 ^ 62 }
-    ensures length { length values.new ≡ length values.old }
-    ensures added { (u : ℕ) → u < length values.old → number_or_zero values.new u ≡ number_or_zero values.old u +ℤ number_or_zero amounts.now u }
-{
-    for i in 0..values.len() {
-        values[i] += amounts[i];
-    }
 }

@@ -4,15 +4,15 @@ ghost use Rattle.flow_network.specs.Lists.{HasRoom};
 ghost use Rattle.raster_model.specs.Limits.{IsSteepness};
 ghost use Rattle.flow_network.specs.Nets.{HasReducedCosts, IsNetwork, HasNoExcess, total_excess};
 
-use crate::answering::{add_to_each, faces};
+use crate::answering::faces;
 use crate::arcs::{flow_after, leads_forth, place_below, residual_at, size_of_cost, twin_place};
-use crate::beside::{edge_below, first_at, other_at, right_count};
 use crate::checking::is_tight;
+use crate::edge_numbers::{edge_below, first_at, other_at, right_count};
 use crate::listing::{down_weights, right_weights};
 use crate::reaching::{are_low, greatest, move_flows, sums_within, turned};
 use crate::sides::outside;
 use crate::supplies::supplies;
-use flow_network::{FlowNet, carry};
+use flow_network::{FlowNet, add_each, carry};
 use raster_model::{Scene, Window};
 use std::alloc::{AllocError, Global};
 use wrapped_gradient::{Corrections, Gradients};
@@ -350,7 +350,7 @@ impl DualGrid {
         ensures raised { IsRaised (grid_shape self.old) amounts.now (grid_state self.old) (grid_state self.new) }
         ensures origin { HaveOneOrigin self.old self.new }
     {
-        add_to_each(&mut self.potentials, amounts);
+        add_each(&mut self.potentials, amounts);
     }
 
     /// What an arc can carry that has no other beside it, or that is steep: as much as there are nodes, which is more than

@@ -4,8 +4,8 @@
 
 mod answering;
 mod arcs;
-mod beside;
 mod checking;
+mod edge_numbers;
 mod grid;
 mod listing;
 mod problem;

@@ -7,7 +7,7 @@ ghost use Rattle.std.specs.Int.{w64};
 ghost use Rattle.std.specs.Prelude.{◌≡◌, ◌==◌, ◌+◌, ◌<◌, ◌≤◌, ◌^◌, ◌+ℤ◌, ◌-ℤ◌, ◌≤ℤ◌, ℕ, FitsSigned, IfOk, IsTrue, get_or, length, pos, unsigned_abs};
 ghost use Rattle.sums_and_lists.specs.Sums.{sum_below, where_true};
 
-use crate::beside::{first_at, other_at};
+use crate::edge_numbers::{first_at, other_at};
 use raster_model::{MAX_NETWORK_NODES, Window};
 use std::alloc::{AllocError, Global};
 

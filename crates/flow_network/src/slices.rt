@@ -49,7 +49,7 @@ pub fn carry(values: &mut Vec<i64>, from: usize, to: usize, amount: u64)
 /// Adds to each number that of the other slice at its place.
 pub fn add_each(values: &mut [i64], amounts: &[i64])
     requires length { length amounts.now ≡ length values.old }
-    requires within { (v : ℕ) → v < length values.old → unsigned_abs (get_or values.old v (pos 0) +ℤ get_or amounts.now v (pos 0)) ≤ 2 ^ 61 }
+    requires within { (v : ℕ) → v < length values.old → unsigned_abs (get_or values.old v (pos 0) +ℤ get_or amounts.now v (pos 0)) < 2 ^ 62 }
     ensures length { length values.new ≡ length values.old }
     ensures added { (v : ℕ) → v < length values.old → get_or values.new v (pos 0) ≡ get_or values.old v (pos 0) +ℤ get_or amounts.now v (pos 0) }
 {

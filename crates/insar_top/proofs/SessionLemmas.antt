@@ -50,8 +50,8 @@ module _ (c : Call) (pending : List ℕ) (left : Option (List ℕ)) (side : ℕ)
       let end : rest ≡ [] = alone_ends _ _ _ rest spelled.script in
       (subst (λ (r : List ℕ). IsSessionIn Alone side bytes s r) end spelled, nothing_left pending left (sym is ∙ there ∙ ap Some end))
 
-  pub read_whole : Reaches c (λ bytes rest. IsSessionIn Alone side bytes s rest) → ReadsAll c.told left (λ bytes. IsInput side bytes s)
-  read_whole r = if_told c.told _ (λ bytes t. let h = at_told c.told _ bytes t r in alone bytes h.0 h.1.0 h.1.1.1)
+  pub read_alone : Reaches c (λ bytes rest. IsSessionIn Alone side bytes s rest) → ReadsAll c.told left (λ bytes. IsInput side bytes s)
+  read_alone r = if_told c.told _ (λ bytes t. let h = at_told c.told _ bytes t r in alone bytes h.0 h.1.0 h.1.1.1)
 
 -- on the terms of the settings the session of a board is on their options
 pub given_alone : (told left : Option (List ℕ)) (settings : Settings) (plain s t : Session) → s ≡ t → (plain.scene.rule ≡ settings.rule) × (plain.scene.tiling.side ≡ settings.side) → HasNewTerms plain settings.terms t → ReadsAll told left (λ bytes. IsInput settings.side bytes (session_of plain)) → ReadsAll told left (λ bytes. IsGiven (options_of settings) bytes s)

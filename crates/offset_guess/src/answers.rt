@@ -1,7 +1,7 @@
 use crate::heights::Heights;
-use crate::joints::Joint;
 use crate::link::Link;
 use crate::network::{NO_NODE, Node};
+use seam_walk::Joint;
 use std::alloc::{AllocError, Global};
 
 /// What came out for a joint.

@@ -1,7 +1,7 @@
-use crate::joints::{NO_STEP, Step};
 use crate::link::Link;
 use crate::network::Network;
 use crate::spans::Spans;
+use crate::steps::{NO_STEP, Step};
 use std::alloc::{AllocError, Global};
 use std::ops::Range;
 

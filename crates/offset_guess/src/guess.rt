@@ -1,10 +1,7 @@
 use crate::answers::{Outcome, flows, offsets, outcomes};
-use crate::blocks::Order;
-use crate::joints::Joint;
-use crate::layout::Layout;
 use crate::link::Link;
 use crate::network::Network;
-use crate::tracing::{Traced, trace, trace_again};
+use seam_walk::{Layout, Order, Plan, plan_offsets, trace_again};
 use std::alloc::{AllocError, Global};
 
 /// An offset for each region in whole cycles, and a flow for each link from its first region to the other.
@@ -57,39 +54,6 @@ pub fn guess_planned(
     let network = Network::of_joints(alloc, joints, joint_of, links, steep)?;
     let outcomes = solve(alloc, network, &plan.order)?;
     answer(alloc, regions, steep, links, joint_of, outcomes)
-}
-
-/// What of a guess depends on nothing but where regions lie: nodes, joints, and the order in which nodes are balanced.
-#[derive(Drop)]
-pub struct Plan {
-    joints: Vec<Joint>,
-    /// The joint of each link.
-    joint_of: Vec<u32>,
-    order: Order,
-}
-
-/// The plan of a raster. It may be made before there are links, and serves for any.
-pub fn plan_offsets(alloc: Global, layout: Layout<'_>) -> Result<Plan, AllocError> {
-    let (traced, joint_of) = trace(alloc, layout)?;
-    let Traced {
-        mut spots,
-        mut joints,
-        ..
-    } = traced;
-    let across = layout.tile(layout.width.wrapping_sub(1));
-    let along = layout.tile(layout.height.wrapping_sub(1));
-    for joint in &mut joints {
-        joint.mark_ends(&mut spots);
-    }
-    let order = Order::of(alloc, &mut spots, across, along)?;
-    for joint in &mut joints {
-        joint.settle_ends(&spots);
-    }
-    Ok(Plan {
-        joints,
-        joint_of,
-        order,
-    })
 }
 
 /// What comes out for each joint.

@@ -1,4 +1,4 @@
-use crate::network::number;
+use seam_walk::number;
 use std::alloc::{AllocError, Global};
 
 /// How much higher regions are than others to which they are tied.

@@ -3,23 +3,18 @@
 #![tactic(auto)]
 
 mod answers;
-mod blocks;
+mod balancing;
 mod costs;
 mod growing;
 mod guess;
 mod heights;
-mod joints;
-mod layout;
 mod link;
 mod network;
 mod pushing;
 mod releasing;
 mod spans;
-mod spots;
-mod tracing;
+mod steps;
 mod waiting;
-mod walking;
 
-pub use crate::guess::{Guess, Plan, guess_offsets, guess_planned, plan_offsets};
-pub use crate::layout::Layout;
+pub use crate::guess::{Guess, guess_offsets, guess_planned};
 pub use crate::link::Link;

@@ -1,11 +1,9 @@
-use crate::joints::{Joint, NO_JOINT, NO_STEP, Step};
 use crate::link::Link;
 use crate::spans::Spans;
+use crate::steps::{NO_STEP, Step};
 use crate::waiting::Waiting;
+use seam_walk::{Joint, NO_JOINT, NONE, number};
 use std::alloc::{AllocError, Global};
-
-/// No node, joint or arc.
-pub(crate) const NONE: u32 = u32::MAX;
 
 /// In place of the joint by which a node joined its tree: the node is held back, in no tree, or a root.
 pub(crate) const HELD: u32 = u32::MAX;
@@ -62,11 +60,6 @@ pub(crate) struct Network {
     pub(crate) turn: u32,
     /// How many more arcs may be looked at.
     pub(crate) looks: u64,
-}
-
-/// A place in a list as a number, or `NONE` if it is too large.
-pub(crate) fn number(place: usize) -> u32 {
-    u32::try_from(place).unwrap_or(NONE)
 }
 
 impl Network {

@@ -1,4 +1,5 @@
-use crate::network::{HELD, NONE, Network};
+use crate::network::{HELD, Network};
+use seam_walk::NONE;
 use std::alloc::AllocError;
 
 impl Network {

@@ -1,4 +1,5 @@
-use crate::network::{FREE, NONE, Network};
+use crate::network::{FREE, Network};
+use seam_walk::NONE;
 use std::alloc::AllocError;
 
 impl Network {

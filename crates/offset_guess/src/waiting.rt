@@ -1,4 +1,4 @@
-use crate::network::{NONE, number};
+use seam_walk::{NONE, number};
 use std::alloc::{AllocError, Global};
 
 /// How many binary digits of a time choose a slot of a row, and how many slots a row has.

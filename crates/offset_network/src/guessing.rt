@@ -13,9 +13,10 @@ ghost use Rattle.std.specs.Prelude.{◌≡◌, ℕ, IfOk, IsTrue, length};
 use crate::fairness::are_fair_flows;
 use crate::surface::TileSurface;
 use certificates::SeamResult;
-use offset_guess::{Guess, Layout, Link, Plan, guess_offsets, guess_planned, plan_offsets};
+use offset_guess::{Guess, Link, guess_offsets, guess_planned};
 use raster_model::{Tiling, first_open};
 use seam_regions::{Regions, first_far};
+use seam_walk::{Layout, Plan, plan_offsets};
 use std::alloc::{AllocError, Global};
 
 /// What is there before the links are found, to guess offsets faster.

@@ -13,12 +13,9 @@ use crate::surface::TileSurface;
 use offset_guess::Link;
 use raster_model::Scene;
 use seam_regions::Regions;
-use side_by_side::{for_each, processors};
+use side_by_side::{for_each, processors, strip_rows};
 use std::alloc::{AllocError, Global};
 use std::thread::Threads;
-
-/// How many pixels are worth a thread.
-const SHARE: u32 = 1 << 14;
 
 /// The least side of tiles whose links are found side by side. Smaller tiles have nearly as many links as pixels, and the
 /// lists of the strips would take as much memory as the links once more.
@@ -44,7 +41,7 @@ pub(crate) fn links_side_by_side<R: Threads + Sync>(
     ensures fit { IfOk result (λ links. AreLinks regions.now.count links.items) }
 {
     let height = surface.scene.phase.height;
-    let rows = strip_rows(surface.scene, threads.min(processors(rt)));
+    let rows = rows_of_strips(surface.scene, threads.min(processors(rt)));
     if rows == height {
         return links(alloc, surface, regions);
     }
@@ -52,16 +49,16 @@ pub(crate) fn links_side_by_side<R: Threads + Sync>(
     links_of_strips(rt, alloc, &mut strips, surface, regions, rows)
 }
 
-/// How many rows each strip has for at most `threads` threads, and no more than the raster is worth.
-fn strip_rows(scene: &Scene, threads: u32) -> u32
+/// How many rows each strip has for at most `threads` threads: all of them if tiles are small.
+fn rows_of_strips(scene: &Scene, threads: u32) -> u32
     ensures some { 0 < result }
     ensures within { result ≤ scene.now.phase.height }
 {
+    let phase = &scene.phase;
     if scene.tiling.side < LEAST_SIDE {
-        return scene.phase.height;
+        return phase.height;
     }
-    let worth = scene.phase.width * scene.phase.height / SHARE;
-    scene.phase.height.div_ceil(threads.min(worth).max(1))
+    strip_rows(phase.height, phase.width * phase.height, threads)
 }
 
 /// So many strips, for which nothing is found yet.

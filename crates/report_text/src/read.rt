@@ -251,7 +251,7 @@ fn read_lines<S: Source>(
 }
 
 /// Reads a report and the end of the input.
-fn read_whole<S: Source>(
+fn read_to_end<S: Source>(
     alloc: Global,
     feed: &mut Feed<S>,
     lines: &mut Lines,
@@ -283,5 +283,5 @@ pub fn read_report<S: Source>(alloc: Global, feed: &mut Feed<S>) -> Result<Repor
     ensures exact { IfSome (left_of S.left feed.old) (λ bytes. (n : ℕ) → HasBrokenReportLine (room_of (call_of S.left S.faults feed.old feed.new)) n bytes → IsReportRefusedAt (call_of S.left S.faults feed.old feed.new) n result) }
 {
     let mut lines = Lines::new(alloc);
-    read_whole(alloc, feed, &mut lines)
+    read_to_end(alloc, feed, &mut lines)
 }

@@ -1,20 +1,19 @@
 -- For callers: a scene's raster has its tiling's tiles, and numbers by region are one number on each region.
 use Rattle.std.proofs.Common.{◌≡◌, ℕ, ◌+◌, ◌<◌, ◌∙◌, sym, ap, subst, refl, Bool, inl, inr}
-use Rattle.std.specs.Prelude.{ℤ, IsTrue, not, Some}
+use Rattle.std.specs.Prelude.{ℤ, IsTrue, Some}
 use Rattle.raster_model.specs.declared.edge.Edge.{Edge}
 use Rattle.raster_model.specs.declared.scene.Scene.{Scene}
 use Rattle.raster_model.specs.declared.tiling.Tiling.{Tiling}
 use Rattle.raster_model.specs.MaskView.{MaskView}
 use Rattle.raster_model.specs.Masks.{open_at}
 use Rattle.raster_model.specs.Scene.{raster_of}
-use Rattle.raster_model.specs.Raster.{Raster, is_seam, has_open_ends}
+use Rattle.raster_model.specs.Raster.{Raster}
 use Rattle.raster_model.specs.Seams.{AreOffsets, AreRegions, IsLabelling, is_open_inner}
 use Rattle.raster_model.specs.Seams.AreJoined.{here, rightward, downward}
-use Rattle.raster_model.specs.Sums.{Field, at_edge_start, at_edge_end, is_edge, right_edge, down_edge}
+use Rattle.raster_model.specs.Sums.{Field, at_edge_start, at_edge_end, right_edge, down_edge}
+use Rattle.joined_cells.proofs.EdgeLemmas.{down_is, ends_in, ends_open, right_is}
 use Rattle.seam_regions.specs.Regions.{region_label, region_at, IsTiledBy, AreRegionsOf}
 use Rattle.seam_regions.specs.RegionsView.{RegionsView}
-use Rattle.seam_regions.proofs.EdgeLemmas.{open_ends, tests_say}
-use Rattle.seam_regions.proofs.TileTests.{down_is, right_is}
 use Rattle.std.proofs.lemmas.Bool.{cases_Bool}
 
 pub scene_is_tiled : (s : Scene) → IsTiledBy (raster_of s) s.tiling
@@ -31,16 +30,14 @@ region_open g m v x y is l h o = is.told x y l h ∙ rw o refl
 module _ (r : Raster) (mask : Field Bool) (labels : Field ℕ) (count : ℕ) (is : IsLabelling r mask labels count) where
   right_ends : (x y : ℕ) → IsTrue (is_open_inner r mask (right_edge x y)) → labels x y ≡ labels (x + 1) y
   right_ends x y i =
-      let e = right_edge x y in
-      let t = tests_say x y (x + 1) y r.width r.height (has_open_ends mask e) (not (is_seam r e)) i in
-      let o = open_ends (is_edge r.width r.height e) (mask x y) (mask (x + 1) y) (not (is_seam r e)) i in
+      let t = ends_in r mask (right_edge x y) i in
+      let o = ends_open r mask (right_edge x y) i in
       (is.same x y (x + 1) y (t.0, t.1, o.0) (t.2, t.3, o.1)).1 (rightward here i)
 
   down_ends : (x y : ℕ) → IsTrue (is_open_inner r mask (down_edge x y)) → labels x y ≡ labels x (y + 1)
   down_ends x y i =
-      let e = down_edge x y in
-      let t = tests_say x y x (y + 1) r.width r.height (has_open_ends mask e) (not (is_seam r e)) i in
-      let o = open_ends (is_edge r.width r.height e) (mask x y) (mask x (y + 1)) (not (is_seam r e)) i in
+      let t = ends_in r mask (down_edge x y) i in
+      let o = ends_open r mask (down_edge x y) i in
       (is.same x y x (y + 1) (t.0, t.1, o.0) (t.2, t.3, o.1)).1 (downward here i)
 
   pub one_label_at_ends : (e : Edge) → IsTrue (is_open_inner r mask e) → at_edge_start labels e ≡ at_edge_end labels e

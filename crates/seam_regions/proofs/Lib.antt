@@ -1,8 +1,5 @@
-pub mod ForestLemmas
 pub mod ColumnLemmas
 pub mod TileTests
-pub mod EdgeLemmas
-pub mod FloodLemmas
 pub mod PieceLemmas
 pub mod NumberLemmas
 pub mod Sparse

@@ -1,18 +1,17 @@
 -- How many regions there can be: of three pixels side by side two lie in one tile, so at most two of them are first pixels.
 use Rattle.std.proofs.Common.{◌≡◌, ℕ, zero, suc, ◌+◌, ◌*◌, ◌/◌, ◌%◌, ◌<◌, ◌≤◌, inl, inr, sym, ◌∙◌, ap, refl, arith, Bool, true, false}
-use Rattle.std.specs.Prelude.{IsTrue, ◌==◌, not}
+use Rattle.std.specs.Prelude.{IsTrue}
 use Rattle.std.proofs.lemmas.Bool.{cases_eq, cases_lt}
-use Rattle.std.proofs.lemmas.Bool.Decides.{nat_tests}
 use Rattle.std.proofs.lemmas.Nat.{mod-mul-add, div-add-mod', mul-add-lt, mul-le}
 use Rattle.raster_model.specs.declared.tiling.Tiling.{Tiling}
-use Rattle.raster_model.specs.Sums.{Field, is_edge, right_edge}
-use Rattle.raster_model.specs.Raster.{is_seam}
+use Rattle.raster_model.specs.Sums.{Field, right_edge}
 use Rattle.raster_model.specs.Seams.{is_open_inner}
-use Rattle.seam_regions.specs.Flood.{tiled, is_first, firsts_before, IsFlooded}
+use Rattle.joined_cells.specs.Flood.{is_first, firsts_before, IsFlooded}
+use Rattle.joined_cells.proofs.EdgeLemmas.{inner_open}
+use Rattle.joined_cells.proofs.NumberLemmas.{at_place, firsts_at_most}
+use Rattle.seam_regions.specs.Flood.{tiled}
 use Rattle.seam_regions.specs.Regions.{most_regions}
-use Rattle.seam_regions.proofs.EdgeLemmas.{all_true}
-use Rattle.seam_regions.proofs.NumberLemmas.{at_place, firsts_at_most}
-use Rattle.seam_regions.proofs.TileTests.{inner_right}
+use Rattle.seam_regions.proofs.TileTests.{one_tile_across}
 use Rattle.sums_and_lists.specs.Sums.{count_below, one_if}
 use Rattle.sums_and_lists.proofs.CountLemmas.{count_below-more, count_below-none}
 use Rattle.sums_and_lists.proofs.Tests.{tells_both, one_at_most}
@@ -53,18 +52,19 @@ begins_once n d l e f =
     let o : (n / d * d + 1) % d ≡ 1 = mod-mul-add (n / d) d 1 (omega arith) in
     omega (arith, ap (λ (k : ℕ). k % d) m, o, f)
 
-no_border : (n : ℕ) → (n ≡ 0 → ⊥) → not (n == 0) ≡ true
-no_border n h = grind (arith, nat_tests)
+no_border : (n : ℕ) → (n ≡ 0 → ⊥) → 0 < n
+no_border zero h = absurd (h refl)
+no_border (suc n) h = omega arith
 
-module _ (g : Tiling) (mask : Field Bool) (root : ℕ → ℕ) (is : IsFlooded g mask (2 * (g.height * g.width)) root) (y : ℕ) (m : y < g.height) where
+module _ (g : Tiling) (mask : Field Bool) (root : ℕ → ℕ) (is : IsFlooded (tiled g) mask (2 * (g.height * g.width)) root) (y : ℕ) (m : y < g.height) where
   apart : (x : ℕ) → x + 1 < g.width → ((x + 1) % g.side ≡ 0 → ⊥) → is_first g.width mask root (y * g.width + x) ≡ true → is_first g.width mask root (y * g.width + (x + 1)) ≡ true → ⊥
   apart x l border p q =
       let i = y * g.width + x in
       let j = y * g.width + (x + 1) in
       let a = tells_both (mask (i % g.width) (i / g.width)) (root i) i p in
       let b = tells_both (mask (j % g.width) (j / g.width)) (root j) j q in
-      let inner = sym (inner_right g x y (omega arith) m (omega arith)) ∙ no_border ((x + 1) % g.side) border in
-      let t : IsTrue (is_open_inner (tiled g) mask (right_edge x y)) = all_true (is_edge g.width g.height (right_edge x y)) (mask x y) (mask (x + 1) y) (not (is_seam (tiled g) (right_edge x y))) inner (sym (at_place g mask x y (omega arith)) ∙ a.0) (sym (at_place g mask (x + 1) y l) ∙ b.0) in
+      let one = one_tile_across g x (x + 1) refl y l (no_border ((x + 1) % g.side) border) in
+      let t : IsTrue (is_open_inner (tiled g) mask (right_edge x y)) = inner_open (tiled g) mask (right_edge x y) (omega arith) m l m one (sym (at_place (tiled g) mask x y (omega arith)) ∙ a.0) (sym (at_place (tiled g) mask (x + 1) y l) ∙ b.0) in
       let within : y * g.width + (x + 1) < g.width * g.height = mul-add-lt y g.width (x + 1) g.height m l in
       let turned : g.width * g.height ≡ g.height * g.width = omega arith in
       let same : root (y * g.width + x) ≡ root (y * g.width + (x + 1)) = is.edges (right_edge x y) t (omega (arith, within, turned)) in
@@ -84,7 +84,7 @@ module _ (g : Tiling) (mask : Field Bool) (root : ℕ → ℕ) (is : IsFlooded g
   row_sparse : 3 * count_below g.width (λ x. one_if (is_first g.width mask root (y * g.width + x))) ≤ 2 * g.width + 2
   row_sparse = sparse g.width (λ x. one_if (is_first g.width mask root (y * g.width + x))) (λ x. one_at_most (is_first g.width mask root (y * g.width + x))) of_three
 
-module _ (g : Tiling) (mask : Field Bool) (root : ℕ → ℕ) (is : IsFlooded g mask (2 * (g.height * g.width)) root) where
+module _ (g : Tiling) (mask : Field Bool) (root : ℕ → ℕ) (is : IsFlooded (tiled g) mask (2 * (g.height * g.width)) root) where
   rows_sparse : (y : ℕ) → y ≤ g.height → 8 ≤ g.width → 4 * firsts_before g.width mask root (y * g.width) ≤ 3 * (y * g.width)
   rows_sparse zero l b = let e : 0 * g.width ≡ 0 = omega arith in rw e (omega (arith, count_below-none (λ i. one_if (is_first g.width mask root i))))
   rows_sparse (suc y) l b =

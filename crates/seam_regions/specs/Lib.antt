@@ -1,5 +1,4 @@
 pub mod RegionsView
 pub mod Regions
 pub mod Offsets
-pub mod Forest
 pub mod Flood

@@ -8,11 +8,12 @@ use Rattle.raster_model.specs.Raster.{Raster}
 use Rattle.raster_model.specs.Seams.{AreRegions}
 use Rattle.raster_model.specs.Sums.{Field}
 use Rattle.raster_model.specs.Tiles.{tile_at}
+use Rattle.joined_cells.specs.Flood.{no_label}
 use Rattle.seam_regions.specs.RegionsView.{RegionsView}
 
 -- what stands in place of a label at a masked pixel
 abbrev pub masked_label : ℕ
-masked_label = 4294967295
+masked_label = no_label
 
 -- the label of a pixel
 abbrev pub region_label : RegionsView → Field ℕ

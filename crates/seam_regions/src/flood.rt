@@ -1,17 +1,17 @@
 ghost use Rattle.raster_model.specs.Masks.{open_at};
-ghost use Rattle.seam_regions.specs.Flood.{IsFlood, IsOpenPiece, IsPiece};
+ghost use Rattle.seam_regions.specs.Flood.{HasJoined, IsOpenPiece, IsPiece};
 ghost use Rattle.std.specs.Prelude.{◌≡◌, ◌+◌, ◌*◌, ◌<◌, ◌≤◌, IsTrue};
 
-use crate::forest::{hang, join};
 use crate::pieces::Piece;
+use joined_cells::{hang, join};
 use raster_model::{Mask, Tiling};
 
 /// Joins the open pixels of each region into one tree.
 pub fn join_all(parents: &mut [u32], tiling: &Tiling, mask: &Mask)
     requires across { mask.now.width ≡ tiling.now.width }
     requires along { mask.now.height ≡ tiling.now.height }
-    requires flood { IsFlood tiling.now (open_at mask.now) 0 parents.old }
-    ensures { IsFlood tiling.now (open_at mask.now) (2 * (tiling.now.height * tiling.now.width)) parents.new }
+    requires flood { HasJoined tiling.now (open_at mask.now) 0 parents.old }
+    ensures { HasJoined tiling.now (open_at mask.now) (2 * (tiling.now.height * tiling.now.width)) parents.new }
 {
     for y in 0..tiling.height {
         join_row(parents, tiling, mask, y);
@@ -23,8 +23,8 @@ fn join_row(parents: &mut [u32], tiling: &Tiling, mask: &Mask, y: u32)
     requires across { mask.now.width ≡ tiling.now.width }
     requires along { mask.now.height ≡ tiling.now.height }
     requires row { y < tiling.now.height }
-    requires flood { IsFlood tiling.now (open_at mask.now) (2 * (y * tiling.now.width)) parents.old }
-    ensures { IsFlood tiling.now (open_at mask.now) (2 * ((y + 1) * tiling.now.width)) parents.new }
+    requires flood { HasJoined tiling.now (open_at mask.now) (2 * (y * tiling.now.width)) parents.old }
+    ensures { HasJoined tiling.now (open_at mask.now) (2 * ((y + 1) * tiling.now.width)) parents.new }
 {
     let top = y % tiling.side == 0;
     let mut first = 0;
@@ -51,8 +51,8 @@ fn join_piece(parents: &mut [u32], tiling: &Tiling, mask: &Mask, piece: Piece)
     requires across { mask.now.width ≡ tiling.now.width }
     requires along { mask.now.height ≡ tiling.now.height }
     requires piece { IsPiece tiling.now piece }
-    requires flood { IsFlood tiling.now (open_at mask.now) (2 * (piece.y * tiling.now.width + piece.first)) parents.old }
-    ensures { IsFlood tiling.now (open_at mask.now) (2 * (piece.y * tiling.now.width + piece.last + 1)) parents.new }
+    requires flood { HasJoined tiling.now (open_at mask.now) (2 * (piece.y * tiling.now.width + piece.first)) parents.old }
+    ensures { HasJoined tiling.now (open_at mask.now) (2 * (piece.y * tiling.now.width + piece.last + 1)) parents.new }
 {
     if is_open_piece(tiling, mask, piece) {
         join_open(parents, tiling, mask, piece);
@@ -83,8 +83,8 @@ fn join_open(parents: &mut [u32], tiling: &Tiling, mask: &Mask, piece: Piece)
     requires along { mask.now.height ≡ tiling.now.height }
     requires piece { IsPiece tiling.now piece }
     requires open { IsOpenPiece mask.now piece }
-    requires flood { IsFlood tiling.now (open_at mask.now) (2 * (piece.y * tiling.now.width + piece.first)) parents.old }
-    ensures { IsFlood tiling.now (open_at mask.now) (2 * (piece.y * tiling.now.width + piece.last + 1)) parents.new }
+    requires flood { HasJoined tiling.now (open_at mask.now) (2 * (piece.y * tiling.now.width + piece.first)) parents.old }
+    ensures { HasJoined tiling.now (open_at mask.now) (2 * (piece.y * tiling.now.width + piece.last + 1)) parents.new }
 {
     join_first(parents, tiling, mask, piece);
     let row = (piece.y * tiling.width) as usize;
@@ -98,8 +98,8 @@ fn join_open(parents: &mut [u32], tiling: &Tiling, mask: &Mask, piece: Piece)
 fn join_first(parents: &mut [u32], tiling: &Tiling, mask: &Mask, piece: Piece)
     requires piece { IsPiece tiling.now piece }
     requires open { IsOpenPiece mask.now piece }
-    requires flood { IsFlood tiling.now (open_at mask.now) (2 * (piece.y * tiling.now.width + piece.first)) parents.old }
-    ensures { IsFlood tiling.now (open_at mask.now) (2 * (piece.y * tiling.now.width + piece.first + 1)) parents.new }
+    requires flood { HasJoined tiling.now (open_at mask.now) (2 * (piece.y * tiling.now.width + piece.first)) parents.old }
+    ensures { HasJoined tiling.now (open_at mask.now) (2 * (piece.y * tiling.now.width + piece.first + 1)) parents.new }
 {
     if !piece.top {
         let place = piece.y * tiling.width + piece.first;
@@ -112,8 +112,8 @@ fn join_pixels(parents: &mut [u32], tiling: &Tiling, mask: &Mask, piece: Piece)
     requires across { mask.now.width ≡ tiling.now.width }
     requires along { mask.now.height ≡ tiling.now.height }
     requires piece { IsPiece tiling.now piece }
-    requires flood { IsFlood tiling.now (open_at mask.now) (2 * (piece.y * tiling.now.width + piece.first)) parents.old }
-    ensures { IsFlood tiling.now (open_at mask.now) (2 * (piece.y * tiling.now.width + piece.last + 1)) parents.new }
+    requires flood { HasJoined tiling.now (open_at mask.now) (2 * (piece.y * tiling.now.width + piece.first)) parents.old }
+    ensures { HasJoined tiling.now (open_at mask.now) (2 * (piece.y * tiling.now.width + piece.last + 1)) parents.new }
 {
     for x in piece.first..piece.last + 1 {
         join_pixel(parents, tiling, mask, piece, x);
@@ -126,8 +126,8 @@ fn join_pixel(parents: &mut [u32], tiling: &Tiling, mask: &Mask, piece: Piece, x
     requires along { mask.now.height ≡ tiling.now.height }
     requires piece { IsPiece tiling.now piece }
     requires column { (piece.first ≤ x) × (x ≤ piece.last) }
-    requires flood { IsFlood tiling.now (open_at mask.now) (2 * (piece.y * tiling.now.width + x)) parents.old }
-    ensures { IsFlood tiling.now (open_at mask.now) (2 * (piece.y * tiling.now.width + x + 1)) parents.new }
+    requires flood { HasJoined tiling.now (open_at mask.now) (2 * (piece.y * tiling.now.width + x)) parents.old }
+    ensures { HasJoined tiling.now (open_at mask.now) (2 * (piece.y * tiling.now.width + x + 1)) parents.new }
 {
     if mask.is_open(x, piece.y) {
         join_left(parents, tiling, mask, piece, x);
@@ -142,8 +142,8 @@ fn join_left(parents: &mut [u32], tiling: &Tiling, mask: &Mask, piece: Piece, x:
     requires piece { IsPiece tiling.now piece }
     requires column { (piece.first ≤ x) × (x ≤ piece.last) }
     requires open { IsTrue (open_at mask.now x piece.y) }
-    requires flood { IsFlood tiling.now (open_at mask.now) (2 * (piece.y * tiling.now.width + x)) parents.old }
-    ensures { IsFlood tiling.now (open_at mask.now) (2 * (piece.y * tiling.now.width + x) + 1) parents.new }
+    requires flood { HasJoined tiling.now (open_at mask.now) (2 * (piece.y * tiling.now.width + x)) parents.old }
+    ensures { HasJoined tiling.now (open_at mask.now) (2 * (piece.y * tiling.now.width + x) + 1) parents.new }
 {
     if x == piece.first {
         return;
@@ -161,8 +161,8 @@ fn join_upper(parents: &mut [u32], tiling: &Tiling, mask: &Mask, piece: Piece, x
     requires piece { IsPiece tiling.now piece }
     requires column { (piece.first ≤ x) × (x ≤ piece.last) }
     requires open { IsTrue (open_at mask.now x piece.y) }
-    requires flood { IsFlood tiling.now (open_at mask.now) (2 * (piece.y * tiling.now.width + x) + 1) parents.old }
-    ensures { IsFlood tiling.now (open_at mask.now) (2 * (piece.y * tiling.now.width + x + 1)) parents.new }
+    requires flood { HasJoined tiling.now (open_at mask.now) (2 * (piece.y * tiling.now.width + x) + 1) parents.old }
+    ensures { HasJoined tiling.now (open_at mask.now) (2 * (piece.y * tiling.now.width + x + 1)) parents.new }
 {
     if piece.top {
         return;

@@ -4,7 +4,6 @@
 
 mod columns;
 mod flood;
-mod forest;
 mod numbers;
 mod offsets;
 mod pieces;

@@ -1,8 +1,9 @@
 ghost use Rattle.raster_model.specs.Masks.{open_at, IsSpanOf};
-ghost use Rattle.seam_regions.specs.Flood.{IsFlood, IsNumbered};
+ghost use Rattle.seam_regions.specs.Flood.{HasJoined, HasNumbered};
 ghost use Rattle.seam_regions.specs.Regions.{most_regions};
 ghost use Rattle.std.specs.Prelude.{◌≡◌, ◌+◌, ◌*◌, ◌<◌, ◌≤◌, IsTrue, true};
 
+use joined_cells::number_place;
 use raster_model::{Mask, Tiling};
 
 /// Replaces each pixel's parent by the number of its tree, or by `u32::MAX` if the pixel is masked. Trees are numbered
@@ -10,8 +11,8 @@ use raster_model::{Mask, Tiling};
 pub fn number_all(labels: &mut [u32], tiling: &Tiling, mask: &Mask) -> u32
     requires across { mask.now.width ≡ tiling.now.width }
     requires along { mask.now.height ≡ tiling.now.height }
-    requires flood { IsFlood tiling.now (open_at mask.now) (2 * (tiling.now.height * tiling.now.width)) labels.old }
-    ensures numbers { IsNumbered tiling.now (open_at mask.now) (tiling.now.height * tiling.now.width) result labels.new }
+    requires flood { HasJoined tiling.now (open_at mask.now) (2 * (tiling.now.height * tiling.now.width)) labels.old }
+    ensures numbers { HasNumbered tiling.now (open_at mask.now) (tiling.now.height * tiling.now.width) result labels.new }
     ensures few { result ≤ most_regions }
 {
     let mut count = 0;
@@ -26,8 +27,8 @@ fn number_row(labels: &mut [u32], tiling: &Tiling, mask: &Mask, y: u32, count: u
     requires across { mask.now.width ≡ tiling.now.width }
     requires along { mask.now.height ≡ tiling.now.height }
     requires row { y < tiling.now.height }
-    requires numbers { IsNumbered tiling.now (open_at mask.now) (y * tiling.now.width) count labels.old }
-    ensures { IsNumbered tiling.now (open_at mask.now) ((y + 1) * tiling.now.width) result labels.new }
+    requires numbers { HasNumbered tiling.now (open_at mask.now) (y * tiling.now.width) count labels.old }
+    ensures { HasNumbered tiling.now (open_at mask.now) ((y + 1) * tiling.now.width) result labels.new }
 {
     let mut given = count;
     let mut first = 0;
@@ -54,8 +55,8 @@ fn number_span(
     requires along { mask.now.height ≡ tiling.now.height }
     requires row { y < tiling.now.height }
     requires span { (first ≤ last) × (last < tiling.now.width) }
-    requires numbers { IsNumbered tiling.now (open_at mask.now) (y * tiling.now.width + first) count labels.old }
-    ensures { IsNumbered tiling.now (open_at mask.now) (y * tiling.now.width + last + 1) result labels.new }
+    requires numbers { HasNumbered tiling.now (open_at mask.now) (y * tiling.now.width + first) count labels.old }
+    ensures { HasNumbered tiling.now (open_at mask.now) (y * tiling.now.width + last + 1) result labels.new }
 {
     if mask.is_open_span(y, first, last) {
         number_open(labels, tiling, mask, y, first, last, count)
@@ -77,8 +78,8 @@ fn number_open(
     requires row { y < tiling.now.height }
     requires span { (first ≤ last) × (last < tiling.now.width) }
     requires open { IsSpanOf mask.now y first last true }
-    requires numbers { IsNumbered tiling.now (open_at mask.now) (y * tiling.now.width + first) count labels.old }
-    ensures { IsNumbered tiling.now (open_at mask.now) (y * tiling.now.width + last + 1) result labels.new }
+    requires numbers { HasNumbered tiling.now (open_at mask.now) (y * tiling.now.width + first) count labels.old }
+    ensures { HasNumbered tiling.now (open_at mask.now) (y * tiling.now.width + last + 1) result labels.new }
 {
     let mut given = count;
     for x in first..last + 1 {
@@ -101,8 +102,8 @@ fn number_pixels(
     requires along { mask.now.height ≡ tiling.now.height }
     requires row { y < tiling.now.height }
     requires span { (first ≤ last) × (last < tiling.now.width) }
-    requires numbers { IsNumbered tiling.now (open_at mask.now) (y * tiling.now.width + first) count labels.old }
-    ensures { IsNumbered tiling.now (open_at mask.now) (y * tiling.now.width + last + 1) result labels.new }
+    requires numbers { HasNumbered tiling.now (open_at mask.now) (y * tiling.now.width + first) count labels.old }
+    ensures { HasNumbered tiling.now (open_at mask.now) (y * tiling.now.width + last + 1) result labels.new }
 {
     let mut given = count;
     for x in first..last + 1 {
@@ -116,8 +117,8 @@ fn number_pixel(labels: &mut [u32], tiling: &Tiling, mask: &Mask, x: u32, y: u32
     requires across { mask.now.width ≡ tiling.now.width }
     requires along { mask.now.height ≡ tiling.now.height }
     requires pixel { (x < tiling.now.width) × (y < tiling.now.height) }
-    requires numbers { IsNumbered tiling.now (open_at mask.now) (y * tiling.now.width + x) count labels.old }
-    ensures { IsNumbered tiling.now (open_at mask.now) (y * tiling.now.width + x + 1) result labels.new }
+    requires numbers { HasNumbered tiling.now (open_at mask.now) (y * tiling.now.width + x) count labels.old }
+    ensures { HasNumbered tiling.now (open_at mask.now) (y * tiling.now.width + x + 1) result labels.new }
 {
     if mask.is_open(x, y) {
         return number_open_pixel(labels, tiling, mask, x, y, count);
@@ -126,7 +127,7 @@ fn number_pixel(labels: &mut [u32], tiling: &Tiling, mask: &Mask, x: u32, y: u32
     count
 }
 
-/// Numbers an open pixel. If its parent is an earlier pixel, it gets the parent's number; a root gets a new number.
+/// Numbers an open pixel.
 fn number_open_pixel(
     labels: &mut [u32],
     tiling: &Tiling,
@@ -137,15 +138,8 @@ fn number_open_pixel(
 ) -> u32
     requires pixel { (x < tiling.now.width) × (y < tiling.now.height) }
     requires open { IsTrue (open_at mask.now x y) }
-    requires numbers { IsNumbered tiling.now (open_at mask.now) (y * tiling.now.width + x) count labels.old }
-    ensures { IsNumbered tiling.now (open_at mask.now) (y * tiling.now.width + x + 1) result labels.new }
+    requires numbers { HasNumbered tiling.now (open_at mask.now) (y * tiling.now.width + x) count labels.old }
+    ensures { HasNumbered tiling.now (open_at mask.now) (y * tiling.now.width + x + 1) result labels.new }
 {
-    let place = (y * tiling.width + x) as usize;
-    let parent = labels[place] as usize;
-    if parent < place {
-        labels[place] = labels[parent];
-        return count;
-    }
-    labels[place] = count;
-    count + 1
+    number_place(labels, (y * tiling.width + x) as usize, count)
 }

@@ -1,8 +1,6 @@
-ghost use Rattle.std.specs.List.{range_with_len};
-ghost use Rattle.std.specs.Prelude.{◌≡◌, IfOk};
-
 use crate::flood::join_all;
 use crate::numbers::number_all;
+use joined_cells::own_parents;
 use raster_model::{Mask, Tiling};
 use std::alloc::{AllocError, Global};
 use std::marker::Model;
@@ -78,11 +76,4 @@ impl Regions {
     {
         &self.labels
     }
-}
-
-/// A list of the given length in which each number is its own parent.
-fn own_parents(alloc: Global, numbers: u32) -> Result<Vec<u32>, AllocError>
-    ensures { IfOk result (λ parents. parents.items ≡ range_with_len 0 numbers) }
-{
-    (0..numbers).collect(alloc)
 }

@@ -60,7 +60,7 @@ IsScriptPart f usage bytes scripts rest = HasNoScript usage bytes scripts rest �
 abbrev pub IsLongLine : List ℕ → Type 0
 IsLongLine bytes = (line : List ℕ) × (others : List ℕ) × (bytes ≡ line ++ others) × (length line ≡ 65) × All IsInLine line
 
-pub record IsOther (bytes : List ℕ) : Type 0 where
+pub record IsUnknownLine (bytes : List ℕ) : Type 0 where
   pub line : List ℕ
   pub others : List ℕ
   pub parts : bytes ≡ line ++ 10 ∷ others
@@ -69,7 +69,7 @@ pub record IsOther (bytes : List ℕ) : Type 0 where
   pub spells : SpellsNone line
 
 abbrev pub IsNoLine : List ℕ → Type 0
-IsNoLine bytes = IsLongLine bytes ⊎ IsOther bytes
+IsNoLine bytes = IsLongLine bytes ⊎ IsUnknownLine bytes
 
 -- the input ends within a line
 abbrev pub IsCutLine : List ℕ → Type 0

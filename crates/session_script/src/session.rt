@@ -60,7 +60,7 @@ pub fn read_session<S: Source>(
     // What has a fault is refused with it: with its first break, or as too long.
     ensures exact { IfSome (left_of S.left feed.old) (λ bytes. (fault : AnyFault) → HasFault use_as side bytes fault → IsRefusedFor (call_of S.left S.faults feed.old feed.new) fault result) }
 {
-    read_whole(alloc, feed, use_as, side, kind)
+    read_all(alloc, feed, use_as, side, kind)
 }
 
 /// Reads a session as `read_session` does. If `threads` is 2 or more, two more threads weigh the edges while the caller's
@@ -97,11 +97,11 @@ pub fn read_session_side_by_side<R: Threads + Sync, S: Source>(
     if threads < 2 {
         return read_session(alloc, feed, use_as, side, kind);
     }
-    read_whole_side_by_side(rt, alloc, feed, use_as, side, kind)
+    read_all_side_by_side(rt, alloc, feed, use_as, side, kind)
 }
 
 /// Reads the parts of a session and makes it.
-fn read_whole<S: Source>(
+fn read_all<S: Source>(
     alloc: Global,
     feed: &mut Feed<S>,
     use_as: SessionUse,
@@ -122,7 +122,7 @@ fn read_whole<S: Source>(
 }
 
 /// The same, where more threads help to make it.
-fn read_whole_side_by_side<R: Threads + Sync, S: Source>(
+fn read_all_side_by_side<R: Threads + Sync, S: Source>(
     rt: &R,
     alloc: Global,
     feed: &mut Feed<S>,

@@ -1,11 +1,14 @@
 //! Calls side by side, in threads that the caller's thread starts one after another.
 #![tactic(auto)]
 
+mod strips;
+
 ghost use Rattle.side_by_side.specs.Chains.{AreDone, AreReady};
 ghost use Rattle.std.specs.Fork.{AcceptsAt, AcceptsEach, ChangesAt, ChangesEach};
 ghost use Rattle.std.specs.Prelude.{◌≡◌, ◌+◌, ◌≤◌, length};
 ghost use Rattle.std.specs.Thread.{IsSend, IsSync};
 
+pub use crate::strips::strip_rows;
 use std::thread::{Threads, available_parallelism, join_mut};
 
 /// How many threads can run at once for this program; more than can be counted if the system does not tell.

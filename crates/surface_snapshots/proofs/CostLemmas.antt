@@ -3,7 +3,7 @@ use Rattle.std.proofs.Common.{◌≡◌, ◌∙◌, ℕ, ◌+◌, ◌^◌, ◌<�
 use Rattle.std.specs.Prelude.{ℤ, pos, ◌+ℤ◌, if◌then◌else◌, ◌&&◌, ◌==◌, not, IsTrue, nat_lt}
 use Rattle.std.proofs.lemmas.Int.{ints}
 use Rattle.std.proofs.lemmas.Bool.{and_parts}
-use Rattle.std.proofs.lemmas.Bool.Decides.{eqb_tells}
+use Rattle.std.proofs.lemmas.Bool.Decides.{eqb_tells, nat_tests}
 use Rattle.raster_model.specs.declared.edge.Edge.{Edge}
 use Rattle.raster_model.specs.Heights.{KnowsEnds}
 use Rattle.raster_model.specs.Sums.{Field, right_edge, down_edge, end_x, end_y, is_edge, sum_grid, sum_row}
@@ -44,6 +44,12 @@ module _ (m : MaskView) (x y : ℕ) (clear : AreOpenFrom m y x (x + 1)) where
       both_true (open_at m x y) (open_at m x (y + 1)) (clear x y l (omega (arith, k)) (omega arith) (omega arith) (omega arith) (omega arith)) (clear x (y + 1) l k (omega arith) (omega arith) (omega arith) (omega arith))
 
 -- the right and the lower edge of a pixel
+pub right_inside : (w h x y : ℕ) → x < w → y < h → nat_lt (x + 1) w ≡ is_edge w h (right_edge x y)
+right_inside w h x y l m = grind (arith, nat_tests)
+
+pub lower_inside : (w h x y : ℕ) → x < w → y < h → nat_lt (y + 1) h ≡ is_edge w h (down_edge x y)
+lower_inside w h x y l m = grind (arith, nat_tests)
+
 pub both_edges : (r : Raster) (mask : Field Bool) (S : Field ℤ) (x y a b : ℕ) → pos a ≡ where_true (nat_lt (x + 1) r.width) (inner_edge_cost r mask S (right_edge x y)) → pos b ≡ where_true (nat_lt (y + 1) r.height) (inner_edge_cost r mask S (down_edge x y)) → pos (a + b) ≡ inner_cost_from r mask S x y
 unfolding inner_cost_from
 both_edges r mask S x y a b p q = omega (arith, ints, p, q)

@@ -1,10 +1,11 @@
+ghost use Rattle.certificates.specs.Ends.{passes_end};
 ghost use Rattle.raster_model.specs.Heights.{KnowsOpen};
 ghost use Rattle.raster_model.specs.Limits.{max_side};
 ghost use Rattle.raster_model.specs.Masks.{open_at};
 ghost use Rattle.raster_model.specs.Raster.{has_open_ends, is_seam, lifted, seam_cost as seam_cost_of, seam_cost_from, seam_edge_cost};
 ghost use Rattle.raster_model.specs.Scene.{raster_of};
-ghost use Rattle.raster_model.specs.Sums.{down_edge, is_edge, right_edge, sum_row};
-ghost use Rattle.std.specs.Prelude.{◌≡◌, ◌==◌, ◌+◌, ◌-◌, ◌*◌, ◌%◌, ◌<◌, ◌≤◌, ◌^◌, IfOk, IsTrue, if◌then◌else◌, nat_lt, pos};
+ghost use Rattle.raster_model.specs.Sums.{is_edge, sum_row};
+ghost use Rattle.std.specs.Prelude.{◌≡◌, ◌==◌, ◌+◌, ◌-◌, ◌*◌, ◌%◌, ◌<◌, ◌≤◌, ◌^◌, IfOk, IsTrue, if◌then◌else◌, pos};
 ghost use Rattle.sums_and_lists.specs.Sums.{where_true};
 ghost use Rattle.surface_snapshots.specs.Loops.{AddUpTo, AreOfEdges, AreOfRows, AreOpenFrom, FollowsDown, FollowsRight, KnowsFrom, KnowsOpenRows, inner_cost_from, inner_edge_cost};
 ghost use Rattle.surface_snapshots.specs.Parts.{tile_costs};
@@ -302,59 +303,35 @@ pub(crate) fn costs_from<H: Heights>(
     ensures seams { pos result.seams ≡ seam_cost_from (raster_of scene.now) (open_at mask.now) (lifted (raster_of scene.now) (H.cycles_at heights.now)) x y }
     ensures small { AreOfEdges 2 result }
 {
-    let right = right_costs(scene, mask, heights, x, y, last, unmasked);
-    right.plus(lower_costs(scene, mask, heights, x, y, lowest, unmasked))
+    let right = Edge { x, y, down: false };
+    let lower = Edge { x, y, down: true };
+    let has_right = x + 1 < scene.phase.width;
+    let has_lower = y + 1 < scene.phase.height;
+    let costs = side_costs(scene, mask, heights, right, has_right, last, unmasked);
+    costs.plus(side_costs(scene, mask, heights, lower, has_lower, lowest, unmasked))
 }
 
-/// What the right edge of a pixel adds, if there is one.
-fn right_costs<H: Heights>(
+/// What an edge adds, if it is one: `inside` tells that. `across` and `unmasked` are as for `edge_costs`.
+fn side_costs<H: Heights>(
     scene: &Scene,
     mask: &Mask,
     heights: &H,
-    x: u32,
-    y: u32,
-    last: bool,
+    edge: Edge,
+    inside: bool,
+    across: bool,
     unmasked: bool,
 ) -> Costs
     requires same_size { (mask.now.width ≡ scene.now.phase.width) × (mask.now.height ≡ scene.now.phase.height) }
-    requires known { KnowsOpenRows (raster_of scene.now) (open_at mask.now) (H.knows heights.now) y (y + 1) }
-    requires pixel { (x < scene.now.phase.width) × (y < scene.now.phase.height) }
-    requires last { last ≡ ((x + 1) % scene.now.tiling.side == 0) }
-    requires unmasked { IsTrue unmasked → AreOpenFrom mask.now y x (x + 1) }
-    ensures tiles { pos result.tiles ≡ where_true (nat_lt (x + 1) scene.now.phase.width) (inner_edge_cost (raster_of scene.now) (open_at mask.now) (lifted (raster_of scene.now) (H.cycles_at heights.now)) (right_edge x y)) }
-    ensures seams { pos result.seams ≡ where_true (nat_lt (x + 1) scene.now.phase.width) (seam_edge_cost (raster_of scene.now) (open_at mask.now) (lifted (raster_of scene.now) (H.cycles_at heights.now)) (right_edge x y)) }
+    requires known { KnowsOpenRows (raster_of scene.now) (open_at mask.now) (H.knows heights.now) edge.y (edge.y + 1) }
+    requires inside { inside ≡ is_edge scene.now.phase.width scene.now.phase.height edge }
+    requires across { across ≡ passes_end scene.now.tiling.side edge }
+    requires unmasked { IsTrue unmasked → IsTrue inside → IsTrue (has_open_ends (open_at mask.now) edge) }
+    ensures tiles { pos result.tiles ≡ where_true inside (inner_edge_cost (raster_of scene.now) (open_at mask.now) (lifted (raster_of scene.now) (H.cycles_at heights.now)) edge) }
+    ensures seams { pos result.seams ≡ where_true inside (seam_edge_cost (raster_of scene.now) (open_at mask.now) (lifted (raster_of scene.now) (H.cycles_at heights.now)) edge) }
     ensures small { AreOfEdges 1 result }
 {
-    if x + 1 < scene.phase.width {
-        let edge = Edge { x, y, down: false };
-        edge_costs(scene, mask, heights, edge, last, unmasked)
-    } else {
-        NO_COSTS
-    }
-}
-
-/// What the lower edge of a pixel adds, if there is one.
-fn lower_costs<H: Heights>(
-    scene: &Scene,
-    mask: &Mask,
-    heights: &H,
-    x: u32,
-    y: u32,
-    lowest: bool,
-    unmasked: bool,
-) -> Costs
-    requires same_size { (mask.now.width ≡ scene.now.phase.width) × (mask.now.height ≡ scene.now.phase.height) }
-    requires known { KnowsOpenRows (raster_of scene.now) (open_at mask.now) (H.knows heights.now) y (y + 1) }
-    requires pixel { (x < scene.now.phase.width) × (y < scene.now.phase.height) }
-    requires lowest { lowest ≡ ((y + 1) % scene.now.tiling.side == 0) }
-    requires unmasked { IsTrue unmasked → AreOpenFrom mask.now y x (x + 1) }
-    ensures tiles { pos result.tiles ≡ where_true (nat_lt (y + 1) scene.now.phase.height) (inner_edge_cost (raster_of scene.now) (open_at mask.now) (lifted (raster_of scene.now) (H.cycles_at heights.now)) (down_edge x y)) }
-    ensures seams { pos result.seams ≡ where_true (nat_lt (y + 1) scene.now.phase.height) (seam_edge_cost (raster_of scene.now) (open_at mask.now) (lifted (raster_of scene.now) (H.cycles_at heights.now)) (down_edge x y)) }
-    ensures small { AreOfEdges 1 result }
-{
-    if y + 1 < scene.phase.height {
-        let edge = Edge { x, y, down: true };
-        edge_costs(scene, mask, heights, edge, lowest, unmasked)
+    if inside {
+        edge_costs(scene, mask, heights, edge, across, unmasked)
     } else {
         NO_COSTS
     }

@@ -7,13 +7,10 @@ ghost use Rattle.surface_snapshots.specs.Strips.{AreCounted, HasRoom};
 use crate::blocks::{ROWS, strip_costs};
 use crate::counting::{Costs, NO_COSTS};
 use crate::shifted::ShiftedTiles;
-use raster_model::{Mask, Plane};
-use side_by_side::{for_each, processors};
+use raster_model::Mask;
+use side_by_side::{for_each, processors, strip_rows};
 use std::alloc::{AllocError, Global};
 use std::thread::Threads;
-
-/// How many pixels are worth a thread.
-const SHARE: u32 = 1 << 14;
 
 /// What a thread has for the rows that it counts: their costs, and room for the cycles of a block of them and of the row
 /// below it.
@@ -44,19 +41,11 @@ impl Costs {
         ensures seams { IfOk result (λ costs. pos costs.seams ≡ seam_cost_of (raster_under surface.now) (open_at mask.now) (lifted (raster_under surface.now) (cycles_under surface.now))) }
     {
         let phase = &surface.scene.phase;
-        let rows = strip_rows(phase, threads.min(processors(rt)));
+        let pixels = phase.width * phase.height;
+        let rows = strip_rows(phase.height, pixels, threads.min(processors(rt)));
         let mut strips = strips(alloc, phase.height.div_ceil(rows), rows, phase.width)?;
         Ok(count(rt, &mut strips, surface, mask, rows))
     }
-}
-
-/// How many rows each strip has for at most `threads` threads, and no more than a raster of so many pixels is worth.
-fn strip_rows(phase: &Plane, threads: u32) -> u32
-    ensures some { 0 < result }
-    ensures within { result ≤ phase.now.height }
-{
-    let worth = phase.width * phase.height / SHARE;
-    phase.height.div_ceil(threads.min(worth).max(1))
 }
 
 /// So many strips, of so many rows of a width.

@@ -4,10 +4,10 @@ ghost use Rattle.seam_regions.specs.Regions.{AreRegionsOf};
 ghost use Rattle.surface_snapshots.specs.Packed.{ArePackedRegionsOf};
 ghost use Rattle.tile_workers.specs.Found.{AreFoundOf, regions_found};
 
-use offset_guess::Plan;
 use offset_network::plan_seams;
 use raster_model::{Mask, Tiling};
 use seam_regions::Regions;
+use seam_walk::Plan;
 use std::alloc::{AllocError, Global};
 use surface_snapshots::PackedRegions;
 use tile_board::PresentMask;

@@ -1,7 +1,7 @@
 use Rattle.std.proofs.Common.{ℕ, arith, subst}
 use Rattle.sums_and_lists.proofs.Tests.{true_and_false}
 use Rattle.auto_masks.proofs.KeyLemmas.{not_keyed_is}
-use Rattle.auto_masks.proofs.PixelLemmas.{pixel_masked}
+use Rattle.joined_cells.proofs.PixelLemmas.{pixel_masked}
 use Rattle.auto_masks.specs.Flood.{HasJoined}
 use Rattle.auto_masks.specs.Patches.{key_at, is_keyed, keyed}
 use Rattle.auto_masks.proofs.flood.join_pixel.Goals as goal

@@ -3,7 +3,7 @@ use Rattle.std.specs.List.{range_with_len}
 use Rattle.std.specs.Vec.{with_items}
 use Rattle.std.proofs.lemmas.List.{with_items_is}
 use Rattle.std.proofs.lemmas.List.FromFn.{length-range_with_len, get_or-range_with_len}
-use Rattle.auto_masks.proofs.FloodLemmas.{flood_begins}
+use Rattle.joined_cells.proofs.FloodLemmas.{flood_begins}
 use Rattle.auto_masks.specs.Patches.{key_at, is_keyed, keyed}
 use Rattle.auto_masks.proofs.labels.number_patches.Goals as goal
 

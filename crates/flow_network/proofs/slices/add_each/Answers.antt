@@ -1,4 +1,4 @@
-use Rattle.std.proofs.Common.{rules, arith, ◌≡◌, ◌<◌, ◌≤◌, ◌^◌, ◌∙◌, inl, inr, FitsSigned, to_z, of_z}
+use Rattle.std.proofs.Common.{rules, arith, ◌≡◌, ◌<◌, ◌^◌, ◌∙◌, inl, inr, FitsSigned, to_z, of_z}
 use Rattle.std.specs.Prelude.{ℤ, pos, ◌+ℤ◌, get_or, length, unsigned_abs}
 use Rattle.std.specs.Int.{w64}
 use Rattle.std.proofs.lemmas.Int.{ints}
@@ -7,7 +7,7 @@ use Rattle.std.proofs.lemmas.List.{get_or-set_same, get_or-set_other}
 use Rattle.flow_network.proofs.slices.add_each.Goals as goal
 
 -- the sum as the code has it
-sum_is : (x y : ℤ) → FitsSigned w64 x → FitsSigned w64 y → unsigned_abs (x +ℤ y) ≤ 2 ^ 61 → to_z w64 (of_z w64 (to_z w64 (of_z w64 x) +ℤ to_z w64 (of_z w64 y))) ≡ x +ℤ y
+sum_is : (x y : ℤ) → FitsSigned w64 x → FitsSigned w64 y → unsigned_abs (x +ℤ y) < 2 ^ 62 → to_z w64 (of_z w64 (to_z w64 (of_z w64 x) +ℤ to_z w64 (of_z w64 y))) ≡ x +ℤ y
 sum_is x y fx fy within = omega (arith, ints)
 
 pub loop-i-preserved : goal.loop-i-preserved

@@ -5,8 +5,8 @@ use Rattle.report_text.proofs.read.read_report.Goals as goal
 
 pub returns : goal.returns
 returns g c =
-    let a = c.read_whole.ensures.advances in
-    let r = c.read_whole.ensures.reads in
+    let a = c.read_to_end.ensures.advances in
+    let r = c.read_to_end.ensures.reads in
     record {
       same_source = a.source;
       same_limit = a.limit;
@@ -14,6 +14,6 @@ returns g c =
       read = r.0;
       fits = r.1.0;
       refused = r.1.1;
-      accepted = accepts report_told IsReport report_text _ c.read_whole.result r;
-      exact = refuses report_told IsReport report_text _ c.read_whole.result r;
+      accepted = accepts report_told IsReport report_text _ c.read_to_end.result r;
+      exact = refuses report_told IsReport report_text _ c.read_to_end.result r;
     }

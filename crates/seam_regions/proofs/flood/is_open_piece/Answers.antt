@@ -1,10 +1,10 @@
-use Rattle.seam_regions.proofs.PieceLemmas.{clash}
+use Rattle.sums_and_lists.proofs.Tests.{true_and_false}
 use Rattle.seam_regions.proofs.flood.is_open_piece.Goals as goal
 
 pub returns-then-piece : goal.returns-then-piece
 returns-then-piece c t = record {
   own = c.is_open_span.ensures.0 c.if-not-is_open_span.false;
-  upper = λ e. absurd (clash c.args.piece.top c.if-piece.true e);
+  upper = λ e. absurd (true_and_false c.args.piece.top c.if-piece.true e);
 }
 
 pub returns : goal.returns

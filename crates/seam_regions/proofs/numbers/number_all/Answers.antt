@@ -1,11 +1,15 @@
-use Rattle.std.proofs.Common.{◌≡◌, arith}
+use Rattle.std.proofs.Common.{◌≡◌, ℕ, subst, arith}
 use Rattle.raster_model.specs.Masks.{open_at}
-use Rattle.seam_regions.proofs.NumberLemmas.{numbering_begins}
+use Rattle.joined_cells.proofs.NumberLemmas.{numbering_begins}
+use Rattle.seam_regions.specs.Flood.{HasNumbered, tiled}
 use Rattle.seam_regions.proofs.Sparse.{few_regions}
 use Rattle.seam_regions.proofs.numbers.number_all.Goals as goal
 
 pub loop-y-init : goal.loop-y-init
-loop-y-init c = numbering_begins c.args.tiling.now (open_at c.args.mask.now) c.args.labels.now c.requires.flood
+loop-y-init c =
+    let g = c.args.tiling.now in
+    let mask = open_at c.args.mask.now in
+    subst (λ (n : ℕ). HasNumbered g mask n 0 c.args.labels.now) (omega arith) (numbering_begins (tiled g) mask c.args.labels.now c.requires.flood)
 
 pub returns-clause-few : goal.returns-clause-few
 returns-clause-few c =

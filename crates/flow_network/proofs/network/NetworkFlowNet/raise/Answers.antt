@@ -8,6 +8,9 @@ use Rattle.flow_network.proofs.PushLemmas.{kept-raised}
 use Rattle.flow_network.proofs.RoomLemmas.{room-raised}
 use Rattle.flow_network.proofs.network.NetworkFlowNet.raise.Goals as goal
 
+pub add_each-requires-clause-within : goal.add_each-requires-clause-within
+add_each-requires-clause-within c = rw c.deref_mut.ensures.value (λ v l. omega (arith, c.requires.within v (omega (arith, c.args.self.now.fit.by_height, l))))
+
 pub invariant_of-self : goal.invariant_of-self
 invariant_of-self c =
     let net = c.args.self.now in

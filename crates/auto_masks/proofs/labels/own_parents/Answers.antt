@@ -1,6 +1,0 @@
-use Rattle.std.proofs.Common.{arith, refl}
-use Rattle.std.proofs.lemmas.Iterator.{items_from_collect, YieldsList-from_range}
-use Rattle.auto_masks.proofs.labels.own_parents.Goals as goal
-
-pub returns : goal.returns
-returns c = items_from_collect _ c.collect.ensures.ran (YieldsList-from_range 0 c.args.numbers c.args.numbers refl (omega arith))

@@ -1,0 +1,6 @@
+pub mod ForestLemmas
+pub mod EdgeLemmas
+pub mod FloodLemmas
+pub mod PixelLemmas
+pub mod NumberLemmas
+pub mod RegionLemmas

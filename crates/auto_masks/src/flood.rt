@@ -83,7 +83,7 @@ fn join_upper(parents: &mut [u32], extent: Extent, keys: &[i64], x: u32, y: u32)
 }
 
 /// Whether the pixel at a place has the key 0.
-fn is_keyless(keys: &[i64], place: usize) -> bool
+pub fn is_keyless(keys: &[i64], place: usize) -> bool
     requires { place < length keys.now }
     ensures { IsTrue result ↔ slice_index_or keys.now place (pos 0) ≡ pos 0 }
 {

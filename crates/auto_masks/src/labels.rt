@@ -5,7 +5,7 @@ ghost use Rattle.std.specs.List.{count_by, position_or_len};
 ghost use Rattle.std.specs.Prelude.{◌≡◌, ◌+◌, ◌*◌, ◌<◌, ◌≤◌, ◌==◌, ℕ, IfOk, length, slice_index, slice_set};
 
 use crate::extent::Extent;
-use crate::flood::join_all;
+use crate::flood::{is_keyless, join_all};
 use joined_cells::{number_place, own_parents};
 use std::alloc::{AllocError, Global};
 
@@ -68,7 +68,7 @@ fn number_pixel(labels: &mut [u32], extent: Extent, keys: &[i64], place: usize, 
     requires numbered { HasNumbered extent keys.now place count labels.old }
     ensures { HasNumbered extent keys.now (place + 1) result labels.new }
 {
-    if keys[place] == 0 {
+    if is_keyless(keys, place) {
         labels[place] = u32::MAX;
         return count;
     }

@@ -1,16 +1,17 @@
 use Rattle.std.proofs.Common.{◌/◌, ◌%◌, ◌∙◌, sym}
-use Rattle.auto_masks.proofs.KeyLemmas.{key_at_place, keyed_is, not_keyed_is}
+use Rattle.sums_and_lists.proofs.Tests.{true_and_false}
 use Rattle.joined_cells.proofs.NumberLemmas.{numbered_masked}
 use Rattle.auto_masks.specs.Patches.{key_at, is_keyed, keyed}
+use Rattle.auto_masks.proofs.KeyLemmas.{key_at_place, keyed_is, not_keyed_is}
 use Rattle.auto_masks.proofs.labels.number_pixel.Goals as goal
 
-pub returns-then-place-eq0 : goal.returns-then-place-eq0
-returns-then-place-eq0 c =
+pub returns-then-is_keyless : goal.returns-then-is_keyless
+returns-then-is_keyless c =
     let w = c.args.extent.width in
     let k = c.args.place in
     let K = key_at w c.args.keys.now in
     numbered_masked (keyed w c.args.extent.height K) (is_keyed K) k c.args.count c.args.labels.now c.requires.numbered c.requires.within.0
-    (not_keyed_is (K (k % w) (k / w)) (key_at_place w k c.args.keys.now ∙ c.if-place-eq0.true))
+    (not_keyed_is (K (k % w) (k / w)) (key_at_place w k c.args.keys.now ∙ c.is_keyless.ensures.0 c.if-is_keyless.true))
 
 pub returns : goal.returns
 returns c =
@@ -18,4 +19,4 @@ returns c =
     let k = c.args.place in
     let K = key_at w c.args.keys.now in
     c.number_place.ensures (keyed w c.args.extent.height K) (is_keyed K) c.requires.numbered
-    (keyed_is (K (k % w) (k / w)) (λ e. c.if-place-eq0.false (sym (key_at_place w k c.args.keys.now) ∙ e)))
+    (keyed_is (K (k % w) (k / w)) (λ e. true_and_false c.is_keyless.result (c.is_keyless.ensures.1 (sym (key_at_place w k c.args.keys.now) ∙ e)) c.if-is_keyless.false))

@@ -1,0 +1,4 @@
+pub mod SumOfEdges
+pub mod Convex
+pub mod Excesses
+pub mod Agreeing

@@ -1,0 +1,28 @@
+-- Laws of excesses, margins and parts of a certified surface.
+use Rattle.std.specs.Prelude.{◌≡◌, ◌≢◌, ℕ, ◌≤◌, ℤ, pos, ◌+ℤ◌, ◌-ℤ◌, ◌≤ℤ◌, ◌<ℤ◌, IsTrue}
+use Rattle.raster_model.specs.declared.edge.Edge.{Edge}
+use Rattle.raster_model.specs.Sums.{Field, is_edge, sum_edges}
+use Rattle.raster_model.specs.Raster.{IsCongruent, has_open_ends}
+use Rattle.raster_model.specs.Whole.{whole_cost}
+use Rattle.certain_parts.specs.Margins.{Faced, IsCertified, departure_at, excess, extra_cost, margin}
+use Rattle.certain_parts.specs.Parts.{AreInOnePart}
+
+-- no excess is below 0, and that of the surface's own departure is 0
+abbrev pub ExcessesAreLeastAtTheSurface : Type 0
+ExcessesAreLeastAtTheSurface = (c : Faced) → IsCertified c → (e : Edge) → IsTrue (is_edge c.raster.width c.raster.height e) → ((j : ℤ) → pos 0 ≤ℤ excess c e j) × (IsTrue (has_open_ends c.mask e) → excess c e (departure_at c e) ≡ pos 0)
+
+-- any congruent surface costs so much more as the excesses of its departures sum to
+abbrev pub ExcessesAddUp : Type 0
+ExcessesAddUp = (c : Faced) → IsCertified c → (other : Field ℤ) → IsCongruent c.raster c.mask other → whole_cost c.raster c.mask other ≡ whole_cost c.raster c.mask c.surface +ℤ sum_edges c.raster.width c.raster.height (extra_cost c other)
+
+-- no departure other than the surface's has an excess below the margin
+abbrev pub MarginsBoundExcesses : Type 0
+MarginsBoundExcesses = (c : Faced) → IsCertified c → 1 ≤ c.raster.steep → (e : Edge) → IsTrue (is_edge c.raster.width c.raster.height e) → IsTrue (has_open_ends c.mask e) → (j : ℤ) → j ≢ departure_at c e → margin c e ≤ℤ excess c e j
+
+-- a surface that costs at most so much more lies above the certified one by as much at any two pixels of one part
+abbrev pub SurfacesAgreeInParts : Type 0
+SurfacesAgreeInParts = (c : Faced) (limit : ℕ) (other : Field ℤ) → IsCertified c → 1 ≤ c.raster.steep → IsCongruent c.raster c.mask other → whole_cost c.raster c.mask other ≤ℤ (whole_cost c.raster c.mask c.surface +ℤ pos limit) → (x y a b : ℕ) → AreInOnePart c limit x y a b → other x y -ℤ c.surface x y ≡ other a b -ℤ c.surface a b
+
+-- so where it does not, it costs more
+abbrev pub OthersCostMore : Type 0
+OthersCostMore = (c : Faced) (limit : ℕ) (other : Field ℤ) → IsCertified c → 1 ≤ c.raster.steep → IsCongruent c.raster c.mask other → (x y a b : ℕ) → AreInOnePart c limit x y a b → other x y -ℤ c.surface x y ≢ other a b -ℤ c.surface a b → (whole_cost c.raster c.mask c.surface +ℤ pos limit) <ℤ whole_cost c.raster c.mask other

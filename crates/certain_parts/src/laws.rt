@@ -1,0 +1,25 @@
+//! Laws of the definitions. The functions do nothing; each contract is the law.
+
+ghost use Rattle.certain_parts.specs.Laws.{ExcessesAddUp, ExcessesAreLeastAtTheSurface, MarginsBoundExcesses, OthersCostMore, SurfacesAgreeInParts};
+
+/// At each edge no departure has an excess below 0, and that of a certified surface is 0.
+pub fn excesses_are_least_at_the_surface()
+    ensures { ExcessesAreLeastAtTheSurface }
+{}
+
+/// Any congruent surface costs as much more than a certified one as the excesses of its departures sum to.
+pub fn excesses_add_up()
+    ensures { ExcessesAddUp }
+{}
+
+/// A departure that differs from that of a certified surface has at least the margin of its edge for its excess.
+pub fn margins_bound_excesses()
+    ensures { MarginsBoundExcesses }
+{}
+
+/// In each part all congruent surfaces that cost at most the limit more than a certified one agree with it, up to whole cycles
+/// that are one constant; and a surface that does not costs more.
+pub fn surfaces_agree_in_parts()
+    ensures agree { SurfacesAgreeInParts }
+    ensures dearer { OthersCostMore }
+{}

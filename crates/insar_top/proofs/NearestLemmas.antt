@@ -119,7 +119,7 @@ module _ (s t : SessionOf) (same : IsSameSession s t) (g h : GridOf) (equal : Is
     along_too = subst (λ (n : ℕ). y < n) height along
 
     open_too : IsTrue ((phase_told t).mask x y) → IsTrue ((phase_told s).mask x y)
-    open_too open = same.mask.clear_at x y across along ∙ open
+    open_too clear = same.mask.clear_at x y across along ∙ clear
 
     value_too : g.values x y ≡ h.values x y
     value_too = equal.values x y (subst (λ (n : ℕ). x < n) (sym alike.0) across_too) (subst (λ (n : ℕ). y < n) (sym alike.1) along_too)

@@ -1,6 +1,6 @@
 -- Laws of nearest surfaces.
-use Rattle.std.proofs.Common.{◌≡◌, ◌≢◌, ℕ, ◌<◌, ℤ, pos, ◌+ℤ◌, ◌-ℤ◌, ◌*ℤ◌, ◌≤ℤ◌, arith, refl, sym, ap, subst, ◌∙◌, inl, inr}
-use Rattle.std.specs.Prelude.{◌<ℤ◌, Err, Result, unsigned_abs}
+use Rattle.std.proofs.Common.{◌≡◌, ℕ, ◌<◌, ℤ, pos, ◌+ℤ◌, ◌-ℤ◌, ◌*ℤ◌, ◌≤ℤ◌, arith, refl, sym, ap, subst, ◌∙◌, inl, inr}
+use Rattle.std.specs.Prelude.{◌<ℤ◌, unsigned_abs}
 use Rattle.std.proofs.lemmas.Bool.{cases_lt}
 use Rattle.std.proofs.lemmas.Int.{by_lt_z, ints}
 use Rattle.sums_and_lists.proofs.Orders.{below_at_above}
@@ -63,14 +63,14 @@ nearest_own p given output s = record {
       let v = s.values x y l m in
       record {
         masked = v.masked;
-        nearest = λ open. (let n = (v.nearest open).0 in record { cycles = n.cycles; whole = n.whole; least = omega (arith, ints); most = omega (arith, ints) }, (v.nearest open).1);
+        nearest = λ clear. (let n = (v.nearest clear).0 in record { cycles = n.cycles; whole = n.whole; least = omega (arith, ints); most = omega (arith, ints) }, (v.nearest clear).1);
       };
 }
 
 -- ---- one answer
 
 -- of two first pixels none is before the other
-pub first_one : (w h : ℕ) (P : ℕ → ℕ → Type 0) (x y a b : ℕ) → IsFirstOf w h P x y → IsFirstOf w h P a b → (x ≡ a) × (y ≡ b)
+first_one : (w h : ℕ) (P : ℕ → ℕ → Type 0) (x y a b : ℕ) → IsFirstOf w h P x y → IsFirstOf w h P a b → (x ≡ a) × (y ≡ b)
 first_one w h P x y a b p q =
     let no : IsEarlier x y a b → ⊥ = λ e. q.first x y p.across e p.here in
     let none : IsEarlier a b x y → ⊥ = λ e. p.first a b q.across e q.here in

@@ -1,24 +1,22 @@
 -- Places of a list in row order, and the pixels that they stand for.
-use Rattle.std.proofs.Common.{◌≡◌, ℕ, zero, suc, ◌+◌, ◌*◌, ◌/◌, ◌%◌, ◌<◌, ◌≤◌, ℤ, pos, List, set, arith, refl, sym, ap, subst, ◌∙◌, inl, inr}
+use Rattle.std.proofs.Common.{◌≡◌, ℕ, zero, suc, ◌+◌, ◌*◌, ◌/◌, ◌%◌, ◌<◌, ◌≤◌, ℤ, pos, List, set, arith, sym, ap, subst, ◌∙◌, inl, inr}
 use Rattle.std.specs.Prelude.{IsTrue, length, slice_index_or}
 use Rattle.std.proofs.lemmas.List.{get_or-set_other, get_or-set_same}
 use Rattle.std.proofs.lemmas.Nat.{div-add-mod', div-mul-add, div_below, mod-mul-add, mod_below, mul-add-lt}
 use Rattle.sums_and_lists.proofs.Orders.{below_or_last}
 use Rattle.raster_model.proofs.RegionNumbers.{earlier_place}
-use Rattle.raster_model.specs.Sums.{Field}
 use Rattle.grid_writer.specs.Grids.{value_at}
-use Rattle.grid_writer.specs.Values.{no_data}
 use Rattle.nearest_surface.specs.Nearest.{IsFirstOf, IsMissing, IsNearestSurface, IsTooWide, IsWide, MaskedPhase, Stands}
 use Rattle.nearest_surface.proofs.ValueLemmas.{not_wide}
 
-pub some_width : (w h k : ℕ) → k < w * h → 0 < w
+some_width : (w h k : ℕ) → k < w * h → 0 < w
 some_width zero h k l = absurd (omega (arith, l))
 some_width (suc w) h k l = omega arith
 
-pub column_below : (w h k : ℕ) → k < w * h → k % w < w
+column_below : (w h k : ℕ) → k < w * h → k % w < w
 column_below w h k l = mod_below k w (some_width w h k l)
 
-pub row_below : (w h k : ℕ) → k < w * h → k / w < h
+row_below : (w h k : ℕ) → k < w * h → k / w < h
 row_below w h k l = div_below k w h (some_width w h k l) (omega (arith, l))
 
 -- the value at the pixel of a place
@@ -47,12 +45,6 @@ module _ (w h : ℕ) (P : ℕ → ℕ → Type 0) where
   pub at_no_pixel : AtNone w P (w * h) → (x y : ℕ) → x < w → y < h → P x y → ⊥
   at_no_pixel none x y l m p = none (y * w + x) (mul-add-lt y w x h m l) (at_place x y l p)
 
-pub none_more : (w n : ℕ) (P : ℕ → ℕ → Type 0) → AtNone w P n → (P (n % w) (n / w) → ⊥) → AtNone w P (n + 1)
-none_more w n P none not k l p = elim (below_or_last k n l) [
-  | inl below ↦ none k below p
-  | inr last ↦ not (subst (λ (j : ℕ). P (j % w) (j / w)) last p)
-]
-
 -- ---- values that are brought to the phase, place by place
 
 -- what stands at a place
@@ -63,9 +55,6 @@ StandsAt p given values k = Stands (p.mask (k % p.width) (k / p.width)) (p.phase
 pub record AreBrought (p : MaskedPhase) (given : List ℤ) (n : ℕ) (values : List ℤ) : Type 0 where
   pub stand : (k : ℕ) → k < n → StandsAt p given values k
   pub rest : (k : ℕ) → n ≤ k → slice_index_or values k (pos 0) ≡ slice_index_or given k (pos 0)
-
-pub brought_none : (p : MaskedPhase) (given : List ℤ) → AreBrought p given 0 given
-brought_none p given = record { stand = λ k l. absurd (omega (arith, l)); rest = λ k l. refl }
 
 pub brought_more : (p : MaskedPhase) (given values : List ℤ) (n : ℕ) (value : ℤ) → n < length values → AreBrought p given n values → Stands (p.mask (n % p.width) (n / p.width)) (p.phase (n % p.width) (n / p.width)) (slice_index_or values n (pos 0)) value → AreBrought p given (n + 1) (set values n value)
 brought_more p given values n value there are s = record {
@@ -98,15 +87,9 @@ all_stand p given values are x y l m =
 -- ---- grids of the size of the phase
 
 module _ (p : MaskedPhase) (w h : ℕ) (across : w ≡ p.width) (along : h ≡ p.height) where
-  -- a first pixel of a grid is one of the phase
-  pub first_of_phase : (P : ℕ → ℕ → Type 0) (x y : ℕ) → IsFirstOf w h P x y → IsFirstOf p.width p.height P x y
-  first_of_phase P x y f = subst (λ (k : ℕ). IsFirstOf p.width k P x y) along (subst (λ (k : ℕ). IsFirstOf k h P x y) across f)
-
-  pub on_phase : (P : ℕ → ℕ → Type 0) → ((x y : ℕ) → x < w → y < h → P x y → ⊥) → (x y : ℕ) → x < p.width → y < p.height → P x y → ⊥
+  -- what holds at no pixel of the grid holds at none of the phase
+  on_phase : (P : ℕ → ℕ → Type 0) → ((x y : ℕ) → x < w → y < h → P x y → ⊥) → (x y : ℕ) → x < p.width → y < p.height → P x y → ⊥
   on_phase P none x y l m q = none x y (omega (arith, l, across)) (omega (arith, m, along)) q
-
-  pub first_wide : (given : List ℤ) (x y : ℕ) → IsFirstOf p.width p.height (IsWide p (value_at p.width given)) x y → IsFirstOf p.width p.height (IsWide p (value_at w given)) x y
-  first_wide given x y f = subst (λ (k : ℕ). IsFirstOf p.width p.height (IsWide p (value_at k given)) x y) (sym across) f
 
   pub surface_is : (given values : List ℤ) → ((x y : ℕ) → x < w → y < h → IsMissing p.mask (value_at w given) x y → ⊥) → ((x y : ℕ) → x < p.width → y < p.height → Stands (p.mask x y) (p.phase x y) (value_at p.width given x y) (value_at p.width values x y))
       → IsNearestSurface p (record { width = w; height = h; values = value_at w given }) (record { width = w; height = h; values = value_at w values })

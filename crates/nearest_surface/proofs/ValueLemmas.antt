@@ -5,7 +5,7 @@ use Rattle.std.specs.Int.{int_rem_euclid, w128}
 use Rattle.std.proofs.lemmas.Int.{ints, to_z-of_z}
 use Rattle.raster_model.proofs.PhaseLemmas.{euclid}
 use Rattle.grid_writer.specs.Values.{CanStand}
-use Rattle.grid_writer.proofs.NoData.{is_no_data, no_bits}
+use Rattle.grid_writer.proofs.NoData.{no_bits}
 use Rattle.nearest_surface.specs.Nearest.{IsNearest, IsTooWide, Stands}
 
 -- ---- there is one
@@ -26,8 +26,8 @@ stands_one false phase given value other p q = p.masked refl ∙ sym (q.masked r
 
 -- what stands at an open pixel is not too wide
 pub not_wide : (unmasked : Bool) (phase : ℕ) (given value : ℤ) → Stands unmasked phase given value → IsTrue unmasked → IsTooWide phase given → ⊥
-not_wide unmasked phase given value s open wide =
-    let n = s.nearest open in
+not_wide unmasked phase given value s clear wide =
+    let n = s.nearest clear in
     wide.wide (subst CanStand (nearest_one phase given value wide.value n.0 wide.nearest) n.1)
 
 -- ---- a number of 128 bits, as the code holds it
@@ -61,17 +61,11 @@ module _ (p : ℕ) (g u v : ℤ) (small : p < 65536) (fits : FitsSigned w64 g) (
   difference_wide : FitsSigned w128 (pos p -ℤ g)
   difference_wide = fits_wide (pos p -ℤ g) (omega (arith, ints)) (omega (arith, ints))
 
-  pub difference_fits : FitsSigned w128 (held u -ℤ held v)
-  difference_fits = subst (FitsSigned w128) (sym difference) difference_wide
-
   raised : (held (held u -ℤ held v) +ℤ pos 32768) ≡ (pos p -ℤ g) +ℤ pos 32768
   raised = ap (λ (n : ℤ). n +ℤ pos 32768) (held_is (held u -ℤ held v) (pos p -ℤ g) difference difference_wide)
 
   raised_wide : FitsSigned w128 ((pos p -ℤ g) +ℤ pos 32768)
   raised_wide = fits_wide ((pos p -ℤ g) +ℤ pos 32768) (omega (arith, ints)) (omega (arith, ints))
-
-  pub raised_fits : FitsSigned w128 (held (held u -ℤ held v) +ℤ pos 32768)
-  raised_fits = subst (FitsSigned w128) (sym raised) raised_wide
 
   -- r is the remainder
   module _ (r : ℤ) (er : r ≡ int_rem_euclid (held (held (held u -ℤ held v) +ℤ pos 32768)) (pos 65536)) where
@@ -89,9 +83,6 @@ module _ (p : ℕ) (g u v : ℤ) (small : p < 65536) (fits : FitsSigned w64 g) (
 
     rise_wide : FitsSigned w128 (r -ℤ pos 32768)
     rise_wide = let l = below.0 in let m = below.1 in fits_wide (r -ℤ pos 32768) (omega (arith, ints)) (omega (arith, ints))
-
-    pub rise_fits : FitsSigned w128 (held r -ℤ pos 32768)
-    rise_fits = subst (FitsSigned w128) (sym rise) rise_wide
 
     nearest_rise : IsNearest p g (g +ℤ (r -ℤ pos 32768))
     nearest_rise =
@@ -116,9 +107,6 @@ module _ (p : ℕ) (g v s : ℤ) (fits : FitsSigned w64 g) (ev : v ≡ to_z w64 
   sum_wide : FitsSigned w128 (g +ℤ s)
   sum_wide = let a = near.least in let b = near.most in fits_wide (g +ℤ s) (omega (arith, ints, a)) (omega (arith, ints, b))
 
-  pub sum_fits : FitsSigned w128 (held v +ℤ held s)
-  sum_fits = subst (FitsSigned w128) (sym sum) sum_wide
-
   sum_held : held (held v +ℤ held s) ≡ g +ℤ s
   sum_held = held_is (held v +ℤ held s) (g +ℤ s) sum sum_wide
 
@@ -128,9 +116,3 @@ module _ (p : ℕ) (g v s : ℤ) (fits : FitsSigned w64 g) (ev : v ≡ to_z w64 
       let long : FitsSigned w64 n = subst (FitsSigned w64) (sym k.1) k.0 in
       let same = to_z-of_z w64 n long in
       subst (λ (z : ℤ). IsNearest p g z × CanStand z) (sym same) (subst (IsNearest p g) (sym (k.1 ∙ sum_held)) near, (long, no_bits n ne))
-
-  pub no_data_is_wide : (n : ℤ) → FitsSigned w64 (held (held v +ℤ held s)) × (n ≡ held (held v +ℤ held s)) → of_z w64 n ≡ 9223372036854775808 → IsTooWide p g
-  no_data_is_wide n k e = record { value = g +ℤ s; nearest = near; wide = λ is. is.1 (sym (k.1 ∙ sum_held) ∙ is_no_data n (subst (FitsSigned w64) (sym k.1) k.0) e) }
-
-  pub too_wide : (FitsSigned w64 (held (held v +ℤ held s)) → ⊥) → IsTooWide p g
-  too_wide k = record { value = g +ℤ s; nearest = near; wide = λ is. k (subst (FitsSigned w64) (sym sum_held) is.0) }

@@ -81,6 +81,11 @@ FALL = grid_text([[0, -25536, -51072, -76608]])
 FALL_DISPLACED = grid_text([[0, -10910157, -21820313, -32730469]])
 
 
+# A line and a surface half a cycle or more away from its phase, and the nearest surface.
+NEAR = LINE + b"end\n" + grid_text([[32768, -12768, 100000, -100000]])
+NEAREST = grid_text([[0, -45536, 105536, -71072]])
+
+
 class Use(NamedTuple):
     """A command of the program with words and an input, its undisturbed answer, and the line that refuses an empty input."""
 
@@ -119,6 +124,7 @@ USES = (
     Use("check-whole", "check-whole", "whole-accepted", 0, b"accepted\n"),
     Use("check-whole that refuses", "check-whole", "whole-refused", 1, b"refused told\n"),
     Use("watch", "watch --readers 2", "line", 0, LINE_WATCHED),
+    Use("nearest", "nearest", "near", 0, NEAREST),
     Use("trial", "trial 7 64 64 --tile 32", "empty", 0, TRIAL),
 )
 FURTHER_USES = _, CLOSURE, DISPLACEMENT = USES[4:7]
@@ -216,6 +222,7 @@ def files():
         "island": ISLAND,
         "loop": LOOP,
         "fall": FALL,
+        "near": NEAR,
         "large": slope(LARGE_SIDE),
         "large-loop": board(LARGE_SIDE)[0],
         "large-grid": steps(LARGE_SIDE),

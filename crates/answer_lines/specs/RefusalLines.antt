@@ -46,6 +46,7 @@ refusal_line (refusals.GridSizes grid) = codes "input fault 21 grid " ++ (decima
 refusal_line (refusals.AfterGrids byte) = codes "input fault 22 after grids byte " ++ (decimal byte ++ 10 ∷ [])
 refusal_line (refusals.Wide x y) = codes "input fault 23 wide " ++ (decimal x ++ (codes " " ++ (decimal y ++ 10 ∷ [])))
 refusal_line refusals.Reference = codes "input fault 24 reference\n"
+refusal_line (refusals.Missing x y) = codes "input fault 25 missing " ++ (decimal x ++ (codes " " ++ (decimal y ++ 10 ∷ [])))
 refusal_line refusals.Memory = codes "no memory\n"
 refusal_line refusals.ReadFault = codes "read fault\n"
 refusal_line refusals.WriteFault = codes "write fault\n"

@@ -12,6 +12,8 @@ use Rattle.loop_closure.specs.declared.fault.LoopFault.{LoopFault}
 use Rattle.loop_closure.specs.declared.fault.LoopFault.TheVariants as loop_faults
 use Rattle.displacement.specs.declared.fault.SightFault.{SightFault}
 use Rattle.displacement.specs.declared.fault.SightFault.TheVariants as sight_faults
+use Rattle.nearest_surface.specs.declared.fault.NearestFault.{NearestFault}
+use Rattle.nearest_surface.specs.declared.fault.NearestFault.TheVariants as nearest_faults
 use Rattle.insar_words.specs.declared.fault.WordsFault.{WordsFault}
 use Rattle.insar_words.specs.declared.fault.WordsFault.TheVariants as words_faults
 use Rattle.answer_lines.specs.declared.refusal.Refusal.{Refusal}
@@ -28,6 +30,7 @@ status_of (refusals.GridSizes grid) = 3
 status_of (refusals.AfterGrids byte) = 3
 status_of (refusals.Wide x y) = 3
 status_of refusals.Reference = 3
+status_of (refusals.Missing x y) = 3
 status_of refusals.Memory = 4
 status_of refusals.ReadFault = 5
 status_of refusals.WriteFault = 6
@@ -63,6 +66,11 @@ abbrev pub sight_refusal : SightFault → Refusal
 sight_refusal sight_faults.Reference = refusals.Reference
 sight_refusal (sight_faults.Wide x y) = refusals.Wide x y
 sight_refusal sight_faults.Memory = refusals.Memory
+
+abbrev pub nearest_refusal : NearestFault → Refusal
+nearest_refusal nearest_faults.Sizes = refusals.GridSizes 1
+nearest_refusal (nearest_faults.Missing x y) = refusals.Missing x y
+nearest_refusal (nearest_faults.Wide x y) = refusals.Wide x y
 
 abbrev pub words_refusal : WordsFault → Refusal
 words_refusal words_faults.Refused = refusals.Words

@@ -1,4 +1,4 @@
-ghost use Rattle.answer_lines.specs.Refusals.{grids_refusal, loop_refusal, report_refusal, session_refusal, sight_refusal, trial_refusal, words_refusal};
+ghost use Rattle.answer_lines.specs.Refusals.{grids_refusal, loop_refusal, nearest_refusal, report_refusal, session_refusal, sight_refusal, trial_refusal, words_refusal};
 ghost use Rattle.answer_lines.specs.declared.refusal.Refusal.TheVariants as refusals;
 ghost use Rattle.std.specs.Prelude.{◌≡◌};
 
@@ -8,6 +8,7 @@ use grid_writer::GridsFault;
 use insar_ports::WriteFault;
 use insar_words::WordsFault;
 use loop_closure::LoopFault;
+use nearest_surface::NearestFault;
 use session_script::SessionFault;
 use std::alloc::AllocError;
 use text_lines::LineFault;
@@ -110,6 +111,18 @@ impl From<SightFault> for Refusal {
             SightFault::Reference => Refusal::Reference,
             SightFault::Wide { x, y } => Refusal::Wide { x, y },
             SightFault::Memory => Refusal::Memory,
+        }
+    }
+}
+
+impl From<NearestFault> for Refusal {
+    ghost from_gives = { λ fault e. e ≡ nearest_refusal fault };
+
+    fn from(fault: NearestFault) -> Refusal {
+        match fault {
+            NearestFault::Sizes => Refusal::GridSizes(1),
+            NearestFault::Missing { x, y } => Refusal::Missing { x, y },
+            NearestFault::Wide { x, y } => Refusal::Wide { x, y },
         }
     }
 }

@@ -18,7 +18,7 @@ pub enum Refusal {
     GridLine { grid: u32, line: u64 },
     /// There are more bytes than grids may have: within this grid, or after it if it is the last.
     GridLong(u32),
-    /// This grid has another size than the first.
+    /// This grid has another size than the first, or than the session.
     GridSizes(u32),
     /// A byte stands at this place, counted from 0, after the last grid.
     AfterGrids(u64),
@@ -26,6 +26,8 @@ pub enum Refusal {
     Wide { x: u32, y: u32 },
     /// The reference pixel is not on the grid, or it has no value.
     Reference,
+    /// No value is given at this pixel, which is open: the first such.
+    Missing { x: u32, y: u32 },
     /// There was no memory.
     Memory,
     /// The source failed and counted a fault.
@@ -49,7 +51,8 @@ impl Refusal {
             | Refusal::GridSizes(_)
             | Refusal::AfterGrids(_)
             | Refusal::Wide { .. }
-            | Refusal::Reference => 3,
+            | Refusal::Reference
+            | Refusal::Missing { .. } => 3,
             Refusal::Memory => 4,
             Refusal::ReadFault => 5,
             Refusal::WriteFault => 6,

@@ -37,6 +37,7 @@ fn add_refusal<D: Sink>(text: &mut TextWriter<D>, refusal: Refusal)
         }
         Refusal::Wide { x, y } => add_pair(text, b"input fault 23 wide ", x, b" ", y),
         Refusal::Reference => text.bytes(b"input fault 24 reference\n"),
+        Refusal::Missing { x, y } => add_pair(text, b"input fault 25 missing ", x, b" ", y),
         Refusal::Memory => text.bytes(b"no memory\n"),
         Refusal::ReadFault => text.bytes(b"read fault\n"),
         Refusal::WriteFault => text.bytes(b"write fault\n"),

@@ -9,7 +9,7 @@ use Rattle.session_script.specs.Sessions.{session_of}
 use Rattle.report_text.specs.Text.{report_text}
 use Rattle.whole_text.specs.Text.{whole_text}
 use Rattle.insar_words.specs.declared.request.Request.{Request}
-use Rattle.insar_words.specs.declared.request.Request.TheVariants.{Unwrap, Grid, Check, Trial, Screen, Closure, Displacement, Whole, CheckWhole, Watch}
+use Rattle.insar_words.specs.declared.request.Request.TheVariants.{Unwrap, Grid, Check, Trial, Screen, Closure, Displacement, Whole, CheckWhole, Watch, Nearest}
 use Rattle.answer_lines.specs.declared.refusal.Refusal.{Refusal}
 use Rattle.answer_lines.specs.declared.refusal.Refusal.TheVariants as refusals
 use Rattle.insar_top.specs.Answers.{HasAnswered, HasCutShort, IsAnswerTo, IsDoneStatus, IsInputTo, IsUsedUp, IsWithinInput, input_of}
@@ -18,6 +18,7 @@ use Rattle.insar_top.specs.Displacement.{sight_of}
 use Rattle.insar_top.specs.Ends.{EndsBy, end_of_put}
 use Rattle.insar_top.specs.Run.{HasKept, IsUnread, Run}
 use Rattle.insar_top.proofs.LoopLemmas.{loop_input}
+use Rattle.insar_top.proofs.NearestLemmas.{nearest_input}
 use Rattle.insar_top.proofs.SightLemmas.{sight_input}
 
 -- the text answers the request, and nothing is left
@@ -49,6 +50,7 @@ answer_input (Displacement displacing) bytes status text a = sight_input (sight_
 answer_input (Whole settings) bytes status text a = (session_of a.1.session, a.1.given.spelled)
 answer_input (CheckWhole settings) bytes status text a = (session_of a.1.0.session, whole_text a.1.0.whole, (a.1.0.both.spelled, ((a.1.0.whole, (a.1.0.in_range, refl)), a.1.0.both.within)))
 answer_input (Watch watching) bytes status text a = (session_of a.1.session, a.1.given.spelled)
+answer_input Nearest bytes status text a = nearest_input bytes a.1.output a.1.nearest
 
 pub unread_within : (asked : Request) (r : Run) → IsUnread r → IsWithinInput asked r
 unread_within (Trial trial) r unread = unread

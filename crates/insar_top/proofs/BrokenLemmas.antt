@@ -4,12 +4,13 @@ use Rattle.session_script.specs.declared.session_use.SessionUse.TheVariants.{Alo
 use Rattle.session_script.proofs.AskSession.{no_fault_of_session}
 use Rattle.report_text.specs.Contents.{IsReportText}
 use Rattle.whole_text.specs.Text.{IsWholeText}
-use Rattle.insar_words.specs.declared.request.Request.TheVariants.{Unwrap, Grid, Check, Screen, Closure, Displacement, Whole, CheckWhole, Watch}
+use Rattle.insar_words.specs.declared.request.Request.TheVariants.{Unwrap, Grid, Check, Screen, Closure, Displacement, Whole, CheckWhole, Watch, Nearest}
 use Rattle.answer_lines.specs.declared.refusal.Refusal.TheVariants as refusals
 use Rattle.insar_top.specs.Causes.{BrokenBytesAreNoInput}
 use Rattle.insar_top.specs.Displacement.{sight_of}
 use Rattle.insar_top.proofs.BothLemmas.{not_checkable}
 use Rattle.insar_top.proofs.LoopLemmas.{no_loop}
+use Rattle.insar_top.proofs.NearestLemmas.{no_nearest}
 use Rattle.insar_top.proofs.SightLemmas.{no_sight}
 
 pub broken_bytes_are_no_input : BrokenBytesAreNoInput
@@ -22,4 +23,5 @@ broken_bytes_are_no_input (Displacement displacing) bytes refusal h input = no_s
 broken_bytes_are_no_input (Whole settings) bytes (refusals.Input fault) h input = no_fault_of_session Alone settings.side bytes input.0 [] fault input.1 h
 broken_bytes_are_no_input (CheckWhole settings) bytes refusal h input = not_checkable IsWholeText settings.side bytes input refusal h
 broken_bytes_are_no_input (Watch watching) bytes (refusals.Input fault) h input = no_fault_of_session Alone watching.settings.side bytes input.0 [] fault input.1 h
+broken_bytes_are_no_input Nearest bytes refusal h input = no_nearest bytes input refusal h
 broken_bytes_are_no_input asked bytes refusal h input = h

@@ -1,6 +1,7 @@
 pub mod SessionLemmas
 pub mod GridsLemmas
 pub mod LoopLemmas
+pub mod NearestLemmas
 pub mod SightLemmas
 pub mod ScreenLemmas
 pub mod AnswerLemmas

@@ -2,13 +2,14 @@
 use Rattle.std.specs.Prelude.{◌≡◌, ◌≤◌, ℕ, List, [], Option, Some, IfSome, ⊤}
 use Rattle.insar_ports.specs.Bytes.{GainsProperPrefix, with_end}
 use Rattle.insar_words.specs.declared.request.Request.{Request}
-use Rattle.insar_words.specs.declared.request.Request.TheVariants.{Unwrap, Grid, Check, Trial, Screen, Closure, Displacement, Whole, CheckWhole, Watch}
+use Rattle.insar_words.specs.declared.request.Request.TheVariants.{Unwrap, Grid, Check, Trial, Screen, Closure, Displacement, Whole, CheckWhole, Watch, Nearest}
 use Rattle.insar_words.specs.Requests.{options_of}
 use Rattle.insar_top.specs.Check.{IsCheckable, IsVerdictAnswer}
 use Rattle.insar_top.specs.CheckWhole.{IsWholeCheckable, IsWholeVerdictAnswer}
 use Rattle.insar_top.specs.Closure.{IsClosureAnswer, IsLoopInput}
 use Rattle.insar_top.specs.Displacement.{IsDisplacementAnswer, IsSightInput, sight_of}
 use Rattle.insar_top.specs.Grid.{IsGridAnswer}
+use Rattle.insar_top.specs.Nearest.{IsNearestAnswer, IsNearestInput}
 use Rattle.insar_top.specs.Run.{IsUnread, Run}
 use Rattle.insar_top.specs.Screen.{IsScreenAnswer}
 use Rattle.insar_top.specs.Trial.{IsTrialText}
@@ -43,6 +44,7 @@ IsInputTo (Displacement displacing) bytes = IsSightInput (sight_of displacing) b
 IsInputTo (Whole settings) bytes = IsSomeInput settings.side bytes
 IsInputTo (CheckWhole settings) bytes = IsWholeCheckable settings.side bytes
 IsInputTo (Watch watching) bytes = IsSomeInput watching.settings.side bytes
+IsInputTo Nearest bytes = IsNearestInput bytes
 
 -- with this status, the text answers a request that is about these bytes
 abbrev pub IsAnswerTo : Request → List ℕ → ℕ → List ℕ → Type 0
@@ -56,6 +58,7 @@ IsAnswerTo (Displacement displacing) bytes status text = (status ≡ 0) × IsDis
 IsAnswerTo (Whole settings) bytes status text = (status ≡ 0) × IsWholeAnswer (options_of settings) bytes text
 IsAnswerTo (CheckWhole settings) bytes status text = IsWholeVerdictAnswer (options_of settings) bytes status text
 IsAnswerTo (Watch watching) bytes status text = (status ≡ 0) × IsWatchAnswer (options_of watching.settings) watching.readers bytes text
+IsAnswerTo Nearest bytes status text = (status ≡ 0) × IsNearestAnswer bytes text
 
 -- a request that was done may end with this status: 1 is of `check` and `check-whole` alone
 abbrev pub IsDoneStatus : Request → ℕ → Type 0

@@ -4,12 +4,13 @@ use Rattle.insar_ports.specs.Bytes.{HasRisen}
 use Rattle.answer_lines.specs.declared.refusal.Refusal.{Refusal}
 use Rattle.answer_lines.specs.declared.refusal.Refusal.TheVariants as refusals
 use Rattle.insar_words.specs.declared.request.Request.{Request}
-use Rattle.insar_words.specs.declared.request.Request.TheVariants.{Unwrap, Grid, Check, Trial, Screen, Closure, Displacement, Whole, CheckWhole, Watch}
+use Rattle.insar_words.specs.declared.request.Request.TheVariants.{Unwrap, Grid, Check, Trial, Screen, Closure, Displacement, Whole, CheckWhole, Watch, Nearest}
 use Rattle.insar_top.specs.Answers.{HasCutShort, IsInputTo, input_of}
 use Rattle.insar_top.specs.Check.{BreaksBoth}
 use Rattle.insar_top.specs.CheckWhole.{BreaksBothWhole}
 use Rattle.insar_top.specs.Closure.{BreaksLoop}
 use Rattle.insar_top.specs.Displacement.{BreaksSight, sight_of}
+use Rattle.insar_top.specs.Nearest.{BreaksNearest}
 use Rattle.insar_top.specs.Run.{HasKept, Run, SinkFailed}
 use Rattle.insar_top.specs.Unwrap.{BreaksAlone}
 
@@ -25,6 +26,7 @@ BreaksInput (Displacement displacing) = BreaksSight (sight_of displacing)
 BreaksInput (Whole settings) = BreaksAlone settings.side
 BreaksInput (CheckWhole settings) = BreaksBothWhole settings.side
 BreaksInput (Watch watching) = BreaksAlone watching.settings.side
+BreaksInput Nearest = BreaksNearest
 
 -- why bytes are not read: lack of memory, a counted fault of the source, or a break of the bytes where they are told
 abbrev pub HasReadCause : (List ℕ → Refusal → Type 0) → Option (List ℕ) → ℕ → ℕ → Refusal → Type 0

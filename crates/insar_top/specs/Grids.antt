@@ -1,4 +1,4 @@
--- Grids of one size, one after the other, as `closure` and `displacement` read them.
+-- Grids of one size, one after the other, as `closure`, `displacement` and `nearest` read them.
 use Rattle.std.specs.Prelude.{◌≡◌, ◌≤◌, ℕ, List, length}
 use Rattle.grid_writer.specs.Grids.{GridOf}
 use Rattle.grid_writer.specs.ManyGrids.{AreGrids, BreaksGrids, text_of_grids}
@@ -18,10 +18,13 @@ pub record AreGridsIn (count : ℕ) (bytes : List ℕ) (grids : List GridOf) : T
   pub spelled : bytes ≡ text_of_grids grids
   pub within : length bytes ≤ max_grids_bytes
 
--- the first break of bytes that should be so many grids
+-- the first break of bytes that should be so many grids; the bytes begin at the place `at`, or at the start
+abbrev pub BreaksManyAt : ℕ → ℕ → List ℕ → Refusal → Type 0
+BreaksManyAt count at bytes (refusals.GridLine grid line) = BreaksGrids count at max_grids_bytes bytes (faults.Line grid line)
+BreaksManyAt count at bytes (refusals.GridLong grid) = BreaksGrids count at max_grids_bytes bytes (faults.Long grid)
+BreaksManyAt count at bytes (refusals.GridSizes grid) = BreaksGrids count at max_grids_bytes bytes (faults.Sizes grid)
+BreaksManyAt count at bytes (refusals.AfterGrids byte) = BreaksGrids count at max_grids_bytes bytes (faults.After byte)
+BreaksManyAt count at bytes refusal = ⊥
+
 abbrev pub BreaksMany : ℕ → List ℕ → Refusal → Type 0
-BreaksMany count bytes (refusals.GridLine grid line) = BreaksGrids count 0 max_grids_bytes bytes (faults.Line grid line)
-BreaksMany count bytes (refusals.GridLong grid) = BreaksGrids count 0 max_grids_bytes bytes (faults.Long grid)
-BreaksMany count bytes (refusals.GridSizes grid) = BreaksGrids count 0 max_grids_bytes bytes (faults.Sizes grid)
-BreaksMany count bytes (refusals.AfterGrids byte) = BreaksGrids count 0 max_grids_bytes bytes (faults.After byte)
-BreaksMany count bytes refusal = ⊥
+BreaksMany count bytes refusal = BreaksManyAt count 0 bytes refusal

@@ -13,6 +13,7 @@ pub mod Screen
 pub mod Grids
 pub mod Closure
 pub mod Displacement
+pub mod Nearest
 pub mod Answers
 pub mod Causes
 pub mod Ends

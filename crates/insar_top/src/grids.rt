@@ -11,7 +11,7 @@ use insar_ports::{Feed, Source};
 use std::alloc::Global;
 
 /// The greatest number of bytes of grids that are read one after the other.
-const MAX_GRIDS_BYTES: u64 = 268_435_456;
+pub(crate) const MAX_GRIDS_BYTES: u64 = 268_435_456;
 
 /// Reads so many grids of one size from a source, after which it ends.
 pub fn read_many<S: Source>(alloc: Global, source: &mut S, count: u32) -> Result<Vec<Grid>, Refusal>

@@ -1,5 +1,5 @@
 //! The whole program as one call: words and bytes in; a report, a grid, a verdict, a trial's lines, a screened session,
-//! closures, displacements, a surface that costs least of all or what readers saw out, or a refusal.
+//! closures, displacements, a surface that costs least of all or is nearest to another, or what readers saw out, or a refusal.
 #![tactic(auto)]
 
 mod board;
@@ -12,6 +12,7 @@ mod ends;
 mod grid;
 mod grids;
 pub mod laws;
+mod nearest;
 mod pages;
 mod screen;
 mod session;

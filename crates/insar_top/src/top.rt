@@ -24,6 +24,7 @@ use crate::check_whole::run_check_whole;
 use crate::closure::run_closure;
 use crate::displacements::run_displacement;
 use crate::grid::run_grid;
+use crate::nearest::run_nearest;
 use crate::screen::run_screen;
 use crate::trial::run_trial;
 use crate::unwrap::run_unwrap;
@@ -78,6 +79,10 @@ use tile_workers::Gate;
 /// `reader I`, from 1, followed by those of these revisions that the reader saw or was told of when the scripts had ended.
 /// `--readers N` is how many readers there are, from 1 to 8, and 1 by default; `--reads K` is how often each looks, from 1 to
 /// 4096, and 16 by default.
+///
+/// `nearest` has no options. It reads a session, as `check` does, and then a grid of its size, and writes the grid that differs
+/// from the session's phase by whole cycles at each open pixel of the first mask and is nearest to the one that was read: at
+/// most half a cycle away, and of two that are half a cycle away the lower. Scripts are not run.
 ///
 /// `--tile N` is the side of the square tiles in pixels, from 2 to 128, and 64 if the words do not give it; `screen` has it
 /// for the limit of a session's edits alone. `--rule R` names how the weights of two pixels give that of their edge: `least`,
@@ -193,6 +198,7 @@ fn do_request<R: Threads + Wait + Sync, S: Source, K: Sink, G: Gate>(
         Request::Whole(settings) => run_whole(rt, alloc, settings, source, sink),
         Request::CheckWhole(settings) => run_check_whole(alloc, settings, source, sink),
         Request::Watch(watching) => run_watch(rt, alloc, watching, source, sink, gate),
+        Request::Nearest => run_nearest(alloc, source, sink),
     }
 }
 

@@ -1,10 +1,10 @@
--- A screen, a closure, displacements and a watch in plain form are read, with the numbers that are set.
+-- A screen, a closure, displacements, a watch and a nearest surface in plain form are read, with the numbers that are set.
 use Rattle.std.proofs.Common.{◌≡◌, refl, inl, inr, List, [], Some, codes}
 use Rattle.std.specs.Borrow.{Bor}
 use Rattle.clap.specs.Walk.{Row, Text}
 use Rattle.insar_words.specs.Asked.{AreTaken, asked}
-use Rattle.insar_words.specs.Forms.{block_entry, closure_form, count_entry, displacement_form, displacing, patch_entry, radius_entry, readers_entry, reads_entry, screen_form, screening, tile_entry, watch_form, watching, wavelength_entry, weight_entry, workers_entry, x_entry, y_entry}
-use Rattle.insar_words.specs.PlainForms.{HasSet, IsDisplacingSet, IsScreeningSet, IsWatchingSet, PlainClosureIsRead, PlainDisplacementIsRead, PlainScreenIsRead, PlainWatchIsRead, Setting, ArePlain, options_set}
+use Rattle.insar_words.specs.Forms.{block_entry, closure_form, count_entry, displacement_form, displacing, nearest_form, patch_entry, radius_entry, readers_entry, reads_entry, screen_form, screening, tile_entry, watch_form, watching, wavelength_entry, weight_entry, workers_entry, x_entry, y_entry}
+use Rattle.insar_words.specs.PlainForms.{HasSet, IsDisplacingSet, IsScreeningSet, IsWatchingSet, PlainClosureIsRead, PlainDisplacementIsRead, PlainNearestIsRead, PlainScreenIsRead, PlainWatchIsRead, Setting, ArePlain, options_set}
 use Rattle.insar_words.specs.Requests.{IsRequest, TellsRequest}
 use Rattle.insar_words.specs.declared.displacing.Displacing.{Displacing}
 use Rattle.insar_words.specs.declared.request.Request.{Request}
@@ -42,6 +42,11 @@ pub plain_closure : PlainClosureIsRead
 plain_closure words spelled =
     let r = plain_forms words closure_form [] [] (inr (inr (inr (inr (inr (inl refl)))))) refl (record { once = tt; taken = refl; given = refl }) spelled in
     record { taken = r.taken; command = codes "closure"; rows = r.rows; named = r.named; tells = (refl, tt) }
+
+pub plain_nearest : PlainNearestIsRead
+plain_nearest words spelled =
+    let r = plain_forms words nearest_form [] [] (inr (inr (inr (inr (inr (inr (inr (inr (inr (inr (inl refl))))))))))) refl (record { once = tt; taken = refl; given = refl }) spelled in
+    record { taken = r.taken; command = codes "nearest"; rows = r.rows; named = r.named; tells = (refl, tt) }
 
 displacement_as : (words : List (Bor Text)) (settings : List Setting) (plain : ArePlain displacing settings) (rows : List Row) → HasSet rows displacing settings → (q : Request) → IsRequest words q → TellsRequest (codes "displacement") rows q
     → (d : Displacing) × (IsDisplacingSet settings d × IsRequest words (Displacement d))

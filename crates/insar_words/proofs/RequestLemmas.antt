@@ -26,14 +26,14 @@ use Rattle.raster_model.specs.declared.weights.RuleKind.TheVariants.{Least, Mean
 use Rattle.raster_model.specs.Limits.{IsSlope, IsSteepness, IsTileSide, max_pixels}
 use Rattle.insar_words.specs.Asked.{AreTaken, Asks, AsksBy, IsCheck, IsCheckWhole, IsCommand, IsGridCommand, IsRefused, IsSideAsked, IsSideByDefault, IsTooLarge, IsTrialCommand, IsWatch, IsWhole, OneCommand, Options, asked, asks_by_names, has_names, is_named, number_asked, slope_asked, slope_for}
 use Rattle.insar_words.specs.Faults.{fault_of_kind}
-use Rattle.insar_words.specs.Forms.{CommandForm, Each, OfOne, arguments_of, check_form, check_whole_form, closure_form, displacement_form, forms, grid_form, is_among, rule_entry, rule_name, rule_names, screen_form, trial_form, unwrap_form, watch_form, whole_form}
+use Rattle.insar_words.specs.Forms.{CommandForm, Each, OfOne, arguments_of, check_form, check_whole_form, closure_form, displacement_form, forms, grid_form, is_among, nearest_form, rule_entry, rule_name, rule_names, screen_form, trial_form, unwrap_form, watch_form, whole_form}
 use Rattle.insar_words.specs.Limits.{IsBlockAsked, IsNearCount, IsPatchSize, IsReaders, IsReads, IsReferencePlace, IsScreenRadius, IsTrialSide, IsWavelengthAsked, IsWorkers}
 use Rattle.insar_words.specs.Requests.{AskSomething, CheckIsRequest, CheckWholeIsRequest, GridIsRequest, HasWordsCause, IsRequest, IsSession, OneRequest, RefusedOrAsking, TellsAll, TellsNothing, TellsRefusal, TellsRequest, TellsSettings, TellsTerms, TellsTooMany, TellsWhole, TrialIsRequest, UnwrapIsRequest, WatchIsRequest, WholeIsRequest, options_of}
 use Rattle.insar_words.specs.Stated.{stated}
 use Rattle.insar_words.specs.Values.{HasChecking, HasNumber, HasSolving, HasTerms, HasValues, ReadsAs}
 use Rattle.insar_words.specs.declared.fault.WordsFault.{WordsFault}
 use Rattle.insar_words.specs.declared.request.Request.{Request}
-use Rattle.insar_words.specs.declared.request.Request.TheVariants.{Unwrap, Grid, Check, Trial, Screen, Closure, Displacement, Whole, CheckWhole, Watch}
+use Rattle.insar_words.specs.declared.request.Request.TheVariants.{Unwrap, Grid, Check, Trial, Screen, Closure, Displacement, Whole, CheckWhole, Watch, Nearest}
 use Rattle.insar_words.specs.declared.screening.Screening.{Screening}
 use Rattle.insar_words.specs.declared.displacing.Displacing.{Displacing}
 use Rattle.insar_words.specs.declared.settings.Settings.{Settings}
@@ -67,10 +67,12 @@ command_of (Displacement displacing) = codes "displacement"
 command_of (Whole settings) = codes "whole"
 command_of (CheckWhole settings) = codes "check-whole"
 command_of (Watch watching) = codes "watch"
+command_of Nearest = codes "nearest"
 
 -- the command that is told
 pub told_by : (command : Text) (rows : List Row) (r : Request) → TellsRequest command rows r → command ≡ command_of r
 told_by command rows Closure tells = tells.0
+told_by command rows Nearest tells = tells.0
 told_by command rows r tells = tells.0
 
 -- the rows that words ask for by one command are those that they ask for by another
@@ -215,6 +217,7 @@ one_told command rows (Displacement s) (Displacement t) a b = ap Displacement (s
 one_told command rows (Whole s) (Whole t) a b = ap Whole (same_whole rows s t a.1.0 b.1.0 (cc))
 one_told command rows (CheckWhole s) (CheckWhole t) a b = ap CheckWhole (same_whole rows s t a.1.0 b.1.0 (cc))
 one_told command rows (Watch s) (Watch t) a b = ap Watch (same_watching s t (same_told rows s.settings t.settings a.1.0.0 b.1.0.0 (some_one _ _ _ a.1.0.1 b.1.0.1)) (some_one _ _ _ a.1.1.0 b.1.1.0) (some_one _ _ _ a.1.1.1 b.1.1.1))
+one_told command rows Nearest Nearest a b = refl
 one_told command rows r q a b = absurd (apart (command_of r) (command_of q) refl (sym (told_by command rows r a) ∙ told_by command rows q b))
 
 pub one_request : OneRequest
@@ -341,6 +344,9 @@ asks_watch words rows taken named has names =
     let watching : Watching = record { settings = s.0; readers = readers.0; reads = reads.0; crowd = readers.2; looks = reads.2 } in
     inr (Watch watching, record { taken = taken; command = codes "watch"; rows = rows; named = named; tells = (refl, (s.1, (readers.1, reads.1))) })
 
+asks_nearest : Asking nearest_form
+asks_nearest words rows taken named has names = inr (Nearest, record { taken = taken; command = codes "nearest"; rows = rows; named = named; tells = (refl, tt) })
+
 -- what words that clap takes ask for
 record Reads (words : List Text) : Type 0 where
   form : CommandForm
@@ -365,7 +371,7 @@ asked_some : (words : List (Bor Text)) → AreTaken words → SomeAsked words
 asked_some words taken =
     let r = reads_some (texts words) taken.parsed in
     let names = and_parts (has_names r.rows r.form) true (sym ((sound r.form r.among).names r.rows) ∙ ap asks_by_names (sym r.named) ∙ taken.in_names) in
-    each_form Asking forms (asks_unwrap, (asks_grid, (asks_check, (asks_trial, (asks_screen, (asks_closure, (asks_displacement, (asks_whole, (asks_check_whole, (asks_watch, tt)))))))))) r.form r.among words r.rows taken r.named r.values names.0
+    each_form Asking forms (asks_unwrap, (asks_grid, (asks_check, (asks_trial, (asks_screen, (asks_closure, (asks_displacement, (asks_whole, (asks_check_whole, (asks_watch, (asks_nearest, tt))))))))))) r.form r.among words r.rows taken r.named r.values names.0
 
 -- ---- refused, or asking
 

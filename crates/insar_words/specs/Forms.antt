@@ -174,8 +174,11 @@ check_whole_form = record { command = codes "check-whole"; positionals = []; opt
 abbrev pub watch_form : CommandForm
 watch_form = record { command = codes "watch"; positionals = []; options = watching }
 
+abbrev pub nearest_form : CommandForm
+nearest_form = record { command = codes "nearest"; positionals = []; options = [] }
+
 abbrev pub forms : List CommandForm
-forms = unwrap_form ∷ grid_form ∷ check_form ∷ trial_form ∷ screen_form ∷ closure_form ∷ displacement_form ∷ whole_form ∷ check_whole_form ∷ watch_form ∷ []
+forms = unwrap_form ∷ grid_form ∷ check_form ∷ trial_form ∷ screen_form ∷ closure_form ∷ displacement_form ∷ whole_form ∷ check_whole_form ∷ watch_form ∷ nearest_form ∷ []
 
 -- P holds of each
 abbrev pub Each : {X : Type 0} → (X → Type 0) → List X → Type 0

@@ -12,7 +12,7 @@ use Rattle.raster_model.specs.Limits.{max_pixels}
 use Rattle.insar_words.specs.Asked.{AreTaken, AsksWorkers, IsCheck, IsCheckWhole, IsTrialCommand, IsWholeWith, Options, asked, number_asked, slope_for}
 use Rattle.insar_words.specs.Forms.{Argument, CommandForm, Each, OfOne, Value, block_entry, checking, count_entry, displacing, fits, forms, name, number, patch_entry, radius_entry, ramp_x_entry, ramp_y_entry, readers_entry, reads_entry, rule_entry, screening, solving, steep_entry, tile_entry, watching, wavelength_entry, weight_entry, whole_checking, whole_solving, word_of, workers_entry, x_entry, y_entry}
 use Rattle.insar_words.specs.Requests.{IsRequest, options_of}
-use Rattle.insar_words.specs.declared.request.Request.TheVariants.{Screen, Closure, Displacement, Watch}
+use Rattle.insar_words.specs.declared.request.Request.TheVariants.{Screen, Closure, Displacement, Watch, Nearest}
 use Rattle.insar_words.specs.declared.screening.Screening.{Screening}
 use Rattle.insar_words.specs.declared.displacing.Displacing.{Displacing}
 use Rattle.insar_words.specs.declared.watching.Watching.{Watching}
@@ -150,9 +150,12 @@ abbrev pub PlainScreenIsRead : Type 0
 PlainScreenIsRead = (words : List (Bor Text)) (settings : List Setting) → ArePlain screening settings → texts words ≡ codes "screen" ∷ pairs settings
     → (s : Screening) × (IsScreeningSet settings s × IsRequest words (Screen s))
 
--- `closure`, which has no options
+-- `closure` and `nearest`, which have no options
 abbrev pub PlainClosureIsRead : Type 0
 PlainClosureIsRead = (words : List (Bor Text)) → texts words ≡ codes "closure" ∷ [] → IsRequest words Closure
+
+abbrev pub PlainNearestIsRead : Type 0
+PlainNearestIsRead = (words : List (Bor Text)) → texts words ≡ codes "nearest" ∷ [] → IsRequest words Nearest
 
 -- and `displacement`, whose wavelength must be set
 pub record IsDisplacingSet (settings : List Setting) (d : Displacing) : Type 0 where

@@ -8,7 +8,7 @@ use Rattle.insar_words.specs.Forms.{rule_entry, rule_name}
 use Rattle.insar_words.specs.declared.fault.WordsFault.{WordsFault}
 use Rattle.insar_words.specs.declared.fault.WordsFault.TheVariants as faults
 use Rattle.insar_words.specs.declared.request.Request.{Request}
-use Rattle.insar_words.specs.declared.request.Request.TheVariants.{Unwrap, Grid, Check, Trial, Screen, Closure, Displacement, Whole, CheckWhole, Watch}
+use Rattle.insar_words.specs.declared.request.Request.TheVariants.{Unwrap, Grid, Check, Trial, Screen, Closure, Displacement, Whole, CheckWhole, Watch, Nearest}
 use Rattle.insar_words.specs.declared.screening.Screening.{Screening}
 use Rattle.insar_words.specs.declared.displacing.Displacing.{Displacing}
 use Rattle.insar_words.specs.declared.settings.Settings.{Settings}
@@ -71,6 +71,7 @@ TellsRequest command rows (Displacement displacing) = (command ≡ codes "displa
 TellsRequest command rows (Whole settings) = (command ≡ codes "whole") × (TellsWhole rows settings × (number_asked (codes "workers") rows ≡ Some settings.workers))
 TellsRequest command rows (CheckWhole settings) = (command ≡ codes "check-whole") × (TellsWhole rows settings × (settings.workers ≡ 2))
 TellsRequest command rows (Watch watching) = (command ≡ codes "watch") × TellsWatching rows watching
+TellsRequest command rows Nearest = (command ≡ codes "nearest") × ⊤
 
 -- it is refused, for a name or for too many pixels
 abbrev pub TellsNothing : Text → List Row → Type 0

@@ -65,6 +65,7 @@ fn request_of(name: &str, found: &ArgMatches<'_>) -> Option<Request>
             DEFAULT_WORKERS,
         )?)),
         "watch" => Some(Request::Watch(watching_of(found)?)),
+        "nearest" => Some(Request::Nearest),
         _ => unreachable!(),
     }
 }

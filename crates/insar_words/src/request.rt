@@ -27,4 +27,6 @@ pub enum Request {
     CheckWhole(Settings),
     /// `watch`: what was published, and what readers saw of it.
     Watch(Watching),
+    /// `nearest`: the surface of a session's phase that is nearest to a given one.
+    Nearest,
 }

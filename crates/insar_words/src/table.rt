@@ -24,7 +24,7 @@ pub(crate) struct ArgumentRow {
 }
 
 /// The commands.
-pub(crate) const COMMANDS: [CommandRow; 10] = [
+pub(crate) const COMMANDS: [CommandRow; 11] = [
     CommandRow {
         name: "unwrap",
         arguments: &[TILE, RULE, RAMP_X, RAMP_Y, STEEP, WORKERS],
@@ -66,6 +66,10 @@ pub(crate) const COMMANDS: [CommandRow; 10] = [
     CommandRow {
         name: "watch",
         arguments: &[TILE, RULE, RAMP_X, RAMP_Y, STEEP, WORKERS, READERS, READS],
+    },
+    CommandRow {
+        name: "nearest",
+        arguments: &[],
     },
 ];
 

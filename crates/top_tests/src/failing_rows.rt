@@ -41,6 +41,8 @@ take|29|29|check-whole|P5;4 1;65535;@end;xy;|3|report fault line 1;
 take|1|1|closure|ncols 1;nrows 1;%0;ncols 1;nrows 1;%0;ncols 1;nrows 1;%0;|5|read fault;
 take|262|262|closure|ncols 1;nrows 1;%0;ncols 1;nrows 1;%0;ncols 1;nrows 1;%0;|5|read fault;
 take|80|88|displacement --wavelength 1|ncols 1;nrows 1;%0;|5|read fault;
+take|19|20|nearest|P2 1 1 65535 7;end;ncols 1;nrows 1;%0;|5|read fault;
+take|107|107|nearest|P2 1 1 65535 7;end;ncols 1;nrows 1;%0;|5|read fault;
 take|1|1|trial 0 1 1||0|pixels 1;residues 0;unmasked 1;cost 0;";
 
 /// The same for the sink. One call after the last the run is undisturbed.
@@ -68,7 +70,9 @@ put|14|16|closure|ncols 1;nrows 1;%0;ncols 1;nrows 1;%0;ncols 1;nrows 1;%0;|6|cl
 put|188|188|closure|ncols 1;nrows 1;%0;ncols 1;nrows 1;%0;ncols 1;nrows 1;%0;|6|closure 1 0 0;ncols 1;nrows 1;%0;ncols 1;nrows 1;%0;
 put|189|189|closure|ncols 1;nrows 1;%0;ncols 1;nrows 1;%0;ncols 1;nrows 1;%0;|0|closure 1 0 0;ncols 1;nrows 1;%0;ncols 1;nrows 1;%0;
 put|87|87|displacement --wavelength 1|ncols 1;nrows 1;%0;|6|ncols 1;nrows 1;%0;
-put|88|88|displacement --wavelength 1|ncols 1;nrows 1;%0;|0|ncols 1;nrows 1;%0;";
+put|88|88|displacement --wavelength 1|ncols 1;nrows 1;%0;|0|ncols 1;nrows 1;%0;
+put|87|87|nearest|P2 1 1 65535 7;end;ncols 1;nrows 1;%0;|6|ncols 1;nrows 1;%7;
+put|88|88|nearest|P2 1 1 65535 7;end;ncols 1;nrows 1;%0;|0|ncols 1;nrows 1;%7;";
 
 /// The same for a line in raw bytes, whose report is shown whole.
 const LINES: &str = "\

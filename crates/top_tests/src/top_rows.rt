@@ -182,6 +182,20 @@ displacement --wavelength 1000000000 --x 1|ncols 2;nrows 1;%9223372036854775807 
 displacement --wavelength 1000000000 --block 2|ncols 2;nrows 3;%0 0;0 0;0 9223372036854775807;|3|input fault 23 wide 0 1;
 displacement --wavelength 1||3|input fault 19 grid 1 line 1;
 displacement --wavelength 1|ncols 1;nrows 1;%0;x|3|input fault 22 after grids byte 87;
+-- The nearest surface: exact half cycles from above and from below, a larger step of either sign, a masked pixel, the ends of
+-- 64 bits; a script that is not run.
+nearest|P2 4 1 65535 0 20000 40000 60000;end;ncols 4;nrows 1;%32768 -12768 100000 -100000;|0|ncols 4;nrows 1;%0 -45536 105536 -71072;
+nearest|P2 2 2 65535 0 0 65535 65535;end;ncols 2;nrows 2;%32767 32769;-32768 -32769;|0|ncols 2;nrows 2;%0 65536;-1 -65537;
+nearest|P2 3 1 65535 5 65535 1 P2 3 1 1 1 1 1 P2 3 1 1 0 1 1;analyst;mask 1 0 2 0;settle;end;ncols 3;nrows 1;%~ 9223372036854775807 -9223372036854775807;|0|ncols 3;nrows 1;%~ 9223372036854775807 -9223372036854775807;
+-- A fault of the session, the first break of the grid, another size, a missing value, and one that does not fit: in this order.
+nearest|P2 1 1 65535 0|3|input fault 14 no end;
+nearest|P2 1 1 65535 0;end;|3|input fault 19 grid 1 line 1;
+nearest|P2 1 1 65535 0;end;ncols 2;nrows 1;%~ ~;x|3|input fault 22 after grids byte 146;
+nearest|P2 1 1 65535 0;end;ncols 2;nrows 1;%~ ~;|3|input fault 21 grid 1 sizes;
+nearest|P2 1 2 65535 0 0;end;ncols 2;nrows 1;%0 0;|3|input fault 21 grid 1 sizes;
+nearest|P2 2 2 65535 0 0 0 0;end;ncols 2;nrows 2;%9223372036854775807 0;0 ~;|3|input fault 25 missing 1 1;
+nearest|P2 2 2 65535 0 0 0 0;end;ncols 2;nrows 2;%0 0;9223372036854775807 9223372036854775807;|3|input fault 23 wide 0 1;
+nearest|P2 2 1 65535 1 0;end;ncols 2;nrows 1;%-9223372036854775807 -9223372036854775807;|3|input fault 23 wide 1 0;
 -- The least of all over the whole raster. No residue; a turn, with two surfaces that cost least; one of its pixels masked, and
 -- all; rasters with no cell; a raster whose edges at the bottom, at the left and between two cells weigh 3, 4 and 3.
 whole|P2 2 2 65535 0 20000 40000 60000|0|^2 2;rule least;ramp 0 0;steep 1;cost 0;ncols 2;nrows 2;%0 20000;-25536 -5536;faces *;end;
@@ -263,6 +277,8 @@ screen --rule least||2|words refused;
 screen --workers 1||2|words refused;
 closure x||2|words refused;
 closure --tile 2||2|words refused;
+nearest x||2|words refused;
+nearest --tile 2||2|words refused;
 displacement||2|words refused;
 displacement --x 1||2|words refused;
 displacement --wavelength 0||2|words refused;

@@ -1,6 +1,6 @@
 ghost use Rattle.dual_grid.specs.Building.{IsPlaceBelow};
 ghost use Rattle.dual_grid.specs.Grids.{along as along_of, amount_of, carried as carried_by, cost_of_place, is_split as is_split_at, is_taken, leads_forth as leads_forth_of, plain_residual, residual_at as residual_of, split_residual, twin_place as twin_of};
-ghost use Rattle.std.specs.Prelude.{◌≡◌, ◌<◌, ◌≤◌, ◌+ℤ◌, ◌-ℤ◌, if◌then◌else◌, IsTrue, pos, unsigned_abs};
+ghost use Rattle.std.specs.Prelude.{◌+◌, ◌*◌, ◌≡◌, ◌<◌, ◌≤◌, ◌+ℤ◌, ◌-ℤ◌, if◌then◌else◌, IsTrue, pos, unsigned_abs};
 
 use raster_model::MAX_NETWORK_NODES;
 

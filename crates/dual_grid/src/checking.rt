@@ -52,7 +52,7 @@ fn number(window: Window, right: &[i32], down: &[i32], edge: Edge) -> i32
 fn correction(window: Window, corrections: &Corrections, x: u32, y: u32, down: bool) -> i64
     requires { IsEdgeOf window (record { x = x; y = y; down = down }) }
     ensures value { result ≡ correction_at window corrections.now (record { x = x; y = y; down = down }) }
-    ensures small { unsigned_abs result ≤ 2 ^ 31 }
+    ensures small { unsigned_abs result ≤ 2147483648 }
 {
     let edge = Edge { x, y, down };
     i64::from(number(window, &corrections.right, &corrections.down, edge))

@@ -1,6 +1,6 @@
 -- Seam edges with open ends as links between regions, in edge order; None stands for a seam edge with a masked end. No public clause cites this file.
 use Rattle.raster_model.specs.declared.limits.TheConstants.{MAX_NETWORK_NODES, MAX_REGIONS, MAX_SEAM_DEPARTURE, MAX_WEIGHT}
-use Rattle.std.specs.Prelude.{◌≡◌, ℕ, ◌<◌, ◌≤◌, Option, Some, None, List, length, slice_index_or, unsigned_abs}
+use Rattle.std.specs.Prelude.{◌*◌, ◌≡◌, ℕ, ◌<◌, ◌≤◌, Option, Some, None, List, length, slice_index_or, unsigned_abs}
 use Rattle.offset_guess.specs.declared.link.Link.{Link}
 
 -- the link at a place

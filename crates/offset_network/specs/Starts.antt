@@ -1,6 +1,6 @@
 -- Where the network starts: an offset for each region, and the links of the surface with these offsets. No public clause cites this file.
 use Rattle.offset_network.specs.declared.start.TheConstants.{MAX_START}
-use Rattle.std.specs.Prelude.{◌≡◌, ℕ, ◌<◌, ◌≤◌, ◌^◌, ℤ, pos, ◌+ℤ◌, ◌-ℤ◌, Option, Some, None, List, length, slice_index_or, unsigned_abs}
+use Rattle.std.specs.Prelude.{◌≡◌, ℕ, ◌<◌, ◌≤◌, ℤ, pos, ◌+ℤ◌, ◌-ℤ◌, Option, Some, None, List, length, slice_index_or, unsigned_abs}
 use Rattle.offset_guess.specs.declared.link.Link.{Link}
 use Rattle.offset_network.specs.declared.start.Start.{Start}
 use Rattle.offset_network.specs.Links.{AreLinks, link_at}

@@ -8,7 +8,7 @@ ghost use Rattle.raster_model.specs.Scene.{raster_of};
 ghost use Rattle.raster_model.specs.Seams.{IsOpenPixel, IsFirstOpen};
 ghost use Rattle.seam_regions.specs.Regions.{AreRegionsOf, region_label};
 ghost use Rattle.shortest_augment.specs.Balance.{LiesWithin};
-ghost use Rattle.std.specs.Prelude.{◌≡◌, ℕ, ◌+◌, ◌*◌, ◌<◌, ◌≤◌, ◌+ℤ◌, ◌≤ℤ◌, IfNone, IfOk, IfSome, Some, length, neg_ℤ, pos, slice_index_or, unsigned_abs, ◌^◌};
+ghost use Rattle.std.specs.Prelude.{◌≡◌, ℕ, ◌+◌, ◌*◌, ◌<◌, ◌≤◌, ◌+ℤ◌, ◌≤ℤ◌, IfNone, IfOk, IfSome, Some, length, neg_ℤ, pos, slice_index_or, unsigned_abs};
 
 use crate::lane::{Lane, arcs_of};
 use crate::start::MAX_START;

@@ -1,7 +1,7 @@
 ghost use Rattle.offset_network.specs.Places.{ArePlaces, IsSpotOf, tile_place};
 ghost use Rattle.raster_model.specs.Limits.{IsTileSide, max_side};
 ghost use Rattle.raster_model.specs.Tiles.{columns_of_tiles};
-ghost use Rattle.std.specs.Prelude.{◌≡◌, ◌<◌, ◌≤◌, IfOk};
+ghost use Rattle.std.specs.Prelude.{◌*◌, ◌≡◌, ◌<◌, ◌≤◌, IfOk};
 
 use raster_model::{MAX_SIDE, Tiling, Window};
 use std::alloc::{AllocError, Global};

@@ -4,7 +4,6 @@ ghost use Rattle.std.specs.Prelude.{
   ◌+◌,
   ◌-◌,
   ◌*◌,
-  ◌^◌,
   ◌<◌,
   ◌≤◌,
   IfOk,
@@ -35,7 +34,7 @@ pub fn integrate_wide(
     requires gradients { AreGradientsOf scene.now gradients.now }
     requires shape { HasShapeOf gradients.now.window corrections.now }
     requires cancel { CancelResidues (raster_of scene.now) gradients.now.window corrections.now }
-    requires small { greatest_of corrections.now < (2 ^ 31 - 1) }
+    requires small { greatest_of corrections.now < 2147483647 }
     ensures count { IfOk result (λ cycles. vec_len cycles ≡ width_of gradients.now.window * height_of gradients.now.window) }
     ensures first { IfOk result (λ cycles. cycles_at gradients.now.window cycles.items gradients.now.window.x0 gradients.now.window.y0 ≡ pos 0) }
     ensures departs { IfOk result (λ cycles. DepartBy (raster_of scene.now) gradients.now.window (cycles_at gradients.now.window cycles.items) corrections.now) }
@@ -65,7 +64,7 @@ fn push_row(
 ) -> Result<(), AllocError>
     requires gradients { AreGradientsOf scene.now gradients.now }
     requires shape { HasShapeOf gradients.now.window corrections.now }
-    requires small { greatest_of corrections.now < (2 ^ 31 - 1) }
+    requires small { greatest_of corrections.now < 2147483647 }
     requires row { (gradients.now.window.y0 ≤ y) × (y ≤ gradients.now.window.y1) }
     requires near { unsigned_abs first ≤ (y - gradients.now.window.y0) * (greatest_of corrections.now + 1) }
     ensures { OnOk result (IsRowAdded (raster_of scene.now) gradients.now.window corrections.now y (gradients.now.window.x1 - gradients.now.window.x0) first cycles.old.items cycles.new.items) }

@@ -1,6 +1,6 @@
 -- Whole cycles above the phase at the pixels of a raster, as a list in row order.
 use Rattle.raster_model.specs.declared.limits.TheConstants.{MAX_WHOLE_CYCLES}
-use Rattle.std.specs.Prelude.{ℕ, ◌+◌, ◌*◌, ◌≤◌, ◌^◌, ℤ, pos, Bool, ◌&&◌, nat_lt, List, length, slice_index_or, unsigned_abs}
+use Rattle.std.specs.Prelude.{ℕ, ◌+◌, ◌*◌, ◌≤◌, ℤ, pos, Bool, ◌&&◌, nat_lt, List, length, slice_index_or, unsigned_abs}
 use Rattle.raster_model.specs.Sums.{Field}
 
 -- the cycles that a list in row order has at a pixel of a raster so wide, and whether it has a place for the pixel

@@ -5,7 +5,7 @@ ghost use Rattle.raster_model.specs.Scene.{raster_of};
 ghost use Rattle.raster_model.specs.Sums.{Field};
 ghost use Rattle.raster_model.specs.Tiles.{height_of, width_of};
 ghost use Rattle.raster_model.specs.Whole.{IsCertifiedWhole};
-ghost use Rattle.std.specs.Prelude.{◌≡◌, ◌*◌, ◌^◌, Bool, IfOk, length, pos, vec_len};
+ghost use Rattle.std.specs.Prelude.{◌≡◌, ◌*◌, Bool, IfOk, length, pos, vec_len};
 ghost use Rattle.surface_integration.specs.Cycles.{LieWithin, cycles_at};
 ghost use Rattle.whole_solver.specs.Solved.{listed_surface, raster_window as window_of_raster};
 ghost use Rattle.wrapped_gradient.specs.Gradients.{AreGradientsOf};

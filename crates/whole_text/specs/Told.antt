@@ -1,6 +1,6 @@
 -- What the text of a surface that lies whole cycles above the phase tells.
 use Rattle.raster_model.specs.declared.limits.TheConstants.{MAX_WHOLE_CYCLES}
-use Rattle.std.specs.Prelude.{ℕ, ◌<◌, ◌^◌, ℤ, Bool, IsTrue, if◌then◌else◌, List, unsigned_abs}
+use Rattle.std.specs.Prelude.{◌*◌, ℕ, ◌<◌, ℤ, Bool, IsTrue, if◌then◌else◌, List, unsigned_abs}
 use Rattle.raster_model.specs.declared.scene.Scene.{Scene}
 use Rattle.raster_model.specs.Raster.{Raster, lifted}
 use Rattle.raster_model.specs.Scene.{raster_of}

@@ -4,7 +4,7 @@ ghost use Rattle.raster_model.specs.Limits.{is_raster_size};
 ghost use Rattle.raster_model.specs.Masks.{open_at};
 ghost use Rattle.raster_model.specs.Raster.{lifted};
 ghost use Rattle.raster_model.specs.Scene.{raster_of};
-ghost use Rattle.std.specs.Prelude.{◌≡◌, ◌≤◌, ◌<◌, ◌^◌, ◌+ℤ◌, ◌*ℤ◌, IsTrue, length, pos, unsigned_abs};
+ghost use Rattle.std.specs.Prelude.{◌*◌, ◌≡◌, ◌≤◌, ◌<◌, ◌+ℤ◌, ◌*ℤ◌, IsTrue, length, pos, unsigned_abs};
 ghost use Rattle.surface_snapshots.specs.Parts.{BeginsWithRow};
 ghost use Rattle.whole_text.specs.Told.{AreFewCycles, grid_above, value_above};
 

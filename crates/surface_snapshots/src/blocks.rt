@@ -107,7 +107,7 @@ fn costs_of_row(mask: &Mask, block: &Block<'_>, y: u32) -> Costs
     requires listed { HaveRow block.now.surface block.now.start (length block.now.cycles.now) y }
     ensures tiles { pos result.tiles ≡ sum_row block.now.surface.scene.now.phase.width (tile_costs_from block.now.surface) y }
     ensures seams { pos result.seams ≡ sum_row block.now.surface.scene.now.phase.width (seam_costs_from block.now.surface) y }
-    ensures small { AreOfEdges 2 * MAX_SIDE result }
+    ensures small { AreOfEdges (2 * MAX_SIDE) result }
 {
     let width = block.surface.scene.phase.width;
     let mut costs = NO_COSTS;

@@ -81,7 +81,7 @@ fn row_costs<H: Heights>(scene: &Scene, mask: &Mask, heights: &H, y: u32) -> Cos
     requires row { y < scene.now.phase.height }
     ensures tiles { pos result.tiles ≡ sum_row scene.now.phase.width (inner_cost_from (raster_of scene.now) (open_at mask.now) (lifted (raster_of scene.now) (H.cycles_at heights.now))) y }
     ensures seams { pos result.seams ≡ sum_row scene.now.phase.width (seam_cost_from (raster_of scene.now) (open_at mask.now) (lifted (raster_of scene.now) (H.cycles_at heights.now))) y }
-    ensures small { AreOfEdges 2 * MAX_SIDE result }
+    ensures small { AreOfEdges (2 * MAX_SIDE) result }
 {
     let width = scene.phase.width;
     let mut costs = NO_COSTS;

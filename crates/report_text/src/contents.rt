@@ -1,6 +1,8 @@
 ghost use Rattle.raster_model.specs.Limits.{is_raster_size, IsTileSide};
 ghost use Rattle.report_text.specs.Fitting.{ItemsFit};
+ghost use Rattle.report_text.specs.Terms.{AreTermsIn};
 ghost use Rattle.std.specs.Prelude.{◌≤◌, IsTrue};
+ghost use Rattle.text_parts.specs.Terms.{terms_of};
 
 use crate::items::Item;
 use raster_model::{RuleKind, Terms};
@@ -22,6 +24,8 @@ pub struct Report {
     pub terms: Terms,
     /// The history in order, and the surfaces after its publications.
     pub items: Vec<Item>,
+    pub ghost versioned: { (1 ≤ version) × (version ≤ 2) },
+    pub ghost terms_in: { AreTermsIn version (terms_of terms) },
     pub ghost sized: { IsTrue (is_raster_size width height) },
     pub ghost sides: { IsTileSide side },
     pub ghost fitting: { ItemsFit width height side items.items },

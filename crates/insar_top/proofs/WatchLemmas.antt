@@ -94,8 +94,8 @@ told_watch s b of legal complete published are readers ws vs same count kept =
 
 -- ---- watchers that have watched
 
-pub watched_ready : (shelf own : Book) → own ≡ shelf → (now before after : List WatcherView) → now ≡ before → length after ≡ length before → All (IsFresh shelf) before → HaveWatched now after → All (IsReady own) after
-watched_ready shelf own same now before after is long fresh watched k d l =
+pub watched_ready : (shelf own : Book) (reads : ℕ) → own ≡ shelf → (now before after : List WatcherView) → now ≡ before → length after ≡ length before → All (IsFresh shelf reads) before → HaveWatched now after → All (IsReady own) after
+watched_ready shelf own reads same now before after is long fresh watched k d l =
     let within : k < length before = omega (arith, l, long) in
     let w = subst (λ (ws : List WatcherView). HaveWatched ws after) is watched k d within in
     record { own = w.reader.same ∙ (fresh k d within).own ∙ sym same; place = w.place }

@@ -35,9 +35,10 @@ IsWatchDone options r = IfSome r.told (λ bytes. (readers : ℕ) × (text : List
 
 -- ---- on the way to it
 
--- a watcher of this shelf has all its room left; and it may still take in a note
-pub record IsFresh (shelf : Book) (w : WatcherView) : Type 0 where
+-- a watcher of this shelf has so many reads and all its room left; and it may still take in a note
+pub record IsFresh (shelf : Book) (reads : ℕ) (w : WatcherView) : Type 0 where
   pub own : w.reader.shelf ≡ shelf
+  pub left : w.reads ≡ reads
   pub room : HasRoom w
 
 pub record IsReady (shelf : Book) (w : WatcherView) : Type 0 where

@@ -41,7 +41,7 @@ pub fn watch_session<R: Threads + Wait + Sync, G: Gate>(
     }
 }
 
-/// A watcher for each reader of a shelf.
+/// A watcher for each reader of a shelf, which reads so many times.
 fn hired(
     alloc: Global,
     writer: &ShelfWriter,
@@ -49,7 +49,7 @@ fn hired(
     reads: u32,
 ) -> Result<Vec<Watcher>, AllocError>
     requires { All (λ reader. reader ≡ writer.now) readers.items }
-    ensures fresh { IfOk result (λ watchers. All (IsFresh writer.now.shelf) watchers.items) }
+    ensures fresh { IfOk result (λ watchers. All (IsFresh writer.now.shelf reads) watchers.items) }
     ensures count { IfOk result (λ watchers. length watchers.items ≡ length readers.items) }
 {
     let mut watchers = Vec::with_capacity(alloc, readers.len())?;
@@ -71,7 +71,7 @@ fn watched<R: Threads + Wait + Sync, G: Gate>(
     gate: &G,
 ) -> Result<(Vec<u32>, Vec<Watcher>), AllocError>
     requires passes { AreFirst desk passes.items }
-    requires watchers { All (IsFresh writer.shelf) watchers.items }
+    requires watchers { All (IsFresh writer.shelf watching.reads) watchers.items }
     ensures { IfOk result (λ made. IsWatchOf desk.session (length watchers.items) made.0.items (all_seen made.0.items made.1.items)) }
 {
     let mut curator = curator_of(rt, &desk, passes.as_mut_slice(), writer);

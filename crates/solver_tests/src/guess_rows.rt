@@ -2,14 +2,14 @@ ghost use Rattle.raster_model.specs.Tiles.{tiles_of, window_of};
 ghost use Rattle.std.specs.Prelude.{◌≡◌, ◌<◌};
 ghost use Rattle.wrapped_gradient.specs.Gradients.{AreGradientsOf};
 
-use crate::reading::{Raster, read_raster, read_steep, unmasked};
+use crate::reading::{Raster, read_at, read_raster, read_steep, unmasked};
 use crate::tile_rows::{ROWS, STEEP_ROWS};
 use certificates::{TileVerdict, check_tile};
 use dual_grid::{DualGrid, Problem};
 use raster_model::Scene;
 use std::alloc::Global;
 use std::process::Abort;
-use tile_guess::Guess;
+use tile_guess::{Grid, Guess, guess_flow};
 use tile_solver::solve_tile_from;
 use worked_scenes::{cycles, field, holds, masked, numbers};
 use wrapped_gradient::{Corrections, Gradients};
@@ -65,12 +65,12 @@ fn gradients_of(rt: &impl Abort, alloc: Global, scene: &Scene) -> Gradients
     Gradients::of(alloc, scene, scene.tiling.window(0)).expect(rt, "memory")
 }
 
-/// What a scene's one tile asks if all pixels are open.
-fn problem_of(rt: &impl Abort, alloc: Global, scene: &Scene) -> Problem
+/// What a scene's one tile asks under a mask.
+fn problem_of(rt: &impl Abort, alloc: Global, scene: &Scene, opened: &[u16]) -> Problem
     requires { 0 < tiles_of scene.now.tiling }
 {
     let gradients = gradients_of(rt, alloc, scene);
-    let unmasked = unmasked(rt, alloc, scene, &[1; 4]);
+    let unmasked = unmasked(rt, alloc, scene, opened);
     Problem::of(alloc, scene, &gradients, 0, &unmasked).expect(rt, "memory")
 }
 
@@ -86,9 +86,45 @@ fn is_as_told(rt: &impl Abort, alloc: Global, problem: &Problem, row: &str) -> b
 fn guesses_are_taken_where_they_answer(rt: HostRuntime) {
     let alloc = rt.alloc();
     let scene = full_turn(&rt, alloc);
-    let problem = problem_of(&rt, alloc, &scene);
+    let problem = problem_of(&rt, alloc, &scene, &[1; 4]);
     for row in GUESSES.lines() {
         holds(&rt, row, is_as_told(&rt, alloc, &problem, row));
+    }
+}
+
+/// The fast solver's guess at what a tile asks.
+fn guess_at(rt: &impl Abort, alloc: Global, problem: &Problem) -> Guess {
+    let window = problem.window;
+    let grid = Grid {
+        across: window.x1 - window.x0,
+        along: window.y1 - window.y0,
+        right: &problem.right,
+        down: &problem.down,
+        residues: &problem.residues,
+        steep: problem.steep,
+    };
+    guess_flow(alloc, grid).expect(rt, "memory")
+}
+
+/// Whether the fast solver's guess at a raster's one tile is taken as an answer.
+fn is_taken(rt: &impl Abort, alloc: Global, raster: &Raster) -> bool
+    requires { 0 < tiles_of raster.now.scene.tiling }
+{
+    let problem = problem_of(rt, alloc, &raster.scene, &raster.opened);
+    let Guess { right, down, faces } = guess_at(rt, alloc, &problem);
+    problem.is_answered_by(&Corrections { right, down }, &faces)
+}
+
+/// The fast solver answers each raster at each of these steepnesses: if its guess is declined, the network still answers, so
+/// nothing else tells.
+#[test]
+fn no_guess_of_a_tile_is_declined(rt: HostRuntime) {
+    let alloc = rt.alloc();
+    for steep in [1, 2, 4, 16] {
+        for row in ROWS.lines() {
+            let raster = read_at(&rt, alloc, steep, row);
+            holds(&rt, row, is_taken(&rt, alloc, &raster));
+        }
     }
 }
 

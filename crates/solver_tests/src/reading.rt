@@ -29,12 +29,25 @@ pub(crate) fn read_steep(rt: &impl Abort, alloc: Global, row: &str) -> Raster
     ensures { 0 < tiles_of result.scene.tiling }
 {
     let mut fields = row.split('|');
-    let terms = Terms {
+    let steep = number(&mut fields);
+    read_raster_on(rt, alloc, terms_at(steep), &mut fields)
+}
+
+/// The raster of a row that does not tell the steepness, at one.
+pub(crate) fn read_at(rt: &impl Abort, alloc: Global, steep: u32, row: &str) -> Raster
+    ensures { 0 < tiles_of result.scene.tiling }
+{
+    let mut fields = row.split('|');
+    read_raster_on(rt, alloc, terms_at(steep), &mut fields)
+}
+
+/// No ramp, and a steepness.
+fn terms_at(steep: u32) -> Terms {
+    Terms {
         ramp_x: 0,
         ramp_y: 0,
-        steep: number(&mut fields).clamp(1, 16),
-    };
-    read_raster_on(rt, alloc, terms, &mut fields)
+        steep: steep.clamp(1, 16),
+    }
 }
 
 /// The raster of the next fields on these terms.

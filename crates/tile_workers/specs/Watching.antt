@@ -1,8 +1,11 @@
 -- What contracts see of a curator and of a watcher, and what becomes of them.
-use Rattle.std.specs.Prelude.{◌≡◌, ◌+◌, ◌<◌, ◌≤◌, ◌⊎◌, ℕ, List, ◌∷◌, ◌++◌, Option, Some, None, length, slice_get, slice_index_or}
+use Rattle.std.specs.Prelude.{◌≡◌, ◌+◌, ◌<◌, ◌≤◌, ◌⊎◌, ℕ, List, [], ◌∷◌, ◌++◌, All, IfSome, MatchOption, Option, Some, None, length, slice_get, slice_index_or}
 use mathlib.Core.List.{IsPrefix}
 use Rattle.board_desk.specs.Passes.{PassView}
-use Rattle.reader_desk.specs.Fronts.{HasAllOf, Learned, ShelfView, last_revision}
+use Rattle.reader_desk.specs.Fronts.{HasAllOf, Learned, ShelfView, last_of, last_revision, shelf_view}
+use Rattle.surface_snapshots.specs.Parts.{Parts}
+use Rattle.tile_board.specs.Histories.{newest_of}
+use Rattle.tile_board.specs.Runs.{IsNoLater}
 use Rattle.tile_workers.specs.Scripts.{HasSeenMore}
 
 -- the pass by which a curator asks the desk, and what its writer has placed
@@ -18,7 +21,19 @@ pub record HasCurated (old new : CuratorView) : Type 0 where
   pub pass : HasSeenMore old.pass new.pass
   pub shelf : HasAllOf old.shelf new.shelf
 
--- what a watcher's reader knows, the revisions that it kept, how often it reads, and for how many more revisions it has room
+-- a revision is above the last one, if there is one
+abbrev pub IsAbove : ℕ → Option ℕ → Type 0
+IsAbove r last = IfSome last (λ number. number < r)
+
+-- a surface was placed, or its revision is no later than that of the last one that was placed
+abbrev pub PlacesAbove : ShelfView → ShelfView → Parts → Type 0
+PlacesAbove old new p = (IsAbove p.seams.revision (last_revision old.surfaces) × (new ≡ shelf_view old.shelf (old.surfaces ++ p ∷ []))) ⊎ (IsNoLater (Some p.seams.revision) (last_revision old.surfaces) × (new ≡ old))
+
+-- the newest publication that the curator's pass has seen is no later than what was placed last
+abbrev pub HasPlaced : CuratorView → Type 0
+HasPlaced c = IsNoLater (newest_of c.pass.seen) (last_revision c.shelf.surfaces)
+
+-- what a watcher's reader knows, the revisions that it kept, how many reads are left, and for how many more revisions it has room
 pub record WatcherView : Type 0 where
   pub reader : ShelfView
   pub revisions : List ℕ
@@ -32,15 +47,38 @@ watcher_view reader revisions reads room = record { reader = reader; revisions =
 abbrev pub Rises : List ℕ → Type 0
 Rises numbers = (i j a b : ℕ) → i < j → slice_get numbers i ≡ Some a → slice_get numbers j ≡ Some b → a < b
 
--- the watcher has room for all that it may read, and for one more
+-- the revision is that of the last surface of a beginning of what is known
+abbrev pub Shows : List Parts → ℕ → Type 0
+Shows surfaces r = (known : List Parts) × (IsPrefix known surfaces × (last_revision known ≡ Some r))
+
+abbrev pub AreShown : List Parts → List ℕ → Type 0
+AreShown surfaces revisions = All (Shows surfaces) revisions
+
+-- a revision was added at the end of the list, or it is no later than the last one there
+abbrev pub KeepsAbove : List ℕ → List ℕ → ℕ → Type 0
+KeepsAbove old new r = (IsAbove r (last_of old) × (new ≡ old ++ r ∷ [])) ⊎ (IsNoLater (Some r) (last_of old) × (new ≡ old))
+
+-- the watcher has room for all reads that are left, and for one more
 abbrev pub HasRoom : WatcherView → Type 0
 HasRoom w = w.reads + 1 ≤ w.room
 
--- a watcher has read: it knows all that it knew, kept all that it had kept, and has room for one more
+-- a watcher has read once: it knows all that it knew, and kept what it then knows last
+pub record HasRead (old new : WatcherView) : Type 0 where
+  pub reader : HasAllOf old.reader new.reader
+  pub kept : MatchOption (last_revision new.reader.surfaces) (new.revisions ≡ old.revisions) (KeepsAbove old.revisions new.revisions)
+  pub reads : new.reads + 1 ≡ old.reads
+  pub room : HasRoom new
+
+-- what a watcher knows last is no later than the last revision that it kept
+abbrev pub HasKept : WatcherView → Type 0
+HasKept w = IsNoLater (last_revision w.reader.surfaces) (last_of w.revisions)
+
+-- a watcher has read until no read was left: it knows all that it knew, kept all that it had kept and what it knows last, and has room for one more
 pub record HasWatched (old new : WatcherView) : Type 0 where
   pub reader : HasAllOf old.reader new.reader
   pub kept : IsPrefix old.revisions new.revisions
-  pub reads : new.reads ≡ old.reads
+  pub last : 0 < old.reads → HasKept new
+  pub reads : new.reads ≡ 0
   pub place : 1 ≤ new.room
 
 abbrev pub HaveWatched : List WatcherView → List WatcherView → Type 0

@@ -1,8 +1,10 @@
 ghost use Rattle.board_desk.specs.Passes.{IsPassOf};
 ghost use Rattle.reader_desk.specs.Fronts.{HasAllOf};
-ghost use Rattle.std.specs.Prelude.{◌≡◌};
+ghost use Rattle.std.specs.Prelude.{◌≡◌, ◌<◌, IfOk, OnOk};
+ghost use Rattle.surface_snapshots.specs.Views.{parts_of};
+ghost use Rattle.tile_board.specs.Surfaces.{IsNewestIn};
 ghost use Rattle.tile_workers.specs.Scripts.{HasSeenMore};
-ghost use Rattle.tile_workers.specs.Watching.{HasCurated, curator_view};
+ghost use Rattle.tile_workers.specs.Watching.{HasCurated, HasPlaced, PlacesAbove, curator_view};
 
 use crate::rising::is_above;
 use board_desk::{Desk, Pass};
@@ -53,7 +55,8 @@ impl Curator {
         reads: u32,
     ) -> Result<(), AllocError>
         requires { IsPassOf desk.now self.old.pass }
-        ensures { HasCurated self.old self.new }
+        ensures curated { HasCurated self.old self.new }
+        ensures placed { OnOk result (0 < reads → HasPlaced self.new) }
     {
         for _read in 0..reads {
             self.look(rt, desk)?;
@@ -65,7 +68,8 @@ impl Curator {
     /// Asks once.
     fn look<R: Wait>(&mut self, rt: &R, desk: &Desk) -> Result<(), AllocError>
         requires { IsPassOf desk.now self.old.pass }
-        ensures { HasCurated self.old self.new }
+        ensures curated { HasCurated self.old self.new }
+        ensures placed { OnOk result (HasPlaced self.new) }
     {
         match newest(rt, desk, &mut self.pass)? {
             Some(surface) => place(rt, &mut self.writer, surface),
@@ -81,14 +85,16 @@ pub(crate) fn newest<R: Wait>(
     pass: &mut Pass,
 ) -> Result<Option<Snapshot>, AllocError>
     requires { IsPassOf desk.now pass.old }
-    ensures { HasSeenMore pass.old pass.new }
+    ensures more { HasSeenMore pass.old pass.new }
+    ensures newest { IfOk result (IsNewestIn desk.now.session pass.new.seen) }
 {
     desk.newest(rt, pass).answer
 }
 
 /// Places a surface whose revision is above the last one that was placed.
 fn place<R: Wait>(rt: &R, writer: &mut ShelfWriter, surface: Snapshot) -> Result<(), AllocError>
-    ensures { HasAllOf writer.old writer.new }
+    ensures all { HasAllOf writer.old writer.new }
+    ensures placed { OnOk result (PlacesAbove writer.old writer.new (parts_of surface)) }
 {
     if is_above(surface.revision(), writer.last_placed()) {
         writer.place(rt, surface)?;

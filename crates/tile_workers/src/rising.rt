@@ -1,11 +1,10 @@
 //! Lists of revisions that rise.
-ghost use Rattle.std.specs.Prelude.{◌≡◌, ◌+◌, ◌<◌, ◌≤◌, IfSome, Some, true, vec_capacity, vec_len};
-ghost use Rattle.tile_workers.specs.Watching.{KeepsToo, Rises};
-ghost use mathlib.Core.List.{IsPrefix};
+ghost use Rattle.std.specs.Prelude.{◌≡◌, ◌+◌, ◌<◌, ◌≤◌, ◌↔◌, IsTrue, Some, vec_capacity, vec_len};
+ghost use Rattle.tile_workers.specs.Watching.{IsAbove, KeepsAbove, KeepsToo, Rises};
 
 /// Whether a revision is above another, or there is no other.
 pub(crate) fn is_above(revision: u32, last: Option<u32>) -> bool
-    ensures { result ≡ true → IfSome last (λ number. number < revision) }
+    ensures { IsTrue result ↔ IsAbove revision last }
 {
     match last {
         Some(number) => revision > number,
@@ -18,7 +17,7 @@ pub(crate) fn keep_above(kept: &mut Vec<u32>, revision: u32)
     requires rises { Rises kept.old.items }
     requires room { vec_len kept.old < vec_capacity kept.old }
     ensures rises { Rises kept.new.items }
-    ensures more { IsPrefix kept.old.items kept.new.items }
+    ensures kept { KeepsAbove kept.old.items kept.new.items revision }
     ensures room { (vec_capacity kept.old ≤ vec_capacity kept.new) × (vec_len kept.new ≤ vec_len kept.old + 1) }
 {
     if is_above(revision, kept.last().copied()) {

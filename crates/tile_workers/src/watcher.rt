@@ -1,7 +1,6 @@
-ghost use Rattle.reader_desk.specs.Fronts.{HasAllOf, Learned, ShelfView};
-ghost use Rattle.std.specs.Prelude.{◌≡◌, ◌+◌, ◌<◌, ◌≤◌, [], IfOk};
-ghost use Rattle.tile_workers.specs.Watching.{HasFinished, HasRoom, HasWatched, Rises, watcher_view};
-ghost use mathlib.Core.List.{IsPrefix};
+ghost use Rattle.reader_desk.specs.Fronts.{Learned, ShelfView};
+ghost use Rattle.std.specs.Prelude.{◌≡◌, ◌<◌, ◌≤◌, [], IfOk};
+ghost use Rattle.tile_workers.specs.Watching.{AreShown, HasFinished, HasRead, HasRoom, HasWatched, Rises, watcher_view};
 
 use crate::rising::{keep_above, take_in};
 use reader_desk::{Note, ShelfReader};
@@ -21,13 +20,13 @@ pub struct Watcher {
 
 impl Model for Watcher {
     ghost use Rattle.std.specs.Prelude.{◌-◌, vec_capacity, vec_len};
-    ghost use Rattle.tile_workers.specs.Watching.{Rises, WatcherView, watcher_view};
+    ghost use Rattle.tile_workers.specs.Watching.{AreShown, Rises, WatcherView, watcher_view};
 
     ghost Value = { WatcherView };
 
     ghost view = { λ w. watcher_view w.reader w.revisions.items w.reads (vec_capacity w.revisions - vec_len w.revisions) };
 
-    ghost invariant = { λ w. Rises w.revisions.items };
+    ghost invariant = { λ w. Rises w.revisions.items × AreShown w.reader.surfaces w.revisions.items };
 }
 
 impl Watcher {
@@ -45,10 +44,12 @@ impl Watcher {
         })
     }
 
-    /// The revisions that it kept. Each is above those before it.
+    /// The revisions that it kept. Each is above those before it, and that of the last surface which its reader knew at some
+    /// time.
     pub fn revisions(&self) -> &[u32]
         ensures value { result.now ≡ self.now.revisions }
         ensures rises { Rises self.now.revisions }
+        ensures shown { AreShown self.now.reader.surfaces self.now.revisions }
     {
         &self.revisions
     }
@@ -67,24 +68,23 @@ impl Watcher {
         self.reader.learn(note);
     }
 
-    /// Reads as many times as it was made for, and keeps each revision that is above the last one that it kept.
+    /// Reads until no read is left, and keeps each revision that is above the last one that it kept.
     pub(crate) fn watch(&mut self)
         requires { HasRoom self.old }
         ensures { HasWatched self.old self.new }
     {
-        for _read in 0..self.reads {
+        while 0 < self.reads {
             self.read();
         }
     }
 
     /// Reads once, and keeps the revision that it then knows, if it is above the last one that it kept.
     fn read(&mut self)
-        requires { 1 < self.old.room }
-        ensures reader { HasAllOf self.old.reader self.new.reader }
-        ensures kept { IsPrefix self.old.revisions self.new.revisions }
-        ensures reads { self.new.reads ≡ self.old.reads }
-        ensures room { self.old.room ≤ self.new.room + 1 }
+        requires left { 0 < self.old.reads }
+        requires room { HasRoom self.old }
+        ensures { HasRead self.old self.new }
     {
+        self.reads -= 1;
         self.reader.look();
         if let Some(revision) = self.reader.known_revision() {
             keep_above(&mut self.revisions, revision);

@@ -1,8 +1,8 @@
 ghost use Rattle.board_desk.specs.Passes.{HaveAnalysts, IsLaterPass, IsPassOf};
-ghost use Rattle.std.specs.Prelude.{◌≡◌, All, OnOk};
+ghost use Rattle.std.specs.Prelude.{◌≡◌, ◌<◌, All, OnOk};
 ghost use Rattle.std.specs.Thread.{IsSync};
 ghost use Rattle.tile_workers.specs.Scripts.{AreEnded, AreLater};
-ghost use Rattle.tile_workers.specs.Watching.{Became, HasCurated, HasRoom, HasWatched, HaveWatched};
+ghost use Rattle.tile_workers.specs.Watching.{Became, HasCurated, HasPlaced, HasRoom, HasWatched, HaveWatched};
 
 use crate::curator::Curator;
 use crate::gate::Gate;
@@ -36,6 +36,7 @@ pub fn run_watched<R: Threads + Wait + Sync, G: Gate>(
     ensures later { AreLater passes.old passes.new }
     ensures ended { OnOk result (AreEnded passes.new) }
     ensures curated { HasCurated curator.old curator.new }
+    ensures placed { OnOk result (0 < reads → HasPlaced curator.new) }
     ensures watched { HaveWatched watchers.old watchers.new }
 {
     let (ran, curated) = thread::join_mut(
@@ -46,7 +47,7 @@ pub fn run_watched<R: Threads + Wait + Sync, G: Gate>(
         { run_scripts(rt, alloc, desk, passes, workers, gate) },
         &mut || -> Result<(), AllocError>
             requires { IsSync R.row × IsPassOf desk.now curator.now.pass × All HasRoom watchers.now }
-            ensures { HasCurated curator.entry.now curator.exit.now × Became HasWatched watchers.entry.now watchers.exit.now }
+            ensures { HasCurated curator.entry.now curator.exit.now × OnOk result (0 < reads → HasPlaced curator.exit.now) × Became HasWatched watchers.entry.now watchers.exit.now }
         { curate_beside(rt, desk, curator, reads, watchers) },
     );
     ran?;
@@ -64,6 +65,7 @@ fn curate_beside<R: Threads + Wait + Sync>(
     requires curator { IsPassOf desk.now curator.old.pass }
     requires rooms { All HasRoom watchers.old }
     ensures curated { HasCurated curator.old curator.new }
+    ensures placed { OnOk result (0 < reads → HasPlaced curator.new) }
     ensures watched { Became HasWatched watchers.old watchers.new }
 {
     let (_watched, curated) = thread::join_mut(

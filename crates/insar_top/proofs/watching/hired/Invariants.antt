@@ -5,7 +5,7 @@ use Rattle.insar_top.proofs.watching.hired.Given as goal
 
 abbrev pub invariant-loop-reader : goal.invariant-loop-reader
 invariant-loop-reader l = record {
-  fresh : All (IsFresh l.writer.shelf) l.watchers.items;
+  fresh : All (IsFresh l.writer.shelf l.reads) l.watchers.items;
   own : All (λ (r : ShelfView). r ≡ l.writer) l.readers.items;
   count : length l.watchers.items + length l.readers.items ≡ length l.fn.readers.items;
 }

@@ -48,4 +48,4 @@ told-requires-clause-watchers g c =
     let sized = c.args.watchers.ok.0 in
     let writer : c.into_parts-pass.result.1.shelf ≡ c.args.writer.shelf = ap (λ (v : CuratorView). v.shelf.shelf) c.into_parts-pass.ensures ∙ c.run_watched-run.ensures.curated.shelf.same ∙ ap (λ (v : ShelfView). v.shelf) c.curator_of-curator.ensures.shelf in
     subst (All (IsReady c.into_parts-pass.result.1.shelf)) (sym (all_written after before c.args.watchers.len (omega (arith, sized)) long))
-    (watched_ready c.args.writer.shelf c.into_parts-pass.result.1.shelf writer c.as_mut_slice-3.result.now before after value long c.requires.watchers c.run_watched-run.ensures.watched)
+    (watched_ready c.args.writer.shelf c.into_parts-pass.result.1.shelf c.args.watching.reads writer c.as_mut_slice-3.result.now before after value long c.requires.watchers c.run_watched-run.ensures.watched)

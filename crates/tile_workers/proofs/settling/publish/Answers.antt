@@ -12,7 +12,7 @@ pub surface_of-requires : goal.surface_of-requires
 surface_of-requires g c =
     let s = c.args.desk.now.session in
     let there = gathered_there s c.gather.new.pass c.in_ok-gathered.field-0 c.in-Some.gathered c.in_ok-gathered.ensures.gathered c.in-Some.is in
-    let early = still_early s c.args.pass.now c.newest.new.pass c.args.early c.newest.ensures.later c.requires.early in
+    let early = still_early s c.args.pass.now c.newest.new.pass c.args.early c.newest.ensures.more.later c.requires.early in
     (search rules, agrees s c.gather.new.pass c.args.early c.in-Some.gathered there (still_early s c.newest.new.pass c.gather.new.pass c.args.early c.gather.ensures.more.later early))
 
 pub publish_made-requires-clause-made : goal.publish_made-requires-clause-made
@@ -36,4 +36,4 @@ returns-in-Ok-clause-legal g c = legal_called c.args.desk.now.session c.gather.n
 
 pub returns-in-Ok-clause-later : goal.returns-in-Ok-clause-later
 returns-in-Ok-clause-later g c =
-    later_trans c.args.pass.now c.gather.new.pass c.publish_made.new.pass (later_trans c.args.pass.now c.newest.new.pass c.gather.new.pass c.newest.ensures.later c.gather.ensures.more.later) (later_called c.args.desk.now.session c.gather.new.pass c.publish_made.new.pass _ c.publish_made.ensures.call)
+    later_trans c.args.pass.now c.gather.new.pass c.publish_made.new.pass (later_trans c.args.pass.now c.newest.new.pass c.gather.new.pass c.newest.ensures.more.later c.gather.ensures.more.later) (later_called c.args.desk.now.session c.gather.new.pass c.publish_made.new.pass _ c.publish_made.ensures.call)

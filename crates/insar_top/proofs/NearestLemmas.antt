@@ -6,14 +6,16 @@ use Rattle.insar_ports.specs.Calls.{Call, Takes}
 use Rattle.insar_ports.proofs.CallLemmas.{at_told, if_told, risen_before}
 use Rattle.grid_writer.specs.declared.fault.GridsFault.{GridsFault}
 use Rattle.grid_writer.specs.declared.fault.GridsFault.TheVariants as grids_faults
-use Rattle.grid_writer.specs.Grids.{GridOf, IsGrid, IsSameGrid, text_of_grid}
-use Rattle.grid_writer.specs.ManyGrids.{AreGrids, HasGridsCause, HasSize, text_of_grids}
+use Rattle.grid_writer.specs.declared.values.Grid.{Grid}
+use Rattle.grid_writer.specs.Grids.{GridOf, IsGrid, IsSameGrid, grid_of, text_of_grid}
+use Rattle.grid_writer.specs.ManyGrids.{AreGrids, HasGridsCause, HasSize, grids_of, text_of_grids}
 use Rattle.nearest_surface.specs.declared.fault.NearestFault.{NearestFault}
 use Rattle.nearest_surface.specs.declared.fault.NearestFault.TheVariants as faults
 use Rattle.nearest_surface.specs.Nearest.{HasCause, IsComplete, IsMissing, IsNearestSurface, IsTooWide, IsWide, MaskedPhase}
 use Rattle.nearest_surface.proofs.ValueLemmas.{not_wide}
 use Rattle.pgm_planes.specs.Planes.{PlaneOf}
 use Rattle.session_script.specs.declared.session_use.SessionUse.TheVariants.{BeforeReport}
+use Rattle.session_script.specs.Reaching.{Reaches}
 use Rattle.session_script.specs.Sessions.{IsSameSession, IsSessionIn, SessionOf}
 use Rattle.session_script.proofs.AskSession.{no_fault_of_session}
 use Rattle.session_script.proofs.SessionAgain.{one_session}
@@ -61,16 +63,22 @@ module _ (s : SessionOf) (told : Option (List ℕ)) (at : ℕ) (start : at ≡ 0
   grid_cause before grows grids_faults.ReadFault h = risen_before before c.before c.after grows h
   grid_cause before grows grids_faults.Memory h = tt
 
-  pub both_read : (g : GridOf) (pending : List ℕ) (source : Option (List ℕ)) → c.left ≡ with_front pending source → c.end ≤ c.limit → (width height : ℕ) → AreGrids 1 width height (g ∷ []) → Takes c (λ text rest. (text ≡ text_of_grids (g ∷ [])) × (rest ≡ [])) → ReadsAll told source (λ bytes. AreSessionAndGrid bytes s g)
-  both_read g pending source is within width height are took = if_told told _ (λ bytes t.
+  pub both_read : (g : GridOf) (pending : List ℕ) (source : Option (List ℕ)) → c.left ≡ with_front pending source → c.end ≤ c.limit → (width : ℕ) × (height : ℕ) × AreGrids 1 width height (g ∷ []) → Takes c (λ text rest. (text ≡ text_of_grids (g ∷ [])) × (rest ≡ [])) → ReadsAll told source (λ bytes. AreSessionAndGrid bytes s g)
+  both_read g pending source is within are took = if_told told _ (λ bytes t.
       let f = at_told told _ bytes t first in
-      let u = at_told c.told _ f.0 f.1.0 (read_at 1 c room pending source (g ∷ []) is within (width, height, are) took) in
+      let u = at_told c.told _ f.0 f.1.0 (read_at 1 c room pending source (g ∷ []) is within are took) in
       ((f.0, (f.1.1.1, u.0)), u.1))
 
--- the one grid of a list, whose last it is
-pub one_grid : {X : Type 0} (items front : List X) (x : X) → length items ≡ 1 → items ≡ front ++ x ∷ [] → items ≡ x ∷ []
-one_grid items [] x n e = e
-one_grid items (y ∷ front) x n e = absurd (let m = ap length e in let k = length-append front (x ∷ []) in omega (arith, n, m, k))
+-- what a call reaches is reached where no more is taken
+pub reaches_after : (a : Call) (left : Option (List ℕ)) (end : ℕ) (P : List ℕ → List ℕ → Type 0) → left ≡ a.left → end ≡ a.end → Reaches a P → IfSome a.told (λ bytes. (rest : List ℕ) × ((left ≡ Some rest) × ((end + length rest ≡ a.at + length bytes) × P bytes rest)))
+reaches_after a left end P l e r = if_told a.told _ (λ bytes t. let h = at_told a.told _ bytes t r in (h.0, (l ∙ h.1.0, (ap (λ (n : ℕ). n + length h.0) e ∙ h.1.1.0, h.1.1.1))))
+
+-- the one grid of a list is its last
+pub one_grid : (items front : List Grid) (g : Grid) → length (grids_of items) ≡ 1 → items ≡ front ++ g ∷ [] → grids_of items ≡ grid_of g ∷ []
+one_grid [] front g n e = absurd (omega (arith, n))
+one_grid (x ∷ []) [] g n e = ap grids_of e
+one_grid (x ∷ []) (y ∷ front) g n e = absurd (let m = ap length e in let k = length-append front (g ∷ []) in omega (arith, m, k))
+one_grid (x ∷ y ∷ l) front g n e = absurd (omega (arith, n))
 
 -- ---- both were read
 

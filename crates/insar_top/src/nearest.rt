@@ -13,7 +13,7 @@ ghost use Rattle.session_script.specs.Causes.{HasSessionCause};
 ghost use Rattle.session_script.specs.Reaching.{Reaches};
 ghost use Rattle.session_script.specs.Sessions.{IsSessionIn, session_of};
 ghost use Rattle.session_script.specs.declared.session_use.SessionUse.TheVariants.{BeforeReport};
-ghost use Rattle.std.specs.Prelude.{◌≡◌, ◌+◌, ◌≤◌, ◌∷◌, [], IfErr, IfOk};
+ghost use Rattle.std.specs.Prelude.{◌≡◌, ◌+◌, ◌≤◌, ◌∷◌, [], ℕ, IfErr, IfOk};
 
 use crate::ends::end_of;
 use crate::grids::MAX_GRIDS_BYTES;
@@ -91,7 +91,7 @@ fn read_last_grid<S: Source>(alloc: Global, feed: &mut Feed<S>) -> Result<Grid, 
     ensures same_source { source_name feed.new ≡ source_name feed.old }
     ensures same_limit { limit_of feed.new ≡ limit_of feed.old }
     ensures read { IfOk result (λ grid. Takes (call_of S.left S.faults feed.old feed.new) (λ text rest. (text ≡ text_of_grids (grid_of grid ∷ [])) × (rest ≡ []))) }
-    ensures fits { IfOk result (λ grid. AreGrids 1 grid.width grid.height (grid_of grid ∷ [])) }
+    ensures fits { IfOk result (λ grid. (width height : ℕ) × AreGrids 1 width height (grid_of grid ∷ [])) }
     ensures refused { IfErr result (HasGridsCause 1 (call_of S.left S.faults feed.old feed.new)) }
 {
     let mut grids = read_grids(alloc, feed, 1)?;

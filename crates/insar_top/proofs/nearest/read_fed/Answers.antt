@@ -21,4 +21,4 @@ returns-clause-read g c =
     let first = c.in_ok-session in
     let last = c.in_ok-given in
     both_read (session_of first.session) (left_of g.S.Source.left c.args.feed.now) (handed_of c.args.feed.now) c.requires.start b first.ensures.room first.ensures.read (grid_of last.given) (pending_of feed) (g.S.Source.left feed.source.now) refl
-    (omega (arith, feed.ordered, feed.limited, feed.counted, last.ensures.same_limit)) last.given.width last.given.height last.ensures.fits last.ensures.read
+    (omega (arith, feed.ordered, feed.limited, feed.counted, last.ensures.same_limit)) last.ensures.fits last.ensures.read

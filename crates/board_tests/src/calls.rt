@@ -1,5 +1,6 @@
 ghost use Rattle.std.specs.Prelude.{◌≤◌};
 
+use crate::outcomes::same;
 use certificates::{SeamResult, TileResult};
 use collector_core::{collect, finish};
 use raster_model::{MAX_TILE_SIDE, MIN_TILE_SIDE};
@@ -8,7 +9,7 @@ use std::process::Abort;
 use std::str::Split;
 use surface_snapshots::Snapshot;
 use tile_board::{Board, ClaimFault, GatherFault, KeepFault, PublishFault, Ticket};
-use worked_scenes::{board, cycles, field, number, numbers, same, tile_result};
+use worked_scenes::{board, cycles, field, number, numbers, tile_result};
 
 /// The tile and the stamp of a claim.
 fn claimed(alloc: Global, board: &mut Board) -> Result<(u32, u32), ClaimFault> {

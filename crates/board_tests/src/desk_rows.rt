@@ -4,6 +4,7 @@ ghost use Rattle.tile_board.specs.Calls.{WasGoodAt};
 ghost use Rattle.tile_workers.specs.Scripts.{HasClaimed};
 
 use crate::calls::seams;
+use crate::outcomes::same;
 use board_desk::{Desk, Pass};
 use certificates::TileResult;
 use raster_model::{MAX_TILE_SIDE, MIN_TILE_SIDE};
@@ -12,7 +13,7 @@ use std::process::Abort;
 use std::sync::Wait;
 use tile_board::{Advance, Ticket};
 use tile_solver::solve_tile;
-use worked_scenes::{board, same, tile_result};
+use worked_scenes::{board, tile_result};
 
 /// A full turn whose first pixel is masked: the three open pixels lie on a surface that departs nowhere.
 const TURN: &str =

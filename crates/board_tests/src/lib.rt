@@ -10,6 +10,8 @@ mod collector_rows;
 #[cfg(test)]
 mod desk_rows;
 #[cfg(test)]
+mod outcomes;
+#[cfg(test)]
 mod pass_rows;
 #[cfg(test)]
 mod running;

@@ -4,6 +4,8 @@
 #[cfg(test)]
 mod loop_rows;
 #[cfg(test)]
+mod outcomes;
+#[cfg(test)]
 mod patch_rows;
 #[cfg(test)]
 mod screen_rows;

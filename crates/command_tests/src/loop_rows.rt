@@ -1,12 +1,13 @@
 ghost use Rattle.std.specs.Prelude.{◌≤◌};
 
+use crate::outcomes::same;
 use grid_writer::{Grid, read_grids, write_values};
 use insar_ports::{Feed, MemorySink, MemorySource};
 use loop_closure::{close_loop, write_loops};
 use std::alloc::Global;
 use std::process::Abort;
 use std::str::Split;
-use worked_scenes::{field, number, same};
+use worked_scenes::{field, number};
 
 /// What follows the size in the header of each grid.
 const FRAME: &str = "xllcorner 0\nyllcorner 0\ncellsize 1\nNODATA_value -9223372036854775808\n";

@@ -1,10 +1,11 @@
 ghost use Rattle.raster_model.specs.Limits.{is_raster_size};
 ghost use Rattle.std.specs.Prelude.{◌≡◌, ◌*◌, ◌<◌, ◌≤◌, IsTrue, length};
 
+use crate::outcomes::same;
 use auto_masks::Patches;
 use std::alloc::{AllocError, Global};
 use std::process::Abort;
-use worked_scenes::{field, number, numbers, same};
+use worked_scenes::{field, number, numbers};
 
 /// Width and height of a raster, its keys by rows, and in words: how many patches there are, each pixel's label by rows
 /// with a point where there is none, and each patch with its first pixel and its size. By hand: keys that touch at a

@@ -1,11 +1,12 @@
 ghost use Rattle.auto_masks.specs.Screened.{AreScreenTerms};
 ghost use Rattle.std.specs.Prelude.{◌≡◌, IfOk};
 
+use crate::outcomes::holds;
 use auto_masks::{Screen, ScreenTerms};
 use raster_model::{Mask, Plane};
 use std::alloc::{AllocError, Global};
 use std::process::Abort;
-use worked_scenes::{field, holds, number, samples};
+use worked_scenes::{field, number, samples};
 
 /// The weights of three open pixels; weight, radius, count and patch of a screen; the mask that it makes, `1` where a pixel
 /// is open, and the mask that the same screen makes of that. By hand: of `5 1 5` the pixel between the others is weak. Each

@@ -1,12 +1,13 @@
 ghost use Rattle.displacement.specs.Displacements.{IsBlockSide, IsWavelength};
 
+use crate::outcomes::same;
 use displacement::{MAX_BLOCK, MAX_WAVELENGTH, Sight, SightFault, displace};
 use grid_writer::{Grid, read_grid};
 use insar_ports::{Feed, MemorySource};
 use std::alloc::{AllocError, Global};
 use std::process::Abort;
 use std::str::Split;
-use worked_scenes::{field, number, same};
+use worked_scenes::{field, number};
 
 /// A grid's size and rows, wavelength, reference pixel and block, and what is answered, each found by hand. `N` is NODATA.
 const ROWS: &str = "\

@@ -8,6 +8,8 @@ mod gradient_rows;
 #[cfg(test)]
 mod mask_rows;
 #[cfg(test)]
+mod outcomes;
+#[cfg(test)]
 mod raster_rows;
 #[cfg(test)]
 mod region_rows;

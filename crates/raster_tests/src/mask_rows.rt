@@ -3,12 +3,13 @@ ghost use Rattle.raster_model.specs.Scripts.{IsRectIn, rect_of};
 ghost use Rattle.raster_model.specs.Tiles.{tiles_of};
 ghost use Rattle.std.specs.Prelude.{◌≡◌, ◌+◌, ◌<◌, ◌≤◌, IfOk, IsTrue, OnOk, true};
 
+use crate::outcomes::same;
 use mask_revisions::Revisions;
 use raster_model::{Edit, Mask, Rect, Tiling};
 use std::alloc::{AllocError, Global};
 use std::process::Abort;
 use std::str::Split;
-use worked_scenes::{number, same};
+use worked_scenes::number;
 
 /// Revision 0 of a raster with every pixel open.
 fn all_open(alloc: Global, tiling: Tiling) -> Result<Revisions, AllocError>

@@ -1,9 +1,10 @@
 ghost use Rattle.std.specs.Prelude.{◌≡◌, ◌&&◌, if◌then◌else◌, nat_le, pos, true};
 
+use crate::outcomes::same;
 use raster_model::{Edge, Heights, Mask, Plane, Rect, Tiling, Window, plain};
 use std::alloc::{AllocError, Global};
 use std::process::Abort;
-use worked_scenes::{number, plane, same, scene};
+use worked_scenes::{number, plane, scene};
 
 /// The phase, raised by whole cycles in a box.
 #[derive(Drop)]

@@ -1,7 +1,8 @@
+use crate::outcomes::same;
 use raster_model::Tiling;
 use seam_regions::Regions;
 use std::alloc::{AllocError, Global};
-use worked_scenes::{SceneFault, field, masked, number, same, samples};
+use worked_scenes::{SceneFault, field, masked, number, samples};
 
 /// Width and height of a raster and the side of its tiles, its mask by rows, 1 if a pixel is open, the count of its
 /// regions, each pixel's label by rows, and the region of the last pixel. By hand: a masked column splits the upper tile

@@ -1,10 +1,11 @@
 ghost use Rattle.std.specs.Prelude.{◌≡◌, ◌≤◌};
 
+use crate::outcomes::{holds, same};
 use edge_weights::WeightRule;
 use raster_model::{EdgeWeights, Plane, RuleKind, Tiling};
 use std::alloc::{AllocError, Global};
 use std::process::Abort;
-use worked_scenes::{holds, plane, same};
+use worked_scenes::plane;
 
 /// The weights of edges by the rule least.
 fn least(alloc: Global, maxval: u16, weights: &Plane) -> Result<EdgeWeights, AllocError>

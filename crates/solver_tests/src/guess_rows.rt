@@ -2,6 +2,7 @@ ghost use Rattle.raster_model.specs.Tiles.{tiles_of, window_of};
 ghost use Rattle.std.specs.Prelude.{◌≡◌, ◌<◌};
 ghost use Rattle.wrapped_gradient.specs.Gradients.{AreGradientsOf};
 
+use crate::outcomes::holds;
 use crate::reading::{Raster, read_at, read_raster, read_steep, unmasked};
 use crate::tile_rows::{ROWS, STEEP_ROWS};
 use certificates::{TileVerdict, check_tile};
@@ -11,7 +12,7 @@ use std::alloc::Global;
 use std::process::Abort;
 use tile_guess::{Grid, Guess, guess_flow};
 use tile_solver::solve_tile_from;
-use worked_scenes::{cycles, field, holds, masked, numbers};
+use worked_scenes::{cycles, field, masked, numbers};
 use wrapped_gradient::{Corrections, Gradients};
 
 /// Rows of `guess`: corrections of the right and of the down edges, faces, and whether these answer the full turn, whose one cell has the

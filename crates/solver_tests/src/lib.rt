@@ -8,6 +8,8 @@ mod guess_rows;
 #[cfg(test)]
 mod offset_rows;
 #[cfg(test)]
+mod outcomes;
+#[cfg(test)]
 mod reading;
 #[cfg(test)]
 mod steep_rows;

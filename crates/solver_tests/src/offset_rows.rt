@@ -1,10 +1,11 @@
+use crate::outcomes::same;
 use certificates::TileResult;
 use collector_core::collect_from;
 use offset_guess::Guess;
 use std::alloc::Global;
 use std::process::Abort;
 use tile_board::Board;
-use worked_scenes::{board, cycles, field, number, numbers, same, tile_result};
+use worked_scenes::{board, cycles, field, number, numbers, tile_result};
 
 /// Rows with the side of the tiles, planes, the tiles' results with cycles and faces, and the one answer: an offset for each region and a flow for each seam edge.
 /// By hand: a line whose second half lies a cycle lower; two light edges that give way to a heavy one (with the column

@@ -5,6 +5,7 @@ ghost use Rattle.raster_model.specs.Masks.{open_at};
 ghost use Rattle.raster_model.specs.Tiles.{tiles_of};
 ghost use Rattle.std.specs.Prelude.{◌≡◌, ◌<◌};
 
+use crate::outcomes::holds;
 use certificates::{SeamResult, TileResult, TileSet, TileVerdict, check_tile};
 use offset_guess::Guess;
 use offset_network::{Hint, solve_offsets_from};
@@ -13,7 +14,7 @@ use seam_regions::Regions;
 use std::alloc::Global;
 use std::process::Abort;
 use std::sync::Arc;
-use worked_scenes::{field, holds, masked, number, numbers, scene_on, tile_result};
+use worked_scenes::{field, masked, number, numbers, scene_on, tile_result};
 
 /// A raster of four columns in two tiles, of which the second is the last column alone. The first falls by 32,000 from row
 /// to row, the other rises as much, so across the seam, where the edges weigh 9, 1 and 4, the surface departs by 0, 1 and 2

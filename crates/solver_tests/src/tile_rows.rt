@@ -1,13 +1,14 @@
 ghost use Rattle.raster_model.specs.Tiles.{tiles_of};
 ghost use Rattle.std.specs.Prelude.{◌≡◌, ◌<◌};
 
+use crate::outcomes::holds;
 use crate::reading::{Raster, read_raster, read_steep, unmasked};
 use certificates::{TileResult, TileVerdict, check_tile};
 use raster_model::{Scene, Terms, Tiling};
 use std::alloc::Global;
 use std::process::Abort;
 use tile_solver::solve_tile;
-use worked_scenes::{holds, masked, scene_on, tile_result};
+use worked_scenes::{masked, scene_on, tile_result};
 
 /// Rows of `read_raster`: width, height, phases, weights and mask of a raster in one tile, and the least cost of its surfaces. First a full turn by
 /// hand, whole, with a pixel masked and with all; a line; a ramp that turns over between its first columns, under two masks.

@@ -1,9 +1,10 @@
+use crate::outcomes::same;
 use raster_model::{Scene, Terms, Tiling};
 use std::alloc::Global;
 use std::process::Abort;
 use whole_guess::{Guess, Reached};
 use whole_solver::{WholeResult, solve_whole, solve_whole_from};
-use worked_scenes::{cycles, field, masked, numbers, same, scene_on};
+use worked_scenes::{cycles, field, masked, numbers, scene_on};
 
 /// The raster of four by two pixels in two tiles, with these phases and weights.
 fn raster(rt: &impl Abort, alloc: Global, phases: &[u16], weights: &[u16]) -> Scene {

@@ -1,3 +1,4 @@
+use crate::outcomes::same;
 use certificates::{SeamResult, TileResult};
 use grid_writer::write_grid;
 use insar_ports::MemorySink;
@@ -5,7 +6,7 @@ use report_text::write_report;
 use std::alloc::Global;
 use std::process::Abort;
 use tile_board::Board;
-use worked_scenes::{board, same};
+use worked_scenes::board;
 
 /// Keeps a result of a board's one tile, which has four pixels: no cycles, and the face 0 for each of its cells.
 fn keep(rt: &impl Abort, alloc: Global, board: &mut Board, cells: usize) {

@@ -4,6 +4,8 @@
 #[cfg(test)]
 mod board_rows;
 #[cfg(test)]
+mod outcomes;
+#[cfg(test)]
 mod plane_rows;
 #[cfg(test)]
 mod port_rows;

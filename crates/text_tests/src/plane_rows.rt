@@ -1,10 +1,11 @@
+use crate::outcomes::same;
 use insar_ports::{Feed, MemorySink, MemorySource};
 use pgm_planes::{ReadPlaneFault, Role, read_plane, write_plane};
 use raster_model::Plane;
 use std::alloc::{AllocError, Global};
 use std::process::Abort;
 use std::str::Split;
-use worked_scenes::{field, number, same};
+use worked_scenes::{field, number};
 
 /// What is read from the front of a text of which the feed hands out a number of bytes.
 fn read(

@@ -1,10 +1,11 @@
+use crate::outcomes::same;
 use grid_writer::{Grid, GridFault, read_grid};
 use insar_ports::{Feed, MemorySource};
 use report_check::{CheckVerdict, check_report};
 use report_text::{Report, ReportFault, read_report};
 use std::alloc::{AllocError, Global};
 use std::str::Split;
-use worked_scenes::{field, same, session};
+use worked_scenes::{field, session};
 
 /// The text with the second field of a case in the place of the first.
 fn changed(

@@ -1,11 +1,12 @@
 ghost use Rattle.std.specs.Prelude.{◌≤◌};
 
+use crate::outcomes::holds;
 use insar_ports::{Feed, MemorySink, MemorySource};
 use raster_model::{RuleKind, Session};
 use session_script::{SessionFault, SessionUse, read_session, write_session};
 use std::alloc::Global;
 use std::process::Abort;
-use worked_scenes::{field, holds};
+use worked_scenes::field;
 
 /// The session of a text, with tiles of the side 64, that comes in pieces, with the numbered calls failing.
 fn read(

@@ -2,11 +2,9 @@
 #![tactic(auto)]
 
 mod boards;
-mod outcomes;
 mod rows;
 mod scenes;
 
 pub use crate::boards::{board, session};
-pub use crate::outcomes::{holds, same};
 pub use crate::rows::{cycles, field, number, numbers, samples};
 pub use crate::scenes::{SceneFault, masked, plane, scene, scene_on, tile_result};

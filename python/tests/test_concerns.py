@@ -1,7 +1,7 @@
 """Tests of the verdict in words: what is measured of a surface, what is said of it, and where."""
 import unittest
 import warnings
-from typing import Any, Set, Tuple
+from typing import Any, Dict, Set, Tuple
 
 import numpy as np
 import pytest
@@ -10,8 +10,20 @@ from osgeo import gdal
 
 import wundjeska
 from wundjeska import concerns
-from wundjeska.concerns import LONG_LINE, Concern, judgement_of, lines_of, note_of, read_note, residue_share
+from wundjeska.concerns import (
+    LONG_GUIDE_LINE,
+    LONG_LINE,
+    Concern,
+    Guide,
+    judgement_of,
+    lines_of,
+    note_of,
+    read_note,
+    residue_share,
+    signs_of,
+)
 from wundjeska.planes import CYCLE, phases_of
+from wundjeska.program import Problem
 from wundjeska.report_reader import NODATA, Surface
 
 KIT = TOP / "recipes/kit"
@@ -25,6 +37,8 @@ def noise(seed: int, shape: Tuple[int, int] = (96, 120)) -> np.ndarray:
 
 
 def unwrapped(*arrays: Any, **words: Any) -> wundjeska.Unwrapped:
+    """A surface without a filter, if none is named."""
+    words.setdefault("filter", None)
     with warnings.catch_warnings():
         warnings.simplefilter("ignore", wundjeska.Caution)
         return wundjeska.unwrap(*arrays, **words)
@@ -121,19 +135,32 @@ class WhatIsSaid(unittest.TestCase):
         return tuple(concern.kind for concern in unwrapped(*arrays, **words).concerns if concern.is_bad)
 
     def test_nothing_of_a_sound_scene(self) -> None:
-        with warnings.catch_warnings():
-            warnings.simplefilter("error")
-            found = wundjeska.unwrap(np.exp(1j * RAMP), np.full(RAMP.shape, 0.8))
-        self.assertEqual((found.concerns, found.judgement), ((), PROVED))
-        tiled = wundjeska.unwrap(np.exp(1j * RAMP), tile=32)
-        self.assertEqual(tiled.judgement, f"{PROVED[:25]}, in each tile and at the seams{PROVED[25:]}")
-        self.assertIn("nothing certifies", wundjeska.unwrap(np.exp(1j * RAMP), check=False).judgement)
+        ways: Tuple[Tuple[Dict[str, Any], str], ...] = (({"filter": None}, ""), ({}, ", of the guide alone"))
+        for words, guide in ways:
+            with warnings.catch_warnings():
+                warnings.simplefilter("error")
+                found = wundjeska.unwrap(np.exp(1j * RAMP), np.full(RAMP.shape, 0.8), **words)
+            self.assertEqual((found.concerns, found.judgement), ((), f"{PROVED[:25]}{guide}{PROVED[25:]}"))
+            tiled = wundjeska.unwrap(np.exp(1j * RAMP), tile=32, **words)
+            self.assertEqual(tiled.judgement, f"{PROVED[:25]}, in each tile and at the seams{guide}{PROVED[25:]}")
+            self.assertIn("nothing certifies", wundjeska.unwrap(np.exp(1j * RAMP), check=False, **words).judgement)
 
     def test_noise(self) -> None:
         with pytest.warns(wundjeska.Caution, match="of the cells have a residue"):
-            found = wundjeska.unwrap(noise(1))
+            found = wundjeska.unwrap(noise(1), filter=None)
         self.assertEqual([concern.kind for concern in found.concerns], ["residues"])
         self.assertEqual(found.judgement, f"1 sign that the surface may be wrong; {PROVED}")
+
+    def test_residues_after_a_filter(self) -> None:
+        """Those of noise about fringes are no sign, since the filter takes them away; of noise alone it leaves many."""
+        with warnings.catch_warnings():
+            warnings.simplefilter("error")
+            found = wundjeska.unwrap(np.exp(1j * (RAMP + 0.65 * noise(1))))
+        self.assertEqual([(concern.kind, concern.is_bad) for concern in found.concerns], [("residues", False)])
+        self.assertRegex(str(found.concerns[0]), "^17[0-9.]+ % of the cells have a residue, and 0.00 % after the filter$")
+        with pytest.warns(wundjeska.Caution, match="the filter has broken down"):
+            found = wundjeska.unwrap(noise(1))
+        self.assertEqual([(concern.kind, concern.is_bad) for concern in found.concerns][:1], [("filter", True)])
 
     def test_a_rupture(self) -> None:
         found = unwrapped(*rupture())
@@ -141,6 +168,16 @@ class WhatIsSaid(unittest.TestCase):
         self.assertRegex(
             str(found.concerns[0]), "jumps along .* pixels in columns [0-9]+ to [0-9]+, rows 4[0-9] to [45][0-9]: "
         )
+
+    def test_lines_after_a_filter_are_those_of_the_guide(self) -> None:
+        phase, flat = np.zeros((90, 100), dtype=np.uint16), np.zeros((90, 100), dtype=np.int64)
+        for wide, count in ((LONG_GUIDE_LINE, 1), (LONG_GUIDE_LINE - 1, 0)):
+            values = flat.copy()
+            values[45:, :wide] += CYCLE
+            guide = Guide(surface_of(values), phase)
+            found = signs_of(phase, phase + np.uint16(1), surface_of(flat), Problem("least", None), guide)
+            self.assertEqual((found.lines.count, found.lines.longest), (count, wide))
+            self.assertEqual(sum(concern.kind == "lines" for concern in found.concerns()), count)
 
     def test_seams_that_cost_more_than_a_tenth(self) -> None:
         phase, coherence = rupture()
@@ -190,9 +227,9 @@ class WhatIsSaid(unittest.TestCase):
 
 class Commands(InFolder):
     def told(self, *words: object) -> Tuple[str, str, str]:
-        """What the command writes, and the notes on residues and concerns of its GeoTIFF."""
+        """What the command writes without a filter, if none is named, and the notes on residues and concerns of its GeoTIFF."""
         made = self.folder / "made.tif"
-        status, told = command("wundjeska", *words, made)
+        status, told = command("wundjeska", "unwrap", "--no-filter", *words, made)
         self.assertEqual(status, 0, told)
         notes = gdal.Open(str(made)).GetMetadata()
         return told, notes["WUNDJESKA_RESIDUES"], notes["WUNDJESKA_CONCERNS"]
@@ -202,7 +239,7 @@ class Commands(InFolder):
         self.assertRegex(
             told, r"made.tif: accepted, 128 by 104 pixels, .* component, 0\.50 % residues, cost [0-9]+, the least"
         )
-        self.assertTrue(told.endswith(f"made.tif: {PROVED}\n"), told)
+        self.assertTrue(told.endswith(f"made.tif: {PROVED}\n{self.folder / 'made.tif'}: filter none\n"), told)
         self.assertEqual((residues, note), ("0.50 % of the cells", "none"))
 
     def test_a_file_that_is_read_by_a_wrong_width(self) -> None:
@@ -214,6 +251,9 @@ class Commands(InFolder):
         self.assertRegex(told, r"accepted with 1 concern, 90 by 128 pixels")
         self.assertRegex(told, r"made.tif: concern: [0-9.]+ % of the cells have a residue")
         self.assertEqual([concern.kind for concern in read_note(note)], ["residues"])
+        told, _, note = self.told(path, "--width", 90, "--filter", "fourier")
+        self.assertRegex(told, r"made.tif: concern: [0-9.]+ % of the cells keep a residue in the filtered phase: .* wrong width")
+        self.assertEqual([concern.kind for concern in read_note(note) if concern.is_bad][:1], ["filter"])
 
     def test_a_surface_of_a_report_is_told_the_same(self) -> None:
         phase, session, report = (self.folder / name for name in ("phase.tif", "session", "report"))

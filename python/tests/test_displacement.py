@@ -259,7 +259,7 @@ class Auto(InFolder):
         self.session, self.report, self.made = (self.folder / name for name in ("session", "report", "made.tif"))
 
     def unwrap(self, *words: object) -> Told:
-        kept = ("--session", self.session, "--report", self.report)
+        kept = ("--session", self.session, "--report", self.report, "--no-filter")
         return command("wundjeska", *KIT, *kept, "--wavelength", "0.0555", *words, self.made)
 
     def box(self, told: str) -> List[int]:

@@ -164,7 +164,7 @@ class Formats(InFolder):
         phase = raster(self.folder / "phase.tif", WRAPPED)
         names = [self.folder / name for name in ("session", "report", "page.html")]
         self.unwrapped(
-            phase, "--session", names[0], "--report", names[1], "--page", names[2], "--tile", 16, "--rule", "mean"
+            phase, "--session", names[0], "--report", names[1], "--page", names[2], "--tile", 16, "--rule", "mean", "--no-filter"
         )
         words = (names[1], "--session", names[0], "--like", phase, self.folder / "again.tif")
         ran = subprocess.run(argv("to_geotiff.py", *words), capture_output=True, text=True)
@@ -175,7 +175,7 @@ class Formats(InFolder):
     def test_a_report_is_checked_by_its_own_side_and_rule(self) -> None:
         phase = raster(self.folder / "phase.tif", WRAPPED)
         session, report = (self.folder / name for name in ("session", "report"))
-        self.unwrapped(phase, "--session", session, "--report", report, "--tile", 7, "--rule", "product")
+        self.unwrapped(phase, "--session", session, "--report", report, "--tile", 7, "--rule", "product", "--no-filter")
         ran = subprocess.run(argv("wundjeska", "check", session, report), capture_output=True, text=True)
         self.assertEqual((ran.returncode, ran.stdout, ran.stderr), (0, "accepted\n", ""))
         report.write_bytes(report.read_bytes().replace(b"\ncosts 0 ", b"\ncosts 1 "))

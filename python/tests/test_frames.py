@@ -26,7 +26,7 @@ class Kept(InFolder):
     def is_made_anew(self, first: np.ndarray) -> None:
         """That the changed frame is unwrapped again, and the others are not."""
         told, found = self.frames()
-        self.assertRegex(told, f"{NAME}: .*: accepted, costs [0-9]+\n")
+        self.assertRegex(told, f"{NAME}: .*: accepted, costs [0-9]+, of its guide, .*undecided\n")
         self.assertEqual(told.count("accepted in an earlier run"), 3)
         np.testing.assert_array_equal(found, first)
 

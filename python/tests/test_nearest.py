@@ -1,10 +1,18 @@
-"""Tests the surface nearest to a guide. It needs NumPy alone."""
+"""Tests the surface nearest to a guide. NumPy's is the outside judge of the program's, if the program has the command."""
+import os
+import stat
+import tempfile
 import unittest
+from pathlib import Path
+from unittest import mock
 
 import numpy as np
 
-from wundjeska.nearest import commonest, is_patch, nearest, rest_of, with_narrow
+from wundjeska.nearest import by_numpy as nearest
+from wundjeska.nearest import by_program, commonest, has_command, how_made, is_patch, rest_of, with_narrow
+from wundjeska.nearest import nearest as nearest_by_either
 from wundjeska.planes import CYCLE
+from wundjeska.program import program
 from wundjeska.report_reader import NODATA
 from wundjeska.trouble import Trouble
 
@@ -64,6 +72,62 @@ class Nearest(unittest.TestCase):
             off = (found - guide)[opened]
             self.assertTrue(((found - phase)[opened] % CYCLE == 0).all() and (found[~opened] == NODATA).all())
             self.assertTrue((off >= -HALF).all() and (off < HALF).all())
+
+
+# Answers `nearest` by NumPy, so that what is written to a program and read from it is tried.
+ANSWER = """#!/usr/bin/python3
+import io, sys
+sys.path.insert(0, {package!r})
+from wundjeska.displacements import grid_text, read_grid
+from wundjeska.nearest import by_numpy
+from wundjeska.planes import read_session
+if sys.argv[1:] != ["nearest"]:
+    sys.exit(2)
+text = sys.stdin.buffer.read()
+if not text:
+    sys.exit(3)
+place = text.index(b"\\nncols ") + 1
+planes = read_session(text[:place])
+assert planes.script == b"end\\n"
+sys.stdout.buffer.write(grid_text(by_numpy(planes.phase, read_grid(text[place:], "grid"), planes.opened)))
+"""
+
+
+class Program(unittest.TestCase):
+    def judge(self) -> None:
+        """That the program's surfaces are NumPy's, and its refusals are Trouble."""
+        random = np.random.default_rng(9)
+        for bits in (3, 16, 40, 62):
+            shape = tuple(random.integers(1, 40, 2))
+            phase, opened = random.integers(0, CYCLE, shape).astype(np.uint16), random.random(shape) < 0.8
+            guide = np.where(opened, random.integers(-(2**bits), 2**bits, shape), NODATA)
+            np.testing.assert_array_equal(by_program(phase, guide, opened), nearest(phase, guide, opened))
+        one, opened = np.full((1, 1), (MOST + 1) % CYCLE, dtype=np.uint16), np.ones((1, 1), dtype=bool)
+        for value in (MOST, NODATA):
+            self.assertRaises(Trouble, by_program, one, np.full((1, 1), value), opened)
+
+    def test_the_command(self) -> None:
+        if not has_command(program()):
+            self.skipTest("the program has no command nearest")
+        self.judge()
+        self.assertEqual(how_made(), "by `insar_unwrap nearest`")
+
+    def test_a_program_without_the_command_and_one_with_it(self) -> None:
+        with tempfile.TemporaryDirectory() as folder:
+            path = Path(folder, "program")
+            for text, made in (
+                ("#!/bin/sh\nexit 2\n", "computed in Python and tested, not proved"),
+                (ANSWER.format(package=str(Path(__file__).resolve().parent.parent)), "by `insar_unwrap nearest`"),
+            ):
+                path = path.with_suffix(".next" + path.suffix)
+                path.write_text(text)
+                path.chmod(stat.S_IRWXU)
+                with mock.patch.dict(os.environ, {"UNWRAP": str(path)}):
+                    self.assertEqual(how_made(), made)
+                    phase, opened = np.array([[7]], dtype=np.uint16), np.ones((1, 1), dtype=bool)
+                    self.assertEqual(nearest_by_either(phase, np.array([[3 * CYCLE]]), opened).tolist(), [[3 * CYCLE + 7]])
+            with mock.patch.dict(os.environ, {"UNWRAP": str(path)}):
+                self.judge()
 
 
 class Narrow(unittest.TestCase):

@@ -52,7 +52,7 @@ class Arrays(unittest.TestCase):
         turn = np.array([[0, 0.25], [0.75, 0.5]]) * 2 * math.pi
         coherence = np.array([[1, 1], [1, 0.2]])
         for rule, cost in (("least", 51), ("mean", 153), ("product", 51)):
-            found = wundjeska.unwrap(turn, coherence, rule=rule)
+            found = wundjeska.unwrap(turn, coherence, rule=rule, filter=None)
             self.assertEqual((found.tile_cost, found.seam_cost), (cost, 0), rule)
         found = wundjeska.unwrap(turn, np.array([[1, 1], [1, 1]]), mask=np.array([[1, 1], [0, 1]]))
         self.assertEqual((found.cost, np.isnan(found.phase).tolist()), (0, [[False, False], [True, False]]))

@@ -128,9 +128,9 @@ class Page(InFolder):
         self.assertEqual(count(shown[:1000, -6:], (255, 255, 255)), 6000)  # the margin right of the maps
 
     def unwrapped(self, *words: object) -> str:
-        """The page that `unwrap` makes."""
+        """The page that `unwrap` makes, without a filter if none is named."""
         page = self.folder / "page.html"
-        status, told = command("wundjeska", *words, "--page", page, self.folder / "made.tif")
+        status, told = command("wundjeska", "unwrap", "--no-filter", *words, "--page", page, self.folder / "made.tif")
         self.assertEqual(status, 0, told)
         return page.read_text()
 
@@ -150,6 +150,9 @@ class Page(InFolder):
         shown = self.shot()
         self.assertGreater(count(shown, AMBER), 2000)
         self.assertEqual(count(shown, GREEN), 0)
+        page = self.unwrapped(self.folder / "noise.tif", "--filter", "fourier")
+        self.assertRegex(page, '<li class="bad">[0-9.]+ % of the cells keep a residue in the filtered phase: the filter has broken')
+        self.assertGreater(count(self.shot(), AMBER), 2000)
 
     def test_the_unit_that_is_asked_for(self) -> None:
         far = ("--wavelength", 0.0555, "--reference", 120, 8)

@@ -14,6 +14,7 @@ import numpy as np
 from helpers import HERE, RECIPES, InFolder, argv
 from osgeo import gdal
 
+from wundjeska.guiding import FILTER_COMMENT
 from wundjeska.program import program
 
 COUNT = 6
@@ -143,6 +144,11 @@ class Scenes(InFolder):
         scene = self.one_scene()
         self.assertEqual(self.run_all("--config", "tile=32")[0], 0)
         self.assertIn(b"\ntile 32\nrule least\n", (scene / "report").read_bytes())
+        self.assertIn(FILTER_COMMENT, (scene / "session").read_bytes())
+        self.assertNotIn(FILTER_COMMENT, (scene / "unfiltered").read_bytes())
+        self.assertEqual(gdal.Open(str(scene / "undecided.tif")).GetMetadataItem("WUNDJESKA_F"), "none")
+        self.assertEqual(self.run_all("--config", "tile=32", "filter=none")[0], 0)
+        self.assertEqual((scene / "session").read_bytes(), (scene / "unfiltered").read_bytes())
         self.assertEqual(self.run_all("--config", "tile=16", "rule=mean", "coherence=0.5")[0], 0)
         self.assertIn(b"\ntile 16\nrule mean\n", (scene / "report").read_bytes())
         coherence = gdal.Open(str(scene / "coherence.tif")).ReadAsArray()

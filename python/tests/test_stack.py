@@ -1,9 +1,10 @@
 """Tests the keys of `scenes` for a real stack: names with {pair}, masks, NODATA, units, and the page of all scenes."""
+import os
 import re
 import subprocess
 import unittest
 from pathlib import Path
-from typing import Any, Dict, Tuple
+from typing import Any, Dict, List, Tuple
 
 import numpy as np
 from helpers import InFolder, argv, command, raster
@@ -12,6 +13,7 @@ from osgeo import gdal
 from wundjeska import scene_words
 from wundjeska.program import program
 from wundjeska.scene_words import scenes_in, wanted
+from wundjeska.stack import lines_on_scenes, scene_of
 from wundjeska.trouble import Trouble
 
 SHAPE = (60, 80)
@@ -138,11 +140,15 @@ class Words(InFolder):
         self.assertEqual(asked.plain_words, ["--tile=64", "--no-whole", "--reference", "1", "2", "--wrap"])
         self.assertEqual((asked.igram, asked.page, asked.closure), ("{pair}/phase.tif", True, False))
 
-    def test_a_filter_goes_without_pages(self) -> None:
-        asked = wanted({"filter": "fourier", "narrow": "yes", "page": "no"})
-        self.assertEqual(asked.words, ["--filter=fourier", "--narrow"])
-        with self.assertRaisesRegex(Trouble, "page draws the surface of a report, which with filter is the guide alone"):
-            wanted({"filter": "fourier"})
+    def test_a_filter_or_none(self) -> None:
+        ways: Tuple[Tuple[Dict[str, str], List[str], bool], ...] = (
+            ({}, [], True),
+            ({"filter": "fourier", "narrow": "yes"}, ["--filter=fourier", "--narrow"], True),
+            ({"filter": "none", "looks": "4"}, ["--filter=none", "--looks=4"], False),
+        )
+        for keys, words, filtered in ways:
+            asked = wanted(keys)
+            self.assertEqual((asked.words, asked.filtered), (words, filtered))
 
     def test_keys_that_do_not_fit_each_other(self) -> None:
         for keys in (
@@ -152,13 +158,23 @@ class Words(InFolder):
             {"coherence": "0.5", "least_coherence": "0.5"},
             {"block": "4"},
             {"big_endian": "yes"},
-            {"filter": "fourier"},
-            {"filter": "fourier", "page": "no", "looks": "4"},
-            {"narrow": "yes"},
+            {"filter": "goldstein"},
+            {"filter": "none", "narrow": "yes"},
+            {"undecided": "yes"},
         ):
             with self.subTest(keys), self.assertRaises(Trouble) as caught:
                 wanted(keys)
             self.assertEqual(caught.exception.status, 2)
+
+    def test_undecided_parts_are_counted(self) -> None:
+        self.addCleanup(os.chdir, os.getcwd())
+        os.chdir(self.folder)
+        for name, told in (("a_b", "2 undecided parts of 1300 pixels"), ("b_c", "nothing undecided")):
+            Path(name).mkdir()
+            Path(name, "cycles.tif").touch()
+            Path(name, "unwrapped.txt").write_text(f"cycles.tif: accepted, its guide's cost 7, the least of all, {told}\n")
+        lines = lines_on_scenes([scene_of(name) for name in ("a_b", "b_c", "c_d")], [])
+        self.assertEqual(lines[1:], ["1 have undecided parts: a_b"])
 
     def test_names_find_scenes(self) -> None:
         for name in ("a_b/x.int", "c_d/x.int", "e/y.int", "in/a_b/a_b.int", "in/c_d/a_b.int"):

@@ -6,7 +6,18 @@ import numpy as np
 
 from wundjeska.planes import CYCLE, Session
 from wundjeska.report_reader import NODATA
-from wundjeska.undecided import LEAST_PART, Part, cycles_apart, labels_of, medians, parts_apart, undecided_concerns
+from wundjeska.undecided import (
+    LEAST_PART,
+    Apart,
+    Part,
+    by_size,
+    count_of,
+    cycles_apart,
+    labels_of,
+    medians,
+    parts_apart,
+    undecided_concerns,
+)
 
 SHAPE = (60, 50)
 TOP, BOTTOM = 20, 40  # of a part that is as wide as the raster, so that it has no corners
@@ -34,7 +45,7 @@ def zero() -> np.ndarray:
 class Shares(unittest.TestCase):
     def share(self, guide: np.ndarray, smooth: Session) -> float:
         """That of the band, which is one cycle lower without the filter."""
-        (found,) = parts_apart(CYCLE * band(), zero(), CYCLE * guide, smooth)
+        (found,) = parts_apart(CYCLE * band(), zero(), CYCLE * guide, smooth).parts
         self.assertEqual((found.pixels, found.cycles), ((BOTTOM - TOP) * SHAPE[1], 1))
         self.assertEqual(found.box, (0, TOP, SHAPE[1] - 1, BOTTOM - 1))
         return found.share
@@ -56,13 +67,13 @@ class Shares(unittest.TestCase):
         smooth = flat()
         smooth.opened[TOP - 1, 1:] = False
         guide, plain = np.where(smooth.opened, CYCLE, NODATA), np.where(smooth.opened, 0, NODATA)
-        (found,) = parts_apart(np.where(smooth.opened, CYCLE * band(), NODATA), plain, guide, smooth)
+        (found,) = parts_apart(np.where(smooth.opened, CYCLE * band(), NODATA), plain, guide, smooth).parts
         self.assertEqual(found.share, 1)
 
     def test_two_cycles_upwards_on_a_ramp(self) -> None:
         y, x = np.indices(SHAPE)
         guide = 20000 * x - 31000 * y
-        (found,) = parts_apart(-2 * CYCLE * band(), zero(), guide, flat(10, (20000, -31000)))
+        (found,) = parts_apart(-2 * CYCLE * band(), zero(), guide, flat(10, (20000, -31000))).parts
         self.assertEqual((found.cycles, found.share), (-2, 1))
 
 
@@ -90,8 +101,22 @@ class Parts(unittest.TestCase):
         self.assertEqual((found[0, 0], found[30, 0]), (2, 1))
 
     def test_surfaces_that_agree_have_none(self) -> None:
-        self.assertEqual(parts_apart(zero(), zero(), zero(), flat()), [])
-        self.assertEqual(undecided_concerns([]), ())
+        found = parts_apart(zero(), zero(), zero(), flat())
+        self.assertEqual((found.parts, int(found.labels.max()), len(found.undecided().f)), ((), 0, 0))
+        self.assertEqual((undecided_concerns([]), count_of(found.undecided())), ((), "nothing undecided"))
+
+    def test_what_is_undecided_is_numbered_by_size(self) -> None:
+        """Of four parts the second and the fourth by size are undecided."""
+        labels, shares = np.zeros((4, 10), dtype=np.int64), (0.5, 0.9, -0.2, 0.75)
+        for number, wide in enumerate((3, 10, 7, 5), 1):
+            labels[number - 1, :wide] = number
+        parts = [Part(int((labels == n).sum()), 1, share, (0, 0, 0, 0)) for n, share in enumerate(shares, 1)]
+        found = by_size(labels, parts)
+        self.assertEqual([int((found.labels == number).sum()) for number in range(1, 5)], [10, 7, 5, 3])
+        undecided = found.undecided()
+        self.assertEqual((undecided.labels[:, 0].tolist(), undecided.f.tolist()), ([2, 0, 1, 0], [-0.2, 0.5]))
+        self.assertEqual((undecided.labels.dtype, count_of(undecided)), (np.uint32, "2 undecided parts of 10 pixels"))
+        self.assertEqual(Apart(np.zeros((2, 2), dtype=np.uint32)).undecided().labels.tolist(), [[0, 0], [0, 0]])
 
     def test_what_is_said(self) -> None:
         parts = [Part(900, -1, 0.9, (0, 1, 2, 3)), Part(700, 2, 0.3, (4, 5, 6, 7)), Part(600, 1, 0.5, (0, 0, 9, 9))]

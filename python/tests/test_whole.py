@@ -86,13 +86,13 @@ class Whole(InFolder):
 class Arrays(Whole):
     def test_a_turn_costs_the_least_weight(self) -> None:
         for rule, cost in (("least", 51), ("mean", 153), ("product", 51)):
-            found = wundjeska.unwrap(TURN, TURN_COHERENCE, rule=rule, whole=True)
+            found = wundjeska.unwrap(TURN, TURN_COHERENCE, rule=rule, whole=True, filter=None)
             self.assertEqual(
                 (found.cost, found.bound, found.seam_cost, found.verdict), (cost, cost, 0, "accepted"), rule
             )
 
     def test_the_whole_costs_what_tiles_bound(self) -> None:
-        tiled, whole = wundjeska.unwrap(*scene(), tile=8), wundjeska.unwrap(*scene(), whole=True)
+        tiled, whole = (wundjeska.unwrap(*scene(), filter=None, tile=side) for side in (8, None))
         self.assertTrue(0 < tiled.bound <= whole.cost <= tiled.cost)
         np.testing.assert_array_equal((whole.values - tiled.values) % CYCLE, 0)
         np.testing.assert_array_equal(whole.components, tiled.components)
@@ -102,7 +102,7 @@ class Arrays(Whole):
         found = wundjeska.unwrap(np.angle(np.exp(1j * slope)), whole=True, ramp=(32767, 0), steep=3)
         np.testing.assert_allclose(found.phase - found.phase[0, 0], slope, atol=1e-3)
         self.assertEqual((found.cost, found.ramp, found.settings.steep), (0, (32767, 0), 3))
-        tiles = wundjeska.unwrap(TURN, TURN_COHERENCE, steep=16)
+        tiles = wundjeska.unwrap(TURN, TURN_COHERENCE, steep=16, filter=None)
         self.assertEqual((tiles.cost, tiles.verdict), (51, "accepted"))
 
     def test_one_row_and_masked_parts(self) -> None:
@@ -128,13 +128,16 @@ class Arrays(Whole):
         status, told = command(*words, "--whole", self.folder / "joined.tif")
         self.assertEqual(status, 0, told)
         frames = sorted(path.stem for path in (self.folder / "frames").glob("*.report"))
-        self.assertEqual(re.findall(r"^(frame-.*): columns .*: accepted, costs [0-9]+$", told, re.M), frames)
+        self.assertEqual(re.findall(r"^(frame-.*): columns .*: accepted, costs [0-9]+, of its guide, .*undecided$", told, re.M), frames)
         for name in frames:
             self.assertTrue((self.folder / f"frames/{name}.report").read_bytes().startswith(b"insar-whole 1\n"))
         notes = gdal.Open(str(self.folder / "joined.tif")).GetMetadata()
         self.assertEqual((notes["WUNDJESKA_SOLVED"], "WUNDJESKA_TILE_SIDE" in notes), ("each frame at once", False))
         told = command(*words, "--whole", self.folder / "joined.tif")[1]
         self.assertEqual(told.count("accepted in an earlier run"), len(frames), told)
+        told = command(*words, "--no-filter", self.folder / "joined.tif")[1]
+        self.assertEqual((told.count("in an earlier run"), told.count("guide")), (0, 0), told)
+        self.assertEqual(gdal.Open(str(self.folder / "joined.tif")).GetMetadata()["WUNDJESKA_FILTER"], "none")
         told = command(*words, "--tile", "8", self.folder / "joined.tif")[1]
         self.assertEqual((told.count("in an earlier run"), told.count("tiles cost")), (0, len(frames)), told)
 
@@ -156,7 +159,7 @@ class Arrays(Whole):
 class Commands(Whole):
     def unwrapped(self, *words: object) -> Told:
         phase, coherence = self.rasters()
-        return command("wundjeska", phase, "--coherence", coherence, *words)
+        return command("wundjeska", phase, "--coherence", coherence, "--no-filter", *words)
 
     def test_all_in_one_and_each_alone(self) -> None:
         session, text, page, parts, made = (

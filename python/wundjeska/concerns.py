@@ -4,16 +4,19 @@ The checker says that no surface costs less. No cost tells whether the ground mo
 surface may be wrong by whole cycles though none costs less, or that the phase was not what it was taken for:
 
   residues  the share of cells, of four open pixels, about which the wrapped differences do not add up to 0. It is 1/3 of what is
-            random throughout, as a file is that was read by a wrong width
+            random throughout, as a file is that was read by a wrong width. A filter takes those of noise away: after one they are
+            no sign, and those that it leaves are
   seams     what the surface costs more than its tiles do. Where that is much, tiles were joined where they do not fit
   lines     where the surface departs from the wrapped differences along one line. Cuts through noise are short: of 512 by 512
             pixels of noise the longest had 9 pixels from end to end, and 17 where the noise had been smoothed over 5 by 5. At
-            ruptures in speckle of 4 and 10 looks the longest had from 58 to 177
+            ruptures in speckle of 4 and 10 looks the longest had from 58 to 177. By a guide lines are those along which it departs
+            from the filtered phase: on 512 by 512 pixels up to 61 without a tear, from 103 to 234 at ruptures and layover
   zeros     the share of open pixels whose phase is 0, as of files that have 0 where nothing is known, and do not say so
   slope     the commonest fringe rate. Beyond half a cycle a pixel a slope looks as if it fell, and noise brings that nearer
   parts     open pixels that do not touch; whole cycles between them are arbitrary
-  filter    the share of cells that keep a residue when the phase is filtered, if it is. Noise has hardly any left; where more than
-            0.2 % are, the filter has broken down
+  filter    the share of cells that keep a residue when the phase is filtered, if it is. Noise about fringes has hardly any left;
+            random phases keep 2 %, and files that were read by a wrong width from 2 to 14 %. Above 0.2 % the filter has broken down,
+            unless the phase has few residues, below 2 %: those are of slopes that are too steep
   undecided parts to which the surface without the filter gives other cycles, and the filter cannot tell which are right; of the
             kind `decided`, and not bad, if it can
 """
@@ -30,13 +33,15 @@ from .ramps import SIDE, Spectrum
 from .report_reader import Surface
 
 MANY_RESIDUES, MANY_ZEROS, MANY_OUTSIDE = 0.1, 0.01, 0.01  # shares, from which on they are bad
-MANY_LEFT = 0.002  # the share of residues left in a filtered phase, above which it is bad
+MANY_LEFT, FEW_BEFORE = 0.002, 0.02  # shares of residues: in a filtered phase, above which it is bad, and before, from which on
 HIGH_SEAMS = 0.1  # of what the tiles cost
 LONG_LINE = 24  # pixels from end to end: more than any cut through noise had, and less than any rupture
+LONG_GUIDE_LINE = 70  # the same of a guide, whose cuts lead between the few residues that a filter leaves
 STEEP_SLOPE = 0.3  # cycles a pixel
 SAMPLED = 1048576  # pixels of which the fringe rate is taken, at most, or nearly
 FEW = 100  # pixels or cells, of fewer of which a share says nothing
 
+MUCH_NOISE = "much noise, or a file that was read by a wrong width, form or band"
 NONE = "none"
 NOTED = re.compile(r"([a-z]+)( \(bad\))?: (.*)")
 UNCHECKED = "nothing certifies this surface"
@@ -61,7 +66,7 @@ class Concern:
 
 @dataclass(frozen=True)
 class Lines:
-    """The lines of LONG_LINE pixels or more along which a surface jumps: how many, and the longest and its box, corners included."""
+    """The long lines along which a surface jumps: how many, and the longest of all and its box, corners included."""
 
     count: int = 0
     longest: int = 0
@@ -116,15 +121,17 @@ def percent(share: float) -> str:
 def residues_concern(signs: Signs) -> List[Concern]:
     if signs.residues < MANY_RESIDUES:
         return []
-    why = "much noise, or a file that was read by a wrong width, form or band"
-    return [Concern("residues", f"{percent(signs.residues)} of the cells have a residue: {why}")]
+    what = f"{percent(signs.residues)} of the cells have a residue"
+    if signs.left is not None:
+        return [Concern("residues", f"{what}, and {percent(signs.left)} after the filter", False)]
+    return [Concern("residues", f"{what}: {MUCH_NOISE}")]
 
 
 def filter_concern(signs: Signs) -> List[Concern]:
-    if signs.left is None or signs.left <= MANY_LEFT:
+    if signs.left is None or signs.left <= MANY_LEFT or signs.residues < FEW_BEFORE:
         return []
     what = f"{percent(signs.left)} of the cells keep a residue in the filtered phase"
-    return [Concern("filter", f"{what}: the filter has broken down, and the surface that guides may be wrong")]
+    return [Concern("filter", f"{what}: the filter has broken down, and the surface may be wrong: {MUCH_NOISE}")]
 
 
 def seams_concern(signs: Signs) -> List[Concern]:
@@ -248,8 +255,8 @@ def line_ends(surface: Surface, phase: np.ndarray, ramp: Ramp) -> Tuple[np.ndarr
     return np.concatenate([upright, level]), np.concatenate([upright + corners, level + 1])
 
 
-def lines_of(surface: Surface, phase: np.ndarray, ramp: Ramp = (0, 0)) -> Lines:
-    """The long lines along which a surface jumps: pieces of lines that touch at corners, by their longer extent."""
+def lines_of(surface: Surface, phase: np.ndarray, ramp: Ramp = (0, 0), long: int = LONG_LINE) -> Lines:
+    """The lines of so many pixels along which a surface jumps: pieces of lines that touch at corners, by their longer extent."""
     one, other = line_ends(surface, phase, ramp)
     if not len(one):
         return Lines()
@@ -265,7 +272,7 @@ def lines_of(surface: Surface, phase: np.ndarray, ramp: Ramp = (0, 0)) -> Lines:
     x0, y0, x1, y1 = (int(part[longest]) for part in (*low, *high))
     height, width = surface.values.shape
     box = (max(x0 - 1, 0), max(y0 - 1, 0), min(x1, width - 1), min(y1, height - 1))
-    return Lines(int((extents >= LONG_LINE).sum()), int(extents[longest]), box)
+    return Lines(int((extents >= long).sum()), int(extents[longest]), box)
 
 
 def rate_of(phase: np.ndarray, weights: np.ndarray, opened: np.ndarray) -> Optional[Ramp]:
@@ -278,28 +285,34 @@ def rate_of(phase: np.ndarray, weights: np.ndarray, opened: np.ndarray) -> Optio
     return spectrum.peak() if spectrum.is_distinct() else None
 
 
+@dataclass(frozen=True)
+class Guide:
+    """What guides a surface: a surface that is least for the filtered phase, that phase, and what is to be said of parts to which no
+    filter gives other cycles."""
+
+    surface: Surface
+    phase: np.ndarray
+    apart: Tuple[Concern, ...] = ()
+
+
 def signs_of(
-    phase: np.ndarray,
-    weights: np.ndarray,
-    surface: Surface,
-    problem: Problem,
-    smooth: Optional[np.ndarray] = None,
-    apart: Tuple[Concern, ...] = (),
+    phase: np.ndarray, weights: np.ndarray, surface: Surface, problem: Problem, guide: Optional[Guide] = None
 ) -> Signs:
-    """What is measured of a surface of these phases and weights, which is least for this problem, or was guided by one that is
-    least for the filtered phase `smooth`."""
+    """What is measured of a surface of these phases and weights, which is least for this problem, or whose guide is."""
     opened = surface.opened()
     parts, outside = scattered(opened)
+    solved, solved_phase = (guide.surface, guide.phase) if guide else (surface, phase)
+    long = LONG_GUIDE_LINE if guide else LONG_LINE
     return Signs(
         residues=residue_share(phase, opened, problem.ramp),
         zeros=share_of(int((opened & (phase == 0)).sum()), int(opened.sum())),
         tile_cost=surface.tile_cost,
         seam_cost=surface.seam_cost,
-        lines=lines_of(surface, phase, problem.ramp),
+        lines=lines_of(solved, solved_phase, problem.ramp, long),
         rate=rate_of(phase, weights, opened),
         ramp=problem.ramp,
         parts=parts,
         outside=outside,
-        left=None if smooth is None else residue_share(smooth, opened, problem.ramp),
-        apart=apart,
+        left=residue_share(guide.phase, opened, problem.ramp) if guide else None,
+        apart=guide.apart if guide else (),
     )

@@ -6,8 +6,9 @@ squared weights, summed over its open pixels. Frequencies below three deviations
 weighted again and added up (Kemao, Applied Optics 43(13), 2004, and Optics and Lasers in Engineering 45(2), 2007; windows of
 interferograms: Goldstein and Werner, Geophysical Research Letters 25(21), 1998).
 
-The weights that go with it tell how well phase and filter agree: 255 a^2 c, where a is the length of the mean phasor of their
-difference over the open ones of 5 by 5 pixels, and c the coherence. Where no coherence is known they are 255 a^2 over 3 by 3.
+The weights that go with it tell how well phase and filter agree: w a^2, where a is the length of the mean phasor of their
+difference over the open ones of 5 by 5 pixels, and w the weight that coherence gives, 255 c if it is linear. Where no coherence is
+known they are 255 a^2 over 3 by 3.
 
 The transform is written out in sums of 32 bits, which is faster than `numpy.fft` and runs in threads. The raster is filtered in
 bands. Each pixel has the same sums in the same order, however the bands and threads are.
@@ -39,7 +40,7 @@ Way = Tuple[np.complex64, np.ndarray]  # the root of order 4, and the roots of o
 
 @dataclass(frozen=True)
 class Filtered:
-    """A filtered phase, uint16, in 1/65536 cycle, 0 at masked pixels, and the weights that go with it, uint16, from 1 to 255."""
+    """A filtered phase, uint16, in 1/65536 cycle, 0 at masked pixels, and the weights that go with it, uint16, at least 1."""
 
     phase: npt.NDArray[np.uint16]
     weights: npt.NDArray[np.uint16]
@@ -194,7 +195,7 @@ def agreed_weights(
     threads: int = 1,
     band: int = BAND,
 ) -> np.ndarray:
-    """Weights of a filtered phase: those that are linear in coherence, times the agreement of phase and filter; at least 1."""
+    """Weights of a filtered phase: those that coherence gives, times the agreement of phase and filter; at least 1."""
     reach = REACH_ALONE if weights is None else REACH
     found = np.ones(phase.shape, dtype=np.uint16)
 
@@ -213,7 +214,7 @@ def agreed_weights(
 def filtered(
     phase: np.ndarray, opened: np.ndarray, weights: Optional[np.ndarray] = None, threads: int = MAX_THREADS
 ) -> Filtered:
-    """The filtered phase and its weights, of a phase in 1/65536 cycle, uint16, its open pixels, and weights linear in coherence
-    from 1 to 255, if a coherence is known. All are (rows, columns)."""
+    """The filtered phase and its weights, of a phase in 1/65536 cycle, uint16, its open pixels, and the weights that coherence
+    gives, if one is known. All are (rows, columns)."""
     smooth = filtered_phase(phase, opened, threads)
     return Filtered(smooth, agreed_weights(phase, smooth, opened, weights, threads))

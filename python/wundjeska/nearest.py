@@ -1,17 +1,36 @@
 """The surface that differs from a phase by whole cycles and lies nearest to another surface, its guide. NumPy alone.
 
 Whole numbers throughout: at each open pixel it differs from the phase by whole cycles, and from the guide by half a cycle at
-most. Where two are half a cycle away it is the lower one.
+most. Where two are half a cycle away it is the lower one. The program's command `nearest` makes it. Programs before that command had
+none; for them, and as the judge of the tests, it is computed here as well.
 """
+from functools import lru_cache
+
 import numpy as np
 import numpy.typing as npt
 
 from .components import pieces_of, sizes_of
-from .planes import CYCLE
+from .displacements import grid_text, read_grid
+from .planes import CYCLE, session_of
+from .program import call, program, run_program
 from .report_reader import NODATA
-from .trouble import Trouble
+from .trouble import REFUSED_WORDS, Trouble
 
+COMMAND = "nearest"
 LEAST_PATCH = 16  # pixels that touch each other, of a feature that a filter took for noise
+
+
+@lru_cache(maxsize=8)
+def has_command(path: str) -> bool:
+    """Whether the program, which is at this path, has the command: it refuses words that it does not know."""
+    return call([COMMAND], b"")[0] != REFUSED_WORDS
+
+
+def how_made() -> str:
+    """How a nearest surface is made, in words."""
+    if has_command(program()):
+        return f"by `insar_unwrap {COMMAND}`"
+    return "computed in Python and tested, not proved"
 
 
 def nearest(phase: np.ndarray, guide: np.ndarray, opened: np.ndarray) -> npt.NDArray[np.int64]:
@@ -19,6 +38,19 @@ def nearest(phase: np.ndarray, guide: np.ndarray, opened: np.ndarray) -> npt.NDA
 
     Trouble if the shapes differ, if the guide has no value at an open pixel, or if the surface does not fit 64 bits.
     """
+    way = by_program if has_command(program()) else by_numpy
+    return way(phase, guide, opened)
+
+
+def by_program(phase: np.ndarray, guide: np.ndarray, opened: np.ndarray) -> npt.NDArray[np.int64]:
+    """The same by the program's command."""
+    session = session_of(phase, np.ones(phase.shape, dtype=np.uint16), opened)
+    grid = grid_text(np.where(opened, guide, NODATA)) if guide.shape == opened.shape else grid_text(guide)
+    return read_grid(run_program([COMMAND], session + grid, "the guide"), COMMAND)
+
+
+def by_numpy(phase: np.ndarray, guide: np.ndarray, opened: np.ndarray) -> npt.NDArray[np.int64]:
+    """The same by NumPy."""
     if not phase.shape == guide.shape == opened.shape:
         raise Trouble(f"the surface has the shape {guide.shape}, the phase {phase.shape} and the mask {opened.shape}")
     if (guide[opened] == NODATA).any():

@@ -16,6 +16,7 @@ from .rasters import NODATA, close, create_like, put_array, put_values
 from .references import Reference, block_of, check_reference_words, level_of, warn_of_components
 from .report_reader import NODATA as MASKED
 from .trouble import REFUSED_WORDS, Trouble
+from .undecided import Undecided
 from .unwrapping import NOT_CHECKED
 
 NOTHING_CERTIFIES = f"{NOT_CHECKED}: nothing certifies this surface"
@@ -134,7 +135,18 @@ def write_product(
 
 def write_components(path: Union[str, Path], like: gdal.Dataset, components: np.ndarray, least: int) -> None:
     """Writes the components as whole numbers, 0 as NODATA."""
-    notes = {"VERSION": __version__, "CONTENT": "connected components by falling size", "LEAST_COMPONENT": least}
-    made = create_like(path, like, gdal.GDT_UInt32, 0, "", notes)
-    put_array(made, components)
+    write_numbers(path, like, components, {"CONTENT": "connected components by falling size", "LEAST_COMPONENT": least})
+
+
+def write_undecided(path: Union[str, Path], like: gdal.Dataset, undecided: Undecided) -> None:
+    """Writes the undecided parts as whole numbers, 0 as NODATA."""
+    content = "parts by falling size to which no filter gives other cycles, and nobody knows which are right"
+    shares = " ".join(f"{share:.3f}" for share in undecided.f) or "none"
+    write_numbers(path, like, undecided.labels, {"CONTENT": content, "F": shares})
+
+
+def write_numbers(path: Union[str, Path], like: gdal.Dataset, numbers: np.ndarray, notes: Dict[str, Any]) -> None:
+    """Writes whole numbers, 0 as NODATA."""
+    made = create_like(path, like, gdal.GDT_UInt32, 0, "", {"VERSION": __version__, **notes})
+    put_array(made, numbers)
     close(made, path)

@@ -32,12 +32,14 @@ OWN = {
 }
 # Of the words of unwrap those that each scene has its own of, or that the workflow sets.
 NOT_KEYS = {"help", "coherence", "mask", "components", "page", "session", "report", "unscreened", "no_check", "workers"}
+NOT_KEYS |= {"undecided", "unfiltered"}
 WANT_COHERENCE = ("least_coherence", "coherence_band", "coherence_max", "coherence_form", "looks", "screen")
 
 
 def options() -> Dict[str, Action]:
     """The options of unwrap that are keys, by their names here."""
-    found = {action.dest: action for action in parser_of("unwrap")._actions if action.option_strings}
+    named = (action for action in parser_of("unwrap")._actions if action.option_strings)
+    found = {action.dest: action for action in named if action.option_strings != ["--no-filter"]}
     return {key: action for key, action in found.items() if key not in NOT_KEYS and key != "reference_auto"}
 
 
@@ -62,7 +64,8 @@ def words_of(key: str, value: str, action: Action) -> List[str]:
 
 @dataclass(frozen=True)
 class Wanted:
-    """What is asked for: the names of files, and the words of unwrap for scenes with and without coherence."""
+    """What is asked for: the names of files, whether a filter comes first, and the words of unwrap for scenes with and without
+    coherence."""
 
     igram: str
     coherence: str
@@ -70,6 +73,7 @@ class Wanted:
     page: bool
     closure: bool
     without_coherence: bool
+    filtered: bool
     words: List[str]
     plain_words: List[str]
 
@@ -161,7 +165,8 @@ def wanted(config: Mapping[str, object]) -> Wanted:
         raise Trouble(as_keys(trouble), trouble.status) from trouble
     plain = [word for key in words if key not in WANT_COHERENCE for word in words[key]]
     chosen = (flags.get("page", True), flags.get("closure", False), flags.get("without_coherence", False))
-    return Wanted(names["igram"], names["coherence"], given.get("mask"), *chosen, found, plain)
+    is_filtered = asked.filter is not None
+    return Wanted(names["igram"], names["coherence"], given.get("mask"), *chosen, is_filtered, found, plain)
 
 
 # Scenes

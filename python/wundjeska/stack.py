@@ -48,9 +48,21 @@ def lines_on_scenes(scenes: List[Scene], odd: List[str]) -> List[str]:
     """How many scenes are done, and why others failed."""
     failures = [scene.failure for scene in scenes if scene.failure]
     failures += [f"{name!r}: a scene's name has none of {{}}*?[] and does not begin with -" for name in odd]
+    doubted = [scene.name for scene in scenes if scene.is_done and is_undecided(scene.name)]
+    more = [f"{len(doubted)} have undecided parts: {listed(doubted)}"] if doubted else []
     done = sum(scene.is_done for scene in scenes)
     head = f"{done} of {len(scenes) + len(odd)} scenes are accepted and have their surface, {len(failures)} failed"
-    return [head, *failures]
+    return [head, *failures, *more]
+
+
+def is_undecided(name: str) -> bool:
+    """Whether the command told of undecided parts of a scene."""
+    return re.search(", [0-9]+ undecided part", Path(name, "unwrapped.txt").read_text(errors="replace")) is not None
+
+
+def listed(names: List[str]) -> str:
+    """The first names."""
+    return ", ".join(names[:MOST]) + (f" and {len(names) - MOST} more" if len(names) > MOST else "")
 
 
 def told_of_loop(name: str) -> Optional[str]:
@@ -75,7 +87,7 @@ def lines_on_loops(names: List[str], scenes: List[Scene]) -> List[str]:
     wrong = sum(bool(misclosed(line)) for line in done.values())
     head = f"{len(done)} of {len(names)} loops have their closures, {wrong} with misclosed pixels"
     lone = [scene.name for scene in scenes if not pair_of(scene.name)]
-    more = [f"{len(lone)} scenes are no pairs by their names: {', '.join(lone[:MOST])}"] if lone else []
+    more = [f"{len(lone)} scenes are no pairs by their names: {listed(lone)}"] if lone else []
     worst = sorted(done, key=lambda name: -misclosed(done[name]))[:MOST]
     return [head, *filter(None, failures), *more, *(f"{name}: {done[name]}" for name in worst)]
 

@@ -9,6 +9,7 @@ import numpy as np
 from osgeo import gdal
 
 from .concerns import Concern, judgement_of, read_note
+from .guiding import NO_FILTER
 from .pages import COMMON, footer, head_of, scaled
 from .pictures import BRIGHTER, coloured, uri
 from .stack import Scene, misclosed, told_of_loop
@@ -29,7 +30,8 @@ STYLE = """<style>
 
 @dataclass(frozen=True)
 class Told:
-    """What is told of a scene: its picture if there is one, the verdict, and the concerns, None if the product tells none."""
+    """What is told of a scene: its picture if there is one, the verdict, whether it is that of a guide, and the concerns, None if the
+    product tells none."""
 
     scene: Scene
     picture: Optional[np.ndarray] = None
@@ -37,6 +39,7 @@ class Told:
     is_whole: bool = True
     concerns: Optional[Tuple[Concern, ...]] = None
     words: str = ""
+    is_guided: bool = False
 
     def bad(self) -> int:
         return sum(concern.is_bad for concern in self.concerns or ())
@@ -74,8 +77,8 @@ def told_of(scene: Scene) -> Told:
     note = raster.GetMetadataItem("WUNDJESKA_CONCERNS")
     known = values[~np.isnan(values)]
     span = f", {known.min():.2f} to {known.max():.2f} {unit}" if len(known) else ""
-    residues = raster.GetMetadataItem("WUNDJESKA_RESIDUES")
-    words = f"{raster.RasterXSize} by {raster.RasterYSize} pixels{span}" + (f", residues at {residues}" if residues else "")
+    words = f"{raster.RasterXSize} by {raster.RasterYSize} pixels{span}{residues_words(raster)}"
+    is_guided = (raster.GetMetadataItem("WUNDJESKA_FILTER") or NO_FILTER) != NO_FILTER
     return Told(
         scene,
         values,
@@ -83,7 +86,19 @@ def told_of(scene: Scene) -> Told:
         raster.GetMetadataItem("WUNDJESKA_TILE_SIDE") is None,
         read_note(note) if note is not None else None,
         words.replace("-", "\N{MINUS SIGN}"),
+        is_guided,
     )
+
+
+def residues_words(raster: gdal.Dataset) -> str:
+    """What a product tells of residues, its filter and what is undecided."""
+    residues, left, filtered, undecided = (
+        raster.GetMetadataItem(f"WUNDJESKA_{name}") for name in ("RESIDUES", "RESIDUES_LEFT", "FILTER", "UNDECIDED")
+    )
+    found = f", residues at {residues}" if residues else ""
+    found += f", at {left}" if left else ""
+    found += f", filter {filtered.partition(':')[0]}" if filtered else ""
+    return found + (f", {undecided}" if undecided else "")
 
 
 def image_of(values: Optional[np.ndarray]) -> str:
@@ -101,7 +116,7 @@ def verdict_words(told: Told) -> str:
         return "failed" if told.scene.failure else "not done"
     if told.concerns is None:
         return told.verdict
-    return judgement_of(told.concerns, told.verdict.startswith(ACCEPTED), told.is_whole)
+    return judgement_of(told.concerns, told.verdict.startswith(ACCEPTED), told.is_whole, told.is_guided)
 
 
 def section_of(told: Told, pages: bool) -> str:

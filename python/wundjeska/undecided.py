@@ -8,9 +8,10 @@ There were 220 such parts on 90 made scenes. Of those with an f of 0.75 or more 
 without one at 10, of those below at 11 and 11. So it is a warning, and no choice. NumPy alone.
 """
 from dataclasses import dataclass
-from typing import List, Sequence, Tuple
+from typing import NamedTuple, Sequence, Tuple
 
 import numpy as np
+import numpy.typing as npt
 
 from .components import pieces_of, sizes_of
 from .concerns import Concern, both_open, wrapped_differences
@@ -37,6 +38,32 @@ class Part:
     @property
     def is_decided(self) -> bool:
         return self.share >= DECIDED
+
+
+class Undecided(NamedTuple):
+    """Parts that a guide and no filter give other cycles, and nobody knows which are right.
+
+    labels  uint32, (rows, columns): the number of each pixel's part, from 1 by falling size; 0 elsewhere
+    f       of each part, float64, below 0.75: what the cycles without a filter cost more, over what they cost in all
+    """
+
+    labels: npt.NDArray[np.uint32]
+    f: npt.NDArray[np.float64]
+
+
+@dataclass(frozen=True)
+class Apart:
+    """All parts, the largest first, and the number of each pixel's, from 1 in this order; 0 elsewhere. uint32, (rows, columns)."""
+
+    labels: npt.NDArray[np.uint32]
+    parts: Tuple[Part, ...] = ()
+
+    def undecided(self) -> Undecided:
+        """Those of which nobody knows."""
+        left = [not part.is_decided for part in self.parts]
+        numbers = np.where([False, *left], np.cumsum([False, *left]), 0).astype(np.uint32)
+        shares = [part.share for part in self.parts if not part.is_decided]
+        return Undecided(numbers[self.labels], np.array(shares, dtype=np.float64))
 
 
 def cycles_apart(guided: np.ndarray, plain: np.ndarray, opened: np.ndarray) -> np.ndarray:
@@ -110,8 +137,8 @@ def part_of(labels: np.ndarray, number: int, level: int, share: float) -> Part:
     return Part(len(rows), level, share, box)
 
 
-def parts_apart(guided: np.ndarray, plain: np.ndarray, guide: np.ndarray, smooth: Session) -> List[Part]:
-    """The parts in which a surface by a guide and the one without a filter are whole cycles apart, the largest first.
+def parts_apart(guided: np.ndarray, plain: np.ndarray, guide: np.ndarray, smooth: Session) -> Apart:
+    """The parts in which a surface by a guide and the one without a filter are whole cycles apart.
 
     `smooth` is the filtered session that the guide is of. Edges weigh by the lesser weight, whatever the rule.
     """
@@ -124,7 +151,15 @@ def parts_apart(guided: np.ndarray, plain: np.ndarray, guide: np.ndarray, smooth
     (more, whole), others = (edge_costs(labels, levels, values, smooth, axis) for axis in (0, 1))
     shares = np.where(whole + others[1] > 0, (more + others[0]) / np.maximum(whole + others[1], 1), 1)
     parts = [part_of(labels, number, int(levels[number]), float(shares[number])) for number in range(1, len(levels))]
-    return sorted(parts, key=lambda part: -part.pixels)
+    return by_size(labels, parts)
+
+
+def by_size(labels: np.ndarray, parts: Sequence[Part]) -> Apart:
+    """Parts, which are numbered from 1, with the largest first."""
+    order = sorted(range(len(parts)), key=lambda place: -parts[place].pixels)
+    numbers = np.zeros(len(parts) + 1, dtype=np.uint32)
+    numbers[[place + 1 for place in order]] = np.arange(1, len(parts) + 1)
+    return Apart(numbers[labels], tuple(parts[place] for place in order))
 
 
 def told(parts: Sequence[Part]) -> str:
@@ -135,6 +170,14 @@ def told(parts: Sequence[Part]) -> str:
     where = f"of {largest.pixels} pixels in columns {x0} to {x1}, rows {y0} to {y1}"
     cycles = f"{abs(largest.cycles)} cycle{'s' if abs(largest.cycles) > 1 else ''}"
     return f"{count} {where}, {cycles} {'lower' if largest.cycles > 0 else 'higher'} without the filter"
+
+
+def count_of(undecided: Undecided) -> str:
+    """How many undecided parts there are, and of how many pixels, in words."""
+    parts, pixels = len(undecided.f), np.count_nonzero(undecided.labels)
+    if not parts:
+        return "nothing undecided"
+    return f"{parts} undecided part{'s' if parts > 1 else ''} of {pixels} pixels"
 
 
 def undecided_concerns(parts: Sequence[Part]) -> Tuple[Concern, ...]:

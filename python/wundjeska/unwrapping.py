@@ -12,8 +12,8 @@ from . import report_reader, screening
 from .arguments import name_of_file, number, one_of, refused, whole_number, yes_or_no
 from .arrays import PHASES, REALS, check_attributes, taken
 from .components import components_of, warning_of
-from .concerns import Concern, judgement_of, signs_of
-from .guiding import Chain, Guided, guided
+from .concerns import Concern, Guide, Signs, judgement_of, signs_of
+from .guiding import FOURIER, Chain, Guided, Solvers, by_guide, check_before, guided, is_filtered
 from .outputs import Outputs, beside
 from .planes import (
     CYCLE,
@@ -25,19 +25,21 @@ from .planes import (
     has_phase,
     phases_of,
     ramp_in,
+    read_session,
     session_of,
 )
 from .program import MAX_WORKERS, Problem, check_report, run_program, workers_or_default
 from .ramps import Given, RampWord, checked, ramp_for
 from .screening import Screen, Screened, screened, screened_by
 from .trouble import DISAGREES, REFUSED_WORDS, Trouble, warn
-from .undecided import undecided_concerns
+from .undecided import Undecided, undecided_concerns
 from .weights import highest_of, weights_of
 
 ACCEPTED, NOT_CHECKED = "accepted", "not checked"
 RULES = ("least", "mean", "product")
 SIDE, SIDES = 128, (2, 128)  # of tiles, and the least and the greatest
 WHOLE = True  # whether the whole raster is solved at once if nothing else is said
+FILTER = FOURIER  # what filters the phase first if nothing else is said
 MAX_STEEP = 16
 LOOKS, HIGHEST = "a number of 1 or more", "a number above 0"
 
@@ -96,17 +98,20 @@ class Making:
     screen: Optional[Screen] = None
     script: bytes = b"end\n"
     masked_by: Optional[str] = None
+    has_coherence: bool = False
 
 
 @dataclass(frozen=True)
 class Input:
-    """A session, its weights, open pixels and ramp; if it was screened, the session before, and what that did."""
+    """A session, its weights, open pixels and ramp, and whether its weights are made of coherence; if it was screened, the session
+    before, and what that did."""
 
     session: bytes
     weights: np.ndarray
     opened: np.ndarray
     ramp: Optional[Ramp]
     before: bytes
+    has_coherence: bool = False
     screening: Optional[Screened] = None
 
 
@@ -115,12 +120,12 @@ def input_of(planes: Planes, making: Making) -> Input:
     phase, weights, opened = planes
     ramp = ramp_for(making.ramp, phase, weights, opened, making.name)
     before = session_of(phase, weights, opened, making.script, highest_of(making.looks), ramp)
-    found = Input(before, weights, opened, ramp, before)
+    found = Input(before, weights, opened, ramp, before, making.has_coherence)
     if making.screen is not None:
         terms = making.screen.of(making.looks)
         session = screened(before, terms, making.name)
         screening = screened_by(before, session, terms, making.name)
-        found = Input(session, weights, screening.stays(), ramp, before, screening)
+        found = Input(session, weights, screening.stays(), ramp, before, making.has_coherence, screening)
         if not found.opened.any():
             raise Trouble(f"{making.name}: no pixel stays open of the screen by {terms.told()}: {screening.told()}")
     line = warning_of(found.opened, "--screen" if making.screen is not None else making.masked_by)
@@ -142,14 +147,17 @@ class Solved:
     guided: Optional[Guided["Solved"]] = None
 
     @property
-    def smooth(self) -> Optional[np.ndarray]:
-        """The filtered phase, if there is one."""
-        return self.guided.phase if self.guided else None
+    def guide(self) -> Optional[Guide]:
+        """What guides the surface, if there is a filter."""
+        if self.guided is None:
+            return None
+        found = self.guided
+        return Guide(found.guide.surface, found.smooth.phase, undecided_concerns(found.apart.parts))
 
     @property
-    def apart(self) -> Tuple[Concern, ...]:
-        """What is to be said of where a filter and none are whole cycles apart."""
-        return undecided_concerns(self.guided.parts) if self.guided else ()
+    def undecided(self) -> Optional[Undecided]:
+        """The parts of which nobody knows, if there is a filter."""
+        return self.guided.apart.undecided() if self.guided else None
 
 
 @dataclass(frozen=True)
@@ -167,6 +175,8 @@ class Unwrapped:
     concerns    signs that the surface may be wrong though none costs less: each has a text, a kind, and is_bad
     chain       its `filter`, or None, and whether it was `narrow`. With a filter the costs and the verdict are those of the surface
                 that guides, and what is proved is proved of it: `chain.told` says what
+    undecided   parts of 500 pixels or more to which no filter gives other cycles, and nobody knows which are right: their `labels`,
+                uint32, from 1 by falling size and 0 elsewhere, and `f` of each, below 0.75; None without a filter
     """
 
     phase: npt.NDArray[np.float32]
@@ -180,6 +190,7 @@ class Unwrapped:
     dropped: Optional[npt.NDArray[np.uint8]] = None
     concerns: Tuple[Concern, ...] = ()
     chain: Chain = Chain()
+    undecided: Optional[Undecided] = None
 
     @property
     def judgement(self) -> str:
@@ -237,18 +248,41 @@ def solve(session: bytes, settings: Settings, check: bool = True, name: str = "t
     return Solved(report, last_surface(report, name), verdict)
 
 
-def solve_by(chain: Chain, made: Input, settings: Settings, check: bool, name: str, has_coherence: bool) -> Solved:
-    """Unwraps what was made, by a guide if the chain has a filter."""
+def signs_of_session(session: bytes, surface: report_reader.Surface, problem: Problem) -> Signs:
+    """What is measured of a surface of a session, which is a guide if the phase is filtered."""
+    planes = read_session(session)
+    guide = Guide(surface, planes.phase) if is_filtered(session) else None
+    return signs_of(planes.phase, planes.weights, surface, problem, guide)
 
-    def solved(session: bytes) -> Solved:
-        return solve(session, settings, check, name)
 
-    if chain.filter is None:
-        return solved(made.session)
-    workers = workers_or_default(settings.workers)
-    found = guided(made.session, has_coherence, solved, chain.narrow, workers)
+def solvers_of(settings: Settings, check: bool, name: str) -> Solvers[Solved]:
+    """What solves sessions by these settings; a comparison is not checked."""
+    return Solvers(
+        lambda session: solve(session, settings, check, name), lambda session: solve(session, settings, False, name)
+    )
+
+
+def solved_by(found: Guided[Solved]) -> Solved:
+    """A surface by a guide, with the report, the costs and the verdict of the guide."""
     guide = found.guide
     return Solved(guide.report, replace(guide.surface, values=found.values), guide.verdict, found)
+
+
+def solve_by(chain: Chain, made: Input, settings: Settings, check: bool, name: str) -> Solved:
+    """Unwraps what was made, by a guide if the chain has a filter."""
+    solvers = solvers_of(settings, check, name)
+    if chain.filter is None:
+        return solvers.solve(made.session)
+    workers = workers_or_default(settings.workers)
+    return solved_by(guided(made.session, made.has_coherence, solvers, chain.narrow, workers))
+
+
+def solved_again(before: bytes, session: bytes, kept: Solved, narrow: bool, name: str) -> Solved:
+    """The surface of a session by the guide that was kept of it once it was filtered. Trouble if it is another session's."""
+    check_before(before, session)
+    problem = problem_of(read_report(kept.report, name))
+    settings = Settings(problem.side, problem.rule, None, problem.steep)
+    return solved_by(by_guide(before, session, kept, narrow, solvers_of(settings, True, name)))
 
 
 def radians_of(values: np.ndarray) -> npt.NDArray[np.float32]:
@@ -346,7 +380,7 @@ def unwrapped_of(
 ) -> Unwrapped:
     """What is returned."""
     surface = solved.surface
-    signs = signs_of(phase, made.weights, surface, settings.problem(made.ramp), solved.smooth, solved.apart)
+    signs = signs_of(phase, made.weights, surface, settings.problem(made.ramp), solved.guide)
     warn_of(signs.concerns())
     return Unwrapped(
         radians_of(surface.values),
@@ -360,6 +394,7 @@ def unwrapped_of(
         made.screening.dropped_at() if made.screening else None,
         signs.concerns(),
         chain,
+        solved.undecided,
     )
 
 
@@ -384,7 +419,7 @@ def unwrap(
     least_component: int = 1,
     ramp: Given = None,
     screen: screening.Given = None,
-    filter: Optional[str] = None,
+    filter: Optional[str] = FILTER,
     narrow: bool = False,
 ) -> Unwrapped:
     """Unwraps an interferogram, (rows, columns), and has the result checked.
@@ -398,12 +433,13 @@ def unwrap(
     nodata           a number that stands for no value in igram and coherence, as 0
     wrap             take phases of more than a cycle, as an unwrapped one, and wrap them
     coherence_max    what stands for a coherence of 1, as 255
-    whole            solve the whole raster at once: no surface that differs by whole cycles costs less than what is returned
+    whole            solve the whole raster at once: no surface that differs by whole cycles costs less (of a filter: than the guide)
     tile             solve tiles of this side, 2 to 128, one by one, and then how they join
     rule             how two weights give that of an edge: 'least', 'mean' or 'product'
     steep            how much each cycle of a departure after the first costs, 1 to 16
     workers          threads, 1 to 8; by default one for each processor
-    report           a file to keep the report in, which can be checked again with its session (`wundjeska session`)
+    report           a file to keep the report in, which can be checked again with its session (`wundjeska session`; of a filter, the
+                     guide's with `wundjeska session --filter fourier`)
     check            have the proved checker judge the report; if it refuses, nothing is returned
     least_component  pixels of smaller components get the number 0, and keep their phase
     ramp             the expected slopes to the right and downwards, whole numbers of 1/65536 cycle a pixel, or 'auto': the
@@ -411,8 +447,8 @@ def unwrap(
     screen           what a pixel needs to stay open, as {'coherence': 0.3, 'radius': 3, 'count': 20, 'patch': 50}: a coherence
                      (or a 'weight'), so many such pixels within a radius, and so many in its patch
     filter           'fourier': unwrap the phase after a windowed Fourier filter, by weights of how well both agree, and return the
-                     whole cycles that bring the phase as given nearest to that surface. The guide is least of all, and kept by
-                     `report`; the surface is computed and not proved
+                     whole cycles that bring the phase as given nearest to that surface, the guide, which is least of all and kept
+                     by `report`. None: no filter, and what is returned is least of all itself
     narrow           with a filter, look for features narrower than 16 pixels, too
 
     Raises Trouble, whose text is one line. What is to be said of a result warns as Caution, and stands in its concerns.
@@ -422,16 +458,16 @@ def unwrap(
     settings, asked = settings_of(whole, tile, rule, steep, workers), screening.checked(screen)
     least, is_checked = whole_number("least_component", least_component, 1), yes_or_no("check", check)
     chain = Chain(filter, yes_or_no("narrow", narrow))
-    chain.check(arrays.looks is not None)
+    chain.check()
     kept = None if report is None else name_of_file("report", report)
-    making = Making("the interferogram", arrays.looks, checked(ramp), asked)
+    making = Making("the interferogram", arrays.looks, checked(ramp), asked, has_coherence=quality is not None)
     if asked is not None and asked.coherence is not None and quality is None:
         raise Trouble("a coherence of the screen wants coherence", REFUSED_WORDS)
     with Outputs([]) as outputs:
         place = beside(outputs, kept)
         planes = arrays.planes()
         made = input_of(planes, making)
-        solved = solve_by(chain, made, settings, is_checked, making.name, quality is not None)
+        solved = solve_by(chain, made, settings, is_checked, making.name)
         if place is not None:
             outputs.fill(place, solved.report)
     return unwrapped_of(made, planes[0], solved, settings, least, chain)

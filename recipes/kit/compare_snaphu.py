@@ -171,7 +171,7 @@ def processor_seconds() -> float:
 def ours(scene: Scene, igram: np.ndarray) -> Row:
     """The least of all surfaces, by one thread, and its check."""
     began = processor_seconds()
-    found = unwrap(igram, scene.coherence, mask=scene.opened, workers=1)
+    found = unwrap(igram, scene.coherence, mask=scene.opened, workers=1, filter=None)
     seconds = processor_seconds() - began
     return row_of(congruent(found.phase / (2 * np.pi), scene.igram), scene, seconds)
 

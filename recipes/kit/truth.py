@@ -1,6 +1,7 @@
 #!/usr/bin/python3
 """Tells how often a surface is wrong: truth.py [--side N] [NAME..]. It makes scenes whose surface is known, and prints a table of
 the pixels that are off by whole cycles, and of seconds, of each way to unwrap them. Without a name it takes the thirty of SCENES.
+truth.py --guard makes six small ones, and ends with status 1 if the default is wrong at more than a tenth more pixels than it was.
 
 A scene is named KIND-LOOKS-LEVEL-NOISE-SEED, as hills-4-hard-white-9104.
 
@@ -26,17 +27,17 @@ import warnings
 from dataclasses import dataclass, replace
 from importlib.util import find_spec
 from pathlib import Path
-from typing import Callable, Dict, List, Tuple
+from typing import Any, Callable, Dict, List, Tuple
 
 import numpy as np
 
 sys.path.insert(0, str(Path(__file__).resolve().parent.parent.parent / "python"))
 from wundjeska.components import pieces_of  # noqa: E402
-from wundjeska.guiding import guided  # noqa: E402
+from wundjeska import unwrap  # noqa: E402
 from wundjeska.nearest import commonest  # noqa: E402
 from wundjeska.planes import CYCLE, Session, phases_of, session_of  # noqa: E402
-from wundjeska.trouble import REFUSED_WORDS, Trouble, run_main  # noqa: E402
-from wundjeska.unwrapping import Settings, Solved, solve  # noqa: E402
+from wundjeska.trouble import DISAGREES, REFUSED_WORDS, Trouble, run_main  # noqa: E402
+from wundjeska.unwrapping import Settings, solve  # noqa: E402
 from wundjeska.weights import weights_of  # noqa: E402
 
 SIDE = 512
@@ -355,29 +356,29 @@ def scene_of(name: str, side: int) -> Scene:
 # Ways to unwrap
 
 
-def solved(session: bytes) -> Solved:
-    return solve(session, Settings(None), check=False)
-
-
 def session_for(scene: Scene) -> bytes:
     planes = scene.planes()
     return session_of(planes.phase, planes.weights, planes.opened)
 
 
+def unwrapped(scene: Scene, **words: Any) -> Field:
+    return unwrap(scene.product, scene.estimated, mask=scene.opened, check=False, **words).values
+
+
 def by_default(scene: Scene) -> Field:
-    return solved(session_for(scene)).surface.values
+    return unwrapped(scene)
+
+
+def by_narrow(scene: Scene) -> Field:
+    return unwrapped(scene, narrow=True)
+
+
+def by_least(scene: Scene) -> Field:
+    return solve(session_for(scene), Settings(None), check=False).surface.values
 
 
 def by_tiles(scene: Scene) -> Field:
     return solve(session_for(scene), Settings(128), check=False).surface.values
-
-
-def by_filter(scene: Scene) -> Field:
-    return guided(session_for(scene), True, solved).values
-
-
-def by_narrow(scene: Scene) -> Field:
-    return guided(session_for(scene), True, solved, narrow=True).values
 
 
 def by_skimage(scene: Scene) -> Field:
@@ -409,7 +410,7 @@ SNAPHU = shutil.which("snaphu") or ""
 
 def ways() -> Dict[str, Callable[[Scene], Field]]:
     """The ways that are found here."""
-    found = {"default": by_default, "filter": by_filter, "filter, narrow": by_narrow, "tiles of 128": by_tiles}
+    found = {"no filter": by_least, "default": by_default, "narrow": by_narrow, "tiles, no filter": by_tiles}
     if find_spec("skimage"):
         found["scikit-image"] = by_skimage
     return {**found, "SNAPHU": by_snaphu} if SNAPHU else found
@@ -448,6 +449,18 @@ SCENES = (
 ).split()
 
 
+# Of the default on scenes of GUARD_SIDE by GUARD_SIDE pixels: the percentages as they were measured.
+GUARD_SIDE, GUARD_MARGIN = 256, 1.1
+GUARD = {
+    "hills-4-hard-white-9104": (0.316, 1.349),
+    "rupture-4-hard-white-9110": (0.210, 1.096),
+    "glacier-4-hard-white-9113": (0.259, 1.648),
+    "islands-20-hard-white-9120": (0.065, 2.510),
+    "fault-4-medium-wide-9129": (0.343, 0.508),
+    "peaks-4-medium-white-9126": (5.996, 5.914),
+}
+
+
 def row_of(name: str, cells: List[str]) -> str:
     return f"| {name} | " + " | ".join(cells) + " |"
 
@@ -464,12 +477,29 @@ def tried(scene: Scene, way: Callable[[Scene], Field]) -> Tuple[float, float, fl
     return (*shares(scene, values), seconds)
 
 
+def guarded() -> int:
+    """Whether the default is as right as it was, told by a row for each scene; a status."""
+    print(row_of("Scene", ["default", "as it was"]) + "\n|---|---|---|")
+    worse = []
+    for name, known in GUARD.items():
+        scene = scene_of(name, GUARD_SIDE)
+        found = shares(scene, by_default(scene))
+        print(row_of(name, [pair(found), pair(known)]), flush=True)
+        worse += [name for share, was in zip(found, known) if share > GUARD_MARGIN * was]
+    if worse:
+        print(f"{len(set(worse))} scenes are worse by more than a tenth")
+    return DISAGREES if worse else 0
+
+
 def main() -> int:
     words = argparse.ArgumentParser(description=__doc__, formatter_class=argparse.RawDescriptionHelpFormatter)
     words.add_argument("--side", type=int, default=SIDE, help="pixels along a side of a scene (default: 512)")
+    words.add_argument("--guard", action="store_true", help="judge six small scenes")
     words.add_argument("names", nargs="*", metavar="NAME", help="of scenes (default: thirty)")
     asked = words.parse_args()
     warnings.simplefilter("ignore")  # that parts of a scene do not touch is known
+    if asked.guard:
+        return guarded()
     found = ways()
     print(row_of("Scene", list(found)) + "\n|" + "---|" * (len(found) + 1), flush=True)
     results = []

@@ -1,12 +1,13 @@
 """Has the proved checker judge a report or a whole text, by its own side, rule, ramp and steepness. It solves nothing.
 
-What it says is written: `accepted`, or the first thing that is wrong.
+What it says is written: `accepted`, or the first thing that is wrong. Of a filtered session it judges the guide.
 """
 from argparse import ArgumentParser, Namespace, RawDescriptionHelpFormatter
 from pathlib import Path
 
+from ..guiding import GUIDE, is_filtered
 from ..program import check_report
-from ..trouble import DISAGREES
+from ..trouble import DISAGREES, warn
 from ..unwrapping import problem_of, read_report
 
 
@@ -28,4 +29,6 @@ def main(asked: Namespace) -> int:
     report = read_report(text, asked.report)
     accepted, verdict = check_report(session, text, problem_of(report))
     print(verdict)
+    if is_filtered(session):
+        warn(f"{asked.report}: {GUIDE}")
     return 0 if accepted else DISAGREES

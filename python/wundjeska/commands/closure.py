@@ -26,6 +26,7 @@ from osgeo import gdal
 
 from .. import __version__
 from ..displacements import LENGTHS
+from ..guiding import GUIDE, is_filtered
 from ..loops import Loops, close_loop, commonest, raised
 from ..loops_page import Shown, page_of
 from ..outputs import Outputs, add_force_word, beside
@@ -182,6 +183,8 @@ def read_surface(source: Source, asked: Namespace) -> Surface:
     if source.raster is not None:
         return read_raster(source, source.raster, asked)
     found = found_in(read_text(source.path), source.path, source.session)
+    if source.session is not None and is_filtered(Path(source.session).read_bytes()):
+        warn(f"{source.path}: {GUIDE}, so closures are not those of the phase; GeoTIFFs have the surface")
     return Surface(found.values, "cycles", str(found.notes["VERDICT"]))
 
 

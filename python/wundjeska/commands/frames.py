@@ -1,13 +1,13 @@
 """Unwraps a raster of whatever size: in frames that overlap, each unwrapped and checked, joined by whole cycles.
 
 A session has at most 4,194,304 pixels. A larger raster is cut into frames of at most --side pixels a side, which overlap by
-at least --overlap pixels. Each frame is unwrapped, and the checker has to accept its report or whole text. In an overlap both surfaces differ
-from the same phases by whole cycles, so they differ from each other by whole cycles; the median of the differences is what
+at least --overlap pixels. Each frame is unwrapped, after a filter if nothing else is said, and the checker has to accept its report or
+whole text, which is then its guide's. In an overlap both surfaces differ from the same phases by whole cycles, so they differ from each other by whole cycles; the median of the differences is what
 joins them. If open pixels fall into pieces that do not touch, each piece of each frame is joined for itself. The overlaps
 at which most pixels agree are taken first; the others are compared with what these say. Each frame fills the raster up to
 the middle of the overlaps.
 
-Each frame's surface is certified. The joint is not: no certificate says that other whole cycles at the overlaps would not
+Each frame's surface, or its guide, is certified. The joint is not: no certificate says that other whole cycles at the overlaps would not
 cost less. So each overlap is told, with how many pixels agree. An overlap agrees if the part --agree of all its pixels does;
 pieces in it that do not are told too. If an overlap does not agree, the raster is written all the same, and the status is 1.
 
@@ -29,6 +29,7 @@ import numpy as np
 from .. import program
 from ..build_info import with_proofs
 from ..components import pieces_of
+from ..guiding import Chain, add_filter_words, by_guide, filtered_session
 from ..joining import Link, Offsets, links_of, offsets_of
 from ..outputs import Outputs, add_force_word, keep
 from ..planes import CYCLE, MAX_PIXELS, Ramp, session_of
@@ -38,12 +39,13 @@ from ..rasters import Scene, Window, add_scene_words, close, create_like, name_o
 from ..references import add_reference_words, check_box, mean_of, reference_of
 from ..report_reader import NODATA
 from ..trouble import DISAGREES, REFUSED_WORDS, Trouble
-from ..unwrapping import Settings, Solved, solve
+from ..undecided import count_of
+from ..unwrapping import FILTER, Settings, Solved, solve, solved_by, solvers_of
 from ..weights import highest_of
 from .unwrap import add_solver_words, add_whole_word, ramp_note, settings_of, steep_note
 
 NOT_PROVED = (
-    "Each frame is certified: the checker accepted its surface. The joint of the frames is not covered by any certificate or "
+    "Each frame is certified: the checker accepted its {}. The joint of the frames is not covered by any certificate or "
     "proof. The whole cycles between frames rest on the medians above."
 )
 BLOCK, BLOCKS = 256, 16  # pixels along a block that tells of the ramp, and how many there are at most along a side
@@ -172,6 +174,7 @@ class Job:
     settings: Settings
     reading: threading.Lock  # GDAL reads a raster for one thread at a time
     ramp: Optional[Ramp] = None
+    chain: Chain = Chain()
 
 
 def ramp_of(scene: Scene, word: RampWord) -> Optional[Ramp]:
@@ -197,21 +200,33 @@ def do_frame(frame: Frame, job: Job) -> str:
     """Sees that a frame's surface is kept; a line on it."""
     x, y, width, height = frame.window
     with job.reading:
-        session = session_of(*job.scene.read(frame.window), highest=highest_of(job.scene.looks), ramp=job.ramp)
-    if is_kept(frame, session, head_of(frame, job.settings, job.ramp)):
+        planes = job.scene.read(frame.window)
+    session = session_of(*planes, highest=highest_of(job.scene.looks), ramp=job.ramp)
+    text = filtered_session(session, job.scene.coherence is not None) if job.chain.filter else session
+    if is_kept(frame, text, head_of(frame, job.settings, job.ramp)):
         words = "accepted in an earlier run"
     else:
-        solved = solve(session, job.settings, name=frame.name)
-        keep_solved(frame, session, solved)
+        solved = solved_frame(frame, job, session, text)
+        keep_solved(frame, text, solved)
         words = f"{solved.verdict}, {cost_words(solved, job.settings)}"
     return f"{frame.name}: columns {x} to {x + width - 1}, rows {y} to {y + height - 1}: {words}"
 
 
+def solved_frame(frame: Frame, job: Job, session: bytes, text: bytes) -> Solved:
+    """The surface of a frame's session, whose text is filtered if there is a filter."""
+    solved = solve(text, job.settings, name=frame.name)
+    if job.chain.filter is None:
+        return solved
+    return solved_by(by_guide(session, text, solved, job.chain.narrow, solvers_of(job.settings, True, frame.name)))
+
+
 def cost_words(solved: Solved, settings: Settings) -> str:
     """What a frame's surface costs, in words."""
-    if settings.is_whole:
-        return f"costs {solved.surface.tile_cost}"
-    return f"tiles cost {solved.surface.tile_cost}, seams {solved.surface.seam_cost}"
+    surface = solved.surface
+    found = f"costs {surface.tile_cost}"
+    if not settings.is_whole:
+        found = f"tiles cost {surface.tile_cost}, seams {surface.seam_cost}"
+    return f"{found}, of its guide, {count_of(solved.undecided)}" if solved.undecided else found
 
 
 def do_frames(frames: List[Frame], job: Job, jobs: int) -> None:
@@ -286,8 +301,13 @@ def share_of(links: List[Link], offsets: Offsets) -> float:
     return sum(link.counts.get(offsets.cycles(link), 0) for link in links) / sum(link.pixels() for link in links)
 
 
-def tell(overlaps: List[List[Link]], frames: List[Frame], offsets: Offsets, agree: float) -> bool:
+def not_proved(chain: Chain) -> str:
+    return NOT_PROVED.format("guide" if chain.filter else "surface")
+
+
+def tell(overlaps: List[List[Link]], frames: List[Frame], offsets: Offsets, asked: Namespace) -> bool:
     """Tells how the overlaps agree; whether all do. What is judged are the pixels of an overlap, not each of its pieces."""
+    agree = asked.agree
     apart = [links for links in overlaps if share_of(links, offsets) < agree]
     off = [link for links in overlaps for link in links if link.share(offsets.cycles(link)) < agree]
     off.sort(key=lambda link: -link.pixels())
@@ -301,7 +321,7 @@ def tell(overlaps: List[List[Link]], frames: List[Frame], offsets: Offsets, agre
         lines.append(f"  and {len(off) - MAX_LINES} more")
     if offsets.sets() > 1:
         lines.append(f"{offsets.sets()} parts of the raster do not touch; whole cycles between them are arbitrary")
-    print("\n".join([*lines, NOT_PROVED]))
+    print("\n".join([*lines, not_proved(Chain(asked.filter))]))
     return not apart
 
 
@@ -315,7 +335,8 @@ def notes_of(asked: Namespace, settings: Settings, frames: List[Frame], agreed: 
     return {
         **unit_notes(asked),
         "VERDICT": with_proofs("each frame accepted, their joint not proved"),
-        "JOINT": NOT_PROVED,
+        "FILTER": Chain(asked.filter).told(settings.is_whole),
+        "JOINT": not_proved(Chain(asked.filter)),
         "OVERLAPS": f"all agree at {100 * asked.agree:g} %" if agreed else f"not all agree at {100 * asked.agree:g} %",
         "FRAMES": len(frames),
         **solved_note(settings),
@@ -384,6 +405,7 @@ def words() -> ArgumentParser:
         "--jobs", type=int, default=2, metavar="N", help="frames at once, less than 1 GB each (default: 2)"
     )
     add_ramp_words(found)
+    add_filter_words(found, "unwrap each frame after a windowed Fourier filter", FILTER)
     add_solver_words(found)
     add_whole_word(found, "each frame")
     add_reference_words(found, auto=False)
@@ -417,12 +439,12 @@ def main(asked: Namespace) -> int:
         ramp = ramp_of(scene, asked.ramp)
         if ramp is not None:
             print(told(ramp), flush=True)
-        do_frames(frames, Job(scene, settings, threading.Lock(), ramp), asked.jobs)
+        do_frames(frames, Job(scene, settings, threading.Lock(), ramp, Chain(asked.filter)), asked.jobs)
         pieces = pieces_in(frames)
         if not pieces:
             raise Trouble(f"{name_of(raster)} has no pixel that is open")
         overlaps = list(all_links(frames))
         offsets = offsets_of(pieces, [link for links in overlaps for link in links])
-        agreed = tell(overlaps, frames, offsets, asked.agree)
+        agreed = tell(overlaps, frames, offsets, asked)
         write(made, frames, offsets, scene, asked, {**notes_of(asked, settings, frames, agreed), **ramp_note(ramp)})
     return 0 if agreed else DISAGREES

@@ -4,7 +4,8 @@ It shows the verdict of `check` and what is to be said of the surface besides, t
 surface jumps, two profiles, the components, the coherence and the weights, the mask of each revision, each published surface
 with its costs, and the history as a time line. Masked pixels are white. Maps are read out where one points, and a double click
 shows a part of them. With --like the axes are in map units. Of a session that was screened, --unscreened shows which pixels were
-dropped, and why. With --wavelength surfaces are shown as displacements along the line of sight, in centimetres if no --unit is
+dropped, and why. Of a filtered session the surface is a guide; --unfiltered names the session before the filter, and the surface
+that is then shown is the one of the phase as given that is nearest to the guide. With --wavelength surfaces are shown as displacements along the line of sight, in centimetres if no --unit is
 named, by the program's command `displacement`; the reference that is named is marked.
 """
 import math
@@ -20,6 +21,9 @@ from .. import report_reader
 from ..components import components_of
 from ..concerns import Signs, judgement_of, signs_of, wrapped_differences
 from ..displacements import LENGTHS, Sight, displaced, wavelength_of
+from ..guide_maps import ByGuide, apart_map, filtered_map
+from ..guiding import FOURIER, GUIDE, NO_FILTER, Chain, add_narrow_word, add_unfiltered_word, at_mask, is_filtered
+from ..nearest import nearest
 from ..outputs import Outputs, add_force_word
 from ..pages import COMMON, HINT, end_of, footer, head_of, map_script, scaled, words_said
 from ..pictures import (
@@ -50,8 +54,8 @@ from ..program import check_report
 from ..ramps import told
 from ..references import Reference, add_reference_words, check_reference_words, level_of, reference_of
 from ..screening import ISLAND, LONELY, WEAK, Screened, Terms, screened_by, terms_in
-from ..trouble import DISAGREES, REFUSED_WORDS, Trouble
-from ..unwrapping import ACCEPTED, problem_of, read_report
+from ..trouble import DISAGREES, REFUSED_WORDS, Trouble, warn
+from ..unwrapping import ACCEPTED, Solved, problem_of, read_report, signs_of_session, solved_again
 from ..weights import weights_of
 
 UNITS = {"cycles": "cycles", "radians": "rad", "nanometres": "nm", "millimetres": "mm", "centimetres": "cm", "metres": "m"}
@@ -65,7 +69,7 @@ DROPPED: Dict[int, Colour] = {WEAK: (214, 96, 77), ISLAND: (146, 100, 190), LONE
 class Shown:
     """What a page is asked for: the radar's wavelength in metres, axes, the session before it was screened, what is 0, the unit, and
     whether the sign is turned; the coherence that the weights are made of, if it is known; the files that it is of, each with what it
-    is; and what was measured of the last surface, if that was done before."""
+    is; what was measured of the last surface, if that was done before; and what is shown of a surface by a guide."""
 
     wavelength: Optional[float] = None
     axes: Optional[Axes] = None
@@ -76,6 +80,7 @@ class Shown:
     coherence: Optional[np.ndarray] = None
     files: Sequence[Tuple[str, str]] = ()
     signs: Optional[Signs] = None
+    by_guide: Optional[ByGuide] = None
 
     def unit_or_default(self) -> str:
         """The unit: as asked, or centimetres if there is a wavelength."""
@@ -86,10 +91,10 @@ class Shown:
 
 @dataclass(frozen=True)
 class Picture:
-    """What the page is of: the session's planes, the report, its place, and what is asked for.
+    """What the page is of: the session's planes, the report with the surfaces that are shown, its place, and what is asked for.
 
     `signs` are what was measured of the last surface, `terms` those that the session was screened by, and `screening` is what that
-    did, if it is known.
+    did, if it is known. `costed` is the surface that the last costs are of: the last one, or its guide. `chain` says how it came about.
     """
 
     session: Session
@@ -97,8 +102,19 @@ class Picture:
     axes: Axes
     shown: Shown
     signs: Optional[Signs]
+    costed: Optional[report_reader.Surface] = None
+    chain: str = NO_FILTER
     terms: Optional[Terms] = None
     screening: Optional[Screened] = None
+
+    @property
+    def by_guide(self) -> Optional[ByGuide]:
+        return self.shown.by_guide
+
+    @property
+    def solved(self) -> Session:
+        """The planes that the costs are of: those of the filtered session by a guide."""
+        return self.by_guide.smooth if self.by_guide else self.session
 
     @property
     def unit(self) -> str:
@@ -146,12 +162,14 @@ def sign_words(picture: Picture) -> str:
     )
 
 
-def came_of(report: report_reader.Report, surface: report_reader.Surface) -> str:
+def came_of(picture: Picture, surface: report_reader.Surface) -> str:
     """Whose a surface is, and what it costs."""
-    if report.is_whole:
-        return f"The surface over the whole raster; it costs {surface.tile_cost}"
+    if picture.report.is_whole:
+        what = "The surface nearest to the guide, which" if picture.by_guide else "The surface over the whole raster; it"
+        return f"{what} costs {surface.tile_cost}"
+    whose = "its guide's tiles" if picture.by_guide else "tiles"
     return (
-        f"Revision {surface.revision}, published by analyst {surface.analyst}; tiles cost {surface.tile_cost}, seams "
+        f"Revision {surface.revision}, published by analyst {surface.analyst}; {whose} cost {surface.tile_cost}, seams "
         f"{surface.seam_cost}"
     )
 
@@ -162,7 +180,7 @@ def surface_map(picture: Picture, number: int) -> str:
     values, unit = shown_values(picture, surface)
     known = values[surface.opened()]
     low, high = (float(part) for part in np.percentile(known, COMMON)) if len(known) else (0.0, 0.0)
-    words = f"{came_of(picture.report, surface)}; {len(known)} pixels have a value"
+    words = f"{came_of(picture, surface)}; {len(known)} pixels have a value"
     if len(known):
         words += f", from {known.min():.3f} to {known.max():.3f} {unit}; the colours range over those"
         words += f" from {COMMON[0]} to {COMMON[1]} %"
@@ -250,25 +268,28 @@ def jumps_of(surface: report_reader.Surface, phase: np.ndarray, side: int, ramp:
     return Jumps(inside, across, *counts)
 
 
-def jump_map(picture: Picture) -> str:
-    """Where the last surface jumps."""
-    surface = picture.report.surfaces[-1]
-    jumps = jumps_of(surface, picture.session.phase, picture.report.side, picture.report.ramp)
+def jump_words(picture: Picture, jumps: Jumps) -> str:
+    """What a map of jumps shows."""
+    whose = "guide departs from the wrapped differences of the filtered phase" if picture.by_guide else "surface departs from the wrapped differences"
+    if picture.report.is_whole:
+        where, cheaper = f"{jumps.inner_edges} edges", "No surface"
+    else:
+        where = f"{jumps.inner_edges} edges inside tiles and {jumps.seam_edges} across seams"
+        cheaper = "Inside a tile no surface"
+    return f"The {whose} at {where}. {cheaper} departs at less cost; long lines are where to look"
+
+
+def jump_map(picture: Picture, surface: report_reader.Surface) -> str:
+    """Where the surface that the costs are of jumps."""
+    jumps = jumps_of(surface, picture.solved.phase, picture.report.side, picture.report.ramp)
     colours = np.where(thinned(surface.opened())[..., None], PLAIN, MASKED).astype(np.uint8)
     colours[any_thinned(jumps.inside)] = JUMP
     colours[any_thinned(jumps.across)] = SEAM
-    words = (
-        f"The surface departs from the wrapped differences at {jumps.inner_edges} edges inside tiles and {jumps.seam_edges} "
-        "across seams. Inside a tile no surface departs at less cost; long lines are where to look"
-    )
     keys = [(JUMP, "in a tile"), (SEAM, "at a seam"), (PLAIN, "none"), (MASKED, "masked")]
     if picture.report.is_whole:
-        words = (
-            f"The surface departs from the wrapped differences at {jumps.inner_edges} edges. No surface departs at less cost; "
-            "long lines are where to look"
-        )
         keys = [(JUMP, "departs"), *keys[2:]]
-    return map_of(colours, picture.axes, keys, "Where the surface jumps", words)
+    title = f"Where the {'guide' if picture.by_guide else 'surface'} jumps"
+    return map_of(colours, picture.axes, keys, title, jump_words(picture, jumps))
 
 
 def component_map(picture: Picture) -> str:
@@ -290,20 +311,22 @@ def component_map(picture: Picture) -> str:
 
 
 def weight_map(picture: Picture) -> str:
-    session = picture.session
+    session = picture.solved
     weights = np.where(session.opened, session.weights.astype(float), np.nan)
     known = weights[session.opened]
     low, high = (float(part) for part in np.percentile(known, COMMON)) if len(known) else (0.0, 1.0)
     if len(known) and known.min() == known.max():
         return f"<p>All open pixels have the weight {int(known[0])}.</p>"
     words = "The weights of the session, which are made of coherence"
+    if picture.by_guide:
+        words = "The weights of the guide, which are made of how well phase and filter agree, and of coherence, if there is one"
     colours, bar = coloured(scaled(thinned(weights), low, high), WARMER), Bar("weights", WARMER, low, high, "weight")
     return map_of(colours, picture.axes, bar, "Weights", words, values=Values(thinned(weights), ""))
 
 
 def coherence_map(picture: Picture, coherence: np.ndarray, is_linear: bool) -> str:
     """The coherence from 0 to 1. Of linear weights it stands for them too."""
-    session = picture.session
+    session = picture.solved
     values, known = np.where(session.opened, coherence, np.nan), session.weights[session.opened]
     words = "The coherence that the weights are made of"
     if is_linear and len(known):
@@ -315,7 +338,7 @@ def coherence_map(picture: Picture, coherence: np.ndarray, is_linear: bool) -> s
 
 def quality_maps(picture: Picture) -> List[str]:
     """The coherence and the weights, or one of both."""
-    coherence, session = picture.shown.coherence, picture.session
+    coherence, session = picture.shown.coherence, picture.solved
     if coherence is None:
         return [weight_map(picture)]
     is_linear = bool(np.array_equal(weights_of(coherence)[session.opened], session.weights[session.opened]))
@@ -323,8 +346,12 @@ def quality_maps(picture: Picture) -> List[str]:
 
 
 def detail_section(picture: Picture) -> str:
-    """Jumps, components and weights."""
-    maps = [jump_map(picture), component_map(picture)] if picture.report.surfaces else []
+    """Jumps, what a filter decides, components and weights."""
+    maps = [jump_map(picture, picture.costed)] if picture.costed else []
+    if picture.by_guide:
+        maps += [apart_map(picture.session.opened, picture.by_guide.apart, picture.axes)]
+        maps += [filtered_map(picture.by_guide.smooth, picture.axes)]
+    maps += [component_map(picture)] if picture.costed else []
     return f'<h2>Where to look</h2><div class="row">{"".join([*maps, *quality_maps(picture)])}</div>'
 
 
@@ -395,19 +422,28 @@ def earlier_section(picture: Picture) -> str:
     return f'<h2>Earlier surfaces</h2><div class="row small">{"".join(figures)}</div>{more}'
 
 
-def whole_cost_section(surface: report_reader.Surface, accepted: bool) -> str:
-    words = (
-        "A cost is weight times whole cycles, added over the edges at which the surface departs from the wrapped differences. "
-        "No surface that differs from the phase by whole cycles costs less."
-        if accepted
-        else "The text was not accepted, so this cost is what it says, and nothing is certified."
+A_COST = "A cost is weight times whole cycles, added over the edges at which {} departs from the wrapped differences{}. "
+
+
+def cost_words(picture: Picture, accepted: bool) -> str:
+    """What the costs say."""
+    if not accepted:
+        return "It was not accepted, so costs are what it says, and nothing is certified."
+    guide = ("the guide", " of the filtered phase") if picture.by_guide else ("the surface", "")
+    if picture.report.is_whole:
+        of = "the filtered phase" if picture.by_guide else "the phase"
+        return f"{A_COST.format(*guide)}No surface that differs from {of} by whole cycles costs less."
+    return (
+        f"{A_COST.format(*guide)}No congruent surface costs less than the tiles of a certified one do, so each is within its seam "
+        "cost of the least."
     )
-    return f"<h2>Cost</h2><p>The surface costs {surface.tile_cost}. {words}</p>"
 
 
-def cost_section(report: report_reader.Report, accepted: bool) -> str:
+def cost_section(picture: Picture, accepted: bool) -> str:
+    report, words = picture.report, cost_words(picture, accepted)
     if report.is_whole:
-        return whole_cost_section(report.surfaces[-1], accepted)
+        what = "guide" if picture.by_guide else "surface"
+        return f"<h2>Cost</h2><p>The {what} costs {report.surfaces[-1].tile_cost}. {words}</p>"
     rows = "".join(
         f"<tr><td>{number}</td><td>{surface.revision}</td><td>{surface.analyst}</td><td>{surface.opened().sum()}</td>"
         f"<td>{surface.tile_cost}</td><td>{surface.seam_cost}</td><td>{surface.tile_cost + surface.seam_cost}</td></tr>"
@@ -415,12 +451,6 @@ def cost_section(report: report_reader.Report, accepted: bool) -> str:
     )
     head = "".join(
         f"<th>{name}</th>" for name in ("surface", "revision", "analyst", "open pixels", "tiles", "seams", "in all")
-    )
-    words = (
-        "A cost is weight times whole cycles, added over the edges at which the surface departs from the wrapped differences. "
-        "No congruent surface costs less than the tiles of a certified one do, so each is within its seam cost of the least."
-        if accepted
-        else "The report was not accepted, so these costs are what it says, and nothing is certified."
     )
     return f'<h2>Costs</h2><div class="wide"><table><tr>{head}</tr>{rows}</table></div><p>{words}</p>'
 
@@ -501,7 +531,8 @@ def judgement(picture: Picture, verdict: str, accepted: bool) -> str:
     """What the checker says, and what is to be said besides: green if nothing is, amber where the surface may be wrong."""
     concerns = picture.signs.concerns() if picture.signs else ()
     colour = "refused" if not accepted else "amber" if any(concern.is_bad for concern in concerns) else "accepted"
-    said = judgement_of(concerns, accepted, picture.report.is_whole) if picture.signs else "no surface was published"
+    proved = judgement_of(concerns, accepted, picture.report.is_whole, picture.chain != NO_FILTER)
+    said = proved if picture.signs else "no surface was published"
     items = "".join(f'<li class="{"bad" if one.is_bad else "noted"}">{escape(one.text)}</li>' for one in concerns)
     listed = f'<ul class="concerns">{items}</ul>' if items else ""
     return f'<p><span class="verdict {colour}">check: {escape(verdict)}; {escape(said)}</span></p>{listed}'
@@ -518,7 +549,7 @@ def head_words(picture: Picture) -> str:
         head += f", steepness {report.steepness}"
     if picture.shown.wavelength is not None:
         head += f", wavelength {wavelength_of(picture.shown.wavelength) / LENGTHS['centimetres']:.9g} cm"
-    return head
+    return f"{head}. Filter: {picture.chain}"
 
 
 def page_of(name: str, picture: Picture, verdict: str, accepted: bool) -> str:
@@ -526,12 +557,12 @@ def page_of(name: str, picture: Picture, verdict: str, accepted: bool) -> str:
     return "\n".join(
         [
             head_of(name, script),
-            f"<h1>{escape(name)}</h1><p>{head_words(picture)}</p>{judgement(picture, verdict, accepted)}",
+            f"<h1>{escape(name)}</h1><p>{escape(head_words(picture))}</p>{judgement(picture, verdict, accepted)}",
             first_section(picture),
             profile_section(picture),
             detail_section(picture),
             screen_section(picture),
-            cost_section(report, accepted),
+            cost_section(picture, accepted),
             mask_section(picture),
             earlier_section(picture),
             history_section(report),
@@ -551,13 +582,33 @@ def page_text(name: str, session: bytes, report: bytes, verdict: str, shown: Sho
     if shown.unscreened is not None:
         if terms is None:
             raise Trouble("the session does not tell by which terms it was screened")
-        screening = screened_by(shown.unscreened, session, terms, "the session before")
+        after = with_mask_of(shown.unscreened, planes) if is_filtered(session) else session
+        screening = screened_by(shown.unscreened, after, terms, "the session before")
     axes = replace(shown.axes or pixel_axes(planes.phase.shape), shape=(found.height, found.width))
-    signs = None
-    if found.surfaces:
+    costed = found.surfaces[-1] if found.surfaces else None
+    signs = shown.signs or (signs_of_session(session, costed, problem_of(found)) if costed else None)
+    chain = shown.by_guide.chain if shown.by_guide else GUIDE if is_filtered(session) else NO_FILTER
+    if shown.by_guide:
+        found = with_values(found, shown.by_guide.values)
+    if costed:
         level_of(found.surfaces[-1].values, shown.reference.box)  # Trouble if the last surface has no value there
-        signs = shown.signs or signs_of(planes.phase, planes.weights, found.surfaces[-1], problem_of(found))
-    return page_of(name, Picture(planes, found, axes, shown, signs, terms, screening), verdict, verdict == ACCEPTED)
+    picture = Picture(planes, found, axes, shown, signs, costed, chain, terms, screening)
+    return page_of(name, picture, verdict, verdict == ACCEPTED)
+
+
+def with_mask_of(before: bytes, planes: Session) -> bytes:
+    """A session with the mask of others: of a filtered one the mask alone is that of a screen."""
+    return at_mask(before, planes.opened) if read_session(before).opened.shape == planes.opened.shape else before
+
+
+def with_values(report: report_reader.Report, values: Sequence[np.ndarray]) -> report_reader.Report:
+    """A report with other values of its surfaces, in their order."""
+    left = iter(values)
+    entries = [
+        replace(entry, surface=replace(entry.surface, values=next(left))) if entry.surface is not None else entry
+        for entry in report.entries
+    ]
+    return replace(report, entries=entries)
 
 
 def axes_of(like: Optional[str], report: report_reader.Report) -> Optional[Axes]:
@@ -596,32 +647,89 @@ def words() -> ArgumentParser:
     found.add_argument(
         "--unscreened", metavar="FILE", help="the session before it was screened, to show what that dropped, and why"
     )
+    add_unfiltered_word(found, "the session before the filter, to show the surface that is nearest to the guide")
+    add_narrow_word(found)
     found.add_argument("--title", help="of the page (default: the report's name)")
     add_force_word(found)
     found.add_argument("page", help="the HTML file to write")
     return found
 
 
-def main(asked: Namespace) -> int:
+def check_words(asked: Namespace) -> None:
+    """Trouble if arguments do not fit each other."""
     check_reference_words(asked)
     if asked.wavelength is not None:
         wavelength_of(asked.wavelength)
     if asked.unit in LENGTHS and asked.wavelength is None:
         raise Trouble(f"{asked.unit} want the --wavelength", REFUSED_WORDS)
-    with Outputs([asked.session, asked.report, asked.unscreened, asked.like], asked.force) as outputs:
+    if asked.narrow and asked.unfiltered is None:
+        raise Trouble("--narrow wants --unfiltered", REFUSED_WORDS)
+
+
+@dataclass(frozen=True)
+class Kept:
+    """The texts that a page is of, and the verdict on the report."""
+
+    session: bytes
+    report: bytes
+    verdict: str
+    found: report_reader.Report
+
+    @property
+    def surfaces(self) -> List[report_reader.Surface]:
+        return self.found.surfaces
+
+
+def guided_again(asked: Namespace, kept: Kept) -> Optional[Solved]:
+    """The surface by the guide that was kept, if the session before the filter is named."""
+    if asked.unfiltered is None:
+        return None
+    if not kept.surfaces:
+        raise Trouble(f"{asked.report}: no surface was published")
+    last = Solved(kept.report, kept.surfaces[-1], kept.verdict)
+    return solved_again(Path(asked.unfiltered).read_bytes(), kept.session, last, asked.narrow, asked.report)
+
+
+def shown_by_guide(asked: Namespace, kept: Kept, solved: Solved) -> Tuple[ByGuide, Signs]:
+    """What is shown of surfaces by guides, and what was measured of the last."""
+    planes, found = read_session(Path(asked.unfiltered).read_bytes()), solved.guided
+    assert found is not None
+    before = [nearest(planes.phase, surface.values, surface.opened()) for surface in kept.surfaces[:-1]]
+    chain = Chain(FOURIER, asked.narrow).told(kept.found.is_whole, kept.verdict == ACCEPTED)
+    signs = signs_of(planes.phase, planes.weights, solved.surface, problem_of(kept.found), solved.guide)
+    return ByGuide([*before, found.values], found.smooth, found.apart, chain), signs
+
+
+def shown_of(asked: Namespace, kept: Kept, solved: Optional[Solved]) -> Tuple[Shown, Reference]:
+    """What the page is asked for, and what is 0 on it."""
+    surface = solved.surface if solved else kept.surfaces[-1] if kept.surfaces else None
+    session = Path(asked.unfiltered).read_bytes() if asked.unfiltered else kept.session
+    reference = reference_of(asked, surface.values if surface else None, read_session(session).weights)
+    files = [("session", asked.session), ("report", asked.report), ("place", asked.like or "")]
+    files += [("session before the filter", asked.unfiltered or "")]
+    unscreened = Path(asked.unscreened).read_bytes() if asked.unscreened else None
+    by_guide, signs = shown_by_guide(asked, kept, solved) if solved else (None, None)
+    axes = axes_of(asked.like, kept.found)
+    words = (reference, asked.unit, asked.turn, None, files, signs, by_guide)
+    return Shown(asked.wavelength, axes, unscreened, *words), reference
+
+
+def main(asked: Namespace) -> int:
+    check_words(asked)
+    inputs = [asked.session, asked.report, asked.unscreened, asked.unfiltered, asked.like]
+    with Outputs(inputs, asked.force) as outputs:
         made = outputs.beside(asked.page)
         session, report = Path(asked.session).read_bytes(), Path(asked.report).read_bytes()
         found = read_report(report, asked.report)
         accepted, verdict = check_report(session, report, problem_of(found))
+        kept = Kept(session, report, verdict, found)
+        shown, reference = shown_of(asked, kept, guided_again(asked, kept))
         name = asked.title or Path(asked.report).name
-        unscreened = Path(asked.unscreened).read_bytes() if asked.unscreened else None
-        last = found.surfaces[-1].values if found.surfaces else None
-        reference = reference_of(asked, last, read_session(session).weights)
-        files = [("session", asked.session), ("report", asked.report), ("place", asked.like or "")]
-        axes = axes_of(asked.like, found)
-        shown = Shown(asked.wavelength, axes, unscreened, reference, asked.unit, asked.turn, None, files)
-        outputs.fill(made, page_text(name, session, report, verdict, shown).encode())
+        planes = Path(asked.unfiltered).read_bytes() if asked.unfiltered else session
+        outputs.fill(made, page_text(name, planes, report, verdict, shown).encode())
     print(f"{asked.page}: {verdict}")
+    if is_filtered(planes):
+        warn(f"{asked.page}: {GUIDE}; --unfiltered names the session before the filter")
     if asked.reference_auto:
         print(f"{asked.page}: reference: {reference.note}")
     return 0 if accepted else DISAGREES

@@ -8,7 +8,8 @@ first row of the planes, whichever way it points. Scales and offsets of bands ar
 --screen has the program's command `screen` mask what is noise. The session keeps the terms in a comment, and the mask is compared
 with one that is made here by the same rule. Edits of --script come after it, so `unmask` opens what it dropped.
 
---filter makes the session of the filtered phase, whose report `unwrap --filter --report` keeps.
+A session is of the phase as given if nothing else is said. --filter makes the one of the filtered phase, whose report
+`unwrap --report` keeps.
 
 An expected --ramp is told, as the words that the program wants, and kept in a comment of the session, where the other verbs find
 it. `auto` is the peak of the spectrum of fringe rates. It is known up to whole cycles a pixel alone, so what rises by 0.8 cycle
@@ -24,7 +25,7 @@ from ..ramps import add_ramp_words, told
 from ..rasters import Scene, add_scene_words, name_of, scene_of, size_of, whole
 from ..screening import Screened, add_screen_words, check_screen_words
 from ..trouble import Trouble
-from ..guiding import GUIDE, Chain, add_filter_word, filtered_session
+from ..guiding import GUIDE, add_filter_words, filtered_session
 from ..unwrapping import Input, Making, Planes, input_of
 
 
@@ -39,7 +40,7 @@ def words() -> ArgumentParser:
     add_scene_words(found)
     add_ramp_words(found)
     add_screen_words(found)
-    add_filter_word(found)
+    add_filter_words(found, "make the session of the phase after a windowed Fourier filter, whose surface is a guide", None)
     found.add_argument(
         "--script",
         metavar="FILE",
@@ -61,9 +62,11 @@ def read_scene(scene: Scene) -> Planes:
 
 
 def input_for(scene: Scene, asked: Namespace, script: bytes = b"end\n") -> Input:
-    """The session that the words ask for."""
+    """The session that the words ask for, before a filter."""
     masked_by = "--least-coherence" if scene.least > 0 else None
-    return input_of(read_scene(scene), Making(asked.phase, scene.looks, asked.ramp, asked.screen, script, masked_by))
+    has_coherence = scene.coherence is not None
+    making = Making(asked.phase, scene.looks, asked.ramp, asked.screen, script, masked_by, has_coherence)
+    return input_of(read_scene(scene), making)
 
 
 def screen_line(screening: Screened) -> str:
@@ -74,13 +77,11 @@ def screen_line(screening: Screened) -> str:
 def main(asked: Namespace) -> int:
     scene = scene_of(asked)
     check_screen_words(asked.screen, asked.unscreened, scene.coherence)
-    Chain(asked.filter).check(asked.looks is not None)
     with Outputs([*scene.files(), asked.script], asked.force) as outputs:
         made, unscreened = outputs.beside(asked.session), beside(outputs, asked.unscreened)
         script = Path(asked.script).read_bytes() if asked.script else b"end\n"
         found = input_for(scene, asked, script)
-        has_coherence = scene.coherence is not None
-        outputs.fill(made, filtered_session(found.session, has_coherence) if asked.filter else found.session)
+        outputs.fill(made, filtered_session(found.session, found.has_coherence) if asked.filter else found.session)
         if unscreened:
             outputs.fill(unscreened, found.before)
     height, width = found.opened.shape

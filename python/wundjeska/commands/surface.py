@@ -1,7 +1,8 @@
 """Makes a GeoTIFF of a surface: of what `insar_unwrap grid` or `whole` wrote, or of a report, whose last surface is taken.
 
 With --session the report is checked first, and a report that `check` refuses gives no GeoTIFF. Without it the GeoTIFF says
-that nothing certifies the surface. It has the pixels, the place and the system of --like, NODATA at masked pixels, and one of
+that nothing certifies the surface. Of a filtered session the surface is a guide; with --unfiltered, the session before the
+filter, what is written is the surface of the phase as given that is nearest to it. It has the pixels, the place and the system of --like, NODATA at masked pixels, and one of
 these units:
 
   cycles        one cycle is half a wavelength of range
@@ -29,16 +30,16 @@ import numpy as np
 from .. import report_reader
 from ..displacements import read_grid
 from ..concerns import signs_of
-from ..guiding import GUIDE, is_filtered
+from ..guiding import FOURIER, GUIDE, Chain, add_narrow_word, add_unfiltered_word, is_filtered
 from ..outputs import Outputs, add_force_word
-from ..planes import Session, read_session
+from ..planes import read_session
 from ..product import NOTHING_CERTIFIES, add_unit_words, check_unit_words, write_product
 from ..program import check_report
 from ..rasters import files_of, name_of, open_raster, size_of
-from ..references import add_reference_words, reference_of
+from ..references import Reference, add_reference_words, reference_of
 from ..trouble import DISAGREES, REFUSED_WORDS, Trouble, warn
-from ..unwrapping import problem_of, read_report
-from .unwrap import cost_notes, ramp_note, signs_note, steep_note
+from ..unwrapping import ACCEPTED, Solved, problem_of, read_report, signs_of_session, solved_again
+from .unwrap import cost_notes, filter_notes, ramp_note, signs_note, steep_note
 
 
 def words() -> ArgumentParser:
@@ -52,6 +53,8 @@ def words() -> ArgumentParser:
     )
     found.add_argument("surface", help="a grid, a report or a whole text; - is standard input")
     found.add_argument("--session", metavar="FILE", help="the session that the report is of, to check it")
+    add_unfiltered_word(found, "the session before the filter, to write the surface that is nearest to the guide")
+    add_narrow_word(found)
     found.add_argument(
         "--like", metavar="FILE", required=True, help="the raster of phases that the session was made of"
     )
@@ -109,12 +112,48 @@ def notes_of(report: report_reader.Report) -> Dict[str, Any]:
     return {**cost_notes(problem.side, last), "RULE": report.rule, **revision, **steep_note(report.steepness), **ramp}
 
 
-def concerns_note(session: Session, found: Found) -> Dict[str, Any]:
-    """What is told of signs that a surface of this session may be wrong."""
-    if found.report is None:
-        return {}
-    surface, problem = found.report.surfaces[-1], problem_of(found.report)
-    return signs_note(signs_of(session.phase, session.weights, surface, problem))
+def with_signs(found: Found, session: bytes) -> Found:
+    """The same with what is told of signs that a surface of this session may be wrong, and that it is a guide if it is one."""
+    if found.report is not None:
+        signs = signs_of_session(session, found.report.surfaces[-1], problem_of(found.report))
+        found.notes.update(signs_note(signs))
+    if is_filtered(session):
+        found.notes["FILTER"] = GUIDE
+    return found
+
+
+def by_guide(found: Found, text: bytes, session: bytes, asked: Namespace) -> Found:
+    """The surface of the session before the filter by the guide that was found."""
+    report, before = found.report, Path(asked.unfiltered).read_bytes()
+    if report is None:
+        raise Trouble(f"{asked.surface} is a grid, and --unfiltered wants a report", REFUSED_WORDS)
+    kept = Solved(text, report.surfaces[-1], str(found.notes["VERDICT"]))
+    solved, planes = solved_again(before, session, kept, asked.narrow, asked.surface), read_session(before)
+    signs = signs_of(planes.phase, planes.weights, solved.surface, problem_of(report), solved.guide)
+    told = Chain(FOURIER, asked.narrow).told(report.is_whole, kept.verdict == ACCEPTED)
+    notes = {**found.notes, **signs_note(signs), **filter_notes(told, solved.undecided)}
+    return Found(solved.surface.values, notes, report)
+
+
+def found_by(asked: Namespace) -> Found:
+    """What is written, with all that is told of it."""
+    text = read_text(asked.surface)
+    found = found_in(text, asked.surface, asked.session)
+    if asked.session is None:
+        return found
+    session = Path(asked.session).read_bytes()
+    return by_guide(found, text, session, asked) if asked.unfiltered else with_signs(found, session)
+
+
+def check_words(asked: Namespace) -> None:
+    """Trouble if arguments do not fit each other."""
+    check_unit_words(asked)
+    if asked.reference_auto and not asked.session:
+        raise Trouble("--reference auto wants --session, whose weights are made of coherence", REFUSED_WORDS)
+    if asked.unfiltered and not asked.session:
+        raise Trouble("--unfiltered wants --session, which was filtered", REFUSED_WORDS)
+    if asked.narrow and not asked.unfiltered:
+        raise Trouble("--narrow wants --unfiltered", REFUSED_WORDS)
 
 
 def shape_of(raster: Any) -> Tuple[int, int]:
@@ -123,30 +162,29 @@ def shape_of(raster: Any) -> Tuple[int, int]:
 
 
 def main(asked: Namespace) -> int:
-    check_unit_words(asked)
-    if asked.reference_auto and not asked.session:
-        raise Trouble("--reference auto wants --session, whose weights are made of coherence", REFUSED_WORDS)
+    check_words(asked)
     like = open_raster(asked.like)
-    inputs = [None if asked.surface == "-" else asked.surface, asked.session, *files_of(like)]
+    inputs = [None if asked.surface == "-" else asked.surface, asked.session, asked.unfiltered, *files_of(like)]
     with Outputs(inputs, asked.force) as outputs:
         made = outputs.raster(asked.geotiff)
-        found = found_in(read_text(asked.surface), asked.surface, asked.session)
+        found = found_by(asked)
         if found.values.shape != shape_of(like):
             height, width = found.values.shape
             raise Trouble(
                 f"the surface has {width} by {height} pixels, {name_of(like)} {like.RasterXSize} by {like.RasterYSize}"
             )
-        text = Path(asked.session).read_bytes() if asked.session else b""
-        session = read_session(text) if asked.session else None
-        if session is not None:
-            found.notes.update(concerns_note(session, found))
-        if is_filtered(text):
-            found.notes["FILTER"] = GUIDE
-            warn(f"{asked.geotiff}: {GUIDE}")
-        reference = reference_of(asked, found.values, session.weights if session is not None else None)
+        session = asked.unfiltered or asked.session
+        weights = read_session(Path(session).read_bytes()).weights if session else None
+        reference = reference_of(asked, found.values, weights)
         write_product(made, like, found.values, asked, reference, found.notes)
+    tell(asked, found, reference)
+    return 0
+
+
+def tell(asked: Namespace, found: Found, reference: Reference) -> None:
     if asked.reference_auto:
         print(f"{asked.geotiff}: reference: {reference.note}")
     if found.notes["VERDICT"] == NOTHING_CERTIFIES:
         warn(f"{asked.geotiff}: {NOTHING_CERTIFIES}; a report is checked by --session")
-    return 0
+    if found.notes.get("FILTER") == GUIDE:
+        warn(f"{asked.geotiff}: {GUIDE}; --unfiltered names the session before the filter")

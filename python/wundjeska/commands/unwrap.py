@@ -9,10 +9,13 @@ raster, of the connected components, numbered from 1 by falling size.
 Beside `accepted` concerns are told: signs that the surface may be wrong by whole cycles though none costs less, as many
 residues, dear seams, long lines along which it jumps, or a phase that is 0 in many places. They change no status.
 
-With --filter a surface of the filtered phase is a guide, which the checker judges; --session and --report keep what that is of.
-What is written is the surface of the phase as given that lies nearest to the guide. It is computed here, and not proved.
+A filter comes first if nothing else is said: the surface of the filtered phase is a guide, which the checker judges, and what is
+written is the surface of the phase as given that lies nearest to it. --session and --report keep what the guide is of,
+--unfiltered the session before. --undecided tells where no filter makes other cycles and nobody knows which are right.
+With --no-filter what is written is least of all itself.
 """
 from argparse import ArgumentParser, BooleanOptionalAction, Namespace, RawDescriptionHelpFormatter
+from dataclasses import dataclass
 from pathlib import Path
 from typing import Any, Dict, List, Optional, Sequence
 
@@ -21,17 +24,19 @@ import numpy as np
 from .. import report_reader
 from ..components import components_of
 from ..concerns import Concern, Signs, judgement_of, note_of, percent, signs_of
-from ..guiding import Chain, add_filter_word, add_narrow_word
+from ..guiding import FOURIER, Chain, add_filter_words, add_narrow_word, add_unfiltered_word
 from ..outputs import Outputs, add_force_word, beside, raster_beside
 from ..planes import Ramp, read_session
-from ..product import NOTHING_CERTIFIES, add_unit_words, check_unit_words, write_components, write_product
+from ..product import NOTHING_CERTIFIES, add_unit_words, check_unit_words, write_components, write_product, write_undecided
 from ..program import show
-from ..ramps import add_ramp_words, told
+from ..ramps import add_ramp_words
+from ..ramps import told as ramp_told
 from ..rasters import Scene, add_scene_words, axes_of, scene_of
 from ..references import Reference, add_reference_words, reference_of
 from ..screening import add_screen_words, check_screen_words
 from ..trouble import REFUSED_WORDS, Trouble, warn
-from ..unwrapping import ACCEPTED, MAX_STEEP, RULES, SIDE, WHOLE, Input, Settings, Solved, side_for, solve_by
+from ..undecided import Undecided, count_of
+from ..unwrapping import ACCEPTED, FILTER, MAX_STEEP, RULES, SIDE, WHOLE, Input, Settings, Solved, side_for, solve_by
 from .session import input_for, screen_line
 
 
@@ -77,7 +82,12 @@ def words() -> ArgumentParser:
     add_scene_words(found)
     add_ramp_words(found)
     add_screen_words(found)
-    add_filter_word(found)
+    add_filter_words(
+        found,
+        "unwrap the phase after a windowed Fourier filter, and take the whole cycles that bring the phase as given nearest to that "
+        "surface",
+        FILTER,
+    )
     add_narrow_word(found)
     add_solver_words(found)
     add_whole_word(found, "the whole raster")
@@ -93,11 +103,17 @@ def words() -> ArgumentParser:
         metavar="N",
         help="components of fewer pixels get the number 0 (default: 1)",
     )
+    found.add_argument(
+        "--undecided",
+        metavar="FILE",
+        help="write the parts, numbered from 1 by size, to which no filter gives other cycles, and nobody knows which are right",
+    )
     found.add_argument("--page", metavar="FILE", help="write a page to look at, an HTML file")
-    found.add_argument("--session", metavar="FILE", help="keep the session, the program's input")
+    found.add_argument("--session", metavar="FILE", help="keep the session that the report is of, the program's input")
     found.add_argument(
         "--report", metavar="FILE", help="keep the report or the whole text, which `check` accepts after the session"
     )
+    add_unfiltered_word(found, "keep the session before the filter, by which `page` and `surface` make the surface of a guide")
     found.add_argument(
         "--no-check", action="store_true", help="do not have the report checked, and say so in the GeoTIFF"
     )
@@ -109,15 +125,16 @@ def words() -> ArgumentParser:
 def chain_of(asked: Namespace) -> Chain:
     """The chain that is asked for. Trouble if its words do not fit each other."""
     found = Chain(asked.filter, asked.narrow)
-    found.check(asked.looks is not None)
-    if asked.filter and asked.page:
-        raise Trouble("--page draws the surface of a report, which with --filter is the guide alone", REFUSED_WORDS)
+    found.check()
+    for option, name in (("--undecided", asked.undecided), ("--unfiltered", asked.unfiltered)):
+        if name is not None and found.filter is None:
+            raise Trouble(f"{option} wants a filter: --filter {FOURIER}", REFUSED_WORDS)
     return found
 
 
-def filter_note(chain: Chain, settings: Settings, solved: Solved) -> Dict[str, Any]:
-    """What is told of a filter."""
-    return {"FILTER": chain.told(settings.is_whole, solved.verdict == ACCEPTED)} if chain.filter else {}
+def filter_notes(told: str, undecided: Optional[Undecided]) -> Dict[str, Any]:
+    """What is told of a chain."""
+    return {"FILTER": told, **({} if undecided is None else {"UNDECIDED": count_of(undecided)})}
 
 
 def notes_of(solved: Solved, settings: Settings, scene: Scene, components: np.ndarray) -> Dict[str, Any]:
@@ -163,21 +180,33 @@ def signs_note(signs: Signs) -> Dict[str, Any]:
 
 
 def weights_note(scene: Scene, is_guided: bool) -> str:
-    if is_guided:
-        agreed = "the squared agreement of phase and filter"
-        return agreed if scene.coherence is None else f"linear in coherence, times {agreed}"
+    found = "linear in coherence" if scene.looks is None else f"by the variance of {scene.looks:g} looks"
+    agreed = "the squared agreement of phase and filter"
     if scene.coherence is None:
-        return "equal"
-    return "linear in coherence" if scene.looks is None else f"by the variance of {scene.looks:g} looks"
+        return agreed if is_guided else "equal"
+    return f"{found}, times {agreed}" if is_guided else found
 
 
-def page_of(asked: Namespace, made: Input, solved: Solved, scene: Scene, signs: Signs, reference: Reference) -> bytes:
+@dataclass(frozen=True)
+class Told:
+    """What is told of a surface: what was measured of it, what is 0, how it came about, and how many components there are."""
+
+    signs: Signs
+    reference: Reference
+    chain: str
+    count: int
+
+
+def page_of(asked: Namespace, made: Input, solved: Solved, scene: Scene, told: Told) -> bytes:
+    from ..guide_maps import by_guide_of
     from .page import Shown, page_text
 
     unscreened, axes = made.before if made.screening else None, axes_of(scene.phase.raster)
     files = [("phase", asked.phase), ("coherence", asked.coherence or ""), ("mask", asked.mask or "")]
-    coherence = scene.coherence_shown()
-    shown = Shown(asked.wavelength, axes, unscreened, reference, asked.unit, asked.turn, coherence, files, signs)
+    shown = Shown(
+        asked.wavelength, axes, unscreened, told.reference, asked.unit, asked.turn, scene.coherence_shown(), files, told.signs,
+        by_guide_of(solved.guided, told.chain) if solved.guided else None,
+    )
     return page_text(Path(asked.geotiff).name, made.session, solved.report, solved.verdict, shown).encode()
 
 
@@ -196,35 +225,49 @@ def main(asked: Namespace) -> int:
     scene = scene_of(asked)
     check_screen_words(asked.screen, asked.unscreened, scene.coherence)
     chain = chain_of(asked)
-    like = scene.phase.raster
     with Outputs(scene.files(), asked.force) as outputs:
-        place, numbered = outputs.raster(asked.geotiff), raster_beside(outputs, asked.components)
-        names = (asked.page, asked.session, asked.report, asked.unscreened)
-        page, kept_session, kept_report, unscreened = (beside(outputs, name) for name in names)
+        place = outputs.raster(asked.geotiff)
+        numbered, doubted = (raster_beside(outputs, name) for name in (asked.components, asked.undecided))
+        names = (asked.page, asked.session, asked.report, asked.unscreened, asked.unfiltered)
+        page, *kept = (beside(outputs, name) for name in names)
         made = input_for(scene, asked)
-        solved = solve_by(chain, made, settings, not asked.no_check, asked.phase, scene.coherence is not None)
-        components = components_of(made.opened, asked.least_component)
-        phase, problem = read_session(made.session).phase, settings.problem(made.ramp)
-        signs = signs_of(phase, made.weights, solved.surface, problem, solved.smooth, solved.apart)
-        notes = {**notes_of(solved, settings, scene, components), **ramp_note(made.ramp), **screen_note(made)}
-        filtering = filter_note(chain, settings, solved)
-        notes.update({**signs_note(signs), **filtering})
-        reference = reference_of(asked, solved.surface.values, made.weights)
-        write_product(place, like, solved.surface.values, asked, reference, notes)
-        if numbered:
-            write_components(numbered, like, components, asked.least_component)
+        solved = solve_by(chain, made, settings, not asked.no_check, asked.phase)
+        told = write_surface(asked, place, scene, settings, chain, made, solved)
+        write_labels(asked, scene, made, solved, numbered, doubted)
         if page:
-            outputs.fill(page, page_of(asked, made, solved, scene, signs, reference))
+            outputs.fill(page, page_of(asked, made, solved, scene, told))
         session = solved.guided.session if solved.guided else made.session
-        for kept, text in ((kept_session, session), (kept_report, solved.report), (unscreened, made.before)):
-            if kept:
-                outputs.fill(kept, text)
-    tell(asked, settings, solved, made, signs, int(components.max(initial=0)))
-    for line in filtering.values():
-        print(f"{asked.geotiff}: filter {line}")
-    if asked.reference_auto:
-        print(f"{asked.geotiff}: reference: {reference.note}")
+        for path, text in zip(kept, (session, solved.report, made.before, made.session)):
+            if path:
+                outputs.fill(path, text)
+    tell(asked, settings, solved, made, told)
     return 0
+
+
+def write_surface(
+    asked: Namespace, place: Path, scene: Scene, settings: Settings, chain: Chain, made: Input, solved: Solved
+) -> Told:
+    """Writes the GeoTIFF; what is told of it."""
+    components = components_of(made.opened, asked.least_component)
+    phase, problem = read_session(made.session).phase, settings.problem(made.ramp)
+    signs = signs_of(phase, made.weights, solved.surface, problem, solved.guide)
+    came = chain.told(settings.is_whole, solved.verdict == ACCEPTED)
+    notes = {**notes_of(solved, settings, scene, components), **ramp_note(made.ramp), **screen_note(made)}
+    notes.update({**signs_note(signs), **filter_notes(came, solved.undecided)})
+    reference = reference_of(asked, solved.surface.values, made.weights)
+    write_product(place, scene.phase.raster, solved.surface.values, asked, reference, notes)
+    return Told(signs, reference, came, int(components.max(initial=0)))
+
+
+def write_labels(
+    asked: Namespace, scene: Scene, made: Input, solved: Solved, numbered: Optional[Path], doubted: Optional[Path]
+) -> None:
+    """Writes the rasters of components and of what is undecided, if they are asked for."""
+    if numbered:
+        least = asked.least_component
+        write_components(numbered, scene.phase.raster, components_of(made.opened, least), least)
+    if doubted and solved.undecided:
+        write_undecided(doubted, scene.phase.raster, solved.undecided)
 
 
 def costs_line(settings: Settings, solved: Solved) -> str:
@@ -241,22 +284,28 @@ def judgement_lines(concerns: Sequence[Concern], settings: Settings, solved: Sol
     return [proved, *(f"{'concern' if concern.is_bad else 'note'}: {concern}" for concern in concerns)]
 
 
-def verdict_line(solved: Solved, made: Input, signs: Signs, count: int) -> str:
+def verdict_line(solved: Solved, made: Input, told: Told) -> str:
     """The verdict, how many concerns stand beside it, and what was unwrapped."""
     height, width = made.opened.shape
-    bad = sum(concern.is_bad for concern in signs.concerns())
+    bad = sum(concern.is_bad for concern in told.signs.concerns())
     beside_it = f" with {bad} concern{'' if bad == 1 else 's'}" if bad else ""
-    pixels = f"{width} by {height} pixels, {made.opened.sum()} open in {count} component{'' if count == 1 else 's'}"
-    return f"{solved.verdict}{beside_it}, {pixels}, {percent(signs.residues)} residues"
+    plural = "" if told.count == 1 else "s"
+    pixels = f"{width} by {height} pixels, {made.opened.sum()} open in {told.count} component{plural}"
+    left = "" if told.signs.left is None else f" and {percent(told.signs.left)} after the filter"
+    return f"{solved.verdict}{beside_it}, {pixels}, {percent(told.signs.residues)} residues{left}"
 
 
-def tell(asked: Namespace, settings: Settings, solved: Solved, made: Input, signs: Signs, count: int) -> None:
+def tell(asked: Namespace, settings: Settings, solved: Solved, made: Input, told: Told) -> None:
     if solved.verdict != ACCEPTED:
         warn(f"{asked.geotiff}: {NOTHING_CERTIFIES}")
-    print(f"{asked.geotiff}: {verdict_line(solved, made, signs, count)}, {costs_line(settings, solved)}")
-    for line in judgement_lines(signs.concerns(), settings, solved):
+    undecided = f", {count_of(solved.undecided)}" if solved.undecided else ""
+    print(f"{asked.geotiff}: {verdict_line(solved, made, told)}, {costs_line(settings, solved)}{undecided}")
+    for line in judgement_lines(told.signs.concerns(), settings, solved):
         print(f"{asked.geotiff}: {line}")
+    print(f"{asked.geotiff}: filter {told.chain}")
     if made.screening is not None:
         print(f"{asked.geotiff}: {screen_line(made.screening)}")
     if made.ramp is not None:
-        print(f"{asked.geotiff}: {told(made.ramp)}")
+        print(f"{asked.geotiff}: {ramp_told(made.ramp)}")
+    if asked.reference_auto:
+        print(f"{asked.geotiff}: reference: {told.reference.note}")

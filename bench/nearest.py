@@ -128,7 +128,8 @@ def try_the_rows() -> None:
     line = b"P2 4 1 65535 0 20000 40000 60000\nend\n"
     assert wanted(["nearest"], line + text_of([[32768, -12768, 100000, -100000]])).out == text_of([[0, -45536, 105536, -71072]])
     pixel, masked = b"P2 1 1 65535 0\nend\n", b"P2 1 1 65535 7 P2 1 1 1 1 P2 1 1 1 0\nend\n"
-    assert wanted(["nearest"], masked + text_of([[5]])) == wanted(["nearest"], masked + text_of([[NODATA]])) == (0, text_of([[NODATA]]), b"")
+    for value in (5, NODATA):
+        assert wanted(["nearest"], masked + text_of([[value]])) == (0, text_of([[NODATA]]), b"")
     assert wanted(["nearest"], pixel + text_of([[NODATA]])) == (3, b"", b"input fault 25 missing 0 0\n")
     assert wanted(["nearest"], pixel + text_of([[GREATEST]])) == (3, b"", b"input fault 23 wide 0 0\n")
     assert wanted(["nearest"], pixel + text_of([[NODATA + 1]])) == (3, b"", b"input fault 23 wide 0 0\n")

@@ -1,5 +1,6 @@
 """Tests surfaces by a guide: of sessions, of `wundjeska.unwrap` and of the command. It needs the program, and GDAL for files."""
 import math
+import sys
 import unittest
 import warnings
 from dataclasses import dataclass
@@ -7,7 +8,7 @@ from pathlib import Path
 from typing import Any, Dict, List, Tuple
 
 import numpy as np
-from helpers import HERE, InFolder, command, raster
+from helpers import HERE, TOP, InFolder, command, raster
 from osgeo import gdal
 
 import wundjeska
@@ -18,6 +19,9 @@ from wundjeska.planes import CYCLE, phases_of, read_session, session_of, with_co
 from wundjeska.report_reader import NODATA, Surface
 from wundjeska.trouble import Trouble
 from wundjeska.unwrapping import Settings, Solved, solve
+
+sys.path.append(str(TOP / "recipes/kit"))
+from truth import scene_of  # type: ignore[import]  # noqa: E402
 
 SHAPE = (64, 80)
 masked: Any = np.ma.array
@@ -192,13 +196,17 @@ class Arrays(unittest.TestCase):
             self.assertTrue((off[land] % CYCLE == 0).all() and (found.values[~land] == NODATA).all(), shape)
 
     def test_what_is_undecided(self) -> None:
-        """A break by 0.7 cycle that ends inside, in a coherence that knows nothing of it: two cuts of like length."""
-        found = wundjeska.unwrap(*broken())
-        labels, f = found.undecided or (np.zeros(0), np.zeros(0))
-        self.assertEqual((labels.shape, labels.dtype, f.dtype), (SHAPE, np.uint32, np.float64))
-        self.assertEqual(len(f), int(labels.max()))
-        self.assertTrue((f < 0.75).all())
-        self.assertEqual(any(concern.kind == "undecided" for concern in found.concerns), len(f) > 0)
+        """A sharp break in noise of oversampled images: the filter takes a part to be a cycle higher, and cannot know."""
+        scene = scene_of("fault-4-medium-wide-9211", 320)
+        found = wundjeska.unwrap(scene.product, scene.estimated)
+        assert found.undecided is not None
+        labels, f = found.undecided
+        self.assertEqual((labels.shape, labels.dtype, f.dtype, len(f), int(labels.max())), ((320, 320), np.uint32, np.float64, 1, 1))
+        self.assertAlmostEqual(float(f[0]), 0.30, delta=0.03)
+        self.assertTrue(3400 < int(labels.sum()) < 3900)
+        self.assertTrue(labels[105:135, 270:].mean() > 0.95 and not labels[:80].any() and not labels[:, :240].any())
+        (concern,) = (concern for concern in found.concerns if concern.kind == "undecided")
+        self.assertTrue(concern.is_bad)
 
     def test_fewer_pixels_are_wrong(self) -> None:
         plain, guided_by = (

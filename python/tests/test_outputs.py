@@ -54,6 +54,8 @@ class NoRasterOfAUserIsReplaced(Written):
         for words in (
             (PHASE, mine),
             (PHASE, "--components", mine, made),
+            (PHASE, "--undecided", mine, made),
+            (PHASE, "--unfiltered", mine, made),
             (PHASE, "--session", mine, made),
             (PHASE, "--report", mine, made),
             (PHASE, "--page", mine, made),

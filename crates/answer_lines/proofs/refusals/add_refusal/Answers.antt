@@ -11,3 +11,6 @@ returns-in-ReportLine g c = rw c.in-ReportLine.is c.add_around.ensures
 
 pub returns-in-AfterGrids : goal.returns-in-AfterGrids
 returns-in-AfterGrids g c = rw c.in-AfterGrids.is c.add_around-in-AfterGrids.ensures
+
+pub returns-in-Missing : goal.returns-in-Missing
+returns-in-Missing g c = rw c.in-Missing.is c.add_pair-in-Missing.ensures

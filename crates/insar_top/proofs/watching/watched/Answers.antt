@@ -1,10 +1,10 @@
-use Rattle.std.proofs.Common.{◌≡◌, ◌∙◌, ◌++◌, List, ap, arith, drop, length, subst, sym, take}
-use Rattle.std.specs.Prelude.{All}
+use Rattle.std.proofs.Common.{◌≡◌, ◌∙◌, ◌++◌, ℕ, List, ap, arith, drop, length, subst, sym, take}
+use Rattle.std.specs.Prelude.{All, IfOk}
 use Rattle.board_desk.specs.Passes.{HaveAnalysts, PassView}
 use Rattle.tile_workers.specs.Watching.{CuratorView, HasRoom}
 use Rattle.reader_desk.specs.Fronts.{ShelfView}
 use Rattle.insar_top.specs.Desks.{HaveRun}
-use Rattle.insar_top.specs.Watch.{IsReady}
+use Rattle.insar_top.specs.Watch.{IsReady, IsWatchOf, all_seen}
 use Rattle.insar_top.proofs.BoardLemmas.{all_written, have_run, later_from}
 use Rattle.insar_top.proofs.WatchLemmas.{watched_ready}
 use Rattle.insar_top.proofs.watching.watched.Goals as goal
@@ -49,3 +49,12 @@ told-requires-clause-watchers g c =
     let writer : c.into_parts-pass.result.1.shelf ≡ c.args.writer.shelf = ap (λ (v : CuratorView). v.shelf.shelf) c.into_parts-pass.ensures ∙ c.run_watched-run.ensures.curated.shelf.same ∙ ap (λ (v : ShelfView). v.shelf) c.curator_of-curator.ensures.shelf in
     subst (All (IsReady c.into_parts-pass.result.1.shelf)) (sym (all_written after before c.args.watchers.len (omega (arith, sized)) long))
     (watched_ready c.args.writer.shelf c.into_parts-pass.result.1.shelf c.args.watching.reads writer c.as_mut_slice-3.result.now before after value long c.requires.watchers c.run_watched-run.ensures.watched)
+
+pub returns-in-Ok : goal.returns-in-Ok
+returns-in-Ok g c =
+    let before = c.args.watchers.items in
+    let after = c.run_watched-run.new.watchers in
+    let long : length after ≡ length before = c.run_watched-run.auto.watchers ∙ ap length c.as_mut_slice-3.ensures.value in
+    let sized = c.args.watchers.ok.0 in
+    let same : length (take c.args.watchers.len (after ++ drop (length after) before)) ≡ length before = ap length (all_written after before c.args.watchers.len (omega (arith, sized)) long) ∙ long in
+    subst (λ (n : ℕ). IfOk c.told.result (λ made. IsWatchOf c.args.desk.session n made.0.items (all_seen made.0.items made.1.items))) same c.told.ensures

@@ -1,7 +1,7 @@
 use Rattle.std.proofs.Common.{◌≡◌, ◌∙◌, ℕ, zero, suc, ◌<◌, [], ◌∷◌, ap, arith, get_or, length, subst, sym}
 use Rattle.std.specs.List.{All}
 use Rattle.board_desk.specs.Passes.{IsPassOf, PassView}
-use Rattle.insar_top.proofs.BoardLemmas.{all_at, all_written, later_from, later_own}
+use Rattle.board_tests.proofs.RunLemmas.{all_written, later_own}
 use Rattle.board_tests.proofs.running.run_out.Goals as goal
 
 -- what holds of two passes holds of all of a list of them
@@ -20,5 +20,5 @@ close-requires g c =
     let ys = c.run_scripts.new.passes in
     let own : All (IsPassOf c.args.desk) xs = subst (All (IsPassOf c.args.desk)) (sym c.in_ok-passes.ensures.items) (of_both (IsPassOf c.args.desk) c.args.one c.args.two c.requires.one c.requires.two) in
     let long : length ys ≡ length xs = c.run_scripts.auto.passes ∙ ap length c.as_mut_slice.ensures.value in
-    let later = later_from c.as_mut_slice.result.now ys xs c.as_mut_slice.ensures.value c.run_scripts.ensures.later in
-    all_at (IsPassOf c.args.desk) _ ys (all_written ys xs c.in_ok-passes.passes.len (omega (arith, c.in_ok-passes.passes.ok.0)) long) (later_own c.args.desk xs ys long later own)
+    subst (All (IsPassOf c.args.desk)) (sym (all_written ys xs c.in_ok-passes.passes.len (omega (arith, c.in_ok-passes.passes.ok.0)) long))
+    (later_own c.args.desk c.as_mut_slice.result.now xs ys c.as_mut_slice.ensures.value long c.run_scripts.ensures.later own)

@@ -6,7 +6,7 @@ use Rattle.raster_model.specs.Scene.{raster_of}
 use Rattle.wrapped_gradient.specs.Corrections.{greatest_of}
 use Rattle.raster_model.specs.Tiles.{width_of, height_of}
 use Rattle.surface_integration.proofs.RiseLemmas.{rise_widened}
-use Rattle.surface_integration.proofs.RowLemmas.{pushed_value, wide_room, within_room, fit_64, sum_fits, sum_plain, sum_near, row_begins, begun_last, row_more, more_last, row_whole}
+use Rattle.surface_integration.proofs.RowLemmas.{pushed_value, wide_room, steps_fit, fit_64, sum_fits, sum_plain, sum_near, row_begins, begun_last, row_more, more_last, row_whole}
 use Rattle.surface_integration.proofs.rows.push_row.Goals as goal
 
 pub overflow_add-here : goal.overflow_add-here
@@ -60,7 +60,7 @@ pub of-requires : goal.of-requires
 of-requires g c =
     let v = c.args.gradients.now.window in
     let plain = to_z-of_z w64 c.args.first c.ranges.first in
-    rw plain (within_room c.args.first (c.args.y - v.y0) (width_of v) (height_of v) (greatest_of c.args.corrections.now + 1) g.N.CycleNumber.limit c.requires.near (omega (arith, c.requires.row)) c.requires.room)
+    rw plain (steps_fit c.args.first (c.args.y - v.y0) (width_of v) (height_of v) (greatest_of c.args.corrections.now + 1) g.N.CycleNumber.limit c.requires.near (omega (arith, c.requires.row)) c.requires.room)
 
 pub of-requires-in-loop-x : goal.of-requires-in-loop-x
 of-requires-in-loop-x g c =
@@ -73,4 +73,4 @@ of-requires-in-loop-x g c =
     let m = greatest_of c.args.corrections.now + 1 in
     let room : n + 1 ≤ width_of v + height_of v = omega (arith, end, c.requires.row) in
     let near = sum_near w64 17592186044416 fit_64 here d n (width_of v) (height_of v) m c.loop-x.invariant.near wide.1 room (wide_room c.args.scene.now c.args.gradients.now c.args.corrections.now c.requires.gradients c.requires.small) in
-    within_room (to_z w64 (of_z w64 (here +ℤ to_z w64 (of_z w64 d)))) (n + 1) (width_of v) (height_of v) m g.N.CycleNumber.limit near room c.requires.room
+    steps_fit (to_z w64 (of_z w64 (here +ℤ to_z w64 (of_z w64 d)))) (n + 1) (width_of v) (height_of v) m g.N.CycleNumber.limit near room c.requires.room

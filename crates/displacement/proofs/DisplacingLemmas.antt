@@ -169,13 +169,13 @@ displacement_is s g w h zs has e f a = record {
 pub cause_is : (s : Sight) (g : GridOf) (fault : SightFault) → IsTrue (has_value g s.x s.y) → HasBlockCause s g fault → HasCause s g fault
 cause_is s g Reference has c = absurd c
 cause_is s g (Wide x y) has c = (has, c)
-cause_is s g Memory has c = tt
+cause_is s g Memory has c = absurd c
 
 -- and the one that a first wide block asks for
-pub fault_known : (s : Sight) (g : GridOf) (fault : SightFault) (x y : ℕ) → HasBlockCause s g fault → IsFirstWideBlock s g x y → (fault ≡ Wide x y) ⊎ (fault ≡ Memory)
+pub fault_known : (s : Sight) (g : GridOf) (fault : SightFault) (x y : ℕ) → HasBlockCause s g fault → IsFirstWideBlock s g x y → fault ≡ Wide x y
 fault_known s g Reference x y c w = absurd c
-fault_known s g (Wide a b) x y c w = let e = first_is_one s g a b x y c w in inl (ap (λ (k : ℕ). Wide k b) e.0 ∙ ap (λ (k : ℕ). Wide x k) e.1)
-fault_known s g Memory x y c w = inr refl
+fault_known s g (Wide a b) x y c w = let e = first_is_one s g a b x y c w in ap (λ (k : ℕ). Wide k b) e.0 ∙ ap (λ (k : ℕ). Wide x k) e.1
+fault_known s g Memory x y c w = absurd c
 
 pub no_wide : (s : Sight) (g : GridOf) (w h : ℕ) (zs : List ℤ) (x y : ℕ) → w ≡ blocks_of s.block g.width → h ≡ blocks_of s.block g.height → AreBlockValues s g w (w * h) zs → IsFirstWideBlock s g x y → ⊥
 no_wide s g w h zs x y e f a wide =

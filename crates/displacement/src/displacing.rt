@@ -29,7 +29,8 @@ pub fn displace(alloc: Global, grid: &Grid, sight: Sight) -> Result<Grid, SightF
     };
     let width = grid.width.div_ceil(sight.block);
     let height = grid.height.div_ceil(sight.block);
-    let values = block_values(alloc, grid, sight, reference, width, height)?;
+    let room = vec![in alloc; NO_DATA; width as usize * height as usize]?;
+    let values = block_values(grid, sight, reference, width, height, room)?;
     Ok(Grid {
         width,
         height,
@@ -64,25 +65,25 @@ fn block_value(grid: &Grid, sight: Sight, reference: i64, column: u32, row: u32)
     total.displacement(reference, sight.wavelength)
 }
 
-/// What stands for each block, in row order.
+/// What stands for each block, in row order, in the room for it. It takes no memory, so it is refused only for a wide block.
 fn block_values(
-    alloc: Global,
     grid: &Grid,
     sight: Sight,
     reference: i64,
     width: u32,
     height: u32,
+    mut values: Vec<i64>,
 ) -> Result<Vec<i64>, SightFault>
     requires wave { IsWavelength sight.wavelength }
     requires blocks { IsBlockSide sight.block }
     requires reference { reference ≡ (grid_of grid.now).values sight.x sight.y }
     requires width { width ≡ blocks_of sight.block grid.now.width }
     requires height { height ≡ blocks_of sight.block grid.now.height }
+    requires room { vec_len values ≡ width * height }
     ensures full { IfOk result (λ values. vec_len values ≡ width * height) }
     ensures values { IfOk result (λ values. AreBlockValues sight (grid_of grid.now) width (width * height) values.items) }
     ensures refused { IfErr result (HasBlockCause sight (grid_of grid.now)) }
 {
-    let mut values = vec![in alloc; NO_DATA; width as usize * height as usize]?;
     for place in 0..width * height {
         let (x, y) = (place % width, place / width);
         let Some(value) = block_value(grid, sight, reference, x, y) else {

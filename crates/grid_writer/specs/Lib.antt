@@ -4,6 +4,7 @@ pub mod Grids
 pub mod Laws
 pub mod ManyGrids
 pub mod ManyParts
+pub mod Putting
 pub mod Reading
 pub mod Shown
 pub mod Values

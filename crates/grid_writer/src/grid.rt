@@ -1,10 +1,11 @@
 ghost use Rattle.grid_writer.specs.Grid.{columns_line, frame_lines, rows_line};
-ghost use Rattle.grid_writer.specs.Grids.{IsGrid, grid_of, text_of_grid};
-ghost use Rattle.grid_writer.specs.Shown.{shown_grid, text_of};
+ghost use Rattle.grid_writer.specs.Grids.{grid_of};
+ghost use Rattle.grid_writer.specs.Putting.{AddsGrid, PutsGrid};
+ghost use Rattle.grid_writer.specs.Shown.{shown_grid};
 ghost use Rattle.raster_model.specs.Limits.{is_raster_size};
 ghost use Rattle.std.specs.Prelude.{◌++◌, ◌∷◌, [], IsTrue, decimal};
 ghost use Rattle.surface_snapshots.specs.Views.{parts_of};
-ghost use Rattle.text_lines.specs.Adding.{Adds, Puts};
+ghost use Rattle.text_lines.specs.Adding.{Adds};
 ghost use Rattle.text_lines.specs.Views.{view_of};
 
 use crate::row_lines::RowLines;
@@ -42,8 +43,7 @@ fn add_head<K: Sink, R: Rows>(text: &mut TextWriter<K>, rows: &R)
 /// Adds the grid of rows of values to a text, as [`write_grid`] writes it. After a fault the rows are read, and nothing
 /// more is written.
 pub fn add_grid<K: Sink, R: Rows>(text: &mut TextWriter<K>, rows: &R)
-    ensures added { Adds (view_of K.held K.faults text.old) (view_of K.held K.faults text.new) (text_of_grid (R.grid rows.now)) }
-    ensures ranges { IsGrid (R.grid rows.now) }
+    ensures { AddsGrid (view_of K.held K.faults text.old) (view_of K.held K.faults text.new) (R.grid rows.now) }
 {
     add_head(text, rows);
     add_all(text, &RowLines { rows });
@@ -56,8 +56,7 @@ pub fn add_grid_side_by_side<T: Threads + Sync, K: Sink, R: Rows + Sync>(
     text: &mut TextWriter<K>,
     rows: &R,
 )
-    ensures added { Adds (view_of K.held K.faults text.old) (view_of K.held K.faults text.new) (text_of_grid (R.grid rows.now)) }
-    ensures ranges { IsGrid (R.grid rows.now) }
+    ensures { AddsGrid (view_of K.held K.faults text.old) (view_of K.held K.faults text.new) (R.grid rows.now) }
 {
     add_head(text, rows);
     add_side_by_side(rt, pages, text, &RowLines { rows });
@@ -67,13 +66,9 @@ pub fn add_grid_side_by_side<T: Threads + Sync, K: Sink, R: Rows + Sync>(
 /// the top, each of its values separated by a space. A masked pixel has the NODATA value. It takes no memory. After
 /// a fault the sink has a part of the text. (Esri ASCII raster, in one spelling.)
 pub fn write_grid<K: Sink>(snapshot: &Snapshot, sink: &mut K) -> Result<(), WriteFault>
-    ensures put { Puts (K.held sink.old) (K.faults sink.old) (K.held sink.new) (K.faults sink.new) (text_of (parts_of snapshot.now)) result }
-    // Each value fits 64 bits, so the text is one that `read_grid` takes.
-    ensures ranges { IsGrid (shown_grid (parts_of snapshot.now)) }
+    ensures { PutsGrid (K.held sink.old) (K.faults sink.old) (K.held sink.new) (K.faults sink.new) (shown_grid (parts_of snapshot.now)) result }
 {
-    let mut text = TextWriter::new(sink);
-    add_grid(&mut text, snapshot);
-    text.finish()
+    write_rows(snapshot, sink)
 }
 
 /// Writes the grid of a snapshot's surface as [`write_grid`] does. Several threads make its rows, if there are pages for them.
@@ -83,8 +78,7 @@ pub fn write_grid_side_by_side<T: Threads + Sync, K: Sink>(
     snapshot: &Snapshot,
     sink: &mut K,
 ) -> Result<(), WriteFault>
-    ensures put { Puts (K.held sink.old) (K.faults sink.old) (K.held sink.new) (K.faults sink.new) (text_of (parts_of snapshot.now)) result }
-    ensures ranges { IsGrid (shown_grid (parts_of snapshot.now)) }
+    ensures { PutsGrid (K.held sink.old) (K.faults sink.old) (K.held sink.new) (K.faults sink.new) (shown_grid (parts_of snapshot.now)) result }
 {
     let mut text = TextWriter::new(sink);
     add_grid_side_by_side(rt, pages, &mut text, snapshot);
@@ -94,10 +88,16 @@ pub fn write_grid_side_by_side<T: Threads + Sync, K: Sink>(
 /// Writes a grid that is held, as [`write_grid`] writes a surface. It takes no memory. After a fault the sink has a part of
 /// the text.
 pub fn write_values<K: Sink>(grid: &Grid, sink: &mut K) -> Result<(), WriteFault>
-    ensures put { Puts (K.held sink.old) (K.faults sink.old) (K.held sink.new) (K.faults sink.new) (text_of_grid (grid_of grid.now)) result }
-    ensures ranges { IsGrid (grid_of grid.now) }
+    ensures { PutsGrid (K.held sink.old) (K.faults sink.old) (K.held sink.new) (K.faults sink.new) (grid_of grid.now) result }
+{
+    write_rows(grid, sink)
+}
+
+/// Writes the grid of rows of values by the caller's thread.
+fn write_rows<K: Sink, R: Rows>(rows: &R, sink: &mut K) -> Result<(), WriteFault>
+    ensures { PutsGrid (K.held sink.old) (K.faults sink.old) (K.held sink.new) (K.faults sink.new) (R.grid rows.now) result }
 {
     let mut text = TextWriter::new(sink);
-    add_grid(&mut text, grid);
+    add_grid(&mut text, rows);
     text.finish()
 }

@@ -16,7 +16,7 @@ use Rattle.loop_closure.specs.declared.fault.LoopFault.{LoopFault}
 use Rattle.loop_closure.specs.declared.fault.LoopFault.TheVariants.{Wide, Memory}
 use Rattle.loop_closure.specs.Closure.{AreClosures, AreCycles, AreCyclesIn, IsFirstWideLoop, IsHalfCycle, IsWideLoop, are_there, closure_of, key_of, keys_of, loop_sum}
 use Rattle.loop_closure.specs.Laws.{CyclesClose, OnlyCyclesClose}
-use Rattle.loop_closure.specs.Parts.{AreClosed, HasLoopCause, HaveCycles, IsFirstWidePlace, IsWideIn, IsWideTold, at_place}
+use Rattle.loop_closure.specs.Parts.{AreClosed, HasLoopCause, HasWideCause, HaveCycles, IsFirstWidePlace, IsWideIn, IsWideTold, at_place}
 
 -- ---- values
 
@@ -147,3 +147,8 @@ one_first a b c x y u v p q = same_pixel u v x y (λ e. p.1 u v e q.0) (λ e. q.
 pub fault_told : (a b c : GridOf) (fault : LoopFault) → HasLoopCause a b c fault → (x y : ℕ) → IsFirstWideLoop a b c x y → IsWideTold x y (Err fault)
 fault_told a b c (Wide u v) cause x y p = one_first a b c x y u v p cause
 fault_told a b c Memory cause x y p = tt
+
+-- a refusal for want of room aside, the cause is the whole's
+pub wide_cause : (a b c : GridOf) (fault : LoopFault) → HasWideCause a b c fault → HasLoopCause a b c fault
+wide_cause a b c (Wide x y) cause = cause
+wide_cause a b c Memory cause = absurd cause

@@ -27,6 +27,11 @@ IsFirstWidePlace a b c i = (i < length a) × (IsWideIn a b c i × ((k : ℕ) →
 abbrev pub HaveCycles : List ℤ → ℕ → List ℤ → Type 0
 HaveCycles closures n cycles = (i : ℕ) → i < n → AreCyclesIn (at_place closures i) (at_place cycles i)
 
+-- why there are no closures once there is the room for them
+abbrev pub HasWideCause : GridOf → GridOf → GridOf → LoopFault → Type 0
+HasWideCause a b c (Wide x y) = IsFirstWideLoop a b c x y
+HasWideCause a b c Memory = ⊥
+
 -- why loops were not closed
 abbrev pub HasLoopCause : GridOf → GridOf → GridOf → LoopFault → Type 0
 HasLoopCause a b c (Wide x y) = IsFirstWideLoop a b c x y

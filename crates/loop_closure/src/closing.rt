@@ -1,7 +1,7 @@
 ghost use Rattle.grid_writer.specs.Grids.{grid_of};
 ghost use Rattle.loop_closure.specs.Closure.{AreClosures, AreCycles, AreMisclosed, IsFirstWideLoop};
-ghost use Rattle.loop_closure.specs.Parts.{HasLoopCause, IsWideTold};
-ghost use Rattle.std.specs.Prelude.{◌≡◌, ℕ, IfErr, IfOk};
+ghost use Rattle.loop_closure.specs.Parts.{HasLoopCause, HasWideCause, IsWideTold};
+ghost use Rattle.std.specs.Prelude.{◌≡◌, ℕ, IfErr, IfOk, vec_len};
 
 use crate::closures::put_closures;
 use crate::cycles::{keys, put_cycles};
@@ -23,18 +23,20 @@ pub fn close_loop(alloc: Global, a: &Grid, b: &Grid, c: &Grid) -> Result<Loops, 
     ensures refused { IfErr result (HasLoopCause (grid_of a.now) (grid_of b.now) (grid_of c.now)) }
     ensures exact { (x y : ℕ) → IsFirstWideLoop (grid_of a.now) (grid_of b.now) (grid_of c.now) x y → IsWideTold x y result }
 {
-    let closures = closures_of(alloc, a, b, c)?;
+    let room = vec![in alloc; NO_DATA; a.values.len()]?;
+    let closures = closures_of(a, b, c, room)?;
     Ok(loops_of(alloc, closures)?)
 }
 
-/// The closures of three grids of one size.
-fn closures_of(alloc: Global, a: &Grid, b: &Grid, c: &Grid) -> Result<Grid, LoopFault>
+/// The closures of three grids of one size, in the room for them. It takes no memory, so it is refused only for a closure that is
+/// too wide.
+fn closures_of(a: &Grid, b: &Grid, c: &Grid, mut values: Vec<i64>) -> Result<Grid, LoopFault>
     requires second { (b.now.width ≡ a.now.width) × (b.now.height ≡ a.now.height) }
     requires third { (c.now.width ≡ a.now.width) × (c.now.height ≡ a.now.height) }
+    requires room { vec_len values ≡ vec_len a.now.values }
     ensures closed { IfOk result (λ closures. AreClosures (grid_of a.now) (grid_of b.now) (grid_of c.now) (grid_of closures)) }
-    ensures refused { IfErr result (HasLoopCause (grid_of a.now) (grid_of b.now) (grid_of c.now)) }
+    ensures refused { IfErr result (HasWideCause (grid_of a.now) (grid_of b.now) (grid_of c.now)) }
 {
-    let mut values = vec![in alloc; NO_DATA; a.values.len()]?;
     match put_closures(&a.values, &b.values, &c.values, &mut values) {
         None => Ok(Grid {
             width: a.width,

@@ -1,7 +1,8 @@
 -- The cycles of a whole window depart by the corrections, and stay small.
 use Rattle.std.proofs.Common.{◌≡◌, ◌∙◌, ℕ, zero, suc, ◌+◌, ◌-◌, ◌*◌, ◌<◌, ◌≤◌, subst, arith, List, Bool, true, false}
-use Rattle.std.specs.Prelude.{ℤ, neg_ℤ, ◌+ℤ◌, ◌-ℤ◌, unsigned_abs}
+use Rattle.std.specs.Prelude.{ℤ, neg_ℤ, ◌+ℤ◌, ◌-ℤ◌, map, unsigned_abs}
 use Rattle.std.proofs.lemmas.Int.{ints}
+use Rattle.std.proofs.lemmas.List.{map-id}
 use Rattle.raster_model.specs.declared.edge.Edge.{Edge}
 use Rattle.raster_model.specs.declared.scene.Scene.{Scene}
 use Rattle.raster_model.specs.declared.tiling.Window.{Window}
@@ -16,7 +17,7 @@ use Rattle.raster_model.specs.Tiles.{height_of}
 use Rattle.wrapped_gradient.specs.Windows.{IsEdgeOf}
 use Rattle.wrapped_gradient.proofs.CorrectionLemmas.{correction_within}
 use Rattle.surface_integration.specs.Cycles.{DepartBy, StaySmall, cycles_at}
-use Rattle.surface_integration.specs.Rows.{rise_of}
+use Rattle.surface_integration.specs.Rows.{AreIntegrated, rise_of}
 use Rattle.surface_integration.proofs.Filled.{IsFilled}
 use Rattle.surface_integration.proofs.RiseLemmas.{rise_bounded, turns_of_small}
 use Rattle.surface_integration.proofs.RowLemmas.{bound_next}
@@ -99,3 +100,7 @@ module _ (s : Scene) (v : Window) (k : Corrections) (zs : List ℤ) (across : v.
 
   pub they_stay_small : StaySmall v (cycles_at v zs) (greatest_of k)
   they_stay_small x y i = row_small (x - v.x0) x y (omega (arith, i.0)) i.1 i.2 i.3
+
+-- numbers that are kept as they are
+pub kept_plainly : (r : Raster) (v : Window) (k : Corrections) (zs : List ℤ) → AreIntegrated r v k (map (λ (z : ℤ). z) zs) → AreIntegrated r v k zs
+kept_plainly r v k zs are = subst (AreIntegrated r v k) (map-id zs) are

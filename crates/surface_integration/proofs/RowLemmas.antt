@@ -1,12 +1,12 @@
 -- A row of cycles, pixel by pixel.
-use Rattle.std.proofs.Common.{◌≡◌, ◌∙◌, ℕ, ◌+◌, ◌-◌, ◌*◌, ◌^◌, ◌<◌, ◌≤◌, sym, ap, subst, refl, arith, to_z, of_z, w32, w64, List, [], ◌∷◌, ◌++◌, length, below_more}
+use Rattle.std.proofs.Common.{◌≡◌, ◌∙◌, ℕ, ◌+◌, ◌-◌, ◌*◌, ◌^◌, ◌<◌, ◌≤◌, sym, ap, subst, refl, arith, to_z, of_z, w64, List, [], ◌∷◌, ◌++◌, length, below_more}
 use mir.Syntax.{Width}
-use Rattle.std.specs.Prelude.{ℤ, pos, ◌+ℤ◌, unsigned_abs, slice_index_or, FitsSigned}
+use Rattle.std.specs.Prelude.{ℤ, pos, ◌+ℤ◌, map, unsigned_abs, slice_index_or, FitsSigned}
 use Rattle.std.proofs.lemmas.Int.{ints, to_z-of_z}
 use Rattle.std.proofs.lemmas.Nat.{mul-le}
 use Rattle.std.proofs.Math.Nat.{mul-le-mul_left}
 use Rattle.std.proofs.Math.Seq.{get_or-append_seam}
-use Rattle.std.proofs.lemmas.List.{get_or_append_left, length-append}
+use Rattle.std.proofs.lemmas.List.{get_or_append_left, length-append, map-append}
 use Rattle.raster_model.specs.declared.scene.Scene.{Scene}
 use Rattle.raster_model.specs.declared.tiling.Window.{Window}
 use Rattle.raster_model.specs.Raster.{Raster}
@@ -54,15 +54,12 @@ bound_next z d n m p q =
     omega (arith, s, p, q)
 
 -- so many steps stay within a limit
-steps_fit : (z : ℤ) (n w h m limit : ℕ) → unsigned_abs z ≤ n * m → n ≤ w + h → (w + h) * m ≤ limit → unsigned_abs z ≤ limit
+pub steps_fit : (z : ℤ) (n w h m limit : ℕ) → unsigned_abs z ≤ n * m → n ≤ w + h → (w + h) * m ≤ limit → unsigned_abs z ≤ limit
 steps_fit z n w h m limit p l q = omega (arith, p, q, mul-le-mul_left m l)
 
 -- numbers up to a limit fit so many bits
 abbrev pub AreFitting : Width → ℕ → Type 0
 AreFitting bits limit = (z : ℤ) → unsigned_abs z ≤ limit → FitsSigned bits z
-
-pub fit_32 : AreFitting w32 2147483647
-fit_32 z l = omega (arith, ints, l)
 
 pub fit_64 : AreFitting w64 17592186044416
 fit_64 z l = omega (arith, ints, l)
@@ -127,3 +124,7 @@ module _ (r : Raster) (v : Window) (k : Corrections) (y : ℕ) where
   pub row_whole : (n n' : ℕ) (first first' : ℤ) (old new : List ℤ) → n ≡ n' → first ≡ first' → IsRowAdded r v k y n first old new → IsRowAdded r v k y n' first' old new
   row_whole n n' first first' old new e f h =
       subst (λ (m : ℕ). IsRowAdded r v k y m first' old new) e (subst (λ (u : ℤ). IsRowAdded r v k y n u old new) f h)
+
+-- a number that was pushed, as it is read
+pub pushed_value : {N : Type 0} (value : N → ℤ) (old new : List N) (n : N) (z : ℤ) → new ≡ old ++ n ∷ [] → value n ≡ z → map value new ≡ map value old ++ z ∷ []
+pushed_value value old new n z e f = ap (map value) e ∙ map-append value old (n ∷ []) ∙ ap (λ (u : ℤ). map value old ++ u ∷ []) f

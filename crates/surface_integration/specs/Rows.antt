@@ -1,11 +1,13 @@
--- Rows of cycles as they are listed: words of helpers, which no clause of another module cites.
-use Rattle.std.specs.Prelude.{◌≡◌, ℕ, ◌+◌, ◌<◌, ℤ, pos, ◌+ℤ◌, ◌-ℤ◌, List, length, slice_index_or}
+-- Rows of cycles as they are listed: words of helpers, which no public clause cites.
+use Rattle.std.specs.Prelude.{◌≡◌, ℕ, ◌+◌, ◌*◌, ◌<◌, ℤ, pos, ◌+ℤ◌, ◌-ℤ◌, List, length, slice_index_or}
 use Rattle.raster_model.specs.declared.edge.Edge.{Edge}
 use Rattle.raster_model.specs.declared.tiling.Window.{Window}
 use Rattle.raster_model.specs.Raster.{Raster, turns_of}
 use Rattle.raster_model.specs.Sums.{right_edge}
 use Rattle.wrapped_gradient.specs.declared.corrections.Corrections.{Corrections}
-use Rattle.wrapped_gradient.specs.Corrections.{correction_at}
+use Rattle.raster_model.specs.Tiles.{width_of, height_of}
+use Rattle.wrapped_gradient.specs.Corrections.{correction_at, greatest_of}
+use Rattle.surface_integration.specs.Cycles.{DepartBy, StaySmall, cycles_at}
 
 -- the rise of the cycles along an edge whose departure is the correction: it makes up for the cycles that the wrapped difference leaves out
 abbrev pub rise_of : Raster → Window → Corrections → Edge → ℤ
@@ -17,3 +19,10 @@ pub record IsRowAdded (r : Raster) (v : Window) (k : Corrections) (y n : ℕ) (f
   pub kept : (i : ℕ) → i < length old → slice_index_or new i (pos 0) ≡ slice_index_or old i (pos 0)
   pub begins : slice_index_or new (length old) (pos 0) ≡ first
   pub rises : (i : ℕ) → i < n → slice_index_or new (length old + (i + 1)) (pos 0) ≡ slice_index_or new (length old + i) (pos 0) +ℤ rise_of r v k (right_edge (v.x0 + i) y)
+
+-- the cycles of a whole window, from 0 at its first pixel
+pub record AreIntegrated (r : Raster) (v : Window) (k : Corrections) (zs : List ℤ) : Type 0 where
+  pub count : length zs ≡ width_of v * height_of v
+  pub first : cycles_at v zs v.x0 v.y0 ≡ pos 0
+  pub departs : DepartBy r v (cycles_at v zs) k
+  pub bounded : StaySmall v (cycles_at v zs) (greatest_of k)

@@ -1,24 +1,12 @@
 ghost use Rattle.raster_model.specs.Scene.{raster_of};
-ghost use Rattle.std.specs.Prelude.{
-  ◌≡◌,
-  ◌+◌,
-  ◌-◌,
-  ◌*◌,
-  ◌≤◌,
-  IfOk,
-  OnOk,
-  pos,
-  unsigned_abs,
-  vec_len,
-};
-ghost use Rattle.surface_integration.specs.Cycles.{AreSmall, DepartBy, StaySmall, cycles_at};
-ghost use Rattle.surface_integration.specs.Rows.{IsRowAdded};
+ghost use Rattle.raster_model.specs.Tiles.{width_of, height_of};
+ghost use Rattle.std.specs.Prelude.{◌≡◌, ◌*◌, ◌<◌, IfOk, pos, vec_len};
+ghost use Rattle.surface_integration.specs.Cycles.{AreSmall, DepartBy, LieWithin, StaySmall, cycles_at};
 ghost use Rattle.wrapped_gradient.specs.Corrections.{CancelResidues, HasShapeOf, greatest_of};
 ghost use Rattle.wrapped_gradient.specs.Gradients.{AreGradientsOf};
-ghost use Rattle.raster_model.specs.Tiles.{width_of, height_of};
 
-use crate::rises::{rise_down, rise_right};
-use raster_model::Scene;
+use crate::rows::integrated;
+use raster_model::{MAX_REACHED_CYCLES, Scene};
 use std::alloc::{AllocError, Global};
 use wrapped_gradient::{Corrections, Gradients};
 
@@ -41,40 +29,26 @@ pub fn integrate(
     ensures departs { IfOk result (λ cycles. DepartBy (raster_of scene.now) gradients.now.window (cycles_at gradients.now.window cycles.items) corrections.now) }
     ensures bounded { IfOk result (λ cycles. StaySmall gradients.now.window (cycles_at gradients.now.window cycles.items) (greatest_of corrections.now)) }
 {
-    let window = gradients.window();
-    let pixels = window.width() as usize * window.height() as usize;
-    let mut cycles = Vec::with_capacity(alloc, pixels)?;
-    let mut first = 0;
-    push_row(scene, gradients, corrections, window.y0, first, &mut cycles)?;
-    for y in window.y0..window.y1 {
-        first += rise_down(scene, gradients, corrections, window.x0, y);
-        push_row(scene, gradients, corrections, y + 1, first, &mut cycles)?;
-    }
-    Ok(cycles)
+    integrated(alloc, scene, gradients, corrections)
 }
 
-/// Appends the cycles of row `y`, which begins with `first`.
-fn push_row(
+/// Whole cycles above the phase as `integrate` gives them, at 64 bits: over windows up to a whole raster, and for any
+/// corrections that leave room for one more cycle at 32 bits. None is above 2^44 on either side of 0. (Costantini 1998.)
+pub fn integrate_wide(
+    alloc: Global,
     scene: &Scene,
     gradients: &Gradients,
     corrections: &Corrections,
-    y: u32,
-    first: i32,
-    cycles: &mut Vec<i32>,
-) -> Result<(), AllocError>
+) -> Result<Vec<i64>, AllocError>
     requires gradients { AreGradientsOf scene.now gradients.now }
     requires shape { HasShapeOf gradients.now.window corrections.now }
-    requires small { AreSmall gradients.now.window corrections.now }
-    requires row { (gradients.now.window.y0 ≤ y) × (y ≤ gradients.now.window.y1) }
-    requires near { unsigned_abs first ≤ (y - gradients.now.window.y0) * (greatest_of corrections.now + 1) }
-    ensures { OnOk result (IsRowAdded (raster_of scene.now) gradients.now.window corrections.now y (gradients.now.window.x1 - gradients.now.window.x0) first cycles.old.items cycles.new.items) }
+    requires cancel { CancelResidues (raster_of scene.now) gradients.now.window corrections.now }
+    requires small { greatest_of corrections.now < 2147483647 }
+    ensures count { IfOk result (λ cycles. vec_len cycles ≡ width_of gradients.now.window * height_of gradients.now.window) }
+    ensures first { IfOk result (λ cycles. cycles_at gradients.now.window cycles.items gradients.now.window.x0 gradients.now.window.y0 ≡ pos 0) }
+    ensures departs { IfOk result (λ cycles. DepartBy (raster_of scene.now) gradients.now.window (cycles_at gradients.now.window cycles.items) corrections.now) }
+    ensures bounded { IfOk result (λ cycles. StaySmall gradients.now.window (cycles_at gradients.now.window cycles.items) (greatest_of corrections.now)) }
+    ensures within { IfOk result (λ cycles. LieWithin gradients.now.window (cycles_at gradients.now.window cycles.items) (MAX_REACHED_CYCLES)) }
 {
-    let window = gradients.window();
-    let mut here = first;
-    cycles.push(here)?;
-    for x in window.x0..window.x1 {
-        here += rise_right(scene, gradients, corrections, x, y);
-        cycles.push(here)?;
-    }
-    Ok(())
+    integrated(alloc, scene, gradients, corrections)
 }

@@ -3,8 +3,8 @@
 #![tactic(auto)]
 
 mod cycles;
+mod number;
 mod rises;
-mod wide_cycles;
+mod rows;
 
-pub use crate::cycles::integrate;
-pub use crate::wide_cycles::integrate_wide;
+pub use crate::cycles::{integrate, integrate_wide};

@@ -35,11 +35,14 @@ impl Sink for Page {
 }
 
 impl Page {
-    ghost use Rattle.std.specs.Prelude.{◌<◌, true};
+    ghost use Rattle.std.specs.Prelude.{◌≡◌, ◌<◌, IfOk, true};
     ghost use Rattle.text_pages.specs.Dealing.{HasPassages, written_on};
+    ghost use Rattle.text_pages.specs.Rooms.{room_of};
 
     /// An empty page for so many bytes.
-    pub(crate) fn new(alloc: Global, room: u32) -> Result<Page, AllocError> {
+    pub(crate) fn new(alloc: Global, room: u32) -> Result<Page, AllocError>
+        ensures { IfOk result (λ page. room_of page ≡ room) }
+    {
         Ok(Page {
             bytes: Vec::with_capacity(alloc, room as usize)?,
             faults: 0,

@@ -1,9 +1,9 @@
-ghost use Rattle.std.specs.Prelude.{◌≡◌, ◌+◌, ◌-◌, ◌≤◌, ◌<◌, ℕ, length};
+ghost use Rattle.std.specs.Prelude.{◌≡◌, ◌+◌, ◌-◌, ◌≤◌, ◌<◌, ℕ, IfOk, length};
 ghost use Rattle.text_lines.specs.Adding.{Adds};
-ghost use Rattle.text_lines.specs.Text.{texts_below};
 ghost use Rattle.text_lines.specs.Views.{view_of};
 ghost use Rattle.text_pages.specs.Dealing.{AreDealt, HasPassages, begin_of};
-ghost use Rattle.text_pages.specs.Passages.{texts_from};
+ghost use Rattle.text_pages.specs.Passages.{AddsAll, texts_from};
+ghost use Rattle.text_pages.specs.Rooms.{AreBlank, ArePages};
 
 use crate::deal::Deal;
 use crate::page::Page;
@@ -31,7 +31,9 @@ pub struct Pages {
 impl Pages {
     /// Two pages for each of so many threads, and none for one thread: of an eighth of `bytes` each, which is about what the text
     /// has, but of 4 KiB at least and of 2 MiB at most. It fails only for lack of memory.
-    pub fn new(alloc: Global, threads: u32, bytes: u32) -> Result<Pages, AllocError> {
+    pub fn new(alloc: Global, threads: u32, bytes: u32) -> Result<Pages, AllocError>
+        ensures { IfOk result (ArePages threads bytes) }
+    {
         let room = (bytes / 8).clamp(LEAST_ROOM, MOST_ROOM);
         Ok(Pages {
             pages: blank(alloc, threads, room)?,
@@ -42,7 +44,9 @@ impl Pages {
 }
 
 /// A blank page for each of so many threads, and none for one thread.
-fn blank(alloc: Global, threads: u32, room: u32) -> Result<Vec<Page>, AllocError> {
+fn blank(alloc: Global, threads: u32, room: u32) -> Result<Vec<Page>, AllocError>
+    ensures { IfOk result (λ pages. AreBlank threads room pages.items) }
+{
     let mut pages = Vec::new(alloc);
     if threads > 1 {
         for _ in 0..threads {
@@ -54,8 +58,7 @@ fn blank(alloc: Global, threads: u32, room: u32) -> Result<Vec<Page>, AllocError
 
 /// Adds all passages, in their order, by the caller's thread alone. It takes no memory.
 pub fn add_all<K: Sink, P: Passages>(text: &mut TextWriter<K>, passages: &P)
-    ensures added { Adds (view_of K.held K.faults text.old) (view_of K.held K.faults text.new) (texts_below (P.passages passages.now) (P.words passages.now)) }
-    ensures known { (i : ℕ) → i < P.passages passages.now → P.known passages.now i }
+    ensures { AddsAll (view_of K.held K.faults text.old) (view_of K.held K.faults text.new) (P.passages passages.now) (P.words passages.now) (P.known passages.now) }
 {
     passages.add(text, 0, passages.count());
 }
@@ -69,8 +72,7 @@ pub fn add_side_by_side<R: Threads + Sync, K: Sink, P: Passages + Sync>(
     text: &mut TextWriter<K>,
     passages: &P,
 )
-    ensures added { Adds (view_of K.held K.faults text.old) (view_of K.held K.faults text.new) (texts_below (P.passages passages.now) (P.words passages.now)) }
-    ensures known { (i : ℕ) → i < P.passages passages.now → P.known passages.now i }
+    ensures { AddsAll (view_of K.held K.faults text.old) (view_of K.held K.faults text.new) (P.passages passages.now) (P.words passages.now) (P.known passages.now) }
 {
     if pages.pages.is_empty() || pages.others.is_empty() {
         add_all(text, passages);
@@ -97,8 +99,7 @@ fn add_rounds<R: Threads + Sync, K: Sink, P: Passages + Sync>(
     passages: &P,
 )
     requires some { (0 < length pages.old) × (0 < length others.old) }
-    ensures added { Adds (view_of K.held K.faults text.old) (view_of K.held K.faults text.new) (texts_below (P.passages passages.now) (P.words passages.now)) }
-    ensures known { (i : ℕ) → i < P.passages passages.now → P.known passages.now i }
+    ensures { AddsAll (view_of K.held K.faults text.old) (view_of K.held K.faults text.new) (P.passages passages.now) (P.words passages.now) (P.known passages.now) }
 {
     let count = passages.count();
     let safe = (room / passages.longest().max(1)).max(1);

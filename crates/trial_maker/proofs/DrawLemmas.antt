@@ -10,7 +10,6 @@ use Rattle.std.proofs.lemmas.Nat.{div-mul-add, mod-mul-add, mul-add-lt, div-add-
 use Rattle.raster_model.specs.Limits.{is_raster_size}
 use Rattle.trial_maker.specs.Trials.{next, state, phase_of, weight_of, is_open, state_at}
 use Rattle.trial_maker.specs.Drawn.{AreListed, phase_number}
-use Rattle.sums_and_lists.proofs.Tests.{one_at_most}
 use Rattle.sums_and_lists.specs.Sums.{one_if}
 
 -- ---- numbers

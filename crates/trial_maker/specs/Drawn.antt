@@ -1,9 +1,16 @@
 -- Words of the steps that make a test session: no clause of another crate cites them.
-use Rattle.std.specs.Prelude.{◌≡◌, ℕ, ◌+◌, ◌/◌, ◌%◌, ◌<◌, List, length, slice_index}
+use Rattle.std.specs.Prelude.{◌≡◌, ℕ, ◌+◌, ◌/◌, ◌%◌, ◌<◌, List, [], length, slice_index, vec_capacity}
 use Rattle.raster_model.specs.declared.plane.Plane.{Plane}
 use Rattle.raster_model.specs.Planes.{plane_sample}
+use Rattle.trial_maker.specs.declared.samples.Samples.{Samples}
 use Rattle.trial_maker.specs.Trials.{state, phase_of, weight_of, is_open, state_at}
 use Rattle.sums_and_lists.specs.Sums.{one_if}
+
+-- the lists are empty and have room for so many pixels
+pub record HaveRoom (pixels : ℕ) (samples : Samples) : Type 0 where
+  pub phase : (samples.phase.items ≡ []) × (vec_capacity samples.phase ≡ pixels)
+  pub weights : (samples.weights.items ≡ []) × (vec_capacity samples.weights ≡ pixels)
+  pub mask : (samples.mask.items ≡ []) × (vec_capacity samples.mask ≡ pixels)
 
 -- the list has the first n numbers of f
 pub record AreListed (f : ℕ → ℕ) (n : ℕ) (xs : List ℕ) : Type 0 where

@@ -1,7 +1,7 @@
 ghost use Rattle.sums_and_lists.specs.Sums.{one_if};
 ghost use Rattle.raster_model.specs.Limits.{is_raster_size, max_side};
 ghost use Rattle.std.specs.Prelude.{◌≡◌, ◌*◌, ◌<◌, ◌++◌, ◌∷◌, [], IfOk, IsTrue, OnOk};
-ghost use Rattle.trial_maker.specs.Drawn.{AreDrawn};
+ghost use Rattle.trial_maker.specs.Drawn.{AreDrawn, HaveRoom};
 ghost use Rattle.trial_maker.specs.Trials.{is_open, phase_of as phase_is, weight_of as weight_is};
 
 use crate::numbers::{mask_of, next, phase_of, weight_of};
@@ -34,7 +34,7 @@ pub fn draw(alloc: Global, seed: u64, width: u32, height: u32) -> Result<Samples
 
 /// Empty lists with room for the given number of pixels.
 fn room_for(alloc: Global, pixels: usize) -> Result<Samples, AllocError>
-    ensures { IfOk result (λ samples. (samples.phase.items ≡ []) × (samples.weights.items ≡ []) × (samples.mask.items ≡ [])) }
+    ensures { IfOk result (HaveRoom pixels) }
 {
     Ok(Samples {
         phase: Vec::with_capacity(alloc, pixels)?,

@@ -1,6 +1,5 @@
 use Rattle.displacement.specs.Displacements.{IsBlockValue}
 use Rattle.grid_writer.proofs.SizeLemmas.{sized_parts}
-use Rattle.std.proofs.lemmas.Result.{err_from_is_err_and}
 use Rattle.displacement.proofs.DisplacingLemmas.{few_blocks, first_wide, pos_left, values_more}
 use Rattle.displacement.proofs.displacing.block_values.Goals as goal
 use Rattle.grid_writer.specs.Grids.{grid_of}
@@ -8,26 +7,12 @@ use Rattle.std.proofs.Common.{◌∙◌, ◌/◌, ◌%◌, ◌<◌, ℕ, FitsSig
 use Rattle.std.proofs.lemmas.Int.{to_z-of_z}
 use Rattle.std.proofs.lemmas.Nat.{div_below, mod_below}
 
-pub overflow_mul-width : goal.overflow_mul-width
-overflow_mul-width c =
-    let few = (sized_parts c.args.width c.args.height (few_blocks c.args.sight.block c.args.grid.now.width c.args.grid.now.height c.args.width c.args.height c.requires.blocks.0 c.args.grid.now.sized c.requires.width c.requires.height)).few in omega (arith, few)
-
-pub returns-in_err-values-clause-full : goal.returns-in_err-values-clause-full
-returns-in_err-values-clause-full c = search rules
-
-pub returns-in_err-values-clause-values : goal.returns-in_err-values-clause-values
-returns-in_err-values-clause-values c = search rules
-
-pub returns-in_err-values-clause-refused : goal.returns-in_err-values-clause-refused
-returns-in_err-values-clause-refused c =
-    let p = err_from_is_err_and c.from_residual.result c.from_residual.ensures.1 in rw (p.1, p.2) tt
-
 pub overflow_mul-place-end : goal.overflow_mul-place-end
 overflow_mul-place-end c =
     let few = (sized_parts c.args.width c.args.height (few_blocks c.args.sight.block c.args.grid.now.width c.args.grid.now.height c.args.width c.args.height c.requires.blocks.0 c.args.grid.now.sized c.requires.width c.requires.height)).few in omega (arith, few)
 
 pub loop-place-init : goal.loop-place-init
-loop-place-init c = record { full = c.in_ok-values.ensures.len; done = λ k l. absurd (omega (arith, l)) }
+loop-place-init c = record { full = c.requires.room; done = λ k l. absurd (omega (arith, l)) }
 
 pub nonzero_rem-x : goal.nonzero_rem-x
 nonzero_rem-x c = pos_left c.args.width c.args.height c.loop-place.place c.loop-place-test.true

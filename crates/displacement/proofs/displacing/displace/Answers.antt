@@ -2,7 +2,8 @@ use Rattle.displacement.specs.Blocks.{has_value}
 use Rattle.displacement.proofs.DisplacingLemmas.{cause_is, displacement_is, fault_known, few_blocks, no_wide}
 use Rattle.displacement.proofs.displacing.displace.Goals as goal
 use Rattle.grid_writer.specs.Grids.{grid_of}
-use Rattle.std.proofs.Common.{FitsSigned, ap, inl, inr, refl, rules, w64, ◌∙◌}
+use Rattle.grid_writer.proofs.SizeLemmas.{sized_parts}
+use Rattle.std.proofs.Common.{FitsSigned, ap, arith, inl, inr, refl, rules, w64, ◌∙◌}
 use Rattle.std.specs.Prelude.{Err}
 use Rattle.std.proofs.lemmas.Int.{to_z-of_z}
 use Rattle.std.proofs.lemmas.Result.{err_from_is_err_and}
@@ -24,6 +25,25 @@ div_ceil-width-requires c = c.requires.blocks.0
 pub div_ceil-height-requires : goal.div_ceil-height-requires
 div_ceil-height-requires c = c.requires.blocks.0
 
+pub overflow_mul-width : goal.overflow_mul-width
+overflow_mul-width c =
+    let few = (sized_parts c.div_ceil-width.result c.div_ceil-height.result (few_blocks c.args.sight.block c.args.grid.now.width c.args.grid.now.height c.div_ceil-width.result c.div_ceil-height.result c.requires.blocks.0 c.args.grid.now.sized c.div_ceil-width.ensures c.div_ceil-height.ensures)).few in omega (arith, few)
+
+pub returns-in_err-room-clause-displaced : goal.returns-in_err-room-clause-displaced
+returns-in_err-room-clause-displaced c = search rules
+
+pub returns-in_err-room-clause-refused : goal.returns-in_err-room-clause-refused
+returns-in_err-room-clause-refused c =
+    let p = err_from_is_err_and c.from_residual.result c.from_residual.ensures.1 in rw (p.1, p.2) tt
+
+pub returns-in_err-room-clause-reference : goal.returns-in_err-room-clause-reference
+returns-in_err-room-clause-reference c =
+    λ h. absurd (true_and_false (has_value (grid_of c.args.grid.now) c.args.sight.x c.args.sight.y) c.in-Some.ensures.0 h)
+
+pub returns-in_err-room-clause-wide : goal.returns-in_err-room-clause-wide
+returns-in_err-room-clause-wide c =
+    let p = err_from_is_err_and c.from_residual.result c.from_residual.ensures.1 in λ x y has w. inr (p.1 ∙ ap Err p.2)
+
 pub block_values-requires-clause-wave : goal.block_values-requires-clause-wave
 block_values-requires-clause-wave c = c.requires.wave
 
@@ -40,12 +60,15 @@ block_values-requires-clause-width c = c.div_ceil-width.ensures
 pub block_values-requires-clause-height : goal.block_values-requires-clause-height
 block_values-requires-clause-height c = c.div_ceil-height.ensures
 
+pub block_values-requires-clause-room : goal.block_values-requires-clause-room
+block_values-requires-clause-room c = c.in_ok-room.ensures.len
+
 pub returns-in_err-values-clause-displaced : goal.returns-in_err-values-clause-displaced
 returns-in_err-values-clause-displaced c = search rules
 
 pub returns-in_err-values-clause-refused : goal.returns-in_err-values-clause-refused
 returns-in_err-values-clause-refused c =
-    let p = err_from_is_err_and c.from_residual.result c.from_residual.ensures.1 in rw (p.1, p.2) (cause_is c.args.sight (grid_of c.args.grid.now) c.in_err-values.field-0.0 c.in-Some.ensures.0 c.in_err-values.ensures.refused)
+    let p = err_from_is_err_and c.from_residual-in_err-values.result c.from_residual-in_err-values.ensures.1 in rw (p.1, p.2) (cause_is c.args.sight (grid_of c.args.grid.now) c.in_err-values.field-0.0 c.in-Some.ensures.0 c.in_err-values.ensures.refused)
 
 pub returns-in_err-values-clause-reference : goal.returns-in_err-values-clause-reference
 returns-in_err-values-clause-reference c =
@@ -53,8 +76,8 @@ returns-in_err-values-clause-reference c =
 
 pub returns-in_err-values-clause-wide : goal.returns-in_err-values-clause-wide
 returns-in_err-values-clause-wide c =
-    let p = err_from_is_err_and c.from_residual.result c.from_residual.ensures.1 in
-    λ x y has w. elim (fault_known c.args.sight (grid_of c.args.grid.now) c.in_err-values.field-0.0 x y c.in_err-values.ensures.refused w) [ inl e ↦ inl (p.1 ∙ ap Err (p.2 ∙ e)) | inr e ↦ inr (p.1 ∙ ap Err (p.2 ∙ e)) ]
+    let p = err_from_is_err_and c.from_residual-in_err-values.result c.from_residual-in_err-values.ensures.1 in
+    λ x y has w. inl (p.1 ∙ ap Err (p.2 ∙ fault_known c.args.sight (grid_of c.args.grid.now) c.in_err-values.field-0.0 x y c.in_err-values.ensures.refused w))
 
 pub invariant_of-result : goal.invariant_of-result
 invariant_of-result c =

@@ -1,8 +1,5 @@
-use Rattle.grid_writer.proofs.GridLemmas.{adds_rows}
+use Rattle.grid_writer.proofs.GridLemmas.{adds_grid}
 use Rattle.grid_writer.proofs.grid.add_grid.Goals as goal
 
-pub returns-clause-added : goal.returns-clause-added
-returns-clause-added g c = adds_rows (g.R.Rows.grid c.args.rows.now) c.add_head.ensures.added c.add_all.ensures.added
-
-pub returns-clause-ranges : goal.returns-clause-ranges
-returns-clause-ranges g c = record { sized = c.add_head.ensures.sized; fits = λ x y lx ly. c.add_all.ensures.known y ly x lx }
+pub returns : goal.returns
+returns g c = adds_grid (g.R.Rows.grid c.args.rows.now) c.add_head.ensures.sized c.add_head.ensures.added c.add_all.ensures

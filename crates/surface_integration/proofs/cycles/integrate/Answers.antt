@@ -1,102 +1,24 @@
-use Rattle.std.proofs.Common.{◌≡◌, ◌∙◌, ◌+◌, ◌-◌, ◌*◌, ◌≤◌, sym, ap, subst, refl, arith, ℕ, ℤ, List, length, to_z, of_z, w32, pos}
-use Rattle.std.specs.Prelude.{◌+ℤ◌, unsigned_abs}
-use Rattle.raster_model.specs.declared.tiling.Window.{Window}
+use Rattle.std.proofs.Common.{arith, ◌∙◌}
+use Rattle.std.proofs.lemmas.Result.{IfOk-weaker}
 use Rattle.raster_model.specs.Scene.{raster_of}
-use Rattle.raster_model.specs.Sums.{down_edge}
-use Rattle.wrapped_gradient.specs.Corrections.{greatest_of}
-use Rattle.raster_model.specs.Tiles.{width_of, height_of}
-use Rattle.surface_integration.specs.Rows.{rise_of}
-use Rattle.surface_integration.proofs.CycleLemmas.{they_depart, they_stay_small}
-use Rattle.surface_integration.proofs.Filled.{new_first, filled_first, filled_next, filled_whole, none_before}
+use Rattle.surface_integration.proofs.CycleLemmas.{kept_plainly}
 use Rattle.surface_integration.proofs.RiseLemmas.{greatest_small}
-use Rattle.surface_integration.proofs.RowLemmas.{fit_32, sum_fits, sum_plain, sum_near}
 use Rattle.surface_integration.proofs.cycles.integrate.Goals as goal
 
-pub overflow_add-first : goal.overflow_add-first
-overflow_add-first c =
-    let v = c.args.gradients.now.window in
-    let end = ap (λ (w : Window). w.y1) c.window-window.ensures.value in
-    sum_fits w32 2147483647 fit_32 (to_z w32 c.loop-y.first-bits) c.rise_down-first.result (c.loop-y.y - v.y0) (width_of v) (height_of v) (greatest_of c.args.corrections.now + 1) c.loop-y.invariant.near c.rise_down-first.ensures.small (omega (arith, end)) c.requires.small
+pub integrated-requires-clause-small : goal.integrated-requires-clause-small
+integrated-requires-clause-small c = let m = greatest_small c.args.gradients.now.window c.args.corrections.now c.requires.small in omega (arith, m)
 
-pub push_row-requires-in-loop-y-clause-near : goal.push_row-requires-in-loop-y-clause-near
-push_row-requires-in-loop-y-clause-near c =
-    let v = c.args.gradients.now.window in
-    let end = ap (λ (w : Window). w.y1) c.window-window.ensures.value in
-    let begin = ap (λ (w : Window). w.y0) c.window-window.ensures.value in
-    let m = greatest_of c.args.corrections.now + 1 in
-    let more : c.loop-y.y - v.y0 + 1 ≡ c.loop-y.y + 1 - v.y0 = omega (arith, begin) in
-    subst (λ (i : ℕ). unsigned_abs (to_z w32 (of_z w32 (to_z w32 c.loop-y.first-bits +ℤ to_z w32 (of_z w32 c.rise_down-first.result)))) ≤ i * m) more
-    (sum_near w32 2147483647 fit_32 (to_z w32 c.loop-y.first-bits) c.rise_down-first.result (c.loop-y.y - v.y0) (width_of v) (height_of v) m c.loop-y.invariant.near c.rise_down-first.ensures.small (omega (arith, end)) c.requires.small)
-
-pub loop-y-init : goal.loop-y-init
-loop-y-init c =
-    let v = c.args.gradients.now.window in
-    let y = c.window-window.result.y0 in
-    let begin : y ≡ v.y0 = ap (λ (w : Window). w.y0) c.window-window.ensures.value in
-    let below : v.y0 ≤ y = omega (arith, begin) in
-    let empty : length c.in_ok-cycles.cycles.items ≡ 0 = ap (λ (zs : List ℤ). length zs) c.in_ok-cycles.ensures.items in
-    let full : length c.in_ok-cycles.cycles.items ≡ (y - v.y0) * width_of v = none_before (length c.in_ok-cycles.cycles.items) (y - v.y0) (width_of v) empty (omega (arith, begin)) in
-    record {
-      filled = filled_first (raster_of c.args.scene.now) v c.args.corrections.now y (pos 0) c.in_ok-cycles.cycles.items c.push_row.new.cycles.items below c.requires.gradients.inside.across.0 full c.in_ok-push_row.ensures begin refl;
-      begins = sym (new_first (raster_of c.args.scene.now) v c.args.corrections.now y (pos 0) c.in_ok-cycles.cycles.items c.push_row.new.cycles.items below c.requires.gradients.inside.across.0 full c.in_ok-push_row.ensures);
-      near = omega arith;
-    }
-
-pub loop-y-preserved : goal.loop-y-preserved
-loop-y-preserved c =
-    let v = c.args.gradients.now.window in
-    let end = ap (λ (w : Window). w.y1) c.window-window.ensures.value in
-    let begin = ap (λ (w : Window). w.y0) c.window-window.ensures.value in
-    let start = ap (λ (w : Window). w.x0) c.window-window.ensures.value in
-    let y = c.loop-y.y in
-    let first = to_z w32 c.loop-y.first-bits in
-    let d = c.rise_down-first.result in
-    let m = greatest_of c.args.corrections.now + 1 in
-    let below : v.y0 ≤ y = omega (arith, begin) in
-    let under : v.y0 ≤ y + 1 = omega (arith, below) in
-    let plain = sum_plain w32 2147483647 fit_32 first d (y - v.y0) (width_of v) (height_of v) m c.loop-y.invariant.near c.rise_down-first.ensures.small (omega (arith, end)) c.requires.small in
-    let full : length c.loop-y.cycles.items ≡ (y + 1 - v.y0) * width_of v = c.loop-y.invariant.filled.count ∙ ap (λ (i : ℕ). i * width_of v) (omega (arith, below)) in
-    let rise : d ≡ rise_of (raster_of c.args.scene.now) v c.args.corrections.now (down_edge v.x0 y) = c.rise_down-first.ensures.value ∙ ap (λ (x : ℕ). rise_of (raster_of c.args.scene.now) v c.args.corrections.now (down_edge x y)) start in
-    let follows = plain ∙ sum_same c.loop-y.invariant.begins rise in
-    record {
-      filled = filled_next (raster_of c.args.scene.now) v c.args.corrections.now (y + 1) _ c.loop-y.cycles.items c.push_row-in-loop-y.new.cycles.items under c.requires.gradients.inside.across.0 full c.in_ok-push_row-2.ensures y refl below follows c.loop-y.invariant.filled;
-      begins = sym (new_first (raster_of c.args.scene.now) v c.args.corrections.now (y + 1) _ c.loop-y.cycles.items c.push_row-in-loop-y.new.cycles.items under c.requires.gradients.inside.across.0 full c.in_ok-push_row-2.ensures);
-      near = subst (λ (i : ℕ). unsigned_abs (to_z w32 (of_z w32 (first +ℤ to_z w32 (of_z w32 d)))) ≤ i * m) (row_after y v.y0 below)
-          (sum_near w32 2147483647 fit_32 first d (y - v.y0) (width_of v) (height_of v) m c.loop-y.invariant.near c.rise_down-first.ensures.small (omega (arith, end)) c.requires.small);
-    }
-  where
-    row_after : (y y0 : ℕ) → y0 ≤ y → y - y0 + 1 ≡ y + 1 - y0
-    row_after y y0 l = omega arith
-
-    sum_same : {a b d e : ℤ} → a ≡ b → d ≡ e → a +ℤ d ≡ b +ℤ e
-    sum_same p q = cc
+pub integrated-requires-clause-room : goal.integrated-requires-clause-room
+integrated-requires-clause-room c = c.requires.small
 
 pub returns-clause-count : goal.returns-clause-count
-returns-clause-count c =
-    let v = c.args.gradients.now.window in
-    let end = ap (λ (w : Window). w.y1) c.window-window.ensures.value in
-    let begin = ap (λ (w : Window). w.y0) c.window-window.ensures.value in
-    let rows : (c.loop-y.y - v.y0 + 1) * width_of v ≡ width_of v * height_of v = ap (λ (i : ℕ). (i + 1) * width_of v) (omega (arith, end, begin)) ∙ turned (v.y1 - v.y0 + 1) (width_of v) in
-    c.loop-y.cycles.ok.0 ∙ c.loop-y.invariant.filled.count ∙ rows
-  where
-    turned : (m n : ℕ) → m * n ≡ n * m
-    turned m n = omega arith
+returns-clause-count c = IfOk-weaker c.integrated.result _ _ (λ cycles is. cycles.ok.0 ∙ (kept_plainly (raster_of c.args.scene.now) c.args.gradients.now.window c.args.corrections.now cycles.items is).count) c.integrated.ensures
+
+pub returns-clause-first : goal.returns-clause-first
+returns-clause-first c = IfOk-weaker c.integrated.result _ _ (λ cycles is. (kept_plainly (raster_of c.args.scene.now) c.args.gradients.now.window c.args.corrections.now cycles.items is).first) c.integrated.ensures
 
 pub returns-clause-departs : goal.returns-clause-departs
-returns-clause-departs c =
-    let v = c.args.gradients.now.window in
-    let end = ap (λ (w : Window). w.y1) c.window-window.ensures.value in
-    let begin = ap (λ (w : Window). w.y0) c.window-window.ensures.value in
-    they_depart (raster_of c.args.scene.now) v c.args.corrections.now c.loop-y.cycles.items c.requires.gradients.inside.across.0
-    (filled_whole (raster_of c.args.scene.now) v c.args.corrections.now (c.loop-y.y - v.y0 + 1) (height_of v) c.loop-y.cycles.items (omega (arith, end, begin)) c.loop-y.invariant.filled) c.requires.cancel
+returns-clause-departs c = IfOk-weaker c.integrated.result _ _ (λ cycles is. (kept_plainly (raster_of c.args.scene.now) c.args.gradients.now.window c.args.corrections.now cycles.items is).departs) c.integrated.ensures
 
 pub returns-clause-bounded : goal.returns-clause-bounded
-returns-clause-bounded c =
-    let v = c.args.gradients.now.window in
-    let end = ap (λ (w : Window). w.y1) c.window-window.ensures.value in
-    let begin = ap (λ (w : Window). w.y0) c.window-window.ensures.value in
-    they_stay_small c.args.scene.now v c.args.corrections.now c.loop-y.cycles.items c.requires.gradients.inside.across.0
-    (filled_whole (raster_of c.args.scene.now) v c.args.corrections.now (c.loop-y.y - v.y0 + 1) (height_of v) c.loop-y.cycles.items (omega (arith, end, begin)) c.loop-y.invariant.filled)
-
-pub rise_down-first-requires-clause-small : goal.rise_down-first-requires-clause-small
-rise_down-first-requires-clause-small c = let m = greatest_small c.args.gradients.now.window c.args.corrections.now c.requires.small in omega (arith, m)
+returns-clause-bounded c = IfOk-weaker c.integrated.result _ _ (λ cycles is. (kept_plainly (raster_of c.args.scene.now) c.args.gradients.now.window c.args.corrections.now cycles.items is).bounded) c.integrated.ensures

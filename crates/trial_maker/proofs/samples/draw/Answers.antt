@@ -18,9 +18,9 @@ loop-pixel-init c =
     let seed = c.args.seed in (
       state_zero seed,
       record {
-        phases = none_listed (phase_number seed c.args.width) _ c.in_ok-samples.ensures.0;
-        weighed = none_listed (weight_number seed) _ c.in_ok-samples.ensures.1;
-        masked = none_listed (mask_number seed) _ c.in_ok-samples.ensures.2;
+        phases = none_listed (phase_number seed c.args.width) _ c.in_ok-samples.ensures.phase.0;
+        weighed = none_listed (weight_number seed) _ c.in_ok-samples.ensures.weights.0;
+        masked = none_listed (mask_number seed) _ c.in_ok-samples.ensures.mask.0;
       },
     )
 

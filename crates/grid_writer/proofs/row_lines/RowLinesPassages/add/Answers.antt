@@ -1,4 +1,4 @@
-use Rattle.std.proofs.Common.{◌≡◌, ◌∙◌, ◌≤◌, length, inl, inr, refl, arith}
+use Rattle.std.proofs.Common.{◌∙◌, ◌≤◌, length, inl, inr, refl, arith}
 use Rattle.sums_and_lists.proofs.Orders.{below_or_last}
 use Rattle.grid_writer.specs.Grid.{grid_row}
 use Rattle.grid_writer.proofs.SizeLemmas.{sized_parts}

@@ -1,50 +1,35 @@
 ghost use Rattle.raster_model.specs.Scene.{raster_of};
-ghost use Rattle.std.specs.Prelude.{
-  ◌≡◌,
-  ◌+◌,
-  ◌-◌,
-  ◌*◌,
-  ◌<◌,
-  ◌≤◌,
-  IfOk,
-  OnOk,
-  pos,
-  unsigned_abs,
-  vec_len,
-};
-ghost use Rattle.surface_integration.specs.Cycles.{DepartBy, LieWithin, StaySmall, cycles_at};
-ghost use Rattle.surface_integration.specs.Rows.{IsRowAdded};
+ghost use Rattle.raster_model.specs.Tiles.{width_of, height_of};
+ghost use Rattle.std.specs.Prelude.{◌≡◌, ◌+◌, ◌-◌, ◌*◌, ◌<◌, ◌≤◌, IfOk, OnOk, map, unsigned_abs};
+ghost use Rattle.surface_integration.specs.Rows.{AreIntegrated, IsRowAdded};
 ghost use Rattle.wrapped_gradient.specs.Corrections.{CancelResidues, HasShapeOf, greatest_of};
 ghost use Rattle.wrapped_gradient.specs.Gradients.{AreGradientsOf};
-ghost use Rattle.raster_model.specs.Tiles.{width_of, height_of};
 
+use crate::number::CycleNumber;
 use crate::rises::{rise_down, rise_right};
-use raster_model::{MAX_REACHED_CYCLES, Scene};
+use raster_model::Scene;
 use std::alloc::{AllocError, Global};
 use wrapped_gradient::{Corrections, Gradients};
 
-/// Whole cycles above the phase as `integrate` gives them, at 64 bits: over windows up to a whole raster, and for any
-/// corrections that leave room for one more cycle at 32 bits. None is above 2^44 on either side of 0. (Costantini 1998.)
-pub fn integrate_wide(
+/// The cycles of all pixels of the gradients' window, in row order. They are added up at 64 bits, of which as many are kept as
+/// there is room for.
+pub(crate) fn integrated<N: CycleNumber>(
     alloc: Global,
     scene: &Scene,
     gradients: &Gradients,
     corrections: &Corrections,
-) -> Result<Vec<i64>, AllocError>
+) -> Result<Vec<N>, AllocError>
     requires gradients { AreGradientsOf scene.now gradients.now }
     requires shape { HasShapeOf gradients.now.window corrections.now }
     requires cancel { CancelResidues (raster_of scene.now) gradients.now.window corrections.now }
     requires small { greatest_of corrections.now < 2147483647 }
-    ensures count { IfOk result (λ cycles. vec_len cycles ≡ width_of gradients.now.window * height_of gradients.now.window) }
-    ensures first { IfOk result (λ cycles. cycles_at gradients.now.window cycles.items gradients.now.window.x0 gradients.now.window.y0 ≡ pos 0) }
-    ensures departs { IfOk result (λ cycles. DepartBy (raster_of scene.now) gradients.now.window (cycles_at gradients.now.window cycles.items) corrections.now) }
-    ensures bounded { IfOk result (λ cycles. StaySmall gradients.now.window (cycles_at gradients.now.window cycles.items) (greatest_of corrections.now)) }
-    ensures within { IfOk result (λ cycles. LieWithin gradients.now.window (cycles_at gradients.now.window cycles.items) (MAX_REACHED_CYCLES)) }
+    requires room { (width_of gradients.now.window + height_of gradients.now.window) * (greatest_of corrections.now + 1) ≤ N.limit }
+    ensures { IfOk result (λ cycles. AreIntegrated (raster_of scene.now) gradients.now.window corrections.now (map N.value cycles.items)) }
 {
     let window = gradients.window();
     let pixels = window.width() as usize * window.height() as usize;
     let mut cycles = Vec::with_capacity(alloc, pixels)?;
-    let mut first: i64 = 0;
+    let mut first = 0;
     push_row(scene, gradients, corrections, window.y0, first, &mut cycles)?;
     for y in window.y0..window.y1 {
         first += i64::from(rise_down(scene, gradients, corrections, window.x0, y));
@@ -54,27 +39,28 @@ pub fn integrate_wide(
 }
 
 /// Appends the cycles of row `y`, which begins with `first`.
-fn push_row(
+fn push_row<N: CycleNumber>(
     scene: &Scene,
     gradients: &Gradients,
     corrections: &Corrections,
     y: u32,
     first: i64,
-    cycles: &mut Vec<i64>,
+    cycles: &mut Vec<N>,
 ) -> Result<(), AllocError>
     requires gradients { AreGradientsOf scene.now gradients.now }
     requires shape { HasShapeOf gradients.now.window corrections.now }
     requires small { greatest_of corrections.now < 2147483647 }
+    requires room { (width_of gradients.now.window + height_of gradients.now.window) * (greatest_of corrections.now + 1) ≤ N.limit }
     requires row { (gradients.now.window.y0 ≤ y) × (y ≤ gradients.now.window.y1) }
     requires near { unsigned_abs first ≤ (y - gradients.now.window.y0) * (greatest_of corrections.now + 1) }
-    ensures { OnOk result (IsRowAdded (raster_of scene.now) gradients.now.window corrections.now y (gradients.now.window.x1 - gradients.now.window.x0) first cycles.old.items cycles.new.items) }
+    ensures { OnOk result (IsRowAdded (raster_of scene.now) gradients.now.window corrections.now y (gradients.now.window.x1 - gradients.now.window.x0) first (map N.value cycles.old.items) (map N.value cycles.new.items)) }
 {
     let window = gradients.window();
     let mut here = first;
-    cycles.push(here)?;
+    cycles.push(N::of(here))?;
     for x in window.x0..window.x1 {
         here += i64::from(rise_right(scene, gradients, corrections, x, y));
-        cycles.push(here)?;
+        cycles.push(N::of(here))?;
     }
     Ok(())
 }

@@ -1,0 +1,35 @@
+ghost use Rattle.std.specs.Prelude.{◌≡◌, ◌≤◌, ℕ, ℤ, unsigned_abs};
+
+/// A number of cycles, in as many bits as are kept of it.
+pub(crate) trait CycleNumber: Copy {
+    /// The number of cycles.
+    ghost value: { Self → ℤ };
+
+    /// How many cycles on either side of 0 there is room for.
+    ghost limit: { ℕ };
+
+    /// So many cycles.
+    fn of(cycles: i64) -> Self
+        requires { unsigned_abs cycles ≤ limit }
+        ensures { value result ≡ cycles };
+}
+
+impl CycleNumber for i32 {
+    ghost value = { λ cycles. cycles };
+
+    ghost limit = { 2147483647 };
+
+    fn of(cycles: i64) -> i32 {
+        cycles as i32
+    }
+}
+
+impl CycleNumber for i64 {
+    ghost value = { λ cycles. cycles };
+
+    ghost limit = { 17592186044416 };
+
+    fn of(cycles: i64) -> i64 {
+        cycles
+    }
+}

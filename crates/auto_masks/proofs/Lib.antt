@@ -1,5 +1,4 @@
 pub mod KeyLemmas
-pub mod MeasureLemmas
 pub mod PatchLemmas
 pub mod SumLemmas
 pub mod KeepLemmas

@@ -5,7 +5,9 @@ use Rattle.raster_model.specs.declared.edge.Edge.{Edge}
 use Rattle.raster_model.specs.Seams.{AreJoined, IsFirst, IsOpenPixel, is_open_inner}
 use Rattle.raster_model.specs.Seams.AreJoined.{here, rightward, leftward, downward, upward}
 use Rattle.raster_model.specs.Sums.{Field, end_x, end_y, right_edge, down_edge}
-use Rattle.joined_cells.proofs.EdgeLemmas.{ends_in, ends_open, ends_same, inner_open}
+use Rattle.joined_cells.proofs.EdgeLemmas.{ends_in, ends_open}
+use Rattle.joined_cells.proofs.TileLemmas.{ends_same, inner_open}
+use Rattle.auto_masks.specs.Flood.{keys_joined}
 use Rattle.auto_masks.specs.Patches.{ArePatchesOf, is_keyed, key_number, keyed, patch_label}
 use Rattle.auto_masks.specs.PatchesView.{PatchesView}
 
@@ -15,8 +17,8 @@ module _ (w h : ℕ) (K L : Field ℤ) (same : (x y : ℕ) → x < w → y < h �
 
   inner_too : (e : Edge) → IsTrue (is_open_inner (keyed w h K) (is_keyed K) e) → IsTrue (is_open_inner (keyed w h L) (is_keyed L) e)
   inner_too e t =
-      let i = ends_in (keyed w h K) (is_keyed K) e t in
-      let o = ends_open (keyed w h K) (is_keyed K) e t in
+      let i = ends_in (keys_joined w h K) e t in
+      let o = ends_open (keys_joined w h K) e t in
       let s = same e.x e.y i.0 i.1 in
       let f = same (end_x e) (end_y e) i.2 i.3 in
       inner_open (keyed w h L) (is_keyed L) e i.0 i.1 i.2 i.3

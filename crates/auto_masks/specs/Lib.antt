@@ -3,7 +3,6 @@ pub mod Patches
 pub mod Screened
 pub mod Laws
 pub mod Flood
-pub mod Measures
 pub mod Sums
 pub mod Keys
 pub mod Keeping

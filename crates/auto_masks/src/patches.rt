@@ -1,5 +1,6 @@
 use crate::extent::Extent;
-use crate::labels::{measure_patches, number_patches};
+use crate::labels::number_patches;
+use joined_cells::measure_trees;
 use std::alloc::{AllocError, Global};
 use std::marker::Model;
 
@@ -46,7 +47,7 @@ impl Patches {
     {
         let extent = Extent { width, height };
         let numbers = number_patches(alloc, extent, keys)?;
-        let measures = measure_patches(alloc, &numbers.labels, numbers.count)?;
+        let measures = measure_trees(alloc, &numbers.labels, numbers.count)?;
         Ok(Patches {
             width,
             height,

@@ -1,42 +1,44 @@
--- What the test of an inner edge with open ends says in any raster.
+-- What it says that an edge joins its ends, and which edge has a number.
 use Rattle.std.proofs.Common.{◌≡◌, ℕ, ◌+◌, ◌*◌, ◌<◌, ap, ◌∙◌, refl, arith, Bool, true, false}
-use Rattle.std.specs.Prelude.{IsTrue, ◌&&◌, ◌==◌, not, nat_lt, if◌then◌else◌}
+use Rattle.std.specs.Prelude.{IsTrue, ◌&&◌, nat_lt, if◌then◌else◌}
 use Rattle.std.proofs.lemmas.Bool.Decides.{nat_tests}
 use Rattle.raster_model.specs.declared.edge.Edge.{Edge}
-use Rattle.raster_model.specs.Sums.{Field, end_x, end_y, is_edge, right_edge, down_edge}
-use Rattle.raster_model.specs.Raster.{Raster, is_seam, has_open_ends}
-use Rattle.raster_model.specs.Seams.{is_open_inner}
+use Rattle.raster_model.specs.Sums.{end_x, end_y, is_edge, right_edge, down_edge}
+use Rattle.raster_model.specs.Raster.{has_open_ends}
 use Rattle.raster_model.proofs.MaskLemmas.{same_place}
 use Rattle.joined_cells.specs.Flood.{edge_rank}
+use Rattle.joined_cells.specs.Joining.{Joining, joins}
 
 tests_say : (x y a b w h : ℕ) (k s : Bool) → IsTrue ((((nat_lt x w && nat_lt y h) && (nat_lt a w && nat_lt b h)) && k) && s) → (x < w) × (y < h) × (a < w) × (b < h)
 tests_say x y a b w h k s t = (grind (arith, nat_tests), grind (arith, nat_tests), grind (arith, nat_tests), grind (arith, nat_tests))
 
-pub open_ends : (e m n s : Bool) → IsTrue ((e && (m && n)) && s) → IsTrue m × IsTrue n
+open_ends : (e m n s : Bool) → IsTrue ((e && (m && n)) && s) → IsTrue m × IsTrue n
 open_ends true true true s t = (refl, refl)
 open_ends true true false s t = cc
 open_ends true false n s t = cc
 open_ends false m n s t = cc
 
-all_told : (x y a b w h s t : ℕ) (m n : Bool) → x < w → y < h → a < w → b < h → s ≡ t → m ≡ true → n ≡ true → ((((nat_lt x w && nat_lt y h) && (nat_lt a w && nat_lt b h)) && (m && n)) && not (not (s == t))) ≡ true
-all_told x y a b w h s t m n p q i j e k l = grind (arith, nat_tests)
+test_passed : (e k s : Bool) → IsTrue ((e && k) && s) → IsTrue s
+test_passed true true s t = t
+test_passed true false s t = cc
+test_passed false k s t = cc
 
-same_told : (e k : Bool) (s t : ℕ) → IsTrue ((e && k) && not (not (s == t))) → s ≡ t
-same_told e k s t h = grind (arith, nat_tests)
+all_told : (x y a b w h : ℕ) (m n s : Bool) → x < w → y < h → a < w → b < h → m ≡ true → n ≡ true → s ≡ true → ((((nat_lt x w && nat_lt y h) && (nat_lt a w && nat_lt b h)) && (m && n)) && s) ≡ true
+all_told x y a b w h m n s p q i j k l t = grind (arith, nat_tests)
 
-module _ (r : Raster) (mask : Field Bool) (e : Edge) where
-  pub inner_open : e.x < r.width → e.y < r.height → end_x e < r.width → end_y e < r.height → r.tile e.x e.y ≡ r.tile (end_x e) (end_y e) → mask e.x e.y ≡ true → mask (end_x e) (end_y e) ≡ true → IsTrue (is_open_inner r mask e)
-  inner_open l m p q n s t = all_told e.x e.y (end_x e) (end_y e) r.width r.height (r.tile e.x e.y) (r.tile (end_x e) (end_y e)) (mask e.x e.y) (mask (end_x e) (end_y e)) l m p q n s t
+module _ (joining : Joining) (e : Edge) where
+  pub joins_from : e.x < joining.width → e.y < joining.height → end_x e < joining.width → end_y e < joining.height → joining.mask e.x e.y ≡ true → joining.mask (end_x e) (end_y e) ≡ true → joining.passes e ≡ true → IsTrue (joins joining e)
+  joins_from l m p q s t k = all_told e.x e.y (end_x e) (end_y e) joining.width joining.height (joining.mask e.x e.y) (joining.mask (end_x e) (end_y e)) (joining.passes e) l m p q s t k
 
-  module _ (t : IsTrue (is_open_inner r mask e)) where
-    pub ends_in : (e.x < r.width) × (e.y < r.height) × (end_x e < r.width) × (end_y e < r.height)
-    ends_in = tests_say e.x e.y (end_x e) (end_y e) r.width r.height (has_open_ends mask e) (not (is_seam r e)) t
+  module _ (t : IsTrue (joins joining e)) where
+    pub ends_in : (e.x < joining.width) × (e.y < joining.height) × (end_x e < joining.width) × (end_y e < joining.height)
+    ends_in = tests_say e.x e.y (end_x e) (end_y e) joining.width joining.height (has_open_ends joining.mask e) (joining.passes e) t
 
-    pub ends_open : IsTrue (mask e.x e.y) × IsTrue (mask (end_x e) (end_y e))
-    ends_open = open_ends (is_edge r.width r.height e) (mask e.x e.y) (mask (end_x e) (end_y e)) (not (is_seam r e)) t
+    pub ends_open : IsTrue (joining.mask e.x e.y) × IsTrue (joining.mask (end_x e) (end_y e))
+    ends_open = open_ends (is_edge joining.width joining.height e) (joining.mask e.x e.y) (joining.mask (end_x e) (end_y e)) (joining.passes e) t
 
-    pub ends_same : r.tile e.x e.y ≡ r.tile (end_x e) (end_y e)
-    ends_same = same_told (is_edge r.width r.height e) (has_open_ends mask e) (r.tile e.x e.y) (r.tile (end_x e) (end_y e)) t
+    pub has_passed : IsTrue (joining.passes e)
+    has_passed = test_passed (is_edge joining.width joining.height e) (has_open_ends joining.mask e) (joining.passes e) t
 
 -- ---- the edge of a number
 same_half : (p q : ℕ) (d f : Bool) → 2 * p + (if d then 1 else 0) ≡ 2 * q + (if f then 1 else 0) → (p ≡ q) × (d ≡ f)

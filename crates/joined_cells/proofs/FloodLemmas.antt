@@ -3,15 +3,14 @@ use Rattle.std.proofs.Common.{◌≡◌, ℕ, ◌+◌, ◌*◌, ◌/◌, ◌%◌
 use Rattle.std.specs.Prelude.{IsTrue, if◌then◌else◌, slice_index}
 use Rattle.std.proofs.lemmas.Nat.{mod-mul-add, div-mul-add}
 use Rattle.raster_model.specs.declared.edge.Edge.{Edge}
-use Rattle.raster_model.specs.Raster.{Raster}
-use Rattle.raster_model.specs.Sums.{Field, end_x, end_y, right_edge, down_edge}
-use Rattle.raster_model.specs.Seams.{AreJoined, is_open_inner}
-use Rattle.raster_model.specs.Seams.AreJoined.{here, rightward, downward}
-use Rattle.raster_model.proofs.Regions.{joined_sym, joined_trans}
+use Rattle.raster_model.specs.Sums.{end_x, end_y, right_edge, down_edge}
 use Rattle.joined_cells.specs.Flood.{edge_rank, IsFlooded, IsFlood}
 use Rattle.joined_cells.specs.Forest.{IsForest, root_with}
+use Rattle.joined_cells.specs.Joining.{AreJoinedBy, Joining, joins}
+use Rattle.joined_cells.specs.Joining.AreJoinedBy.{here, rightward, downward}
 use Rattle.joined_cells.proofs.EdgeLemmas.{ends_in, one_number, down_is, right_is}
 use Rattle.joined_cells.proofs.ForestLemmas.{root_with-beyond, root_with-ends, root_with-same, root_with-least, root_with-stays, root_with-related}
+use Rattle.joined_cells.proofs.WalkLemmas.{walk_sym, walk_trans}
 use Rattle.sums_and_lists.proofs.Orders.{below_or_last}
 use Rattle.std.proofs.lemmas.Bool.{cases_Bool}
 
@@ -24,62 +23,62 @@ half : (d : Bool) (p n : ℕ) → 2 * p + (if d then 1 else 0) ≡ n → 2 * p �
 half true p n e = omega arith
 half false p n e = omega arith
 
-module _ (r : Raster) (mask : Field Bool) where
+module _ (joining : Joining) where
   -- the places i and j are joined by a walk
   abbrev Walk : ℕ → ℕ → Type 0
-  Walk i j = AreJoined r mask (i % r.width) (i / r.width) (j % r.width) (j / r.width)
+  Walk i j = AreJoinedBy joining (i % joining.width) (i / joining.width) (j % joining.width) (j / joining.width)
 
-  right_walk : (x y : ℕ) → IsTrue (is_open_inner r mask (right_edge x y)) → Walk (y * r.width + x) (y * r.width + (x + 1))
+  right_walk : (x y : ℕ) → IsTrue (joins joining (right_edge x y)) → Walk (y * joining.width + x) (y * joining.width + (x + 1))
   right_walk x y t =
-      let i = ends_in r mask (right_edge x y) t in
-      rw (mod-mul-add y r.width x i.0, div-mul-add y r.width x i.0, mod-mul-add y r.width (x + 1) i.2, div-mul-add y r.width (x + 1) i.2) (rightward here t)
+      let i = ends_in joining (right_edge x y) t in
+      rw (mod-mul-add y joining.width x i.0, div-mul-add y joining.width x i.0, mod-mul-add y joining.width (x + 1) i.2, div-mul-add y joining.width (x + 1) i.2) (rightward here t)
 
-  down_walk : (x y : ℕ) → IsTrue (is_open_inner r mask (down_edge x y)) → Walk (y * r.width + x) ((y + 1) * r.width + x)
+  down_walk : (x y : ℕ) → IsTrue (joins joining (down_edge x y)) → Walk (y * joining.width + x) ((y + 1) * joining.width + x)
   down_walk x y t =
-      let i = ends_in r mask (down_edge x y) t in
-      rw (mod-mul-add y r.width x i.0, div-mul-add y r.width x i.0, mod-mul-add (y + 1) r.width x i.0, div-mul-add (y + 1) r.width x i.0) (downward here t)
+      let i = ends_in joining (down_edge x y) t in
+      rw (mod-mul-add y joining.width x i.0, div-mul-add y joining.width x i.0, mod-mul-add (y + 1) joining.width x i.0, div-mul-add (y + 1) joining.width x i.0) (downward here t)
 
-  edge_walk : (e : Edge) → IsTrue (is_open_inner r mask e) → Walk (e.y * r.width + e.x) (end_y e * r.width + end_x e)
+  edge_walk : (e : Edge) → IsTrue (joins joining e) → Walk (e.y * joining.width + e.x) (end_y e * joining.width + end_x e)
   edge_walk e t =
-      let P : Edge → Type 0 = λ f. Walk (f.y * r.width + f.x) (end_y f * r.width + end_x f) in
-      let Q : Edge → Type 0 = λ f. IsTrue (is_open_inner r mask f) in
+      let P : Edge → Type 0 = λ f. Walk (f.y * joining.width + f.x) (end_y f * joining.width + end_x f) in
+      let Q : Edge → Type 0 = λ f. IsTrue (joins joining f) in
       elim (cases_Bool e.down) [
         | inl h ↦ (let s = down_is e h in subst P (sym s) (down_walk e.x e.y (subst Q s t)))
         | inr h ↦ (let s = right_is e h in subst P (sym s) (right_walk e.x e.y (subst Q s t)))
       ]
 
-  module _ (n : ℕ) (root : ℕ → ℕ) (is : IsFlooded r mask n root) where
-    -- nothing is joined where the ends have one root already, or no edge is an inner one with open ends
-    pub flooded_already : ((e : Edge) → IsTrue (is_open_inner r mask e) → edge_rank r.width e ≡ n → root (e.y * r.width + e.x) ≡ root (end_y e * r.width + end_x e)) → IsFlooded r mask (n + 1) root
+  module _ (n : ℕ) (root : ℕ → ℕ) (is : IsFlooded joining n root) where
+    -- nothing is joined where the ends have one root already, or no edge joins its ends
+    pub flooded_already : ((e : Edge) → IsTrue (joins joining e) → edge_rank joining.width e ≡ n → root (e.y * joining.width + e.x) ≡ root (end_y e * joining.width + end_x e)) → IsFlooded joining (n + 1) root
     flooded_already same = record {
       least = is.least;
       stays = is.stays;
       walks = is.walks;
-      edges = λ f t m. elim (below_or_last (edge_rank r.width f) n m) [ inl k ↦ is.edges f t k | inr k ↦ same f t k ];
+      edges = λ f t m. elim (below_or_last (edge_rank joining.width f) n m) [ inl k ↦ is.edges f t k | inr k ↦ same f t k ];
       alone = λ i l. is.alone i (omega arith);
     }
 
     -- else the trees of its ends become one
-    pub flooded_with : (e : Edge) → edge_rank r.width e ≡ n → IsTrue (is_open_inner r mask e) → IsFlooded r mask (n + 1) (root_with root (e.y * r.width + e.x) (end_y e * r.width + end_x e))
-    flooded_with e number open_inner =
-        let a = e.y * r.width + e.x in
-        let b = end_y e * r.width + end_x e in
+    pub flooded_with : (e : Edge) → edge_rank joining.width e ≡ n → IsTrue (joins joining e) → IsFlooded joining (n + 1) (root_with root (e.y * joining.width + e.x) (end_y e * joining.width + end_x e))
+    flooded_with e number joined =
+        let a = e.y * joining.width + e.x in
+        let b = end_y e * joining.width + end_x e in
         record {
           least = root_with-least root a b is.least;
           stays = root_with-stays root a b is.stays;
-          walks = root_with-related Walk (λ i j. joined_sym) (λ i j k. joined_trans) root a b is.walks (edge_walk e open_inner);
-          edges = λ f t m. elim (below_or_last (edge_rank r.width f) n m) [
-            | inl k ↦ root_with-same root a b (f.y * r.width + f.x) (end_y f * r.width + end_x f) (is.edges f t k)
-            | inr k ↦ rw (one_number r.width f e (ends_in r mask f t).2 (ends_in r mask e open_inner).2 (k ∙ sym number)) (root_with-ends root a b)
+          walks = root_with-related Walk (λ i j. walk_sym) (λ i j k. walk_trans) root a b is.walks (edge_walk e joined);
+          edges = λ f t m. elim (below_or_last (edge_rank joining.width f) n m) [
+            | inl k ↦ root_with-same root a b (f.y * joining.width + f.x) (end_y f * joining.width + end_x f) (is.edges f t k)
+            | inr k ↦ rw (one_number joining.width f e (ends_in joining f t).2 (ends_in joining e joined).2 (k ∙ sym number)) (root_with-ends root a b)
           ];
           alone = λ i l.
-              (let before : a ≤ b = starts_before e.down e.x e.y r.width in
+              (let before : a ≤ b = starts_before e.down e.x e.y joining.width in
               let last : 2 * b ≤ n = half e.down b n number in
               root_with-beyond root a b i (omega (arith, is.least a, before, last, l)) (omega (arith, is.least b, last, l)) (is.alone i (omega arith)));
         }
 
-  module _ (n : ℕ) (ps : List ℕ) (is : IsFlood r mask n ps) where
-    pub flood_already : ((e : Edge) → IsTrue (is_open_inner r mask e) → edge_rank r.width e ≡ n → is.root (e.y * r.width + e.x) ≡ is.root (end_y e * r.width + end_x e)) → IsFlood r mask (n + 1) ps
+  module _ (n : ℕ) (ps : List ℕ) (is : IsFlood joining n ps) where
+    pub flood_already : ((e : Edge) → IsTrue (joins joining e) → edge_rank joining.width e ≡ n → is.root (e.y * joining.width + e.x) ≡ is.root (end_y e * joining.width + end_x e)) → IsFlood joining (n + 1) ps
     flood_already same = record {
       root = is.root;
       size = is.size;
@@ -87,27 +86,27 @@ module _ (r : Raster) (mask : Field Bool) where
       flooded = flooded_already n is.root is.flooded same;
     }
 
-    pub flood_without : ((e : Edge) → IsTrue (is_open_inner r mask e) → edge_rank r.width e ≡ n → ⊥) → IsFlood r mask (n + 1) ps
+    pub flood_without : ((e : Edge) → IsTrue (joins joining e) → edge_rank joining.width e ≡ n → ⊥) → IsFlood joining (n + 1) ps
     flood_without none = flood_already (λ e t k. absurd (none e t k))
 
     -- a and b are the ends
-    pub flood_with : (qs : List ℕ) (e : Edge) (a b : ℕ) → a ≡ e.y * r.width + e.x → b ≡ end_y e * r.width + end_x e → edge_rank r.width e ≡ n → IsTrue (is_open_inner r mask e) → length qs ≡ length ps → IsForest qs (root_with is.root a b) → IsFlood r mask (n + 1) qs
-    flood_with qs e a b p q number open_inner size forest = record {
-      root = root_with is.root (e.y * r.width + e.x) (end_y e * r.width + end_x e);
+    pub flood_with : (qs : List ℕ) (e : Edge) (a b : ℕ) → a ≡ e.y * joining.width + e.x → b ≡ end_y e * joining.width + end_x e → edge_rank joining.width e ≡ n → IsTrue (joins joining e) → length qs ≡ length ps → IsForest qs (root_with is.root a b) → IsFlood joining (n + 1) qs
+    flood_with qs e a b p q number joined size forest = record {
+      root = root_with is.root (e.y * joining.width + e.x) (end_y e * joining.width + end_x e);
       size = size ∙ is.size;
       forest = rw (p, q) at forest;
-      flooded = flooded_with n is.root is.flooded e number open_inner;
+      flooded = flooded_with n is.root is.flooded e number joined;
     }
 
   -- there is no edge of number n, and the trees of the ends of the next become one
-  pub flood_then : (n : ℕ) (ps : List ℕ) (is : IsFlood r mask n ps) → ((e : Edge) → IsTrue (is_open_inner r mask e) → edge_rank r.width e ≡ n → ⊥)
-      → (qs : List ℕ) (e : Edge) (a b : ℕ) → a ≡ e.y * r.width + e.x → b ≡ end_y e * r.width + end_x e → edge_rank r.width e ≡ n + 1 → IsTrue (is_open_inner r mask e) → length qs ≡ length ps → IsForest qs (root_with is.root a b) → IsFlood r mask (n + 1 + 1) qs
+  pub flood_then : (n : ℕ) (ps : List ℕ) (is : IsFlood joining n ps) → ((e : Edge) → IsTrue (joins joining e) → edge_rank joining.width e ≡ n → ⊥)
+      → (qs : List ℕ) (e : Edge) (a b : ℕ) → a ≡ e.y * joining.width + e.x → b ≡ end_y e * joining.width + end_x e → edge_rank joining.width e ≡ n + 1 → IsTrue (joins joining e) → length qs ≡ length ps → IsForest qs (root_with is.root a b) → IsFlood joining (n + 1 + 1) qs
   unfolding flood_without flood_already
   flood_then n ps is none = flood_with (n + 1) ps (flood_without n ps is none)
 
 -- at first each pixel is its own parent, and nothing is joined
-pub flood_begins : (r : Raster) (mask : Field Bool) (ps : List ℕ) → length ps ≡ r.width * r.height → ((i : ℕ) → i < length ps → slice_index ps i ≡ i) → IsFlood r mask 0 ps
-flood_begins r mask ps size own = record {
+pub flood_begins : (joining : Joining) (ps : List ℕ) → length ps ≡ joining.width * joining.height → ((i : ℕ) → i < length ps → slice_index ps i ≡ i) → IsFlood joining 0 ps
+flood_begins joining ps size own = record {
   root = λ i. i;
   size = size;
   forest = record {

@@ -1,6 +1,9 @@
 pub mod ForestLemmas
 pub mod EdgeLemmas
+pub mod WalkLemmas
 pub mod FloodLemmas
 pub mod PixelLemmas
+pub mod TileLemmas
 pub mod NumberLemmas
 pub mod RegionLemmas
+pub mod MeasureLemmas

@@ -2,29 +2,28 @@
 use Rattle.std.specs.Prelude.{◌≡◌, ℕ, ◌+◌, ◌*◌, ◌/◌, ◌%◌, ◌<◌, ◌≤◌, Bool, ◌&&◌, ◌==◌, IsTrue, if◌then◌else◌, List, length, slice_index}
 use Rattle.raster_model.specs.declared.edge.Edge.{Edge}
 use Rattle.raster_model.specs.Sums.{Field, end_x, end_y}
-use Rattle.raster_model.specs.Raster.{Raster}
-use Rattle.raster_model.specs.Seams.{AreJoined, is_open_inner}
 use Rattle.sums_and_lists.specs.Sums.{count_below, one_if}
 use Rattle.joined_cells.specs.Forest.{IsForest}
+use Rattle.joined_cells.specs.Joining.{AreJoinedBy, Joining, joins}
 
 -- the number of an edge: edges go in the row order of their other ends, and each pixel has two numbers, for its left edge and its upper edge
 abbrev pub edge_rank : ℕ → Edge → ℕ
 edge_rank w e = 2 * (end_y e * w + end_x e) + (if e.down then 1 else 0)
 
--- a walk joins each pixel to its root, which is no later pixel; both ends of an inner edge with a number below k and open ends have the same root; and a pixel whose edges have numbers from k on is its own root
-pub record IsFlooded (r : Raster) (mask : Field Bool) (k : ℕ) (root : ℕ → ℕ) : Type 0 where
+-- a walk joins each pixel to its root, which is no later pixel; both ends of an edge that joins them and has a number below k have the same root; and a pixel whose edges have numbers from k on is its own root
+pub record IsFlooded (joining : Joining) (k : ℕ) (root : ℕ → ℕ) : Type 0 where
   pub least : (i : ℕ) → root i ≤ i
   pub stays : (i : ℕ) → root (root i) ≡ root i
-  pub walks : (i : ℕ) → AreJoined r mask (i % r.width) (i / r.width) (root i % r.width) (root i / r.width)
-  pub edges : (e : Edge) → IsTrue (is_open_inner r mask e) → edge_rank r.width e < k → root (e.y * r.width + e.x) ≡ root (end_y e * r.width + end_x e)
+  pub walks : (i : ℕ) → AreJoinedBy joining (i % joining.width) (i / joining.width) (root i % joining.width) (root i / joining.width)
+  pub edges : (e : Edge) → IsTrue (joins joining e) → edge_rank joining.width e < k → root (e.y * joining.width + e.x) ≡ root (end_y e * joining.width + end_x e)
   pub alone : (i : ℕ) → k ≤ 2 * i → root i ≡ i
 
 -- the parents of the pixels form such trees
-pub record IsFlood (r : Raster) (mask : Field Bool) (k : ℕ) (parents : List ℕ) : Type 0 where
+pub record IsFlood (joining : Joining) (k : ℕ) (parents : List ℕ) : Type 0 where
   pub root : ℕ → ℕ
-  pub size : length parents ≡ r.width * r.height
+  pub size : length parents ≡ joining.width * joining.height
   pub forest : IsForest parents root
-  pub flooded : IsFlooded r mask k root
+  pub flooded : IsFlooded joining k root
 
 -- the pixel at a place is open, and it is the root of its tree
 abbrev pub is_first : ℕ → Field Bool → (ℕ → ℕ) → ℕ → Bool
@@ -39,16 +38,16 @@ abbrev pub no_label : ℕ
 no_label = 4294967295
 
 -- the number of a pixel's tree, and none if the pixel is masked
-abbrev pub region_number : ℕ → Field Bool → (ℕ → ℕ) → ℕ → ℕ
-region_number w mask root i = if mask (i % w) (i / w) then firsts_before w mask root (root i) else no_label
+abbrev pub tree_number : ℕ → Field Bool → (ℕ → ℕ) → ℕ → ℕ
+tree_number w mask root i = if mask (i % w) (i / w) then firsts_before w mask root (root i) else no_label
 
 -- the first k places have their numbers, the others still have their parents, and `count` numbers are given
-pub record IsNumbered (r : Raster) (mask : Field Bool) (k count : ℕ) (labels : List ℕ) : Type 0 where
+pub record IsNumbered (joining : Joining) (k count : ℕ) (labels : List ℕ) : Type 0 where
   pub root : ℕ → ℕ
-  pub size : length labels ≡ r.width * r.height
-  pub flooded : IsFlooded r mask (2 * (r.height * r.width)) root
+  pub size : length labels ≡ joining.width * joining.height
+  pub flooded : IsFlooded joining (2 * (joining.height * joining.width)) root
   pub below : (i : ℕ) → k ≤ i → i < length labels → slice_index labels i ≤ i
   pub leads : (i : ℕ) → k ≤ i → i < length labels → root (slice_index labels i) ≡ root i
   pub ends : (i : ℕ) → k ≤ i → i < length labels → slice_index labels i ≡ i → root i ≡ i
-  pub numbers : (i : ℕ) → i < k → slice_index labels i ≡ region_number r.width mask root i
-  pub counted : count ≡ firsts_before r.width mask root k
+  pub numbers : (i : ℕ) → i < k → slice_index labels i ≡ tree_number joining.width joining.mask root i
+  pub counted : count ≡ firsts_before joining.width joining.mask root k

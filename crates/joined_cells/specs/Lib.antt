@@ -1,2 +1,5 @@
 pub mod Forest
+pub mod Joining
 pub mod Flood
+pub mod Trees
+pub mod Measures

@@ -11,6 +11,7 @@ use Rattle.raster_model.specs.Raster.{Raster}
 use Rattle.raster_model.specs.Seams.{AreOffsets, AreRegions, IsLabelling, is_open_inner}
 use Rattle.raster_model.specs.Seams.AreJoined.{here, rightward, downward}
 use Rattle.raster_model.specs.Sums.{Field, at_edge_start, at_edge_end, right_edge, down_edge}
+use Rattle.joined_cells.specs.Joining.{tiles_joined}
 use Rattle.joined_cells.proofs.EdgeLemmas.{down_is, ends_in, ends_open, right_is}
 use Rattle.seam_regions.specs.Regions.{region_label, region_at, IsTiledBy, AreRegionsOf}
 use Rattle.seam_regions.specs.RegionsView.{RegionsView}
@@ -30,14 +31,14 @@ region_open g m v x y is l h o = is.told x y l h ∙ rw o refl
 module _ (r : Raster) (mask : Field Bool) (labels : Field ℕ) (count : ℕ) (is : IsLabelling r mask labels count) where
   right_ends : (x y : ℕ) → IsTrue (is_open_inner r mask (right_edge x y)) → labels x y ≡ labels (x + 1) y
   right_ends x y i =
-      let t = ends_in r mask (right_edge x y) i in
-      let o = ends_open r mask (right_edge x y) i in
+      let t = ends_in (tiles_joined r mask) (right_edge x y) i in
+      let o = ends_open (tiles_joined r mask) (right_edge x y) i in
       (is.same x y (x + 1) y (t.0, t.1, o.0) (t.2, t.3, o.1)).1 (rightward here i)
 
   down_ends : (x y : ℕ) → IsTrue (is_open_inner r mask (down_edge x y)) → labels x y ≡ labels x (y + 1)
   down_ends x y i =
-      let t = ends_in r mask (down_edge x y) i in
-      let o = ends_open r mask (down_edge x y) i in
+      let t = ends_in (tiles_joined r mask) (down_edge x y) i in
+      let o = ends_open (tiles_joined r mask) (down_edge x y) i in
       (is.same x y x (y + 1) (t.0, t.1, o.0) (t.2, t.3, o.1)).1 (downward here i)
 
   pub one_label_at_ends : (e : Edge) → IsTrue (is_open_inner r mask e) → at_edge_start labels e ≡ at_edge_end labels e

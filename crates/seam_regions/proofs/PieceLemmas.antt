@@ -9,7 +9,8 @@ use Rattle.raster_model.specs.MaskView.{MaskView}
 use Rattle.raster_model.specs.Masks.{open_at}
 use Rattle.raster_model.specs.Tiles.{tile_at}
 use Rattle.joined_cells.proofs.ForestLemmas.{hung}
-use Rattle.joined_cells.proofs.PixelLemmas.{left_joined, row_before, upper_already, upper_none}
+use Rattle.joined_cells.proofs.PixelLemmas.{row_before}
+use Rattle.joined_cells.proofs.TileLemmas.{left_joined, upper_already, upper_none}
 use Rattle.seam_regions.specs.declared.pieces.Piece.{Piece}
 use Rattle.seam_regions.specs.Flood.{HasJoined, IsPiece, IsOpenPiece, tiled}
 use Rattle.seam_regions.proofs.TileTests.{one_tile_across, one_tile_along, two_tiles_across, two_tiles_along}

@@ -10,7 +10,7 @@ use Rattle.raster_model.specs.Raster.{Raster}
 use Rattle.raster_model.specs.Seams.{IsOpenPixel, IsFirst, AreJoined, AreRegions, is_open_inner}
 use Rattle.raster_model.specs.Seams.AreJoined.{here, rightward, leftward, downward, upward}
 use Rattle.joined_cells.proofs.RegionLemmas.{are_regions, label_told}
-use Rattle.seam_regions.specs.Flood.{HasNumbered, tiled}
+use Rattle.seam_regions.specs.Flood.{HasNumbered, tiled, tiling_joined}
 use Rattle.seam_regions.specs.Regions.{IsTiledBy, most_regions, region_label, AreRegionsOf}
 
 -- ---- walks in rasters with one size and the same tiles
@@ -65,6 +65,6 @@ module _ (g : Tiling) (m : MaskView) (labels : List ℕ) (count : ℕ) (is : Has
     width = refl;
     height = refl;
     regions = λ r t. regions_there r g (open_at m) t (region_label (record { width = g.width; height = g.height; labels = labels; count = count })) count (are_regions (tiled g) (open_at m) labels count wide is);
-    told = label_told (tiled g) (open_at m) labels count wide is (omega (arith, few));
+    told = label_told (tiling_joined g (open_at m)) labels count wide is (omega (arith, few));
     few = few;
   }

@@ -5,11 +5,11 @@ use Rattle.std.proofs.lemmas.Bool.{cases_eq, cases_lt}
 use Rattle.std.proofs.lemmas.Nat.{mod-mul-add, div-add-mod', mul-add-lt, mul-le}
 use Rattle.raster_model.specs.declared.tiling.Tiling.{Tiling}
 use Rattle.raster_model.specs.Sums.{Field, right_edge}
-use Rattle.raster_model.specs.Seams.{is_open_inner}
 use Rattle.joined_cells.specs.Flood.{is_first, firsts_before, IsFlooded}
-use Rattle.joined_cells.proofs.EdgeLemmas.{inner_open}
+use Rattle.joined_cells.specs.Joining.{joins}
+use Rattle.joined_cells.proofs.TileLemmas.{inner_open}
 use Rattle.joined_cells.proofs.NumberLemmas.{at_place, firsts_at_most}
-use Rattle.seam_regions.specs.Flood.{tiled}
+use Rattle.seam_regions.specs.Flood.{tiled, tiling_joined}
 use Rattle.seam_regions.specs.Regions.{most_regions}
 use Rattle.seam_regions.proofs.TileTests.{one_tile_across}
 use Rattle.sums_and_lists.specs.Sums.{count_below, one_if}
@@ -56,7 +56,7 @@ no_border : (n : ℕ) → (n ≡ 0 → ⊥) → 0 < n
 no_border zero h = absurd (h refl)
 no_border (suc n) h = omega arith
 
-module _ (g : Tiling) (mask : Field Bool) (root : ℕ → ℕ) (is : IsFlooded (tiled g) mask (2 * (g.height * g.width)) root) (y : ℕ) (m : y < g.height) where
+module _ (g : Tiling) (mask : Field Bool) (root : ℕ → ℕ) (is : IsFlooded (tiling_joined g mask) (2 * (g.height * g.width)) root) (y : ℕ) (m : y < g.height) where
   apart : (x : ℕ) → x + 1 < g.width → ((x + 1) % g.side ≡ 0 → ⊥) → is_first g.width mask root (y * g.width + x) ≡ true → is_first g.width mask root (y * g.width + (x + 1)) ≡ true → ⊥
   apart x l border p q =
       let i = y * g.width + x in
@@ -64,7 +64,7 @@ module _ (g : Tiling) (mask : Field Bool) (root : ℕ → ℕ) (is : IsFlooded (
       let a = tells_both (mask (i % g.width) (i / g.width)) (root i) i p in
       let b = tells_both (mask (j % g.width) (j / g.width)) (root j) j q in
       let one = one_tile_across g x (x + 1) refl y l (no_border ((x + 1) % g.side) border) in
-      let t : IsTrue (is_open_inner (tiled g) mask (right_edge x y)) = inner_open (tiled g) mask (right_edge x y) (omega arith) m l m one (sym (at_place (tiled g) mask x y (omega arith)) ∙ a.0) (sym (at_place (tiled g) mask (x + 1) y l) ∙ b.0) in
+      let t : IsTrue (joins (tiling_joined g mask) (right_edge x y)) = inner_open (tiled g) mask (right_edge x y) (omega arith) m l m one (sym (at_place (tiling_joined g mask) x y (omega arith)) ∙ a.0) (sym (at_place (tiling_joined g mask) (x + 1) y l) ∙ b.0) in
       let within : y * g.width + (x + 1) < g.width * g.height = mul-add-lt y g.width (x + 1) g.height m l in
       let turned : g.width * g.height ≡ g.height * g.width = omega arith in
       let same : root (y * g.width + x) ≡ root (y * g.width + (x + 1)) = is.edges (right_edge x y) t (omega (arith, within, turned)) in
@@ -84,7 +84,7 @@ module _ (g : Tiling) (mask : Field Bool) (root : ℕ → ℕ) (is : IsFlooded (
   row_sparse : 3 * count_below g.width (λ x. one_if (is_first g.width mask root (y * g.width + x))) ≤ 2 * g.width + 2
   row_sparse = sparse g.width (λ x. one_if (is_first g.width mask root (y * g.width + x))) (λ x. one_at_most (is_first g.width mask root (y * g.width + x))) of_three
 
-module _ (g : Tiling) (mask : Field Bool) (root : ℕ → ℕ) (is : IsFlooded (tiled g) mask (2 * (g.height * g.width)) root) where
+module _ (g : Tiling) (mask : Field Bool) (root : ℕ → ℕ) (is : IsFlooded (tiling_joined g mask) (2 * (g.height * g.width)) root) where
   rows_sparse : (y : ℕ) → y ≤ g.height → 8 ≤ g.width → 4 * firsts_before g.width mask root (y * g.width) ≤ 3 * (y * g.width)
   rows_sparse zero l b = let e : 0 * g.width ≡ 0 = omega arith in rw e (omega (arith, count_below-none (λ i. one_if (is_first g.width mask root i))))
   rows_sparse (suc y) l b =

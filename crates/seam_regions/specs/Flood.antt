@@ -7,17 +7,22 @@ use Rattle.raster_model.specs.Sums.{Field}
 use Rattle.raster_model.specs.Raster.{Raster}
 use Rattle.raster_model.specs.Tiles.{tiles_of, tile_at}
 use Rattle.joined_cells.specs.Flood.{IsFlood, IsNumbered}
+use Rattle.joined_cells.specs.Joining.{Joining, tiles_joined}
 use Rattle.seam_regions.specs.declared.pieces.Piece.{Piece}
 
 -- a raster with a tiling's size and tiles
 abbrev pub tiled : Tiling → Raster
 tiled g = record { width = g.width; height = g.height; phase = λ x y. 0; slope = λ down. pos 0; weight = λ e. 0; tile = tile_at g; tile_count = tiles_of g; steep = 1 }
 
+-- its inner edges join
+abbrev pub tiling_joined : Tiling → Field Bool → Joining
+tiling_joined g mask = tiles_joined (tiled g) mask
+
 abbrev pub HasJoined : Tiling → Field Bool → ℕ → List ℕ → Type 0
-HasJoined g mask k parents = IsFlood (tiled g) mask k parents
+HasJoined g mask k parents = IsFlood (tiling_joined g mask) k parents
 
 abbrev pub HasNumbered : Tiling → Field Bool → ℕ → ℕ → List ℕ → Type 0
-HasNumbered g mask k count labels = IsNumbered (tiled g) mask k count labels
+HasNumbered g mask k count labels = IsNumbered (tiling_joined g mask) k count labels
 
 -- the piece is the part of a row that lies in one tile
 pub record IsPiece (g : Tiling) (p : Piece) : Type 0 where

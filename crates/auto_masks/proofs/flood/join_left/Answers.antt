@@ -2,7 +2,7 @@ use Rattle.std.proofs.Common.{◌≡◌, ◌+◌, ◌-◌, ◌*◌, ◌≤◌, �
 use Rattle.std.specs.Prelude.{slice_index_or}
 use Rattle.sums_and_lists.proofs.Tests.{true_and_false}
 use Rattle.auto_masks.proofs.KeyLemmas.{keyed_is, one_key}
-use Rattle.joined_cells.proofs.PixelLemmas.{left_none, left_joined}
+use Rattle.joined_cells.proofs.TileLemmas.{left_none, left_joined}
 use Rattle.auto_masks.specs.Patches.{key_at, is_keyed, keyed, key_number}
 use Rattle.auto_masks.proofs.flood.join_left.Goals as goal
 

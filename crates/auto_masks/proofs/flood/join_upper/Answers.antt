@@ -2,7 +2,8 @@ use Rattle.std.proofs.Common.{◌≡◌, ◌-◌, ◌≤◌, ◌∙◌, ℕ, pos
 use Rattle.std.specs.Prelude.{slice_index_or}
 use Rattle.sums_and_lists.proofs.Tests.{true_and_false}
 use Rattle.auto_masks.proofs.KeyLemmas.{keyed_is, one_key}
-use Rattle.joined_cells.proofs.PixelLemmas.{above_is, upper_already, upper_joined, upper_none}
+use Rattle.joined_cells.proofs.PixelLemmas.{above_is}
+use Rattle.joined_cells.proofs.TileLemmas.{upper_already, upper_joined, upper_none}
 use Rattle.auto_masks.specs.Flood.{HasJoined}
 use Rattle.auto_masks.specs.Patches.{key_at, is_keyed, keyed, key_number}
 use Rattle.auto_masks.proofs.flood.join_upper.Goals as goal

@@ -1,6 +1,6 @@
 use Rattle.std.proofs.Common.{◌≡◌, ◌+◌, ◌*◌, ◌∙◌, length}
 use Rattle.std.proofs.lemmas.List.{with_items_is}
-use Rattle.auto_masks.proofs.MeasureLemmas.{zeros}
+use Rattle.joined_cells.proofs.MeasureLemmas.{zeros}
 use Rattle.auto_masks.proofs.sums.sum_strong.Goals as goal
 
 pub sum_rows-requires-clause-zeros : goal.sum_rows-requires-clause-zeros

@@ -1,6 +1,6 @@
 use Rattle.std.proofs.Common.{ℕ, ◌+◌, ◌-◌, ◌*◌, arith, subst, refl, length}
 use Rattle.raster_model.specs.Masks.{open_at}
-use Rattle.joined_cells.proofs.PixelLemmas.{left_none, upper_alone, upper_none}
+use Rattle.joined_cells.proofs.TileLemmas.{left_none, upper_alone, upper_none}
 use Rattle.seam_regions.specs.Flood.{HasJoined, tiled}
 use Rattle.seam_regions.proofs.PieceLemmas.{column, first_above, no_tile_above, no_tile_left, not_false, not_true, row_above, tile_above}
 use Rattle.seam_regions.proofs.flood.join_first.Goals as goal

@@ -1,7 +1,8 @@
 use Rattle.std.proofs.Common.{◌∙◌, ◌+◌, ◌-◌, ◌*◌, ◌<◌, sym, arith}
 use Rattle.raster_model.specs.Masks.{open_at}
-use Rattle.joined_cells.proofs.PixelLemmas.{left_none, left_masked, left_joined}
-use Rattle.seam_regions.specs.Flood.{tiled}
+use Rattle.joined_cells.proofs.PixelLemmas.{left_masked}
+use Rattle.joined_cells.proofs.TileLemmas.{left_none, left_joined}
+use Rattle.seam_regions.specs.Flood.{tiled, tiling_joined}
 use Rattle.seam_regions.proofs.PieceLemmas.{column, no_tile_left, tile_left}
 use Rattle.seam_regions.proofs.flood.join_left.Goals as goal
 
@@ -33,4 +34,4 @@ returns-else-is_open c =
     let p = c.args.piece in
     let is = c.requires.piece in
     let x = c.args.x in
-    left_masked (tiled g) (open_at c.args.mask.now) x p.y (column g p is x c.requires.column.1) is.row c.args.parents.now c.requires.flood (sym c.is_open.ensures ∙ c.if-is_open.false)
+    left_masked (tiling_joined g (open_at c.args.mask.now)) x p.y (column g p is x c.requires.column.1) is.row c.args.parents.now c.requires.flood (sym c.is_open.ensures ∙ c.if-is_open.false)

@@ -1,7 +1,8 @@
 use Rattle.std.proofs.Common.{ℕ, ◌∙◌, sym, arith, subst}
 use Rattle.raster_model.specs.Masks.{open_at}
-use Rattle.joined_cells.proofs.PixelLemmas.{upper_none, upper_masked, upper_joined}
-use Rattle.seam_regions.specs.Flood.{HasJoined, tiled}
+use Rattle.joined_cells.proofs.PixelLemmas.{upper_masked}
+use Rattle.joined_cells.proofs.TileLemmas.{upper_none, upper_joined}
+use Rattle.seam_regions.specs.Flood.{HasJoined, tiled, tiling_joined}
 use Rattle.seam_regions.proofs.PieceLemmas.{column, no_tile_above, row_above, tile_above}
 use Rattle.seam_regions.proofs.flood.join_upper.Goals as goal
 
@@ -33,5 +34,5 @@ returns-else-is_open c =
     let mask = open_at c.args.mask.now in
     let p = c.args.piece in
     let is = c.requires.piece in
-    let masked = upper_masked (tiled g) mask c.args.x p.y (column g p is c.args.x c.requires.column.1) is.row c.args.parents.now c.requires.flood (sym c.is_open.ensures ∙ c.if-is_open.false) in
+    let masked = upper_masked (tiling_joined g mask) c.args.x p.y (column g p is c.args.x c.requires.column.1) is.row c.args.parents.now c.requires.flood (sym c.is_open.ensures ∙ c.if-is_open.false) in
     subst (λ (n : ℕ). HasJoined g mask n c.args.parents.now) (omega arith) masked

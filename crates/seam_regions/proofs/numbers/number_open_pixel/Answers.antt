@@ -1,7 +1,7 @@
 use Rattle.std.proofs.Common.{◌+◌, ◌*◌, ◌≤◌, ◌∙◌, arith, refl}
 use Rattle.raster_model.specs.Masks.{open_at}
 use Rattle.joined_cells.proofs.NumberLemmas.{at_place, count_within}
-use Rattle.seam_regions.specs.Flood.{tiled}
+use Rattle.seam_regions.specs.Flood.{tiling_joined}
 use Rattle.seam_regions.proofs.NumberLemmas.{place_inside}
 use Rattle.seam_regions.proofs.numbers.number_open_pixel.Goals as goal
 
@@ -13,11 +13,10 @@ number_place-requires-clause-room c =
     let g = c.args.tiling.now in
     let p = c.requires.pixel in
     let place = c.args.y * g.width + c.args.x in
-    let few : c.args.count ≤ place = count_within (tiled g) (open_at c.args.mask.now) place c.args.count c.args.labels.now c.requires.numbers in
+    let few : c.args.count ≤ place = count_within (tiling_joined g (open_at c.args.mask.now)) place c.args.count c.args.labels.now c.requires.numbers in
     omega (arith, few, place_inside g c.args.x c.args.y (g.width * g.height) refl p.0 p.1, g.few)
 
 pub returns : goal.returns
 returns c =
-    let r = tiled c.args.tiling.now in
-    let mask = open_at c.args.mask.now in
-    c.number_place.ensures r mask c.requires.numbers (at_place r mask c.args.x c.args.y c.requires.pixel.0 ∙ c.requires.open)
+    let joining = tiling_joined c.args.tiling.now (open_at c.args.mask.now) in
+    c.number_place.ensures joining c.requires.numbers (at_place joining c.args.x c.args.y c.requires.pixel.0 ∙ c.requires.open)

@@ -1,11 +1,12 @@
 use Rattle.std.proofs.Common.{◌≡◌, ◌*◌, ◌∙◌, ℕ, List, arith, subst, sym}
-use Rattle.auto_masks.proofs.PatchLemmas.{has_pixel, label_of_patch, patches_are, size_says}
-use Rattle.auto_masks.specs.Measures.{AreMeasures}
+use Rattle.joined_cells.proofs.NumberLemmas.{size_says}
+use Rattle.auto_masks.proofs.PatchLemmas.{has_pixel, label_of_patch, patches_are}
+use Rattle.joined_cells.specs.Measures.{AreMeasures}
 use Rattle.auto_masks.specs.Patches.{ArePatchesOf, key_at}
 use Rattle.auto_masks.proofs.patches.Patches.of.Goals as goal
 
-pub measure_patches-requires : goal.measure_patches-requires
-measure_patches-requires c =
+pub measure_trees-requires : goal.measure_trees-requires
+measure_trees-requires c =
     let says = size_says c.args.width c.args.height c.requires.limits in
     omega (arith, c.deref.ensures.len, c.in_ok-numbers.numbers.labels.ok.0, c.in_ok-numbers.ensures.numbers.size, says.2)
 

@@ -1,7 +1,7 @@
 use Rattle.std.proofs.Common.{◌≡◌, ◌∙◌, arith, length}
 use Rattle.std.proofs.lemmas.List.{with_items_is}
-use Rattle.auto_masks.proofs.MeasureLemmas.{zeros}
-use Rattle.auto_masks.proofs.labels.measure_patches.Goals as goal
+use Rattle.joined_cells.proofs.MeasureLemmas.{zeros}
+use Rattle.joined_cells.proofs.measures.measure_trees.Goals as goal
 
 pub measure_all-requires-clause-zeros : goal.measure_all-requires-clause-zeros
 measure_all-requires-clause-zeros c n = zeros c.deref_mut.result.now c.args.count (c.deref_mut.ensures.value ∙ c.in_ok-sizes.ensures.items_if_clones_equal (λ y h. h)) n

@@ -3,8 +3,8 @@ use Rattle.std.specs.Prelude.{◌==◌, slice_index}
 use Rattle.std.specs.List.{count_by}
 use Rattle.std.proofs.lemmas.List.{take_all}
 use Rattle.std.proofs.lemmas.Bool.{cases_lt}
-use Rattle.auto_masks.proofs.MeasureLemmas.{first_is, measured_beyond, measured_on}
-use Rattle.auto_masks.proofs.labels.measure_all.Goals as goal
+use Rattle.joined_cells.proofs.MeasureLemmas.{first_is, measured_beyond, measured_on}
+use Rattle.joined_cells.proofs.measures.measure_all.Goals as goal
 
 pub loop-place-init : goal.loop-place-init
 loop-place-init c = record {

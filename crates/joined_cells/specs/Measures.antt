@@ -1,8 +1,8 @@
--- The sizes of patches and the places of their first pixels, by the labels of all pixels. No public clause cites this file.
+-- The sizes of trees and the places of their first pixels, by the labels of all pixels.
 use Rattle.std.specs.Prelude.{◌≡◌, ℕ, ◌<◌, ◌==◌, List, length, slice_index}
 use Rattle.std.specs.List.{count_by, position_or_len}
 
--- the measures of so many patches; a first place is told of a patch that has a pixel
+-- the measures of the trees with the numbers below a count; a first place is told of a tree that has a pixel
 pub record AreMeasures (labels : List ℕ) (count : ℕ) (sizes firsts : List ℕ) : Type 0 where
   pub sized : length sizes ≡ count
   pub placed : length firsts ≡ count

@@ -1,4 +1,4 @@
--- Sizes and first places of patches after so many labels.
+-- Sizes and first places of trees after so many labels.
 use Rattle.std.proofs.Common.{◌≡◌, ◌≢◌, ℕ, ◌+◌, ◌<◌, ◌≤◌, inl, inr, sym, ◌∙◌, ap, refl, arith, true, false, List, length, take, length-set}
 use Rattle.std.specs.Prelude.{◌==◌, replicate, slice_index, slice_set}
 use Rattle.std.specs.List.{count_by, position_or_len}

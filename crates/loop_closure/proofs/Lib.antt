@@ -1,3 +1,4 @@
 pub mod LoopLemmas
 pub mod SumLemmas
 pub mod TextLemmas
+pub mod Unique

@@ -56,7 +56,7 @@ cycles_close a b c closures cycles are whole x y lx ly t =
     let high : (loop_sum u v w -ℤ pos 65536 *ℤ n) ≤ℤ pos 32767 = subst (λ (s : ℤ). (s -ℤ pos 65536 *ℤ n) ≤ℤ pos 32767) e half.1 in
     (omega (arith, ints, low), omega (arith, ints, high))
 
-one_number : (s m n : ℤ) → IsHalfCycle (s -ℤ pos 65536 *ℤ m) → IsHalfCycle (s -ℤ pos 65536 *ℤ n) → m ≡ n
+pub one_number : (s m n : ℤ) → IsHalfCycle (s -ℤ pos 65536 *ℤ m) → IsHalfCycle (s -ℤ pos 65536 *ℤ n) → m ≡ n
 one_number s m n p q =
     let a = p.0 in
     let b = p.1 in

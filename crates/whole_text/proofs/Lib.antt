@@ -4,3 +4,4 @@ pub mod ReadLemmas
 pub mod SameLemmas
 pub mod ValueLemmas
 pub mod DecideLemmas
+pub mod LengthLemmas

@@ -1,3 +1,4 @@
+pub mod Length
 pub mod Parts
 pub mod Reading
 pub mod Text

@@ -1,6 +1,7 @@
 //! Laws of the definitions. The functions do nothing; each contract is the law.
 
 ghost use Rattle.text_parts.specs.Reading.{CutTextHasNoBreak, TextOrBrokenLine};
+ghost use Rattle.whole_text.specs.Length.{WholeTextsAreShort};
 ghost use Rattle.whole_text.specs.Reading.{BrokenWholeLineIsOne, WholeTextsAreUnique};
 ghost use Rattle.whole_text.specs.Text.{IsWholeText};
 
@@ -20,4 +21,9 @@ pub fn broken_whole_line_is_one()
 pub fn whole_or_broken_line()
     ensures either { TextOrBrokenLine IsWholeText }
     ensures cut { CutTextHasNoBreak IsWholeText }
+{}
+
+/// How long the text of a surface can be, so that no reader's limit cuts one.
+pub fn whole_texts_are_short()
+    ensures { WholeTextsAreShort }
 {}

@@ -8,10 +8,10 @@ use Rattle.auto_masks.specs.Patches.{key_at, is_keyed, keyed}
 
 -- edges between pixels of one key other than 0 join
 abbrev pub keys_joined : ℕ → ℕ → Field ℤ → Joining
-keys_joined w h keys = tiles_joined (keyed w h keys) (is_keyed keys)
+keys_joined width height keys = tiles_joined (keyed width height keys) (is_keyed keys)
 
 abbrev pub HasJoined : Extent → List ℤ → ℕ → List ℕ → Type 0
-HasJoined e keys k parents = IsFlood (keys_joined e.width e.height (key_at e.width keys)) k parents
+HasJoined extent keys k parents = IsFlood (keys_joined extent.width extent.height (key_at extent.width keys)) k parents
 
 abbrev pub HasNumbered : Extent → List ℤ → ℕ → ℕ → List ℕ → Type 0
-HasNumbered e keys k count labels = IsNumbered (keys_joined e.width e.height (key_at e.width keys)) k count labels
+HasNumbered extent keys k count labels = IsNumbered (keys_joined extent.width extent.height (key_at extent.width keys)) k count labels

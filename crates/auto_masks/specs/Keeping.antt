@@ -9,11 +9,11 @@ use Rattle.auto_masks.specs.PatchesView.{PatchesView}
 
 -- a pixel is in a patch of at least so many pixels
 abbrev pub is_large : PatchesView → ℕ → Field Bool
-is_large v least x y = not (patch_label v x y == no_label) && nat_le least (patch_size v (patch_label v x y))
+is_large patches least x y = not (patch_label patches x y == no_label) && nat_le least (patch_size patches (patch_label patches x y))
 
 -- the first k pixels in row order are open where their patches are large, and the others are open
-pub record AreScreenedSoFar (v : PatchesView) (least k : ℕ) (m : MaskView) : Type 0 where
-  pub width : m.width ≡ v.width
-  pub height : m.height ≡ v.height
-  pub done : (x y : ℕ) → x < v.width → y < v.height → y * v.width + x < k → open_at m x y ≡ is_large v least x y
-  pub rest : (x y : ℕ) → x < v.width → y < v.height → k ≤ y * v.width + x → IsTrue (open_at m x y)
+pub record AreScreenedSoFar (patches : PatchesView) (least k : ℕ) (view : MaskView) : Type 0 where
+  pub width : view.width ≡ patches.width
+  pub height : view.height ≡ patches.height
+  pub done : (x y : ℕ) → x < patches.width → y < patches.height → y * patches.width + x < k → open_at view x y ≡ is_large patches least x y
+  pub rest : (x y : ℕ) → x < patches.width → y < patches.height → k ≤ y * patches.width + x → IsTrue (open_at view x y)

@@ -6,5 +6,5 @@ use Rattle.auto_masks.specs.declared.terms.ScreenTerms.{ScreenTerms}
 use Rattle.auto_masks.specs.Screened.{passing_keys}
 
 -- the first k pixels in row order have their keys
-pub record AreKeyed (t : ScreenTerms) (weights : Plane) (clear : Field Bool) (k : ℕ) (keys : List ℤ) : Type 0 where
-  pub keyed : (i : ℕ) → i < k → slice_index_or keys i (pos 0) ≡ passing_keys t weights clear (i % weights.width) (i / weights.width)
+pub record AreKeyed (terms : ScreenTerms) (weights : Plane) (clear : Field Bool) (k : ℕ) (keys : List ℤ) : Type 0 where
+  pub keyed : (i : ℕ) → i < k → slice_index_or keys i (pos 0) ≡ passing_keys terms weights clear (i % weights.width) (i / weights.width)

@@ -9,19 +9,19 @@ use Rattle.auto_masks.specs.Screened.{IsScreened, passes}
 
 -- whatever the terms, a pixel that screening leaves open was open before, and it passes
 abbrev pub OnlyPassingPixelsStay : Type 0
-OnlyPassingPixelsStay = (t : ScreenTerms) (weights : Plane) (clear : Field Bool) (m : MaskView) (x y : ℕ) → x < weights.width → y < weights.height → IsScreened t weights clear m → IsTrue (open_at m x y) → IsTrue (clear x y) × IsTrue (passes t weights clear x y)
+OnlyPassingPixelsStay = (terms : ScreenTerms) (weights : Plane) (clear : Field Bool) (view : MaskView) (x y : ℕ) → x < weights.width → y < weights.height → IsScreened terms weights clear view → IsTrue (open_at view x y) → IsTrue (clear x y) × IsTrue (passes terms weights clear x y)
 
 -- without a patch rule each pixel that passes stays open
 abbrev pub AllPassingPixelsStay : Type 0
-AllPassingPixelsStay = (t : ScreenTerms) (weights : Plane) (clear : Field Bool) (m : MaskView) → t.patch ≤ 1 → IsScreened t weights clear m → IsMaskOf m weights.width weights.height (passes t weights clear)
+AllPassingPixelsStay = (terms : ScreenTerms) (weights : Plane) (clear : Field Bool) (view : MaskView) → terms.patch ≤ 1 → IsScreened terms weights clear view → IsMaskOf view weights.width weights.height (passes terms weights clear)
 
 -- without a patch rule screening twice leaves the pixels that pass under the first mask that it makes
 abbrev pub TwiceKeepsWhatPasses : Type 0
-TwiceKeepsWhatPasses = (t : ScreenTerms) (weights : Plane) (clear : Field Bool) (once twice : MaskView) → t.patch ≤ 1 → IsScreened t weights clear once → IsScreened t weights (open_at once) twice → IsMaskOf twice weights.width weights.height (passes t weights (open_at once))
+TwiceKeepsWhatPasses = (terms : ScreenTerms) (weights : Plane) (clear : Field Bool) (once twice : MaskView) → terms.patch ≤ 1 → IsScreened terms weights clear once → IsScreened terms weights (open_at once) twice → IsMaskOf twice weights.width weights.height (passes terms weights (open_at once))
 
 -- these are all its pixels if a pixel needs at most one strong pixel near it besides itself, or none can be near
 abbrev pub TwiceIsOnce : Type 0
-TwiceIsOnce = (t : ScreenTerms) (weights : Plane) (clear : Field Bool) (once twice : MaskView) → t.patch ≤ 1 → (t.count ≤ 2) ⊎ (t.radius ≡ 0) → IsScreened t weights clear once → IsScreened t weights (open_at once) twice → IsMaskOf twice weights.width weights.height (open_at once)
+TwiceIsOnce = (terms : ScreenTerms) (weights : Plane) (clear : Field Bool) (once twice : MaskView) → terms.patch ≤ 1 → (terms.count ≤ 2) ⊎ (terms.radius ≡ 0) → IsScreened terms weights clear once → IsScreened terms weights (open_at once) twice → IsMaskOf twice weights.width weights.height (open_at once)
 
 -- terms by which a pixel of any weight needs three open pixels within one column and one row
 abbrev pub three_near : ScreenTerms

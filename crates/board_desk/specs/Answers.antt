@@ -112,7 +112,7 @@ tells_end (Err fault) = false
 
 -- a revision is the present one, which counts every edit of the history that was seen, the analyst's own among them; it is no earlier than any publication that the pass had seen
 abbrev pub IsCurrent : PassView → PassView → ℕ → Type 0
-IsCurrent p q r = IsNoLater (newest_of p.seen) (Some r) × (r ≡ now_of q.seen)
+IsCurrent p q revision = IsNoLater (newest_of p.seen) (Some revision) × (revision ≡ now_of q.seen)
 
 -- what is shown or settled is no earlier than any publication that the pass had seen; a settled revision is the present one
 abbrev pub IsUpToDate : PassView → PassView → Result Advance AdvanceFault → Type 0
@@ -125,12 +125,12 @@ IsUpToDate p q (Err fault) = ⊤
 
 -- if the answer is that the surface is not there yet, the next command is to settle
 abbrev pub AwaitsSurface : Session → PassView → Result Advance AdvanceFault → Type 0
-AwaitsSurface s q (Ok (advances.Revised r)) = ⊤
-AwaitsSurface s q (Ok (advances.Settled r)) = ⊤
-AwaitsSurface s q (Ok (advances.Shown r)) = ⊤
-AwaitsSurface s q (Ok (advances.NotYet r)) = IsAtSettle s q
-AwaitsSurface s q (Ok advances.Ended) = ⊤
-AwaitsSurface s q (Err fault) = ⊤
+AwaitsSurface s pass (Ok (advances.Revised r)) = ⊤
+AwaitsSurface s pass (Ok (advances.Settled r)) = ⊤
+AwaitsSurface s pass (Ok (advances.Shown r)) = ⊤
+AwaitsSurface s pass (Ok (advances.NotYet r)) = IsAtSettle s pass
+AwaitsSurface s pass (Ok advances.Ended) = ⊤
+AwaitsSurface s pass (Err fault) = ⊤
 
 -- what may be answered if the next command is to settle
 abbrev pub IsOfSettle : Result Advance AdvanceFault → Type 0

@@ -28,9 +28,9 @@ pub record PassView : Type 0 where
   -- the desk has answered that the analyst's script is at its end
   pub ended : Bool
 
-pub record IsPassOf (d : DeskView) (p : PassView) : Type 0 where
-  pub table : p.table ≡ d.table
-  pub session : p.session ≡ Some d.session
+pub record IsPassOf (desk : DeskView) (pass : PassView) : Type 0 where
+  pub table : pass.table ≡ desk.table
+  pub session : pass.session ≡ Some desk.session
 
 -- q is the pass p at another time: it has the same desk and the same analyst
 pub record IsSamePass (p q : PassView) : Type 0 where
@@ -52,25 +52,25 @@ pub record HasNotMoved (p q : PassView) : Type 0 where
 -- ---- passes by themselves
 -- by what was seen, the analyst's script is at its end; by what was added, its next command is to settle
 abbrev pub HasNoCommandLeft : PassView → Type 0
-HasNoCommandLeft p = (s : Session) (a : ℕ) → p.session ≡ Some s → p.analyst ≡ Some a → next_command s p.seen a ≡ None
+HasNoCommandLeft pass = (s : Session) (a : ℕ) → pass.session ≡ Some s → pass.analyst ≡ Some a → next_command s pass.seen a ≡ None
 
-pub record IsAtSettle (s : Session) (p : PassView) : Type 0 where
+pub record IsAtSettle (s : Session) (pass : PassView) : Type 0 where
   pub analyst : ℕ
-  pub is : p.analyst ≡ Some analyst
-  pub next : slice_get (script_of s analyst) (length p.mine) ≡ Some Settle
+  pub is : pass.analyst ≡ Some analyst
+  pub next : slice_get (script_of s analyst) (length pass.mine) ≡ Some Settle
 
 -- what was added in the analyst's name is what the history that was seen has of it; if an end was told, the script is at its end there
-pub record IsSound (p : PassView) : Type 0 where
-  pub exact : p.mine ≡ mine_of p.analyst p.seen
-  pub at_end : p.ended ≡ true → HasNoCommandLeft p
+pub record IsSound (pass : PassView) : Type 0 where
+  pub exact : pass.mine ≡ mine_of pass.analyst pass.seen
+  pub at_end : pass.ended ≡ true → HasNoCommandLeft pass
 
 -- the passes of the analysts from 1 on, in order, before the first entry
 abbrev pub first_pass : DeskView → ℕ → PassView
-first_pass d analyst = record { table = d.table; session = Some d.session; analyst = Some analyst; seen = []; mine = []; ended = false }
+first_pass desk analyst = record { table = desk.table; session = Some desk.session; analyst = Some analyst; seen = []; mine = []; ended = false }
 
 abbrev pub first_passes : DeskView → ℕ → List PassView
-first_passes d zero = []
-first_passes d (suc analysts) = first_passes d analysts ++ first_pass d (analysts + 1) ∷ []
+first_passes desk zero = []
+first_passes desk (suc analysts) = first_passes desk analysts ++ first_pass desk (analysts + 1) ∷ []
 
 -- each pass has an analyst
 abbrev pub HaveAnalysts : List PassView → Type 0
@@ -103,7 +103,7 @@ pub record AddsOwn (p q : PassView) (entry : ℕ → Entry) : Type 0 where
 -- ---- handing over
 -- a pass with no analyst that has seen as much
 abbrev pub worker_pass : PassView → PassView
-worker_pass p = record { table = p.table; session = p.session; analyst = None; seen = p.seen; mine = []; ended = false }
+worker_pass pass = record { table = pass.table; session = pass.session; analyst = None; seen = pass.seen; mine = []; ended = false }
 
 -- the pass p took w in, and is now q: what was seen is the longer of both histories, and the other begins it
 pub record Merged (p w q : PassView) : Type 0 where
@@ -115,6 +115,6 @@ pub record Merged (p w q : PassView) : Type 0 where
 
 -- ---- closing
 -- the history begins with what the pass had seen, and its entries of the analyst are exactly what was added through the pass
-pub record Stands (log : List Entry) (p : PassView) : Type 0 where
-  pub begins : IsPrefix p.seen log
-  pub exact : p.mine ≡ mine_of p.analyst log
+pub record Stands (log : List Entry) (pass : PassView) : Type 0 where
+  pub begins : IsPrefix pass.seen log
+  pub exact : pass.mine ≡ mine_of pass.analyst log

@@ -143,8 +143,8 @@ pub record Grows (analyst : Option ℕ) (b c : BoardView) : Type 0 where
   pub others : (a : ℕ) → (analyst ≡ Some a → ⊥) → mine_of (Some a) added ≡ []
 
 -- the seat with the view v took the board b out, and is n now
-pub record Held (v : View) (b : BoardView) (n : Place) : Type 0 where
-  pub now : n ≡ (holding_it v b.entries, (0, None) ∷ [])
+pub record Held (v : View) (b : BoardView) (place : Place) : Type 0 where
+  pub now : place ≡ (holding_it v b.entries, (0, None) ∷ [])
   pub begins : IsPrefix v.own.seen b.entries
   pub exact : v.own.mine ≡ mine_of v.own.analyst b.entries
   pub session_is : (x : Session) → v.session ≡ Some x → x ≡ b.session

@@ -11,13 +11,13 @@ use Rattle.certificates.specs.declared.cut.Cut.TheVariants.{Tiles, Whole}
 
 -- the tile of a pixel, and how many tiles there are
 abbrev pub tile_in : Scene → Cut → Field ℕ
-tile_in s Tiles = tile_at s.tiling
-tile_in s Whole = λ x y. 0
+tile_in scene Tiles = tile_at scene.tiling
+tile_in scene Whole = λ x y. 0
 
 abbrev pub count_in : Scene → Cut → ℕ
-count_in s Tiles = tiles_of s.tiling
-count_in s Whole = 1
+count_in scene Tiles = tiles_of scene.tiling
+count_in scene Whole = 1
 
 -- the raster with these tiles
 abbrev pub raster_cut : Scene → Cut → Raster
-raster_cut s cut = tiled_by (raster_of s) (tile_in s cut) (count_in s cut)
+raster_cut scene cut = tiled_by (raster_of scene) (tile_in scene cut) (count_in scene cut)

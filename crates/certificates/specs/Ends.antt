@@ -8,8 +8,8 @@ TellsEnds side n last = (k : ℕ) → k < n → slice_index_or last k Bool.false
 
 -- an edge leads beyond a multiple of the side
 abbrev pub passes_end : ℕ → Edge → Bool
-passes_end side e = if e.down then (e.y + 1) % side == 0 else (e.x + 1) % side == 0
+passes_end side edge = if edge.down then (edge.y + 1) % side == 0 else (edge.x + 1) % side == 0
 
 -- no edge that starts in row y, from column a to before column b, leads beyond such a multiple
 abbrev pub PassNoEnd : ℕ → ℕ → ℕ → ℕ → Type 0
-PassNoEnd side a b y = (e : Edge) → e.y ≡ y → a ≤ e.x → e.x < b → passes_end side e ≡ Bool.false
+PassNoEnd side a b y = (edge : Edge) → edge.y ≡ y → a ≤ edge.x → edge.x < b → passes_end side edge ≡ Bool.false

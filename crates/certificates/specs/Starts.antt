@@ -6,4 +6,4 @@ use Rattle.raster_model.specs.Flows.{is_seam_edge}
 
 -- in the columns from a below b no seam edge starts in row y
 abbrev pub HasNoSeams : Raster → ℕ → ℕ → ℕ → Type 0
-HasNoSeams r a b y = (e : Edge) → e.y ≡ y → a ≤ e.x → e.x < b → is_seam_edge r e ≡ false
+HasNoSeams raster a b y = (edge : Edge) → edge.y ≡ y → a ≤ edge.x → edge.x < b → is_seam_edge raster edge ≡ false

@@ -26,8 +26,8 @@ pub record HasOneForEach (g : Tiling) (results : List TileResult) : Type 0 where
 
 -- the cycles that a result has at a pixel of its tile; and at each pixel, those of the result of the pixel's tile
 abbrev pub cycles_of : Scene → Option TileResult → Field ℤ
-cycles_of s (Some k) x y = listed_cycles (window_in s k) k.cycles.items x y
-cycles_of s None x y = pos 0
+cycles_of scene (Some k) x y = listed_cycles (window_in scene k) k.cycles.items x y
+cycles_of scene None x y = pos 0
 
 unfoldable pub solved_cycles : Scene → List TileResult → Field ℤ
-solved_cycles s results x y = cycles_of s (slice_get results (tile_at s.tiling x y)) x y
+solved_cycles scene results x y = cycles_of scene (slice_get results (tile_at scene.tiling x y)) x y

@@ -14,85 +14,85 @@ use Rattle.certificates.specs.Cuts.{raster_cut}
 use Rattle.certificates.specs.Verdicts.{IsFacesVerdict}
 
 abbrev pub held_raster : Tile → Raster
-held_raster k = raster_cut k.scene.now k.cut
+held_raster tile = raster_cut tile.scene.now tile.cut
 
 abbrev pub held_mask : Tile → Field Bool
-held_mask k = open_at k.mask.now
+held_mask tile = open_at tile.mask.now
 
 abbrev pub HasFaces : Tile → List ℤ → Type 0
-HasFaces k faces = length faces ≡ cell_count (held_raster k) k.number
+HasFaces tile faces = length faces ≡ cell_count (held_raster tile) tile.number
 
 -- the faces of the tile's cells, and 0 elsewhere; their differences, their products with the residues, and the sum of these
 abbrev pub faces_at : Tile → List ℤ → Field ℤ
-faces_at k faces = faces_of_tile (held_raster k) k.number (face_at (held_raster k) k.number faces)
+faces_at tile faces = faces_of_tile (held_raster tile) tile.number (face_at (held_raster tile) tile.number faces)
 
 abbrev pub difference_at : Tile → List ℤ → Edge → ℤ
-difference_at k faces = face_difference (faces_at k faces)
+difference_at tile faces = face_difference (faces_at tile faces)
 
 abbrev pub product_at : Tile → List ℤ → Field ℤ
-product_at k faces = face_product (held_raster k) k.number (face_at (held_raster k) k.number faces)
+product_at tile faces = face_product (held_raster tile) tile.number (face_at (held_raster tile) tile.number faces)
 
 abbrev pub total_at : Tile → List ℤ → ℤ
-total_at k faces = face_total (held_raster k) k.number (face_at (held_raster k) k.number faces)
+total_at tile faces = face_total (held_raster tile) tile.number (face_at (held_raster tile) tile.number faces)
 
 -- by how much the faces at the inner edges differ by more than the weights: for the edges that start at a pixel, and in all; and the bound
 abbrev pub over_at : Tile → List ℤ → Field ℤ
-over_at k faces = face_over_from (held_raster k) (held_mask k) k.number (face_at (held_raster k) k.number faces)
+over_at tile faces = face_over_from (held_raster tile) (held_mask tile) tile.number (face_at (held_raster tile) tile.number faces)
 
 abbrev pub over_in : Tile → List ℤ → ℤ
-over_in k faces = face_over_total (held_raster k) (held_mask k) k.number (face_at (held_raster k) k.number faces)
+over_in tile faces = face_over_total (held_raster tile) (held_mask tile) tile.number (face_at (held_raster tile) tile.number faces)
 
 abbrev pub bound_in : Tile → List ℤ → ℤ
-bound_in k faces = face_bound (held_raster k) (held_mask k) k.number (face_at (held_raster k) k.number faces)
+bound_in tile faces = face_bound (held_raster tile) (held_mask tile) tile.number (face_at (held_raster tile) tile.number faces)
 
 -- an inner edge of the tile; the faces fit at an edge; at all inner edges
 abbrev pub IsInner : Tile → Edge → Type 0
-IsInner k = IsTileEdge (held_raster k) k.number
+IsInner tile = IsTileEdge (held_raster tile) tile.number
 
 abbrev pub FitAt : Tile → List ℤ → Edge → Type 0
-FitAt k faces = FacesFit (held_raster k) (held_mask k) k.number (face_at (held_raster k) k.number faces)
+FitAt tile faces = FacesFit (held_raster tile) (held_mask tile) tile.number (face_at (held_raster tile) tile.number faces)
 
 abbrev pub AllFit : Tile → List ℤ → Type 0
-AllFit k faces = (e : Edge) → IsInner k e → FitAt k faces e
+AllFit tile faces = (edge : Edge) → IsInner tile edge → FitAt tile faces edge
 
 -- the faces fit at each right edge that starts in row y, from the tile's first column to before column n; and at each such down edge, from the tile's second column
 abbrev pub FitRight : Tile → List ℤ → ℕ → ℕ → Type 0
-FitRight k faces y n = (x : ℕ) → k.window.x0 ≤ x → x < n → FitAt k faces (right_edge x y)
+FitRight tile faces y n = (x : ℕ) → tile.window.x0 ≤ x → x < n → FitAt tile faces (right_edge x y)
 
 abbrev pub FitDown : Tile → List ℤ → ℕ → ℕ → Type 0
-FitDown k faces y n = (x : ℕ) → k.window.x0 + 1 ≤ x → x < n → FitAt k faces (down_edge x y)
+FitDown tile faces y n = (x : ℕ) → tile.window.x0 + 1 ≤ x → x < n → FitAt tile faces (down_edge x y)
 
 -- they fit at each inner edge that starts in row y
 abbrev pub FitIn : Tile → List ℤ → ℕ → Type 0
-FitIn k faces y = (e : Edge) → IsInner k e → e.y ≡ y → FitAt k faces e
+FitIn tile faces y = (edge : Edge) → IsInner tile edge → edge.y ≡ y → FitAt tile faces edge
 
 -- the surface of some cycles, what it costs at the edges that start at a pixel, and in the tile
 abbrev pub surface_of_cycles : Tile → Field ℤ → Field ℤ
-surface_of_cycles k cycles = lifted (held_raster k) cycles
+surface_of_cycles tile cycles = lifted (held_raster tile) cycles
 
 abbrev pub cost_at : Tile → Field ℤ → Field ℤ
-cost_at k cycles = cost_from (held_raster k) (held_mask k) k.number (surface_of_cycles k cycles)
+cost_at tile cycles = cost_from (held_raster tile) (held_mask tile) tile.number (surface_of_cycles tile cycles)
 
 abbrev pub cost_in : Tile → Field ℤ → ℤ
-cost_in k cycles = tile_cost (held_raster k) (held_mask k) k.number (surface_of_cycles k cycles)
+cost_in tile cycles = tile_cost (held_raster tile) (held_mask tile) tile.number (surface_of_cycles tile cycles)
 
 -- the faces certify that surface in the tile; the verdict on them
 abbrev pub AreCertified : Tile → Field ℤ → List ℤ → Type 0
-AreCertified k cycles faces = IsCertifiedTile (held_raster k) (held_mask k) k.number (surface_of_cycles k cycles) faces
+AreCertified tile cycles faces = IsCertifiedTile (held_raster tile) (held_mask tile) tile.number (surface_of_cycles tile cycles) faces
 
 abbrev pub IsVerdictOn : Tile → Field ℤ → List ℤ → TileVerdict → Type 0
-IsVerdictOn k cycles faces verdict = IsFacesVerdict (held_raster k) (held_mask k) k.number (surface_of_cycles k cycles) faces verdict
+IsVerdictOn tile cycles faces verdict = IsFacesVerdict (held_raster tile) (held_mask tile) tile.number (surface_of_cycles tile cycles) faces verdict
 
 abbrev pub KnowsTile : Tile → Field Bool → Type 0
-KnowsTile k = KnowsOpenOf (held_raster k) (held_mask k) k.number
+KnowsTile tile = KnowsOpenOf (held_raster tile) (held_mask tile) tile.number
 
 -- the tile's pixels in row y and in the next row are open
 abbrev pub AreRowsOpen : Tile → ℕ → Type 0
-AreRowsOpen k y = (a b : ℕ) → IsWithin k.window a b → y ≤ b → b ≤ y + 1 → IsTrue (held_mask k a b)
+AreRowsOpen tile y = (a b : ℕ) → IsWithin tile.window a b → y ≤ b → b ≤ y + 1 → IsTrue (held_mask tile a b)
 
 -- the surface of some cycles departs at no right edge that starts in row y, from the tile's first column to before column n; nor at such a down edge
 abbrev pub TileFollowsRight : Tile → Field ℤ → ℕ → ℕ → Type 0
-TileFollowsRight k cycles y n = (x : ℕ) → k.window.x0 ≤ x → x < n → departure (held_raster k) (surface_of_cycles k cycles) (right_edge x y) ≡ pos 0
+TileFollowsRight tile cycles y n = (x : ℕ) → tile.window.x0 ≤ x → x < n → departure (held_raster tile) (surface_of_cycles tile cycles) (right_edge x y) ≡ pos 0
 
 abbrev pub TileFollowsDown : Tile → Field ℤ → ℕ → ℕ → Type 0
-TileFollowsDown k cycles y n = (x : ℕ) → k.window.x0 ≤ x → x < n → departure (held_raster k) (surface_of_cycles k cycles) (down_edge x y) ≡ pos 0
+TileFollowsDown tile cycles y n = (x : ℕ) → tile.window.x0 ≤ x → x < n → departure (held_raster tile) (surface_of_cycles tile cycles) (down_edge x y) ≡ pos 0

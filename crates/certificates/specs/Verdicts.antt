@@ -15,32 +15,32 @@ use Rattle.certificates.specs.Results.{HasShape, AreInRange, IsFirstOutside, win
 
 -- the faces fit at each inner edge of the tile, masked ends included; the first inner edge at which they do not
 abbrev pub AllFacesFit : Raster → Field Bool → ℕ → Field ℤ → Type 0
-AllFacesFit r mask t f = HoldsAtAll (IsTileEdge r t) (FacesFit r mask t f)
+AllFacesFit raster mask tile f = HoldsAtAll (IsTileEdge raster tile) (FacesFit raster mask tile f)
 
 abbrev pub IsFirstUnfit : Raster → Field Bool → ℕ → Field ℤ → Edge → Type 0
-IsFirstUnfit r mask t f = IsFirstBreak (IsTileEdge r t) (FacesFit r mask t f)
+IsFirstUnfit raster mask tile f = IsFirstBreak (IsTileEdge raster tile) (FacesFit raster mask tile f)
 
 -- the verdict on a list of faces, for a surface
 abbrev pub IsFacesVerdict : Raster → Field Bool → ℕ → Field ℤ → List ℤ → TileVerdict → Type 0
-IsFacesVerdict r mask t S faces Good = IsCertifiedTile r mask t S faces
-IsFacesVerdict r mask t S faces Shape = length faces ≢ cell_count r t
-IsFacesVerdict r mask t S faces (Range x y) = ⊥
-IsFacesVerdict r mask t S faces (FaceAtEdge e) = (length faces ≡ cell_count r t) × IsFirstUnfit r mask t (face_at r t faces) e
-IsFacesVerdict r mask t S faces (CostDiffers cost bound) = (length faces ≡ cell_count r t) × AllFacesFit r mask t (face_at r t faces) × (pos cost ≡ tile_cost r mask t S) × (bound ≡ face_bound r mask t (face_at r t faces)) × (bound ≢ pos cost)
+IsFacesVerdict raster mask tile S faces Good = IsCertifiedTile raster mask tile S faces
+IsFacesVerdict raster mask tile S faces Shape = length faces ≢ cell_count raster tile
+IsFacesVerdict raster mask tile S faces (Range x y) = ⊥
+IsFacesVerdict raster mask tile S faces (FaceAtEdge e) = (length faces ≡ cell_count raster tile) × IsFirstUnfit raster mask tile (face_at raster tile faces) e
+IsFacesVerdict raster mask tile S faces (CostDiffers cost bound) = (length faces ≡ cell_count raster tile) × AllFacesFit raster mask tile (face_at raster tile faces) × (pos cost ≡ tile_cost raster mask tile S) × (bound ≡ face_bound raster mask tile (face_at raster tile faces)) × (bound ≢ pos cost)
 
 -- the verdict on the faces of a result's tile, for the result's surface
 abbrev pub IsVerdictOnFaces : Scene → Field Bool → TileResult → TileVerdict → Type 0
-IsVerdictOnFaces s mask k = IsFacesVerdict (raster_of s) mask k.tile (result_surface s k) k.faces.items
+IsVerdictOnFaces scene mask outcome = IsFacesVerdict (raster_of scene) mask outcome.tile (result_surface scene outcome) outcome.faces.items
 
 -- the verdict on a result: its shape, then its range, then its faces
 abbrev pub IsTileVerdict : Scene → Field Bool → TileResult → TileVerdict → Type 0
-IsTileVerdict s mask k Shape = HasShape s k → ⊥
-IsTileVerdict s mask k (Range x y) = HasShape s k × IsFirstOutside (window_in s k) mask k.cycles.items x y
-IsTileVerdict s mask k verdict = HasShape s k × AreInRange (window_in s k) mask k.cycles.items × IsVerdictOnFaces s mask k verdict
+IsTileVerdict scene mask outcome Shape = HasShape scene outcome → ⊥
+IsTileVerdict scene mask outcome (Range x y) = HasShape scene outcome × IsFirstOutside (window_in scene outcome) mask outcome.cycles.items x y
+IsTileVerdict scene mask outcome verdict = HasShape scene outcome × AreInRange (window_in scene outcome) mask outcome.cycles.items × IsVerdictOnFaces scene mask outcome verdict
 
 -- no input has two verdicts
 abbrev pub FacesHaveOneVerdict : Type 0
-FacesHaveOneVerdict = (r : Raster) (mask : Field Bool) (t : ℕ) (S : Field ℤ) (faces : List ℤ) (a b : TileVerdict) → IsFacesVerdict r mask t S faces a → IsFacesVerdict r mask t S faces b → a ≡ b
+FacesHaveOneVerdict = (raster : Raster) (mask : Field Bool) (tile : ℕ) (S : Field ℤ) (faces : List ℤ) (a b : TileVerdict) → IsFacesVerdict raster mask tile S faces a → IsFacesVerdict raster mask tile S faces b → a ≡ b
 
 abbrev pub TilesHaveOneVerdict : Type 0
-TilesHaveOneVerdict = (s : Scene) (mask : Field Bool) (k : TileResult) (a b : TileVerdict) → IsTileVerdict s mask k a → IsTileVerdict s mask k b → a ≡ b
+TilesHaveOneVerdict = (scene : Scene) (mask : Field Bool) (outcome : TileResult) (a b : TileVerdict) → IsTileVerdict scene mask outcome a → IsTileVerdict scene mask outcome b → a ≡ b

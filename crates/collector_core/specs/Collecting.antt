@@ -12,8 +12,8 @@ use Rattle.tile_board.specs.Calls.{ArePublishable, IsGathering}
 
 -- over the regions of the gathered mask they certify the surface that they make of the gathered results
 abbrev pub CertifyGathered : Gathered → SeamResult → Type 0
-CertifyGathered g seams = (regions : RegionsView) → AreRegionsOf (arc_value g.session).scene.tiling g.mask regions → IsPartsVerdict (parts_from (arc_value g.session) g.mask regions g.tiles seams) Good
+CertifyGathered gathered seams = (regions : RegionsView) → AreRegionsOf (arc_value gathered.session).scene.tiling gathered.mask regions → IsPartsVerdict (parts_from (arc_value gathered.session) gathered.mask regions gathered.tiles seams) Good
 
 -- whichever board this was gathered from, all that it would publish with them is certified
 abbrev pub WillPublish : Gathered → SeamResult → Type 0
-WillPublish g seams = (v : BoardView) (p : Parts) → IsGathering v g → ArePublishable v seams p → IsPartsVerdict p Good
+WillPublish gathered seams = (board : BoardView) (parts : Parts) → IsGathering board gathered → ArePublishable board seams parts → IsPartsVerdict parts Good

@@ -30,10 +30,10 @@ failing (suc n) p = (if p n then 0 else 1) + failing n p
 
 -- how many tiles are not kept, and how many commands an analyst has not done
 abbrev pub tiles_left : BoardView → ℕ
-tiles_left v = failing (tiles_of v.session.scene.tiling) (is_kept v.session v.entries)
+tiles_left board = failing (tiles_of board.session.scene.tiling) (is_kept board.session board.entries)
 
 abbrev pub commands_left : ℕ → BoardView → ℕ
-commands_left a v = length (script_of v.session a) - done_by a v.entries
+commands_left analyst board = length (script_of board.session analyst) - done_by analyst board.entries
 
 -- a tile more is kept; or all were
 abbrev pub KeepsMore : BoardView → BoardView → Bool → Type 0
@@ -42,5 +42,5 @@ KeepsMore old new false = AreAllKept new.session new.entries
 
 -- a command more is done; or all were
 abbrev pub DoesMore : ℕ → BoardView → BoardView → Bool → Type 0
-DoesMore a old new true = commands_left a new < commands_left a old
-DoesMore a old new false = next_command new.session new.entries a ≡ None
+DoesMore analyst old new true = commands_left analyst new < commands_left analyst old
+DoesMore analyst old new false = next_command new.session new.entries analyst ≡ None

@@ -8,7 +8,7 @@ use Rattle.grid_writer.specs.Values.{is_value}
 
 -- the pixel is on the grid and has a value
 abbrev pub has_value : GridOf → Field Bool
-has_value g x y = is_pixel g.width g.height x y && is_value (g.values x y)
+has_value grid x y = is_pixel grid.width grid.height x y && is_value (grid.values x y)
 
 -- how many blocks of b pixels there are along a side of n pixels: the last may be cut
 abbrev pub blocks_of : ℕ → ℕ → ℕ
@@ -16,7 +16,7 @@ blocks_of b n = div_ceil n b
 
 -- block (i, j) has the pixels (b * i + u, b * j + v) with u and v below b: how many of them have a value, and the sum of these values
 unfoldable pub block_count : GridOf → ℕ → Field ℕ
-block_count g b i j = count_below b (λ v. count_below b (λ u. one_if (has_value g (b * i + u) (b * j + v))))
+block_count grid b i j = count_below b (λ v. count_below b (λ u. one_if (has_value grid (b * i + u) (b * j + v))))
 
 unfoldable pub block_sum : GridOf → ℕ → Field ℤ
-block_sum g b i j = sum_grid b b (λ u v. where_true (has_value g (b * i + u) (b * j + v)) (g.values (b * i + u) (b * j + v)))
+block_sum grid b i j = sum_grid b b (λ u v. where_true (has_value grid (b * i + u) (b * j + v)) (grid.values (b * i + u) (b * j + v)))

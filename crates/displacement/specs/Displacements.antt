@@ -29,37 +29,37 @@ pub record IsTooWide (wavelength n : ℕ) (z : ℤ) : Type 0 where
 
 -- how far the values of a block are above the reference's value, in sum
 abbrev pub block_rise : Sight → GridOf → Field ℤ
-block_rise s g i j = block_sum g s.block i j -ℤ pos (block_count g s.block i j) *ℤ g.values s.x s.y
+block_rise sight grid i j = block_sum grid sight.block i j -ℤ pos (block_count grid sight.block i j) *ℤ grid.values sight.x sight.y
 
 -- d is the block's displacement
 abbrev pub IsBlockMean : Sight → GridOf → ℕ → ℕ → ℤ → Type 0
-IsBlockMean s g i j d = IsMean s.wavelength (block_count g s.block i j) (block_rise s g i j) d
+IsBlockMean sight grid i j d = IsMean sight.wavelength (block_count grid sight.block i j) (block_rise sight grid i j) d
 
 -- d stands for the block: its displacement if it has a value, and else NODATA
-pub record IsBlockValue (s : Sight) (g : GridOf) (i j : ℕ) (d : ℤ) : Type 0 where
-  pub none : block_count g s.block i j ≡ 0 → d ≡ no_data
-  pub mean : 0 < block_count g s.block i j → IsBlockMean s g i j d × CanStand d
+pub record IsBlockValue (sight : Sight) (grid : GridOf) (i j : ℕ) (d : ℤ) : Type 0 where
+  pub none : block_count grid sight.block i j ≡ 0 → d ≡ no_data
+  pub mean : 0 < block_count grid sight.block i j → IsBlockMean sight grid i j d × CanStand d
 
 -- the second grid has the displacements of the first
-pub record IsDisplacement (s : Sight) (g output : GridOf) : Type 0 where
-  pub reference : IsTrue (has_value g s.x s.y)
-  pub width : output.width ≡ blocks_of s.block g.width
-  pub height : output.height ≡ blocks_of s.block g.height
-  pub blocks : (i j : ℕ) → i < output.width → j < output.height → IsBlockValue s g i j (output.values i j)
+pub record IsDisplacement (sight : Sight) (g output : GridOf) : Type 0 where
+  pub reference : IsTrue (has_value g sight.x sight.y)
+  pub width : output.width ≡ blocks_of sight.block g.width
+  pub height : output.height ≡ blocks_of sight.block g.height
+  pub blocks : (i j : ℕ) → i < output.width → j < output.height → IsBlockValue sight g i j (output.values i j)
 
 -- the block has a value, and its displacement cannot stand in a grid; and it is the first such block in row order
-pub record IsWideBlock (s : Sight) (g : GridOf) (i j : ℕ) : Type 0 where
-  pub some : 0 < block_count g s.block i j
-  pub wide : IsTooWide s.wavelength (block_count g s.block i j) (block_rise s g i j)
+pub record IsWideBlock (sight : Sight) (grid : GridOf) (i j : ℕ) : Type 0 where
+  pub some : 0 < block_count grid sight.block i j
+  pub wide : IsTooWide sight.wavelength (block_count grid sight.block i j) (block_rise sight grid i j)
 
-pub record IsFirstWideBlock (s : Sight) (g : GridOf) (x y : ℕ) : Type 0 where
-  pub across : x < blocks_of s.block g.width
-  pub along : y < blocks_of s.block g.height
-  pub here : IsWideBlock s g x y
-  pub first : (i j : ℕ) → i < blocks_of s.block g.width → IsEarlier i j x y → IsWideBlock s g i j → ⊥
+pub record IsFirstWideBlock (sight : Sight) (grid : GridOf) (x y : ℕ) : Type 0 where
+  pub across : x < blocks_of sight.block grid.width
+  pub along : y < blocks_of sight.block grid.height
+  pub here : IsWideBlock sight grid x y
+  pub first : (i j : ℕ) → i < blocks_of sight.block grid.width → IsEarlier i j x y → IsWideBlock sight grid i j → ⊥
 
 -- what a refusal says; lack of memory says nothing
 abbrev pub HasCause : Sight → GridOf → SightFault → Type 0
-HasCause s g Reference = has_value g s.x s.y ≡ false
-HasCause s g (Wide x y) = IsTrue (has_value g s.x s.y) × IsFirstWideBlock s g x y
-HasCause s g Memory = Unit {0}
+HasCause sight grid Reference = has_value grid sight.x sight.y ≡ false
+HasCause sight grid (Wide x y) = IsTrue (has_value grid sight.x sight.y) × IsFirstWideBlock sight grid x y
+HasCause sight grid Memory = Unit {0}

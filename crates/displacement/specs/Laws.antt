@@ -9,7 +9,7 @@ use Rattle.displacement.specs.Displacements.{HasCause, IsDisplacement}
 
 -- a grid has one grid of displacements
 abbrev pub DisplacementsAreUnique : Type 0
-DisplacementsAreUnique = (s : Sight) (g one other : GridOf) → IsDisplacement s g one → IsDisplacement s g other → IsSameGrid one other
+DisplacementsAreUnique = (sight : Sight) (g one other : GridOf) → IsDisplacement sight g one → IsDisplacement sight g other → IsSameGrid one other
 
 -- a grid that has displacements has no refusal but lack of memory, and no grid has two others
 pub record OneAnswer : Type 0 where
@@ -18,4 +18,4 @@ pub record OneAnswer : Type 0 where
 
 -- in blocks of one pixel, n cycles above the reference's value are n half wavelengths, rounded down; so the reference pixel itself is displaced by 0
 abbrev pub CyclesAreHalfWavelengths : Type 0
-CyclesAreHalfWavelengths = (s : Sight) (g output : GridOf) (x y n : ℕ) → s.block ≡ 1 → IsDisplacement s g output → IsTrue (has_value g x y) → g.values x y ≡ g.values s.x s.y +ℤ pos (65536 * n) → output.values x y ≡ pos (s.wavelength * n / 2)
+CyclesAreHalfWavelengths = (sight : Sight) (g output : GridOf) (x y n : ℕ) → sight.block ≡ 1 → IsDisplacement sight g output → IsTrue (has_value g x y) → g.values x y ≡ g.values sight.x sight.y +ℤ pos (65536 * n) → output.values x y ≡ pos (sight.wavelength * n / 2)

@@ -27,10 +27,10 @@ pub record IsListTotal (zs : List ℤ) (n count : ℕ) (z : ℤ) : Type 0 where
 
 -- a list has what stands for the first n blocks in row order, in rows of w blocks
 abbrev pub AreBlockValues : Sight → GridOf → ℕ → ℕ → List ℤ → Type 0
-AreBlockValues s g w n zs = (k : ℕ) → k < n → IsBlockValue s g (k % w) (k / w) (slice_index_or zs k (pos 0))
+AreBlockValues sight grid w n zs = (k : ℕ) → k < n → IsBlockValue sight grid (k % w) (k / w) (slice_index_or zs k (pos 0))
 
 -- what a refusal says once there are a reference and the room for the values
 abbrev pub HasBlockCause : Sight → GridOf → SightFault → Type 0
-HasBlockCause s g Reference = ⊥
-HasBlockCause s g (Wide x y) = IsFirstWideBlock s g x y
-HasBlockCause s g Memory = ⊥
+HasBlockCause sight grid Reference = ⊥
+HasBlockCause sight grid (Wide x y) = IsFirstWideBlock sight grid x y
+HasBlockCause sight grid Memory = ⊥

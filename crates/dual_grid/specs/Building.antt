@@ -13,37 +13,37 @@ use Rattle.dual_grid.specs.Grids.{amount_of, is_taken, leads_forth}
 use Rattle.sums_and_lists.specs.Sums.{sum_below, where_true}
 
 -- the window has a pixel, and lies in a raster whose sides are within the limits
-pub record IsRasterWindow (v : Window) : Type 0 where
-  pub across : (v.x0 ≤ v.x1) × (v.x1 < max_side)
-  pub along : (v.y0 ≤ v.y1) × (v.y1 < max_side)
+pub record IsRasterWindow (window : Window) : Type 0 where
+  pub across : (window.x0 ≤ window.x1) × (window.x1 < max_side)
+  pub along : (window.y0 ≤ window.y1) × (window.y1 < max_side)
 
 -- the window lies in the scene and in the limits, and the list tells of each of its pixels whether it is open
-pub record IsMadeFor (s : Scene) (v : Window) (unmasked : List Bool) : Type 0 where
-  pub inside : IsWindowIn s.phase.width s.phase.height v
-  pub limited : IsRasterWindow v
-  pub count : length unmasked ≡ width_of v * height_of v
+pub record IsMadeFor (scene : Scene) (window : Window) (unmasked : List Bool) : Type 0 where
+  pub inside : IsWindowIn scene.phase.width scene.phase.height window
+  pub limited : IsRasterWindow window
+  pub count : length unmasked ≡ width_of window * height_of window
 
 -- the sum of the first n numbers of a list
 abbrev pub sum_of_first : List ℤ → ℕ → ℤ
 sum_of_first zs n = sum_below n (λ k. get_or zs k (pos 0))
 
 -- the list has what each node has at the start
-pub record AreCellSupplies (f : Field ℤ) (v : Window) (zs : List ℤ) : Type 0 where
-  pub count : length zs ≡ cells_of v + 1
-  pub values : (u : ℕ) → u < cells_of v + 1 → get_or zs u (pos 0) ≡ supply_at f v u
+pub record AreCellSupplies (f : Field ℤ) (window : Window) (zs : List ℤ) : Type 0 where
+  pub count : length zs ≡ cells_of window + 1
+  pub values : (u : ℕ) → u < cells_of window + 1 → get_or zs u (pos 0) ≡ supply_at f window u
 
 -- node u lies on a side of the edge with the number n
 abbrev pub LiesAt : Window → ℕ → ℕ → Type 0
-LiesAt v u n = (first_side v (edge_of v n) ≡ u) ⊎ (other_side v (edge_of v n) ≡ u)
+LiesAt window u n = (first_side window (edge_of window n) ≡ u) ⊎ (other_side window (edge_of window n) ≡ u)
 
 -- node u lies on a side of no edge with a number from `low` to before `high`
 abbrev pub LiesAtNone : Window → ℕ → ℕ → ℕ → Type 0
-LiesAtNone v u low high = (m : ℕ) → low ≤ m → m < high → LiesAt v u m → ⊥
+LiesAtNone window u low high = (m : ℕ) → low ≤ m → m < high → LiesAt window u m → ⊥
 
 -- o is the greatest number below `high` of an edge that node u lies at, or None if there is none
-pub record IsEdgeBelow (v : Window) (u high : ℕ) (o : Option ℕ) : Type 0 where
-  pub found : (n : ℕ) → o ≡ Some n → (n < high) × LiesAt v u n × LiesAtNone v u (n + 1) high
-  pub ended : o ≡ None → LiesAtNone v u 0 high
+pub record IsEdgeBelow (window : Window) (u high : ℕ) (o : Option ℕ) : Type 0 where
+  pub found : (n : ℕ) → o ≡ Some n → (n < high) × LiesAt window u n × LiesAtNone window u (n + 1) high
+  pub ended : o ≡ None → LiesAtNone window u 0 high
 
 -- across an edge of the weight w, an arc in the place k starts at a node, which may lie on the first side, on the other, on both or on neither
 abbrev pub starts_at : ℕ → ℕ → Bool → Bool → ℕ → Bool
@@ -55,16 +55,16 @@ pub record IsPlaceBelow (steep w : ℕ) (at_first at_other : Bool) (high : ℕ) 
   pub ended : o ≡ None → (j : ℕ) → j < high → starts_at steep w at_first at_other j ≡ false
 
 -- o is the greatest arc that starts at u, of those across the edge with the number n in places below `high`, or None if there is none
-pub record IsOutAcross (s : Shape) (u n high : ℕ) (o : Option ℕ) : Type 0 where
-  pub found : (a : ℕ) → o ≡ Some a → (n * 8 ≤ a) × IsGreatest s u (n * 8 + high) a
-  pub ended : o ≡ None → NoneBetween s u (n * 8) (n * 8 + high)
+pub record IsOutAcross (shape : Shape) (u n high : ℕ) (o : Option ℕ) : Type 0 where
+  pub found : (a : ℕ) → o ≡ Some a → (n * 8 ≤ a) × IsGreatest shape u (n * 8 + high) a
+  pub ended : o ≡ None → NoneBetween shape u (n * 8) (n * 8 + high)
 
 -- the corrections are the flows across the edges, in the order of the edges' numbers
-pub record AreEdgeFlows (v : Window) (flow : ℕ → ℤ) (k : Corrections) : Type 0 where
-  pub right_count : length k.right.items ≡ rights_of v
-  pub right : (i : ℕ) → i < rights_of v → slice_index_or k.right.items i (pos 0) ≡ flow i
-  pub down_count : length k.down.items ≡ downs_of v
-  pub down : (i : ℕ) → i < downs_of v → slice_index_or k.down.items i (pos 0) ≡ flow (rights_of v + i)
+pub record AreEdgeFlows (window : Window) (flow : ℕ → ℤ) (corrections : Corrections) : Type 0 where
+  pub right_count : length corrections.right.items ≡ rights_of window
+  pub right : (i : ℕ) → i < rights_of window → slice_index_or corrections.right.items i (pos 0) ≡ flow i
+  pub down_count : length corrections.down.items ≡ downs_of window
+  pub down : (i : ℕ) → i < downs_of window → slice_index_or corrections.down.items i (pos 0) ≡ flow (rights_of window + i)
 
 -- for each of the first n cells the list has the potential of the outside minus that of the cell
 pub record AreFaces (potential : ℕ → ℤ) (outside n : ℕ) (zs : List ℤ) : Type 0 where
@@ -92,11 +92,11 @@ IsHeldBy steep w d q = IsHeld steep w (amount_of q) (amount_of (neg_ℤ q)) d
 
 -- this holds for the flow across the edge with the number n, between nodes of these potentials
 abbrev pub IsHeldAt : Window → ℕ → (ℕ → ℕ) → (ℕ → ℤ) → (ℕ → ℤ) → ℕ → Type 0
-IsHeldAt v steep weight flow potential n = IsHeldBy steep (weight n) (potential (other_side v (edge_of v n)) -ℤ potential (first_side v (edge_of v n))) (flow n)
+IsHeldAt window steep weight flow potential n = IsHeldBy steep (weight n) (potential (other_side window (edge_of window n)) -ℤ potential (first_side window (edge_of window n))) (flow n)
 
 -- what of the flow across the edge with the number n leaves node u
 abbrev pub leaves : Window → (ℕ → ℤ) → ℕ → ℕ → ℤ
-leaves v flow u n = where_true (u == first_side v (edge_of v n)) (flow n) -ℤ where_true (u == other_side v (edge_of v n)) (flow n)
+leaves window flow u n = where_true (u == first_side window (edge_of window n)) (flow n) -ℤ where_true (u == other_side window (edge_of window n)) (flow n)
 
 -- the positive numbers among the first n of a list, in sum
 abbrev pub positive_sum : List ℤ → ℕ → ℤ

@@ -39,15 +39,15 @@ cost_in_place steep w k = if k % 2 == 0 then pos (cost_of_place steep w k) else 
 
 -- where it ends, across the edge with the number n
 abbrev pub head_at : Window → ℕ → ℕ → ℕ
-head_at v n k = if leads_forth k then other_side v (edge_of v n) else first_side v (edge_of v n)
+head_at window n k = if leads_forth k then other_side window (edge_of window n) else first_side window (edge_of window n)
 
 -- the network of a window at a steepness; the weights are given by the edges' numbers
 abbrev pub window_shape : Window → ℕ → (ℕ → ℕ) → Shape
-window_shape v steep weight = record {
-  nodes = cells_of v + 1;
-  arcs = edges_of v * 8;
-  is_arc = λ a. nat_lt a (edges_of v * 8) && is_taken steep (weight (a / 8)) (a % 8);
-  head = λ a. head_at v (a / 8) (a % 8);
+window_shape window steep weight = record {
+  nodes = cells_of window + 1;
+  arcs = edges_of window * 8;
+  is_arc = λ a. nat_lt a (edges_of window * 8) && is_taken steep (weight (a / 8)) (a % 8);
+  head = λ a. head_at window (a / 8) (a % 8);
   twin = λ a. a / 8 * 8 + twin_place (weight (a / 8)) (a % 8);
   cost = λ a. cost_in_place steep (weight (a / 8)) (a % 8);
 }
@@ -67,7 +67,7 @@ carried q k = if nat_lt (k % 4) 2 then amount_of q else amount_of (neg_ℤ q)
 
 -- what an arc can carry that has no other beside it, or that is steep: one more than all cells can have to send, which is as much as there are nodes
 abbrev pub arc_capacity : Window → ℕ
-arc_capacity v = cells_of v + 1
+arc_capacity window = cells_of window + 1
 
 -- the residual capacity that n units leave an arc, or its twin: if there are no steep arcs, and if there are, of which each carries what is more than 1
 abbrev pub plain_residual : ℕ → ℕ → ℕ → ℕ
@@ -86,21 +86,21 @@ capacity_of most steep w = if is_split steep w then most + 1 else most
 
 -- the state of the network, from the flows by the edges' numbers and what the nodes have
 abbrev pub window_state : Window → ℕ → (ℕ → ℕ) → (ℕ → ℤ) → (ℕ → ℤ) → (ℕ → ℤ) → State
-window_state v steep weight flow excess potential = record { residual = λ a. residual_at (arc_capacity v) steep (weight (a / 8)) (flow (a / 8)) (a % 8); excess = excess; potential = potential }
+window_state window steep weight flow excess potential = record { residual = λ a. residual_at (arc_capacity window) steep (weight (a / 8)) (flow (a / 8)) (a % 8); excess = excess; potential = potential }
 
 -- an arc's residual capacity at the start, where nothing flows
 abbrev pub start_residual : Window → ℕ → (ℕ → ℕ) → ℕ → ℕ
-start_residual v steep weight a = residual_at (arc_capacity v) steep (weight (a / 8)) (pos 0) (a % 8)
+start_residual window steep weight a = residual_at (arc_capacity window) steep (weight (a / 8)) (pos 0) (a % 8)
 
 -- the weights by the numbers of the window's edges are those under the mask
 abbrev pub AreWeighed : Raster → Field Bool → Window → (ℕ → ℕ) → Type 0
-AreWeighed r mask v weight = (e : Edge) → IsEdgeOf v e → weight (edge_number v e) ≡ masked_weight r mask e
+AreWeighed raster mask window weight = (edge : Edge) → IsEdgeOf window edge → weight (edge_number window edge) ≡ masked_weight raster mask edge
 
 -- no cost is above 1048560 on either side of 0, which is 16 times the greatest weight, and there are at most 16777216 nodes
-pub record HasSmallCosts (s : Shape) : Type 0 where
-  pub costs : (a : ℕ) → IsArc s a → unsigned_abs (s.cost a) ≤ MAX_CYCLE_COST
-  pub few : s.nodes ≤ MAX_NETWORK_NODES
+pub record HasSmallCosts (shape : Shape) : Type 0 where
+  pub costs : (a : ℕ) → IsArc shape a → unsigned_abs (shape.cost a) ≤ MAX_CYCLE_COST
+  pub few : shape.nodes ≤ MAX_NETWORK_NODES
 
 -- from any set of nodes, except the empty one and the whole, an arc leads out that has at the start the capacity of as many units as there are nodes
 abbrev pub IsConnected : (ℕ → ℕ) → Shape → Type 0
-IsConnected start s = (inside : ℕ → Bool) (u w : ℕ) → u < s.nodes → w < s.nodes → inside u ≡ true → inside w ≡ false → (a : ℕ) × (IsArc s a × (start a ≡ s.nodes) × (inside (tail_of s a) ≡ true) × (inside (s.head a) ≡ false))
+IsConnected start shape = (inside : ℕ → Bool) (u w : ℕ) → u < shape.nodes → w < shape.nodes → inside u ≡ true → inside w ≡ false → (a : ℕ) × (IsArc shape a × (start a ≡ shape.nodes) × (inside (tail_of shape a) ≡ true) × (inside (shape.head a) ≡ false))

@@ -12,25 +12,25 @@ abbrev pub number_or_zero : List ℤ → ℕ → ℤ
 number_or_zero zs n = get_or zs n (pos 0)
 
 abbrev pub shape_by : Window → ℕ → List ℤ → Shape
-shape_by v steep weights = window_shape v steep (weight_in weights)
+shape_by window steep weights = window_shape window steep (weight_in weights)
 
 abbrev pub state_by : Window → ℕ → List ℤ → List ℤ → List ℤ → List ℤ → State
-state_by v steep weights flows excesses potentials = window_state v steep (weight_in weights) (number_or_zero flows) (number_or_zero excesses) (number_or_zero potentials)
+state_by window steep weights flows excesses potentials = window_state window steep (weight_in weights) (number_or_zero flows) (number_or_zero excesses) (number_or_zero potentials)
 
 -- the same where all potentials are 0
 abbrev pub flat_state_by : Window → ℕ → List ℤ → List ℤ → List ℤ → State
-flat_state_by v steep weights flows excesses = state_by v steep weights flows excesses []
+flat_state_by window steep weights flows excesses = state_by window steep weights flows excesses []
 
 -- the lists have one place for each edge or for each node
-pub record FitGrid (v : Window) (weights flows excesses potentials : List ℤ) : Type 0 where
-  pub by_weight : length weights ≡ edges_of v
-  pub by_edge : length flows ≡ edges_of v
-  pub by_node : length excesses ≡ cells_of v + 1
-  pub by_height : length potentials ≡ cells_of v + 1
+pub record FitGrid (window : Window) (weights flows excesses potentials : List ℤ) : Type 0 where
+  pub by_weight : length weights ≡ edges_of window
+  pub by_edge : length flows ≡ edges_of window
+  pub by_node : length excesses ≡ cells_of window + 1
+  pub by_height : length potentials ≡ cells_of window + 1
 
 -- no flow is above the capacity
 abbrev pub AreWithinCapacity : Window → ℕ → List ℤ → List ℤ → Type 0
-AreWithinCapacity v steep weights flows = (n : ℕ) → unsigned_abs (number_or_zero flows n) ≤ capacity_of (arc_capacity v) steep (weight_in weights n)
+AreWithinCapacity window steep weights flows = (n : ℕ) → unsigned_abs (number_or_zero flows n) ≤ capacity_of (arc_capacity window) steep (weight_in weights n)
 
 -- each potential lies within 2^62 on either side of 0, so that no difference of two leaves 64 bits
 abbrev pub AreWithinReach : List ℤ → Type 0

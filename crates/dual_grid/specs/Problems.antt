@@ -16,24 +16,24 @@ use Rattle.dual_grid.specs.Starts.{TellsMask, open_in_window}
 
 -- the weight that is held for an edge, and the residue that is held for a cell
 abbrev pub weight_at : Problem → Edge → ℤ
-weight_at p = edge_value p.window p.right.items p.down.items
+weight_at problem = edge_value problem.window problem.right.items problem.down.items
 
 abbrev pub problem_residue : Problem → Field ℤ
-problem_residue p x y = slice_index_or p.residues.items (node_at p.window x y) (pos 0)
+problem_residue problem x y = slice_index_or problem.residues.items (node_at problem.window x y) (pos 0)
 
 -- the problem of a window of a scene; the list tells of each pixel of the window whether it is open
-pub record IsProblemOf (s : Scene) (v : Window) (unmasked : List Bool) (p : Problem) : Type 0 where
-  pub window : p.window ≡ v
-  pub steep : p.steep ≡ s.terms.steep
-  pub weights : (e : Edge) → IsEdgeOf p.window e → weight_at p e ≡ pos (masked_weight (raster_of s) (open_in_window p.window unmasked) e)
-  pub residues : (x y : ℕ) → IsCellOf p.window x y → problem_residue p x y ≡ residue (raster_of s) x y
+pub record IsProblemOf (scene : Scene) (v : Window) (unmasked : List Bool) (problem : Problem) : Type 0 where
+  pub window : problem.window ≡ v
+  pub steep : problem.steep ≡ scene.terms.steep
+  pub weights : (e : Edge) → IsEdgeOf problem.window e → weight_at problem e ≡ pos (masked_weight (raster_of scene) (open_in_window problem.window unmasked) e)
+  pub residues : (x y : ℕ) → IsCellOf problem.window x y → problem_residue problem x y ≡ residue (raster_of scene) x y
 
 -- the weights of the right edge and of the down edge that start at a pixel of a window, under the mask that the list tells
 abbrev pub right_edge_weights : Scene → Window → List Bool → Field ℤ
-right_edge_weights s v unmasked x y = pos (masked_weight (raster_of s) (open_in_window v unmasked) (right_edge x y))
+right_edge_weights scene v unmasked x y = pos (masked_weight (raster_of scene) (open_in_window v unmasked) (right_edge x y))
 
 abbrev pub down_edge_weights : Scene → Window → List Bool → Field ℤ
-down_edge_weights s v unmasked x y = pos (masked_weight (raster_of s) (open_in_window v unmasked) (down_edge x y))
+down_edge_weights scene v unmasked x y = pos (masked_weight (raster_of scene) (open_in_window v unmasked) (down_edge x y))
 
 -- the face of a node in a list of faces, which is 0 for the outside
 abbrev pub face_of : List ℤ → ℕ → ℤ
@@ -46,15 +46,15 @@ pub record IsTight (steep weight : ℕ) (difference correction : ℤ) : Type 0 w
 
 -- this holds across an edge
 abbrev pub IsTightAt : Problem → Corrections → List ℤ → Edge → Type 0
-IsTightAt p k faces e = IsTight p.steep (unsigned_abs (weight_at p e)) (face_of faces (first_side p.window e) -ℤ face_of faces (other_side p.window e)) (correction_at p.window k e)
+IsTightAt problem corrections faces edge = IsTight problem.steep (unsigned_abs (weight_at problem edge)) (face_of faces (first_side problem.window edge) -ℤ face_of faces (other_side problem.window edge)) (correction_at problem.window corrections edge)
 
 -- the corrections around a cell cancel its residue
 abbrev pub IsCancelled : Problem → Corrections → ℕ → ℕ → Type 0
-IsCancelled p k x y = round (correction_at p.window k) x y ≡ neg_ℤ (problem_residue p x y)
+IsCancelled problem corrections x y = round (correction_at problem.window corrections) x y ≡ neg_ℤ (problem_residue problem x y)
 
 -- the lists have their lengths
 abbrev pub HaveShape : Problem → Corrections → List ℤ → Type 0
-HaveShape p k faces = HasShapeOf p.window k × (length faces ≡ cells_of p.window)
+HaveShape problem corrections faces = HasShapeOf problem.window corrections × (length faces ≡ cells_of problem.window)
 
 -- no number of the list is above the bound on either side of 0
 abbrev pub AreSmallNumbers : ℕ → List ℤ → Type 0
@@ -62,4 +62,4 @@ AreSmallNumbers bound zs = (i : ℕ) → unsigned_abs (slice_index_or zs i (pos 
 
 -- corrections and a list of faces that are an answer for each window of which this is the problem
 abbrev pub IsAnsweredBy : Problem → Corrections → List ℤ → Type 0
-IsAnsweredBy p k faces = (s : Scene) (v : Window) (unmasked : List Bool) (mask : Field Bool) → IsProblemOf s v unmasked p → TellsMask v unmasked mask → AreCertifiedOver s mask v k faces
+IsAnsweredBy problem corrections faces = (scene : Scene) (v : Window) (unmasked : List Bool) (mask : Field Bool) → IsProblemOf scene v unmasked problem → TellsMask v unmasked mask → AreCertifiedOver scene mask v corrections faces

@@ -18,26 +18,26 @@ use Rattle.sums_and_lists.specs.Sums.{sum_below}
 
 -- what a node has left of its excess after these have flowed across the edges, by their numbers
 abbrev pub left_after : Window → (ℕ → ℤ) → (ℕ → ℤ) → ℕ → ℤ
-left_after v flow excess u = excess u -ℤ sum_below (edges_of v) (leaves v flow u)
+left_after window flow excess u = excess u -ℤ sum_below (edges_of window) (leaves window flow u)
 
 -- what all nodes have to send, where these are their excesses
 abbrev pub to_send : Window → (ℕ → ℤ) → ℤ
-to_send v excess = sum_below (cells_of v + 1) (λ u. positive_part (excess u))
+to_send window excess = sum_below (cells_of window + 1) (λ u. positive_part (excess u))
 
 -- what flows across the edges by their numbers, where these are the corrections
 abbrev pub correction_flow : Window → Corrections → ℕ → ℤ
-correction_flow v k n = correction_at v k (edge_of v n)
+correction_flow window corrections n = correction_at window corrections (edge_of window n)
 
 -- corrections and faces from which the grid over a window goes on: they have the window's shape, no face is farther from 0 than 2^34, the faces on the sides of each edge hold its correction at its weight under the mask, and the greatest correction and what all nodes have to send after the corrections are together no more than the window has cells
-pub record MayGoOn (s : Scene) (v : Window) (unmasked : List Bool) (k : Corrections) (faces : List ℤ) : Type 0 where
-  pub shape : HasShapeOf v k
-  pub count : length faces ≡ cells_of v
+pub record MayGoOn (scene : Scene) (window : Window) (unmasked : List Bool) (corrections : Corrections) (faces : List ℤ) : Type 0 where
+  pub shape : HasShapeOf window corrections
+  pub count : length faces ≡ cells_of window
   pub low : AreLow faces
-  pub held : (e : Edge) → IsEdgeOf v e → IsHeldBy s.terms.steep (masked_weight (raster_of s) (open_in_window v unmasked) e) (face_of faces (first_side v e) -ℤ face_of faces (other_side v e)) (correction_at v k e)
-  pub within : (pos (greatest_of k) +ℤ to_send v (left_after v (correction_flow v k) (supply_at (residue (raster_of s)) v))) ≤ℤ pos (cells_of v)
+  pub held : (e : Edge) → IsEdgeOf window e → IsHeldBy scene.terms.steep (masked_weight (raster_of scene) (open_in_window window unmasked) e) (face_of faces (first_side window e) -ℤ face_of faces (other_side window e)) (correction_at window corrections e)
+  pub within : (pos (greatest_of corrections) +ℤ to_send window (left_after window (correction_flow window corrections) (supply_at (residue (raster_of scene)) window))) ≤ℤ pos (cells_of window)
 
 -- the same of flows and potentials as a grid holds them, where the nodes have these excesses before
-pub record FlowsMayGoOn (v : Window) (steep : ℕ) (weight : ℕ → ℕ) (excess : ℕ → ℤ) (flows : List ℤ) (potential : ℕ → ℤ) : Type 0 where
-  pub count : length flows ≡ edges_of v
-  pub held : (n : ℕ) → n < edges_of v → IsHeldAt v steep weight (number_or_zero flows) potential n
-  pub within : (pos (greatest flows) +ℤ to_send v (left_after v (number_or_zero flows) excess)) ≤ℤ pos (cells_of v)
+pub record FlowsMayGoOn (window : Window) (steep : ℕ) (weight : ℕ → ℕ) (excess : ℕ → ℤ) (flows : List ℤ) (potential : ℕ → ℤ) : Type 0 where
+  pub count : length flows ≡ edges_of window
+  pub held : (n : ℕ) → n < edges_of window → IsHeldAt window steep weight (number_or_zero flows) potential n
+  pub within : (pos (greatest flows) +ℤ to_send window (left_after window (number_or_zero flows) excess)) ≤ℤ pos (cells_of window)

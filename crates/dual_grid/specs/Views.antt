@@ -14,21 +14,21 @@ use Rattle.dual_grid.specs.Grids.{AreWeighed, start_residual}
 use Rattle.dual_grid.specs.Layout.{shape_by, state_by, weight_in}
 
 abbrev pub grid_shape : DualGrid → Shape
-grid_shape g = shape_by g.window g.steep g.weights.items
+grid_shape grid = shape_by grid.window grid.steep grid.weights.items
 
 abbrev pub grid_state : DualGrid → State
-grid_state g = state_by g.window g.steep g.weights.items g.flows.items g.excesses.items g.potentials.items
+grid_state grid = state_by grid.window grid.steep grid.weights.items grid.flows.items grid.excesses.items grid.potentials.items
 
 -- what residual capacity the arcs of a grid have at the start
 abbrev pub grid_start : DualGrid → ℕ → ℕ
-grid_start g = start_residual g.window g.steep (weight_in g.weights.items)
+grid_start grid = start_residual grid.window grid.steep (weight_in grid.weights.items)
 
 -- the grid of a window of a scene; the list tells of each pixel of the window whether it is open; flow may have moved
-pub record IsGridOf (s : Scene) (v : Window) (unmasked : List Bool) (g : DualGrid) : Type 0 where
-  pub window : g.window ≡ v
-  pub steep : g.steep ≡ s.terms.steep
-  pub weighed : AreWeighed (raster_of s) (open_in_window g.window unmasked) g.window (weight_in g.weights.items)
-  pub conserved : IsConserved (grid_shape g) (start_state (grid_start g) (residue (raster_of s)) g.window) (grid_state g)
+pub record IsGridOf (scene : Scene) (v : Window) (unmasked : List Bool) (grid : DualGrid) : Type 0 where
+  pub window : grid.window ≡ v
+  pub steep : grid.steep ≡ scene.terms.steep
+  pub weighed : AreWeighed (raster_of scene) (open_in_window grid.window unmasked) grid.window (weight_in grid.weights.items)
+  pub conserved : IsConserved (grid_shape grid) (start_state (grid_start grid) (residue (raster_of scene)) grid.window) (grid_state grid)
 
 -- grids that were made from the same things
 pub record HaveOneOrigin (g h : DualGrid) : Type 0 where
@@ -39,7 +39,7 @@ pub record HaveOneOrigin (g h : DualGrid) : Type 0 where
   pub conserved : IsConserved (grid_shape g) (grid_state g) (grid_state h)
 
 pub stays_of_one_origin : (g : DualGrid) → HaveOneOrigin g g
-stays_of_one_origin g = record { window = refl; steep = refl; weights = refl; shape = refl; conserved = conserved-refl (grid_shape g) (grid_state g) }
+stays_of_one_origin grid = record { window = refl; steep = refl; weights = refl; shape = refl; conserved = conserved-refl (grid_shape grid) (grid_state grid) }
 
 pub follows_of_one_origin : (g h k : DualGrid) → HaveOneOrigin g h → HaveOneOrigin h k → HaveOneOrigin g k
 follows_of_one_origin g h k p q = record {

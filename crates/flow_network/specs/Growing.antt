@@ -13,11 +13,11 @@ supply_sizes supplies = sum_below (length supplies) (λ v. pos (unsigned_abs (ge
 
 -- the residuals of all arcs, in sum
 abbrev pub total_residual : Shape → State → ℤ
-total_residual s f = sum_below s.arcs (λ a. where_true (s.is_arc a) (pos (f.residual a)))
+total_residual shape state = sum_below shape.arcs (λ a. where_true (shape.is_arc a) (pos (state.residual a)))
 
 -- the sizes of the excesses and the residuals of all arcs, in sum
 abbrev pub total_amount : Shape → State → ℤ
-total_amount s f = sum_below s.nodes (λ v. pos (unsigned_abs (f.excess v))) +ℤ total_residual s f
+total_amount shape state = sum_below shape.nodes (λ v. pos (unsigned_abs (state.excess v))) +ℤ total_residual shape state
 
 -- A network whose arcs are all the numbers below `s.arcs` got one arc of the number `s.arcs`, and its twin of the number after that.
 pub record AddsArc (s z : Shape) (f g : State) (t h : ℕ) (cost : ℤ) (forward back : ℕ) : Type 0 where

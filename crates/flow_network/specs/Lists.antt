@@ -5,11 +5,11 @@ use Rattle.flow_network.specs.Moves.{residual_out}
 use Rattle.flow_network.specs.Growing.{total_residual}
 
 abbrev pub other : ℕ → ℕ
-other a = if a % 2 == 0 then a + 1 else a - 1
+other arc = if arc % 2 == 0 then arc + 1 else arc - 1
 
 -- the cost of arc a, where `costs` has that of each even arc
 abbrev pub signed_cost : List ℤ → ℕ → ℤ
-signed_cost costs a = if a % 2 == 0 then get_or costs (a / 2) (pos 0) else neg_ℤ (get_or costs (a / 2) (pos 0))
+signed_cost costs arc = if arc % 2 == 0 then get_or costs (arc / 2) (pos 0) else neg_ℤ (get_or costs (arc / 2) (pos 0))
 
 abbrev pub shape_in : ℕ → List ℕ → List ℤ → Shape
 shape_in nodes heads costs = record { nodes = nodes; arcs = length heads; is_arc = λ a. nat_lt a (length heads); head = λ a. get_or heads a 0; twin = other; cost = signed_cost costs }
@@ -26,14 +26,14 @@ pub record FitTogether (heads residuals : List ℕ) (next : List (Option ℕ)) (
   pub by_height : length potentials ≡ length excesses
 
 -- the lists of arcs out of each node
-pub record AreLinked (s : Shape) (first next : List (Option ℕ)) : Type 0 where
-  pub starts : (v : ℕ) → v < s.nodes → IsNextBelow s v s.arcs (get_or first v None)
-  pub goes_on : (a : ℕ) → a < s.arcs → IsNextBelow s (tail_of s a) a (get_or next a None)
+pub record AreLinked (shape : Shape) (first next : List (Option ℕ)) : Type 0 where
+  pub starts : (v : ℕ) → v < shape.nodes → IsNextBelow shape v shape.arcs (get_or first v None)
+  pub goes_on : (a : ℕ) → a < shape.arcs → IsNextBelow shape (tail_of shape a) a (get_or next a None)
 
 -- no push can leave the numbers' ranges
-pub record HasRoom (s : Shape) (f : State) : Type 0 where
-  pub total : total_residual s f ≤ℤ pos (2 ^ 62)
-  pub above : (v : ℕ) → v < s.nodes → ((f.excess v -ℤ residual_out s f v) +ℤ total_residual s f) ≤ℤ pos (2 ^ 62)
-  pub beneath : (v : ℕ) → v < s.nodes → neg_ℤ (pos (2 ^ 62)) ≤ℤ (f.excess v -ℤ residual_out s f v)
-  pub costs : (a : ℕ) → a < s.arcs → unsigned_abs (s.cost a) ≤ 2 ^ 40
-  pub potentials : (v : ℕ) → v < s.nodes → unsigned_abs (f.potential v) ≤ 2 ^ 61
+pub record HasRoom (shape : Shape) (state : State) : Type 0 where
+  pub total : total_residual shape state ≤ℤ pos (2 ^ 62)
+  pub above : (v : ℕ) → v < shape.nodes → ((state.excess v -ℤ residual_out shape state v) +ℤ total_residual shape state) ≤ℤ pos (2 ^ 62)
+  pub beneath : (v : ℕ) → v < shape.nodes → neg_ℤ (pos (2 ^ 62)) ≤ℤ (state.excess v -ℤ residual_out shape state v)
+  pub costs : (a : ℕ) → a < shape.arcs → unsigned_abs (shape.cost a) ≤ 2 ^ 40
+  pub potentials : (v : ℕ) → v < shape.nodes → unsigned_abs (state.potential v) ≤ 2 ^ 61

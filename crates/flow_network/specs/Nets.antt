@@ -12,11 +12,11 @@ pub record Shape : Type 0 where
   pub cost : ℕ → ℤ
 
 abbrev pub IsArc : Shape → ℕ → Type 0
-IsArc s a = IsTrue (s.is_arc a)
+IsArc shape arc = IsTrue (shape.is_arc arc)
 
 -- an arc starts where its twin ends
 abbrev pub tail_of : Shape → ℕ → ℕ
-tail_of s a = s.head (s.twin a)
+tail_of shape arc = shape.head (shape.twin arc)
 
 -- What pushes and raises change.
 pub record State : Type 0 where
@@ -25,25 +25,25 @@ pub record State : Type 0 where
   pub potential : ℕ → ℤ
 
 -- The shape is one of a network.
-pub record IsNetwork (s : Shape) : Type 0 where
-  pub below : (a : ℕ) → IsArc s a → a < s.arcs
-  pub ends : (a : ℕ) → IsArc s a → s.head a < s.nodes
-  pub has_twin : (a : ℕ) → IsArc s a → IsArc s (s.twin a)
-  pub back : (a : ℕ) → IsArc s a → s.twin (s.twin a) ≡ a
-  pub apart : (a : ℕ) → IsArc s a → s.twin a ≡ a → ⊥
-  pub negated : (a : ℕ) → IsArc s a → s.cost (s.twin a) ≡ neg_ℤ (s.cost a)
+pub record IsNetwork (shape : Shape) : Type 0 where
+  pub below : (a : ℕ) → IsArc shape a → a < shape.arcs
+  pub ends : (a : ℕ) → IsArc shape a → shape.head a < shape.nodes
+  pub has_twin : (a : ℕ) → IsArc shape a → IsArc shape (shape.twin a)
+  pub back : (a : ℕ) → IsArc shape a → shape.twin (shape.twin a) ≡ a
+  pub apart : (a : ℕ) → IsArc shape a → shape.twin a ≡ a → ⊥
+  pub negated : (a : ℕ) → IsArc shape a → shape.cost (shape.twin a) ≡ neg_ℤ (shape.cost a)
 
 abbrev pub reduced_cost : Shape → State → ℕ → ℤ
-reduced_cost s f a = s.cost a +ℤ f.potential (tail_of s a) -ℤ f.potential (s.head a)
+reduced_cost shape state arc = shape.cost arc +ℤ state.potential (tail_of shape arc) -ℤ state.potential (shape.head arc)
 
 -- The kept fact: an arc with capacity left has reduced cost at least 0, and the excesses sum to 0.
-pub record HasReducedCosts (s : Shape) (f : State) : Type 0 where
-  pub at_least : (a : ℕ) → IsArc s a → 0 < f.residual a → pos 0 ≤ℤ reduced_cost s f a
-  pub even : sum_below s.nodes f.excess ≡ pos 0
+pub record HasReducedCosts (shape : Shape) (state : State) : Type 0 where
+  pub at_least : (a : ℕ) → IsArc shape a → 0 < state.residual a → pos 0 ≤ℤ reduced_cost shape state a
+  pub even : sum_below shape.nodes state.excess ≡ pos 0
 
 -- no node has an excess or a deficit
 abbrev pub HasNoExcess : Shape → State → Type 0
-HasNoExcess s f = (v : ℕ) → v < s.nodes → f.excess v ≡ pos 0
+HasNoExcess shape state = (node : ℕ) → node < shape.nodes → state.excess node ≡ pos 0
 
 -- the number, or 0 if it is below 0
 abbrev pub positive_part : ℤ → ℤ
@@ -52,18 +52,18 @@ positive_part (negsuc n) = pos 0
 
 -- the sum of the positive excesses
 abbrev pub total_excess : Shape → State → ℤ
-total_excess s f = sum_below s.nodes (λ v. positive_part (f.excess v))
+total_excess shape state = sum_below shape.nodes (λ v. positive_part (state.excess v))
 
 -- Arcs out of a node are met from the greatest number down.
 -- No arc that starts at v has a number from `low` on and below `high`.
 abbrev pub NoneBetween : Shape → ℕ → ℕ → ℕ → Type 0
-NoneBetween s v low high = (b : ℕ) → IsArc s b → tail_of s b ≡ v → low ≤ b → b < high → ⊥
+NoneBetween shape node low high = (b : ℕ) → IsArc shape b → tail_of shape b ≡ node → low ≤ b → b < high → ⊥
 
 -- a is the arc of the greatest number below `high` that starts at v
 abbrev pub IsGreatest : Shape → ℕ → ℕ → ℕ → Type 0
-IsGreatest s v high a = IsArc s a × (tail_of s a ≡ v) × (a < high) × NoneBetween s v (a + 1) high
+IsGreatest shape node high arc = IsArc shape arc × (tail_of shape arc ≡ node) × (arc < high) × NoneBetween shape node (arc + 1) high
 
 -- o is that arc, and None where there is none
-pub record IsNextBelow (s : Shape) (v high : ℕ) (o : Option ℕ) : Type 0 where
-  pub found : (a : ℕ) → o ≡ Some a → IsGreatest s v high a
-  pub ended : o ≡ None → NoneBetween s v 0 high
+pub record IsNextBelow (shape : Shape) (node high : ℕ) (o : Option ℕ) : Type 0 where
+  pub found : (a : ℕ) → o ≡ Some a → IsGreatest shape node high a
+  pub ended : o ≡ None → NoneBetween shape node 0 high

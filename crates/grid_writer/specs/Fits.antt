@@ -12,32 +12,32 @@ pub record FitsPhase (phase : ℕ) (value : ℤ) : Type 0 where
   pub cycles : ℤ
   pub whole : value ≡ pos phase +ℤ pos 65536 *ℤ cycles
 
-pub record ValueFits (r : Raster) (mask : Field Bool) (values : Field ℤ) (x y : ℕ) : Type 0 where
+pub record ValueFits (raster : Raster) (mask : Field Bool) (values : Field ℤ) (x y : ℕ) : Type 0 where
   pub masked : IsFalse (mask x y) → values x y ≡ no_data
-  pub unmasked : IsTrue (mask x y) → FitsPhase (r.phase x y) (values x y)
+  pub unmasked : IsTrue (mask x y) → FitsPhase (raster.phase x y) (values x y)
 
 abbrev pub AllValuesFit : Raster → Field Bool → Field ℤ → Type 0
-AllValuesFit r mask values = (x y : ℕ) → x < r.width → y < r.height → ValueFits r mask values x y
+AllValuesFit raster mask values = (x y : ℕ) → x < raster.width → y < raster.height → ValueFits raster mask values x y
 
 -- the first pixel in row order whose value does not
-pub record IsFirstUnfitValue (r : Raster) (mask : Field Bool) (values : Field ℤ) (x y : ℕ) : Type 0 where
-  pub across : x < r.width
-  pub along : y < r.height
-  pub unfit : ValueFits r mask values x y → ⊥
-  pub first : (a b : ℕ) → a < r.width → b < r.height → IsEarlier a b x y → ValueFits r mask values a b
+pub record IsFirstUnfitValue (raster : Raster) (mask : Field Bool) (values : Field ℤ) (x y : ℕ) : Type 0 where
+  pub across : x < raster.width
+  pub along : y < raster.height
+  pub unfit : ValueFits raster mask values x y → ⊥
+  pub first : (a b : ℕ) → a < raster.width → b < raster.height → IsEarlier a b x y → ValueFits raster mask values a b
 
 -- the first n values of a row fit; the value at x is the first of the row that does not
 abbrev pub FitInRow : Raster → Field Bool → Field ℤ → ℕ → ℕ → Type 0
-FitInRow r mask values y n = (x : ℕ) → x < n → ValueFits r mask values x y
+FitInRow raster mask values y n = (x : ℕ) → x < n → ValueFits raster mask values x y
 
-pub record IsFirstUnfitInRow (r : Raster) (mask : Field Bool) (values : Field ℤ) (y x : ℕ) : Type 0 where
-  pub across : x < r.width
-  pub unfit : ValueFits r mask values x y → ⊥
-  pub first : FitInRow r mask values y x
+pub record IsFirstUnfitInRow (raster : Raster) (mask : Field Bool) (values : Field ℤ) (y x : ℕ) : Type 0 where
+  pub across : x < raster.width
+  pub unfit : ValueFits raster mask values x y → ⊥
+  pub first : FitInRow raster mask values y x
 
 -- the values of the first n rows do
 abbrev pub FitInRows : Raster → Field Bool → Field ℤ → ℕ → Type 0
-FitInRows r mask values n = (y : ℕ) → y < n → FitInRow r mask values y r.width
+FitInRows raster mask values n = (y : ℕ) → y < n → FitInRow raster mask values y raster.width
 
 -- the cycles above the phase that values show: the surface that lies so far above the phase has the values where they fit and the pixel is open
 abbrev pub cycles_shown : Field ℤ → Field ℤ

@@ -48,4 +48,4 @@ pub record HasSizeWithin (s : Sizes) (width height : ℕ) : Type 0 where
 
 -- the text of a grid whose size is within limits
 abbrev pub IsGridTextIn : Sizes → Form
-IsGridTextIn s text = (g : GridOf) × (IsGrid g × (HasSizeWithin s g.width g.height × (text ≡ text_of_grid g)))
+IsGridTextIn s text = (grid : GridOf) × (IsGrid grid × (HasSizeWithin s grid.width grid.height × (text ≡ text_of_grid grid)))

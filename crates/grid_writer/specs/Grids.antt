@@ -18,7 +18,7 @@ abbrev pub value_at : ℕ → List ℤ → Field ℤ
 value_at width values x y = slice_index_or values (y * width + x) (pos 0)
 
 abbrev pub grid_of : Grid → GridOf
-grid_of g = record { width = g.width; height = g.height; values = value_at g.width g.values.items }
+grid_of grid = record { width = grid.width; height = grid.height; values = value_at grid.width grid.values.items }
 
 -- the values on the raster fit 64 bits
 abbrev pub AreLong : ℕ → ℕ → Field ℤ → Type 0
@@ -26,19 +26,19 @@ AreLong width height values = (x y : ℕ) → x < width → y < height → FitsL
 
 -- the values of a row do
 abbrev pub IsLongRow : GridOf → ℕ → Type 0
-IsLongRow g y = (x : ℕ) → x < g.width → FitsLong (g.values x y)
+IsLongRow grid y = (x : ℕ) → x < grid.width → FitsLong (grid.values x y)
 
 -- a size within the limits, and values that fit
-pub record IsGrid (g : GridOf) : Type 0 where
-  pub sized : IsTrue (is_raster_size g.width g.height)
-  pub fits : AreLong g.width g.height g.values
+pub record IsGrid (grid : GridOf) : Type 0 where
+  pub sized : IsTrue (is_raster_size grid.width grid.height)
+  pub fits : AreLong grid.width grid.height grid.values
 
 -- the text of a grid
 abbrev pub text_of_grid : GridOf → List ℕ
-text_of_grid g = grid_text g.width g.height g.values
+text_of_grid grid = grid_text grid.width grid.height grid.values
 
 abbrev pub IsGridText : Form
-IsGridText text = (g : GridOf) × (IsGrid g × (text ≡ text_of_grid g))
+IsGridText text = (grid : GridOf) × (IsGrid grid × (text ≡ text_of_grid grid))
 
 -- the text of a grid of this size
 abbrev pub IsGridTextOf : ℕ → ℕ → Form

@@ -5,4 +5,4 @@ use Rattle.grid_writer.specs.Shown.{shown_grid, text_of}
 
 -- what is written of a surface whose values fit is the text of a grid
 abbrev pub WrittenGridsAreGrids : Type 0
-WrittenGridsAreGrids = (p : Parts) → IsGrid (shown_grid p) → IsGridText (text_of p)
+WrittenGridsAreGrids = (parts : Parts) → IsGrid (shown_grid parts) → IsGridText (text_of parts)

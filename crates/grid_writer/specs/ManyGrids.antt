@@ -19,7 +19,7 @@ text_of_grids grids = flat_map text_of_grid grids
 
 -- a grid of this size
 abbrev pub HasSize : ℕ → ℕ → GridOf → Type 0
-HasSize width height g = (g.width ≡ width) × (g.height ≡ height)
+HasSize width height grid = (grid.width ≡ width) × (grid.height ≡ height)
 
 -- so many grids within the limits, all of this size
 pub record AreGrids (many width height : ℕ) (grids : List GridOf) : Type 0 where
@@ -33,7 +33,7 @@ AreGridTexts count text = (width height : ℕ) × (grids : List GridOf) × (AreG
 
 -- the text of a grid of another size
 abbrev pub IsOtherGridText : ℕ → ℕ → Form
-IsOtherGridText width height text = (g : GridOf) × (IsGrid g × ((HasSize width height g → ⊥) × (text ≡ text_of_grid g)))
+IsOtherGridText width height text = (grid : GridOf) × (IsGrid grid × ((HasSize width height grid → ⊥) × (text ≡ text_of_grid grid)))
 
 -- bytes, so many of which are let out, begin with grids of one size, all of which are let out; then `rest` follows
 pub record BeginsWithGrids (room : ℕ) (bytes : List ℕ) : Type 0 where
@@ -66,32 +66,32 @@ BreaksGrids count at room bytes fault = (b : BeginsWithGrids room bytes) × Brea
 
 -- Why so many grids were not read: where bytes are told, their first break; or a fault of the source was counted, or memory ran out.
 abbrev pub HasGridsCause : ℕ → Call → GridsFault → Type 0
-HasGridsCause count c (Line grid line) = IfSome c.told (λ bytes. BreaksGrids count c.at (room_of c) bytes (Line grid line))
-HasGridsCause count c (Long grid) = IfSome c.told (λ bytes. BreaksGrids count c.at (room_of c) bytes (Long grid))
-HasGridsCause count c (Sizes grid) = IfSome c.told (λ bytes. BreaksGrids count c.at (room_of c) bytes (Sizes grid))
-HasGridsCause count c (After byte) = IfSome c.told (λ bytes. BreaksGrids count c.at (room_of c) bytes (After byte))
-HasGridsCause count c ReadFault = HasRisen c.before c.after
-HasGridsCause count c Memory = ⊤
+HasGridsCause count call (Line grid line) = IfSome call.told (λ bytes. BreaksGrids count call.at (room_of call) bytes (Line grid line))
+HasGridsCause count call (Long grid) = IfSome call.told (λ bytes. BreaksGrids count call.at (room_of call) bytes (Long grid))
+HasGridsCause count call (Sizes grid) = IfSome call.told (λ bytes. BreaksGrids count call.at (room_of call) bytes (Sizes grid))
+HasGridsCause count call (After byte) = IfSome call.told (λ bytes. BreaksGrids count call.at (room_of call) bytes (After byte))
+HasGridsCause count call ReadFault = HasRisen call.before call.after
+HasGridsCause count call Memory = ⊤
 
 -- they are read; or a fault of the source was counted, or memory ran out
 abbrev pub GridsAreRead : Call → Result (Vec Grid) GridsFault → Type 0
-GridsAreRead c (Ok grids) = ⊤
-GridsAreRead c (Err (Line grid line)) = ⊥
-GridsAreRead c (Err (Long grid)) = ⊥
-GridsAreRead c (Err (Sizes grid)) = ⊥
-GridsAreRead c (Err (After byte)) = ⊥
-GridsAreRead c (Err ReadFault) = HasRisen c.before c.after
-GridsAreRead c (Err Memory) = ⊤
+GridsAreRead call (Ok grids) = ⊤
+GridsAreRead call (Err (Line grid line)) = ⊥
+GridsAreRead call (Err (Long grid)) = ⊥
+GridsAreRead call (Err (Sizes grid)) = ⊥
+GridsAreRead call (Err (After byte)) = ⊥
+GridsAreRead call (Err ReadFault) = HasRisen call.before call.after
+GridsAreRead call (Err Memory) = ⊤
 
 -- this break is told; or one of the same happened
 abbrev pub AreRefusedBy : Call → GridsFault → Result (Vec Grid) GridsFault → Type 0
-AreRefusedBy c fault (Ok grids) = ⊥
-AreRefusedBy c fault (Err (Line grid line)) = fault ≡ Line grid line
-AreRefusedBy c fault (Err (Long grid)) = fault ≡ Long grid
-AreRefusedBy c fault (Err (Sizes grid)) = fault ≡ Sizes grid
-AreRefusedBy c fault (Err (After byte)) = fault ≡ After byte
-AreRefusedBy c fault (Err ReadFault) = HasRisen c.before c.after
-AreRefusedBy c fault (Err Memory) = ⊤
+AreRefusedBy call fault (Ok grids) = ⊥
+AreRefusedBy call fault (Err (Line grid line)) = fault ≡ Line grid line
+AreRefusedBy call fault (Err (Long grid)) = fault ≡ Long grid
+AreRefusedBy call fault (Err (Sizes grid)) = fault ≡ Sizes grid
+AreRefusedBy call fault (Err (After byte)) = fault ≡ After byte
+AreRefusedBy call fault (Err ReadFault) = HasRisen call.before call.after
+AreRefusedBy call fault (Err Memory) = ⊤
 
 -- bytes have one first break, and the texts of so many grids that are all let out have none
 abbrev pub OneGridsBreak : Type 0

@@ -24,22 +24,22 @@ AreAlike grids grid = (width height : ℕ) → All (λ g. HasSize width height (
 
 -- a grid was taken whose size is not that of the grids in a list
 abbrev pub TakesOther : List Grid → Call → Type 0
-TakesOther grids c = (0 < length grids) × ((width height : ℕ) → All (λ g. HasSize width height (grid_of g)) grids → Takes c (λ text rest. IsOtherGridText width height text))
+TakesOther grids call = (0 < length grids) × ((width height : ℕ) → All (λ g. HasSize width height (grid_of g)) grids → Takes call (λ text rest. IsOtherGridText width height text))
 
 -- why the grid with this number was not added to a list of grids
 abbrev pub HasNextGridCause : ℕ → List Grid → Call → GridsFault → Type 0
-HasNextGridCause number grids c (Line grid line) = (grid ≡ number) × HasLineCause IsGridText 0 c (line_faults.Line line)
-HasNextGridCause number grids c (Long grid) = (grid ≡ number) × HasLineCause IsGridText 0 c line_faults.TooLong
-HasNextGridCause number grids c (Sizes grid) = (grid ≡ number) × TakesOther grids c
-HasNextGridCause number grids c (After byte) = ⊥
-HasNextGridCause number grids c ReadFault = HasRisen c.before c.after
-HasNextGridCause number grids c Memory = ⊤
+HasNextGridCause number grids call (Line grid line) = (grid ≡ number) × HasLineCause IsGridText 0 call (line_faults.Line line)
+HasNextGridCause number grids call (Long grid) = (grid ≡ number) × HasLineCause IsGridText 0 call line_faults.TooLong
+HasNextGridCause number grids call (Sizes grid) = (grid ≡ number) × TakesOther grids call
+HasNextGridCause number grids call (After byte) = ⊥
+HasNextGridCause number grids call ReadFault = HasRisen call.before call.after
+HasNextGridCause number grids call Memory = ⊤
 
 -- why the input does not end after the last grid, which has this number
 abbrev pub HasEndCause : ℕ → Call → GridsFault → Type 0
-HasEndCause last c (Line grid line) = ⊥
-HasEndCause last c (Long grid) = (grid ≡ last) × ((c.at ≡ c.limit) × HasMore c.told)
-HasEndCause last c (Sizes grid) = ⊥
-HasEndCause last c (After byte) = (byte ≡ c.at) × ((c.at < c.limit) × HasMore c.told)
-HasEndCause last c ReadFault = HasRisen c.before c.after
-HasEndCause last c Memory = ⊥
+HasEndCause last call (Line grid line) = ⊥
+HasEndCause last call (Long grid) = (grid ≡ last) × ((call.at ≡ call.limit) × HasMore call.told)
+HasEndCause last call (Sizes grid) = ⊥
+HasEndCause last call (After byte) = (byte ≡ call.at) × ((call.at < call.limit) × HasMore call.told)
+HasEndCause last call ReadFault = HasRisen call.before call.after
+HasEndCause last call Memory = ⊥

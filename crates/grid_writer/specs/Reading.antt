@@ -9,16 +9,16 @@ use Rattle.grid_writer.specs.Grids.{grid_of, text_of_grid}
 
 -- a text is read as the grid that has it, and what follows is left; or a fault of the source was counted, or memory ran out
 abbrev pub IsGridRead : Call → List ℕ → List ℕ → Result Grid LineFault → Type 0
-IsGridRead c text rest (Ok g) = (text_of_grid (grid_of g) ≡ text) × (c.left ≡ Some rest)
-IsGridRead c text rest (Err (Line n)) = ⊥
-IsGridRead c text rest (Err TooLong) = ⊥
-IsGridRead c text rest (Err ReadFault) = HasRisen c.before c.after
-IsGridRead c text rest (Err Memory) = ⊤
+IsGridRead call text rest (Ok g) = (text_of_grid (grid_of g) ≡ text) × (call.left ≡ Some rest)
+IsGridRead call text rest (Err (Line n)) = ⊥
+IsGridRead call text rest (Err TooLong) = ⊥
+IsGridRead call text rest (Err ReadFault) = HasRisen call.before call.after
+IsGridRead call text rest (Err Memory) = ⊤
 
 -- a first broken line is told; or one of the same happened
 abbrev pub IsGridRefusedAt : Call → ℕ → Result Grid LineFault → Type 0
-IsGridRefusedAt c n (Ok g) = ⊥
-IsGridRefusedAt c n (Err (Line m)) = m ≡ n
-IsGridRefusedAt c n (Err TooLong) = ⊥
-IsGridRefusedAt c n (Err ReadFault) = HasRisen c.before c.after
-IsGridRefusedAt c n (Err Memory) = ⊤
+IsGridRefusedAt call n (Ok g) = ⊥
+IsGridRefusedAt call n (Err (Line m)) = m ≡ n
+IsGridRefusedAt call n (Err TooLong) = ⊥
+IsGridRefusedAt call n (Err ReadFault) = HasRisen call.before call.after
+IsGridRefusedAt call n (Err Memory) = ⊤

@@ -12,10 +12,10 @@ shown_value None = no_data
 
 -- the values of a surface as its grid shows them, and its grid
 abbrev pub shown_in : Parts → Field ℤ
-shown_in p x y = shown_value (value_in p x y)
+shown_in parts x y = shown_value (value_in parts x y)
 
 abbrev pub shown_grid : Parts → GridOf
-shown_grid p = record { width = p.session.scene.phase.width; height = p.session.scene.phase.height; values = shown_in p }
+shown_grid parts = record { width = parts.session.scene.phase.width; height = parts.session.scene.phase.height; values = shown_in parts }
 
 abbrev pub text_of : Parts → List ℕ
-text_of p = text_of_grid (shown_grid p)
+text_of parts = text_of_grid (shown_grid parts)

@@ -22,16 +22,16 @@ abbrev pub call_of : {S : Type 0} {size old_size : Ghosts (Vec ℕ)} → (S → 
 call_of left faults old new = record { told = left_of left old; at = handed_of old; left = left_of left new; end = handed_of new; limit = limit_of old; before = faults_of faults old; after = faults_of faults new }
 
 -- the bytes that are told are those that were handed out, and then those that are left
-pub record Moves (c : Call) : Type 0 where
+pub record Moves (call : Call) : Type 0 where
   pub front : List ℕ
-  pub parts : c.told ≡ with_front front c.left
-  pub place : c.end ≡ c.at + length front
-  pub grows : c.before ≤ c.after
+  pub parts : call.told ≡ with_front front call.left
+  pub place : call.end ≡ call.at + length front
+  pub grows : call.before ≤ call.after
 
 -- where the bytes are told, a text was taken from their front, for which and for what is left P holds
 abbrev pub Takes : Call → (List ℕ → List ℕ → Type 0) → Type 0
-Takes c P = IfSome c.told (λ bytes. (text : List ℕ) × (rest : List ℕ) × ((bytes ≡ text ++ rest) × ((c.left ≡ Some rest) × ((c.end ≡ c.at + length text) × P text rest))))
+Takes call P = IfSome call.told (λ bytes. (text : List ℕ) × (rest : List ℕ) × ((bytes ≡ text ++ rest) × ((call.left ≡ Some rest) × ((call.end ≡ call.at + length text) × P text rest))))
 
 -- more of these bytes are there than the limit lets out, and those that it lets out ask for more
 abbrev pub IsCutOff : (List ℕ → Type 0) → Call → List ℕ → Type 0
-IsCutOff asks c bytes = (c.limit < c.at + length bytes) × asks (take (c.limit - c.at) bytes)
+IsCutOff asks call bytes = (call.limit < call.at + length bytes) × asks (take (call.limit - call.at) bytes)

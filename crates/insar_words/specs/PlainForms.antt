@@ -46,8 +46,8 @@ is_setting options s = option_map_or (λ a. fits a.takes s.1) (option_named opti
 
 -- the value that pairs give an option, or its default
 abbrev pub set_to : Argument → List Setting → Option Value
-set_to a [] = a.default
-set_to a (s ∷ rest) = if bytes_eq s.0 a.id then Some s.1 else set_to a rest
+set_to argument [] = argument.default
+set_to argument (s ∷ rest) = if bytes_eq s.0 argument.id then Some s.1 else set_to argument rest
 
 -- the pairs may stand for these options: each name at most once, each value taken, and all is given that must be
 pub record ArePlain (options : List Argument) (settings : List Setting) : Type 0 where
@@ -136,7 +136,7 @@ PlainTrialIsRead = (words : List (Bor Text)) (seed width height : ℕ) (settings
 
 -- the number that pairs set for an option
 abbrev pub number_set : Argument → List Setting → ℕ
-number_set a settings = number_in_value (set_to a settings)
+number_set argument settings = number_in_value (set_to argument settings)
 
 -- `screen`, with the numbers that are set
 pub record IsScreeningSet (settings : List Setting) (s : Screening) : Type 0 where

@@ -39,17 +39,17 @@ TellsTrial rows trial = TellsAll rows trial.settings × ((number_asked (codes "s
 
 -- this run beside readers
 abbrev pub TellsWatching : List Row → Watching → Type 0
-TellsWatching rows w = TellsAll rows w.settings × ((number_asked (codes "readers") rows ≡ Some w.readers) × (number_asked (codes "reads") rows ≡ Some w.reads))
+TellsWatching rows watching = TellsAll rows watching.settings × ((number_asked (codes "readers") rows ≡ Some watching.readers) × (number_asked (codes "reads") rows ≡ Some watching.reads))
 
 -- this screen
 abbrev pub TellsScreening : List Row → Screening → Type 0
-TellsScreening rows s = (number_asked (codes "weight") rows ≡ Some s.weight) × ((number_asked (codes "radius") rows ≡ Some s.radius)
-    × ((number_asked (codes "count") rows ≡ Some s.count) × ((number_asked (codes "patch") rows ≡ Some s.patch) × (number_asked (codes "tile") rows ≡ Some s.side))))
+TellsScreening rows screening = (number_asked (codes "weight") rows ≡ Some screening.weight) × ((number_asked (codes "radius") rows ≡ Some screening.radius)
+    × ((number_asked (codes "count") rows ≡ Some screening.count) × ((number_asked (codes "patch") rows ≡ Some screening.patch) × (number_asked (codes "tile") rows ≡ Some screening.side))))
 
 -- these displacements
 abbrev pub TellsDisplacing : List Row → Displacing → Type 0
-TellsDisplacing rows d = (number_asked (codes "wavelength") rows ≡ Some d.wavelength)
-    × ((number_asked (codes "x") rows ≡ Some d.x) × ((number_asked (codes "y") rows ≡ Some d.y) × (number_asked (codes "block") rows ≡ Some d.block)))
+TellsDisplacing rows displacing = (number_asked (codes "wavelength") rows ≡ Some displacing.wavelength)
+    × ((number_asked (codes "x") rows ≡ Some displacing.x) × ((number_asked (codes "y") rows ≡ Some displacing.y) × (number_asked (codes "block") rows ≡ Some displacing.block)))
 
 -- a raster with too many pixels
 abbrev pub TellsTooMany : List Row → Type 0

@@ -21,14 +21,14 @@ default_texts (Some value) = word_of value ∷ []
 
 -- an argument of one value, which has a default or is required
 abbrev pub argument_rule : Option Text → Argument → Rule
-argument_rule long a = record (new_rule a.id) { long = long; parser = Some (parser_taking a.takes); defaults = default_texts a.default; required = not (is_some a.default) }
+argument_rule long argument = record (new_rule argument.id) { long = long; parser = Some (parser_taking argument.takes); defaults = default_texts argument.default; required = not (is_some argument.default) }
 
 -- an option `--name`, and a positional
 abbrev pub option_rule : Argument → Rule
-option_rule a = argument_rule (Some a.id) a
+option_rule argument = argument_rule (Some argument.id) argument
 
 abbrev pub positional_rule : Argument → Rule
-positional_rule a = argument_rule None a
+positional_rule argument = argument_rule None argument
 
 -- a command of the table
 abbrev pub form_shape : CommandForm → Shape

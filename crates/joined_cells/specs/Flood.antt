@@ -8,7 +8,7 @@ use Rattle.joined_cells.specs.Joining.{AreJoinedBy, Joining, joins}
 
 -- the number of an edge: edges go in the row order of their other ends, and each pixel has two numbers, for its left edge and its upper edge
 abbrev pub edge_rank : ℕ → Edge → ℕ
-edge_rank w e = 2 * (end_y e * w + end_x e) + (if e.down then 1 else 0)
+edge_rank w edge = 2 * (end_y edge * w + end_x edge) + (if edge.down then 1 else 0)
 
 -- a walk joins each pixel to its root, which is no later pixel; both ends of an edge that joins them and has a number below k have the same root; and a pixel whose edges have numbers from k on is its own root
 pub record IsFlooded (joining : Joining) (k : ℕ) (root : ℕ → ℕ) : Type 0 where

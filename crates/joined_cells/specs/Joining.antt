@@ -14,7 +14,7 @@ pub record Joining : Type 0 where
 
 -- an edge of the raster joins its ends if they are open and it passes the test
 abbrev pub joins : Joining → Edge → Bool
-joins joining e = is_edge joining.width joining.height e && has_open_ends joining.mask e && joining.passes e
+joins joining edge = is_edge joining.width joining.height edge && has_open_ends joining.mask edge && joining.passes edge
 
 -- the pixel (x, y) and another are joined by a walk over such edges, in either direction
 pub data AreJoinedBy (joining : Joining) (x y : ℕ) : ℕ → ℕ → Type 0 where
@@ -40,4 +40,4 @@ pub record AreTreeNumbers (joining : Joining) (numbers : Field ℕ) (count : ℕ
 
 -- the inner edges of a raster's tiles pass
 abbrev pub tiles_joined : Raster → Field Bool → Joining
-tiles_joined r mask = record { width = r.width; height = r.height; mask = mask; passes = λ e. not (is_seam r e) }
+tiles_joined raster mask = record { width = raster.width; height = raster.height; mask = mask; passes = λ e. not (is_seam raster e) }

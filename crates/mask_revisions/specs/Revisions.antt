@@ -17,9 +17,9 @@ pub record AreRevisionsOf (first : Field Bool) (edits : List Edit) (v : Revision
   pub stamps : (t : ℕ) → t < tiles_of v.tiling → slice_index v.stamps t ≡ stamp_of v.tiling first edits t
 
 -- one more edit was applied: the count rose, and the tiles that changed have the new one as their stamp
-pub record AddsEdit (old new : RevisionsView) (e : Edit) : Type 0 where
+pub record AddsEdit (old new : RevisionsView) (edit : Edit) : Type 0 where
   pub tiling : new.tiling ≡ old.tiling
-  pub mask : IsMaskOf new.mask old.tiling.width old.tiling.height (edited e (open_at old.mask))
+  pub mask : IsMaskOf new.mask old.tiling.width old.tiling.height (edited edit (open_at old.mask))
   pub count : new.count ≡ old.count + 1
   pub stamps : (t : ℕ) → t < tiles_of old.tiling → slice_index new.stamps t ≡ (if differ_in old.tiling (open_at old.mask) (open_at new.mask) t then old.count + 1 else slice_index old.stamps t)
 
@@ -32,16 +32,16 @@ pub record AreChanged (g : Tiling) (old new : Field Bool) (tiles : List ℕ) : T
 
 -- a pixel of the box lies in the tile
 abbrev pub Meets : Tiling → Rect → ℕ → Type 0
-Meets g r t = (x : ℕ) × (y : ℕ) × (x < g.width) × (y < g.height) × IsTrue (has_pixel r x y) × (tile_at g x y ≡ t)
+Meets g rect tile = (x : ℕ) × (y : ℕ) × (x < g.width) × (y < g.height) × IsTrue (has_pixel rect x y) × (tile_at g x y ≡ tile)
 
 -- the list has exactly the tiles in which a pixel of the box lies, and each once, in order
-pub record AreMet (g : Tiling) (r : Rect) (tiles : List ℕ) : Type 0 where
+pub record AreMet (g : Tiling) (rect : Rect) (tiles : List ℕ) : Type 0 where
   pub rising : (i j : ℕ) → i < j → j < length tiles → slice_index tiles i < slice_index tiles j
   pub exist : (i : ℕ) → i < length tiles → slice_index tiles i < tiles_of g
-  pub met : (i : ℕ) → i < length tiles → Meets g r (slice_index tiles i)
-  pub all : (t : ℕ) → Meets g r t → (i : ℕ) × (i < length tiles) × (slice_index tiles i ≡ t)
+  pub met : (i : ℕ) → i < length tiles → Meets g rect (slice_index tiles i)
+  pub all : (t : ℕ) → Meets g rect t → (i : ℕ) × (i < length tiles) × (slice_index tiles i ≡ t)
 
 -- the list says of each pixel of a window, in row order, whether it is open
-pub record IsWindowMask (v : Window) (mask : Field Bool) (list : List Bool) : Type 0 where
-  pub size : length list ≡ width_of v * height_of v
-  pub clear : (x y : ℕ) → IsWithin v x y → slice_index_or list (place_in v x y) Bool.false ≡ mask x y
+pub record IsWindowMask (window : Window) (mask : Field Bool) (list : List Bool) : Type 0 where
+  pub size : length list ≡ width_of window * height_of window
+  pub clear : (x y : ℕ) → IsWithin window x y → slice_index_or list (place_in window x y) Bool.false ≡ mask x y

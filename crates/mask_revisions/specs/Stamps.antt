@@ -8,16 +8,16 @@ use Rattle.mask_revisions.specs.Edits.{mask_at, stamp_of}
 
 -- at revision r a pixel of tile t changed; none did
 abbrev pub HasChange : Tiling → Field Bool → List Edit → ℕ → ℕ → Type 0
-HasChange g first edits t r = (x : ℕ) × (y : ℕ) × (x < g.width) × (y < g.height) × (tile_at g x y ≡ t) × (mask_at first edits (r - 1) x y ≢ mask_at first edits r x y)
+HasChange tiling first edits tile revision = (x : ℕ) × (y : ℕ) × (x < tiling.width) × (y < tiling.height) × (tile_at tiling x y ≡ tile) × (mask_at first edits (revision - 1) x y ≢ mask_at first edits revision x y)
 
 abbrev pub HasNoChange : Tiling → Field Bool → List Edit → ℕ → ℕ → Type 0
-HasNoChange g first edits t r = (x y : ℕ) → x < g.width → y < g.height → tile_at g x y ≡ t → mask_at first edits (r - 1) x y ≡ mask_at first edits r x y
+HasNoChange tiling first edits tile revision = (x y : ℕ) → x < tiling.width → y < tiling.height → tile_at tiling x y ≡ tile → mask_at first edits (revision - 1) x y ≡ mask_at first edits revision x y
 
 -- r is the last revision at which tile t changed, and 0 where it never did
-pub record IsLastChange (g : Tiling) (first : Field Bool) (edits : List Edit) (t r : ℕ) : Type 0 where
+pub record IsLastChange (tiling : Tiling) (first : Field Bool) (edits : List Edit) (tile r : ℕ) : Type 0 where
   pub within : r ≤ length edits
-  pub changed : 1 ≤ r → HasChange g first edits t r
-  pub since : (s : ℕ) → r < s → s ≤ length edits → HasNoChange g first edits t s
+  pub changed : 1 ≤ r → HasChange tiling first edits tile r
+  pub since : (s : ℕ) → r < s → s ≤ length edits → HasNoChange tiling first edits tile s
 
 abbrev pub StampsLookBack : Type 0
-StampsLookBack = (g : Tiling) (first : Field Bool) (edits : List Edit) (t : ℕ) → IsLastChange g first edits t (stamp_of g first edits t)
+StampsLookBack = (tiling : Tiling) (first : Field Bool) (edits : List Edit) (tile : ℕ) → IsLastChange tiling first edits tile (stamp_of tiling first edits tile)

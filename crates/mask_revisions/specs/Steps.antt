@@ -28,33 +28,33 @@ abbrev pub HasOther : Field Bool → ℕ → ℕ → ℕ → ℕ → Bool → Ty
 HasOther mask x0 x1 y0 y1 unmasked = (x : ℕ) × (y : ℕ) × (x0 ≤ x) × (x < x1) × (y0 ≤ y) × (y < y1) × (mask x y ≢ unmasked)
 
 -- the part has exactly the pixels of the box that lie in the tile
-pub record IsPartOf (g : Tiling) (r : Rect) (t : ℕ) (part : Rect) : Type 0 where
-  pub inside : IsRectIn g.width g.height part
-  pub pixels : (x y : ℕ) → x < g.width → y < g.height → has_pixel part x y ≡ (has_pixel r x y && (tile_at g x y == t))
+pub record IsPartOf (tiling : Tiling) (r : Rect) (tile : ℕ) (part : Rect) : Type 0 where
+  pub inside : IsRectIn tiling.width tiling.height part
+  pub pixels : (x y : ℕ) → x < tiling.width → y < tiling.height → has_pixel part x y ≡ (has_pixel r x y && (tile_at tiling x y == tile))
 
 -- a mask with an edit applied in the tiles before tile t
 abbrev pub edited_before : Tiling → ℕ → Edit → Field Bool → Field Bool
-edited_before g t e mask x y = if has_pixel (rect_of e) x y && nat_lt (tile_at g x y) t then opens e else mask x y
+edited_before tiling tile edit mask x y = if has_pixel (rect_of edit) x y && nat_lt (tile_at tiling x y) tile then opens edit else mask x y
 
 -- the tiles that a box meets, by rows: how many lie side by side, how many there are, and the number of the k-th
 abbrev pub met_across : Tiling → Rect → ℕ
-met_across g r = r.x1 / g.side - r.x0 / g.side + 1
+met_across tiling rect = rect.x1 / tiling.side - rect.x0 / tiling.side + 1
 
 abbrev pub count_met : Tiling → Rect → ℕ
-count_met g r = (r.y1 / g.side - r.y0 / g.side + 1) * met_across g r
+count_met tiling rect = (rect.y1 / tiling.side - rect.y0 / tiling.side + 1) * met_across tiling rect
 
 abbrev pub met_tile : Tiling → Rect → ℕ → ℕ
-met_tile g r k = (r.y0 / g.side + k / met_across g r) * columns_of_tiles g + (r.x0 / g.side + k % met_across g r)
+met_tile tiling rect k = (rect.y0 / tiling.side + k / met_across tiling rect) * columns_of_tiles tiling + (rect.x0 / tiling.side + k % met_across tiling rect)
 
 -- the list has those of the first k of them that pass a test, in order
-pub record AreListedTiles (g : Tiling) (r : Rect) (p : ℕ → Bool) (k : ℕ) (tiles : List ℕ) : Type 0 where
+pub record AreListedTiles (tiling : Tiling) (rect : Rect) (p : ℕ → Bool) (k : ℕ) (tiles : List ℕ) : Type 0 where
   pub rising : (i j : ℕ) → i < j → j < length tiles → slice_index tiles i < slice_index tiles j
-  pub each : (i : ℕ) → i < length tiles → (j : ℕ) × (j < k) × (slice_index tiles i ≡ met_tile g r j) × IsTrue (p (met_tile g r j))
-  pub all : (j : ℕ) → j < k → IsTrue (p (met_tile g r j)) → (i : ℕ) × (i < length tiles) × (slice_index tiles i ≡ met_tile g r j)
+  pub each : (i : ℕ) → i < length tiles → (j : ℕ) × (j < k) × (slice_index tiles i ≡ met_tile tiling rect j) × IsTrue (p (met_tile tiling rect j))
+  pub all : (j : ℕ) → j < k → IsTrue (p (met_tile tiling rect j)) → (i : ℕ) × (i < length tiles) × (slice_index tiles i ≡ met_tile tiling rect j)
 
 -- the test that every tile passes
 abbrev pub any_tile : ℕ → Bool
-any_tile t = Bool.true
+any_tile tile = Bool.true
 
 -- the first n tiles of a list have a new stamp, and the stamps of the others are as they were
 pub record AreStamped (old new tiles : List ℕ) (n stamp : ℕ) : Type 0 where

@@ -14,7 +14,7 @@ NoneIsNearer = (phase : ℕ) (given value other cycles : ℤ) → IsNearest phas
 
 -- there is one nearest surface
 abbrev pub NearestIsUnique : Type 0
-NearestIsUnique = (p : MaskedPhase) (given one other : GridOf) → IsNearestSurface p given one → IsNearestSurface p given other → IsSameGrid one other
+NearestIsUnique = (masked : MaskedPhase) (given one other : GridOf) → IsNearestSurface masked given one → IsNearestSurface masked given other → IsSameGrid one other
 
 -- a grid that has a nearest surface has no refusal, and no grid has two
 pub record OneAnswer : Type 0 where
@@ -23,4 +23,4 @@ pub record OneAnswer : Type 0 where
 
 -- a nearest surface is nearest to itself
 abbrev pub NearestIsOwn : Type 0
-NearestIsOwn = (p : MaskedPhase) (given output : GridOf) → IsNearestSurface p given output → IsNearestSurface p output output
+NearestIsOwn = (masked : MaskedPhase) (given output : GridOf) → IsNearestSurface masked given output → IsNearestSurface masked output output

@@ -6,8 +6,8 @@ use Rattle.dual_grid.specs.Grids.{IsConnected}
 use Rattle.shortest_augment.specs.Balance.{BoundsCosts}
 
 -- All potentials are 0, costs are small, less has flowed and is to flow than there are nodes, and an arc that took as much at the start leads out of any set of nodes.
-pub record CanBeBalanced (start : ℕ → ℕ) (s : Shape) (f : State) : Type 0 where
-  pub flat : (u : ℕ) → u < s.nodes → f.potential u ≡ pos 0
-  pub bounded : (c : ℕ) × BoundsCosts s c
-  pub near : StaysNearStart start s f
-  pub joined : IsConnected start s
+pub record CanBeBalanced (start : ℕ → ℕ) (shape : Shape) (state : State) : Type 0 where
+  pub flat : (u : ℕ) → u < shape.nodes → state.potential u ≡ pos 0
+  pub bounded : (c : ℕ) × BoundsCosts shape c
+  pub near : StaysNearStart start shape state
+  pub joined : IsConnected start shape

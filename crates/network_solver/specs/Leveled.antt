@@ -4,14 +4,14 @@ use Rattle.flow_network.specs.Nets.{Shape, State, tail_of}
 
 -- where the nodes have reached the potentials `base`
 abbrev pub leveled_shape : Shape → (ℕ → ℤ) → Shape
-leveled_shape s base = record {
-  nodes = s.nodes;
-  arcs = s.arcs;
-  is_arc = s.is_arc;
-  head = s.head;
-  twin = s.twin;
-  cost = λ a. s.cost a +ℤ base (tail_of s a) -ℤ base (s.head a);
+leveled_shape shape base = record {
+  nodes = shape.nodes;
+  arcs = shape.arcs;
+  is_arc = shape.is_arc;
+  head = shape.head;
+  twin = shape.twin;
+  cost = λ a. shape.cost a +ℤ base (tail_of shape a) -ℤ base (shape.head a);
 }
 
 abbrev pub leveled_state : State → (ℕ → ℤ) → State
-leveled_state f base = record { residual = f.residual; excess = f.excess; potential = λ u. f.potential u -ℤ base u }
+leveled_state state base = record { residual = state.residual; excess = state.excess; potential = λ u. state.potential u -ℤ base u }

@@ -6,7 +6,7 @@ use Rattle.network_solver.specs.Leveled.{leveled_shape, leveled_state}
 use Rattle.network_solver.specs.declared.leveling.LeveledGrid.{LeveledGrid}
 
 abbrev pub shape_from : LeveledGrid → Shape
-shape_from x = leveled_shape (grid_shape x.grid) (number_or_zero x.base.items)
+shape_from grid = leveled_shape (grid_shape grid.grid) (number_or_zero grid.base.items)
 
 abbrev pub state_from : LeveledGrid → State
-state_from x = leveled_state (grid_state x.grid) (number_or_zero x.base.items)
+state_from grid = leveled_state (grid_state grid.grid) (number_or_zero grid.base.items)

@@ -15,7 +15,7 @@ pub record EndsAbove (role : Role) (bytes : List ℕ) : Type 0 where
 
 -- samples are missing; or a plain sample ends with the bytes, which is above maxval or the last, perhaps after more digits or white space
 abbrev pub EndsInRaster : Role → List ℕ → Type 0
-EndsInRaster role bytes = ((found : ℕ) × IsShort role bytes found) ⊎ (EndsAbove role bytes ⊎ ((p : PlaneOf) × IsPlaneText Plain role bytes p []))
+EndsInRaster role bytes = ((found : ℕ) × IsShort role bytes found) ⊎ (EndsAbove role bytes ⊎ ((plane : PlaneOf) × IsPlaneText Plain role bytes plane []))
 
 -- the magic is judged at its second byte, a header and a raster at the byte after each of their numbers
 abbrev pub AsksForMore : Role → List ℕ → Type 0

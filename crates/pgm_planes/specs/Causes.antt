@@ -13,24 +13,24 @@ use Rattle.insar_ports.specs.Calls.{Call, IsCutOff}
 -- Where the bytes are told, they have this first break; or the limit was handed out and another byte is there, which was
 -- asked for; or a fault of the source was counted; or memory ran out, which has no cause.
 abbrev pub HasPlaneCause : Role → Call → ReadPlaneFault → Type 0
-HasPlaneCause role c (errors.Plane fault) = IfSome c.told (λ bytes. FirstBreak role c.at bytes fault)
-HasPlaneCause role c errors.TooLong = (c.end ≡ c.limit) × HasMore c.left × IfSome c.told (IsCutOff (AsksForMore role) c)
-HasPlaneCause role c errors.ReadFault = HasRisen c.before c.after
-HasPlaneCause role c errors.Memory = ⊤
+HasPlaneCause role call (errors.Plane fault) = IfSome call.told (λ bytes. FirstBreak role call.at bytes fault)
+HasPlaneCause role call errors.TooLong = (call.end ≡ call.limit) × HasMore call.left × IfSome call.told (IsCutOff (AsksForMore role) call)
+HasPlaneCause role call errors.ReadFault = HasRisen call.before call.after
+HasPlaneCause role call errors.Memory = ⊤
 
 -- Bytes that begin with the plane p are read as it, and `rest` is left; or a read failed, the limit cut them or memory
 -- ran out.
 abbrev pub IsReadAsPlane : Call → PlaneOf → List ℕ → Result Plane ReadPlaneFault → Type 0
-IsReadAsPlane c p rest (Ok plane) = (plane_of plane ≡ p) × (c.left ≡ Some rest)
-IsReadAsPlane c p rest (Err (errors.Plane fault)) = ⊥
-IsReadAsPlane c p rest (Err errors.TooLong) = ⊤
-IsReadAsPlane c p rest (Err errors.ReadFault) = ⊤
-IsReadAsPlane c p rest (Err errors.Memory) = ⊤
+IsReadAsPlane call p rest (Ok plane) = (plane_of plane ≡ p) × (call.left ≡ Some rest)
+IsReadAsPlane call plane rest (Err (errors.Plane fault)) = ⊥
+IsReadAsPlane call plane rest (Err errors.TooLong) = ⊤
+IsReadAsPlane call plane rest (Err errors.ReadFault) = ⊤
+IsReadAsPlane call plane rest (Err errors.Memory) = ⊤
 
 -- Bytes that are cut off are told to be too long; or a read failed or memory ran out.
 abbrev pub IsCutShort : Call → Result Plane ReadPlaneFault → Type 0
-IsCutShort c (Ok plane) = ⊥
-IsCutShort c (Err (errors.Plane fault)) = ⊥
-IsCutShort c (Err errors.TooLong) = ⊤
-IsCutShort c (Err errors.ReadFault) = HasRisen c.before c.after
-IsCutShort c (Err errors.Memory) = ⊤
+IsCutShort call (Ok plane) = ⊥
+IsCutShort call (Err (errors.Plane fault)) = ⊥
+IsCutShort call (Err errors.TooLong) = ⊤
+IsCutShort call (Err errors.ReadFault) = HasRisen call.before call.after
+IsCutShort call (Err errors.Memory) = ⊤

@@ -18,19 +18,19 @@ OnePlaneBreak = (role : Role) (at : ℕ) (bytes : List ℕ) (e f : PlaneFault) �
 
 -- bytes that begin with a plane have no first break
 abbrev pub NoBreakOfPlane : Type 0
-NoBreakOfPlane = (role : Role) (at : ℕ) (bytes : List ℕ) (p : PlaneOf) (rest : List ℕ) (fault : PlaneFault) → IsPlaneIn role bytes p rest → FirstBreak role at bytes fault → ⊥
+NoBreakOfPlane = (role : Role) (at : ℕ) (bytes : List ℕ) (plane : PlaneOf) (rest : List ℕ) (fault : PlaneFault) → IsPlaneIn role bytes plane rest → FirstBreak role at bytes fault → ⊥
 
 -- bytes begin with a plane or have a first break
 abbrev pub PlaneOrBreak : Type 0
-PlaneOrBreak = (role : Role) (at : ℕ) (bytes : List ℕ) → ((p : PlaneOf) × (rest : List ℕ) × IsPlaneIn role bytes p rest) ⊎ ((fault : PlaneFault) × FirstBreak role at bytes fault)
+PlaneOrBreak = (role : Role) (at : ℕ) (bytes : List ℕ) → ((plane : PlaneOf) × (rest : List ℕ) × IsPlaneIn role bytes plane rest) ⊎ ((fault : PlaneFault) × FirstBreak role at bytes fault)
 
 -- a plane's raw text spells it, whatever follows, in each role whose rule it meets
 abbrev pub WrittenPlaneIsRead : Type 0
-WrittenPlaneIsRead = (role : Role) (p : PlaneOf) (rest : List ℕ) → IsPlane role p → IsPlaneText Raw role (plane_text p) p rest
+WrittenPlaneIsRead = (role : Role) (plane : PlaneOf) (rest : List ℕ) → IsPlane role plane → IsPlaneText Raw role (plane_text plane) plane rest
 
 -- bytes either ask for more or do not, and those that begin with a plane and go on do not
 abbrev pub AskOrNot : Type 0
 AskOrNot = (role : Role) (bytes : List ℕ) → AsksForMore role bytes ⊎ (AsksForMore role bytes → ⊥)
 
 abbrev pub NoAskBehindPlane : Type 0
-NoAskBehindPlane = (role : Role) (bytes : List ℕ) (p : PlaneOf) (b : ℕ) (rest : List ℕ) → IsPlaneIn role bytes p (b ∷ rest) → AsksForMore role bytes → ⊥
+NoAskBehindPlane = (role : Role) (bytes : List ℕ) (plane : PlaneOf) (b : ℕ) (rest : List ℕ) → IsPlaneIn role bytes plane (b ∷ rest) → AsksForMore role bytes → ⊥

@@ -13,14 +13,14 @@ AreTogether Wide bytes vs = IsRaster true bytes vs
 AreTogether Digits bytes vs = (bytes ≡ []) × (vs ≡ [])
 
 -- the call took the bytes of at most so many samples, none above maxval, which follow the old ones
-pub record TakesPiece (form : SampleForm) (maxval most : ℕ) (old new : List ℕ) (c : Call) : Type 0 where
+pub record TakesPiece (form : SampleForm) (maxval most : ℕ) (old new : List ℕ) (call : Call) : Type 0 where
   pub bytes : List ℕ
   pub added : List ℕ
   pub gains : new ≡ old ++ added
   pub few : length added ≤ most
   pub below : All (λ v. v ≤ maxval) added
   pub are : AreTogether form bytes added
-  pub parts : c.told ≡ with_front bytes c.left
-  pub place : c.end ≡ c.at + length bytes
-  pub within : c.end ≤ c.limit
-  pub grows : c.before ≤ c.after
+  pub parts : call.told ≡ with_front bytes call.left
+  pub place : call.end ≡ call.at + length bytes
+  pub within : call.end ≤ call.limit
+  pub grows : call.before ≤ call.after

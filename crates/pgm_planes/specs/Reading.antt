@@ -220,15 +220,15 @@ goes_beyond limit at bytes = nat_lt limit (at + length bytes)
 
 -- Where bytes are told: whether they go beyond the limit, and what it lets out of them and of those that are left.
 abbrev pub Told : Call → (Bool → List ℕ → List ℕ → Type 0) → Type 0
-Told c P = (bytes rest : List ℕ) → c.told ≡ Some bytes → c.left ≡ Some rest → P (goes_beyond c.limit c.at bytes) (take (c.limit - c.at) bytes) (take (c.limit - c.end) rest)
+Told call P = (bytes rest : List ℕ) → call.told ≡ Some bytes → call.left ≡ Some rest → P (goes_beyond call.limit call.at bytes) (take (call.limit - call.at) bytes) (take (call.limit - call.end) rest)
 
 -- the call answers what the reader gives; a read fault was counted; lack of memory has no cause
 abbrev pub AnswersReader : {X A : Type 0} → (X → A) → Result X ReadPlaneFault → Call → Reader A → Type 0
-AnswersReader view (Ok x) c read = Told c (λ more bytes rest. read more c.at bytes ≡ Ok (view x, c.end, rest))
-AnswersReader view (Err (errors.Plane fault)) c read = Told c (λ more bytes rest. read more c.at bytes ≡ breaks fault)
-AnswersReader view (Err errors.TooLong) c read = ((c.end ≡ c.limit) × HasMore c.left) × Told c (λ more bytes rest. read more c.at bytes ≡ asks)
-AnswersReader view (Err errors.ReadFault) c read = HasRisen c.before c.after
-AnswersReader view (Err errors.Memory) c read = Unit {0}
+AnswersReader view (Ok x) call read = Told call (λ more bytes rest. read more call.at bytes ≡ Ok (view x, call.end, rest))
+AnswersReader view (Err (errors.Plane fault)) call read = Told call (λ more bytes rest. read more call.at bytes ≡ breaks fault)
+AnswersReader view (Err errors.TooLong) call read = ((call.end ≡ call.limit) × HasMore call.left) × Told call (λ more bytes rest. read more call.at bytes ≡ asks)
+AnswersReader view (Err errors.ReadFault) call read = HasRisen call.before call.after
+AnswersReader view (Err errors.Memory) call read = Unit {0}
 
 pub record Reads {X A : Type 0} (view : X → A) (result : Result X ReadPlaneFault) (c : Call) (read : Reader A) : Type 0 where
   pub moves : Moves c

@@ -15,4 +15,4 @@ unfoldable pub plane_header_text : ℕ → ℕ → ℕ → List ℕ
 plane_header_text width height maxval = codes "P5\n" ++ (decimal width ++ (codes " " ++ (decimal height ++ (codes "\n" ++ (decimal maxval ++ codes "\n")))))
 
 unfoldable pub plane_text : PlaneOf → List ℕ
-plane_text p = plane_header_text p.width p.height p.maxval ++ raster_text (is_wide p.maxval) p.samples
+plane_text plane = plane_header_text plane.width plane.height plane.maxval ++ raster_text (is_wide plane.maxval) plane.samples

@@ -20,50 +20,50 @@ left f x y = before (λ i. f i y) x
 -- the face on one side of an edge less that on the other.
 -- A right edge has the cell (x, y - 1) above it and the cell (x, y) below; a down edge has (x, y) right of it and (x - 1, y) left.
 abbrev pub face_difference : Field ℤ → Edge → ℤ
-face_difference f e = if e.down then f e.x e.y -ℤ left f e.x e.y else above f e.x e.y -ℤ f e.x e.y
+face_difference f edge = if edge.down then f edge.x edge.y -ℤ left f edge.x edge.y else above f edge.x edge.y -ℤ f edge.x edge.y
 
 -- a cell of the tile, by its upper left corner: all four corners are pixels of the tile
 abbrev pub is_cell : Raster → ℕ → Field Bool
-is_cell r t x y = nat_lt (x + 1) r.width && nat_lt (y + 1) r.height && (r.tile x y == t) && (r.tile (x + 1) y == t) && (r.tile x (y + 1) == t) && (r.tile (x + 1) (y + 1) == t)
+is_cell raster tile x y = nat_lt (x + 1) raster.width && nat_lt (y + 1) raster.height && (raster.tile x y == tile) && (raster.tile (x + 1) y == tile) && (raster.tile x (y + 1) == tile) && (raster.tile (x + 1) (y + 1) == tile)
 
 -- the faces of a tile's cells, and 0 where there is no cell of the tile
 abbrev pub faces_of_tile : Raster → ℕ → Field ℤ → Field ℤ
-faces_of_tile r t f x y = where_true (is_cell r t x y) (f x y)
+faces_of_tile raster tile f x y = where_true (is_cell raster tile x y) (f x y)
 
 -- a cell's face times its residue, and the sum over the tile's cells
 unfoldable pub face_product : Raster → ℕ → Field ℤ → Field ℤ
-face_product r t f x y = faces_of_tile r t f x y *ℤ residue r x y
+face_product raster tile f x y = faces_of_tile raster tile f x y *ℤ residue raster x y
 
 unfoldable pub face_total : Raster → ℕ → Field ℤ → ℤ
-face_total r t f = sum_grid r.width r.height (face_product r t f)
+face_total raster tile f = sum_grid raster.width raster.height (face_product raster tile f)
 
 -- an inner edge of the tile
 abbrev pub IsTileEdge : Raster → ℕ → Edge → Type 0
-IsTileEdge r t e = IsTrue (is_edge r.width r.height e && is_inner r t e)
+IsTileEdge raster tile edge = IsTrue (is_edge raster.width raster.height edge && is_inner raster tile edge)
 
 -- the faces on the two sides of an edge differ by no more than the steepness times its weight
 abbrev pub FacesFit : Raster → Field Bool → ℕ → Field ℤ → Edge → Type 0
-FacesFit r mask t f e = unsigned_abs (face_difference (faces_of_tile r t f) e) ≤ r.steep * masked_weight r mask e
+FacesFit raster mask tile f edge = unsigned_abs (face_difference (faces_of_tile raster tile f) edge) ≤ raster.steep * masked_weight raster mask edge
 
 -- by how much the faces on the two sides of an inner edge of the tile differ by more than its weight, for the edges that start at a pixel, and the sum over the inner edges
 abbrev pub face_over : Raster → Field Bool → ℕ → Field ℤ → Edge → ℤ
-face_over r mask t f e = where_true (is_inner r t e) (pos (over (masked_weight r mask e) (face_difference (faces_of_tile r t f) e)))
+face_over raster mask tile f edge = where_true (is_inner raster tile edge) (pos (over (masked_weight raster mask edge) (face_difference (faces_of_tile raster tile f) edge)))
 
 unfoldable pub face_over_from : Raster → Field Bool → ℕ → Field ℤ → Field ℤ
-face_over_from r mask t f = edges_from r.width r.height (face_over r mask t f)
+face_over_from raster mask tile f = edges_from raster.width raster.height (face_over raster mask tile f)
 
 unfoldable pub face_over_total : Raster → Field Bool → ℕ → Field ℤ → ℤ
-face_over_total r mask t f = sum_edges r.width r.height (face_over r mask t f)
+face_over_total raster mask tile f = sum_edges raster.width raster.height (face_over raster mask tile f)
 
 -- the sum of face times residue, less those amounts: no congruent surface costs less in the tile
 abbrev pub face_bound : Raster → Field Bool → ℕ → Field ℤ → ℤ
-face_bound r mask t f = face_total r t f -ℤ face_over_total r mask t f
+face_bound raster mask tile f = face_total raster tile f -ℤ face_over_total raster mask tile f
 
 -- faces certify a surface in a tile: they fit at each inner edge, masked ends included, and their bound is the cost
-pub record IsTileCertificate (r : Raster) (mask : Field Bool) (t : ℕ) (S : Field ℤ) (f : Field ℤ) : Type 0 where
-  pub fits : (e : Edge) → IsTileEdge r t e → FacesFit r mask t f e
-  pub equal : face_bound r mask t f ≡ tile_cost r mask t S
+pub record IsTileCertificate (raster : Raster) (mask : Field Bool) (tile : ℕ) (S : Field ℤ) (f : Field ℤ) : Type 0 where
+  pub fits : (e : Edge) → IsTileEdge raster tile e → FacesFit raster mask tile f e
+  pub equal : face_bound raster mask tile f ≡ tile_cost raster mask tile S
 
 -- no congruent surface costs less in the tile
 abbrev pub IsLeastInTile : Raster → Field Bool → ℕ → Field ℤ → Type 0
-IsLeastInTile r mask t S = (S' : Field ℤ) → IsCongruent r mask S' → tile_cost r mask t S ≤ℤ tile_cost r mask t S'
+IsLeastInTile raster mask tile S = (S' : Field ℤ) → IsCongruent raster mask S' → tile_cost raster mask tile S ≤ℤ tile_cost raster mask tile S'

@@ -5,19 +5,19 @@ use Rattle.raster_model.specs.Sums.{right_edge, down_edge, sum_edges}
 
 -- the edges that start at a pixel: the right one, then the down one
 abbrev pub edges_at : ℕ → ℕ → ℕ → ℕ → List Edge
-edges_at w h x y = (if nat_lt (x + 1) w then right_edge x y ∷ [] else []) ++ (if nat_lt (y + 1) h then down_edge x y ∷ [] else [])
+edges_at width height x y = (if nat_lt (x + 1) width then right_edge x y ∷ [] else []) ++ (if nat_lt (y + 1) height then down_edge x y ∷ [] else [])
 
 -- those that start at the first x pixels of row y, and those of the first y rows
 unfoldable pub edges_in_row : ℕ → ℕ → ℕ → ℕ → List Edge
-edges_in_row w h y zero = []
-edges_in_row w h y (suc x) = edges_in_row w h y x ++ edges_at w h x y
+edges_in_row width height y zero = []
+edges_in_row width height y (suc x) = edges_in_row width height y x ++ edges_at width height x y
 
 unfoldable pub edges_in_rows : ℕ → ℕ → ℕ → List Edge
-edges_in_rows w h zero = []
-edges_in_rows w h (suc y) = edges_in_rows w h y ++ edges_in_row w h y w
+edges_in_rows width height zero = []
+edges_in_rows width height (suc y) = edges_in_rows width height y ++ edges_in_row width height y width
 
 abbrev pub edge_list : ℕ → ℕ → List Edge
-edge_list w h = edges_in_rows w h h
+edge_list width height = edges_in_rows width height height
 
 unfoldable pub list_sum : (Edge → ℤ) → List Edge → ℤ
 list_sum F [] = pos 0
@@ -25,4 +25,4 @@ list_sum F (e ∷ es) = F e +ℤ list_sum F es
 
 -- the sums over edges are the sums over the list, each edge of the raster once
 abbrev pub SumsTheList : Type 0
-SumsTheList = (w h : ℕ) (F : Edge → ℤ) → sum_edges w h F ≡ list_sum F (edge_list w h)
+SumsTheList = (width h : ℕ) (F : Edge → ℤ) → sum_edges width h F ≡ list_sum F (edge_list width h)

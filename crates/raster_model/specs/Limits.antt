@@ -29,7 +29,7 @@ max_report_bytes = MAX_REPORT_BYTES
 
 -- a raster may have w by h pixels
 abbrev pub is_raster_size : ℕ → ℕ → Bool
-is_raster_size w h = nat_le 1 w && nat_le w max_side && nat_le 1 h && nat_le h max_side && nat_le (w * h) max_pixels
+is_raster_size width height = nat_le 1 width && nat_le width max_side && nat_le 1 height && nat_le height max_side && nat_le (width * height) max_pixels
 
 -- tiles may have this side
 abbrev pub IsTileSide : ℕ → Type 0

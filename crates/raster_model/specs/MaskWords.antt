@@ -17,12 +17,12 @@ bit_of w x y = y * (words_across w * 64) + x
 
 -- the bits of the pixels, in row order
 unfoldable pub pixels_of : ℕ → ℕ → List ℕ → List Bool
-pixels_of w h words = map (λ k. has_bit words (bit_of w (k % w) (k / w))) (range_with_len 0 (w * h))
+pixels_of width height words = map (λ k. has_bit words (bit_of width (k % width) (k / width))) (range_with_len 0 (width * height))
 
 -- the word at a place of row y tells of each of its pixels whether a mask plane opens it
 abbrev pub IsWordOf : Plane → ℕ → ℕ → ℕ → Type 0
-IsWordOf p y place word = (x : ℕ) → x < p.width → x / 64 ≡ place → (bit_at word (x % 64) == 1) ≡ open_by p x y
+IsWordOf plane y place word = (x : ℕ) → x < plane.width → x / 64 ≡ place → (bit_at word (x % 64) == 1) ≡ open_by plane x y
 
 -- so do the first n words, row by row
 abbrev pub AreWordsOf : Plane → ℕ → List ℕ → Type 0
-AreWordsOf p n words = (x y : ℕ) → x < p.width → y < p.height → y * words_across p.width + x / 64 < n → has_bit words (bit_of p.width x y) ≡ open_by p x y
+AreWordsOf plane n words = (x y : ℕ) → x < plane.width → y < plane.height → y * words_across plane.width + x / 64 < n → has_bit words (bit_of plane.width x y) ≡ open_by plane x y

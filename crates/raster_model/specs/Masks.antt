@@ -7,20 +7,20 @@ use Rattle.raster_model.specs.Planes.{plane_sample}
 
 -- whether a pixel is open
 abbrev pub open_at : MaskView → Field Bool
-open_at m x y = slice_index_or m.unmasked (y * m.width + x) Bool.false
+open_at view x y = slice_index_or view.unmasked (y * view.width + x) Bool.false
 
 -- the mask has this size, and at each of its pixels it is open where the test holds
-pub record IsMaskOf (m : MaskView) (w h : ℕ) (clear : Field Bool) : Type 0 where
-  pub width : m.width ≡ w
-  pub height : m.height ≡ h
-  pub clear_at : (x y : ℕ) → x < w → y < h → open_at m x y ≡ clear x y
+pub record IsMaskOf (view : MaskView) (w h : ℕ) (clear : Field Bool) : Type 0 where
+  pub width : view.width ≡ w
+  pub height : view.height ≡ h
+  pub clear_at : (x y : ℕ) → x < w → y < h → open_at view x y ≡ clear x y
 
 -- every pixel is open; the pixels are open where a mask plane's sample is not 0
 abbrev pub all_open : Field Bool
 all_open x y = true
 
 abbrev pub open_by : Plane → Field Bool
-open_by p x y = not (plane_sample p x y == 0)
+open_by plane x y = not (plane_sample plane x y == 0)
 
 -- the new mask is the old one but for the pixel (x, y), where it is open exactly if the test says so
 pub record IsSetAt (old new : MaskView) (x y : ℕ) (unmasked : Bool) : Type 0 where
@@ -38,7 +38,7 @@ pub record IsSpanSet (old new : MaskView) (y x0 x1 : ℕ) (unmasked : Bool) : Ty
 
 -- in row y each pixel from x0 to x1 is as the test says; one is not
 abbrev pub IsSpanOf : MaskView → ℕ → ℕ → ℕ → Bool → Type 0
-IsSpanOf m y x0 x1 unmasked = (x : ℕ) → x0 ≤ x → x ≤ x1 → open_at m x y ≡ unmasked
+IsSpanOf view y x0 x1 unmasked = (x : ℕ) → x0 ≤ x → x ≤ x1 → open_at view x y ≡ unmasked
 
 abbrev pub HasOtherInSpan : MaskView → ℕ → ℕ → ℕ → Bool → Type 0
-HasOtherInSpan m y x0 x1 unmasked = (x : ℕ) × (x0 ≤ x) × (x ≤ x1) × (open_at m x y ≢ unmasked)
+HasOtherInSpan view y x0 x1 unmasked = (x : ℕ) × (x0 ≤ x) × (x ≤ x1) × (open_at view x y ≢ unmasked)

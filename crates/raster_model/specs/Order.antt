@@ -12,16 +12,16 @@ use Rattle.raster_model.specs.Scene.{raster_of}
 
 -- the upper left corner (x, y) of a cell whose four corners lie in the window
 abbrev pub IsCellAt : Window → ℕ → ℕ → Type 0
-IsCellAt v x y = (v.x0 ≤ x) × (x < v.x1) × (v.y0 ≤ y) × (y < v.y1)
+IsCellAt window x y = (window.x0 ≤ x) × (x < window.x1) × (window.y0 ≤ y) × (y < window.y1)
 
 -- a tile has the cells of its window, and they are numbered by rows from the top, each from the left
 abbrev pub CellsFollowTheWindow : Type 0
-CellsFollowTheWindow = (s : Scene) (t : ℕ) (v : Window) → IsWindowOf s.tiling t v → (cell_count (raster_of s) t ≡ (v.y1 - v.y0) * (v.x1 - v.x0)) × ((x y : ℕ) → IsCellAt v x y → cells_before (raster_of s) t x y ≡ (y - v.y0) * (v.x1 - v.x0) + (x - v.x0))
+CellsFollowTheWindow = (scene : Scene) (tile : ℕ) (window : Window) → IsWindowOf scene.tiling tile window → (cell_count (raster_of scene) tile ≡ (window.y1 - window.y0) * (window.x1 - window.x0)) × ((x y : ℕ) → IsCellAt window x y → cells_before (raster_of scene) tile x y ≡ (y - window.y0) * (window.x1 - window.x0) + (x - window.x0))
 
 -- the seam edges in edge order
 abbrev pub seam_list : Raster → List Edge
-seam_list r = filter (is_seam_edge r) (edge_list r.width r.height)
+seam_list raster = filter (is_seam_edge raster) (edge_list raster.width raster.height)
 
 -- there are as many as are counted, and each stands at its place
 abbrev pub FlowsFollowEdgeOrder : Type 0
-FlowsFollowEdgeOrder = (r : Raster) → (length (seam_list r) ≡ seam_count r) × ((e : Edge) → IsTrue (is_seam_edge r e) → slice_get (seam_list r) (seam_place r e) ≡ Some e)
+FlowsFollowEdgeOrder = (raster : Raster) → (length (seam_list raster) ≡ seam_count raster) × ((edge : Edge) → IsTrue (is_seam_edge raster edge) → slice_get (seam_list raster) (seam_place raster edge) ≡ Some edge)

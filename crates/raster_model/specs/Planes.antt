@@ -9,8 +9,8 @@ use Rattle.raster_model.specs.Limits.{is_raster_size}
 -- the first reason, in the order of the variants, why these are not the fields of a plane; none where they are:
 -- a size beyond the limits, a maxval of 0, a number of samples that is not the number of pixels, the first sample above maxval
 abbrev pub plane_refusal : ℕ → ℕ → ℕ → List ℕ → Option PlaneShape
-plane_refusal w h maxval samples = if not (is_raster_size w h) then Some Size else (if maxval == 0 then Some Maxval else (if not (length samples == w * h) then Some (Count (length samples)) else option_map Above (position (λ s. nat_lt maxval s) samples)))
+plane_refusal width height maxval samples = if not (is_raster_size width height) then Some Size else (if maxval == 0 then Some Maxval else (if not (length samples == width * height) then Some (Count (length samples)) else option_map Above (position (λ s. nat_lt maxval s) samples)))
 
 -- the sample of a pixel
 abbrev pub plane_sample : Plane → Field ℕ
-plane_sample p x y = slice_index p.samples.items (y * p.width + x)
+plane_sample plane x y = slice_index plane.samples.items (y * plane.width + x)

@@ -19,48 +19,48 @@ pub record Raster : Type 0 where
 
 -- the wrapped difference of an edge around its slope, from its first end to the other
 abbrev pub gradient : Raster → Edge → ℤ
-gradient r e = wrapped_by (r.slope e.down) (at_edge_start r.phase e) (at_edge_end r.phase e)
+gradient raster edge = wrapped_by (raster.slope edge.down) (at_edge_start raster.phase edge) (at_edge_end raster.phase edge)
 
 -- the whole cycles that it leaves out of the difference of the phases
 abbrev pub turns_of : Raster → Edge → ℤ
-turns_of r e = turns_by (r.slope e.down) (at_edge_start r.phase e) (at_edge_end r.phase e)
+turns_of raster edge = turns_by (raster.slope edge.down) (at_edge_start raster.phase edge) (at_edge_end raster.phase edge)
 
 -- the sum of the wrapped differences round the cell whose upper left corner is (x, y): along its top and its right side, and back along its bottom and its left side
 abbrev pub round_cell : Raster → Field ℤ
-round_cell r x y = gradient r (right_edge x y) +ℤ gradient r (down_edge (x + 1) y) -ℤ gradient r (right_edge x (y + 1)) -ℤ gradient r (down_edge x y)
+round_cell raster x y = gradient raster (right_edge x y) +ℤ gradient raster (down_edge (x + 1) y) -ℤ gradient raster (right_edge x (y + 1)) -ℤ gradient raster (down_edge x y)
 
 -- the residue of that cell: the whole cycles of that sum (Goldstein, Zebker and Werner 1988)
 abbrev pub residue : Raster → Field ℤ
-residue r x y = int_div (round_cell r x y) (pos 65536)
+residue raster x y = int_div (round_cell raster x y) (pos 65536)
 
 -- a surface is congruent where it differs from the phase by whole cycles at each open pixel
 abbrev pub IsCongruent : Raster → Field Bool → Field ℤ → Type 0
-IsCongruent r mask S = (x y : ℕ) → x < r.width → y < r.height → IsTrue (mask x y) → (cycles : ℤ) × (S x y ≡ pos (r.phase x y) +ℤ pos 65536 *ℤ cycles)
+IsCongruent raster mask S = (x y : ℕ) → x < raster.width → y < raster.height → IsTrue (mask x y) → (cycles : ℤ) × (S x y ≡ pos (raster.phase x y) +ℤ pos 65536 *ℤ cycles)
 
 -- whole cycles by which a congruent surface departs from the wrapped difference of an edge with open ends
 abbrev pub departure : Raster → Field ℤ → Edge → ℤ
-departure r S e = int_div (at_edge_end S e -ℤ at_edge_start S e -ℤ gradient r e) (pos 65536)
+departure raster S edge = int_div (at_edge_end S edge -ℤ at_edge_start S edge -ℤ gradient raster edge) (pos 65536)
 
 -- the surface that lies so many whole cycles above the phase, and its departures by the cycles alone
 abbrev pub lifted : Raster → Field ℤ → Field ℤ
-lifted r cycles x y = pos (r.phase x y) +ℤ pos 65536 *ℤ cycles x y
+lifted raster cycles x y = pos (raster.phase x y) +ℤ pos 65536 *ℤ cycles x y
 
 abbrev pub cycle_departure : Raster → Field ℤ → Edge → ℤ
-cycle_departure r cycles e = at_edge_end cycles e -ℤ at_edge_start cycles e +ℤ turns_of r e
+cycle_departure raster cycles edge = at_edge_end cycles edge -ℤ at_edge_start cycles edge +ℤ turns_of raster edge
 
 abbrev pub has_open_ends : Field Bool → Edge → Bool
-has_open_ends mask e = at_edge_start mask e && at_edge_end mask e
+has_open_ends mask edge = at_edge_start mask edge && at_edge_end mask edge
 
 -- the weight under a mask: 0 where an end is masked
 abbrev pub masked_weight : Raster → Field Bool → Edge → ℕ
-masked_weight r mask e = if has_open_ends mask e then r.weight e else 0
+masked_weight raster mask edge = if has_open_ends mask edge then raster.weight edge else 0
 
 -- both ends lie in tile t; the ends lie in two tiles
 abbrev pub is_inner : Raster → ℕ → Edge → Bool
-is_inner r t e = (at_edge_start r.tile e == t) && (at_edge_end r.tile e == t)
+is_inner raster t edge = (at_edge_start raster.tile edge == t) && (at_edge_end raster.tile edge == t)
 
 abbrev pub is_seam : Raster → Edge → Bool
-is_seam r e = not (at_edge_start r.tile e == at_edge_end r.tile e)
+is_seam raster edge = not (at_edge_start raster.tile edge == at_edge_end raster.tile edge)
 
 -- what so many cycles count for at a steepness q: none counts for nothing, the first for 1 and each further one for q
 abbrev pub steps_of : ℕ → ℕ → ℕ
@@ -76,26 +76,26 @@ over weight d = unsigned_abs d - weight
 
 -- what an edge with open ends adds to a cost: its weight times the steps of its departure (at steepness 1 its absolute departure: Costantini 1998)
 abbrev pub edge_cost : Raster → Field Bool → Field ℤ → Edge → ℤ
-edge_cost r mask S e = where_true (has_open_ends mask e) (pos (masked_weight r mask e * steps r.steep (departure r S e)))
+edge_cost raster mask S edge = where_true (has_open_ends mask edge) (pos (masked_weight raster mask edge * steps raster.steep (departure raster S edge)))
 
 -- what an edge adds to the cost of a tile, and to that of the seams
 abbrev pub inner_cost : Raster → Field Bool → ℕ → Field ℤ → Edge → ℤ
-inner_cost r mask t S e = where_true (is_inner r t e) (edge_cost r mask S e)
+inner_cost raster mask t S edge = where_true (is_inner raster t edge) (edge_cost raster mask S edge)
 
 abbrev pub seam_edge_cost : Raster → Field Bool → Field ℤ → Edge → ℤ
-seam_edge_cost r mask S e = where_true (is_seam r e) (edge_cost r mask S e)
+seam_edge_cost raster mask S edge = where_true (is_seam raster edge) (edge_cost raster mask S edge)
 
 -- what the edges that start at a pixel add to the cost of a tile, and to that of the seams
 unfoldable pub cost_from : Raster → Field Bool → ℕ → Field ℤ → Field ℤ
-cost_from r mask t S = edges_from r.width r.height (inner_cost r mask t S)
+cost_from raster mask t S = edges_from raster.width raster.height (inner_cost raster mask t S)
 
 unfoldable pub seam_cost_from : Raster → Field Bool → Field ℤ → Field ℤ
-seam_cost_from r mask S = edges_from r.width r.height (seam_edge_cost r mask S)
+seam_cost_from raster mask S = edges_from raster.width raster.height (seam_edge_cost raster mask S)
 
 -- the cost of a tile: the sum over its inner edges with open ends
 unfoldable pub tile_cost : Raster → Field Bool → ℕ → Field ℤ → ℤ
-tile_cost r mask t S = sum_edges r.width r.height (inner_cost r mask t S)
+tile_cost raster mask t S = sum_edges raster.width raster.height (inner_cost raster mask t S)
 
 -- the cost of the seams: the sum over the edges from tile to tile with open ends
 unfoldable pub seam_cost : Raster → Field Bool → Field ℤ → ℤ
-seam_cost r mask S = sum_edges r.width r.height (seam_edge_cost r mask S)
+seam_cost raster mask S = sum_edges raster.width raster.height (seam_edge_cost raster mask S)

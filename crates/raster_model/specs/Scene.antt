@@ -7,4 +7,4 @@ use Rattle.raster_model.specs.Tiles.{tiles_of, tile_at}
 use Rattle.raster_model.specs.Weights.{edge_weight}
 
 abbrev pub raster_of : Scene → Raster
-raster_of s = record { width = s.phase.width; height = s.phase.height; phase = plane_sample s.phase; slope = slope_of s.terms; weight = edge_weight s.rule s.weights; tile = tile_at s.tiling; tile_count = tiles_of s.tiling; steep = s.terms.steep }
+raster_of scene = record { width = scene.phase.width; height = scene.phase.height; phase = plane_sample scene.phase; slope = slope_of scene.terms; weight = edge_weight scene.rule scene.weights; tile = tile_at scene.tiling; tile_count = tiles_of scene.tiling; steep = scene.terms.steep }

@@ -32,14 +32,14 @@ rect_of (Unmask rect) = rect
 
 -- the rectangle lies in a raster of w by h pixels
 abbrev pub IsRectIn : ℕ → ℕ → Rect → Type 0
-IsRectIn w h rect = (rect.x0 ≤ rect.x1) × (rect.x1 < w) × (rect.y0 ≤ rect.y1) × (rect.y1 < h)
+IsRectIn width height rect = (rect.x0 ≤ rect.x1) × (rect.x1 < width) × (rect.y0 ≤ rect.y1) × (rect.y1 < height)
 
 -- the rectangles of all edits in a list of commands do, and those in all scripts
 abbrev pub CommandsFit : ℕ → ℕ → List Command → Type 0
-CommandsFit w h commands = (k : ℕ) (edit : Edit) → slice_get commands k ≡ Some (Change edit) → IsRectIn w h (rect_of edit)
+CommandsFit width height commands = (k : ℕ) (edit : Edit) → slice_get commands k ≡ Some (Change edit) → IsRectIn width height (rect_of edit)
 
 abbrev pub ScriptsFit : ℕ → ℕ → List Script → Type 0
-ScriptsFit w h scripts = (k : ℕ) (script : Script) → slice_get scripts k ≡ Some script → CommandsFit w h script.commands.items
+ScriptsFit width height scripts = (k : ℕ) (script : Script) → slice_get scripts k ≡ Some script → CommandsFit width height script.commands.items
 
 -- no script has more than 4096 commands
 abbrev pub ScriptsAreShort : List Script → Type 0

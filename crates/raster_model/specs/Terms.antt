@@ -4,10 +4,10 @@ use Rattle.raster_model.specs.declared.terms.Terms.{Terms}
 
 -- the rise that is expected along a down edge, or along a right one
 abbrev pub slope_of : Terms → Bool → ℤ
-slope_of t down = if down then t.ramp_y else t.ramp_x
+slope_of terms down = if down then terms.ramp_y else terms.ramp_x
 
 -- no ramp is expected, and each cycle of a departure costs the same
-pub record ArePlainTerms (t : Terms) : Type 0 where
-  pub across : t.ramp_x ≡ pos 0
-  pub along : t.ramp_y ≡ pos 0
-  pub steepness : t.steep ≡ 1
+pub record ArePlainTerms (terms : Terms) : Type 0 where
+  pub across : terms.ramp_x ≡ pos 0
+  pub along : terms.ramp_y ≡ pos 0
+  pub steepness : terms.steep ≡ 1

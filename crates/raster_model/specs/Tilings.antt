@@ -7,12 +7,12 @@ use Rattle.raster_model.specs.Raster.{Raster}
 
 -- the raster with these numbers of tiles, so many in all
 abbrev pub tiled_by : Raster → Field ℕ → ℕ → Raster
-tiled_by r tile count = record { width = r.width; height = r.height; phase = r.phase; slope = r.slope; weight = r.weight; tile = tile; tile_count = count; steep = r.steep }
+tiled_by raster tile count = record { width = raster.width; height = raster.height; phase = raster.phase; slope = raster.slope; weight = raster.weight; tile = tile; tile_count = count; steep = raster.steep }
 
 -- each pixel lies in a tile
 abbrev pub HasTiles : Raster → Type 0
-HasTiles r = (x y : ℕ) → x < r.width → y < r.height → r.tile x y < r.tile_count
+HasTiles raster = (x y : ℕ) → x < raster.width → y < raster.height → raster.tile x y < raster.tile_count
 
 -- each pixel of a scene lies in one of its tiles
 abbrev pub ScenesHaveTiles : Type 0
-ScenesHaveTiles = (s : Scene) → HasTiles (raster_of s)
+ScenesHaveTiles = (scene : Scene) → HasTiles (raster_of scene)

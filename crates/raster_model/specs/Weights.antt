@@ -16,14 +16,14 @@ rule_number Product maxval a b = a * b / maxval
 
 -- the weight of an edge before any mask
 abbrev pub edge_weight : RuleKind → Plane → Edge → ℕ
-edge_weight rule p e = rule_number rule p.maxval (at_edge_start (plane_sample p) e) (at_edge_end (plane_sample p) e)
+edge_weight rule plane edge = rule_number rule plane.maxval (at_edge_start (plane_sample plane) edge) (at_edge_end (plane_sample plane) edge)
 
 -- the number that two lists in row order hold for an edge of a raster that is w pixels wide
 abbrev pub stored_weight : ℕ → EdgeWeights → Edge → ℕ
-stored_weight w edges e = if e.down then slice_index edges.down.items (e.y * w + e.x) else slice_index edges.right.items (e.y * (w - 1) + e.x)
+stored_weight w edges edge = if edge.down then slice_index edges.down.items (edge.y * w + edge.x) else slice_index edges.right.items (edge.y * (w - 1) + edge.x)
 
 -- the lists hold a number for each right edge and for each down edge of the plane's raster, and these are the rule's
-pub record AreRuleWeights (rule : RuleKind) (p : Plane) (edges : EdgeWeights) : Type 0 where
-  pub rights : vec_len edges.right ≡ (p.width - 1) * p.height
-  pub downs : vec_len edges.down ≡ p.width * (p.height - 1)
-  pub weighed : (e : Edge) → IsTrue (is_edge p.width p.height e) → stored_weight p.width edges e ≡ edge_weight rule p e
+pub record AreRuleWeights (rule : RuleKind) (plane : Plane) (edges : EdgeWeights) : Type 0 where
+  pub rights : vec_len edges.right ≡ (plane.width - 1) * plane.height
+  pub downs : vec_len edges.down ≡ plane.width * (plane.height - 1)
+  pub weighed : (e : Edge) → IsTrue (is_edge plane.width plane.height e) → stored_weight plane.width edges e ≡ edge_weight rule plane e

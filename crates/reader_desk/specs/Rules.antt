@@ -35,15 +35,15 @@ IsNextPen pen placed = (pen.book ≡ placed.shelf) × (pen.nib ≡ next_nib (len
 
 -- if there were as many words as was expected, one was added, and the pen is its
 abbrev pub AddsWord : Step Item → View Item ℕ → ℕ → View Item ℕ → Type 0
-AddsWord s v found w = MatchBool (found == s.old) (w.1.0 ≡ nib may_make s.old 0) (Unit {0})
+AddsWord step v found w = MatchBool (found == step.old) (w.1.0 ≡ nib may_make step.old 0) (Unit {0})
 
 -- the surface was added to all that had been seen
 abbrev pub AddsNext : Step Item → View Item ℕ → ℕ → View Item ℕ → Type 0
-AddsNext s v found w = w.0 ≡ v.0 ++ s.ask ∷ []
+AddsNext step v found w = w.0 ≡ v.0 ++ step.ask ∷ []
 
 -- no more was placed than the pen says, which is as before
 abbrev pub IsAll : Step Item → View Item ℕ → ℕ → View Item ℕ → Type 0
-IsAll s v found w = (length w.0 + 2 ≤ v.1.0.key) × (w.1.0 ≡ v.1.0)
+IsAll step v found w = (length w.0 + 2 ≤ v.1.0.key) × (w.1.0 ≡ v.1.0)
 
 -- each view that names a shelf names this one
 abbrev pub IsOfShelf : Book → Option ShelfView → Type 0

@@ -12,27 +12,27 @@ use Rattle.seam_regions.specs.declared.pieces.Piece.{Piece}
 
 -- a raster with a tiling's size and tiles
 abbrev pub tiled : Tiling → Raster
-tiled g = record { width = g.width; height = g.height; phase = λ x y. 0; slope = λ down. pos 0; weight = λ e. 0; tile = tile_at g; tile_count = tiles_of g; steep = 1 }
+tiled tiling = record { width = tiling.width; height = tiling.height; phase = λ x y. 0; slope = λ down. pos 0; weight = λ e. 0; tile = tile_at tiling; tile_count = tiles_of tiling; steep = 1 }
 
 -- its inner edges join
 abbrev pub tiling_joined : Tiling → Field Bool → Joining
-tiling_joined g mask = tiles_joined (tiled g) mask
+tiling_joined tiling mask = tiles_joined (tiled tiling) mask
 
 abbrev pub HasJoined : Tiling → Field Bool → ℕ → List ℕ → Type 0
-HasJoined g mask k parents = IsFlood (tiling_joined g mask) k parents
+HasJoined tiling mask k parents = IsFlood (tiling_joined tiling mask) k parents
 
 abbrev pub HasNumbered : Tiling → Field Bool → ℕ → ℕ → List ℕ → Type 0
-HasNumbered g mask k count labels = IsNumbered (tiling_joined g mask) k count labels
+HasNumbered tiling mask k count labels = IsNumbered (tiling_joined tiling mask) k count labels
 
 -- the piece is the part of a row that lies in one tile
-pub record IsPiece (g : Tiling) (p : Piece) : Type 0 where
-  pub row : p.y < g.height
-  pub across : (p.first ≤ p.last) × (p.last < g.width)
-  pub begins : p.first % g.side ≡ 0
-  pub short : p.last < p.first + g.side
-  pub top : p.top ≡ (p.y % g.side == 0)
+pub record IsPiece (tiling : Tiling) (piece : Piece) : Type 0 where
+  pub row : piece.y < tiling.height
+  pub across : (piece.first ≤ piece.last) × (piece.last < tiling.width)
+  pub begins : piece.first % tiling.side ≡ 0
+  pub short : piece.last < piece.first + tiling.side
+  pub top : piece.top ≡ (piece.y % tiling.side == 0)
 
 -- the pixels of the piece are open, and so are those of its tile right above them
-pub record IsOpenPiece (m : MaskView) (p : Piece) : Type 0 where
-  pub own : IsSpanOf m p.y p.first p.last true
-  pub upper : p.top ≡ false → IsSpanOf m (p.y - 1) p.first p.last true
+pub record IsOpenPiece (view : MaskView) (piece : Piece) : Type 0 where
+  pub own : IsSpanOf view piece.y piece.first piece.last true
+  pub upper : piece.top ≡ false → IsSpanOf view (piece.y - 1) piece.first piece.last true

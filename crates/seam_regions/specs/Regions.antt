@@ -31,19 +31,19 @@ abbrev pub shifted_by : RegionsView → List ℤ → Field ℤ → Field ℤ
 shifted_by v offsets cycles x y = cycles x y +ℤ offset_at v offsets x y
 
 -- the raster has the tiling's size and tiles
-pub record IsTiledBy (r : Raster) (g : Tiling) : Type 0 where
-  pub width : r.width ≡ g.width
-  pub height : r.height ≡ g.height
-  pub tile : r.tile ≡ tile_at g
+pub record IsTiledBy (raster : Raster) (tiling : Tiling) : Type 0 where
+  pub width : raster.width ≡ tiling.width
+  pub height : raster.height ≡ tiling.height
+  pub tile : raster.tile ≡ tile_at tiling
 
 -- the most regions that there can be: 3 * 2 ^ 20
 abbrev pub most_regions : ℕ
 most_regions = MAX_REGIONS
 
 -- the labels are the numbers of the regions under the mask, in each raster with those tiles, and masked pixels have no region
-pub record AreRegionsOf (g : Tiling) (mask : MaskView) (v : RegionsView) : Type 0 where
-  pub width : v.width ≡ g.width
-  pub height : v.height ≡ g.height
-  pub regions : (r : Raster) → IsTiledBy r g → AreRegions r (open_at mask) (region_label v) v.count
-  pub told : (x y : ℕ) → x < g.width → y < g.height → region_at v x y ≡ (if open_at mask x y then Some (region_label v x y) else None)
+pub record AreRegionsOf (tiling : Tiling) (mask : MaskView) (v : RegionsView) : Type 0 where
+  pub width : v.width ≡ tiling.width
+  pub height : v.height ≡ tiling.height
+  pub regions : (r : Raster) → IsTiledBy r tiling → AreRegions r (open_at mask) (region_label v) v.count
+  pub told : (x y : ℕ) → x < tiling.width → y < tiling.height → region_at v x y ≡ (if open_at mask x y then Some (region_label v x y) else None)
   pub few : v.count ≤ most_regions

@@ -11,20 +11,20 @@ use Rattle.wrapped_gradient.specs.Windows.{IsEdgeOf}
 
 -- the cycles that a list in the window's row order has at a pixel of the raster
 abbrev pub cycles_at : Window → List ℤ → Field ℤ
-cycles_at v cycles x y = slice_index_or cycles (place_in v x y) (pos 0)
+cycles_at window cycles x y = slice_index_or cycles (place_in window x y) (pos 0)
 
 -- the surface that lies so many cycles above the phase departs by the correction at each edge of the window
 abbrev pub DepartBy : Raster → Window → Field ℤ → Corrections → Type 0
-DepartBy r v cycles k = (e : Edge) → IsEdgeOf v e → departure r (lifted r cycles) e ≡ correction_at v k e
+DepartBy raster window cycles corrections = (edge : Edge) → IsEdgeOf window edge → departure raster (lifted raster cycles) edge ≡ correction_at window corrections edge
 
 -- with w and h the sides of the window and b the greatest absolute correction, (w + h) * (b + 1) is at most 2147483647
 abbrev pub AreSmall : Window → Corrections → Type 0
-AreSmall v k = (width_of v + height_of v) * (greatest_of k + 1) ≤ 2147483647
+AreSmall window corrections = (width_of window + height_of window) * (greatest_of corrections + 1) ≤ 2147483647
 
 -- no pixel has more absolute cycles than the limit
 abbrev pub LieWithin : Window → Field ℤ → ℕ → Type 0
-LieWithin v cycles limit = (x y : ℕ) → IsWithin v x y → unsigned_abs (cycles x y) ≤ limit
+LieWithin window cycles limit = (x y : ℕ) → IsWithin window x y → unsigned_abs (cycles x y) ≤ limit
 
 -- at a pixel some steps to the right of the window's first and some below, the absolute cycles are at most those steps times b + 1
 abbrev pub StaySmall : Window → Field ℤ → ℕ → Type 0
-StaySmall v cycles b = (x y : ℕ) → IsWithin v x y → unsigned_abs (cycles x y) ≤ (x - v.x0 + (y - v.y0)) * (b + 1)
+StaySmall window cycles b = (x y : ℕ) → IsWithin window x y → unsigned_abs (cycles x y) ≤ (x - window.x0 + (y - window.y0)) * (b + 1)

@@ -16,10 +16,10 @@ use Rattle.sums_and_lists.specs.Sums.{where_true}
 
 -- what an edge adds to the costs of all tiles, and what the edges that start at a pixel add
 unfoldable pub inner_edge_cost : Raster → Field Bool → Field ℤ → Edge → ℤ
-inner_edge_cost r mask S e = where_true (not (is_seam r e)) (edge_cost r mask S e)
+inner_edge_cost raster mask S edge = where_true (not (is_seam raster edge)) (edge_cost raster mask S edge)
 
 unfoldable pub inner_cost_from : Raster → Field Bool → Field ℤ → Field ℤ
-inner_cost_from r mask S = edges_from r.width r.height (inner_edge_cost r mask S)
+inner_cost_from raster mask S = edges_from raster.width raster.height (inner_edge_cost raster mask S)
 
 -- neither cost is more than n edges can add
 abbrev pub AreOfEdges : ℕ → Costs → Type 0
@@ -34,33 +34,33 @@ AreOfRows r mask S a b costs =
 
 -- the pixels of row y and of the next one from column x to column z are open, as far as the raster goes
 abbrev pub AreOpenFrom : MaskView → ℕ → ℕ → ℕ → Type 0
-AreOpenFrom m y x z = (a b : ℕ) → a < m.width → b < m.height → x ≤ a → a ≤ z → y ≤ b → b ≤ y + 1 → IsTrue (open_at m a b)
+AreOpenFrom view y x z = (a b : ℕ) → a < view.width → b < view.height → x ≤ a → a ≤ z → y ≤ b → b ≤ y + 1 → IsTrue (open_at view a b)
 
 -- those pixels of a raster are known
 abbrev pub KnowsFrom : Raster → Field Bool → ℕ → ℕ → ℕ → Type 0
-KnowsFrom r knows y x z = (a b : ℕ) → a < r.width → b < r.height → x ≤ a → a ≤ z → y ≤ b → b ≤ y + 1 → IsTrue (knows a b)
+KnowsFrom raster knows y x z = (a b : ℕ) → a < raster.width → b < raster.height → x ≤ a → a ≤ z → y ≤ b → b ≤ y + 1 → IsTrue (knows a b)
 
 -- the open pixels of a raster in the rows from y to z are known
 abbrev pub KnowsOpenRows : Raster → Field Bool → Field Bool → ℕ → ℕ → Type 0
-KnowsOpenRows r mask knows y z = (a b : ℕ) → a < r.width → b < r.height → y ≤ b → b ≤ z → IsTrue (mask a b) → IsTrue (knows a b)
+KnowsOpenRows raster mask knows y z = (a b : ℕ) → a < raster.width → b < raster.height → y ≤ b → b ≤ z → IsTrue (mask a b) → IsTrue (knows a b)
 
 -- the surface departs at no right edge that starts in row y from column a to before column b; nor at a down edge
 abbrev pub FollowsRight : Raster → Field ℤ → ℕ → ℕ → ℕ → Type 0
-FollowsRight r S y a b = (x : ℕ) → a ≤ x → x < b → x + 1 < r.width → departure r S (right_edge x y) ≡ pos 0
+FollowsRight raster S y a b = (x : ℕ) → a ≤ x → x < b → x + 1 < raster.width → departure raster S (right_edge x y) ≡ pos 0
 
 abbrev pub FollowsDown : Raster → Field ℤ → ℕ → ℕ → ℕ → Type 0
-FollowsDown r S y a b = (x : ℕ) → a ≤ x → x < b → departure r S (down_edge x y) ≡ pos 0
+FollowsDown raster S y a b = (x : ℕ) → a ≤ x → x < b → departure raster S (down_edge x y) ≡ pos 0
 
 -- the numbers of row y from column a to before column b add up to z
 abbrev pub AddUpTo : Field ℤ → ℕ → ℕ → ℕ → ℤ → Type 0
 AddUpTo f y a b z = sum_row b f y ≡ sum_row a f y +ℤ z
 
 -- what a surface is put together from has one size: the scene, the mask, the results and the labels; each tile has a good result, and each open pixel, and no masked one, a region
-pub record GoTogether (s : Scene) (m : MaskView) (v : RegionsView) (results : List TileResult) : Type 0 where
-  pub across : m.width ≡ s.phase.width
-  pub along : m.height ≡ s.phase.height
-  pub tiles : AreGoodTiles s (open_at m) results
-  pub wide : v.width ≡ s.phase.width
-  pub high : v.height ≡ s.phase.height
-  pub below : (x y : ℕ) → x < s.phase.width → y < s.phase.height → IsTrue (open_at m x y) → region_label v x y < v.count
-  pub told : (x y : ℕ) → x < s.phase.width → y < s.phase.height → region_label v x y < v.count → IsTrue (open_at m x y)
+pub record GoTogether (scene : Scene) (view : MaskView) (regions : RegionsView) (results : List TileResult) : Type 0 where
+  pub across : view.width ≡ scene.phase.width
+  pub along : view.height ≡ scene.phase.height
+  pub tiles : AreGoodTiles scene (open_at view) results
+  pub wide : regions.width ≡ scene.phase.width
+  pub high : regions.height ≡ scene.phase.height
+  pub below : (x y : ℕ) → x < scene.phase.width → y < scene.phase.height → IsTrue (open_at view x y) → region_label regions x y < regions.count
+  pub told : (x y : ℕ) → x < scene.phase.width → y < scene.phase.height → region_label regions x y < regions.count → IsTrue (open_at view x y)

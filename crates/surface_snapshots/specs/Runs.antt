@@ -36,11 +36,11 @@ label_by labels (Some k) p = label_in labels k.first k.runs p
 label_by labels None p = None
 
 unfoldable pub label_there : List ℕ → List RunsView → ℕ → ℕ → ℕ
-label_there labels tiles t p = unwrap_or (label_by labels (slice_get tiles t) p) masked_label
+label_there labels tiles tile p = unwrap_or (label_by labels (slice_get tiles tile) p) masked_label
 
 -- the labels of all pixels in row order
 unfoldable pub labels_told : Tiling → List ℕ → List RunsView → List ℕ
-labels_told g labels tiles = map (λ k. label_there labels tiles (tile_at g (k % g.width) (k / g.width)) (place_in (window_of g (tile_at g (k % g.width) (k / g.width))) (k % g.width) (k / g.width))) (range_with_len 0 (g.width * g.height))
+labels_told tiling labels tiles = map (λ k. label_there labels tiles (tile_at tiling (k % tiling.width) (k / tiling.width)) (place_in (window_of tiling (tile_at tiling (k % tiling.width) (k / tiling.width))) (k % tiling.width) (k / tiling.width))) (range_with_len 0 (tiling.width * tiling.height))
 
 -- no run ends before an earlier one
 abbrev pub AreRising : List Run → Type 0

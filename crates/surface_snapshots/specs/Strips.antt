@@ -11,7 +11,7 @@ use Rattle.surface_snapshots.specs.Shifted.{cycles_under, no_cycles, open_under,
 
 -- the costs are what the edges of a surface of shifted tiles add that start in the rows from a to before b
 abbrev pub AreCounted : ShiftedTiles → ℕ → ℕ → Costs → Type 0
-AreCounted s a b costs = AreOfRows (raster_under s) (open_under s) (lifted (raster_under s) (cycles_under s)) a b costs
+AreCounted shifted a b costs = AreOfRows (raster_under shifted) (open_under shifted) (lifted (raster_under shifted) (cycles_under shifted)) a b costs
 
 -- a strip of n rows of width w has room for 16 of them, or all if there are fewer, and for the row below
 abbrev pub HasRoom : ℕ → ℕ → Strip → Type 0
@@ -19,14 +19,14 @@ HasRoom n w strip = length strip.cycles.items ≡ (min n 16 + 1) * w
 
 -- what the edges of such a surface that start at a pixel add to the costs of all tiles, and to that of the seams
 abbrev pub tile_costs_from : ShiftedTiles → Field ℤ
-tile_costs_from s = inner_cost_from (raster_under s) (open_under s) (lifted (raster_under s) (cycles_under s))
+tile_costs_from shifted = inner_cost_from (raster_under shifted) (open_under shifted) (lifted (raster_under shifted) (cycles_under shifted))
 
 abbrev pub seam_costs_from : ShiftedTiles → Field ℤ
-seam_costs_from s = seam_cost_from (raster_under s) (open_under s) (lifted (raster_under s) (cycles_under s))
+seam_costs_from shifted = seam_cost_from (raster_under shifted) (open_under shifted) (lifted (raster_under shifted) (cycles_under shifted))
 
 -- they add nothing
 abbrev pub AddNothing : ShiftedTiles → ℕ → ℕ → Type 0
-AddNothing s x y = (tile_costs_from s x y ≡ pos 0) × (seam_costs_from s x y ≡ pos 0)
+AddNothing shifted x y = (tile_costs_from shifted x y ≡ pos 0) × (seam_costs_from shifted x y ≡ pos 0)
 
 -- at an edge with these cycles and phases at its ends a surface does not depart, if both are cycles, and few
 abbrev pub IsStillEdge : ℤ → ℤ → ℤ → ℕ → ℕ → Type 0

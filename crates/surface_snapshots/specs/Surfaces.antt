@@ -6,4 +6,4 @@ use Rattle.surface_snapshots.specs.Parts.{Parts}
 use Rattle.surface_snapshots.specs.Tiled.{regions_in}
 
 abbrev pub parts_in : Surface → Parts
-parts_in s = parts_kept (arc_value s.session) (regions_in s.regions) s.tiles s.revision s.offsets.items (arc_value s.flows).items
+parts_in surface = parts_kept (arc_value surface.session) (regions_in surface.regions) surface.tiles surface.revision surface.offsets.items (arc_value surface.flows).items

@@ -13,4 +13,4 @@ unfoldable pub pixels_told : List ℕ → ℕ → List Bool
 pixels_told labels count = map (λ l. nat_lt l count) labels
 
 abbrev pub mask_told : RegionsView → MaskView
-mask_told v = record { width = v.width; height = v.height; unmasked = pixels_told v.labels v.count }
+mask_told regions = record { width = regions.width; height = regions.height; unmasked = pixels_told regions.labels regions.count }

@@ -11,23 +11,23 @@ use Rattle.surface_snapshots.specs.Parts.{Parts, raster_in, open_in, cycles_in_p
 
 -- there is an offset for each region
 abbrev pub HasOffsets : Parts → Type 0
-HasOffsets p = length p.seams.offsets ≡ p.regions.count
+HasOffsets parts = length parts.seams.offsets ≡ parts.regions.count
 
 -- what the check of the flows says of the surface
 abbrev pub IsPartsFlowsVerdict : Parts → SeamVerdict → Type 0
-IsPartsFlowsVerdict p = IsSeamVerdict (raster_in p) (open_in p) (region_label p.regions) p.regions.count (cycles_in_parts p) (flows_in p)
+IsPartsFlowsVerdict parts = IsSeamVerdict (raster_in parts) (open_in parts) (region_label parts.regions) parts.regions.count (cycles_in_parts parts) (flows_in parts)
 
 -- the verdict: the number of the offsets, then their range, then what the check of the flows says
 abbrev pub IsPartsVerdict : Parts → SeamVerdict → Type 0
-IsPartsVerdict p Shape = (length p.seams.offsets ≢ p.regions.count) ⊎ (HasOffsets p × AreNear p.seams.offsets × IsPartsFlowsVerdict p Shape)
-IsPartsVerdict p (Range v) = HasOffsets p × IsFirstFar p.seams.offsets v
-IsPartsVerdict p verdict = HasOffsets p × AreNear p.seams.offsets × IsPartsFlowsVerdict p verdict
+IsPartsVerdict parts Shape = (length parts.seams.offsets ≢ parts.regions.count) ⊎ (HasOffsets parts × AreNear parts.seams.offsets × IsPartsFlowsVerdict parts Shape)
+IsPartsVerdict parts (Range v) = HasOffsets parts × IsFirstFar parts.seams.offsets v
+IsPartsVerdict parts verdict = HasOffsets parts × AreNear parts.seams.offsets × IsPartsFlowsVerdict parts verdict
 
 -- why no snapshot is made of the parts: a verdict other than Good, or lack of memory, which is told only of offsets that are right in number and range
 abbrev pub IsFault : Parts → BuildFault → Type 0
-IsFault p (Uncertified verdict) = (verdict ≢ Good) × IsPartsVerdict p verdict
-IsFault p Memory = HasOffsets p × AreNear p.seams.offsets
+IsFault parts (Uncertified verdict) = (verdict ≢ Good) × IsPartsVerdict parts verdict
+IsFault parts Memory = HasOffsets parts × AreNear parts.seams.offsets
 
 -- no parts have two verdicts, if the regions are the mask's
 abbrev pub PartsHaveOneVerdict : Type 0
-PartsHaveOneVerdict = (p : Parts) (a b : SeamVerdict) → AreRegionsOf p.session.scene.tiling p.mask p.regions → IsPartsVerdict p a → IsPartsVerdict p b → a ≡ b
+PartsHaveOneVerdict = (parts : Parts) (a b : SeamVerdict) → AreRegionsOf parts.session.scene.tiling parts.mask parts.regions → IsPartsVerdict parts a → IsPartsVerdict parts b → a ≡ b

@@ -5,4 +5,4 @@ use Rattle.surface_snapshots.specs.Parts.{Parts}
 use Rattle.surface_snapshots.specs.Surfaces.{parts_in}
 
 abbrev pub parts_of : Snapshot → Parts
-parts_of s = parts_in (arc_value s.surface)
+parts_of snapshot = parts_in (arc_value snapshot.surface)

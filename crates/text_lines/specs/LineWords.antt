@@ -20,9 +20,9 @@ lines_read lines = lines.number
 -- What the read of a line says of the bytes that are told: a line and its LF were taken, and the line is kept; or a line of more
 -- than `most` bytes; or the input ended within a line.
 abbrev pub IsLineRead : ℕ → List ℕ → Call → LineEnd → Type 0
-IsLineRead most kept c Whole = Takes c (λ text rest. (text ≡ kept ++ 10 ∷ []) × All IsInLine kept)
-IsLineRead most kept c Long = Takes c (λ text rest. (line : List ℕ) × ((text ≡ line ++ 10 ∷ []) × (All IsInLine line × (most < length line))))
-IsLineRead most kept c Cut = Takes c (λ text rest. All IsInLine text × (rest ≡ []))
+IsLineRead most kept call Whole = Takes call (λ text rest. (text ≡ kept ++ 10 ∷ []) × All IsInLine kept)
+IsLineRead most kept call Long = Takes call (λ text rest. (line : List ℕ) × ((text ≡ line ++ 10 ∷ []) × (All IsInLine line × (most < length line))))
+IsLineRead most kept call Cut = Takes call (λ text rest. All IsInLine text × (rest ≡ []))
 
 -- LF, or nothing
 abbrev pub feed_if : Bool → List ℕ
@@ -35,16 +35,16 @@ KeepsPart most old new ended text rest = (part : List ℕ) × ((text ≡ part ++
 
 -- What the read of a part of a line says of the bytes that are told: the part was taken, or the input ended.
 abbrev pub IsPartTaken : ℕ → List ℕ → List ℕ → Call → Option Bool → Type 0
-IsPartTaken most old new c (Some ended) = Takes c (KeepsPart most old new ended)
-IsPartTaken most old new c None = Takes c (λ text rest. (text ≡ []) × (rest ≡ []))
+IsPartTaken most old new call (Some ended) = Takes call (KeepsPart most old new ended)
+IsPartTaken most old new call None = Takes call (λ text rest. (text ≡ []) × (rest ≡ []))
 
 -- why no line was read
 abbrev pub HasNextCause : Call → LineFault → Type 0
-HasNextCause c (faults.Line n) = ⊥
-HasNextCause c faults.TooLong = (c.end ≡ c.limit) × (HasMore c.left × Takes c (λ text rest. All IsInLine text))
-HasNextCause c faults.ReadFault = HasRisen c.before c.after
-HasNextCause c faults.Memory = ⊤
+HasNextCause call (faults.Line n) = ⊥
+HasNextCause call faults.TooLong = (call.end ≡ call.limit) × (HasMore call.left × Takes call (λ text rest. All IsInLine text))
+HasNextCause call faults.ReadFault = HasRisen call.before call.after
+HasNextCause call faults.Memory = ⊤
 
 -- Lines of the form F were taken: so many lines were read before them, and so many have been read now.
 abbrev pub TakesLines : Form → ℕ → ℕ → Call → Type 0
-TakesLines F done now c = Takes c (λ text rest. F text × (now ≡ done + lines_in text))
+TakesLines F done now call = Takes call (λ text rest. F text × (now ≡ done + lines_in text))

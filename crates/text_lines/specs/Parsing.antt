@@ -16,11 +16,11 @@ IsWide n = n < 2 ^ 128
 abbrev pub AreWords : ℕ × ℕ → Type 0
 AreWords p = IsWord p.0 × IsWord p.1
 
-pub record IsRectOfWords (r : Rect) : Type 0 where
-  pub x0 : IsWord r.x0
-  pub y0 : IsWord r.y0
-  pub x1 : IsWord r.x1
-  pub y1 : IsWord r.y1
+pub record IsRectOfWords (rect : Rect) : Type 0 where
+  pub x0 : IsWord rect.x0
+  pub y0 : IsWord rect.y0
+  pub x1 : IsWord rect.x1
+  pub y1 : IsWord rect.y1
 
 -- two numbers, each after a space
 abbrev pub pair_text : ℕ × ℕ → List ℕ

@@ -18,10 +18,10 @@ EndsFormIn F n text = EndsIn (NeedsMore F) n text
 -- with the first line that breaks the form, or the input ends in a line that the form needs; or the limit cuts such a line.
 -- Otherwise a fault of the source was counted, or memory ran out.
 abbrev pub HasLineCause : Form → ℕ → Call → LineFault → Type 0
-HasLineCause F done c (Line n) = Takes c (λ text rest. (k : ℕ) × ((n ≡ done + k) × (BreaksFormAt F k text ⊎ (EndsFormIn F k text × (rest ≡ [])))))
-HasLineCause F done c TooLong = (c.end ≡ c.limit) × (HasMore c.left × Takes c (λ text rest. (k : ℕ) × EndsFormIn F k text))
-HasLineCause F done c ReadFault = HasRisen c.before c.after
-HasLineCause F done c Memory = ⊤
+HasLineCause F done call (Line n) = Takes call (λ text rest. (k : ℕ) × ((n ≡ done + k) × (BreaksFormAt F k text ⊎ (EndsFormIn F k text × (rest ≡ [])))))
+HasLineCause F done call TooLong = (call.end ≡ call.limit) × (HasMore call.left × Takes call (λ text rest. (k : ℕ) × EndsFormIn F k text))
+HasLineCause F done call ReadFault = HasRisen call.before call.after
+HasLineCause F done call Memory = ⊤
 
 -- a feed that lets out so many bytes meets a first broken line in these bytes, and it has the number n
 abbrev pub HasBrokenLine : Form → ℕ → ℕ → List ℕ → Type 0
@@ -43,4 +43,4 @@ OneBrokenLine F = (room m n : ℕ) (bytes : List ℕ) → HasBrokenLine F room m
 
 -- how many bytes the limit still lets out
 abbrev pub room_of : Call → ℕ
-room_of c = c.limit - c.at
+room_of call = call.limit - call.at

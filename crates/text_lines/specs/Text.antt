@@ -10,7 +10,7 @@ field_text n = codes " " ++ decimal n
 
 -- a box: the numbers of its corners, each after a space
 unfoldable pub rect_text : Rect → List ℕ
-rect_text r = field_text r.x0 ++ (field_text r.y0 ++ (field_text r.x1 ++ field_text r.y1))
+rect_text rect = field_text rect.x0 ++ (field_text rect.y0 ++ (field_text rect.x1 ++ field_text rect.y1))
 
 -- the name of a rule
 abbrev pub rule_word : RuleKind → List ℕ

@@ -10,7 +10,7 @@ written_on page = page.bytes.items
 
 -- where the passages of a page begin; those of the page before end there
 abbrev pub begin_of : Deal → ℕ → ℕ
-begin_of d place = min (d.start + d.share * place) d.until
+begin_of deal place = min (deal.start + deal.share * place) deal.until
 
 -- the passages from a to before b, if the page says that it has them whole; and what is known of each of them
 pub record HasPassages (words : ℕ → List ℕ) (known : ℕ → Type 0) (a b : ℕ) (page : Page) : Type 0 where
@@ -19,4 +19,4 @@ pub record HasPassages (words : ℕ → List ℕ) (known : ℕ → Type 0) (a b 
 
 -- each page has the passages that are dealt out to it
 abbrev pub AreDealt : (ℕ → List ℕ) → (ℕ → Type 0) → Deal → List Page → Type 0
-AreDealt words known d pages = (place : ℕ) (page : Page) → slice_get pages place ≡ Some page → HasPassages words known (begin_of d place) (begin_of d (place + 1)) page
+AreDealt words known deal pages = (place : ℕ) (page : Page) → slice_get pages place ≡ Some page → HasPassages words known (begin_of deal place) (begin_of deal (place + 1)) page

@@ -43,122 +43,122 @@ use Rattle.tile_board.specs.Histories.{AreAllKept, IsLeastLacking, IsStep, is_ke
 
 -- the present mask of a board
 abbrev pub mask_now : BoardView → ℕ → ℕ → Bool
-mask_now v = present_mask v.session v.entries
+mask_now board = present_mask board.session board.entries
 
 -- a board of the session with an empty history
-pub record IsNew (s : Session) (v : BoardView) : Type 0 where
-  pub session : v.session ≡ s
-  pub entries : v.entries ≡ []
-  pub kept : v.kept ≡ replicate (tiles_of s.scene.tiling) None
-  pub surfaces : v.surfaces ≡ []
+pub record IsNew (s : Session) (board : BoardView) : Type 0 where
+  pub session : board.session ≡ s
+  pub entries : board.entries ≡ []
+  pub kept : board.kept ≡ replicate (tiles_of s.scene.tiling) None
+  pub surfaces : board.surfaces ≡ []
 
 -- the entry may come next, and was added
-pub record AddsEntry (old new : BoardView) (e : Entry) : Type 0 where
+pub record AddsEntry (old new : BoardView) (entry : Entry) : Type 0 where
   pub session : new.session ≡ old.session
-  pub step : IsStep old.session old.entries e
-  pub entries : new.entries ≡ old.entries ++ e ∷ []
+  pub step : IsStep old.session old.entries entry
+  pub entries : new.entries ≡ old.entries ++ entry ∷ []
 
 -- ---- claim
 -- a tile that is not kept, its stamp, and its window of the present mask
-pub record IsClaim (v : BoardView) (ticket : Ticket) : Type 0 where
-  pub session : arc_value ticket.session ≡ v.session
-  pub lacking : IsFalse (is_kept v.session v.entries ticket.tile)
-  pub stamp : ticket.stamp ≡ stamp_in v.session v.entries ticket.tile
-  pub window : IsWindowMask (window_of v.session.scene.tiling ticket.tile) (mask_now v) ticket.unmasked.items
+pub record IsClaim (board : BoardView) (ticket : Ticket) : Type 0 where
+  pub session : arc_value ticket.session ≡ board.session
+  pub lacking : IsFalse (is_kept board.session board.entries ticket.tile)
+  pub stamp : ticket.stamp ≡ stamp_in board.session board.entries ticket.tile
+  pub window : IsWindowMask (window_of board.session.scene.tiling ticket.tile) (mask_now board) ticket.unmasked.items
 
 -- how many tiles have no kept result; and how many of so many a share is: one part of them if they are divided into so many, but no more than the most, and never none
 abbrev pub lacking_count : BoardView → ℕ
-lacking_count v = count_by is_none v.kept
+lacking_count board = count_by is_none board.kept
 
 abbrev pub share_size : ℕ → ℕ → ℕ → ℕ
 share_size lacking parts most = max 1 (min most (lacking / max 1 parts))
 
 -- as many claims as the share has tiles, no two of them of the same tile
-pub record AreClaims (v : BoardView) (parts most : ℕ) (tickets : List Ticket) : Type 0 where
-  pub count : length tickets ≡ share_size (lacking_count v) parts most
-  pub each : All (IsClaim v) tickets
+pub record AreClaims (board : BoardView) (parts most : ℕ) (tickets : List Ticket) : Type 0 where
+  pub count : length tickets ≡ share_size (lacking_count board) parts most
+  pub each : All (IsClaim board) tickets
   pub apart : AllPairs (λ t u. t ≢ u) (map (λ ticket. ticket.tile) tickets)
 
 -- every tile is kept; or one is not, and there is no memory for its mask
 abbrev pub HasClaimFault : BoardView → ClaimFault → Type 0
-HasClaimFault v claim_faults.NoJob = AreAllKept v.session v.entries
-HasClaimFault v claim_faults.Memory = AreAllKept v.session v.entries → ⊥
+HasClaimFault board claim_faults.NoJob = AreAllKept board.session board.entries
+HasClaimFault board claim_faults.Memory = AreAllKept board.session board.entries → ⊥
 
 -- ---- keep
 -- the result is good, and kept
-pub record IsKeep (old new : BoardView) (k : TileResult) : Type 0 where
-  pub adds : AddsEntry old new (Kept k.tile k.stamp)
-  pub good : IsGoodTile old.session.scene (mask_now old) k
-  pub kept : new.kept ≡ set old.kept k.tile (Some k)
+pub record IsKeep (old new : BoardView) (outcome : TileResult) : Type 0 where
+  pub adds : AddsEntry old new (Kept outcome.tile outcome.stamp)
+  pub good : IsGoodTile old.session.scene (mask_now old) outcome
+  pub kept : new.kept ≡ set old.kept outcome.tile (Some outcome)
   pub surfaces : new.surfaces ≡ old.surfaces
 
 -- the tile exists; the result has its stamp; its entry may come next
 abbrev pub HasTile : BoardView → TileResult → Type 0
-HasTile v k = k.tile < tiles_of v.session.scene.tiling
+HasTile board outcome = outcome.tile < tiles_of board.session.scene.tiling
 
 abbrev pub HasStamp : BoardView → TileResult → Type 0
-HasStamp v k = HasTile v k × (k.stamp ≡ stamp_in v.session v.entries k.tile)
+HasStamp board outcome = HasTile board outcome × (outcome.stamp ≡ stamp_in board.session board.entries outcome.tile)
 
 abbrev pub MayKeep : BoardView → TileResult → Type 0
-MayKeep v k = HasStamp v k × IsFalse (is_kept v.session v.entries k.tile)
+MayKeep board outcome = HasStamp board outcome × IsFalse (is_kept board.session board.entries outcome.tile)
 
 abbrev pub HasKeepFault : BoardView → TileResult → KeepFault → Type 0
-HasKeepFault v k (keep_faults.Stranger t) = (t ≡ k.tile) × (tiles_of v.session.scene.tiling ≤ k.tile)
-HasKeepFault v k (keep_faults.Stale r) = HasTile v k × (r ≡ stamp_in v.session v.entries k.tile) × (k.stamp ≢ r)
-HasKeepFault v k keep_faults.Double = HasStamp v k × IsTrue (is_kept v.session v.entries k.tile)
-HasKeepFault v k (keep_faults.Uncertified verdict) = MayKeep v k × (verdict ≢ GoodTile) × IsTileVerdict v.session.scene (mask_now v) k verdict
-HasKeepFault v k keep_faults.Memory = MayKeep v k × IsGoodTile v.session.scene (mask_now v) k
+HasKeepFault board outcome (keep_faults.Stranger t) = (t ≡ outcome.tile) × (tiles_of board.session.scene.tiling ≤ outcome.tile)
+HasKeepFault board outcome (keep_faults.Stale r) = HasTile board outcome × (r ≡ stamp_in board.session board.entries outcome.tile) × (outcome.stamp ≢ r)
+HasKeepFault board outcome keep_faults.Double = HasStamp board outcome × IsTrue (is_kept board.session board.entries outcome.tile)
+HasKeepFault board outcome (keep_faults.Uncertified verdict) = MayKeep board outcome × (verdict ≢ GoodTile) × IsTileVerdict board.session.scene (mask_now board) outcome verdict
+HasKeepFault board outcome keep_faults.Memory = MayKeep board outcome × IsGoodTile board.session.scene (mask_now board) outcome
 
 -- a result has the stamp that its tile had at the end of a history, and is good under the mask there
-pub record WasGoodAt (s : Session) (H : List Entry) (k : TileResult) : Type 0 where
-  pub exists : k.tile < tiles_of s.scene.tiling
-  pub stamp : k.stamp ≡ stamp_in s H k.tile
-  pub good : IsGoodTile s.scene (present_mask s H) k
+pub record WasGoodAt (s : Session) (H : List Entry) (outcome : TileResult) : Type 0 where
+  pub exists : outcome.tile < tiles_of s.scene.tiling
+  pub stamp : outcome.stamp ≡ stamp_in s H outcome.tile
+  pub good : IsGoodTile s.scene (present_mask s H) outcome
 
 -- it was so at an earlier point of the history
-pub record WasGood (v : BoardView) (k : TileResult) : Type 0 where
+pub record WasGood (board : BoardView) (outcome : TileResult) : Type 0 where
   pub earlier : List Entry
-  pub begins : IsPrefix earlier v.entries
-  pub was : WasGoodAt v.session earlier k
+  pub begins : IsPrefix earlier board.entries
+  pub was : WasGoodAt board.session earlier outcome
 
 -- ---- gather
 -- a mask is the present one
 abbrev pub IsMaskNow : BoardView → MaskView → Type 0
-IsMaskNow v mask = IsMaskOf mask v.session.scene.phase.width v.session.scene.phase.height (mask_now v)
+IsMaskNow board mask = IsMaskOf mask board.session.scene.phase.width board.session.scene.phase.height (mask_now board)
 
 -- a set has each tile's kept result
-pub record AreKeptResults (v : BoardView) (tiles : TileSetView) : Type 0 where
-  pub tiling : tiles.tiling ≡ v.session.scene.tiling
-  pub results : map Some tiles.results ≡ v.kept
+pub record AreKeptResults (board : BoardView) (tiles : TileSetView) : Type 0 where
+  pub tiling : tiles.tiling ≡ board.session.scene.tiling
+  pub results : map Some tiles.results ≡ board.kept
 
-pub record IsGathering (v : BoardView) (g : Gathered) : Type 0 where
-  pub session : arc_value g.session ≡ v.session
-  pub ready : AreAllKept v.session v.entries
-  pub revision : g.revision ≡ now_of v.entries
-  pub mask : IsMaskNow v g.mask
-  pub tiles : AreKeptResults v g.tiles
+pub record IsGathering (board : BoardView) (gathered : Gathered) : Type 0 where
+  pub session : arc_value gathered.session ≡ board.session
+  pub ready : AreAllKept board.session board.entries
+  pub revision : gathered.revision ≡ now_of board.entries
+  pub mask : IsMaskNow board gathered.mask
+  pub tiles : AreKeptResults board gathered.tiles
 
 -- it is the present mask, of the present revision
-pub record IsPresentMask (v : BoardView) (p : PresentMask) : Type 0 where
-  pub session : arc_value p.session ≡ v.session
-  pub revision : p.revision ≡ now_of v.entries
-  pub mask : IsMaskNow v p.mask
+pub record IsPresentMask (board : BoardView) (p : PresentMask) : Type 0 where
+  pub session : arc_value p.session ≡ board.session
+  pub revision : p.revision ≡ now_of board.entries
+  pub mask : IsMaskNow board p.mask
 
 abbrev pub HasGatherFault : BoardView → GatherFault → Type 0
-HasGatherFault v (gather_faults.Unready t) = IsLeastLacking v.session v.entries t
-HasGatherFault v gather_faults.Memory = AreAllKept v.session v.entries
+HasGatherFault board (gather_faults.Unready t) = IsLeastLacking board.session board.entries t
+HasGatherFault board gather_faults.Memory = AreAllKept board.session board.entries
 
 -- ---- publish
 -- what is published: the present mask, its regions, the kept results, and the offsets and flows
-pub record ArePublishable (v : BoardView) (found : SeamResult) (p : Parts) : Type 0 where
-  pub session : p.session ≡ v.session
-  pub mask : IsMaskNow v p.mask
-  pub regions : AreRegionsOf v.session.scene.tiling p.mask p.regions
-  pub tiles : AreKeptResults v p.tiles
+pub record ArePublishable (board : BoardView) (found : SeamResult) (p : Parts) : Type 0 where
+  pub session : p.session ≡ board.session
+  pub mask : IsMaskNow board p.mask
+  pub regions : AreRegionsOf board.session.scene.tiling p.mask p.regions
+  pub tiles : AreKeptResults board p.tiles
   pub seams : p.seams ≡ seams_of found
 
-pub record IsPublication (old new : BoardView) (a : ℕ) (seams : SeamResult) : Type 0 where
-  pub adds : AddsEntry old new (Published a seams.revision)
+pub record IsPublication (old new : BoardView) (analyst : ℕ) (seams : SeamResult) : Type 0 where
+  pub adds : AddsEntry old new (Published analyst seams.revision)
   pub kept : new.kept ≡ old.kept
   pub surface : Parts
   pub parts : ArePublishable old seams surface
@@ -172,41 +172,41 @@ pub record WasMaskAt (s : Session) (H : List Entry) (mask : MaskView) (r : ℕ) 
   pub present : IsMaskOf mask s.scene.phase.width s.scene.phase.height (present_mask s H)
 
 -- it was so at an earlier point of the history
-pub record WasMask (v : BoardView) (mask : MaskView) (r : ℕ) : Type 0 where
+pub record WasMask (board : BoardView) (mask : MaskView) (r : ℕ) : Type 0 where
   pub earlier : List Entry
-  pub begins : IsPrefix earlier v.entries
-  pub was : WasMaskAt v.session earlier mask r
+  pub begins : IsPrefix earlier board.entries
+  pub was : WasMaskAt board.session earlier mask r
 
 -- the next command is to settle; also, a revision is the present one; also, it is not published; also, every tile is kept
 abbrev pub MaySettle : BoardView → ℕ → Type 0
-MaySettle v a = next_command v.session v.entries a ≡ Some Settle
+MaySettle board analyst = next_command board.session board.entries analyst ≡ Some Settle
 
 abbrev pub IsPresentAt : BoardView → ℕ → ℕ → Type 0
-IsPresentAt v a r = MaySettle v a × (r ≡ now_of v.entries)
+IsPresentAt board analyst r = MaySettle board analyst × (r ≡ now_of board.entries)
 
 abbrev pub IsFreshAt : BoardView → ℕ → ℕ → Type 0
-IsFreshAt v a r = IsPresentAt v a r × (newest_of v.entries ≢ Some r)
+IsFreshAt board analyst r = IsPresentAt board analyst r × (newest_of board.entries ≢ Some r)
 
 abbrev pub MayPublishAt : BoardView → ℕ → ℕ → Type 0
-MayPublishAt v a r = IsFreshAt v a r × AreAllKept v.session v.entries
+MayPublishAt board analyst r = IsFreshAt board analyst r × AreAllKept board.session board.entries
 
 -- the same of the revision that offsets are for
 abbrev pub IsPresent : BoardView → ℕ → SeamResult → Type 0
-IsPresent v a seams = IsPresentAt v a seams.revision
+IsPresent board analyst seams = IsPresentAt board analyst seams.revision
 
 abbrev pub IsFresh : BoardView → ℕ → SeamResult → Type 0
-IsFresh v a seams = IsFreshAt v a seams.revision
+IsFresh board analyst seams = IsFreshAt board analyst seams.revision
 
 abbrev pub MayPublish : BoardView → ℕ → SeamResult → Type 0
-MayPublish v a seams = MayPublishAt v a seams.revision
+MayPublish board analyst seams = MayPublishAt board analyst seams.revision
 
 abbrev pub HasPublishFault : BoardView → ℕ → SeamResult → PublishFault → Type 0
-HasPublishFault v a seams publish_faults.NotSettle = next_command v.session v.entries a ≢ Some Settle
-HasPublishFault v a seams (publish_faults.Stale r) = MaySettle v a × (r ≡ now_of v.entries) × (seams.revision ≢ r)
-HasPublishFault v a seams (publish_faults.Double r) = IsPresent v a seams × (r ≡ seams.revision) × (newest_of v.entries ≡ Some r)
-HasPublishFault v a seams (publish_faults.Unready t) = IsFresh v a seams × IsLeastLacking v.session v.entries t
-HasPublishFault v a seams (publish_faults.Uncertified verdict) = MayPublish v a seams × (verdict ≢ GoodSeams) × (p : Parts) × ArePublishable v seams p × IsPartsVerdict p verdict
-HasPublishFault v a seams publish_faults.Memory = MayPublish v a seams
+HasPublishFault board analyst seams publish_faults.NotSettle = next_command board.session board.entries analyst ≢ Some Settle
+HasPublishFault board analyst seams (publish_faults.Stale r) = MaySettle board analyst × (r ≡ now_of board.entries) × (seams.revision ≢ r)
+HasPublishFault board analyst seams (publish_faults.Double r) = IsPresent board analyst seams × (r ≡ seams.revision) × (newest_of board.entries ≡ Some r)
+HasPublishFault board analyst seams (publish_faults.Unready t) = IsFresh board analyst seams × IsLeastLacking board.session board.entries t
+HasPublishFault board analyst seams (publish_faults.Uncertified verdict) = MayPublish board analyst seams × (verdict ≢ GoodSeams) × (p : Parts) × ArePublishable board seams p × IsPartsVerdict p verdict
+HasPublishFault board analyst seams publish_faults.Memory = MayPublish board analyst seams
 
 -- ---- publish_made
 -- a certified surface of the session, made of the regions of its mask and of a good result of each tile
@@ -219,41 +219,41 @@ pub record IsMadeSurface (s : Session) (p : Parts) : Type 0 where
   pub verdict : IsPartsVerdict p GoodSeams
 
 -- it is published: its mask is the present one, it and its entry were added, and nothing else changed
-pub record IsMadePublication (old new : BoardView) (a : ℕ) (p : Parts) : Type 0 where
-  pub adds : AddsEntry old new (Published a p.seams.revision)
+pub record IsMadePublication (old new : BoardView) (analyst : ℕ) (p : Parts) : Type 0 where
+  pub adds : AddsEntry old new (Published analyst p.seams.revision)
   pub kept : new.kept ≡ old.kept
   pub mask : IsMaskNow old p.mask
   pub surfaces : new.surfaces ≡ old.surfaces ++ p ∷ []
 
 abbrev pub HasMadeFault : BoardView → ℕ → ℕ → PublishFault → Type 0
-HasMadeFault v a r publish_faults.NotSettle = next_command v.session v.entries a ≢ Some Settle
-HasMadeFault v a r (publish_faults.Stale n) = MaySettle v a × (n ≡ now_of v.entries) × (r ≢ n)
-HasMadeFault v a r (publish_faults.Double n) = IsPresentAt v a r × (n ≡ r) × (newest_of v.entries ≡ Some n)
-HasMadeFault v a r (publish_faults.Unready t) = IsFreshAt v a r × IsLeastLacking v.session v.entries t
-HasMadeFault v a r (publish_faults.Uncertified verdict) = ⊥
-HasMadeFault v a r publish_faults.Memory = MayPublishAt v a r
+HasMadeFault board analyst r publish_faults.NotSettle = next_command board.session board.entries analyst ≢ Some Settle
+HasMadeFault board analyst r (publish_faults.Stale n) = MaySettle board analyst × (n ≡ now_of board.entries) × (r ≢ n)
+HasMadeFault board analyst r (publish_faults.Double n) = IsPresentAt board analyst r × (n ≡ r) × (newest_of board.entries ≡ Some n)
+HasMadeFault board analyst r (publish_faults.Unready t) = IsFreshAt board analyst r × IsLeastLacking board.session board.entries t
+HasMadeFault board analyst r (publish_faults.Uncertified verdict) = ⊥
+HasMadeFault board analyst r publish_faults.Memory = MayPublishAt board analyst r
 
 -- ---- advance
 -- the entry was added, and nothing else changed
-pub record AddsAlone (old new : BoardView) (e : Entry) : Type 0 where
-  pub adds : AddsEntry old new e
+pub record AddsAlone (old new : BoardView) (entry : Entry) : Type 0 where
+  pub adds : AddsEntry old new entry
   pub kept : new.kept ≡ old.kept
   pub surfaces : new.surfaces ≡ old.surfaces
 
 -- the edit made the next revision, and exactly the tiles in which a pixel changed lost their results
-pub record IsRevision (old new : BoardView) (a : ℕ) (edit : Edit) : Type 0 where
-  pub adds : AddsEntry old new (Revised a edit)
+pub record IsRevision (old new : BoardView) (analyst : ℕ) (edit : Edit) : Type 0 where
+  pub adds : AddsEntry old new (Revised analyst edit)
   pub count : length new.kept ≡ length old.kept
   pub kept : (t : ℕ) → t < tiles_of old.session.scene.tiling → slice_get new.kept t ≡ (if differ_in old.session.scene.tiling (mask_now old) (mask_now new) t then Some None else slice_get old.kept t)
   pub surfaces : new.surfaces ≡ old.surfaces
 
 abbrev pub IsAdvance : BoardView → BoardView → ℕ → Advance → Type 0
-IsAdvance old new a (advances.Revised r) = (r ≡ now_of new.entries) × (edit : Edit) × IsRevision old new a edit
-IsAdvance old new a (advances.Settled r) = AddsAlone old new (Settled a r)
-IsAdvance old new a (advances.Shown r) = AddsAlone old new (Shown a r)
-IsAdvance old new a (advances.NotYet r) = MaySettle old a × (r ≡ now_of old.entries) × (newest_of old.entries ≢ Some r) × (new ≡ old)
-IsAdvance old new a advances.Ended = (next_command old.session old.entries a ≡ None) × (new ≡ old)
+IsAdvance old new analyst (advances.Revised r) = (r ≡ now_of new.entries) × (edit : Edit) × IsRevision old new analyst edit
+IsAdvance old new analyst (advances.Settled r) = AddsAlone old new (Settled analyst r)
+IsAdvance old new analyst (advances.Shown r) = AddsAlone old new (Shown analyst r)
+IsAdvance old new analyst (advances.NotYet r) = MaySettle old analyst × (r ≡ now_of old.entries) × (newest_of old.entries ≢ Some r) × (new ≡ old)
+IsAdvance old new analyst advances.Ended = (next_command old.session old.entries analyst ≡ None) × (new ≡ old)
 
 -- an entry of the analyst that publishes nothing may come next, and there is no memory for it
 abbrev pub HasAdvanceFault : BoardView → ℕ → AdvanceFault → Type 0
-HasAdvanceFault v a advance_faults.Memory = (e : Entry) × IsStep v.session v.entries e × IsTrue (names a e) × (published_of e ≡ None)
+HasAdvanceFault board analyst advance_faults.Memory = (entry : Entry) × IsStep board.session board.entries entry × IsTrue (names analyst entry) × (published_of entry ≡ None)

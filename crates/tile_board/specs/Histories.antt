@@ -51,25 +51,25 @@ now_of H = length (edits_of H)
 
 -- the mask at a revision, the present one, and the stamp of a tile
 abbrev pub mask_in : Session → List Entry → ℕ → Field Bool
-mask_in s H r = mask_at (open_at s.first_mask) (edits_of H) r
+mask_in session H revision = mask_at (open_at session.first_mask) (edits_of H) revision
 
 abbrev pub present_mask : Session → List Entry → Field Bool
-present_mask s H = mask_in s H (now_of H)
+present_mask session H = mask_in session H (now_of H)
 
 abbrev pub stamp_in : Session → List Entry → ℕ → ℕ
-stamp_in s H t = stamp_of s.scene.tiling (open_at s.first_mask) (edits_of H) t
+stamp_in session H tile = stamp_of session.scene.tiling (open_at session.first_mask) (edits_of H) tile
 
 -- whether the history kept a tile at its stamp; it kept all tiles; a tile is the lowest-numbered that it did not keep
 abbrev pub is_kept : Session → List Entry → ℕ → Bool
-is_kept s H t = list_any (keeps t (stamp_in s H t)) H
+is_kept session H tile = list_any (keeps tile (stamp_in session H tile)) H
 
 abbrev pub AreAllKept : Session → List Entry → Type 0
-AreAllKept s H = (t : ℕ) → t < tiles_of s.scene.tiling → IsTrue (is_kept s H t)
+AreAllKept session H = (tile : ℕ) → tile < tiles_of session.scene.tiling → IsTrue (is_kept session H tile)
 
-pub record IsLeastLacking (s : Session) (H : List Entry) (t : ℕ) : Type 0 where
-  pub exists : t < tiles_of s.scene.tiling
-  pub lacking : IsFalse (is_kept s H t)
-  pub least : (u : ℕ) → u < t → IsTrue (is_kept s H u)
+pub record IsLeastLacking (session : Session) (H : List Entry) (tile : ℕ) : Type 0 where
+  pub exists : tile < tiles_of session.scene.tiling
+  pub lacking : IsFalse (is_kept session H tile)
+  pub least : (u : ℕ) → u < tile → IsTrue (is_kept session H u)
 
 -- the published revisions in order, and the newest
 abbrev pub published_in : List Entry → List ℕ
@@ -88,26 +88,26 @@ script_in scripts zero = []
 script_in scripts (suc k) = commands_of (slice_get scripts k)
 
 abbrev pub script_of : Session → ℕ → List Command
-script_of s a = script_in s.scripts.items a
+script_of session analyst = script_in session.scripts.items analyst
 
 -- how many commands an analyst has done, and its next command
 abbrev pub done_by : ℕ → List Entry → ℕ
-done_by a H = count_by (names a) H
+done_by analyst H = count_by (names analyst) H
 
 abbrev pub next_command : Session → List Entry → ℕ → Option Command
-next_command s H a = slice_get (script_of s a) (done_by a H)
+next_command session H analyst = slice_get (script_of session analyst) (done_by analyst H)
 
 -- the entry may come next in the history
 abbrev pub IsStep : Session → List Entry → Entry → Type 0
-IsStep s H (Revised a edit) = next_command s H a ≡ Some (Change edit)
-IsStep s H (Kept t r) = (t < tiles_of s.scene.tiling) × (r ≡ stamp_in s H t) × IsFalse (is_kept s H t)
-IsStep s H (Published a r) = (next_command s H a ≡ Some Settle) × (r ≡ now_of H) × (newest_of H ≢ Some r) × AreAllKept s H
-IsStep s H (Settled a r) = (next_command s H a ≡ Some Settle) × (r ≡ now_of H) × (newest_of H ≡ Some r)
-IsStep s H (Shown a r) = (next_command s H a ≡ Some Show) × (r ≡ newest_of H)
+IsStep session H (Revised a edit) = next_command session H a ≡ Some (Change edit)
+IsStep session H (Kept t r) = (t < tiles_of session.scene.tiling) × (r ≡ stamp_in session H t) × IsFalse (is_kept session H t)
+IsStep session H (Published a r) = (next_command session H a ≡ Some Settle) × (r ≡ now_of H) × (newest_of H ≢ Some r) × AreAllKept session H
+IsStep session H (Settled a r) = (next_command session H a ≡ Some Settle) × (r ≡ now_of H) × (newest_of H ≡ Some r)
+IsStep session H (Shown a r) = (next_command session H a ≡ Some Show) × (r ≡ newest_of H)
 
 -- each entry may come after those before it; every script is at its end
 abbrev pub IsLegal : Session → List Entry → Type 0
-IsLegal s H = (n : ℕ) (e : Entry) → slice_get H n ≡ Some e → IsStep s (take n H) e
+IsLegal session H = (n : ℕ) (entry : Entry) → slice_get H n ≡ Some entry → IsStep session (take n H) entry
 
 abbrev pub IsComplete : Session → List Entry → Type 0
-IsComplete s H = (a : ℕ) → next_command s H a ≡ None
+IsComplete session H = (analyst : ℕ) → next_command session H analyst ≡ None

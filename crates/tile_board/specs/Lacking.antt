@@ -43,7 +43,7 @@ AreLackingWith lacks fresh claims keys = (c t : ℕ) → has_key keys c t ≡ ((
 
 -- the tiles below a number; those of a test but for one tile; those of a test and one tile
 abbrev pub is_below : ℕ → ℕ → Bool
-is_below n t = nat_lt t n
+is_below n tile = nat_lt tile n
 
 abbrev pub but_for : (ℕ → Bool) → ℕ → ℕ → Bool
 but_for lacks tile t = lacks t && not (tile == t)
@@ -53,13 +53,13 @@ with_one lacks tile t = (tile == t) || lacks t
 
 -- the first n tiles of a list; those of a test, with them or without them
 abbrev pub is_listed : List ℕ → ℕ → ℕ → Bool
-is_listed tiles n t = any_below n (λ i. slice_index tiles i == t)
+is_listed tiles n tile = any_below n (λ i. slice_index tiles i == tile)
 
 abbrev pub with_listed : (ℕ → Bool) → List ℕ → ℕ → ℕ → Bool
-with_listed lacks tiles n t = is_listed tiles n t || lacks t
+with_listed lacks tiles n tile = is_listed tiles n tile || lacks tile
 
 abbrev pub without_listed : (ℕ → Bool) → List ℕ → ℕ → ℕ → Bool
-without_listed lacks tiles n t = lacks t && not (is_listed tiles n t)
+without_listed lacks tiles n tile = lacks tile && not (is_listed tiles n tile)
 
 -- the first n tiles of a list got the key with no claims
 abbrev pub AreAddedFresh : Keys → Keys → List ℕ → ℕ → Type 0
@@ -70,12 +70,12 @@ abbrev pub AreAllFresh : (ℕ → Bool) → List ℕ → ℕ → Type 0
 AreAllFresh fresh tiles n = (i : ℕ) → i < n → IsTrue (fresh (slice_index tiles i))
 
 -- a tile passes the test, and of those that do it was claimed least often; what is claimed next: such a tile, or None if no tile passes
-pub record IsLeastClaimed (lacks : ℕ → Bool) (claims : List ℕ) (t : ℕ) : Type 0 where
-  pub lacking : IsTrue (lacks t)
-  pub least : (u : ℕ) → IsTrue (lacks u) → slice_index claims t ≤ slice_index claims u
+pub record IsLeastClaimed (lacks : ℕ → Bool) (claims : List ℕ) (tile : ℕ) : Type 0 where
+  pub lacking : IsTrue (lacks tile)
+  pub least : (u : ℕ) → IsTrue (lacks u) → slice_index claims tile ≤ slice_index claims u
 
 abbrev pub IsNextClaim : (ℕ → Bool) → List ℕ → Option ℕ → Type 0
-IsNextClaim lacks claims found = MatchOption found ((t : ℕ) → IsFalse (lacks t)) (IsLeastClaimed lacks claims)
+IsNextClaim lacks claims found = MatchOption found ((tile : ℕ) → IsFalse (lacks tile)) (IsLeastClaimed lacks claims)
 
 -- tiles that pass a test, no two of them the same
 pub record AreDifferent (lacks : ℕ → Bool) (tiles : List ℕ) : Type 0 where

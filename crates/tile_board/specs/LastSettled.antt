@@ -20,4 +20,4 @@ last_settled commands = last_or None (settled_revisions 0 commands)
 
 -- where there is one analyst, the newest published revision is the number of changes before the script's last settle command
 abbrev pub OneScriptTellsTheRevision : Type 0
-OneScriptTellsTheRevision = (s : Session) (H : List Entry) (script : Script) → s.scripts.items ≡ script ∷ [] → IsLegal s H → IsComplete s H → newest_of H ≡ last_settled script.commands.items
+OneScriptTellsTheRevision = (session : Session) (H : List Entry) (script : Script) → session.scripts.items ≡ script ∷ [] → IsLegal session H → IsComplete session H → newest_of H ≡ last_settled script.commands.items

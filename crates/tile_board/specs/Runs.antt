@@ -52,7 +52,7 @@ NamesRevision (Shown a revision) r = r ≡ revision
 
 -- what is shown is the newest published revision, and no earlier than what an entry before it named, whichever analysts these are of; so what is shown never falls
 abbrev pub ShownAreNewest : List Entry → Type 0
-ShownAreNewest H = (j b : ℕ) (s : Option ℕ) → slice_get H j ≡ Some (Shown b s) → (s ≡ newest_of (take j H)) × ((i : ℕ) (e : Entry) (r : Option ℕ) → i ≤ j → slice_get H i ≡ Some e → NamesRevision e r → IsNoLater r s)
+ShownAreNewest H = (j b : ℕ) (s : Option ℕ) → slice_get H j ≡ Some (Shown b s) → (s ≡ newest_of (take j H)) × ((i : ℕ) (entry : Entry) (r : Option ℕ) → i ≤ j → slice_get H i ≡ Some entry → NamesRevision entry r → IsNoLater r s)
 
 -- no revision is published twice, and a later publication is of a later revision
 abbrev pub PublishedRise : List Entry → Type 0
@@ -60,12 +60,12 @@ PublishedRise H = (i j a b r s : ℕ) → i < j → slice_get H i ≡ Some (Publ
 
 -- whatever is called on a new board, by whichever analysts, its history is legal
 abbrev pub EveryHistoryIsLegal : Type 0
-EveryHistoryIsLegal = (s : Session) (first last : BoardView) (calls : List BoardCall) → IsNew s first → LeadTo calls first last → (last.session ≡ s) × IsLegal s last.entries
+EveryHistoryIsLegal = (session : Session) (first last : BoardView) (calls : List BoardCall) → IsNew session first → LeadTo calls first last → (last.session ≡ session) × IsLegal session last.entries
 
 -- a legal history shows the newest, and publishes each revision once, later ones later
 abbrev pub LegalHistoriesMoveOn : Type 0
-LegalHistoriesMoveOn = (s : Session) (H : List Entry) → IsLegal s H → ShownAreNewest H × PublishedRise H
+LegalHistoriesMoveOn = (session : Session) (H : List Entry) → IsLegal session H → ShownAreNewest H × PublishedRise H
 
 -- a held result is good under the mask at its stamp too; in its tile that mask has the same open pixels as the present one
 abbrev pub HeldAreGoodAtStamp : Type 0
-HeldAreGoodAtStamp = (s : Session) (H : List Entry) (t : ℕ) (k : TileResult) → t < tiles_of s.scene.tiling → IsHeld s H t k → IsGoodTile s.scene (mask_in s H k.stamp) k × ((x y : ℕ) → x < s.scene.tiling.width → y < s.scene.tiling.height → tile_at s.scene.tiling x y ≡ t → mask_in s H k.stamp x y ≡ present_mask s H x y)
+HeldAreGoodAtStamp = (session : Session) (H : List Entry) (tile : ℕ) (outcome : TileResult) → tile < tiles_of session.scene.tiling → IsHeld session H tile outcome → IsGoodTile session.scene (mask_in session H outcome.stamp) outcome × ((x y : ℕ) → x < session.scene.tiling.width → y < session.scene.tiling.height → tile_at session.scene.tiling x y ≡ tile → mask_in session H outcome.stamp x y ≡ present_mask session H x y)

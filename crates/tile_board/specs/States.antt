@@ -26,16 +26,16 @@ abbrev pub board_view_of : Session → List Entry → List (Option TileResult) �
 board_view_of session entries kept surfaces = record { session = session; entries = entries; kept = kept; surfaces = surfaces }
 
 -- the list has how many commands each analyst has done, from analyst 1 on; no more edits were made than commands done
-pub record AreCursors (s : Session) (H : List Entry) (cursors : List ℕ) : Type 0 where
-  pub count : length cursors ≡ length s.scripts.items
+pub record AreCursors (session : Session) (H : List Entry) (cursors : List ℕ) : Type 0 where
+  pub count : length cursors ≡ length session.scripts.items
   pub done : (k : ℕ) → k < length cursors → slice_index cursors k ≡ done_by (k + 1) H
   pub few : now_of H ≤ sum cursors
 
 -- what is held is what a history says: its mask with the stamps of the tiles, how many commands each analyst has done, and the newest publication
-pub record TellsHistory (s : Session) (H : List Entry) (held : RevisionsView) (marks : List ℕ) (last : Option ℕ) : Type 0 where
-  pub tiling : held.tiling ≡ s.scene.tiling
-  pub revisions : AreRevisionsOf (open_at s.first_mask) (edits_of H) held
-  pub cursors : AreCursors s H marks
+pub record TellsHistory (session : Session) (H : List Entry) (held : RevisionsView) (marks : List ℕ) (last : Option ℕ) : Type 0 where
+  pub tiling : held.tiling ≡ session.scene.tiling
+  pub revisions : AreRevisionsOf (open_at session.first_mask) (edits_of H) held
+  pub cursors : AreCursors session H marks
   pub newest : last ≡ newest_of H
 
 pub record IsState (v : BoardView) (held : RevisionsView) (waiting : LackingView) (marks : List ℕ) (last : Option ℕ) : Type 0 where
@@ -63,11 +63,11 @@ module _ {A : Type 0} where
 
 -- the entry names the analyst, and is neither an edit nor a publication nor a kept result
 abbrev pub IsWithoutOthers : ℕ → Entry → Type 0
-IsWithoutOthers a (Revised b edit) = ⊥
-IsWithoutOthers a (Kept t r) = ⊥
-IsWithoutOthers a (Published b r) = ⊥
-IsWithoutOthers a (Settled b r) = b ≡ a
-IsWithoutOthers a (Shown b r) = b ≡ a
+IsWithoutOthers analyst (Revised b edit) = ⊥
+IsWithoutOthers analyst (Kept t r) = ⊥
+IsWithoutOthers analyst (Published b r) = ⊥
+IsWithoutOthers analyst (Settled b r) = b ≡ analyst
+IsWithoutOthers analyst (Shown b r) = b ≡ analyst
 
 -- why no surface is made: a tile is not kept, or it is not certified, or there is no memory for it
 abbrev pub HasSurfaceFault : BoardView → SeamResult → PublishFault → Type 0
@@ -75,11 +75,11 @@ HasSurfaceFault v seams NotSettle = ⊥
 HasSurfaceFault v seams (Stale r) = ⊥
 HasSurfaceFault v seams (Double r) = ⊥
 HasSurfaceFault v seams (Unready t) = IsLeastLacking v.session v.entries t
-HasSurfaceFault v seams (Uncertified verdict) = AreAllKept v.session v.entries × (verdict ≢ Good) × (p : Parts) × ArePublishable v seams p × IsPartsVerdict p verdict
+HasSurfaceFault v seams (Uncertified verdict) = AreAllKept v.session v.entries × (verdict ≢ Good) × (parts : Parts) × ArePublishable v seams parts × IsPartsVerdict parts verdict
 HasSurfaceFault v seams Memory = AreAllKept v.session v.entries
 
 -- a surface and its entry were added, and nothing else changed
-pub record AddsSurface (old new : BoardView) (a r : ℕ) (p : Parts) : Type 0 where
-  pub adds : AddsEntry old new (Published a r)
+pub record AddsSurface (old new : BoardView) (analyst r : ℕ) (parts : Parts) : Type 0 where
+  pub adds : AddsEntry old new (Published analyst r)
   pub kept : new.kept ≡ old.kept
-  pub surfaces : new.surfaces ≡ old.surfaces ++ p ∷ []
+  pub surfaces : new.surfaces ≡ old.surfaces ++ parts ∷ []

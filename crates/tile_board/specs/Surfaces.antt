@@ -11,9 +11,9 @@ use Rattle.tile_board.specs.Histories.{newest_of}
 
 -- None if nothing is published
 abbrev pub last_surface : BoardView → Option Parts
-last_surface v = slice_get v.surfaces (length v.surfaces - 1)
+last_surface board = slice_get board.surfaces (length board.surfaces - 1)
 
 -- the surface of the newest published revision of a history, certified over the mask at that revision; None if nothing is published
 abbrev pub IsNewestIn : Session → List Entry → Option Snapshot → Type 0
-IsNewestIn s H None = newest_of H ≡ None
-IsNewestIn s H (Some n) = IsSurfaceOf s H (parts_of n) × (newest_of H ≡ Some (parts_of n).seams.revision)
+IsNewestIn session H None = newest_of H ≡ None
+IsNewestIn session H (Some n) = IsSurfaceOf session H (parts_of n) × (newest_of H ≡ Some (parts_of n).seams.revision)

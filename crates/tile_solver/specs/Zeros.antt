@@ -10,12 +10,12 @@ use Rattle.wrapped_gradient.specs.GradientsView.{GradientsView}
 use Rattle.dual_grid.specs.Answers.{AreCertifiedCorrections}
 
 -- these are the gradients of tile t of the scene, and no cell of it has a residue
-pub record IsWithoutResidue (s : Scene) (t : ℕ) (g : GradientsView) : Type 0 where
-  pub tile : t < tiles_of s.tiling
-  pub window : g.window ≡ window_of s.tiling t
-  pub differences : AreGradientsOf s g
-  pub none : HasNoResidue g
+pub record IsWithoutResidue (scene : Scene) (t : ℕ) (gradients : GradientsView) : Type 0 where
+  pub tile : t < tiles_of scene.tiling
+  pub window : gradients.window ≡ window_of scene.tiling t
+  pub differences : AreGradientsOf scene gradients
+  pub none : HasNoResidue gradients
 
 -- corrections and faces that are an answer, under any mask, for each tile without a residue of which these are the gradients
 abbrev pub AnswersWithoutResidue : GradientsView → Corrections → List ℤ → Type 0
-AnswersWithoutResidue g k faces = (s : Scene) (t : ℕ) (mask : Field Bool) → IsWithoutResidue s t g → AreCertifiedCorrections (raster_of s) mask t g.window k faces
+AnswersWithoutResidue gradients corrections faces = (scene : Scene) (t : ℕ) (mask : Field Bool) → IsWithoutResidue scene t gradients → AreCertifiedCorrections (raster_of scene) mask t gradients.window corrections faces

@@ -13,5 +13,5 @@ regions_found (Plain regions) = regions
 
 -- they are the regions of a mask in a tiling
 abbrev pub AreFoundOf : Tiling → MaskView → FoundRegions → Type 0
-AreFoundOf g mask (Packed packed plan) = ArePackedRegionsOf g mask packed
-AreFoundOf g mask (Plain regions) = AreRegionsOf g mask regions
+AreFoundOf tiling mask (Packed packed plan) = ArePackedRegionsOf tiling mask packed
+AreFoundOf tiling mask (Plain regions) = AreRegionsOf tiling mask regions

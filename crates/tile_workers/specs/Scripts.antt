@@ -23,27 +23,27 @@ pub record HasSeenMore (p q : PassView) : Type 0 where
   pub still : HasNotMoved p q
 
 -- the ticket was given at the end of what the pass has seen
-pub record HasClaimed (s : Session) (p : PassView) (ticket : Ticket) : Type 0 where
+pub record HasClaimed (s : Session) (pass : PassView) (ticket : Ticket) : Type 0 where
   pub board : BoardView
   pub session : board.session ≡ s
-  pub entries : board.entries ≡ p.seen
+  pub entries : board.entries ≡ pass.seen
   pub claim : IsClaim board ticket
 
 -- this was gathered at the end of what the pass has seen
-pub record HasGathered (s : Session) (p : PassView) (gathered : Gathered) : Type 0 where
+pub record HasGathered (s : Session) (pass : PassView) (gathered : Gathered) : Type 0 where
   pub session : arc_value gathered.session ≡ s
-  pub mask : WasMaskAt s p.seen gathered.mask gathered.revision
+  pub mask : WasMaskAt s pass.seen gathered.mask gathered.revision
 
 -- a certified surface over what was gathered
-pub record IsSurfaceOfGathered (gathered : Gathered) (p : Parts) : Type 0 where
-  pub made : IsMadeSurface (arc_value gathered.session) p
-  pub mask : p.mask ≡ gathered.mask
-  pub revision : p.seams.revision ≡ gathered.revision
+pub record IsSurfaceOfGathered (gathered : Gathered) (parts : Parts) : Type 0 where
+  pub made : IsMadeSurface (arc_value gathered.session) parts
+  pub mask : parts.mask ≡ gathered.mask
+  pub revision : parts.seams.revision ≡ gathered.revision
 
 -- these are regions of the present mask at a point of what the pass has seen
-pub record HadRegions (s : Session) (p : PassView) (early : EarlyRegions) : Type 0 where
+pub record HadRegions (s : Session) (pass : PassView) (early : EarlyRegions) : Type 0 where
   pub earlier : List Entry
-  pub begins : IsPrefix earlier p.seen
+  pub begins : IsPrefix earlier pass.seen
   pub mask : WasMaskAt s earlier early.present.mask early.present.revision
   pub regions : AreFoundOf s.scene.tiling early.present.mask early.found
 
@@ -68,13 +68,13 @@ HasPublished p q (Some r) = AddsOwn p q (λ a. Published a r)
 
 -- each pass is a later one
 abbrev pub AreLater : List PassView → List PassView → Type 0
-AreLater before after = (k : ℕ) (d : PassView) → k < length before → IsLaterPass (slice_index_or before k d) (slice_index_or after k d)
+AreLater before after = (k : ℕ) (pass : PassView) → k < length before → IsLaterPass (slice_index_or before k pass) (slice_index_or after k pass)
 
 -- the desk has answered that the analyst's script is at its end; so it is, and what was added in the analyst's name is what was seen of it
-pub record HasScriptEnded (p : PassView) : Type 0 where
-  pub ended : p.ended ≡ true
-  pub exact : p.mine ≡ mine_of p.analyst p.seen
-  pub at_end : HasNoCommandLeft p
+pub record HasScriptEnded (pass : PassView) : Type 0 where
+  pub ended : pass.ended ≡ true
+  pub exact : pass.mine ≡ mine_of pass.analyst pass.seen
+  pub at_end : HasNoCommandLeft pass
 
 abbrev pub AreEnded : List PassView → Type 0
 AreEnded passes = All HasScriptEnded passes

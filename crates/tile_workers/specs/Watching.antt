@@ -23,11 +23,11 @@ pub record HasCurated (old new : CuratorView) : Type 0 where
 
 -- a revision is above the last one, if there is one
 abbrev pub IsAbove : ℕ → Option ℕ → Type 0
-IsAbove r last = IfSome last (λ number. number < r)
+IsAbove revision last = IfSome last (λ number. number < revision)
 
 -- a surface was placed, or its revision is no later than that of the last one that was placed
 abbrev pub PlacesAbove : ShelfView → ShelfView → Parts → Type 0
-PlacesAbove old new p = (IsAbove p.seams.revision (last_revision old.surfaces) × (new ≡ shelf_view old.shelf (old.surfaces ++ p ∷ []))) ⊎ (IsNoLater (Some p.seams.revision) (last_revision old.surfaces) × (new ≡ old))
+PlacesAbove old new parts = (IsAbove parts.seams.revision (last_revision old.surfaces) × (new ≡ shelf_view old.shelf (old.surfaces ++ parts ∷ []))) ⊎ (IsNoLater (Some parts.seams.revision) (last_revision old.surfaces) × (new ≡ old))
 
 -- the newest publication that the curator's pass has seen is no later than what was placed last
 abbrev pub HasPlaced : CuratorView → Type 0
@@ -49,18 +49,18 @@ Rises numbers = (i j a b : ℕ) → i < j → slice_get numbers i ≡ Some a →
 
 -- the revision is that of the last surface of a beginning of what is known
 abbrev pub Shows : List Parts → ℕ → Type 0
-Shows surfaces r = (known : List Parts) × (IsPrefix known surfaces × (last_revision known ≡ Some r))
+Shows surfaces revision = (known : List Parts) × (IsPrefix known surfaces × (last_revision known ≡ Some revision))
 
 abbrev pub AreShown : List Parts → List ℕ → Type 0
 AreShown surfaces revisions = All (Shows surfaces) revisions
 
 -- a revision was added at the end of the list, or it is no later than the last one there
 abbrev pub KeepsAbove : List ℕ → List ℕ → ℕ → Type 0
-KeepsAbove old new r = (IsAbove r (last_of old) × (new ≡ old ++ r ∷ [])) ⊎ (IsNoLater (Some r) (last_of old) × (new ≡ old))
+KeepsAbove old new revision = (IsAbove revision (last_of old) × (new ≡ old ++ revision ∷ [])) ⊎ (IsNoLater (Some revision) (last_of old) × (new ≡ old))
 
 -- the watcher has room for all reads that are left, and for one more
 abbrev pub HasRoom : WatcherView → Type 0
-HasRoom w = w.reads + 1 ≤ w.room
+HasRoom watcher = watcher.reads + 1 ≤ watcher.room
 
 -- a watcher has read once: it knows all that it knew, and kept what it then knows last
 pub record HasRead (old new : WatcherView) : Type 0 where
@@ -71,7 +71,7 @@ pub record HasRead (old new : WatcherView) : Type 0 where
 
 -- what a watcher knows last is no later than the last revision that it kept
 abbrev pub HasKept : WatcherView → Type 0
-HasKept w = IsNoLater (last_revision w.reader.surfaces) (last_of w.revisions)
+HasKept watcher = IsNoLater (last_revision watcher.reader.surfaces) (last_of watcher.revisions)
 
 -- a watcher has read until no read was left: it knows all that it knew, kept all that it had kept and what it knows last, and has room for one more
 pub record HasWatched (old new : WatcherView) : Type 0 where
@@ -82,18 +82,18 @@ pub record HasWatched (old new : WatcherView) : Type 0 where
   pub place : 1 ≤ new.room
 
 abbrev pub HaveWatched : List WatcherView → List WatcherView → Type 0
-HaveWatched before after = (k : ℕ) (d : WatcherView) → k < length before → HasWatched (slice_index_or before k d) (slice_index_or after k d)
+HaveWatched before after = (k : ℕ) (watcher : WatcherView) → k < length before → HasWatched (slice_index_or before k watcher) (slice_index_or after k watcher)
 
 -- the revision stands in the list
 abbrev pub Keeps : List ℕ → ℕ → Type 0
-Keeps revisions r = (i : ℕ) × (slice_get revisions i ≡ Some r)
+Keeps revisions revision = (i : ℕ) × (slice_get revisions i ≡ Some revision)
 
 -- the list has one more revision, at its place in order
-pub record HasOneMore (old new : List ℕ) (r : ℕ) : Type 0 where
+pub record HasOneMore (old new : List ℕ) (revision : ℕ) : Type 0 where
   pub below : List ℕ
   pub above : List ℕ
   pub was : old ≡ below ++ above
-  pub is : new ≡ below ++ r ∷ above
+  pub is : new ≡ below ++ revision ∷ above
 
 -- a revision of a note was added where the list lacked it
 abbrev pub KeepsToo : List ℕ → List ℕ → Option ℕ → Type 0

@@ -10,14 +10,14 @@ use Rattle.whole_solver.specs.Cycles.{AreSmallCycles, whole_cycles}
 use Rattle.whole_solver.specs.declared.result.WholeResult.{WholeResult}
 
 -- lists of cycles and faces whose surface is congruent, anchored and certified whole
-pub record AreRight (s : Scene) (mask : Field Bool) (cycles faces : List ℤ) : Type 0 where
-  pub count : length cycles ≡ s.phase.width * s.phase.height
+pub record AreRight (scene : Scene) (mask : Field Bool) (cycles faces : List ℤ) : Type 0 where
+  pub count : length cycles ≡ scene.phase.width * scene.phase.height
   pub small : AreSmallCycles cycles
-  pub anchored : IsAnchored (raster_of s) mask (lifted (raster_of s) (whole_cycles s.phase.width cycles))
-  pub certified : IsCertifiedWhole (raster_of s) mask (lifted (raster_of s) (whole_cycles s.phase.width cycles)) faces
+  pub anchored : IsAnchored (raster_of scene) mask (lifted (raster_of scene) (whole_cycles scene.phase.width cycles))
+  pub certified : IsCertifiedWhole (raster_of scene) mask (lifted (raster_of scene) (whole_cycles scene.phase.width cycles)) faces
 
 -- a good result: its surface is that, and costs what it says
-pub record IsGoodWhole (s : Scene) (mask : Field Bool) (w : WholeResult) : Type 0 where
-  pub width : w.width ≡ s.phase.width
-  pub right : AreRight s mask w.cycles.items w.faces.items
-  pub cost : pos w.cost ≡ whole_cost (raster_of s) mask (lifted (raster_of s) (whole_cycles s.phase.width w.cycles.items))
+pub record IsGoodWhole (scene : Scene) (mask : Field Bool) (w : WholeResult) : Type 0 where
+  pub width : w.width ≡ scene.phase.width
+  pub right : AreRight scene mask w.cycles.items w.faces.items
+  pub cost : pos w.cost ≡ whole_cost (raster_of scene) mask (lifted (raster_of scene) (whole_cycles scene.phase.width w.cycles.items))

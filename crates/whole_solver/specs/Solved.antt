@@ -9,12 +9,12 @@ use Rattle.surface_integration.specs.Cycles.{cycles_at}
 
 -- the window of the whole raster
 abbrev pub raster_window : Scene → Window
-raster_window s = record { x0 = 0; y0 = 0; x1 = s.phase.width - 1; y1 = s.phase.height - 1 }
+raster_window scene = record { x0 = 0; y0 = 0; x1 = scene.phase.width - 1; y1 = scene.phase.height - 1 }
 
 -- the surface that lies so many cycles above the phase, by a list in row order
 abbrev pub listed_surface : Scene → List ℤ → Field ℤ
-listed_surface s cycles = lifted (raster_of s) (cycles_at (raster_window s) cycles)
+listed_surface scene cycles = lifted (raster_of scene) (cycles_at (raster_window scene) cycles)
 
 -- the cycles of the second surface are those of the first less a number, at each pixel
 abbrev pub AreMoved : Raster → Field ℤ → Field ℤ → ℤ → Type 0
-AreMoved r c d by = (x y : ℕ) → x < r.width → y < r.height → d x y ≡ c x y -ℤ by
+AreMoved raster c d by = (x y : ℕ) → x < raster.width → y < raster.height → d x y ≡ c x y -ℤ by

@@ -8,15 +8,15 @@ use Rattle.wrapped_gradient.specs.Windows.{IsCellOf, HaveShapeOf, edge_value, ro
 
 -- there is a correction for each right edge and for each down edge of the window
 abbrev pub HasShapeOf : Window → Corrections → Type 0
-HasShapeOf v k = HaveShapeOf v k.right.items k.down.items
+HasShapeOf window corrections = HaveShapeOf window corrections.right.items corrections.down.items
 
 -- the correction of an edge
 abbrev pub correction_at : Window → Corrections → Edge → ℤ
-correction_at v k = edge_value v k.right.items k.down.items
+correction_at window corrections = edge_value window corrections.right.items corrections.down.items
 
 -- the sum of the corrections round each cell of the window is minus its residue
 abbrev pub CancelResidues : Raster → Window → Corrections → Type 0
-CancelResidues r v k = (x y : ℕ) → IsCellOf v x y → round (correction_at v k) x y ≡ neg_ℤ (residue r x y)
+CancelResidues raster window corrections = (x y : ℕ) → IsCellOf window x y → round (correction_at window corrections) x y ≡ neg_ℤ (residue raster x y)
 
 -- the greatest absolute number of a list, and 0 where it is empty
 unfoldable pub greatest : List ℤ → ℕ
@@ -25,4 +25,4 @@ greatest (z ∷ zs) = max (unsigned_abs z) (greatest zs)
 
 -- the greatest absolute correction
 abbrev pub greatest_of : Corrections → ℕ
-greatest_of k = max (greatest k.right.items) (greatest k.down.items)
+greatest_of corrections = max (greatest corrections.right.items) (greatest corrections.down.items)

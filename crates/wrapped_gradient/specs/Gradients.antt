@@ -13,27 +13,27 @@ use Rattle.wrapped_gradient.specs.Windows.{IsEdgeOf, IsCellOf, edge_value, round
 
 -- the wrapped difference that is held for an edge: the slope of the ramp and the edge's number
 abbrev pub gradient_at : GradientsView → Edge → ℤ
-gradient_at g e = slope_of g.terms e.down +ℤ edge_value g.window g.right g.down e
+gradient_at gradients edge = slope_of gradients.terms edge.down +ℤ edge_value gradients.window gradients.right gradients.down edge
 
 -- the residue of a cell: the whole cycles of the sum of the wrapped differences round it
 abbrev pub residue_at : GradientsView → Field ℤ
-residue_at g x y = int_div (round (gradient_at g) x y) (pos 65536)
+residue_at gradients x y = int_div (round (gradient_at gradients) x y) (pos 65536)
 
 -- the window lies in the scene's raster, and what is held for its edges are the scene's wrapped differences
-pub record AreGradientsOf (s : Scene) (g : GradientsView) : Type 0 where
-  pub inside : IsWindowIn s.phase.width s.phase.height g.window
-  pub differences : (e : Edge) → IsEdgeOf g.window e → gradient_at g e ≡ gradient (raster_of s) e
+pub record AreGradientsOf (scene : Scene) (gradients : GradientsView) : Type 0 where
+  pub inside : IsWindowIn scene.phase.width scene.phase.height gradients.window
+  pub differences : (e : Edge) → IsEdgeOf gradients.window e → gradient_at gradients e ≡ gradient (raster_of scene) e
 
 -- the residues of the window's cells are those of the scene
 abbrev pub HaveResiduesOf : Scene → GradientsView → Type 0
-HaveResiduesOf s g = (x y : ℕ) → IsCellOf g.window x y → residue_at g x y ≡ residue (raster_of s) x y
+HaveResiduesOf scene gradients = (x y : ℕ) → IsCellOf gradients.window x y → residue_at gradients x y ≡ residue (raster_of scene) x y
 
 -- no cell of the window has a residue other than 0
 abbrev pub HasNoResidue : GradientsView → Type 0
-HasNoResidue g = (x y : ℕ) → IsCellOf g.window x y → residue_at g x y ≡ pos 0
+HasNoResidue gradients = (x y : ℕ) → IsCellOf gradients.window x y → residue_at gradients x y ≡ pos 0
 
 -- (x, y) is the first cell in row order that has one
-pub record IsFirstResidue (g : GradientsView) (x y : ℕ) : Type 0 where
-  pub cell : IsCellOf g.window x y
-  pub residue : residue_at g x y ≢ pos 0
-  pub first : (a b : ℕ) → IsCellOf g.window a b → IsEarlier a b x y → residue_at g a b ≡ pos 0
+pub record IsFirstResidue (gradients : GradientsView) (x y : ℕ) : Type 0 where
+  pub cell : IsCellOf gradients.window x y
+  pub residue : residue_at gradients x y ≢ pos 0
+  pub first : (a b : ℕ) → IsCellOf gradients.window a b → IsEarlier a b x y → residue_at gradients a b ≡ pos 0

@@ -10,10 +10,10 @@ AreInRows f x0 y0 columns n zs = (length zs ≡ n) × ((k : ℕ) → k < n → s
 
 -- the wrapped differences of the edges that start at a pixel, less the slope
 abbrev pub of_right_edges : Raster → Field ℤ
-of_right_edges r x y = gradient r (right_edge x y) -ℤ r.slope Bool.false
+of_right_edges raster x y = gradient raster (right_edge x y) -ℤ raster.slope Bool.false
 
 abbrev pub of_down_edges : Raster → Field ℤ
-of_down_edges r x y = gradient r (down_edge x y) -ℤ r.slope Bool.true
+of_down_edges raster x y = gradient raster (down_edge x y) -ℤ raster.slope Bool.true
 
 -- a list has from place s on the wrapped differences, less the slope, of the first n pairs of phases of two lists, and before that what it had
 pub record AreDifferences (slope : ℤ) (from to : List ℕ) (s n : ℕ) (old new : List ℤ) : Type 0 where

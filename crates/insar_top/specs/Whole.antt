@@ -1,13 +1,17 @@
 -- What `whole` writes for a session: a surface than which none costs less over the whole raster, with its certificate.
-use Rattle.std.specs.Prelude.{◌≡◌, ◌+◌, ◌≤◌, ℕ, List, [], Some, IfSome, slice_get}
+use Rattle.std.specs.Prelude.{◌≡◌, ◌+◌, ◌<◌, ◌≤◌, ℕ, Bool, List, [], Some, IfSome, slice_get}
 use Rattle.insar_ports.specs.Bytes.{with_end}
 use Rattle.raster_model.specs.declared.session.Session.{Session}
 use Rattle.raster_model.specs.Masks.{open_at}
+use Rattle.raster_model.specs.Raster.{Raster}
 use Rattle.raster_model.specs.Scene.{raster_of}
+use Rattle.raster_model.specs.Sums.{Field}
 use Rattle.raster_model.specs.Whole.{IsLeastOfAll}
 use Rattle.whole_text.specs.Text.{IsWhole, WholeOf, whole_text}
 use Rattle.whole_check.specs.Verdicts.{IsCertifiedText, surface_told}
+use Rattle.tile_board.specs.Histories.{mask_in}
 use Rattle.tile_board.specs.declared.entry.Entry.TheVariants.{Published}
+use Rattle.report_text.specs.Certified.{history_of}
 use Rattle.report_text.specs.Reports.{ItemOf, ReportOf, SurfaceOf}
 use Rattle.insar_words.specs.Asked.{Options}
 use Rattle.insar_top.specs.Run.{Run}
@@ -31,7 +35,15 @@ pub record IsWholeAnswer (options : Options) (bytes text : List ℕ) : Type 0 wh
 abbrev pub IsLeastDone : Options → Run → Type 0
 IsLeastDone options r = IfSome r.told (λ bytes. (text : List ℕ) × (IsWholeAnswer options bytes text × ((r.left ≡ Some []) × (r.held_now ≡ with_end r.held text))))
 
--- the least of all costs no less than the tiles of a surface that a report of the same session publishes for the first mask, and no more than its tiles and its seams
+-- two masks agree on the pixels of a raster
+abbrev pub MasksAgree : Raster → Field Bool → Field Bool → Type 0
+MasksAgree raster one other = (x y : ℕ) → x < raster.width → y < raster.height → one x y ≡ other x y
+
+-- the least of all costs no less than the tiles of a surface that a report of the same session publishes for a revision whose mask is the first, and no more than its tiles and its seams
 abbrev pub ReportsBoundTheLeast : Type 0
-ReportsBoundTheLeast = (s : Session) (v : ReportOf) (w : WholeOf) (at analyst : ℕ) (i : ItemOf) (k : SurfaceOf) → IsReportOf s v → slice_get v.items at ≡ Some i → i.entry ≡ Published analyst 0 → i.surface ≡ Some k → IsWholeOf s w
-    → (k.tile_cost ≤ w.cost) × (w.cost ≤ k.tile_cost + k.seam_cost)
+ReportsBoundTheLeast = (s : Session) (v : ReportOf) (w : WholeOf) (at analyst revision : ℕ) (i : ItemOf) (k : SurfaceOf) → IsReportOf s v → slice_get v.items at ≡ Some i → i.entry ≡ Published analyst revision → i.surface ≡ Some k
+    → MasksAgree (raster_of s.scene) (mask_in s (history_of v) revision) (open_at s.first_mask) → IsWholeOf s w → (k.tile_cost ≤ w.cost) × (w.cost ≤ k.tile_cost + k.seam_cost)
+
+-- revision 0 has the first mask
+abbrev pub TheFirstMaskIsThatOfRevision0 : Type 0
+TheFirstMaskIsThatOfRevision0 = (s : Session) (v : ReportOf) → MasksAgree (raster_of s.scene) (mask_in s (history_of v) 0) (open_at s.first_mask)

@@ -5,7 +5,7 @@ ghost use Rattle.insar_top.specs.Check.{AnswersAreAccepted, BytesHaveOneVerdict}
 ghost use Rattle.insar_top.specs.CheckWhole.{AcceptedWholesAreLeast, BytesHaveOneWholeVerdict, WholesAreAccepted};
 ghost use Rattle.insar_top.specs.Grid.{LastSurfacesAreBest};
 ghost use Rattle.insar_top.specs.Trial.{TrialsHaveOneText};
-ghost use Rattle.insar_top.specs.Whole.{ReportsBoundTheLeast};
+ghost use Rattle.insar_top.specs.Whole.{ReportsBoundTheLeast, TheFirstMaskIsThatOfRevision0};
 
 /// Bytes that have a break for which a request is refused are not of the form that it reads.
 pub fn broken_bytes_are_no_input()
@@ -39,10 +39,11 @@ pub fn bytes_have_one_whole_verdict()
     ensures { BytesHaveOneWholeVerdict }
 {}
 
-/// The surface that costs least of all costs no less than the tiles of one that a report of the same session publishes for the
-/// first mask, and no more than its tiles and its seams.
+/// The surface that costs least of all costs no less than the tiles of one that a report of the same session publishes for a
+/// revision whose mask is the first, as that of revision 0 is, and no more than its tiles and its seams.
 pub fn reports_bound_the_least()
-    ensures { ReportsBoundTheLeast }
+    ensures bound { ReportsBoundTheLeast }
+    ensures first { TheFirstMaskIsThatOfRevision0 }
 {}
 
 /// The last surface of a session's report, whose grid `grid` writes, is the best at the mask of the newest published revision;

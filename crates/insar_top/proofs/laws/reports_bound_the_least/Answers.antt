@@ -1,5 +1,8 @@
-use Rattle.insar_top.proofs.BoundLemmas.{reports_bound_the_least}
+use Rattle.insar_top.proofs.BoundLemmas.{first_mask_is_that_of_0, reports_bound_the_least}
 use Rattle.insar_top.proofs.laws.reports_bound_the_least.Goals as goal
 
-pub returns : goal.returns
-returns c = reports_bound_the_least
+pub returns-clause-bound : goal.returns-clause-bound
+returns-clause-bound c = reports_bound_the_least
+
+pub returns-clause-first : goal.returns-clause-first
+returns-clause-first c = first_mask_is_that_of_0

@@ -1,11 +1,14 @@
 -- Laws of excesses, margins and parts of a certified surface.
-use Rattle.std.specs.Prelude.{◌≡◌, ◌≢◌, ℕ, ◌≤◌, ℤ, pos, ◌+ℤ◌, ◌-ℤ◌, ◌≤ℤ◌, ◌<ℤ◌, IsTrue}
+use Rattle.std.specs.Prelude.{◌≡◌, ◌≢◌, ℕ, ◌≤◌, ℤ, pos, ◌+ℤ◌, ◌-ℤ◌, ◌≤ℤ◌, ◌<ℤ◌, ◌↔◌, IsTrue}
 use Rattle.raster_model.specs.declared.edge.Edge.{Edge}
 use Rattle.raster_model.specs.Sums.{Field, is_edge, sum_edges}
 use Rattle.raster_model.specs.Raster.{IsCongruent, has_open_ends}
 use Rattle.raster_model.specs.Whole.{whole_cost}
 use Rattle.certain_parts.specs.Margins.{Faced, IsCertified, departure_at, excess, extra_cost, margin}
-use Rattle.certain_parts.specs.Parts.{AreInOnePart}
+use Rattle.joined_cells.specs.Joining.{IsOpenOf}
+use Rattle.certain_parts.specs.Labels.{ArePartsOf, label_at}
+use Rattle.certain_parts.specs.Parts.{AreInOnePart, parts_joined}
+use Rattle.certain_parts.specs.PartsView.{PartsView}
 
 -- no excess is below 0, and that of the surface's own departure is 0
 abbrev pub ExcessesAreLeastAtTheSurface : Type 0
@@ -26,3 +29,7 @@ SurfacesAgreeInParts = (c : Faced) (limit : ℕ) (other : Field ℤ) → IsCerti
 -- so where it does not, it costs more
 abbrev pub OthersCostMore : Type 0
 OthersCostMore = (c : Faced) (limit : ℕ) (other : Field ℤ) → IsCertified c → 1 ≤ c.raster.steep → IsCongruent c.raster c.mask other → (x y a b : ℕ) → AreInOnePart c limit x y a b → other x y -ℤ c.surface x y ≢ other a b -ℤ c.surface a b → (whole_cost c.raster c.mask c.surface +ℤ pos limit) <ℤ whole_cost c.raster c.mask other
+
+-- an open pixel with a label above 0 and another open pixel have one label exactly if they are in one part
+abbrev pub LabelsTellParts : Type 0
+LabelsTellParts = (c : Faced) (limit least : ℕ) (v : PartsView) → ArePartsOf c limit least v → (x y a b : ℕ) → IsOpenOf (parts_joined c limit) x y → IsOpenOf (parts_joined c limit) a b → 1 ≤ label_at v x y → (label_at v x y ≡ label_at v a b) ↔ AreInOnePart c limit x y a b

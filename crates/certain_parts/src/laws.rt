@@ -1,6 +1,13 @@
 //! Laws of the definitions. The functions do nothing; each contract is the law.
 
-ghost use Rattle.certain_parts.specs.Laws.{ExcessesAddUp, ExcessesAreLeastAtTheSurface, MarginsBoundExcesses, OthersCostMore, SurfacesAgreeInParts};
+ghost use Rattle.certain_parts.specs.Laws.{
+  ExcessesAddUp,
+  ExcessesAreLeastAtTheSurface,
+  LabelsTellParts,
+  MarginsBoundExcesses,
+  OthersCostMore,
+  SurfacesAgreeInParts,
+};
 
 /// At each edge no departure has an excess below 0, and that of a certified surface is 0.
 pub fn excesses_are_least_at_the_surface()
@@ -22,4 +29,9 @@ pub fn margins_bound_excesses()
 pub fn surfaces_agree_in_parts()
     ensures agree { SurfacesAgreeInParts }
     ensures dearer { OthersCostMore }
+{}
+
+/// Two open pixels of which one has a label above 0 have the same label exactly if they are in one part.
+pub fn labels_tell_parts()
+    ensures { LabelsTellParts }
 {}

@@ -43,7 +43,7 @@ rank_small : (least n : ℕ) (f : ℕ → ℕ) → nat_le least (f n) ≡ false 
 rank_small least n f t = rw t refl
 
 -- a rank above 0 is of a large one, and of no other
-above_zero : (least n : ℕ) (f : ℕ → ℕ) → 1 ≤ rank_of least f n → nat_le least (f n) ≡ true
+pub above_zero : (least n : ℕ) (f : ℕ → ℕ) → 1 ≤ rank_of least f n → nat_le least (f n) ≡ true
 above_zero least n f l = elim (cases_Bool (nat_le least (f n))) [
   | inl t ↦ t
   | inr t ↦ absurd (omega (arith, l, rank_small least n f t))
@@ -169,13 +169,13 @@ module _ (joining : Joining) (numbers : List ℕ) (total : ℕ) (is : HasTreeNum
         | inr o ↦ inr (rw place at (is.masked x y across along o))
       ]
 
-label_told : (least : ℕ) (numbers : List ℕ) (i total : ℕ) → slice_index numbers i < total → total ≤ 4194304 → part_label least numbers i ≡ rank_of least (size_of numbers) (slice_index numbers i)
+pub label_told : (least : ℕ) (numbers : List ℕ) (i total : ℕ) → slice_index numbers i < total → total ≤ 4194304 → part_label least numbers i ≡ rank_of least (size_of numbers) (slice_index numbers i)
 label_told least numbers i total l few = told (slice_index numbers i) (rank_of least (size_of numbers) (slice_index numbers i)) (omega (arith, l, few))
   where
     told : (n rank : ℕ) → n < 4294967295 → (if n == 4294967295 then 0 else rank) ≡ rank
     told n rank l = grind (arith, nat_tests)
 
-label_none : (least : ℕ) (numbers : List ℕ) (i : ℕ) → slice_index numbers i ≡ no_label → part_label least numbers i ≡ 0
+pub label_none : (least : ℕ) (numbers : List ℕ) (i : ℕ) → slice_index numbers i ≡ no_label → part_label least numbers i ≡ 0
 label_none least numbers i e = rw e refl
 
 -- the labels after ranking are those of the parts

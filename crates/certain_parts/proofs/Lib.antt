@@ -6,3 +6,4 @@ pub mod MarginLemmas
 pub mod FaceLemmas
 pub mod LabelLemmas
 pub mod PartLemmas
+pub mod SizeLemmas

@@ -6,7 +6,7 @@ use Rattle.raster_model.specs.Raster.{IsCongruent, has_open_ends}
 use Rattle.raster_model.specs.Whole.{whole_cost}
 use Rattle.certain_parts.specs.Margins.{Faced, IsCertified, departure_at, excess, extra_cost, margin}
 use Rattle.joined_cells.specs.Joining.{IsOpenOf}
-use Rattle.certain_parts.specs.Labels.{ArePartsOf, label_at}
+use Rattle.certain_parts.specs.Labels.{ArePartsOf, label_at, part_size}
 use Rattle.certain_parts.specs.Parts.{AreInOnePart, parts_joined}
 use Rattle.certain_parts.specs.PartsView.{PartsView}
 
@@ -33,3 +33,7 @@ OthersCostMore = (c : Faced) (limit : ℕ) (other : Field ℤ) → IsCertified c
 -- an open pixel with a label above 0 and another open pixel have one label exactly if they are in one part
 abbrev pub LabelsTellParts : Type 0
 LabelsTellParts = (c : Faced) (limit least : ℕ) (v : PartsView) → ArePartsOf c limit least v → (x y a b : ℕ) → IsOpenOf (parts_joined c limit) x y → IsOpenOf (parts_joined c limit) a b → 1 ≤ label_at v x y → (label_at v x y ≡ label_at v a b) ↔ AreInOnePart c limit x y a b
+
+-- each part has at least so many pixels
+abbrev pub PartsAreLarge : Type 0
+PartsAreLarge = (c : Faced) (limit least : ℕ) (v : PartsView) → ArePartsOf c limit least v → (n : ℕ) → 1 ≤ n → n ≤ v.count → least ≤ part_size v n

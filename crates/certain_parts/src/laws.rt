@@ -6,6 +6,7 @@ ghost use Rattle.certain_parts.specs.Laws.{
   LabelsTellParts,
   MarginsBoundExcesses,
   OthersCostMore,
+  PartsAreLarge,
   SurfacesAgreeInParts,
 };
 
@@ -34,4 +35,9 @@ pub fn surfaces_agree_in_parts()
 /// Two open pixels of which one has a label above 0 have the same label exactly if they are in one part.
 pub fn labels_tell_parts()
     ensures { LabelsTellParts }
+{}
+
+/// Each part has at least the number of pixels that is asked for.
+pub fn parts_are_large()
+    ensures { PartsAreLarge }
 {}

@@ -7,9 +7,11 @@ use Rattle.raster_model.specs.Limits.{is_raster_size}
 use Rattle.joined_cells.specs.Measures.{AreMeasures}
 use Rattle.joined_cells.specs.Trees.{HasTreeNumbers}
 use Rattle.certain_parts.specs.Labels.{ArePartsOf, enough, rank_of, size_of}
+use Rattle.certain_parts.specs.Laws.{SurfacesAgreeByLabels}
 use Rattle.certain_parts.specs.Margins.{Faced}
 use Rattle.certain_parts.specs.Parts.{parts_joined}
-use Rattle.certain_parts.proofs.LabelLemmas.{has_pixel, labels_are}
+use Rattle.certain_parts.proofs.Agreeing.{surfaces_agree}
+use Rattle.certain_parts.proofs.LabelLemmas.{has_pixel, labels_are, labels_tell}
 
 pub size_fits : (w h : ℕ) → (1 ≤ w) × (w ≤ 4096) → (1 ≤ h) × (h ≤ 4096) → w * h ≤ 4194304 → IsTrue (is_raster_size w h)
 size_fits w h l m few = fits w h (w * h) l.0 l.1 m.0 m.1 few
@@ -42,3 +44,8 @@ module _ (c : Faced) (limit least total count : ℕ) (numbers labels sizes first
   first_is n one l =
       let p = has_pixel (parts_joined c limit) numbers labels total least is ranked n one (omega (arith, l, counted)) in
       measured.places n p.0 l (omega (arith, p.1, same)) p.2
+
+-- ---- what the law of parts says of labels
+pub surfaces_agree_with_labels : SurfacesAgreeByLabels
+surfaces_agree_with_labels c limit least v other is certified one good near x y a b u w labelled same =
+    surfaces_agree c limit other certified one good near x y a b ((labels_tell c limit least v is x y a b u w labelled).0 same)

@@ -37,3 +37,7 @@ LabelsTellParts = (c : Faced) (limit least : ℕ) (v : PartsView) → ArePartsOf
 -- each part has at least so many pixels
 abbrev pub PartsAreLarge : Type 0
 PartsAreLarge = (c : Faced) (limit least : ℕ) (v : PartsView) → ArePartsOf c limit least v → (n : ℕ) → 1 ≤ n → n ≤ v.count → least ≤ part_size v n
+
+-- a surface that costs at most so much more lies above the certified one by as much at any two open pixels with one label above 0
+abbrev pub SurfacesAgreeByLabels : Type 0
+SurfacesAgreeByLabels = (c : Faced) (limit least : ℕ) (v : PartsView) (other : Field ℤ) → ArePartsOf c limit least v → IsCertified c → 1 ≤ c.raster.steep → IsCongruent c.raster c.mask other → whole_cost c.raster c.mask other ≤ℤ (whole_cost c.raster c.mask c.surface +ℤ pos limit) → (x y a b : ℕ) → IsOpenOf (parts_joined c limit) x y → IsOpenOf (parts_joined c limit) a b → 1 ≤ label_at v x y → label_at v x y ≡ label_at v a b → other x y -ℤ c.surface x y ≡ other a b -ℤ c.surface a b

@@ -7,6 +7,7 @@ ghost use Rattle.certain_parts.specs.Laws.{
   MarginsBoundExcesses,
   OthersCostMore,
   PartsAreLarge,
+  SurfacesAgreeByLabels,
   SurfacesAgreeInParts,
 };
 
@@ -40,4 +41,10 @@ pub fn labels_tell_parts()
 /// Each part has at least the number of pixels that is asked for.
 pub fn parts_are_large()
     ensures { PartsAreLarge }
+{}
+
+/// All congruent surfaces that cost at most the limit more than a certified one agree with it, up to whole cycles that are one
+/// constant, at the pixels with one label above 0.
+pub fn surfaces_agree_by_labels()
+    ensures { SurfacesAgreeByLabels }
 {}

@@ -7,3 +7,4 @@ pub mod FaceLemmas
 pub mod LabelLemmas
 pub mod PartLemmas
 pub mod SizeLemmas
+pub mod UniqueParts

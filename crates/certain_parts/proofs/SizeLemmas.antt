@@ -27,7 +27,7 @@ module _ (p q : ℕ → Bool) (xs ys : List ℕ) (size : length xs ≡ length ys
         | inr t ↦ rw e (omega (arith, so_far, count_by_more_no p xs k 0 here t, count_by_more_no q ys k 0 there (sym (same k here) ∙ t)))
       ]
 
-  counted_alike : count_by p xs ≡ count_by q ys
+  pub counted_alike : count_by p xs ≡ count_by q ys
   counted_alike =
       ap (count_by p) (sym (take_all (length xs) xs (omega arith)))
       ∙ alike_below (length xs) (omega arith)
@@ -45,7 +45,7 @@ same_test a n b m there back = elim (cases_eq a n) [
     unequal : (a n b m : ℕ) → (a ≡ n → ⊥) → (b ≡ m → ⊥) → (a == n) ≡ (b == m)
     unequal a n b m e f = grind (arith, nat_tests)
 
-has_width : (w h i : ℕ) → i < w * h → 0 < w
+pub has_width : (w h i : ℕ) → i < w * h → 0 < w
 has_width zero h i l = absurd (omega (arith, l))
 has_width (suc w) h i l = omega arith
 

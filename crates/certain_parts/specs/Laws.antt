@@ -1,5 +1,5 @@
 -- Laws of excesses, margins and parts of a certified surface.
-use Rattle.std.specs.Prelude.{◌≡◌, ◌≢◌, ℕ, ◌≤◌, ℤ, pos, ◌+ℤ◌, ◌-ℤ◌, ◌≤ℤ◌, ◌<ℤ◌, ◌↔◌, IsTrue}
+use Rattle.std.specs.Prelude.{◌≡◌, ◌≢◌, ℕ, ◌≤◌, ℤ, pos, ◌+ℤ◌, ◌-ℤ◌, ◌≤ℤ◌, ◌<ℤ◌, ◌↔◌, ◌<◌, IsTrue, length, slice_index}
 use Rattle.raster_model.specs.declared.edge.Edge.{Edge}
 use Rattle.raster_model.specs.Sums.{Field, is_edge, sum_edges}
 use Rattle.raster_model.specs.Raster.{IsCongruent, has_open_ends}
@@ -41,3 +41,7 @@ PartsAreLarge = (c : Faced) (limit least : ℕ) (v : PartsView) → ArePartsOf c
 -- a surface that costs at most so much more lies above the certified one by as much at any two open pixels with one label above 0
 abbrev pub SurfacesAgreeByLabels : Type 0
 SurfacesAgreeByLabels = (c : Faced) (limit least : ℕ) (v : PartsView) (other : Field ℤ) → ArePartsOf c limit least v → IsCertified c → 1 ≤ c.raster.steep → IsCongruent c.raster c.mask other → whole_cost c.raster c.mask other ≤ℤ (whole_cost c.raster c.mask c.surface +ℤ pos limit) → (x y a b : ℕ) → IsOpenOf (parts_joined c limit) x y → IsOpenOf (parts_joined c limit) a b → 1 ≤ label_at v x y → label_at v x y ≡ label_at v a b → other x y -ℤ c.surface x y ≡ other a b -ℤ c.surface a b
+
+-- there are no two numbers of parts, and no two labels of a pixel
+abbrev pub PartsAreUnique : Type 0
+PartsAreUnique = (c : Faced) (limit least : ℕ) (v w : PartsView) → ArePartsOf c limit least v → ArePartsOf c limit least w → (v.count ≡ w.count) × ((i : ℕ) → i < length v.labels → slice_index v.labels i ≡ slice_index w.labels i)

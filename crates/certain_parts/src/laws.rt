@@ -7,6 +7,7 @@ ghost use Rattle.certain_parts.specs.Laws.{
   MarginsBoundExcesses,
   OthersCostMore,
   PartsAreLarge,
+  PartsAreUnique,
   SurfacesAgreeByLabels,
   SurfacesAgreeInParts,
 };
@@ -47,4 +48,9 @@ pub fn parts_are_large()
 /// constant, at the pixels with one label above 0.
 pub fn surfaces_agree_by_labels()
     ensures { SurfacesAgreeByLabels }
+{}
+
+/// What the parts are is determined by the surface and its faces, the limit and the least number of pixels.
+pub fn parts_are_unique()
+    ensures { PartsAreUnique }
 {}

@@ -1,6 +1,6 @@
 -- What margins bound, and that surfaces of nearly the least cost agree in parts.
 use Rattle.std.proofs.Common.{◌≡◌, ◌≢◌, ◌∙◌, ℕ, ◌+◌, ◌≤◌, refl, sym, arith, inl, inr, Bool, true, false}
-use Rattle.std.specs.Prelude.{ℤ, pos, ◌+ℤ◌, ◌-ℤ◌, ◌≤ℤ◌, IsTrue}
+use Rattle.std.specs.Prelude.{ℤ, pos, ◌+ℤ◌, ◌-ℤ◌, ◌≤ℤ◌, ◌<ℤ◌, ◌&&◌, int_lt, IsTrue}
 use Rattle.std.proofs.lemmas.Int.{ints, int_min_is, by_lt_z}
 use Rattle.sums_and_lists.specs.Sums.{where_true}
 use Rattle.raster_model.specs.declared.edge.Edge.{Edge}
@@ -9,8 +9,11 @@ use Rattle.raster_model.specs.Raster.{IsCongruent, departure, has_open_ends}
 use Rattle.raster_model.specs.Whole.{whole_cost}
 use Rattle.raster_model.proofs.Exact.{departure_is_exact}
 use Rattle.sums_and_lists.proofs.SumLemmas.{picked}
-use Rattle.certain_parts.specs.Margins.{Faced, IsCertified, departure_at, excess, extra_cost}
-use Rattle.certain_parts.specs.Parts.{AreInOnePart, IsCertainEdge, here, rightward, leftward, downward, upward}
+use Rattle.certain_parts.specs.Margins.{Faced, IsCertified, departure_at, excess, extra_cost, margin}
+use Rattle.joined_cells.specs.Joining.{joins}
+use Rattle.joined_cells.specs.Joining.AreJoinedBy.{here, rightward, leftward, downward, upward}
+use Rattle.sums_and_lists.proofs.Tests.{and_first, and_second}
+use Rattle.certain_parts.specs.Parts.{AreInOnePart, IsCertainEdge, parts_joined}
 use Rattle.certain_parts.specs.Laws.{ExcessesAreLeastAtTheSurface, MarginsBoundExcesses, OthersCostMore, SurfacesAgreeInParts}
 use Rattle.certain_parts.proofs.Convex.{beside_is_least}
 use Rattle.certain_parts.proofs.Excesses.{adds_up, excess_convex, excess_positive}
@@ -57,6 +60,19 @@ rise_alike c is other good e i o same =
     let b = departure_is_exact c.raster c.mask c.surface is.congruent e i o in
     omega (arith, ints, rw same at a, b)
 
+-- an edge that joins its ends is certain
+is_certain : (c : Faced) (limit : ℕ) (e : Edge) → IsTrue (joins (parts_joined c limit) e) → IsCertainEdge c limit e
+is_certain c limit e joined =
+    let ends = and_first (is_edge c.raster.width c.raster.height e && has_open_ends c.mask e) (int_lt (pos limit) (margin c e)) joined in
+    record {
+      inside = and_first (is_edge c.raster.width c.raster.height e) (has_open_ends c.mask e) ends;
+      unmasked = and_second (is_edge c.raster.width c.raster.height e) (has_open_ends c.mask e) ends;
+      certain = above (pos limit) (margin c e) (and_second (is_edge c.raster.width c.raster.height e && has_open_ends c.mask e) (int_lt (pos limit) (margin c e)) joined);
+    }
+  where
+    above : (a b : ℤ) → int_lt a b ≡ true → a <ℤ b
+    above a b t = omega (arith, ints)
+
 -- at a certain edge a surface that does not cost too much departs as the certified one does
 module _ (c : Faced) (limit : ℕ) (other : Field ℤ) (is : IsCertified c) (one : 1 ≤ c.raster.steep) (good : IsCongruent c.raster c.mask other) (near : whole_cost c.raster c.mask other ≤ℤ (whole_cost c.raster c.mask c.surface +ℤ pos limit)) where
   departs_alike : (e : Edge) → IsCertainEdge c limit e → departure c.raster other e ≡ departure_at c e
@@ -70,8 +86,10 @@ module _ (c : Faced) (limit : ℕ) (other : Field ℤ) (is : IsCertified c) (one
           let cost = costs_at_least c is other good e certain.inside certain.unmasked in
           omega (arith, ints, bound, cost, near, certain.certain)
 
-  alike : (e : Edge) → IsCertainEdge c limit e → at_edge_start other e -ℤ at_edge_start c.surface e ≡ at_edge_end other e -ℤ at_edge_end c.surface e
-  alike e certain = rise_alike c is other good e certain.inside certain.unmasked (departs_alike e certain)
+  alike : (e : Edge) → IsTrue (joins (parts_joined c limit) e) → at_edge_start other e -ℤ at_edge_start c.surface e ≡ at_edge_end other e -ℤ at_edge_end c.surface e
+  alike e joined =
+      let certain = is_certain c limit e joined in
+      rise_alike c is other good e certain.inside certain.unmasked (departs_alike e certain)
 
   agree : (x y a b : ℕ) → AreInOnePart c limit x y a b → other x y -ℤ c.surface x y ≡ other a b -ℤ c.surface a b
   agree x y _ _ here = refl

@@ -1,3 +1,7 @@
 pub mod Margins
 pub mod Parts
+pub mod Faces
+pub mod PartsView
+pub mod Labels
+pub mod MarginWords
 pub mod Laws

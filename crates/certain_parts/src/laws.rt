@@ -1,6 +1,16 @@
 //! Laws of the definitions. The functions do nothing; each contract is the law.
 
-ghost use Rattle.certain_parts.specs.Laws.{ExcessesAddUp, ExcessesAreLeastAtTheSurface, MarginsBoundExcesses, OthersCostMore, SurfacesAgreeInParts};
+ghost use Rattle.certain_parts.specs.Laws.{
+  ExcessesAddUp,
+  ExcessesAreLeastAtTheSurface,
+  LabelsTellParts,
+  MarginsBoundExcesses,
+  OthersCostMore,
+  PartsAreLarge,
+  PartsAreUnique,
+  SurfacesAgreeByLabels,
+  SurfacesAgreeInParts,
+};
 
 /// At each edge no departure has an excess below 0, and that of a certified surface is 0.
 pub fn excesses_are_least_at_the_surface()
@@ -22,4 +32,25 @@ pub fn margins_bound_excesses()
 pub fn surfaces_agree_in_parts()
     ensures agree { SurfacesAgreeInParts }
     ensures dearer { OthersCostMore }
+{}
+
+/// Two open pixels of which one has a label above 0 have the same label exactly if they are in one part.
+pub fn labels_tell_parts()
+    ensures { LabelsTellParts }
+{}
+
+/// Each part has at least the number of pixels that is asked for.
+pub fn parts_are_large()
+    ensures { PartsAreLarge }
+{}
+
+/// All congruent surfaces that cost at most the limit more than a certified one agree with it, up to whole cycles that are one
+/// constant, at the pixels with one label above 0.
+pub fn surfaces_agree_by_labels()
+    ensures { SurfacesAgreeByLabels }
+{}
+
+/// What the parts are is determined by the surface and its faces, the limit and the least number of pixels.
+pub fn parts_are_unique()
+    ensures { PartsAreUnique }
 {}

@@ -7,3 +7,4 @@ pub mod TileLemmas
 pub mod NumberLemmas
 pub mod RegionLemmas
 pub mod MeasureLemmas
+pub mod UniqueNumbers

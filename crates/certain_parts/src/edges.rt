@@ -1,0 +1,81 @@
+ghost use Rattle.certain_parts.specs.Faces.{faced_by};
+ghost use Rattle.certain_parts.specs.Margins.{margin};
+ghost use Rattle.certain_parts.specs.Parts.{parts_joined};
+ghost use Rattle.joined_cells.specs.Joining.{joins};
+ghost use Rattle.raster_model.specs.Cells.{IsCertifiedTile};
+ghost use Rattle.raster_model.specs.Heights.{KnowsOpen};
+ghost use Rattle.raster_model.specs.Limits.{is_raster_size};
+ghost use Rattle.raster_model.specs.Masks.{open_at};
+ghost use Rattle.raster_model.specs.Raster.{has_open_ends, lifted};
+ghost use Rattle.raster_model.specs.Scene.{raster_of};
+ghost use Rattle.raster_model.specs.Sums.{at_edge_end, is_edge};
+ghost use Rattle.raster_model.specs.Whole.{whole_of};
+ghost use Rattle.std.specs.Prelude.{◌≡◌, ◌<◌, IsTrue};
+
+use crate::faces::Faces;
+use crate::margin::margin_of;
+use joined_cells::EdgeTest;
+use raster_model::{Edge, Heights, Mask, Scene, departure, stored_weight};
+
+/// A surface over a whole raster that faces certify. An edge with open ends joins them if its margin is above the limit.
+#[derive(Drop)]
+pub(crate) struct CertainEdges<'a, H: Heights> {
+    pub(crate) scene: &'a Scene,
+    pub(crate) mask: &'a Mask,
+    pub(crate) heights: &'a H,
+    pub(crate) faces: &'a [i64],
+    pub(crate) limit: u32,
+    pub(crate) ghost same_size: { (mask.now.width ≡ scene.now.phase.width) × (mask.now.height ≡ scene.now.phase.height) },
+    pub(crate) ghost known: { KnowsOpen (raster_of scene.now) (open_at mask.now) (H.knows heights.now) },
+    pub(crate) ghost certified: { IsCertifiedTile (whole_of (raster_of scene.now)) (open_at mask.now) 0 (lifted (raster_of scene.now) (H.cycles_at heights.now)) faces.now },
+}
+
+impl<H: Heights> CertainEdges<'_, H> {
+    /// The margin of an edge with open ends.
+    fn margin(&self, edge: Edge) -> i64
+        requires is_edge { IsTrue (is_edge self.now.scene.now.phase.width self.now.scene.now.phase.height edge) }
+        requires unmasked { IsTrue (has_open_ends (open_at self.now.mask.now) edge) }
+        ensures { result ≡ margin (faced_by (raster_of self.now.scene.now) (open_at self.now.mask.now) (H.cycles_at self.now.heights.now) self.now.faces.now) edge }
+    {
+        let faces = Faces {
+            scene: self.scene,
+            faces: self.faces,
+        };
+        let departure = departure(self.scene, self.heights, edge);
+        let weight = stored_weight(self.scene, edge);
+        margin_of(self.scene.terms.steep, weight, departure, faces.step(edge))
+    }
+}
+
+impl<H: Heights> EdgeTest for CertainEdges<'_, H> {
+    ghost joining = { λ s. parts_joined (faced_by (raster_of s.scene.now) (open_at s.mask.now) (H.cycles_at s.heights.now) s.faces.now) s.limit };
+
+    fn width(&self) -> u32
+        ensures width { result ≡ self.now.scene.now.phase.width }
+        ensures sized { IsTrue (is_raster_size self.now.scene.now.phase.width self.now.scene.now.phase.height) }
+    {
+        self.scene.phase.width
+    }
+
+    fn height(&self) -> u32
+        ensures { result ≡ self.now.scene.now.phase.height }
+    {
+        self.scene.phase.height
+    }
+
+    fn is_open(&self, x: u32, y: u32) -> bool
+        requires across { x < self.now.scene.now.phase.width }
+        requires along { y < self.now.scene.now.phase.height }
+        ensures { result ≡ open_at self.now.mask.now x y }
+    {
+        self.mask.is_open(x, y)
+    }
+
+    fn joins(&self, edge: Edge) -> bool
+        requires is_edge { IsTrue (is_edge self.now.scene.now.phase.width self.now.scene.now.phase.height edge) }
+        requires end { IsTrue (at_edge_end (open_at self.now.mask.now) edge) }
+        ensures { result ≡ joins (parts_joined (faced_by (raster_of self.now.scene.now) (open_at self.now.mask.now) (H.cycles_at self.now.heights.now) self.now.faces.now) self.now.limit) edge }
+    {
+        self.mask.is_open(edge.x, edge.y) && self.margin(edge) > i64::from(self.limit)
+    }
+}

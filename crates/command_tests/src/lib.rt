@@ -6,6 +6,8 @@ mod loop_rows;
 #[cfg(test)]
 mod outcomes;
 #[cfg(test)]
+mod page_rows;
+#[cfg(test)]
 mod patch_rows;
 #[cfg(test)]
 mod screen_rows;

@@ -27,6 +27,14 @@ fn residues(gradients: &Gradients) -> u32 {
     residues
 }
 
+/// A square of the most pixels, and how many of them a program of another language counts as open.
+#[test]
+fn the_largest_square_is_made(rt: HostRuntime) {
+    let made = make_session(rt.alloc(), 7, 2048, 2048, 64, RuleKind::Least);
+    let session = made.expect(&rt, "memory");
+    assert!(rt; open_pixels(&session.first_mask) == 3_931_463);
+}
+
 /// Seed 7 and sides of 64, and how many residues and open pixels a program of another language counts.
 #[test]
 fn sessions_are_those_of_their_seeds(rt: HostRuntime) {

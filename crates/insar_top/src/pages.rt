@@ -1,3 +1,6 @@
+ghost use Rattle.std.specs.Prelude.{◌*◌, ◌≤◌, ℕ, IfOk};
+ghost use Rattle.text_pages.specs.Rooms.{ArePages};
+
 use raster_model::Session;
 use side_by_side::processors;
 use std::alloc::{AllocError, Global};
@@ -14,7 +17,9 @@ pub fn pages_for<R: Threads>(
     alloc: Global,
     session: &Session,
     workers: u32,
-) -> Result<Pages, AllocError> {
+) -> Result<Pages, AllocError>
+    ensures { IfOk result (λ pages. (threads : ℕ) × (threads ≤ workers) × ArePages threads (session.now.scene.phase.width * session.now.scene.phase.height * BYTES_OF_PIXEL) pages) }
+{
     let phase = &session.scene.phase;
     let pixels = phase.width.saturating_mul(phase.height);
     let threads = workers.min(processors(rt));

@@ -5,6 +5,7 @@ pub mod Surfaces
 pub mod Seams
 pub mod Strips
 pub mod Places
+pub mod Rooms
 pub mod Starts
 pub mod Guesses
 pub mod FairFlows

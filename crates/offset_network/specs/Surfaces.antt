@@ -1,5 +1,6 @@
 -- The surface of the results of tiles and of offsets of the regions, and what makes these good (Chen and Zebker 2002).
-use Rattle.std.specs.Prelude.{◌≡◌, ℕ, ◌<◌, pos, Bool, Some, length, slice_get, slice_index_or}
+use Rattle.std.specs.Prelude.{◌≡◌, ℕ, ◌<◌, pos, Bool, IfOk, Result, Some, length, slice_get, slice_index_or}
+use Rattle.std.specs.declared.alloc.AllocError.{AllocError}
 use Rattle.raster_model.specs.declared.scene.Scene.{Scene}
 use Rattle.raster_model.specs.MaskView.{MaskView}
 use Rattle.raster_model.specs.Masks.{open_at}
@@ -25,3 +26,8 @@ pub record IsGoodSeams (s : Scene) (mask : MaskView) (regions : RegionsView) (ti
   pub count : length k.offsets.items ≡ regions.count
   pub in_range : (v : ℕ) → v < regions.count → IsNear (slice_index_or k.offsets.items v (pos 0))
   pub certified : IsGoodAtSeams (raster_of s) (open_at mask) (shifted_by regions k.offsets.items (solved_cycles s tiles.results)) k.flows.items
+
+-- what was found for a revision: offsets that are good, unless memory ran out
+pub record AreOffsetsAt (s : Scene) (mask : MaskView) (regions : RegionsView) (tiles : TileSetView) (now : ℕ) (found : Result SeamResult AllocError) : Type 0 where
+  pub revision : IfOk found (λ solved. solved.revision ≡ now)
+  pub good : IfOk found (IsGoodSeams s mask regions tiles)

@@ -1,7 +1,8 @@
 ghost use Rattle.offset_network.specs.Lanes.{AreLanes, AreLanesOf, lane_of, weight_of as weight_of_link, with_lanes};
 ghost use Rattle.offset_network.specs.Links.{AreLinks};
+ghost use Rattle.offset_network.specs.Rooms.{room_of_lanes};
 ghost use Rattle.raster_model.specs.Limits.{IsSteepness};
-ghost use Rattle.std.specs.Prelude.{◌≡◌, ◌≤◌, IfOk, OnOk, Some, length, unsigned_abs};
+ghost use Rattle.std.specs.Prelude.{◌≡◌, ◌≤◌, [], IfOk, OnOk, Some, length, unsigned_abs, vec_capacity};
 
 use crate::lane::Lane;
 use offset_guess::Link;
@@ -58,6 +59,18 @@ fn push_lanes(
     Ok(())
 }
 
+/// An empty list with room for the lanes of the links.
+fn list_for_lanes(
+    alloc: Global,
+    links: &[Option<Link>],
+    regions: u32,
+) -> Result<Vec<Option<Lane>>, AllocError>
+    requires links { AreLinks regions links.now }
+    ensures { IfOk result (λ lanes. (lanes.items ≡ []) × (vec_capacity lanes ≡ room_of_lanes (length links.now))) }
+{
+    Vec::with_capacity(alloc, links.len() * 3)
+}
+
 /// The lanes of the links at a steepness, three for each, in their order.
 pub(crate) fn lanes(
     alloc: Global,
@@ -70,7 +83,7 @@ pub(crate) fn lanes(
     ensures lanes { IfOk result (λ lanes. AreLanesOf steep links.now (length links.now) lanes.items) }
     ensures fit { IfOk result (λ lanes. AreLanes regions lanes.items) }
 {
-    let mut lanes = Vec::with_capacity(alloc, links.len() * 3)?;
+    let mut lanes = list_for_lanes(alloc, links, regions)?;
     for link in links {
         push_lanes(*link, steep, &mut lanes)?;
     }

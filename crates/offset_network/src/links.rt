@@ -1,4 +1,5 @@
 ghost use Rattle.offset_network.specs.Links.{AreLinks, IsLinkIn};
+ghost use Rattle.offset_network.specs.Rooms.{room_of_links};
 ghost use Rattle.offset_network.specs.Seams.{AddsLink, AddsLinksFrom, AreSeamLinks, link_of};
 ghost use Rattle.offset_network.specs.Strips.{AreLinksOfRows};
 ghost use Rattle.certificates.specs.TileSets.{solved_cycles};
@@ -6,7 +7,7 @@ ghost use Rattle.raster_model.specs.Flows.{is_seam_edge as is_seam_edge_of};
 ghost use Rattle.raster_model.specs.Masks.{open_at};
 ghost use Rattle.raster_model.specs.Scene.{raster_of};
 ghost use Rattle.seam_regions.specs.Regions.{AreRegionsOf, region_label};
-ghost use Rattle.std.specs.Prelude.{◌≡◌, ◌<◌, ◌≤◌, IfOk, IsTrue, OnOk};
+ghost use Rattle.std.specs.Prelude.{◌≡◌, ◌<◌, ◌≤◌, [], IfOk, IsTrue, OnOk, vec_capacity};
 
 use crate::surface::TileSurface;
 use certificates::{TileEnds, is_seam_edge, next_start};
@@ -71,12 +72,26 @@ fn push_links_from(
 
 /// For how many links the rows from `first` to before `end` need room: in each row one at each column where a tile ends, and
 /// one at each column of a row where a tile ends, but none where the raster ends.
-pub(crate) fn seam_room(tiling: &Tiling, first: u32, end: u32) -> usize
+fn seam_room(tiling: &Tiling, first: u32, end: u32) -> usize
     requires rows { (first ≤ end) × (end ≤ tiling.now.height) }
+    ensures { result ≡ room_of_links tiling.now first end }
 {
     let right = (end - first) as usize * ((tiling.width - 1) / tiling.side) as usize;
     let rows = (end.min(tiling.height - 1) / tiling.side).saturating_sub(first / tiling.side);
     right + rows as usize * tiling.width as usize
+}
+
+/// An empty list with room for the links of the rows from `first` to before `end`.
+pub(crate) fn list_for_rows(
+    alloc: Global,
+    tiling: &Tiling,
+    first: u32,
+    end: u32,
+) -> Result<Vec<Option<Link>>, AllocError>
+    requires rows { (first ≤ end) × (end ≤ tiling.now.height) }
+    ensures { IfOk result (λ links. (links.items ≡ []) × (vec_capacity links ≡ room_of_links tiling.now first end)) }
+{
+    Vec::with_capacity(alloc, seam_room(tiling, first, end))
 }
 
 /// The links of the seam edges that start in the rows from `first` to before `end`, in edge order.
@@ -92,7 +107,7 @@ pub(crate) fn strip_links(
     ensures { IfOk result (λ links. AreLinksOfRows surface.now regions.now first end links.items) }
 {
     let ends = TileEnds::of(&surface.scene.tiling);
-    let mut links = Vec::with_capacity(alloc, seam_room(&surface.scene.tiling, first, end))?;
+    let mut links = list_for_rows(alloc, &surface.scene.tiling, first, end)?;
     for y in first..end {
         let mut x = next_start(surface.scene, &ends, 0, y);
         while x < surface.scene.phase.width {

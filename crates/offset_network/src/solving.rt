@@ -3,11 +3,11 @@ ghost use Rattle.certificates.specs.TileSets.{solved_cycles};
 ghost use Rattle.offset_network.specs.Links.{AreLinks};
 ghost use Rattle.offset_network.specs.Seams.{AreSeamLinks};
 ghost use Rattle.offset_network.specs.Starts.{AreStartOffsets};
-ghost use Rattle.offset_network.specs.Surfaces.{IsGoodTileSet, IsGoodSeams};
+ghost use Rattle.offset_network.specs.Surfaces.{AreOffsetsAt, IsGoodTileSet};
 ghost use Rattle.raster_model.specs.Scene.{raster_of};
 ghost use Rattle.raster_model.specs.Masks.{open_at};
 ghost use Rattle.seam_regions.specs.Regions.{AreRegionsOf, region_label, shifted_by};
-ghost use Rattle.std.specs.Prelude.{◌≡◌, IfOk};
+ghost use Rattle.std.specs.Prelude.{◌≡◌};
 
 use crate::answer::{anchor, flows, lowered, sums_of_three};
 use crate::guessing::{Hint, Judged, guess_or_solver, judge};
@@ -40,8 +40,7 @@ pub fn solve_offsets(
     requires same_size { (mask.now.width ≡ scene.now.phase.width) × (mask.now.height ≡ scene.now.phase.height) }
     requires regions { AreRegionsOf scene.now.tiling mask.now regions.now }
     requires tiles { IsGoodTileSet scene.now (open_at mask.now) tiles.now }
-    ensures revision { IfOk result (λ solved. solved.revision ≡ revision) }
-    ensures good { IfOk result (IsGoodSeams scene.now mask.now regions.now tiles.now) }
+    ensures { AreOffsetsAt scene.now mask.now regions.now tiles.now revision result }
 {
     solve_offsets_from(alloc, scene, mask, regions, tiles, revision, Hint::Nothing)
 }
@@ -63,8 +62,7 @@ pub fn solve_offsets_from(
     requires same_size { (mask.now.width ≡ scene.now.phase.width) × (mask.now.height ≡ scene.now.phase.height) }
     requires regions { AreRegionsOf scene.now.tiling mask.now regions.now }
     requires tiles { IsGoodTileSet scene.now (open_at mask.now) tiles.now }
-    ensures revision { IfOk result (λ solved. solved.revision ≡ revision) }
-    ensures good { IfOk result (IsGoodSeams scene.now mask.now regions.now tiles.now) }
+    ensures { AreOffsetsAt scene.now mask.now regions.now tiles.now revision result }
 {
     let places = TilePlaces::of(alloc, &scene.tiling)?;
     let surface = TileSurface {
@@ -93,8 +91,7 @@ pub fn solve_offsets_side_by_side<R: Threads + Sync>(
     requires same_size { (mask.now.width ≡ scene.now.phase.width) × (mask.now.height ≡ scene.now.phase.height) }
     requires regions { AreRegionsOf scene.now.tiling mask.now regions.now }
     requires tiles { IsGoodTileSet scene.now (open_at mask.now) tiles.now }
-    ensures revision { IfOk result (λ solved. solved.revision ≡ revision) }
-    ensures good { IfOk result (IsGoodSeams scene.now mask.now regions.now tiles.now) }
+    ensures { AreOffsetsAt scene.now mask.now regions.now tiles.now revision result }
 {
     let places = TilePlaces::of(alloc, &scene.tiling)?;
     let surface = TileSurface {
@@ -119,8 +116,7 @@ fn over_links(
     requires regions { AreRegionsOf surface.now.scene.now.tiling surface.now.mask.now regions.now }
     requires links { AreLinks regions.now.count links.items }
     requires seams { AreSeamLinks (raster_of surface.now.scene.now) (open_at surface.now.mask.now) (region_label regions.now) (solved_cycles surface.now.scene.now surface.now.tiles.now.results) links.items }
-    ensures revision { IfOk result (λ solved. solved.revision ≡ revision) }
-    ensures good { IfOk result (IsGoodSeams surface.now.scene.now surface.now.mask.now regions.now surface.now.tiles.now) }
+    ensures { AreOffsetsAt surface.now.scene.now surface.now.mask.now regions.now surface.now.tiles.now revision result }
 {
     let guess = guess_or_solver(alloc, surface, regions, &links, hint)?;
     match judge(alloc, surface, regions, &links, guess, revision)? {
@@ -144,8 +140,7 @@ fn by_network(
     requires offsets { AreStartOffsets regions.now.count start.now.offsets.items }
     requires links { AreLinks regions.now.count start.now.links.items }
     requires seams { AreSeamLinks (raster_of surface.now.scene.now) (open_at surface.now.mask.now) (region_label regions.now) (shifted_by regions.now start.now.offsets.items (solved_cycles surface.now.scene.now surface.now.tiles.now.results)) start.now.links.items }
-    ensures revision { IfOk result (λ solved. solved.revision ≡ revision) }
-    ensures good { IfOk result (IsGoodSeams surface.now.scene.now surface.now.mask.now regions.now surface.now.tiles.now) }
+    ensures { AreOffsetsAt surface.now.scene.now surface.now.mask.now regions.now surface.now.tiles.now revision result }
 {
     let count = regions.count();
     let lanes = lanes(alloc, &start.links, surface.scene.terms.steep, count)?;

@@ -8,7 +8,7 @@ ghost use Rattle.seam_regions.specs.Regions.{AreRegionsOf, region_label};
 ghost use Rattle.std.specs.Int.{div_ceil};
 ghost use Rattle.std.specs.Prelude.{◌≡◌, ◌+◌, ◌*◌, ◌<◌, ◌≤◌, IfOk, length, min};
 
-use crate::links::{links, seam_room, strip_links};
+use crate::links::{links, list_for_rows, strip_links};
 use crate::surface::TileSurface;
 use offset_guess::Link;
 use raster_model::Scene;
@@ -88,8 +88,8 @@ fn links_of_strips<R: Threads + Sync>(
     ensures { IfOk result (λ links. AreLinksOfRows surface.now regions.now 0 surface.now.scene.now.phase.height links.items) }
 {
     find(rt, alloc, strips, surface, regions, rows);
-    let room = seam_room(&surface.scene.tiling, 0, surface.scene.phase.height);
-    let mut links = Vec::with_capacity(alloc, room)?;
+    let scene = surface.scene;
+    let mut links = list_for_rows(alloc, &scene.tiling, 0, scene.phase.height)?;
     for place in 0..strips.len() {
         let Some(more) = strips[place].links.take() else {
             return Err(AllocError);

@@ -7,5 +7,6 @@ pub mod Contents
 pub mod Reading
 pub mod Same
 pub mod Parts
+pub mod Putting
 pub mod Certified
 pub mod Appending

@@ -1,19 +1,18 @@
 ghost use Rattle.sums_and_lists.specs.Sums.{one_if};
 ghost use Rattle.raster_model.specs.Tiles.{tiles_of};
 ghost use Rattle.report_text.specs.Appending.{AreOver, AreSmallItems, IsSmallItem, next_surface};
-ghost use Rattle.report_text.specs.Certified.{IsCertifiedReport};
-ghost use Rattle.report_text.specs.Contents.{IsReport, MayBeInRange};
-ghost use Rattle.report_text.specs.Reports.{HasItsVersion, is_published, item_of, items_of, report_of};
+ghost use Rattle.report_text.specs.Contents.{MayBeInRange};
+ghost use Rattle.report_text.specs.Putting.{PutsReport};
+ghost use Rattle.report_text.specs.Reports.{is_published, item_of, items_of, report_of};
 ghost use Rattle.text_parts.specs.Terms.{terms_of};
 ghost use Rattle.report_text.specs.Terms.{version_on};
 ghost use Rattle.report_text.specs.Text.{after_text, head_text, item_text, report_text, terms_text, tile_line, version_line};
 ghost use Rattle.text_parts.specs.Text.{ended_line};
 ghost use Rattle.std.specs.Prelude.{◌≡◌, [], IfSome, flat_map, map};
 ghost use Rattle.surface_snapshots.specs.Views.{parts_of};
-ghost use Rattle.text_lines.specs.Adding.{Adds, Puts};
+ghost use Rattle.text_lines.specs.Adding.{Adds};
 ghost use Rattle.text_lines.specs.Views.{view_of};
 ghost use Rattle.tile_board.specs.Boards.{IsBoard};
-ghost use Rattle.tile_board.specs.Histories.{IsComplete};
 
 use crate::entry::add_entry;
 use crate::scribe::{OneThread, Scribe, SideBySide};
@@ -31,11 +30,7 @@ use tile_board::{Board, Entry};
 /// surface with its costs, faces and flows, and the line `end`. It takes no memory. After a fault the sink has a
 /// part of the text. The text can be read: each of its numbers is in its range.
 pub fn write_report<K: Sink>(board: &Board, sink: &mut K) -> Result<(), WriteFault>
-    ensures text { Puts (K.held sink.old) (K.faults sink.old) (K.held sink.new) (K.faults sink.new) (report_text (report_of board.now.session board.now.entries board.now.surfaces)) result }
-    ensures ranges { IsReport (report_of board.now.session board.now.entries board.now.surfaces) }
-    // Version 1 exactly if the terms are the plain ones.
-    ensures versioned { HasItsVersion (report_of board.now.session board.now.entries board.now.surfaces) }
-    ensures certified { IsComplete board.now.session board.now.entries → IsCertifiedReport board.now.session (report_of board.now.session board.now.entries board.now.surfaces) }
+    ensures { PutsReport (K.held sink.old) (K.faults sink.old) (K.held sink.new) (K.faults sink.new) board.now result }
 {
     write_by(&mut OneThread, board, sink)
 }
@@ -48,10 +43,7 @@ pub fn write_report_side_by_side<R: Threads + Sync, K: Sink>(
     board: &Board,
     sink: &mut K,
 ) -> Result<(), WriteFault>
-    ensures text { Puts (K.held sink.old) (K.faults sink.old) (K.held sink.new) (K.faults sink.new) (report_text (report_of board.now.session board.now.entries board.now.surfaces)) result }
-    ensures ranges { IsReport (report_of board.now.session board.now.entries board.now.surfaces) }
-    ensures versioned { HasItsVersion (report_of board.now.session board.now.entries board.now.surfaces) }
-    ensures certified { IsComplete board.now.session board.now.entries → IsCertifiedReport board.now.session (report_of board.now.session board.now.entries board.now.surfaces) }
+    ensures { PutsReport (K.held sink.old) (K.faults sink.old) (K.held sink.new) (K.faults sink.new) board.now result }
 {
     write_by(&mut SideBySide { rt, pages }, board, sink)
 }
@@ -63,10 +55,7 @@ fn write_by<K: Sink, C: Scribe>(
     sink: &mut K,
 ) -> Result<(), WriteFault>
     requires { C.ready scribe.old }
-    ensures text { Puts (K.held sink.old) (K.faults sink.old) (K.held sink.new) (K.faults sink.new) (report_text (report_of board.now.session board.now.entries board.now.surfaces)) result }
-    ensures ranges { IsReport (report_of board.now.session board.now.entries board.now.surfaces) }
-    ensures versioned { HasItsVersion (report_of board.now.session board.now.entries board.now.surfaces) }
-    ensures certified { IsComplete board.now.session board.now.entries → IsCertifiedReport board.now.session (report_of board.now.session board.now.entries board.now.surfaces) }
+    ensures { PutsReport (K.held sink.old) (K.faults sink.old) (K.held sink.new) (K.faults sink.new) board.now result }
 {
     let mut text = TextWriter::new(sink);
     add_board(&mut text, scribe, board);

@@ -18,7 +18,7 @@ pub loop-y-init : goal.loop-y-init
 loop-y-init c =
     let k = c.args.surface.now in
     let r = raster_of k.scene.now in
-    let none = c.in_ok-links.ensures.items in
+    let none = c.in_ok-links.ensures.0 in
     record {
       counted = (let n = ap length none in omega (arith, n));
       placed = strip_begun r (open_at k.mask.now) (region_label c.args.regions.now) (solved_cycles k.scene.now k.tiles.now.results) c.args.first c.in_ok-links.links.items;

@@ -1,4 +1,4 @@
-use Rattle.std.proofs.Common.{◌≡◌, ℕ, subst, length, rules, to_z, of_z, w64}
+use Rattle.std.proofs.Common.{◌≡◌, ℕ, refl, subst, length, rules, to_z, of_z, w64}
 use Rattle.std.proofs.lemmas.Int.{to_z-of_z}
 use Rattle.flow_network.specs.Views.{shape_of, state_of}
 use Rattle.offset_network.specs.Lanes.{AreLanesOf}
@@ -6,8 +6,8 @@ use Rattle.offset_network.specs.Networks.{AreFlows, AreLowered, AreSums, IsSolve
 use Rattle.offset_network.proofs.SolvedLemmas.{good_seams}
 use Rattle.offset_network.proofs.solving.by_network.Goals as goal
 
-pub returns-clause-good : goal.returns-clause-good
-returns-clause-good c =
+pub returns : goal.returns
+returns c =
     let net = c.in_ok-net.net in
     let u = c.args.surface.now in
     let v = c.args.regions.now in
@@ -23,5 +23,8 @@ returns-clause-good c =
     let sums = subst (λ (n : ℕ). AreSums parts n c.in_ok-flows.flows.items) c.args.start.now.links.ok.0 (rw (c.deref-4.ensures.value, c.len.ensures) at c.in_ok-flows.ensures) in
     let lowered : AreLowered start f c.anchor-by.result (shape_of net).nodes c.in_ok-offsets.offsets.items = rw (c.deref-6.ensures.value, by) at c.in_ok-offsets.ensures in
     let anchor = rw c.deref-5.ensures.value at c.anchor-by.ensures.value in
-    good_seams u.scene.now u.mask.now v u.tiles.now (record { revision = c.args.revision; offsets = c.in_ok-offsets.offsets; flows = c.in_ok-flows.flows })
-    start links lanes parts (shape_of net) f c.anchor-by.result c.requires.regions c.requires.offsets c.requires.seams parted net.is_network solved told sums lowered anchor c.anchor-by.ensures.low c.anchor-by.ensures.high
+    record {
+      revision = refl;
+      good = good_seams u.scene.now u.mask.now v u.tiles.now (record { revision = c.args.revision; offsets = c.in_ok-offsets.offsets; flows = c.in_ok-flows.flows })
+          start links lanes parts (shape_of net) f c.anchor-by.result c.requires.regions c.requires.offsets c.requires.seams parted net.is_network solved told sums lowered anchor c.anchor-by.ensures.low c.anchor-by.ensures.high;
+    }

@@ -42,13 +42,13 @@ read_cause asked r refusal kept h = (h, kept)
 pub answer_input : (asked : Request) (bytes : List ℕ) (status : ℕ) (text : List ℕ) → IsAnswerTo asked bytes status text → IsInputTo asked bytes
 answer_input (Unwrap settings) bytes status text a = (session_of a.1.session, a.1.given.spelled)
 answer_input (Grid settings) bytes status text a = (session_of a.1.session, a.1.given.spelled)
-answer_input (Check settings) bytes status text a = (session_of a.1.0.session, report_text a.1.0.report, (a.1.0.both.spelled, ((a.1.0.report, (a.1.0.in_range, refl)), a.1.0.both.within)))
+answer_input (Check settings) bytes status text a = (session_of a.1.0.session, report_text a.1.0.told, (a.1.0.both.spelled, ((a.1.0.told, (a.1.0.in_range, refl)), a.1.0.both.within)))
 answer_input (Trial trial) bytes status text a = tt
 answer_input (Screen screening) bytes status text a = (session_of a.1.session, a.1.spelled)
 answer_input Closure bytes status text a = loop_input bytes a.1.0 a.1.1.0
 answer_input (Displacement displacing) bytes status text a = sight_input (sight_of displacing) bytes a.1.output a.1.displaced
 answer_input (Whole settings) bytes status text a = (session_of a.1.session, a.1.given.spelled)
-answer_input (CheckWhole settings) bytes status text a = (session_of a.1.0.session, whole_text a.1.0.whole, (a.1.0.both.spelled, ((a.1.0.whole, (a.1.0.in_range, refl)), a.1.0.both.within)))
+answer_input (CheckWhole settings) bytes status text a = (session_of a.1.0.session, whole_text a.1.0.told, (a.1.0.both.spelled, ((a.1.0.told, (a.1.0.in_range, refl)), a.1.0.both.within)))
 answer_input (Watch watching) bytes status text a = (session_of a.1.session, a.1.given.spelled)
 answer_input Nearest bytes status text a = nearest_input bytes a.1.output a.1.nearest
 

@@ -6,13 +6,14 @@ use Rattle.insar_ports.specs.Bytes.{HasMore, with_end, with_front}
 use Rattle.insar_ports.specs.Calls.{Call, Takes}
 use Rattle.insar_ports.proofs.CallLemmas.{at_told, if_told, risen_before}
 use Rattle.raster_model.specs.declared.session.Session.{Session}
-use Rattle.raster_model.specs.Sessions.{HasNewTerms}
+use Rattle.edge_weights.specs.declared.settings.SceneSettings.{SceneSettings}
+use Rattle.edge_weights.specs.Sessions.{HasSettings}
 use Rattle.insar_words.specs.Asked.{Options}
 use Rattle.insar_words.specs.Requests.{options_of}
 use Rattle.insar_words.specs.declared.settings.Settings.{Settings}
 use Rattle.session_script.specs.declared.session_use.SessionUse.TheVariants.{BeforeReport}
 use Rattle.session_script.specs.Reaching.{Reaches}
-use Rattle.session_script.specs.Sessions.{IsSameSession, IsSessionIn, SessionOf, session_of}
+use Rattle.session_script.specs.Sessions.{IsSameSession, IsSessionIn, session_of}
 use Rattle.session_script.proofs.AskSession.{no_fault_of_session}
 use Rattle.session_script.proofs.SessionAgain.{one_session}
 use Rattle.text_lines.specs.Forms.{Begins, EndsIn, Form}
@@ -25,20 +26,19 @@ use Rattle.report_check.specs.Same.{IsSameInput, IsSamePlane}
 use Rattle.answer_lines.specs.Refusals.{report_refusal}
 use Rattle.answer_lines.specs.declared.refusal.Refusal.{Refusal}
 use Rattle.answer_lines.specs.declared.refusal.Refusal.TheVariants as refusals
-use Rattle.insar_top.specs.Both.{AfterSession, AreRead, BreaksBothBy, IsBoth, IsCheckableBy, IsFirstRead, IsStatusBy, IsToldBy, IsTooLong, IsVerdictBy, most_of_text}
+use Rattle.insar_top.specs.Both.{AfterSession, AreRead, BreaksBothBy, IsBoth, IsCheckableBy, IsFirstRead, IsJudgedBy, IsStatusBy, IsToldBy, IsTooLong, IsVerdictBy, most_of_text}
 use Rattle.insar_top.specs.Causes.{HasReadCause}
 use Rattle.insar_top.specs.Options.{HasOptions}
 use Rattle.insar_top.specs.Run.{ReadsAll, Run}
-use Rattle.insar_top.proofs.SessionLemmas.{nothing_left, on_options, same_terms, same_text}
+use Rattle.insar_top.proofs.SessionLemmas.{nothing_left, on_options, same_terms}
 
 -- ---- the session
 
--- it was read from the front, and is now on the terms of the settings
-pub first_read : (settings : Settings) (plain s : Session) → (plain.scene.rule ≡ settings.rule) × (plain.scene.tiling.side ≡ settings.side) → HasNewTerms plain settings.terms s → (c : Call) (left : Option (List ℕ)) → left ≡ c.left
-    → Reaches c (λ bytes rest. IsSessionIn BeforeReport settings.side bytes (session_of plain) rest) → IsFirstRead (options_of settings) c.told left s
-first_read settings plain s scene new c left is reaches = if_told c.told _ (λ bytes t.
+-- it was read from the front, and is on the options of the settings
+pub first_read : (settings : Settings) (scene : SceneSettings) (s : Session) → (scene.side ≡ settings.side) × ((scene.rule ≡ settings.rule) × (scene.terms ≡ settings.terms)) → HasSettings scene s.scene → (c : Call) → Reaches c (λ bytes rest. IsSessionIn BeforeReport scene.side bytes (session_of s) rest) → IsFirstRead (options_of settings) c.told c.left s
+first_read settings scene s is has c reaches = if_told c.told _ (λ bytes t.
     let h = at_told c.told _ bytes t reaches in
-    (h.0, (is ∙ h.1.0, (subst (λ (o : SessionOf). IsSessionIn BeforeReport settings.side bytes o h.0) (same_text new) h.1.1.1, on_options settings new scene.0 scene.1))))
+    (h.0, (h.1.0, (subst (λ (side : ℕ). IsSessionIn BeforeReport side bytes (session_of s) h.0) is.0 h.1.1.1, on_options settings scene s is has))))
 
 -- two sessions that bytes spell on the same options tell the same
 same_plane : (p q : Plane) → plane_of p ≡ plane_of q → IsSamePlane p q
@@ -129,6 +129,16 @@ module _ (F : Form) (side : ℕ) (bytes : List ℕ) (checkable : IsCheckableBy F
   not_checkable refusal h = h
 
 -- ---- a verdict
+
+-- a text that answers, after its session and not too long, is judged
+pub judged_after : {T V : Type 0} {text_of : T → List ℕ} {InRange : T → Type 0} {IsVerdict : Session → T → V → Type 0} {verdict : V} (options : Options) (bytes : List ℕ) (s : Session) (told : T) (text : List ℕ) → text ≡ text_of told → IsSessionIn BeforeReport options.side bytes (session_of s) text → HasOptions options s → length text ≤ most_of_text → InRange told → IsVerdict s told verdict → IsJudgedBy text_of InRange IsVerdict options bytes verdict
+judged_after {text_of = text_of} options bytes s told text e spelled on short ranges is = record {
+  session = s;
+  told = told;
+  both = record { spelled = subst (λ (t : List ℕ). IsSessionIn BeforeReport options.side bytes (session_of s) t) e spelled; options_are = on; within = subst (λ (t : List ℕ). length t ≤ most_of_text) e short };
+  in_range = ranges;
+  verdict_is = is;
+}
 
 module _ {V : Type 0} (good : V) (line_of : V → List ℕ) where
   pub small_verdict : (verdict : V) (status : ℕ) → IsStatusBy good verdict status → status ≤ 1

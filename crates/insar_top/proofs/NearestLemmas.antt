@@ -16,13 +16,15 @@ use Rattle.nearest_surface.proofs.ValueLemmas.{not_wide}
 use Rattle.pgm_planes.specs.Planes.{PlaneOf}
 use Rattle.session_script.specs.declared.session_use.SessionUse.TheVariants.{BeforeReport}
 use Rattle.session_script.specs.Reaching.{Reaches}
-use Rattle.session_script.specs.Sessions.{IsSameSession, IsSessionIn, SessionOf}
+use Rattle.session_script.specs.declared.fault.SessionFault.{SessionFault}
+use Rattle.session_script.specs.Causes.{HasSessionCause}
+use Rattle.session_script.specs.Sessions.{HasFault, IsSameSession, IsSessionIn, SessionOf}
 use Rattle.session_script.proofs.AskSession.{no_fault_of_session}
 use Rattle.session_script.proofs.SessionAgain.{one_session}
 use Rattle.insar_words.specs.declared.request.Request.TheVariants.{Nearest}
 use Rattle.answer_lines.specs.declared.refusal.Refusal.{Refusal}
 use Rattle.answer_lines.specs.declared.refusal.Refusal.TheVariants as refusals
-use Rattle.answer_lines.specs.Refusals.{grids_refusal, nearest_refusal}
+use Rattle.answer_lines.specs.Refusals.{grids_refusal, nearest_refusal, session_refusal}
 use Rattle.insar_top.specs.Answers.{IsAnswerTo, IsUsedUp}
 use Rattle.insar_top.specs.Both.{AfterSession}
 use Rattle.insar_top.specs.Causes.{HasReadCause}
@@ -30,6 +32,7 @@ use Rattle.insar_top.specs.Grids.{AreGridsIn, BreaksManyAt, max_grids_bytes}
 use Rattle.insar_top.specs.Nearest.{AreSessionAndGrid, BreaksNearest, HasNearest, HasNearestFault, IsNearestInput, nearest_side, phase_told}
 use Rattle.insar_top.specs.Run.{ReadsAll, Run}
 use Rattle.insar_top.proofs.GridsLemmas.{cause_at, no_grids_at, read_at, same_grids}
+use Rattle.insar_top.proofs.SessionLemmas.{reaches_after, session_cause}
 
 -- ---- the grid after a session
 
@@ -69,9 +72,13 @@ module _ (s : SessionOf) (told : Option (List ℕ)) (at : ℕ) (start : at ≡ 0
       let u = at_told c.told _ f.0 f.1.0 (read_at 1 c room pending source (g ∷ []) is within are took) in
       ((f.0, (f.1.1.1, u.0)), u.1))
 
--- what a call reaches is reached where no more is taken
-pub reaches_after : (a : Call) (left : Option (List ℕ)) (end : ℕ) (P : List ℕ → List ℕ → Type 0) → left ≡ a.left → end ≡ a.end → Reaches a P → IfSome a.told (λ bytes. (rest : List ℕ) × ((left ≡ Some rest) × ((end + length rest ≡ a.at + length bytes) × P bytes rest)))
-reaches_after a left end P l e r = if_told a.told _ (λ bytes t. let h = at_told a.told _ bytes t r in (h.0, (l ∙ h.1.0, (ap (λ (n : ℕ). n + length h.0) e ∙ h.1.1.0, h.1.1.1))))
+-- where the session was read by a call, with tiles of the side of the command
+pub read_before : (side : ℕ) → side ≡ nearest_side → (told : Option (List ℕ)) (a c : Call) → a.told ≡ told → c.told ≡ a.left → c.at ≡ a.end → (s : SessionOf) → Reaches a (λ bytes rest. IsSessionIn BeforeReport side bytes s rest) → IsReadBefore told a.at c s
+read_before side is told a c e left at s reaches = subst (λ (o : Option (List ℕ)). IsReadBefore o a.at c s) e (subst (λ (n : ℕ). IfSome a.told (λ bytes. (rest : List ℕ) × ((c.told ≡ Some rest) × ((c.at + length rest ≡ a.at + length bytes) × IsSessionIn BeforeReport n bytes s rest)))) is (reaches_after a c.told c.at (λ bytes rest. IsSessionIn BeforeReport side bytes s rest) left at reaches))
+
+-- or was not read
+pub unread_before : (side : ℕ) → side ≡ nearest_side → (a : Call) (fault : SessionFault) → HasSessionCause BeforeReport side a fault → HasReadCause BreaksNearest a.told a.before a.after (session_refusal fault)
+unread_before side is a fault h = session_cause BeforeReport side BreaksNearest (λ bytes other f. subst (λ (n : ℕ). HasFault BeforeReport n bytes other) is f) a fault h
 
 -- the one grid of a list is its last
 pub one_grid : (items front : List Grid) (g : Grid) → length (grids_of items) ≡ 1 → items ≡ front ++ g ∷ [] → grids_of items ≡ grid_of g ∷ []

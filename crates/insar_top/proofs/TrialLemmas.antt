@@ -1,26 +1,23 @@
 -- A trial's session, what is written of it, and that its words determine the text.
 use Rattle.std.proofs.Common.{◌≡◌, ◌∙◌, ℕ, ◌+◌, ◌*◌, ◌/◌, ◌%◌, ◌<◌, false, true, [], length, refl, sym, ap, ap₂, subst, arith, true≢false}
-use Rattle.std.specs.Global.{Vec}
 use Rattle.std.specs.Prelude.{slice_index}
 use Rattle.std.proofs.lemmas.Bool.Decides.{nat_tests}
 use Rattle.std.proofs.lemmas.Grind.{same_number_lists}
 use Rattle.std.proofs.lemmas.Nat.{div-add-mod', div_below, mod_below}
 use Rattle.pgm_planes.specs.Planes.{PlaneOf}
 use Rattle.raster_model.specs.declared.plane.Plane.{Plane}
-use Rattle.raster_model.specs.declared.script.Script.{Script}
 use Rattle.raster_model.specs.declared.session.Session.{Session}
 use Rattle.raster_model.specs.Limits.{is_raster_size}
-use Rattle.raster_model.specs.MaskView.{MaskView}
-use Rattle.raster_model.specs.Masks.{IsMaskOf, open_at}
+use Rattle.raster_model.specs.Masks.{open_at}
 use Rattle.raster_model.specs.Planes.{plane_sample}
 use Rattle.raster_model.specs.Raster.{Raster}
 use Rattle.raster_model.specs.Scene.{raster_of}
 use Rattle.raster_model.specs.Sums.{Field}
-use Rattle.trial_maker.specs.Trials.{AreTrialScripts, IsTrial, is_open, phase_of, state_at, weight_of}
-use Rattle.raster_model.specs.Sessions.{HasNewTerms}
+use Rattle.edge_weights.specs.declared.settings.SceneSettings.{SceneSettings}
+use Rattle.edge_weights.specs.Sessions.{HasSettings}
+use Rattle.trial_maker.specs.Trials.{IsTrialOf}
 use Rattle.insar_words.specs.Asked.{Options}
 use Rattle.insar_words.specs.Requests.{options_of}
-use Rattle.insar_top.specs.Options.{HasOptions}
 use Rattle.insar_top.proofs.SessionLemmas.{on_options, same_terms}
 use Rattle.report_check.specs.Same.{IsSameInput, IsSamePlane}
 use Rattle.report_check.proofs.EqualSessions.{are_alike}
@@ -44,9 +41,9 @@ sample_in p x y = slice_index p.samples (y * p.width + x)
 abbrev pub IsAsked : TrialSession → Session → Type 0
 IsAsked t s = IsTrialSession t.seed t.width t.height (options_of t.settings) s
 
--- the board's session is the trial's, on the terms of the words
-pub trial_again : (t : TrialSession) (s on_terms made : Session) → s ≡ on_terms → HasNewTerms made t.settings.terms on_terms → IsTrial t.seed t.width t.height t.settings.side t.settings.rule made → IsAsked t s
-trial_again t s on_terms made same new is = subst (IsAsked t) (sym same) (record { plain = made; terms = t.settings.terms; made = is; changed = new; options_are = on_options t.settings new is.rule is.tiles })
+-- the board's session is the trial's, on the options of the words
+pub trial_again : (t : TrialSession) (scene : SceneSettings) (s made : Session) → s ≡ made → (scene.side ≡ t.settings.side) × ((scene.rule ≡ t.settings.rule) × (scene.terms ≡ t.settings.terms)) → IsTrialOf t.seed t.width t.height made → HasSettings scene made.scene → IsAsked t s
+trial_again t scene s made same is of has = subst (IsAsked t) (sym same) (record { made = of; options_are = on_options t.settings scene made is has })
 
 -- ---- what is written
 
@@ -97,31 +94,13 @@ module _ (p q : Plane) (w h : ℕ) (f : Field ℕ) (sizes : (p.width ≡ w) × (
   same_plane : p.maxval ≡ q.maxval → IsSamePlane p q
   same_plane e = record { width = sizes.0 ∙ sym sizes.1.1.0; height = sizes.1.0 ∙ sym sizes.1.1.1; maxval = e; samples = same_samples }
 
--- the session is the trial's but for its terms
-record IsTrialIn (seed w h : ℕ) (options : Options) (s : Session) : Type 0 where
-  size : (s.scene.phase.width ≡ w) × (s.scene.phase.height ≡ h)
-  phases : (x y : ℕ) → x < w → y < h → plane_sample s.scene.phase x y ≡ phase_of (state_at seed w x y) x y
-  greatest_weight : s.scene.weights.maxval ≡ 256
-  weights : (x y : ℕ) → x < w → y < h → plane_sample s.scene.weights x y ≡ weight_of (state_at seed w x y)
-  mask : IsMaskOf s.first_mask w h (λ x y. is_open (state_at seed w x y))
-  scripts : AreTrialScripts s.scripts.items
-  options_are : HasOptions options s
+module _ (seed w h : ℕ) (options : Options) (s t : Session) (on : IsTrialSession seed w h options s) (too : IsTrialSession seed w h options t) where
+  abbrev one : IsTrialOf seed w h s
+  one = on.made
 
-trial_in : (seed w h : ℕ) (options : Options) (s : Session) → IsTrialSession seed w h options s → IsTrialIn seed w h options s
-trial_in seed w h options s is =
-    let m = is.made in
-    let new = is.changed in
-    record {
-      size = subst (λ (p : Plane). (p.width ≡ w) × (p.height ≡ h)) (sym new.phase) m.size;
-      phases = subst (λ (p : Plane). (x y : ℕ) → x < w → y < h → plane_sample p x y ≡ phase_of (state_at seed w x y) x y) (sym new.phase) m.phases;
-      greatest_weight = ap (λ (p : Plane). p.maxval) new.weights ∙ m.greatest_weight;
-      weights = subst (λ (p : Plane). (x y : ℕ) → x < w → y < h → plane_sample p x y ≡ weight_of (state_at seed w x y)) (sym new.weights) m.weights;
-      mask = subst (λ (v : MaskView). IsMaskOf v w h (λ x y. is_open (state_at seed w x y))) (sym new.first_mask) m.mask;
-      scripts = subst (λ (v : Vec Script). AreTrialScripts v.items) (sym new.scripts) m.scripts;
-      options_are = is.options_are;
-    }
+  abbrev other : IsTrialOf seed w h t
+  other = too.made
 
-module _ (seed w h : ℕ) (options : Options) (s t : Session) (one : IsTrialIn seed w h options s) (other : IsTrialIn seed w h options t) where
   unmasked : (x y : ℕ) → x < w → y < h → open_at s.first_mask x y ≡ open_at t.first_mask x y
   unmasked x y l m = one.mask.clear_at x y l m ∙ sym (other.mask.clear_at x y l m)
 
@@ -131,9 +110,9 @@ module _ (seed w h : ℕ) (options : Options) (s t : Session) (one : IsTrialIn s
     weights = same_plane s.scene.weights t.scene.weights w h _
         (s.scene.same_width.0 ∙ one.size.0, (s.scene.same_height.0 ∙ one.size.1, (t.scene.same_width.0 ∙ other.size.0, t.scene.same_height.0 ∙ other.size.1)))
         one.weights other.weights (one.greatest_weight ∙ sym other.greatest_weight);
-    rule = one.options_are.rule ∙ sym other.options_are.rule;
-    side = one.options_are.side ∙ sym other.options_are.side;
-    terms = same_terms options s t one.options_are other.options_are;
+    rule = on.options_are.rule ∙ sym too.options_are.rule;
+    side = on.options_are.side ∙ sym too.options_are.side;
+    terms = same_terms options s t on.options_are too.options_are;
     commands = one.scripts ∙ sym other.scripts;
     unmasked = λ x y l m. unmasked x y (rw one.size.0 at l) (rw one.size.1 at m);
   }
@@ -145,11 +124,11 @@ pub trials_have_one_text : TrialsHaveOneText
 trials_have_one_text seed w h options text another a b =
     let s = a.session in
     let t = b.session in
-    let one = trial_in seed w h options s a.made in
-    let other = trial_in seed w h options t b.made in
-    let raster = same_raster seed w h options s t one other in
+    let one = a.made.made in
+    let other = b.made.made in
+    let raster = same_raster seed w h options s t a.made b.made in
     let sizes : (s.scene.phase.width ≡ t.scene.phase.width) × (s.scene.phase.height ≡ t.scene.phase.height) = (one.size.0 ∙ sym other.size.0, one.size.1 ∙ sym other.size.1) in
-    let clear : (x y : ℕ) → x < s.scene.phase.width → y < s.scene.phase.height → open_at s.first_mask x y ≡ open_at t.first_mask x y = λ x y l m. unmasked seed w h options s t one other x y (rw one.size.0 at l) (rw one.size.1 at m) in
+    let clear : (x y : ℕ) → x < s.scene.phase.width → y < s.scene.phase.height → open_at s.first_mask x y ≡ open_at t.first_mask x y = λ x y l m. unmasked seed w h options s t a.made b.made x y (rw one.size.0 at l) (rw one.size.1 at m) in
     let pixels : s.scene.phase.width * s.scene.phase.height ≡ t.scene.phase.width * t.scene.phase.height = ap₂ ◌*◌ sizes.0 sizes.1 in
     let residues : residues_of (raster_of s.scene) ≡ residues_of (raster_of t.scene) = ap residues_of raster in
     let unmasked : open_pixels_of s ≡ open_pixels_of t = grid_same s.scene.phase.width s.scene.phase.height (open_at s.first_mask) (open_at t.first_mask) clear ∙ ap₂ (λ (width height : ℕ). count_grid width height (open_at t.first_mask)) sizes.0 sizes.1 in

@@ -1,5 +1,5 @@
 -- What a run of `whole` and of `check-whole` promises.
-use Rattle.std.proofs.Common.{◌≡◌, ◌∙◌, ℕ, ◌+◌, ◌-◌, ◌*◌, ◌<◌, ◌≤◌, ◌&&◌, Bool, List, length, Option, refl, sym, ap, ap₂, subst, arith}
+use Rattle.std.proofs.Common.{◌≡◌, ◌∙◌, ℕ, ◌+◌, ◌-◌, ◌*◌, ◌<◌, ◌&&◌, Bool, length, refl, sym, ap, ap₂, subst, arith}
 use Rattle.std.specs.Prelude.{ℤ, pos, IfSome}
 use Rattle.std.proofs.Math.Nat.{mul_comm}
 use Rattle.std.proofs.lemmas.Bool.{lt-ltb}
@@ -23,25 +23,20 @@ use Rattle.whole_text.specs.Told.{AreFewCycles, told_whole}
 use Rattle.whole_text.proofs.SameLemmas.{wholes_unique}
 use Rattle.insar_ports.proofs.CallLemmas.{at_told, if_told}
 use Rattle.raster_model.specs.declared.session.Session.{Session}
-use Rattle.insar_words.specs.Asked.{Options}
 use Rattle.insar_words.specs.Requests.{options_of}
 use Rattle.insar_words.specs.declared.request.Request.TheVariants.{Whole}
 use Rattle.insar_words.specs.declared.settings.Settings.{Settings}
-use Rattle.session_script.specs.declared.session_use.SessionUse.TheVariants.{BeforeReport}
-use Rattle.session_script.specs.Sessions.{IsSessionIn, session_of}
 use Rattle.whole_text.specs.Text.{IsWhole, WholeOf, whole_text}
-use Rattle.whole_check.specs.declared.verdict.WholeVerdict.{WholeVerdict}
 use Rattle.whole_check.specs.Same.{IsSolvedWhole}
-use Rattle.whole_check.specs.Verdicts.{IsCertifiedText, IsWholeVerdict, surface_told}
+use Rattle.whole_check.specs.Verdicts.{IsCertifiedText, surface_told}
 use Rattle.whole_check.proofs.SameLemmas.{certified_wholes_are_accepted}
 use Rattle.whole_check.proofs.UniqueLemmas.{wholes_have_one_verdict}
 use Rattle.insar_top.specs.Answers.{IsAnswerTo, IsUsedUp}
-use Rattle.insar_top.specs.Both.{AreRead, most_of_text}
-use Rattle.insar_top.specs.CheckWhole.{AcceptedWholesAreLeast, BytesHaveOneWholeVerdict, IsWholeJudged, WholesAreAccepted}
+use Rattle.insar_top.specs.CheckWhole.{AcceptedWholesAreLeast, BytesHaveOneWholeVerdict, WholesAreAccepted}
 use Rattle.insar_top.specs.Run.{ReadsAll, Run}
 use Rattle.insar_top.specs.Unwrap.{IsGiven}
 use Rattle.insar_top.specs.Whole.{IsWholeOf}
-use Rattle.insar_top.proofs.BothLemmas.{same_both}
+use Rattle.insar_top.proofs.BothLemmas.{judged_after, same_both}
 use Rattle.insar_top.proofs.WholeAgain.{whole_verdict_too}
 
 -- ---- what was solved can be written, and is what a whole surface has to be
@@ -93,31 +88,14 @@ whole_ready settings r s w read told ranges = if_told r.told _ (λ bytes t.
     let k = at_told r.told _ bytes t read in
     ((refl, record { session = s; whole = w; given = k.0; told = told; in_range = ranges; written = refl }), k.1))
 
--- a verdict on both is one on the bytes
-pub whole_judged : (options : Options) (told left : Option (List ℕ)) (s : Session) (w : WholeOf) (verdict : WholeVerdict) → IsWhole w → IsWholeVerdict s w verdict → AreRead options told left s (whole_text w) → ReadsAll told left (λ bytes. IsWholeJudged options bytes verdict)
-whole_judged options told left s w verdict ranges is read = if_told told _ (λ bytes t.
-    let k = at_told told _ bytes t read in
-    let judged : IsWholeJudged options bytes verdict = record { session = s; whole = w; both = k.0; in_range = ranges; verdict_is = is } in
-    (judged, k.1))
-
 pub wholes_are_accepted : WholesAreAccepted
-wholes_are_accepted options bytes text both answer short spelled = record {
-  session = answer.session;
-  whole = answer.whole;
-  both = record {
-    spelled = subst (λ (t : List ℕ). IsSessionIn BeforeReport options.side both (session_of answer.session) t) answer.written spelled;
-    options_are = answer.given.options_are;
-    within = subst (λ (t : List ℕ). length t ≤ most_of_text) answer.written short;
-  };
-  in_range = answer.in_range;
-  verdict_is = answer.told.certified;
-}
+wholes_are_accepted options bytes text both answer short spelled = judged_after options both answer.session answer.whole text answer.written spelled answer.given.options_are short answer.in_range answer.told.certified
 
 pub accepted_wholes_are_least : AcceptedWholesAreLeast
-accepted_wholes_are_least options bytes j = (of_certified j.session j.whole j.verdict_is).least
+accepted_wholes_are_least options bytes j = (of_certified j.session j.told j.verdict_is).least
 
 pub bytes_have_one_whole_verdict : BytesHaveOneWholeVerdict
 bytes_have_one_whole_verdict options bytes one other a j =
-    let same = same_both options bytes a.session j.session (whole_text a.whole) (whole_text j.whole) a.both j.both in
-    let equal = wholes_unique a.whole j.whole a.in_range j.in_range same.1 in
-    wholes_have_one_verdict j.session j.whole one other (whole_verdict_too a.session j.session a.whole j.whole same.0 equal one a.verdict_is) j.verdict_is
+    let same = same_both options bytes a.session j.session (whole_text a.told) (whole_text j.told) a.both j.both in
+    let equal = wholes_unique a.told j.told a.in_range j.in_range same.1 in
+    wholes_have_one_verdict j.session j.told one other (whole_verdict_too a.session j.session a.told j.told same.0 equal one a.verdict_is) j.verdict_is

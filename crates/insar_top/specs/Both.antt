@@ -52,6 +52,14 @@ IsFirstRead options told left session = IfSome told (λ bytes. (rest : List ℕ)
 
 -- ---- verdicts, one of which is the good one
 
+-- the bytes are the text of a session and then of what is told, in its ranges, for which, on these options, this is the verdict
+pub record IsJudgedBy {T V : Type 0} (text_of : T → List ℕ) (InRange : T → Type 0) (IsVerdict : Session → T → V → Type 0) (options : Options) (bytes : List ℕ) (verdict : V) : Type 0 where
+  pub session : Session
+  pub told : T
+  pub both : IsBoth options bytes session (text_of told)
+  pub in_range : InRange told
+  pub verdict_is : IsVerdict session told verdict
+
 -- the status is 0 if the verdict is the good one, and 1 if it is not
 abbrev pub IsStatusBy : {V : Type 0} → V → V → ℕ → Type 0
 IsStatusBy good verdict status = ((verdict ≡ good) × (status ≡ 0)) ⊎ ((verdict ≢ good) × (status ≡ 1))

@@ -1,16 +1,14 @@
 -- What `check` reads, which is a session and then a report, and what it answers.
 use Rattle.std.specs.Prelude.{◌≡◌, ◌≤◌, ℕ, List, length}
-use Rattle.raster_model.specs.declared.session.Session.{Session}
 use Rattle.insar_words.specs.Asked.{Options}
 use Rattle.session_script.specs.declared.session_use.SessionUse.TheVariants.{BeforeReport}
 use Rattle.session_script.specs.Sessions.{IsSessionIn, session_of}
 use Rattle.report_text.specs.Contents.{IsReport, IsReportText}
-use Rattle.report_text.specs.Reports.{ReportOf}
 use Rattle.report_text.specs.Text.{report_text}
 use Rattle.report_check.specs.declared.verdict.CheckVerdict.{CheckVerdict}
 use Rattle.report_check.specs.declared.verdict.CheckVerdict.TheVariants.{Accepted}
 use Rattle.report_check.specs.Verdicts.{IsCheckVerdict}
-use Rattle.insar_top.specs.Both.{BreaksBothBy, IsBoth, IsCheckableBy, IsStatusBy, IsToldBy, IsVerdictBy, most_of_text}
+use Rattle.insar_top.specs.Both.{BreaksBothBy, IsCheckableBy, IsJudgedBy, IsStatusBy, IsToldBy, IsVerdictBy, most_of_text}
 use Rattle.insar_top.specs.Run.{Run}
 use Rattle.insar_top.specs.Unwrap.{IsReportAnswer}
 use Rattle.answer_lines.specs.declared.refusal.Refusal.{Refusal}
@@ -25,12 +23,8 @@ abbrev pub BreaksBoth : ℕ → List ℕ → Refusal → Type 0
 BreaksBoth side bytes refusal = BreaksBothBy IsReportText side bytes refusal
 
 -- the bytes are the text of a session and then of a report that is not too long, for which, on these options, this is the verdict
-pub record IsJudged (options : Options) (bytes : List ℕ) (verdict : CheckVerdict) : Type 0 where
-  pub session : Session
-  pub report : ReportOf
-  pub both : IsBoth options bytes session (report_text report)
-  pub in_range : IsReport report
-  pub verdict_is : IsCheckVerdict session report verdict
+abbrev pub IsJudged : Options → List ℕ → CheckVerdict → Type 0
+IsJudged options bytes verdict = IsJudgedBy report_text IsReport IsCheckVerdict options bytes verdict
 
 -- the status is 0 if the report is accepted, and 1 if it is not
 abbrev pub IsStatusOf : CheckVerdict → ℕ → Type 0

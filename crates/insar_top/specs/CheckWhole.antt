@@ -1,17 +1,16 @@
 -- What `check-whole` reads, which is a session and then the text of a whole surface, and what it answers.
 use Rattle.std.specs.Prelude.{◌≡◌, ◌≤◌, ℕ, List, length}
-use Rattle.raster_model.specs.declared.session.Session.{Session}
 use Rattle.raster_model.specs.Masks.{open_at}
 use Rattle.raster_model.specs.Scene.{raster_of}
 use Rattle.insar_words.specs.Asked.{Options}
 use Rattle.session_script.specs.declared.session_use.SessionUse.TheVariants.{BeforeReport}
 use Rattle.session_script.specs.Sessions.{IsSessionIn, session_of}
-use Rattle.whole_text.specs.Text.{IsWhole, IsWholeText, WholeOf, whole_text}
+use Rattle.whole_text.specs.Text.{IsWhole, IsWholeText, whole_text}
 use Rattle.whole_check.specs.declared.verdict.WholeVerdict.{WholeVerdict}
 use Rattle.whole_check.specs.declared.verdict.WholeVerdict.TheVariants.{Accepted}
 use Rattle.whole_check.specs.Verdicts.{IsWholeVerdict, surface_told}
 use Rattle.raster_model.specs.Whole.{IsLeastOfAll}
-use Rattle.insar_top.specs.Both.{BreaksBothBy, IsBoth, IsCheckableBy, IsStatusBy, IsToldBy, IsVerdictBy, most_of_text}
+use Rattle.insar_top.specs.Both.{BreaksBothBy, IsCheckableBy, IsJudgedBy, IsStatusBy, IsToldBy, IsVerdictBy, most_of_text}
 use Rattle.insar_top.specs.Run.{Run}
 use Rattle.insar_top.specs.Whole.{IsWholeAnswer}
 use Rattle.answer_lines.specs.declared.refusal.Refusal.{Refusal}
@@ -26,12 +25,8 @@ abbrev pub BreaksBothWhole : ℕ → List ℕ → Refusal → Type 0
 BreaksBothWhole side bytes refusal = BreaksBothBy IsWholeText side bytes refusal
 
 -- the bytes are the text of a session and then of a whole surface that is not too long, for which, on these options, this is the verdict
-pub record IsWholeJudged (options : Options) (bytes : List ℕ) (verdict : WholeVerdict) : Type 0 where
-  pub session : Session
-  pub whole : WholeOf
-  pub both : IsBoth options bytes session (whole_text whole)
-  pub in_range : IsWhole whole
-  pub verdict_is : IsWholeVerdict session whole verdict
+abbrev pub IsWholeJudged : Options → List ℕ → WholeVerdict → Type 0
+IsWholeJudged options bytes verdict = IsJudgedBy whole_text IsWhole IsWholeVerdict options bytes verdict
 
 -- the status is 0 if the surface is accepted, and 1 if it is not
 abbrev pub IsWholeStatus : WholeVerdict → ℕ → Type 0
@@ -51,7 +46,7 @@ WholesAreAccepted = (options : Options) (bytes text both : List ℕ) (answer : I
 
 -- an accepted surface is least of all, whoever wrote it
 abbrev pub AcceptedWholesAreLeast : Type 0
-AcceptedWholesAreLeast = (options : Options) (bytes : List ℕ) (j : IsWholeJudged options bytes Accepted) → IsLeastOfAll (raster_of j.session.scene) (open_at j.session.first_mask) (surface_told j.session j.whole)
+AcceptedWholesAreLeast = (options : Options) (bytes : List ℕ) (j : IsWholeJudged options bytes Accepted) → IsLeastOfAll (raster_of j.session.scene) (open_at j.session.first_mask) (surface_told j.session j.told)
 
 -- bytes have one verdict, whatever session and surface they are the text of
 abbrev pub BytesHaveOneWholeVerdict : Type 0

@@ -2,18 +2,13 @@
 use Rattle.std.specs.Prelude.{◌≡◌, ℕ, List}
 use Rattle.raster_model.specs.declared.session.Session.{Session}
 use Rattle.insar_words.specs.Asked.{Options}
-use Rattle.raster_model.specs.declared.terms.Terms.{Terms}
-use Rattle.raster_model.specs.Sessions.{HasNewTerms}
 use Rattle.answer_lines.specs.TrialLines.{AreLinesOf}
-use Rattle.trial_maker.specs.Trials.{IsTrial}
+use Rattle.trial_maker.specs.Trials.{IsTrialOf}
 use Rattle.insar_top.specs.Options.{HasOptions}
 
--- the session is the one that a seed gives to a width, a height and options: the test session of their side and rule, on their terms
+-- the session is the one that a seed gives to a width, a height and options
 pub record IsTrialSession (seed width height : ℕ) (options : Options) (s : Session) : Type 0 where
-  pub plain : Session
-  pub terms : Terms
-  pub made : IsTrial seed width height options.side options.rule plain
-  pub changed : HasNewTerms plain terms s
+  pub made : IsTrialOf seed width height s
   pub options_are : HasOptions options s
 
 -- and the text is its four lines

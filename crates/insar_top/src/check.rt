@@ -1,25 +1,47 @@
-ghost use Rattle.insar_ports.specs.Feeding.{faults_of, handed_of, left_of, limit_of, source_name, source_of};
-ghost use Rattle.insar_top.specs.Causes.{HasReadCause};
-ghost use Rattle.insar_top.specs.Both.{AreRead};
-ghost use Rattle.insar_top.specs.Check.{BreaksBoth, IsStatusOf};
+ghost use Rattle.insar_top.specs.Check.{IsJudged, IsStatusOf};
 ghost use Rattle.insar_top.specs.Ends.{IsRequestEnd};
 ghost use Rattle.insar_top.specs.Run.{run_of};
-ghost use Rattle.insar_words.specs.Requests.{options_of};
 ghost use Rattle.insar_words.specs.declared.request.Request.TheVariants as requests;
-ghost use Rattle.raster_model.specs.Limits.{max_session_bytes};
-ghost use Rattle.report_text.specs.Contents.{IsReport, report_told};
+ghost use Rattle.report_check.specs.Verdicts.{IsCheckVerdict};
+ghost use Rattle.report_text.specs.Contents.{IsReport, IsReportText, report_told};
 ghost use Rattle.report_text.specs.Text.{report_text};
-ghost use Rattle.std.specs.Prelude.{◌≡◌, IfErr, IfOk};
 
-use crate::both::read_first;
+use crate::both::{Judged, TextAfter, read_judged};
 use crate::ends::end_of;
 use answer_lines::{Refusal, put_verdict};
 use insar_ports::{Feed, Sink, Source};
 use insar_words::Settings;
-use raster_model::{MAX_SESSION_BYTES, Session};
+use raster_model::Session;
 use report_check::{CheckVerdict, check_report};
 use report_text::{Report, read_report};
-use std::alloc::Global;
+use std::alloc::{AllocError, Global};
+use text_lines::LineFault;
+
+impl TextAfter for Report {
+    ghost form = { IsReportText };
+
+    ghost text = { λ report. report_text (report_told report) };
+
+    ghost in_range = { λ report. IsReport (report_told report) };
+
+    fn read<S: Source>(alloc: Global, feed: &mut Feed<S>) -> Result<Report, LineFault> {
+        read_report(alloc, feed)
+    }
+}
+
+impl Judged for Report {
+    type Verdict = CheckVerdict;
+
+    ghost is_verdict = { λ session report verdict. IsCheckVerdict session (report_told report) verdict };
+
+    ghost is_judged = { λ options bytes verdict. IsJudged options bytes verdict };
+
+    ghost judges = { λ options bytes session report verdict both in_range is. record { session = session; told = report_told report; both = both; in_range = in_range; verdict_is = is } };
+
+    fn judge(&self, alloc: Global, session: &Session) -> Result<CheckVerdict, AllocError> {
+        check_report(alloc, session, self)
+    }
+}
 
 /// Reads a session and then a report, judges the report, puts the line of the verdict into the sink, and answers the status:
 /// 0 if the report is accepted, and 1 if it is not.
@@ -31,8 +53,7 @@ pub fn run_check<S: Source, K: Sink>(
 ) -> Result<u8, Refusal>
     ensures { IsRequestEnd (requests.Check settings) (run_of S.left S.faults source.old source.new K.held K.faults sink.old sink.new) result }
 {
-    let (session, report) = read_both(alloc, source, settings)?;
-    let verdict = check_report(alloc, &session, &report)?;
+    let verdict = read_judged::<S, Report>(alloc, source, settings)?;
     end_of(put_verdict(sink, verdict), status_of(verdict))
 }
 
@@ -44,36 +65,4 @@ fn status_of(verdict: CheckVerdict) -> u8
         CheckVerdict::Accepted => 0,
         _ => 1,
     }
-}
-
-/// Reads the session and the report that a source gives one after the other.
-fn read_both<S: Source>(
-    alloc: Global,
-    source: &mut S,
-    settings: Settings,
-) -> Result<(Session, Report), Refusal>
-    ensures read { IfOk result (λ both. AreRead (options_of settings) (S.left source.old) (S.left source.new) both.0 (report_text (report_told both.1))) }
-    ensures fits { IfOk result (λ both. IsReport (report_told both.1)) }
-    ensures refused { IfErr result (HasReadCause (BreaksBoth settings.side) (S.left source.old) (S.faults source.old) (S.faults source.new)) }
-{
-    let mut feed = Feed::new(alloc, source, MAX_SESSION_BYTES)?;
-    read_fed(alloc, &mut feed, settings)
-}
-
-/// Reads both from the start of a feed.
-fn read_fed<S: Source>(
-    alloc: Global,
-    feed: &mut Feed<S>,
-    settings: Settings,
-) -> Result<(Session, Report), Refusal>
-    requires start { handed_of feed.old ≡ 0 }
-    requires limit { limit_of feed.old ≡ max_session_bytes }
-    ensures same_source { source_name feed.new ≡ source_name feed.old }
-    ensures read { IfOk result (λ both. AreRead (options_of settings) (left_of S.left feed.old) (S.left (source_of feed.new)) both.0 (report_text (report_told both.1))) }
-    ensures fits { IfOk result (λ both. IsReport (report_told both.1)) }
-    ensures refused { IfErr result (HasReadCause (BreaksBoth settings.side) (left_of S.left feed.old) (faults_of S.faults feed.old) (faults_of S.faults feed.new)) }
-{
-    let session = read_first(alloc, feed, settings)?;
-    let report = read_report(alloc, feed)?;
-    Ok((session, report))
 }

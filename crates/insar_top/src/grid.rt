@@ -7,9 +7,10 @@ ghost use Rattle.report_text.specs.Reports.{report_of};
 ghost use Rattle.text_lines.specs.Adding.{Puts};
 ghost use Rattle.tile_board.specs.Histories.{IsComplete};
 
+use crate::board::finished;
 use crate::ends::end_of;
 use crate::pages::pages_for;
-use crate::session::solved;
+use crate::session::read_given;
 use answer_lines::Refusal;
 use grid_writer::write_grid_side_by_side;
 use insar_ports::{Sink, Source, WriteFault};
@@ -33,7 +34,8 @@ pub fn run_grid<R: Threads + Wait + Sync, S: Source, K: Sink, G: Gate>(
 ) -> Result<u8, Refusal>
     ensures { IsRequestEnd (requests.Grid settings) (run_of S.left S.faults source.old source.new K.held K.faults sink.old sink.new) result }
 {
-    let board = solved(rt, alloc, settings, source, gate)?;
+    let session = read_given(rt, alloc, source, settings)?;
+    let board = finished(rt, alloc, session, settings.workers, gate)?;
     let mut pages = pages_for(rt, alloc, board.session(), settings.workers)?;
     end_of(write_last_grid(rt, &mut pages, &board, sink), 0)
 }

@@ -1,28 +1,24 @@
 ghost use Rattle.grid_writer.specs.Grids.{grid_of};
 ghost use Rattle.grid_writer.specs.ManyGrids.{AreGrids, HasGridsCause, text_of_grids};
 ghost use Rattle.insar_ports.specs.Calls.{Takes, call_of};
-ghost use Rattle.insar_ports.specs.Feeding.{faults_of, handed_of, left_of, limit_of, source_name, source_of};
+ghost use Rattle.insar_ports.specs.Feeding.{limit_of, source_name};
 ghost use Rattle.insar_top.specs.Causes.{HasReadCause};
 ghost use Rattle.insar_top.specs.Ends.{IsRequestEnd};
-ghost use Rattle.insar_top.specs.Grids.{max_grids_bytes};
-ghost use Rattle.insar_top.specs.Nearest.{AreSessionAndGrid, BreaksNearest, HasNearest, nearest_side};
+ghost use Rattle.insar_top.specs.Nearest.{AreSessionAndGrid, BreaksNearest, HasNearest};
 ghost use Rattle.insar_top.specs.Run.{ReadsAll, run_of};
 ghost use Rattle.insar_words.specs.declared.request.Request.TheVariants as requests;
-ghost use Rattle.raster_model.specs.Limits.{max_session_bytes};
-ghost use Rattle.session_script.specs.Causes.{HasSessionCause};
-ghost use Rattle.session_script.specs.Reaching.{Reaches};
-ghost use Rattle.session_script.specs.Sessions.{IsSessionIn, session_of};
-ghost use Rattle.session_script.specs.declared.session_use.SessionUse.TheVariants.{BeforeReport};
-ghost use Rattle.std.specs.Prelude.{◌≡◌, ◌+◌, ◌≤◌, ◌∷◌, [], ℕ, IfErr, IfOk};
+ghost use Rattle.session_script.specs.Sessions.{session_of};
+ghost use Rattle.std.specs.Prelude.{◌≡◌, ◌∷◌, [], ℕ, IfErr, IfOk};
 
+use crate::both::read_first;
 use crate::ends::end_of;
 use crate::grids::MAX_GRIDS_BYTES;
 use answer_lines::Refusal;
+use edge_weights::SceneSettings;
 use grid_writer::{Grid, GridsFault, read_grids, write_values};
 use insar_ports::{Feed, Sink, Source};
 use nearest_surface::bring_nearest;
 use raster_model::{DEFAULT_TILE_SIDE, MAX_SESSION_BYTES, RuleKind, Session};
-use session_script::{SessionFault, SessionUse, read_session};
 use std::alloc::Global;
 
 /// Reads a session, whose scripts are not run, and then a grid, writes the surface of the session's phase that is nearest to
@@ -54,36 +50,10 @@ fn read_both<S: Source>(alloc: Global, source: &mut S) -> Result<(Session, Grid)
     ensures refused { IfErr result (HasReadCause BreaksNearest (S.left source.old) (S.faults source.old) (S.faults source.new)) }
 {
     let mut feed = Feed::new(alloc, source, MAX_SESSION_BYTES)?;
-    read_fed(alloc, &mut feed)
-}
-
-/// Reads both from the start of a feed.
-fn read_fed<S: Source>(alloc: Global, feed: &mut Feed<S>) -> Result<(Session, Grid), Refusal>
-    requires start { handed_of feed.old ≡ 0 }
-    requires limit { limit_of feed.old ≡ max_session_bytes }
-    ensures same_source { source_name feed.new ≡ source_name feed.old }
-    ensures read { IfOk result (λ both. ReadsAll (left_of S.left feed.old) (S.left (source_of feed.new)) (λ bytes. AreSessionAndGrid bytes (session_of both.0) (grid_of both.1))) }
-    ensures refused { IfErr result (HasReadCause BreaksNearest (left_of S.left feed.old) (faults_of S.faults feed.old) (faults_of S.faults feed.new)) }
-{
-    let session = read_before_grid(alloc, feed)?;
-    let given = read_last_grid(alloc, feed)?;
+    let scene = SceneSettings::plain(DEFAULT_TILE_SIDE, RuleKind::Least);
+    let session = read_first(alloc, &mut feed, scene, MAX_GRIDS_BYTES)?;
+    let given = read_last_grid(alloc, &mut feed)?;
     Ok((session, given))
-}
-
-/// Reads the session at the start of a feed, and lets the feed give as many bytes more as a grid may have.
-fn read_before_grid<S: Source>(alloc: Global, feed: &mut Feed<S>) -> Result<Session, SessionFault>
-    requires start { handed_of feed.old ≡ 0 }
-    requires limit { limit_of feed.old ≡ max_session_bytes }
-    ensures same_source { source_name feed.new ≡ source_name feed.old }
-    ensures room { IfOk result (λ session. limit_of feed.new ≡ handed_of feed.new + max_grids_bytes) }
-    ensures grows { faults_of S.faults feed.old ≤ faults_of S.faults feed.new }
-    ensures read { IfOk result (λ session. Reaches (call_of S.left S.faults feed.old feed.new) (λ bytes rest. IsSessionIn BeforeReport nearest_side bytes (session_of session) rest)) }
-    ensures refused { IfErr result (HasSessionCause BeforeReport nearest_side (call_of S.left S.faults feed.old feed.new)) }
-{
-    let use_as = SessionUse::BeforeReport;
-    let session = read_session(alloc, feed, use_as, DEFAULT_TILE_SIDE, RuleKind::Least)?;
-    feed.set_limit(feed.handed() + MAX_GRIDS_BYTES);
-    Ok(session)
 }
 
 /// Reads the one grid that a feed gives to its end.

@@ -7,12 +7,12 @@ ghost use Rattle.raster_model.specs.Masks.{open_at};
 ghost use Rattle.std.specs.Prelude.{◌≡◌, IfOk};
 
 use crate::ends::end_of;
-use crate::session::read_alone;
+use crate::session::read_given;
 use answer_lines::Refusal;
 use auto_masks::{Screen, ScreenTerms};
 use insar_ports::{Sink, Source};
-use insar_words::Screening;
-use raster_model::{Mask, Plane, RuleKind, Session};
+use insar_words::{Screening, Settings};
+use raster_model::{Mask, Plane, RuleKind, Session, Terms};
 use session_script::write_session;
 use std::alloc::{AllocError, Global};
 use std::thread::Threads;
@@ -28,9 +28,21 @@ pub fn run_screen<R: Threads + Sync, S: Source, K: Sink>(
 ) -> Result<u8, Refusal>
     ensures { IsRequestEnd (requests.Screen screening) (run_of S.left S.faults source.old source.new K.held K.faults sink.old sink.new) result }
 {
-    let session = read_alone(rt, 1, alloc, source, screening.side, RuleKind::Least)?;
+    let session = read_given(rt, alloc, source, settings_of(screening))?;
     let screened = screen_session(alloc, terms_of(screening), session)?;
     end_of(write_session(&screened, sink), 0)
+}
+
+/// The settings on which the session is read, by one thread.
+fn settings_of(screening: Screening) -> Settings
+    ensures { result.side ≡ screening.side }
+{
+    Settings {
+        rule: RuleKind::Least,
+        side: screening.side,
+        terms: Terms::plain(),
+        workers: 1,
+    }
 }
 
 /// The terms of the screen that the words ask for.

@@ -2,9 +2,10 @@ ghost use Rattle.insar_top.specs.Ends.{IsRequestEnd};
 ghost use Rattle.insar_top.specs.Run.{run_of};
 ghost use Rattle.insar_words.specs.declared.request.Request.TheVariants as requests;
 
+use crate::board::finished;
 use crate::ends::end_of;
 use crate::pages::pages_for;
-use crate::session::solved;
+use crate::session::read_given;
 use answer_lines::Refusal;
 use insar_ports::{Sink, Source};
 use insar_words::Settings;
@@ -27,7 +28,8 @@ pub fn run_unwrap<R: Threads + Wait + Sync, S: Source, K: Sink, G: Gate>(
 ) -> Result<u8, Refusal>
     ensures { IsRequestEnd (requests.Unwrap settings) (run_of S.left S.faults source.old source.new K.held K.faults sink.old sink.new) result }
 {
-    let board = solved(rt, alloc, settings, source, gate)?;
+    let session = read_given(rt, alloc, source, settings)?;
+    let board = finished(rt, alloc, session, settings.workers, gate)?;
     let pages = pages_for(rt, alloc, board.session(), settings.workers)?;
     end_of(write_report_side_by_side(rt, pages, &board, sink), 0)
 }

@@ -15,7 +15,9 @@ use Rattle.session_script.proofs.PlanesAgain.{planes_regular}
 use Rattle.session_script.proofs.ScriptAgain.{alone_ends, script_regular, report_regular}
 use Rattle.sums_and_lists.proofs.Lists.{no_length}
 use Rattle.session_script.proofs.SessionAgain.{Value, behind_planes, value_of, told_by, is_session, session_means, one_break, no_break_of_session, Stands, one_session}
-use Rattle.std.specs.Prelude.{IfSome, IfOk, IfErr, slice_get}
+use Rattle.std.specs.Global.{Vec}
+use Rattle.std.specs.Prelude.{IfSome, IfOk, IfErr, IsErrAnd, slice_get}
+use Rattle.std.proofs.lemmas.Result.{err_from_is_err_and}
 use Rattle.std.specs.List.{AllByRecursion}
 use Rattle.std.proofs.Math.Seq.{drop-append-add}
 use Rattle.std.proofs.lemmas.List.Sums.{sum_by-cons}
@@ -35,9 +37,12 @@ use Rattle.pgm_planes.proofs.CallLemmas.{told_on}
 use Rattle.session_script.specs.declared.fault.SessionFault.{SessionFault}
 use Rattle.session_script.specs.declared.fault.SessionFault.TheVariants.{Input, ReadFault, Memory}
 use Rattle.session_script.specs.Causes.{HasSessionCause, IsReadAsSession, IsRefusedFor, IsAtLimit}
-use Rattle.session_script.specs.Making.{IsMadeOf, IsSessionOutcome}
-use Rattle.session_script.specs.Building.{parts_read, planes_in, scripts_in}
-use Rattle.session_script.specs.declared.parts.Parts.{Parts}
+use Rattle.session_script.specs.Making.{IsMadeOf, IsParsedSession}
+use Rattle.session_script.specs.Outcomes.{IsSessionOutcome}
+use Rattle.session_script.specs.Building.{parts_read}
+use Rattle.edge_weights.specs.declared.parts.SessionParts.{SessionParts}
+use Rattle.edge_weights.specs.declared.settings.SceneSettings.{SceneSettings}
+use Rattle.edge_weights.specs.Sessions.{IsPutTogether}
 use Rattle.session_script.specs.Reaching.{Reaches}
 
 pub session_regular : (usage : SessionUse) (side : ℕ) → Regular 0 0 (session_parser usage side)
@@ -178,11 +183,19 @@ frame_is t p side a b c = rw (← a, ← b, ← c) refl
 
 -- ---- what the call's outcome says
 
-pub makes_session : (usage : SessionUse) (side : ℕ) (c : Call) (x : Parts) (r : Result Session SessionFault) → IfOk r (λ s. IsMadeOf (planes_in x.planes) (scripts_in x.scripts) (session_of s)) → IfErr r (λ fault. fault ≡ Memory) → IsOutcome parts_read (Ok x) c (session_parser usage side) → IsSessionOutcome usage side c r
+pub made_together : (parts : SessionParts) (settings : SceneSettings) (m : MaskView) (s : Session) → IsPutTogether parts settings m s → IsMaskOf m parts.mask.width parts.mask.height (open_by parts.mask) → IsMadeOf (parts_read parts) (session_of s)
+made_together parts settings m s all i = record {
+  phase_is = ap plane_of all.phase;
+  weights_are = ap plane_of all.weights;
+  mask_is = subst (λ (v : MaskView). IsMaskOf v parts.phase.width parts.phase.height (mask_open_in (plane_of parts.mask))) (sym all.mask) (mask_of m parts.mask parts.phase.width parts.phase.height parts.same_width.1.0 parts.same_height.1.0 i);
+  scripts_are = ap (λ (v : Vec Script). sections_of v.items) all.scripts;
+}
+
+pub makes_session : (usage : SessionUse) (side : ℕ) (c : Call) (x : SessionParts) (r : Result Session SessionFault) → IfOk r (λ s. IsMadeOf (parts_read x) (session_of s)) → IfErr r (λ fault. fault ≡ Memory) → IsOutcome parts_read (Ok x) c (session_parser usage side) → IsParsedSession usage side c r
 makes_session usage side c x (Ok s) made starved h = (x, made, h)
 makes_session usage side c x (Err e) made starved h = rw starved tt
 
-made_by : (usage : SessionUse) (side : ℕ) (bytes : List ℕ) (x : ThreePlanes × Sections) (rest : List ℕ) (s : SessionOf) → Stands usage side bytes x rest → IsMadeOf x.0 x.1 s → length bytes ≤ 268435456 + length rest → IsSessionIn usage side bytes s rest
+made_by : (usage : SessionUse) (side : ℕ) (bytes : List ℕ) (x : ThreePlanes × Sections) (rest : List ℕ) (s : SessionOf) → Stands usage side bytes x rest → IsMadeOf x s → length bytes ≤ 268435456 + length rest → IsSessionIn usage side bytes s rest
 made_by usage side bytes x rest s (between, planes, script) made short = record {
   mask_plane = x.0.mask;
   between = between;
@@ -202,7 +215,7 @@ module _ (usage : SessionUse) (side : ℕ) (c : Call) (m : Moves c) (start : c.a
   at_start : (bytes : List ℕ) → session_parser usage side (goes_beyond c.limit c.at bytes) c.at (take (c.limit - c.at) bytes) ≡ seen usage side bytes
   at_start bytes = rw (start, limit) refl
 
-  reads_session : (session : Session) → IsSessionOutcome usage side c (Ok session) → Reaches c (λ bytes rest. IsSessionIn usage side bytes (session_of session) rest)
+  reads_session : (session : Session) → IsParsedSession usage side c (Ok session) → Reaches c (λ bytes rest. IsSessionIn usage side bytes (session_of session) rest)
   reads_session session (x, made, outcome) = if_told c.told _ (λ bytes t.
       let l = told_on m.front c.told c.left bytes m.parts t in
       let parts : bytes ≡ m.front ++ l.0 = some_is bytes (m.front ++ l.0) (sym t ∙ m.parts ∙ ap (with_front m.front) l.1) in
@@ -212,17 +225,11 @@ module _ (usage : SessionUse) (side : ℕ) (c : Call) (m : Moves c) (start : c.a
       (l.0, (l.1, (omega (arith, size, m.place), made_by usage side bytes (parts_read x) l.0 (session_of session) s.1 made (omega (arith, size, m.place, start, limit, within))))))
 
   -- all that the reader of a session promises
-  pub record Keeps (r : Result Session SessionFault) : Type 0 where
-    pub read : IfOk r (λ s. Reaches c (λ bytes rest. IsSessionIn usage side bytes (session_of s) rest))
-    pub accepted : IfSome c.told (λ bytes. (s : SessionOf) (rest : List ℕ) → IsSessionIn usage side bytes s rest → IsReadAsSession c s rest r)
-    pub refused : IfErr r (HasSessionCause usage side c)
-    pub too_long : r ≡ Err (Input TooLong) → IsAtLimit c
-    pub exact : IfSome c.told (λ bytes. (fault : InputFault) → HasFault usage side bytes fault → IsRefusedFor c fault r)
-
-  pub keeps : (r : Result Session SessionFault) → IsSessionOutcome usage side c r → Keeps r
+  pub keeps : (r : Result Session SessionFault) → IsParsedSession usage side c r → IsSessionOutcome usage side c r
   keeps (Ok session) h =
       let read = reads_session session h in
       record {
+        moves = m;
         read = read;
         accepted = if_told c.told _ (λ bytes t s rest i.
             let k = at_told c.told _ bytes t read in
@@ -235,11 +242,16 @@ module _ (usage : SessionUse) (side : ℕ) (c : Call) (m : Moves c) (start : c.a
   keeps (Err (Input fault)) h =
       let has = λ (bytes : List ℕ) (t : c.told ≡ Some bytes). let l = told_on m.front c.told c.left bytes m.parts t in fault_seen usage side bytes fault (sym (at_start bytes) ∙ h.0 bytes l.0 t l.1) in
       record {
+        moves = m;
         read = tt;
         accepted = if_told c.told _ (λ bytes t s rest i. no_fault_of_session usage side bytes s rest fault i (has bytes t));
         refused = if_told c.told _ has;
         too_long = λ e. (let same : fault ≡ TooLong = cc in let full = h.1 same in if_told c.told _ (λ bytes t. (full.0 ∙ limit, full.1)));
         exact = if_told c.told _ (λ bytes t other b. one_fault usage side bytes fault other (has bytes t) b);
       }
-  keeps (Err ReadFault) h = record { read = tt; accepted = if_told c.told _ (λ _ _ _ _ _. h); refused = h; too_long = λ e. absurd cc; exact = if_told c.told _ (λ _ _ _ _. h) }
-  keeps (Err Memory) h = record { read = tt; accepted = if_told c.told _ (λ _ _ _ _ _. tt); refused = tt; too_long = λ e. absurd cc; exact = if_told c.told _ (λ _ _ _ _. tt) }
+  keeps (Err ReadFault) h = record { moves = m; read = tt; accepted = if_told c.told _ (λ _ _ _ _ _. h); refused = h; too_long = λ e. absurd cc; exact = if_told c.told _ (λ _ _ _ _. h) }
+  keeps (Err Memory) h = record { moves = m; read = tt; accepted = if_told c.told _ (λ _ _ _ _ _. tt); refused = tt; too_long = λ e. absurd cc; exact = if_told c.told _ (λ _ _ _ _. tt) }
+
+-- the parts were not read
+pub unread : (usage : SessionUse) (side : ℕ) (c : Call) → Moves c → c.at ≡ 0 → c.limit ≡ 268435456 → c.end ≤ c.limit → (fault : SessionFault) (r : Result Session SessionFault) → IsErrAnd r (λ g. g ≡ fault) → (let q : Result SessionParts SessionFault = Err fault in IsOutcome parts_read q c (session_parser usage side)) → IsSessionOutcome usage side c r
+unread usage side c m start limit within fault r is h = (let p = err_from_is_err_and r is in rw (p.1, p.2) (keeps usage side c m start limit within (Err fault) h))

@@ -8,11 +8,11 @@ use Rattle.session_script.specs.declared.fault.SessionFault.TheVariants.{Input}
 use Rattle.session_script.specs.declared.word.Word.{Word}
 use Rattle.session_script.specs.Lines.{Spells, SpellsNone}
 use Rattle.std.specs.Global.{Vec}
+use Rattle.edge_weights.specs.declared.parts.SessionParts.{SessionParts}
 use Rattle.raster_model.specs.declared.script.Script.{Script}
 use Rattle.pgm_planes.specs.Planes.{plane_of}
 use Rattle.session_script.specs.declared.parts.Planes.{Planes}
 use Rattle.session_script.specs.declared.sections.Sections.{Sections as SectionsRead}
-use Rattle.session_script.specs.declared.parts.Parts.{Parts}
 use Rattle.session_script.specs.Parsing.{ThreePlanes, three}
 use Rattle.session_script.specs.Sections.{Sections, sections_of}
 
@@ -25,12 +25,8 @@ scripts_in scripts = sections_of scripts.items
 abbrev pub planes_in : Planes → ThreePlanes
 planes_in read = three (plane_of read.phase) (plane_of read.weights) (plane_of read.mask)
 
-abbrev pub parts_read : Parts → ThreePlanes × Sections
-parts_read parts = (planes_in parts.planes, scripts_in parts.scripts)
-
--- the tiling is of the phase plane's size
-abbrev pub IsSized : Parts → Type 0
-IsSized parts = (parts.tiling.width ≡ parts.planes.phase.width) × (parts.tiling.height ≡ parts.planes.phase.height)
+abbrev pub parts_read : SessionParts → ThreePlanes × Sections
+parts_read parts = (three (plane_of parts.phase) (plane_of parts.weights) (plane_of parts.mask), scripts_in parts.scripts)
 
 -- a read of a line put no more bytes than these
 abbrev pub FitsIn : Line → List ℕ → Type 0

@@ -9,5 +9,6 @@ pub mod Causes
 pub mod Parsing
 pub mod Building
 pub mod Making
+pub mod Outcomes
 pub mod Text
 pub mod Laws

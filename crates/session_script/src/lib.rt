@@ -15,6 +15,6 @@ mod word;
 mod write;
 
 pub use fault::SessionFault;
-pub use session::{read_session, read_session_side_by_side};
+pub use session::{read_session, read_session_on, read_session_side_by_side};
 pub use session_use::SessionUse;
 pub use write::write_session;

@@ -1,6 +1,6 @@
 ghost use Rattle.std.specs.Prelude.{◌≡◌};
 
-use raster_model::{Plane, Script, Tiling};
+use raster_model::Plane;
 
 /// The planes of an input, which have one size.
 #[derive(Drop)]
@@ -14,12 +14,4 @@ pub struct Planes {
     pub ghost cycle: { phase.maxval ≡ 65535 },
     pub ghost same_width: { (weights.width ≡ phase.width) × (mask.width ≡ phase.width) },
     pub ghost same_height: { (weights.height ≡ phase.height) × (mask.height ≡ phase.height) },
-}
-
-/// The planes and scripts of a session, of which it is made.
-#[derive(Drop)]
-pub struct Parts {
-    pub planes: Planes,
-    pub tiling: Tiling,
-    pub scripts: Vec<Script>,
 }

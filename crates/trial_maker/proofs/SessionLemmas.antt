@@ -1,5 +1,5 @@
 -- The scripts and the mask of a test session.
-use Rattle.std.proofs.Common.{◌≡◌, ℕ, zero, suc, ◌*◌, ◌≤◌, ◌∙◌, refl, ap, subst, arith, List, [], ◌∷◌, length, sum_by, count_by, Bool}
+use Rattle.std.proofs.Common.{◌≡◌, ℕ, zero, suc, ◌*◌, ◌<◌, ◌≤◌, ◌∙◌, refl, sym, ap, subst, arith, List, [], ◌∷◌, length, sum_by, count_by, Bool}
 use Rattle.std.specs.Prelude.{Some, slice_get}
 use Rattle.std.proofs.lemmas.List.Sums.{sum_by-cons}
 use Rattle.raster_model.specs.declared.plane.Plane.{Plane}
@@ -7,10 +7,12 @@ use Rattle.raster_model.specs.declared.script.Command.{Command}
 use Rattle.raster_model.specs.declared.script.Command.TheVariants.{Change, Settle, Show}
 use Rattle.raster_model.specs.declared.script.Edit.{Edit}
 use Rattle.raster_model.specs.declared.script.Script.{Script}
+use Rattle.raster_model.specs.declared.session.Session.{Session}
 use Rattle.raster_model.specs.MaskView.{MaskView}
 use Rattle.raster_model.specs.Masks.{IsMaskOf, open_by}
+use Rattle.raster_model.specs.Planes.{plane_sample}
 use Rattle.raster_model.specs.Scripts.{is_settle, is_change, settles_in, changes_in, ScriptsFit, ScriptsAreShort}
-use Rattle.trial_maker.specs.Trials.{AreTrialScripts, state_at, is_open}
+use Rattle.trial_maker.specs.Trials.{AreTrialScripts, IsTrialOf, is_open, phase_of, state_at, weight_of}
 use Rattle.trial_maker.specs.Drawn.{AreDrawnPlanes}
 use Rattle.trial_maker.proofs.DrawLemmas.{open_by_one}
 
@@ -67,3 +69,15 @@ trial_mask seed w h phase weights mask m drawn i =
       height = i.height ∙ e.1;
       clear_at = λ x y l k. i.clear_at x y (omega (arith, l, e.0)) (omega (arith, k, e.1)) ∙ open_by_one _ _ (drawn.masked x y l k);
     }
+
+-- ---- the session
+
+pub trial_of : (seed w h : ℕ) (phase weights mask : Plane) (m : MaskView) (s : Session) → AreDrawnPlanes seed w h phase weights mask → IsMaskOf m mask.width mask.height (open_by mask) → s.scene.phase ≡ phase → s.scene.weights ≡ weights → s.first_mask ≡ m → AreTrialScripts s.scripts.items → IsTrialOf seed w h s
+trial_of seed w h phase weights mask m s drawn i p q e scripts = record {
+  size = (ap (λ (v : Plane). v.width) p ∙ drawn.phase_size.0, ap (λ (v : Plane). v.height) p ∙ drawn.phase_size.1);
+  phases = subst (λ (v : Plane). (x y : ℕ) → x < w → y < h → plane_sample v x y ≡ phase_of (state_at seed w x y) x y) (sym p) drawn.phases;
+  greatest_weight = ap (λ (v : Plane). v.maxval) q ∙ drawn.weight_size.2;
+  weights = subst (λ (v : Plane). (x y : ℕ) → x < w → y < h → plane_sample v x y ≡ weight_of (state_at seed w x y)) (sym q) drawn.weighed;
+  mask = subst (λ (v : MaskView). IsMaskOf v w h (λ x y. is_open (state_at seed w x y))) (sym e) (trial_mask seed w h phase weights mask m drawn i);
+  scripts = scripts;
+}

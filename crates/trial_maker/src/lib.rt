@@ -8,4 +8,4 @@ mod samples;
 mod session;
 
 pub use fault::TrialFault;
-pub use session::make_session;
+pub use session::{make_session, make_session_on};

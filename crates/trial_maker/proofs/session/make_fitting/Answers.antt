@@ -1,29 +1,22 @@
-use Rattle.std.proofs.Common.{◌∙◌, sym, arith, refl}
-use Rattle.trial_maker.proofs.SessionLemmas.{trial_length, trial_short, trial_fits, trial_settles, trial_changes, trial_mask}
+use Rattle.std.proofs.Common.{◌∙◌, sym, subst, arith}
+use Rattle.std.specs.Global.{Vec}
+use Rattle.raster_model.specs.declared.script.Script.{Script}
+use Rattle.trial_maker.specs.Trials.{AreTrialScripts}
+use Rattle.trial_maker.proofs.SessionLemmas.{trial_length, trial_short, trial_fits, trial_of, trial_settles, trial_changes}
 use Rattle.trial_maker.proofs.session.make_fitting.Goals as goal
 
-pub invariant_of-scene : goal.invariant_of-scene
-invariant_of-scene c =
-    let drawn = c.in_ok-planes.ensures in
+pub invariant_of-parts : goal.invariant_of-parts
+invariant_of-parts c =
+    let drawn = c.in_ok-phase.ensures in
     let p = drawn.phase_size in
     let q = drawn.weight_size in
+    let m = drawn.mask_size in
+    let scripts = c.in_ok-trial_scripts.field-0 in
+    let are = c.in_ok-trial_scripts.ensures in
     record {
       cycle = p.2;
-      same_width = (q.0 ∙ sym p.0, sym p.0);
-      same_height = (q.1 ∙ sym p.1, sym p.1);
-      weighed = c.in_ok-edges.ensures;
-    }
-
-pub invariant_of-result : goal.invariant_of-result
-invariant_of-result c =
-    let drawn = c.in_ok-planes.ensures in
-    let p = drawn.phase_size in
-    let m = drawn.mask_size in
-    let scripts = c.in_ok-scripts.scripts in
-    let are = c.in_ok-scripts.ensures in
-    let i = c.in_ok-first_mask.ensures in
-    record {
-      same_size = (i.width ∙ m.0 ∙ sym p.0, i.height ∙ m.1 ∙ sym p.1);
+      same_width = (q.0 ∙ sym p.0, (m.0 ∙ sym p.0, sym p.0));
+      same_height = (q.1 ∙ sym p.1, (m.1 ∙ sym p.1, sym p.1));
       analysts = (omega (arith, trial_length scripts.items are, scripts.ok.0), omega (arith, trial_length scripts.items are, scripts.ok.0));
       short = trial_short scripts.items are;
       settles = trial_settles scripts.items _ _ _ _ are p.0 p.1 c.args.tiling.few;
@@ -33,15 +26,5 @@ invariant_of-result c =
 
 pub returns-clause-made : goal.returns-clause-made
 returns-clause-made c =
-    let drawn = c.in_ok-planes.ensures in
-    record {
-      size = (drawn.phase_size.0, drawn.phase_size.1);
-      phases = drawn.phases;
-      greatest_weight = drawn.weight_size.2;
-      weights = drawn.weighed;
-      mask = trial_mask _ _ _ _ _ _ _ drawn c.in_ok-first_mask.ensures;
-      tiles = refl;
-      rule = refl;
-      terms = c.plain.ensures;
-      scripts = c.in_ok-scripts.ensures;
-    }
+    let all = c.put_together.ensures in
+    trial_of _ _ _ _ _ _ _ _ c.in_ok-phase.ensures c.in_ok-first_mask.ensures all.phase all.weights all.mask (subst (λ (v : Vec Script). AreTrialScripts v.items) (sym all.scripts) c.in_ok-trial_scripts.ensures)

@@ -15,28 +15,28 @@ abbrev pub count_row : ℕ → Field Bool → ℕ → ℕ
 count_row w test y = count_below w (λ x. one_if (test x y))
 
 abbrev pub count_grid : ℕ → ℕ → Field Bool → ℕ
-count_grid w h test = count_below h (count_row w test)
+count_grid width height test = count_below height (count_row width test)
 
 -- a cell has a residue other than 0; how many cells of the whole raster have one, and how many pixels are open in the first mask
 abbrev pub has_residue : Raster → Field Bool
-has_residue r x y = not (int_eq (residue r x y) (pos 0))
+has_residue raster x y = not (int_eq (residue raster x y) (pos 0))
 
 abbrev pub residues_of : Raster → ℕ
-residues_of r = count_grid (r.width - 1) (r.height - 1) (has_residue r)
+residues_of raster = count_grid (raster.width - 1) (raster.height - 1) (has_residue raster)
 
 abbrev pub open_pixels_of : Session → ℕ
-open_pixels_of s = count_grid s.scene.phase.width s.scene.phase.height (open_at s.first_mask)
+open_pixels_of session = count_grid session.scene.phase.width session.scene.phase.height (open_at session.first_mask)
 
 -- a congruent surface, than which no other costs less in a tile
-pub record IsLeastInTiles (r : Raster) (mask : Field Bool) (S : Field ℤ) : Type 0 where
-  pub congruent : IsCongruent r mask S
-  pub least : (t : ℕ) → t < r.tile_count → IsLeastInTile r mask t S
+pub record IsLeastInTiles (raster : Raster) (mask : Field Bool) (S : Field ℤ) : Type 0 where
+  pub congruent : IsCongruent raster mask S
+  pub least : (t : ℕ) → t < raster.tile_count → IsLeastInTile raster mask t S
 
 -- there is such a surface, and this is what the tiles cost together of each
-pub record IsLeastCost (r : Raster) (mask : Field Bool) (cost : ℕ) : Type 0 where
+pub record IsLeastCost (raster : Raster) (mask : Field Bool) (cost : ℕ) : Type 0 where
   pub surface : Field ℤ
-  pub is_least : IsLeastInTiles r mask surface
-  pub of_each : (S : Field ℤ) → IsLeastInTiles r mask S → tiles_cost r mask S ≡ pos cost
+  pub is_least : IsLeastInTiles raster mask surface
+  pub of_each : (S : Field ℤ) → IsLeastInTiles raster mask S → tiles_cost raster mask S ≡ pos cost
 
 -- a line of a word and a number; the four lines
 abbrev pub number_line : List ℕ → ℕ → List ℕ
@@ -46,7 +46,7 @@ unfoldable pub four_lines : ℕ → ℕ → ℕ → ℕ → List ℕ
 four_lines pixels residues unmasked cost = number_line (codes "pixels ") pixels ++ (number_line (codes "residues ") residues ++ (number_line (codes "unmasked ") unmasked ++ number_line (codes "cost ") cost))
 
 -- the text is the four lines of a session, by the whole raster, the first mask and the least cost of the tiles
-pub record AreLinesOf (s : Session) (text : List ℕ) : Type 0 where
+pub record AreLinesOf (session : Session) (text : List ℕ) : Type 0 where
   pub cost : ℕ
-  pub least : IsLeastCost (raster_of s.scene) (open_at s.first_mask) cost
-  pub spelled : text ≡ four_lines (s.scene.phase.width * s.scene.phase.height) (residues_of (raster_of s.scene)) (open_pixels_of s) cost
+  pub least : IsLeastCost (raster_of session.scene) (open_at session.first_mask) cost
+  pub spelled : text ≡ four_lines (session.scene.phase.width * session.scene.phase.height) (residues_of (raster_of session.scene)) (open_pixels_of session) cost

@@ -16,7 +16,7 @@ direction true = codes " down"
 direction false = codes " right"
 
 unfoldable pub edge_text : Edge → List ℕ
-edge_text e = direction e.down ++ (field_text e.x ++ field_text e.y)
+edge_text edge = direction edge.down ++ (field_text edge.x ++ field_text edge.y)
 
 -- what the faces of a tile, and the flows at the seams, are refused for; Good and a Range that no check of these gives have no words
 abbrev pub tile_words : TileVerdict → List ℕ

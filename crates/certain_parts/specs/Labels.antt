@@ -43,13 +43,13 @@ abbrev pub first_row : PartsView → ℕ → ℕ
 first_row v n = first_place v n / v.width
 
 -- the labels are those of the parts at a limit that have at least so many pixels
-pub record ArePartsOf (c : Faced) (limit least : ℕ) (v : PartsView) : Type 0 where
-  pub width : v.width ≡ c.raster.width
-  pub height : v.height ≡ c.raster.height
+pub record ArePartsOf (faced : Faced) (limit least : ℕ) (v : PartsView) : Type 0 where
+  pub width : v.width ≡ faced.raster.width
+  pub height : v.height ≡ faced.raster.height
   pub full : length v.labels ≡ v.width * v.height
   pub numbers : List ℕ
   pub total : ℕ
-  pub parts : HasTreeNumbers (parts_joined c limit) numbers total
+  pub parts : HasTreeNumbers (parts_joined faced limit) numbers total
   pub few : total ≤ max_pixels
   pub labels : (i : ℕ) → i < length v.labels → slice_index v.labels i ≡ part_label least numbers i
   pub count : v.count ≡ enough least (size_of numbers) total

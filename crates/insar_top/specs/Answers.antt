@@ -19,18 +19,18 @@ use Rattle.insar_top.specs.Whole.{IsWholeAnswer}
 
 -- the bytes that a request is about, where the source tells them; `trial` is about none
 abbrev pub input_of : Request → Run → Option (List ℕ)
-input_of (Trial trial) r = Some []
-input_of asked r = r.told
+input_of (Trial trial) run = Some []
+input_of asked run = run.told
 
 -- nothing of them is left, and `trial` takes nothing
 abbrev pub IsUsedUp : Request → Run → Type 0
-IsUsedUp (Trial trial) r = IsUnread r
-IsUsedUp asked r = r.left ≡ Some []
+IsUsedUp (Trial trial) run = IsUnread run
+IsUsedUp asked run = run.left ≡ Some []
 
 -- nothing is taken for a request that is about no bytes
 abbrev pub IsWithinInput : Request → Run → Type 0
-IsWithinInput (Trial trial) r = IsUnread r
-IsWithinInput asked r = ⊤
+IsWithinInput (Trial trial) run = IsUnread run
+IsWithinInput asked run = ⊤
 
 -- the bytes are of the form that a request reads
 abbrev pub IsInputTo : Request → List ℕ → Type 0
@@ -68,8 +68,8 @@ IsDoneStatus asked status = status ≡ 0
 
 -- a request was done with this status: where the bytes are told, a text answers it, nothing is left, and the sink gained exactly the text
 abbrev pub HasAnswered : Request → Run → ℕ → Type 0
-HasAnswered asked r status = IsDoneStatus asked status × IfSome (input_of asked r) (λ bytes. (text : List ℕ) × (IsAnswerTo asked bytes status text × (IsUsedUp asked r × (r.held_now ≡ with_end r.held text))))
+HasAnswered asked run status = IsDoneStatus asked status × IfSome (input_of asked run) (λ bytes. (text : List ℕ) × (IsAnswerTo asked bytes status text × (IsUsedUp asked run × (run.held_now ≡ with_end run.held text))))
 
 -- where the bytes are told, the sink gained a part of a text that answers the request, and not the whole
 abbrev pub HasCutShort : Request → Run → Type 0
-HasCutShort asked r = IfSome (input_of asked r) (λ bytes. (status : ℕ) × (text : List ℕ) × (IsAnswerTo asked bytes status text × GainsProperPrefix r.held text r.held_now))
+HasCutShort asked run = IfSome (input_of asked run) (λ bytes. (status : ℕ) × (text : List ℕ) × (IsAnswerTo asked bytes status text × GainsProperPrefix run.held text run.held_now))

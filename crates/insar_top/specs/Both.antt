@@ -70,4 +70,4 @@ IsVerdictBy {V} good line_of IsJudged status text = (verdict : V) × (IsJudged v
 
 -- a verdict is told: by status 0 if it is the good one and by 1 if it is not, and by its line
 abbrev pub IsToldBy : {V : Type 0} → V → (V → List ℕ) → ℕ → Run → V → Type 0
-IsToldBy good line_of status r verdict = (status ≡ 0 → verdict ≡ good) × ((status ≡ 1 → verdict ≢ good) × (status ≤ 1 → r.held_now ≡ with_end r.held (line_of verdict)))
+IsToldBy good line_of status run verdict = (status ≡ 0 → verdict ≡ good) × ((status ≡ 1 → verdict ≢ good) × (status ≤ 1 → run.held_now ≡ with_end run.held (line_of verdict)))

@@ -38,8 +38,8 @@ HasReadCause Breaks told before after broken = IfSome told (λ bytes. Breaks byt
 
 -- why a request is refused: its input is not read, and the sink holds what it held; or a fault of the sink was counted, which gained a part of an answer
 abbrev pub HasRefusalCause : Request → Run → Refusal → Type 0
-HasRefusalCause asked r refusals.WriteFault = SinkFailed r × HasCutShort asked r
-HasRefusalCause asked r refusal = HasReadCause (BreaksInput asked) (input_of asked r) r.source_before r.source_after refusal × HasKept r
+HasRefusalCause asked run refusals.WriteFault = SinkFailed run × HasCutShort asked run
+HasRefusalCause asked run refusal = HasReadCause (BreaksInput asked) (input_of asked run) run.source_before run.source_after refusal × HasKept run
 
 -- bytes that have a break are not of the form that the request reads
 abbrev pub BrokenBytesAreNoInput : Type 0

@@ -36,7 +36,7 @@ IsVerdictAnswer options bytes status text = IsVerdictBy Accepted verdict_line (I
 
 -- a verdict is told: by status 0 if it is Accepted and by 1 if it is not, and by its line
 abbrev pub IsVerdictTold : ℕ → Run → CheckVerdict → Type 0
-IsVerdictTold status r verdict = IsToldBy Accepted verdict_line status r verdict
+IsVerdictTold status run verdict = IsToldBy Accepted verdict_line status run verdict
 
 -- what is written for a session is accepted, where the text of the session stands before it and it is not too long
 abbrev pub AnswersAreAccepted : Type 0

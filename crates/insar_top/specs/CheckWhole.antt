@@ -38,7 +38,7 @@ IsWholeVerdictAnswer options bytes status text = IsVerdictBy Accepted whole_verd
 
 -- a verdict is told: by status 0 if it is Accepted and by 1 if it is not, and by its line
 abbrev pub IsWholeVerdictTold : ℕ → Run → WholeVerdict → Type 0
-IsWholeVerdictTold status r verdict = IsToldBy Accepted whole_verdict_line status r verdict
+IsWholeVerdictTold status run verdict = IsToldBy Accepted whole_verdict_line status run verdict
 
 -- what `whole` writes for a session is accepted, where the text of the session stands before it and it is not too long
 abbrev pub WholesAreAccepted : Type 0

@@ -13,36 +13,36 @@ use Rattle.answer_lines.specs.declared.refusal.Refusal.TheVariants as refusals
 
 -- the sight that words ask for
 abbrev pub sight_of : Displacing → Sight
-sight_of d = record { wavelength = d.wavelength; x = d.x; y = d.y; block = d.block }
+sight_of displacing = record { wavelength = displacing.wavelength; x = displacing.x; y = displacing.y; block = displacing.block }
 
 -- the bytes are the text of this grid
 abbrev pub IsOneGrid : List ℕ → GridOf → Type 0
-IsOneGrid bytes g = AreGridsIn 1 bytes (g ∷ [])
+IsOneGrid bytes grid = AreGridsIn 1 bytes (grid ∷ [])
 
 -- the bytes are the text of a grid whose reference pixel has a value, and no block of which is displaced too far to be written
-pub record IsSightInput (s : Sight) (bytes : List ℕ) : Type 0 where
+pub record IsSightInput (sight : Sight) (bytes : List ℕ) : Type 0 where
   pub g : GridOf
   pub one : IsOneGrid bytes g
-  pub reference : IsTrue (has_value g s.x s.y)
-  pub narrow : (i j : ℕ) → i < blocks_of s.block g.width → j < blocks_of s.block g.height → IsWideBlock s g i j → ⊥
+  pub reference : IsTrue (has_value g sight.x sight.y)
+  pub narrow : (i j : ℕ) → i < blocks_of sight.block g.width → j < blocks_of sight.block g.height → IsWideBlock sight g i j → ⊥
 
 -- the bytes are the text of a grid that has no displacements for this cause
 abbrev pub HasSightFault : Sight → List ℕ → SightFault → Type 0
-HasSightFault s bytes fault = (g : GridOf) × (IsOneGrid bytes g × HasCause s g fault)
+HasSightFault sight bytes fault = (grid : GridOf) × (IsOneGrid bytes grid × HasCause sight grid fault)
 
 -- the break of the bytes for which there are no displacements: the first break of a grid, or the cause for which the grid has none
 abbrev pub BreaksSight : Sight → List ℕ → Refusal → Type 0
-BreaksSight s bytes refusals.Reference = HasSightFault s bytes faults.Reference
-BreaksSight s bytes (refusals.Wide x y) = HasSightFault s bytes (faults.Wide x y)
-BreaksSight s bytes refusal = BreaksMany 1 bytes refusal
+BreaksSight sight bytes refusals.Reference = HasSightFault sight bytes faults.Reference
+BreaksSight sight bytes (refusals.Wide x y) = HasSightFault sight bytes (faults.Wide x y)
+BreaksSight sight bytes refusal = BreaksMany 1 bytes refusal
 
 -- a grid has the displacements of the grid that the bytes spell
 abbrev pub HasDisplacements : Sight → List ℕ → GridOf → Type 0
-HasDisplacements s bytes output = (g : GridOf) × (IsOneGrid bytes g × IsDisplacement s g output)
+HasDisplacements sight bytes output = (grid : GridOf) × (IsOneGrid bytes grid × IsDisplacement sight grid output)
 
 -- the text is that of such a grid, each value of which fits 64 bits
-pub record IsDisplacementAnswer (s : Sight) (bytes text : List ℕ) : Type 0 where
+pub record IsDisplacementAnswer (sight : Sight) (bytes text : List ℕ) : Type 0 where
   pub output : GridOf
-  pub displaced : HasDisplacements s bytes output
+  pub displaced : HasDisplacements sight bytes output
   pub in_range : IsGrid output
   pub written : text ≡ text_of_grid output

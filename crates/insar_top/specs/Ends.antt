@@ -21,7 +21,7 @@ EndsBy Done HasCause (Err refusal) = HasCause refusal
 
 -- how a request ends
 abbrev pub IsRequestEnd : Request → Run → Result ℕ Refusal → Type 0
-IsRequestEnd asked r end = IsWithinInput asked r × EndsBy (HasAnswered asked r) (HasRefusalCause asked r) end
+IsRequestEnd asked run end = IsWithinInput asked run × EndsBy (HasAnswered asked run) (HasRefusalCause asked run) end
 
 -- how a request ends whose text was put
 abbrev pub end_of_put : Result (Unit {0}) WriteFault → ℕ → Result ℕ Refusal
@@ -29,9 +29,9 @@ end_of_put (Ok put) status = Ok status
 end_of_put (Err fault) status = Err refusals.WriteFault
 
 -- how the program ends: the words are not read, and nothing was taken or put; or what they ask for ends
-pub data IsProgramEnd (words : List (Bor Text)) (r : Run) (end : Result ℕ Refusal) : Type 0 where
-  not_read : (fault : WordsFault) → HasWordsCause words fault → IsUnread r → HasKept r → end ≡ Err (words_refusal fault) → IsProgramEnd words r end
-  done : (asked : Request) → IsRequest words asked → IsRequestEnd asked r end → IsProgramEnd words r end
+pub data IsProgramEnd (words : List (Bor Text)) (run : Run) (end : Result ℕ Refusal) : Type 0 where
+  not_read : (fault : WordsFault) → HasWordsCause words fault → IsUnread run → HasKept run → end ≡ Err (words_refusal fault) → IsProgramEnd words run end
+  done : (asked : Request) → IsRequest words asked → IsRequestEnd asked run end → IsProgramEnd words run end
 
 -- the status of an end, and the line that is put with it
 abbrev pub end_status : Result ℕ Refusal → ℕ

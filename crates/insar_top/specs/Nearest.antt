@@ -24,7 +24,7 @@ phase_told s = record { width = s.phase.width; height = s.phase.height; phase = 
 
 -- the bytes are the text of this session and then of this grid
 abbrev pub AreSessionAndGrid : List ℕ → SessionOf → GridOf → Type 0
-AreSessionAndGrid bytes s g = (rest : List ℕ) × (IsSessionIn BeforeReport nearest_side bytes s rest × IsOneGrid rest g)
+AreSessionAndGrid bytes s grid = (rest : List ℕ) × (IsSessionIn BeforeReport nearest_side bytes s rest × IsOneGrid rest grid)
 
 -- the bytes are the text of a session and then of a grid of its size, which has a value at each open pixel, and to which no nearest value is too wide to be written
 pub record IsNearestInput (bytes : List ℕ) : Type 0 where
@@ -37,7 +37,7 @@ pub record IsNearestInput (bytes : List ℕ) : Type 0 where
 
 -- the bytes are the text of a session and then of a grid to which there is no nearest surface for this cause
 abbrev pub HasNearestFault : List ℕ → NearestFault → Type 0
-HasNearestFault bytes fault = (s : SessionOf) × (g : GridOf) × (AreSessionAndGrid bytes s g × HasCause (phase_told s) g fault)
+HasNearestFault bytes fault = (s : SessionOf) × (grid : GridOf) × (AreSessionAndGrid bytes s grid × HasCause (phase_told s) grid fault)
 
 -- the break of the bytes for which there is no nearest surface: a fault of the session, the first break of the grid after it, or the cause for which there is none
 abbrev pub BreaksNearest : List ℕ → Refusal → Type 0
@@ -49,7 +49,7 @@ BreaksNearest bytes refusal = AfterSession nearest_side bytes (λ rest. BreaksMa
 
 -- a grid is the nearest surface to the grid that the bytes spell after a session
 abbrev pub HasNearest : List ℕ → GridOf → Type 0
-HasNearest bytes output = (s : SessionOf) × (g : GridOf) × (AreSessionAndGrid bytes s g × IsNearestSurface (phase_told s) g output)
+HasNearest bytes output = (s : SessionOf) × (grid : GridOf) × (AreSessionAndGrid bytes s grid × IsNearestSurface (phase_told s) grid output)
 
 -- the text is that of such a grid, each value of which fits 64 bits
 pub record IsNearestAnswer (bytes text : List ℕ) : Type 0 where

@@ -3,9 +3,9 @@ use Rattle.std.specs.Prelude.{◌≡◌}
 use Rattle.insar_words.specs.Asked.{Options}
 use Rattle.raster_model.specs.declared.session.Session.{Session}
 
-pub record HasOptions (options : Options) (s : Session) : Type 0 where
-  pub rule : s.scene.rule ≡ options.rule
-  pub side : s.scene.tiling.side ≡ options.side
-  pub ramp_x : s.scene.terms.ramp_x ≡ options.ramp_x
-  pub ramp_y : s.scene.terms.ramp_y ≡ options.ramp_y
-  pub steepness : s.scene.terms.steep ≡ options.steep
+pub record HasOptions (options : Options) (session : Session) : Type 0 where
+  pub rule : session.scene.rule ≡ options.rule
+  pub side : session.scene.tiling.side ≡ options.side
+  pub ramp_x : session.scene.terms.ramp_x ≡ options.ramp_x
+  pub ramp_y : session.scene.terms.ramp_y ≡ options.ramp_y
+  pub steepness : session.scene.terms.steep ≡ options.steep

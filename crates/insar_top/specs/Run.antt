@@ -24,18 +24,18 @@ run_beside told faults held sink_faults sink sink_now = record { told = told; le
 
 -- a fault was counted
 abbrev pub SourceFailed : Run → Type 0
-SourceFailed r = HasRisen r.source_before r.source_after
+SourceFailed run = HasRisen run.source_before run.source_after
 
 abbrev pub SinkFailed : Run → Type 0
-SinkFailed r = HasRisen r.sink_before r.sink_after
+SinkFailed run = HasRisen run.sink_before run.sink_after
 
 -- nothing was taken from the source, and no fault of it was counted
 abbrev pub IsUnread : Run → Type 0
-IsUnread r = (r.left ≡ r.told) × (r.source_after ≡ r.source_before)
+IsUnread run = (run.left ≡ run.told) × (run.source_after ≡ run.source_before)
 
 -- the sink holds what it held
 abbrev pub HasKept : Run → Type 0
-HasKept r = r.held_now ≡ r.held
+HasKept run = run.held_now ≡ run.held
 
 -- where the bytes are told, P holds of all of them, and nothing is left
 abbrev pub ReadsAll : Option (List ℕ) → Option (List ℕ) → (List ℕ → Type 0) → Type 0

@@ -11,18 +11,18 @@ use Rattle.insar_top.specs.Unwrap.{IsInput}
 
 -- the terms of a screen that words ask for
 abbrev pub screen_terms : Screening → ScreenTerms
-screen_terms s = record { weight = s.weight; radius = s.radius; count = s.count; patch = s.patch }
+screen_terms screening = record { weight = screening.weight; radius = screening.radius; count = screening.count; patch = screening.patch }
 
 -- the new session starts from the mask that screening makes of the old one's first mask, and has all else as the old one has it
-pub record HasScreenedMask (t : ScreenTerms) (old new : Session) : Type 0 where
+pub record HasScreenedMask (terms : ScreenTerms) (old new : Session) : Type 0 where
   pub scene : new.scene ≡ old.scene
-  pub first_mask : IsScreened t old.scene.weights (open_at old.first_mask) new.first_mask
+  pub first_mask : IsScreened terms old.scene.weights (open_at old.first_mask) new.first_mask
   pub scripts : new.scripts ≡ old.scripts
 
 -- the text is that of the session that the bytes spell, with a screened first mask
-pub record IsScreenAnswer (s : Screening) (bytes text : List ℕ) : Type 0 where
+pub record IsScreenAnswer (screening : Screening) (bytes text : List ℕ) : Type 0 where
   pub session : Session
   pub screened : Session
-  pub spelled : IsInput s.side bytes (session_of session)
-  pub changed : HasScreenedMask (screen_terms s) session screened
+  pub spelled : IsInput screening.side bytes (session_of session)
+  pub changed : HasScreenedMask (screen_terms screening) session screened
   pub written : text ≡ session_text (session_of screened)

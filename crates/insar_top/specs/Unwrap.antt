@@ -56,4 +56,4 @@ pub record IsReportAnswer (options : Options) (bytes text : List ℕ) : Type 0 w
 
 -- where the bytes are told, they are a session, nothing of it is left, and the sink gained exactly the text of its report, in which each number is in its range
 abbrev pub IsDone : Options → Run → Type 0
-IsDone options r = IfSome r.told (λ bytes. (text : List ℕ) × (IsReportAnswer options bytes text × ((r.left ≡ Some []) × (r.held_now ≡ with_end r.held text))))
+IsDone options run = IfSome run.told (λ bytes. (text : List ℕ) × (IsReportAnswer options bytes text × ((run.left ≡ Some []) × (run.held_now ≡ with_end run.held text))))

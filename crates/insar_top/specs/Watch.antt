@@ -31,23 +31,23 @@ pub record IsWatchAnswer (options : Options) (readers : ℕ) (bytes text : List 
 
 -- where the bytes are told, they are a session, nothing of it is left, and the sink gained exactly such a text
 abbrev pub IsWatchDone : Options → Run → Type 0
-IsWatchDone options r = IfSome r.told (λ bytes. (readers : ℕ) × (text : List ℕ) × (IsWatchAnswer options readers bytes text × ((r.left ≡ Some []) × (r.held_now ≡ with_end r.held text))))
+IsWatchDone options run = IfSome run.told (λ bytes. (readers : ℕ) × (text : List ℕ) × (IsWatchAnswer options readers bytes text × ((run.left ≡ Some []) × (run.held_now ≡ with_end run.held text))))
 
 -- ---- on the way to it
 
 -- a watcher of this shelf has so many reads and all its room left; and it may still take in a note
-pub record IsFresh (shelf : Book) (reads : ℕ) (w : WatcherView) : Type 0 where
-  pub own : w.reader.shelf ≡ shelf
-  pub left : w.reads ≡ reads
-  pub room : HasRoom w
+pub record IsFresh (shelf : Book) (reads : ℕ) (watcher : WatcherView) : Type 0 where
+  pub own : watcher.reader.shelf ≡ shelf
+  pub left : watcher.reads ≡ reads
+  pub room : HasRoom watcher
 
-pub record IsReady (shelf : Book) (w : WatcherView) : Type 0 where
-  pub own : w.reader.shelf ≡ shelf
-  pub place : 1 ≤ w.room
+pub record IsReady (shelf : Book) (watcher : WatcherView) : Type 0 where
+  pub own : watcher.reader.shelf ≡ shelf
+  pub place : 1 ≤ watcher.room
 
 -- a watcher kept the last of the published revisions
 abbrev pub KeptLast : List ℕ → WatcherView → Type 0
-KeptLast published w = (last : ℕ) → last_in published ≡ Some last → Contains w.revisions last
+KeptLast published watcher = (last : ℕ) → last_in published ≡ Some last → Contains watcher.revisions last
 
 -- what each watcher saw of what was published
 abbrev pub all_seen : List ℕ → List WatcherView → List (List ℕ)

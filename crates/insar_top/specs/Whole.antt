@@ -33,7 +33,7 @@ pub record IsWholeAnswer (options : Options) (bytes text : List ℕ) : Type 0 wh
 
 -- where the bytes are told, they are a session, nothing of it is left, and the sink gained exactly the text of such a surface
 abbrev pub IsLeastDone : Options → Run → Type 0
-IsLeastDone options r = IfSome r.told (λ bytes. (text : List ℕ) × (IsWholeAnswer options bytes text × ((r.left ≡ Some []) × (r.held_now ≡ with_end r.held text))))
+IsLeastDone options run = IfSome run.told (λ bytes. (text : List ℕ) × (IsWholeAnswer options bytes text × ((run.left ≡ Some []) × (run.held_now ≡ with_end run.held text))))
 
 -- two masks agree on the pixels of a raster
 abbrev pub MasksAgree : Raster → Field Bool → Field Bool → Type 0
@@ -41,9 +41,9 @@ MasksAgree raster one other = (x y : ℕ) → x < raster.width → y < raster.he
 
 -- the least of all costs no less than the tiles of a surface that a report of the same session publishes for a revision whose mask is the first, and no more than its tiles and its seams
 abbrev pub ReportsBoundTheLeast : Type 0
-ReportsBoundTheLeast = (s : Session) (v : ReportOf) (w : WholeOf) (at analyst revision : ℕ) (i : ItemOf) (k : SurfaceOf) → IsReportOf s v → slice_get v.items at ≡ Some i → i.entry ≡ Published analyst revision → i.surface ≡ Some k
-    → MasksAgree (raster_of s.scene) (mask_in s (history_of v) revision) (open_at s.first_mask) → IsWholeOf s w → (k.tile_cost ≤ w.cost) × (w.cost ≤ k.tile_cost + k.seam_cost)
+ReportsBoundTheLeast = (s : Session) (report : ReportOf) (w : WholeOf) (at analyst revision : ℕ) (i : ItemOf) (surface : SurfaceOf) → IsReportOf s report → slice_get report.items at ≡ Some i → i.entry ≡ Published analyst revision → i.surface ≡ Some surface
+    → MasksAgree (raster_of s.scene) (mask_in s (history_of report) revision) (open_at s.first_mask) → IsWholeOf s w → (surface.tile_cost ≤ w.cost) × (w.cost ≤ surface.tile_cost + surface.seam_cost)
 
 -- revision 0 has the first mask
 abbrev pub TheFirstMaskIsThatOfRevision0 : Type 0
-TheFirstMaskIsThatOfRevision0 = (s : Session) (v : ReportOf) → MasksAgree (raster_of s.scene) (mask_in s (history_of v) 0) (open_at s.first_mask)
+TheFirstMaskIsThatOfRevision0 = (s : Session) (report : ReportOf) → MasksAgree (raster_of s.scene) (mask_in s (history_of report) 0) (open_at s.first_mask)

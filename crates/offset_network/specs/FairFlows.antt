@@ -11,9 +11,9 @@ abbrev pub flow_on : List ℤ → ℕ → ℤ
 flow_on flows i = slice_index_or flows i (pos 0)
 
 -- a flow is no greater than the steepness times the weight of its link, and bounds what the link costs by that cost itself: for the departure with the offsets, the flow times it, less what the flow is above the weight, is the weight times the steps
-pub record MeetsCost (steep : ℕ) (offsets : List ℤ) (k : Link) (flow : ℤ) : Type 0 where
-  pub small : unsigned_abs flow ≤ steep * k.weight
-  pub equal : (flow *ℤ moved_departure offsets k) -ℤ pos (over k.weight flow) ≡ pos (k.weight * steps steep (moved_departure offsets k))
+pub record MeetsCost (steep : ℕ) (offsets : List ℤ) (link : Link) (flow : ℤ) : Type 0 where
+  pub small : unsigned_abs flow ≤ steep * link.weight
+  pub equal : (flow *ℤ moved_departure offsets link) -ℤ pos (over link.weight flow) ≡ pos (link.weight * steps steep (moved_departure offsets link))
 
 -- and where there is no link, nothing flows
 abbrev pub IsFairFlow : ℕ → List ℤ → Option Link → ℤ → Type 0

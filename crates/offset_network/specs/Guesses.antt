@@ -10,5 +10,5 @@ use Rattle.offset_network.specs.declared.guessing.Judged.TheVariants.{Certified,
 
 -- a guess that is certified is a good result with the revision, and nothing is said of any other
 abbrev pub IsJudgedGuess : Scene → MaskView → RegionsView → TileSetView → ℕ → Judged → Type 0
-IsJudgedGuess s mask regions tiles revision (Certified solved) = (solved.revision ≡ revision) × IsGoodSeams s mask regions tiles solved
-IsJudgedGuess s mask regions tiles revision (Dropped offsets) = Unit {0}
+IsJudgedGuess scene mask regions tiles revision (Certified solved) = (solved.revision ≡ revision) × IsGoodSeams scene mask regions tiles solved
+IsJudgedGuess scene mask regions tiles revision (Dropped offsets) = Unit {0}

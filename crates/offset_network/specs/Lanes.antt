@@ -57,7 +57,7 @@ pub record AreLanes (n : ℕ) (lanes : List (Option Lane)) : Type 0 where
 
 -- a lane of a link for the departure less so much, if anything can flow on it
 abbrev pub part_of : Link → ℕ → ℕ → ℤ → Option Lane
-part_of k low high less = if low + high == 0 then None else Some (record { from = k.from; to = k.to; low = low; high = high; departure = k.departure -ℤ less })
+part_of link low high less = if low + high == 0 then None else Some (record { from = link.from; to = link.to; low = low; high = high; departure = link.departure -ℤ less })
 
 abbrev pub lane_of : Option Link → ℕ → ℕ → ℤ → Option Lane
 lane_of None low high less = None

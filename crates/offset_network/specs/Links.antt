@@ -8,14 +8,14 @@ abbrev pub link_at : List (Option Link) → ℕ → Option Link
 link_at links i = slice_index_or links i None
 
 -- a link joins two of n regions, and its weight and departure are no greater than these can be
-pub record IsLink (n : ℕ) (k : Link) : Type 0 where
-  pub from : k.from < n
-  pub to : k.to < n
-  pub weight : k.weight ≤ MAX_WEIGHT
-  pub departure : unsigned_abs k.departure ≤ MAX_SEAM_DEPARTURE
+pub record IsLink (n : ℕ) (link : Link) : Type 0 where
+  pub from : link.from < n
+  pub to : link.to < n
+  pub weight : link.weight ≤ MAX_WEIGHT
+  pub departure : unsigned_abs link.departure ≤ MAX_SEAM_DEPARTURE
 
 abbrev pub IsLinkIn : ℕ → Option Link → Type 0
-IsLinkIn n o = (k : Link) → o ≡ Some k → IsLink n k
+IsLinkIn n o = (link : Link) → o ≡ Some link → IsLink n link
 
 -- links between n regions, of which there are no more than a raster can have edges
 pub record AreLinks (n : ℕ) (links : List (Option Link)) : Type 0 where

@@ -21,20 +21,20 @@ pub record AreSupplies (n : ℕ) (lanes : List (Option Lane)) (i : ℕ) (supplie
   pub small : (v : ℕ) → unsigned_abs (slice_index_or supplies v (pos 0)) ≤ 1966050 * i
 
 -- arc a is the lane's, from its first region to the other, and its twin comes next; their residual capacities sum to what it can take both ways
-pub record IsArcOf (s : Shape) (f : State) (a : ℕ) (k : Lane) : Type 0 where
-  pub below : a + 1 < s.arcs
-  pub head : s.head a ≡ k.to
-  pub tail : s.head (a + 1) ≡ k.from
-  pub twin : s.twin a ≡ a + 1
-  pub cost : s.cost a ≡ neg_ℤ k.departure
-  pub capacity : f.residual a + f.residual (a + 1) ≡ k.low + k.high
+pub record IsArcOf (shape : Shape) (state : State) (a : ℕ) (k : Lane) : Type 0 where
+  pub below : a + 1 < shape.arcs
+  pub head : shape.head a ≡ k.to
+  pub tail : shape.head (a + 1) ≡ k.from
+  pub twin : shape.twin a ≡ a + 1
+  pub cost : shape.cost a ≡ neg_ℤ k.departure
+  pub capacity : state.residual a + state.residual (a + 1) ≡ k.low + k.high
 
 -- the network has a node for each region and the arcs of the first i lanes
-pub record HasArcs (n : ℕ) (lanes : List (Option Lane)) (i : ℕ) (s : Shape) (f : State) : Type 0 where
-  pub nodes : s.nodes ≡ n
-  pub arcs : s.arcs ≡ arcs_before lanes i
-  pub are_arcs : (a : ℕ) → a < s.arcs → IsArc s a
-  pub each : (j : ℕ) (k : Lane) → j < i → lane_at lanes j ≡ Some k → IsArcOf s f (arcs_before lanes j) k
+pub record HasArcs (n : ℕ) (lanes : List (Option Lane)) (i : ℕ) (shape : Shape) (state : State) : Type 0 where
+  pub nodes : shape.nodes ≡ n
+  pub arcs : shape.arcs ≡ arcs_before lanes i
+  pub are_arcs : (a : ℕ) → a < shape.arcs → IsArc shape a
+  pub each : (j : ℕ) (k : Lane) → j < i → lane_at lanes j ≡ Some k → IsArcOf shape state (arcs_before lanes j) k
 
 -- the flow on a lane: the most that it can be, minus the residual capacity of its arc
 abbrev pub flow_left : Option Lane → ℕ → ℤ
@@ -42,42 +42,42 @@ flow_left None left = pos 0
 flow_left (Some k) left = pos k.high -ℤ pos left
 
 abbrev pub lane_flow : List (Option Lane) → State → ℕ → ℤ
-lane_flow lanes f j = flow_left (lane_at lanes j) (f.residual (arcs_before lanes j))
+lane_flow lanes state j = flow_left (lane_at lanes j) (state.residual (arcs_before lanes j))
 
 -- nothing has flowed yet in the network of the first i lanes, and the flows at the start are counted as supplies
-pub record IsStarted (n : ℕ) (lanes : List (Option Lane)) (i : ℕ) (s : Shape) (f : State) : Type 0 where
-  pub built : HasArcs n lanes i s f
-  pub flows : (j : ℕ) → j < i → lane_flow lanes f j ≡ start_flow (lane_at lanes j)
-  pub excess : (v : ℕ) → v < n → f.excess v ≡ supply_of lanes (length lanes) v
-  pub flat : (v : ℕ) → v < n → f.potential v ≡ pos 0
-  pub costs : (a : ℕ) → a < s.arcs → unsigned_abs (s.cost a) ≤ (MAX_SEAM_DEPARTURE + 1)
-  pub amount : total_amount s f ≤ℤ pos (1966050 * (length lanes + i))
+pub record IsStarted (n : ℕ) (lanes : List (Option Lane)) (i : ℕ) (shape : Shape) (state : State) : Type 0 where
+  pub built : HasArcs n lanes i shape state
+  pub flows : (j : ℕ) → j < i → lane_flow lanes state j ≡ start_flow (lane_at lanes j)
+  pub excess : (v : ℕ) → v < n → state.excess v ≡ supply_of lanes (length lanes) v
+  pub flat : (v : ℕ) → v < n → state.potential v ≡ pos 0
+  pub costs : (a : ℕ) → a < shape.arcs → unsigned_abs (shape.cost a) ≤ (MAX_SEAM_DEPARTURE + 1)
+  pub amount : total_amount shape state ≤ℤ pos (1966050 * (length lanes + i))
 
 -- each region's excess is what the flows bring to it
 abbrev pub HasFlows : ℕ → List (Option Lane) → State → Type 0
-HasFlows n lanes f = (v : ℕ) → v < n → f.excess v ≡ sum_below (length lanes) (λ j. brings (lane_at lanes j) v (lane_flow lanes f j))
+HasFlows n lanes state = (v : ℕ) → v < n → state.excess v ≡ sum_below (length lanes) (λ j. brings (lane_at lanes j) v (lane_flow lanes state j))
 
 -- a network of all lanes without excess
-pub record IsSolved (n : ℕ) (lanes : List (Option Lane)) (s : Shape) (f : State) : Type 0 where
-  pub built : HasArcs n lanes (length lanes) s f
-  pub flows : HasFlows n lanes f
-  pub balanced : HasNoExcess s f
-  pub heights : LiesWithin s f (MAX_SEAM_DEPARTURE + 1)
-  pub reduced : HasReducedCosts s f
+pub record IsSolved (n : ℕ) (lanes : List (Option Lane)) (shape : Shape) (state : State) : Type 0 where
+  pub built : HasArcs n lanes (length lanes) shape state
+  pub flows : HasFlows n lanes state
+  pub balanced : HasNoExcess shape state
+  pub heights : LiesWithin shape state (MAX_SEAM_DEPARTURE + 1)
+  pub reduced : HasReducedCosts shape state
 
 -- the flows of the first i lanes
-pub record AreFlows (lanes : List (Option Lane)) (f : State) (i : ℕ) (flows : List ℤ) : Type 0 where
+pub record AreFlows (lanes : List (Option Lane)) (state : State) (i : ℕ) (flows : List ℤ) : Type 0 where
   pub count : length flows ≡ i
-  pub values : (j : ℕ) → j < i → slice_index_or flows j (pos 0) ≡ lane_flow lanes f j
+  pub values : (j : ℕ) → j < i → slice_index_or flows j (pos 0) ≡ lane_flow lanes state j
 
 -- how high a region lies: its offset at the start, and its node's potential
 abbrev pub raised_height : List ℤ → State → ℕ → ℤ
-raised_height start f v = slice_index_or start v (pos 0) +ℤ f.potential v
+raised_height start state v = slice_index_or start v (pos 0) +ℤ state.potential v
 
 -- how high the first n regions lie, lowered by a number
-pub record AreLowered (start : List ℤ) (f : State) (by : ℤ) (n : ℕ) (offsets : List ℤ) : Type 0 where
+pub record AreLowered (start : List ℤ) (state : State) (by : ℤ) (n : ℕ) (offsets : List ℤ) : Type 0 where
   pub count : length offsets ≡ n
-  pub values : (v : ℕ) → v < n → slice_index_or offsets v (pos 0) ≡ raised_height start f v -ℤ by
+  pub values : (v : ℕ) → v < n → slice_index_or offsets v (pos 0) ≡ raised_height start state v -ℤ by
 
 -- a number was added at one place
 pub record AddsAt (old new : List ℤ) (place : ℕ) (amount : ℤ) : Type 0 where

@@ -15,8 +15,8 @@ pub record ArePlaces (count side step n : ℕ) (places : List Place) : Type 0 wh
   pub each : (i : ℕ) (p : Place) → slice_get places i ≡ Some p → p ≡ tile_place count side step i
 
 -- the pixel's tile, with its window
-pub record IsSpotOf (g : Tiling) (x y : ℕ) (spot : Spot) : Type 0 where
-  pub here : spot.tile ≡ tile_at g x y
-  pub exists : spot.tile < tiles_of g
-  pub window_is : spot.window ≡ window_of g spot.tile
-  pub pixels : IsWindowOf g spot.tile spot.window
+pub record IsSpotOf (tiling : Tiling) (x y : ℕ) (spot : Spot) : Type 0 where
+  pub here : spot.tile ≡ tile_at tiling x y
+  pub exists : spot.tile < tiles_of tiling
+  pub window_is : spot.window ≡ window_of tiling spot.tile
+  pub pixels : IsWindowOf tiling spot.tile spot.window

@@ -12,7 +12,7 @@ pub record AreStartOffsets (n : ℕ) (offsets : List ℤ) : Type 0 where
 
 -- a link's departure once its regions have these offsets
 abbrev pub moved_departure : List ℤ → Link → ℤ
-moved_departure offsets k = k.departure +ℤ slice_index_or offsets k.to (pos 0) -ℤ slice_index_or offsets k.from (pos 0)
+moved_departure offsets link = link.departure +ℤ slice_index_or offsets link.to (pos 0) -ℤ slice_index_or offsets link.from (pos 0)
 
 abbrev pub moved_link : List ℤ → Option Link → Option Link
 moved_link offsets None = None

@@ -17,17 +17,17 @@ use Rattle.seam_regions.specs.Regions.{shifted_by}
 use Rattle.seam_regions.specs.RegionsView.{RegionsView}
 
 -- the set has a good result for each tile of the scene
-pub record IsGoodTileSet (s : Scene) (mask : Field Bool) (tiles : TileSetView) : Type 0 where
-  pub tiling : tiles.tiling ≡ s.tiling
-  pub each : (t : ℕ) (k : TileResult) → t < tiles_of s.tiling → slice_get tiles.results t ≡ Some k → IsGoodTile s mask k
+pub record IsGoodTileSet (scene : Scene) (mask : Field Bool) (tiles : TileSetView) : Type 0 where
+  pub tiling : tiles.tiling ≡ scene.tiling
+  pub each : (t : ℕ) (k : TileResult) → t < tiles_of scene.tiling → slice_get tiles.results t ≡ Some k → IsGoodTile scene mask k
 
 -- a good result: it has one offset from -2^46 to 2^46 for each region, and the surface with the offsets meets the anchor and is certified at the seams
-pub record IsGoodSeams (s : Scene) (mask : MaskView) (regions : RegionsView) (tiles : TileSetView) (k : SeamResult) : Type 0 where
+pub record IsGoodSeams (scene : Scene) (mask : MaskView) (regions : RegionsView) (tiles : TileSetView) (k : SeamResult) : Type 0 where
   pub count : length k.offsets.items ≡ regions.count
   pub in_range : (v : ℕ) → v < regions.count → IsNear (slice_index_or k.offsets.items v (pos 0))
-  pub certified : IsGoodAtSeams (raster_of s) (open_at mask) (shifted_by regions k.offsets.items (solved_cycles s tiles.results)) k.flows.items
+  pub certified : IsGoodAtSeams (raster_of scene) (open_at mask) (shifted_by regions k.offsets.items (solved_cycles scene tiles.results)) k.flows.items
 
 -- what was found for a revision: offsets that are good, unless memory ran out
-pub record AreOffsetsAt (s : Scene) (mask : MaskView) (regions : RegionsView) (tiles : TileSetView) (now : ℕ) (found : Result SeamResult AllocError) : Type 0 where
+pub record AreOffsetsAt (scene : Scene) (mask : MaskView) (regions : RegionsView) (tiles : TileSetView) (now : ℕ) (found : Result SeamResult AllocError) : Type 0 where
   pub revision : IfOk found (λ solved. solved.revision ≡ now)
-  pub good : IfOk found (IsGoodSeams s mask regions tiles)
+  pub good : IfOk found (IsGoodSeams scene mask regions tiles)

@@ -21,31 +21,31 @@ abbrev pub entries_in : List Item → List Entry
 entries_in items = map (λ i. i.entry) (map told_item items)
 
 -- what is held is what the history says: its mask with the stamps, whether each tile is kept, how many commands each analyst has done, the newest publication
-pub record IsReplay (s : Session) (H : List Entry) (held : RevisionsView) (tiles : List Bool) (marks : List ℕ) (last : Option ℕ) : Type 0 where
-  pub legal : IsLegal s H
-  pub past : TellsHistory s H held marks last
-  pub count : length tiles ≡ tiles_of s.scene.tiling
-  pub kept : (t : ℕ) → t < tiles_of s.scene.tiling → slice_index_or tiles t Bool.false ≡ is_kept s H t
+pub record IsReplay (session : Session) (H : List Entry) (held : RevisionsView) (tiles : List Bool) (marks : List ℕ) (last : Option ℕ) : Type 0 where
+  pub legal : IsLegal session H
+  pub past : TellsHistory session H held marks last
+  pub count : length tiles ≡ tiles_of session.scene.tiling
+  pub kept : (t : ℕ) → t < tiles_of session.scene.tiling → slice_index_or tiles t Bool.false ≡ is_kept session H t
 
 abbrev pub IsReplayOf : Session → List Entry → Replay → Type 0
-IsReplayOf s H p = IsReplay s H p.revisions p.kept.items p.cursors.items p.newest
+IsReplayOf session H replay = IsReplay session H replay.revisions replay.kept.items replay.cursors.items replay.newest
 
 -- what is held is what some history says; and that of one of some session, after which an entry may come
 abbrev pub IsReplaying : Session → Replay → Type 0
-IsReplaying s p = (H : List Entry) × IsReplayOf s H p
+IsReplaying session replay = (H : List Entry) × IsReplayOf session H replay
 
 abbrev pub MayTake : Replay → Entry → Type 0
-MayTake p e = (s : Session) × ((H : List Entry) × (IsReplayOf s H p × IsStep s H e))
+MayTake replay entry = (session : Session) × ((H : List Entry) × (IsReplayOf session H replay × IsStep session H entry))
 
 -- whatever the history is: a test tells whether an entry may come next, and whether all scripts are at their ends; an entry was taken
 abbrev pub TellsStep : Session → Replay → Entry → Bool → Type 0
-TellsStep s p e test = (H : List Entry) → IsReplayOf s H p → IsTrue test ↔ IsStep s H e
+TellsStep session replay entry test = (H : List Entry) → IsReplayOf session H replay → IsTrue test ↔ IsStep session H entry
 
 abbrev pub TellsComplete : Session → Replay → Bool → Type 0
-TellsComplete s p test = (H : List Entry) → IsReplayOf s H p → IsTrue test ↔ IsComplete s H
+TellsComplete session replay test = (H : List Entry) → IsReplayOf session H replay → IsTrue test ↔ IsComplete session H
 
 abbrev pub TakesEntry : Replay → Replay → Entry → Type 0
-TakesEntry old new e = (s : Session) (H : List Entry) → IsReplayOf s H old → IsStep s H e → IsReplayOf s (H ++ e ∷ []) new
+TakesEntry old new entry = (session : Session) (H : List Entry) → IsReplayOf session H old → IsStep session H entry → IsReplayOf session (H ++ entry ∷ []) new
 
 -- who does a command with an entry
 abbrev pub doer : Entry → Option ℕ

@@ -35,7 +35,7 @@ pub record IsSameInput (s t : Session) : Type 0 where
 
 -- a report that equals one that is certified for a session is certified for it
 abbrev pub EqualReportsAreCertifiedAlike : Type 0
-EqualReportsAreCertifiedAlike = (s : Session) (v w : ReportOf) → IsSameReport v w → IsCertifiedReport s v → IsCertifiedReport s w
+EqualReportsAreCertifiedAlike = (session : Session) (v w : ReportOf) → IsSameReport v w → IsCertifiedReport session v → IsCertifiedReport session w
 
 -- where a report is certified for a session, each report that tells the same is certified for each session that tells the same
 abbrev pub AcceptanceIsOfTexts : Type 0

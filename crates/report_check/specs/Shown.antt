@@ -21,44 +21,44 @@ use Rattle.report_check.specs.Verdicts.{IsSurfaceVerdict, PassesSeams, surface_s
 
 -- the raster, the open pixels, what is told
 abbrev pub raster_shown : ShownSurface → Raster
-raster_shown s = raster_of s.scene.now
+raster_shown shown = raster_of shown.scene.now
 
 abbrev pub open_shown : ShownSurface → Field Bool
-open_shown s = open_at s.mask.now
+open_shown shown = open_at shown.mask.now
 
 abbrev pub told_shown : ShownSurface → SurfaceOf
-told_shown s = told_surface s.told.now
+told_shown shown = told_surface shown.told.now
 
 -- the verdict on the flows, with some numbers of the regions
-pub record IsShownFlowsVerdict (r : Raster) (mask : Field Bool) (k : SurfaceOf) (verdict : SeamVerdict) : Type 0 where
+pub record IsShownFlowsVerdict (raster : Raster) (mask : Field Bool) (surface : SurfaceOf) (verdict : SeamVerdict) : Type 0 where
   pub labels : Field ℕ
   pub count : ℕ
-  pub regions : AreRegions r mask labels count
-  pub says : IsSeamVerdict r mask labels count (cycles_shown k.values) k.flows verdict
+  pub regions : AreRegions raster mask labels count
+  pub says : IsSeamVerdict raster mask labels count (cycles_shown surface.values) surface.flows verdict
 
 -- a surface with which nothing is wrong
-pub record IsGoodSurface (r : Raster) (mask : Field Bool) (k : SurfaceOf) : Type 0 where
-  pub passes : PassesSeams r mask k
-  pub tile_cost : pos k.tile_cost ≡ tile_costs r mask (surface_shown r k)
-  pub seam_cost_is : pos k.seam_cost ≡ seam_cost r mask (surface_shown r k)
+pub record IsGoodSurface (raster : Raster) (mask : Field Bool) (surface : SurfaceOf) : Type 0 where
+  pub passes : PassesSeams raster mask surface
+  pub tile_cost : pos surface.tile_cost ≡ tile_costs raster mask (surface_shown raster surface)
+  pub seam_cost_is : pos surface.seam_cost ≡ seam_cost raster mask (surface_shown raster surface)
 
 -- what stands after an entry is so, or has this verdict
 abbrev pub IsGoodAfter : Raster → Field Bool → Entry → Option SurfaceOf → Type 0
-IsGoodAfter r mask (Revised a edit) behind = behind ≡ None
-IsGoodAfter r mask (Kept t stamp) behind = behind ≡ None
-IsGoodAfter r mask (Published a revision) None = ⊥
-IsGoodAfter r mask (Published a revision) (Some k) = IsGoodSurface r mask k
-IsGoodAfter r mask (Settled a revision) behind = behind ≡ None
-IsGoodAfter r mask (Shown a revision) behind = behind ≡ None
+IsGoodAfter raster mask (Revised a edit) behind = behind ≡ None
+IsGoodAfter raster mask (Kept t stamp) behind = behind ≡ None
+IsGoodAfter raster mask (Published a revision) None = ⊥
+IsGoodAfter raster mask (Published a revision) (Some k) = IsGoodSurface raster mask k
+IsGoodAfter raster mask (Settled a revision) behind = behind ≡ None
+IsGoodAfter raster mask (Shown a revision) behind = behind ≡ None
 
 abbrev pub IsUnfitAfter : Raster → Field Bool → Entry → Option SurfaceOf → CheckVerdict → Type 0
-IsUnfitAfter r mask (Revised a edit) behind verdict = ⊥
-IsUnfitAfter r mask (Kept t stamp) behind verdict = ⊥
-IsUnfitAfter r mask (Published a revision) None verdict = ⊥
-IsUnfitAfter r mask (Published a revision) (Some k) verdict = IsSurfaceVerdict r mask revision k verdict
-IsUnfitAfter r mask (Settled a revision) behind verdict = ⊥
-IsUnfitAfter r mask (Shown a revision) behind verdict = ⊥
+IsUnfitAfter raster mask (Revised a edit) behind verdict = ⊥
+IsUnfitAfter raster mask (Kept t stamp) behind verdict = ⊥
+IsUnfitAfter raster mask (Published a revision) None verdict = ⊥
+IsUnfitAfter raster mask (Published a revision) (Some k) verdict = IsSurfaceVerdict raster mask revision k verdict
+IsUnfitAfter raster mask (Settled a revision) behind verdict = ⊥
+IsUnfitAfter raster mask (Shown a revision) behind verdict = ⊥
 
 -- what stands after all entries of a report is certified
 abbrev pub AreCertifiedAfter : Session → ReportOf → Type 0
-AreCertifiedAfter s v = (k : ℕ) (i : ItemOf) → slice_get v.items k ≡ Some i → IsCertifiedAfter s (history_of v) i.entry i.surface
+AreCertifiedAfter session report = (k : ℕ) (i : ItemOf) → slice_get report.items k ≡ Some i → IsCertifiedAfter session (history_of report) i.entry i.surface

@@ -50,9 +50,9 @@ after_name (b ∷ name) (c ∷ line) = if b == c then after_name name line else 
 
 -- the word, where nothing follows its name
 abbrev pub if_ends : Word → Option (List ℕ) → Option Word
-if_ends w None = None
-if_ends w (Some []) = Some w
-if_ends w (Some (b ∷ rest)) = None
+if_ends word None = None
+if_ends word (Some []) = Some word
+if_ends word (Some (b ∷ rest)) = None
 
 -- the edit, where a rectangle follows its name
 abbrev pub of_rect : (Rect → Word) → Option Rect → Option Word
@@ -68,10 +68,10 @@ or_else None o = o
 or_else (Some w) o = Some w
 
 abbrev pub masks : Rect → Word
-masks r = words.Command (Change (Mask r))
+masks rect = words.Command (Change (Mask rect))
 
 abbrev pub unmasks : Rect → Word
-unmasks r = words.Command (Change (Unmask r))
+unmasks rect = words.Command (Change (Unmask rect))
 
 abbrev pub edit_in : List ℕ → Option Word
 edit_in line = or_else (of_fields masks (after_name (codes "mask") line)) (of_fields unmasks (after_name (codes "unmask") line))

@@ -9,11 +9,11 @@ use Rattle.session_script.specs.Text.{session_text}
 
 -- bytes are a session's text and then others, or have a fault
 abbrev pub SessionOrFault : Type 0
-SessionOrFault = (usage : SessionUse) (side : ℕ) (bytes : List ℕ) → ((s : SessionOf) × (rest : List ℕ) × IsSessionIn usage side bytes s rest) ⊎ ((fault : InputFault) × HasFault usage side bytes fault)
+SessionOrFault = (usage : SessionUse) (side : ℕ) (bytes : List ℕ) → ((session : SessionOf) × (rest : List ℕ) × IsSessionIn usage side bytes session rest) ⊎ ((fault : InputFault) × HasFault usage side bytes fault)
 
 -- bytes that are a session's text and then others have no first break
 abbrev pub NoBreakOfSession : Type 0
-NoBreakOfSession = (usage : SessionUse) (side at : ℕ) (bytes : List ℕ) (s : SessionOf) (rest : List ℕ) (fault : InputFault) → IsSessionIn usage side bytes s rest → SessionBreak usage side at bytes fault → ⊥
+NoBreakOfSession = (usage : SessionUse) (side at : ℕ) (bytes : List ℕ) (session : SessionOf) (rest : List ℕ) (fault : InputFault) → IsSessionIn usage side bytes session rest → SessionBreak usage side at bytes fault → ⊥
 
 -- bytes have one first break
 abbrev pub OneSessionBreak : Type 0
@@ -24,7 +24,7 @@ abbrev pub OneFault : Type 0
 OneFault = (usage : SessionUse) (side : ℕ) (bytes : List ℕ) (e f : InputFault) → HasFault usage side bytes e → HasFault usage side bytes f → e ≡ f
 
 abbrev pub NoFaultOfSession : Type 0
-NoFaultOfSession = (usage : SessionUse) (side : ℕ) (bytes : List ℕ) (s : SessionOf) (rest : List ℕ) (fault : InputFault) → IsSessionIn usage side bytes s rest → HasFault usage side bytes fault → ⊥
+NoFaultOfSession = (usage : SessionUse) (side : ℕ) (bytes : List ℕ) (session : SessionOf) (rest : List ℕ) (fault : InputFault) → IsSessionIn usage side bytes session rest → HasFault usage side bytes fault → ⊥
 
 -- bytes are one session's text, which ends in one place
 abbrev pub OneSession : Type 0

@@ -12,13 +12,13 @@ use Rattle.session_script.specs.Sections.{Sections}
 use Rattle.session_script.specs.Sessions.{SessionOf, session_of, mask_open_in}
 
 -- the session is made of these planes and scripts
-pub record IsMadeOf (read : ThreePlanes × Sections) (s : SessionOf) : Type 0 where
-  pub phase_is : s.phase ≡ read.0.phase
-  pub weights_are : s.weights ≡ read.0.weights
-  pub mask_is : IsMaskOf s.mask read.0.phase.width read.0.phase.height (mask_open_in read.0.mask)
-  pub scripts_are : s.scripts ≡ read.1
+pub record IsMadeOf (read : ThreePlanes × Sections) (session : SessionOf) : Type 0 where
+  pub phase_is : session.phase ≡ read.0.phase
+  pub weights_are : session.weights ≡ read.0.weights
+  pub mask_is : IsMaskOf session.mask read.0.phase.width read.0.phase.height (mask_open_in read.0.mask)
+  pub scripts_are : session.scripts ≡ read.1
 
 -- a session is made of what the parser gives, or the call's outcome is its fault
 abbrev pub IsParsedSession : SessionUse → ℕ → Call → Result Session SessionFault → Type 0
-IsParsedSession usage side c (Ok session) = (parts : SessionParts) × IsMadeOf (parts_read parts) (session_of session) × IsOutcome parts_read (Ok parts) c (session_parser usage side)
-IsParsedSession usage side c (Err fault) = IsOutcome parts_read (Err fault) c (session_parser usage side)
+IsParsedSession usage side call (Ok session) = (parts : SessionParts) × IsMadeOf (parts_read parts) (session_of session) × IsOutcome parts_read (Ok parts) call (session_parser usage side)
+IsParsedSession usage side call (Err fault) = IsOutcome parts_read (Err fault) call (session_parser usage side)

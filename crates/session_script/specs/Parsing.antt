@@ -65,22 +65,22 @@ line_parser n line more at (b ∷ bytes) = if b == 10 then word_or_fault n (word
 
 -- a word after sections; `next` is what parses the lines after it
 abbrev pub on_word : (Sections → Parser Sections) → Sections → Word → Option InputFault → Parser Sections
-on_word next ss w (Some fault) = fails fault
+on_word next ss word (Some fault) = fails fault
 on_word next ss words.Analyst None = next (with_word words.Analyst ss)
 on_word next ss words.End None = parsed ss
 on_word next ss (words.Command c) None = next (with_command c ss)
 
 -- the lines after some sections, of which so many at most may come
 unfoldable pub sections_parser : Frame → ℕ → Sections → Parser Sections
-sections_parser f zero ss = fails NoEnd
-sections_parser f (suc k) ss = chain (line_parser (line_count ss + 1) []) (λ w. on_word (sections_parser f k) ss w (word_broken f (line_count ss + 1) ss w))
+sections_parser frame zero ss = fails NoEnd
+sections_parser frame (suc k) ss = chain (line_parser (line_count ss + 1) []) (λ w. on_word (sections_parser frame k) ss w (word_broken frame (line_count ss + 1) ss w))
 
 -- sections within the limits have 32,776 lines at most, and the line `end` follows
 abbrev pub most_lines : ℕ
 most_lines = 32777
 
 abbrev pub lines_parser : Frame → Parser Sections
-lines_parser f = sections_parser f most_lines []
+lines_parser frame = sections_parser frame most_lines []
 
 -- ---- the script part
 
@@ -90,12 +90,12 @@ alone_end ss None = parsed (meant ss)
 alone_end ss (Some b) = λ more at bytes. Err (AfterEnd at)
 
 abbrev pub alone_script : Frame → Option ℕ → Parser Sections
-alone_script f None = parsed usual
-alone_script f (Some b) = chain (lines_parser f) (λ ss. chain peek_parser (alone_end ss))
+alone_script frame None = parsed usual
+alone_script frame (Some b) = chain (lines_parser frame) (λ ss. chain peek_parser (alone_end ss))
 
 abbrev pub script_parser : Frame → SessionUse → Parser Sections
-script_parser f Alone = chain peek_parser (alone_script f)
-script_parser f BeforeReport = chain (lines_parser f) (λ ss. parsed (meant ss))
+script_parser frame Alone = chain peek_parser (alone_script frame)
+script_parser frame BeforeReport = chain (lines_parser frame) (λ ss. parsed (meant ss))
 
 -- ---- the planes
 
@@ -111,8 +111,8 @@ abbrev pub has_size : PlaneOf → PlaneOf → Bool
 has_size p q = (q.width == p.width) && (q.height == p.height)
 
 abbrev pub where_sized : Role → PlaneOf → Bool → Parser PlaneOf
-where_sized role p true = parsed p
-where_sized role p false = fails (SizesDiffer role)
+where_sized role plane true = parsed plane
+where_sized role plane false = fails (SizesDiffer role)
 
 abbrev pub if_sized : Role → PlaneOf → PlaneOf → Parser PlaneOf
 if_sized role phase p = where_sized role p (has_size phase p)
@@ -148,14 +148,14 @@ session_parser usage side = chain planes_parser (λ p. chain (script_parser (fra
 
 -- the limit was handed out and another byte is there
 abbrev pub IsFull : Call → Type 0
-IsFull c = (c.end ≡ c.limit) × HasMore c.left
+IsFull call = (call.end ≡ call.limit) × HasMore call.left
 
 -- the call's outcome is the parser's, of the bytes that the limit lets out; or a read fault was counted; lack of memory has no cause
 abbrev pub IsOutcome : {X A : Type 0} → (X → A) → Result X SessionFault → Call → Parser A → Type 0
-IsOutcome view (Ok x) c p = Told c (λ more bytes rest. p more c.at bytes ≡ Ok (view x, c.end, rest))
-IsOutcome view (Err (Input fault)) c p = Told c (λ more bytes rest. p more c.at bytes ≡ Err fault) × (fault ≡ TooLong → IsFull c)
-IsOutcome view (Err ReadFault) c p = HasRisen c.before c.after
-IsOutcome view (Err Memory) c p = ⊤
+IsOutcome view (Ok x) call p = Told call (λ more bytes rest. p more call.at bytes ≡ Ok (view x, call.end, rest))
+IsOutcome view (Err (Input fault)) call p = Told call (λ more bytes rest. p more call.at bytes ≡ Err fault) × (fault ≡ TooLong → IsFull call)
+IsOutcome view (Err ReadFault) call p = HasRisen call.before call.after
+IsOutcome view (Err Memory) call p = ⊤
 
 pub record Parses {X A : Type 0} (view : X → A) (result : Result X SessionFault) (c : Call) (p : Parser A) : Type 0 where
   pub moves : Moves c

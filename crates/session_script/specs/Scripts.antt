@@ -24,13 +24,13 @@ AreLines bytes [] rest = bytes ≡ rest
 AreLines bytes (word ∷ words) rest = (others : List ℕ) × BeginsLine bytes word others × AreLines others words rest
 
 -- lines of sections that are within the limits, and then `rest`
-pub record StandBefore (f : Frame) (bytes : List ℕ) (sections : Sections) (rest : List ℕ) : Type 0 where
+pub record StandBefore (frame : Frame) (bytes : List ℕ) (sections : Sections) (rest : List ℕ) : Type 0 where
   pub lines : AreLines bytes (words_of sections) rest
-  pub within : AreWithinLimits f sections
+  pub within : AreWithinLimits frame sections
 
 -- sections and the line `end`, and then `rest`
 abbrev pub AreSections : Frame → List ℕ → Sections → List ℕ → Type 0
-AreSections f bytes sections rest = (between : List ℕ) × StandBefore f bytes sections between × BeginsLine between End rest
+AreSections frame bytes sections rest = (between : List ℕ) × StandBefore frame bytes sections between × BeginsLine between End rest
 
 -- what is meant where there is no section: one analyst, who settles and shows
 abbrev pub usual : Sections
@@ -45,14 +45,14 @@ meant (first ∷ sections) = first ∷ sections
 abbrev pub HasNoScript : SessionUse → List ℕ → Sections → List ℕ → Type 0
 HasNoScript usage bytes scripts rest = (usage ≡ Alone) × (bytes ≡ []) × (scripts ≡ usual) × (rest ≡ [])
 
-pub record HasScripts (f : Frame) (usage : SessionUse) (bytes : List ℕ) (scripts : Sections) (rest : List ℕ) : Type 0 where
+pub record HasScripts (frame : Frame) (usage : SessionUse) (bytes : List ℕ) (scripts : Sections) (rest : List ℕ) : Type 0 where
   pub sections : Sections
-  pub are : AreSections f bytes sections rest
+  pub are : AreSections frame bytes sections rest
   pub means : scripts ≡ meant sections
   pub ends : usage ≡ Alone → rest ≡ []
 
 abbrev pub IsScriptPart : Frame → SessionUse → List ℕ → Sections → List ℕ → Type 0
-IsScriptPart f usage bytes scripts rest = HasNoScript usage bytes scripts rest ⊎ HasScripts f usage bytes scripts rest
+IsScriptPart frame usage bytes scripts rest = HasNoScript usage bytes scripts rest ⊎ HasScripts frame usage bytes scripts rest
 
 -- ---- breaks
 
@@ -76,35 +76,35 @@ abbrev pub IsCutLine : List ℕ → Type 0
 IsCutLine bytes = (length bytes ≤ 64) × All IsInLine bytes
 
 -- after good lines stands one that spells no word, or the input ends within one
-pub record BreaksAtLine (f : Frame) (bytes : List ℕ) (fault : InputFault) : Type 0 where
+pub record BreaksAtLine (frame : Frame) (bytes : List ℕ) (fault : InputFault) : Type 0 where
   pub sections : Sections
   pub rest : List ℕ
-  pub before : StandBefore f bytes sections rest
+  pub before : StandBefore frame bytes sections rest
   pub why : (IsNoLine rest × (fault ≡ ScriptLine (line_count sections + 1))) ⊎ (IsCutLine rest × (fault ≡ NoEnd))
 
 -- after good lines stands a word that may not
-pub record BreaksAtWord (f : Frame) (bytes : List ℕ) (fault : InputFault) : Type 0 where
+pub record BreaksAtWord (frame : Frame) (bytes : List ℕ) (fault : InputFault) : Type 0 where
   pub sections : Sections
   pub rest : List ℕ
   pub word : Word
   pub others : List ℕ
-  pub before : StandBefore f bytes sections rest
+  pub before : StandBefore frame bytes sections rest
   pub next : BeginsLine rest word others
-  pub broken : word_broken f (line_count sections + 1) sections word ≡ Some fault
+  pub broken : word_broken frame (line_count sections + 1) sections word ≡ Some fault
 
 abbrev pub SectionsBreak : Frame → List ℕ → InputFault → Type 0
-SectionsBreak f bytes fault = BreaksAtLine f bytes fault ⊎ BreaksAtWord f bytes fault
+SectionsBreak frame bytes fault = BreaksAtLine frame bytes fault ⊎ BreaksAtWord frame bytes fault
 
 -- a byte stands after the line `end`; places count from the start, where the first of the bytes has the place `at`
-pub record ContinuesAfterEnd (f : Frame) (at : ℕ) (bytes : List ℕ) (fault : InputFault) : Type 0 where
+pub record ContinuesAfterEnd (frame : Frame) (at : ℕ) (bytes : List ℕ) (fault : InputFault) : Type 0 where
   pub sections : Sections
   pub rest : List ℕ
   pub place : ℕ
-  pub are : AreSections f bytes sections rest
+  pub are : AreSections frame bytes sections rest
   pub some : rest ≢ []
   pub place_is : place + length rest ≡ at + length bytes
   pub told : fault ≡ AfterEnd place
 
 -- the first break of the script part
 abbrev pub ScriptBreak : Frame → SessionUse → ℕ → List ℕ → InputFault → Type 0
-ScriptBreak f usage at bytes fault = (SectionsBreak f bytes fault × (usage ≡ Alone → bytes ≢ [])) ⊎ ((usage ≡ Alone) × ContinuesAfterEnd f at bytes fault)
+ScriptBreak frame usage at bytes fault = (SectionsBreak frame bytes fault × (usage ≡ Alone → bytes ≢ [])) ⊎ ((usage ≡ Alone) × ContinuesAfterEnd frame at bytes fault)

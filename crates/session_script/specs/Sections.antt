@@ -51,20 +51,20 @@ abbrev pub frame_of : Tiling → Frame
 frame_of tiling = record { width = tiling.width; height = tiling.height; tiles = tiles_of tiling }
 
 -- within the limits of a session
-pub record AreWithinLimits (f : Frame) (sections : Sections) : Type 0 where
+pub record AreWithinLimits (frame : Frame) (sections : Sections) : Type 0 where
   pub analysts : length sections ≤ 8
   pub short : AllByRecursion (λ commands. length commands ≤ max_commands) sections
-  pub inside : AllByRecursion (CommandsFit f.width f.height) sections
-  pub settles : settles_of sections * (f.width * f.height) ≤ max_settled_pixels
-  pub changes : changes_of sections * f.tiles ≤ max_changed_tiles
+  pub inside : AllByRecursion (CommandsFit frame.width frame.height) sections
+  pub settles : settles_of sections * (frame.width * frame.height) ≤ max_settled_pixels
+  pub changes : changes_of sections * frame.tiles ≤ max_changed_tiles
 
 -- and not without an analyst
 abbrev pub AreComplete : Frame → Sections → Type 0
-AreComplete f sections = (1 ≤ length sections) × AreWithinLimits f sections
+AreComplete frame sections = (1 ≤ length sections) × AreWithinLimits frame sections
 
 -- the rectangle lies in the raster
 abbrev pub lies_in : Frame → Rect → Bool
-lies_in f r = not (nat_lt r.x1 r.x0) && nat_lt r.x1 f.width && not (nat_lt r.y1 r.y0) && nat_lt r.y1 f.height
+lies_in frame rect = not (nat_lt rect.x1 rect.x0) && nat_lt rect.x1 frame.width && not (nat_lt rect.y1 rect.y0) && nat_lt rect.y1 frame.height
 
 -- the commands of the last analyst
 abbrev pub last_commands : Sections → List Command
@@ -73,18 +73,18 @@ last_commands sections = slice_index_or sections (length sections - 1) []
 -- What is wrong with a command in line n after some sections: it belongs to no analyst, its analyst has 4096 commands
 -- already, its rectangle does not lie in the raster, or it passes a limit of all analysts. The first of these is told.
 abbrev pub limit_broken : Frame → ℕ → Sections → Command → Option InputFault
-limit_broken f n sections (Change edit) = if not (lies_in f (rect_of edit)) then Some (Outside n) else (if nat_lt max_changed_tiles ((changes_of sections + 1) * f.tiles) then Some (EditLimit n) else None)
-limit_broken f n sections Settle = if nat_lt max_settled_pixels ((settles_of sections + 1) * (f.width * f.height)) then Some (SettleLimit n) else None
-limit_broken f n sections Show = None
+limit_broken frame n sections (Change edit) = if not (lies_in frame (rect_of edit)) then Some (Outside n) else (if nat_lt max_changed_tiles ((changes_of sections + 1) * frame.tiles) then Some (EditLimit n) else None)
+limit_broken frame n sections Settle = if nat_lt max_settled_pixels ((settles_of sections + 1) * (frame.width * frame.height)) then Some (SettleLimit n) else None
+limit_broken frame n sections Show = None
 
 abbrev pub command_broken : Frame → ℕ → Sections → Command → Option InputFault
-command_broken f n sections command = if length sections == 0 then Some (ScriptLine n) else (if nat_lt 4095 (length (last_commands sections)) then Some (TooManyCommands n) else limit_broken f n sections command)
+command_broken frame n sections command = if length sections == 0 then Some (ScriptLine n) else (if nat_lt 4095 (length (last_commands sections)) then Some (TooManyCommands n) else limit_broken frame n sections command)
 
 -- what is wrong with a word in line n after some sections
 abbrev pub word_broken : Frame → ℕ → Sections → Word → Option InputFault
-word_broken f n sections words.Analyst = if nat_lt 7 (length sections) then Some (TooManyAnalysts n) else None
-word_broken f n sections words.End = None
-word_broken f n sections (words.Command command) = command_broken f n sections command
+word_broken frame n sections words.Analyst = if nat_lt 7 (length sections) then Some (TooManyAnalysts n) else None
+word_broken frame n sections words.End = None
+word_broken frame n sections (words.Command command) = command_broken frame n sections command
 
 -- the sections with one more word: a section begins, or the last one goes on
 abbrev pub with_command : Command → Sections → Sections

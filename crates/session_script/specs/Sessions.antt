@@ -27,7 +27,7 @@ pub record SessionOf : Type 0 where
   pub scripts : Sections
 
 abbrev pub session_of : Session → SessionOf
-session_of s = record { phase = plane_of s.scene.phase; weights = plane_of s.scene.weights; mask = s.first_mask; scripts = sections_of s.scripts.items }
+session_of session = record { phase = plane_of session.scene.phase; weights = plane_of session.scene.weights; mask = session.first_mask; scripts = sections_of session.scripts.items }
 
 -- two sessions tell the same: their planes and scripts are equal, and the same pixels are open
 pub record IsSameSession (s t : SessionOf) : Type 0 where
@@ -38,7 +38,7 @@ pub record IsSameSession (s t : SessionOf) : Type 0 where
 
 -- a plane of another's size whose samples are all 1: the weights, and the mask, where there is none
 abbrev pub ones_of : PlaneOf → PlaneOf
-ones_of p = record { width = p.width; height = p.height; maxval = 1; samples = replicate (p.width * p.height) 1 }
+ones_of plane = record { width = plane.width; height = plane.height; maxval = 1; samples = replicate (plane.width * plane.height) 1 }
 
 abbrev pub HasPlaneSize : PlaneOf → PlaneOf → Type 0
 HasPlaneSize p q = (q.width ≡ p.width) × (q.height ≡ p.height)
@@ -68,15 +68,15 @@ frame_in side phase = record { width = phase.width; height = phase.height; tiles
 
 -- a pixel is open where the mask plane's sample is not 0
 abbrev pub mask_open_in : PlaneOf → Field Bool
-mask_open_in p x y = not (slice_index p.samples (y * p.width + x) == 0)
+mask_open_in plane x y = not (slice_index plane.samples (y * plane.width + x) == 0)
 
 -- the bytes are a session's text, of at most 268,435,456 bytes, and then `rest`
-pub record IsSessionIn (usage : SessionUse) (side : ℕ) (bytes : List ℕ) (s : SessionOf) (rest : List ℕ) : Type 0 where
+pub record IsSessionIn (usage : SessionUse) (side : ℕ) (bytes : List ℕ) (session : SessionOf) (rest : List ℕ) : Type 0 where
   pub mask_plane : PlaneOf
   pub between : List ℕ
-  pub planes : ArePlanes bytes s.phase s.weights mask_plane between
-  pub mask : IsMaskOf s.mask s.phase.width s.phase.height (mask_open_in mask_plane)
-  pub script : IsScriptPart (frame_in side s.phase) usage between s.scripts rest
+  pub planes : ArePlanes bytes session.phase session.weights mask_plane between
+  pub mask : IsMaskOf session.mask session.phase.width session.phase.height (mask_open_in mask_plane)
+  pub script : IsScriptPart (frame_in side session.phase) usage between session.scripts rest
   pub short : length bytes ≤ max_session_bytes + length rest
 
 -- ---- breaks; places count from the start, where the first of the bytes has the place `at`
@@ -130,7 +130,7 @@ PlaneAsks bytes = AsksForMore Phase bytes ⊎ ((role : Role) × (phase : PlaneOf
 
 -- the bytes are a session that stands alone, they end before the LF of `end`, or a plane asks for more
 abbrev pub SessionAsks : SessionUse → ℕ → List ℕ → Type 0
-SessionAsks usage side bytes = ((usage ≡ Alone) × (s : SessionOf) × IsSessionIn Alone side bytes s []) ⊎ (SessionBreak usage side 0 bytes faults.NoEnd ⊎ PlaneAsks bytes)
+SessionAsks usage side bytes = ((usage ≡ Alone) × (session : SessionOf) × IsSessionIn Alone side bytes session []) ⊎ (SessionBreak usage side 0 bytes faults.NoEnd ⊎ PlaneAsks bytes)
 
 -- more bytes are there than a session may have, and those that it may have ask for more
 abbrev pub AreTooMany : SessionUse → ℕ → List ℕ → Type 0

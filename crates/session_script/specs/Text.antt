@@ -38,15 +38,15 @@ abbrev pub sample_of : Bool → ℕ
 sample_of unmasked = if unmasked then 1 else 0
 
 abbrev pub mask_row_text : MaskView → ℕ → List ℕ
-mask_row_text m y = texts_below m.width (λ x. sample_of (open_at m x y) ∷ [])
+mask_row_text view y = texts_below view.width (λ x. sample_of (open_at view x y) ∷ [])
 
 -- the mask as a raw plane with the maxval 1
 abbrev pub mask_text : MaskView → List ℕ
-mask_text m = plane_header_text m.width m.height 1 ++ texts_below m.height (mask_row_text m)
+mask_text view = plane_header_text view.width view.height 1 ++ texts_below view.height (mask_row_text view)
 
 -- the scripts of a session that has an analyst
 abbrev pub scripts_text : Sections → List ℕ
 scripts_text sections = flat_map section_text sections ++ line_text words.End
 
 unfoldable pub session_text : SessionOf → List ℕ
-session_text s = plane_text s.phase ++ (plane_text s.weights ++ (mask_text s.mask ++ scripts_text s.scripts))
+session_text session = plane_text session.phase ++ (plane_text session.weights ++ (mask_text session.mask ++ scripts_text session.scripts))

@@ -34,10 +34,10 @@ pub record AreDrawn (seed w n : ℕ) (phase weights mask : List ℕ) : Type 0 wh
   pub masked : AreListed (mask_number seed) n mask
 
 -- the planes are those of w by h pixels
-pub record AreDrawnPlanes (seed w h : ℕ) (phase weights mask : Plane) : Type 0 where
-  pub phase_size : (phase.width ≡ w) × (phase.height ≡ h) × (phase.maxval ≡ 65535)
-  pub weight_size : (weights.width ≡ w) × (weights.height ≡ h) × (weights.maxval ≡ 256)
-  pub mask_size : (mask.width ≡ w) × (mask.height ≡ h)
-  pub phases : (x y : ℕ) → x < w → y < h → plane_sample phase x y ≡ phase_of (state_at seed w x y) x y
-  pub weighed : (x y : ℕ) → x < w → y < h → plane_sample weights x y ≡ weight_of (state_at seed w x y)
-  pub masked : (x y : ℕ) → x < w → y < h → plane_sample mask x y ≡ one_if (is_open (state_at seed w x y))
+pub record AreDrawnPlanes (seed width h : ℕ) (phase weights mask : Plane) : Type 0 where
+  pub phase_size : (phase.width ≡ width) × (phase.height ≡ h) × (phase.maxval ≡ 65535)
+  pub weight_size : (weights.width ≡ width) × (weights.height ≡ h) × (weights.maxval ≡ 256)
+  pub mask_size : (mask.width ≡ width) × (mask.height ≡ h)
+  pub phases : (x y : ℕ) → x < width → y < h → plane_sample phase x y ≡ phase_of (state_at seed width x y) x y
+  pub weighed : (x y : ℕ) → x < width → y < h → plane_sample weights x y ≡ weight_of (state_at seed width x y)
+  pub masked : (x y : ℕ) → x < width → y < h → plane_sample mask x y ≡ one_if (is_open (state_at seed width x y))

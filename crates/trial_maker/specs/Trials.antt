@@ -36,17 +36,17 @@ abbrev pub AreTrialScripts : List Script → Type 0
 AreTrialScripts scripts = map (λ script. script.commands.items) scripts ≡ (Settle ∷ Show ∷ []) ∷ []
 
 -- the session is one that a seed gives to w by h pixels, whatever its tiles, its rule and its terms
-pub record IsTrialOf (seed w h : ℕ) (s : Session) : Type 0 where
-  pub size : (s.scene.phase.width ≡ w) × (s.scene.phase.height ≡ h)
-  pub phases : (x y : ℕ) → x < w → y < h → plane_sample s.scene.phase x y ≡ phase_of (state_at seed w x y) x y
-  pub greatest_weight : s.scene.weights.maxval ≡ 256
-  pub weights : (x y : ℕ) → x < w → y < h → plane_sample s.scene.weights x y ≡ weight_of (state_at seed w x y)
-  pub mask : IsMaskOf s.first_mask w h (λ x y. is_open (state_at seed w x y))
-  pub scripts : AreTrialScripts s.scripts.items
+pub record IsTrialOf (seed w h : ℕ) (session : Session) : Type 0 where
+  pub size : (session.scene.phase.width ≡ w) × (session.scene.phase.height ≡ h)
+  pub phases : (x y : ℕ) → x < w → y < h → plane_sample session.scene.phase x y ≡ phase_of (state_at seed w x y) x y
+  pub greatest_weight : session.scene.weights.maxval ≡ 256
+  pub weights : (x y : ℕ) → x < w → y < h → plane_sample session.scene.weights x y ≡ weight_of (state_at seed w x y)
+  pub mask : IsMaskOf session.first_mask w h (λ x y. is_open (state_at seed w x y))
+  pub scripts : AreTrialScripts session.scripts.items
 
 -- with tiles of a side, edges by a rule and the plain terms
-pub record IsTrial (seed w h side : ℕ) (kind : RuleKind) (s : Session) : Type 0 where
-  pub made : IsTrialOf seed w h s
-  pub tiles : s.scene.tiling.side ≡ side
-  pub rule : s.scene.rule ≡ kind
-  pub terms : ArePlainTerms s.scene.terms
+pub record IsTrial (seed w h side : ℕ) (kind : RuleKind) (session : Session) : Type 0 where
+  pub made : IsTrialOf seed w h session
+  pub tiles : session.scene.tiling.side ≡ side
+  pub rule : session.scene.rule ≡ kind
+  pub terms : ArePlainTerms session.scene.terms

@@ -1,5 +1,5 @@
 -- What a run of `whole` and of `check-whole` promises.
-use Rattle.std.proofs.Common.{◌≡◌, ◌∙◌, ℕ, ◌+◌, ◌-◌, ◌*◌, ◌<◌, ◌&&◌, Bool, length, refl, sym, ap, ap₂, subst, arith}
+use Rattle.std.proofs.Common.{◌≡◌, ◌∙◌, ℕ, ◌+◌, ◌-◌, ◌*◌, ◌<◌, ◌≤◌, ◌&&◌, Bool, List, length, refl, sym, ap, ap₂, subst, arith}
 use Rattle.std.specs.Prelude.{ℤ, pos, IfSome}
 use Rattle.std.proofs.Math.Nat.{mul_comm}
 use Rattle.std.proofs.lemmas.Bool.{lt-ltb}
@@ -21,6 +21,8 @@ use Rattle.whole_solver.specs.Results.{IsGoodWhole}
 use Rattle.whole_solver.specs.declared.result.WholeResult.{WholeResult}
 use Rattle.whole_text.specs.Told.{AreFewCycles, told_whole}
 use Rattle.whole_text.proofs.SameLemmas.{wholes_unique}
+use Rattle.whole_text.proofs.LengthLemmas.{whole_texts_are_short}
+use Rattle.grid_writer.proofs.SizeLemmas.{sized_parts}
 use Rattle.insar_ports.proofs.CallLemmas.{at_told, if_told}
 use Rattle.raster_model.specs.declared.session.Session.{Session}
 use Rattle.insar_words.specs.Requests.{options_of}
@@ -32,6 +34,7 @@ use Rattle.whole_check.specs.Verdicts.{IsCertifiedText, surface_told}
 use Rattle.whole_check.proofs.SameLemmas.{certified_wholes_are_accepted}
 use Rattle.whole_check.proofs.UniqueLemmas.{wholes_have_one_verdict}
 use Rattle.insar_top.specs.Answers.{IsAnswerTo, IsUsedUp}
+use Rattle.insar_top.specs.Both.{most_of_text}
 use Rattle.insar_top.specs.CheckWhole.{AcceptedWholesAreLeast, BytesHaveOneWholeVerdict, WholesAreAccepted}
 use Rattle.insar_top.specs.Run.{ReadsAll, Run}
 use Rattle.insar_top.specs.Unwrap.{IsGiven}
@@ -89,7 +92,11 @@ whole_ready settings r s w read told ranges = if_told r.told _ (λ bytes t.
     ((refl, record { session = s; whole = w; given = k.0; told = told; in_range = ranges; written = refl }), k.1))
 
 pub wholes_are_accepted : WholesAreAccepted
-wholes_are_accepted options bytes text both answer short spelled = judged_after options both answer.session answer.whole text answer.written spelled answer.given.options_are short answer.in_range answer.told.certified
+wholes_are_accepted options bytes text both answer spelled =
+    let most = whole_texts_are_short answer.whole answer.in_range in
+    let few = (sized_parts answer.whole.width answer.whole.height answer.in_range.sized).few in
+    let short : length text ≤ most_of_text = subst (λ (t : List ℕ). length t ≤ most_of_text) (sym answer.written) (omega (arith, most, few)) in
+    judged_after options both answer.session answer.whole text answer.written spelled answer.given.options_are short answer.in_range answer.told.certified
 
 pub accepted_wholes_are_least : AcceptedWholesAreLeast
 accepted_wholes_are_least options bytes j = (of_certified j.session j.told j.verdict_is).least

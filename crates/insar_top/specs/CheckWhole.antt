@@ -1,5 +1,5 @@
 -- What `check-whole` reads, which is a session and then the text of a whole surface, and what it answers.
-use Rattle.std.specs.Prelude.{◌≡◌, ◌≤◌, ℕ, List, length}
+use Rattle.std.specs.Prelude.{◌≡◌, ℕ, List}
 use Rattle.raster_model.specs.Masks.{open_at}
 use Rattle.raster_model.specs.Scene.{raster_of}
 use Rattle.insar_words.specs.Asked.{Options}
@@ -10,7 +10,7 @@ use Rattle.whole_check.specs.declared.verdict.WholeVerdict.{WholeVerdict}
 use Rattle.whole_check.specs.declared.verdict.WholeVerdict.TheVariants.{Accepted}
 use Rattle.whole_check.specs.Verdicts.{IsWholeVerdict, surface_told}
 use Rattle.raster_model.specs.Whole.{IsLeastOfAll}
-use Rattle.insar_top.specs.Both.{BreaksBothBy, IsCheckableBy, IsJudgedBy, IsStatusBy, IsToldBy, IsVerdictBy, most_of_text}
+use Rattle.insar_top.specs.Both.{BreaksBothBy, IsCheckableBy, IsJudgedBy, IsStatusBy, IsToldBy, IsVerdictBy}
 use Rattle.insar_top.specs.Run.{Run}
 use Rattle.insar_top.specs.Whole.{IsWholeAnswer}
 use Rattle.answer_lines.specs.declared.refusal.Refusal.{Refusal}
@@ -40,9 +40,9 @@ IsWholeVerdictAnswer options bytes status text = IsVerdictBy Accepted whole_verd
 abbrev pub IsWholeVerdictTold : ℕ → Run → WholeVerdict → Type 0
 IsWholeVerdictTold status run verdict = IsToldBy Accepted whole_verdict_line status run verdict
 
--- what `whole` writes for a session is accepted, where the text of the session stands before it and it is not too long
+-- what `whole` writes for a session is accepted, where the text of the session stands before it
 abbrev pub WholesAreAccepted : Type 0
-WholesAreAccepted = (options : Options) (bytes text both : List ℕ) (answer : IsWholeAnswer options bytes text) → length text ≤ most_of_text → IsSessionIn BeforeReport options.side both (session_of answer.session) text → IsWholeJudged options both Accepted
+WholesAreAccepted = (options : Options) (bytes text both : List ℕ) (answer : IsWholeAnswer options bytes text) → IsSessionIn BeforeReport options.side both (session_of answer.session) text → IsWholeJudged options both Accepted
 
 -- an accepted surface is least of all, whoever wrote it
 abbrev pub AcceptedWholesAreLeast : Type 0

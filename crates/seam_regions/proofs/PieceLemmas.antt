@@ -1,6 +1,6 @@
 -- A flood passes the pixels of a piece of a row.
-use Rattle.std.proofs.Common.{◌≡◌, ℕ, zero, suc, ◌+◌, ◌-◌, ◌*◌, ◌/◌, ◌%◌, ◌<◌, ◌≤◌, inl, inr, sym, ◌∙◌, ap, refl, arith, Bool, true, false, List, length, length-set}
-use Rattle.std.specs.Prelude.{not, IsTrue, ◌==◌, min, slice_index, slice_set}
+use Rattle.std.proofs.Common.{◌≡◌, ℕ, zero, suc, ◌+◌, ◌-◌, ◌*◌, ◌/◌, ◌%◌, ◌<◌, ◌≤◌, inl, inr, ◌∙◌, ap, refl, arith, Bool, true, false, List, length, length-set}
+use Rattle.std.specs.Prelude.{not, ◌==◌, min, slice_index, slice_set}
 use Rattle.std.proofs.lemmas.Bool.{cases_Bool}
 use Rattle.std.proofs.lemmas.Bool.Decides.{nat_tests}
 use Rattle.std.proofs.lemmas.Nat.{mod-mul-add, div-add-mod', mul-add-lt}
@@ -14,7 +14,6 @@ use Rattle.joined_cells.proofs.TileLemmas.{left_joined, upper_already, upper_non
 use Rattle.seam_regions.specs.declared.pieces.Piece.{Piece}
 use Rattle.seam_regions.specs.Flood.{HasJoined, IsPiece, IsOpenPiece, tiled}
 use Rattle.seam_regions.proofs.TileTests.{one_tile_across, one_tile_along, two_tiles_across, two_tiles_along}
-use Rattle.sums_and_lists.proofs.Tests.{true_and_false}
 
 -- ---- pieces of a row
 pub begins_next : (x d w n : ℕ) → 0 < d → x % d ≡ 0 → n ≡ min (x + d) w → n < w → n % d ≡ 0

@@ -1,6 +1,5 @@
 -- Numbers of the trees are the numbers of the regions.
 use Rattle.std.proofs.Common.{◌≡◌, ℕ, ◌*◌, ◌<◌, ◌≤◌, sym, ◌∙◌, refl, arith, Bool, List}
-use Rattle.std.specs.Prelude.{IsTrue}
 use Rattle.raster_model.specs.declared.edge.Edge.{Edge}
 use Rattle.raster_model.specs.declared.tiling.Tiling.{Tiling}
 use Rattle.raster_model.specs.MaskView.{MaskView}

@@ -5,7 +5,7 @@ from typing import Tuple
 import numpy as np
 
 from wundjeska import filtering
-from wundjeska.filtering import BACK, DEVIATIONS, FORTH, SIDE, STEP, filtered, filtered_phase, transformed
+from wundjeska.filtering import BACK, DEVIATIONS, FORTH, SIDE, STEP, filtered, filtered_phase, local_fits, transformed
 from wundjeska.planes import CYCLE
 
 
@@ -62,11 +62,15 @@ class Filter(unittest.TestCase):
         phase, opened = noisy((101, 77), 0.2), np.random.default_rng(4).random((101, 77)) < 0.8
         weights = np.random.default_rng(5).integers(1, 256, phase.shape).astype(np.uint16)
         wanted = filtered(phase, opened, weights, 1)
+        fitted = local_fits(phase, wanted.phase, opened)
         for band, threads in ((1, 1), (3, 4), (7, 2), (1000, 1)):
             smooth = filtered_phase(phase, opened, threads, band)
             np.testing.assert_array_equal(smooth, wanted.phase)
             found = filtering.agreed_weights(phase, smooth, opened, weights, threads, band)
             np.testing.assert_array_equal(found, wanted.weights)
+            fits = local_fits(phase, smooth, opened, threads, band)
+            np.testing.assert_array_equal(fits.phase, fitted.phase)
+            np.testing.assert_array_equal(fits.agreement, fitted.agreement)
 
     def test_noise_goes_and_fringes_stay(self) -> None:
         phase, opened = noisy((96, 96), 0.15), np.ones((96, 96), dtype=bool)
@@ -95,6 +99,63 @@ class Filter(unittest.TestCase):
     def test_nothing_open(self) -> None:
         found = filtered(noisy((20, 20), 0.1), np.zeros((20, 20), dtype=bool))
         self.assertEqual((found.phase.max(), found.weights.max()), (0, 1))
+
+
+def fit_at(phase: np.ndarray, opened: np.ndarray, y: int, x: int) -> Tuple[complex, float]:
+    """The sum of the turned phasors of 3 by 3 pixels about this one, and the agreement of those of 5 by 5, by the definition."""
+    signal = np.pad(np.where(opened, np.exp(2j * np.pi / CYCLE * phase), 0), 3)
+    there = np.pad(opened, 3)
+    y, x = y + 3, x + 3
+    turns = []
+    for step in ((0, 1), (1, 0)):
+        total = 0j
+        for row, column in np.ndindex(5, 5):
+            one = np.array((y + row - 2, x + column - 2))
+            if 3 <= one.min() and (one < np.array(signal.shape) - 3).all():
+                before, middle, after = (signal[tuple(one + turn * np.array(step))] for turn in (-1, 0, 1))
+                total += middle * np.conj(before) + after * np.conj(middle)
+        turns.append(np.conj(total) / abs(total))
+    near, far = 0j, 0j
+    for row, column in np.ndindex(5, 5):
+        turned = signal[y + row - 2, x + column - 2] * turns[0] ** (column - 2) * turns[1] ** (row - 2)
+        far += turned
+        near += turned if max(abs(row - 2), abs(column - 2)) <= 1 else 0
+    return near, abs(far / there[y - 2 : y + 3, x - 2 : x + 3].sum()) ** 2
+
+
+class Fits(unittest.TestCase):
+    def test_they_are_those_of_the_definition(self) -> None:
+        phase, opened = noisy((13, 11), 0.1), np.random.default_rng(7).random((13, 11)) < 0.9
+        fits = local_fits(phase, phase, opened)
+        for y, x in zip(*np.nonzero(opened)):
+            near, agreement = fit_at(phase, opened, y, x)
+            self.assertAlmostEqual(float(fits.agreement[y, x]), agreement, places=4)
+            off = np.angle(near * np.exp(-2j * np.pi / CYCLE * int(fits.phase[y, x])))
+            self.assertLess(abs(off), 1e-3)
+
+    def test_they_are_taken_where_the_filter_does_not_agree(self) -> None:
+        """At eight pixels of 7 by 7 or more, of a clear phase."""
+        phase, opened = noisy((30, 40), 0), np.ones((30, 40), dtype=bool)
+        smooth = phase.copy()
+        self.assertFalse(local_fits(phase, smooth, opened).taken.any())
+        y, x = np.indices(phase.shape)
+        lost = np.hypot(y - 14, x - 20) < 5
+        smooth[lost] = np.random.default_rng(8).integers(0, CYCLE, int(lost.sum()))
+        taken = local_fits(phase, smooth, opened).taken
+        self.assertTrue(taken[lost].all())
+        self.assertFalse(taken[np.hypot(y - 14, x - 20) > 10].any())
+        opened[:, 20:] = False
+        self.assertFalse(local_fits(phase, smooth, opened).taken[:, 20:].any())
+
+    def test_a_cone_stands_in_the_filtered_phase(self) -> None:
+        y, x = np.indices((64, 64))
+        cone = np.rint(CYCLE * 0.38 * np.maximum(6 - np.hypot(y - 30, x - 33), 0)).astype(np.int64).astype(np.uint16)
+        opened = np.ones(cone.shape, dtype=bool)
+        inside = cone > 0
+        lost, found = filtered_phase(cone, opened), filtered(cone, opened)
+        self.assertGreater((difference(lost, cone)[inside] > CYCLE // 8).mean(), 0.3)
+        self.assertLess((difference(found.phase, cone)[inside] > CYCLE // 8).mean(), 0.1)
+        self.assertGreater(found.weights[inside].mean(), 60)
 
 
 class Weights(unittest.TestCase):

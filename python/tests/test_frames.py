@@ -1,11 +1,20 @@
-"""Tests what `frames` keeps: it goes on where it stopped, and what was changed in its folder since is made anew."""
+"""Tests what `frames` keeps: it goes on where it stopped, and what was changed in its folder since is made anew. And what it tells
+to be undecided, and how it looks for narrow features."""
+import math
+import sys
 import unittest
+import warnings
 from pathlib import Path
-from typing import Tuple
+from typing import List, Tuple
 
 import numpy as np
-from helpers import HERE, InFolder, command
+from helpers import HERE, TOP, InFolder, command, raster
 from osgeo import gdal
+
+import wundjeska
+
+sys.path.append(str(TOP / "recipes/kit"))
+from truth import scene_of  # type: ignore[import]  # noqa: E402
 
 KIT = (HERE / "kit/phase.tif", "--coherence", HERE / "kit/coherence.tif")
 SIZES = ("--side", 80, "--overlap", 24, "--jobs", 1, "--agree", 0.5)
@@ -13,10 +22,10 @@ NAME = "frame-0-0"
 
 
 class Kept(InFolder):
-    def frames(self) -> Tuple[str, np.ndarray]:
+    def frames(self, *words: object) -> Tuple[str, np.ndarray]:
         """What the command told, and the joint surface."""
         made = self.folder / "joined.tif"
-        status, told = command("frames.py", *KIT, "--folder", self.folder / "frames", *SIZES, made)
+        status, told = command("frames.py", *KIT, "--folder", self.folder / "frames", *SIZES, *words, made)
         self.assertEqual(status, 0, told)
         return told, gdal.Open(str(made)).ReadAsArray()
 
@@ -50,7 +59,7 @@ class Kept(InFolder):
 
     def test_files_that_are_cut_or_gone(self) -> None:
         first = self.frames()[1]
-        for kind in ("values.npy", "pieces.npy", "report", "session", "sums"):
+        for kind in ("values.npy", "pieces.npy", "undecided.npy", "f.npy", "report", "session", "sums"):
             whole = self.kept(kind).read_bytes()
             for left in (b"", whole[: len(whole) // 2], b"foreign\n"):
                 with self.subTest(kind=kind, left=left[:8]):
@@ -58,6 +67,57 @@ class Kept(InFolder):
                     self.is_made_anew(first)
             self.kept(kind).unlink()
             self.is_made_anew(first)
+
+    def test_frames_without_narrow_features_are_made_anew_with_them(self) -> None:
+        self.frames()
+        phase = gdal.Open(str(KIT[0])).ReadAsArray()
+        for words, kept in ((("--narrow",), 0), (("--narrow",), 4), ((), 0), (("--no-filter",), 0), (("--no-filter",), 4)):
+            told, found = self.frames(*words)
+            self.assertEqual(told.count("accepted in an earlier run"), kept, words)
+            off = (found - phase / (2 * math.pi))[phase != -9999]
+            self.assertLess(np.abs(off - np.rint(off - off[0]) - off[0]).max(), 1e-3)
+            note = gdal.Open(str(self.folder / "joined.tif")).GetMetadataItem("WUNDJESKA_FILTER")
+            self.assertEqual("narrower" in note, words == ("--narrow",))
+
+
+class Undecided(InFolder):
+    def written(self, phase: np.ndarray, coherence: np.ndarray, *words: object) -> Tuple[np.ndarray, List[str], str]:
+        """The numbers of undecided parts, f of each, and what the joint surface tells."""
+        files = ("--folder", self.folder / "frames", "--undecided", self.folder / "undecided.tif", "--force")
+        given = (raster(self.folder / "phase.tif", phase), "--coherence", raster(self.folder / "c.tif", coherence))
+        status, told = command("frames.py", *given, *files, *words, self.folder / "joined.tif")
+        self.assertIn(status, (0, 1), told)
+        found = gdal.Open(str(self.folder / "undecided.tif"))
+        note = gdal.Open(str(self.folder / "joined.tif")).GetMetadataItem("WUNDJESKA_UNDECIDED")
+        return found.ReadAsArray(), found.GetMetadataItem("WUNDJESKA_F").split(), note
+
+    def test_parts_are_those_of_each_frame(self) -> None:
+        """Of one frame, and of two, where the first is a mirror of the second: each has its part at the outer border."""
+        scene = scene_of("fault-4-medium-wide-9211", 320)
+        phase, coherence = np.angle(scene.product).astype(np.float32), scene.estimated.astype(np.float32)
+        with warnings.catch_warnings():
+            warnings.simplefilter("ignore", wundjeska.Caution)
+            wanted = wundjeska.unwrap(phase, coherence).undecided
+        assert wanted is not None and len(wanted.f) == 1
+        numbers, f, note = self.written(phase, coherence)
+        np.testing.assert_array_equal(numbers, wanted.labels)
+        self.assertEqual(f, [f"{wanted.f[0]:.3f}"])
+        self.assertEqual(note, f"1 undecided part of {np.count_nonzero(numbers)} pixels")
+
+        both = (np.concatenate([plane[:, ::-1], plane], axis=1) for plane in (phase, coherence))
+        numbers, f, note = self.written(*both, "--side", 340, "--overlap", 40)
+        self.assertEqual((len(f), note), (2, f"2 undecided parts of {np.count_nonzero(numbers)} pixels"))
+        for number, half in ((1, numbers[:, 319::-1]), (2, numbers[:, 320:])):
+            self.assertEqual(np.unique(half).tolist(), [0, number])
+            self.assertGreater((half > 0)[wanted.labels > 0].mean(), 0.9)
+            self.assertLess((half > 0)[wanted.labels == 0].mean(), 0.01)
+
+    def test_words_that_want_a_filter(self) -> None:
+        folder = ("--folder", self.folder / "frames", "--no-filter")
+        for line, word in (("narrow features want a filter", "--narrow"), ("--undecided wants a filter", "--undecided=u.tif")):
+            status, told = command("frames.py", *KIT, *folder, word, self.folder / "joined.tif")
+            self.assertEqual(status, 2)
+            self.assertIn(line, told)
 
 
 if __name__ == "__main__":

@@ -122,13 +122,19 @@ class Guiding(unittest.TestCase):
             self.assertTrue((off[opened] % CYCLE == 0).all() and (found.values[~opened] == NODATA).all())
             self.assertLess(worst(off), 0.001)
 
-    def test_a_cone_that_the_filter_loses_is_found_by_narrow(self) -> None:
+    def wrong_at_a_cone(self, radius: float, slope_: float, narrow: bool) -> float:
+        """How many pixels left of the strip are wrong by a guide, about a cone of this radius and slope."""
         y, x = np.indices(SHAPE)
-        cone = np.rint(CYCLE * 0.38 * np.maximum(6 - np.hypot(y - 30, x - 20), 0)).astype(np.int64)
+        cone = np.rint(CYCLE * slope_ * np.maximum(radius - np.hypot(y - 30, x - 20), 0)).astype(np.int64)
         true = noisy(slope() // 8 + cone, 0.02)
-        lost, found = (worst(by_guide(session_for(true), narrow).values - true) for narrow in (False, True))
-        self.assertGreater(lost * 40 * 64, 16)
-        self.assertLess(found * 40 * 64, 5)
+        return worst(by_guide(session_for(true), narrow).values - true) * 40 * 64
+
+    def test_a_cone_of_twelve_pixels_is_found_by_its_local_slopes(self) -> None:
+        self.assertLess(self.wrong_at_a_cone(6, 0.38, False), 5)
+
+    def test_a_cone_of_nine_steep_pixels_is_found_by_narrow(self) -> None:
+        self.assertGreater(self.wrong_at_a_cone(4.5, 0.45, False), 16)
+        self.assertLess(self.wrong_at_a_cone(4.5, 0.45, True), 5)
 
 
 class Arrays(unittest.TestCase):
@@ -263,7 +269,7 @@ class Files(InFolder):
     def test_the_raster_the_session_and_the_report(self) -> None:
         told = self.run_in(*self.KIT, "--narrow", "--session", "session", "--report", "report", "cycles.tif")
         self.assertIn("its guide's cost", told)
-        self.assertIn("0.50 % residues and 0.23 % after the filter", told)
+        self.assertIn("0.50 % residues and 0.16 % after the filter", told)
         self.assertIn(
             "cycles.tif: filter fourier: the guide is least of all for the filtered session; the surface is", told
         )

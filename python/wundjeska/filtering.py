@@ -6,9 +6,14 @@ squared weights, summed over its open pixels. Frequencies below three deviations
 weighted again and added up (Kemao, Applied Optics 43(13), 2004, and Optics and Lasers in Engineering 45(2), 2007; windows of
 interferograms: Goldstein and Werner, Geophysical Research Letters 25(21), 1998).
 
+Windows take what is narrower for noise: domes, sinkholes. So each pixel has a local fit, too. The mean of neighbours' steps tells the
+slope about it (Spagnolini, IEEE TGRS 33(3), 1995), and the phasors of 3 by 3 pixels, turned back by that slope, are averaged. Where
+5 by 5 of them agree along the slope and phase and filter do not, at enough pixels of 7 by 7, the fit stands in place of the filtered
+phase. The limits were chosen on made scenes other than those of `docs/CHOOSING.md`.
+
 The weights that go with it tell how well phase and filter agree: w a^2, where a is the length of the mean phasor of their
 difference over the open ones of 5 by 5 pixels, and w the weight that coherence gives, 255 c if it is linear. Where no coherence is
-known they are 255 a^2 over 3 by 3.
+known they are 255 a^2 over 3 by 3. Where a fit is taken they are the greatest weight, times how well the fit's phasors agree.
 
 The transform is written out in sums of 32 bits, which is faster than `numpy.fft` and runs in threads. The raster is filtered in
 bands. Each pixel has the same sums in the same order, however the bands and threads are.
@@ -29,6 +34,9 @@ DEVIATIONS = 3.0  # that a frequency has at least
 HANN: np.ndarray = np.hanning(SIDE + 2)[1:-1].astype(np.float32)
 ROOT = np.sqrt(HANN)[:, None, None]
 REACH, REACH_ALONE = 2, 1  # pixels around one whose phasors are averaged: with a coherence, and without
+FIT_REACH, FIT_NEAR = 2, 1  # pixels around one by which its slope and the fit's agreement are measured, and that are averaged
+FIT_AGREES, FIT_SHARE = 0.25, 0.5  # what a fit's agreement is at least, and how much of it the filter's is below
+FIT_AROUND, FIT_COUNT = 3, 8  # pixels around one, and at how many of them the fit has to be the better one
 BAND = 16  # rows of windows that are filtered at a time, each of STEP rows of pixels
 MAX_THREADS = 4  # each has its band, of 16 MB where the raster is 2048 pixels wide
 
@@ -179,12 +187,21 @@ def sums_around(values: np.ndarray, reach: int) -> np.ndarray:
     return found
 
 
+def sums_near(values: np.ndarray, reach: int) -> np.ndarray:
+    """The sums of values in the square that reaches so far; there is nothing beyond the border."""
+    return sums_around(sums_around(values, reach).T, reach).T
+
+
+def mean_power(total: np.ndarray, opened: np.ndarray, reach: int) -> np.ndarray:
+    """The squared length of the mean phasor of the open pixels within reach, whose sum this is, float32; 0 where none is."""
+    count = sums_near(opened.astype(np.float32), reach)
+    return (total.real**2 + total.imag**2) / np.maximum(count, 1) ** 2
+
+
 def agreement(difference: np.ndarray, opened: np.ndarray, reach: int) -> np.ndarray:
     """The squared length of the mean phasor of differences over the open pixels within reach, float32; 0 where none is."""
     phasor = np.where(opened, phasors()[difference], 0)
-    total = sums_around(sums_around(phasor, reach).T, reach).T
-    count = sums_around(sums_around(opened.astype(np.float32), reach).T, reach).T
-    return (total.real**2 + total.imag**2) / np.maximum(count, 1) ** 2
+    return mean_power(sums_near(phasor, reach), opened, reach)
 
 
 def agreed_weights(
@@ -211,10 +228,80 @@ def agreed_weights(
     return found
 
 
+# Local fits
+
+
+@dataclass(frozen=True)
+class Fits:
+    """Phases averaged along local slopes, uint16, in 1/65536 cycle; how well the phasors about each pixel agree along its slope,
+    float32, from 0 to 1; and where this stands in place of a filtered phase. All are (rows, columns)."""
+
+    phase: npt.NDArray[np.uint16]
+    agreement: npt.NDArray[np.float32]
+    taken: npt.NDArray[np.bool_]
+
+
+def turn_back(signal: np.ndarray) -> np.ndarray:
+    """The phasor by which a step to the right turns back the local slope of phasors, 0 where there is none."""
+    steps = signal[:, 1:] * signal[:, :-1].conj()
+    beside = np.zeros_like(signal)
+    beside[:, :-1] += steps
+    beside[:, 1:] += steps
+    total = sums_near(beside, FIT_REACH)
+    size = np.sqrt(total.real**2 + total.imag**2)
+    return total.conj() / np.maximum(size, np.float32(1e-9))
+
+
+def powers_of(turn: np.ndarray) -> Tuple[np.ndarray, ...]:
+    """What steps from -2 to 2 turn back."""
+    twice = turn * turn
+    return twice.conj(), turn.conj(), np.ones_like(turn), turn, twice
+
+
+def leaned_sums(signal: np.ndarray) -> Tuple[np.ndarray, np.ndarray]:
+    """The sums of 3 by 3 and of 5 by 5 phasors about each pixel, turned back by the local slope."""
+    height, width = signal.shape
+    across, down = powers_of(turn_back(signal)), powers_of(turn_back(signal.T).T)
+    padded = np.pad(signal, FIT_REACH)
+    near, far = np.zeros_like(signal), np.zeros_like(signal)
+    for row, turn in enumerate(down):
+        turned = [padded[row : row + height, place : place + width] * other for place, other in enumerate(across)]
+        inner = sum(turned[FIT_NEAR:-FIT_NEAR])
+        far += (turned[0] + inner + turned[-1]) * turn
+        if abs(row - FIT_REACH) <= FIT_NEAR:
+            near += inner * turn
+    return near, far
+
+
+def local_fits(phase: np.ndarray, smooth: np.ndarray, opened: np.ndarray, threads: int = 1, band: int = BAND) -> Fits:
+    """The local fits of a phase, and where they are taken in place of its filtered phase."""
+    shape, halo = phase.shape, FIT_REACH + 1
+    found = Fits(np.zeros(shape, np.uint16), np.zeros(shape, np.float32), np.zeros(shape, np.bool_))
+    better = np.zeros(shape, dtype=np.uint8)
+
+    def fill(ends: Tuple[int, int]) -> None:
+        first, last = STEP * ends[0], STEP * ends[1]
+        above = max(0, first - halo)
+        near, inside = slice(above, last + halo), slice(first - above, last - above)
+        few, many = leaned_sums(np.where(opened[near], phasors()[phase[near]], 0))
+        fit = mean_power(many, opened[near], FIT_REACH)
+        agreed = agreement(phase[near] - smooth[near], opened[near], FIT_REACH)
+        found.phase[first:last], found.agreement[first:last] = phases_of(few[inside]), fit[inside]
+        better[first:last] = (opened[near] & (fit > FIT_AGREES) & (agreed < FIT_SHARE * fit))[inside]
+
+    in_threads(fill, bands_of(-(-len(phase) // STEP), band), threads)
+    np.copyto(found.taken, opened & (sums_near(better, FIT_AROUND) >= FIT_COUNT))
+    return found
+
+
 def filtered(
     phase: np.ndarray, opened: np.ndarray, weights: Optional[np.ndarray] = None, threads: int = MAX_THREADS
 ) -> Filtered:
     """The filtered phase and its weights, of a phase in 1/65536 cycle, uint16, its open pixels, and the weights that coherence
     gives, if one is known. All are (rows, columns)."""
     smooth = filtered_phase(phase, opened, threads)
-    return Filtered(smooth, agreed_weights(phase, smooth, opened, weights, threads))
+    agreed = agreed_weights(phase, smooth, opened, weights, threads)
+    fits = local_fits(phase, smooth, opened, threads)
+    greatest = MAX_WEIGHT if weights is None else int(weights.max())
+    fitted = np.maximum(np.rint(fits.agreement * np.float32(greatest)), 1).astype(np.uint16)
+    return Filtered(np.where(fits.taken, fits.phase, smooth), np.where(fits.taken, fitted, agreed))

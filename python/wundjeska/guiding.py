@@ -3,8 +3,8 @@
 The guide is least of all for the filtered session, which the program proves and its checker judges. What is returned differs from
 the phase as given by whole cycles, and from the guide by half a cycle at most (`nearest`).
 
-A filter of 16 by 16 pixels takes a feature that is narrower for noise. With `narrow` what the guide leaves of the phase is
-unwrapped, too, and tells such features.
+A filter of 16 by 16 pixels takes a feature that is narrower for noise, but for what local slopes tell (`filtering`). With `narrow`
+what the guide leaves of the phase is unwrapped, too, and tells more such features.
 
 The phase as given is unwrapped as well. Where that surface is whole cycles apart, `undecided` tells whether the filter knows which of
 the two is right. NumPy alone.
@@ -17,7 +17,7 @@ import numpy as np
 import numpy.typing as npt
 
 from .arguments import refused
-from .filtering import MAX_THREADS, SIDE, filtered, filtered_phase
+from .filtering import MAX_THREADS, SIDE, filtered
 from .nearest import how_made, nearest, rest_of, with_narrow
 from .planes import CYCLE, MAX_WEIGHT, Session, comments_of, read_session, session_of, with_comments
 from .report_reader import Surface
@@ -89,7 +89,7 @@ def add_filter_words(words: ArgumentParser, what: str, default: Optional[str]) -
 
 def add_narrow_word(words: ArgumentParser) -> None:
     words.add_argument(
-        "--narrow", action="store_true", help=f"look for features narrower than {SIDE} pixels, too, which a filter loses"
+        "--narrow", action="store_true", help=f"look for features narrower than {SIDE} pixels by a second surface, too"
     )
 
 
@@ -199,6 +199,6 @@ def check_before(before: bytes, session: bytes) -> None:
     same_mask = np.array_equal(given.opened, smooth.opened)
     if not is_filtered(session) or is_filtered(before) or not same_mask or given.ramp != smooth.ramp:
         raise Trouble("the session before the filter is not the one that was filtered", DISAGREES)
-    off = (filtered_phase(given.phase, given.opened, MAX_THREADS) - smooth.phase).view(np.int16)
+    off = (filtered(given.phase, given.opened).phase - smooth.phase).view(np.int16)
     if (np.abs(off.astype(np.int32)) > ALIKE).mean() > 1 - MANY_ALIKE:
         raise Trouble("the filtered phase is not what the filter makes of the session before it", DISAGREES)

@@ -3,7 +3,7 @@ import math
 from argparse import ArgumentParser, Namespace
 from fractions import Fraction
 from pathlib import Path
-from typing import Any, Dict, Union
+from typing import Any, Dict, Iterable, Union
 
 import numpy as np
 from osgeo import gdal
@@ -140,13 +140,22 @@ def write_components(path: Union[str, Path], like: gdal.Dataset, components: np.
 
 def write_undecided(path: Union[str, Path], like: gdal.Dataset, undecided: Undecided) -> None:
     """Writes the undecided parts as whole numbers, 0 as NODATA."""
-    content = "parts by falling size to which no filter gives other cycles, and nobody knows which are right"
-    shares = " ".join(f"{share:.3f}" for share in undecided.f) or "none"
-    write_numbers(path, like, undecided.labels, {"CONTENT": content, "F": shares})
+    write_numbers(path, like, undecided.labels, undecided_notes("parts by falling size", undecided.f))
+
+
+def undecided_notes(parts: str, f: Iterable[float]) -> Dict[str, Any]:
+    """What is told of a raster of undecided parts, and f of each."""
+    content = f"{parts} to which no filter gives other cycles, and nobody knows which are right"
+    return {"CONTENT": content, "F": " ".join(f"{share:.3f}" for share in f) or "none"}
 
 
 def write_numbers(path: Union[str, Path], like: gdal.Dataset, numbers: np.ndarray, notes: Dict[str, Any]) -> None:
     """Writes whole numbers, 0 as NODATA."""
-    made = create_like(path, like, gdal.GDT_UInt32, 0, "", {"VERSION": __version__, **notes})
+    made = create_numbers(path, like, notes)
     put_array(made, numbers)
     close(made, path)
+
+
+def create_numbers(path: Union[str, Path], like: gdal.Dataset, notes: Dict[str, Any]) -> gdal.Dataset:
+    """A new raster for whole numbers, 0 as NODATA."""
+    return create_like(path, like, gdal.GDT_UInt32, 0, "", {"VERSION": __version__, **notes})

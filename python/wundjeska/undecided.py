@@ -174,7 +174,11 @@ def told(parts: Sequence[Part]) -> str:
 
 def count_of(undecided: Undecided) -> str:
     """How many undecided parts there are, and of how many pixels, in words."""
-    parts, pixels = len(undecided.f), np.count_nonzero(undecided.labels)
+    return count_told(len(undecided.f), np.count_nonzero(undecided.labels))
+
+
+def count_told(parts: int, pixels: int) -> str:
+    """So many undecided parts of so many pixels, in words."""
     if not parts:
         return "nothing undecided"
     return f"{parts} undecided part{'s' if parts > 1 else ''} of {pixels} pixels"

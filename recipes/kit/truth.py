@@ -457,7 +457,7 @@ GUARD = {
     "glacier-4-hard-white-9113": (0.259, 1.648),
     "islands-20-hard-white-9120": (0.065, 2.510),
     "fault-4-medium-wide-9129": (0.343, 0.508),
-    "peaks-4-medium-white-9126": (5.996, 5.914),
+    "peaks-4-medium-white-9126": (1.121, 1.242),
 }
 
 

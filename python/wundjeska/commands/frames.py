@@ -13,6 +13,8 @@ pieces in it that do not are told too. If an overlap does not agree, the raster 
 
 Rasters are read and written by windows. --folder keeps the session, the report and the surface of each frame, and their SHA-256.
 What is there is not done again, so a run that was cut off goes on where it stopped; what was changed there since is.
+
+--undecided writes what is undecided in each frame, up to the middle of the overlaps; a part that runs over several has a number in each.
 """
 import hashlib
 import io
@@ -29,20 +31,20 @@ import numpy as np
 from .. import program
 from ..build_info import with_proofs
 from ..components import pieces_of
-from ..guiding import Chain, add_filter_words, by_guide, filtered_session
+from ..guiding import Chain, add_filter_words, add_narrow_word, by_guide, filtered_session
 from ..joining import Link, Offsets, links_of, offsets_of
-from ..outputs import Outputs, add_force_word, keep
+from ..outputs import Outputs, add_force_word, keep, raster_beside
 from ..planes import CYCLE, MAX_PIXELS, Ramp, session_of
-from ..product import add_unit_words, check_unit_words, in_unit, kind_of, nodata_of, unit_notes
+from ..product import add_unit_words, check_unit_words, create_numbers, in_unit, kind_of, nodata_of, undecided_notes, unit_notes
 from ..ramps import AUTO, RampWord, Spectrum, add_ramp_words, found_in, told
-from ..rasters import Scene, Window, add_scene_words, close, create_like, name_of, put_values, scene_of, size_of
+from ..rasters import Scene, Window, add_scene_words, close, create_like, name_of, put_array, put_values, scene_of, size_of
 from ..references import add_reference_words, check_box, mean_of, reference_of
 from ..report_reader import NODATA
 from ..trouble import DISAGREES, REFUSED_WORDS, Trouble
-from ..undecided import count_of
+from ..undecided import count_of, count_told
 from ..unwrapping import FILTER, Settings, Solved, solve, solved_by, solvers_of
 from ..weights import highest_of
-from .unwrap import add_solver_words, add_whole_word, ramp_note, settings_of, steep_note
+from .unwrap import add_solver_words, add_undecided_word, add_whole_word, chain_of, ramp_note, settings_of, steep_note
 
 NOT_PROVED = (
     "Each frame is certified: the checker accepted its {}. The joint of the frames is not covered by any certificate or "
@@ -50,6 +52,8 @@ NOT_PROVED = (
 )
 BLOCK, BLOCKS = 256, 16  # pixels along a block that tells of the ramp, and how many there are at most along a side
 KEPT = ("session", "report", "pieces.npy", "values.npy")  # of a frame
+OF_GUIDES = ("undecided.npy", "f.npy")  # besides, of one with a filter: the numbers of undecided parts, and f of each
+NARROW_SUMS = b"# narrow\n"  # with the sums of a frame in which narrow features were looked for
 CHUNK = 1 << 20  # bytes of a file that are read at once
 MAX_LINES, MAX_COUNTS, MAX_JOBS = 20, 4, 64  # on pieces that do not agree, and of differences in such a line
 
@@ -67,7 +71,7 @@ class Frame:
         return self.folder / f"{self.name}.{kind}"
 
     def load(self, kind: str, window: Window) -> np.ndarray:
-        """Of the kept 'values' (int64) or 'pieces' (int32) those of a window of the raster, (rows, columns)."""
+        """Of the kept 'values' (int64), 'pieces' (int32) or 'undecided' (uint32) those of a window of the raster, (rows, columns)."""
         x, y, width, height = window
         x, y = x - self.window[0], y - self.window[1]
         kept: np.ndarray = np.load(self.file(f"{kind}.npy"), mmap_mode="r")
@@ -142,28 +146,39 @@ def sum_of(path: Path) -> str:
     return found.hexdigest()
 
 
-def sums_of(frame: Frame) -> bytes:
+def kinds_of(chain: Chain) -> Sequence[str]:
+    """What is kept of a frame."""
+    return KEPT + OF_GUIDES if chain.filter else KEPT
+
+
+def sums_of(frame: Frame, chain: Chain) -> bytes:
     """The sums of what is kept of a frame, a line for each file, as sha256sum has them."""
-    return "".join(f"{sum_of(frame.file(kind))}  {frame.file(kind).name}\n" for kind in KEPT).encode()
+    lines = [f"{sum_of(frame.file(kind))}  {frame.file(kind).name}\n" for kind in kinds_of(chain)]
+    return "".join(lines).encode() + (NARROW_SUMS if chain.narrow else b"")
 
 
-def is_kept(frame: Frame, session: bytes, head: bytes) -> bool:
+def is_kept(frame: Frame, session: bytes, head: bytes, chain: Chain) -> bool:
     """Whether an earlier run ended with this frame, of the same session by the same options, and nothing was changed since."""
-    if not all(frame.file(kind).exists() for kind in (*KEPT, "sums")) or frame.file("session").read_bytes() != session:
+    if not all(frame.file(kind).exists() for kind in (*kinds_of(chain), "sums")):
+        return False
+    if frame.file("session").read_bytes() != session:
         return False
     with open(frame.file("report"), "rb") as report:
         is_like = report.read(len(head)) == head
-    return is_like and frame.file("sums").read_bytes() == sums_of(frame)
+    return is_like and frame.file("sums").read_bytes() == sums_of(frame, chain)
 
 
-def keep_solved(frame: Frame, session: bytes, solved: Solved) -> None:
+def keep_solved(frame: Frame, session: bytes, solved: Solved, chain: Chain) -> None:
     """Keeps what was found of a frame, in place of what stands under its names, which may be cut."""
     frame.file("sums").unlink(missing_ok=True)  # where it is, all else is whole
     keep(frame.file("session"), session, force=True)
     keep(frame.file("report"), solved.report, force=True)
     keep(frame.file("pieces.npy"), text_of(pieces_of(solved.surface.opened())), force=True)
     keep(frame.file("values.npy"), text_of(solved.surface.values), force=True)
-    keep(frame.file("sums"), sums_of(frame), force=True)
+    if solved.undecided:
+        keep(frame.file("undecided.npy"), text_of(solved.undecided.labels), force=True)
+        keep(frame.file("f.npy"), text_of(solved.undecided.f), force=True)
+    keep(frame.file("sums"), sums_of(frame, chain), force=True)
 
 
 @dataclass
@@ -203,11 +218,11 @@ def do_frame(frame: Frame, job: Job) -> str:
         planes = job.scene.read(frame.window)
     session = session_of(*planes, highest=highest_of(job.scene.looks), ramp=job.ramp)
     text = filtered_session(session, job.scene.coherence is not None) if job.chain.filter else session
-    if is_kept(frame, text, head_of(frame, job.settings, job.ramp)):
+    if is_kept(frame, text, head_of(frame, job.settings, job.ramp), job.chain):
         words = "accepted in an earlier run"
     else:
         solved = solved_frame(frame, job, session, text)
-        keep_solved(frame, text, solved)
+        keep_solved(frame, text, solved, job.chain)
         words = f"{solved.verdict}, {cost_words(solved, job.settings)}"
     return f"{frame.name}: columns {x} to {x + width - 1}, rows {y} to {y + height - 1}: {words}"
 
@@ -332,11 +347,13 @@ def solved_note(settings: Settings) -> Dict[str, Any]:
 
 def notes_of(asked: Namespace, settings: Settings, frames: List[Frame], agreed: bool) -> Dict[str, Any]:
     """What the product tells of how it came about."""
+    chain = Chain(asked.filter, asked.narrow)
     return {
         **unit_notes(asked),
         "VERDICT": with_proofs("each frame accepted, their joint not proved"),
-        "FILTER": Chain(asked.filter).told(settings.is_whole),
-        "JOINT": not_proved(Chain(asked.filter)),
+        "FILTER": chain.told(settings.is_whole),
+        **({"UNDECIDED": undecided_told(frames)} if chain.filter else {}),
+        "JOINT": not_proved(chain),
         "OVERLAPS": f"all agree at {100 * asked.agree:g} %" if agreed else f"not all agree at {100 * asked.agree:g} %",
         "FRAMES": len(frames),
         **solved_note(settings),
@@ -380,6 +397,36 @@ def write(
     close(made, path)
 
 
+Doubted = Tuple[Window, np.ndarray, List[float]]  # the core of a frame, the numbers of its undecided parts, and f of each
+
+
+def undecided_in(frames: List[Frame]) -> Iterator[Doubted]:
+    """What is undecided, part by part, numbered from 1 frame by frame."""
+    count = 0
+    for frame in frames:
+        labels, f = frame.load("undecided", frame.core), np.load(frame.file("f.npy"))
+        inside = np.unique(labels[labels > 0])
+        numbers = np.zeros(len(f) + 1, dtype=np.uint32)
+        numbers[inside] = np.arange(count + 1, count + 1 + len(inside))
+        count += len(inside)
+        yield frame.core, numbers[labels], f[inside - 1].tolist()
+
+
+def undecided_told(frames: List[Frame]) -> str:
+    """How many undecided parts the raster has, and of how many pixels, in words."""
+    found = [(len(f), np.count_nonzero(numbers)) for _, numbers, f in undecided_in(frames)]
+    return count_told(sum(parts for parts, _ in found), sum(pixels for _, pixels in found))
+
+
+def write_undecided(path: Path, frames: List[Frame], scene: Scene) -> None:
+    """Writes the undecided parts as whole numbers, 0 as NODATA, frame by frame."""
+    f = [share for _, _, found in undecided_in(frames) for share in found]
+    made = create_numbers(path, scene.phase.raster, undecided_notes("parts, frame by frame,", f))
+    for core, numbers, _ in undecided_in(frames):
+        put_array(made, numbers, *core[:2])
+    close(made, path)
+
+
 def words() -> ArgumentParser:
     found = ArgumentParser(
         description=__doc__,
@@ -390,7 +437,7 @@ def words() -> ArgumentParser:
     )
     add_scene_words(found)
     found.add_argument(
-        "--folder", metavar="FOLDER", type=Path, required=True, help="what is kept of frames; about 25 bytes a pixel"
+        "--folder", metavar="FOLDER", type=Path, required=True, help="what is kept of frames; about 30 bytes a pixel"
     )
     found.add_argument(
         "--side", type=int, default=2048, metavar="N", help="pixels along a side of a frame, at most 2048"
@@ -406,6 +453,8 @@ def words() -> ArgumentParser:
     )
     add_ramp_words(found)
     add_filter_words(found, "unwrap each frame after a windowed Fourier filter", FILTER)
+    add_narrow_word(found)
+    add_undecided_word(found, "frame by frame")
     add_solver_words(found)
     add_whole_word(found, "each frame")
     add_reference_words(found, auto=False)
@@ -428,18 +477,18 @@ def check_words(asked: Namespace) -> None:
 
 def main(asked: Namespace) -> int:
     check_words(asked)
-    settings = settings_of(asked, asked.whole)
+    settings, chain = settings_of(asked, asked.whole), chain_of(asked, undecided=asked.undecided)
     scene = scene_of(asked)
     raster = scene.phase.raster
     check_box(reference_of(asked).box, *size_of(raster))
     frames = frames_of(size_of(raster), asked.side, asked.overlap, asked.folder)
     with Outputs(scene.files(), asked.force) as outputs:
-        made = outputs.raster(asked.geotiff)
+        made, doubted = outputs.raster(asked.geotiff), raster_beside(outputs, asked.undecided)
         asked.folder.mkdir(parents=True, exist_ok=True)
         ramp = ramp_of(scene, asked.ramp)
         if ramp is not None:
             print(told(ramp), flush=True)
-        do_frames(frames, Job(scene, settings, threading.Lock(), ramp, Chain(asked.filter)), asked.jobs)
+        do_frames(frames, Job(scene, settings, threading.Lock(), ramp, chain), asked.jobs)
         pieces = pieces_in(frames)
         if not pieces:
             raise Trouble(f"{name_of(raster)} has no pixel that is open")
@@ -447,4 +496,6 @@ def main(asked: Namespace) -> int:
         offsets = offsets_of(pieces, [link for links in overlaps for link in links])
         agreed = tell(overlaps, frames, offsets, asked)
         write(made, frames, offsets, scene, asked, {**notes_of(asked, settings, frames, agreed), **ramp_note(ramp)})
+        if doubted:
+            write_undecided(doubted, frames, scene)
     return 0 if agreed else DISAGREES

@@ -65,6 +65,14 @@ def add_whole_word(found: ArgumentParser, what: str) -> None:
     )
 
 
+def add_undecided_word(found: ArgumentParser, order: str) -> None:
+    found.add_argument(
+        "--undecided",
+        metavar="FILE",
+        help=f"write the parts, numbered from 1 {order}, to which no filter gives other cycles, and nobody knows which are right",
+    )
+
+
 def settings_of(asked: Namespace, whole: Optional[bool]) -> Settings:
     settings = Settings(side_for(asked.tile, whole), asked.rule, asked.workers, asked.steep)
     settings.check()
@@ -103,11 +111,7 @@ def words() -> ArgumentParser:
         metavar="N",
         help="components of fewer pixels get the number 0 (default: 1)",
     )
-    found.add_argument(
-        "--undecided",
-        metavar="FILE",
-        help="write the parts, numbered from 1 by size, to which no filter gives other cycles, and nobody knows which are right",
-    )
+    add_undecided_word(found, "by size")
     found.add_argument("--page", metavar="FILE", help="write a page to look at, an HTML file")
     found.add_argument("--session", metavar="FILE", help="keep the session that the report is of, the program's input")
     found.add_argument(
@@ -122,13 +126,13 @@ def words() -> ArgumentParser:
     return found
 
 
-def chain_of(asked: Namespace) -> Chain:
-    """The chain that is asked for. Trouble if its words do not fit each other."""
+def chain_of(asked: Namespace, **files: Optional[str]) -> Chain:
+    """The chain that is asked for. Trouble if its words, or files that a filter alone can fill, do not fit it."""
     found = Chain(asked.filter, asked.narrow)
     found.check()
-    for option, name in (("--undecided", asked.undecided), ("--unfiltered", asked.unfiltered)):
+    for option, name in files.items():
         if name is not None and found.filter is None:
-            raise Trouble(f"{option} wants a filter: --filter {FOURIER}", REFUSED_WORDS)
+            raise Trouble(f"--{option} wants a filter: --filter {FOURIER}", REFUSED_WORDS)
     return found
 
 
@@ -224,7 +228,7 @@ def main(asked: Namespace) -> int:
     settings = settings_of(asked, asked.whole)
     scene = scene_of(asked)
     check_screen_words(asked.screen, asked.unscreened, scene.coherence)
-    chain = chain_of(asked)
+    chain = chain_of(asked, undecided=asked.undecided, unfiltered=asked.unfiltered)
     with Outputs(scene.files(), asked.force) as outputs:
         place = outputs.raster(asked.geotiff)
         numbered, doubted = (raster_beside(outputs, name) for name in (asked.components, asked.undecided))

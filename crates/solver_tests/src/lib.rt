@@ -12,6 +12,8 @@ mod outcomes;
 #[cfg(test)]
 mod reading;
 #[cfg(test)]
+mod square_rows;
+#[cfg(test)]
 mod steep_rows;
 #[cfg(test)]
 mod tile_rows;

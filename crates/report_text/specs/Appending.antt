@@ -10,7 +10,7 @@ use Rattle.report_text.specs.Reports.{ItemOf, SurfaceOf, surface_of}
 
 -- the snapshots are of surfaces of a session
 abbrev pub AreOver : Session → List Snapshot → Type 0
-AreOver s snapshots = (k : ℕ) (n : Snapshot) → slice_get snapshots k ≡ Some n → (parts_of n).session ≡ s
+AreOver session snapshots = (k : ℕ) (snapshot : Snapshot) → slice_get snapshots k ≡ Some snapshot → (parts_of snapshot).session ≡ session
 
 -- the surface of a snapshot that may be there
 abbrev pub next_surface : Option (Bor Snapshot) → Option SurfaceOf

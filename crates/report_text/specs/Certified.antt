@@ -17,53 +17,53 @@ use Rattle.report_text.specs.Reports.{ItemOf, ReportOf, SurfaceOf}
 use Rattle.text_parts.specs.Terms.{terms_of}
 
 -- the grid shows a surface at open pixels, none of which has the NODATA value, and that value at masked ones
-pub record ShowsSurface (r : Raster) (mask : Field Bool) (values surface : Field ℤ) : Type 0 where
-  pub shown : (x y : ℕ) → x < r.width → y < r.height → values x y ≡ (if mask x y then surface x y else no_data)
-  pub told : (x y : ℕ) → x < r.width → y < r.height → IsTrue (mask x y) → values x y ≢ no_data
+pub record ShowsSurface (raster : Raster) (mask : Field Bool) (values surface : Field ℤ) : Type 0 where
+  pub shown : (x y : ℕ) → x < raster.width → y < raster.height → values x y ≡ (if mask x y then surface x y else no_data)
+  pub told : (x y : ℕ) → x < raster.width → y < raster.height → IsTrue (mask x y) → values x y ≢ no_data
 
 -- a congruent, anchored surface, which the faces certify in each tile and the flows at the seams, with its costs
-pub record IsCertifiedSurface (r : Raster) (mask : Field Bool) (k : SurfaceOf) (surface : Field ℤ) : Type 0 where
-  pub shows : ShowsSurface r mask k.values surface
-  pub congruent : IsCongruent r mask surface
-  pub anchored : IsAnchored r mask surface
-  pub tiles : (t : ℕ) → t < r.tile_count → IsCertifiedTile r mask t surface (k.faces t)
-  pub seams : AreCertifiedSeams r mask surface k.flows
-  pub tile_cost : pos k.tile_cost ≡ tile_costs r mask surface
-  pub seam_cost_is : pos k.seam_cost ≡ seam_cost r mask surface
+pub record IsCertifiedSurface (raster : Raster) (mask : Field Bool) (k : SurfaceOf) (surface : Field ℤ) : Type 0 where
+  pub shows : ShowsSurface raster mask k.values surface
+  pub congruent : IsCongruent raster mask surface
+  pub anchored : IsAnchored raster mask surface
+  pub tiles : (t : ℕ) → t < raster.tile_count → IsCertifiedTile raster mask t surface (k.faces t)
+  pub seams : AreCertifiedSeams raster mask surface k.flows
+  pub tile_cost : pos k.tile_cost ≡ tile_costs raster mask surface
+  pub seam_cost_is : pos k.seam_cost ≡ seam_cost raster mask surface
 
 -- what stands after an entry of a history: after a publication a certified surface at the mask of its revision, after another entry none
 abbrev pub IsCertifiedAt : Session → List Entry → ℕ → Option SurfaceOf → Type 0
-IsCertifiedAt s H revision (Some k) = (surface : Field ℤ) × IsCertifiedSurface (raster_of s.scene) (mask_in s H revision) k surface
-IsCertifiedAt s H revision None = ⊥
+IsCertifiedAt session H revision (Some k) = (surface : Field ℤ) × IsCertifiedSurface (raster_of session.scene) (mask_in session H revision) k surface
+IsCertifiedAt session H revision None = ⊥
 
 abbrev pub IsCertifiedAfter : Session → List Entry → Entry → Option SurfaceOf → Type 0
-IsCertifiedAfter s H (Revised analyst edit) behind = behind ≡ None
-IsCertifiedAfter s H (Kept tile stamp) behind = behind ≡ None
-IsCertifiedAfter s H (Published analyst revision) behind = IsCertifiedAt s H revision behind
-IsCertifiedAfter s H (Settled analyst revision) behind = behind ≡ None
-IsCertifiedAfter s H (Shown analyst revision) behind = behind ≡ None
+IsCertifiedAfter session H (Revised analyst edit) behind = behind ≡ None
+IsCertifiedAfter session H (Kept tile stamp) behind = behind ≡ None
+IsCertifiedAfter session H (Published analyst revision) behind = IsCertifiedAt session H revision behind
+IsCertifiedAfter session H (Settled analyst revision) behind = behind ≡ None
+IsCertifiedAfter session H (Shown analyst revision) behind = behind ≡ None
 
 -- the history of a report
 abbrev pub history_of : ReportOf → List Entry
-history_of v = map (λ i. i.entry) v.items
+history_of report = map (λ i. i.entry) report.items
 
-pub record IsCertifiedReport (s : Session) (v : ReportOf) : Type 0 where
-  pub width : v.width ≡ s.scene.phase.width
-  pub height : v.height ≡ s.scene.phase.height
-  pub side : v.side ≡ s.scene.tiling.side
-  pub rule : v.rule ≡ s.scene.rule
-  pub terms : v.terms ≡ terms_of s.scene.terms
-  pub legal : IsLegal s (history_of v)
-  pub complete : IsComplete s (history_of v)
-  pub surfaces : (k : ℕ) (i : ItemOf) → slice_get v.items k ≡ Some i → IsCertifiedAfter s (history_of v) i.entry i.surface
+pub record IsCertifiedReport (session : Session) (report : ReportOf) : Type 0 where
+  pub width : report.width ≡ session.scene.phase.width
+  pub height : report.height ≡ session.scene.phase.height
+  pub side : report.side ≡ session.scene.tiling.side
+  pub rule : report.rule ≡ session.scene.rule
+  pub terms : report.terms ≡ terms_of session.scene.terms
+  pub legal : IsLegal session (history_of report)
+  pub complete : IsComplete session (history_of report)
+  pub surfaces : (k : ℕ) (i : ItemOf) → slice_get report.items k ≡ Some i → IsCertifiedAfter session (history_of report) i.entry i.surface
 
 -- each published surface is the best at the mask of its revision, and its grid shows it
 abbrev pub IsBestAt : Session → List Entry → ℕ → Option SurfaceOf → Type 0
-IsBestAt s H revision (Some k) = (surface : Field ℤ) × ShowsSurface (raster_of s.scene) (mask_in s H revision) k.values surface × IsBest (raster_of s.scene) (mask_in s H revision) surface
-IsBestAt s H revision None = ⊥
+IsBestAt session H revision (Some k) = (surface : Field ℤ) × ShowsSurface (raster_of session.scene) (mask_in session H revision) k.values surface × IsBest (raster_of session.scene) (mask_in session H revision) surface
+IsBestAt session H revision None = ⊥
 
 abbrev pub SurfacesAreBest : Session → ReportOf → Type 0
-SurfacesAreBest s v = (k : ℕ) (i : ItemOf) (analyst revision : ℕ) → slice_get v.items k ≡ Some i → i.entry ≡ Published analyst revision → IsBestAt s (history_of v) revision i.surface
+SurfacesAreBest session report = (k : ℕ) (i : ItemOf) (analyst revision : ℕ) → slice_get report.items k ≡ Some i → i.entry ≡ Published analyst revision → IsBestAt session (history_of report) revision i.surface
 
 abbrev pub CertifiedReportsAreBest : Type 0
-CertifiedReportsAreBest = (s : Session) (v : ReportOf) → IsCertifiedReport s v → SurfacesAreBest s v
+CertifiedReportsAreBest = (session : Session) (report : ReportOf) → IsCertifiedReport session report → SurfacesAreBest session report

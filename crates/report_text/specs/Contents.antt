@@ -20,7 +20,7 @@ use Rattle.report_text.specs.Text.{report_text, tiles_in}
 
 -- what the items tell
 abbrev pub lists_of : List (Vec ℤ) → ℕ → List ℤ
-lists_of lists t = slice_index_or (map (λ list. list.items) lists) t []
+lists_of lists tile = slice_index_or (map (λ list. list.items) lists) tile []
 
 abbrev pub told_surface : ReportSurface → SurfaceOf
 told_surface k = record { tile_cost = k.tile_cost; seam_cost = k.seam_cost; values = value_at k.grid.width k.grid.values.items; faces = lists_of k.faces.items; flows = k.flows.items }
@@ -33,7 +33,7 @@ abbrev pub told_item : Item → ItemOf
 told_item i = record { entry = i.entry; surface = told_after i.surface }
 
 abbrev pub report_told : Report → ReportOf
-report_told v = record { version = v.version; width = v.width; height = v.height; side = v.side; rule = v.rule; terms = terms_of v.terms; items = map told_item v.items.items }
+report_told report = record { version = report.version; width = report.width; height = report.height; side = report.side; rule = report.rule; terms = terms_of report.terms; items = map told_item report.items.items }
 
 -- ---- the numbers of a report are in their ranges
 
@@ -65,13 +65,13 @@ pub record IsItemInRange (width height tiles : ℕ) (i : ItemOf) : Type 0 where
   pub published : HasSurface i.entry i.surface
   pub surface : MayBeInRange width height tiles i.surface
 
-pub record IsReport (v : ReportOf) : Type 0 where
-  pub versioned : IsVersion v.version
-  pub sized : IsTrue (is_raster_size v.width v.height)
-  pub sides : IsTileSide v.side
-  pub terms : AreTermsIn v.version v.terms
-  pub items : AllByRecursion (IsItemInRange v.width v.height (tiles_in v)) v.items
+pub record IsReport (report : ReportOf) : Type 0 where
+  pub versioned : IsVersion report.version
+  pub sized : IsTrue (is_raster_size report.width report.height)
+  pub sides : IsTileSide report.side
+  pub terms : AreTermsIn report.version report.terms
+  pub items : AllByRecursion (IsItemInRange report.width report.height (tiles_in report)) report.items
 
 -- the text of a report
 abbrev pub IsReportText : Form
-IsReportText text = (v : ReportOf) × (IsReport v × (text ≡ report_text v))
+IsReportText text = (report : ReportOf) × (IsReport report × (text ≡ report_text report))

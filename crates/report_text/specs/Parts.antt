@@ -58,7 +58,7 @@ IsTermsText version = TextOf (AreTermsIn version) (terms_text version)
 
 -- the faces of the tiles below a number
 abbrev pub AreFacesBelow : ℕ → (ℕ → List ℤ) → Type 0
-AreFacesBelow tiles faces = (t : ℕ) → t < tiles → AreLongs (faces t)
+AreFacesBelow tiles faces = (tile : ℕ) → tile < tiles → AreLongs (faces tile)
 
 abbrev pub AreFacesOf : ℕ → List ℤ → Type 0
 AreFacesOf tile faces = IsWide tile × AreLongs faces
@@ -98,4 +98,4 @@ IsItemsText width height tiles = TextOf (AreItems width height tiles) (items_tex
 
 -- why no lines were read after an entry: it is a publication, and a surface was not read
 abbrev pub HasAfterCause : ℕ → ℕ → ℕ → Entry → ℕ → Call → LineFault → Type 0
-HasAfterCause width height tiles entry done c fault = IsTrue (is_published entry) × HasLineCause (IsSurfaceText width height tiles) done c fault
+HasAfterCause width height tiles entry done call fault = IsTrue (is_published entry) × HasLineCause (IsSurfaceText width height tiles) done call fault

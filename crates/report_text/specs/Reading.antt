@@ -17,11 +17,11 @@ EndsReportIn n text = EndsTextIn IsReportText n text
 -- Where bytes are told: those that were taken end with the first line that breaks the form, or the input ends in a line that is
 -- cut or missing; or the limit cuts a line. Otherwise a fault of the source was counted, or memory ran out.
 abbrev pub HasReportCause : Call → LineFault → Type 0
-HasReportCause c fault = HasTextCause IsReportText c fault
+HasReportCause call fault = HasTextCause IsReportText call fault
 
 -- What was taken is the text of the report that was read, and nothing is left; or there is a cause.
 abbrev pub IsReader : Call → Result Report LineFault → Type 0
-IsReader c result = IsTextReader report_told IsReport report_text c result
+IsReader call result = IsTextReader report_told IsReport report_text call result
 
 -- of bytes of which so many are let out, line n is the first that breaks the form
 abbrev pub HasBrokenReportLine : ℕ → ℕ → List ℕ → Type 0
@@ -29,11 +29,11 @@ HasBrokenReportLine room n bytes = HasBrokenTextLine IsReportText room n bytes
 
 -- a report's text is read as a report that has it, and nothing is left; or a fault of the source was counted, or memory ran out
 abbrev pub IsReportRead : Call → List ℕ → Result Report LineFault → Type 0
-IsReportRead c bytes result = IsTextRead report_told report_text c bytes result
+IsReportRead call bytes result = IsTextRead report_told report_text call bytes result
 
 -- a first broken line is told; or one of the same happened
 abbrev pub IsReportRefusedAt : Call → ℕ → Result Report LineFault → Type 0
-IsReportRefusedAt c n result = IsTextRefusedAt c n result
+IsReportRefusedAt call n result = IsTextRefusedAt call n result
 
 -- bytes have no two first broken lines, however many are let out, and the text of a report has none
 abbrev pub BrokenReportLineIsOne : Type 0

@@ -36,11 +36,11 @@ pub record ReportOf : Type 0 where
 
 -- a report has version 1 exactly where its terms are the plain ones
 abbrev pub HasItsVersion : ReportOf → Type 0
-HasItsVersion v = (v.version ≡ 1) ↔ (v.terms ≡ plain_terms)
+HasItsVersion report = (report.version ≡ 1) ↔ (report.terms ≡ plain_terms)
 
 -- the surface of a snapshot's parts
 abbrev pub surface_of : Parts → SurfaceOf
-surface_of p = record { tile_cost = unsigned_abs (tile_costs (raster_in p) (open_in p) (surface_in p)); seam_cost = unsigned_abs (seam_cost (raster_in p) (open_in p) (surface_in p)); values = shown_in p; faces = faces_in p; flows = flows_in p }
+surface_of parts = record { tile_cost = unsigned_abs (tile_costs (raster_in parts) (open_in parts) (surface_in parts)); seam_cost = unsigned_abs (seam_cost (raster_in parts) (open_in parts) (surface_in parts)); values = shown_in parts; faces = faces_in parts; flows = flows_in parts }
 
 -- whether an entry is a publication
 abbrev pub is_published : Entry → Bool
@@ -70,4 +70,4 @@ items_of (e ∷ es) ps = item_of e (first_of ps) ∷ items_of es (drop (one_if (
 
 -- the report of a session with this history and these published surfaces
 abbrev pub report_of : Session → List Entry → List Parts → ReportOf
-report_of s entries surfaces = record { version = version_on (terms_of s.scene.terms); width = s.scene.phase.width; height = s.scene.phase.height; side = s.scene.tiling.side; rule = s.scene.rule; terms = terms_of s.scene.terms; items = items_of entries surfaces }
+report_of session entries surfaces = record { version = version_on (terms_of session.scene.terms); width = session.scene.phase.width; height = session.scene.phase.height; side = session.scene.tiling.side; rule = session.scene.rule; terms = terms_of session.scene.terms; items = items_of entries surfaces }

@@ -13,15 +13,15 @@ abbrev pub IsVersion : ℕ → Type 0
 IsVersion version = (version ≡ 1) ⊎ (version ≡ 2)
 
 -- the terms may be those of a report of this version: their numbers are in range, and version 1 has the plain ones
-pub record AreTermsIn (version : ℕ) (t : TermsOf) : Type 0 where
-  pub across : IsSlope t.ramp_x
-  pub along : IsSlope t.ramp_y
-  pub steepness : IsSteepness t.steep
-  pub plain : version ≡ 1 → t ≡ plain_terms
+pub record AreTermsIn (version : ℕ) (terms : TermsOf) : Type 0 where
+  pub across : IsSlope terms.ramp_x
+  pub along : IsSlope terms.ramp_y
+  pub steepness : IsSteepness terms.steep
+  pub plain : version ≡ 1 → terms ≡ plain_terms
 
 -- whether terms are the plain ones, and the version in which a report on these terms is written
 abbrev pub are_plain : TermsOf → Bool
-are_plain t = int_eq t.ramp_x (pos 0) && int_eq t.ramp_y (pos 0) && t.steep == 1
+are_plain terms = int_eq terms.ramp_x (pos 0) && int_eq terms.ramp_y (pos 0) && terms.steep == 1
 
 abbrev pub version_on : TermsOf → ℕ
-version_on t = if are_plain t then 1 else 2
+version_on terms = if are_plain terms then 1 else 2

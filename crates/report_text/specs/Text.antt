@@ -65,10 +65,10 @@ abbrev pub tiles_by : ℕ → ℕ → ℕ → ℕ
 tiles_by width height side = ((height + side - 1) / side) * ((width + side - 1) / side)
 
 abbrev pub tiles_in : ReportOf → ℕ
-tiles_in v = tiles_by v.width v.height v.side
+tiles_in report = tiles_by report.width report.height report.side
 
 unfoldable pub surface_block_text : ℕ → ℕ → ℕ → SurfaceOf → List ℕ
-surface_block_text width height tiles k = ended_line costs_line (k.tile_cost, k.seam_cost) ++ (grid_text width height k.values ++ (all_faces_text tiles k.faces ++ ended_line flows_line k.flows))
+surface_block_text width height tiles surface = ended_line costs_line (surface.tile_cost, surface.seam_cost) ++ (grid_text width height surface.values ++ (all_faces_text tiles surface.faces ++ ended_line flows_line surface.flows))
 
 -- an entry's line, and after it the lines of its surface, if any
 abbrev pub after_text : ℕ → ℕ → ℕ → Option SurfaceOf → List ℕ
@@ -80,11 +80,11 @@ item_text width height tiles i = entry_text i.entry ++ (line_end ++ after_text w
 
 -- the lines of the terms, which version 1 does not have
 abbrev pub terms_text : ℕ → TermsOf → List ℕ
-terms_text version t = if version == 1 then [] else (ended_line ramp_line (t.ramp_x, t.ramp_y) ++ ended_line steep_line t.steep)
+terms_text version terms = if version == 1 then [] else (ended_line ramp_line (terms.ramp_x, terms.ramp_y) ++ ended_line steep_line terms.steep)
 
 -- the head, the items, and the line `end`
 abbrev pub head_text : ReportOf → List ℕ
-head_text v = ended_line version_line v.version ++ (ended_line size_line (v.width, v.height) ++ (ended_line tile_line v.side ++ (ended_line rule_line v.rule ++ terms_text v.version v.terms)))
+head_text report = ended_line version_line report.version ++ (ended_line size_line (report.width, report.height) ++ (ended_line tile_line report.side ++ (ended_line rule_line report.rule ++ terms_text report.version report.terms)))
 
 unfoldable pub report_text : ReportOf → List ℕ
-report_text v = head_text v ++ (flat_map (item_text v.width v.height (tiles_in v)) v.items ++ codes "end\n")
+report_text report = head_text report ++ (flat_map (item_text report.width report.height (tiles_in report)) report.items ++ codes "end\n")

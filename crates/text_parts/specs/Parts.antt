@@ -43,7 +43,7 @@ abbrev pub IsLineMore : List ℕ → List ℕ → Type 0
 IsLineMore text rest = ((line : List ℕ) × (All IsInLine line × (text ≡ line ++ 10 ∷ []))) ⊎ (All IsInLine text × ((text ≢ []) × (rest ≡ [])))
 
 abbrev pub HasMoreCause : ℕ → Call → LineFault → Type 0
-HasMoreCause done c (faults.Line n) = (n ≡ done + 1) × Takes c IsLineMore
-HasMoreCause done c faults.TooLong = (c.end ≡ c.limit) × (HasMore c.left × Takes c (λ text rest. All IsInLine text))
-HasMoreCause done c faults.ReadFault = HasRisen c.before c.after
-HasMoreCause done c faults.Memory = ⊤
+HasMoreCause done call (faults.Line n) = (n ≡ done + 1) × Takes call IsLineMore
+HasMoreCause done call faults.TooLong = (call.end ≡ call.limit) × (HasMore call.left × Takes call (λ text rest. All IsInLine text))
+HasMoreCause done call faults.ReadFault = HasRisen call.before call.after
+HasMoreCause done call faults.Memory = ⊤

@@ -17,14 +17,14 @@ EndsTextIn F n text = EndsIn (Begins F) n text × (F text → ⊥)
 -- Where bytes are told: those that were taken end with the first line that breaks the form, or the input ends in a line that is
 -- cut or missing; or the limit cuts a line. Otherwise a fault of the source was counted, or memory ran out.
 abbrev pub HasTextCause : Form → Call → LineFault → Type 0
-HasTextCause F c (Line n) = Takes c (λ text rest. BreaksTextAt F n text ⊎ (EndsTextIn F n text × (rest ≡ [])))
-HasTextCause F c TooLong = (c.end ≡ c.limit) × (HasMore c.left × Takes c (λ text rest. (n : ℕ) × EndsIn (Begins F) n text))
-HasTextCause F c ReadFault = HasRisen c.before c.after
-HasTextCause F c Memory = ⊤
+HasTextCause F call (Line n) = Takes call (λ text rest. BreaksTextAt F n text ⊎ (EndsTextIn F n text × (rest ≡ [])))
+HasTextCause F call TooLong = (call.end ≡ call.limit) × (HasMore call.left × Takes call (λ text rest. (n : ℕ) × EndsIn (Begins F) n text))
+HasTextCause F call ReadFault = HasRisen call.before call.after
+HasTextCause F call Memory = ⊤
 
 -- What was taken is the text of what was read, as `told` shows it, and nothing is left; or there is a cause.
 abbrev pub IsTextReader : {R A : Type 0} → (R → A) → (A → Type 0) → (A → List ℕ) → Call → Result R LineFault → Type 0
-IsTextReader told MayStand text c result = IfOk result (λ r. Takes c (λ taken rest. (taken ≡ text (told r)) × (rest ≡ []))) × (IfOk result (λ r. MayStand (told r)) × IfErr result (HasTextCause (TextOf MayStand text) c))
+IsTextReader told MayStand text call result = IfOk result (λ r. Takes call (λ taken rest. (taken ≡ text (told r)) × (rest ≡ []))) × (IfOk result (λ r. MayStand (told r)) × IfErr result (HasTextCause (TextOf MayStand text) call))
 
 -- of bytes of which so many are let out, line n is the first that breaks the form
 abbrev pub HasBrokenTextLine : Form → ℕ → ℕ → List ℕ → Type 0
@@ -32,19 +32,19 @@ HasBrokenTextLine F room n bytes = ((front : List ℕ) × (rest : List ℕ) × (
 
 -- a text is read as what has it, and nothing is left; or a fault of the source was counted, or memory ran out
 abbrev pub IsTextRead : {R A : Type 0} → (R → A) → (A → List ℕ) → Call → List ℕ → Result R LineFault → Type 0
-IsTextRead told text c bytes (Ok r) = (text (told r) ≡ bytes) × (c.left ≡ Some [])
-IsTextRead told text c bytes (Err (Line n)) = ⊥
-IsTextRead told text c bytes (Err TooLong) = ⊥
-IsTextRead told text c bytes (Err ReadFault) = HasRisen c.before c.after
-IsTextRead told text c bytes (Err Memory) = ⊤
+IsTextRead told text call bytes (Ok r) = (text (told r) ≡ bytes) × (call.left ≡ Some [])
+IsTextRead told text call bytes (Err (Line n)) = ⊥
+IsTextRead told text call bytes (Err TooLong) = ⊥
+IsTextRead told text call bytes (Err ReadFault) = HasRisen call.before call.after
+IsTextRead told text call bytes (Err Memory) = ⊤
 
 -- a first broken line is told; or one of the same happened
 abbrev pub IsTextRefusedAt : {R : Type 0} → Call → ℕ → Result R LineFault → Type 0
-IsTextRefusedAt c n (Ok r) = ⊥
-IsTextRefusedAt c n (Err (Line m)) = m ≡ n
-IsTextRefusedAt c n (Err TooLong) = ⊥
-IsTextRefusedAt c n (Err ReadFault) = HasRisen c.before c.after
-IsTextRefusedAt c n (Err Memory) = ⊤
+IsTextRefusedAt call n (Ok r) = ⊥
+IsTextRefusedAt call n (Err (Line m)) = m ≡ n
+IsTextRefusedAt call n (Err TooLong) = ⊥
+IsTextRefusedAt call n (Err ReadFault) = HasRisen call.before call.after
+IsTextRefusedAt call n (Err Memory) = ⊤
 
 -- bytes have no two first broken lines, however many are let out, and a text of the form has none
 abbrev pub BrokenTextLineIsOne : Form → Type 0

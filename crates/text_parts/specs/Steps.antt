@@ -66,7 +66,7 @@ in_turn f g p = f p.0 ++ g p.1
 
 -- why a line was not read whole: as the reader of lines says, or it has more bytes than `most`, or the input cuts it
 abbrev pub HasNoLineCause : ℕ → ℕ → Call → LineFault → Type 0
-HasNoLineCause most done c fault = HasNextCause c fault ⊎ ((kept : List ℕ) × (line_end : LineEnd) × ((line_end ≢ Whole) × ((fault ≡ faults.Line (done + 1)) × IsLineRead most kept c line_end)))
+HasNoLineCause most done call fault = HasNextCause call fault ⊎ ((kept : List ℕ) × (line_end : LineEnd) × ((line_end ≢ Whole) × ((fault ≡ faults.Line (done + 1)) × IsLineRead most kept call line_end)))
 
 -- the next line was read whole, and it is `kept`
 pub record ReadsLine (most : ℕ) (kept : List ℕ) (v w : LinePlace) (result : Result (Unit {0}) LineFault) : Type 0 where

@@ -11,14 +11,14 @@ pub record TermsOf : Type 0 where
   pub steep : ℕ
 
 abbrev pub terms_of : Terms → TermsOf
-terms_of t = record { ramp_x = t.ramp_x; ramp_y = t.ramp_y; steep = t.steep }
+terms_of terms = record { ramp_x = terms.ramp_x; ramp_y = terms.ramp_y; steep = terms.steep }
 
 -- they are a session's: its rule, its ramp, its steepness
 abbrev pub HasRuleOf : Session → RuleKind → Type 0
-HasRuleOf s rule = rule ≡ s.scene.rule
+HasRuleOf session rule = rule ≡ session.scene.rule
 
 abbrev pub HasRampOf : Session → TermsOf → Type 0
-HasRampOf s told = (told.ramp_x ≡ s.scene.terms.ramp_x) × (told.ramp_y ≡ s.scene.terms.ramp_y)
+HasRampOf session told = (told.ramp_x ≡ session.scene.terms.ramp_x) × (told.ramp_y ≡ session.scene.terms.ramp_y)
 
 abbrev pub HasSteepnessOf : Session → TermsOf → Type 0
-HasSteepnessOf s told = told.steep ≡ s.scene.terms.steep
+HasSteepnessOf session told = told.steep ≡ session.scene.terms.steep

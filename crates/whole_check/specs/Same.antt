@@ -14,15 +14,15 @@ use Rattle.whole_check.specs.Verdicts.{IsCertifiedText}
 
 -- where a text is certified for a session, each text that tells the same is
 abbrev pub AcceptanceIsOfWholes : Type 0
-AcceptanceIsOfWholes = (s : Session) (v w : WholeOf) → IsSameWhole v w → IsCertifiedText s v → IsCertifiedText s w
+AcceptanceIsOfWholes = (session : Session) (v w : WholeOf) → IsSameWhole v w → IsCertifiedText session v → IsCertifiedText session w
 
 -- a surface of whole cycles above the phase that is anchored and certified, with its cost
-pub record IsSolvedWhole (s : Session) (cycles : Field ℤ) (faces : List ℤ) (cost : ℕ) : Type 0 where
-  pub few : AreFewCycles (raster_of s.scene) (open_at s.first_mask) cycles
-  pub anchored : IsAnchored (raster_of s.scene) (open_at s.first_mask) (lifted (raster_of s.scene) cycles)
-  pub certified : IsCertifiedWhole (raster_of s.scene) (open_at s.first_mask) (lifted (raster_of s.scene) cycles) faces
-  pub cost_is : pos cost ≡ whole_cost (raster_of s.scene) (open_at s.first_mask) (lifted (raster_of s.scene) cycles)
+pub record IsSolvedWhole (session : Session) (cycles : Field ℤ) (faces : List ℤ) (cost : ℕ) : Type 0 where
+  pub few : AreFewCycles (raster_of session.scene) (open_at session.first_mask) cycles
+  pub anchored : IsAnchored (raster_of session.scene) (open_at session.first_mask) (lifted (raster_of session.scene) cycles)
+  pub certified : IsCertifiedWhole (raster_of session.scene) (open_at session.first_mask) (lifted (raster_of session.scene) cycles) faces
+  pub cost_is : pos cost ≡ whole_cost (raster_of session.scene) (open_at session.first_mask) (lifted (raster_of session.scene) cycles)
 
 -- what is told of it is certified
 abbrev pub CertifiedWholesAreAccepted : Type 0
-CertifiedWholesAreAccepted = (s : Session) (cycles : Field ℤ) (faces : List ℤ) (cost : ℕ) → IsSolvedWhole s cycles faces cost → IsCertifiedText s (told_whole s.scene (open_at s.first_mask) cycles faces cost)
+CertifiedWholesAreAccepted = (session : Session) (cycles : Field ℤ) (faces : List ℤ) (cost : ℕ) → IsSolvedWhole session cycles faces cost → IsCertifiedText session (told_whole session.scene (open_at session.first_mask) cycles faces cost)

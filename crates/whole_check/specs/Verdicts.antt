@@ -19,13 +19,13 @@ use Rattle.whole_check.specs.declared.verdict.WholeVerdict.TheVariants.{Accepted
 -- ---- the head: lines 2 to 5 give the session's size, rule, ramp and steepness
 
 abbrev pub HasSizeOf : Session → WholeOf → Type 0
-HasSizeOf s v = (v.width ≡ s.scene.phase.width) × (v.height ≡ s.scene.phase.height)
+HasSizeOf session whole = (whole.width ≡ session.scene.phase.width) × (whole.height ≡ session.scene.phase.height)
 
-pub record HasWholeHead (s : Session) (v : WholeOf) : Type 0 where
-  pub size : HasSizeOf s v
-  pub rule : HasRuleOf s v.rule
-  pub ramp : HasRampOf s v.terms
-  pub steepness : HasSteepnessOf s v.terms
+pub record HasWholeHead (session : Session) (whole : WholeOf) : Type 0 where
+  pub size : HasSizeOf session whole
+  pub rule : HasRuleOf session whole.rule
+  pub ramp : HasRampOf session whole.terms
+  pub steepness : HasSteepnessOf session whole.terms
 
 -- the first of them that does not has this number
 abbrev pub WholeDiffersAt : Session → WholeOf → ℕ → Type 0
@@ -38,49 +38,49 @@ WholeDiffersAt s v n =
 -- ---- the values
 
 -- a value fits its phase and its mask, and is the phase at the first open pixel; all do; the first pixel in row order whose value does not
-pub record ValueStands (r : Raster) (mask : Field Bool) (values : Field ℤ) (x y : ℕ) : Type 0 where
-  pub fits : ValueFits r mask values x y
-  pub anchored : IsFirstOpen r mask x y → values x y ≡ pos (r.phase x y)
+pub record ValueStands (raster : Raster) (mask : Field Bool) (values : Field ℤ) (x y : ℕ) : Type 0 where
+  pub fits : ValueFits raster mask values x y
+  pub anchored : IsFirstOpen raster mask x y → values x y ≡ pos (raster.phase x y)
 
 abbrev pub AllValuesStand : Raster → Field Bool → Field ℤ → Type 0
-AllValuesStand r mask values = (x y : ℕ) → x < r.width → y < r.height → ValueStands r mask values x y
+AllValuesStand raster mask values = (x y : ℕ) → x < raster.width → y < raster.height → ValueStands raster mask values x y
 
-pub record IsFirstFalseValue (r : Raster) (mask : Field Bool) (values : Field ℤ) (x y : ℕ) : Type 0 where
-  pub across : x < r.width
-  pub along : y < r.height
-  pub wrong : ValueStands r mask values x y → ⊥
-  pub first : (a b : ℕ) → a < r.width → b < r.height → IsEarlier a b x y → ValueStands r mask values a b
+pub record IsFirstFalseValue (raster : Raster) (mask : Field Bool) (values : Field ℤ) (x y : ℕ) : Type 0 where
+  pub across : x < raster.width
+  pub along : y < raster.height
+  pub wrong : ValueStands raster mask values x y → ⊥
+  pub first : (a b : ℕ) → a < raster.width → b < raster.height → IsEarlier a b x y → ValueStands raster mask values a b
 
 -- the surface that the values show
 abbrev pub surface_told : Session → WholeOf → Field ℤ
-surface_told s v = lifted (raster_of s.scene) (cycles_shown v.values)
+surface_told session whole = lifted (raster_of session.scene) (cycles_shown whole.values)
 
 -- ---- the text
 
 -- it is certified for a session: the head is the session's, the values are a surface that is anchored and certified over the whole raster, and the cost is the surface's
-pub record IsCertifiedText (s : Session) (v : WholeOf) : Type 0 where
-  pub head : HasWholeHead s v
-  pub values : AllValuesFit (raster_of s.scene) (open_at s.first_mask) v.values
-  pub anchored : IsAnchored (raster_of s.scene) (open_at s.first_mask) (surface_told s v)
-  pub certified : IsCertifiedWhole (raster_of s.scene) (open_at s.first_mask) (surface_told s v) v.faces
-  pub cost : pos v.cost ≡ whole_cost (raster_of s.scene) (open_at s.first_mask) (surface_told s v)
+pub record IsCertifiedText (session : Session) (whole : WholeOf) : Type 0 where
+  pub head : HasWholeHead session whole
+  pub values : AllValuesFit (raster_of session.scene) (open_at session.first_mask) whole.values
+  pub anchored : IsAnchored (raster_of session.scene) (open_at session.first_mask) (surface_told session whole)
+  pub certified : IsCertifiedWhole (raster_of session.scene) (open_at session.first_mask) (surface_told session whole) whole.faces
+  pub cost : pos whole.cost ≡ whole_cost (raster_of session.scene) (open_at session.first_mask) (surface_told session whole)
 
 -- head and values are in order
 abbrev pub PassesValues : Session → WholeOf → Type 0
-PassesValues s v = HasWholeHead s v × AllValuesStand (raster_of s.scene) (open_at s.first_mask) v.values
+PassesValues session whole = HasWholeHead session whole × AllValuesStand (raster_of session.scene) (open_at session.first_mask) whole.values
 
 -- the faces as those of one tile
 abbrev pub whole_face : Session → WholeOf → Field ℤ
-whole_face s v = face_at (whole_of (raster_of s.scene)) 0 v.faces
+whole_face session whole = face_at (whole_of (raster_of session.scene)) 0 whole.faces
 
 abbrev pub IsWholeVerdict : Session → WholeOf → WholeVerdict → Type 0
-IsWholeVerdict s v Accepted = IsCertifiedText s v
-IsWholeVerdict s v (Header n) = WholeDiffersAt s v n
-IsWholeVerdict s v (Value x y) = HasWholeHead s v × IsFirstFalseValue (raster_of s.scene) (open_at s.first_mask) v.values x y
-IsWholeVerdict s v (Face e) = PassesValues s v × IsFirstUnfit (whole_of (raster_of s.scene)) (open_at s.first_mask) 0 (whole_face s v) e
-IsWholeVerdict s v (Cost cost bound) = PassesValues s v × (AllFacesFit (whole_of (raster_of s.scene)) (open_at s.first_mask) 0 (whole_face s v) × ((pos cost ≡ whole_cost (raster_of s.scene) (open_at s.first_mask) (surface_told s v)) × ((bound ≡ face_bound (whole_of (raster_of s.scene)) (open_at s.first_mask) 0 (whole_face s v)) × (bound ≢ pos cost))))
-IsWholeVerdict s v (Told written counted) = PassesValues s v × (IsCertifiedWhole (raster_of s.scene) (open_at s.first_mask) (surface_told s v) v.faces × ((written ≡ v.cost) × ((pos counted ≡ whole_cost (raster_of s.scene) (open_at s.first_mask) (surface_told s v)) × (written ≢ counted))))
+IsWholeVerdict session whole Accepted = IsCertifiedText session whole
+IsWholeVerdict session whole (Header n) = WholeDiffersAt session whole n
+IsWholeVerdict session whole (Value x y) = HasWholeHead session whole × IsFirstFalseValue (raster_of session.scene) (open_at session.first_mask) whole.values x y
+IsWholeVerdict session whole (Face e) = PassesValues session whole × IsFirstUnfit (whole_of (raster_of session.scene)) (open_at session.first_mask) 0 (whole_face session whole) e
+IsWholeVerdict session whole (Cost cost bound) = PassesValues session whole × (AllFacesFit (whole_of (raster_of session.scene)) (open_at session.first_mask) 0 (whole_face session whole) × ((pos cost ≡ whole_cost (raster_of session.scene) (open_at session.first_mask) (surface_told session whole)) × ((bound ≡ face_bound (whole_of (raster_of session.scene)) (open_at session.first_mask) 0 (whole_face session whole)) × (bound ≢ pos cost))))
+IsWholeVerdict session whole (Told written counted) = PassesValues session whole × (IsCertifiedWhole (raster_of session.scene) (open_at session.first_mask) (surface_told session whole) whole.faces × ((written ≡ whole.cost) × ((pos counted ≡ whole_cost (raster_of session.scene) (open_at session.first_mask) (surface_told session whole)) × (written ≢ counted))))
 
 -- no text has two verdicts
 abbrev pub WholesHaveOneVerdict : Type 0
-WholesHaveOneVerdict = (s : Session) (v : WholeOf) (a b : WholeVerdict) → IsWholeVerdict s v a → IsWholeVerdict s v b → a ≡ b
+WholesHaveOneVerdict = (session : Session) (whole : WholeOf) (a b : WholeVerdict) → IsWholeVerdict session whole a → IsWholeVerdict session whole b → a ≡ b

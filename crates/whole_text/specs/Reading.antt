@@ -10,12 +10,12 @@ use Rattle.whole_text.specs.Text.{IsWhole, IsWholeText, WholeOf, whole_text}
 
 -- what was read, as its text tells it
 abbrev pub whole_told : Whole → WholeOf
-whole_told w = record { width = w.grid.width; height = w.grid.height; rule = w.rule; terms = terms_of w.terms; cost = w.cost; values = value_at w.grid.width w.grid.values.items; faces = w.faces.items }
+whole_told whole = record { width = whole.grid.width; height = whole.grid.height; rule = whole.rule; terms = terms_of whole.terms; cost = whole.cost; values = value_at whole.grid.width whole.grid.values.items; faces = whole.faces.items }
 
 -- Where bytes are told: those that were taken end with the first line with which no such text begins, or the input ends in a line
 -- that is cut or missing; or the limit cuts a line. Otherwise a fault of the source was counted, or memory ran out.
 abbrev pub HasWholeCause : Call → LineFault → Type 0
-HasWholeCause c fault = HasTextCause IsWholeText c fault
+HasWholeCause call fault = HasTextCause IsWholeText call fault
 
 -- of bytes of which so many are let out, line n is the first that breaks the form
 abbrev pub HasBrokenWholeLine : ℕ → ℕ → List ℕ → Type 0
@@ -23,11 +23,11 @@ HasBrokenWholeLine room n bytes = HasBrokenTextLine IsWholeText room n bytes
 
 -- a text is read as what has it, and nothing is left; or a fault of the source was counted, or memory ran out
 abbrev pub IsWholeRead : Call → List ℕ → Result Whole LineFault → Type 0
-IsWholeRead c bytes result = IsTextRead whole_told whole_text c bytes result
+IsWholeRead call bytes result = IsTextRead whole_told whole_text call bytes result
 
 -- a first broken line is told; or one of the same happened
 abbrev pub IsWholeRefusedAt : Call → ℕ → Result Whole LineFault → Type 0
-IsWholeRefusedAt c n result = IsTextRefusedAt c n result
+IsWholeRefusedAt call n result = IsTextRefusedAt call n result
 
 -- bytes have no two first broken lines, however many are let out, and a whole text has none
 abbrev pub BrokenWholeLineIsOne : Type 0

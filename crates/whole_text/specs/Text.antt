@@ -48,21 +48,21 @@ abbrev pub whole_head : (width height : ℕ) → RuleKind → TermsOf → (cost 
 whole_head width height rule terms cost = codes "insar-whole 1\n" ++ (ended_line size_line (width, height) ++ (ended_line rule_line rule ++ (ended_line ramp_line (terms.ramp_x, terms.ramp_y) ++ (ended_line steep_line terms.steep ++ ended_line cost_line cost))))
 
 unfoldable pub whole_text : WholeOf → List ℕ
-whole_text v = whole_head v.width v.height v.rule v.terms v.cost ++ (grid_text v.width v.height v.values ++ (face_rows v.width v.height v.faces ++ codes "end\n"))
+whole_text whole = whole_head whole.width whole.height whole.rule whole.terms whole.cost ++ (grid_text whole.width whole.height whole.values ++ (face_rows whole.width whole.height whole.faces ++ codes "end\n"))
 
 -- numbers of 64 bits, one for each cell of a raster
 abbrev pub AreCellFaces : ℕ → ℕ → List ℤ → Type 0
 AreCellFaces width height faces = AreLongs faces × (length faces ≡ (width - 1) * (height - 1))
 
 -- each number is in its range, and there is a face for each cell
-pub record IsWhole (v : WholeOf) : Type 0 where
-  pub sized : IsTrue (is_raster_size v.width v.height)
-  pub ramp : IsSlope v.terms.ramp_x × IsSlope v.terms.ramp_y
-  pub steepness : IsSteepness v.terms.steep
-  pub cost : IsWide v.cost
-  pub values : AreLong v.width v.height v.values
-  pub faces : AreCellFaces v.width v.height v.faces
+pub record IsWhole (whole : WholeOf) : Type 0 where
+  pub sized : IsTrue (is_raster_size whole.width whole.height)
+  pub ramp : IsSlope whole.terms.ramp_x × IsSlope whole.terms.ramp_y
+  pub steepness : IsSteepness whole.terms.steep
+  pub cost : IsWide whole.cost
+  pub values : AreLong whole.width whole.height whole.values
+  pub faces : AreCellFaces whole.width whole.height whole.faces
 
 -- the text of a surface over the whole raster
 abbrev pub IsWholeText : Form
-IsWholeText text = (v : WholeOf) × (IsWhole v × (text ≡ whole_text v))
+IsWholeText text = (whole : WholeOf) × (IsWhole whole × (text ≡ whole_text whole))

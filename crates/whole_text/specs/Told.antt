@@ -12,15 +12,15 @@ use Rattle.whole_text.specs.Text.{WholeOf}
 
 -- an open pixel has the surface's value, a masked one the NODATA value
 abbrev pub value_above : Raster → Field Bool → Field ℤ → Field ℤ
-value_above r mask cycles x y = if mask x y then lifted r cycles x y else no_data
+value_above raster mask cycles x y = if mask x y then lifted raster cycles x y else no_data
 
 abbrev pub grid_above : Scene → Field Bool → Field ℤ → GridOf
-grid_above s mask cycles = record { width = s.phase.width; height = s.phase.height; values = value_above (raster_of s) mask cycles }
+grid_above scene mask cycles = record { width = scene.phase.width; height = scene.phase.height; values = value_above (raster_of scene) mask cycles }
 
 -- so few cycles at each open pixel that the value fits 64 bits and is not the NODATA value
 abbrev pub AreFewCycles : Raster → Field Bool → Field ℤ → Type 0
-AreFewCycles r mask cycles = (x y : ℕ) → x < r.width → y < r.height → IsTrue (mask x y) → unsigned_abs (cycles x y) < 2 * MAX_WHOLE_CYCLES
+AreFewCycles raster mask cycles = (x y : ℕ) → x < raster.width → y < raster.height → IsTrue (mask x y) → unsigned_abs (cycles x y) < 2 * MAX_WHOLE_CYCLES
 
 -- what is told of a surface with these faces and this cost
 abbrev pub told_whole : Scene → Field Bool → Field ℤ → List ℤ → ℕ → WholeOf
-told_whole s mask cycles faces cost = record { width = s.phase.width; height = s.phase.height; rule = s.rule; terms = terms_of s.terms; cost = cost; values = value_above (raster_of s) mask cycles; faces = faces }
+told_whole scene mask cycles faces cost = record { width = scene.phase.width; height = scene.phase.height; rule = scene.rule; terms = terms_of scene.terms; cost = cost; values = value_above (raster_of scene) mask cycles; faces = faces }

@@ -1,6 +1,5 @@
 """Tests what `frames` keeps: it goes on where it stopped, and what was changed in its folder since is made anew. And what it tells
 to be undecided, and how it looks for narrow features."""
-import math
 import sys
 import unittest
 import warnings
@@ -12,6 +11,7 @@ from helpers import HERE, TOP, InFolder, command, raster
 from osgeo import gdal
 
 import wundjeska
+from wundjeska.planes import CYCLE, phases_of
 
 sys.path.append(str(TOP / "recipes/kit"))
 from truth import scene_of  # type: ignore[import]  # noqa: E402
@@ -72,10 +72,10 @@ class Kept(InFolder):
         self.frames()
         phase = gdal.Open(str(KIT[0])).ReadAsArray()
         for words, kept in ((("--narrow",), 0), (("--narrow",), 4), ((), 0), (("--no-filter",), 0), (("--no-filter",), 4)):
-            told, found = self.frames(*words)
+            told, found = self.frames(*words, "--float64")
             self.assertEqual(told.count("accepted in an earlier run"), kept, words)
-            off = (found - phase / (2 * math.pi))[phase != -9999]
-            self.assertLess(np.abs(off - np.rint(off - off[0]) - off[0]).max(), 1e-3)
+            off = found * CYCLE - phases_of(phase)
+            self.assertTrue((off[phase != -9999] % CYCLE == 0).all())
             note = gdal.Open(str(self.folder / "joined.tif")).GetMetadataItem("WUNDJESKA_FILTER")
             self.assertEqual("narrower" in note, words == ("--narrow",))
 

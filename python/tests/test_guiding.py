@@ -263,6 +263,18 @@ class Files(InFolder):
         self.assertLess(np.abs(off - np.rint(off - off[0]) - off[0]).max(), 1e-3)
         return cycles
 
+    def test_each_written_surface_is_congruent_in_whole_numbers(self) -> None:
+        """Doubles hold each 65,536th of a cycle as it is."""
+        phase = gdal.Open(str(PHASE)).ReadAsArray()
+        screen = "coherence=0.6,radius=2,count=14,patch=300"
+        for words in ((), ("--narrow",), ("--tile", 64), ("--ramp", "auto"), ("--screen", screen), ("--no-filter",)):
+            self.run_in(*self.KIT, *words, "--float64", "--force", "cycles.tif")
+            cycles = gdal.Open(str(self.folder / "cycles.tif")).ReadAsArray()
+            opened = cycles != -9999
+            off = cycles[opened] * CYCLE - phases_of(phase)[opened]
+            self.assertTrue((off % CYCLE == 0).all(), words)
+            self.assertGreater(opened.sum(), 10000)
+
     def notes(self, name: str) -> Dict[str, str]:
         return gdal.Open(str(self.folder / name)).GetMetadata()
 

@@ -190,7 +190,7 @@ class Frames(InFolder):
         self.assertEqual((status, told), (4, "frame-0-0: unwrap ended with status 4: no memory\n"))
 
     def test_an_overlap_that_does_not_agree_is_told_with_its_place(self) -> None:
-        status, told = self.frames("--agree", "1")
+        status, told = self.frames("--agree", "1", "--no-filter")
         self.assertEqual(status, 1, told)
         self.assertRegex(
             told, r"pieces of overlaps do not agree at 100 % of their pixels:\n  frame-.*columns [0-9]+ to"

@@ -63,6 +63,16 @@ class Shares(unittest.TestCase):
     def test_a_choice_that_costs_less(self) -> None:
         self.assertEqual(self.share(band(), flat()), -1)
 
+    def test_where_the_other_surface_is_torn_too(self) -> None:
+        """The guide departs above the band by a cycle, or by two where the surface without a filter departs by one."""
+        for columns in (0, 10, SHAPE[1]):
+            plain = zero()
+            plain[TOP:, :columns] = CYCLE
+            (found,) = parts_apart(CYCLE * band(1, TOP, SHAPE[0]) + plain, plain, zero(), flat()).parts
+            self.assertAlmostEqual(found.torn, columns / SHAPE[1])
+        (found,) = parts_apart(zero(), -CYCLE * band(), zero(), flat()).parts
+        self.assertEqual(found.torn, 0)
+
     def test_masked_edges_cost_nothing(self) -> None:
         smooth = flat()
         smooth.opened[TOP - 1, 1:] = False
@@ -125,8 +135,10 @@ class Parts(unittest.TestCase):
         self.assertEqual(
             bad.text,
             "2 parts, the largest of 700 pixels in columns 4 to 6, rows 5 to 7, 2 cycles lower without the filter: both want a cut "
-            "of like length (0.30)",
+            "of like length (0.30); nothing is torn where the guide cuts, so no filter is right more often",
         )
+        (torn,) = undecided_concerns([Part(700, 1, 0.3, (0, 0, 9, 9), 0.1)])
+        self.assertTrue(torn.text.endswith("; without the filter it is torn where the guide cuts, too, so the guide is right more often"))
         self.assertIn(
             "a part of 900 pixels in columns 0 to 2, rows 1 to 3, 1 cycle higher without the filter", good.text
         )

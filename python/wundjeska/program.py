@@ -17,6 +17,7 @@ MAX_WORKERS = 8
 
 running: Set["subprocess.Popen[bytes]"] = set()
 lock = threading.Lock()
+stopped = threading.Event()  # calls that begin later end at once
 
 
 def program() -> str:
@@ -50,6 +51,8 @@ def call(words: List[str], text: bytes) -> Tuple[int, bytes, bytes]:
     process = started([program(), *words])
     with lock:
         running.add(process)
+        if stopped.is_set():
+            process.kill()
     try:
         out, told = process.communicate(text)
     finally:
@@ -61,8 +64,9 @@ def call(words: List[str], text: bytes) -> Tuple[int, bytes, bytes]:
 
 
 def stop() -> None:
-    """Ends all calls that run in other threads."""
+    """Ends all calls that run in other threads, and those that begin later."""
     with lock:
+        stopped.set()
         for process in running:
             process.kill()
 

@@ -4,8 +4,10 @@ Let the guide take the other cycles throughout such a part. By the filtered weig
 the extra cost over what so many cycles cost along all of the edge. Near 1 the other cut buys nothing, and the filter knows. Below
 0.75 both choices want a cut of like length, and nobody knows.
 
-There were 220 such parts on 90 made scenes. Of those with an f of 0.75 or more the filter alone was right at 169 and the surface
-without one at 10, of those below at 11 and 11. So it is a warning, and no choice. NumPy alone.
+There were 183 such parts on 75 made scenes. Of those with an f of 0.75 or more the filter alone was right at 156 and the surface
+without one at 3, of those below at 1 and 11; but at faults along which coherence is lost the filter was right below, too. So it is
+a warning, and no choice. What tells the two apart more often than not is whether the surface without a filter is torn where the guide
+cuts a part off, too. NumPy alone.
 """
 from dataclasses import dataclass
 from typing import NamedTuple, Sequence, Tuple
@@ -21,19 +23,21 @@ from .planes import CYCLE, Session
 
 LEAST_PART = 500  # pixels
 DECIDED = 0.75  # from which f on the filter knows
+TORN = 0.1  # the share of a guide's cut from which on the surface without a filter tears there, too
 MIDDLE = 2  # pixels around one, of which the median is taken
 AT_ONCE = 65536  # medians
 
 
 @dataclass(frozen=True)
 class Part:
-    """Pixels at which a surface by a guide is so many cycles above the one without a filter; f, and the box of columns and rows, from
-    the first to the last."""
+    """Pixels at which a surface by a guide is so many cycles above the one without a filter; f, the box of columns and rows, from
+    the first to the last, and at which share of the edges where the guide cuts the part off the other surface departs as well."""
 
     pixels: int
     cycles: int
     share: float
     box: Tuple[int, int, int, int]
+    torn: float = 0.0
 
     @property
     def is_decided(self) -> bool:
@@ -131,10 +135,25 @@ def edge_costs(labels: np.ndarray, levels: np.ndarray, guide: np.ndarray, smooth
     return more, whole
 
 
-def part_of(labels: np.ndarray, number: int, level: int, share: float) -> Part:
+def torn_shares(labels: np.ndarray, guided: np.ndarray, plain: np.ndarray, smooth: Session) -> np.ndarray:
+    """At which share of the edges where the guide cuts each part off the surface without a filter departs as well."""
+    count, phase = int(labels.max()) + 1, guided.astype(np.uint16)
+    cut, torn = np.zeros(count), np.zeros(count)
+    for axis in (0, 1):
+        steps = wrapped_differences(phase, axis, (smooth.ramp or (0, 0))[1 - axis])
+        ours, theirs = (np.abs((np.diff(values, axis=axis) - steps) // CYCLE) for values in (guided, plain))
+        ends = ends_of(labels, axis)
+        cuts = both_open(smooth.opened, axis) & (ends[0] != ends[1]) & (ours > theirs)
+        for numbers in ends:
+            cut += np.bincount(numbers[cuts], minlength=count)
+            torn += np.bincount(numbers[cuts], theirs[cuts] > 0, count)
+    return torn / np.maximum(cut, 1)
+
+
+def part_of(labels: np.ndarray, number: int, level: int, share: float, torn: float) -> Part:
     rows, columns = np.nonzero(labels == number)
     box = (int(columns.min()), int(rows.min()), int(columns.max()), int(rows.max()))
-    return Part(len(rows), level, share, box)
+    return Part(len(rows), level, share, box, torn)
 
 
 def parts_apart(guided: np.ndarray, plain: np.ndarray, guide: np.ndarray, smooth: Session) -> Apart:
@@ -150,7 +169,9 @@ def parts_apart(guided: np.ndarray, plain: np.ndarray, guide: np.ndarray, smooth
     values = np.where(smooth.opened, guide, 0)
     (more, whole), others = (edge_costs(labels, levels, values, smooth, axis) for axis in (0, 1))
     shares = np.where(whole + others[1] > 0, (more + others[0]) / np.maximum(whole + others[1], 1), 1)
-    parts = [part_of(labels, number, int(levels[number]), float(shares[number])) for number in range(1, len(levels))]
+    ours, theirs = (np.where(smooth.opened, surface, 0) for surface in (guided, plain))
+    known = zip(levels.tolist(), shares.tolist(), torn_shares(labels, ours, theirs, smooth).tolist())
+    parts = [part_of(labels, number, *each) for number, each in enumerate(known) if number > 0]
     return by_size(labels, parts)
 
 
@@ -184,15 +205,21 @@ def count_told(parts: int, pixels: int) -> str:
     return f"{parts} undecided part{'s' if parts > 1 else ''} of {pixels} pixels"
 
 
+def likelier(part: Part) -> str:
+    """Which surface is right more often at such a part, in words."""
+    if part.torn < TORN:
+        return "nothing is torn where the guide cuts, so no filter is right more often"
+    return "without the filter it is torn where the guide cuts, too, so the guide is right more often"
+
+
 def undecided_concerns(parts: Sequence[Part]) -> Tuple[Concern, ...]:
     """What is to be said of such parts."""
     open_ones = [part for part in parts if not part.is_decided]
     decided = [part for part in parts if part.is_decided]
     found = []
     if open_ones:
-        found.append(
-            Concern("undecided", f"{told(open_ones)}: both want a cut of like length ({open_ones[0].share:.2f})")
-        )
+        length = f"both want a cut of like length ({open_ones[0].share:.2f})"
+        found.append(Concern("undecided", f"{told(open_ones)}: {length}; {likelier(open_ones[0])}"))
     if decided:
         found.append(Concern("decided", f"{told(decided)}: the filter knows ({decided[0].share:.2f})", False))
     return tuple(found)

@@ -449,7 +449,7 @@ def unwrap(
     filter           'fourier': unwrap the phase after a windowed Fourier filter, by weights of how well both agree, and return the
                      whole cycles that bring the phase as given nearest to that surface, the guide, which is least of all and kept
                      by `report`. None: no filter, and what is returned is least of all itself
-    narrow           with a filter, look for features narrower than 16 pixels, too
+    narrow           with a filter, look for features narrower than 16 pixels by a second surface, too
 
     Raises Trouble, whose text is one line. What is to be said of a result warns as Caution, and stands in its concerns.
     """

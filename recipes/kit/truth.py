@@ -3,10 +3,11 @@
 the pixels that are off by whole cycles, and of seconds, of each way to unwrap them. Without a name it takes the thirty of SCENES.
 truth.py --guard makes six small ones, and ends with status 1 if the default is wrong at more than a tenth more pixels than it was.
 
-A scene is named KIND-LOOKS-LEVEL-NOISE-SEED, as hills-4-hard-white-9104.
+A scene is named KIND-LOOKS-LEVEL-NOISE-SEED, as hills-4-hard-white-9604.
 
   KIND   volcano, hills, turbulence, rupture, glacier, bowls, islands (the sea is masked), layover, peaks (cones of 4 to 8 pixels),
-         or fault (up to 0.95 cycle from one pixel to the next, with no coherence lost, which ends inside)
+         fault (up to 0.95 cycle from one pixel to the next, with no coherence lost, which ends inside), or torn (a fault of up
+         to 3.4 cycles, along which 40 % of the coherence are left)
   LOOKS  1, 4 or 20. Each look is a pair of complex normal numbers, on a finer grid, so fringes lose coherence within a pixel
   LEVEL  clear, medium or hard: how much coherence there is
   NOISE  white, wide (images oversampled by 2), smoothed (by the filter of Goldstein and Werner 1998, power 0.5), or turned by 12
@@ -251,16 +252,26 @@ def peaks(random: np.random.Generator, side: int) -> Ground:
     return whole_ground(surface)
 
 
-def fault(random: np.random.Generator, side: int) -> Ground:
+def broken(random: np.random.Generator, side: int, least: float, most: float, left: float) -> Ground:
+    """A plain that a fault breaks by so many cycles from one pixel to the next, and what is left of the coherence along it."""
     y, x = grid(side)
-    lean, place, slip = random.uniform(-0.15, 0.15), random.uniform(0.2, 0.8) * side, random.uniform(0.6, 0.95)
+    lean, place, slip = random.uniform(-0.15, 0.15), random.uniform(0.2, 0.8) * side, random.uniform(least, most)
     away = y - place - lean * (x - side / 2)
-    moved = slip / 2 * np.sqrt(np.clip(1 - ((x - side / 2) / (0.33 * side)) ** 2, 0, 1))
-    broken = moved * np.where(away > 0, 1, -1) * np.exp(-np.abs(away) / 70)
-    return whole_ground(sloped(smooth(random, side, 50), 0.03) + sloped(rough(random, side, 1.9), 0.015) + broken)
+    along = np.sqrt(np.clip(1 - ((x - side / 2) / (0.33 * side)) ** 2, 0, 1))
+    moved = slip / 2 * along * np.where(away > 0, 1, -1) * np.exp(-np.abs(away) / 70)
+    surface = sloped(smooth(random, side, 50), 0.03) + sloped(rough(random, side, 1.9), 0.015) + moved
+    return whole_ground(surface, np.where((np.abs(away) < 2) & (along > 0), left, 1.0))
 
 
-GROUNDS = (volcano, hills, turbulence, rupture, glacier, bowls, islands, layover, peaks, fault)
+def fault(random: np.random.Generator, side: int) -> Ground:
+    return broken(random, side, 0.6, 0.95, 1.0)
+
+
+def torn(random: np.random.Generator, side: int) -> Ground:
+    return broken(random, side, 1.5, 3.4, 0.4)
+
+
+GROUNDS = (volcano, hills, turbulence, rupture, glacier, bowls, islands, layover, peaks, fault, torn)
 KINDS: Dict[str, Callable[[np.random.Generator, int], Ground]] = {ground.__name__: ground for ground in GROUNDS}
 
 # Noise
@@ -436,16 +447,16 @@ def shares(scene: Scene, values: Field) -> Tuple[float, float]:
 
 
 SCENES = (
-    "volcano-4-hard-white-9101 volcano-20-hard-smoothed-9102 volcano-1-medium-turned-9103 "
-    "hills-4-hard-white-9104 hills-1-medium-white-9105 hills-4-hard-wide-9106 "
-    "turbulence-4-hard-white-9107 turbulence-20-medium-white-9108 turbulence-4-hard-turned-9109 "
-    "rupture-4-hard-white-9110 rupture-20-hard-white-9111 rupture-4-medium-wide-9112 "
-    "glacier-4-hard-white-9113 glacier-20-hard-white-9114 glacier-4-hard-turned-9115 "
-    "bowls-4-hard-white-9116 bowls-20-hard-wide-9117 bowls-4-medium-smoothed-9118 "
-    "islands-4-medium-white-9119 islands-20-hard-white-9120 islands-4-medium-turned-9121 "
-    "layover-4-medium-white-9122 layover-20-hard-white-9123 layover-4-medium-smoothed-9124 "
-    "peaks-4-clear-white-9125 peaks-4-medium-white-9126 peaks-20-medium-turned-9127 "
-    "fault-4-clear-white-9128 fault-4-medium-wide-9129 fault-4-medium-turned-9130"
+    "volcano-4-hard-white-9601 volcano-20-hard-smoothed-9602 volcano-1-medium-turned-9603 "
+    "hills-4-hard-white-9604 hills-1-medium-white-9605 hills-4-hard-wide-9606 "
+    "turbulence-4-hard-white-9607 turbulence-20-medium-white-9608 turbulence-4-hard-turned-9609 "
+    "rupture-4-hard-white-9610 rupture-20-hard-white-9611 rupture-4-medium-wide-9612 "
+    "glacier-4-hard-white-9613 glacier-20-hard-white-9614 glacier-4-hard-turned-9615 "
+    "bowls-4-hard-white-9616 bowls-20-hard-wide-9617 bowls-4-medium-smoothed-9618 "
+    "islands-4-medium-white-9619 islands-20-hard-white-9620 islands-4-medium-turned-9621 "
+    "layover-4-medium-white-9622 layover-20-hard-white-9623 layover-4-medium-smoothed-9624 "
+    "peaks-4-clear-white-9625 peaks-4-medium-white-9626 peaks-20-medium-turned-9627 "
+    "fault-4-clear-white-9628 fault-4-medium-wide-9629 fault-4-medium-turned-9630"
 ).split()
 
 

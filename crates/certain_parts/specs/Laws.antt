@@ -8,6 +8,7 @@ use Rattle.certain_parts.specs.Margins.{Faced, IsCertified, departure_at, excess
 use Rattle.joined_cells.specs.Joining.{IsOpenOf}
 use Rattle.certain_parts.specs.Labels.{ArePartsOf, label_at, part_size}
 use Rattle.certain_parts.specs.Parts.{AreInOnePart, parts_joined}
+use Rattle.certain_parts.specs.PartsText.{parts_text}
 use Rattle.certain_parts.specs.PartsView.{PartsView}
 
 -- no excess is below 0, and that of the surface's own departure is 0
@@ -45,3 +46,7 @@ SurfacesAgreeByLabels = (faced : Faced) (limit least : ℕ) (v : PartsView) (oth
 -- there are no two numbers of parts, and no two labels of a pixel
 abbrev pub PartsAreUnique : Type 0
 PartsAreUnique = (faced : Faced) (limit least : ℕ) (v w : PartsView) → ArePartsOf faced limit least v → ArePartsOf faced limit least w → (v.count ≡ w.count) × ((i : ℕ) → i < length v.labels → slice_index v.labels i ≡ slice_index w.labels i)
+
+-- so they have one text
+abbrev pub PartsHaveOneText : Type 0
+PartsHaveOneText = (faced : Faced) (limit least : ℕ) (v w : PartsView) → ArePartsOf faced limit least v → ArePartsOf faced limit least w → parts_text v faced.mask limit least ≡ parts_text w faced.mask limit least

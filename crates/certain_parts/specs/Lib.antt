@@ -5,3 +5,4 @@ pub mod PartsView
 pub mod Labels
 pub mod MarginWords
 pub mod Laws
+pub mod PartsText

@@ -8,6 +8,7 @@ ghost use Rattle.certain_parts.specs.Laws.{
   OthersCostMore,
   PartsAreLarge,
   PartsAreUnique,
+  PartsHaveOneText,
   SurfacesAgreeByLabels,
   SurfacesAgreeInParts,
 };
@@ -53,4 +54,9 @@ pub fn surfaces_agree_by_labels()
 /// What the parts are is determined by the surface and its faces, the limit and the least number of pixels.
 pub fn parts_are_unique()
     ensures { PartsAreUnique }
+{}
+
+/// The parts of a surface at a limit that have at least so many pixels have one text.
+pub fn parts_have_one_text()
+    ensures { PartsHaveOneText }
 {}

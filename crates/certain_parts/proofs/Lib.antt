@@ -9,4 +9,3 @@ pub mod PartLemmas
 pub mod SizeLemmas
 pub mod UniqueParts
 pub mod OneText
-pub mod ValueLemmas

@@ -1,6 +1,7 @@
 -- Laws of excesses, margins and parts of a certified surface.
 use Rattle.std.specs.Prelude.{◌≡◌, ◌≢◌, ℕ, ◌≤◌, ℤ, pos, ◌+ℤ◌, ◌-ℤ◌, ◌≤ℤ◌, ◌<ℤ◌, ◌↔◌, ◌<◌, IsTrue, length, slice_index}
 use Rattle.raster_model.specs.declared.edge.Edge.{Edge}
+use Rattle.raster_model.specs.declared.session.Session.{Session}
 use Rattle.raster_model.specs.Sums.{Field, is_edge, sum_edges}
 use Rattle.raster_model.specs.Raster.{IsCongruent, has_open_ends}
 use Rattle.raster_model.specs.Whole.{whole_cost}
@@ -10,6 +11,9 @@ use Rattle.certain_parts.specs.Labels.{ArePartsOf, label_at, part_size}
 use Rattle.certain_parts.specs.Parts.{AreInOnePart, parts_joined}
 use Rattle.certain_parts.specs.PartsText.{parts_text}
 use Rattle.certain_parts.specs.PartsView.{PartsView}
+use Rattle.certain_parts.specs.Told.{faced_told}
+use Rattle.whole_check.specs.Verdicts.{IsCertifiedText}
+use Rattle.whole_text.specs.Text.{WholeOf}
 
 -- no excess is below 0, and that of the surface's own departure is 0
 abbrev pub ExcessesAreLeastAtTheSurface : Type 0
@@ -50,3 +54,7 @@ PartsAreUnique = (faced : Faced) (limit least : ℕ) (v w : PartsView) → ArePa
 -- so they have one text
 abbrev pub PartsHaveOneText : Type 0
 PartsHaveOneText = (faced : Faced) (limit least : ℕ) (v w : PartsView) → ArePartsOf faced limit least v → ArePartsOf faced limit least w → parts_text v faced.mask limit least ≡ parts_text w faced.mask limit least
+
+-- what the certified text of a whole raster shows is certified, at a steepness from 1 on
+abbrev pub ToldIsCertified : Type 0
+ToldIsCertified = (session : Session) (told : WholeOf) → IsCertifiedText session told → IsCertified (faced_told session told) × (1 ≤ session.scene.terms.steep)

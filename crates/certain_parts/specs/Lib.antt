@@ -6,3 +6,4 @@ pub mod Labels
 pub mod MarginWords
 pub mod Laws
 pub mod PartsText
+pub mod Told

@@ -11,6 +11,7 @@ ghost use Rattle.certain_parts.specs.Laws.{
   PartsHaveOneText,
   SurfacesAgreeByLabels,
   SurfacesAgreeInParts,
+  ToldIsCertified,
 };
 
 /// At each edge no departure has an excess below 0, and that of a certified surface is 0.
@@ -59,4 +60,9 @@ pub fn parts_are_unique()
 /// The parts of a surface at a limit that have at least so many pixels have one text.
 pub fn parts_have_one_text()
     ensures { PartsHaveOneText }
+{}
+
+/// What the text of a whole raster shows that `check_whole_text` accepts is certified, so the laws above hold of it.
+pub fn told_is_certified()
+    ensures { ToldIsCertified }
 {}

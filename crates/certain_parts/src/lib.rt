@@ -10,6 +10,8 @@ mod margin;
 mod parts;
 mod rows;
 mod text;
+mod whole;
 
 pub use crate::parts::Parts;
 pub use crate::text::write_parts;
+pub use crate::whole::parts_of_whole;

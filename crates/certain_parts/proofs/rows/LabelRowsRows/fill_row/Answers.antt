@@ -2,7 +2,7 @@ use Rattle.std.proofs.Common.{◌∙◌, arith, of_z, refl, to_z, w64, SFits}
 use Rattle.std.proofs.lemmas.Int.{to_z-of_z}
 use Rattle.std.proofs.lemmas.List.{length-set}
 use Rattle.raster_model.specs.Masks.{open_at}
-use Rattle.certain_parts.proofs.ValueLemmas.{row_longer}
+use Rattle.whole_text.proofs.ValueLemmas.{row_longer}
 use Rattle.certain_parts.specs.PartsText.{labels_grid}
 use Rattle.certain_parts.proofs.rows.LabelRowsRows.fill_row.Goals as goal
 

@@ -8,3 +8,4 @@ pub mod LabelLemmas
 pub mod PartLemmas
 pub mod SizeLemmas
 pub mod UniqueParts
+pub mod OneText

@@ -1,6 +1,7 @@
 -- Laws of excesses, margins and parts of a certified surface.
 use Rattle.std.specs.Prelude.{◌≡◌, ◌≢◌, ℕ, ◌≤◌, ℤ, pos, ◌+ℤ◌, ◌-ℤ◌, ◌≤ℤ◌, ◌<ℤ◌, ◌↔◌, ◌<◌, IsTrue, length, slice_index}
 use Rattle.raster_model.specs.declared.edge.Edge.{Edge}
+use Rattle.raster_model.specs.declared.session.Session.{Session}
 use Rattle.raster_model.specs.Sums.{Field, is_edge, sum_edges}
 use Rattle.raster_model.specs.Raster.{IsCongruent, has_open_ends}
 use Rattle.raster_model.specs.Whole.{whole_cost}
@@ -8,7 +9,11 @@ use Rattle.certain_parts.specs.Margins.{Faced, IsCertified, departure_at, excess
 use Rattle.joined_cells.specs.Joining.{IsOpenOf}
 use Rattle.certain_parts.specs.Labels.{ArePartsOf, label_at, part_size}
 use Rattle.certain_parts.specs.Parts.{AreInOnePart, parts_joined}
+use Rattle.certain_parts.specs.PartsText.{parts_text}
 use Rattle.certain_parts.specs.PartsView.{PartsView}
+use Rattle.certain_parts.specs.Told.{faced_told}
+use Rattle.whole_check.specs.Verdicts.{IsCertifiedText}
+use Rattle.whole_text.specs.Text.{WholeOf}
 
 -- no excess is below 0, and that of the surface's own departure is 0
 abbrev pub ExcessesAreLeastAtTheSurface : Type 0
@@ -45,3 +50,11 @@ SurfacesAgreeByLabels = (faced : Faced) (limit least : ℕ) (v : PartsView) (oth
 -- there are no two numbers of parts, and no two labels of a pixel
 abbrev pub PartsAreUnique : Type 0
 PartsAreUnique = (faced : Faced) (limit least : ℕ) (v w : PartsView) → ArePartsOf faced limit least v → ArePartsOf faced limit least w → (v.count ≡ w.count) × ((i : ℕ) → i < length v.labels → slice_index v.labels i ≡ slice_index w.labels i)
+
+-- so they have one text
+abbrev pub PartsHaveOneText : Type 0
+PartsHaveOneText = (faced : Faced) (limit least : ℕ) (v w : PartsView) → ArePartsOf faced limit least v → ArePartsOf faced limit least w → parts_text v faced.mask limit least ≡ parts_text w faced.mask limit least
+
+-- what the certified text of a whole raster shows is certified, at a steepness from 1 on
+abbrev pub ToldIsCertified : Type 0
+ToldIsCertified = (session : Session) (told : WholeOf) → IsCertifiedText session told → IsCertified (faced_told session told) × (1 ≤ session.scene.terms.steep)

@@ -5,3 +5,5 @@ pub mod PartsView
 pub mod Labels
 pub mod MarginWords
 pub mod Laws
+pub mod PartsText
+pub mod Told

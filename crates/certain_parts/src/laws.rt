@@ -8,8 +8,10 @@ ghost use Rattle.certain_parts.specs.Laws.{
   OthersCostMore,
   PartsAreLarge,
   PartsAreUnique,
+  PartsHaveOneText,
   SurfacesAgreeByLabels,
   SurfacesAgreeInParts,
+  ToldIsCertified,
 };
 
 /// At each edge no departure has an excess below 0, and that of a certified surface is 0.
@@ -53,4 +55,14 @@ pub fn surfaces_agree_by_labels()
 /// What the parts are is determined by the surface and its faces, the limit and the least number of pixels.
 pub fn parts_are_unique()
     ensures { PartsAreUnique }
+{}
+
+/// The parts of a surface at a limit that have at least so many pixels have one text.
+pub fn parts_have_one_text()
+    ensures { PartsHaveOneText }
+{}
+
+/// What the text of a whole raster shows that `check_whole_text` accepts is certified, so the laws above hold of it.
+pub fn told_is_certified()
+    ensures { ToldIsCertified }
 {}

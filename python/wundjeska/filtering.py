@@ -38,6 +38,7 @@ FIT_REACH, FIT_NEAR = 2, 1  # pixels around one by which its slope and the fit's
 FIT_AGREES, FIT_SHARE = 0.25, 0.5  # what a fit's agreement is at least, and how much of it the filter's is below
 FIT_AROUND, FIT_COUNT = 3, 8  # pixels around one, and at how many of them the fit has to be the better one
 BAND = 16  # rows of windows that are filtered at a time, each of STEP rows of pixels
+FIT_BAND = 8  # the same, of local fits, which hold more numbers a pixel
 MAX_THREADS = 4  # each has its band, of 16 MB where the raster is 2048 pixels wide
 
 PARTS = 4  # of a transform of 16: transforms of 4 (Cooley and Tukey, Mathematics of Computation 19(90), 1965)
@@ -273,7 +274,7 @@ def leaned_sums(signal: np.ndarray) -> Tuple[np.ndarray, np.ndarray]:
     return near, far
 
 
-def local_fits(phase: np.ndarray, smooth: np.ndarray, opened: np.ndarray, threads: int = 1, band: int = BAND) -> Fits:
+def local_fits(phase: np.ndarray, smooth: np.ndarray, opened: np.ndarray, threads: int = 1, band: int = FIT_BAND) -> Fits:
     """The local fits of a phase, and where they are taken in place of its filtered phase."""
     shape, halo = phase.shape, FIT_REACH + 1
     found = Fits(np.zeros(shape, np.uint16), np.zeros(shape, np.float32), np.zeros(shape, np.bool_))
@@ -303,5 +304,7 @@ def filtered(
     agreed = agreed_weights(phase, smooth, opened, weights, threads)
     fits = local_fits(phase, smooth, opened, threads)
     greatest = MAX_WEIGHT if weights is None else int(weights.max())
-    fitted = np.maximum(np.rint(fits.agreement * np.float32(greatest)), 1).astype(np.uint16)
-    return Filtered(np.where(fits.taken, fits.phase, smooth), np.where(fits.taken, fitted, agreed))
+    fitted = np.rint(np.multiply(fits.agreement, np.float32(greatest), out=fits.agreement), out=fits.agreement)
+    np.copyto(smooth, fits.phase, where=fits.taken)
+    np.copyto(agreed, np.maximum(fitted, 1, out=fitted), where=fits.taken, casting="unsafe")
+    return Filtered(smooth, agreed)

@@ -19,6 +19,7 @@ mod tile_ends;
 mod tile_faces;
 mod tile_set;
 mod tiles;
+mod values;
 mod verdicts;
 
 pub use crate::edge_costs::edge_cost;
@@ -28,4 +29,5 @@ pub use crate::seams::check_flows;
 pub use crate::tile_ends::TileEnds;
 pub use crate::tile_set::TileSet;
 pub use crate::tiles::{check_faces, check_tile, check_whole};
+pub use crate::values::level;
 pub use crate::verdicts::{SeamVerdict, TileVerdict};

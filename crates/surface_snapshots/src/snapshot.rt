@@ -1,6 +1,6 @@
 ghost use Rattle.raster_model.specs.Masks.{open_at};
 ghost use Rattle.std.specs.Arc.{arc_value};
-ghost use Rattle.std.specs.Prelude.{◌≡◌, ◌<◌, ◌≤◌, ◌+◌, ◌^◌, ◌+ℤ◌, ◌*ℤ◌, length, pos, unsigned_abs};
+ghost use Rattle.std.specs.Prelude.{◌≡◌, ◌<◌, ◌≤◌, ◌^◌, length, pos, unsigned_abs};
 ghost use Rattle.surface_snapshots.specs.Parts.{HaveCosts, IsPublished, parts_from};
 ghost use Rattle.surface_snapshots.specs.Surfaces.{parts_in};
 
@@ -9,21 +9,12 @@ use crate::fault::BuildFault;
 use crate::packed::PackedRegions;
 use crate::shifted::{NO_CYCLES, ShiftedTiles};
 use crate::surface::Surface;
-use certificates::{SeamResult, TileSet};
-use raster_model::{Heights, MAX_OFFSET, MAX_TILE_CYCLES, Mask, Session};
+use certificates::{SeamResult, TileSet, level};
+use raster_model::{Heights, Mask, Session};
 use seam_regions::Regions;
 use std::alloc::{AllocError, Global};
 use std::sync::Arc;
 use std::thread::Threads;
-
-/// The value that lies this many whole cycles above a phase, in units of 1/65536 cycle.
-fn level(sample: u16, cycles: i64) -> i64
-    requires { unsigned_abs cycles ≤ MAX_OFFSET + MAX_TILE_CYCLES }
-    ensures value { result ≡ pos sample +ℤ pos 65536 *ℤ cycles }
-    ensures small { unsigned_abs result < 2 ^ 63 }
-{
-    i64::from(sample) + 65536 * cycles
-}
 
 /// What a snapshot has, if there is one.
 fn surface_of(snapshot: Option<&Snapshot>) -> Option<&Surface> {

@@ -1,5 +1,5 @@
 -- What stands in a list of passes after scripts were run over it as a slice.
-use Rattle.std.proofs.Common.{◌≡◌, ℕ, ◌<◌, List, [], ◌∷◌, ◌++◌, length, take, drop, refl, ap, sym, subst, arith}
+use Rattle.std.proofs.Common.{◌≡◌, ℕ, ◌<◌, List, [], ◌∷◌, ◌++◌, length, take, drop, refl, ap, subst, arith}
 use Rattle.std.specs.List.{All}
 use Rattle.board_desk.specs.Passes.{DeskView, IsPassOf, PassView}
 use Rattle.board_desk.proofs.CallerLemmas.{still_of_desk}

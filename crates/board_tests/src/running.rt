@@ -1,4 +1,4 @@
-ghost use Rattle.board_desk.specs.Passes.{IsPassOf};
+ghost use Rattle.board_desk.specs.Passes.{HaveAnalysts, IsPassOf};
 ghost use Rattle.std.specs.Prelude.{◌≢◌, ◌≤◌, All, None};
 
 use board_desk::{Desk, Pass};
@@ -14,7 +14,8 @@ use worked_scenes::board;
 /// The desk of a session's text, and the passes of its analysts.
 pub fn open_desk(rt: &impl Abort, alloc: Global, side: u32, text: &str) -> (Desk, Vec<Pass>)
     requires { (MIN_TILE_SIDE ≤ side) × (side ≤ MAX_TILE_SIDE) }
-    ensures { All (IsPassOf result.0) result.1.items }
+    ensures own { All (IsPassOf result.0) result.1.items }
+    ensures analysts { HaveAnalysts result.1.items }
 {
     let board = board(alloc, text, side).expect(rt, "a session");
     Desk::open(alloc, board).expect(rt, "memory")
@@ -22,10 +23,12 @@ pub fn open_desk(rt: &impl Abort, alloc: Global, side: u32, text: &str) -> (Desk
 
 /// The last of the passes, which is this analyst's.
 pub fn last_of(rt: &impl Abort, _desk: &Desk, passes: &mut Vec<Pass>, analyst: u32) -> Pass
-    requires { All (IsPassOf _desk.now) passes.old.items }
+    requires own { All (IsPassOf _desk.now) passes.old.items }
+    requires analysts { HaveAnalysts passes.old.items }
     ensures own { IsPassOf _desk.now result }
     ensures named { result.analyst ≢ None }
     ensures rest { All (IsPassOf _desk.now) passes.new.items }
+    ensures others { HaveAnalysts passes.new.items }
 {
     let pass = passes.pop().expect(rt, "a pass for each analyst");
     assert!(rt; pass.analyst() == Some(analyst));

@@ -1,13 +1,13 @@
 //! A shelf beside one writer and its readers, on one thread and on several.
 ghost use Rattle.std.specs.Prelude.{◌≡◌, All};
 
+use crate::outcomes::same;
 use collector_core::finish;
 use reader_desk::{Shelf, ShelfReader, ShelfWriter};
 use std::alloc::{AllocError, Global};
 use std::process::Abort;
 use std::sync::Wait;
 use std::sync::atomic::{AtomicU64, Ordering};
-use std::test::Fail;
 use std::thread::{Threads, for_each_mut, join};
 use surface_snapshots::Snapshot;
 use tile_board::Board;
@@ -22,8 +22,8 @@ const READS: u32 = 10_000;
 /// The most turns of a reader that waits for its first surface.
 const TURNS: u32 = 1_000_000;
 
-/// A board whose surfaces have the revisions from 0 to `edits`.
-fn edited(alloc: Global, edits: u32) -> Result<Board, Fail> {
+/// A session of one tile that is settled, and again after each of so many edits.
+fn session(alloc: Global, edits: u32) -> Result<String, AllocError> {
     let mut text = String::new(alloc);
     text.push_str("P2\n2 2\n65535\n0 16384 49152 32768\nanalyst\nsettle\n")?;
     for edit in 0..edits {
@@ -32,9 +32,15 @@ fn edited(alloc: Global, edits: u32) -> Result<Board, Fail> {
         text.push_str(" 0 0 0 0\nsettle\n")?;
     }
     text.push_str("end\n")?;
-    let mut board = board(alloc, &text, 64)?;
-    finish(alloc, &mut board)?;
-    Ok(board)
+    Ok(text)
+}
+
+/// A board whose surfaces have the revisions from 0 to `edits`.
+fn edited(rt: &impl Abort, alloc: Global, edits: u32) -> Board {
+    let text = session(alloc, edits).expect(rt, "memory");
+    let mut board = board(alloc, &text, 64).expect(rt, "a session");
+    finish(alloc, &mut board).expect(rt, "memory");
+    board
 }
 
 /// Places the surface at an index of these.
@@ -116,17 +122,23 @@ fn story<R: Wait>(
 }
 
 #[test]
-fn a_reader_never_goes_back(rt: HostRuntime) -> Result<(), Fail> {
+fn a_reader_never_goes_back(rt: HostRuntime) {
     let alloc = rt.alloc();
-    let board = edited(alloc, 1)?;
-    let (mut writer, mut readers) = Shelf::open(&rt, alloc, 2)?;
+    let board = edited(&rt, alloc, 1);
+    let (mut writer, mut readers) = Shelf::open(&rt, alloc, 2).expect(&rt, "memory");
     let mut first = last_of(&rt, &writer, &mut readers);
     let mut second = last_of(&rt, &writer, &mut readers);
     let snapshots = board.snapshots();
-    let told = story(&rt, alloc, snapshots, &mut writer, &mut first, &mut second);
+    let told = story(&rt, alloc, snapshots, &mut writer, &mut first, &mut second).expect(
+        &rt, "memory",
+    );
     writer.close(&rt);
-    assert_eq!(rt; told?.as_str(), "(None, None) Some(0) Some(1) Some(1) 2");
-    Ok(())
+    same(
+        &rt,
+        "readers",
+        &told,
+        "(None, None) Some(0) Some(1) Some(1) 2",
+    );
 }
 
 /// The number that a reader reads first that is not 0, if it does so in time.
@@ -141,10 +153,10 @@ fn first_read(reader: &mut ShelfReader) -> u64 {
 }
 
 #[test]
-fn a_reader_sees_what_is_placed_beside_it(rt: HostRuntime) -> Result<(), Fail> {
+fn a_reader_sees_what_is_placed_beside_it(rt: HostRuntime) {
     let alloc = rt.alloc();
-    let board = edited(alloc, 0)?;
-    let (mut writer, mut readers) = Shelf::open(&rt, alloc, 1)?;
+    let board = edited(&rt, alloc, 0);
+    let (mut writer, mut readers) = Shelf::open(&rt, alloc, 1).expect(&rt, "memory");
     let mut reader = last_of(&rt, &writer, &mut readers);
     let snapshots = board.snapshots();
     let (read, placed) = join(
@@ -153,9 +165,7 @@ fn a_reader_sees_what_is_placed_beside_it(rt: HostRuntime) -> Result<(), Fail> {
         || place_one(&rt, &mut writer, snapshots, 0),
     );
     writer.close(&rt);
-    assert!(rt; placed.is_ok());
-    assert_eq!(rt; read, 1);
-    Ok(())
+    assert!(rt; placed.is_ok() && read == 1);
 }
 
 /// A reader and what it saw: the number that it read last, how many numbers it saw, and how often one was below the one before.
@@ -227,18 +237,12 @@ fn steady(lookers: &[Looker]) -> usize {
 }
 
 #[test]
-fn what_eight_readers_see_rises(rt: HostRuntime) -> Result<(), Fail> {
+fn what_eight_readers_see_rises(rt: HostRuntime) {
     let alloc = rt.alloc();
-    let board = edited(alloc, EDITS)?;
-    let (mut writer, readers) = Shelf::open(&rt, alloc, 8)?;
-    let lookers = lookers_of(alloc, readers);
-    let looked = match lookers {
-        Ok(mut lookers) => look_beside(&rt, &mut writer, board.snapshots(), &mut lookers).map(
-            |_| steady(&lookers),
-        ),
-        Err(AllocError) => Err(AllocError),
-    };
+    let board = edited(&rt, alloc, EDITS);
+    let (mut writer, readers) = Shelf::open(&rt, alloc, 8).expect(&rt, "memory");
+    let mut lookers = lookers_of(alloc, readers).expect(&rt, "memory");
+    let looked = look_beside(&rt, &mut writer, board.snapshots(), &mut lookers);
     writer.close(&rt);
-    assert_eq!(rt; looked?, 8);
-    Ok(())
+    assert!(rt; looked.is_ok() && steady(&lookers) == 8);
 }

@@ -1,18 +1,17 @@
 //! Readers beside a desk: they wait for nobody there, and watchers keep what is published.
 ghost use Rattle.board_desk.specs.Passes.{HaveAnalysts, IsPassOf};
-ghost use Rattle.std.specs.Prelude.{◌≡◌, ◌≢◌, ◌≤◌, All, IfOk, None};
+ghost use Rattle.std.specs.Prelude.{◌≡◌, ◌≤◌, All, IfOk};
 ghost use Rattle.tile_workers.specs.Watching.{HasRoom};
 
+use crate::outcomes::same;
+use crate::running::{last_of, open_desk};
 use board_desk::{Desk, Pass};
 use reader_desk::{Shelf, ShelfReader, ShelfWriter};
 use std::alloc::{AllocError, Global};
-use std::process::Abort;
 use std::sync::Wait;
 use std::sync::atomic::{AtomicU64, Ordering};
-use std::test::Fail;
 use std::thread::{Threads, join};
 use tile_workers::{Curator, OpenGate, Watcher, run_watched};
-use worked_scenes::board;
 
 /// How often a reader reads while a desk is asked.
 const READS: u32 = 10_000;
@@ -23,18 +22,6 @@ const ASKS: u32 = 100_000_000;
 /// A line in two tiles, two analysts of whom each masks one end and settles, and a third one who looks.
 const LINE: &str = "P2\n4 1\n65535\n0 40000 14464 54464\n\
     analyst\nmask 3 0 3 0\nsettle\nsettle\nanalyst\nmask 0 0 0 0\nsettle\nshow\nanalyst\nshow\nend\n";
-
-/// The last of the passes, which is an analyst's.
-fn last_of(rt: &impl Abort, _desk: &Desk, passes: &mut Vec<Pass>) -> Pass
-    requires own { All (IsPassOf _desk.now) passes.old.items }
-    requires analysts { HaveAnalysts passes.old.items }
-    ensures own { IsPassOf _desk.now result }
-    ensures named { result.analyst ≢ None }
-    ensures rest { All (IsPassOf _desk.now) passes.new.items }
-    ensures others { HaveAnalysts passes.new.items }
-{
-    passes.pop().expect(rt, "a pass for each analyst")
-}
 
 /// Reads often, and tells then that it has.
 fn read_often(reader: &mut ShelfReader, told: &AtomicU64) {
@@ -59,11 +46,11 @@ fn ask_until<R: Wait>(rt: &R, alloc: Global, desk: &Desk, pass: &mut Pass, told:
 }
 
 #[test]
-fn a_reader_waits_for_no_desk(rt: HostRuntime) -> Result<(), Fail> {
+fn a_reader_waits_for_no_desk(rt: HostRuntime) {
     let alloc = rt.alloc();
-    let (desk, mut passes) = Desk::open(alloc, board(alloc, LINE, 2)?)?;
-    let mut pass = last_of(&rt, &desk, &mut passes);
-    let (writer, mut readers) = Shelf::open(&rt, alloc, 1)?;
+    let (desk, mut passes) = open_desk(&rt, alloc, 2, LINE);
+    let mut pass = last_of(&rt, &desk, &mut passes, 3);
+    let (writer, mut readers) = Shelf::open(&rt, alloc, 1).expect(&rt, "memory");
     let mut reader = readers.pop().expect(&rt, "a reader");
     let told = AtomicU64::new(0);
     let (_read, in_time) = join(
@@ -73,7 +60,6 @@ fn a_reader_waits_for_no_desk(rt: HostRuntime) -> Result<(), Fail> {
     );
     writer.close(&rt);
     assert!(rt; in_time);
-    Ok(())
 }
 
 /// Watchers of a writer's shelf, one for each reader, that read so often.
@@ -188,26 +174,14 @@ fn story<R: Threads + Wait + Sync>(
 }
 
 #[test]
-fn watchers_end_with_the_last_publication(rt: HostRuntime) -> Result<(), Fail> {
+fn watchers_end_with_the_last_publication(rt: HostRuntime) {
     let alloc = rt.alloc();
-    let (desk, mut passes) = Desk::open(alloc, board(alloc, LINE, 2)?)?;
-    let mut third = last_of(&rt, &desk, &mut passes);
+    let (desk, mut passes) = open_desk(&rt, alloc, 2, LINE);
+    let mut third = last_of(&rt, &desk, &mut passes, 3);
     let pass = desk.worker_pass(&rt, &mut third);
-    let (writer, readers) = Shelf::open(&rt, alloc, 2)?;
-    let text = match watchers_of(alloc, &writer, readers, 64) {
-        Ok(watchers) => story(
-            &rt,
-            alloc,
-            &desk,
-            &mut passes,
-            Curator::new(pass, writer),
-            watchers,
-        ),
-        Err(AllocError) => {
-            writer.close(&rt);
-            Err(AllocError)
-        }
-    };
-    assert_eq!(rt; text?.as_str(), "Some(2) Some(2) true Some(2) true");
-    Ok(())
+    let (writer, readers) = Shelf::open(&rt, alloc, 2).expect(&rt, "memory");
+    let watchers = watchers_of(alloc, &writer, readers, 64).expect(&rt, "memory");
+    let curator = Curator::new(pass, writer);
+    let told = story(&rt, alloc, &desk, &mut passes, curator, watchers).expect(&rt, "memory");
+    same(&rt, "watchers", &told, "Some(2) Some(2) true Some(2) true");
 }

@@ -6,7 +6,7 @@ one at its left (Costantini 1998). Units are sent one by one along paths that co
 1993, section 9.7). The potentials are the faces. It is meant for rasters of some thousand pixels.
 """
 import heapq
-from typing import Iterator, NamedTuple
+from typing import Iterator, NamedTuple, Sequence
 
 from stress import CYCLE, NODATA, Session
 
@@ -104,16 +104,21 @@ def head_of(session: Session) -> list[str]:
     return ["insar-whole 1", f"size {session.width} {session.height}", f"rule {session.rule}", ramp, f"steep {session.steep}"]
 
 
-def rows_of(numbers: list[int], width: int) -> Iterator[str]:
+def rows_of(numbers: Sequence[int], width: int) -> Iterator[str]:
     """The lines of numbers in row order."""
     for start in range(0, len(numbers), width):
         yield " ".join(map(str, numbers[start : start + width]))
 
 
+def grid_of(values: Sequence[int], width: int) -> list[str]:
+    """The lines of a grid of values in row order."""
+    head = [f"ncols {width}", f"nrows {len(values) // width}", "xllcorner 0", "yllcorner 0", "cellsize 1", f"NODATA_value {NODATA}"]
+    return [*head, *rows_of(values, width)]
+
+
 def text_of(session: Session, cost: int, values: list[int], faces: list[int]) -> bytes:
     """A whole text of a surface."""
-    lines = [*head_of(session), f"cost {cost}", f"ncols {session.width}", f"nrows {session.height}"]
-    lines += ["xllcorner 0", "yllcorner 0", "cellsize 1", f"NODATA_value {NODATA}", *rows_of(values, session.width)]
+    lines = [*head_of(session), f"cost {cost}", *grid_of(values, session.width)]
     if faces:
         lines += [f"faces {row}" for row in rows_of(faces, session.width - 1)]
     return ("\n".join([*lines, "end"]) + "\n").encode()

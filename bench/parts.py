@@ -1,12 +1,16 @@
-#!/usr/bin/env python3
-"""Judges certain parts by brute force: parts.py [COUNT [SEED]].
+#!/usr/bin/python3
+"""Judges certain parts by brute force: parts.py [COUNT [SEED]]; and what `parts` writes: parts.py --command [COUNT [SEED]].
 
 A least surface has faces that certify it. From both follow, edge by edge, how much more another departure costs at least, and so
 the parts inside which every surface of nearly the least cost has the same cycles up to one constant. Here sessions of a few pixels
 are drawn, the small solver (least.py) makes surface and faces, and all surfaces within three cycles of it are gone through: each
 costs more by just the sum of the excesses, none of which is below 0, and each that costs at most so much more agrees inside each
 part. First the rows that were worked out by hand are computed. COUNT is 2000 and SEED 7 if they are not given; no program is
-needed. The last line is 'N passed, M failed'; the status is 1 if one failed.
+needed.
+
+With --command random sessions and whole texts, some of them changed, are given to `parts`, 1000 if COUNT is not given. It has to
+write each byte of the parts, or answer as the judge of `check-whole` does (whole.py). UNWRAP names another program than the built
+one. Both need NumPy. The last line is 'N passed, M failed'; the status is 1 if one failed.
 """
 import itertools
 import random
@@ -15,10 +19,17 @@ from typing import Iterator, NamedTuple, Sequence
 
 import least
 import stress
+import trying
+import whole
+from mutation import Case
+from reading import read_whole
+from running import Ended
 from stress import CYCLE, NODATA, Session
+from trying import Option
 
 MOST = 3  # cycles by which a surface may lie above or below the least one
 PIXELS = 6  # of a session, so that there are at most 7 ** 5 surfaces
+OPTIONS = {"margin": Option(0, 2**32 - 1), "least": Option(1, 4_194_304, 1)}
 
 
 class Edge(NamedTuple):
@@ -149,7 +160,48 @@ def try_the_rows() -> None:
     assert parts_of(Faced(cut, [0, 0, 0, 0, NODATA, 0], [0] * 2), 0, 2) == [1, 0, 2, 1, 0, 2]
 
 
+def text_of(faced: Faced, limit: int, fewest: int) -> bytes:
+    """The text of the parts."""
+    width, labels = faced.session.width, parts_of(faced, limit, fewest)
+    firsts = [labels.index(number + 1) for number in range(max(labels))]
+    lines = [f"parts {len(firsts)} {limit} {fewest}"]
+    lines += [f"part {first % width} {first // width} {labels.count(labels[first])}" for first in firsts]
+    shown = [label if opened else NODATA for label, opened in zip(labels, faced.session.opened)]
+    return ("\n".join([*lines, *least.grid_of(shown, width)]) + "\n").encode()
+
+
+def wanted(words: Sequence[str], data: bytes) -> Ended:
+    """How `parts` has to end: on what `check-whole` does not accept, as that does."""
+    pairs = trying.pairs_of(words[1:])
+    own = trying.numbers_in([pair for pair in pairs if pair[0].removeprefix("--") in OPTIONS], OPTIONS)
+    others = [word for pair in pairs if pair[0].removeprefix("--") not in OPTIONS for word in pair]
+    terms = whole.terms_of(others, whole.OPTIONS)
+    if own is None or terms is None:
+        return trying.WORDS_REFUSED
+    end = whole.wanted(["check-whole", *others], data)
+    if end.status != 0:
+        return end
+    session, rest = whole.session_in(data, terms, False)
+    text = read_whole(rest)
+    return Ended(0, text_of(Faced(session, text.values, text.faces), own["margin"], own["least"]), b"")
+
+
+def random_case(dice: random.Random) -> Case:
+    """A session and its whole text by the small solver, one in four changed in some place."""
+    session = whole.random_session(dice)
+    text = least.whole_text(session)
+    if dice.random() < 0.25:
+        text = dice.choice(whole.CHANGES)(dice, text)
+    margin = dice.choice((0, 0, 1, 2, 5, dice.choice(session.weights), dice.randint(0, 65535), 2**32 - 1))
+    numbers = {"margin": margin, "least": dice.choice((1, 1, 2, 3, 7, 4_194_304))}
+    words = [*whole.spelled(dice, session, "parts"), *trying.words_of(dice, "", numbers, OPTIONS)[1:]]
+    return Case(words, session.bytes_of(dice) + text)
+
+
 def main() -> int:
+    if "--command" in sys.argv[1:2]:
+        del sys.argv[1]
+        return trying.main("parts", wanted, random_case, try_the_rows)
     if len(sys.argv) > 3 or not all(word.isdigit() for word in sys.argv[1:]):
         print("parts.py: the words are [COUNT [SEED]], as in parts.py 2000 7", file=sys.stderr)
         return 2

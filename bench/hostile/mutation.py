@@ -22,7 +22,7 @@ WORDS += [b"P5 1 1 1 \1", b"P2 1 1 1 1\n"]
 SPACES = (b" ", b"\t", b"\n", b"\v", b"\f", b"\r", b"\r\n", b"  ", b"#\n", b" # by hand\n", b"\n#\r#\n", b"")
 LONGEST = 65_536
 # The commands that have a judge of their own in bench/, which makes their inputs, and its name.
-JUDGED = {"screen": "screen", "closure": "closure", "displacement": "displacement", "nearest": "nearest", "check-whole": "whole"}
+JUDGED = {name: name for name in ("screen", "closure", "displacement", "nearest", "parts")} | {"check-whole": "whole"}
 
 
 class Case(NamedTuple):

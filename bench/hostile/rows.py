@@ -86,6 +86,10 @@ NEAR = LINE + b"end\n" + grid_text([[32768, -12768, 100000, -100000]])
 NEAREST = grid_text([[0, -45536, 105536, -71072]])
 
 
+# The line is one part.
+LINE_PARTS = b"parts 1 0 1\npart 0 0 4\n" + grid_text([[1] * 4])
+
+
 class Use(NamedTuple):
     """A command of the program with words and an input, its undisturbed answer, and the line that refuses an empty input."""
 
@@ -123,6 +127,8 @@ USES = (
     Use("whole", "whole", "line", 0, LINE_WHOLE),
     Use("check-whole", "check-whole", "whole-accepted", 0, b"accepted\n"),
     Use("check-whole that refuses", "check-whole", "whole-refused", 1, b"refused told\n"),
+    Use("parts", "parts", "whole-accepted", 0, LINE_PARTS),
+    Use("parts that refuses", "parts", "whole-refused", 1, b"refused told\n"),
     Use("watch", "watch --readers 2", "line", 0, LINE_WATCHED),
     Use("nearest", "nearest", "near", 0, NEAREST),
     Use("trial", "trial 7 64 64 --tile 32", "empty", 0, TRIAL),

@@ -100,7 +100,7 @@ def plain_rows(large):
 
 def lean_rows():
     """A header that promises more than there is, and no thread to be had."""
-    for name in ("unwrap", "grid", "check", "screen", "whole", "check-whole"):
+    for name in ("unwrap", "grid", "check", "screen", "whole", "check-whole", "parts"):
         short = f"printf 'P5 4096 1024 65535 ' | $P {name}"
         yield refused(f"{name}: a header of 4,194,304 pixels alone", short, 3, b"input fault 6 short phase samples 0\n")
     other_user = "setpriv --reuid=65534 --clear-groups " if os.geteuid() == 0 else ""

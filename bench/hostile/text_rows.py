@@ -57,7 +57,7 @@ def cut_rows():
         for name, out in zip(("unwrap", "grid", "screen", "whole"), outs):
             yield row(f"{name}: {what}", f"exec $P {name} <turn-{length}", 3 if line else 0, out, line)
         line = b"report fault line 1\n" if length == len(TURN) else line or b"input fault 14 no end\n"
-        for name in ("check", "check-whole"):
+        for name in ("check", "check-whole", "parts"):
             yield refused(f"{name}: {what}", f"exec $P {name} <turn-{length}", 3, line)
 
 
@@ -419,7 +419,7 @@ def endless_rows(slow):
         for name in ("unwrap", "grid", "screen", "whole"):
             yield refused(f"{name}: endless input", endless(text, name), 3, line)
         after = b"report fault line 1\n" if b"after end" in line else line
-        for name in ("check", "check-whole"):
+        for name in ("check", "check-whole", "parts"):
             yield refused(f"{name}: endless input", endless(text, name), 3, after)
     for text, line in ENDLESS_WHOLES:
         ends = (End(3, NOTHING, exactly(b"report fault line %d\n" % line)), End(4, NOTHING, exactly(MEMORY)))

@@ -3,7 +3,6 @@ ghost use Rattle.certain_parts.specs.Margins.{margin};
 ghost use Rattle.certain_parts.specs.Parts.{parts_joined};
 ghost use Rattle.joined_cells.specs.Joining.{joins};
 ghost use Rattle.raster_model.specs.Cells.{IsCertifiedTile};
-ghost use Rattle.raster_model.specs.Heights.{KnowsOpen};
 ghost use Rattle.raster_model.specs.Limits.{is_raster_size};
 ghost use Rattle.raster_model.specs.Masks.{open_at};
 ghost use Rattle.raster_model.specs.Raster.{has_open_ends, lifted};
@@ -15,9 +14,10 @@ ghost use Rattle.std.specs.Prelude.{◌≡◌, ◌<◌, IsTrue};
 use crate::faces::Faces;
 use crate::margin::margin_of;
 use joined_cells::EdgeTest;
-use raster_model::{Edge, Heights, Mask, Scene, departure, stored_weight};
+use raster_model::{Edge, Heights, Mask, Scene, stored_weight};
 
-/// A surface over a whole raster that faces certify. An edge with open ends joins them if its margin is above the limit.
+/// A surface over a whole raster that faces certify; they tell the margins, so it is not read. An edge with open ends joins
+/// them if its margin is above the limit.
 #[derive(Drop)]
 pub(crate) struct CertainEdges<'a, H: Heights> {
     pub(crate) scene: &'a Scene,
@@ -26,7 +26,6 @@ pub(crate) struct CertainEdges<'a, H: Heights> {
     pub(crate) faces: &'a [i64],
     pub(crate) limit: u32,
     pub(crate) ghost same_size: { (mask.now.width ≡ scene.now.phase.width) × (mask.now.height ≡ scene.now.phase.height) },
-    pub(crate) ghost known: { KnowsOpen (raster_of scene.now) (open_at mask.now) (H.knows heights.now) },
     pub(crate) ghost certified: { IsCertifiedTile (whole_of (raster_of scene.now)) (open_at mask.now) 0 (lifted (raster_of scene.now) (H.cycles_at heights.now)) faces.now },
 }
 
@@ -41,9 +40,8 @@ impl<H: Heights> CertainEdges<'_, H> {
             scene: self.scene,
             faces: self.faces,
         };
-        let departure = departure(self.scene, self.heights, edge);
         let weight = stored_weight(self.scene, edge);
-        margin_of(self.scene.terms.steep, weight, departure, faces.step(edge))
+        margin_of(self.scene.terms.steep, weight, faces.step(edge))
     }
 }
 

@@ -7,9 +7,9 @@ use Rattle.insar_ports.proofs.CallLemmas.{at_told, if_told}
 use Rattle.text_lines.specs.Adding.{Puts}
 use Rattle.session_script.specs.Sessions.{session_of}
 use Rattle.report_text.specs.Text.{report_text}
-use Rattle.whole_text.specs.Text.{whole_text}
+use Rattle.insar_words.specs.Requests.{options_of}
 use Rattle.insar_words.specs.declared.request.Request.{Request}
-use Rattle.insar_words.specs.declared.request.Request.TheVariants.{Unwrap, Grid, Check, Trial, Screen, Closure, Displacement, Whole, CheckWhole, Watch, Nearest}
+use Rattle.insar_words.specs.declared.request.Request.TheVariants.{Unwrap, Grid, Check, Trial, Screen, Closure, Displacement, Whole, CheckWhole, Watch, Nearest, Parts}
 use Rattle.answer_lines.specs.declared.refusal.Refusal.{Refusal}
 use Rattle.answer_lines.specs.declared.refusal.Refusal.TheVariants as refusals
 use Rattle.insar_top.specs.Answers.{HasAnswered, HasCutShort, IsAnswerTo, IsDoneStatus, IsInputTo, IsUsedUp, IsWithinInput, input_of}
@@ -19,6 +19,7 @@ use Rattle.insar_top.specs.Ends.{EndsBy, end_of_put}
 use Rattle.insar_top.specs.Run.{HasKept, IsUnread, Run}
 use Rattle.insar_top.proofs.LoopLemmas.{loop_input}
 use Rattle.insar_top.proofs.NearestLemmas.{nearest_input}
+use Rattle.insar_top.proofs.PartsLemmas.{judged_input, parts_input}
 use Rattle.insar_top.proofs.SightLemmas.{sight_input}
 
 -- the text answers the request, and nothing is left
@@ -48,9 +49,10 @@ answer_input (Screen screening) bytes status text a = (session_of a.1.session, a
 answer_input Closure bytes status text a = loop_input bytes a.1.0 a.1.1.0
 answer_input (Displacement displacing) bytes status text a = sight_input (sight_of displacing) bytes a.1.output a.1.displaced
 answer_input (Whole settings) bytes status text a = (session_of a.1.session, a.1.given.spelled)
-answer_input (CheckWhole settings) bytes status text a = (session_of a.1.0.session, whole_text a.1.0.told, (a.1.0.both.spelled, ((a.1.0.told, (a.1.0.in_range, refl)), a.1.0.both.within)))
+answer_input (CheckWhole settings) bytes status text a = judged_input (options_of settings) bytes a.0 a.1.0
 answer_input (Watch watching) bytes status text a = (session_of a.1.session, a.1.given.spelled)
 answer_input Nearest bytes status text a = nearest_input bytes a.1.output a.1.nearest
+answer_input (Parts parting) bytes status text a = parts_input (options_of parting.settings) parting.margin parting.least bytes status text a
 
 pub unread_within : (asked : Request) (r : Run) → IsUnread r → IsWithinInput asked r
 unread_within (Trial trial) r unread = unread
@@ -59,4 +61,5 @@ unread_within asked r unread = tt
 pub small_status : (asked : Request) (status : ℕ) → IsDoneStatus asked status → status ≤ 1
 small_status (Check settings) status e = e
 small_status (CheckWhole settings) status e = e
+small_status (Parts parting) status e = e
 small_status asked status e = omega (arith, e)

@@ -4,7 +4,7 @@ use Rattle.session_script.specs.declared.session_use.SessionUse.TheVariants.{Alo
 use Rattle.session_script.proofs.AskSession.{no_fault_of_session}
 use Rattle.report_text.specs.Contents.{IsReportText}
 use Rattle.whole_text.specs.Text.{IsWholeText}
-use Rattle.insar_words.specs.declared.request.Request.TheVariants.{Unwrap, Grid, Check, Screen, Closure, Displacement, Whole, CheckWhole, Watch, Nearest}
+use Rattle.insar_words.specs.declared.request.Request.TheVariants.{Unwrap, Grid, Check, Screen, Closure, Displacement, Whole, CheckWhole, Watch, Nearest, Parts}
 use Rattle.answer_lines.specs.declared.refusal.Refusal.TheVariants as refusals
 use Rattle.insar_top.specs.Causes.{BrokenBytesAreNoInput}
 use Rattle.insar_top.specs.Displacement.{sight_of}
@@ -24,4 +24,5 @@ broken_bytes_are_no_input (Whole settings) bytes (refusals.Input fault) h input 
 broken_bytes_are_no_input (CheckWhole settings) bytes refusal h input = not_checkable IsWholeText settings.side bytes input refusal h
 broken_bytes_are_no_input (Watch watching) bytes (refusals.Input fault) h input = no_fault_of_session Alone watching.settings.side bytes input.0 [] fault input.1 h
 broken_bytes_are_no_input Nearest bytes refusal h input = no_nearest bytes input refusal h
+broken_bytes_are_no_input (Parts parting) bytes refusal h input = not_checkable IsWholeText parting.settings.side bytes input refusal h
 broken_bytes_are_no_input asked bytes refusal h input = h

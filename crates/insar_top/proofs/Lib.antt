@@ -4,6 +4,7 @@ pub mod LoopLemmas
 pub mod NearestLemmas
 pub mod SightLemmas
 pub mod ScreenLemmas
+pub mod PartsLemmas
 pub mod AnswerLemmas
 pub mod UnwrapLemmas
 pub mod BothLemmas

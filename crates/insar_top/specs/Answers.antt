@@ -2,7 +2,7 @@
 use Rattle.std.specs.Prelude.{◌≡◌, ◌≤◌, ℕ, List, [], Option, Some, IfSome, ⊤}
 use Rattle.insar_ports.specs.Bytes.{GainsProperPrefix, with_end}
 use Rattle.insar_words.specs.declared.request.Request.{Request}
-use Rattle.insar_words.specs.declared.request.Request.TheVariants.{Unwrap, Grid, Check, Trial, Screen, Closure, Displacement, Whole, CheckWhole, Watch, Nearest}
+use Rattle.insar_words.specs.declared.request.Request.TheVariants.{Unwrap, Grid, Check, Trial, Screen, Closure, Displacement, Whole, CheckWhole, Watch, Nearest, Parts}
 use Rattle.insar_words.specs.Requests.{options_of}
 use Rattle.insar_top.specs.Check.{IsCheckable, IsVerdictAnswer}
 use Rattle.insar_top.specs.CheckWhole.{IsWholeCheckable, IsWholeVerdictAnswer}
@@ -10,6 +10,7 @@ use Rattle.insar_top.specs.Closure.{IsClosureAnswer, IsLoopInput}
 use Rattle.insar_top.specs.Displacement.{IsDisplacementAnswer, IsSightInput, sight_of}
 use Rattle.insar_top.specs.Grid.{IsGridAnswer}
 use Rattle.insar_top.specs.Nearest.{IsNearestAnswer, IsNearestInput}
+use Rattle.insar_top.specs.Parts.{IsPartsAnswer}
 use Rattle.insar_top.specs.Run.{IsUnread, Run}
 use Rattle.insar_top.specs.Screen.{IsScreenAnswer}
 use Rattle.insar_top.specs.Trial.{IsTrialText}
@@ -45,6 +46,7 @@ IsInputTo (Whole settings) bytes = IsSomeInput settings.side bytes
 IsInputTo (CheckWhole settings) bytes = IsWholeCheckable settings.side bytes
 IsInputTo (Watch watching) bytes = IsSomeInput watching.settings.side bytes
 IsInputTo Nearest bytes = IsNearestInput bytes
+IsInputTo (Parts parting) bytes = IsWholeCheckable parting.settings.side bytes
 
 -- with this status, the text answers a request that is about these bytes
 abbrev pub IsAnswerTo : Request → List ℕ → ℕ → List ℕ → Type 0
@@ -59,11 +61,13 @@ IsAnswerTo (Whole settings) bytes status text = (status ≡ 0) × IsWholeAnswer 
 IsAnswerTo (CheckWhole settings) bytes status text = IsWholeVerdictAnswer (options_of settings) bytes status text
 IsAnswerTo (Watch watching) bytes status text = (status ≡ 0) × IsWatchAnswer (options_of watching.settings) watching.readers bytes text
 IsAnswerTo Nearest bytes status text = (status ≡ 0) × IsNearestAnswer bytes text
+IsAnswerTo (Parts parting) bytes status text = IsPartsAnswer (options_of parting.settings) parting.margin parting.least bytes status text
 
--- a request that was done may end with this status: 1 is of `check` and `check-whole` alone
+-- a request that was done may end with this status: 1 is of `check`, `check-whole` and `parts` alone
 abbrev pub IsDoneStatus : Request → ℕ → Type 0
 IsDoneStatus (Check settings) status = status ≤ 1
 IsDoneStatus (CheckWhole settings) status = status ≤ 1
+IsDoneStatus (Parts parting) status = status ≤ 1
 IsDoneStatus asked status = status ≡ 0
 
 -- a request was done with this status: where the bytes are told, a text answers it, nothing is left, and the sink gained exactly the text

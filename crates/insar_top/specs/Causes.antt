@@ -4,7 +4,7 @@ use Rattle.insar_ports.specs.Bytes.{HasRisen}
 use Rattle.answer_lines.specs.declared.refusal.Refusal.{Refusal}
 use Rattle.answer_lines.specs.declared.refusal.Refusal.TheVariants as refusals
 use Rattle.insar_words.specs.declared.request.Request.{Request}
-use Rattle.insar_words.specs.declared.request.Request.TheVariants.{Unwrap, Grid, Check, Trial, Screen, Closure, Displacement, Whole, CheckWhole, Watch, Nearest}
+use Rattle.insar_words.specs.declared.request.Request.TheVariants.{Unwrap, Grid, Check, Trial, Screen, Closure, Displacement, Whole, CheckWhole, Watch, Nearest, Parts}
 use Rattle.insar_top.specs.Answers.{HasCutShort, IsInputTo, input_of}
 use Rattle.insar_top.specs.Check.{BreaksBoth}
 use Rattle.insar_top.specs.CheckWhole.{BreaksBothWhole}
@@ -27,6 +27,7 @@ BreaksInput (Whole settings) = BreaksAlone settings.side
 BreaksInput (CheckWhole settings) = BreaksBothWhole settings.side
 BreaksInput (Watch watching) = BreaksAlone watching.settings.side
 BreaksInput Nearest = BreaksNearest
+BreaksInput (Parts parting) = BreaksBothWhole parting.settings.side
 
 -- why bytes are not read: lack of memory, a counted fault of the source, or a break of the bytes where they are told
 abbrev pub HasReadCause : (List ℕ → Refusal → Type 0) → Option (List ℕ) → ℕ → ℕ → Refusal → Type 0

@@ -7,6 +7,7 @@ pub mod Both
 pub mod Check
 pub mod Whole
 pub mod CheckWhole
+pub mod Parts
 pub mod Trial
 pub mod Watch
 pub mod Screen

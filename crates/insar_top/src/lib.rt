@@ -1,5 +1,5 @@
 //! The whole program as one call: words and bytes in; a report, a grid, a verdict, a trial's lines, a screened session,
-//! closures, displacements, a surface that costs least of all or is nearest to another, or what readers saw out, or a refusal.
+//! closures, displacements, a surface that costs least of all or is nearest to another, its parts, or what readers saw out, or a refusal.
 #![tactic(auto)]
 
 mod board;
@@ -14,6 +14,7 @@ mod grids;
 pub mod laws;
 mod nearest;
 mod pages;
+mod parts;
 mod screen;
 mod session;
 mod top;

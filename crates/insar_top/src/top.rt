@@ -25,6 +25,7 @@ use crate::closure::run_closure;
 use crate::displacements::run_displacement;
 use crate::grid::run_grid;
 use crate::nearest::run_nearest;
+use crate::parts::run_parts;
 use crate::screen::run_screen;
 use crate::trial::run_trial;
 use crate::unwrap::run_unwrap;
@@ -84,11 +85,17 @@ use tile_workers::Gate;
 /// from the session's phase by whole cycles at each open pixel of the first mask and is nearest to the one that was read: at
 /// most half a cycle away, and of two that are half a cycle away the lower. Scripts are not run.
 ///
+/// `parts` reads what `check-whole` reads, with its words, and where that would accept the surface, writes its parts: those in
+/// which each surface that costs at most `--margin` more has the same cycles, up to one constant, and which have at least
+/// `--least` pixels. It writes how many they are, the first pixel and the size of each, and a grid of their numbers. The margin
+/// is from 0 to 4,294,967,295, and 0 by default; the least number of pixels is from 1 to 4,194,304, and 1 by default. Where
+/// `check-whole` would refuse the surface, it answers as that does.
+///
 /// `--tile N` is the side of the square tiles in pixels, from 2 to 128, and 64 if the words do not give it; `screen` has it
 /// for the limit of a session's edits alone. `--rule R` names how the weights of two pixels give that of their edge: `least`,
 /// which is the default, `mean` or `product`. `--workers N` is how many workers solve the tiles of an analyst at once, from 1
 /// to 8, and 2 by default, each of which passes the gate before it solves; `whole` has as many threads at most, with no gate,
-/// and `check` and `check-whole` have none. `--ramp-x N` and
+/// and `check`, `check-whole` and `parts` have none. `--ramp-x N` and
 /// `--ramp-y N` are what the phase is expected to rise from a pixel to its right and to its lower neighbour, in units of
 /// 1/65536 cycle: N from 0 to 65535, of which those from 32768 on stand for N - 65536, and 0 by default. Differences are
 /// wrapped around it. `--steep N`, from 1 to 16, is how many times as much as the first cycle of a departure each further one
@@ -116,7 +123,7 @@ pub fn insar<R: Threads + Wait + Sync, S: Source, K: Sink, D: Sink, G: Gate>(
     // publication of a complete legal history of it, and then a line for each reader: of the published revisions some that
     // rise, and the last.
     ensures watched { (options : Options) → IsWatch words.now options → result ≡ 0 → IsWatchDone options (run_of S.left S.faults source.old source.new K.held K.faults sink.old sink.new) }
-    // 0, and 1 of `check` and `check-whole`: the bytes were what the request reads, nothing is left, and the sink gained exactly the text that
+    // 0, and 1 of `check`, `check-whole` and `parts`: the bytes were what the request reads, nothing is left, and the sink gained exactly the text that
     // answers it.
     ensures done { (asked : Asked) → IsRequest words.now asked → result ≤ 1 → HasAnswered asked (run_of S.left S.faults source.old source.new K.held K.faults sink.old sink.new) result }
     // 2 to 6: a refusal with its cause, and its line.
@@ -199,6 +206,7 @@ fn do_request<R: Threads + Wait + Sync, S: Source, K: Sink, G: Gate>(
         Request::CheckWhole(settings) => run_check_whole(alloc, settings, source, sink),
         Request::Watch(watching) => run_watch(rt, alloc, watching, source, sink, gate),
         Request::Nearest => run_nearest(alloc, source, sink),
+        Request::Parts(parting) => run_parts(alloc, parting, source, sink),
     }
 }
 

@@ -304,7 +304,7 @@ module _ (options : List Argument) (settings : List Setting) (plain : ArePlain o
   number_told a least most takes first default has =
       number_has rows a.id least most (set_to a settings) (subst (λ (t : Taking). option_map_or (fits t) (set_to a settings) false ≡ true) takes (well a first default has)) has
 
-  abbrev asks_by : (IsSide : List Row → ℕ → Type 0) (side : ℕ) → IsSide rows side → (command : Text) (words : List (Bor Text)) → AreTaken words → asked words ≡ Some (command, rows) → Each (λ a. option_named options a.id ≡ Some a) whole_checking → HasSet rows whole_checking settings
+  abbrev pub asks_by : (IsSide : List Row → ℕ → Type 0) (side : ℕ) → IsSide rows side → (command : Text) (words : List (Bor Text)) → AreTaken words → asked words ≡ Some (command, rows) → Each (λ a. option_named options a.id ≡ Some a) whole_checking → HasSet rows whole_checking settings
       → AsksBy IsSide command words (record (options_set settings) { side = side })
   asks_by IsSide side is command words taken named found has = record {
     taken = taken;

@@ -26,16 +26,17 @@ use Rattle.raster_model.specs.declared.weights.RuleKind.TheVariants.{Least, Mean
 use Rattle.raster_model.specs.Limits.{IsSlope, IsSteepness, IsTileSide, max_pixels}
 use Rattle.insar_words.specs.Asked.{AreTaken, Asks, AsksBy, IsCheck, IsCheckWhole, IsCommand, IsGridCommand, IsRefused, IsSideAsked, IsSideByDefault, IsTooLarge, IsTrialCommand, IsWatch, IsWhole, OneCommand, Options, asked, asks_by_names, has_names, is_named, number_asked, slope_asked, slope_for}
 use Rattle.insar_words.specs.Faults.{fault_of_kind}
-use Rattle.insar_words.specs.Forms.{CommandForm, Each, OfOne, arguments_of, check_form, check_whole_form, closure_form, displacement_form, forms, grid_form, is_among, nearest_form, rule_entry, rule_name, rule_names, screen_form, trial_form, unwrap_form, watch_form, whole_form}
-use Rattle.insar_words.specs.Limits.{IsBlockAsked, IsNearCount, IsPatchSize, IsReaders, IsReads, IsReferencePlace, IsScreenRadius, IsTrialSide, IsWavelengthAsked, IsWorkers}
+use Rattle.insar_words.specs.Forms.{CommandForm, Each, OfOne, arguments_of, check_form, check_whole_form, closure_form, displacement_form, forms, grid_form, is_among, nearest_form, parts_form, rule_entry, rule_name, rule_names, screen_form, trial_form, unwrap_form, watch_form, whole_form}
+use Rattle.insar_words.specs.Limits.{IsBlockAsked, IsLeastPart, IsNearCount, IsPatchSize, IsReaders, IsReads, IsReferencePlace, IsScreenRadius, IsTrialSide, IsWavelengthAsked, IsWorkers}
 use Rattle.insar_words.specs.Requests.{AskSomething, CheckIsRequest, CheckWholeIsRequest, GridIsRequest, HasWordsCause, IsRequest, IsSession, OneRequest, RefusedOrAsking, TellsAll, TellsNothing, TellsRefusal, TellsRequest, TellsSettings, TellsTerms, TellsTooMany, TellsWhole, TrialIsRequest, UnwrapIsRequest, WatchIsRequest, WholeIsRequest, options_of}
 use Rattle.insar_words.specs.Stated.{stated}
 use Rattle.insar_words.specs.Values.{HasChecking, HasNumber, HasSolving, HasTerms, HasValues, ReadsAs}
 use Rattle.insar_words.specs.declared.fault.WordsFault.{WordsFault}
 use Rattle.insar_words.specs.declared.request.Request.{Request}
-use Rattle.insar_words.specs.declared.request.Request.TheVariants.{Unwrap, Grid, Check, Trial, Screen, Closure, Displacement, Whole, CheckWhole, Watch, Nearest}
+use Rattle.insar_words.specs.declared.request.Request.TheVariants.{Unwrap, Grid, Check, Trial, Screen, Closure, Displacement, Whole, CheckWhole, Watch, Nearest, Parts}
 use Rattle.insar_words.specs.declared.screening.Screening.{Screening}
 use Rattle.insar_words.specs.declared.displacing.Displacing.{Displacing}
+use Rattle.insar_words.specs.declared.parting.Parting.{Parting}
 use Rattle.insar_words.specs.declared.settings.Settings.{Settings}
 use Rattle.insar_words.specs.declared.trial.Trial.{Trial as TrialSession}
 use Rattle.insar_words.specs.declared.watching.Watching.{Watching}
@@ -68,6 +69,7 @@ command_of (Whole settings) = codes "whole"
 command_of (CheckWhole settings) = codes "check-whole"
 command_of (Watch watching) = codes "watch"
 command_of Nearest = codes "nearest"
+command_of (Parts parting) = codes "parts"
 
 -- the command that is told
 pub told_by : (command : Text) (rows : List Row) (r : Request) → TellsRequest command rows r → command ≡ command_of r
@@ -200,6 +202,15 @@ same_watching s t settings readers reads = λ i.
       looks = is_prop→PathP (λ j. IsReads (reads j)) (λ j. ×_prop le_prop le_prop) s.looks t.looks i;
     }
 
+same_parting : (s t : Parting) → s.settings ≡ t.settings → s.margin ≡ t.margin → s.least ≡ t.least → s ≡ t
+same_parting s t settings margins leasts = λ i.
+    record {
+      settings = settings i;
+      margin = margins i;
+      least = leasts i;
+      large = is_prop→PathP (λ j. IsLeastPart (leasts j)) (λ j. ×_prop le_prop le_prop) s.large t.large i;
+    }
+
 same_told : (rows : List Row) (s t : Settings) → TellsSettings rows s → TellsSettings rows t → s.workers ≡ t.workers → s ≡ t
 same_told rows s t a b crew = same_settings s t (one_choice IsSideAsked one_asked rows (options_of s) (options_of t) a b) crew
 
@@ -218,6 +229,7 @@ one_told command rows (Whole s) (Whole t) a b = ap Whole (same_whole rows s t a.
 one_told command rows (CheckWhole s) (CheckWhole t) a b = ap CheckWhole (same_whole rows s t a.1.0 b.1.0 (cc))
 one_told command rows (Watch s) (Watch t) a b = ap Watch (same_watching s t (same_told rows s.settings t.settings a.1.0.0 b.1.0.0 (some_one _ _ _ a.1.0.1 b.1.0.1)) (some_one _ _ _ a.1.1.0 b.1.1.0) (some_one _ _ _ a.1.1.1 b.1.1.1))
 one_told command rows Nearest Nearest a b = refl
+one_told command rows (Parts s) (Parts t) a b = ap Parts (same_parting s t (same_whole rows s.settings t.settings a.1.0.0 b.1.0.0 (cc)) (some_one _ _ _ a.1.1.0 b.1.1.0) (some_one _ _ _ a.1.1.1 b.1.1.1))
 one_told command rows r q a b = absurd (apart (command_of r) (command_of q) refl (sym (told_by command rows r a) ∙ told_by command rows q b))
 
 pub one_request : OneRequest
@@ -347,6 +359,14 @@ asks_watch words rows taken named has names =
 asks_nearest : Asking nearest_form
 asks_nearest words rows taken named has names = inr (Nearest, record { taken = taken; command = codes "nearest"; rows = rows; named = named; tells = (refl, tt) })
 
+asks_parts : Asking parts_form
+asks_parts words rows taken named has names =
+    let s = terms_there rows (has.0, (has.1.0, (has.1.1.0, (has.1.1.1.0, tt)))) (and_parts _ _ names).0 64 (omega arith, omega arith) 2 (omega arith, omega arith) in
+    let margin = number_there (codes "margin") 0 4294967295 rows has.1.1.1.1.0 in
+    let least = number_there (codes "least") 1 4194304 rows has.1.1.1.1.1.0 in
+    let parting : Parting = record { settings = s.0; margin = margin.0; least = least.0; large = least.2 } in
+    inr (Parts parting, record { taken = taken; command = codes "parts"; rows = rows; named = named; tells = (refl, (((s.1.0, s.1.1.0), s.1.1.1), (margin.1, least.1))) })
+
 -- what words that clap takes ask for
 record Reads (words : List Text) : Type 0 where
   form : CommandForm
@@ -371,7 +391,7 @@ asked_some : (words : List (Bor Text)) → AreTaken words → SomeAsked words
 asked_some words taken =
     let r = reads_some (texts words) taken.parsed in
     let names = and_parts (has_names r.rows r.form) true (sym ((sound r.form r.among).names r.rows) ∙ ap asks_by_names (sym r.named) ∙ taken.in_names) in
-    each_form Asking forms (asks_unwrap, (asks_grid, (asks_check, (asks_trial, (asks_screen, (asks_closure, (asks_displacement, (asks_whole, (asks_check_whole, (asks_watch, (asks_nearest, tt))))))))))) r.form r.among words r.rows taken r.named r.values names.0
+    each_form Asking forms (asks_unwrap, (asks_grid, (asks_check, (asks_trial, (asks_screen, (asks_closure, (asks_displacement, (asks_whole, (asks_check_whole, (asks_watch, (asks_nearest, (asks_parts, tt)))))))))))) r.form r.among words r.rows taken r.named r.values names.0
 
 -- ---- refused, or asking
 
@@ -438,7 +458,7 @@ other_request words command rows taken named other = some_request words command 
 pub has_asked : (words : List (Bor Text)) (command : Text) (options : Options) (a : Asks command words options) (s : Settings) → TellsSettings a.rows s → options_of s ≡ options
 has_asked words command options a s tells = one_choice IsSideAsked one_asked a.rows (options_of s) options tells (asks_told IsSideAsked command words options a)
 
-has_whole : (words : List (Bor Text)) (command : Text) (options : Options) (a : AsksBy IsSideByDefault command words options) (s : Settings) → TellsWhole a.rows s → options_of s ≡ options
+pub has_whole : (words : List (Bor Text)) (command : Text) (options : Options) (a : AsksBy IsSideByDefault command words options) (s : Settings) → TellsWhole a.rows s → options_of s ≡ options
 has_whole words command options a s tells = one_choice IsSideByDefault one_default a.rows (options_of s) options tells (asks_told IsSideByDefault command words options a)
 
 -- a request that tells settings is asked for with their options
@@ -548,6 +568,7 @@ names_of rows (Trial t) tells = names_hold rows t.settings tells.1.0.0.0
 names_of rows (Whole s) tells = names_hold rows s tells.1.0.0
 names_of rows (CheckWhole s) tells = names_hold rows s tells.1.0.0
 names_of rows (Watch w) tells = names_hold rows w.settings tells.1.0.0.0
+names_of rows (Parts p) tells = names_hold rows p.settings tells.1.0.0.0
 names_of rows r tells = refl
 
 names_told : (command : Text) (rows : List Row) (request : Request) → TellsRequest command rows request → asks_by_names (Some (command, rows)) ≡ true

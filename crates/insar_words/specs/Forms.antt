@@ -114,6 +114,12 @@ y_entry = record { id = codes "y"; takes = numbers 0 4095; default = Some (numbe
 abbrev pub block_entry : Argument
 block_entry = record { id = codes "block"; takes = numbers 1 64; default = Some (number 1) }
 
+abbrev pub margin_entry : Argument
+margin_entry = record { id = codes "margin"; takes = numbers 0 4294967295; default = Some (number 0) }
+
+abbrev pub least_entry : Argument
+least_entry = record { id = codes "least"; takes = numbers 1 4194304; default = Some (number 1) }
+
 -- what is asked of a check, of a run, and of a test session besides
 abbrev pub checking : List Argument
 checking = tile_entry ∷ rule_entry ∷ ramp_x_entry ∷ ramp_y_entry ∷ steep_entry ∷ []
@@ -134,6 +140,10 @@ whole_checking = rule_entry ∷ ramp_x_entry ∷ ramp_y_entry ∷ steep_entry �
 
 abbrev pub whole_solving : List Argument
 whole_solving = rule_entry ∷ ramp_x_entry ∷ ramp_y_entry ∷ steep_entry ∷ workers_entry ∷ []
+
+-- what is asked of parts
+abbrev pub parting : List Argument
+parting = rule_entry ∷ ramp_x_entry ∷ ramp_y_entry ∷ steep_entry ∷ margin_entry ∷ least_entry ∷ []
 
 -- what is asked of a screen, and of displacements
 abbrev pub screening : List Argument
@@ -177,8 +187,11 @@ watch_form = record { command = codes "watch"; positionals = []; options = watch
 abbrev pub nearest_form : CommandForm
 nearest_form = record { command = codes "nearest"; positionals = []; options = [] }
 
+abbrev pub parts_form : CommandForm
+parts_form = record { command = codes "parts"; positionals = []; options = parting }
+
 abbrev pub forms : List CommandForm
-forms = unwrap_form ∷ grid_form ∷ check_form ∷ trial_form ∷ screen_form ∷ closure_form ∷ displacement_form ∷ whole_form ∷ check_whole_form ∷ watch_form ∷ nearest_form ∷ []
+forms = unwrap_form ∷ grid_form ∷ check_form ∷ trial_form ∷ screen_form ∷ closure_form ∷ displacement_form ∷ whole_form ∷ check_whole_form ∷ watch_form ∷ nearest_form ∷ parts_form ∷ []
 
 -- P holds of each
 abbrev pub Each : {X : Type 0} → (X → Type 0) → List X → Type 0

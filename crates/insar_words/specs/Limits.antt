@@ -37,3 +37,7 @@ IsReferencePlace place = place ≤ 4095
 
 abbrev pub IsBlockAsked : ℕ → Type 0
 IsBlockAsked block = (1 ≤ block) × (block ≤ 64)
+
+-- how many pixels may be asked for in a part
+abbrev pub IsLeastPart : ℕ → Type 0
+IsLeastPart pixels = (1 ≤ pixels) × (pixels ≤ max_pixels)

@@ -10,11 +10,12 @@ use Rattle.raster_model.specs.declared.weights.RuleKind.{RuleKind}
 use Rattle.raster_model.specs.declared.weights.RuleKind.TheVariants.{Least, Mean, Product}
 use Rattle.raster_model.specs.Limits.{max_pixels}
 use Rattle.insar_words.specs.Asked.{AreTaken, AsksWorkers, IsCheck, IsCheckWhole, IsTrialCommand, IsWholeWith, Options, asked, number_asked, slope_for}
-use Rattle.insar_words.specs.Forms.{Argument, CommandForm, Each, OfOne, Value, block_entry, checking, count_entry, displacing, fits, forms, name, number, patch_entry, radius_entry, ramp_x_entry, ramp_y_entry, readers_entry, reads_entry, rule_entry, screening, solving, steep_entry, tile_entry, watching, wavelength_entry, weight_entry, whole_checking, whole_solving, word_of, workers_entry, x_entry, y_entry}
+use Rattle.insar_words.specs.Forms.{Argument, CommandForm, Each, OfOne, Value, block_entry, checking, count_entry, displacing, fits, forms, least_entry, margin_entry, name, number, parting, patch_entry, radius_entry, ramp_x_entry, ramp_y_entry, readers_entry, reads_entry, rule_entry, screening, solving, steep_entry, tile_entry, watching, wavelength_entry, weight_entry, whole_checking, whole_solving, word_of, workers_entry, x_entry, y_entry}
 use Rattle.insar_words.specs.Requests.{IsRequest, options_of}
-use Rattle.insar_words.specs.declared.request.Request.TheVariants.{Screen, Closure, Displacement, Watch, Nearest}
+use Rattle.insar_words.specs.declared.request.Request.TheVariants.{Screen, Closure, Displacement, Watch, Nearest, Parts}
 use Rattle.insar_words.specs.declared.screening.Screening.{Screening}
 use Rattle.insar_words.specs.declared.displacing.Displacing.{Displacing}
+use Rattle.insar_words.specs.declared.parting.Parting.{Parting}
 use Rattle.insar_words.specs.declared.watching.Watching.{Watching}
 use Rattle.insar_words.specs.Limits.{IsTrialSide}
 
@@ -178,3 +179,13 @@ pub record IsWatchingSet (settings : List Setting) (w : Watching) : Type 0 where
 abbrev pub PlainWatchIsRead : Type 0
 PlainWatchIsRead = (words : List (Bor Text)) (settings : List Setting) → ArePlain watching settings → texts words ≡ codes "watch" ∷ pairs settings
     → (w : Watching) × (IsWatchingSet settings w × IsRequest words (Watch w))
+
+-- `parts`, with the options of `check-whole` and the numbers that are set
+pub record IsPartingSet (settings : List Setting) (p : Parting) : Type 0 where
+  pub options : options_of p.settings ≡ whole_options_set settings
+  pub margin : p.margin ≡ number_set margin_entry settings
+  pub least : p.least ≡ number_set least_entry settings
+
+abbrev pub PlainPartsIsRead : Type 0
+PlainPartsIsRead = (words : List (Bor Text)) (settings : List Setting) → ArePlain parting settings → texts words ≡ codes "parts" ∷ pairs settings
+    → (p : Parting) × (IsPartingSet settings p × IsRequest words (Parts p))

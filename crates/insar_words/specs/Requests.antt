@@ -8,9 +8,10 @@ use Rattle.insar_words.specs.Forms.{rule_entry, rule_name}
 use Rattle.insar_words.specs.declared.fault.WordsFault.{WordsFault}
 use Rattle.insar_words.specs.declared.fault.WordsFault.TheVariants as faults
 use Rattle.insar_words.specs.declared.request.Request.{Request}
-use Rattle.insar_words.specs.declared.request.Request.TheVariants.{Unwrap, Grid, Check, Trial, Screen, Closure, Displacement, Whole, CheckWhole, Watch, Nearest}
+use Rattle.insar_words.specs.declared.request.Request.TheVariants.{Unwrap, Grid, Check, Trial, Screen, Closure, Displacement, Whole, CheckWhole, Watch, Nearest, Parts}
 use Rattle.insar_words.specs.declared.screening.Screening.{Screening}
 use Rattle.insar_words.specs.declared.displacing.Displacing.{Displacing}
+use Rattle.insar_words.specs.declared.parting.Parting.{Parting}
 use Rattle.insar_words.specs.declared.settings.Settings.{Settings}
 use Rattle.insar_words.specs.declared.trial.Trial.{Trial as TrialSession}
 use Rattle.insar_words.specs.declared.watching.Watching.{Watching}
@@ -40,6 +41,10 @@ TellsTrial rows trial = TellsAll rows trial.settings × ((number_asked (codes "s
 -- this run beside readers
 abbrev pub TellsWatching : List Row → Watching → Type 0
 TellsWatching rows watching = TellsAll rows watching.settings × ((number_asked (codes "readers") rows ≡ Some watching.readers) × (number_asked (codes "reads") rows ≡ Some watching.reads))
+
+-- these parts
+abbrev pub TellsParting : List Row → Parting → Type 0
+TellsParting rows parting = (TellsWhole rows parting.settings × (parting.settings.workers ≡ 2)) × ((number_asked (codes "margin") rows ≡ Some parting.margin) × (number_asked (codes "least") rows ≡ Some parting.least))
 
 -- this screen
 abbrev pub TellsScreening : List Row → Screening → Type 0
@@ -72,6 +77,7 @@ TellsRequest command rows (Whole settings) = (command ≡ codes "whole") × (Tel
 TellsRequest command rows (CheckWhole settings) = (command ≡ codes "check-whole") × (TellsWhole rows settings × (settings.workers ≡ 2))
 TellsRequest command rows (Watch watching) = (command ≡ codes "watch") × TellsWatching rows watching
 TellsRequest command rows Nearest = (command ≡ codes "nearest") × ⊤
+TellsRequest command rows (Parts parting) = (command ≡ codes "parts") × TellsParting rows parting
 
 -- it is refused, for a name or for too many pixels
 abbrev pub TellsNothing : Text → List Row → Type 0

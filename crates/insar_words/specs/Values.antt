@@ -2,7 +2,7 @@
 use Rattle.std.specs.Prelude.{◌≡◌, ◌≤◌, ℕ, List, Some}
 use Rattle.std.specs.Str.Parse.{IsNumeral, digits_value, without_leading_plus}
 use Rattle.clap.specs.Words.{Row, Text, first_of, one_of}
-use Rattle.insar_words.specs.Forms.{Argument, Each, OfOne, Taking, any_number, arguments_of, checking, displacing, drawing, forms, names, numbers, screening, solving, watching, whole_checking, whole_solving}
+use Rattle.insar_words.specs.Forms.{Argument, Each, OfOne, Taking, any_number, arguments_of, checking, displacing, drawing, forms, names, numbers, parting, screening, solving, watching, whole_checking, whole_solving}
 
 -- a number from `least` to `most`
 pub record HasNumber (id : Text) (least most : ℕ) (rows : List Row) : Type 0 where
@@ -45,6 +45,10 @@ HasTerms rows = HasValues whole_checking rows
 
 abbrev pub HasWholeSolving : List Row → Type 0
 HasWholeSolving rows = HasValues whole_solving rows
+
+-- what `parts` needs
+abbrev pub HasParting : List Row → Type 0
+HasParting rows = HasValues parting rows
 
 -- what `screen` needs, and what `displacement` needs
 abbrev pub HasScreening : List Row → Type 0

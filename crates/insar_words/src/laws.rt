@@ -1,7 +1,7 @@
 //! Laws of the definitions. The functions do nothing; each contract is the law.
 
 ghost use Rattle.insar_words.specs.Asked.{OneCommand};
-ghost use Rattle.insar_words.specs.PlainForms.{PlainCheckIsRead, PlainCheckWholeIsRead, PlainClosureIsRead, PlainDisplacementIsRead, PlainFormsAreRead, PlainNearestIsRead, PlainScreenIsRead, PlainSolvingIsRead, PlainTrialIsRead, PlainWatchIsRead, PlainWholeIsRead};
+ghost use Rattle.insar_words.specs.PlainForms.{PlainCheckIsRead, PlainCheckWholeIsRead, PlainClosureIsRead, PlainDisplacementIsRead, PlainFormsAreRead, PlainNearestIsRead, PlainPartsIsRead, PlainScreenIsRead, PlainSolvingIsRead, PlainTrialIsRead, PlainWatchIsRead, PlainWholeIsRead};
 ghost use Rattle.insar_words.specs.Requests.{CheckIsRequest, CheckWholeIsRequest, GridIsRequest, OneRequest, RefusedOrAsking, TrialIsRequest, UnwrapIsRequest, WatchIsRequest, WholeIsRequest};
 ghost use Rattle.std.specs.Prelude.{codes};
 
@@ -28,7 +28,7 @@ pub fn words_are_refused_or_ask()
 {}
 
 /// Words in plain form are read, and ask exactly what they say: of any command, and by what the pairs set of each of the
-/// eleven.
+/// twelve.
 pub fn plain_forms_are_read()
     ensures any { PlainFormsAreRead }
     ensures unwrap { PlainSolvingIsRead (codes "unwrap") }
@@ -42,4 +42,5 @@ pub fn plain_forms_are_read()
     ensures check_whole { PlainCheckWholeIsRead }
     ensures watch { PlainWatchIsRead }
     ensures nearest { PlainNearestIsRead }
+    ensures parts { PlainPartsIsRead }
 {}

@@ -4,6 +4,7 @@
 mod displacing;
 mod fault;
 pub mod laws;
+mod parting;
 mod reading;
 mod request;
 mod screening;
@@ -15,6 +16,7 @@ mod watching;
 
 pub use displacing::Displacing;
 pub use fault::WordsFault;
+pub use parting::Parting;
 pub use reading::read_words;
 pub use request::Request;
 pub use screening::Screening;

@@ -3,12 +3,13 @@ ghost use Rattle.insar_words.specs.Asked.{number_asked, slope_asked, slope_for a
 ghost use Rattle.insar_words.specs.Forms.{rule_name};
 ghost use Rattle.insar_words.specs.Limits.{IsWorkers};
 ghost use Rattle.raster_model.specs.Limits.{IsSlope, IsTileSide};
-ghost use Rattle.insar_words.specs.Requests.{HasWordsCause, IsRequest, NamesNoRule, TellsDisplacing, TellsNothing, TellsRefusal, TellsRequest, TellsScreening, TellsSettings, TellsTerms, TellsTooMany, TellsTrial, TellsWatching, TellsWhole};
-ghost use Rattle.insar_words.specs.Values.{HasChecking, HasDisplacing, HasNumber, HasRaster, HasScreening, HasSolving, HasTerms, HasText, HasWatching, HasWholeSolving, ReadsAs};
+ghost use Rattle.insar_words.specs.Requests.{HasWordsCause, IsRequest, NamesNoRule, TellsDisplacing, TellsNothing, TellsParting, TellsRefusal, TellsRequest, TellsScreening, TellsSettings, TellsTerms, TellsTooMany, TellsTrial, TellsWatching, TellsWhole};
+ghost use Rattle.insar_words.specs.Values.{HasChecking, HasDisplacing, HasNumber, HasParting, HasRaster, HasScreening, HasSolving, HasTerms, HasText, HasWatching, HasWholeSolving, ReadsAs};
 ghost use Rattle.std.specs.Prelude.{◌≡◌, ◌≤◌, ◌⊎◌, IfErr, IfNone, IfOk, IfSome, Some, codes};
 
 use crate::displacing::Displacing;
 use crate::fault::WordsFault;
+use crate::parting::Parting;
 use crate::request::Request;
 use crate::screening::Screening;
 use crate::settings::Settings;
@@ -66,6 +67,7 @@ fn request_of(name: &str, found: &ArgMatches<'_>) -> Option<Request>
         )?)),
         "watch" => Some(Request::Watch(watching_of(found)?)),
         "nearest" => Some(Request::Nearest),
+        "parts" => Some(Request::Parts(parting_of(found)?)),
         _ => unreachable!(),
     }
 }
@@ -104,6 +106,22 @@ fn watching_of(found: &ArgMatches<'_>) -> Option<Watching>
         settings,
         readers,
         reads,
+    })
+}
+
+/// The parts that matches ask for.
+fn parting_of(found: &ArgMatches<'_>) -> Option<Parting>
+    requires { HasParting (rows_of (found_of found.now)) }
+    ensures told { IfSome result (TellsParting (rows_of (found_of found.now))) }
+    ensures refused { IfNone result (NamesNoRule (rows_of (found_of found.now))) }
+{
+    let settings = settings_with(found, DEFAULT_TILE_SIDE, DEFAULT_WORKERS)?;
+    let margin = number_told(found, "margin");
+    let least = number_told(found, "least");
+    Some(Parting {
+        settings,
+        margin,
+        least,
     })
 }
 

@@ -1,4 +1,5 @@
 use crate::displacing::Displacing;
+use crate::parting::Parting;
 use crate::screening::Screening;
 use crate::settings::Settings;
 use crate::trial::Trial;
@@ -29,4 +30,6 @@ pub enum Request {
     Watch(Watching),
     /// `nearest`: the surface of a session's phase that is nearest to a given one.
     Nearest,
+    /// `parts`: the parts of a whole surface in which all of nearly the least cost have the same cycles.
+    Parts(Parting),
 }

@@ -24,7 +24,7 @@ pub(crate) struct ArgumentRow {
 }
 
 /// The commands.
-pub(crate) const COMMANDS: [CommandRow; 11] = [
+pub(crate) const COMMANDS: [CommandRow; 12] = [
     CommandRow {
         name: "unwrap",
         arguments: &[TILE, RULE, RAMP_X, RAMP_Y, STEEP, WORKERS],
@@ -70,6 +70,10 @@ pub(crate) const COMMANDS: [CommandRow; 11] = [
     CommandRow {
         name: "nearest",
         arguments: &[],
+    },
+    CommandRow {
+        name: "parts",
+        arguments: &[RULE, RAMP_X, RAMP_Y, STEEP, MARGIN, LEAST],
     },
 ];
 
@@ -242,4 +246,22 @@ const BLOCK: ArgumentRow = ArgumentRow {
     parser: ValueParser::Signed(1, 64),
     defaults: &["1"],
     help: "Pixels along a side of the blocks that are averaged, from 1 to 64, else 1, as in --block 4",
+};
+
+/// `--margin T`
+const MARGIN: ArgumentRow = ArgumentRow {
+    name: "margin",
+    is_option: true,
+    parser: ValueParser::Signed(0, 4294967295),
+    defaults: &["0"],
+    help: "How much more a surface may cost that has the same cycles in each part, from 0 to 4294967295, else 0, as in --margin 500",
+};
+
+/// `--least N`
+const LEAST: ArgumentRow = ArgumentRow {
+    name: "least",
+    is_option: true,
+    parser: ValueParser::Signed(1, 4194304),
+    defaults: &["1"],
+    help: "The least number of pixels of a part, from 1 to 4194304, else 1, as in --least 50",
 };

@@ -10,6 +10,8 @@ mod gate_rows;
 #[cfg(test)]
 mod large_rows;
 #[cfg(test)]
+mod parts_rows;
+#[cfg(test)]
 mod running;
 #[cfg(test)]
 mod top_rows;

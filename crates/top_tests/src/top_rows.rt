@@ -340,7 +340,7 @@ pub fn is_one_of(text: &str, patterns: &str) -> bool {
 }
 
 /// Runs a row, if the line has one: then its words and bytes give its status and what it writes.
-fn judge<R: Alloc<A = Global> + Threads + Wait + Sync + Abort>(rt: &R, row: &str) -> u32 {
+pub fn judge<R: Alloc<A = Global> + Threads + Wait + Sync + Abort>(rt: &R, row: &str) -> u32 {
     let mut fields = row.split('|');
     let (Some(words), Some(input), Some(status), Some(written)) = (
         fields.next(),

@@ -34,3 +34,6 @@ settings_with-requires-clause-options c = has_own (codes "check-whole") c.args.n
 
 pub watching_of-requires : goal.watching_of-requires
 watching_of-requires c = has_own (codes "watch") c.args.name.now (rows_of (found_of c.args.found.now)) c.in-watch.is c.requires.named
+
+pub parting_of-requires : goal.parting_of-requires
+parting_of-requires c = has_own (codes "parts") c.args.name.now (rows_of (found_of c.args.found.now)) c.in-parts.is c.requires.named

@@ -1,4 +1,4 @@
-use Rattle.std.proofs.Common.{◌≡◌, ◌∙◌, sym, arith, w64}
+use Rattle.std.proofs.Common.{◌≡◌, ◌∙◌, arith, w64}
 use Rattle.std.proofs.lemmas.Nat.{mul-le}
 use Rattle.std.proofs.lemmas.Int.{to_z-of_z}
 use Rattle.raster_model.specs.Masks.{open_at}
@@ -6,7 +6,7 @@ use Rattle.raster_model.specs.Raster.{masked_weight}
 use Rattle.raster_model.specs.Scene.{raster_of}
 use Rattle.certain_parts.specs.Faces.{faced_by}
 use Rattle.certain_parts.proofs.Excesses.{step_fits}
-use Rattle.certain_parts.proofs.MarginLemmas.{certified_by, margin_is, open_weight}
+use Rattle.certain_parts.proofs.MarginLemmas.{certified_by, margin_told, open_weight}
 use Rattle.certain_parts.proofs.edges.CertainEdges.margin.Goals as goal
 
 pub step-requires : goal.step-requires
@@ -29,11 +29,9 @@ margin_of-requires g c =
     let faces = c.args.self.now.faces.now in
     let fits = step_fits (faced_by r mask cycles faces) (certified_by r mask cycles faces c.args.self.now.certified) c.args.edge c.requires.is_edge in
     let weight : c.stored_weight-weight.result ≡ masked_weight r mask c.args.edge = rw (open_weight r mask c.args.edge c.requires.unmasked) c.stored_weight-weight.ensures in
-    let departed = to_z-of_z w64 c.departure-departure.result (record { sfits = c.departure-departure.type_inv }) in
     let stepped = to_z-of_z w64 c.step.result (record { sfits = c.step.type_inv }) in
     record {
       steepness = s.terms.steepness;
-      departure = rw departed c.departure-departure.ensures.small;
       step = rw (stepped, c.step.ensures, weight) fits;
     }
 
@@ -45,8 +43,8 @@ returns g c =
     let cycles = g.H.Heights.cycles_at c.args.self.now.heights.now in
     let faces = c.args.self.now.faces.now in
     let weight : c.stored_weight-weight.result ≡ masked_weight r mask c.args.edge = rw (open_weight r mask c.args.edge c.requires.unmasked) c.stored_weight-weight.ensures in
-    let departed = to_z-of_z w64 c.departure-departure.result (record { sfits = c.departure-departure.type_inv }) in
     let stepped = to_z-of_z w64 c.step.result (record { sfits = c.step.type_inv }) in
     to_z-of_z w64 c.margin_of.result (record { sfits = c.margin_of.type_inv })
-    ∙ (rw (departed, stepped, weight, c.departure-departure.ensures.value, c.step.ensures) at c.margin_of.ensures)
-    ∙ sym (margin_is (faced_by r mask cycles faces) (certified_by r mask cycles faces c.args.self.now.certified) c.args.edge c.requires.is_edge c.requires.unmasked)
+    ∙ margin_told (faced_by r mask cycles faces) (certified_by r mask cycles faces c.args.self.now.certified) s.terms.steepness.0 c.args.edge c.requires.is_edge c.requires.unmasked c.margin_of.result
+    (rw (stepped, c.step.ensures, weight) at c.margin_of.ensures.within)
+    (rw (stepped, c.step.ensures, weight) at c.margin_of.ensures.beyond)

@@ -1,7 +1,6 @@
 ghost use Rattle.insar_ports.specs.Calls.{Moves, Takes, call_of};
 ghost use Rattle.insar_ports.specs.Feeding.{left_of, limit_of, source_name};
 ghost use Rattle.std.specs.Prelude.{◌≡◌, ◌*◌, ◌+◌, ◌-◌, ◌≤◌, [], ℕ, IfErr, IfOk, IfSome, length, refl, vec_len};
-ghost use Rattle.text_lines.specs.LineWords.{lines_read};
 ghost use Rattle.text_lines.specs.Numbers.{AreLongs};
 ghost use Rattle.text_lines.specs.Parsing.{IsWide};
 ghost use Rattle.text_lines.specs.Reading.{room_of};

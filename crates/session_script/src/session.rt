@@ -1,13 +1,12 @@
 ghost use Rattle.edge_weights.specs.Sessions.{HasSettings};
 ghost use Rattle.raster_model.specs.Limits.{IsTileSide, max_session_bytes};
 ghost use Rattle.raster_model.specs.Terms.{ArePlainTerms};
-ghost use Rattle.insar_ports.specs.Feeding.{handed_of, left_of, limit_of, source_name};
+ghost use Rattle.insar_ports.specs.Feeding.{handed_of, limit_of, source_name};
 ghost use Rattle.insar_ports.specs.Calls.{call_of};
 ghost use Rattle.session_script.specs.declared.fault.SessionFault.TheVariants as session_faults;
 ghost use Rattle.session_script.specs.Building.{parts_read};
 ghost use Rattle.session_script.specs.Making.{IsMadeOf};
 ghost use Rattle.session_script.specs.Outcomes.{IsSessionOutcome};
-ghost use Rattle.session_script.specs.Parsing.{Parses, session_parser};
 ghost use Rattle.session_script.specs.Sessions.{session_of};
 ghost use Rattle.std.specs.Prelude.{◌≡◌, IfErr, IfOk};
 

@@ -1,6 +1,7 @@
 -- A grid as lists: weights and flows in the order of the edges' numbers, excesses and potentials in that of the nodes.
 use Rattle.std.specs.Prelude.{◌≡◌, ◌+◌, ◌^◌, ◌<◌, ◌≤◌, ℕ, ℤ, pos, List, [], length, get_or, unsigned_abs}
 use Rattle.raster_model.specs.declared.tiling.Window.{Window}
+use Rattle.flow_network.specs.declared.limits.TheConstants.{POTENTIAL_BOUND}
 use Rattle.flow_network.specs.Nets.{Shape, State}
 use Rattle.dual_grid.specs.Nodes.{cells_of, edges_of}
 use Rattle.dual_grid.specs.Grids.{arc_capacity, capacity_of, window_shape, window_state}
@@ -32,9 +33,9 @@ pub record FitGrid (window : Window) (weights flows excesses potentials : List �
 abbrev pub AreWithinCapacity : Window → ℕ → List ℤ → List ℤ → Type 0
 AreWithinCapacity window steep weights flows = (n : ℕ) → unsigned_abs (number_or_zero flows n) ≤ capacity_of (arc_capacity window) steep (weight_in weights n)
 
--- each potential lies within 2^62 on either side of 0, so that no difference of two leaves 64 bits
+-- no difference of two potentials leaves 64 bits
 abbrev pub AreWithinReach : List ℤ → Type 0
-AreWithinReach potentials = (u : ℕ) → unsigned_abs (number_or_zero potentials u) < 2 ^ 62
+AreWithinReach potentials = (u : ℕ) → unsigned_abs (number_or_zero potentials u) < POTENTIAL_BOUND
 
 -- each potential lies within 2^34 on either side of 0
 abbrev pub AreLow : List ℤ → Type 0

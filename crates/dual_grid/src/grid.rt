@@ -12,7 +12,7 @@ use crate::listing::{down_weights, right_weights};
 use crate::reaching::{are_low, greatest, move_flows, sums_within, turned};
 use crate::sides::outside;
 use crate::supplies::supplies;
-use flow_network::{FlowNet, add_each, carry};
+use flow_network::{FlowNet, POTENTIAL_BOUND, add_each, carry};
 use raster_model::{Scene, Window};
 use std::alloc::{AllocError, Global};
 use wrapped_gradient::{Corrections, Gradients};
@@ -341,11 +341,11 @@ impl DualGrid {
         self.potentials.clone()
     }
 
-    /// Adds to the potential of each node its amount, as `raise` does, up to 2^62 on either side of 0.
+    /// Adds to the potential of each node its amount, as `raise` does, below `POTENTIAL_BOUND` on either side of 0.
     pub fn lift(&mut self, amounts: &[i64])
         requires count { length amounts.now ≡ (grid_shape self.old).nodes }
         requires kept { MayRaise (grid_shape self.old) (grid_state self.old) amounts.now }
-        requires within { (u : ℕ) → u < (grid_shape self.old).nodes → unsigned_abs ((grid_state self.old).potential u +ℤ get_or amounts.now u (pos 0)) < 2 ^ 62 }
+        requires within { (u : ℕ) → u < (grid_shape self.old).nodes → unsigned_abs ((grid_state self.old).potential u +ℤ get_or amounts.now u (pos 0)) < POTENTIAL_BOUND }
         ensures shape { grid_shape self.new ≡ grid_shape self.old }
         ensures raised { IsRaised (grid_shape self.old) amounts.now (grid_state self.old) (grid_state self.new) }
         ensures origin { HaveOneOrigin self.old self.new }

@@ -1,5 +1,5 @@
 -- What the kept facts are for: they stay over pushes and raises, and once no excess is left they say that no flow costs less.
-use Rattle.std.specs.Prelude.{◌≡◌, ◌<◌, ℕ, ℤ, pos, ◌-ℤ◌, ◌*ℤ◌, ◌≤ℤ◌, List}
+use Rattle.std.specs.Prelude.{◌≡◌, ℕ, ℤ, pos, ◌-ℤ◌, ◌*ℤ◌, ◌≤ℤ◌, List}
 use Rattle.flow_network.specs.Nets.{Shape, State, HasNoExcess, IsArc, IsNetwork, HasReducedCosts, reduced_cost}
 use Rattle.flow_network.specs.Moves.{IsPushed, IsRaised, MayRaise, IsConserved}
 use Rattle.sums_and_lists.specs.Sums.{sum_below, where_true}

@@ -1,8 +1,9 @@
 -- A network that is kept in lists: arcs 2k and 2k + 1 are twins.
-use Rattle.std.specs.Prelude.{◌≡◌, ◌<◌, ◌≤◌, ◌+◌, ◌-◌, ◌*◌, ◌/◌, ◌%◌, ◌^◌, ℕ, ℤ, pos, neg_ℤ, ◌-ℤ◌, ◌+ℤ◌, ◌≤ℤ◌, ◌==◌, nat_lt, if◌then◌else◌, List, length, get_or, Option, None, unsigned_abs}
+use Rattle.std.specs.Prelude.{◌≡◌, ◌<◌, ◌≤◌, ◌+◌, ◌-◌, ◌*◌, ◌/◌, ◌%◌, ℕ, ℤ, pos, neg_ℤ, ◌-ℤ◌, ◌+ℤ◌, ◌≤ℤ◌, ◌==◌, nat_lt, if◌then◌else◌, List, length, get_or, Option, None, unsigned_abs}
 use Rattle.flow_network.specs.Nets.{Shape, State, IsNextBelow, tail_of}
 use Rattle.flow_network.specs.Moves.{residual_out}
 use Rattle.flow_network.specs.Growing.{total_residual}
+use Rattle.flow_network.specs.declared.limits.TheConstants.{MAX_AMOUNT, MAX_ARC_COST, MAX_POTENTIAL}
 
 abbrev pub other : ℕ → ℕ
 other arc = if arc % 2 == 0 then arc + 1 else arc - 1
@@ -32,8 +33,8 @@ pub record AreLinked (shape : Shape) (first next : List (Option ℕ)) : Type 0 w
 
 -- no push can leave the numbers' ranges
 pub record HasRoom (shape : Shape) (state : State) : Type 0 where
-  pub total : total_residual shape state ≤ℤ pos (2 ^ 62)
-  pub above : (v : ℕ) → v < shape.nodes → ((state.excess v -ℤ residual_out shape state v) +ℤ total_residual shape state) ≤ℤ pos (2 ^ 62)
-  pub beneath : (v : ℕ) → v < shape.nodes → neg_ℤ (pos (2 ^ 62)) ≤ℤ (state.excess v -ℤ residual_out shape state v)
-  pub costs : (a : ℕ) → a < shape.arcs → unsigned_abs (shape.cost a) ≤ 2 ^ 40
-  pub potentials : (v : ℕ) → v < shape.nodes → unsigned_abs (state.potential v) ≤ 2 ^ 61
+  pub total : total_residual shape state ≤ℤ pos MAX_AMOUNT
+  pub above : (v : ℕ) → v < shape.nodes → ((state.excess v -ℤ residual_out shape state v) +ℤ total_residual shape state) ≤ℤ pos MAX_AMOUNT
+  pub beneath : (v : ℕ) → v < shape.nodes → neg_ℤ (pos MAX_AMOUNT) ≤ℤ (state.excess v -ℤ residual_out shape state v)
+  pub costs : (a : ℕ) → a < shape.arcs → unsigned_abs (shape.cost a) ≤ MAX_ARC_COST
+  pub potentials : (v : ℕ) → v < shape.nodes → unsigned_abs (state.potential v) ≤ MAX_POTENTIAL

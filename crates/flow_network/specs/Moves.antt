@@ -1,5 +1,6 @@
 -- What a push and a raise change, and what neither changes.
-use Rattle.std.specs.Prelude.{◌≡◌, ◌<◌, ◌≤◌, ◌+◌, ◌^◌, ℕ, ℤ, pos, ◌+ℤ◌, ◌-ℤ◌, ◌≤ℤ◌, unsigned_abs, ◌&&◌, ◌==◌, if◌then◌else◌, List, get_or}
+use Rattle.std.specs.Prelude.{◌≡◌, ◌<◌, ◌≤◌, ◌+◌, ℕ, ℤ, pos, ◌+ℤ◌, ◌-ℤ◌, ◌≤ℤ◌, unsigned_abs, ◌&&◌, ◌==◌, if◌then◌else◌, List, get_or}
+use Rattle.flow_network.specs.declared.limits.TheConstants.{MAX_POTENTIAL}
 use Rattle.flow_network.specs.Nets.{Shape, State, IsArc, reduced_cost, tail_of}
 use Rattle.sums_and_lists.specs.Sums.{sum_below, where_true}
 
@@ -17,9 +18,9 @@ raised_cost s state amounts arc = (reduced_cost s state arc +ℤ get_or amounts 
 abbrev pub MayRaise : Shape → State → List ℤ → Type 0
 MayRaise s state amounts = (arc : ℕ) → IsArc s arc → 0 < state.residual arc → pos 0 ≤ℤ raised_cost s state amounts arc
 
--- After such a raise each potential lies within 2^61 on either side.
+-- After such a raise each potential is in its range.
 abbrev pub StaysInRange : Shape → State → List ℤ → Type 0
-StaysInRange s state amounts = (node : ℕ) → node < s.nodes → unsigned_abs (state.potential node +ℤ get_or amounts node (pos 0)) ≤ 2 ^ 61
+StaysInRange s state amounts = (node : ℕ) → node < s.nodes → unsigned_abs (state.potential node +ℤ get_or amounts node (pos 0)) ≤ MAX_POTENTIAL
 
 -- Each node's potential rose by its amount.
 pub record IsRaised (s : Shape) (amounts : List ℤ) (f g : State) : Type 0 where

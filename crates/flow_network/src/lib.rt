@@ -2,10 +2,12 @@
 #![tactic(auto)]
 
 pub mod laws;
+mod limits;
 mod net;
 mod network;
 mod slices;
 
+pub use limits::{MAX_AMOUNT, MAX_ARC_COST, MAX_PATH_COST, MAX_POTENTIAL, POTENTIAL_BOUND};
 pub use net::FlowNet;
 pub use network::Network;
 pub use slices::{add_each, carry};

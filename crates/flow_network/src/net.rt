@@ -82,7 +82,7 @@ pub trait FlowNet {
         ensures origin { same_origin self.old self.new };
 
     /// Adds to the potential of each node its amount. Each arc with capacity left has to have a reduced cost of at least
-    /// 0 afterwards, and each potential has to lie within 2^61 on either side.
+    /// 0 afterwards, and no potential may be above `MAX_POTENTIAL` on either side.
     fn raise(&mut self, amounts: &[i64])
         requires count { length amounts.now ≡ (shape self.old).nodes }
         requires kept { MayRaise (shape self.old) (state self.old) amounts.now }

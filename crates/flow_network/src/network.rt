@@ -3,6 +3,7 @@ ghost use Rattle.flow_network.specs.Nets.{Shape, State, IsArc, IsNetwork, HasRed
 ghost use Rattle.flow_network.specs.Moves.{IsPushed, IsRaised};
 ghost use Rattle.flow_network.specs.Lists.{other as other_of, shape_in, state_in, FitTogether, AreLinked, HasRoom};
 
+use crate::limits::{MAX_AMOUNT, MAX_ARC_COST};
 use crate::net::FlowNet;
 use crate::slices::{add_each, carry, no_arcs, push_reserved, shift};
 use std::alloc::{AllocError, Global};
@@ -120,7 +121,7 @@ impl Network {
     pub fn new(alloc: Global, supplies: Vec<i64>) -> Result<Network, AllocError>
         requires count { length supplies.items < 2 ^ 32 }
         requires even { supply_sum supplies.items ≡ pos 0 }
-        requires room { supply_sizes supplies.items ≤ℤ pos (2 ^ 62) }
+        requires room { supply_sizes supplies.items ≤ℤ pos MAX_AMOUNT }
         ensures nodes { IfOk result (λ net. (shape_of net).nodes ≡ length supplies.items) }
         ensures arcs { IfOk result (λ net. (shape_of net).arcs ≡ 0) }
         ensures excess { IfOk result (λ net. (v : ℕ) → v < length supplies.items → (state_of net).excess v ≡ get_or supplies.items v (pos 0)) }
@@ -154,15 +155,15 @@ impl Network {
         requires tail { tail < (shape_of self.old).nodes }
         requires head { head < (shape_of self.old).nodes }
         requires count { (shape_of self.old).arcs + 2 < 2 ^ 32 }
-        requires cost { unsigned_abs cost ≤ 2 ^ 40 }
+        requires cost { unsigned_abs cost ≤ MAX_ARC_COST }
 
         // Where an arc has capacity, its cost is at least 0.
         requires no_forward { cost <ℤ pos 0 → forward ≡ 0 }
         requires no_back { pos 0 <ℤ cost → back ≡ 0 }
         requires flat { (v : ℕ) → v < (shape_of self.old).nodes → (state_of self.old).potential v ≡ pos 0 }
 
-        // Excesses and all capacities together stay within 2^62.
-        requires room { (total_amount (shape_of self.old) (state_of self.old) +ℤ pos forward +ℤ pos back) ≤ℤ pos (2 ^ 62) }
+        // For excesses and all capacities together.
+        requires room { (total_amount (shape_of self.old) (state_of self.old) +ℤ pos forward +ℤ pos back) ≤ℤ pos MAX_AMOUNT }
         ensures arc { IfOk result (λ arc. arc ≡ (shape_of self.old).arcs) }
         ensures added { OnOk result (AddsArc (shape_of self.old) (shape_of self.new) (state_of self.old) (state_of self.new) tail head cost forward back) }
         ensures unchanged { OnErr result ((shape_of self.new ≡ shape_of self.old) × (state_of self.new ≡ state_of self.old)) }

@@ -2,6 +2,7 @@ ghost use Rattle.sums_and_lists.specs.Sums.{where_true};
 ghost use Rattle.std.specs.Prelude.{◌≡◌, ◌<◌, ◌≤◌, ◌+◌, ◌-◌, ◌^◌, ◌==◌, ℕ, ℤ, pos, neg_ℤ, ◌+ℤ◌, ◌-ℤ◌, ◌≤ℤ◌, if◌then◌else◌, length, get_or, unsigned_abs, FitsSigned, [], ◌∷◌, ◌++◌, vec_len, vec_capacity, IfOk};
 ghost use Rattle.std.specs.Int.{w64};
 
+use crate::limits::{MAX_AMOUNT, POTENTIAL_BOUND};
 use std::alloc::{AllocError, Global};
 
 /// Takes an amount from one place and adds it to another.
@@ -32,9 +33,9 @@ pub(crate) fn add_at(values: &mut Vec<i64>, at: usize, by: i64)
 pub fn carry(values: &mut Vec<i64>, from: usize, to: usize, amount: u64)
     requires from { from < length values.old.items }
     requires to { to < length values.old.items }
-    requires amount { amount ≤ 2 ^ 62 }
-    requires low { neg_ℤ (pos (2 ^ 62)) ≤ℤ (get_or values.old.items from (pos 0) -ℤ pos amount) }
-    requires high { (from ≡ to → ⊥) → (get_or values.old.items to (pos 0) +ℤ pos amount) ≤ℤ pos (2 ^ 62) }
+    requires amount { amount ≤ MAX_AMOUNT }
+    requires low { neg_ℤ (pos MAX_AMOUNT) ≤ℤ (get_or values.old.items from (pos 0) -ℤ pos amount) }
+    requires high { (from ≡ to → ⊥) → (get_or values.old.items to (pos 0) +ℤ pos amount) ≤ℤ pos MAX_AMOUNT }
     ensures length { length values.new.items ≡ length values.old.items }
     ensures carried { (v : ℕ) → get_or values.new.items v (pos 0) ≡ get_or values.old.items v (pos 0) -ℤ where_true (v == from) (pos amount) +ℤ where_true (v == to) (pos amount) }
 {
@@ -49,7 +50,7 @@ pub fn carry(values: &mut Vec<i64>, from: usize, to: usize, amount: u64)
 /// Adds to each number that of the other slice at its place.
 pub fn add_each(values: &mut [i64], amounts: &[i64])
     requires length { length amounts.now ≡ length values.old }
-    requires within { (v : ℕ) → v < length values.old → unsigned_abs (get_or values.old v (pos 0) +ℤ get_or amounts.now v (pos 0)) < 2 ^ 62 }
+    requires within { (v : ℕ) → v < length values.old → unsigned_abs (get_or values.old v (pos 0) +ℤ get_or amounts.now v (pos 0)) < POTENTIAL_BOUND }
     ensures length { length values.new ≡ length values.old }
     ensures added { (v : ℕ) → v < length values.old → get_or values.new v (pos 0) ≡ get_or values.old v (pos 0) +ℤ get_or amounts.now v (pos 0) }
 {

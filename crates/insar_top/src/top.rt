@@ -4,7 +4,7 @@ ghost use Rattle.insar_top.specs.Answers.{HasAnswered, HasCutShort, IsDoneStatus
 ghost use Rattle.insar_top.specs.Causes.{HasRefusalCause};
 ghost use Rattle.insar_top.specs.Check.{IsJudged, IsVerdictTold};
 ghost use Rattle.insar_top.specs.CheckWhole.{IsWholeJudged, IsWholeVerdictTold};
-ghost use Rattle.insar_top.specs.Ends.{IsLineAt, IsProgramEnd, IsRequestEnd, end_status, line_of_end};
+ghost use Rattle.insar_top.specs.Ends.{IsLineAt, IsRequestEnd, end_status, line_of_end};
 ghost use Rattle.answer_lines.specs.RefusalLines.{refusal_line};
 ghost use Rattle.answer_lines.specs.Refusals.{status_of};
 ghost use Rattle.insar_top.specs.Run.{IsUnread, run_of};
@@ -154,7 +154,10 @@ pub fn insar<R: Threads + Wait + Sync, S: Source, K: Sink, D: Sink, G: Gate>(
     ensures untouched { 2 ≤ result → result ≤ 5 → K.held sink.new ≡ K.held sink.old }
     ensures told { (HasRisen (D.faults diag.old) (D.faults diag.new) → ⊥) → (line : List ℕ) × (IsLineAt result line × (D.held diag.new ≡ with_end (D.held diag.old) line)) }
 {
-    let ended = run(rt, alloc, words, source, sink, gate);
+    let ended = match read_words(alloc, words) {
+        Ok(request) => do_request(rt, alloc, request, source, sink, gate),
+        Err(fault) => Err(Refusal::from(fault)),
+    };
     status_told(diag, ended)
 }
 
@@ -166,24 +169,7 @@ pub fn starved<D: Sink>(diag: &mut D) -> u8
     status_told(diag, Err(Refusal::Memory))
 }
 
-/// Reads the words and does what they ask for. The status is 1 if what is checked is not accepted, and otherwise 0.
-fn run<R: Threads + Wait + Sync, S: Source, K: Sink, G: Gate>(
-    rt: &R,
-    alloc: Global,
-    words: &[&str],
-    source: &mut S,
-    sink: &mut K,
-    gate: &G,
-) -> Result<u8, Refusal>
-    ensures { IsProgramEnd words.now (run_of S.left S.faults source.old source.new K.held K.faults sink.old sink.new) result }
-{
-    match read_words(alloc, words) {
-        Ok(request) => do_request(rt, alloc, request, source, sink, gate),
-        Err(fault) => Err(Refusal::from(fault)),
-    }
-}
-
-/// Does what is asked for.
+/// Does what is asked for. The status is 1 if what is checked is not accepted, and otherwise 0.
 fn do_request<R: Threads + Wait + Sync, S: Source, K: Sink, G: Gate>(
     rt: &R,
     alloc: Global,

@@ -13,13 +13,19 @@ use Rattle.certificates.specs.Results.{IsGoodTile}
 use Rattle.certificates.specs.SeamVerdicts.{IsGoodAtSeams}
 use Rattle.certificates.specs.TileSets.{TileSetView, solved_cycles}
 use Rattle.seam_regions.specs.Offsets.{IsNear}
-use Rattle.seam_regions.specs.Regions.{shifted_by}
+use Rattle.seam_regions.specs.Regions.{AreRegionsOf, shifted_by}
 use Rattle.seam_regions.specs.RegionsView.{RegionsView}
 
 -- the set has a good result for each tile of the scene
 pub record IsGoodTileSet (scene : Scene) (mask : Field Bool) (tiles : TileSetView) : Type 0 where
   pub tiling : tiles.tiling ≡ scene.tiling
   pub each : (t : ℕ) (k : TileResult) → t < tiles_of scene.tiling → slice_get tiles.results t ≡ Some k → IsGoodTile scene mask k
+
+-- what offsets are found of: a mask of the scene's size, the regions of both, and a good result for each tile
+pub record AreSolvedTiles (scene : Scene) (mask : MaskView) (regions : RegionsView) (tiles : TileSetView) : Type 0 where
+  pub same_size : (mask.width ≡ scene.phase.width) × (mask.height ≡ scene.phase.height)
+  pub labelled : AreRegionsOf scene.tiling mask regions
+  pub solved : IsGoodTileSet scene (open_at mask) tiles
 
 -- a good result: it has one offset from -2^46 to 2^46 for each region, and the surface with the offsets meets the anchor and is certified at the seams
 pub record IsGoodSeams (scene : Scene) (mask : MaskView) (regions : RegionsView) (tiles : TileSetView) (k : SeamResult) : Type 0 where

@@ -3,11 +3,10 @@ ghost use Rattle.certificates.specs.TileSets.{solved_cycles};
 ghost use Rattle.offset_network.specs.Links.{AreLinks};
 ghost use Rattle.offset_network.specs.Seams.{AreSeamLinks};
 ghost use Rattle.offset_network.specs.Starts.{AreStartOffsets};
-ghost use Rattle.offset_network.specs.Surfaces.{AreOffsetsAt, IsGoodTileSet};
+ghost use Rattle.offset_network.specs.Surfaces.{AreOffsetsAt, AreSolvedTiles};
 ghost use Rattle.raster_model.specs.Scene.{raster_of};
 ghost use Rattle.raster_model.specs.Masks.{open_at};
 ghost use Rattle.seam_regions.specs.Regions.{AreRegionsOf, region_label, shifted_by};
-ghost use Rattle.std.specs.Prelude.{◌≡◌};
 
 use crate::answer::{anchor, flows, lowered, sums_of_three};
 use crate::guessing::{Hint, Judged, guess_or_solver, judge};
@@ -37,9 +36,7 @@ pub fn solve_offsets(
     tiles: &TileSet,
     revision: u32,
 ) -> Result<SeamResult, AllocError>
-    requires same_size { (mask.now.width ≡ scene.now.phase.width) × (mask.now.height ≡ scene.now.phase.height) }
-    requires regions { AreRegionsOf scene.now.tiling mask.now regions.now }
-    requires tiles { IsGoodTileSet scene.now (open_at mask.now) tiles.now }
+    requires { AreSolvedTiles scene.now mask.now regions.now tiles.now }
     ensures { AreOffsetsAt scene.now mask.now regions.now tiles.now revision result }
 {
     solve_offsets_from(alloc, scene, mask, regions, tiles, revision, Hint::Nothing)
@@ -59,9 +56,7 @@ pub fn solve_offsets_from(
     revision: u32,
     hint: Hint<'_>,
 ) -> Result<SeamResult, AllocError>
-    requires same_size { (mask.now.width ≡ scene.now.phase.width) × (mask.now.height ≡ scene.now.phase.height) }
-    requires regions { AreRegionsOf scene.now.tiling mask.now regions.now }
-    requires tiles { IsGoodTileSet scene.now (open_at mask.now) tiles.now }
+    requires { AreSolvedTiles scene.now mask.now regions.now tiles.now }
     ensures { AreOffsetsAt scene.now mask.now regions.now tiles.now revision result }
 {
     let places = TilePlaces::of(alloc, &scene.tiling)?;
@@ -88,9 +83,7 @@ pub fn solve_offsets_side_by_side<R: Threads + Sync>(
     revision: u32,
     hint: Hint<'_>,
 ) -> Result<SeamResult, AllocError>
-    requires same_size { (mask.now.width ≡ scene.now.phase.width) × (mask.now.height ≡ scene.now.phase.height) }
-    requires regions { AreRegionsOf scene.now.tiling mask.now regions.now }
-    requires tiles { IsGoodTileSet scene.now (open_at mask.now) tiles.now }
+    requires { AreSolvedTiles scene.now mask.now regions.now tiles.now }
     ensures { AreOffsetsAt scene.now mask.now regions.now tiles.now revision result }
 {
     let places = TilePlaces::of(alloc, &scene.tiling)?;

@@ -2,9 +2,9 @@
 use Rattle.std.specs.Prelude.{ℕ, List, Result}
 use Rattle.insar_ports.specs.Calls.{Call}
 use Rattle.text_lines.specs.declared.fault.LineFault.{LineFault}
-use Rattle.text_parts.specs.Reading.{BreaksTextAt, BrokenTextLineIsOne, EndsTextIn, HasBrokenTextLine, HasTextCause, IsTextRead, IsTextReader, IsTextRefusedAt}
+use Rattle.text_parts.specs.Reading.{BreaksTextAt, BrokenTextLineIsOne, EndsTextIn, HasBrokenTextLine, HasTextCause, IsTextRead, IsTextRefusedAt}
 use Rattle.report_text.specs.declared.contents.Report.{Report}
-use Rattle.report_text.specs.Contents.{IsReport, IsReportText, report_told}
+use Rattle.report_text.specs.Contents.{IsReportText, report_told}
 use Rattle.report_text.specs.Text.{report_text}
 
 -- the bytes that were taken end with line n, the first with which no report begins; they end in line n, and are no report
@@ -18,10 +18,6 @@ EndsReportIn n text = EndsTextIn IsReportText n text
 -- cut or missing; or the limit cuts a line. Otherwise a fault of the source was counted, or memory ran out.
 abbrev pub HasReportCause : Call → LineFault → Type 0
 HasReportCause call fault = HasTextCause IsReportText call fault
-
--- What was taken is the text of the report that was read, and nothing is left; or there is a cause.
-abbrev pub IsReader : Call → Result Report LineFault → Type 0
-IsReader call result = IsTextReader report_told IsReport report_text call result
 
 -- of bytes of which so many are let out, line n is the first that breaks the form
 abbrev pub HasBrokenReportLine : ℕ → ℕ → List ℕ → Type 0

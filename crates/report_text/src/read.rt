@@ -6,13 +6,13 @@ ghost use Rattle.report_text.specs.Fitting.{ItemsFit, MayFit, SurfaceFits};
 ghost use Rattle.report_text.specs.Parsing.{AreCosts};
 ghost use Rattle.text_parts.specs.Parts.{IsListParsedAs, list_in};
 ghost use Rattle.report_text.specs.Parts.{AreFacesBelow, AreFacesOf, AreItems, HasAfterCause, IsReportFront, MayStand, front_in, front_text, items_in, items_text, lists_in};
-ghost use Rattle.report_text.specs.Reading.{HasBrokenReportLine, HasReportCause, IsReader, IsReportRead, IsReportRefusedAt};
+ghost use Rattle.report_text.specs.Reading.{HasBrokenReportLine, HasReportCause, IsReportRead, IsReportRefusedAt};
 ghost use Rattle.text_parts.specs.Steps.{Advances, ReadsPart, Took, between, itself, place_of};
 ghost use Rattle.report_text.specs.Terms.{AreTermsIn, IsVersion};
 ghost use Rattle.text_parts.specs.Terms.{terms_of};
 ghost use Rattle.report_text.specs.Text.{after_text, all_faces_text, costs_line, faces_line, flows_line, history_line, report_text, surface_block_text, terms_text, tile_line, version_line};
 ghost use Rattle.text_parts.specs.Text.{ended_line};
-ghost use Rattle.std.specs.Prelude.{◌≡◌, ◌≤◌, ◌<◌, [], ℕ, IfErr, IfOk, IfSome, OnOk, length, vec_len};
+ghost use Rattle.std.specs.Prelude.{◌≡◌, ◌≤◌, ◌<◌, [], ℕ, IfErr, IfOk, IfSome, OnOk, length, refl, vec_len};
 ghost use Rattle.text_lines.specs.LineWords.{lines_read};
 ghost use Rattle.text_lines.specs.Numbers.{AreLongs};
 ghost use Rattle.text_lines.specs.Reading.{room_of};
@@ -28,8 +28,8 @@ use raster_model::{Terms, Tiling};
 use std::alloc::{AllocError, Global};
 use text_lines::{LineFault, Lines};
 use text_parts::{
-    LONGEST_LINE, expect_end, numbers_after, parsed, read_grid_part, read_line, read_ramp,
-    read_rule, read_size, read_steepness,
+    LONGEST_LINE, LinedText, numbers_after, parsed, read_grid_part, read_line, read_ramp,
+    read_rule, read_size, read_steepness, read_to_end,
 };
 use tile_board::Entry;
 
@@ -250,19 +250,22 @@ fn read_lines<S: Source>(
     })
 }
 
-/// Reads a report and the end of the input.
-fn read_to_end<S: Source>(
-    alloc: Global,
-    feed: &mut Feed<S>,
-    lines: &mut Lines,
-) -> Result<Report, LineFault>
-    requires { lines_read lines.old ≡ 0 }
-    ensures advances { Advances (place_of S.left S.faults feed.old lines.old) (place_of S.left S.faults feed.new lines.new) }
-    ensures reads { IsReader (call_of S.left S.faults feed.old feed.new) result }
-{
-    let report = read_lines(alloc, feed, lines)?;
-    expect_end(feed, lines)?;
-    Ok(report)
+impl LinedText for Report {
+    ghost form = { IsReportText };
+
+    ghost text = { λ report. report_text (report_told report) };
+
+    ghost in_range = { λ report. IsReport (report_told report) };
+
+    ghost formed = { λ report is. (report_told report, (is, refl)) };
+
+    fn read_lines<S: Source>(
+        alloc: Global,
+        feed: &mut Feed<S>,
+        lines: &mut Lines,
+    ) -> Result<Report, LineFault> {
+        read_lines(alloc, feed, lines)
+    }
 }
 
 /// Reads a report to the end of the input, in the one spelling in which it is written. Lines are numbered from 1. After a
@@ -282,6 +285,5 @@ pub fn read_report<S: Source>(alloc: Global, feed: &mut Feed<S>) -> Result<Repor
     // A first broken line is told.
     ensures exact { IfSome (left_of S.left feed.old) (λ bytes. (n : ℕ) → HasBrokenReportLine (room_of (call_of S.left S.faults feed.old feed.new)) n bytes → IsReportRefusedAt (call_of S.left S.faults feed.old feed.new) n result) }
 {
-    let mut lines = Lines::new(alloc);
-    read_to_end(alloc, feed, &mut lines)
+    read_to_end(alloc, feed)
 }

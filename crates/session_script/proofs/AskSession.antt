@@ -7,7 +7,7 @@ use Rattle.pgm_planes.specs.declared.fault.InputFault.TheVariants as faults
 use Rattle.pgm_planes.specs.Reading.{goes_beyond}
 use Rattle.session_script.specs.declared.session_use.SessionUse.{SessionUse}
 use Rattle.session_script.specs.declared.session_use.SessionUse.TheVariants.{Alone, BeforeReport}
-use Rattle.session_script.specs.Parsing.{Parse, parsed, ThreePlanes, planes_parser, script_parser, session_parser, IsOutcome}
+use Rattle.session_script.specs.Parsing.{Parse, parsed, ThreePlanes, planes_parser, script_parser, session_parser, IsOutcome, Parses}
 use Rattle.session_script.specs.Sections.{Sections, sections_of, frame_of}
 use Rattle.session_script.specs.Sessions.{SessionOf, frame_in, IsSessionIn, SessionAsks, AreTooMany, HasFault, session_of, mask_open_in}
 use Rattle.session_script.proofs.ParseLemmas.{done, broken, wants, fault_is, not_both, further, Regular, parsed_regular, chain_regular, found, broke, asked}
@@ -16,7 +16,7 @@ use Rattle.session_script.proofs.ScriptAgain.{alone_ends, script_regular, report
 use Rattle.sums_and_lists.proofs.Lists.{no_length}
 use Rattle.session_script.proofs.SessionAgain.{Value, behind_planes, value_of, told_by, is_session, session_means, one_break, no_break_of_session, Stands, one_session}
 use Rattle.std.specs.Global.{Vec}
-use Rattle.std.specs.Prelude.{IfSome, IfOk, IfErr, IsErrAnd, slice_get}
+use Rattle.std.specs.Prelude.{IfOk, IfErr, IsErrAnd, slice_get}
 use Rattle.std.proofs.lemmas.Result.{err_from_is_err_and}
 use Rattle.std.specs.List.{AllByRecursion}
 use Rattle.std.proofs.Math.Seq.{drop-append-add}
@@ -36,8 +36,7 @@ use Rattle.pgm_planes.specs.Planes.{PlaneOf, plane_of}
 use Rattle.pgm_planes.proofs.CallLemmas.{told_on}
 use Rattle.session_script.specs.declared.fault.SessionFault.{SessionFault}
 use Rattle.session_script.specs.declared.fault.SessionFault.TheVariants.{Input, ReadFault, Memory}
-use Rattle.session_script.specs.Causes.{HasSessionCause, IsReadAsSession, IsRefusedFor, IsAtLimit}
-use Rattle.session_script.specs.Making.{IsMadeOf, IsParsedSession}
+use Rattle.session_script.specs.Making.{as_read, IsMadeOf, IsParsedSession}
 use Rattle.session_script.specs.Outcomes.{IsSessionOutcome}
 use Rattle.session_script.specs.Building.{parts_read}
 use Rattle.edge_weights.specs.declared.parts.SessionParts.{SessionParts}
@@ -191,7 +190,7 @@ made_together parts settings m s all i = record {
   scripts_are = ap (λ (v : Vec Script). sections_of v.items) all.scripts;
 }
 
-pub makes_session : (usage : SessionUse) (side : ℕ) (c : Call) (x : SessionParts) (r : Result Session SessionFault) → IfOk r (λ s. IsMadeOf (parts_read x) (session_of s)) → IfErr r (λ fault. fault ≡ Memory) → IsOutcome parts_read (Ok x) c (session_parser usage side) → IsParsedSession usage side c r
+makes_session : (usage : SessionUse) (side : ℕ) (c : Call) (x : ThreePlanes × Sections) (r : Result Session SessionFault) → IfOk r (λ s. IsMadeOf x (session_of s)) → IfErr r (λ fault. fault ≡ Memory) → IsOutcome as_read (Ok x) c (session_parser usage side) → IsParsedSession usage side c r
 makes_session usage side c x (Ok s) made starved h = (x, made, h)
 makes_session usage side c x (Err e) made starved h = rw starved tt
 
@@ -219,13 +218,13 @@ module _ (usage : SessionUse) (side : ℕ) (c : Call) (m : Moves c) (start : c.a
   reads_session session (x, made, outcome) = if_told c.told _ (λ bytes t.
       let l = told_on m.front c.told c.left bytes m.parts t in
       let parts : bytes ≡ m.front ++ l.0 = some_is bytes (m.front ++ l.0) (sym t ∙ m.parts ∙ ap (with_front m.front) l.1) in
-      let all = value_seen usage side bytes (parts_read x) c.end (take (c.limit - c.end) l.0) (sym (at_start bytes) ∙ outcome bytes l.0 t l.1) in
-      let s = found (session_means usage side) 0 bytes (parts_read x) c.end l.0 (all ∙ ap (done (parts_read x) c.end) (all_left bytes l.0 parts)) in
+      let all = value_seen usage side bytes x c.end (take (c.limit - c.end) l.0) (sym (at_start bytes) ∙ outcome bytes l.0 t l.1) in
+      let s = found (session_means usage side) 0 bytes x c.end l.0 (all ∙ ap (done x c.end) (all_left bytes l.0 parts)) in
       let size : length bytes ≡ length m.front + length l.0 = omega (arith, ap length parts, length-append m.front l.0) in
-      (l.0, (l.1, (omega (arith, size, m.place), made_by usage side bytes (parts_read x) l.0 (session_of session) s.1 made (omega (arith, size, m.place, start, limit, within))))))
+      (l.0, (l.1, (omega (arith, size, m.place), made_by usage side bytes x l.0 (session_of session) s.1 made (omega (arith, size, m.place, start, limit, within))))))
 
   -- all that the reader of a session promises
-  pub keeps : (r : Result Session SessionFault) → IsParsedSession usage side c r → IsSessionOutcome usage side c r
+  keeps : (r : Result Session SessionFault) → IsParsedSession usage side c r → IsSessionOutcome usage side c r
   keeps (Ok session) h =
       let read = reads_session session h in
       record {
@@ -253,5 +252,9 @@ module _ (usage : SessionUse) (side : ℕ) (c : Call) (m : Moves c) (start : c.a
   keeps (Err Memory) h = record { moves = m; read = tt; accepted = if_told c.told _ (λ _ _ _ _ _. tt); refused = tt; too_long = λ e. absurd cc; exact = if_told c.told _ (λ _ _ _ _. tt) }
 
 -- the parts were not read
-pub unread : (usage : SessionUse) (side : ℕ) (c : Call) → Moves c → c.at ≡ 0 → c.limit ≡ 268435456 → c.end ≤ c.limit → (fault : SessionFault) (r : Result Session SessionFault) → IsErrAnd r (λ g. g ≡ fault) → (let q : Result SessionParts SessionFault = Err fault in IsOutcome parts_read q c (session_parser usage side)) → IsSessionOutcome usage side c r
-unread usage side c m start limit within fault r is h = (let p = err_from_is_err_and r is in rw (p.1, p.2) (keeps usage side c m start limit within (Err fault) h))
+pub unread : (usage : SessionUse) (side : ℕ) (c : Call) → c.at ≡ 0 → c.limit ≡ 268435456 → c.end ≤ c.limit → (fault : SessionFault) (r : Result Session SessionFault) → IsErrAnd r (λ g. g ≡ fault) → (let q : Result (ThreePlanes × Sections) SessionFault = Err fault in Parses as_read q c (session_parser usage side)) → IsSessionOutcome usage side c r
+unread usage side c start limit within fault r is h = (let p = err_from_is_err_and r is in rw (p.1, p.2) (keeps usage side c h.moves start limit within (Err fault) h.outcome))
+
+-- the parts were read, and a session is made of them where memory suffices
+pub made_of_parts : (usage : SessionUse) (side : ℕ) (c : Call) → c.at ≡ 0 → c.limit ≡ 268435456 → c.end ≤ c.limit → (x : ThreePlanes × Sections) (r : Result Session SessionFault) → IfOk r (λ s. IsMadeOf x (session_of s)) → IfErr r (λ fault. fault ≡ Memory) → (let q : Result (ThreePlanes × Sections) SessionFault = Ok x in Parses as_read q c (session_parser usage side)) → IsSessionOutcome usage side c r
+made_of_parts usage side c start limit within x r made starved h = keeps usage side c h.moves start limit within r (makes_session usage side c x r made starved h.outcome)

@@ -1,6 +1,6 @@
 -- How calls on a feed that come one after another have the outcome of one parser.
 use Rattle.std.proofs.Common.{◌≡◌, ◌≢◌, ℕ, ◌+◌, ◌-◌, ◌≤◌, ◌<◌, suc, inl, inr, nat_lt, Bool, true, false, List, [], ◌∷◌, ◌++◌, length, take, drop, append_assoc, Option, Some, None, Result, Ok, Err, refl, sym, ap, ◌∙◌, arith}
-use Rattle.std.specs.Prelude.{IfSome, IfOk, IfErr, IsErrAnd, All}
+use Rattle.std.specs.Prelude.{IfSome, IfOk, IfErr, IsErrAnd, All, MatchResult}
 use Rattle.std.proofs.lemmas.Result.{err_from_is_err_and}
 use Rattle.std.proofs.Math.Seq.{take-append-add, take-nil}
 use Rattle.std.proofs.lemmas.Bool.{le-ltb, lt-ltb}
@@ -21,14 +21,16 @@ use Rattle.pgm_planes.specs.declared.fault.ReadPlaneFault.{ReadPlaneFault}
 use Rattle.pgm_planes.specs.declared.fault.ReadPlaneFault.TheVariants as errors
 use Rattle.pgm_planes.specs.declared.fault.Role.{Role}
 use Rattle.pgm_planes.specs.declared.fault.Role.TheVariants.{Phase}
-use Rattle.pgm_planes.specs.Reading.{Reader, Reads, Told, goes_beyond, sight_at}
+use Rattle.pgm_planes.specs.Planes.{plane_of}
+use Rattle.pgm_planes.specs.Reading.{Reader, Reads, Told, goes_beyond, plane_at, sight_at}
+use Rattle.raster_model.specs.declared.plane.Plane.{Plane}
 use Rattle.pgm_planes.proofs.CallLemmas.{Told-then, takes_a_sight, byte_fails, sight_asks}
 use Rattle.session_script.specs.declared.fault.SessionFault.{SessionFault}
 use Rattle.session_script.specs.declared.fault.SessionFault.TheVariants.{Input, ReadFault, Memory}
 use Rattle.session_script.specs.declared.word.Word.{Word}
 use Rattle.session_script.specs.Faults.{session_fault_of_feed, fault_of_plane}
 use Rattle.session_script.specs.Sections.{Sections, Frame, AreWithinLimits, line_count, word_broken, with_word}
-use Rattle.session_script.specs.Parsing.{Parse, Parser, if_no_more, parsed, and_then, chain, peek_parser, line_parser, as_parse, Parses}
+use Rattle.session_script.specs.Parsing.{Parse, Parser, if_no_more, parsed, and_then, chain, peek_parser, line_parser, plane_parser, as_parse, Parses}
 use Rattle.session_script.proofs.SectionsAgain.{line_begins, line_refused, line_missing, after, lines_after, by_line, goes_on}
 use Rattle.session_script.specs.Building.{FitsIn, IsSpelledLine}
 use Rattle.session_script.proofs.ParseLemmas.{done, broken, refusing}
@@ -114,14 +116,19 @@ goes_to c p f ss w next may g = record { moves = g.moves; same = λ bytes rest t
 -- ---- a plane, and a look at the next byte
 
 module _ {X A : Type 0} {view : X → A} (role : Role) (c : Call) (p : Parser A) (q : Reader A) (e : (more : Bool) (at : ℕ) (bytes : List ℕ) → p more at bytes ≡ as_parse role (q more at bytes)) where
-  pub lifts : (x : X) → Reads view (Ok x) c q → Parses view (Ok x) c p
+  lifts : (x : X) → Reads view (Ok x) c q → Parses view (Ok x) c p
   lifts x h = record { moves = h.moves; outcome = λ bytes rest t u. e _ _ _ ∙ ap (as_parse role) (h.answers bytes rest t u) }
 
-  pub lifts_fault : (fault : ReadPlaneFault) → (let r : Result X ReadPlaneFault = Err fault in Reads view r c q) → (let r : Result X SessionFault = Err (fault_of_plane role fault) in Parses view r c p)
+  lifts_fault : (fault : ReadPlaneFault) → (let r : Result X ReadPlaneFault = Err fault in Reads view r c q) → (let r : Result X SessionFault = Err (fault_of_plane role fault) in Parses view r c p)
   lifts_fault (errors.Plane fault) h = record { moves = h.moves; outcome = (λ bytes rest t u. e _ _ _ ∙ ap (as_parse role) (h.answers bytes rest t u), λ n. absurd (let k : faults.Plane role fault ≡ faults.TooLong = n in cc)) }
   lifts_fault errors.TooLong h = record { moves = h.moves; outcome = (λ bytes rest t u. e _ _ _ ∙ ap (as_parse role) (h.answers.1 bytes rest t u), λ n. h.answers.0) }
   lifts_fault errors.ReadFault h = record { moves = h.moves; outcome = h.answers }
   lifts_fault errors.Memory h = record { moves = h.moves; outcome = tt }
+
+-- a plane, whose fault was told as the session's
+pub of_plane : (role : Role) (c : Call) (r : Result Plane ReadPlaneFault) (s : Result Plane SessionFault) → Reads plane_of r c (plane_at role) → MatchResult r (λ x. s ≡ Ok x) (λ e. s ≡ Err (fault_of_plane role e)) → Parses plane_of s c (plane_parser role)
+of_plane role c (Ok x) s h is = rw is (lifts role c (plane_parser role) (plane_at role) (λ more at bytes. refl) x h)
+of_plane role c (Err e) s h is = rw is (lifts_fault role c (plane_parser role) (plane_at role) (λ more at bytes. refl) e h)
 
 peek_is : (more : Bool) (at : ℕ) (bytes : List ℕ) → peek_parser more at bytes ≡ as_parse Phase (sight_at more at bytes)
 unfolding sight_at

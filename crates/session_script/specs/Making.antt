@@ -1,12 +1,10 @@
 -- A session made of planes and scripts: words of helpers, which no clause of a public function cites.
 use Rattle.std.specs.Prelude.{◌≡◌, ℕ, Result, Ok, Err}
-use Rattle.edge_weights.specs.declared.parts.SessionParts.{SessionParts}
 use Rattle.insar_ports.specs.Calls.{Call}
 use Rattle.raster_model.specs.declared.session.Session.{Session}
 use Rattle.raster_model.specs.Masks.{IsMaskOf}
 use Rattle.session_script.specs.declared.fault.SessionFault.{SessionFault}
 use Rattle.session_script.specs.declared.session_use.SessionUse.{SessionUse}
-use Rattle.session_script.specs.Building.{parts_read}
 use Rattle.session_script.specs.Parsing.{ThreePlanes, IsOutcome, session_parser}
 use Rattle.session_script.specs.Sections.{Sections}
 use Rattle.session_script.specs.Sessions.{SessionOf, session_of, mask_open_in}
@@ -18,7 +16,10 @@ pub record IsMadeOf (read : ThreePlanes × Sections) (session : SessionOf) : Typ
   pub mask_is : IsMaskOf session.mask read.0.phase.width read.0.phase.height (mask_open_in read.0.mask)
   pub scripts_are : session.scripts ≡ read.1
 
+abbrev pub as_read : ThreePlanes × Sections → ThreePlanes × Sections
+as_read read = read
+
 -- a session is made of what the parser gives, or the call's outcome is its fault
 abbrev pub IsParsedSession : SessionUse → ℕ → Call → Result Session SessionFault → Type 0
-IsParsedSession usage side call (Ok session) = (parts : SessionParts) × IsMadeOf (parts_read parts) (session_of session) × IsOutcome parts_read (Ok parts) call (session_parser usage side)
-IsParsedSession usage side call (Err fault) = IsOutcome parts_read (Err fault) call (session_parser usage side)
+IsParsedSession usage side call (Ok session) = (read : ThreePlanes × Sections) × IsMadeOf read (session_of session) × IsOutcome as_read (Ok read) call (session_parser usage side)
+IsParsedSession usage side call (Err fault) = IsOutcome as_read (Err fault) call (session_parser usage side)

@@ -1,9 +1,10 @@
 ghost use Rattle.session_script.specs.Faults.{session_fault_of_feed, fault_of_plane};
 ghost use Rattle.session_script.specs.declared.fault.SessionFault.TheVariants as session_faults;
-ghost use Rattle.std.specs.Prelude.{◌≡◌};
+ghost use Rattle.std.specs.Prelude.{◌≡◌, Err, MatchResult, Ok};
 
 use insar_ports::FeedFault;
 use pgm_planes::{InputFault, ReadPlaneFault, Role};
+use raster_model::Plane;
 use std::alloc::{AllocError, AllocFailed};
 
 /// Why no session was read.
@@ -44,8 +45,15 @@ impl<T: Drop> From<AllocFailed<T>> for SessionFault {
     }
 }
 
+/// What reading a plane gave, as of a session.
+pub fn in_session(role: Role, read: Result<Plane, ReadPlaneFault>) -> Result<Plane, SessionFault>
+    ensures { MatchResult read (λ plane. result ≡ Ok plane) (λ fault. result ≡ Err (fault_of_plane role fault)) }
+{
+    read.map_err(|fault| plane_fault(role, fault))
+}
+
 /// The fault of a session whose plane was not read.
-pub fn plane_fault(role: Role, fault: ReadPlaneFault) -> SessionFault
+fn plane_fault(role: Role, fault: ReadPlaneFault) -> SessionFault
     ensures { result ≡ fault_of_plane role fault }
 {
     match fault {

@@ -5,6 +5,7 @@
 mod fault;
 pub mod laws;
 mod line;
+mod maker;
 mod parts;
 mod planes;
 mod script;

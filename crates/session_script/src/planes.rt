@@ -1,13 +1,13 @@
 ghost use Rattle.insar_ports.specs.Calls.{call_of};
 ghost use Rattle.insar_ports.specs.Feeding.{handed_of, limit_of, source_name};
-ghost use Rattle.pgm_planes.specs.Planes.{HasMaxval, plane_of};
+ghost use Rattle.pgm_planes.specs.Planes.{plane_of};
 ghost use Rattle.session_script.specs.Building.{planes_in};
-ghost use Rattle.session_script.specs.Parsing.{Parses, is_begun, later_parser, peek_parser, plane_parser, planes_parser};
+ghost use Rattle.session_script.specs.Parsing.{Parses, is_begun, later_parser, peek_parser, planes_parser};
 ghost use Rattle.session_script.specs.Sessions.{HasPlaneSize, ones_of};
 ghost use Rattle.session_script.specs.declared.fault.SessionFault.TheVariants as session_faults;
 ghost use Rattle.std.specs.Prelude.{◌≡◌, IfErr, IfOk};
 
-use crate::fault::{SessionFault, plane_fault};
+use crate::fault::{SessionFault, in_session};
 use crate::parts::Planes;
 use insar_ports::{Feed, Source};
 use pgm_planes::{InputFault, Role, read_plane};
@@ -20,7 +20,7 @@ pub fn read_planes<S: Source>(alloc: Global, feed: &mut Feed<S>) -> Result<Plane
     ensures limit { limit_of feed.new ≡ limit_of feed.old }
     ensures parses { Parses planes_in result (call_of S.left S.faults feed.old feed.new) planes_parser }
 {
-    let phase = read(alloc, feed, Role::Phase)?;
+    let phase = in_session(Role::Phase, read_plane(alloc, feed, Role::Phase))?;
     let weights = read_later(alloc, feed, Role::Weight, &phase)?;
     let mask = read_later(alloc, feed, Role::Mask, &phase)?;
     Ok(Planes {
@@ -45,7 +45,7 @@ fn read_later<S: Source>(
     if !begins_plane(see_byte(feed)?) {
         return ones(alloc, phase);
     }
-    let plane = read(alloc, feed, role)?;
+    let plane = in_session(role, read_plane(alloc, feed, role))?;
     if plane.width != phase.width || plane.height != phase.height {
         return Err(SessionFault::Input(InputFault::SizesDiffer(role)));
     }
@@ -69,19 +69,6 @@ fn begins_plane(got: Option<u8>) -> bool
     match got {
         Some(byte) => byte == b'P',
         None => false,
-    }
-}
-
-/// Reads a plane.
-fn read<S: Source>(alloc: Global, feed: &mut Feed<S>, role: Role) -> Result<Plane, SessionFault>
-    ensures same_source { source_name feed.new ≡ source_name feed.old }
-    ensures limit { limit_of feed.new ≡ limit_of feed.old }
-    ensures maxval { IfOk result (λ plane. HasMaxval role plane.maxval) }
-    ensures parses { Parses plane_of result (call_of S.left S.faults feed.old feed.new) (plane_parser role) }
-{
-    match read_plane(alloc, feed, role) {
-        Ok(plane) => Ok(plane),
-        Err(fault) => Err(plane_fault(role, fault)),
     }
 }
 

@@ -1,28 +1,25 @@
 ghost use Rattle.edge_weights.specs.Sessions.{HasSettings};
 ghost use Rattle.raster_model.specs.Limits.{IsTileSide, max_session_bytes};
-ghost use Rattle.raster_model.specs.Masks.{IsMaskOf, open_by};
 ghost use Rattle.raster_model.specs.Terms.{ArePlainTerms};
-ghost use Rattle.raster_model.specs.Weights.{AreRuleWeights};
-ghost use Rattle.insar_ports.specs.Feeding.{handed_of, left_of, limit_of, source_name};
+ghost use Rattle.insar_ports.specs.Feeding.{handed_of, limit_of, source_name};
 ghost use Rattle.insar_ports.specs.Calls.{call_of};
 ghost use Rattle.session_script.specs.declared.fault.SessionFault.TheVariants as session_faults;
 ghost use Rattle.session_script.specs.Building.{parts_read};
 ghost use Rattle.session_script.specs.Making.{IsMadeOf};
 ghost use Rattle.session_script.specs.Outcomes.{IsSessionOutcome};
-ghost use Rattle.session_script.specs.Parsing.{Parses, session_parser};
 ghost use Rattle.session_script.specs.Sessions.{session_of};
 ghost use Rattle.std.specs.Prelude.{◌≡◌, IfErr, IfOk};
-ghost use Rattle.std.specs.Thread.{IsSync};
 
 use crate::fault::SessionFault;
+use crate::maker::{Maker, OneThread, SideBySide};
 use crate::planes::read_planes;
 use crate::script::read_scripts;
 use crate::session_use::SessionUse;
-use edge_weights::{SceneSettings, SessionParts, weigh, weigh_side_by_side};
+use edge_weights::{SceneSettings, SessionParts};
 use insar_ports::{Feed, Source};
-use raster_model::{EdgeWeights, Mask, RuleKind, Session, Tiling};
-use std::alloc::{AllocError, Global};
-use std::thread::{Threads, join_mut};
+use raster_model::{RuleKind, Session, Tiling};
+use std::alloc::Global;
+use std::thread::Threads;
 
 /// Reads a session from the start of a source: a phase plane, weights and a mask if they are there, and the analysts'
 /// scripts. The weights of the edges are those of the rule `kind`, tiles have the side `side`, and the terms are the plain
@@ -63,8 +60,7 @@ pub fn read_session_on<S: Source>(
     ensures outcome { IsSessionOutcome use_as settings.side (call_of S.left S.faults feed.old feed.new) result }
     ensures settings { IfOk result (λ session. HasSettings settings session.scene) }
 {
-    let parts = read_parts(alloc, feed, use_as, settings.side)?;
-    made_of(alloc, settings, parts)
+    read_by(&OneThread, alloc, feed, use_as, settings)
 }
 
 /// The same. If `threads` is 2 or more, two more threads weigh the edges while the caller's makes the mask.
@@ -83,92 +79,56 @@ pub fn read_session_side_by_side<R: Threads + Sync, S: Source>(
     ensures outcome { IsSessionOutcome use_as settings.side (call_of S.left S.faults feed.old feed.new) result }
     ensures settings { IfOk result (λ session. HasSettings settings session.scene) }
 {
-    let parts = read_parts(alloc, feed, use_as, settings.side)?;
     if threads < 2 {
-        return made_of(alloc, settings, parts);
+        return read_session_on(alloc, feed, use_as, settings);
     }
-    made_side_by_side(rt, alloc, settings, parts)
+    read_by(&SideBySide { rt }, alloc, feed, use_as, settings)
 }
 
-/// Reads the planes, and then the scripts.
-fn read_parts<S: Source>(
+/// Reads the planes and then the scripts, of which a maker makes a scene.
+fn read_by<M: Maker, S: Source>(
+    maker: &M,
     alloc: Global,
     feed: &mut Feed<S>,
     use_as: SessionUse,
-    side: u32,
-) -> Result<SessionParts, SessionFault>
+    settings: SceneSettings,
+) -> Result<Session, SessionFault>
+    requires ready { M.ready maker.now }
+    requires start { handed_of feed.old ≡ 0 }
     requires limit { limit_of feed.old ≡ max_session_bytes }
-    requires sides { IsTileSide side }
     ensures same_source { source_name feed.new ≡ source_name feed.old }
-    ensures limit { limit_of feed.new ≡ limit_of feed.old }
-    ensures side { IfOk result (λ parts. parts.tiling.side ≡ side) }
-    ensures parses { Parses parts_read result (call_of S.left S.faults feed.old feed.new) (session_parser use_as side) }
+    ensures same_limit { limit_of feed.new ≡ limit_of feed.old }
+    ensures outcome { IsSessionOutcome use_as settings.side (call_of S.left S.faults feed.old feed.new) result }
+    ensures settings { IfOk result (λ session. HasSettings settings session.scene) }
 {
     let planes = read_planes(alloc, feed)?;
-    let tiling = Tiling::new(planes.phase.width, planes.phase.height, side);
+    let tiling = Tiling::new(planes.phase.width, planes.phase.height, settings.side);
     let scripts = read_scripts(alloc, feed, use_as, &tiling)?;
-    Ok(SessionParts {
+    let parts = SessionParts {
         phase: planes.phase,
         weights: planes.weights,
         mask: planes.mask,
         tiling,
         scripts,
-    })
+    };
+    made_of(maker, alloc, settings, parts)
 }
 
 /// The session of its parts.
-fn made_of(
+fn made_of<M: Maker>(
+    maker: &M,
     alloc: Global,
     settings: SceneSettings,
     parts: SessionParts,
 ) -> Result<Session, SessionFault>
-    requires { parts.tiling.side ≡ settings.side }
+    requires ready { M.ready maker.now }
+    requires side { parts.tiling.side ≡ settings.side }
     ensures made { IfOk result (λ session. IsMadeOf (parts_read parts) (session_of session)) }
     ensures settings { IfOk result (λ session. HasSettings settings session.scene) }
     ensures starved { IfErr result (λ fault. fault ≡ session_faults.Memory) }
 {
-    let edges = weigh(alloc, settings.rule, &parts.weights)?;
-    let first_mask = Mask::of_plane(alloc, &parts.mask)?;
-    Ok(parts.put_together(settings, edges, first_mask))
-}
-
-/// The same, where two more threads weigh the edges while the caller's makes the mask.
-fn made_side_by_side<R: Threads + Sync>(
-    rt: &R,
-    alloc: Global,
-    settings: SceneSettings,
-    parts: SessionParts,
-) -> Result<Session, SessionFault>
-    requires { parts.tiling.side ≡ settings.side }
-    ensures made { IfOk result (λ session. IsMadeOf (parts_read parts) (session_of session)) }
-    ensures settings { IfOk result (λ session. HasSettings settings session.scene) }
-    ensures starved { IfErr result (λ fault. fault ≡ session_faults.Memory) }
-{
-    let (edges, first_mask) = weighed_beside_mask(rt, alloc, settings.rule, &parts);
+    let (edges, first_mask) = maker.edges_and_mask(alloc, settings.rule, &parts);
     let edges = edges?;
     let first_mask = first_mask?;
     Ok(parts.put_together(settings, edges, first_mask))
-}
-
-/// The weights of the edges by a rule, and the mask of a mask plane.
-fn weighed_beside_mask<R: Threads + Sync>(
-    rt: &R,
-    alloc: Global,
-    kind: RuleKind,
-    parts: &SessionParts,
-) -> (Result<EdgeWeights, AllocError>, Result<Mask, AllocError>)
-    ensures edges { IfOk result.0 (AreRuleWeights kind parts.now.weights) }
-    ensures mask { IfOk result.1 (λ mask. IsMaskOf mask parts.now.mask.width parts.now.mask.height (open_by parts.now.mask)) }
-{
-    let SessionParts { weights, mask, .. } = parts;
-    join_mut(
-        rt,
-        &mut || -> Result<EdgeWeights, AllocError>
-            requires { IsSync R.row }
-            ensures { IfOk result (AreRuleWeights kind weights.entry.now) }
-        { weigh_side_by_side(rt, alloc, kind, weights) },
-        &mut || -> Result<Mask, AllocError>
-            ensures { IfOk result (λ made. IsMaskOf made mask.entry.now.width mask.entry.now.height (open_by mask.entry.now)) }
-        { Mask::of_plane(alloc, mask) },
-    )
 }

@@ -5,6 +5,7 @@ use Rattle.raster_model.specs.declared.tiling.Window.{Window}
 use Rattle.raster_model.specs.Sums.{Field}
 use Rattle.raster_model.specs.Raster.{Raster, departure, lifted}
 use Rattle.raster_model.specs.Tiles.{IsWithin, width_of, height_of, place_in}
+use Rattle.surface_integration.specs.declared.limits.TheConstants.{MAX_NARROW_CYCLES}
 use Rattle.wrapped_gradient.specs.declared.corrections.Corrections.{Corrections}
 use Rattle.wrapped_gradient.specs.Corrections.{correction_at, greatest_of}
 use Rattle.wrapped_gradient.specs.Windows.{IsEdgeOf}
@@ -17,9 +18,9 @@ cycles_at window cycles x y = slice_index_or cycles (place_in window x y) (pos 0
 abbrev pub DepartBy : Raster → Window → Field ℤ → Corrections → Type 0
 DepartBy raster window cycles corrections = (edge : Edge) → IsEdgeOf window edge → departure raster (lifted raster cycles) edge ≡ correction_at window corrections edge
 
--- with w and h the sides of the window and b the greatest absolute correction, (w + h) * (b + 1) is at most 2147483647
+-- with w and h the sides of the window and b the greatest absolute correction, (w + h) * (b + 1) is at most what 32 bits keep
 abbrev pub AreSmall : Window → Corrections → Type 0
-AreSmall window corrections = (width_of window + height_of window) * (greatest_of corrections + 1) ≤ 2147483647
+AreSmall window corrections = (width_of window + height_of window) * (greatest_of corrections + 1) ≤ MAX_NARROW_CYCLES
 
 -- no pixel has more absolute cycles than the limit
 abbrev pub LieWithin : Window → Field ℤ → ℕ → Type 0

@@ -5,6 +5,7 @@ ghost use Rattle.surface_integration.specs.Cycles.{AreSmall, DepartBy, LieWithin
 ghost use Rattle.wrapped_gradient.specs.Corrections.{CancelResidues, HasShapeOf, greatest_of};
 ghost use Rattle.wrapped_gradient.specs.Gradients.{AreGradientsOf};
 
+use crate::limits::MAX_NARROW_CYCLES;
 use crate::rows::integrated;
 use raster_model::{MAX_REACHED_CYCLES, Scene};
 use std::alloc::{AllocError, Global};
@@ -43,7 +44,7 @@ pub fn integrate_wide(
     requires gradients { AreGradientsOf scene.now gradients.now }
     requires shape { HasShapeOf gradients.now.window corrections.now }
     requires cancel { CancelResidues (raster_of scene.now) gradients.now.window corrections.now }
-    requires small { greatest_of corrections.now < 2147483647 }
+    requires small { greatest_of corrections.now < MAX_NARROW_CYCLES }
     ensures count { IfOk result (λ cycles. vec_len cycles ≡ width_of gradients.now.window * height_of gradients.now.window) }
     ensures first { IfOk result (λ cycles. cycles_at gradients.now.window cycles.items gradients.now.window.x0 gradients.now.window.y0 ≡ pos 0) }
     ensures departs { IfOk result (λ cycles. DepartBy (raster_of scene.now) gradients.now.window (cycles_at gradients.now.window cycles.items) corrections.now) }

@@ -3,8 +3,10 @@
 #![tactic(auto)]
 
 mod cycles;
+mod limits;
 mod number;
 mod rises;
 mod rows;
 
 pub use crate::cycles::{integrate, integrate_wide};
+pub use crate::limits::MAX_NARROW_CYCLES;

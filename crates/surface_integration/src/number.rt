@@ -1,3 +1,5 @@
+ghost use Rattle.raster_model.specs.declared.limits.TheConstants.{MAX_REACHED_CYCLES};
+ghost use Rattle.surface_integration.specs.declared.limits.TheConstants.{MAX_NARROW_CYCLES};
 ghost use Rattle.std.specs.Prelude.{◌≡◌, ◌≤◌, ℕ, ℤ, unsigned_abs};
 
 /// A number of cycles, in as many bits as are kept of it.
@@ -17,7 +19,7 @@ pub(crate) trait CycleNumber: Copy {
 impl CycleNumber for i32 {
     ghost value = { λ cycles. cycles };
 
-    ghost limit = { 2147483647 };
+    ghost limit = { MAX_NARROW_CYCLES };
 
     fn of(cycles: i64) -> i32 {
         cycles as i32
@@ -27,7 +29,7 @@ impl CycleNumber for i32 {
 impl CycleNumber for i64 {
     ghost value = { λ cycles. cycles };
 
-    ghost limit = { 17592186044416 };
+    ghost limit = { MAX_REACHED_CYCLES };
 
     fn of(cycles: i64) -> i64 {
         cycles

@@ -5,6 +5,7 @@ ghost use Rattle.surface_integration.specs.Rows.{rise_of};
 ghost use Rattle.wrapped_gradient.specs.Corrections.{HasShapeOf, greatest_of};
 ghost use Rattle.wrapped_gradient.specs.Gradients.{AreGradientsOf};
 
+use crate::limits::MAX_NARROW_CYCLES;
 use raster_model::Scene;
 use wrapped_gradient::{Corrections, Gradients};
 
@@ -18,7 +19,7 @@ pub(crate) fn rise_right(
 ) -> i32
     requires gradients { AreGradientsOf scene.now gradients.now }
     requires shape { HasShapeOf gradients.now.window corrections.now }
-    requires small { greatest_of corrections.now < 2147483647 }
+    requires small { greatest_of corrections.now < MAX_NARROW_CYCLES }
     requires across { (gradients.now.window.x0 ≤ x) × (x < gradients.now.window.x1) }
     requires along { (gradients.now.window.y0 ≤ y) × (y ≤ gradients.now.window.y1) }
     ensures value { result ≡ rise_of (raster_of scene.now) gradients.now.window corrections.now (right_edge x y) }
@@ -42,7 +43,7 @@ pub(crate) fn rise_down(
 ) -> i32
     requires gradients { AreGradientsOf scene.now gradients.now }
     requires shape { HasShapeOf gradients.now.window corrections.now }
-    requires small { greatest_of corrections.now < 2147483647 }
+    requires small { greatest_of corrections.now < MAX_NARROW_CYCLES }
     requires across { (gradients.now.window.x0 ≤ x) × (x ≤ gradients.now.window.x1) }
     requires along { (gradients.now.window.y0 ≤ y) × (y < gradients.now.window.y1) }
     ensures value { result ≡ rise_of (raster_of scene.now) gradients.now.window corrections.now (down_edge x y) }
@@ -58,7 +59,7 @@ pub(crate) fn rise_down(
 /// correction.
 fn rise(from: u16, to: u16, gradient: i32, correction: i32) -> i32
     requires near { unsigned_abs (pos to -ℤ pos from -ℤ gradient) ≤ 131071 }
-    requires small { unsigned_abs correction < 2147483647 }
+    requires small { unsigned_abs correction < MAX_NARROW_CYCLES }
     ensures value { result ≡ correction -ℤ int_div (pos to -ℤ pos from -ℤ gradient) (pos 65536) }
     ensures small { unsigned_abs result ≤ unsigned_abs correction + 1 }
 {

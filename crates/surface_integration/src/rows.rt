@@ -5,6 +5,7 @@ ghost use Rattle.surface_integration.specs.Rows.{AreIntegrated, IsRowAdded};
 ghost use Rattle.wrapped_gradient.specs.Corrections.{CancelResidues, HasShapeOf, greatest_of};
 ghost use Rattle.wrapped_gradient.specs.Gradients.{AreGradientsOf};
 
+use crate::limits::MAX_NARROW_CYCLES;
 use crate::number::CycleNumber;
 use crate::rises::{rise_down, rise_right};
 use raster_model::Scene;
@@ -22,7 +23,7 @@ pub(crate) fn integrated<N: CycleNumber>(
     requires gradients { AreGradientsOf scene.now gradients.now }
     requires shape { HasShapeOf gradients.now.window corrections.now }
     requires cancel { CancelResidues (raster_of scene.now) gradients.now.window corrections.now }
-    requires small { greatest_of corrections.now < 2147483647 }
+    requires small { greatest_of corrections.now < MAX_NARROW_CYCLES }
     requires room { (width_of gradients.now.window + height_of gradients.now.window) * (greatest_of corrections.now + 1) ≤ N.limit }
     ensures { IfOk result (λ cycles. AreIntegrated (raster_of scene.now) gradients.now.window corrections.now (map N.value cycles.items)) }
 {
@@ -49,7 +50,7 @@ fn push_row<N: CycleNumber>(
 ) -> Result<(), AllocError>
     requires gradients { AreGradientsOf scene.now gradients.now }
     requires shape { HasShapeOf gradients.now.window corrections.now }
-    requires small { greatest_of corrections.now < 2147483647 }
+    requires small { greatest_of corrections.now < MAX_NARROW_CYCLES }
     requires room { (width_of gradients.now.window + height_of gradients.now.window) * (greatest_of corrections.now + 1) ≤ N.limit }
     requires row { (gradients.now.window.y0 ≤ y) × (y ≤ gradients.now.window.y1) }
     requires near { unsigned_abs first ≤ (y - gradients.now.window.y0) * (greatest_of corrections.now + 1) }

@@ -13,7 +13,7 @@ use Rattle.text_lines.proofs.FormLemmas.{fronts}
 use Rattle.text_lines.proofs.FirstLemmas.{one_break, not_both, one_end}
 use Rattle.text_lines.specs.declared.fault.LineFault.{LineFault}
 use Rattle.text_lines.specs.declared.fault.LineFault.TheVariants as faults
-use Rattle.text_parts.specs.Reading.{BrokenTextLineIsOne, EndsTextIn, HasBrokenTextLine, HasTextCause, IsTextRead, IsTextReader, IsTextRefusedAt}
+use Rattle.text_parts.specs.Reading.{BrokenTextLineIsOne, EndsTextIn, HasBrokenTextLine, HasTextCause, IsReaderOf, IsTextRead, IsTextReader, IsTextRefusedAt}
 use Rattle.text_parts.specs.Steps.{TextOf}
 
 empty : (m : List ℕ) → length m ≡ 0 → m ≡ []
@@ -111,15 +111,16 @@ module _ {R A : Type 0} (told_of : R → A) (P : A → Type 0) (f : A → List �
     pub refuses : (result : Result R LineFault) → IsTextReader told_of P f c result → IfSome c.told (λ bytes. (n : ℕ) → HasBrokenTextLine F (room_of c) n bytes → IsTextRefusedAt c n result)
     refuses result h = refuses_by c.told c.at c.left c.end c.limit c.before c.after result h
 
-    pub reader_failed : (result : Result R LineFault) (fault : LineFault) → IsErrAnd result (λ y. y ≡ fault) → HasTextCause F c fault → IsTextReader told_of P f c result
-    reader_failed (Ok r) fault i h = absurd i
-    reader_failed (Err other) fault i h = (tt, (tt, subst (HasTextCause F c) (sym i) h))
+module _ {R : Type 0} (F : Form) (P : R → Type 0) (f : R → List ℕ) where
+  pub reader_failed : (c : Call) (result : Result R LineFault) (fault : LineFault) → IsErrAnd result (λ y. y ≡ fault) → HasTextCause F c fault → IsReaderOf F P f c result
+  reader_failed c (Ok r) fault i h = absurd i
+  reader_failed c (Err other) fault i h = (tt, (tt, subst (HasTextCause F c) (sym i) h))
 
   -- the lines of a text were taken, and then the input ended
   module _ (a b : Call) where
-    pub reader_done : (r : R) (done now : ℕ) → P (told_of r) → TakesLines (λ text. text ≡ f (told_of r)) done now a → Takes (second a b) (λ text rest. (text ≡ []) × (rest ≡ [])) → IsTextReader told_of P f (joined a b) (Ok r)
+    pub reader_done : (r : R) (done now : ℕ) → P r → TakesLines (λ text. text ≡ f r) done now a → Takes (second a b) (λ text rest. (text ≡ []) × (rest ≡ [])) → IsReaderOf F P f (joined a b) (Ok r)
     reader_done r done now i t e = (
-      Takes-then a.told a.at a.left a.end b.left b.end a.limit b.limit a.before a.after b.after (λ text rest. (text ≡ f (told_of r)) × (now ≡ done + lines_in text)) (λ text rest. (text ≡ []) × (rest ≡ [])) (λ text rest. (text ≡ f (told_of r)) × (rest ≡ []))
+      Takes-then a.told a.at a.left a.end b.left b.end a.limit b.limit a.before a.after b.after (λ text rest. (text ≡ f r) × (now ≡ done + lines_in text)) (λ text rest. (text ≡ []) × (rest ≡ [])) (λ text rest. (text ≡ f r) × (rest ≡ []))
           (λ p m q z x g y. (ap (λ (l : List ℕ). p ++ l) y.0 ∙ append-nil p ∙ x.0, y.1)) t e,
       (i, tt),
     )

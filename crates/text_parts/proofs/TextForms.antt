@@ -15,7 +15,6 @@ use Rattle.text_lines.proofs.SeqLemmas.{IsCode}
 use Rattle.text_lines.proofs.StepLemmas.{joined, second}
 use Rattle.text_parts.specs.Parts.{HasMoreCause, IsLineMore}
 use Rattle.text_parts.specs.Reading.{BreaksTextAt, EndsTextIn, HasTextCause}
-use Rattle.text_parts.specs.Steps.{TextOf}
 
 longer : (q more line : List ℕ) → q ≡ line ++ 10 ∷ [] → q ++ more ≢ []
 longer q more line h e = let size = ap length e in let most = ap length h in omega (arith, size, most, length-append q more, length-append line (10 ∷ []))
@@ -61,6 +60,6 @@ module _ (F : Form) (code : IsCode F) where
     cause_of_more line_faults.ReadFault l g t h = risen_before a.before a.after b.after g h
     cause_of_more line_faults.Memory l g t h = tt
 
--- the lines of the text of a value were taken
-pub lines_of_text : {A : Type 0} (P : A → Type 0) (f : A → List ℕ) (c : Call) (v : A) (done now : ℕ) → done ≡ 0 → P v → TakesLines (λ text. text ≡ f v) done now c → TakesLines (TextOf P f) 0 now c
-lines_of_text P f c v done now e i h = Takes-weaker c.told c.at c.left c.end c.limit c.before c.after (λ text rest. (text ≡ f v) × (now ≡ done + lines_in text)) (λ text rest. TextOf P f text × (now ≡ 0 + lines_in text)) (λ text rest a. ((v, (i, a.0)), a.1 ∙ ap (λ (n : ℕ). n + lines_in text) e)) h
+-- the lines of a text of the form were taken
+pub lines_of_text : {R : Type 0} (F : Form) (f : R → List ℕ) (c : Call) (r : R) (done now : ℕ) → done ≡ 0 → F (f r) → TakesLines (λ text. text ≡ f r) done now c → TakesLines F 0 now c
+lines_of_text F f c r done now e i h = Takes-weaker c.told c.at c.left c.end c.limit c.before c.after (λ text rest. (text ≡ f r) × (now ≡ done + lines_in text)) (λ text rest. F text × (now ≡ 0 + lines_in text)) (λ text rest a. (subst F (sym a.0) i, a.1 ∙ ap (λ (n : ℕ). n + lines_in text) e)) h

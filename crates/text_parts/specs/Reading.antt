@@ -22,9 +22,13 @@ HasTextCause F call TooLong = (call.end ≡ call.limit) × (HasMore call.left ×
 HasTextCause F call ReadFault = HasRisen call.before call.after
 HasTextCause F call Memory = ⊤
 
--- What was taken is the text of what was read, as `told` shows it, and nothing is left; or there is a cause.
+-- What was taken is the text of what was read, and nothing is left; or there is a cause.
+abbrev pub IsReaderOf : {R : Type 0} → Form → (R → Type 0) → (R → List ℕ) → Call → Result R LineFault → Type 0
+IsReaderOf F MayStand text call result = IfOk result (λ r. Takes call (λ taken rest. (taken ≡ text r) × (rest ≡ []))) × (IfOk result MayStand × IfErr result (HasTextCause F call))
+
+-- so it is of what is read as `told` shows it
 abbrev pub IsTextReader : {R A : Type 0} → (R → A) → (A → Type 0) → (A → List ℕ) → Call → Result R LineFault → Type 0
-IsTextReader told MayStand text call result = IfOk result (λ r. Takes call (λ taken rest. (taken ≡ text (told r)) × (rest ≡ []))) × (IfOk result (λ r. MayStand (told r)) × IfErr result (HasTextCause (TextOf MayStand text) call))
+IsTextReader told MayStand text call result = IsReaderOf (TextOf MayStand text) (λ r. MayStand (told r)) (λ r. text (told r)) call result
 
 -- of bytes of which so many are let out, line n is the first that breaks the form
 abbrev pub HasBrokenTextLine : Form → ℕ → ℕ → List ℕ → Type 0

@@ -11,7 +11,7 @@ use Rattle.text_lines.specs.declared.fault.LineFault.{LineFault}
 use Rattle.text_lines.specs.declared.lines.Lines.{Lines}
 use Rattle.text_lines.specs.declared.lines.LineEnd.{LineEnd}
 use Rattle.text_lines.specs.declared.lines.LineEnd.TheVariants.{Whole}
-use Rattle.text_lines.specs.Forms.{Form}
+use Rattle.text_lines.specs.Forms.{AreWholeLines, Form}
 use Rattle.text_lines.specs.LineWords.{HasNextCause, IsLineRead, TakesLines, lines_read}
 use Rattle.text_lines.specs.Reading.{HasLineCause}
 use Rattle.text_lines.specs.declared.fault.LineFault.TheVariants as faults
@@ -52,6 +52,17 @@ pub record ReadsPart {R A : Type 0} (view : R → A) (MayStand : A → Type 0) (
   pub advance : Advances v w
   pub read : IfOk result (λ r. MayStand (view r) × TakesLines (λ bytes. bytes ≡ text (view r)) v.number w.number (between v w))
   pub refused : IfErr result (HasLineCause (TextOf MayStand text) v.number (between v w))
+
+-- texts of the form are whole lines, and none begins with another
+pub record EndsItself (F : Form) : Type 0 where
+  pub whole : (bytes : List ℕ) → F bytes → AreWholeLines bytes
+  pub free : (bytes more : List ℕ) → F bytes → F (bytes ++ more) → more ≡ []
+
+-- What was read has a text of the form; or a cause is told why none was read.
+pub record ReadsText {R : Type 0} (F : Form) (MayStand : R → Type 0) (text : R → List ℕ) (v w : LinePlace) (result : Result R LineFault) : Type 0 where
+  pub advance : Advances v w
+  pub read : IfOk result (λ r. MayStand r × TakesLines (λ bytes. bytes ≡ text r) v.number w.number (between v w))
+  pub refused : IfErr result (HasLineCause F v.number (between v w))
 
 -- values that are shown as they are
 abbrev pub itself : {A : Type 0} → A → A

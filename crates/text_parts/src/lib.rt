@@ -5,9 +5,11 @@
 mod lines;
 mod parse;
 mod read;
+mod to_end;
 
 pub use crate::lines::{add_ramp, add_rule, add_size, add_steepness};
 pub use crate::read::{
     LONGEST_LINE, expect_end, numbers_after, parsed, read_grid_part, read_known, read_line,
     read_ramp, read_rule, read_size, read_steepness,
 };
+pub use crate::to_end::{LinedText, read_to_end};

@@ -1,13 +1,11 @@
 ghost use Rattle.insar_ports.specs.Calls.{Moves, Takes, call_of};
 ghost use Rattle.insar_ports.specs.Feeding.{left_of, limit_of, source_name};
-ghost use Rattle.std.specs.Prelude.{◌≡◌, ◌*◌, ◌+◌, ◌-◌, ◌≤◌, [], ℕ, IfErr, IfOk, IfSome, length, vec_len};
-ghost use Rattle.text_lines.specs.LineWords.{lines_read};
+ghost use Rattle.std.specs.Prelude.{◌≡◌, ◌*◌, ◌+◌, ◌-◌, ◌≤◌, [], ℕ, IfErr, IfOk, IfSome, length, refl, vec_len};
 ghost use Rattle.text_lines.specs.Numbers.{AreLongs};
 ghost use Rattle.text_lines.specs.Parsing.{IsWide};
 ghost use Rattle.text_lines.specs.Reading.{room_of};
 ghost use Rattle.text_parts.specs.Parts.{list_in};
-ghost use Rattle.text_parts.specs.Reading.{IsTextReader};
-ghost use Rattle.text_parts.specs.Steps.{Advances, ReadsPart, itself, place_of};
+ghost use Rattle.text_parts.specs.Steps.{ReadsPart, itself, place_of};
 ghost use Rattle.text_parts.specs.Text.{ended_line};
 ghost use Rattle.whole_text.specs.Parts.{AreRows, IsFacesRow, IsHead, head_in, head_parts, lines_of_rows, rows_in};
 ghost use Rattle.whole_text.specs.Reading.{HasBrokenWholeLine, HasWholeCause, IsWholeRead, IsWholeRefusedAt, whole_told};
@@ -20,8 +18,8 @@ use raster_model::{MAX_SIDE, RuleKind, Terms};
 use std::alloc::Global;
 use text_lines::{LineFault, Lines};
 use text_parts::{
-    LONGEST_LINE, expect_end, parsed, read_grid_part, read_known, read_line, read_ramp, read_rule,
-    read_size, read_steepness,
+    LONGEST_LINE, LinedText, parsed, read_grid_part, read_known, read_line, read_ramp, read_rule,
+    read_size, read_steepness, read_to_end,
 };
 
 /// How many bytes a face has at most, with the space before it.
@@ -142,19 +140,22 @@ fn read_lines<S: Source>(
     })
 }
 
-/// Reads the text and the end of the input.
-fn read_to_end<S: Source>(
-    alloc: Global,
-    feed: &mut Feed<S>,
-    lines: &mut Lines,
-) -> Result<Whole, LineFault>
-    requires { lines_read lines.old ≡ 0 }
-    ensures advances { Advances (place_of S.left S.faults feed.old lines.old) (place_of S.left S.faults feed.new lines.new) }
-    ensures reads { IsTextReader whole_told IsWhole whole_text (call_of S.left S.faults feed.old feed.new) result }
-{
-    let whole = read_lines(alloc, feed, lines)?;
-    expect_end(feed, lines)?;
-    Ok(whole)
+impl LinedText for Whole {
+    ghost form = { IsWholeText };
+
+    ghost text = { λ whole. whole_text (whole_told whole) };
+
+    ghost in_range = { λ whole. IsWhole (whole_told whole) };
+
+    ghost formed = { λ whole is. (whole_told whole, (is, refl)) };
+
+    fn read_lines<S: Source>(
+        alloc: Global,
+        feed: &mut Feed<S>,
+        lines: &mut Lines,
+    ) -> Result<Whole, LineFault> {
+        read_lines(alloc, feed, lines)
+    }
 }
 
 /// Reads the text of a surface over the whole raster to the end of the input, in the one spelling in which it is written.
@@ -174,6 +175,5 @@ pub fn read_whole<S: Source>(alloc: Global, feed: &mut Feed<S>) -> Result<Whole,
     // A first broken line is told.
     ensures exact { IfSome (left_of S.left feed.old) (λ bytes. (n : ℕ) → HasBrokenWholeLine (room_of (call_of S.left S.faults feed.old feed.new)) n bytes → IsWholeRefusedAt (call_of S.left S.faults feed.old feed.new) n result) }
 {
-    let mut lines = Lines::new(alloc);
-    read_to_end(alloc, feed, &mut lines)
+    read_to_end(alloc, feed)
 }

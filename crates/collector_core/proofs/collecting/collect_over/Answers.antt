@@ -1,3 +1,4 @@
+use Rattle.std.proofs.Common.{rules}
 use Rattle.std.proofs.lemmas.Result.{IfOk-weaker}
 use Rattle.std.specs.Arc.{arc_value}
 use Rattle.raster_model.specs.Masks.{open_at}
@@ -5,10 +6,10 @@ use Rattle.collector_core.proofs.CollectLemmas.{certify_gathered, publishable}
 use Rattle.collector_core.proofs.JoinLemmas.{good_in_set}
 use Rattle.collector_core.proofs.collecting.collect_over.Goals as goal
 
-pub solve_offsets_side_by_side-requires-clause-tiles : goal.solve_offsets_side_by_side-requires-clause-tiles
-solve_offsets_side_by_side-requires-clause-tiles g c κs within =
+pub solve_offsets_side_by_side-requires : goal.solve_offsets_side_by_side-requires
+solve_offsets_side_by_side-requires g c =
     let k = c.args.gathered.now in
-    rw c.deref.ensures (good_in_set (arc_value k.session).scene (open_at k.mask) k.tiles k.tiling k.good)
+    (search rules, record { same_size = search rules; labelled = search rules; solved = rw c.deref.ensures (good_in_set (arc_value k.session).scene (open_at k.mask) k.tiles k.tiling k.good) })
 
 pub returns-clause-good : goal.returns-clause-good
 returns-clause-good g c =

@@ -1,3 +1,4 @@
+use Rattle.std.proofs.Common.{rules}
 use Rattle.std.proofs.lemmas.Result.{IfOk-weaker}
 use Rattle.std.specs.Arc.{arc_value}
 use Rattle.raster_model.specs.Masks.{open_at}
@@ -5,10 +6,10 @@ use Rattle.collector_core.proofs.CollectLemmas.{certify_gathered, publishable}
 use Rattle.collector_core.proofs.JoinLemmas.{good_in_set}
 use Rattle.collector_core.proofs.collecting.collect_over_from.Goals as goal
 
-pub solve_offsets_from-requires-clause-tiles : goal.solve_offsets_from-requires-clause-tiles
-solve_offsets_from-requires-clause-tiles c =
+pub solve_offsets_from-requires : goal.solve_offsets_from-requires
+solve_offsets_from-requires c =
     let g = c.args.gathered.now in
-    rw c.deref.ensures (good_in_set (arc_value g.session).scene (open_at g.mask) g.tiles g.tiling g.good)
+    record { same_size = search rules; labelled = search rules; solved = rw c.deref.ensures (good_in_set (arc_value g.session).scene (open_at g.mask) g.tiles g.tiling g.good) }
 
 pub returns-clause-good : goal.returns-clause-good
 returns-clause-good c =

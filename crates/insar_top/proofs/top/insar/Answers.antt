@@ -1,13 +1,21 @@
-use Rattle.std.proofs.Common.{◌≡◌, ℕ, Result}
+use Rattle.std.proofs.Common.{◌≡◌, ℕ, Result, Err, ap, refl}
 use Rattle.insar_ports.specs.Bytes.{HasRisen, with_end}
-use Rattle.insar_top.specs.Ends.{line_of_end}
+use Rattle.insar_top.specs.Ends.{IsProgramEnd, line_of_end}
+use Rattle.insar_top.specs.Ends.IsProgramEnd.{not_read, done}
+use Rattle.insar_top.specs.Run.{run_of}
 use Rattle.answer_lines.specs.declared.refusal.Refusal.{Refusal}
 use Rattle.insar_top.proofs.EndClauses as end
 use Rattle.insar_top.proofs.top.insar.Goals as goal
+use Rattle.insar_top.proofs.top.insar.Goals.{in-Ok, in-Err}
 
 pub returns : goal.returns
 returns g c =
-    let ended = c.run-ended.ensures in
+    let joined = c.match-read_words in
+    let run = run_of g.S.Source.left g.S.Source.faults c.args.source.now joined.source g.K.Sink.held g.K.Sink.faults c.args.sink.now joined.sink in
+    let ended : IsProgramEnd c.args.words.now run joined.ended = elim joined.branch [
+      | in-Ok w ↦ rw (w.source-is, w.sink-is, w.ended-is) (done w.in-Ok.request w.in-Ok.ensures.asked w.do_request-ended.ensures)
+      | in-Err w ↦ rw (w.source-is, w.sink-is, w.ended-is) (not_read w.in-Err.fault w.in-Err.ensures.refused (refl, refl) refl (ap Err w.from.ensures))
+    ] in
     let diag = c.status_told in
     rw diag.ensures.status (record {
       status = end.status ended;
@@ -30,5 +38,5 @@ returns g c =
       read_fault = end.read_fault ended;
       write_fault = end.write_fault ended;
       untouched = end.untouched ended;
-      told = λ good. (line_of_end c.run-ended.result, (end.line ended, diag.ensures.told good));
+      told = λ good. (line_of_end joined.ended, (end.line ended, diag.ensures.told good));
     })

@@ -5,11 +5,11 @@ use Rattle.report_text.proofs.read.read_report.Goals as goal
 
 pub returns : goal.returns
 returns g c =
-    let a = c.read_to_end.ensures.advances in
-    let r = c.read_to_end.ensures.reads in
+    let a = c.read_to_end.ensures in
+    let r = a.reads in
     record {
-      same_source = a.source;
-      same_limit = a.limit;
+      same_source = a.same_source;
+      same_limit = a.same_limit;
       moves = a.moves;
       read = r.0;
       fits = r.1.0;

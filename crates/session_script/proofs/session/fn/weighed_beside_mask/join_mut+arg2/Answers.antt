@@ -1,4 +1,0 @@
-use Rattle.session_script.proofs.session.fn.weighed_beside_mask.join_mut+arg2.Goals as goal
-
-pub returns : goal.returns
-returns g c = c.weigh_side_by_side.ensures

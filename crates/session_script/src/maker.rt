@@ -1,0 +1,88 @@
+ghost use Rattle.raster_model.specs.Masks.{IsMaskOf, open_by};
+ghost use Rattle.raster_model.specs.Weights.{AreRuleWeights};
+ghost use Rattle.std.specs.Prelude.{IfOk, ⊤};
+ghost use Rattle.std.specs.Thread.{IsSync};
+
+use edge_weights::{SessionParts, weigh, weigh_side_by_side};
+use raster_model::{EdgeWeights, Mask, RuleKind};
+use std::alloc::{AllocError, Global};
+use std::thread::{Threads, join_mut};
+
+/// Who makes what a session has beside its parts: one thread, or several side by side.
+pub(crate) trait Maker {
+    /// What its call needs: that its threads can be started.
+    ghost ready: { Self → Type 0 };
+
+    /// The weights of the edges by a rule, and the mask of a mask plane.
+    fn edges_and_mask(
+        &self,
+        alloc: Global,
+        kind: RuleKind,
+        parts: &SessionParts,
+    ) -> (Result<EdgeWeights, AllocError>, Result<Mask, AllocError>)
+        requires { ready self.now }
+        ensures edges { IfOk result.0 (AreRuleWeights kind parts.now.weights) }
+        ensures mask { IfOk result.1 (λ mask. IsMaskOf mask parts.now.mask.width parts.now.mask.height (open_by parts.now.mask)) };
+}
+
+/// One thread.
+#[derive(Drop)]
+pub(crate) struct OneThread;
+
+impl Maker for OneThread {
+    ghost ready = { λ s. ⊤ };
+
+    fn edges_and_mask(
+        &self,
+        alloc: Global,
+        kind: RuleKind,
+        parts: &SessionParts,
+    ) -> (Result<EdgeWeights, AllocError>, Result<Mask, AllocError>) {
+        (
+            weigh(alloc, kind, &parts.weights),
+            Mask::of_plane(alloc, &parts.mask),
+        )
+    }
+}
+
+/// Two more threads, which weigh the edges while the caller's makes the mask.
+#[derive(Drop)]
+pub(crate) struct SideBySide<'a, R> {
+    pub(crate) rt: &'a R,
+}
+
+impl<R: Threads + Sync> Maker for SideBySide<'_, R> {
+    ghost ready = { λ s. IsSync R.row };
+
+    fn edges_and_mask(
+        &self,
+        alloc: Global,
+        kind: RuleKind,
+        parts: &SessionParts,
+    ) -> (Result<EdgeWeights, AllocError>, Result<Mask, AllocError>) {
+        weighed_beside_mask(self.rt, alloc, kind, parts)
+    }
+}
+
+/// The weights of the edges by a rule, and the mask of a mask plane.
+fn weighed_beside_mask<R: Threads + Sync>(
+    rt: &R,
+    alloc: Global,
+    kind: RuleKind,
+    parts: &SessionParts,
+) -> (Result<EdgeWeights, AllocError>, Result<Mask, AllocError>)
+    ensures edges { IfOk result.0 (AreRuleWeights kind parts.now.weights) }
+    ensures mask { IfOk result.1 (λ mask. IsMaskOf mask parts.now.mask.width parts.now.mask.height (open_by parts.now.mask)) }
+{
+    let SessionParts { weights, mask, .. } = parts;
+    join_mut(
+        rt,
+        &mut || -> Result<EdgeWeights, AllocError>
+            requires { IsSync R.row }
+            ensures { IfOk result (AreRuleWeights kind weights.entry.now) }
+        { weigh_side_by_side(rt, alloc, kind, weights) },
+        &mut || -> Result<Mask, AllocError>
+            ensures { IfOk result (λ made. IsMaskOf made mask.entry.now.width mask.entry.now.height (open_by mask.entry.now)) }
+        { Mask::of_plane(alloc, mask) },
+    )
+}

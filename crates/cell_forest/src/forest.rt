@@ -94,10 +94,11 @@ impl Forest {
         let Some(joined) = join::<SIGN>(cells, place, step, time)? else {
             return Ok(());
         };
-        self.offer::<SIGN>(cells, &joined, place, RIGHT)?;
-        self.offer::<SIGN>(cells, &joined, place, LEFT)?;
-        self.offer::<SIGN>(cells, &joined, place, DOWN)?;
-        self.offer::<SIGN>(cells, &joined, place, UP)?;
+        self.queue.make_room()?;
+        self.offer::<SIGN>(cells, &joined, place, RIGHT);
+        self.offer::<SIGN>(cells, &joined, place, LEFT);
+        self.offer::<SIGN>(cells, &joined, place, DOWN);
+        self.offer::<SIGN>(cells, &joined, place, UP);
         Ok(())
     }
 
@@ -109,13 +110,12 @@ impl Forest {
         tail: &Cell,
         place: u32,
         direction: u8,
-    ) -> Result<(), AllocError> {
+    ) {
         let head = cell_at(cells, self.head(place, direction));
-        if head.is_in_tree() {
-            return Ok(());
+        if !head.is_in_tree() {
+            let time = self.due::<SIGN>(tail, head, direction);
+            self.queue.put(time, arc_of(place, direction));
         }
-        let time = self.due::<SIGN>(tail, head, direction);
-        self.queue.put(time, arc_of(place, direction))
     }
 
     /// Takes a cell and all that hangs below it out of its tree, and queues the arcs from trees into what left.
@@ -158,15 +158,8 @@ impl Forest {
     #[inline(always)]
     pub(crate) fn make_room(&mut self, count: usize) -> Result<(), AllocError> {
         if self.members.len() < count.wrapping_add(4) {
-            self.lengthen()?;
+            self.members.extend_from_slice(&[0; 64])?;
         }
-        Ok(())
-    }
-
-    /// Makes the list of members longer.
-    #[cold]
-    fn lengthen(&mut self) -> Result<(), AllocError> {
-        self.members.extend_from_slice(&[0; 64])?;
         Ok(())
     }
 
@@ -215,28 +208,23 @@ impl Forest {
         place: u32,
     ) -> Result<(), AllocError> {
         let head = *cell_at(cells, place);
-        self.accept::<SIGN>(cells, &head, place, RIGHT)?;
-        self.accept::<SIGN>(cells, &head, place, LEFT)?;
-        self.accept::<SIGN>(cells, &head, place, DOWN)?;
-        self.accept::<SIGN>(cells, &head, place, UP)
+        self.queue.make_room()?;
+        self.accept::<SIGN>(cells, &head, place, RIGHT);
+        self.accept::<SIGN>(cells, &head, place, LEFT);
+        self.accept::<SIGN>(cells, &head, place, DOWN);
+        self.accept::<SIGN>(cells, &head, place, UP);
+        Ok(())
     }
 
     /// Queues the reverse of an arc out of a cell that is in no tree, if it leads out of one.
     #[inline(always)]
-    fn accept<const SIGN: i32>(
-        &mut self,
-        cells: &[Cell],
-        head: &Cell,
-        place: u32,
-        direction: u8,
-    ) -> Result<(), AllocError> {
+    fn accept<const SIGN: i32>(&mut self, cells: &[Cell], head: &Cell, place: u32, direction: u8) {
         let from = self.head(place, direction);
         let tail = cell_at(cells, from);
         if tail.is_in_tree() {
             let time = self.due::<SIGN>(tail, head, direction ^ 1);
-            self.queue.put(time, arc_of(from, direction ^ 1))?;
+            self.queue.put(time, arc_of(from, direction ^ 1));
         }
-        Ok(())
     }
 }
 

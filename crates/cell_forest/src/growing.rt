@@ -115,7 +115,8 @@ impl Forest {
         }
         let tail = *cell_at(cells, way.tail);
         if tail.is_in_tree() {
-            self.offer::<SIGN>(cells, &tail, way.tail, way.direction)?;
+            self.queue.make_room()?;
+            self.offer::<SIGN>(cells, &tail, way.tail, way.direction);
         }
         Ok(false)
     }

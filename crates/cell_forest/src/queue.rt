@@ -75,39 +75,37 @@ impl Queue {
         self.start.wrapping_add(self.slot.cast_signed())
     }
 
-    /// Puts an event at a time that is not past.
+    /// Makes room for four more events.
     #[inline(always)]
-    pub(crate) fn put(&mut self, time: i32, arc: u32) -> Result<(), AllocError> {
-        let place = self.free_place()?;
+    pub(crate) fn make_room(&mut self) -> Result<(), AllocError> {
+        if self.events.len() < (self.unused as usize).wrapping_add(4) {
+            self.events.extend_from_slice(&[BLANK; 64])?;
+        }
+        Ok(())
+    }
+
+    /// Puts an event at a time that is not past, where there is room.
+    #[inline(always)]
+    pub(crate) fn put(&mut self, time: i32, arc: u32) {
+        let place = self.free_place();
         if let Some(event) = self.events.get_mut(place as usize) {
             event.time = time;
             event.arc = arc;
         }
         self.link(time, place);
-        Ok(())
     }
 
     /// A place for one more event.
     #[inline(always)]
-    fn free_place(&mut self) -> Result<u32, AllocError> {
+    fn free_place(&mut self) -> u32 {
         let place = self.free;
         if let Some(event) = self.events.get(place as usize) {
             self.free = event.next;
-            return Ok(place);
+            return place;
         }
         let place = self.unused;
-        if place as usize >= self.events.len() {
-            self.lengthen()?;
-        }
         self.unused = place.wrapping_add(1);
-        Ok(place)
-    }
-
-    /// Makes the list longer.
-    #[cold]
-    fn lengthen(&mut self) -> Result<(), AllocError> {
-        self.events.extend_from_slice(&[BLANK; 64])?;
-        Ok(())
+        place
     }
 
     /// Takes the first event. Among those of one time it is the last that was put.
@@ -182,7 +180,6 @@ impl Queue {
 
     /// Goes on to the next block with an event, and puts its events in the slots of their times. The result is the first of
     /// these, if there is one.
-    #[cold]
     fn open_block(&mut self) -> Option<u32> {
         let here = self.far_slot(self.start);
         let end = NEAR.wrapping_add(self.far);

@@ -3,7 +3,6 @@ use crate::forest::{Forest, arc_of, join};
 use crate::growing::Way;
 use crate::queue::Event;
 use crate::stop::Stop;
-use std::alloc::AllocError;
 
 /// How many arcs a search follows at most.
 const REACH: u64 = 4096;
@@ -109,41 +108,36 @@ impl Forest {
         time: i32,
     ) -> Result<(), Stop> {
         self.make_room(self.grown)?;
+        self.queue.make_room()?;
         self.list(self.grown, place);
         self.grown = self.grown.wrapping_add(1);
         let Some(joined) = join::<SIGN>(cells, place, step, time)? else {
             return Ok(());
         };
-        self.look::<SIGN>(cells, &joined, place, RIGHT)?;
-        self.look::<SIGN>(cells, &joined, place, LEFT)?;
-        self.look::<SIGN>(cells, &joined, place, DOWN)?;
-        self.look::<SIGN>(cells, &joined, place, UP)?;
+        self.look::<SIGN>(cells, &joined, place, RIGHT);
+        self.look::<SIGN>(cells, &joined, place, LEFT);
+        self.look::<SIGN>(cells, &joined, place, DOWN);
+        self.look::<SIGN>(cells, &joined, place, UP);
         Ok(())
     }
 
     /// Makes an arc out of the tree the goal, if flow can end at its head, or queues it, unless it comes no sooner than the goal.
     #[inline(always)]
-    fn look<const SIGN: i32>(
-        &mut self,
-        cells: &[Cell],
-        tail: &Cell,
-        place: u32,
-        direction: u8,
-    ) -> Result<(), AllocError> {
+    fn look<const SIGN: i32>(&mut self, cells: &[Cell], tail: &Cell, place: u32, direction: u8) {
         let head = cell_at(cells, self.head(place, direction));
         if head.is_in_tree() {
-            return Ok(());
+            return;
         }
         let time = self.due::<SIGN>(tail, head, direction);
         if time >= self.goal.time {
-            return Ok(());
+            return;
         }
         let arc = arc_of(place, direction);
         if head.step == FREE && head.supply::<SIGN>() >= 0 {
-            return self.queue.put(time, arc);
+            self.queue.put(time, arc);
+        } else {
+            self.goal = Goal { time, arc };
         }
-        self.goal = Goal { time, arc };
-        Ok(())
     }
 
     /// Takes the tree apart at a time.

@@ -114,25 +114,30 @@ impl Forest {
         let Some(joined) = join::<SIGN>(cells, place, step, time)? else {
             return Ok(());
         };
-        self.look::<SIGN>(cells, &joined, place, RIGHT);
-        self.look::<SIGN>(cells, &joined, place, LEFT);
-        self.look::<SIGN>(cells, &joined, place, DOWN);
-        self.look::<SIGN>(cells, &joined, place, UP);
+        self.look::<SIGN, RIGHT>(cells, &joined, place);
+        self.look::<SIGN, LEFT>(cells, &joined, place);
+        self.look::<SIGN, DOWN>(cells, &joined, place);
+        self.look::<SIGN, UP>(cells, &joined, place);
         Ok(())
     }
 
-    /// Makes an arc out of the tree the goal, if flow can end at its head, or queues it, unless it comes no sooner than the goal.
+    /// Makes the arc in a direction out of the tree the goal, if flow can end at its head, or queues it, unless it comes no sooner than the goal.
     #[inline(always)]
-    fn look<const SIGN: i32>(&mut self, cells: &[Cell], tail: &Cell, place: u32, direction: u8) {
-        let head = cell_at(cells, self.head(place, direction));
+    fn look<const SIGN: i32, const DIRECTION: u8>(
+        &mut self,
+        cells: &[Cell],
+        tail: &Cell,
+        place: u32,
+    ) {
+        let head = cell_at(cells, self.head(place, DIRECTION));
         if head.is_in_tree() {
             return;
         }
-        let time = self.due::<SIGN>(tail, head, direction);
+        let time = self.due::<SIGN>(tail, head, DIRECTION);
         if time >= self.goal.time {
             return;
         }
-        let arc = arc_of(place, direction);
+        let arc = arc_of(place, DIRECTION);
         if head.step == FREE && head.supply::<SIGN>() >= 0 {
             self.queue.put(time, arc);
         } else {

@@ -22,12 +22,12 @@ pub const OUTSIDE: u8 = 6;
 pub struct Cell {
     /// The potential. In a tree the time is added to it.
     pub height: i32,
-    /// What the cell has to send.
-    pub excess: i32,
-    /// What flows across each edge, to the right or down.
-    pub flows: [i32; 2],
     /// The weights of the edges.
     pub weights: [u16; 2],
+    /// What flows across each edge, to the right or down.
+    pub flows: [i16; 2],
+    /// What the cell has to send.
+    pub excess: i16,
     /// The direction to the cell from which it joined its tree.
     pub step: u8,
 }
@@ -35,9 +35,9 @@ pub struct Cell {
 /// A cell of the outside with nothing set.
 pub const BEYOND: Cell = Cell {
     height: 0,
-    excess: 0,
-    flows: [0; 2],
     weights: [0; 2],
+    flows: [0; 2],
+    excess: 0,
     step: OUTSIDE,
 };
 
@@ -52,6 +52,18 @@ impl Cell {
     #[inline(always)]
     pub fn is_in_tree(&self) -> bool {
         self.step <= ROOT
+    }
+
+    /// What the cell has to send, times `SIGN`.
+    #[inline(always)]
+    pub(crate) fn supply<const SIGN: i32>(&self) -> i32 {
+        i32::from(self.excess).wrapping_mul(SIGN)
+    }
+
+    /// Adds to what the cell has to send, or leaves it as it is if it would not fit.
+    pub(crate) fn supply_more(&mut self, amount: i32) {
+        let sum = i32::from(self.excess).wrapping_add(amount);
+        self.excess = i16::try_from(sum).unwrap_or(self.excess);
     }
 }
 
@@ -69,7 +81,7 @@ pub fn crossing_of<const SIGN: i32>(tail: &Cell, head: &Cell, direction: u8) -> 
     let ahead = direction % 2 == 0;
     let holder = if ahead { tail } else { head };
     let place = direction as usize / 2;
-    let flow = holder.flows.get(place).copied().unwrap_or(0);
+    let flow = i32::from(holder.flows.get(place).copied().unwrap_or(0));
     let weight = holder.weights.get(place).copied().unwrap_or(0);
     Crossing {
         weight: i32::from(weight),
@@ -81,7 +93,10 @@ impl Crossing {
     /// What one unit more costs along the arc.
     #[inline(always)]
     pub fn cost(self, steep: i32) -> i32 {
-        let size = if self.flow == 0 || self.flow == -1 {
+        if self.flow == 0 {
+            return self.weight;
+        }
+        let size = if self.flow == -1 {
             self.weight
         } else {
             self.weight.wrapping_mul(steep)
@@ -93,14 +108,15 @@ impl Crossing {
         }
     }
 
-    /// How many units can be sent along the arc at the cost of the first.
+    /// How many units can be sent along the arc at the cost of the first, as far as the flow fits.
     pub fn room(self, steep: i32) -> i32 {
+        let fitting = i32::from(i16::MAX).wrapping_sub(self.flow);
         if self.weight == 0 || self.flow > 0 {
-            return i32::MAX;
+            return fitting;
         }
         if steep == 1 {
             return if self.flow == 0 {
-                i32::MAX
+                fitting
             } else {
                 self.flow.wrapping_neg()
             };
@@ -109,7 +125,7 @@ impl Crossing {
     }
 }
 
-/// Adds to what flows along an arc, times `SIGN`.
+/// Adds to what flows along an arc, times `SIGN`, or leaves it as it is if it would not fit.
 pub fn push<const SIGN: i32>(cells: &mut [Cell], tail: u32, head: u32, direction: u8, amount: i32) {
     let ahead = direction % 2 == 0;
     let holder = if ahead { tail } else { head };
@@ -118,6 +134,7 @@ pub fn push<const SIGN: i32>(cells: &mut [Cell], tail: u32, head: u32, direction
         return;
     };
     if let Some(flow) = cell.flows.get_mut(direction as usize / 2) {
-        *flow = flow.wrapping_add(added);
+        let sum = i32::from(*flow).wrapping_add(added);
+        *flow = i16::try_from(sum).unwrap_or(*flow);
     }
 }

@@ -1,12 +1,13 @@
 use crate::cell::{Cell, DOWN, FREE, LEFT, RIGHT, UP, cell_at, crossing_of};
 use crate::queue::Queue;
+use crate::searching::{Goal, NOWHERE};
 use crate::stop::Stop;
 use std::alloc::{AllocError, Global};
 
 /// No potential and no time may pass this.
 const LIMIT: u32 = 1 << 30;
 
-/// How many arcs are followed for each cell, by which no forest that was measured gave up.
+/// How many steps are taken for each cell, by which no forest that was measured gave up.
 pub const PATIENCE: u64 = 4096;
 
 /// How trees grow in a list of cells: rows of `stride` cells, of which the first row and the first cell of each row are
@@ -21,19 +22,23 @@ pub struct Forest {
     pub(crate) steep: i32,
     /// The arcs that may join cells to trees.
     pub(crate) queue: Queue,
-    /// Cells of a tree that is taken apart.
-    members: Vec<u32>,
+    /// Cells of a tree that is taken apart, or grows alone.
+    pub(crate) members: Vec<u32>,
+    /// How many cells the tree that grows alone has.
+    pub(crate) grown: usize,
+    /// Where the tree that grows alone ends.
+    pub(crate) goal: Goal,
     /// The cells with something to send or to be sent, which `balance` serves.
     pub listed: Vec<u32>,
     /// The cells of a block that `solve_block` has opened, and which have something to send or to be sent.
     pub(crate) opened: Vec<u32>,
-    /// How many arcs may be followed yet.
+    /// How many steps may be taken yet: arcs that are followed, and cells that join a tree which grows alone.
     pub(crate) steps: u64,
 }
 
 impl Forest {
     /// A forest with no tree. The first unit across an edge costs its weight, which is at most `greatest`, and each further
-    /// one `steep` times that, which is from 1 to 16. In all it follows at most `patience` arcs for each of `count` cells. It
+    /// one `steep` times that, which is from 1 to 16. In all it takes at most `patience` steps for each of `count` cells. It
     /// fails only for lack of memory.
     pub fn new(
         alloc: Global,
@@ -48,6 +53,8 @@ impl Forest {
             steep: steep.cast_signed(),
             queue: Queue::new(alloc, steep.wrapping_mul(greatest).wrapping_mul(2))?,
             members: Vec::new(alloc),
+            grown: 0,
+            goal: NOWHERE,
             listed: Vec::new(alloc),
             opened: Vec::new(alloc),
             steps: (count as u64).wrapping_mul(patience),
@@ -84,19 +91,14 @@ impl Forest {
         step: u8,
         time: i32,
     ) -> Result<(), Stop> {
-        let Some(cell) = cells.get_mut(place as usize) else {
+        let Some(joined) = join::<SIGN>(cells, place, step, time)? else {
             return Ok(());
         };
-        cell.height = cell.height.wrapping_add(time.wrapping_mul(SIGN));
-        cell.step = step;
-        let joined = *cell;
-        if joined.height.unsigned_abs() >= LIMIT {
-            return Err(Stop::GivenUp);
-        }
-        self.offer::<SIGN>(cells, &joined, place, RIGHT)?;
-        self.offer::<SIGN>(cells, &joined, place, LEFT)?;
-        self.offer::<SIGN>(cells, &joined, place, DOWN)?;
-        self.offer::<SIGN>(cells, &joined, place, UP)?;
+        self.queue.make_room()?;
+        self.offer::<SIGN>(cells, &joined, place, RIGHT);
+        self.offer::<SIGN>(cells, &joined, place, LEFT);
+        self.offer::<SIGN>(cells, &joined, place, DOWN);
+        self.offer::<SIGN>(cells, &joined, place, UP);
         Ok(())
     }
 
@@ -108,11 +110,12 @@ impl Forest {
         tail: &Cell,
         place: u32,
         direction: u8,
-    ) -> Result<(), AllocError> {
+    ) {
         let head = cell_at(cells, self.head(place, direction));
-        let time = self.due::<SIGN>(tail, head, direction);
-        self.queue
-            .put_if(!head.is_in_tree(), time, arc_of(place, direction))
+        if !head.is_in_tree() {
+            let time = self.due::<SIGN>(tail, head, direction);
+            self.queue.put(time, arc_of(place, direction));
+        }
     }
 
     /// Takes a cell and all that hangs below it out of its tree, and queues the arcs from trees into what left.
@@ -153,7 +156,7 @@ impl Forest {
 
     /// Makes the list of members long enough for four more than `count`.
     #[inline(always)]
-    fn make_room(&mut self, count: usize) -> Result<(), AllocError> {
+    pub(crate) fn make_room(&mut self, count: usize) -> Result<(), AllocError> {
         if self.members.len() < count.wrapping_add(4) {
             self.members.extend_from_slice(&[0; 64])?;
         }
@@ -162,7 +165,7 @@ impl Forest {
 
     /// Writes a member at a place of the list.
     #[inline(always)]
-    fn list(&mut self, index: usize, place: u32) {
+    pub(crate) fn list(&mut self, index: usize, place: u32) {
         if let Some(member) = self.members.get_mut(index) {
             *member = place;
         }
@@ -205,29 +208,43 @@ impl Forest {
         place: u32,
     ) -> Result<(), AllocError> {
         let head = *cell_at(cells, place);
-        self.accept::<SIGN>(cells, &head, place, RIGHT)?;
-        self.accept::<SIGN>(cells, &head, place, LEFT)?;
-        self.accept::<SIGN>(cells, &head, place, DOWN)?;
-        self.accept::<SIGN>(cells, &head, place, UP)
+        self.queue.make_room()?;
+        self.accept::<SIGN>(cells, &head, place, RIGHT);
+        self.accept::<SIGN>(cells, &head, place, LEFT);
+        self.accept::<SIGN>(cells, &head, place, DOWN);
+        self.accept::<SIGN>(cells, &head, place, UP);
+        Ok(())
     }
 
     /// Queues the reverse of an arc out of a cell that is in no tree, if it leads out of one.
     #[inline(always)]
-    fn accept<const SIGN: i32>(
-        &mut self,
-        cells: &[Cell],
-        head: &Cell,
-        place: u32,
-        direction: u8,
-    ) -> Result<(), AllocError> {
+    fn accept<const SIGN: i32>(&mut self, cells: &[Cell], head: &Cell, place: u32, direction: u8) {
         let from = self.head(place, direction);
         let tail = cell_at(cells, from);
         if tail.is_in_tree() {
             let time = self.due::<SIGN>(tail, head, direction ^ 1);
-            self.queue.put(time, arc_of(from, direction ^ 1))?;
+            self.queue.put(time, arc_of(from, direction ^ 1));
         }
-        Ok(())
     }
+}
+
+/// Joins a cell to a tree by the step to its parent. The result is what it holds then, if there is one.
+#[inline(always)]
+pub(crate) fn join<const SIGN: i32>(
+    cells: &mut [Cell],
+    place: u32,
+    step: u8,
+    time: i32,
+) -> Result<Option<Cell>, Stop> {
+    let Some(cell) = cells.get_mut(place as usize) else {
+        return Ok(None);
+    };
+    cell.height = cell.height.wrapping_add(time.wrapping_mul(SIGN));
+    cell.step = step;
+    if cell.height.unsigned_abs() >= LIMIT {
+        return Err(Stop::GivenUp);
+    }
+    Ok(Some(*cell))
 }
 
 /// The number of an arc.

@@ -5,10 +5,10 @@ use crate::stop::Stop;
 
 /// A way that flow takes: from a root along its tree to `tail`, and then along an arc.
 #[derive(Clone, Copy)]
-struct Way {
-    tail: u32,
-    head: u32,
-    direction: u8,
+pub(crate) struct Way {
+    pub(crate) tail: u32,
+    pub(crate) head: u32,
+    pub(crate) direction: u8,
 }
 
 impl Forest {
@@ -21,14 +21,21 @@ impl Forest {
 
     /// Grows trees, and takes them apart if that is given up.
     fn grow_or_fold<const SIGN: i32>(&mut self, cells: &mut [Cell]) -> Result<(), Stop> {
-        let outcome = self.grow::<SIGN>(cells);
+        let outcome = self.send_all::<SIGN>(cells);
         if let Err(Stop::GivenUp) = outcome {
             self.fold::<SIGN>(cells);
         }
         outcome
     }
 
-    /// Sends what the listed cells have to send, times `SIGN`, to those that lack it and outside.
+    /// Sends what the listed cells have to send, times `SIGN`, to those that lack it and outside: first by trees that grow one
+    /// after another, and what these leave by trees that grow at one time.
+    fn send_all<const SIGN: i32>(&mut self, cells: &mut [Cell]) -> Result<(), Stop> {
+        self.search_all::<SIGN>(cells)?;
+        self.grow::<SIGN>(cells)
+    }
+
+    /// Grows trees from all listed cells with something to send, times `SIGN`, until none has.
     fn grow<const SIGN: i32>(&mut self, cells: &mut [Cell]) -> Result<(), Stop> {
         self.queue.clear();
         let mut left = self.plant::<SIGN>(cells)?;
@@ -37,7 +44,7 @@ impl Forest {
                 self.steps = self.steps.wrapping_sub(taken);
                 return Ok(());
             }
-            let Some(event) = self.queue.take()? else {
+            let Some(event) = self.queue.take() else {
                 return Err(Stop::GivenUp);
             };
             if self.follow::<SIGN>(cells, event)? {
@@ -53,7 +60,7 @@ impl Forest {
         for index in 0..self.listed.len() {
             let place = self.listed.get(index).copied().unwrap_or(0);
             let cell = cell_at(cells, place);
-            if cell.step == FREE && cell.excess.wrapping_mul(SIGN) > 0 {
+            if cell.step == FREE && cell.supply::<SIGN>() > 0 {
                 planted = planted.wrapping_add(1);
                 self.attach::<SIGN>(cells, place, ROOT, 0)?;
             }
@@ -76,7 +83,7 @@ impl Forest {
         if late.cast_unsigned() | astray != 0 {
             return Ok(false);
         }
-        if head.step == FREE && head.excess.wrapping_mul(SIGN) >= 0 {
+        if head.step == FREE && head.supply::<SIGN>() >= 0 {
             self.attach::<SIGN>(cells, next, direction ^ 1, event.time)?;
             return Ok(false);
         }
@@ -95,18 +102,11 @@ impl Forest {
         way: Way,
         time: i32,
     ) -> Result<bool, Stop> {
-        let (root, most) = self.measure::<SIGN>(cells, way);
-        self.push_along::<SIGN>(cells, way, most);
-        if let Some(cell) = cells.get_mut(way.head as usize) {
-            if cell.step == FREE {
-                cell.excess = cell.excess.wrapping_add(most.wrapping_mul(SIGN));
-            }
-        }
-        let Some(cell) = cells.get_mut(root as usize) else {
+        let (root, most) = self.carry::<SIGN>(cells, way);
+        if most <= 0 {
             return Err(Stop::GivenUp);
-        };
-        cell.excess = cell.excess.wrapping_sub(most.wrapping_mul(SIGN));
-        if cell.excess == 0 {
+        }
+        if cell_at(cells, root).excess == 0 {
             self.dissolve::<SIGN>(cells, root, time)?;
             return Ok(true);
         }
@@ -115,9 +115,26 @@ impl Forest {
         }
         let tail = *cell_at(cells, way.tail);
         if tail.is_in_tree() {
-            self.offer::<SIGN>(cells, &tail, way.tail, way.direction)?;
+            self.queue.make_room()?;
+            self.offer::<SIGN>(cells, &tail, way.tail, way.direction);
         }
         Ok(false)
+    }
+
+    /// Sends as much as can be sent along a way. The result is its root, and how much was sent.
+    pub(crate) fn carry<const SIGN: i32>(&self, cells: &mut [Cell], way: Way) -> (u32, i32) {
+        let (root, most) = self.measure::<SIGN>(cells, way);
+        let amount = most.wrapping_mul(SIGN);
+        self.push_along::<SIGN>(cells, way, most);
+        if let Some(cell) = cells.get_mut(way.head as usize) {
+            if cell.step == FREE {
+                cell.supply_more(amount);
+            }
+        }
+        if let Some(cell) = cells.get_mut(root as usize) {
+            cell.supply_more(amount.wrapping_neg());
+        }
+        (root, most)
     }
 
     /// The root of a way, and how much can be sent along it.
@@ -125,7 +142,7 @@ impl Forest {
         let head = cell_at(cells, way.head);
         let mut tail = cell_at(cells, way.tail);
         let mut most = if head.step == FREE {
-            head.excess.wrapping_mul(SIGN).wrapping_neg()
+            head.supply::<SIGN>().wrapping_neg()
         } else {
             i32::MAX
         };
@@ -141,7 +158,7 @@ impl Forest {
             place = parent;
             tail = above;
         }
-        (place, most.min(tail.excess.wrapping_mul(SIGN)))
+        (place, most.min(tail.supply::<SIGN>()))
     }
 
     /// How much can be sent along an arc at the cost of the first unit.

@@ -6,6 +6,7 @@ mod forest;
 mod growing;
 mod opening;
 mod queue;
+mod searching;
 mod stop;
 
 pub use crate::cell::{

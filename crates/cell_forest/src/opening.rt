@@ -75,15 +75,15 @@ impl Forest {
         first: u32,
         (start, end): (u32, u32),
         step: u32,
-    ) -> Result<(), AllocError> {
+    ) -> Result<(), Stop> {
         for column in (start.wrapping_add(step)..end).step_by(step.max(1) as usize) {
             self.open_cell(cells, first.wrapping_add(column))?;
         }
         Ok(())
     }
 
-    /// Takes a cell from the outside, and lists it if it has something to send or to be sent.
-    fn open_cell(&mut self, cells: &mut [Cell], place: u32) -> Result<(), AllocError> {
+    /// Takes a cell from the outside, and lists it if it has something to send or to be sent. It gives up if that does not fit.
+    fn open_cell(&mut self, cells: &mut [Cell], place: u32) -> Result<(), Stop> {
         let gained = self.gain(cells, place);
         let Some(cell) = cells.get_mut(place as usize) else {
             return Ok(());
@@ -91,11 +91,20 @@ impl Forest {
         if cell.step != OUTSIDE {
             return Ok(());
         }
+        let Ok(excess) = i16::try_from(i32::from(cell.excess).wrapping_add(gained)) else {
+            return Err(Stop::GivenUp);
+        };
         cell.step = FREE;
-        cell.excess = cell.excess.wrapping_add(gained);
-        if cell.excess != 0 {
-            self.listed.push(place)?;
+        cell.excess = excess;
+        if excess != 0 {
+            self.list_opened(place)?;
         }
+        Ok(())
+    }
+
+    /// Lists a cell.
+    fn list_opened(&mut self, place: u32) -> Result<(), AllocError> {
+        self.listed.push(place)?;
         Ok(())
     }
 
@@ -105,9 +114,9 @@ impl Forest {
         let [from_left, _] = cell_at(cells, self.head(place, LEFT)).flows;
         let [_, from_above] = cell_at(cells, self.head(place, UP)).flows;
         let [right, down] = cell_at(cells, place).flows;
-        from_left
-            .wrapping_sub(right)
-            .wrapping_add(from_above)
-            .wrapping_sub(down)
+        i32::from(from_left)
+            .wrapping_sub(i32::from(right))
+            .wrapping_add(i32::from(from_above))
+            .wrapping_sub(i32::from(down))
     }
 }

@@ -3,49 +3,37 @@ use std::alloc::{AllocError, Global};
 /// How many slots there are for the times of the present block, one for each. A block has this many times.
 const NEAR: u32 = 1024;
 
-/// How many places a chunk has. The last one names the next chunk.
-const CHUNK: u32 = 16;
-
-/// No place. It is the last place of a chunk.
+/// No event.
 const NONE: u32 = u32::MAX;
-
-/// The last place at which a chunk may begin.
-const MOST: u32 = 1 << 31;
 
 /// An arc, and the time at which it may join its head to a tree: four times the place of its tail, and its direction.
 #[derive(Clone, Copy)]
 pub(crate) struct Event {
     pub(crate) time: i32,
     pub(crate) arc: u32,
+    /// The place of the next event in its slot, or of the next that is free.
+    next: u32,
 }
 
 /// An event that says nothing.
-const BLANK: Event = Event { time: 0, arc: NONE };
-
-/// Where the events of a slot are: the place of the first, and the place after the last.
-#[derive(Clone, Copy)]
-struct Slot {
-    first: u32,
-    end: u32,
-}
-
-const EMPTY: Slot = Slot {
-    first: NONE,
-    end: NONE,
+const BLANK: Event = Event {
+    time: 0,
+    arc: 0,
+    next: NONE,
 };
 
-/// Events by time. Among those of one time the first that was put comes first. (Dial, Communications of the ACM 12(11),
-/// 1969; the far slots are those of a radix heap: Ahuja, Mehlhorn, Orlin and Tarjan 1990.)
+/// Events by time. (Dial, Communications of the ACM 12(11), 1969; the far slots are those of a radix heap: Ahuja, Mehlhorn,
+/// Orlin and Tarjan 1990.)
 #[derive(Drop)]
 pub(crate) struct Queue {
-    /// The events of all slots, in chunks.
+    /// The events of all slots. Those of a slot name each other, the last one first.
     events: Vec<Event>,
-    /// The first chunk that was freed. The first event of such a chunk names the next.
+    /// The place of an event that was taken, which names the next such.
     free: u32,
-    /// The first place that no chunk has had since the queue was cleared.
+    /// The first place that no event has had since the queue was cleared.
     unused: u32,
-    /// The near slots, then the far slots.
-    slots: Vec<Slot>,
+    /// The place of the last event of each near slot, then of each far slot, if the slot is marked.
+    slots: Vec<u32>,
     /// A binary digit for each slot: 1 if it has an event.
     marks: Vec<u64>,
     /// How many slots there are for later blocks, which is a power of 2.
@@ -64,7 +52,7 @@ impl Queue {
             events: Vec::new(alloc),
             free: NONE,
             unused: 0,
-            slots: vec![in alloc; EMPTY; slots]?,
+            slots: vec![in alloc; NONE; slots]?,
             marks: vec![in alloc; 0; slots / 64]?,
             far,
             slot: 0,
@@ -74,34 +62,11 @@ impl Queue {
 
     /// Drops all events. The present time is 0 again.
     pub(crate) fn clear(&mut self) {
-        for word in 0..self.marks.len() {
-            self.clear_word(word);
-        }
+        self.marks.fill(0);
         self.free = NONE;
         self.unused = 0;
         self.slot = 0;
         self.start = 0;
-    }
-
-    /// Drops the events of the slots that a word of marks is about.
-    fn clear_word(&mut self, word: usize) {
-        let Some(marks) = self.marks.get_mut(word) else {
-            return;
-        };
-        let mut bits = *marks;
-        *marks = 0;
-        for _ in 0..64 {
-            if bits == 0 {
-                return;
-            }
-            let number = word
-                .wrapping_mul(64)
-                .wrapping_add(bits.trailing_zeros() as usize);
-            if let Some(slot) = self.slots.get_mut(number) {
-                *slot = EMPTY;
-            }
-            bits &= bits.wrapping_sub(1);
-        }
     }
 
     /// The present time.
@@ -110,143 +75,97 @@ impl Queue {
         self.start.wrapping_add(self.slot.cast_signed())
     }
 
-    /// Puts an event at a time that is not past.
+    /// Makes room for four more events.
     #[inline(always)]
-    pub(crate) fn put(&mut self, time: i32, arc: u32) -> Result<(), AllocError> {
-        self.put_if(true, time, arc)
+    pub(crate) fn make_room(&mut self) -> Result<(), AllocError> {
+        if self.events.len() < (self.unused as usize).wrapping_add(4) {
+            self.events.extend_from_slice(&[BLANK; 64])?;
+        }
+        Ok(())
     }
 
-    /// Puts an event at a time that is not past, if a condition holds. Which way it goes is not predictable, so no branch depends
-    /// on it: the event is written behind those of the present time otherwise, and not counted.
+    /// Puts an event at a time that is not past, where there is room.
     #[inline(always)]
-    pub(crate) fn put_if(&mut self, holds: bool, time: i32, arc: u32) -> Result<(), AllocError> {
-        let time = if holds { time } else { self.present() };
+    pub(crate) fn put(&mut self, time: i32, arc: u32) {
+        let place = self.free_place();
+        if let Some(event) = self.events.get_mut(place as usize) {
+            event.time = time;
+            event.arc = arc;
+        }
+        self.link(time, place);
+    }
+
+    /// A place for one more event.
+    #[inline(always)]
+    fn free_place(&mut self) -> u32 {
+        let place = self.free;
+        if let Some(event) = self.events.get(place as usize) {
+            self.free = event.next;
+            return place;
+        }
+        let place = self.unused;
+        self.unused = place.wrapping_add(1);
+        place
+    }
+
+    /// Takes the first event. Among those of one time it is the last that was put.
+    #[inline(always)]
+    pub(crate) fn take(&mut self) -> Option<Event> {
+        self.slot = match self.marked(self.slot, NEAR) {
+            Some(found) => found,
+            None => self.open_block()?,
+        };
+        let place = self.slots.get_mut(self.slot as usize)?;
+        let held = self.events.get_mut(*place as usize)?;
+        let event = *held;
+        held.next = self.free;
+        self.free = *place;
+        *place = event.next;
+        if event.next == NONE {
+            self.unmark(self.slot);
+        }
+        Some(event)
+    }
+
+    /// Puts the event at a place of the list in the slot of its time.
+    #[inline(always)]
+    fn link(&mut self, time: i32, place: u32) {
         let ahead = time.wrapping_sub(self.start).cast_unsigned();
         let number = if ahead < NEAR {
             ahead
         } else {
             self.far_slot(time)
         };
-        let mut end = match self.slots.get(number as usize) {
-            Some(slot) => slot.end,
-            None => return Ok(()),
-        };
-        if end % CHUNK + u32::from(holds) == CHUNK {
-            end = self.lengthen(number)?;
-        }
-        if let Some(event) = self.events.get_mut(end as usize) {
-            *event = Event { time, arc };
-        }
-        if let Some(slot) = self.slots.get_mut(number as usize) {
-            slot.end = end.wrapping_add(u32::from(holds));
-        }
-        Ok(())
-    }
-
-    /// Takes the first event.
-    #[inline(always)]
-    pub(crate) fn take(&mut self) -> Result<Option<Event>, AllocError> {
-        if self.next_is_none(self.slot) && !self.advance()? {
-            return Ok(None);
-        }
-        Ok(Some(self.take_from(self.slot)))
-    }
-
-    /// Whether no event is left in a slot.
-    #[inline(always)]
-    fn next_is_none(&self, number: u32) -> bool {
-        match self.slots.get(number as usize) {
-            Some(slot) => slot.first == slot.end,
-            None => true,
-        }
-    }
-
-    /// Takes the first event of a slot that has one.
-    #[inline(always)]
-    fn take_from(&mut self, number: u32) -> Event {
-        let Some(slot) = self.slots.get_mut(number as usize) else {
-            return BLANK;
-        };
-        let mut first = slot.first;
-        if first % CHUNK == CHUNK - 1 {
-            first = go_on(&mut self.events, &mut self.free, first);
-        }
-        slot.first = first.wrapping_add(1);
-        self.events.get(first as usize).copied().unwrap_or(BLANK)
-    }
-
-    /// Marks that a slot has no event, and frees its last chunk.
-    fn empty(&mut self, number: u32) {
         let Some(slot) = self.slots.get_mut(number as usize) else {
             return;
         };
-        if slot.first == NONE {
+        let Some(marks) = self.marks.get_mut(number as usize / 64) else {
             return;
-        }
-        release(&mut self.events, &mut self.free, slot.first);
-        *slot = EMPTY;
-        if let Some(word) = self.marks.get_mut(number as usize / 64) {
-            *word &= !1u64.wrapping_shl(number);
+        };
+        let mark = 1u64.wrapping_shl(number);
+        let next = if *marks & mark == 0 { NONE } else { *slot };
+        *marks |= mark;
+        *slot = place;
+        if let Some(event) = self.events.get_mut(place as usize) {
+            event.next = next;
         }
     }
 
-    /// Gives a slot one more chunk. The result is the chunk's first place.
-    fn lengthen(&mut self, number: u32) -> Result<u32, AllocError> {
-        let chunk = self.take_chunk()?;
-        if let Some(slot) = self.slots.get_mut(number as usize) {
-            if slot.first == NONE {
-                slot.first = chunk;
-                if let Some(word) = self.marks.get_mut(number as usize / 64) {
-                    *word |= 1u64.wrapping_shl(number);
-                }
-            } else if let Some(event) = self.events.get_mut(slot.end as usize) {
-                event.arc = chunk;
-            }
+    /// Marks that a slot has no event.
+    #[inline(always)]
+    fn unmark(&mut self, number: u32) {
+        if let Some(marks) = self.marks.get_mut(number as usize / 64) {
+            *marks &= !1u64.wrapping_shl(number);
         }
-        Ok(chunk)
-    }
-
-    /// A free chunk, or a new one if none is free. The result is its first place.
-    fn take_chunk(&mut self) -> Result<u32, AllocError> {
-        let chunk = self.free;
-        if chunk != NONE {
-            self.free = link_at(&self.events, chunk);
-            return Ok(chunk);
-        }
-        let chunk = self.unused;
-        if chunk > MOST {
-            return Err(AllocError);
-        }
-        self.unused = chunk.wrapping_add(CHUNK);
-        if chunk as usize >= self.events.len() {
-            self.events.extend_from_slice(&[BLANK; CHUNK as usize])?;
-        }
-        Ok(chunk)
-    }
-
-    /// Goes on to the next slot that has an event. The result is whether there is one.
-    fn advance(&mut self) -> Result<bool, AllocError> {
-        for _ in 0..u64::MAX {
-            self.empty(self.slot);
-            if let Some(found) = self.marked(self.slot, NEAR) {
-                self.slot = found;
-            } else if !self.open_block()? {
-                return Ok(false);
-            }
-            if !self.next_is_none(self.slot) {
-                return Ok(true);
-            }
-        }
-        Ok(false)
     }
 
     /// The slot of a later block.
-    #[cold]
     fn far_slot(&self, time: i32) -> u32 {
         NEAR.wrapping_add(time.cast_unsigned() / NEAR & self.far.wrapping_sub(1))
     }
 
     /// The first slot with a mark, from `from` on and before `end`, which is a multiple of 64.
+    #[inline(always)]
     fn marked(&self, from: u32, end: u32) -> Option<u32> {
         let mut kept = u64::MAX.wrapping_shl(from);
         for word in from / 64..end / 64 {
@@ -259,56 +178,29 @@ impl Queue {
         None
     }
 
-    /// Goes on to the next block with an event, and puts its events in the slots of their times. The result is whether
-    /// there is one.
-    fn open_block(&mut self) -> Result<bool, AllocError> {
+    /// Goes on to the next block with an event, and puts its events in the slots of their times. The result is the first of
+    /// these, if there is one.
+    fn open_block(&mut self) -> Option<u32> {
         let here = self.far_slot(self.start);
         let end = NEAR.wrapping_add(self.far);
         let found = match self.marked(here, end) {
             Some(found) => found,
-            None => match self.marked(NEAR, end) {
-                Some(found) => found,
-                None => return Ok(false),
-            },
+            None => self.marked(NEAR, end)?,
         };
         let blocks = found.wrapping_sub(here) & self.far.wrapping_sub(1);
         self.start = self
             .start
             .wrapping_add(blocks.wrapping_mul(NEAR).cast_signed());
-        self.slot = 0;
+        self.unmark(found);
+        let mut place = self.slots.get(found as usize).copied().unwrap_or(NONE);
         for _ in 0..self.events.len() {
-            if self.next_is_none(found) {
+            let Some(event) = self.events.get(place as usize).copied() else {
                 break;
-            }
-            let event = self.take_from(found);
-            self.put(event.time, event.arc)?;
+            };
+            self.link(event.time, place);
+            place = event.next;
         }
-        self.empty(found);
-        Ok(true)
-    }
-}
-
-/// The chunk that comes after the one at whose last place `place` is, which is freed.
-fn go_on(events: &mut [Event], free: &mut u32, place: u32) -> u32 {
-    let chunk = link_at(events, place);
-    release(events, free, place);
-    chunk
-}
-
-/// Frees the chunk in which a place lies.
-fn release(events: &mut [Event], free: &mut u32, place: u32) {
-    let chunk = place - place % CHUNK;
-    if let Some(event) = events.get_mut(chunk as usize) {
-        event.arc = *free;
-        *free = chunk;
-    }
-}
-
-/// The chunk that a place names.
-fn link_at(events: &[Event], place: u32) -> u32 {
-    match events.get(place as usize) {
-        Some(event) => event.arc,
-        None => NONE,
+        self.marked(0, NEAR)
     }
 }
 

@@ -8,7 +8,7 @@ impl Tile {
         for row in self.cells.chunks(self.stride.max(1) as usize) {
             for cell in row.iter().skip(1) {
                 let [_, down] = cell.flows;
-                list.push(down)?;
+                list.push(i32::from(down))?;
             }
         }
         Ok(list)
@@ -19,7 +19,7 @@ impl Tile {
         let mut list = Vec::with_capacity(alloc, (self.across as usize + 1) * self.along as usize)?;
         for cell in self.cells.iter().skip(self.stride as usize) {
             let [right, _] = cell.flows;
-            list.push(right.wrapping_neg())?;
+            list.push(i32::from(right).wrapping_neg())?;
         }
         Ok(list)
     }

@@ -79,6 +79,6 @@ fn narrow(weight: i32) -> u16 {
 /// Sets what the cells of a row but the first have to send.
 fn load_residues(row: &mut [Cell], residues: &[i8]) {
     for (cell, residue) in row.iter_mut().skip(1).zip(residues) {
-        cell.excess = i32::from(*residue);
+        cell.excess = i16::from(*residue);
     }
 }

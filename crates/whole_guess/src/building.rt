@@ -259,12 +259,12 @@ fn cell_of(left: Side, right: Side, weights: [u16; 2]) -> Cell {
         .wrapping_sub(left.rise);
     Cell {
         height: 0,
-        excess: round / 65536,
-        flows: [0; 2],
         weights: [
             right_weight & upper.opened & lower.opened,
             down_weight & left.lower.opened & lower.opened,
         ],
+        flows: [0; 2],
+        excess: i16::try_from(round / 65536).unwrap_or(0),
         step: left.step.max(right.step),
     }
 }

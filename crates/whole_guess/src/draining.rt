@@ -167,9 +167,13 @@ impl Drainage {
             return;
         };
         let step = cell.step;
-        let amount = cell.excess.wrapping_add(gained);
+        let amount = i32::from(cell.excess).wrapping_add(gained);
         cell.step = after;
-        cell.excess = if step == ROOT { amount } else { 0 };
+        cell.excess = if step == ROOT {
+            i16::try_from(amount).unwrap_or(0)
+        } else {
+            0
+        };
         if step < ROOT {
             push::<1>(cells, place, self.forest.head(place, step), step, amount);
         }

@@ -32,7 +32,7 @@ fn right_flows(alloc: Global, cells: &[Cell], width: usize) -> Result<Vec<i32>, 
     for row in cells.chunks(width.max(1)) {
         for cell in row.iter().skip(1) {
             let [_, down] = cell.flows;
-            list.push(down)?;
+            list.push(i32::from(down))?;
         }
     }
     Ok(list)
@@ -43,7 +43,7 @@ fn down_flows(alloc: Global, cells: &[Cell], width: usize) -> Result<Vec<i32>, A
     let mut list = Vec::new(alloc);
     for cell in cells.iter().skip(width) {
         let [right, _] = cell.flows;
-        list.push(right.wrapping_neg())?;
+        list.push(i32::from(right).wrapping_neg())?;
     }
     Ok(list)
 }

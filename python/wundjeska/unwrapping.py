@@ -170,7 +170,7 @@ class Solved:
 class Unwrapped:
     """An unwrapped interferogram. As a pair it is (phase, components).
 
-    Certain parts are found when `parts`, `components` or the pair is first asked for.
+    Certain parts are found when `parts`, `components` or the pair is first asked for; the session and the text are kept for that.
 
     phase       radians, float32, (rows, columns), NaN at masked pixels
     values      the same exactly, int64, in 1/65536 cycle; report_reader.NODATA at masked pixels

@@ -10,9 +10,8 @@ import argparse
 import sys
 import tempfile
 import warnings
-from functools import partial
 from pathlib import Path
-from typing import Any, Dict, List, Tuple
+from typing import Any, Callable, Dict, List, Tuple
 
 import numpy as np
 
@@ -21,6 +20,7 @@ import truth  # noqa: E402
 
 from wundjeska import Unwrapped, unwrap  # noqa: E402
 from wundjeska.components import components_of  # noqa: E402
+from wundjeska.nearest import commonest  # noqa: E402
 from wundjeska.parts import LEAST, Bounds  # noqa: E402
 from wundjeska.planes import CYCLE  # noqa: E402
 from wundjeska.trouble import run_main  # noqa: E402
@@ -48,7 +48,7 @@ def inside(scene: truth.Scene, values: truth.Field, labels: np.ndarray) -> Pair:
     covered = labels > 0
     if not covered.any():
         return 0.0, 0.0
-    levels = truth.commonest(cycles, labels.astype(np.int64) - 1)
+    levels = commonest(cycles, labels.astype(np.int64) - 1)
     off = cycles[covered] != levels[labels[covered].astype(np.int64) - 1]
     return 100 * float(covered.sum() / scene.opened.sum()), 100 * float(off.mean())
 
@@ -115,9 +115,10 @@ def main() -> int:
         found.append(measured(truth.scene_of(name, asked.side)))
         print(f"{name}:")
         show({row: np.array(cells) for row, cells in found[-1].items()})
-    for what, of in (("worst", partial(np.max, axis=0)), ("mean", partial(np.mean, axis=0))):
+    statistics: Dict[str, Callable[..., np.ndarray]] = {"worst": np.max, "mean": np.mean}
+    for what, of in statistics.items():
         print(f"{what} of {len(found)}:")
-        show({row: of([scene[row] for scene in found]) for row in found[0]})
+        show({row: of([scene[row] for scene in found], axis=0) for row in found[0]})
     return 0
 
 

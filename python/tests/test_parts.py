@@ -95,12 +95,19 @@ class Arrays(Older):
 
     def test_what_is_no_output_of_the_program(self) -> None:
         text = b"parts 1 3 2\npart 0 0 2\n" + GRID + b"1 1\n"
-        found = read_parts(text, (1, 2), Bounds(0.1, 2))
+        found = read_parts(text, (1, 2), Bounds(0.1, 2), 30)
         self.assertEqual((found.labels.tolist(), found.sizes.tolist(), found.margin), ([[1, 1]], [2], 3))
         for broken in (text.replace(b"0 0 2", b"0 0 1"), text.replace(b"1 1\n", b"1 2\n"), text.replace(b"1 1\n", b"-1 1\n")):
-            self.assertRaisesRegex(Trouble, "sizes are not", read_parts, broken, (1, 2), Bounds())
+            self.assertRaisesRegex(Trouble, "sizes are not", read_parts, broken, (1, 2), Bounds(), 30)
         for broken in (text[:-1], text + b"x", text.replace(b"part 0", b"part 00"), b""):
-            self.assertRaises(BrokenLine, read_parts, broken, (1, 2), Bounds())
+            self.assertRaises(BrokenLine, read_parts, broken, (1, 2), Bounds(), 30)
+
+    def test_what_a_margin_is_a_share_of(self) -> None:
+        """8 is the weight by looks of a coherence of 0, whose variance is pi^2 / 3: of half a radian it is 8 pi^2 / 3 / 0.25."""
+        for looks, unit in ((None, 255), (8, 105)):
+            found = wundjeska.unwrap(slope(), np.full(SHAPE, 0.7), looks, margin=0.2).parts
+            assert found is not None
+            self.assertEqual((found.unit, found.margin, found.labels[0, 16]), (unit, unit // 5, 1))
 
     def test_the_highest_weight(self) -> None:
         ones = np.ones((1, 2), dtype=np.uint16)
@@ -128,15 +135,15 @@ class Commands(Older):
         page = self.folder / "page.html"
         status, told = self.run_on(*(word for name in names for word in (f"--{name}", names[name])), "--page", page)
         self.assertEqual(status, 0, told)
-        self.assertIn("2 certain parts with 100.00 % of the open pixels at a margin of 20 (0.08 of the highest weight)", told)
+        self.assertIn("2 certain parts with 100.00 % of the open pixels at a margin of 20 (0.08 of 255)", told)
         kinds = {name: self.numbers(f"{name}.tif") for name in names}
         self.assertEqual({name: numbers for name, (numbers, _) in kinds.items()}, dict.fromkeys(names, [2, 0, 1]))
         self.assertEqual(kinds["components"], kinds["parts"])
-        self.assertTrue(kinds["parts"][1].startswith("certain parts by falling size: inside each every surface of the filtered phase"))
+        self.assertTrue(kinds["parts"][1].startswith("certain parts by falling size: inside each all surfaces of the filtered phase"))
         self.assertEqual(kinds["mask-components"][1], "connected components of the mask by falling size")
         note = gdal.Open(str(self.made)).GetMetadataItem("WUNDJESKA_PARTS")
         self.assertTrue(note.startswith("2 certain parts"), note)
-        for words in ("<h3>Certain parts</h3>", "which is proved; that these are the true cycles is not"):
+        for words in ("<h3>Certain parts</h3>", "that is proved, and not that they are true"):
             self.assertIn(words, page.read_text())
 
     def test_what_stands_in_their_place(self) -> None:

@@ -17,15 +17,18 @@ from .planes import MAX_PIXELS, ended, highest_weight
 from .program import Problem, call, first_line, program
 from .report_reader import NODATA, SMALL, BrokenLine, Lines, read_grid
 from .trouble import DISAGREES, REFUSED_WORDS, Trouble, warn
+from .weights import HALF_RADIAN, LINEAR_HIGHEST, unit_of
 
 COMMAND = "parts"
-MARGIN, LEAST = 0.08, 100  # if nothing else is said: a share of the highest weight, and pixels
+MARGIN, LEAST = 0.08, 100  # if nothing else is said: a share of the unit of weights, and pixels
 HEAD = rb"parts %b %b %b" % ((SMALL,) * 3)
 PART = rb"part %b %b %b" % ((SMALL,) * 3)
 PROVED = (
-    "inside each every surface of the {phase} that costs at most {margin} more than the {surface} has the same cycles as that, "
-    "up to one constant of the part, which is proved; that these are the true cycles is not"
+    "inside each all surfaces of the {phase} that cost at most {margin} more than {surface} have its cycles, up to one constant; "
+    "that is proved, and not that they are true"
 )
+
+UNIT = f"{LINEAR_HIGHEST}, the weight of a coherence of 1, or with looks of {HALF_RADIAN}, that of a phase off by half a radian"
 
 
 class NoParts(Trouble):
@@ -44,7 +47,7 @@ def check_command() -> None:
 
 @dataclass(frozen=True)
 class Bounds:
-    """How much more than the least a surface may cost, as a share of the highest weight, and how many pixels a part or a component
+    """How much more than the least a surface may cost, as a share of the unit of weights, and how many pixels a part or a component
     has at least, None if that was not said."""
 
     margin: float = MARGIN
@@ -68,6 +71,8 @@ class Parts:
     labels  uint32, (rows, columns): the number of each pixel's part, from 1 by falling size; 0 elsewhere
     sizes   int64, (parts): the pixels of each
     margin  what a surface may cost more: inside a part every such surface has the same cycles up to one constant
+    unit    what the margin that was asked for is a share of: the weight of a coherence of 1, 255; with looks that of a phase that is
+            off by half a radian, 105
     bounds  what was asked for
     opened  how many pixels are open
     """
@@ -75,6 +80,7 @@ class Parts:
     labels: npt.NDArray[np.uint32]
     sizes: npt.NDArray[np.int64]
     margin: int
+    unit: int
     bounds: Bounds
     opened: int
 
@@ -88,11 +94,11 @@ class Parts:
         count = len(self.sizes)
         what = f"{count or 'no'} certain part{'' if count == 1 else 's'}"
         cover = f" with {100 * self.share:.2f} % of the open pixels" if count else ""
-        return f"{what}{cover} at a margin of {self.margin} ({self.bounds.margin:g} of the highest weight)"
+        return f"{what}{cover} at a margin of {self.margin} ({self.bounds.margin:g} of {self.unit})"
 
     def proved(self, is_guided: bool) -> str:
         """What is proved of them, and what is not, in words."""
-        whose = ("filtered phase", "guide") if is_guided else ("phase", "surface")
+        whose = ("filtered phase", "the guide") if is_guided else ("phase", "this one")
         return PROVED.format(phase=whose[0], surface=whose[1], margin=self.margin)
 
 
@@ -106,7 +112,8 @@ class Certified:
 
     def parts(self, bounds: Bounds, name: str) -> Parts:
         """The parts of the surface, by the program."""
-        margin = int(bounds.margin * highest_weight(self.session))
+        unit = unit_of(highest_weight(self.session))
+        margin = int(bounds.margin * unit)
         least = min(bounds.of_parts, MAX_PIXELS)
         words = [COMMAND, *self.problem.words(), "--margin", str(margin), "--least", str(least)]
         status, out, told = call(words, ended(self.session) + self.text)
@@ -115,7 +122,7 @@ class Certified:
         if status != 0:
             raise Trouble(f"{name}: {COMMAND} ended with status {status}: {first_line(told or out)}", status % 256)
         try:
-            return read_parts(out, self.size(), bounds)
+            return read_parts(out, self.size(), bounds, unit)
         except BrokenLine as broken:
             raise Trouble(f"{name}: {COMMAND}: {broken}", DISAGREES) from broken
 
@@ -125,7 +132,7 @@ class Certified:
         return height, width
 
 
-def read_parts(text: bytes, shape: Tuple[int, int], bounds: Bounds) -> Parts:
+def read_parts(text: bytes, shape: Tuple[int, int], bounds: Bounds, unit: int) -> Parts:
     """Reads what `parts` wrote. Raises BrokenLine, or Trouble if its sizes are not those of its grid."""
     lines = Lines(io.BytesIO(text))
     count, margin, _ = map(int, lines.take_words(HEAD, "'parts COUNT MARGIN LEAST'"))
@@ -142,7 +149,7 @@ def read_parts(text: bytes, shape: Tuple[int, int], bounds: Bounds) -> Parts:
     order = np.argsort(-sizes, kind="stable")
     numbers = np.zeros(count + 1, dtype=np.uint32)
     numbers[order + 1] = np.arange(1, count + 1)
-    return Parts(numbers[labels], sizes[order], margin, bounds, int(opened.sum()))
+    return Parts(numbers[labels], sizes[order], margin, unit, bounds, int(opened.sum()))
 
 
 def certified_of(session: bytes, text: bytes, problem: Problem) -> Optional[Certified]:
@@ -170,10 +177,10 @@ def bounds_for(asked: Namespace, is_whole: bool) -> Bounds:
 
 
 def margin_for(asked: Namespace) -> float:
-    """The margin that the words ask for, as a share of the highest weight."""
+    """The margin that the words ask for, as a share of the unit of weights."""
     margin = MARGIN if asked.margin is None else float(asked.margin)
     if not 0 <= margin <= 1:
-        raise Trouble("--margin is from 0 to 1, a share of the highest weight", REFUSED_WORDS)
+        raise Trouble(f"--margin is from 0 to 1, a share of {UNIT}", REFUSED_WORDS)
     return margin
 
 
@@ -182,6 +189,6 @@ def add_margin_word(words: ArgumentParser) -> None:
         "--margin",
         type=float,
         metavar="SHARE",
-        help="inside a certain part every surface that costs at most so much more than the least has the same cycles: a share of "
-        f"the highest weight, from 0 to 1 (default: {MARGIN:g})",
+        help="inside a certain part every surface that costs at most so much more than the least has the same cycles: from 0 to 1, a "
+        f"share of {UNIT} (default: {MARGIN:g})",
     )

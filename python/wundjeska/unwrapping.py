@@ -488,7 +488,8 @@ def unwrap(
     least_component  pixels of smaller components get the number 0, and keep their phase; by default those of fewer than 100 pixels of
                      certain parts, and none of components of the mask
     margin           inside a certain part every surface that costs at most so much more than the least has the same cycles up to one
-                     constant: a share of the highest weight, from 0 to 1
+                     constant: from 0 to 1, a share of 255, the weight of a coherence of 1, or with looks of 105, that of a phase
+                     that is off by half a radian
     ramp             the expected slopes to the right and downwards, whole numbers of 1/65536 cycle a pixel, or 'auto': the
                      commonest fringe rate. Differences of neighbours are taken to lie within half a cycle of it
     screen           what a pixel needs to stay open, as {'coherence': 0.3, 'radius': 3, 'count': 20, 'patch': 50}: a coherence

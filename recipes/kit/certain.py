@@ -2,7 +2,7 @@
 """Tells what certain parts cover, and how much of that is wrong: certain.py [--side N] [NAME..]. Without a name it takes SCENES.
 
 Scenes are those of truth.py. A cell is a pair of percentages: the open pixels that lie in a part, and those of them that are off by
-whole cycles, after one constant for each part. A row is of a margin, as a share of the highest weight. Beside the parts stand the
+whole cycles, after one constant for each part. A row is of a margin, as a share of 255. Beside the parts stand the
 pieces, of as many pixels or more, of what is as coherent as the same cover wants. Each is told of no filter and of the default. The
 components of SNAPHU are tried where it is found. The last rows are means, and above them stands the worst scene of each.
 """

@@ -132,8 +132,9 @@ class Commands(Older):
 
     def test_what_is_written(self) -> None:
         names = {name: self.folder / f"{name}.tif" for name in ("components", "parts", "mask-components")}
-        page = self.folder / "page.html"
-        status, told = self.run_on(*(word for name in names for word in (f"--{name}", names[name])), "--page", page)
+        page, session, report = (self.folder / name for name in ("page.html", "session", "report"))
+        kept = ("--page", page, "--session", session, "--report", report)
+        status, told = self.run_on(*(word for name in names for word in (f"--{name}", names[name])), *kept)
         self.assertEqual(status, 0, told)
         self.assertIn("2 certain parts with 100.00 % of the open pixels at a margin of 20 (0.08 of 255)", told)
         kinds = {name: self.numbers(f"{name}.tif") for name in names}
@@ -145,6 +146,8 @@ class Commands(Older):
         self.assertTrue(note.startswith("2 certain parts"), note)
         for words in ("<h3>Certain parts</h3>", "that is proved, and not that they are true"):
             self.assertIn(words, page.read_text())
+        self.assertEqual(command("page.py", session, report, "--margin", 1, page)[0], 0)
+        self.assertIn("No certain parts at a margin of 255 (1 of 255)", page.read_text())
 
     def test_what_stands_in_their_place(self) -> None:
         status, told = self.run_on("--components", self.components, "--tile", 16)
@@ -177,6 +180,7 @@ class Commands(Older):
 # Three surfaces of 30 by 40 pixels, each of a left part of 15 columns (2) and a right one (1); the first has one part alone.
 LEFT = np.zeros(SHAPE, dtype=bool)
 LEFT[:, :15] = True
+LOW = LEFT & (np.arange(SHAPE[0])[:, None] >= 20)
 ONE, TWO = np.ones(SHAPE, dtype=np.int64), np.where(LEFT, 2, 1)
 CASES: Tuple[Tuple[Any, Any, Any, int], ...] = (  # cycles of the left part of each surface too many, parts of each, and what is raised: surface, part, cycles, pixels
     ((0, 0, 1), (ONE, ONE, TWO), [(2, 2, -1, 450)], 0),
@@ -185,6 +189,8 @@ CASES: Tuple[Tuple[Any, Any, Any, int], ...] = (  # cycles of the left part of e
     ((0, 0, 1), (ONE, TWO, TWO), [], 1),  # the second may be meant as well
     ((0, 0, 1), (ONE, ONE, ONE), [], 0),  # most of the one part closes
     ((0, 0, 0), (TWO, TWO, TWO), [], 0),
+    ((0, 0, 2), (ONE, ONE, ONE + LEFT + LOW), [(2, 2, -2, 300), (2, 3, -2, 150)], 0),
+    ((0, 0, 2), (ONE, TWO, ONE + LEFT + LOW), [], 1),  # 300 pixels are more than half of the 450 that the second's part closes
 )
 
 

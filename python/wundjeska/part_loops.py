@@ -1,11 +1,12 @@
 """Which certain parts the loop of three surfaces says to raise. NumPy alone.
 
 A certain part is known up to one whole number of cycles. If that is all that is wrong, the cycles in a closure are one number wherever
-the parts of the three surfaces are the same three. So a part is raised where most of its pixels then close, the part that closes
-most first, until none is left. Where a part of another surface would close nearly as many, the loop does not say which of the
-two is wrong, and neither is raised. No certificate says that what is raised is right.
+the parts of the three surfaces are the same three. So a part is raised where nearly all of its pixels then close, the part that
+closes most first, until none is left. Where a part of another surface would close half as many or more, the loop does not say which
+of the two is wrong: neither is raised, and their pixels are left out. A loop does not see what is wrong in two of its surfaces alike.
+No certificate says that what is raised is right. The limits were found on made loops.
 """
-from dataclasses import dataclass
+from dataclasses import dataclass, replace
 from typing import Iterator, List, Sequence, Tuple
 
 import numpy as np
@@ -16,7 +17,8 @@ from .report_reader import NODATA
 
 SIGNS = (1, 1, -1)  # of the three surfaces in a closure
 ROLES = ("first", "second", "third")
-ALIKE = 0.8  # of the pixels that a part closes, from which on a part of another surface may be meant as well
+NEARLY_ALL = 0.7  # of a part's pixels, above which it is raised
+ALIKE = 0.5  # of the pixels that a part closes, from which on a part of another surface may be meant as well
 
 
 @dataclass(frozen=True)
@@ -27,10 +29,6 @@ class Move:
     part: int
     cycles: int
     closes: int
-
-    def is_in(self, pair: Sequence["Move"]) -> bool:
-        """Whether one of these is of the same part."""
-        return (self.surface, self.part) in [(move.surface, move.part) for move in pair]
 
     def told(self) -> str:
         return f"part {self.part} of the {ROLES[self.surface]} surface by {self.cycles:+d}"
@@ -53,45 +51,53 @@ class Moves:
             yield "the loop says to raise no part"
 
 
-@dataclass
+@dataclass(frozen=True)
 class Table:
     """The pixels that have a closure, by their parts in the three surfaces and by their cycles.
 
     parts   int64, (3, rows): the part in each surface, 0 for none
     cycles  int64, (rows), in the closure
     counts  int64, (rows): pixels
+    sizes   of each surface: the pixels of each part from 0 that have a closure
     """
 
     parts: np.ndarray
     cycles: np.ndarray
     counts: np.ndarray
+    sizes: Sequence[np.ndarray]
 
     def moves(self) -> List[Move]:
-        """For each part the cycles by which it is raised if most of its pixels close then, those that close most first."""
-        found = [move for surface in range(3) for move in self.moves_of(surface)]
+        """For each part the cycles by which it is raised if nearly all of its pixels close then, those that close most first."""
+        found = [move for surface in range(3) for move in self.moves_of(surface) if move.closes > 0]
         return sorted(found, key=lambda move: -move.closes)
 
     def moves_of(self, surface: int) -> Iterator[Move]:
         """Those of one surface."""
+        sizes = self.sizes[surface]
         keys, places = np.unique(np.stack([self.parts[surface], self.cycles]), axis=1, return_inverse=True)
         pixels = np.bincount(places.ravel(), self.counts, keys.shape[1]).astype(np.int64)
-        sizes = np.bincount(keys[0], pixels).astype(np.int64)
         closed = np.bincount(keys[0], pixels * (keys[1] == 0), len(sizes)).astype(np.int64)
         for (part, cycles), most in zip(keys.T.tolist(), pixels.tolist()):
-            if part and cycles and 2 * most > sizes[part]:
-                yield Move(surface, part, -SIGNS[surface] * cycles, int(most - closed[part]))
+            if part and cycles and most > NEARLY_ALL * sizes[part]:
+                yield Move(surface, part, -SIGNS[surface] * cycles, most - int(closed[part]))
 
-    def raise_part(self, move: Move) -> None:
-        """Takes the cycles that a raised part has in the closures."""
-        self.cycles[self.parts[move.surface] == move.part] += SIGNS[move.surface] * move.cycles
+    def raised(self, move: Move) -> "Table":
+        """The pixels with the cycles that they have if a part is raised."""
+        inside = self.parts[move.surface] == move.part
+        return replace(self, cycles=self.cycles + np.where(inside, SIGNS[move.surface] * move.cycles, 0))
+
+    def without(self, *moves: Move) -> "Table":
+        """The pixels outside the parts of these moves; parts keep their sizes."""
+        left = ~np.any([self.parts[move.surface] == move.part for move in moves], axis=0)
+        return Table(self.parts[:, left], self.cycles[left], self.counts[left], self.sizes)
 
 
 def table_of(loops: Loops, parts: Sequence[np.ndarray]) -> Table:
     """The pixels of a loop by their parts."""
     known = loops.known()
-    rows = np.stack([*(labels[known].astype(np.int64) for labels in parts), loops.cycles[known]])
-    keys, counts = np.unique(rows, axis=1, return_counts=True)
-    return Table(keys[:3], keys[3], counts)
+    inside = [labels[known].astype(np.int64) for labels in parts]
+    keys, counts = np.unique(np.stack([*inside, loops.cycles[known]]), axis=1, return_counts=True)
+    return Table(keys[:3], keys[3], counts, [np.bincount(labels) for labels in inside])
 
 
 def moves_of(loops: Loops, parts: Sequence[np.ndarray]) -> Moves:
@@ -99,14 +105,15 @@ def moves_of(loops: Loops, parts: Sequence[np.ndarray]) -> Moves:
     table = table_of(loops, parts)
     raised: List[Move] = []
     doubted: List[Tuple[Move, Move]] = []
-    while left := [move for move in table.moves() if move.closes > 0 and not any(map(move.is_in, doubted))]:
+    while left := table.moves():
         best = left[0]
         others = [move for move in left if move.surface != best.surface and move.closes >= ALIKE * best.closes]
         if others:
             doubted.append((best, others[0]))
+            table = table.without(best, others[0])
         else:
-            table.raise_part(best)
             raised.append(best)
+            table = table.raised(best)
     return Moves(raised, doubted)
 
 

@@ -16,7 +16,7 @@ third surface raised so, which leaves closures within half a cycle. Nothing says
 the third surface is the wrong one, and no certificate covers it.
 
 --parts names the certain parts of the three surfaces, as `unwrap --parts` writes them. Each is known up to one whole number of
-cycles, so a part is told that closes most of its pixels if it is raised, unless a part of another surface may be meant as well.
+cycles, so a part is told of which nearly all pixels close if it is raised, unless a part of another surface may be meant as well.
 --correct-parts writes the three surfaces with these parts raised. That is no proof either.
 """
 import math

@@ -96,8 +96,19 @@ def table_of(loops: Loops, parts: Sequence[np.ndarray]) -> Table:
     """The pixels of a loop by their parts."""
     known = loops.known()
     inside = [labels[known].astype(np.int64) for labels in parts]
-    keys, counts = np.unique(np.stack([*inside, loops.cycles[known]]), axis=1, return_counts=True)
+    keys, counts = distinct([*inside, loops.cycles[known]])
     return Table(keys[:3], keys[3], counts, [np.bincount(labels) for labels in inside])
+
+
+def distinct(columns: Sequence[np.ndarray]) -> Tuple[np.ndarray, np.ndarray]:
+    """The distinct rows of columns of whole numbers, (columns, rows), and how often each is there. Columns are taken in one by one,
+    so that one number stands for what a row has so far."""
+    codes = np.zeros(len(columns[0]), dtype=np.int64)
+    for column in columns:
+        low, high = int(column.min(initial=0)), int(column.max(initial=0))
+        _, codes = np.unique(codes * (high - low + 1) + column - low, return_inverse=True)
+    _, first, counts = np.unique(codes, return_index=True, return_counts=True)
+    return np.stack([column[first] for column in columns]), counts
 
 
 def moves_of(loops: Loops, parts: Sequence[np.ndarray]) -> Moves:

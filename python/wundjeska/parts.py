@@ -27,7 +27,6 @@ PROVED = (
     "inside each all surfaces of the {phase} that cost at most {margin} more than {surface} have its cycles, up to one constant; "
     "that is proved, and not that they are true"
 )
-
 UNIT = f"{LINEAR_HIGHEST}, the weight of a coherence of 1, or with looks of {HALF_RADIAN}, that of a phase off by half a radian"
 
 

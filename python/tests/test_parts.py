@@ -252,6 +252,10 @@ class Closures(InFolder):
         for last, line in ((other, "whole ones"), (small, "39 by 30 pixels"), (mask, "no certain parts"), ("none.tif", "none.tif")):
             status, told = self.run_on(parts=(first, second, last))
             self.assertEqual((status != 0, told.count("\n"), line in told), (True, 1, True), told)
+        for last, line in ((mask, "warning: "), (self.parts[2], "part 2 of the third surface")):
+            status, told = command("closure.py", *self.surfaces, "--unit", "cycles", "--components", first, second, last, self.made)
+            self.assertEqual((status, line in told), (0, True), told)
+        self.made.unlink()
         outputs = [self.folder / "first.tif", self.folder / "second.tif", self.parts[2]]
         status, told = self.run_on("--correct-parts", *outputs)
         self.assertEqual((status, told.count("\n"), "input" in told), (2, 1, True), told)

@@ -103,6 +103,12 @@ def words() -> ArgumentParser:
         "--parts", nargs=3, metavar=("FIRST", "SECOND", "THIRD"), help="the certain parts of the surfaces: tell which ones to raise"
     )
     found.add_argument(
+        "--components",
+        nargs=3,
+        metavar=("FIRST", "SECOND", "THIRD"),
+        help="the components of the surfaces: the same if these are certain parts, else nothing",
+    )
+    found.add_argument(
         "--correct-parts",
         nargs=3,
         metavar=("FIRST", "SECOND", "THIRD"),
@@ -278,13 +284,29 @@ class Parted:
     surfaces: Sequence[np.ndarray]
 
 
+def other_content(raster: gdal.Dataset) -> Optional[str]:
+    """What a raster says that it has if that is no certain parts, in words."""
+    content: Optional[str] = raster.GetMetadataItem("WUNDJESKA_CONTENT")
+    return content.split(":")[0] if content and not content.startswith("certain parts") else None
+
+
+def numbered_in(asked: Namespace) -> List[gdal.Dataset]:
+    """The rasters of certain parts that are named, none if components are named and one has others."""
+    found = [open_raster(path) for path in asked.parts or asked.components or ()]
+    others = [raster for raster in found if other_content(raster) is not None]
+    if others and not asked.parts:
+        warn(f"{name_of(others[0])} has {other_content(others[0])}, and no certain parts, so none is told to be raised")
+        return []
+    return found
+
+
 def labels_in(raster: gdal.Dataset, like: gdal.Dataset) -> np.ndarray:
     """The numbers of the certain parts in a raster, int64, 0 for none."""
     path = name_of(raster)
     check_alike(like, raster)
-    content = raster.GetMetadataItem("WUNDJESKA_CONTENT")
-    if content and not content.startswith("certain parts"):
-        raise Trouble(f"{path} has {content.split(':')[0]}, and no certain parts")
+    other = other_content(raster)
+    if other is not None:
+        raise Trouble(f"{path} has {other}, and no certain parts")
     values, there = Band(raster, band_of(raster, None, "a copy with one band")).read(whole(raster))
     if values.dtype.kind not in "iu" or (there & ((values < 0) | (values > values.size))).any():
         raise Trouble(f"{path} has other numbers than parts have: whole ones, 0 where there is none, each of a pixel or more")
@@ -373,6 +395,8 @@ def check_words(asked: Namespace) -> None:
     check_reference_words(asked)
     if asked.nodata is not None and math.isinf(asked.nodata):
         raise Trouble("--nodata is a finite number, or nan", REFUSED_WORDS)
+    if asked.parts and asked.components:
+        raise Trouble("--components are taken if there are no --parts; both are named", REFUSED_WORDS)
     if asked.correct_parts and not asked.parts:
         raise Trouble("--correct-parts wants --parts, those of the three surfaces", REFUSED_WORDS)
 
@@ -434,8 +458,9 @@ def main(asked: Namespace) -> int:
     sources = [source_of(path, session) for path, session in zip(paths, sessions)]
     like = like_of(sources, asked.like)
     check_told(sources)
-    numbered = [open_raster(path) for path in asked.parts or ()]
-    inputs = [*paths, *sessions, *files_of(like, *(source.raster for source in sources), *numbered)]
+    numbered = numbered_in(asked)
+    named = asked.parts or asked.components or ()
+    inputs = [*paths, *sessions, *named, *files_of(like, *(source.raster for source in sources), *numbered)]
     with Outputs(inputs, asked.force) as outputs:
         places, page = places_for(asked, outputs), beside(outputs, asked.page)
         surfaces = [read_surface(source, asked) for source in sources]

@@ -1,5 +1,5 @@
 """Tests certain parts: what the program finds of small scenes, what is written and told of them, what stands in their place where
-there are none, and which of them the loop of three surfaces says to raise. If the program has no command `parts`, nothing is tried."""
+there are none, and which of them the loop of three surfaces says to raise."""
 import os
 import unittest
 from pathlib import Path

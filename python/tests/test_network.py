@@ -57,6 +57,9 @@ class Network(InFolder):
                     f"{name}: {LAKE + 120} pixels have a closure, 120 (6.11 %) are misclosed in 1 patch, 120 pixels at "
                 )
                 self.assertIn(f"{line}column 40, row 20, by ", told)
+                place = "first" if name.startswith(DATES[1]) else "second"
+                page = (self.scenes / "closures" / name / "page.html").read_text()
+                self.assertIn(f"the loop says to raise part 2 of the {place} surface by ", page)
             else:
                 self.assertEqual((known.all(), cycles.any()), (True, False))
                 self.assertIn(f"{name}: {pixels} pixels have a closure, none is misclosed\n", told)

@@ -107,7 +107,7 @@ class Arrays(Whole):
 
     def test_one_row_and_masked_parts(self) -> None:
         found = wundjeska.unwrap(np.array([[0.0, np.nan, 3.0, -3.0]]), whole=True)
-        self.assertEqual(found.components.tolist(), [[2, 0, 1, 1]])
+        self.assertEqual(found.mask_components.tolist(), [[2, 0, 1, 1]])
         self.assertEqual((found.values[0, 1], found.cost), (NODATA, 0))
 
     def test_the_text_is_kept_and_is_judged_before_it_is_believed(self) -> None:

@@ -23,7 +23,8 @@ PROVED = (
 
 @dataclass(frozen=True)
 class Shown:
-    """What a page tells of a loop: its title, each surface with its verdict, axes, the level, and where it is closed."""
+    """What a page tells of a loop: its title, each surface with its verdict, axes, the level, where it is closed, and lines on which
+    certain parts the loop says to raise."""
 
     title: str
     inputs: Sequence[Tuple[str, str]]
@@ -31,6 +32,7 @@ class Shown:
     level: int = 0
     why: str = ""
     reference: Optional[Sequence[int]] = None
+    parts: Sequence[str] = ()
 
 
 def key_of(cycles: int) -> str:
@@ -109,6 +111,14 @@ def patch_table(loops: Loops) -> str:
     return f'<div class="wide"><table><tr>{head}</tr>{rows}</table></div>{lines_on_others(patches)}<p>{words}</p>'
 
 
+def part_section(shown: Shown) -> str:
+    """Which certain parts the loop says to raise, if they are known."""
+    if not shown.parts:
+        return ""
+    listed = "".join(f"<li>{escape(line)}</li>" for line in shown.parts)
+    return f"<h2>Certain parts</h2><ul>{listed}</ul><p>No certificate says that a part that is raised is right then.</p>"
+
+
 def page_of(loops: Loops, shown: Shown) -> str:
     """The page, one HTML file that asks for nothing else."""
     height, width = loops.closures.shape
@@ -132,6 +142,7 @@ def page_of(loops: Loops, shown: Shown) -> str:
             f"<p>{escape(level)} Cycles: {counts} pixels.</p>",
             f'<h2>Maps</h2><p class="hint">{HINT}</p><div class="row">{cycle_map(loops, axes, shown)}{closure_map(loops, axes)}</div>',
             f"<h2>Misclosed patches, the largest first</h2>{patch_table(loops)}",
+            part_section(shown),
             f"<h2>What is proved</h2><p>{PROVED}</p>",
             footer([], words_said()),
             end_of(script),

@@ -207,6 +207,17 @@ def take_plane(text: bytes, start: int) -> Tuple[np.ndarray, int]:
     return found.astype(np.uint16).reshape(height, width), end
 
 
+def highest_weight(text: bytes) -> int:
+    """The maxval of the weights of a session that the program has taken; 1 if it has none."""
+    header = HEADER.match(text, take_plane(text, 0)[1])
+    return int(header.group(4)) if header else 1
+
+
+def ended(text: bytes) -> bytes:
+    """A session that ends, as one does that something follows."""
+    return text if read_session(text).script else text + b"end\n"
+
+
 def read_session(text: bytes) -> Session:
     """Reads a session whose form is right; the program is the judge of that."""
     planes: List[np.ndarray] = []

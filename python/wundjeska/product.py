@@ -11,6 +11,7 @@ from osgeo import gdal
 from . import __version__
 from .build_info import with_proofs
 from .displacements import LENGTHS, MAX_BLOCK, ROUNDED, Sight, displaced, wavelength_of
+from .parts import Parts
 from .planes import CYCLE
 from .rasters import NODATA, close, create_like, put_array, put_values
 from .references import Reference, block_of, check_reference_words, level_of, warn_of_components
@@ -134,8 +135,15 @@ def write_product(
 
 
 def write_components(path: Union[str, Path], like: gdal.Dataset, components: np.ndarray, least: int) -> None:
-    """Writes the components as whole numbers, 0 as NODATA."""
-    write_numbers(path, like, components, {"CONTENT": "connected components by falling size", "LEAST_COMPONENT": least})
+    """Writes the components of the mask as whole numbers, 0 as NODATA."""
+    content = "connected components of the mask by falling size"
+    write_numbers(path, like, components, {"CONTENT": content, "LEAST_COMPONENT": least})
+
+
+def write_parts(path: Union[str, Path], like: gdal.Dataset, parts: Parts, is_guided: bool) -> None:
+    """Writes certain parts as whole numbers, 0 as NODATA."""
+    notes = {"CONTENT": f"certain parts by falling size: {parts.proved(is_guided)}", "PARTS": parts.told()}
+    write_numbers(path, like, parts.labels, {**notes, "LEAST_COMPONENT": parts.bounds.of_parts})
 
 
 def write_undecided(path: Union[str, Path], like: gdal.Dataset, undecided: Undecided) -> None:

@@ -7,7 +7,7 @@ from dataclasses import dataclass
 from pathlib import Path
 from typing import List, Optional, Set, Tuple
 
-from .planes import CYCLE, Ramp, read_session
+from .planes import CYCLE, Ramp, ended, ramp_in
 from .trouble import FILE_FAULT, Trouble
 
 HERE = Path(__file__).resolve().parent
@@ -130,12 +130,11 @@ def check_report(session: bytes, report: bytes, problem: Problem) -> Tuple[bool,
 
     Trouble if the session tells another ramp than that of the problem.
     """
-    planes = read_session(session)
-    if planes.ramp not in (None, problem.ramp):
+    ramp = ramp_in(session)
+    if ramp not in (None, problem.ramp):
         raise Trouble(
-            f"the session expects the ramp {show(planes.ramp)} and the report is of {show(problem.ramp)}; unwrap it by the words "
-            f"{' '.join(ramp_words(planes.ramp)) or 'without --ramp-x and --ramp-y'}"
+            f"the session expects the ramp {show(ramp)} and the report is of {show(problem.ramp)}; unwrap it by the words "
+            f"{' '.join(ramp_words(ramp)) or 'without --ramp-x and --ramp-y'}"
         )
-    text = session if planes.script else session + b"end\n"
-    status, out, told = call([problem.checker, *problem.words()], text + report)
+    status, out, told = call([problem.checker, *problem.words()], ended(session) + report)
     return status == 0, first_line(out or told)

@@ -14,6 +14,7 @@ from typing import Dict, Iterable, List, Mapping, Optional
 from .command import parser_of, with_auto
 from .commands.unwrap import chain_of, settings_of
 from .displacements import LENGTHS
+from .parts import bounds_for
 from .product import check_unit_words
 from .rasters import check_scene_words
 from .screening import check_screen_words
@@ -32,7 +33,7 @@ OWN = {
 }
 # Of the words of unwrap those that each scene has its own of, or that the workflow sets.
 NOT_KEYS = {"help", "coherence", "mask", "components", "page", "session", "report", "unscreened", "no_check", "workers"}
-NOT_KEYS |= {"undecided", "unfiltered"}
+NOT_KEYS |= {"undecided", "unfiltered", "parts", "mask_components"}
 WANT_COHERENCE = ("least_coherence", "coherence_band", "coherence_max", "coherence_form", "looks", "screen")
 
 
@@ -108,12 +109,10 @@ def check_name(key: str, name: str, many: bool) -> None:
 def check_together(asked: Namespace, closure: bool) -> None:
     """Trouble if words of unwrap do not fit each other, as unwrap says it."""
     check_unit_words(asked)
-    settings_of(asked, asked.whole)
+    bounds_for(asked, settings_of(asked, asked.whole).is_whole)
     chain_of(asked)
     check_scene_words(asked)
     check_screen_words(asked.screen, None, asked.coherence)
-    if asked.least_component < 1:
-        raise Trouble("--least-component is 1 or more", REFUSED_WORDS)
     if closure and asked.unit in LENGTHS:
         raise Trouble(f"closure=yes wants surfaces in cycles or radians, not in {asked.unit}", REFUSED_WORDS)
     if closure and asked.reference_auto:

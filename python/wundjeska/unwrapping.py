@@ -1,7 +1,8 @@
 """Unwrapping of arrays: `unwrap` runs the proved program, has its report checked, and reads the surface back. NumPy alone."""
 import io
 import math
-from dataclasses import dataclass, replace
+from dataclasses import dataclass, field, replace
+from functools import cached_property
 from pathlib import Path
 from typing import Any, Iterator, Optional, Tuple, Union
 
@@ -15,6 +16,7 @@ from .components import components_of, warning_of
 from .concerns import Concern, Guide, Signs, judgement_of, signs_of
 from .guiding import FOURIER, Chain, Guided, Solvers, by_guide, check_before, guided, is_filtered
 from .outputs import Outputs, beside
+from .parts import MARGIN, Bounds, Certified, Parts, certified_of, parts_or_none
 from .planes import (
     CYCLE,
     MAX_WEIGHT,
@@ -41,7 +43,7 @@ SIDE, SIDES = 128, (2, 128)  # of tiles, and the least and the greatest
 WHOLE = True  # whether the whole raster is solved at once if nothing else is said
 FILTER = FOURIER  # what filters the phase first if nothing else is said
 MAX_STEEP = 16
-LOOKS, HIGHEST = "a number of 1 or more", "a number above 0"
+LOOKS, HIGHEST, SHARE = "a number of 1 or more", "a number above 0", "a number from 0 to 1"
 
 Path_ = Union[str, Path]
 
@@ -159,14 +161,25 @@ class Solved:
         """The parts of which nobody knows, if there is a filter."""
         return self.guided.apart.undecided() if self.guided else None
 
+    def certified(self, session: bytes, problem: Problem) -> Optional[Certified]:
+        """What tells certain parts: the whole text of this session, or of the one that the guide is of; None of tiles."""
+        return certified_of(self.guided.session if self.guided else session, self.report, problem)
+
 
 @dataclass(frozen=True)
 class Unwrapped:
     """An unwrapped interferogram. As a pair it is (phase, components).
 
+    Certain parts are found when `parts`, `components` or the pair is first asked for; the session and the text are kept for that.
+
     phase       radians, float32, (rows, columns), NaN at masked pixels
     values      the same exactly, int64, in 1/65536 cycle; report_reader.NODATA at masked pixels
-    components  uint32: the connected component of each pixel, from 1 by falling size; 0 at masked pixels and in small ones
+    components  uint32: the number of each pixel's certain part, from 1 by falling size; 0 at masked pixels and elsewhere. Of tiles, and
+                of a program that finds no certain parts, `mask_components`
+    parts       the certain parts: their `labels`, `sizes` and `margin`, the `share` of the open pixels that they cover; None of tiles
+    mask_components  uint32: the set of open pixels that touch each other, from 1 by falling size; 0 at masked pixels and in small ones
+    bounds      the margin and the least size that parts and components were asked for by
+    certified   the session and the whole text that parts are found of; None of tiles
     tile_cost   no surface that differs from the input by whole cycles costs less: the bound
     seam_cost   what the surface costs more than the bound: 0 if the whole raster was solved at once
     verdict     'accepted' if the program's checker accepted the report, else 'not checked'
@@ -181,7 +194,6 @@ class Unwrapped:
 
     phase: npt.NDArray[np.float32]
     values: npt.NDArray[np.int64]
-    components: npt.NDArray[np.uint32]
     tile_cost: int
     seam_cost: int
     verdict: str
@@ -191,6 +203,24 @@ class Unwrapped:
     concerns: Tuple[Concern, ...] = ()
     chain: Chain = Chain()
     undecided: Optional[Undecided] = None
+    bounds: Bounds = Bounds()
+    certified: Optional[Certified] = field(default=None, repr=False)
+
+    @cached_property
+    def parts(self) -> Optional[Parts]:
+        """The certain parts of the surface, or of its guide; None of tiles. Trouble if the program cannot find them."""
+        return self.certified.parts(self.bounds, "the interferogram") if self.certified else None
+
+    @cached_property
+    def mask_components(self) -> npt.NDArray[np.uint32]:
+        """Sets of open pixels that touch each other."""
+        return components_of(self.values != report_reader.NODATA, self.bounds.of_components)
+
+    @cached_property
+    def components(self) -> npt.NDArray[np.uint32]:
+        """The certain parts, or what the mask leaves if there are none to be had."""
+        found = parts_or_none(lambda: self.parts)
+        return self.mask_components if found is None else found.labels
 
     @property
     def judgement(self) -> str:
@@ -368,6 +398,18 @@ def settings_of(whole: Any, tile: Any, rule: Any, steep: Any, workers: Any) -> S
     return Settings(side_for(side, whole), rule, threads, whole_number("steep", steep, 1, MAX_STEEP))
 
 
+def bounds_of(margin: Any, least: Any, settings: Settings) -> Bounds:
+    """What is asked for of parts and components. Trouble if an argument does not fit."""
+    few = None if least is None else whole_number("least_component", least, 1)
+    if margin is None:
+        return Bounds(MARGIN, few)
+    if not 0 <= number("margin", margin, SHARE) <= 1:
+        raise refused("margin", SHARE, margin)
+    if not settings.is_whole:
+        raise Trouble("margin wants the whole raster at once: tiles have no certain parts", REFUSED_WORDS)
+    return Bounds(float(margin), few)
+
+
 def warn_of(concerns: Tuple[Concern, ...]) -> None:
     """Warns of the bad ones. That parts do not touch was said when the mask was made."""
     for concern in concerns:
@@ -376,16 +418,15 @@ def warn_of(concerns: Tuple[Concern, ...]) -> None:
 
 
 def unwrapped_of(
-    made: Input, phase: np.ndarray, solved: Solved, settings: Settings, least: int, chain: Chain
+    made: Input, phase: np.ndarray, solved: Solved, settings: Settings, chain: Chain, bounds: Bounds
 ) -> Unwrapped:
     """What is returned."""
-    surface = solved.surface
-    signs = signs_of(phase, made.weights, surface, settings.problem(made.ramp), solved.guide)
+    surface, problem = solved.surface, settings.problem(made.ramp)
+    signs = signs_of(phase, made.weights, surface, problem, solved.guide)
     warn_of(signs.concerns())
     return Unwrapped(
         radians_of(surface.values),
         surface.values,
-        components_of(made.opened, least),
         surface.tile_cost,
         surface.seam_cost,
         solved.verdict,
@@ -395,6 +436,8 @@ def unwrapped_of(
         signs.concerns(),
         chain,
         solved.undecided,
+        bounds,
+        solved.certified(made.session, problem),
     )
 
 
@@ -416,7 +459,8 @@ def unwrap(
     workers: Optional[int] = None,
     report: Optional[Path_] = None,
     check: bool = True,
-    least_component: int = 1,
+    least_component: Optional[int] = None,
+    margin: Optional[float] = None,
     ramp: Given = None,
     screen: screening.Given = None,
     filter: Optional[str] = FILTER,
@@ -441,7 +485,11 @@ def unwrap(
     report           a file to keep the report in, which can be checked again with its session (`wundjeska session`; of a filter, the
                      guide's with `wundjeska session --filter fourier`)
     check            have the proved checker judge the report; if it refuses, nothing is returned
-    least_component  pixels of smaller components get the number 0, and keep their phase
+    least_component  pixels of smaller components get the number 0, and keep their phase; by default those of fewer than 100 pixels of
+                     certain parts, and none of components of the mask
+    margin           inside a certain part every surface that costs at most so much more than the least has the same cycles up to one
+                     constant: from 0 to 1, a share of 255, the weight of a coherence of 1, or with looks of 105, that of a phase
+                     that is off by half a radian
     ramp             the expected slopes to the right and downwards, whole numbers of 1/65536 cycle a pixel, or 'auto': the
                      commonest fringe rate. Differences of neighbours are taken to lie within half a cycle of it
     screen           what a pixel needs to stay open, as {'coherence': 0.3, 'radius': 3, 'count': 20, 'patch': 50}: a coherence
@@ -456,7 +504,7 @@ def unwrap(
     quality, many = one_of("coherence", coherence, "corr", corr), one_of("looks", looks, "nlooks", nlooks)
     arrays = arrays_of(igram, quality, mask, many, nodata, wrap, coherence_max)
     settings, asked = settings_of(whole, tile, rule, steep, workers), screening.checked(screen)
-    least, is_checked = whole_number("least_component", least_component, 1), yes_or_no("check", check)
+    bounds, is_checked = bounds_of(margin, least_component, settings), yes_or_no("check", check)
     chain = Chain(filter, yes_or_no("narrow", narrow))
     chain.check()
     kept = None if report is None else name_of_file("report", report)
@@ -470,4 +518,4 @@ def unwrap(
         solved = solve_by(chain, made, settings, is_checked, making.name)
         if place is not None:
             outputs.fill(place, solved.report)
-    return unwrapped_of(made, planes[0], solved, settings, least, chain)
+    return unwrapped_of(made, planes[0], solved, settings, chain, bounds)

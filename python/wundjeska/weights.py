@@ -17,6 +17,7 @@ import numpy as np
 
 LINEAR_HIGHEST, HIGHEST = 255, 65535
 LEAST_WEIGHT = 8  # of a coherence of 0, whose variance is that of any angle, pi^2/3
+HALF_RADIAN = round(LEAST_WEIGHT * (math.pi**2 / 3) / 0.5**2)  # the weight by looks of a phase that is off by so much
 STEPS = 512  # of an integral
 OFFSETS, OFFSET = 1001, 0.02  # a table and its step
 KNOTS = 1024  # of coherence, between which weights are interpolated
@@ -100,6 +101,12 @@ def weights_of(coherence: np.ndarray, looks: Optional[float] = None, formula: st
 def highest_of(looks: Optional[float]) -> int:
     """The maxval of a plane of such weights."""
     return LINEAR_HIGHEST if looks is None else HIGHEST
+
+
+def unit_of(highest: int) -> int:
+    """What a margin of costs is a share of, by the maxval of the weights: that, or of weights by looks, which hardly ever come near
+    it, HALF_RADIAN."""
+    return HALF_RADIAN if highest == HIGHEST else highest
 
 
 def add_weight_words(words: ArgumentParser) -> None:

@@ -400,19 +400,23 @@ def by_skimage(scene: Scene) -> Field:
 
 
 def by_snaphu(scene: Scene) -> Field:
-    """SNAPHU by its smooth costs and the start that its manual prefers. Its looks are those of the estimate."""
     with tempfile.TemporaryDirectory() as folder:
-        parts = {"igram": np.where(scene.opened, scene.product, 0).astype(np.complex64)}
-        parts.update(corr=scene.estimated.astype(np.float32), mask=scene.opened.astype(np.uint8))
-        for name, values in parts.items():
-            values.tofile(Path(folder, name))
-        words = {"INFILE": "igram", "OUTFILE": "out", "CORRFILE": "corr", "BYTEMASKFILE": "mask"}
-        words.update(LINELENGTH=str(scene.product.shape[1]), STATCOSTMODE="SMOOTH", INITMETHOD="MST")
-        words.update(INFILEFORMAT="COMPLEX_DATA", OUTFILEFORMAT="FLOAT_DATA", CORRFILEFORMAT="FLOAT_DATA")
-        words.update(NCORRLOOKS=str(scene.looks * WINDOW[scene.looks] ** 2))
-        Path(folder, "words").write_text("".join(f"{name} {value}\n" for name, value in words.items()))
-        subprocess.run([SNAPHU, "-f", "words"], cwd=folder, check=True, capture_output=True)
-        found = np.fromfile(Path(folder, "out"), dtype=np.float32).reshape(scene.product.shape)
+        return snaphu_in(Path(folder), scene)
+
+
+def snaphu_in(folder: Path, scene: Scene, **more: str) -> Field:
+    """SNAPHU by its smooth costs and the start that its manual prefers, in a folder. Its looks are those of the estimate."""
+    parts = {"igram": np.where(scene.opened, scene.product, 0).astype(np.complex64)}
+    parts.update(corr=scene.estimated.astype(np.float32), mask=scene.opened.astype(np.uint8))
+    for name, values in parts.items():
+        values.tofile(folder / name)
+    words = {"INFILE": "igram", "OUTFILE": "out", "CORRFILE": "corr", "BYTEMASKFILE": "mask", **more}
+    words.update(LINELENGTH=str(scene.product.shape[1]), STATCOSTMODE="SMOOTH", INITMETHOD="MST")
+    words.update(INFILEFORMAT="COMPLEX_DATA", OUTFILEFORMAT="FLOAT_DATA", CORRFILEFORMAT="FLOAT_DATA")
+    words.update(NCORRLOOKS=str(scene.looks * WINDOW[scene.looks] ** 2))
+    (folder / "words").write_text("".join(f"{name} {value}\n" for name, value in words.items()))
+    subprocess.run([SNAPHU, "-f", "words"], cwd=folder, check=True, capture_output=True)
+    found = np.fromfile(folder / "out", dtype=np.float32).reshape(scene.product.shape)
     return found.astype(float) * (CYCLE / (2 * math.pi))
 
 

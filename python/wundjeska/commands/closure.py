@@ -14,12 +14,16 @@ with `auto`, that most pixels of the largest component are not.
 The GeoTIFF has the cycles, 0 where the loop closes: what the third surface would have to rise by. --correct writes the
 third surface raised so, which leaves closures within half a cycle. Nothing says that these are the right cycles, or that
 the third surface is the wrong one, and no certificate covers it.
+
+--parts names the certain parts of the three surfaces, as `unwrap --parts` writes them. Each is known up to one whole number of
+cycles, so a part is told of which nearly all pixels close if it is raised, unless a part of another surface may be meant as well.
+--correct-parts writes the three surfaces with these parts raised. That is no proof either.
 """
 import math
 from argparse import ArgumentParser, Namespace, RawDescriptionHelpFormatter
-from dataclasses import dataclass
+from dataclasses import dataclass, replace
 from pathlib import Path
-from typing import Any, Dict, List, Optional, Sequence, Tuple
+from typing import Any, Dict, Iterator, List, Optional, Sequence, Tuple
 
 import numpy as np
 from osgeo import gdal
@@ -30,6 +34,7 @@ from ..guiding import GUIDE, is_filtered
 from ..loops import Loops, close_loop, commonest, raised
 from ..loops_page import Shown, page_of
 from ..outputs import Outputs, add_force_word, beside
+from ..part_loops import Moves, moves_of, raised_by
 from ..planes import CYCLE, check_size
 from ..product import CYCLES, NOTHING_CERTIFIES
 from ..rasters import (
@@ -56,6 +61,7 @@ FARTHEST = 10**6  # cycles beyond which a value is no surface
 NO_CYCLES = -(2**31)  # the NODATA of whole numbers
 ROLES = ("first", "second", "third")
 UNITS = {"cycles": "cycles", "cycle": "cycles", "radians": "radians", "radian": "radians", "rad": "radians"}
+PARTS_UNPROVED = "with parts raised as its loop says: no proof or certificate says that this is right"
 UNPROVED = "raised by the cycles of its loop: no proof or certificate says that they are right, or that this surface is the wrong one"
 
 
@@ -94,11 +100,20 @@ def words() -> ArgumentParser:
         "--correct", metavar="FILE", help="write the third surface raised by the cycles, which is not proved"
     )
     found.add_argument(
+        "--parts", nargs=3, metavar=("FIRST", "SECOND", "THIRD"), help="the certain parts of the surfaces: tell which ones to raise"
+    )
+    found.add_argument(
+        "--correct-parts",
+        nargs=3,
+        metavar=("FIRST", "SECOND", "THIRD"),
+        help="write the surfaces with these parts raised, which is not proved",
+    )
+    found.add_argument(
         "--output-nodata",
         type=float,
         default=NODATA,
         metavar="V",
-        help="the value where there is none, of --closures and --correct (default: -9999)",
+        help="the value where there is none, of --closures, --correct and --correct-parts (default: -9999)",
     )
     found.add_argument("--page", metavar="FILE", help="write a page to look at: the patches by size, and maps")
     add_force_word(found)
@@ -248,8 +263,40 @@ def closed(surfaces: List[np.ndarray], asked: Namespace) -> Closed:
         )
     if not level:
         return Closed(loops, 0, why)
-    third = raised(surfaces[2], np.where(surfaces[2] != MASKED, level, MASKED))
+    third = level_surface(surfaces[2], level)
     return Closed(close_loop([*surfaces[:2], third], "the surfaces"), level, why)
+
+
+# Its parts
+
+
+@dataclass(frozen=True)
+class Parted:
+    """Which certain parts the loop says to raise, and the three surfaces so raised, in 1/65536 cycle."""
+
+    moves: Moves
+    surfaces: Sequence[np.ndarray]
+
+
+def labels_in(raster: gdal.Dataset, like: gdal.Dataset) -> np.ndarray:
+    """The numbers of the certain parts in a raster, int64, 0 for none."""
+    path = name_of(raster)
+    check_alike(like, raster)
+    content = raster.GetMetadataItem("WUNDJESKA_CONTENT")
+    if content and not content.startswith("certain parts"):
+        raise Trouble(f"{path} has {content.split(':')[0]}, and no certain parts")
+    values, there = Band(raster, band_of(raster, None, "a copy with one band")).read(whole(raster))
+    if values.dtype.kind not in "iu" or (there & ((values < 0) | (values > values.size))).any():
+        raise Trouble(f"{path} has other numbers than parts have: whole ones, 0 where there is none, each of a pixel or more")
+    return np.where(there, values, 0).astype(np.int64)
+
+
+def parted(surfaces: Sequence[np.ndarray], found: Closed, labels: Sequence[np.ndarray]) -> Parted:
+    """Which parts the loop says to raise, and the surfaces so raised."""
+    moves = moves_of(found.loops, labels)
+    level = [*surfaces[:2], level_surface(surfaces[2], found.level)]
+    made = [raised_by(values, part, moves.raised, place) for place, (values, part) in enumerate(zip(level, labels))]
+    return Parted(moves, made)
 
 
 # What is written
@@ -299,17 +346,26 @@ def closures_product(loops: Loops, nodata: float, notes: Dict[str, Any]) -> Prod
     return Product(values, gdal.GDT_Float64, nodata, "cycles", notes)
 
 
+def level_surface(third: np.ndarray, level: int) -> np.ndarray:
+    """The third surface raised by whole cycles everywhere."""
+    return raised(third, np.where(third != MASKED, level, MASKED))
+
+
 def raised_product(third: Surface, source: Source, found: Closed, nodata: float, notes: Dict[str, Any]) -> Product:
     """The third surface raised by what it was raised by before and by the cycles of its loop, in its own unit."""
-    before = raised(third.values, np.where(third.values != MASKED, found.level, MASKED))
-    values = raised(before, found.loops.cycles)
+    values = raised(level_surface(third.values, found.level), found.loops.cycles)
+    return surface_product(replace(third, values=values, verdict=UNPROVED), source, nodata, notes)
+
+
+def surface_product(surface: Surface, source: Source, nodata: float, notes: Dict[str, Any]) -> Product:
+    """A surface that was raised, in the unit of its source, with what that tells of itself."""
     told = {name: source.tells(name) for name in ("SIGN", "REFERENCE")}
     own = {name: text for name, text in told.items() if text}
     is_wide = source.raster is not None and source.raster.GetRasterBand(1).DataType == gdal.GDT_Float64
-    unit = np.where(values != MASKED, values * (CYCLES[third.unit] / CYCLE), np.nan)
-    more = {"LOOP_REFERENCE": notes["REFERENCE"], **own, "VERDICT": UNPROVED, "UNIT": third.unit}
+    unit = np.where(surface.values != MASKED, surface.values * (CYCLES[surface.unit] / CYCLE), np.nan)
+    more = {"LOOP_REFERENCE": notes["REFERENCE"], **own, "VERDICT": surface.verdict, "UNIT": surface.unit}
     kind = gdal.GDT_Float64 if is_wide else gdal.GDT_Float32
-    return Product(unit, kind, nodata, third.unit, {**notes, **more})
+    return Product(unit, kind, nodata, surface.unit, {**notes, **more})
 
 
 def check_words(asked: Namespace) -> None:
@@ -317,16 +373,17 @@ def check_words(asked: Namespace) -> None:
     check_reference_words(asked)
     if asked.nodata is not None and math.isinf(asked.nodata):
         raise Trouble("--nodata is a finite number, or nan", REFUSED_WORDS)
+    if asked.correct_parts and not asked.parts:
+        raise Trouble("--correct-parts wants --parts, those of the three surfaces", REFUSED_WORDS)
 
 
 def products_of(
     asked: Namespace, sources: Sequence[Source], surfaces: Sequence[Surface], found: Closed
 ) -> List[Tuple[Optional[str], Product]]:
-    """All GeoTIFFs, each with its name, None where none is asked for."""
-    names = [Path(source.path).parent.name + "/" + Path(source.path).name for source in sources]
+    """All GeoTIFFs but those of --correct-parts, each with its name, None where none is asked for."""
 
     def notes(content: str) -> Dict[str, Any]:
-        return notes_of(names, surfaces, found, content)
+        return notes_of(names_of(sources), surfaces, found, content)
 
     whole_cycles = "whole cycles in the closure of first + second - third, by `insar_unwrap closure`"
     parts: List[Tuple[Optional[str], Product]] = [(asked.geotiff, cycles_product(found.loops, notes(whole_cycles)))]
@@ -339,36 +396,78 @@ def products_of(
     return parts
 
 
+def names_of(sources: Sequence[Source]) -> List[str]:
+    """The files and their folders, which are mostly named by the pairs."""
+    return [Path(source.path).parent.name + "/" + Path(source.path).name for source in sources]
+
+
+def part_products(
+    asked: Namespace, sources: Sequence[Source], surfaces: Sequence[Surface], found: Closed, made: Parted
+) -> Iterator[Tuple[str, Product]]:
+    """The surfaces whose parts were raised, each with its name."""
+    for role, source, surface, values, name in zip(ROLES, sources, surfaces, made.surfaces, asked.correct_parts or ()):
+        notes = notes_of(names_of(sources), surfaces, found, f"the {role} surface {PARTS_UNPROVED}")
+        notes["RAISED_PARTS"] = " | ".join(made.moves.lines())
+        own = replace(surface, values=values, verdict=PARTS_UNPROVED)
+        yield name, surface_product(own, source, asked.output_nodata, notes)
+
+
+def check_sizes(sources: Sequence[Source], surfaces: Sequence[Surface], like: gdal.Dataset) -> None:
+    """Trouble if a surface has not the pixels of the raster that tells the place."""
+    for source, surface in zip(sources, surfaces):
+        height, width = surface.values.shape
+        if (width, height) != size_of(like):
+            raise Trouble(
+                f"{source.path} has {width} by {height} pixels, {name_of(like)} {like.RasterXSize} by {like.RasterYSize}"
+            )
+
+
+def places_for(asked: Namespace, outputs: Outputs) -> Dict[str, Path]:
+    """Where each GeoTIFF is written that is asked for."""
+    names = [asked.geotiff, asked.closures, asked.correct, *(asked.correct_parts or ())]
+    return {name: outputs.raster(name) for name in names if name is not None}
+
+
 def main(asked: Namespace) -> int:
     check_words(asked)
     paths, sessions = [getattr(asked, role) for role in ROLES], asked.sessions or [None] * 3
     sources = [source_of(path, session) for path, session in zip(paths, sessions)]
     like = like_of(sources, asked.like)
     check_told(sources)
-    inputs = [*paths, *sessions, *files_of(like, *(source.raster for source in sources))]
+    numbered = [open_raster(path) for path in asked.parts or ()]
+    inputs = [*paths, *sessions, *files_of(like, *(source.raster for source in sources), *numbered)]
     with Outputs(inputs, asked.force) as outputs:
-        places = {name: outputs.raster(name) for name in (asked.geotiff, asked.closures, asked.correct) if name}
-        page = beside(outputs, asked.page)
+        places, page = places_for(asked, outputs), beside(outputs, asked.page)
         surfaces = [read_surface(source, asked) for source in sources]
-        for source, surface in zip(sources, surfaces):
-            if surface.values.shape[::-1] != size_of(like):
-                height, width = surface.values.shape
-                raise Trouble(
-                    f"{source.path} has {width} by {height} pixels, {name_of(like)} {like.RasterXSize} by {like.RasterYSize}"
-                )
+        check_sizes(sources, surfaces, like)
+        labels = [labels_in(raster, like) for raster in numbered]
         found = closed([surface.values for surface in surfaces], asked)
+        made = parted([surface.values for surface in surfaces], found, labels) if labels else None
         for name, product in products_of(asked, sources, surfaces, found):
             if name:
                 product.write(places[name], like)
+        for name, product in part_products(asked, sources, surfaces, found, made) if made else ():
+            product.write(places[name], like)
         if page:
             inputs = [(path, surface.verdict) for path, surface in zip(paths, surfaces)]
-            shown = Shown(Path(asked.geotiff).name, inputs, axes_of(like), found.level, found.why, asked.reference)
+            said = tuple(made.moves.lines()) if made else ()
+            shown = Shown(Path(asked.geotiff).name, inputs, axes_of(like), found.level, found.why, asked.reference, said)
             outputs.fill(page, page_of(found.loops, shown).encode())
-    tell(asked, surfaces, found)
+    tell(asked, surfaces, found, made)
     return 0
 
 
-def tell(asked: Namespace, surfaces: Sequence[Surface], found: Closed) -> None:
+def part_lines(asked: Namespace, made: Parted) -> Iterator[str]:
+    """What is told of parts: which ones the loop says to raise, and what is misclosed then."""
+    yield from made.moves.lines()
+    if made.moves.raised:
+        after = close_loop(made.surfaces, "the surfaces")
+        yield f"with these parts raised {after.told()}"
+    if asked.correct_parts:
+        yield f"the surfaces of --correct-parts are {PARTS_UNPROVED}"
+
+
+def tell(asked: Namespace, surfaces: Sequence[Surface], found: Closed, made: Optional[Parted]) -> None:
     print(f"{asked.geotiff}: {found.loops.told()}")
     if found.level:
         print(
@@ -376,5 +475,7 @@ def tell(asked: Namespace, surfaces: Sequence[Surface], found: Closed) -> None:
         )
     if asked.correct:
         print(f"{asked.correct}: the third surface {UNPROVED}")
+    for line in part_lines(asked, made) if made else ():
+        print(f"{asked.geotiff}: {line}")
     if any(surface.verdict == NOTHING_CERTIFIES for surface in surfaces) and not asked.sessions:
         warn(f"{asked.geotiff}: not all surfaces were checked; reports are by --sessions")

@@ -1,7 +1,7 @@
 """Makes a page of a session and its report: one HTML file that asks for nothing else, to be opened in any browser.
 
 It shows the verdict of `check` and what is to be said of the surface besides, the wrapped phase beside the surface, where the
-surface jumps, two profiles, the components, the coherence and the weights, the mask of each revision, each published surface
+surface jumps, two profiles, the certain parts, the coherence and the weights, the mask of each revision, each published surface
 with its costs, and the history as a time line. Masked pixels are white. Maps are read out where one points, and a double click
 shows a part of them. With --like the axes are in map units. Of a session that was screened, --unscreened shows which pixels were
 dropped, and why. Of a filtered session the surface is a guide; --unfiltered names the session before the filter, and the surface
@@ -11,6 +11,7 @@ named, by the program's command `displacement`; the reference that is named is m
 import math
 from argparse import ArgumentParser, Namespace, RawDescriptionHelpFormatter
 from dataclasses import dataclass, replace
+from functools import partial
 from html import escape
 from pathlib import Path
 from typing import Dict, Iterator, List, Optional, Sequence, Tuple
@@ -49,6 +50,7 @@ from ..pictures import (
     profile_of,
     thinned,
 )
+from ..parts import Bounds, Parts, add_margin_word, certified_of, margin_for, parts_or_none
 from ..planes import CYCLE, Ramp, Session, read_session
 from ..program import check_report
 from ..ramps import told
@@ -69,7 +71,7 @@ DROPPED: Dict[int, Colour] = {WEAK: (214, 96, 77), ISLAND: (146, 100, 190), LONE
 class Shown:
     """What a page is asked for: the radar's wavelength in metres, axes, the session before it was screened, what is 0, the unit, and
     whether the sign is turned; the coherence that the weights are made of, if it is known; the files that it is of, each with what it
-    is; what was measured of the last surface, if that was done before; and what is shown of a surface by a guide."""
+    is; what was measured of the last surface, if that was done before; what is shown of a surface by a guide; and certain parts."""
 
     wavelength: Optional[float] = None
     axes: Optional[Axes] = None
@@ -81,6 +83,7 @@ class Shown:
     files: Sequence[Tuple[str, str]] = ()
     signs: Optional[Signs] = None
     by_guide: Optional[ByGuide] = None
+    parts: Optional[Parts] = None
 
     def unit_or_default(self) -> str:
         """The unit: as asked, or centimetres if there is a wavelength."""
@@ -294,20 +297,33 @@ def jump_map(picture: Picture, surface: report_reader.Surface) -> str:
 
 def component_map(picture: Picture) -> str:
     """The components of the last surface, if there are several."""
-    opened = picture.report.surfaces[-1].opened()
-    numbers = components_of(opened)
+    numbers = components_of(picture.report.surfaces[-1].opened())
     count = int(numbers.max(initial=0))
     if count < 2:
         return ""
-    table = np.array([MASKED, *NUMBERED], dtype=np.uint8)
-    colours = table[np.minimum(thinned(numbers), len(NUMBERED))]
+    colours, keys = numbered(numbers, count)
     sizes = np.bincount(numbers.ravel(), minlength=2)[1:]
+    words = f"{count} components; whole cycles between them are arbitrary"
+    words += f". The largest has {int(sizes.max(initial=0))} pixels"
+    return map_of(colours, picture.axes, [*keys, (MASKED, "masked")], "Connected components of the mask", words)
+
+
+def part_map(picture: Picture, parts: Parts) -> str:
+    """The certain parts, the largest in colours of their own."""
+    colours, keys = numbered(parts.labels, len(parts.sizes))
+    colours[thinned(picture.session.opened & (parts.labels == 0))] = PLAIN
+    said = parts.proved(picture.by_guide is not None)
+    words = f"{parts.told().capitalize()}: {said}. Between two parts whole cycles may be wrong"
+    return map_of(colours, picture.axes, [*keys, (PLAIN, "in none"), (MASKED, "masked")], "Certain parts", words)
+
+
+def numbered(numbers: np.ndarray, count: int) -> Tuple[np.ndarray, List[Tuple[Colour, str]]]:
+    """The colours of parts that are numbered by size, and what these stand for."""
+    table = np.array([MASKED, *NUMBERED], dtype=np.uint8)
     keys = [(colour, str(number)) for number, colour in enumerate(NUMBERED[: min(count, len(NUMBERED))], 1)]
     if count > len(NUMBERED):
         keys[-1] = (NUMBERED[-1], "smaller")
-    words = f"{count} components; whole cycles between them are arbitrary"
-    words += f". The largest has {int(sizes.max(initial=0))} pixels"
-    return map_of(colours, picture.axes, [*keys, (MASKED, "masked")], "Connected components", words)
+    return table[np.minimum(thinned(numbers), len(NUMBERED))], keys
 
 
 def weight_map(picture: Picture) -> str:
@@ -346,11 +362,12 @@ def quality_maps(picture: Picture) -> List[str]:
 
 
 def detail_section(picture: Picture) -> str:
-    """Jumps, what a filter decides, components and weights."""
+    """Jumps, what a filter decides, certain parts, components and weights."""
     maps = [jump_map(picture, picture.costed)] if picture.costed else []
     if picture.by_guide:
         maps += [apart_map(picture.session.opened, picture.by_guide.apart, picture.axes)]
         maps += [filtered_map(picture.by_guide.smooth, picture.axes)]
+    maps += [part_map(picture, picture.shown.parts)] if picture.shown.parts is not None else []
     maps += [component_map(picture)] if picture.costed else []
     return f'<h2>Where to look</h2><div class="row">{"".join([*maps, *quality_maps(picture)])}</div>'
 
@@ -649,6 +666,7 @@ def words() -> ArgumentParser:
     )
     add_unfiltered_word(found, "the session before the filter, to show the surface that is nearest to the guide")
     add_narrow_word(found)
+    add_margin_word(found)
     found.add_argument("--title", help="of the page (default: the report's name)")
     add_force_word(found)
     found.add_argument("page", help="the HTML file to write")
@@ -662,6 +680,7 @@ def check_words(asked: Namespace) -> None:
         wavelength_of(asked.wavelength)
     if asked.unit in LENGTHS and asked.wavelength is None:
         raise Trouble(f"{asked.unit} want the --wavelength", REFUSED_WORDS)
+    margin_for(asked)
     if asked.narrow and asked.unfiltered is None:
         raise Trouble("--narrow wants --unfiltered", REFUSED_WORDS)
 
@@ -700,6 +719,14 @@ def shown_by_guide(asked: Namespace, kept: Kept, solved: Solved) -> Tuple[ByGuid
     return ByGuide([*before, found.values], found.smooth, found.apart, chain), signs
 
 
+def shown_parts(asked: Namespace, kept: Kept) -> Optional[Parts]:
+    """The certain parts of a whole text that is accepted."""
+    certified = certified_of(kept.session, kept.report, problem_of(kept.found))
+    if certified is None or kept.verdict != ACCEPTED:
+        return None
+    return parts_or_none(partial(certified.parts, Bounds(margin_for(asked)), asked.report))
+
+
 def shown_of(asked: Namespace, kept: Kept, solved: Optional[Solved]) -> Tuple[Shown, Reference]:
     """What the page is asked for, and what is 0 on it."""
     surface = solved.surface if solved else kept.surfaces[-1] if kept.surfaces else None
@@ -710,7 +737,7 @@ def shown_of(asked: Namespace, kept: Kept, solved: Optional[Solved]) -> Tuple[Sh
     unscreened = Path(asked.unscreened).read_bytes() if asked.unscreened else None
     by_guide, signs = shown_by_guide(asked, kept, solved) if solved else (None, None)
     axes = axes_of(asked.like, kept.found)
-    words = (reference, asked.unit, asked.turn, None, files, signs, by_guide)
+    words = (reference, asked.unit, asked.turn, None, files, signs, by_guide, shown_parts(asked, kept))
     return Shown(asked.wavelength, axes, unscreened, *words), reference
 
 

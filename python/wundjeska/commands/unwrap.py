@@ -3,8 +3,11 @@
 With --whole the whole raster is solved at once, so that no surface costs less; without it tiles are, and then how they join.
 
 The GeoTIFF has the pixels and the place of the phase, NODATA at masked pixels, and in its metadata the verdict, concerns, side,
-rule, costs, unit, wavelength, reference and sign. If the check refuses, no file is written. --components writes a second
-raster, of the connected components, numbered from 1 by falling size.
+rule, costs, unit, wavelength, reference and sign. If the check refuses, no file is written.
+
+--components writes a second raster, of the certain parts, numbered from 1 by falling size: inside each every surface that costs at
+most the --margin more than the least has the same cycles up to one constant, which is proved; that these are the true ones is not.
+After a filter that is said of the guide. Of tiles it has the connected components of the mask, as --mask-components always does.
 
 Beside `accepted` concerns are told: signs that the surface may be wrong by whole cycles though none costs less, as many
 residues, dear seams, long lines along which it jumps, or a phase that is 0 in many places. They change no status.
@@ -16,6 +19,7 @@ With --no-filter what is written is least of all itself.
 """
 from argparse import ArgumentParser, BooleanOptionalAction, Namespace, RawDescriptionHelpFormatter
 from dataclasses import dataclass
+from functools import partial
 from pathlib import Path
 from typing import Any, Dict, List, Optional, Sequence
 
@@ -26,8 +30,17 @@ from ..components import components_of
 from ..concerns import Concern, Signs, judgement_of, note_of, percent, signs_of
 from ..guiding import FOURIER, Chain, add_filter_words, add_narrow_word, add_unfiltered_word
 from ..outputs import Outputs, add_force_word, beside, raster_beside
+from ..parts import LEAST, Bounds, Certified, Parts, add_margin_word, bounds_for, check_command, parts_or_none
 from ..planes import Ramp, read_session
-from ..product import NOTHING_CERTIFIES, add_unit_words, check_unit_words, write_components, write_product, write_undecided
+from ..product import (
+    NOTHING_CERTIFIES,
+    add_unit_words,
+    check_unit_words,
+    write_components,
+    write_parts,
+    write_product,
+    write_undecided,
+)
 from ..program import show
 from ..ramps import add_ramp_words
 from ..ramps import told as ramp_told
@@ -62,6 +75,24 @@ def add_whole_word(found: ArgumentParser, what: str) -> None:
         "--whole",
         action=BooleanOptionalAction,
         help=f"solve {what} at once; otherwise tiles (default: {'at once, without --tile' if WHOLE else 'tiles'})",
+    )
+
+
+def add_component_words(found: ArgumentParser) -> None:
+    """The words on certain parts and on components of the mask."""
+    found.add_argument(
+        "--components",
+        metavar="FILE",
+        help="write the certain parts, or of tiles the connected components of the mask, a GeoTIFF of whole numbers",
+    )
+    found.add_argument("--parts", metavar="FILE", help="write the certain parts, and nothing else in their place")
+    found.add_argument("--mask-components", metavar="FILE", help="write the connected components of the mask")
+    add_margin_word(found)
+    found.add_argument(
+        "--least-component",
+        type=int,
+        metavar="N",
+        help=f"parts and components of fewer pixels get the number 0 (default: {LEAST} of parts, 1 of components of the mask)",
     )
 
 
@@ -101,16 +132,7 @@ def words() -> ArgumentParser:
     add_whole_word(found, "the whole raster")
     add_reference_words(found)
     add_unit_words(found)
-    found.add_argument(
-        "--components", metavar="FILE", help="write the connected components, a GeoTIFF of whole numbers"
-    )
-    found.add_argument(
-        "--least-component",
-        type=int,
-        default=1,
-        metavar="N",
-        help="components of fewer pixels get the number 0 (default: 1)",
-    )
+    add_component_words(found)
     add_undecided_word(found, "by size")
     found.add_argument("--page", metavar="FILE", help="write a page to look at, an HTML file")
     found.add_argument("--session", metavar="FILE", help="keep the session that the report is of, the program's input")
@@ -170,6 +192,11 @@ def ramp_note(ramp: Optional[Ramp]) -> Dict[str, Any]:
     return {} if ramp is None else {"RAMP": f"{show(ramp)} in 1/65536 cycle a pixel"}
 
 
+def parts_note(parts: Optional[Parts]) -> Dict[str, Any]:
+    """What is told of certain parts."""
+    return {} if parts is None else {"PARTS": parts.told()}
+
+
 def screen_note(made: Input) -> Dict[str, Any]:
     """What is told of a screen."""
     if made.screening is None:
@@ -193,12 +220,14 @@ def weights_note(scene: Scene, is_guided: bool) -> str:
 
 @dataclass(frozen=True)
 class Told:
-    """What is told of a surface: what was measured of it, what is 0, how it came about, and how many components there are."""
+    """What is told of a surface: what was measured of it, what is 0, how it came about, how many components the mask leaves, and the
+    certain parts, if they were found."""
 
     signs: Signs
     reference: Reference
     chain: str
     count: int
+    parts: Optional[Parts] = None
 
 
 def page_of(asked: Namespace, made: Input, solved: Solved, scene: Scene, told: Told) -> bytes:
@@ -209,7 +238,7 @@ def page_of(asked: Namespace, made: Input, solved: Solved, scene: Scene, told: T
     files = [("phase", asked.phase), ("coherence", asked.coherence or ""), ("mask", asked.mask or "")]
     shown = Shown(
         asked.wavelength, axes, unscreened, told.reference, asked.unit, asked.turn, scene.coherence_shown(), files, told.signs,
-        by_guide_of(solved.guided, told.chain) if solved.guided else None,
+        by_guide_of(solved.guided, told.chain) if solved.guided else None, told.parts,
     )
     return page_text(Path(asked.geotiff).name, made.session, solved.report, solved.verdict, shown).encode()
 
@@ -219,25 +248,27 @@ def check_words(asked: Namespace) -> None:
     check_unit_words(asked)
     if asked.reference_auto and not asked.coherence:
         raise Trouble("--reference auto wants --coherence", REFUSED_WORDS)
-    if asked.least_component < 1:
-        raise Trouble("--least-component is 1 or more", REFUSED_WORDS)
 
 
 def main(asked: Namespace) -> int:
     check_words(asked)
     settings = settings_of(asked, asked.whole)
+    bounds = bounds_for(asked, settings.is_whole)
     scene = scene_of(asked)
     check_screen_words(asked.screen, asked.unscreened, scene.coherence)
     chain = chain_of(asked, undecided=asked.undecided, unfiltered=asked.unfiltered)
+    if asked.parts:
+        check_command()
     with Outputs(scene.files(), asked.force) as outputs:
         place = outputs.raster(asked.geotiff)
-        numbered, doubted = (raster_beside(outputs, name) for name in (asked.components, asked.undecided))
+        places = places_for(asked, outputs)
         names = (asked.page, asked.session, asked.report, asked.unscreened, asked.unfiltered)
         page, *kept = (beside(outputs, name) for name in names)
         made = input_for(scene, asked)
         solved = solve_by(chain, made, settings, not asked.no_check, asked.phase)
-        told = write_surface(asked, place, scene, settings, chain, made, solved)
-        write_labels(asked, scene, made, solved, numbered, doubted)
+        parts = certain_parts(asked, bounds, solved.certified(made.session, settings.problem(made.ramp)))
+        told = write_surface(asked, place, scene, settings, chain, made, solved, parts)
+        write_labels(places, scene, made, solved, bounds, parts)
         if page:
             outputs.fill(page, page_of(asked, made, solved, scene, told))
         session = solved.guided.session if solved.guided else made.session
@@ -249,29 +280,61 @@ def main(asked: Namespace) -> int:
 
 
 def write_surface(
-    asked: Namespace, place: Path, scene: Scene, settings: Settings, chain: Chain, made: Input, solved: Solved
+    asked: Namespace,
+    place: Path,
+    scene: Scene,
+    settings: Settings,
+    chain: Chain,
+    made: Input,
+    solved: Solved,
+    parts: Optional[Parts],
 ) -> Told:
     """Writes the GeoTIFF; what is told of it."""
-    components = components_of(made.opened, asked.least_component)
+    components = components_of(made.opened, asked.least_component or 1)
     phase, problem = read_session(made.session).phase, settings.problem(made.ramp)
     signs = signs_of(phase, made.weights, solved.surface, problem, solved.guide)
     came = chain.told(settings.is_whole, solved.verdict == ACCEPTED)
     notes = {**notes_of(solved, settings, scene, components), **ramp_note(made.ramp), **screen_note(made)}
-    notes.update({**signs_note(signs), **filter_notes(came, solved.undecided)})
+    notes.update({**signs_note(signs), **filter_notes(came, solved.undecided), **parts_note(parts)})
     reference = reference_of(asked, solved.surface.values, made.weights)
     write_product(place, scene.phase.raster, solved.surface.values, asked, reference, notes)
-    return Told(signs, reference, came, int(components.max(initial=0)))
+    return Told(signs, reference, came, int(components.max(initial=0)), parts)
 
 
-def write_labels(
-    asked: Namespace, scene: Scene, made: Input, solved: Solved, numbered: Optional[Path], doubted: Optional[Path]
-) -> None:
-    """Writes the rasters of components and of what is undecided, if they are asked for."""
-    if numbered:
-        least = asked.least_component
-        write_components(numbered, scene.phase.raster, components_of(made.opened, least), least)
-    if doubted and solved.undecided:
-        write_undecided(doubted, scene.phase.raster, solved.undecided)
+@dataclass(frozen=True)
+class Places:
+    """Where rasters of numbers are written, None where they are not asked for."""
+
+    components: Optional[Path]
+    parts: Optional[Path]
+    mask_components: Optional[Path]
+    undecided: Optional[Path]
+
+
+def places_for(asked: Namespace, outputs: Outputs) -> Places:
+    names = (asked.components, asked.parts, asked.mask_components, asked.undecided)
+    return Places(*(raster_beside(outputs, name) for name in names))
+
+
+def certain_parts(asked: Namespace, bounds: Bounds, certified: Optional[Certified]) -> Optional[Parts]:
+    """The certain parts, if they are asked for or shown, and if there are any to be had."""
+    if certified is None or not (asked.parts or asked.components or asked.page):
+        return None
+    find = partial(certified.parts, bounds, asked.phase)
+    return find() if asked.parts else parts_or_none(find)
+
+
+def write_labels(places: Places, scene: Scene, made: Input, solved: Solved, bounds: Bounds, parts: Optional[Parts]) -> None:
+    """Writes the rasters of parts, of components and of what is undecided that are asked for."""
+    like, least = scene.phase.raster, bounds.of_components
+    for place in (places.parts, places.components):
+        if place and parts:
+            write_parts(place, like, parts, solved.guided is not None)
+    for place in (None if parts else places.components, places.mask_components):
+        if place:
+            write_components(place, like, components_of(made.opened, least), least)
+    if places.undecided and solved.undecided:
+        write_undecided(places.undecided, like, solved.undecided)
 
 
 def costs_line(settings: Settings, solved: Solved) -> str:
@@ -286,6 +349,15 @@ def judgement_lines(concerns: Sequence[Concern], settings: Settings, solved: Sol
     """What was proved, and each sign that the surface may be wrong."""
     proved = judgement_of(concerns, solved.verdict == ACCEPTED, settings.is_whole, solved.guided is not None)
     return [proved, *(f"{'concern' if concern.is_bad else 'note'}: {concern}" for concern in concerns)]
+
+
+def part_lines(asked: Namespace, settings: Settings, solved: Solved, parts: Optional[Parts]) -> List[str]:
+    """What is told of certain parts, or what stands in their place."""
+    if parts is not None:
+        return [f"{asked.geotiff}: {parts.told()}: {parts.proved(solved.guided is not None)}"]
+    if asked.components and not settings.is_whole:
+        return [f"{asked.components}: the connected components of the mask, since tiles have no certain parts"]
+    return []
 
 
 def verdict_line(solved: Solved, made: Input, told: Told) -> str:
@@ -307,6 +379,8 @@ def tell(asked: Namespace, settings: Settings, solved: Solved, made: Input, told
     for line in judgement_lines(told.signs.concerns(), settings, solved):
         print(f"{asked.geotiff}: {line}")
     print(f"{asked.geotiff}: filter {told.chain}")
+    for line in part_lines(asked, settings, solved, told.parts):
+        print(line)
     if made.screening is not None:
         print(f"{asked.geotiff}: {screen_line(made.screening)}")
     if made.ramp is not None:

@@ -1,4 +1,5 @@
 """Tests scenes that are screened, and the loops of a network: four acquisitions, six interferograms, four loops of three."""
+import csv
 import itertools
 import os
 import subprocess
@@ -65,10 +66,22 @@ class Network(InFolder):
                 self.assertIn(f"{name}: {pixels} pixels have a closure, none is misclosed\n", told)
             page = (self.scenes / "closures" / name / "page.html").read_text()
             self.assertIn(f"{name[:17]}/cycles.tif: accepted", page)
+        self.check_whole(pixels)
         stood = {path: path.stat().st_mtime_ns for path in self.scenes.glob("closures/*/*.tif")}
         self.assertEqual(len(stood), 8)
         status, told = self.run_all("--config", "closure=yes")
         self.assertEqual((status, {path: path.stat().st_mtime_ns for path in stood}), (0, stood))
+
+    def check_whole(self, pixels: int) -> None:
+        """What is told of the network as a whole: a line for each pair, how many loops close at each pixel, and a picture."""
+        rows = list(csv.DictReader((self.scenes / "scenes.csv").open()))
+        self.assertEqual([row["scene"] for row in rows], sorted("_".join(dates) for dates in itertools.combinations(DATES, 2)))
+        self.assertEqual({row["state"] for row in rows}, {"accepted"})
+        self.assertEqual([row["signs"] for row in rows], ["0", "0", "0", "1", "0", "0"])  # of the island that is cut off
+        closed, known = gdal.Open(str(self.scenes / "closing.tif")).ReadAsArray()
+        self.assertEqual((known.sum(), closed.sum()), (2 * pixels + 2 * (LAKE + 120), 2 * pixels + 2 * LAKE))
+        page = (self.scenes / "scenes.html").read_text()
+        self.assertEqual((page.count('<path d="M'), page.count("<circle")), (6, 4))
 
     def test_a_scene_that_fails(self) -> None:
         for folder in self.scenes.glob(f"{DATES[0]}_*"):

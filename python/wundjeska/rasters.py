@@ -373,8 +373,9 @@ def create_like(
     unit: str = "",
     notes: Optional[Dict[str, Any]] = None,
     block: int = 1,
+    bands: int = 1,
 ) -> gdal.Dataset:
-    """A new GeoTIFF of one band with the size, the place and the system of another raster, and with notes as its metadata.
+    """A new GeoTIFF with the size, the place and the system of another raster, and with notes as its metadata.
 
     Its pixels are blocks of so many of the other's a side; the last ones may reach beyond it.
     """
@@ -382,15 +383,16 @@ def create_like(
     predictor = "PREDICTOR=3" if kind in (gdal.GDT_Float32, gdal.GDT_Float64) else "PREDICTOR=2"
     options = ["TILED=YES", "COMPRESS=DEFLATE", predictor, "BIGTIFF=IF_SAFER"]
     try:
-        made = gdal.GetDriverByName("GTiff").Create(str(path), *size, 1, kind, options)
+        made = gdal.GetDriverByName("GTiff").Create(str(path), *size, bands, kind, options)
     except RuntimeError as error:
         raise gdal_trouble(str(path), error) from error
     put_in_place(made, like, block)
     for name, value in (notes or {}).items():
         made.SetMetadataItem(f"WUNDJESKA_{name}", str(value))
-    band = made.GetRasterBand(1)
-    band.SetNoDataValue(nodata)
-    band.SetUnitType(unit)
+    for number in range(1, bands + 1):
+        band = made.GetRasterBand(number)
+        band.SetNoDataValue(nodata)
+        band.SetUnitType(unit)
     return made
 
 

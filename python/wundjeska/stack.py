@@ -98,8 +98,29 @@ def main() -> int:
     lines = lines_on_scenes(scenes, config["odd"])
     loops = list(config["triplets"])
     print("\n".join([*lines, *(lines_on_loops(loops, scenes) if loops else [])]), flush=True)
+    write_table(scenes)
+    write_loops(loops)
     write_page(scenes, config["page"], loops, config["said"])
     return 0
+
+
+def write_table(scenes: List[Scene]) -> None:
+    """Writes the table of all scenes."""
+    from .stack_table import NAME, row_of, table_of
+
+    keep(Path(NAME), table_of([row_of(scene) for scene in scenes]).encode())
+    print(f"{NAME} has a line for each")
+
+
+def write_loops(names: List[str]) -> None:
+    """Writes how many loops close at each pixel, if a loop is done."""
+    from .closing import NAME, write_closing
+
+    done = [name for name in names if told_of_loop(name) is not None]
+    if done:
+        others = write_closing(done)
+        more = f"; not counted are loops of another size: {listed(others)}" if others else ""
+        print(f"{NAME} has how many loops close at each pixel{more}")
 
 
 def write_page(scenes: List[Scene], pages: bool, loops: List[str], said: str) -> None:

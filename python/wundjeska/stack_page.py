@@ -10,6 +10,7 @@ from osgeo import gdal
 
 from .concerns import Concern, judgement_of, read_note
 from .guiding import NO_FILTER
+from .network_picture import network_of
 from .pages import COMMON, footer, head_of, scaled
 from .pictures import BRIGHTER, coloured, uri
 from .stack import Scene, misclosed, told_of_loop
@@ -158,5 +159,7 @@ def page_of(title: str, scenes: Sequence[Scene], pages: bool, loops: Sequence[st
         "have none. First stands what failed, then what has most signs."
     )
     sections: List[str] = [section_of(one, pages) for one in told]
+    network = network_of([(one.scene.name, one.colour(), verdict_words(one)) for one in told])
     head = head_of(title).replace("</head>", f"{STYLE}</head>", 1)
-    return "\n".join([head, f"<h1>{escape(title)}</h1><p>{words}</p>", loop_section(loops), *sections, footer([], said), "</body></html>"])
+    top = f"<h1>{escape(title)}</h1><p>{words}</p>"
+    return "\n".join([head, top, network, loop_section(loops), *sections, footer([], said), "</body></html>"])

@@ -10,6 +10,7 @@ from dataclasses import asdict
 from pathlib import Path
 from typing import Dict, List, Tuple
 
+from ..cluster import MOST_PIXELS
 from ..networks import NO_LOOP, triplets_of
 from ..outputs import keep
 from ..program import program
@@ -17,11 +18,14 @@ from ..scene_words import IGRAM, PAIR, Wanted, is_odd, key_help, scenes_in, want
 from ..trouble import FILE_FAULT, REFUSED_WORDS, Trouble
 
 SNAKEFILE = Path(__file__).resolve().parent.parent / "Snakefile"
+SLURM = SNAKEFILE.parent / "slurm"
+BYTES_OF_PHASE = 4  # at least, in a raw raster
 USE = f"""usage: wundjeska scenes FOLDER [KEY=VALUE..] [WORDS..]
 
 Unwraps each folder of FOLDER that has a phase.tif and a coherence.tif, or the files that names with {PAIR} find, as
 igram={PAIR}/filt_fine.int coherence={PAIR}/filt_fine.cor. What comes of a scene stands in FOLDER/{PAIR}, and scenes.html leads to all.
-What is refused or fails leaves what stood there. Keys may come after --config too. WORDS are of snakemake, as --cores 8 or --unlock.
+What is refused or fails leaves what stood there. Keys may come after --config too. WORDS are of snakemake, as --cores 8 or --unlock;
+--profile slurm submits each scene to Slurm, with the memory and the time that its size wants.
 Names are told from FOLDER on. The keys, most of which are words of unwrap:
 """
 WIDTH, INDENT = 118, 32  # of the lines on keys
@@ -80,7 +84,26 @@ def config_of(folder: Path, asked: Wanted, said: str) -> Dict[str, object]:
     if asked.mask and PAIR not in asked.mask and not (folder / asked.mask).exists():
         raise Trouble(f"there is no mask {folder / asked.mask}", FILE_FAULT)
     odd = [name for name in names if is_odd(name)]
-    return {**asdict(asked), "scenes": scenes, "odd": odd, "triplets": triplets, "said": said}
+    pixels = {name: pixels_of(folder / asked.igram.replace(PAIR, name)) for name in scenes}
+    return {**asdict(asked), "scenes": scenes, "odd": odd, "triplets": triplets, "pixels": pixels, "said": said}
+
+
+def pixels_of(path: Path) -> int:
+    """How many pixels a raster has, or may have by its size if GDAL does not know it."""
+    from osgeo import gdal
+
+    gdal.UseExceptions()
+    try:
+        raster = gdal.Open(str(path))
+    except RuntimeError:
+        return min(path.stat().st_size // BYTES_OF_PHASE, MOST_PIXELS)
+    return raster.RasterXSize * raster.RasterYSize
+
+
+def with_profile(words: List[str]) -> List[str]:
+    """Snakemake's words, with the profile of this package in the place of `slurm`, unless the user has one of that name."""
+    own = Path.home() / ".config/snakemake" / SLURM.name
+    return [str(SLURM) if one == SLURM.name and not own.exists() and words[at - 1] == "--profile" else one for at, one in enumerate(words)]
 
 
 def keep_config(folder: Path, config: Dict[str, object]) -> Path:
@@ -108,4 +131,4 @@ def main(words: List[str]) -> int:
         raise Trouble("scenes want Debian's package snakemake", FILE_FAULT)
     environment = {**os.environ, "UNWRAP": program(), "WUNDJESKA_PYTHON": sys.executable}
     more = ["--configfile", str(keep_config(folder, config)), "--cores", "4", "--keep-going", "--rerun-incomplete"]
-    os.execve(snakemake, [snakemake, "-s", str(SNAKEFILE), "--directory", str(folder), *more, *others], environment)
+    os.execve(snakemake, [snakemake, "-s", str(SNAKEFILE), "--directory", str(folder), *more, *with_profile(others)], environment)

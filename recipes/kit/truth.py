@@ -470,7 +470,7 @@ GUARD = {
     "hills-4-hard-white-9104": (0.316, 1.349),
     "rupture-4-hard-white-9110": (0.210, 1.096),
     "glacier-4-hard-white-9113": (0.259, 1.648),
-    "islands-20-hard-white-9120": (0.065, 2.510),
+    "islands-20-hard-white-9120": (0.086, 2.646),
     "fault-4-medium-wide-9129": (0.343, 0.508),
     "peaks-4-medium-white-9126": (1.121, 1.242),
 }

@@ -16,6 +16,7 @@ VERBS: Dict[str, str] = {
     "check": "has the proved checker judge a report",
     "frames": "unwraps a raster above the limit in frames that overlap",
     "scenes": "unwraps a folder of scenes by Snakemake",
+    "prep": "hands finished scenes on to MintPy or dolphin",
     "closure": "closes the loop of three interferograms, and tells where it is misclosed",
     "page": "makes a page of a session and its report",
     "live": "keeps a page of a session that is being worked on",

@@ -12,7 +12,7 @@ from .rasters import close, create_like, put_array
 from .trouble import REFUSED_WORDS, Trouble
 
 MOST = 65535  # components, whose numbers have 16 bits
-OF_MINTPY = ("wavelength", "orbit", "incidence", "looks", "baselines", "attribute", "height", "latitude", "longitude")
+OF_MINTPY = ("wavelength", "platform", "orbit", "incidence", "looks", "baselines", "attribute", "height", "latitude", "longitude")
 UNWRAPPED, COMPONENTS, COHERENCE = ".unw.tif", ".unw.conncomp.tif", ".int.cor.tif"
 
 

@@ -9,7 +9,7 @@ import re
 from argparse import Namespace
 from dataclasses import dataclass
 from pathlib import Path
-from typing import Dict, List, Mapping, Optional
+from typing import Dict, List, Mapping, Optional, Tuple
 
 import numpy as np
 from osgeo import gdal
@@ -22,6 +22,7 @@ from .trouble import REFUSED_WORDS, Trouble
 MOST = 32767  # components: MintPy keeps their numbers in 16 bits
 RADAR = ("STARTING_RANGE", "RANGE_PIXEL_SIZE")  # what MintPy asks for of rasters without a place
 ANGLES = ("HEIGHT", "EARTH_RADIUS")  # and of a raster of incidence angles
+RANGE = ("SLANT_RANGE_DISTANCE",)  # and of one angle, for errors of heights, which baselines tell
 PHASE, COHERENCE, COMPONENTS, GEOMETRY = ".unw", ".cor", ".byt", ".hgt"
 TYPES = {PHASE: "float32", COHERENCE: "float32", COMPONENTS: "int16", GEOMETRY: "float64"}
 KEYS = {"height": "demFile", "incidence": "incAngleFile", "latitude": "lookupYFile", "longitude": "lookupXFile"}
@@ -32,6 +33,8 @@ mintpy.load.unwFile      = ./pairs/*.unw
 mintpy.load.corFile      = ./pairs/*.cor
 mintpy.load.connCompFile = ./pairs/*.byt
 """
+
+NO_BASELINES = "mintpy.topographicResidual   = no  # without baselines nothing tells errors of heights\n"
 
 Attributes = Mapping[str, object]
 
@@ -66,7 +69,8 @@ def write_geometry(folder: Path, stack: Stack, asked: Namespace) -> None:
         write(folder / "geometry" / f"{name}{GEOMETRY}", values, stack.attributes)
     lines = (f"mintpy.load.{KEYS[name]:<12} = ./geometry/{name}{GEOMETRY}\n" for name in found)
     processor = "roipac" if has_place(stack.attributes) else "isce"
-    (folder / TEMPLATE).write_text(LINES.format(processor=processor) + "".join(lines))
+    more = "" if asked.baselines else NO_BASELINES
+    (folder / TEMPLATE).write_text("".join([LINES.format(processor=processor), *lines, more]))
 
 
 def write(path: Path, values: np.ndarray, told: Attributes) -> None:
@@ -88,6 +92,7 @@ def stack_of(pairs: List[Pair], asked: Namespace) -> Stack:
     found: Dict[str, object] = {"WIDTH": width, "LENGTH": length, "BANDS": 1, "INTERLEAVE": "BIL", "BYTE_ORDER": "little-endian"}
     found.update(PROCESSOR="isce", WAVELENGTH=wavelength_in(like, asked), NCORRLOOKS=looks_in(like, asked))
     found.update(ORBIT_DIRECTION=named(asked.orbit, "--orbit ascending or --orbit descending").upper(), **place_of(like))
+    found["PLATFORM"] = named(asked.platform, "--platform, by MintPy's name, as Sen, Alos2 or Env")
     incidence = named(asked.incidence, "--incidence, an angle in degrees or a raster of them")
     angle = angle_in(incidence)
     if angle is not None:
@@ -151,14 +156,22 @@ def has_place(attributes: Attributes) -> bool:
     return "X_FIRST" in attributes
 
 
+def lacks(found: Attributes, has_one_angle: bool, asked: Namespace) -> Tuple[str, Tuple[str, ...]]:
+    """What makes MintPy want attributes that no word tells, and which."""
+    if not has_place(found):
+        return "scenes without a place", RADAR
+    if not has_one_angle:
+        return "a raster of incidence angles", ANGLES
+    return "--baselines", RANGE if asked.baselines else ()
+
+
 def check_attributes(found: Attributes, has_one_angle: bool, asked: Namespace) -> None:
     """Trouble if MintPy would miss an attribute, or where the pixels lie."""
-    of_angles = () if has_one_angle else ANGLES
-    missing = [f"--attribute {key}=METRES" for key in (of_angles if has_place(found) else RADAR) if key not in found]
+    why, wants = lacks(found, has_one_angle, asked)
+    missing = [f"--attribute {key}=METRES" for key in wants if key not in found]
     if not has_place(found):
         missing += [f"--{word} FILE" for word in ("latitude", "longitude") if getattr(asked, word) is None]
     if missing:
-        why = "a raster of incidence angles" if has_place(found) else "scenes without a place"
         raise Trouble(f"with {why} MintPy wants {' '.join(missing)}", REFUSED_WORDS)
 
 

@@ -25,7 +25,8 @@ def words() -> ArgumentParser:
     found = ArgumentParser(
         description=__doc__,
         formatter_class=RawDescriptionHelpFormatter,
-        epilog="example: wundjeska prep mintpy scenes mintpy --wavelength 0.0555 --orbit descending --incidence 39 --looks 20\n"
+        epilog="example:\n"
+        "  wundjeska prep mintpy scenes out --wavelength 0.0555 --platform Sen --orbit descending --incidence 39 --looks 20\n"
         "The status is 0 if the folder was written, 2 for words that are refused, 3 if the scenes do not fit, 5 if a file "
         "cannot be read or written.",
     )
@@ -47,6 +48,7 @@ def words() -> ArgumentParser:
 def add_mintpy_words(found: ArgumentParser) -> None:
     """The arguments that only MintPy wants."""
     found.add_argument("--wavelength", type=float, metavar="METRES", help="of the radar, as 0.0555, if the scenes do not tell it")
+    found.add_argument("--platform", metavar="NAME", help="the satellite by MintPy's name, as Sen, Alos2 or Env")
     found.add_argument("--orbit", choices=("ascending", "descending"), help="the direction of flight")
     found.add_argument("--incidence", metavar="DEGREES|FILE", help="the angle of incidence, or a raster of angles")
     found.add_argument("--looks", type=float, metavar="L", help="independent looks, for weights, if the scenes do not tell them")

@@ -18,6 +18,7 @@ VERBS: Dict[str, str] = {
     "scenes": "unwraps a folder of scenes by Snakemake",
     "prep": "hands finished scenes on to MintPy or dolphin",
     "closure": "closes the loop of three interferograms, and tells where it is misclosed",
+    "stack": "finds one whole number for each certain part of a stack whose loops are closed",
     "page": "makes a page of a session and its report",
     "live": "keeps a page of a session that is being worked on",
     "report": "tells what is in a report",

@@ -3,6 +3,7 @@ a folder whose surfaces were raised by known numbers."""
 import itertools
 import sys
 import unittest
+from dataclasses import replace
 from pathlib import Path
 from typing import Dict, Tuple
 from unittest import mock
@@ -13,7 +14,7 @@ from helpers import InFolder, Told, command, raster
 from osgeo import gdal
 
 from wundjeska.command import run
-from wundjeska.stack_cycles import CHANGE, Equations, least, raised_of
+from wundjeska.stack_cycles import CHANGE, LEVEL, Equations, least, raised_of
 from wundjeska.stack_loops import Stack, loop_of
 from wundjeska.trouble import Trouble
 
@@ -26,51 +27,62 @@ WRONG = {("20230102", "20230103"): (ISLAND, 2), ("20230103", "20230106"): (SHORE
 
 
 def equations(*rows: Tuple[int, int, int, int, int], sizes: Tuple[int, ...]) -> Equations:
-    """Rows are the three parts, the cycles and the pixels."""
+    """Rows are the three parts, the cycles and the pixels; no part has a level."""
     columns = np.array(rows, dtype=np.int64).T
-    return Equations(columns[:3], columns[3], columns[4], np.array(sizes, dtype=np.int64))
+    return Equations(columns[:3], columns[3], columns[4], np.array(sizes, dtype=np.int64), np.full(len(sizes), -1))
 
 
 def least_of_all(system: Equations, most: int) -> float:
-    """The least cost of all numbers up to `most`, in plain Python."""
-    sizes = system.sizes.tolist()
+    """The least cost of all numbers up to `most` and of all levels, in plain Python."""
     rows = list(zip(*system.parts.tolist(), system.cycles.tolist(), system.pixels.tolist()))
+    pairs = [np.flatnonzero(system.pairs == pair).tolist() for pair in range(-1, int(system.pairs.max()) + 1)]
+
+    def change(pair: int, k: Tuple[int, ...]) -> float:
+        levels = range(-most, most + 1) if pair else [0]
+        return min(sum(CHANGE * int(system.sizes[part]) * abs(k[part] - level) for part in pairs[pair]) + LEVEL * abs(level) for level in levels)
+
     return min(
-        sum(pixels for a, b, c, cycles, pixels in rows if k[a] + k[b] - k[c] + cycles)
-        + CHANGE * sum(abs(number) * size for number, size in zip(k, sizes))
-        for k in itertools.product(range(-most, most + 1), repeat=len(sizes))
+        sum(pixels for a, b, c, cycles, pixels in rows if k[a] + k[b] - k[c] + cycles) + sum(change(pair, k) for pair in range(len(pairs)))
+        for k in itertools.product(range(-most, most + 1), repeat=len(system.sizes))
     )
 
 
 def test_the_least_cost_of_all_numbers() -> None:
-    dice = np.random.default_rng(1)
-    for _ in range(12):
-        parts = np.array([dice.choice(5, 3, replace=False) for _ in range(6)]).T
-        system = Equations(parts, dice.integers(-2, 3, 6), dice.integers(20, 400, 6), dice.integers(100, 3000, 5))
-        total = np.zeros(5, dtype=np.int64)
-        for own, group in system.groups():
-            found = least(group, 60)
-            assert found is not None
-            total[own] = found
-        most = max(int(np.abs(system.cycles).max()), 1)
-        assert system.cost(total) == pytest.approx(least_of_all(system, most))
+    """Of parts that all meet, without levels and of three pairs."""
+    dice, ring = np.random.default_rng(1), [(0, 1, 2), (1, 2, 3), (2, 3, 4), (0, 2, 4), (4, 3, 1), (0, 3, 2)]
+    for pairs in ([-1] * 5, [0, 1, 2, 0, 1]) * 4:
+        columns = np.array(ring).T, np.append(dice.integers(-2, 3, 5), 2), dice.integers(20, 400, 6), dice.integers(100, 3000, 5)
+        system = Equations(*columns, np.array(pairs))
+        (group,) = system.groups()
+        found = least(group.equations, 60)
+        assert found is not None
+        assert system.cost(*found) == pytest.approx(least_of_all(system, 2))
 
 
 def test_what_is_doubted() -> None:
     """One loop does not say which of three alike parts is wrong. A second one that has the third part alone with it does, and a part
     that would have to be raised for fewer pixels than that costs stays."""
-    one = raised_of(equations((0, 1, 2, -1, 100), sizes=(100, 100, 100)))
+    one = raised_of(equations((0, 1, 2, -1, 100), sizes=(100, 100, 100)), 0)
     assert (np.abs(one.numbers).sum(), one.doubted.tolist()) == (1, (one.numbers != 0).tolist())
-    two = raised_of(equations((0, 1, 2, -1, 100), (3, 4, 2, -1, 100), sizes=(100,) * 5))
+    two = raised_of(equations((0, 1, 2, -1, 100), (3, 4, 2, -1, 100), sizes=(100,) * 5), 0)
     assert (two.numbers.tolist(), bool(two.doubted.any())) == ([0, 0, -1, 0, 0], False)
-    few = raised_of(equations((0, 1, 2, 1, 30), sizes=(2000, 2000, 2000)))
+    few = raised_of(equations((0, 1, 2, 1, 30), sizes=(2000, 2000, 2000)), 0)
     assert not (few.numbers.any() or few.doubted.any())
 
 
 def test_groups_that_close_are_left_out() -> None:
     system = equations((0, 1, 2, 0, 50), (3, 4, 5, 0, 50), (3, 4, 6, 1, 50), sizes=(100,) * 7)
-    ((parts, group),) = system.groups()
-    assert (parts.tolist(), group.cycles.tolist(), group.parts.tolist()) == ([3, 4, 5, 6], [0, 1], [[0, 0], [1, 1], [2, 3]])
+    (group,) = system.groups()
+    found = group.equations
+    assert (group.parts.tolist(), found.cycles.tolist(), found.parts.tolist()) == ([3, 4, 5, 6], [0, 1], [[0, 0], [1, 1], [2, 3]])
+
+
+def test_levels() -> None:
+    """Parts 0 to 2 are the largest of three pairs, 3 and 4 are others of the first, of which 4 meets none. The loop misses a cycle
+    everywhere, which a level makes up for, and no part is raised besides."""
+    system = replace(equations((0, 1, 2, -1, 900), (3, 1, 2, -1, 400), sizes=(900, 9000, 9000, 400, 70)), pairs=np.array([0, 1, 2, 0, 0]))
+    found = raised_of(system, 3)
+    assert (np.abs(found.levels).sum(), found.numbers.tolist(), bool(found.doubted.any())) == (1, [0] * 5, False)
 
 
 def test_the_equations_of_a_loop() -> None:
@@ -85,7 +97,7 @@ def test_the_equations_of_a_loop() -> None:
 
 def test_a_machine_without_scipy() -> None:
     with mock.patch.dict(sys.modules, {"scipy": None}), pytest.raises(Trouble, match="python3-scipy$"):
-        raised_of(equations((0, 1, 2, 1, 30), sizes=(100, 100, 100)))
+        raised_of(equations((0, 1, 2, 1, 30), sizes=(100, 100, 100)), 0)
 
 
 class Folder(InFolder):

@@ -2,10 +2,11 @@
 
 A certain part is known up to one whole number of cycles. Where the parts of three surfaces 12, 23 and 13 meet, their closure has so
 many cycles, and closes if the numbers by which the three are raised make up for these: first + second - third + cycles is 0. That is
-an equation, which weighs as many pixels as it closes. Wanted are the numbers of the least cost: the pixels of equations that are left
-open, and for each cycle by which a part is raised a share of its pixels, CHANGE. They are found for each group of parts that meet, by
-mixed integer linear programming (SciPy's HiGHS). No number is greater than the most cycles of an equation of its group: that bounds
-the search.
+an equation, which weighs as many pixels as it closes. Each pair has a level, too, by which it is raised everywhere. Wanted are the
+numbers and levels of the least cost: the pixels of equations that are left open, for each cycle between the number of a part and the
+level of its pair a share of the part's pixels, CHANGE, and for each cycle of a level LEVEL. They are found for each group of parts
+that meet, by mixed integer linear programming (SciPy's HiGHS). No number is greater than the most cycles of an equation of its group:
+that bounds the search. The level of a pair belongs to the group that has its largest part.
 
 If all equations of a group are closed as they are, raising nothing costs nothing, so such groups are left out and nothing is lost.
 
@@ -26,6 +27,7 @@ Numbers = npt.NDArray[np.int64]
 
 SIGNS = np.array([[1], [1], [-1]])  # of the three surfaces in a closure
 CHANGE = 0.02  # what a cycle of a raised pixel costs, as a share of a pixel that is left open
+LEVEL = 1.0  # what a cycle of a level costs, in pixels
 ALIKE = 0.5  # of what raising a part costs: a number is doubted if another one costs less than this more than the least
 SECONDS = 60.0  # for a group, if nothing else is said
 SOLVED, NONE = 0, 2  # what SciPy says: found, and that there is none
@@ -39,41 +41,70 @@ class Equations:
     cycles  int64, (equations): in their closure
     pixels  int64, (equations): that have these parts and these cycles
     sizes   int64, (parts): the pixels of each part
+    pairs   int64, (parts): the pair of each part, from 0, or -1 for one that has no level
     """
 
     parts: Numbers
     cycles: Numbers
     pixels: Numbers
     sizes: Numbers
+    pairs: Numbers
 
     def left(self, numbers: Numbers) -> Numbers:
         """The cycles of each closure if parts are raised by these numbers."""
         found: Numbers = self.cycles + (SIGNS * numbers[self.parts]).sum(axis=0)
         return found
 
-    def cost(self, numbers: Numbers) -> float:
-        """What these numbers cost, in pixels."""
-        return float(self.pixels[self.left(numbers) != 0].sum() + CHANGE * (self.sizes * np.abs(numbers)).sum())
+    def cost(self, numbers: Numbers, levels: Numbers) -> float:
+        """What these numbers cost, in pixels, if the pairs have these levels."""
+        changed = np.abs(numbers - at_level(levels, self.pairs))
+        left = self.pixels[self.left(numbers) != 0].sum()
+        return float(left + CHANGE * (self.sizes * changed).sum() + LEVEL * np.abs(levels).sum())
 
-    def groups(self) -> Iterator[Tuple[Numbers, "Equations"]]:
-        """The groups of parts that meet and of which an equation is open: the parts of each, and their equations."""
+    def groups(self) -> Iterator["Group"]:
+        """The groups of parts that meet and of which an equation is open."""
         first = connect(len(self.sizes), *self.parts[[0, 0, 1, 2]].reshape(2, -1))
         owner = first[self.parts[0]]
         for name in np.unique(owner[self.cycles != 0]):
             own = owner == name
             parts, places = np.unique(self.parts[:, own], return_inverse=True)
-            yield parts, Equations(places.reshape(3, -1), self.cycles[own], self.pixels[own], self.sizes[parts])
+            pairs, levels = self.pairs_with(parts)
+            yield Group(parts, pairs, Equations(places.reshape(3, -1), self.cycles[own], self.pixels[own], self.sizes[parts], levels))
+
+    def pairs_with(self, parts: Numbers) -> Tuple[Numbers, Numbers]:
+        """The pairs whose first part is among these, and the pair of each of these parts as its place there, -1 for others."""
+        heads, firsts = np.unique(self.pairs, return_index=True)
+        pairs = heads[(heads >= 0) & np.isin(firsts, parts)]
+        own = self.pairs[parts]
+        return pairs, np.where(np.isin(own, pairs), np.searchsorted(pairs, own), -1)
+
+
+@dataclass(frozen=True)
+class Group:
+    """Parts that meet, the pairs whose largest part is one of them, and their equations, in which both are numbered from 0."""
+
+    parts: Numbers
+    pairs: Numbers
+    equations: Equations
+
+
+def at_level(levels: Numbers, pairs: Numbers) -> Numbers:
+    """The level of each part's pair, 0 where it has none."""
+    found: Numbers = np.append(levels, 0)[pairs]
+    return found
 
 
 @dataclass(frozen=True)
 class Raised:
-    """By how many cycles each part is raised.
+    """By how many cycles parts are raised.
 
-    numbers  int64, (parts)
+    levels   int64, (pairs): by how many cycles each pair is raised everywhere
+    numbers  int64, (parts): and each part besides
     doubted  bool, (parts): true where another number costs nearly as little
     late     how many groups were not solved in time: nothing of them is raised
     """
 
+    levels: Numbers
     numbers: Numbers
     doubted: npt.NDArray[np.bool_]
     late: int
@@ -91,18 +122,26 @@ def solver() -> Any:
 
 
 def rows_of(group: Equations, most: int) -> Tuple[Any, npt.NDArray[np.float64], npt.NDArray[np.float64]]:
-    """What the search has to keep: a matrix of the columns up, down and open, and the bounds of its rows. An equation that is not
-    left open has no cycles left; one that is may have as many as there can be."""
+    """What the search has to keep: a matrix of the columns of `costs_of`, and the bounds of its rows. An equation that is not left
+    open has no cycles left; one that is may have as many as there can be. No number is greater than the most."""
     from scipy import sparse
 
-    count, places = len(group.cycles), np.arange(len(group.cycles))
+    count, parts, levels = len(group.cycles), len(group.sizes), levels_in(group)
+    places, kept = np.arange(count), np.flatnonzero(group.pairs >= 0)
     signs = np.broadcast_to(SIGNS, (3, count)).ravel()
-    shape = (count, len(group.sizes))
-    raises = sparse.csr_matrix((signs, (np.tile(places, 3), group.parts.ravel())), shape)
+    meet = sparse.csr_matrix((signs, (np.tile(places, 3), group.parts.ravel())), (count, parts))
+    belong = sparse.csr_matrix((np.ones(len(kept)), (kept, group.pairs[kept])), (parts, levels))
+    each = sparse.hstack([sparse.identity(parts), -sparse.identity(parts), belong, -belong])  # the number of each part
     slack = sparse.diags(3.0 * most + np.abs(group.cycles))
-    matrix = sparse.vstack([sparse.hstack([raises, -raises, slack]), sparse.hstack([raises, -raises, -slack])])
-    free = np.full(count, np.inf)
-    return matrix, np.concatenate([-group.cycles, -free]), np.concatenate([free, -group.cycles])
+    none = sparse.csr_matrix((parts, count))
+    matrix = sparse.vstack([sparse.hstack([meet @ each, slack]), sparse.hstack([meet @ each, -slack]), sparse.hstack([each, none])])
+    free, ends = np.full(count, np.inf), np.full(parts, most)
+    return matrix, np.concatenate([-group.cycles, -free, -ends]), np.concatenate([free, -group.cycles, ends])
+
+
+def levels_in(group: Equations) -> int:
+    """How many pairs have a level."""
+    return int(group.pairs.max(initial=-1)) + 1
 
 
 def most_of(group: Equations) -> int:
@@ -110,40 +149,44 @@ def most_of(group: Equations) -> int:
     return int(np.abs(group.cycles).max())
 
 
+def costs_of(group: Equations) -> npt.NDArray[np.float64]:
+    """What each column costs: the cycles up of each part and those down, those of each level, and equations that are open."""
+    change, level = CHANGE * group.sizes, np.full(levels_in(group), LEVEL)
+    return np.concatenate([change, change, level, level, group.pixels])
+
+
 def searched(group: Equations, seconds: float, *more: Any) -> Any:
     """What SciPy says of the numbers of the least cost, with further constraints."""
-    optimize, most = solver(), most_of(group)
+    optimize, most, costs = solver(), most_of(group), costs_of(group)
     matrix, low, high = rows_of(group, most)
-    highest = np.concatenate([np.full(2 * len(group.sizes), most), np.ones(len(group.cycles))])
+    highest = np.full(len(costs), 2.0 * most)
+    highest[-len(group.cycles) :] = 1
     return optimize.milp(
-        costs_of(group),
-        integrality=np.ones(len(highest)),
+        costs,
+        integrality=np.ones(len(costs)),
         bounds=optimize.Bounds(0, highest),
         constraints=[optimize.LinearConstraint(matrix, low, high), *more],
         options={"time_limit": max(seconds, 0.0), "mip_rel_gap": 0.0},
     )
 
 
-def costs_of(group: Equations) -> npt.NDArray[np.float64]:
-    """What each column costs: cycles up, cycles down, and equations that are open."""
-    change = CHANGE * group.sizes
-    return np.concatenate([change, change, group.pixels])
-
-
-def least(group: Equations, seconds: float) -> Optional[Numbers]:
-    """Numbers of the least cost; None if the search did not end in time."""
-    found, parts = searched(group, seconds), len(group.sizes)
+def least(group: Equations, seconds: float) -> Optional[Tuple[Numbers, Numbers]]:
+    """Numbers and levels of the least cost; None if the search did not end in time."""
+    found = searched(group, seconds)
     if found.status != SOLVED:
         return None
-    whole = np.rint(found.x).astype(np.int64)
-    numbers: Numbers = whole[:parts] - whole[parts : 2 * parts]
-    return numbers
+    parts, levels = len(group.sizes), levels_in(group)
+    ends = np.cumsum([parts, parts, levels, levels])
+    up, down, higher, lower, _ = np.split(np.rint(found.x).astype(np.int64), ends)
+    return up - down + at_level(higher - lower, group.pairs), higher - lower
 
 
-def is_doubted(group: Equations, numbers: Numbers, part: int, until: float) -> bool:
-    """Whether another number for a part costs nearly as little as these numbers, or whether that was not known in time."""
-    optimize, costs, number = solver(), costs_of(group), int(numbers[part])
-    enough = group.cost(numbers) + ALIKE * CHANGE * group.sizes[part]
+def is_doubted(group: Equations, found: Tuple[Numbers, Numbers], part: int, until: float) -> bool:
+    """Whether another number for a part, less the level of its pair, costs nearly as little as what was found, or whether that was not
+    known in time."""
+    optimize, costs, (numbers, levels) = solver(), costs_of(group), found
+    number = int(numbers[part] - at_level(levels, group.pairs)[part])
+    enough = group.cost(numbers, levels) + ALIKE * CHANGE * group.sizes[part]
     cheap = optimize.LinearConstraint(costs.reshape(1, -1), -np.inf, enough)
     row = np.zeros((1, len(costs)))
     row[0, [part, len(numbers) + part]] = 1, -1
@@ -151,27 +194,20 @@ def is_doubted(group: Equations, numbers: Numbers, part: int, until: float) -> b
     return any(searched(group, until - time.monotonic(), cheap, other).status != NONE for other in others)
 
 
-def least_of(equations: Equations, seconds: float) -> Numbers:
-    """Numbers of the least cost of all parts, 0 in groups that were not solved in time."""
-    numbers = np.zeros(len(equations.sizes), dtype=np.int64)
-    for parts, group in equations.groups():
-        found = least(group, seconds)
-        numbers[parts] = 0 if found is None else found
-    return numbers
-
-
-def raised_of(equations: Equations, seconds: float = SECONDS) -> Raised:
-    """By how many cycles parts are raised at the least cost. Each group has so many seconds."""
+def raised_of(equations: Equations, pairs: int, seconds: float = SECONDS, doubts: bool = True) -> Raised:
+    """By how many cycles parts of so many pairs are raised at the least cost, with or without doubts. Each group has so many seconds."""
     solver()
-    numbers, doubted = np.zeros(len(equations.sizes), dtype=np.int64), np.zeros(len(equations.sizes), dtype=bool)
-    late = 0
-    for parts, group in equations.groups():
+    count, late = len(equations.sizes), 0
+    numbers, doubted, levels = np.zeros(count, dtype=np.int64), np.zeros(count, dtype=bool), np.zeros(pairs, dtype=np.int64)
+    for group in equations.groups():
         until = time.monotonic() + seconds
-        found = least(group, seconds)
+        found = least(group.equations, seconds)
         if found is None:
             late += 1
             continue
-        numbers[parts] = found
-        for part in np.flatnonzero(found).tolist():
-            doubted[parts[part]] = is_doubted(group, found, part, until)
-    return Raised(numbers, doubted, late)
+        numbers[group.parts], levels[group.pairs] = found
+        changed = found[0] - at_level(found[1], group.equations.pairs)
+        for part in np.flatnonzero(changed).tolist() if doubts else ():
+            doubted[group.parts[part]] = is_doubted(group.equations, found, part, until)
+    meets = np.bincount(equations.parts.ravel(), minlength=count) > 0  # the others stay at the level of their pair
+    return Raised(levels, np.where(meets, numbers - at_level(levels, equations.pairs), 0), doubted, late)

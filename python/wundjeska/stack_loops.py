@@ -1,19 +1,18 @@
 """The loops of a stack by the certain parts of its pairs, and what is to be raised so that most of them close. NumPy alone.
 
 A surface is known up to a whole number of cycles, which is arbitrary. So each pair is first raised everywhere by a level, such that
-the commonest number of cycles in most loops is 0. Then its parts are raised: `stack_cycles` finds both. Where more than half of the
-pixels of a pair would be raised alike, that is a level, and parts are looked for anew.
+the commonest number of cycles in most loops is 0. Then `stack_cycles` finds by how many cycles parts are raised, and levels again, at
+the least cost.
 """
-from dataclasses import dataclass
+from dataclasses import dataclass, replace
 from typing import Iterator, List, Sequence, Tuple
 
 import numpy as np
 
 from .part_loops import distinct
-from .stack_cycles import SIGNS, Equations, Numbers, Raised, least_of, raised_of
+from .stack_cycles import SIGNS, Equations, Numbers, Raised, raised_of
 
 FEWEST = 20  # pixels of three parts that have one number of cycles, from which on they make an equation
-MOST_LEVELS = 9  # how often levels are set anew
 
 
 @dataclass(frozen=True)
@@ -36,18 +35,6 @@ def loop_of(pairs: Sequence[int], labels: Sequence[np.ndarray], cycles: np.ndarr
     """A loop of the parts of its three surfaces and of the cycles in its closure, (rows, columns), where this is known."""
     keys, pixels = distinct([*(label[known].astype(np.int64) for label in labels), cycles[known].astype(np.int64)])
     return Loop(np.array(pairs, dtype=np.int64), keys[:3], keys[3], pixels)
-
-
-@dataclass(frozen=True)
-class Found:
-    """By how many cycles each pair is raised everywhere, and then each part.
-
-    levels  int64, (pairs)
-    parts   by how many cycles the parts are raised, and which numbers are doubted
-    """
-
-    levels: Numbers
-    parts: Raised
 
 
 @dataclass(frozen=True)
@@ -76,34 +63,26 @@ class Stack:
         """The numbers of the parts of a loop through the whole stack, -1 for none; (3, rows)."""
         return np.where(loop.parts > 0, loop.parts - 1 + self.starts()[loop.pairs, None], -1)
 
-    def find(self, seconds: float) -> Found:
+    def find(self, seconds: float) -> Raised:
         """What raises pairs and parts at the least cost. Each group of parts has so many seconds."""
-        levels, left = self.levels(seconds), MOST_LEVELS
-        while left and (more := self.common(least_of(self.equations(levels), seconds))).any():
-            levels, left = levels + more, left - 1
-        return Found(levels, raised_of(self.equations(levels), seconds))
-
-    def common(self, numbers: Numbers) -> Numbers:
-        """The number to which more than half of the pixels of each pair are raised, or 0."""
-        found = []
-        for own, sizes in zip(self.numbers_by_pair(numbers), self.sizes):
-            values, places = np.unique(own[1:], return_inverse=True)
-            pixels = np.bincount(places, sizes, len(values))
-            found.append(int(values[pixels.argmax()]) if 2 * pixels.max(initial=0) > sizes.sum() else 0)
-        return np.array(found, dtype=np.int64)
+        first = self.levels(seconds)
+        found = raised_of(self.equations(first), len(self.sizes), seconds)
+        return replace(found, levels=first + found.levels)
 
     def levels(self, seconds: float) -> Numbers:
         """By how many cycles each pair is raised everywhere, by the commonest cycles of its loops."""
         common = np.array([commonest(loop) for loop in self.loops], dtype=np.int64).T
         pairs = np.array([loop.pairs for loop in self.loops], dtype=np.int64).T
         whole = np.array([sizes.sum() for sizes in self.sizes], dtype=np.int64)
-        return least_of(Equations(pairs, common[0], common[1], whole), seconds)
+        alone = np.full(len(whole), -1)
+        return raised_of(Equations(pairs, common[0], common[1], whole, alone), 0, seconds, doubts=False).numbers
 
     def equations(self, levels: Numbers) -> Equations:
         """What the loops say of the parts of pairs that are raised by levels: where three parts meet, the commonest cycles."""
         rows = [self.equations_of(loop, levels) for loop in self.loops]
         parts, cycles, pixels = (np.concatenate(column, axis=-1) for column in zip(*rows))
-        return Equations(parts, cycles, pixels, np.concatenate(self.sizes))
+        pairs = np.repeat(np.arange(len(self.sizes)), [len(sizes) for sizes in self.sizes])
+        return Equations(parts, cycles, pixels, np.concatenate(self.sizes), pairs)
 
     def equations_of(self, loop: Loop, levels: Numbers) -> Tuple[Numbers, Numbers, Numbers]:
         """Those of one loop."""

@@ -27,8 +27,8 @@ from ..outputs import is_stream
 from ..planes import CYCLE
 from ..rasters import NODATA, check_alike, open_raster
 from ..report_reader import NODATA as MASKED
-from ..stack_cycles import SECONDS, Numbers, solver
-from ..stack_loops import Found, Loop, Move, Stack, loop_of
+from ..stack_cycles import SECONDS, Numbers, Raised, solver
+from ..stack_loops import Loop, Move, Stack, loop_of
 from ..trouble import FILE_FAULT, REFUSED_WORDS, Trouble, warn
 from .closure import Source, Surface, labels_in, read_raster, surface_product
 
@@ -185,17 +185,17 @@ def listed(moves: Sequence[Move], pairs: Sequence[str]) -> Iterator[str]:
         yield f"and {len(moves) - MOST} smaller parts"
 
 
-def lines_on(stack: Stack, pairs: Sequence[str], found: Found, seconds: float) -> Iterator[str]:
+def lines_on(stack: Stack, pairs: Sequence[str], found: Raised, seconds: float) -> Iterator[str]:
     """What misclosed, which parts the loops say to raise, and what misclosed then."""
-    none, whole = np.zeros_like(found.parts.numbers), stack.pixels()
+    none, whole = np.zeros_like(found.numbers), stack.pixels()
     levels = [f"{pair} by {level:+d}" for pair, level in zip(pairs, found.levels.tolist()) if level]
     if levels:
         yield f"raised everywhere first: {', '.join(levels[:MOST])}" + (f" and {len(levels) - MOST} more" if len(levels) > MOST else "")
-    before, after = (stack.misclosed(found.levels, numbers) for numbers in (none, found.parts.numbers))
-    moves = stack.moves(found.parts)
+    before, after = (stack.misclosed(found.levels, numbers) for numbers in (none, found.numbers))
+    moves = stack.moves(found)
     yield f"{len(stack.loops)} loops of {len(pairs)} pairs: {percent(before, whole)} of {whole} pixels misclose"
-    if found.parts.late:
-        yield f"{found.parts.late} groups of parts were not solved in {seconds:g} s, and nothing of them is raised; --seconds gives more"
+    if found.late:
+        yield f"{found.late} groups of parts were not solved in {seconds:g} s, and nothing of them is raised; --seconds gives more"
     yield f"the loops say to raise {len(moves) or 'no'} part{'' if len(moves) == 1 else 's'}; then {percent(after, whole)} misclose"
     yield from listed(moves, pairs)
     doubted = sum(move.is_doubted for move in moves)
@@ -204,9 +204,9 @@ def lines_on(stack: Stack, pairs: Sequence[str], found: Found, seconds: float) -
     yield "no proof or certificate says that these numbers are right"
 
 
-def corrections_of(stack: Stack, pairs: Sequence[str], found: Found) -> List[Correction]:
+def corrections_of(stack: Stack, pairs: Sequence[str], found: Raised) -> List[Correction]:
     """The pairs that change."""
-    numbers, doubted = (stack.numbers_by_pair(values) for values in (found.parts.numbers, found.parts.doubted.astype(np.int64)))
+    numbers, doubted = (stack.numbers_by_pair(values) for values in (found.numbers, found.doubted.astype(np.int64)))
     each = map(Correction, pairs, found.levels.tolist(), numbers, doubted)
     return [correction for correction in each if correction.level or correction.numbers.any()]
 

@@ -39,7 +39,8 @@ def least_of_all(system: Equations, most: int) -> float:
 
     def change(pair: int, k: Tuple[int, ...]) -> float:
         levels = range(-most, most + 1) if pair else [0]
-        return min(sum(CHANGE * int(system.sizes[part]) * abs(k[part] - level) for part in pairs[pair]) + LEVEL * abs(level) for level in levels)
+        sizes = [(part, CHANGE * int(system.sizes[part])) for part in pairs[pair]]
+        return min(sum(size * abs(k[part] - level) for part, size in sizes) + LEVEL * abs(level) for level in levels)
 
     return min(
         sum(pixels for a, b, c, cycles, pixels in rows if k[a] + k[b] - k[c] + cycles) + sum(change(pair, k) for pair in range(len(pairs)))

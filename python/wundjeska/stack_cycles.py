@@ -1,12 +1,12 @@
 """One whole number for each certain part of a stack, by the loops of its pairs. NumPy and SciPy.
 
 A certain part is known up to one whole number of cycles. Where the parts of three surfaces 12, 23 and 13 meet, their closure has so
-many cycles, and closes if the numbers by which the three are raised make up for these: first + second - third + cycles is 0. That is
-an equation, which weighs as many pixels as it closes. Each pair has a level, too, by which it is raised everywhere. Wanted are the
-numbers and levels of the least cost: the pixels of equations that are left open, for each cycle between the number of a part and the
-level of its pair a share of the part's pixels, CHANGE, and for each cycle of a level LEVEL. They are found for each group of parts
-that meet, by mixed integer linear programming (SciPy's HiGHS). No number is greater than the most cycles of an equation of its group:
-that bounds the search. The level of a pair belongs to the group that has its largest part.
+many cycles, and closes if the numbers by which the three are raised make up for these: first + second - third + cycles is 0. That
+is an equation, which weighs as many pixels as it closes. Each pair has a level, too, by which it is raised everywhere. Wanted are
+the numbers and levels of the least cost: the pixels of equations that are left open, for each cycle between the number of a part
+and the level of its pair a share of the part's pixels, CHANGE, and for each cycle of a level LEVEL. They are found for each group
+of parts that meet, by mixed integer linear programming (SciPy's HiGHS). No number is greater than the most cycles of an equation of
+its group: that bounds the search. The level of a pair belongs to the group that has its largest part.
 
 If all equations of a group are closed as they are, raising nothing costs nothing, so such groups are left out and nothing is lost.
 

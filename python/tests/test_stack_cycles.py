@@ -96,6 +96,11 @@ def test_the_equations_of_a_loop() -> None:
     assert stack.misclosed(np.zeros(3, np.int64), np.array([-1, 0, 0, 0])) == 20 + 30 + 10
 
 
+def test_a_group_that_takes_too_long() -> None:
+    found = raised_of(equations((0, 1, 2, -1, 100), (3, 4, 2, -1, 100), sizes=(100,) * 5), 0, seconds=1e-9)
+    assert (found.late, found.numbers.tolist()) == (1, [0] * 5)
+
+
 def test_a_machine_without_scipy() -> None:
     with mock.patch.dict(sys.modules, {"scipy": None}), pytest.raises(Trouble, match="python3-scipy$"):
         raised_of(equations((0, 1, 2, 1, 30), sizes=(100, 100, 100)), 0)
@@ -138,6 +143,7 @@ class Folder(InFolder):
         place.mkdir(parents=True)
         surfaces = [self.place(pair) / "cycles.tif" for pair in pairs]
         self.assertEqual(run("closure", [*map(str, surfaces), "--reference-auto", str(place / "misclosed.tif")]), 0)
+        (place / "closed.txt").touch()
 
     def run_on(self, *words: object) -> Told:
         return command("wundjeska", "stack", self.stack, *words)
@@ -185,7 +191,8 @@ class Folder(InFolder):
         parts.unlink()
         self.assertIn("components.tif", self.refused("--correct", self.made))
         parts.write_bytes(kept)
-        (self.stack / "closures").rename(self.folder / "closures")
+        for note in self.stack.glob("closures/*/closed.txt"):
+            note.unlink()
         self.assertIn("closure=yes` makes them", self.refused("--correct", self.made))
         for folder in sorted(self.stack.glob("*_*"))[1:]:
             folder.rename(self.folder / folder.name)

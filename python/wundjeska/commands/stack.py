@@ -32,7 +32,7 @@ from ..stack_loops import Loop, Move, Stack, loop_of
 from ..trouble import FILE_FAULT, REFUSED_WORDS, Trouble, warn
 from .closure import Source, Surface, labels_in, read_raster, surface_product
 
-SURFACE, PARTS, CLOSURES = "cycles.tif", "components.tif", "closures"
+SURFACE, PARTS, CLOSURES, CLOSED = "cycles.tif", "components.tif", "closures", "closed.txt"
 MOST = 20  # parts that are listed
 KEPT = 6  # rasters of parts that are kept for the next loops
 UNPROVED = "with parts raised as the loops of its stack say: no proof or certificate says that this is right"
@@ -66,12 +66,18 @@ def loops_in(folder: Path) -> Dict[str, Triplet]:
     loops = triplets_of(sorted(path.parent.name for path in folder.glob(f"*/{SURFACE}")))
     if not loops:
         raise Trouble(f"{folder} has {NO_LOOP}")
-    done = {name: pairs for name, pairs in loops.items() if misclosed_of(folder, name).exists()}
+    done = {name: pairs for name, pairs in loops.items() if is_closed(folder, name)}
     if not done:
         raise Trouble(f"{folder} has no closures of its {len(loops)} loops; `wundjeska scenes {folder} closure=yes` makes them")
     if len(done) < len(loops):
         warn(f"{len(loops) - len(done)} of {len(loops)} loops have no closures, and are left out")
     return done
+
+
+def is_closed(folder: Path, loop: str) -> bool:
+    """Whether the closures of a loop are those of its surfaces: `scenes` drops the note before it closes a loop anew."""
+    made = misclosed_of(folder, loop)
+    return made.exists() and made.with_name(CLOSED).exists()
 
 
 def misclosed_of(folder: Path, loop: str) -> Path:
@@ -195,7 +201,8 @@ def lines_on(stack: Stack, pairs: Sequence[str], found: Raised, seconds: float) 
     moves = stack.moves(found)
     yield f"{len(stack.loops)} loops of {len(pairs)} pairs: {percent(before, whole)} of {whole} pixels misclose"
     if found.late:
-        yield f"{found.late} groups of parts were not solved in {seconds:g} s, and nothing of them is raised; --seconds gives more"
+        groups = "1 group of parts was" if found.late == 1 else f"{found.late} groups of parts were"
+        yield f"{groups} not solved in {seconds:g} s, and none of these parts is raised; --seconds gives more"
     yield f"the loops say to raise {len(moves) or 'no'} part{'' if len(moves) == 1 else 's'}; then {percent(after, whole)} misclose"
     yield from listed(moves, pairs)
     doubted = sum(move.is_doubted for move in moves)

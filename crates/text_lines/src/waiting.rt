@@ -1,4 +1,5 @@
 ghost use Rattle.std.specs.Prelude.{◌≡◌, ◌≤◌, ◌<◌, ◌+◌, ◌++◌, ◌∷◌, [], length, take};
+ghost use Rattle.text_lines.specs.declared.waiting.TheConstants.{BUFFER_BYTES};
 
 /// How many bytes wait before they are put into a sink.
 const BUFFER_BYTES: usize = 8192;
@@ -7,7 +8,7 @@ const BUFFER_BYTES: usize = 8192;
 pub(crate) struct Waiting {
     bytes: [u8; BUFFER_BYTES],
     end: usize,
-    ghost within: { end ≤ 8192 },
+    ghost within: { end ≤ BUFFER_BYTES },
 }
 
 impl Waiting {
@@ -32,14 +33,14 @@ impl Waiting {
 
     /// How many more there is room for.
     pub fn room(&self) -> usize
-        ensures { result + self.now.end ≡ 8192 }
+        ensures { result + self.now.end ≡ BUFFER_BYTES }
     {
         BUFFER_BYTES - self.end
     }
 
     /// Adds bytes for which there is room.
     pub fn push(&mut self, piece: &[u8])
-        requires { self.old.end + length piece.now ≤ 8192 }
+        requires { self.old.end + length piece.now ≤ BUFFER_BYTES }
         ensures { waiting_in self.new ≡ waiting_in self.old ++ piece.now }
     {
         let end = self.end + piece.len();
@@ -50,7 +51,7 @@ impl Waiting {
     /// Adds a byte for which there is room.
     #[inline(always)]
     pub fn push_byte(&mut self, byte: u8)
-        requires { self.old.end < 8192 }
+        requires { self.old.end < BUFFER_BYTES }
         ensures { waiting_in self.new ≡ waiting_in self.old ++ (byte ∷ []) }
     {
         self.bytes[self.end] = byte;

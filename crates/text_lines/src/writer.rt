@@ -1,6 +1,7 @@
 ghost use Rattle.std.specs.Prelude.{◌≡◌, ◌≤◌, ◌<◌, ◌+◌, ◌++◌, ◌∷◌, [], length, codes, OnOk, OnErr, true, false};
 ghost use Rattle.std.specs.Fmt.{signed_decimal};
 ghost use Rattle.insar_ports.specs.Bytes.{GainsProperPrefix, HasRisen, with_end};
+ghost use Rattle.text_lines.specs.declared.waiting.TheConstants.{BUFFER_BYTES};
 
 use crate::waiting::Waiting;
 use insar_ports::{Sink, WriteFault, put_all};
@@ -124,7 +125,7 @@ impl<'a, K: Sink> TextWriter<'a, K> {
 
     /// Keeps bytes that fit.
     fn keep(&mut self, piece: &[u8])
-        requires { self.old.waiting.end + length piece.now ≤ 8192 }
+        requires { self.old.waiting.end + length piece.now ≤ BUFFER_BYTES }
         ensures { Adds (view_of K.held K.faults self.old) (view_of K.held K.faults self.new) piece.now }
     {
         self.waiting.push(piece);

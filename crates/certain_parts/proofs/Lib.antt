@@ -9,3 +9,4 @@ pub mod PartLemmas
 pub mod SizeLemmas
 pub mod UniqueParts
 pub mod OneText
+pub mod RowLemmas

@@ -1,19 +1,28 @@
-ghost use Rattle.certain_parts.specs.PartsText.{labels_grid};
-ghost use Rattle.raster_model.specs.Limits.{is_raster_size};
+ghost use Rattle.certain_parts.specs.PartsText.{labels_grid, labels_line};
+ghost use Rattle.grid_writer.specs.Grid.{grid_row};
 ghost use Rattle.raster_model.specs.Masks.{open_at};
-ghost use Rattle.std.specs.Prelude.{◌≡◌, ◌<◌, ◌≤◌, IsTrue, length};
-ghost use Rattle.surface_snapshots.specs.Parts.{BeginsWithRow};
+ghost use Rattle.std.specs.Prelude.{◌≡◌, ◌<◌, ◌≤◌};
+ghost use Rattle.text_lines.specs.Adding.{Adds};
+ghost use Rattle.text_lines.specs.Views.{view_of};
 
 use crate::parts::Parts;
-use grid_writer::{NO_DATA, Rows};
+use grid_writer::NO_DATA;
+use insar_ports::Sink;
 use raster_model::Mask;
+use text_lines::{TextWriter, add_signed_field};
+use text_pages::Passages;
 
-/// The labels of parts under the mask that they were found under: 0 at an open pixel that is in no part.
-#[derive(Clone, Copy)]
+/// No label takes more bytes, with the space or the end of the line after it; nor does the NODATA value.
+const LONGEST_VALUE: u32 = 21;
+
+/// The labels of parts under the mask that they were found under: 0 at an open pixel that is in no part. They are written one by
+/// one, so that no row is held.
+#[derive(Clone, Copy, Drop)]
 pub(crate) struct LabelRows<'a> {
     pub(crate) parts: &'a Parts,
     pub(crate) mask: &'a Mask,
     pub(crate) ghost same_size: { (mask.now.width ≡ parts.now.width) × (mask.now.height ≡ parts.now.height) },
+    pub(crate) ghost some: { 1 ≤ parts.now.width },
 }
 
 impl LabelRows<'_> {
@@ -28,33 +37,39 @@ impl LabelRows<'_> {
         }
         i64::from(self.parts.label(x, y))
     }
+
+    /// Adds the values of a row, with a space between them.
+    fn add_row<K: Sink>(&self, text: &mut TextWriter<K>, y: u32)
+        requires along { y < self.now.parts.now.height }
+        ensures { Adds (view_of K.held K.faults text.old) (view_of K.held K.faults text.new) (labels_line self.now.parts.now (open_at self.now.mask.now) y self.now.parts.now.width) }
+    {
+        text.signed(self.value(0, y));
+        for x in 1..self.mask.width() {
+            add_signed_field(text, self.value(x, y));
+        }
+    }
 }
 
-/// A masked pixel has the NODATA value.
-impl Rows for LabelRows<'_> {
-    ghost grid = { λ s. labels_grid s.parts.now (open_at s.mask.now) };
+/// The rows from the top.
+impl Passages for LabelRows<'_> {
+    ghost passages = { λ rows. rows.parts.now.height };
 
-    fn width(&self) -> u32
-        ensures width { result ≡ (labels_grid self.now.parts.now (open_at self.now.mask.now)).width }
-        ensures sized { IsTrue (is_raster_size (labels_grid self.now.parts.now (open_at self.now.mask.now)).width (labels_grid self.now.parts.now (open_at self.now.mask.now)).height) }
-    {
-        self.mask.width()
-    }
+    ghost words = { λ rows. grid_row (labels_grid rows.parts.now (open_at rows.mask.now)).values rows.parts.now.width };
 
-    fn height(&self) -> u32
-        ensures { result ≡ (labels_grid self.now.parts.now (open_at self.now.mask.now)).height }
-    {
+    ghost known = { λ rows y. Unit };
+
+    fn count(&self) -> u32 {
         self.mask.height()
     }
 
-    fn fill_row(&self, y: u32, row: &mut [i64])
-        requires along { y < (labels_grid self.now.parts.now (open_at self.now.mask.now)).height }
-        requires room { (labels_grid self.now.parts.now (open_at self.now.mask.now)).width ≤ length row.old }
-        ensures same { length row.new ≡ length row.old }
-        ensures front { BeginsWithRow (labels_grid self.now.parts.now (open_at self.now.mask.now)).values y (labels_grid self.now.parts.now (open_at self.now.mask.now)).width row.new }
-    {
-        for x in 0..self.mask.width() {
-            row[x as usize] = self.value(x, y);
+    fn longest(&self) -> u32 {
+        self.mask.width().saturating_mul(LONGEST_VALUE)
+    }
+
+    fn add<K: Sink>(&self, text: &mut TextWriter<K>, from: u32, end: u32) {
+        for y in from..end {
+            self.add_row(text, y);
+            text.end_line();
         }
     }
 }

@@ -6,10 +6,11 @@ ghost use Rattle.text_lines.specs.Views.{view_of};
 
 use crate::parts::Parts;
 use crate::rows::LabelRows;
-use grid_writer::add_grid;
+use grid_writer::add_header;
 use insar_ports::{Sink, WriteFault};
 use raster_model::Mask;
 use text_lines::{TextWriter, add_field};
+use text_pages::add_all;
 
 /// Writes the parts that were found under a mask at a limit, with at least `least` pixels each: the line `parts P T N` with
 /// their number, the limit and `least`, then for each part in order a line `part X Y SIZE` with its first pixel in row order
@@ -28,7 +29,8 @@ pub fn write_parts<K: Sink>(
     let mut text = TextWriter::new(sink);
     add_counts(&mut text, parts, limit, least);
     add_parts(&mut text, parts);
-    add_grid(&mut text, &LabelRows { parts, mask });
+    add_header(&mut text, mask.width(), mask.height());
+    add_all(&mut text, &LabelRows { parts, mask });
     text.finish()
 }
 

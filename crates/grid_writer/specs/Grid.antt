@@ -19,6 +19,10 @@ rows_line height = (codes "nrows " ++ decimal height) ++ 10 ∷ []
 unfoldable pub frame_lines : List ℕ
 frame_lines = codes "xllcorner 0\nyllcorner 0\ncellsize 1\nNODATA_value -9223372036854775808\n"
 
+-- all six
+abbrev pub header_lines : ℕ → ℕ → List ℕ
+header_lines width height = columns_line width ++ (rows_line height ++ frame_lines)
+
 -- a row of values with a space between them, and its LF; the rows from the top
 abbrev pub grid_row : Field ℤ → ℕ → ℕ → List ℕ
 grid_row values width y = numbers_line (values_below width (λ x. values x y)) ++ 10 ∷ []

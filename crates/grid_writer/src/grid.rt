@@ -1,4 +1,4 @@
-ghost use Rattle.grid_writer.specs.Grid.{columns_line, frame_lines, rows_line};
+ghost use Rattle.grid_writer.specs.Grid.{header_lines};
 ghost use Rattle.grid_writer.specs.Grids.{grid_of};
 ghost use Rattle.grid_writer.specs.Putting.{AddsGrid, PutsGrid};
 ghost use Rattle.grid_writer.specs.Shown.{shown_grid};
@@ -30,14 +30,21 @@ fn add_size<K: Sink>(text: &mut TextWriter<K>, label: &[u8], count: u32)
     text.end_line();
 }
 
+/// Adds the header of a grid of this size, before its rows: six lines.
+pub fn add_header<K: Sink>(text: &mut TextWriter<K>, width: u32, height: u32)
+    ensures { Adds (view_of K.held K.faults text.old) (view_of K.held K.faults text.new) (header_lines width height) }
+{
+    add_size(text, b"ncols ", width);
+    add_size(text, b"nrows ", height);
+    text.bytes(FRAME);
+}
+
 /// Adds the header of the grid of rows.
 fn add_head<K: Sink, R: Rows>(text: &mut TextWriter<K>, rows: &R)
     ensures sized { IsTrue (is_raster_size (R.grid rows.now).width (R.grid rows.now).height) }
-    ensures added { Adds (view_of K.held K.faults text.old) (view_of K.held K.faults text.new) (columns_line (R.grid rows.now).width ++ (rows_line (R.grid rows.now).height ++ frame_lines)) }
+    ensures added { Adds (view_of K.held K.faults text.old) (view_of K.held K.faults text.new) (header_lines (R.grid rows.now).width (R.grid rows.now).height) }
 {
-    add_size(text, b"ncols ", rows.width());
-    add_size(text, b"nrows ", rows.height());
-    text.bytes(FRAME);
+    add_header(text, rows.width(), rows.height());
 }
 
 /// Adds the grid of rows of values to a text, as [`write_grid`] writes it. After a fault the rows are read, and nothing

@@ -14,7 +14,7 @@ import wundjeska
 from wundjeska.planes import CYCLE, phases_of
 
 sys.path.append(str(TOP / "recipes/kit"))
-from truth import scene_of  # type: ignore[import]  # noqa: E402
+from truth import scene_of, shares  # type: ignore[import]  # noqa: E402
 
 KIT = (HERE / "kit/phase.tif", "--coherence", HERE / "kit/coherence.tif")
 SIZES = ("--side", 80, "--overlap", 24, "--jobs", 1, "--agree", 0.5)
@@ -57,6 +57,16 @@ class Kept(InFolder):
         self.kept("report").write_bytes(report.replace(b"\ncosts ", b"\ncosts 1", 1) + b"\n")
         self.is_made_anew(first)
 
+    def test_a_model_is_taken_off_and_added_again(self) -> None:
+        told, found = self.frames("--model", 2, "--agree", 0)
+        self.assertRegex(told, "model: 64 by 52 blocks of 2 by 2 pixels: accepted, costs [0-9]+, of its guide")
+        self.assertIn("accepted its guide, of the phase less the model", told)
+        note = gdal.Open(str(self.folder / "joined.tif")).GetMetadataItem("WUNDJESKA_MODEL")
+        self.assertIn("blocks of 2 by 2 pixels", note)
+        there = np.isfinite(gdal.Open(str(KIT[2])).ReadAsArray())  # the coherence where a pixel is masked is not
+        wanted = phases_of(gdal.Open(str(KIT[0])).ReadAsArray())[there]
+        np.testing.assert_array_equal(np.rint(found[there].astype(np.float64) * CYCLE) % CYCLE, wanted)
+
     def test_files_that_are_cut_or_gone(self) -> None:
         first = self.frames()[1]
         for kind in ("values.npy", "pieces.npy", "undecided.npy", "f.npy", "report", "session", "sums"):
@@ -78,6 +88,20 @@ class Kept(InFolder):
             self.assertTrue((off[phase != -9999] % CYCLE == 0).all())
             note = gdal.Open(str(self.folder / "joined.tif")).GetMetadataItem("WUNDJESKA_FILTER")
             self.assertEqual("narrower" in note, words == ("--narrow",))
+
+
+class Torn(InFolder):
+    def test_a_model_where_a_fault_cuts_the_overlaps(self) -> None:
+        scene = scene_of("torn-4-medium-white-9702", 512)
+        phase = raster(self.folder / "phase.tif", np.angle(scene.product))
+        given = (phase, "--coherence", raster(self.folder / "c.tif", scene.estimated))
+        for words, status, most in (((), 0, 2), (("--model", 0), 1, 100)):
+            made = self.folder / f"joined{len(words)}.tif"
+            sizes = ("--side", 200, "--overlap", 40, "--folder", self.folder / "frames")
+            ended, told = command("frames.py", *given, *sizes, *words, "--float64", made)
+            self.assertEqual(ended, status, told)
+            values = np.rint(gdal.Open(str(made)).ReadAsArray() * CYCLE).astype(np.int64)
+            self.assertLess(shares(scene, values)[1], most)
 
 
 class Undecided(InFolder):

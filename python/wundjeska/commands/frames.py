@@ -7,7 +7,7 @@ joins them. If open pixels fall into pieces that do not touch, each piece of eac
 at which most pixels agree are taken first; the others are compared with what these say. Each frame fills the raster up to
 the middle of the overlaps.
 
-Each frame's surface, or its guide, is certified. The joint is not: no certificate says that other whole cycles at the overlaps would not
+Each frame's surface, or its guide, is certified; with a model, for the phase less it. The joint is not: no certificate says that other whole cycles at the overlaps would not
 cost less. So each overlap is told, with how many pixels agree. An overlap agrees if the part --agree of all its pixels does;
 pieces in it that do not are told too. If an overlap does not agree, the raster is written all the same, and the status is 1.
 
@@ -15,13 +15,17 @@ Rasters are read and written by windows. --folder keeps the session, the report 
 What is there is not done again, so a run that was cut off goes on where it stopped; what was changed there since is.
 
 --undecided writes what is undecided in each frame, up to the middle of the overlaps; a part that runs over several has a number in each.
+
+If overlaps do not agree, as where a fault cuts them, frames are done once more with a model: the raster is multilooked to blocks, few
+enough to be solved at once, and what that surface says of each pixel is taken off the phase, and added again at the end. If all overlaps
+agree then, that is what is written. --model N has a model of blocks of N by N pixels from the start, --model 0 none.
 """
 import hashlib
 import io
 import threading
 from argparse import ArgumentParser, Namespace, RawDescriptionHelpFormatter
 from concurrent.futures import ThreadPoolExecutor
-from dataclasses import dataclass
+from dataclasses import dataclass, replace
 from fractions import Fraction
 from pathlib import Path
 from typing import Any, Dict, Iterator, List, Optional, Sequence, Tuple
@@ -30,11 +34,12 @@ import numpy as np
 
 from .. import program
 from ..build_info import with_proofs
+from ..coarse import Model, block_for, blocks_in, fits, model_of, multilooked
 from ..components import pieces_of
 from ..guiding import Chain, add_filter_words, add_narrow_word, by_guide, filtered_session
 from ..joining import Link, Offsets, links_of, offsets_of
 from ..outputs import Outputs, add_force_word, keep, raster_beside
-from ..planes import CYCLE, MAX_PIXELS, Ramp, session_of
+from ..planes import CYCLE, MAX_PIXELS, Ramp, ramp_in, session_of
 from ..product import add_unit_words, check_unit_words, create_numbers, in_unit, kind_of, nodata_of, undecided_notes, unit_notes
 from ..ramps import AUTO, RampWord, Spectrum, add_ramp_words, found_in, told
 from ..rasters import Scene, Window, add_scene_words, close, create_like, name_of, put_array, put_values, scene_of, size_of
@@ -42,14 +47,15 @@ from ..references import add_reference_words, check_box, mean_of, reference_of
 from ..report_reader import NODATA
 from ..trouble import DISAGREES, REFUSED_WORDS, Trouble
 from ..undecided import count_of, count_told
-from ..unwrapping import FILTER, Settings, Solved, solve, solved_by, solvers_of
+from ..unwrapping import FILTER, Settings, Solved, last_surface, solve, solved_by, solvers_of
 from ..weights import highest_of
 from .unwrap import add_solver_words, add_undecided_word, add_whole_word, chain_of, ramp_note, settings_of, steep_note
 
 NOT_PROVED = (
-    "Each frame is certified: the checker accepted its {}. The joint of the frames is not covered by any certificate or "
+    "Each frame is certified: the checker accepted its {}{}. The joint of the frames is not covered by any certificate or "
     "proof. The whole cycles between frames rest on the medians above."
 )
+LESS_MODEL = ", of the phase less the model"
 BLOCK, BLOCKS = 256, 16  # pixels along a block that tells of the ramp, and how many there are at most along a side
 KEPT = ("session", "report", "pieces.npy", "values.npy")  # of a frame
 OF_GUIDES = ("undecided.npy", "f.npy")  # besides, of one with a filter: the numbers of undecided parts, and f of each
@@ -190,6 +196,19 @@ class Job:
     reading: threading.Lock  # GDAL reads a raster for one thread at a time
     ramp: Optional[Ramp] = None
     chain: Chain = Chain()
+    model: Optional[Model] = None  # which has the ramp, if there is one
+
+    def read(self, window: Window) -> Tuple[np.ndarray, np.ndarray, np.ndarray]:
+        """The planes of a window, the phase less the model."""
+        with self.reading:
+            phase, weights, opened = self.scene.read(window)
+        if self.model:
+            phase = ((phase - self.model.at(window)) % CYCLE * opened).astype(np.uint16)
+        return phase, weights, opened
+
+    def session(self, window: Window) -> bytes:
+        ramp = None if self.model else self.ramp
+        return session_of(*self.read(window), highest=highest_of(self.scene.looks), ramp=ramp)
 
 
 def ramp_of(scene: Scene, word: RampWord) -> Optional[Ramp]:
@@ -214,17 +233,18 @@ def starts_of(length: int) -> List[int]:
 def do_frame(frame: Frame, job: Job) -> str:
     """Sees that a frame's surface is kept; a line on it."""
     x, y, width, height = frame.window
-    with job.reading:
-        planes = job.scene.read(frame.window)
-    session = session_of(*planes, highest=highest_of(job.scene.looks), ramp=job.ramp)
-    text = filtered_session(session, job.scene.coherence is not None) if job.chain.filter else session
-    if is_kept(frame, text, head_of(frame, job.settings, job.ramp), job.chain):
-        words = "accepted in an earlier run"
-    else:
-        solved = solved_frame(frame, job, session, text)
-        keep_solved(frame, text, solved, job.chain)
-        words = f"{solved.verdict}, {cost_words(solved, job.settings)}"
+    words = see_frame(frame, job, job.session(frame.window))
     return f"{frame.name}: columns {x} to {x + width - 1}, rows {y} to {y + height - 1}: {words}"
+
+
+def see_frame(frame: Frame, job: Job, session: bytes) -> str:
+    """Sees that the surface of a frame's session is kept; how it came about, in words."""
+    text = filtered_session(session, job.scene.coherence is not None) if job.chain.filter else session
+    if is_kept(frame, text, head_of(frame, job.settings, ramp_in(session)), job.chain):
+        return "accepted in an earlier run"
+    solved = solved_frame(frame, job, session, text)
+    keep_solved(frame, text, solved, job.chain)
+    return f"{solved.verdict}, {cost_words(solved, job.settings)}"
 
 
 def solved_frame(frame: Frame, job: Job, session: bytes, text: bytes) -> Solved:
@@ -255,6 +275,30 @@ def do_frames(frames: List[Frame], job: Job, jobs: int) -> None:
         raise
     finally:
         pool.shutdown(cancel_futures=True)  # after a frame that failed none is begun
+
+
+# The model
+
+
+def model_for(size: Tuple[int, int], block: int, job: Job, folder: Path) -> Model:
+    """The model of the raster by blocks of so many pixels a side: the guide if there is a filter, else the surface. It is kept as a
+    frame is."""
+    width, height = blocks_in(size, block)
+    frame = Frame("model", (0, 0, width, height), (0, 0, width, height), folder)
+    highest = highest_of(job.scene.looks)
+    session = session_of(*multilooked(job.scene, size, block, job.ramp, highest), highest=highest)
+    words = see_frame(frame, replace(job, settings=replace(job.settings, side=None)), session)
+    print(f"model: {width} by {height} blocks of {block} by {block} pixels: {words}", flush=True)
+    smooth = last_surface(frame.file("report").read_bytes(), "the model").values
+    return model_of(smooth, frame.load("pieces", frame.window), block, size, job.ramp)
+
+
+def with_model(job: Job, size: Tuple[int, int], block: int, frames: List[Frame]) -> Tuple[List[Frame], Job]:
+    """The frames of the phase less a model, and what they have in common."""
+    if not fits(blocks_in(size, block)):
+        raise Trouble(f"--model {block}: blocks are at least {block_for(size)} pixels a side here", REFUSED_WORDS)
+    model = model_for(size, block, job, frames[0].folder)
+    return [replace(frame, name=f"less-model-{frame.name}") for frame in frames], replace(job, model=model)
 
 
 # Their joint
@@ -316,13 +360,12 @@ def share_of(links: List[Link], offsets: Offsets) -> float:
     return sum(link.counts.get(offsets.cycles(link), 0) for link in links) / sum(link.pixels() for link in links)
 
 
-def not_proved(chain: Chain) -> str:
-    return NOT_PROVED.format("guide" if chain.filter else "surface")
+def not_proved(job: Job) -> str:
+    return NOT_PROVED.format("guide" if job.chain.filter else "surface", LESS_MODEL if job.model else "")
 
 
-def tell(overlaps: List[List[Link]], frames: List[Frame], offsets: Offsets, asked: Namespace) -> bool:
+def tell(overlaps: List[List[Link]], frames: List[Frame], offsets: Offsets, agree: float, job: Job) -> bool:
     """Tells how the overlaps agree; whether all do. What is judged are the pixels of an overlap, not each of its pieces."""
-    agree = asked.agree
     apart = [links for links in overlaps if share_of(links, offsets) < agree]
     off = [link for links in overlaps for link in links if link.share(offsets.cycles(link)) < agree]
     off.sort(key=lambda link: -link.pixels())
@@ -336,7 +379,7 @@ def tell(overlaps: List[List[Link]], frames: List[Frame], offsets: Offsets, aske
         lines.append(f"  and {len(off) - MAX_LINES} more")
     if offsets.sets() > 1:
         lines.append(f"{offsets.sets()} parts of the raster do not touch; whole cycles between them are arbitrary")
-    print("\n".join([*lines, not_proved(Chain(asked.filter))]))
+    print("\n".join([*lines, not_proved(job)]))
     return not apart
 
 
@@ -345,15 +388,23 @@ def solved_note(settings: Settings) -> Dict[str, Any]:
     return {"SOLVED": "each frame at once"} if settings.is_whole else {"TILE_SIDE": settings.side}
 
 
-def notes_of(asked: Namespace, settings: Settings, frames: List[Frame], agreed: bool) -> Dict[str, Any]:
+def model_note(model: Optional[Model]) -> Dict[str, Any]:
+    """What is told of the model, if there is one."""
+    if not model:
+        return {}
+    return {"MODEL": f"blocks of {model.block} by {model.block} pixels, solved at once; each frame is of the phase less it"}
+
+
+def notes_of(asked: Namespace, job: Job, frames: List[Frame], agreed: bool) -> Dict[str, Any]:
     """What the product tells of how it came about."""
-    chain = Chain(asked.filter, asked.narrow)
+    chain, settings = job.chain, job.settings
     return {
         **unit_notes(asked),
         "VERDICT": with_proofs("each frame accepted, their joint not proved"),
         "FILTER": chain.told(settings.is_whole),
         **({"UNDECIDED": undecided_told(frames)} if chain.filter else {}),
-        "JOINT": not_proved(chain),
+        "JOINT": not_proved(job),
+        **model_note(job.model),
         "OVERLAPS": f"all agree at {100 * asked.agree:g} %" if agreed else f"not all agree at {100 * asked.agree:g} %",
         "FRAMES": len(frames),
         **solved_note(settings),
@@ -363,22 +414,24 @@ def notes_of(asked: Namespace, settings: Settings, frames: List[Frame], agreed: 
     }
 
 
-def parts_of(frames: List[Frame], offsets: Offsets) -> Iterator[Tuple[Window, np.ndarray]]:
-    """The joint surface in 1/65536 cycle, part by part, each with its window."""
+def parts_of(frames: List[Frame], offsets: Offsets, model: Optional[Model]) -> Iterator[Tuple[Window, np.ndarray]]:
+    """The joint surface in 1/65536 cycle, part by part, each with its window; the model is added again."""
     for number, frame in enumerate(frames):
         pieces = frame.load("pieces", frame.core)
         added = np.array([offsets.of((number, piece)) for piece in range(pieces.max(initial=-1) + 1)] or [0])
-        values = frame.load("values", frame.core)
+        values = frame.load("values", frame.core) + (model.at(frame.core) if model else 0)
         yield frame.core, np.where(pieces >= 0, values + CYCLE * added[np.maximum(pieces, 0)], NODATA)
 
 
-def level_in(frames: List[Frame], offsets: Offsets, box: Optional[Sequence[int]]) -> Fraction:
+def level_in(
+    frames: List[Frame], offsets: Offsets, model: Optional[Model], box: Optional[Sequence[int]]
+) -> Fraction:
     """The mean of the reference, 0 if there is none."""
     if box is None:
         return Fraction(0)
     window = (box[0], box[1], box[2] - box[0] + 1, box[3] - box[1] + 1)
     found = []
-    for core, values in parts_of(frames, offsets):
+    for core, values in parts_of(frames, offsets, model):
         x, y, width, height = overlap_of(core, window)
         if min(width, height) > 0:
             inside = values[y - core[1] : y - core[1] + height, x - core[0] : x - core[0] + width]
@@ -387,12 +440,13 @@ def level_in(frames: List[Frame], offsets: Offsets, box: Optional[Sequence[int]]
 
 
 def write(
-    path: Path, frames: List[Frame], offsets: Offsets, scene: Scene, asked: Namespace, notes: Dict[str, Any]
+    path: Path, frames: List[Frame], offsets: Offsets, job: Job, asked: Namespace, notes: Dict[str, Any]
 ) -> None:
     """Writes the raster, frame by frame."""
-    level = level_in(frames, offsets, reference_of(asked).box)
+    model, scene = job.model, job.scene
+    level = level_in(frames, offsets, model, reference_of(asked).box)
     made = create_like(path, scene.phase.raster, kind_of(asked), nodata_of(asked), asked.unit, notes)
-    for core, values in parts_of(frames, offsets):
+    for core, values in parts_of(frames, offsets, model):
         put_values(made, in_unit(values, level, asked), *core[:2])
     close(made, path)
 
@@ -446,6 +500,12 @@ def words() -> ArgumentParser:
         "--overlap", type=int, default=128, metavar="N", help="pixels that frames overlap by (default: 128)"
     )
     found.add_argument(
+        "--model",
+        type=int,
+        metavar="N",
+        help="take a model of blocks of N by N pixels off first, 0: none (default: where overlaps do not agree without)",
+    )
+    found.add_argument(
         "--agree", type=float, default=0.95, metavar="PART", help="of an overlap's pixels (default: 0.95)"
     )
     found.add_argument(
@@ -471,31 +531,69 @@ def check_words(asked: Namespace) -> None:
         raise Trouble("wanted 0 < OVERLAP < SIDE <= 2048", REFUSED_WORDS)
     if not 1 <= asked.jobs <= MAX_JOBS:
         raise Trouble(f"--jobs is from 1 to {MAX_JOBS}", REFUSED_WORDS)
+    if asked.model is not None and asked.model < 0:
+        raise Trouble("--model is 0 or the side of blocks in pixels", REFUSED_WORDS)
     if not 0 <= asked.agree <= 1:
         raise Trouble("--agree is from 0 to 1", REFUSED_WORDS)
+
+
+@dataclass
+class Joint:
+    """Frames that were joined, and whether all overlaps agree."""
+
+    frames: List[Frame]
+    job: Job
+    offsets: Offsets
+    agreed: bool
+
+
+def joint_of(frames: List[Frame], job: Job, asked: Namespace) -> Joint:
+    """Does all frames, joins them, and tells how they agree."""
+    do_frames(frames, job, asked.jobs)
+    pieces = pieces_in(frames)
+    if not pieces:
+        raise Trouble(f"{name_of(job.scene.phase.raster)} has no pixel that is open")
+    overlaps = list(all_links(frames))
+    offsets = offsets_of(pieces, [link for links in overlaps for link in links])
+    return Joint(frames, job, offsets, tell(overlaps, frames, offsets, asked.agree, job))
+
+
+def best_joint(frames: List[Frame], job: Job, size: Tuple[int, int], asked: Namespace) -> Joint:
+    """The frames joined, with a model from the start if one is asked for, and else if they agree with one alone."""
+    if asked.model:
+        return joint_of(*with_model(job, size, asked.model, frames), asked)
+    found = joint_of(frames, job, asked)
+    if found.agreed or asked.model == 0:
+        return found
+    print("once more with a model, since not all overlaps agree", flush=True)
+    other = joint_of(*with_model(job, size, block_for(size), frames), asked)
+    if not other.agreed:
+        print("not all agree with a model either: what is written has none", flush=True)
+    return other if other.agreed else found
+
+
+def write_all(joint: Joint, asked: Namespace, made: Path, doubted: Optional[Path]) -> None:
+    """Writes what was joined, and what is undecided."""
+    job = joint.job
+    notes = notes_of(asked, job, joint.frames, joint.agreed)
+    write(made, joint.frames, joint.offsets, job, asked, {**notes, **ramp_note(job.ramp)})
+    if doubted:
+        write_undecided(doubted, joint.frames, job.scene)
 
 
 def main(asked: Namespace) -> int:
     check_words(asked)
     settings, chain = settings_of(asked, asked.whole), chain_of(asked, undecided=asked.undecided)
     scene = scene_of(asked)
-    raster = scene.phase.raster
-    check_box(reference_of(asked).box, *size_of(raster))
-    frames = frames_of(size_of(raster), asked.side, asked.overlap, asked.folder)
+    size = size_of(scene.phase.raster)
+    check_box(reference_of(asked).box, *size)
+    frames = frames_of(size, asked.side, asked.overlap, asked.folder)
     with Outputs(scene.files(), asked.force) as outputs:
         made, doubted = outputs.raster(asked.geotiff), raster_beside(outputs, asked.undecided)
         asked.folder.mkdir(parents=True, exist_ok=True)
         ramp = ramp_of(scene, asked.ramp)
         if ramp is not None:
             print(told(ramp), flush=True)
-        do_frames(frames, Job(scene, settings, threading.Lock(), ramp, chain), asked.jobs)
-        pieces = pieces_in(frames)
-        if not pieces:
-            raise Trouble(f"{name_of(raster)} has no pixel that is open")
-        overlaps = list(all_links(frames))
-        offsets = offsets_of(pieces, [link for links in overlaps for link in links])
-        agreed = tell(overlaps, frames, offsets, asked)
-        write(made, frames, offsets, scene, asked, {**notes_of(asked, settings, frames, agreed), **ramp_note(ramp)})
-        if doubted:
-            write_undecided(doubted, frames, scene)
-    return 0 if agreed else DISAGREES
+        joint = best_joint(frames, Job(scene, settings, threading.Lock(), ramp, chain), size, asked)
+        write_all(joint, asked, made, doubted)
+    return 0 if joint.agreed else DISAGREES

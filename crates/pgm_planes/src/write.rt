@@ -1,6 +1,7 @@
 ghost use Rattle.std.specs.Prelude.{◌≡◌, ◌≤◌, ◌*◌, All, length, take, flat_map, OnOk, OnErr};
 ghost use Rattle.byteorder.specs.Endian.{big_bytes};
 ghost use Rattle.insar_ports.specs.Bytes.{HasRisen, GainsProperPrefix, with_end};
+ghost use Rattle.pgm_planes.specs.declared.write.TheConstants.{PIECE_SAMPLES};
 ghost use Rattle.pgm_planes.specs.Planes.{plane_of, is_wide as is_wide_maxval};
 ghost use Rattle.pgm_planes.specs.Text.{raster_text, plane_header_text, plane_text};
 ghost use Rattle.text_lines.specs.Adding.{Adds};
@@ -66,7 +67,7 @@ fn add_raster<K: Sink>(text: &mut TextWriter<K>, samples: &[u16], maxval: u16)
 
 /// Adds as many samples as are added at once.
 fn add_piece<K: Sink>(text: &mut TextWriter<K>, piece: &[u16], maxval: u16)
-    requires short { length piece.now ≤ 4096 }
+    requires short { length piece.now ≤ PIECE_SAMPLES }
     requires below { All (λ v. v ≤ maxval) piece.now }
     ensures { Adds (view_of K.held K.faults text.old) (view_of K.held K.faults text.new) (raster_text (is_wide_maxval maxval) piece.now) }
 {

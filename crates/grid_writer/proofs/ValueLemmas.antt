@@ -1,7 +1,7 @@
 -- Rows of values as lists.
-use Rattle.std.proofs.Common.{◌≡◌, ℕ, zero, suc, ◌+◌, ◌*◌, ◌<◌, ◌≤◌, List, [], ◌∷◌, ◌++◌, length, take, get_or, ℤ, pos, sym, ap, subst, refl, ◌∙◌, arith, inl, inr}
+use Rattle.std.proofs.Common.{◌≡◌, ℕ, zero, suc, ◌+◌, ◌*◌, ◌<◌, ◌≤◌, List, [], ◌∷◌, ◌++◌, length, take, drop, get_or, ℤ, pos, sym, ap, subst, refl, ◌∙◌, arith, inl, inr}
 use Rattle.std.proofs.lemmas.Bool.{cases_lt}
-use Rattle.std.proofs.lemmas.List.{get_or_append_left, get_or-append-add, get_or-take, length-take-le, length_push, same_from_push, take_all, take_more}
+use Rattle.std.proofs.lemmas.List.{get_or_append_left, get_or-append-add, get_or-drop, get_or-take, length-drop, length-take-le, length_push, same_from_push, take_all, take_more}
 use Rattle.std.proofs.lemmas.List.Elements.{All-nil, All-push}
 use Rattle.std.proofs.lemmas.Nat.{mul-add-lt}
 use Rattle.raster_model.specs.Sums.{Field}
@@ -49,6 +49,20 @@ row_taken width row values y le same = ap (λ (l : List ℤ). numbers_line l ++ 
 
 pub taken_long : (width : ℕ) (row : List ℤ) (values : Field ℤ) (y : ℕ) → width ≤ length row → ((x : ℕ) → x < width → get_or row x (pos 0) ≡ values x y) → AreLongs (take width row) → (x : ℕ) → x < width → FitsLong (values x y)
 taken_long width row values y le same longs x lt = subst FitsLong (get_or-take width row x (pos 0) lt ∙ same x lt) (longs x (pos 0) (omega (arith, lt, le, length-take-le width row le)))
+
+-- the row of a list in row order
+module _ (width y : ℕ) (items : List ℤ) (within : y * width + width ≤ length items) where
+  row_long : width ≤ length (drop (y * width) items)
+  row_long = (let e = length-drop (y * width) items in omega (arith, e, within))
+
+  row_there : (x : ℕ) → x < width → get_or (drop (y * width) items) x (pos 0) ≡ value_at width items x y
+  row_there x lt = get_or-drop (y * width) items x (pos 0)
+
+  pub row_of_slice : (row : List ℤ) → row ≡ take width (drop (y * width) items) → numbers_line row ++ 10 ∷ [] ≡ grid_row (value_at width items) width y
+  row_of_slice row e = ap (λ (l : List ℤ). numbers_line l ++ 10 ∷ []) e ∙ row_taken width (drop (y * width) items) (value_at width items) y row_long row_there
+
+  pub slice_long : (row : List ℤ) → row ≡ take width (drop (y * width) items) → AreLongs row → (x : ℕ) → x < width → FitsLong (value_at width items x y)
+  slice_long row e longs = taken_long width (drop (y * width) items) (value_at width items) y row_long row_there (subst AreLongs e longs)
 
 row_same : (width : ℕ) (v w : Field ℤ) (y : ℕ) → ((x : ℕ) → x < width → v x y ≡ w x y) → grid_row v width y ≡ grid_row w width y
 row_same width v w y e = ap (λ (l : List ℤ). numbers_line l ++ 10 ∷ []) (values_same width (λ x. v x y) (λ x. w x y) e)

@@ -10,6 +10,7 @@ ghost use Rattle.text_lines.specs.Views.{view_of};
 
 use crate::row_lines::RowLines;
 use crate::rows::Rows;
+use crate::value_lines::ValueLines;
 use crate::values::Grid;
 use insar_ports::{Sink, WriteFault};
 use std::thread::Threads;
@@ -56,6 +57,14 @@ pub fn add_grid<K: Sink, R: Rows>(text: &mut TextWriter<K>, rows: &R)
     add_all(text, &RowLines { rows });
 }
 
+/// Adds a grid that is held, in the same way.
+pub fn add_values<K: Sink>(text: &mut TextWriter<K>, grid: &Grid)
+    ensures { AddsGrid (view_of K.held K.faults text.old) (view_of K.held K.faults text.new) (grid_of grid.now) }
+{
+    add_header(text, grid.width, grid.height);
+    add_all(text, &ValueLines { grid });
+}
+
 /// Adds a grid as [`add_grid`] does. Several threads make its rows, if there are pages for them.
 pub fn add_grid_side_by_side<T: Threads + Sync, K: Sink, R: Rows + Sync>(
     rt: &T,
@@ -75,7 +84,9 @@ pub fn add_grid_side_by_side<T: Threads + Sync, K: Sink, R: Rows + Sync>(
 pub fn write_grid<K: Sink>(snapshot: &Snapshot, sink: &mut K) -> Result<(), WriteFault>
     ensures { PutsGrid (K.held sink.old) (K.faults sink.old) (K.held sink.new) (K.faults sink.new) (shown_grid (parts_of snapshot.now)) result }
 {
-    write_rows(snapshot, sink)
+    let mut text = TextWriter::new(sink);
+    add_grid(&mut text, snapshot);
+    text.finish()
 }
 
 /// Writes the grid of a snapshot's surface as [`write_grid`] does. Several threads make its rows, if there are pages for them.
@@ -97,14 +108,7 @@ pub fn write_grid_side_by_side<T: Threads + Sync, K: Sink>(
 pub fn write_values<K: Sink>(grid: &Grid, sink: &mut K) -> Result<(), WriteFault>
     ensures { PutsGrid (K.held sink.old) (K.faults sink.old) (K.held sink.new) (K.faults sink.new) (grid_of grid.now) result }
 {
-    write_rows(grid, sink)
-}
-
-/// Writes the grid of rows of values by the caller's thread.
-fn write_rows<K: Sink, R: Rows>(rows: &R, sink: &mut K) -> Result<(), WriteFault>
-    ensures { PutsGrid (K.held sink.old) (K.faults sink.old) (K.held sink.new) (K.faults sink.new) (R.grid rows.now) result }
-{
     let mut text = TextWriter::new(sink);
-    add_grid(&mut text, rows);
+    add_values(&mut text, grid);
     text.finish()
 }

@@ -9,11 +9,13 @@ mod read;
 mod row_lines;
 mod rows;
 mod shown;
+mod value_lines;
 mod values;
 
 pub use crate::fault::GridsFault;
 pub use crate::grid::{
-    add_grid, add_grid_side_by_side, add_header, write_grid, write_grid_side_by_side, write_values,
+    add_grid, add_grid_side_by_side, add_header, add_values, write_grid, write_grid_side_by_side,
+    write_values,
 };
 pub use crate::many::read_grids;
 pub use crate::read::{read_grid, read_sized_grid};

@@ -15,7 +15,7 @@ use text_pages::Passages;
 const MAX_WIDTH: usize = MAX_SIDE as usize;
 
 /// No value takes more bytes, with the space or the end of the line after it.
-const LONGEST_VALUE: u32 = 21;
+pub(crate) const LONGEST_VALUE: u32 = 21;
 
 /// The lines of rows of values, from the top.
 #[derive(Drop)]
@@ -50,7 +50,7 @@ impl<R: Rows> Passages for RowLines<'_, R> {
 }
 
 /// Adds the line of a row. After a fault nothing is written.
-fn add_line<K: Sink>(text: &mut TextWriter<K>, values: &[i64])
+pub(crate) fn add_line<K: Sink>(text: &mut TextWriter<K>, values: &[i64])
     ensures added { Adds (view_of K.held K.faults text.old) (view_of K.held K.faults text.new) (numbers_line values.now ++ 10 ∷ []) }
     ensures longs { AreLongs values.now }
 {

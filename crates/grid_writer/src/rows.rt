@@ -1,11 +1,11 @@
-ghost use Rattle.grid_writer.specs.Grids.{GridOf, grid_of};
+ghost use Rattle.grid_writer.specs.Grids.{GridOf};
 ghost use Rattle.grid_writer.specs.Shown.{shown_grid};
 ghost use Rattle.raster_model.specs.Limits.{is_raster_size};
 ghost use Rattle.std.specs.Prelude.{◌≡◌, ◌<◌, ◌≤◌, IsTrue, length};
 ghost use Rattle.surface_snapshots.specs.Parts.{BeginsWithRow};
 ghost use Rattle.surface_snapshots.specs.Views.{parts_of};
 
-use crate::values::{Grid, NO_DATA};
+use crate::values::NO_DATA;
 use surface_snapshots::Snapshot;
 
 /// Rows of values, from the top, that can be written as a grid.
@@ -54,33 +54,5 @@ impl Rows for Snapshot {
         ensures front { BeginsWithRow (shown_grid (parts_of self.now)).values y (shown_grid (parts_of self.now)).width row.new }
     {
         self.fill_row(y, NO_DATA, row);
-    }
-}
-
-impl Rows for Grid {
-    ghost grid = { λ grid. grid_of grid };
-
-    fn width(&self) -> u32
-        ensures width { result ≡ (grid_of self.now).width }
-        ensures sized { IsTrue (is_raster_size (grid_of self.now).width (grid_of self.now).height) }
-    {
-        self.width
-    }
-
-    fn height(&self) -> u32
-        ensures { result ≡ (grid_of self.now).height }
-    {
-        self.height
-    }
-
-    fn fill_row(&self, y: u32, row: &mut [i64])
-        requires along { y < (grid_of self.now).height }
-        requires room { (grid_of self.now).width ≤ length row.old }
-        ensures same { length row.new ≡ length row.old }
-        ensures front { BeginsWithRow (grid_of self.now).values y (grid_of self.now).width row.new }
-    {
-        let width = self.width as usize;
-        let start = y as usize * width;
-        row[..width].copy_from_slice(&self.values[start..start + width]);
     }
 }

@@ -10,7 +10,7 @@ ghost use Rattle.text_lines.specs.Views.{view_of};
 
 use crate::cycles::key;
 use crate::loops::Loops;
-use grid_writer::{NO_DATA, add_grid};
+use grid_writer::{NO_DATA, add_values};
 use insar_ports::{Sink, WriteFault};
 use text_lines::{TextWriter, add_field, add_long_field, add_signed_field};
 
@@ -23,8 +23,8 @@ pub fn write_loops<K: Sink>(loops: &Loops, sink: &mut K) -> Result<(), WriteFaul
     let mut text = TextWriter::new(sink);
     add_counts(&mut text, loops);
     add_patches(&mut text, loops);
-    add_grid(&mut text, &loops.closures);
-    add_grid(&mut text, &loops.cycles);
+    add_values(&mut text, &loops.closures);
+    add_values(&mut text, &loops.cycles);
     text.finish()
 }
 

@@ -4,4 +4,4 @@ use Rattle.loop_closure.proofs.text.write_loops.Goals as goal
 
 pub returns : goal.returns
 returns g c =
-    puts_made g.K.Sink.held g.K.Sink.faults c.finish.result (λ n. search (rules, n)) c.new-text.ensures (adds_then c.add_counts.ensures (adds_then c.add_patches.ensures (adds_then c.add_grid.ensures.added c.add_grid-2.ensures.added))) c.finish.ensures.adds c.finish.ensures.none c.finish.ensures.whole c.finish.ensures.cut
+    puts_made g.K.Sink.held g.K.Sink.faults c.finish.result (λ n. search (rules, n)) c.new-text.ensures (adds_then c.add_counts.ensures (adds_then c.add_patches.ensures (adds_then c.add_values.ensures.added c.add_values-2.ensures.added))) c.finish.ensures.adds c.finish.ensures.none c.finish.ensures.whole c.finish.ensures.cut

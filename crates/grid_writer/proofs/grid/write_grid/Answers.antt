@@ -1,6 +1,6 @@
 use Rattle.std.proofs.Common.{rules}
 use Rattle.text_lines.proofs.AddLemmas.{puts_made}
-use Rattle.grid_writer.proofs.grid.write_rows.Goals as goal
+use Rattle.grid_writer.proofs.grid.write_grid.Goals as goal
 
 pub returns : goal.returns
 returns g c = record {

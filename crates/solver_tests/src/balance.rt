@@ -1,4 +1,4 @@
-ghost use Rattle.std.specs.Prelude.{◌≡◌, ◌<◌, ◌≤◌, ◌+◌, ◌*◌, ◌^◌, ℕ, pos, ◌≤ℤ◌, length, IfOk, IfSome};
+ghost use Rattle.std.specs.Prelude.{◌≡◌, ◌<◌, ◌≤◌, ◌+◌, ◌-◌, ◌*◌, ◌^◌, ℕ, pos, ◌≤ℤ◌, length, IfOk, IfSome};
 ghost use Rattle.flow_network.specs.Growing.{supply_sum, supply_sizes};
 ghost use Rattle.flow_network.specs.Views.{shape_of, state_of};
 ghost use Rattle.shortest_augment.specs.Balance.{BoundsCosts, HasZeroPotentials};
@@ -64,6 +64,47 @@ fn sizes(supplies: &[i64]) -> Option<u64>
     if total == 0 { Some(size) } else { None }
 }
 
+/// An arc of a row.
+#[derive(Clone, Copy)]
+struct Arc {
+    tail: u32,
+    head: u32,
+    cost: i64,
+    capacity: u64,
+}
+
+/// The arc of these numbers, if its ends are nodes and its cost and its capacity are within bounds.
+fn arc_of(ends: (i64, i64), cost: i64, capacity: i64, nodes: u32, used: u64) -> Option<Arc>
+    requires { used ≤ 2 ^ 62 }
+    ensures tail { IfSome result (λ arc. arc.tail < nodes) }
+    ensures head { IfSome result (λ arc. arc.head < nodes) }
+    ensures low { IfSome result (λ arc. pos 0 ≤ℤ arc.cost) }
+    ensures high { IfSome result (λ arc. arc.cost ≤ℤ pos (2 ^ 40)) }
+    ensures room { IfSome result (λ arc. arc.capacity ≤ 2 ^ 62 - used) }
+{
+    let Ok(tail) = u32::try_from(ends.0) else {
+        return None;
+    };
+    let Ok(head) = u32::try_from(ends.1) else {
+        return None;
+    };
+    let Ok(capacity) = u64::try_from(capacity) else {
+        return None;
+    };
+    if tail >= nodes || head >= nodes || capacity > ROOM - used {
+        return None;
+    }
+    if cost < 0 || cost > 1_099_511_627_776 {
+        return None;
+    }
+    Some(Arc {
+        tail,
+        head,
+        cost,
+        capacity,
+    })
+}
+
 /// The network of these supplies and arcs, each by tail, head, cost and capacity; None if there is none.
 fn build(alloc: Global, supplies: &[i64], arcs: &[i64]) -> Result<Option<Network>, AllocError>
     ensures flat { IfOk result (λ made. IfSome made (λ net. HasZeroPotentials (shape_of net) (state_of net))) }
@@ -78,24 +119,13 @@ fn build(alloc: Global, supplies: &[i64], arcs: &[i64]) -> Result<Option<Network
     let mut net = Network::new(alloc, supplies.to_vec(alloc)?)?;
     let mut used = size;
     for index in 0..arcs.len() / 4 {
-        let Ok(tail) = u32::try_from(arcs[4 * index]) else {
+        let at = 4 * index;
+        let ends = (arcs[at], arcs[at + 1]);
+        let Some(arc) = arc_of(ends, arcs[at + 2], arcs[at + 3], net.nodes(), used) else {
             return Ok(None);
         };
-        let Ok(head) = u32::try_from(arcs[4 * index + 1]) else {
-            return Ok(None);
-        };
-        let cost = arcs[4 * index + 2];
-        let Ok(capacity) = u64::try_from(arcs[4 * index + 3]) else {
-            return Ok(None);
-        };
-        if tail >= net.nodes() || head >= net.nodes() || capacity > ROOM - used {
-            return Ok(None);
-        }
-        if cost < 0 || cost > 1_099_511_627_776 {
-            return Ok(None);
-        }
-        net.add_arc(alloc, tail, head, cost, capacity, 0)?;
-        used += capacity;
+        net.add_arc(alloc, arc.tail, arc.head, arc.cost, arc.capacity, 0)?;
+        used += arc.capacity;
     }
     Ok(Some(net))
 }

@@ -51,8 +51,8 @@ def rows():
 
 
 def table(file, field):
-    """A field of each case of a table of text_tests."""
-    cases = literal(source_of("text_tests", file), "TEXTS").split(";")[:-1]
+    """A field of each case of a table of command_tests."""
+    cases = literal(source_of("command_tests", file), "TEXTS").split(";")[:-1]
     return [case.split("|")[field].encode("latin-1") for case in cases]
 
 
@@ -65,7 +65,7 @@ def texts():
     sessions = examples + [example + script for example in examples]
     sessions += [data for words, data, _, _ in found if words[:1] in (["unwrap"], ["grid"]) and data]
     sessions += table("session_rows.rt", 1) + table("plane_rows.rt", 2)
-    source = source_of("text_tests", "reading_rows.rt")
+    source = source_of("command_tests", "reading_rows.rt")
     session, report = (literal(source, name).encode("latin-1") for name in ("SESSION", "REPORT"))
     checks = [(words, data) for words, data, _, _ in found if words[:1] == ["check"] and b"insar-report" in data]
     return Texts(sessions, checks + [(["check"], session + report)])

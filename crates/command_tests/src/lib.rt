@@ -1,7 +1,9 @@
-//! Worked rows of the commands: displacements along the line of sight, loops of grids, screened masks, test sessions, and the
-//! whole raster's least surface with the verdicts on texts of such surfaces.
+//! Worked rows of the crates that read and write texts, and of those that commands stand on: displacements along the line of
+//! sight, loops of grids, screened masks, test sessions, and the least surface of the whole raster with its text and verdicts.
 #![tactic(auto)]
 
+#[cfg(test)]
+mod board_rows;
 #[cfg(test)]
 mod loop_rows;
 #[cfg(test)]
@@ -13,9 +15,17 @@ mod page_rows;
 #[cfg(test)]
 mod patch_rows;
 #[cfg(test)]
+mod plane_rows;
+#[cfg(test)]
+mod port_rows;
+#[cfg(test)]
 mod reached_rows;
 #[cfg(test)]
+mod reading_rows;
+#[cfg(test)]
 mod screen_rows;
+#[cfg(test)]
+mod session_rows;
 #[cfg(test)]
 mod sight_rows;
 #[cfg(test)]

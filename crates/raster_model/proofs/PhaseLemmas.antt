@@ -1,7 +1,7 @@
 -- Wrapped differences and whole cycles.
-use Rattle.std.proofs.Common.{◌≡◌, ℕ, suc, ◌*◌, ◌/◌, ◌<◌, ◌≤◌, ap, refl, subst, sym, arith, Bool, true, false, to_z, of_z, w32}
+use Rattle.std.proofs.Common.{◌≡◌, ℕ, suc, ◌*◌, ◌/◌, ◌<◌, ◌≤◌, ap, refl, subst, sym, arith, Bool, true, false}
 use Rattle.std.specs.Prelude.{ℤ, pos, negsuc, ◌+ℤ◌, ◌-ℤ◌, ◌*ℤ◌, ◌≤ℤ◌, ◌<ℤ◌, int_div, unsigned_abs}
-use Rattle.std.specs.Int.{int_rem_euclid}
+use Rattle.std.specs.Int.{int_div_euclid, int_rem_euclid}
 use Rattle.std.proofs.lemmas.Int.{ints}
 use Rattle.raster_model.specs.declared.edge.Edge.{Edge}
 use Rattle.raster_model.specs.declared.terms.Terms.{Terms}
@@ -17,9 +17,12 @@ div_exact (pos n) = ap pos (omega arith)
 div_exact (negsuc n) = let e : 65536 * suc n / 65536 ≡ suc n = omega arith in omega (arith, ints, e)
 
 -- what the remainder leaves is whole cycles
+divided : (z : ℤ) → z ≡ int_rem_euclid z (pos 65536) +ℤ pos 65536 *ℤ int_div_euclid z (pos 65536)
+divided (pos n) = ap pos (omega arith)
+divided (negsuc n) = omega (arith, ints)
+
 pub euclid : (z : ℤ) → (q : ℤ) × (z ≡ int_rem_euclid z (pos 65536) +ℤ pos 65536 *ℤ q)
-euclid (pos n) = (pos (n / 65536), ap pos (omega arith))
-euclid (negsuc n) = (negsuc (n / 65536), omega (arith, ints))
+euclid z = (int_div_euclid z (pos 65536), divided z)
 
 whole_cycles : (slope : ℤ) (a b : ℕ) → (q : ℤ) × (pos b -ℤ pos a ≡ wrapped_by slope a b +ℤ pos 65536 *ℤ q)
 unfolding wrapped_by
@@ -73,16 +76,12 @@ turns_small slope a b s l m =
     let w = wrapped_is_it slope a b in
     omega (arith, ints, s.0, s.1, w.low, w.high, turns_exact slope a b)
 
--- the code's quotient, at 32 bits
-pub turns_at : (slope : ℤ) (a b : ℕ) (p q d : ℤ) → IsSlope slope → p ≡ pos a → q ≡ pos b → d ≡ wrapped_by slope a b → a < 65536 → b < 65536 → to_z w32 (of_z w32 (int_div (to_z w32 (of_z w32 (to_z w32 (of_z w32 (to_z w32 (of_z w32 q) -ℤ to_z w32 (of_z w32 p))) -ℤ to_z w32 (of_z w32 d)))) (pos 65536))) ≡ turns_by slope a b
-unfolding turns_by
-turns_at slope a b p q d s ep eq ed l m =
-    let w = wrapped_is_it slope a b in
-    let inner : to_z w32 (of_z w32 (to_z w32 (of_z w32 (to_z w32 (of_z w32 q) -ℤ to_z w32 (of_z w32 p))) -ℤ to_z w32 (of_z w32 d))) ≡ pos b -ℤ pos a -ℤ wrapped_by slope a b = omega (arith, ints, ep, eq, ed, s.0, s.1, w.low, w.high) in
-    rw inner (fits (turns_by slope a b) (turns_small slope a b s l m))
-  where
-    fits : (z : ℤ) → unsigned_abs z ≤ 1 → to_z w32 (of_z w32 z) ≡ z
-    fits z k = omega (arith, ints)
+-- the code's quotient: the whole cycles of a difference around the slope, to the nearest
+pub turns_at : (slope : ℤ) (a b : ℕ) (z q : ℤ) → z ≡ pos b -ℤ pos a -ℤ slope +ℤ pos 32768 → q ≡ int_div_euclid z (pos 65536) → q ≡ turns_by slope a b
+unfolding wrapped_by
+turns_at slope a b z q e f =
+    let x = pos b -ℤ pos a -ℤ slope +ℤ pos 32768 in
+    rw (f, e) (omega (arith, ints, divided x, turns_exact slope a b))
 
 -- the code's remainder
 pub wrapped_at : (slope : ℤ) (a b : ℕ) (z r : ℤ) → z ≡ pos b -ℤ pos a -ℤ slope +ℤ pos 32768 → r ≡ int_rem_euclid z (pos 65536) → slope +ℤ (r -ℤ pos 32768) ≡ wrapped_by slope a b

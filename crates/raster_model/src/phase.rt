@@ -28,5 +28,5 @@ pub fn turns_ramp(a: u16, b: u16, slope: i32) -> i32
     ensures exact { pos b -ℤ pos a ≡ wrapped_by slope a b +ℤ pos 65536 *ℤ result }
     ensures small { unsigned_abs result ≤ 1 }
 {
-    (i32::from(b) - i32::from(a) - wrapped_ramp(a, b, slope)) / 65536
+    (i32::from(b) - i32::from(a) - slope + 32768).div_euclid(65536)
 }

@@ -1,5 +1,5 @@
 -- What the edges that start at a pixel add to the cost of a tile, as code adds it up.
-use Rattle.std.proofs.Common.{◌≡◌, ℕ, ◌+◌, ◌*◌, ◌^◌, ◌<◌, ◌≤◌, arith, refl, Fits}
+use Rattle.std.proofs.Common.{◌≡◌, ℕ, ◌+◌, ◌*◌, ◌^◌, ◌<◌, ◌≤◌, arith, refl, Fits, inl, inr}
 use Rattle.std.specs.Int.{w128}
 use Rattle.std.specs.Prelude.{ℤ, pos, Bool, IsTrue, ◌&&◌, nat_lt}
 use Rattle.std.proofs.lemmas.Bool.Decides.{nat_tests}
@@ -9,16 +9,17 @@ use Rattle.raster_model.specs.Raster.{edge_cost, has_open_ends}
 use Rattle.raster_model.specs.Tiles.{IsWithin}
 use Rattle.raster_model.specs.Heights.{KnowsEnds}
 use Rattle.certificates.specs.declared.tile.Tile.{Tile}
-use Rattle.certificates.specs.TileWords.{AreRowsOpen, KnowsTile, cost_at, held_mask, held_raster, surface_of_cycles}
+use Rattle.certificates.specs.TileWords.{AreColumnsOpen, AreEndsOpen, AreRowsOpen, IsColumnOpen, KnowsTile, cost_at, held_mask, held_raster, surface_of_cycles}
 use Rattle.raster_model.proofs.WindowCosts.{cost_from_is}
 use Rattle.std.proofs.lemmas.Bool.{and_parts}
+use Rattle.sums_and_lists.proofs.Orders.{below_or_last}
 use Rattle.sums_and_lists.specs.Sums.{where_true}
 
 -- the edges that start at a pixel of the window and end in it are edges of the raster
-is_right : (w h x y : ℕ) → x + 1 < w → y < h → IsTrue (is_edge w h (right_edge x y))
+pub is_right : (w h x y : ℕ) → x + 1 < w → y < h → IsTrue (is_edge w h (right_edge x y))
 is_right w h x y l m = grind (arith, nat_tests)
 
-is_lower : (w h x y : ℕ) → x < w → y + 1 < h → IsTrue (is_edge w h (down_edge x y))
+pub is_lower : (w h x y : ℕ) → x < w → y + 1 < h → IsTrue (is_edge w h (down_edge x y))
 is_lower w h x y l m = grind (arith, nat_tests)
 
 module _ (k : Tile) (knows : Field Bool) (known : KnowsTile k knows) where
@@ -53,6 +54,20 @@ module _ (k : Tile) (x y : ℕ) (clear : AreRowsOpen k y) (w : IsWithin k.window
   pub lower_open : y < k.window.y1 → IsTrue (has_open_ends (held_mask k) (down_edge x y))
   lower_open l =
       both_true (held_mask k x y) (held_mask k x (y + 1)) (clear x y w (omega arith) (omega arith)) (clear x (y + 1) (w.0, w.1, omega (arith, w), omega (arith, l)) (omega arith) (omega arith))
+
+-- and so are those of a pixel's edges where the pixel's column and the next one are open
+pub ends_of_columns : (k : Tile) (a n x y : ℕ) → AreColumnsOpen k y a n → a ≤ x → x < n → AreEndsOpen k x y
+ends_of_columns k a n x y columns l m =
+    let here = columns x l (omega (arith, m)) in
+    let next = columns (x + 1) (omega (arith, l)) (omega (arith, m)) in
+    (λ _. both_true (held_mask k x y) (held_mask k (x + 1) y) here.0 next.0, λ _. both_true (held_mask k x y) (held_mask k x (y + 1)) here.0 here.1)
+
+pub columns_more : (k : Tile) (a n y : ℕ) → AreColumnsOpen k y a n → IsColumnOpen k y (n + 1) → AreColumnsOpen k y a (n + 1)
+columns_more k a n y columns here c l m =
+    elim (below_or_last c (n + 1) (omega (arith, m))) [ inl b ↦ columns c l (omega (arith, b)) | inr b ↦ rw b here ]
+
+pub one_column : (k : Tile) (a y : ℕ) → IsColumnOpen k y a → AreColumnsOpen k y a a
+one_column k a y here c l m = let e : c ≡ a = omega (arith, l, m) in rw e here
 
 -- a cost that is worked out, or 0
 pub cost_or_none : (a b : ℕ) → a ≡ b → b ≤ 1048560 * (2 ^ 49 + 1) → a ≤ 1048560 * (2 ^ 49 + 1)

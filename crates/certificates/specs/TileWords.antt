@@ -2,7 +2,7 @@
 use Rattle.std.specs.Prelude.{◌≡◌, ℕ, ◌+◌, ◌<◌, ◌≤◌, ℤ, pos, Bool, IsTrue, List, length}
 use Rattle.raster_model.specs.declared.edge.Edge.{Edge}
 use Rattle.raster_model.specs.Sums.{Field, right_edge, down_edge}
-use Rattle.raster_model.specs.Raster.{Raster, departure, lifted, cost_from, tile_cost}
+use Rattle.raster_model.specs.Raster.{Raster, departure, edge_cost, has_open_ends, lifted, cost_from, tile_cost}
 use Rattle.raster_model.specs.Certificates.{faces_of_tile, face_bound, face_difference, face_over_from, face_over_total, face_product, face_total, IsTileEdge, FacesFit}
 use Rattle.raster_model.specs.Cells.{IsCertifiedTile, cell_count, face_at}
 use Rattle.raster_model.specs.Heights.{KnowsOpenOf}
@@ -66,9 +66,12 @@ FitDown tile faces y n = (x : ℕ) → tile.window.x0 + 1 ≤ x → x < n → Fi
 abbrev pub FitIn : Tile → List ℤ → ℕ → Type 0
 FitIn tile faces y = (edge : Edge) → IsInner tile edge → edge.y ≡ y → FitAt tile faces edge
 
--- the surface of some cycles, what it costs at the edges that start at a pixel, and in the tile
+-- the surface of some cycles, what it costs at an edge, at the edges that start at a pixel, and in the tile
 abbrev pub surface_of_cycles : Tile → Field ℤ → Field ℤ
 surface_of_cycles tile cycles = lifted (held_raster tile) cycles
+
+abbrev pub cost_on : Tile → Field ℤ → Edge → ℤ
+cost_on tile cycles = edge_cost (held_raster tile) (held_mask tile) (surface_of_cycles tile cycles)
 
 abbrev pub cost_at : Tile → Field ℤ → Field ℤ
 cost_at tile cycles = cost_from (held_raster tile) (held_mask tile) tile.number (surface_of_cycles tile cycles)
@@ -89,6 +92,16 @@ KnowsTile tile = KnowsOpenOf (held_raster tile) (held_mask tile) tile.number
 -- the tile's pixels in row y and in the next row are open
 abbrev pub AreRowsOpen : Tile → ℕ → Type 0
 AreRowsOpen tile y = (a b : ℕ) → IsWithin tile.window a b → y ≤ b → b ≤ y + 1 → IsTrue (held_mask tile a b)
+
+-- the pixels of column x in row y and in the next row are open; so are those of all columns from x to n; the ends of the tile's edges that start at a pixel are open
+abbrev pub IsColumnOpen : Tile → ℕ → ℕ → Type 0
+IsColumnOpen tile y x = IsTrue (held_mask tile x y) × IsTrue (held_mask tile x (y + 1))
+
+abbrev pub AreColumnsOpen : Tile → ℕ → ℕ → ℕ → Type 0
+AreColumnsOpen tile y x n = (a : ℕ) → x ≤ a → a ≤ n → IsColumnOpen tile y a
+
+abbrev pub AreEndsOpen : Tile → ℕ → ℕ → Type 0
+AreEndsOpen tile x y = (x < tile.window.x1 → IsTrue (has_open_ends (held_mask tile) (right_edge x y))) × (y < tile.window.y1 → IsTrue (has_open_ends (held_mask tile) (down_edge x y)))
 
 -- the surface of some cycles departs at no right edge that starts in row y, from the tile's first column to before column n; nor at such a down edge
 abbrev pub TileFollowsRight : Tile → Field ℤ → ℕ → ℕ → Type 0

@@ -27,6 +27,7 @@ ghost use Rattle.raster_model.specs.Tiles.{IsWithin};
 ghost use Rattle.std.specs.Prelude.{
   ◌≡◌,
   ◌+◌,
+  ◌-ℤ◌,
   ◌*◌,
   ◌<◌,
   ◌≤◌,
@@ -170,13 +171,23 @@ impl Tile<'_> {
         }
     }
 
-    /// Whether the faces fit at each right edge of row `y`. The tile has cells above and below the row, and the row's
-    /// pixels are open. The loop does not stop at the first edge at which they do not fit, so that several can be judged
-    /// at once.
-    fn fit_right(&self, faces: &[i64], y: u32) -> bool
+    /// Whether two faces differ by no more than may those on the two sides of an edge. If `unmasked` is true, both ends are
+    /// known to be open. Most faces are like their neighbours, and no weight is looked up between these.
+    fn are_near(&self, a: i64, b: i64, edge: Edge, unmasked: bool) -> bool
+        requires is_edge { IsTrue (is_edge self.now.scene.now.phase.width self.now.scene.now.phase.height edge) }
+        requires unmasked { IsTrue unmasked → IsTrue (has_open_ends (held_mask self.now) edge) }
+        ensures { IsTrue result → unsigned_abs (a -ℤ b) ≤ self.now.scene.now.terms.steep * masked_weight (held_raster self.now) (held_mask self.now) edge }
+    {
+        a == b
+            || a.abs_diff(b) <= u64::from(self.scene.terms.limit(self.edge_weight(edge, unmasked)))
+    }
+
+    /// Whether the faces fit at each right edge of row `y`. The tile has cells above and below the row. If `unmasked` is
+    /// true, the row's pixels are known to be open.
+    fn fit_right(&self, faces: &[i64], y: u32, unmasked: bool) -> bool
         requires count { HasFaces self.now faces.now }
         requires row { (self.now.window.y0 < y) × (y < self.now.window.y1) }
-        requires unmasked { AreRowsOpen self.now y }
+        requires unmasked { IsTrue unmasked → AreRowsOpen self.now y }
         ensures { IsTrue result → FitRight self.now faces.now y self.now.window.x1 }
     {
         let mut unfit = false;
@@ -184,18 +195,17 @@ impl Tile<'_> {
             let above = self.cell_face(faces, x, y - 1);
             let below = self.cell_face(faces, x, y);
             let edge = Edge { x, y, down: false };
-            let limit = self.scene.terms.limit(stored_weight(self.scene, edge));
-            unfit |= above.abs_diff(below) > u64::from(limit);
+            unfit |= !self.are_near(above, below, edge, unmasked);
         }
         !unfit
     }
 
     /// Whether the faces fit at each down edge of row `y` that has cells of the tile on both sides. The row is not the
-    /// tile's last, and its pixels and those of the next row are open.
-    fn fit_down(&self, faces: &[i64], y: u32) -> bool
+    /// tile's last. If `unmasked` is true, its pixels and those of the next row are known to be open.
+    fn fit_down(&self, faces: &[i64], y: u32, unmasked: bool) -> bool
         requires count { HasFaces self.now faces.now }
         requires row { (self.now.window.y0 ≤ y) × (y < self.now.window.y1) }
-        requires unmasked { AreRowsOpen self.now y }
+        requires unmasked { IsTrue unmasked → AreRowsOpen self.now y }
         ensures { IsTrue result → FitDown self.now faces.now y self.now.window.x1 }
     {
         let mut unfit = false;
@@ -203,18 +213,17 @@ impl Tile<'_> {
             let left = self.cell_face(faces, x - 1, y);
             let right = self.cell_face(faces, x, y);
             let edge = Edge { x, y, down: true };
-            let limit = self.scene.terms.limit(stored_weight(self.scene, edge));
-            unfit |= right.abs_diff(left) > u64::from(limit);
+            unfit |= !self.are_near(right, left, edge, unmasked);
         }
         !unfit
     }
 
     /// Whether the faces fit at the down edges of row `y` that start in the tile's first and last column. The row is not
-    /// the tile's last, and its pixels and those of the next row are open.
-    fn fit_at_sides(&self, faces: &[i64], y: u32) -> bool
+    /// the tile's last. If `unmasked` is true, its pixels and those of the next row are known to be open.
+    fn fit_at_sides(&self, faces: &[i64], y: u32, unmasked: bool) -> bool
         requires count { HasFaces self.now faces.now }
         requires row { (self.now.window.y0 ≤ y) × (y < self.now.window.y1) }
-        requires unmasked { AreRowsOpen self.now y }
+        requires unmasked { IsTrue unmasked → AreRowsOpen self.now y }
         ensures { IsTrue result → FitAt self.now faces.now (down_edge self.now.window.x0 y) × FitAt self.now faces.now (down_edge self.now.window.x1 y) }
     {
         let first = Edge {
@@ -227,11 +236,12 @@ impl Tile<'_> {
             y,
             down: true,
         };
-        self.faces_fit(faces, first, true) && self.faces_fit(faces, last, true)
+        self.faces_fit(faces, first, unmasked) && self.faces_fit(faces, last, unmasked)
     }
 
     /// Whether the faces are known to fit at each inner edge that starts in row `y`: the tile has cells above and below
-    /// the row, the pixels of this row and of the next are open, and no edge was found at which they do not fit.
+    /// the row, and no edge was found at which they do not fit. If `unmasked` is true, the pixels of this row and of the
+    /// next are known to be open.
     fn fit_in_row(&self, faces: &[i64], y: u32, unmasked: bool) -> bool
         requires count { HasFaces self.now faces.now }
         requires row { (self.now.window.y0 ≤ y) × (y ≤ self.now.window.y1) }
@@ -239,13 +249,13 @@ impl Tile<'_> {
         ensures { IsTrue result → FitIn self.now faces.now y }
     {
         let window = self.window;
-        if !unmasked || y == window.y0 || y == window.y1 {
+        if y == window.y0 || y == window.y1 {
             return false;
         }
-        if !self.fit_right(faces, y) || !self.fit_down(faces, y) {
+        if !self.fit_right(faces, y, unmasked) || !self.fit_down(faces, y, unmasked) {
             return false;
         }
-        self.fit_at_sides(faces, y)
+        self.fit_at_sides(faces, y, unmasked)
     }
 
     /// The first inner edge that starts in row `y` and whose faces do not fit. The edges of the rows before fit, so it

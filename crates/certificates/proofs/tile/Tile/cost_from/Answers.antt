@@ -4,7 +4,7 @@ use Rattle.raster_model.specs.Sums.{right_edge, down_edge}
 use Rattle.raster_model.specs.Raster.{edge_cost}
 use Rattle.raster_model.proofs.PartLemmas.{taken, left_out}
 use Rattle.certificates.specs.TileWords.{held_raster, held_mask, surface_of_cycles}
-use Rattle.certificates.proofs.CostLemmas.{right_asks, lower_asks, right_open, lower_open, cost_or_none, no_cost, costs_fit, both_costs}
+use Rattle.certificates.proofs.CostLemmas.{right_asks, lower_asks, cost_or_none, no_cost, costs_fit, both_costs}
 use Rattle.certificates.proofs.tile.Tile.cost_from.Goals as goal
 use Rattle.certificates.proofs.tile.Tile.cost_from.Goals.{then-x-self, else-x-self, then-y-self, else-y-self}
 use Rattle.sums_and_lists.specs.Sums.{where_true}
@@ -13,13 +13,13 @@ pub edge_cost-to_right-requires : goal.edge_cost-to_right-requires
 edge_cost-to_right-requires g c =
     let k = c.args.self.now in
     let a = right_asks k (g.H.Heights.knows c.args.heights.now) c.requires.known c.args.x c.args.y c.requires.within c.if-x-self.true in
-    record { same_size = k.same_size; is_edge = a.0; unmasked = λ t. right_open k c.args.x c.args.y (c.requires.unmasked t) c.requires.within c.if-x-self.true; known = a.1 }
+    record { same_size = k.same_size; is_edge = a.0; unmasked = λ t. (c.requires.unmasked t).0 c.if-x-self.true; known = a.1 }
 
 pub edge_cost-to_lower-requires : goal.edge_cost-to_lower-requires
 edge_cost-to_lower-requires g c =
     let k = c.args.self.now in
     let a = lower_asks k (g.H.Heights.knows c.args.heights.now) c.requires.known c.args.x c.args.y c.requires.within c.if-y-self.true in
-    record { same_size = k.same_size; is_edge = a.0; unmasked = λ t. lower_open k c.args.x c.args.y (c.requires.unmasked t) c.requires.within c.if-y-self.true; known = a.1 }
+    record { same_size = k.same_size; is_edge = a.0; unmasked = λ t. (c.requires.unmasked t).1 c.if-y-self.true; known = a.1 }
 
 pub overflow_add-result : goal.overflow_add-result
 overflow_add-result g c =

@@ -15,3 +15,8 @@ pub mod RangeLemmas
 pub mod CertifiedLemmas
 pub mod TellLemmas
 pub mod DecideLemmas
+pub mod CountSums
+pub mod EntryCounts
+pub mod PixelCounts
+pub mod TextCounts
+pub mod ShortReports

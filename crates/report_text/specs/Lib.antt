@@ -6,6 +6,7 @@ pub mod Fitting
 pub mod Contents
 pub mod Reading
 pub mod Same
+pub mod Length
 pub mod Parts
 pub mod Putting
 pub mod Certified

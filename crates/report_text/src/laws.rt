@@ -2,6 +2,7 @@
 
 ghost use Rattle.report_text.specs.Certified.{CertifiedReportsAreBest};
 ghost use Rattle.report_text.specs.Contents.{IsReportText};
+ghost use Rattle.report_text.specs.Length.{CertifiedReportsAreShort, LegalHistoriesKeepFew};
 ghost use Rattle.report_text.specs.Reading.{BrokenReportLineIsOne};
 ghost use Rattle.report_text.specs.Same.{ReportTextsAreUnique};
 ghost use Rattle.text_parts.specs.Reading.{CutTextHasNoBreak, TextOrBrokenLine};
@@ -11,6 +12,17 @@ ghost use Rattle.text_parts.specs.Reading.{CutTextHasNoBreak, TextOrBrokenLine};
 /// Zebker 2002.)
 pub fn certified_reports_are_best()
     ensures { CertifiedReportsAreBest }
+{}
+
+/// A legal history keeps at most one result of each tile, and one more of each after each change of the mask.
+pub fn legal_histories_keep_few()
+    ensures { LegalHistoriesKeepFew }
+{}
+
+/// The text of a certified report has at most 4,294,967,296 bytes, which are all that is read of a report. The weights'
+/// maxval is one of 16 bits, as that of any session that is read.
+pub fn certified_reports_are_short()
+    ensures { CertifiedReportsAreShort }
 {}
 
 /// No two reports have one text: reports with one text have one head and the same items, and their surfaces have the

@@ -1,5 +1,6 @@
 pub mod LineLemmas
 pub mod LineEnds
+pub mod LengthLemmas
 pub mod UniqueLemmas
 pub mod ReadsLemmas
 pub mod ParseLemmas

@@ -1,5 +1,5 @@
 -- What `check` reads, which is a session and then a report, and what it answers.
-use Rattle.std.specs.Prelude.{◌≡◌, ◌≤◌, ℕ, List, length}
+use Rattle.std.specs.Prelude.{◌≡◌, ℕ, List}
 use Rattle.insar_words.specs.Asked.{Options}
 use Rattle.session_script.specs.declared.session_use.SessionUse.TheVariants.{BeforeReport}
 use Rattle.session_script.specs.Sessions.{IsSessionIn, session_of}
@@ -8,7 +8,7 @@ use Rattle.report_text.specs.Text.{report_text}
 use Rattle.report_check.specs.declared.verdict.CheckVerdict.{CheckVerdict}
 use Rattle.report_check.specs.declared.verdict.CheckVerdict.TheVariants.{Accepted}
 use Rattle.report_check.specs.Verdicts.{IsCheckVerdict}
-use Rattle.insar_top.specs.Both.{BreaksBothBy, IsCheckableBy, IsJudgedBy, IsStatusBy, IsToldBy, IsVerdictBy, most_of_text}
+use Rattle.insar_top.specs.Both.{BreaksBothBy, IsCheckableBy, IsJudgedBy, IsStatusBy, IsToldBy, IsVerdictBy}
 use Rattle.insar_top.specs.Run.{Run}
 use Rattle.insar_top.specs.Unwrap.{IsReportAnswer}
 use Rattle.answer_lines.specs.declared.refusal.Refusal.{Refusal}
@@ -38,9 +38,9 @@ IsVerdictAnswer options bytes status text = IsVerdictBy Accepted verdict_line (I
 abbrev pub IsVerdictTold : ℕ → Run → CheckVerdict → Type 0
 IsVerdictTold status run verdict = IsToldBy Accepted verdict_line status run verdict
 
--- what is written for a session is accepted, where the text of the session stands before it and it is not too long
+-- what is written for a session is accepted, where the text of the session stands before it
 abbrev pub AnswersAreAccepted : Type 0
-AnswersAreAccepted = (options : Options) (bytes text both : List ℕ) (answer : IsReportAnswer options bytes text) → length text ≤ most_of_text → IsSessionIn BeforeReport options.side both (session_of answer.session) text → IsJudged options both Accepted
+AnswersAreAccepted = (options : Options) (bytes text both : List ℕ) (answer : IsReportAnswer options bytes text) → IsSessionIn BeforeReport options.side both (session_of answer.session) text → IsJudged options both Accepted
 
 -- bytes have one verdict, whatever session and report they are the text of
 abbrev pub BytesHaveOneVerdict : Type 0

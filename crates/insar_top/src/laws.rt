@@ -13,7 +13,7 @@ pub fn broken_bytes_are_no_input()
 {}
 
 /// `check` accepts what `unwrap` writes for a session: if the session's text comes before a report that the headline
-/// is about, and that report has at most 4,294,967,296 bytes, the verdict on these bytes is `Accepted`.
+/// is about, the verdict on these bytes is `Accepted`. None is longer than `check` reads.
 pub fn answers_are_accepted()
     ensures { AnswersAreAccepted }
 {}

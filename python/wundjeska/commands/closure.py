@@ -63,6 +63,7 @@ ROLES = ("first", "second", "third")
 UNITS = {"cycles": "cycles", "cycle": "cycles", "radians": "radians", "radian": "radians", "rad": "radians"}
 PARTS_UNPROVED = "with parts raised as its loop says: no proof or certificate says that this is right"
 UNPROVED = "raised by the cycles of its loop: no proof or certificate says that they are right, or that this surface is the wrong one"
+EACH = ("FIRST", "SECOND", "THIRD")
 
 
 def words() -> ArgumentParser:
@@ -73,58 +74,48 @@ def words() -> ArgumentParser:
         "The status is 0 if the files were written, whatever is misclosed, 1 if `check` refused a report, 2 for words that are "
         "refused, 3 if the surfaces do not fit, 5 if a file cannot be read or written.",
     )
+    add_words_on_surfaces(found)
+    add_words_on_products(found)
+    add_force_word(found)
+    found.add_argument("geotiff", help="the file to write: the whole cycles in the closures")
+    return found
+
+
+def add_words_on_surfaces(words: ArgumentParser) -> None:
+    """The words that say what is read."""
     for role, pair in zip(ROLES, ("1 to 2", "2 to 3", "1 to 3")):
-        found.add_argument(role, help=f"the surface of the pair {pair}: a GeoTIFF, a report or a grid")
-    found.add_argument("--unit", choices=tuple(CYCLES), help="of GeoTIFFs that do not say it themselves")
-    found.add_argument("--band", type=int, metavar="N", help="the band of GeoTIFFs that have several")
-    found.add_argument(
-        "--nodata", type=float, metavar="V", help="a number that stands for no value, besides what the files say"
-    )
-    found.add_argument(
-        "--sessions",
-        nargs=3,
-        metavar=("FIRST", "SECOND", "THIRD"),
-        help="those that three reports are of, to check them",
-    )
-    found.add_argument("--like", metavar="FILE", help="a raster of the same pixels, for the place of reports and grids")
-    found.add_argument(
-        "--reference", type=int, nargs=2, metavar=("COLUMN", "ROW"), help="the pixel where the loop is closed; or auto"
-    )
-    found.add_argument(
+        words.add_argument(role, help=f"the surface of the pair {pair}: a GeoTIFF, a report or a grid")
+    words.add_argument("--unit", choices=tuple(CYCLES), help="of GeoTIFFs that do not say it themselves")
+    words.add_argument("--band", type=int, metavar="N", help="the band of GeoTIFFs that have several")
+    words.add_argument("--nodata", type=float, metavar="V", help="a number that stands for no value, besides what the files say")
+    words.add_argument("--sessions", nargs=3, metavar=EACH, help="those that three reports are of, to check them")
+    words.add_argument("--like", metavar="FILE", help="a raster of the same pixels, for the place of reports and grids")
+    words.add_argument("--reference", type=int, nargs=2, metavar=("COLUMN", "ROW"), help="the pixel where the loop is closed; or auto")
+    words.add_argument(
         "--reference-auto",
         action="store_true",
         help="the same as --reference auto: the commonest number of cycles of the largest component is taken as 0",
     )
-    found.add_argument("--closures", metavar="FILE", help="write the closures in cycles, a GeoTIFF of Float64")
-    found.add_argument(
-        "--correct", metavar="FILE", help="write the third surface raised by the cycles, which is not proved"
-    )
-    found.add_argument(
-        "--parts", nargs=3, metavar=("FIRST", "SECOND", "THIRD"), help="the certain parts of the surfaces: tell which ones to raise"
-    )
-    found.add_argument(
-        "--components",
-        nargs=3,
-        metavar=("FIRST", "SECOND", "THIRD"),
-        help="the components of the surfaces: the same if these are certain parts, else nothing",
-    )
-    found.add_argument(
-        "--correct-parts",
-        nargs=3,
-        metavar=("FIRST", "SECOND", "THIRD"),
-        help="write the surfaces with these parts raised, which is not proved",
-    )
-    found.add_argument(
+
+
+def add_words_on_products(words: ArgumentParser) -> None:
+    """The words that say what else is told and written."""
+    words.add_argument("--closures", metavar="FILE", help="write the closures in cycles, a GeoTIFF of Float64")
+    words.add_argument("--correct", metavar="FILE", help="write the third surface raised by the cycles, which is not proved")
+    for name, what in (
+        ("--parts", "the certain parts of the surfaces: tell which ones to raise"),
+        ("--components", "the components of the surfaces: the same if these are certain parts, else nothing"),
+        ("--correct-parts", "write the surfaces with these parts raised, which is not proved"),
+    ):
+        words.add_argument(name, nargs=3, metavar=EACH, help=what)
+    words.add_argument(
         "--output-nodata",
         type=float,
         default=NODATA,
         metavar="V",
         help="the value where there is none, of --closures, --correct and --correct-parts (default: -9999)",
     )
-    found.add_argument("--page", metavar="FILE", help="write a page to look at: the patches by size, and maps")
-    add_force_word(found)
-    found.add_argument("geotiff", help="the file to write: the whole cycles in the closures")
-    return found
+    words.add_argument("--page", metavar="FILE", help="write a page to look at: the patches by size, and maps")
 
 
 # The three surfaces

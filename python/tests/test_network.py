@@ -2,16 +2,18 @@
 import csv
 import itertools
 import os
+import re
 import subprocess
 import sys
 import unittest
 from typing import List, Tuple
 
 import numpy as np
-from helpers import HERE, InFolder, argv
+from helpers import HERE, InFolder, argv, command
 from osgeo import gdal
 
 from wundjeska.commands.closure import NO_CYCLES
+from wundjeska.network_picture import network_of
 from wundjeska.networks import pair_of, triplets_of
 from wundjeska.program import program
 
@@ -118,6 +120,36 @@ class Network(InFolder):
         status, told = self.run_all("--config", "screen=radios=1")
         self.assertEqual((status, told.count("\n")), (2, 1), told)
         self.assertRegex(told, "screen=radios=1: .*radios")
+
+
+class TwelvePairs(InFolder):
+    """Six acquisitions, twelve pairs and ten loops, from phases to one whole number for each part."""
+
+    def test_a_stack(self) -> None:
+        program()
+        scenes = self.folder / "twelve"
+        subprocess.run([sys.executable, HERE / "kit/make_network.py", "--acquisitions", "6", scenes], check=True)
+        ran = subprocess.run(argv("scenes", scenes, "closure=yes", "page=no"), capture_output=True, text=True, timeout=400)
+        told = ran.stdout + ran.stderr
+        self.assertEqual(ran.returncode, 0, told)
+        self.assertIn("12 of 12 scenes are accepted and have their surface, 0 failed\n", told)
+        self.assertIn("10 of 10 loops have their closures, 3 with misclosed pixels\n", told)
+        rows = list(csv.DictReader((scenes / "scenes.csv").open()))
+        self.assertEqual((len(rows), {row["state"] for row in rows}), (12, {"accepted"}))
+        known = gdal.Open(str(scenes / "closing.tif")).ReadAsArray()[1]
+        self.assertEqual(known.max(), 10)
+        status, told = command("wundjeska", "stack", scenes, "--correct", self.folder / "raised")
+        self.assertEqual(status, 0, told)
+        self.assertRegex(told, r"the loops say to raise 1 part; then 0 \(0.00 %\) misclose\n20230113_20230125: part 2 of 120 pixels by ")
+        self.assertTrue((self.folder / "raised/20230113_20230125/cycles.tif").exists())
+
+
+def test_a_picture_of_many() -> None:
+    """Pairs of equal lengths are arcs of equal heights, and the longest take the whole height."""
+    days = [f"{20230100 + day}" for day in range(1, 31)]
+    pairs = [(f"{first}_{second}", "accepted", "") for first, second in itertools.combinations(days, 2) if int(second) - int(first) <= 2]
+    tops = {round(float(top)) for top in re.findall("C[0-9.]+ (-?[0-9.]+) ", network_of(pairs))}
+    assert tops == {round(220 - 1.33 * tall) for tall in (105, 190)}
 
 
 def test_the_loops_of_names() -> None:

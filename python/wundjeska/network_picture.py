@@ -5,7 +5,7 @@ from typing import Dict, List, Optional, Sequence, Tuple
 
 from .networks import pair_of
 
-WIDE, HIGH, RIM, MOST_NAMES = 1000, 260, 40, 24
+WIDE, HIGH, RIM, LOWEST, MOST_NAMES = 1000, 260, 40, 20, 24
 COLOURS = {"accepted": "#2a7f3f", "amber": "#d08a00", "refused": "#b3261e"}  # by the class of a scene's verdict
 FORMS = ("%Y%m%d", "%Y-%m-%d", "%Y%m%dT%H%M%S")
 
@@ -29,10 +29,10 @@ def places_of(names: Sequence[str]) -> Dict[str, float]:
     return {name: (day - min(known)) / (max(known) - min(known)) for name, day in zip(names, known)}
 
 
-def arc(first: float, second: float, title: str, colour: str) -> str:
-    """A pair: half an ellipse over the line of time, higher the longer it is."""
+def arc(first: float, second: float, longest: float, title: str, colour: str) -> str:
+    """A pair: half an ellipse over the line of time, higher the longer it is, and of the whole height if none is longer."""
     left, right = (RIM + (WIDE - 2 * RIM) * place for place in sorted((first, second)))
-    tall = 20 + (HIGH - 90) * (right - left) / (WIDE - 2 * RIM)
+    tall = LOWEST + (HIGH - 70 - LOWEST) * abs(second - first) / longest
     base = HIGH - 40
     curve = f"M{left:.1f} {base} C{left:.1f} {base - 1.33 * tall:.1f} {right:.1f} {base - 1.33 * tall:.1f} {right:.1f} {base}"
     return f'<path d="{curve}" fill="none" stroke="{colour}" stroke-width="1.5"><title>{escape(title)}</title></path>'
@@ -52,10 +52,11 @@ def network_of(scenes: Sequence[Tuple[str, str, str]]) -> str:
         return ""
     names = sorted({name for pair, _ in pairs for name in pair})
     places = places_of(names)
+    longest = max(abs(places[pair[1]] - places[pair[0]]) for pair, _ in pairs)
     step = -(-len(names) // MOST_NAMES)
     order = list(COLOURS)
     arcs: List[str] = [
-        arc(places[pair[0]], places[pair[1]], f"{name}: {told}", COLOURS[kind])
+        arc(places[pair[0]], places[pair[1]], longest, f"{name}: {told}", COLOURS[kind])
         for pair, (name, kind, told) in sorted(pairs, key=lambda one: order.index(one[1][1]))
     ]
     marks = [mark(places[name], name, at % step == 0) for at, name in enumerate(names)]

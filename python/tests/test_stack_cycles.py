@@ -1,11 +1,13 @@
 """Tests one whole number for each part of a stack: the least cost beside that of all numbers, what is doubted, and the verb `stack` on
 a folder whose surfaces were raised by known numbers."""
+import contextlib
+import io
 import itertools
 import sys
 import unittest
 from dataclasses import replace
 from pathlib import Path
-from typing import Dict, Tuple
+from typing import Dict, List, Tuple
 from unittest import mock
 
 import numpy as np
@@ -16,6 +18,7 @@ from osgeo import gdal
 from wundjeska.command import run
 from wundjeska.stack_cycles import CHANGE, LEVEL, Equations, least, raised_of
 from wundjeska.stack_loops import Stack, loop_of
+from wundjeska.stack_slips import Slip
 from wundjeska.trouble import Trouble
 
 SHAPE = (40, 50)
@@ -175,6 +178,20 @@ class Folder(InFolder):
         self.assertEqual({path: path.read_bytes() for path in self.stack.rglob("*.tif")}, stood)
         status, told = self.run_on("--correct", self.made)
         self.assertEqual((status, told.count("\n"), "has files" in told), (2, 1, True), told)
+
+    def test_where_the_ground_slipped(self) -> None:
+        """No part near is raised, unless that is asked for; levels are."""
+        slip = Slip(DATES[2], DATES[3], 640, 520, np.ones(len(PAIRS), bool))
+        cases: List[Tuple[List[str], List[Tuple[str, str]], str]] = [
+            ([], [], "no part of 12 pairs across or near is raised, unless --slips\n"),
+            (["--slips"], list(WRONG), "they are raised all the same\n"),
+        ]
+        for words, pairs, line in cases:
+            told, made = io.StringIO(), self.folder / f"raised{len(words)}"
+            with mock.patch("wundjeska.commands.stack.slips_of", return_value=[slip]), contextlib.redirect_stdout(told):
+                self.assertEqual(run("stack", [str(self.stack), "--correct", str(made), *words]), 0)
+            self.assertIn(f"between {DATES[2]} and {DATES[3]}: 520 of 640 pixels to be raised in pairs across are doubted; {line}", told.getvalue())
+            self.assertEqual(set(self.read(made)), {*pairs, (DATES[0], DATES[2])})
 
     def refused(self, *words: object) -> str:
         status, told = self.run_on(*words)

@@ -28,7 +28,7 @@ Numbers = npt.NDArray[np.int64]
 SIGNS = np.array([[1], [1], [-1]])  # of the three surfaces in a closure
 CHANGE = 0.02  # what a cycle of a raised pixel costs, as a share of a pixel that is left open
 LEVEL = 1.0  # what a cycle of a level costs, in pixels
-ALIKE = 0.5  # of what raising a part costs: a number is doubted if another one costs less than this more than the least
+ALIKE = 0.95  # of what raising a part costs: a number is doubted if another one costs less than this more than the least
 SECONDS = 60.0  # for a group, if nothing else is said
 SOLVED, NONE = 0, 2  # what SciPy says: found, and that there is none
 

@@ -34,8 +34,9 @@ from wundjeska import unwrap  # noqa: E402
 from wundjeska.loops import close_loop  # noqa: E402
 from wundjeska.nearest import commonest  # noqa: E402
 from wundjeska.planes import CYCLE  # noqa: E402
-from wundjeska.stack_cycles import SECONDS  # noqa: E402
+from wundjeska.stack_cycles import SECONDS, Raised  # noqa: E402
 from wundjeska.stack_loops import Stack, loop_of  # noqa: E402
+from wundjeska.stack_slips import slips_of, without  # noqa: E402
 from wundjeska.trouble import run_main  # noqa: E402
 
 SIDE, ACQUISITIONS, STEPS, LOOKS = 200, 6, 3, 2
@@ -150,8 +151,8 @@ def shares(stack: Dict[Pair, Made], values: Dict[Pair, Field]) -> str:
     return f"{100 * wrong[coherent].mean():.2f}, {100 * wrong.mean():.2f}"
 
 
-def raised(stack: Dict[Pair, Made]) -> Dict[Pair, Field]:
-    """The surfaces with parts raised as the loops say."""
+def raised(stack: Dict[Pair, Made]) -> List[Dict[Pair, Field]]:
+    """The surfaces with parts raised as the loops say, but near a slip, and with all of them."""
     pairs = list(stack)
     loops = []
     for first, second, third in itertools.combinations(range(ACQUISITIONS), 3):
@@ -162,6 +163,12 @@ def raised(stack: Dict[Pair, Made]) -> Dict[Pair, Field]:
             loops.append(loop_of([pairs.index(pair) for pair in three], labels, closed.cycles, closed.known()))
     whole = Stack(loops, [np.bincount(made.labels.ravel())[1:] for made in stack.values()])
     found = whole.find(SECONDS)
+    slips = slips_of(whole, [(DATES[first], DATES[second]) for first, second in pairs], found)
+    return [raised_by(stack, whole, one) for one in (without(whole, found, slips), found)]
+
+
+def raised_by(stack: Dict[Pair, Made], whole: Stack, found: Raised) -> Dict[Pair, Field]:
+    """The surfaces so raised."""
     raises = zip(stack.items(), found.levels, whole.numbers_by_pair(found.numbers))
     return {pair: made.values + CYCLE * (level + own[made.labels]) for (pair, made), level, own in raises}
 
@@ -239,14 +246,14 @@ def put(random: np.random.Generator, made: Made) -> None:
 def main() -> int:
     words = argparse.ArgumentParser(description=__doc__, formatter_class=argparse.RawDescriptionHelpFormatter)
     words.add_argument("--mintpy", action="store_true", help="try MintPy, too")
-    words.add_argument("names", nargs="*", metavar="NAME", help="of stacks (default: six of each kind)")
+    words.add_argument("names", nargs="*", metavar="NAME", help="of stacks (default: four of each kind)")
     asked = words.parse_args()
     warnings.simplefilter("ignore")  # that a scene has concerns is known
-    heads = ["before", "parts raised", *(["MintPy"] if asked.mintpy else [])]
+    heads = ["before", "parts raised", "with --slips", *(["MintPy"] if asked.mintpy else [])]
     print(truth.row_of("stack", heads) + "\n|" + "---|" * (len(heads) + 1), flush=True)
     for name in asked.names or NAMES:
         stack = stack_of(name)
-        ways = [{pair: made.values for pair, made in stack.items()}, raised(stack)]
+        ways = [{pair: made.values for pair, made in stack.items()}, *raised(stack)]
         ways += [by_mintpy(stack)] if asked.mintpy else []
         print(truth.row_of(name, [shares(stack, way) for way in ways]), flush=True)
     return 0

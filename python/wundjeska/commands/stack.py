@@ -8,6 +8,10 @@ A number is doubted, which is told, where with another one for the same part the
 certainty either: loops do not see what an acquisition has in all its pairs, and no proof or certificate says that what is raised is
 right. --correct writes the surfaces that change into a new folder.
 
+If what is doubted is of pairs across one interval, the ground may have slipped there by more cycles than any pair shows, and the few pairs
+that are right would be raised to the others. Then no part of these pairs, nor of those that meet them in a loop, is raised; --slips
+raises them all the same.
+
 It wants Debian's python3-scipy, whose solver HiGHS finds the numbers.
 """
 import os
@@ -22,13 +26,14 @@ import numpy as np
 from osgeo import gdal
 
 from .. import __version__
-from ..networks import NO_LOOP, Triplet, triplets_of
+from ..networks import NO_LOOP, Triplet, pair_of, triplets_of
 from ..outputs import is_stream
 from ..planes import CYCLE
 from ..rasters import NODATA, check_alike, open_raster
 from ..report_reader import NODATA as MASKED
 from ..stack_cycles import SECONDS, Numbers, Raised, solver
 from ..stack_loops import Loop, Move, Stack, loop_of
+from ..stack_slips import Slip, slips_of, without
 from ..trouble import FILE_FAULT, REFUSED_WORDS, Trouble, warn
 from .closure import Source, Surface, labels_in, read_raster, surface_product
 
@@ -53,6 +58,7 @@ def words() -> ArgumentParser:
     found.add_argument(
         "--seconds", type=float, default=SECONDS, metavar="S", help=f"the time for each group of parts that meet (default: {SECONDS:g})"
     )
+    found.add_argument("--slips", action="store_true", help="raise parts also where the ground may have slipped")
     return found
 
 
@@ -191,6 +197,13 @@ def listed(moves: Sequence[Move], pairs: Sequence[str]) -> Iterator[str]:
         yield f"and {len(moves) - MOST} smaller parts"
 
 
+def lines_on_slips(slips: Sequence[Slip], is_raised: bool) -> Iterator[str]:
+    """Where the ground may have slipped, and what comes of it."""
+    for slip in slips:
+        what = "they are raised all the same" if is_raised else f"no part of {int(slip.near.sum())} pairs across or near is raised, unless --slips"
+        yield f"{slip.told()}; {what}"
+
+
 def lines_on(stack: Stack, pairs: Sequence[str], found: Raised, seconds: float) -> Iterator[str]:
     """What misclosed, which parts the loops say to raise, and what misclosed then."""
     none, whole = np.zeros_like(found.numbers), stack.pixels()
@@ -232,7 +245,10 @@ def main(asked: Namespace) -> int:
     if not stack.loops:
         raise Trouble(f"no loop of {folder} has a closure at a pixel")
     found = stack.find(asked.seconds)
-    print("\n".join(lines_on(stack, pairs, found, asked.seconds)))
+    slips = slips_of(stack, [dates for pair in pairs if (dates := pair_of(pair))], found)
+    if not asked.slips:
+        found = without(stack, found, slips)
+    print("\n".join([*lines_on_slips(slips, asked.slips), *lines_on(stack, pairs, found, asked.seconds)]))
     corrections = corrections_of(stack, pairs, found)
     if place is not None:
         write_all(folder, place, corrections)

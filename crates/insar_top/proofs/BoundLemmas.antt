@@ -21,7 +21,7 @@ use Rattle.raster_model.specs.Whole.{IsLeastOfAll, whole_cost}
 use Rattle.raster_model.proofs.Whole.{best_bounds_the_least_of_all}
 use Rattle.raster_model.proofs.Windows.{scenes_have_tiles}
 use Rattle.whole_check.specs.Verdicts.{surface_told}
-use Rattle.insar_top.specs.Whole.{MasksAgree, ReportsBoundTheLeast, TheFirstMaskIsThatOfRevision0}
+use Rattle.insar_commands.specs.Whole.{MasksAgree, ReportsBoundTheLeast, TheFirstMaskIsThatOfRevision0}
 
 between : (tiles seams cost : ℕ) (x y z : ℤ) → pos tiles ≡ x → pos seams ≡ y → pos cost ≡ z → x ≤ℤ z → z ≤ℤ (x +ℤ y) → (tiles ≤ cost) × (cost ≤ tiles + seams)
 between tiles seams cost x y z p q e from to = (omega (arith, ints, p, e, from), omega (arith, ints, p, q, e, to))

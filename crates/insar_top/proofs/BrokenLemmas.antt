@@ -6,12 +6,12 @@ use Rattle.report_text.specs.Contents.{IsReportText}
 use Rattle.whole_text.specs.Text.{IsWholeText}
 use Rattle.insar_words.specs.declared.request.Request.TheVariants.{Unwrap, Grid, Check, Screen, Closure, Displacement, Whole, CheckWhole, Watch, Nearest, Parts}
 use Rattle.answer_lines.specs.declared.refusal.Refusal.TheVariants as refusals
-use Rattle.insar_top.specs.Causes.{BrokenBytesAreNoInput}
-use Rattle.insar_top.specs.Displacement.{sight_of}
-use Rattle.insar_top.proofs.BothLemmas.{not_checkable}
-use Rattle.insar_top.proofs.LoopLemmas.{no_loop}
-use Rattle.insar_top.proofs.NearestLemmas.{no_nearest}
-use Rattle.insar_top.proofs.SightLemmas.{no_sight}
+use Rattle.insar_commands.specs.Causes.{BrokenBytesAreNoInput}
+use Rattle.insar_commands.specs.Displacement.{sight_of}
+use Rattle.insar_commands.proofs.BothLemmas.{not_checkable}
+use Rattle.insar_commands.proofs.LoopLemmas.{no_loop}
+use Rattle.insar_commands.proofs.NearestLemmas.{no_nearest}
+use Rattle.insar_commands.proofs.SightLemmas.{no_sight}
 
 pub broken_bytes_are_no_input : BrokenBytesAreNoInput
 broken_bytes_are_no_input (Unwrap settings) bytes (refusals.Input fault) h input = no_fault_of_session Alone settings.side bytes input.0 [] fault input.1 h

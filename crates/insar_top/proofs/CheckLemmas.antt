@@ -9,10 +9,10 @@ use Rattle.report_text.proofs.SameReports.{reports_unique}
 use Rattle.report_text.proofs.ShortReports.{certified_reports_are_short}
 use Rattle.report_check.proofs.EqualVerdicts.{verdict_is_of_texts}
 use Rattle.report_check.proofs.UniqueLemmas.{reports_have_one_verdict}
-use Rattle.insar_top.specs.Both.{most_of_text}
-use Rattle.insar_top.specs.Check.{AnswersAreAccepted, BytesHaveOneVerdict}
-use Rattle.insar_top.specs.Unwrap.{IsReportAnswer}
-use Rattle.insar_top.proofs.BothLemmas.{judged_after, same_both}
+use Rattle.insar_commands.specs.Both.{most_of_text}
+use Rattle.insar_commands.specs.Check.{AnswersAreAccepted, BytesHaveOneVerdict}
+use Rattle.insar_commands.specs.Unwrap.{IsReportAnswer}
+use Rattle.insar_commands.proofs.BothLemmas.{judged_after, same_both}
 
 -- no weight of a session that was read has more than 16 bits
 small_weights : (maxval : ℕ) (phase weights : PlaneOf) (bytes rest : List ℕ) → maxval ≡ weights.maxval → IsLaterPlane Weight phase bytes weights rest → maxval < 2 ^ 16

@@ -18,22 +18,22 @@ use Rattle.answer_lines.specs.VerdictLines.{verdict_line}
 use Rattle.answer_lines.specs.WholeLines.{whole_verdict_line}
 use Rattle.answer_lines.specs.declared.refusal.Refusal.{Refusal}
 use Rattle.answer_lines.specs.declared.refusal.Refusal.TheVariants as refusals
-use Rattle.insar_top.specs.Answers.{HasAnswered, HasCutShort, IsDoneStatus, IsInputTo, IsWithinInput, input_of}
-use Rattle.insar_top.specs.Causes.{BreaksInput, HasRefusalCause}
-use Rattle.insar_top.specs.Check.{IsJudged, IsVerdictTold}
-use Rattle.insar_top.specs.CheckWhole.{IsWholeJudged, IsWholeVerdictTold}
-use Rattle.insar_top.specs.Ends.{EndsBy, IsLineAt, IsProgramEnd, IsRequestEnd, end_status, line_of_end}
-use Rattle.insar_top.specs.Ends.IsProgramEnd.{not_read, done}
+use Rattle.insar_commands.specs.Answers.{HasAnswered, HasCutShort, IsDoneStatus, IsInputTo, IsWithinInput, input_of}
+use Rattle.insar_commands.specs.Causes.{BreaksInput, HasRefusalCause}
+use Rattle.insar_commands.specs.Check.{IsJudged, IsVerdictTold}
+use Rattle.insar_commands.specs.CheckWhole.{IsWholeJudged, IsWholeVerdictTold}
+use Rattle.insar_commands.specs.Ends.{EndsBy, IsLineAt, IsProgramEnd, IsRequestEnd, end_status, line_of_end}
+use Rattle.insar_commands.specs.Ends.IsProgramEnd.{not_read, done}
 use Rattle.answer_lines.specs.Refusals.{status_of, words_refusal}
-use Rattle.insar_top.specs.Run.{HasKept, IsUnread, Run, SinkFailed, SourceFailed}
-use Rattle.insar_top.specs.Unwrap.{IsDone}
-use Rattle.insar_top.specs.Watch.{IsWatchDone}
-use Rattle.insar_top.specs.Whole.{IsLeastDone}
-use Rattle.insar_top.proofs.AnswerLemmas.{answer_input, small_status, unread_within}
+use Rattle.insar_commands.specs.Run.{HasKept, IsUnread, Run, SinkFailed, SourceFailed}
+use Rattle.insar_commands.specs.Unwrap.{IsDone}
+use Rattle.insar_commands.specs.Watch.{IsWatchDone}
+use Rattle.insar_commands.specs.Whole.{IsLeastDone}
+use Rattle.insar_commands.proofs.AnswerLemmas.{answer_input, small_status, unread_within}
 use Rattle.insar_top.proofs.BrokenLemmas.{broken_bytes_are_no_input}
-use Rattle.insar_top.proofs.BothLemmas.{verdict_told}
+use Rattle.insar_commands.proofs.BothLemmas.{verdict_told}
 use Rattle.insar_top.proofs.CheckLemmas.{bytes_have_one_verdict}
-use Rattle.insar_top.proofs.WholeLemmas.{bytes_have_one_whole_verdict}
+use Rattle.insar_commands.proofs.WholeLemmas.{bytes_have_one_whole_verdict}
 use Rattle.insar_words.proofs.RequestLemmas.{check_is_request, check_whole_is_request, one_request, refused_or_asking, unwrap_is_request, watch_is_request, whole_is_request}
 
 -- ---- refusals by their statuses

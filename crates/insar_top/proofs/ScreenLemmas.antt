@@ -9,10 +9,10 @@ use Rattle.insar_words.specs.declared.screening.Screening.{Screening}
 use Rattle.insar_words.specs.declared.settings.Settings.{Settings}
 use Rattle.insar_words.specs.Requests.{options_of}
 use Rattle.insar_words.specs.declared.request.Request.TheVariants.{Screen}
-use Rattle.insar_top.specs.Answers.{IsAnswerTo, IsUsedUp}
-use Rattle.insar_top.specs.Run.{ReadsAll, Run}
-use Rattle.insar_top.specs.Screen.{HasScreenedMask, screen_terms}
-use Rattle.insar_top.specs.Unwrap.{IsGiven, IsInput}
+use Rattle.insar_commands.specs.Answers.{IsAnswerTo, IsUsedUp}
+use Rattle.insar_commands.specs.Run.{ReadsAll, Run}
+use Rattle.insar_commands.specs.Screen.{HasScreenedMask, screen_terms}
+use Rattle.insar_commands.specs.Unwrap.{IsGiven, IsInput}
 
 -- it answers
 pub screen_ready : (s : Screening) (settings : Settings) (r : Run) (session screened : Session) → settings.side ≡ s.side → ReadsAll r.told r.left (λ bytes. IsGiven (options_of settings) bytes session) → HasScreenedMask (screen_terms s) session screened

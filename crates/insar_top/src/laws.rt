@@ -1,11 +1,11 @@
 //! Laws of the definitions. The functions do nothing; each contract is the law.
 
-ghost use Rattle.insar_top.specs.Causes.{BrokenBytesAreNoInput};
-ghost use Rattle.insar_top.specs.Check.{AnswersAreAccepted, BytesHaveOneVerdict};
-ghost use Rattle.insar_top.specs.CheckWhole.{AcceptedWholesAreLeast, BytesHaveOneWholeVerdict, WholesAreAccepted};
-ghost use Rattle.insar_top.specs.Grid.{LastSurfacesAreBest};
-ghost use Rattle.insar_top.specs.Trial.{TrialsHaveOneText};
-ghost use Rattle.insar_top.specs.Whole.{ReportsBoundTheLeast, TheFirstMaskIsThatOfRevision0};
+ghost use Rattle.insar_commands.specs.Causes.{BrokenBytesAreNoInput};
+ghost use Rattle.insar_commands.specs.Check.{AnswersAreAccepted, BytesHaveOneVerdict};
+ghost use Rattle.insar_commands.specs.CheckWhole.{AcceptedWholesAreLeast, BytesHaveOneWholeVerdict, WholesAreAccepted};
+ghost use Rattle.insar_commands.specs.Grid.{LastSurfacesAreBest};
+ghost use Rattle.insar_commands.specs.Trial.{TrialsHaveOneText};
+ghost use Rattle.insar_commands.specs.Whole.{ReportsBoundTheLeast, TheFirstMaskIsThatOfRevision0};
 
 /// Bytes that have a break for which a request is refused are not of the form that it reads.
 pub fn broken_bytes_are_no_input()

@@ -1,15 +1,14 @@
 ghost use Rattle.auto_masks.specs.Screened.{AreScreenTerms, IsScreened};
-ghost use Rattle.insar_top.specs.Ends.{IsRequestEnd};
-ghost use Rattle.insar_top.specs.Run.{run_of};
-ghost use Rattle.insar_top.specs.Screen.{HasScreenedMask, screen_terms};
+ghost use Rattle.insar_commands.specs.Ends.{IsRequestEnd};
+ghost use Rattle.insar_commands.specs.Run.{run_of};
+ghost use Rattle.insar_commands.specs.Screen.{HasScreenedMask, screen_terms};
 ghost use Rattle.insar_words.specs.declared.request.Request.TheVariants as requests;
 ghost use Rattle.raster_model.specs.Masks.{open_at};
 ghost use Rattle.std.specs.Prelude.{◌≡◌, IfOk};
 
-use crate::ends::end_of;
-use crate::session::read_given;
 use answer_lines::Refusal;
 use auto_masks::{Screen, ScreenTerms};
+use insar_commands::{end_of, read_given};
 use insar_ports::{Sink, Source};
 use insar_words::{Screening, Settings};
 use raster_model::{Mask, Plane, RuleKind, Session, Terms};

@@ -1,16 +1,16 @@
 ghost use Rattle.std.specs.Prelude.{◌≡◌, ◌≤◌, ◌⊎◌, ℕ, List, Err, IfSome};
 ghost use Rattle.insar_ports.specs.Bytes.{HasRisen, with_end};
-ghost use Rattle.insar_top.specs.Answers.{HasAnswered, HasCutShort, IsDoneStatus, IsInputTo, IsWithinInput, input_of};
-ghost use Rattle.insar_top.specs.Causes.{HasRefusalCause};
-ghost use Rattle.insar_top.specs.Check.{IsJudged, IsVerdictTold};
-ghost use Rattle.insar_top.specs.CheckWhole.{IsWholeJudged, IsWholeVerdictTold};
-ghost use Rattle.insar_top.specs.Ends.{IsLineAt, IsRequestEnd, end_status, line_of_end};
+ghost use Rattle.insar_commands.specs.Answers.{HasAnswered, HasCutShort, IsDoneStatus, IsInputTo, IsWithinInput, input_of};
+ghost use Rattle.insar_commands.specs.Causes.{HasRefusalCause};
+ghost use Rattle.insar_commands.specs.Check.{IsJudged, IsVerdictTold};
+ghost use Rattle.insar_commands.specs.CheckWhole.{IsWholeJudged, IsWholeVerdictTold};
+ghost use Rattle.insar_commands.specs.Ends.{IsLineAt, IsRequestEnd, end_status, line_of_end};
 ghost use Rattle.answer_lines.specs.RefusalLines.{refusal_line};
 ghost use Rattle.answer_lines.specs.Refusals.{status_of};
-ghost use Rattle.insar_top.specs.Run.{IsUnread, run_of};
-ghost use Rattle.insar_top.specs.Unwrap.{IsDone};
-ghost use Rattle.insar_top.specs.Watch.{IsWatchDone};
-ghost use Rattle.insar_top.specs.Whole.{IsLeastDone};
+ghost use Rattle.insar_commands.specs.Run.{IsUnread, run_of};
+ghost use Rattle.insar_commands.specs.Unwrap.{IsDone};
+ghost use Rattle.insar_commands.specs.Watch.{IsWatchDone};
+ghost use Rattle.insar_commands.specs.Whole.{IsLeastDone};
 ghost use Rattle.answer_lines.specs.declared.refusal.Refusal.{Refusal as AnyRefusal};
 ghost use Rattle.answer_lines.specs.declared.refusal.Refusal.TheVariants as refusals;
 ghost use Rattle.insar_words.specs.Asked.{IsCheck, IsCheckWhole, IsCommand, IsRefused, IsWatch, IsWhole, Options};
@@ -19,19 +19,12 @@ ghost use Rattle.insar_words.specs.declared.request.Request.{Request as Asked};
 ghost use Rattle.report_check.specs.declared.verdict.CheckVerdict.{CheckVerdict as AnyVerdict};
 ghost use Rattle.whole_check.specs.declared.verdict.WholeVerdict.{WholeVerdict as AnyWholeVerdict};
 
-use crate::check::run_check;
-use crate::check_whole::run_check_whole;
-use crate::closure::run_closure;
-use crate::displacements::run_displacement;
-use crate::grid::run_grid;
-use crate::nearest::run_nearest;
-use crate::parts::run_parts;
 use crate::screen::run_screen;
-use crate::trial::run_trial;
-use crate::unwrap::run_unwrap;
-use crate::watch::run_watch;
-use crate::whole::run_whole;
 use answer_lines::{Refusal, put_refusal};
+use insar_commands::{
+    run_check, run_check_whole, run_closure, run_displacement, run_grid, run_nearest, run_parts,
+    run_trial, run_unwrap, run_watch, run_whole,
+};
 use insar_ports::{Sink, Source};
 use insar_words::{Request, read_words};
 use std::alloc::Global;

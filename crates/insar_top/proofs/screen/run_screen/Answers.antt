@@ -4,11 +4,11 @@ use Rattle.auto_masks.specs.declared.terms.ScreenTerms.{ScreenTerms}
 use Rattle.session_script.specs.Sessions.{session_of}
 use Rattle.session_script.specs.Text.{session_text}
 use Rattle.insar_words.specs.declared.request.Request.TheVariants.{Screen}
-use Rattle.insar_top.specs.Run.{Run, run_of}
-use Rattle.insar_top.specs.Causes.{HasReadCause}
-use Rattle.insar_top.specs.Screen.{HasScreenedMask}
-use Rattle.insar_top.specs.Unwrap.{BreaksAlone}
-use Rattle.insar_top.proofs.AnswerLemmas.{put_ends, read_cause}
+use Rattle.insar_commands.specs.Run.{Run, run_of}
+use Rattle.insar_commands.specs.Causes.{HasReadCause}
+use Rattle.insar_commands.specs.Screen.{HasScreenedMask}
+use Rattle.insar_commands.specs.Unwrap.{BreaksAlone}
+use Rattle.insar_commands.proofs.AnswerLemmas.{put_ends, read_cause}
 use Rattle.insar_top.proofs.ScreenLemmas.{screen_ready}
 use Rattle.insar_top.proofs.screen.run_screen.Goals as goal
 

@@ -1,8 +1,8 @@
 use Rattle.std.proofs.Common.{◌≡◌, ℕ, Result, Err, ap, refl}
 use Rattle.insar_ports.specs.Bytes.{HasRisen, with_end}
-use Rattle.insar_top.specs.Ends.{IsProgramEnd, line_of_end}
-use Rattle.insar_top.specs.Ends.IsProgramEnd.{not_read, done}
-use Rattle.insar_top.specs.Run.{run_of}
+use Rattle.insar_commands.specs.Ends.{IsProgramEnd, line_of_end}
+use Rattle.insar_commands.specs.Ends.IsProgramEnd.{not_read, done}
+use Rattle.insar_commands.specs.Run.{run_of}
 use Rattle.answer_lines.specs.declared.refusal.Refusal.{Refusal}
 use Rattle.insar_top.proofs.EndClauses as end
 use Rattle.insar_top.proofs.top.insar.Goals as goal

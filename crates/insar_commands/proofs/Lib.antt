@@ -1,0 +1,15 @@
+pub mod SessionLemmas
+pub mod GridsLemmas
+pub mod LoopLemmas
+pub mod NearestLemmas
+pub mod SightLemmas
+pub mod PartsLemmas
+pub mod AnswerLemmas
+pub mod UnwrapLemmas
+pub mod BothLemmas
+pub mod WholeAgain
+pub mod WholeLemmas
+pub mod BoardLemmas
+pub mod LastSurface
+pub mod TrialLemmas
+pub mod WatchLemmas

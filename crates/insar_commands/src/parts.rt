@@ -1,0 +1,42 @@
+ghost use Rattle.insar_commands.specs.Ends.{IsRequestEnd};
+ghost use Rattle.insar_commands.specs.Run.{run_of};
+ghost use Rattle.insar_words.specs.declared.request.Request.TheVariants as requests;
+
+use crate::both::read_both;
+use crate::ends::end_of;
+use answer_lines::{Refusal, put_whole_verdict};
+use certain_parts::{parts_of_whole, write_parts};
+use insar_ports::{Sink, Source};
+use insar_words::Parting;
+use std::alloc::Global;
+use whole_check::{WholeVerdict, check_whole_text};
+use whole_text::Whole;
+
+/// Reads a session and then the text of a whole surface, writes the parts of the surface that words ask for, and answers the
+/// status 0. If the surface is not accepted, it puts the line of the verdict in their place, and answers 1. Beside what was
+/// read it takes 12 bytes a pixel at most.
+pub fn run_parts<S: Source, K: Sink>(
+    alloc: Global,
+    parting: Parting,
+    source: &mut S,
+    sink: &mut K,
+) -> Result<u8, Refusal>
+    ensures { IsRequestEnd (requests.Parts parting) (run_of S.left S.faults source.old source.new K.held K.faults sink.old sink.new) result }
+{
+    let Parting {
+        settings,
+        margin,
+        least,
+    } = parting;
+    let (session, whole) = read_both::<S, Whole>(alloc, source, settings)?;
+    match check_whole_text(&session, &whole) {
+        WholeVerdict::Accepted => {
+            let parts = parts_of_whole(alloc, &session, &whole, margin, least)?;
+            end_of(
+                write_parts(&parts, &session.first_mask, margin, least, sink),
+                0,
+            )
+        }
+        verdict => end_of(put_whole_verdict(sink, verdict), 1),
+    }
+}

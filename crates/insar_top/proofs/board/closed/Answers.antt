@@ -1,5 +1,0 @@
-use Rattle.insar_top.proofs.BoardLemmas.{complete_of}
-use Rattle.insar_top.proofs.board.closed.Goals as goal
-
-pub returns-clause-complete : goal.returns-clause-complete
-returns-clause-complete g c = complete_of c.close.result.session c.args.desk c.close.result.entries c.args.passes.items c.close.ensures.session c.requires c.close.ensures.stands

@@ -27,7 +27,8 @@ STATES = (
     ("slurm_load_jobs error: Invalid job id specified", "", "failed"),
 )
 # The log of an attempt, and whether it was refused for good.
-LOGS = (("", False), ("phase.tif has no georeference\nstatus 3\n", True), ("no memory\nstatus 4\n", False), ("status 137\n", False), ("status 247\n", False))
+LOGS = [("", False), ("phase.tif has no georeference\nstatus 3\n", True), ("no memory\nstatus 4\n", False)]
+LOGS += [(f"status {status}\n", False) for status in (137, 143, 247)]
 
 
 class Cluster(InFolder):

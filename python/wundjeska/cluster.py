@@ -10,7 +10,7 @@ FIXED_MB = 300  # the interpreter, its libraries and the program
 BYTES_A_PIXEL = 270
 FIXED_MINUTES = 10
 MINUTES_A_MILLION = 2
-ASKED_AGAIN = (4, 130, 137, 247)  # no memory, stopped, and killed: the command, or the program that it runs
+ASKED_AGAIN = (4, 130, 137, 143, 241, 247)  # no memory, stopped, ended and killed: the command, or the program that it runs
 
 
 def memory_mb(pixels: int, attempt: int) -> int:

@@ -184,6 +184,8 @@ def least(group: Equations, seconds: float) -> Optional[Tuple[Numbers, Numbers]]
 def is_doubted(group: Equations, found: Tuple[Numbers, Numbers], part: int, until: float) -> bool:
     """Whether another number for a part, less the level of its pair, costs nearly as little as what was found, or whether that was not
     known in time."""
+    if time.monotonic() >= until:
+        return True
     optimize, costs, (numbers, levels) = solver(), costs_of(group), found
     number = int(numbers[part] - at_level(levels, group.pairs)[part])
     enough = group.cost(numbers, levels) + ALIKE * CHANGE * group.sizes[part]

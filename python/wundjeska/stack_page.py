@@ -13,7 +13,7 @@ from .guiding import NO_FILTER
 from .network_picture import network_of
 from .pages import COMMON, footer, head_of, scaled
 from .pictures import BRIGHTER, coloured, uri
-from .stack import Scene, misclosed, told_of_loop
+from .stack import MOST, Scene, misclosed, told_of_loop
 from .unwrapping import ACCEPTED
 
 gdal.UseExceptions()
@@ -140,13 +140,15 @@ def loop_section(names: Sequence[str]) -> str:
         return ""
     lines = {name: told_of_loop(name) for name in names}
     worst = sorted(names, key=lambda name: (lines[name] is not None, -misclosed(lines[name] or "")))
-    rows = "".join(
+    rows = [
         f'<li><a href="closures/{quote(name)}/page.html">{escape(name)}</a>: {escape(lines[name] or "")}</li>'
         if lines[name] is not None
         else f"<li>{escape(name)}: not closed</li>"
         for name in worst
-    )
-    return f"<h2>Loops, the most misclosed first</h2><ul>{rows}</ul>"
+    ]
+    first, rest = ("".join(part) for part in (rows[:MOST], rows[MOST:]))
+    more = f"<details><summary>{len(rows) - MOST} more</summary><ul>{rest}</ul></details>" if rest else ""
+    return f"<h2>Loops, the most misclosed first</h2><ul>{first}</ul>{more}"
 
 
 def page_of(title: str, scenes: Sequence[Scene], pages: bool, loops: Sequence[str], said: str) -> str:

@@ -11,7 +11,7 @@ from .finished import Pair, layers_of, surface_of, told_of
 from .rasters import close, create_like, put_array
 from .trouble import REFUSED_WORDS, Trouble
 
-MOST = 65535  # components, whose numbers have 16 bits
+MOST = 65534  # components, whose numbers have 16 bits; dolphin's own NODATA is 65535
 OF_MINTPY = ("wavelength", "platform", "orbit", "incidence", "looks", "baselines", "attribute", "height", "latitude", "longitude")
 UNWRAPPED, COMPONENTS, COHERENCE = ".unw.tif", ".unw.conncomp.tif", ".int.cor.tif"
 

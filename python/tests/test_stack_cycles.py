@@ -4,6 +4,7 @@ import contextlib
 import io
 import itertools
 import sys
+import time
 import unittest
 from dataclasses import replace
 from pathlib import Path
@@ -102,6 +103,14 @@ def test_the_equations_of_a_loop() -> None:
 def test_a_group_that_takes_too_long() -> None:
     found = raised_of(equations((0, 1, 2, -1, 100), (3, 4, 2, -1, 100), sizes=(100,) * 5), 0, seconds=1e-9)
     assert (found.late, found.numbers.tolist()) == (1, [0] * 5)
+
+
+def test_a_search_that_does_not_keep_its_time() -> None:
+    system = equations((0, 1, 2, 1, 10), sizes=(5, 5, 5))
+    with mock.patch("wundjeska.stack_cycles.search", lambda *given: time.sleep(60)), mock.patch("wundjeska.stack_cycles.GRACE", 0.1):
+        began = time.monotonic()
+        assert least(system, 0.1) is None
+        assert time.monotonic() - began < 10
 
 
 def test_a_machine_without_scipy() -> None:

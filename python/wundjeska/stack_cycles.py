@@ -13,6 +13,7 @@ If all equations of a group are closed as they are, raising nothing costs nothin
 Loops do not see everything: a constant of an acquisition leaves them as they are. So a number is doubted if with another one for its
 part the least cost is nearly the same. No proof or certificate says that other numbers are right.
 """
+import multiprocessing
 import time
 from dataclasses import dataclass
 from typing import Any, Iterator, Optional, Tuple
@@ -31,6 +32,8 @@ LEVEL = 1.0  # what a cycle of a level costs, in pixels
 ALIKE = 0.95  # of what raising a part costs: a number is doubted if another one costs less than this more than the least
 SECONDS = 60.0  # for a group, if nothing else is said
 SOLVED, NONE = 0, 2  # what SciPy says: found, and that there is none
+LATE = (1, None)  # and that the time is over
+LONGER, GRACE = 1.5, 2.0  # times as long, and seconds more, that a search may take before it is ended
 
 
 @dataclass(frozen=True)
@@ -155,29 +158,49 @@ def costs_of(group: Equations) -> npt.NDArray[np.float64]:
     return np.concatenate([change, change, level, level, group.pixels])
 
 
-def searched(group: Equations, seconds: float, *more: Any) -> Any:
-    """What SciPy says of the numbers of the least cost, with further constraints."""
+Answer = Tuple[int, Optional[npt.NDArray[np.float64]]]  # SciPy's status, and the columns if the search ended
+
+
+def searched(group: Equations, seconds: float, *more: Any) -> Answer:
+    """What SciPy says of the numbers of the least cost, with further constraints. HiGHS may go on after its time, so it runs in a
+    process of its own, which is ended."""
+    here, there = multiprocessing.Pipe(duplex=False)
+    process = multiprocessing.Process(target=lambda: there.send(search(group, seconds, *more)), daemon=True)
+    process.start()
+    there.close()
+    try:
+        return here.recv() if here.poll(LONGER * max(seconds, 0.0) + GRACE) else LATE
+    except EOFError:  # it was killed, as for want of memory
+        return LATE
+    finally:
+        process.kill()
+        process.join()
+
+
+def search(group: Equations, seconds: float, *more: Any) -> Answer:
+    """The same in this process, whose time HiGHS may not keep."""
     optimize, most, costs = solver(), most_of(group), costs_of(group)
     matrix, low, high = rows_of(group, most)
     highest = np.full(len(costs), 2.0 * most)
     highest[-len(group.cycles) :] = 1
-    return optimize.milp(
+    found = optimize.milp(
         costs,
         integrality=np.ones(len(costs)),
         bounds=optimize.Bounds(0, highest),
         constraints=[optimize.LinearConstraint(matrix, low, high), *more],
         options={"time_limit": max(seconds, 0.0), "mip_rel_gap": 0.0},
     )
+    return found.status, found.x if found.status == SOLVED else None
 
 
 def least(group: Equations, seconds: float) -> Optional[Tuple[Numbers, Numbers]]:
     """Numbers and levels of the least cost; None if the search did not end in time."""
-    found = searched(group, seconds)
-    if found.status != SOLVED:
+    _, columns = searched(group, seconds)
+    if columns is None:
         return None
     parts, levels = len(group.sizes), levels_in(group)
     ends = np.cumsum([parts, parts, levels, levels])
-    up, down, higher, lower, _ = np.split(np.rint(found.x).astype(np.int64), ends)
+    up, down, higher, lower, _ = np.split(np.rint(columns).astype(np.int64), ends)
     return up - down + at_level(higher - lower, group.pairs), higher - lower
 
 
@@ -193,7 +216,7 @@ def is_doubted(group: Equations, found: Tuple[Numbers, Numbers], part: int, unti
     row = np.zeros((1, len(costs)))
     row[0, [part, len(numbers) + part]] = 1, -1
     others = [optimize.LinearConstraint(row, low, high) for low, high in ((-np.inf, number - 1), (number + 1, np.inf))]
-    return any(searched(group, until - time.monotonic(), cheap, other).status != NONE for other in others)
+    return any(searched(group, until - time.monotonic(), cheap, other)[0] != NONE for other in others)
 
 
 def raised_of(equations: Equations, pairs: int, seconds: float = SECONDS, doubts: bool = True) -> Raised:

@@ -1,7 +1,9 @@
+ghost use Rattle.grid_writer.specs.Grids.{grid_of};
 ghost use Rattle.raster_model.specs.Limits.{is_raster_size};
-ghost use Rattle.std.specs.Prelude.{IsTrue};
+ghost use Rattle.std.specs.Prelude.{◌≡◌, ◌<◌, ◌≤◌, IsTrue, length};
+ghost use Rattle.surface_snapshots.specs.Parts.{BeginsWithRow};
 
-use grid_writer::{Grid, add_grid_side_by_side};
+use grid_writer::{Grid, Rows, add_grid_side_by_side};
 use insar_ports::{MemorySink, Sink, WriteFault};
 use std::alloc::Global;
 use std::process::Abort;
@@ -9,16 +11,52 @@ use std::thread::Threads;
 use text_lines::TextWriter;
 use text_pages::Pages;
 
+/// A grid that is handed out by rows.
+#[derive(Drop)]
+struct Flat {
+    grid: Grid,
+}
+
+impl Rows for Flat {
+    ghost grid = { λ flat. grid_of flat.grid };
+
+    fn width(&self) -> u32
+        ensures width { result ≡ (grid_of self.now.grid).width }
+        ensures sized { IsTrue (is_raster_size (grid_of self.now.grid).width (grid_of self.now.grid).height) }
+    {
+        self.grid.width
+    }
+
+    fn height(&self) -> u32
+        ensures { result ≡ (grid_of self.now.grid).height }
+    {
+        self.grid.height
+    }
+
+    fn fill_row(&self, y: u32, row: &mut [i64])
+        requires along { y < (grid_of self.now.grid).height }
+        requires room { (grid_of self.now.grid).width ≤ length row.old }
+        ensures same { length row.new ≡ length row.old }
+        ensures front { BeginsWithRow (grid_of self.now.grid).values y (grid_of self.now.grid).width row.new }
+    {
+        let width = self.grid.width as usize;
+        let start = y as usize * width;
+        row[..width].copy_from_slice(&self.grid.values[start..start + width]);
+    }
+}
+
 /// A grid of that size, which is 0 everywhere.
-fn flat(rt: &impl Abort, alloc: Global, width: u32, height: u32) -> Grid
+fn zeros(rt: &impl Abort, alloc: Global, width: u32, height: u32) -> Flat
     requires { IsTrue (is_raster_size width height) }
 {
     let pixels = width as usize * height as usize;
     let values = vec![in alloc; 0; pixels].expect(rt, "memory");
-    Grid {
-        width,
-        height,
-        values,
+    Flat {
+        grid: Grid {
+            width,
+            height,
+            values,
+        },
     }
 }
 
@@ -26,11 +64,11 @@ fn flat(rt: &impl Abort, alloc: Global, width: u32, height: u32) -> Grid
 fn write<R: Threads + Sync, K: Sink>(
     rt: &R,
     pages: &mut Pages,
-    grid: &Grid,
+    flat: &Flat,
     sink: &mut K,
 ) -> Result<(), WriteFault> {
     let mut text = TextWriter::new(sink);
-    add_grid_side_by_side(rt, pages, &mut text, grid);
+    add_grid_side_by_side(rt, pages, &mut text, flat);
     text.finish()
 }
 
@@ -38,11 +76,11 @@ fn write<R: Threads + Sync, K: Sink>(
 #[test]
 fn pages_of_the_largest_square_are_had(rt: HostRuntime) {
     let alloc = rt.alloc();
-    let grid = flat(&rt, alloc, 2048, 2048);
+    let flat = zeros(&rt, alloc, 2048, 2048);
     let mut pages = Pages::new(alloc, 4, 8 * 2048 * 2048).expect(&rt, "memory");
     let mut sink = MemorySink::new(alloc, 16_777_216, 65_536, Vec::new(alloc)).expect(
         &rt, "memory",
     );
-    write(&rt, &mut pages, &grid, &mut sink).expect(&rt, "room");
+    write(&rt, &mut pages, &flat, &mut sink).expect(&rt, "room");
     assert!(rt; sink.bytes().len() == 91 + 2 * 2048 * 2048);
 }

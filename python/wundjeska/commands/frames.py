@@ -2,14 +2,15 @@
 
 A session has at most 4,194,304 pixels. A larger raster is cut into frames of at most --side pixels a side, which overlap by
 at least --overlap pixels. Each frame is unwrapped, after a filter if nothing else is said, and the checker has to accept its report or
-whole text, which is then its guide's. In an overlap both surfaces differ from the same phases by whole cycles, so they differ from each other by whole cycles; the median of the differences is what
-joins them. If open pixels fall into pieces that do not touch, each piece of each frame is joined for itself. The overlaps
-at which most pixels agree are taken first; the others are compared with what these say. Each frame fills the raster up to
-the middle of the overlaps.
+whole text, which is then its guide's. In an overlap both surfaces differ from the same phases by whole cycles, so they differ from
+each other by whole cycles; the median of the differences is what joins them. If open pixels fall into pieces that do not touch, each
+piece of each frame is joined for itself. The overlaps at which most pixels agree are taken first; the others are compared with what
+these say. Each frame fills the raster up to the middle of the overlaps.
 
-Each frame's surface, or its guide, is certified; with a model, for the phase less it. The joint is not: no certificate says that other whole cycles at the overlaps would not
-cost less. So each overlap is told, with how many pixels agree. An overlap agrees if the part --agree of all its pixels does;
-pieces in it that do not are told too. If an overlap does not agree, the raster is written all the same, and the status is 1.
+Each frame's surface, or its guide, is certified; with a model, for the phase less it. The joint is not: no certificate says that
+other whole cycles at the overlaps would not cost less. So each overlap is told, with how many pixels agree. An overlap agrees if the
+part --agree of all its pixels does; pieces in it that do not are told too. If an overlap does not agree, the raster is written all the
+same, and the status is 1.
 
 Rasters are read and written by windows. --folder keeps the session, the report and the surface of each frame, and their SHA-256.
 What is there is not done again, so a run that was cut off goes on where it stopped; what was changed there since is.
